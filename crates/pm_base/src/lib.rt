@@ -1,0 +1,16 @@
+//! What every other crate speaks of: points, meshes, lists with room, and exact whole-number geometry.
+#![tactic(auto)]
+
+mod distance;
+mod ids;
+mod items;
+mod mesh;
+mod normal;
+mod point;
+
+pub use distance::{dist_up, dist2, distances_add, lengths_add};
+pub use ids::{FaceId, NodeId, Side};
+pub use items::{Items, OutOfMemory};
+pub use mesh::{Corners, Mesh, Triples};
+pub use normal::{Normal, cross, dot};
+pub use point::{Point, Points};

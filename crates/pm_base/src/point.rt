@@ -1,0 +1,73 @@
+ghost use Rattle.std.specs.Prelude.{◌≡◌, true, false, IfSome, OnSome, IfNone};
+ghost use Rattle.pm_base.specs.Place.{IsPlace, is_coordinate, is_place};
+
+use crate::Items;
+use std::marker::Model;
+
+/// A point of the whole-number grid. Each coordinate is from -32,767 to 32,767, which the type keeps.
+#[derive(Clone, Copy, Debug, PartialEq, Eq)]
+pub struct Point {
+    x: i32,
+    y: i32,
+    z: i32,
+}
+
+impl Model for Point {
+    ghost use Rattle.pm_base.specs.Place.{Place, IsPlace};
+
+    ghost Value = { Place };
+
+    ghost view = { λ p. record { x = p.x; y = p.y; z = p.z } };
+
+    ghost invariant = { λ p. IsPlace (record { x = p.x; y = p.y; z = p.z }) };
+
+    ghost inverse = { λ p. record { x = p.x; y = p.y; z = p.z } };
+}
+
+/// A list of points.
+pub type Points = Items<Point>;
+
+// The greatest coordinate. With it a quadric's value stays within 128 bits.
+const GREATEST: u32 = 32_767;
+
+fn is_coordinate(n: i32) -> bool
+    ensures { result ≡ is_coordinate n }
+{
+    n.unsigned_abs() <= GREATEST
+}
+
+impl Point {
+    /// The point with these coordinates; none exactly where one of them is out of range.
+    pub fn new(x: i32, y: i32, z: i32) -> Option<Point>
+        ensures some { IfSome result (λ p. p ≡ record { x = x; y = y; z = z }) }
+        ensures in_range { OnSome result (is_place (record { x = x; y = y; z = z }) ≡ true) }
+        ensures none { IfNone result (is_place (record { x = x; y = y; z = z }) ≡ false) }
+    {
+        if is_coordinate(x) && is_coordinate(y) && is_coordinate(z) {
+            Some(Point { x, y, z })
+        } else {
+            None
+        }
+    }
+
+    pub fn x(&self) -> i32
+        ensures value { result ≡ self.now.x }
+        ensures in_range { IsPlace self.now }
+    {
+        self.x
+    }
+
+    pub fn y(&self) -> i32
+        ensures value { result ≡ self.now.y }
+        ensures in_range { IsPlace self.now }
+    {
+        self.y
+    }
+
+    pub fn z(&self) -> i32
+        ensures value { result ≡ self.now.z }
+        ensures in_range { IsPlace self.now }
+    {
+        self.z
+    }
+}

@@ -1,0 +1,21 @@
+//! Sources and sinks of bytes, which count their failures, and the window and the line of text over them.
+#![tactic(auto)]
+
+mod device;
+mod line;
+mod memory;
+mod put;
+mod streams;
+mod taker;
+#[cfg(test)]
+mod tests;
+
+pub use device::{Failed, ReadFault, Sink, Source, WriteFault};
+pub use line::Line;
+pub use memory::{MemSink, MemSource, SureSource};
+pub use put::put_all;
+pub use streams::{StdSink, StdSource};
+pub use taker::Taker;
+
+/// The answer for want of memory.
+pub type OutOfMemory = std::alloc::AllocError;
