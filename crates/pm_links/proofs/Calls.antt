@@ -1,0 +1,185 @@
+-- Laws for callers: the list of each head after a call, and which items are then held or free. Each takes
+-- the call's clause as it stands.
+use Rattle.std.proofs.Common.{◌≡◌, ◌≢◌, ◌↔◌, ℕ, ◌<◌, ◌≤◌, Option, Some, None, true, eqb, List, [], ◌∷◌, ◌++◌, length, sym, refl, ap, ◌∙◌, subst, ⊎_elim, get_or-set_other, get_or-set_same, length-set}
+use Rattle.std.proofs.lemmas.List.{length-map, ext_get_or, get_or_past}
+use Rattle.std.proofs.lemmas.Option.{none-some}
+use Rattle.std.proofs.lemmas.Bool.{or_from, or_left, or_right, cases_lt, cases_eq, ne_eqb, false≢true, false_from_ne_true}
+use Rattle.pm_links.specs.Lists.{Lists, IsHeld, IsFree, IsSound, list_of, has, without, with_list, with_first, with_moved, without_item}
+use Rattle.pm_links.proofs.Members.{has_head, has_tail, has-append}
+use Rattle.pm_links.proofs.Without.{without_none, has-without, has-without_same, get_without}
+
+-- ---- lists of a value
+
+pub list_of-past : (v : Lists) (h : ℕ) → length v.lists ≤ h → list_of v h ≡ []
+list_of-past v h past = get_or_past v.lists h [] past
+
+-- a head whose list has an item is a head
+pub head_in : (v : Lists) (h x : ℕ) → has (list_of v h) x ≡ true → h < length v.lists
+head_in v h x i =
+    ⊎_elim (λ lt. lt) (λ ge. absurd (false≢true
+    (ap (λ k. has k x) (sym (list_of-past v h ge)) ∙ i))) (cases_lt h (length v.lists))
+
+pub list_of-with_list_same : (v : Lists) (h : ℕ) (xs : List ℕ) → h < length v.lists →
+    list_of (with_list v h xs) h ≡ xs
+list_of-with_list_same v h xs l = get_or-set_same v.lists h xs [] l
+
+pub list_of-with_list_other : (v : Lists) (h g : ℕ) (xs : List ℕ) → g ≢ h →
+    list_of (with_list v h xs) g ≡ list_of v g
+list_of-with_list_other v h g xs ne = get_or-set_other v.lists h g xs [] ne
+
+-- two values with as many items and the same list at each head are one
+pub same_from_list_of : (v w : Lists) → v.items ≡ w.items → length v.lists ≡ length w.lists →
+    ((h : ℕ) → list_of v h ≡ list_of w h) → v ≡ w
+same_from_list_of v w items heads lists =
+    let lists_are : v.lists ≡ w.lists = ext_get_or [] v.lists w.lists heads (λ i lt. lists i) in
+    ap (λ (k : List (List ℕ)). let u : Lists = record { items = v.items; lists = k } in u) lists_are
+    ∙ ap (λ (k : ℕ). let u : Lists = record { items = k; lists = w.lists } in u) items
+
+-- ---- head_of
+
+-- it answers `None` exactly for a free item
+pub free_from_none : (v : Lists) (x : ℕ) (head : Option ℕ) →
+    ((h : ℕ) → (head ≡ Some h) ↔ (has (list_of v h) x ≡ true)) → head ≡ None → IsFree v x
+free_from_none v x head clause e h = false_from_ne_true (has (list_of v h) x)
+    (λ t. none-some h (sym e ∙ (clause h).1 t))
+
+pub none_from_free : (v : Lists) (x : ℕ) (head : Option ℕ) →
+    ((h : ℕ) → (head ≡ Some h) ↔ (has (list_of v h) x ≡ true)) → IsFree v x → head ≡ None
+none_from_free v x None clause f = refl
+none_from_free v x (Some h) clause f = absurd (false≢true (sym (f h) ∙ (clause h).0 refl))
+
+-- ---- push_front
+
+pub record AfterPush (v w : Lists) (head item : ℕ) : Type 0 where
+  pub gained : list_of w head ≡ item ∷ list_of v head
+  pub others : (g : ℕ) → g ≢ head → list_of w g ≡ list_of v g
+  pub items : w.items ≡ v.items
+  pub heads : length w.lists ≡ length v.lists
+
+pub after_push : (v w : Lists) (head item : ℕ) → head < length v.lists →
+    w ≡ with_first v head item → AfterPush v w head item
+after_push v w head item low e = record {
+  gained = ap (λ k. list_of k head) e ∙ list_of-with_list_same v head (item ∷ list_of v head) low;
+  others = λ g ne. ap (λ k. list_of k g) e ∙ list_of-with_list_other v head g (item ∷ list_of v head) ne;
+  items = ap (λ k. k.items) e;
+  heads = ap (λ k. length k.lists) e ∙ length-set v.lists head (item ∷ list_of v head);
+}
+
+module _ {v w : Lists} {head item : ℕ} (a : AfterPush v w head item) where
+  -- an item stays in its list
+  pub has-push : (h x : ℕ) → has (list_of v h) x ≡ true → has (list_of w h) x ≡ true
+  has-push h x i =
+      ⊎_elim
+      (λ (e : h ≡ head). rw e (rw a.gained
+      (has_tail item (list_of v head) x (subst (λ (k : ℕ). has (list_of v k) x ≡ true) e i))))
+      (λ ne. ap (λ k. has k x) (a.others h ne) ∙ i)
+      (cases_eq h head)
+
+  pub held-push : (x : ℕ) → IsHeld v x → IsHeld w x
+  held-push x i = (i.0, has-push i.0 x i.1)
+
+  pub held-push_same : IsHeld w item
+  held-push_same = (head, ap (λ k. has k item) a.gained ∙ has_head item (list_of v head))
+
+  -- another item stays free
+  pub free-push : (x : ℕ) → item ≢ x → IsFree v x → IsFree w x
+  free-push x ne f h =
+      ⊎_elim
+      (λ (e : h ≡ head). rw e (ap (λ k. has k x) a.gained
+      ∙ or_from (eqb item x) (has (list_of v head) x) (ne_eqb item x ne) (f head)))
+      (λ nh. ap (λ k. has k x) (a.others h nh) ∙ f h)
+      (cases_eq h head)
+
+-- ---- unlink
+
+pub record AfterUnlink (v w : Lists) (item : ℕ) : Type 0 where
+  pub lost : (g : ℕ) → list_of w g ≡ without item (list_of v g)
+  pub items : w.items ≡ v.items
+  pub heads : length w.lists ≡ length v.lists
+
+pub after_unlink : (v w : Lists) (item : ℕ) → w ≡ without_item v item → AfterUnlink v w item
+after_unlink v w item e = record {
+  lost = λ g. ap (λ k. list_of k g) e ∙ get_without item v.lists g;
+  items = ap (λ k. k.items) e;
+  heads = ap (λ k. length k.lists) e ∙ length-map v.lists (without item);
+}
+
+module _ {v w : Lists} {item : ℕ} (a : AfterUnlink v w item) where
+  -- only the list of the item's head loses it
+  pub others-unlink : (h g : ℕ) → IsSound v → has (list_of v h) item ≡ true → g ≢ h →
+      list_of w g ≡ list_of v g
+  others-unlink h g s i ne =
+      a.lost g ∙ without_none item (list_of v g)
+      (false_from_ne_true (has (list_of v g) item) (λ t. ne (s.apart g h item t i)))
+
+  -- the item is free
+  pub free-unlink_same : IsFree w item
+  free-unlink_same h = ap (λ k. has k item) (a.lost h) ∙ has-without_same item (list_of v h)
+
+  -- another item is where it was
+  pub has-unlink : (h x : ℕ) → x ≢ item → has (list_of w h) x ≡ has (list_of v h) x
+  has-unlink h x ne = ap (λ k. has k x) (a.lost h) ∙ has-without item (list_of v h) x ne
+
+  pub free-unlink : (x : ℕ) → x ≢ item → IsFree v x → IsFree w x
+  free-unlink x ne f h = has-unlink h x ne ∙ f h
+
+  pub held-unlink : (x : ℕ) → x ≢ item → IsHeld v x → IsHeld w x
+  held-unlink x ne i = (i.0, has-unlink i.0 x ne ∙ i.1)
+
+-- ---- move_all
+
+pub record AfterMove (v w : Lists) (from to : ℕ) : Type 0 where
+  pub emptied : list_of w from ≡ []
+  pub gained : list_of w to ≡ list_of v from ++ list_of v to
+  pub others : (g : ℕ) → g ≢ from → g ≢ to → list_of w g ≡ list_of v g
+  pub items : w.items ≡ v.items
+  pub heads : length w.lists ≡ length v.lists
+
+pub after_move : (v w : Lists) (from to : ℕ) → from < length v.lists → to < length v.lists →
+    from ≢ to → w ≡ with_moved v from to → AfterMove v w from to
+after_move v w from to fl tl ne e =
+    let xs : List ℕ = list_of v from ++ list_of v to in
+    let m : Lists = with_list v to xs in
+    let len : length m.lists ≡ length v.lists = length-set v.lists to xs in
+    record {
+      emptied = ap (λ k. list_of k from) e ∙ list_of-with_list_same m from [] (rw len fl);
+      gained = ap (λ k. list_of k to) e ∙ list_of-with_list_other m from to [] (λ k. ne (sym k))
+          ∙ list_of-with_list_same v to xs tl;
+      others = λ g nf nt. ap (λ k. list_of k g) e ∙ list_of-with_list_other m from g [] nf
+          ∙ list_of-with_list_other v to g xs nt;
+      items = ap (λ k. k.items) e;
+      heads = ap (λ k. length k.lists) e ∙ length-set m.lists from [] ∙ len;
+    }
+
+module _ {v w : Lists} {from to : ℕ} (a : AfterMove v w from to) where
+  -- an item is in the list of `to`, or in that of its own head
+  pub held-move : (x : ℕ) → IsHeld v x → IsHeld w x
+  held-move x i =
+      ⊎_elim
+      (λ (e : i.0 ≡ from). (
+        to,
+        ap (λ k. has k x) a.gained ∙ has-append (list_of v from) (list_of v to) x
+            ∙ or_left (has (list_of v from) x) (has (list_of v to) x)
+            (subst (λ (k : ℕ). has (list_of v k) x ≡ true) e i.1),
+      ))
+      (λ nf. ⊎_elim
+      (λ (e : i.0 ≡ to). (
+        to,
+        ap (λ k. has k x) a.gained ∙ has-append (list_of v from) (list_of v to) x
+            ∙ or_right (has (list_of v from) x) (has (list_of v to) x)
+            (subst (λ (k : ℕ). has (list_of v k) x ≡ true) e i.1),
+      ))
+      (λ nt. (i.0, ap (λ k. has k x) (a.others i.0 nf nt) ∙ i.1))
+      (cases_eq i.0 to))
+      (cases_eq i.0 from)
+
+  pub free-move : (x : ℕ) → IsFree v x → IsFree w x
+  free-move x f h =
+      ⊎_elim
+      (λ (e : h ≡ from). rw e (ap (λ k. has k x) a.emptied))
+      (λ nf. ⊎_elim
+      (λ (e : h ≡ to). rw e (ap (λ k. has k x) a.gained ∙ has-append (list_of v from) (list_of v to) x
+      ∙ or_from (has (list_of v from) x) (has (list_of v to) x) (f from) (f to)))
+      (λ nt. ap (λ k. has k x) (a.others h nf nt) ∙ f h)
+      (cases_eq h to))
+      (cases_eq h from)

@@ -1,0 +1,83 @@
+ghost use Rattle.std.specs.Prelude.{◌≡◌, ℕ, ◌+◌, ◌<◌, ◌≤◌, length, slice_index, slice_set};
+ghost use Rattle.pm_links.specs.Arena.{walk};
+ghost use Rattle.pm_links.specs.Lists.{set_all};
+
+// Circular lists with links both ways and a node for each head (Knuth 1968). A ring is never empty, so
+// no step asks whether an item is the first or the last of its list.
+
+// Lets node `to` follow node `from`.
+fn link(next: &mut [u32], prev: &mut [u32], from: u32, to: u32)
+    requires from_in { from < length next.old }
+    requires to_in { to < length prev.old }
+    ensures next { next.new ≡ slice_set next.old from to }
+    ensures prev { prev.new ≡ slice_set prev.old to from }
+{
+    next[from as usize] = to;
+    prev[to as usize] = from;
+}
+
+// Puts `item` into the ring of `node`, right after it.
+pub fn put_after(next: &mut [u32], prev: &mut [u32], node: u32, item: u32)
+    requires same_len { length prev.old ≡ length next.old }
+    requires node_in { node < length next.old }
+    requires item_in { item < length next.old }
+    requires after_in { slice_index next.old node < length next.old }
+    ensures next { next.new ≡ slice_set (slice_set next.old item (slice_index next.old node)) node item }
+    ensures prev { prev.new ≡ slice_set (slice_set prev.old (slice_index next.old node) item) item node }
+{
+    let after = next[node as usize];
+    link(next, prev, item, after);
+    link(next, prev, node, item);
+}
+
+// Takes `item` out of its ring.
+pub fn cut_out(next: &mut [u32], prev: &mut [u32], item: u32)
+    requires same_len { length prev.old ≡ length next.old }
+    requires item_in { item < length next.old }
+    requires before_in { slice_index prev.old item < length next.old }
+    requires after_in { slice_index next.old item < length next.old }
+    ensures next { next.new ≡ slice_set next.old (slice_index prev.old item) (slice_index next.old item) }
+    ensures prev { prev.new ≡ slice_set prev.old (slice_index next.old item) (slice_index prev.old item) }
+{
+    let before = prev[item as usize];
+    let after = next[item as usize];
+    link(next, prev, before, after);
+}
+
+// Puts the items of the ring of `from`, which has some, right after `to`. The node `from` is left as a
+// ring of its own.
+pub fn move_ring(next: &mut [u32], prev: &mut [u32], from: u32, to: u32)
+    requires same_len { length prev.old ≡ length next.old }
+    requires from_in { from < length next.old }
+    requires to_in { to < length next.old }
+    requires first_in { slice_index next.old from < length next.old }
+    requires last_in { slice_index prev.old from < length next.old }
+    requires after_in { slice_index next.old to < length next.old }
+    ensures next { next.new ≡ slice_set (slice_set (slice_set next.old to (slice_index next.old from))
+        (slice_index prev.old from) (slice_index next.old to)) from from }
+    ensures prev { prev.new ≡ slice_set (slice_set (slice_set prev.old (slice_index next.old from) to)
+        (slice_index next.old to) (slice_index prev.old from)) from from }
+{
+    let first = next[from as usize];
+    let last = prev[from as usize];
+    let after = next[to as usize];
+    link(next, prev, to, first);
+    link(next, prev, last, after);
+    link(next, prev, from, from);
+}
+
+// Makes `head` the owner of each item from node `start` on, up to the node of a head.
+pub fn relabel(next: &[u32], owner: &mut [u32], start: u32, head: u32)
+    requires { length owner.old ≤ length next.now }
+    ensures { owner.new ≡ set_all owner.old (walk next.now (length owner.old) (length owner.old) start) head }
+{
+    let mut node = start;
+    // No list has more items than there are, and so the walk comes to a head's node within the count.
+    for _ in 0..owner.len() {
+        if node as usize >= owner.len() {
+            return;
+        }
+        owner[node as usize] = head;
+        node = next[node as usize];
+    }
+}
