@@ -1,0 +1,10 @@
+pub mod KeyOrder
+pub mod EntryLaws
+pub mod LeastLaws
+mod ItemOrder
+mod SiftUp
+mod SiftDown
+mod Members
+mod NewKey
+mod EntryTables
+mod LeastAtRoot

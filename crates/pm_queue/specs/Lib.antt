@@ -1,0 +1,5 @@
+pub mod Keys
+pub mod Entries
+pub mod Places
+pub mod Heap
+pub mod Viewed

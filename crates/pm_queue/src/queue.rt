@@ -1,0 +1,111 @@
+ghost use Rattle.std.specs.Prelude.{◌≡◌, ◌<◌, ◌≤◌, IfNone, IfOk, IfSome, false, is_some, length, replicate, slice_set};
+
+use super::heap::{drop_item, place_item};
+use super::key::Key;
+use super::places::identity;
+use std::alloc::{AllocError, Global};
+use std::marker::Model;
+
+/// The answer for want of memory.
+pub type OutOfMemory = AllocError;
+
+/// The most items that a queue may be over.
+pub const ITEM_LIMIT: u32 = 4_194_304;
+
+/// A map from the items `0..n` to keys, with the least entry at hand.
+///
+/// Contracts see a list with an optional key for each item.
+#[derive(Drop)]
+pub struct Queue {
+    // The item at each place. Those that have a key stand in the first `len` places.
+    heap: Vec<u32>,
+    // The place of each item.
+    place: Vec<u32>,
+    // The key of each item, with no meaning where the item has none.
+    keys: Vec<Key>,
+    len: u32,
+}
+
+impl Model for Queue {
+    ghost use Rattle.std.specs.Prelude.{length};
+    ghost use Rattle.pm_queue.specs.Entries.{Entries};
+    ghost use Rattle.pm_queue.specs.Viewed.{entries, IsIndexedHeap};
+
+    ghost Value = { Entries };
+
+    ghost view = { λ q. entries (length q.keys.items) q.keys.items q.place.items q.len };
+
+    ghost invariant = { λ q. IsIndexedHeap q.keys.items q.heap.items q.place.items q.len };
+}
+
+impl Queue {
+    ghost use Rattle.pm_queue.specs.Entries.{IsEmpty, IsLeast, key_at};
+
+    /// A queue over the items `0..n`, none of which has a key.
+    ///
+    /// Takes the memory for all items at once; no other call takes any. O(n) time.
+    pub fn new(alloc: Global, n: u32) -> Result<Queue, OutOfMemory>
+        requires within_limit { n ≤ ITEM_LIMIT }
+        ensures empty { IfOk result (λ entries. entries ≡ replicate n None) }
+    {
+        let heap = identity(alloc, n)?;
+        let place = identity(alloc, n)?;
+        let unset = Key {
+            cost: 0,
+            a: 0,
+            b: 0,
+        };
+        let keys = vec![in alloc; unset; n as usize]?;
+        Ok(Queue {
+            heap,
+            place,
+            keys,
+            len: 0,
+        })
+    }
+
+    /// Gives `item` the key, in place of any that it has. O(log n) time.
+    pub fn set(&mut self, item: u32, key: Key)
+        requires in_range { item < length self.old }
+        ensures replaced { self.new ≡ slice_set self.old item (Some key) }
+    {
+        self.keys[item as usize] = key;
+        self.len = place_item(&mut self.heap, &mut self.place, &self.keys, self.len, item);
+    }
+
+    /// Takes the key of `item` away, and says whether it had one. O(log n) time.
+    pub fn remove(&mut self, item: u32) -> bool
+        requires in_range { item < length self.old }
+        ensures had { result ≡ is_some (key_at self.old item) }
+        ensures taken { self.new ≡ slice_set self.old item None }
+        ensures unchanged { result ≡ false → self.new ≡ self.old }
+    {
+        let had = self.place[item as usize] < self.len;
+        self.len = drop_item(&mut self.heap, &mut self.place, &self.keys, self.len, item);
+        had
+    }
+
+    /// The item with the least key, the smaller item on equal keys, and its key. O(1) time.
+    pub fn least(&self) -> Option<(u32, Key)>
+        ensures some { IfSome result (IsLeast self.now) }
+        ensures none { IfNone result (IsEmpty self.now) }
+    {
+        if self.len == 0 {
+            return None;
+        }
+        let item = self.heap[0];
+        Some((item, self.keys[item as usize]))
+    }
+
+    /// The same answer as `least`, and the item loses its key. O(log n) time.
+    pub fn take_least(&mut self) -> Option<(u32, Key)>
+        ensures some { IfSome result (IsLeast self.old) }
+        ensures taken { IfSome result (λ entry. self.new ≡ slice_set self.old entry.0 None) }
+        ensures none { IfNone result (IsEmpty self.old) }
+        ensures unchanged { IfNone result (self.new ≡ self.old) }
+    {
+        let (item, key) = self.least()?;
+        self.remove(item);
+        Some((item, key))
+    }
+}
