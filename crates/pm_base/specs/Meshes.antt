@@ -3,10 +3,15 @@ use Rattle.std.specs.Prelude.{ℕ, ◌≢◌, ◌<◌, ◌≤◌, List, length}
 use Rattle.std.specs.List.{All}
 use Rattle.pm_base.specs.Place.{Place}
 use Rattle.pm_base.specs.declared.mesh.Corners.{Corners}
+use Rattle.pm_base.specs.declared.mesh.Mesh.{Mesh as HeldMesh}
 
 pub record Mesh : Type 0 where
   pub points : List Place
   pub faces : List Corners
+
+-- The mesh that is held in memory, without the room of its lists.
+abbrev pub mesh_of : HeldMesh → Mesh
+mesh_of m = record { points = m.points.items; faces = m.faces.items }
 
 -- A face over n points: each corner is the number of a point, and no two are the same.
 pub record IsFace (n : ℕ) (f : Corners) : Type 0 where

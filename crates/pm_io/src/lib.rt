@@ -4,6 +4,7 @@
 mod device;
 mod line;
 mod memory;
+mod number;
 mod put;
 mod streams;
 mod taker;
@@ -13,6 +14,7 @@ mod tests;
 pub use device::{Failed, ReadFault, Sink, Source, WriteFault};
 pub use line::Line;
 pub use memory::{MemSink, MemSource, SureSource};
+pub use number::{are_digits, read_unsigned, value_up_to};
 pub use put::put_all;
 pub use streams::{StdSink, StdSource};
 pub use taker::Taker;
