@@ -1,0 +1,33 @@
+-- The lines of a text, and what is read of a line. Byte 10 is LF, 13 is CR, 35 is `#`, and 92 is a backslash.
+use Rattle.std.specs.Prelude.{ℕ, ◌-◌, List, [], ◌∷◌, Bool, ◌==◌, length, take, slice_index_or, if◌then◌else◌}
+
+-- The bytes before the first that is this one.
+abbrev pub until : ℕ → List ℕ → List ℕ
+until stop [] = []
+until stop (b ∷ bs) = if b == stop then [] else b ∷ until stop bs
+
+-- A byte put before the first line.
+abbrev pub onto : ℕ → List (List ℕ) → List (List ℕ)
+onto b [] = (b ∷ []) ∷ []
+onto b (l ∷ ls) = (b ∷ l) ∷ ls
+
+-- The lines of the bytes, each with its LF. What follows the last LF is a line if it isn't empty.
+abbrev pub lines : List ℕ → List (List ℕ)
+lines [] = []
+lines (b ∷ bs) = if b == 10 then (10 ∷ []) ∷ lines bs else onto b (lines bs)
+
+-- The last byte is this one, which isn't 0.
+abbrev pub ends_with : ℕ → List ℕ → Bool
+ends_with b bytes = slice_index_or bytes (length bytes - 1) 0 == b
+
+-- Without one CR at the end.
+unfoldable pub without_cr : List ℕ → List ℕ
+without_cr bytes = if ends_with 13 bytes then take (length bytes - 1) bytes else bytes
+
+-- What is read of a line that stands here without its LF: no CR at its end, and no comment.
+unfoldable pub content : List ℕ → List ℕ
+content text = until 35 (without_cr text)
+
+-- A backslash is the last byte.
+unfoldable pub is_continued : List ℕ → Bool
+is_continued bytes = ends_with 92 bytes

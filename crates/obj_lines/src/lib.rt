@@ -1,0 +1,17 @@
+//! The lines of a text in the syntax of Wavefront OBJ that comes in pieces of any size.
+#![tactic(auto)]
+
+mod cutting;
+mod lines;
+mod state;
+#[cfg(test)]
+mod tests;
+mod text;
+
+pub use cutting::any_cutting;
+pub use lines::Lines;
+pub use state::{Fed, LineState};
+pub use text::{is_continued, until};
+
+/// The answer for want of memory.
+pub type OutOfMemory = std::alloc::AllocError;

@@ -1,0 +1,9 @@
+//! The text of a mesh in the syntax of Wavefront OBJ, written to a sink.
+#![tactic(auto)]
+
+mod line;
+#[cfg(test)]
+mod tests;
+mod write;
+
+pub use write::write_obj;

@@ -1,0 +1,60 @@
+ghost use Rattle.std.specs.Prelude.{◌≡◌, OnOk, OnErr};
+ghost use Rattle.std.specs.List.{flat_map};
+ghost use Rattle.pm_base.specs.Canonical.{point_line, corner_line, canonical_text};
+ghost use Rattle.pm_base.specs.Meshes.{IsWellFormed, mesh_of};
+ghost use Rattle.pm_io.specs.Bytes.{Gains, GainsPart};
+ghost use Rattle.pm_io.specs.Causes.{HasCause};
+
+use crate::line::{put_corners, put_point};
+use pm_base::Mesh;
+use pm_io::{Line, Sink, WriteFault, put_all};
+
+fn put_points<K: Sink>(mesh: &Mesh, line: &mut Line, out: &mut K) -> Result<(), WriteFault>
+    ensures ok { OnOk result (Gains (K.got out.old) (K.got out.new) (flat_map point_line mesh.now.points.items)) }
+    ensures err { OnErr result (GainsPart (K.got out.old) (K.got out.new) (flat_map point_line mesh.now.points.items)) }
+    ensures cause { HasCause (K.faults out.old) (K.faults out.new) result }
+{
+    for point in mesh.points.as_slice() {
+        put_point(line, point);
+        if let Err(fault) = put_all(out, line.as_slice()) {
+            return Err(fault);
+        }
+    }
+    Ok(())
+}
+
+fn put_faces<K: Sink>(mesh: &Mesh, line: &mut Line, out: &mut K) -> Result<(), WriteFault>
+    requires { IsWellFormed (mesh_of mesh.now) }
+    ensures ok { OnOk result (Gains (K.got out.old) (K.got out.new) (flat_map corner_line mesh.now.faces.items)) }
+    ensures err { OnErr result (GainsPart (K.got out.old) (K.got out.new) (flat_map corner_line mesh.now.faces.items)) }
+    ensures cause { HasCause (K.faults out.old) (K.faults out.new) result }
+{
+    for corners in mesh.faces.as_slice() {
+        put_corners(line, corners);
+        if let Err(fault) = put_all(out, line.as_slice()) {
+            return Err(fault);
+        }
+    }
+    Ok(())
+}
+
+/// Writes the canonical text of a well-formed mesh: a line for each point, and then one for each face. After a fault
+/// the sink has gained a part of the text from its front, and not the whole.
+///
+/// Each line is put as one piece. It takes no memory.
+#[tactic(auto, unfolding(pm_base::specs::Canonical::canonical_text))]
+pub fn write_obj<K: Sink>(mesh: &Mesh, out: &mut K) -> Result<(), WriteFault>
+    requires { IsWellFormed (mesh_of mesh.now) }
+    ensures ok { OnOk result (Gains (K.got out.old) (K.got out.new) (canonical_text (mesh_of mesh.now))) }
+    ensures err { OnErr result (GainsPart (K.got out.old) (K.got out.new) (canonical_text (mesh_of mesh.now))) }
+    ensures cause { HasCause (K.faults out.old) (K.faults out.new) result }
+{
+    let mut line = Line::new();
+    if let Err(fault) = put_points(mesh, &mut line, out) {
+        return Err(fault);
+    }
+    if let Err(fault) = put_faces(mesh, &mut line, out) {
+        return Err(fault);
+    }
+    Ok(())
+}
