@@ -1,0 +1,188 @@
+-- What the readers of a whole hierarchy answer.
+use Rattle.std.proofs.Common.{◌≡◌, ◌≢◌, ◌↔◌, ℕ, zero, suc, ◌+◌, ◌-◌, ◌/◌, ◌%◌, ◌<◌, ◌≤◌, true, List, [], ◌∷◌, length, get_or, sum, All, None, Some, IfSome, inl, inr, refl, sym, ap, ◌∙◌, subst, arith}
+use Rattle.std.proofs.lemmas.Bool.{cases_lt, lt-ltb, le-ltb, lt-leb, le-leb, eq-eqb, ne_eqb, cond-true, cond-false}
+use Rattle.std.proofs.lemmas.List.{length-map, get_or_default}
+use Rattle.std.proofs.lemmas.Option.{none-some}
+use Rattle.pm_forest.specs.declared.parts.Root.{Root}
+use Rattle.pm_forest.specs.Forest.{Hierarchy, Interval, record_at, widths, record_count, node_count, leaf_count, s_of, t_of, Holds, holds, root_interval, interval_after, interval_of, splitter_of, HasForestShape}
+use Rattle.pm_forest.specs.Fronts.{IsThere, every}
+use Rattle.pm_forest.specs.Faces.{first_face, face_count, revealed_by, revealed_after}
+use Rattle.pm_forest.specs.Places.{no_root, place_of_node}
+use Rattle.pm_forest.specs.Rules.{HasShape}
+use Rattle.pm_forest.specs.Tables.{Grown, all_of, grown, IsSingle, leaf_node_of}
+use Rattle.pm_forest.proofs.Nodes.{within-true, within-from, interval-kept, interval_of-t, interval_of-u, holds-s_from_t, holds-s_from_u, has_maker, splitter_of-splits, splitter_of-s, none_or_some}
+use Rattle.pm_forest.proofs.Ancestors.{every-front, ancestor-lt, ancestor_of-unique, holds-ancestor_of}
+use Rattle.pm_forest.proofs.FaceNumbers.{revealed-parts, first_face-mono}
+use Rattle.pm_forest.proofs.OwnerLaws.{sum-cons}
+use Rattle.pm_forest.proofs.ShapeLaws.{shape_of_nodes, roots_wide, leaf_nodes_of_shape}
+
+-- With no record to come, the forest's units are those of the hierarchy.
+pub all_units : (g : Grown) (h : Hierarchy) → g.coming ≡ None → g.h ≡ h → grown g ≡ h
+all_units g h none is = ap (all_of g.h) none ∙ is
+
+-- Among roots: none is without leaves, and none has one past the last leaf.
+
+root_wide : (ws : List ℕ) (start v : ℕ) → All (λ w. 0 < w) ws → v < length ws →
+    (root_interval ws start v).from < (root_interval ws start v).until
+root_wide [] start v wide l = absurd (omega arith)
+root_wide (w ∷ ws) start zero wide l = let here : 0 < w = wide 0 0 (omega arith) in omega arith
+root_wide (w ∷ ws) start (suc v) wide l = root_wide ws (start + w) v (λ k d m. wide (suc k) d (omega arith)) (omega arith)
+
+root_until : (ws : List ℕ) (start v : ℕ) → (root_interval ws start v).until ≤ start + sum ws
+root_until [] start v = omega arith
+root_until (w ∷ ws) start zero = omega (arith, sum-cons w ws)
+root_until (w ∷ ws) start (suc v) = omega (arith, sum-cons w ws, root_until ws (start + w) v)
+
+-- An interval is its two ends.
+interval_of_ends : (i : Interval) (a b : ℕ) → i.from ≡ a → i.until ≡ b → i ≡ record { from = a; until = b }
+interval_of_ends i a b from until = rw (← from, ← until) refl
+
+module _ (h : Hierarchy) (shape : HasShape h) where
+  nodes : HasForestShape h
+  nodes = shape_of_nodes h shape
+
+  root_is : (v : ℕ) → v < length h.roots → interval_of h v ≡ root_interval (widths h) 0 v
+  unfolding interval_after
+  root_is v l = interval-kept h 0 (record_count h) v (omega arith) (omega arith)
+
+  -- no node is without leaves
+  pub some_leaves : (v : ℕ) → v < node_count h → (interval_of h v).from < (interval_of h v).until
+  some_leaves v l =
+      elim (cases_lt v (length h.roots)) [
+        | inl a ↦
+            let root : v < length (widths h) = omega (arith, length-map h.roots (λ r. r.width)) in
+            rw (root_is v a) (root_wide (widths h) 0 v (roots_wide h shape) root)
+        | inr a ↦
+            let (j, j_lt, makes) = has_maker h v (record_count h) a l in
+            let w = nodes.width j j_lt in
+            elim makes [
+              | inl is ↦ (rw (is, interval_of-t h nodes j j_lt) (omega arith))
+              | inr is ↦ (rw (is, interval_of-u h nodes j j_lt) (omega arith))
+            ]
+      ]
+
+  under_first : (k v x : ℕ) → k ≤ record_count h → v < t_of h k → Holds h v x → x < leaf_count h
+  unfolding holds
+  under_first zero v x m l e =
+      let p = within-true _ x (rw (root_is v (omega arith)) at e) in
+      omega (arith, root_until (widths h) 0 v)
+  under_first (suc k) v x m l e =
+      elim (cases_lt v (t_of h k)) [
+        | inl a ↦ under_first k v x (omega arith) a e
+        | inr a ↦
+            let at_s = under_first k (s_of h k) x (omega arith) (nodes.older k m) in
+            elim (cases_lt (t_of h k) v) [
+              | inl b ↦ (let is : v ≡ suc (t_of h k) = omega arith in at_s (holds-s_from_u h nodes k x m (subst (λ n. Holds h n x) (is ∙ omega arith) e)))
+              | inr b ↦ (let is : v ≡ t_of h k = omega arith in at_s (holds-s_from_t h nodes k x m (subst (λ n. Holds h n x) is e)))
+            ]
+      ]
+
+  -- what is under a node is a leaf
+  pub under_node : (v x : ℕ) → v < node_count h → Holds h v x → x < leaf_count h
+  under_node v x l e = under_first (record_count h) v x (omega arith) l e
+
+  -- A node that a record splits has two leaves or more.
+  split_wide : (v k : ℕ) → splitter_of h v ≡ Some k → (interval_of h v).from + 1 < (interval_of h v).until
+  split_wide v k e =
+      let p = splitter_of-splits h k v e in
+      let w = nodes.width k p.1 in
+      rw (← p.0) (omega arith)
+
+  -- A node that none splits is the node of its first leaf in the full front, and so has that leaf alone.
+  unsplit_single : (v : ℕ) → v < node_count h → splitter_of h v ≡ None → IsSingle (interval_of h v)
+  unfolding holds
+  unsplit_single v l none =
+      let x = (interval_of h v).from in
+      let under : Holds h v x = within-from (interval_of h v) x (omega arith) (some_leaves v l) in
+      let there : IsThere h every v = elim (cases_lt v (length h.roots)) [
+        | inl a ↦ inl a
+        | inr a ↦ (let (j, j_lt, makes) = has_maker h v (record_count h) a l in inr (j, j_lt, refl, makes))
+      ] in
+      let unsplit : (k : ℕ) → k < record_count h → every k ≡ true → s_of h k ≢ v = λ k m t is.
+      none-some k (sym none ∙ ap (splitter_of h) (sym is) ∙ splitter_of-s h nodes k m) in
+      let node : leaf_node_of h x ≡ v = ancestor_of-unique h nodes every (every-front h) v x (there, unsplit) under in
+      rw node at (leaf_nodes_of_shape h shape x (under_node v x l under))
+
+  -- no record splits a node of one leaf, and no other node stays whole
+  pub unsplit-single : (v : ℕ) → v < node_count h → (splitter_of h v ≡ None) ↔ IsSingle (interval_of h v)
+  unsplit-single v l = (
+    unsplit_single v l,
+    λ single. elim (none_or_some (splitter_of h v)) [
+      | inl none ↦ none
+      | inr (k, e) ↦ (let wide = split_wide v k e in absurd (omega arith))
+    ],
+  )
+
+  -- the node of a leaf has this leaf alone
+  pub leaf_node-alone : (x : ℕ) → x < leaf_count h →
+      interval_of h (leaf_node_of h x) ≡ record { from = x; until = x + 1 }
+  unfolding holds
+  leaf_node-alone x l =
+      let single = leaf_nodes_of_shape h shape x l in
+      let p = within-true _ x (holds-ancestor_of h nodes every x l) in
+      let from : (interval_of h (leaf_node_of h x)).from ≡ x = omega arith in
+      let until : (interval_of h (leaf_node_of h x)).until ≡ x + 1 = omega arith in
+      interval_of_ends _ x (x + 1) from until
+
+  pub leaf_node-lt : (x : ℕ) → x < leaf_count h → leaf_node_of h x < node_count h
+  leaf_node-lt x l = ancestor-lt h nodes every (record_count h) x l
+
+-- Faces
+
+later_revealed : (h : Hierarchy) (n f : ℕ) → length h.bases ≤ f → f < first_face h n → revealed_after h n f ≢ None
+unfolding first_face revealed_after
+later_revealed h zero f l m none = omega arith
+later_revealed h (suc n) f l m none =
+    elim (cases_lt f (first_face h n)) [
+      | inl before ↦ later_revealed h n f l before (sym (cond-false _ _ _ (lt-leb (first_face h n) f before)) ∙ none)
+      | inr past ↦ none-some n (sym none ∙ cond-true _ _ _ (le-leb (first_face h n) f past))
+    ]
+
+-- no record reveals a base face, and one reveals each other face
+pub revealed-base : (h : Hierarchy) (f : ℕ) → f < face_count h → (revealed_by h f ≡ None) ↔ (f < length h.bases)
+unfolding first_face
+revealed-base h f l = (
+  λ none. elim (cases_lt f (length h.bases)) [
+    | inl base ↦ base
+    | inr later ↦ absurd (later_revealed h (record_count h) f later l none)
+  ],
+  λ base. elim (none_or_some (revealed_by h f)) [
+    | inl none ↦ none
+    | inr (k, e) ↦
+        let p = revealed-parts h f k l e in
+        let first = first_face-mono h 0 k (omega arith) in
+        absurd (omega arith)
+  ],
+)
+
+pub revealed-lt : (h : Hierarchy) (f : ℕ) → f < face_count h → IfSome (revealed_by h f) (λ k. k < record_count h)
+revealed-lt h f l =
+    elim (none_or_some (revealed_by h f)) [
+      | inl none ↦ (rw none tt)
+      | inr (k, e) ↦ (rw e (revealed-parts h f k l e).0)
+    ]
+
+pub splitter-lt : (h : Hierarchy) (v : ℕ) → IfSome (splitter_of h v) (λ k. k < record_count h)
+splitter-lt h v =
+    elim (none_or_some (splitter_of h v)) [
+      | inl none ↦ (rw none tt)
+      | inr (k, e) ↦ (rw e (splitter_of-splits h k v e).1)
+    ]
+
+-- Places
+
+pub place-root : (h : Hierarchy) (v : ℕ) (r : Root) → v < length h.roots → r ≡ get_or h.roots v r →
+    r.place ≡ place_of_node h v
+unfolding place_of_node
+place-root h v r l is =
+    rw (lt-ltb v (length h.roots) l) (ap (λ (q : Root). q.place) (is ∙ get_or_default h.roots v r no_root l))
+
+pub place-t : (h : Hierarchy) (v : ℕ) → length h.roots ≤ v → (v - length h.roots) % 2 ≡ 0 →
+    (record_at h ((v - length h.roots) / 2)).t.place ≡ place_of_node h v
+unfolding place_of_node
+place-t h v l even = rw (le-ltb v (length h.roots) l, eq-eqb ((v - length h.roots) % 2) 0 even) refl
+
+pub place-u : (h : Hierarchy) (v : ℕ) → length h.roots ≤ v → (v - length h.roots) % 2 ≢ 0 →
+    (record_at h ((v - length h.roots) / 2)).u.place ≡ place_of_node h v
+unfolding place_of_node
+place-u h v l odd = rw (le-ltb v (length h.roots) l, ne_eqb ((v - length h.roots) % 2) 0 odd) refl

@@ -1,0 +1,301 @@
+-- What a shaper keeps with each root, base face and head that it takes in, and at its end.
+use Rattle.std.proofs.Common.{◌≡◌, ℕ, ℤ, ◌+◌, ◌*◌, ◌<◌, ◌≤◌, eqb, ltb, Bool, true, false, not, ◌||◌, List, [], ◌∷◌, ◌++◌, length, sum, Option, None, Some, inl, inr, refl, sym, ap, ◌∙◌, subst, arith, append_assoc}
+use Rattle.std.proofs.lemmas.Bool.{cases_lt, cases_eq, eqb-false, ltb-false, ne_eqb, or_parts}
+use Rattle.std.proofs.lemmas.Bool.Decides.{nat_tests}
+use Rattle.std.proofs.lemmas.List.{append-nil, nil_from_length, length_push, map_push, flat_map_more}
+use Rattle.std.proofs.lemmas.List.Sums.{sum_by_push}
+use Rattle.pm_base.specs.Place.{place_of}
+use Rattle.pm_forest.specs.declared.parts.Counts.{Counts}
+use Rattle.pm_forest.specs.declared.parts.Root.{Root}
+use Rattle.pm_forest.specs.declared.parts.Face.{Face}
+use Rattle.pm_forest.specs.declared.parts.Head.{Head}
+use Rattle.pm_forest.specs.declared.parts.Record.{Record}
+use Rattle.pm_forest.specs.Marks.{AreMarked}
+use Rattle.pm_forest.specs.Forest.{Hierarchy, widths_of, leaf_count}
+use Rattle.pm_forest.specs.Faces.{one_if, faces_of}
+use Rattle.pm_forest.specs.Rules.{counts_are_bad, width_is_bad, root_inputs, child_inputs, node_inputs, face_inputs, root_fault, base_fault, presence_is_bad, head_is_bad, head_fault, past_fault, with_record, head_with, AllFit, counts_of, HasShape}
+use Rattle.pm_forest.specs.Tables.{Grown, grown, all_of}
+use Rattle.pm_forest.specs.Shaping.{started, SplitFits, IsShaping}
+use Rattle.pm_forest.proofs.OwnerLaws.{sum-cons}
+use Rattle.pm_forest.proofs.Prefix.{faces_of-with_record}
+use Rattle.pm_forest.proofs.UnitLaws.{AllFit-push}
+
+-- The start
+
+pub nothing_fits : (c : Counts) (g : Grown) (vertices faces : List Bool) → counts_are_bad c ≡ false →
+    g ≡ record { counts = c; h = record { roots = []; bases = []; records = [] }; coming = None } →
+    AreMarked vertices [] → length vertices ≡ c.leaves → AreMarked faces [] → length faces ≡ 1048576 →
+    IsShaping g false false vertices faces
+unfolding faces_of
+nothing_fits c g vertices faces fit is nodes_marked node_flags faces_marked face_flags =
+    rw is (record {
+      counts_fit = fit;
+      roots_fit = tt;
+      bases_fit = tt;
+      records_fit = tt;
+      coming_fits = (refl, refl);
+      roots_most = omega arith;
+      bases_most = omega arith;
+      records_most = omega arith;
+      roots_first = λ some. absurd (omega arith);
+      bases_next = λ some. absurd (omega arith);
+      nodes_marked = nodes_marked;
+      node_flags = node_flags;
+      faces_marked = faces_marked;
+      face_flags = face_flags;
+    })
+
+-- where a kind of units isn't complete, none that comes later is there
+not_begun : (later now all : ℕ) → (0 < later → now ≡ all) → now < all → later ≡ 0
+not_begun later now all complete lt = elim (cases_lt 0 later) [
+  | inl some ↦ (let full = complete some in absurd (omega arith))
+  | inr none ↦ omega arith
+]
+
+no_records : (h : Hierarchy) (coming : Option Record) → coming ≡ None → length (all_of h coming).records ≡ 0 → h.records ≡ []
+no_records h coming none empty = nil_from_length h.records (rw none at empty)
+
+-- Roots and base faces alone.
+abbrev without_records : Counts → List Root → List Face → Grown
+without_records c roots bases = record { counts = c; h = record { roots = roots; bases = bases; records = [] }; coming = None }
+
+-- A root more
+
+-- where no record is there, the input numbers are those of the roots
+pub roots_marked : (g : Grown) (left right : Bool) (vertices faces : List Bool) →
+    IsShaping g left right vertices faces → g.coming ≡ None → length g.h.roots < g.counts.roots → AreMarked vertices (root_inputs g.h.roots)
+roots_marked g left right vertices faces s none lt =
+    let later : length g.h.bases + length (grown g).records ≡ 0 = not_begun _ _ _ s.roots_first lt in
+    let alone = no_records g.h g.coming none (omega arith) in
+    subst (AreMarked vertices) (rw (none, alone) (append-nil (root_inputs g.h.roots))) s.nodes_marked
+
+root_to : (c : Counts) (roots : List Root) (left right : Bool) (vertices vertices' faces : List Bool) (r : Root) →
+    IsShaping (without_records c roots []) left right vertices faces → length roots < c.roots →
+    root_fault c roots r ≡ None → AreMarked vertices' (root_inputs roots ++ r.input ∷ []) → length vertices' ≡ length vertices →
+    IsShaping (without_records c (roots ++ r ∷ []) []) left right vertices' faces
+unfolding faces_of
+root_to c roots left right vertices vertices' faces r s lt fits marked flags =
+    record {
+      counts_fit = s.counts_fit;
+      roots_fit = AllFit-push (root_fault c) [] roots r s.roots_fit fits;
+      bases_fit = tt;
+      records_fit = tt;
+      coming_fits = s.coming_fits;
+      roots_most = omega (arith, length_push roots r);
+      bases_most = s.bases_most;
+      records_most = s.records_most;
+      roots_first = λ some. absurd (omega arith);
+      bases_next = λ some. absurd (omega arith);
+      nodes_marked = rw (append-nil (root_inputs (roots ++ r ∷ [])), map_push (λ (x : Root). x.input) roots r) marked;
+      node_flags = flags ∙ s.node_flags;
+      faces_marked = s.faces_marked;
+      face_flags = s.face_flags;
+    }
+
+pub root_added : (g g' : Grown) (left right : Bool) (vertices vertices' faces : List Bool) (r : Root) →
+    IsShaping g left right vertices faces → g.coming ≡ None → length g.h.roots < g.counts.roots → root_fault g.counts g.h.roots r ≡ None →
+    g' ≡ record g { h = record g.h { roots = g.h.roots ++ r ∷ [] } } →
+    AreMarked vertices' (root_inputs g.h.roots ++ r.input ∷ []) → length vertices' ≡ length vertices →
+    IsShaping g' left right vertices' faces
+root_added g g' left right vertices vertices' faces r s none lt fits is marked flags =
+    let later : length g.h.bases + length (grown g).records ≡ 0 = not_begun _ _ _ s.roots_first lt in
+    let alone = no_records g.h g.coming none (omega arith) in
+    let no_bases : g.h.bases ≡ [] = nil_from_length g.h.bases (omega arith) in
+    rw (is, none, alone, no_bases)
+    (root_to g.counts g.h.roots left right vertices vertices' faces r (rw (← none, ← alone, ← no_bases) s) lt fits marked flags)
+
+-- A base face more
+
+-- where no record is there, the faces are the base faces
+pub bases_marked : (g : Grown) (left right : Bool) (vertices faces : List Bool) →
+    IsShaping g left right vertices faces → g.coming ≡ None → length g.h.bases < g.counts.bases → AreMarked faces (face_inputs g.h.bases)
+unfolding faces_of
+bases_marked g left right vertices faces s none lt =
+    let alone = no_records g.h g.coming none (not_begun _ _ _ s.bases_next lt) in
+    subst (λ (l : List Face). AreMarked faces (face_inputs l)) (rw (none, alone) (append-nil g.h.bases)) s.faces_marked
+
+base_to : (c : Counts) (roots : List Root) (bases : List Face) (left right : Bool) (vertices faces faces' : List Bool) (f : Face) →
+    IsShaping (without_records c roots bases) left right vertices faces → c.roots ≤ length roots → length bases < c.bases →
+    base_fault roots bases f ≡ None → AreMarked faces' (face_inputs bases ++ f.input ∷ []) → length faces' ≡ length faces →
+    IsShaping (without_records c roots (bases ++ f ∷ [])) left right vertices faces'
+unfolding faces_of
+base_to c roots bases left right vertices faces faces' f s all lt fits marked flags =
+    record {
+      counts_fit = s.counts_fit;
+      roots_fit = s.roots_fit;
+      bases_fit = AllFit-push (base_fault roots) [] bases f s.bases_fit fits;
+      records_fit = tt;
+      coming_fits = s.coming_fits;
+      roots_most = s.roots_most;
+      bases_most = omega (arith, length_push bases f);
+      records_most = s.records_most;
+      roots_first = λ some. omega (arith, s.roots_most);
+      bases_next = λ some. absurd (omega arith);
+      nodes_marked = s.nodes_marked;
+      node_flags = s.node_flags;
+      faces_marked = rw (append-nil (bases ++ f ∷ []), map_push (λ (x : Face). x.input) bases f) marked;
+      face_flags = flags ∙ s.face_flags;
+    }
+
+pub base_added : (g g' : Grown) (left right : Bool) (vertices faces faces' : List Bool) (f : Face) →
+    IsShaping g left right vertices faces → g.coming ≡ None → g.counts.roots ≤ length g.h.roots → length g.h.bases < g.counts.bases →
+    base_fault g.h.roots g.h.bases f ≡ None →
+    g' ≡ record g { h = record g.h { bases = g.h.bases ++ f ∷ [] } } →
+    AreMarked faces' (face_inputs g.h.bases ++ f.input ∷ []) → length faces' ≡ length faces →
+    IsShaping g' left right vertices faces'
+base_added g g' left right vertices faces faces' f s none all lt fits is marked flags =
+    let alone = no_records g.h g.coming none (not_begun _ _ _ s.bases_next lt) in
+    rw (is, none, alone)
+    (base_to g.counts g.h.roots g.h.bases left right vertices faces faces' f (rw (← none, ← alone) s) all lt fits marked flags)
+
+-- The leaves of all roots
+
+widths_push : (before : List Root) (r : Root) → sum (widths_of (before ++ r ∷ [])) ≡ sum (widths_of before) + r.width
+widths_push before r = ap sum (map_push (λ (x : Root). x.width) before r) ∙ sum_by_push (λ x. x) (widths_of before) r.width
+
+-- the last root takes all that is left
+last_width : (c : Counts) (before : List Root) (r : Root) → length before + 1 ≡ c.roots → root_fault c before r ≡ None →
+    sum (widths_of before) + r.width ≡ c.leaves
+unfolding root_fault width_is_bad
+last_width c before r last fits = grind (arith, nat_tests)
+
+-- the widths of all roots add up to the leaves
+all_wide : (c : Counts) (before rs : List Root) → length before + length rs ≡ c.roots → 0 < length rs → AllFit (root_fault c) before rs →
+    sum (widths_of before) + sum (widths_of rs) ≡ c.leaves
+all_wide c before [] count some all = absurd (omega arith)
+all_wide c before (r ∷ []) count some all = omega (arith, sum-cons r.width [], last_width c before r (omega arith) all.0)
+all_wide c before (r ∷ q ∷ rs) count some all =
+    let rest = all_wide c (before ++ r ∷ []) (q ∷ rs) (omega (arith, length_push before r)) (omega arith) all.1 in
+    omega (arith, sum-cons r.width (widths_of (q ∷ rs)), rest, widths_push before r)
+
+no_leaves : (c : Counts) → counts_are_bad c ≡ false → c.roots ≡ 0 → c.leaves ≡ 0
+unfolding counts_are_bad
+no_leaves c fit none = grind (arith, nat_tests)
+
+leaves_all : (c : Counts) (roots : List Root) → counts_are_bad c ≡ false → AllFit (root_fault c) [] roots → length roots ≡ c.roots →
+    sum (widths_of roots) ≡ c.leaves
+leaves_all c roots fit fits count = elim (cases_lt 0 (length roots)) [
+  | inl some ↦ omega (arith, all_wide c [] roots (omega arith) some fits)
+  | inr none ↦
+      let nil : roots ≡ [] = nil_from_length roots (omega arith) in
+      omega (arith, ap (λ (rs : List Root). sum (widths_of rs)) nil, no_leaves c fit (omega arith))
+]
+
+pub leaves_complete : (g : Grown) (left right : Bool) (vertices faces : List Bool) → IsShaping g left right vertices faces →
+    g.counts.roots ≤ length g.h.roots → leaf_count g.h ≡ g.counts.leaves
+leaves_complete g left right vertices faces s all = leaves_all g.counts g.h.roots s.counts_fit s.roots_fit (omega (arith, s.roots_most))
+
+-- A head more
+
+three : (l : List ℤ) → length l ≡ 3 → (place_of l).x ∷ (place_of l).y ∷ (place_of l).z ∷ [] ≡ l
+three [] len = absurd (omega arith)
+three (x ∷ []) len = absurd (omega arith)
+three (x ∷ y ∷ []) len = absurd (omega arith)
+three (x ∷ y ∷ z ∷ []) len = refl
+three (x ∷ y ∷ z ∷ w ∷ l) len = absurd (omega arith)
+
+-- the presence word says which faces are due
+presence_told : (p : ℕ) → presence_is_bad p ≡ false → one_if (not (eqb p 2)) + 2 * one_if (not (eqb p 1)) ≡ p
+presence_told p fit =
+    let tests = or_parts (eqb p 0) (ltb 3 p) fit in
+    let some = eqb-false p 0 tests.0 in
+    let most = ltb-false 3 p tests.1 in
+    elim (cases_eq p 1) [
+      | inl is ↦ (rw is refl)
+      | inr not_one ↦ elim (cases_eq p 2) [
+        | inl is ↦ (rw is refl)
+        | inr not_two ↦ (let is : p ≡ 3 = omega arith in rw is refl)
+      ]
+    ]
+
+presence_some : (p : ℕ) → not (eqb p 2) || not (eqb p 1) ≡ true
+presence_some p = elim (cases_eq p 2) [
+  | inl is ↦ (rw is refl)
+  | inr not_two ↦ (rw (ne_eqb p 2 not_two) refl)
+]
+
+head_told : (d : Head) → length d.t ≡ 3 → length d.u ≡ 3 → presence_is_bad d.presence ≡ false →
+    head_with (started d).split (not (eqb d.presence 2)) (not (eqb d.presence 1)) ≡ d
+head_told d t u fit = λ i. record {
+  s = d.s;
+  width = d.width;
+  t = three d.t t i;
+  t_input = d.t_input;
+  u = three d.u u i;
+  u_input = d.u_input;
+  presence = presence_told d.presence fit i;
+}
+
+-- a head that has no fault has a presence word in range
+presence_fits : (h : Hierarchy) (d : Head) → head_fault h d ≡ None → presence_is_bad d.presence ≡ false
+unfolding head_fault head_is_bad
+presence_fits h d fits = grind (arith, nat_tests)
+
+pub nodes_with_record : (h : Hierarchy) (r : Record) → node_inputs (with_record h r) ≡ node_inputs h ++ r.t.input ∷ r.u.input ∷ []
+nodes_with_record h r = sym (flat_map_more child_inputs (root_inputs h.roots) h.records r)
+
+head_to : (c : Counts) (h : Hierarchy) (left right : Bool) (vertices vertices' faces : List Bool) (d : Head) →
+    IsShaping (record { counts = c; h = h; coming = None }) left right vertices faces →
+    c.roots ≤ length h.roots → c.bases ≤ length h.bases → length h.records < c.records →
+    length d.t ≡ 3 → length d.u ≡ 3 → head_fault h d ≡ None → SplitFits h d.s d.width →
+    AreMarked vertices' ((node_inputs h ++ d.t_input ∷ []) ++ d.u_input ∷ []) → length vertices' ≡ length vertices →
+    IsShaping (record { counts = c; h = h; coming = Some (started d).split }) (not (eqb d.presence 2)) (not (eqb d.presence 1)) vertices' faces
+head_to c h left right vertices vertices' faces d s all_roots all_bases lt t u fits split marked flags =
+    let r = (started d).split in
+    record {
+      counts_fit = s.counts_fit;
+      roots_fit = s.roots_fit;
+      bases_fit = s.bases_fit;
+      records_fit = s.records_fit;
+      coming_fits = record {
+        head = subst (λ (e : Head). head_fault h e ≡ None) (sym (head_told d t u (presence_fits h d fits))) fits;
+        split = split;
+        left = refl;
+        no_right = refl;
+        no_left = λ due. refl;
+        due = presence_some d.presence;
+      };
+      roots_most = s.roots_most;
+      bases_most = s.bases_most;
+      records_most = omega (arith, length_push h.records r);
+      roots_first = λ some. omega (arith, s.roots_most);
+      bases_next = λ some. omega (arith, s.bases_most);
+      nodes_marked = rw (nodes_with_record h r, ← append_assoc (node_inputs h) (d.t_input ∷ []) (d.u_input ∷ [])) marked;
+      node_flags = flags ∙ s.node_flags;
+      faces_marked = rw (faces_of-with_record h r, append-nil (faces_of h)) s.faces_marked;
+      face_flags = s.face_flags;
+    }
+
+pub head_added : (g g' : Grown) (left right : Bool) (vertices vertices' faces : List Bool) (d : Head) →
+    IsShaping g left right vertices faces → g.coming ≡ None →
+    g.counts.roots ≤ length g.h.roots → g.counts.bases ≤ length g.h.bases → length g.h.records < g.counts.records →
+    length d.t ≡ 3 → length d.u ≡ 3 → head_fault g.h d ≡ None → SplitFits g.h d.s d.width →
+    g' ≡ record g { coming = Some (started d).split } →
+    AreMarked vertices' ((node_inputs g.h ++ d.t_input ∷ []) ++ d.u_input ∷ []) → length vertices' ≡ length vertices →
+    IsShaping g' (not (eqb d.presence 2)) (not (eqb d.presence 1)) vertices' faces
+head_added g g' left right vertices vertices' faces d s none all_roots all_bases lt t u fits split is marked flags =
+    rw is (head_to g.counts g.h left right vertices vertices' faces d (rw (← none) s) all_roots all_bases lt t u fits split marked flags)
+
+-- The end
+
+same_counts : (a b : Counts) → a.leaves ≡ b.leaves → a.roots ≡ b.roots → a.bases ≡ b.bases → a.records ≡ b.records → a ≡ b
+same_counts a b leaves roots bases records = λ i. record { leaves = leaves i; roots = roots i; bases = bases i; records = records i }
+
+pub counts_complete : (g : Grown) (left right : Bool) (vertices faces : List Bool) →
+    IsShaping g left right vertices faces → g.coming ≡ None →
+    g.counts.roots ≤ length g.h.roots → g.counts.bases ≤ length g.h.bases → g.counts.records ≤ length g.h.records →
+    counts_of g.h ≡ g.counts
+counts_complete g left right vertices faces s none roots bases records =
+    let most : length g.h.records ≤ g.counts.records = rw none at s.records_most in
+    same_counts (counts_of g.h) g.counts
+    (leaves_complete g left right vertices faces s roots) (omega (arith, s.roots_most)) (omega (arith, s.bases_most)) (omega arith)
+
+pub shaped : (g : Grown) (left right : Bool) (vertices faces : List Bool) → IsShaping g left right vertices faces →
+    counts_of g.h ≡ g.counts → past_fault g.h ≡ None → HasShape g.h
+shaped g left right vertices faces s same past = record {
+  counts = rw same s.counts_fit;
+  roots = rw same s.roots_fit;
+  bases = s.bases_fit;
+  records = s.records_fit;
+  inputs = past;
+}

@@ -1,0 +1,10 @@
+use Rattle.std.proofs.Common.{◌≡◌, ◌<◌, length, sym, subst}
+use Rattle.pm_forest.proofs.GrowingLaws.{base_added}
+use Rattle.pm_forest.proofs.growing.Growing.put_base.Goals as goal
+
+pub invariant_of-self : goal.invariant_of-self
+invariant_of-self c =
+    base_added c.self.invariant _ _ _ c.args.face
+    (subst (λ v. length v.h.roots ≡ v.counts.roots) (sym c.self.view_is) c.requires.roots)
+    (subst (λ v. length v.h.bases < v.counts.bases) (sym c.self.view_is) c.requires.next)
+    c.put-3.ensures.items c.put-3.ensures.spare c.put.ensures.items c.put.ensures.spare c.put-2.ensures.items c.put-2.ensures.spare

@@ -1,0 +1,11 @@
+pub mod Forest
+pub mod Fronts
+pub mod Faces
+pub mod Marks
+pub mod Rules
+pub mod Kept
+pub mod Moves
+pub mod Shaping
+pub mod Tables
+pub mod Places
+pub mod Laws

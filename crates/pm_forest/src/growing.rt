@@ -1,0 +1,348 @@
+// A forest that grows unit by unit, with the tables that make its readers quick: the root of each leaf, the interval and
+// the splitter of each node, the node of each leaf, and the faces with the records that reveal them.
+ghost use Rattle.std.specs.Prelude.{false, ◌≡◌, ◌+◌, ◌-◌, ◌*◌, ◌<◌, ◌≤◌, [], ◌∷◌, ◌++◌, ◌==◌, cond, length, sum, replicate, None, Some, is_some, true, if◌then◌else◌, IfOk, IfSome, Option, ℕ, slice_index_or, slice_set};
+ghost use Rattle.std.specs.Option.{option_map};
+ghost use Rattle.pm_forest.specs.Forest.{Hierarchy, widths, widths_of, leaf_count, node_count, record_count, root_of, interval_of, splitter_of};
+ghost use Rattle.pm_forest.specs.Faces.{faces_of, face_count, first_face, revealed_by, no_corners};
+ghost use Rattle.pm_forest.specs.Rules.{counts_are_bad, with_record};
+ghost use Rattle.pm_forest.specs.Tables.{Grown, grown, all_of, IsSingle, leaf_node_of, WithoutFaces, with_new_face};
+
+use crate::{Counts, Face, FaceList, NewFace, OutOfMemory, Record, Records, Root, Roots};
+use pm_base::Items;
+use std::alloc::Global;
+use std::marker::Model;
+
+/// The greatest number of leaves, of base faces and of all faces.
+pub const MOST: u32 = 1_048_576;
+
+/// A forest that grows. Contracts see its limits, its whole units and the record whose faces may still come. Each reader
+/// takes one step.
+#[derive(Drop)]
+pub struct Growing {
+    counts: Counts,
+    roots: Roots,
+    bases: FaceList,
+    records: Records,
+    coming: Option<Record>,
+    owners: Items<u32>,
+    intervals: Vec<(u32, u32)>,
+    splitters: Vec<Option<u32>>,
+    leaf_nodes: Vec<u32>,
+    faces: FaceList,
+    revealed: Items<Option<u32>>,
+}
+
+impl Model for Growing {
+    ghost use Rattle.pm_forest.specs.Tables.{Grown, IsGrowing};
+
+    ghost Value = { Grown };
+
+    ghost view = { λ g. record { counts = g.counts; h = record { roots = g.roots.items; bases = g.bases.items; records = g.records.items }; coming = g.coming } };
+
+    ghost invariant = { λ g. IsGrowing (record {
+      counts = g.counts;
+      roots = g.roots;
+      bases = g.bases;
+      records = g.records;
+      coming = g.coming;
+      owners = g.owners;
+      intervals = g.intervals.items;
+      splitters = g.splitters.items;
+      leaf_nodes = g.leaf_nodes.items;
+      faces = g.faces;
+      revealed = g.revealed;
+    }) };
+}
+
+// Tables of `most` cells. The length is a parameter, so that no proof unfolds the list.
+fn no_intervals(alloc: Global, most: usize) -> Result<Vec<(u32, u32)>, OutOfMemory>
+    ensures { IfOk result (λ v. v.items ≡ replicate most (0, 0)) }
+{
+    vec![in alloc; (0, 0); most]
+}
+
+fn no_splitters(alloc: Global, most: usize) -> Result<Vec<Option<u32>>, OutOfMemory>
+    ensures { IfOk result (λ v. v.items ≡ replicate most None) }
+{
+    vec![in alloc; None; most]
+}
+
+fn no_nodes(alloc: Global, most: usize) -> Result<Vec<u32>, OutOfMemory>
+    ensures { IfOk result (λ v. v.items ≡ replicate most 0) }
+{
+    vec![in alloc; 0; most]
+}
+
+// Puts the root's number for each of its leaves.
+fn put_leaves(owners: &mut Items<u32>, width: u32, root: u32)
+    requires { width ≤ owners.old.spare }
+    ensures items { owners.new.items ≡ owners.old.items ++ replicate width root }
+    ensures spare { owners.new.spare + width ≡ owners.old.spare }
+{
+    for _leaf in 0..width {
+        owners.put(root);
+    }
+}
+
+// Notes the leaves of a node, and the node of its leaf where it has but one.
+fn put_node(
+    intervals: &mut Vec<(u32, u32)>,
+    leaf_nodes: &mut Vec<u32>,
+    node: u32,
+    from: u32,
+    until: u32,
+)
+    requires node { node < length intervals.old.items }
+    requires leaves { until ≤ length leaf_nodes.old.items }
+    requires order { from ≤ until }
+    ensures intervals { intervals.new.items ≡ slice_set intervals.old.items node (from, until) }
+    ensures leaf_nodes { leaf_nodes.new.items ≡ cond (until == from + 1) (slice_set leaf_nodes.old.items from node) leaf_nodes.old.items }
+{
+    intervals[node as usize] = (from, until);
+    if until - from == 1 {
+        leaf_nodes[from as usize] = node;
+    }
+}
+
+// Gives the record, where there is one, its left or its right face.
+fn add_face(coming: &mut Option<Record>, left: bool, face: NewFace)
+    ensures { coming.new ≡ option_map (λ r. with_new_face r left face) coming.old }
+{
+    if let Some(split) = coming {
+        if left {
+            split.left = Some(face);
+        } else {
+            split.right = Some(face);
+        }
+    }
+}
+
+impl Growing {
+    /// A forest with no unit yet. All its memory is taken here.
+    pub fn new(alloc: Global, counts: Counts) -> Result<Growing, OutOfMemory>
+        requires { counts_are_bad counts ≡ false }
+        ensures { IfOk result (λ g. g ≡ record { counts = counts; h = record { roots = []; bases = []; records = [] }; coming = None }) }
+    {
+        let nodes = counts.roots as usize + 2 * counts.records as usize;
+        let faces = (counts.bases as usize + 2 * counts.records as usize).min(MOST as usize);
+        let mut growing = Growing {
+            counts,
+            roots: Roots::new(alloc),
+            bases: FaceList::new(alloc),
+            records: Records::new(alloc),
+            coming: None,
+            owners: Items::new(alloc),
+            intervals: no_intervals(alloc, nodes)?,
+            splitters: no_splitters(alloc, nodes)?,
+            leaf_nodes: no_nodes(alloc, counts.leaves as usize)?,
+            faces: FaceList::new(alloc),
+            revealed: Items::new(alloc),
+        };
+        growing.roots.reserve(counts.roots as usize)?;
+        growing.bases.reserve(counts.bases as usize)?;
+        growing.records.reserve(counts.records as usize)?;
+        growing.owners.reserve(counts.leaves as usize)?;
+        growing.faces.reserve(faces)?;
+        growing.revealed.reserve(faces)?;
+        Ok(growing)
+    }
+
+    /// Takes the next root in. It takes as many steps as the root has leaves.
+    pub fn put_root(&mut self, root: Root)
+        requires next { length self.old.h.roots < self.old.counts.roots }
+        requires leaves { sum (widths_of self.old.h.roots) + root.width ≤ self.old.counts.leaves }
+        ensures { self.new ≡ record self.old { h = record self.old.h { roots = self.old.h.roots ++ root ∷ [] } } }
+    {
+        let node = self.roots.len() as u32;
+        let from = self.owners.len() as u32;
+        put_leaves(&mut self.owners, root.width, node);
+        put_node(
+            &mut self.intervals,
+            &mut self.leaf_nodes,
+            node,
+            from,
+            from + root.width,
+        );
+        self.roots.put(root);
+    }
+
+    /// Takes the next base face in.
+    pub fn put_base(&mut self, face: Face)
+        requires roots { length self.old.h.roots ≡ self.old.counts.roots }
+        requires next { length self.old.h.bases < self.old.counts.bases }
+        ensures { self.new ≡ record self.old { h = record self.old.h { bases = self.old.h.bases ++ face ∷ [] } } }
+    {
+        self.faces.put(face);
+        self.revealed.put(None);
+        self.bases.put(face);
+    }
+
+    /// Takes the next record in, whose faces are still to come.
+    pub fn put_record(&mut self, split: Record)
+        requires roots { length self.old.h.roots ≡ self.old.counts.roots }
+        requires bases { length self.old.h.bases ≡ self.old.counts.bases }
+        requires next { record_count self.old.h < self.old.counts.records }
+        requires settled { self.old.coming ≡ None }
+        requires faces { WithoutFaces split }
+        requires node { split.s < node_count self.old.h }
+        requires unsplit { splitter_of self.old.h split.s ≡ None }
+        requires first { 0 < split.width }
+        requires rest { (interval_of self.old.h split.s).from + split.width < (interval_of self.old.h split.s).until }
+        ensures { self.new ≡ record self.old { coming = Some split } }
+    {
+        let number = self.records.len() as u32;
+        let first = self.roots.len() as u32 + 2 * number;
+        let (from, until) = self.intervals[split.s as usize];
+        let cut = from + split.width;
+        put_node(&mut self.intervals, &mut self.leaf_nodes, first, from, cut);
+        put_node(
+            &mut self.intervals,
+            &mut self.leaf_nodes,
+            first + 1,
+            cut,
+            until,
+        );
+        self.splitters[split.s as usize] = Some(number);
+        self.coming = Some(split);
+    }
+
+    /// Takes the next face of the coming record in: its left face, or its right face.
+    pub fn put_face(&mut self, left: bool, face: NewFace)
+        requires coming { IfSome self.old.coming (λ r. is_some (if left then r.left else r.right) ≡ false) }
+        requires there { is_some self.old.coming ≡ true }
+        requires in_order { IfSome self.old.coming (λ r. left ≡ true → is_some r.right ≡ false) }
+        requires few { face_count (grown self.old) < 1048576 }
+        ensures { IfSome self.old.coming (λ r. self.new ≡ record self.old { coming = Some (with_new_face r left face) }) }
+    {
+        let number = self.records.len() as u32;
+        self.faces.put(face.face);
+        self.revealed.put(Some(number));
+        add_face(&mut self.coming, left, face);
+    }
+
+    /// Puts the coming record to the others.
+    pub fn settle(&mut self)
+        requires { is_some self.old.coming ≡ true }
+        ensures { IfSome self.old.coming (λ r. self.new ≡ record self.old { h = with_record self.old.h r; coming = None }) }
+    {
+        if let Some(split) = self.coming.take() {
+            self.records.put(split);
+        }
+    }
+
+    /// The limits that the forest was made for.
+    pub fn counts(&self) -> Counts
+        ensures value { result ≡ self.now.counts }
+        ensures leaves { result.leaves ≤ 1048576 }
+        ensures bases { result.bases ≤ 1048576 }
+        ensures all { result.roots + result.records ≡ result.leaves }
+    {
+        self.counts
+    }
+
+    /// The roots so far.
+    pub fn roots(&self) -> &Roots
+        ensures value { result.now.items ≡ self.now.h.roots }
+        ensures most { length result.now.items ≤ 1048576 }
+    {
+        &self.roots
+    }
+
+    /// The base faces so far.
+    pub fn bases(&self) -> &FaceList
+        ensures value { result.now.items ≡ self.now.h.bases }
+        ensures most { length result.now.items ≤ 1048576 }
+    {
+        &self.bases
+    }
+
+    /// The whole records so far.
+    pub fn records(&self) -> &Records
+        ensures value { result.now.items ≡ self.now.h.records }
+        ensures most { length result.now.items ≤ 1048576 }
+    {
+        &self.records
+    }
+
+    /// The record whose faces are still to come.
+    pub fn coming(&self) -> &Option<Record>
+        ensures { result.now ≡ self.now.coming }
+    {
+        &self.coming
+    }
+
+    /// How many leaves the roots so far have.
+    pub fn leaves(&self) -> u32
+        ensures value { result ≡ leaf_count self.now.h }
+        ensures most { result ≤ self.now.counts.leaves }
+    {
+        self.owners.len() as u32
+    }
+
+    /// How many nodes there are, the children of the coming record among them.
+    pub fn nodes(&self) -> u32
+        ensures value { result ≡ node_count (grown self.now) }
+        ensures most { result ≤ 2097152 }
+    {
+        let records = self.records.len() + if self.coming.is_some() { 1 } else { 0 };
+        (self.roots.len() + 2 * records) as u32
+    }
+
+    /// How many faces there are, those of the coming record among them.
+    pub fn faces(&self) -> u32
+        ensures value { result ≡ face_count (grown self.now) }
+        ensures most { result ≤ 1048576 }
+    {
+        self.faces.len() as u32
+    }
+
+    /// The root of a leaf.
+    #[tactic(auto, using(crate::proofs::GrowingLaws::owner_read))]
+    pub fn owner(&self, leaf: u32) -> u32
+        requires { leaf < leaf_count self.now.h }
+        ensures { result ≡ root_of (widths self.now.h) 0 leaf }
+    {
+        *self.owners.get(leaf as usize)
+    }
+
+    /// The leaves of a node: the first, and the first after.
+    pub fn interval(&self, node: u32) -> (u32, u32)
+        requires { node < node_count (grown self.now) }
+        ensures { interval_of (grown self.now) node ≡ record { from = result.0; until = result.1 } }
+    {
+        self.intervals[node as usize]
+    }
+
+    /// The record that splits a node.
+    pub fn splitter(&self, node: u32) -> Option<u32>
+        requires { node < node_count (grown self.now) }
+        ensures { result ≡ splitter_of (grown self.now) node }
+    {
+        self.splitters[node as usize]
+    }
+
+    /// The node of a leaf, once it has one of its own.
+    pub fn leaf_node(&self, leaf: u32) -> u32
+        requires leaf { leaf < leaf_count self.now.h }
+        requires single { IsSingle (interval_of (grown self.now) (leaf_node_of (grown self.now) leaf)) }
+        ensures { result ≡ leaf_node_of (grown self.now) leaf }
+    {
+        self.leaf_nodes[leaf as usize]
+    }
+
+    /// Face `f`, by its number.
+    pub fn face(&self, f: u32) -> Face
+        requires { f < face_count (grown self.now) }
+        ensures { result ≡ slice_index_or (faces_of (grown self.now)) f no_corners }
+    {
+        *self.faces.get(f as usize)
+    }
+
+    /// The record that reveals a face.
+    pub fn revealed_by(&self, f: u32) -> Option<u32>
+        requires { f < face_count (grown self.now) }
+        ensures { result ≡ revealed_by (grown self.now) f }
+    {
+        *self.revealed.get(f as usize)
+    }
+}

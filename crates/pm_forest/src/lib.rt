@@ -1,0 +1,21 @@
+//! The vertex forest of a progressive mesh: roots, base faces and vertex splits, and the rules of their shape.
+#![tactic(auto)]
+
+mod faults;
+mod growing;
+mod hierarchy;
+mod marks;
+mod parts;
+mod shaper;
+mod theory;
+
+pub use hierarchy::Hierarchy;
+pub use parts::{
+    Child, Counts, Face, FaceList, Head, NewFace, Record, Records, Root, Roots, Shape, Unfinished,
+    UnitKind,
+};
+pub use shaper::Shaper;
+pub use theory::fronts_are_sound;
+
+/// The answer for want of memory.
+pub type OutOfMemory = std::alloc::AllocError;
