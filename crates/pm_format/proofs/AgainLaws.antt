@@ -1,0 +1,200 @@
+-- What has no fault is read again from its words.
+use Rattle.std.proofs.Common.{◌≡◌, ℕ, ◌+◌, ◌-◌, ◌*◌, eqb, ℤ, Bool, true, false, ◌&&◌, ◌||◌, not, is_some, List, [], ◌∷◌, ◌++◌, Option, Some, None, length, refl, sym, ◌∙◌, ap, arith, append_assoc}
+use Rattle.std.specs.Option.{option_and_then}
+use Rattle.std.specs.List.{flat_map}
+use Rattle.std.specs.Int.{w32, cast_signed, cast_unsigned}
+use Rattle.std.proofs.lemmas.Int.{to_z-of_z, fits_signed_from_abs}
+use Rattle.std.proofs.lemmas.List.{append-nil}
+use Rattle.std.proofs.lemmas.Bool.{leb-true, and_parts, not-false, or_parts, ne_eqb}
+use Rattle.pm_base.specs.Place.{Place, is_place, is_coordinate, place_of}
+use Rattle.pm_base.specs.declared.ids.Side.{Side}
+use Rattle.pm_forest.specs.declared.parts.Counts.{Counts}
+use Rattle.pm_forest.specs.declared.parts.Root.{Root}
+use Rattle.pm_forest.specs.declared.parts.Face.{Face}
+use Rattle.pm_forest.specs.declared.parts.Head.{Head}
+use Rattle.pm_forest.specs.declared.parts.NewFace.{NewFace}
+use Rattle.pm_forest.specs.declared.parts.Record.{Record}
+use Rattle.pm_forest.specs.declared.parts.Shape.{Shape}
+use Rattle.pm_forest.specs.declared.parts.Unfinished.{Unfinished}
+use Rattle.pm_forest.specs.Forest.{Hierarchy}
+use Rattle.pm_forest.specs.Faces.{one_if}
+use Rattle.pm_forest.specs.Rules.{AllFit, root_fault, base_fault, split_is_bad, presence_is_bad, head_is_bad, head_fault, bare, with_record, word_of, head_of, face_fault, record_fault, record_fault_after}
+use Rattle.pm_forest.specs.Shaping.{started, side_of, with_face, unfinished}
+use Rattle.pm_forest.proofs.UnitLaws.{passed, first_none}
+use Rattle.pm_format.specs.Stream.{root_words, base_words, new_face_words, head_words, record_words}
+use Rattle.pm_format.specs.Reading.{root_at, base_at, head_at, fitting, units_at, root_after, base_after, face_after, face_if, faces_after, record_after, record_after_all}
+use Rattle.pm_format.proofs.ReadingLaws.{Reader}
+
+-- Places
+
+coordinate_again : (z : ℤ) → is_coordinate z ≡ true → cast_signed w32 (cast_unsigned w32 z) ≡ z
+coordinate_again z is = to_z-of_z w32 z (fits_signed_from_abs w32 z (omega (arith, leb-true _ _ is)))
+
+record PlaceAgain (p : Place) : Type 0 where
+  x : cast_signed w32 (cast_unsigned w32 p.x) ≡ p.x
+  y : cast_signed w32 (cast_unsigned w32 p.y) ≡ p.y
+  z : cast_signed w32 (cast_unsigned w32 p.z) ≡ p.z
+
+place_again : (p : Place) → is_place p ≡ true → PlaceAgain p
+place_again p is =
+    let two = and_parts (is_coordinate p.x && is_coordinate p.y) (is_coordinate p.z) is in
+    let one = and_parts (is_coordinate p.x) (is_coordinate p.y) two.0 in
+    record { x = coordinate_again p.x one.0; y = coordinate_again p.y one.1; z = coordinate_again p.z two.1 }
+
+-- One unit
+
+fitting_none : {X : Type 0} (fault : X → Option Shape) (o : Option (X × List ℕ)) (u : X × List ℕ) → o ≡ Some u →
+    fault u.0 ≡ None → fitting fault o ≡ Some u
+fitting_none fault o u is fits = rw (is, fits) refl
+
+root_again : (r : Root) (rest : List ℕ) → is_place r.place ≡ true → root_at (root_words r ++ rest) ≡ Some (r, rest)
+root_again r rest is =
+    let p = place_again r.place is in
+    λ j. Some (record { place = record { x = p.x j; y = p.y j; z = p.z j }; width = r.width; input = r.input }, rest)
+
+pub root_place : (c : Counts) (before : List Root) (r : Root) → root_fault c before r ≡ None →
+    is_place r.place ≡ true
+unfolding root_fault
+root_place c before r fits = not-false _ (passed (not (is_place r.place)) _ _ fits).0
+
+head_again : (r : Record) (rest : List ℕ) → is_place r.t.place ≡ true → is_place r.u.place ≡ true →
+    head_at (head_words r ++ rest) ≡ Some (head_of r, rest)
+head_again r rest t_is u_is =
+    let t = place_again r.t.place t_is in
+    let u = place_again r.u.place u_is in
+    λ j. Some (
+      record {
+        s = r.s;
+        width = r.width;
+        t = t.x j ∷ t.y j ∷ t.z j ∷ [];
+        t_input = r.t.input;
+        u = u.x j ∷ u.y j ∷ u.z j ∷ [];
+        u_input = r.u.input;
+        presence = one_if (is_some r.left) + 2 * one_if (is_some r.right);
+      },
+      rest,
+    )
+
+-- What a head without fault has.
+pub record HeadFits (r : Record) : Type 0 where
+  pub t : is_place r.t.place ≡ true
+  pub u : is_place r.u.place ≡ true
+  pub some : presence_is_bad (head_of r).presence ≡ false
+
+pub head_fits : (h : Hierarchy) (r : Record) → head_fault h (head_of r) ≡ None → HeadFits r
+unfolding head_fault head_is_bad
+head_fits h r fits =
+    let d = head_of r in
+    let tested = (passed (head_is_bad h d) _ _ fits).0 in
+    let two = or_parts (split_is_bad h d.s d.width || presence_is_bad d.presence) _ tested in
+    let one = or_parts (split_is_bad h d.s d.width) (presence_is_bad d.presence) two.0 in
+    let places = and_parts (is_place (place_of d.t)) (is_place (place_of d.u)) (not-false _ two.1) in
+    record { t = places.0; u = places.1; some = one.1 }
+
+-- The side that the word of a side names.
+side_again : (o : Option Side) → side_of (word_of o) ≡ o
+side_again None = refl
+side_again (Some e) =
+    let n : e.0 + 1 - 1 ≡ e.0 = omega arith in
+    rw (ne_eqb (e.0 + 1) 0 (omega arith)) (λ j. Some (record { 0 = n j }))
+
+face_again : (h : Hierarchy) (p : Unfinished) (n : NewFace) (rest : List ℕ) →
+    face_fault (with_record h p.split) p.left_due (Some n) ≡ None →
+    face_after h p (new_face_words (Some n) ++ rest) ≡ Some (with_face p n, rest)
+unfolding face_after
+face_again h p n rest fits =
+    let first = side_again n.first in
+    let second = side_again n.second in
+    rw fits (λ j. Some (with_face p (record { face = n.face; first = first j; second = second j }), rest))
+
+-- The faces of a record
+
+dues : (left right : Bool) → presence_is_bad (one_if left + 2 * one_if right) ≡ false →
+    (not (eqb (one_if left + 2 * one_if right) 2) ≡ left) × (not (eqb (one_if left + 2 * one_if right) 1) ≡ right)
+dues true true is = (refl, refl)
+dues true false is = (refl, refl)
+dues false true is = (refl, refl)
+dues false false is = absurd cc
+
+-- the faces that are due of a record's head
+start_again : (h : Hierarchy) (r : Record) → head_fault h (head_of r) ≡ None →
+    started (head_of r) ≡ unfinished (is_some r.left) (is_some r.right) (bare r)
+start_again h r fits =
+    let due = dues (is_some r.left) (is_some r.right) (head_fits h r fits).some in
+    λ j. unfinished (due.0 j) (due.1 j) (bare r)
+
+-- What is read after the left face.
+abbrev pub then_right : Hierarchy → Unfinished × List ℕ → Option (Unfinished × List ℕ)
+then_right h q = face_if q.0.right_due h q.0 q.1
+
+faces_again : (h : Hierarchy) (r : Record) (left right : Option NewFace) (rest : List ℕ) →
+    face_fault (with_record h (bare r)) true left ≡ None →
+    face_fault (with_record h (record (bare r) { left = left })) false right ≡ None →
+    faces_after h (unfinished (is_some left) (is_some right) (bare r)) ((new_face_words left ++ new_face_words right) ++ rest)
+    ≡ Some (unfinished false false (record r { left = left; right = right }), rest)
+unfolding faces_after
+faces_again h r None None rest left_fits right_fits = refl
+faces_again h r (Some n) None rest left_fits right_fits =
+    ap (option_and_then (then_right h)) (face_again h (unfinished true false (bare r)) n rest left_fits)
+faces_again h r None (Some n) rest left_fits right_fits =
+    face_again h (unfinished false true (bare r)) n rest right_fits
+faces_again h r (Some m) (Some n) rest left_fits right_fits =
+    let left = face_again h (unfinished true true (bare r)) m (new_face_words (Some n) ++ rest) left_fits in
+    ap (option_and_then (then_right h)) left
+    ∙ face_again h (unfinished false true (record (bare r) { left = Some m })) n rest right_fits
+
+-- What is read after a head; and the record, once its faces are read.
+abbrev pub whole_record : Option (Unfinished × List ℕ) → Option (Record × List ℕ)
+whole_record o = option_and_then (λ p. Some (p.0.split, p.1)) o
+
+abbrev pub then_faces : Hierarchy → Head × List ℕ → Option (Record × List ℕ)
+then_faces h d = whole_record (faces_after h (started d.0) d.1)
+
+pub record_again : (h : Hierarchy) (r : Record) (rest : List ℕ) → record_fault h r ≡ None →
+    record_after h (record_words r ++ rest) ≡ Some (r, rest)
+unfolding record_after record_fault
+record_again h r rest fits =
+    let parts = first_none (head_fault h (head_of r)) _ fits in
+    let faces = first_none (face_fault (with_record h (bare r)) true r.left) _ parts.1 in
+    let ws = (new_face_words r.left ++ new_face_words r.right) ++ rest in
+    let is = head_fits h r parts.0 in
+    let read = head_again r ws is.t is.u in
+    let head = fitting_none (head_fault h) (head_at (head_words r ++ ws)) (head_of r, ws) read parts.0 in
+    let others : faces_after h (started (head_of r)) ws ≡ Some (unfinished false false r, rest) =
+    ap (λ p. faces_after h p ws) (start_again h r parts.0) ∙ faces_again h r r.left r.right rest faces.0 faces.1 in
+    ap (option_and_then (then_faces h)) head ∙ ap whole_record others
+
+-- Units after one another
+
+-- Each unit that has no fault is read again.
+abbrev pub ReadsAgain : {X : Type 0} → Reader X → (List X → X → Option Shape) → (X → List ℕ) → Type 0
+ReadsAgain {X} read fault words =
+    (before : List X) (x : X) (rest : List ℕ) → fault before x ≡ None → read before (words x ++ rest) ≡ Some (x, rest)
+
+module _ {X : Type 0} (fault : List X → X → Option Shape) (words : X → List ℕ) where
+  pub units_again : (read : Reader X) → ReadsAgain read fault words → (before more : List X) (rest : List ℕ) →
+      AllFit fault before more →
+      units_at read (length more) before (flat_map words more ++ rest) ≡ Some (before ++ more, rest)
+  unfolding units_at
+  units_again read again before [] rest all = ap (λ (l : List X). Some (l, rest)) (sym (append-nil before))
+  units_again read again before (x ∷ xs) rest all =
+      let mid = flat_map words xs ++ rest in
+      let one : read before (flat_map words (x ∷ xs) ++ rest) ≡ Some (x, mid) =
+      ap (read before) (append_assoc (words x) (flat_map words xs) rest) ∙ again before x mid all.0 in
+      ap (option_and_then (λ (u : X × List ℕ). units_at read (length xs) (before ++ u.0 ∷ []) u.1)) one
+      ∙ units_again read again (before ++ x ∷ []) xs rest all.1
+      ∙ ap (λ (l : List X). Some (l, rest)) (append_assoc before (x ∷ []) xs)
+
+pub roots_again : (c : Counts) → ReadsAgain (root_after c) (root_fault c) root_words
+roots_again c before r rest fits =
+    let read = root_again r rest (root_place c before r fits) in
+    fitting_none (root_fault c before) (root_at (root_words r ++ rest)) (r, rest) read fits
+
+pub bases_again : (roots : List Root) → ReadsAgain (base_after roots) (base_fault roots) base_words
+bases_again roots before f rest fits =
+    fitting_none (base_fault roots before) (base_at (base_words f ++ rest)) (f, rest) refl fits
+
+pub records_again : (roots : List Root) (bases : List Face) →
+    ReadsAgain (record_after_all roots bases) (record_fault_after roots bases) record_words
+records_again roots bases before r rest fits =
+    record_again (record { roots = roots; bases = bases; records = before }) r rest fits

@@ -1,0 +1,148 @@
+-- What is read has no fault, and is spelled so.
+use Rattle.std.proofs.Common.{◌≡◌, ℕ, zero, suc, eqb, true, is_none, List, [], ◌∷◌, ◌++◌, Option, Some, None, length, refl, sym, ◌∙◌, ap, subst, arith, append_assoc}
+use Rattle.std.specs.List.{flat_map}
+use Rattle.std.specs.Int.{w32}
+use Rattle.std.proofs.lemmas.Bool.{eqb-true, and_parts}
+use Rattle.std.proofs.lemmas.Option.{cond_some, option_and_then_some, same_Some}
+use Rattle.std.proofs.lemmas.Int.{of_z-to_z}
+use Rattle.std.proofs.lemmas.List.{append-nil}
+use Rattle.pm_forest.specs.declared.parts.Counts.{Counts}
+use Rattle.pm_forest.specs.declared.parts.Root.{Root}
+use Rattle.pm_forest.specs.declared.parts.Face.{Face}
+use Rattle.pm_forest.specs.declared.parts.Shape.{Shape}
+use Rattle.pm_forest.specs.Rules.{AllFit, root_fault, base_fault}
+use Rattle.pm_format.specs.Words.{AreWords}
+use Rattle.pm_format.specs.Stream.{root_words, base_words}
+use Rattle.pm_format.specs.Reading.{root_at, base_at, fitting, units_at, root_after, base_after, header_at}
+use Rattle.pm_format.proofs.ReadingLaws.{Reader}
+
+-- What was read from the front: its words, and the words after it.
+pub record Takes (ws text rest : List ℕ) : Type 0 where
+  pub parts : ws ≡ text ++ rest
+  pub rest_fits : AreWords rest
+
+-- what is taken after one another
+pub takes_both : (ws a mid b rest : List ℕ) → Takes ws a mid → Takes mid b rest → Takes ws (a ++ b) rest
+takes_both ws a mid b rest first second = record {
+  parts = first.parts ∙ ap (λ (l : List ℕ). a ++ l) second.parts ∙ sym (append_assoc a b rest);
+  rest_fits = second.rest_fits;
+}
+
+none_is : {A : Type 0} (o : Option A) → is_none o ≡ true → o ≡ None
+none_is None is = refl
+none_is (Some x) is = absurd cc
+
+pub fitting_some : {X : Type 0} (fault : X → Option Shape) (o : Option (X × List ℕ)) (u : X × List ℕ) →
+    fitting fault o ≡ Some u → (o ≡ Some u) × (fault u.0 ≡ None)
+fitting_some fault None u is = absurd cc
+fitting_some fault (Some v) u is =
+    let g = cond_some (is_none (fault v.0)) v u is in
+    (ap Some g.1, subst (λ (w : _ × List ℕ). fault w.0 ≡ None) g.1 (none_is _ g.0))
+
+-- One unit
+
+pub root_takes : (ws : List ℕ) (u : Root × List ℕ) → AreWords ws → root_at ws ≡ Some u →
+    Takes ws (root_words u.0) u.1
+root_takes (x ∷ y ∷ z ∷ w ∷ n ∷ ws) u fit is =
+    let at_x = sym (of_z-to_z w32 x fit.0) in
+    let at_y = sym (of_z-to_z w32 y fit.1.0) in
+    let at_z = sym (of_z-to_z w32 z fit.1.1.0) in
+    subst (λ (v : Root × List ℕ). Takes (x ∷ y ∷ z ∷ w ∷ n ∷ ws) (root_words v.0) v.1) (same_Some _ _ is)
+    (record { parts = λ j. at_x j ∷ at_y j ∷ at_z j ∷ w ∷ n ∷ ws; rest_fits = fit.1.1.1.1.1 })
+root_takes [] u fit is = absurd cc
+root_takes (x ∷ []) u fit is = absurd cc
+root_takes (x ∷ y ∷ []) u fit is = absurd cc
+root_takes (x ∷ y ∷ z ∷ []) u fit is = absurd cc
+root_takes (x ∷ y ∷ z ∷ w ∷ []) u fit is = absurd cc
+
+pub base_takes : (ws : List ℕ) (u : Face × List ℕ) → AreWords ws → base_at ws ≡ Some u →
+    Takes ws (base_words u.0) u.1
+base_takes (a ∷ b ∷ c ∷ i ∷ ws) u fit is =
+    subst (λ (v : Face × List ℕ). Takes (a ∷ b ∷ c ∷ i ∷ ws) (base_words v.0) v.1) (same_Some _ _ is)
+    (record { parts = refl; rest_fits = fit.1.1.1.1 })
+base_takes [] u fit is = absurd cc
+base_takes (a ∷ []) u fit is = absurd cc
+base_takes (a ∷ b ∷ []) u fit is = absurd cc
+base_takes (a ∷ b ∷ c ∷ []) u fit is = absurd cc
+
+-- Units after one another
+
+-- Each unit that is read has no fault, and its words are those that it takes.
+abbrev pub Reads : {X : Type 0} → Reader X → (List X → X → Option Shape) → (X → List ℕ) → Type 0
+Reads {X} read fault words =
+    (before : List X) (ws : List ℕ) (u : X × List ℕ) → AreWords ws → read before ws ≡ Some u →
+    (fault before u.0 ≡ None) × Takes ws (words u.0) u.1
+
+-- The n units that were read after others.
+pub record Added {X : Type 0} (fault : List X → X → Option Shape) (words : X → List ℕ) (n : ℕ) (before all : List X) (ws rest : List ℕ) : Type 0 where
+  pub more : List X
+  pub all_is : all ≡ before ++ more
+  pub count : length more ≡ n
+  pub fits : AllFit fault before more
+  pub takes : Takes ws (flat_map words more) rest
+
+module _ {X : Type 0} (fault : List X → X → Option Shape) (words : X → List ℕ) where
+  added_none : (before : List X) (ws : List ℕ) → AreWords ws → Added fault words 0 before before ws ws
+  added_none before ws fit = record {
+    more = [];
+    all_is = sym (append-nil before);
+    count = refl;
+    fits = tt;
+    takes = record { parts = refl; rest_fits = fit };
+  }
+
+  added_one : (n : ℕ) (before all : List X) (x : X) (ws mid rest : List ℕ) → fault before x ≡ None →
+      Takes ws (words x) mid → Added fault words n (before ++ x ∷ []) all mid rest →
+      Added fault words (suc n) before all ws rest
+  added_one n before all x ws mid rest good first others = record {
+    more = x ∷ others.more;
+    all_is = others.all_is ∙ append_assoc before (x ∷ []) others.more;
+    count = omega (arith, others.count);
+    fits = (good, others.fits);
+    takes = takes_both ws (words x) mid (flat_map words others.more) rest first others.takes;
+  }
+
+  pub units_take : (read : Reader X) → Reads read fault words → (n : ℕ) (before : List X) (ws : List ℕ)
+      (u : List X × List ℕ) → AreWords ws → units_at read n before ws ≡ Some u →
+      Added fault words n before u.0 ws u.1
+  unfolding units_at
+  units_take read reads zero before ws u fit is =
+      subst (λ (v : List X × List ℕ). Added fault words 0 before v.0 ws v.1) (same_Some _ _ is) (added_none before ws fit)
+  units_take read reads (suc n) before ws u fit is =
+      option_and_then_some _ (read before ws) u is (λ v was then_is.
+      let one = reads before ws v fit was in
+      let others = units_take read reads n (before ++ v.0 ∷ []) v.1 u one.1.rest_fits then_is in
+      added_one n before u.0 v.0 ws v.1 u.1 one.0 one.1 others)
+
+pub roots_read : (c : Counts) → Reads (root_after c) (root_fault c) root_words
+roots_read c before ws u fit is =
+    let g = fitting_some (root_fault c before) (root_at ws) u is in
+    (g.1, root_takes ws u fit g.0)
+
+pub bases_read : (roots : List Root) → Reads (base_after roots) (base_fault roots) base_words
+bases_read roots before ws u fit is =
+    let g = fitting_some (base_fault roots before) (base_at ws) u is in
+    (g.1, base_takes ws u fit g.0)
+
+-- A header
+
+pub record HeaderTakes (ws rest : List ℕ) (c : Counts) : Type 0 where
+  pub parts : ws ≡ 1297106006 ∷ 1 ∷ c.leaves ∷ c.roots ∷ c.bases ∷ c.records ∷ rest
+  pub rest_fits : AreWords rest
+
+pub header_takes : (ws : List ℕ) (u : Counts × List ℕ) → AreWords ws → header_at ws ≡ Some u →
+    HeaderTakes ws u.1 u.0
+unfolding header_at
+header_takes (m ∷ v ∷ l ∷ r ∷ b ∷ n ∷ ws) u fit is =
+    let g = cond_some _ _ _ is in
+    let tests = and_parts (eqb m 1297106006) (eqb v 1) g.0 in
+    let at_m = eqb-true m 1297106006 tests.0 in
+    let at_v = eqb-true v 1 tests.1 in
+    subst (λ (w : Counts × List ℕ). HeaderTakes (m ∷ v ∷ l ∷ r ∷ b ∷ n ∷ ws) w.1 w.0) g.1
+    (record { parts = λ j. at_m j ∷ at_v j ∷ l ∷ r ∷ b ∷ n ∷ ws; rest_fits = fit.1.1.1.1.1.1 })
+header_takes [] u fit is = absurd cc
+header_takes (m ∷ []) u fit is = absurd cc
+header_takes (m ∷ v ∷ []) u fit is = absurd cc
+header_takes (m ∷ v ∷ l ∷ []) u fit is = absurd cc
+header_takes (m ∷ v ∷ l ∷ r ∷ []) u fit is = absurd cc
+header_takes (m ∷ v ∷ l ∷ r ∷ b ∷ []) u fit is = absurd cc
