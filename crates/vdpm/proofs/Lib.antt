@@ -1,0 +1,6 @@
+pub mod SplitLaws
+pub mod FrameLaws
+pub mod LineCuts
+pub mod ServeLaws
+pub mod OutcomeLaws
+pub mod WordLaws

@@ -1,0 +1,35 @@
+//! `vdpm`, a viewer of view-dependent progressive meshes: `run` over the standard streams.
+#![tactic(auto)]
+
+mod fault;
+mod frame;
+mod front;
+mod input;
+mod line;
+mod run;
+mod say;
+mod script;
+#[cfg(test)]
+mod tests;
+mod words;
+
+use pm_io::{StdSink, StdSource};
+use std::env;
+use std::process::ExitCode;
+
+fn main(rt: HostRuntime) -> ExitCode {
+    let alloc = rt.alloc();
+    let mut words = Vec::new(alloc);
+    let Ok(args) = env::args(&rt) else {
+        return ExitCode::from(2);
+    };
+    for word in args.skip(1) {
+        if words.push(word).is_err() {
+            return ExitCode::from(5);
+        }
+    }
+    let mut input = StdSource::new(rt.stdin());
+    let mut out = StdSink::new(rt.stdout());
+    let mut err = StdSink::new(rt.stderr());
+    ExitCode::from(run::run(alloc, &words, &mut input, &mut out, &mut err))
+}

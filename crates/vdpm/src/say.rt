@@ -1,0 +1,72 @@
+// What is said on the error sink.
+ghost use Rattle.std.specs.Prelude.{◌≡◌};
+ghost use Rattle.vdpm.specs.Outcome.{Said, fault_line, fail_line, status_of};
+
+use crate::fault::{Fault, ViewFail};
+use pm_io::{Line, Sink, put_all};
+
+/// Puts a line on the error sink. That it fails changes nothing.
+pub fn say<E: Sink>(err: &mut E, text: &[u8])
+    ensures { Said (E.got err.old) (E.got err.new) (E.faults err.old) (E.faults err.new) text.now }
+{
+    let _ = put_all(err, text);
+}
+
+// A fault's line, with its place.
+#[tactic(auto, unfolding(crate::specs::Outcome::fault_line))]
+fn put_fault(line: &mut Line, fault: Fault)
+    ensures { line.new ≡ fault_line fault }
+{
+    line.clear();
+    match fault {
+        Fault::TooLong => line.add(b"vdpm: input too long\n"),
+        Fault::NotStream => line.add(b"vdpm: not a stream\n"),
+        Fault::BadLine(number) => {
+            line.add(b"vdpm: fault 30 line ");
+            line.add_number(number);
+            line.add(b"\n");
+        }
+        Fault::NoRecord(number) => {
+            line.add(b"vdpm: fault 31 line ");
+            line.add_number(number);
+            line.add(b"\n");
+        }
+    }
+}
+
+#[tactic(auto, unfolding(crate::specs::Outcome::fail_line))]
+fn put_fail(line: &mut Line, fail: ViewFail)
+    ensures { line.new ≡ fail_line fail }
+{
+    match fail {
+        ViewFail::Faulty(fault) => put_fault(line, fault),
+        ViewFail::Read => {
+            line.clear();
+            line.add(b"vdpm: read fault\n");
+        }
+        ViewFail::Write => {
+            line.clear();
+            line.add(b"vdpm: write fault\n");
+        }
+        ViewFail::OutOfMemory => {
+            line.clear();
+            line.add(b"vdpm: out of memory\n");
+        }
+    }
+}
+
+/// Says why `view` ended early, and answers its status.
+pub fn tell<E: Sink>(err: &mut E, fail: ViewFail) -> u8
+    ensures status { result ≡ status_of fail }
+    ensures said { Said (E.got err.old) (E.got err.new) (E.faults err.old) (E.faults err.new) (fail_line fail) }
+{
+    let mut line = Line::new();
+    put_fail(&mut line, fail);
+    say(err, line.as_slice());
+    match fail {
+        ViewFail::Faulty(_) => 1,
+        ViewFail::Read => 3,
+        ViewFail::Write => 4,
+        ViewFail::OutOfMemory => 5,
+    }
+}

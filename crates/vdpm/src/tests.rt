@@ -1,0 +1,172 @@
+use crate::run::run;
+use pm_io::{MemSink, MemSource};
+use std::alloc::{AllocError, Global};
+use std::process::Abort;
+use std::test::Fail;
+
+// The octahedron's stream after its first four bytes: counts, roots, base faces, and two records with their faces.
+const OCTAHEDRON: [i32; 87] = [
+    1, 6, 4, 4, 2, 0, -100, 0, 1, 4, 0, 0, -100, 1, 6, 50, 50, 0, 2, 0, -50, 0, 50, 2, 0, 0, 2, 5,
+    4, 4, 3, 1, 6, 0, 4, 1, 7, 2, 0, 1, 8, 3, 1, -100, 0, 0, 2, 0, 0, 100, 5, 3, 3, 4, 5, 2, 2, 4,
+    4, 0, 5, 3, 7, 3, 2, 1, 100, 0, 0, 1, 0, 100, 0, 3, 3, 2, 3, 5, 1, 15, 2, 3, 2, 1, 5, 12, 5,
+];
+
+const BASE: &[u8] =
+    b"frame 4 4\nv 0 0 -100 0\nv 1 0 0 -100\nv 2 50 50 0\nv 3 -50 0 50\nf 0 0 2 3\nf 1 3 2 1\nf 2 0 3 1\nf 3 2 0 1\nend\n";
+
+const FULL: &[u8] =
+    b"frame 6 8\nv 0 0 -100 0\nv 1 0 0 -100\nv 4 -100 0 0\nv 5 0 0 100\nv 6 100 0 0\nv 7 0 100 0\nf 0 0 6 5\nf 1 4 7 1\nf 2 0 4 1\nf 3 6 0 1\nf 4 7 4 5\nf 5 4 0 5\nf 6 6 7 5\nf 7 7 6 1\nend\n";
+
+// A stream text of these words, and a script after it.
+fn text(alloc: Global, words: &[i32], script: &[u8]) -> Result<Vec<u8>, AllocError> {
+    let mut bytes = Vec::new(alloc);
+    bytes.extend_from_slice(b"VDPM")?;
+    for word in words {
+        bytes.extend_from_slice(&word.to_le_bytes())?;
+    }
+    bytes.extend_from_slice(script)?;
+    Ok(bytes)
+}
+
+fn joined(alloc: Global, a: &[u8], b: &[u8]) -> Result<Vec<u8>, AllocError> {
+    let mut bytes = Vec::from_slice(alloc, a)?;
+    bytes.extend_from_slice(b)?;
+    Ok(bytes)
+}
+
+fn command(alloc: Global, words: &[&str]) -> Result<Vec<String>, AllocError> {
+    let mut all = Vec::new(alloc);
+    for word in words {
+        all.push(String::from_str(alloc, word)?)?;
+    }
+    Ok(all)
+}
+
+// Runs `view 5` on the bytes, and compares status, output and error text.
+fn view<A: Abort>(
+    rt: &A,
+    alloc: Global,
+    input: &[u8],
+    status: u8,
+    out: &[u8],
+    err: &[u8],
+) -> Result<(), AllocError> {
+    let words = command(alloc, &["view", "5"])?;
+    let mut source = MemSource::new(alloc, input, 4096, &[])?;
+    let mut sink = MemSink::new(alloc, 1000, 1000, &[])?;
+    let mut errors = MemSink::new(alloc, 100, 100, &[])?;
+    assert_eq!(rt;
+        run(alloc, &words, &mut source, &mut sink, &mut errors),
+        status
+    );
+    assert_eq!(rt; sink.bytes(), out);
+    assert_eq!(rt; errors.bytes(), err);
+    Ok(())
+}
+
+#[test]
+fn scripts(rt: HostRuntime) -> Result<(), Fail> {
+    let alloc = rt.alloc();
+    let full = joined(alloc, b"ok\nok\n", FULL)?;
+    let base = joined(alloc, b"blocked 4\n", BASE)?;
+    let cases: [(&[u8], u8, &[u8], &[u8]); 12] = [
+        (b"s 0\ns 1\nw\nq\nx\n", 0, &full, b""),
+        (b"s 1\nw", 0, &base, b""),
+        (b"", 0, b"", b""),
+        (b"s 0\ns 0\n", 0, b"ok\nnot active\n", b""),
+        (b"s 0\ns 2\nw\n", 1, b"ok\n", b"vdpm: fault 31 line 2\n"),
+        (b"s 0\ns 01\n", 1, b"ok\n", b"vdpm: fault 30 line 2\n"),
+        (b"\n", 1, b"", b"vdpm: fault 30 line 1\n"),
+        (b"s 1\nc\n", 1, b"blocked 4\n", b"vdpm: fault 30 line 2\n"),
+        (b" w\n", 1, b"", b"vdpm: fault 30 line 1\n"),
+        (b"s 4294967296\n", 1, b"", b"vdpm: fault 30 line 1\n"),
+        (b"s 4294967295\n", 1, b"", b"vdpm: fault 31 line 1\n"),
+        (b"s  0\n", 1, b"", b"vdpm: fault 30 line 1\n"),
+    ];
+    for (script, status, out, err) in cases {
+        let input = text(alloc, &OCTAHEDRON, script)?;
+        view(&rt, alloc, &input, status, out, err)?;
+    }
+    Ok(())
+}
+
+#[test]
+fn streams(rt: HostRuntime) -> Result<(), Fail> {
+    let alloc = rt.alloc();
+    let empty = text(alloc, &[1, 0, 0, 0, 0], b"w\n")?;
+    view(&rt, alloc, &empty, 0, b"frame 0 0\nend\n", b"")?;
+    let triangle = [
+        1, 4, 4, 1, 0, 0, 0, 0, 1, 1, 10, 0, 0, 1, 2, 0, 10, 0, 1, 3, 5, 5, 5, 1, 4, 0, 1, 2, 1,
+    ];
+    let frame = b"frame 4 1\nv 0 0 0 0\nv 1 10 0 0\nv 2 0 10 0\nv 3 5 5 5\nf 0 0 1 2\nend\n";
+    view(&rt, alloc, &text(alloc, &triangle, b"w\n")?, 0, frame, b"")?;
+    let mut octahedron = text(alloc, &OCTAHEDRON, b"")?;
+    for n in 0..octahedron.len() {
+        view(
+            &rt,
+            alloc,
+            &octahedron[..n],
+            1,
+            b"",
+            b"vdpm: not a stream\n",
+        )?;
+    }
+    if let Some(first) = octahedron.first_mut() {
+        *first = b'X';
+    }
+    view(&rt, alloc, &octahedron, 1, b"", b"vdpm: not a stream\n")?;
+    let long = vec![in alloc; b'V'; 16_777_217]?;
+    view(&rt, alloc, &long, 1, b"", b"vdpm: input too long\n")?;
+    Ok(())
+}
+
+#[test]
+fn words(rt: HostRuntime) -> Result<(), Fail> {
+    let alloc = rt.alloc();
+    let refused: [&[&str]; 6] = [
+        &[],
+        &["view"],
+        &["view", "-1"],
+        &["view", "01"],
+        &["view", "4294967296"],
+        &["help"],
+    ];
+    for words in refused {
+        let mut source = MemSource::new(alloc, b"x", 1, &[0])?;
+        let mut sink = MemSink::new(alloc, 10, 1, &[0])?;
+        let mut errors = MemSink::new(alloc, 100, 7, &[])?;
+        let words = command(alloc, words)?;
+        assert_eq!(rt; run(alloc, &words, &mut source, &mut sink, &mut errors), 2);
+        assert_eq!(rt; errors.bytes(), b"vdpm: words not understood\n".as_slice());
+    }
+    Ok(())
+}
+
+#[test]
+fn devices(rt: HostRuntime) -> Result<(), Fail> {
+    let alloc = rt.alloc();
+    let input = text(alloc, &OCTAHEDRON, b"s 0\ns 1\nw\nq\n")?;
+    let full = joined(alloc, b"ok\nok\n", FULL)?;
+    let words = command(alloc, &["view", "5"])?;
+    // The step of the source, its failing calls, the room and step of the sink, and what comes of it.
+    let cases: [(usize, &[u32], usize, usize, u8, usize); 6] = [
+        (1, &[], 1000, 1000, 0, 175),
+        (3, &[], 1000, 7, 0, 175),
+        (352, &[], 1000, 1, 0, 175),
+        (352, &[0], 1000, 1000, 3, 0),
+        (352, &[1], 1000, 1000, 3, 0),
+        (352, &[], 10, 1000, 4, 10),
+    ];
+    for (step, fails, room, put, status, length) in cases {
+        let mut source = MemSource::new(alloc, &input, step, fails)?;
+        let mut sink = MemSink::new(alloc, room, put, &[])?;
+        let mut errors = MemSink::new(alloc, 0, 1, &[])?;
+        assert_eq!(rt;
+            run(alloc, &words, &mut source, &mut sink, &mut errors),
+            status
+        );
+        assert_eq!(rt; sink.bytes().len(), length);
+        assert!(rt; full.starts_with(sink.bytes()));
+    }
+    Ok(())
+}
