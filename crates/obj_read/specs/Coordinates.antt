@@ -1,0 +1,46 @@
+-- A coordinate in a field of a line. Byte 43 is `+`, 45 is `-`, 46 is the point, and 48 is the digit 0.
+use Rattle.std.specs.Prelude.{ℕ, ◌+◌, List, [], ◌∷◌, Bool, false, not, ◌==◌, ◌&&◌, ◌||◌, nat_lt, length, drop, ℤ, pos, neg_ℤ, Result, Ok, Err, if◌then◌else◌}
+use Rattle.std.specs.List.{list_all}
+use Rattle.pm_io.specs.Digits.{are_digits, value}
+use Rattle.obj_lines.specs.Text.{until}
+use Rattle.obj_read.specs.declared.fault.ObjFault.{ObjFault}
+use Rattle.obj_read.specs.declared.fault.ObjFault.TheVariants as faults
+
+-- A minus sign stands at the front.
+abbrev pub is_negative : List ℕ → Bool
+is_negative [] = false
+is_negative (b ∷ bs) = b == 45
+
+-- A sign stands at the front.
+abbrev pub is_signed : List ℕ → Bool
+is_signed [] = false
+is_signed (b ∷ bs) = b == 43 || b == 45
+
+-- Without a sign at the front.
+unfoldable pub without_sign : List ℕ → List ℕ
+without_sign field = if is_signed field then drop 1 field else field
+
+-- What stands before the point of a number without its sign, and what stands after it.
+unfoldable pub whole_part : List ℕ → List ℕ
+whole_part number = until 46 number
+
+unfoldable pub decimals : List ℕ → List ℕ
+decimals number = drop (length (until 46 number) + 1) number
+
+-- Digits, a point and digits where there is one, and a digit at all.
+unfoldable pub is_number : List ℕ → Bool
+is_number number = are_digits (whole_part number) && are_digits (decimals number) && nat_lt 0 (length (whole_part number) + length (decimals number))
+
+abbrev pub are_zeros : List ℕ → Bool
+are_zeros digits = list_all (λ b. b == 48) digits
+
+abbrev pub with_sign : Bool → ℕ → ℤ
+with_sign negative n = if negative then neg_ℤ (pos n) else pos n
+
+-- The coordinate that a field spells, or the field's first fault.
+unfoldable pub coordinate : List ℕ → Result ℤ ObjFault
+coordinate field =
+    if not (is_number (without_sign field)) then Err faults.BadNumber
+    else if not (are_zeros (decimals (without_sign field))) then Err faults.NotWhole
+    else if nat_lt 32767 (value 0 (whole_part (without_sign field))) then Err faults.OutOfRange
+    else Ok (with_sign (is_negative field) (value 0 (whole_part (without_sign field))))

@@ -1,0 +1,70 @@
+-- The meaning of a text in the syntax of Wavefront OBJ: its mesh, or its first line with a fault.
+use Rattle.std.specs.Prelude.{ℕ, ◌+◌, List, [], ◌∷◌, Bool, min, nat_lt, length, Option, Some, None, Result, Ok, Err, if◌then◌else◌}
+use Rattle.pm_base.specs.Meshes.{Mesh}
+use Rattle.obj_lines.specs.Text.{until, lines, content}
+use Rattle.obj_read.specs.declared.fault.ObjFault.{ObjFault}
+use Rattle.obj_read.specs.declared.fault.ObjFault.TheVariants as faults
+use Rattle.obj_read.specs.declared.found.Found.{Found}
+use Rattle.obj_read.specs.Judged.{line_found}
+use Rattle.obj_read.specs.Fits.{with_found}
+
+-- What the lines before gave: how many bytes they have, the number of the next line, and the mesh so far.
+pub record SoFar : Type 0 where
+  pub bytes : ℕ
+  pub number : ℕ
+  pub mesh : Mesh
+
+-- The first line with a fault, that line's first fault, and the number from 1 of the byte that shows it, unless that is
+-- the end of input.
+pub record Refused : Type 0 where
+  pub fault : ObjFault
+  pub line : ℕ
+  pub place : Option ℕ
+
+-- Byte 1,073,741,825 of the text is one of the first 65,537 bytes of a line of this length after so many bytes.
+abbrev pub is_past : ℕ → ℕ → Bool
+is_past bytes length = nat_lt 1073741824 (bytes + min length 65537)
+
+-- The line has more than 65,536 bytes before its LF.
+abbrev pub is_long : List ℕ → Bool
+is_long line = nat_lt 65536 (length (until 10 line))
+
+-- The line has its LF.
+abbrev pub is_ended : List ℕ → Bool
+is_ended line = nat_lt (length (until 10 line)) (length line)
+
+-- A line judged alone, given how many bytes, vertices and faces stand before it.
+unfoldable pub judged : SoFar → List ℕ → Result Found ObjFault
+judged s line =
+    if is_past s.bytes (length line) then Err faults.TooMany
+    else if is_long line then Err faults.LineTooLong
+    else line_found (length s.mesh.points) (length s.mesh.faces) (content (until 10 line))
+
+-- The byte that shows the line's fault: the one too many in the text or in the line, else the line's LF.
+unfoldable pub place : SoFar → List ℕ → Option ℕ
+place s line =
+    if is_past s.bytes (length line) then Some 1073741825
+    else if is_long line then Some (s.bytes + 65537)
+    else if is_ended line then Some (s.bytes + length line)
+    else None
+
+-- After one line more.
+unfoldable pub and_line : SoFar → List ℕ → Found → SoFar
+and_line s line f = record { bytes = s.bytes + length line; number = s.number + 1; mesh = with_found s.mesh f }
+
+-- The first line with a fault ends the reading.
+abbrev pub then_lines : Result Found ObjFault → SoFar → List ℕ → (SoFar → Result Mesh Refused) → Result Mesh Refused
+then_lines (Ok f) s line more = more (and_line s line f)
+then_lines (Err e) s line more = Err (record { fault = e; line = s.number; place = place s line })
+
+abbrev pub meaning_from : SoFar → List (List ℕ) → Result Mesh Refused
+meaning_from s [] = Ok s.mesh
+meaning_from s (line ∷ more) = then_lines (judged s line) s line (λ t. meaning_from t more)
+
+-- Before the first line.
+abbrev pub nothing_yet : SoFar
+nothing_yet = record { bytes = 0; number = 1; mesh = record { points = []; faces = [] } }
+
+-- The mesh of the bytes, or their first line with a fault.
+unfoldable pub meaning_of : List ℕ → Result Mesh Refused
+meaning_of bytes = meaning_from nothing_yet (lines bytes)

@@ -1,0 +1,51 @@
+ghost use Rattle.std.specs.Prelude.{◌≡◌, Ok, IfOk, IfErr, OnOk, IfSome};
+ghost use Rattle.pm_base.specs.Meshes.{IsWellFormed, mesh_of};
+ghost use Rattle.pm_io.specs.Bytes.{AtEnd};
+ghost use Rattle.pm_io.specs.Causes.{HasCause};
+ghost use Rattle.obj_read.specs.Fails.{Explains, of_source};
+ghost use Rattle.obj_read.specs.Meaning.{meaning_of};
+
+use crate::fault::ObjFail;
+use crate::step::{Progress, finish, step};
+use obj_lines::Lines;
+use pm_base::{Mesh, Points, Triples};
+use pm_io::{Source, Taker};
+use std::alloc::Global;
+
+/// Reads a source to its end, and answers the mesh that its bytes spell.
+///
+/// Lines that begin with neither `v` nor `f` are skipped. Coordinates are whole numbers from -32,767 to 32,767, and
+/// faces are triangles. All bytes that are held are judged before more are asked for, so a fault is answered as soon as
+/// the byte that shows it has come. However the source cuts its bytes, the answer is the same.
+///
+/// Each byte is looked at a constant number of times. Memory is taken for the window, for one line, and for the mesh.
+pub fn read_obj<S: Source>(alloc: Global, source: &mut S) -> Result<Mesh, ObjFail>
+    ensures ok { IfOk result (λ m. IfSome (S.left source.old) (λ bytes. meaning_of bytes ≡ Ok (mesh_of m))) }
+    ensures mesh { IfOk result (λ m. IsWellFormed (mesh_of m)) }
+    ensures end { OnOk result (AtEnd (S.left source.new)) }
+    ensures err { IfErr result (λ e. Explains e (S.left source.old) (S.left source.new)) }
+    ensures cause { HasCause (S.faults source.old) (S.faults source.new) (of_source result) }
+{
+    let mut mesh = Mesh {
+        points: Points::new(alloc),
+        faces: Triples::new(alloc),
+    };
+    let Ok(mut taker) = Taker::new(alloc) else {
+        return Err(ObjFail::OutOfMemory);
+    };
+    let Ok(mut lines) = Lines::new(alloc) else {
+        return Err(ObjFail::OutOfMemory);
+    };
+    let mut progress = Progress {
+        taken: 0,
+        start: 0,
+        number: 1,
+    };
+    loop {
+        match step(source, &mut taker, &mut lines, &mut mesh, &mut progress) {
+            Err(fail) => return Err(fail),
+            Ok(false) => return finish(mesh, lines, progress),
+            Ok(true) => {}
+        }
+    }
+}
