@@ -1,4 +1,4 @@
--- The outcome of `view` on bytes, and when each status comes.
+-- The outcome of each command on bytes, and when each status comes.
 use Rattle.std.specs.Prelude.{◌≡◌, ◌⊎◌, ℕ, ◌<◌, ◌≤◌, List, ◌++◌, length, Option, Some, None, IfSome, Result, Ok, Err, codes}
 use Rattle.std.specs.Fmt.{decimal}
 use Rattle.pm_io.specs.Bytes.{Gains, GainsPart}
@@ -7,46 +7,77 @@ use Rattle.pm_forest.specs.Forest.{Hierarchy}
 use Rattle.pm_forest.specs.Fronts.{no_records}
 use Rattle.pm_forest.specs.Rules.{HasShape}
 use Rattle.pm_format.specs.Stream.{stream}
+use Rattle.pm_base.specs.Meshes.{Mesh}
+use Rattle.pm_base.specs.Canonical.{canonical_text}
+use Rattle.obj_read.specs.declared.fault.ObjFault.{ObjFault}
+use Rattle.obj_read.specs.declared.fault.ObjFault.TheVariants as obj
+use Rattle.obj_read.specs.Meaning.{Refused, meaning_of}
+use Rattle.vdpm.specs.declared.words.Asked.{Asked}
+use Rattle.vdpm.specs.declared.words.Asked.TheVariants as asked
 use Rattle.vdpm.specs.declared.fault.Fault.{Fault}
 use Rattle.vdpm.specs.declared.fault.Fault.TheVariants as faults
-use Rattle.vdpm.specs.declared.fault.ViewFail.{ViewFail}
-use Rattle.vdpm.specs.declared.fault.ViewFail.TheVariants as fails
+use Rattle.vdpm.specs.declared.fault.CommandFail.{CommandFail}
+use Rattle.vdpm.specs.declared.fault.CommandFail.TheVariants as fails
 use Rattle.vdpm.specs.Script.{Ran, refused, ran, split_lines}
 
 -- The outcome of `view` on bytes: the replies, and the fault if there is one. Too many bytes are refused first, then bytes
 -- that begin with no stream text; otherwise a script follows the stream.
-pub data IsOutcome (bytes : List ℕ) : Ran → Type 0 where
-  too_long : 16777216 < length bytes → IsOutcome bytes (refused faults.TooLong)
-  no_stream : length bytes ≤ 16777216 → ((h : Hierarchy) (rest : List ℕ) → HasShape h → bytes ≡ stream h ++ rest → ⊥) → IsOutcome bytes (refused faults.NotStream)
-  script_run : length bytes ≤ 16777216 → (h : Hierarchy) (script : List ℕ) → HasShape h → bytes ≡ stream h ++ script → IsOutcome bytes (ran h no_records 1 (split_lines script))
+pub data IsViewOutcome (bytes : List ℕ) : Ran → Type 0 where
+  too_long : 16777216 < length bytes → IsViewOutcome bytes (refused faults.TooLong)
+  no_stream : length bytes ≤ 16777216 → ((h : Hierarchy) (rest : List ℕ) → HasShape h → bytes ≡ stream h ++ rest → ⊥) → IsViewOutcome bytes (refused faults.NotStream)
+  script_run : length bytes ≤ 16777216 → (h : Hierarchy) (script : List ℕ) → HasShape h → bytes ≡ stream h ++ script → IsViewOutcome bytes (ran h no_records 1 (split_lines script))
 
--- The outcome has this fault, or none, and the sink gained its replies.
-pub record Replied (bytes : List ℕ) (fault : Option Fault) (old new : Option (List ℕ)) : Type 0 where
+-- The outcome of `canon`: the canonical text of the mesh that the bytes spell, or the fault of their first line that has
+-- one.
+abbrev pub canon_of : Result Mesh Refused → Ran
+canon_of (Ok m) = record { text = canonical_text m; fault = None }
+canon_of (Err r) = refused (faults.Obj r.fault r.line)
+
+-- The outcome of a command on bytes.
+abbrev pub IsOutcome : Asked → List ℕ → Ran → Type 0
+IsOutcome asked.Canon bytes r = r ≡ canon_of (meaning_of bytes)
+IsOutcome (asked.View budget) bytes r = IsViewOutcome bytes r
+
+-- The outcome has this fault, or none, and the sink gained its text.
+pub record Replied (asks : Asked) (bytes : List ℕ) (fault : Option Fault) (old new : Option (List ℕ)) : Type 0 where
   pub text : List ℕ
-  pub outcome : IsOutcome bytes (record { text = text; fault = fault })
+  pub outcome : IsOutcome asks bytes (record { text = text; fault = fault })
   pub gained : Gains old new text
 
--- The sink gained a proper prefix of the outcome's replies.
-pub record CutShort (bytes : List ℕ) (old new : Option (List ℕ)) : Type 0 where
+-- The sink gained a proper prefix of the outcome's text.
+pub record CutShort (asks : Asked) (bytes : List ℕ) (old new : Option (List ℕ)) : Type 0 where
   pub all : Ran
-  pub outcome : IsOutcome bytes all
+  pub outcome : IsOutcome asks bytes all
   pub part : GainsPart old new all.text
 
--- How `view` ends: `left` is what the source had left at first, and `old` and `new` what the sink had taken.
-abbrev pub ViewEnds : Result (Unit {0}) ViewFail → Option (List ℕ) → Option (List ℕ) → Option (List ℕ) → Type 0
-ViewEnds (Ok done) left old new = IfSome left (λ bytes. Replied bytes None old new)
-ViewEnds (Err (fails.Faulty f)) left old new = IfSome left (λ bytes. Replied bytes (Some f) old new)
-ViewEnds (Err fails.Write) left old new = IfSome left (λ bytes. CutShort bytes old new)
-ViewEnds (Err fails.Read) left old new = new ≡ old
-ViewEnds (Err fails.OutOfMemory) left old new = new ≡ old
+-- How a command ends: `left` is what the source had left at first, and `old` and `new` what the sink had taken.
+abbrev pub Ends : Asked → Result (Unit {0}) CommandFail → Option (List ℕ) → Option (List ℕ) → Option (List ℕ) → Type 0
+Ends asks (Ok done) left old new = IfSome left (λ bytes. Replied asks bytes None old new)
+Ends asks (Err (fails.Faulty f)) left old new = IfSome left (λ bytes. Replied asks bytes (Some f) old new)
+Ends asks (Err fails.Write) left old new = IfSome left (λ bytes. CutShort asks bytes old new)
+Ends asks (Err fails.Read) left old new = new ≡ old
+Ends asks (Err fails.OutOfMemory) left old new = new ≡ old
 
 -- What the counts of the source and of the sink did then.
-abbrev pub ViewCounts : Result (Unit {0}) ViewFail → ℕ → ℕ → ℕ → ℕ → Type 0
-ViewCounts (Ok done) in_old in_new out_old out_new = (in_new ≡ in_old) × (out_new ≡ out_old)
-ViewCounts (Err (fails.Faulty f)) in_old in_new out_old out_new = (in_new ≡ in_old) × (out_new ≡ out_old)
-ViewCounts (Err fails.Write) in_old in_new out_old out_new = Rose out_old out_new
-ViewCounts (Err fails.Read) in_old in_new out_old out_new = Rose in_old in_new
-ViewCounts (Err fails.OutOfMemory) in_old in_new out_old out_new = Unit {0}
+abbrev pub Counts : Result (Unit {0}) CommandFail → ℕ → ℕ → ℕ → ℕ → Type 0
+Counts (Ok done) in_old in_new out_old out_new = (in_new ≡ in_old) × (out_new ≡ out_old)
+Counts (Err (fails.Faulty f)) in_old in_new out_old out_new = (in_new ≡ in_old) × (out_new ≡ out_old)
+Counts (Err fails.Write) in_old in_new out_old out_new = Rose out_old out_new
+Counts (Err fails.Read) in_old in_new out_old out_new = Rose in_old in_new
+Counts (Err fails.OutOfMemory) in_old in_new out_old out_new = Unit {0}
+
+-- The number of a fault of an OBJ text.
+abbrev pub number_of : ObjFault → ℕ
+number_of obj.LineTooLong = 1
+number_of obj.Continuation = 2
+number_of obj.TooFewFields = 3
+number_of obj.BadNumber = 4
+number_of obj.NotWhole = 5
+number_of obj.OutOfRange = 6
+number_of obj.BadIndex = 7
+number_of obj.NotTriangle = 8
+number_of obj.TooMany = 9
+number_of obj.RepeatedCorner = 10
 
 -- The line of a fault on the error sink.
 unfoldable pub fault_line : Fault → List ℕ
@@ -54,14 +85,15 @@ fault_line faults.TooLong = codes "vdpm: input too long\n"
 fault_line faults.NotStream = codes "vdpm: not a stream\n"
 fault_line (faults.BadLine n) = codes "vdpm: fault 30 line " ++ decimal n ++ codes "\n"
 fault_line (faults.NoRecord n) = codes "vdpm: fault 31 line " ++ decimal n ++ codes "\n"
+fault_line (faults.Obj e n) = codes "vdpm: fault " ++ decimal (number_of e) ++ codes " line " ++ decimal n ++ codes "\n"
 
-unfoldable pub fail_line : ViewFail → List ℕ
+unfoldable pub fail_line : CommandFail → List ℕ
 fail_line (fails.Faulty f) = fault_line f
 fail_line fails.Read = codes "vdpm: read fault\n"
 fail_line fails.Write = codes "vdpm: write fault\n"
 fail_line fails.OutOfMemory = codes "vdpm: out of memory\n"
 
-abbrev pub status_of : ViewFail → ℕ
+abbrev pub status_of : CommandFail → ℕ
 status_of (fails.Faulty f) = 1
 status_of fails.Read = 3
 status_of fails.Write = 4

@@ -1,4 +1,5 @@
 // Why a command ends before its work is whole.
+use obj_read::ObjFault;
 
 /// A fault of the input, with its place.
 #[derive(Clone, Copy, Debug, PartialEq, Eq)]
@@ -11,11 +12,13 @@ pub enum Fault {
     BadLine(u32),
     /// This script line, counted from 1, names no record.
     NoRecord(u32),
+    /// This line of an OBJ text, counted from 1, has this fault.
+    Obj(ObjFault, u32),
 }
 
-/// Why `view` ends early.
+/// Why a command ends early.
 #[derive(Clone, Copy, Debug, PartialEq, Eq)]
-pub enum ViewFail {
+pub enum CommandFail {
     Faulty(Fault),
     Read,
     Write,

@@ -1,6 +1,7 @@
-//! `vdpm`, a viewer of view-dependent progressive meshes: `run` over the standard streams.
+//! `vdpm`, for view-dependent progressive meshes: `run` over the standard streams.
 #![tactic(auto)]
 
+mod commands;
 mod fault;
 mod frame;
 mod front;

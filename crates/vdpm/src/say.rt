@@ -1,8 +1,9 @@
 // What is said on the error sink.
 ghost use Rattle.std.specs.Prelude.{◌≡◌};
-ghost use Rattle.vdpm.specs.Outcome.{Said, fault_line, fail_line, status_of};
+ghost use Rattle.vdpm.specs.Outcome.{Said, fault_line, fail_line, number_of, status_of};
 
-use crate::fault::{Fault, ViewFail};
+use crate::fault::{CommandFail, Fault};
+use obj_read::ObjFault;
 use pm_io::{Line, Sink, put_all};
 
 /// Puts a line on the error sink. That it fails changes nothing.
@@ -10,6 +11,24 @@ pub fn say<E: Sink>(err: &mut E, text: &[u8])
     ensures { Said (E.got err.old) (E.got err.new) (E.faults err.old) (E.faults err.new) text.now }
 {
     let _ = put_all(err, text);
+}
+
+// The number of a fault of an OBJ text.
+fn number_of(fault: ObjFault) -> u32
+    ensures { result ≡ number_of fault }
+{
+    match fault {
+        ObjFault::LineTooLong => 1,
+        ObjFault::Continuation => 2,
+        ObjFault::TooFewFields => 3,
+        ObjFault::BadNumber => 4,
+        ObjFault::NotWhole => 5,
+        ObjFault::OutOfRange => 6,
+        ObjFault::BadIndex => 7,
+        ObjFault::NotTriangle => 8,
+        ObjFault::TooMany => 9,
+        ObjFault::RepeatedCorner => 10,
+    }
 }
 
 // A fault's line, with its place.
@@ -31,32 +50,39 @@ fn put_fault(line: &mut Line, fault: Fault)
             line.add_number(number);
             line.add(b"\n");
         }
+        Fault::Obj(fault, number) => {
+            line.add(b"vdpm: fault ");
+            line.add_number(number_of(fault));
+            line.add(b" line ");
+            line.add_number(number);
+            line.add(b"\n");
+        }
     }
 }
 
 #[tactic(auto, unfolding(crate::specs::Outcome::fail_line))]
-fn put_fail(line: &mut Line, fail: ViewFail)
+fn put_fail(line: &mut Line, fail: CommandFail)
     ensures { line.new ≡ fail_line fail }
 {
     match fail {
-        ViewFail::Faulty(fault) => put_fault(line, fault),
-        ViewFail::Read => {
+        CommandFail::Faulty(fault) => put_fault(line, fault),
+        CommandFail::Read => {
             line.clear();
             line.add(b"vdpm: read fault\n");
         }
-        ViewFail::Write => {
+        CommandFail::Write => {
             line.clear();
             line.add(b"vdpm: write fault\n");
         }
-        ViewFail::OutOfMemory => {
+        CommandFail::OutOfMemory => {
             line.clear();
             line.add(b"vdpm: out of memory\n");
         }
     }
 }
 
-/// Says why `view` ended early, and answers its status.
-pub fn tell<E: Sink>(err: &mut E, fail: ViewFail) -> u8
+/// Says why a command ended early, and answers its status.
+pub fn tell<E: Sink>(err: &mut E, fail: CommandFail) -> u8
     ensures status { result ≡ status_of fail }
     ensures said { Said (E.got err.old) (E.got err.new) (E.faults err.old) (E.faults err.new) (fail_line fail) }
 {
@@ -64,9 +90,9 @@ pub fn tell<E: Sink>(err: &mut E, fail: ViewFail) -> u8
     put_fail(&mut line, fail);
     say(err, line.as_slice());
     match fail {
-        ViewFail::Faulty(_) => 1,
-        ViewFail::Read => 3,
-        ViewFail::Write => 4,
-        ViewFail::OutOfMemory => 5,
+        CommandFail::Faulty(_) => 1,
+        CommandFail::Read => 3,
+        CommandFail::Write => 4,
+        CommandFail::OutOfMemory => 5,
     }
 }

@@ -42,16 +42,17 @@ fn command(alloc: Global, words: &[&str]) -> Result<Vec<String>, AllocError> {
     Ok(all)
 }
 
-// Runs `view 5` on the bytes, and compares status, output and error text.
-fn view<A: Abort>(
+// Runs the words on the bytes, and compares status, output and error text.
+fn check<A: Abort>(
     rt: &A,
     alloc: Global,
+    words: &[&str],
     input: &[u8],
     status: u8,
     out: &[u8],
     err: &[u8],
 ) -> Result<(), AllocError> {
-    let words = command(alloc, &["view", "5"])?;
+    let words = command(alloc, words)?;
     let mut source = MemSource::new(alloc, input, 4096, &[])?;
     let mut sink = MemSink::new(alloc, 1000, 1000, &[])?;
     let mut errors = MemSink::new(alloc, 100, 100, &[])?;
@@ -85,7 +86,7 @@ fn scripts(rt: HostRuntime) -> Result<(), Fail> {
     ];
     for (script, status, out, err) in cases {
         let input = text(alloc, &OCTAHEDRON, script)?;
-        view(&rt, alloc, &input, status, out, err)?;
+        check(&rt, alloc, &["view", "5"], &input, status, out, err)?;
     }
     Ok(())
 }
@@ -94,17 +95,34 @@ fn scripts(rt: HostRuntime) -> Result<(), Fail> {
 fn streams(rt: HostRuntime) -> Result<(), Fail> {
     let alloc = rt.alloc();
     let empty = text(alloc, &[1, 0, 0, 0, 0], b"w\n")?;
-    view(&rt, alloc, &empty, 0, b"frame 0 0\nend\n", b"")?;
+    check(
+        &rt,
+        alloc,
+        &["view", "5"],
+        &empty,
+        0,
+        b"frame 0 0\nend\n",
+        b"",
+    )?;
     let triangle = [
         1, 4, 4, 1, 0, 0, 0, 0, 1, 1, 10, 0, 0, 1, 2, 0, 10, 0, 1, 3, 5, 5, 5, 1, 4, 0, 1, 2, 1,
     ];
     let frame = b"frame 4 1\nv 0 0 0 0\nv 1 10 0 0\nv 2 0 10 0\nv 3 5 5 5\nf 0 0 1 2\nend\n";
-    view(&rt, alloc, &text(alloc, &triangle, b"w\n")?, 0, frame, b"")?;
+    check(
+        &rt,
+        alloc,
+        &["view", "5"],
+        &text(alloc, &triangle, b"w\n")?,
+        0,
+        frame,
+        b"",
+    )?;
     let mut octahedron = text(alloc, &OCTAHEDRON, b"")?;
     for n in 0..octahedron.len() {
-        view(
+        check(
             &rt,
             alloc,
+            &["view", "5"],
             &octahedron[..n],
             1,
             b"",
@@ -114,22 +132,65 @@ fn streams(rt: HostRuntime) -> Result<(), Fail> {
     if let Some(first) = octahedron.first_mut() {
         *first = b'X';
     }
-    view(&rt, alloc, &octahedron, 1, b"", b"vdpm: not a stream\n")?;
+    check(
+        &rt,
+        alloc,
+        &["view", "5"],
+        &octahedron,
+        1,
+        b"",
+        b"vdpm: not a stream\n",
+    )?;
     let long = vec![in alloc; b'V'; 16_777_217]?;
-    view(&rt, alloc, &long, 1, b"", b"vdpm: input too long\n")?;
+    check(
+        &rt,
+        alloc,
+        &["view", "5"],
+        &long,
+        1,
+        b"",
+        b"vdpm: input too long\n",
+    )?;
+    Ok(())
+}
+
+#[test]
+fn obj_texts(rt: HostRuntime) -> Result<(), Fail> {
+    let alloc = rt.alloc();
+    let cases: [(&[u8], u8, &[u8], &[u8]); 5] = [
+        (b"", 0, b"", b""),
+        (
+            b"v 0 0 0\r\nv 10 0 -0.0 # a comment\r\nvt 0.5\r\nv 0 10 0\r\nf 1/1/1 -2 3\r\n",
+            0,
+            b"v 0 0 0\nv 10 0 0\nv 0 10 0\nf 1 2 3\n",
+            b"",
+        ),
+        (b"v 0 0 0\nv 1.5 0 0\n", 1, b"", b"vdpm: fault 5 line 2\n"),
+        (b"v 32768 0 0\n", 1, b"", b"vdpm: fault 6 line 1\n"),
+        (
+            b"v 0 0 0\nv 1 0 0\nv 0 1 0\nf 1 1 2",
+            1,
+            b"",
+            b"vdpm: fault 10 line 4\n",
+        ),
+    ];
+    for (input, status, out, err) in cases {
+        check(&rt, alloc, &["canon"], input, status, out, err)?;
+    }
     Ok(())
 }
 
 #[test]
 fn words(rt: HostRuntime) -> Result<(), Fail> {
     let alloc = rt.alloc();
-    let refused: [&[&str]; 6] = [
+    let refused: [&[&str]; 7] = [
         &[],
         &["view"],
         &["view", "-1"],
         &["view", "01"],
         &["view", "4294967296"],
         &["help"],
+        &["canon", "1"],
     ];
     for words in refused {
         let mut source = MemSource::new(alloc, b"x", 1, &[0])?;
