@@ -1,37 +1,31 @@
 -- What the readers of a whole hierarchy answer.
-use Rattle.std.proofs.Common.{◌≡◌, ◌≢◌, ◌↔◌, ℕ, zero, suc, ◌+◌, ◌-◌, ◌/◌, ◌%◌, ◌<◌, ◌≤◌, true, List, [], ◌∷◌, length, get_or, sum, All, None, Some, IfSome, inl, inr, refl, sym, ap, ◌∙◌, subst, arith}
+use Rattle.std.proofs.Common.{◌≡◌, ◌≢◌, ◌↔◌, ℕ, zero, suc, ◌+◌, ◌-◌, ◌/◌, ◌%◌, ◌<◌, ◌≤◌, List, [], ◌∷◌, length, get_or, All, None, Some, IfSome, inl, inr, refl, sym, ap, ◌∙◌, arith}
 use Rattle.std.proofs.lemmas.Bool.{cases_lt, lt-ltb, le-ltb, lt-leb, le-leb, eq-eqb, ne_eqb, cond-true, cond-false}
 use Rattle.std.proofs.lemmas.List.{length-map, get_or_default}
 use Rattle.std.proofs.lemmas.Option.{none-some}
 use Rattle.pm_forest.specs.declared.parts.Root.{Root}
-use Rattle.pm_forest.specs.Forest.{Hierarchy, Interval, record_at, widths, record_count, node_count, leaf_count, s_of, t_of, Holds, holds, root_interval, interval_after, interval_of, splitter_of, HasForestShape}
-use Rattle.pm_forest.specs.Fronts.{IsThere, every}
+use Rattle.pm_forest.specs.Forest.{Hierarchy, Interval, record_at, widths, record_count, node_count, leaf_count, Holds, holds, root_interval, interval_after, interval_of, splitter_of, HasForestShape}
+use Rattle.pm_forest.specs.Fronts.{every}
 use Rattle.pm_forest.specs.Faces.{first_face, face_count, revealed_by, revealed_after}
 use Rattle.pm_forest.specs.Places.{no_root, place_of_node}
 use Rattle.pm_forest.specs.Rules.{HasShape}
 use Rattle.pm_forest.specs.Tables.{Grown, all_of, grown, IsSingle, leaf_node_of}
-use Rattle.pm_forest.proofs.Nodes.{within-true, within-from, interval-kept, interval_of-t, interval_of-u, holds-s_from_t, holds-s_from_u, has_maker, splitter_of-splits, splitter_of-s, none_or_some}
-use Rattle.pm_forest.proofs.Ancestors.{every-front, ancestor-lt, ancestor_of-unique, holds-ancestor_of}
+use Rattle.pm_forest.proofs.Nodes.{within-true, within-from, interval-kept, interval_of-t, interval_of-u, has_maker, splitter_of-splits, none_or_some}
+use Rattle.pm_forest.proofs.Ancestors.{ancestor-lt, holds-ancestor_of}
 use Rattle.pm_forest.proofs.FaceNumbers.{revealed-parts, first_face-mono}
-use Rattle.pm_forest.proofs.OwnerLaws.{sum-cons}
+use Rattle.pm_forest.proofs.LeafNodes.{interval_of-le, leaf_node-unsplit}
 use Rattle.pm_forest.proofs.ShapeLaws.{shape_of_nodes, roots_wide, leaf_nodes_of_shape}
 
 -- With no record to come, the forest's units are those of the hierarchy.
 pub all_units : (g : Grown) (h : Hierarchy) → g.coming ≡ None → g.h ≡ h → grown g ≡ h
 all_units g h none is = ap (all_of g.h) none ∙ is
 
--- Among roots: none is without leaves, and none has one past the last leaf.
-
+-- no root is without leaves
 root_wide : (ws : List ℕ) (start v : ℕ) → All (λ w. 0 < w) ws → v < length ws →
     (root_interval ws start v).from < (root_interval ws start v).until
 root_wide [] start v wide l = absurd (omega arith)
 root_wide (w ∷ ws) start zero wide l = let here : 0 < w = wide 0 0 (omega arith) in omega arith
 root_wide (w ∷ ws) start (suc v) wide l = root_wide ws (start + w) v (λ k d m. wide (suc k) d (omega arith)) (omega arith)
-
-root_until : (ws : List ℕ) (start v : ℕ) → (root_interval ws start v).until ≤ start + sum ws
-root_until [] start v = omega arith
-root_until (w ∷ ws) start zero = omega (arith, sum-cons w ws)
-root_until (w ∷ ws) start (suc v) = omega (arith, sum-cons w ws, root_until ws (start + w) v)
 
 -- An interval is its two ends.
 interval_of_ends : (i : Interval) (a b : ℕ) → i.from ≡ a → i.until ≡ b → i ≡ record { from = a; until = b }
@@ -61,25 +55,10 @@ module _ (h : Hierarchy) (shape : HasShape h) where
             ]
       ]
 
-  under_first : (k v x : ℕ) → k ≤ record_count h → v < t_of h k → Holds h v x → x < leaf_count h
-  unfolding holds
-  under_first zero v x m l e =
-      let p = within-true _ x (rw (root_is v (omega arith)) at e) in
-      omega (arith, root_until (widths h) 0 v)
-  under_first (suc k) v x m l e =
-      elim (cases_lt v (t_of h k)) [
-        | inl a ↦ under_first k v x (omega arith) a e
-        | inr a ↦
-            let at_s = under_first k (s_of h k) x (omega arith) (nodes.older k m) in
-            elim (cases_lt (t_of h k) v) [
-              | inl b ↦ (let is : v ≡ suc (t_of h k) = omega arith in at_s (holds-s_from_u h nodes k x m (subst (λ n. Holds h n x) (is ∙ omega arith) e)))
-              | inr b ↦ (let is : v ≡ t_of h k = omega arith in at_s (holds-s_from_t h nodes k x m (subst (λ n. Holds h n x) is e)))
-            ]
-      ]
-
   -- what is under a node is a leaf
   pub under_node : (v x : ℕ) → v < node_count h → Holds h v x → x < leaf_count h
-  under_node v x l e = under_first (record_count h) v x (omega arith) l e
+  unfolding holds
+  under_node v x l e = let p = within-true _ x e in omega (arith, interval_of-le h nodes v l)
 
   -- A node that a record splits has two leaves or more.
   split_wide : (v k : ℕ) → splitter_of h v ≡ Some k → (interval_of h v).from + 1 < (interval_of h v).until
@@ -89,24 +68,18 @@ module _ (h : Hierarchy) (shape : HasShape h) where
       rw (← p.0) (omega arith)
 
   -- A node that none splits is the node of its first leaf in the full front, and so has that leaf alone.
-  unsplit_single : (v : ℕ) → v < node_count h → splitter_of h v ≡ None → IsSingle (interval_of h v)
+  one_leaf : (v : ℕ) → v < node_count h → splitter_of h v ≡ None → IsSingle (interval_of h v)
   unfolding holds
-  unsplit_single v l none =
+  one_leaf v l none =
       let x = (interval_of h v).from in
       let under : Holds h v x = within-from (interval_of h v) x (omega arith) (some_leaves v l) in
-      let there : IsThere h every v = elim (cases_lt v (length h.roots)) [
-        | inl a ↦ inl a
-        | inr a ↦ (let (j, j_lt, makes) = has_maker h v (record_count h) a l in inr (j, j_lt, refl, makes))
-      ] in
-      let unsplit : (k : ℕ) → k < record_count h → every k ≡ true → s_of h k ≢ v = λ k m t is.
-      none-some k (sym none ∙ ap (splitter_of h) (sym is) ∙ splitter_of-s h nodes k m) in
-      let node : leaf_node_of h x ≡ v = ancestor_of-unique h nodes every (every-front h) v x (there, unsplit) under in
+      let node = leaf_node-unsplit h nodes v x l none under in
       rw node at (leaf_nodes_of_shape h shape x (under_node v x l under))
 
   -- no record splits a node of one leaf, and no other node stays whole
   pub unsplit-single : (v : ℕ) → v < node_count h → (splitter_of h v ≡ None) ↔ IsSingle (interval_of h v)
   unsplit-single v l = (
-    unsplit_single v l,
+    one_leaf v l,
     λ single. elim (none_or_some (splitter_of h v)) [
       | inl none ↦ none
       | inr (k, e) ↦ (let wide = split_wide v k e in absurd (omega arith))
