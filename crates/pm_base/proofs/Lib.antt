@@ -3,3 +3,12 @@ pub mod Squares
 pub mod Range
 pub mod Lengths
 pub mod Root
+pub mod Sides
+pub mod Search
+pub mod TwinLaws
+pub mod Rounds
+pub mod Counts
+pub mod Walks
+pub mod FanWalks
+pub mod FanLaws
+pub mod NetLaws

@@ -4,3 +4,7 @@ pub mod Geometry
 pub mod Rounded
 pub mod Meshes
 pub mod Canonical
+pub mod Sides
+pub mod Fans
+pub mod Counts
+pub mod Rounds
