@@ -1,0 +1,19 @@
+//! The twin of each side of a triangle mesh, the vertices on its border, and whether the faces at each
+//! vertex are a fan.
+#![tactic(auto)]
+
+mod fans;
+mod half_edges;
+mod sides;
+#[cfg(test)]
+mod tests;
+mod theory;
+mod twins;
+
+pub use fans::{FansFail, check_fans};
+use std::alloc::AllocError;
+pub use theory::meshes_are_sound;
+pub use twins::{Twins, TwinsFail};
+
+/// The answer for want of memory.
+pub type OutOfMemory = AllocError;
