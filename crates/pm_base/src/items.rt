@@ -1,4 +1,4 @@
-ghost use Rattle.std.specs.Prelude.{◌≡◌, ◌+◌, ◌-◌, ◌≤◌, ◌<◌, [], ◌∷◌, ◌++◌, length, OnOk, OnErr, slice_index_or};
+ghost use Rattle.std.specs.Prelude.{◌≡◌, ◌+◌, ◌-◌, ◌≤◌, ◌<◌, [], ◌∷◌, ◌++◌, length, OnOk, OnErr, IfOk, slice_index_or};
 
 use std::alloc::{AllocError, Global};
 use std::marker::Model;
@@ -84,6 +84,15 @@ impl<T: Copy> Items<T> {
         ensures { result.now ≡ slice_index_or self.now.items i result.now }
     {
         &self.items[i]
+    }
+
+    /// A list with the same items. Room that was taken for more isn't copied.
+    pub fn copy(&self, alloc: Global) -> Result<Items<T>, OutOfMemory>
+        ensures { IfOk result (λ list. list.items ≡ self.now.items) }
+    {
+        let mut items = Vec::with_capacity(alloc, self.items.len())?;
+        items.extend_from_slice(&self.items)?;
+        Ok(Items { items, spare: 0 })
     }
 
     /// The items as a slice.

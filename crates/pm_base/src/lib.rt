@@ -4,6 +4,7 @@
 mod distance;
 mod ids;
 mod items;
+mod log;
 mod mesh;
 mod normal;
 mod point;
@@ -11,6 +12,7 @@ mod point;
 pub use distance::{dist_up, dist2, distances_add, lengths_add};
 pub use ids::{FaceId, NodeId, Side};
 pub use items::{Items, OutOfMemory};
+pub use log::{Collapse, Gone, Log};
 pub use mesh::{Corners, Mesh, Triples};
 pub use normal::{Normal, cross, dot};
 pub use point::{Point, Points};

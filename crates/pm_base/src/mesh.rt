@@ -1,4 +1,8 @@
-use crate::{Items, Points};
+ghost use Rattle.std.specs.Prelude.{◌≡◌, IfOk};
+ghost use Rattle.pm_base.specs.Meshes.{mesh_of};
+
+use crate::{Items, OutOfMemory, Points};
+use std::alloc::Global;
 
 /// The corners of a face, as vertex numbers from 0, in the face's own cyclic order.
 #[derive(Clone, Copy, Debug, PartialEq, Eq)]
@@ -17,4 +21,15 @@ pub type Triples = Items<Corners>;
 pub struct Mesh {
     pub points: Points,
     pub faces: Triples,
+}
+
+impl Mesh {
+    /// An equal mesh in memory of its own.
+    pub fn copy(&self, alloc: Global) -> Result<Mesh, OutOfMemory>
+        ensures { IfOk result (λ mesh. mesh_of mesh ≡ mesh_of self.now) }
+    {
+        let points = self.points.copy(alloc)?;
+        let faces = self.faces.copy(alloc)?;
+        Ok(Mesh { points, faces })
+    }
 }

@@ -1,9 +1,10 @@
 -- The corners of a face in order, and the side of a new face that runs from one child to the other.
 use Rattle.std.proofs.Common.{◌≡◌, ℕ, ◌+◌, ◌*◌, ◌%◌, ◌<◌, true, false, cond, not, ◌&&◌, ◌||◌, ◌⊎◌, inl, inr, refl, arith}
 use Rattle.std.proofs.lemmas.Bool.{cases_eq, or_cases, and_parts, not-true, both_ways, false_from_ne_true}
+use Rattle.pm_base.specs.Sides.{face_of, next}
 use Rattle.pm_forest.specs.declared.parts.Face.{Face}
 use Rattle.pm_forest.specs.Forest.{Hierarchy, leaf_count, interval_of, holds, Holds}
-use Rattle.pm_forest.specs.Faces.{corners_of, face_of, next, from_leaf, to_leaf}
+use Rattle.pm_forest.specs.Faces.{corners_of, from_leaf, to_leaf}
 use Rattle.pm_forest.specs.Rules.{runs, runs_from}
 
 -- The sides of face f: the corner where each begins, and the side that follows it.

@@ -3,9 +3,9 @@
 use Rattle.std.proofs.Common.{◌≡◌, ◌≢◌, ℕ, zero, suc, ◌+◌, ◌<◌, ◌≤◌, eqb, Bool, true, false, List, [], ◌∷◌, length, sum, All, inl, inr, refl, sym, ap, ◌∙◌, subst, arith}
 use Rattle.std.proofs.lemmas.Bool.{cases_Bool, cases_lt, cases_eq, eqb-true, eq-eqb, ne_eqb, lt-ltb, le-ltb}
 use Rattle.std.proofs.lemmas.List.{length-map}
+use Rattle.pm_base.specs.Counts.{one_if}
 use Rattle.pm_forest.specs.Forest.{Hierarchy, record_at, record_count, widths, leaf_count, s_of, t_of, u_of, first_part, rest, root_interval, root_of, interval_after, interval_of, holds, Holds, HasForestShape}
 use Rattle.pm_forest.specs.Fronts.{ancestor_after, ancestor_of, every}
-use Rattle.pm_forest.specs.Faces.{one_if}
 use Rattle.pm_forest.specs.Tables.{IsSingle, leaf_node_of}
 use Rattle.pm_forest.proofs.Nodes.{within-true, within-from, interval-kept, interval_of-t, interval_of-u, holds-u_from_s}
 use Rattle.pm_forest.proofs.Ancestors.{move, stays, to_t, to_u, ancestor-lt, holds-ancestor, holds-ancestor_of, active-ancestor, ancestor_of-unique, place-s}

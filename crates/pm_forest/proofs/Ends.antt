@@ -2,9 +2,10 @@
 -- outside s.
 use Rattle.std.proofs.Common.{◌≡◌, ℕ, ◌*◌, ◌<◌, Bool, false, Some, inl, inr, sym, ap, ◌∙◌, arith}
 use Rattle.std.proofs.lemmas.Bool.{cases_Bool}
+use Rattle.pm_base.specs.Sides.{face_of, next}
 use Rattle.pm_forest.specs.Forest.{Hierarchy, s_of, t_of, u_of, holds, Holds}
 use Rattle.pm_forest.specs.Fronts.{ancestor_of}
-use Rattle.pm_forest.specs.Faces.{face_count, revealed_by, is_left, face_of, next, from_leaf, to_leaf, inner_of, IsForest}
+use Rattle.pm_forest.specs.Faces.{face_count, revealed_by, is_left, from_leaf, to_leaf, inner_of, IsForest}
 use Rattle.pm_forest.proofs.Kept.{joined}
 use Rattle.pm_forest.proofs.Sides.{next-face, inner-face}
 use Rattle.pm_forest.proofs.FaceNumbers.{record-lt}

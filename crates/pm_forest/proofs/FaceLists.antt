@@ -4,10 +4,11 @@ use Rattle.std.proofs.lemmas.Bool.{cases_lt, cases_eq, eq-eqb, ne_eqb, le-leb, l
 use Rattle.std.proofs.lemmas.List.{get_or_append_left, get_or-append_right, take_all}
 use Rattle.std.specs.List.{flat_map}
 use Rattle.std.specs.Option.{unwrap_or}
+use Rattle.pm_base.specs.Counts.{one_if}
 use Rattle.pm_forest.specs.declared.parts.NewFace.{NewFace}
 use Rattle.pm_forest.specs.declared.parts.Record.{Record}
 use Rattle.pm_forest.specs.Forest.{Hierarchy, record_at, record_count}
-use Rattle.pm_forest.specs.Faces.{one_if, no_corners, no_face, face_in, faces_in, faces_of, first_face, face_count, revealed_after, is_left, corners_at, corners_of}
+use Rattle.pm_forest.specs.Faces.{no_corners, no_face, face_in, faces_in, faces_of, first_face, face_count, revealed_after, is_left, corners_at, corners_of}
 use Rattle.pm_forest.proofs.Prefix.{cut, cut-more, faces_of-with_record}
 
 length-face_in : (o : Option NewFace) → length (face_in o) ≡ one_if (is_some o)

@@ -2,8 +2,10 @@
 use Rattle.std.proofs.Common.{true, ◌⊎◌, ◌≡◌, ℕ, zero, suc, ◌+◌, ◌*◌, ◌<◌, ◌≤◌, leb, Some, is_some, inl, inr, refl, sym, ap, ◌∙◌, subst, arith}
 use Rattle.std.proofs.lemmas.Bool.{cases_Bool, leb-true, leb-false, le-leb, lt-leb, cases_eq, cases_lt, cond-true, cond-false}
 use Rattle.std.proofs.lemmas.Option.{none-some, same_Some}
+use Rattle.pm_base.specs.Counts.{one_if}
+use Rattle.pm_base.specs.Sides.{face_of}
 use Rattle.pm_forest.specs.Forest.{Hierarchy, record_at, record_count}
-use Rattle.pm_forest.specs.Faces.{one_if, first_face, face_count, revealed_after, revealed_by, face_of, record_of}
+use Rattle.pm_forest.specs.Faces.{first_face, face_count, revealed_after, revealed_by, record_of}
 
 module _ (h : Hierarchy) where
   pub first_face-mono : (k n : ℕ) → k ≤ n → first_face h k ≤ first_face h n

@@ -1,10 +1,11 @@
 -- What is wrong with a face of the coming record, and with a face whose input number is too great.
 use Rattle.std.proofs.Common.{◌≡◌, ℕ, ◌+◌, ◌-◌, ◌*◌, ◌<◌, ◌≤◌, Bool, ◌||◌, not, if◌then◌else◌, nat_le, nat_lt, drop, Option, None, Some, is_some, refl, arith}
 use Rattle.std.proofs.Math.ListN.{drop_of_length-le}
+use Rattle.pm_base.specs.Counts.{one_if}
 use Rattle.pm_forest.specs.declared.parts.Face.{Face}
 use Rattle.pm_forest.specs.declared.parts.Record.{Record}
 use Rattle.pm_forest.specs.Forest.{Hierarchy, Interval, leaf_count, node_count, record_count, t_of, u_of, interval_of}
-use Rattle.pm_forest.specs.Faces.{one_if, faces_of, first_face, face_count, revealed_by}
+use Rattle.pm_forest.specs.Faces.{faces_of, first_face, face_count, revealed_by}
 use Rattle.pm_forest.specs.Rules.{with_record, runs, new_face_is_bad, past_from}
 use Rattle.pm_forest.specs.Tables.{all_of}
 use Rattle.pm_forest.proofs.FaceNumbers.{revealed-parts}

@@ -4,12 +4,13 @@ use Rattle.std.proofs.lemmas.List.{get_or_read, nil_from_length, length_push, le
 use Rattle.std.specs.Prelude.{IfSome}
 use Rattle.std.specs.Option.{option_map}
 use Rattle.pm_base.specs.Held.{Held}
+use Rattle.pm_base.specs.Counts.{one_if}
 use Rattle.pm_forest.specs.declared.parts.Root.{Root}
 use Rattle.pm_forest.specs.declared.parts.Face.{Face}
 use Rattle.pm_forest.specs.declared.parts.NewFace.{NewFace}
 use Rattle.pm_forest.specs.declared.parts.Record.{Record}
 use Rattle.pm_forest.specs.Forest.{widths_of, root_of, node_count, record_count, interval_of, splitter_of, HasForestShape}
-use Rattle.pm_forest.specs.Faces.{no_face, one_if, face_count}
+use Rattle.pm_forest.specs.Faces.{no_face, face_count}
 use Rattle.pm_forest.specs.Rules.{counts_are_bad, with_record}
 use Rattle.pm_forest.specs.Tables.{Grown, grown, AreTables, Parts, IsGrowing, units_in, most_faces, WithoutFaces, owners_from, record_total, units, with_new_face}
 use Rattle.pm_forest.proofs.OwnerLaws.{get_or-owners_from, length-owners_from, owners_from-push}

@@ -2,13 +2,14 @@
 use Rattle.std.proofs.Common.{◌≡◌, ◌≢◌, ℕ, ◌+◌, ◌<◌, ◌≤◌, eqb, Bool, true, false, cond, List, [], ◌∷◌, ◌++◌, length, sum, get_or, set, replicate, None, Some, Option, is_some, inl, inr, refl, sym, ap, ◌∙◌, arith, length-set}
 use Rattle.std.proofs.lemmas.Bool.{cases_lt, cases_eq, eq-eqb, ne_eqb, le-leb, lt-leb, cond-true, cond-false}
 use Rattle.std.proofs.lemmas.List.{append-nil, append_assoc, get_or_append_left, get_or_push, get_or-set_same, get_or-set_other, get_or-replicate, length_push, length-replicate}
+use Rattle.pm_base.specs.Counts.{one_if}
 use Rattle.pm_forest.specs.declared.parts.Root.{Root}
 use Rattle.pm_forest.specs.declared.parts.Face.{Face}
 use Rattle.pm_forest.specs.declared.parts.NewFace.{NewFace}
 use Rattle.pm_forest.specs.declared.parts.Record.{Record}
 use Rattle.pm_forest.specs.Forest.{Hierarchy, widths_of, node_count, record_count, t_of, u_of, interval_after, interval_of, splitter_of, HasForestShape}
 use Rattle.pm_forest.specs.Fronts.{every, ancestor_after}
-use Rattle.pm_forest.specs.Faces.{one_if, face_in, faces_in, faces_of, first_face, face_count, revealed_after, revealed_by}
+use Rattle.pm_forest.specs.Faces.{face_in, faces_in, faces_of, first_face, face_count, revealed_after, revealed_by}
 use Rattle.pm_forest.specs.Rules.{with_record}
 use Rattle.pm_forest.specs.Tables.{IsSingle, leaf_node_of, AreTables, WithoutFaces, units, with_new_face}
 use Rattle.pm_forest.proofs.Ancestors.{ancestor-lt}

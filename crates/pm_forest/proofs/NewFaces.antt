@@ -1,10 +1,11 @@
 -- What it means that a record's new face has no fault.
 use Rattle.std.proofs.Common.{◌≡◌, ℕ, suc, ◌+◌, ◌-◌, ◌*◌, ◌<◌, ◌≤◌, leb, ltb, Bool, true, false, cond, not, ◌||◌, None, is_some, refl, sym, ap, ◌∙◌, arith}
 use Rattle.std.proofs.lemmas.Bool.{leb-false, ltb-false, or_parts, not-false}
+use Rattle.pm_base.specs.Counts.{one_if}
 use Rattle.pm_forest.specs.declared.parts.Face.{Face}
 use Rattle.pm_forest.specs.declared.parts.Record.{Record}
 use Rattle.pm_forest.specs.Forest.{Hierarchy, record_at, record_count, Interval, leaf_count, s_of, t_of, u_of, interval_of, HasForestShape}
-use Rattle.pm_forest.specs.Faces.{one_if, first_face, face_count}
+use Rattle.pm_forest.specs.Faces.{first_face, face_count}
 use Rattle.pm_forest.specs.Rules.{with_record, runs, new_face_is_bad, new_face_fault}
 use Rattle.pm_forest.proofs.Nodes.{interval-kept}
 use Rattle.pm_forest.proofs.UnitLaws.{passed}

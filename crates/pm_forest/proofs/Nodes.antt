@@ -3,7 +3,8 @@
 use Rattle.std.proofs.Common.{◌≡◌, ◌≢◌, ℕ, zero, suc, ◌-◌, ◌/◌, ◌%◌, ◌<◌, ◌≤◌, eqb, ltb, Bool, true, false, Option, Some, None, length, ◌⊎◌, inl, inr, refl, sym, ap, ◌∙◌, subst, arith}
 use Rattle.std.proofs.lemmas.Bool.{ltb-true, ltb-false, le-ltb, leb-true, leb-false, le-leb, lt-ltb, eqb-true, eq-eqb, ne_eqb, and_parts, and_from, and_cases, cases_eq, cases_lt, cases_Bool, cond-true, cond-false, both_ways}
 use Rattle.std.proofs.lemmas.Option.{none-some, same_Some}
-use Rattle.pm_forest.specs.Forest.{Hierarchy, Interval, record_at, record_count, s_of, t_of, u_of, node_count, within, first_part, rest, interval_after, interval_of, holds, Holds, Makes, maker_of, find_below, splitter_of, HasForestShape}
+use Rattle.pm_base.specs.Sides.{find_below}
+use Rattle.pm_forest.specs.Forest.{Hierarchy, Interval, record_at, record_count, s_of, t_of, u_of, node_count, within, first_part, rest, interval_after, interval_of, holds, Holds, Makes, maker_of, splitter_of, HasForestShape}
 
 -- Leaf intervals.
 

@@ -4,9 +4,11 @@ use Rattle.std.proofs.lemmas.Bool.{cases_Bool, cases_lt, cases_eq, eqb-false, eq
 use Rattle.std.proofs.lemmas.List.{get_or-take, get_or_append_left, get_or_push, length_push, length-take-le, take_more, append-nil}
 use Rattle.std.proofs.lemmas.Option.{none-some}
 use Rattle.std.specs.List.{flat_map}
+use Rattle.pm_base.specs.Sides.{find_below}
+use Rattle.pm_base.specs.Counts.{one_if}
 use Rattle.pm_forest.specs.declared.parts.Record.{Record}
-use Rattle.pm_forest.specs.Forest.{Hierarchy, no_record, record_at, record_count, s_of, t_of, u_of, node_count, first_part, rest, interval_after, interval_of, find_below, splitter_of, HasForestShape}
-use Rattle.pm_forest.specs.Faces.{one_if, faces_in, faces_of, first_face, face_count, revealed_after, revealed_by}
+use Rattle.pm_forest.specs.Forest.{Hierarchy, no_record, record_at, record_count, s_of, t_of, u_of, node_count, first_part, rest, interval_after, interval_of, splitter_of, HasForestShape}
+use Rattle.pm_forest.specs.Faces.{faces_in, faces_of, first_face, face_count, revealed_after, revealed_by}
 use Rattle.pm_forest.specs.Rules.{with_record}
 use Rattle.pm_forest.proofs.Nodes.{interval-kept}
 

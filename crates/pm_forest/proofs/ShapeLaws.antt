@@ -6,11 +6,13 @@ use Rattle.std.proofs.lemmas.List.Elements.{All-nil, All-cons, All-map, All-appe
 use Rattle.std.proofs.lemmas.Option.{none-some}
 use Rattle.std.specs.Option.{unwrap_or}
 use Rattle.pm_base.specs.declared.ids.Side.{Side}
+use Rattle.pm_base.specs.Counts.{one_if}
+use Rattle.pm_base.specs.Sides.{face_of}
 use Rattle.pm_forest.specs.declared.parts.Root.{Root}
 use Rattle.pm_forest.specs.declared.parts.Face.{Face}
 use Rattle.pm_forest.specs.declared.parts.NewFace.{NewFace}
 use Rattle.pm_forest.specs.Forest.{Hierarchy, no_record, record_at, record_count, widths, leaf_count, s_of, t_of, u_of, interval_of, Holds, HasForestShape}
-use Rattle.pm_forest.specs.Faces.{no_corners, no_face, corners_at, one_if, faces_of, first_face, face_count, revealed_after, revealed_by, is_left, corners_of, face_of, inner_of, HasFaceShape, IsForest}
+use Rattle.pm_forest.specs.Faces.{no_corners, no_face, corners_at, faces_of, first_face, face_count, revealed_after, revealed_by, is_left, corners_of, inner_of, HasFaceShape, IsForest}
 use Rattle.pm_forest.specs.Rules.{root_fault, base_is_bad, base_fault, split_is_bad, head_is_bad, head_fault, bare, left_only, with_record, head_of, new_face_fault, word_of, face_fault, record_fault, record_fault_after, past_from, past_fault, counts_of, HasShape}
 use Rattle.pm_forest.specs.Shaping.{SplitFits}
 use Rattle.pm_forest.specs.Tables.{IsSingle, leaf_node_of}

@@ -5,6 +5,7 @@ use Rattle.std.proofs.lemmas.Bool.Decides.{nat_tests}
 use Rattle.std.proofs.lemmas.List.{append-nil, nil_from_length, length_push, map_push, flat_map_more}
 use Rattle.std.proofs.lemmas.List.Sums.{sum_by_push}
 use Rattle.pm_base.specs.Place.{place_of}
+use Rattle.pm_base.specs.Counts.{one_if}
 use Rattle.pm_forest.specs.declared.parts.Counts.{Counts}
 use Rattle.pm_forest.specs.declared.parts.Root.{Root}
 use Rattle.pm_forest.specs.declared.parts.Face.{Face}
@@ -12,7 +13,7 @@ use Rattle.pm_forest.specs.declared.parts.Head.{Head}
 use Rattle.pm_forest.specs.declared.parts.Record.{Record}
 use Rattle.pm_forest.specs.Marks.{AreMarked}
 use Rattle.pm_forest.specs.Forest.{Hierarchy, widths_of, leaf_count}
-use Rattle.pm_forest.specs.Faces.{one_if, faces_of}
+use Rattle.pm_forest.specs.Faces.{faces_of}
 use Rattle.pm_forest.specs.Rules.{counts_are_bad, width_is_bad, root_inputs, child_inputs, node_inputs, face_inputs, root_fault, base_fault, presence_is_bad, head_is_bad, head_fault, past_fault, with_record, head_with, AllFit, counts_of, HasShape}
 use Rattle.pm_forest.specs.Tables.{Grown, grown, all_of}
 use Rattle.pm_forest.specs.Shaping.{started, SplitFits, IsShaping}

@@ -1,9 +1,10 @@
 -- In a front the kept faces are the base faces and the faces of split records.
 use Rattle.std.proofs.Common.{◌≡◌, ◌≢◌, ◌⊎◌, ℕ, ◌+◌, ◌*◌, ◌<◌, eqb, Bool, true, false, not, ◌&&◌, Option, Some, None, inl, inr, refl, sym, ap, ◌∙◌, subst, arith}
 use Rattle.std.proofs.lemmas.Bool.{eq-eqb, ne_eqb, cases_eq, cases_Bool, true≢false, and_left, and_right}
+use Rattle.pm_base.specs.Sides.{face_of, next}
 use Rattle.pm_forest.specs.Forest.{Hierarchy, record_count, s_of, Holds}
 use Rattle.pm_forest.specs.Fronts.{IsFront, made_in, ancestor_after, ancestor_of}
-use Rattle.pm_forest.specs.Faces.{face_count, revealed_by, record_of, face_of, next, from_leaf, to_leaf, inner_of, IsForest}
+use Rattle.pm_forest.specs.Faces.{face_count, revealed_by, record_of, from_leaf, to_leaf, inner_of, IsForest}
 use Rattle.pm_forest.specs.Kept.{is_kept, is_shown}
 use Rattle.pm_forest.proofs.Nodes.{holds-s_from_t, holds-s_from_u}
 use Rattle.pm_forest.proofs.Ancestors.{apart_later}

@@ -1,8 +1,9 @@
 -- Sides of a face: the next one, three times round, and the inner side of a record's face.
 use Rattle.std.proofs.Common.{◌≡◌, ◌≢◌, ℕ, ◌+◌, ◌-◌, ◌*◌, ◌%◌, cond, ◌⊎◌, inl, inr, arith}
 use Rattle.std.proofs.lemmas.Bool.{eq-eqb, ne_eqb, cases_eq, cases_Bool, cond-true, cond-false}
+use Rattle.pm_base.specs.Sides.{face_of, next}
 use Rattle.pm_forest.specs.Forest.{Hierarchy, t_of, u_of, holds}
-use Rattle.pm_forest.specs.Faces.{is_left, face_of, next, from_leaf, inner_of}
+use Rattle.pm_forest.specs.Faces.{is_left, from_leaf, inner_of}
 
 pub next_cases : (e : ℕ) → ((e % 3 ≡ 2) × (next e ≡ e - 2)) ⊎ ((e % 3 ≢ 2) × (next e ≡ e + 1))
 unfolding next

@@ -1,9 +1,10 @@
 -- What a view of a hierarchy of the right shape may rest on: kept faces by their records, corners, splits, and the climb
 -- to an ancestor.
 use Rattle.std.proofs.Common.{◌≡◌, ℕ, ◌+◌, ◌*◌, ◌<◌, Bool, true, false, Some, ap, ◌∙◌, arith}
+use Rattle.pm_base.specs.Sides.{face_of}
 use Rattle.pm_forest.specs.Forest.{Hierarchy, record_count, leaf_count, s_of, maker_of}
 use Rattle.pm_forest.specs.Fronts.{IsFront, made_in, is_active, ancestor_of, every, no_records, with}
-use Rattle.pm_forest.specs.Faces.{face_count, revealed_by, corners_of, face_of, from_leaf}
+use Rattle.pm_forest.specs.Faces.{face_count, revealed_by, corners_of, from_leaf}
 use Rattle.pm_forest.specs.Kept.{is_kept, is_shown}
 use Rattle.pm_forest.specs.Rules.{HasShape}
 use Rattle.pm_forest.proofs.Active.{is_active-true}

@@ -2,6 +2,8 @@
 use Rattle.std.specs.Prelude.{◌≡◌, ◌≢◌, ℕ, ◌+◌, ◌-◌, ◌*◌, ◌/◌, ◌%◌, ◌<◌, ◌==◌, nat_le, Bool, true, false, cond, ◌&&◌, List, [], ◌∷◌, ◌++◌, length, Option, Some, None, is_some, slice_index_or, unwrap_or}
 use Rattle.std.specs.List.{flat_map}
 use Rattle.std.proofs.Common.{zero, suc}
+use Rattle.pm_base.specs.Sides.{face_of, next}
+use Rattle.pm_base.specs.Counts.{one_if}
 use Rattle.pm_forest.specs.declared.parts.Face.{Face}
 use Rattle.pm_forest.specs.declared.parts.NewFace.{NewFace}
 use Rattle.pm_forest.specs.declared.parts.Record.{Record}
@@ -25,10 +27,6 @@ no_corners = record { a = 0; b = 0; c = 0; input = 0 }
 
 abbrev pub no_face : NewFace
 no_face = record { face = no_corners; first = None; second = None }
-
-abbrev pub one_if : Bool → ℕ
-one_if true = 1
-one_if false = 0
 
 -- The number of the first face of record k: how many faces come before it.
 unfoldable pub first_face : Hierarchy → ℕ → ℕ
@@ -60,13 +58,6 @@ corners_at h f (Some k) = (new_face h k f).face
 -- The corners of face f.
 unfoldable pub corners_of : Hierarchy → ℕ → Face
 corners_of h f = corners_at h f (revealed_by h f)
-
-abbrev pub face_of : ℕ → ℕ
-face_of e = e / 3
-
--- The side that follows e in its face.
-unfoldable pub next : ℕ → ℕ
-next e = cond (e % 3 == 2) (e - 2) (e + 1)
 
 -- The leaves that side e runs from and to.
 unfoldable pub from_leaf : Hierarchy → ℕ → ℕ

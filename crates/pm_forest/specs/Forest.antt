@@ -1,6 +1,7 @@
 -- A hierarchy of vertex splits, and the interval of leaves of each of its nodes (Hoppe 1997, the vertex forest).
 use Rattle.std.specs.Prelude.{map, ◌≡◌, ◌≢◌, ℕ, ◌+◌, ◌*◌, ◌-◌, ◌<◌, ◌/◌, ◌==◌, nat_lt, nat_le, Bool, true, cond, ◌&&◌, List, [], ◌∷◌, length, sum, Option, None, Some, pos, slice_index_or, ◌⊎◌}
 use Rattle.std.proofs.Common.{zero, suc}
+use Rattle.pm_base.specs.Sides.{find_below}
 use Rattle.pm_forest.specs.declared.parts.Root.{Root}
 use Rattle.pm_forest.specs.declared.parts.Face.{Face}
 use Rattle.pm_forest.specs.declared.parts.Child.{Child}
@@ -98,11 +99,6 @@ Makes h j v = (v ≡ t_of h j) ⊎ (v ≡ u_of h j)
 -- The record that made node v; none for a root.
 abbrev pub maker_of : Hierarchy → ℕ → Option ℕ
 maker_of h v = cond (nat_lt v (length h.roots)) None (Some ((v - length h.roots) / 2))
-
--- The greatest number below n that passes, if any.
-abbrev pub find_below : (ℕ → Bool) → ℕ → Option ℕ
-find_below p zero = None
-find_below p (suc n) = cond (p n) (Some n) (find_below p n)
 
 -- The record that splits node v, if one does.
 unfoldable pub splitter_of : Hierarchy → ℕ → Option ℕ

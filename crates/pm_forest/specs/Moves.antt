@@ -1,11 +1,11 @@
 -- What a front answers to a split (Hoppe 1997, with borders: a missing neighbour asks nothing).
 use Rattle.std.specs.Prelude.{ℕ, Bool, not, ◌&&◌, List, [], ◌∷◌, ◌++◌, Option, Some, None, if◌then◌else◌}
 use Rattle.pm_base.specs.declared.ids.Side.{Side}
+use Rattle.pm_base.specs.Sides.{face_of}
 use Rattle.pm_forest.specs.declared.parts.NewFace.{NewFace}
 use Rattle.pm_forest.specs.declared.parts.Record.{Record}
 use Rattle.pm_forest.specs.Forest.{Hierarchy, record_at, s_of}
 use Rattle.pm_forest.specs.Fronts.{is_active}
-use Rattle.pm_forest.specs.Faces.{face_of}
 use Rattle.pm_forest.specs.Kept.{is_kept}
 
 -- The recorded neighbour, if there is one, by its side's number.

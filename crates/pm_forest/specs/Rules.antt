@@ -3,6 +3,7 @@ use Rattle.std.specs.Prelude.{◌≡◌, ℕ, ◌+◌, ◌-◌, ◌*◌, List, [
 use Rattle.std.specs.List.{flat_map}
 use Rattle.pm_base.specs.Place.{is_place, place_of}
 use Rattle.pm_base.specs.declared.ids.Side.{Side}
+use Rattle.pm_base.specs.Counts.{one_if}
 use Rattle.pm_forest.specs.declared.parts.Counts.{Counts}
 use Rattle.pm_forest.specs.declared.parts.Root.{Root}
 use Rattle.pm_forest.specs.declared.parts.Face.{Face}
@@ -13,7 +14,7 @@ use Rattle.pm_forest.specs.declared.parts.Shape.{Shape}
 use Rattle.pm_forest.specs.declared.parts.Shape.TheVariants.{BadRoot, BadFace, BadRecord, BadInput}
 use Rattle.pm_forest.specs.Marks.{is_used}
 use Rattle.pm_forest.specs.Forest.{Hierarchy, Interval, within, widths_of, root_of, leaf_count, node_count, record_count, s_of, t_of, u_of, interval_of, splitter_of}
-use Rattle.pm_forest.specs.Faces.{one_if, faces_of, first_face, face_count, revealed_by}
+use Rattle.pm_forest.specs.Faces.{faces_of, first_face, face_count, revealed_by}
 
 -- At most 1,048,576 leaves and base faces; roots are among the leaves, and there is one if there is a leaf; each record
 -- adds one node without children, so there are as many as leaves that aren't roots.

@@ -1,6 +1,7 @@
 -- The tables that stand beside a forest that grows.
 use Rattle.std.specs.Prelude.{◌≡◌, ℕ, ◌+◌, ◌*◌, ◌<◌, ◌≤◌, List, [], ◌∷◌, ◌++◌, replicate, length, sum, Bool, false, min, Option, None, Some, is_some, slice_index_or, if◌then◌else◌, ◌⊎◌}
 use Rattle.pm_base.specs.Held.{Held}
+use Rattle.pm_base.specs.Counts.{one_if}
 use Rattle.pm_forest.specs.declared.parts.Counts.{Counts}
 use Rattle.pm_forest.specs.declared.parts.Root.{Root}
 use Rattle.pm_forest.specs.declared.parts.Face.{Face}
@@ -8,7 +9,7 @@ use Rattle.pm_forest.specs.declared.parts.NewFace.{NewFace}
 use Rattle.pm_forest.specs.declared.parts.Record.{Record}
 use Rattle.pm_forest.specs.Forest.{Hierarchy, Interval, widths_of, leaf_count, node_count, interval_of, splitter_of, HasForestShape}
 use Rattle.pm_forest.specs.Fronts.{ancestor_of, every}
-use Rattle.pm_forest.specs.Faces.{one_if, faces_of, face_count, revealed_by}
+use Rattle.pm_forest.specs.Faces.{faces_of, face_count, revealed_by}
 use Rattle.pm_forest.specs.Rules.{with_record}
 
 -- The limits, the whole units so far, and a record some of whose faces may still come.

@@ -8,6 +8,7 @@ use Rattle.std.proofs.lemmas.List.{append-nil}
 use Rattle.std.proofs.lemmas.Bool.{leb-true, and_parts, not-false, or_parts, ne_eqb}
 use Rattle.pm_base.specs.Place.{Place, is_place, is_coordinate, place_of}
 use Rattle.pm_base.specs.declared.ids.Side.{Side}
+use Rattle.pm_base.specs.Counts.{one_if}
 use Rattle.pm_forest.specs.declared.parts.Counts.{Counts}
 use Rattle.pm_forest.specs.declared.parts.Root.{Root}
 use Rattle.pm_forest.specs.declared.parts.Face.{Face}
@@ -17,7 +18,6 @@ use Rattle.pm_forest.specs.declared.parts.Record.{Record}
 use Rattle.pm_forest.specs.declared.parts.Shape.{Shape}
 use Rattle.pm_forest.specs.declared.parts.Unfinished.{Unfinished}
 use Rattle.pm_forest.specs.Forest.{Hierarchy}
-use Rattle.pm_forest.specs.Faces.{one_if}
 use Rattle.pm_forest.specs.Rules.{AllFit, root_fault, base_fault, split_is_bad, presence_is_bad, head_is_bad, head_fault, bare, with_record, word_of, head_of, face_fault, record_fault, record_fault_after}
 use Rattle.pm_forest.specs.Shaping.{started, side_of, with_face, unfinished}
 use Rattle.pm_forest.proofs.UnitLaws.{passed, first_none}

@@ -4,6 +4,7 @@ use Rattle.std.specs.Int.{w32}
 use Rattle.std.proofs.lemmas.Bool.{eqb-false, ltb-false, or_parts, cases_eq, eq-eqb, ne_eqb}
 use Rattle.std.proofs.lemmas.Option.{option_and_then_some, same_Some}
 use Rattle.std.proofs.lemmas.Int.{of_z-to_z}
+use Rattle.pm_base.specs.Counts.{one_if}
 use Rattle.pm_forest.specs.declared.parts.Root.{Root}
 use Rattle.pm_forest.specs.declared.parts.Face.{Face}
 use Rattle.pm_forest.specs.declared.parts.Head.{Head}
@@ -11,7 +12,6 @@ use Rattle.pm_forest.specs.declared.parts.NewFace.{NewFace}
 use Rattle.pm_forest.specs.declared.parts.Record.{Record}
 use Rattle.pm_forest.specs.declared.parts.Unfinished.{Unfinished}
 use Rattle.pm_forest.specs.Forest.{Hierarchy}
-use Rattle.pm_forest.specs.Faces.{one_if}
 use Rattle.pm_forest.specs.Rules.{split_is_bad, presence_is_bad, head_is_bad, head_fault, new_face_fault, bare, left_only, with_record, word_of, head_with, head_of, face_fault, record_fault, record_fault_after}
 use Rattle.pm_forest.specs.Shaping.{started, side_of, next_face, with_face, unfinished}
 use Rattle.pm_forest.proofs.UnitLaws.{passed}

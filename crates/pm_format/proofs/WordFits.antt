@@ -6,13 +6,14 @@ use Rattle.std.proofs.lemmas.Int.{ints}
 use Rattle.std.proofs.lemmas.List.Elements.{All-head, All-tail, All-from_get_or}
 use Rattle.std.proofs.lemmas.Bool.{cases_eq, eq-eqb, ne_eqb, eqb-true, not-false, leb-true, leb-false, ltb-false, and_parts, or_parts}
 use Rattle.pm_base.specs.Place.{Place, is_place, is_coordinate}
+use Rattle.pm_base.specs.Counts.{one_if}
 use Rattle.pm_forest.specs.declared.parts.Counts.{Counts}
 use Rattle.pm_forest.specs.declared.parts.Root.{Root}
 use Rattle.pm_forest.specs.declared.parts.Face.{Face}
 use Rattle.pm_forest.specs.declared.parts.NewFace.{NewFace}
 use Rattle.pm_forest.specs.declared.parts.Record.{Record}
 use Rattle.pm_forest.specs.Forest.{Hierarchy, no_record, record_at, record_count, leaf_count, widths_of, s_of, t_of, u_of, interval_of}
-use Rattle.pm_forest.specs.Faces.{one_if, faces_of, first_face, face_count}
+use Rattle.pm_forest.specs.Faces.{faces_of, first_face, face_count}
 use Rattle.pm_forest.specs.Marks.{is_used}
 use Rattle.pm_forest.specs.Rules.{width_is_bad, vertex_input_is_bad, face_input_is_bad, face_inputs, root_inputs, node_inputs, root_fault, base_is_bad, base_fault, runs, new_face_is_bad, new_face_fault, children_fault, head_is_bad, head_fault, bare, left_only, with_record, word_of, head_of, face_fault, counts_of, HasShape}
 use Rattle.pm_forest.proofs.UnitLaws.{AllFit-all, passed, BaseFits, base_fits}
