@@ -1,0 +1,9 @@
+pub mod Walks
+pub mod Valid
+pub mod Moves
+pub mod WalkLaws
+pub mod ClosedLaws
+pub mod OpeningLaws
+pub mod Targets
+pub mod Plans
+pub mod PlanLaws
