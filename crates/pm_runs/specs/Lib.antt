@@ -1,0 +1,12 @@
+pub mod Surfaces
+pub mod Pairs
+pub mod Steps
+pub mod Planes
+pub mod Runs
+pub mod Merged
+pub mod Collapses
+pub mod Nearby
+pub mod Counts
+pub mod Octahedron
+pub mod Laws
+pub mod RunLaws
