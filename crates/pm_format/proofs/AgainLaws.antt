@@ -1,6 +1,5 @@
 -- What has no fault is read again from its words.
-use Rattle.std.proofs.Common.{◌≡◌, ℕ, ◌+◌, ◌-◌, ◌*◌, eqb, ℤ, Bool, true, false, ◌&&◌, ◌||◌, not, is_some, List, [], ◌∷◌, ◌++◌, Option, Some, None, length, refl, sym, ◌∙◌, ap, arith, append_assoc}
-use Rattle.std.specs.Option.{option_and_then}
+use Rattle.std.proofs.Common.{◌≡◌, ℕ, ◌+◌, ◌-◌, ◌*◌, eqb, ℤ, Bool, true, false, ◌&&◌, ◌||◌, not, is_some, List, [], ◌∷◌, ◌++◌, Option, Some, None, Result, Ok, length, refl, sym, ◌∙◌, ap, arith, append_assoc}
 use Rattle.std.specs.List.{flat_map}
 use Rattle.std.specs.Int.{w32, cast_signed, cast_unsigned}
 use Rattle.std.proofs.lemmas.Int.{to_z-of_z, fits_signed_from_abs}
@@ -21,8 +20,9 @@ use Rattle.pm_forest.specs.Forest.{Hierarchy}
 use Rattle.pm_forest.specs.Rules.{AllFit, root_fault, base_fault, split_is_bad, presence_is_bad, head_is_bad, head_fault, bare, with_record, word_of, head_of, face_fault, record_fault, record_fault_after}
 use Rattle.pm_forest.specs.Shaping.{started, side_of, with_face, unfinished}
 use Rattle.pm_forest.proofs.UnitLaws.{passed, first_none}
+use Rattle.pm_format.specs.declared.stop.Stop.{Stop}
 use Rattle.pm_format.specs.Stream.{root_words, base_words, new_face_words, head_words, record_words}
-use Rattle.pm_format.specs.Reading.{root_at, base_at, head_at, fitting, units_at, root_after, base_after, face_after, face_if, faces_after, record_after, record_after_all}
+use Rattle.pm_format.specs.Reading.{then_read, read_map, root_at, base_at, head_at, fitting, units_at, root_after, base_after, face_after, face_if, faces_after, record_after, record_after_all}
 use Rattle.pm_format.proofs.ReadingLaws.{Reader}
 
 -- Places
@@ -44,7 +44,7 @@ place_again p is =
 -- One unit
 
 fitting_none : {X : Type 0} (fault : X → Option Shape) (o : Option (X × List ℕ)) (u : X × List ℕ) → o ≡ Some u →
-    fault u.0 ≡ None → fitting fault o ≡ Some u
+    fault u.0 ≡ None → fitting fault o ≡ Ok u
 fitting_none fault o u is fits = rw (is, fits) refl
 
 root_again : (r : Root) (rest : List ℕ) → is_place r.place ≡ true → root_at (root_words r ++ rest) ≡ Some (r, rest)
@@ -100,12 +100,12 @@ side_again (Some e) =
 
 face_again : (h : Hierarchy) (p : Unfinished) (n : NewFace) (rest : List ℕ) →
     face_fault (with_record h p.split) p.left_due (Some n) ≡ None →
-    face_after h p (new_face_words (Some n) ++ rest) ≡ Some (with_face p n, rest)
+    face_after h p (new_face_words (Some n) ++ rest) ≡ Ok (with_face p n, rest)
 unfolding face_after
 face_again h p n rest fits =
     let first = side_again n.first in
     let second = side_again n.second in
-    rw fits (λ j. Some (with_face p (record { face = n.face; first = first j; second = second j }), rest))
+    rw fits (λ j. Ok (with_face p (record { face = n.face; first = first j; second = second j }), rest))
 
 -- The faces of a record
 
@@ -124,34 +124,34 @@ start_again h r fits =
     λ j. unfinished (due.0 j) (due.1 j) (bare r)
 
 -- What is read after the left face.
-abbrev pub then_right : Hierarchy → Unfinished × List ℕ → Option (Unfinished × List ℕ)
+abbrev pub then_right : Hierarchy → Unfinished × List ℕ → Result (Unfinished × List ℕ) Stop
 then_right h q = face_if q.0.right_due h q.0 q.1
 
 faces_again : (h : Hierarchy) (r : Record) (left right : Option NewFace) (rest : List ℕ) →
     face_fault (with_record h (bare r)) true left ≡ None →
     face_fault (with_record h (record (bare r) { left = left })) false right ≡ None →
     faces_after h (unfinished (is_some left) (is_some right) (bare r)) ((new_face_words left ++ new_face_words right) ++ rest)
-    ≡ Some (unfinished false false (record r { left = left; right = right }), rest)
+    ≡ Ok (unfinished false false (record r { left = left; right = right }), rest)
 unfolding faces_after
 faces_again h r None None rest left_fits right_fits = refl
 faces_again h r (Some n) None rest left_fits right_fits =
-    ap (option_and_then (then_right h)) (face_again h (unfinished true false (bare r)) n rest left_fits)
+    ap (then_read (then_right h)) (face_again h (unfinished true false (bare r)) n rest left_fits)
 faces_again h r None (Some n) rest left_fits right_fits =
     face_again h (unfinished false true (bare r)) n rest right_fits
 faces_again h r (Some m) (Some n) rest left_fits right_fits =
     let left = face_again h (unfinished true true (bare r)) m (new_face_words (Some n) ++ rest) left_fits in
-    ap (option_and_then (then_right h)) left
+    ap (then_read (then_right h)) left
     ∙ face_again h (unfinished false true (record (bare r) { left = Some m })) n rest right_fits
 
 -- What is read after a head; and the record, once its faces are read.
-abbrev pub whole_record : Option (Unfinished × List ℕ) → Option (Record × List ℕ)
-whole_record o = option_and_then (λ p. Some (p.0.split, p.1)) o
+abbrev pub whole_record : Result (Unfinished × List ℕ) Stop → Result (Record × List ℕ) Stop
+whole_record r = read_map (λ p. (p.0.split, p.1)) r
 
-abbrev pub then_faces : Hierarchy → Head × List ℕ → Option (Record × List ℕ)
+abbrev pub then_faces : Hierarchy → Head × List ℕ → Result (Record × List ℕ) Stop
 then_faces h d = whole_record (faces_after h (started d.0) d.1)
 
 pub record_again : (h : Hierarchy) (r : Record) (rest : List ℕ) → record_fault h r ≡ None →
-    record_after h (record_words r ++ rest) ≡ Some (r, rest)
+    record_after h (record_words r ++ rest) ≡ Ok (r, rest)
 unfolding record_after record_fault
 record_again h r rest fits =
     let parts = first_none (head_fault h (head_of r)) _ fits in
@@ -160,30 +160,30 @@ record_again h r rest fits =
     let is = head_fits h r parts.0 in
     let read = head_again r ws is.t is.u in
     let head = fitting_none (head_fault h) (head_at (head_words r ++ ws)) (head_of r, ws) read parts.0 in
-    let others : faces_after h (started (head_of r)) ws ≡ Some (unfinished false false r, rest) =
+    let others : faces_after h (started (head_of r)) ws ≡ Ok (unfinished false false r, rest) =
     ap (λ p. faces_after h p ws) (start_again h r parts.0) ∙ faces_again h r r.left r.right rest faces.0 faces.1 in
-    ap (option_and_then (then_faces h)) head ∙ ap whole_record others
+    ap (then_read (then_faces h)) head ∙ ap whole_record others
 
 -- Units after one another
 
 -- Each unit that has no fault is read again.
 abbrev pub ReadsAgain : {X : Type 0} → Reader X → (List X → X → Option Shape) → (X → List ℕ) → Type 0
 ReadsAgain {X} read fault words =
-    (before : List X) (x : X) (rest : List ℕ) → fault before x ≡ None → read before (words x ++ rest) ≡ Some (x, rest)
+    (before : List X) (x : X) (rest : List ℕ) → fault before x ≡ None → read before (words x ++ rest) ≡ Ok (x, rest)
 
 module _ {X : Type 0} (fault : List X → X → Option Shape) (words : X → List ℕ) where
   pub units_again : (read : Reader X) → ReadsAgain read fault words → (before more : List X) (rest : List ℕ) →
       AllFit fault before more →
-      units_at read (length more) before (flat_map words more ++ rest) ≡ Some (before ++ more, rest)
+      units_at read (length more) before (flat_map words more ++ rest) ≡ Ok (before ++ more, rest)
   unfolding units_at
-  units_again read again before [] rest all = ap (λ (l : List X). Some (l, rest)) (sym (append-nil before))
+  units_again read again before [] rest all = ap (λ (l : List X). Ok (l, rest)) (sym (append-nil before))
   units_again read again before (x ∷ xs) rest all =
       let mid = flat_map words xs ++ rest in
-      let one : read before (flat_map words (x ∷ xs) ++ rest) ≡ Some (x, mid) =
+      let one : read before (flat_map words (x ∷ xs) ++ rest) ≡ Ok (x, mid) =
       ap (read before) (append_assoc (words x) (flat_map words xs) rest) ∙ again before x mid all.0 in
-      ap (option_and_then (λ (u : X × List ℕ). units_at read (length xs) (before ++ u.0 ∷ []) u.1)) one
+      ap (then_read (λ (u : X × List ℕ). units_at read (length xs) (before ++ u.0 ∷ []) u.1)) one
       ∙ units_again read again (before ++ x ∷ []) xs rest all.1
-      ∙ ap (λ (l : List X). Some (l, rest)) (append_assoc before (x ∷ []) xs)
+      ∙ ap (λ (l : List X). Ok (l, rest)) (append_assoc before (x ∷ []) xs)
 
 pub roots_again : (c : Counts) → ReadsAgain (root_after c) (root_fault c) root_words
 roots_again c before r rest fits =

@@ -4,5 +4,9 @@ pub mod TakesLaws
 pub mod RecordTakes
 pub mod AgainLaws
 pub mod WordFits
+pub mod LengthLaws
 pub mod WholeLaws
 pub mod FaceSteps
+pub mod TextLaws
+pub mod GrowLaws
+pub mod StayLaws

@@ -1,8 +1,8 @@
 -- What a record is read from, its head and then its faces, is spelled so, and none of it has a fault.
-use Rattle.std.proofs.Common.{◌≡◌, inl, inr, ℕ, zero, suc, ◌+◌, ◌*◌, eqb, ltb, Bool, true, false, ◌||◌, not, is_some, List, [], ◌∷◌, ◌++◌, Some, None, refl, sym, ◌∙◌, ap, subst, arith}
+use Rattle.std.proofs.Common.{◌≡◌, inl, inr, ℕ, zero, suc, ◌+◌, ◌*◌, eqb, ltb, Bool, true, false, ◌||◌, not, is_some, List, [], ◌∷◌, ◌++◌, Some, None, Ok, refl, sym, ◌∙◌, ap, subst, arith}
 use Rattle.std.specs.Int.{w32}
 use Rattle.std.proofs.lemmas.Bool.{eqb-false, ltb-false, or_parts, cases_eq, eq-eqb, ne_eqb}
-use Rattle.std.proofs.lemmas.Option.{option_and_then_some, same_Some}
+use Rattle.std.proofs.lemmas.Option.{same_Some}
 use Rattle.std.proofs.lemmas.Int.{of_z-to_z}
 use Rattle.pm_base.specs.Counts.{one_if}
 use Rattle.pm_forest.specs.declared.parts.Root.{Root}
@@ -18,7 +18,8 @@ use Rattle.pm_forest.proofs.UnitLaws.{passed}
 use Rattle.pm_format.specs.Words.{AreWords}
 use Rattle.pm_format.specs.Stream.{place_words, base_words, new_face_words, head_words, record_words}
 use Rattle.pm_format.specs.Reading.{FaceUnit, head_at, new_face_at, fitting, face_after, face_if, faces_after, record_after, record_after_all}
-use Rattle.pm_format.proofs.TakesLaws.{Takes, takes_both, fitting_some, Reads}
+use Rattle.pm_format.proofs.ReadingLaws.{same_Ok, then_read_ok}
+use Rattle.pm_format.proofs.TakesLaws.{Takes, takes_both, fitting_ok, Reads}
 
 -- A head
 
@@ -114,17 +115,17 @@ record FaceTakes (h : Hierarchy) (p : Unfinished) (ws : List ℕ) (q : Unfinishe
   takes : Takes ws (new_face_words (Some face)) rest
 
 face_takes : (h : Hierarchy) (p : Unfinished) (ws : List ℕ) (q : Unfinished × List ℕ) → AreWords ws →
-    face_after h p ws ≡ Some q → FaceTakes h p ws q.0 q.1
+    face_after h p ws ≡ Ok q → FaceTakes h p ws q.0 q.1
 unfolding face_after
 face_takes h p ws q fit is =
     let fault = λ (f : FaceUnit). new_face_fault (with_record h p.split) p.left_due f.face f.first f.second in
-    option_and_then_some _ (fitting fault (new_face_at ws)) q is (λ f was then_is.
-    let g = fitting_some fault (new_face_at ws) f was in
+    then_read_ok _ (fitting fault (new_face_at ws)) q is (λ f was then_is.
+    let g = fitting_ok fault (new_face_at ws) f was in
     let n : NewFace = next_face f.0.face f.0.first f.0.second in
     let first = word_again f.0.first in
     let second = word_again f.0.second in
     let unit = (unit_takes ws f fit g.0).takes in
-    subst (λ (v : Unfinished × List ℕ). FaceTakes h p ws v.0 v.1) (same_Some _ _ then_is) (record {
+    subst (λ (v : Unfinished × List ℕ). FaceTakes h p ws v.0 v.1) (same_Ok _ _ then_is) (record {
       face = n;
       is = refl;
       fits = (λ j. new_face_fault (with_record h p.split) p.left_due f.0.face (first j) (second j)) ∙ g.1;
@@ -142,11 +143,11 @@ record FacesTake (h : Hierarchy) (r : Record) (left right : Bool) (ws : List ℕ
   takes : Takes ws (new_face_words q.left ++ new_face_words q.right) rest
 
 faces_take : (h : Hierarchy) (r : Record) (left right : Bool) (ws : List ℕ) (q : Unfinished × List ℕ) →
-    AreWords ws → faces_after h (unfinished left right (bare r)) ws ≡ Some q →
+    AreWords ws → faces_after h (unfinished left right (bare r)) ws ≡ Ok q →
     FacesTake h r left right ws q.0.split q.1
 unfolding faces_after
 faces_take h r false false ws q fit is =
-    subst (λ (v : Unfinished × List ℕ). FacesTake h r false false ws v.0.split v.1) (same_Some _ _ is) (record {
+    subst (λ (v : Unfinished × List ℕ). FacesTake h r false false ws v.0.split v.1) (same_Ok _ _ is) (record {
       same = refl;
       has_left = refl;
       has_right = refl;
@@ -155,12 +156,12 @@ faces_take h r false false ws q fit is =
       takes = record { parts = refl; rest_fits = fit };
     })
 faces_take h r true false ws q fit is =
-    option_and_then_some _ (face_after h (unfinished true false (bare r)) ws) q is (λ p was then_is.
+    then_read_ok _ (face_after h (unfinished true false (bare r)) ws) q is (λ p was then_is.
     let t = face_takes h (unfinished true false (bare r)) ws p fit was in
     let one = unfinished false false (record (bare r) { left = Some t.face }) in
-    let rest : face_if false h one p.1 ≡ Some q =
-    subst (λ (v : Unfinished). face_if v.right_due h v p.1 ≡ Some q) t.is then_is in
-    subst (λ (v : Unfinished × List ℕ). FacesTake h r true false ws v.0.split v.1) (same_Some _ _ rest) (record {
+    let rest : face_if false h one p.1 ≡ Ok q =
+    subst (λ (v : Unfinished). face_if v.right_due h v p.1 ≡ Ok q) t.is then_is in
+    subst (λ (v : Unfinished × List ℕ). FacesTake h r true false ws v.0.split v.1) (same_Ok _ _ rest) (record {
       same = refl;
       has_left = refl;
       has_right = refl;
@@ -179,11 +180,11 @@ faces_take h r false true ws q fit is =
       takes = t.takes;
     })
 faces_take h r true true ws q fit is =
-    option_and_then_some _ (face_after h (unfinished true true (bare r)) ws) q is (λ p was then_is.
+    then_read_ok _ (face_after h (unfinished true true (bare r)) ws) q is (λ p was then_is.
     let t = face_takes h (unfinished true true (bare r)) ws p fit was in
     let one = unfinished false true (record (bare r) { left = Some t.face }) in
-    let rest : face_after h one p.1 ≡ Some q =
-    subst (λ (v : Unfinished). face_if v.right_due h v p.1 ≡ Some q) t.is then_is in
+    let rest : face_after h one p.1 ≡ Ok q =
+    subst (λ (v : Unfinished). face_if v.right_due h v p.1 ≡ Ok q) t.is then_is in
     let two = face_takes h one p.1 q t.takes.rest_fits rest in
     subst (λ (v : Unfinished). FacesTake h r true true ws v.split q.1) (sym two.is) (record {
       same = refl;
@@ -196,17 +197,17 @@ faces_take h r true true ws q fit is =
 
 -- A record
 
-pub record_takes : (h : Hierarchy) (ws : List ℕ) (u : Record × List ℕ) → AreWords ws → record_after h ws ≡ Some u →
+pub record_takes : (h : Hierarchy) (ws : List ℕ) (u : Record × List ℕ) → AreWords ws → record_after h ws ≡ Ok u →
     (record_fault h u.0 ≡ None) × Takes ws (record_words u.0) u.1
 unfolding record_after record_fault
 record_takes h ws u fit is =
-    option_and_then_some _ (fitting (head_fault h) (head_at ws)) u is (λ d was faces_are.
-    let g = fitting_some (head_fault h) (head_at ws) d was in
+    then_read_ok _ (fitting (head_fault h) (head_at ws)) u is (λ d was faces_are.
+    let g = fitting_ok (head_fault h) (head_at ws) d was in
     let head = head_takes ws d fit g.0 in
     let r = (started d.0).split in
     let left = (started d.0).left_due in
     let right = (started d.0).right_due in
-    option_and_then_some _ (faces_after h (started d.0) d.1) u faces_are (λ p faces then_is.
+    then_read_ok _ (faces_after h (started d.0) d.1) u faces_are (λ p faces then_is.
     let q = p.0.split in
     let f = faces_take h r left right d.1 p head.takes.rest_fits faces in
     let presence : one_if (is_some q.left) + 2 * one_if (is_some q.right) ≡ d.0.presence =
@@ -217,7 +218,7 @@ record_takes h ws u fit is =
     let head_part = subst (λ (l : List ℕ). Takes ws l d.1) same_words head.takes in
     let face_words = new_face_words q.left ++ new_face_words q.right in
     let whole = takes_both ws (head_words q) d.1 face_words p.1 head_part f.takes in
-    subst (λ (v : Record × List ℕ). (record_fault h v.0 ≡ None) × Takes ws (record_words v.0) v.1) (same_Some _ _ then_is)
+    subst (λ (v : Record × List ℕ). (record_fault h v.0 ≡ None) × Takes ws (record_words v.0) v.1) (same_Ok _ _ then_is)
     (rw (head_fits, f.left_fits, f.right_fits) refl, whole)))
 
 pub records_read : (roots : List Root) (bases : List Face) →

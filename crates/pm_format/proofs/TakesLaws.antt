@@ -1,9 +1,9 @@
 -- What is read has no fault, and is spelled so.
-use Rattle.std.proofs.Common.{◌≡◌, ℕ, zero, suc, eqb, true, is_none, List, [], ◌∷◌, ◌++◌, Option, Some, None, length, refl, sym, ◌∙◌, ap, subst, arith, append_assoc}
+use Rattle.std.proofs.Common.{◌≡◌, ℕ, zero, suc, eqb, Bool, true, false, cond, Result, List, [], ◌∷◌, ◌++◌, Option, Some, None, Ok, Err, length, refl, sym, ◌∙◌, ap, subst, arith, append_assoc}
 use Rattle.std.specs.List.{flat_map}
 use Rattle.std.specs.Int.{w32}
-use Rattle.std.proofs.lemmas.Bool.{eqb-true, and_parts}
-use Rattle.std.proofs.lemmas.Option.{cond_some, option_and_then_some, same_Some}
+use Rattle.std.proofs.lemmas.Bool.{eqb-true}
+use Rattle.std.proofs.lemmas.Option.{same_Some}
 use Rattle.std.proofs.lemmas.Int.{of_z-to_z}
 use Rattle.std.proofs.lemmas.List.{append-nil}
 use Rattle.pm_forest.specs.declared.parts.Counts.{Counts}
@@ -11,10 +11,12 @@ use Rattle.pm_forest.specs.declared.parts.Root.{Root}
 use Rattle.pm_forest.specs.declared.parts.Face.{Face}
 use Rattle.pm_forest.specs.declared.parts.Shape.{Shape}
 use Rattle.pm_forest.specs.Rules.{AllFit, root_fault, base_fault}
+use Rattle.pm_format.specs.declared.stop.Stop.{Stop}
+use Rattle.pm_format.specs.declared.stop.Stop.TheVariants as stops
 use Rattle.pm_format.specs.Words.{AreWords}
 use Rattle.pm_format.specs.Stream.{root_words, base_words}
-use Rattle.pm_format.specs.Reading.{root_at, base_at, fitting, units_at, root_after, base_after, header_at}
-use Rattle.pm_format.proofs.ReadingLaws.{Reader}
+use Rattle.pm_format.specs.Reading.{root_at, base_at, whole, fitting, units_at, root_after, base_after, counts_at, header_at}
+use Rattle.pm_format.proofs.ReadingLaws.{Reader, same_Ok, then_read_ok, whole_ok, judged_ok}
 
 -- What was read from the front: its words, and the words after it.
 pub record Takes (ws text rest : List ℕ) : Type 0 where
@@ -28,16 +30,12 @@ takes_both ws a mid b rest first second = record {
   rest_fits = second.rest_fits;
 }
 
-none_is : {A : Type 0} (o : Option A) → is_none o ≡ true → o ≡ None
-none_is None is = refl
-none_is (Some x) is = absurd cc
-
-pub fitting_some : {X : Type 0} (fault : X → Option Shape) (o : Option (X × List ℕ)) (u : X × List ℕ) →
-    fitting fault o ≡ Some u → (o ≡ Some u) × (fault u.0 ≡ None)
-fitting_some fault None u is = absurd cc
-fitting_some fault (Some v) u is =
-    let g = cond_some (is_none (fault v.0)) v u is in
-    (ap Some g.1, subst (λ (w : _ × List ℕ). fault w.0 ≡ None) g.1 (none_is _ g.0))
+pub fitting_ok : {X : Type 0} (fault : X → Option Shape) (o : Option (X × List ℕ)) (u : X × List ℕ) →
+    fitting fault o ≡ Ok u → (o ≡ Some u) × (fault u.0 ≡ None)
+fitting_ok fault o u is =
+    then_read_ok _ (whole o) u is (λ v was fits.
+    let g = judged_ok (fault v.0) v u fits in
+    (whole_ok o v was ∙ ap (λ w. Some w) g.1, subst (λ (w : _ × List ℕ). fault w.0 ≡ None) g.1 g.0))
 
 -- One unit
 
@@ -70,7 +68,7 @@ base_takes (a ∷ b ∷ c ∷ []) u fit is = absurd cc
 -- Each unit that is read has no fault, and its words are those that it takes.
 abbrev pub Reads : {X : Type 0} → Reader X → (List X → X → Option Shape) → (X → List ℕ) → Type 0
 Reads {X} read fault words =
-    (before : List X) (ws : List ℕ) (u : X × List ℕ) → AreWords ws → read before ws ≡ Some u →
+    (before : List X) (ws : List ℕ) (u : X × List ℕ) → AreWords ws → read before ws ≡ Ok u →
     (fault before u.0 ≡ None) × Takes ws (words u.0) u.1
 
 -- The n units that were read after others.
@@ -103,46 +101,64 @@ module _ {X : Type 0} (fault : List X → X → Option Shape) (words : X → Lis
   }
 
   pub units_take : (read : Reader X) → Reads read fault words → (n : ℕ) (before : List X) (ws : List ℕ)
-      (u : List X × List ℕ) → AreWords ws → units_at read n before ws ≡ Some u →
+      (u : List X × List ℕ) → AreWords ws → units_at read n before ws ≡ Ok u →
       Added fault words n before u.0 ws u.1
   unfolding units_at
   units_take read reads zero before ws u fit is =
-      subst (λ (v : List X × List ℕ). Added fault words 0 before v.0 ws v.1) (same_Some _ _ is) (added_none before ws fit)
+      subst (λ (v : List X × List ℕ). Added fault words 0 before v.0 ws v.1) (same_Ok _ _ is) (added_none before ws fit)
   units_take read reads (suc n) before ws u fit is =
-      option_and_then_some _ (read before ws) u is (λ v was then_is.
+      then_read_ok _ (read before ws) u is (λ v was then_is.
       let one = reads before ws v fit was in
       let others = units_take read reads n (before ++ v.0 ∷ []) v.1 u one.1.rest_fits then_is in
       added_one n before u.0 v.0 ws v.1 u.1 one.0 one.1 others)
 
 pub roots_read : (c : Counts) → Reads (root_after c) (root_fault c) root_words
 roots_read c before ws u fit is =
-    let g = fitting_some (root_fault c before) (root_at ws) u is in
+    let g = fitting_ok (root_fault c before) (root_at ws) u is in
     (g.1, root_takes ws u fit g.0)
 
 pub bases_read : (roots : List Root) → Reads (base_after roots) (base_fault roots) base_words
 bases_read roots before ws u fit is =
-    let g = fitting_some (base_fault roots before) (base_at ws) u is in
+    let g = fitting_ok (base_fault roots before) (base_at ws) u is in
     (g.1, base_takes ws u fit g.0)
 
 -- A header
+
+-- The words begin with the magic, if there are any.
+abbrev pub BeginsWithMagic : List ℕ → Type 0
+BeginsWithMagic ws = (w : ℕ) (rest : List ℕ) → ws ≡ w ∷ rest → w ≡ 1297106006
 
 pub record HeaderTakes (ws rest : List ℕ) (c : Counts) : Type 0 where
   pub parts : ws ≡ 1297106006 ∷ 1 ∷ c.leaves ∷ c.roots ∷ c.bases ∷ c.records ∷ rest
   pub rest_fits : AreWords rest
 
-pub header_takes : (ws : List ℕ) (u : Counts × List ℕ) → AreWords ws → header_at ws ≡ Some u →
+-- the counts that were read
+record CountsTake (ws rest : List ℕ) (c : Counts) : Type 0 where
+  parts : ws ≡ c.leaves ∷ c.roots ∷ c.bases ∷ c.records ∷ rest
+  rest_fits : AreWords rest
+
+counts_take : (ws : List ℕ) (u : Counts × List ℕ) → AreWords ws → counts_at ws ≡ Some u → CountsTake ws u.1 u.0
+counts_take (l ∷ r ∷ b ∷ n ∷ ws) u fit is =
+    subst (λ (w : Counts × List ℕ). CountsTake (l ∷ r ∷ b ∷ n ∷ ws) w.1 w.0) (same_Some _ _ is)
+    (record { parts = refl; rest_fits = fit.1.1.1.1 })
+counts_take [] u fit is = absurd cc
+counts_take (l ∷ []) u fit is = absurd cc
+counts_take (l ∷ r ∷ []) u fit is = absurd cc
+counts_take (l ∷ r ∷ b ∷ []) u fit is = absurd cc
+
+cond_ok : {A : Type 0} (b : Bool) (r s : Result A Stop) (stop : Stop) (y : A) → s ≡ Err stop → cond b r s ≡ Ok y →
+    (b ≡ true) × (r ≡ Ok y)
+cond_ok true r s stop y none is = (refl, is)
+cond_ok false r s stop y none is = absurd (cc (none, is))
+
+pub header_takes : (ws : List ℕ) (u : Counts × List ℕ) → BeginsWithMagic ws → AreWords ws → header_at ws ≡ Ok u →
     HeaderTakes ws u.1 u.0
 unfolding header_at
-header_takes (m ∷ v ∷ l ∷ r ∷ b ∷ n ∷ ws) u fit is =
-    let g = cond_some _ _ _ is in
-    let tests = and_parts (eqb m 1297106006) (eqb v 1) g.0 in
-    let at_m = eqb-true m 1297106006 tests.0 in
-    let at_v = eqb-true v 1 tests.1 in
-    subst (λ (w : Counts × List ℕ). HeaderTakes (m ∷ v ∷ l ∷ r ∷ b ∷ n ∷ ws) w.1 w.0) g.1
-    (record { parts = λ j. at_m j ∷ at_v j ∷ l ∷ r ∷ b ∷ n ∷ ws; rest_fits = fit.1.1.1.1.1.1 })
-header_takes [] u fit is = absurd cc
-header_takes (m ∷ []) u fit is = absurd cc
-header_takes (m ∷ v ∷ []) u fit is = absurd cc
-header_takes (m ∷ v ∷ l ∷ []) u fit is = absurd cc
-header_takes (m ∷ v ∷ l ∷ r ∷ []) u fit is = absurd cc
-header_takes (m ∷ v ∷ l ∷ r ∷ b ∷ []) u fit is = absurd cc
+header_takes (m ∷ v ∷ ws) u magic fit is =
+    let g = cond_ok (eqb v 1) (whole (counts_at ws)) (Err (stops.Version v)) (stops.Version v) u refl is in
+    let at_m = magic m (v ∷ ws) refl in
+    let at_v = eqb-true v 1 g.0 in
+    let counts = counts_take ws u fit.1.1 (whole_ok (counts_at ws) u g.1) in
+    record { parts = λ j. at_m j ∷ at_v j ∷ counts.parts j; rest_fits = counts.rest_fits }
+header_takes [] u magic fit is = absurd cc
+header_takes (m ∷ []) u magic fit is = absurd cc

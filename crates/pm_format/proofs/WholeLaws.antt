@@ -1,34 +1,41 @@
 -- A text in bytes, and the hierarchy that its words spell.
-use Rattle.std.proofs.Common.{◌≡◌, ℕ, ◌+◌, ◌-◌, ◌*◌, ◌≤◌, eqb, ltb, Bool, true, false, cond, ◌&&◌, ◌||◌, not, List, [], ◌∷◌, ◌++◌, Option, Some, None, length, sum, take, refl, sym, ◌∙◌, ap, subst, arith, append_assoc, length-append}
+use Rattle.std.proofs.Common.{◌≡◌, ◌≢◌, ◌⊎◌, ℕ, ◌+◌, ◌-◌, ◌*◌, ◌≤◌, eqb, ltb, Bool, true, false, cond, ◌&&◌, ◌||◌, not, List, [], ◌∷◌, ◌++◌, Some, None, Result, Ok, Err, length, sum, take, drop, get_or, inl, inr, refl, sym, ◌∙◌, ap, subst, arith, append_assoc, length-append}
 use Rattle.std.specs.List.{flat_map}
+use Rattle.std.specs.Cmp.Lexicographic.{same_text}
 use Rattle.std.proofs.lemmas.Bool.{eqb-true, or_parts, eq-eqb, not-false}
-use Rattle.std.proofs.lemmas.List.{take_at, append-nil, append_cancel_left}
-use Rattle.std.proofs.lemmas.Option.{cond_some, option_and_then_some, some_pair_parts}
+use Rattle.std.proofs.lemmas.List.{take_at, append-nil, append_cancel_left, take-append-drop}
+use Rattle.pm_base.specs.Place.{is_place}
 use Rattle.pm_forest.specs.declared.parts.Counts.{Counts}
 use Rattle.pm_forest.specs.declared.parts.Root.{Root}
 use Rattle.pm_forest.specs.declared.parts.Face.{Face}
-use Rattle.pm_forest.specs.declared.parts.NewFace.{NewFace}
 use Rattle.pm_forest.specs.declared.parts.Record.{Record}
+use Rattle.pm_forest.specs.declared.parts.Shape.TheVariants as shapes
 use Rattle.pm_forest.specs.Forest.{Hierarchy, leaf_count, record_count, widths_of}
-use Rattle.pm_forest.specs.Faces.{face_in, faces_in, faces_of, face_count}
-use Rattle.pm_forest.specs.Rules.{AllFit, counts_are_bad, counts_of, width_is_bad, root_fault, base_fault, record_fault_after, HasShape}
+use Rattle.pm_forest.specs.Rules.{AllFit, counts_are_bad, counts_of, width_is_bad, root_fault, base_fault, record_fault_after, past_fault, HasShape}
 use Rattle.pm_forest.proofs.UnitLaws.{passed}
 use Rattle.pm_forest.proofs.OwnerLaws.{sum-cons}
-use Rattle.pm_forest.proofs.FaceLists.{length-faces_of}
+use Rattle.pm_format.specs.declared.fault.FormatError.{FormatError}
+use Rattle.pm_format.specs.declared.fault.FormatError.TheVariants as faults
+use Rattle.pm_format.specs.declared.stop.Stop.{Stop}
+use Rattle.pm_format.specs.declared.stop.Stop.TheVariants as stops
 use Rattle.pm_format.specs.Words.{words_of, spelled, AreWords, IsBytes}
-use Rattle.pm_format.specs.Stream.{root_words, base_words, new_face_words, record_words, stream_words, stream}
+use Rattle.pm_format.specs.Stream.{root_words, base_words, record_words, stream_words, stream}
 use Rattle.pm_format.specs.Reading.{root_after, base_after, record_after_all, units_at, header_at, rest_at, forest_at}
+use Rattle.pm_format.specs.Faults.{magic_is_bad, named, fault_in, stream_fault}
+use Rattle.pm_format.specs.Laws.{OneSpelling, NoPrefix, WholeTextsHaveNoFault, WhatHasNoFaultIsWhole}
+use Rattle.pm_format.proofs.ReadingLaws.{same_Ok, then_read_ok, judged_ok}
 use Rattle.pm_format.proofs.WordLaws.{words_again, words_take, text_words, length-words_of, length-spelled}
-use Rattle.pm_format.proofs.TakesLaws.{Takes, takes_both, units_take, roots_read, bases_read, header_takes}
+use Rattle.pm_format.proofs.TakesLaws.{BeginsWithMagic, Takes, takes_both, units_take, roots_read, bases_read, header_takes}
 use Rattle.pm_format.proofs.RecordTakes.{records_read}
 use Rattle.pm_format.proofs.AgainLaws.{units_again, roots_again, bases_again, records_again}
 use Rattle.pm_format.proofs.WordFits.{stream_is_words}
 
 -- A whole text is read as it is spelled
 
-unguarded : {A : Type 0} (b : Bool) (o : Option A) (y : A) → cond b None o ≡ Some y → (b ≡ false) × (o ≡ Some y)
-unguarded true o y is = absurd cc
-unguarded false o y is = (refl, is)
+unguarded : {A : Type 0} (b : Bool) (stop : Stop) (r : Result A Stop) (y : A) → cond b (Err stop) r ≡ Ok y →
+    (b ≡ false) × (r ≡ Ok y)
+unguarded true stop r y is = absurd cc
+unguarded false stop r y is = (refl, is)
 
 widths_more : (before : List Root) (r : Root) →
     sum (widths_of (before ++ r ∷ [])) ≡ sum (widths_of before) + r.width
@@ -44,8 +51,10 @@ widths_so_far : (c : Counts) (before : List Root) (r : Root) (rs : List Root) �
 unfolding root_fault width_is_bad
 widths_so_far c before r [] count all =
     let taken = sum (widths_of before) in
-    let later = (passed _ _ _ (passed _ _ _ all.0).1).0 in
-    let last = (or_parts _ (eqb (length before + 1) c.roots && not (eqb (taken + r.width) c.leaves)) later).1 in
+    let later = (passed (width_is_bad c taken (length before) r.width) _ _ (passed (not (is_place r.place)) _ _ all.0).1).0 in
+    let limits = eqb r.width 0 || ltb c.leaves (taken + r.width + (c.roots - 1 - length before)) in
+    let ends = eqb (length before + 1) c.roots && not (eqb (taken + r.width) c.leaves) in
+    let last = (or_parts limits ends later).1 in
     let is_last : eqb (length before + 1) c.roots ≡ true = eq-eqb _ _ (omega arith) in
     let whole = eqb-true (taken + r.width) c.leaves (not-false _ (rw is_last at last)) in
     omega (arith, sum-cons r.width [])
@@ -68,44 +77,63 @@ abbrev unit_words : List Root → List Face → List Record → List ℕ
 unit_words roots bases records =
     flat_map root_words roots ++ (flat_map base_words bases ++ flat_map record_words records)
 
-pub forest_takes : (ws : List ℕ) (h : Hierarchy) (rest : List ℕ) → AreWords ws → forest_at ws ≡ Some (h, rest) →
-    Takes ws (stream_words h) rest
+-- What was read is a hierarchy of the right shape, and its words.
+pub record ForestTakes (ws : List ℕ) (h : Hierarchy) (rest : List ℕ) : Type 0 where
+  pub shape : HasShape h
+  pub takes : Takes ws (stream_words h) rest
+
+pub forest_takes : (ws : List ℕ) (h : Hierarchy) (rest : List ℕ) → BeginsWithMagic ws → AreWords ws →
+    forest_at ws ≡ Ok (h, rest) → ForestTakes ws h rest
 unfolding forest_at rest_at
-forest_takes ws h rest fit is =
-    option_and_then_some _ (header_at ws) (h, rest) is (λ c header units.
-    let head = header_takes ws c fit header in
-    let good = unguarded (counts_are_bad c.0) _ _ units in
-    option_and_then_some _ (units_at (root_after c.0) c.0.roots [] c.1) (h, rest) good.1 (λ r roots more.
+forest_takes ws h rest magic fit is =
+    then_read_ok _ (header_at ws) (h, rest) is (λ c header units.
+    let head = header_takes ws c magic fit header in
+    let good = unguarded (counts_are_bad c.0) _ _ _ units in
+    then_read_ok _ (units_at (root_after c.0) c.0.roots [] c.1) (h, rest) good.1 (λ r roots more.
     let rs = units_take (root_fault c.0) root_words (root_after c.0) (roots_read c.0) c.0.roots [] c.1 r head.rest_fits roots in
-    option_and_then_some _ (units_at (base_after r.0) c.0.bases [] r.1) (h, rest) more (λ b bases most.
+    then_read_ok _ (units_at (base_after r.0) c.0.bases [] r.1) (h, rest) more (λ b bases most.
     let bs = units_take (base_fault r.0) base_words (base_after r.0) (bases_read r.0) c.0.bases [] r.1 b rs.takes.rest_fits bases in
-    option_and_then_some _ (units_at (record_after_all r.0 b.0) c.0.records [] b.1) (h, rest) most (λ n records last.
+    then_read_ok _ (units_at (record_after_all r.0 b.0) c.0.records [] b.1) (h, rest) most (λ n records last.
     let fault = record_fault_after r.0 b.0 in
     let read = record_after_all r.0 b.0 in
     let ns = units_take fault record_words read (records_read r.0 b.0) c.0.records [] b.1 n bs.takes.rest_fits records in
-    let parts = some_pair_parts _ _ _ _ (ap Some (cond_some _ _ _ last).1) in
-    let same_roots : rs.more ≡ h.roots = sym rs.all_is ∙ ap (λ (q : Hierarchy). q.roots) parts.0 in
-    let same_bases : bs.more ≡ h.bases = sym bs.all_is ∙ ap (λ (q : Hierarchy). q.bases) parts.0 in
-    let same_records : ns.more ≡ h.records = sym ns.all_is ∙ ap (λ (q : Hierarchy). q.records) parts.0 in
+    let found : Hierarchy = record { roots = r.0; bases = b.0; records = n.0 } in
+    let judgement = judged_ok (past_fault found) (found, n.1) (h, rest) last in
+    let is_h : found ≡ h = ap (λ (v : Hierarchy × List ℕ). v.0) judgement.1 in
+    let is_rest : n.1 ≡ rest = ap (λ (v : Hierarchy × List ℕ). v.1) judgement.1 in
+    let same_roots : rs.more ≡ h.roots = sym rs.all_is ∙ ap (λ (q : Hierarchy). q.roots) is_h in
+    let same_bases : bs.more ≡ h.bases = sym bs.all_is ∙ ap (λ (q : Hierarchy). q.bases) is_h in
+    let same_records : ns.more ≡ h.records = sym ns.all_is ∙ ap (λ (q : Hierarchy). q.records) is_h in
     let leaves : c.0.leaves ≡ leaf_count h =
     sym (widths_are_leaves c.0 rs.more good.0 rs.count rs.fits) ∙ ap (λ l. sum (widths_of l)) same_roots in
     let root_count : c.0.roots ≡ length h.roots = sym rs.count ∙ ap (λ (l : List Root). length l) same_roots in
     let base_count : c.0.bases ≡ length h.bases = sym bs.count ∙ ap (λ (l : List Face). length l) same_bases in
     let count : c.0.records ≡ record_count h = sym ns.count ∙ ap (λ (l : List Record). length l) same_records in
+    let counts : c.0 ≡ counts_of h =
+    λ j. record { leaves = leaves j; roots = root_count j; bases = base_count j; records = count j } in
     let root_part = flat_map root_words rs.more in
     let base_part = flat_map base_words bs.more in
     let record_part = flat_map record_words ns.more in
     let last_two = takes_both r.1 base_part b.1 record_part n.1 bs.takes ns.takes in
     let all = takes_both c.1 root_part r.1 (base_part ++ record_part) n.1 rs.takes last_two in
     let tail : c.1 ≡ unit_words h.roots h.bases h.records ++ rest =
-    all.parts ∙ (λ j. unit_words (same_roots j) (same_bases j) (same_records j) ++ parts.1 j) in
+    all.parts ∙ (λ j. unit_words (same_roots j) (same_bases j) (same_records j) ++ is_rest j) in
     record {
-      parts = head.parts ∙ (λ j. 1297106006 ∷ 1 ∷ leaves j ∷ root_count j ∷ base_count j ∷ count j ∷ tail j);
-      rest_fits = subst AreWords parts.1 all.rest_fits;
+      shape = record {
+        counts = subst (λ v. counts_are_bad v ≡ false) counts good.0;
+        roots = subst (λ (v : Counts × List Root). AllFit (root_fault v.0) [] v.1) (λ j. (counts j, same_roots j)) rs.fits;
+        bases = subst (λ (v : Hierarchy × List Face). AllFit (base_fault v.0.roots) [] v.1) (λ j. (is_h j, same_bases j)) bs.fits;
+        records = subst (λ (v : Hierarchy × List Record). AllFit (record_fault_after v.0.roots v.0.bases) [] v.1) (λ j. (is_h j, same_records j)) ns.fits;
+        inputs = subst (λ (v : Hierarchy). past_fault v ≡ None) is_h judgement.0;
+      };
+      takes = record {
+        parts = head.parts ∙ (λ j. 1297106006 ∷ 1 ∷ leaves j ∷ root_count j ∷ base_count j ∷ count j ∷ tail j);
+        rest_fits = subst AreWords is_rest all.rest_fits;
+      };
     }))))
 
 pub forest_again : (h : Hierarchy) (rest : List ℕ) → HasShape h →
-    forest_at (stream_words h ++ rest) ≡ Some (h, rest)
+    forest_at (stream_words h ++ rest) ≡ Ok (h, rest)
 unfolding forest_at rest_at header_at
 forest_again h rest shape =
     let c = counts_of h in
@@ -123,71 +151,35 @@ forest_again h rest shape =
     let records = units_again fault record_words (record_after_all h.roots h.bases) read_record [] h.records rest shape.records in
     rw (shape.counts, apart, roots, bases, records, shape.inputs) refl
 
--- Lengths
-
-length-root_words : (rs : List Root) → length (flat_map root_words rs) ≡ 5 * length rs
-length-root_words [] = refl
-length-root_words (r ∷ rs) = omega (arith, length-root_words rs)
-
-length-base_words : (fs : List Face) → length (flat_map base_words fs) ≡ 4 * length fs
-length-base_words [] = refl
-length-base_words (f ∷ fs) = omega (arith, length-base_words fs)
-
-length-new_face_words : (o : Option NewFace) → length (new_face_words o) ≡ 6 * length (face_in o)
-length-new_face_words None = refl
-length-new_face_words (Some n) = refl
-
-length-record_words : (rs : List Record) →
-    length (flat_map record_words rs) ≡ 11 * length rs + 6 * length (flat_map faces_in rs)
-length-record_words [] = refl
-length-record_words (r ∷ rs) =
-    omega (
-      arith,
-      length-record_words rs,
-      length-new_face_words r.left,
-      length-new_face_words r.right,
-      length-append (record_words r) (flat_map record_words rs),
-      length-append (new_face_words r.left) (new_face_words r.right),
-      length-append (face_in r.left) (face_in r.right),
-      length-append (faces_in r) (flat_map faces_in rs),
-    )
-
-pub length-stream_words : (h : Hierarchy) →
-    (length h.bases ≤ face_count h)
-    × (length (stream_words h) + 6 * length h.bases
-    ≡ 6 + 5 * length h.roots + 4 * length h.bases + 11 * record_count h + 6 * face_count h)
-unfolding faces_of
-length-stream_words h =
-    let faces = length-faces_of h in
-    let both = length-append h.bases (flat_map faces_in h.records) in (
-      omega arith,
-      omega (
-        arith,
-        length-append (flat_map root_words h.roots) (flat_map base_words h.bases ++ flat_map record_words h.records),
-        length-append (flat_map base_words h.bases) (flat_map record_words h.records),
-        length-root_words h.roots,
-        length-base_words h.bases,
-        length-record_words h.records,
-      ),
-    )
-
-pub length-stream : (h : Hierarchy) →
-    length (stream h)
-    ≡ 24 + 20 * length h.roots + 16 * length h.bases + 44 * record_count h + 24 * (face_count h - length h.bases)
-unfolding stream
-length-stream h = let (some, words) = length-stream_words h in omega (arith, length-spelled (stream_words h))
+-- with good counts all is what follows the header
+pub forest_is : (ws : List ℕ) (c : Counts) (rest : List ℕ) → header_at ws ≡ Ok (c, rest) →
+    counts_are_bad c ≡ false → forest_at ws ≡ rest_at c rest
+unfolding forest_at
+forest_is ws c rest header good = rw (header, good) refl
 
 -- Texts
+
+-- bytes whose first ones aren't wrong begin with the magic as a word
+pub magic_first : (bytes : List ℕ) → magic_is_bad bytes ≡ false → BeginsWithMagic (words_of bytes)
+unfolding magic_is_bad
+magic_first (a ∷ b ∷ c ∷ d ∷ bytes) good w rest is =
+    let same : a ∷ b ∷ c ∷ d ∷ [] ≡ 86 ∷ 68 ∷ 80 ∷ 77 ∷ [] = same_text _ _ (sym (not-false _ good)) in
+    ap (λ (l : List ℕ). get_or l 0 0) (sym is) ∙ ap (λ (l : List ℕ). get_or (words_of l) 0 0) same
+magic_first [] good w rest is = absurd cc
+magic_first (a ∷ []) good w rest is = absurd cc
+magic_first (a ∷ b ∷ []) good w rest is = absurd cc
+magic_first (a ∷ b ∷ c ∷ []) good w rest is = absurd cc
 
 pub record Begins (bytes : List ℕ) (h : Hierarchy) (used : ℕ) : Type 0 where
   pub within : used ≤ length bytes
   pub text : take used bytes ≡ stream h
 
 pub begins : (bytes : List ℕ) (h : Hierarchy) (rest : List ℕ) (used : ℕ) → IsBytes bytes →
-    forest_at (words_of bytes) ≡ Some (h, rest) → used ≡ length (stream h) → Begins bytes h used
+    magic_is_bad bytes ≡ false → forest_at (words_of bytes) ≡ Ok (h, rest) → used ≡ length (stream h) →
+    Begins bytes h used
 unfolding stream
-begins bytes h rest used fit read is =
-    let t = forest_takes (words_of bytes) h rest (text_words bytes fit) read in
+begins bytes h rest used fit magic read is =
+    let t = (forest_takes (words_of bytes) h rest (magic_first bytes magic) (text_words bytes fit) read).takes in
     let k = length (stream_words h) in
     let len : used ≡ 4 * k = is ∙ length-spelled (stream_words h) in
     let enough : k ≤ length (words_of bytes) = omega (arith, ap length t.parts, length-append (stream_words h) rest) in
@@ -199,26 +191,66 @@ begins bytes h rest used fit read is =
     }
 
 pub text_again : (h : Hierarchy) (rest : List ℕ) → HasShape h →
-    forest_at (words_of (stream h ++ rest)) ≡ Some (h, words_of rest)
+    forest_at (words_of (stream h ++ rest)) ≡ Ok (h, words_of rest)
 unfolding stream
 text_again h rest shape =
     ap forest_at (words_again (stream_words h) rest (stream_is_words h shape)) ∙ forest_again h (words_of rest) shape
 
-pub no_text : (bytes : List ℕ) (h : Hierarchy) (rest : List ℕ) → forest_at (words_of bytes) ≡ None → HasShape h →
-    bytes ≡ stream h ++ rest → ⊥
-no_text bytes h rest none shape is =
-    let read = ap (λ l. forest_at (words_of l)) is ∙ text_again h rest shape in
-    absurd (cc (none, read))
+magic_again : (h : Hierarchy) (rest : List ℕ) → magic_is_bad (stream h ++ rest) ≡ false
+unfolding magic_is_bad stream spelled
+magic_again h rest = refl
 
-pub one_text : (h g : Hierarchy) (rest more : List ℕ) → HasShape h → HasShape g →
-    stream h ++ rest ≡ stream g ++ more → h ≡ g
+pub one_text : OneSpelling
 one_text h g rest more h_shape g_shape is =
     let same = sym (text_again h rest h_shape) ∙ ap (λ l. forest_at (words_of l)) is ∙ text_again g more g_shape in
-    (some_pair_parts _ _ _ _ same).0
+    ap (λ (v : Hierarchy × List ℕ). v.0) (same_Ok _ _ same)
 
-pub no_longer : (h g : Hierarchy) (rest : List ℕ) → HasShape h → HasShape g → stream h ++ rest ≡ stream g →
-    rest ≡ []
+pub no_longer : NoPrefix
 no_longer h g rest h_shape g_shape is =
     let whole : stream h ++ rest ≡ stream g ++ [] = is ∙ sym (append-nil (stream g)) in
     let same = one_text h g rest [] h_shape g_shape whole in
     append_cancel_left (stream h) rest [] (whole ∙ ap (λ q. stream q ++ []) (sym same))
+
+-- Faults
+
+pub whole_text : WholeTextsHaveNoFault
+unfolding stream_fault
+whole_text h rest shape = rw (magic_again h rest, text_again h rest shape) refl
+
+pub no_fault : {A : Type 0} (count : ℕ) (r : Result A Stop) → fault_in count r ≡ None → (x : A) × (r ≡ Ok x)
+no_fault count (Ok x) is = (x, refl)
+no_fault count (Err stop) is = absurd cc
+
+pub what_is_whole : WhatHasNoFaultIsWhole
+unfolding stream_fault
+what_is_whole bytes fit none =
+    let (good, read) = passed (magic_is_bad bytes) _ _ none in
+    let (u, is) = no_fault (length bytes) (forest_at (words_of bytes)) read in
+    let t = forest_takes (words_of bytes) u.0 u.1 (magic_first bytes good) (text_words bytes fit) is in
+    let b = begins bytes u.0 u.1 (length (stream u.0)) fit good is refl in
+    record {
+      h = u.0;
+      rest = drop (length (stream u.0)) bytes;
+      shape = t.shape;
+      text = sym (take-append-drop (length (stream u.0)) bytes) ∙ ap (λ l. l ++ drop (length (stream u.0)) bytes) b.text;
+    }
+
+-- bytes whose reading stops have the fault that is named so
+pub stops_with : (bytes : List ℕ) (stop : Stop) → magic_is_bad bytes ≡ false →
+    (stop ≡ stops.Fault shapes.OutOfMemory) ⊎ (forest_at (words_of bytes) ≡ Err stop) →
+    (named (length bytes) stop ≡ faults.OutOfMemory) ⊎ (stream_fault bytes ≡ Some (named (length bytes) stop))
+unfolding stream_fault
+stops_with bytes stop good (inl memory) = inl (ap (named (length bytes)) memory)
+stops_with bytes stop good (inr is) = inr (rw (good, is) refl)
+
+pub bad_magic : (bytes : List ℕ) → magic_is_bad bytes ≡ true → stream_fault bytes ≡ Some faults.BadMagic
+unfolding stream_fault
+bad_magic bytes bad = rw bad refl
+
+-- bytes with a fault begin with no text
+pub no_text : (bytes : List ℕ) (e : FormatError) → (e ≡ faults.OutOfMemory) ⊎ (stream_fault bytes ≡ Some e) →
+    e ≢ faults.OutOfMemory → (h : Hierarchy) (rest : List ℕ) → HasShape h → bytes ≡ stream h ++ rest → ⊥
+no_text bytes e (inl memory) other h rest shape is = other memory
+no_text bytes e (inr fault) other h rest shape is =
+    let none = ap stream_fault is ∙ whole_text h rest shape in
+    absurd (cc (fault, none))

@@ -177,6 +177,17 @@ record_is_words h shape k l =
     let face_part = words_append (new_face_words r.left) (new_face_words r.right) left right in
     words_append (head_words r) (new_face_words r.left ++ new_face_words r.right) head_part face_part
 
+-- the words of the faces of a record
+pub faces_are_words : (h : Hierarchy) → HasShape h → (k : ℕ) → k < record_count h →
+    AreWords (new_face_words (record_at h k).left) × AreWords (new_face_words (record_at h k).right)
+faces_are_words h shape k l =
+    let r = record_at h k in
+    let fits = record_fits h shape k l in
+    let most = leaf_count-le h shape in (
+      new_face_is_words (with_record (cut h k) (bare r)) true r.left most fits.left,
+      new_face_is_words (with_record (cut h k) (left_only r)) false r.right most fits.right,
+    )
+
 records_are_words : (h : Hierarchy) → HasShape h → All (λ r. AreWords (record_words r)) h.records
 records_are_words h shape =
     All-from_get_or (λ r. AreWords (record_words r)) h.records no_record (record_is_words h shape)

@@ -22,6 +22,7 @@ again : (w : ℕ) (rest : List ℕ) → w < 2 ^ 32 → words_of (little_bytes 4 
 again w rest lt = ap (λ (n : ℕ). n ∷ words_of rest) (omega (arith, from_le_bytes-to_le_bytes_4 w lt))
 
 pub words_again : (ws rest : List ℕ) → AreWords ws → words_of (spelled ws ++ rest) ≡ ws ++ words_of rest
+unfolding spelled
 words_again [] rest all = refl
 words_again (w ∷ ws) rest all =
     ap words_of (append_assoc (little_bytes 4 w) (spelled ws) rest)
@@ -31,6 +32,7 @@ words_again (w ∷ ws) rest all =
 -- a text begins with the bytes of its words
 pub words_take : (bytes : List ℕ) (k : ℕ) → IsBytes bytes → k ≤ length (words_of bytes) →
     take (4 * k) bytes ≡ spelled (take k (words_of bytes))
+unfolding spelled
 words_take bytes zero fits le = refl
 words_take [] (suc k) fits le = absurd (omega arith)
 words_take (a ∷ []) (suc k) fits le = absurd (omega arith)
@@ -58,6 +60,7 @@ length-words_of (a ∷ b ∷ []) = omega arith
 length-words_of (a ∷ b ∷ c ∷ []) = omega arith
 
 pub length-spelled : (ws : List ℕ) → length (spelled ws) ≡ 4 * length ws
+unfolding spelled
 length-spelled [] = refl
 length-spelled (w ∷ ws) = omega (arith, length-spelled ws)
 

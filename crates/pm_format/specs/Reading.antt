@@ -1,7 +1,6 @@
--- Reading a hierarchy from words, unit by unit: what was read and the words after it, or none where a unit has a fault or
--- the words end.
-use Rattle.std.specs.Prelude.{ℕ, ℤ, zero, suc, ◌==◌, ◌&&◌, is_none, List, [], ◌∷◌, ◌++◌, Option, Some, None, Bool, if◌then◌else◌}
-use Rattle.std.specs.Option.{option_and_then}
+-- Reading a hierarchy from words, unit by unit: what was read and the words after it, or why reading stops there. Each
+-- unit is judged by those before it, as soon as all its words are there.
+use Rattle.std.specs.Prelude.{ℕ, ℤ, zero, suc, ◌==◌, List, [], ◌∷◌, ◌++◌, Option, Some, None, Result, Ok, Err, Bool, if◌then◌else◌}
 use Rattle.std.specs.Int.{w32, cast_signed}
 use Rattle.pm_forest.specs.declared.parts.Counts.{Counts}
 use Rattle.pm_forest.specs.declared.parts.Root.{Root}
@@ -9,10 +8,36 @@ use Rattle.pm_forest.specs.declared.parts.Face.{Face}
 use Rattle.pm_forest.specs.declared.parts.Head.{Head}
 use Rattle.pm_forest.specs.declared.parts.Record.{Record}
 use Rattle.pm_forest.specs.declared.parts.Shape.{Shape}
+use Rattle.pm_forest.specs.declared.parts.Shape.TheVariants as shapes
 use Rattle.pm_forest.specs.declared.parts.Unfinished.{Unfinished}
 use Rattle.pm_forest.specs.Forest.{Hierarchy}
 use Rattle.pm_forest.specs.Rules.{counts_are_bad, root_fault, base_fault, head_fault, new_face_fault, past_fault, with_record}
 use Rattle.pm_forest.specs.Shaping.{Shaping, next_root, started, with_face, next_face, settled}
+use Rattle.pm_format.specs.declared.stop.Stop.{Stop}
+use Rattle.pm_format.specs.declared.stop.Stop.TheVariants as stops
+
+-- What is read next, where nothing has stopped the reading.
+abbrev pub then_read : {A B : Type 0} → (A → Result B Stop) → Result A Stop → Result B Stop
+then_read next (Ok x) = next x
+then_read next (Err stop) = Err stop
+
+-- What is made of what was read.
+abbrev pub read_map : {A B : Type 0} → (A → B) → Result A Stop → Result B Stop
+read_map make r = then_read (λ x. Ok (make x)) r
+
+-- All words of a unit, or the words end.
+abbrev pub whole : {A : Type 0} → Option A → Result A Stop
+whole None = Err stops.End
+whole (Some x) = Ok x
+
+-- What has no fault.
+abbrev pub judged : {A : Type 0} → Option Shape → A → Result A Stop
+judged None x = Ok x
+judged (Some fault) x = Err (stops.Fault fault)
+
+-- What was read, where it has no fault.
+abbrev pub fitting : {X : Type 0} → (X → Option Shape) → Option (X × List ℕ) → Result (X × List ℕ) Stop
+fitting fault o = then_read (λ u. judged (fault u.0) u) (whole o)
 
 -- Coordinates as signed numbers.
 abbrev pub place_at : ℕ → ℕ → ℕ → List ℤ
@@ -41,58 +66,58 @@ abbrev pub new_face_at : List ℕ → Option (FaceUnit × List ℕ)
 new_face_at (a ∷ b ∷ c ∷ input ∷ first ∷ second ∷ ws) = Some (record { face = record { a = a; b = b; c = c; input = input }; first = first; second = second }, ws)
 new_face_at _ = None
 
--- What was read, where it has no fault.
-abbrev pub fitting : {X : Type 0} → (X → Option Shape) → Option (X × List ℕ) → Option (X × List ℕ)
-fitting fault o = option_and_then (λ u. if is_none (fault u.0) then Some u else None) o
-
 -- As many units as counted, each judged by those before it.
-unfoldable pub units_at : {X : Type 0} → (List X → List ℕ → Option (X × List ℕ)) → ℕ → List X → List ℕ → Option (List X × List ℕ)
-units_at read zero before ws = Some (before, ws)
-units_at read (suc n) before ws = option_and_then (λ u. units_at read n (before ++ u.0 ∷ []) u.1) (read before ws)
+unfoldable pub units_at : {X : Type 0} → (List X → List ℕ → Result (X × List ℕ) Stop) → ℕ → List X → List ℕ → Result (List X × List ℕ) Stop
+units_at read zero before ws = Ok (before, ws)
+units_at read (suc n) before ws = then_read (λ u. units_at read n (before ++ u.0 ∷ []) u.1) (read before ws)
 
-abbrev pub root_after : Counts → List Root → List ℕ → Option (Root × List ℕ)
+abbrev pub root_after : Counts → List Root → List ℕ → Result (Root × List ℕ) Stop
 root_after c before ws = fitting (root_fault c before) (root_at ws)
 
-abbrev pub base_after : List Root → List Face → List ℕ → Option (Face × List ℕ)
+abbrev pub base_after : List Root → List Face → List ℕ → Result (Face × List ℕ) Stop
 base_after roots before ws = fitting (base_fault roots before) (base_at ws)
 
 -- The face that is due of an unfinished record after h.
-unfoldable pub face_after : Hierarchy → Unfinished → List ℕ → Option (Unfinished × List ℕ)
+unfoldable pub face_after : Hierarchy → Unfinished → List ℕ → Result (Unfinished × List ℕ) Stop
 face_after h p ws =
-    option_and_then (λ f. Some (with_face p (next_face f.0.face f.0.first f.0.second), f.1))
+    read_map (λ f. (with_face p (next_face f.0.face f.0.first f.0.second), f.1))
     (fitting (λ f. new_face_fault (with_record h p.split) p.left_due f.face f.first f.second) (new_face_at ws))
 
-abbrev pub face_if : Bool → Hierarchy → Unfinished → List ℕ → Option (Unfinished × List ℕ)
-face_if due h p ws = if due then face_after h p ws else Some (p, ws)
+abbrev pub face_if : Bool → Hierarchy → Unfinished → List ℕ → Result (Unfinished × List ℕ) Stop
+face_if due h p ws = if due then face_after h p ws else Ok (p, ws)
 
 -- The left face and then the right face, each where it is due.
-unfoldable pub faces_after : Hierarchy → Unfinished → List ℕ → Option (Unfinished × List ℕ)
-faces_after h p ws = option_and_then (λ q. face_if q.0.right_due h q.0 q.1) (face_if p.left_due h p ws)
+unfoldable pub faces_after : Hierarchy → Unfinished → List ℕ → Result (Unfinished × List ℕ) Stop
+faces_after h p ws = then_read (λ q. face_if q.0.right_due h q.0 q.1) (face_if p.left_due h p ws)
 
 -- The next record after h: its head, and then its faces.
-unfoldable pub record_after : Hierarchy → List ℕ → Option (Record × List ℕ)
+unfoldable pub record_after : Hierarchy → List ℕ → Result (Record × List ℕ) Stop
 record_after h ws =
-    option_and_then (λ d. option_and_then (λ p. Some (p.0.split, p.1)) (faces_after h (started d.0) d.1)) (fitting (head_fault h) (head_at ws))
+    then_read (λ d. read_map (λ p. (p.0.split, p.1)) (faces_after h (started d.0) d.1)) (fitting (head_fault h) (head_at ws))
 
-abbrev pub record_after_all : List Root → List Face → List Record → List ℕ → Option (Record × List ℕ)
+abbrev pub record_after_all : List Root → List Face → List Record → List ℕ → Result (Record × List ℕ) Stop
 record_after_all roots bases before ws = record_after (record { roots = roots; bases = bases; records = before }) ws
 
 -- The counts of a header.
-unfoldable pub header_at : List ℕ → Option (Counts × List ℕ)
-header_at (magic ∷ version ∷ l ∷ r ∷ b ∷ n ∷ ws) =
-    if magic == 1297106006 && version == 1 then Some (record { leaves = l; roots = r; bases = b; records = n }, ws) else None
-header_at _ = None
+abbrev pub counts_at : List ℕ → Option (Counts × List ℕ)
+counts_at (l ∷ r ∷ b ∷ n ∷ ws) = Some (record { leaves = l; roots = r; bases = b; records = n }, ws)
+counts_at _ = None
+
+-- The version is judged before the counts. The first word is the magic, which is judged by its bytes.
+unfoldable pub header_at : List ℕ → Result (Counts × List ℕ) Stop
+header_at (magic ∷ version ∷ ws) = if version == 1 then whole (counts_at ws) else Err (stops.Version version)
+header_at _ = Err stops.End
 
 -- All the units after a header.
-unfoldable pub rest_at : Counts → List ℕ → Option (Hierarchy × List ℕ)
+unfoldable pub rest_at : Counts → List ℕ → Result (Hierarchy × List ℕ) Stop
 rest_at c ws =
-    option_and_then (λ r. option_and_then (λ b. option_and_then (λ n.
+    then_read (λ r. then_read (λ b. then_read (λ n.
     let h : Hierarchy = record { roots = r.0; bases = b.0; records = n.0 } in
-    if is_none (past_fault h) then Some (h, n.1) else None)
+    judged (past_fault h) (h, n.1))
     (units_at (record_after_all r.0 b.0) c.records [] b.1)) (units_at (base_after r.0) c.bases [] r.1)) (units_at (root_after c) c.roots [] ws)
 
-unfoldable pub forest_at : List ℕ → Option (Hierarchy × List ℕ)
-forest_at ws = option_and_then (λ c. if counts_are_bad c.0 then None else rest_at c.0 c.1) (header_at ws)
+unfoldable pub forest_at : List ℕ → Result (Hierarchy × List ℕ) Stop
+forest_at ws = then_read (λ c. if counts_are_bad c.0 then Err (stops.Fault shapes.BadCount) else rest_at c.0 c.1) (header_at ws)
 
 -- A shaper, and the words that are left, once it took in what was read.
 abbrev pub took_root : Shaping → Root × List ℕ → Shaping × List ℕ

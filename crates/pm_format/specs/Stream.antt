@@ -36,10 +36,12 @@ abbrev pub record_words : Record → List ℕ
 record_words r = head_words r ++ (new_face_words r.left ++ new_face_words r.right)
 
 -- The first word has the bytes `VDPM`, and the second is the version.
+abbrev pub header_words : Hierarchy → List ℕ
+header_words h = 1297106006 ∷ 1 ∷ leaf_count h ∷ length h.roots ∷ length h.bases ∷ record_count h ∷ []
+
 abbrev pub stream_words : Hierarchy → List ℕ
 stream_words h =
-    1297106006 ∷ 1 ∷ leaf_count h ∷ length h.roots ∷ length h.bases ∷ record_count h
-    ∷ (flat_map root_words h.roots ++ (flat_map base_words h.bases ++ flat_map record_words h.records))
+    header_words h ++ (flat_map root_words h.roots ++ (flat_map base_words h.bases ++ flat_map record_words h.records))
 
 unfoldable pub stream : Hierarchy → List ℕ
 stream h = spelled (stream_words h)

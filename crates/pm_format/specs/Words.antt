@@ -9,7 +9,7 @@ words_of (a ∷ b ∷ c ∷ d ∷ rest) = (a + 256 * (b + 256 * (c + 256 * d))) 
 words_of _ = []
 
 -- The bytes of words.
-abbrev pub spelled : List ℕ → List ℕ
+unfoldable pub spelled : List ℕ → List ℕ
 spelled ws = flat_map (λ w. little_bytes 4 w) ws
 
 abbrev pub AreWords : List ℕ → Type 0

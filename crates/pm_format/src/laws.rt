@@ -1,11 +1,13 @@
-ghost use Rattle.std.specs.Prelude.{◌≡◌, [], ◌++◌, ℕ, List};
-ghost use Rattle.pm_forest.specs.Forest.{Hierarchy};
-ghost use Rattle.pm_forest.specs.Rules.{HasShape};
-ghost use Rattle.pm_format.specs.Stream.{stream};
+ghost use Rattle.pm_format.specs.Laws.{OneSpelling, NoPrefix, WhatHasNoFaultIsWhole, WholeTextsHaveNoFault, FaultsStay, CutTextsAreTruncated};
 
-/// Laws of stream texts, which take no step: each hierarchy has one spelling, and no stream text is a proper prefix of
-/// another.
+/// Laws of stream texts, which take no step: each hierarchy has one spelling, no stream text is a proper prefix of
+/// another, and bytes have no fault exactly where they begin with the text of a hierarchy of the right shape. A fault is
+/// told by the bytes up to the unit that has it, and a text that is cut off has no other fault.
 pub fn streams_are_sound()
-    ensures one_spelling { (h g : Hierarchy) (rest more : List ℕ) → HasShape h → HasShape g → stream h ++ rest ≡ stream g ++ more → h ≡ g }
-    ensures no_prefix { (h g : Hierarchy) (rest : List ℕ) → HasShape h → HasShape g → stream h ++ rest ≡ stream g → rest ≡ [] }
+    ensures one_spelling { OneSpelling }
+    ensures no_prefix { NoPrefix }
+    ensures accepted { WhatHasNoFaultIsWhole }
+    ensures whole { WholeTextsHaveNoFault }
+    ensures stay { FaultsStay }
+    ensures cut_off { CutTextsAreTruncated }
 {}

@@ -1,4 +1,5 @@
-use crate::{OutOfMemory, WholeFail, decode_whole};
+use crate::{FormatError, OutOfMemory, Whole, decode_whole, encode, stream_len};
+use pm_io::MemSink;
 use std::alloc::Global;
 use std::test::Fail;
 
@@ -46,26 +47,91 @@ fn bytes_of(alloc: Global, words: &[i32]) -> Result<Vec<u8>, OutOfMemory> {
     Ok(bytes)
 }
 
+// Reads a text of fewer than 1,000 bytes.
+fn decoded(alloc: Global, bytes: &[u8]) -> Result<Whole, FormatError> {
+    if bytes.len() >= 1_000 {
+        return Err(FormatError::OutOfMemory);
+    }
+    decode_whole(alloc, bytes)
+}
+
+// Changes of one word of the octahedron: the word's first byte, what stands there in its place, and the fault.
+const DAMAGED: [(usize, i32, FormatError); 11] = [
+    (0, 0x4d50_4458, FormatError::BadMagic),
+    (4, 7, FormatError::BadVersion(7)),
+    (20, 3, FormatError::BadCount),
+    (36, 0, FormatError::BadRoot(0)),
+    (96, 3, FormatError::BadRoot(3)),
+    (80, 1, FormatError::BadInput(2)),
+    (108, 0, FormatError::BadFace(0)),
+    (132, 4, FormatError::BadInput(5)),
+    (168, 0, FormatError::BadRecord(0)),
+    (208, 0, FormatError::BadRecord(0)),
+    (224, 9, FormatError::BadInput(10)),
+];
+
 #[test]
-fn reads_the_text_that_bytes_begin_with(rt: HostRuntime) -> Result<(), Fail> {
+fn reads_and_writes_the_text_that_bytes_begin_with(rt: HostRuntime) -> Result<(), Fail> {
     let alloc = rt.alloc();
     for (words, used, records, faces) in [
         (OCTAHEDRON.as_slice(), 352, 2, 8),
         (SQUARE.as_slice(), 168, 1, 2),
     ] {
         let mut bytes = bytes_of(alloc, words)?;
-        for cut in [0, 3, 4, 24, 100, 167, 351] {
-            let cut = bytes.len().saturating_sub(1).min(cut);
-            let fail = decode_whole(alloc, &bytes[..cut]).err();
-            assert_eq!(rt; fail, Some(WholeFail::NotStream), "cut after {cut} bytes");
-        }
         for _after in 0..2 {
-            let whole = decode_whole(alloc, &bytes).expect(&rt, "a stream");
+            let whole = decoded(alloc, &bytes).expect(&rt, "a stream");
             assert_eq!(rt; whole.used, used);
             assert_eq!(rt; whole.h.records(), records);
             assert_eq!(rt; whole.h.faces(), faces);
+            assert_eq!(rt; stream_len(&whole.h), used as u64);
+            let mut sink = MemSink::new(alloc, used, 7, &[])?;
+            assert!(rt; encode(&whole.h, &mut sink).is_ok());
+            assert_eq!(rt; sink.bytes().len(), used);
+            assert!(rt; bytes.starts_with(sink.bytes()), "the text of {used} bytes");
             bytes.push(0)?;
         }
+    }
+    Ok(())
+}
+
+#[test]
+fn names_the_byte_at_which_a_text_is_cut_off(rt: HostRuntime) -> Result<(), Fail> {
+    let alloc = rt.alloc();
+    let bytes = bytes_of(alloc, &OCTAHEDRON)?;
+    for cut in [0, 1, 3, 4, 7, 8, 23, 24, 43, 104, 212, 235, 351] {
+        let fault = decoded(alloc, &bytes[..bytes.len().min(cut)]).err();
+        assert_eq!(rt; fault, Some(FormatError::Truncated(cut as u32)));
+    }
+    Ok(())
+}
+
+#[test]
+fn names_the_first_fault(rt: HostRuntime) -> Result<(), Fail> {
+    let alloc = rt.alloc();
+    for (at, word, fault) in DAMAGED {
+        let mut words = OCTAHEDRON;
+        if let Some(place) = words.get_mut(at / 4) {
+            *place = word;
+        }
+        let bytes = bytes_of(alloc, &words)?;
+        let found = decoded(alloc, &bytes).err();
+        assert_eq!(rt; found, Some(fault), "word at byte {at}");
+    }
+    Ok(())
+}
+
+#[test]
+fn judges_a_unit_when_its_last_byte_is_there(rt: HostRuntime) -> Result<(), Fail> {
+    let alloc = rt.alloc();
+    for (bytes, fault) in [
+        (b"".as_slice(), FormatError::Truncated(0)),
+        (b"VDP", FormatError::Truncated(3)),
+        (b"VDX", FormatError::BadMagic),
+        (b"VDPX\x02\0\0\0", FormatError::BadMagic),
+        (b"VDPM\x02\0\0", FormatError::Truncated(7)),
+        (b"VDPM\x02\0\0\0", FormatError::BadVersion(2)),
+    ] {
+        assert_eq!(rt; decoded(alloc, bytes).err(), Some(fault));
     }
     Ok(())
 }

@@ -1,10 +1,10 @@
 // Each unit of a stream: from words to the shaper.
-ghost use Rattle.std.specs.Prelude.{◌≡◌, ◌⊎◌, ◌||◌, true, Some, None, MatchOption, IfSome};
-ghost use Rattle.std.specs.Option.{option_map};
+ghost use Rattle.std.specs.Prelude.{◌≡◌, ◌⊎◌, ◌||◌, true, Some, None, Ok, Err, MatchOption, MatchResult, IfSome};
 ghost use Rattle.pm_forest.specs.declared.parts.UnitKind.TheVariants as kinds;
 ghost use Rattle.pm_forest.specs.Shaping.{expects, next_root};
-ghost use Rattle.pm_format.specs.Reading.{root_at, base_at, head_at, new_face_at, root_after, base_after, face_after, faces_after, record_after, header_at, took_root, took_base, took_face, took_record};
+ghost use Rattle.pm_format.specs.Reading.{root_at, base_at, head_at, new_face_at, counts_at, root_after, base_after, face_after, faces_after, record_after, header_at, read_map, took_root, took_base, took_face, took_record};
 
+use crate::stop::Stop;
 use crate::words::Words;
 use pm_forest::{Counts, Face, Head, Shaper, UnitKind};
 
@@ -90,73 +90,93 @@ fn take_face_words(words: &mut Words) -> Option<FaceUnit>
     })
 }
 
-const MAGIC: u32 = 0x4d50_4456;
-
-/// The counts of a header.
-#[tactic(auto, unfolding(crate::specs::Reading::header_at))]
-pub fn take_header(words: &mut Words) -> Option<Counts>
-    ensures { MatchOption result (header_at words.old ≡ None) (λ c. header_at words.old ≡ Some (c, words.new)) }
+fn take_counts(words: &mut Words) -> Option<Counts>
+    ensures { MatchOption result (counts_at words.old ≡ None) (λ c. counts_at words.old ≡ Some (c, words.new)) }
 {
-    let magic = words.next_word()?;
-    let version = words.next_word()?;
     let leaves = words.next_word()?;
     let roots = words.next_word()?;
     let bases = words.next_word()?;
     let records = words.next_word()?;
-    if magic == MAGIC && version == 1 {
-        Some(Counts {
-            leaves,
-            roots,
-            bases,
-            records,
-        })
-    } else {
-        None
+    Some(Counts {
+        leaves,
+        roots,
+        bases,
+        records,
+    })
+}
+
+/// The magic as a word.
+pub const MAGIC: u32 = 0x4d50_4456;
+
+/// The version that is read and written.
+pub const VERSION: u32 = 1;
+
+/// The counts of a header. The magic is judged before, by its bytes.
+#[tactic(auto, unfolding(crate::specs::Reading::header_at))]
+pub fn take_header(words: &mut Words) -> Result<Counts, Stop>
+    ensures { MatchResult result (λ c. header_at words.old ≡ Ok (c, words.new)) (λ e. header_at words.old ≡ Err e) }
+{
+    let (Some(_), Some(version)) = (words.next_word(), words.next_word()) else {
+        return Err(Stop::End);
+    };
+    if version != VERSION {
+        return Err(Stop::Version(version));
     }
+    take_counts(words).ok_or(Stop::End)
 }
 
-/// Takes the next root in; none where the words end or the root has a fault.
-pub fn take_root(words: &mut Words, shaper: &mut Shaper) -> Option<()>
+/// Takes the next root in, or tells why reading stops at it.
+pub fn take_root(words: &mut Words, shaper: &mut Shaper) -> Result<(), Stop>
     requires { expects shaper.old ≡ kinds.Root }
-    ensures { MatchOption result
-        (root_after shaper.old.counts shaper.old.h.roots words.old ≡ None)
-        (λ _. option_map (took_root shaper.old) (root_after shaper.old.counts shaper.old.h.roots words.old) ≡ Some (shaper.new, words.new)) }
+    ensures { MatchResult result
+        (λ _. read_map (took_root shaper.old) (root_after shaper.old.counts shaper.old.h.roots words.old) ≡ Ok (shaper.new, words.new))
+        (λ e. root_after shaper.old.counts shaper.old.h.roots words.old ≡ Err e) }
 {
-    let unit = take_root_words(words)?;
-    shaper.add_root(unit.place, unit.width, unit.input).ok()
+    let Some(unit) = take_root_words(words) else {
+        return Err(Stop::End);
+    };
+    shaper
+        .add_root(unit.place, unit.width, unit.input)
+        .map_err(Stop::Fault)
 }
 
-/// Takes the next base face in; none where the words end or the face has a fault.
-pub fn take_base(words: &mut Words, shaper: &mut Shaper) -> Option<()>
+/// Takes the next base face in, or tells why reading stops at it.
+pub fn take_base(words: &mut Words, shaper: &mut Shaper) -> Result<(), Stop>
     requires { expects shaper.old ≡ kinds.Base }
-    ensures { MatchOption result
-        (base_after shaper.old.h.roots shaper.old.h.bases words.old ≡ None)
-        (λ _. option_map (took_base shaper.old) (base_after shaper.old.h.roots shaper.old.h.bases words.old) ≡ Some (shaper.new, words.new)) }
+    ensures { MatchResult result
+        (λ _. read_map (took_base shaper.old) (base_after shaper.old.h.roots shaper.old.h.bases words.old) ≡ Ok (shaper.new, words.new))
+        (λ e. base_after shaper.old.h.roots shaper.old.h.bases words.old ≡ Err e) }
 {
-    let face = take_base_words(words)?;
-    shaper.add_base(face).ok()
+    let Some(face) = take_base_words(words) else {
+        return Err(Stop::End);
+    };
+    shaper.add_base(face).map_err(Stop::Fault)
 }
 
 // Takes the next face of the coming record in.
 #[tactic(auto, unfolding(crate::specs::Reading::face_after))]
-fn take_face(words: &mut Words, shaper: &mut Shaper) -> Option<()>
+fn take_face(words: &mut Words, shaper: &mut Shaper) -> Result<(), Stop>
     requires { (expects shaper.old ≡ kinds.LeftFace) ⊎ (expects shaper.old ≡ kinds.RightFace) }
-    ensures { IfSome shaper.old.coming (λ p. MatchOption result
-        (face_after shaper.old.h p words.old ≡ None)
-        (λ _. option_map (took_face shaper.old) (face_after shaper.old.h p words.old) ≡ Some (shaper.new, words.new))) }
+    ensures { IfSome shaper.old.coming (λ p. MatchResult result
+        (λ _. read_map (took_face shaper.old) (face_after shaper.old.h p words.old) ≡ Ok (shaper.new, words.new))
+        (λ e. face_after shaper.old.h p words.old ≡ Err e)) }
 {
-    let unit = take_face_words(words)?;
-    shaper.add_face(unit.face, unit.first, unit.second).ok()
+    let Some(unit) = take_face_words(words) else {
+        return Err(Stop::End);
+    };
+    shaper
+        .add_face(unit.face, unit.first, unit.second)
+        .map_err(Stop::Fault)
 }
 
 // Takes the faces of the coming record in: the left one, the right one, or both.
 #[tactic(auto, unfolding(crate::specs::Reading::faces_after))]
-fn take_faces(words: &mut Words, shaper: &mut Shaper) -> Option<()>
+fn take_faces(words: &mut Words, shaper: &mut Shaper) -> Result<(), Stop>
     requires kind { (expects shaper.old ≡ kinds.LeftFace) ⊎ (expects shaper.old ≡ kinds.RightFace) }
     requires due { IfSome shaper.old.coming (λ p. p.left_due || p.right_due ≡ true) }
-    ensures { IfSome shaper.old.coming (λ p. MatchOption result
-        (faces_after shaper.old.h p words.old ≡ None)
-        (λ _. option_map (took_face shaper.old) (faces_after shaper.old.h p words.old) ≡ Some (shaper.new, words.new))) }
+    ensures { IfSome shaper.old.coming (λ p. MatchResult result
+        (λ _. read_map (took_face shaper.old) (faces_after shaper.old.h p words.old) ≡ Ok (shaper.new, words.new))
+        (λ e. faces_after shaper.old.h p words.old ≡ Err e)) }
 {
     if shaper.expects() == UnitKind::LeftFace {
         take_face(words, shaper)?;
@@ -164,18 +184,20 @@ fn take_faces(words: &mut Words, shaper: &mut Shaper) -> Option<()>
     if shaper.expects() == UnitKind::RightFace {
         take_face(words, shaper)?;
     }
-    Some(())
+    Ok(())
 }
 
-/// Takes the next record in, its head and then its faces; none where the words end or one of them has a fault.
+/// Takes the next record in, its head and then its faces, or tells why reading stops at one of them.
 #[tactic(auto, unfolding(crate::specs::Reading::record_after))]
-pub fn take_record(words: &mut Words, shaper: &mut Shaper) -> Option<()>
+pub fn take_record(words: &mut Words, shaper: &mut Shaper) -> Result<(), Stop>
     requires { expects shaper.old ≡ kinds.Head }
-    ensures { MatchOption result
-        (record_after shaper.old.h words.old ≡ None)
-        (λ _. option_map (took_record shaper.old) (record_after shaper.old.h words.old) ≡ Some (shaper.new, words.new)) }
+    ensures { MatchResult result
+        (λ _. read_map (took_record shaper.old) (record_after shaper.old.h words.old) ≡ Ok (shaper.new, words.new))
+        (λ e. record_after shaper.old.h words.old ≡ Err e) }
 {
-    let head = take_head_words(words)?;
-    shaper.add_head(head).ok()?;
+    let Some(head) = take_head_words(words) else {
+        return Err(Stop::End);
+    };
+    shaper.add_head(head).map_err(Stop::Fault)?;
     take_faces(words, shaper)
 }

@@ -1,9 +1,9 @@
 use Rattle.std.proofs.Common.{arith}
-use Rattle.pm_format.proofs.WholeLaws.{length-stream_words, length-stream}
-use Rattle.pm_format.proofs.decode.text_len.Goals as goal
+use Rattle.pm_format.proofs.LengthLaws.{length-stream_words, length-stream}
+use Rattle.pm_format.proofs.length.stream_len.Goals as goal
 
-pub overflow_sub-result : goal.overflow_sub-result
-overflow_sub-result c =
+pub overflow_sub-faces : goal.overflow_sub-faces
+overflow_sub-faces c =
     let (few, words) = length-stream_words c.args.h.now in
     omega (arith, c.bases-2.ensures.value, c.faces.ensures.value)
 

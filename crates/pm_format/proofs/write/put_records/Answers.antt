@@ -1,0 +1,41 @@
+use Rattle.std.proofs.Common.{◌<◌, length, arith, sym, subst}
+use Rattle.std.proofs.lemmas.Grind.{common_steps}
+use Rattle.std.proofs.lemmas.List.{get_or_default}
+use Rattle.pm_io.specs.Bytes.{Gains, GainsPart}
+use Rattle.pm_io.proofs.LineLaws.{line_goes_on, line_part}
+use Rattle.pm_forest.specs.Forest.{no_record, record_at}
+use Rattle.pm_format.specs.Words.{spelled, AreWords}
+use Rattle.pm_format.specs.Stream.{new_face_words, record_words}
+use Rattle.pm_format.proofs.WordFits.{faces_are_words}
+use Rattle.pm_format.proofs.write.put_records.Goals as goal
+
+pub put_record-requires-clause-left : goal.put_record-requires-clause-left
+put_record-requires-clause-left g c =
+    let both = faces_are_words c.args.h.now c.has_shape.ensures c.loop-k.k (omega (arith, c.records-k-end.ensures.value)) in
+    subst (λ r. AreWords (new_face_words r.left)) (sym c.record_at.ensures) both.0
+
+pub put_record-requires-clause-right : goal.put_record-requires-clause-right
+put_record-requires-clause-right g c =
+    let both = faces_are_words c.args.h.now c.has_shape.ensures c.loop-k.k (omega (arith, c.records-k-end.ensures.value)) in
+    subst (λ r. AreWords (new_face_words r.right)) (sym c.record_at.ensures) both.1
+
+pub returns-in-Err-clause-err : goal.returns-in-Err-clause-err
+returns-in-Err-clause-err g c =
+    let records = c.args.h.now.records in
+    let k = c.loop-k.k in
+    let lt : k < length records = omega (arith, c.records-k-end.ensures.value) in
+    let r = record_at c.args.h.now k in
+    let part = subst (λ s. GainsPart (g.K.Sink.got c.loop-k.out) (g.K.Sink.got c.put_record.new.out) (spelled (record_words s))) c.record_at.ensures c.in-Err.ensures.err in
+    line_part (λ x. spelled (record_words x)) records k r _ _ _ lt (get_or_default records k no_record r lt) c.loop-k.invariant.text part
+
+pub loop-k-preserved : goal.loop-k-preserved
+loop-k-preserved g c =
+    let records = c.args.h.now.records in
+    let k = c.loop-k.k in
+    let lt : k < length records = omega (arith, c.records-k-end.ensures.value) in
+    let r = record_at c.args.h.now k in
+    let unit = subst (λ s. Gains (g.K.Sink.got c.loop-k.out) (g.K.Sink.got c.put_record.new.out) (spelled (record_words s))) c.record_at.ensures c.in_default.ensures.ok in
+    record {
+      text = line_goes_on (λ x. spelled (record_words x)) records k r _ _ _ lt (get_or_default records k no_record r lt) c.loop-k.invariant.text unit;
+      count = grind (arith, common_steps, c.in_default.ensures.cause.same);
+    }

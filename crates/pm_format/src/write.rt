@@ -1,0 +1,212 @@
+// Writes the stream text of a hierarchy.
+ghost use Rattle.std.specs.Prelude.{◌≡◌, ◌≤◌, ◌<◌, ◌^◌, length, Some, OnOk, OnErr};
+ghost use Rattle.std.specs.List.{flat_map};
+ghost use Rattle.pm_io.specs.Bytes.{Gains, GainsPart};
+ghost use Rattle.pm_io.specs.Causes.{HasCause};
+ghost use Rattle.pm_forest.specs.Forest.{leaf_count, record_count};
+ghost use Rattle.pm_forest.specs.Rules.{word_of};
+ghost use Rattle.pm_format.specs.Words.{spelled, AreWords};
+ghost use Rattle.pm_format.specs.Stream.{header_words, root_words, base_words, head_words, new_face_words, record_words, stream};
+
+use crate::units::{MAGIC, VERSION};
+use byteorder::{ByteOrder, LittleEndian};
+use pm_base::Side;
+use pm_forest::{Face, Hierarchy, NewFace, Record, Root};
+use pm_io::{Sink, WriteFault, put_all};
+
+// Puts a unit's words as one piece.
+#[tactic(auto, unfolding(crate::specs::Words::spelled))]
+fn put_words<K: Sink>(words: &[u32], out: &mut K) -> Result<(), WriteFault>
+    requires { length words.now ≤ 11 }
+    ensures ok { OnOk result (Gains (K.got out.old) (K.got out.new) (spelled words.now)) }
+    ensures err { OnErr result (GainsPart (K.got out.old) (K.got out.new) (spelled words.now)) }
+    ensures cause { HasCause (K.faults out.old) (K.faults out.new) result }
+{
+    let mut bytes = [0; 44];
+    let unit = &mut bytes[..4 * words.len()];
+    LittleEndian::write_u32_into(words, unit);
+    put_all(out, unit)
+}
+
+// The word that names a neighbour: 0 for none.
+fn word_of(side: Option<Side>) -> u32
+    requires { word_of side < 2 ^ 32 }
+    ensures { result ≡ word_of side }
+{
+    match side {
+        None => 0,
+        Some(e) => e.0 + 1,
+    }
+}
+
+fn header_words(h: &Hierarchy) -> [u32; 6]
+    ensures { result ≡ header_words h.now }
+{
+    [
+        MAGIC,
+        VERSION,
+        h.leaves(),
+        h.roots(),
+        h.bases(),
+        h.records(),
+    ]
+}
+
+fn root_words(root: &Root) -> [u32; 5]
+    ensures { result ≡ root_words root.now }
+{
+    let place = &root.place;
+    [
+        place.x().cast_unsigned(),
+        place.y().cast_unsigned(),
+        place.z().cast_unsigned(),
+        root.width,
+        root.input,
+    ]
+}
+
+fn base_words(face: &Face) -> [u32; 4]
+    ensures { result ≡ base_words face.now }
+{
+    [face.a, face.b, face.c, face.input]
+}
+
+fn head_words(split: &Record) -> [u32; 11]
+    ensures { result ≡ head_words split.now }
+{
+    let (t, u) = (&split.t.place, &split.u.place);
+    let presence = u32::from(split.left.is_some()) + 2 * u32::from(split.right.is_some());
+    [
+        split.s,
+        split.width,
+        t.x().cast_unsigned(),
+        t.y().cast_unsigned(),
+        t.z().cast_unsigned(),
+        split.t.input,
+        u.x().cast_unsigned(),
+        u.y().cast_unsigned(),
+        u.z().cast_unsigned(),
+        split.u.input,
+        presence,
+    ]
+}
+
+fn new_face_words(new: &NewFace) -> [u32; 6]
+    requires first { word_of new.now.first < 2 ^ 32 }
+    requires second { word_of new.now.second < 2 ^ 32 }
+    ensures { result ≡ new_face_words (Some new.now) }
+{
+    let face = &new.face;
+    [
+        face.a,
+        face.b,
+        face.c,
+        face.input,
+        word_of(new.first),
+        word_of(new.second),
+    ]
+}
+
+fn put_header<K: Sink>(h: &Hierarchy, out: &mut K) -> Result<(), WriteFault>
+    ensures ok { OnOk result (Gains (K.got out.old) (K.got out.new) (spelled (header_words h.now))) }
+    ensures err { OnErr result (GainsPart (K.got out.old) (K.got out.new) (spelled (header_words h.now))) }
+    ensures cause { HasCause (K.faults out.old) (K.faults out.new) result }
+{
+    put_words(&header_words(h), out)
+}
+
+// Puts a new face where there is one.
+fn put_new_face<K: Sink>(new: Option<NewFace>, out: &mut K) -> Result<(), WriteFault>
+    requires { AreWords (new_face_words new) }
+    ensures ok { OnOk result (Gains (K.got out.old) (K.got out.new) (spelled (new_face_words new))) }
+    ensures err { OnErr result (GainsPart (K.got out.old) (K.got out.new) (spelled (new_face_words new))) }
+    ensures cause { HasCause (K.faults out.old) (K.faults out.new) result }
+{
+    match new {
+        None => Ok(()),
+        Some(face) => put_words(&new_face_words(&face), out),
+    }
+}
+
+fn put_head<K: Sink>(split: &Record, out: &mut K) -> Result<(), WriteFault>
+    ensures ok { OnOk result (Gains (K.got out.old) (K.got out.new) (spelled (head_words split.now))) }
+    ensures err { OnErr result (GainsPart (K.got out.old) (K.got out.new) (spelled (head_words split.now))) }
+    ensures cause { HasCause (K.faults out.old) (K.faults out.new) result }
+{
+    put_words(&head_words(split), out)
+}
+
+fn put_record<K: Sink>(split: &Record, out: &mut K) -> Result<(), WriteFault>
+    requires left { AreWords (new_face_words split.now.left) }
+    requires right { AreWords (new_face_words split.now.right) }
+    ensures ok { OnOk result (Gains (K.got out.old) (K.got out.new) (spelled (record_words split.now))) }
+    ensures err { OnErr result (GainsPart (K.got out.old) (K.got out.new) (spelled (record_words split.now))) }
+    ensures cause { HasCause (K.faults out.old) (K.faults out.new) result }
+{
+    if let Err(fault) = put_head(split, out) {
+        return Err(fault);
+    }
+    if let Err(fault) = put_new_face(split.left, out) {
+        return Err(fault);
+    }
+    put_new_face(split.right, out)
+}
+
+fn put_roots<K: Sink>(h: &Hierarchy, out: &mut K) -> Result<(), WriteFault>
+    ensures ok { OnOk result (Gains (K.got out.old) (K.got out.new) (flat_map (λ r. spelled (root_words r)) h.now.roots)) }
+    ensures err { OnErr result (GainsPart (K.got out.old) (K.got out.new) (flat_map (λ r. spelled (root_words r)) h.now.roots)) }
+    ensures cause { HasCause (K.faults out.old) (K.faults out.new) result }
+{
+    for i in 0..h.roots() {
+        if let Err(fault) = put_words(&root_words(&h.root_at(i)), out) {
+            return Err(fault);
+        }
+    }
+    Ok(())
+}
+
+fn put_bases<K: Sink>(h: &Hierarchy, out: &mut K) -> Result<(), WriteFault>
+    ensures ok { OnOk result (Gains (K.got out.old) (K.got out.new) (flat_map (λ f. spelled (base_words f)) h.now.bases)) }
+    ensures err { OnErr result (GainsPart (K.got out.old) (K.got out.new) (flat_map (λ f. spelled (base_words f)) h.now.bases)) }
+    ensures cause { HasCause (K.faults out.old) (K.faults out.new) result }
+{
+    for i in 0..h.bases() {
+        if let Err(fault) = put_words(&base_words(&h.base_at(i)), out) {
+            return Err(fault);
+        }
+    }
+    Ok(())
+}
+
+fn put_records<K: Sink>(h: &Hierarchy, out: &mut K) -> Result<(), WriteFault>
+    ensures ok { OnOk result (Gains (K.got out.old) (K.got out.new) (flat_map (λ r. spelled (record_words r)) h.now.records)) }
+    ensures err { OnErr result (GainsPart (K.got out.old) (K.got out.new) (flat_map (λ r. spelled (record_words r)) h.now.records)) }
+    ensures cause { HasCause (K.faults out.old) (K.faults out.new) result }
+{
+    h.has_shape();
+    for k in 0..h.records() {
+        if let Err(fault) = put_record(h.record_at(k), out) {
+            return Err(fault);
+        }
+    }
+    Ok(())
+}
+
+/// Writes the stream text of a hierarchy. After a fault the sink has gained a part of the text from its front, and not
+/// the whole. It takes no memory, and time linear in the text.
+pub fn encode<K: Sink>(h: &Hierarchy, out: &mut K) -> Result<(), WriteFault>
+    ensures ok { OnOk result (Gains (K.got out.old) (K.got out.new) (stream h.now)) }
+    ensures err { OnErr result (GainsPart (K.got out.old) (K.got out.new) (stream h.now)) }
+    ensures cause { HasCause (K.faults out.old) (K.faults out.new) result }
+{
+    if let Err(fault) = put_header(h, out) {
+        return Err(fault);
+    }
+    if let Err(fault) = put_roots(h, out) {
+        return Err(fault);
+    }
+    if let Err(fault) = put_bases(h, out) {
+        return Err(fault);
+    }
+    put_records(h, out)
+}
