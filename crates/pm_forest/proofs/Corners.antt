@@ -49,7 +49,7 @@ pub record CornersFit (h : Hierarchy) (p q s : ℕ) (f : Face) : Type 0 where
 abbrev pub AreAlong : Hierarchy → ℕ → ℕ → ℕ → ℕ → ℕ → ℕ → Type 0
 AreAlong h p q s x y z = Holds h p x × Holds h q y × (holds h s z ≡ false)
 
-along : (h : Hierarchy) (p q s x y z : ℕ) →
+pub along : (h : Hierarchy) (p q s x y z : ℕ) →
     runs_from (interval_of h p) (interval_of h q) (interval_of h s) x y z ≡ true → AreAlong h p q s x y z
 unfolding holds
 along h p q s x y z e =
@@ -58,7 +58,7 @@ along h p q s x y z e =
     (n.0, n.1, not-true (holds h s z) m.1)
 
 -- in one of the three orders that a face's corners have
-ways : (h : Hierarchy) (p q s : ℕ) (f : Face) → runs (interval_of h p) (interval_of h q) (interval_of h s) f ≡ true →
+pub ways : (h : Hierarchy) (p q s : ℕ) (f : Face) → runs (interval_of h p) (interval_of h q) (interval_of h s) f ≡ true →
     AreAlong h p q s f.a f.b f.c ⊎ (AreAlong h p q s f.b f.c f.a ⊎ AreAlong h p q s f.c f.a f.b)
 unfolding runs
 ways h p q s f e =

@@ -35,7 +35,7 @@ module _ (h : Hierarchy) (shape : HasShape h) where
   nodes : HasForestShape h
   nodes = shape_of_nodes h shape
 
-  root_is : (v : ℕ) → v < length h.roots → interval_of h v ≡ root_interval (widths h) 0 v
+  pub root_is : (v : ℕ) → v < length h.roots → interval_of h v ≡ root_interval (widths h) 0 v
   unfolding interval_after
   root_is v l = interval-kept h 0 (record_count h) v (omega arith) (omega arith)
 

@@ -28,3 +28,7 @@ pub mod ViewLaws
 pub mod ShapingLaws
 pub mod FacesTaken
 pub mod NextUnit
+pub mod InputLaws
+pub mod FaceInputs
+pub mod OneToOne
+pub mod MeshLaws

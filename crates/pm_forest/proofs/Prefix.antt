@@ -272,7 +272,7 @@ splitter_of-same_split h r q node v =
 
 -- The shape of the nodes
 
-find_below-none : (p : ℕ → Bool) (n k : ℕ) → find_below p n ≡ None → k < n → p k ≡ false
+pub find_below-none : (p : ℕ → Bool) (n k : ℕ) → find_below p n ≡ None → k < n → p k ≡ false
 find_below-none p zero k none l = absurd (omega arith)
 find_below-none p (suc n) k none l =
     elim (cases_Bool (p n)) [

@@ -116,7 +116,7 @@ revealed_after-none h (suc n) f l e =
       | inr a ↦ revealed_after-none h n f (leb-false _ _ a) (sym (cond-false _ _ _ a) ∙ e)
     ]
 
-base_corners : (h : Hierarchy) → HasShape h → (f : ℕ) → f < face_count h → revealed_by h f ≡ None →
+pub base_corners : (h : Hierarchy) → HasShape h → (f : ℕ) → f < face_count h → revealed_by h f ≡ None →
     BaseFits h.roots (corners_of h f)
 unfolding corners_of
 base_corners h shape f l e =
@@ -197,7 +197,7 @@ new_corners h shape f k l own =
           rw (not_left, right_corners h f k n own not_left is) (right_fits h shape k known n is).0.corners
     ]
 
-leaves_at : (h : Hierarchy) → HasShape h → (f : ℕ) → f < face_count h → (r : Option ℕ) → revealed_by h f ≡ r →
+pub leaves_at : (h : Hierarchy) → HasShape h → (f : ℕ) → f < face_count h → (r : Option ℕ) → revealed_by h f ≡ r →
     ((corners_of h f).a < leaf_count h) × ((corners_of h f).b < leaf_count h) × ((corners_of h f).c < leaf_count h)
 leaves_at h shape f l None e = let fits = base_corners h shape f l e in (fits.a, fits.b, fits.c)
 leaves_at h shape f l (Some k) e = let fits = new_corners h shape f k l e in (fits.a, fits.b, fits.c)

@@ -8,4 +8,5 @@ pub mod Moves
 pub mod Shaping
 pub mod Tables
 pub mod Places
+pub mod Meshes
 pub mod Laws

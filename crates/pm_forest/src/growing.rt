@@ -67,7 +67,7 @@ fn no_splitters(alloc: Global, most: usize) -> Result<Vec<Option<u32>>, OutOfMem
     vec![in alloc; None; most]
 }
 
-fn no_nodes(alloc: Global, most: usize) -> Result<Vec<u32>, OutOfMemory>
+pub fn no_nodes(alloc: Global, most: usize) -> Result<Vec<u32>, OutOfMemory>
     ensures { IfOk result (λ v. v.items ≡ replicate most 0) }
 {
     vec![in alloc; 0; most]

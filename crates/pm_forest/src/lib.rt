@@ -5,8 +5,11 @@ mod faults;
 mod growing;
 mod hierarchy;
 mod marks;
+mod meshes;
 mod parts;
 mod shaper;
+#[cfg(test)]
+mod tests;
 mod theory;
 
 pub use hierarchy::Hierarchy;
@@ -15,7 +18,7 @@ pub use parts::{
     UnitKind,
 };
 pub use shaper::Shaper;
-pub use theory::fronts_are_sound;
+pub use theory::{fronts_are_sound, input_meshes_are_sound};
 
 /// The answer for want of memory.
 pub type OutOfMemory = std::alloc::AllocError;

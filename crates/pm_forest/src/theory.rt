@@ -9,6 +9,7 @@ ghost use Rattle.pm_forest.specs.Laws.{
   KeptExactlyWhereRevealed,
   TestsDecide,
 };
+ghost use Rattle.pm_forest.specs.Meshes.{InputMeshesFollowNumbers};
 
 /// States the laws of fronts, which hold for every hierarchy of the right shape. It does nothing, and callers cite its
 /// clauses.
@@ -20,4 +21,10 @@ pub fn fronts_are_sound()
     ensures lower { LowerRecordsAreFronts }
     ensures kept { KeptExactlyWhereRevealed }
     ensures tests { TestsDecide }
+{}
+
+/// States the law of input meshes: the input numbers of leaves and faces leave none out, and the mesh has each leaf and
+/// face at its own. It does nothing, and callers cite its clause.
+pub fn input_meshes_are_sound()
+    ensures { InputMeshesFollowNumbers }
 {}
