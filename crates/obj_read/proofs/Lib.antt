@@ -4,3 +4,4 @@ pub mod PlaceLaws
 pub mod StandLaws
 pub mod StepLaws
 pub mod FinishLaws
+pub mod FormedLaws
