@@ -2,5 +2,6 @@ pub mod SplitLaws
 pub mod FrameLaws
 pub mod LineCuts
 pub mod ServeLaws
+pub mod SurfaceLaws
 pub mod OutcomeLaws
 pub mod WordLaws

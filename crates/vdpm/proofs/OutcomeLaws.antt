@@ -1,10 +1,12 @@
 -- An outcome is the only one of its bytes, and what follows from how `view` ended.
-use Rattle.std.proofs.Common.{◌≡◌, ◌⊎◌, inl, inr, ℕ, ◌-◌, ◌^◌, ◌<◌, ◌≤◌, List, [], ◌++◌, length, take, drop, Option, Some, None, Err, IfSome, refl, sym, ◌∙◌, ap, subst, arith, length-append}
+use Rattle.std.proofs.Common.{◌≡◌, ◌⊎◌, inl, inr, ℕ, ◌-◌, ◌^◌, ◌<◌, ◌≤◌, List, [], ◌++◌, length, take, drop, Option, Some, None, Result, Ok, Err, IfSome, refl, sym, ◌∙◌, ap, subst, arith, length-append}
 use Rattle.std.specs.Prelude.{codes}
 use Rattle.std.proofs.lemmas.List.{append-nil, append_cancel_left, take-append-drop}
 use Rattle.pm_io.specs.Bytes.{Loses, Gains, GainsPart, AtEnd}
 use Rattle.pm_io.specs.Causes.{Rose}
 use Rattle.pm_io.proofs.Known.{gains_none}
+use Rattle.pm_base.specs.Meshes.{Mesh}
+use Rattle.pm_base.specs.Canonical.{canonical_text}
 use Rattle.pm_forest.specs.Forest.{Hierarchy}
 use Rattle.pm_forest.specs.Fronts.{no_records}
 use Rattle.pm_forest.specs.Rules.{HasShape}
@@ -13,24 +15,28 @@ use Rattle.vdpm.specs.declared.fault.Fault.{Fault}
 use Rattle.vdpm.specs.declared.fault.Fault.TheVariants as faults
 use Rattle.vdpm.specs.declared.fault.CommandFail.{CommandFail}
 use Rattle.vdpm.specs.declared.fault.CommandFail.TheVariants as fails
-use Rattle.vdpm.specs.Input.{TakesTooMany}
+use Rattle.vdpm.specs.declared.fault.InputFail.{InputFail}
+use Rattle.vdpm.specs.declared.fault.InputFail.TheVariants as input
+use Rattle.vdpm.specs.Input.{fail_of, Stops, IsTooLong}
+use Rattle.vdpm.specs.Surface.{IsSurface, refuses_surface}
+use Rattle.vdpm.proofs.SurfaceLaws.{one_surface}
 use Rattle.vdpm.specs.Script.{Ran, refused, ran, split_lines}
 use Rattle.vdpm.specs.declared.words.Asked.{Asked}
 use Rattle.vdpm.specs.declared.words.Asked.TheVariants as asked
-use Rattle.vdpm.specs.Outcome.{IsViewOutcome, IsOutcome, too_long, no_stream, script_run, Replied, CutShort, Ends, Counts, Answers, Said, fail_line, fault_line, status_of}
+use Rattle.vdpm.specs.Outcome.{IsViewOutcome, IsOutcome, whole, done_with, Follows, view_too_long, no_stream, script_run, Replied, CutShort, Ends, Counts, Answers, Said, fail_line, fault_line, status_of}
 
 -- Streams have one spelling, whatever follows them.
 abbrev pub OneSpelling : Type 0
 OneSpelling = (h g : Hierarchy) (rest more : List ℕ) → HasShape h → HasShape g → stream h ++ rest ≡ stream g ++ more → h ≡ g
 
 one_view : OneSpelling → (bytes : List ℕ) {a b : Ran} → IsViewOutcome bytes a → IsViewOutcome bytes b → a ≡ b
-one_view law bytes (too_long many) (too_long more) = refl
-one_view law bytes (too_long many) (no_stream few none) = absurd (omega arith)
-one_view law bytes (too_long many) (script_run few h script shape is) = absurd (omega arith)
-one_view law bytes (no_stream few none) (too_long many) = absurd (omega arith)
+one_view law bytes (view_too_long many) (view_too_long more) = refl
+one_view law bytes (view_too_long many) (no_stream few none) = absurd (omega arith)
+one_view law bytes (view_too_long many) (script_run few h script shape is) = absurd (omega arith)
+one_view law bytes (no_stream few none) (view_too_long many) = absurd (omega arith)
 one_view law bytes (no_stream few none) (no_stream less never) = refl
 one_view law bytes (no_stream few none) (script_run less h script shape is) = absurd (none h script shape is)
-one_view law bytes (script_run few h script shape is) (too_long many) = absurd (omega arith)
+one_view law bytes (script_run few h script shape is) (view_too_long many) = absurd (omega arith)
 one_view law bytes (script_run few h script shape is) (no_stream less none) = absurd (none h script shape is)
 one_view law bytes (script_run few h script shape is) (script_run less g other fits are) =
     let same : h ≡ g = law h g script other shape fits (sym is ∙ are) in
@@ -38,22 +44,57 @@ one_view law bytes (script_run few h script shape is) (script_run less g other f
     let tail : script ≡ other = append_cancel_left (stream h) script other rest in
     ap (λ (f : Hierarchy). ran f no_records 1 (split_lines script)) same ∙ ap (λ (l : List ℕ). ran g no_records 1 (split_lines l)) tail
 
+-- How a command ends where the input is refused or can't be read: no reply is put.
+
+no_reply : (asks : Asked) (bytes : List ℕ) (f : Fault) (got : Option (List ℕ)) → IsOutcome asks bytes (refused f) → Replied asks bytes (Some f) got got
+no_reply asks bytes f got outcome = record { text = []; outcome = outcome; gained = gains_none got }
+
+pub ends_stopped : (asks : Asked) (Refuses : List ℕ → Fault → Type 0) (e : InputFail) (left got : Option (List ℕ)) (before now : ℕ) → ((bytes : List ℕ) (f : Fault) → Refuses bytes f → IsOutcome asks bytes (refused f))
+    → Stops Refuses e left before now → Ends asks (Err (fail_of e)) left got got
+ends_stopped asks Refuses (input.Faulty f) None got before now law stops = tt
+ends_stopped asks Refuses (input.Faulty f) (Some bytes) got before now law stops = no_reply asks bytes f got (law bytes f stops.0)
+ends_stopped asks Refuses input.Read left got before now law stops = refl
+ends_stopped asks Refuses input.OutOfMemory left got before now law stops = refl
+
+pub counts_stopped : (Refuses : List ℕ → Fault → Type 0) (e : InputFail) (left : Option (List ℕ)) (before now out : ℕ) → Stops Refuses e left before now → Counts (Err (fail_of e)) before now out out
+counts_stopped Refuses (input.Faulty f) left before now out stops = (stops.1, refl)
+counts_stopped Refuses input.Read left before now out stops = stops
+counts_stopped Refuses input.OutOfMemory left before now out stops = tt
+
+-- The bytes that were taken are too many.
+pub stops_too_long : (left now : Option (List ℕ)) (taken : List ℕ) → Loses left now taken → 16777216 < length taken → IfSome left (λ bytes. IsTooLong bytes faults.TooLong)
+stops_too_long None now taken took many = tt
+stops_too_long (Some bytes) None taken took many = absurd (cc)
+stops_too_long (Some bytes) (Some rest) taken took many =
+    let whole : Some bytes ≡ Some (taken ++ rest) = took in
+    let are : bytes ≡ taken ++ rest = cc in
+    (refl, omega (arith, many, ap length are, length-append taken rest))
+
+-- How a command ends that writes one text, of which all was put or a part.
+
+pub ends_whole : (asks : Asked) (left old new : Option (List ℕ)) (text : List ℕ) → IfSome left (λ bytes. IsOutcome asks bytes (whole text)) → Gains old new text → IfSome left (λ bytes. Replied asks bytes None old new)
+ends_whole asks None old new text outcome gained = tt
+ends_whole asks (Some bytes) old new text outcome gained = record { text = text; outcome = outcome; gained = gained }
+
+pub ends_short : (asks : Asked) (left old new : Option (List ℕ)) (text : List ℕ) → IfSome left (λ bytes. IsOutcome asks bytes (whole text)) → GainsPart old new text → IfSome left (λ bytes. CutShort asks bytes old new)
+ends_short asks None old new text outcome part = tt
+ends_short asks (Some bytes) old new text outcome part = record { all = whole text; outcome = outcome; part = part }
+
+-- What follows from what the bytes give.
+
+one_follows : {X : Type 0} {IsRead : Result X Fault → Type 0} {does : X → Ran} {a b : Ran} → ((p q : Result X Fault) → IsRead p → IsRead q → p ≡ q) → Follows IsRead does a → Follows IsRead does b → a ≡ b
+one_follows {does = does} one is are = is.done ∙ ap (done_with does) (one is.read are.read is.is are.is) ∙ sym are.done
+
+pub canon_refused : (bytes : List ℕ) (f : Fault) → refuses_surface bytes f → IsOutcome asked.Canon bytes (refused f)
+canon_refused bytes f is = record { read = Err f; is = is; done = refl }
+
+pub canon_whole : (left : Option (List ℕ)) (m : Mesh) → IfSome left (λ bytes. IsSurface bytes (Ok m)) → IfSome left (λ bytes. IsOutcome asked.Canon bytes (whole (canonical_text m)))
+canon_whole None m is = tt
+canon_whole (Some bytes) m is = record { read = Ok m; is = is; done = refl }
+
 pub one_outcome : OneSpelling → (asks : Asked) (bytes : List ℕ) {a b : Ran} → IsOutcome asks bytes a → IsOutcome asks bytes b → a ≡ b
-one_outcome law asked.Canon bytes is are = is ∙ sym are
+one_outcome law asked.Canon bytes is are = one_follows (λ p q one other. one_surface bytes one other) is are
 one_outcome law (asked.View budget) bytes is are = one_view law bytes is are
-
--- How `view` ends where the input is refused: no reply is put.
-
-no_reply : (budget : ℕ) (bytes : List ℕ) (f : Fault) (got : Option (List ℕ)) → IsViewOutcome bytes (refused f) → Replied (asked.View budget) bytes (Some f) got got
-no_reply budget bytes f got outcome = record { text = []; outcome = outcome; gained = gains_none got }
-
-pub ends_too_long : (budget : ℕ) (left now got : Option (List ℕ)) → TakesTooMany left now → IfSome left (λ bytes. Replied (asked.View budget) bytes (Some faults.TooLong) got got)
-ends_too_long budget None now got many = tt
-ends_too_long budget (Some bytes) None got many = absurd (let took = many.took in cc)
-ends_too_long budget (Some bytes) (Some rest) got many =
-    let took : Some bytes ≡ Some (many.taken ++ rest) = many.took in
-    let are : bytes ≡ many.taken ++ rest = cc in
-    no_reply budget bytes faults.TooLong got (too_long (omega (arith, many.many, ap length are, length-append many.taken rest)))
 
 -- The bytes that were taken up to the end are all that were left.
 whole_input : (bytes items : List ℕ) (now : Option (List ℕ)) → Loses (Some bytes) now items → AtEnd now → bytes ≡ items
@@ -63,12 +104,15 @@ whole_input bytes items (Some rest) loses end =
     let are : bytes ≡ items ++ rest = cc in
     are ∙ ap (λ (l : List ℕ). items ++ l) end ∙ append-nil items
 
+pub view_refused : (budget : ℕ) (bytes : List ℕ) (f : Fault) → IsTooLong bytes f → IsOutcome (asked.View budget) bytes (refused f)
+view_refused budget bytes f is = subst (λ (x : Fault). IsViewOutcome bytes (refused x)) (sym is.0) (view_too_long is.1)
+
 pub ends_no_stream : (budget : ℕ) (left now got : Option (List ℕ)) (items : List ℕ) → Loses left now items → AtEnd now → length items ≤ 16777216
     → ((h : Hierarchy) (rest : List ℕ) → HasShape h → items ≡ stream h ++ rest → ⊥) → IfSome left (λ bytes. Replied (asked.View budget) bytes (Some faults.NotStream) got got)
 ends_no_stream budget None now got items loses end few none = tt
 ends_no_stream budget (Some bytes) now got items loses end few none =
     let are : bytes ≡ items = whole_input bytes items now loses end in
-    no_reply budget bytes faults.NotStream got (no_stream (subst (λ (l : List ℕ). length l ≤ 16777216) (sym are) few) (λ h rest shape is. none h rest shape (sym are ∙ is)))
+    no_reply (asked.View budget) bytes faults.NotStream got (no_stream (subst (λ (l : List ℕ). length l ≤ 16777216) (sym are) few) (λ h rest shape is. none h rest shape (sym are ∙ is)))
 
 -- How `view` ends where the whole input begins with a stream text: the script was run.
 

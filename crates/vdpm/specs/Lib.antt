@@ -4,4 +4,5 @@ pub mod Frame
 pub mod Script
 pub mod Serving
 pub mod Input
+pub mod Surface
 pub mod Outcome

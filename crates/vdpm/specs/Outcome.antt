@@ -7,36 +7,44 @@ use Rattle.pm_forest.specs.Forest.{Hierarchy}
 use Rattle.pm_forest.specs.Fronts.{no_records}
 use Rattle.pm_forest.specs.Rules.{HasShape}
 use Rattle.pm_format.specs.Stream.{stream}
-use Rattle.pm_base.specs.Meshes.{Mesh}
 use Rattle.pm_base.specs.Canonical.{canonical_text}
 use Rattle.obj_read.specs.declared.fault.ObjFault.{ObjFault}
 use Rattle.obj_read.specs.declared.fault.ObjFault.TheVariants as obj
-use Rattle.obj_read.specs.Meaning.{Refused, meaning_of}
 use Rattle.vdpm.specs.declared.words.Asked.{Asked}
 use Rattle.vdpm.specs.declared.words.Asked.TheVariants as asked
 use Rattle.vdpm.specs.declared.fault.Fault.{Fault}
 use Rattle.vdpm.specs.declared.fault.Fault.TheVariants as faults
 use Rattle.vdpm.specs.declared.fault.CommandFail.{CommandFail}
 use Rattle.vdpm.specs.declared.fault.CommandFail.TheVariants as fails
+use Rattle.vdpm.specs.Surface.{IsSurface}
 use Rattle.vdpm.specs.Script.{Ran, refused, ran, split_lines}
 
 -- The outcome of `view` on bytes: the replies, and the fault if there is one. Too many bytes are refused first, then bytes
 -- that begin with no stream text; otherwise a script follows the stream.
 pub data IsViewOutcome (bytes : List ℕ) : Ran → Type 0 where
-  too_long : 16777216 < length bytes → IsViewOutcome bytes (refused faults.TooLong)
+  view_too_long : 16777216 < length bytes → IsViewOutcome bytes (refused faults.TooLong)
   no_stream : length bytes ≤ 16777216 → ((h : Hierarchy) (rest : List ℕ) → HasShape h → bytes ≡ stream h ++ rest → ⊥) → IsViewOutcome bytes (refused faults.NotStream)
   script_run : length bytes ≤ 16777216 → (h : Hierarchy) (script : List ℕ) → HasShape h → bytes ≡ stream h ++ script → IsViewOutcome bytes (ran h no_records 1 (split_lines script))
 
--- The outcome of `canon`: the canonical text of the mesh that the bytes spell, or the fault of their first line that has
--- one.
-abbrev pub canon_of : Result Mesh Refused → Ran
-canon_of (Ok m) = record { text = canonical_text m; fault = None }
-canon_of (Err r) = refused (faults.Obj r.fault r.line)
+-- All of the text is written.
+abbrev pub whole : List ℕ → Ran
+whole text = record { text = text; fault = None }
 
--- The outcome of a command on bytes.
+-- What a command does with what it reads, and nothing where the input is refused.
+abbrev pub done_with : {X : Type 0} → (X → Ran) → Result X Fault → Ran
+done_with does (Ok x) = does x
+done_with does (Err f) = refused f
+
+-- The outcome of a command that does this with what it reads, where `IsRead` says what the bytes give.
+pub record Follows {X : Type 0} (IsRead : Result X Fault → Type 0) (does : X → Ran) (all : Ran) : Type 0 where
+  pub read : Result X Fault
+  pub is : IsRead read
+  pub done : all ≡ done_with does read
+
+-- The outcome of a command on bytes. `canon` writes the canonical text of the mesh.
 abbrev pub IsOutcome : Asked → List ℕ → Ran → Type 0
-IsOutcome asked.Canon bytes r = r ≡ canon_of (meaning_of bytes)
-IsOutcome (asked.View budget) bytes r = IsViewOutcome bytes r
+IsOutcome asked.Canon bytes all = Follows (IsSurface bytes) (λ m. whole (canonical_text m)) all
+IsOutcome (asked.View budget) bytes all = IsViewOutcome bytes all
 
 -- The outcome has this fault, or none, and the sink gained its text.
 pub record Replied (asks : Asked) (bytes : List ℕ) (fault : Option Fault) (old new : Option (List ℕ)) : Type 0 where
@@ -79,13 +87,19 @@ number_of obj.NotTriangle = 8
 number_of obj.TooMany = 9
 number_of obj.RepeatedCorner = 10
 
+-- The line of a fault with a place: a word for what is counted, and its number.
+unfoldable pub line_at : ℕ → List ℕ → ℕ → List ℕ
+line_at number word place = codes "vdpm: fault " ++ decimal number ++ codes " " ++ word ++ codes " " ++ decimal place ++ codes "\n"
+
 -- The line of a fault on the error sink.
 unfoldable pub fault_line : Fault → List ℕ
 fault_line faults.TooLong = codes "vdpm: input too long\n"
 fault_line faults.NotStream = codes "vdpm: not a stream\n"
-fault_line (faults.BadLine n) = codes "vdpm: fault 30 line " ++ decimal n ++ codes "\n"
-fault_line (faults.NoRecord n) = codes "vdpm: fault 31 line " ++ decimal n ++ codes "\n"
-fault_line (faults.Obj e n) = codes "vdpm: fault " ++ decimal (number_of e) ++ codes " line " ++ decimal n ++ codes "\n"
+fault_line (faults.Obj e n) = line_at (number_of e) (codes "line") n
+fault_line (faults.EdgeTwice face) = line_at 11 (codes "face") face
+fault_line (faults.NotFan vertex) = line_at 12 (codes "vertex") vertex
+fault_line (faults.BadLine n) = line_at 30 (codes "line") n
+fault_line (faults.NoRecord n) = line_at 31 (codes "line") n
 
 unfoldable pub fail_line : CommandFail → List ℕ
 fail_line (fails.Faulty f) = fault_line f

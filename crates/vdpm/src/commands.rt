@@ -4,19 +4,19 @@ ghost use Rattle.pm_io.specs.Bytes.{AtEnd};
 ghost use Rattle.obj_read.specs.Fails.{FailsBefore};
 ghost use Rattle.vdpm.specs.Outcome.{Ends, Counts};
 
-use crate::fault::{CommandFail, Fault};
+use crate::fault::{CommandFail, Fault, fail_of};
 use crate::front::base_front;
-use crate::input::{InputFail, read_all};
+use crate::input::read_all;
 use crate::script::{ScriptFail, serve};
+use crate::surface::read_surface;
 use crate::words::Asked;
-use obj_read::{ObjFail, read_obj};
 use obj_write::write_obj;
 use pm_format::{WholeFail, decode_whole};
 use pm_io::{Sink, Source};
 use std::alloc::Global;
 
-/// `canon`: reads an OBJ text, and writes the canonical text of its mesh. All memory is taken before the first byte of
-/// output.
+/// `canon`: reads an OBJ text, and writes the canonical text of its mesh where that is an oriented manifold. All memory
+/// is taken before the first byte of output.
 pub fn canon<S: Source, K: Sink>(
     alloc: Global,
     input: &mut S,
@@ -27,13 +27,9 @@ pub fn canon<S: Source, K: Sink>(
     ensures read_whole { OnOk result (AtEnd (S.left input.new)) }
     ensures unreached { IfErr result (λ e. e ≡ CommandFail.Read → FailsBefore (S.left input.old) (S.left input.new)) }
 {
-    let mesh = match read_obj(alloc, input) {
+    let mesh = match read_surface(alloc, input) {
         Ok(mesh) => mesh,
-        Err(ObjFail::Fault { fault, line }) => {
-            return Err(CommandFail::Faulty(Fault::Obj(fault, line)));
-        }
-        Err(ObjFail::Read) => return Err(CommandFail::Read),
-        Err(ObjFail::OutOfMemory) => return Err(CommandFail::OutOfMemory),
+        Err(fail) => return Err(fail_of(fail)),
     };
     match write_obj(&mesh, out) {
         Ok(()) => Ok(()),
@@ -57,9 +53,7 @@ pub fn view<S: Source, K: Sink>(
     let _ = budget;
     let bytes = match read_all(alloc, input) {
         Ok(bytes) => bytes,
-        Err(InputFail::Read) => return Err(CommandFail::Read),
-        Err(InputFail::TooLong) => return Err(CommandFail::Faulty(Fault::TooLong)),
-        Err(InputFail::OutOfMemory) => return Err(CommandFail::OutOfMemory),
+        Err(fail) => return Err(fail_of(fail)),
     };
     let whole = match decode_whole(alloc, &bytes) {
         Ok(whole) => whole,

@@ -1,4 +1,7 @@
 // Why a command ends before its work is whole.
+ghost use Rattle.std.specs.Prelude.{◌≡◌};
+ghost use Rattle.vdpm.specs.Input.{fail_of};
+
 use obj_read::ObjFault;
 
 /// A fault of the input, with its place.
@@ -14,6 +17,18 @@ pub enum Fault {
     NoRecord(u32),
     /// This line of an OBJ text, counted from 1, has this fault.
     Obj(ObjFault, u32),
+    /// A directed side of this face is one of an earlier face too. The faces of an OBJ text are counted from 1.
+    EdgeTwice(u32),
+    /// The faces at this vertex, counted from 1, are no fan.
+    NotFan(u32),
+}
+
+/// Why the input gives nothing to work on.
+#[derive(Clone, Copy, Debug, PartialEq, Eq)]
+pub enum InputFail {
+    Faulty(Fault),
+    Read,
+    OutOfMemory,
 }
 
 /// Why a command ends early.
@@ -23,4 +38,15 @@ pub enum CommandFail {
     Read,
     Write,
     OutOfMemory,
+}
+
+/// A command ends as its input does.
+pub fn fail_of(fail: InputFail) -> CommandFail
+    ensures { result ≡ fail_of fail }
+{
+    match fail {
+        InputFail::Faulty(fault) => CommandFail::Faulty(fault),
+        InputFail::Read => CommandFail::Read,
+        InputFail::OutOfMemory => CommandFail::OutOfMemory,
+    }
 }

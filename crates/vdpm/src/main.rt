@@ -10,6 +10,7 @@ mod line;
 mod run;
 mod say;
 mod script;
+mod surface;
 #[cfg(test)]
 mod tests;
 mod words;

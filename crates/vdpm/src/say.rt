@@ -1,6 +1,6 @@
 // What is said on the error sink.
-ghost use Rattle.std.specs.Prelude.{◌≡◌};
-ghost use Rattle.vdpm.specs.Outcome.{Said, fault_line, fail_line, number_of, status_of};
+ghost use Rattle.std.specs.Prelude.{◌≡◌, ◌≤◌, [], length};
+ghost use Rattle.vdpm.specs.Outcome.{Said, line_at, fault_line, fail_line, number_of, status_of};
 
 use crate::fault::{CommandFail, Fault};
 use obj_read::ObjFault;
@@ -31,7 +31,23 @@ fn number_of(fault: ObjFault) -> u32
     }
 }
 
-// A fault's line, with its place.
+// The line of a fault with a place: a word for what is counted, and its number.
+#[tactic(auto, unfolding(crate::specs::Outcome::line_at))]
+fn put_place(line: &mut Line, number: u32, word: &[u8], place: u32)
+    requires empty { line.old ≡ [] }
+    requires short { length word.now ≤ 16 }
+    ensures { line.new ≡ line_at number word.now place }
+{
+    line.add(b"vdpm: fault ");
+    line.add_number(number);
+    line.add(b" ");
+    line.add(word);
+    line.add(b" ");
+    line.add_number(place);
+    line.add(b"\n");
+}
+
+// The line of a fault.
 #[tactic(auto, unfolding(crate::specs::Outcome::fault_line))]
 fn put_fault(line: &mut Line, fault: Fault)
     ensures { line.new ≡ fault_line fault }
@@ -40,23 +56,11 @@ fn put_fault(line: &mut Line, fault: Fault)
     match fault {
         Fault::TooLong => line.add(b"vdpm: input too long\n"),
         Fault::NotStream => line.add(b"vdpm: not a stream\n"),
-        Fault::BadLine(number) => {
-            line.add(b"vdpm: fault 30 line ");
-            line.add_number(number);
-            line.add(b"\n");
-        }
-        Fault::NoRecord(number) => {
-            line.add(b"vdpm: fault 31 line ");
-            line.add_number(number);
-            line.add(b"\n");
-        }
-        Fault::Obj(fault, number) => {
-            line.add(b"vdpm: fault ");
-            line.add_number(number_of(fault));
-            line.add(b" line ");
-            line.add_number(number);
-            line.add(b"\n");
-        }
+        Fault::BadLine(number) => put_place(line, 30, b"line", number),
+        Fault::NoRecord(number) => put_place(line, 31, b"line", number),
+        Fault::Obj(fault, number) => put_place(line, number_of(fault), b"line", number),
+        Fault::EdgeTwice(face) => put_place(line, 11, b"face", face),
+        Fault::NotFan(vertex) => put_place(line, 12, b"vertex", vertex),
     }
 }
 

@@ -154,10 +154,17 @@ fn streams(rt: HostRuntime) -> Result<(), Fail> {
     Ok(())
 }
 
+const TETRAHEDRON: &[u8] =
+    b"v 0 0 0\nv 10 0 0\nv 0 10 0\nv 0 0 10\nf 1 3 2\nf 1 2 4\nf 2 3 4\nf 1 4 3\n";
+
+// Two tetrahedra that share their first vertex.
+const TETRAHEDRA: &[u8] =
+    b"v 0 0 0\nv 10 0 0\nv 0 10 0\nv 0 0 10\nf 1 3 2\nf 1 2 4\nf 2 3 4\nf 1 4 3\nv -10 0 0\nv 0 -10 0\nv 0 0 -10\nf 1 5 6\nf 1 6 7\nf 1 7 5\nf 5 7 6\n";
+
 #[test]
 fn obj_texts(rt: HostRuntime) -> Result<(), Fail> {
     let alloc = rt.alloc();
-    let cases: [(&[u8], u8, &[u8], &[u8]); 5] = [
+    let cases: [(&[u8], u8, &[u8], &[u8]); 10] = [
         (b"", 0, b"", b""),
         (
             b"v 0 0 0\r\nv 10 0 -0.0 # a comment\r\nvt 0.5\r\nv 0 10 0\r\nf 1/1/1 -2 3\r\n",
@@ -173,6 +180,26 @@ fn obj_texts(rt: HostRuntime) -> Result<(), Fail> {
             b"",
             b"vdpm: fault 10 line 4\n",
         ),
+        (
+            b"v 0 0 0\nv 10 0 0\nv 0 10 0\nv 0 -10 0\nf 1 2 3\nf 1 2 4\n",
+            1,
+            b"",
+            b"vdpm: fault 11 face 2\n",
+        ),
+        (
+            b"v 0 0 0\nv 10 0 0\nv 0 10 0\nf 1 2 3\nf 1 2 3\n",
+            1,
+            b"",
+            b"vdpm: fault 11 face 2\n",
+        ),
+        (
+            b"v 0 0 0\nv 10 0 0\nv 0 10 0\nf 1 2 3\nf 1 3 2\n",
+            1,
+            b"",
+            b"vdpm: fault 12 vertex 1\n",
+        ),
+        (TETRAHEDRA, 1, b"", b"vdpm: fault 12 vertex 1\n"),
+        (TETRAHEDRON, 0, TETRAHEDRON, b""),
     ];
     for (input, status, out, err) in cases {
         check(&rt, alloc, &["canon"], input, status, out, err)?;

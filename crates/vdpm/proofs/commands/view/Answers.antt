@@ -2,12 +2,12 @@ use Rattle.std.proofs.Common.{◌≡◌, ◌-◌, List, length, take, drop, sym,
 use Rattle.std.proofs.lemmas.List.{take_rest}
 use Rattle.pm_forest.specs.Fronts.{set_of}
 use Rattle.pm_forest.proofs.Flags.{set_of-unset}
-use Rattle.vdpm.proofs.OutcomeLaws.{ends_too_long, ends_no_stream, ends_replied, ends_cut}
+use Rattle.vdpm.specs.declared.words.Asked.TheVariants as asked
+use Rattle.vdpm.proofs.OutcomeLaws.{ends_stopped, view_refused, ends_no_stream, ends_replied, ends_cut}
 use Rattle.vdpm.proofs.commands.view.Goals as goal
 
-pub returns-in-Err-TooLong-clause-ends : goal.returns-in-Err-TooLong-clause-ends
-returns-in-Err-TooLong-clause-ends g c =
-    ends_too_long c.args.budget _ _ _ (rw c.in-Err-TooLong.field-0-is at c.in-Err-TooLong.ensures.err).0
+pub returns-in-Err-clause-ends : goal.returns-in-Err-clause-ends
+returns-in-Err-clause-ends g c = rw c.fail_of.ensures (ends_stopped (asked.View c.args.budget) _ c.in-Err.fail _ _ _ _ (view_refused c.args.budget) c.in-Err.ensures.err)
 
 pub returns-in-Err-NotStream-clause-ends : goal.returns-in-Err-NotStream-clause-ends
 returns-in-Err-NotStream-clause-ends g c =

@@ -1,5 +1,4 @@
-use Rattle.std.proofs.Common.{◌≡◌, List, ℕ, Option, Some, None, Err, IfSome, inl, sym, ◌∙◌, subst}
-use Rattle.vdpm.specs.declared.fault.Fault.{Fault}
+use Rattle.std.proofs.Common.{None, Err, IfSome, inl, sym, ◌∙◌, subst}
 use Rattle.vdpm.specs.Outcome.{IsOutcome, Replied, Ends}
 use Rattle.vdpm.proofs.OutcomeLaws.{said_fault, cut_of, unreached_of, said_line, line_of_read, line_of_write, line_of_memory, completes_whole, completes}
 use Rattle.vdpm.proofs.WordLaws.{asks_once}

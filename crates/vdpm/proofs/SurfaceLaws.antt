@@ -1,0 +1,105 @@
+-- Bytes give one surface, or are refused for one fault.
+use Rattle.std.proofs.Common.{◌≡◌, ℕ, ◌+◌, ◌<◌, List, Option, Some, None, IfSome, Result, Ok, Err, inl, inr, refl, sym, ◌∙◌, ap, subst, arith}
+use Rattle.std.proofs.lemmas.Bool.{cases_lt}
+use Rattle.pm_base.specs.Meshes.{Mesh, IsWellFormed}
+use Rattle.pm_base.specs.Sides.{Net, net_of, Stands, NoSideTwice}
+use Rattle.pm_base.specs.Fans.{IsOrientedManifold}
+use Rattle.pm_base.proofs.NetLaws.{mesh_side}
+use Rattle.pm_twins.specs.Faults.{IsFirstRepeating, IsFirstBroken}
+use Rattle.obj_read.specs.declared.fault.ObjFault.{ObjFault}
+use Rattle.obj_read.specs.Fails.{IsRefusal}
+use Rattle.obj_read.specs.Meaning.{Refused, meaning_of}
+use Rattle.obj_read.proofs.FormedLaws.{meaning_formed}
+use Rattle.vdpm.specs.declared.fault.Fault.{Fault}
+use Rattle.vdpm.specs.declared.fault.Fault.TheVariants as faults
+use Rattle.vdpm.specs.declared.fault.InputFail.{InputFail}
+use Rattle.vdpm.specs.declared.fault.InputFail.TheVariants as input
+use Rattle.vdpm.specs.Input.{Stops}
+use Rattle.vdpm.specs.Surface.{IsSurfaceFault, side_twice, no_fan, IsSurface, bad_line, no_manifold, manifold, refuses_surface, IsSurfaceFail}
+
+-- In a well-formed mesh no face repeats a side where no directed side stands twice.
+pub repeats_none : (m : Mesh) → IsWellFormed m → NoSideTwice (net_of m.faces) → (f : ℕ) → IsFirstRepeating (net_of m.faces) f → ⊥
+repeats_none m formed once f is =
+    let r = is.repeats in
+    let net = net_of m.faces in
+    let side : Stands net r.side = (mesh_side m formed r.side (omega (arith, is.in_range, r.of_face))).0 in
+    let earlier : Stands net r.earlier = (mesh_side m formed r.earlier (omega (arith, is.in_range, r.before))).0 in
+    let same : r.earlier ≡ r.side = once r.earlier r.side earlier side r.from r.to in
+    absurd (omega (arith, same, r.before, r.of_face))
+
+first_repeating_one : (m : Net) (f g : ℕ) → IsFirstRepeating m f → IsFirstRepeating m g → f ≡ g
+first_repeating_one m f g is are =
+    elim (cases_lt f g) [
+      | inl l ↦ absurd (are.least f l is.repeats)
+      | inr l ↦ elim (cases_lt g f) [ inl k ↦ absurd (is.least g k are.repeats) | inr k ↦ omega arith ]
+    ]
+
+first_broken_one : (m : Net) (v w : ℕ) → IsFirstBroken m v → IsFirstBroken m w → v ≡ w
+first_broken_one m v w is are =
+    elim (cases_lt v w) [
+      | inl l ↦ absurd (is.broken.no_fan (are.fans_below v l))
+      | inr l ↦ elim (cases_lt w v) [ inl k ↦ absurd (are.broken.no_fan (is.fans_below w k)) | inr k ↦ omega arith ]
+    ]
+
+one_surface_fault : (m : Mesh) → IsWellFormed m → {f g : Fault} → IsSurfaceFault (net_of m.faces) f → IsSurfaceFault (net_of m.faces) g → f ≡ g
+one_surface_fault m formed (side_twice f is) (side_twice g are) = ap (λ (k : ℕ). faults.EdgeTwice (k + 1)) (first_repeating_one (net_of m.faces) f g is are)
+one_surface_fault m formed (side_twice f is) (no_fan v once are) = absurd (repeats_none m formed once f is)
+one_surface_fault m formed (no_fan v once is) (side_twice g are) = absurd (repeats_none m formed once g are)
+one_surface_fault m formed (no_fan v once is) (no_fan w other are) = ap (λ (k : ℕ). faults.NotFan (k + 1)) (first_broken_one (net_of m.faces) v w is are)
+
+fault_or_manifold : (m : Mesh) → IsWellFormed m → {f : Fault} → IsSurfaceFault (net_of m.faces) f → IsOrientedManifold (net_of m.faces) → ⊥
+fault_or_manifold m formed (side_twice f is) whole = repeats_none m formed whole.no_side_twice f is
+fault_or_manifold m formed (no_fan v once is) whole = is.broken.no_fan (whole.fans v is.broken.used)
+
+-- A text spells one mesh.
+one_mesh : (bytes : List ℕ) (m n : Mesh) → meaning_of bytes ≡ Ok m → meaning_of bytes ≡ Ok n → n ≡ m
+one_mesh bytes m n is are = cc
+
+pub one_surface : (bytes : List ℕ) {a b : Result Mesh Fault} → IsSurface bytes a → IsSurface bytes b → a ≡ b
+one_surface bytes (bad_line r is) (bad_line q are) =
+    let same : r ≡ q = cc in
+    ap (λ (x : Refused). Err (faults.Obj x.fault x.line)) same
+one_surface bytes (bad_line r is) (no_manifold m f are fault) = absurd (cc)
+one_surface bytes (bad_line r is) (manifold m are whole) = absurd (cc)
+one_surface bytes (no_manifold m f is fault) (bad_line r are) = absurd (cc)
+one_surface bytes (no_manifold m f is fault) (no_manifold n g are other) =
+    ap (λ (x : Fault). Err x)
+    (one_surface_fault m (meaning_formed bytes m is) fault (subst (λ (x : Mesh). IsSurfaceFault (net_of x.faces) g) (one_mesh bytes m n is are) other))
+one_surface bytes (no_manifold m f is fault) (manifold n are whole) =
+    absurd (fault_or_manifold m (meaning_formed bytes m is) fault (subst (λ (x : Mesh). IsOrientedManifold (net_of x.faces)) (one_mesh bytes m n is are) whole))
+one_surface bytes (manifold m is whole) (bad_line r are) = absurd (cc)
+one_surface bytes (manifold m is whole) (no_manifold n f are fault) =
+    absurd (fault_or_manifold m (meaning_formed bytes m is) (subst (λ (x : Mesh). IsSurfaceFault (net_of x.faces) f) (one_mesh bytes m n is are) fault) whole)
+one_surface bytes (manifold m is whole) (manifold n are other) = ap (λ (x : Mesh). Ok x) (sym (one_mesh bytes m n is are))
+
+-- Counted from 1, faces and vertices stay within 32 bits.
+
+pub face_small : (m : Mesh) → IsWellFormed m → (f : ℕ) → IsFirstRepeating (net_of m.faces) f → f < 1048576
+face_small m formed f is = omega (arith, is.in_range, formed.faces)
+
+pub vertex_small : (m : Mesh) → IsWellFormed m → (v : ℕ) → IsFirstBroken (net_of m.faces) v → v < 1048576
+vertex_small m formed v is =
+    let (e, stands, at) = is.broken.used in
+    let below = (mesh_side m formed e stands.is_side).1 in
+    omega (arith, below, at, formed.points)
+
+-- What follows where the source tells its bytes.
+
+refuses_line : (bytes : List ℕ) (fault : ObjFault) (line : ℕ) (r : Result Mesh Refused) → meaning_of bytes ≡ r → IsRefusal fault line r → refuses_surface bytes (faults.Obj fault line)
+refuses_line bytes fault line (Ok m) is refusal = absurd refusal
+refuses_line bytes fault line (Err r) is refusal = subst (λ (f : Fault). IsSurface bytes (Err f)) (ap (λ (e : ObjFault). faults.Obj e r.line) refusal.0 ∙ ap (λ (n : ℕ). faults.Obj fault n) refusal.1) (bad_line r is)
+
+pub line_refuses : (left : Option (List ℕ)) (fault : ObjFault) (line : ℕ) → IfSome left (λ bytes. IsRefusal fault line (meaning_of bytes)) → IfSome left (λ bytes. refuses_surface bytes (faults.Obj fault line))
+line_refuses None fault line is = tt
+line_refuses (Some bytes) fault line is = refuses_line bytes fault line (meaning_of bytes) refl is
+
+pub mesh_refuses : (left : Option (List ℕ)) (m : Mesh) (e : InputFail) (before now : ℕ) → IfSome left (λ bytes. meaning_of bytes ≡ Ok m) → now ≡ before → IsSurfaceFail (net_of m.faces) e
+    → Stops refuses_surface e left before now
+mesh_refuses None m (input.Faulty f) before now is same fault = (tt, same)
+mesh_refuses (Some bytes) m (input.Faulty f) before now is same fault = (no_manifold m f is fault, same)
+mesh_refuses left m input.Read before now is same fault = absurd fault
+mesh_refuses left m input.OutOfMemory before now is same fault = tt
+
+pub mesh_stands : (left : Option (List ℕ)) (m : Mesh) → IfSome left (λ bytes. meaning_of bytes ≡ Ok m) → IsOrientedManifold (net_of m.faces) → IfSome left (λ bytes. IsSurface bytes (Ok m))
+mesh_stands None m is whole = tt
+mesh_stands (Some bytes) m is whole = manifold m is whole
