@@ -3,5 +3,5 @@ pub mod FrameLaws
 pub mod LineCuts
 pub mod ServeLaws
 pub mod SurfaceLaws
+pub mod OpeningLaws
 pub mod OutcomeLaws
-pub mod WordLaws

@@ -27,7 +27,7 @@ repeats_none m formed once f is =
     let same : r.earlier ≡ r.side = once r.earlier r.side earlier side r.from r.to in
     absurd (omega (arith, same, r.before, r.of_face))
 
-first_repeating_one : (m : Net) (f g : ℕ) → IsFirstRepeating m f → IsFirstRepeating m g → f ≡ g
+pub first_repeating_one : (m : Net) (f g : ℕ) → IsFirstRepeating m f → IsFirstRepeating m g → f ≡ g
 first_repeating_one m f g is are =
     elim (cases_lt f g) [
       | inl l ↦ absurd (are.least f l is.repeats)

@@ -5,4 +5,6 @@ pub mod Script
 pub mod Serving
 pub mod Input
 pub mod Surface
+pub mod Opening
+pub mod FaultLine
 pub mod Outcome

@@ -1,25 +1,26 @@
 -- The words of a command line.
-use Rattle.std.specs.Prelude.{◌≡◌, ◌⊎◌, ℕ, List, [], ◌∷◌, Some, codes}
+use Rattle.std.specs.Prelude.{ℕ, nat_eq, List, [], ◌∷◌, Option, Some, None, if◌then◌else◌, codes}
+use Rattle.std.specs.Cmp.Lexicographic.{pointwise}
 use Rattle.pm_io.specs.Digits.{unsigned_of}
 use Rattle.vdpm.specs.declared.words.Asked.{Asked}
 use Rattle.vdpm.specs.declared.words.Asked.TheVariants as asked
 
--- `view B`, with B an unsigned number of 32 bits.
-pub record AsksView (words : List (List ℕ)) : Type 0 where
-  pub number : List ℕ
-  pub budget : ℕ
-  pub reads : unsigned_of 4294967295 number ≡ Some budget
-  pub are : words ≡ codes "view" ∷ number ∷ []
+-- What a word asks for that stands alone.
+unfoldable pub alone : List ℕ → Option Asked
+alone word =
+    if pointwise nat_eq word (codes "canon") then Some asked.Canon
+    else if pointwise nat_eq word (codes "expand") then Some asked.Expand
+    else if pointwise nat_eq word (codes "check") then Some asked.Check
+    else None
 
--- `canon`
-abbrev pub AsksCanon : List (List ℕ) → Type 0
-AsksCanon words = words ≡ codes "canon" ∷ []
+-- What a word asks for with a number after it.
+abbrev pub with_number : List ℕ → Option ℕ → Option Asked
+with_number word None = None
+with_number word (Some n) = if pointwise nat_eq word (codes "view") then Some (asked.View n) else None
 
--- The words ask for this.
-abbrev pub Asks : Asked → List (List ℕ) → Type 0
-Asks asked.Canon words = AsksCanon words
-Asks (asked.View budget) words = (asks : AsksView words) × (asks.budget ≡ budget)
-
--- The words are one of the forms.
-abbrev pub AreKnown : List (List ℕ) → Type 0
-AreKnown words = AsksCanon words ⊎ AsksView words
+-- What the words ask for: `canon`, `expand`, `check`, or `view B` with B an unsigned number of 32 bits. Other words ask
+-- for nothing.
+unfoldable pub asked_of : List (List ℕ) → Option Asked
+asked_of (word ∷ []) = alone word
+asked_of (word ∷ number ∷ []) = with_number word (unsigned_of 4294967295 number)
+asked_of _ = None

@@ -3,21 +3,25 @@ ghost use Rattle.std.specs.Prelude.{◌≡◌};
 ghost use Rattle.vdpm.specs.Input.{fail_of};
 
 use obj_read::ObjFault;
+use pm_format::FormatError;
 
 /// A fault of the input, with its place.
 #[derive(Clone, Copy, Debug, PartialEq, Eq)]
 pub enum Fault {
     /// More than 16,777,216 bytes.
     TooLong,
-    /// The bytes begin with no stream text.
-    NotStream,
+    /// The bytes begin with no stream text, for this reason.
+    Stream(FormatError),
+    /// A byte follows the stream text.
+    Trailing,
     /// This script line, counted from 1, is none of the forms.
     BadLine(u32),
     /// This script line, counted from 1, names no record.
     NoRecord(u32),
     /// This line of an OBJ text, counted from 1, has this fault.
     Obj(ObjFault, u32),
-    /// A directed side of this face is one of an earlier face too. The faces of an OBJ text are counted from 1.
+    /// A directed side of this face is one of an earlier face too. The faces of an OBJ text are counted from 1, those of
+    /// a stream from 0.
     EdgeTwice(u32),
     /// The faces at this vertex, counted from 1, are no fan.
     NotFan(u32),

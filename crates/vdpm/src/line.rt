@@ -1,10 +1,12 @@
-// The lines of replies and frames.
+// The lines of replies, of frames, and of `check`.
 ghost use Rattle.std.specs.Prelude.{◌≡◌};
 ghost use Rattle.vdpm.specs.Frame.{head_line, node_line, face_line, end_line};
 ghost use Rattle.vdpm.specs.Script.{reply_to};
+ghost use Rattle.vdpm.specs.Outcome.{counts_line};
 
 use crate::front::SplitAnswer;
 use pm_base::Point;
+use pm_forest::Hierarchy;
 use pm_io::Line;
 
 /// The first line of a frame.
@@ -78,4 +80,23 @@ pub fn put_reply(line: &mut Line, answer: SplitAnswer)
             line.add(b"\n");
         }
     }
+}
+
+/// How large a hierarchy is.
+#[tactic(auto, unfolding(crate::specs::Outcome::counts_line))]
+pub fn put_counts(line: &mut Line, h: &Hierarchy)
+    ensures { line.new ≡ counts_line h.now }
+{
+    line.clear();
+    line.add(b"leaves ");
+    line.add_number(h.leaves());
+    line.add(b" roots ");
+    line.add_number(h.roots());
+    line.add(b" base ");
+    line.add_number(h.bases());
+    line.add(b" records ");
+    line.add_number(h.records());
+    line.add(b" faces ");
+    line.add_number(h.faces());
+    line.add(b"\n");
 }

@@ -7,9 +7,12 @@ mod frame;
 mod front;
 mod input;
 mod line;
+mod opening;
 mod run;
 mod say;
 mod script;
+#[cfg(test)]
+mod stream_tests;
 mod surface;
 #[cfg(test)]
 mod tests;

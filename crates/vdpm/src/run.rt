@@ -5,10 +5,11 @@ ghost use Rattle.pm_io.specs.Bytes.{AtEnd};
 ghost use Rattle.pm_io.specs.Causes.{Rose};
 ghost use Rattle.obj_read.specs.Fails.{FailsBefore};
 ghost use Rattle.vdpm.specs.declared.fault.Fault.{Fault};
-ghost use Rattle.vdpm.specs.Words.{Asks, AreKnown, AsksCanon};
-ghost use Rattle.vdpm.specs.Outcome.{Ends, Counts, IsOutcome, Replied, CutShort, Said, Stayed, Answers, fault_line};
+ghost use Rattle.vdpm.specs.Words.{asked_of};
+ghost use Rattle.vdpm.specs.FaultLine.{fault_line};
+ghost use Rattle.vdpm.specs.Outcome.{Ends, Counts, IsOutcome, Replied, CutShort, Said, Stayed, Answers};
 
-use crate::commands::{canon, view};
+use crate::commands::{canon, check, expand, view};
 use crate::fault::CommandFail;
 use crate::say::{say, tell};
 use crate::words::{Asked, read_words};
@@ -30,14 +31,17 @@ fn obey<S: Source, K: Sink>(
 {
     match asked {
         Asked::Canon => canon(alloc, input, out),
+        Asked::Expand => expand(alloc, input, out),
+        Asked::Check => check(alloc, input, out),
         Asked::View(budget) => view(alloc, budget, input, out),
     }
 }
 
 /// Does what the words after the program's name ask for, and answers the exit status.
 ///
-/// `canon` reads an OBJ text from `input` and writes its canonical text to `out`. `view B` reads a stream text and the
-/// script that follows it, and writes the replies. What ended a command early is said on `err`. Status 0: all was done.
+/// `canon` reads an OBJ text from `input` and writes its canonical text to `out`. `expand` reads a stream text and writes
+/// the canonical text of the mesh that it was made from; `check` writes how large it is. `view B` reads a stream text and
+/// the script that follows it, and writes the replies. What ended a command early is said on `err`. Status 0: all was done.
 /// 1: the input has a fault, and the replies before it were put. 2: the words are none of the forms. 3: a read failed.
 /// 4: a write to `out` failed. 5: memory was wanted, before the first byte of output.
 pub fn run<S: Source, K: Sink, E: Sink>(
@@ -49,22 +53,22 @@ pub fn run<S: Source, K: Sink, E: Sink>(
 ) -> u8
     ensures statuses { result ≤ 5 }
     // Other words are refused, and only they; then nothing is read or put.
-    ensures refused { (AreKnown (map string_bytes words.now) → ⊥) → result ≡ 2 }
-    ensures known { result ≡ 2 → AreKnown (map string_bytes words.now) → ⊥ }
+    ensures refused { asked_of (map string_bytes words.now) ≡ None → result ≡ 2 }
+    ensures known { result ≡ 2 → asked_of (map string_bytes words.now) ≡ None }
     ensures untouched { result ≡ 2 → Stayed (S.left input.old) (S.left input.new) (S.faults input.old) (S.faults input.new) × Stayed (K.got out.old) (K.got out.new) (K.faults out.old) (K.faults out.new) }
     // The outcome of what was asked for is whole, and exactly its text was put.
-    ensures whole { (asked : Asked) → Asks asked (map string_bytes words.now) → result ≡ 0 → IfSome (S.left input.old) (λ bytes. Replied asked bytes None (K.got out.old) (K.got out.new)) }
+    ensures whole { (asked : Asked) → asked_of (map string_bytes words.now) ≡ Some asked → result ≡ 0 → IfSome (S.left input.old) (λ bytes. Replied asked bytes None (K.got out.old) (K.got out.new)) }
     ensures whole_counts { result ≡ 0 → (S.faults input.new ≡ S.faults input.old) × (K.faults out.new ≡ K.faults out.old) }
     ensures read_whole { result ≡ 0 → AtEnd (S.left input.new) }
     ensures silent { result ≡ 0 → Stayed (E.got err.old) (E.got err.new) (E.faults err.old) (E.faults err.new) }
     // The outcome has a fault, which is said, and exactly the text before it was put.
-    ensures faulty { (asked : Asked) → Asks asked (map string_bytes words.now) → result ≡ 1 → (f : Fault) × IfSome (S.left input.old) (λ bytes. Replied asked bytes (Some f) (K.got out.old) (K.got out.new)) × Said (E.got err.old) (E.got err.new) (E.faults err.old) (E.faults err.new) (fault_line f) }
+    ensures faulty { (asked : Asked) → asked_of (map string_bytes words.now) ≡ Some asked → result ≡ 1 → (f : Fault) × IfSome (S.left input.old) (λ bytes. Replied asked bytes (Some f) (K.got out.old) (K.got out.new)) × Said (E.got err.old) (E.got err.new) (E.faults err.old) (E.faults err.new) (fault_line f) }
     ensures faulty_counts { result ≡ 1 → (S.faults input.new ≡ S.faults input.old) × (K.faults out.new ≡ K.faults out.old) }
     // A read failed, and nothing was put; of an OBJ text, the place of the first fault wasn't reached.
     ensures read { result ≡ 3 → Rose (S.faults input.old) (S.faults input.new) × (K.got out.new ≡ K.got out.old) }
-    ensures unreached { AsksCanon (map string_bytes words.now) → result ≡ 3 → FailsBefore (S.left input.old) (S.left input.new) }
+    ensures unreached { asked_of (map string_bytes words.now) ≡ Some Asked.Canon → result ≡ 3 → FailsBefore (S.left input.old) (S.left input.new) }
     // A write failed, and a proper prefix of the text was put.
-    ensures write { (asked : Asked) → Asks asked (map string_bytes words.now) → result ≡ 4 → Rose (K.faults out.old) (K.faults out.new) × IfSome (S.left input.old) (λ bytes. CutShort asked bytes (K.got out.old) (K.got out.new)) }
+    ensures write { (asked : Asked) → asked_of (map string_bytes words.now) ≡ Some asked → result ≡ 4 → Rose (K.faults out.old) (K.faults out.new) × IfSome (S.left input.old) (λ bytes. CutShort asked bytes (K.got out.old) (K.got out.new)) }
     // Memory was wanted, and nothing was put.
     ensures memory { result ≡ 5 → K.got out.new ≡ K.got out.old }
     ensures said_words { result ≡ 2 → Said (E.got err.old) (E.got err.new) (E.faults err.old) (E.faults err.new) (codes "vdpm: words not understood\n") }
@@ -72,7 +76,7 @@ pub fn run<S: Source, K: Sink, E: Sink>(
     ensures said_write { result ≡ 4 → Said (E.got err.old) (E.got err.new) (E.faults err.old) (E.faults err.new) (codes "vdpm: write fault\n") }
     ensures said_memory { result ≡ 5 → Said (E.got err.old) (E.got err.new) (E.faults err.old) (E.faults err.new) (codes "vdpm: out of memory\n") }
     // Where no device failed, a whole outcome gives 0 and a fault gives 1, unless memory is wanted.
-    ensures complete { (asked : Asked) (bytes text : List ℕ) (fault : Option Fault) → Asks asked (map string_bytes words.now) → S.left input.old ≡ Some bytes
+    ensures complete { (asked : Asked) (bytes text : List ℕ) (fault : Option Fault) → asked_of (map string_bytes words.now) ≡ Some asked → S.left input.old ≡ Some bytes
         → IsOutcome asked bytes (record { text = text; fault = fault }) → S.faults input.new ≡ S.faults input.old → K.faults out.new ≡ K.faults out.old
         → S.faults input.old < 2 ^ 64 - 1 → K.faults out.old < 2 ^ 64 - 1 → Answers fault result ⊎ (result ≡ 5) }
 {

@@ -1,9 +1,11 @@
 // What is said on the error sink.
 ghost use Rattle.std.specs.Prelude.{◌≡◌, ◌≤◌, [], length};
-ghost use Rattle.vdpm.specs.Outcome.{Said, line_at, fault_line, fail_line, number_of, status_of};
+ghost use Rattle.vdpm.specs.FaultLine.{line_at, line_of, stream_line, fault_line, fail_line, number_of};
+ghost use Rattle.vdpm.specs.Outcome.{Said, status_of};
 
 use crate::fault::{CommandFail, Fault};
 use obj_read::ObjFault;
+use pm_format::FormatError;
 use pm_io::{Line, Sink, put_all};
 
 /// Puts a line on the error sink. That it fails changes nothing.
@@ -32,7 +34,7 @@ fn number_of(fault: ObjFault) -> u32
 }
 
 // The line of a fault with a place: a word for what is counted, and its number.
-#[tactic(auto, unfolding(crate::specs::Outcome::line_at))]
+#[tactic(auto, unfolding(crate::specs::FaultLine::line_at))]
 fn put_place(line: &mut Line, number: u32, word: &[u8], place: u32)
     requires empty { line.old ≡ [] }
     requires short { length word.now ≤ 16 }
@@ -47,15 +49,45 @@ fn put_place(line: &mut Line, number: u32, word: &[u8], place: u32)
     line.add(b"\n");
 }
 
+// The line of a fault without a place.
+#[tactic(auto, unfolding(crate::specs::FaultLine::line_of))]
+fn put_number(line: &mut Line, number: u32)
+    requires { line.old ≡ [] }
+    ensures { line.new ≡ line_of number }
+{
+    line.add(b"vdpm: fault ");
+    line.add_number(number);
+    line.add(b"\n");
+}
+
+// The line of a fault of a stream text.
+fn put_stream_fault(line: &mut Line, fault: FormatError)
+    requires { line.old ≡ [] }
+    ensures { line.new ≡ stream_line fault }
+{
+    match fault {
+        FormatError::BadMagic => put_number(line, 20),
+        FormatError::BadVersion(version) => put_place(line, 21, b"version", version),
+        FormatError::Truncated(bytes) => put_place(line, 22, b"byte", bytes),
+        FormatError::BadCount => put_number(line, 23),
+        FormatError::BadRoot(root) => put_place(line, 24, b"root", root),
+        FormatError::BadFace(face) => put_place(line, 25, b"face", face),
+        FormatError::BadRecord(record) => put_place(line, 26, b"record", record),
+        FormatError::BadInput(field) => put_place(line, 27, b"input", field),
+        FormatError::OutOfMemory => line.add(b"vdpm: out of memory\n"),
+    }
+}
+
 // The line of a fault.
-#[tactic(auto, unfolding(crate::specs::Outcome::fault_line))]
+#[tactic(auto, unfolding(crate::specs::FaultLine::fault_line))]
 fn put_fault(line: &mut Line, fault: Fault)
     ensures { line.new ≡ fault_line fault }
 {
     line.clear();
     match fault {
         Fault::TooLong => line.add(b"vdpm: input too long\n"),
-        Fault::NotStream => line.add(b"vdpm: not a stream\n"),
+        Fault::Stream(fault) => put_stream_fault(line, fault),
+        Fault::Trailing => put_number(line, 29),
         Fault::BadLine(number) => put_place(line, 30, b"line", number),
         Fault::NoRecord(number) => put_place(line, 31, b"line", number),
         Fault::Obj(fault, number) => put_place(line, number_of(fault), b"line", number),
@@ -64,7 +96,7 @@ fn put_fault(line: &mut Line, fault: Fault)
     }
 }
 
-#[tactic(auto, unfolding(crate::specs::Outcome::fail_line))]
+#[tactic(auto, unfolding(crate::specs::FaultLine::fail_line))]
 fn put_fail(line: &mut Line, fail: CommandFail)
     ensures { line.new ≡ fail_line fail }
 {

@@ -5,7 +5,7 @@ use std::process::Abort;
 use std::test::Fail;
 
 // The octahedron's stream after its first four bytes: counts, roots, base faces, and two records with their faces.
-const OCTAHEDRON: [i32; 87] = [
+pub const OCTAHEDRON: [i32; 87] = [
     1, 6, 4, 4, 2, 0, -100, 0, 1, 4, 0, 0, -100, 1, 6, 50, 50, 0, 2, 0, -50, 0, 50, 2, 0, 0, 2, 5,
     4, 4, 3, 1, 6, 0, 4, 1, 7, 2, 0, 1, 8, 3, 1, -100, 0, 0, 2, 0, 0, 100, 5, 3, 3, 4, 5, 2, 2, 4,
     4, 0, 5, 3, 7, 3, 2, 1, 100, 0, 0, 1, 0, 100, 0, 3, 3, 2, 3, 5, 1, 15, 2, 3, 2, 1, 5, 12, 5,
@@ -18,7 +18,7 @@ const FULL: &[u8] =
     b"frame 6 8\nv 0 0 -100 0\nv 1 0 0 -100\nv 4 -100 0 0\nv 5 0 0 100\nv 6 100 0 0\nv 7 0 100 0\nf 0 0 6 5\nf 1 4 7 1\nf 2 0 4 1\nf 3 6 0 1\nf 4 7 4 5\nf 5 4 0 5\nf 6 6 7 5\nf 7 7 6 1\nend\n";
 
 // A stream text of these words, and a script after it.
-fn text(alloc: Global, words: &[i32], script: &[u8]) -> Result<Vec<u8>, AllocError> {
+pub fn text(alloc: Global, words: &[i32], script: &[u8]) -> Result<Vec<u8>, AllocError> {
     let mut bytes = Vec::new(alloc);
     bytes.extend_from_slice(b"VDPM")?;
     for word in words {
@@ -28,7 +28,7 @@ fn text(alloc: Global, words: &[i32], script: &[u8]) -> Result<Vec<u8>, AllocErr
     Ok(bytes)
 }
 
-fn joined(alloc: Global, a: &[u8], b: &[u8]) -> Result<Vec<u8>, AllocError> {
+pub fn joined(alloc: Global, a: &[u8], b: &[u8]) -> Result<Vec<u8>, AllocError> {
     let mut bytes = Vec::from_slice(alloc, a)?;
     bytes.extend_from_slice(b)?;
     Ok(bytes)
@@ -43,7 +43,7 @@ fn command(alloc: Global, words: &[&str]) -> Result<Vec<String>, AllocError> {
 }
 
 // Runs the words on the bytes, and compares status, output and error text.
-fn check<A: Abort>(
+pub fn check<A: Abort>(
     rt: &A,
     alloc: Global,
     words: &[&str],
@@ -91,70 +91,7 @@ fn scripts(rt: HostRuntime) -> Result<(), Fail> {
     Ok(())
 }
 
-#[test]
-fn streams(rt: HostRuntime) -> Result<(), Fail> {
-    let alloc = rt.alloc();
-    let empty = text(alloc, &[1, 0, 0, 0, 0], b"w\n")?;
-    check(
-        &rt,
-        alloc,
-        &["view", "5"],
-        &empty,
-        0,
-        b"frame 0 0\nend\n",
-        b"",
-    )?;
-    let triangle = [
-        1, 4, 4, 1, 0, 0, 0, 0, 1, 1, 10, 0, 0, 1, 2, 0, 10, 0, 1, 3, 5, 5, 5, 1, 4, 0, 1, 2, 1,
-    ];
-    let frame = b"frame 4 1\nv 0 0 0 0\nv 1 10 0 0\nv 2 0 10 0\nv 3 5 5 5\nf 0 0 1 2\nend\n";
-    check(
-        &rt,
-        alloc,
-        &["view", "5"],
-        &text(alloc, &triangle, b"w\n")?,
-        0,
-        frame,
-        b"",
-    )?;
-    let mut octahedron = text(alloc, &OCTAHEDRON, b"")?;
-    for n in 0..octahedron.len() {
-        check(
-            &rt,
-            alloc,
-            &["view", "5"],
-            &octahedron[..n],
-            1,
-            b"",
-            b"vdpm: not a stream\n",
-        )?;
-    }
-    if let Some(first) = octahedron.first_mut() {
-        *first = b'X';
-    }
-    check(
-        &rt,
-        alloc,
-        &["view", "5"],
-        &octahedron,
-        1,
-        b"",
-        b"vdpm: not a stream\n",
-    )?;
-    let long = vec![in alloc; b'V'; 16_777_217]?;
-    check(
-        &rt,
-        alloc,
-        &["view", "5"],
-        &long,
-        1,
-        b"",
-        b"vdpm: input too long\n",
-    )?;
-    Ok(())
-}
-
-const TETRAHEDRON: &[u8] =
+pub const TETRAHEDRON: &[u8] =
     b"v 0 0 0\nv 10 0 0\nv 0 10 0\nv 0 0 10\nf 1 3 2\nf 1 2 4\nf 2 3 4\nf 1 4 3\n";
 
 // Two tetrahedra that share their first vertex.
@@ -210,7 +147,7 @@ fn obj_texts(rt: HostRuntime) -> Result<(), Fail> {
 #[test]
 fn words(rt: HostRuntime) -> Result<(), Fail> {
     let alloc = rt.alloc();
-    let refused: [&[&str]; 7] = [
+    let refused: [&[&str]; 9] = [
         &[],
         &["view"],
         &["view", "-1"],
@@ -218,6 +155,8 @@ fn words(rt: HostRuntime) -> Result<(), Fail> {
         &["view", "4294967296"],
         &["help"],
         &["canon", "1"],
+        &["expand", "1"],
+        &["check", "x"],
     ];
     for words in refused {
         let mut source = MemSource::new(alloc, b"x", 1, &[0])?;

@@ -1,5 +1,5 @@
 use Rattle.std.proofs.Common.{arith}
-use Rattle.vdpm.proofs.OutcomeLaws.{stops_too_long}
+use Rattle.vdpm.proofs.OpeningLaws.{stops_too_long}
 use Rattle.vdpm.proofs.input.read_all.Goals as goal
 
 pub returns-then-len-gt-MOST-clause-err : goal.returns-then-len-gt-MOST-clause-err

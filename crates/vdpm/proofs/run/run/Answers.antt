@@ -1,32 +1,32 @@
 use Rattle.std.proofs.Common.{None, Err, IfSome, inl, sym, ◌∙◌, subst}
 use Rattle.vdpm.specs.Outcome.{IsOutcome, Replied, Ends}
-use Rattle.vdpm.proofs.OutcomeLaws.{said_fault, cut_of, unreached_of, said_line, line_of_read, line_of_write, line_of_memory, completes_whole, completes}
-use Rattle.vdpm.proofs.WordLaws.{asks_once}
+use Rattle.vdpm.proofs.OpeningLaws.{stream_laws}
+use Rattle.vdpm.proofs.OutcomeLaws.{one_asked, said_fault, cut_of, unreached_of, said_line, line_of_read, line_of_write, line_of_memory, completes_whole, completes}
 use Rattle.vdpm.proofs.run.run.Goals as goal
 
 pub returns-in-Ok-clause-whole : goal.returns-in-Ok-clause-whole
 returns-in-Ok-clause-whole g c = λ other asks is.
-    subst (λ a. IfSome (g.S.Source.left c.args.input.now) (λ bytes. Replied a bytes None (g.K.Sink.got c.args.out.now) (g.K.Sink.got c.obey.new.out))) (asks_once _ other _ c.in-Some.ensures.some asks) c.in-Ok.ensures.ends
+    subst (λ a. IfSome (g.S.Source.left c.args.input.now) (λ bytes. Replied a bytes None (g.K.Sink.got c.args.out.now) (g.K.Sink.got c.obey.new.out))) (one_asked _ _ other (sym c.read_words.ensures ∙ c.in-Some.is) asks) c.in-Ok.ensures.ends
 
 pub returns-in-Ok-clause-complete : goal.returns-in-Ok-clause-complete
 returns-in-Ok-clause-complete g c = λ other bytes text fault asks left outcome in_same out_same in_few out_few.
-    inl (completes_whole c.streams_are_sound.ensures.one_spelling c.in-Some.asked bytes text fault _ _ _ left
-    (subst (λ a. IsOutcome a bytes (record { text = text; fault = fault })) (asks_once other _ _ asks c.in-Some.ensures.some) outcome) c.in-Ok.ensures.ends)
+    inl (completes_whole (stream_laws c.streams_are_sound.ensures.one_spelling c.streams_are_sound.ensures.whole) c.in-Some.asked bytes text fault _ _ _ left
+    (subst (λ a. IsOutcome a bytes (record { text = text; fault = fault })) (one_asked _ other _ asks (sym c.read_words.ensures ∙ c.in-Some.is)) outcome) c.in-Ok.ensures.ends)
 
 pub returns-in-Err-clause-faulty : goal.returns-in-Err-clause-faulty
 returns-in-Err-clause-faulty g c = λ other asks is.
     said_fault other c.in-Err.fail _ _ _ _ _ _ _ (sym c.tell.ensures.status ∙ is)
-    (subst (λ a. Ends a (Err c.in-Err.fail) (g.S.Source.left c.args.input.now) (g.K.Sink.got c.args.out.now) (g.K.Sink.got c.obey.new.out)) (asks_once _ other _ c.in-Some.ensures.some asks) c.in-Err.ensures.ends)
+    (subst (λ a. Ends a (Err c.in-Err.fail) (g.S.Source.left c.args.input.now) (g.K.Sink.got c.args.out.now) (g.K.Sink.got c.obey.new.out)) (one_asked _ _ other (sym c.read_words.ensures ∙ c.in-Some.is) asks) c.in-Err.ensures.ends)
     c.tell.ensures.said
 
 pub returns-in-Err-clause-unreached : goal.returns-in-Err-clause-unreached
 returns-in-Err-clause-unreached g c = λ asks is.
-    c.in-Err.ensures.unreached (asks_once _ _ _ c.in-Some.ensures.some asks) (unreached_of c.in-Err.fail (sym c.tell.ensures.status ∙ is))
+    c.in-Err.ensures.unreached (one_asked _ _ _ (sym c.read_words.ensures ∙ c.in-Some.is) asks) (unreached_of c.in-Err.fail (sym c.tell.ensures.status ∙ is))
 
 pub returns-in-Err-clause-write : goal.returns-in-Err-clause-write
 returns-in-Err-clause-write g c = λ other asks is.
     cut_of other c.in-Err.fail _ _ _ _ _ _ _ (sym c.tell.ensures.status ∙ is)
-    (subst (λ a. Ends a (Err c.in-Err.fail) (g.S.Source.left c.args.input.now) (g.K.Sink.got c.args.out.now) (g.K.Sink.got c.obey.new.out)) (asks_once _ other _ c.in-Some.ensures.some asks) c.in-Err.ensures.ends)
+    (subst (λ a. Ends a (Err c.in-Err.fail) (g.S.Source.left c.args.input.now) (g.K.Sink.got c.args.out.now) (g.K.Sink.got c.obey.new.out)) (one_asked _ _ other (sym c.read_words.ensures ∙ c.in-Some.is) asks) c.in-Err.ensures.ends)
     c.in-Err.ensures.counts
 
 pub returns-in-Err-clause-said_read : goal.returns-in-Err-clause-said_read
@@ -40,6 +40,6 @@ returns-in-Err-clause-said_memory g c = λ is. said_line c.in-Err.fail _ _ _ _ _
 
 pub returns-in-Err-clause-complete : goal.returns-in-Err-clause-complete
 returns-in-Err-clause-complete g c = λ other bytes text fault asks left outcome in_same out_same in_few out_few.
-    completes c.streams_are_sound.ensures.one_spelling c.in-Some.asked c.in-Err.fail _ _ _ _ _ bytes text fault _ _ _ left
-    (subst (λ a. IsOutcome a bytes (record { text = text; fault = fault })) (asks_once other _ _ asks c.in-Some.ensures.some) outcome)
+    completes (stream_laws c.streams_are_sound.ensures.one_spelling c.streams_are_sound.ensures.whole) c.in-Some.asked c.in-Err.fail _ _ _ _ _ bytes text fault _ _ _ left
+    (subst (λ a. IsOutcome a bytes (record { text = text; fault = fault })) (one_asked _ other _ asks (sym c.read_words.ensures ∙ c.in-Some.is)) outcome)
     c.in-Err.ensures.ends c.in-Err.ensures.counts c.tell.ensures.status in_same out_same in_few out_few

@@ -1,0 +1,182 @@
+// What `expand` and `check` say of streams, whole and damaged.
+ghost use Rattle.std.specs.Prelude.{◌≤◌};
+
+use crate::tests::{OCTAHEDRON, TETRAHEDRON, check, joined, text};
+use pm_io::Line;
+use std::alloc::{AllocError, Global};
+use std::process::Abort;
+use std::test::Fail;
+
+// The square's stream after its first four bytes.
+const SQUARE: [i32; 41] = [
+    1, 4, 3, 1, 1, 0, 10, 0, 1, 3, 10, 10, 0, 1, 4, 0, 0, 0, 2, 0, 2, 1, 0, 2, 2, 1, 0, 0, 0, 1,
+    10, 0, 0, 2, 1, 2, 3, 1, 1, 0, 1,
+];
+
+const SQUARE_TEXT: &[u8] = b"v 0 0 0\nv 10 0 0\nv 0 10 0\nv 10 10 0\nf 1 2 4\nf 1 4 3\n";
+
+const OCTAHEDRON_TEXT: &[u8] =
+    b"v 100 0 0\nv -100 0 0\nv 0 100 0\nv 0 -100 0\nv 0 0 100\nv 0 0 -100\nf 1 3 5\nf 3 2 5\nf 2 4 5\nf 4 1 5\nf 3 1 6\nf 2 3 6\nf 4 2 6\nf 1 4 6\n";
+
+// What a stream expands to, and how large it is.
+#[test]
+fn whole_streams(rt: HostRuntime) -> Result<(), Fail> {
+    let alloc = rt.alloc();
+    let cases: [(&[i32], &[u8], &[u8]); 5] = [
+        (
+            &OCTAHEDRON,
+            OCTAHEDRON_TEXT,
+            b"leaves 6 roots 4 base 4 records 2 faces 8\n",
+        ),
+        (
+            &SQUARE,
+            SQUARE_TEXT,
+            b"leaves 4 roots 3 base 1 records 1 faces 2\n",
+        ),
+        (
+            &[1, 0, 0, 0, 0],
+            b"",
+            b"leaves 0 roots 0 base 0 records 0 faces 0\n",
+        ),
+        (
+            &[
+                1, 4, 4, 1, 0, 0, 0, 0, 1, 1, 10, 0, 0, 1, 2, 0, 10, 0, 1, 3, 5, 5, 5, 1, 4, 0, 1,
+                2, 1,
+            ],
+            b"v 0 0 0\nv 10 0 0\nv 0 10 0\nv 5 5 5\nf 1 2 3\n",
+            b"leaves 4 roots 4 base 1 records 0 faces 1\n",
+        ),
+        (
+            &[
+                1, 4, 4, 4, 0, 0, 0, 0, 1, 1, 10, 0, 0, 1, 2, 0, 10, 0, 1, 3, 0, 0, 10, 1, 4, 0, 2,
+                1, 1, 0, 1, 3, 2, 1, 2, 3, 3, 0, 3, 2, 4,
+            ],
+            TETRAHEDRON,
+            b"leaves 4 roots 4 base 4 records 0 faces 4\n",
+        ),
+    ];
+    for (words, mesh, counts) in cases {
+        let input = text(alloc, words, b"")?;
+        check(&rt, alloc, &["expand"], &input, 0, mesh, b"")?;
+        check(&rt, alloc, &["check"], &input, 0, counts, b"")?;
+        let longer = joined(alloc, &input, b"x")?;
+        check(
+            &rt,
+            alloc,
+            &["expand"],
+            &longer,
+            1,
+            b"",
+            b"vdpm: fault 29\n",
+        )?;
+        check(&rt, alloc, &["check"], &longer, 1, b"", b"vdpm: fault 29\n")?;
+    }
+    Ok(())
+}
+
+// A stream in which the word at this byte is another one.
+fn changed(alloc: Global, words: &[i32], byte: usize, word: i32) -> Result<Vec<u8>, AllocError>
+    requires { 4 ≤ byte }
+{
+    let mut all = Vec::from_slice(alloc, words)?;
+    if let Some(place) = all.get_mut((byte - 4) / 4) {
+        *place = word;
+    }
+    text(alloc, &all, b"")
+}
+
+// Each stream with one word changed, and the line that names its fault.
+#[test]
+fn damaged_streams(rt: HostRuntime) -> Result<(), Fail> {
+    let alloc = rt.alloc();
+    let cases: [(&[i32], usize, i32, &[u8]); 11] = [
+        (&OCTAHEDRON, 4, 7, b"vdpm: fault 21 version 7\n"),
+        (&OCTAHEDRON, 20, 3, b"vdpm: fault 23\n"),
+        (&OCTAHEDRON, 36, 0, b"vdpm: fault 24 root 0\n"),
+        (&OCTAHEDRON, 96, 3, b"vdpm: fault 24 root 3\n"),
+        (&OCTAHEDRON, 80, 1, b"vdpm: fault 27 input 2\n"),
+        (&OCTAHEDRON, 108, 0, b"vdpm: fault 25 face 0\n"),
+        (&OCTAHEDRON, 132, 4, b"vdpm: fault 27 input 5\n"),
+        (&OCTAHEDRON, 168, 0, b"vdpm: fault 26 record 0\n"),
+        (&OCTAHEDRON, 208, 0, b"vdpm: fault 26 record 0\n"),
+        (&OCTAHEDRON, 224, 9, b"vdpm: fault 27 input 10\n"),
+        (&SQUARE, 152, 0, b"vdpm: fault 11 face 1\n"),
+    ];
+    for (words, byte, word, line) in cases {
+        let input = changed(alloc, words, byte, word)?;
+        check(&rt, alloc, &["check"], &input, 1, b"", line)?;
+        let longer = joined(alloc, &input, b"x")?;
+        check(&rt, alloc, &["expand"], &longer, 1, b"", line)?;
+    }
+    Ok(())
+}
+
+// The octahedron's stream cut after n bytes, for each n from `from` to below `until`.
+fn check_cuts<A: Abort>(rt: &A, alloc: Global, from: u32, until: u32) -> Result<(), AllocError> {
+    let octahedron = text(alloc, &OCTAHEDRON, b"")?;
+    for n in from..until {
+        let cut = octahedron.get(..n as usize).unwrap_or_default();
+        let mut line = Line::new();
+        line.add(b"vdpm: fault 22 byte ");
+        line.add_number(n);
+        line.add(b"\n");
+        check(rt, alloc, &["check"], cut, 1, b"", line.as_slice())?;
+    }
+    Ok(())
+}
+
+#[test]
+fn streams_cut_in_front(rt: HostRuntime) -> Result<(), Fail> {
+    check_cuts(&rt, rt.alloc(), 0, 190)?;
+    Ok(())
+}
+
+#[test]
+fn streams_cut_behind(rt: HostRuntime) -> Result<(), Fail> {
+    check_cuts(&rt, rt.alloc(), 190, 352)?;
+    Ok(())
+}
+
+#[test]
+fn another_first_byte(rt: HostRuntime) -> Result<(), Fail> {
+    let alloc = rt.alloc();
+    let mut octahedron = text(alloc, &OCTAHEDRON, b"")?;
+    if let Some(first) = octahedron.first_mut() {
+        *first = b'X';
+    }
+    check(
+        &rt,
+        alloc,
+        &["view", "5"],
+        &octahedron,
+        1,
+        b"",
+        b"vdpm: fault 20\n",
+    )?;
+    check(
+        &rt,
+        alloc,
+        &["check"],
+        &octahedron,
+        1,
+        b"",
+        b"vdpm: fault 20\n",
+    )?;
+    Ok(())
+}
+
+#[test]
+fn long_input(rt: HostRuntime) -> Result<(), Fail> {
+    let alloc = rt.alloc();
+    let long = vec![in alloc; b'V'; 16_777_217]?;
+    check(
+        &rt,
+        alloc,
+        &["check"],
+        &long,
+        1,
+        b"",
+        b"vdpm: input too long\n",
+    )?;
+    Ok(())
+}
