@@ -1,0 +1,121 @@
+// Writes the frame that a front shows.
+ghost use Rattle.std.specs.Prelude.{true, ◌≡◌, ◌<◌, OnOk, OnErr};
+ghost use Rattle.pm_io.specs.Bytes.{Gains, GainsPart};
+ghost use Rattle.pm_io.specs.Causes.{HasCause};
+ghost use Rattle.pm_forest.specs.Forest.{node_count};
+ghost use Rattle.pm_forest.specs.Faces.{face_count};
+ghost use Rattle.pm_forest.specs.Fronts.{set_of};
+ghost use Rattle.pm_forest.specs.Kept.{is_kept};
+ghost use Rattle.pm_frame.specs.Frame.{first_line, shown_node, node_lines, shown_face, face_lines, end_line, frame_text};
+
+use crate::line::{put_end, put_face, put_head, put_node};
+use pm_base::{FaceId, NodeId};
+use pm_front::Front;
+use pm_io::{Line, Sink, WriteFault, put_all};
+
+// The first line, with how many nodes are active and how many faces are kept.
+fn put_first<K: Sink>(front: &Front, line: &mut Line, out: &mut K) -> Result<(), WriteFault>
+    ensures ok { let text = first_line front.now.h (set_of front.now.flags) in
+        OnOk result (Gains (K.got out.old) (K.got out.new) text) }
+    ensures err { let text = first_line front.now.h (set_of front.now.flags) in
+        OnErr result (GainsPart (K.got out.old) (K.got out.new) text) }
+    ensures cause { HasCause (K.faults out.old) (K.faults out.new) result }
+{
+    put_head(line, front.active_count(), front.kept_count());
+    put_all(out, line.as_slice())
+}
+
+// The line of an active node.
+fn put_active(front: &Front, line: &mut Line, node: NodeId)
+    requires { node.0 < node_count front.now.h }
+    ensures { line.new ≡ shown_node front.now.h node.0 }
+{
+    put_node(line, node.0, &front.hierarchy().place(node));
+}
+
+// A line for each active node.
+fn put_nodes<K: Sink>(front: &Front, line: &mut Line, out: &mut K) -> Result<(), WriteFault>
+    ensures ok { let text = node_lines front.now.h (set_of front.now.flags) in
+        OnOk result (Gains (K.got out.old) (K.got out.new) text) }
+    ensures err { let text = node_lines front.now.h (set_of front.now.flags) in
+        OnErr result (GainsPart (K.got out.old) (K.got out.new) text) }
+    ensures cause { HasCause (K.faults out.old) (K.faults out.new) result }
+{
+    for node in 0..front.hierarchy().nodes() {
+        if front.is_active(NodeId(node)) {
+            put_active(front, line, NodeId(node));
+            if let Err(fault) = put_all(out, line.as_slice()) {
+                return Err(fault);
+            }
+        }
+    }
+    Ok(())
+}
+
+// The line of a face, with the ancestors of its corners.
+fn put_shown(front: &Front, line: &mut Line, face: FaceId)
+    requires there { face.0 < face_count front.now.h }
+    requires kept { is_kept front.now.h (set_of front.now.flags) face.0 ≡ true }
+    ensures { line.new ≡ shown_face front.now.h (set_of front.now.flags) face.0 }
+{
+    let a = front.corner(face, 0);
+    let b = front.corner(face, 1);
+    let c = front.corner(face, 2);
+    put_face(line, face.0, a.0, b.0, c.0);
+}
+
+// A line for each kept face.
+fn put_faces<K: Sink>(front: &Front, line: &mut Line, out: &mut K) -> Result<(), WriteFault>
+    ensures ok { let text = face_lines front.now.h (set_of front.now.flags) in
+        OnOk result (Gains (K.got out.old) (K.got out.new) text) }
+    ensures err { let text = face_lines front.now.h (set_of front.now.flags) in
+        OnErr result (GainsPart (K.got out.old) (K.got out.new) text) }
+    ensures cause { HasCause (K.faults out.old) (K.faults out.new) result }
+{
+    for face in 0..front.hierarchy().faces() {
+        if front.is_kept(FaceId(face)) {
+            put_shown(front, line, FaceId(face));
+            if let Err(fault) = put_all(out, line.as_slice()) {
+                return Err(fault);
+            }
+        }
+    }
+    Ok(())
+}
+
+// The last line.
+fn put_last<K: Sink>(line: &mut Line, out: &mut K) -> Result<(), WriteFault>
+    ensures ok { OnOk result (Gains (K.got out.old) (K.got out.new) end_line) }
+    ensures err { OnErr result (GainsPart (K.got out.old) (K.got out.new) end_line) }
+    ensures cause { HasCause (K.faults out.old) (K.faults out.new) result }
+{
+    put_end(line);
+    put_all(out, line.as_slice())
+}
+
+/// Writes the frame text: the active nodes and the kept faces, ascending by number. A frame costs two passes over all
+/// nodes and faces, and a climb from each corner of a kept face to its ancestor. It takes no memory. After a fault the
+/// sink has gained a part of the text from its front, and not the whole.
+#[tactic(auto, unfolding(crate::specs::Frame::frame_text))]
+pub fn write_frame<K: Sink>(front: &Front, out: &mut K) -> Result<(), WriteFault>
+    ensures ok { let text = frame_text front.now.h (set_of front.now.flags) in
+        OnOk result (Gains (K.got out.old) (K.got out.new) text) }
+    ensures err { let text = frame_text front.now.h (set_of front.now.flags) in
+        OnErr result (GainsPart (K.got out.old) (K.got out.new) text) }
+    ensures cause { HasCause (K.faults out.old) (K.faults out.new) result }
+{
+    let mut line = Line::new();
+    if let Err(fault) = put_first(front, &mut line, out) {
+        return Err(fault);
+    }
+    if let Err(fault) = put_nodes(front, &mut line, out) {
+        return Err(fault);
+    }
+    if let Err(fault) = put_faces(front, &mut line, out) {
+        return Err(fault);
+    }
+    if let Err(fault) = put_last(&mut line, out) {
+        return Err(fault);
+    }
+    Ok(())
+}

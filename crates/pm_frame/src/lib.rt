@@ -1,0 +1,7 @@
+//! The frame text: the active nodes and the kept faces of a front, ascending by number.
+#![tactic(auto)]
+
+mod frame;
+mod line;
+
+pub use frame::write_frame;

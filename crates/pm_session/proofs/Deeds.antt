@@ -1,0 +1,95 @@
+-- What a line does, by its command, and how it ends.
+use Rattle.std.proofs.Common.{◌≡◌, ℕ, ◌<◌, ◌≤◌, Bool, false, List, Option, Some, None, Result, Ok, Err, OnOk, OnErr, refl, replicate, inl, inr, arith}
+use Rattle.std.proofs.Math.Path.{fun_ext}
+use Rattle.std.proofs.lemmas.Bool.{cases_lt, lt-ltb, le-ltb}
+use Rattle.std.proofs.lemmas.List.{get_or-replicate, get_or_past, length-replicate}
+use Rattle.pm_io.specs.declared.device.WriteFault.{WriteFault}
+use Rattle.pm_io.specs.Bytes.{Gains, GainsPart}
+use Rattle.pm_forest.specs.Forest.{Hierarchy, record_count}
+use Rattle.pm_forest.specs.Fronts.{set_of, no_records, with, without}
+use Rattle.pm_beyond.specs.declared.moves.MoveFault.{MoveFault}
+use Rattle.pm_beyond.specs.Moves.{split_fault, collapse_fault}
+use Rattle.pm_frame.specs.Frame.{frame_text}
+use Rattle.pm_session.specs.declared.command.Command.TheVariants as commands
+use Rattle.pm_session.specs.declared.session.Next.{Next}
+use Rattle.pm_session.specs.declared.session.Next.TheVariants as nexts
+use Rattle.pm_session.specs.declared.session.LineFail.{LineFail}
+use Rattle.pm_session.specs.declared.session.LineFail.TheVariants as fails
+use Rattle.pm_session.specs.Script.{command_of, reply_to, after_split, after_collapse, Deed, Replies, Ends, IsBad, NamesNoRecord, line_deed}
+use Rattle.pm_session.specs.Session.{LineEnds}
+
+-- No flag is set in the base front.
+none_set : (n k : ℕ) → set_of (replicate n false) k ≡ false
+none_set n k =
+    elim (cases_lt k n) [
+      | inl l ↦ get_or-replicate n k false false l
+      | inr l ↦ get_or_past (replicate n false) k false (omega (arith, length-replicate n false))
+    ]
+
+pub none_split : (n : ℕ) (flags : List Bool) → flags ≡ replicate n false → set_of flags ≡ no_records
+none_split n flags is = rw is (fun_ext (none_set n))
+
+-- A move that nothing forbids is made, and one that something forbids isn't.
+pub split_made : (h : Hierarchy) (T S : ℕ → Bool) (k : ℕ) → split_fault h T k ≡ None → S ≡ with T k → S ≡ after_split h T k
+unfolding after_split
+split_made h T S k free made = rw (made, free) refl
+
+pub split_refused : (h : Hierarchy) (T S : ℕ → Bool) (k : ℕ) (e : MoveFault) → split_fault h T k ≡ Some e → S ≡ T → S ≡ after_split h T k
+unfolding after_split
+split_refused h T S k e fault same = rw (same, fault) refl
+
+pub collapse_made : (h : Hierarchy) (T S : ℕ → Bool) (k : ℕ) → collapse_fault h T k ≡ None → S ≡ without T k → S ≡ after_collapse h T k
+unfolding after_collapse
+collapse_made h T S k free made = rw (made, free) refl
+
+pub collapse_refused : (h : Hierarchy) (T S : ℕ → Bool) (k : ℕ) (e : MoveFault) → collapse_fault h T k ≡ Some e → S ≡ T → S ≡ after_collapse h T k
+unfolding after_collapse
+collapse_refused h T S k e fault same = rw (same, fault) refl
+
+-- What a line does.
+pub deed_quit : (h : Hierarchy) (T : ℕ → Bool) (line : List ℕ) → command_of line ≡ commands.Quit → line_deed h T line ≡ Ends
+unfolding line_deed
+deed_quit h T line is = rw is refl
+
+pub deed_bad : (h : Hierarchy) (T : ℕ → Bool) (line : List ℕ) → command_of line ≡ commands.Bad → line_deed h T line ≡ IsBad
+unfolding line_deed
+deed_bad h T line is = rw is refl
+
+pub deed_show : (h : Hierarchy) (T : ℕ → Bool) (line : List ℕ) → command_of line ≡ commands.Show → line_deed h T line ≡ Replies (frame_text h T) T
+unfolding line_deed
+deed_show h T line is = rw is refl
+
+pub deed_split : (h : Hierarchy) (T S : ℕ → Bool) (line : List ℕ) (k : ℕ) (fault : Option MoveFault) → command_of line ≡ commands.Split k → k < record_count h
+    → fault ≡ split_fault h T k → S ≡ after_split h T k → line_deed h T line ≡ Replies (reply_to fault) S
+unfolding line_deed
+deed_split h T S line k fault is l answer after = rw (is, lt-ltb k (record_count h) l, answer, after) refl
+
+pub deed_collapse : (h : Hierarchy) (T S : ℕ → Bool) (line : List ℕ) (k : ℕ) (fault : Option MoveFault) → command_of line ≡ commands.Collapse k → k < record_count h
+    → fault ≡ collapse_fault h T k → S ≡ after_collapse h T k → line_deed h T line ≡ Replies (reply_to fault) S
+unfolding line_deed
+deed_collapse h T S line k fault is l answer after = rw (is, lt-ltb k (record_count h) l, answer, after) refl
+
+pub deed_no_split : (h : Hierarchy) (T : ℕ → Bool) (line : List ℕ) (k : ℕ) → command_of line ≡ commands.Split k → record_count h ≤ k → line_deed h T line ≡ NamesNoRecord
+unfolding line_deed
+deed_no_split h T line k is l = rw (is, le-ltb k (record_count h) l) refl
+
+pub deed_no_collapse : (h : Hierarchy) (T : ℕ → Bool) (line : List ℕ) (k : ℕ) → command_of line ≡ commands.Collapse k → record_count h ≤ k → line_deed h T line ≡ NamesNoRecord
+unfolding line_deed
+deed_no_collapse h T line k is l = rw (is, le-ltb k (record_count h) l) refl
+
+-- How a line ends that has a reply,
+pub replied : (deed : Deed) (reply : List ℕ) (T before after : ℕ → Bool) (put : Result (Unit {0}) WriteFault) (result : Result Next LineFail) (old new : Option (List ℕ))
+    → deed ≡ Replies reply T → after ≡ T → OnOk put (result ≡ Ok nexts.More) → OnErr put (result ≡ Err fails.Write) → OnOk put (Gains old new reply) → OnErr put (GainsPart old new reply)
+    → LineEnds deed result before after old new
+replied deed reply T before after (Ok done) result old new is state good bad whole part = rw (is, good) (state, whole)
+replied deed reply T before after (Err fault) result old new is state good bad whole part = rw (is, bad) (state, part)
+
+-- one that ends the script, and one with a fault.
+pub ended : (deed : Deed) (T : ℕ → Bool) (old : Option (List ℕ)) → deed ≡ Ends → LineEnds deed (Ok nexts.Quit) T T old old
+ended deed T old is = rw is (refl, refl)
+
+pub bad : (deed : Deed) (T : ℕ → Bool) (old : Option (List ℕ)) → deed ≡ IsBad → LineEnds deed (Err fails.BadLine) T T old old
+bad deed T old is = rw is (refl, refl)
+
+pub named_none : (deed : Deed) (T : ℕ → Bool) (old : Option (List ℕ)) → deed ≡ NamesNoRecord → LineEnds deed (Err fails.NoRecord) T T old old
+named_none deed T old is = rw is (refl, refl)

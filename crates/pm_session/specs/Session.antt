@@ -1,0 +1,30 @@
+-- A session, and what one line leaves of it.
+use Rattle.std.specs.Prelude.{◌≡◌, ℕ, Bool, List, Option, Result, Ok, Err}
+use Rattle.pm_io.specs.Bytes.{Gains, GainsPart}
+use Rattle.pm_io.specs.Causes.{Rose}
+use Rattle.pm_forest.specs.Forest.{Hierarchy}
+use Rattle.pm_session.specs.declared.session.Next.{Next}
+use Rattle.pm_session.specs.declared.session.Next.TheVariants as nexts
+use Rattle.pm_session.specs.declared.session.LineFail.{LineFail}
+use Rattle.pm_session.specs.declared.session.LineFail.TheVariants as fails
+use Rattle.pm_session.specs.Script.{Deed, Replies, Ends, IsBad, NamesNoRecord}
+
+-- The hierarchy that is shown, a flag for each record that is set where it is split, and the budget of moves a view.
+pub record Shown : Type 0 where
+  pub h : Hierarchy
+  pub flags : List Bool
+  pub budget : ℕ
+
+-- How a line ends, by its deed: `before` and `after` are the split records, and `old` and `new` what the sink had taken.
+abbrev pub LineEnds : Deed → Result Next LineFail → (ℕ → Bool) → (ℕ → Bool) → Option (List ℕ) → Option (List ℕ) → Type 0
+LineEnds (Replies reply T) (Ok nexts.More) before after old new = (after ≡ T) × Gains old new reply
+LineEnds (Replies reply T) (Err fails.Write) before after old new = (after ≡ T) × GainsPart old new reply
+LineEnds Ends (Ok nexts.Quit) before after old new = (after ≡ before) × (new ≡ old)
+LineEnds IsBad (Err fails.BadLine) before after old new = (after ≡ before) × (new ≡ old)
+LineEnds NamesNoRecord (Err fails.NoRecord) before after old new = (after ≡ before) × (new ≡ old)
+LineEnds deed result before after old new = ⊥
+
+-- What the sink's count did then.
+abbrev pub LineCounts : Result Next LineFail → ℕ → ℕ → Type 0
+LineCounts (Err fails.Write) before now = Rose before now
+LineCounts result before now = now ≡ before

@@ -1,0 +1,169 @@
+// A session over one hierarchy. All its memory is taken when it starts.
+ghost use Rattle.std.specs.Prelude.{◌≡◌, ◌≢◌, ◌<◌, ℕ, List, IfOk, IfErr, OnOk, OnErr};
+ghost use Rattle.pm_io.specs.Bytes.{Gains, GainsPart};
+ghost use Rattle.pm_io.specs.Causes.{HasCause};
+ghost use Rattle.pm_forest.specs.Forest.{record_count};
+ghost use Rattle.pm_forest.specs.Fronts.{set_of, no_records};
+ghost use Rattle.pm_beyond.specs.Valid.{IsValid};
+ghost use Rattle.pm_beyond.specs.Moves.{split_fault, collapse_fault};
+ghost use Rattle.pm_load.specs.Faults.{IsLoadFault};
+ghost use Rattle.pm_frame.specs.Frame.{frame_text};
+ghost use Rattle.pm_session.specs.Script.{reply_to, line_deed, after_split, after_collapse};
+ghost use Rattle.pm_session.specs.Session.{LineEnds, LineCounts};
+
+use crate::command::{Command, command_of};
+use crate::reply::put_reply;
+use pm_beyond::MoveFault;
+use pm_forest::Hierarchy;
+use pm_frame::write_frame;
+use pm_front::Front;
+use pm_io::{Line, Sink, WriteFault, put_all};
+use pm_load::{LoadFail, open_front};
+use std::alloc::Global;
+use std::marker::Model;
+
+/// What comes after a line: the next one, or the end of the script.
+#[derive(Clone, Copy, Debug, PartialEq, Eq)]
+pub enum Next {
+    More,
+    Quit,
+}
+
+/// Why a line isn't done whole: it is none of the forms, it names no record, or its reply couldn't be put.
+#[derive(Clone, Copy, Debug, PartialEq, Eq)]
+pub enum LineFail {
+    BadLine,
+    NoRecord,
+    Write,
+}
+
+/// A hierarchy that is being shown. Contracts see it, which of its records are split, and the budget of moves a view.
+#[derive(Drop)]
+pub struct Session {
+    front: Front,
+    budget: u32,
+}
+
+impl Model for Session {
+    ghost use Rattle.pm_session.specs.Session.{Shown};
+
+    ghost Value = { Shown };
+
+    ghost view = { λ s. record { h = s.front.h; flags = s.front.flags; budget = s.budget } };
+}
+
+// Puts the reply to a move.
+fn put_answer<K: Sink>(fault: Option<MoveFault>, out: &mut K) -> Result<(), WriteFault>
+    ensures ok { OnOk result (Gains (K.got out.old) (K.got out.new) (reply_to fault)) }
+    ensures err { OnErr result (GainsPart (K.got out.old) (K.got out.new) (reply_to fault)) }
+    ensures cause { HasCause (K.faults out.old) (K.faults out.new) result }
+{
+    let mut line = Line::new();
+    put_reply(&mut line, fault);
+    put_all(out, line.as_slice())
+}
+
+// How the line of a reply ends.
+fn after_reply(put: Result<(), WriteFault>) -> Result<Next, LineFail>
+    ensures ok { OnOk put (result ≡ Ok Next.More) }
+    ensures err { OnErr put (result ≡ Err LineFail.Write) }
+{
+    match put {
+        Ok(()) => Ok(Next::More),
+        Err(_) => Err(LineFail::Write),
+    }
+}
+
+impl Session {
+    /// A session that shows the base front of a valid hierarchy. It is refused as `open_front` says. All the memory that
+    /// a script can want is taken here.
+    #[tactic(auto, using(crate::proofs::Deeds::none_split))]
+    pub fn start(alloc: Global, h: Hierarchy, budget: u32) -> Result<Session, LoadFail>
+        ensures shown { IfOk result (λ s. (s.h ≡ h) × (s.budget ≡ budget) × (set_of s.flags ≡ no_records)) }
+        ensures valid { OnOk result (IsValid h) }
+        ensures fault { IfErr result (IsLoadFault h) }
+        ensures refused { IfErr result (λ e. e ≢ LoadFail.OutOfMemory → IsValid h → ⊥) }
+    {
+        match open_front(alloc, h) {
+            Ok(front) => Ok(Session { front, budget }),
+            Err(fail) => Err(fail),
+        }
+    }
+
+    // Writes the frame.
+    fn show<K: Sink>(&self, out: &mut K) -> Result<(), WriteFault>
+        ensures ok { let text = frame_text self.now.h (set_of self.now.flags) in
+            OnOk result (Gains (K.got out.old) (K.got out.new) text) }
+        ensures err { let text = frame_text self.now.h (set_of self.now.flags) in
+            OnErr result (GainsPart (K.got out.old) (K.got out.new) text) }
+        ensures cause { HasCause (K.faults out.old) (K.faults out.new) result }
+    {
+        write_frame(&self.front, out)
+    }
+
+    // How many records there are.
+    fn records(&self) -> u32
+        ensures { result ≡ record_count self.now.h }
+    {
+        self.front.hierarchy().records()
+    }
+
+    // Splits a record where that is legal, and answers what forbids it where it isn't.
+    #[tactic(auto, using(crate::proofs::Deeds::split_made, crate::proofs::Deeds::split_refused))]
+    fn split(&mut self, k: u32) -> Option<MoveFault>
+        requires { k < record_count self.old.h }
+        ensures answer { result ≡ split_fault self.old.h (set_of self.old.flags) k }
+        ensures after { set_of self.new.flags ≡ after_split self.old.h (set_of self.old.flags) k }
+        ensures same { (self.new.h ≡ self.old.h) × (self.new.budget ≡ self.old.budget) }
+    {
+        match self.front.split(k) {
+            Ok(()) => None,
+            Err(fault) => Some(fault),
+        }
+    }
+
+    // Collapses a record where that is legal, and answers what forbids it where it isn't.
+    #[tactic(auto, using(crate::proofs::Deeds::collapse_made, crate::proofs::Deeds::collapse_refused))]
+    fn collapse(&mut self, k: u32) -> Option<MoveFault>
+        requires { k < record_count self.old.h }
+        ensures answer { result ≡ collapse_fault self.old.h (set_of self.old.flags) k }
+        ensures after { set_of self.new.flags ≡ after_collapse self.old.h (set_of self.old.flags) k }
+        ensures same { (self.new.h ≡ self.old.h) × (self.new.budget ≡ self.old.budget) }
+    {
+        match self.front.collapse(k) {
+            Ok(()) => None,
+            Err(fault) => Some(fault),
+        }
+    }
+
+    /// Does one script line, which is given without its LF, and writes its whole reply. BadLine comes exactly where the
+    /// line is none of the forms, and NoRecord exactly where it names a record that isn't there; nothing is changed or
+    /// written then. Write comes only where the sink failed: the line's move stands, and the sink gained a part of the
+    /// reply from its front, and not the whole. It takes no memory.
+    pub fn line<K: Sink>(&mut self, text: &[u8], out: &mut K) -> Result<Next, LineFail>
+        ensures ends { let T = set_of self.old.flags in
+            LineEnds (line_deed self.old.h T text.now) result T (set_of self.new.flags) (K.got out.old) (K.got out.new) }
+        ensures counts { LineCounts result (K.faults out.old) (K.faults out.new) }
+        ensures same { (self.new.h ≡ self.old.h) × (self.new.budget ≡ self.old.budget) }
+        ensures refused { IfErr result (λ e. (e ≡ LineFail.Write → ⊥) → self.new ≡ self.old) }
+    {
+        match command_of(text) {
+            Command::Quit => Ok(Next::Quit),
+            Command::Bad => Err(LineFail::BadLine),
+            Command::Show => after_reply(self.show(out)),
+            Command::Split(k) if k < self.records() => after_reply(put_answer(self.split(k), out)),
+            Command::Collapse(k) if k < self.records() => {
+                after_reply(put_answer(self.collapse(k), out))
+            }
+            Command::Split(_) | Command::Collapse(_) => Err(LineFail::NoRecord),
+        }
+    }
+
+    /// The front as it stands.
+    pub fn front(&self) -> &Front
+        ensures h { result.now.h ≡ self.now.h }
+        ensures flags { result.now.flags ≡ self.now.flags }
+    {
+        &self.front
+    }
+}
