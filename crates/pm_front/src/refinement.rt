@@ -43,11 +43,7 @@ impl Model for Refinement {
 fn new_faces(change: &Record) -> u32
     ensures { result ≡ one_if (is_some change.now.left) + one_if (is_some change.now.right) }
 {
-    match (change.left.is_some(), change.right.is_some()) {
-        (true, true) => 2,
-        (false, false) => 0,
-        _ => 1,
-    }
+    u32::from(change.left.is_some()) + u32::from(change.right.is_some())
 }
 
 // The first face of each record.
