@@ -1,0 +1,141 @@
+-- The radii and boxes of leaves, when one face more is looked at.
+use Rattle.std.proofs.Common.{◌≡◌, ℕ, ◌+◌, ◌<◌, max, Bool, cond, List, [], ◌∷◌, ◌++◌, get_or, map, take, None, Some, Option, inl, inr, refl, sym, ap, ◌∙◌, arith}
+use Rattle.std.specs.List.{filter}
+use Rattle.std.proofs.Math.Seq.{take-length}
+use Rattle.std.proofs.lemmas.Bool.{cases_Bool, cond-true, cond-false}
+use Rattle.std.proofs.lemmas.List.{map-append, take_more}
+use Rattle.pm_forest.specs.declared.parts.Face.{Face}
+use Rattle.pm_forest.specs.Forest.{Hierarchy, node_count, splitter_of}
+use Rattle.pm_forest.specs.Faces.{faces_of, face_count, corners_of, no_corners}
+use Rattle.pm_forest.specs.Rules.{HasShape}
+use Rattle.pm_forest.proofs.FaceLists.{length-faces_of, corners_of-faces_of}
+use Rattle.pm_forest.proofs.ViewLaws.{corner_below}
+use Rattle.pm_bounds.specs.declared.normal_box.NormalBox.{NormalBox}
+use Rattle.pm_bounds.specs.Boxes.{box_at, join, box_of}
+use Rattle.pm_bounds.specs.Bounds.{greatest, reach, is_under, normal_of, leaf_radius, box_under}
+use Rattle.pm_bounds.specs.Tables.{is_corner_node}
+use Rattle.pm_bounds.proofs.BoxLaws.{box_of-more}
+use Rattle.pm_bounds.proofs.Nodes.{own_faces}
+
+-- the greatest of a list with one number more, put last
+max_shift : (x y z : ℕ) → max x (max y z) ≡ max (max x y) z
+max_shift x y z = omega arith
+
+greatest-more : (ns : List ℕ) (n : ℕ) → greatest (ns ++ n ∷ []) ≡ max (greatest ns) n
+greatest-more [] n = omega arith
+greatest-more (m ∷ ns) n = ap (max m) (greatest-more ns n) ∙ max_shift m (greatest ns) n
+
+-- what passes a test, with one item more
+filter-more : {X : Type 0} (p : X → Bool) (xs : List X) (x : X) → filter p (xs ++ x ∷ []) ≡ cond (p x) (filter p xs ++ x ∷ []) (filter p xs)
+filter-more p [] x = refl
+filter-more p (y ∷ ys) x =
+    let rest = filter-more p ys x in
+    elim (cases_Bool (p y)) [
+      | inl e ↦ elim (cases_Bool (p x)) [
+        | inl g ↦ (rw (e, g) (ap (λ l. y ∷ l) (rest ∙ cond-true (p x) (filter p ys ++ x ∷ []) (filter p ys) g)))
+        | inr g ↦ (rw (e, g) (ap (λ l. y ∷ l) (rest ∙ cond-false (p x) (filter p ys ++ x ∷ []) (filter p ys) g)))
+      ]
+      | inr e ↦ (rw e rest)
+    ]
+
+-- what passes one of two tests that say the same
+pub filter_same : {X : Type 0} (p q : X → Bool) (xs : List X) → ((x : X) → p x ≡ q x) → filter p xs ≡ filter q xs
+filter_same p q [] same = refl
+filter_same p q (x ∷ xs) same = rw (same x, filter_same p q xs same) refl
+
+-- The first n faces.
+abbrev pub first_faces : Hierarchy → ℕ → List Face
+first_faces h n = take n (faces_of h)
+
+-- The radius of a leaf, and the box of a node, by these faces alone.
+unfoldable pub radius_in : Hierarchy → ℕ → ℕ → ℕ
+radius_in h n v = greatest (map (reach h v) (filter (is_under h v) (first_faces h n)))
+
+unfoldable pub box_in : Hierarchy → ℕ → ℕ → Option NormalBox
+box_in h n v = box_of (map (normal_of h) (filter (is_under h v) (first_faces h n)))
+
+module _ (h : Hierarchy) where
+  one_more : (n : ℕ) → n < face_count h → first_faces h (n + 1) ≡ first_faces h n ++ corners_of h n ∷ []
+  one_more n l =
+      let len = length-faces_of h in
+      take_more (faces_of h) n no_corners (omega arith) ∙ ap (λ f. first_faces h n ++ f ∷ []) (sym (corners_of-faces_of h n l))
+
+  pub radius_in-none : (v : ℕ) → radius_in h 0 v ≡ 0
+  unfolding radius_in
+  radius_in-none v = refl
+
+  pub radius_in-more : (n v : ℕ) → n < face_count h →
+      radius_in h (n + 1) v ≡ cond (is_under h v (corners_of h n)) (max (radius_in h n v) (reach h v (corners_of h n))) (radius_in h n v)
+  unfolding radius_in
+  radius_in-more n v l =
+      let f = corners_of h n in
+      let fs = first_faces h n in
+      let all : filter (is_under h v) (first_faces h (n + 1)) ≡ cond (is_under h v f) (filter (is_under h v) fs ++ f ∷ []) (filter (is_under h v) fs) =
+      ap (filter (is_under h v)) (one_more n l) ∙ filter-more (is_under h v) fs f in
+      elim (cases_Bool (is_under h v f)) [
+        | inl e ↦
+            ap (λ l. greatest (map (reach h v) l)) (all ∙ cond-true _ _ _ e)
+            ∙ ap greatest (map-append (reach h v) (filter (is_under h v) fs) (f ∷ []))
+            ∙ greatest-more (map (reach h v) (filter (is_under h v) fs)) (reach h v f)
+            ∙ sym (cond-true _ _ _ e)
+        | inr e ↦ ap (λ l. greatest (map (reach h v) l)) (all ∙ cond-false _ _ _ e) ∙ sym (cond-false _ _ _ e)
+      ]
+
+  pub box_in-none : (v : ℕ) → box_in h 0 v ≡ None
+  unfolding box_in
+  box_in-none v = refl
+
+  pub box_in-more : (n v : ℕ) → n < face_count h →
+      box_in h (n + 1) v ≡ cond (is_under h v (corners_of h n)) (join (box_in h n v) (Some (box_at (normal_of h (corners_of h n))))) (box_in h n v)
+  unfolding box_in
+  box_in-more n v l =
+      let f = corners_of h n in
+      let fs = first_faces h n in
+      let all : filter (is_under h v) (first_faces h (n + 1)) ≡ cond (is_under h v f) (filter (is_under h v) fs ++ f ∷ []) (filter (is_under h v) fs) =
+      ap (filter (is_under h v)) (one_more n l) ∙ filter-more (is_under h v) fs f in
+      elim (cases_Bool (is_under h v f)) [
+        | inl e ↦
+            ap (λ l. box_of (map (normal_of h) l)) (all ∙ cond-true _ _ _ e)
+            ∙ ap box_of (map-append (normal_of h) (filter (is_under h v) fs) (f ∷ []))
+            ∙ box_of-more (map (normal_of h) (filter (is_under h v) fs)) (normal_of h f)
+            ∙ sym (cond-true _ _ _ e)
+        | inr e ↦ ap (λ l. box_of (map (normal_of h) l)) (all ∙ cond-false _ _ _ e) ∙ sym (cond-false _ _ _ e)
+      ]
+
+-- One face more in a table of the leaves' numbers.
+pub radii_step : (h : Hierarchy) → HasShape h → (n : ℕ) → n < face_count h → (old new : List ℕ) →
+    ((v : ℕ) → v < node_count h → splitter_of h v ≡ None → get_or old v 0 ≡ radius_in h n v) →
+    ((v : ℕ) → v < node_count h → get_or new v 0 ≡ cond (is_corner_node h v (corners_of h n)) (max (get_or old v 0) (reach h v (corners_of h n))) (get_or old v 0)) →
+    (v : ℕ) → v < node_count h → splitter_of h v ≡ None → get_or new v 0 ≡ radius_in h (n + 1) v
+radii_step h shape n l old new before step v m none =
+    let f = corners_of h n in
+    let c = corner_below h shape n l in
+    step v m
+    ∙ ap (λ b. cond b (max (get_or old v 0) (reach h v f)) (get_or old v 0)) (own_faces h shape v f m none c.a_below c.b_below c.c_below)
+    ∙ ap (λ r. cond (is_under h v f) (max r (reach h v f)) r) (before v m none)
+    ∙ sym (radius_in-more h n v l)
+
+pub boxes_step : (h : Hierarchy) → HasShape h → (n : ℕ) → n < face_count h → (old new : List (Option NormalBox)) →
+    ((v : ℕ) → v < node_count h → splitter_of h v ≡ None → get_or old v None ≡ box_in h n v) →
+    ((v : ℕ) → v < node_count h → get_or new v None ≡ cond (is_corner_node h v (corners_of h n)) (join (get_or old v None) (Some (box_at (normal_of h (corners_of h n))))) (get_or old v None)) →
+    (v : ℕ) → v < node_count h → splitter_of h v ≡ None → get_or new v None ≡ box_in h (n + 1) v
+boxes_step h shape n l old new before step v m none =
+    let f = corners_of h n in
+    let c = corner_below h shape n l in
+    let normal = Some (box_at (normal_of h f)) in
+    step v m
+    ∙ ap (λ b. cond b (join (get_or old v None) normal) (get_or old v None)) (own_faces h shape v f m none c.a_below c.b_below c.c_below)
+    ∙ ap (λ r. cond (is_under h v f) (join r normal) r) (before v m none)
+    ∙ sym (box_in-more h n v l)
+
+-- All faces.
+all_faces : (h : Hierarchy) → first_faces h (face_count h) ≡ faces_of h
+all_faces h = ap (λ n. take n (faces_of h)) (sym (length-faces_of h)) ∙ take-length (faces_of h)
+
+pub radius_in-all : (h : Hierarchy) (v : ℕ) → radius_in h (face_count h) v ≡ leaf_radius h v
+unfolding radius_in
+radius_in-all h v = ap (λ fs. greatest (map (reach h v) (filter (is_under h v) fs))) (all_faces h)
+
+pub box_in-all : (h : Hierarchy) (v : ℕ) → box_in h (face_count h) v ≡ box_under h v
+unfolding box_in box_under
+box_in-all h v = ap (λ fs. box_of (map (normal_of h) (filter (is_under h v) fs))) (all_faces h)

@@ -1,0 +1,4 @@
+pub mod Boxes
+pub mod Bounds
+pub mod Tables
+pub mod Laws

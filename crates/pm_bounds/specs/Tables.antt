@@ -1,0 +1,23 @@
+-- What the tables of bounds keep.
+use Rattle.std.specs.Prelude.{◌≡◌, ℕ, ◌<◌, ◌^◌, ◌||◌, ◌==◌, Bool, None, List, length, IfSome, slice_index_or}
+use Rattle.pm_forest.specs.declared.parts.Face.{Face}
+use Rattle.pm_forest.specs.Forest.{Hierarchy}
+use Rattle.pm_forest.specs.Tables.{leaf_node_of}
+use Rattle.pm_bounds.specs.Boxes.{IsSmallBox}
+use Rattle.pm_bounds.specs.Bounds.{Bounds, over_children}
+
+-- One of each kind for each node, and none is large.
+pub record IsBounds (b : Bounds) : Type 0 where
+  pub as_many_radii : length b.radii ≡ length b.errors
+  pub as_many_boxes : length b.boxes ≡ length b.errors
+  pub small_errors : (v : ℕ) → v < length b.errors → slice_index_or b.errors v 0 < 2 ^ 38
+  pub small_radii : (v : ℕ) → v < length b.errors → slice_index_or b.radii v 0 < 2 ^ 38
+  pub small_boxes : (v : ℕ) → v < length b.errors → IfSome (slice_index_or b.boxes v None) IsSmallBox
+
+-- Node v is the node of a leaf at a corner of the face.
+abbrev pub is_corner_node : Hierarchy → ℕ → Face → Bool
+is_corner_node h v f = v == leaf_node_of h f.a || v == leaf_node_of h f.b || v == leaf_node_of h f.c
+
+-- The number of the node that record k splits, by those of its children in a table.
+abbrev pub grown_at : Hierarchy → List ℕ → ℕ → ℕ
+grown_at h numbers k = over_children h (λ v. slice_index_or numbers v 0) k

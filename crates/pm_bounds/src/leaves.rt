@@ -1,0 +1,165 @@
+// The bounds of leaves, which the faces at them give.
+ghost use Rattle.std.specs.Prelude.{◌≡◌, ℕ, ◌+◌, ◌<◌, ◌≤◌, ◌||◌, ◌==◌, max, cond, None, Some, replicate, length, map, IfOk, IfSome, slice_index_or, slice_set};
+ghost use Rattle.pm_base.specs.Geometry.{IsNormal};
+ghost use Rattle.pm_forest.specs.Forest.{node_count, splitter_of};
+ghost use Rattle.pm_forest.specs.Faces.{face_count, corners_of};
+ghost use Rattle.pm_forest.specs.Tables.{leaf_node_of};
+ghost use Rattle.pm_bounds.specs.Boxes.{join, box_at, IsSmallBox};
+ghost use Rattle.pm_bounds.specs.Bounds.{reach, normal_of, leaf_radius, box_under};
+ghost use Rattle.pm_bounds.specs.Tables.{is_corner_node};
+
+use crate::normal_box::join;
+use crate::{NormalBox, OutOfMemory};
+use pm_base::{FaceId, NodeId, cross, dist_up};
+use pm_forest::Hierarchy;
+use std::alloc::Global;
+
+// As many zeros as there are nodes. The length is a parameter, so that no proof unfolds the list.
+pub(crate) fn zeros(alloc: Global, nodes: usize) -> Result<Vec<u64>, OutOfMemory>
+    ensures { IfOk result (λ v. v.items ≡ replicate nodes 0) }
+{
+    vec![in alloc; 0; nodes]
+}
+
+fn no_boxes(alloc: Global, nodes: usize) -> Result<Vec<Option<NormalBox>>, OutOfMemory>
+    ensures { IfOk result (λ v. v.items ≡ replicate nodes None) }
+{
+    vec![in alloc; None; nodes]
+}
+
+// The nodes of the leaves at a face's corners.
+fn corner_nodes(h: &Hierarchy, f: FaceId) -> (NodeId, NodeId, NodeId)
+    requires { f.0 < face_count h.now }
+    ensures a { result.0.0 ≡ leaf_node_of h.now (corners_of h.now f.0).a }
+    ensures b { result.1.0 ≡ leaf_node_of h.now (corners_of h.now f.0).b }
+    ensures c { result.2.0 ≡ leaf_node_of h.now (corners_of h.now f.0).c }
+    ensures a_node { result.0.0 < node_count h.now }
+    ensures b_node { result.1.0 < node_count h.now }
+    ensures c_node { result.2.0 < node_count h.now }
+{
+    h.has_shape();
+    let face = h.face_at(f);
+    (
+        h.leaf_node(face.a),
+        h.leaf_node(face.b),
+        h.leaf_node(face.c),
+    )
+}
+
+// How far the farthest corner of a face is from the place of a node.
+#[tactic(auto, unfolding(crate::specs::Bounds::reach))]
+fn reach(h: &Hierarchy, node: NodeId, f: FaceId) -> u64
+    requires face { f.0 < face_count h.now }
+    requires node { node.0 < node_count h.now }
+    ensures value { result ≡ reach h.now node.0 (corners_of h.now f.0) }
+    ensures small { result ≤ 113509 }
+{
+    let place = h.place(node);
+    let (a, b, c) = corner_nodes(h, f);
+    let first = dist_up(place, h.place(a));
+    let second = dist_up(place, h.place(b));
+    let third = dist_up(place, h.place(c));
+    u64::from(first.max(second.max(third)))
+}
+
+// The face's normal alone, as a box.
+fn face_box(h: &Hierarchy, f: FaceId) -> NormalBox
+    requires { f.0 < face_count h.now }
+    ensures value { result ≡ box_at (normal_of h.now (corners_of h.now f.0)) }
+    ensures small { IsSmallBox result }
+{
+    let (a, b, c) = corner_nodes(h, f);
+    let normal = cross(h.place(a), h.place(b), h.place(c));
+    NormalBox {
+        low: normal,
+        high: normal,
+    }
+}
+
+// Lets the radius of a node reach a face.
+fn widen_radius(h: &Hierarchy, radii: &mut Vec<u64>, node: NodeId, f: FaceId)
+    requires face { f.0 < face_count h.now }
+    requires node { node.0 < node_count h.now }
+    requires len { length radii.old.items ≡ node_count h.now }
+    requires small { (v : ℕ) → v < node_count h.now → slice_index_or radii.old.items v 0 ≤ 113509 }
+    ensures value { radii.new.items ≡ slice_set radii.old.items node.0 (max (slice_index_or radii.old.items node.0 0) (reach h.now node.0 (corners_of h.now f.0))) }
+    ensures len { length radii.new.items ≡ node_count h.now }
+    ensures small { (v : ℕ) → v < node_count h.now → slice_index_or radii.new.items v 0 ≤ 113509 }
+{
+    let at = node.0 as usize;
+    radii[at] = radii[at].max(reach(h, node, f));
+}
+
+// Takes the normal of a face into the box of a node.
+fn widen_box(boxes: &mut Vec<Option<NormalBox>>, node: NodeId, face: NormalBox)
+    requires node { node.0 < length boxes.old.items }
+    requires small { (v : ℕ) → v < length boxes.old.items → IfSome (slice_index_or boxes.old.items v None) IsSmallBox }
+    requires face { IsSmallBox face }
+    ensures value { boxes.new.items ≡ slice_set boxes.old.items node.0 (join (slice_index_or boxes.old.items node.0 None) (Some face)) }
+    ensures len { length boxes.new.items ≡ length boxes.old.items }
+    ensures small { (v : ℕ) → v < length boxes.new.items → IfSome (slice_index_or boxes.new.items v None) IsSmallBox }
+{
+    let at = node.0 as usize;
+    boxes[at] = join(boxes[at], Some(face));
+}
+
+// Lets the radii of the leaves at a face's corners reach it.
+fn widen_radii(h: &Hierarchy, radii: &mut Vec<u64>, f: FaceId)
+    requires face { f.0 < face_count h.now }
+    requires len { length radii.old.items ≡ node_count h.now }
+    requires small { (v : ℕ) → v < node_count h.now → slice_index_or radii.old.items v 0 ≤ 113509 }
+    ensures len { length radii.new.items ≡ node_count h.now }
+    ensures small { (v : ℕ) → v < node_count h.now → slice_index_or radii.new.items v 0 ≤ 113509 }
+    ensures each { (v : ℕ) → v < node_count h.now → let old = slice_index_or radii.old.items v 0 in
+        slice_index_or radii.new.items v 0 ≡ cond (is_corner_node h.now v (corners_of h.now f.0)) (max old (reach h.now v (corners_of h.now f.0))) old }
+{
+    let (a, b, c) = corner_nodes(h, f);
+    widen_radius(h, radii, a, f);
+    widen_radius(h, radii, b, f);
+    widen_radius(h, radii, c, f);
+}
+
+// Takes the normal of a face into the boxes of the leaves at its corners.
+fn widen_boxes(h: &Hierarchy, boxes: &mut Vec<Option<NormalBox>>, f: FaceId)
+    requires face { f.0 < face_count h.now }
+    requires len { length boxes.old.items ≡ node_count h.now }
+    requires small { (v : ℕ) → v < length boxes.old.items → IfSome (slice_index_or boxes.old.items v None) IsSmallBox }
+    ensures len { length boxes.new.items ≡ node_count h.now }
+    ensures small { (v : ℕ) → v < length boxes.new.items → IfSome (slice_index_or boxes.new.items v None) IsSmallBox }
+    ensures each { (v : ℕ) → v < node_count h.now → let old = slice_index_or boxes.old.items v None in
+        slice_index_or boxes.new.items v None ≡ cond (is_corner_node h.now v (corners_of h.now f.0)) (join old (Some (box_at (normal_of h.now (corners_of h.now f.0))))) old }
+{
+    let (a, b, c) = corner_nodes(h, f);
+    let face = face_box(h, f);
+    widen_box(boxes, a, face);
+    widen_box(boxes, b, face);
+    widen_box(boxes, c, face);
+}
+
+/// The radius of each node that no record splits, by node.
+pub fn leaf_radii(alloc: Global, h: &Hierarchy) -> Result<Vec<u64>, OutOfMemory>
+    ensures len { IfOk result (λ radii. length radii.items ≡ node_count h.now) }
+    ensures each { IfOk result (λ radii. (v : ℕ) → v < node_count h.now → splitter_of h.now v ≡ None → slice_index_or radii.items v 0 ≡ leaf_radius h.now v) }
+    ensures small { IfOk result (λ radii. (v : ℕ) → v < node_count h.now → slice_index_or radii.items v 0 ≤ 113509) }
+{
+    let mut radii = zeros(alloc, h.nodes() as usize)?;
+    h.has_shape();
+    for f in 0..h.faces() {
+        widen_radii(h, &mut radii, FaceId(f));
+    }
+    Ok(radii)
+}
+
+/// The normal box of each node that no record splits, by node.
+pub fn leaf_boxes(alloc: Global, h: &Hierarchy) -> Result<Vec<Option<NormalBox>>, OutOfMemory>
+    ensures len { IfOk result (λ boxes. length boxes.items ≡ node_count h.now) }
+    ensures each { IfOk result (λ boxes. (v : ℕ) → v < node_count h.now → splitter_of h.now v ≡ None → slice_index_or boxes.items v None ≡ box_under h.now v) }
+    ensures small { IfOk result (λ boxes. (v : ℕ) → v < length boxes.items → IfSome (slice_index_or boxes.items v None) IsSmallBox) }
+{
+    let mut boxes = no_boxes(alloc, h.nodes() as usize)?;
+    h.has_shape();
+    for f in 0..h.faces() {
+        widen_boxes(h, &mut boxes, FaceId(f));
+    }
+    Ok(boxes)
+}

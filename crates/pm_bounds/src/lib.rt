@@ -1,0 +1,17 @@
+//! How far what is under a node of the vertex forest can be from the node's place, and which way its faces look.
+#![tactic(auto)]
+
+mod bounds;
+mod growing;
+mod leaves;
+mod normal_box;
+#[cfg(test)]
+mod tests;
+mod theory;
+
+pub use bounds::Bounds;
+pub use normal_box::NormalBox;
+pub use theory::bounds_are_sound;
+
+/// The answer for want of memory.
+pub type OutOfMemory = std::alloc::AllocError;
