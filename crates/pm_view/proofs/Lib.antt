@@ -1,0 +1,9 @@
+pub mod Premises
+pub mod Outside
+pub mod FacingLaws
+pub mod Large
+pub mod Passing
+pub mod NodeLaws
+pub mod ViewLaws
+pub mod FieldLaws
+pub mod NumberLaws

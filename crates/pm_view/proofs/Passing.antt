@@ -1,0 +1,142 @@
+-- The tests pass from a child to its parent, and each test that fails says why.
+use Rattle.std.proofs.Common.{◌≡◌, ℕ, ◌+◌, ◌*◌, ◌<◌, ◌≤◌, true, false, ◌&&◌, not, List, [], ◌∷◌, ◌⊎◌, inl, inr, refl, suc, sym, arith}
+use Rattle.std.specs.Prelude.{ℤ, pos, ◌≤ℤ◌, ◌<ℤ◌, int_lt, int_le, nat_lt, unsigned_abs}
+use Rattle.std.proofs.lemmas.Nat.{mul-le}
+use Rattle.std.proofs.lemmas.Bool.{cases_lt, and_parts, and_from, and_cases, or_cases, or_left, or_right, not-true, not-false, not_from_false, both_ways, lt-ltb, ltb-true, ltb-false, false_from_ne_true, false≢true}
+use Rattle.pm_base.specs.Place.{Place}
+use Rattle.pm_base.specs.Geometry.{Direction, dot_of, dist2_of, norm2_of}
+use Rattle.pm_view.specs.declared.plane.Plane.{Plane}
+use Rattle.pm_view.specs.Views.{View}
+use Rattle.pm_view.specs.Wanted.{Bounded, value_at, normal_in, is_outside, is_outside_any, least_facing, is_large, passes}
+use Rattle.pm_view.specs.Laws.{way}
+use Rattle.pm_view.proofs.Premises.{IsChild, IsCorner, IsBehindOne, FacesAway, LooksTiny}
+use borrow.Author.Differences.{ints}
+use Rattle.pm_view.proofs.Outside.{Outside, outside_within}
+use Rattle.pm_view.proofs.FacingLaws.{facing_child, facing_corner}
+use Rattle.pm_view.proofs.Large.{scaled}
+
+-- integer tests
+less : (a b : ℤ) → int_lt a b ≡ true → a <ℤ b
+less a b e = omega (arith, ints)
+
+is_less : (a b : ℤ) → a <ℤ b → int_lt a b ≡ true
+is_less a b h = sym (omega (arith, ints))
+
+at_most : (a b : ℤ) → int_le a b ≡ true → a ≤ℤ b
+at_most a b e = omega (arith, ints)
+
+above : (a b : ℤ) → int_le a b ≡ false → b <ℤ a
+above a b e = omega (arith, ints)
+
+is_at_most : (a b : ℤ) → a ≤ℤ b → int_le a b ≡ true
+is_at_most a b h = sym (omega (arith, ints))
+
+-- planes
+outside_from : (f : Plane) (p : Place) (r : ℕ) → is_outside f p r ≡ true → Outside f p r
+outside_from f p r e =
+    let h = and_parts (int_lt (value_at f p) (pos 0)) (nat_lt (r * r * norm2_of (normal_in f)) (unsigned_abs (value_at f p) * unsigned_abs (value_at f p))) e in
+    record { negative = less _ _ h.0; far = ltb-true _ _ h.1 }
+
+outside_to : (f : Plane) (p : Place) (r : ℕ) → Outside f p r → is_outside f p r ≡ true
+outside_to f p r h = and_from _ _ (is_less _ _ h.negative) (lt-ltb _ _ h.far)
+
+pub outside_any_within : (fs : List Plane) (p q : Place) (r s d : ℕ) → dist2_of p q ≤ d * d → s + d ≤ r → is_outside_any fs p r ≡ true → is_outside_any fs q s ≡ true
+outside_any_within [] p q r s d near le e = e
+outside_any_within (f ∷ fs) p q r s d near le e =
+    elim (or_cases (is_outside f p r) (is_outside_any fs p r) e) [
+      | inl h ↦ or_left (is_outside f q s) (is_outside_any fs q s) (outside_to f q s (outside_within f p q r s d (outside_from f p r h) near le))
+      | inr h ↦ or_right (is_outside f q s) (is_outside_any fs q s) (outside_any_within fs p q r s d near le h)
+    ]
+
+behind : (f : Plane) (b : Bounded) → Outside f b.place b.radius → (n : Direction) (q : Place) → IsCorner b n q → value_at f q <ℤ pos 0
+behind f b h n q k = (outside_within f b.place q b.radius 0 b.radius h k.near (omega arith)).negative
+
+first_behind : (f : Plane) (fs : List Plane) (b : Bounded) → ((n : Direction) (q : Place) → IsCorner b n q → value_at f q <ℤ pos 0) → IsBehindOne (f ∷ fs) b
+first_behind f fs b h = (f, (0, omega arith, refl), h)
+
+later_behind : (f : Plane) (fs : List Plane) (b : Bounded) → IsBehindOne fs b → IsBehindOne (f ∷ fs) b
+later_behind f fs b (g, (k, l, is), h) = (g, (suc k, omega arith, is), h)
+
+pub behind_one : (fs : List Plane) (b : Bounded) → is_outside_any fs b.place b.radius ≡ true → IsBehindOne fs b
+behind_one [] b e = absurd (false≢true e)
+behind_one (f ∷ fs) b e =
+    elim (or_cases (is_outside f b.place b.radius) (is_outside_any fs b.place b.radius) e) [
+      | inl h ↦ first_behind f fs b (behind f b (outside_from f b.place b.radius h))
+      | inr h ↦ later_behind f fs b (behind_one fs b h)
+    ]
+
+-- facing
+≤ℤ_by : (x y z : ℤ) → x ≤ℤ y → y ≤ℤ z → x ≤ℤ z
+≤ℤ_by x y z p q = omega (arith, ints)
+
+<ℤ_by : (x y z : ℤ) → x <ℤ y → y ≤ℤ z → x <ℤ z
+<ℤ_by x y z p q = omega (arith, ints)
+
+pub turned_away : (b : Bounded) (eye : Place) → int_le (least_facing b eye) (pos 0) ≡ false → FacesAway b eye
+turned_away b eye e n q k = <ℤ_by (pos 0) (least_facing b eye) (dot_of n (way q eye)) (above (least_facing b eye) (pos 0) e) (facing_corner b n q eye k)
+
+pub facing_passes : (child parent : Bounded) (eye : Place) → IsChild child parent → int_le (least_facing child eye) (pos 0) ≡ true → int_le (least_facing parent eye) (pos 0) ≡ true
+facing_passes s b eye h e = is_at_most (least_facing b eye) (pos 0) (≤ℤ_by (least_facing b eye) (least_facing s eye) (pos 0) (facing_child s b eye h) (at_most (least_facing s eye) (pos 0) e))
+
+-- size
+lt_by : (a b c : ℕ) → a < b → b ≤ c → a < c
+lt_by a b c p q = omega arith
+
+le_by : (a b c : ℕ) → a ≤ b → b ≤ c → a ≤ c
+le_by a b c p q = omega arith
+
+same_le : (n : ℕ) → n ≤ n
+same_le n = omega arith
+
+-- (e f + t r + t d) is at most (e' f + t r'), with e + d at most e' and r + d at most r'
+grown : (e r d f t e' r' : ℕ) → e + d ≤ e' → r + d ≤ r' → t * d + (e * f + t * r) ≤ e' * f + t * r'
+grown e r d f t e' r' p q = omega (arith, mul-le e f e' f (omega arith) (same_le f), mul-le t (r + d) t r' (same_le t) q)
+
+near_times : (t n d : ℕ) → n ≤ d * d → t * t * n ≤ (t * d) * (t * d)
+near_times t n d h = omega (arith, mul-le (t * t) n (t * t) (d * d) (same_le (t * t)) h)
+
+pub large_passes : (child parent : Bounded) (v : View) → IsChild child parent → is_large child v ≡ true → is_large parent v ≡ true
+unfolding is_large
+large_passes s b v h e =
+    let l = ltb-true (v.tol * v.tol * dist2_of s.place v.eye) ((s.error * v.focal + v.tol * s.radius) * (s.error * v.focal + v.tol * s.radius)) e in
+    let w = scaled b.place s.place v.eye v.tol (v.tol * h.d) (s.error * v.focal + v.tol * s.radius) (near_times v.tol (dist2_of b.place s.place) h.d h.near) l in
+    let g = grown s.error s.radius h.d v.focal v.tol b.error b.radius h.error h.radius in
+    lt-ltb (v.tol * v.tol * dist2_of b.place v.eye) ((b.error * v.focal + v.tol * b.radius) * (b.error * v.focal + v.tol * b.radius))
+    (lt_by _ _ _ w (mul-le _ _ _ _ g g))
+
+-- f f n is at most e e f f
+focal_times : (f n e : ℕ) → n ≤ e * e → f * f * n ≤ (e * f) * (e * f)
+focal_times f n e h = omega (arith, mul-le (f * f) n (f * f) (e * e) (same_le (f * f)) h)
+
+turned : (f t r e : ℕ) → (t * r + e * f) * (t * r + e * f) ≡ (e * f + t * r) * (e * f + t * r)
+turned f t r e = omega arith
+
+clash : (a b c : ℕ) → a < b → b ≡ c → c ≤ a → ⊥
+clash a b c p q r = omega arith
+
+pub tiny : (b : Bounded) (v : View) → is_large b v ≡ false → LooksTiny b v
+unfolding is_large
+tiny b v e x n q near k =
+    let l = ltb-false (v.tol * v.tol * dist2_of b.place v.eye) ((b.error * v.focal + v.tol * b.radius) * (b.error * v.focal + v.tol * b.radius)) e in
+    elim (cases_lt (v.tol * v.tol * dist2_of q v.eye) ((b.error * v.focal) * (b.error * v.focal))) [
+      | inl h ↦ absurd (clash _ _ _ (scaled b.place q v.eye v.tol (v.tol * b.radius) (b.error * v.focal) (near_times v.tol (dist2_of b.place q) b.radius k.near) h) (turned v.focal v.tol b.radius b.error) l)
+      | inr h ↦ le_by _ _ _ (focal_times v.focal (dist2_of b.place x) b.error near) h
+    ]
+
+-- all three
+pub wanted_passes : (child parent : Bounded) (v : View) → IsChild child parent → passes child v ≡ true → passes parent v ≡ true
+wanted_passes s b v h e =
+    let two = and_parts (not (is_outside_any v.planes s.place s.radius) && int_le (least_facing s v.eye) (pos 0)) (is_large s v) e in
+    let one = and_parts (not (is_outside_any v.planes s.place s.radius)) (int_le (least_facing s v.eye) (pos 0)) two.0 in
+    let inside = false_from_ne_true (is_outside_any v.planes b.place b.radius) (λ (o : is_outside_any v.planes b.place b.radius ≡ true). both_ways (is_outside_any v.planes s.place s.radius) (not-true _ one.0) (outside_any_within v.planes b.place s.place b.radius s.radius h.d h.near h.radius o)) in
+    and_from _ _ (and_from _ _ (not_from_false _ inside) (facing_passes s b v.eye h one.1)) (large_passes s b v h two.1)
+
+pub reasons : (b : Bounded) (v : View) → passes b v ≡ false → IsBehindOne v.planes b ⊎ (FacesAway b v.eye ⊎ LooksTiny b v)
+reasons b v e =
+    elim (and_cases (not (is_outside_any v.planes b.place b.radius) && int_le (least_facing b v.eye) (pos 0)) (is_large b v) e) [
+      | inl h ↦ elim (and_cases (not (is_outside_any v.planes b.place b.radius)) (int_le (least_facing b v.eye) (pos 0)) h) [
+        | inl k ↦ inl (behind_one v.planes b (not-false _ k))
+        | inr k ↦ inr (inl (turned_away b v.eye k))
+      ]
+      | inr h ↦ inr (inr (tiny b v h))
+    ]

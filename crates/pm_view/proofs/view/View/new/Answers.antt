@@ -1,0 +1,16 @@
+use Rattle.std.proofs.Common.{w32, to_z, of_z, List, subst, sym, ◌∙◌}
+use Rattle.pm_view.specs.declared.plane.Plane.{Plane}
+use Rattle.pm_view.specs.Views.{View, IsView}
+use Rattle.pm_view.proofs.ViewLaws.{tested}
+use Rattle.pm_view.proofs.view.View.new.Goals as goal
+
+pub invariant_of-result : goal.invariant_of-result
+invariant_of-result c =
+    let with : List Plane → View = λ planes. record {
+      eye = record { x = to_z w32 (of_z w32 c.args.ex); y = to_z w32 (of_z w32 c.args.ey); z = to_z w32 (of_z w32 c.args.ez) };
+      focal = c.args.focal;
+      tol = c.args.tol;
+      planes = planes;
+    } in
+    subst (λ (planes : List Plane). IsView (with planes)) c.as_slice.ensures.value
+    (tested (with c.as_slice.result.now) (sym c.are_in_range.ensures ∙ c.if-are_in_range.true) c.as_slice.ensures.fits)

@@ -1,0 +1,65 @@
+-- The fields that spell a view. They are separated by exactly one space, which is byte 32; byte 45 is a `-`.
+use Rattle.std.specs.Prelude.{ℕ, zero, suc, ℤ, pos, neg_ℤ, List, [], ◌∷◌, ◌==◌, Option, Some, None, if◌then◌else◌}
+use Rattle.std.specs.Option.{option_map, option_and_then}
+use Rattle.pm_base.specs.Place.{Place}
+use Rattle.pm_io.specs.Digits.{unsigned_of}
+use Rattle.pm_view.specs.declared.plane.Plane.{Plane}
+use Rattle.pm_view.specs.Views.{View}
+
+-- A byte put before the first field.
+abbrev pub onto_field : ℕ → List (List ℕ) → List (List ℕ)
+onto_field b [] = (b ∷ []) ∷ []
+onto_field b (f ∷ fs) = (b ∷ f) ∷ fs
+
+-- The text cut at each space: n spaces make n + 1 fields, and some of them may be empty.
+abbrev pub fields : List ℕ → List (List ℕ)
+fields [] = [] ∷ []
+fields (b ∷ bs) = if b == 32 then [] ∷ fields bs else onto_field b (fields bs)
+
+-- A number below 0, by what follows its sign: it isn't `-0`.
+abbrev pub negative : ℕ → Option ℤ
+negative n = if n == 0 then None else Some (neg_ℤ (pos n))
+
+-- The signed number that a field is, at most `most` away from 0: an unsigned number, or one after a `-` that isn't 0.
+unfoldable pub signed_of : ℕ → List ℕ → Option ℤ
+signed_of most [] = None
+signed_of most (b ∷ bs) = if b == 45 then option_and_then negative (unsigned_of most bs) else option_map pos (unsigned_of most (b ∷ bs))
+
+-- The eye that three fields spell.
+unfoldable pub eye_of : List ℕ → List ℕ → List ℕ → Option Place
+eye_of x y z =
+    option_and_then (λ ex. option_and_then (λ ey. option_and_then (λ ez. Some (record { x = ex; y = ey; z = ez }))
+    (signed_of 16777215 z)) (signed_of 16777215 y)) (signed_of 16777215 x)
+
+-- The plane that four fields spell.
+unfoldable pub plane_of : List ℕ → List ℕ → List ℕ → List ℕ → Option Plane
+plane_of a b c d =
+    option_and_then (λ fa. option_and_then (λ fb. option_and_then (λ fc. option_and_then (λ fd. Some (record { a = fa; b = fb; c = fc; d = fd }))
+    (signed_of 4398046511104 d)) (signed_of 32767 c)) (signed_of 32767 b)) (signed_of 32767 a)
+
+-- The plane that the first four fields spell, and the fields after them.
+unfoldable pub first_plane : List (List ℕ) → Option (Plane × List (List ℕ))
+first_plane (a ∷ b ∷ c ∷ d ∷ rest) = option_map (λ f. (f, rest)) (plane_of a b c d)
+first_plane _ = None
+
+-- The planes that groups of four fields spell, n of them at most.
+unfoldable pub planes_of : ℕ → List (List ℕ) → Option (List Plane)
+planes_of n [] = Some []
+planes_of zero (x ∷ xs) = None
+planes_of (suc n) (x ∷ xs) = option_and_then (λ p. option_map (λ fs. p.0 ∷ fs) (planes_of n p.1)) (first_plane (x ∷ xs))
+
+-- The view that fields spell: the eye, the focal length, the tolerance, and at most six planes.
+unfoldable pub view_in : List (List ℕ) → Option View
+view_in (x ∷ y ∷ z ∷ focal ∷ tol ∷ rest) =
+    option_and_then (λ eye. option_and_then (λ f. option_and_then (λ t. option_map (λ planes. record { eye = eye; focal = f; tol = t; planes = planes })
+    (planes_of 6 rest)) (unsigned_of 65535 tol)) (unsigned_of 65535 focal)) (eye_of x y z)
+view_in _ = None
+
+-- The view that a text spells.
+abbrev pub view_of : List ℕ → Option View
+view_of text = view_in (fields text)
+
+-- The fields after a field that has just been read, where `rest` is empty or begins with the space that ended that field.
+abbrev pub fields_after : List ℕ → List (List ℕ)
+fields_after [] = []
+fields_after (b ∷ bs) = fields bs

@@ -1,0 +1,51 @@
+-- The laws of wanted nodes, for a hierarchy of the right shape.
+use Rattle.std.specs.Prelude.{◌≡◌, ℕ, ◌*◌, ◌<◌, ◌≤◌, ◌⊎◌, true, false, pos, ◌-ℤ◌, ◌<ℤ◌}
+use Rattle.std.specs.List.{Contains}
+use Rattle.pm_base.specs.Place.{Place}
+use Rattle.pm_base.specs.Geometry.{Direction, dot_of, dist2_of}
+use Rattle.pm_base.specs.Sides.{face_of}
+use Rattle.pm_forest.specs.Forest.{Hierarchy, record_count, node_count, s_of, Holds, Makes}
+use Rattle.pm_forest.specs.Faces.{face_count, corners_of, from_leaf}
+use Rattle.pm_forest.specs.Places.{place_of_node}
+use Rattle.pm_forest.specs.Rules.{HasShape}
+use Rattle.pm_bounds.specs.Bounds.{leaf_place, normal_of}
+use Rattle.pm_view.specs.declared.plane.Plane.{Plane}
+use Rattle.pm_view.specs.Views.{View}
+use Rattle.pm_view.specs.Wanted.{value_at, is_wanted}
+
+-- From q to p.
+abbrev pub way : Place → Place → Direction
+way p q = record { x = p.x -ℤ q.x; y = p.y -ℤ q.y; z = p.z -ℤ q.z }
+
+-- Side e begins at a corner of a face that has a corner under node v.
+pub record IsCornerNear (h : Hierarchy) (v e : ℕ) : Type 0 where
+  pub under : ℕ
+  pub side : e < 3 * face_count h
+  pub same_face : face_of under ≡ face_of e
+  pub held : Holds h v (from_leaf h under)
+
+-- All these corners lie behind one of the view's planes.
+abbrev pub IsBehind : Hierarchy → View → ℕ → Type 0
+IsBehind h view v = (f : Plane) × Contains view.planes f × ((e : ℕ) → IsCornerNear h v e → value_at f (leaf_place h (from_leaf h e)) <ℤ pos 0)
+
+-- Each of their faces is turned away from the eye, at each of its corners.
+abbrev pub IsTurnedAway : Hierarchy → View → ℕ → Type 0
+IsTurnedAway h view v =
+    (e : ℕ) → IsCornerNear h v e → pos 0 <ℤ dot_of (normal_of h (corners_of h (face_of e))) (way (leaf_place h (from_leaf h e)) view.eye)
+
+-- No leaf under the node is far from the node's place, as it looks from the eye by way of any of these corners.
+abbrev pub IsTiny : Hierarchy → View → ℕ → Type 0
+IsTiny h view v =
+    (x e : ℕ) → Holds h v x → IsCornerNear h v e
+    → view.focal * view.focal * dist2_of (place_of_node h v) (leaf_place h x) ≤ view.tol * view.tol * dist2_of (leaf_place h (from_leaf h e)) view.eye
+
+-- A view that wants a node wants the node that was split to make it.
+abbrev pub WantingPassesUp : Type 0
+WantingPassesUp =
+    (h : Hierarchy) → HasShape h → (view : View) (k v : ℕ) → k < record_count h → Makes h k v → is_wanted h view v ≡ true → is_wanted h view (s_of h k) ≡ true
+
+-- There is a reason why a view doesn't want a node.
+abbrev pub UnwantedForAReason : Type 0
+UnwantedForAReason =
+    (h : Hierarchy) → HasShape h → (view : View) (v : ℕ) → v < node_count h → is_wanted h view v ≡ false
+    → IsBehind h view v ⊎ (IsTurnedAway h view v ⊎ IsTiny h view v)

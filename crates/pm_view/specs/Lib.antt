@@ -1,0 +1,4 @@
+pub mod Views
+pub mod Fields
+pub mod Wanted
+pub mod Laws

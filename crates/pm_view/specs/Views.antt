@@ -1,0 +1,34 @@
+-- What a view is: an eye, how fine it looks, and the planes in front of which it looks.
+use Rattle.std.specs.Prelude.{◌≡◌, ℕ, ◌≤◌, nat_le, Bool, true, ◌&&◌, List, length, unsigned_abs}
+use Rattle.std.specs.List.{list_all}
+use Rattle.pm_base.specs.Place.{Place}
+use Rattle.pm_view.specs.declared.plane.Plane.{Plane}
+
+-- The eye, its focal length and its tolerance, and its planes in order. The eye may stand outside the range of points.
+pub record View : Type 0 where
+  pub eye : Place
+  pub focal : ℕ
+  pub tol : ℕ
+  pub planes : List Plane
+
+-- Each number of the eye is from -16,777,215 to 16,777,215.
+abbrev pub is_eye : Place → Bool
+is_eye p = nat_le (unsigned_abs p.x) 16777215 && nat_le (unsigned_abs p.y) 16777215 && nat_le (unsigned_abs p.z) 16777215
+
+-- Of a plane a, b and c are from -32,767 to 32,767, and d is from -4,398,046,511,104 to 4,398,046,511,104.
+abbrev pub is_plane : Plane → Bool
+is_plane f = nat_le (unsigned_abs f.a) 32767 && nat_le (unsigned_abs f.b) 32767 && nat_le (unsigned_abs f.c) 32767 && nat_le (unsigned_abs f.d) 4398046511104
+
+-- All numbers are in range; focal length and tolerance are at most 65,535.
+abbrev pub is_view : View → Bool
+is_view v = is_eye v.eye && nat_le v.focal 65535 && nat_le v.tol 65535 && list_all is_plane v.planes
+
+-- The same as facts, with at most six planes.
+pub record IsView (v : View) : Type 0 where
+  pub eye_x : unsigned_abs v.eye.x ≤ 16777215
+  pub eye_y : unsigned_abs v.eye.y ≤ 16777215
+  pub eye_z : unsigned_abs v.eye.z ≤ 16777215
+  pub focal : v.focal ≤ 65535
+  pub tol : v.tol ≤ 65535
+  pub planes : list_all is_plane v.planes ≡ true
+  pub few : length v.planes ≤ 6

@@ -1,0 +1,62 @@
+-- The three tests by which a view wants a node (Hoppe 1997), in whole numbers.
+use Rattle.std.specs.Prelude.{ℕ, ◌+◌, ◌*◌, Bool, ◌&&◌, not, nat_lt, List, ℤ, pos, ◌+ℤ◌, ◌-ℤ◌, ◌*ℤ◌, int_lt, int_le, unsigned_abs}
+use Rattle.std.specs.Int.{int_min}
+use Rattle.std.specs.List.{list_any}
+use Rattle.pm_base.specs.Place.{Place}
+use Rattle.pm_base.specs.Geometry.{Direction, square_of, dist2_of, norm2_of}
+use Rattle.pm_forest.specs.Forest.{Hierarchy}
+use Rattle.pm_forest.specs.Places.{place_of_node}
+use Rattle.pm_bounds.specs.declared.normal_box.NormalBox.{NormalBox}
+use Rattle.pm_bounds.specs.Bounds.{error_of, radius_of, normal_box_of, box_round}
+use Rattle.pm_view.specs.declared.plane.Plane.{Plane}
+use Rattle.pm_view.specs.Views.{View}
+
+-- A node as the tests see it: its place and its bounds.
+pub record Bounded : Type 0 where
+  pub place : Place
+  pub error : ℕ
+  pub radius : ℕ
+  pub box : NormalBox
+
+abbrev pub bounded : Hierarchy → ℕ → Bounded
+bounded h v = record { place = place_of_node h v; error = error_of h v; radius = radius_of h v; box = normal_box_of h v }
+
+-- The value of a plane at a place, and its normal, which isn't made unit.
+abbrev pub value_at : Plane → Place → ℤ
+value_at f p = f.a *ℤ p.x +ℤ f.b *ℤ p.y +ℤ f.c *ℤ p.z +ℤ f.d
+
+abbrev pub normal_in : Plane → Direction
+normal_in f = record { x = f.a; y = f.b; z = f.c }
+
+-- The whole ball round p with radius r lies on the negative side of the plane: the value m at p is below 0, and m m is
+-- above r r times the squared length of the normal.
+abbrev pub is_outside : Plane → Place → ℕ → Bool
+is_outside f p r = int_lt (value_at f p) (pos 0) && nat_lt (r * r * norm2_of (normal_in f)) (square_of (unsigned_abs (value_at f p)))
+
+abbrev pub is_outside_any : List Plane → Place → ℕ → Bool
+is_outside_any fs p r = list_any (λ f. is_outside f p r) fs
+
+-- The least of the four products of an end of one interval, a to b, and an end of another, c to d.
+abbrev pub least_product : ℤ → ℤ → ℤ → ℤ → ℤ
+least_product a b c d = int_min (int_min (a *ℤ c) (a *ℤ d)) (int_min (b *ℤ c) (b *ℤ d))
+
+-- The sum over the axes of the least products of the normal box and the point box, seen from the eye. Where it is above 0
+-- every face under the node is turned away from the eye.
+unfoldable pub least_facing : Bounded → Place → ℤ
+least_facing b eye =
+    let points = box_round b.place b.radius in
+    least_product b.box.low.x b.box.high.x (points.low.x -ℤ eye.x) (points.high.x -ℤ eye.x)
+    +ℤ least_product b.box.low.y b.box.high.y (points.low.y -ℤ eye.y) (points.high.y -ℤ eye.y)
+    +ℤ least_product b.box.low.z b.box.high.z (points.low.z -ℤ eye.z) (points.high.z -ℤ eye.z)
+
+-- The node's error looks larger than the tolerance: (e focal + tol r) squared is above tol tol D, where D is the squared
+-- distance from the eye.
+unfoldable pub is_large : Bounded → View → Bool
+is_large b v = nat_lt (v.tol * v.tol * dist2_of b.place v.eye) (square_of (b.error * v.focal + v.tol * b.radius))
+
+abbrev pub passes : Bounded → View → Bool
+passes b v = not (is_outside_any v.planes b.place b.radius) && int_le (least_facing b v.eye) (pos 0) && is_large b v
+
+-- The view wants node v of h.
+abbrev pub is_wanted : Hierarchy → View → ℕ → Bool
+is_wanted h view v = passes (bounded h v) view

@@ -1,0 +1,78 @@
+// The least that the product of a normal in a box and a way from the eye to a ball can be.
+ghost use Rattle.std.specs.Prelude.{◌≡◌, ◌≤◌, ◌^◌, pos, ◌+ℤ◌, ◌-ℤ◌, ◌*ℤ◌, unsigned_abs};
+ghost use Rattle.std.specs.Int.{int_min};
+ghost use Rattle.pm_view.specs.Wanted.{least_product};
+
+// The product of an end of the normal box and an end of the point box less the eye.
+fn product(a: i64, b: i64) -> i128
+    requires a_small { unsigned_abs a ≤ 2 ^ 34 }
+    requires b_small { unsigned_abs b ≤ 2 ^ 40 }
+    ensures value { result ≡ a *ℤ b }
+    ensures small { unsigned_abs result ≤ 2 ^ 74 }
+{
+    i128::from(a) * i128::from(b)
+}
+
+// The least product of an end of the interval from a to b and one of that from c to d.
+fn least(a: i64, b: i64, c: i64, d: i64) -> i128
+    requires a_small { unsigned_abs a ≤ 2 ^ 34 }
+    requires b_small { unsigned_abs b ≤ 2 ^ 34 }
+    requires c_small { unsigned_abs c ≤ 2 ^ 40 }
+    requires d_small { unsigned_abs d ≤ 2 ^ 40 }
+    ensures value { result ≡ least_product a b c d }
+    ensures small { unsigned_abs result ≤ 2 ^ 74 }
+{
+    product(a, c)
+        .min(product(a, d))
+        .min(product(b, c).min(product(b, d)))
+}
+
+// The lower end of the point box less the eye, on one axis.
+fn lower_end(at: i32, radius: u64, eye: i32) -> i64
+    requires at_small { unsigned_abs at ≤ 32767 }
+    requires radius_small { radius ≤ 2 ^ 38 }
+    requires eye_small { unsigned_abs eye ≤ 16777215 }
+    ensures value { result ≡ at -ℤ pos radius -ℤ eye }
+    ensures small { unsigned_abs result ≤ 2 ^ 40 }
+{
+    i64::from(at) - radius as i64 - i64::from(eye)
+}
+
+// The upper end.
+fn upper_end(at: i32, radius: u64, eye: i32) -> i64
+    requires at_small { unsigned_abs at ≤ 32767 }
+    requires radius_small { radius ≤ 2 ^ 38 }
+    requires eye_small { unsigned_abs eye ≤ 16777215 }
+    ensures value { result ≡ at +ℤ pos radius -ℤ eye }
+    ensures small { unsigned_abs result ≤ 2 ^ 40 }
+{
+    i64::from(at) + radius as i64 - i64::from(eye)
+}
+
+/// The least product on one axis.
+pub fn least_on_axis(low: i64, high: i64, at: i32, radius: u64, eye: i32) -> i128
+    requires low_small { unsigned_abs low ≤ 2 ^ 34 }
+    requires high_small { unsigned_abs high ≤ 2 ^ 34 }
+    requires at_small { unsigned_abs at ≤ 32767 }
+    requires radius_small { radius ≤ 2 ^ 38 }
+    requires eye_small { unsigned_abs eye ≤ 16777215 }
+    ensures value { result ≡ least_product low high (at -ℤ pos radius -ℤ eye) (at +ℤ pos radius -ℤ eye) }
+    ensures small { unsigned_abs result ≤ 2 ^ 74 }
+{
+    least(
+        low,
+        high,
+        lower_end(at, radius, eye),
+        upper_end(at, radius, eye),
+    )
+}
+
+/// A sum of three such products.
+pub fn add_three(a: i128, b: i128, c: i128) -> i128
+    requires a_small { unsigned_abs a ≤ 2 ^ 74 }
+    requires b_small { unsigned_abs b ≤ 2 ^ 74 }
+    requires c_small { unsigned_abs c ≤ 2 ^ 74 }
+    ensures { result ≡ a +ℤ b +ℤ c }
+{
+    a + b + c
+}

@@ -1,0 +1,132 @@
+// The fields that spell a view, read from left to right.
+ghost use Rattle.std.specs.Prelude.{◌≡◌, ◌<◌, ◌≤◌, ◌∷◌, [], ℕ, suc, true, length, Some, None, MatchOption, IfSome, IfNone, IfOk, OnErr, unsigned_abs};
+ghost use Rattle.std.specs.List.{list_all};
+ghost use Rattle.pm_view.specs.Views.{is_plane};
+ghost use Rattle.pm_view.specs.Fields.{fields, fields_after, eye_of, plane_of, first_plane, planes_of, view_of};
+
+use crate::number::{read_signed, read_small};
+use crate::{Plane, View};
+use arrayvec::ArrayVec;
+use pm_io::read_unsigned;
+
+/// The text spells no view.
+#[derive(Clone, Copy, Debug, PartialEq, Eq)]
+pub struct BadView;
+
+// The first field, and the rest, which is empty or begins with the space that ends the field.
+fn cut_field(text: &[u8]) -> (&[u8], &[u8])
+    ensures { fields text.now ≡ result.0.now ∷ fields_after result.1.now }
+{
+    for (i, b) in text.iter().enumerate() {
+        if *b == b' ' {
+            return (&text[..i], &text[i..]);
+        }
+    }
+    (text, &text[text.len()..])
+}
+
+// The text after the space that ends a field; none where the last field was read.
+fn after_space(rest: &[u8]) -> Option<&[u8]>
+    ensures { MatchOption result (fields_after rest.now ≡ []) (λ text. fields_after rest.now ≡ fields text.now) }
+{
+    match rest {
+        [] => None,
+        [_, text @ ..] => Some(text),
+    }
+}
+
+// The next field and the rest; none where the last field was read.
+fn next_field(rest: &[u8]) -> Option<(&[u8], &[u8])>
+    ensures { MatchOption result (fields_after rest.now ≡ []) (λ r. fields_after rest.now ≡ r.0.now ∷ fields_after r.1.now) }
+{
+    Some(cut_field(after_space(rest)?))
+}
+
+#[tactic(auto, unfolding(crate::specs::Fields::eye_of))]
+fn read_eye(x: &[u8], y: &[u8], z: &[u8]) -> Option<(i32, i32, i32)>
+    ensures value { MatchOption result (eye_of x.now y.now z.now ≡ None) (λ e. eye_of x.now y.now z.now ≡ Some (record { x = e.0; y = e.1; z = e.2 })) }
+    ensures x_small { IfSome result (λ e. unsigned_abs e.0 ≤ 16777215) }
+    ensures y_small { IfSome result (λ e. unsigned_abs e.1 ≤ 16777215) }
+    ensures z_small { IfSome result (λ e. unsigned_abs e.2 ≤ 16777215) }
+{
+    let ex = read_small(x, 16_777_215)?;
+    let ey = read_small(y, 16_777_215)?;
+    let ez = read_small(z, 16_777_215)?;
+    Some((ex, ey, ez))
+}
+
+#[tactic(auto, unfolding(crate::specs::Fields::plane_of))]
+fn read_plane(a: &[u8], b: &[u8], c: &[u8], d: &[u8]) -> Option<Plane>
+    ensures value { result ≡ plane_of a.now b.now c.now d.now }
+    ensures in_range { IfSome result (λ f. is_plane f ≡ true) }
+{
+    Some(Plane {
+        a: read_small(a, 32_767)?,
+        b: read_small(b, 32_767)?,
+        c: read_small(c, 32_767)?,
+        d: read_signed(d, 4_398_046_511_104)?,
+    })
+}
+
+// The first plane and the rest.
+#[tactic(auto, unfolding(crate::specs::Fields::first_plane))]
+fn cut_plane(text: &[u8]) -> Option<(Plane, &[u8])>
+    ensures value { MatchOption result (first_plane (fields text.now) ≡ None) (λ r. first_plane (fields text.now) ≡ Some (r.0, fields_after r.1.now)) }
+    ensures in_range { IfSome result (λ r. is_plane r.0 ≡ true) }
+{
+    let (a, rest) = cut_field(text);
+    let (b, rest) = next_field(rest)?;
+    let (c, rest) = next_field(rest)?;
+    let (d, rest) = next_field(rest)?;
+    Some((read_plane(a, b, c, d)?, rest))
+}
+
+// The planes that all fields of the rest spell.
+fn read_planes(fields: &[u8]) -> Option<ArrayVec<Plane, 6>>
+    ensures value { MatchOption result (planes_of 6 (fields_after fields.now) ≡ None) (λ planes. planes_of 6 (fields_after fields.now) ≡ Some planes.items) }
+    ensures in_range { IfSome result (λ planes. list_all is_plane planes.items ≡ true) }
+{
+    let mut planes = ArrayVec::new();
+    let mut rest = fields;
+    for _plane in 0..6_usize {
+        match after_space(rest) {
+            None => return Some(planes),
+            Some(text) => {
+                let (plane, left) = cut_plane(text)?;
+                planes.push(plane);
+                rest = left;
+            }
+        }
+    }
+    match after_space(rest) {
+        None => Some(planes),
+        Some(_) => None,
+    }
+}
+
+#[tactic(auto, unfolding(crate::specs::Fields::view_in))]
+fn view_in(text: &[u8]) -> Option<View>
+    ensures { result ≡ view_of text.now }
+{
+    let (x, rest) = cut_field(text);
+    let (y, rest) = next_field(rest)?;
+    let (z, rest) = next_field(rest)?;
+    let (focal, rest) = next_field(rest)?;
+    let (tol, rest) = next_field(rest)?;
+    let eye = read_eye(x, y, z)?;
+    let focal = read_unsigned(focal, 65_535)?;
+    let tol = read_unsigned(tol, 65_535)?;
+    let planes = read_planes(rest)?;
+    Some(View::within_range(eye, focal, tol, planes))
+}
+
+/// The view that a text spells: the numbers of the eye, the focal length, the tolerance, and the four numbers of each of up
+/// to six planes, separated by one space. It takes no memory.
+///
+/// BadView comes exactly where the text isn't of this form or a number is out of range.
+pub fn read_view(fields: &[u8]) -> Result<View, BadView>
+    ensures ok { IfOk result (λ view. view_of fields.now ≡ Some view) }
+    ensures bad { OnErr result (view_of fields.now ≡ None) }
+{
+    view_in(fields).ok_or(BadView)
+}

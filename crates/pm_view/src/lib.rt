@@ -1,0 +1,21 @@
+//! Views, the text that spells one, and the three tests by which a view wants a node of the vertex forest.
+#![tactic(auto)]
+
+mod facing;
+mod fields;
+mod number;
+mod plane;
+mod size;
+mod steps;
+#[cfg(test)]
+mod tests;
+mod theory;
+mod view;
+mod wanted;
+
+pub use fields::{BadView, read_view};
+pub use plane::Plane;
+pub use steps::Steps;
+pub use theory::wanted_nodes_are_sound;
+pub use view::View;
+pub use wanted::wants;

@@ -1,0 +1,269 @@
+ghost use Rattle.std.specs.Prelude.{◌≡◌, ◌<◌};
+ghost use Rattle.pm_forest.specs.Forest.{node_count};
+ghost use Rattle.pm_bounds.specs.Bounds.{AreBoundsOf};
+
+use crate::{Plane, Steps, View, read_view, wants};
+use arrayvec::ArrayVec;
+use pm_base::NodeId;
+use pm_bounds::Bounds;
+use pm_forest::{Face, Head, Hierarchy, Shaper, UnitKind};
+use std::alloc::Global;
+use std::marker::Brand;
+use std::process::Abort;
+use std::sync::ledger::{Blank, Ledger};
+use std::test::Fail;
+
+// A unit of a hierarchy as a stream has it.
+#[derive(Clone, Copy)]
+enum Unit {
+    Root([i32; 3], u32, u32),
+    Base(Face),
+    Head(Head),
+    Face(Face, u32, u32),
+}
+
+fn face(a: u32, b: u32, c: u32, input: u32) -> Face {
+    Face { a, b, c, input }
+}
+
+// Whether the unit is the next one and was taken in.
+fn take(shaper: &mut Shaper, unit: Unit) -> bool {
+    match (shaper.expects(), unit) {
+        (UnitKind::Root, Unit::Root(place, width, input)) => {
+            shaper.add_root(place, width, input).is_ok()
+        }
+        (UnitKind::Base, Unit::Base(face)) => shaper.add_base(face).is_ok(),
+        (UnitKind::Head, Unit::Head(head)) => shaper.add_head(head).is_ok(),
+        (UnitKind::LeftFace | UnitKind::RightFace, Unit::Face(face, first, second)) => {
+            shaper.add_face(face, first, second).is_ok()
+        }
+        _ => false,
+    }
+}
+
+// The hierarchy with these counts of leaves, roots, base faces and records, and with these units.
+fn hierarchy(alloc: Global, counts: [u32; 4], units: &[Unit]) -> Result<Hierarchy, Fail> {
+    let [leaves, roots, bases, records] = counts;
+    let Ok(mut shaper) = Shaper::new(alloc, leaves, roots, bases, records) else {
+        return Err(Fail::new("these counts are refused"));
+    };
+    for unit in units {
+        if !take(&mut shaper, *unit) {
+            return Err(Fail::new("a unit is refused"));
+        }
+    }
+    match shaper.expects() {
+        UnitKind::Nothing => shaper
+            .done()
+            .map_err(|_| Fail::new("an input number is refused")),
+        _ => Err(Fail::new("a unit is missing")),
+    }
+}
+
+fn octahedron(alloc: Global) -> Result<Hierarchy, Fail> {
+    let heads = [
+        Head {
+            s: 3,
+            width: 1,
+            t: [-100, 0, 0],
+            t_input: 2,
+            u: [0, 0, 100],
+            u_input: 5,
+            presence: 3,
+        },
+        Head {
+            s: 2,
+            width: 1,
+            t: [100, 0, 0],
+            t_input: 1,
+            u: [0, 100, 0],
+            u_input: 3,
+            presence: 3,
+        },
+    ];
+    hierarchy(
+        alloc,
+        [6, 4, 4, 2],
+        &[
+            Unit::Root([0, -100, 0], 1, 4),
+            Unit::Root([0, 0, -100], 1, 6),
+            Unit::Root([50, 50, 0], 2, 0),
+            Unit::Root([-50, 0, 50], 2, 0),
+            Unit::Base(face(0, 2, 5, 4)),
+            Unit::Base(face(4, 3, 1, 6)),
+            Unit::Base(face(0, 4, 1, 7)),
+            Unit::Base(face(2, 0, 1, 8)),
+            Unit::Head(heads[0]),
+            Unit::Face(face(3, 4, 5, 2), 2, 4),
+            Unit::Face(face(4, 0, 5, 3), 7, 3),
+            Unit::Head(heads[1]),
+            Unit::Face(face(2, 3, 5, 1), 15, 2),
+            Unit::Face(face(3, 2, 1, 5), 12, 5),
+        ],
+    )
+}
+
+// A square of two faces that look upwards.
+fn square(alloc: Global) -> Result<Hierarchy, Fail> {
+    hierarchy(
+        alloc,
+        [4, 3, 1, 1],
+        &[
+            Unit::Root([0, 10, 0], 1, 3),
+            Unit::Root([10, 10, 0], 1, 4),
+            Unit::Root([0, 0, 0], 2, 0),
+            Unit::Base(face(2, 1, 0, 2)),
+            Unit::Head(Head {
+                s: 2,
+                width: 1,
+                t: [0, 0, 0],
+                t_input: 1,
+                u: [10, 0, 0],
+                u_input: 2,
+                presence: 1,
+            }),
+            Unit::Face(face(2, 3, 1, 1), 0, 1),
+        ],
+    )
+}
+
+fn counted<L: Ledger>(h: &Hierarchy, bounds: &Bounds, node: u32, view: &View, blank: Blank) -> bool
+    requires bounds { AreBoundsOf h.now bounds.now }
+    requires node { node < node_count h.now }
+    requires name { blank.name ≡ L.name }
+    requires parts { blank.parts ≡ L.parts }
+    requires some { 0 < L.parts }
+{
+    let mut steps: Steps<L> = Steps::new(blank);
+    wants(h, bounds, NodeId(node), view, &mut steps)
+}
+
+// Whether the view that a text spells wants nodes 2 and 3.
+fn asked(h: &Hierarchy, bounds: &Bounds, text: &[u8]) -> Option<(bool, bool)>
+    requires bounds { AreBoundsOf h.now bounds.now }
+    requires nodes { 3 < node_count h.now }
+{
+    let view = read_view(text).ok()?;
+    Some((
+        counted::<Brand>(h, bounds, 2, &view, Blank::new(1)),
+        counted::<Brand>(h, bounds, 3, &view, Blank::new(1)),
+    ))
+}
+
+// Asks for nodes 2 and 3 in each of these views.
+fn ask(rt: &impl Abort, h: &Hierarchy, bounds: &Bounds, views: &[(&[u8], bool, bool)])
+    requires bounds { AreBoundsOf h.now bounds.now }
+    requires nodes { 3 < node_count h.now }
+{
+    for (text, second, third) in views {
+        assert_eq!(rt;
+            asked(h, bounds, text),
+            Some((*second, *third)),
+            "in view {text:?}"
+        );
+    }
+}
+
+#[test]
+fn wanted_nodes_of_the_octahedron(rt: HostRuntime) -> Result<(), Fail> {
+    let h = octahedron(rt.alloc())?;
+    let bounds = Bounds::of(rt.alloc(), &h)?;
+    assert!(rt; h.nodes() == 8);
+    ask(
+        &rt,
+        &h,
+        &bounds,
+        &[
+            (b"1000 0 0 100 9", true, false),
+            (b"1000 0 0 100 20", false, false),
+            (b"1000 0 0 100 9 1 0 0 -400", false, false),
+            (b"1000 0 0 100 9 2 0 0 -400", true, false),
+        ],
+    );
+    Ok(())
+}
+
+// Node 3 is a leaf.
+#[test]
+fn square_from_above_and_below(rt: HostRuntime) -> Result<(), Fail> {
+    let h = square(rt.alloc())?;
+    let bounds = Bounds::of(rt.alloc(), &h)?;
+    assert!(rt; h.nodes() == 5);
+    ask(
+        &rt,
+        &h,
+        &bounds,
+        &[
+            (b"5 5 1000 1000 1", true, false),
+            (b"5 5 -1000 1000 1", false, false),
+        ],
+    );
+    Ok(())
+}
+
+#[test]
+fn texts_of_views(rt: HostRuntime) {
+    let texts: [(&[u8], bool); 27] = [
+        (b"0 0 0 0 0", true),
+        (b"-16777215 16777215 -1 65535 65535", true),
+        (b"1 2 3 4 5 -32767 32767 0 -4398046511104", true),
+        (
+            b"1 2 3 4 5 0 0 0 0 1 1 1 1 2 2 2 2 3 3 3 3 4 4 4 4 5 5 5 5",
+            true,
+        ),
+        (
+            b"1 2 3 4 5 0 0 0 0 1 1 1 1 2 2 2 2 3 3 3 3 4 4 4 4 5 5 5 5 6 6 6 6",
+            false,
+        ),
+        (b"", false),
+        (b" ", false),
+        (b"0 0 0 100", false),
+        (b" 0 0 0 0 0", false),
+        (b"0 0 0 0 0 ", false),
+        (b"0  0 0 0 0", false),
+        (b"0\t0 0 0 0", false),
+        (b"0 0 0 0 0\r", false),
+        (b"00 0 0 0 0", false),
+        (b"-01 0 0 0 0", false),
+        (b"-0 0 0 0 0", false),
+        (b"- 0 0 0 0", false),
+        (b"+1 0 0 0 0", false),
+        (b"1.0 0 0 0 0", false),
+        (b"16777216 0 0 0 0", false),
+        (b"0 0 -16777216 0 0", false),
+        (b"0 0 0 65536 0", false),
+        (b"0 0 0 -1 0", false),
+        (b"0 0 0 0 0 1 2 3", false),
+        (b"0 0 0 0 0 0 -32768 0 0", false),
+        (b"0 0 0 0 0 0 0 0 4398046511105", false),
+        (b"0 0 0 0 0 0 0 0 100000000000000000000000000", false),
+    ];
+    for (i, (text, good)) in texts.iter().enumerate() {
+        assert_eq!(rt; read_view(text).is_ok(), *good, "text {i}");
+    }
+}
+
+#[test]
+fn numbers_out_of_range(rt: HostRuntime) {
+    let plane = |a: i32, d: i64| {
+        let mut planes: ArrayVec<Plane, 6> = ArrayVec::new();
+        planes.push(Plane { a, b: 0, c: 0, d });
+        planes
+    };
+    assert!(rt;
+        View::new(
+            -16_777_215,
+            0,
+            16_777_215,
+            65_535,
+            65_535,
+            plane(-32_767, 1)
+        )
+        .is_some()
+    );
+    assert!(rt; View::new(0, 16_777_216, 0, 1, 1, ArrayVec::new()).is_none());
+    assert!(rt; View::new(0, 0, 0, 65_536, 1, ArrayVec::new()).is_none());
+    assert!(rt; View::new(0, 0, 0, 1, 65_536, ArrayVec::new()).is_none());
+    assert!(rt; View::new(0, 0, 0, 1, 1, plane(32_768, 1)).is_none());
+    assert!(rt; View::new(0, 0, 0, 1, 1, plane(0, -4_398_046_511_105)).is_none());
+}

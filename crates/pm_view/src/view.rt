@@ -1,0 +1,184 @@
+ghost use Rattle.std.specs.Prelude.{◌≡◌, ◌≤◌, ◌^◌, ℕ, nat_le, true, false, pos, int_le, unsigned_abs, IfSome, OnSome, IfNone};
+ghost use Rattle.std.specs.List.{list_all};
+ghost use Rattle.pm_base.specs.Geometry.{dist2_of};
+ghost use Rattle.pm_bounds.specs.Boxes.{IsSmallBox};
+ghost use Rattle.pm_bounds.specs.declared.normal_box.NormalBox.{NormalBox};
+ghost use Rattle.pm_view.specs.Views.{is_eye, is_plane, is_view};
+ghost use Rattle.pm_view.specs.Wanted.{Bounded, is_outside_any, least_facing, is_large};
+
+use crate::Plane;
+use crate::facing::{add_three, least_on_axis};
+use crate::plane::is_outside_any;
+use crate::size::{is_large, squared_gap};
+use arrayvec::ArrayVec;
+use pm_base::Point;
+use pm_bounds::NormalBox;
+use std::marker::Model;
+
+/// What is looked at: from where, how finely, and in front of which planes. The numbers are in range, which the type
+/// keeps: the eye's are at most 16,777,215 away from 0, focal length and tolerance at most 65,535, the numbers a, b and c of
+/// a plane at most 32,767 away from 0, and d at most 4,398,046,511,104.
+#[derive(Drop)]
+pub struct View {
+    ex: i32,
+    ey: i32,
+    ez: i32,
+    focal: u32,
+    tol: u32,
+    planes: ArrayVec<Plane, 6>,
+}
+
+impl Model for View {
+    ghost use Rattle.pm_view.specs.Views.{View, IsView};
+
+    ghost Value = { View };
+
+    ghost view = { λ v. record { eye = record { x = v.ex; y = v.ey; z = v.ez }; focal = v.focal; tol = v.tol; planes = v.planes.items } };
+
+    ghost invariant = { λ v. IsView (record { eye = record { x = v.ex; y = v.ey; z = v.ez }; focal = v.focal; tol = v.tol; planes = v.planes.items }) };
+}
+
+fn is_within(n: i32, most: u32) -> bool
+    ensures { result ≡ nat_le (unsigned_abs n) most }
+{
+    n.unsigned_abs() <= most
+}
+
+fn is_plane(plane: &Plane) -> bool
+    ensures { result ≡ is_plane plane.now }
+{
+    is_within(plane.a, 32_767)
+        && is_within(plane.b, 32_767)
+        && is_within(plane.c, 32_767)
+        && plane.d.unsigned_abs() <= 4_398_046_511_104
+}
+
+fn are_planes(planes: &[Plane]) -> bool
+    ensures { result ≡ list_all is_plane planes.now }
+{
+    planes.iter().all(|plane| is_plane(plane))
+}
+
+fn is_eye(x: i32, y: i32, z: i32) -> bool
+    ensures { result ≡ is_eye (record { x = x; y = y; z = z }) }
+{
+    is_within(x, 16_777_215) && is_within(y, 16_777_215) && is_within(z, 16_777_215)
+}
+
+fn are_in_range(ex: i32, ey: i32, ez: i32, focal: u32, tol: u32, planes: &[Plane]) -> bool
+    ensures { result ≡ is_view (record { eye = record { x = ex; y = ey; z = ez }; focal = focal; tol = tol; planes = planes.now }) }
+{
+    let is_fine = is_eye(ex, ey, ez) && focal <= 65_535 && tol <= 65_535;
+    is_fine && are_planes(planes)
+}
+
+impl View {
+    /// The view of these numbers; none exactly where one of them is out of range. It takes no memory.
+    pub fn new(
+        ex: i32,
+        ey: i32,
+        ez: i32,
+        focal: u32,
+        tol: u32,
+        planes: ArrayVec<Plane, 6>,
+    ) -> Option<View>
+        ensures some { IfSome result (λ v. v ≡ record { eye = record { x = ex; y = ey; z = ez }; focal = focal; tol = tol; planes = planes.items }) }
+        ensures in_range { OnSome result (is_view (record { eye = record { x = ex; y = ey; z = ez }; focal = focal; tol = tol; planes = planes.items }) ≡ true) }
+        ensures none { IfNone result (is_view (record { eye = record { x = ex; y = ey; z = ez }; focal = focal; tol = tol; planes = planes.items }) ≡ false) }
+    {
+        if are_in_range(ex, ey, ez, focal, tol, planes.as_slice()) {
+            Some(View {
+                ex,
+                ey,
+                ez,
+                focal,
+                tol,
+                planes,
+            })
+        } else {
+            None
+        }
+    }
+
+    // The view of numbers that are in range.
+    pub(crate) fn within_range(
+        eye: (i32, i32, i32),
+        focal: u32,
+        tol: u32,
+        planes: ArrayVec<Plane, 6>,
+    ) -> View
+        requires x { unsigned_abs eye.0 ≤ 16777215 }
+        requires y { unsigned_abs eye.1 ≤ 16777215 }
+        requires z { unsigned_abs eye.2 ≤ 16777215 }
+        requires focal { focal ≤ 65535 }
+        requires tol { tol ≤ 65535 }
+        requires planes { list_all is_plane planes.items ≡ true }
+        ensures { result ≡ record { eye = record { x = eye.0; y = eye.1; z = eye.2 }; focal = focal; tol = tol; planes = planes.items } }
+    {
+        let (ex, ey, ez) = eye;
+        View {
+            ex,
+            ey,
+            ez,
+            focal,
+            tol,
+            planes,
+        }
+    }
+
+    // Whether the whole ball round a place lies behind a plane.
+    pub(crate) fn is_behind(&self, place: Point, radius: u64) -> bool
+        requires { radius ≤ 2 ^ 38 }
+        ensures { result ≡ is_outside_any self.now.planes place radius }
+    {
+        is_outside_any(self.planes.as_slice(), place, radius)
+    }
+
+    // The least that the product of a normal in the box and a way from the eye into the ball can be.
+    fn least_facing(&self, place: Point, radius: u64, normals: NormalBox) -> i128
+        requires radius_small { radius ≤ 2 ^ 38 }
+        requires box_small { IsSmallBox normals }
+        ensures { (error : ℕ) → result ≡ least_facing (record { place = place; error = error; radius = radius; box = normals }) self.now.eye }
+    {
+        let (low, high) = (normals.low, normals.high);
+        let x = least_on_axis(low.x, high.x, place.x(), radius, self.ex);
+        let y = least_on_axis(low.y, high.y, place.y(), radius, self.ey);
+        let z = least_on_axis(low.z, high.z, place.z(), radius, self.ez);
+        add_three(x, y, z)
+    }
+
+    // Whether a face in the ball, with its normal in the box, may be turned to the eye.
+    pub(crate) fn may_face(&self, place: Point, radius: u64, normals: NormalBox) -> bool
+        requires radius_small { radius ≤ 2 ^ 38 }
+        requires box_small { IsSmallBox normals }
+        ensures { (error : ℕ) → result ≡ int_le (least_facing (record { place = place; error = error; radius = radius; box = normals }) self.now.eye) (pos 0) }
+    {
+        self.least_facing(place, radius, normals) <= 0
+    }
+
+    // The squared distance of a place from the eye.
+    fn squared_distance(&self, place: Point) -> u64
+        ensures value { result ≡ dist2_of place self.now.eye }
+        ensures small { result ≤ 2 ^ 53 }
+    {
+        squared_gap(place.x(), self.ex)
+            + squared_gap(place.y(), self.ey)
+            + squared_gap(place.z(), self.ez)
+    }
+
+    // Whether the error of a node looks larger than the tolerance.
+    #[tactic(auto, unfolding(crate::specs::Wanted::is_large))]
+    pub(crate) fn is_large(&self, place: Point, error: u64, radius: u64) -> bool
+        requires error_small { error ≤ 2 ^ 38 }
+        requires radius_small { radius ≤ 2 ^ 38 }
+        ensures { (box : NormalBox) → result ≡ is_large (record { place = place; error = error; radius = radius; box = box }) self.now }
+    {
+        is_large(
+            error,
+            radius,
+            self.focal,
+            self.tol,
+            self.squared_distance(place),
+        )
+    }
+}

@@ -1,0 +1,45 @@
+ghost use Rattle.std.specs.Prelude.{◌≡◌, ℕ, ◌+◌, ◌<◌, ◌⊎◌, true, false};
+ghost use Rattle.pm_forest.specs.Forest.{node_count, record_count, s_of, Makes};
+ghost use Rattle.pm_bounds.specs.Bounds.{AreBoundsOf};
+ghost use Rattle.pm_view.specs.Wanted.{is_wanted};
+ghost use Rattle.pm_view.specs.Laws.{IsBehind, IsTurnedAway, IsTiny};
+
+use crate::{Steps, View};
+use pm_base::NodeId;
+use pm_bounds::Bounds;
+use pm_forest::Hierarchy;
+use std::sync::ledger::Ledger;
+
+// The three tests of a node.
+fn passes(h: &Hierarchy, bounds: &Bounds, node: NodeId, view: &View) -> bool
+    requires bounds { AreBoundsOf h.now bounds.now }
+    requires node { node.0 < node_count h.now }
+    ensures { result ≡ is_wanted h.now view.now node.0 }
+{
+    let place = h.place(node);
+    let radius = bounds.radius(node);
+    !view.is_behind(place, radius)
+        && view.may_face(place, radius, bounds.normals(node))
+        && view.is_large(place, bounds.error(node), radius)
+}
+
+/// Whether the view wants the node refined: no plane of the view has the node's whole ball behind it, a face under the node
+/// may be turned to the eye, and the node's error looks larger than the tolerance. It counts one step, and takes no memory.
+pub fn wants<L: Ledger>(
+    h: &Hierarchy,
+    bounds: &Bounds,
+    node: NodeId,
+    view: &View,
+    steps: &mut Steps<L>,
+) -> bool
+    requires bounds { AreBoundsOf h.now bounds.now }
+    requires node { node.0 < node_count h.now }
+    ensures value { result ≡ is_wanted h.now view.now node.0 }
+    ensures cost { steps.new ≡ steps.old + 1 }
+    ensures parent { result ≡ true → (k : ℕ) → k < record_count h.now → Makes h.now k node.0 → is_wanted h.now view.now (s_of h.now k) ≡ true }
+    ensures reason { result ≡ false → IsBehind h.now view.now node.0 ⊎ (IsTurnedAway h.now view.now node.0 ⊎ IsTiny h.now view.now node.0) }
+{
+    steps.tick();
+    h.has_shape();
+    passes(h, bounds, node, view)
+}
