@@ -1,0 +1,216 @@
+-- The corners at a vertex: what a walk over them sees of the faces there.
+use Rattle.std.proofs.Common.{◌≡◌, ◌↔◌, ℕ, ◌<◌, Bool, true, false, ◌&&◌, ◌||◌, eqb, List, [], ◌∷◌, get_or, Option, Some, None, ◌⊎◌, inl, inr, refl, sym, ap, ◌∙◌, subst}
+use Rattle.std.specs.Prelude.{is_none}
+use Rattle.std.specs.List.{All, list_any}
+use Rattle.std.proofs.lemmas.List.Elements.{Contains-get_or}
+use Rattle.std.proofs.lemmas.Bool.{or_cases, or_left, or_right, and_parts, and_from, eqb-true, eq-eqb, cases_Bool, false≢true}
+use Rattle.pm_base.specs.Sides.{Net, next, prev, to, third, Stands, side_count, IsBorderSide, IsBorder, twin_of}
+use Rattle.pm_base.proofs.Sides.{stands_next, next-next-next}
+use Rattle.pm_base.proofs.TwinLaws.{twin-none, none-twin}
+use Rattle.pm_base.proofs.Search.{Decided}
+use Rattle.pm_links.specs.Lists.{has}
+use Rattle.pm_links.proofs.Members.{has_head, has_tail, has_from_Contains}
+use Rattle.pm_runs.specs.Pairs.{StaysUpright, StayUpright, Runs, Joined, IsThird, HasFace, HaveCommonThirds}
+use Rattle.pm_base.specs.Place.{Place}
+use Rattle.pm_runs.specs.Surfaces.{Surface, net_of_surface}
+use Rattle.pm_runs.proofs.Legal.{third-common}
+use Rattle.pm_runs.proofs.Sides.{runs_last, third_next}
+use Rattle.pm_shrink.specs.Shrinking.{AreCornersAt}
+use Rattle.pm_shrink.specs.Walks.{holds, has_two, is_open, HasStray, StayUprightAt}
+
+module _ (m : Net) (v : ℕ) (xs : List ℕ) (are : AreCornersAt m v xs) where
+  pub all_stand : All (Stands m) xs
+  all_stand = λ k d l. ((are.each (get_or xs k d)).0 (has_from_Contains xs (get_or xs k d) (Contains-get_or xs k d l))).0
+
+  pub all_start : All (λ e. m.from e ≡ v) xs
+  all_start = λ k d l. ((are.each (get_or xs k d)).0 (has_from_Contains xs (get_or xs k d) (Contains-get_or xs k d l))).1
+
+  pub all_within : All (λ e. e < side_count m) xs
+  all_within = λ k d l. (all_stand k d l).is_side
+
+-- A walk: what is left to see decides.
+
+module _ (p : ℕ → Bool) (all xs : List ℕ) (x : ℕ) (rest : List ℕ) (left : list_any p all ≡ list_any p xs) (steps : xs ≡ x ∷ rest) where
+  pub walk_on : p x ≡ false → list_any p all ≡ list_any p rest
+  walk_on no_match = left ∙ ap (list_any p) steps ∙ ap (λ b. b || list_any p rest) no_match
+
+  pub walk_found : p x ≡ true → list_any p all ≡ true
+  walk_found match = left ∙ ap (list_any p) steps ∙ ap (λ b. b || list_any p rest) match
+
+pub walk_ended : (p : ℕ → Bool) (all xs : List ℕ) → list_any p all ≡ list_any p xs → xs ≡ [] → list_any p all ≡ false
+walk_ended p all xs left ends = left ∙ ap (list_any p) ends
+
+-- A walk: each item is left to see, or has been found good.
+abbrev pub SoFar : (ℕ → Type 0) → List ℕ → List ℕ → Type 0
+SoFar good all xs = (e : ℕ) → has all e ≡ true → (has xs e ≡ true) ⊎ good e
+
+pub so_far_more : (good : ℕ → Type 0) (all xs : List ℕ) (x : ℕ) (rest : List ℕ) → SoFar good all xs → xs ≡ x ∷ rest → good x → SoFar good all rest
+so_far_more good all xs x rest passed steps here e h =
+    elim (passed e h) [
+      | inr fine ↦ inr fine
+      | inl left ↦
+          elim (or_cases (eqb x e) (has rest e) (ap (λ k. has k e) (sym steps) ∙ left)) [
+            | inl at ↦ inr (subst good (eqb-true x e at) here)
+            | inr later ↦ inl later
+          ]
+    ]
+
+pub so_far_all : (good : ℕ → Type 0) (all xs : List ℕ) → SoFar good all xs → xs ≡ [] → (e : ℕ) → has all e ≡ true → good e
+so_far_all good all xs passed ends e h = elim (passed e h) [ inl left ↦ absurd (false≢true (sym (ap (λ k. has k e) ends) ∙ left)) | inr fine ↦ fine ]
+
+any-has : (p : ℕ → Bool) (xs : List ℕ) → list_any p xs ≡ true → (e : ℕ) × (has xs e ≡ true) × (p e ≡ true)
+any-has p [] t = absurd (false≢true t)
+any-has p (x ∷ xs) t =
+    elim (or_cases (p x) (list_any p xs) t) [
+      | inl here ↦ (x, has_head x xs, here)
+      | inr later ↦ let (e, h, is) = any-has p xs later in (e, has_tail x xs e h, is)
+    ]
+
+has-any : (p : ℕ → Bool) (xs : List ℕ) (e : ℕ) → has xs e ≡ true → p e ≡ true → list_any p xs ≡ true
+has-any p [] e h is = absurd (false≢true h)
+has-any p (x ∷ xs) e h is =
+    elim (or_cases (eqb x e) (has xs e) h) [
+      | inl here ↦ or_left (p x) (list_any p xs) (ap p (eqb-true x e here) ∙ is)
+      | inr later ↦ or_right (p x) (list_any p xs) (has-any p xs e later is)
+    ]
+
+module _ (m : Net) (v : ℕ) (xs : List ℕ) (are : AreCornersAt m v xs) where
+  -- A corner that passes is seen, and one that is seen passes.
+  pub any-corner : (p : ℕ → Bool) → list_any p xs ≡ true → (e : ℕ) × Stands m e × (m.from e ≡ v) × (p e ≡ true)
+  any-corner p t = let (e, h, is) = any-has p xs t in let at = (are.each e).0 h in (e, at.0, at.1, is)
+
+  pub corner-any : (p : ℕ → Bool) (e : ℕ) → Stands m e → m.from e ≡ v → p e ≡ true → list_any p xs ≡ true
+  corner-any p e st at is = has-any p xs e ((are.each e).1 (st, at)) is
+
+  pub seen_joined : (w : ℕ) → (list_any (holds m w) xs ≡ true) ↔ Joined m v w
+  seen_joined w = (
+    λ t. (
+        let (e, st, at, is) = any-corner (holds m w) t in
+        elim (or_cases (eqb (to m e) w) (eqb (third m e) w) is) [
+          | inl k ↦ inl (e, record { stands = st; begins = at; ends = eqb-true (to m e) w k })
+          | inr k ↦ inr (prev e, runs_last m e v (to m e) w (record { stands = st; begins = at; ends = refl }) (eqb-true (third m e) w k))
+        ]),
+    λ j. elim j [
+      | inl (e, r) ↦ corner-any (holds m w) e r.stands r.begins (or_left (eqb (to m e) w) (eqb (third m e) w) (eq-eqb (to m e) w r.ends))
+      | inr (e, r) ↦
+          corner-any (holds m w) (next e) (stands_next m e r.stands) r.ends
+          (or_right (eqb (to m (next e)) w) (eqb (third m (next e)) w) (eq-eqb (third m (next e)) w (third_next m e ∙ r.begins)))
+    ],
+  )
+
+  pub seen_face : (b c : ℕ) → (list_any (has_two m b c) xs ≡ true) ↔ HasFace m v b c
+  seen_face b c = (
+    λ t. (
+        let (e, st, at, is) = any-corner (has_two m b c) t in
+        let one = eqb (to m e) b && eqb (third m e) c in
+        let two = eqb (to m e) c && eqb (third m e) b in (
+          e,
+          st,
+          at,
+          elim (or_cases one two is) [
+            | inl k ↦ (let q = and_parts (eqb (to m e) b) (eqb (third m e) c) k in inl (eqb-true (to m e) b q.0, eqb-true (third m e) c q.1))
+            | inr k ↦ (let q = and_parts (eqb (to m e) c) (eqb (third m e) b) k in inr (eqb-true (to m e) c q.0, eqb-true (third m e) b q.1))
+          ],
+        )),
+    λ (e, st, at, way). corner-any (has_two m b c) e st at (
+        let one = eqb (to m e) b && eqb (third m e) c in
+        let two = eqb (to m e) c && eqb (third m e) b in
+        elim way [
+          | inl k ↦ or_left one two (and_from (eqb (to m e) b) (eqb (third m e) c) (eq-eqb (to m e) b k.0) (eq-eqb (third m e) c k.1))
+          | inr k ↦ or_right one two (and_from (eqb (to m e) c) (eqb (third m e) b) (eq-eqb (to m e) c k.0) (eq-eqb (third m e) b k.1))
+        ]),
+  )
+
+none_from : (r : Option ℕ) → is_none r ≡ true → r ≡ None
+none_from None t = refl
+none_from (Some k) t = absurd (false≢true t)
+
+border-test : (m : Net) (e : ℕ) → Stands m e → is_none (twin_of m e) ≡ true → IsBorderSide m e
+border-test m e st t = record { stands = st; alone = twin-none m e (none_from (twin_of m e) t) }
+
+test-border : (m : Net) (e : ℕ) → IsBorderSide m e → is_none (twin_of m e) ≡ true
+test-border m e side = ap is_none (none-twin m e side.alone)
+
+pub border-side : (m : Net) (e : ℕ) → Stands m e → (is_none (twin_of m e) ≡ true) ↔ IsBorderSide m e
+border-side m e st = (border-test m e st, test-border m e)
+
+module _ (m : Net) (v : ℕ) (xs : List ℕ) (are : AreCornersAt m v xs) where
+  pub seen_border : (list_any (is_open m) xs ≡ true) ↔ IsBorder m v
+  seen_border = (
+    λ t. (
+        let (e, st, at, is) = any-corner m v xs are (is_open m) t in
+        let before = stands_next m (next e) (stands_next m e st) in
+        elim (or_cases (is_none (twin_of m e)) (is_none (twin_of m (prev e))) is) [
+          | inl k ↦ (e, border-test m e st k, inl at)
+          | inr k ↦ (prev e, border-test m (prev e) before k, inr (ap m.from (next-next-next e) ∙ at))
+        ]),
+    λ (e, side, way). elim way [
+      | inl at ↦ corner-any m v xs are (is_open m) e side.stands at (or_left (is_none (twin_of m e)) (is_none (twin_of m (prev e))) (test-border m e side))
+      | inr at ↦
+          corner-any m v xs are (is_open m) (next e) (stands_next m e side.stands) at
+          (or_right (is_none (twin_of m (next e))) (is_none (twin_of m (prev (next e)))) (ap (λ g. is_none (twin_of m g)) (next-next-next e) ∙ test-border m e side))
+    ],
+  )
+
+-- A face with corners a, b and w is one that holds a and b, with w for its third.
+pub face-third : (m : Net) (a b w : ℕ) → HasFace m a b w → IsThird m a b w
+face-third m a b w (e, st, at, way) =
+    let r : Runs m e a (to m e) = record { stands = st; begins = at; ends = refl } in
+    elim way [
+      | inl k ↦ (e, inl (record { stands = st; begins = at; ends = k.0 }), k.1)
+      | inr k ↦ (prev e, inr (runs_last m e a (to m e) b r k.1), third_next m (next e) ∙ k.0)
+    ]
+
+pub third-face : (m : Net) (a b w : ℕ) → IsThird m a b w → HasFace m a b w
+third-face m a b w (e, links, is) =
+    elim links [
+      | inl r ↦ (e, r.stands, r.begins, inl (r.ends, is))
+      | inr r ↦ (next e, stands_next m e r.stands, r.ends, inr (is, third_next m e ∙ r.begins))
+    ]
+
+-- A stray among the other corners of a face at a is a common neighbour that is no third corner.
+pub stray_uncommon : (m : Net) (a b e : ℕ) → Stands m e → m.from e ≡ a → HaveCommonThirds m a b → HasStray m a b e → ⊥
+stray_uncommon m a b e st at common stray =
+    elim stray [
+      | inl (joined, never) ↦ never ((common (to m e)).0 (inl (e, record { stands = st; begins = at; ends = refl }), joined))
+      | inr (joined, never) ↦ never ((common (third m e)).0 (inr (prev e, runs_last m e a (to m e) (third m e) (record { stands = st; begins = at; ends = refl }) refl), joined))
+    ]
+
+-- Without a stray every common neighbour is a third corner.
+pub no_stray_common : (m : Net) (a b : ℕ) (xs : List ℕ) → AreCornersAt m a xs → ((w : ℕ) → Decided (IsThird m a b w)) → ((e : ℕ) → has xs e ≡ true → HasStray m a b e → ⊥) → HaveCommonThirds m a b
+no_stray_common m a b xs are third? none w = (
+  λ (near, other). elim (third? w) [
+    | inl is ↦ is
+    | inr never ↦ absurd (elim near [
+      | inl (e, r) ↦ none e ((are.each e).1 (r.stands, r.begins)) (inl (subst (Joined m b) (sym r.ends) other, λ t. never (subst (IsThird m a b) r.ends t)))
+      | inr (e, r) ↦
+          let is : third m (next e) ≡ w = third_next m e ∙ r.begins in
+          none (next e) ((are.each (next e)).1 (stands_next m e r.stands, r.ends)) (inr (subst (Joined m b) (sym is) other, λ t. never (subst (IsThird m a b) is t)))
+    ])
+  ],
+  third-common m a b w,
+)
+
+-- Whether w is a third corner can be decided by the corners at a.
+pub third_decided : (m : Net) (a b : ℕ) (xs : List ℕ) → AreCornersAt m a xs → (w : ℕ) → Decided (IsThird m a b w)
+third_decided m a b xs are w =
+    let seen = seen_face m a xs are b w in
+    elim (cases_Bool (list_any (has_two m b w) xs)) [
+      | inl t ↦ inl (face-third m a b w (seen.0 t))
+      | inr f ↦ inr (λ k. false≢true (sym f ∙ seen.1 (third-face m a b w k)))
+    ]
+
+-- That no face turns over is told of each end in turn.
+pub upright_from : (s : Surface) (a b : ℕ) (place : Place) → StayUprightAt s a b place → StayUprightAt s b a place → StayUpright s a b place
+upright_from s a b place one other e p q pair st at x y =
+    let m : Net = net_of_surface s in
+    elim pair [
+      | inl k ↦ subst (λ (v : ℕ). StaysUpright s place v (to m e) (third m e)) (sym k.0) (one e st (at ∙ k.0) (λ z. x (z ∙ sym k.1)) (λ z. y (z ∙ sym k.1)))
+      | inr k ↦ subst (λ (v : ℕ). StaysUpright s place v (to m e) (third m e)) (sym k.0) (other e st (at ∙ k.0) (λ z. x (z ∙ sym k.1)) (λ z. y (z ∙ sym k.1)))
+    ]
+
+pub upright_at_first : (s : Surface) (a b : ℕ) (place : Place) → StayUpright s a b place → StayUprightAt s a b place
+upright_at_first s a b place all e st at x y = all e a b (inl (refl, refl)) st at x y
+
+pub upright_at_second : (s : Surface) (a b : ℕ) (place : Place) → StayUpright s a b place → StayUprightAt s b a place
+upright_at_second s a b place all e st at x y = all e b a (inr (refl, refl)) st at x y

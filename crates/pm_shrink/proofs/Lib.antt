@@ -1,0 +1,13 @@
+pub mod AllFaces
+pub mod PlaceTables
+mod PlaneTotals
+mod CornerTables
+mod Started
+mod FanLaws
+mod ReaderLaws
+mod WriteLaws
+mod GoneLaws
+mod MergedCorners
+mod MergedFaces
+mod MergedTables
+mod MergedShrink

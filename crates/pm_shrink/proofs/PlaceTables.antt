@@ -1,0 +1,51 @@
+-- A table of places with room for later ones: what is read of its first entries.
+use Rattle.std.proofs.Math.Seq.{take-nil}
+use Rattle.std.specs.Prelude.{is_some, is_none}
+use Rattle.std.proofs.Common.{◌≡◌, Bool, true, false, not, Some, ℕ, zero, suc, [], ◌∷◌, ap, ◌<◌, ◌≤◌, List, length, get_or, take, Option, None, inl, inr, sym, ◌∙◌, arith}
+use Rattle.std.proofs.lemmas.List.{get_or-take, get_or_past, length-take-le, length-take}
+use Rattle.std.proofs.lemmas.Bool.{cases_lt, false≢true}
+use Rattle.pm_base.specs.Place.{Place}
+
+length_taken : (xs : List (Option Place)) (n : ℕ) → length (take n xs) ≤ n
+length_taken xs n =
+    elim (cases_lt (length xs) n) [
+      | inl l ↦ omega (arith, taken_short xs n l)
+      | inr g ↦ omega (arith, length-take-le n xs g)
+    ]
+  where
+    taken_short : (xs : List (Option Place)) (n : ℕ) → length xs < n → length (take n xs) ≤ n
+    taken_short xs n l = omega (arith, length-take n xs)
+
+pub place_read : (places : List (Option Place)) (next v : ℕ) → ((w : ℕ) → next ≤ w → get_or places w None ≡ None) → get_or (take next places) v None ≡ get_or places v None
+place_read places next v fresh =
+    elim (cases_lt v next) [
+      | inl l ↦ get_or-take next places v None l
+      | inr g ↦ get_or_past (take next places) v None (omega (arith, length_taken places next)) ∙ sym (fresh v g)
+    ]
+
+pub take_all : (xs : List (Option Place)) (n : ℕ) → length xs ≤ n → take n xs ≡ xs
+take_all [] n l = take-nil n
+take_all (x ∷ xs) zero l = absurd (omega arith)
+take_all (x ∷ xs) (suc n) l = ap (λ k. x ∷ k) (take_all xs n (omega arith))
+
+pub some_from : (r : Option ℕ) → is_some r ≡ true → (k : ℕ) × (r ≡ Some k)
+some_from None t = absurd (false≢true t)
+some_from (Some k) t = (k, λ i. Some k)
+
+pub none_is : (r : Option ℕ) (b : Bool) → is_some r ≡ not b → b ≡ is_none r
+none_is None true e = λ i. true
+none_is None false e = absurd (false≢true e)
+none_is (Some x) true e = absurd (false≢true (sym e))
+none_is (Some x) false e = λ i. false
+
+pub both_ways_not : (b : Bool) → b ≡ true → not b ≡ true → ⊥
+both_ways_not true t f = false≢true f
+both_ways_not false t f = false≢true t
+
+pub no_from : (b : Bool) → (b ≡ true → ⊥) → not b ≡ true
+no_from true never = absurd (never (λ i. true))
+no_from false never = λ i. true
+
+pub none_test : (r : Option ℕ) → is_none r ≡ true → r ≡ None
+none_test None t = λ i. None
+none_test (Some k) t = absurd (false≢true t)

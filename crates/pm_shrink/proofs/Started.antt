@@ -1,0 +1,119 @@
+-- What a `Shrink` holds before the first collapse.
+use Rattle.std.proofs.Common.{◌≡◌, ℕ, ◌+◌, ◌-◌, ◌*◌, ◌<◌, ◌≤◌, cond, List, [], ◌∷◌, ◌++◌, length, map, take, get_or, Option, Some, None, inl, inr, refl, sym, ap, ◌∙◌, subst, arith}
+use Rattle.std.specs.Prelude.{is_some}
+use Rattle.std.specs.List.{count_by}
+use Rattle.std.proofs.Math.ListN.{replicate}
+use Rattle.std.proofs.Math.Seq.{take-append_seam}
+use Rattle.std.proofs.lemmas.List.{length-map, length-append, length-replicate, get_or-append_right, get_or-replicate, get_or_past}
+use Rattle.std.proofs.lemmas.List.Sums.{sum_by-cons}
+use Rattle.std.proofs.lemmas.Bool.{cases_lt}
+use Rattle.pm_base.specs.Place.{Place}
+use Rattle.pm_base.specs.declared.mesh.Corners.{Corners}
+use Rattle.pm_base.specs.Meshes.{Mesh, IsWellFormed}
+use Rattle.pm_base.specs.Sides.{Net, Stands, net_of, twin_of}
+use Rattle.pm_base.specs.Fans.{IsOrientedManifold}
+use Rattle.pm_base.proofs.NetLaws.{mesh_side}
+use Rattle.pm_links.specs.Lists.{Lists, IsSound}
+use Rattle.pm_twins.specs.Table.{Table, AreTwinsOf, IsTableOf}
+use Rattle.pm_quadric.specs.Sums.{Sums, sums_of, zero_sums}
+use Rattle.pm_quadric.proofs.QuadricLaws.{count_is}
+use Rattle.pm_runs.specs.Surfaces.{Surface, surface_of, net_of_surface, is_live}
+use Rattle.pm_runs.specs.Planes.{planes_at}
+use Rattle.pm_runs.proofs.Live.{input-sound}
+use Rattle.pm_runs.proofs.Proper.{input-proper}
+use Rattle.pm_shrink.specs.Shrinking.{IsKept, planes_counted}
+use Rattle.pm_shrink.specs.Tables.{surface_with, IsAcross, IsShrink}
+use Rattle.pm_shrink.proofs.AllFaces.{net_there}
+use Rattle.pm_shrink.proofs.CornerTables.{AreListed}
+use Rattle.pm_runs.proofs.PlaneCounts.{first_count}
+use Rattle.pm_runs.proofs.Totals.{sum_same}
+
+all_counted : (fs : List Corners) → count_by is_some (map Some fs) ≡ length fs
+all_counted [] = refl
+all_counted (f ∷ fs) = omega (arith, sum_by-cons (λ k. cond (is_some k) 1 0) (Some f) (map Some fs), all_counted fs)
+
+-- Every side stands, and runs from a point.
+pub side_there : (m : Mesh) → IsWellFormed m → (e : ℕ) → e < 3 * length m.faces → Stands (net_of_surface (surface_of m)) e × ((net_of_surface (surface_of m)).from e < length m.points)
+side_there m formed e l = subst (λ (n : Net). Stands n e × (n.from e < length m.points)) (sym (net_there m)) (mesh_side m formed e l)
+
+-- The places with room for later ones.
+abbrev pub roomy_places : Mesh → List (Option Place)
+roomy_places m = map Some m.points ++ replicate (length m.points + length m.faces - length m.points) None
+
+taken_places : (m : Mesh) → take (length m.points) (roomy_places m) ≡ map Some m.points
+taken_places m =
+    let later : List (Option Place) = replicate (length m.points + length m.faces - length m.points) None in
+    ap (λ (k : ℕ). take k (map Some m.points ++ later)) (sym (length-map m.points Some)) ∙ take-append_seam (map Some m.points) later
+
+pub surface_there : (m : Mesh) → surface_with (map Some m.faces) (roomy_places m) (length m.points) ≡ surface_of m
+surface_there m = ap (λ (k : List (Option Place)). let s : Surface = record { faces = map Some m.faces; places = k } in s) (taken_places m)
+
+fresh_places : (m : Mesh) (v : ℕ) → length m.points ≤ v → get_or (roomy_places m) v None ≡ None
+fresh_places m v le =
+    let n = length m.points + length m.faces - length m.points in
+    get_or-append_right (map Some m.points) (replicate n None) (length m.points) v None (length-map m.points Some) le
+    ∙ elim (cases_lt (v - length m.points) n) [
+      | inl l ↦ get_or-replicate n (v - length m.points) None None l
+      | inr g ↦ get_or_past (replicate n None) (v - length m.points) None (let len : length (replicate {A = Option Place} n None) ≡ n = length-replicate n None in omega arith)
+    ]
+
+-- The twins of a net, where they are asked for.
+record AreTwins (n : Net) (twins : List (Option ℕ)) : Type 0 where
+  sides : length twins ≡ 3 * n.faces
+  each : (e : ℕ) → Stands n e → get_or twins e None ≡ twin_of n e
+
+twins_there : (n : Net) (twins : List (Option ℕ)) → AreTwinsOf n twins → AreTwins n twins
+twins_there n twins are = record { sides = are.sides; each = λ e stands. are.each e stands.is_side }
+
+module _ (m : Mesh) (formed : IsWellFormed m) (manifold : IsOrientedManifold (net_of m.faces)) where
+  net : Net
+  net = net_of_surface (surface_of m)
+
+  kept_there : (quadrics : List Sums) (corners : Lists) → ((v : ℕ) → v < length m.points → get_or quadrics v zero_sums ≡ sums_of (planes_at m v)) →
+      IsSound corners → AreListed (map Some m.faces) (3 * length m.faces) corners →
+      IsKept (record { surface = surface_of m; quadrics = quadrics; corners = corners.lists })
+  kept_there quadrics corners each sound listed = record {
+    short = omega (arith, length-map m.faces Some, formed.faces);
+    room = omega (arith, length-map m.points Some, all_counted m.faces, formed.faces, formed.points);
+    surface = input-sound m formed;
+    proper = input-proper m manifold;
+    corners = λ v. record {
+      each = λ e. (
+        λ h. (let at = (listed v e).0 h in ((side_there m formed e at.0).0, at.1)),
+        λ (stands, at). (listed v e).1 (omega (arith, stands.is_side, length-map m.faces Some), at),
+      );
+      once = sound.once v;
+    };
+    planes =
+        let n : ℕ = length (map Some m.points) in
+        let same = sum_same (λ v. cond (is_live (surface_of m) v) (length (planes_at m v)) 0) (planes_counted (surface_of m) quadrics) n
+        (λ v l. ap (λ (k : ℕ). cond (is_live (surface_of m) v) k 0) (count_is (get_or quadrics v zero_sums) (planes_at m v) (each v (omega (arith, length-map m.points Some))))) in
+        omega (arith, same, first_count m, formed.faces);
+  }
+
+  pub started : (places : List (Option Place)) (twins : Table) (quadrics : List Sums) (corners : Lists) → places ≡ roomy_places m →
+      IsTableOf (net_of m.faces) (length m.points) twins →
+      length quadrics ≡ length m.points + length m.faces → ((v : ℕ) → v < length m.points → get_or quadrics v zero_sums ≡ sums_of (planes_at m v)) →
+      corners.items ≡ 3 * length m.faces → length corners.lists ≡ length m.points + length m.faces → IsSound corners → AreListed (map Some m.faces) (3 * length m.faces) corners →
+      IsShrink (map Some m.faces) places (length m.points) (length m.faces) quadrics twins.twins corners
+  started places twins quadrics corners places_are table len each items heads sound listed =
+      let P : List (Option Place) → Type 0 = λ (k : List (Option Place)). IsShrink (map Some m.faces) k (length m.points) (length m.faces) quadrics twins.twins corners in
+      let all : length (map Some m.faces) ≡ length m.faces = length-map m.faces Some in
+      let room : length (roomy_places m) ≡ length m.points + length m.faces = (
+      let later : List (Option Place) = replicate (length m.points + length m.faces - length m.points) None in
+      let later_len : length later ≡ length m.points + length m.faces - length m.points = length-replicate (length m.points + length m.faces - length m.points) None in
+      omega (arith, length-append (map Some m.points) later, length-map m.points Some, later_len)) in
+      subst P (sym places_are) (record {
+        kept = subst (λ (s : Surface). IsKept (record { surface = s; quadrics = quadrics; corners = corners.lists })) (sym (surface_there m)) (kept_there quadrics corners each sound listed);
+        twins = subst (λ (s : Surface). IsAcross s twins.twins) (sym (surface_there m)) (let t = subst (λ (n : Net). AreTwins n twins.twins) (sym (net_there m)) (twins_there (net_of m.faces) twins.twins table.twins) in record { sides = t.sides; each = t.each });
+        roomy = record {
+          count = sym (all_counted m.faces);
+          made = ap (λ (s : Surface). length s.places) (surface_there m) ∙ length-map m.points Some;
+          room = omega arith;
+          most = omega (arith, formed.faces, formed.points);
+          fresh = fresh_places m;
+        };
+        quadrics_len = omega arith;
+        items = omega arith;
+        heads = omega arith;
+      })

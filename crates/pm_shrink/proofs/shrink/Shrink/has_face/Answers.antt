@@ -1,0 +1,36 @@
+use Rattle.std.proofs.Common.{◌∙◌, ℕ, List, true, sym, subst}
+use Rattle.std.proofs.lemmas.Bool.{false≢true}
+use Rattle.std.proofs.lemmas.List.Elements.{All-tail}
+use Rattle.pm_base.specs.Sides.{Net, Stands}
+use Rattle.pm_shrink.specs.Shrinking.{net_at, fan_at, AreCornersAt}
+use Rattle.pm_shrink.specs.Walks.{has_two}
+use Rattle.pm_shrink.proofs.FanLaws.{walk_on, walk_found, walk_ended, seen_face}
+use Rattle.pm_shrink.proofs.shrink.Shrink.has_face.Goals as goal
+
+pub returns-then-has_others : goal.returns-then-has_others
+returns-then-has_others c =
+    let m : Net = net_at c.args.self.now in
+    let fan : List ℕ = fan_at c.args.self.now c.args.a in
+    let items = c.corners_at-corner-items.ensures in
+    let found = walk_found (has_two m c.args.b c.args.c) fan c.loop-corner.corner-iterator c.in-Some.corner c.next.new.self c.loop-corner.invariant.left (c.in-Some.ensures {u = tt}).steps (sym c.has_others.ensures ∙ c.if-has_others.true) in
+    let seen = seen_face m c.args.a fan (subst (AreCornersAt m c.args.a) items.corners items.each) c.args.b c.args.c in
+    (λ t. seen.0 found, λ k. λ i. true)
+
+pub loop-corner-preserved : goal.loop-corner-preserved
+loop-corner-preserved c =
+    let m : Net = net_at c.args.self.now in
+    let fan : List ℕ = fan_at c.args.self.now c.args.a in
+    let steps = (c.in-Some.ensures {u = tt}).steps in
+    record {
+      left = walk_on (has_two m c.args.b c.args.c) fan c.loop-corner.corner-iterator c.in-Some.corner c.next.new.self c.loop-corner.invariant.left steps (sym c.has_others.ensures ∙ c.if-has_others.false);
+      stand = All-tail (Stands m) c.in-Some.corner c.next.new.self (rw steps at c.loop-corner.invariant.stand);
+    }
+
+pub returns : goal.returns
+returns c =
+    let m : Net = net_at c.args.self.now in
+    let fan : List ℕ = fan_at c.args.self.now c.args.a in
+    let items = c.corners_at-corner-items.ensures in
+    let none = walk_ended (has_two m c.args.b c.args.c) fan c.loop-corner.corner-iterator c.loop-corner.invariant.left (c.in-None.ensures {u = tt}).steps.0 in
+    let seen = seen_face m c.args.a fan (subst (AreCornersAt m c.args.a) items.corners items.each) c.args.b c.args.c in
+    (λ t. absurd (false≢true t), λ k. sym none ∙ seen.1 k)

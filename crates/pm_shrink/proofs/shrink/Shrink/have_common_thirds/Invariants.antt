@@ -1,0 +1,15 @@
+use Rattle.std.proofs.Common.{◌≡◌}
+use Rattle.std.specs.List.{All}
+use Rattle.pm_base.specs.Sides.{Stands}
+use Rattle.pm_shrink.specs.Shrinking.{net_at, fan_at}
+use Rattle.pm_shrink.specs.Walks.{HasStray}
+use Rattle.pm_shrink.proofs.FanLaws.{SoFar}
+use Rattle.pm_shrink.proofs.shrink.Shrink.have_common_thirds.Given as goal
+
+-- The corners that were passed have no stray.
+abbrev pub invariant-loop-corner : goal.invariant-loop-corner
+invariant-loop-corner l = record {
+  passed : SoFar (λ e. HasStray (net_at l.self) l.a l.b e → ⊥) (fan_at l.self l.a) l.corner-iterator;
+  stand : All (Stands (net_at l.self)) l.corner-iterator;
+  start : All (λ e. (net_at l.self).from e ≡ l.a) l.corner-iterator;
+}

@@ -1,0 +1,15 @@
+use Rattle.std.proofs.Common.{◌≡◌}
+use Rattle.std.specs.List.{All}
+use Rattle.pm_base.specs.Sides.{Stands}
+use Rattle.pm_shrink.specs.Shrinking.{net_at, fan_at}
+use Rattle.pm_shrink.specs.Walks.{KeepsUpright}
+use Rattle.pm_shrink.proofs.FanLaws.{SoFar}
+use Rattle.pm_shrink.proofs.shrink.Shrink.stay_upright_at.Given as goal
+
+-- The faces that were passed stay upright.
+abbrev pub invariant-loop-corner : goal.invariant-loop-corner
+invariant-loop-corner l = record {
+  passed : SoFar (KeepsUpright l.self.surface l.q l.place) (fan_at l.self l.p) l.corner-iterator;
+  stand : All (Stands (net_at l.self)) l.corner-iterator;
+  start : All (λ e. (net_at l.self).from e ≡ l.p) l.corner-iterator;
+}

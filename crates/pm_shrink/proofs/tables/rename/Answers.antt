@@ -1,0 +1,27 @@
+use Rattle.std.proofs.Common.{◌<◌, ◌*◌, ℕ, length, ap, ◌∙◌}
+use Rattle.std.proofs.lemmas.List.Elements.{All-tail}
+use Rattle.pm_links.specs.Lists.{list_of}
+use Rattle.pm_links.proofs.Walking.{All-in_range}
+use Rattle.pm_shrink.specs.Writes.{with_corners}
+use Rattle.pm_shrink.proofs.WriteLaws.{length-with_corner}
+use Rattle.pm_shrink.proofs.tables.rename.Goals as goal
+
+pub loop-corner-init : goal.loop-corner-init
+loop-corner-init c =
+    let items_is = c.into_iter-corner-iterator.ensures.into_iter_gives ∙ c.items-corner-items.ensures.items in
+    rw items_is (record {
+      left = λ i. with_corners c.args.faces.now.items (list_of c.args.corners.now c.args.from) c.args.to;
+      len = λ i. length c.args.faces.now.items;
+      within = All-in_range c.args.corners.now c.args.from (3 * length c.args.faces.now.items) c.items-corner-items.ensures.sound c.requires.corners;
+    })
+
+pub loop-corner-preserved : goal.loop-corner-preserved
+loop-corner-preserved c =
+    let i = c.loop-corner.invariant in
+    let steps = (c.in-Some.ensures {u = tt}).steps in
+    let e : ℕ = c.in-Some.corner in
+    record {
+      left = ap (λ k. with_corners k c.next.new.self c.args.to) c.set_corner.ensures ∙ rw steps at i.left;
+      len = ap length c.set_corner.ensures ∙ length-with_corner c.loop-corner.faces.items e c.args.to ∙ i.len;
+      within = All-tail (λ k. k < 3 * length c.args.faces.now.items) e c.next.new.self (rw steps at i.within);
+    }

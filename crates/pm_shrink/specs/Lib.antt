@@ -1,0 +1,4 @@
+pub mod Shrinking
+pub mod Tables
+pub mod Walks
+pub mod Writes

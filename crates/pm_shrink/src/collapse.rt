@@ -1,0 +1,64 @@
+ghost use Rattle.std.specs.Prelude.{◌≡◌, ◌≢◌, ◌<◌, ℕ, true};
+ghost use Rattle.pm_quadric.specs.Sums.{plus_sums};
+ghost use Rattle.pm_runs.specs.Surfaces.{next_vertex, is_live as is_live_in, collapsed};
+ghost use Rattle.pm_runs.specs.Pairs.{IsLegalPair};
+ghost use Rattle.pm_runs.specs.Steps.{gone_of, entry_of};
+ghost use Rattle.pm_shrink.specs.Shrinking.{net_at, quadric_at};
+
+use crate::Shrink;
+use crate::sides::{next, prev};
+use crate::tables::{count_gone, drop_face, merge_corners, merge_places, merge_quadrics};
+use pm_base::{Collapse, FaceId, Gone, Point, Side};
+
+impl Shrink {
+    /// Collapses a pair that is legal at the place: both ends become the next vertex, there, and the faces that hold both
+    /// are dropped. Only the faces at the two ends are touched. The answer is the log's entry, with what stood across the
+    /// other sides of the dropped faces.
+    pub fn collapse(&mut self, a: u32, b: u32, place: Point) -> Collapse
+        requires ordered { a < b }
+        requires legal { IsLegalPair self.old.surface a b place }
+        ensures surface { self.new.surface ≡ collapsed self.old.surface a b place }
+        ensures entry { result ≡ entry_of self.old.surface a b place }
+        ensures quadric { quadric_at self.new (next_vertex self.old.surface)
+            ≡ plus_sums (quadric_at self.old a) (quadric_at self.old b) }
+        ensures quadrics { (v : ℕ) → v ≢ next_vertex self.old.surface
+            → quadric_at self.new v ≡ quadric_at self.old v }
+    {
+        self.is_kept();
+        let left = self.gone(a, b);
+        let right = self.gone(b, a);
+        let s = self.next;
+        drop_face(&mut self.faces, &mut self.across, &mut self.corners, left);
+        drop_face(&mut self.faces, &mut self.across, &mut self.corners, right);
+        merge_corners(&mut self.faces, &mut self.corners, a, s);
+        merge_corners(&mut self.faces, &mut self.corners, b, s);
+        merge_places(&mut self.places, a, b, s, place);
+        merge_quadrics(&mut self.quadrics, a, b, s);
+        self.next = s + 1;
+        self.left -= count_gone(left, right);
+        Collapse {
+            t: a,
+            u: b,
+            s,
+            place,
+            left,
+            right,
+        }
+    }
+
+    // The face in which p is followed by q, with what stands across its two other sides.
+    fn gone(&self, p: u32, q: u32) -> Option<Gone>
+        requires { is_live_in self.now.surface p ≡ true }
+        ensures { result ≡ gone_of (net_at self.now) p q }
+    {
+        self.has_few_sides();
+        match self.side_to(p, q) {
+            None => None,
+            Some(side) => Some(Gone {
+                face: FaceId(side / 3),
+                first: self.across(Side(next(side))),
+                second: self.across(Side(prev(side))),
+            }),
+        }
+    }
+}

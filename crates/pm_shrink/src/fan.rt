@@ -1,0 +1,157 @@
+// Walks over the corners at one vertex.
+ghost use Rattle.std.specs.Prelude.{◌≡◌, ◌<◌, ◌≤◌, ℕ, ◌↔◌, ◌||◌, true, IsTrue, All, is_none};
+ghost use Rattle.pm_base.specs.Sides.{side_count, prev as prev_of, to as to_of, third as third_of, Stands, IsBorder, twin_of};
+ghost use Rattle.pm_runs.specs.Surfaces.{is_live as is_live_in};
+ghost use Rattle.pm_runs.specs.Pairs.{Joined, IsThird, HasFace};
+ghost use Rattle.pm_runs.specs.Steps.{side_from_to};
+ghost use Rattle.pm_shrink.specs.Shrinking.{net_at, fan_at, AreCornersAt};
+ghost use Rattle.pm_shrink.specs.Walks.{holds, has_two};
+
+use crate::Shrink;
+use crate::sides::{self, MOST_SIDES, next, prev};
+use pm_links::Items;
+
+impl Shrink {
+    // The corners at a live vertex.
+    pub(crate) fn corners_at(&self, v: u32) -> Items<'_>
+        requires { is_live_in self.now.surface v ≡ true }
+        ensures corners { result ≡ fan_at self.now v }
+        ensures each { AreCornersAt (net_at self.now) v result }
+        ensures stand { All (Stands (net_at self.now)) result }
+        ensures start { All (λ e. (net_at self.now).from e ≡ v) result }
+        ensures within { All (λ e. e < side_count (net_at self.now)) result }
+        ensures small { side_count (net_at self.now) ≤ MOST_SIDES }
+    {
+        self.corners.items(v)
+    }
+
+    // No side has a number past the greatest.
+    pub(crate) fn has_few_sides(&self)
+        ensures { side_count (net_at self.now) ≤ MOST_SIDES }
+    {
+        let _ = &self.faces;
+    }
+
+    // The vertex from which a side runs.
+    pub(crate) fn from(&self, side: u32) -> u32
+        requires { side < side_count (net_at self.now) }
+        ensures { result ≡ (net_at self.now).from side }
+    {
+        sides::from(&self.faces, side)
+    }
+
+    // The vertex to which a side runs.
+    pub(crate) fn to(&self, side: u32) -> u32
+        requires { side < side_count (net_at self.now) }
+        ensures { result ≡ to_of (net_at self.now) side }
+    {
+        self.has_few_sides();
+        self.from(next(side))
+    }
+
+    // The third corner of a side's face.
+    pub(crate) fn third(&self, side: u32) -> u32
+        requires { side < side_count (net_at self.now) }
+        ensures { result ≡ third_of (net_at self.now) side }
+    {
+        self.has_few_sides();
+        self.from(prev(side))
+    }
+
+    // Whether nothing stands across a side.
+    pub(crate) fn is_border_side(&self, side: u32) -> bool
+        requires { Stands (net_at self.now) side }
+        ensures { result ≡ is_none (twin_of (net_at self.now) side) }
+    {
+        self.across[side as usize].is_none()
+    }
+
+    // Whether nothing stands across one of the two sides of a face at a corner: that which runs from it, and that which
+    // runs to it.
+    fn is_border_corner(&self, corner: u32) -> bool
+        requires { Stands (net_at self.now) corner }
+        ensures { result ≡ (is_none (twin_of (net_at self.now) corner)
+            || is_none (twin_of (net_at self.now) (prev_of corner))) }
+    {
+        self.has_few_sides();
+        self.is_border_side(corner) || self.is_border_side(prev(corner))
+    }
+
+    // The side from p to q, if a face has one.
+    pub(crate) fn side_to(&self, p: u32, q: u32) -> Option<u32>
+        requires { is_live_in self.now.surface p ≡ true }
+        ensures { result ≡ side_from_to (net_at self.now) p q }
+    {
+        self.is_kept();
+        for corner in self.corners_at(p) {
+            if self.to(corner) == q {
+                return Some(corner);
+            }
+        }
+        None
+    }
+
+    // Whether the face at a corner has w for another corner.
+    pub(crate) fn has_other(&self, corner: u32, w: u32) -> bool
+        requires { corner < side_count (net_at self.now) }
+        ensures { result ≡ holds (net_at self.now) w corner }
+    {
+        self.to(corner) == w || self.third(corner) == w
+    }
+
+    // Whether some face holds both v and w.
+    pub(crate) fn is_joined(&self, v: u32, w: u32) -> bool
+        requires { is_live_in self.now.surface v ≡ true }
+        ensures { IsTrue result ↔ Joined (net_at self.now) v w }
+    {
+        for corner in self.corners_at(v) {
+            if self.has_other(corner, w) {
+                return true;
+            }
+        }
+        false
+    }
+
+    // Whether the other two corners of the face at a corner are these, in either order.
+    fn has_others(&self, corner: u32, b: u32, c: u32) -> bool
+        requires { corner < side_count (net_at self.now) }
+        ensures { result ≡ has_two (net_at self.now) b c corner }
+    {
+        let (to, third) = (self.to(corner), self.third(corner));
+        (to == b && third == c) || (to == c && third == b)
+    }
+
+    // Whether some face has these three corners, in either order.
+    pub(crate) fn has_face(&self, a: u32, b: u32, c: u32) -> bool
+        requires { is_live_in self.now.surface a ≡ true }
+        ensures { IsTrue result ↔ HasFace (net_at self.now) a b c }
+    {
+        for corner in self.corners_at(a) {
+            if self.has_others(corner, b, c) {
+                return true;
+            }
+        }
+        false
+    }
+
+    // Whether w is the third corner of a face that holds both a and b.
+    pub(crate) fn is_third(&self, a: u32, b: u32, w: u32) -> bool
+        requires { is_live_in self.now.surface a ≡ true }
+        ensures { IsTrue result ↔ IsThird (net_at self.now) a b w }
+    {
+        self.has_face(a, b, w)
+    }
+
+    // Whether a side at the vertex has nothing across it.
+    pub(crate) fn is_on_border(&self, v: u32) -> bool
+        requires { is_live_in self.now.surface v ≡ true }
+        ensures { IsTrue result ↔ IsBorder (net_at self.now) v }
+    {
+        for corner in self.corners_at(v) {
+            if self.is_border_corner(corner) {
+                return true;
+            }
+        }
+        false
+    }
+}

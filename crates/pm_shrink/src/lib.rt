@@ -1,0 +1,17 @@
+//! The mesh that is being simplified: which pairs of vertices may be collapsed, and the collapse of one.
+#![tactic(auto)]
+
+mod collapse;
+mod fan;
+mod legal;
+#[cfg(test)]
+mod random;
+mod readers;
+mod setup;
+mod shrink;
+mod sides;
+mod tables;
+#[cfg(test)]
+mod tests;
+
+pub use shrink::{OutOfMemory, Shrink};

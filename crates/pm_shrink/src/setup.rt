@@ -1,0 +1,156 @@
+ghost use Rattle.std.specs.Prelude.{◌≡◌, ◌+◌, ◌-◌, ◌*◌, ◌<◌, ◌≤◌, ◌≢◌, ◌++◌, ◌↔◌, ℕ, [], ◌∷◌, Some, None, true, cond, length, map, replicate, slice_index_or, slice_set, IfOk};
+ghost use Rattle.pm_base.specs.Meshes.{mesh_of, IsFace, IsWellFormed};
+ghost use Rattle.pm_base.specs.Sides.{net_of};
+ghost use Rattle.pm_base.specs.Fans.{IsOrientedManifold};
+ghost use Rattle.pm_links.specs.Lists.{list_of, has, IsSound};
+ghost use Rattle.pm_quadric.specs.declared.quadric.TheConstants.{MOST_PLANES};
+ghost use Rattle.pm_quadric.specs.Sums.{plus_sums, sums_of, zero_sums};
+ghost use Rattle.pm_runs.specs.Surfaces.{surface_of};
+ghost use Rattle.pm_runs.specs.Planes.{planes_at, plane_of_face, has_corner};
+ghost use Rattle.pm_twins.specs.Table.{IsTableOf};
+ghost use Rattle.pm_shrink.specs.Shrinking.{quadric_at};
+ghost use Rattle.pm_shrink.specs.Tables.{side_from, mesh_with};
+
+use crate::shrink::OutOfMemory;
+use crate::{Shrink, sides};
+use pm_base::{Corners, Mesh, Point, Side};
+use pm_links::Links;
+use pm_quadric::Quadric;
+use pm_twins::Twins;
+use std::alloc::Global;
+
+impl Shrink {
+    /// The whole mesh, which is a well-formed oriented manifold, before the first collapse. All room for later vertices
+    /// is taken here. O(V + F) for V points and F faces.
+    pub fn new(alloc: Global, mesh: Mesh, twins: Twins) -> Result<Shrink, OutOfMemory>
+        requires formed { IsWellFormed (mesh_of mesh) }
+        requires manifold { IsOrientedManifold (net_of mesh.faces.items) }
+        requires twins { IsTableOf (net_of mesh.faces.items) (length mesh.points.items) twins }
+        ensures surface { IfOk result (λ s. s.surface ≡ surface_of (mesh_of mesh)) }
+        ensures quadrics { IfOk result (λ s. (v : ℕ) → v < length mesh.points.items
+            → quadric_at s v ≡ sums_of (planes_at (mesh_of mesh) v)) }
+    {
+        let triples = mesh.faces.as_slice();
+        let points = mesh.points.as_slice();
+        let room = points.len() + triples.len();
+        let faces = all_there(alloc, triples)?;
+        let places = places_with_room(alloc, points, room)?;
+        let quadrics = face_quadrics(alloc, points, triples, room)?;
+        let across = twins_of(alloc, &twins, 3 * triples.len())?;
+        let corners = corner_lists(alloc, &faces, room)?;
+        Ok(Shrink {
+            faces,
+            across,
+            corners,
+            places,
+            quadrics,
+            next: points.len() as u32,
+            left: triples.len() as u32,
+        })
+    }
+}
+
+fn all_there<T: Copy>(alloc: Global, items: &[T]) -> Result<Vec<Option<T>>, OutOfMemory>
+    ensures { IfOk result (λ all. all.items ≡ map Some items.now) }
+{
+    items.iter().map(|item| Some(*item)).collect(alloc)
+}
+
+// The places of the points, and none for each vertex that can come later.
+fn places_with_room(
+    alloc: Global,
+    points: &[Point],
+    room: usize,
+) -> Result<Vec<Option<Point>>, OutOfMemory>
+    requires { length points.now ≤ room }
+    ensures { IfOk result (λ places. places.items
+        ≡ map Some points.now ++ replicate (room - length points.now) None) }
+{
+    let mut places = all_there(alloc, points)?;
+    places.resize(room, None)?;
+    Ok(places)
+}
+
+// What stands across each side.
+fn twins_of(alloc: Global, twins: &Twins, sides: usize) -> Result<Vec<Option<u32>>, OutOfMemory>
+    requires few { sides ≤ 3145728 }
+    requires all { sides ≡ length twins.now.twins }
+    ensures { IfOk result (λ across. across.items ≡ twins.now.twins) }
+{
+    let mut across = Vec::with_capacity(alloc, sides)?;
+    for side in 0..sides {
+        across.push(twins.twin(Side(side as u32)).map(|twin| twin.0))?;
+    }
+    Ok(across)
+}
+
+// Each corner in the list of its vertex.
+fn corner_lists(alloc: Global, faces: &[Option<Corners>], room: usize) -> Result<Links, OutOfMemory>
+    requires few { length faces.now ≤ 1048576 }
+    requires room { room ≤ 2097152 }
+    requires within { (e : ℕ) → e < 3 * length faces.now → side_from faces.now e < room }
+    ensures items { IfOk result (λ lists. lists.items ≡ 3 * length faces.now) }
+    ensures heads { IfOk result (λ lists. length lists.lists ≡ room) }
+    ensures sound { IfOk result IsSound }
+    ensures each { IfOk result (λ lists. (v e : ℕ) → (has (list_of lists v) e ≡ true)
+        ↔ ((e < 3 * length faces.now) × (side_from faces.now e ≡ v))) }
+{
+    let sides = 3 * faces.len() as u32;
+    let mut lists = Links::new(alloc, sides, room as u32)?;
+    for side in 0..sides {
+        lists.push_front(sides::from(faces, side), side);
+    }
+    Ok(lists)
+}
+
+// The quadric of each point, and of no plane for each vertex that can come later.
+fn face_quadrics(
+    alloc: Global,
+    points: &[Point],
+    faces: &[Corners],
+    room: usize,
+) -> Result<Vec<Quadric>, OutOfMemory>
+    requires formed { IsWellFormed (mesh_with points.now faces.now) }
+    requires room { length points.now ≤ room }
+    ensures len { IfOk result (λ quadrics. length quadrics.items ≡ room) }
+    ensures each { IfOk result (λ quadrics. (v : ℕ) → v < room → slice_index_or quadrics.items v zero_sums
+        ≡ sums_of (planes_at (mesh_with points.now faces.now) v)) }
+{
+    let mut quadrics = vec![in alloc; Quadric::zero(); room]?;
+    for face in 0..faces.len() {
+        add_face(&mut quadrics, points, &faces[face]);
+    }
+    Ok(quadrics)
+}
+
+// Adds the plane of a face to the quadrics of its corners.
+fn add_face(quadrics: &mut Vec<Quadric>, points: &[Point], face: &Corners)
+    requires face { IsFace (length points.now) face.now }
+    requires room { length points.now ≤ length quadrics.old.items }
+    requires few { (v : ℕ) → (slice_index_or quadrics.old.items v zero_sums).count < MOST_PLANES }
+    ensures len { length quadrics.new.items ≡ length quadrics.old.items }
+    ensures each { (v : ℕ) → slice_index_or quadrics.new.items v zero_sums
+        ≡ cond (has_corner v face.now)
+        (plus_sums (slice_index_or quadrics.old.items v zero_sums)
+        (sums_of (plane_of_face (mesh_with points.now []) face.now ∷ [])))
+        (slice_index_or quadrics.old.items v zero_sums) }
+{
+    let quadric = Quadric::of_face(
+        points[face.a as usize],
+        points[face.b as usize],
+        points[face.c as usize],
+    );
+    add(quadrics, face.a, &quadric);
+    add(quadrics, face.b, &quadric);
+    add(quadrics, face.c, &quadric);
+}
+
+fn add(quadrics: &mut Vec<Quadric>, v: u32, quadric: &Quadric)
+    requires within { v < length quadrics.old.items }
+    requires few { (slice_index_or quadrics.old.items v zero_sums).count + quadric.now.count ≤ MOST_PLANES }
+    ensures { quadrics.new.items
+        ≡ slice_set quadrics.old.items v (plus_sums (slice_index_or quadrics.old.items v zero_sums) quadric.now) }
+{
+    let sum = quadrics[v as usize].plus(quadric);
+    quadrics[v as usize] = sum;
+}

@@ -1,0 +1,42 @@
+use pm_base::{Corners, Point};
+use pm_links::Links;
+use pm_quadric::Quadric;
+use std::alloc::AllocError;
+use std::marker::Model;
+
+/// The answer for want of memory.
+pub type OutOfMemory = AllocError;
+
+/// A mesh that is being simplified. Contracts see the faces that are still there, the places of the live vertices, and
+/// by vertex number the quadrics and the lists of corners.
+///
+/// Vertices are named by numbers, and each collapse makes the next one. Only `new` takes memory, some 300 bytes a face
+/// and 200 a point: there is room for as many later vertices as there are faces, since each collapse drops one at least.
+#[derive(Drop)]
+pub struct Shrink {
+    // The corners of each face; none where it was dropped.
+    pub(crate) faces: Vec<Option<Corners>>,
+    // What stands across each side of a face that is there.
+    pub(crate) across: Vec<Option<u32>>,
+    // Which corners are at each vertex, in faces that are there.
+    pub(crate) corners: Links,
+    // The place of each live vertex; none where it was merged into another, or isn't made yet.
+    pub(crate) places: Vec<Option<Point>>,
+    pub(crate) quadrics: Vec<Quadric>,
+    // The number of the next vertex.
+    pub(crate) next: u32,
+    // How many faces are there.
+    pub(crate) left: u32,
+}
+
+impl Model for Shrink {
+    ghost use Rattle.pm_shrink.specs.Shrinking.{Shrinking};
+    ghost use Rattle.pm_shrink.specs.Tables.{shrinking_with, IsShrink};
+
+    ghost Value = { Shrinking };
+
+    ghost view = { λ s. shrinking_with s.faces.items s.places.items s.next s.quadrics.items s.corners };
+
+    ghost invariant = { λ s. IsShrink s.faces.items s.places.items s.next s.left s.quadrics.items
+        s.across.items s.corners };
+}

@@ -1,0 +1,150 @@
+ghost use Rattle.std.specs.Prelude.{◌≡◌, ◌≤◌, length, IfOk};
+ghost use Rattle.pm_base.specs.Meshes.{mesh_of, IsWellFormed};
+
+use crate::Shrink;
+use pm_base::{Collapse, Corners, FaceId, Gone, Mesh, Point, Points, Side, Triples};
+use pm_twins::{Twins, check_fans};
+use std::alloc::Global;
+use std::test::Fail;
+
+pub(crate) type Place = (i32, i32, i32);
+
+pub(crate) type Triple = (u32, u32, u32);
+
+fn point(place: Place) -> Result<Point, Fail> {
+    match Point::new(place.0, place.1, place.2) {
+        Some(point) => Ok(point),
+        None => Err(Fail::new("this is no place")),
+    }
+}
+
+fn mesh(alloc: Global, places: &[Place], faces: &[Triple]) -> Result<Mesh, Fail>
+    requires few { length places.now ≤ 1048576 }
+    requires short { length faces.now ≤ 1048576 }
+    ensures formed { IfOk result (λ m. IsWellFormed (mesh_of m)) }
+{
+    let mut points = Points::new(alloc);
+    let mut triples = Triples::new(alloc);
+    for &place in places {
+        points.push(point(place)?)?;
+    }
+    let count = places.len() as u32;
+    for &(a, b, c) in faces {
+        if a >= count || b >= count || c >= count || a == b || b == c || c == a {
+            return Err(Fail::new("this is no face"));
+        }
+        triples.push(Corners { a, b, c })?;
+    }
+    Ok(Mesh {
+        points,
+        faces: triples,
+    })
+}
+
+pub(crate) fn shrink_of(alloc: Global, places: &[Place], faces: &[Triple]) -> Result<Shrink, Fail>
+    requires few { length places.now ≤ 1048576 }
+    requires short { length faces.now ≤ 1048576 }
+{
+    let mesh = mesh(alloc, places, faces)?;
+    let twins = Twins::of(alloc, &mesh)?;
+    check_fans(alloc, &mesh, &twins)?;
+    Ok(Shrink::new(alloc, mesh, twins)?)
+}
+
+// Collapses a pair if it is legal at the place.
+fn try_collapse(
+    shrink: &mut Shrink,
+    a: u32,
+    b: u32,
+    place: Point,
+) -> Result<Option<Collapse>, Fail> {
+    if !shrink.is_live(a) || !shrink.is_live(b) || a >= b {
+        return Err(Fail::new("this is no pair"));
+    }
+    if !shrink.pair_legal(a, b, place) {
+        return Ok(None);
+    }
+    Ok(Some(shrink.collapse(a, b, place)))
+}
+
+const OCTAHEDRON: [Place; 6] = [
+    (100, 0, 0),
+    (-100, 0, 0),
+    (0, 100, 0),
+    (0, -100, 0),
+    (0, 0, 100),
+    (0, 0, -100),
+];
+
+const OCTAHEDRON_FACES: [Triple; 8] = [
+    (0, 2, 4),
+    (2, 1, 4),
+    (1, 3, 4),
+    (3, 0, 4),
+    (2, 0, 5),
+    (1, 2, 5),
+    (3, 1, 5),
+    (0, 3, 5),
+];
+
+#[test]
+fn first_collapse_of_the_octahedron(rt: HostRuntime) -> Result<(), Fail> {
+    let mut shrink = shrink_of(rt.alloc(), &OCTAHEDRON, &OCTAHEDRON_FACES)?;
+    let middle = point((50, 50, 0))?;
+    assert_eq!(rt; try_collapse(&mut shrink, 0, 1, point((0, 0, 0))?)?, None);
+    let entry = Collapse {
+        t: 0,
+        u: 2,
+        s: 6,
+        place: middle,
+        left: Some(Gone {
+            face: FaceId(0),
+            first: Some(Side(5)),
+            second: Some(Side(10)),
+        }),
+        right: Some(Gone {
+            face: FaceId(4),
+            first: Some(Side(23)),
+            second: Some(Side(16)),
+        }),
+    };
+    assert_eq!(rt; try_collapse(&mut shrink, 0, 2, middle)?, Some(entry));
+    assert_eq!(rt; shrink.face_count(), 6);
+    assert_eq!(rt; shrink.next_vertex(), 7);
+    for vertex in 0..9 {
+        assert_eq!(rt; shrink.is_live(vertex), [1, 3, 4, 5, 6].contains(&vertex));
+    }
+    for vertex in [1, 3, 4, 5] {
+        if shrink.is_live(vertex) {
+            assert_eq!(rt; shrink.place(vertex), point(OCTAHEDRON[vertex as usize])?);
+        }
+    }
+    Ok(())
+}
+
+// Whether each pair of the first vertices is refused at the place of its smaller end.
+fn are_all_refused(shrink: &mut Shrink, places: &[Place]) -> Result<bool, Fail>
+    requires { length places.now ≤ 1048576 }
+{
+    for b in 0..places.len() {
+        for a in 0..b {
+            let place = point(places[a])?;
+            if try_collapse(shrink, a as u32, b as u32, place)?.is_some() {
+                return Ok(false);
+            }
+        }
+    }
+    Ok(true)
+}
+
+#[test]
+fn a_tetrahedron_and_a_triangle_are_left(rt: HostRuntime) -> Result<(), Fail> {
+    let corners = [(0, 0, 0), (10, 0, 0), (0, 10, 0), (0, 0, 10)];
+    let sides = [(0, 2, 1), (0, 1, 3), (1, 2, 3), (0, 3, 2)];
+    let mut tetrahedron = shrink_of(rt.alloc(), &corners, &sides)?;
+    assert!(rt; are_all_refused(&mut tetrahedron, &corners)?);
+    let points = [(0, 0, 0), (10, 0, 0), (0, 10, 0), (5, 5, 5)];
+    let mut triangle = shrink_of(rt.alloc(), &points, &[(0, 1, 2)])?;
+    assert!(rt; are_all_refused(&mut triangle, &points)?);
+    Ok(())
+}
