@@ -94,7 +94,7 @@ inputs_of-cut h k =
     ∙ ap (λ ns. root_inputs h.roots ++ ns) (flat_map-append child_inputs (take k h.records) (drop k h.records))
     ∙ sym (append_assoc (root_inputs h.roots) (flat_map child_inputs (take k h.records)) (flat_map child_inputs (drop k h.records)))
 
-input-cut : (h : Hierarchy) (k v : ℕ) → k ≤ record_count h → v < t_of h k → get_or (node_inputs (cut h k)) v 0 ≡ input_of_node h v
+pub input-cut : (h : Hierarchy) (k v : ℕ) → k ≤ record_count h → v < t_of h k → get_or (node_inputs (cut h k)) v 0 ≡ input_of_node h v
 unfolding input_of_node
 input-cut h k v l m =
     sym (ap (λ ns. get_or ns v 0) (inputs_of-cut h k)

@@ -14,16 +14,16 @@ use Rattle.pm_forest.proofs.Prefix.{cut, cut-more, record_count-cut, interval_of
 
 -- Record k with some of its faces, after those before it.
 module _ (h : Hierarchy) (nodes : HasForestShape h) (k : ℕ) (l : k < record_count h) (q : Record) (node : q.s ≡ s_of h k) (width : q.width ≡ (record_at h k).width) where
-  abbrev coming : Hierarchy
+  abbrev pub coming : Hierarchy
   coming = with_record (cut h k) q
 
-  coming_count : record_count coming ≡ suc k
+  pub coming_count : record_count coming ≡ suc k
   coming_count = omega (arith, record_count-with_record (cut h k) q, record_count-cut h k)
 
-  coming_s : s_of coming k ≡ s_of h k
+  pub coming_s : s_of coming k ≡ s_of h k
   coming_s = ap (s_of coming) (sym (record_count-cut h k (omega arith))) ∙ s_of-with_record_last (cut h k) q ∙ node
 
-  coming_interval : (v : ℕ) → v < t_of h (suc k) → interval_of coming v ≡ interval_of h v
+  pub coming_interval : (v : ℕ) → v < t_of h (suc k) → interval_of coming v ≡ interval_of h v
   unfolding s_of
   coming_interval v m =
       interval_of-same_split (cut h k) q (record_at h k) node width v
@@ -31,7 +31,7 @@ module _ (h : Hierarchy) (nodes : HasForestShape h) (k : ℕ) (l : k < record_co
       ∙ interval_of-cut h (suc k) v l
       ∙ sym (interval-kept h (suc k) (record_count h) v l m)
 
-  coming_first_face : first_face coming k ≡ first_face h k
+  pub coming_first_face : first_face coming k ≡ first_face h k
   coming_first_face = first_face-with_record (cut h k) q k (omega (arith, record_count-cut h k)) ∙ first_face-cut h k k (omega arith)
 
   pub coming_face_count : face_count coming ≡ first_face h k + one_if (is_some q.left) + one_if (is_some q.right)

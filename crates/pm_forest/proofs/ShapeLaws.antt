@@ -154,16 +154,16 @@ left_is_there : (h : Hierarchy) (k f : ℕ) → is_left h k f ≡ true →
 unfolding is_left
 left_is_there h k f e = let p = and_parts (is_some (record_at h k).left) (eqb f (first_face h k)) e in (p.0, eqb-true f (first_face h k) p.1)
 
-left_from : (h : Hierarchy) (k f : ℕ) → is_some (record_at h k).left ≡ true → f ≡ first_face h k →
+pub left_from : (h : Hierarchy) (k f : ℕ) → is_some (record_at h k).left ≡ true → f ≡ first_face h k →
     is_left h k f ≡ true
 unfolding is_left
 left_from h k f there is = and_from (is_some (record_at h k).left) (eqb f (first_face h k)) there (eq-eqb f (first_face h k) is)
 
-some_from : {A : Type 0} (o : Option A) → is_some o ≡ true → (x : A) × (o ≡ Some x)
+pub some_from : {A : Type 0} (o : Option A) → is_some o ≡ true → (x : A) × (o ≡ Some x)
 some_from None e = absurd cc
 some_from (Some x) e = (x, refl)
 
-left_corners : (h : Hierarchy) (f k : ℕ) (n : NewFace) → revealed_by h f ≡ Some k → is_left h k f ≡ true →
+pub left_corners : (h : Hierarchy) (f k : ℕ) (n : NewFace) → revealed_by h f ≡ Some k → is_left h k f ≡ true →
     (record_at h k).left ≡ Some n → corners_of h f ≡ n.face
 unfolding corners_of
 left_corners h f k n own left is =
@@ -171,7 +171,7 @@ left_corners h f k n own left is =
     ∙ ap (λ b. (cond b (unwrap_or (record_at h k).left no_face) (unwrap_or (record_at h k).right no_face)).face) left
     ∙ ap (λ o. (unwrap_or o no_face).face) is
 
-right_corners : (h : Hierarchy) (f k : ℕ) (n : NewFace) → revealed_by h f ≡ Some k → is_left h k f ≡ false →
+pub right_corners : (h : Hierarchy) (f k : ℕ) (n : NewFace) → revealed_by h f ≡ Some k → is_left h k f ≡ false →
     (record_at h k).right ≡ Some n → corners_of h f ≡ n.face
 unfolding corners_of
 right_corners h f k n own left is =
