@@ -1,0 +1,390 @@
+-- The tables of a run's numbers, one entry more at a time.
+use Rattle.std.proofs.Common.{suc, ◌≡◌, ◌≢◌, ℕ, ◌+◌, ◌-◌, ◌*◌, ◌<◌, ◌≤◌, eqb, Bool, true, false, List, [], ◌∷◌, length, sum, map, get_or, take, Option, None, Some, is_some, is_none, inl, inr, refl, sym, ap, ◌∙◌, subst, arith, get_or-set_same, get_or-set_other}
+use Rattle.std.proofs.Math.ListN.{set}
+use Rattle.std.proofs.lemmas.Bool.{cases_eq, cases_lt, eq-eqb, ne_eqb, cond-false, false≢true}
+use Rattle.std.proofs.lemmas.List.{length-set, length-map, get_or_read, get_or-map, take_more}
+use Rattle.std.proofs.lemmas.List.Sums.{sum_by-take-le, sum_by_push}
+use Rattle.pm_base.proofs.Search.{option_cases}
+use Rattle.pm_base.specs.Counts.{one_if}
+use Rattle.pm_base.specs.declared.log.Gone.{Gone}
+use Rattle.pm_base.specs.declared.log.Collapse.{Collapse}
+use Rattle.pm_forest.specs.Forest.{leaf_count, record_count}
+use Rattle.pm_forest.proofs.FaceNumbers.{first_face-mono}
+use Rattle.pm_number.specs.Stages.{Run, steps, entry, IsMerging}
+use Rattle.pm_number.specs.Numbering.{taken_by, dropped_by, place_in, sum_before, left_over, base_faces, step_of, width_after, width_number, node_number, start_after, leaf_number, faces_before, face_number, hierarchy_of}
+use Rattle.pm_number.specs.Tables.{IsSmallRun, all_vertices, HasNumbers, RootsHave, GoneHas, HasStarts, with_gone}
+use Rattle.pm_number.proofs.Positions.{sum-cons, at_place, picked-at}
+use Rattle.pm_number.proofs.RunLaws.{ends_given}
+use Rattle.pm_number.proofs.NodeNumbers.{stays_left, as_t, as_u, node_of, node-t, node-u, node-there, node-once, t_differs, count}
+use Rattle.pm_number.proofs.LeafNumbers.{is_at, width-kept, width-step, at_end, older, start-t, start-u, start-else, widths-are}
+use Rattle.pm_number.proofs.NumberedFaces.{none-number, gone-lt, is_base, is_left_of, is_right_of, face_is, left-number, right-number, first-face}
+use Rattle.pm_number.proofs.RunCounts.{leaf-number-count, face-count}
+use Rattle.pm_number.proofs.Fitting.{root_vertex}
+
+-- a write of the right number keeps right numbers, and makes one
+pub set_keeps : (table : List ℕ) (number : ℕ → ℕ) (w x v : ℕ) → x ≡ number w → get_or table v 0 ≡ number v → w < length table → get_or (set table w x) v 0 ≡ number v
+set_keeps table number w x v is has l =
+    elim (cases_eq v w) [
+      | inl here ↦ (rw here (get_or-set_same table w x 0 l ∙ is))
+      | inr other ↦ get_or-set_other table w v x 0 other ∙ has
+    ]
+
+pub set_makes : (table : List ℕ) (number : ℕ → ℕ) (w x : ℕ) → x ≡ number w → w < length table → get_or (set table w x) w 0 ≡ number w
+set_makes table number w x is l = get_or-set_same table w x 0 l ∙ is
+
+-- Widths
+
+pub widths_start : (r : Run) (table : List ℕ) (n : ℕ) → length table ≡ n → ((k : ℕ) → k < n → get_or table k 0 ≡ 1) → HasNumbers table (width_after r 0) n
+unfolding width_after
+widths_start r table n len each = record { len = len; each = each }
+
+pub widths_more : (r : Run) (table : List ℕ) (i n : ℕ) (c : Collapse) (a b : ℕ) → c ≡ entry r i → HasNumbers table (width_after r i) n →
+    c.t < n → c.u < n → c.s < n → a ≡ get_or table c.t a → b ≡ get_or table c.u b → HasNumbers (set table c.s (a + b)) (width_after r (i + 1)) n
+unfolding width_after
+widths_more r table i n c a b is has t u s a_is b_is =
+    let next : i + 1 ≡ suc i = omega arith in
+    let len = has.len in
+    let first : a ≡ width_after r i c.t = get_or_read table c.t a (omega arith) a_is 0 ∙ has.each c.t t in
+    let second : b ≡ width_after r i c.u = get_or_read table c.u b (omega arith) b_is 0 ∙ has.each c.u u in
+    let both : a + b ≡ width_after r i c.t + width_after r i c.u = omega arith in
+    record {
+      len = length-set table c.s (a + b) ∙ len;
+      each = λ v l. rw (next, ← is) (elim (cases_eq v c.s) [
+        | inl here ↦ (let inside : c.s < length table = omega arith in rw (eq-eqb v c.s here, here) (get_or-set_same table c.s (a + b) 0 inside ∙ both))
+        | inr other ↦ (rw (ne_eqb v c.s other) (get_or-set_other table c.s v (a + b) 0 other ∙ has.each v l))
+      ]);
+    }
+
+pub width-small : (r : Run) → IsMerging r → (v : ℕ) → v < all_vertices r → width_number r v ≤ r.vertices
+width-small r run v l = let a = (at_end r run v l).within_all in let n = leaf-number-count r run in omega arith
+
+-- the widths of two vertices that are merged, while they are summed up
+pub widths_small : (r : Run) (table : List ℕ) (i n : ℕ) (c : Collapse) (a b : ℕ) → IsSmallRun r → c ≡ entry r i → i < steps r → HasNumbers table (width_after r i) n → n ≡ all_vertices r →
+    a ≡ get_or table c.t a → b ≡ get_or table c.u b → a + b ≤ 1048576
+widths_small r table i n c a b small is l has n_is a_is b_is =
+    let run = small.merging in
+    let len = has.len in
+    let given = ends_given r run i l in
+    let t_lt : c.t < n = rw is (let p = given.0 in omega arith) in
+    let u_lt : c.u < n = rw is (let p = given.1 in omega arith) in
+    let first : a ≡ width_after r i c.t = get_or_read table c.t a (omega arith) a_is 0 ∙ has.each c.t t_lt in
+    let second : b ≡ width_after r i c.u = get_or_read table c.u b (omega arith) b_is 0 ∙ has.each c.u u_lt in
+    let t_all : width_number r (entry r i).t ≡ width_after r i (entry r i).t = width-kept r run i (steps r) (entry r i).t (omega arith) (omega arith) given.0 in
+    let u_all : width_number r (entry r i).u ≡ width_after r i (entry r i).u = width-kept r run i (steps r) (entry r i).u (omega arith) (omega arith) given.1 in
+    let t_is = ap (λ (x : Collapse). width_after r i x.t) is in
+    let u_is = ap (λ (x : Collapse). width_after r i x.u) is in
+    let whole = width-step r run i l in
+    let named = run.named i l in
+    let fits = width-small r run (entry r i).s (omega arith) in
+    let few = small.few_vertices in
+    omega arith
+
+-- Nodes
+
+pub left_inside : (r : Run) → IsMerging r → (j : ℕ) → j < length (left_over r) → get_or (left_over r) j 0 < all_vertices r
+left_inside r run j l = (root_vertex r run j l).0
+
+pub left_number : (r : Run) → IsMerging r → (j : ℕ) → j < length (left_over r) → node_number r (get_or (left_over r) j 0) ≡ j
+left_number r run j l = (root_vertex r run j l).1
+
+-- The nodes of the ends of collapse j.
+abbrev pub EndsHave : Run → List ℕ → ℕ → Type 0
+EndsHave r table j = (get_or table (entry r j).t 0 ≡ node_number r (entry r j).t) × (get_or table (entry r j).u 0 ≡ node_number r (entry r j).u)
+
+pub ends_more : (r : Run) → IsMerging r → (table : List ℕ) (i n node : ℕ) (c : Collapse) → c ≡ entry r i → i < steps r → length table ≡ n → n ≡ all_vertices r →
+    node ≡ length (left_over r) + 2 * (steps r - 1 - i) →
+    ((j : ℕ) → j < length (left_over r) → RootsHave table (node_number r) (left_over r) j) → ((j : ℕ) → j < i → EndsHave r table j) →
+    let after = set (set table c.t node) c.u (node + 1) in
+    (length after ≡ n) × ((j : ℕ) → j < length (left_over r) → RootsHave after (node_number r) (left_over r) j) × ((j : ℕ) → j < i + 1 → EndsHave r after j)
+ends_more r run table i n node c is l len n_is node_is roots ends =
+    let given = ends_given r run i l in
+    let t_number = node-t r run i l in
+    let u_number = node-u r run i l in
+    let back : steps r - 1 - i ≡ steps r - suc i = omega arith in
+    let t_is : node ≡ node_number r c.t = rw is (omega arith) in
+    let u_is : node + 1 ≡ node_number r c.u = rw is (omega arith) in
+    let middle = set table c.t node in
+    let middle_len = length-set table c.t node in
+    let t_lt : c.t < length table = rw is (let p = given.0 in omega arith) in
+    let u_lt : c.u < length middle = (let q : c.u < length table = rw is (let p = given.1 in omega arith) in omega arith) in
+    let keeps : (v : ℕ) → get_or table v 0 ≡ node_number r v → get_or (set middle c.u (node + 1)) v 0 ≡ node_number r v = λ v has.
+    set_keeps middle (node_number r) c.u (node + 1) v u_is (set_keeps table (node_number r) c.t node v t_is has t_lt) u_lt in (
+      length-set middle c.u (node + 1) ∙ middle_len ∙ len,
+      λ j m. keeps (get_or (left_over r) j 0) (roots j m),
+      λ j m. elim (cases_lt j i) [
+        | inl a ↦ (let old = ends j a in (keeps (entry r j).t old.0, keeps (entry r j).u old.1))
+        | inr a ↦
+            let j_is : j ≡ i = omega arith in
+            let first : get_or (set middle c.u (node + 1)) c.t 0 ≡ node_number r c.t = set_keeps middle (node_number r) c.u (node + 1) c.t u_is (set_makes table (node_number r) c.t node t_is t_lt) u_lt in
+            let second : get_or (set middle c.u (node + 1)) c.u 0 ≡ node_number r c.u = set_makes middle (node_number r) c.u (node + 1) u_is u_lt in
+            subst (λ k. EndsHave r (set middle c.u (node + 1)) k) (sym j_is)
+            (subst (λ (x : Collapse). (get_or (set middle c.u (node + 1)) x.t 0 ≡ node_number r x.t) × (get_or (set middle c.u (node + 1)) x.u 0 ≡ node_number r x.u)) is (first, second))
+      ],
+    )
+
+pub nodes_all : (r : Run) → IsMerging r → (table : List ℕ) → length table ≡ all_vertices r →
+    ((j : ℕ) → j < length (left_over r) → RootsHave table (node_number r) (left_over r) j) → ((j : ℕ) → j < steps r → EndsHave r table j) → HasNumbers table (node_number r) (all_vertices r)
+nodes_all r run table len roots ends = record {
+  len = len;
+  each = λ v l. elim (node_of r run v l) [
+    | stays_left free place is ↦ subst (λ w. get_or table w 0 ≡ node_number r w) (at_place v 0 (left_over r) place) (roots (place_in v (left_over r)) place)
+    | as_t i i_lt v_is is ↦ (rw v_is (ends i i_lt).0)
+    | as_u i i_lt v_is is ↦ (rw v_is (ends i i_lt).1)
+  ];
+}
+
+-- First leaves
+
+sum_before-at : (f : ℕ → ℕ) (v : ℕ) (xs : List ℕ) → place_in v xs < length xs → sum_before f v xs ≡ sum (take (place_in v xs) (map f xs))
+sum_before-at f v [] l = absurd (omega arith)
+sum_before-at f v (x ∷ xs) l =
+    elim (cases_eq v x) [
+      | inl is ↦ (rw (eq-eqb v x is) refl)
+      | inr other ↦
+          let place : place_in v (x ∷ xs) ≡ suc (place_in v xs) = cond-false (eqb v x) 0 (suc (place_in v xs)) (ne_eqb v x other) in
+          let more : sum_before f v (x ∷ xs) ≡ f x + sum_before f v xs = cond-false (eqb v x) 0 (f x + sum_before f v xs) (ne_eqb v x other) in
+          more ∙ ap (λ n. f x + n) (sum_before-at f v xs (omega arith)) ∙ sym (sum-cons (f x) (take (place_in v xs) (map f xs)))
+          ∙ sym (ap (λ n. sum (take n (f x ∷ map f xs))) place)
+    ]
+
+-- the first leaf of root j, where the widths of those before it are summed up
+start_root : (r : Run) → IsMerging r → (j : ℕ) → j < length (left_over r) →
+    start_after r 0 (get_or (left_over r) j 0) ≡ sum (take j (map (λ v. width_number r v) (left_over r)))
+unfolding start_after left_over
+start_root r run j l =
+    let v = get_or (left_over r) j 0 in
+    let place = (picked-at (λ v. is_none (taken_by r v)) 0 (r.vertices + steps r) j l).3 in
+    sum_before-at (width_number r) v (left_over r) (omega arith) ∙ ap (λ n. sum (take n (map (λ v. width_number r v) (left_over r)))) place
+
+-- the widths of the roots up to one
+abbrev pub width_sum : Run → ℕ → ℕ
+width_sum r j = sum (take j (map (λ v. width_number r v) (left_over r)))
+
+pub width_sum-next : (r : Run) (j : ℕ) → j < length (left_over r) → width_sum r (j + 1) ≡ width_sum r j + width_number r (get_or (left_over r) j 0)
+width_sum-next r j l =
+    let ws = map (λ v. width_number r v) (left_over r) in
+    let len = length-map (left_over r) (λ v. width_number r v) in
+    ap sum (take_more ws j 0 (omega arith)) ∙ sum_by_push (λ x. x) (take j ws) (get_or ws j 0)
+    ∙ ap (λ n. sum (take j ws) + n) (get_or-map (λ v. width_number r v) (left_over r) j 0 0 l)
+
+pub width_sum-le : (r : Run) → IsMerging r → (j : ℕ) → width_sum r j ≤ r.vertices
+width_sum-le r run j =
+    let ws = map (λ v. width_number r v) (left_over r) in
+    let part = sum_by-take-le (λ x. x) ws j in
+    let all = leaf-number-count r run in
+    let is : leaf_count (hierarchy_of r) ≡ sum ws = ap sum (widths-are r run) in
+    omega arith
+
+pub roots_more : (r : Run) → IsMerging r → (table : List ℕ) (j start : ℕ) → j < length (left_over r) → length table ≡ all_vertices r → start ≡ width_sum r j →
+    ((k : ℕ) → k < j → RootsHave table (start_after r 0) (left_over r) k) → let v = get_or (left_over r) j 0 in
+    (k : ℕ) → k < j + 1 → RootsHave (set table v start) (start_after r 0) (left_over r) k
+roots_more r run table j start l len is has k m =
+    let v = get_or (left_over r) j 0 in
+    let value : start ≡ start_after r 0 v = is ∙ sym (start_root r run j l) in
+    let inside : v < length table = (let a = left_inside r run j l in omega arith) in
+    elim (cases_lt k j) [
+      | inl a ↦ set_keeps table (start_after r 0) v start (get_or (left_over r) k 0) value (has k a) inside
+      | inr a ↦ (let k_is : k ≡ j = omega arith in subst (λ n. RootsHave (set table v start) (start_after r 0) (left_over r) n) (sym k_is) (set_makes table (start_after r 0) v start value inside))
+    ]
+
+pub roots_all : (r : Run) → IsMerging r → (table : List ℕ) → ((k : ℕ) → k < length (left_over r) → RootsHave table (start_after r 0) (left_over r) k) → HasStarts r table 0
+roots_all r run table has v l node =
+    elim (node_of r run v l) [
+      | stays_left free place is ↦ subst (λ w. get_or table w 0 ≡ start_after r 0 w) (at_place v 0 (left_over r) place) (has (place_in v (left_over r)) place)
+      | as_t i i_lt v_is is ↦ absurd (omega arith)
+      | as_u i i_lt v_is is ↦ absurd (omega arith)
+    ]
+
+-- one record more gives its children their first leaves
+pub starts_more : (r : Run) → IsMerging r → (table : List ℕ) (d : ℕ) (c : Collapse) (start width : ℕ) → c ≡ entry r (steps r - 1 - d) → d < steps r → length table ≡ all_vertices r →
+    HasStarts r table d → start ≡ get_or table c.s start → width ≡ width_number r c.t →
+    let after = set (set table c.t start) c.u (start + width) in (length after ≡ all_vertices r) × HasStarts r after (d + 1)
+starts_more r run table d c start width is l len has start_is width_is =
+    let i = steps r - suc d in
+    let i_lt : i < steps r = omega arith in
+    let same : steps r - 1 - d ≡ i = omega arith in
+    let c_is : c ≡ step_of r d = is ∙ ap (entry r) same in
+    let given = ends_given r run i i_lt in
+    let named = run.named i i_lt in
+    let s_lt : c.s < all_vertices r = rw c_is (omega arith) in
+    let s_node : node_number r c.s < length (left_over r) + 2 * d = rw c_is (let o = older r run i i_lt in omega arith) in
+    let t_lt : c.t < length table = rw c_is (let p = given.0 in omega arith) in
+    let u_lt : c.u < length table = rw c_is (let p = given.1 in omega arith) in
+    let value : start ≡ start_after r d c.s = get_or_read table c.s start (omega arith) start_is 0 ∙ has c.s s_lt s_node in
+    let middle = set table c.t start in
+    let middle_len = length-set table c.t start in
+    let next : d + 1 ≡ suc d = omega arith in
+    let differ : c.t ≢ c.u = rw c_is (t_differs r run i i_lt) in
+    let t_start : start ≡ start_after r (suc d) c.t = rw c_is (rw c_is at value ∙ sym (start-t r run d)) in
+    let u_start : start + width ≡ start_after r (suc d) c.u =
+    (let a = rw c_is at value in let b = rw c_is at width_is in let e = start-u r run d (t_differs r run i i_lt) in rw c_is (omega arith)) in
+    let t_node = node-t r run i i_lt in
+    let u_node = node-u r run i i_lt in (
+      length-set middle c.u (start + width) ∙ middle_len ∙ len,
+      λ v v_lt node. rw next (elim (cases_eq v c.u) [
+        | inl here ↦ (rw here (get_or-set_same middle c.u (start + width) 0 (omega arith) ∙ u_start))
+        | inr not_u ↦
+            get_or-set_other middle c.u v (start + width) 0 not_u
+            ∙ elim (cases_eq v c.t) [
+              | inl here ↦ (rw here (get_or-set_same table c.t start 0 t_lt ∙ t_start))
+              | inr not_t ↦
+                  let off_t : v ≢ (step_of r d).t = λ z. not_t (z ∙ ap (λ (x : Collapse). x.t) (sym c_is)) in
+                  let off_u : v ≢ (step_of r d).u = λ z. not_u (z ∙ ap (λ (x : Collapse). x.u) (sym c_is)) in
+                  let before : node_number r v < length (left_over r) + 2 * d = elim (cases_lt (node_number r v) (length (left_over r) + 2 * d)) [
+                    | inl a ↦ a
+                    | inr a ↦ elim (cases_eq (node_number r v) (length (left_over r) + 2 * d)) [
+                      | inl at ↦ (let once : v ≡ (step_of r d).t = node-once r run v (step_of r d).t v_lt (let p = given.0 in omega arith) (omega arith) in absurd (off_t once))
+                      | inr past ↦ (let once : v ≡ (step_of r d).u = node-once r run v (step_of r d).u v_lt (let p = given.1 in omega arith) (omega arith) in absurd (off_u once))
+                    ]
+                  ] in
+                  get_or-set_other table c.t v start 0 not_t ∙ has v v_lt before ∙ sym (start-else r run d v off_t off_u)
+            ]
+      ]),
+    )
+
+pub starts_all : (r : Run) → IsMerging r → (table : List ℕ) → length table ≡ all_vertices r → HasStarts r table (steps r) → HasNumbers table (leaf_number r) (all_vertices r)
+starts_all r run table len has = record { len = len; each = λ v l. has v l (node-there r run v l) }
+
+-- a first leaf and the width of the vertex are no more than there are vertices
+pub start-small : (r : Run) → IsSmallRun r → (table : List ℕ) (d : ℕ) (c : Collapse) (start width : ℕ) → c ≡ entry r (steps r - 1 - d) → d < steps r → length table ≡ all_vertices r →
+    HasStarts r table d → start ≡ get_or table c.s start → width ≡ width_number r c.t → start + width ≤ 1048576
+start-small r small table d c start width is l len has start_is width_is =
+    let run = small.merging in
+    let i = steps r - suc d in
+    let i_lt : i < steps r = omega arith in
+    let same : steps r - 1 - d ≡ i = omega arith in
+    let c_is : c ≡ step_of r d = is ∙ ap (entry r) same in
+    let named = run.named i i_lt in
+    let s_lt : c.s < all_vertices r = rw c_is (omega arith) in
+    let s_node : node_number r c.s < length (left_over r) + 2 * d = rw c_is (let o = older r run i i_lt in omega arith) in
+    let value : start ≡ start_after r d c.s = get_or_read table c.s start (omega arith) start_is 0 ∙ has c.s s_lt s_node in
+    let a = rw c_is at value in
+    let b = rw c_is at width_is in
+    let given = ends_given r run i i_lt in
+    let at_s = (is_at r run d (step_of r d).s (omega arith) (omega arith) (rw c_is at s_node)).within_all in
+    let both = width-step r run i i_lt in
+    let leaves = leaf-number-count r run in
+    let few = small.few_vertices in
+    omega arith
+
+-- Faces
+
+pub one_if-le : (b : Bool) → one_if b ≤ 1
+one_if-le true = omega arith
+one_if-le false = omega arith
+
+pub bases_inside : (r : Run) → IsMerging r → (j : ℕ) → j < length (base_faces r) → (get_or (base_faces r) j 0 < r.net.faces) × (face_number r (get_or (base_faces r) j 0) ≡ j)
+unfolding base_faces
+bases_inside r run j l =
+    let f = get_or (base_faces r) j 0 in
+    let (passes, low, high, place) = picked-at (λ f. is_none (dropped_by r f)) 0 r.net.faces j l in
+    let free : dropped_by r f ≡ None = elim (option_cases (dropped_by r f)) [ inl z ↦ z | inr (i, z) ↦ absurd (false≢true (sym (ap is_none z) ∙ passes)) ] in
+    (omega arith, none-number r run f free ∙ place)
+
+pub with_gone-len : (table : List ℕ) (g : Option Gone) (number : ℕ) → length (with_gone table g number) ≡ length table
+with_gone-len table None number = refl
+with_gone-len table (Some g) number = length-set table g.face.0 number
+
+-- the number of a dropped face is the right one
+abbrev pub GoneFits : (ℕ → ℕ) → Option Gone → ℕ → ℕ → Type 0
+GoneFits number None n faces = Unit {0}
+GoneFits number (Some g) n faces = (n ≡ number g.face.0) × (g.face.0 < faces)
+
+pub gone_keeps : (table : List ℕ) (number : ℕ → ℕ) (g : Option Gone) (n v : ℕ) → GoneFits number g n (length table) → get_or table v 0 ≡ number v → get_or (with_gone table g n) v 0 ≡ number v
+gone_keeps table number None n v fits has = has
+gone_keeps table number (Some g) n v fits has = set_keeps table number g.face.0 n v fits.0 has fits.1
+
+pub gone_has : (table : List ℕ) (number : ℕ → ℕ) (g : Option Gone) (n : ℕ) → GoneFits number g n (length table) → GoneHas (with_gone table g n) number g
+gone_has table number None n fits = tt
+gone_has table number (Some g) n fits = set_makes table number g.face.0 n fits.0 fits.1
+
+gone_stays : (table : List ℕ) (number : ℕ → ℕ) (g o : Option Gone) (n : ℕ) → GoneFits number g n (length table) → GoneHas table number o → GoneHas (with_gone table g n) number o
+gone_stays table number g None n fits has = tt
+gone_stays table number g (Some x) n fits has = gone_keeps table number g n x.face.0 fits has
+
+fits_from : (number : ℕ → ℕ) (g : Option Gone) (n faces : ℕ) → ((x : Gone) → g ≡ Some x → (number x.face.0 ≡ n) × (x.face.0 < faces)) → GoneFits number g n faces
+fits_from number None n faces each = tt
+fits_from number (Some x) n faces each = let p = each x refl in (sym p.0, p.1)
+
+-- The faces of the collapses that became the first records.
+abbrev pub RecordsHave : Run → List ℕ → ℕ → Type 0
+RecordsHave r table d = (j : ℕ) → j < d → GoneHas table (face_number r) (step_of r j).left × GoneHas table (face_number r) (step_of r j).right
+
+pub dropped_fit : (r : Run) → IsMerging r → (d : ℕ) → d < steps r → (n : ℕ) → n ≡ faces_before r d →
+    GoneFits (face_number r) (step_of r d).left n r.net.faces × GoneFits (face_number r) (step_of r d).right (n + one_if (is_some (step_of r d).left)) r.net.faces
+dropped_fit r run d l n is =
+    let i = steps r - suc d in
+    let i_lt : i < steps r = omega arith in
+    let back : steps r - suc i ≡ d = omega arith in
+    let logged = run.logged i i_lt in (
+      fits_from (face_number r) (step_of r d).left n r.net.faces (λ x x_is. (left-number r run i x i_lt x_is ∙ ap (faces_before r) back ∙ sym is, gone-lt r run i _ _ (entry r i).left x logged.left x_is)),
+      fits_from (face_number r) (step_of r d).right (n + one_if (is_some (step_of r d).left)) r.net.faces (λ x x_is.
+          (right-number r run i x i_lt x_is ∙ ap (λ k. faces_before r k + one_if (is_some (entry r i).left)) back ∙ ap (λ k. k + one_if (is_some (entry r i).left)) (sym is), gone-lt r run i _ _ (entry r i).right x logged.right x_is)),
+    )
+
+pub faces_next : (r : Run) (d : ℕ) → faces_before r (d + 1) ≡ faces_before r d + one_if (is_some (step_of r d).left) + one_if (is_some (step_of r d).right)
+unfolding faces_before
+faces_next r d = let next : d + 1 ≡ suc d = omega arith in rw next refl
+
+pub faces_before-le : (r : Run) → IsMerging r → (d : ℕ) → d ≤ steps r → faces_before r d ≤ r.net.faces
+faces_before-le r run d l =
+    let h = hierarchy_of r in
+    let is = first-face r run d l in
+    let all = count r in
+    let top = first_face-mono h d (record_count h) (omega arith) in
+    let faces = face-count r run in
+    omega arith
+
+pub faces_start : (r : Run) → faces_before r 0 ≡ length (base_faces r)
+unfolding faces_before
+faces_start r = refl
+
+pub dropped_more : (r : Run) → IsMerging r → (table : List ℕ) (d n : ℕ) (c : Collapse) → c ≡ entry r (steps r - 1 - d) → d < steps r → length table ≡ r.net.faces → n ≡ faces_before r d →
+    ((j : ℕ) → j < length (base_faces r) → RootsHave table (face_number r) (base_faces r) j) → RecordsHave r table d →
+    let after = with_gone (with_gone table c.left n) c.right (n + one_if (is_some c.left)) in
+    (length after ≡ r.net.faces) × (n + one_if (is_some c.left) + one_if (is_some c.right) ≡ faces_before r (d + 1)) × ((j : ℕ) → j < length (base_faces r) → RootsHave after (face_number r) (base_faces r) j) × RecordsHave r after (d + 1)
+dropped_more r run table d n c is l len n_is bases records =
+    let same : steps r - 1 - d ≡ steps r - suc d = omega arith in
+    let c_is : c ≡ step_of r d = is ∙ ap (entry r) same in
+    let m = n + one_if (is_some c.left) in
+    let fits : GoneFits (face_number r) c.left n r.net.faces × GoneFits (face_number r) c.right (n + one_if (is_some c.left)) r.net.faces =
+    subst (λ (x : Collapse). GoneFits (face_number r) x.left n r.net.faces × GoneFits (face_number r) x.right (n + one_if (is_some x.left)) r.net.faces) (sym c_is) (dropped_fit r run d l n n_is) in
+    let middle = with_gone table c.left n in
+    let middle_len = with_gone-len table c.left n in
+    let first : GoneFits (face_number r) c.left n (length table) = rw len fits.0 in
+    let second : GoneFits (face_number r) c.right m (length middle) = rw (middle_len, len) fits.1 in
+    let keeps : (v : ℕ) → get_or table v 0 ≡ face_number r v → get_or (with_gone middle c.right m) v 0 ≡ face_number r v = λ v has.
+    gone_keeps middle (face_number r) c.right m v second (gone_keeps table (face_number r) c.left n v first has) in
+    let stays : (o : Option Gone) → GoneHas table (face_number r) o → GoneHas (with_gone middle c.right m) (face_number r) o = λ o has.
+    gone_stays middle (face_number r) c.right o m second (gone_stays table (face_number r) c.left o n first has) in
+    let own : GoneHas (with_gone middle c.right m) (face_number r) c.left × GoneHas (with_gone middle c.right m) (face_number r) c.right =
+    (gone_stays middle (face_number r) c.right c.left m second (gone_has table (face_number r) c.left n first), gone_has middle (face_number r) c.right m second) in (
+      with_gone-len middle c.right m ∙ middle_len ∙ len,
+      rw c_is (ap (λ k. k + one_if (is_some (step_of r d).left) + one_if (is_some (step_of r d).right)) n_is ∙ sym (faces_next r d)),
+      λ j b. keeps (get_or (base_faces r) j 0) (bases j b),
+      λ j j_lt. elim (cases_lt j d) [
+        | inl a ↦ (let old = records j a in (stays (step_of r j).left old.0, stays (step_of r j).right old.1))
+        | inr a ↦
+            let j_is : j ≡ d = omega arith in
+            subst (λ k. GoneHas (with_gone middle c.right m) (face_number r) (step_of r k).left × GoneHas (with_gone middle c.right m) (face_number r) (step_of r k).right) (sym j_is)
+            (subst (λ (x : Collapse). GoneHas (with_gone middle c.right m) (face_number r) x.left × GoneHas (with_gone middle c.right m) (face_number r) x.right) c_is own)
+      ],
+    )
+
+gone_read : (table : List ℕ) (number : ℕ → ℕ) (g : Option Gone) (x : Gone) → g ≡ Some x → GoneHas table number g → get_or table x.face.0 0 ≡ number x.face.0
+gone_read table number g x is has = subst (GoneHas table number) is has
+
+pub faces_all : (r : Run) → IsMerging r → (table : List ℕ) → length table ≡ r.net.faces →
+    ((j : ℕ) → j < length (base_faces r) → RootsHave table (face_number r) (base_faces r) j) → RecordsHave r table (steps r) → HasNumbers table (face_number r) r.net.faces
+faces_all r run table len bases records = record {
+  len = len;
+  each = λ f l. elim (face_is r run f l) [
+    | is_base place is ↦ subst (λ w. get_or table w 0 ≡ face_number r w) (at_place f 0 (base_faces r) place) (bases (place_in f (base_faces r)) place)
+    | is_left_of i g i_lt g_is on is ↦
+        let back : steps r - suc (steps r - suc i) ≡ i = omega arith in
+        rw (← on) (gone_read table (face_number r) (step_of r (steps r - suc i)).left g (ap (λ k. (entry r k).left) back ∙ g_is) (records (steps r - suc i) (omega arith)).0)
+    | is_right_of i g i_lt g_is on is ↦
+        let back : steps r - suc (steps r - suc i) ≡ i = omega arith in
+        rw (← on) (gone_read table (face_number r) (step_of r (steps r - suc i)).right g (ap (λ k. (entry r k).right) back ∙ g_is) (records (steps r - suc i) (omega arith)).1)
+  ];
+}

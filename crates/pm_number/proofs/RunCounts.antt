@@ -1,0 +1,72 @@
+-- Numberings that are one to one keep counts.
+use Rattle.std.proofs.Common.{zero, suc, ◌≡◌, ℕ, ◌+◌, ◌*◌, ◌<◌, eqb, true, List, [], ◌∷◌, length, inl, inr, refl, sym, ap, ◌∙◌, subst, arith}
+use Rattle.std.specs.List.{IsDistinct, list_any}
+use Rattle.std.proofs.lemmas.Bool.{eqb-true, eq-eqb, false≢true, or_cases, or_left, or_right, cases_eq}
+use Rattle.std.proofs.lemmas.Map.Steps.{length-le_from_distinct_below, le-length_from_below}
+use Rattle.pm_forest.proofs.OneToOne.{distinct_more, distinct_nil}
+use Rattle.pm_forest.specs.Faces.{face_count}
+use Rattle.pm_forest.specs.Forest.{leaf_count}
+use Rattle.pm_forest.specs.Fronts.{ancestor_of, below}
+use Rattle.pm_number.proofs.NodeNumbers.{node-once, node-there, node-back}
+use Rattle.pm_number.proofs.Stages.{leaf-node}
+use Rattle.pm_number.proofs.Whole.{numbered}
+use Rattle.pm_number.specs.Numbering.{left_over, node_number, leaf_number, face_number, hierarchy_of}
+use Rattle.pm_number.specs.Stages.{Run, steps, IsMerging}
+
+abbrev images : (ℕ → ℕ) → ℕ → List ℕ
+images f zero = []
+images f (suc n) = f n ∷ images f n
+
+length-images : (f : ℕ → ℕ) (n : ℕ) → length (images f n) ≡ n
+length-images f zero = refl
+length-images f (suc n) = ap suc (length-images f n)
+
+images-parts : (f : ℕ → ℕ) (n q : ℕ) → list_any (eqb q) (images f n) ≡ true → (x : ℕ) × (x < n) × (q ≡ f x)
+images-parts f zero q e = absurd (false≢true e)
+images-parts f (suc n) q e =
+    elim (or_cases (eqb q (f n)) (list_any (eqb q) (images f n)) e) [
+      | inl a ↦ (n, omega arith, eqb-true q (f n) a)
+      | inr a ↦ (let (x, l, is) = images-parts f n q a in (x, omega arith, is))
+    ]
+
+images-has : (f : ℕ → ℕ) (n x : ℕ) → x < n → list_any (eqb (f x)) (images f n) ≡ true
+images-has f zero x l = absurd (omega arith)
+images-has f (suc n) x l =
+    elim (cases_eq x n) [
+      | inl is ↦ or_left (eqb (f x) (f n)) _ (eq-eqb (f x) (f n) (ap f is))
+      | inr other ↦ or_right (eqb (f x) (f n)) _ (images-has f n x (omega arith))
+    ]
+
+images-distinct : (f : ℕ → ℕ) (n : ℕ) → ((x y : ℕ) → x < n → y < n → f x ≡ f y → x ≡ y) → IsDistinct eqb (images f n)
+images-distinct f zero once = distinct_nil
+images-distinct f (suc n) once =
+    distinct_more (f n) (images f n) (images-distinct f n (λ x y l m e. once x y (omega arith) (omega arith) e)) (λ e.
+    let (x, l, is) = images-parts f n (f n) e in
+    let same = once n x (omega arith) (omega arith) is in
+    omega arith)
+
+pub same_count : (f : ℕ → ℕ) (a b : ℕ) → ((x y : ℕ) → x < a → y < a → f x ≡ f y → x ≡ y) → ((x : ℕ) → x < a → f x < b) → ((y : ℕ) → y < b → (x : ℕ) × (x < a) × (f x ≡ y)) → a ≡ b
+same_count f a b once there back =
+    let up = length-le_from_distinct_below (images f a) b (images-distinct f a once) (λ q e. let (x, l, is) = images-parts f a q e in subst (λ n. n < b) (sym is) (there x l)) in
+    let down = le-length_from_below (images f a) b (λ q l. let (x, m, is) = back q l in subst (λ n. list_any (eqb n) (images f a) ≡ true) is (images-has f a x m)) in
+    let n = length-images f a in
+    omega arith
+
+module _ (r : Run) (run : IsMerging r) where
+  pub node-count : r.vertices ≡ length (left_over r) + steps r
+  node-count =
+      let n = same_count (node_number r) (r.vertices + steps r) (length (left_over r) + 2 * steps r) (node-once r run) (node-there r run) (node-back r run) in
+      omega arith
+
+  pub face-count : r.net.faces ≡ face_count (hierarchy_of r)
+  face-count = let num = numbered r run in same_count (face_number r) r.net.faces (face_count (hierarchy_of r)) num.face_once num.face_there num.face_back
+
+  leaf-once : (x y : ℕ) → x < r.vertices → y < r.vertices → leaf_number r x ≡ leaf_number r y → x ≡ y
+  leaf-once x y l m e =
+      let num = numbered r run in
+      let h = hierarchy_of r in
+      num.node_once x y (omega arith) (omega arith)
+      (sym (leaf-node r h _ _ _ run num x (steps r) refl l) ∙ ap (ancestor_of h (below (steps r))) e ∙ leaf-node r h _ _ _ run num y (steps r) refl m)
+
+  pub leaf-number-count : r.vertices ≡ leaf_count (hierarchy_of r)
+  leaf-number-count = let num = numbered r run in same_count (leaf_number r) r.vertices (leaf_count (hierarchy_of r)) leaf-once num.leaf_there num.leaf_back

@@ -1,0 +1,23 @@
+use Rattle.std.proofs.Common.{◌≡◌, ◌∙◌, ◌∷◌, ◌++◌, [], not, true, false, ap, sym}
+use Rattle.std.proofs.lemmas.Bool.{cond-true, cond-false}
+use Rattle.std.proofs.lemmas.List.{append-nil}
+use Rattle.pm_number.specs.Numbering.{picked}
+use Rattle.pm_number.specs.Tables.{is_unset}
+use Rattle.pm_number.proofs.LeftLaws.{picked_more}
+use Rattle.pm_number.proofs.left.unflagged.Goals as goal
+use Rattle.pm_number.proofs.left.unflagged.Goals.{then-not-flags-k+in_ok-push, else-not-flags-k}
+
+pub loop-k-preserved : goal.loop-k-preserved
+loop-k-preserved c =
+    let k = c.loop-k.k in
+    let test = is_unset c.args.flags.now in
+    elim c.if-not-flags-k.branch [
+      | then-not-flags-k+in_ok-push w ↦
+          let passes : test k ≡ true = ap not w.if-not-flags-k.true in
+          ap (λ v. v.items) w.numbers-is ∙ w.in_ok-push.ensures.items ∙ ap (λ xs. xs ++ k ∷ []) c.loop-k.invariant
+          ∙ sym (picked_more test k ∙ ap (λ xs. picked test 0 k ++ xs) (cond-true (test k) (k ∷ []) [] passes))
+      | else-not-flags-k w ↦
+          let fails : test k ≡ false = ap not w.if-not-flags-k.false in
+          ap (λ v. v.items) w.numbers-is ∙ c.loop-k.invariant
+          ∙ sym (picked_more test k ∙ ap (λ xs. picked test 0 k ++ xs) (cond-false (test k) (k ∷ []) [] fails) ∙ append-nil (picked test 0 k))
+    ]

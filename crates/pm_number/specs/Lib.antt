@@ -1,0 +1,5 @@
+pub mod Stages
+pub mod Numbering
+pub mod Shown
+pub mod Tables
+pub mod Laws

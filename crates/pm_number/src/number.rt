@@ -1,0 +1,44 @@
+ghost use Rattle.std.specs.Prelude.{◌≡◌, IfOk};
+ghost use Rattle.pm_base.specs.Meshes.{mesh_of};
+ghost use Rattle.pm_forest.specs.Meshes.{input_mesh_of};
+ghost use Rattle.pm_runs.specs.Runs.{IsStart, IsRun};
+ghost use Rattle.pm_beyond.specs.Valid.{IsValid};
+ghost use Rattle.pm_number.specs.Numbering.{hierarchy_of_run};
+
+use crate::OutOfMemory;
+use crate::feed::{add_bases, add_records, add_roots};
+use crate::tables::number_run;
+use pm_base::{Log, Mesh};
+use pm_forest::{Hierarchy, Shape, Shaper};
+use std::alloc::Global;
+
+/// The hierarchy of the run that the log tells of the mesh. It is valid, and its input mesh is the mesh. It takes linear
+/// time and memory.
+pub fn from_log(alloc: Global, mesh: &Mesh, log: &Log) -> Result<Hierarchy, OutOfMemory>
+    requires start { IsStart (mesh_of mesh.now) }
+    requires run { IsRun (mesh_of mesh.now) log.now.items }
+    ensures hierarchy { IfOk result (λ h. h ≡ hierarchy_of_run (mesh_of mesh.now) log.now.items) }
+    ensures valid { IfOk result IsValid }
+    ensures mesh { IfOk result (λ h. input_mesh_of h ≡ mesh_of mesh.now) }
+{
+    let log = log.as_slice();
+    let numbers = number_run(alloc, mesh, log)?;
+    let leaves = mesh.points.len() as u32;
+    let roots = numbers.left.len() as u32;
+    let bases = numbers.bases.len() as u32;
+    // The counts, the units and the input numbers are those of a hierarchy of the right shape, so no call is refused but
+    // for want of memory.
+    let mut shaper = match Shaper::new(alloc, leaves, roots, bases, log.len() as u32) {
+        Ok(shaper) => shaper,
+        Err(Shape::BadCount) => unreachable!(),
+        Err(_) => return Err(std::alloc::AllocError),
+    };
+    add_roots(&mut shaper, mesh, log, &numbers);
+    add_bases(&mut shaper, mesh, log, &numbers);
+    add_records(&mut shaper, mesh, log, &numbers);
+    let Ok(hierarchy) = shaper.done() else {
+        unreachable!()
+    };
+    hierarchy.has_shape();
+    Ok(hierarchy)
+}

@@ -1,0 +1,9 @@
+ghost use Rattle.pm_number.specs.Laws.{HierarchiesHaveShape, HierarchiesKeepMeshes, SurfacesAreShown, HierarchiesOfRunsAreValid};
+
+/// The laws of the hierarchy of a run, which takes no step.
+pub fn numbers_are_sound()
+    ensures shape { HierarchiesHaveShape }
+    ensures mesh { HierarchiesKeepMeshes }
+    ensures shown { SurfacesAreShown }
+    ensures valid { HierarchiesOfRunsAreValid }
+{}
