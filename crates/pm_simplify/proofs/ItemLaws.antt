@@ -1,0 +1,127 @@
+-- The number of an edge: both of its sides have the same one, and it is that of one of them.
+use Rattle.std.proofs.Common.{◌≡◌, ℕ, ◌<◌, ltb, Option, Some, None, ◌⊎◌, inl, inr, refl, sym, ap, ◌∙◌, subst, arith}
+use Rattle.std.proofs.lemmas.Bool.{cases_Bool, cond-true, cond-false, ltb-true, ltb-false}
+use Rattle.pm_base.specs.Sides.{Net, next, prev, to, Stands, NoSideTwice, IsTwin, twin_of}
+use Rattle.pm_base.proofs.Search.{option_cases}
+use Rattle.pm_base.proofs.Sides.{next-next-next, stands_next}
+use Rattle.pm_base.proofs.TwinLaws.{twin-is, twin-twin}
+use Rattle.pm_runs.specs.Pairs.{Runs, Links}
+use Rattle.pm_runs.proofs.Sides.{across-twin}
+use Rattle.pm_simplify.specs.Items.{lesser, item_of, IsSideAt}
+
+module _ (m : Net) where
+  pub item_by : (e : ℕ) (r : Option ℕ) → twin_of m e ≡ r → item_of m e ≡ lesser e r
+  unfolding item_of
+  item_by e r t = ap (lesser e) t
+
+  pub item_cases : (e : ℕ) → (item_of m e ≡ e) ⊎ ((g : ℕ) × (twin_of m e ≡ Some g) × (item_of m e ≡ g))
+  item_cases e =
+      elim (option_cases (twin_of m e)) [
+        | inl n ↦ inl (item_by e None n)
+        | inr (g, t) ↦
+            elim (cases_Bool (ltb g e)) [
+              | inl a ↦ inr (g, t, item_by e (Some g) t ∙ cond-true _ _ _ a)
+              | inr a ↦ inl (item_by e (Some g) t ∙ cond-false _ _ _ a)
+            ]
+      ]
+
+  pub twin_back : NoSideTwice m → (e g : ℕ) → Stands m e → twin_of m e ≡ Some g → twin_of m g ≡ Some e
+  twin_back once e g st t = across-twin m once g (Some e) (twin-twin m e g st (twin-is m e g t))
+
+  lesser_turned : (e g : ℕ) → lesser g (Some e) ≡ lesser e (Some g)
+  lesser_turned e g =
+      elim (cases_Bool (ltb g e)) [
+        | inl a ↦
+            elim (cases_Bool (ltb e g)) [
+              | inl b ↦ absurd (let x = ltb-true g e a in let y = ltb-true e g b in omega arith)
+              | inr b ↦ cond-false _ _ _ b ∙ sym (cond-true _ _ _ a)
+            ]
+        | inr a ↦
+            elim (cases_Bool (ltb e g)) [
+              | inl b ↦ cond-true _ _ _ b ∙ sym (cond-false _ _ _ a)
+              | inr b ↦ cond-false _ _ _ b ∙ (let x = ltb-false g e a in let y = ltb-false e g b in omega arith) ∙ sym (cond-false _ _ _ a)
+            ]
+      ]
+
+  pub item_twin : NoSideTwice m → (e g : ℕ) → Stands m e → twin_of m e ≡ Some g → item_of m g ≡ item_of m e
+  item_twin once e g st t = item_by g (Some e) (twin_back once e g st t) ∙ lesser_turned e g ∙ sym (item_by e (Some g) t)
+
+  pub item_item : NoSideTwice m → (e : ℕ) → Stands m e → item_of m (item_of m e) ≡ item_of m e
+  item_item once e st =
+      elim (item_cases e) [
+        | inl is ↦ ap (item_of m) is
+        | inr (g, t, is) ↦ ap (item_of m) is ∙ item_twin once e g st t
+      ]
+
+  pub item_stands : (e : ℕ) → Stands m e → Stands m (item_of m e)
+  item_stands e st =
+      elim (item_cases e) [
+        | inl is ↦ subst (Stands m) (sym is) st
+        | inr (g, t, is) ↦ subst (Stands m) (sym is) (twin-is m e g t).stands
+      ]
+
+  twin_runs : (e g p q : ℕ) → IsTwin m e g → Runs m e p q → Runs m g q p
+  twin_runs e g p q t r = record { stands = t.stands; begins = t.begins ∙ r.ends; ends = t.ends ∙ r.begins }
+
+  twin_links : (e g a b : ℕ) → IsTwin m e g → Links m e a b → Links m g a b
+  twin_links e g a b t l = elim l [ inl r ↦ inr (twin_runs e g a b t r) | inr r ↦ inl (twin_runs e g b a t r) ]
+
+  pub links_item : (e a b : ℕ) → Links m e a b → Links m (item_of m e) a b
+  links_item e a b l =
+      elim (item_cases e) [
+        | inl is ↦ subst (λ i. Links m i a b) (sym is) l
+        | inr (g, t, is) ↦ subst (λ i. Links m i a b) (sym is) (twin_links e g a b (twin-is m e g t) l)
+      ]
+
+  pub item_links : (e a b : ℕ) → Stands m e → Links m (item_of m e) a b → Links m e a b
+  item_links e a b st l =
+      elim (item_cases e) [
+        | inl is ↦ subst (λ i. Links m i a b) is l
+        | inr (g, t, is) ↦ twin_links g e a b (twin-twin m e g st (twin-is m e g t)) (subst (λ i. Links m i a b) is l)
+      ]
+
+  pub link_stands : (e a b : ℕ) → Links m e a b → Stands m e
+  link_stands e a b l = elim l [ inl r ↦ r.stands | inr r ↦ r.stands ]
+
+  pub link_first : (e a b : ℕ) → Links m e a b → IsSideAt m a e
+  link_first e a b l = elim l [ inl r ↦ record { stands = r.stands; ends = inl r.begins } | inr r ↦ record { stands = r.stands; ends = inr r.ends } ]
+
+  pub link_second : (e a b : ℕ) → Links m e a b → IsSideAt m b e
+  link_second e a b l = elim l [ inl r ↦ record { stands = r.stands; ends = inr r.ends } | inr r ↦ record { stands = r.stands; ends = inl r.begins } ]
+
+  pub own_runs : (e : ℕ) → Stands m e → Runs m e (m.from e) (to m e)
+  own_runs e st = record { stands = st; begins = refl; ends = refl }
+
+  -- The two ends of a side, the lesser one first, are these.
+  pub same_ends : (e a b c d : ℕ) → Links m e a b → Links m e c d → a < b → c < d → (a ≡ c) × (b ≡ d)
+  same_ends e a b c d l k x y =
+      elim l [
+        | inl r ↦
+            elim k [
+              | inl s ↦ (sym r.begins ∙ s.begins, sym r.ends ∙ s.ends)
+              | inr s ↦ absurd (let i : a ≡ d = sym r.begins ∙ s.begins in let j : b ≡ c = sym r.ends ∙ s.ends in omega arith)
+            ]
+        | inr r ↦
+            elim k [
+              | inl s ↦ absurd (let i : b ≡ c = sym r.begins ∙ s.begins in let j : a ≡ d = sym r.ends ∙ s.ends in omega arith)
+              | inr s ↦ (sym r.ends ∙ s.ends, sym r.begins ∙ s.begins)
+            ]
+      ]
+
+  -- A side at a vertex runs from it, or the next side in the face does.
+  pub side_corner : (v e : ℕ) → IsSideAt m v e → (Stands m e × (m.from e ≡ v)) ⊎ (Stands m (next e) × (m.from (next e) ≡ v) × (prev (next e) ≡ e))
+  side_corner v e at = elim at.ends [ inl is ↦ inl (at.stands, is) | inr is ↦ inr (stands_next m e at.stands, is, next-next-next e) ]
+
+  -- Its twin runs from the vertex to which it runs.
+  pub twin_corner : (e g : ℕ) → twin_of m e ≡ Some g → Stands m g × (m.from g ≡ to m e) × (to m g ≡ m.from e)
+  twin_corner e g t = let w = twin-is m e g t in (w.stands, w.begins, w.ends)
+
+  pub item_at : (v e : ℕ) → IsSideAt m v e → IsSideAt m v (item_of m e)
+  item_at v e at =
+      elim (item_cases e) [
+        | inl is ↦ subst (IsSideAt m v) (sym is) at
+        | inr (g, t, is) ↦
+            let w = twin-is m e g t in
+            let back : IsSideAt m v g = record { stands = w.stands; ends = elim at.ends [ inl x ↦ inr (w.ends ∙ x) | inr x ↦ inl (w.begins ∙ x) ] } in
+            subst (IsSideAt m v) (sym is) back
+      ]

@@ -1,0 +1,10 @@
+pub mod ItemLaws
+pub mod PairLaws
+pub mod Weighing
+pub mod Choosing
+pub mod Walking
+pub mod AroundLaws
+pub mod Renewing
+pub mod Stepping
+pub mod Starting
+pub mod Running

@@ -1,0 +1,20 @@
+use Rattle.std.proofs.Common.{◌≡◌, List, true, length}
+use Rattle.std.specs.Option.{IfSome}
+use Rattle.pm_base.specs.declared.log.Collapse.{Collapse}
+use Rattle.pm_base.specs.Meshes.{Mesh}
+use Rattle.pm_links.specs.Lists.{has}
+use Rattle.pm_shrink.specs.Shrinking.{fan_at}
+use Rattle.pm_simplify.specs.Choices.{IsAfter, StaysRight}
+use Rattle.pm_simplify.specs.Walks.{still, IsWalk, IsRightBeyond}
+use Rattle.pm_simplify.proofs.around.renew_around.Given as goal
+
+abbrev pub invariant-loop-at : goal.invariant-loop-at
+invariant-loop-at l = record {
+  room : length l.queue ≡ length l.fn.queue;
+  held : IfSome l.at (λ c. has (fan_at l.shrink l.v) c.0 ≡ true);
+  walk : (m : Mesh) (log : List Collapse) → IsAfter m log l.shrink → IsWalk (fan_at l.shrink l.v) (IsRightBeyond m log l.queue) l.at;
+  stays : (m : Mesh) (log : List Collapse) → IsAfter m log l.shrink → StaysRight m log l.fn.queue l.queue;
+}
+
+abbrev pub decreases-loop-at : goal.decreases-loop-at
+decreases-loop-at l = length (still l.at (fan_at l.shrink l.v))

@@ -1,0 +1,4 @@
+pub mod Items
+pub mod Choices
+pub mod Walks
+pub mod Faults

@@ -1,0 +1,73 @@
+ghost use Rattle.std.specs.Prelude.{◌≡◌, length, OnOk, IfOk, IfErr};
+ghost use Rattle.pm_base.specs.Meshes.{mesh_of, IsWellFormed};
+ghost use Rattle.pm_base.specs.Sides.{net_of};
+ghost use Rattle.pm_base.specs.Fans.{IsOrientedManifold};
+ghost use Rattle.pm_runs.specs.Runs.{IsRunTo};
+ghost use Rattle.pm_twins.specs.Table.{IsTableOf};
+ghost use Rattle.pm_simplify.specs.Faults.{IsSimplifyFault};
+
+use crate::step::collapse;
+use crate::weigh::filled;
+use pm_base::{FaceId, Log, Mesh};
+use pm_shrink::Shrink;
+use pm_twins::{FansFail, Twins, TwinsFail, check_fans};
+use std::alloc::{AllocError, Global};
+
+pub(crate) type OutOfMemory = AllocError;
+
+/// Why a mesh isn't simplified.
+#[derive(Clone, Copy, Debug, PartialEq, Eq)]
+pub enum SimplifyFail {
+    /// A directed side stands twice. This is the least face that has one which an earlier face has.
+    EdgeTwice(FaceId),
+    /// No side stands twice. The faces at this vertex, the least such, are no fan.
+    NotFan(u32),
+    /// Want of memory.
+    OutOfMemory,
+}
+
+/// Collapses the legal pair of least cost, again and again, while more faces than the target are left and a pair may be
+/// collapsed. Equal costs go by the pair's vertex numbers. The answer is the log of the collapses; the mesh stays as it
+/// is.
+///
+/// A step weighs the edges at the neighbours of the new vertex again, each by the faces at its two ends and in
+/// O(log F) of the queue for F faces.
+pub fn simplify(alloc: Global, mesh: &Mesh, target_faces: u32) -> Result<Log, SimplifyFail>
+    requires { IsWellFormed (mesh_of mesh.now) }
+    ensures run { IfOk result (λ log. IsRunTo (mesh_of mesh.now) target_faces log.items) }
+    ensures manifold { OnOk result (IsOrientedManifold (net_of mesh.now.faces.items)) }
+    ensures fault { IfErr result (IsSimplifyFault (net_of mesh.now.faces.items)) }
+{
+    let twins = match Twins::of(alloc, mesh) {
+        Ok(twins) => twins,
+        Err(TwinsFail::EdgeTwice(face)) => return Err(SimplifyFail::EdgeTwice(face)),
+        Err(TwinsFail::OutOfMemory) => return Err(SimplifyFail::OutOfMemory),
+    };
+    match check_fans(alloc, mesh, &twins) {
+        Ok(()) => {}
+        Err(FansFail::NotFan(vertex)) => return Err(SimplifyFail::NotFan(vertex)),
+        Err(FansFail::OutOfMemory) => return Err(SimplifyFail::OutOfMemory),
+    }
+    run_to(alloc, mesh, twins, target_faces).map_err(|_| SimplifyFail::OutOfMemory)
+}
+
+// The run to a number of faces of a well-formed oriented manifold.
+fn run_to(alloc: Global, mesh: &Mesh, twins: Twins, target: u32) -> Result<Log, OutOfMemory>
+    requires formed { IsWellFormed (mesh_of mesh.now) }
+    requires manifold { IsOrientedManifold (net_of mesh.now.faces.items) }
+    requires twins { IsTableOf (net_of mesh.now.faces.items) (length mesh.now.points.items) twins }
+    ensures { IfOk result (λ log. IsRunTo (mesh_of mesh.now) target log.items) }
+{
+    let mut log = Log::new(alloc);
+    // Each collapse takes a vertex away, and the last one stays.
+    log.reserve(mesh.points.len().saturating_sub(1))?;
+    let mut shrink = Shrink::new(alloc, mesh.copy(alloc)?, twins)?;
+    let mut queue = filled(alloc, &shrink, 3 * mesh.faces.len() as u32)?;
+    while shrink.face_count() > target {
+        let Some((_, key)) = queue.least() else {
+            break;
+        };
+        log.put(collapse(&mut shrink, &mut queue, key.a, key.b));
+    }
+    Ok(log)
+}
