@@ -1,0 +1,4 @@
+pub mod MarkLaws
+pub mod DecidedLaws
+pub mod MoveLaws
+pub mod AnswerLaws
