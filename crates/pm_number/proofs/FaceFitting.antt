@@ -28,9 +28,9 @@ use Rattle.pm_beyond.proofs.Neighbours.{recorded-has}
 use Rattle.pm_number.specs.Stages.{Run, IsMerging}
 use Rattle.pm_number.specs.Shown.{UndoesCollapses}
 use Rattle.pm_number.specs.Numbering.{node_number, leaf_number, face_number, hierarchy_of}
-use Rattle.pm_number.proofs.NumberedFaces.{face-back, corners}
+use Rattle.pm_number.proofs.FacePositions.{face-back, corners}
 use Rattle.pm_number.proofs.RunCounts.{face-count}
-use Rattle.pm_number.proofs.Stages.{undoes}
+use Rattle.pm_number.proofs.Undoing.{undoes}
 use Rattle.pm_number.proofs.Whole.{numbered}
 use Rattle.pm_number.proofs.UnitsPass.{unused-from, face_input_pass, base_pass}
 

@@ -27,7 +27,7 @@ use Rattle.pm_runs.specs.Merged.{StandsAcross}
 use Rattle.pm_number.specs.Stages.{Run, steps, net_after, IsGone, IsMerging}
 use Rattle.pm_number.specs.Numbering.{step_of, place_number, width_number, input_number, numbered_root, numbered_face, numbered_side, numbered_gone, hierarchy_of}
 use Rattle.pm_number.proofs.NodeNumbers.{record-at}
-use Rattle.pm_number.proofs.NumberedFaces.{gone-lt}
+use Rattle.pm_number.proofs.FacePositions.{gone-lt}
 use Rattle.pm_number.specs.Tables.{coordinates, took_roots, took_bases, first_records, took_records, took_head, took_left}
 use Rattle.pm_beyond.specs.Walks.{number_of}
 

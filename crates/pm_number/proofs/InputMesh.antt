@@ -17,7 +17,7 @@ use Rattle.pm_forest.proofs.MeshLaws.{numbered_so, numbered_so-found}
 use Rattle.pm_number.specs.Stages.{Run, run_of, IsMerging}
 use Rattle.pm_number.specs.Numbering.{leaf_number, face_number, numbered_face, hierarchy_of, hierarchy_of_run}
 use Rattle.pm_number.proofs.LeafNumbers.{leaf-there, leaf-back}
-use Rattle.pm_number.proofs.NumberedFaces.{face-there, face-back, corners}
+use Rattle.pm_number.proofs.FacePositions.{face-there, face-back, corners}
 use Rattle.pm_number.proofs.RunCounts.{leaf-number-count, face-count}
 use Rattle.pm_number.proofs.NodeParts.{leaf-input, leaf-place}
 

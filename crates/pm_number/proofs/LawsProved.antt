@@ -4,7 +4,7 @@ use Rattle.pm_number.specs.Stages.{run_of}
 use Rattle.pm_number.specs.Numbering.{node_number, leaf_number, face_number, hierarchy_of, hierarchy_of_run}
 use Rattle.pm_number.specs.Laws as law
 use Rattle.pm_number.proofs.Merging.{merging}
-use Rattle.pm_number.proofs.Stages.{undoes}
+use Rattle.pm_number.proofs.Undoing.{undoes}
 use Rattle.pm_number.proofs.Undone.{valid}
 use Rattle.pm_number.proofs.Whole.{numbered}
 use Rattle.pm_number.proofs.NodeNumbers.{count}

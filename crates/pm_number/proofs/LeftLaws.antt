@@ -12,7 +12,7 @@ use Rattle.pm_base.specs.declared.log.Gone.{Gone}
 use Rattle.pm_number.specs.Stages.{Run, no_collapse, steps, entry, net_after, IsGone, IsMerging}
 use Rattle.pm_number.specs.Numbering.{picked, takes, taken_by, is_gone, drops, dropped_by, left_over, base_faces}
 use Rattle.pm_number.specs.Tables.{is_unset}
-use Rattle.pm_number.proofs.NumberedFaces.{gone-lt}
+use Rattle.pm_number.proofs.FacePositions.{gone-lt}
 use Rattle.pm_number.proofs.RunLaws.{ends_given}
 use Rattle.pm_number.proofs.NodeNumbers.{t_differs}
 

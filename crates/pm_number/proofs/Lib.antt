@@ -5,9 +5,13 @@ pub mod Positions
 pub mod Relinked
 pub mod Undone
 pub mod Stages
+pub mod RecordFaces
+pub mod RecordMates
+pub mod Undoing
 pub mod NodeNumbers
 pub mod LeafNumbers
 pub mod NumberedFaces
+pub mod FacePositions
 pub mod Whole
 pub mod RunCounts
 pub mod LiveNodes
@@ -22,6 +26,7 @@ pub mod ShownLaws
 pub mod LawsProved
 pub mod LeftLaws
 pub mod NumberLaws
+pub mod FaceTables
 pub mod UnitNumbers
 pub mod FeedLaws
 pub mod FromLog

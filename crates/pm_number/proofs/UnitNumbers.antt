@@ -23,7 +23,7 @@ use Rattle.pm_number.specs.Numbering.{step_of, node_number, width_number, leaf_n
 use Rattle.pm_number.specs.Tables.{IsSmallRun, HasNumbers, all_vertices, coordinates}
 use Rattle.pm_number.proofs.RunLaws.{ends_given}
 use Rattle.pm_number.proofs.NodeNumbers.{record-at}
-use Rattle.pm_number.proofs.NumberedFaces.{face-there}
+use Rattle.pm_number.proofs.FacePositions.{face-there}
 use Rattle.pm_number.proofs.RunCounts.{face-count}
 
 -- Places

@@ -2,7 +2,8 @@
 use Rattle.std.proofs.Common.{suc, ◌≡◌, ◌-◌, sym, ap, ◌∙◌, arith}
 use Rattle.pm_number.proofs.LeafNumbers.{forest, held, leaf-there, leaf-back}
 use Rattle.pm_number.proofs.NodeNumbers.{node-t, node-u, node-once, node-there, root-count, count, s-of}
-use Rattle.pm_number.proofs.NumberedFaces.{face-there, face-once, face-back, face-left, face-right, corner}
+use Rattle.pm_number.proofs.NumberedFaces.{face-left, face-right}
+use Rattle.pm_number.proofs.FacePositions.{face-there, face-once, face-back, corner}
 use Rattle.pm_number.specs.Numbering.{node_number, leaf_number, face_number, hierarchy_of}
 use Rattle.pm_number.specs.Shown.{IsNumbered}
 use Rattle.pm_number.specs.Stages.{Run, steps, entry, IsMerging}

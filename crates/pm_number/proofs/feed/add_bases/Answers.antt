@@ -6,7 +6,7 @@ use Rattle.pm_number.specs.Numbering.{hierarchy_of}
 use Rattle.pm_forest.specs.Faces.{no_corners}
 use Rattle.pm_number.specs.Numbering.{base_faces, numbered_face}
 use Rattle.pm_number.specs.Tables.{took_bases}
-use Rattle.pm_number.proofs.NumberLaws.{bases_inside}
+use Rattle.pm_number.proofs.FaceTables.{bases_inside}
 use Rattle.pm_number.proofs.FaceFitting.{base_fits}
 use Rattle.pm_number.proofs.FeedLaws.{expects_base, base_taken}
 use Rattle.pm_number.proofs.feed.add_bases.Goals as goal

@@ -9,7 +9,7 @@ use Rattle.pm_number.specs.Stages.{run_of}
 use Rattle.pm_number.specs.Numbering.{base_faces, numbered_face, hierarchy_of}
 use Rattle.pm_number.proofs.NodeNumbers.{root-count, count}
 use Rattle.pm_number.proofs.RunCounts.{node-count, leaf-number-count}
-use Rattle.pm_number.proofs.NumberLaws.{faces_start, faces_before-le}
+use Rattle.pm_number.proofs.FaceTables.{faces_start, faces_before-le}
 use Rattle.pm_number.proofs.LawsProved.{keep_meshes, are_valid}
 use Rattle.pm_number.proofs.FromLog.{small_run, counts_are, not_bad, not_past, expects_nothing, whole_is}
 use Rattle.pm_number.proofs.number.from_log.Goals as goal

@@ -3,7 +3,7 @@ use Rattle.pm_base.specs.Meshes.{mesh_of}
 use Rattle.pm_number.specs.Stages.{run_of}
 use Rattle.pm_number.specs.Numbering.{base_faces, face_number}
 use Rattle.pm_number.specs.Tables.{RootsHave}
-use Rattle.pm_number.proofs.NumberLaws.{faces_start, faces_before-le, bases_inside}
+use Rattle.pm_number.proofs.FaceTables.{faces_start, faces_before-le, bases_inside}
 use Rattle.pm_number.proofs.tables.faces.Goals as goal
 
 pub number_left-requires-clause-few : goal.number_left-requires-clause-few

@@ -3,7 +3,7 @@ use Rattle.pm_base.specs.Meshes.{mesh_of}
 use Rattle.pm_number.specs.Stages.{run_of}
 use Rattle.pm_number.specs.Numbering.{base_faces, faces_before, face_number}
 use Rattle.pm_number.specs.Tables.{RootsHave}
-use Rattle.pm_number.proofs.NumberLaws.{RecordsHave}
+use Rattle.pm_number.proofs.FaceTables.{RecordsHave}
 use Rattle.pm_number.proofs.tables.number_dropped.Given as goal
 
 abbrev pub invariant-loop-d : goal.invariant-loop-d
