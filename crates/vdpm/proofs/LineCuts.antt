@@ -1,6 +1,6 @@
 -- The first line of a script, and what follows it.
 use Rattle.std.proofs.Common.{◌≡◌, ℕ, zero, suc, ◌+◌, ◌<◌, false, true, eqb, List, [], ◌∷◌, length, get_or, take, drop, refl, sym, ◌∙◌, ap, arith}
-use Rattle.vdpm.specs.Script.{onto, split_lines}
+use Rattle.pm_session.specs.Script.{onto, split_lines}
 
 split_at : (bytes : List ℕ) (i : ℕ) → i < length bytes → ((k : ℕ) → k < i → eqb (get_or bytes k 0) 10 ≡ false) → eqb (get_or bytes i 0) 10 ≡ true
     → split_lines bytes ≡ take i bytes ∷ split_lines (drop (suc i) bytes)

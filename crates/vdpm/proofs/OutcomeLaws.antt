@@ -12,11 +12,13 @@ use Rattle.vdpm.specs.declared.fault.CommandFail.TheVariants as fails
 use Rattle.vdpm.specs.declared.words.Asked.{Asked}
 use Rattle.vdpm.specs.declared.words.Asked.TheVariants as asked
 use Rattle.vdpm.specs.Input.{fail_of, Stops}
-use Rattle.vdpm.specs.Script.{Ran, refused}
+use Rattle.vdpm.specs.Ran.{Ran, refused}
+use Rattle.vdpm.specs.Serving.{Served, ServeCounts}
 use Rattle.vdpm.specs.FaultLine.{fail_line, fault_line}
 use Rattle.vdpm.specs.Outcome.{IsOutcome, done_with, Follows, Replied, CutShort, Ends, Counts, Answers, Said, status_of}
 use Rattle.vdpm.proofs.SurfaceLaws.{one_surface}
-use Rattle.vdpm.proofs.OpeningLaws.{StreamLaws, one_opening, one_hierarchy}
+use Rattle.vdpm.proofs.BuildLaws.{one_build}
+use Rattle.vdpm.proofs.OpeningLaws.{StreamLaws, one_valid, one_hierarchy}
 
 -- How a command ends where the input is refused or can't be read: no reply is put.
 
@@ -59,6 +61,22 @@ pub ends_part : (asks : Asked) (left old new : Option (List ℕ)) (all : Ran) �
 ends_part asks None old new all outcome part = tt
 ends_part asks (Some bytes) old new all outcome part = record { all = all; outcome = outcome; part = part }
 
+-- How a script's end is one of a command.
+
+pub ends_served : (asks : Asked) (left old new : Option (List ℕ)) (all : Ran) (r : Result (Unit {0}) CommandFail) → IfSome left (λ bytes. IsOutcome asks bytes all) → Served r all old new → Ends asks r left old new
+ends_served asks left old new all (Ok done) outcome served = ends_all asks left old new all None outcome served
+ends_served asks left old new all (Err (fails.Faulty f)) outcome served = ends_all asks left old new all (Some f) outcome served
+ends_served asks left old new all (Err fails.Write) outcome served = ends_part asks left old new all outcome served
+ends_served asks left old new all (Err fails.Read) outcome served = absurd served
+ends_served asks left old new all (Err fails.OutOfMemory) outcome served = absurd served
+
+pub counts_served : (r : Result (Unit {0}) CommandFail) (in_old in_new out_old out_new : ℕ) → in_new ≡ in_old → ServeCounts r out_old out_new → Counts r in_old in_new out_old out_new
+counts_served (Ok done) in_old in_new out_old out_new same counts = (same, counts)
+counts_served (Err (fails.Faulty f)) in_old in_new out_old out_new same counts = (same, counts)
+counts_served (Err fails.Write) in_old in_new out_old out_new same counts = counts
+counts_served (Err fails.Read) in_old in_new out_old out_new same counts = absurd counts
+counts_served (Err fails.OutOfMemory) in_old in_new out_old out_new same counts = absurd counts
+
 -- Bytes have one outcome.
 
 one_follows : {X : Type 0} {IsRead : Result X Fault → Type 0} {does : X → Ran} {a b : Ran} → ((p q : Result X Fault) → IsRead p → IsRead q → p ≡ q) → Follows IsRead does a → Follows IsRead does b → a ≡ b
@@ -66,9 +84,10 @@ one_follows {does = does} one is are = is.done ∙ ap (done_with does) (one is.r
 
 pub one_outcome : StreamLaws → (asks : Asked) (bytes : List ℕ) {a b : Ran} → IsOutcome asks bytes a → IsOutcome asks bytes b → a ≡ b
 one_outcome laws asked.Canon bytes is are = one_follows (λ p q one other. one_surface bytes one other) is are
+one_outcome laws (asked.Build target) bytes is are = one_follows (λ p q one other. one_build bytes target one other) is are
 one_outcome laws asked.Expand bytes is are = one_follows (λ p q one other. one_hierarchy laws bytes one other) is are
 one_outcome laws asked.Check bytes is are = one_follows (λ p q one other. one_hierarchy laws bytes one other) is are
-one_outcome laws (asked.View budget) bytes is are = one_follows (λ p q one other. one_opening laws bytes one other) is are
+one_outcome laws (asked.View budget) bytes is are = one_follows (λ p q one other. one_valid laws bytes one other) is are
 
 -- The words ask for one thing.
 pub one_asked : (asks : Option Asked) (a b : Asked) → asks ≡ Some a → asks ≡ Some b → a ≡ b

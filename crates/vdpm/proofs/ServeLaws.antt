@@ -1,48 +1,38 @@
 -- What the script machine does line by line, and how a run of it ends.
-use Rattle.std.proofs.Common.{◌≡◌, ℕ, ◌+◌, ◌<◌, ◌≤◌, Bool, true, false, List, [], ◌∷◌, ◌++◌, length, Option, Some, None, Result, Ok, Err, OnOk, OnErr, refl, sym, ◌∙◌, ap, subst, append_assoc}
-use Rattle.std.specs.Result.{is_err}
-use Rattle.std.proofs.lemmas.Bool.{lt-ltb, le-ltb}
+use Rattle.std.proofs.Common.{◌≡◌, ℕ, ◌+◌, Bool, List, [], ◌∷◌, ◌++◌, length, Option, Some, None, Result, Ok, Err, refl, sym, ◌∙◌, ap, subst, append_assoc}
 use Rattle.std.proofs.lemmas.List.{append-nil, nil_from_length}
 use Rattle.pm_io.specs.Bytes.{Gains, GainsPart}
 use Rattle.pm_io.proofs.Known.{gains_none, gains_both, part_more, part_after}
-use Rattle.pm_forest.specs.Forest.{Hierarchy, record_count}
-use Rattle.vdpm.specs.declared.script.Command.TheVariants as commands
-use Rattle.vdpm.specs.declared.fault.Fault.{Fault}
+use Rattle.pm_forest.specs.Forest.{Hierarchy}
+use Rattle.pm_forest.specs.Fronts.{no_records}
+use Rattle.pm_session.specs.declared.command.ScriptFault.{ScriptFault}
+use Rattle.pm_session.specs.declared.command.ScriptFault.TheVariants as lines
+use Rattle.pm_session.specs.declared.session.Next.{Next}
+use Rattle.pm_session.specs.declared.session.Next.TheVariants as nexts
+use Rattle.pm_session.specs.declared.session.LineFail.{LineFail}
+use Rattle.pm_session.specs.declared.session.LineFail.TheVariants as fails
+use Rattle.pm_session.specs.Script.{split_lines, Deed, Replies, Ends, IsBad, NamesNoRecord, line_deed, Ran, replying, done_by, ran}
+use Rattle.pm_session.specs.Session.{LineEnds, LineCounts}
 use Rattle.vdpm.specs.declared.fault.Fault.TheVariants as faults
-use Rattle.vdpm.specs.Frame.{frame_text}
-use Rattle.vdpm.specs.Script.{split_lines, command_of, Ran, replying, ended, refused, ran, split_reply, after_split}
+use Rattle.vdpm.specs.declared.fault.CommandFail.{CommandFail}
+use Rattle.vdpm.specs.Ran.{fault_in, of_script}
+use Rattle.vdpm.specs.Serving.{Served}
 
 -- The lines that the bytes of a script are.
 abbrev pub ran_on : Hierarchy → (ℕ → Bool) → ℕ → List ℕ → Ran
 ran_on h T n script = ran h T n (split_lines script)
 
--- What the first line of a script does, by its command.
-
-pub ran_show : (h : Hierarchy) (T : ℕ → Bool) (n : ℕ) (rest line after : List ℕ) → split_lines rest ≡ line ∷ split_lines after → command_of line ≡ commands.Show
-    → ran_on h T n rest ≡ replying (frame_text h T) (ran_on h T (n + 1) after)
+-- What the lines do from the first one on.
+ran_line : (h : Hierarchy) (T : ℕ → Bool) (n : ℕ) (rest line after : List ℕ) (deed : Deed) → split_lines rest ≡ line ∷ split_lines after → line_deed h T line ≡ deed
+    → ran_on h T n rest ≡ done_by n deed (λ S. ran_on h S (n + 1) after)
 unfolding ran
-ran_show h T n rest line after is show = ap (ran h T n) is ∙ rw show refl
+ran_line h T n rest line after deed is does = ap (ran h T n) is ∙ ap (λ (d : Deed). done_by n d (λ S. ran_on h S (n + 1) after)) does
 
-pub ran_split : (h : Hierarchy) (T S : ℕ → Bool) (n k : ℕ) (rest line after : List ℕ) → split_lines rest ≡ line ∷ split_lines after → command_of line ≡ commands.Split k → k < record_count h
-    → S ≡ after_split h T k → ran_on h T n rest ≡ replying (split_reply h T k) (ran_on h S (n + 1) after)
-unfolding ran
-ran_split h T S n k rest line after is split lt state = ap (ran h T n) is ∙ rw (split, lt-ltb k (record_count h) lt, state) refl
+ended_with : Option ScriptFault → Ran
+ended_with fault = record { text = []; fault = fault }
 
-pub ran_no_record : (h : Hierarchy) (T : ℕ → Bool) (n k : ℕ) (rest line after : List ℕ) → split_lines rest ≡ line ∷ split_lines after → command_of line ≡ commands.Split k → record_count h ≤ k
-    → ran_on h T n rest ≡ refused (faults.NoRecord n)
-unfolding ran
-ran_no_record h T n k rest line after is split le = ap (ran h T n) is ∙ rw (split, le-ltb k (record_count h) le) refl
-
-pub ran_quit : (h : Hierarchy) (T : ℕ → Bool) (n : ℕ) (rest line after : List ℕ) → split_lines rest ≡ line ∷ split_lines after → command_of line ≡ commands.Quit → ran_on h T n rest ≡ ended
-unfolding ran
-ran_quit h T n rest line after is quit = ap (ran h T n) is ∙ rw quit refl
-
-pub ran_bad : (h : Hierarchy) (T : ℕ → Bool) (n : ℕ) (rest line after : List ℕ) → split_lines rest ≡ line ∷ split_lines after → command_of line ≡ commands.Bad → ran_on h T n rest ≡ refused (faults.BadLine n)
-unfolding ran
-ran_bad h T n rest line after is bad = ap (ran h T n) is ∙ rw bad refl
-
-pub ran_end : (h : Hierarchy) (T : ℕ → Bool) (n : ℕ) (rest : List ℕ) → length rest ≡ 0 → ran_on h T n rest ≡ ended
-unfolding ran
+ran_end : (h : Hierarchy) (T : ℕ → Bool) (n : ℕ) (rest : List ℕ) → length rest ≡ 0 → ran_on h T n rest ≡ ended_with None
+unfolding ran ended_with
 ran_end h T n rest none = ap (λ (l : List ℕ). ran h T n (split_lines l)) (nil_from_length rest none)
 
 -- The replies so far were put, and what is left goes on from the state reached.
@@ -59,7 +49,7 @@ so_far_start h T S script old is = record {
 }
 
 -- One reply more was put.
-pub so_far_next : (h : Hierarchy) (all : Ran) (T S : ℕ → Bool) (n : ℕ) (rest after reply : List ℕ) (old mid new : Option (List ℕ)) → SoFar h all T n rest old mid
+so_far_next : (h : Hierarchy) (all : Ran) (T S : ℕ → Bool) (n : ℕ) (rest after reply : List ℕ) (old mid new : Option (List ℕ)) → SoFar h all T n rest old mid
     → ran_on h T n rest ≡ replying reply (ran_on h S (n + 1) after) → Gains mid new reply → SoFar h all S (n + 1) after old new
 so_far_next h all T S n rest after reply old mid new s is gained = record {
   text = s.text ++ reply;
@@ -69,35 +59,104 @@ so_far_next h all T S n rest after reply old mid new s is gained = record {
       ∙ ap (λ (l : List ℕ). record { text = l; fault = (ran_on h S (n + 1) after).fault }) (sym (append_assoc s.text reply (ran_on h S (n + 1) after).text));
 }
 
--- The script has ended, by `q` or after its last line.
-pub so_far_ended : (h : Hierarchy) (all : Ran) (T : ℕ → Bool) (n : ℕ) (rest : List ℕ) (old new : Option (List ℕ)) → SoFar h all T n rest old new → ran_on h T n rest ≡ ended
-    → (all.fault ≡ None) × Gains old new all.text
-so_far_ended h all T n rest old new s is =
-    let whole : all ≡ replying s.text ended = s.goes_on ∙ ap (replying s.text) is in
-    let text : s.text ≡ all.text = sym (append-nil s.text) ∙ sym (ap (λ (r : Ran). r.text) whole) in
-    (ap (λ (r : Ran). r.fault) whole, subst (λ (l : List ℕ). Gains old new l) text s.gained)
-
--- The script has ended at a line with a fault.
-pub so_far_refused : (h : Hierarchy) (all : Ran) (T : ℕ → Bool) (n : ℕ) (rest : List ℕ) (f : Fault) (old new : Option (List ℕ)) → SoFar h all T n rest old new → ran_on h T n rest ≡ refused f
-    → (all.fault ≡ Some f) × Gains old new all.text
-so_far_refused h all T n rest f old new s is =
-    let whole : all ≡ replying s.text (refused f) = s.goes_on ∙ ap (replying s.text) is in
+-- The script has ended: by `q`, after its last line, or at a line with a fault.
+so_far_ended : (h : Hierarchy) (all : Ran) (T : ℕ → Bool) (n : ℕ) (rest : List ℕ) (fault : Option ScriptFault) (old new : Option (List ℕ)) → SoFar h all T n rest old new → ran_on h T n rest ≡ ended_with fault
+    → (all.fault ≡ fault) × Gains old new all.text
+unfolding ended_with
+so_far_ended h all T n rest fault old new s is =
+    let whole : all ≡ replying s.text (ended_with fault) = s.goes_on ∙ ap (replying s.text) is in
     let text : s.text ≡ all.text = sym (append-nil s.text) ∙ sym (ap (λ (r : Ran). r.text) whole) in
     (ap (λ (r : Ran). r.fault) whole, subst (λ (l : List ℕ). Gains old new l) text s.gained)
 
 -- The sink failed within a reply.
-pub so_far_failed : (h : Hierarchy) (all later : Ran) (T : ℕ → Bool) (n : ℕ) (rest reply : List ℕ) (old mid new : Option (List ℕ)) → SoFar h all T n rest old mid
+so_far_failed : (h : Hierarchy) (all later : Ran) (T : ℕ → Bool) (n : ℕ) (rest reply : List ℕ) (old mid new : Option (List ℕ)) → SoFar h all T n rest old mid
     → ran_on h T n rest ≡ replying reply later → GainsPart mid new reply → GainsPart old new all.text
 so_far_failed h all later T n rest reply old mid new s is part =
     let whole : all ≡ replying s.text (replying reply later) = s.goes_on ∙ ap (replying s.text) is in
     subst (λ (l : List ℕ). GainsPart old new l) (sym (ap (λ (r : Ran). r.text) whole))
     (part_after old mid new s.text (reply ++ later.text) s.gained (part_more mid new reply later.text part))
 
--- A call's clauses, by the test of its result.
-pub passed : {T E P : Type 0} (r : Result T E) → false ≡ is_err r → OnOk r P → P
-passed (Ok x) is fact = fact
-passed (Err e) is fact = absurd (cc)
+pub counted : (r : Result Next LineFail) (x : Next) (before now : ℕ) → r ≡ Ok x → LineCounts r before now → now ≡ before
+counted r x before now is counts = subst (λ (y : Result Next LineFail). LineCounts y before now) is counts
 
-pub failed : {T E P : Type 0} (r : Result T E) → true ≡ is_err r → OnErr r P → P
-failed (Ok x) is fact = absurd (cc)
-failed (Err e) is fact = fact
+-- What a line's end leaves.
+module _ (h : Hierarchy) (all : Ran) (T : ℕ → Bool) (n : ℕ) (rest line after : List ℕ) (is : split_lines rest ≡ line ∷ split_lines after) where
+  told : (k : Hierarchy) (r t : Result Next LineFail) (S : ℕ → Bool) (mid new : Option (List ℕ)) → k ≡ h → r ≡ t → LineEnds (line_deed k T line) r T S mid new → LineEnds (line_deed h T line) t T S mid new
+  told k r t S mid new same is_so ends =
+      subst (λ (x : Result Next LineFail). LineEnds (line_deed h T line) x T S mid new) is_so (subst (λ (x : Hierarchy). LineEnds (line_deed x T line) r T S mid new) same ends)
+
+  more_by : (S : ℕ → Bool) (old mid new : Option (List ℕ)) → SoFar h all T n rest old mid → (deed : Deed) → line_deed h T line ≡ deed → LineEnds deed (Ok nexts.More) T S mid new
+      → SoFar h all S (n + 1) after old new
+  more_by S old mid new s (Replies reply R) does ends =
+      so_far_next h all T S n rest after reply old mid new s (ran_line h T n rest line after (Replies reply R) is does ∙ ap (λ (Q : ℕ → Bool). replying reply (ran_on h Q (n + 1) after)) (sym ends.0)) ends.1
+  more_by S old mid new s Ends does ends = absurd ends
+  more_by S old mid new s IsBad does ends = absurd ends
+  more_by S old mid new s NamesNoRecord does ends = absurd ends
+
+  pub more : (k : Hierarchy) (r : Result Next LineFail) (S : ℕ → Bool) (old mid new : Option (List ℕ)) → SoFar h all T n rest old mid → k ≡ h → r ≡ Ok nexts.More → LineEnds (line_deed k T line) r T S mid new → SoFar h all S (n + 1) after old new
+  more k r S old mid new s same is_so ends = more_by S old mid new s (line_deed h T line) refl (told k r (Ok nexts.More) S mid new same is_so ends)
+
+  quit_by : (S : ℕ → Bool) (old mid new : Option (List ℕ)) → SoFar h all T n rest old mid → (deed : Deed) → line_deed h T line ≡ deed → LineEnds deed (Ok nexts.Quit) T S mid new
+      → (fault_in all.fault ≡ None) × Gains old new all.text
+  unfolding ended_with
+  quit_by S old mid new s (Replies reply R) does ends = absurd ends
+  quit_by S old mid new s Ends does ends =
+      let end = so_far_ended h all T n rest None old mid s (ran_line h T n rest line after Ends is does) in
+      (ap fault_in end.0, subst (λ (g : Option (List ℕ)). Gains old g all.text) (sym ends.1) end.1)
+  quit_by S old mid new s IsBad does ends = absurd ends
+  quit_by S old mid new s NamesNoRecord does ends = absurd ends
+
+  pub quit : (k : Hierarchy) (r : Result Next LineFail) (S : ℕ → Bool) (old mid new : Option (List ℕ)) → SoFar h all T n rest old mid → k ≡ h → r ≡ Ok nexts.Quit → LineEnds (line_deed k T line) r T S mid new → (fault_in all.fault ≡ None) × Gains old new all.text
+  quit k r S old mid new s same is_so ends = quit_by S old mid new s (line_deed h T line) refl (told k r (Ok nexts.Quit) S mid new same is_so ends)
+
+  bad_by : (S : ℕ → Bool) (old mid new : Option (List ℕ)) → SoFar h all T n rest old mid → (deed : Deed) → line_deed h T line ≡ deed → LineEnds deed (Err fails.BadLine) T S mid new
+      → (fault_in all.fault ≡ Some (faults.BadLine n)) × Gains old new all.text
+  unfolding ended_with
+  bad_by S old mid new s (Replies reply R) does ends = absurd ends
+  bad_by S old mid new s Ends does ends = absurd ends
+  bad_by S old mid new s IsBad does ends =
+      let end = so_far_ended h all T n rest (Some (lines.BadLine n)) old mid s (ran_line h T n rest line after IsBad is does) in
+      (ap fault_in end.0, subst (λ (g : Option (List ℕ)). Gains old g all.text) (sym ends.1) end.1)
+  bad_by S old mid new s NamesNoRecord does ends = absurd ends
+
+  pub bad : (k : Hierarchy) (r : Result Next LineFail) (S : ℕ → Bool) (old mid new : Option (List ℕ)) → SoFar h all T n rest old mid → k ≡ h → r ≡ Err fails.BadLine → LineEnds (line_deed k T line) r T S mid new
+      → (fault_in all.fault ≡ Some (faults.BadLine n)) × Gains old new all.text
+  bad k r S old mid new s same is_so ends = bad_by S old mid new s (line_deed h T line) refl (told k r (Err fails.BadLine) S mid new same is_so ends)
+
+  no_record_by : (S : ℕ → Bool) (old mid new : Option (List ℕ)) → SoFar h all T n rest old mid → (deed : Deed) → line_deed h T line ≡ deed → LineEnds deed (Err fails.NoRecord) T S mid new
+      → (fault_in all.fault ≡ Some (faults.NoRecord n)) × Gains old new all.text
+  unfolding ended_with
+  no_record_by S old mid new s (Replies reply R) does ends = absurd ends
+  no_record_by S old mid new s Ends does ends = absurd ends
+  no_record_by S old mid new s IsBad does ends = absurd ends
+  no_record_by S old mid new s NamesNoRecord does ends =
+      let end = so_far_ended h all T n rest (Some (lines.NoRecord n)) old mid s (ran_line h T n rest line after NamesNoRecord is does) in
+      (ap fault_in end.0, subst (λ (g : Option (List ℕ)). Gains old g all.text) (sym ends.1) end.1)
+
+  pub no_record : (k : Hierarchy) (r : Result Next LineFail) (S : ℕ → Bool) (old mid new : Option (List ℕ)) → SoFar h all T n rest old mid → k ≡ h → r ≡ Err fails.NoRecord → LineEnds (line_deed k T line) r T S mid new
+      → (fault_in all.fault ≡ Some (faults.NoRecord n)) × Gains old new all.text
+  no_record k r S old mid new s same is_so ends = no_record_by S old mid new s (line_deed h T line) refl (told k r (Err fails.NoRecord) S mid new same is_so ends)
+
+  cut_by : (S : ℕ → Bool) (old mid new : Option (List ℕ)) → SoFar h all T n rest old mid → (deed : Deed) → line_deed h T line ≡ deed → LineEnds deed (Err fails.Write) T S mid new
+      → GainsPart old new all.text
+  cut_by S old mid new s (Replies reply R) does ends =
+      so_far_failed h all (ran_on h R (n + 1) after) T n rest reply old mid new s (ran_line h T n rest line after (Replies reply R) is does) ends.1
+  cut_by S old mid new s Ends does ends = absurd ends
+  cut_by S old mid new s IsBad does ends = absurd ends
+  cut_by S old mid new s NamesNoRecord does ends = absurd ends
+
+  pub cut : (k : Hierarchy) (r : Result Next LineFail) (S : ℕ → Bool) (old mid new : Option (List ℕ)) → SoFar h all T n rest old mid → k ≡ h → r ≡ Err fails.Write → LineEnds (line_deed k T line) r T S mid new → GainsPart old new all.text
+  cut k r S old mid new s same is_so ends = cut_by S old mid new s (line_deed h T line) refl (told k r (Err fails.Write) S mid new same is_so ends)
+
+-- No line is left.
+pub at_end : (h : Hierarchy) (all : Ran) (T : ℕ → Bool) (n : ℕ) (rest : List ℕ) (old new : Option (List ℕ)) → SoFar h all T n rest old new → length rest ≡ 0
+    → (fault_in all.fault ≡ None) × Gains old new all.text
+at_end h all T n rest old new s none =
+    let end = so_far_ended h all T n rest None old new s (ran_end h T n rest none) in
+    (ap fault_in end.0, end.1)
+
+-- The same script over the same hierarchy.
+pub served_at : (h k : Hierarchy) (script rest : List ℕ) (r : Result (Unit {0}) CommandFail) (old new : Option (List ℕ)) → k ≡ h → rest ≡ script → Served r (of_script (ran_on k no_records 1 rest)) old new
+    → Served r (of_script (ran_on h no_records 1 script)) old new
+served_at h k script rest r old new same is served =
+    subst (λ (l : List ℕ). Served r (of_script (ran_on h no_records 1 l)) old new) is (subst (λ (x : Hierarchy). Served r (of_script (ran_on x no_records 1 rest)) old new) same served)

@@ -47,6 +47,7 @@ stream_line format.OutOfMemory = codes "vdpm: out of memory\n"
 unfoldable pub fault_line : Fault → List ℕ
 fault_line faults.TooLong = codes "vdpm: input too long\n"
 fault_line (faults.Stream e) = stream_line e
+fault_line (faults.BadNeighbour record_number) = line_at 28 (codes "record") record_number
 fault_line faults.Trailing = line_of 29
 fault_line (faults.Obj e n) = line_at (number_of e) (codes "line") n
 fault_line (faults.EdgeTwice face) = line_at 11 (codes "face") face

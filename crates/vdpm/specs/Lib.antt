@@ -1,10 +1,9 @@
 pub mod Words
-pub mod Front
-pub mod Frame
-pub mod Script
+pub mod Ran
 pub mod Serving
 pub mod Input
 pub mod Surface
+pub mod Build
 pub mod Opening
 pub mod FaultLine
 pub mod Outcome

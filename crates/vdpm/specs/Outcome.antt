@@ -1,5 +1,5 @@
 -- The outcome of each command on bytes, and when each status comes.
-use Rattle.std.specs.Prelude.{◌≡◌, ◌⊎◌, ℕ, List, ◌++◌, length, Option, Some, None, IfSome, Result, Ok, Err, codes}
+use Rattle.std.specs.Prelude.{◌≡◌, ◌⊎◌, ℕ, ◌≤◌, List, ◌++◌, length, Option, Some, None, IfSome, Result, Ok, Err, codes}
 use Rattle.std.specs.Fmt.{decimal}
 use Rattle.pm_io.specs.Bytes.{Gains, GainsPart}
 use Rattle.pm_io.specs.Causes.{Rose}
@@ -8,14 +8,17 @@ use Rattle.pm_forest.specs.Faces.{face_count}
 use Rattle.pm_forest.specs.Meshes.{input_mesh_of}
 use Rattle.pm_forest.specs.Fronts.{no_records}
 use Rattle.pm_base.specs.Canonical.{canonical_text}
+use Rattle.pm_session.specs.Script.{ran, split_lines}
 use Rattle.vdpm.specs.declared.words.Asked.{Asked}
 use Rattle.vdpm.specs.declared.words.Asked.TheVariants as asked
 use Rattle.vdpm.specs.declared.fault.Fault.{Fault}
 use Rattle.vdpm.specs.declared.fault.CommandFail.{CommandFail}
 use Rattle.vdpm.specs.declared.fault.CommandFail.TheVariants as fails
+use Rattle.pm_format.specs.Stream.{stream}
 use Rattle.vdpm.specs.Surface.{IsSurface}
-use Rattle.vdpm.specs.Opening.{IsOpening, IsHierarchyText}
-use Rattle.vdpm.specs.Script.{Ran, refused, ran, split_lines}
+use Rattle.vdpm.specs.Build.{IsBuilt}
+use Rattle.vdpm.specs.Opening.{IsValidOpening, IsHierarchyText}
+use Rattle.vdpm.specs.Ran.{Ran, refused, of_script}
 
 -- All of the text is written.
 abbrev pub whole : List ℕ → Ran
@@ -38,19 +41,27 @@ counts_line h =
     codes "leaves " ++ decimal (leaf_count h) ++ codes " roots " ++ decimal (length h.roots) ++ codes " base " ++ decimal (length h.bases)
     ++ codes " records " ++ decimal (record_count h) ++ codes " faces " ++ decimal (face_count h) ++ codes "\n"
 
--- The outcome of a command on bytes. `canon` writes the canonical text of the mesh, `expand` that of the mesh that the
--- hierarchy was made from, `check` how large the hierarchy is, and `view` what the script does that follows a stream.
+-- The outcome of a command on bytes. `canon` writes the canonical text of the mesh, `build` the stream text of the
+-- hierarchy that the mesh's run makes, `expand` the canonical text of the mesh that a hierarchy was made from, `check` how
+-- large the hierarchy is, and `view` what the script does that follows it.
 abbrev pub IsOutcome : Asked → List ℕ → Ran → Type 0
 IsOutcome asked.Canon bytes all = Follows (IsSurface bytes) (λ m. whole (canonical_text m)) all
+IsOutcome (asked.Build target) bytes all = Follows (IsBuilt bytes target) (λ h. whole (stream h)) all
 IsOutcome asked.Expand bytes all = Follows (IsHierarchyText bytes) (λ h. whole (canonical_text (input_mesh_of h))) all
 IsOutcome asked.Check bytes all = Follows (IsHierarchyText bytes) (λ h. whole (counts_line h)) all
-IsOutcome (asked.View budget) bytes all = Follows (IsOpening bytes) (λ o. ran o.h no_records 1 (split_lines o.rest)) all
+IsOutcome (asked.View budget) bytes all = Follows (IsValidOpening bytes) (λ o. of_script (ran o.h no_records 1 (split_lines o.rest))) all
 
 -- The outcome has this fault, or none, and the sink gained its text.
 pub record Replied (asks : Asked) (bytes : List ℕ) (fault : Option Fault) (old new : Option (List ℕ)) : Type 0 where
   pub text : List ℕ
   pub outcome : IsOutcome asks bytes (record { text = text; fault = fault })
   pub gained : Gains old new text
+
+-- The sink gained the text of a build, and `expand` does with that text what `canon` does with the OBJ text, where it is no
+-- longer than a stream may be that `expand` reads.
+pub record GivesBack (target : ℕ) (bytes : List ℕ) (old new : Option (List ℕ)) : Type 0 where
+  pub replied : Replied (asked.Build target) bytes None old new
+  pub expands : length replied.text ≤ 16777216 → (all : Ran) → IsOutcome asked.Canon bytes all → IsOutcome asked.Expand replied.text all
 
 -- The sink gained a proper prefix of the outcome's text.
 pub record CutShort (asks : Asked) (bytes : List ℕ) (old new : Option (List ℕ)) : Type 0 where

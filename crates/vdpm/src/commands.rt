@@ -5,14 +5,14 @@ ghost use Rattle.obj_read.specs.Fails.{FailsBefore};
 ghost use Rattle.vdpm.specs.Outcome.{Ends, Counts};
 
 use crate::fault::{CommandFail, fail_of};
-use crate::front::base_front;
 use crate::line::put_counts;
-use crate::opening::{open_stream, read_hierarchy};
-use crate::script::{ScriptFail, serve};
+use crate::opening::{Opened, load_fail, open_stream, read_hierarchy};
+use crate::script::serve;
 use crate::surface::read_surface;
 use crate::words::Asked;
 use obj_write::write_obj;
 use pm_io::{Line, Sink, Source, put_all};
+use pm_session::Session;
 use std::alloc::Global;
 
 /// `canon`: reads an OBJ text, and writes the canonical text of its mesh where that is an oriented manifold.
@@ -46,11 +46,11 @@ pub fn expand<S: Source, K: Sink>(
     ensures counts { Counts result (S.faults input.old) (S.faults input.new) (K.faults out.old) (K.faults out.new) }
     ensures read_whole { OnOk result (AtEnd (S.left input.new)) }
 {
-    let h = match read_hierarchy(alloc, input) {
-        Ok(h) => h,
+    let front = match read_hierarchy(alloc, input) {
+        Ok(front) => front,
         Err(fail) => return Err(fail_of(fail)),
     };
-    let Ok(mesh) = h.input_mesh(alloc) else {
+    let Ok(mesh) = front.hierarchy().input_mesh(alloc) else {
         return Err(CommandFail::OutOfMemory);
     };
     match write_obj(&mesh, out) {
@@ -69,19 +69,19 @@ pub fn check<S: Source, K: Sink>(
     ensures counts { Counts result (S.faults input.old) (S.faults input.new) (K.faults out.old) (K.faults out.new) }
     ensures read_whole { OnOk result (AtEnd (S.left input.new)) }
 {
-    let h = match read_hierarchy(alloc, input) {
-        Ok(h) => h,
+    let front = match read_hierarchy(alloc, input) {
+        Ok(front) => front,
         Err(fail) => return Err(fail_of(fail)),
     };
     let mut line = Line::new();
-    put_counts(&mut line, &h);
+    put_counts(&mut line, front.hierarchy());
     match put_all(out, line.as_slice()) {
         Ok(()) => Ok(()),
         Err(_) => Err(CommandFail::Write),
     }
 }
 
-/// `view B`: reads all the input, and does the script that follows the stream.
+/// `view B`: reads all the input, and does the script that follows the stream of a valid hierarchy.
 pub fn view<S: Source, K: Sink>(
     alloc: Global,
     budget: u32,
@@ -92,19 +92,13 @@ pub fn view<S: Source, K: Sink>(
     ensures counts { Counts result (S.faults input.old) (S.faults input.new) (K.faults out.old) (K.faults out.new) }
     ensures read_whole { OnOk result (AtEnd (S.left input.new)) }
 {
-    // The budget is for view lines, which the program doesn't know yet.
-    let _ = budget;
-    let opened = match open_stream(alloc, input) {
+    let Opened { whole, bytes } = match open_stream(alloc, input) {
         Ok(opened) => opened,
         Err(fail) => return Err(fail_of(fail)),
     };
-    let h = &opened.whole.h;
-    let Ok(mut split) = base_front(alloc, h.records()) else {
-        return Err(CommandFail::OutOfMemory);
-    };
-    match serve(h, &mut split, &opened.bytes[opened.whole.used..], out) {
-        Ok(()) => Ok(()),
-        Err(ScriptFail::Faulty(fault)) => Err(CommandFail::Faulty(fault)),
-        Err(ScriptFail::Write) => Err(CommandFail::Write),
+    let script = &bytes[whole.used..];
+    match Session::start(alloc, whole.h, budget) {
+        Ok(session) => serve(session, script, out),
+        Err(fail) => Err(fail_of(load_fail(fail))),
     }
 }

@@ -12,6 +12,8 @@ pub enum Fault {
     TooLong,
     /// The bytes begin with no stream text, for this reason.
     Stream(FormatError),
+    /// This record is the last one of a stream, counted from 0, that doesn't have beside its faces what it tells.
+    BadNeighbour(u32),
     /// A byte follows the stream text.
     Trailing,
     /// This script line, counted from 1, is none of the forms.

@@ -1,10 +1,11 @@
 //! `vdpm`, for view-dependent progressive meshes: `run` over the standard streams.
 #![tactic(auto)]
 
+mod build;
+#[cfg(test)]
+mod build_tests;
 mod commands;
 mod fault;
-mod frame;
-mod front;
 mod input;
 mod line;
 mod opening;

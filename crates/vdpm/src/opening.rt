@@ -1,16 +1,15 @@
 // The hierarchy of a stream text.
-ghost use Rattle.std.specs.Prelude.{◌≡◌, ◌≤◌, drop, length, Ok, IfOk, IfErr, IfSome, OnOk};
+ghost use Rattle.std.specs.Prelude.{◌≡◌, ◌≤◌, ◌<◌, drop, length, Ok, IfOk, IfErr, IfSome, OnOk};
 ghost use Rattle.pm_io.specs.Bytes.{AtEnd};
-ghost use Rattle.pm_forest.specs.Rules.{HasShape};
 ghost use Rattle.vdpm.specs.Input.{Stops};
-ghost use Rattle.vdpm.specs.Opening.{IsOpening, refuses_opening, stream_fail, IsHierarchyText, refuses_hierarchy, IsSound, IsHierarchyFail};
+ghost use Rattle.vdpm.specs.Opening.{IsOpening, refuses_opening, stream_fail, load_fail, IsHierarchyText, refuses_hierarchy};
 
 use crate::fault::{Fault, InputFail};
 use crate::input::read_all;
-use pm_forest::Hierarchy;
 use pm_format::{FormatError, Whole, decode_whole};
+use pm_front::Front;
 use pm_io::Source;
-use pm_twins::{Twins, TwinsFail};
+use pm_load::{LoadFail, open_front};
 use std::alloc::Global;
 
 /// The bytes of an input, and the hierarchy whose stream text they begin with.
@@ -49,24 +48,31 @@ pub fn open_stream<S: Source>(alloc: Global, input: &mut S) -> Result<Opened, In
     }
 }
 
-// Whether the hierarchy of a stream is sound. Faces are counted from 0 here.
-fn check_leaves(alloc: Global, h: &Hierarchy) -> Result<(), InputFail>
-    ensures sound { OnOk result (IsSound h.now) }
-    ensures fault { IfErr result (IsHierarchyFail h.now) }
+/// Want of memory is no fault of a hierarchy. Faces and records are counted from 0 here.
+pub fn load_fail(fail: LoadFail) -> InputFail
+    ensures { result ≡ load_fail fail }
 {
-    let Ok(mesh) = h.leaf_mesh(alloc) else {
-        return Err(InputFail::OutOfMemory);
-    };
-    match Twins::of(alloc, &mesh) {
-        Ok(_) => Ok(()),
-        Err(TwinsFail::EdgeTwice(face)) => Err(InputFail::Faulty(Fault::EdgeTwice(face.0))),
-        Err(TwinsFail::OutOfMemory) => Err(InputFail::OutOfMemory),
+    match fail {
+        LoadFail::EdgeTwice(face) => InputFail::Faulty(Fault::EdgeTwice(face.0)),
+        LoadFail::BadNeighbour(record) => InputFail::Faulty(Fault::BadNeighbour(record)),
+        LoadFail::OutOfMemory => InputFail::OutOfMemory,
     }
 }
 
-/// Reads all the input, which should be the stream text of a sound hierarchy and no more.
-pub fn read_hierarchy<S: Source>(alloc: Global, input: &mut S) -> Result<Hierarchy, InputFail>
-    ensures read { IfOk result (λ h. IfSome (S.left input.old) (λ bytes. IsHierarchyText bytes (Ok h))) }
+// The front stands where no bytes follow its stream.
+fn at_end(front: Front, after: usize) -> Result<Front, InputFail>
+    ensures ok { IfOk result (λ f. (f ≡ front) × (after ≡ 0)) }
+    ensures err { IfErr result (λ e. (e ≡ InputFail.Faulty Fault.Trailing) × (0 < after)) }
+{
+    if after > 0 {
+        return Err(InputFail::Faulty(Fault::Trailing));
+    }
+    Ok(front)
+}
+
+/// Reads all the input, which should be the stream text of a valid hierarchy and no more, and answers its base front.
+pub fn read_hierarchy<S: Source>(alloc: Global, input: &mut S) -> Result<Front, InputFail>
+    ensures read { IfOk result (λ f. IfSome (S.left input.old) (λ bytes. IsHierarchyText bytes (Ok f.h))) }
     ensures end { OnOk result (AtEnd (S.left input.new)) }
     ensures count { OnOk result (S.faults input.new ≡ S.faults input.old) }
     ensures err { IfErr result (λ e. Stops refuses_hierarchy e (S.left input.old) (S.faults input.old) (S.faults input.new)) }
@@ -75,11 +81,9 @@ pub fn read_hierarchy<S: Source>(alloc: Global, input: &mut S) -> Result<Hierarc
         Ok(opened) => opened,
         Err(fail) => return Err(fail),
     };
-    if let Err(fail) = check_leaves(alloc, &whole.h) {
-        return Err(fail);
+    let after = bytes.len() - whole.used;
+    match open_front(alloc, whole.h) {
+        Ok(front) => at_end(front, after),
+        Err(fail) => Err(load_fail(fail)),
     }
-    if whole.used < bytes.len() {
-        return Err(InputFail::Faulty(Fault::Trailing));
-    }
-    Ok(whole.h)
 }

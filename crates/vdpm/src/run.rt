@@ -1,18 +1,20 @@
 // The program over any source and sinks.
-ghost use Rattle.std.specs.Prelude.{◌≡◌, ◌⊎◌, ◌≤◌, ◌<◌, ◌-◌, ◌^◌, map, ℕ, List, Option, None, Some, IfSome, IfErr, OnOk, codes};
+ghost use Rattle.std.specs.Prelude.{◌≡◌, ◌⊎◌, ◌≤◌, ◌<◌, ◌-◌, ◌^◌, map, true, ℕ, List, Option, None, Some, IfSome, IfErr, OnOk, codes};
 ghost use Rattle.std.specs.String.{string_bytes};
 ghost use Rattle.pm_io.specs.Bytes.{AtEnd};
 ghost use Rattle.pm_io.specs.Causes.{Rose};
 ghost use Rattle.obj_read.specs.Fails.{FailsBefore};
 ghost use Rattle.vdpm.specs.declared.fault.Fault.{Fault};
-ghost use Rattle.vdpm.specs.Words.{asked_of};
+ghost use Rattle.vdpm.specs.Words.{asked_of, reads_obj};
 ghost use Rattle.vdpm.specs.FaultLine.{fault_line};
-ghost use Rattle.vdpm.specs.Outcome.{Ends, Counts, IsOutcome, Replied, CutShort, Said, Stayed, Answers};
+ghost use Rattle.vdpm.specs.Outcome.{Ends, Counts, IsOutcome, Replied, GivesBack, CutShort, Said, Stayed, Answers};
 
+use crate::build::build;
 use crate::commands::{canon, check, expand, view};
 use crate::fault::CommandFail;
 use crate::say::{say, tell};
 use crate::words::{Asked, read_words};
+use pm_beyond::openings_are_sound;
 use pm_format::streams_are_sound;
 use pm_io::{Sink, Source};
 use std::alloc::Global;
@@ -27,10 +29,12 @@ fn obey<S: Source, K: Sink>(
     ensures ends { Ends asked result (S.left input.old) (K.got out.old) (K.got out.new) }
     ensures counts { Counts result (S.faults input.old) (S.faults input.new) (K.faults out.old) (K.faults out.new) }
     ensures read_whole { OnOk result (AtEnd (S.left input.new)) }
-    ensures unreached { asked ≡ Asked.Canon → IfErr result (λ e. e ≡ CommandFail.Read → FailsBefore (S.left input.old) (S.left input.new)) }
+    ensures gives_back { (target : ℕ) → asked ≡ Asked.Build target → OnOk result (IfSome (S.left input.old) (λ bytes. GivesBack target bytes (K.got out.old) (K.got out.new))) }
+    ensures unreached { reads_obj asked ≡ true → IfErr result (λ e. e ≡ CommandFail.Read → FailsBefore (S.left input.old) (S.left input.new)) }
 {
     match asked {
         Asked::Canon => canon(alloc, input, out),
+        Asked::Build(target) => build(alloc, target, input, out),
         Asked::Expand => expand(alloc, input, out),
         Asked::Check => check(alloc, input, out),
         Asked::View(budget) => view(alloc, budget, input, out),
@@ -39,7 +43,8 @@ fn obey<S: Source, K: Sink>(
 
 /// Does what the words after the program's name ask for, and answers the exit status.
 ///
-/// `canon` reads an OBJ text from `input` and writes its canonical text to `out`. `expand` reads a stream text and writes
+/// `canon` reads an OBJ text from `input` and writes its canonical text to `out`. `build N` reads one too, and writes the
+/// stream text of its mesh simplified to N faces; `build` is `build 0`. `expand` reads a stream text and writes
 /// the canonical text of the mesh that it was made from; `check` writes how large it is. `view B` reads a stream text and
 /// the script that follows it, and writes the replies. What ended a command early is said on `err`. Status 0: all was done.
 /// 1: the input has a fault, and the replies before it were put. 2: the words are none of the forms. 3: a read failed.
@@ -58,6 +63,8 @@ pub fn run<S: Source, K: Sink, E: Sink>(
     ensures untouched { result ≡ 2 → Stayed (S.left input.old) (S.left input.new) (S.faults input.old) (S.faults input.new) × Stayed (K.got out.old) (K.got out.new) (K.faults out.old) (K.faults out.new) }
     // The outcome of what was asked for is whole, and exactly its text was put.
     ensures whole { (asked : Asked) → asked_of (map string_bytes words.now) ≡ Some asked → result ≡ 0 → IfSome (S.left input.old) (λ bytes. Replied asked bytes None (K.got out.old) (K.got out.new)) }
+    // The stream of a build expands to the mesh of the OBJ text: what `canon` does with that text, `expand` does with the stream.
+    ensures expands { (target : ℕ) → asked_of (map string_bytes words.now) ≡ Some (Asked.Build target) → result ≡ 0 → IfSome (S.left input.old) (λ bytes. GivesBack target bytes (K.got out.old) (K.got out.new)) }
     ensures whole_counts { result ≡ 0 → (S.faults input.new ≡ S.faults input.old) × (K.faults out.new ≡ K.faults out.old) }
     ensures read_whole { result ≡ 0 → AtEnd (S.left input.new) }
     ensures silent { result ≡ 0 → Stayed (E.got err.old) (E.got err.new) (E.faults err.old) (E.faults err.new) }
@@ -66,7 +73,7 @@ pub fn run<S: Source, K: Sink, E: Sink>(
     ensures faulty_counts { result ≡ 1 → (S.faults input.new ≡ S.faults input.old) × (K.faults out.new ≡ K.faults out.old) }
     // A read failed, and nothing was put; of an OBJ text, the place of the first fault wasn't reached.
     ensures read { result ≡ 3 → Rose (S.faults input.old) (S.faults input.new) × (K.got out.new ≡ K.got out.old) }
-    ensures unreached { asked_of (map string_bytes words.now) ≡ Some Asked.Canon → result ≡ 3 → FailsBefore (S.left input.old) (S.left input.new) }
+    ensures unreached { (asked : Asked) → asked_of (map string_bytes words.now) ≡ Some asked → reads_obj asked ≡ true → result ≡ 3 → FailsBefore (S.left input.old) (S.left input.new) }
     // A write failed, and a proper prefix of the text was put.
     ensures write { (asked : Asked) → asked_of (map string_bytes words.now) ≡ Some asked → result ≡ 4 → Rose (K.faults out.old) (K.faults out.new) × IfSome (S.left input.old) (λ bytes. CutShort asked bytes (K.got out.old) (K.got out.new)) }
     // Memory was wanted, and nothing was put.
@@ -80,8 +87,9 @@ pub fn run<S: Source, K: Sink, E: Sink>(
         → IsOutcome asked bytes (record { text = text; fault = fault }) → S.faults input.new ≡ S.faults input.old → K.faults out.new ≡ K.faults out.old
         → S.faults input.old < 2 ^ 64 - 1 → K.faults out.old < 2 ^ 64 - 1 → Answers fault result ⊎ (result ≡ 5) }
 {
-    // An input has one outcome, since a hierarchy has one spelling.
+    // An input has one outcome, since a hierarchy has one spelling, and one last record that fails where it isn't valid.
     streams_are_sound();
+    openings_are_sound();
     let Some(asked) = read_words(words) else {
         say(err, b"vdpm: words not understood\n");
         return 2;

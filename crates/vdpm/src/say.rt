@@ -87,6 +87,7 @@ fn put_fault(line: &mut Line, fault: Fault)
     match fault {
         Fault::TooLong => line.add(b"vdpm: input too long\n"),
         Fault::Stream(fault) => put_stream_fault(line, fault),
+        Fault::BadNeighbour(record) => put_place(line, 28, b"record", record),
         Fault::Trailing => put_number(line, 29),
         Fault::BadLine(number) => put_place(line, 30, b"line", number),
         Fault::NoRecord(number) => put_place(line, 31, b"line", number),

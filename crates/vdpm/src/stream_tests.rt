@@ -15,10 +15,10 @@ const SQUARE: [i32; 41] = [
 
 const SQUARE_TEXT: &[u8] = b"v 0 0 0\nv 10 0 0\nv 0 10 0\nv 10 10 0\nf 1 2 4\nf 1 4 3\n";
 
-const OCTAHEDRON_TEXT: &[u8] =
+pub const OCTAHEDRON_TEXT: &[u8] =
     b"v 100 0 0\nv -100 0 0\nv 0 100 0\nv 0 -100 0\nv 0 0 100\nv 0 0 -100\nf 1 3 5\nf 3 2 5\nf 2 4 5\nf 4 1 5\nf 3 1 6\nf 2 3 6\nf 4 2 6\nf 1 4 6\n";
 
-// What a stream expands to, and how large it is.
+// What a stream expands to, and how large it is. Each is what `build` makes of its mesh.
 #[test]
 fn whole_streams(rt: HostRuntime) -> Result<(), Fail> {
     let alloc = rt.alloc();
@@ -58,6 +58,7 @@ fn whole_streams(rt: HostRuntime) -> Result<(), Fail> {
     for (words, mesh, counts) in cases {
         let input = text(alloc, words, b"")?;
         check(&rt, alloc, &["expand"], &input, 0, mesh, b"")?;
+        check(&rt, alloc, &["build"], mesh, 0, &input, b"")?;
         check(&rt, alloc, &["check"], &input, 0, counts, b"")?;
         let longer = joined(alloc, &input, b"x")?;
         check(
@@ -89,7 +90,7 @@ fn changed(alloc: Global, words: &[i32], byte: usize, word: i32) -> Result<Vec<u
 #[test]
 fn damaged_streams(rt: HostRuntime) -> Result<(), Fail> {
     let alloc = rt.alloc();
-    let cases: [(&[i32], usize, i32, &[u8]); 11] = [
+    let cases: [(&[i32], usize, i32, &[u8]); 14] = [
         (&OCTAHEDRON, 4, 7, b"vdpm: fault 21 version 7\n"),
         (&OCTAHEDRON, 20, 3, b"vdpm: fault 23\n"),
         (&OCTAHEDRON, 36, 0, b"vdpm: fault 24 root 0\n"),
@@ -101,13 +102,43 @@ fn damaged_streams(rt: HostRuntime) -> Result<(), Fail> {
         (&OCTAHEDRON, 208, 0, b"vdpm: fault 26 record 0\n"),
         (&OCTAHEDRON, 224, 9, b"vdpm: fault 27 input 10\n"),
         (&SQUARE, 152, 0, b"vdpm: fault 11 face 1\n"),
+        (&OCTAHEDRON, 320, 1, b"vdpm: fault 28 record 1\n"),
+        (&OCTAHEDRON, 228, 1, b"vdpm: fault 28 record 0\n"),
+        (&OCTAHEDRON, 228, 13, b"vdpm: fault 26 record 0\n"),
     ];
     for (words, byte, word, line) in cases {
         let input = changed(alloc, words, byte, word)?;
         check(&rt, alloc, &["check"], &input, 1, b"", line)?;
         let longer = joined(alloc, &input, b"x")?;
         check(&rt, alloc, &["expand"], &longer, 1, b"", line)?;
+        check(&rt, alloc, &["view", "5"], &longer, 1, b"", line)?;
     }
+    Ok(())
+}
+
+// Both records of the octahedron have a wrong neighbour: the last one is named.
+#[test]
+fn two_wrong_neighbours(rt: HostRuntime) -> Result<(), Fail> {
+    let alloc = rt.alloc();
+    let mut words = Vec::from_slice(alloc, &OCTAHEDRON)?;
+    for byte in [228usize, 320] {
+        if let Some(place) = words.get_mut((byte - 4) / 4) {
+            *place = 1;
+        }
+    }
+    let input = text(alloc, &words, b"")?;
+    let line = b"vdpm: fault 28 record 1\n";
+    check(&rt, alloc, &["check"], &input, 1, b"", line)?;
+    Ok(())
+}
+
+// A record is split once and collapsed once.
+#[test]
+fn square(rt: HostRuntime) -> Result<(), Fail> {
+    let alloc = rt.alloc();
+    let input = text(alloc, &SQUARE, b"s 0\ns 0\nc 0\nc 0\n")?;
+    let replies = b"ok\nnot active\nok\nnot active\n";
+    check(&rt, alloc, &["view", "0"], &input, 0, replies, b"")?;
     Ok(())
 }
 

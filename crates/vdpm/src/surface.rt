@@ -3,6 +3,7 @@ ghost use Rattle.std.specs.Prelude.{◌≡◌, Ok, IfOk, IfErr, IfSome, OnOk};
 ghost use Rattle.pm_base.specs.Meshes.{IsWellFormed, mesh_of};
 ghost use Rattle.pm_base.specs.Sides.{net_of};
 ghost use Rattle.pm_base.specs.Fans.{IsOrientedManifold};
+ghost use Rattle.pm_runs.specs.Runs.{IsStart};
 ghost use Rattle.pm_io.specs.Bytes.{AtEnd};
 ghost use Rattle.obj_read.specs.Fails.{FailsBefore};
 ghost use Rattle.vdpm.specs.Input.{Stops};
@@ -39,7 +40,7 @@ fn check_surface(alloc: Global, mesh: &Mesh) -> Result<(), InputFail>
 /// the byte that shows the fault has come; the surface is looked at once the text has ended.
 pub fn read_surface<S: Source>(alloc: Global, input: &mut S) -> Result<Mesh, InputFail>
     ensures surface { IfOk result (λ m. IfSome (S.left input.old) (λ bytes. IsSurface bytes (Ok (mesh_of m)))) }
-    ensures formed { IfOk result (λ m. IsWellFormed (mesh_of m)) }
+    ensures start { IfOk result (λ m. IsStart (mesh_of m)) }
     ensures end { OnOk result (AtEnd (S.left input.new)) }
     ensures count { OnOk result (S.faults input.new ≡ S.faults input.old) }
     ensures err { IfErr result (λ e. Stops refuses_surface e (S.left input.old) (S.faults input.old) (S.faults input.new)) }

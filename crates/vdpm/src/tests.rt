@@ -34,7 +34,7 @@ pub fn joined(alloc: Global, a: &[u8], b: &[u8]) -> Result<Vec<u8>, AllocError> 
     Ok(bytes)
 }
 
-fn command(alloc: Global, words: &[&str]) -> Result<Vec<String>, AllocError> {
+pub fn command(alloc: Global, words: &[&str]) -> Result<Vec<String>, AllocError> {
     let mut all = Vec::new(alloc);
     for word in words {
         all.push(String::from_str(alloc, word)?)?;
@@ -70,9 +70,11 @@ fn scripts(rt: HostRuntime) -> Result<(), Fail> {
     let alloc = rt.alloc();
     let full = joined(alloc, b"ok\nok\n", FULL)?;
     let base = joined(alloc, b"blocked 4\n", BASE)?;
-    let cases: [(&[u8], u8, &[u8], &[u8]); 12] = [
+    let back = joined(alloc, b"ok\nok\nblocked 6\nok\nok\nnot active\n", BASE)?;
+    let cases: [(&[u8], u8, &[u8], &[u8]); 13] = [
         (b"s 0\ns 1\nw\nq\nx\n", 0, &full, b""),
         (b"s 1\nw", 0, &base, b""),
+        (b"s 0\ns 1\nc 0\nc 1\nc 0\nc 0\nw\n", 0, &back, b""),
         (b"", 0, b"", b""),
         (b"s 0\ns 0\n", 0, b"ok\nnot active\n", b""),
         (b"s 0\ns 2\nw\n", 1, b"ok\n", b"vdpm: fault 31 line 2\n"),
@@ -95,7 +97,7 @@ pub const TETRAHEDRON: &[u8] =
     b"v 0 0 0\nv 10 0 0\nv 0 10 0\nv 0 0 10\nf 1 3 2\nf 1 2 4\nf 2 3 4\nf 1 4 3\n";
 
 // Two tetrahedra that share their first vertex.
-const TETRAHEDRA: &[u8] =
+pub const TETRAHEDRA: &[u8] =
     b"v 0 0 0\nv 10 0 0\nv 0 10 0\nv 0 0 10\nf 1 3 2\nf 1 2 4\nf 2 3 4\nf 1 4 3\nv -10 0 0\nv 0 -10 0\nv 0 0 -10\nf 1 5 6\nf 1 6 7\nf 1 7 5\nf 5 7 6\n";
 
 #[test]
@@ -147,7 +149,7 @@ fn obj_texts(rt: HostRuntime) -> Result<(), Fail> {
 #[test]
 fn words(rt: HostRuntime) -> Result<(), Fail> {
     let alloc = rt.alloc();
-    let refused: [&[&str]; 9] = [
+    let refused: [&[&str]; 11] = [
         &[],
         &["view"],
         &["view", "-1"],
@@ -155,6 +157,8 @@ fn words(rt: HostRuntime) -> Result<(), Fail> {
         &["view", "4294967296"],
         &["help"],
         &["canon", "1"],
+        &["build", "x"],
+        &["build", "01"],
         &["expand", "1"],
         &["check", "x"],
     ];

@@ -10,6 +10,9 @@ use pm_io::read_unsigned;
 pub enum Asked {
     /// `canon`: the canonical text of an OBJ text.
     Canon,
+    /// `build` and `build N`: the stream of an OBJ text's mesh, simplified to this number of faces; to none by `build`
+    /// alone.
+    Build(u32),
     /// `expand`: the canonical text of the mesh that a stream was made from.
     Expand,
     /// `check`: how large a stream's hierarchy is.
@@ -25,6 +28,8 @@ fn alone(word: &str) -> Option<Asked>
 {
     if word == "canon" {
         Some(Asked::Canon)
+    } else if word == "build" {
+        Some(Asked::Build(0))
     } else if word == "expand" {
         Some(Asked::Expand)
     } else if word == "check" {
@@ -42,6 +47,7 @@ pub fn read_words(words: &[String]) -> Option<Asked>
     match words {
         [word] => alone(word.as_str()),
         [word, number] => match read_unsigned(number.as_bytes(), u32::MAX) {
+            Some(target) if word.as_str() == "build" => Some(Asked::Build(target)),
             Some(budget) if word.as_str() == "view" => Some(Asked::View(budget)),
             _ => None,
         },

@@ -1,4 +1,6 @@
-use Rattle.std.proofs.Common.{None, Err, IfSome, inl, sym, ◌∙◌, subst}
+use Rattle.std.proofs.Common.{◌≡◌, true, None, Err, IfSome, inl, sym, ◌∙◌, subst}
+use Rattle.vdpm.specs.declared.words.Asked.TheVariants as asked
+use Rattle.vdpm.specs.Words.{reads_obj}
 use Rattle.vdpm.specs.Outcome.{IsOutcome, Replied, Ends}
 use Rattle.vdpm.proofs.OpeningLaws.{stream_laws}
 use Rattle.vdpm.proofs.OutcomeLaws.{one_asked, said_fault, cut_of, unreached_of, said_line, line_of_read, line_of_write, line_of_memory, completes_whole, completes}
@@ -8,9 +10,12 @@ pub returns-in-Ok-clause-whole : goal.returns-in-Ok-clause-whole
 returns-in-Ok-clause-whole g c = λ other asks is.
     subst (λ a. IfSome (g.S.Source.left c.args.input.now) (λ bytes. Replied a bytes None (g.K.Sink.got c.args.out.now) (g.K.Sink.got c.obey.new.out))) (one_asked _ _ other (sym c.read_words.ensures ∙ c.in-Some.is) asks) c.in-Ok.ensures.ends
 
+pub returns-in-Ok-clause-expands : goal.returns-in-Ok-clause-expands
+returns-in-Ok-clause-expands g c = λ target asks is. c.in-Ok.ensures.gives_back target (one_asked _ _ (asked.Build target) (sym c.read_words.ensures ∙ c.in-Some.is) asks)
+
 pub returns-in-Ok-clause-complete : goal.returns-in-Ok-clause-complete
 returns-in-Ok-clause-complete g c = λ other bytes text fault asks left outcome in_same out_same in_few out_few.
-    inl (completes_whole (stream_laws c.streams_are_sound.ensures.one_spelling c.streams_are_sound.ensures.whole) c.in-Some.asked bytes text fault _ _ _ left
+    inl (completes_whole (stream_laws c.streams_are_sound.ensures.one_spelling c.streams_are_sound.ensures.whole c.openings_are_sound.ensures.fails) c.in-Some.asked bytes text fault _ _ _ left
     (subst (λ a. IsOutcome a bytes (record { text = text; fault = fault })) (one_asked _ other _ asks (sym c.read_words.ensures ∙ c.in-Some.is)) outcome) c.in-Ok.ensures.ends)
 
 pub returns-in-Err-clause-faulty : goal.returns-in-Err-clause-faulty
@@ -20,8 +25,8 @@ returns-in-Err-clause-faulty g c = λ other asks is.
     c.tell.ensures.said
 
 pub returns-in-Err-clause-unreached : goal.returns-in-Err-clause-unreached
-returns-in-Err-clause-unreached g c = λ asks is.
-    c.in-Err.ensures.unreached (one_asked _ _ _ (sym c.read_words.ensures ∙ c.in-Some.is) asks) (unreached_of c.in-Err.fail (sym c.tell.ensures.status ∙ is))
+returns-in-Err-clause-unreached g c = λ other asks obj is.
+    c.in-Err.ensures.unreached (subst (λ a. reads_obj a ≡ true) (sym (one_asked _ _ other (sym c.read_words.ensures ∙ c.in-Some.is) asks)) obj) (unreached_of c.in-Err.fail (sym c.tell.ensures.status ∙ is))
 
 pub returns-in-Err-clause-write : goal.returns-in-Err-clause-write
 returns-in-Err-clause-write g c = λ other asks is.
@@ -40,6 +45,6 @@ returns-in-Err-clause-said_memory g c = λ is. said_line c.in-Err.fail _ _ _ _ _
 
 pub returns-in-Err-clause-complete : goal.returns-in-Err-clause-complete
 returns-in-Err-clause-complete g c = λ other bytes text fault asks left outcome in_same out_same in_few out_few.
-    completes (stream_laws c.streams_are_sound.ensures.one_spelling c.streams_are_sound.ensures.whole) c.in-Some.asked c.in-Err.fail _ _ _ _ _ bytes text fault _ _ _ left
+    completes (stream_laws c.streams_are_sound.ensures.one_spelling c.streams_are_sound.ensures.whole c.openings_are_sound.ensures.fails) c.in-Some.asked c.in-Err.fail _ _ _ _ _ bytes text fault _ _ _ left
     (subst (λ a. IsOutcome a bytes (record { text = text; fault = fault })) (one_asked _ other _ asks (sym c.read_words.ensures ∙ c.in-Some.is)) outcome)
     c.in-Err.ensures.ends c.in-Err.ensures.counts c.tell.ensures.status in_same out_same in_few out_few

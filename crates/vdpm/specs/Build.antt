@@ -1,0 +1,24 @@
+-- What `build` makes of an OBJ text: the hierarchy of the run of its mesh to a number of faces.
+use Rattle.std.specs.Prelude.{◌≡◌, ℕ, List, Result, Ok, Err}
+use Rattle.pm_base.specs.Meshes.{Mesh}
+use Rattle.pm_base.specs.declared.log.Collapse.{Collapse}
+use Rattle.pm_forest.specs.Forest.{Hierarchy}
+use Rattle.pm_runs.specs.Runs.{IsRunTo}
+use Rattle.pm_number.specs.Numbering.{hierarchy_of_run}
+use Rattle.vdpm.specs.declared.fault.Fault.{Fault}
+use Rattle.vdpm.specs.Surface.{IsSurface}
+
+-- The hierarchy is that of a log of the mesh's run to the target, each time by the legal pair of least cost. There is one
+-- such log: `OneRunToATarget`.
+pub record IsSimplified (m : Mesh) (target : ℕ) (h : Hierarchy) : Type 0 where
+  pub log : List Collapse
+  pub run : IsRunTo m target log
+  pub made : h ≡ hierarchy_of_run m log
+
+-- The text gives no mesh, or its mesh is simplified.
+pub data IsBuilt (bytes : List ℕ) (target : ℕ) : Result Hierarchy Fault → Type 0 where
+  no_surface : (f : Fault) → IsSurface bytes (Err f) → IsBuilt bytes target (Err f)
+  simplified : (m : Mesh) (h : Hierarchy) → IsSurface bytes (Ok m) → IsSimplified m target h → IsBuilt bytes target (Ok h)
+
+abbrev pub refuses_build : ℕ → List ℕ → Fault → Type 0
+refuses_build target bytes f = IsBuilt bytes target (Err f)

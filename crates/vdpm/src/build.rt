@@ -1,0 +1,88 @@
+// `build`: an OBJ text's mesh is simplified, and the hierarchy of the run is written as a stream.
+ghost use Rattle.std.specs.Prelude.{◌≡◌, Ok, IfOk, IfErr, IfSome, OnOk};
+ghost use Rattle.pm_base.specs.Meshes.{mesh_of};
+ghost use Rattle.pm_io.specs.Bytes.{AtEnd};
+ghost use Rattle.obj_read.specs.Fails.{FailsBefore};
+ghost use Rattle.pm_forest.specs.Meshes.{input_mesh_of};
+ghost use Rattle.pm_beyond.specs.Valid.{IsValid};
+ghost use Rattle.pm_runs.specs.Runs.{IsStart};
+ghost use Rattle.vdpm.specs.Input.{Stops};
+ghost use Rattle.vdpm.specs.Surface.{IsSurface};
+ghost use Rattle.vdpm.specs.Build.{IsSimplified, IsBuilt, refuses_build};
+ghost use Rattle.vdpm.specs.Outcome.{Ends, Counts, GivesBack};
+
+use crate::fault::{CommandFail, InputFail, fail_of};
+use crate::surface::read_surface;
+use crate::words::Asked;
+use pm_base::Mesh;
+use pm_forest::Hierarchy;
+use pm_format::encode;
+use pm_io::{Sink, Source};
+use pm_number::{OutOfMemory, from_log};
+use pm_simplify::{SimplifyFail, simplify};
+use std::alloc::{AllocError, Global};
+
+// The hierarchy of a mesh's run to a number of faces.
+fn simplified(alloc: Global, mesh: &Mesh, target: u32) -> Result<Hierarchy, OutOfMemory>
+    requires { IsStart (mesh_of mesh.now) }
+    ensures simplified { IfOk result (IsSimplified (mesh_of mesh.now) target) }
+    ensures valid { IfOk result IsValid }
+    ensures mesh { IfOk result (λ h. input_mesh_of h ≡ mesh_of mesh.now) }
+{
+    let log = match simplify(alloc, mesh, target) {
+        Ok(log) => log,
+        Err(SimplifyFail::OutOfMemory) => return Err(AllocError),
+        // The mesh is an oriented manifold.
+        Err(SimplifyFail::EdgeTwice(_)) => unreachable!(),
+        Err(SimplifyFail::NotFan(_)) => unreachable!(),
+    };
+    from_log(alloc, mesh, &log)
+}
+
+// Reads an OBJ text, and simplifies its mesh to a number of faces.
+fn build_hierarchy<S: Source>(
+    alloc: Global,
+    target: u32,
+    input: &mut S,
+) -> Result<Hierarchy, InputFail>
+    ensures built { IfOk result (λ h. IfSome (S.left input.old) (λ bytes. IsBuilt bytes target (Ok h))) }
+    ensures mesh { IfOk result (λ h. IfSome (S.left input.old) (λ bytes. IsSurface bytes (Ok (input_mesh_of h)))) }
+    ensures valid { IfOk result IsValid }
+    ensures end { OnOk result (AtEnd (S.left input.new)) }
+    ensures count { OnOk result (S.faults input.new ≡ S.faults input.old) }
+    ensures err { IfErr result (λ e. Stops (refuses_build target) e (S.left input.old) (S.faults input.old) (S.faults input.new)) }
+    ensures unreached { IfErr result (λ e. e ≡ InputFail.Read → FailsBefore (S.left input.old) (S.left input.new)) }
+{
+    let mesh = match read_surface(alloc, input) {
+        Ok(mesh) => mesh,
+        Err(fail) => return Err(fail),
+    };
+    match simplified(alloc, &mesh, target) {
+        Ok(h) => Ok(h),
+        Err(_) => Err(InputFail::OutOfMemory),
+    }
+}
+
+/// `build N`: reads an OBJ text, simplifies its mesh to N faces or as far as pairs may be collapsed, and writes the stream
+/// text of the run's hierarchy.
+pub fn build<S: Source, K: Sink>(
+    alloc: Global,
+    target: u32,
+    input: &mut S,
+    out: &mut K,
+) -> Result<(), CommandFail>
+    ensures ends { Ends (Asked.Build target) result (S.left input.old) (K.got out.old) (K.got out.new) }
+    ensures gives_back { OnOk result (IfSome (S.left input.old) (λ bytes. GivesBack target bytes (K.got out.old) (K.got out.new))) }
+    ensures counts { Counts result (S.faults input.old) (S.faults input.new) (K.faults out.old) (K.faults out.new) }
+    ensures read_whole { OnOk result (AtEnd (S.left input.new)) }
+    ensures unreached { IfErr result (λ e. e ≡ CommandFail.Read → FailsBefore (S.left input.old) (S.left input.new)) }
+{
+    let h = match build_hierarchy(alloc, target, input) {
+        Ok(h) => h,
+        Err(fail) => return Err(fail_of(fail)),
+    };
+    match encode(&h, out) {
+        Ok(()) => Ok(()),
+        Err(_) => Err(CommandFail::Write),
+    }
+}
