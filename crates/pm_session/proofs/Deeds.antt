@@ -9,13 +9,15 @@ use Rattle.pm_forest.specs.Forest.{Hierarchy, record_count}
 use Rattle.pm_forest.specs.Fronts.{set_of, no_records, with, without}
 use Rattle.pm_beyond.specs.declared.moves.MoveFault.{MoveFault}
 use Rattle.pm_beyond.specs.Moves.{split_fault, collapse_fault}
+use Rattle.pm_view.specs.Views.{View}
+use Rattle.pm_refine.specs.declared.refiner.Adapted.{Adapted}
 use Rattle.pm_frame.specs.Frame.{frame_text}
 use Rattle.pm_session.specs.declared.command.Command.TheVariants as commands
 use Rattle.pm_session.specs.declared.session.Next.{Next}
 use Rattle.pm_session.specs.declared.session.Next.TheVariants as nexts
 use Rattle.pm_session.specs.declared.session.LineFail.{LineFail}
 use Rattle.pm_session.specs.declared.session.LineFail.TheVariants as fails
-use Rattle.pm_session.specs.Script.{command_of, reply_to, after_split, after_collapse, Deed, Replies, Ends, IsBad, NamesNoRecord, line_deed}
+use Rattle.pm_session.specs.Script.{command_of, reply_to, view_reply, adapted_to, after_view, after_split, after_collapse, Deed, Replies, Ends, IsBad, NamesNoRecord, line_deed}
 use Rattle.pm_session.specs.Session.{LineEnds}
 
 -- No flag is set in the base front.
@@ -47,35 +49,40 @@ unfolding after_collapse
 collapse_refused h T S k e fault same = rw (same, fault) refl
 
 -- What a line does.
-pub deed_quit : (h : Hierarchy) (T : ℕ → Bool) (line : List ℕ) → command_of line ≡ commands.Quit → line_deed h T line ≡ Ends
+pub deed_quit : (h : Hierarchy) (b : ℕ) (T : ℕ → Bool) (line : List ℕ) → command_of line ≡ commands.Quit → line_deed h b T line ≡ Ends
 unfolding line_deed
-deed_quit h T line is = rw is refl
+deed_quit h b T line is = rw is refl
 
-pub deed_bad : (h : Hierarchy) (T : ℕ → Bool) (line : List ℕ) → command_of line ≡ commands.Bad → line_deed h T line ≡ IsBad
+pub deed_bad : (h : Hierarchy) (b : ℕ) (T : ℕ → Bool) (line : List ℕ) → command_of line ≡ commands.Bad → line_deed h b T line ≡ IsBad
 unfolding line_deed
-deed_bad h T line is = rw is refl
+deed_bad h b T line is = rw is refl
 
-pub deed_show : (h : Hierarchy) (T : ℕ → Bool) (line : List ℕ) → command_of line ≡ commands.Show → line_deed h T line ≡ Replies (frame_text h T) T
+pub deed_show : (h : Hierarchy) (b : ℕ) (T : ℕ → Bool) (line : List ℕ) → command_of line ≡ commands.Show → line_deed h b T line ≡ Replies (frame_text h T) T
 unfolding line_deed
-deed_show h T line is = rw is refl
+deed_show h b T line is = rw is refl
 
-pub deed_split : (h : Hierarchy) (T S : ℕ → Bool) (line : List ℕ) (k : ℕ) (fault : Option MoveFault) → command_of line ≡ commands.Split k → k < record_count h
-    → fault ≡ split_fault h T k → S ≡ after_split h T k → line_deed h T line ≡ Replies (reply_to fault) S
+pub deed_split : (h : Hierarchy) (b : ℕ) (T S : ℕ → Bool) (line : List ℕ) (k : ℕ) (fault : Option MoveFault) → command_of line ≡ commands.Split k → k < record_count h
+    → fault ≡ split_fault h T k → S ≡ after_split h T k → line_deed h b T line ≡ Replies (reply_to fault) S
 unfolding line_deed
-deed_split h T S line k fault is l answer after = rw (is, lt-ltb k (record_count h) l, answer, after) refl
+deed_split h b T S line k fault is l answer after = rw (is, lt-ltb k (record_count h) l, answer, after) refl
 
-pub deed_collapse : (h : Hierarchy) (T S : ℕ → Bool) (line : List ℕ) (k : ℕ) (fault : Option MoveFault) → command_of line ≡ commands.Collapse k → k < record_count h
-    → fault ≡ collapse_fault h T k → S ≡ after_collapse h T k → line_deed h T line ≡ Replies (reply_to fault) S
+pub deed_collapse : (h : Hierarchy) (b : ℕ) (T S : ℕ → Bool) (line : List ℕ) (k : ℕ) (fault : Option MoveFault) → command_of line ≡ commands.Collapse k → k < record_count h
+    → fault ≡ collapse_fault h T k → S ≡ after_collapse h T k → line_deed h b T line ≡ Replies (reply_to fault) S
 unfolding line_deed
-deed_collapse h T S line k fault is l answer after = rw (is, lt-ltb k (record_count h) l, answer, after) refl
+deed_collapse h b T S line k fault is l answer after = rw (is, lt-ltb k (record_count h) l, answer, after) refl
 
-pub deed_no_split : (h : Hierarchy) (T : ℕ → Bool) (line : List ℕ) (k : ℕ) → command_of line ≡ commands.Split k → record_count h ≤ k → line_deed h T line ≡ NamesNoRecord
+pub deed_no_split : (h : Hierarchy) (b : ℕ) (T : ℕ → Bool) (line : List ℕ) (k : ℕ) → command_of line ≡ commands.Split k → record_count h ≤ k → line_deed h b T line ≡ NamesNoRecord
 unfolding line_deed
-deed_no_split h T line k is l = rw (is, le-ltb k (record_count h) l) refl
+deed_no_split h b T line k is l = rw (is, le-ltb k (record_count h) l) refl
 
-pub deed_no_collapse : (h : Hierarchy) (T : ℕ → Bool) (line : List ℕ) (k : ℕ) → command_of line ≡ commands.Collapse k → record_count h ≤ k → line_deed h T line ≡ NamesNoRecord
+pub deed_no_collapse : (h : Hierarchy) (b : ℕ) (T : ℕ → Bool) (line : List ℕ) (k : ℕ) → command_of line ≡ commands.Collapse k → record_count h ≤ k → line_deed h b T line ≡ NamesNoRecord
 unfolding line_deed
-deed_no_collapse h T line k is l = rw (is, le-ltb k (record_count h) l) refl
+deed_no_collapse h b T line k is l = rw (is, le-ltb k (record_count h) l) refl
+
+pub deed_look : (h : Hierarchy) (b : ℕ) (T S : ℕ → Bool) (line : List ℕ) (view : View) (adapted : Adapted) → command_of line ≡ commands.Look view
+    → adapted ≡ adapted_to h b T view → S ≡ after_view h b T view → line_deed h b T line ≡ Replies (view_reply adapted) S
+unfolding line_deed
+deed_look h b T S line view adapted is answer after = rw (is, answer, after) refl
 
 -- How a line ends that has a reply,
 pub replied : (deed : Deed) (reply : List ℕ) (T before after : ℕ → Bool) (put : Result (Unit {0}) WriteFault) (result : Result Next LineFail) (old new : Option (List ℕ))

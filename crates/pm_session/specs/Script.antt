@@ -1,5 +1,5 @@
 -- The script machine: what a line, and what a list of lines, does from a state, which is the set of split records.
-use Rattle.std.specs.Prelude.{ℕ, ◌+◌, ◌==◌, ◌&&◌, nat_lt, nat_le, Bool, is_none, List, [], ◌∷◌, ◌++◌, length, drop, slice_index_or, Option, Some, None, if◌then◌else◌, cond, codes}
+use Rattle.std.specs.Prelude.{ℕ, ◌+◌, ◌==◌, ◌&&◌, nat_lt, nat_le, Bool, is_none, List, [], ◌∷◌, ◌++◌, length, drop, take, slice_index_or, Option, Some, None, if◌then◌else◌, cond, codes}
 use Rattle.std.specs.Fmt.{decimal}
 use Rattle.pm_io.specs.Digits.{unsigned_of}
 use Rattle.pm_forest.specs.Forest.{Hierarchy, record_count}
@@ -7,7 +7,13 @@ use Rattle.pm_forest.specs.Fronts.{with, without}
 use Rattle.pm_beyond.specs.declared.moves.MoveFault.{MoveFault}
 use Rattle.pm_beyond.specs.declared.moves.MoveFault.TheVariants as moves
 use Rattle.pm_beyond.specs.Moves.{split_fault, collapse_fault}
+use Rattle.pm_beyond.specs.Plans.{moved_by}
 use Rattle.pm_frame.specs.Frame.{frame_text}
+use Rattle.pm_view.specs.Views.{View}
+use Rattle.pm_view.specs.Fields.{view_of}
+use Rattle.pm_refine.specs.declared.refiner.Adapted.{Adapted}
+use Rattle.pm_refine.specs.declared.refiner.Adapted.TheVariants as adapted
+use Rattle.pm_refine.specs.Adapting.{view_plan, adapted_of}
 use Rattle.pm_session.specs.declared.command.Command.{Command}
 use Rattle.pm_session.specs.declared.command.Command.TheVariants as commands
 use Rattle.pm_session.specs.declared.command.ScriptFault.{ScriptFault}
@@ -38,17 +44,22 @@ abbrev pub collapse_of : Option ℕ → Command
 collapse_of None = commands.Bad
 collapse_of (Some k) = commands.Collapse k
 
+abbrev pub look_of : Option View → Command
+look_of None = commands.Bad
+look_of (Some view) = commands.Look view
+
 -- What stands after the letter and its space, as an unsigned number of 32 bits.
 abbrev pub record_in : List ℕ → Option ℕ
 record_in line = unsigned_of 4294967295 (drop 2 line)
 
--- `w`, `q`, `s K` or `c K`, with one space and K an unsigned number of 32 bits.
+-- `w`, `q`, `s K` or `c K` with one space and K an unsigned number of 32 bits, or `v`, a space and the fields of a view.
 unfoldable pub command_of : List ℕ → Command
 command_of line =
     if is_letter 119 line then commands.Show
     else if is_letter 113 line then commands.Quit
     else if begins_with 115 line then split_of (record_in line)
     else if begins_with 99 line then collapse_of (record_in line)
+    else if begins_with 118 line then look_of (view_of (drop 2 line))
     else commands.Bad
 
 -- The reply to a move.
@@ -64,6 +75,19 @@ after_split h T k = cond (is_none (split_fault h T k)) (with T k) T
 unfoldable pub after_collapse : Hierarchy → (ℕ → Bool) → ℕ → ℕ → Bool
 after_collapse h T k = cond (is_none (collapse_fault h T k)) (without T k) T
 
+-- The reply to a view: `settled MOVES`, or `spent MOVES LEFT`.
+unfoldable pub view_reply : Adapted → List ℕ
+view_reply (adapted.Settled moves) = codes "settled " ++ decimal moves ++ codes "\n"
+view_reply (adapted.Spent moves left) = codes "spent " ++ decimal moves ++ codes " " ++ decimal left ++ codes "\n"
+
+-- What is answered to a view, and the split records after it: the first moves of its plan are made, as many as the budget
+-- allows.
+unfoldable pub adapted_to : Hierarchy → ℕ → (ℕ → Bool) → View → Adapted
+adapted_to h budget T view = adapted_of budget (length (view_plan h T view))
+
+unfoldable pub after_view : Hierarchy → ℕ → (ℕ → Bool) → View → ℕ → Bool
+after_view h budget T view = moved_by T (take budget (view_plan h T view))
+
 -- What a line does: it has a reply and leads to a state, or it ends the script, or it has a fault.
 pub data Deed : Type 0 where
   Replies : List ℕ → (ℕ → Bool) → Deed
@@ -71,15 +95,16 @@ pub data Deed : Type 0 where
   IsBad : Deed
   NamesNoRecord : Deed
 
-abbrev pub deed_of : Hierarchy → (ℕ → Bool) → Command → Deed
-deed_of h T commands.Show = Replies (frame_text h T) T
-deed_of h T commands.Quit = Ends
-deed_of h T commands.Bad = IsBad
-deed_of h T (commands.Split k) = if nat_lt k (record_count h) then Replies (reply_to (split_fault h T k)) (after_split h T k) else NamesNoRecord
-deed_of h T (commands.Collapse k) = if nat_lt k (record_count h) then Replies (reply_to (collapse_fault h T k)) (after_collapse h T k) else NamesNoRecord
+abbrev pub deed_of : Hierarchy → ℕ → (ℕ → Bool) → Command → Deed
+deed_of h budget T commands.Show = Replies (frame_text h T) T
+deed_of h budget T commands.Quit = Ends
+deed_of h budget T commands.Bad = IsBad
+deed_of h budget T (commands.Split k) = if nat_lt k (record_count h) then Replies (reply_to (split_fault h T k)) (after_split h T k) else NamesNoRecord
+deed_of h budget T (commands.Collapse k) = if nat_lt k (record_count h) then Replies (reply_to (collapse_fault h T k)) (after_collapse h T k) else NamesNoRecord
+deed_of h budget T (commands.Look view) = Replies (view_reply (adapted_to h budget T view)) (after_view h budget T view)
 
-unfoldable pub line_deed : Hierarchy → (ℕ → Bool) → List ℕ → Deed
-line_deed h T line = deed_of h T (command_of line)
+unfoldable pub line_deed : Hierarchy → ℕ → (ℕ → Bool) → List ℕ → Deed
+line_deed h budget T line = deed_of h budget T (command_of line)
 
 -- The replies, and the fault that ends them, if one does.
 pub record Ran : Type 0 where
@@ -96,8 +121,8 @@ done_by n Ends later = record { text = []; fault = None }
 done_by n IsBad later = record { text = []; fault = Some (faults.BadLine n) }
 done_by n NamesNoRecord later = record { text = []; fault = Some (faults.NoRecord n) }
 
--- What the lines do from state T, the first of which has the number n: `q` ends the script, and so does the first line
+-- What the lines do from state T with a budget of moves for each view, the first of which has the number n: `q` ends the script, and so does the first line
 -- that is none of the forms or names no record.
-unfoldable pub ran : Hierarchy → (ℕ → Bool) → ℕ → List (List ℕ) → Ran
-ran h T n [] = record { text = []; fault = None }
-ran h T n (line ∷ lines) = done_by n (line_deed h T line) (λ S. ran h S (n + 1) lines)
+unfoldable pub ran : Hierarchy → ℕ → (ℕ → Bool) → ℕ → List (List ℕ) → Ran
+ran h budget T n [] = record { text = []; fault = None }
+ran h budget T n (line ∷ lines) = done_by n (line_deed h budget T line) (λ S. ran h budget S (n + 1) lines)

@@ -2,7 +2,8 @@
 use Rattle.std.specs.Prelude.{◌≡◌, ℕ, Bool, List, Option, Result, Ok, Err}
 use Rattle.pm_io.specs.Bytes.{Gains, GainsPart}
 use Rattle.pm_io.specs.Causes.{Rose}
-use Rattle.pm_forest.specs.Forest.{Hierarchy}
+use Rattle.pm_forest.specs.Forest.{Hierarchy, record_count}
+use Rattle.pm_bounds.specs.Bounds.{Bounds, AreBoundsOf}
 use Rattle.pm_session.specs.declared.session.Next.{Next}
 use Rattle.pm_session.specs.declared.session.Next.TheVariants as nexts
 use Rattle.pm_session.specs.declared.session.LineFail.{LineFail}
@@ -14,6 +15,11 @@ pub record Shown : Type 0 where
   pub h : Hierarchy
   pub flags : List Bool
   pub budget : ℕ
+
+-- The bounds are those of the hierarchy, and the refiner has room for its records.
+pub record IsFitting (h : Hierarchy) (bounds : Bounds) (room : ℕ) : Type 0 where
+  pub are_its_bounds : AreBoundsOf h bounds
+  pub fits : room ≡ record_count h
 
 -- How a line ends, by its deed: `before` and `after` are the split records, and `old` and `new` what the sink had taken.
 abbrev pub LineEnds : Deed → Result Next LineFail → (ℕ → Bool) → (ℕ → Bool) → Option (List ℕ) → Option (List ℕ) → Type 0

@@ -3,14 +3,17 @@ ghost use Rattle.std.specs.Prelude.{◌≡◌};
 ghost use Rattle.pm_session.specs.Script.{command_of};
 
 use pm_io::read_unsigned;
+use pm_view::{View, read_view};
 
 /// What a script line asks for.
-#[derive(Clone, Copy, Debug, PartialEq, Eq)]
+#[derive(Drop)]
 pub enum Command {
     /// `s K`: split record K.
     Split(u32),
     /// `c K`: collapse record K.
     Collapse(u32),
+    /// `v ..`: adapt the front to a view.
+    Look(View),
     /// `w`: write the frame.
     Show,
     /// `q`: end the script.
@@ -26,7 +29,7 @@ pub enum ScriptFault {
     NoRecord(u64),
 }
 
-/// What a line asks for: `w`, `q`, or `s K` or `c K` with one space.
+/// What a line asks for: `w`, `q`, `s K` or `c K`, or `v` and the fields of a view, with one space between fields.
 #[tactic(auto, unfolding(crate::specs::Script::command_of))]
 pub(crate) fn command_of(line: &[u8]) -> Command
     ensures { result ≡ command_of line.now }
@@ -41,6 +44,10 @@ pub(crate) fn command_of(line: &[u8]) -> Command
         [b'c', b' ', number @ ..] => match read_unsigned(number, u32::MAX) {
             None => Command::Bad,
             Some(k) => Command::Collapse(k),
+        },
+        [b'v', b' ', fields @ ..] => match read_view(fields) {
+            Ok(view) => Command::Look(view),
+            Err(_) => Command::Bad,
         },
         _ => Command::Bad,
     }

@@ -8,19 +8,23 @@ ghost use Rattle.pm_beyond.specs.Valid.{IsValid};
 ghost use Rattle.pm_beyond.specs.Moves.{split_fault, collapse_fault};
 ghost use Rattle.pm_load.specs.Faults.{IsLoadFault};
 ghost use Rattle.pm_frame.specs.Frame.{frame_text};
-ghost use Rattle.pm_session.specs.Script.{reply_to, line_deed, after_split, after_collapse};
-ghost use Rattle.pm_session.specs.Session.{LineEnds, LineCounts};
+ghost use Rattle.pm_session.specs.Script.{reply_to, line_deed, after_split, after_collapse, view_reply, adapted_to, after_view};
+ghost use Rattle.pm_session.specs.Session.{LineEnds, LineCounts, IsFitting};
 
 use crate::command::{Command, command_of};
-use crate::reply::put_reply;
+use crate::reply::{put_reply, put_view_reply};
 use pm_beyond::MoveFault;
+use pm_bounds::Bounds;
 use pm_forest::Hierarchy;
 use pm_frame::write_frame;
 use pm_front::Front;
 use pm_io::{Line, Sink, WriteFault, put_all};
 use pm_load::{LoadFail, open_front};
+use pm_refine::{Adapted, Refiner};
+use pm_view::{Steps, View};
 use std::alloc::Global;
-use std::marker::Model;
+use std::marker::{Brand, Model};
+use std::sync::ledger::{Blank, Ledger};
 
 /// What comes after a line: the next one, or the end of the script.
 #[derive(Clone, Copy, Debug, PartialEq, Eq)]
@@ -41,15 +45,53 @@ pub enum LineFail {
 #[derive(Drop)]
 pub struct Session {
     front: Front,
+    bounds: Bounds,
+    refiner: Refiner,
     budget: u32,
 }
 
 impl Model for Session {
-    ghost use Rattle.pm_session.specs.Session.{Shown};
+    ghost use Rattle.pm_session.specs.Session.{Shown, IsFitting};
 
     ghost Value = { Shown };
 
     ghost view = { λ s. record { h = s.front.h; flags = s.front.flags; budget = s.budget } };
+
+    ghost invariant = { λ s. IsFitting s.front.h s.bounds s.refiner };
+}
+
+// Adapts a front to a view, where nobody counts the steps.
+#[tactic(auto, unfolding(crate::specs::Script::adapted_to, crate::specs::Script::after_view))]
+fn adapt<L: Ledger>(
+    refiner: &mut Refiner,
+    front: &mut Front,
+    bounds: &Bounds,
+    view: &View,
+    budget: u32,
+    blank: Blank,
+) -> Adapted
+    requires fitting { IsFitting front.old.h bounds.now refiner.old }
+    requires name { blank.name ≡ L.name }
+    requires parts { blank.parts ≡ L.parts }
+    requires some { 0 < L.parts }
+    ensures answer { result ≡ adapted_to front.old.h budget (set_of front.old.flags) view.now }
+    ensures after { set_of front.new.flags ≡ after_view front.old.h budget (set_of front.old.flags) view.now }
+    ensures hierarchy { front.new.h ≡ front.old.h }
+    ensures fitting { IsFitting front.new.h bounds.now refiner.new }
+{
+    let mut steps: Steps<L> = Steps::new(blank);
+    refiner.adapt(front, bounds, view, budget, &mut steps)
+}
+
+// Puts the reply to a view.
+fn put_adapted<K: Sink>(adapted: Adapted, out: &mut K) -> Result<(), WriteFault>
+    ensures ok { OnOk result (Gains (K.got out.old) (K.got out.new) (view_reply adapted)) }
+    ensures err { OnErr result (GainsPart (K.got out.old) (K.got out.new) (view_reply adapted)) }
+    ensures cause { HasCause (K.faults out.old) (K.faults out.new) result }
+{
+    let mut line = Line::new();
+    put_view_reply(&mut line, adapted);
+    put_all(out, line.as_slice())
 }
 
 // Puts the reply to a move.
@@ -84,10 +126,22 @@ impl Session {
         ensures fault { IfErr result (IsLoadFault h) }
         ensures refused { IfErr result (λ e. e ≢ LoadFail.OutOfMemory → IsValid h → ⊥) }
     {
-        match open_front(alloc, h) {
-            Ok(front) => Ok(Session { front, budget }),
-            Err(fail) => Err(fail),
-        }
+        let front = match open_front(alloc, h) {
+            Ok(front) => front,
+            Err(fail) => return Err(fail),
+        };
+        let Ok(bounds) = Bounds::of(alloc, front.hierarchy()) else {
+            return Err(LoadFail::OutOfMemory);
+        };
+        let Ok(refiner) = Refiner::new(alloc, front.hierarchy()) else {
+            return Err(LoadFail::OutOfMemory);
+        };
+        Ok(Session {
+            front,
+            bounds,
+            refiner,
+            budget,
+        })
     }
 
     // Writes the frame.
@@ -136,13 +190,29 @@ impl Session {
         }
     }
 
+    // Adapts the front to a view.
+    fn look(&mut self, view: &View) -> Adapted
+        ensures answer { result ≡ adapted_to self.old.h self.old.budget (set_of self.old.flags) view.now }
+        ensures after { set_of self.new.flags ≡ after_view self.old.h self.old.budget (set_of self.old.flags) view.now }
+        ensures same { (self.new.h ≡ self.old.h) × (self.new.budget ≡ self.old.budget) }
+    {
+        adapt::<Brand>(
+            &mut self.refiner,
+            &mut self.front,
+            &self.bounds,
+            view,
+            self.budget,
+            Blank::new(1),
+        )
+    }
+
     /// Does one script line, which is given without its LF, and writes its whole reply. BadLine comes exactly where the
     /// line is none of the forms, and NoRecord exactly where it names a record that isn't there; nothing is changed or
     /// written then. Write comes only where the sink failed: the line's move stands, and the sink gained a part of the
     /// reply from its front, and not the whole. It takes no memory.
     pub fn line<K: Sink>(&mut self, text: &[u8], out: &mut K) -> Result<Next, LineFail>
         ensures ends { let T = set_of self.old.flags in
-            LineEnds (line_deed self.old.h T text.now) result T (set_of self.new.flags) (K.got out.old) (K.got out.new) }
+            LineEnds (line_deed self.old.h self.old.budget T text.now) result T (set_of self.new.flags) (K.got out.old) (K.got out.new) }
         ensures counts { LineCounts result (K.faults out.old) (K.faults out.new) }
         ensures same { (self.new.h ≡ self.old.h) × (self.new.budget ≡ self.old.budget) }
         ensures refused { IfErr result (λ e. (e ≡ LineFail.Write → ⊥) → self.new ≡ self.old) }
@@ -151,6 +221,7 @@ impl Session {
             Command::Quit => Ok(Next::Quit),
             Command::Bad => Err(LineFail::BadLine),
             Command::Show => after_reply(self.show(out)),
+            Command::Look(view) => after_reply(put_adapted(self.look(&view), out)),
             Command::Split(k) if k < self.records() => after_reply(put_answer(self.split(k), out)),
             Command::Collapse(k) if k < self.records() => {
                 after_reply(put_answer(self.collapse(k), out))

@@ -49,7 +49,7 @@ IsOutcome asked.Canon bytes all = Follows (IsSurface bytes) (λ m. whole (canoni
 IsOutcome (asked.Build target) bytes all = Follows (IsBuilt bytes target) (λ h. whole (stream h)) all
 IsOutcome asked.Expand bytes all = Follows (IsHierarchyText bytes) (λ h. whole (canonical_text (input_mesh_of h))) all
 IsOutcome asked.Check bytes all = Follows (IsHierarchyText bytes) (λ h. whole (counts_line h)) all
-IsOutcome (asked.View budget) bytes all = Follows (IsValidOpening bytes) (λ o. of_script (ran o.h no_records 1 (split_lines o.rest))) all
+IsOutcome (asked.View budget) bytes all = Follows (IsValidOpening bytes) (λ o. of_script (ran o.h budget no_records 1 (split_lines o.rest))) all
 
 -- The outcome has this fault, or none, and the sink gained its text.
 pub record Replied (asks : Asked) (bytes : List ℕ) (fault : Option Fault) (old new : Option (List ℕ)) : Type 0 where

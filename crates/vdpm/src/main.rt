@@ -17,6 +17,8 @@ mod stream_tests;
 mod surface;
 #[cfg(test)]
 mod tests;
+#[cfg(test)]
+mod view_tests;
 mod words;
 
 use pm_io::{StdSink, StdSource};

@@ -28,7 +28,7 @@ fn split_line(script: &[u8]) -> (&[u8], &[u8])
 fn do_lines<K: Sink>(session: &mut Session, script: &[u8], out: &mut K) -> Result<(), CommandFail>
     requires base { set_of session.old.flags ≡ no_records }
     requires few { length script.now ≤ 16777216 }
-    ensures served { Served result (of_script (ran session.old.h no_records 1 (split_lines script.now))) (K.got out.old) (K.got out.new) }
+    ensures served { Served result (of_script (ran session.old.h session.old.budget no_records 1 (split_lines script.now))) (K.got out.old) (K.got out.new) }
     ensures counts { ServeCounts result (K.faults out.old) (K.faults out.new) }
 {
     let mut rest = script;
@@ -52,7 +52,7 @@ fn do_lines<K: Sink>(session: &mut Session, script: &[u8], out: &mut K) -> Resul
 pub fn serve<K: Sink>(session: Session, script: &[u8], out: &mut K) -> Result<(), CommandFail>
     requires base { set_of session.flags ≡ no_records }
     requires few { length script.now ≤ 16777216 }
-    ensures served { Served result (of_script (ran session.h no_records 1 (split_lines script.now))) (K.got out.old) (K.got out.new) }
+    ensures served { Served result (of_script (ran session.h session.budget no_records 1 (split_lines script.now))) (K.got out.old) (K.got out.new) }
     ensures counts { ServeCounts result (K.faults out.old) (K.faults out.new) }
 {
     let mut session = session;

@@ -8,7 +8,7 @@ use std::process::Abort;
 use std::test::Fail;
 
 // The square's stream after its first four bytes.
-const SQUARE: [i32; 41] = [
+pub const SQUARE: [i32; 41] = [
     1, 4, 3, 1, 1, 0, 10, 0, 1, 3, 10, 10, 0, 1, 4, 0, 0, 0, 2, 0, 2, 1, 0, 2, 2, 1, 0, 0, 0, 1,
     10, 0, 0, 2, 1, 2, 3, 1, 1, 0, 1,
 ];

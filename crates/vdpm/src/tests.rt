@@ -11,10 +11,10 @@ pub const OCTAHEDRON: [i32; 87] = [
     4, 0, 5, 3, 7, 3, 2, 1, 100, 0, 0, 1, 0, 100, 0, 3, 3, 2, 3, 5, 1, 15, 2, 3, 2, 1, 5, 12, 5,
 ];
 
-const BASE: &[u8] =
+pub const BASE: &[u8] =
     b"frame 4 4\nv 0 0 -100 0\nv 1 0 0 -100\nv 2 50 50 0\nv 3 -50 0 50\nf 0 0 2 3\nf 1 3 2 1\nf 2 0 3 1\nf 3 2 0 1\nend\n";
 
-const FULL: &[u8] =
+pub const FULL: &[u8] =
     b"frame 6 8\nv 0 0 -100 0\nv 1 0 0 -100\nv 4 -100 0 0\nv 5 0 0 100\nv 6 100 0 0\nv 7 0 100 0\nf 0 0 6 5\nf 1 4 7 1\nf 2 0 4 1\nf 3 6 0 1\nf 4 7 4 5\nf 5 4 0 5\nf 6 6 7 5\nf 7 7 6 1\nend\n";
 
 // A stream text of these words, and a script after it.

@@ -1,31 +1,37 @@
 use Rattle.std.proofs.Common.{arith, refl, sym, ◌∙◌}
-use Rattle.pm_session.proofs.Deeds.{deed_quit, deed_bad, deed_show, deed_split, deed_collapse, deed_no_split, deed_no_collapse, replied, ended, bad, named_none}
+use Rattle.pm_session.proofs.Deeds.{deed_quit, deed_bad, deed_show, deed_split, deed_collapse, deed_look, deed_no_split, deed_no_collapse, replied, ended, bad, named_none}
 use Rattle.pm_session.proofs.session.Session.line.Goals as goal
 
 pub returns-in-Quit-clause-ends : goal.returns-in-Quit-clause-ends
-returns-in-Quit-clause-ends g c = ended _ _ _ (deed_quit _ _ _ (sym c.command_of.ensures ∙ c.in-Quit.is))
+returns-in-Quit-clause-ends g c = ended _ _ _ (deed_quit _ _ _ _ (sym c.command_of.ensures ∙ c.in-Quit.is))
 
 pub returns-in-Bad-clause-ends : goal.returns-in-Bad-clause-ends
-returns-in-Bad-clause-ends g c = bad _ _ _ (deed_bad _ _ _ (sym c.command_of.ensures ∙ c.in-Bad.is))
+returns-in-Bad-clause-ends g c = bad _ _ _ (deed_bad _ _ _ _ (sym c.command_of.ensures ∙ c.in-Bad.is))
 
 pub returns-in-Show-clause-ends : goal.returns-in-Show-clause-ends
 returns-in-Show-clause-ends g c =
-    replied _ _ _ _ _ c.show.result _ _ _ (deed_show _ _ _ (sym c.command_of.ensures ∙ c.in-Show.is)) refl c.after_reply.ensures.ok c.after_reply.ensures.err c.show.ensures.ok c.show.ensures.err
+    replied _ _ _ _ _ c.show.result _ _ _ (deed_show _ _ _ _ (sym c.command_of.ensures ∙ c.in-Show.is)) refl c.after_reply.ensures.ok c.after_reply.ensures.err c.show.ensures.ok c.show.ensures.err
 
 pub returns-in-Split-clause-ends : goal.returns-in-Split-clause-ends
 returns-in-Split-clause-ends g c =
     replied _ _ _ _ _ c.put_answer.result _ _ _
-    (deed_split _ _ _ _ c.in-Split.k c.split.result (sym c.command_of.ensures ∙ c.in-Split.is) (omega arith) c.split.ensures.answer c.split.ensures.after) refl
+    (deed_split _ _ _ _ _ c.in-Split.k c.split.result (sym c.command_of.ensures ∙ c.in-Split.is) (omega arith) c.split.ensures.answer c.split.ensures.after) refl
     c.after_reply-in-Split.ensures.ok c.after_reply-in-Split.ensures.err c.put_answer.ensures.ok c.put_answer.ensures.err
 
 pub returns-in-Collapse-clause-ends : goal.returns-in-Collapse-clause-ends
 returns-in-Collapse-clause-ends g c =
     replied _ _ _ _ _ c.put_answer-in-Collapse.result _ _ _
-    (deed_collapse _ _ _ _ c.in-Collapse.k c.collapse.result (sym c.command_of.ensures ∙ c.in-Collapse.is) (omega arith) c.collapse.ensures.answer c.collapse.ensures.after) refl
+    (deed_collapse _ _ _ _ _ c.in-Collapse.k c.collapse.result (sym c.command_of.ensures ∙ c.in-Collapse.is) (omega arith) c.collapse.ensures.answer c.collapse.ensures.after) refl
     c.after_reply-in-Collapse.ensures.ok c.after_reply-in-Collapse.ensures.err c.put_answer-in-Collapse.ensures.ok c.put_answer-in-Collapse.ensures.err
 
 pub returns-in-Split-2-clause-ends : goal.returns-in-Split-2-clause-ends
-returns-in-Split-2-clause-ends g c = named_none _ _ _ (deed_no_split _ _ _ c.in-Split.k (sym c.command_of.ensures ∙ c.in-Split.is) (omega arith))
+returns-in-Split-2-clause-ends g c = named_none _ _ _ (deed_no_split _ _ _ _ c.in-Split.k (sym c.command_of.ensures ∙ c.in-Split.is) (omega arith))
 
 pub returns-in-Split-2-2-clause-ends : goal.returns-in-Split-2-2-clause-ends
-returns-in-Split-2-2-clause-ends g c = named_none _ _ _ (deed_no_collapse _ _ _ c.in-Collapse.k (sym c.command_of.ensures ∙ c.in-Collapse.is) (omega arith))
+returns-in-Split-2-2-clause-ends g c = named_none _ _ _ (deed_no_collapse _ _ _ _ c.in-Collapse.k (sym c.command_of.ensures ∙ c.in-Collapse.is) (omega arith))
+
+pub returns-in-Look-clause-ends : goal.returns-in-Look-clause-ends
+returns-in-Look-clause-ends g c =
+    replied _ _ _ _ _ c.put_adapted.result _ _ _
+    (deed_look _ _ _ _ _ c.in-Look.view c.look.result (sym c.command_of.ensures ∙ c.in-Look.is) c.look.ensures.answer c.look.ensures.after) refl
+    c.after_reply-in-Look.ensures.ok c.after_reply-in-Look.ensures.err c.put_adapted.ensures.ok c.put_adapted.ensures.err

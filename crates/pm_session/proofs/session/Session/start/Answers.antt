@@ -3,7 +3,7 @@ use Rattle.pm_front.specs.State.{State}
 use Rattle.pm_session.proofs.Deeds.{none_split}
 use Rattle.pm_session.proofs.session.Session.start.Goals as goal
 
-pub returns-in-Ok-clause-shown : goal.returns-in-Ok-clause-shown
-returns-in-Ok-clause-shown c =
+pub returns-clause-shown : goal.returns-clause-shown
+returns-clause-shown c =
     let is = c.in-Ok.ensures.front in
     (ap (λ (s : State). s.h) is, refl, none_split _ _ (ap (λ (s : State). s.flags) is))
