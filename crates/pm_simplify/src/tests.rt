@@ -245,8 +245,8 @@ fn least_pair_of_all_is_taken(rt: HostRuntime) -> Result<(), Fail> {
 }
 
 #[test]
-fn grid_of_32_768_faces(rt: HostRuntime) -> Result<(), Fail> {
-    let log = simplify(rt.alloc(), &grid(rt.alloc(), 128, 3)?, 1000)?;
-    assert!(rt; log.len() > 10_000);
+fn grid_of_73_728_faces(rt: HostRuntime) -> Result<(), Fail> {
+    let log = simplify(rt.alloc(), &grid(rt.alloc(), 192, 3)?, 1000)?;
+    assert!(rt; log.len() > 30_000);
     Ok(())
 }
