@@ -55,6 +55,16 @@ impl Line {
         self.add(buffer.format(n).as_bytes());
     }
 
+    /// Adds a number in decimal digits: at most 20.
+    pub fn add_long_number(&mut self, n: u64)
+        requires { length self.old + 20 ≤ 128 }
+        ensures text { self.new ≡ self.old ++ decimal n }
+        ensures short { length self.new ≤ length self.old + 20 }
+    {
+        let mut buffer = Buffer::new();
+        self.add(buffer.format(n).as_bytes());
+    }
+
     /// Adds a number in decimal digits, after a `-` where it is negative.
     pub fn add_signed(&mut self, n: i32)
         requires { length self.old + 11 ≤ 128 }

@@ -1,5 +1,5 @@
 // Devices in memory, for tests and for callers that have their bytes already.
-ghost use Rattle.std.specs.Prelude.{◌≡◌, ◌+◌, ◌-◌, ◌^◌, ◌≤◌, ◌<◌, ◌||◌, ◌==◌, [], ◌++◌, min, length, take, drop, nat_le, IfOk, OnOk, OnErr, Some, is_err};
+ghost use Rattle.std.specs.Prelude.{◌≡◌, ◌+◌, ◌-◌, ◌^◌, ◌≤◌, ◌<◌, ◌||◌, ◌==◌, [], ◌++◌, min, length, take, drop, nat_le, if◌then◌else◌, false, IfOk, OnOk, OnErr, Some, is_err};
 ghost use Rattle.pm_io.specs.Bytes.{Loses, Gains, AtEnd};
 ghost use Rattle.pm_io.specs.Causes.{HasCause};
 ghost use Rattle.pm_io.specs.Memory.{is_listed};
@@ -89,6 +89,7 @@ impl Source for MemSource {
         ensures step { self.new.step ≡ self.old.step }
         ensures fails { self.new.fails ≡ self.old.fails }
         ensures calls { self.new.calls ≡ min (self.old.calls + 1) (2 ^ 64 - 1) }
+        ensures faults { self.new.faults ≡ if is_err result then min (self.old.faults + 1) (2 ^ 64 - 1) else self.old.faults }
     {
         let call = self.calls;
         self.calls = call.saturating_add(1);
@@ -140,7 +141,17 @@ impl Source for SureSource {
 
     ghost faults = { λ _. 0 };
 
-    fn take(&mut self, buf: &mut [u8]) -> Result<usize, Failed> {
+    fn take(&mut self, buf: &mut [u8]) -> Result<usize, Failed>
+        requires { 0 < length buf.old }
+        ensures bound { IfOk result (λ n. n ≤ length buf.new) }
+        ensures bytes { IfOk result (λ n. Loses (Some self.old.left) (Some self.new.left) (take n buf.new)) }
+        ensures end { IfOk result (λ n. n ≡ 0 → AtEnd (Some self.old.left)) }
+        ensures err { OnErr result (Some self.new.left ≡ Some self.old.left) }
+        ensures cause { HasCause 0 0 result }
+        ensures sure { is_err result ≡ false }
+        ensures count { IfOk result (λ n. n ≡ min (min (length self.old.left) self.old.step) (length buf.new)) }
+        ensures step { self.new.step ≡ self.old.step }
+    {
         let n = copy_from(&self.bytes, self.at, self.step, buf);
         self.at += n;
         Ok(n)
@@ -217,6 +228,7 @@ impl Sink for MemSink {
         ensures step { self.new.step ≡ self.old.step }
         ensures fails { self.new.fails ≡ self.old.fails }
         ensures calls { self.new.calls ≡ min (self.old.calls + 1) (2 ^ 64 - 1) }
+        ensures faults { self.new.faults ≡ if is_err result then min (self.old.faults + 1) (2 ^ 64 - 1) else self.old.faults }
     {
         let call = self.calls;
         self.calls = call.saturating_add(1);

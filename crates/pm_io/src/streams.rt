@@ -1,5 +1,11 @@
-// The readers and writers of std as devices. They tell nothing of their bytes: what a terminal, pipe or file gives and
-// takes is outside every proof.
+// The readers and writers of std as devices. What a terminal, pipe or file gives and takes is outside every proof, so
+// these devices tell nothing of their bytes. A reader or writer over memory tells its own, and there a call hands on
+// exactly those bytes.
+ghost use Rattle.std.specs.Prelude.{◌≡◌, ◌≤◌, ◌<◌, length, take, None, [], IfOk, OnErr};
+ghost use Rattle.std.specs.Io.KnownBytes.{ReadConsumes, WriteAppends};
+ghost use Rattle.pm_io.specs.Bytes.{Loses, Gains, AtEnd};
+ghost use Rattle.pm_io.specs.Causes.{HasCause};
+
 use crate::{Failed, Sink, Source};
 use std::io::{Read, Write};
 
@@ -11,19 +17,28 @@ pub struct StdSource<R> {
 }
 
 impl<R: Read> StdSource<R> {
-    pub fn new(reader: R) -> StdSource<R> {
+    /// A source that gives what the reader gives, with no failure so far.
+    pub fn new(reader: R) -> StdSource<R>
+        ensures { result ≡ record { reader = reader; faults = 0 } }
+    {
         StdSource { reader, faults: 0 }
     }
 }
 
 impl<R: Read> Source for StdSource<R> {
-    ghost use Rattle.std.specs.Prelude.{None};
-
     ghost left = { λ _. None };
 
     ghost faults = { λ s. s.faults };
 
-    fn take(&mut self, buf: &mut [u8]) -> Result<usize, Failed> {
+    fn take(&mut self, buf: &mut [u8]) -> Result<usize, Failed>
+        requires { 0 < length buf.old }
+        ensures bound { IfOk result (λ n. n ≤ length buf.new) }
+        ensures bytes { IfOk result (λ n. Loses None None (take n buf.new)) }
+        ensures end { IfOk result (λ n. n ≡ 0 → AtEnd None) }
+        ensures err { OnErr result (Loses None None []) }
+        ensures cause { HasCause self.old.faults self.new.faults result }
+        ensures reader { ReadConsumes (R.remaining self.old.reader) (R.remaining self.new.reader) result buf.new }
+    {
         match self.reader.read(buf) {
             Ok(n) => Ok(n),
             Err(_) => {
@@ -42,19 +57,28 @@ pub struct StdSink<W> {
 }
 
 impl<W: Write> StdSink<W> {
-    pub fn new(writer: W) -> StdSink<W> {
+    /// A sink that hands on what it takes to the writer, with no failure so far.
+    pub fn new(writer: W) -> StdSink<W>
+        ensures { result ≡ record { writer = writer; faults = 0 } }
+    {
         StdSink { writer, faults: 0 }
     }
 }
 
 impl<W: Write> Sink for StdSink<W> {
-    ghost use Rattle.std.specs.Prelude.{None};
-
     ghost got = { λ _. None };
 
     ghost faults = { λ s. s.faults };
 
-    fn put(&mut self, piece: &[u8]) -> Result<usize, Failed> {
+    fn put(&mut self, piece: &[u8]) -> Result<usize, Failed>
+        requires { 0 < length piece.now }
+        ensures some { IfOk result (λ n. 0 < n) }
+        ensures bound { IfOk result (λ n. n ≤ length piece.now) }
+        ensures bytes { IfOk result (λ n. Gains None None (take n piece.now)) }
+        ensures err { OnErr result (Gains None None []) }
+        ensures cause { HasCause self.old.faults self.new.faults result }
+        ensures writer { WriteAppends (W.contents self.old.writer) (W.contents self.new.writer) result piece.now }
+    {
         match self.writer.write(piece) {
             Ok(n) if n > 0 => Ok(n),
             _ => {

@@ -1,4 +1,4 @@
-use Rattle.std.proofs.Common.{◌≡◌, ◌+◌, ◌-◌, ◌*◌, ℕ, min, get_or, length, arith}
+use Rattle.std.proofs.Common.{arith}
 use Rattle.pm_io.proofs.DigitLaws.{value_step}
 use Rattle.pm_io.proofs.number.value_up_to.Goals as goal
 
