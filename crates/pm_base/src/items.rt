@@ -39,9 +39,11 @@ impl<T: Copy> Items<T> {
         }
     }
 
-    /// Takes room for at least `n` more items. Where there is no memory for it, the list is as before.
+    /// Takes room for at least `n` more items, and keeps the room that is there. Where there is no memory for it, the
+    /// list is as before.
     pub fn reserve(&mut self, n: usize) -> Result<(), OutOfMemory>
         ensures room { OnOk result (n ≤ self.new.spare) }
+        ensures kept { self.old.spare ≤ self.new.spare }
         ensures items { self.new.items ≡ self.old.items }
         ensures err { OnErr result (self.new ≡ self.old) }
     {

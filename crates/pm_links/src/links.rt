@@ -9,6 +9,9 @@ use std::marker::Model;
 /// 32 bits.
 pub const LIMIT: u32 = 4_194_304;
 
+// Clauses and definitions cite the limit by its name, so its value is said here.
+const _: () = prove!(LIMIT == 4_194_304);
+
 /// Want of memory.
 pub type OutOfMemory = AllocError;
 

@@ -15,6 +15,9 @@ use std::marker::Model;
 /// The greatest number of planes that a quadric can stand for: three for each of 1,048,576 faces, one at each corner.
 pub const MOST_PLANES: u32 = 3_145_728;
 
+// Clauses and definitions cite the limit by its name, so its value is said here.
+const _: () = prove!(MOST_PLANES == 3_145_728);
+
 /// The sums, over a list of planes of faces, of the ten coefficients of the squared plane value, and the number of
 /// planes. The quadric stands for each list that has these sums, and the type keeps that there is one of at most
 /// `MOST_PLANES` planes.
