@@ -1,0 +1,260 @@
+-- A split keeps that no directed side stands twice.
+use Rattle.std.proofs.Common.{◌≡◌, ◌≢◌, ℕ, Option, Some, ◌⊎◌, inl, inr, refl, sym, ap, ◌∙◌, subst}
+use Rattle.std.proofs.lemmas.Bool.{cases_eq}
+use Rattle.std.proofs.lemmas.Option.{same_Some}
+use Rattle.pm_base.specs.Sides.{Net, next, prev, to, third, Stands, NoSideTwice}
+use Rattle.pm_base.specs.Fans.{IsPairAt}
+use Rattle.pm_base.proofs.Sides.{next-next-next, turn, back, corner-first, first-second, second-corner, pair_at}
+use Rattle.pm_runs.specs.Pairs.{IsPair as AreEnds}
+use Rattle.pm_runs.proofs.MergedPairs.{new, after, new-t, new-u, not_s, same_new}
+use Rattle.pm_splits.specs.Splits.{IsSplit}
+use Rattle.pm_splits.proofs.Facts.{RunsBack, one_twin, twin_beyond}
+
+module _ (n : Net) (t u s : ℕ) (beyond : ℕ → Option ℕ) (h : IsSplit n t u s beyond) where
+  abbrev pub merged_name : ℕ → ℕ
+  merged_name x = new n t u s h.fresh x
+
+  abbrev pub merged_net : Net
+  merged_net = after n t u s h.fresh
+
+  pub same_ends : (p q : ℕ) → AreEnds t u p q → merged_name p ≡ merged_name q
+  same_ends p q (inl (a, b)) = new-t n t u s h.fresh p a ∙ sym (new-u n t u s h.fresh q b)
+  same_ends p q (inr (a, b)) = new-u n t u s h.fresh p a ∙ sym (new-t n t u s h.fresh q b)
+
+  pub swap : (p q : ℕ) → AreEnds t u p q → AreEnds t u q p
+  swap p q (inl (a, b)) = inr (b, a)
+  swap p q (inr (a, b)) = inl (b, a)
+
+  pub other_end : (p q p' q' : ℕ) → AreEnds t u p q → AreEnds t u p' q' → p ≡ p' → q ≡ q'
+  other_end p q p' q' (inl (a, b)) (inl (c, d)) is = b ∙ sym d
+  other_end p q p' q' (inl (a, b)) (inr (c, d)) is = absurd (h.differ (sym a ∙ is ∙ c))
+  other_end p q p' q' (inr (a, b)) (inl (c, d)) is = absurd (h.differ (sym c ∙ sym is ∙ a))
+  other_end p q p' q' (inr (a, b)) (inr (c, d)) is = b ∙ sym d
+
+  -- an end of one pair is one of the other's
+  pub either : (p q p' q' : ℕ) → AreEnds t u p q → AreEnds t u p' q' → (p ≡ p') ⊎ (p ≡ q')
+  either p q p' q' (inl (a, b)) (inl (c, d)) = inl (a ∙ sym c)
+  either p q p' q' (inl (a, b)) (inr (c, d)) = inr (a ∙ sym d)
+  either p q p' q' (inr (a, b)) (inl (c, d)) = inr (a ∙ sym d)
+  either p q p' q' (inr (a, b)) (inr (c, d)) = inl (a ∙ sym c)
+
+  -- A side of a new face, which runs from end to end, then to a third corner
+  pub record IsNew (e : ℕ) : Type 0 where
+    pub p : ℕ
+    pub q : ℕ
+    pub w : ℕ
+    pub are_ends : AreEnds t u p q
+    pub face : IsPairAt n p q w
+    pub which : (e ≡ face.side) ⊎ ((e ≡ next face.side) ⊎ (e ≡ prev face.side))
+
+  pub ends_of : {va xa ya vb xb yb : ℕ} → IsPairAt n va xa ya → IsPairAt n vb xb yb → merged_name va ≡ merged_name vb → va ≢ vb → AreEnds t u va vb
+  ends_of {va = va} {vb = vb} f g is ne = elim (same_new n t u s h.fresh va vb (not_s n t u s h.fresh f) (not_s n t u s h.fresh g) is) [ inl same ↦ absurd (ne same) | inr (k, ends) ↦ ends ]
+
+  pub old_or_new : (e : ℕ) → Stands n e → Stands merged_net e ⊎ IsNew e
+  old_or_new e there =
+      let F = pair_at n e there in
+      let F1 = turn n (n.from e) (to n e) (third n e) F in
+      let F2 = back n (n.from e) (to n e) (third n e) F in
+      elim (cases_eq (merged_net.from e) (to merged_net e)) [
+        | inl is ↦ inr (record { p = n.from e; q = to n e; w = third n e; are_ends = ends_of F F1 is there.first; face = F; which = inl refl })
+        | inr a ↦
+            elim (cases_eq (to merged_net e) (third merged_net e)) [
+              | inl is ↦ inr (record { p = to n e; q = third n e; w = n.from e; are_ends = ends_of F1 F2 is there.second; face = F1; which = inr (inr (sym (next-next-next e))) })
+              | inr b ↦
+                  elim (cases_eq (third merged_net e) (merged_net.from e)) [
+                    | inl is ↦ inr (record { p = third n e; q = n.from e; w = to n e; are_ends = ends_of F2 F is there.last; face = F2; which = inr (inl (sym (next-next-next e))) })
+                    | inr c ↦ inl (record { is_side = there.is_side; first = a; second = b; last = c })
+                  ]
+            ]
+      ]
+
+  pub new_gone : (e : ℕ) → IsNew e → Stands merged_net e → ⊥
+  new_gone e k there =
+      let f = k.face in
+      let eq = same_ends k.p k.q k.are_ends in
+      let c = ap n.from (next-next-next f.side) in
+      elim k.which [
+        | inl is ↦ there.first (ap merged_name (ap n.from is ∙ f.at) ∙ eq ∙ sym (ap merged_name (ap (to n) is ∙ f.one)))
+        | inr o ↦
+            elim o [
+              | inl is ↦ there.last (ap merged_name (ap (third n) is ∙ c ∙ f.at) ∙ eq ∙ sym (ap merged_name (ap n.from is ∙ f.one)))
+              | inr is ↦ there.second (ap merged_name (ap (to n) is ∙ c ∙ f.at) ∙ eq ∙ sym (ap merged_name (ap (third n) is ∙ ap n.from (ap next (next-next-next f.side)) ∙ f.one)))
+            ]
+      ]
+
+  -- the ends of a new face's outer sides
+  pub next_ends : {p q w : ℕ} (f : IsPairAt n p q w) → (n.from (next f.side) ≡ q) × (to n (next f.side) ≡ w) × (third n (next f.side) ≡ p) × Stands n (next f.side)
+  next_ends {p} {q} {w} f = let g = turn n p q w f in (g.at, g.one, g.two, g.stands)
+
+  pub prev_ends : {p q w : ℕ} (f : IsPairAt n p q w) → (n.from (prev f.side) ≡ w) × (to n (prev f.side) ≡ p) × (third n (prev f.side) ≡ q) × Stands n (prev f.side)
+  prev_ends {p} {q} {w} f = let g = back n p q w f in (g.at, g.one, g.two, g.stands)
+
+  pub new_next : (p q w : ℕ) → AreEnds t u p q → (f : IsPairAt n p q w) → Stands merged_net (next f.side) → ⊥
+  new_next p q w k f = new_gone (next f.side) (record { p = p; q = q; w = w; are_ends = k; face = f; which = inr (inl refl) })
+
+  pub new_prev : (p q w : ℕ) → AreEnds t u p q → (f : IsPairAt n p q w) → Stands merged_net (prev f.side) → ⊥
+  new_prev p q w k f = new_gone (prev f.side) (record { p = p; q = q; w = w; are_ends = k; face = f; which = inr (inr refl) })
+
+  pub new_inner : (p q w : ℕ) → AreEnds t u p q → (f : IsPairAt n p q w) → Stands merged_net f.side → ⊥
+  new_inner p q w k f = new_gone f.side (record { p = p; q = q; w = w; are_ends = k; face = f; which = inl refl })
+
+  abbrev pub renamed_face : (a b c a' b' c' : ℕ) → IsPairAt n a b c → a ≡ a' → b ≡ b' → c ≡ c' → IsPairAt n a' b' c'
+  renamed_face a b c a' b' c' f x y z = record { side = f.side; stands = f.stands; at = f.at ∙ x; one = f.one ∙ y; two = f.two ∙ z }
+
+  module _ (once : NoSideTwice merged_net) where
+    -- of the side beyond, in the mesh before
+    between : (b g o : ℕ) → Stands n o → Stands merged_net b → Stands merged_net g → RunsBack merged_net b g → beyond o ≡ Some b → (beyond b ≡ Some g → ⊥) → ((r : ℕ) → beyond r ≡ Some g → (r ≡ next o) ⊎ (r ≡ prev o) → ⊥) → ⊥
+    between b g o ot bt gt twin lo never not_over =
+        let lb = h.back o b ot lo in
+        elim (h.kept b g bt (one_twin merged_net once b g twin)) [
+          | inl is ↦ never is
+          | inr k ↦ (let same = same_Some k.o o (sym k.meets ∙ lb) in not_over k.r k.leaves (subst (λ i. (k.r ≡ next i) ⊎ (k.r ≡ prev i)) same k.sides))
+        ]
+
+    -- An old side with the ends of a new one's
+    next_twice : (p q w : ℕ) (k : AreEnds t u p q) (f : IsPairAt n p q w) (g : ℕ) → Stands merged_net g → n.from g ≡ q → to n g ≡ w → ⊥
+    next_twice p q w k f g gt gq gw =
+        let (b, bt, side) = h.held p q w k f in
+        let (a1, a2, a3, at) = next_ends f in
+        let (c1, c2, c3, ct) = prev_ends f in
+        elim side [
+          | inl l ↦
+              let (bn, bf, bto) = twin_beyond h (next f.side) b at l in
+              between b g (next f.side) at bt gt (gt, ap merged_name (gq ∙ sym a1 ∙ sym bto), ap merged_name (gw ∙ sym a2 ∙ sym bf)) l
+              (λ is. new_next p q w k f (subst (Stands merged_net) (same_Some g (next f.side) (sym is ∙ h.back (next f.side) b at l)) gt))
+              (λ r lr which.
+              elim which [
+                | inl is ↦
+                    let (gn, gf, gto) = twin_beyond h r g (subst (Stands n) (sym is) ct) lr in
+                    corner-first n p q w f (sym (sym gq ∙ gf ∙ ap (to n) is ∙ c2))
+                | inr is ↦
+                    let is' : r ≡ f.side = is ∙ next-next-next f.side in
+                    let (gn, gf, gto) = twin_beyond h r g (subst (Stands n) (sym is') f.stands) lr in
+                    second-corner n p q w f (sym gw ∙ gto ∙ ap n.from is' ∙ f.at)
+              ])
+          | inr l ↦
+              let (bn, bf, bto) = twin_beyond h (prev f.side) b ct l in
+              let same = once b g bt gt (ap merged_name (bf ∙ c2) ∙ same_ends p q k ∙ sym (ap merged_name gq)) (ap merged_name (bto ∙ c1 ∙ sym gw)) in
+              corner-first n p q w f (sym c2 ∙ sym bf ∙ ap n.from same ∙ gq)
+        ]
+
+    prev_twice : (p q w : ℕ) (k : AreEnds t u p q) (f : IsPairAt n p q w) (g : ℕ) → Stands merged_net g → n.from g ≡ w → to n g ≡ p → ⊥
+    prev_twice p q w k f g gt gw gp =
+        let (b, bt, side) = h.held p q w k f in
+        let (a1, a2, a3, at) = next_ends f in
+        let (c1, c2, c3, ct) = prev_ends f in
+        elim side [
+          | inr l ↦
+              let (bn, bf, bto) = twin_beyond h (prev f.side) b ct l in
+              between b g (prev f.side) ct bt gt (gt, ap merged_name (gw ∙ sym c1 ∙ sym bto), ap merged_name (gp ∙ sym c2 ∙ sym bf)) l
+              (λ is. new_prev p q w k f (subst (Stands merged_net) (same_Some g (prev f.side) (sym is ∙ h.back (prev f.side) b ct l)) gt))
+              (λ r lr which.
+              elim which [
+                | inl is ↦
+                    let is' : r ≡ f.side = is ∙ next-next-next f.side in
+                    let (gn, gf, gto) = twin_beyond h r g (subst (Stands n) (sym is') f.stands) lr in
+                    first-second n p q w f (sym (sym gw ∙ gf ∙ ap (to n) is' ∙ f.one))
+                | inr is ↦
+                    let is' : r ≡ next f.side = is ∙ ap next (next-next-next f.side) in
+                    let (gn, gf, gto) = twin_beyond h r g (subst (Stands n) (sym is') at) lr in
+                    corner-first n p q w f (sym gp ∙ gto ∙ ap n.from is' ∙ a1)
+              ])
+          | inl l ↦
+              let (bn, bf, bto) = twin_beyond h (next f.side) b at l in
+              let same = once b g bt gt (ap merged_name (bf ∙ a2 ∙ sym gw)) (ap merged_name (bto ∙ a1) ∙ sym (same_ends p q k) ∙ sym (ap merged_name gp)) in
+              corner-first n p q w f (sym gp ∙ sym (ap (to n) same) ∙ bto ∙ a1)
+        ]
+
+    old_new : (e g : ℕ) → IsNew e → Stands merged_net g → n.from e ≡ n.from g → to n e ≡ to n g → ⊥
+    old_new e g k gt a b =
+        let f = k.face in
+        let (a1, a2, a3, at) = next_ends f in
+        let (c1, c2, c3, ct) = prev_ends f in
+        elim k.which [
+          | inl is ↦ gt.first (ap merged_name (sym a ∙ ap n.from is ∙ f.at) ∙ same_ends k.p k.q k.are_ends ∙ sym (ap merged_name (sym b ∙ ap (to n) is ∙ f.one)))
+          | inr o ↦
+              elim o [
+                | inl is ↦ next_twice k.p k.q k.w k.are_ends f g gt (sym a ∙ ap n.from is ∙ a1) (sym b ∙ ap (to n) is ∙ a2)
+                | inr is ↦ prev_twice k.p k.q k.w k.are_ends f g gt (sym a ∙ ap n.from is ∙ c1) (sym b ∙ ap (to n) is ∙ c2)
+              ]
+        ]
+
+    -- a third corner is no end
+    third_apart : (p q w p' q' : ℕ) → AreEnds t u p q → AreEnds t u p' q' → IsPairAt n p' q' w → (w ≢ p) × (w ≢ q)
+    third_apart p q w p' q' k k' f = (
+      (λ is. elim (either p q p' q' k k') [ inl e ↦ second-corner n p' q' w f (is ∙ e) | inr e ↦ first-second n p' q' w f (sym (is ∙ e)) ]),
+      (λ is. elim (either q p p' q' (swap p q k) k') [ inl e ↦ second-corner n p' q' w f (is ∙ e) | inr e ↦ first-second n p' q' w f (sym (is ∙ e)) ]),
+    )
+
+    -- two new faces from one end to the other are one
+    one_new : (p q w p' q' w' : ℕ) → AreEnds t u p q → AreEnds t u p' q' → (f : IsPairAt n p q w) (f' : IsPairAt n p' q' w') → p ≡ p' → f.side ≡ f'.side
+    one_new p q w p' q' w' k k' f f' is =
+        let g : IsPairAt n p q w' = record { side = f'.side; stands = f'.stands; at = f'.at ∙ sym is; one = f'.one ∙ sym (other_end p q p' q' k k' is); two = f'.two } in
+        h.one p q w w' k f g
+
+    new_new : (e g : ℕ) → IsNew e → IsNew g → n.from e ≡ n.from g → to n e ≡ to n g → e ≡ g
+    new_new e g k k' a b =
+        let f = k.face in
+        let f' = k'.face in
+        let (a1, a2, a3, at) = next_ends f in
+        let (c1, c2, c3, ct) = prev_ends f in
+        let (a1', a2', a3', at') = next_ends f' in
+        let (c1', c2', c3', ct') = prev_ends f' in
+        let apart = third_apart k.p k.q k'.w k'.p k'.q k.are_ends k'.are_ends f' in
+        let apart' = third_apart k'.p k'.q k.w k.p k.q k'.are_ends k.are_ends f in
+        elim k.which [
+          | inl is ↦
+              let ep = sym (ap n.from is ∙ f.at) ∙ a in
+              let eq = sym (ap (to n) is ∙ f.one) ∙ b in
+              elim k'.which [
+                | inl is' ↦ is ∙ one_new k.p k.q k.w k'.p k'.q k'.w k.are_ends k'.are_ends f f' (ep ∙ ap n.from is' ∙ f'.at) ∙ sym is'
+                | inr o ↦
+                    elim o [
+                      | inl is' ↦ absurd (apart.1 (sym (eq ∙ ap (to n) is' ∙ a2')))
+                      | inr is' ↦ absurd (apart.0 (sym (ep ∙ ap n.from is' ∙ c1')))
+                    ]
+              ]
+          | inr o ↦
+              elim o [
+                | inl is ↦
+                    let eq = sym (ap n.from is ∙ a1) ∙ a in
+                    let ew = sym (ap (to n) is ∙ a2) ∙ b in
+                    elim k'.which [
+                      | inl is' ↦ absurd (apart'.1 (ew ∙ ap (to n) is' ∙ f'.one))
+                      | inr o' ↦
+                          elim o' [
+                            | inl is' ↦
+                                let qq = eq ∙ ap n.from is' ∙ a1' in
+                                let pp = other_end k.q k.p k'.q k'.p (swap k.p k.q k.are_ends) (swap k'.p k'.q k'.are_ends) qq in
+                                is ∙ ap next (one_new k.p k.q k.w k'.p k'.q k'.w k.are_ends k'.are_ends f f' pp) ∙ sym is'
+                            | inr is' ↦ absurd (apart.1 (sym (eq ∙ ap n.from is' ∙ c1')))
+                          ]
+                    ]
+                | inr is ↦
+                    let ew = sym (ap n.from is ∙ c1) ∙ a in
+                    let ep = sym (ap (to n) is ∙ c2) ∙ b in
+                    elim k'.which [
+                      | inl is' ↦ absurd (apart'.0 (ew ∙ ap n.from is' ∙ f'.at))
+                      | inr o' ↦
+                          elim o' [
+                            | inl is' ↦ absurd (apart.0 (sym (ep ∙ ap (to n) is' ∙ a2')))
+                            | inr is' ↦ is ∙ ap prev (one_new k.p k.q k.w k'.p k'.q k'.w k.are_ends k'.are_ends f f' (ep ∙ ap (to n) is' ∙ c2')) ∙ sym is'
+                          ]
+                    ]
+              ]
+        ]
+
+    pub no_side_twice_after : NoSideTwice n
+    no_side_twice_after e g et gt a b =
+        elim (old_or_new e et) [
+          | inl eo ↦
+              elim (old_or_new g gt) [
+                | inl go ↦ once e g eo go (ap merged_name a) (ap merged_name b)
+                | inr gn ↦ absurd (old_new g e gn eo (sym a) (sym b))
+              ]
+          | inr en ↦
+              elim (old_or_new g gt) [
+                | inl go ↦ absurd (old_new e g en go a b)
+                | inr gn ↦ new_new e g en gn a b
+              ]
+        ]
