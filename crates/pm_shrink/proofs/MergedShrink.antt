@@ -16,7 +16,7 @@ use Rattle.pm_runs.proofs.FacesLeft.{faces-left, faces-fewer}
 use Rattle.pm_runs.proofs.Live.{live_below, next-after}
 use Rattle.pm_runs.proofs.Living.{joined_live}
 use Rattle.pm_runs.proofs.Present.{is_some-map}
-use Rattle.pm_runs.proofs.StepLaws.{steps_keep_surfaces}
+use Rattle.pm_runs.proofs.StepLaws.{steps_keep_surfaces, legal_steps_keep_manifolds}
 use Rattle.pm_shrink.specs.Shrinking.{AreCornersAt, IsKept}
 use Rattle.pm_shrink.specs.Tables.{surface_with, IsAcross, IsShrink}
 use Rattle.pm_shrink.specs.Writes.{with_corners, without_face, unlisted, relinked}
@@ -148,6 +148,7 @@ module _ (faces : List (Option Corners)) (places : List (Option Place)) (next le
           room = omega arith;
           surface = step.sound;
           proper = step.proper;
+          manifold = legal_steps_keep_manifolds s inv.kept.surface inv.kept.manifold a b place legal;
           corners = λ v. last_fan s inv.kept.surface inv.kept.proper a b place legal corners mid fan w.lists one corners_now a_in b_in s_in a_not b_not differ first_moved second_moved w.sound v;
           planes =
               let live = both_live in

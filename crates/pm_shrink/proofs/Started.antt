@@ -19,7 +19,9 @@ use Rattle.pm_quadric.specs.Sums.{Sums, sums_of, zero_sums}
 use Rattle.pm_quadric.proofs.QuadricLaws.{count_is}
 use Rattle.pm_runs.specs.Surfaces.{Surface, surface_of, net_of_surface, is_live}
 use Rattle.pm_runs.specs.Planes.{planes_at}
+use Rattle.pm_runs.proofs.Collapsed.{input-alike}
 use Rattle.pm_runs.proofs.Live.{input-sound}
+use Rattle.pm_runs.proofs.Manifolds.{manifold-same}
 use Rattle.pm_runs.proofs.Proper.{input-proper}
 use Rattle.pm_shrink.specs.Shrinking.{IsKept, planes_counted}
 use Rattle.pm_shrink.specs.Tables.{surface_with, IsAcross, IsShrink}
@@ -77,6 +79,7 @@ module _ (m : Mesh) (formed : IsWellFormed m) (manifold : IsOrientedManifold (ne
     room = omega (arith, length-map m.points Some, all_counted m.faces, formed.faces, formed.points);
     surface = input-sound m formed;
     proper = input-proper m manifold;
+    manifold = manifold-same (net_of m.faces) (net_of_surface (surface_of m)) (input-alike m) manifold;
     corners = λ v. record {
       each = λ e. (
         λ h. (let at = (listed v e).0 h in ((side_there m formed e at.0).0, at.1)),

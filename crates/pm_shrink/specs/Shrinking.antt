@@ -1,6 +1,7 @@
 -- The mesh that is being simplified, as contracts see it.
 use Rattle.std.specs.Prelude.{◌≡◌, ℕ, ◌+◌, ◌≤◌, true, cond, List, [], length, slice_index_or, ◌↔◌}
 use Rattle.pm_base.specs.Sides.{Net, Stands}
+use Rattle.pm_base.specs.Fans.{IsOrientedManifold}
 use Rattle.pm_links.specs.Lists.{has, IsOnce}
 use Rattle.pm_quadric.specs.declared.quadric.TheConstants.{MOST_PLANES}
 use Rattle.pm_quadric.specs.Sums.{Sums, zero_sums}
@@ -42,5 +43,6 @@ pub record IsKept (s : Shrinking) : Type 0 where
   pub room : next_vertex s.surface + face_count_of s.surface ≤ 2097152
   pub surface : IsSurface s.surface
   pub proper : IsProper (net_at s)
+  pub manifold : IsOrientedManifold (net_at s)
   pub corners : (v : ℕ) → AreCornersAt (net_at s) v (fan_at s v)
   pub planes : sum_below (planes_counted s.surface s.quadrics) (next_vertex s.surface) ≤ MOST_PLANES

@@ -1,4 +1,5 @@
 ghost use Rattle.std.specs.Prelude.{◌≡◌, ◌≢◌, ◌<◌, ℕ, true};
+ghost use Rattle.pm_base.specs.Fans.{IsOrientedManifold};
 ghost use Rattle.pm_quadric.specs.Sums.{plus_sums};
 ghost use Rattle.pm_runs.specs.Surfaces.{next_vertex, is_live as is_live_in, collapsed};
 ghost use Rattle.pm_runs.specs.Pairs.{IsLegalPair};
@@ -17,6 +18,7 @@ impl Shrink {
     pub fn collapse(&mut self, a: u32, b: u32, place: Point) -> Collapse
         requires ordered { a < b }
         requires legal { IsLegalPair self.old.surface a b place }
+        ensures manifold { IsOrientedManifold (net_at self.new) }
         ensures surface { self.new.surface ≡ collapsed self.old.surface a b place }
         ensures entry { result ≡ entry_of self.old.surface a b place }
         ensures quadric { quadric_at self.new (next_vertex self.old.surface)

@@ -285,6 +285,9 @@ returns-clause-surface c =
     } in
     done-surface c.self.inside.faces.items c.self.inside.places.items c.self.inside.next c.self.inside.left c.self.inside.quadrics.items c.self.inside.across.items c.self.inside.corners c.self.invariant c.args.a c.args.b c.args.place c.requires.ordered legal c.merge_corners-2.new.faces.items c.merge_places.new.places.items c.merge_quadrics.new.quadrics.items c.drop_face-2.new.across.items c.drop_face-2.new.corners c.merge_corners.new.corners c.merge_corners-2.new.corners w ∙ ap (λ (v : Shrinking). collapsed v.surface c.args.a c.args.b c.args.place) c.self.view_is
 
+pub returns-clause-manifold : goal.returns-clause-manifold
+returns-clause-manifold c = (invariant_of-self c).kept.manifold
+
 pub returns-clause-quadric : goal.returns-clause-quadric
 returns-clause-quadric c =
     let legal : IsLegalPair (surface_with c.self.inside.faces.items c.self.inside.places.items c.self.inside.next) c.args.a c.args.b c.args.place = rw (← c.self.view_is) at c.requires.legal in

@@ -1,4 +1,7 @@
-use Rattle.std.proofs.Common.{refl, rules, subst, ℕ}
+use Rattle.std.proofs.Common.{◌≡◌, ◌∙◌, refl, rules, subst, ℕ}
+use Rattle.std.specs.Prelude.{option_map}
+use Rattle.pm_base.specs.declared.ids.Side.{Side}
+use Rattle.pm_links.specs.Lists.{first_of, after}
 use Rattle.pm_shrink.specs.Tables.{side_from}
 use Rattle.pm_shrink.specs.Shrinking.{Shrinking, AreCornersAt, net_at, fan_at}
 use Rattle.pm_shrink.proofs.ReaderLaws.{next_stands}
@@ -11,7 +14,13 @@ next-requires c =
     (v, ((c.self.invariant.kept.corners v).each c.args.corner.0).1 (stands, refl))
 
 pub returns-clause-value : goal.returns-clause-value
-returns-clause-value c = search rules
+returns-clause-value c =
+    let stands = rw (← c.self.view_is) at c.requires in
+    let v : ℕ = side_from c.self.inside.faces.items c.args.corner.0 in
+    let is = c.next.ensures.value v (((c.self.invariant.kept.corners v).each c.args.corner.0).1 (stands, refl)) in
+    let same : option_map (λ (k : Side). k.0) c.map.result ≡ c.next.result = search rules in
+    subst (λ (s : Shrinking). option_map (λ (k : Side). k.0) c.map.result ≡ first_of (after c.args.corner.0 (fan_at s ((net_at s).from c.args.corner.0)))) c.self.view_is
+    (same ∙ is)
 
 pub returns-clause-stands : goal.returns-clause-stands
 returns-clause-stands c =
