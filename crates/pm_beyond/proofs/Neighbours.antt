@@ -53,7 +53,7 @@ module _ (h : Hierarchy) where
       (ap (λ i. revealed_by h i) face ∙ r, sym c.1 ∙ ap (inner_of h k) (sym face))
 
   -- The two outer sides of face f of record k.
-  first_expected : (k f : ℕ) → revealed_by h f ≡ Some k → expected h (next (inner_of h k f)) ≡ number_of (new_face h k f).first
+  pub first_expected : (k f : ℕ) → revealed_by h f ≡ Some k → expected h (next (inner_of h k f)) ≡ number_of (new_face h k f).first
   unfolding expected
   first_expected k f own =
       let i = inner_of h k f in
@@ -65,7 +65,7 @@ module _ (h : Hierarchy) where
       ∙ cond-false (eqb e i) (mate_of h k f) (cond (eqb e (next i)) (number_of (new_face h k f).first) (number_of (new_face h k f).second)) (ne_eqb e i (next-differs i))
       ∙ cond-true (eqb e (next i)) (number_of (new_face h k f).first) (number_of (new_face h k f).second) (eq-eqb e (next i) refl)
 
-  second_expected : (k f : ℕ) → revealed_by h f ≡ Some k → expected h (next (next (inner_of h k f))) ≡ number_of (new_face h k f).second
+  pub second_expected : (k f : ℕ) → revealed_by h f ≡ Some k → expected h (next (next (inner_of h k f))) ≡ number_of (new_face h k f).second
   unfolding expected
   second_expected k f own =
       let i = inner_of h k f in

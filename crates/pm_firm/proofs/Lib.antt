@@ -1,0 +1,8 @@
+pub mod ShownNets
+pub mod Relinking
+pub mod Held
+pub mod MergedShown
+pub mod InnerSides
+pub mod SplitSteps
+pub mod SameSets
+pub mod FirmFronts

@@ -1,0 +1,175 @@
+-- The mesh that a front shows before a legal split is the one after it with both children merged.
+use Rattle.std.proofs.Common.{◌≡◌, ◌≢◌, ℕ, ◌+◌, ◌*◌, ◌<◌, eqb, ◌&&◌, Bool, true, false, cond, Option, Some, None, ◌⊎◌, inl, inr, refl, sym, ap, ◌∙◌, subst, arith}
+use Rattle.std.specs.Option.{is_some}
+use Rattle.std.proofs.lemmas.Bool.{cases_eq, cases_Bool, both_ways, cond-true, cond-false, false_from_ne_true, and_parts, and_from, eqb-true, eq-eqb}
+use Rattle.std.proofs.lemmas.Option.{none-some, same_Some}
+use Rattle.pm_base.specs.Counts.{one_if}
+use Rattle.pm_base.specs.Sides.{Net, face_of, next, prev, to, third, Stands, IsTwin, twin_of}
+use Rattle.pm_base.specs.Fans.{IsPairAt, IsOrientedManifold}
+use Rattle.pm_base.proofs.Search.{Decided, search_below}
+use Rattle.pm_base.proofs.TwinLaws.{twin-is, twin-one}
+use Rattle.pm_forest.specs.Forest.{Hierarchy, record_at, record_count, leaf_count, t_of, u_of, s_of, holds, Holds, Makes}
+use Rattle.pm_forest.specs.Fronts.{IsFront, ancestor_of, with}
+use Rattle.pm_forest.specs.Faces.{first_face, is_left, new_face, face_count, from_leaf, revealed_by, record_of, inner_of, IsForest}
+use Rattle.pm_forest.specs.Kept.{is_shown}
+use Rattle.pm_forest.proofs.Ancestors.{active-ancestor, holds-ancestor_of, ancestor_of-unique}
+use Rattle.pm_forest.proofs.Ends.{next-lt, third_outside}
+use Rattle.pm_forest.proofs.FaceNumbers.{which_face}
+use Rattle.pm_forest.proofs.Nodes.{makes_once, not_both}
+use Rattle.pm_forest.proofs.OneStep.{with-cases, with-same, with-front, split-under, split-elsewhere}
+use Rattle.pm_forest.proofs.ShapeLaws.{left_from}
+use Rattle.pm_forest.proofs.Shown.{shown_record, hidden-parts}
+use Rattle.pm_forest.proofs.Sides.{inner-face, three_sides}
+use Rattle.pm_beyond.specs.Walks.{IsOuter, Beyond, beyond_of, expected_at, expected, mate_of, number_of}
+use Rattle.pm_beyond.specs.Valid.{IsValid}
+use Rattle.pm_beyond.specs.Moves.{IsClosed, MaySplit}
+use Rattle.pm_beyond.proofs.Across.{across-face, across-outer, across-is_outer, across-differs}
+use Rattle.pm_beyond.proofs.Carried.{ends-carried}
+use Rattle.pm_beyond.proofs.Reaching.{kept_at_side, reaches-lt, back, Beyond-unique}
+use Rattle.pm_beyond.proofs.Neighbours.{expected-lt}
+use Rattle.pm_beyond.proofs.Standing.{forest_of, closed-front}
+use Rattle.pm_beyond.proofs.Closed.{four_faces}
+use Rattle.pm_beyond.proofs.WalkTheory as law
+use Rattle.pm_runs.specs.Surfaces.{merge}
+use Rattle.pm_runs.specs.Pairs.{IsPair}
+use Rattle.pm_runs.specs.Merged.{merged}
+use Rattle.pm_runs.proofs.Merges.{merge-pair, merge-other}
+use Rattle.pm_splits.specs.Splits.{IsBetween, IsSplit}
+use Rattle.pm_splits.proofs.SplitTwins.{splits_keep_manifolds}
+use Rattle.pm_firm.specs.Firm.{shown_net, IsSurfaceShown, FacesAreHeld}
+use Rattle.pm_firm.proofs.Held.{held_side}
+use Rattle.pm_firm.proofs.ShownNets.{stands-shown, shown-stands, twins-beyond, beyond-twins}
+use Rattle.pm_firm.proofs.Relinking.{shown_with, shown_new, new_beyond, neighbour_beyond, other_beyond}
+
+module _ (h : Hierarchy) (valid : IsValid h) (T : ℕ → Bool) (closed : IsClosed h T) (k : ℕ) (l : k < record_count h) (may : MaySplit h T k) where
+  abbrev tree : IsForest h
+  tree = forest_of h valid
+
+  abbrev front : IsFront h T
+  front = closed-front h T closed
+
+  abbrev net_after : Net
+  net_after = shown_net h (with T k)
+
+  abbrev net_before : Net
+  net_before = shown_net h T
+
+  abbrev merged_net : Net
+  merged_net = merged (shown_net h (with T k)) (t_of h k) (u_of h k) (s_of h k)
+
+  pub leaf : (e : ℕ) → e < 3 * face_count h → from_leaf h e < leaf_count h
+  leaf e le = tree.faces.leaves e le
+
+  pub ends_differ : t_of h k ≢ u_of h k
+  ends_differ is = absurd (omega arith)
+
+  -- the node that is split is no ancestor after
+  pub gone : (x : ℕ) → x < leaf_count h → ancestor_of h (with T k) x ≢ s_of h k
+  gone x lx is = (active-ancestor h tree.forest (with T k) x lx).1 k l (with-same T k) (sym is)
+
+  -- and no child an ancestor before
+  pub not_child : (x v : ℕ) → x < leaf_count h → Makes h k v → ancestor_of h T x ≢ v
+  not_child x v lx makes is =
+      elim (active-ancestor h tree.forest T x lx).0 [
+        | inl root ↦ elim makes [ inl e ↦ absurd (omega arith) | inr e ↦ absurd (omega arith) ]
+        | inr (j, jl, tj, mj) ↦
+            let same = makes_once h j k v (subst (λ i. Makes h j i) is mj) makes in
+            both_ways (T k) may.unsplit (subst (λ i. T i ≡ true) same tj)
+      ]
+
+  abbrev pub rename : ℕ → ℕ
+  rename v = merge (t_of h k) (u_of h k) (s_of h k) v
+
+  pub both_s : (p q : ℕ) → IsPair (t_of h k) (u_of h k) p q → rename p ≡ rename q
+  both_s p q pair = let net_before = merge-pair (t_of h k) (u_of h k) (s_of h k) p q pair in net_before.0 ∙ sym net_before.1
+
+  -- The mesh before is the mesh after with both children merged.
+  renames : (x : ℕ) → x < leaf_count h → rename (ancestor_of h (with T k) x) ≡ ancestor_of h T x
+  renames x lx =
+      let both = merge-pair (t_of h k) (u_of h k) (s_of h k) (t_of h k) (u_of h k) (inl (refl, refl)) in
+      elim (cases_Bool (holds h (s_of h k) x)) [
+        | inl in_s ↦
+            let a = split-under h tree.forest T front k l may.active may.unsplit x lx in_s in
+            let before : ancestor_of h T x ≡ s_of h k = ancestor_of-unique h tree.forest T front (s_of h k) x may.active in_s in
+            elim (cases_Bool (holds h (t_of h k) x)) [
+              | inl in_t ↦ ap rename (a ∙ cond-true (holds h (t_of h k) x) (t_of h k) (u_of h k) in_t) ∙ both.0 ∙ sym before
+              | inr in_u ↦ ap rename (a ∙ cond-false (holds h (t_of h k) x) (t_of h k) (u_of h k) in_u) ∙ both.1 ∙ sym before
+            ]
+        | inr out ↦
+            let a = split-elsewhere h tree.forest T front k l may.active x lx out in
+            merge-other (t_of h k) (u_of h k) (s_of h k) (ancestor_of h (with T k) x)
+            (λ i. not_child x (t_of h k) lx (inl refl) (sym a ∙ i))
+            (λ i. not_child x (u_of h k) lx (inr refl) (sym a ∙ i)) ∙ a
+      ]
+
+  corner : (e : ℕ) → e < 3 * face_count h → merged_net.from e ≡ net_before.from e
+  corner e le = renames (from_leaf h e) (leaf e le)
+
+  pub next_lt : (e : ℕ) → e < 3 * face_count h → next e < 3 * face_count h
+  next_lt e le = next-lt h tree e le
+
+  pub there_m : (e : ℕ) → Stands merged_net e → Stands net_before e
+  there_m e x =
+      let l1 = next_lt e x.is_side in
+      let l2 = next_lt (next e) l1 in
+      record {
+        is_side = x.is_side;
+        first = λ i. x.first (corner e x.is_side ∙ i ∙ sym (corner (next e) l1));
+        second = λ i. x.second (corner (next e) l1 ∙ i ∙ sym (corner (next (next e)) l2));
+        last = λ i. x.last (corner (next (next e)) l2 ∙ i ∙ sym (corner e x.is_side));
+      }
+
+  pub there_c : (e : ℕ) → Stands net_before e → Stands merged_net e
+  there_c e x =
+      let l1 = next_lt e x.is_side in
+      let l2 = next_lt (next e) l1 in
+      record {
+        is_side = x.is_side;
+        first = λ i. x.first (sym (corner e x.is_side) ∙ i ∙ corner (next e) l1);
+        second = λ i. x.second (sym (corner (next e) l1) ∙ i ∙ corner (next (next e)) l2);
+        last = λ i. x.last (sym (corner (next (next e)) l2) ∙ i ∙ corner e x.is_side);
+      }
+
+  pub twin_m : (e g : ℕ) → Stands merged_net e → IsTwin merged_net e g → IsTwin net_before e g
+  twin_m e g et w = record {
+    stands = there_m g w.stands;
+    begins = sym (corner g w.stands.is_side) ∙ w.begins ∙ corner (next e) (next_lt e et.is_side);
+    ends = sym (corner (next g) (next_lt g w.stands.is_side)) ∙ w.ends ∙ corner e et.is_side;
+  }
+
+  -- the merged mesh is the one shown before
+  pair_m : {v x y : ℕ} → IsPairAt merged_net v x y → IsPairAt net_before v x y
+  pair_m f =
+      let l1 = next_lt f.side f.stands.is_side in
+      record {
+        side = f.side;
+        stands = there_m f.side f.stands;
+        at = sym (corner f.side f.stands.is_side) ∙ f.at;
+        one = sym (corner (next f.side) l1) ∙ f.one;
+        two = sym (corner (next (next f.side)) (next_lt (next f.side) l1)) ∙ f.two;
+      }
+
+  pair_c : {v x y : ℕ} → IsPairAt net_before v x y → IsPairAt merged_net v x y
+  pair_c f =
+      let l1 = next_lt f.side f.stands.is_side in
+      record {
+        side = f.side;
+        stands = there_c f.side f.stands;
+        at = corner f.side f.stands.is_side ∙ f.at;
+        one = corner (next f.side) l1 ∙ f.one;
+        two = corner (next (next f.side)) (next_lt (next f.side) l1) ∙ f.two;
+      }
+
+  pub manifold_c : IsOrientedManifold net_before → IsOrientedManifold merged_net
+  manifold_c manifold = record {
+    no_side_twice = λ e g et gt a b.
+        manifold.no_side_twice e g (there_m e et) (there_m g gt)
+        (sym (corner e et.is_side) ∙ a ∙ corner g gt.is_side)
+        (sym (corner (next e) (next_lt e et.is_side)) ∙ b ∙ corner (next g) (next_lt g gt.is_side));
+    fans = λ v u. let f = manifold.fans v (u.0, there_m u.0 u.1, sym (corner u.0 u.1.is_side) ∙ u.2) in record {
+      w = f.w;
+      n = f.n;
+      chain = record { here = λ i l. pair_c (f.chain.here i l); all = λ x y g. f.chain.all x y (pair_m g) };
+      ends = f.ends;
+    };
+  }
