@@ -24,6 +24,9 @@ pub mod FaceFitting
 pub mod Shaped
 pub mod ShownLaws
 pub mod LawsProved
+pub mod NotAlone
+pub mod MovedManifolds
+pub mod FirmRuns
 pub mod LeftLaws
 pub mod NumberLaws
 pub mod FaceTables

@@ -15,7 +15,8 @@ use Rattle.pm_forest.specs.Fronts.{ancestor_of, below}
 use Rattle.pm_forest.specs.declared.parts.NewFace.{NewFace}
 use Rattle.pm_number.proofs.Renamed.{runs-moved}
 use Rattle.pm_number.proofs.ShownNets.{at-t, at-u}
-use Rattle.pm_number.specs.Shown.{shown_net, SameGone, IsNumbered}
+use Rattle.pm_firm.specs.Firm.{shown_net}
+use Rattle.pm_number.specs.Shown.{SameGone, IsNumbered}
 use Rattle.pm_number.specs.Stages.{moved, Renames, Run, steps, entry, net_after, IsGone, IsMerging, side_by}
 use Rattle.pm_runs.specs.Merged.{StandsAcross}
 use Rattle.pm_runs.specs.Pairs.{Runs}

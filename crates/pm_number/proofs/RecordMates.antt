@@ -15,7 +15,8 @@ use Rattle.pm_forest.specs.Fronts.{below}
 use Rattle.pm_forest.specs.declared.parts.NewFace.{NewFace}
 use Rattle.pm_number.proofs.Renamed.{across-moved}
 use Rattle.pm_number.proofs.RunLaws.{fresh-s, proper_after}
-use Rattle.pm_number.specs.Shown.{shown_net, SameGone, IsNumbered}
+use Rattle.pm_firm.specs.Firm.{shown_net}
+use Rattle.pm_number.specs.Shown.{SameGone, IsNumbered}
 use Rattle.pm_number.specs.Stages.{moved, Run, steps, entry, net_after, IsGone, IsEntry, IsMerging, side_by}
 use Rattle.pm_runs.proofs.Apart.{stays}
 use Rattle.pm_runs.proofs.Sides.{third_next}

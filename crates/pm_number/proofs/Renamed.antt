@@ -7,10 +7,10 @@ use Rattle.pm_runs.specs.Merged.{NoMirror, StandsAcross, KeepsApart}
 use Rattle.pm_runs.specs.Pairs.{Runs, Joined, HasFace}
 
 module _ (m n : Net) (side name : ℕ → ℕ) (map : Renames m n side name) where
-  at_to : (e : ℕ) → e < 3 * m.faces → to n (side e) ≡ name (to m e)
+  pub at_to : (e : ℕ) → e < 3 * m.faces → to n (side e) ≡ name (to m e)
   at_to e l = ap n.from (sym (map.turns e l)) ∙ map.from (next e) (next-side m.faces e l)
 
-  at_third : (e : ℕ) → e < 3 * m.faces → third n (side e) ≡ name (third m e)
+  pub at_third : (e : ℕ) → e < 3 * m.faces → third n (side e) ≡ name (third m e)
   at_third e l =
       let k = next-side m.faces e l in
       ap (λ g. n.from (next g)) (sym (map.turns e l)) ∙ ap n.from (sym (map.turns (next e) k)) ∙ map.from (next (next e)) (next-side m.faces (next e) k)

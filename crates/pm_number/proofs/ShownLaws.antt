@@ -17,7 +17,7 @@ use Rattle.pm_runs.proofs.Living.{first_dead, second_dead}
 use Rattle.pm_runs.proofs.Logs.{run-front, run-sound, surface_after-nil, next-run}
 use Rattle.pm_number.specs.Stages.{Run, run_of, no_collapse, steps, entry, net_after, side_by, IsMerging}
 use Rattle.pm_number.specs.Numbering.{node_number, leaf_number, face_number, place_number, hierarchy_of, hierarchy_of_run, IsThereAfter}
-use Rattle.pm_number.specs.Shown.{shown_net}
+use Rattle.pm_firm.specs.Firm.{shown_net}
 use Rattle.pm_number.specs.Laws.{IsShown}
 use Rattle.pm_number.proofs.Merging.{merging, step-at, more, alike-at}
 use Rattle.pm_number.proofs.Renamed.{stands-moved, stood-before}

@@ -1,4 +1,4 @@
--- The mesh that a front shows: which sides stand, and what one collapse makes of it.
+-- What one collapse makes of the mesh that a front shows.
 use Rattle.std.proofs.Common.{suc, ◌≡◌, ◌≢◌, ℕ, ◌*◌, ◌<◌, Bool, true, inl, inr, refl, sym, ap, ◌∙◌, subst, arith}
 use Rattle.std.proofs.lemmas.Bool.{cases_Bool, lt-ltb, both_ways}
 use Rattle.pm_base.specs.Sides.{next, face_of, Stands}
@@ -13,45 +13,11 @@ use Rattle.pm_forest.specs.Faces.{face_count, from_leaf, inner_of, IsForest}
 use Rattle.pm_forest.specs.Forest.{Hierarchy, record_count, leaf_count, s_of, t_of, u_of, holds, Holds, HasForestShape}
 use Rattle.pm_forest.specs.Fronts.{IsFront, IsActive, ancestor_of, below, without}
 use Rattle.pm_forest.specs.Kept.{is_shown}
-use Rattle.pm_number.specs.Shown.{shown_net}
+use Rattle.pm_firm.specs.Firm.{shown_net}
 use Rattle.pm_number.specs.Stages.{Renames}
 use Rattle.pm_runs.proofs.Merges.{merge-pair, merge-other}
 use Rattle.pm_runs.specs.Merged.{merged, IsFresh}
 use Rattle.pm_runs.specs.Surfaces.{merge}
-
-module _ (h : Hierarchy) (shape : IsForest h) (T : ℕ → Bool) (front : IsFront h T) where
-  pub stands-shown : (e : ℕ) → e < 3 * face_count h → is_shown h T e ≡ true → Stands (shown_net h T) e
-  stands-shown e l s =
-      let l1 = next-lt h shape e l in
-      let l2 = next-lt h shape (next e) l1 in
-      let s1 = shown_same h T (next e) e (next_face e) ∙ s in
-      let s2 = shown_same h T (next (next e)) e (next_face (next e) ∙ next_face e) ∙ s in
-      record {
-        is_side = l;
-        first = shown-apart h shape T front e l s;
-        second = shown-apart h shape T front (next e) l1 s1;
-        last = λ z. shown-apart h shape T front (next (next e)) l2 s2 (z ∙ ap (λ g. ancestor_of h T (from_leaf h g)) (sym (next-cycle e)));
-      }
-
-  pub shown-stands : (e : ℕ) → Stands (shown_net h T) e → is_shown h T e ≡ true
-  shown-stands e st =
-      elim (cases_Bool (is_shown h T e)) [
-        | inl s ↦ s
-        | inr s ↦
-            let (k, r, f) = hidden-parts h T e s in
-            let l = st.is_side in
-            let i = inner_of h k (face_of e) in
-            let j = inner-joined h shape T k (face_of e) (omega arith) r f in
-            let up : ℕ → ℕ = λ g. ancestor_of h T (from_leaf h g) in
-            absurd (elim (three_sides i e (inner-face h k (face_of e))) [
-              | inl is ↦ st.first (ap up (sym is) ∙ j ∙ ap (λ g. up (next g)) is)
-              | inr which ↦
-                  elim which [
-                    | inl is ↦ st.second (ap up (sym is) ∙ j ∙ ap (λ g. up (next g)) is)
-                    | inr is ↦ st.last (ap up (sym is) ∙ j ∙ ap (λ g. up (next g)) is ∙ ap up (next-cycle e))
-                  ]
-            ])
-      ]
 
 module _ (h : Hierarchy) (shape : HasForestShape h) (k : ℕ) (l : k < record_count h) where
   split : below (suc k) k ≡ true

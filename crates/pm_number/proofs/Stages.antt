@@ -11,7 +11,8 @@ use Rattle.pm_forest.specs.Forest.{Hierarchy, widths, leaf_count, s_of, t_of, u_
 use Rattle.pm_forest.specs.Fronts.{IsFront, ancestor_after, ancestor_of, below}
 use Rattle.pm_number.proofs.RunLaws.{merge_cases, given, used-given, ends_given}
 use Rattle.pm_number.proofs.ShownNets.{shown-merged}
-use Rattle.pm_number.specs.Shown.{shown_net, IsNumbered}
+use Rattle.pm_firm.specs.Firm.{shown_net}
+use Rattle.pm_number.specs.Shown.{IsNumbered}
 use Rattle.pm_number.specs.Stages.{Renames, Run, steps, entry, from_after, net_after, IsMerging, side_by}
 use Rattle.pm_runs.proofs.Merges.{merge-pair, merge-other}
 use Rattle.pm_runs.specs.Surfaces.{merge}

@@ -12,7 +12,8 @@ use Rattle.pm_forest.specs.Forest.{Hierarchy, record_count, u_of}
 use Rattle.pm_forest.specs.Fronts.{ancestor_of, below}
 use Rattle.pm_number.proofs.Renamed.{stands-moved, once-moved, no_mirror-moved, apart-moved}
 use Rattle.pm_number.proofs.RunLaws.{fresh-s, proper_after, used_t, used_u, stood_before, gone_for_good}
-use Rattle.pm_number.specs.Shown.{shown_net, UndoesCollapses, IsNumbered}
+use Rattle.pm_firm.specs.Firm.{shown_net}
+use Rattle.pm_number.specs.Shown.{UndoesCollapses, IsNumbered}
 use Rattle.pm_number.specs.Stages.{moved, Renames, Run, steps, entry, net_after, IsMerging, side_by}
 use Rattle.pm_runs.proofs.Across.{across_next-stays, across_last-stays}
 use Rattle.pm_runs.specs.Merged.{IsProper, StandsAcross, KeepsApart}

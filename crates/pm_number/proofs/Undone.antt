@@ -27,8 +27,10 @@ use Rattle.pm_beyond.proofs.Twins.{side-stands}
 use Rattle.pm_forest.specs.Kept.{is_shown}
 use Rattle.pm_number.proofs.Relinked.{shown_without, stands-outer, collapse-neighbour, collapse-other, across-unique}
 use Rattle.pm_number.proofs.Renamed.{across-moved, once-moved, no_mirror-moved, stood-before}
-use Rattle.pm_number.proofs.ShownNets.{stands-shown, shown-stands, at-t, at-u, shown-fresh, shown-step}
-use Rattle.pm_number.specs.Shown.{shown_net, UndoesCollapses}
+use Rattle.pm_firm.proofs.ShownNets.{stands-shown, shown-stands}
+use Rattle.pm_number.proofs.ShownNets.{at-t, at-u, shown-fresh, shown-step}
+use Rattle.pm_firm.specs.Firm.{shown_net}
+use Rattle.pm_number.specs.Shown.{UndoesCollapses}
 use Rattle.pm_number.specs.Stages.{Renames, moved}
 use Rattle.pm_runs.proofs.Across.{across-past, across-kept}
 use Rattle.pm_runs.proofs.Apart.{once_after, no_mirror_after}

@@ -14,9 +14,10 @@ use Rattle.pm_forest.specs.Meshes.{input_mesh_of}
 use Rattle.pm_runs.specs.Surfaces.{Surface, is_live, place_at, net_of_surface}
 use Rattle.pm_runs.specs.Runs.{IsStart, surface_after, IsRun}
 use Rattle.pm_beyond.specs.Valid.{IsValid}
+use Rattle.pm_firm.specs.Firm.{IsFirm}
 use Rattle.pm_number.specs.Stages.{run_of, side_by}
 use Rattle.pm_number.specs.Numbering.{node_number, face_number, hierarchy_of_run}
-use Rattle.pm_number.specs.Shown.{shown_net}
+use Rattle.pm_firm.specs.Firm.{shown_net}
 
 -- All places of a mesh and of a log are on the grid.
 pub record AreOnGrid (m : Mesh) (log : List Collapse) : Type 0 where
@@ -83,3 +84,8 @@ SurfacesAreShown = (m : Mesh) → IsStart m → (log : List Collapse) → IsRun 
 abbrev pub HierarchiesOfRunsAreValid : Type 0
 HierarchiesOfRunsAreValid = (m : Mesh) → IsStart m → (log : List Collapse) → IsRun m log →
     HasShape (hierarchy_of_run m log) → IsValid (hierarchy_of_run m log)
+
+-- And firm.
+abbrev pub HierarchiesOfRunsAreFirm : Type 0
+HierarchiesOfRunsAreFirm = (m : Mesh) → IsStart m → (log : List Collapse) → IsRun m log →
+    HasShape (hierarchy_of_run m log) → IsFirm (hierarchy_of_run m log)

@@ -1,4 +1,4 @@
--- The mesh that a front shows, what makes a hierarchy one of legal collapses, and what it means to number a run.
+-- What makes a hierarchy one of legal collapses, and what it means to number a run.
 use Rattle.std.specs.Prelude.{◌≡◌, ℕ, suc, ◌+◌, ◌*◌, ◌<◌, Bool, Option, Some, None, is_some}
 use Rattle.pm_base.specs.Counts.{one_if}
 use Rattle.pm_base.specs.Sides.{Net, NoSideTwice}
@@ -9,11 +9,8 @@ use Rattle.pm_forest.specs.Fronts.{ancestor_of, below}
 use Rattle.pm_forest.specs.Faces.{first_face, face_count, from_leaf, record_of, IsForest}
 use Rattle.pm_runs.specs.Merged.{IsProper, StandsAcross, KeepsApart}
 use Rattle.pm_beyond.specs.Walks.{leaf_net, number_of, IsOuter, expected}
+use Rattle.pm_firm.specs.Firm.{shown_net}
 use Rattle.pm_number.specs.Stages.{Run, steps, entry, side_by, moved}
-
--- Each side runs from the ancestor of its leaf. A face that isn't kept has two corners with one ancestor.
-abbrev pub shown_net : Hierarchy → (ℕ → Bool) → Net
-shown_net h T = record { faces = face_count h; from = λ e. ancestor_of h T (from_leaf h e) }
 
 -- Read from the last record down, the hierarchy is a run of collapses: when record k goes, t and u keep apart, and what
 -- is expected at each side of its faces stands across it in the mesh shown.

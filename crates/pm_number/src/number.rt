@@ -3,6 +3,7 @@ ghost use Rattle.pm_base.specs.Meshes.{mesh_of};
 ghost use Rattle.pm_forest.specs.Meshes.{input_mesh_of};
 ghost use Rattle.pm_runs.specs.Runs.{IsStart, IsRun};
 ghost use Rattle.pm_beyond.specs.Valid.{IsValid};
+ghost use Rattle.pm_firm.specs.Firm.{IsFirm};
 ghost use Rattle.pm_number.specs.Numbering.{hierarchy_of_run};
 
 use crate::OutOfMemory;
@@ -19,6 +20,7 @@ pub fn from_log(alloc: Global, mesh: &Mesh, log: &Log) -> Result<Hierarchy, OutO
     requires run { IsRun (mesh_of mesh.now) log.now.items }
     ensures hierarchy { IfOk result (λ h. h ≡ hierarchy_of_run (mesh_of mesh.now) log.now.items) }
     ensures valid { IfOk result IsValid }
+    ensures firm { IfOk result IsFirm }
     ensures mesh { IfOk result (λ h. input_mesh_of h ≡ mesh_of mesh.now) }
 {
     let log = log.as_slice();

@@ -1,4 +1,4 @@
-ghost use Rattle.pm_number.specs.Laws.{HierarchiesHaveShape, HierarchiesKeepMeshes, SurfacesAreShown, HierarchiesOfRunsAreValid};
+ghost use Rattle.pm_number.specs.Laws.{HierarchiesHaveShape, HierarchiesKeepMeshes, SurfacesAreShown, HierarchiesOfRunsAreValid, HierarchiesOfRunsAreFirm};
 
 /// The laws of the hierarchy of a run, which takes no step.
 pub fn numbers_are_sound()
@@ -6,4 +6,5 @@ pub fn numbers_are_sound()
     ensures mesh { HierarchiesKeepMeshes }
     ensures shown { SurfacesAreShown }
     ensures valid { HierarchiesOfRunsAreValid }
+    ensures firm { HierarchiesOfRunsAreFirm }
 {}

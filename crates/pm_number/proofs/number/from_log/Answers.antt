@@ -10,6 +10,8 @@ use Rattle.pm_number.specs.Numbering.{base_faces, numbered_face, hierarchy_of}
 use Rattle.pm_number.proofs.NodeNumbers.{root-count, count}
 use Rattle.pm_number.proofs.RunCounts.{node-count, leaf-number-count}
 use Rattle.pm_number.proofs.FaceTables.{faces_start, faces_before-le}
+use Rattle.pm_firm.specs.Firm.{IsFirm}
+use Rattle.pm_number.proofs.FirmRuns.{are_firm}
 use Rattle.pm_number.proofs.LawsProved.{keep_meshes, are_valid}
 use Rattle.pm_number.proofs.FromLog.{small_run, counts_are, not_bad, not_past, expects_nothing, whole_is}
 use Rattle.pm_number.proofs.number.from_log.Goals as goal
@@ -161,6 +163,13 @@ returns-clause-valid c =
     let log = c.args.log.now.items in
     let is = whole_is m log c.as_slice-log.result.now c.add_records.new.shaper c.in-Ok-done.hierarchy c.as_slice-log.ensures c.add_records.ensures c.in-Ok-done.ensures.whole in
     subst IsValid (sym is) (are_valid m c.requires.start log c.requires.run (subst HasShape is c.has_shape.ensures))
+
+pub returns-clause-firm : goal.returns-clause-firm
+returns-clause-firm c =
+    let m = mesh_of c.args.mesh.now in
+    let log = c.args.log.now.items in
+    let is = whole_is m log c.as_slice-log.result.now c.add_records.new.shaper c.in-Ok-done.hierarchy c.as_slice-log.ensures c.add_records.ensures c.in-Ok-done.ensures.whole in
+    subst IsFirm (sym is) (are_firm m c.requires.start log c.requires.run (subst HasShape is c.has_shape.ensures))
 
 pub returns-clause-mesh : goal.returns-clause-mesh
 returns-clause-mesh c =

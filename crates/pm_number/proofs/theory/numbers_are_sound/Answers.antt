@@ -1,4 +1,5 @@
 use Rattle.pm_number.proofs.LawsProved as law
+use Rattle.pm_number.proofs.FirmRuns as firm
 use Rattle.pm_number.proofs.theory.numbers_are_sound.Goals as goal
 
 pub returns-clause-shape : goal.returns-clause-shape
@@ -12,3 +13,6 @@ returns-clause-shown c = law.are_shown
 
 pub returns-clause-valid : goal.returns-clause-valid
 returns-clause-valid c = law.are_valid
+
+pub returns-clause-firm : goal.returns-clause-firm
+returns-clause-firm c = firm.are_firm
