@@ -1,0 +1,15 @@
+pub mod Counted
+pub mod BorderSides
+pub mod SplitBorders
+pub mod Presence
+pub mod SplitCounts
+pub mod Euler
+pub mod LeafMeshes
+pub mod Nodes
+pub mod NextBorders
+pub mod KeptSides
+pub mod Loops
+pub mod Marking
+pub mod Filtered
+pub mod LeastSides
+pub mod Turned

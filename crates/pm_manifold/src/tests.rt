@@ -1,0 +1,177 @@
+use crate::{Measure, Tracer};
+use pm_forest::{Face, Head, Hierarchy, Shaper, UnitKind};
+use pm_load::open_front;
+use std::alloc::Global;
+use std::test::Fail;
+
+// A unit of a hierarchy.
+#[derive(Clone, Copy)]
+enum Unit {
+    Root([i32; 3], u32, u32),
+    Base(Face),
+    Head(Head),
+    Face(Face, u32, u32),
+}
+
+// Takes a unit in, where it is the turn of its kind.
+fn take(shaper: &mut Shaper, unit: Unit) -> Option<()> {
+    match (shaper.expects(), unit) {
+        (UnitKind::Root, Unit::Root(place, width, input)) => {
+            shaper.add_root(place, width, input).ok()
+        }
+        (UnitKind::Base, Unit::Base(face)) => shaper.add_base(face).ok(),
+        (UnitKind::Head, Unit::Head(head)) => shaper.add_head(head).ok(),
+        (UnitKind::LeftFace | UnitKind::RightFace, Unit::Face(face, first, second)) => {
+            shaper.add_face(face, first, second).ok()
+        }
+        _ => None,
+    }
+}
+
+// The hierarchy with these counts of leaves, roots, base faces and records, and with these units.
+fn shaped(alloc: Global, counts: [u32; 4], units: &[Unit]) -> Result<Hierarchy, Fail> {
+    let [leaves, roots, bases, records] = counts;
+    let Ok(mut shaper) = Shaper::new(alloc, leaves, roots, bases, records) else {
+        return Err(Fail::new("the counts are refused"));
+    };
+    for unit in units {
+        if take(&mut shaper, *unit).is_none() {
+            return Err(Fail::new("a unit is refused"));
+        }
+    }
+    if shaper.expects() != UnitKind::Nothing {
+        return Err(Fail::new("a unit is missing"));
+    }
+    shaper
+        .done()
+        .map_err(|_| Fail::new("an input number is refused"))
+}
+
+// The measure once so many records are split: nodes, edges, faces and loops.
+fn measured(alloc: Global, h: Hierarchy, splits: u32) -> Result<[u32; 4], Fail> {
+    let Ok(mut front) = open_front(alloc, h) else {
+        return Err(Fail::new("the hierarchy isn't opened"));
+    };
+    for k in 0..splits {
+        if k >= front.hierarchy().records() || front.split(k).is_err() {
+            return Err(Fail::new("a record isn't split"));
+        }
+    }
+    let Ok(mut tracer) = Tracer::new(alloc, front.hierarchy()) else {
+        return Err(Fail::new("there is no memory"));
+    };
+    let Measure {
+        nodes,
+        edges,
+        faces,
+        loops,
+    } = tracer.measure(&front);
+    Ok([nodes, edges, faces, loops])
+}
+
+fn face(a: u32, b: u32, c: u32, input: u32) -> Face {
+    Face { a, b, c, input }
+}
+
+fn head(s: u32, t: ([i32; 3], u32), u: ([i32; 3], u32), presence: u32) -> Head {
+    Head {
+        s,
+        width: 1,
+        t: t.0,
+        t_input: t.1,
+        u: u.0,
+        u_input: u.1,
+        presence,
+    }
+}
+
+// A closed surface, of four roots, four base faces and two vertex splits with two new faces each.
+fn octahedron(alloc: Global) -> Result<Hierarchy, Fail> {
+    let units = [
+        Unit::Root([0, -100, 0], 1, 4),
+        Unit::Root([0, 0, -100], 1, 6),
+        Unit::Root([50, 50, 0], 2, 0),
+        Unit::Root([-50, 0, 50], 2, 0),
+        Unit::Base(face(0, 2, 5, 4)),
+        Unit::Base(face(4, 3, 1, 6)),
+        Unit::Base(face(0, 4, 1, 7)),
+        Unit::Base(face(2, 0, 1, 8)),
+        Unit::Head(head(3, ([-100, 0, 0], 2), ([0, 0, 100], 5), 3)),
+        Unit::Face(face(3, 4, 5, 2), 2, 4),
+        Unit::Face(face(4, 0, 5, 3), 7, 3),
+        Unit::Head(head(2, ([100, 0, 0], 1), ([0, 100, 0], 3), 3)),
+        Unit::Face(face(2, 3, 5, 1), 15, 2),
+        Unit::Face(face(3, 2, 1, 5), 12, 5),
+    ];
+    shaped(alloc, [6, 4, 4, 2], &units)
+}
+
+// Two faces with a border round them.
+fn square(alloc: Global) -> Result<Hierarchy, Fail> {
+    let units = [
+        Unit::Root([0, 10, 0], 1, 3),
+        Unit::Root([10, 10, 0], 1, 4),
+        Unit::Root([0, 0, 0], 2, 0),
+        Unit::Base(face(2, 1, 0, 2)),
+        Unit::Head(head(2, ([0, 0, 0], 1), ([10, 0, 0], 2), 1)),
+        Unit::Face(face(2, 3, 1, 1), 0, 1),
+    ];
+    shaped(alloc, [4, 3, 1, 1], &units)
+}
+
+// A face, and a point that none has.
+fn triangle_and_point(alloc: Global) -> Result<Hierarchy, Fail> {
+    let units = [
+        Unit::Root([0, 0, 0], 1, 1),
+        Unit::Root([10, 0, 0], 1, 2),
+        Unit::Root([0, 10, 0], 1, 3),
+        Unit::Root([5, 5, 5], 1, 4),
+        Unit::Base(face(0, 1, 2, 1)),
+    ];
+    shaped(alloc, [4, 4, 1, 0], &units)
+}
+
+// A valid hierarchy that isn't firm: its record's face leaves two chains of faces at node 1.
+fn loosened(alloc: Global) -> Result<Hierarchy, Fail> {
+    let units = [
+        Unit::Root([0, 0, 0], 2, 0),
+        Unit::Root([1, 0, 0], 1, 1),
+        Unit::Root([0, 1, 0], 1, 2),
+        Unit::Root([-1, 0, 0], 1, 3),
+        Unit::Base(face(1, 2, 3, 1)),
+        Unit::Base(face(0, 3, 4, 2)),
+        Unit::Base(face(0, 4, 2, 3)),
+        Unit::Head(head(0, ([0, 0, 0], 4), ([0, 0, 0], 5), 1)),
+        Unit::Face(face(0, 1, 3, 4), 3, 4),
+    ];
+    shaped(alloc, [5, 4, 3, 1], &units)
+}
+
+#[test]
+fn fronts_of_a_closed_surface_are_measured(rt: HostRuntime) -> Result<(), Fail> {
+    let alloc = rt.alloc();
+    assert_eq!(rt; measured(alloc, octahedron(alloc)?, 0)?, [4, 6, 4, 0]);
+    assert_eq!(rt; measured(alloc, octahedron(alloc)?, 1)?, [5, 9, 6, 0]);
+    assert_eq!(rt; measured(alloc, octahedron(alloc)?, 2)?, [6, 12, 8, 0]);
+    Ok(())
+}
+
+#[test]
+fn fronts_with_a_border_are_measured(rt: HostRuntime) -> Result<(), Fail> {
+    let alloc = rt.alloc();
+    assert_eq!(rt; measured(alloc, square(alloc)?, 0)?, [3, 3, 1, 1]);
+    assert_eq!(rt; measured(alloc, square(alloc)?, 1)?, [4, 5, 2, 1]);
+    assert_eq!(rt;
+        measured(alloc, triangle_and_point(alloc)?, 0)?,
+        [4, 3, 1, 1]
+    );
+    Ok(())
+}
+
+#[test]
+fn fronts_that_are_no_manifold_are_measured(rt: HostRuntime) -> Result<(), Fail> {
+    let alloc = rt.alloc();
+    assert_eq!(rt; measured(alloc, loosened(alloc)?, 0)?, [4, 7, 3, 1]);
+    assert_eq!(rt; measured(alloc, loosened(alloc)?, 1)?, [5, 9, 4, 1]);
+    Ok(())
+}
