@@ -12,6 +12,9 @@ pub type OutOfMemory = AllocError;
 /// The most items that a queue may be over.
 pub const ITEM_LIMIT: u32 = 4_194_304;
 
+// Clauses cite the limit by its name, so this line alone refuses another value.
+const _: () = prove!(ITEM_LIMIT == 4_194_304);
+
 /// A map from the items `0..n` to keys, with the least entry at hand.
 ///
 /// Contracts see a list with an optional key for each item.
@@ -71,6 +74,14 @@ impl Queue {
     {
         self.keys[item as usize] = key;
         self.len = place_item(&mut self.heap, &mut self.place, &self.keys, self.len, item);
+    }
+
+    /// Whether `item` has a key. O(1) time.
+    pub fn has(&self, item: u32) -> bool
+        requires in_range { item < length self.now }
+        ensures { result ≡ is_some (key_at self.now item) }
+    {
+        self.place[item as usize] < self.len
     }
 
     /// Takes the key of `item` away, and says whether it had one. O(log n) time.
