@@ -6,6 +6,7 @@ ghost use Rattle.pm_runs.specs.Runs.{IsRunTo};
 ghost use Rattle.pm_twins.specs.Table.{IsTableOf};
 ghost use Rattle.pm_simplify.specs.Faults.{IsSimplifyFault};
 
+use crate::choose::least_pair;
 use crate::step::collapse;
 use crate::weigh::filled;
 use pm_base::{FaceId, Log, Mesh};
@@ -30,8 +31,8 @@ pub enum SimplifyFail {
 /// collapsed. Equal costs go by the pair's vertex numbers. The answer is the log of the collapses; the mesh stays as it
 /// is.
 ///
-/// A step weighs the edges at the neighbours of the new vertex again, each by the faces at its two ends and in
-/// O(log F) of the queue for F faces.
+/// Only a pair that comes up as the least is asked whether it may be collapsed, by the faces at its two ends. A step gives
+/// keys to the edges around the neighbours of the new vertex that lack one, each in O(log F) of the queue for F faces.
 pub fn simplify(alloc: Global, mesh: &Mesh, target_faces: u32) -> Result<Log, SimplifyFail>
     requires { IsWellFormed (mesh_of mesh.now) }
     ensures run { IfOk result (λ log. IsRunTo (mesh_of mesh.now) target_faces log.items) }
@@ -64,7 +65,7 @@ fn run_to(alloc: Global, mesh: &Mesh, twins: Twins, target: u32) -> Result<Log, 
     let mut shrink = Shrink::new(alloc, mesh.copy(alloc)?, twins)?;
     let mut queue = filled(alloc, &shrink, 3 * mesh.faces.len() as u32)?;
     while shrink.face_count() > target {
-        let Some((_, key)) = queue.least() else {
+        let Some(key) = least_pair(&shrink, &mut queue) else {
             break;
         };
         log.put(collapse(&mut shrink, &mut queue, key.a, key.b));
