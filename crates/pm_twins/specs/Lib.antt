@@ -1,5 +1,5 @@
 pub mod Table
 pub mod Faults
-pub mod Keys
+pub mod SideLists
 pub mod Walks
 pub mod Laws

@@ -4,6 +4,7 @@
 
 mod fans;
 mod half_edges;
+mod side_lists;
 mod sides;
 #[cfg(test)]
 mod tests;

@@ -1,19 +1,20 @@
-// The sides of a mesh are put into one ordered map by their two vertices. A side whose vertices are
-// there already stands twice; else the twin of a side is what the map has under its vertices in the
-// other order.
-ghost use Rattle.std.specs.Prelude.{◌≡◌, ◌*◌, ◌<◌, ℕ, ◌↔◌, length, IfOk, IfErr, MatchOption, IsTrue};
+// The sides of a mesh are put into lists, face by face: each at the vertex from which it runs. A side
+// whose vertices have a listed side already stands twice; else the twin of a side is the listed one
+// between its vertices in the other order.
+ghost use Rattle.std.specs.Prelude.{◌≡◌, ◌*◌, ◌<◌, ℕ, ◌↔◌, length, IfOk, IfErr, OnOk, MatchOption, IsTrue};
 ghost use Rattle.std.specs.Option.{option_map};
 ghost use Rattle.pm_base.specs.Meshes.{mesh_of, IsWellFormed};
-ghost use Rattle.pm_base.specs.Sides.{Net, net_of, IsTwin, HasNoTwin, IsBorder};
+ghost use Rattle.pm_base.specs.Sides.{Net, net_of, NoSideTwice, IsTwin, HasNoTwin, IsBorder};
 ghost use Rattle.pm_twins.specs.Table.{twin_at, border_at, AreTwinsOf, IsBorderOf, IsTableOf};
 ghost use Rattle.pm_twins.specs.Faults.{IsTwinsFault};
-ghost use Rattle.pm_twins.specs.Keys.{key_of, IsIndex, IsWhole};
+ghost use Rattle.pm_twins.specs.SideLists.{AreListed, IsWhole};
 
 use crate::OutOfMemory;
+use crate::side_lists::{put_face, repeats, side_to};
 use crate::sides::{from, to};
 use pm_base::{Corners, FaceId, Mesh, Side};
+use pm_links::Links;
 use std::alloc::Global;
-use std::collections::BTreeMap;
 use std::marker::Model;
 
 /// Why a mesh has no twins.
@@ -42,7 +43,8 @@ impl Model for Twins {
 }
 
 impl Twins {
-    /// The twins of a well-formed mesh. O(F log F) for F faces.
+    /// The twins of a well-formed mesh. The sum over all sides of the lesser number of faces at their two
+    /// vertices: O(F) for F faces of a planar mesh, and O(F √F) for any.
     pub fn of(alloc: Global, mesh: &Mesh) -> Result<Twins, TwinsFail>
         requires { IsWellFormed (mesh_of mesh.now) }
         ensures twins { IfOk result
@@ -50,8 +52,8 @@ impl Twins {
         ensures edge_twice { IfErr result (IsTwinsFault (net_of mesh.now.faces.items)) }
     {
         let faces = mesh.faces.as_slice();
-        let sides = index_sides(alloc, faces)?;
-        let Ok(twins) = pair_sides(alloc, faces, &sides) else {
+        let lists = list_sides(alloc, faces, mesh.points.len())?;
+        let Ok(twins) = pair_sides(alloc, faces, &lists) else {
             return Err(TwinsFail::OutOfMemory);
         };
         let Ok(border) = mark_border(alloc, faces, mesh.points.len(), &twins) else {
@@ -88,44 +90,40 @@ impl Twins {
     }
 }
 
-// Two vertices as one number.
-fn key(from: u32, to: u32) -> u64
-    ensures { result ≡ key_of from to }
-{
-    u64::from(from) * 4_294_967_296 + u64::from(to)
-}
-
-// The sides by their keys.
-fn index_sides(alloc: Global, faces: &[Corners]) -> Result<BTreeMap<u64, u32>, TwinsFail>
-    requires { IsWhole (net_of faces.now) 1048576 }
-    ensures index { IfOk result (IsIndex (net_of faces.now) (3 * length faces.now)) }
+// All sides, in the lists of their vertices.
+fn list_sides(alloc: Global, faces: &[Corners], vertices: usize) -> Result<Links, TwinsFail>
+    requires { IsWhole (net_of faces.now) vertices }
+    ensures heads { IfOk result (λ lists. length lists.lists ≡ vertices) }
+    ensures listed { IfOk result (AreListed (net_of faces.now) (3 * length faces.now)) }
+    ensures once { OnOk result (NoSideTwice (net_of faces.now)) }
     ensures edge_twice { IfErr result (IsTwinsFault (net_of faces.now)) }
 {
-    let mut sides: BTreeMap<u64, u32> = BTreeMap::new(alloc);
-    for side in 0..3 * faces.len() {
-        let Ok(earlier) = sides.insert(key(from(faces, side), to(faces, side)), side as u32) else {
-            return Err(TwinsFail::OutOfMemory);
-        };
-        if earlier.is_some() {
-            return Err(TwinsFail::EdgeTwice(FaceId((side / 3) as u32)));
+    let Ok(mut lists) = Links::new(alloc, 3 * faces.len() as u32, vertices as u32) else {
+        return Err(TwinsFail::OutOfMemory);
+    };
+    for face in 0..faces.len() {
+        if repeats(faces, &lists, face) {
+            return Err(TwinsFail::EdgeTwice(FaceId(face as u32)));
         }
+        put_face(faces, &mut lists, face);
     }
-    Ok(sides)
+    Ok(lists)
 }
 
 // The twin of each side.
 fn pair_sides(
     alloc: Global,
     faces: &[Corners],
-    sides: &BTreeMap<u64, u32>,
+    lists: &Links,
 ) -> Result<Vec<Option<u32>>, OutOfMemory>
-    requires whole { IsWhole (net_of faces.now) 1048576 }
-    requires index { IsIndex (net_of faces.now) (3 * length faces.now) sides.now }
+    requires whole { IsWhole (net_of faces.now) (length lists.now.lists) }
+    requires once { NoSideTwice (net_of faces.now) }
+    requires listed { AreListed (net_of faces.now) (3 * length faces.now) lists.now }
     ensures { IfOk result (λ twins. AreTwinsOf (net_of faces.now) twins.items) }
 {
     let mut twins = Vec::with_capacity(alloc, 3 * faces.len())?;
     for side in 0..3 * faces.len() {
-        let twin = sides.get(&key(to(faces, side), from(faces, side))).copied();
+        let twin = side_to(faces, lists, to(faces, side), from(faces, side));
         twins.push(twin)?;
     }
     Ok(twins)
