@@ -1,9 +1,13 @@
 -- The radii and boxes of leaves, when one face more is looked at.
-use Rattle.std.proofs.Common.{◌≡◌, ℕ, ◌+◌, ◌<◌, max, Bool, cond, List, [], ◌∷◌, ◌++◌, get_or, map, take, None, Some, Option, inl, inr, refl, sym, ap, ◌∙◌, arith}
+use Rattle.std.proofs.Common.{◌≡◌, ℕ, ◌+◌, ◌<◌, ◌≤◌, max, Bool, cond, List, [], ◌∷◌, ◌++◌, get_or, map, take, None, Some, Option, inl, inr, refl, sym, ap, ◌∙◌, arith}
 use Rattle.std.specs.List.{filter}
 use Rattle.std.proofs.Math.Seq.{take-length}
-use Rattle.std.proofs.lemmas.Bool.{cases_Bool, cond-true, cond-false}
+use Rattle.std.proofs.lemmas.Bool.{cases_Bool, cases_lt, cond-true, cond-false}
 use Rattle.std.proofs.lemmas.List.{map-append, take_more}
+use Rattle.pm_base.specs.Geometry.{dist2_of}
+use Rattle.pm_base.specs.Rounded.{root_up}
+use Rattle.pm_base.proofs.Root.{root_up_is, root_up_only}
+use Rattle.pm_forest.specs.Places.{place_of_node}
 use Rattle.pm_forest.specs.declared.parts.Face.{Face}
 use Rattle.pm_forest.specs.Forest.{Hierarchy, node_count, splitter_of}
 use Rattle.pm_forest.specs.Faces.{faces_of, face_count, corners_of, no_corners}
@@ -12,8 +16,8 @@ use Rattle.pm_forest.proofs.FaceLists.{length-faces_of, corners_of-faces_of}
 use Rattle.pm_forest.proofs.ViewLaws.{corner_below}
 use Rattle.pm_bounds.specs.declared.normal_box.NormalBox.{NormalBox}
 use Rattle.pm_bounds.specs.Boxes.{box_at, join, box_of}
-use Rattle.pm_bounds.specs.Bounds.{greatest, reach, is_under, normal_of, leaf_radius, box_under}
-use Rattle.pm_bounds.specs.Tables.{is_corner_node}
+use Rattle.pm_bounds.specs.Bounds.{greatest, leaf_place, reach, is_under, normal_of, leaf_radius, box_under}
+use Rattle.pm_bounds.specs.Tables.{is_corner_node, square_reach}
 use Rattle.pm_bounds.proofs.BoxLaws.{box_of-more}
 use Rattle.pm_bounds.proofs.Nodes.{own_faces}
 
@@ -47,9 +51,9 @@ filter_same p q (x ∷ xs) same = rw (same x, filter_same p q xs same) refl
 abbrev pub first_faces : Hierarchy → ℕ → List Face
 first_faces h n = take n (faces_of h)
 
--- The radius of a leaf, and the box of a node, by these faces alone.
-unfoldable pub radius_in : Hierarchy → ℕ → ℕ → ℕ
-radius_in h n v = greatest (map (reach h v) (filter (is_under h v) (first_faces h n)))
+-- The square of a leaf, and the box of a node, by these faces alone.
+unfoldable pub square_in : Hierarchy → ℕ → ℕ → ℕ
+square_in h n v = greatest (map (square_reach h v) (filter (is_under h v) (first_faces h n)))
 
 unfoldable pub box_in : Hierarchy → ℕ → ℕ → Option NormalBox
 box_in h n v = box_of (map (normal_of h) (filter (is_under h v) (first_faces h n)))
@@ -60,25 +64,25 @@ module _ (h : Hierarchy) where
       let len = length-faces_of h in
       take_more (faces_of h) n no_corners (omega arith) ∙ ap (λ f. first_faces h n ++ f ∷ []) (sym (corners_of-faces_of h n l))
 
-  pub radius_in-none : (v : ℕ) → radius_in h 0 v ≡ 0
-  unfolding radius_in
-  radius_in-none v = refl
+  pub square_in-none : (v : ℕ) → square_in h 0 v ≡ 0
+  unfolding square_in
+  square_in-none v = refl
 
-  pub radius_in-more : (n v : ℕ) → n < face_count h →
-      radius_in h (n + 1) v ≡ cond (is_under h v (corners_of h n)) (max (radius_in h n v) (reach h v (corners_of h n))) (radius_in h n v)
-  unfolding radius_in
-  radius_in-more n v l =
+  pub square_in-more : (n v : ℕ) → n < face_count h →
+      square_in h (n + 1) v ≡ cond (is_under h v (corners_of h n)) (max (square_in h n v) (square_reach h v (corners_of h n))) (square_in h n v)
+  unfolding square_in
+  square_in-more n v l =
       let f = corners_of h n in
       let fs = first_faces h n in
       let all : filter (is_under h v) (first_faces h (n + 1)) ≡ cond (is_under h v f) (filter (is_under h v) fs ++ f ∷ []) (filter (is_under h v) fs) =
       ap (filter (is_under h v)) (one_more n l) ∙ filter-more (is_under h v) fs f in
       elim (cases_Bool (is_under h v f)) [
         | inl e ↦
-            ap (λ l. greatest (map (reach h v) l)) (all ∙ cond-true _ _ _ e)
-            ∙ ap greatest (map-append (reach h v) (filter (is_under h v) fs) (f ∷ []))
-            ∙ greatest-more (map (reach h v) (filter (is_under h v) fs)) (reach h v f)
+            ap (λ l. greatest (map (square_reach h v) l)) (all ∙ cond-true _ _ _ e)
+            ∙ ap greatest (map-append (square_reach h v) (filter (is_under h v) fs) (f ∷ []))
+            ∙ greatest-more (map (square_reach h v) (filter (is_under h v) fs)) (square_reach h v f)
             ∙ sym (cond-true _ _ _ e)
-        | inr e ↦ ap (λ l. greatest (map (reach h v) l)) (all ∙ cond-false _ _ _ e) ∙ sym (cond-false _ _ _ e)
+        | inr e ↦ ap (λ l. greatest (map (square_reach h v) l)) (all ∙ cond-false _ _ _ e) ∙ sym (cond-false _ _ _ e)
       ]
 
   pub box_in-none : (v : ℕ) → box_in h 0 v ≡ None
@@ -103,17 +107,17 @@ module _ (h : Hierarchy) where
       ]
 
 -- One face more in a table of the leaves' numbers.
-pub radii_step : (h : Hierarchy) → HasShape h → (n : ℕ) → n < face_count h → (old new : List ℕ) →
-    ((v : ℕ) → v < node_count h → splitter_of h v ≡ None → get_or old v 0 ≡ radius_in h n v) →
-    ((v : ℕ) → v < node_count h → get_or new v 0 ≡ cond (is_corner_node h v (corners_of h n)) (max (get_or old v 0) (reach h v (corners_of h n))) (get_or old v 0)) →
-    (v : ℕ) → v < node_count h → splitter_of h v ≡ None → get_or new v 0 ≡ radius_in h (n + 1) v
-radii_step h shape n l old new before step v m none =
+pub squares_step : (h : Hierarchy) → HasShape h → (n : ℕ) → n < face_count h → (old new : List ℕ) →
+    ((v : ℕ) → v < node_count h → splitter_of h v ≡ None → get_or old v 0 ≡ square_in h n v) →
+    ((v : ℕ) → v < node_count h → get_or new v 0 ≡ cond (is_corner_node h v (corners_of h n)) (max (get_or old v 0) (square_reach h v (corners_of h n))) (get_or old v 0)) →
+    (v : ℕ) → v < node_count h → splitter_of h v ≡ None → get_or new v 0 ≡ square_in h (n + 1) v
+squares_step h shape n l old new before step v m none =
     let f = corners_of h n in
     let c = corner_below h shape n l in
     step v m
-    ∙ ap (λ b. cond b (max (get_or old v 0) (reach h v f)) (get_or old v 0)) (own_faces h shape v f m none c.a_below c.b_below c.c_below)
-    ∙ ap (λ r. cond (is_under h v f) (max r (reach h v f)) r) (before v m none)
-    ∙ sym (radius_in-more h n v l)
+    ∙ ap (λ b. cond b (max (get_or old v 0) (square_reach h v f)) (get_or old v 0)) (own_faces h shape v f m none c.a_below c.b_below c.c_below)
+    ∙ ap (λ r. cond (is_under h v f) (max r (square_reach h v f)) r) (before v m none)
+    ∙ sym (square_in-more h n v l)
 
 pub boxes_step : (h : Hierarchy) → HasShape h → (n : ℕ) → n < face_count h → (old new : List (Option NormalBox)) →
     ((v : ℕ) → v < node_count h → splitter_of h v ≡ None → get_or old v None ≡ box_in h n v) →
@@ -132,9 +136,46 @@ boxes_step h shape n l old new before step v m none =
 all_faces : (h : Hierarchy) → first_faces h (face_count h) ≡ faces_of h
 all_faces h = ap (λ n. take n (faces_of h)) (sym (length-faces_of h)) ∙ take-length (faces_of h)
 
-pub radius_in-all : (h : Hierarchy) (v : ℕ) → radius_in h (face_count h) v ≡ leaf_radius h v
-unfolding radius_in
-radius_in-all h v = ap (λ fs. greatest (map (reach h v) (filter (is_under h v) fs))) (all_faces h)
+-- The root of the greatest number is the greatest of the roots.
+root_zero : root_up 0 ≡ 0
+root_zero = sym (root_up_only 0 0 (omega arith) (λ m h. omega arith))
+
+root_grows : (a b : ℕ) → a ≤ b → root_up a ≤ root_up b
+root_grows a b l = (root_up_is a).least (root_up b) (omega (arith, (root_up_is b).enough))
+
+root_max : (a b : ℕ) → root_up (max a b) ≡ max (root_up a) (root_up b)
+root_max a b =
+    elim (cases_lt a b) [
+      | inl l ↦
+          let is : max a b ≡ b = omega arith in
+          let up : root_up b ≡ max (root_up a) (root_up b) = omega (arith, root_grows a b (omega arith)) in
+          ap root_up is ∙ up
+      | inr l ↦
+          let is : max a b ≡ a = omega arith in
+          let up : root_up a ≡ max (root_up a) (root_up b) = omega (arith, root_grows b a l) in
+          ap root_up is ∙ up
+    ]
+
+root_greatest : (ns : List ℕ) → root_up (greatest ns) ≡ greatest (map root_up ns)
+root_greatest [] = root_zero
+root_greatest (n ∷ ns) = root_max n (greatest ns) ∙ ap (max (root_up n)) (root_greatest ns)
+
+reach_root : (h : Hierarchy) (v : ℕ) (f : Face) → root_up (square_reach h v f) ≡ reach h v f
+unfolding reach square_reach
+reach_root h v f =
+    let d = λ (x : ℕ). dist2_of (place_of_node h v) (leaf_place h x) in
+    root_greatest (d f.a ∷ d f.b ∷ d f.c ∷ [])
+
+root_of_reaches : (h : Hierarchy) (v : ℕ) (fs : List Face) → root_up (greatest (map (square_reach h v) fs)) ≡ greatest (map (reach h v) fs)
+root_of_reaches h v [] = root_zero
+root_of_reaches h v (f ∷ fs) =
+    root_max (square_reach h v f) (greatest (map (square_reach h v) fs))
+    ∙ ap (λ r. max r (root_up (greatest (map (square_reach h v) fs)))) (reach_root h v f)
+    ∙ ap (max (reach h v f)) (root_of_reaches h v fs)
+
+pub square_in-all : (h : Hierarchy) (v : ℕ) → root_up (square_in h (face_count h) v) ≡ leaf_radius h v
+unfolding square_in
+square_in-all h v = root_of_reaches h v (filter (is_under h v) (first_faces h (face_count h))) ∙ ap (λ fs. greatest (map (reach h v) (filter (is_under h v) fs))) (all_faces h)
 
 pub box_in-all : (h : Hierarchy) (v : ℕ) → box_in h (face_count h) v ≡ box_under h v
 unfolding box_in box_under

@@ -1,10 +1,12 @@
 -- What the tables of bounds keep.
-use Rattle.std.specs.Prelude.{◌≡◌, ℕ, ◌<◌, ◌^◌, ◌||◌, ◌==◌, Bool, None, List, length, IfSome, slice_index_or}
+use Rattle.std.specs.Prelude.{◌≡◌, ℕ, ◌<◌, ◌^◌, ◌||◌, ◌==◌, Bool, None, List, [], ◌∷◌, length, IfSome, slice_index_or}
 use Rattle.pm_forest.specs.declared.parts.Face.{Face}
 use Rattle.pm_forest.specs.Forest.{Hierarchy}
+use Rattle.pm_base.specs.Geometry.{dist2_of}
+use Rattle.pm_forest.specs.Places.{place_of_node}
 use Rattle.pm_forest.specs.Tables.{leaf_node_of}
 use Rattle.pm_bounds.specs.Boxes.{IsSmallBox}
-use Rattle.pm_bounds.specs.Bounds.{Bounds, over_children}
+use Rattle.pm_bounds.specs.Bounds.{Bounds, greatest, leaf_place, over_children}
 
 -- One of each kind for each node, and none is large.
 pub record IsBounds (b : Bounds) : Type 0 where
@@ -17,6 +19,12 @@ pub record IsBounds (b : Bounds) : Type 0 where
 -- Node v is the node of a leaf at a corner of the face.
 abbrev pub is_corner_node : Hierarchy → ℕ → Face → Bool
 is_corner_node h v f = v == leaf_node_of h f.a || v == leaf_node_of h f.b || v == leaf_node_of h f.c
+
+-- The squared distance of the farthest corner of a face from the place of node v.
+unfoldable pub square_reach : Hierarchy → ℕ → Face → ℕ
+square_reach h v f =
+    let d = λ (x : ℕ). dist2_of (place_of_node h v) (leaf_place h x) in
+    greatest (d f.a ∷ d f.b ∷ d f.c ∷ [])
 
 -- The number of the node that record k splits, by those of its children in a table.
 abbrev pub grown_at : Hierarchy → List ℕ → ℕ → ℕ

@@ -1,16 +1,17 @@
 // The bounds of leaves, which the faces at them give.
-ghost use Rattle.std.specs.Prelude.{◌≡◌, ℕ, ◌+◌, ◌<◌, ◌≤◌, ◌||◌, ◌==◌, max, cond, None, Some, replicate, length, map, IfOk, IfSome, slice_index_or, slice_set};
+ghost use Rattle.std.specs.Prelude.{◌≡◌, ℕ, ◌+◌, ◌*◌, ◌<◌, ◌≤◌, ◌||◌, ◌==◌, max, cond, None, Some, replicate, length, map, IfOk, IfSome, slice_index_or, slice_set};
 ghost use Rattle.pm_base.specs.Geometry.{IsNormal};
+ghost use Rattle.pm_base.specs.Rounded.{root_up};
 ghost use Rattle.pm_forest.specs.Forest.{node_count, splitter_of};
 ghost use Rattle.pm_forest.specs.Faces.{face_count, corners_of};
 ghost use Rattle.pm_forest.specs.Tables.{leaf_node_of};
 ghost use Rattle.pm_bounds.specs.Boxes.{join, box_at, IsSmallBox};
-ghost use Rattle.pm_bounds.specs.Bounds.{reach, normal_of, leaf_radius, box_under};
-ghost use Rattle.pm_bounds.specs.Tables.{is_corner_node};
+ghost use Rattle.pm_bounds.specs.Bounds.{normal_of, leaf_radius, box_under};
+ghost use Rattle.pm_bounds.specs.Tables.{is_corner_node, square_reach};
 
 use crate::normal_box::join;
 use crate::{NormalBox, OutOfMemory};
-use pm_base::{FaceId, NodeId, cross, dist_up};
+use pm_base::{FaceId, NodeId, cross, dist2};
 use pm_forest::Hierarchy;
 use std::alloc::Global;
 
@@ -46,20 +47,20 @@ fn corner_nodes(h: &Hierarchy, f: FaceId) -> (NodeId, NodeId, NodeId)
     )
 }
 
-// How far the farthest corner of a face is from the place of a node.
-#[tactic(auto, unfolding(crate::specs::Bounds::reach))]
-fn reach(h: &Hierarchy, node: NodeId, f: FaceId) -> u64
+// The squared distance of the farthest corner of a face from the place of a node.
+#[tactic(auto, unfolding(crate::specs::Tables::square_reach))]
+fn square_reach(h: &Hierarchy, node: NodeId, f: FaceId) -> u64
     requires face { f.0 < face_count h.now }
     requires node { node.0 < node_count h.now }
-    ensures value { result ≡ reach h.now node.0 (corners_of h.now f.0) }
-    ensures small { result ≤ 113509 }
+    ensures value { result ≡ square_reach h.now node.0 (corners_of h.now f.0) }
+    ensures small { result ≤ 12884115468 }
 {
     let place = h.place(node);
     let (a, b, c) = corner_nodes(h, f);
-    let first = dist_up(place, h.place(a));
-    let second = dist_up(place, h.place(b));
-    let third = dist_up(place, h.place(c));
-    u64::from(first.max(second.max(third)))
+    let first = dist2(place, h.place(a));
+    let second = dist2(place, h.place(b));
+    let third = dist2(place, h.place(c));
+    first.max(second.max(third))
 }
 
 // The face's normal alone, as a box.
@@ -76,18 +77,18 @@ fn face_box(h: &Hierarchy, f: FaceId) -> NormalBox
     }
 }
 
-// Lets the radius of a node reach a face.
-fn widen_radius(h: &Hierarchy, radii: &mut Vec<u64>, node: NodeId, f: FaceId)
+// Lets the square of a node reach a face.
+fn widen_square(h: &Hierarchy, squares: &mut Vec<u64>, node: NodeId, f: FaceId)
     requires face { f.0 < face_count h.now }
     requires node { node.0 < node_count h.now }
-    requires len { length radii.old.items ≡ node_count h.now }
-    requires small { (v : ℕ) → v < node_count h.now → slice_index_or radii.old.items v 0 ≤ 113509 }
-    ensures value { radii.new.items ≡ slice_set radii.old.items node.0 (max (slice_index_or radii.old.items node.0 0) (reach h.now node.0 (corners_of h.now f.0))) }
-    ensures len { length radii.new.items ≡ node_count h.now }
-    ensures small { (v : ℕ) → v < node_count h.now → slice_index_or radii.new.items v 0 ≤ 113509 }
+    requires len { length squares.old.items ≡ node_count h.now }
+    requires small { (v : ℕ) → v < node_count h.now → slice_index_or squares.old.items v 0 ≤ 12884115468 }
+    ensures value { squares.new.items ≡ slice_set squares.old.items node.0 (max (slice_index_or squares.old.items node.0 0) (square_reach h.now node.0 (corners_of h.now f.0))) }
+    ensures len { length squares.new.items ≡ node_count h.now }
+    ensures small { (v : ℕ) → v < node_count h.now → slice_index_or squares.new.items v 0 ≤ 12884115468 }
 {
     let at = node.0 as usize;
-    radii[at] = radii[at].max(reach(h, node, f));
+    squares[at] = squares[at].max(square_reach(h, node, f));
 }
 
 // Takes the normal of a face into the box of a node.
@@ -103,20 +104,43 @@ fn widen_box(boxes: &mut Vec<Option<NormalBox>>, node: NodeId, face: NormalBox)
     boxes[at] = join(boxes[at], Some(face));
 }
 
-// Lets the radii of the leaves at a face's corners reach it.
-fn widen_radii(h: &Hierarchy, radii: &mut Vec<u64>, f: FaceId)
+// Lets the squares of the leaves at a face's corners reach it.
+fn widen_squares(h: &Hierarchy, squares: &mut Vec<u64>, f: FaceId)
     requires face { f.0 < face_count h.now }
-    requires len { length radii.old.items ≡ node_count h.now }
-    requires small { (v : ℕ) → v < node_count h.now → slice_index_or radii.old.items v 0 ≤ 113509 }
-    ensures len { length radii.new.items ≡ node_count h.now }
-    ensures small { (v : ℕ) → v < node_count h.now → slice_index_or radii.new.items v 0 ≤ 113509 }
-    ensures each { (v : ℕ) → v < node_count h.now → let old = slice_index_or radii.old.items v 0 in
-        slice_index_or radii.new.items v 0 ≡ cond (is_corner_node h.now v (corners_of h.now f.0)) (max old (reach h.now v (corners_of h.now f.0))) old }
+    requires len { length squares.old.items ≡ node_count h.now }
+    requires small { (v : ℕ) → v < node_count h.now → slice_index_or squares.old.items v 0 ≤ 12884115468 }
+    ensures len { length squares.new.items ≡ node_count h.now }
+    ensures small { (v : ℕ) → v < node_count h.now → slice_index_or squares.new.items v 0 ≤ 12884115468 }
+    ensures each { (v : ℕ) → v < node_count h.now → let old = slice_index_or squares.old.items v 0 in
+        slice_index_or squares.new.items v 0 ≡ cond (is_corner_node h.now v (corners_of h.now f.0)) (max old (square_reach h.now v (corners_of h.now f.0))) old }
 {
     let (a, b, c) = corner_nodes(h, f);
-    widen_radius(h, radii, a, f);
-    widen_radius(h, radii, b, f);
-    widen_radius(h, radii, c, f);
+    widen_square(h, squares, a, f);
+    widen_square(h, squares, b, f);
+    widen_square(h, squares, c, f);
+}
+
+// The least whole number whose square is at least n.
+fn root_up(n: u64) -> u64
+    requires { n ≤ 12884115468 }
+    ensures enough { n ≤ result * result }
+    ensures least { (m : ℕ) → n ≤ m * m → result ≤ m }
+    ensures small { result ≤ 113509 }
+{
+    let root = n.isqrt();
+    if root * root < n { root + 1 } else { root }
+}
+
+// Puts the root of each number, rounded up, in its place.
+fn take_roots(numbers: &mut Vec<u64>)
+    requires { (v : ℕ) → v < length numbers.old.items → slice_index_or numbers.old.items v 0 ≤ 12884115468 }
+    ensures len { length numbers.new.items ≡ length numbers.old.items }
+    ensures each { (v : ℕ) → v < length numbers.old.items → slice_index_or numbers.new.items v 0 ≡ root_up (slice_index_or numbers.old.items v 0) }
+    ensures small { (v : ℕ) → v < length numbers.old.items → slice_index_or numbers.new.items v 0 ≤ 113509 }
+{
+    for at in 0..numbers.len() {
+        numbers[at] = root_up(numbers[at]);
+    }
 }
 
 // Takes the normal of a face into the boxes of the leaves at its corners.
@@ -142,12 +166,14 @@ pub fn leaf_radii(alloc: Global, h: &Hierarchy) -> Result<Vec<u64>, OutOfMemory>
     ensures each { IfOk result (λ radii. (v : ℕ) → v < node_count h.now → splitter_of h.now v ≡ None → slice_index_or radii.items v 0 ≡ leaf_radius h.now v) }
     ensures small { IfOk result (λ radii. (v : ℕ) → v < node_count h.now → slice_index_or radii.items v 0 ≤ 113509) }
 {
-    let mut radii = zeros(alloc, h.nodes() as usize)?;
+    // The root of the greatest square is the greatest of the roots.
+    let mut squares = zeros(alloc, h.nodes() as usize)?;
     h.has_shape();
     for f in 0..h.faces() {
-        widen_radii(h, &mut radii, FaceId(f));
+        widen_squares(h, &mut squares, FaceId(f));
     }
-    Ok(radii)
+    take_roots(&mut squares);
+    Ok(squares)
 }
 
 /// The normal box of each node that no record splits, by node.
