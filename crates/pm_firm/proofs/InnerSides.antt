@@ -1,45 +1,35 @@
 -- After a legal split the sides from one child to the other are the inner sides of the record's faces.
-use Rattle.std.proofs.Common.{◌≡◌, ◌≢◌, ℕ, ◌+◌, ◌*◌, ◌<◌, eqb, ◌&&◌, Bool, true, false, cond, Option, Some, None, ◌⊎◌, inl, inr, refl, sym, ap, ◌∙◌, subst, arith}
+use Rattle.std.proofs.Common.{◌≡◌, ℕ, ◌+◌, ◌*◌, ◌<◌, eqb, ◌&&◌, Bool, true, false, cond, Option, Some, None, ◌⊎◌, inl, inr, refl, sym, ap, ◌∙◌, subst, arith}
 use Rattle.std.specs.Option.{is_some}
-use Rattle.std.proofs.lemmas.Bool.{cases_eq, cases_Bool, both_ways, cond-true, cond-false, false_from_ne_true, and_parts, and_from, eqb-true, eq-eqb}
-use Rattle.std.proofs.lemmas.Option.{none-some, same_Some}
+use Rattle.std.proofs.lemmas.Bool.{cases_Bool, both_ways, cond-true, false_from_ne_true, and_parts, and_from, eqb-true}
 use Rattle.pm_base.specs.Counts.{one_if}
-use Rattle.pm_base.specs.Sides.{Net, face_of, next, prev, to, third, Stands, IsTwin, twin_of}
-use Rattle.pm_base.specs.Fans.{IsPairAt, IsOrientedManifold}
-use Rattle.pm_base.proofs.Search.{Decided, search_below}
-use Rattle.pm_base.proofs.TwinLaws.{twin-is, twin-one}
-use Rattle.pm_forest.specs.Forest.{Hierarchy, record_at, record_count, leaf_count, t_of, u_of, s_of, holds, Holds, Makes}
-use Rattle.pm_forest.specs.Fronts.{IsFront, ancestor_of, with}
-use Rattle.pm_forest.specs.Faces.{first_face, is_left, new_face, face_count, from_leaf, revealed_by, record_of, inner_of, IsForest}
+use Rattle.pm_base.specs.Sides.{Net, face_of, next, to, third, Stands, IsTwin}
+use Rattle.pm_base.specs.Fans.{IsPairAt}
+use Rattle.pm_forest.specs.Forest.{Hierarchy, record_at, record_count, t_of, u_of, s_of, holds, Holds, Makes}
+use Rattle.pm_forest.specs.Fronts.{IsFront, with}
+use Rattle.pm_forest.specs.Faces.{first_face, is_left, face_count, from_leaf, revealed_by, record_of, inner_of, IsForest}
 use Rattle.pm_forest.specs.Kept.{is_shown}
-use Rattle.pm_forest.proofs.Ancestors.{active-ancestor, holds-ancestor_of, ancestor_of-unique}
-use Rattle.pm_forest.proofs.Ends.{next-lt, third_outside}
+use Rattle.pm_forest.proofs.Ancestors.{holds-ancestor_of}
+use Rattle.pm_forest.proofs.Ends.{third_outside}
 use Rattle.pm_forest.proofs.FaceNumbers.{which_face}
-use Rattle.pm_forest.proofs.Nodes.{makes_once, not_both}
-use Rattle.pm_forest.proofs.OneStep.{with-cases, with-same, with-front, split-under, split-elsewhere}
+use Rattle.pm_forest.proofs.Nodes.{not_both}
+use Rattle.pm_forest.proofs.OneStep.{with-cases, with-front, split-elsewhere}
 use Rattle.pm_forest.proofs.ShapeLaws.{left_from}
 use Rattle.pm_forest.proofs.Shown.{shown_record, hidden-parts}
 use Rattle.pm_forest.proofs.Sides.{inner-face, three_sides}
-use Rattle.pm_beyond.specs.Walks.{IsOuter, Beyond, beyond_of, expected_at, expected, mate_of, number_of}
+use Rattle.pm_beyond.specs.Walks.{Beyond, beyond_of, expected, mate_of}
 use Rattle.pm_beyond.specs.Valid.{IsValid}
 use Rattle.pm_beyond.specs.Moves.{IsClosed, MaySplit}
-use Rattle.pm_beyond.proofs.Across.{across-face, across-outer, across-is_outer, across-differs}
 use Rattle.pm_beyond.proofs.Carried.{ends-carried}
-use Rattle.pm_beyond.proofs.Reaching.{kept_at_side, reaches-lt, back, Beyond-unique}
-use Rattle.pm_beyond.proofs.Neighbours.{expected-lt}
+use Rattle.pm_beyond.proofs.Reaching.{reaches-lt, back, Beyond-unique}
 use Rattle.pm_beyond.proofs.Standing.{forest_of, closed-front}
-use Rattle.pm_beyond.proofs.Closed.{four_faces}
 use Rattle.pm_beyond.proofs.WalkTheory as law
-use Rattle.pm_runs.specs.Surfaces.{merge}
 use Rattle.pm_runs.specs.Pairs.{IsPair}
 use Rattle.pm_runs.specs.Merged.{merged}
-use Rattle.pm_runs.proofs.Merges.{merge-pair, merge-other}
-use Rattle.pm_splits.specs.Splits.{IsBetween, IsSplit}
-use Rattle.pm_splits.proofs.SplitTwins.{splits_keep_manifolds}
-use Rattle.pm_firm.specs.Firm.{shown_net, IsSurfaceShown, FacesAreHeld}
+use Rattle.pm_firm.specs.Firm.{shown_net}
 use Rattle.pm_firm.proofs.Held.{inner_expected}
-use Rattle.pm_firm.proofs.ShownNets.{stands-shown, shown-stands, twins-beyond, beyond-twins}
-use Rattle.pm_firm.proofs.Relinking.{shown_with, shown_new, new_beyond, neighbour_beyond, other_beyond}
+use Rattle.pm_firm.proofs.ShownNets.{stands-shown, shown-stands}
+use Rattle.pm_firm.proofs.Relinking.{shown_new, new_beyond}
 use Rattle.pm_firm.proofs.MergedShown.{leaf, not_child, rename, both_s, next_lt, there_c}
 
 module _ (h : Hierarchy) (valid : IsValid h) (T : ℕ → Bool) (closed : IsClosed h T) (k : ℕ) (l : k < record_count h) (may : MaySplit h T k) where

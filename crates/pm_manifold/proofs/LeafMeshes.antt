@@ -51,8 +51,8 @@ module _ (h : Hierarchy) (firm : IsFirm h) where
       (λ t.
       let (i, il, is) = met-parts own (length h.roots) v t in
       let same : v ≡ i = is in
-          let root : v < length h.roots = omega arith in
-          is_active-from h tree.forest no_records v (inl root, λ k kl f. absurd (false≢true f)))) ∙ all
+      let root : v < length h.roots = omega arith in
+      is_active-from h tree.forest no_records v (inl root, λ k kl f. absurd (false≢true f)))) ∙ all
 
   risen_nodes : (j : ℕ) → j ≤ record_count h → nodes_shown h (rising every j) ≡ length h.roots + j
   risen_nodes zero l = let z : length h.roots ≡ length h.roots + 0 = omega arith in ap (nodes_shown h) (rise-none every) ∙ base_nodes ∙ z
