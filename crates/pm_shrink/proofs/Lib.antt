@@ -11,3 +11,4 @@ mod MergedCorners
 mod MergedFaces
 mod MergedTables
 mod MergedShrink
+mod FollowingLaws

@@ -2,3 +2,4 @@ pub mod Shrinking
 pub mod Tables
 pub mod Walks
 pub mod Writes
+pub mod Following

@@ -1,10 +1,13 @@
-ghost use Rattle.std.specs.Prelude.{◌≡◌, ◌≢◌, ◌<◌, ℕ, true};
+ghost use Rattle.std.specs.Prelude.{◌≡◌, ◌≢◌, ◌<◌, ℕ, true, List, [], ◌∷◌, ◌++◌};
 ghost use Rattle.pm_base.specs.Fans.{IsOrientedManifold};
+ghost use Rattle.pm_base.specs.declared.log.Collapse.{Collapse as Entry};
+ghost use Rattle.pm_base.specs.Meshes.{Mesh};
 ghost use Rattle.pm_quadric.specs.Sums.{plus_sums};
 ghost use Rattle.pm_runs.specs.Surfaces.{next_vertex, is_live as is_live_in, collapsed};
 ghost use Rattle.pm_runs.specs.Pairs.{IsLegalPair};
 ghost use Rattle.pm_runs.specs.Steps.{gone_of, entry_of};
 ghost use Rattle.pm_shrink.specs.Shrinking.{net_at, quadric_at};
+ghost use Rattle.pm_shrink.specs.Following.{IsAfter};
 
 use crate::Shrink;
 use crate::sides::{next, prev};
@@ -14,7 +17,8 @@ use pm_base::{Collapse, FaceId, Gone, Point, Side};
 impl Shrink {
     /// Collapses a pair that is legal at the place: both ends become the next vertex, there, and the faces that hold both
     /// are dropped. Only the faces at the two ends are touched. The answer is the log's entry, with what stood across the
-    /// other sides of the dropped faces.
+    /// other sides of the dropped faces. The quadric of each live vertex goes on to stand for the planes of all input
+    /// vertices merged in it.
     pub fn collapse(&mut self, a: u32, b: u32, place: Point) -> Collapse
         requires ordered { a < b }
         requires legal { IsLegalPair self.old.surface a b place }
@@ -25,6 +29,8 @@ impl Shrink {
             ≡ plus_sums (quadric_at self.old a) (quadric_at self.old b) }
         ensures quadrics { (v : ℕ) → v ≢ next_vertex self.old.surface
             → quadric_at self.new v ≡ quadric_at self.old v }
+        ensures after { (m : Mesh) (log : List Entry) → IsAfter m log self.old
+            → IsAfter m (log ++ result ∷ []) self.new }
     {
         self.is_kept();
         let left = self.gone(a, b);

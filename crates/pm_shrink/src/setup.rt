@@ -10,6 +10,7 @@ ghost use Rattle.pm_runs.specs.Planes.{planes_at, plane_of_face, has_corner};
 ghost use Rattle.pm_twins.specs.Table.{IsTableOf};
 ghost use Rattle.pm_shrink.specs.Shrinking.{quadric_at};
 ghost use Rattle.pm_shrink.specs.Tables.{side_from, mesh_with};
+ghost use Rattle.pm_shrink.specs.Following.{IsAfter};
 
 use crate::shrink::OutOfMemory;
 use crate::{Shrink, sides};
@@ -29,6 +30,7 @@ impl Shrink {
         ensures surface { IfOk result (λ s. s.surface ≡ surface_of (mesh_of mesh)) }
         ensures quadrics { IfOk result (λ s. (v : ℕ) → v < length mesh.points.items
             → quadric_at s v ≡ sums_of (planes_at (mesh_of mesh) v)) }
+        ensures after { IfOk result (IsAfter (mesh_of mesh) []) }
     {
         let triples = mesh.faces.as_slice();
         let points = mesh.points.as_slice();

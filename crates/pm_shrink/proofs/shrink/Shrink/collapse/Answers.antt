@@ -1,7 +1,8 @@
-use Rattle.std.proofs.Common.{◌≡◌, ◌∙◌, ℕ, ◌-◌, ◌<◌, List, length, get_or, Option, refl, sym, ap, subst, arith, get_or-set_same}
+use Rattle.std.proofs.Common.{rules, ◌≡◌, ◌∙◌, ℕ, ◌+◌, ◌-◌, ◌<◌, List, length, get_or, Option, refl, sym, ap, subst, arith, get_or-set_same}
 use Rattle.std.specs.Prelude.{is_some, IfSome}
 use Rattle.pm_base.specs.Counts.{one_if}
 use Rattle.pm_base.specs.declared.log.Gone.{Gone}
+use Rattle.pm_base.specs.declared.log.Collapse.{Collapse}
 use Rattle.pm_base.specs.Sides.{Net}
 use Rattle.pm_links.proofs.Calls.{after_move}
 use Rattle.pm_links.specs.Lists.{Lists, list_of, has}
@@ -11,13 +12,14 @@ use Rattle.pm_runs.specs.Pairs.{IsLegalPair}
 use Rattle.pm_runs.specs.Steps.{gone_of}
 use Rattle.pm_runs.proofs.Living.{joined_live}
 use Rattle.pm_shrink.specs.Shrinking.{Shrinking}
-use Rattle.pm_shrink.specs.Tables.{surface_with}
+use Rattle.pm_shrink.specs.Tables.{surface_with, shrinking_with}
 use Rattle.pm_shrink.specs.Writes.{unlisted}
 use Rattle.pm_shrink.proofs.GoneLaws.{gone_face_in, gone_first_in, gone_second_in, gone_held, AreHeld, unlisted-other, right_spared}
 use Rattle.pm_shrink.proofs.WriteLaws.{length-with_corners}
 use Rattle.pm_shrink.proofs.MergedFaces.{length-without_face}
 use Rattle.pm_shrink.proofs.MergedTables.{length-relinked}
 use Rattle.pm_shrink.proofs.MergedShrink.{IsWritten, first_low, second_low, next_low, left-count, few, done-surface, done-shrink}
+use Rattle.pm_shrink.proofs.FollowingLaws.{collapse_after}
 use Rattle.pm_shrink.proofs.shrink.Shrink.collapse.Goals as goal
 
 pub gone-left-requires : goal.gone-left-requires
@@ -300,3 +302,16 @@ returns-clause-quadric c =
     rw (← c.self.view_is)
     (ap (λ (i : ℕ). get_or c.merge_quadrics.new.quadrics.items i zero_sums) made ∙ ap (λ k. get_or k c.self.inside.next zero_sums) c.merge_quadrics.ensures
     ∙ get_or-set_same q c.self.inside.next both zero_sums (let k = c.self.invariant.quadrics_len in omega arith))
+
+pub returns-clause-entry : goal.returns-clause-entry
+returns-clause-entry c = search rules
+
+pub returns-clause-quadrics : goal.returns-clause-quadrics
+returns-clause-quadrics c = search rules
+
+pub returns-clause-after : goal.returns-clause-after
+returns-clause-after c = λ m log after.
+    let new : Shrinking = shrinking_with c.merge_corners-2.new.faces.items c.merge_places.new.places.items (c.self.inside.next + 1) c.merge_quadrics.new.quadrics.items c.merge_corners-2.new.corners in
+    let entry : Collapse = record { t = c.args.a; u = c.args.b; s = c.self.inside.next; place = c.args.place; left = c.gone-left.result; right = c.gone-right.result } in
+    collapse_after m log c.args.self.now new c.args.a c.args.b c.args.place entry after c.requires.ordered c.requires.legal
+    (returns-clause-entry c) (returns-clause-surface c) (returns-clause-quadric c) (returns-clause-quadrics c)

@@ -1,9 +1,13 @@
-use Rattle.std.proofs.Common.{◌≡◌, ◌∙◌, ◌*◌, ◌<◌, ℕ, List, Option, Some, length, map, ap, sym, subst, arith}
+use Rattle.std.proofs.Common.{rules, ◌≡◌, ◌∙◌, ◌*◌, ◌<◌, ℕ, List, Option, Some, length, map, ap, sym, subst, arith}
 use Rattle.std.proofs.lemmas.List.{length-map}
 use Rattle.pm_base.specs.declared.mesh.Corners.{Corners}
 use Rattle.pm_base.specs.Meshes.{Mesh, mesh_of}
-use Rattle.pm_shrink.specs.Tables.{side_from}
-use Rattle.pm_shrink.proofs.Started.{side_there, roomy_places, started}
+use Rattle.pm_runs.specs.Surfaces.{surface_of}
+use Rattle.pm_runs.specs.Runs.{IsStart}
+use Rattle.pm_shrink.specs.Shrinking.{Shrinking}
+use Rattle.pm_shrink.specs.Tables.{side_from, shrinking_with}
+use Rattle.pm_shrink.proofs.FollowingLaws.{start_after}
+use Rattle.pm_shrink.proofs.Started.{side_there, roomy_places, surface_there, started}
 use Rattle.pm_shrink.proofs.shrink.Shrink.new.Goals as goal
 
 pub corner_lists-requires-clause-within : goal.corner_lists-requires-clause-within
@@ -26,3 +30,16 @@ invariant_of-result c =
     (started m c.requires.formed c.requires.manifold c.in_ok-places.places.items c.args.twins c.in_ok-quadrics.quadrics.items c.in_ok-corners.corners
     places c.requires.twins quadrics.len (λ v l. quadrics.each v (omega arith))
     corners.items corners.heads corners.sound corners.each)
+
+pub returns-clause-quadrics : goal.returns-clause-quadrics
+returns-clause-quadrics c = search rules
+
+pub returns-clause-after : goal.returns-clause-after
+returns-clause-after c =
+    let m : Mesh = mesh_of c.args.mesh in
+    let start : IsStart m = record { formed = c.requires.formed; manifold = c.requires.manifold } in
+    let faces : c.in_ok-faces.faces.items ≡ map Some m.faces = c.in_ok-faces.ensures ∙ ap (map Some) c.as_slice-triples.ensures in
+    let places : c.in_ok-places.places.items ≡ roomy_places m = rw (c.as_slice-points.ensures, c.as_slice-triples.ensures) at c.in_ok-places.ensures in
+    let new : Shrinking = shrinking_with c.in_ok-faces.faces.items c.in_ok-places.places.items (length c.as_slice-points.result.now) c.in_ok-quadrics.quadrics.items c.in_ok-corners.corners in
+    let made : new.surface ≡ surface_of m = rw (faces, places, c.as_slice-points.ensures) (surface_there m) in
+    start_after m new start made (returns-clause-quadrics c)
