@@ -77,6 +77,20 @@ fn octahedron(alloc: Global) -> Result<Mesh, OutOfMemory>
     Ok(mesh)
 }
 
+// Points at one place, whose lines have 15 bytes each, and no face.
+fn points_at_one_place(alloc: Global, count: u32) -> Result<Mesh, OutOfMemory>
+    ensures { IfOk result (λ m. IsWellFormed (mesh_of m)) }
+{
+    let mut mesh = Mesh {
+        points: Items::new(alloc),
+        faces: Items::new(alloc),
+    };
+    for _turn in 0..count {
+        add_point(&mut mesh.points, (100, -100, 100))?;
+    }
+    Ok(mesh)
+}
+
 #[test]
 fn the_octahedron_is_written_as_far_as_the_room_goes(rt: HostRuntime) {
     let alloc = rt.alloc();
@@ -97,5 +111,21 @@ fn the_octahedron_is_written_as_far_as_the_room_goes(rt: HostRuntime) {
             sink.bytes() == &TEXT[..room],
             "with room for {room} bytes, {step} at a time"
         );
+    }
+}
+
+#[test]
+fn two_pages_and_a_part_are_put_by_three_calls(rt: HostRuntime) {
+    let alloc = rt.alloc();
+    let mesh = points_at_one_place(alloc, 600).expect(&rt, "memory");
+    for call in 0..4u32 {
+        let mut sink = MemSink::new(alloc, 9000, 9000, &[call]).expect(&rt, "memory");
+        let fault = if call < 3 { Err(WriteFault) } else { Ok(()) };
+        let bytes = [0, 4096, 8192, 9000][call as usize];
+        assert!(rt;
+            write_obj(&mesh, &mut sink) == fault,
+            "with a fault at call {call}"
+        );
+        assert_eq!(rt; sink.bytes().len(), bytes);
     }
 }

@@ -1,37 +1,39 @@
-ghost use Rattle.std.specs.Prelude.{◌≡◌, OnOk, OnErr};
+ghost use Rattle.std.specs.Prelude.{◌≡◌, ◌++◌, OnOk, OnErr};
 ghost use Rattle.std.specs.List.{flat_map};
 ghost use Rattle.pm_base.specs.Canonical.{point_line, corner_line, canonical_text};
 ghost use Rattle.pm_base.specs.Meshes.{IsWellFormed, mesh_of};
-ghost use Rattle.pm_io.specs.Bytes.{Gains, GainsPart};
+ghost use Rattle.pm_io.specs.Bytes.{Gains, GainsPart, GainsThrough};
 ghost use Rattle.pm_io.specs.Causes.{HasCause};
 
 use crate::line::{put_corners, put_point};
 use pm_base::Mesh;
-use pm_io::{Line, Sink, WriteFault, put_all};
+use pm_io::{Line, Page, Sink, WriteFault};
 
-fn put_points<K: Sink>(mesh: &Mesh, line: &mut Line, out: &mut K) -> Result<(), WriteFault>
-    ensures ok { OnOk result (Gains (K.got out.old) (K.got out.new) (flat_map point_line mesh.now.points.items)) }
-    ensures err { OnErr result (GainsPart (K.got out.old) (K.got out.new) (flat_map point_line mesh.now.points.items)) }
+fn put_points<K: Sink>(mesh: &Mesh, page: &mut Page, out: &mut K) -> Result<(), WriteFault>
+    ensures ok { OnOk result (GainsThrough (K.got out.old) (K.got out.new) page.old page.new (flat_map point_line mesh.now.points.items)) }
+    ensures err { OnErr result (GainsPart (K.got out.old) (K.got out.new) (page.old ++ flat_map point_line mesh.now.points.items)) }
     ensures cause { HasCause (K.faults out.old) (K.faults out.new) result }
 {
+    let mut line = Line::new();
     for point in mesh.points.as_slice() {
-        put_point(line, point);
-        if let Err(fault) = put_all(out, line.as_slice()) {
+        put_point(&mut line, point);
+        if let Err(fault) = page.add(line.as_slice(), out) {
             return Err(fault);
         }
     }
     Ok(())
 }
 
-fn put_faces<K: Sink>(mesh: &Mesh, line: &mut Line, out: &mut K) -> Result<(), WriteFault>
+fn put_faces<K: Sink>(mesh: &Mesh, page: &mut Page, out: &mut K) -> Result<(), WriteFault>
     requires { IsWellFormed (mesh_of mesh.now) }
-    ensures ok { OnOk result (Gains (K.got out.old) (K.got out.new) (flat_map corner_line mesh.now.faces.items)) }
-    ensures err { OnErr result (GainsPart (K.got out.old) (K.got out.new) (flat_map corner_line mesh.now.faces.items)) }
+    ensures ok { OnOk result (GainsThrough (K.got out.old) (K.got out.new) page.old page.new (flat_map corner_line mesh.now.faces.items)) }
+    ensures err { OnErr result (GainsPart (K.got out.old) (K.got out.new) (page.old ++ flat_map corner_line mesh.now.faces.items)) }
     ensures cause { HasCause (K.faults out.old) (K.faults out.new) result }
 {
+    let mut line = Line::new();
     for corners in mesh.faces.as_slice() {
-        put_corners(line, corners);
-        if let Err(fault) = put_all(out, line.as_slice()) {
+        put_corners(&mut line, corners);
+        if let Err(fault) = page.add(line.as_slice(), out) {
             return Err(fault);
         }
     }
@@ -41,7 +43,7 @@ fn put_faces<K: Sink>(mesh: &Mesh, line: &mut Line, out: &mut K) -> Result<(), W
 /// Writes the canonical text of a well-formed mesh: a line for each point, and then one for each face. After a fault
 /// the sink has gained a part of the text from its front, and not the whole.
 ///
-/// Each line is put as one piece. It takes no memory.
+/// The text is put in pages of 4,096 bytes, of which the last may be shorter. It takes no memory.
 #[tactic(auto, unfolding(pm_base::specs::Canonical::canonical_text))]
 pub fn write_obj<K: Sink>(mesh: &Mesh, out: &mut K) -> Result<(), WriteFault>
     requires { IsWellFormed (mesh_of mesh.now) }
@@ -49,11 +51,14 @@ pub fn write_obj<K: Sink>(mesh: &Mesh, out: &mut K) -> Result<(), WriteFault>
     ensures err { OnErr result (GainsPart (K.got out.old) (K.got out.new) (canonical_text (mesh_of mesh.now))) }
     ensures cause { HasCause (K.faults out.old) (K.faults out.new) result }
 {
-    let mut line = Line::new();
-    if let Err(fault) = put_points(mesh, &mut line, out) {
+    let mut page = Page::new();
+    if let Err(fault) = put_points(mesh, &mut page, out) {
         return Err(fault);
     }
-    if let Err(fault) = put_faces(mesh, &mut line, out) {
+    if let Err(fault) = put_faces(mesh, &mut page, out) {
+        return Err(fault);
+    }
+    if let Err(fault) = page.flush(out) {
         return Err(fault);
     }
     Ok(())
