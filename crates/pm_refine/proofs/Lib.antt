@@ -1,4 +1,9 @@
 pub mod MarkLaws
-pub mod DecidedLaws
-pub mod MoveLaws
 pub mod AnswerLaws
+pub mod QueueLaws
+pub mod CountLaws
+pub mod NeedLaws
+pub mod FindingLaws
+pub mod DecidingLaws
+pub mod DoingLaws
+pub mod ActiveLaws

@@ -1,2 +1,7 @@
 pub mod Marks
 pub mod Adapting
+pub mod Queued
+pub mod Finding
+pub mod Deciding
+pub mod Doing
+pub mod Idle

@@ -1,10 +1,12 @@
 //! The plan of a view: its target, the moves that lead to it, and as many of them as a budget allows.
 #![tactic(auto)]
 
-mod marks;
-mod moves;
+mod deciding;
+mod doing;
+mod finding;
+mod needs;
+mod queues;
 mod refiner;
-mod target;
 #[cfg(test)]
 mod tests;
 

@@ -1,57 +1,76 @@
-ghost use Rattle.std.specs.Prelude.{ℕ, ◌≡◌, length, take, IfOk};
+ghost use Rattle.std.specs.Prelude.{ℕ, ◌≡◌, ◌+◌, ◌*◌, ◌≤◌, length, take, IfOk};
 ghost use Rattle.pm_base.specs.Counts.{count};
 ghost use Rattle.pm_forest.specs.Forest.{record_count};
 ghost use Rattle.pm_forest.specs.Fronts.{set_of};
+ghost use Rattle.pm_front.specs.Shown.{active_nodes};
+ghost use Rattle.pm_front.specs.Corners.{corner_lists_after};
 ghost use Rattle.pm_beyond.specs.Plans.{moved_by, differs};
 ghost use Rattle.pm_bounds.specs.Bounds.{AreBoundsOf};
 ghost use Rattle.pm_refine.specs.Adapting.{view_target, view_plan, adapted_of};
 ghost use Rattle.pm_refine.specs.declared.refiner.Adapted.TheVariants as answers;
 
 use crate::OutOfMemory;
-use crate::moves::advance;
-use crate::target::mark_target;
+use crate::deciding::decide_all;
+use crate::doing::{adapted, advance};
+use crate::finding::find;
+use crate::queues::clear;
 use pm_bounds::Bounds;
 use pm_forest::Hierarchy;
 use pm_front::Front;
+use pm_queue::Queue;
 use pm_view::{Steps, View};
 use std::alloc::Global;
 use std::marker::Model;
 use std::sync::ledger::Ledger;
 
-/// What became of a view. `Settled`: the plan was done, in that many moves. `Spent`: the budget was, and that many moves
-/// of the plan are left.
+/// What became of a view. `Settled`: the plan was done, in that many moves. `Spent`: the budget
+/// was, and that many moves of the plan are left.
 #[derive(Clone, Copy, Debug, PartialEq, Eq)]
 pub enum Adapted {
     Settled { moves: u32 },
     Spent { moves: u32, left: u32 },
 }
 
-/// What adapts the fronts of a hierarchy to views: room for a mark on each record. Contracts see the number of records.
+/// What adapts the fronts of a hierarchy to views: a mark on each record, and two queues over the
+/// records. Contracts see the number of records.
 #[derive(Drop)]
 pub struct Refiner {
+    // Set where a record of the target needs the record, while it is still to be decided.
     marks: Vec<bool>,
+    // The records that are still to be decided.
+    work: Queue,
+    // The moves of the plan.
+    moves: Queue,
 }
 
 impl Model for Refiner {
     ghost use Rattle.std.specs.Prelude.{ℕ, length};
+    ghost use Rattle.pm_refine.specs.Idle.{IsIdle};
 
     ghost Value = { ℕ };
 
     ghost view = { λ r. length r.marks.items };
+
+    ghost invariant = { λ r. IsIdle r.marks.items r.work r.moves };
 }
 
 impl Refiner {
-    /// Takes room for a mark on each record of a hierarchy.
+    /// Takes room for a mark on each record of a hierarchy, and for two queues.
     pub fn new(alloc: Global, h: &Hierarchy) -> Result<Refiner, OutOfMemory>
         ensures { IfOk result (λ r. r ≡ record_count h.now) }
     {
-        let marks = vec![in alloc; false; h.records() as usize]?;
-        Ok(Refiner { marks })
+        let records = h.records();
+        let marks = vec![in alloc; false; records as usize]?;
+        let work = Queue::new(alloc, records)?;
+        let moves = Queue::new(alloc, records)?;
+        Ok(Refiner { marks, work, moves })
     }
 
-    /// Does the first `budget` moves of the plan that leads from the front to the target of a view: the splits in ascending
-    /// order, then the collapses in descending order. `Spent` comes exactly where the plan is longer than the budget. It
-    /// takes no memory, and counts a step for each test of a node.
+    /// Does the first `budget` moves of the plan that leads from the front to the target of a view:
+    /// the splits in ascending order, then the collapses in descending order. `Spent` comes exactly
+    /// where the plan is longer than the budget. It takes no memory, and counts a step for each
+    /// test of a node. It looks at the active nodes and at the records of the plan, and at no
+    /// others but those that they split or need.
     pub fn adapt<L: Ledger>(
         &mut self,
         front: &mut Front,
@@ -66,15 +85,29 @@ impl Refiner {
         ensures hierarchy { front.new.h ≡ front.old.h }
         ensures moved { set_of front.new.flags
             ≡ moved_by (set_of front.old.flags) (take budget (view_plan front.old.h (set_of front.old.flags) view.now)) }
+        ensures corners { let S = set_of front.old.flags in front.new.corners
+            ≡ corner_lists_after front.old.h S (take budget (view_plan front.old.h S view.now)) front.old.corners }
         ensures answer { result ≡ adapted_of budget (length (view_plan front.old.h (set_of front.old.flags) view.now)) }
         ensures settled { (moves : ℕ) → result ≡ answers.Settled moves
             → (set_of front.new.flags ≡ view_target front.old.h view.now)
             × (moves ≡ count (differs (set_of front.old.flags) (set_of front.new.flags)) (record_count front.old.h)) }
+        ensures cost { let S = set_of front.old.flags in steps.new ≤ steps.old
+            + 2 * length (active_nodes front.old.h S) + 4 * length (view_plan front.old.h S view.now) }
     {
         front.is_sound();
-        mark_target(front.hierarchy(), bounds, view, &mut self.marks, steps);
-        let adapted = advance(front, &self.marks, budget);
+        find(front, bounds, view, &mut self.moves, &mut self.work, steps);
+        let moves = decide_all(
+            front,
+            bounds,
+            view,
+            &mut self.marks,
+            &mut self.work,
+            &mut self.moves,
+            steps,
+        );
+        advance(front, view, &mut self.moves, budget);
+        clear(&mut self.moves);
         front.is_sound();
-        adapted
+        adapted(moves, budget)
     }
 }

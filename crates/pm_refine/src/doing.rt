@@ -1,0 +1,69 @@
+// The first moves of a plan are made.
+ghost use Rattle.std.specs.Prelude.{◌≡◌, ◌<◌, length, take};
+ghost use Rattle.pm_forest.specs.Forest.{record_count};
+ghost use Rattle.pm_forest.specs.Fronts.{set_of, with, without};
+ghost use Rattle.pm_beyond.specs.Moves.{MaySplit, MayCollapse, IsClosed};
+ghost use Rattle.pm_beyond.specs.Plans.{moved, moved_by, MayMove};
+ghost use Rattle.pm_front.specs.Corners.{moved_lists, corner_lists_after};
+ghost use Rattle.pm_refine.specs.Queued.{HoldsMoves};
+ghost use Rattle.pm_refine.specs.Doing.{move_of};
+ghost use Rattle.pm_refine.specs.Adapting.{view_target, view_plan, adapted_of};
+
+use crate::Adapted;
+use pm_front::Front;
+use pm_queue::Queue;
+use pm_view::View;
+
+// Makes the move of a record.
+fn make_move(front: &mut Front, k: u32)
+    requires record { k < record_count front.old.h }
+    requires legal { MayMove front.old.h (set_of front.old.flags) (move_of (set_of front.old.flags) k) }
+    ensures hierarchy { front.new.h ≡ front.old.h }
+    ensures done { let S = set_of front.old.flags in set_of front.new.flags ≡ moved S (move_of S k) }
+    ensures corners { let S = set_of front.old.flags in
+        front.new.corners ≡ moved_lists front.old.h S (move_of S k) front.old.corners }
+{
+    if front.is_split(k) {
+        let _ = front.collapse(k);
+    } else {
+        let _ = front.split(k);
+    }
+}
+
+/// Makes the first `budget` moves of the plan of a view, which the queue holds.
+pub(crate) fn advance(front: &mut Front, _view: &View, moves: &mut Queue, budget: u32)
+    requires closed { IsClosed front.old.h (view_target front.old.h _view.now) }
+    requires moves { HoldsMoves (record_count front.old.h) (set_of front.old.flags)
+        (view_target front.old.h _view.now) 0 moves.old }
+    ensures hierarchy { front.new.h ≡ front.old.h }
+    ensures len { length moves.new ≡ length moves.old }
+    ensures moved { let S = set_of front.old.flags in
+        set_of front.new.flags ≡ moved_by S (take budget (view_plan front.old.h S _view.now)) }
+    ensures corners { let S = set_of front.old.flags in front.new.corners
+        ≡ corner_lists_after front.old.h S (take budget (view_plan front.old.h S _view.now)) front.old.corners }
+{
+    front.is_sound();
+    let _records = front.hierarchy().records();
+    let mut left = budget;
+    while left > 0 {
+        match moves.take_least() {
+            None => return,
+            Some((k, _)) => make_move(front, k),
+        }
+        left -= 1;
+    }
+}
+
+/// What is told of this many moves.
+pub(crate) fn adapted(moves: u32, budget: u32) -> Adapted
+    ensures { result ≡ adapted_of budget moves }
+{
+    if moves <= budget {
+        Adapted::Settled { moves }
+    } else {
+        Adapted::Spent {
+            moves: budget,
+            left: moves - budget,
+        }
+    }
+}

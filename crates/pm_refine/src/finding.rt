@@ -1,0 +1,132 @@
+// Records that aren't split and whose nodes are wanted are found from the active nodes: a wanted
+// node has a wanted parent.
+ghost use Rattle.std.specs.Prelude.{◌≡◌, ◌+◌, ◌*◌, ◌<◌, ◌≤◌, ◌==◌, ◌||◌, length, false};
+ghost use Rattle.pm_base.specs.Counts.{count};
+ghost use Rattle.pm_queue.specs.Entries.{IsEmpty};
+ghost use Rattle.pm_forest.specs.Forest.{record_count, node_count, t_of, u_of};
+ghost use Rattle.pm_forest.specs.Fronts.{set_of};
+ghost use Rattle.pm_bounds.specs.Bounds.{AreBoundsOf};
+ghost use Rattle.pm_view.specs.Wanted.{is_wanted};
+ghost use Rattle.pm_refine.specs.Queued.{up_key, held, AreKeyed, Joins, leads_to};
+ghost use Rattle.pm_refine.specs.Finding.{is_due, AreSeen, AreFound, IsStart};
+
+use crate::needs::rise;
+use crate::queues::{put_down, put_up};
+use pm_base::NodeId;
+use pm_bounds::Bounds;
+use pm_forest::Hierarchy;
+use pm_front::Front;
+use pm_queue::Queue;
+use pm_view::{Steps, View, wants};
+use std::sync::ledger::Ledger;
+
+// Puts the record that splits a node on the queue, if one does and the node is wanted.
+fn look<L: Ledger>(
+    h: &Hierarchy,
+    bounds: &Bounds,
+    view: &View,
+    node: NodeId,
+    moves: &mut Queue,
+    steps: &mut Steps<L>,
+)
+    requires bounds { AreBoundsOf h.now bounds.now }
+    requires node { node.0 < node_count h.now }
+    requires moves { length moves.old ≡ record_count h.now }
+    ensures len { length moves.new ≡ length moves.old }
+    ensures joined { Joins (held moves.old) (held moves.new)
+        (leads_to h.now (is_wanted h.now view.now) node.0) }
+    ensures keyed { AreKeyed up_key moves.old → AreKeyed up_key moves.new }
+    ensures cost { steps.new ≤ steps.old + 1 }
+{
+    if let Some(k) = h.splitter(node) {
+        if wants(h, bounds, node, view, steps) {
+            put_up(moves, k);
+        }
+    }
+}
+
+// Looks at each active node.
+fn see_active<L: Ledger>(
+    front: &Front,
+    bounds: &Bounds,
+    view: &View,
+    moves: &mut Queue,
+    work: &mut Queue,
+    steps: &mut Steps<L>,
+)
+    requires bounds { AreBoundsOf front.now.h bounds.now }
+    requires moves { length moves.old ≡ record_count front.now.h }
+    requires work { length work.old ≡ record_count front.now.h }
+    requires no_moves { IsEmpty moves.old }
+    requires no_work { IsEmpty work.old }
+    ensures found { AreFound front.now.h (is_wanted front.now.h view.now) (set_of front.now.flags) 0
+        moves.new work.new }
+    ensures cost { steps.new ≤ steps.old + length front.now.active }
+{
+    front.is_sound();
+    let mut cursor = front.first_active();
+    while let Some(node) = cursor {
+        look(front.hierarchy(), bounds, view, node, moves, steps);
+        rise(front.hierarchy(), node, work);
+        cursor = front.next_active(node);
+    }
+}
+
+// Looks at both children of a record.
+fn look_below<L: Ledger>(
+    h: &Hierarchy,
+    bounds: &Bounds,
+    view: &View,
+    k: u32,
+    moves: &mut Queue,
+    steps: &mut Steps<L>,
+)
+    requires bounds { AreBoundsOf h.now bounds.now }
+    requires record { k < record_count h.now }
+    requires moves { length moves.old ≡ record_count h.now }
+    ensures len { length moves.new ≡ length moves.old }
+    ensures joined { let wanted = is_wanted h.now view.now in
+        Joins (held moves.old) (held moves.new)
+            (λ j. leads_to h.now wanted (t_of h.now k) j || leads_to h.now wanted (u_of h.now k) j) }
+    ensures keyed { AreKeyed up_key moves.old → AreKeyed up_key moves.new }
+    ensures cost { steps.new ≤ steps.old + 2 }
+{
+    let _records = h.records();
+    let t = h.roots() + 2 * k;
+    look(h, bounds, view, NodeId(t), moves, steps);
+    look(h, bounds, view, NodeId(t + 1), moves, steps);
+}
+
+/// Finds the records that aren't split and whose nodes are wanted, and puts them and the makers of
+/// the active nodes on the queue `work`. It uses the queue `moves`, and tests each active node and
+/// each child of what it finds once at most.
+pub(crate) fn find<L: Ledger>(
+    front: &Front,
+    bounds: &Bounds,
+    view: &View,
+    moves: &mut Queue,
+    work: &mut Queue,
+    steps: &mut Steps<L>,
+)
+    requires bounds { AreBoundsOf front.now.h bounds.now }
+    requires moves { length moves.old ≡ record_count front.now.h }
+    requires work { length work.old ≡ record_count front.now.h }
+    requires no_moves { IsEmpty moves.old }
+    requires no_work { IsEmpty work.old }
+    ensures len { length moves.new ≡ length moves.old }
+    ensures empty { IsEmpty moves.new }
+    ensures found { IsStart front.now.h (is_wanted front.now.h view.now) (set_of front.now.flags)
+        work.new }
+    ensures cost { let h = front.now.h in let S = set_of front.now.flags in
+        steps.new ≤ steps.old + length front.now.active
+            + 2 * count (is_due h (is_wanted h view.now) S) (record_count h) }
+{
+    front.is_sound();
+    see_active(front, bounds, view, moves, work, steps);
+    let mut next = 0;
+    while let Some((k, _)) = moves.take_least() {
+        put_down(work, k);
+        look_below(front.hierarchy(), bounds, view, k, moves, steps);
+        next = k + 1;
+    }
+}
