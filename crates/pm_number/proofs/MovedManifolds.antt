@@ -1,5 +1,5 @@
 -- An oriented manifold stays one under other numbers.
-use Rattle.std.proofs.Common.{◌≡◌, ℕ, ◌*◌, ◌<◌, inl, inr, refl, sym, ap, ◌∙◌, subst}
+use Rattle.std.proofs.Common.{◌≡◌, ℕ, inl, inr, refl, sym, ap, ◌∙◌, subst}
 use Rattle.pm_base.specs.Sides.{Net, to, third, Stands}
 use Rattle.pm_base.specs.Fans.{IsPairAt, IsOrientedManifold}
 use Rattle.pm_base.specs.Rounds.{Goes, stay, on, IsRound}

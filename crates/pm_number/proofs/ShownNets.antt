@@ -1,18 +1,13 @@
 -- What one collapse makes of the mesh that a front shows.
-use Rattle.std.proofs.Common.{suc, ◌≡◌, ◌≢◌, ℕ, ◌*◌, ◌<◌, Bool, true, inl, inr, refl, sym, ap, ◌∙◌, subst, arith}
+use Rattle.std.proofs.Common.{suc, ◌≡◌, ◌≢◌, ℕ, ◌<◌, Bool, true, inl, inr, refl, sym, ap, ◌∙◌, subst, arith}
 use Rattle.std.proofs.lemmas.Bool.{cases_Bool, lt-ltb, both_ways}
-use Rattle.pm_base.specs.Sides.{next, face_of, Stands}
 use Rattle.pm_forest.proofs.Ancestors.{active-ancestor, holds-ancestor_of, ancestor_of-unique, below-front, last_child-active}
-use Rattle.pm_forest.proofs.Ends.{next-lt, inner-joined}
 use Rattle.pm_forest.proofs.Flags.{without-below}
 use Rattle.pm_forest.proofs.Nodes.{holds-s_from_t, holds-s_from_u, holds-u_from_s}
 use Rattle.pm_forest.proofs.OneStep.{collapse-under, collapse-elsewhere}
-use Rattle.pm_forest.proofs.Shown.{shown_same, hidden-parts, shown-apart}
-use Rattle.pm_forest.proofs.Sides.{next-face as next_face, next-cycle, inner-face, three_sides}
-use Rattle.pm_forest.specs.Faces.{face_count, from_leaf, inner_of, IsForest}
+use Rattle.pm_forest.specs.Faces.{from_leaf, IsForest}
 use Rattle.pm_forest.specs.Forest.{Hierarchy, record_count, leaf_count, s_of, t_of, u_of, holds, Holds, HasForestShape}
 use Rattle.pm_forest.specs.Fronts.{IsFront, IsActive, ancestor_of, below, without}
-use Rattle.pm_forest.specs.Kept.{is_shown}
 use Rattle.pm_firm.specs.Firm.{shown_net}
 use Rattle.pm_number.specs.Stages.{Renames}
 use Rattle.pm_runs.proofs.Merges.{merge-pair, merge-other}

@@ -1,7 +1,7 @@
 -- What makes a hierarchy one of legal collapses, and what it means to number a run.
-use Rattle.std.specs.Prelude.{◌≡◌, ℕ, suc, ◌+◌, ◌*◌, ◌<◌, Bool, Option, Some, None, is_some}
+use Rattle.std.specs.Prelude.{◌≡◌, ℕ, suc, ◌+◌, ◌*◌, ◌<◌, Option, Some, None, is_some}
 use Rattle.pm_base.specs.Counts.{one_if}
-use Rattle.pm_base.specs.Sides.{Net, NoSideTwice}
+use Rattle.pm_base.specs.Sides.{NoSideTwice}
 use Rattle.pm_base.specs.declared.log.Gone.{Gone}
 use Rattle.pm_forest.specs.declared.parts.NewFace.{NewFace}
 use Rattle.pm_forest.specs.Forest.{Hierarchy, record_at, record_count, leaf_count, s_of, t_of, u_of, Holds, HasForestShape}
