@@ -10,6 +10,7 @@ pub mod WalkTheory
 pub mod Neighbours
 pub mod Standing
 pub mod Closed
+pub mod Relinking
 pub mod Outer
 pub mod AnswerLaws
 pub mod ClosedTheory

@@ -35,7 +35,7 @@ abbrev face : Face → ℕ → ℕ → Option NewFace
 face f p q = Some (record { face = f; first = Some (record { 0 = p }); second = Some (record { 0 = q }) })
 
 -- The octahedron, where the side recorded beyond the first outer side of record 0's left face is p.
-abbrev octahedron_with : ℕ → Hierarchy
+abbrev pub octahedron_with : ℕ → Hierarchy
 octahedron_with p = record {
   roots = root (at (pos 0) (negsuc 99) (pos 0)) 1 4 ∷ root (at (pos 0) (pos 0) (negsuc 99)) 1 6 ∷ root (at (pos 50) (pos 50) (pos 0)) 2 0 ∷ root (at (negsuc 49) (pos 0) (pos 50)) 2 0 ∷ [];
   bases = corners 0 2 5 4 ∷ corners 4 3 1 6 ∷ corners 0 4 1 7 ∷ corners 2 0 1 8 ∷ [];
@@ -58,7 +58,7 @@ octahedron_with p = record {
       } ∷ [];
 }
 
-abbrev octahedron : Hierarchy
+abbrev pub octahedron : Hierarchy
 octahedron = octahedron_with 1
 
 has_shape : HasShape octahedron

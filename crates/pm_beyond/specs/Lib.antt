@@ -3,6 +3,7 @@ pub mod Valid
 pub mod Moves
 pub mod WalkLaws
 pub mod ClosedLaws
+pub mod RelinkingLaws
 pub mod OpeningLaws
 pub mod Targets
 pub mod Plans

@@ -6,5 +6,6 @@ mod theory;
 
 pub use moves::MoveFault;
 pub use theory::{
-    answers_are_sound, closed_sets_are_sound, openings_are_sound, plans_are_sound, walks_are_sound,
+    answers_are_sound, closed_sets_are_sound, openings_are_sound, plans_are_sound,
+    relinking_is_sound, walks_are_sound,
 };

@@ -19,6 +19,7 @@ ghost use Rattle.pm_beyond.specs.ClosedLaws.{
   BlockingFacesAreNamed,
   NeedsAreDecided,
 };
+ghost use Rattle.pm_beyond.specs.RelinkingLaws.{SplitsRelinkTheirNeighbours, CollapsesRelinkTheirNeighbours};
 ghost use Rattle.pm_beyond.specs.OpeningLaws.{ToldIsFound, ValidWhereTold, ValidOrOneFails};
 ghost use Rattle.pm_beyond.specs.PlanLaws.{
   TargetsAreLeast,
@@ -49,6 +50,13 @@ pub fn closed_sets_are_sound()
     ensures greater { GreaterRecordsBlock }
     ensures four_faces { FourFacesAreEnough }
     ensures decided { NeedsAreDecided }
+{}
+
+/// States what a split and a collapse change of what stands beyond the sides. It does nothing, and callers cite its
+/// clauses.
+pub fn relinking_is_sound()
+    ensures split { SplitsRelinkTheirNeighbours }
+    ensures collapse { CollapsesRelinkTheirNeighbours }
 {}
 
 /// States what the answers to moves say. It does nothing, and callers cite its clauses.

@@ -96,6 +96,14 @@ makes_once h i j v a b =
       | inr c ↦ elim b [ inl d ↦ omega arith | inr d ↦ omega arith ]
     ]
 
+-- a node is a child of a record or isn't
+pub cases_made : (h : Hierarchy) (k v : ℕ) → Makes h k v ⊎ (Makes h k v → ⊥)
+cases_made h k v =
+    elim (cases_eq v (t_of h k)) [
+      | inl a ↦ inl (inl a)
+      | inr n ↦ elim (cases_eq v (u_of h k)) [ inl a ↦ inl (inr a) | inr m ↦ inr (λ made. elim made [ inl a ↦ n a | inr a ↦ m a ]) ]
+    ]
+
 pub has_maker : (h : Hierarchy) (v n : ℕ) → length h.roots ≤ v → v < t_of h n → (j : ℕ) × (j < n) × Makes h j v
 has_maker h v n a b =
     elim (cases_eq ((v - length h.roots) % 2) 0) [

@@ -1,13 +1,15 @@
 -- In a front the kept faces are the base faces and the faces of split records.
 use Rattle.std.proofs.Common.{◌≡◌, ◌≢◌, ◌⊎◌, ℕ, ◌+◌, ◌*◌, ◌<◌, eqb, Bool, true, false, not, ◌&&◌, Option, Some, None, inl, inr, refl, sym, ap, ◌∙◌, subst, arith}
 use Rattle.std.proofs.lemmas.Bool.{eq-eqb, ne_eqb, cases_eq, cases_Bool, true≢false, and_left, and_right}
+use Rattle.std.proofs.lemmas.Option.{none-some, same_Some}
 use Rattle.pm_base.specs.Sides.{face_of, next}
 use Rattle.pm_forest.specs.Forest.{Hierarchy, record_count, s_of, Holds}
-use Rattle.pm_forest.specs.Fronts.{IsFront, made_in, ancestor_after, ancestor_of}
+use Rattle.pm_forest.specs.Fronts.{IsFront, made_in, ancestor_after, ancestor_of, with, without}
 use Rattle.pm_forest.specs.Faces.{face_count, revealed_by, record_of, from_leaf, to_leaf, inner_of, IsForest}
 use Rattle.pm_forest.specs.Kept.{is_kept, is_shown}
 use Rattle.pm_forest.proofs.Nodes.{holds-s_from_t, holds-s_from_u}
 use Rattle.pm_forest.proofs.Ancestors.{apart_later}
+use Rattle.pm_forest.proofs.OneStep.{with-cases, with-from, without-parts, without-from}
 use Rattle.pm_forest.proofs.Kept.{apart_children, apart_outside}
 use Rattle.pm_forest.proofs.Sides.{next_cases, next-cycle, inner-face, three_sides}
 use Rattle.pm_forest.proofs.FaceNumbers.{record-lt}
@@ -42,6 +44,38 @@ hidden-parts h T e d = hidden_at (record_of h e) T d
 pub shown-parts : (h : Hierarchy) (T : ℕ → Bool) (e : ℕ) → is_shown h T e ≡ true → (record_of h e ≡ None) ⊎ ((j : ℕ) × (record_of h e ≡ Some j) × (T j ≡ true))
 unfolding is_shown
 shown-parts h T e d = shown_at (record_of h e) T d
+
+-- With record k split too its own faces are shown, and those that were.
+pub shown_with : (h : Hierarchy) (T : ℕ → Bool) (k e : ℕ) → is_shown h T e ≡ true → is_shown h (with T k) e ≡ true
+shown_with h T k e s =
+    elim (shown-parts h T e s) [
+      | inl n ↦ shown_base h (with T k) e n
+      | inr (j, r, t) ↦ shown_record h (with T k) e j r ∙ with-from T k j t
+    ]
+
+pub shown_with-parts : (h : Hierarchy) (T : ℕ → Bool) (k e : ℕ) → is_shown h (with T k) e ≡ true → (record_of h e ≡ Some k) ⊎ (is_shown h T e ≡ true)
+shown_with-parts h T k e s =
+    elim (shown-parts h (with T k) e s) [
+      | inl n ↦ inr (shown_base h T e n)
+      | inr (j, r, t) ↦ elim (with-cases T k j t) [ inl is ↦ inl (r ∙ ap Some is) | inr old ↦ inr (shown_record h T e j r ∙ old) ]
+    ]
+
+-- With record k no longer split the faces of other records stay shown, and no others.
+pub shown_without : (h : Hierarchy) (T : ℕ → Bool) (k e : ℕ) → record_of h e ≢ Some k → is_shown h T e ≡ true → is_shown h (without T k) e ≡ true
+shown_without h T k e n s =
+    elim (shown-parts h T e s) [
+      | inl b ↦ shown_base h (without T k) e b
+      | inr (j, r, t) ↦ shown_record h (without T k) e j r ∙ without-from T k j (λ is. n (r ∙ ap Some is)) t
+    ]
+
+pub shown_without-parts : (h : Hierarchy) (T : ℕ → Bool) (k e : ℕ) → is_shown h (without T k) e ≡ true → (record_of h e ≢ Some k) × (is_shown h T e ≡ true)
+shown_without-parts h T k e s =
+    elim (shown-parts h (without T k) e s) [
+      | inl n ↦ (λ own. none-some k (sym n ∙ own), shown_base h T e n)
+      | inr (j, r, t) ↦
+          let p = without-parts T k j t in
+          (λ own. p.0 (same_Some j k (sym r ∙ own)), shown_record h T e j r ∙ p.1)
+    ]
 
 module _ (h : Hierarchy) (shape : IsForest h) (T : ℕ → Bool) (front : IsFront h T) where
   -- The ends of a side of a shown face have two ancestors.
