@@ -2,7 +2,6 @@ pub mod Renamed
 pub mod ShownNets
 pub mod RunLaws
 pub mod Positions
-pub mod Relinked
 pub mod Undone
 pub mod Stages
 pub mod RecordFaces

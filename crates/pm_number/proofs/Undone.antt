@@ -3,11 +3,12 @@ use Rattle.std.proofs.Common.{zero, suc, ◌≡◌, ◌≢◌, ℕ, ◌+◌, ◌
 use Rattle.std.proofs.lemmas.Bool.{cases_Bool, lt-ltb, both_ways}
 use Rattle.std.proofs.lemmas.Option.{none-some, same_Some}
 use Rattle.pm_base.proofs.Search.{option_cases}
-use Rattle.pm_base.specs.Sides.{next, face_of, twin_of, Net, Stands}
+use Rattle.pm_base.specs.Sides.{next, face_of, twin_of, Net, NoSideTwice, Stands}
 use Rattle.pm_beyond.proofs.Across.{across_cases, across-outer, across-face}
 use Rattle.pm_beyond.proofs.Outer.{is_at-parts, is_at-from}
 use Rattle.pm_beyond.proofs.Twins.{twin-is}
 use Rattle.pm_beyond.proofs.Reaching.{reaches-lt}
+use Rattle.pm_beyond.proofs.Relinking.{stands-outer, collapse-neighbour, collapse-other}
 use Rattle.pm_beyond.specs.Moves.{is_at, record_beyond}
 use Rattle.pm_beyond.specs.Valid.{IsValid}
 use Rattle.pm_beyond.specs.Walks.{leaf_net, leaf_twin, expected, here, StopsAt, Beyond}
@@ -16,7 +17,7 @@ use Rattle.pm_forest.proofs.Ends.{t_first, u_first, inner-lt, next-lt, inner_end
 use Rattle.pm_forest.proofs.FaceNumbers.{record-lt}
 use Rattle.pm_forest.proofs.Flags.{without-below}
 use Rattle.pm_forest.proofs.OneStep.{without-parts}
-use Rattle.pm_forest.proofs.Shown.{shown_record, shown_base, shown-parts}
+use Rattle.pm_forest.proofs.Shown.{shown_record, shown_base, shown-parts, shown_without}
 use Rattle.pm_forest.proofs.Sides.{inner-face}
 use Rattle.pm_forest.specs.Faces.{face_count, revealed_by, from_leaf, record_of, inner_of}
 use Rattle.pm_forest.specs.Forest.{Hierarchy, record_count, leaf_count, s_of, t_of, u_of}
@@ -25,7 +26,6 @@ use Rattle.pm_forest.specs.Rules.{HasShape}
 use Rattle.pm_base.proofs.TwinLaws.{twin-none}
 use Rattle.pm_beyond.proofs.Twins.{side-stands}
 use Rattle.pm_forest.specs.Kept.{is_shown}
-use Rattle.pm_number.proofs.Relinked.{shown_without, stands-outer, collapse-neighbour, collapse-other, across-unique}
 use Rattle.pm_number.proofs.Renamed.{across-moved, once-moved, no_mirror-moved, stood-before}
 use Rattle.pm_firm.proofs.ShownNets.{stands-shown, shown-stands}
 use Rattle.pm_number.proofs.ShownNets.{at-t, at-u, shown-fresh, shown-step}
@@ -34,7 +34,7 @@ use Rattle.pm_number.specs.Shown.{UndoesCollapses}
 use Rattle.pm_number.specs.Stages.{Renames, moved}
 use Rattle.pm_runs.proofs.Across.{across-past, across-kept}
 use Rattle.pm_runs.proofs.Apart.{once_after, no_mirror_after}
-use Rattle.pm_runs.proofs.Sides.{twin-across}
+use Rattle.pm_runs.proofs.Sides.{across-twin, twin-across}
 use Rattle.pm_runs.specs.Merged.{IsProper, StandsAcross, merged}
 use Rattle.pm_runs.specs.Pairs.{Links}
 
@@ -44,6 +44,9 @@ lt_next k = omega arith
 moved-same : (r : Option ℕ) → moved (λ e. e) r ≡ r
 moved-same None = refl
 moved-same (Some e) = refl
+
+across-unique : (m : Net) → NoSideTwice m → (e : ℕ) (r r' : Option ℕ) → StandsAcross m e r → StandsAcross m e r' → r ≡ r'
+across-unique m once e r r' a b = sym (across-twin m once e r a) ∙ across-twin m once e r' b
 
 beyond_parts : (h : Hierarchy) (q : Option ℕ) (k : ℕ) → is_at k (record_beyond h q) ≡ true → (c : ℕ) × (q ≡ Some c) × (record_of h c ≡ Some k)
 beyond_parts h None k own = absurd (none-some k (is_at-parts k None own))
