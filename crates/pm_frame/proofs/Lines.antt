@@ -4,8 +4,8 @@ use Rattle.std.specs.List.{flat_map, range_with_len}
 use Rattle.std.proofs.lemmas.Grind.{flat_map-append}
 use Rattle.std.proofs.lemmas.List.{append-nil}
 use Rattle.std.proofs.lemmas.List.Elements.{filter-append}
-use Rattle.pm_io.specs.Bytes.{Gains, GainsPart}
-use Rattle.pm_io.proofs.Known.{gains_both, part_more, part_after}
+use Rattle.pm_io.specs.Bytes.{GainsPart, GainsThrough}
+use Rattle.pm_io.proofs.PageLaws.{through_both, through_more, through_part}
 use Rattle.pm_front.specs.Shown.{numbers}
 use Rattle.pm_front.proofs.Counting.{numbers_parts, passing_next, passing_same}
 
@@ -17,24 +17,29 @@ lines_next p line n pass =
     ∙ ap (λ (l : List ℕ). flat_map line (filter p (numbers n)) ++ l) (append-nil (line n))
 
 -- The line of a number that passes was put,
-pub line_next : (p : ℕ → Bool) (line : ℕ → List ℕ) (n : ℕ) (piece : List ℕ) (old mid new : Option (List ℕ)) → p n ≡ true → piece ≡ line n →
-    Gains old mid (flat_map line (filter p (numbers n))) → Gains mid new piece → Gains old new (flat_map line (filter p (numbers (n + 1))))
-line_next p line n piece old mid new pass is so_far next =
-    subst (λ (l : List ℕ). Gains old new l) (sym (lines_next p line n pass)) (gains_both old mid new _ _ so_far (subst (λ (l : List ℕ). Gains mid new l) is next))
+pub line_next : (p : ℕ → Bool) (line : ℕ → List ℕ) (n : ℕ) (piece : List ℕ) (old mid new : Option (List ℕ)) (first held holds : List ℕ) → p n ≡ true → piece ≡ line n →
+    GainsThrough old mid first held (flat_map line (filter p (numbers n))) → GainsThrough mid new held holds piece →
+    GainsThrough old new first holds (flat_map line (filter p (numbers (n + 1))))
+line_next p line n piece old mid new first held holds pass is so_far next =
+    subst (λ (l : List ℕ). GainsThrough old new first holds l) (sym (lines_next p line n pass))
+    (through_both old mid new first held holds _ _ so_far (subst (λ (l : List ℕ). GainsThrough mid new held holds l) is next))
 
 -- or in part;
-pub line_cut : (p : ℕ → Bool) (line : ℕ → List ℕ) (n m : ℕ) (piece : List ℕ) (old mid new : Option (List ℕ)) → n < m → p n ≡ true → piece ≡ line n →
-    Gains old mid (flat_map line (filter p (numbers n))) → GainsPart mid new piece → GainsPart old new (flat_map line (filter p (numbers m)))
-line_cut p line n m piece old mid new l pass is so_far part =
+pub line_cut : (p : ℕ → Bool) (line : ℕ → List ℕ) (n m : ℕ) (piece : List ℕ) (old mid new : Option (List ℕ)) (first held : List ℕ) → n < m → p n ≡ true → piece ≡ line n →
+    GainsThrough old mid first held (flat_map line (filter p (numbers n))) → GainsPart mid new (held ++ piece) →
+    GainsPart old new (first ++ flat_map line (filter p (numbers m)))
+line_cut p line n m piece old mid new first held l pass is so_far part =
     let later = flat_map line (filter p (range_with_len (n + 1) (m - (n + 1)))) in
     let whole : flat_map line (filter p (numbers m)) ≡ (flat_map line (filter p (numbers n)) ++ line n) ++ later =
     ap (λ (l : List ℕ). flat_map line (filter p l)) (numbers_parts (n + 1) (m - (n + 1)) m (omega arith))
     ∙ ap (flat_map line) (filter-append p (numbers (n + 1)) (range_with_len (n + 1) (m - (n + 1))))
     ∙ flat_map-append line (filter p (numbers (n + 1))) (filter p (range_with_len (n + 1) (m - (n + 1))))
     ∙ ap (λ (l : List ℕ). l ++ later) (lines_next p line n pass) in
-    subst (λ (l : List ℕ). GainsPart old new l) (sym whole) (part_more old new _ _ (part_after old mid new _ _ so_far (subst (λ (l : List ℕ). GainsPart mid new l) is part)))
+    let this = through_part old mid new first held _ (line n) so_far (subst (λ (l : List ℕ). GainsPart mid new (held ++ l)) is part) in
+    subst (λ (l : List ℕ). GainsPart old new (first ++ l)) (sym whole) (through_more old new first _ later this)
 
 -- a number that doesn't pass has no line.
-pub line_same : (p : ℕ → Bool) (line : ℕ → List ℕ) (n : ℕ) (old new : Option (List ℕ)) → p n ≡ false →
-    Gains old new (flat_map line (filter p (numbers n))) → Gains old new (flat_map line (filter p (numbers (n + 1))))
-line_same p line n old new fail so_far = subst (λ (l : List ℕ). Gains old new (flat_map line l)) (sym (passing_same p n fail)) so_far
+pub line_same : (p : ℕ → Bool) (line : ℕ → List ℕ) (n : ℕ) (old new : Option (List ℕ)) (first held : List ℕ) → p n ≡ false →
+    GainsThrough old new first held (flat_map line (filter p (numbers n))) → GainsThrough old new first held (flat_map line (filter p (numbers (n + 1))))
+line_same p line n old new first held fail so_far =
+    subst (λ (l : List ℕ). GainsThrough old new first held (flat_map line l)) (sym (passing_same p n fail)) so_far

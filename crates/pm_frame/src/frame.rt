@@ -1,6 +1,6 @@
 // Writes the frame that a front shows.
-ghost use Rattle.std.specs.Prelude.{true, ◌≡◌, ◌<◌, OnOk, OnErr};
-ghost use Rattle.pm_io.specs.Bytes.{Gains, GainsPart};
+ghost use Rattle.std.specs.Prelude.{true, ◌≡◌, ◌<◌, ◌++◌, OnOk, OnErr};
+ghost use Rattle.pm_io.specs.Bytes.{Gains, GainsPart, GainsThrough};
 ghost use Rattle.pm_io.specs.Causes.{HasCause};
 ghost use Rattle.pm_forest.specs.Forest.{node_count};
 ghost use Rattle.pm_forest.specs.Faces.{face_count};
@@ -11,18 +11,19 @@ ghost use Rattle.pm_frame.specs.Frame.{first_line, shown_node, node_lines, shown
 use crate::line::{put_end, put_face, put_head, put_node};
 use pm_base::{FaceId, NodeId};
 use pm_front::Front;
-use pm_io::{Line, Sink, WriteFault, put_all};
+use pm_io::{Line, Page, Sink, WriteFault};
 
 // The first line, with how many nodes are active and how many faces are kept.
-fn put_first<K: Sink>(front: &Front, line: &mut Line, out: &mut K) -> Result<(), WriteFault>
+fn put_first<K: Sink>(front: &Front, page: &mut Page, out: &mut K) -> Result<(), WriteFault>
     ensures ok { let text = first_line front.now.h (set_of front.now.flags) in
-        OnOk result (Gains (K.got out.old) (K.got out.new) text) }
+        OnOk result (GainsThrough (K.got out.old) (K.got out.new) page.old page.new text) }
     ensures err { let text = first_line front.now.h (set_of front.now.flags) in
-        OnErr result (GainsPart (K.got out.old) (K.got out.new) text) }
+        OnErr result (GainsPart (K.got out.old) (K.got out.new) (page.old ++ text)) }
     ensures cause { HasCause (K.faults out.old) (K.faults out.new) result }
 {
-    put_head(line, front.active_count(), front.kept_count());
-    put_all(out, line.as_slice())
+    let mut line = Line::new();
+    put_head(&mut line, front.active_count(), front.kept_count());
+    page.add(line.as_slice(), out)
 }
 
 // The line of an active node.
@@ -34,17 +35,18 @@ fn put_active(front: &Front, line: &mut Line, node: NodeId)
 }
 
 // A line for each active node.
-fn put_nodes<K: Sink>(front: &Front, line: &mut Line, out: &mut K) -> Result<(), WriteFault>
+fn put_nodes<K: Sink>(front: &Front, page: &mut Page, out: &mut K) -> Result<(), WriteFault>
     ensures ok { let text = node_lines front.now.h (set_of front.now.flags) in
-        OnOk result (Gains (K.got out.old) (K.got out.new) text) }
+        OnOk result (GainsThrough (K.got out.old) (K.got out.new) page.old page.new text) }
     ensures err { let text = node_lines front.now.h (set_of front.now.flags) in
-        OnErr result (GainsPart (K.got out.old) (K.got out.new) text) }
+        OnErr result (GainsPart (K.got out.old) (K.got out.new) (page.old ++ text)) }
     ensures cause { HasCause (K.faults out.old) (K.faults out.new) result }
 {
+    let mut line = Line::new();
     for node in 0..front.hierarchy().nodes() {
         if front.is_active(NodeId(node)) {
-            put_active(front, line, NodeId(node));
-            if let Err(fault) = put_all(out, line.as_slice()) {
+            put_active(front, &mut line, NodeId(node));
+            if let Err(fault) = page.add(line.as_slice(), out) {
                 return Err(fault);
             }
         }
@@ -65,17 +67,18 @@ fn put_shown(front: &Front, line: &mut Line, face: FaceId)
 }
 
 // A line for each kept face.
-fn put_faces<K: Sink>(front: &Front, line: &mut Line, out: &mut K) -> Result<(), WriteFault>
+fn put_faces<K: Sink>(front: &Front, page: &mut Page, out: &mut K) -> Result<(), WriteFault>
     ensures ok { let text = face_lines front.now.h (set_of front.now.flags) in
-        OnOk result (Gains (K.got out.old) (K.got out.new) text) }
+        OnOk result (GainsThrough (K.got out.old) (K.got out.new) page.old page.new text) }
     ensures err { let text = face_lines front.now.h (set_of front.now.flags) in
-        OnErr result (GainsPart (K.got out.old) (K.got out.new) text) }
+        OnErr result (GainsPart (K.got out.old) (K.got out.new) (page.old ++ text)) }
     ensures cause { HasCause (K.faults out.old) (K.faults out.new) result }
 {
+    let mut line = Line::new();
     for face in 0..front.hierarchy().faces() {
         if front.is_kept(FaceId(face)) {
-            put_shown(front, line, FaceId(face));
-            if let Err(fault) = put_all(out, line.as_slice()) {
+            put_shown(front, &mut line, FaceId(face));
+            if let Err(fault) = page.add(line.as_slice(), out) {
                 return Err(fault);
             }
         }
@@ -84,18 +87,21 @@ fn put_faces<K: Sink>(front: &Front, line: &mut Line, out: &mut K) -> Result<(),
 }
 
 // The last line.
-fn put_last<K: Sink>(line: &mut Line, out: &mut K) -> Result<(), WriteFault>
-    ensures ok { OnOk result (Gains (K.got out.old) (K.got out.new) end_line) }
-    ensures err { OnErr result (GainsPart (K.got out.old) (K.got out.new) end_line) }
+fn put_last<K: Sink>(page: &mut Page, out: &mut K) -> Result<(), WriteFault>
+    ensures ok { OnOk result (GainsThrough (K.got out.old) (K.got out.new) page.old page.new end_line) }
+    ensures err { OnErr result (GainsPart (K.got out.old) (K.got out.new) (page.old ++ end_line)) }
     ensures cause { HasCause (K.faults out.old) (K.faults out.new) result }
 {
-    put_end(line);
-    put_all(out, line.as_slice())
+    let mut line = Line::new();
+    put_end(&mut line);
+    page.add(line.as_slice(), out)
 }
 
 /// Writes the frame text: the active nodes and the kept faces, ascending by number. A frame costs two passes over all
 /// nodes and faces, and a climb from each corner of a kept face to its ancestor. It takes no memory. After a fault the
 /// sink has gained a part of the text from its front, and not the whole.
+///
+/// The text is put in pages of 4,096 bytes, of which the last may be shorter: when the call returns, nothing is held back.
 #[tactic(auto, unfolding(crate::specs::Frame::frame_text))]
 pub fn write_frame<K: Sink>(front: &Front, out: &mut K) -> Result<(), WriteFault>
     ensures ok { let text = frame_text front.now.h (set_of front.now.flags) in
@@ -104,17 +110,20 @@ pub fn write_frame<K: Sink>(front: &Front, out: &mut K) -> Result<(), WriteFault
         OnErr result (GainsPart (K.got out.old) (K.got out.new) text) }
     ensures cause { HasCause (K.faults out.old) (K.faults out.new) result }
 {
-    let mut line = Line::new();
-    if let Err(fault) = put_first(front, &mut line, out) {
+    let mut page = Page::new();
+    if let Err(fault) = put_first(front, &mut page, out) {
         return Err(fault);
     }
-    if let Err(fault) = put_nodes(front, &mut line, out) {
+    if let Err(fault) = put_nodes(front, &mut page, out) {
         return Err(fault);
     }
-    if let Err(fault) = put_faces(front, &mut line, out) {
+    if let Err(fault) = put_faces(front, &mut page, out) {
         return Err(fault);
     }
-    if let Err(fault) = put_last(&mut line, out) {
+    if let Err(fault) = put_last(&mut page, out) {
+        return Err(fault);
+    }
+    if let Err(fault) = page.flush(out) {
         return Err(fault);
     }
     Ok(())

@@ -12,7 +12,7 @@ pub returns-in-Err-clause-err : goal.returns-in-Err-clause-err
 returns-in-Err-clause-err g c =
     let h = c.args.front.now.h in
     let T = set_of c.args.front.now.flags in
-    line_cut (is_kept h T) (shown_face h T) c.loop-face.face (face_count h) _ _ _ _ (omega (arith, ap face_count c.hierarchy.ensures)) (sym c.is_kept.ensures ∙ c.if-is_kept.true) (c.as_slice.ensures ∙ c.put_shown.ensures) c.loop-face.invariant.text c.in-Err.ensures.err
+    line_cut (is_kept h T) (shown_face h T) c.loop-face.face (face_count h) _ _ _ _ _ _ (omega (arith, ap face_count c.hierarchy.ensures)) (sym c.is_kept.ensures ∙ c.if-is_kept.true) (c.as_slice.ensures ∙ c.put_shown.ensures) c.loop-face.invariant.text c.in-Err.ensures.err
 
 pub loop-face-preserved : goal.loop-face-preserved
 loop-face-preserved g c =
@@ -20,13 +20,13 @@ loop-face-preserved g c =
     let T = set_of c.args.front.now.flags in
     elim c.if-is_kept.branch [
       | then-is_kept+in_default w ↦
-          rw w.out-is (record {
-            text = line_next (is_kept h T) (shown_face h T) c.loop-face.face _ _ _ _ (sym c.is_kept.ensures ∙ w.if-is_kept.true) (w.as_slice.ensures ∙ w.put_shown.ensures) c.loop-face.invariant.text w.in_default.ensures.ok;
+          rw (w.out-is, w.page-is) (record {
+            text = line_next (is_kept h T) (shown_face h T) c.loop-face.face _ _ _ _ _ _ _ (sym c.is_kept.ensures ∙ w.if-is_kept.true) (w.as_slice.ensures ∙ w.put_shown.ensures) c.loop-face.invariant.text w.in_default.ensures.ok;
             count = grind (arith, common_steps, w.in_default.ensures.cause.same);
           })
       | else-is_kept w ↦
-          rw w.out-is (record {
-            text = line_same (is_kept h T) (shown_face h T) c.loop-face.face _ _ (sym c.is_kept.ensures ∙ w.if-is_kept.false) c.loop-face.invariant.text;
+          rw (w.out-is, w.page-is) (record {
+            text = line_same (is_kept h T) (shown_face h T) c.loop-face.face _ _ _ _ (sym c.is_kept.ensures ∙ w.if-is_kept.false) c.loop-face.invariant.text;
             count = c.loop-face.invariant.count;
           })
     ]

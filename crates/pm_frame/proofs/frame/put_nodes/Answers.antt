@@ -12,7 +12,7 @@ pub returns-in-Err-clause-err : goal.returns-in-Err-clause-err
 returns-in-Err-clause-err g c =
     let h = c.args.front.now.h in
     let T = set_of c.args.front.now.flags in
-    line_cut (is_active h T) (shown_node h) c.loop-node.node (node_count h) _ _ _ _ (omega (arith, ap node_count c.hierarchy.ensures)) (sym c.is_active.ensures ∙ c.if-is_active.true) (c.as_slice.ensures ∙ c.put_active.ensures) c.loop-node.invariant.text c.in-Err.ensures.err
+    line_cut (is_active h T) (shown_node h) c.loop-node.node (node_count h) _ _ _ _ _ _ (omega (arith, ap node_count c.hierarchy.ensures)) (sym c.is_active.ensures ∙ c.if-is_active.true) (c.as_slice.ensures ∙ c.put_active.ensures) c.loop-node.invariant.text c.in-Err.ensures.err
 
 pub loop-node-preserved : goal.loop-node-preserved
 loop-node-preserved g c =
@@ -20,13 +20,13 @@ loop-node-preserved g c =
     let T = set_of c.args.front.now.flags in
     elim c.if-is_active.branch [
       | then-is_active+in_default w ↦
-          rw w.out-is (record {
-            text = line_next (is_active h T) (shown_node h) c.loop-node.node _ _ _ _ (sym c.is_active.ensures ∙ w.if-is_active.true) (w.as_slice.ensures ∙ w.put_active.ensures) c.loop-node.invariant.text w.in_default.ensures.ok;
+          rw (w.out-is, w.page-is) (record {
+            text = line_next (is_active h T) (shown_node h) c.loop-node.node _ _ _ _ _ _ _ (sym c.is_active.ensures ∙ w.if-is_active.true) (w.as_slice.ensures ∙ w.put_active.ensures) c.loop-node.invariant.text w.in_default.ensures.ok;
             count = grind (arith, common_steps, w.in_default.ensures.cause.same);
           })
       | else-is_active w ↦
-          rw w.out-is (record {
-            text = line_same (is_active h T) (shown_node h) c.loop-node.node _ _ (sym c.is_active.ensures ∙ w.if-is_active.false) c.loop-node.invariant.text;
+          rw (w.out-is, w.page-is) (record {
+            text = line_same (is_active h T) (shown_node h) c.loop-node.node _ _ _ _ (sym c.is_active.ensures ∙ w.if-is_active.false) c.loop-node.invariant.text;
             count = c.loop-node.invariant.count;
           })
     ]
