@@ -74,13 +74,15 @@ fn face(a: u32, b: u32, c: u32, input: u32) -> Face {
 }
 
 fn head(s: u32, t: ([i32; 3], u32), u: ([i32; 3], u32), presence: u32) -> Head {
+    let (t, t_input) = t;
+    let (u, u_input) = u;
     Head {
         s,
         width: 1,
-        t: t.0,
-        t_input: t.1,
-        u: u.0,
-        u_input: u.1,
+        t,
+        t_input,
+        u,
+        u_input,
         presence,
     }
 }
