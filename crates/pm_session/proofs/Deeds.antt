@@ -17,7 +17,7 @@ use Rattle.pm_session.specs.declared.session.Next.{Next}
 use Rattle.pm_session.specs.declared.session.Next.TheVariants as nexts
 use Rattle.pm_session.specs.declared.session.LineFail.{LineFail}
 use Rattle.pm_session.specs.declared.session.LineFail.TheVariants as fails
-use Rattle.pm_session.specs.Script.{command_of, reply_to, view_reply, adapted_to, after_view, after_split, after_collapse, Deed, Replies, Ends, IsBad, NamesNoRecord, line_deed}
+use Rattle.pm_session.specs.Script.{command_of, reply_to, view_reply, shape_reply, adapted_to, after_view, after_split, after_collapse, Deed, Replies, Ends, IsBad, NamesNoRecord, line_deed}
 use Rattle.pm_session.specs.Session.{LineEnds}
 
 -- No flag is set in the base front.
@@ -56,6 +56,10 @@ deed_quit h b T line is = rw is refl
 pub deed_bad : (h : Hierarchy) (b : ℕ) (T : ℕ → Bool) (line : List ℕ) → command_of line ≡ commands.Bad → line_deed h b T line ≡ IsBad
 unfolding line_deed
 deed_bad h b T line is = rw is refl
+
+pub deed_measure : (h : Hierarchy) (b : ℕ) (T : ℕ → Bool) (line : List ℕ) → command_of line ≡ commands.Measure → line_deed h b T line ≡ Replies (shape_reply h T) T
+unfolding line_deed
+deed_measure h b T line is = rw is refl
 
 pub deed_show : (h : Hierarchy) (b : ℕ) (T : ℕ → Bool) (line : List ℕ) → command_of line ≡ commands.Show → line_deed h b T line ≡ Replies (frame_text h T) T
 unfolding line_deed

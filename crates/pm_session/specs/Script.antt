@@ -1,6 +1,6 @@
 -- The script machine: what a line, and what a list of lines, does from a state, which is the set of split records.
-use Rattle.std.specs.Prelude.{ℕ, ◌+◌, ◌==◌, ◌&&◌, nat_lt, nat_le, Bool, is_none, List, [], ◌∷◌, ◌++◌, length, drop, take, slice_index_or, Option, Some, None, if◌then◌else◌, cond, codes}
-use Rattle.std.specs.Fmt.{decimal}
+use Rattle.std.specs.Prelude.{ℕ, ◌+◌, pos, ◌+ℤ◌, ◌-ℤ◌, ◌==◌, ◌&&◌, nat_lt, nat_le, Bool, is_none, List, [], ◌∷◌, ◌++◌, length, drop, take, slice_index_or, Option, Some, None, if◌then◌else◌, cond, codes}
+use Rattle.std.specs.Fmt.{decimal, signed_decimal}
 use Rattle.pm_io.specs.Digits.{unsigned_of}
 use Rattle.pm_forest.specs.Forest.{Hierarchy, record_count}
 use Rattle.pm_forest.specs.Fronts.{with, without}
@@ -14,6 +14,7 @@ use Rattle.pm_view.specs.Fields.{view_of}
 use Rattle.pm_refine.specs.declared.refiner.Adapted.{Adapted}
 use Rattle.pm_refine.specs.declared.refiner.Adapted.TheVariants as adapted
 use Rattle.pm_refine.specs.Adapting.{view_plan, adapted_of}
+use Rattle.pm_manifold.specs.Measure.{nodes_shown, edges_shown, faces_shown, loops_shown}
 use Rattle.pm_session.specs.declared.command.Command.{Command}
 use Rattle.pm_session.specs.declared.command.Command.TheVariants as commands
 use Rattle.pm_session.specs.declared.command.ScriptFault.{ScriptFault}
@@ -56,6 +57,7 @@ record_in line = unsigned_of 4294967295 (drop 2 line)
 unfoldable pub command_of : List ℕ → Command
 command_of line =
     if is_letter 119 line then commands.Show
+    else if is_letter 109 line then commands.Measure
     else if is_letter 113 line then commands.Quit
     else if begins_with 115 line then split_of (record_in line)
     else if begins_with 99 line then collapse_of (record_in line)
@@ -80,6 +82,15 @@ unfoldable pub view_reply : Adapted → List ℕ
 view_reply (adapted.Settled moves) = codes "settled " ++ decimal moves ++ codes "\n"
 view_reply (adapted.Spent moves left) = codes "spent " ++ decimal moves ++ codes " " ++ decimal left ++ codes "\n"
 
+-- The line of these nodes, edges, faces and loops, with the Euler number; and the reply to `m`.
+unfoldable pub shape_line : ℕ → ℕ → ℕ → ℕ → List ℕ
+shape_line nodes edges faces loops =
+    codes "shape " ++ decimal nodes ++ codes " " ++ decimal edges ++ codes " " ++ decimal faces ++ codes " loops " ++ decimal loops
+    ++ codes " euler " ++ signed_decimal (pos nodes -ℤ pos edges +ℤ pos faces) ++ codes "\n"
+
+unfoldable pub shape_reply : Hierarchy → (ℕ → Bool) → List ℕ
+shape_reply h T = shape_line (nodes_shown h T) (edges_shown h T) (faces_shown h T) (loops_shown h T)
+
 -- What is answered to a view, and the split records after it: the first moves of its plan are made, as many as the budget
 -- allows.
 unfoldable pub adapted_to : Hierarchy → ℕ → (ℕ → Bool) → View → Adapted
@@ -97,6 +108,7 @@ pub data Deed : Type 0 where
 
 abbrev pub deed_of : Hierarchy → ℕ → (ℕ → Bool) → Command → Deed
 deed_of h budget T commands.Show = Replies (frame_text h T) T
+deed_of h budget T commands.Measure = Replies (shape_reply h T) T
 deed_of h budget T commands.Quit = Ends
 deed_of h budget T commands.Bad = IsBad
 deed_of h budget T (commands.Split k) = if nat_lt k (record_count h) then Replies (reply_to (split_fault h T k)) (after_split h T k) else NamesNoRecord

@@ -1,8 +1,9 @@
 -- A session, and what one line leaves of it.
-use Rattle.std.specs.Prelude.{◌≡◌, ℕ, Bool, List, Option, Result, Ok, Err}
+use Rattle.std.specs.Prelude.{◌≡◌, ◌*◌, ℕ, Bool, List, Option, Result, Ok, Err}
 use Rattle.pm_io.specs.Bytes.{Gains, GainsPart}
 use Rattle.pm_io.specs.Causes.{Rose}
 use Rattle.pm_forest.specs.Forest.{Hierarchy, record_count}
+use Rattle.pm_forest.specs.Faces.{face_count}
 use Rattle.pm_bounds.specs.Bounds.{Bounds, AreBoundsOf}
 use Rattle.pm_session.specs.declared.session.Next.{Next}
 use Rattle.pm_session.specs.declared.session.Next.TheVariants as nexts
@@ -20,6 +21,11 @@ pub record Shown : Type 0 where
 pub record IsFitting (h : Hierarchy) (bounds : Bounds) (room : ℕ) : Type 0 where
   pub are_its_bounds : AreBoundsOf h bounds
   pub fits : room ≡ record_count h
+
+-- And the tracer has a mark for each side.
+pub record HasTracer (h : Hierarchy) (bounds : Bounds) (room marks : ℕ) : Type 0 where
+  pub fitting : IsFitting h bounds room
+  pub marks_fit : marks ≡ 3 * face_count h
 
 -- How a line ends, by its deed: `before` and `after` are the split records, and `old` and `new` what the sink had taken.
 abbrev pub LineEnds : Deed → Result Next LineFail → (ℕ → Bool) → (ℕ → Bool) → Option (List ℕ) → Option (List ℕ) → Type 0

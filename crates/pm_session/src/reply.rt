@@ -1,9 +1,10 @@
 // The replies to moves and views.
-ghost use Rattle.std.specs.Prelude.{◌≡◌};
-ghost use Rattle.pm_session.specs.Script.{reply_to, view_reply};
+ghost use Rattle.std.specs.Prelude.{◌≡◌, ◌≤◌, pos, ◌+ℤ◌, ◌-ℤ◌};
+ghost use Rattle.pm_session.specs.Script.{reply_to, view_reply, shape_line};
 
 use pm_beyond::MoveFault;
 use pm_io::Line;
+use pm_manifold::Measure;
 use pm_refine::Adapted;
 
 /// The line that replies to a move.
@@ -43,4 +44,36 @@ pub(crate) fn put_view_reply(line: &mut Line, adapted: Adapted)
             line.add(b"\n");
         }
     }
+}
+
+// The Euler number.
+fn euler(measure: Measure) -> i32
+    requires nodes { measure.nodes ≤ 2097152 }
+    requires edges { measure.edges ≤ 3145728 }
+    requires faces { measure.faces ≤ 1048576 }
+    ensures { result ≡ pos measure.nodes -ℤ pos measure.edges +ℤ pos measure.faces }
+{
+    measure.nodes as i32 - measure.edges as i32 + measure.faces as i32
+}
+
+/// The line that replies to `m`.
+#[tactic(auto, unfolding(crate::specs::Script::shape_line))]
+pub(crate) fn put_shape(line: &mut Line, measure: Measure)
+    requires nodes { measure.nodes ≤ 2097152 }
+    requires edges { measure.edges ≤ 3145728 }
+    requires faces { measure.faces ≤ 1048576 }
+    ensures { line.new ≡ shape_line measure.nodes measure.edges measure.faces measure.loops }
+{
+    line.clear();
+    line.add(b"shape ");
+    line.add_number(measure.nodes);
+    line.add(b" ");
+    line.add_number(measure.edges);
+    line.add(b" ");
+    line.add_number(measure.faces);
+    line.add(b" loops ");
+    line.add_number(measure.loops);
+    line.add(b" euler ");
+    line.add_signed(euler(measure));
+    line.add(b"\n");
 }

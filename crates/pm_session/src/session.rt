@@ -8,11 +8,11 @@ ghost use Rattle.pm_beyond.specs.Valid.{IsValid};
 ghost use Rattle.pm_beyond.specs.Moves.{split_fault, collapse_fault};
 ghost use Rattle.pm_load.specs.Faults.{IsLoadFault};
 ghost use Rattle.pm_frame.specs.Frame.{frame_text};
-ghost use Rattle.pm_session.specs.Script.{reply_to, line_deed, after_split, after_collapse, view_reply, adapted_to, after_view};
+ghost use Rattle.pm_session.specs.Script.{reply_to, line_deed, after_split, after_collapse, view_reply, adapted_to, after_view, shape_reply};
 ghost use Rattle.pm_session.specs.Session.{LineEnds, LineCounts, IsFitting};
 
 use crate::command::{Command, command_of};
-use crate::reply::{put_reply, put_view_reply};
+use crate::reply::{put_reply, put_shape, put_view_reply};
 use pm_beyond::MoveFault;
 use pm_bounds::Bounds;
 use pm_forest::Hierarchy;
@@ -20,6 +20,7 @@ use pm_frame::write_frame;
 use pm_front::Front;
 use pm_io::{Line, Sink, WriteFault, put_all};
 use pm_load::{LoadFail, open_front};
+use pm_manifold::Tracer;
 use pm_refine::{Adapted, Refiner};
 use pm_view::{Steps, View};
 use std::alloc::Global;
@@ -47,17 +48,18 @@ pub struct Session {
     front: Front,
     bounds: Bounds,
     refiner: Refiner,
+    tracer: Tracer,
     budget: u32,
 }
 
 impl Model for Session {
-    ghost use Rattle.pm_session.specs.Session.{Shown, IsFitting};
+    ghost use Rattle.pm_session.specs.Session.{Shown, IsFitting, HasTracer};
 
     ghost Value = { Shown };
 
     ghost view = { λ s. record { h = s.front.h; flags = s.front.flags; budget = s.budget } };
 
-    ghost invariant = { λ s. IsFitting s.front.h s.bounds s.refiner };
+    ghost invariant = { λ s. HasTracer s.front.h s.bounds s.refiner s.tracer };
 }
 
 // Adapts a front to a view, where nobody counts the steps.
@@ -136,10 +138,14 @@ impl Session {
         let Ok(refiner) = Refiner::new(alloc, front.hierarchy()) else {
             return Err(LoadFail::OutOfMemory);
         };
+        let Ok(tracer) = Tracer::new(alloc, front.hierarchy()) else {
+            return Err(LoadFail::OutOfMemory);
+        };
         Ok(Session {
             front,
             bounds,
             refiner,
+            tracer,
             budget,
         })
     }
@@ -206,6 +212,22 @@ impl Session {
         )
     }
 
+    // Writes the measure.
+    #[tactic(auto, unfolding(crate::specs::Script::shape_reply))]
+    fn measure<K: Sink>(&mut self, out: &mut K) -> Result<(), WriteFault>
+        ensures ok { let text = shape_reply self.old.h (set_of self.old.flags) in
+            OnOk result (Gains (K.got out.old) (K.got out.new) text) }
+        ensures err { let text = shape_reply self.old.h (set_of self.old.flags) in
+            OnErr result (GainsPart (K.got out.old) (K.got out.new) text) }
+        ensures cause { HasCause (K.faults out.old) (K.faults out.new) result }
+        ensures same { self.new ≡ self.old }
+    {
+        let measure = self.tracer.measure(&self.front);
+        let mut line = Line::new();
+        put_shape(&mut line, measure);
+        put_all(out, line.as_slice())
+    }
+
     /// Does one script line, which is given without its LF, and writes its whole reply. BadLine comes exactly where the
     /// line is none of the forms, and NoRecord exactly where it names a record that isn't there; nothing is changed or
     /// written then. Write comes only where the sink failed: the line's move stands, and the sink gained a part of the
@@ -221,6 +243,7 @@ impl Session {
             Command::Quit => Ok(Next::Quit),
             Command::Bad => Err(LineFail::BadLine),
             Command::Show => after_reply(self.show(out)),
+            Command::Measure => after_reply(self.measure(out)),
             Command::Look(view) => after_reply(put_adapted(self.look(&view), out)),
             Command::Split(k) if k < self.records() => after_reply(put_answer(self.split(k), out)),
             Command::Collapse(k) if k < self.records() => {

@@ -70,3 +70,12 @@ fn square_seen_from_above_and_below(rt: HostRuntime) -> Result<(), Fail> {
     check(&rt, alloc, &["view", "9"], &input, 0, out, b"")?;
     Ok(())
 }
+
+#[test]
+fn square_is_measured_before_and_after_its_split(rt: HostRuntime) -> Result<(), Fail> {
+    let alloc = rt.alloc();
+    let out = b"shape 3 3 1 loops 1 euler 1\nok\nshape 4 5 2 loops 1 euler 1\n";
+    let input = text(alloc, &SQUARE, b"m\ns 0\nm\n")?;
+    check(&rt, alloc, &["view", "0"], &input, 0, out, b"")?;
+    Ok(())
+}

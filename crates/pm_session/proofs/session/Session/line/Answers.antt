@@ -1,5 +1,7 @@
-use Rattle.std.proofs.Common.{arith, refl, sym, ◌∙◌}
-use Rattle.pm_session.proofs.Deeds.{deed_quit, deed_bad, deed_show, deed_split, deed_collapse, deed_look, deed_no_split, deed_no_collapse, replied, ended, bad, named_none}
+use Rattle.std.proofs.Common.{arith, refl, sym, ap, ◌∙◌}
+use Rattle.pm_forest.specs.Fronts.{set_of}
+use Rattle.pm_session.proofs.Deeds.{deed_quit, deed_measure, deed_bad, deed_show, deed_split, deed_collapse, deed_look, deed_no_split, deed_no_collapse, replied, ended, bad, named_none}
+use Rattle.pm_session.specs.Session.{Shown}
 use Rattle.pm_session.proofs.session.Session.line.Goals as goal
 
 pub returns-in-Quit-clause-ends : goal.returns-in-Quit-clause-ends
@@ -35,3 +37,8 @@ returns-in-Look-clause-ends g c =
     replied _ _ _ _ _ c.put_adapted.result _ _ _
     (deed_look _ _ _ _ _ c.in-Look.view c.look.result (sym c.command_of.ensures ∙ c.in-Look.is) c.look.ensures.answer c.look.ensures.after) refl
     c.after_reply-in-Look.ensures.ok c.after_reply-in-Look.ensures.err c.put_adapted.ensures.ok c.put_adapted.ensures.err
+
+pub returns-in-Measure-clause-ends : goal.returns-in-Measure-clause-ends
+returns-in-Measure-clause-ends g c =
+    replied _ _ _ _ _ c.measure.result _ _ _ (deed_measure _ _ _ _ (sym c.command_of.ensures ∙ c.in-Measure.is)) (ap (λ (s : Shown). set_of s.flags) c.measure.ensures.same)
+    c.after_reply-in-Measure.ensures.ok c.after_reply-in-Measure.ensures.err c.measure.ensures.ok c.measure.ensures.err
