@@ -1,16 +1,16 @@
 -- The lists of sides by vertex grow by one side at a time, and what a search in them answers.
-use Rattle.std.proofs.Common.{◌≡◌, ◌≢◌, ◌↔◌, ℕ, ◌+◌, ◌*◌, ◌/◌, ◌<◌, ◌≤◌, true, eqb, Option, Some, None, List, ◌∷◌, length, ◌⊎◌, inl, inr, refl, sym, ap, ◌∙◌, subst, arith}
+use Rattle.std.proofs.Common.{◌≡◌, ◌≢◌, ◌↔◌, ℕ, ◌+◌, ◌*◌, ◌<◌, ◌≤◌, true, eqb, Option, Some, None, List, ◌∷◌, length, ◌⊎◌, inl, inr, refl, sym, ap, ◌∙◌, subst, arith}
 use Rattle.std.proofs.lemmas.Bool.{or_cases, or_left, eqb-true, eq-eqb, cases_eq, cases_lt, false≢true, false_from_ne_true}
 use Rattle.std.specs.Option.{is_some, IfSome}
-use Rattle.pm_base.specs.Sides.{Net, side_count, face_of, next, prev, to, NoSideTwice, Stands, twin_of}
+use Rattle.pm_base.specs.Sides.{Net, side_count, face_of, next, prev, to, NoSideTwice, twin_of}
 use Rattle.pm_base.proofs.Search.{option_cases}
 use Rattle.pm_base.proofs.Sides.{face_cases, next-lt, next-next-next}
-use Rattle.pm_base.proofs.TwinLaws.{twin-is, twin-one, none-twin}
-use Rattle.pm_links.specs.Lists.{Lists, list_of, has, after, rest, first_of, IsOnce, with_first, empty_lists, IsFree}
+use Rattle.pm_base.proofs.TwinLaws.{twin-is, twin-one}
+use Rattle.pm_links.specs.Lists.{Lists, list_of, has, after, rest, first_of, IsOnce, with_first, IsFree}
 use Rattle.pm_links.proofs.Members.{has_tail}
 use Rattle.pm_links.proofs.Calls.{after_push}
-use Rattle.pm_links.proofs.Walking.{rest_first, rest_next, held_first, held_next}
-use Rattle.pm_twins.specs.Faults.{RepeatsASide, IsFirstRepeating}
+use Rattle.pm_links.proofs.Walking.{rest_next, held_next}
+use Rattle.pm_twins.specs.Faults.{RepeatsASide}
 use Rattle.pm_twins.specs.SideLists.{AreListed, IsSideAmong, HasSideAmong, IsWhole}
 
 pub listed_free : (m : Net) (n : ℕ) (lists : Lists) → AreListed m n lists → IsFree lists n

@@ -1,7 +1,5 @@
-use Rattle.std.proofs.Common.{◌≡◌, ◌∙◌, ◌*◌, true, ◌↔◌, sym, subst}
-use Rattle.std.specs.Option.{is_some}
+use Rattle.std.proofs.Common.{◌∙◌, ◌*◌, sym}
 use Rattle.pm_base.specs.Sides.{net_of}
-use Rattle.pm_twins.specs.SideLists.{HasSideAmong}
 use Rattle.pm_twins.proofs.SideListLaws.{among_has}
 use Rattle.pm_twins.proofs.side_lists.has_earlier.Goals as goal
 

@@ -1,6 +1,6 @@
-use Rattle.std.proofs.Common.{◌≡◌, ◌∙◌, ◌*◌, ◌+◌, ◌<◌, true, ap, sym, inl, inr, subst, arith}
+use Rattle.std.proofs.Common.{◌∙◌, ◌*◌, true, sym, inl, inr, subst, arith}
 use Rattle.std.proofs.lemmas.Bool.{cases_eq, false≢true}
-use Rattle.pm_base.specs.Sides.{Net, net_of}
+use Rattle.pm_base.specs.Sides.{net_of}
 use Rattle.pm_twins.specs.SideLists.{HasSideAmong}
 use Rattle.pm_twins.proofs.SideListLaws.{repeats_one, repeats_none}
 use Rattle.pm_twins.proofs.side_lists.repeats.Goals as goal

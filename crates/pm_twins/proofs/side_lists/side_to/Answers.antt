@@ -1,9 +1,8 @@
-use Rattle.std.proofs.Common.{◌≡◌, ◌≢◌, ◌∙◌, ℕ, ◌*◌, ◌<◌, true, Option, Some, List, length, sym, ap, subst, arith}
+use Rattle.std.proofs.Common.{◌≡◌, ◌≢◌, ◌∙◌, ℕ, true, Option, List, sym, ap, subst, arith}
 use Rattle.std.specs.Option.{IfSome}
-use Rattle.pm_base.specs.Sides.{Net, net_of, next, prev, to}
-use Rattle.pm_base.proofs.Sides.{next-lt}
+use Rattle.pm_base.specs.Sides.{Net, net_of, prev, to}
 use Rattle.pm_links.specs.Lists.{list_of, has}
-use Rattle.pm_twins.proofs.SideListLaws.{arriving, gets_shorter, stays_held, passed_more, passed_all, none_leaves, none_arrives}
+use Rattle.pm_twins.proofs.SideListLaws.{arriving, gets_shorter, stays_held, passed_more, passed_all, none_arrives}
 use Rattle.pm_twins.proofs.side_lists.side_to.Goals as goal
 
 pub from-requires : goal.from-requires

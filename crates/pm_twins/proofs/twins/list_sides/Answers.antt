@@ -1,4 +1,4 @@
-use Rattle.std.proofs.Common.{◌≡◌, ◌<◌, ℕ, arith}
+use Rattle.std.proofs.Common.{arith}
 use Rattle.pm_base.specs.Sides.{net_of}
 use Rattle.pm_twins.proofs.SideListLaws.{once_from_faces}
 use Rattle.pm_twins.proofs.twins.list_sides.Goals as goal

@@ -1,4 +1,4 @@
-use Rattle.std.proofs.Common.{◌≡◌, ℕ, length, sym, subst, arith}
+use Rattle.std.proofs.Common.{ℕ, length, subst, arith}
 use Rattle.pm_base.specs.Sides.{Net, net_of, side_count, to, twin_of}
 use Rattle.pm_twins.specs.SideLists.{IsSideAmong}
 use Rattle.pm_twins.proofs.SideListLaws.{among_twin}

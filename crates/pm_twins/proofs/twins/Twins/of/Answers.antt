@@ -1,4 +1,4 @@
-use Rattle.std.proofs.Common.{ℕ, ◌*◌, length, List, sym, subst}
+use Rattle.std.proofs.Common.{ℕ, length, List, sym, subst}
 use Rattle.pm_base.specs.declared.mesh.Corners.{Corners}
 use Rattle.pm_base.specs.Sides.{Net, net_of, NoSideTwice}
 use Rattle.pm_base.specs.Meshes.{mesh_of}
