@@ -1,7 +1,7 @@
-// Writes the stream text of a hierarchy.
-ghost use Rattle.std.specs.Prelude.{◌≡◌, ◌≤◌, ◌<◌, ◌^◌, length, Some, OnOk, OnErr};
+// Writes the stream text of a hierarchy, in pages.
+ghost use Rattle.std.specs.Prelude.{◌≡◌, ◌≤◌, ◌<◌, ◌^◌, ◌++◌, length, Some, OnOk, OnErr};
 ghost use Rattle.std.specs.List.{flat_map};
-ghost use Rattle.pm_io.specs.Bytes.{Gains, GainsPart};
+ghost use Rattle.pm_io.specs.Bytes.{Gains, GainsPart, GainsThrough};
 ghost use Rattle.pm_io.specs.Causes.{HasCause};
 ghost use Rattle.pm_forest.specs.Forest.{leaf_count, record_count};
 ghost use Rattle.pm_forest.specs.Rules.{word_of};
@@ -12,20 +12,20 @@ use crate::units::{MAGIC, VERSION};
 use byteorder::{ByteOrder, LittleEndian};
 use pm_base::Side;
 use pm_forest::{Face, Hierarchy, NewFace, Record, Root};
-use pm_io::{Sink, WriteFault, put_all};
+use pm_io::{Page, Sink, WriteFault};
 
-// Puts a unit's words as one piece.
+// Adds a unit's words to the page.
 #[tactic(auto, unfolding(crate::specs::Words::spelled))]
-fn put_words<K: Sink>(words: &[u32], out: &mut K) -> Result<(), WriteFault>
+fn put_words<K: Sink>(words: &[u32], page: &mut Page, out: &mut K) -> Result<(), WriteFault>
     requires { length words.now ≤ 11 }
-    ensures ok { OnOk result (Gains (K.got out.old) (K.got out.new) (spelled words.now)) }
-    ensures err { OnErr result (GainsPart (K.got out.old) (K.got out.new) (spelled words.now)) }
+    ensures ok { OnOk result (GainsThrough (K.got out.old) (K.got out.new) page.old page.new (spelled words.now)) }
+    ensures err { OnErr result (GainsPart (K.got out.old) (K.got out.new) (page.old ++ spelled words.now)) }
     ensures cause { HasCause (K.faults out.old) (K.faults out.new) result }
 {
     let mut bytes = [0; 44];
     let unit = &mut bytes[..4 * words.len()];
     LittleEndian::write_u32_into(words, unit);
-    put_all(out, unit)
+    page.add(unit, out)
 }
 
 // The word that names a neighbour: 0 for none.
@@ -107,85 +107,95 @@ fn new_face_words(new: &NewFace) -> [u32; 6]
     ]
 }
 
-fn put_header<K: Sink>(h: &Hierarchy, out: &mut K) -> Result<(), WriteFault>
-    ensures ok { OnOk result (Gains (K.got out.old) (K.got out.new) (spelled (header_words h.now))) }
-    ensures err { OnErr result (GainsPart (K.got out.old) (K.got out.new) (spelled (header_words h.now))) }
+fn put_header<K: Sink>(h: &Hierarchy, page: &mut Page, out: &mut K) -> Result<(), WriteFault>
+    ensures ok { OnOk result (GainsThrough (K.got out.old) (K.got out.new) page.old page.new (spelled (header_words h.now))) }
+    ensures err { OnErr result (GainsPart (K.got out.old) (K.got out.new) (page.old ++ spelled (header_words h.now))) }
     ensures cause { HasCause (K.faults out.old) (K.faults out.new) result }
 {
-    put_words(&header_words(h), out)
+    put_words(&header_words(h), page, out)
 }
 
 // Puts a new face where there is one.
-fn put_new_face<K: Sink>(new: Option<NewFace>, out: &mut K) -> Result<(), WriteFault>
+fn put_new_face<K: Sink>(
+    new: Option<NewFace>,
+    page: &mut Page,
+    out: &mut K,
+) -> Result<(), WriteFault>
     requires { AreWords (new_face_words new) }
-    ensures ok { OnOk result (Gains (K.got out.old) (K.got out.new) (spelled (new_face_words new))) }
-    ensures err { OnErr result (GainsPart (K.got out.old) (K.got out.new) (spelled (new_face_words new))) }
+    ensures ok { OnOk result (GainsThrough (K.got out.old) (K.got out.new) page.old page.new (spelled (new_face_words new))) }
+    ensures err { OnErr result (GainsPart (K.got out.old) (K.got out.new) (page.old ++ spelled (new_face_words new))) }
     ensures cause { HasCause (K.faults out.old) (K.faults out.new) result }
 {
     match new {
         None => Ok(()),
-        Some(face) => put_words(&new_face_words(&face), out),
+        Some(face) => put_words(&new_face_words(&face), page, out),
     }
 }
 
-fn put_head<K: Sink>(split: &Record, out: &mut K) -> Result<(), WriteFault>
-    ensures ok { OnOk result (Gains (K.got out.old) (K.got out.new) (spelled (head_words split.now))) }
-    ensures err { OnErr result (GainsPart (K.got out.old) (K.got out.new) (spelled (head_words split.now))) }
+fn put_head<K: Sink>(split: &Record, page: &mut Page, out: &mut K) -> Result<(), WriteFault>
+    ensures ok { OnOk result (GainsThrough (K.got out.old) (K.got out.new) page.old page.new (spelled (head_words split.now))) }
+    ensures err { OnErr result (GainsPart (K.got out.old) (K.got out.new) (page.old ++ spelled (head_words split.now))) }
     ensures cause { HasCause (K.faults out.old) (K.faults out.new) result }
 {
-    put_words(&head_words(split), out)
+    put_words(&head_words(split), page, out)
 }
 
-fn put_record<K: Sink>(split: &Record, out: &mut K) -> Result<(), WriteFault>
+fn put_record<K: Sink>(split: &Record, page: &mut Page, out: &mut K) -> Result<(), WriteFault>
     requires left { AreWords (new_face_words split.now.left) }
     requires right { AreWords (new_face_words split.now.right) }
-    ensures ok { OnOk result (Gains (K.got out.old) (K.got out.new) (spelled (record_words split.now))) }
-    ensures err { OnErr result (GainsPart (K.got out.old) (K.got out.new) (spelled (record_words split.now))) }
+    ensures ok { OnOk result (GainsThrough (K.got out.old) (K.got out.new) page.old page.new (spelled (record_words split.now))) }
+    ensures err { OnErr result (GainsPart (K.got out.old) (K.got out.new) (page.old ++ spelled (record_words split.now))) }
     ensures cause { HasCause (K.faults out.old) (K.faults out.new) result }
 {
-    if let Err(fault) = put_head(split, out) {
+    if let Err(fault) = put_head(split, page, out) {
         return Err(fault);
     }
-    if let Err(fault) = put_new_face(split.left, out) {
+    if let Err(fault) = put_new_face(split.left, page, out) {
         return Err(fault);
     }
-    put_new_face(split.right, out)
+    put_new_face(split.right, page, out)
 }
 
-fn put_roots<K: Sink>(h: &Hierarchy, out: &mut K) -> Result<(), WriteFault>
-    ensures ok { OnOk result (Gains (K.got out.old) (K.got out.new) (flat_map (λ r. spelled (root_words r)) h.now.roots)) }
-    ensures err { OnErr result (GainsPart (K.got out.old) (K.got out.new) (flat_map (λ r. spelled (root_words r)) h.now.roots)) }
+fn put_roots<K: Sink>(h: &Hierarchy, page: &mut Page, out: &mut K) -> Result<(), WriteFault>
+    ensures ok { let text = flat_map (λ r. spelled (root_words r)) h.now.roots in
+        OnOk result (GainsThrough (K.got out.old) (K.got out.new) page.old page.new text) }
+    ensures err { let text = flat_map (λ r. spelled (root_words r)) h.now.roots in
+        OnErr result (GainsPart (K.got out.old) (K.got out.new) (page.old ++ text)) }
     ensures cause { HasCause (K.faults out.old) (K.faults out.new) result }
 {
     for i in 0..h.roots() {
-        if let Err(fault) = put_words(&root_words(&h.root_at(i)), out) {
+        if let Err(fault) = put_words(&root_words(&h.root_at(i)), page, out) {
             return Err(fault);
         }
     }
     Ok(())
 }
 
-fn put_bases<K: Sink>(h: &Hierarchy, out: &mut K) -> Result<(), WriteFault>
-    ensures ok { OnOk result (Gains (K.got out.old) (K.got out.new) (flat_map (λ f. spelled (base_words f)) h.now.bases)) }
-    ensures err { OnErr result (GainsPart (K.got out.old) (K.got out.new) (flat_map (λ f. spelled (base_words f)) h.now.bases)) }
+fn put_bases<K: Sink>(h: &Hierarchy, page: &mut Page, out: &mut K) -> Result<(), WriteFault>
+    ensures ok { let text = flat_map (λ f. spelled (base_words f)) h.now.bases in
+        OnOk result (GainsThrough (K.got out.old) (K.got out.new) page.old page.new text) }
+    ensures err { let text = flat_map (λ f. spelled (base_words f)) h.now.bases in
+        OnErr result (GainsPart (K.got out.old) (K.got out.new) (page.old ++ text)) }
     ensures cause { HasCause (K.faults out.old) (K.faults out.new) result }
 {
     for i in 0..h.bases() {
-        if let Err(fault) = put_words(&base_words(&h.base_at(i)), out) {
+        if let Err(fault) = put_words(&base_words(&h.base_at(i)), page, out) {
             return Err(fault);
         }
     }
     Ok(())
 }
 
-fn put_records<K: Sink>(h: &Hierarchy, out: &mut K) -> Result<(), WriteFault>
-    ensures ok { OnOk result (Gains (K.got out.old) (K.got out.new) (flat_map (λ r. spelled (record_words r)) h.now.records)) }
-    ensures err { OnErr result (GainsPart (K.got out.old) (K.got out.new) (flat_map (λ r. spelled (record_words r)) h.now.records)) }
+fn put_records<K: Sink>(h: &Hierarchy, page: &mut Page, out: &mut K) -> Result<(), WriteFault>
+    ensures ok { let text = flat_map (λ r. spelled (record_words r)) h.now.records in
+        OnOk result (GainsThrough (K.got out.old) (K.got out.new) page.old page.new text) }
+    ensures err { let text = flat_map (λ r. spelled (record_words r)) h.now.records in
+        OnErr result (GainsPart (K.got out.old) (K.got out.new) (page.old ++ text)) }
     ensures cause { HasCause (K.faults out.old) (K.faults out.new) result }
 {
     h.has_shape();
     for k in 0..h.records() {
-        if let Err(fault) = put_record(h.record_at(k), out) {
+        if let Err(fault) = put_record(h.record_at(k), page, out) {
             return Err(fault);
         }
     }
@@ -193,20 +203,28 @@ fn put_records<K: Sink>(h: &Hierarchy, out: &mut K) -> Result<(), WriteFault>
 }
 
 /// Writes the stream text of a hierarchy. After a fault the sink has gained a part of the text from its front, and not
-/// the whole. It takes no memory, and time linear in the text.
+/// the whole. It takes no memory, and time linear in the text. The text is put in pages of 4,096 bytes, of
+/// which the last may be shorter.
 pub fn encode<K: Sink>(h: &Hierarchy, out: &mut K) -> Result<(), WriteFault>
     ensures ok { OnOk result (Gains (K.got out.old) (K.got out.new) (stream h.now)) }
     ensures err { OnErr result (GainsPart (K.got out.old) (K.got out.new) (stream h.now)) }
     ensures cause { HasCause (K.faults out.old) (K.faults out.new) result }
 {
-    if let Err(fault) = put_header(h, out) {
+    let mut page = Page::new();
+    if let Err(fault) = put_header(h, &mut page, out) {
         return Err(fault);
     }
-    if let Err(fault) = put_roots(h, out) {
+    if let Err(fault) = put_roots(h, &mut page, out) {
         return Err(fault);
     }
-    if let Err(fault) = put_bases(h, out) {
+    if let Err(fault) = put_bases(h, &mut page, out) {
         return Err(fault);
     }
-    put_records(h, out)
+    if let Err(fault) = put_records(h, &mut page, out) {
+        return Err(fault);
+    }
+    if let Err(fault) = page.flush(out) {
+        return Err(fault);
+    }
+    Ok(())
 }

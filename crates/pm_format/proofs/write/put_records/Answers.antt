@@ -1,8 +1,8 @@
-use Rattle.std.proofs.Common.{◌<◌, length, arith, sym, subst}
+use Rattle.std.proofs.Common.{◌<◌, ◌++◌, length, arith, sym, subst}
 use Rattle.std.proofs.lemmas.Grind.{common_steps}
 use Rattle.std.proofs.lemmas.List.{get_or_default}
-use Rattle.pm_io.specs.Bytes.{Gains, GainsPart}
-use Rattle.pm_io.proofs.LineLaws.{line_goes_on, line_part}
+use Rattle.pm_io.specs.Bytes.{GainsPart, GainsThrough}
+use Rattle.pm_io.proofs.PageLaws.{line_through, line_through_part}
 use Rattle.pm_forest.specs.Forest.{no_record, record_at}
 use Rattle.pm_format.specs.Words.{spelled, AreWords}
 use Rattle.pm_format.specs.Stream.{new_face_words, record_words}
@@ -25,8 +25,8 @@ returns-in-Err-clause-err g c =
     let k = c.loop-k.k in
     let lt : k < length records = omega (arith, c.records-k-end.ensures.value) in
     let r = record_at c.args.h.now k in
-    let part = subst (λ s. GainsPart (g.K.Sink.got c.loop-k.out) (g.K.Sink.got c.put_record.new.out) (spelled (record_words s))) c.record_at.ensures c.in-Err.ensures.err in
-    line_part (λ x. spelled (record_words x)) records k r _ _ _ lt (get_or_default records k no_record r lt) c.loop-k.invariant.text part
+    let part = subst (λ s. GainsPart (g.K.Sink.got c.loop-k.out) (g.K.Sink.got c.put_record.new.out) (c.loop-k.page ++ spelled (record_words s))) c.record_at.ensures c.in-Err.ensures.err in
+    line_through_part (λ x. spelled (record_words x)) records k r _ _ _ _ _ lt (get_or_default records k no_record r lt) c.loop-k.invariant.text part
 
 pub loop-k-preserved : goal.loop-k-preserved
 loop-k-preserved g c =
@@ -34,8 +34,8 @@ loop-k-preserved g c =
     let k = c.loop-k.k in
     let lt : k < length records = omega (arith, c.records-k-end.ensures.value) in
     let r = record_at c.args.h.now k in
-    let unit = subst (λ s. Gains (g.K.Sink.got c.loop-k.out) (g.K.Sink.got c.put_record.new.out) (spelled (record_words s))) c.record_at.ensures c.in_default.ensures.ok in
+    let unit = subst (λ s. GainsThrough (g.K.Sink.got c.loop-k.out) (g.K.Sink.got c.put_record.new.out) c.loop-k.page c.put_record.new.page (spelled (record_words s))) c.record_at.ensures c.in_default.ensures.ok in
     record {
-      text = line_goes_on (λ x. spelled (record_words x)) records k r _ _ _ lt (get_or_default records k no_record r lt) c.loop-k.invariant.text unit;
+      text = line_through (λ x. spelled (record_words x)) records k r _ _ _ _ _ _ lt (get_or_default records k no_record r lt) c.loop-k.invariant.text unit;
       count = grind (arith, common_steps, c.in_default.ensures.cause.same);
     }

@@ -1,12 +1,12 @@
 use Rattle.std.proofs.Common.{◌≡◌, take}
 use Rattle.std.specs.List.{flat_map}
-use Rattle.pm_io.specs.Bytes.{Gains}
+use Rattle.pm_io.specs.Bytes.{GainsThrough}
 use Rattle.pm_format.specs.Words.{spelled}
 use Rattle.pm_format.specs.Stream.{root_words}
 use Rattle.pm_format.proofs.write.put_roots.Given as goal
 
 abbrev pub invariant-loop-i : goal.invariant-loop-i
 invariant-loop-i g l = record {
-  text : Gains (g.K.Sink.got l.fn.out) (g.K.Sink.got l.out) (flat_map (λ x. spelled (root_words x)) (take l.i l.h.roots));
+  text : GainsThrough (g.K.Sink.got l.fn.out) (g.K.Sink.got l.out) l.fn.page l.page (flat_map (λ x. spelled (root_words x)) (take l.i l.h.roots));
   count : g.K.Sink.faults l.out ≡ g.K.Sink.faults l.fn.out;
 }
