@@ -1,19 +1,11 @@
--- Laws of a text that reaches a sink through a page.
-use Rattle.std.proofs.Common.{◌≡◌, ℕ, ◌+◌, ◌<◌, ◌≤◌, List, [], ◌++◌, Option, length, get_or, take, drop, refl, sym, ◌∙◌, ap, subst, append_assoc}
+-- Laws of a text that reaches a sink through a page: its parts one after the other, and line by line, where each item of
+-- a list gives its line.
+use Rattle.std.proofs.Common.{◌≡◌, ℕ, ◌+◌, ◌<◌, ◌≤◌, List, [], ◌∷◌, ◌++◌, Option, length, get_or, take, drop, refl, sym, ◌∙◌, ap, subst, append_assoc}
 use Rattle.std.specs.List.{flat_map}
 use Rattle.std.proofs.lemmas.Grind.{flat_map-append}
-use Rattle.std.proofs.lemmas.List.{append-nil, take_all, take-append-drop}
+use Rattle.std.proofs.lemmas.List.{append-nil, take_more, take_all, take-append-drop}
 use Rattle.pm_io.specs.Bytes.{Gains, GainsPart, GainsThrough}
 use Rattle.pm_io.proofs.Known.{gains_none, gains_both, part_more, part_after}
-use Rattle.pm_io.proofs.LineLaws.{lines_next}
-
--- The page holds a piece more, and the sink isn't called.
-pub held_more : (old : Option (List ℕ)) (held piece : List ℕ) → GainsThrough old old held (held ++ piece) piece
-held_more old held piece = record {
-  done = [];
-  whole = refl;
-  gained = gains_none old;
-}
 
 -- No text.
 pub through_none : (old : Option (List ℕ)) (held : List ℕ) → GainsThrough old old held held []
@@ -73,6 +65,14 @@ pages_part old mid new held piece front rest pages last cut again first part =
     ap (λ (l : List ℕ). held ++ l) cut ∙ sym (append_assoc held front rest)
     ∙ ap (λ (l : List ℕ). (held ++ front) ++ l) again ∙ sym (append_assoc (held ++ front) pages last) in
     subst (λ (l : List ℕ). GainsPart old new l) (sym whole) (part_more old new _ last (part_after old mid new (held ++ front) pages first part))
+
+-- The lines of one item more.
+lines_next : {X : Type 0} (line : X → List ℕ) (xs : List X) (i : ℕ) (x : X) → i < length xs → x ≡ get_or xs i x
+    → flat_map line (take (i + 1) xs) ≡ flat_map line (take i xs) ++ line x
+lines_next line xs i x lt is =
+    ap (λ (l : List _). flat_map line l) (take_more xs i x lt ∙ ap (λ y. take i xs ++ y ∷ []) (sym is))
+    ∙ flat_map-append line (take i xs) (x ∷ [])
+    ∙ ap (λ (l : List ℕ). flat_map line (take i xs) ++ l) (append-nil (line x))
 
 -- One line more.
 pub line_through : {X : Type 0} (line : X → List ℕ) (xs : List X) (i : ℕ) (x : X) (old mid new : Option (List ℕ)) (p q r : List ℕ) → i < length xs → x ≡ get_or xs i x
