@@ -1,5 +1,5 @@
 -- Bytes have one build, and its text expands to the mesh of the bytes.
-use Rattle.std.proofs.Common.{◌≡◌, ℕ, List, [], ◌≤◌, length, Option, Some, None, Result, Ok, Err, IfSome, refl, sym, ◌∙◌, ap, subst}
+use Rattle.std.proofs.Common.{◌≡◌, ℕ, List, [], ◌<◌, length, Option, Some, None, Result, Ok, Err, IfSome, refl, sym, ◌∙◌, ap, subst}
 use Rattle.std.proofs.lemmas.List.{append-nil}
 use Rattle.pm_base.specs.declared.log.Collapse.{Collapse}
 use Rattle.pm_base.specs.Meshes.{Mesh}
@@ -14,67 +14,85 @@ use Rattle.pm_runs.proofs.LeastRuns.{one_run}
 use Rattle.pm_number.specs.Numbering.{hierarchy_of_run}
 use Rattle.vdpm.specs.declared.fault.Fault.{Fault}
 use Rattle.vdpm.specs.declared.fault.InputFail.{InputFail}
+use Rattle.vdpm.specs.declared.fault.InputFail.TheVariants as input
 use Rattle.vdpm.specs.declared.words.Asked.{Asked}
 use Rattle.vdpm.specs.declared.words.Asked.TheVariants as asked
-use Rattle.vdpm.specs.Input.{Stops}
-use Rattle.vdpm.specs.Ran.{Ran}
-use Rattle.vdpm.specs.Surface.{IsSurface, refuses_surface}
+use Rattle.vdpm.specs.Input.{Unreached, IsFaulty, Stops}
+use Rattle.vdpm.specs.Ran.{Ran, whole}
+use Rattle.vdpm.specs.Surface.{IsSurface}
 use Rattle.vdpm.specs.Opening.{Opening, begins, valid, whole_text}
-use Rattle.vdpm.specs.Build.{IsSimplified, IsBuilt, no_surface, simplified, refuses_build}
-use Rattle.vdpm.specs.Outcome.{IsOutcome, Follows, whole, done_with, Replied, GivesBack}
+use Rattle.vdpm.specs.Build.{IsSimplified, IsBuilt, no_surface, simplified}
+use Rattle.vdpm.specs.Outcome.{IsOutcome, Follows, done_with, Replied, GivesBack}
 use Rattle.vdpm.proofs.SurfaceLaws.{one_surface}
-use Rattle.vdpm.proofs.OpeningLaws.{stops_more}
 
 -- Bytes have one build.
 
-same_mesh : (bytes : List ℕ) (m n : Mesh) → IsSurface bytes (Ok m) → IsSurface bytes (Ok n) → m ≡ n
+same_mesh : (bytes : List ℕ) (m n : Mesh) {i j : Option ℕ} → IsSurface bytes (Ok m) i → IsSurface bytes (Ok n) j → m ≡ n
 same_mesh bytes m n is are =
-    let same : Ok m ≡ Ok n = one_surface bytes is are in
+    let same : Ok m ≡ Ok n = (one_surface bytes is are).0 in
     cc
 
-mesh_or_fault : (bytes : List ℕ) (m : Mesh) (f : Fault) → IsSurface bytes (Ok m) → IsSurface bytes (Err f) → ⊥
+mesh_or_fault : (bytes : List ℕ) (m : Mesh) (f : Fault) {i j : Option ℕ} → IsSurface bytes (Ok m) i → IsSurface bytes (Err f) j → ⊥
 mesh_or_fault bytes m f is are =
-    let same : Ok m ≡ Err f = one_surface bytes is are in
+    let same : Ok m ≡ Err f = (one_surface bytes is are).0 in
     absurd (cc)
 
 one_hierarchy : (m : Mesh) (target : ℕ) (h g : Hierarchy) → IsSimplified m target h → IsSimplified m target g → h ≡ g
 one_hierarchy m target h g is are =
     is.made ∙ ap (λ (l : List Collapse). hierarchy_of_run m l) (one_run m target is.log are.log is.run are.run) ∙ sym are.made
 
-pub one_build : (bytes : List ℕ) (target : ℕ) {a b : Result Hierarchy Fault} → IsBuilt bytes target a → IsBuilt bytes target b → a ≡ b
-one_build bytes target (no_surface f is) (no_surface g are) =
-    let same : Err f ≡ Err g = one_surface bytes is are in
+pub one_build : (target : ℕ) (bytes : List ℕ) {a b : Result Hierarchy Fault} {i j : Option ℕ} → IsBuilt target bytes a i → IsBuilt target bytes b j → (a ≡ b) × (i ≡ j)
+one_build target bytes (no_surface f i is) (no_surface g j are) =
+    let same : Err f ≡ Err g = (one_surface bytes is are).0 in
     let one : f ≡ g = cc in
-    ap (λ (x : Fault). Err x) one
-one_build bytes target (no_surface f is) (simplified n g are run) = absurd (mesh_or_fault bytes n f are is)
-one_build bytes target (simplified m h is run) (no_surface g are) = absurd (mesh_or_fault bytes m g is are)
-one_build bytes target (simplified m h is run) (simplified n g are other) =
-    ap (λ (x : Hierarchy). Ok x)
-    (one_hierarchy m target h g run (subst (λ (x : Mesh). IsSimplified x target g) (sym (same_mesh bytes m n is are)) other))
+    (ap (λ (x : Fault). Err x) one, (one_surface bytes is are).1)
+one_build target bytes (no_surface f i is) (simplified n g j are run) = absurd (mesh_or_fault bytes n f are is)
+one_build target bytes (simplified m h i is run) (no_surface g j are) = absurd (mesh_or_fault bytes m g is are)
+one_build target bytes (simplified m h i is run) (simplified n g j are other) = (
+  ap (λ (x : Hierarchy). Ok x)
+      (one_hierarchy m target h g run (subst (λ (x : Mesh). IsSimplified x target g) (sym (same_mesh bytes m n is are)) other)),
+  (one_surface bytes is are).1,
+)
 
 -- How building ends.
 
-pub build_refused : (target : ℕ) (e : InputFail) (left : Option (List ℕ)) (before now : ℕ) → Stops refuses_surface e left before now → Stops (refuses_build target) e left before now
-build_refused target e left before now stops = stops_more refuses_surface (refuses_build target) e left before now (λ bytes f is. no_surface f is) stops
+built_before : (target : ℕ) (bytes : List ℕ) (taken : ℕ) → ((r : Result Mesh Fault) (place : Option ℕ) → IsSurface bytes r place → IfSome place (λ n. taken < n))
+    → (r : Result Hierarchy Fault) (place : Option ℕ) → IsBuilt target bytes r place → IfSome place (λ n. taken < n)
+built_before target bytes taken before r place (no_surface f i is) = before (Err f) i is
+built_before target bytes taken before r place (simplified m h i is run) = before (Ok m) i is
 
-pub build_stands : (target : ℕ) (left : Option (List ℕ)) (m : Mesh) (h : Hierarchy) → IfSome left (λ bytes. IsSurface bytes (Ok m)) → IsSimplified m target h → IfSome left (λ bytes. IsBuilt bytes target (Ok h))
+build_unreached : (target : ℕ) (left now : Option (List ℕ)) → Unreached IsSurface left now → Unreached (IsBuilt target) left now
+build_unreached target left now fails = record { taken = fails.taken; took = fails.took; before = before left fails.before }
+  where
+    before : (left : Option (List ℕ)) → IfSome left (λ bytes. (r : Result Mesh Fault) (place : Option ℕ) → IsSurface bytes r place → IfSome place (λ n. length fails.taken < n))
+        → IfSome left (λ bytes. (r : Result Hierarchy Fault) (place : Option ℕ) → IsBuilt target bytes r place → IfSome place (λ n. length fails.taken < n))
+    before None is = tt
+    before (Some bytes) is = built_before target bytes (length fails.taken) is
+
+pub build_refused : (target : ℕ) (e : InputFail) (left now : Option (List ℕ)) (in_old in_new : ℕ) → Stops IsSurface e left now in_old in_new → Stops (IsBuilt target) e left now in_old in_new
+build_refused target (input.Faulty f) None now in_old in_new stops = (tt, stops.1)
+build_refused target (input.Faulty f) (Some bytes) now in_old in_new stops = (record { place = stops.0.place; is = no_surface f stops.0.place stops.0.is }, stops.1)
+build_refused target input.Read left now in_old in_new stops = (build_unreached target left now stops.0, stops.1)
+build_refused target input.OutOfMemory left now in_old in_new stops = tt
+
+pub build_stands : (target : ℕ) (left : Option (List ℕ)) (m : Mesh) (h : Hierarchy) → IfSome left (λ bytes. IsSurface bytes (Ok m) None) → IsSimplified m target h → IfSome left (λ bytes. IsBuilt target bytes (Ok h) None)
 build_stands target None m h is run = tt
-build_stands target (Some bytes) m h is run = simplified m h is run
+build_stands target (Some bytes) m h is run = simplified m h None is run
 
 -- The text of a valid hierarchy expands to its input mesh.
 
-stream_expands : (bytes : List ℕ) (h : Hierarchy) → IsSurface bytes (Ok (input_mesh_of h)) → IsValid h → length (stream h) ≤ 16777216
-    → (all : Ran) → IsOutcome asked.Canon bytes all → IsOutcome asked.Expand (stream h) all
-stream_expands bytes h is sound few all canon = record {
+stream_expands : (bytes : List ℕ) (h : Hierarchy) → IsSurface bytes (Ok (input_mesh_of h)) None → IsValid h → (all : Ran) → IsOutcome asked.Canon bytes all → IsOutcome asked.Expand (stream h) all
+stream_expands bytes h is sound all canon = record {
   read = Ok h;
-  is = let o : Opening = record { h = h; rest = [] } in whole_text o (valid o (begins h [] few sound.shape (sym (append-nil (stream h)))) sound) refl;
-  done = canon.done ∙ ap (done_with (λ m. whole (canonical_text m))) (one_surface bytes canon.is is);
+  place = None;
+  is = let o : Opening = record { h = h; rest = [] } in whole_text o (Some (length (stream h))) (valid o (Some (length (stream h))) (begins h [] sound.shape (sym (append-nil (stream h)))) sound) refl;
+  done = canon.done ∙ ap (λ (r : Result Mesh Fault). done_with (λ m. whole (canonical_text m)) r canon.place) (one_surface bytes canon.is is).0;
 }
 
-pub gives_back : (target : ℕ) (left old new : Option (List ℕ)) (h : Hierarchy) → IfSome left (λ bytes. IsBuilt bytes target (Ok h)) → IfSome left (λ bytes. IsSurface bytes (Ok (input_mesh_of h))) → IsValid h
+pub gives_back : (target : ℕ) (left old new : Option (List ℕ)) (h : Hierarchy) → IfSome left (λ bytes. IsBuilt target bytes (Ok h) None) → IfSome left (λ bytes. IsSurface bytes (Ok (input_mesh_of h)) None) → IsValid h
     → Gains old new (stream h) → IfSome left (λ bytes. GivesBack target bytes old new)
 gives_back target None old new h built is sound gained = tt
 gives_back target (Some bytes) old new h built is sound gained = record {
-  replied = record { text = stream h; outcome = record { read = Ok h; is = built; done = refl }; gained = gained };
+  replied = record { all = whole (stream h); outcome = record { read = Ok h; place = None; is = built; done = refl }; fault_is = refl; gained = gained };
   expands = stream_expands bytes h is sound;
 }

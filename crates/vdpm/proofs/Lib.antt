@@ -1,6 +1,7 @@
-pub mod LineCuts
-pub mod ServeLaws
 pub mod SurfaceLaws
 pub mod OpeningLaws
+pub mod ReadingLaws
 pub mod BuildLaws
 pub mod OutcomeLaws
+pub mod EndingLaws
+pub mod ViewLaws

@@ -1,7 +1,6 @@
--- An outcome is the only one of its bytes, and what follows from how `view` ended.
-use Rattle.std.proofs.Common.{◌≡◌, ◌⊎◌, inl, inr, ℕ, ◌-◌, ◌^◌, ◌<◌, List, [], Option, Some, None, Result, Ok, Err, IfSome, refl, sym, ◌∙◌, ap, subst, arith}
-use Rattle.std.specs.Prelude.{codes}
-use Rattle.pm_io.specs.Bytes.{Gains, GainsPart}
+-- An outcome is the only one of its bytes, and how a command ends.
+use Rattle.std.proofs.Common.{◌≡◌, ◌⊎◌, inl, inr, ℕ, ◌-◌, ◌^◌, ◌<◌, List, [], length, Option, Some, None, Result, Ok, Err, IfSome, OnOk, refl, sym, ◌∙◌, ap, subst, arith}
+use Rattle.pm_io.specs.Bytes.{Gains, GainsPart, AtEnd}
 use Rattle.pm_io.specs.Causes.{Rose}
 use Rattle.pm_io.proofs.Known.{gains_none}
 use Rattle.vdpm.specs.declared.fault.Fault.{Fault}
@@ -11,151 +10,97 @@ use Rattle.vdpm.specs.declared.fault.CommandFail.{CommandFail}
 use Rattle.vdpm.specs.declared.fault.CommandFail.TheVariants as fails
 use Rattle.vdpm.specs.declared.words.Asked.{Asked}
 use Rattle.vdpm.specs.declared.words.Asked.TheVariants as asked
-use Rattle.vdpm.specs.Input.{fail_of, Stops}
-use Rattle.vdpm.specs.Ran.{Ran, refused}
-use Rattle.vdpm.specs.Serving.{Served, ServeCounts}
-use Rattle.vdpm.specs.FaultLine.{fail_line, fault_line}
-use Rattle.vdpm.specs.Outcome.{IsOutcome, done_with, Follows, Replied, CutShort, Ends, Counts, Answers, Said, status_of}
+use Rattle.vdpm.specs.Input.{fail_of, Unreached, IsFaulty, Stops}
+use Rattle.vdpm.specs.Ran.{Ran, refused, whole}
+use Rattle.vdpm.specs.Outcome.{IsOutcome, done_with, Follows, OneOutcome, Replied, CutShort}
+use Rattle.vdpm.specs.Ending.{PutBy, ReadFails, ReadToEnd, Ends, Counts}
 use Rattle.vdpm.proofs.SurfaceLaws.{one_surface}
 use Rattle.vdpm.proofs.BuildLaws.{one_build}
-use Rattle.vdpm.proofs.OpeningLaws.{StreamLaws, one_valid, one_hierarchy}
+use Rattle.vdpm.proofs.OpeningLaws.{one_valid, one_hierarchy}
 
--- How a command ends where the input is refused or can't be read: no reply is put.
+-- Bytes have one outcome.
 
-no_reply : (asks : Asked) (bytes : List ℕ) (f : Fault) (got : Option (List ℕ)) → IsOutcome asks bytes (refused f) → Replied asks bytes (Some f) got got
-no_reply asks bytes f got outcome = record { text = []; outcome = outcome; gained = gains_none got }
+one_follows : {X : Type 0} {IsRead : Result X Fault → Option ℕ → Type 0} {does : X → Ran} {a b : Ran} → ((p q : Result X Fault) (i j : Option ℕ) → IsRead p i → IsRead q j → (p ≡ q) × (i ≡ j)) → Follows IsRead does a → Follows IsRead does b → a ≡ b
+one_follows {does = does} one is are =
+    let same = one is.read are.read is.place are.place is.is are.is in
+    is.done ∙ ap (λ (r : Result _ Fault). done_with does r is.place) same.0 ∙ ap (λ (i : Option ℕ). done_with does are.read i) same.1 ∙ sym are.done
 
-pub ends_stopped : (asks : Asked) (Refuses : List ℕ → Fault → Type 0) (e : InputFail) (left got : Option (List ℕ)) (before now : ℕ) → ((bytes : List ℕ) (f : Fault) → Refuses bytes f → IsOutcome asks bytes (refused f))
-    → Stops Refuses e left before now → Ends asks (Err (fail_of e)) left got got
-ends_stopped asks Refuses (input.Faulty f) None got before now law stops = tt
-ends_stopped asks Refuses (input.Faulty f) (Some bytes) got before now law stops = no_reply asks bytes f got (law bytes f stops.0)
-ends_stopped asks Refuses input.Read left got before now law stops = refl
-ends_stopped asks Refuses input.OutOfMemory left got before now law stops = refl
-
-pub counts_stopped : (Refuses : List ℕ → Fault → Type 0) (e : InputFail) (left : Option (List ℕ)) (before now out : ℕ) → Stops Refuses e left before now → Counts (Err (fail_of e)) before now out out
-counts_stopped Refuses (input.Faulty f) left before now out stops = (stops.1, refl)
-counts_stopped Refuses input.Read left before now out stops = stops
-counts_stopped Refuses input.OutOfMemory left before now out stops = tt
+pub one_outcome : OneOutcome
+one_outcome asked.Canon bytes a b is are = one_follows (λ p q i j one other. one_surface bytes one other) is are
+one_outcome (asked.Build target) bytes a b is are = one_follows (λ p q i j one other. one_build target bytes one other) is are
+one_outcome asked.Expand bytes a b is are = one_follows (λ p q i j one other. one_hierarchy bytes one other) is are
+one_outcome asked.Check bytes a b is are = one_follows (λ p q i j one other. one_hierarchy bytes one other) is are
+one_outcome (asked.View budget) bytes a b is are = one_follows (λ p q i j one other. one_valid bytes one other) is are
 
 -- What follows from what the bytes give.
 
-pub follows_refused : {X : Type 0} (IsRead : Result X Fault → Type 0) (does : X → Ran) (f : Fault) → IsRead (Err f) → Follows IsRead does (refused f)
-follows_refused IsRead does f is = record { read = Err f; is = is; done = refl }
+pub follows_refused : {X : Type 0} (IsRead : Result X Fault → Option ℕ → Type 0) (does : X → Ran) (f : Fault) (place : Option ℕ) → IsRead (Err f) place → Follows IsRead does (refused f place)
+follows_refused IsRead does f place is = record { read = Err f; place = place; is = is; done = refl }
 
-pub follows_done : {X : Type 0} (IsRead : List ℕ → Result X Fault → Type 0) (does : X → Ran) (left : Option (List ℕ)) (x : X) → IfSome left (λ bytes. IsRead bytes (Ok x)) → IfSome left (λ bytes. Follows (IsRead bytes) does (does x))
-follows_done IsRead does None x is = tt
-follows_done IsRead does (Some bytes) x is = record { read = Ok x; is = is; done = refl }
+pub follows_done : {X : Type 0} (IsRead : List ℕ → Result X Fault → Option ℕ → Type 0) (does : X → Ran) (left : Option (List ℕ)) (x : X) (place : Option ℕ) → IfSome left (λ bytes. IsRead bytes (Ok x) place) → IfSome left (λ bytes. Follows (IsRead bytes) does (does x))
+follows_done IsRead does None x place is = tt
+follows_done IsRead does (Some bytes) x place is = record { read = Ok x; place = place; is = is; done = refl }
 
 -- All of the outcome's text was put, or a part.
 
-pub ends_all : (asks : Asked) (left old new : Option (List ℕ)) (all : Ran) (fault : Option Fault) → IfSome left (λ bytes. IsOutcome asks bytes all) → (all.fault ≡ fault) × Gains old new all.text
-    → IfSome left (λ bytes. Replied asks bytes fault old new)
-ends_all asks None old new all fault outcome gained = tt
-ends_all asks (Some bytes) old new all fault outcome gained = record {
-  text = all.text;
-  outcome = subst (λ (o : Option Fault). IsOutcome asks bytes (record { text = all.text; fault = o })) gained.0 outcome;
-  gained = gained.1;
-}
+pub ends_all : (asks : Asked) (left old new : Option (List ℕ)) (all : Ran) (fault : Option Fault) → IfSome left (λ bytes. IsOutcome asks bytes all) → all.fault ≡ fault → Gains old new all.text → IfSome left (λ bytes. Replied asks bytes fault old new)
+ends_all asks None old new all fault outcome is gained = tt
+ends_all asks (Some bytes) old new all fault outcome is gained = record { all = all; outcome = outcome; fault_is = is; gained = gained }
 
 pub ends_part : (asks : Asked) (left old new : Option (List ℕ)) (all : Ran) → IfSome left (λ bytes. IsOutcome asks bytes all) → GainsPart old new all.text → IfSome left (λ bytes. CutShort asks bytes old new)
 ends_part asks None old new all outcome part = tt
 ends_part asks (Some bytes) old new all outcome part = record { all = all; outcome = outcome; part = part }
 
--- How a script's end is one of a command.
+-- The input is refused, and nothing is put.
+pub ends_refused : (asks : Asked) (left got : Option (List ℕ)) (f : Fault) → IfSome left (λ bytes. (place : Option ℕ) × IsOutcome asks bytes (refused f place)) → IfSome left (λ bytes. Replied asks bytes (Some f) got got)
+ends_refused asks None got f outcome = tt
+ends_refused asks (Some bytes) got f outcome = record { all = refused f outcome.0; outcome = outcome.1; fault_is = refl; gained = gains_none got }
 
-pub ends_served : (asks : Asked) (left old new : Option (List ℕ)) (all : Ran) (r : Result (Unit {0}) CommandFail) → IfSome left (λ bytes. IsOutcome asks bytes all) → Served r all old new → Ends asks r left old new
-ends_served asks left old new all (Ok done) outcome served = ends_all asks left old new all None outcome served
-ends_served asks left old new all (Err (fails.Faulty f)) outcome served = ends_all asks left old new all (Some f) outcome served
-ends_served asks left old new all (Err fails.Write) outcome served = ends_part asks left old new all outcome served
-ends_served asks left old new all (Err fails.Read) outcome served = absurd served
-ends_served asks left old new all (Err fails.OutOfMemory) outcome served = absurd served
+-- Where the end of the input decides what a command writes of what it reads, bytes that don't reach the place of what is
+-- read don't reach that of the outcome.
+follows_before : {X : Type 0} (IsRead : Result X Fault → Option ℕ → Type 0) (does : X → Ran) (taken : ℕ) (all : Ran) → ((x : X) → (does x).place ≡ None) → ((r : Result X Fault) (place : Option ℕ) → IsRead r place → IfSome place (λ n. taken < n))
+    → Follows IsRead does all → IfSome all.place (λ n. taken < n)
+follows_before {X = X} IsRead does taken all at_end before f = subst (λ (a : Ran). IfSome a.place (λ n. taken < n)) (sym f.done) (go f.read f.place f.is)
+  where
+    go : (r : Result X Fault) (place : Option ℕ) → IsRead r place → IfSome (done_with does r place).place (λ n. taken < n)
+    go (Ok x) place is = subst (λ (o : Option ℕ). IfSome o (λ n. taken < n)) (sym (at_end x)) tt
+    go (Err e) place is = before (Err e) place is
 
-pub counts_served : (r : Result (Unit {0}) CommandFail) (in_old in_new out_old out_new : ℕ) → in_new ≡ in_old → ServeCounts r out_old out_new → Counts r in_old in_new out_old out_new
-counts_served (Ok done) in_old in_new out_old out_new same counts = (same, counts)
-counts_served (Err (fails.Faulty f)) in_old in_new out_old out_new same counts = (same, counts)
-counts_served (Err fails.Write) in_old in_new out_old out_new same counts = counts
-counts_served (Err fails.Read) in_old in_new out_old out_new same counts = absurd counts
-counts_served (Err fails.OutOfMemory) in_old in_new out_old out_new same counts = absurd counts
+-- A command that writes nothing before it has read all of its input.
+module _ {X : Type 0} (asks : Asked) (IsRead : List ℕ → Result X Fault → Option ℕ → Type 0) (does : X → Ran) (at_end : (x : X) → (does x).place ≡ None) (silent : (taken : List ℕ) → PutBy asks taken [])
+    (given : (bytes : List ℕ) (all : Ran) → IsOutcome asks bytes all → Follows (IsRead bytes) does all) (gives : (bytes : List ℕ) (all : Ran) → Follows (IsRead bytes) does all → IsOutcome asks bytes all) where
+  ends_unreached : (left now got : Option (List ℕ)) → Unreached IsRead left now → ReadFails asks left now got got
+  ends_unreached left now got u = record { taken = u.taken; took = u.took; before = before left u.before; text = []; put = silent u.taken; gained = gains_none got }
+    where
+      before : (left : Option (List ℕ)) → IfSome left (λ bytes. (r : Result X Fault) (place : Option ℕ) → IsRead bytes r place → IfSome place (λ n. length u.taken < n))
+          → IfSome left (λ bytes. (all : Ran) → IsOutcome asks bytes all → IfSome all.place (λ n. length u.taken < n))
+      before None is = tt
+      before (Some bytes) is = λ all outcome. follows_before (IsRead bytes) does (length u.taken) all at_end is (given bytes all outcome)
 
--- Bytes have one outcome.
+  ends_faulty : (left got : Option (List ℕ)) (f : Fault) → IfSome left (λ bytes. IsFaulty IsRead bytes f) → IfSome left (λ bytes. Replied asks bytes (Some f) got got)
+  ends_faulty None got f is = tt
+  ends_faulty (Some bytes) got f is = ends_refused asks (Some bytes) got f (is.place, gives bytes (refused f is.place) (follows_refused (IsRead bytes) does f is.place is.is))
 
-one_follows : {X : Type 0} {IsRead : Result X Fault → Type 0} {does : X → Ran} {a b : Ran} → ((p q : Result X Fault) → IsRead p → IsRead q → p ≡ q) → Follows IsRead does a → Follows IsRead does b → a ≡ b
-one_follows {does = does} one is are = is.done ∙ ap (done_with does) (one is.read are.read is.is are.is) ∙ sym are.done
+  pub ends_stopped : (e : InputFail) (left now got : Option (List ℕ)) (in_old in_new : ℕ) → Stops IsRead e left now in_old in_new → Ends asks (Err (fail_of e)) left now got got
+  ends_stopped (input.Faulty f) left now got in_old in_new stops = ends_faulty left got f stops.0
+  ends_stopped input.Read left now got in_old in_new stops = ends_unreached left now got stops.0
+  ends_stopped input.OutOfMemory left now got in_old in_new stops = refl
 
-pub one_outcome : StreamLaws → (asks : Asked) (bytes : List ℕ) {a b : Ran} → IsOutcome asks bytes a → IsOutcome asks bytes b → a ≡ b
-one_outcome laws asked.Canon bytes is are = one_follows (λ p q one other. one_surface bytes one other) is are
-one_outcome laws (asked.Build target) bytes is are = one_follows (λ p q one other. one_build bytes target one other) is are
-one_outcome laws asked.Expand bytes is are = one_follows (λ p q one other. one_hierarchy laws bytes one other) is are
-one_outcome laws asked.Check bytes is are = one_follows (λ p q one other. one_hierarchy laws bytes one other) is are
-one_outcome laws (asked.View budget) bytes is are = one_follows (λ p q one other. one_valid laws bytes one other) is are
+pub counts_stopped : {X : Type 0} (IsRead : List ℕ → Result X Fault → Option ℕ → Type 0) (e : InputFail) (left now : Option (List ℕ)) (in_old in_new out : ℕ) → Stops IsRead e left now in_old in_new → Counts (Err (fail_of e)) in_old in_new out out
+counts_stopped IsRead (input.Faulty f) left now in_old in_new out stops = (stops.1, refl)
+counts_stopped IsRead input.Read left now in_old in_new out stops = stops.1
+counts_stopped IsRead input.OutOfMemory left now in_old in_new out stops = tt
 
--- The words ask for one thing.
-pub one_asked : (asks : Option Asked) (a b : Asked) → asks ≡ Some a → asks ≡ Some b → a ≡ b
-one_asked asks a b is are = cc
+pub to_end : (asks : Asked) (left now : Option (List ℕ)) → AtEnd now → ReadToEnd asks left now
+to_end asks None now end = tt
+to_end asks (Some bytes) now end = λ all outcome none. end
 
--- What a status says of how a command ended.
+pub ok_to_end : (asks : Asked) (left now : Option (List ℕ)) (r : Result (Unit {0}) CommandFail) → OnOk r (AtEnd now) → OnOk r (ReadToEnd asks left now)
+ok_to_end asks left now (Ok done) end = to_end asks left now end
+ok_to_end asks left now (Err e) end = tt
 
-pub said_fault : (asks : Asked) (fail : CommandFail) (left old new err_old err_new : Option (List ℕ)) (before now : ℕ) → status_of fail ≡ 1 → Ends asks (Err fail) left old new → Said err_old err_new before now (fail_line fail)
-    → (f : Fault) × IfSome left (λ bytes. Replied asks bytes (Some f) old new) × Said err_old err_new before now (fault_line f)
-unfolding fail_line
-said_fault asks (fails.Faulty f) left old new err_old err_new before now is ends said = (f, ends, said)
-said_fault asks fails.Read left old new err_old err_new before now is ends said = absurd (omega arith)
-said_fault asks fails.Write left old new err_old err_new before now is ends said = absurd (omega arith)
-said_fault asks fails.OutOfMemory left old new err_old err_new before now is ends said = absurd (omega arith)
-
-pub line_of_read : (fail : CommandFail) → status_of fail ≡ 3 → fail_line fail ≡ codes "vdpm: read fault\n"
-unfolding fail_line
-line_of_read (fails.Faulty f) is = absurd (omega arith)
-line_of_read fails.Read is = refl
-line_of_read fails.Write is = absurd (omega arith)
-line_of_read fails.OutOfMemory is = absurd (omega arith)
-
-pub line_of_write : (fail : CommandFail) → status_of fail ≡ 4 → fail_line fail ≡ codes "vdpm: write fault\n"
-unfolding fail_line
-line_of_write (fails.Faulty f) is = absurd (omega arith)
-line_of_write fails.Read is = absurd (omega arith)
-line_of_write fails.Write is = refl
-line_of_write fails.OutOfMemory is = absurd (omega arith)
-
-pub line_of_memory : (fail : CommandFail) → status_of fail ≡ 5 → fail_line fail ≡ codes "vdpm: out of memory\n"
-unfolding fail_line
-line_of_memory (fails.Faulty f) is = absurd (omega arith)
-line_of_memory fails.Read is = absurd (omega arith)
-line_of_memory fails.Write is = absurd (omega arith)
-line_of_memory fails.OutOfMemory is = refl
-
-pub said_line : (fail : CommandFail) (line : List ℕ) (err_old err_new : Option (List ℕ)) (before now : ℕ) → fail_line fail ≡ line → Said err_old err_new before now (fail_line fail) → Said err_old err_new before now line
-said_line fail line err_old err_new before now is said = subst (λ (l : List ℕ). Said err_old err_new before now l) is said
-
--- The outcome of the bytes has the fault that the command ended with, or none.
-same_fault : StreamLaws → (asks : Asked) (bytes text : List ℕ) (fault found : Option Fault) (left old new : Option (List ℕ)) → left ≡ Some bytes → IsOutcome asks bytes (record { text = text; fault = fault })
-    → IfSome left (λ b. Replied asks b found old new) → found ≡ fault
-same_fault law asks bytes text fault found left old new is outcome ends =
-    let replied : Replied asks bytes found old new = subst (λ (o : Option (List ℕ)). IfSome o (λ b. Replied asks b found old new)) is ends in
-    ap (λ (r : Ran). r.fault) (one_outcome law asks bytes replied.outcome outcome)
-
-pub completes_whole : StreamLaws → (asks : Asked) (bytes text : List ℕ) (fault : Option Fault) (left old new : Option (List ℕ)) → left ≡ Some bytes → IsOutcome asks bytes (record { text = text; fault = fault })
-    → IfSome left (λ b. Replied asks b None old new) → Answers fault 0
-completes_whole law asks bytes text fault left old new is outcome ends = subst (λ (o : Option Fault). Answers o 0) (same_fault law asks bytes text fault None left old new is outcome ends) refl
-
-pub completes : StreamLaws → (asks : Asked) (fail : CommandFail) (status in_old in_new out_old out_new : ℕ) (bytes text : List ℕ) (fault : Option Fault) (left old new : Option (List ℕ)) → left ≡ Some bytes
-    → IsOutcome asks bytes (record { text = text; fault = fault }) → Ends asks (Err fail) left old new → Counts (Err fail) in_old in_new out_old out_new → status ≡ status_of fail
-    → in_new ≡ in_old → out_new ≡ out_old → in_old < 2 ^ 64 - 1 → out_old < 2 ^ 64 - 1 → Answers fault status ⊎ (status ≡ 5)
-completes law asks (fails.Faulty f) status in_old in_new out_old out_new bytes text fault left old new is outcome ends counts given in_same out_same in_few out_few =
-    inl (subst (λ (o : Option Fault). Answers o status) (same_fault law asks bytes text fault (Some f) left old new is outcome ends) given)
-completes law asks fails.Read status in_old in_new out_old out_new bytes text fault left old new is outcome ends counts given in_same out_same in_few out_few = absurd (omega arith)
-completes law asks fails.Write status in_old in_new out_old out_new bytes text fault left old new is outcome ends counts given in_same out_same in_few out_few = absurd (omega arith)
-completes law asks fails.OutOfMemory status in_old in_new out_old out_new bytes text fault left old new is outcome ends counts given in_same out_same in_few out_few = inr given
-
-pub unreached_of : (fail : CommandFail) → status_of fail ≡ 3 → fail ≡ fails.Read
-unreached_of (fails.Faulty f) is = absurd (omega arith)
-unreached_of fails.Read is = refl
-unreached_of fails.Write is = absurd (omega arith)
-unreached_of fails.OutOfMemory is = absurd (omega arith)
-
-pub cut_of : (asks : Asked) (fail : CommandFail) (in_old in_new out_old out_new : ℕ) (left old new : Option (List ℕ)) → status_of fail ≡ 4 → Ends asks (Err fail) left old new → Counts (Err fail) in_old in_new out_old out_new
-    → Rose out_old out_new × IfSome left (λ bytes. CutShort asks bytes old new)
-cut_of asks (fails.Faulty f) in_old in_new out_old out_new left old new is ends counts = absurd (omega arith)
-cut_of asks fails.Read in_old in_new out_old out_new left old new is ends counts = absurd (omega arith)
-cut_of asks fails.Write in_old in_new out_old out_new left old new is ends counts = (counts, ends)
-cut_of asks fails.OutOfMemory in_old in_new out_old out_new left old new is ends counts = absurd (omega arith)
+-- Reading its input isn't writing.
+pub no_write : (e : InputFail) → fail_of e ≡ fails.Write → ⊥
+no_write (input.Faulty f) is = absurd (cc is)
+no_write input.Read is = absurd (cc is)
+no_write input.OutOfMemory is = absurd (cc is)

@@ -1,5 +1,5 @@
 -- Bytes give one surface, or are refused for one fault.
-use Rattle.std.proofs.Common.{◌≡◌, ℕ, ◌+◌, ◌<◌, List, Option, Some, None, IfSome, Result, Ok, Err, inl, inr, refl, sym, ◌∙◌, ap, subst, arith}
+use Rattle.std.proofs.Common.{◌≡◌, ℕ, ◌+◌, ◌<◌, List, length, Option, Some, None, IfSome, Result, Ok, Err, inl, inr, refl, sym, ◌∙◌, ap, subst, arith}
 use Rattle.std.proofs.lemmas.Bool.{cases_lt}
 use Rattle.pm_base.specs.Meshes.{Mesh, IsWellFormed}
 use Rattle.pm_base.specs.Sides.{Net, net_of, Stands, NoSideTwice}
@@ -7,15 +7,15 @@ use Rattle.pm_base.specs.Fans.{IsOrientedManifold}
 use Rattle.pm_base.proofs.NetLaws.{mesh_side}
 use Rattle.pm_twins.specs.Faults.{IsFirstRepeating, IsFirstBroken}
 use Rattle.obj_read.specs.declared.fault.ObjFault.{ObjFault}
-use Rattle.obj_read.specs.Fails.{IsRefusal}
+use Rattle.obj_read.specs.Fails.{IsRefusal, NotReached, FailsBefore}
 use Rattle.obj_read.specs.Meaning.{Refused, meaning_of}
 use Rattle.obj_read.proofs.FormedLaws.{meaning_formed}
 use Rattle.vdpm.specs.declared.fault.Fault.{Fault}
 use Rattle.vdpm.specs.declared.fault.Fault.TheVariants as faults
 use Rattle.vdpm.specs.declared.fault.InputFail.{InputFail}
 use Rattle.vdpm.specs.declared.fault.InputFail.TheVariants as input
-use Rattle.vdpm.specs.Input.{Stops}
-use Rattle.vdpm.specs.Surface.{IsSurfaceFault, side_twice, no_fan, IsSurface, bad_line, no_manifold, manifold, refuses_surface, IsSurfaceFail}
+use Rattle.vdpm.specs.Input.{Unreached, IsFaulty, Stops}
+use Rattle.vdpm.specs.Surface.{IsSurfaceFault, side_twice, no_fan, IsSurface, bad_line, no_manifold, manifold, IsSurfaceFail}
 
 -- In a well-formed mesh no face repeats a side where no directed side stands twice.
 pub repeats_none : (m : Mesh) → IsWellFormed m → NoSideTwice (net_of m.faces) → (f : ℕ) → IsFirstRepeating (net_of m.faces) f → ⊥
@@ -55,22 +55,24 @@ fault_or_manifold m formed (no_fan v once is) whole = is.broken.no_fan (whole.fa
 one_mesh : (bytes : List ℕ) (m n : Mesh) → meaning_of bytes ≡ Ok m → meaning_of bytes ≡ Ok n → n ≡ m
 one_mesh bytes m n is are = cc
 
-pub one_surface : (bytes : List ℕ) {a b : Result Mesh Fault} → IsSurface bytes a → IsSurface bytes b → a ≡ b
+pub one_surface : (bytes : List ℕ) {a b : Result Mesh Fault} {i j : Option ℕ} → IsSurface bytes a i → IsSurface bytes b j → (a ≡ b) × (i ≡ j)
 one_surface bytes (bad_line r is) (bad_line q are) =
     let same : r ≡ q = cc in
-    ap (λ (x : Refused). Err (faults.Obj x.fault x.line)) same
+    (ap (λ (x : Refused). Err (faults.Obj x.fault x.line)) same, ap (λ (x : Refused). x.place) same)
 one_surface bytes (bad_line r is) (no_manifold m f are fault) = absurd (cc)
 one_surface bytes (bad_line r is) (manifold m are whole) = absurd (cc)
 one_surface bytes (no_manifold m f is fault) (bad_line r are) = absurd (cc)
-one_surface bytes (no_manifold m f is fault) (no_manifold n g are other) =
-    ap (λ (x : Fault). Err x)
-    (one_surface_fault m (meaning_formed bytes m is) fault (subst (λ (x : Mesh). IsSurfaceFault (net_of x.faces) g) (one_mesh bytes m n is are) other))
+one_surface bytes (no_manifold m f is fault) (no_manifold n g are other) = (
+  ap (λ (x : Fault). Err x)
+      (one_surface_fault m (meaning_formed bytes m is) fault (subst (λ (x : Mesh). IsSurfaceFault (net_of x.faces) g) (one_mesh bytes m n is are) other)),
+  refl,
+)
 one_surface bytes (no_manifold m f is fault) (manifold n are whole) =
     absurd (fault_or_manifold m (meaning_formed bytes m is) fault (subst (λ (x : Mesh). IsOrientedManifold (net_of x.faces)) (one_mesh bytes m n is are) whole))
 one_surface bytes (manifold m is whole) (bad_line r are) = absurd (cc)
 one_surface bytes (manifold m is whole) (no_manifold n f are fault) =
     absurd (fault_or_manifold m (meaning_formed bytes m is) (subst (λ (x : Mesh). IsSurfaceFault (net_of x.faces) f) (one_mesh bytes m n is are) fault) whole)
-one_surface bytes (manifold m is whole) (manifold n are other) = ap (λ (x : Mesh). Ok x) (sym (one_mesh bytes m n is are))
+one_surface bytes (manifold m is whole) (manifold n are other) = (ap (λ (x : Mesh). Ok x) (sym (one_mesh bytes m n is are)), refl)
 
 -- Counted from 1, faces and vertices stay within 32 bits.
 
@@ -85,21 +87,38 @@ vertex_small m formed v is =
 
 -- What follows where the source tells its bytes.
 
-refuses_line : (bytes : List ℕ) (fault : ObjFault) (line : ℕ) (r : Result Mesh Refused) → meaning_of bytes ≡ r → IsRefusal fault line r → refuses_surface bytes (faults.Obj fault line)
+refuses_line : (bytes : List ℕ) (fault : ObjFault) (line : ℕ) (r : Result Mesh Refused) → meaning_of bytes ≡ r → IsRefusal fault line r → IsFaulty IsSurface bytes (faults.Obj fault line)
 refuses_line bytes fault line (Ok m) is refusal = absurd refusal
-refuses_line bytes fault line (Err r) is refusal = subst (λ (f : Fault). IsSurface bytes (Err f)) (ap (λ (e : ObjFault). faults.Obj e r.line) refusal.0 ∙ ap (λ (n : ℕ). faults.Obj fault n) refusal.1) (bad_line r is)
+refuses_line bytes fault line (Err r) is refusal = record {
+  place = r.place;
+  is = subst (λ (f : Fault). IsSurface bytes (Err f) r.place) (ap (λ (e : ObjFault). faults.Obj e r.line) refusal.0 ∙ ap (λ (n : ℕ). faults.Obj fault n) refusal.1) (bad_line r is);
+}
 
-pub line_refuses : (left : Option (List ℕ)) (fault : ObjFault) (line : ℕ) → IfSome left (λ bytes. IsRefusal fault line (meaning_of bytes)) → IfSome left (λ bytes. refuses_surface bytes (faults.Obj fault line))
+pub line_refuses : (left : Option (List ℕ)) (fault : ObjFault) (line : ℕ) → IfSome left (λ bytes. IsRefusal fault line (meaning_of bytes)) → IfSome left (λ bytes. IsFaulty IsSurface bytes (faults.Obj fault line))
 line_refuses None fault line is = tt
 line_refuses (Some bytes) fault line is = refuses_line bytes fault line (meaning_of bytes) refl is
 
-pub mesh_refuses : (left : Option (List ℕ)) (m : Mesh) (e : InputFail) (before now : ℕ) → IfSome left (λ bytes. meaning_of bytes ≡ Ok m) → now ≡ before → IsSurfaceFail (net_of m.faces) e
-    → Stops refuses_surface e left before now
-mesh_refuses None m (input.Faulty f) before now is same fault = (tt, same)
-mesh_refuses (Some bytes) m (input.Faulty f) before now is same fault = (no_manifold m f is fault, same)
-mesh_refuses left m input.Read before now is same fault = absurd fault
-mesh_refuses left m input.OutOfMemory before now is same fault = tt
+-- Bytes that don't reach the first fault's place decide nothing.
+surface_before : (bytes : List ℕ) (taken : ℕ) → NotReached taken (meaning_of bytes) → (r : Result Mesh Fault) (place : Option ℕ) → IsSurface bytes r place → IfSome place (λ n. taken < n)
+surface_before bytes taken before found place (bad_line r is) = subst (λ (m : Result Mesh Refused). NotReached taken m) is before
+surface_before bytes taken before found place (no_manifold m f is fault) = tt
+surface_before bytes taken before found place (manifold m is whole) = tt
 
-pub mesh_stands : (left : Option (List ℕ)) (m : Mesh) → IfSome left (λ bytes. meaning_of bytes ≡ Ok m) → IsOrientedManifold (net_of m.faces) → IfSome left (λ bytes. IsSurface bytes (Ok m))
+pub surface_unreached : (left now : Option (List ℕ)) → FailsBefore left now → Unreached IsSurface left now
+surface_unreached left now fails = record { taken = fails.taken; took = fails.took; before = before left fails.before }
+  where
+    before : (left : Option (List ℕ)) → IfSome left (λ bytes. NotReached (length fails.taken) (meaning_of bytes))
+        → IfSome left (λ bytes. (r : Result Mesh Fault) (place : Option ℕ) → IsSurface bytes r place → IfSome place (λ n. length fails.taken < n))
+    before None is = tt
+    before (Some bytes) is = surface_before bytes (length fails.taken) is
+
+pub mesh_refuses : (left now : Option (List ℕ)) (m : Mesh) (e : InputFail) (in_old in_new : ℕ) → IfSome left (λ bytes. meaning_of bytes ≡ Ok m) → in_new ≡ in_old → IsSurfaceFail (net_of m.faces) e
+    → Stops IsSurface e left now in_old in_new
+mesh_refuses None now m (input.Faulty f) in_old in_new is same fault = (tt, same)
+mesh_refuses (Some bytes) now m (input.Faulty f) in_old in_new is same fault = (record { place = None; is = no_manifold m f is fault }, same)
+mesh_refuses left now m input.Read in_old in_new is same fault = absurd fault
+mesh_refuses left now m input.OutOfMemory in_old in_new is same fault = tt
+
+pub mesh_stands : (left : Option (List ℕ)) (m : Mesh) → IfSome left (λ bytes. meaning_of bytes ≡ Ok m) → IsOrientedManifold (net_of m.faces) → IfSome left (λ bytes. IsSurface bytes (Ok m) None)
 mesh_stands None m is whole = tt
 mesh_stands (Some bytes) m is whole = manifold m is whole

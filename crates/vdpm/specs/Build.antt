@@ -1,5 +1,5 @@
 -- What `build` makes of an OBJ text: the hierarchy of the run of its mesh to a number of faces.
-use Rattle.std.specs.Prelude.{◌≡◌, ℕ, List, Result, Ok, Err}
+use Rattle.std.specs.Prelude.{◌≡◌, ℕ, List, Option, Result, Ok, Err}
 use Rattle.pm_base.specs.Meshes.{Mesh}
 use Rattle.pm_base.specs.declared.log.Collapse.{Collapse}
 use Rattle.pm_forest.specs.Forest.{Hierarchy}
@@ -15,10 +15,7 @@ pub record IsSimplified (m : Mesh) (target : ℕ) (h : Hierarchy) : Type 0 where
   pub run : IsRunTo m target log
   pub made : h ≡ hierarchy_of_run m log
 
--- The text gives no mesh, or its mesh is simplified.
-pub data IsBuilt (bytes : List ℕ) (target : ℕ) : Result Hierarchy Fault → Type 0 where
-  no_surface : (f : Fault) → IsSurface bytes (Err f) → IsBuilt bytes target (Err f)
-  simplified : (m : Mesh) (h : Hierarchy) → IsSurface bytes (Ok m) → IsSimplified m target h → IsBuilt bytes target (Ok h)
-
-abbrev pub refuses_build : ℕ → List ℕ → Fault → Type 0
-refuses_build target bytes f = IsBuilt bytes target (Err f)
+-- The text gives no mesh, or its mesh is simplified; and how many bytes decide that, where it isn't the end of the text.
+pub data IsBuilt (target : ℕ) (bytes : List ℕ) : Result Hierarchy Fault → Option ℕ → Type 0 where
+  no_surface : (f : Fault) (place : Option ℕ) → IsSurface bytes (Err f) place → IsBuilt target bytes (Err f) place
+  simplified : (m : Mesh) (h : Hierarchy) (place : Option ℕ) → IsSurface bytes (Ok m) place → IsSimplified m target h → IsBuilt target bytes (Ok h) place

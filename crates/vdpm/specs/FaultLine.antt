@@ -45,7 +45,6 @@ stream_line format.OutOfMemory = codes "vdpm: out of memory\n"
 
 -- The line of a fault on the error sink.
 unfoldable pub fault_line : Fault → List ℕ
-fault_line faults.TooLong = codes "vdpm: input too long\n"
 fault_line (faults.Stream e) = stream_line e
 fault_line (faults.BadNeighbour record_number) = line_at 28 (codes "record") record_number
 fault_line faults.Trailing = line_of 29
@@ -54,6 +53,7 @@ fault_line (faults.EdgeTwice face) = line_at 11 (codes "face") face
 fault_line (faults.NotFan vertex) = line_at 12 (codes "vertex") vertex
 fault_line (faults.BadLine n) = line_at 30 (codes "line") n
 fault_line (faults.NoRecord n) = line_at 31 (codes "line") n
+fault_line faults.ScriptTooLong = line_of 32
 
 unfoldable pub fail_line : CommandFail → List ℕ
 fail_line (fails.Faulty f) = fault_line f

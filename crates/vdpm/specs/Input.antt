@@ -1,8 +1,8 @@
 -- How reading the input stops early.
-use Rattle.std.specs.Prelude.{◌≡◌, ℕ, ◌<◌, List, length, Option, IfSome}
+use Rattle.std.specs.Prelude.{◌≡◌, ℕ, ◌<◌, List, length, Option, IfSome, Result, Err}
+use Rattle.pm_io.specs.Bytes.{Loses}
 use Rattle.pm_io.specs.Causes.{Rose}
 use Rattle.vdpm.specs.declared.fault.Fault.{Fault}
-use Rattle.vdpm.specs.declared.fault.Fault.TheVariants as faults
 use Rattle.vdpm.specs.declared.fault.InputFail.{InputFail}
 use Rattle.vdpm.specs.declared.fault.InputFail.TheVariants as input
 use Rattle.vdpm.specs.declared.fault.CommandFail.{CommandFail}
@@ -14,12 +14,20 @@ fail_of (input.Faulty f) = fails.Faulty f
 fail_of input.Read = fails.Read
 fail_of input.OutOfMemory = fails.OutOfMemory
 
--- The bytes that were left are refused for the fault; or a read failed. `Refuses` says which faults bytes have.
-abbrev pub Stops : (List ℕ → Fault → Type 0) → InputFail → Option (List ℕ) → ℕ → ℕ → Type 0
-Stops Refuses (input.Faulty f) left before now = IfSome left (λ bytes. Refuses bytes f) × (now ≡ before)
-Stops Refuses input.Read left before now = Rose before now
-Stops Refuses input.OutOfMemory left before now = Unit {0}
+-- The bytes that were taken don't reach the place that decides what the input gives. `IsRead` says what bytes give, and
+-- how many of them decide it.
+pub record Unreached {X : Type 0} (IsRead : List ℕ → Result X Fault → Option ℕ → Type 0) (left now : Option (List ℕ)) : Type 0 where
+  pub taken : List ℕ
+  pub took : Loses left now taken
+  pub before : IfSome left (λ bytes. (r : Result X Fault) (place : Option ℕ) → IsRead bytes r place → IfSome place (λ n. length taken < n))
 
--- The input is longer than the limit.
-abbrev pub IsTooLong : List ℕ → Fault → Type 0
-IsTooLong bytes f = (f ≡ faults.TooLong) × (16777216 < length bytes)
+-- The bytes have this fault.
+pub record IsFaulty {X : Type 0} (IsRead : List ℕ → Result X Fault → Option ℕ → Type 0) (bytes : List ℕ) (f : Fault) : Type 0 where
+  pub place : Option ℕ
+  pub is : IsRead bytes (Err f) place
+
+-- The bytes that were left are refused for the fault; or a read failed before the place that decides what they give.
+abbrev pub Stops : {X : Type 0} → (List ℕ → Result X Fault → Option ℕ → Type 0) → InputFail → Option (List ℕ) → Option (List ℕ) → ℕ → ℕ → Type 0
+Stops IsRead (input.Faulty f) left now in_old in_new = IfSome left (λ bytes. IsFaulty IsRead bytes f) × (in_new ≡ in_old)
+Stops IsRead input.Read left now in_old in_new = Unreached IsRead left now × Rose in_old in_new
+Stops IsRead input.OutOfMemory left now in_old in_new = Unit {0}

@@ -1,9 +1,9 @@
 pub mod Words
 pub mod Ran
-pub mod Serving
 pub mod Input
 pub mod Surface
 pub mod Build
 pub mod Opening
 pub mod FaultLine
 pub mod Outcome
+pub mod Ending

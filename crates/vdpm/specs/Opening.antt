@@ -1,5 +1,5 @@
 -- What bytes give that should begin with a stream text.
-use Rattle.std.specs.Prelude.{◌≡◌, ◌≢◌, ℕ, ◌<◌, ◌≤◌, List, [], ◌++◌, length, Some, Result, Ok, Err}
+use Rattle.std.specs.Prelude.{◌≡◌, ◌≢◌, ℕ, ◌+◌, List, [], ◌++◌, length, Option, Some, None, Result, Ok, Err}
 use Rattle.pm_base.specs.Sides.{net_of, NoSideTwice}
 use Rattle.pm_twins.specs.Faults.{IsFirstRepeating}
 use Rattle.pm_forest.specs.Forest.{Hierarchy}
@@ -13,6 +13,9 @@ use Rattle.pm_format.specs.declared.fault.FormatError.{FormatError}
 use Rattle.pm_format.specs.declared.fault.FormatError.TheVariants as format
 use Rattle.pm_format.specs.Stream.{stream}
 use Rattle.pm_format.specs.Faults.{stream_fault}
+use Rattle.pm_format.specs.Places.{IsDecidedAt}
+use Rattle.pm_format.specs.declared.read.StreamFail.{StreamFail}
+use Rattle.pm_format.specs.declared.read.StreamFail.TheVariants as streams
 use Rattle.vdpm.specs.declared.fault.Fault.{Fault}
 use Rattle.vdpm.specs.declared.fault.Fault.TheVariants as faults
 use Rattle.vdpm.specs.declared.fault.InputFail.{InputFail}
@@ -23,19 +26,25 @@ pub record Opening : Type 0 where
   pub h : Hierarchy
   pub rest : List ℕ
 
--- There are too many bytes, or a unit of the text has a fault, or they begin with the stream text of a hierarchy.
-pub data IsOpening (bytes : List ℕ) : Result Opening Fault → Type 0 where
-  too_many : 16777216 < length bytes → IsOpening bytes (Err faults.TooLong)
-  bad_unit : (e : FormatError) → length bytes ≤ 16777216 → stream_fault bytes ≡ Some e → IsOpening bytes (Err (faults.Stream e))
-  begins : (h : Hierarchy) (rest : List ℕ) → length bytes ≤ 16777216 → HasShape h → bytes ≡ stream h ++ rest → IsOpening bytes (Ok (record { h = h; rest = rest }))
-
-abbrev pub refuses_opening : List ℕ → Fault → Type 0
-refuses_opening bytes f = IsOpening bytes (Err f)
+-- A unit of the text has a fault, which the unit's last byte decides; or the text is cut off; or the bytes begin with the
+-- stream text of a hierarchy, which its last byte decides.
+pub data IsOpening (bytes : List ℕ) : Result Opening Fault → Option ℕ → Type 0 where
+  bad_unit : (e : FormatError) (n : ℕ) → stream_fault bytes ≡ Some e → IsDecidedAt bytes n → IsOpening bytes (Err (faults.Stream e)) (Some n)
+  cut_off : stream_fault bytes ≡ Some (format.Truncated (length bytes)) → IsOpening bytes (Err (faults.Stream (format.Truncated (length bytes)))) None
+  begins : (h : Hierarchy) (rest : List ℕ) → HasShape h → bytes ≡ stream h ++ rest → IsOpening bytes (Ok (record { h = h; rest = rest })) (Some (length (stream h)))
 
 -- Want of memory is no fault of the bytes.
-abbrev pub stream_fail : FormatError → InputFail
-stream_fail format.OutOfMemory = input.OutOfMemory
-stream_fail e = input.Faulty (faults.Stream e)
+abbrev pub stream_fail : StreamFail → InputFail
+stream_fail streams.Read = input.Read
+stream_fail (streams.Fault format.OutOfMemory) = input.OutOfMemory
+stream_fail (streams.Fault format.BadMagic) = input.Faulty (faults.Stream format.BadMagic)
+stream_fail (streams.Fault (format.BadVersion version)) = input.Faulty (faults.Stream (format.BadVersion version))
+stream_fail (streams.Fault (format.Truncated bytes)) = input.Faulty (faults.Stream (format.Truncated bytes))
+stream_fail (streams.Fault format.BadCount) = input.Faulty (faults.Stream format.BadCount)
+stream_fail (streams.Fault (format.BadRoot root)) = input.Faulty (faults.Stream (format.BadRoot root))
+stream_fail (streams.Fault (format.BadFace face)) = input.Faulty (faults.Stream (format.BadFace face))
+stream_fail (streams.Fault (format.BadRecord record_number)) = input.Faulty (faults.Stream (format.BadRecord record_number))
+stream_fail (streams.Fault (format.BadInput field)) = input.Faulty (faults.Stream (format.BadInput field))
 
 -- What is wrong with the hierarchy of a stream: the least face of the leaf mesh that has a directed side of an earlier
 -- face; or else the last record that isn't as told. Faces and records are counted from 0.
@@ -43,23 +52,19 @@ pub data IsHierarchyFault (h : Hierarchy) : Fault → Type 0 where
   leaf_side_twice : (f : ℕ) → IsFirstRepeating (net_of (leaf_mesh_of h).faces) f → IsHierarchyFault h (faults.EdgeTwice f)
   wrong_neighbour : (k : ℕ) → NoSideTwice (leaf_net h) → IsLastToFail h k → IsHierarchyFault h (faults.BadNeighbour k)
 
--- The bytes begin with no stream text, or its hierarchy has a fault, or it is valid.
-pub data IsValidOpening (bytes : List ℕ) : Result Opening Fault → Type 0 where
-  no_stream : (f : Fault) → IsOpening bytes (Err f) → IsValidOpening bytes (Err f)
-  invalid : (o : Opening) (f : Fault) → IsOpening bytes (Ok o) → IsHierarchyFault o.h f → IsValidOpening bytes (Err f)
-  valid : (o : Opening) → IsOpening bytes (Ok o) → IsValid o.h → IsValidOpening bytes (Ok o)
+-- The bytes begin with no stream text, or its hierarchy has a fault, or it is valid. The hierarchy is judged once its last
+-- byte is there.
+pub data IsValidOpening (bytes : List ℕ) : Result Opening Fault → Option ℕ → Type 0 where
+  no_stream : (f : Fault) (place : Option ℕ) → IsOpening bytes (Err f) place → IsValidOpening bytes (Err f) place
+  invalid : (o : Opening) (f : Fault) (place : Option ℕ) → IsOpening bytes (Ok o) place → IsHierarchyFault o.h f → IsValidOpening bytes (Err f) place
+  valid : (o : Opening) (place : Option ℕ) → IsOpening bytes (Ok o) place → IsValid o.h → IsValidOpening bytes (Ok o) place
 
-abbrev pub refuses_valid : List ℕ → Fault → Type 0
-refuses_valid bytes f = IsValidOpening bytes (Err f)
-
--- The bytes don't begin with the stream text of a valid hierarchy, or a byte follows it, or they are its text.
-pub data IsHierarchyText (bytes : List ℕ) : Result Hierarchy Fault → Type 0 where
-  no_hierarchy : (f : Fault) → IsValidOpening bytes (Err f) → IsHierarchyText bytes (Err f)
-  bytes_after : (o : Opening) → IsValidOpening bytes (Ok o) → o.rest ≢ [] → IsHierarchyText bytes (Err faults.Trailing)
-  whole_text : (o : Opening) → IsValidOpening bytes (Ok o) → o.rest ≡ [] → IsHierarchyText bytes (Ok o.h)
-
-abbrev pub refuses_hierarchy : List ℕ → Fault → Type 0
-refuses_hierarchy bytes f = IsHierarchyText bytes (Err f)
+-- The bytes don't begin with the stream text of a valid hierarchy, or a byte follows it, or they are its text. That
+-- nothing follows is decided by the end of the bytes alone.
+pub data IsHierarchyText (bytes : List ℕ) : Result Hierarchy Fault → Option ℕ → Type 0 where
+  no_hierarchy : (f : Fault) (place : Option ℕ) → IsValidOpening bytes (Err f) place → IsHierarchyText bytes (Err f) place
+  bytes_after : (o : Opening) (place : Option ℕ) → IsValidOpening bytes (Ok o) place → o.rest ≢ [] → IsHierarchyText bytes (Err faults.Trailing) (Some (length (stream o.h) + 1))
+  whole_text : (o : Opening) (place : Option ℕ) → IsValidOpening bytes (Ok o) place → o.rest ≡ [] → IsHierarchyText bytes (Ok o.h) None
 
 -- Want of memory is no fault of a hierarchy.
 abbrev pub load_fail : LoadFail → InputFail

@@ -1,28 +1,45 @@
 -- What a command writes, and how a script's end is one of a command.
-use Rattle.std.specs.Prelude.{List, [], ℕ, Option, Some, None}
+use Rattle.std.specs.Prelude.{List, [], ℕ, ◌+◌, Option, Some, None}
+use Rattle.std.specs.Option.{option_map}
 use Rattle.pm_session.specs.declared.command.ScriptFault.{ScriptFault}
 use Rattle.pm_session.specs.declared.command.ScriptFault.TheVariants as lines
-use Rattle.pm_session.specs.Script as script
+use Rattle.pm_session.specs.declared.fail.ServeFail.{ServeFail}
+use Rattle.pm_session.specs.declared.fail.ServeFail.TheVariants as serves
+use Rattle.pm_session.specs.Serving.{Played}
 use Rattle.vdpm.specs.declared.fault.Fault.{Fault}
 use Rattle.vdpm.specs.declared.fault.Fault.TheVariants as faults
+use Rattle.vdpm.specs.declared.fault.CommandFail.{CommandFail}
+use Rattle.vdpm.specs.declared.fault.CommandFail.TheVariants as fails
 
--- The text that is written, and the fault that ends it, if one does.
+-- The text that is written; the fault that ends it, if one does; and its place: how many bytes of the input decide all
+-- that, where it isn't the end of the input that does.
 pub record Ran : Type 0 where
   pub text : List ℕ
   pub fault : Option Fault
+  pub place : Option ℕ
 
-abbrev pub refused : Fault → Ran
-refused f = record { text = []; fault = Some f }
+-- Nothing is written but the fault.
+abbrev pub refused : Fault → Option ℕ → Ran
+refused f place = record { text = []; fault = Some f; place = place }
 
--- The fault of a script line is one of the input.
+-- All of the text is written, and the end of the input decides that.
+abbrev pub whole : List ℕ → Ran
+whole text = record { text = text; fault = None; place = None }
+
+-- The fault of a script is one of the input.
 abbrev pub line_fault : ScriptFault → Fault
 line_fault (lines.BadLine n) = faults.BadLine n
 line_fault (lines.NoRecord n) = faults.NoRecord n
+line_fault lines.TooLong = faults.ScriptTooLong
 
-abbrev pub fault_in : Option ScriptFault → Option Fault
-fault_in None = None
-fault_in (Some f) = Some (line_fault f)
+-- What a script does that begins after so many bytes.
+abbrev pub of_script : ℕ → Played → Ran
+of_script before p = record { text = p.text; fault = option_map line_fault p.fault; place = option_map (λ n. before + n) p.place }
 
--- The replies of a script, and the fault that ends it.
-abbrev pub of_script : script.Ran → Ran
-of_script done = record { text = done.text; fault = fault_in done.fault }
+-- A command ends as the serving of its script does.
+abbrev pub serve_fail : ServeFail → CommandFail
+serve_fail (serves.BadLine n) = fails.Faulty (faults.BadLine n)
+serve_fail (serves.NoRecord n) = fails.Faulty (faults.NoRecord n)
+serve_fail serves.ScriptTooLong = fails.Faulty faults.ScriptTooLong
+serve_fail serves.Read = fails.Read
+serve_fail serves.Write = fails.Write

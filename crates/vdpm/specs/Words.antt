@@ -28,11 +28,3 @@ unfoldable pub asked_of : List (List ℕ) → Option Asked
 asked_of (word ∷ []) = alone word
 asked_of (word ∷ number ∷ []) = with_number word (unsigned_of 4294967295 number)
 asked_of _ = None
-
--- Whether a command reads an OBJ text. The others read a stream text.
-abbrev pub reads_obj : Asked → Bool
-reads_obj asked.Canon = true
-reads_obj (asked.Build target) = true
-reads_obj asked.Expand = false
-reads_obj asked.Check = false
-reads_obj (asked.View budget) = false

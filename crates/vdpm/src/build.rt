@@ -1,15 +1,15 @@
 // `build`: an OBJ text's mesh is simplified, and the hierarchy of the run is written as a stream.
-ghost use Rattle.std.specs.Prelude.{◌≡◌, Ok, IfOk, IfErr, IfSome, OnOk};
+ghost use Rattle.std.specs.Prelude.{◌≡◌, None, Ok, IfOk, IfErr, IfSome, OnOk};
 ghost use Rattle.pm_base.specs.Meshes.{mesh_of};
 ghost use Rattle.pm_io.specs.Bytes.{AtEnd};
-ghost use Rattle.obj_read.specs.Fails.{FailsBefore};
 ghost use Rattle.pm_forest.specs.Meshes.{input_mesh_of};
 ghost use Rattle.pm_beyond.specs.Valid.{IsValid};
 ghost use Rattle.pm_runs.specs.Runs.{IsStart};
 ghost use Rattle.vdpm.specs.Input.{Stops};
 ghost use Rattle.vdpm.specs.Surface.{IsSurface};
-ghost use Rattle.vdpm.specs.Build.{IsSimplified, IsBuilt, refuses_build};
-ghost use Rattle.vdpm.specs.Outcome.{Ends, Counts, GivesBack};
+ghost use Rattle.vdpm.specs.Build.{IsSimplified, IsBuilt};
+ghost use Rattle.vdpm.specs.Outcome.{GivesBack};
+ghost use Rattle.vdpm.specs.Ending.{Ends, Counts};
 
 use crate::fault::{CommandFail, InputFail, fail_of};
 use crate::surface::read_surface;
@@ -45,13 +45,12 @@ fn build_hierarchy<S: Source>(
     target: u32,
     input: &mut S,
 ) -> Result<Hierarchy, InputFail>
-    ensures built { IfOk result (λ h. IfSome (S.left input.old) (λ bytes. IsBuilt bytes target (Ok h))) }
-    ensures mesh { IfOk result (λ h. IfSome (S.left input.old) (λ bytes. IsSurface bytes (Ok (input_mesh_of h)))) }
+    ensures built { IfOk result (λ h. IfSome (S.left input.old) (λ bytes. IsBuilt target bytes (Ok h) None)) }
+    ensures mesh { IfOk result (λ h. IfSome (S.left input.old) (λ bytes. IsSurface bytes (Ok (input_mesh_of h)) None)) }
     ensures valid { IfOk result IsValid }
     ensures end { OnOk result (AtEnd (S.left input.new)) }
     ensures count { OnOk result (S.faults input.new ≡ S.faults input.old) }
-    ensures err { IfErr result (λ e. Stops (refuses_build target) e (S.left input.old) (S.faults input.old) (S.faults input.new)) }
-    ensures unreached { IfErr result (λ e. e ≡ InputFail.Read → FailsBefore (S.left input.old) (S.left input.new)) }
+    ensures err { IfErr result (λ e. Stops (IsBuilt target) e (S.left input.old) (S.left input.new) (S.faults input.old) (S.faults input.new)) }
 {
     let mesh = match read_surface(alloc, input) {
         Ok(mesh) => mesh,
@@ -71,11 +70,10 @@ pub fn build<S: Source, K: Sink>(
     input: &mut S,
     out: &mut K,
 ) -> Result<(), CommandFail>
-    ensures ends { Ends (Asked.Build target) result (S.left input.old) (K.got out.old) (K.got out.new) }
+    ensures ends { Ends (Asked.Build target) result (S.left input.old) (S.left input.new) (K.got out.old) (K.got out.new) }
     ensures gives_back { OnOk result (IfSome (S.left input.old) (λ bytes. GivesBack target bytes (K.got out.old) (K.got out.new))) }
     ensures counts { Counts result (S.faults input.old) (S.faults input.new) (K.faults out.old) (K.faults out.new) }
     ensures read_whole { OnOk result (AtEnd (S.left input.new)) }
-    ensures unreached { IfErr result (λ e. e ≡ CommandFail.Read → FailsBefore (S.left input.old) (S.left input.new)) }
 {
     let h = match build_hierarchy(alloc, target, input) {
         Ok(h) => h,

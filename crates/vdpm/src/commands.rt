@@ -1,18 +1,18 @@
 // What each command does with its devices. All memory is taken before the first byte of output.
 ghost use Rattle.std.specs.Prelude.{◌≡◌, OnOk, IfErr};
 ghost use Rattle.pm_io.specs.Bytes.{AtEnd};
-ghost use Rattle.obj_read.specs.Fails.{FailsBefore};
-ghost use Rattle.vdpm.specs.Outcome.{Ends, Counts};
+ghost use Rattle.vdpm.specs.Ran.{serve_fail};
+ghost use Rattle.vdpm.specs.Ending.{Ends, Counts, ReadToEnd, FewMore};
 
-use crate::fault::{CommandFail, fail_of};
+use crate::fault::{CommandFail, Fault, fail_of};
 use crate::line::put_counts;
-use crate::opening::{Opened, load_fail, open_stream, read_hierarchy};
-use crate::script::serve;
+use crate::opening::{load_fail, read_hierarchy, stream_fail};
 use crate::surface::read_surface;
 use crate::words::Asked;
 use obj_write::write_obj;
-use pm_io::{Line, Sink, Source, put_all};
-use pm_session::Session;
+use pm_format::read_stream;
+use pm_io::{Line, Sink, Source, Taker, put_all};
+use pm_session::{ServeFail, Session};
 use std::alloc::Global;
 
 /// `canon`: reads an OBJ text, and writes the canonical text of its mesh where that is an oriented manifold.
@@ -21,10 +21,9 @@ pub fn canon<S: Source, K: Sink>(
     input: &mut S,
     out: &mut K,
 ) -> Result<(), CommandFail>
-    ensures ends { Ends Asked.Canon result (S.left input.old) (K.got out.old) (K.got out.new) }
+    ensures ends { Ends Asked.Canon result (S.left input.old) (S.left input.new) (K.got out.old) (K.got out.new) }
     ensures counts { Counts result (S.faults input.old) (S.faults input.new) (K.faults out.old) (K.faults out.new) }
     ensures read_whole { OnOk result (AtEnd (S.left input.new)) }
-    ensures unreached { IfErr result (λ e. e ≡ CommandFail.Read → FailsBefore (S.left input.old) (S.left input.new)) }
 {
     let mesh = match read_surface(alloc, input) {
         Ok(mesh) => mesh,
@@ -42,7 +41,7 @@ pub fn expand<S: Source, K: Sink>(
     input: &mut S,
     out: &mut K,
 ) -> Result<(), CommandFail>
-    ensures ends { Ends Asked.Expand result (S.left input.old) (K.got out.old) (K.got out.new) }
+    ensures ends { Ends Asked.Expand result (S.left input.old) (S.left input.new) (K.got out.old) (K.got out.new) }
     ensures counts { Counts result (S.faults input.old) (S.faults input.new) (K.faults out.old) (K.faults out.new) }
     ensures read_whole { OnOk result (AtEnd (S.left input.new)) }
 {
@@ -65,7 +64,7 @@ pub fn check<S: Source, K: Sink>(
     input: &mut S,
     out: &mut K,
 ) -> Result<(), CommandFail>
-    ensures ends { Ends Asked.Check result (S.left input.old) (K.got out.old) (K.got out.new) }
+    ensures ends { Ends Asked.Check result (S.left input.old) (S.left input.new) (K.got out.old) (K.got out.new) }
     ensures counts { Counts result (S.faults input.old) (S.faults input.new) (K.faults out.old) (K.faults out.new) }
     ensures read_whole { OnOk result (AtEnd (S.left input.new)) }
 {
@@ -81,24 +80,45 @@ pub fn check<S: Source, K: Sink>(
     }
 }
 
-/// `view B`: reads all the input, and does the script that follows the stream of a valid hierarchy.
+// How a command ends by its script.
+fn serve_fail(fail: ServeFail) -> CommandFail
+    ensures { result ≡ serve_fail fail }
+{
+    match fail {
+        ServeFail::BadLine(number) => CommandFail::Faulty(Fault::BadLine(number)),
+        ServeFail::NoRecord(number) => CommandFail::Faulty(Fault::NoRecord(number)),
+        ServeFail::ScriptTooLong => CommandFail::Faulty(Fault::ScriptTooLong),
+        ServeFail::Read => CommandFail::Read,
+        ServeFail::Write => CommandFail::Write,
+    }
+}
+
+/// `view B`: reads the stream of a valid hierarchy, and does the script that follows it line by line. The reply to a line
+/// is put whole before more is asked for than the window holds.
 pub fn view<S: Source, K: Sink>(
     alloc: Global,
     budget: u32,
     input: &mut S,
     out: &mut K,
 ) -> Result<(), CommandFail>
-    ensures ends { Ends (Asked.View budget) result (S.left input.old) (K.got out.old) (K.got out.new) }
+    ensures ends { Ends (Asked.View budget) result (S.left input.old) (S.left input.new) (K.got out.old) (K.got out.new) }
     ensures counts { Counts result (S.faults input.old) (S.faults input.new) (K.faults out.old) (K.faults out.new) }
-    ensures read_whole { OnOk result (AtEnd (S.left input.new)) }
+    ensures read_whole { OnOk result (ReadToEnd (Asked.View budget) (S.left input.old) (S.left input.new)) }
+    ensures few_more { IfErr result (λ e. e ≡ CommandFail.Write → FewMore budget (S.left input.old) (S.left input.new) (K.got out.old) (K.got out.new)) }
 {
-    let Opened { whole, bytes } = match open_stream(alloc, input) {
-        Ok(opened) => opened,
-        Err(fail) => return Err(fail_of(fail)),
+    let Ok(mut taker) = Taker::new(alloc) else {
+        return Err(CommandFail::OutOfMemory);
     };
-    let script = &bytes[whole.used..];
-    match Session::start(alloc, whole.h, budget) {
-        Ok(session) => serve(session, script, out),
-        Err(fail) => Err(fail_of(load_fail(fail))),
+    let h = match read_stream(alloc, &mut taker, input) {
+        Ok(h) => h,
+        Err(fail) => return Err(fail_of(stream_fail(fail))),
+    };
+    let mut session = match Session::start(alloc, h, budget) {
+        Ok(session) => session,
+        Err(fail) => return Err(fail_of(load_fail(fail))),
+    };
+    match session.serve(&mut taker, input, out) {
+        Ok(()) => Ok(()),
+        Err(fail) => Err(serve_fail(fail)),
     }
 }

@@ -8,8 +8,6 @@ use pm_format::FormatError;
 /// A fault of the input, with its place.
 #[derive(Clone, Copy, Debug, PartialEq, Eq)]
 pub enum Fault {
-    /// More than 16,777,216 bytes.
-    TooLong,
     /// The bytes begin with no stream text, for this reason.
     Stream(FormatError),
     /// This record is the last one of a stream, counted from 0, that doesn't have beside its faces what it tells.
@@ -17,9 +15,11 @@ pub enum Fault {
     /// A byte follows the stream text.
     Trailing,
     /// This script line, counted from 1, is none of the forms.
-    BadLine(u32),
+    BadLine(u64),
     /// This script line, counted from 1, names no record.
-    NoRecord(u32),
+    NoRecord(u64),
+    /// The script has more than 1,073,741,824 bytes.
+    ScriptTooLong,
     /// This line of an OBJ text, counted from 1, has this fault.
     Obj(ObjFault, u32),
     /// A directed side of this face is one of an earlier face too. The faces of an OBJ text are counted from 1, those of

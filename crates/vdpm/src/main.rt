@@ -2,19 +2,18 @@
 #![tactic(auto)]
 
 ghost use Rattle.std.specs.Prelude.{◌≡◌, ◌≢◌, codes};
-ghost use Rattle.vdpm.specs.Outcome.{Said, Stayed};
+ghost use Rattle.vdpm.specs.Ending.{Said, Stayed};
 
 mod build;
 #[cfg(test)]
 mod build_tests;
 mod commands;
 mod fault;
-mod input;
 mod line;
 mod opening;
+mod outcomes;
 mod run;
 mod say;
-mod script;
 #[cfg(test)]
 mod stream_tests;
 mod surface;

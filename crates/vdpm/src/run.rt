@@ -1,36 +1,36 @@
 // The program over any source and sinks.
-ghost use Rattle.std.specs.Prelude.{◌≡◌, ◌⊎◌, ◌≤◌, ◌<◌, ◌-◌, ◌^◌, map, true, ℕ, List, Option, None, Some, IfSome, IfErr, OnOk, codes};
+ghost use Rattle.std.specs.Prelude.{◌≡◌, ◌⊎◌, ◌≤◌, ◌<◌, ◌-◌, ◌^◌, map, ℕ, List, None, Some, IfSome, IfErr, OnOk, codes};
 ghost use Rattle.std.specs.String.{string_bytes};
-ghost use Rattle.pm_io.specs.Bytes.{AtEnd};
 ghost use Rattle.pm_io.specs.Causes.{Rose};
-ghost use Rattle.obj_read.specs.Fails.{FailsBefore};
 ghost use Rattle.vdpm.specs.declared.fault.Fault.{Fault};
-ghost use Rattle.vdpm.specs.Words.{asked_of, reads_obj};
+ghost use Rattle.vdpm.specs.Words.{asked_of};
 ghost use Rattle.vdpm.specs.FaultLine.{fault_line};
-ghost use Rattle.vdpm.specs.Outcome.{Ends, Counts, IsOutcome, Replied, GivesBack, CutShort, Said, Stayed, Answers};
+ghost use Rattle.vdpm.specs.Ran.{Ran};
+ghost use Rattle.vdpm.specs.Outcome.{IsOutcome, Replied, GivesBack, CutShort};
+ghost use Rattle.vdpm.specs.Ending.{Ends, Counts, ReadFails, ReadToEnd, FewMore, Said, Stayed, Answers};
 
 use crate::build::build;
 use crate::commands::{canon, check, expand, view};
 use crate::fault::CommandFail;
+use crate::outcomes::outcomes_are_sound;
 use crate::say::{say, tell};
 use crate::words::{Asked, read_words};
-use pm_beyond::openings_are_sound;
-use pm_format::streams_are_sound;
 use pm_io::{Sink, Source};
 use std::alloc::Global;
 
 // Does what was asked for.
+#[tactic(auto, using(crate::proofs::OutcomeLaws::ok_to_end))]
 fn obey<S: Source, K: Sink>(
     alloc: Global,
     asked: Asked,
     input: &mut S,
     out: &mut K,
 ) -> Result<(), CommandFail>
-    ensures ends { Ends asked result (S.left input.old) (K.got out.old) (K.got out.new) }
+    ensures ends { Ends asked result (S.left input.old) (S.left input.new) (K.got out.old) (K.got out.new) }
     ensures counts { Counts result (S.faults input.old) (S.faults input.new) (K.faults out.old) (K.faults out.new) }
-    ensures read_whole { OnOk result (AtEnd (S.left input.new)) }
+    ensures read_whole { OnOk result (ReadToEnd asked (S.left input.old) (S.left input.new)) }
     ensures gives_back { (target : ℕ) → asked ≡ Asked.Build target → OnOk result (IfSome (S.left input.old) (λ bytes. GivesBack target bytes (K.got out.old) (K.got out.new))) }
-    ensures unreached { reads_obj asked ≡ true → IfErr result (λ e. e ≡ CommandFail.Read → FailsBefore (S.left input.old) (S.left input.new)) }
+    ensures few_more { (budget : ℕ) → asked ≡ Asked.View budget → IfErr result (λ e. e ≡ CommandFail.Write → FewMore budget (S.left input.old) (S.left input.new) (K.got out.old) (K.got out.new)) }
 {
     match asked {
         Asked::Canon => canon(alloc, input, out),
@@ -46,9 +46,10 @@ fn obey<S: Source, K: Sink>(
 /// `canon` reads an OBJ text from `input` and writes its canonical text to `out`. `build N` reads one too, and writes the
 /// stream text of its mesh simplified to N faces; `build` is `build 0`. `expand` reads a stream text and writes
 /// the canonical text of the mesh that it was made from; `check` writes how large it is. `view B` reads a stream text and
-/// the script that follows it, and writes the replies. What ended a command early is said on `err`. Status 0: all was done.
-/// 1: the input has a fault, and the replies before it were put. 2: the words are none of the forms. 3: a read failed.
-/// 4: a write to `out` failed. 5: memory was wanted, before the first byte of output.
+/// the script that follows it, and writes the replies, each before it asks for more input. What ended a command early is
+/// said on `err`. Status 0: all was done. 1: the input has a fault, and the replies before it were put. 2: the words are none
+/// of the forms. 3: a read failed before the bytes that decide the outcome were taken. 4: a write to `out` failed. 5: memory
+/// was wanted, before the first byte of output.
 pub fn run<S: Source, K: Sink, E: Sink>(
     alloc: Global,
     words: &[String],
@@ -66,16 +67,20 @@ pub fn run<S: Source, K: Sink, E: Sink>(
     // The stream of a build expands to the mesh of the OBJ text: what `canon` does with that text, `expand` does with the stream.
     ensures expands { (target : ℕ) → asked_of (map string_bytes words.now) ≡ Some (Asked.Build target) → result ≡ 0 → IfSome (S.left input.old) (λ bytes. GivesBack target bytes (K.got out.old) (K.got out.new)) }
     ensures whole_counts { result ≡ 0 → (S.faults input.new ≡ S.faults input.old) × (K.faults out.new ≡ K.faults out.old) }
-    ensures read_whole { result ≡ 0 → AtEnd (S.left input.new) }
+    // The input was read to its end, or to the `q` of a script.
+    ensures read_whole { (asked : Asked) → asked_of (map string_bytes words.now) ≡ Some asked → result ≡ 0 → ReadToEnd asked (S.left input.old) (S.left input.new) }
     ensures silent { result ≡ 0 → Stayed (E.got err.old) (E.got err.new) (E.faults err.old) (E.faults err.new) }
     // The outcome has a fault, which is said, and exactly the text before it was put.
     ensures faulty { (asked : Asked) → asked_of (map string_bytes words.now) ≡ Some asked → result ≡ 1 → (f : Fault) × IfSome (S.left input.old) (λ bytes. Replied asked bytes (Some f) (K.got out.old) (K.got out.new)) × Said (E.got err.old) (E.got err.new) (E.faults err.old) (E.faults err.new) (fault_line f) }
     ensures faulty_counts { result ≡ 1 → (S.faults input.new ≡ S.faults input.old) × (K.faults out.new ≡ K.faults out.old) }
-    // A read failed, and nothing was put; of an OBJ text, the place of the first fault wasn't reached.
-    ensures read { result ≡ 3 → Rose (S.faults input.old) (S.faults input.new) × (K.got out.new ≡ K.got out.old) }
-    ensures unreached { (asked : Asked) → asked_of (map string_bytes words.now) ≡ Some asked → reads_obj asked ≡ true → result ≡ 3 → FailsBefore (S.left input.old) (S.left input.new) }
+    // A read failed before the bytes that decide the outcome were all taken. What `view` put then are the replies to the
+    // script lines whose LF was taken; the others put nothing.
+    ensures read { result ≡ 3 → Rose (S.faults input.old) (S.faults input.new) }
+    ensures unreached { (asked : Asked) → asked_of (map string_bytes words.now) ≡ Some asked → result ≡ 3 → ReadFails asked (S.left input.old) (S.left input.new) (K.got out.old) (K.got out.new) }
     // A write failed, and a proper prefix of the text was put.
     ensures write { (asked : Asked) → asked_of (map string_bytes words.now) ≡ Some asked → result ≡ 4 → Rose (K.faults out.old) (K.faults out.new) × IfSome (S.left input.old) (λ bytes. CutShort asked bytes (K.got out.old) (K.got out.new)) }
+    // In a script, it was the reply to a line that wasn't put whole, and few bytes were taken past that line.
+    ensures few_more { (budget : ℕ) → asked_of (map string_bytes words.now) ≡ Some (Asked.View budget) → result ≡ 4 → FewMore budget (S.left input.old) (S.left input.new) (K.got out.old) (K.got out.new) }
     // Memory was wanted, and nothing was put.
     ensures memory { result ≡ 5 → K.got out.new ≡ K.got out.old }
     ensures said_words { result ≡ 2 → Said (E.got err.old) (E.got err.new) (E.faults err.old) (E.faults err.new) (codes "vdpm: words not understood\n") }
@@ -83,13 +88,11 @@ pub fn run<S: Source, K: Sink, E: Sink>(
     ensures said_write { result ≡ 4 → Said (E.got err.old) (E.got err.new) (E.faults err.old) (E.faults err.new) (codes "vdpm: write fault\n") }
     ensures said_memory { result ≡ 5 → Said (E.got err.old) (E.got err.new) (E.faults err.old) (E.faults err.new) (codes "vdpm: out of memory\n") }
     // Where no device failed, a whole outcome gives 0 and a fault gives 1, unless memory is wanted.
-    ensures complete { (asked : Asked) (bytes text : List ℕ) (fault : Option Fault) → asked_of (map string_bytes words.now) ≡ Some asked → S.left input.old ≡ Some bytes
-        → IsOutcome asked bytes (record { text = text; fault = fault }) → S.faults input.new ≡ S.faults input.old → K.faults out.new ≡ K.faults out.old
-        → S.faults input.old < 2 ^ 64 - 1 → K.faults out.old < 2 ^ 64 - 1 → Answers fault result ⊎ (result ≡ 5) }
+    ensures complete { (asked : Asked) (bytes : List ℕ) (all : Ran) → asked_of (map string_bytes words.now) ≡ Some asked → S.left input.old ≡ Some bytes
+        → IsOutcome asked bytes all → S.faults input.new ≡ S.faults input.old → K.faults out.new ≡ K.faults out.old
+        → S.faults input.old < 2 ^ 64 - 1 → K.faults out.old < 2 ^ 64 - 1 → Answers all.fault result ⊎ (result ≡ 5) }
 {
-    // An input has one outcome, since a hierarchy has one spelling, and one last record that fails where it isn't valid.
-    streams_are_sound();
-    openings_are_sound();
+    outcomes_are_sound();
     let Some(asked) = read_words(words) else {
         say(err, b"vdpm: words not understood\n");
         return 2;

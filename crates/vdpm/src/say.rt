@@ -1,7 +1,7 @@
 // What is said on the error sink.
 ghost use Rattle.std.specs.Prelude.{◌≡◌, ◌≤◌, [], length};
 ghost use Rattle.vdpm.specs.FaultLine.{line_at, line_of, stream_line, fault_line, fail_line, number_of};
-ghost use Rattle.vdpm.specs.Outcome.{Said, status_of};
+ghost use Rattle.vdpm.specs.Ending.{Said, status_of};
 
 use crate::fault::{CommandFail, Fault};
 use obj_read::ObjFault;
@@ -35,7 +35,7 @@ fn number_of(fault: ObjFault) -> u32
 
 // The line of a fault with a place: a word for what is counted, and its number.
 #[tactic(auto, unfolding(crate::specs::FaultLine::line_at))]
-fn put_place(line: &mut Line, number: u32, word: &[u8], place: u32)
+fn put_place(line: &mut Line, number: u32, word: &[u8], place: u64)
     requires empty { line.old ≡ [] }
     requires short { length word.now ≤ 16 }
     ensures { line.new ≡ line_at number word.now place }
@@ -45,7 +45,7 @@ fn put_place(line: &mut Line, number: u32, word: &[u8], place: u32)
     line.add(b" ");
     line.add(word);
     line.add(b" ");
-    line.add_number(place);
+    line.add_long_number(place);
     line.add(b"\n");
 }
 
@@ -67,13 +67,13 @@ fn put_stream_fault(line: &mut Line, fault: FormatError)
 {
     match fault {
         FormatError::BadMagic => put_number(line, 20),
-        FormatError::BadVersion(version) => put_place(line, 21, b"version", version),
-        FormatError::Truncated(bytes) => put_place(line, 22, b"byte", bytes),
+        FormatError::BadVersion(version) => put_place(line, 21, b"version", u64::from(version)),
+        FormatError::Truncated(bytes) => put_place(line, 22, b"byte", u64::from(bytes)),
         FormatError::BadCount => put_number(line, 23),
-        FormatError::BadRoot(root) => put_place(line, 24, b"root", root),
-        FormatError::BadFace(face) => put_place(line, 25, b"face", face),
-        FormatError::BadRecord(record) => put_place(line, 26, b"record", record),
-        FormatError::BadInput(field) => put_place(line, 27, b"input", field),
+        FormatError::BadRoot(root) => put_place(line, 24, b"root", u64::from(root)),
+        FormatError::BadFace(face) => put_place(line, 25, b"face", u64::from(face)),
+        FormatError::BadRecord(record) => put_place(line, 26, b"record", u64::from(record)),
+        FormatError::BadInput(field) => put_place(line, 27, b"input", u64::from(field)),
         FormatError::OutOfMemory => line.add(b"vdpm: out of memory\n"),
     }
 }
@@ -85,15 +85,15 @@ fn put_fault(line: &mut Line, fault: Fault)
 {
     line.clear();
     match fault {
-        Fault::TooLong => line.add(b"vdpm: input too long\n"),
         Fault::Stream(fault) => put_stream_fault(line, fault),
-        Fault::BadNeighbour(record) => put_place(line, 28, b"record", record),
+        Fault::BadNeighbour(record) => put_place(line, 28, b"record", u64::from(record)),
         Fault::Trailing => put_number(line, 29),
         Fault::BadLine(number) => put_place(line, 30, b"line", number),
         Fault::NoRecord(number) => put_place(line, 31, b"line", number),
-        Fault::Obj(fault, number) => put_place(line, number_of(fault), b"line", number),
-        Fault::EdgeTwice(face) => put_place(line, 11, b"face", face),
-        Fault::NotFan(vertex) => put_place(line, 12, b"vertex", vertex),
+        Fault::ScriptTooLong => put_number(line, 32),
+        Fault::Obj(fault, number) => put_place(line, number_of(fault), b"line", u64::from(number)),
+        Fault::EdgeTwice(face) => put_place(line, 11, b"face", u64::from(face)),
+        Fault::NotFan(vertex) => put_place(line, 12, b"vertex", u64::from(vertex)),
     }
 }
 

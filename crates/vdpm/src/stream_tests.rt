@@ -1,10 +1,10 @@
 // What `expand` and `check` say of streams, whole and damaged.
 ghost use Rattle.std.specs.Prelude.{◌≤◌};
 
-use crate::tests::{OCTAHEDRON, TETRAHEDRON, check, joined, text};
-use pm_io::Line;
+use crate::run::run;
+use crate::tests::{OCTAHEDRON, TETRAHEDRON, check, command, joined, text};
+use pm_io::{Line, MemSink, MemSource};
 use std::alloc::{AllocError, Global};
-use std::process::Abort;
 use std::test::Fail;
 
 // The square's stream after its first four bytes.
@@ -142,29 +142,52 @@ fn square(rt: HostRuntime) -> Result<(), Fail> {
     Ok(())
 }
 
-// The octahedron's stream cut after n bytes, for each n from `from` to below `until`.
-fn check_cuts<A: Abort>(rt: &A, alloc: Global, from: u32, until: u32) -> Result<(), AllocError> {
+// The octahedron's stream cut after n bytes.
+#[test]
+fn cut_streams(rt: HostRuntime) -> Result<(), Fail> {
+    let alloc = rt.alloc();
     let octahedron = text(alloc, &OCTAHEDRON, b"")?;
-    for n in from..until {
+    for n in [0u32, 3, 23, 24, 103, 351] {
         let cut = octahedron.get(..n as usize).unwrap_or_default();
         let mut line = Line::new();
         line.add(b"vdpm: fault 22 byte ");
         line.add_number(n);
         line.add(b"\n");
-        check(rt, alloc, &["check"], cut, 1, b"", line.as_slice())?;
+        check(&rt, alloc, &["check"], cut, 1, b"", line.as_slice())?;
     }
     Ok(())
 }
 
+// A fault is told as soon as its bytes are there, so a later call that fails changes nothing; nor does one after the end.
 #[test]
-fn streams_cut_in_front(rt: HostRuntime) -> Result<(), Fail> {
-    check_cuts(&rt, rt.alloc(), 0, 190)?;
-    Ok(())
-}
-
-#[test]
-fn streams_cut_behind(rt: HostRuntime) -> Result<(), Fail> {
-    check_cuts(&rt, rt.alloc(), 190, 352)?;
+fn calls_that_are_not_made(rt: HostRuntime) -> Result<(), Fail> {
+    let alloc = rt.alloc();
+    let whole = text(alloc, &OCTAHEDRON, b"")?;
+    let mut other = Vec::from_slice(alloc, &whole)?;
+    if let Some(first) = other.first_mut() {
+        *first = b'X';
+    }
+    let cases: [(&str, &[u8], usize, u32, u8); 6] = [
+        ("check", &other, 1, 1, 1),
+        ("expand", &other, 1, 1, 1),
+        ("check", &whole, 352, 1, 3),
+        ("check", &whole, 352, 2, 0),
+        ("expand", &whole, 4096, 2, 0),
+        ("build", OCTAHEDRON_TEXT, 4096, 2, 0),
+    ];
+    for (word, input, step, call, status) in cases {
+        let words = command(alloc, &[word])?;
+        if step < 1 {
+            return Ok(());
+        }
+        let mut source = MemSource::new(alloc, input, step, &[call])?;
+        let mut sink = MemSink::new(alloc, 1000, 1000, &[])?;
+        let mut errors = MemSink::new(alloc, 100, 100, &[])?;
+        assert_eq!(rt;
+            run(alloc, &words, &mut source, &mut sink, &mut errors),
+            status
+        );
+    }
     Ok(())
 }
 
@@ -192,22 +215,6 @@ fn another_first_byte(rt: HostRuntime) -> Result<(), Fail> {
         1,
         b"",
         b"vdpm: fault 20\n",
-    )?;
-    Ok(())
-}
-
-#[test]
-fn long_input(rt: HostRuntime) -> Result<(), Fail> {
-    let alloc = rt.alloc();
-    let long = vec![in alloc; b'V'; 16_777_217]?;
-    check(
-        &rt,
-        alloc,
-        &["check"],
-        &long,
-        1,
-        b"",
-        b"vdpm: input too long\n",
     )?;
     Ok(())
 }

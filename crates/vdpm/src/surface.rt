@@ -1,13 +1,12 @@
 // The mesh of an OBJ text, where it is an oriented manifold.
-ghost use Rattle.std.specs.Prelude.{◌≡◌, Ok, IfOk, IfErr, IfSome, OnOk};
+ghost use Rattle.std.specs.Prelude.{◌≡◌, None, Ok, IfOk, IfErr, IfSome, OnOk};
 ghost use Rattle.pm_base.specs.Meshes.{IsWellFormed, mesh_of};
 ghost use Rattle.pm_base.specs.Sides.{net_of};
 ghost use Rattle.pm_base.specs.Fans.{IsOrientedManifold};
 ghost use Rattle.pm_runs.specs.Runs.{IsStart};
 ghost use Rattle.pm_io.specs.Bytes.{AtEnd};
-ghost use Rattle.obj_read.specs.Fails.{FailsBefore};
 ghost use Rattle.vdpm.specs.Input.{Stops};
-ghost use Rattle.vdpm.specs.Surface.{IsSurface, refuses_surface, IsSurfaceFail};
+ghost use Rattle.vdpm.specs.Surface.{IsSurface, IsSurfaceFail};
 
 use crate::fault::{Fault, InputFail};
 use obj_read::{ObjFail, read_obj};
@@ -39,12 +38,11 @@ fn check_surface(alloc: Global, mesh: &Mesh) -> Result<(), InputFail>
 /// Reads an OBJ text, and answers its mesh where that is an oriented manifold. A line with a fault is refused as soon as
 /// the byte that shows the fault has come; the surface is looked at once the text has ended.
 pub fn read_surface<S: Source>(alloc: Global, input: &mut S) -> Result<Mesh, InputFail>
-    ensures surface { IfOk result (λ m. IfSome (S.left input.old) (λ bytes. IsSurface bytes (Ok (mesh_of m)))) }
+    ensures surface { IfOk result (λ m. IfSome (S.left input.old) (λ bytes. IsSurface bytes (Ok (mesh_of m)) None)) }
     ensures start { IfOk result (λ m. IsStart (mesh_of m)) }
     ensures end { OnOk result (AtEnd (S.left input.new)) }
     ensures count { OnOk result (S.faults input.new ≡ S.faults input.old) }
-    ensures err { IfErr result (λ e. Stops refuses_surface e (S.left input.old) (S.faults input.old) (S.faults input.new)) }
-    ensures unreached { IfErr result (λ e. e ≡ InputFail.Read → FailsBefore (S.left input.old) (S.left input.new)) }
+    ensures err { IfErr result (λ e. Stops IsSurface e (S.left input.old) (S.left input.new) (S.faults input.old) (S.faults input.new)) }
 {
     let mesh = match read_obj(alloc, input) {
         Ok(mesh) => mesh,

@@ -1,5 +1,5 @@
 use crate::run::run;
-use pm_io::{MemSink, MemSource};
+use pm_io::{MemSink, MemSource, Source};
 use std::alloc::{AllocError, Global};
 use std::process::Abort;
 use std::test::Fail;
@@ -173,24 +173,37 @@ fn words(rt: HostRuntime) -> Result<(), Fail> {
     Ok(())
 }
 
+// What comes of the octahedron's stream and a script that shows its full front, by the step of the source, its failing calls,
+// and the room of the sink. The 352 bytes of the stream in pieces of 4 are the calls 0 to 87; call 88 gives the first line of
+// the script, 89 the second, and 90 the rest. No call is made after `q`.
 #[test]
 fn devices(rt: HostRuntime) -> Result<(), Fail> {
     let alloc = rt.alloc();
     let input = text(alloc, &OCTAHEDRON, b"s 0\ns 1\nw\nq\n")?;
     let full = joined(alloc, b"ok\nok\n", FULL)?;
     let words = command(alloc, &["view", "5"])?;
-    // The step of the source, its failing calls, the room and step of the sink, and what comes of it.
-    let cases: [(usize, &[u32], usize, usize, u8, usize); 6] = [
-        (1, &[], 1000, 1000, 0, 175),
-        (3, &[], 1000, 7, 0, 175),
-        (352, &[], 1000, 1, 0, 175),
-        (352, &[0], 1000, 1000, 3, 0),
-        (352, &[1], 1000, 1000, 3, 0),
-        (352, &[], 10, 1000, 4, 10),
+    let cases: [(usize, &[u32], usize, u8, usize); 14] = [
+        (1, &[], 1000, 0, 175),
+        (3, &[], 1000, 0, 175),
+        (352, &[], 1000, 0, 175),
+        (353, &[], 1000, 0, 175),
+        (4096, &[1], 1000, 0, 175),
+        (352, &[1], 1000, 3, 0),
+        (4, &[0], 1000, 3, 0),
+        (4, &[87], 1000, 3, 0),
+        (4, &[88], 1000, 3, 0),
+        (4, &[89], 1000, 3, 3),
+        (4, &[90], 1000, 3, 6),
+        (4, &[91], 1000, 0, 175),
+        (4096, &[], 10, 4, 10),
+        (4, &[89], 0, 4, 0),
     ];
-    for (step, fails, room, put, status, length) in cases {
+    for (step, fails, room, status, length) in cases {
+        if step < 1 {
+            return Ok(());
+        }
         let mut source = MemSource::new(alloc, &input, step, fails)?;
-        let mut sink = MemSink::new(alloc, room, put, &[])?;
+        let mut sink = MemSink::new(alloc, room, 7, &[])?;
         let mut errors = MemSink::new(alloc, 0, 1, &[])?;
         assert_eq!(rt;
             run(alloc, &words, &mut source, &mut sink, &mut errors),
@@ -199,5 +212,21 @@ fn devices(rt: HostRuntime) -> Result<(), Fail> {
         assert_eq!(rt; sink.bytes().len(), length);
         assert!(rt; full.starts_with(sink.bytes()));
     }
+    Ok(())
+}
+
+// A reply is put before more is asked for: where the first one fails, the second line is still to be taken.
+#[test]
+fn reply_before_the_next_read(rt: HostRuntime) -> Result<(), Fail> {
+    let alloc = rt.alloc();
+    let input = text(alloc, &OCTAHEDRON, b"s 0\ns 1\nw\nq\n")?;
+    let words = command(alloc, &["view", "5"])?;
+    let mut source = MemSource::new(alloc, &input, 4, &[])?;
+    let mut sink = MemSink::new(alloc, 0, 1, &[])?;
+    let mut errors = MemSink::new(alloc, 100, 100, &[])?;
+    assert_eq!(rt; run(alloc, &words, &mut source, &mut sink, &mut errors), 4);
+    let mut piece = [0u8; 4];
+    assert!(rt; source.take(&mut piece).is_ok());
+    assert_eq!(rt; piece.as_slice(), b"s 1\n".as_slice());
     Ok(())
 }

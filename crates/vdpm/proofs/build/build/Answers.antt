@@ -1,9 +1,21 @@
+use Rattle.std.proofs.Common.{None, refl}
 use Rattle.pm_format.specs.Stream.{stream}
+use Rattle.vdpm.specs.declared.words.Asked.TheVariants as asked
 use Rattle.vdpm.specs.Build.{IsBuilt}
-use Rattle.vdpm.specs.Outcome.{whole}
-use Rattle.vdpm.proofs.OutcomeLaws.{ends_part, follows_done}
+use Rattle.vdpm.specs.Ran.{whole}
+use Rattle.vdpm.proofs.OutcomeLaws.{ends_stopped, counts_stopped, ends_all, ends_part, follows_done}
 use Rattle.vdpm.proofs.BuildLaws.{gives_back}
 use Rattle.vdpm.proofs.build.build.Goals as goal
+
+pub returns-in-Err-clause-ends : goal.returns-in-Err-clause-ends
+returns-in-Err-clause-ends g c = rw c.fail_of.ensures (ends_stopped (asked.Build c.args.target) (IsBuilt c.args.target) (λ h. whole (stream h)) (λ x. refl) (λ taken. refl) (λ bytes all is. is) (λ bytes all is. is) c.in-Err.fail _ _ _ _ _ c.in-Err.ensures.err)
+
+pub returns-in-Err-clause-counts : goal.returns-in-Err-clause-counts
+returns-in-Err-clause-counts g c = rw c.fail_of.ensures (counts_stopped (IsBuilt c.args.target) c.in-Err.fail _ _ _ _ _ c.in-Err.ensures.err)
+
+pub returns-in-Ok-encode-clause-ends : goal.returns-in-Ok-encode-clause-ends
+returns-in-Ok-encode-clause-ends g c =
+    ends_all (asked.Build c.args.target) _ _ _ (whole (stream c.in-Ok.h)) None (follows_done (IsBuilt c.args.target) (λ h. whole (stream h)) _ c.in-Ok.h None c.in-Ok.ensures.built) refl c.in-Ok-encode.ensures.ok
 
 pub returns-in-Ok-encode-clause-gives_back : goal.returns-in-Ok-encode-clause-gives_back
 returns-in-Ok-encode-clause-gives_back g c =
@@ -11,4 +23,4 @@ returns-in-Ok-encode-clause-gives_back g c =
 
 pub returns-clause-ends : goal.returns-clause-ends
 returns-clause-ends g c =
-    ends_part _ _ _ _ (whole (stream c.in-Ok.h)) (follows_done (λ bytes. IsBuilt bytes c.args.target) (λ h. whole (stream h)) _ c.in-Ok.h c.in-Ok.ensures.built) c.in-Err-encode.ensures.err
+    ends_part (asked.Build c.args.target) _ _ _ (whole (stream c.in-Ok.h)) (follows_done (IsBuilt c.args.target) (λ h. whole (stream h)) _ c.in-Ok.h None c.in-Ok.ensures.built) c.in-Err-encode.ensures.err

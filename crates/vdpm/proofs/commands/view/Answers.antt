@@ -1,31 +1,98 @@
-use Rattle.std.proofs.Common.{drop, ap, ◌∙◌}
-use Rattle.std.proofs.lemmas.List.{take_rest}
-use Rattle.pm_forest.specs.Fronts.{no_records}
-use Rattle.pm_session.specs.Script.{ran, split_lines}
-use Rattle.vdpm.specs.declared.words.Asked.TheVariants as asked
-use Rattle.vdpm.specs.Ran.{Ran, of_script}
-use Rattle.vdpm.specs.Opening.{Opening, IsValidOpening, load_fail, refuses_opening, refuses_valid, no_stream}
-use Rattle.vdpm.proofs.OpeningLaws.{load_stops, load_valid}
-use Rattle.vdpm.proofs.OutcomeLaws.{follows_refused, follows_done, ends_stopped, ends_served}
-use Rattle.vdpm.proofs.ServeLaws.{served_at}
+use Rattle.std.proofs.Common.{◌≡◌, sym, ◌∙◌, ap}
+use Rattle.std.specs.Io.KnownBytes.{prepend_known}
+use Rattle.pm_io.proofs.Known.{loses_none}
+use Rattle.pm_forest.specs.Fronts.{set_of}
+use Rattle.vdpm.specs.Opening.{IsValidOpening, stream_fail, load_fail}
+use Rattle.vdpm.proofs.ReadingLaws.{begun, stream_stops, load_stops}
+use Rattle.vdpm.proofs.OutcomeLaws.{counts_stopped, no_write}
+use Rattle.vdpm.proofs.ViewLaws.{view_stream, view_load, view_done, view_to_end, view_served, view_few, view_counts}
 use Rattle.vdpm.proofs.commands.view.Goals as goal
 
 pub returns-in-Err-clause-ends : goal.returns-in-Err-clause-ends
 returns-in-Err-clause-ends g c =
-    rw c.fail_of.ensures
-    (ends_stopped (asked.View c.args.budget) refuses_opening c.in-Err.fail _ _ _ _ (λ bytes f is. follows_refused (IsValidOpening bytes) (λ p. of_script (ran p.h c.args.budget no_records 1 (split_lines p.rest))) f (no_stream f is)) c.in-Err.ensures.err)
+    let left = g.S.Source.left c.args.input.now in
+    let later = g.S.Source.left c.read_stream.new.source in
+    let same : prepend_known c.in-Ok.taker left ≡ left = ap (λ l. prepend_known l left) c.in-Ok.ensures ∙ sym (loses_none left) in
+    rw (c.fail_of.ensures, c.stream_fail.ensures)
+    (view_stream c.args.budget left (prepend_known c.in-Ok.taker left) (prepend_known c.read_stream.new.taker later) later _ c.in-Err.fail _ _ same c.in-Err.ensures.reads (stream_stops left (prepend_known c.in-Ok.taker left) (prepend_known c.read_stream.new.taker later) later c.in-Err.fail _ _ same c.in-Err.ensures.reads c.in-Err.ensures.counts))
 
-pub returns-in-Ok-start-clause-ends : goal.returns-in-Ok-start-clause-ends
-returns-in-Ok-start-clause-ends g c =
-    let o : Opening = record { h = c.in-Ok.opened.whole.h; rest = drop c.in-Ok.opened.whole.used c.in-Ok.opened.bytes.items } in
-    let does : Opening → Ran = (λ p. of_script (ran p.h c.args.budget no_records 1 (split_lines p.rest))) in
-    ends_served (asked.View c.args.budget) _ _ _ (does o) c.serve.result (follows_done IsValidOpening does _ o (load_valid _ o c.in-Ok.ensures.opened c.in-Ok-start.ensures.valid))
-    (served_at c.in-Ok.opened.whole.h c.in-Ok-start.session.h c.args.budget c.in-Ok-start.session.budget (drop c.in-Ok.opened.whole.used c.in-Ok.opened.bytes.items) _ c.serve.result _ _ c.in-Ok-start.ensures.shown.0 c.in-Ok-start.ensures.shown.1
-    (take_rest c.deref.result.now c.in-Ok.opened.whole.used ∙ ap (drop c.in-Ok.opened.whole.used) c.deref.ensures.value) c.serve.ensures.served)
+pub returns-in-Err-clause-counts : goal.returns-in-Err-clause-counts
+returns-in-Err-clause-counts g c =
+    let left = g.S.Source.left c.args.input.now in
+    let later = g.S.Source.left c.read_stream.new.source in
+    let same : prepend_known c.in-Ok.taker left ≡ left = ap (λ l. prepend_known l left) c.in-Ok.ensures ∙ sym (loses_none left) in
+    rw (c.fail_of.ensures, c.stream_fail.ensures)
+    (counts_stopped IsValidOpening (stream_fail c.in-Err.fail) left later _ _ _ (stream_stops left (prepend_known c.in-Ok.taker left) (prepend_known c.read_stream.new.taker later) later c.in-Err.fail _ _ same c.in-Err.ensures.reads c.in-Err.ensures.counts))
+
+pub returns-in-Err-clause-few_more : goal.returns-in-Err-clause-few_more
+returns-in-Err-clause-few_more g c = λ is. absurd (no_write c.stream_fail.result (sym c.fail_of.ensures ∙ is))
+
+pub returns-in-Err-start-clause-ends : goal.returns-in-Err-start-clause-ends
+returns-in-Err-start-clause-ends g c =
+    let left = g.S.Source.left c.args.input.now in
+    let later = g.S.Source.left c.read_stream.new.source in
+    let same : prepend_known c.in-Ok.taker left ≡ left = ap (λ l. prepend_known l left) c.in-Ok.ensures ∙ sym (loses_none left) in
+    rw (c.fail_of-in-Err-start.ensures, c.load_fail.ensures)
+    (view_load c.args.budget c.in-Err-start.fail left later _ _ _ (load_stops left (prepend_known c.read_stream.new.taker later) later c.in-Ok-read_stream.h c.in-Err-start.fail _ _ (begun left (prepend_known c.in-Ok.taker left) (prepend_known c.read_stream.new.taker later) later c.in-Ok-read_stream.h same c.in-Ok-read_stream.ensures.reads) c.in-Err-start.ensures.fault c.in-Ok-read_stream.ensures.counts.same))
+
+pub returns-in-Err-start-clause-counts : goal.returns-in-Err-start-clause-counts
+returns-in-Err-start-clause-counts g c =
+    let left = g.S.Source.left c.args.input.now in
+    let later = g.S.Source.left c.read_stream.new.source in
+    let same : prepend_known c.in-Ok.taker left ≡ left = ap (λ l. prepend_known l left) c.in-Ok.ensures ∙ sym (loses_none left) in
+    rw (c.fail_of-in-Err-start.ensures, c.load_fail.ensures)
+    (counts_stopped IsValidOpening (load_fail c.in-Err-start.fail) left later _ _ _ (load_stops left (prepend_known c.read_stream.new.taker later) later c.in-Ok-read_stream.h c.in-Err-start.fail _ _ (begun left (prepend_known c.in-Ok.taker left) (prepend_known c.read_stream.new.taker later) later c.in-Ok-read_stream.h same c.in-Ok-read_stream.ensures.reads) c.in-Err-start.ensures.fault c.in-Ok-read_stream.ensures.counts.same))
+
+pub returns-in-Err-start-clause-few_more : goal.returns-in-Err-start-clause-few_more
+returns-in-Err-start-clause-few_more g c = λ is. absurd (no_write c.load_fail.result (sym c.fail_of-in-Err-start.ensures ∙ is))
+
+pub returns-in-Ok-serve-clause-ends : goal.returns-in-Ok-serve-clause-ends
+returns-in-Ok-serve-clause-ends g c =
+    let left = g.S.Source.left c.args.input.now in
+    let later = g.S.Source.left c.read_stream.new.source in
+    let same : prepend_known c.in-Ok.taker left ≡ left = ap (λ l. prepend_known l left) c.in-Ok.ensures ∙ sym (loses_none left) in
+    let now = g.S.Source.left c.serve.new.source in
+    let mid = prepend_known c.read_stream.new.taker later in
+    let h = c.in-Ok-read_stream.h in
+    let s = c.in-Ok-start.session in
+    let text = begun left (prepend_known c.in-Ok.taker left) mid later h same c.in-Ok-read_stream.ensures.reads in
+    view_done c.args.budget s.budget h s.h (set_of s.flags) left mid now (g.K.Sink.got c.args.out.now) (g.K.Sink.got c.serve.new.out) c.serve.new.taker (set_of c.serve.new.self.flags) text c.in-Ok-start.ensures.valid c.in-Ok-start.ensures.shown.0 c.in-Ok-start.ensures.shown.1 c.in-Ok-start.ensures.shown.2 c.in-Ok-serve.ensures.serves
+
+pub returns-in-Ok-serve-clause-read_whole : goal.returns-in-Ok-serve-clause-read_whole
+returns-in-Ok-serve-clause-read_whole g c =
+    let left = g.S.Source.left c.args.input.now in
+    let later = g.S.Source.left c.read_stream.new.source in
+    let same : prepend_known c.in-Ok.taker left ≡ left = ap (λ l. prepend_known l left) c.in-Ok.ensures ∙ sym (loses_none left) in
+    let now = g.S.Source.left c.serve.new.source in
+    let mid = prepend_known c.read_stream.new.taker later in
+    let h = c.in-Ok-read_stream.h in
+    let s = c.in-Ok-start.session in
+    let text = begun left (prepend_known c.in-Ok.taker left) mid later h same c.in-Ok-read_stream.ensures.reads in
+    view_to_end c.args.budget s.budget h s.h (set_of s.flags) left mid now (g.K.Sink.got c.args.out.now) (g.K.Sink.got c.serve.new.out) c.serve.new.taker (set_of c.serve.new.self.flags) text c.in-Ok-start.ensures.valid c.in-Ok-start.ensures.shown.0 c.in-Ok-start.ensures.shown.1 c.in-Ok-start.ensures.shown.2 c.in-Ok-serve.ensures.serves
 
 pub returns-clause-ends : goal.returns-clause-ends
 returns-clause-ends g c =
-    let o : Opening = record { h = c.in-Ok.opened.whole.h; rest = drop c.in-Ok.opened.whole.used c.in-Ok.opened.bytes.items } in
-    rw (c.fail_of-in-Err-start.ensures, c.load_fail.ensures)
-    (ends_stopped (asked.View c.args.budget) refuses_valid (load_fail c.in-Err-start.fail) _ _ _ _ (λ bytes f is. follows_refused (IsValidOpening bytes) (λ p. of_script (ran p.h c.args.budget no_records 1 (split_lines p.rest))) f is)
-    (load_stops _ o c.in-Err-start.fail _ _ c.in-Ok.ensures.opened c.in-Ok.ensures.count c.in-Err-start.ensures.fault))
+    let left = g.S.Source.left c.args.input.now in
+    let later = g.S.Source.left c.read_stream.new.source in
+    let same : prepend_known c.in-Ok.taker left ≡ left = ap (λ l. prepend_known l left) c.in-Ok.ensures ∙ sym (loses_none left) in
+    let now = g.S.Source.left c.serve.new.source in
+    let mid = prepend_known c.read_stream.new.taker later in
+    let h = c.in-Ok-read_stream.h in
+    let s = c.in-Ok-start.session in
+    let text = begun left (prepend_known c.in-Ok.taker left) mid later h same c.in-Ok-read_stream.ensures.reads in
+    rw c.serve_fail.ensures (view_served c.args.budget s.budget h s.h (set_of s.flags) left mid now (g.K.Sink.got c.args.out.now) (g.K.Sink.got c.serve.new.out) c.serve.new.taker (set_of c.serve.new.self.flags) text c.in-Ok-start.ensures.valid c.in-Ok-start.ensures.shown.0 c.in-Ok-start.ensures.shown.1 c.in-Ok-start.ensures.shown.2 c.in-Err-serve.fail c.in-Err-serve.ensures.serves c.in-Err-serve.ensures.window)
+
+pub returns-clause-counts : goal.returns-clause-counts
+returns-clause-counts g c = rw c.serve_fail.ensures (view_counts c.in-Err-serve.fail _ _ _ _ _ c.in-Ok-read_stream.ensures.counts.same c.in-Err-serve.ensures.counts)
+
+pub returns-clause-few_more : goal.returns-clause-few_more
+returns-clause-few_more g c =
+    let left = g.S.Source.left c.args.input.now in
+    let later = g.S.Source.left c.read_stream.new.source in
+    let same : prepend_known c.in-Ok.taker left ≡ left = ap (λ l. prepend_known l left) c.in-Ok.ensures ∙ sym (loses_none left) in
+    let now = g.S.Source.left c.serve.new.source in
+    let mid = prepend_known c.read_stream.new.taker later in
+    let h = c.in-Ok-read_stream.h in
+    let s = c.in-Ok-start.session in
+    let text = begun left (prepend_known c.in-Ok.taker left) mid later h same c.in-Ok-read_stream.ensures.reads in
+    λ is. view_few c.args.budget s.budget h s.h (set_of s.flags) left mid now (g.K.Sink.got c.args.out.now) (g.K.Sink.got c.serve.new.out) c.serve.new.taker (set_of c.serve.new.self.flags) text c.in-Ok-start.ensures.valid c.in-Ok-start.ensures.shown.0 c.in-Ok-start.ensures.shown.1 c.in-Ok-start.ensures.shown.2 c.in-Err-serve.fail c.in-Err-serve.ensures.serves c.in-Err-serve.ensures.window (sym c.serve_fail.ensures ∙ is)

@@ -1,5 +1,5 @@
 use Rattle.pm_base.specs.Meshes.{mesh_of}
-use Rattle.vdpm.proofs.SurfaceLaws.{line_refuses, mesh_refuses, mesh_stands}
+use Rattle.vdpm.proofs.SurfaceLaws.{line_refuses, mesh_refuses, mesh_stands, surface_unreached}
 use Rattle.vdpm.proofs.surface.read_surface.Goals as goal
 
 pub returns-in-Err-Fault-clause-err : goal.returns-in-Err-Fault-clause-err
@@ -10,4 +10,4 @@ pub returns-in-Ok-check_surface-clause-surface : goal.returns-in-Ok-check_surfac
 returns-in-Ok-check_surface-clause-surface g c = mesh_stands _ (mesh_of c.in-Ok.mesh) c.in-Ok.ensures.ok c.in-Ok-check_surface.ensures.manifold
 
 pub returns-in-Err-clause-err : goal.returns-in-Err-clause-err
-returns-in-Err-clause-err g c = mesh_refuses _ (mesh_of c.in-Ok.mesh) c.in-Err.fail _ _ c.in-Ok.ensures.ok c.in-Ok.ensures.cause.same c.in-Err.ensures.fault
+returns-in-Err-clause-err g c = mesh_refuses _ _ (mesh_of c.in-Ok.mesh) c.in-Err.fail _ _ c.in-Ok.ensures.ok c.in-Ok.ensures.cause.same c.in-Err.ensures.fault

@@ -1,0 +1,230 @@
+-- How `view` ends, by what its parts answer.
+use Rattle.std.proofs.Common.{◌≡◌, ℕ, ◌+◌, ◌<◌, ◌≤◌, Bool, List, [], ◌∷◌, ◌++◌, length, Option, Some, None, IfSome, Result, Ok, Err, refl, sym, ◌∙◌, ap, subst, arith, length-append}
+use Rattle.std.specs.Option.{option_map}
+use Rattle.std.specs.Io.KnownBytes.{prepend_known}
+use Rattle.pm_io.specs.Bytes.{Gains, GainsPart, Loses, AtEnd}
+use Rattle.pm_io.specs.Causes.{Rose}
+use Rattle.pm_io.proofs.Known.{loses_both, loses_none, gains_none}
+use Rattle.pm_forest.specs.Forest.{Hierarchy}
+use Rattle.pm_forest.specs.Fronts.{no_records}
+use Rattle.pm_beyond.specs.Valid.{IsValid}
+use Rattle.pm_load.specs.declared.open.LoadFail.{LoadFail}
+use Rattle.pm_load.specs.declared.open.LoadFail.TheVariants as loads
+use Rattle.pm_format.specs.declared.fault.FormatError.TheVariants as format
+use Rattle.pm_format.specs.declared.read.StreamFail.{StreamFail}
+use Rattle.pm_format.specs.declared.read.StreamFail.TheVariants as streams
+use Rattle.pm_format.specs.Stream.{stream}
+use Rattle.pm_format.specs.Taking.{Unread, Reads}
+use Rattle.pm_session.specs.declared.command.ScriptFault.{ScriptFault}
+use Rattle.pm_session.specs.declared.command.ScriptFault.TheVariants as script
+use Rattle.pm_session.specs.declared.fail.ServeFail.{ServeFail}
+use Rattle.pm_session.specs.declared.fail.ServeFail.TheVariants as serve_fails
+use Rattle.pm_session.specs.Serving.{Played, played, IsPlayed, Ended, CutOff, PutPart, NotReached, Reaches, Serves, ServeCounts, WindowAfter}
+use Rattle.vdpm.specs.declared.fault.Fault.{Fault}
+use Rattle.vdpm.specs.declared.fault.Fault.TheVariants as faults
+use Rattle.vdpm.specs.declared.fault.CommandFail.{CommandFail}
+use Rattle.vdpm.specs.declared.fault.CommandFail.TheVariants as fails
+use Rattle.vdpm.specs.declared.words.Asked.TheVariants as asked
+use Rattle.vdpm.specs.Input.{fail_of, Unreached, IsFaulty, Stops}
+use Rattle.vdpm.specs.Ran.{Ran, refused, line_fault, of_script, serve_fail}
+use Rattle.vdpm.specs.Opening.{Opening, IsValidOpening, valid, stream_fail, load_fail}
+use Rattle.vdpm.specs.Outcome.{IsOutcome, Follows, done_with, Replied, CutShort}
+use Rattle.vdpm.specs.Ending.{in_stream, in_script, ReadFails, ReadToEnd, FewMore, Ends, Counts}
+use Rattle.vdpm.proofs.OpeningLaws.{valid_place}
+use Rattle.vdpm.proofs.ReadingLaws.{Begun, took_text, opened, valid_unread}
+use Rattle.vdpm.proofs.OutcomeLaws.{one_outcome, follows_refused, ends_refused}
+
+-- Where the script begins after so many bytes, its place is moved by these.
+moved : (before : ℕ) (place : Option ℕ) (taken : ℕ) → ((n : ℕ) → taken < before + n) → IfSome (option_map (λ n. before + n) place) (λ m. taken < m)
+moved before None taken lt = tt
+moved before (Some n) taken lt = lt n
+
+-- Bytes that don't reach the end of the stream don't reach the place of the outcome.
+view_before : (b : ℕ) (bytes : List ℕ) (taken : ℕ) (all : Ran) → ((r : Result Opening Fault) (place : Option ℕ) → IsValidOpening bytes r place → IfSome place (λ n. taken < n)) → IsOutcome (asked.View b) bytes all → IfSome all.place (λ n. taken < n)
+view_before b bytes taken all before f = subst (λ (a : Ran). IfSome a.place (λ n. taken < n)) (sym f.done) (go f.read f.place f.is)
+  where
+    go : (r : Result Opening Fault) (place : Option ℕ) → IsValidOpening bytes r place → IfSome (done_with (λ o. of_script (length (stream o.h)) (played o.h b no_records o.rest)) r place).place (λ n. taken < n)
+    go (Err e) place is = before (Err e) place is
+    go (Ok o) place is =
+        let lt : taken < length (stream o.h) = subst (λ (p : Option ℕ). IfSome p (λ n. taken < n)) (valid_place bytes (Ok o) place o refl is) (before (Ok o) place is) in
+        moved (length (stream o.h)) (played o.h b no_records o.rest).place taken (λ n. omega (arith, lt))
+
+-- A read failed within the stream.
+stream_unread : (b : ℕ) (left now got : Option (List ℕ)) → Unread left now → ReadFails (asked.View b) left now got got
+stream_unread b left now got u = record {
+  taken = u.taken;
+  took = u.took;
+  before = before left (valid_unread left now u);
+  text = [];
+  put = in_stream u.taken u.cut;
+  gained = gains_none got;
+}
+  where
+    before : (left : Option (List ℕ)) → IfSome left (λ bytes. (r : Result Opening Fault) (place : Option ℕ) → IsValidOpening bytes r place → IfSome place (λ n. length u.taken < n))
+        → IfSome left (λ bytes. (all : Ran) → IsOutcome (asked.View b) bytes all → IfSome all.place (λ n. length u.taken < n))
+    before None is = tt
+    before (Some bytes) is = λ all outcome. view_before b bytes (length u.taken) all is outcome
+
+-- The stream is refused.
+view_faulty : (b : ℕ) (left got : Option (List ℕ)) (f : Fault) → IfSome left (λ bytes. IsFaulty IsValidOpening bytes f) → IfSome left (λ bytes. Replied (asked.View b) bytes (Some f) got got)
+view_faulty b None got f is = tt
+view_faulty b (Some bytes) got f is =
+    ends_refused (asked.View b) (Some bytes) got f (is.place, follows_refused (IsValidOpening bytes) (λ o. of_script (length (stream o.h)) (played o.h b no_records o.rest)) f is.place is.is)
+
+-- The hierarchy isn't opened.
+pub view_load : (b : ℕ) (e : LoadFail) (left now got : Option (List ℕ)) (in_old in_new : ℕ) → Stops IsValidOpening (load_fail e) left now in_old in_new → Ends (asked.View b) (Err (fail_of (load_fail e))) left now got got
+view_load b (loads.EdgeTwice f) left now got in_old in_new stops = view_faulty b left got (faults.EdgeTwice f.0) stops.0
+view_load b (loads.BadNeighbour k) left now got in_old in_new stops = view_faulty b left got (faults.BadNeighbour k) stops.0
+view_load b loads.OutOfMemory left now got in_old in_new stops = refl
+
+pub view_stream : (b : ℕ) (left whole mid now got : Option (List ℕ)) (e : StreamFail) (in_old in_new : ℕ) → whole ≡ left → Reads whole mid now (Err e) → Stops IsValidOpening (stream_fail e) left now in_old in_new → Ends (asked.View b) (Err (fail_of (stream_fail e))) left now got got
+view_stream b left whole mid now got e in_old in_new same reads stops = go e (subst (λ (o : Option (List ℕ)). Reads o mid now (Err e)) same reads) stops
+  where
+    go : (e : StreamFail) → Reads left mid now (Err e) → Stops IsValidOpening (stream_fail e) left now in_old in_new → Ends (asked.View b) (Err (fail_of (stream_fail e))) left now got got
+    go streams.Read reads stops = stream_unread b left now got reads
+    go (streams.Fault format.OutOfMemory) reads stops = refl
+    go (streams.Fault format.BadMagic) reads stops = view_faulty b left got (faults.Stream format.BadMagic) stops.0
+    go (streams.Fault (format.BadVersion v)) reads stops = view_faulty b left got (faults.Stream (format.BadVersion v)) stops.0
+    go (streams.Fault (format.Truncated n)) reads stops = view_faulty b left got (faults.Stream (format.Truncated n)) stops.0
+    go (streams.Fault format.BadCount) reads stops = view_faulty b left got (faults.Stream format.BadCount) stops.0
+    go (streams.Fault (format.BadRoot i)) reads stops = view_faulty b left got (faults.Stream (format.BadRoot i)) stops.0
+    go (streams.Fault (format.BadFace i)) reads stops = view_faulty b left got (faults.Stream (format.BadFace i)) stops.0
+    go (streams.Fault (format.BadRecord i)) reads stops = view_faulty b left got (faults.Stream (format.BadRecord i)) stops.0
+    go (streams.Fault (format.BadInput i)) reads stops = view_faulty b left got (faults.Stream (format.BadInput i)) stops.0
+
+-- The script begins after the stream of a valid hierarchy.
+
+view_outcome : (b : ℕ) (h : Hierarchy) (bytes rest : List ℕ) → Begun (Some bytes) (Some rest) h → IsValid h → IsOutcome (asked.View b) bytes (of_script (length (stream h)) (played h b no_records rest))
+view_outcome b h bytes rest begun good =
+    let o : Opening = record { h = h; rest = rest } in
+    record { read = Ok o; place = Some (length (stream h)); is = valid o (Some (length (stream h))) (opened bytes rest h begun) good; done = refl }
+
+-- A read failed within the script.
+script_before : (b : ℕ) (h : Hierarchy) (bytes rest : List ℕ) (n : ℕ) (all : Ran) → Begun (Some bytes) (Some rest) h → IsValid h → NotReached n (played h b no_records rest) → IsOutcome (asked.View b) bytes all → IfSome all.place (λ m. length (stream h) + n < m)
+script_before b h bytes rest n all begun good before is =
+    subst (λ (a : Ran). IfSome a.place (λ m. length (stream h) + n < m)) (one_outcome (asked.View b) bytes (of_script (length (stream h)) (played h b no_records rest)) all (view_outcome b h bytes rest begun good) is)
+    (on (played h b no_records rest).place before)
+  where
+    on : (o : Option ℕ) → IfSome o (λ place. n < place) → IfSome (option_map (λ k. length (stream h) + k) o) (λ m. length (stream h) + n < m)
+    on None lt = tt
+    on (Some k) lt = omega (arith, lt)
+
+script_unread : (b : ℕ) (h : Hierarchy) (left mid now got_old got_new : Option (List ℕ)) (after : ℕ → Bool) → Begun left mid h → IsValid h → CutOff h b no_records mid now got_old got_new after → ReadFails (asked.View b) left now got_old got_new
+script_unread b h left mid now got_old got_new after begun good c = record {
+  taken = stream h ++ (c.front ++ c.line);
+  took = loses_both left mid now (stream h) (c.front ++ c.line) (took_text left mid h begun) c.took;
+  before = before left mid begun c.before;
+  text = (played h b no_records c.front).text;
+  put = in_script h c.front c.line good c.ends c.open_line;
+  gained = c.gained;
+}
+  where
+    len : length (stream h ++ (c.front ++ c.line)) ≡ length (stream h) + (length c.front + length c.line)
+    len = omega (arith, length-append (stream h) (c.front ++ c.line), length-append c.front c.line)
+
+    before : (left mid : Option (List ℕ)) → Begun left mid h → IfSome mid (λ rest. NotReached (length c.front + length c.line) (played h b no_records rest))
+        → IfSome left (λ bytes. (all : Ran) → IsOutcome (asked.View b) bytes all → IfSome all.place (λ n. length (stream h ++ (c.front ++ c.line)) < n))
+    before None mid begun not_yet = tt
+    before (Some bytes) None begun not_yet = absurd (cc begun.took)
+    before (Some bytes) (Some rest) begun not_yet = λ all is.
+        subst (λ (k : ℕ). IfSome all.place (λ n. k < n)) (sym len) (script_before b h bytes rest (length c.front + length c.line) all begun good not_yet is)
+
+-- The script has ended.
+script_ended : (b : ℕ) (h : Hierarchy) (left mid now got_old got_new : Option (List ℕ)) (fault : Option ScriptFault) (found : Option Fault) (after : ℕ → Bool) → Begun left mid h → IsValid h → option_map line_fault fault ≡ found
+    → Ended h b no_records mid now got_old got_new fault after → IfSome left (λ bytes. Replied (asked.View b) bytes found got_old got_new)
+script_ended b h None mid now got_old got_new fault found after begun good same ended = tt
+script_ended b h (Some bytes) None now got_old got_new fault found after begun good same ended = absurd (cc begun.took)
+script_ended b h (Some bytes) (Some rest) now got_old got_new fault found after begun good same ended = record {
+  all = of_script (length (stream h)) (played h b no_records rest);
+  outcome = view_outcome b h bytes rest begun good;
+  fault_is = ap (option_map line_fault) ended.fault_is ∙ same;
+  gained = ended.gained;
+}
+
+no_place : (before : ℕ) (place : Option ℕ) → option_map (λ n. before + n) place ≡ None → place ≡ None
+no_place before None is = refl
+no_place before (Some n) is = absurd (cc is)
+
+later_end : (window : List ℕ) (now : Option (List ℕ)) → AtEnd (prepend_known window now) → AtEnd now
+later_end window None end = tt
+later_end [] (Some rest) end = end
+later_end (x ∷ xs) (Some rest) end = absurd (cc end)
+
+script_to_end : (b : ℕ) (h : Hierarchy) (left mid now got_old got_new : Option (List ℕ)) (window : List ℕ) (after : ℕ → Bool) → Begun left mid h → IsValid h → Ended h b no_records mid (prepend_known window now) got_old got_new None after → ReadToEnd (asked.View b) left now
+script_to_end b h None mid now got_old got_new window after begun good ended = tt
+script_to_end b h (Some bytes) None now got_old got_new window after begun good ended = absurd (cc begun.took)
+script_to_end b h (Some bytes) (Some rest) now got_old got_new window after begun good ended = λ all is none.
+    let p = played h b no_records rest in
+    let same = one_outcome (asked.View b) bytes (of_script (length (stream h)) p) all (view_outcome b h bytes rest begun good) is in
+    let nowhere : p.place ≡ None = no_place (length (stream h)) p.place (ap (λ (a : Ran). a.place) same ∙ none) in
+    later_end window now (subst (λ (place : Option ℕ). Reaches (Some rest) (prepend_known window now) place) nowhere ended.reaches)
+
+-- A write failed.
+script_cut : (b : ℕ) (h : Hierarchy) (left mid now got_old got_new : Option (List ℕ)) (after : ℕ → Bool) → Begun left mid h → IsValid h → PutPart h b no_records mid now got_old got_new after → IfSome left (λ bytes. CutShort (asked.View b) bytes got_old got_new)
+script_cut b h None mid now got_old got_new after begun good p = tt
+script_cut b h (Some bytes) None now got_old got_new after begun good p = absurd (cc begun.took)
+script_cut b h (Some bytes) (Some rest) now got_old got_new after begun good p = record {
+  all = of_script (length (stream h)) (played h b no_records rest);
+  outcome = view_outcome b h bytes rest begun good;
+  part = p.all;
+}
+
+script_few : (b : ℕ) (h : Hierarchy) (window : List ℕ) (left mid now got_old got_new : Option (List ℕ)) (after : ℕ → Bool) → Begun left mid h → IsValid h → length window ≤ 4095
+    → PutPart h b no_records mid (prepend_known window now) got_old got_new after → FewMore b left now got_old got_new
+script_few b h window left mid now got_old got_new after begun good few p = record {
+  h = h;
+  front = p.front;
+  line = p.line;
+  window = window;
+  good = good;
+  took = loses_both left mid now (stream h) ((p.front ++ p.line) ++ window) (took_text left mid h begun) (loses_both mid (prepend_known window now) now (p.front ++ p.line) window p.took refl);
+  one = p.one;
+  few = few;
+  part = p.part;
+  before = p.before;
+}
+
+-- The session shows the base front of the hierarchy.
+shown : (h h' : Hierarchy) (b b' : ℕ) (T : ℕ → Bool) (mid now got_old got_new : Option (List ℕ)) (r : Result (Unit {0}) ServeFail) (after : ℕ → Bool) → h' ≡ h → b' ≡ b → T ≡ no_records → Serves h' b' T mid now got_old got_new r after
+    → Serves h b no_records mid now got_old got_new r after
+shown h h' b b' T mid now got_old got_new r after same_h same_b base serves =
+    subst (λ (q : Hierarchy). Serves q b no_records mid now got_old got_new r after) same_h
+    (subst (λ (k : ℕ). Serves h' k no_records mid now got_old got_new r after) same_b
+    (subst (λ (S : ℕ → Bool). Serves h' b' S mid now got_old got_new r after) base serves))
+
+-- What a session that began so makes of `view`.
+module _ (b b' : ℕ) (h h' : Hierarchy) (T : ℕ → Bool) (left mid now got_old got_new : Option (List ℕ)) (window : List ℕ) (after : ℕ → Bool) (begun : Begun left mid h) (good : IsValid h) (same_h : h' ≡ h) (same_b : b' ≡ b) (base : T ≡ no_records) where
+  pub view_done : Serves h' b' T mid (prepend_known window now) got_old got_new (Ok tt) after → IfSome left (λ bytes. Replied (asked.View b) bytes None got_old got_new)
+  view_done serves = script_ended b h left mid (prepend_known window now) got_old got_new None None after begun good refl (shown h h' b b' T mid (prepend_known window now) got_old got_new (Ok tt) after same_h same_b base serves)
+
+  pub view_to_end : Serves h' b' T mid (prepend_known window now) got_old got_new (Ok tt) after → ReadToEnd (asked.View b) left now
+  view_to_end serves = script_to_end b h left mid now got_old got_new window after begun good (shown h h' b b' T mid (prepend_known window now) got_old got_new (Ok tt) after same_h same_b base serves)
+
+  pub view_served : (e : ServeFail) → Serves h' b' T mid (prepend_known window now) got_old got_new (Err e) after → WindowAfter {X = Unit {0}} (Err e) window → Ends (asked.View b) (Err (serve_fail e)) left now got_old got_new
+  view_served e serves is = go e (shown h h' b b' T mid (prepend_known window now) got_old got_new (Err e) after same_h same_b base serves) is
+    where
+      go : (e : ServeFail) → Serves h b no_records mid (prepend_known window now) got_old got_new (Err e) after → WindowAfter {X = Unit {0}} (Err e) window → Ends (asked.View b) (Err (serve_fail e)) left now got_old got_new
+      go (serve_fails.BadLine n) s w = script_ended b h left mid (prepend_known window now) got_old got_new (Some (script.BadLine n)) (Some (faults.BadLine n)) after begun good refl s
+      go (serve_fails.NoRecord n) s w = script_ended b h left mid (prepend_known window now) got_old got_new (Some (script.NoRecord n)) (Some (faults.NoRecord n)) after begun good refl s
+      go serve_fails.ScriptTooLong s w = script_ended b h left mid (prepend_known window now) got_old got_new (Some script.TooLong) (Some faults.ScriptTooLong) after begun good refl s
+      go serve_fails.Read s w =
+          script_unread b h left mid now got_old got_new after begun good
+          (subst (λ (o : Option (List ℕ)). CutOff h b no_records mid o got_old got_new after) (ap (λ (l : List ℕ). prepend_known l now) w ∙ sym (loses_none now)) s)
+      go serve_fails.Write s w = script_cut b h left mid (prepend_known window now) got_old got_new after begun good s
+
+  pub view_few : (e : ServeFail) → Serves h' b' T mid (prepend_known window now) got_old got_new (Err e) after → WindowAfter {X = Unit {0}} (Err e) window → serve_fail e ≡ fails.Write → FewMore b left now got_old got_new
+  view_few e serves is write = go e (shown h h' b b' T mid (prepend_known window now) got_old got_new (Err e) after same_h same_b base serves) is write
+    where
+      go : (e : ServeFail) → Serves h b no_records mid (prepend_known window now) got_old got_new (Err e) after → WindowAfter {X = Unit {0}} (Err e) window → serve_fail e ≡ fails.Write → FewMore b left now got_old got_new
+      go (serve_fails.BadLine n) s w write = absurd (cc write)
+      go (serve_fails.NoRecord n) s w write = absurd (cc write)
+      go serve_fails.ScriptTooLong s w write = absurd (cc write)
+      go serve_fails.Read s w write = absurd (cc write)
+      go serve_fails.Write s w write = script_few b h window left mid now got_old got_new after begun good w s
+
+pub view_counts : (e : ServeFail) (in_old in_mid in_new out_old out_new : ℕ) → in_mid ≡ in_old → ServeCounts {X = Unit {0}} (Err e) in_mid in_new out_old out_new → Counts (Err (serve_fail e)) in_old in_new out_old out_new
+view_counts (serve_fails.BadLine n) in_old in_mid in_new out_old out_new same counts = (counts.0 ∙ same, counts.1)
+view_counts (serve_fails.NoRecord n) in_old in_mid in_new out_old out_new same counts = (counts.0 ∙ same, counts.1)
+view_counts serve_fails.ScriptTooLong in_old in_mid in_new out_old out_new same counts = (counts.0 ∙ same, counts.1)
+view_counts serve_fails.Read in_old in_mid in_new out_old out_new same counts = subst (λ (n : ℕ). Rose n in_new) same counts.0
+view_counts serve_fails.Write in_old in_mid in_new out_old out_new same counts = counts.1

@@ -1,0 +1,95 @@
+-- How a command ends, and when each status comes.
+use Rattle.std.specs.Prelude.{◌≡◌, ◌⊎◌, ℕ, ◌<◌, ◌≤◌, List, [], ◌∷◌, ◌++◌, length, Option, Some, None, IfSome, Result, Ok, Err}
+use Rattle.pm_io.specs.Bytes.{Loses, Gains, GainsPart, AtEnd}
+use Rattle.pm_io.specs.Causes.{Rose}
+use Rattle.obj_lines.specs.Text.{until, lines}
+use Rattle.pm_forest.specs.Forest.{Hierarchy}
+use Rattle.pm_forest.specs.Fronts.{no_records}
+use Rattle.pm_beyond.specs.Valid.{IsValid}
+use Rattle.pm_format.specs.declared.fault.FormatError.TheVariants as format
+use Rattle.pm_format.specs.Stream.{stream}
+use Rattle.pm_format.specs.Faults.{stream_fault}
+use Rattle.pm_session.specs.Serving.{played, AreLines}
+use Rattle.vdpm.specs.declared.words.Asked.{Asked}
+use Rattle.vdpm.specs.declared.words.Asked.TheVariants as asked
+use Rattle.vdpm.specs.declared.fault.Fault.{Fault}
+use Rattle.vdpm.specs.declared.fault.CommandFail.{CommandFail}
+use Rattle.vdpm.specs.declared.fault.CommandFail.TheVariants as fails
+use Rattle.vdpm.specs.Ran.{Ran}
+use Rattle.vdpm.specs.Outcome.{IsOutcome, Replied, CutShort}
+
+-- The replies of `view` once these bytes were taken and no more can be: none within the stream, and then those to the
+-- script lines whose LF is among them.
+pub data RepliesTo (budget : ℕ) : List ℕ → List ℕ → Type 0 where
+  in_stream : (taken : List ℕ) → stream_fault taken ≡ Some (format.Truncated (length taken)) → RepliesTo budget taken []
+  in_script : (h : Hierarchy) (front line : List ℕ) → IsValid h → AreLines front → until 10 line ≡ line → RepliesTo budget (stream h ++ (front ++ line)) (played h budget no_records front).text
+
+-- What a command has put once these bytes were taken and no more can be: `view` its replies, and the others nothing.
+abbrev pub PutBy : Asked → List ℕ → List ℕ → Type 0
+PutBy asked.Canon taken text = text ≡ []
+PutBy (asked.Build target) taken text = text ≡ []
+PutBy asked.Expand taken text = text ≡ []
+PutBy asked.Check taken text = text ≡ []
+PutBy (asked.View budget) taken text = RepliesTo budget taken text
+
+-- A read failed before the place that decides the outcome.
+pub record ReadFails (asks : Asked) (left now old new : Option (List ℕ)) : Type 0 where
+  pub taken : List ℕ
+  pub took : Loses left now taken
+  pub before : IfSome left (λ bytes. (all : Ran) → IsOutcome asks bytes all → IfSome all.place (λ n. length taken < n))
+  pub text : List ℕ
+  pub put : PutBy asks taken text
+  pub gained : Gains old new text
+
+-- Where the end of the input decides the outcome, the input was read to its end.
+abbrev pub ReadToEnd : Asked → Option (List ℕ) → Option (List ℕ) → Type 0
+ReadToEnd asks left now = IfSome left (λ bytes. (all : Ran) → IsOutcome asks bytes all → all.place ≡ None → AtEnd now)
+
+-- A write of `view` failed at the reply to this line, and few bytes were taken past the line.
+pub record FewMore (budget : ℕ) (left now old new : Option (List ℕ)) : Type 0 where
+  pub h : Hierarchy
+  pub front : List ℕ
+  pub line : List ℕ
+  pub window : List ℕ
+  pub good : IsValid h
+  pub took : Loses left now (stream h ++ ((front ++ line) ++ window))
+  pub one : lines line ≡ line ∷ []
+  pub few : length window ≤ 4095
+  pub part : GainsPart old new (played h budget no_records (front ++ line)).text
+  pub before : length (played h budget no_records front).text ≤ length part.done
+
+-- How a command ends: `left` is what the source had left at first and `now` what it has left then, and `old` and `new` what
+-- the sink had taken.
+abbrev pub Ends : Asked → Result (Unit {0}) CommandFail → Option (List ℕ) → Option (List ℕ) → Option (List ℕ) → Option (List ℕ) → Type 0
+Ends asks (Ok done) left now old new = IfSome left (λ bytes. Replied asks bytes None old new)
+Ends asks (Err (fails.Faulty f)) left now old new = IfSome left (λ bytes. Replied asks bytes (Some f) old new)
+Ends asks (Err fails.Write) left now old new = IfSome left (λ bytes. CutShort asks bytes old new)
+Ends asks (Err fails.Read) left now old new = ReadFails asks left now old new
+Ends asks (Err fails.OutOfMemory) left now old new = new ≡ old
+
+-- What the counts of the source and of the sink did then.
+abbrev pub Counts : Result (Unit {0}) CommandFail → ℕ → ℕ → ℕ → ℕ → Type 0
+Counts (Ok done) in_old in_new out_old out_new = (in_new ≡ in_old) × (out_new ≡ out_old)
+Counts (Err (fails.Faulty f)) in_old in_new out_old out_new = (in_new ≡ in_old) × (out_new ≡ out_old)
+Counts (Err fails.Write) in_old in_new out_old out_new = Rose out_old out_new
+Counts (Err fails.Read) in_old in_new out_old out_new = Rose in_old in_new
+Counts (Err fails.OutOfMemory) in_old in_new out_old out_new = Unit {0}
+
+abbrev pub status_of : CommandFail → ℕ
+status_of (fails.Faulty f) = 1
+status_of fails.Read = 3
+status_of fails.Write = 4
+status_of fails.OutOfMemory = 5
+
+-- The error sink gained the line, or a part of it where it failed.
+abbrev pub Said : Option (List ℕ) → Option (List ℕ) → ℕ → ℕ → List ℕ → Type 0
+Said old new before now line = Gains old new line ⊎ (GainsPart old new line × Rose before now)
+
+-- A device is as it was.
+abbrev pub Stayed : Option (List ℕ) → Option (List ℕ) → ℕ → ℕ → Type 0
+Stayed old new before now = (new ≡ old) × (now ≡ before)
+
+-- The status of an outcome.
+abbrev pub Answers : Option Fault → ℕ → Type 0
+Answers None status = status ≡ 0
+Answers (Some f) status = status ≡ 1
