@@ -1,7 +1,7 @@
 use Rattle.std.proofs.Common.{◌≡◌, ◌<◌, true, length, sym, ap, subst, ◌∙◌, arith}
 use Rattle.pm_links.specs.Lists.{has}
 use Rattle.pm_forest.specs.Forest.{Hierarchy, node_count, maker_of}
-use Rattle.pm_forest.specs.Fronts.{is_active, set_of}
+use Rattle.pm_forest.specs.Fronts.{set_of}
 use Rattle.pm_beyond.specs.Moves.{is_at}
 use Rattle.pm_view.specs.Wanted.{is_wanted}
 use Rattle.pm_refine.specs.Queued.{held, Joins, leads_to}
