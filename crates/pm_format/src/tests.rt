@@ -1,5 +1,6 @@
-use crate::{FormatError, OutOfMemory, Whole, decode_whole, encode, stream_len};
-use pm_io::MemSink;
+use crate::{FormatError, OutOfMemory, StreamFail, encode, read_stream, stream_len};
+use pm_forest::Hierarchy;
+use pm_io::{MemSink, MemSource, Taker};
 use std::alloc::Global;
 use std::test::Fail;
 
@@ -47,13 +48,37 @@ fn bytes_of(alloc: Global, words: &[i32]) -> Result<Vec<u8>, OutOfMemory> {
     Ok(bytes)
 }
 
-// Reads a text of fewer than 1,000 bytes.
-fn decoded(alloc: Global, bytes: &[u8]) -> Result<Whole, FormatError> {
-    if bytes.len() >= 1_000 {
-        return Err(FormatError::OutOfMemory);
-    }
-    decode_whole(alloc, bytes)
+// Reads the text that the bytes begin with, which come in pieces of so many bytes, where these calls of the source fail.
+// Answers with it how many bytes the next piece has, where that read doesn't fail.
+fn read(
+    alloc: Global,
+    bytes: &[u8],
+    step: usize,
+    fails: &[u32],
+) -> Result<(Hierarchy, Option<usize>), StreamFail> {
+    let wanting = |_| StreamFail::Fault(FormatError::OutOfMemory);
+    let mut source = MemSource::new(alloc, bytes, step.max(1), fails).map_err(wanting)?;
+    let mut taker = Taker::new(alloc).map_err(wanting)?;
+    let h = read_stream(alloc, &mut taker, &mut source)?;
+    let next = taker.piece(&mut source).ok().map(|piece| piece.len());
+    Ok((h, next))
 }
+
+// The fault of the text that the bytes begin with, where pieces of each size give the same.
+fn fault_of(alloc: Global, bytes: &[u8]) -> Option<FormatError> {
+    let mut found = None;
+    for step in STEPS {
+        match read(alloc, bytes, step, &[]) {
+            Err(StreamFail::Fault(fault)) if found.is_none_or(|f| f == fault) => found = Some(
+                fault,
+            ),
+            _ => return None,
+        }
+    }
+    found
+}
+
+const STEPS: [usize; 3] = [1, 3, 4096];
 
 // Changes of one word of the octahedron: the word's first byte, what stands there in its place, and the fault.
 const DAMAGED: [(usize, i32, FormatError); 11] = [
@@ -73,23 +98,41 @@ const DAMAGED: [(usize, i32, FormatError); 11] = [
 #[test]
 fn reads_and_writes_the_text_that_bytes_begin_with(rt: HostRuntime) -> Result<(), Fail> {
     let alloc = rt.alloc();
-    for (words, used, records, faces) in [
+    for (words, size, records, faces) in [
         (OCTAHEDRON.as_slice(), 352, 2, 8),
         (SQUARE.as_slice(), 168, 1, 2),
     ] {
         let mut bytes = bytes_of(alloc, words)?;
-        for _after in 0..2 {
-            let whole = decoded(alloc, &bytes).expect(&rt, "a stream");
-            assert_eq!(rt; whole.used, used);
-            assert_eq!(rt; whole.h.records(), records);
-            assert_eq!(rt; whole.h.faces(), faces);
-            assert_eq!(rt; stream_len(&whole.h), used as u64);
-            let mut sink = MemSink::new(alloc, used, 7, &[])?;
-            assert!(rt; encode(&whole.h, &mut sink).is_ok());
-            assert_eq!(rt; sink.bytes().len(), used);
-            assert!(rt; bytes.starts_with(sink.bytes()), "the text of {used} bytes");
+        for after in 0..2 {
+            for step in STEPS {
+                let (h, next) = read(alloc, &bytes, step, &[]).expect(&rt, "a stream");
+                assert_eq!(rt; next, Some(after));
+                assert_eq!(rt; h.records(), records);
+                assert_eq!(rt; h.faces(), faces);
+                assert_eq!(rt; stream_len(&h), size as u64);
+                let mut sink = MemSink::new(alloc, size, 7, &[])?;
+                assert!(rt; encode(&h, &mut sink).is_ok());
+                assert_eq!(rt; sink.bytes().len(), size);
+                assert!(rt; bytes.starts_with(sink.bytes()), "the text of {size} bytes");
+            }
             bytes.push(0)?;
         }
+    }
+    Ok(())
+}
+
+// In pieces of four bytes the octahedron's text takes 88 calls of the source.
+#[test]
+fn a_failing_read_is_told_where_the_text_is_not_whole(rt: HostRuntime) -> Result<(), Fail> {
+    let alloc = rt.alloc();
+    let bytes = bytes_of(alloc, &OCTAHEDRON)?;
+    for (call, fails) in [(0, true), (1, true), (44, true), (87, true), (88, false)] {
+        let answer = read(alloc, &bytes, 4, &[call]);
+        assert_eq!(rt;
+            answer.err() == Some(StreamFail::Read),
+            fails,
+            "call {call}"
+        );
     }
     Ok(())
 }
@@ -99,7 +142,7 @@ fn names_the_byte_at_which_a_text_is_cut_off(rt: HostRuntime) -> Result<(), Fail
     let alloc = rt.alloc();
     let bytes = bytes_of(alloc, &OCTAHEDRON)?;
     for cut in [0, 1, 3, 4, 7, 8, 23, 24, 43, 104, 212, 235, 351] {
-        let fault = decoded(alloc, &bytes[..bytes.len().min(cut)]).err();
+        let fault = fault_of(alloc, &bytes[..bytes.len().min(cut)]);
         assert_eq!(rt; fault, Some(FormatError::Truncated(cut as u32)));
     }
     Ok(())
@@ -114,8 +157,7 @@ fn names_the_first_fault(rt: HostRuntime) -> Result<(), Fail> {
             *place = word;
         }
         let bytes = bytes_of(alloc, &words)?;
-        let found = decoded(alloc, &bytes).err();
-        assert_eq!(rt; found, Some(fault), "word at byte {at}");
+        assert_eq!(rt; fault_of(alloc, &bytes), Some(fault), "word at byte {at}");
     }
     Ok(())
 }
@@ -131,7 +173,7 @@ fn judges_a_unit_when_its_last_byte_is_there(rt: HostRuntime) -> Result<(), Fail
         (b"VDPM\x02\0\0", FormatError::Truncated(7)),
         (b"VDPM\x02\0\0\0", FormatError::BadVersion(2)),
     ] {
-        assert_eq!(rt; decoded(alloc, bytes).err(), Some(fault));
+        assert_eq!(rt; fault_of(alloc, bytes), Some(fault));
     }
     Ok(())
 }
