@@ -7,8 +7,7 @@ use Rattle.pm_forest.specs.Forest.{Hierarchy, node_count}
 use Rattle.pm_forest.specs.Fronts.{is_active}
 use Rattle.pm_front.specs.Active.{AreActive}
 use Rattle.pm_front.specs.Shown.{numbers, active_nodes}
-use Rattle.pm_front.proofs.ListLaws.{has_filter-parts, has_filter-from, once-filter}
-use Rattle.pm_front.proofs.CornerTables.{number-member, once-range}
+use Rattle.pm_front.proofs.ListLaws.{has_filter-parts, has_filter-from, once-filter, once-range, number-member}
 use Rattle.pm_links.specs.Lists.{has, IsOnce, first_of, after, rest}
 use Rattle.pm_links.proofs.Walking.{rest_first, rest_next, held_first, held_next}
 
