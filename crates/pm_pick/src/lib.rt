@@ -1,0 +1,23 @@
+//! Picking: which face of the input a ray hits first. Nodes whose balls the ray doesn't meet are skipped with all under them.
+#![tactic(auto)]
+
+mod balls;
+mod hits;
+mod lists;
+mod nearest;
+mod picker;
+mod ray;
+#[cfg(test)]
+mod tests;
+mod theory;
+mod walk;
+mod ways;
+
+pub use balls::ball_met;
+pub use hits::{Hit, face_hit};
+pub use picker::Picker;
+pub use ray::Ray;
+pub use theory::hits_are_sound;
+
+/// The answer for want of memory.
+pub type OutOfMemory = std::alloc::AllocError;
