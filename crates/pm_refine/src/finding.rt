@@ -87,7 +87,7 @@ fn look_below<L: Ledger>(
     ensures len { length moves.new ≡ length moves.old }
     ensures joined { let wanted = is_wanted h.now view.now in
         Joins (held moves.old) (held moves.new)
-            (λ j. leads_to h.now wanted (t_of h.now k) j || leads_to h.now wanted (u_of h.now k) j) }
+        (λ j. leads_to h.now wanted (t_of h.now k) j || leads_to h.now wanted (u_of h.now k) j) }
     ensures keyed { AreKeyed up_key moves.old → AreKeyed up_key moves.new }
     ensures cost { steps.new ≤ steps.old + 2 }
 {
@@ -119,7 +119,7 @@ pub(crate) fn find<L: Ledger>(
         work.new }
     ensures cost { let h = front.now.h in let S = set_of front.now.flags in
         steps.new ≤ steps.old + length front.now.active
-            + 2 * count (is_due h (is_wanted h view.now) S) (record_count h) }
+        + 2 * count (is_due h (is_wanted h view.now) S) (record_count h) }
 {
     front.is_sound();
     see_active(front, bounds, view, moves, work, steps);
