@@ -1,6 +1,5 @@
 -- Reading units one after the other, as a loop does.
-use Rattle.std.proofs.Common.{◌≡◌, ℕ, suc, ◌+◌, ◌-◌, ◌<◌, ◌≤◌, List, [], ◌∷◌, ◌++◌, Option, Some, None, Result, Ok, Err, length, refl, sym, ◌∙◌, ap, subst, arith, length-append}
-use Rattle.pm_forest.specs.Shaping.{Shaping}
+use Rattle.std.proofs.Common.{◌≡◌, ℕ, suc, ◌+◌, ◌-◌, ◌<◌, ◌≤◌, List, [], ◌∷◌, ◌++◌, Option, Some, None, Result, Ok, Err, refl, ap, arith}
 use Rattle.pm_forest.specs.declared.parts.Shape.{Shape}
 use Rattle.pm_format.specs.declared.stop.Stop.{Stop}
 use Rattle.pm_format.specs.Reading.{then_read, read_map, whole, judged, units_at}
@@ -51,29 +50,3 @@ module _ {X : Type 0} (read : Reader X) (count i : ℕ) (before : List X) (ws : 
   pub units_end : count ≤ i → units_at read (count - i) before ws ≡ Ok (before, ws)
   unfolding units_at
   units_end le = let k : count - i ≡ 0 = omega arith in rw k refl
-
--- A shaper that took i of its units of one kind in, as they were read; get and put are for the list of this kind.
-pub record TookIn {X : Type 0} (read : Reader X) (get : Shaping → List X) (put : Shaping → List X → Shaping) (count i : ℕ) (first now : Shaping) (ws left : List ℕ) : Type 0 where
-  pub rest : units_at read (count - i) (get now) left ≡ units_at read count [] ws
-  pub others : now ≡ put first (get now)
-  pub len : length (get now) ≡ i
-
-module _ {X : Type 0} (read : Reader X) (get : Shaping → List X) (put : Shaping → List X → Shaping) where
-  -- The shaper with one unit more, and the words that are left.
-  abbrev with_unit : Shaping → X × List ℕ → Shaping × List ℕ
-  with_unit now u = (put now (get now ++ u.0 ∷ []), u.1)
-
-  pub took_one : ((s : Shaping) (l : List X) → get (put s l) ≡ l) →
-      ((s : Shaping) (k l : List X) → put (put s k) l ≡ put s l) →
-      (count i : ℕ) (first now after : Shaping) (ws left rest : List ℕ) → i < count →
-      read_map (with_unit now) (read (get now) left) ≡ Ok (after, rest) →
-      TookIn read get put count i first now ws left → TookIn read get put count (i + 1) first after ws rest
-  took_one get_put put_put count i first now after ws left rest lt is before =
-      let (u, was, took) = read_map_ok (with_unit now) (read (get now) left) (after, rest) is in
-      let l = get now ++ u.0 ∷ [] in
-      let more = ap (λ k. units_at read (count - (i + 1)) k u.1) (get_put now l) in
-      subst (λ (v : Shaping × List ℕ). TookIn read get put count (i + 1) first v.0 ws v.1) took (record {
-        rest = more ∙ sym (units_go_on read count i (get now) left u lt was) ∙ before.rest;
-        others = ap (λ s. put s l) before.others ∙ put_put first (get now) l ∙ ap (put first) (sym (get_put now l));
-        len = ap length (get_put now l) ∙ omega (arith, length-append (get now) (u.0 ∷ []), before.len);
-      })

@@ -1,5 +1,5 @@
 -- A text in bytes, and the hierarchy that its words spell.
-use Rattle.std.proofs.Common.{◌≡◌, ◌≢◌, ◌⊎◌, ℕ, ◌+◌, ◌-◌, ◌*◌, ◌≤◌, eqb, ltb, Bool, true, false, cond, ◌&&◌, ◌||◌, not, List, [], ◌∷◌, ◌++◌, Some, None, Result, Ok, Err, length, sum, take, drop, get_or, inl, inr, refl, sym, ◌∙◌, ap, subst, arith, append_assoc, length-append}
+use Rattle.std.proofs.Common.{◌≡◌, ℕ, ◌+◌, ◌-◌, ◌*◌, ◌≤◌, eqb, ltb, Bool, true, false, cond, ◌&&◌, ◌||◌, not, List, [], ◌∷◌, ◌++◌, Some, None, Result, Ok, Err, length, sum, take, drop, get_or, refl, sym, ◌∙◌, ap, subst, arith, append_assoc, length-append}
 use Rattle.std.specs.List.{flat_map}
 use Rattle.std.specs.Cmp.Lexicographic.{same_text}
 use Rattle.std.proofs.lemmas.Bool.{eqb-true, or_parts, eq-eqb, not-false}
@@ -9,19 +9,16 @@ use Rattle.pm_forest.specs.declared.parts.Counts.{Counts}
 use Rattle.pm_forest.specs.declared.parts.Root.{Root}
 use Rattle.pm_forest.specs.declared.parts.Face.{Face}
 use Rattle.pm_forest.specs.declared.parts.Record.{Record}
-use Rattle.pm_forest.specs.declared.parts.Shape.TheVariants as shapes
 use Rattle.pm_forest.specs.Forest.{Hierarchy, leaf_count, record_count, widths_of}
 use Rattle.pm_forest.specs.Rules.{AllFit, counts_are_bad, counts_of, width_is_bad, root_fault, base_fault, record_fault_after, past_fault, HasShape}
 use Rattle.pm_forest.proofs.UnitLaws.{passed}
 use Rattle.pm_forest.proofs.OwnerLaws.{sum-cons}
-use Rattle.pm_format.specs.declared.fault.FormatError.{FormatError}
 use Rattle.pm_format.specs.declared.fault.FormatError.TheVariants as faults
 use Rattle.pm_format.specs.declared.stop.Stop.{Stop}
-use Rattle.pm_format.specs.declared.stop.Stop.TheVariants as stops
 use Rattle.pm_format.specs.Words.{words_of, spelled, AreWords, IsBytes}
 use Rattle.pm_format.specs.Stream.{root_words, base_words, record_words, stream_words, stream}
 use Rattle.pm_format.specs.Reading.{root_after, base_after, record_after_all, units_at, header_at, rest_at, forest_at}
-use Rattle.pm_format.specs.Faults.{magic_is_bad, named, fault_in, stream_fault}
+use Rattle.pm_format.specs.Faults.{magic_is_bad, fault_in, stream_fault}
 use Rattle.pm_format.specs.Laws.{OneSpelling, NoPrefix, WholeTextsHaveNoFault, WhatHasNoFaultIsWhole}
 use Rattle.pm_format.proofs.ReadingLaws.{same_Ok, then_read_ok, judged_ok}
 use Rattle.pm_format.proofs.WordLaws.{words_again, words_take, text_words, length-words_of, length-spelled}
@@ -235,22 +232,6 @@ what_is_whole bytes fit none =
       text = sym (take-append-drop (length (stream u.0)) bytes) ∙ ap (λ l. l ++ drop (length (stream u.0)) bytes) b.text;
     }
 
--- bytes whose reading stops have the fault that is named so
-pub stops_with : (bytes : List ℕ) (stop : Stop) → magic_is_bad bytes ≡ false →
-    (stop ≡ stops.Fault shapes.OutOfMemory) ⊎ (forest_at (words_of bytes) ≡ Err stop) →
-    (named (length bytes) stop ≡ faults.OutOfMemory) ⊎ (stream_fault bytes ≡ Some (named (length bytes) stop))
-unfolding stream_fault
-stops_with bytes stop good (inl memory) = inl (ap (named (length bytes)) memory)
-stops_with bytes stop good (inr is) = inr (rw (good, is) refl)
-
 pub bad_magic : (bytes : List ℕ) → magic_is_bad bytes ≡ true → stream_fault bytes ≡ Some faults.BadMagic
 unfolding stream_fault
 bad_magic bytes bad = rw bad refl
-
--- bytes with a fault begin with no text
-pub no_text : (bytes : List ℕ) (e : FormatError) → (e ≡ faults.OutOfMemory) ⊎ (stream_fault bytes ≡ Some e) →
-    e ≢ faults.OutOfMemory → (h : Hierarchy) (rest : List ℕ) → HasShape h → bytes ≡ stream h ++ rest → ⊥
-no_text bytes e (inl memory) other h rest shape is = other memory
-no_text bytes e (inr fault) other h rest shape is =
-    let none = ap stream_fault is ∙ whole_text h rest shape in
-    absurd (cc (fault, none))

@@ -128,6 +128,3 @@ took_base s u = (record s { h = record s.h { bases = s.h.bases ++ u.0 ∷ [] } }
 
 abbrev pub took_face : Shaping → Unfinished × List ℕ → Shaping × List ℕ
 took_face s u = (settled s.counts s.h u.0, u.1)
-
-abbrev pub took_record : Shaping → Record × List ℕ → Shaping × List ℕ
-took_record s u = (record s { h = with_record s.h u.0 }, u.1)
