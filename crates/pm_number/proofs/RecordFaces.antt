@@ -1,8 +1,8 @@
 -- The faces of a record of a hierarchy that numbers a run: which side lies between its children, and what is told of the others.
-use Rattle.std.proofs.Common.{suc, zero, ◌≡◌, ◌≢◌, ℕ, ◌+◌, ◌-◌, ◌*◌, ◌<◌, eqb, true, false, cond, Option, Some, None, is_some, unwrap_or, inl, inr, sym, ap, ◌∙◌, subst, arith}
+use Rattle.std.proofs.Common.{suc, ◌≡◌, ◌≢◌, ℕ, ◌+◌, ◌*◌, ◌<◌, eqb, true, false, cond, Option, Some, None, is_some, unwrap_or, inl, inr, sym, ap, ◌∙◌, subst, arith}
 use Rattle.std.proofs.lemmas.Bool.{cases_Bool, and_left, cond-true, cond-false, both_ways, false≢true, false_from_ne_true, and_from, eq-eqb, ne_eqb, and_right}
 use Rattle.pm_base.specs.Counts.{one_if}
-use Rattle.pm_base.specs.Sides.{next, face_of, Net, to, Stands}
+use Rattle.pm_base.specs.Sides.{next, face_of, Net, Stands}
 use Rattle.pm_base.specs.declared.log.Gone.{Gone}
 use Rattle.pm_beyond.specs.Walks.{number_of, mate_of, expected_at, expected}
 use Rattle.pm_forest.proofs.Ancestors.{holds-ancestor_of}

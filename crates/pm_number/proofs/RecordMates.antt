@@ -1,5 +1,5 @@
 -- What is told of the sides of a record is what stands across them in the run, stage by stage.
-use Rattle.std.proofs.Common.{suc, zero, ◌≡◌, ◌≢◌, ℕ, ◌+◌, ◌-◌, ◌*◌, ◌<◌, true, false, cond, ◌&&◌, Option, Some, None, is_some, inl, inr, refl, sym, ap, ◌∙◌, subst, arith}
+use Rattle.std.proofs.Common.{suc, ◌≡◌, ◌≢◌, ℕ, ◌+◌, ◌*◌, ◌<◌, true, false, cond, ◌&&◌, Option, Some, None, is_some, inl, inr, refl, sym, ap, ◌∙◌, subst, arith}
 use Rattle.std.proofs.lemmas.Bool.{cases_Bool, and_left, cond-true, cond-false, both_ways, true≢false, and_parts, and_from, eq-eqb, ne_eqb, and_right}
 use Rattle.std.proofs.lemmas.Option.{none-some}
 use Rattle.pm_base.proofs.Sides.{stands_next}

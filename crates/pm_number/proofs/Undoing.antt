@@ -3,7 +3,7 @@ use Rattle.std.proofs.Common.{suc, zero, ◌≡◌, ℕ, ◌+◌, ◌-◌, ◌*�
 use Rattle.std.proofs.lemmas.Bool.{cases_lt, cases_Bool}
 use Rattle.std.proofs.lemmas.Option.{none-some}
 use Rattle.pm_base.proofs.Search.{option_cases}
-use Rattle.pm_base.specs.Sides.{next, face_of, to, Stands}
+use Rattle.pm_base.specs.Sides.{next, face_of, Stands}
 use Rattle.pm_beyond.specs.Walks.{expected, IsOuter}
 use Rattle.pm_forest.proofs.FaceNumbers.{first_face-mono, revealed-parts, record-lt}
 use Rattle.pm_forest.proofs.Sides.{three_sides}
@@ -19,7 +19,7 @@ use Rattle.pm_runs.proofs.Across.{across_next-stays, across_last-stays}
 use Rattle.pm_runs.specs.Merged.{IsProper, StandsAcross, KeepsApart}
 use Rattle.pm_runs.specs.Pairs.{Links, IsPair}
 use Rattle.pm_number.proofs.Stages.{side-face, side-lt, side-back, root-ancestor, base-first, leaf-node, leaves, stage}
-use Rattle.pm_number.proofs.RecordFaces.{k_lt, shape_left, shape_right, expected-first, expected-second, InnerOf, left_inner, right_inner}
+use Rattle.pm_number.proofs.RecordFaces.{shape_left, shape_right, expected-first, expected-second, InnerOf, left_inner, right_inner}
 use Rattle.pm_number.proofs.RecordMates.{recorded, stands_on}
 
 module _ (r : Run) (h : Hierarchy) (node leaf face : ℕ → ℕ) (run : IsMerging r) (num : IsNumbered r h node leaf face) where
