@@ -1,9 +1,9 @@
-use Rattle.std.proofs.Common.{◌≡◌, ◌+◌, ◌≤◌, ◌<◌, ◌++◌, ℕ, List, ap, sym, ◌∙◌, arith}
+use Rattle.std.proofs.Common.{◌≡◌, ◌+◌, ◌++◌, ℕ, List, ap, ◌∙◌, arith}
 use Rattle.std.specs.List.{flat_map}
 use Rattle.pm_base.specs.Place.{Place}
 use Rattle.pm_base.specs.Meshes.{Mesh}
 use Rattle.pm_base.specs.declared.mesh.Corners.{Corners}
-use Rattle.pm_grid.specs.Grid.{numbers, point_row, face_row, grid_points, grid_faces, grid}
+use Rattle.pm_grid.specs.Grid.{numbers, point_row, face_row, grid_points, grid_faces}
 use Rattle.pm_grid.proofs.RowLists.{rows_more}
 use Rattle.pm_grid.proofs.mesh.grid.Goals as goal
 
