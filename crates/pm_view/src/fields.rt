@@ -13,8 +13,8 @@ use pm_io::read_unsigned;
 #[derive(Clone, Copy, Debug, PartialEq, Eq)]
 pub struct BadView;
 
-// The first field, and the rest, which is empty or begins with the space that ends the field.
-fn cut_field(text: &[u8]) -> (&[u8], &[u8])
+/// The first field, and the rest, which is empty or begins with the space that ends the field.
+pub fn cut_field(text: &[u8]) -> (&[u8], &[u8])
     ensures { fields text.now ≡ result.0.now ∷ fields_after result.1.now }
 {
     for (i, b) in text.iter().enumerate() {
@@ -35,8 +35,8 @@ fn after_space(rest: &[u8]) -> Option<&[u8]>
     }
 }
 
-// The next field and the rest; none where the last field was read.
-fn next_field(rest: &[u8]) -> Option<(&[u8], &[u8])>
+/// The next field and the rest; none where the last field was read.
+pub fn next_field(rest: &[u8]) -> Option<(&[u8], &[u8])>
     ensures { MatchOption result (fields_after rest.now ≡ []) (λ r. fields_after rest.now ≡ r.0.now ∷ fields_after r.1.now) }
 {
     Some(cut_field(after_space(rest)?))

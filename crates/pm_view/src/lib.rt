@@ -13,7 +13,8 @@ mod theory;
 mod view;
 mod wanted;
 
-pub use fields::{BadView, read_view};
+pub use fields::{BadView, cut_field, next_field, read_view};
+pub use number::read_small;
 pub use plane::Plane;
 pub use steps::Steps;
 pub use theory::wanted_nodes_are_sound;
