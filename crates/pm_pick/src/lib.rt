@@ -2,6 +2,7 @@
 #![tactic(auto)]
 
 mod balls;
+mod fields;
 mod hits;
 mod lists;
 mod nearest;
@@ -14,6 +15,7 @@ mod walk;
 mod ways;
 
 pub use balls::ball_met;
+pub use fields::{BadRay, read_ray};
 pub use hits::{Hit, face_hit};
 pub use picker::Picker;
 pub use ray::Ray;
