@@ -1,5 +1,5 @@
 -- The corners at a vertex: what a walk over them sees of the faces there.
-use Rattle.std.proofs.Common.{◌≡◌, ◌↔◌, ℕ, ◌<◌, Bool, true, false, ◌&&◌, ◌||◌, eqb, List, [], ◌∷◌, get_or, Option, Some, None, ◌⊎◌, inl, inr, refl, sym, ap, ◌∙◌, subst}
+use Rattle.std.proofs.Common.{◌≡◌, ◌↔◌, ℕ, ◌<◌, arith, Bool, true, false, ◌&&◌, ◌||◌, eqb, List, [], ◌∷◌, get_or, Option, Some, None, ◌⊎◌, inl, inr, refl, sym, ap, ◌∙◌, subst}
 use Rattle.std.specs.Prelude.{is_none}
 use Rattle.std.specs.List.{All, list_any}
 use Rattle.std.proofs.lemmas.List.Elements.{Contains-get_or}
@@ -12,11 +12,16 @@ use Rattle.pm_links.specs.Lists.{has}
 use Rattle.pm_links.proofs.Members.{has_head, has_tail, has_from_Contains}
 use Rattle.pm_runs.specs.Pairs.{StaysUpright, StayUpright, Runs, Joined, IsThird, HasFace, HaveCommonThirds}
 use Rattle.pm_base.specs.Place.{Place}
-use Rattle.pm_runs.specs.Surfaces.{Surface, net_of_surface}
+use Rattle.pm_base.specs.Geometry.{Direction, cross_of, dot_of}
+use Rattle.std.specs.Prelude.{ℤ, pos, negsuc, ◌+ℤ◌, ◌*ℤ◌, ◌≤ℤ◌}
+use borrow.Author.Differences.{ints}
+use Rattle.std.specs.Ordering.{int_eq}
+use Rattle.std.proofs.lemmas.Bool.Decides.{Decides-int_eq}
+use Rattle.pm_runs.specs.Surfaces.{Surface, net_of_surface, place_at}
 use Rattle.pm_runs.proofs.Legal.{third-common}
 use Rattle.pm_runs.proofs.Sides.{runs_last, third_next}
 use Rattle.pm_shrink.specs.Shrinking.{AreCornersAt}
-use Rattle.pm_shrink.specs.Walks.{holds, has_two, is_open, HasStray, StayUprightAt}
+use Rattle.pm_shrink.specs.Walks.{holds, has_two, is_open, HasStray, KeepsUpright, StayUprightAt}
 
 module _ (m : Net) (v : ℕ) (xs : List ℕ) (are : AreCornersAt m v xs) where
   pub all_stand : All (Stands m) xs
@@ -168,14 +173,6 @@ third-face m a b w (e, links, is) =
       | inr r ↦ (next e, stands_next m e r.stands, r.ends, inr (is, third_next m e ∙ r.begins))
     ]
 
--- A stray among the other corners of a face at a is a common neighbour that is no third corner.
-pub stray_uncommon : (m : Net) (a b e : ℕ) → Stands m e → m.from e ≡ a → HaveCommonThirds m a b → HasStray m a b e → ⊥
-stray_uncommon m a b e st at common stray =
-    elim stray [
-      | inl (joined, never) ↦ never ((common (to m e)).0 (inl (e, record { stands = st; begins = at; ends = refl }), joined))
-      | inr (joined, never) ↦ never ((common (third m e)).0 (inr (prev e, runs_last m e a (to m e) (third m e) (record { stands = st; begins = at; ends = refl }) refl), joined))
-    ]
-
 -- Without a stray every common neighbour is a third corner.
 pub no_stray_common : (m : Net) (a b : ℕ) (xs : List ℕ) → AreCornersAt m a xs → ((w : ℕ) → Decided (IsThird m a b w)) → ((e : ℕ) → has xs e ≡ true → HasStray m a b e → ⊥) → HaveCommonThirds m a b
 no_stray_common m a b xs are third? none w = (
@@ -214,3 +211,34 @@ upright_at_first s a b place all e st at x y = all e a b (inl (refl, refl)) st a
 
 pub upright_at_second : (s : Surface) (a b : ℕ) (place : Place) → StayUpright s a b place → StayUprightAt s b a place
 upright_at_second s a b place all e st at x y = all e b a (inr (refl, refl)) st at x y
+
+-- Where each corner at p keeps its face upright, no face at p turns over.
+pub all_upright : (s : Surface) (p q : ℕ) (place : Place) (xs : List ℕ) → AreCornersAt (net_of_surface s) p xs → ((e : ℕ) → has xs e ≡ true → KeepsUpright s q place e) → StayUprightAt s p q place
+all_upright s p q place xs are all e st at x y =
+    let m : Net = net_of_surface s in
+    subst (λ (v : ℕ). StaysUpright s place v (to m e) (third m e)) at (all e ((are.each e).1 (st, at)) x y)
+
+-- The product of a vector with itself is never below 0, so no face turns over at a vertex that stays at its place.
+own_square : (x : ℤ) → pos 0 ≤ℤ (x *ℤ x)
+own_square (pos a) = omega (arith, ints)
+own_square (negsuc a) = omega (arith, ints)
+
+three_squares : (x y z : ℤ) → pos 0 ≤ℤ x → pos 0 ≤ℤ y → pos 0 ≤ℤ z → pos 0 ≤ℤ (x +ℤ y +ℤ z)
+three_squares x y z p q r = omega (arith, ints)
+
+own_product : (n : Direction) → pos 0 ≤ℤ dot_of n n
+own_product n = three_squares (n.x *ℤ n.x) (n.y *ℤ n.y) (n.z *ℤ n.z) (own_square n.x) (own_square n.y) (own_square n.z)
+
+pub own_upright : (s : Surface) (p q : ℕ) (place : Place) → place ≡ place_at s p → StayUprightAt s p q place
+own_upright s p q place is e st at x y =
+    let m : Net = net_of_surface s in
+    subst (λ (k : Place). StaysUpright s k p (to m e) (third m e)) (sym is) (own_product (cross_of (place_at s p) (place_at s (to m e)) (place_at s (third m e))))
+
+pub same_place : (p q : Place) → (int_eq p.x q.x && (int_eq p.y q.y && int_eq p.z q.z)) ≡ true → p ≡ q
+same_place p q t =
+    let one = and_parts (int_eq p.x q.x) (int_eq p.y q.y && int_eq p.z q.z) t in
+    let two = and_parts (int_eq p.y q.y) (int_eq p.z q.z) one.1 in
+    let x : p.x ≡ q.x = (Decides-int_eq p.x q.x).0 one.0 in
+    let y : p.y ≡ q.y = (Decides-int_eq p.y q.y).0 two.0 in
+    let z : p.z ≡ q.z = (Decides-int_eq p.z q.z).0 two.1 in
+    λ i. record { x = x i; y = y i; z = z i }

@@ -4,6 +4,7 @@ mod PlaneTotals
 mod CornerTables
 mod Started
 mod FanLaws
+pub mod ObstacleLaws
 mod ReaderLaws
 mod WriteLaws
 mod GoneLaws

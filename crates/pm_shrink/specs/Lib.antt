@@ -3,3 +3,4 @@ pub mod Tables
 pub mod Walks
 pub mod Writes
 pub mod Following
+pub mod Obstacles

@@ -35,6 +35,12 @@ KeepsUpright s q place e =
     let m = net_of_surface s in
     to m e ≢ q → third m e ≢ q → StaysUpright s place (m.from e) (to m e) (third m e)
 
+-- The face at the corner doesn't hold q, and turns over when the corner moves to the place.
+abbrev pub TurnsAt : Surface → ℕ → Place → ℕ → Type 0
+TurnsAt s q place e =
+    let m = net_of_surface s in
+    (to m e ≢ q) × (third m e ≢ q) × (StaysUpright s place (m.from e) (to m e) (third m e) → ⊥)
+
 -- No face that holds p and not q turns over when p moves to the place.
 abbrev pub StayUprightAt : Surface → ℕ → ℕ → Place → Type 0
 StayUprightAt s p q place =

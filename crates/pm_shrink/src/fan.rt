@@ -1,5 +1,5 @@
 // Walks over the corners at one vertex.
-ghost use Rattle.std.specs.Prelude.{◌≡◌, ◌<◌, ◌≤◌, ℕ, ◌↔◌, ◌||◌, true, IsTrue, All, is_none};
+ghost use Rattle.std.specs.Prelude.{◌≡◌, ◌<◌, ◌≤◌, ℕ, ◌↔◌, ◌||◌, true, IsTrue, All, MatchOption, is_none};
 ghost use Rattle.pm_base.specs.Sides.{side_count, prev as prev_of, to as to_of, third as third_of, Stands, IsBorder, twin_of};
 ghost use Rattle.pm_runs.specs.Surfaces.{is_live as is_live_in};
 ghost use Rattle.pm_runs.specs.Pairs.{Joined, IsThird, HasFace};
@@ -126,12 +126,21 @@ impl Shrink {
         requires { is_live_in self.now.surface a ≡ true }
         ensures { IsTrue result ↔ HasFace (net_at self.now) a b c }
     {
+        self.face_with(a, b, c).is_some()
+    }
+
+    // The corner at a of a face with these three corners, in either order.
+    pub(crate) fn face_with(&self, a: u32, b: u32, c: u32) -> Option<u32>
+        requires { is_live_in self.now.surface a ≡ true }
+        ensures { MatchOption result (HasFace (net_at self.now) a b c → ⊥)
+            (λ e. Stands (net_at self.now) e × ((net_at self.now).from e ≡ a) × (has_two (net_at self.now) b c e ≡ true)) }
+    {
         for corner in self.corners_at(a) {
             if self.has_others(corner, b, c) {
-                return true;
+                return Some(corner);
             }
         }
-        false
+        None
     }
 
     // Whether w is the third corner of a face that holds both a and b.

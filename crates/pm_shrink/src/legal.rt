@@ -4,9 +4,9 @@ ghost use Rattle.std.specs.Prelude.{◌≡◌, ◌≢◌, ◌<◌, ℕ, ◌↔�
 ghost use Rattle.pm_base.specs.Geometry.{cross_of, dot_of};
 ghost use Rattle.pm_base.specs.Sides.{next as next_of, prev as prev_of, to as to_of, third as third_of, Stands, IsBorder, twin_of};
 ghost use Rattle.pm_runs.specs.Surfaces.{is_live as is_live_in, place_at};
-ghost use Rattle.pm_runs.specs.Pairs.{HasSide, HasFace, HaveCommonThirds, AreOnceOnBorder, ShareNoTriangle, AreNotAlone, StaysUpright, StayUpright, IsLegalPair};
+ghost use Rattle.pm_runs.specs.Pairs.{HasSide, HaveCommonThirds, AreOnceOnBorder, ShareNoTriangle, AreNotAlone, StaysUpright, StayUpright, IsLegalPair};
 ghost use Rattle.pm_shrink.specs.Shrinking.{net_at};
-ghost use Rattle.pm_shrink.specs.Walks.{IsStray, HasStray, IsAloneAlong, StayUprightAt, KeepsUpright};
+ghost use Rattle.pm_shrink.specs.Walks.{IsStray, IsAloneAlong, StayUprightAt};
 
 use crate::Shrink;
 use crate::sides::{next, prev};
@@ -61,31 +61,16 @@ impl Shrink {
         requires b_live { is_live_in self.now.surface b ≡ true }
         ensures { IsTrue result ↔ HaveCommonThirds (net_at self.now) a b }
     {
-        for corner in self.corners_at(a) {
-            if self.has_stray(a, b, corner) {
-                return false;
-            }
-        }
-        true
+        self.stray(a, b).is_none()
     }
 
     // Whether w is a neighbour of b without being a third corner of a face that holds both a and b.
-    fn is_stray(&self, a: u32, b: u32, w: u32) -> bool
+    pub(crate) fn is_stray(&self, a: u32, b: u32, w: u32) -> bool
         requires a_live { is_live_in self.now.surface a ≡ true }
         requires b_live { is_live_in self.now.surface b ≡ true }
         ensures { IsTrue result ↔ IsStray (net_at self.now) a b w }
     {
         self.is_joined(b, w) && !self.is_third(a, b, w)
-    }
-
-    // Whether one of the other two corners of the face at a corner is such a one.
-    fn has_stray(&self, a: u32, b: u32, corner: u32) -> bool
-        requires a_live { is_live_in self.now.surface a ≡ true }
-        requires b_live { is_live_in self.now.surface b ≡ true }
-        requires corner { Stands (net_at self.now) corner }
-        ensures { IsTrue result ↔ HasStray (net_at self.now) a b corner }
-    {
-        self.is_stray(a, b, self.to(corner)) || self.is_stray(a, b, self.third(corner))
     }
 
     // (ii) If both lie on the border, only one face holds both.
@@ -99,7 +84,7 @@ impl Shrink {
     }
 
     // Whether both lie on the border, and two faces hold both.
-    fn are_twice_on_border(&self, a: u32, b: u32) -> bool
+    pub(crate) fn are_twice_on_border(&self, a: u32, b: u32) -> bool
         requires a_live { is_live_in self.now.surface a ≡ true }
         requires b_live { is_live_in self.now.surface b ≡ true }
         ensures { IsTrue result ↔ ((IsBorder (net_at self.now) a × IsBorder (net_at self.now) b)
@@ -139,21 +124,7 @@ impl Shrink {
         requires b_live { is_live_in self.now.surface b ≡ true }
         ensures { IsTrue result ↔ ShareNoTriangle (net_at self.now) a b }
     {
-        self.is_kept();
-        let (Some(left), Some(right)) = (self.side_to(a, b), self.side_to(b, a)) else {
-            return true;
-        };
-        let (v, w) = (self.third(left), self.third(right));
-        !self.share_face(a, b, v, w)
-    }
-
-    // Whether both a, v, w and b, v, w are the corners of faces.
-    fn share_face(&self, a: u32, b: u32, v: u32, w: u32) -> bool
-        requires a_live { is_live_in self.now.surface a ≡ true }
-        requires b_live { is_live_in self.now.surface b ≡ true }
-        ensures { IsTrue result ↔ (HasFace (net_at self.now) a v w × HasFace (net_at self.now) b v w) }
-    {
-        self.has_face(a, v, w) && self.has_face(b, v, w)
+        self.shared_triangle(a, b).is_none()
     }
 
     // (iii) If one face holds both, not both of its other sides are border sides.
@@ -166,7 +137,7 @@ impl Shrink {
     }
 
     // Whether a face has a side from p to q, and nothing stands across any of its sides.
-    fn is_alone_along(&self, p: u32, q: u32) -> bool
+    pub(crate) fn is_alone_along(&self, p: u32, q: u32) -> bool
         requires { is_live_in self.now.surface p ≡ true }
         ensures { IsTrue result ↔ IsAloneAlong (net_at self.now) p q }
     {
@@ -201,25 +172,12 @@ impl Shrink {
         requires { is_live_in self.now.surface p ≡ true }
         ensures { IsTrue result ↔ StayUprightAt self.now.surface p q place }
     {
-        for corner in self.corners_at(p) {
-            if !self.keeps_upright(corner, q, place) {
-                return false;
-            }
-        }
-        true
-    }
-
-    // Whether the face at a corner, if it doesn't hold q, stays upright.
-    fn keeps_upright(&self, corner: u32, q: u32, place: Point) -> bool
-        requires { Stands (net_at self.now) corner }
-        ensures { IsTrue result ↔ KeepsUpright self.now.surface q place corner }
-    {
-        self.has_other(corner, q) || self.is_upright(corner, place)
+        self.turned_at(p, q, place).is_none()
     }
 
     // Whether the face at a corner doesn't turn over when the corner moves to the place: the product of its two normals
     // is then not below 0.
-    fn is_upright(&self, corner: u32, place: Point) -> bool
+    pub(crate) fn is_upright(&self, corner: u32, place: Point) -> bool
         requires { Stands (net_at self.now) corner }
         ensures { IsTrue result ↔ StaysUpright self.now.surface place ((net_at self.now).from corner)
             (to_of (net_at self.now) corner) (third_of (net_at self.now) corner) }

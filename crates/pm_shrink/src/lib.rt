@@ -13,5 +13,7 @@ mod sides;
 mod tables;
 #[cfg(test)]
 mod tests;
+mod verdict;
 
 pub use shrink::{OutOfMemory, Shrink};
+pub use verdict::Verdict;

@@ -4,7 +4,7 @@ use Rattle.pm_base.specs.Sides.{Stands}
 use Rattle.pm_shrink.specs.Shrinking.{net_at, fan_at}
 use Rattle.pm_shrink.specs.Walks.{HasStray}
 use Rattle.pm_shrink.proofs.FanLaws.{SoFar}
-use Rattle.pm_shrink.proofs.shrink.Shrink.have_common_thirds.Given as goal
+use Rattle.pm_shrink.proofs.shrink.Shrink.stray.Given as goal
 
 -- The corners that were passed have no stray.
 abbrev pub invariant-loop-corner : goal.invariant-loop-corner

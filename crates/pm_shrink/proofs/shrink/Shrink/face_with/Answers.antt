@@ -1,20 +1,19 @@
-use Rattle.std.proofs.Common.{◌∙◌, ℕ, List, true, sym, subst}
+use Rattle.std.proofs.Common.{◌≡◌, ◌∙◌, ℕ, List, sym, subst, arith}
 use Rattle.std.proofs.lemmas.Bool.{false≢true}
 use Rattle.std.proofs.lemmas.List.Elements.{All-tail}
 use Rattle.pm_base.specs.Sides.{Net, Stands}
 use Rattle.pm_shrink.specs.Shrinking.{net_at, fan_at, AreCornersAt}
 use Rattle.pm_shrink.specs.Walks.{has_two}
-use Rattle.pm_shrink.proofs.FanLaws.{walk_on, walk_found, walk_ended, seen_face}
-use Rattle.pm_shrink.proofs.shrink.Shrink.has_face.Goals as goal
+use Rattle.pm_shrink.proofs.FanLaws.{walk_on, walk_ended, seen_face}
+use Rattle.pm_shrink.proofs.shrink.Shrink.face_with.Goals as goal
 
 pub returns-then-has_others : goal.returns-then-has_others
 returns-then-has_others c =
     let m : Net = net_at c.args.self.now in
-    let fan : List ℕ = fan_at c.args.self.now c.args.a in
-    let items = c.corners_at-corner-items.ensures in
-    let found = walk_found (has_two m c.args.b c.args.c) fan c.loop-corner.corner-iterator c.in-Some.corner c.next.new.self c.loop-corner.invariant.left (c.in-Some.ensures {u = tt}).steps (sym c.has_others.ensures ∙ c.if-has_others.true) in
-    let seen = seen_face m c.args.a fan (subst (AreCornersAt m c.args.a) items.corners items.each) c.args.b c.args.c in
-    (λ t. seen.0 found, λ k. λ i. true)
+    let steps = (c.in-Some.ensures {u = tt}).steps in
+    let stands : Stands m c.in-Some.corner = (rw steps at c.loop-corner.invariant.stand) 0 0 (omega arith) in
+    let start : m.from c.in-Some.corner ≡ c.args.a = (rw steps at c.loop-corner.invariant.start) 0 0 (omega arith) in
+    (stands, start, sym c.has_others.ensures ∙ c.if-has_others.true)
 
 pub loop-corner-preserved : goal.loop-corner-preserved
 loop-corner-preserved c =
@@ -24,6 +23,7 @@ loop-corner-preserved c =
     record {
       left = walk_on (has_two m c.args.b c.args.c) fan c.loop-corner.corner-iterator c.in-Some.corner c.next.new.self c.loop-corner.invariant.left steps (sym c.has_others.ensures ∙ c.if-has_others.false);
       stand = All-tail (Stands m) c.in-Some.corner c.next.new.self (rw steps at c.loop-corner.invariant.stand);
+      start = All-tail (λ g. m.from g ≡ c.args.a) c.in-Some.corner c.next.new.self (rw steps at c.loop-corner.invariant.start);
     }
 
 pub returns : goal.returns
@@ -33,4 +33,4 @@ returns c =
     let items = c.corners_at-corner-items.ensures in
     let none = walk_ended (has_two m c.args.b c.args.c) fan c.loop-corner.corner-iterator c.loop-corner.invariant.left (c.in-None.ensures {u = tt}).steps.0 in
     let seen = seen_face m c.args.a fan (subst (AreCornersAt m c.args.a) items.corners items.each) c.args.b c.args.c in
-    (λ t. absurd (false≢true t), λ k. sym none ∙ seen.1 k)
+    λ k. false≢true (sym none ∙ seen.1 k)

@@ -4,7 +4,7 @@ use Rattle.pm_base.specs.Sides.{Stands}
 use Rattle.pm_shrink.specs.Shrinking.{net_at, fan_at}
 use Rattle.pm_shrink.specs.Walks.{KeepsUpright}
 use Rattle.pm_shrink.proofs.FanLaws.{SoFar}
-use Rattle.pm_shrink.proofs.shrink.Shrink.stay_upright_at.Given as goal
+use Rattle.pm_shrink.proofs.shrink.Shrink.turned_at.Given as goal
 
 -- The faces that were passed stay upright.
 abbrev pub invariant-loop-corner : goal.invariant-loop-corner

@@ -1,0 +1,173 @@
+// Whether a pair may be collapsed, and if not which face shows why.
+ghost use Rattle.std.specs.Prelude.{◌≡◌, ◌≢◌, ◌<◌, ℕ, true, IsTrue, IsFalse, MatchOption};
+ghost use Rattle.pm_base.specs.Sides.{to as to_of, third as third_of, Stands};
+ghost use Rattle.pm_runs.specs.Surfaces.{is_live as is_live_in};
+ghost use Rattle.pm_runs.specs.Pairs.{Joined, HaveCommonThirds, ShareNoTriangle, AreNotAlone, StaysUpright, StayUpright};
+ghost use Rattle.pm_shrink.specs.Shrinking.{net_at};
+ghost use Rattle.pm_shrink.specs.Obstacles.{Strays, TellsTriangle, IsAlone, TurnsOver, Hinders, Tells};
+ghost use Rattle.pm_shrink.specs.Walks.{HasStray, KeepsUpright, StayUprightAt, TurnsAt};
+
+use crate::Shrink;
+use crate::sides::{next, prev};
+use pm_base::{FaceId, Point};
+
+/// Whether a pair may be collapsed.
+#[derive(Clone, Copy, Debug, PartialEq, Eq)]
+pub enum Verdict {
+    /// It may.
+    Legal,
+    /// It may not, as long as the three corners of this face are there.
+    Waits(FaceId),
+    /// It may not, as long as its two vertices are there.
+    Barred,
+}
+
+impl Shrink {
+    /// Whether a pair of neighbours may be collapsed to the place, and if not how long that lasts. The time is at most
+    /// the product of the numbers of faces at the two.
+    pub fn verdict(&self, a: u32, b: u32, place: Point) -> Verdict
+        requires a_live { is_live_in self.now.surface a ≡ true }
+        requires b_live { is_live_in self.now.surface b ≡ true }
+        requires joined { Joined (net_at self.now) a b }
+        ensures { Tells self.now.surface a b place result }
+    {
+        self.is_kept();
+        if let Some(side) = self.hindrance(a, b, place) {
+            return Verdict::Waits(FaceId(side / 3));
+        }
+        if self.are_twice_on_border(a, b) {
+            Verdict::Barred
+        } else {
+            Verdict::Legal
+        }
+    }
+
+    // A side whose face shows why the pair may not be collapsed.
+    fn hindrance(&self, a: u32, b: u32, place: Point) -> Option<u32>
+        requires a_live { is_live_in self.now.surface a ≡ true }
+        requires b_live { is_live_in self.now.surface b ≡ true }
+        ensures { MatchOption result ((HaveCommonThirds (net_at self.now) a b × ShareNoTriangle (net_at self.now) a b)
+            × (AreNotAlone (net_at self.now) a b × StayUpright self.now.surface a b place))
+            (Hinders self.now.surface a b place) }
+    {
+        if let Some(side) = self.stray(a, b) {
+            return Some(side);
+        }
+        if let Some(side) = self.shared_triangle(a, b) {
+            return Some(side);
+        }
+        if let Some(side) = self.lone_side(a, b) {
+            return Some(side);
+        }
+        self.turned(a, b, place)
+    }
+
+    // (i) A side that runs from a common neighbour that is no third corner.
+    pub(crate) fn stray(&self, a: u32, b: u32) -> Option<u32>
+        requires a_live { is_live_in self.now.surface a ≡ true }
+        requires b_live { is_live_in self.now.surface b ≡ true }
+        ensures { MatchOption result (HaveCommonThirds (net_at self.now) a b)
+            (λ e. Stands (net_at self.now) e × Strays (net_at self.now) a b ((net_at self.now).from e)) }
+    {
+        for corner in self.corners_at(a) {
+            if let Some(side) = self.stray_at(a, b, corner) {
+                return Some(side);
+            }
+        }
+        None
+    }
+
+    // Such a side in the face at a corner of a.
+    fn stray_at(&self, a: u32, b: u32, corner: u32) -> Option<u32>
+        requires a_live { is_live_in self.now.surface a ≡ true }
+        requires b_live { is_live_in self.now.surface b ≡ true }
+        requires corner { Stands (net_at self.now) corner }
+        requires at { (net_at self.now).from corner ≡ a }
+        ensures { MatchOption result (HasStray (net_at self.now) a b corner → ⊥)
+            (λ e. Stands (net_at self.now) e × Strays (net_at self.now) a b ((net_at self.now).from e)) }
+    {
+        self.has_few_sides();
+        if self.is_stray(a, b, self.to(corner)) {
+            return Some(next(corner));
+        }
+        if self.is_stray(a, b, self.third(corner)) {
+            return Some(prev(corner));
+        }
+        None
+    }
+
+    // (iii) If two faces hold both, with third corners v and w, and both a, v, w and b, v, w are the corners of faces, a
+    // side of the first of these.
+    pub(crate) fn shared_triangle(&self, a: u32, b: u32) -> Option<u32>
+        requires a_live { is_live_in self.now.surface a ≡ true }
+        requires b_live { is_live_in self.now.surface b ≡ true }
+        ensures { MatchOption result (ShareNoTriangle (net_at self.now) a b)
+            (λ e. Stands (net_at self.now) e × TellsTriangle (net_at self.now) a b e) }
+    {
+        self.is_kept();
+        let (Some(left), Some(right)) = (self.side_to(a, b), self.side_to(b, a)) else {
+            return None;
+        };
+        let (v, w) = (self.third(left), self.third(right));
+        if !self.has_face(b, v, w) {
+            return None;
+        }
+        self.face_with(a, v, w)
+    }
+
+    // (iii) The side of a face that holds both, where nothing stands across any of its sides.
+    fn lone_side(&self, a: u32, b: u32) -> Option<u32>
+        requires a_live { is_live_in self.now.surface a ≡ true }
+        requires b_live { is_live_in self.now.surface b ≡ true }
+        ensures { MatchOption result (AreNotAlone (net_at self.now) a b)
+            (λ e. Stands (net_at self.now) e × IsAlone (net_at self.now) a b e) }
+    {
+        self.is_kept();
+        if self.is_alone_along(a, b) {
+            return self.side_to(a, b);
+        }
+        if self.is_alone_along(b, a) {
+            return self.side_to(b, a);
+        }
+        None
+    }
+
+    // (iv) A corner of one of the two whose face doesn't hold the other, and turns over.
+    fn turned(&self, a: u32, b: u32, place: Point) -> Option<u32>
+        requires a_live { is_live_in self.now.surface a ≡ true }
+        requires b_live { is_live_in self.now.surface b ≡ true }
+        ensures { MatchOption result (StayUpright self.now.surface a b place) (TurnsOver self.now.surface a b place) }
+    {
+        if let Some(corner) = self.turned_at(a, b, place) {
+            return Some(corner);
+        }
+        self.turned_at(b, a, place)
+    }
+
+    // A corner of p whose face doesn't hold q, and turns over when p moves to the place. Where p stays at its place none
+    // does.
+    pub(crate) fn turned_at(&self, p: u32, q: u32, place: Point) -> Option<u32>
+        requires { is_live_in self.now.surface p ≡ true }
+        ensures { MatchOption result (StayUprightAt self.now.surface p q place)
+            (λ e. Stands (net_at self.now) e × ((net_at self.now).from e ≡ p) × TurnsAt self.now.surface q place e) }
+    {
+        if place == self.place(p) {
+            return None;
+        }
+        for corner in self.corners_at(p) {
+            if self.turns_over(corner, q, place) {
+                return Some(corner);
+            }
+        }
+        None
+    }
+
+    // Whether the face at a corner doesn't hold q, and turns over.
+    fn turns_over(&self, corner: u32, q: u32, place: Point) -> bool
+        requires { Stands (net_at self.now) corner }
+        ensures yes { IsTrue result → TurnsAt self.now.surface q place corner }
+        ensures no { IsFalse result → KeepsUpright self.now.surface q place corner }
+    {
+        !self.has_other(corner, q) && !self.is_upright(corner, place)
+    }
+}
