@@ -1,6 +1,6 @@
-ghost use Rattle.std.specs.Prelude.{◌≡◌, ◌<◌, ◌≤◌, ℕ, true, IfSome};
+ghost use Rattle.std.specs.Prelude.{◌≡◌, ◌<◌, ◌≤◌, ◌↔◌, ℕ, true, IfSome, IsTrue};
 ghost use Rattle.std.specs.Option.{option_map};
-ghost use Rattle.pm_base.specs.Sides.{Stands, twin_of};
+ghost use Rattle.pm_base.specs.Sides.{side_count, Stands, twin_of};
 ghost use Rattle.pm_links.specs.Lists.{first_of, after};
 ghost use Rattle.pm_runs.specs.Surfaces.{next_vertex as next_vertex_of, is_live as is_live_in, place_at, face_count_of};
 ghost use Rattle.pm_shrink.specs.Shrinking.{net_at, quadric_at, fan_at, IsKept};
@@ -74,6 +74,15 @@ impl Shrink {
             × ((net_at self.now).from c.0 ≡ (net_at self.now).from corner.0)) }
     {
         self.corners.next(corner.0).map(Side)
+    }
+
+    /// Whether the face of a side is still there.
+    pub fn is_there(&self, side: Side) -> bool
+        requires { side.0 < side_count (net_at self.now) }
+        ensures { IsTrue result ↔ Stands (net_at self.now) side.0 }
+    {
+        self.is_kept();
+        self.corners.head_of(side.0).is_some()
     }
 
     /// The vertex at a corner of a face that is still there.
