@@ -8,3 +8,7 @@ pub mod Renewing
 pub mod Stepping
 pub mod Starting
 pub mod Running
+pub mod ObstacleLaws
+pub mod BorderStays
+pub mod Waiting
+pub mod Freeing

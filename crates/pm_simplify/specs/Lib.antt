@@ -2,3 +2,4 @@ pub mod Items
 pub mod Choices
 pub mod Walks
 pub mod Faults
+pub mod SparedFaces

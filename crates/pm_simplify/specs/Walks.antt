@@ -4,11 +4,11 @@ use Rattle.std.specs.Option.{option_map}
 use Rattle.pm_base.specs.declared.ids.Side.{Side}
 use Rattle.pm_base.specs.declared.log.Collapse.{Collapse}
 use Rattle.pm_base.specs.Meshes.{Mesh}
-use Rattle.pm_base.specs.Sides.{Net, prev, to, third, twin_of}
+use Rattle.pm_base.specs.Sides.{Net, prev, twin_of}
 use Rattle.pm_links.specs.Lists.{has, rest}
 use Rattle.pm_queue.specs.Entries.{Entries, key_at}
 use Rattle.pm_simplify.specs.Items.{item_of, IsSideAt}
-use Rattle.pm_simplify.specs.Choices.{net_after, IsRightAt, IsRightAround}
+use Rattle.pm_simplify.specs.Choices.{net_after, IsRightAt}
 
 -- The corners that a walk has still to see.
 abbrev pub still : Option Side → List ℕ → List ℕ
@@ -23,12 +23,6 @@ pub record IsWalk (fan : List ℕ) (Done : ℕ → Type 0) (at : Option Side) : 
 pub record IsRightBeside (m : Mesh) (log : List Collapse) (entries : Entries) (e : ℕ) : Type 0 where
   pub out : IsRightAt m log entries (item_of (net_after m log) e)
   pub back : twin_of (net_after m log) (prev e) ≡ None → IsRightAt m log entries (item_of (net_after m log) (prev e))
-
--- The edges at the vertex to which the side at a corner runs are right, and so are those at the third one, where nothing
--- stands across the side between it and the corner.
-pub record IsRightBeyond (m : Mesh) (log : List Collapse) (entries : Entries) (e : ℕ) : Type 0 where
-  pub out : IsRightAround m log entries (to (net_after m log) e)
-  pub back : twin_of (net_after m log) (prev e) ≡ None → IsRightAround m log entries (third (net_after m log) e)
 
 -- The item is that of an edge at vertex v.
 abbrev pub IsItemAt : Net → ℕ → ℕ → Type 0

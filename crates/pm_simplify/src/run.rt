@@ -10,6 +10,7 @@ use crate::choose::least_pair;
 use crate::step::collapse;
 use crate::weigh::filled;
 use pm_base::{FaceId, Log, Mesh};
+use pm_links::Links;
 use pm_shrink::Shrink;
 use pm_twins::{FansFail, Twins, TwinsFail, check_fans};
 use std::alloc::{AllocError, Global};
@@ -31,8 +32,9 @@ pub enum SimplifyFail {
 /// collapsed. Equal costs go by the pair's vertex numbers. The answer is the log of the collapses; the mesh stays as it
 /// is.
 ///
-/// Only a pair that comes up as the least is asked whether it may be collapsed, by the faces at its two ends. A step gives
-/// keys to the edges around the neighbours of the new vertex that lack one, each in O(log F) of the queue for F faces.
+/// Only a pair that comes up as the least is asked whether it may be collapsed, by the faces at its two ends. Where it may
+/// not, it waits until a corner of a face that shows why is merged. A step gives keys to the edges at the new vertex and
+/// to those that waited for a face at one of the two ends, each in O(log F) of the queue for F faces.
 pub fn simplify(alloc: Global, mesh: &Mesh, target_faces: u32) -> Result<Log, SimplifyFail>
     requires { IsWellFormed (mesh_of mesh.now) }
     ensures run { IfOk result (λ log. IsRunTo (mesh_of mesh.now) target_faces log.items) }
@@ -63,12 +65,14 @@ fn run_to(alloc: Global, mesh: &Mesh, twins: Twins, target: u32) -> Result<Log, 
     // Each collapse takes a vertex away, and the last one stays.
     log.reserve(mesh.points.len().saturating_sub(1))?;
     let mut shrink = Shrink::new(alloc, mesh.copy(alloc)?, twins)?;
-    let mut queue = filled(alloc, &shrink, 3 * mesh.faces.len() as u32)?;
+    let sides = 3 * mesh.faces.len() as u32;
+    let mut queue = filled(alloc, &shrink, sides)?;
+    let mut waiting = Links::new(alloc, sides, mesh.faces.len() as u32)?;
     while shrink.face_count() > target {
-        let Some(key) = least_pair(&shrink, &mut queue) else {
+        let Some(key) = least_pair(&shrink, &mut queue, &mut waiting) else {
             break;
         };
-        log.put(collapse(&mut shrink, &mut queue, key.a, key.b));
+        log.put(collapse(&mut shrink, &mut queue, &mut waiting, key.a, key.b));
     }
     Ok(log)
 }
