@@ -10,6 +10,9 @@ use Rattle.pm_forest.specs.Fronts.{set_of, no_records, with, without}
 use Rattle.pm_beyond.specs.declared.moves.MoveFault.{MoveFault}
 use Rattle.pm_beyond.specs.Moves.{split_fault, collapse_fault}
 use Rattle.pm_view.specs.Views.{View}
+use Rattle.pm_pick.specs.declared.hits.Hit.{Hit}
+use Rattle.pm_pick.specs.Rays.{Ray}
+use Rattle.pm_pick.specs.Picks.{pick_of}
 use Rattle.pm_refine.specs.declared.refiner.Adapted.{Adapted}
 use Rattle.pm_frame.specs.Frame.{frame_text}
 use Rattle.pm_session.specs.declared.command.Command.TheVariants as commands
@@ -17,7 +20,7 @@ use Rattle.pm_session.specs.declared.session.Next.{Next}
 use Rattle.pm_session.specs.declared.session.Next.TheVariants as nexts
 use Rattle.pm_session.specs.declared.session.LineFail.{LineFail}
 use Rattle.pm_session.specs.declared.session.LineFail.TheVariants as fails
-use Rattle.pm_session.specs.Script.{command_of, reply_to, view_reply, shape_reply, adapted_to, after_view, after_split, after_collapse, Deed, Replies, Ends, IsBad, NamesNoRecord, line_deed}
+use Rattle.pm_session.specs.Script.{command_of, reply_to, view_reply, shape_reply, pick_reply, adapted_to, after_view, after_split, after_collapse, Deed, Replies, Ends, IsBad, NamesNoRecord, line_deed}
 use Rattle.pm_session.specs.Session.{LineEnds}
 
 -- No flag is set in the base front.
@@ -87,6 +90,11 @@ pub deed_look : (h : Hierarchy) (b : ℕ) (T S : ℕ → Bool) (line : List ℕ)
     → adapted ≡ adapted_to h b T view → S ≡ after_view h b T view → line_deed h b T line ≡ Replies (view_reply adapted) S
 unfolding line_deed
 deed_look h b T S line view adapted is answer after = rw (is, answer, after) refl
+
+pub deed_pick : (h : Hierarchy) (b : ℕ) (T : ℕ → Bool) (line : List ℕ) (ray : Ray) (hit : Option Hit) → command_of line ≡ commands.Pick ray
+    → hit ≡ pick_of h ray → line_deed h b T line ≡ Replies (pick_reply hit) T
+unfolding line_deed
+deed_pick h b T line ray hit is answer = rw (is, answer) refl
 
 -- How a line ends that has a reply,
 pub replied : (deed : Deed) (reply : List ℕ) (T before after : ℕ → Bool) (put : Result (Unit {0}) WriteFault) (result : Result Next LineFail) (old new : Option (List ℕ))

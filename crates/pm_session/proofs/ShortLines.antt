@@ -1,4 +1,4 @@
--- The forms of a script line are short: of 32-bit numbers, and of the numbers of a view with six planes.
+-- The forms of a script line are short: of 32-bit numbers, of the numbers of a view with six planes, and of a ray's numbers.
 use Rattle.std.proofs.Common.{◌≡◌, ℕ, zero, suc, ℤ, pos, ◌+◌, ◌-◌, ◌*◌, ◌<◌, ◌≤◌, Bool, true, false, cond, eqb, leb, not, ◌&&◌, ◌||◌, List, [], ◌∷◌, Option, Some, None, length, drop, inl, inr, refl, sym, ◌∙◌, ap, subst, arith}
 use Rattle.std.specs.Prelude.{nat_lt}
 use Rattle.std.specs.Option.{option_map, option_and_then}
@@ -10,9 +10,11 @@ use Rattle.pm_io.specs.Digits.{value, is_unsigned, are_digits, unsigned_of}
 use Rattle.pm_view.specs.declared.plane.Plane.{Plane}
 use Rattle.pm_view.specs.Views.{View}
 use Rattle.pm_view.specs.Fields.{onto_field, fields, negative, signed_of, eye_of, plane_of, first_plane, planes_of, view_in, view_of}
+use Rattle.pm_pick.specs.Rays.{Ray}
+use Rattle.pm_pick.specs.Fields.{three_of, ray_in, ray_of}
 use Rattle.pm_session.specs.declared.command.Command.{Command}
 use Rattle.pm_session.specs.declared.command.Command.TheVariants as commands
-use Rattle.pm_session.specs.Script.{begins_with, split_of, collapse_of, look_of, record_in, command_of}
+use Rattle.pm_session.specs.Script.{begins_with, split_of, collapse_of, look_of, pick_by, record_in, command_of}
 
 -- Options
 
@@ -172,6 +174,28 @@ view_few (x ∷ y ∷ []) view e = absurd cc
 view_few (x ∷ y ∷ z ∷ []) view e = absurd cc
 view_few (x ∷ y ∷ z ∷ focal ∷ []) view e = absurd cc
 
+three_few : (most : ℕ) (x y z : List ℕ) (p : Place) → most < 10000000000000 → three_of most x y z ≡ Some p → length x + length y + length z ≤ 42
+unfolding three_of
+three_few most x y z p lt e =
+    let a = came _ (signed_of most x) p e in
+    let b = came _ (signed_of most y) p a.to in
+    let c = came _ (signed_of most z) p b.to in
+    omega (arith, signed_few most a.from x lt a.is, signed_few most b.from y lt b.is, signed_few most c.from z lt c.is)
+
+ray_few : (fs : List (List ℕ)) (ray : Ray) → ray_in fs ≡ Some ray → width fs ≤ 90
+unfolding ray_in
+ray_few (x ∷ y ∷ z ∷ a ∷ b ∷ c ∷ []) ray e =
+    let o = came _ (three_of 16777215 x y z) ray e in
+    let d = came _ (three_of 32767 a b c) ray o.to in
+    omega (arith, three_few 16777215 x y z o.from (omega arith) o.is, three_few 32767 a b c d.from (omega arith) d.is)
+ray_few [] ray e = absurd cc
+ray_few (x ∷ []) ray e = absurd cc
+ray_few (x ∷ y ∷ []) ray e = absurd cc
+ray_few (x ∷ y ∷ z ∷ []) ray e = absurd cc
+ray_few (x ∷ y ∷ z ∷ a ∷ []) ray e = absurd cc
+ray_few (x ∷ y ∷ z ∷ a ∷ b ∷ []) ray e = absurd cc
+ray_few (x ∷ y ∷ z ∷ a ∷ b ∷ c ∷ d ∷ rest) ray e = absurd cc
+
 -- Lines
 
 either_bad : (test : Bool) (a b : Command) → a ≡ commands.Bad → b ≡ commands.Bad → cond test a b ≡ commands.Bad
@@ -190,9 +214,14 @@ look_bad : (line : List ℕ) → 1024 < length line → (view : Option View) →
 look_bad line long None is = refl
 look_bad line long (Some view) is = absurd (omega (arith, long, length-drop 2 line, fields_width (drop 2 line), view_few (fields (drop 2 line)) view is))
 
+pick_bad : (line : List ℕ) → 1024 < length line → (ray : Option Ray) → ray_of (drop 2 line) ≡ ray → pick_by ray ≡ commands.Bad
+pick_bad line long None is = refl
+pick_bad line long (Some ray) is = absurd (omega (arith, long, length-drop 2 line, fields_width (drop 2 line), ray_few (fields (drop 2 line)) ray is))
+
 pub long_is_bad : (line : List ℕ) → 1024 < length line → command_of line ≡ commands.Bad
 unfolding command_of
 long_is_bad line long =
     let one : eqb (length line) 1 ≡ false = ne_eqb _ _ (λ e. omega (arith, e, long)) in
     rw one (either_bad (begins_with 115 line) _ _ (split_bad line long _ refl)
-    (either_bad (begins_with 99 line) _ _ (collapse_bad line long _ refl) (either_bad (begins_with 118 line) _ _ (look_bad line long _ refl) refl)))
+    (either_bad (begins_with 99 line) _ _ (collapse_bad line long _ refl) (either_bad (begins_with 118 line) _ _ (look_bad line long _ refl)
+    (either_bad (begins_with 112 line) _ _ (pick_bad line long _ refl) refl))))

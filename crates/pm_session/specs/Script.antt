@@ -15,6 +15,10 @@ use Rattle.pm_refine.specs.declared.refiner.Adapted.{Adapted}
 use Rattle.pm_refine.specs.declared.refiner.Adapted.TheVariants as adapted
 use Rattle.pm_refine.specs.Adapting.{view_plan, adapted_of}
 use Rattle.pm_manifold.specs.Measure.{nodes_shown, edges_shown, faces_shown, loops_shown}
+use Rattle.pm_pick.specs.declared.hits.Hit.{Hit}
+use Rattle.pm_pick.specs.Rays.{Ray}
+use Rattle.pm_pick.specs.Fields.{ray_of}
+use Rattle.pm_pick.specs.Picks.{pick_of}
 use Rattle.pm_session.specs.declared.command.Command.{Command}
 use Rattle.pm_session.specs.declared.command.Command.TheVariants as commands
 use Rattle.pm_session.specs.declared.command.ScriptFault.{ScriptFault}
@@ -49,11 +53,16 @@ abbrev pub look_of : Option View → Command
 look_of None = commands.Bad
 look_of (Some view) = commands.Look view
 
+abbrev pub pick_by : Option Ray → Command
+pick_by None = commands.Bad
+pick_by (Some ray) = commands.Pick ray
+
 -- What stands after the letter and its space, as an unsigned number of 32 bits.
 abbrev pub record_in : List ℕ → Option ℕ
 record_in line = unsigned_of 4294967295 (drop 2 line)
 
--- `w`, `q`, `s K` or `c K` with one space and K an unsigned number of 32 bits, or `v`, a space and the fields of a view.
+-- `w`, `m`, `q`, `s K` or `c K` with one space and K an unsigned number of 32 bits, or `v`, a space and the fields of a view,
+-- or `p`, a space and the fields of a ray.
 unfoldable pub command_of : List ℕ → Command
 command_of line =
     if is_letter 119 line then commands.Show
@@ -62,6 +71,7 @@ command_of line =
     else if begins_with 115 line then split_of (record_in line)
     else if begins_with 99 line then collapse_of (record_in line)
     else if begins_with 118 line then look_of (view_of (drop 2 line))
+    else if begins_with 112 line then pick_by (ray_of (drop 2 line))
     else commands.Bad
 
 -- The reply to a move.
@@ -91,6 +101,11 @@ shape_line nodes edges faces loops =
 unfoldable pub shape_reply : Hierarchy → (ℕ → Bool) → List ℕ
 shape_reply h T = shape_line (nodes_shown h T) (edges_shown h T) (faces_shown h T) (loops_shown h T)
 
+-- The reply to a ray, by the first hit: `hit FACE S Q`, where it stands at the fraction S / Q of the ray's way, or `miss`.
+unfoldable pub pick_reply : Option Hit → List ℕ
+pick_reply None = codes "miss\n"
+pick_reply (Some hit) = codes "hit " ++ decimal hit.face.0 ++ codes " " ++ decimal hit.s ++ codes " " ++ decimal hit.q ++ codes "\n"
+
 -- What is answered to a view, and the split records after it: the first moves of its plan are made, as many as the budget
 -- allows.
 unfoldable pub adapted_to : Hierarchy → ℕ → (ℕ → Bool) → View → Adapted
@@ -114,6 +129,7 @@ deed_of h budget T commands.Bad = IsBad
 deed_of h budget T (commands.Split k) = if nat_lt k (record_count h) then Replies (reply_to (split_fault h T k)) (after_split h T k) else NamesNoRecord
 deed_of h budget T (commands.Collapse k) = if nat_lt k (record_count h) then Replies (reply_to (collapse_fault h T k)) (after_collapse h T k) else NamesNoRecord
 deed_of h budget T (commands.Look view) = Replies (view_reply (adapted_to h budget T view)) (after_view h budget T view)
+deed_of h budget T (commands.Pick ray) = Replies (pick_reply (pick_of h ray)) T
 
 unfoldable pub line_deed : Hierarchy → ℕ → (ℕ → Bool) → List ℕ → Deed
 line_deed h budget T line = deed_of h budget T (command_of line)

@@ -5,6 +5,7 @@ use Rattle.pm_io.specs.Causes.{Rose}
 use Rattle.pm_forest.specs.Forest.{Hierarchy, record_count}
 use Rattle.pm_forest.specs.Faces.{face_count}
 use Rattle.pm_bounds.specs.Bounds.{Bounds, AreBoundsOf}
+use Rattle.pm_pick.specs.Lists.{Lists, AreListsOf}
 use Rattle.pm_session.specs.declared.session.Next.{Next}
 use Rattle.pm_session.specs.declared.session.Next.TheVariants as nexts
 use Rattle.pm_session.specs.declared.session.LineFail.{LineFail}
@@ -22,10 +23,11 @@ pub record IsFitting (h : Hierarchy) (bounds : Bounds) (room : ℕ) : Type 0 whe
   pub are_its_bounds : AreBoundsOf h bounds
   pub fits : room ≡ record_count h
 
--- And the tracer has a mark for each side.
-pub record HasTracer (h : Hierarchy) (bounds : Bounds) (room marks : ℕ) : Type 0 where
+-- And the tracer has a mark for each side, and the picker lists the faces at each leaf.
+pub record HasTools (h : Hierarchy) (bounds : Bounds) (room marks : ℕ) (lists : Lists) : Type 0 where
   pub fitting : IsFitting h bounds room
   pub marks_fit : marks ≡ 3 * face_count h
+  pub are_its_lists : AreListsOf h lists
 
 -- How a line ends, by its deed: `before` and `after` are the split records, and `old` and `new` what the sink had taken.
 abbrev pub LineEnds : Deed → Result Next LineFail → (ℕ → Bool) → (ℕ → Bool) → Option (List ℕ) → Option (List ℕ) → Type 0

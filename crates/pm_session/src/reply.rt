@@ -1,10 +1,11 @@
-// The replies to moves and views.
+// The replies to moves, views, measures and picks.
 ghost use Rattle.std.specs.Prelude.{◌≡◌, ◌≤◌, pos, ◌+ℤ◌, ◌-ℤ◌};
-ghost use Rattle.pm_session.specs.Script.{reply_to, view_reply, shape_line};
+ghost use Rattle.pm_session.specs.Script.{reply_to, view_reply, shape_line, pick_reply};
 
 use pm_beyond::MoveFault;
 use pm_io::Line;
 use pm_manifold::Measure;
+use pm_pick::Hit;
 use pm_refine::Adapted;
 
 /// The line that replies to a move.
@@ -76,4 +77,24 @@ pub(crate) fn put_shape(line: &mut Line, measure: Measure)
     line.add(b" euler ");
     line.add_signed(euler(measure));
     line.add(b"\n");
+}
+
+/// The line that replies to `p`.
+#[tactic(auto, unfolding(crate::specs::Script::pick_reply))]
+pub(crate) fn put_hit(line: &mut Line, hit: Option<Hit>)
+    ensures { line.new ≡ pick_reply hit }
+{
+    line.clear();
+    match hit {
+        None => line.add(b"miss\n"),
+        Some(hit) => {
+            line.add(b"hit ");
+            line.add_number(hit.face.0);
+            line.add(b" ");
+            line.add_long_number(hit.s);
+            line.add(b" ");
+            line.add_long_number(hit.q);
+            line.add(b"\n");
+        }
+    }
 }

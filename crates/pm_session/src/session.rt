@@ -8,10 +8,12 @@ ghost use Rattle.pm_beyond.specs.Valid.{IsValid};
 ghost use Rattle.pm_beyond.specs.Moves.{split_fault, collapse_fault};
 ghost use Rattle.pm_load.specs.Faults.{IsLoadFault};
 ghost use Rattle.pm_frame.specs.Frame.{frame_text};
+ghost use Rattle.pm_pick.specs.Picks.{pick_of};
 ghost use Rattle.pm_session.specs.Script.{reply_to, line_deed, after_split, after_collapse, view_reply, adapted_to, after_view, shape_reply};
 ghost use Rattle.pm_session.specs.Session.{LineEnds, LineCounts, IsFitting};
 
 use crate::command::{Command, command_of};
+use crate::picking::{pick_face, put_pick};
 use crate::reply::{put_reply, put_shape, put_view_reply};
 use pm_beyond::MoveFault;
 use pm_bounds::Bounds;
@@ -21,6 +23,7 @@ use pm_front::Front;
 use pm_io::{Line, Sink, WriteFault, put_all};
 use pm_load::{LoadFail, open_front};
 use pm_manifold::Tracer;
+use pm_pick::{Hit, Picker, Ray};
 use pm_refine::{Adapted, Refiner};
 use pm_view::{Steps, View};
 use std::alloc::Global;
@@ -49,17 +52,18 @@ pub struct Session {
     bounds: Bounds,
     refiner: Refiner,
     tracer: Tracer,
+    picker: Picker,
     budget: u32,
 }
 
 impl Model for Session {
-    ghost use Rattle.pm_session.specs.Session.{Shown, IsFitting, HasTracer};
+    ghost use Rattle.pm_session.specs.Session.{Shown, IsFitting, HasTools};
 
     ghost Value = { Shown };
 
     ghost view = { λ s. record { h = s.front.h; flags = s.front.flags; budget = s.budget } };
 
-    ghost invariant = { λ s. HasTracer s.front.h s.bounds s.refiner s.tracer };
+    ghost invariant = { λ s. HasTools s.front.h s.bounds s.refiner s.tracer s.picker };
 }
 
 // Adapts a front to a view, where nobody counts the steps.
@@ -141,11 +145,15 @@ impl Session {
         let Ok(tracer) = Tracer::new(alloc, front.hierarchy()) else {
             return Err(LoadFail::OutOfMemory);
         };
+        let Ok(picker) = Picker::new(alloc, front.hierarchy()) else {
+            return Err(LoadFail::OutOfMemory);
+        };
         Ok(Session {
             front,
             bounds,
             refiner,
             tracer,
+            picker,
             budget,
         })
     }
@@ -212,6 +220,14 @@ impl Session {
         )
     }
 
+    // The face of the input that a ray hits first.
+    fn pick(&self, ray: &Ray) -> Option<Hit>
+        ensures { result ≡ pick_of self.now.h ray.now }
+    {
+        let h = self.front.hierarchy();
+        pick_face::<Brand>(&self.picker, h, &self.bounds, ray, Blank::new(1))
+    }
+
     // Writes the measure.
     #[tactic(auto, unfolding(crate::specs::Script::shape_reply))]
     fn measure<K: Sink>(&mut self, out: &mut K) -> Result<(), WriteFault>
@@ -245,6 +261,7 @@ impl Session {
             Command::Show => after_reply(self.show(out)),
             Command::Measure => after_reply(self.measure(out)),
             Command::Look(view) => after_reply(put_adapted(self.look(&view), out)),
+            Command::Pick(ray) => after_reply(put_pick(self.pick(&ray), out)),
             Command::Split(k) if k < self.records() => after_reply(put_answer(self.split(k), out)),
             Command::Collapse(k) if k < self.records() => {
                 after_reply(put_answer(self.collapse(k), out))

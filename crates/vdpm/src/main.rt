@@ -12,6 +12,8 @@ mod fault;
 mod line;
 mod opening;
 mod outcomes;
+#[cfg(test)]
+mod pick_tests;
 mod run;
 mod say;
 #[cfg(test)]

@@ -1,6 +1,6 @@
 use Rattle.std.proofs.Common.{arith, refl, sym, ap, ◌∙◌}
 use Rattle.pm_forest.specs.Fronts.{set_of}
-use Rattle.pm_session.proofs.Deeds.{deed_quit, deed_measure, deed_bad, deed_show, deed_split, deed_collapse, deed_look, deed_no_split, deed_no_collapse, replied, ended, bad, named_none}
+use Rattle.pm_session.proofs.Deeds.{deed_quit, deed_measure, deed_bad, deed_show, deed_split, deed_collapse, deed_look, deed_pick, deed_no_split, deed_no_collapse, replied, ended, bad, named_none}
 use Rattle.pm_session.specs.Session.{Shown}
 use Rattle.pm_session.proofs.session.Session.line.Goals as goal
 
@@ -37,6 +37,11 @@ returns-in-Look-clause-ends g c =
     replied _ _ _ _ _ c.put_adapted.result _ _ _
     (deed_look _ _ _ _ _ c.in-Look.view c.look.result (sym c.command_of.ensures ∙ c.in-Look.is) c.look.ensures.answer c.look.ensures.after) refl
     c.after_reply-in-Look.ensures.ok c.after_reply-in-Look.ensures.err c.put_adapted.ensures.ok c.put_adapted.ensures.err
+
+pub returns-in-Pick-clause-ends : goal.returns-in-Pick-clause-ends
+returns-in-Pick-clause-ends g c =
+    replied _ _ _ _ _ c.put_pick.result _ _ _ (deed_pick _ _ _ _ c.in-Pick.ray c.pick.result (sym c.command_of.ensures ∙ c.in-Pick.is) c.pick.ensures) refl
+    c.after_reply-in-Pick.ensures.ok c.after_reply-in-Pick.ensures.err c.put_pick.ensures.ok c.put_pick.ensures.err
 
 pub returns-in-Measure-clause-ends : goal.returns-in-Measure-clause-ends
 returns-in-Measure-clause-ends g c =

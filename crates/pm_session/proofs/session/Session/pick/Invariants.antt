@@ -1,0 +1,4 @@
+use Rattle.pm_session.proofs.session.Session.pick.Given as goal
+
+abbrev pub ghosts-pick_face : goal.ghosts-pick_face
+ghosts-pick_face a = record { name = a.blank.name; parts = a.blank.parts }
