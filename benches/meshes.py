@@ -1,0 +1,85 @@
+"""Meshes for measurements, as OBJ texts with whole-number coordinates. Each is an oriented manifold.
+
+    python3 meshes.py KIND SIZE > mesh.obj
+
+KIND is grid, sphere, cylinder or cone; SIZE is the number of cells or segments along one way.
+"""
+import sys
+from math import cos, pi, sin
+
+
+def grid(n):
+    """A hilly square of n by n cells, two faces each, with a border."""
+    step = max(1, 60000 // n)
+
+    def height(r, c):
+        return round(900 * sin(9 * r / n) * cos(7 * c / n) + (r * r * 31 + c * 17 + r * c * 13) % 41)
+
+    points = [(c * step - 30000, r * step - 30000, height(r, c)) for r in range(n + 1) for c in range(n + 1)]
+    faces = []
+    for r in range(n):
+        for c in range(n):
+            a = r * (n + 1) + c
+            faces += [(a, a + 1, a + n + 2), (a, a + n + 2, a + n + 1)]
+    return points, faces
+
+
+def sphere(n):
+    """A ball of n rings and 2 n segments, uneven by a little, with two poles of 2 n faces."""
+    around = 2 * n
+    points = [(0, 0, 30000)]
+    for i in range(1, n):
+        for j in range(around):
+            a, b = pi * i / n, 2 * pi * j / around
+            r = 30000 + (i * 37 + j * 101 + i * j * 7) % 97
+            points.append((round(r * sin(a) * cos(b)), round(r * sin(a) * sin(b)), round(r * cos(a))))
+    points.append((0, 0, -30000))
+    last = len(points) - 1
+
+    def at(i, j):
+        return 1 + (i - 1) * around + j % around
+
+    faces = [(0, at(1, j), at(1, j + 1)) for j in range(around)]
+    for i in range(1, n - 1):
+        for j in range(around):
+            faces += [(at(i, j), at(i + 1, j), at(i + 1, j + 1)), (at(i, j), at(i + 1, j + 1), at(i, j + 1))]
+    faces += [(last, at(n - 1, j + 1), at(n - 1, j)) for j in range(around)]
+    return points, faces
+
+
+def circle(n, z):
+    return [(round(20000 * cos(2 * pi * i / n)), round(20000 * sin(2 * pi * i / n)), z) for i in range(n)]
+
+
+def cylinder(n):
+    """A closed cylinder whose two caps are fans of n faces, as modelling programs make them."""
+    points = [(0, 0, 10000), (0, 0, -10000)] + circle(n, 10000) + circle(n, -10000)
+    faces = []
+    for i in range(n):
+        a, b = 2 + i, 2 + (i + 1) % n
+        c, d = a + n, b + n
+        faces += [(0, a, b), (a, c, d), (a, d, b), (1, d, c)]
+    return points, faces
+
+
+def cone(n):
+    """A double cone: two tips of n faces each."""
+    points = [(0, 0, 10000), (0, 0, -10000)] + circle(n, 0)
+    faces = []
+    for i in range(n):
+        a, b = 2 + i, 2 + (i + 1) % n
+        faces += [(0, a, b), (1, b, a)]
+    return points, faces
+
+
+KINDS = {"grid": grid, "sphere": sphere, "cylinder": cylinder, "cone": cone}
+
+
+def text(kind, size):
+    points, faces = KINDS[kind](size)
+    lines = ["v %d %d %d" % p for p in points] + ["f %d %d %d" % (a + 1, b + 1, c + 1) for a, b, c in faces]
+    return "\n".join(lines) + "\n"
+
+
+if __name__ == "__main__":
+    sys.stdout.write(text(sys.argv[1], int(sys.argv[2])))
