@@ -3,7 +3,8 @@
     python3 benches/measure.py [PROGRAM] [small|all]
 
 PROGRAM is crates/vdpm/out/vdpm unless another is named; `./vdpm check < examples/octahedron.vdpm` builds it.
-Seconds are processor time, the least of three runs; memory is the peak. Machines differ and are shared: compare
+Seconds are processor time, the least of three runs; memory is the peak, and a peak below some 25 MB is that of this
+script itself, from which the program is started. Machines differ and are shared: compare
 the figures of one run with one another, and the last column between sizes, where linear work stays level.
 """
 import os
