@@ -6,4 +6,5 @@ pub mod Build
 pub mod Opening
 pub mod FaultLine
 pub mod Outcome
+pub mod Frames
 pub mod Ending

@@ -3,12 +3,13 @@ ghost use Rattle.std.specs.Prelude.{◌≡◌, None, Ok, IfOk, IfErr, IfSome, On
 ghost use Rattle.pm_base.specs.Meshes.{mesh_of};
 ghost use Rattle.pm_io.specs.Bytes.{AtEnd};
 ghost use Rattle.pm_forest.specs.Meshes.{input_mesh_of};
-ghost use Rattle.pm_beyond.specs.Valid.{IsValid};
+ghost use Rattle.pm_firm.specs.Firm.{IsFirm};
 ghost use Rattle.pm_runs.specs.Runs.{IsStart};
 ghost use Rattle.vdpm.specs.Input.{Stops};
 ghost use Rattle.vdpm.specs.Surface.{IsSurface};
 ghost use Rattle.vdpm.specs.Build.{IsSimplified, IsBuilt};
 ghost use Rattle.vdpm.specs.Outcome.{GivesBack};
+ghost use Rattle.vdpm.specs.Frames.{ShowsSurfaces};
 ghost use Rattle.vdpm.specs.Ending.{Ends, Counts};
 
 use crate::fault::{CommandFail, InputFail, fail_of};
@@ -26,7 +27,7 @@ use std::alloc::{AllocError, Global};
 fn simplified(alloc: Global, mesh: &Mesh, target: u32) -> Result<Hierarchy, OutOfMemory>
     requires { IsStart (mesh_of mesh.now) }
     ensures simplified { IfOk result (IsSimplified (mesh_of mesh.now) target) }
-    ensures valid { IfOk result IsValid }
+    ensures firm { IfOk result IsFirm }
     ensures mesh { IfOk result (λ h. input_mesh_of h ≡ mesh_of mesh.now) }
 {
     let log = match simplify(alloc, mesh, target) {
@@ -47,7 +48,7 @@ fn build_hierarchy<S: Source>(
 ) -> Result<Hierarchy, InputFail>
     ensures built { IfOk result (λ h. IfSome (S.left input.old) (λ bytes. IsBuilt target bytes (Ok h) None)) }
     ensures mesh { IfOk result (λ h. IfSome (S.left input.old) (λ bytes. IsSurface bytes (Ok (input_mesh_of h)) None)) }
-    ensures valid { IfOk result IsValid }
+    ensures firm { IfOk result IsFirm }
     ensures end { OnOk result (AtEnd (S.left input.new)) }
     ensures count { OnOk result (S.faults input.new ≡ S.faults input.old) }
     ensures err { IfErr result (λ e. Stops (IsBuilt target) e (S.left input.old) (S.left input.new) (S.faults input.old) (S.faults input.new)) }
@@ -72,6 +73,7 @@ pub fn build<S: Source, K: Sink>(
 ) -> Result<(), CommandFail>
     ensures ends { Ends (Asked.Build target) result (S.left input.old) (S.left input.new) (K.got out.old) (K.got out.new) }
     ensures gives_back { OnOk result (IfSome (S.left input.old) (λ bytes. GivesBack target bytes (K.got out.old) (K.got out.new))) }
+    ensures surfaces { OnOk result (IfSome (S.left input.old) (λ bytes. ShowsSurfaces target bytes (K.got out.old) (K.got out.new))) }
     ensures counts { Counts result (S.faults input.old) (S.faults input.new) (K.faults out.old) (K.faults out.new) }
     ensures read_whole { OnOk result (AtEnd (S.left input.new)) }
 {

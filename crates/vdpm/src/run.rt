@@ -7,6 +7,7 @@ ghost use Rattle.vdpm.specs.Words.{asked_of};
 ghost use Rattle.vdpm.specs.FaultLine.{fault_line};
 ghost use Rattle.vdpm.specs.Ran.{Ran};
 ghost use Rattle.vdpm.specs.Outcome.{IsOutcome, Replied, GivesBack, CutShort};
+ghost use Rattle.vdpm.specs.Frames.{ShowsSurfaces};
 ghost use Rattle.vdpm.specs.Ending.{Ends, Counts, ReadFails, ReadToEnd, FewMore, Said, Stayed, Answers};
 
 use crate::build::build;
@@ -30,6 +31,7 @@ fn obey<S: Source, K: Sink>(
     ensures counts { Counts result (S.faults input.old) (S.faults input.new) (K.faults out.old) (K.faults out.new) }
     ensures read_whole { OnOk result (ReadToEnd asked (S.left input.old) (S.left input.new)) }
     ensures gives_back { (target : ℕ) → asked ≡ Asked.Build target → OnOk result (IfSome (S.left input.old) (λ bytes. GivesBack target bytes (K.got out.old) (K.got out.new))) }
+    ensures surfaces { (target : ℕ) → asked ≡ Asked.Build target → OnOk result (IfSome (S.left input.old) (λ bytes. ShowsSurfaces target bytes (K.got out.old) (K.got out.new))) }
     ensures few_more { (budget : ℕ) → asked ≡ Asked.View budget → IfErr result (λ e. e ≡ CommandFail.Write → FewMore budget (S.left input.old) (S.left input.new) (K.got out.old) (K.got out.new)) }
 {
     match asked {
@@ -66,6 +68,8 @@ pub fn run<S: Source, K: Sink, E: Sink>(
     ensures whole { (asked : Asked) → asked_of (map string_bytes words.now) ≡ Some asked → result ≡ 0 → IfSome (S.left input.old) (λ bytes. Replied asked bytes None (K.got out.old) (K.got out.new)) }
     // The stream of a build expands to the mesh of the OBJ text: what `canon` does with that text, `expand` does with the stream.
     ensures expands { (target : ℕ) → asked_of (map string_bytes words.now) ≡ Some (Asked.Build target) → result ≡ 0 → IfSome (S.left input.old) (λ bytes. GivesBack target bytes (K.got out.old) (K.got out.new)) }
+    // Each frame that `view` writes of that stream, after whatever lines of a script, shows an oriented manifold.
+    ensures surfaces { (target : ℕ) → asked_of (map string_bytes words.now) ≡ Some (Asked.Build target) → result ≡ 0 → IfSome (S.left input.old) (λ bytes. ShowsSurfaces target bytes (K.got out.old) (K.got out.new)) }
     ensures whole_counts { result ≡ 0 → (S.faults input.new ≡ S.faults input.old) × (K.faults out.new ≡ K.faults out.old) }
     // The input was read to its end, or to the `q` of a script.
     ensures read_whole { (asked : Asked) → asked_of (map string_bytes words.now) ≡ Some asked → result ≡ 0 → ReadToEnd asked (S.left input.old) (S.left input.new) }

@@ -5,6 +5,7 @@ use Rattle.vdpm.specs.Build.{IsBuilt}
 use Rattle.vdpm.specs.Ran.{whole}
 use Rattle.vdpm.proofs.OutcomeLaws.{ends_stopped, counts_stopped, ends_all, ends_part, follows_done}
 use Rattle.vdpm.proofs.BuildLaws.{gives_back}
+use Rattle.vdpm.proofs.FrameLaws.{shows_surfaces}
 use Rattle.vdpm.proofs.build.build.Goals as goal
 
 pub returns-in-Err-clause-ends : goal.returns-in-Err-clause-ends
@@ -19,7 +20,10 @@ returns-in-Ok-encode-clause-ends g c =
 
 pub returns-in-Ok-encode-clause-gives_back : goal.returns-in-Ok-encode-clause-gives_back
 returns-in-Ok-encode-clause-gives_back g c =
-    gives_back c.args.target _ _ _ c.in-Ok.h c.in-Ok.ensures.built c.in-Ok.ensures.mesh c.in-Ok.ensures.valid c.in-Ok-encode.ensures.ok
+    gives_back c.args.target _ _ _ c.in-Ok.h c.in-Ok.ensures.built c.in-Ok.ensures.mesh c.in-Ok.ensures.firm.valid c.in-Ok-encode.ensures.ok
+
+pub returns-in-Ok-encode-clause-surfaces : goal.returns-in-Ok-encode-clause-surfaces
+returns-in-Ok-encode-clause-surfaces g c = shows_surfaces c.args.target _ _ _ c.in-Ok.h c.in-Ok.ensures.built c.in-Ok.ensures.firm c.in-Ok-encode.ensures.ok
 
 pub returns-clause-ends : goal.returns-clause-ends
 returns-clause-ends g c =

@@ -12,6 +12,9 @@ returns-in-Ok-clause-whole g c = λ other asks is.
 pub returns-in-Ok-clause-expands : goal.returns-in-Ok-clause-expands
 returns-in-Ok-clause-expands g c = λ target asks is. c.in-Ok.ensures.gives_back target (one_asked _ _ (asked.Build target) (sym c.read_words.ensures ∙ c.in-Some.is) asks)
 
+pub returns-in-Ok-clause-surfaces : goal.returns-in-Ok-clause-surfaces
+returns-in-Ok-clause-surfaces g c = λ target asks is. c.in-Ok.ensures.surfaces target (one_asked _ _ (asked.Build target) (sym c.read_words.ensures ∙ c.in-Some.is) asks)
+
 pub returns-in-Ok-clause-read_whole : goal.returns-in-Ok-clause-read_whole
 returns-in-Ok-clause-read_whole g c = λ other asks is.
     subst (λ a. ReadToEnd a (g.S.Source.left c.args.input.now) (g.S.Source.left c.obey.new.input)) (one_asked _ _ other (sym c.read_words.ensures ∙ c.in-Some.is) asks) c.in-Ok.ensures.read_whole
