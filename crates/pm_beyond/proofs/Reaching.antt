@@ -47,7 +47,7 @@ module _ (h : Hierarchy) (shape : IsForest h) (once : NoSideTwice (leaf_net h)) 
   same_here D a r t s (here t') q s' = sym t ∙ ap (leaf_twin h) (sym q) ∙ t'
   same_here D a r t s (past {c = c} t' d' x' v) q s' = absurd (both_ways _ d' (stops_at D r c s (sym t ∙ ap (leaf_twin h) (sym q) ∙ t')))
 
-  same_past : (D : ℕ → Bool) (a c o : ℕ) → leaf_twin h a ≡ Some c → is_shown h D c ≡ false → across h c ≡ Some o → {a' : ℕ} {r' : Option ℕ} → Reaches h D a' r' → a' ≡ a → StopsAt h D r' → {R : Type 0} → (Reaches h D o r' → R) → R
+  pub same_past : (D : ℕ → Bool) (a c o : ℕ) → leaf_twin h a ≡ Some c → is_shown h D c ≡ false → across h c ≡ Some o → {a' : ℕ} {r' : Option ℕ} → Reaches h D a' r' → a' ≡ a → StopsAt h D r' → {R : Type 0} → (Reaches h D o r' → R) → R
   same_past D a c o t d x (here {r = r'} t') q s' go = absurd (both_ways _ d (stops_at D r' c s' (sym t' ∙ ap (leaf_twin h) q ∙ t)))
   same_past D a c o t d x (past {c = c'} {o = o'} {r = r'} t' d' x' v) q s' go =
       let same_c : c' ≡ c = same_Some c' c (sym t' ∙ ap (leaf_twin h) q ∙ t) in

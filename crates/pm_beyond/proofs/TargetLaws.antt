@@ -8,11 +8,11 @@ use Rattle.pm_beyond.specs.Targets.{any_below, taken_after, target_of, IsTarget}
 use Rattle.pm_beyond.proofs.Standing.{needs-older}
 use Rattle.pm_beyond.proofs.Outer.{needs-true, needs-from}
 
-any_below-parts : (p : ℕ → Bool) (n : ℕ) → any_below p n ≡ true → (i : ℕ) × (i < n) × (p i ≡ true)
+pub any_below-parts : (p : ℕ → Bool) (n : ℕ) → any_below p n ≡ true → (i : ℕ) × (i < n) × (p i ≡ true)
 any_below-parts p zero e = absurd (false≢true e)
 any_below-parts p (suc n) e = elim (or_cases (p n) (any_below p n) e) [ inl t ↦ (n, omega arith, t) | inr t ↦ (let (i, l, u) = any_below-parts p n t in (i, omega arith, u)) ]
 
-any_below-from : (p : ℕ → Bool) (n i : ℕ) → i < n → p i ≡ true → any_below p n ≡ true
+pub any_below-from : (p : ℕ → Bool) (n i : ℕ) → i < n → p i ≡ true → any_below p n ≡ true
 any_below-from p zero i l t = absurd (omega arith)
 any_below-from p (suc n) i l t =
     elim (cases_eq i n) [
