@@ -109,3 +109,12 @@ as_long h S xs a =
     let up = once_fits xs (active_nodes h S) a.once (λ v t. (b.each v).1 ((a.each v).0 t)) in
     let down = once_fits (active_nodes h S) xs b.once (λ v t. (a.each v).1 ((b.each v).0 t)) in
     omega arith
+
+-- Nothing stands after itself.
+pub after_once : (xs : List ℕ) (v : ℕ) → IsOnce xs → has (after v xs) v ≡ false
+after_once [] v once = refl
+after_once (y ∷ ys) v once =
+    elim (cases_Bool (eqb y v)) [
+      | inl t ↦ ap (λ zs. has zs v) (cond-true (eqb y v) ys (after v ys) t) ∙ subst (λ i. has ys i ≡ false) (eqb-true y v t) once.0
+      | inr f ↦ ap (λ zs. has zs v) (cond-false (eqb y v) ys (after v ys) f) ∙ after_once ys v once.1
+    ]

@@ -5,5 +5,7 @@ pub mod CountLaws
 pub mod NeedLaws
 pub mod FindingLaws
 pub mod DecidingLaws
+pub mod DecidedLaws
+pub mod DecisionCounts
 pub mod DoingLaws
 pub mod ActiveLaws

@@ -1,5 +1,6 @@
 pub mod Marks
 pub mod Adapting
+pub mod Needed
 pub mod Queued
 pub mod Finding
 pub mod Deciding

@@ -8,9 +8,8 @@ ghost use Rattle.pm_forest.specs.Fronts.{set_of};
 ghost use Rattle.pm_bounds.specs.Bounds.{AreBoundsOf};
 ghost use Rattle.pm_view.specs.Wanted.{is_wanted};
 ghost use Rattle.pm_refine.specs.Queued.{up_key, held, AreKeyed, Joins, leads_to};
-ghost use Rattle.pm_refine.specs.Finding.{is_due, AreSeen, AreFound, IsStart};
+ghost use Rattle.pm_refine.specs.Finding.{is_due, AreSeen, AreDue};
 
-use crate::needs::rise;
 use crate::queues::{put_down, put_up};
 use pm_base::NodeId;
 use pm_bounds::Bounds;
@@ -51,23 +50,19 @@ fn see_active<L: Ledger>(
     bounds: &Bounds,
     view: &View,
     moves: &mut Queue,
-    work: &mut Queue,
     steps: &mut Steps<L>,
 )
     requires bounds { AreBoundsOf front.now.h bounds.now }
     requires moves { length moves.old ≡ record_count front.now.h }
-    requires work { length work.old ≡ record_count front.now.h }
     requires no_moves { IsEmpty moves.old }
-    requires no_work { IsEmpty work.old }
-    ensures found { AreFound front.now.h (is_wanted front.now.h view.now) (set_of front.now.flags) 0
-        moves.new work.new }
+    ensures seen { AreSeen front.now.h (is_wanted front.now.h view.now) (set_of front.now.flags)
+        (λ v. false) moves.new }
     ensures cost { steps.new ≤ steps.old + length front.now.active }
 {
     front.is_sound();
     let mut cursor = front.first_active();
     while let Some(node) = cursor {
         look(front.hierarchy(), bounds, view, node, moves, steps);
-        rise(front.hierarchy(), node, work);
         cursor = front.next_active(node);
     }
 }
@@ -97,9 +92,9 @@ fn look_below<L: Ledger>(
     look(h, bounds, view, NodeId(t + 1), moves, steps);
 }
 
-/// Finds the records that aren't split and whose nodes are wanted, and puts them and the makers of
-/// the active nodes on the queue `work`. It uses the queue `moves`, and tests each active node and
-/// each child of what it finds once at most.
+/// Finds the records that aren't split and whose nodes are wanted, and puts them on the queue `work`.
+/// It uses the queue `moves`, and tests each active node and each child of what it finds once at
+/// most.
 pub(crate) fn find<L: Ledger>(
     front: &Front,
     bounds: &Bounds,
@@ -115,14 +110,14 @@ pub(crate) fn find<L: Ledger>(
     requires no_work { IsEmpty work.old }
     ensures len { length moves.new ≡ length moves.old }
     ensures empty { IsEmpty moves.new }
-    ensures found { IsStart front.now.h (is_wanted front.now.h view.now) (set_of front.now.flags)
+    ensures found { AreDue front.now.h (is_wanted front.now.h view.now) (set_of front.now.flags)
         work.new }
     ensures cost { let h = front.now.h in let S = set_of front.now.flags in
         steps.new ≤ steps.old + length front.now.active
         + 2 * count (is_due h (is_wanted h view.now) S) (record_count h) }
 {
     front.is_sound();
-    see_active(front, bounds, view, moves, work, steps);
+    see_active(front, bounds, view, moves, steps);
     let mut next = 0;
     while let Some((k, _)) = moves.take_least() {
         put_down(work, k);

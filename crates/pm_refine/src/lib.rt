@@ -4,6 +4,8 @@
 mod deciding;
 mod doing;
 mod finding;
+mod loosening;
+mod marks;
 mod needs;
 mod queues;
 mod refiner;

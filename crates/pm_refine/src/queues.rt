@@ -1,7 +1,8 @@
 // The queues of a refiner give out records in ascending order and, after them, records in
 // descending order.
-ghost use Rattle.std.specs.Prelude.{◌≡◌, ◌<◌, ◌==◌, Some, None, length, slice_set, IfSome, IfNone, cond};
+ghost use Rattle.std.specs.Prelude.{ℕ, ◌≡◌, ◌<◌, ◌==◌, true, false, Some, None, length, slice_set, IfSome, IfNone, cond};
 ghost use Rattle.pm_queue.specs.Entries.{IsEmpty, IsLeast};
+ghost use Rattle.pm_forest.specs.Fronts.{set_of};
 ghost use Rattle.pm_refine.specs.Queued.{up_key, down_key, held, AreKeyed, Joins};
 
 use pm_queue::{Key, Queue};
@@ -40,11 +41,17 @@ pub(crate) fn put_down(queue: &mut Queue, k: u32)
     queue.set(k, key);
 }
 
-/// Takes all records out of a queue.
+/// Takes all records out of a queue, and clears their flags.
 #[tactic(auto, using(pm_queue::proofs::EntryLaws::entry_count_falls))]
-pub(crate) fn clear(queue: &mut Queue)
+pub(crate) fn clear(queue: &mut Queue, flags: &mut Vec<bool>)
+    requires flags { length flags.old.items ≡ length queue.old }
+    requires held { (j : ℕ) → set_of flags.old.items j ≡ true → held queue.old j ≡ true }
     ensures len { length queue.new ≡ length queue.old }
+    ensures flags { length flags.new.items ≡ length flags.old.items }
+    ensures clear { (j : ℕ) → set_of flags.new.items j ≡ false }
     ensures empty { IsEmpty queue.new }
 {
-    while queue.take_least().is_some() {}
+    while let Some((k, _)) = queue.take_least() {
+        flags[k as usize] = false;
+    }
 }

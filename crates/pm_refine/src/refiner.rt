@@ -13,6 +13,7 @@ use crate::OutOfMemory;
 use crate::deciding::decide_all;
 use crate::doing::{adapted, advance};
 use crate::finding::find;
+use crate::loosening::find_loose;
 use crate::queues::clear;
 use pm_bounds::Bounds;
 use pm_forest::Hierarchy;
@@ -31,12 +32,14 @@ pub enum Adapted {
     Spent { moves: u32, left: u32 },
 }
 
-/// What adapts the fronts of a hierarchy to views: a mark on each record, and two queues over the
+/// What adapts the fronts of a hierarchy to views: two flags for each record, and two queues over the
 /// records. Contracts see the number of records.
 #[derive(Drop)]
 pub struct Refiner {
-    // Set where a record of the target needs the record, while it is still to be decided.
+    // Set where a record that will be split needs the record, while it is still to be decided.
     marks: Vec<bool>,
+    // Set where the record will be collapsed.
+    gone: Vec<bool>,
     // The records that are still to be decided.
     work: Queue,
     // The moves of the plan.
@@ -51,19 +54,25 @@ impl Model for Refiner {
 
     ghost view = { λ r. length r.marks.items };
 
-    ghost invariant = { λ r. IsIdle r.marks.items r.work r.moves };
+    ghost invariant = { λ r. IsIdle r.marks.items r.gone.items r.work r.moves };
 }
 
 impl Refiner {
-    /// Takes room for a mark on each record of a hierarchy, and for two queues.
+    /// Takes room for two flags for each record of a hierarchy, and for two queues.
     pub fn new(alloc: Global, h: &Hierarchy) -> Result<Refiner, OutOfMemory>
         ensures { IfOk result (λ r. r ≡ record_count h.now) }
     {
         let records = h.records();
         let marks = vec![in alloc; false; records as usize]?;
+        let gone = vec![in alloc; false; records as usize]?;
         let work = Queue::new(alloc, records)?;
         let moves = Queue::new(alloc, records)?;
-        Ok(Refiner { marks, work, moves })
+        Ok(Refiner {
+            marks,
+            gone,
+            work,
+            moves,
+        })
     }
 
     /// Does the first `budget` moves of the plan that leads from the front to the target of a view:
@@ -96,17 +105,19 @@ impl Refiner {
     {
         front.is_sound();
         find(front, bounds, view, &mut self.moves, &mut self.work, steps);
+        find_loose(front, bounds, view, &self.gone, &mut self.work, steps);
         let moves = decide_all(
             front,
             bounds,
             view,
             &mut self.marks,
+            &mut self.gone,
             &mut self.work,
             &mut self.moves,
             steps,
         );
-        advance(front, view, &mut self.moves, budget);
-        clear(&mut self.moves);
+        advance(front, view, &mut self.moves, &mut self.gone, budget);
+        clear(&mut self.moves, &mut self.gone);
         front.is_sound();
         adapted(moves, budget)
     }

@@ -1,6 +1,9 @@
-use Rattle.std.proofs.Common.{◌≡◌, length, length-set, set, None, Option, refl, sym, ap, subst, ◌∙◌, arith}
+use Rattle.std.proofs.Common.{◌≡◌, ◌<◌, Bool, true, false, length, length-set, set, None, Option, refl, sym, ap, subst, ◌∙◌, arith}
 use Rattle.pm_queue.specs.declared.key.Key.{Key}
 use Rattle.pm_queue.specs.Entries.{Entries}
+use Rattle.pm_queue.proofs.EntryLaws.{key_at_in}
+use Rattle.pm_refine.specs.Queued.{held}
+use Rattle.pm_refine.proofs.QueueLaws.{kept_flags}
 use Rattle.pm_forest.specs.Forest.{Hierarchy}
 use Rattle.pm_forest.specs.Fronts.{set_of}
 use Rattle.pm_beyond.specs.Plans.{MayMove}
@@ -18,6 +21,8 @@ loop-left-init c =
     record {
       hierarchy = refl;
       len = refl;
+      gone_len = refl;
+      gone = c.requires.gone;
       to_do = begin h S (view_target h c.args._view.now) c.args.budget c.is_sound.ensures.valid c.is_sound.ensures.closed c.requires.closed c.args.moves.now c.requires.moves;
       corners = refl;
     }
@@ -51,10 +56,16 @@ loop-left-preserved c =
     let T = set_of c.loop-left.front.flags in
     let few = records_few h c.is_sound.ensures.valid.shape in
     let some = c.loop-left-test.true in
+    let low = key_at_in c.loop-left.moves c.in-Some.k c.in-Some.field-0-1 c.in-Some.ensures.some.there in
+    let moves_len = c.loop-left.invariant.to_do.moves.len in
+    let flags_len = c.loop-left.invariant.gone_len ∙ c.requires.gone_len in
+    let room : c.in-Some.k < length c.loop-left.gone.items = omega arith in
     let taken : c.take_least.new.self ≡ set c.loop-left.moves c.in-Some.k None = c.in-Some.ensures.taken in
     record {
       hierarchy = c.make_move.ensures.hierarchy ∙ c.loop-left.invariant.hierarchy;
       len = ap (λ (m : Entries). length m) taken ∙ length-set {A = Option Key} c.loop-left.moves c.in-Some.k None ∙ c.loop-left.invariant.len;
+      gone_len = length-set {A = Bool} c.loop-left.gone.items c.in-Some.k false ∙ c.loop-left.invariant.gone_len;
+      gone = λ j t. subst (λ (m : Entries). held m j ≡ true) (sym taken) (kept_flags c.loop-left.gone.items c.loop-left.moves c.in-Some.k j room c.loop-left.invariant.gone t);
       to_do = subst (AreToDo h S G c.args.budget _ _) (sym taken)
           (done_more h S G c.args.budget c.loop-left.left T (set_of c.make_move.new.front.flags) c.loop-left.moves (c.in-Some.k, c.in-Some.field-0-1) (omega arith) (omega arith) c.loop-left.invariant.to_do c.in-Some.ensures.some
           c.make_move.ensures.done);
@@ -63,3 +74,10 @@ loop-left-preserved c =
           (subst (λ (x : Hierarchy). c.make_move.new.front.corners ≡ moved_lists x T (move_of T c.in-Some.k) c.loop-left.front.corners) c.loop-left.invariant.hierarchy c.make_move.ensures.corners)
           c.loop-left.invariant.corners;
     }
+
+pub index_mut-requires : goal.index_mut-requires
+index_mut-requires c =
+    let low = key_at_in c.loop-left.moves c.in-Some.k c.in-Some.field-0-1 c.in-Some.ensures.some.there in
+    let moves_len = c.loop-left.invariant.to_do.moves.len in
+    let flags_len = c.loop-left.invariant.gone_len ∙ c.requires.gone_len in
+    omega arith

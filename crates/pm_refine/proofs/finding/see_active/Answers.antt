@@ -1,8 +1,7 @@
 use Rattle.std.proofs.Common.{◌≡◌, ◌<◌, true, length, sym, ap, subst, ◌∙◌, arith}
 use Rattle.pm_links.specs.Lists.{has}
-use Rattle.pm_forest.specs.Forest.{Hierarchy, node_count, maker_of}
+use Rattle.pm_forest.specs.Forest.{Hierarchy, node_count}
 use Rattle.pm_forest.specs.Fronts.{set_of}
-use Rattle.pm_beyond.specs.Moves.{is_at}
 use Rattle.pm_view.specs.Wanted.{is_wanted}
 use Rattle.pm_refine.specs.Queued.{held, Joins, leads_to}
 use Rattle.pm_refine.proofs.ActiveLaws.{cursor_in, cursor_rest, start_rest, start_in, next_rest, next_in, one_less}
@@ -18,8 +17,8 @@ loop-cursor-init g c =
     let all = start_rest xs cursor c.first_active-cursor.ensures in
     let same = ap length all in
     record {
-      seen = none_seen h c.is_sound.ensures.valid.shape (is_wanted h c.args.view.now) S _ c.args.moves.now c.args.work.now
-          (λ v l a. subst (λ ys. has ys v ≡ true) (sym all) ((c.is_sound.ensures.active.each v).1 (l, a))) c.requires.moves c.requires.work c.requires.no_moves c.requires.no_work;
+      seen = none_seen h c.is_sound.ensures.valid.shape (is_wanted h c.args.view.now) S _ c.args.moves.now
+          (λ v l a. subst (λ ys. has ys v ≡ true) (sym all) ((c.is_sound.ensures.active.each v).1 (l, a))) c.requires.moves c.requires.no_moves;
       active = start_in xs cursor c.first_active-cursor.ensures;
       cost = omega arith;
     }
@@ -29,12 +28,6 @@ look-requires-clause-node g c =
     let there = cursor_in c.args.front.now.active c.loop-cursor.cursor c.in-Some.node c.in-Some.is c.loop-cursor.invariant.active in
     let p = (c.is_sound.ensures.active.each c.in-Some.node.0).0 there in
     subst (λ (x : Hierarchy). c.in-Some.node.0 < node_count x) (sym c.hierarchy.ensures) p.0
-
-pub rise-requires-clause-node : goal.rise-requires-clause-node
-rise-requires-clause-node g c =
-    let there = cursor_in c.args.front.now.active c.loop-cursor.cursor c.in-Some.node c.in-Some.is c.loop-cursor.invariant.active in
-    let p = (c.is_sound.ensures.active.each c.in-Some.node.0).0 there in
-    subst (λ (x : Hierarchy). c.in-Some.node.0 < node_count x) (sym c.hierarchy-in-Some.ensures) p.0
 
 pub next_active-cursor-requires-clause-node : goal.next_active-cursor-requires-clause-node
 next_active-cursor-requires-clause-node g c =
@@ -71,11 +64,10 @@ loop-cursor-preserved g c =
     let before = c.loop-cursor.invariant.cost in
     let s = c.loop-cursor.invariant.seen in
     record {
-      seen = seen_more h c.is_sound.ensures.valid.shape (is_wanted h view) S _ _ node.0 c.loop-cursor.moves c.loop-cursor.work c.look.new.moves c.rise.new.work s
-          ((c.is_sound.ensures.active.each node.0).0 there).1 (one_less xs cursor node next c.in-Some.is rest_is) (c.look.ensures.len ∙ s.moves_len) (c.rise.ensures.work_len ∙ s.work_len)
-          c.look.ensures.keyed c.rise.ensures.keyed
-          (subst (λ (x : Hierarchy). Joins (held c.loop-cursor.moves) (held c.look.new.moves) (leads_to x (is_wanted x view) node.0)) c.hierarchy.ensures c.look.ensures.joined)
-          (subst (λ (x : Hierarchy). Joins (held c.loop-cursor.work) (held c.rise.new.work) (λ j. is_at j (maker_of x node.0))) c.hierarchy-in-Some.ensures c.rise.ensures.joined);
+      seen = seen_more h c.is_sound.ensures.valid.shape (is_wanted h view) S _ _ node.0 c.loop-cursor.moves c.look.new.moves s
+          ((c.is_sound.ensures.active.each node.0).0 there).1 (one_less xs cursor node next c.in-Some.is rest_is) (c.look.ensures.len ∙ s.moves_len)
+          c.look.ensures.keyed
+          (subst (λ (x : Hierarchy). Joins (held c.loop-cursor.moves) (held c.look.new.moves) (leads_to x (is_wanted x view) node.0)) c.hierarchy.ensures c.look.ensures.joined);
       active = next_in xs next node.0 c.next_active-cursor.ensures;
       cost = omega arith;
     }

@@ -1,0 +1,72 @@
+-- The tests of nodes, counted: over the records that something needs, that nothing needs, and of which a move is made.
+use Rattle.std.proofs.Common.{◌≡◌, ℕ, ◌+◌, ◌≤◌, Bool, true, false, ◌&&◌, ◌||◌, not, List, inl, inr, sym, ap, ◌∙◌, arith}
+use Rattle.std.proofs.lemmas.Bool.{cases_Bool, both_ways, and_parts, and_from, or_left, or_right, or_from, not-true, not_from_false, not_from_true}
+use Rattle.pm_base.specs.Counts.{count, one_if}
+use Rattle.pm_base.proofs.Counts.{count_more}
+use Rattle.pm_refine.proofs.CountLaws.{count_apart}
+use Rattle.pm_queue.specs.Entries.{Entries}
+use Rattle.pm_forest.specs.Forest.{Hierarchy, record_count, s_of}
+use Rattle.pm_forest.specs.Fronts.{set_of}
+use Rattle.pm_forest.specs.Rules.{HasShape}
+use Rattle.pm_beyond.specs.Moves.{IsClosed}
+use Rattle.pm_beyond.specs.Targets.{target_of}
+use Rattle.pm_beyond.specs.Plans.{differs, less}
+use Rattle.pm_beyond.proofs.TargetLaws.{target-least}
+use Rattle.pm_refine.specs.Finding.{is_due}
+use Rattle.pm_front.specs.Needed.{is_needed, remaining}
+use Rattle.pm_refine.specs.Needed.{is_free}
+use Rattle.pm_refine.specs.Deciding.{IsNext}
+use Rattle.pm_refine.proofs.DecidingLaws.{stays_is}
+
+module _ (h : Hierarchy) (shape : HasShape h) (wanted S : ℕ → Bool) (closed : IsClosed h S) where
+  -- A test is made of a record that isn't needed any more; either it was needed before, or it goes.
+  pub tested : (k : ℕ) (marks gone : List Bool) (work moves : Entries) → IsNext h wanted S k marks gone work moves → S k ≡ true → set_of marks k ≡ false → is_needed h (remaining S (set_of gone)) k ≡ false →
+      1 ≤ one_if (S k && is_needed h S k) + one_if (differs S (target_of h wanted) k)
+  tested k marks gone work moves n s m f =
+      elim (cases_Bool (is_needed h S k)) [
+        | inl t ↦ (let a = ap one_if (and_from (S k) (is_needed h S k) s t) in omega arith)
+        | inr t ↦
+            elim (n.tried_itself s) [
+              | inl u ↦ absurd (both_ways _ m u)
+              | inr u ↦
+                  elim u [
+                    | inl v ↦ absurd (both_ways _ t v)
+                    | inr v ↦
+                        let x = is_needed h (remaining S (set_of gone)) k in
+                        let none : target_of h wanted k ≡ false = sym (stays_is h shape wanted S closed k marks gone work moves n)
+                        ∙ or_from (not (S k)) (set_of marks k || (x || wanted (s_of h k))) (not_from_true (S k) s) (or_from (set_of marks k) (x || wanted (s_of h k)) m (or_from x (wanted (s_of h k)) f v)) in
+                        let a = ap one_if (or_left (less S (target_of h wanted) k) (less (target_of h wanted) S k) (and_from (S k) (not (target_of h wanted k)) s (not_from_false (target_of h wanted k) none))) in
+                        omega arith
+                  ]
+            ]
+      ]
+
+  -- What was found is made a move of.
+  pub due_few : count (is_due h wanted S) (record_count h) ≤ count (differs S (target_of h wanted)) (record_count h)
+  due_few =
+      let T = target_of h wanted in
+      count_more (is_due h wanted S) (differs S T) (record_count h) (λ j l d.
+      let p = and_parts (wanted (s_of h j)) (not (S j)) d in
+      or_right (less S T j) (less T S j) (and_from (T j) (not (S j)) ((target-least h shape wanted).takes j l p.0) p.1))
+
+  -- Those that nothing needs and those that something needs are the split ones.
+  pub free_and_needed : count (is_free h S) (record_count h) + count (λ j. S j && is_needed h S j) (record_count h) ≤ count S (record_count h)
+  free_and_needed =
+      let n = record_count h in
+      count_apart (is_free h S) (λ j. S j && is_needed h S j) S n (λ j t. (and_parts (S j) (not (is_needed h S j)) t).0) (λ j t. (and_parts (S j) (is_needed h S j) t).0)
+      (λ j t u. both_ways _ (not-true (is_needed h S j) (and_parts (S j) (not (is_needed h S j)) t).1) (and_parts (S j) (is_needed h S j) u).1)
+
+  -- The tests of a record are paid for.
+  pub paid : (k : ℕ) (marks gone : List Bool) (work moves : Entries) → IsNext h wanted S k marks gone work moves →
+      one_if (S k && (not (set_of marks k) && not (is_needed h (remaining S (set_of gone)) k))) ≤ one_if (S k && is_needed h S k) + one_if (differs S (target_of h wanted) k)
+  paid k marks gone work moves n =
+      let x = S k && (not (set_of marks k) && not (is_needed h (remaining S (set_of gone)) k)) in
+      elim (cases_Bool x) [
+        | inr f ↦ (let a = ap one_if f in omega arith)
+        | inl t ↦
+            let p = and_parts (S k) (not (set_of marks k) && not (is_needed h (remaining S (set_of gone)) k)) t in
+            let q = and_parts (not (set_of marks k)) (not (is_needed h (remaining S (set_of gone)) k)) p.1 in
+            let a = ap one_if t in
+            let b = tested k marks gone work moves n p.0 (not-true (set_of marks k) q.0) (not-true (is_needed h (remaining S (set_of gone)) k) q.1) in
+            omega arith
+      ]

@@ -1,0 +1,98 @@
+use Rattle.std.proofs.Common.{◌≡◌, ◌<◌, eqb, true, false, length, refl, sym, ap, subst, ◌∙◌, arith}
+use Rattle.std.proofs.lemmas.Bool.{or_left, or_right, eq-eqb}
+use Rattle.pm_links.specs.Lists.{has, after, rest}
+use Rattle.pm_forest.specs.Forest.{node_count}
+use Rattle.pm_forest.specs.Fronts.{is_active, set_of}
+use Rattle.pm_view.specs.Wanted.{is_wanted}
+use Rattle.pm_refine.proofs.ActiveLaws.{number, cursor_in, cursor_rest, start_rest, start_in, next_rest, next_in, one_less, after_once}
+use Rattle.pm_refine.proofs.FindingLaws.{none_tried, tried_more, tests_more, tests_few, tests_none}
+use Rattle.pm_refine.proofs.loosening.find_loose.Goals as goal
+
+pub loop-cursor-init : goal.loop-cursor-init
+loop-cursor-init g c =
+    let h = c.args.front.now.h in
+    let S = set_of c.args.front.now.flags in
+    let wanted = is_wanted h c.args.view.now in
+    let xs = c.args.front.now.active in
+    let cursor = c.first_active-cursor.result in
+    let all = start_rest xs cursor c.first_active-cursor.ensures in
+    let some : (v : _) → v < node_count h → is_active h S v ≡ true → has _ v ≡ true = λ v l a. subst (λ ys. has ys v ≡ true) (sym all) ((c.is_sound.ensures.active.each v).1 (l, a)) in
+    let none = tests_none h c.is_sound.ensures.valid.shape wanted S _ some in
+    record {
+      tried = none_tried h c.is_sound.ensures.valid.shape wanted S _ c.args.work.now some c.requires.due;
+      active = start_in xs cursor c.first_active-cursor.ensures;
+      cost = omega arith;
+    }
+
+pub try_maker-requires-clause-node : goal.try_maker-requires-clause-node
+try_maker-requires-clause-node g c =
+    let h = c.args.front.now.h in
+    let S = set_of c.args.front.now.flags in
+    let there = cursor_in c.args.front.now.active c.loop-cursor.cursor c.in-Some.node c.in-Some.is c.loop-cursor.invariant.active in
+    ((c.is_sound.ensures.active.each c.in-Some.node.0).0 there).0
+
+pub try_maker-requires-clause-active : goal.try_maker-requires-clause-active
+try_maker-requires-clause-active g c =
+    let h = c.args.front.now.h in
+    let S = set_of c.args.front.now.flags in
+    let there = cursor_in c.args.front.now.active c.loop-cursor.cursor c.in-Some.node c.in-Some.is c.loop-cursor.invariant.active in
+    ((c.is_sound.ensures.active.each c.in-Some.node.0).0 there).1
+
+pub next_active-cursor-requires-clause-node : goal.next_active-cursor-requires-clause-node
+next_active-cursor-requires-clause-node g c =
+    let h = c.args.front.now.h in
+    let S = set_of c.args.front.now.flags in
+    let there = cursor_in c.args.front.now.active c.loop-cursor.cursor c.in-Some.node c.in-Some.is c.loop-cursor.invariant.active in
+    ((c.is_sound.ensures.active.each c.in-Some.node.0).0 there).0
+
+pub next_active-cursor-requires-clause-active : goal.next_active-cursor-requires-clause-active
+next_active-cursor-requires-clause-active g c =
+    let h = c.args.front.now.h in
+    let S = set_of c.args.front.now.flags in
+    let there = cursor_in c.args.front.now.active c.loop-cursor.cursor c.in-Some.node c.in-Some.is c.loop-cursor.invariant.active in
+    ((c.is_sound.ensures.active.each c.in-Some.node.0).0 there).1
+
+pub loop-cursor-smaller : goal.loop-cursor-smaller
+loop-cursor-smaller g c =
+    let h = c.args.front.now.h in
+    let S = set_of c.args.front.now.flags in
+    let xs = c.args.front.now.active in
+    let there = cursor_in xs c.loop-cursor.cursor c.in-Some.node c.in-Some.is c.loop-cursor.invariant.active in
+    let here = ap length (cursor_rest xs c.loop-cursor.cursor c.in-Some.node c.in-Some.is) in
+    let later = ap length (next_rest xs c.next_active-cursor.result c.in-Some.node.0 c.is_sound.ensures.active.once there c.next_active-cursor.ensures) in
+    omega arith
+
+pub loop-cursor-preserved : goal.loop-cursor-preserved
+loop-cursor-preserved g c =
+    let h = c.args.front.now.h in
+    let S = set_of c.args.front.now.flags in
+    let wanted = is_wanted h c.args.view.now in
+    let xs = c.args.front.now.active in
+    let cursor = c.loop-cursor.cursor in
+    let node = c.in-Some.node in
+    let next = c.next_active-cursor.result in
+    let once = c.is_sound.ensures.active.once in
+    let there = cursor_in xs cursor node c.in-Some.is c.loop-cursor.invariant.active in
+    let rest_is = next_rest xs next node.0 once there c.next_active-cursor.ensures in
+    let here_is = cursor_rest xs cursor node c.in-Some.is in
+    let s = c.loop-cursor.invariant.tried in
+    let more = tests_more h c.is_sound.ensures.valid.shape wanted S _ _ node.0
+    (subst (λ ys. has ys node.0 ≡ true) (sym here_is) (or_left (eqb node.0 node.0) (has (after node.0 xs) node.0) (eq-eqb node.0 node.0 refl)))
+    (subst (λ ys. has ys node.0 ≡ false) (sym rest_is) (after_once xs node.0 once))
+    (λ x t. subst (λ ys. has ys x ≡ true) (sym here_is) (or_right (eqb node.0 x) (has (after node.0 xs) x) (subst (λ ys. has ys x ≡ true) rest_is t))) in
+    let cost = c.try_maker.ensures.cost in
+    let before = c.loop-cursor.invariant.cost in
+    record {
+      tried = tried_more h c.is_sound.ensures.valid.shape wanted S _ _ node.0 c.loop-cursor.work c.try_maker.new.work s (one_less xs cursor node next c.in-Some.is rest_is)
+          (c.try_maker.ensures.work_len ∙ s.work_len) c.try_maker.ensures.keyed c.try_maker.ensures.joined;
+      active = next_in xs next node.0 c.next_active-cursor.ensures;
+      cost = omega arith;
+    }
+
+pub returns-clause-cost : goal.returns-clause-cost
+returns-clause-cost g c =
+    let h = c.args.front.now.h in
+    let S = set_of c.args.front.now.flags in
+    let few = tests_few h c.is_sound.ensures.valid.shape (is_wanted h c.args.view.now) S (has (rest (number c.loop-cursor.cursor) c.args.front.now.active)) in
+    let before = c.loop-cursor.invariant.cost in
+    omega arith

@@ -1,0 +1,123 @@
+// Records that may go are found from the active nodes: no split record needs them, and their nodes
+// aren't wanted.
+ghost use Rattle.std.specs.Prelude.{ℕ, ◌≡◌, ◌+◌, ◌*◌, ◌<◌, ◌≤◌, ◌==◌, ◌&&◌, not, true, false, length, IfSome, IfNone};
+ghost use Rattle.pm_base.specs.Counts.{count, one_if};
+ghost use Rattle.pm_forest.specs.Forest.{record_count, node_count, t_of};
+ghost use Rattle.pm_forest.specs.Fronts.{set_of, is_active};
+ghost use Rattle.pm_beyond.specs.Moves.{IsClosed};
+ghost use Rattle.pm_bounds.specs.Bounds.{AreBoundsOf};
+ghost use Rattle.pm_view.specs.Wanted.{is_wanted};
+ghost use Rattle.pm_refine.specs.Queued.{down_key, held, AreKeyed, Joins};
+ghost use Rattle.pm_refine.specs.Finding.{AreDue, IsStart};
+ghost use Rattle.pm_front.specs.Needed.{is_needed, remaining};
+ghost use Rattle.pm_refine.specs.Needed.{is_free, is_loose};
+
+use crate::queues::put_down;
+use pm_base::NodeId;
+use pm_bounds::Bounds;
+use pm_forest::Hierarchy;
+use pm_front::Front;
+use pm_queue::Queue;
+use pm_view::{Steps, View, wants};
+use std::sync::ledger::Ledger;
+
+// The record whose first child a node is.
+fn first_child_of(h: &Hierarchy, node: NodeId) -> Option<u32>
+    requires { node.0 < node_count h.now }
+    ensures some { IfSome result (λ k. (k < record_count h.now) × (t_of h.now k ≡ node.0)) }
+    ensures none { IfNone result ((k : ℕ) → t_of h.now k ≡ node.0 → ⊥) }
+{
+    let k = h.maker(node)?;
+    let _records = h.records();
+    if node.0 == h.roots() + 2 * k {
+        Some(k)
+    } else {
+        None
+    }
+}
+
+// Whether a split record may go.
+#[tactic(auto, using(pm_front::proofs::SplitLaws::s_below, pm_front::proofs::Counting::s_is))]
+fn may_go<L: Ledger>(
+    front: &Front,
+    bounds: &Bounds,
+    view: &View,
+    gone: &[bool],
+    k: u32,
+    steps: &mut Steps<L>,
+) -> bool
+    requires bounds { AreBoundsOf front.now.h bounds.now }
+    requires record { k < record_count front.now.h }
+    requires split { set_of front.now.flags k ≡ true }
+    requires gone { length gone.now ≡ record_count front.now.h }
+    requires clear { (j : ℕ) → set_of gone.now j ≡ false }
+    ensures value { let h = front.now.h in
+        result ≡ is_loose h (is_wanted h view.now) (set_of front.now.flags) k }
+    ensures cost { steps.new ≤ steps.old + one_if (is_free front.now.h (set_of front.now.flags) k) }
+{
+    front.is_sound();
+    if !front.nothing_needs(gone, k) {
+        return false;
+    }
+    let h = front.hierarchy();
+    !wants(h, bounds, NodeId(h.record_at(k).s), view, steps)
+}
+
+// Puts the record whose first child an active node is on the queue, if it may go.
+fn try_maker<L: Ledger>(
+    front: &Front,
+    bounds: &Bounds,
+    view: &View,
+    gone: &[bool],
+    node: NodeId,
+    work: &mut Queue,
+    steps: &mut Steps<L>,
+)
+    requires bounds { AreBoundsOf front.now.h bounds.now }
+    requires node { node.0 < node_count front.now.h }
+    requires active { is_active front.now.h (set_of front.now.flags) node.0 ≡ true }
+    requires gone { length gone.now ≡ record_count front.now.h }
+    requires clear { (j : ℕ) → set_of gone.now j ≡ false }
+    requires work { length work.old ≡ record_count front.now.h }
+    ensures work_len { length work.new ≡ length work.old }
+    ensures joined { let h = front.now.h in let S = set_of front.now.flags in
+        Joins (held work.old) (held work.new)
+        (λ j. t_of h j == node.0 && is_loose h (is_wanted h view.now) S j) }
+    ensures keyed { AreKeyed down_key work.old → AreKeyed down_key work.new }
+    ensures cost { let h = front.now.h in let S = set_of front.now.flags in
+        steps.new ≤ steps.old + count (λ j. t_of h j == node.0 && is_free h S j) (record_count h) }
+{
+    if let Some(k) = first_child_of(front.hierarchy(), node) {
+        if may_go(front, bounds, view, gone, k, steps) {
+            put_down(work, k);
+        }
+    }
+}
+
+/// Puts the records that may go on the queue. It tests each split record that no split record needs
+/// once.
+pub(crate) fn find_loose<L: Ledger>(
+    front: &Front,
+    bounds: &Bounds,
+    view: &View,
+    gone: &[bool],
+    work: &mut Queue,
+    steps: &mut Steps<L>,
+)
+    requires bounds { AreBoundsOf front.now.h bounds.now }
+    requires gone { length gone.now ≡ record_count front.now.h }
+    requires clear { (j : ℕ) → set_of gone.now j ≡ false }
+    requires due { AreDue front.now.h (is_wanted front.now.h view.now) (set_of front.now.flags)
+        work.old }
+    ensures start { IsStart front.now.h (is_wanted front.now.h view.now) (set_of front.now.flags)
+        work.new }
+    ensures cost { let h = front.now.h in
+        steps.new ≤ steps.old + count (is_free h (set_of front.now.flags)) (record_count h) }
+{
+    front.is_sound();
+    let mut cursor = front.first_active();
+    while let Some(node) = cursor {
+        try_maker(front, bounds, view, gone, node, work, steps);
+        cursor = front.next_active(node);
+    }
+}
