@@ -53,7 +53,7 @@ least_one k u v y p q =
 min_both : (a b c d x y : ℤ) → int_min a c ≤ℤ x → int_min b d ≤ℤ y → int_min (int_min a b) (int_min c d) ≤ℤ int_min x y
 min_both a b c d x y p q = omega (arith, ints, clamps)
 
-≤ℤ_by : (x y z : ℤ) → x ≤ℤ y → y ≤ℤ z → x ≤ℤ z
+pub ≤ℤ_by : (x y z : ℤ) → x ≤ℤ y → y ≤ℤ z → x ≤ℤ z
 ≤ℤ_by x y z p q = omega (arith, ints)
 
 least_turned : (c a b x : ℤ) → a ≤ℤ x → x ≤ℤ b → int_min (a *ℤ c) (b *ℤ c) ≤ℤ (x *ℤ c)
@@ -86,19 +86,19 @@ one_of_three x y z d h = (root_le x d (omega arith), root_le y d (omega arith), 
 pub axes_near : (p q : Place) (d : ℕ) → dist2_of p q ≤ d * d → (unsigned_abs (p.x -ℤ q.x) ≤ d) × (unsigned_abs (p.y -ℤ q.y) ≤ d) × (unsigned_abs (p.z -ℤ q.z) ≤ d)
 axes_near p q d h = one_of_three (unsigned_abs (p.x -ℤ q.x)) (unsigned_abs (p.y -ℤ q.y)) (unsigned_abs (p.z -ℤ q.z)) d h
 
-lower : (p q e : ℤ) (d s r : ℕ) → unsigned_abs (p -ℤ q) ≤ d → s + d ≤ r → (p -ℤ pos r -ℤ e) ≤ℤ (q -ℤ pos s -ℤ e)
+pub lower : (p q e : ℤ) (d s r : ℕ) → unsigned_abs (p -ℤ q) ≤ d → s + d ≤ r → (p -ℤ pos r -ℤ e) ≤ℤ (q -ℤ pos s -ℤ e)
 lower p q e d s r h l = omega (arith, ints)
 
-upper : (p q e : ℤ) (d s r : ℕ) → unsigned_abs (p -ℤ q) ≤ d → s + d ≤ r → (q +ℤ pos s -ℤ e) ≤ℤ (p +ℤ pos r -ℤ e)
+pub upper : (p q e : ℤ) (d s r : ℕ) → unsigned_abs (p -ℤ q) ≤ d → s + d ≤ r → (q +ℤ pos s -ℤ e) ≤ℤ (p +ℤ pos r -ℤ e)
 upper p q e d s r h l = omega (arith, ints)
 
-middle : (q e : ℤ) (s : ℕ) → (q -ℤ pos s -ℤ e) ≤ℤ (q +ℤ pos s -ℤ e)
+pub middle : (q e : ℤ) (s : ℕ) → (q -ℤ pos s -ℤ e) ≤ℤ (q +ℤ pos s -ℤ e)
 middle q e s = omega (arith, ints)
 
 axis_grows : (a b a' b' p q e : ℤ) (d s r : ℕ) → a ≤ℤ a' → a' ≤ℤ b' → b' ≤ℤ b → unsigned_abs (p -ℤ q) ≤ d → s + d ≤ r → least_on_axis a b p r e ≤ℤ least_on_axis a' b' q s e
 axis_grows a b a' b' p q e d s r u v w h l = least_product_grows a b (p -ℤ pos r -ℤ e) (p +ℤ pos r -ℤ e) a' b' (q -ℤ pos s -ℤ e) (q +ℤ pos s -ℤ e) u v w (lower p q e d s r h l) (middle q e s) (upper p q e d s r h l)
 
-three_le : (a b c x y z : ℤ) → a ≤ℤ x → b ≤ℤ y → c ≤ℤ z → (a +ℤ b +ℤ c) ≤ℤ (x +ℤ y +ℤ z)
+pub three_le : (a b c x y z : ℤ) → a ≤ℤ x → b ≤ℤ y → c ≤ℤ z → (a +ℤ b +ℤ c) ≤ℤ (x +ℤ y +ℤ z)
 three_le a b c x y z p q r = omega (arith, ints)
 
 pub facing_child : (child parent : Bounded) (eye : Place) → IsChild child parent → least_facing parent eye ≤ℤ least_facing child eye
@@ -110,10 +110,10 @@ facing_child s b eye h =
     (axis_grows b.box.low.y b.box.high.y s.box.low.y s.box.high.y b.place.y s.place.y eye.y h.d s.radius b.radius h.nested.low_y h.nested.box_y h.nested.high_y n.1 h.radius)
     (axis_grows b.box.low.z b.box.high.z s.box.low.z s.box.high.z b.place.z s.place.z eye.z h.d s.radius b.radius h.nested.low_z h.nested.box_z h.nested.high_z n.2 h.radius)
 
-lower_end : (p q e : ℤ) (r : ℕ) → unsigned_abs (p -ℤ q) ≤ r → (p -ℤ pos r -ℤ e) ≤ℤ (q -ℤ e)
+pub lower_end : (p q e : ℤ) (r : ℕ) → unsigned_abs (p -ℤ q) ≤ r → (p -ℤ pos r -ℤ e) ≤ℤ (q -ℤ e)
 lower_end p q e r h = omega (arith, ints)
 
-upper_end : (p q e : ℤ) (r : ℕ) → unsigned_abs (p -ℤ q) ≤ r → (q -ℤ e) ≤ℤ (p +ℤ pos r -ℤ e)
+pub upper_end : (p q e : ℤ) (r : ℕ) → unsigned_abs (p -ℤ q) ≤ r → (q -ℤ e) ≤ℤ (p +ℤ pos r -ℤ e)
 upper_end p q e r h = omega (arith, ints)
 
 axis_corner : (a b n p q e : ℤ) (r : ℕ) → a ≤ℤ n → n ≤ℤ b → unsigned_abs (p -ℤ q) ≤ r → least_on_axis a b p r e ≤ℤ (n *ℤ (q -ℤ e))

@@ -1,6 +1,7 @@
 pub mod Premises
 pub mod Outside
 pub mod FacingLaws
+pub mod OutlineLaws
 pub mod Large
 pub mod Passing
 pub mod NodeLaws

@@ -1,5 +1,6 @@
 -- The laws of wanted nodes, from the bounds that a hierarchy's nodes have.
-use Rattle.std.proofs.Common.{◌≡◌, ℕ, ◌*◌, ◌<◌, true, false, ◌⊎◌, inl, inr, subst, arith}
+use Rattle.std.proofs.Common.{◌≡◌, ℕ, ◌*◌, ◌<◌, true, false, Bool, ◌&&◌, not, ◌⊎◌, inl, inr, subst, ap, arith}
+use Rattle.std.specs.Prelude.{pos, int_le}
 use Rattle.pm_base.specs.Rounded.{distance_of}
 use Rattle.pm_base.specs.Sides.{face_of}
 use Rattle.pm_forest.specs.Forest.{Hierarchy, record_count, node_count, s_of, Makes}
@@ -10,10 +11,10 @@ use Rattle.pm_bounds.specs.Laws.{IsIn}
 use Rattle.pm_bounds.specs.Bounds.{leaf_place, normal_of, leaf_radius, error_of, radius_of, normal_box_of}
 use Rattle.pm_bounds.proofs.Covering.{near, errors_grow, radii_grow, child_number, leaves_covered, corners_covered, normals_boxed, boxes_nest}
 use Rattle.pm_view.specs.Views.{View}
-use Rattle.pm_view.specs.Wanted.{bounded, is_wanted}
-use Rattle.pm_view.specs.Laws.{IsCornerNear, IsBehind, IsTurnedAway, IsTiny}
-use Rattle.pm_view.proofs.Premises.{IsChild, IsCorner}
-use Rattle.pm_view.proofs.Passing.{wanted_passes, reasons}
+use Rattle.pm_view.specs.Wanted.{bounded, is_outside_any, least_facing, looks_large, is_wanted}
+use Rattle.pm_view.specs.Laws.{IsCornerNear, IsBehind, IsTurnedAway, IsWithin, IsTiny}
+use Rattle.pm_view.proofs.Premises.{IsChild, IsCorner, LooksWithin}
+use Rattle.pm_view.proofs.Passing.{wanted_passes, reasons, plain}
 
 module _ (h : Hierarchy) (shape : HasShape h) where
   child : (k v : ℕ) → k < record_count h → Makes h k v → IsChild (bounded h v) (bounded h (s_of h k))
@@ -38,12 +39,28 @@ module _ (h : Hierarchy) (shape : HasShape h) where
   pub wanting_passes_up : (view : View) (k v : ℕ) → k < record_count h → Makes h k v → is_wanted h view v ≡ true → is_wanted h view (s_of h k) ≡ true
   wanting_passes_up view k v l makes e = wanted_passes (bounded h v) (bounded h (s_of h k)) view (child k v l makes) e
 
+  within : (v : ℕ) → v < node_count h → (view : View) (tol : ℕ) → LooksWithin (bounded h v) view tol → IsWithin h view tol v
+  within v l view tol fine x s held c = fine (leaf_place h x) (normal_of h (corners_of h (face_of s))) (leaf_place h (from_leaf h s)) (leaves_covered h shape v x l held) (corner v s l c)
+
   pub unwanted_for_a_reason : (view : View) (v : ℕ) → v < node_count h → is_wanted h view v ≡ false → IsBehind h view v ⊎ (IsTurnedAway h view v ⊎ IsTiny h view v)
   unwanted_for_a_reason view v l e =
       elim (reasons (bounded h v) view e) [
         | inl (f, in_view, behind) ↦ inl (f, in_view, λ s c. behind (normal_of h (corners_of h (face_of s))) (leaf_place h (from_leaf h s)) (corner v s l c))
         | inr other ↦ elim other [
           | inl away ↦ inr (inl (λ s c. away (normal_of h (corners_of h (face_of s))) (leaf_place h (from_leaf h s)) (corner v s l c)))
-          | inr tiny ↦ inr (inr (λ x s held c. tiny (leaf_place h x) (normal_of h (corners_of h (face_of s))) (leaf_place h (from_leaf h s)) (leaves_covered h shape v x l held) (corner v s l c)))
+          | inr tiny ↦ inr (inr (
+            within v l view view.tol tiny.0,
+            elim tiny.1 [
+              | inl fine ↦ inl (within v l view view.sil fine)
+              | inr to ↦ inr (λ s c. to (normal_of h (corners_of h (face_of s))) (leaf_place h (from_leaf h s)) (corner v s l c))
+            ],
+          ))
         ]
       ]
+
+pub one_tolerance : (h : Hierarchy) (view : View) (v : ℕ) → view.sil ≡ view.tol →
+    let b = bounded h v in
+    is_wanted h view v ≡ (not (is_outside_any view.planes b.place b.radius) && int_le (least_facing b view.eye) (pos 0) && looks_large b view view.tol)
+one_tolerance h view v same =
+    let b = bounded h v in
+    ap (λ (large : Bool). not (is_outside_any view.planes b.place b.radius) && int_le (least_facing b view.eye) (pos 0) && large) (plain b view same)

@@ -1,18 +1,19 @@
 -- The tests pass from a child to its parent, and each test that fails says why.
-use Rattle.std.proofs.Common.{◌≡◌, ℕ, ◌+◌, ◌*◌, ◌<◌, ◌≤◌, true, false, ◌&&◌, not, List, [], ◌∷◌, ◌⊎◌, inl, inr, refl, suc, sym, arith}
+use Rattle.std.proofs.Common.{◌≡◌, ℕ, ◌+◌, ◌*◌, ◌<◌, ◌≤◌, true, false, ◌&&◌, ◌||◌, Bool, not, List, [], ◌∷◌, ◌⊎◌, inl, inr, refl, suc, sym, ap, ◌∙◌, arith}
 use Rattle.std.specs.Prelude.{ℤ, pos, ◌≤ℤ◌, ◌<ℤ◌, int_lt, int_le, nat_lt, unsigned_abs}
 use Rattle.std.proofs.lemmas.Nat.{mul-le}
-use Rattle.std.proofs.lemmas.Bool.{cases_lt, and_parts, and_from, and_cases, or_cases, or_left, or_right, not-true, not-false, not_from_false, both_ways, lt-ltb, ltb-true, ltb-false, false_from_ne_true, false≢true}
+use Rattle.std.proofs.lemmas.Bool.{cases_lt, and_parts, and_from, and_cases, or_cases, or_parts, or_left, or_right, not-true, not-false, not_from_false, both_ways, lt-ltb, ltb-true, ltb-false, false_from_ne_true, false≢true}
 use Rattle.pm_base.specs.Place.{Place}
 use Rattle.pm_base.specs.Geometry.{Direction, dot_of, dist2_of, norm2_of}
 use Rattle.pm_view.specs.declared.plane.Plane.{Plane}
 use Rattle.pm_view.specs.Views.{View}
-use Rattle.pm_view.specs.Wanted.{Bounded, value_at, normal_in, is_outside, is_outside_any, least_facing, is_large, passes}
+use Rattle.pm_view.specs.Wanted.{Bounded, value_at, normal_in, is_outside, is_outside_any, least_facing, greatest_facing, may_turn_away, looks_large, is_large, passes}
 use Rattle.pm_view.specs.Laws.{way}
-use Rattle.pm_view.proofs.Premises.{IsChild, IsCorner, IsBehindOne, FacesAway, LooksTiny}
+use Rattle.pm_view.proofs.Premises.{IsChild, IsCorner, IsBehindOne, FacesAway, FacesTo, LooksWithin, LooksTiny}
 use borrow.Author.Differences.{ints}
 use Rattle.pm_view.proofs.Outside.{Outside, outside_within}
 use Rattle.pm_view.proofs.FacingLaws.{facing_child, facing_corner}
+use Rattle.pm_view.proofs.OutlineLaws.{turning_child, turning_corner}
 use Rattle.pm_view.proofs.Large.{scaled}
 
 -- integer tests
@@ -95,14 +96,28 @@ grown e r d f t e' r' p q = omega (arith, mul-le e f e' f (omega arith) (same_le
 near_times : (t n d : ℕ) → n ≤ d * d → t * t * n ≤ (t * d) * (t * d)
 near_times t n d h = omega (arith, mul-le (t * t) n (t * t) (d * d) (same_le (t * t)) h)
 
+pub looks_large_passes : (child parent : Bounded) (v : View) (tol : ℕ) → IsChild child parent → looks_large child v tol ≡ true → looks_large parent v tol ≡ true
+unfolding looks_large
+looks_large_passes s b v tol h e =
+    let l = ltb-true (tol * tol * dist2_of s.place v.eye) ((s.error * v.focal + tol * s.radius) * (s.error * v.focal + tol * s.radius)) e in
+    let w = scaled b.place s.place v.eye tol (tol * h.d) (s.error * v.focal + tol * s.radius) (near_times tol (dist2_of b.place s.place) h.d h.near) l in
+    let g = grown s.error s.radius h.d v.focal tol b.error b.radius h.error h.radius in
+    lt-ltb (tol * tol * dist2_of b.place v.eye) ((b.error * v.focal + tol * b.radius) * (b.error * v.focal + tol * b.radius))
+    (lt_by _ _ _ w (mul-le _ _ _ _ g g))
+
+pub turning_passes : (child parent : Bounded) (eye : Place) → IsChild child parent → may_turn_away child eye ≡ true → may_turn_away parent eye ≡ true
+turning_passes s b eye h e = is_at_most (pos 0) (greatest_facing b eye) (≤ℤ_by (pos 0) (greatest_facing s eye) (greatest_facing b eye) (at_most (pos 0) (greatest_facing s eye) e) (turning_child s b eye h))
+
 pub large_passes : (child parent : Bounded) (v : View) → IsChild child parent → is_large child v ≡ true → is_large parent v ≡ true
 unfolding is_large
 large_passes s b v h e =
-    let l = ltb-true (v.tol * v.tol * dist2_of s.place v.eye) ((s.error * v.focal + v.tol * s.radius) * (s.error * v.focal + v.tol * s.radius)) e in
-    let w = scaled b.place s.place v.eye v.tol (v.tol * h.d) (s.error * v.focal + v.tol * s.radius) (near_times v.tol (dist2_of b.place s.place) h.d h.near) l in
-    let g = grown s.error s.radius h.d v.focal v.tol b.error b.radius h.error h.radius in
-    lt-ltb (v.tol * v.tol * dist2_of b.place v.eye) ((b.error * v.focal + v.tol * b.radius) * (b.error * v.focal + v.tol * b.radius))
-    (lt_by _ _ _ w (mul-le _ _ _ _ g g))
+    elim (or_cases (looks_large s v v.tol) (may_turn_away s v.eye && looks_large s v v.sil) e) [
+      | inl l ↦ or_left (looks_large b v v.tol) (may_turn_away b v.eye && looks_large b v v.sil) (looks_large_passes s b v v.tol h l)
+      | inr two ↦
+          let parts = and_parts (may_turn_away s v.eye) (looks_large s v v.sil) two in
+          or_right (looks_large b v v.tol) (may_turn_away b v.eye && looks_large b v v.sil)
+          (and_from (may_turn_away b v.eye) (looks_large b v v.sil) (turning_passes s b v.eye h parts.0) (looks_large_passes s b v v.sil h parts.1))
+    ]
 
 -- f f n is at most e e f f
 focal_times : (f n e : ℕ) → n ≤ e * e → f * f * n ≤ (e * f) * (e * f)
@@ -114,14 +129,39 @@ turned f t r e = omega arith
 clash : (a b c : ℕ) → a < b → b ≡ c → c ≤ a → ⊥
 clash a b c p q r = omega arith
 
-pub tiny : (b : Bounded) (v : View) → is_large b v ≡ false → LooksTiny b v
-unfolding is_large
-tiny b v e x n q near k =
-    let l = ltb-false (v.tol * v.tol * dist2_of b.place v.eye) ((b.error * v.focal + v.tol * b.radius) * (b.error * v.focal + v.tol * b.radius)) e in
-    elim (cases_lt (v.tol * v.tol * dist2_of q v.eye) ((b.error * v.focal) * (b.error * v.focal))) [
-      | inl h ↦ absurd (clash _ _ _ (scaled b.place q v.eye v.tol (v.tol * b.radius) (b.error * v.focal) (near_times v.tol (dist2_of b.place q) b.radius k.near) h) (turned v.focal v.tol b.radius b.error) l)
+pub within : (b : Bounded) (v : View) (tol : ℕ) → looks_large b v tol ≡ false → LooksWithin b v tol
+unfolding looks_large
+within b v tol e x n q near k =
+    let l = ltb-false (tol * tol * dist2_of b.place v.eye) ((b.error * v.focal + tol * b.radius) * (b.error * v.focal + tol * b.radius)) e in
+    elim (cases_lt (tol * tol * dist2_of q v.eye) ((b.error * v.focal) * (b.error * v.focal))) [
+      | inl h ↦ absurd (clash _ _ _ (scaled b.place q v.eye tol (tol * b.radius) (b.error * v.focal) (near_times tol (dist2_of b.place q) b.radius k.near) h) (turned v.focal tol b.radius b.error) l)
       | inr h ↦ le_by _ _ _ (focal_times v.focal (dist2_of b.place x) b.error near) h
     ]
+
+<ℤ_from : (x y z : ℤ) → x ≤ℤ y → y <ℤ z → x <ℤ z
+<ℤ_from x y z p q = omega (arith, ints)
+
+pub turned_to : (b : Bounded) (eye : Place) → may_turn_away b eye ≡ false → FacesTo b eye
+turned_to b eye e n q k = <ℤ_from (dot_of n (way q eye)) (greatest_facing b eye) (pos 0) (turning_corner b n q eye k) (above (pos 0) (greatest_facing b eye) e)
+
+pub tiny : (b : Bounded) (v : View) → is_large b v ≡ false → LooksTiny b v
+unfolding is_large
+tiny b v e =
+    let parts = or_parts (looks_large b v v.tol) (may_turn_away b v.eye && looks_large b v v.sil) e in
+    elim (and_cases (may_turn_away b v.eye) (looks_large b v v.sil) parts.1) [
+      | inl to ↦ (within b v v.tol parts.0, inr (turned_to b v.eye to))
+      | inr fine ↦ (within b v v.tol parts.0, inl (within b v v.sil fine))
+    ]
+
+-- where both tolerances are one, the outline makes no difference
+absorbed : (p q : Bool) → (p || (q && p)) ≡ p
+absorbed true q = refl
+absorbed false true = refl
+absorbed false false = refl
+
+pub plain : (b : Bounded) (v : View) → v.sil ≡ v.tol → is_large b v ≡ looks_large b v v.tol
+unfolding is_large
+plain b v same = ap (λ (s : ℕ). looks_large b v v.tol || (may_turn_away b v.eye && looks_large b v s)) same ∙ absorbed (looks_large b v v.tol) (may_turn_away b v.eye)
 
 -- all three
 pub wanted_passes : (child parent : Bounded) (v : View) → IsChild child parent → passes child v ≡ true → passes parent v ≡ true

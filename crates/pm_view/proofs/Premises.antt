@@ -1,13 +1,13 @@
 -- What the tests of a node rest on: how the bounds of a child and of its parent hang together, and the corners of the faces
 -- under a node.
-use Rattle.std.specs.Prelude.{ℕ, ◌+◌, ◌*◌, ◌≤◌, List, ℤ, pos, ◌+ℤ◌, ◌-ℤ◌, ◌<ℤ◌}
+use Rattle.std.specs.Prelude.{ℕ, ◌+◌, ◌*◌, ◌≤◌, ◌⊎◌, List, ℤ, pos, ◌+ℤ◌, ◌-ℤ◌, ◌<ℤ◌}
 use Rattle.std.specs.List.{Contains}
 use Rattle.pm_base.specs.Place.{Place}
 use Rattle.pm_base.specs.Geometry.{Direction, dot_of, dist2_of}
 use Rattle.pm_bounds.specs.Laws.{IsIn, IsNested}
 use Rattle.pm_view.specs.declared.plane.Plane.{Plane}
 use Rattle.pm_view.specs.Views.{View}
-use Rattle.pm_view.specs.Wanted.{Bounded, value_at, least_product}
+use Rattle.pm_view.specs.Wanted.{Bounded, value_at, least_product, greatest_product}
 use Rattle.pm_view.specs.Laws.{way}
 
 -- Some d is at least the distance of a child and its parent, and error and radius grow by it; the child's box lies in the
@@ -31,8 +31,17 @@ IsBehindOne fs b = (f : Plane) × Contains fs f × ((n : Direction) (q : Place) 
 abbrev pub FacesAway : Bounded → Place → Type 0
 FacesAway b eye = (n : Direction) (q : Place) → IsCorner b n q → pos 0 <ℤ dot_of n (way q eye)
 
+abbrev pub FacesTo : Bounded → Place → Type 0
+FacesTo b eye = (n : Direction) (q : Place) → IsCorner b n q → dot_of n (way q eye) <ℤ pos 0
+
+abbrev pub LooksWithin : Bounded → View → ℕ → Type 0
+LooksWithin b v tol = (x : Place) (n : Direction) (q : Place) → dist2_of b.place x ≤ b.error * b.error → IsCorner b n q → v.focal * v.focal * dist2_of b.place x ≤ tol * tol * dist2_of q v.eye
+
 abbrev pub LooksTiny : Bounded → View → Type 0
-LooksTiny b v = (x : Place) (n : Direction) (q : Place) → dist2_of b.place x ≤ b.error * b.error → IsCorner b n q → v.focal * v.focal * dist2_of b.place x ≤ v.tol * v.tol * dist2_of q v.eye
+LooksTiny b v = LooksWithin b v v.tol × (LooksWithin b v v.sil ⊎ FacesTo b v.eye)
 
 abbrev pub least_on_axis : ℤ → ℤ → ℤ → ℕ → ℤ → ℤ
 least_on_axis low high at radius eye = least_product low high (at -ℤ pos radius -ℤ eye) (at +ℤ pos radius -ℤ eye)
+
+abbrev pub greatest_on_axis : ℤ → ℤ → ℤ → ℕ → ℤ → ℤ
+greatest_on_axis low high at radius eye = greatest_product low high (at -ℤ pos radius -ℤ eye) (at +ℤ pos radius -ℤ eye)

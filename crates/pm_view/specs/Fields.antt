@@ -4,6 +4,8 @@ use Rattle.std.specs.Option.{option_map, option_and_then}
 use Rattle.pm_base.specs.Place.{Place}
 use Rattle.pm_io.specs.Digits.{unsigned_of}
 use Rattle.pm_view.specs.declared.plane.Plane.{Plane}
+use Rattle.pm_view.specs.declared.fields.ViewKind.{ViewKind}
+use Rattle.pm_view.specs.declared.fields.ViewKind.TheVariants as kinds
 use Rattle.pm_view.specs.Views.{View}
 
 -- A byte put before the first field.
@@ -48,16 +50,24 @@ planes_of n [] = Some []
 planes_of zero (x ∷ xs) = None
 planes_of (suc n) (x ∷ xs) = option_and_then (λ p. option_map (λ fs. p.0 ∷ fs) (planes_of n p.1)) (first_plane (x ∷ xs))
 
--- The view that fields spell: the eye, the focal length, the tolerance, and at most six planes.
-unfoldable pub view_in : List (List ℕ) → Option View
-view_in (x ∷ y ∷ z ∷ focal ∷ tol ∷ rest) =
-    option_and_then (λ eye. option_and_then (λ f. option_and_then (λ t. option_map (λ planes. record { eye = eye; focal = f; tol = t; planes = planes })
-    (planes_of 6 rest)) (unsigned_of 65535 tol)) (unsigned_of 65535 focal)) (eye_of x y z)
-view_in _ = None
+-- The tolerance for outlines and the fields that are left. A plain view has its tolerance for it, and no field; else it is
+-- the first field, at most the tolerance.
+unfoldable pub first_sil : ViewKind → ℕ → List (List ℕ) → Option (ℕ × List (List ℕ))
+first_sil kinds.Plain tol rest = Some (tol, rest)
+first_sil kinds.Outline tol [] = None
+first_sil kinds.Outline tol (sil ∷ rest) = option_map (λ s. (s, rest)) (unsigned_of tol sil)
+
+-- The view that fields spell: the eye, the focal length, the tolerance, the one for outlines where the view has outlines,
+-- and at most six planes.
+unfoldable pub view_in : ViewKind → List (List ℕ) → Option View
+view_in kind (x ∷ y ∷ z ∷ focal ∷ tol ∷ rest) =
+    option_and_then (λ eye. option_and_then (λ f. option_and_then (λ t. option_and_then (λ s. option_map (λ planes. record { eye = eye; focal = f; tol = t; sil = s.0; planes = planes })
+    (planes_of 6 s.1)) (first_sil kind t rest)) (unsigned_of 65535 tol)) (unsigned_of 65535 focal)) (eye_of x y z)
+view_in kind _ = None
 
 -- The view that a text spells.
-abbrev pub view_of : List ℕ → Option View
-view_of text = view_in (fields text)
+abbrev pub view_of : ViewKind → List ℕ → Option View
+view_of kind text = view_in kind (fields text)
 
 -- The fields after a field that has just been read, where `rest` is empty or begins with the space that ended that field.
 abbrev pub fields_after : List ℕ → List (List ℕ)

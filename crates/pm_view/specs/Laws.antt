@@ -1,5 +1,5 @@
 -- The laws of wanted nodes, for a hierarchy of the right shape.
-use Rattle.std.specs.Prelude.{◌≡◌, ℕ, ◌*◌, ◌<◌, ◌≤◌, ◌⊎◌, true, false, pos, ◌-ℤ◌, ◌<ℤ◌}
+use Rattle.std.specs.Prelude.{◌≡◌, ℕ, ◌*◌, ◌<◌, ◌≤◌, ◌⊎◌, true, false, not, ◌&&◌, int_le, pos, ◌-ℤ◌, ◌<ℤ◌}
 use Rattle.std.specs.List.{Contains}
 use Rattle.pm_base.specs.Place.{Place}
 use Rattle.pm_base.specs.Geometry.{Direction, dot_of, dist2_of}
@@ -11,7 +11,7 @@ use Rattle.pm_forest.specs.Rules.{HasShape}
 use Rattle.pm_bounds.specs.Bounds.{leaf_place, normal_of}
 use Rattle.pm_view.specs.declared.plane.Plane.{Plane}
 use Rattle.pm_view.specs.Views.{View}
-use Rattle.pm_view.specs.Wanted.{value_at, is_wanted}
+use Rattle.pm_view.specs.Wanted.{value_at, bounded, is_outside_any, least_facing, looks_large, is_wanted}
 
 -- From q to p.
 abbrev pub way : Place → Place → Direction
@@ -33,11 +33,22 @@ abbrev pub IsTurnedAway : Hierarchy → View → ℕ → Type 0
 IsTurnedAway h view v =
     (e : ℕ) → IsCornerNear h v e → pos 0 <ℤ dot_of (normal_of h (corners_of h (face_of e))) (way (leaf_place h (from_leaf h e)) view.eye)
 
--- No leaf under the node is far from the node's place, as it looks from the eye by way of any of these corners.
-abbrev pub IsTiny : Hierarchy → View → ℕ → Type 0
-IsTiny h view v =
+-- Each of their faces is turned to the eye, at each of its corners: the outline doesn't run through the node.
+abbrev pub IsTurnedTo : Hierarchy → View → ℕ → Type 0
+IsTurnedTo h view v =
+    (e : ℕ) → IsCornerNear h v e → dot_of (normal_of h (corners_of h (face_of e))) (way (leaf_place h (from_leaf h e)) view.eye) <ℤ pos 0
+
+-- No leaf under the node is farther from the node's place than a tolerance, as it looks from the eye by way of any of these
+-- corners.
+abbrev pub IsWithin : Hierarchy → View → ℕ → ℕ → Type 0
+IsWithin h view tol v =
     (x e : ℕ) → Holds h v x → IsCornerNear h v e
-    → view.focal * view.focal * dist2_of (place_of_node h v) (leaf_place h x) ≤ view.tol * view.tol * dist2_of (leaf_place h (from_leaf h e)) view.eye
+    → view.focal * view.focal * dist2_of (place_of_node h v) (leaf_place h x) ≤ tol * tol * dist2_of (leaf_place h (from_leaf h e)) view.eye
+
+-- No leaf under the node looks farther than the tolerance; and none looks farther than the tolerance for outlines either, or
+-- no outline runs through the node.
+abbrev pub IsTiny : Hierarchy → View → ℕ → Type 0
+IsTiny h view v = IsWithin h view view.tol v × (IsWithin h view view.sil v ⊎ IsTurnedTo h view v)
 
 -- A view that wants a node wants the node that was split to make it.
 abbrev pub WantingPassesUp : Type 0
@@ -49,3 +60,11 @@ abbrev pub UnwantedForAReason : Type 0
 UnwantedForAReason =
     (h : Hierarchy) → HasShape h → (view : View) (v : ℕ) → v < node_count h → is_wanted h view v ≡ false
     → IsBehind h view v ⊎ (IsTurnedAway h view v ⊎ IsTiny h view v)
+
+-- A view whose two tolerances are one wants what the tests by this tolerance alone want: whether the outline may run through
+-- a node makes no difference.
+abbrev pub OneToleranceIsPlain : Type 0
+OneToleranceIsPlain =
+    (h : Hierarchy) (view : View) (v : ℕ) → view.sil ≡ view.tol →
+    let b = bounded h v in
+    is_wanted h view v ≡ (not (is_outside_any view.planes b.place b.radius) && int_le (least_facing b view.eye) (pos 0) && looks_large b view view.tol)

@@ -4,11 +4,13 @@ use Rattle.std.specs.List.{list_all}
 use Rattle.pm_base.specs.Place.{Place}
 use Rattle.pm_view.specs.declared.plane.Plane.{Plane}
 
--- The eye, its focal length and its tolerance, and its planes in order. The eye may stand outside the range of points.
+-- The eye, its focal length, its tolerance and its tolerance for outlines, and its planes in order. The eye may stand outside
+-- the range of points.
 pub record View : Type 0 where
   pub eye : Place
   pub focal : ℕ
   pub tol : ℕ
+  pub sil : ℕ
   pub planes : List Plane
 
 -- Each number of the eye is from -16,777,215 to 16,777,215.
@@ -19,9 +21,13 @@ is_eye p = nat_le (unsigned_abs p.x) 16777215 && nat_le (unsigned_abs p.y) 16777
 abbrev pub is_plane : Plane → Bool
 is_plane f = nat_le (unsigned_abs f.a) 32767 && nat_le (unsigned_abs f.b) 32767 && nat_le (unsigned_abs f.c) 32767 && nat_le (unsigned_abs f.d) 4398046511104
 
--- All numbers are in range; focal length and tolerance are at most 65,535.
+-- A tolerance is at most 65,535, and the one for outlines at most the tolerance.
+abbrev pub are_tolerances : ℕ → ℕ → Bool
+are_tolerances tol sil = nat_le tol 65535 && nat_le sil tol
+
+-- All numbers are in range; the focal length is at most 65,535.
 abbrev pub is_view : View → Bool
-is_view v = is_eye v.eye && nat_le v.focal 65535 && nat_le v.tol 65535 && list_all is_plane v.planes
+is_view v = is_eye v.eye && nat_le v.focal 65535 && are_tolerances v.tol v.sil && list_all is_plane v.planes
 
 -- The same as facts, with at most six planes.
 pub record IsView (v : View) : Type 0 where
@@ -30,5 +36,6 @@ pub record IsView (v : View) : Type 0 where
   pub eye_z : unsigned_abs v.eye.z ≤ 16777215
   pub focal : v.focal ≤ 65535
   pub tol : v.tol ≤ 65535
+  pub sil : v.sil ≤ v.tol
   pub planes : list_all is_plane v.planes ≡ true
   pub few : length v.planes ≤ 6

@@ -1,6 +1,6 @@
 -- The three tests by which a view wants a node (Hoppe 1997), in whole numbers.
-use Rattle.std.specs.Prelude.{ℕ, ◌+◌, ◌*◌, Bool, ◌&&◌, not, nat_lt, List, ℤ, pos, ◌+ℤ◌, ◌-ℤ◌, ◌*ℤ◌, int_lt, int_le, unsigned_abs}
-use Rattle.std.specs.Int.{int_min}
+use Rattle.std.specs.Prelude.{ℕ, ◌+◌, ◌*◌, Bool, ◌&&◌, ◌||◌, not, nat_lt, List, ℤ, pos, ◌+ℤ◌, ◌-ℤ◌, ◌*ℤ◌, int_lt, int_le, unsigned_abs}
+use Rattle.std.specs.Int.{int_min, int_max}
 use Rattle.std.specs.List.{list_any}
 use Rattle.pm_base.specs.Place.{Place}
 use Rattle.pm_base.specs.Geometry.{Direction, square_of, dist2_of, norm2_of}
@@ -49,10 +49,32 @@ least_facing b eye =
     +ℤ least_product b.box.low.y b.box.high.y (points.low.y -ℤ eye.y) (points.high.y -ℤ eye.y)
     +ℤ least_product b.box.low.z b.box.high.z (points.low.z -ℤ eye.z) (points.high.z -ℤ eye.z)
 
--- The node's error looks larger than the tolerance: (e focal + tol r) squared is above tol tol D, where D is the squared
+-- The greatest of the same four products.
+abbrev pub greatest_product : ℤ → ℤ → ℤ → ℤ → ℤ
+greatest_product a b c d = int_max (int_max (a *ℤ c) (a *ℤ d)) (int_max (b *ℤ c) (b *ℤ d))
+
+-- The sum over the axes of the greatest products. Where it is below 0 every face under the node is turned to the eye; where
+-- it isn't, and the least sum isn't above 0, the outline may run through the node.
+unfoldable pub greatest_facing : Bounded → Place → ℤ
+greatest_facing b eye =
+    let points = box_round b.place b.radius in
+    greatest_product b.box.low.x b.box.high.x (points.low.x -ℤ eye.x) (points.high.x -ℤ eye.x)
+    +ℤ greatest_product b.box.low.y b.box.high.y (points.low.y -ℤ eye.y) (points.high.y -ℤ eye.y)
+    +ℤ greatest_product b.box.low.z b.box.high.z (points.low.z -ℤ eye.z) (points.high.z -ℤ eye.z)
+
+-- The node's error looks larger than a tolerance: (e focal + tol r) squared is above tol tol D, where D is the squared
 -- distance from the eye.
+unfoldable pub looks_large : Bounded → View → ℕ → Bool
+looks_large b v tol = nat_lt (tol * tol * dist2_of b.place v.eye) (square_of (b.error * v.focal + tol * b.radius))
+
+-- Not every face under the node need be turned to the eye.
+abbrev pub may_turn_away : Bounded → Place → Bool
+may_turn_away b eye = int_le (pos 0) (greatest_facing b eye)
+
+-- The node's error looks larger than the tolerance; or the node may lie on the outline, and its error looks larger than the
+-- tolerance for outlines.
 unfoldable pub is_large : Bounded → View → Bool
-is_large b v = nat_lt (v.tol * v.tol * dist2_of b.place v.eye) (square_of (b.error * v.focal + v.tol * b.radius))
+is_large b v = looks_large b v v.tol || (may_turn_away b v.eye && looks_large b v v.sil)
 
 abbrev pub passes : Bounded → View → Bool
 passes b v = not (is_outside_any v.planes b.place b.radius) && int_le (least_facing b v.eye) (pos 0) && is_large b v

@@ -2,12 +2,19 @@
 ghost use Rattle.std.specs.Prelude.{◌≡◌, ◌<◌, ◌≤◌, ◌∷◌, [], ℕ, suc, true, length, Some, None, MatchOption, IfSome, IfNone, IfOk, OnErr, unsigned_abs};
 ghost use Rattle.std.specs.List.{list_all};
 ghost use Rattle.pm_view.specs.Views.{is_plane};
-ghost use Rattle.pm_view.specs.Fields.{fields, fields_after, eye_of, plane_of, first_plane, planes_of, view_of};
+ghost use Rattle.pm_view.specs.Fields.{fields, fields_after, eye_of, plane_of, first_plane, planes_of, first_sil, view_of};
 
 use crate::number::{read_signed, read_small};
 use crate::{Plane, View};
 use arrayvec::ArrayVec;
 use pm_io::read_unsigned;
+
+/// Whether a text spells a view with one tolerance, or with a second one for outlines.
+#[derive(Clone, Copy, Debug, PartialEq, Eq)]
+pub enum ViewKind {
+    Plain,
+    Outline,
+}
 
 /// The text spells no view.
 #[derive(Clone, Copy, Debug, PartialEq, Eq)]
@@ -104,9 +111,26 @@ fn read_planes(fields: &[u8]) -> Option<ArrayVec<Plane, 6>>
     }
 }
 
+// The tolerance for outlines and the rest; none where there has to be a field for it and there is none, or it is above the
+// tolerance.
+#[tactic(auto, unfolding(crate::specs::Fields::first_sil))]
+fn read_sil(kind: ViewKind, tol: u32, rest: &[u8]) -> Option<(u32, &[u8])>
+    requires { tol ≤ 65535 }
+    ensures value { MatchOption result (first_sil kind tol (fields_after rest.now) ≡ None) (λ s. first_sil kind tol (fields_after rest.now) ≡ Some (s.0, fields_after s.1.now)) }
+    ensures small { IfSome result (λ s. s.0 ≤ tol) }
+{
+    match kind {
+        ViewKind::Plain => Some((tol, rest)),
+        ViewKind::Outline => {
+            let (sil, rest) = next_field(rest)?;
+            Some((read_unsigned(sil, tol)?, rest))
+        }
+    }
+}
+
 #[tactic(auto, unfolding(crate::specs::Fields::view_in))]
-fn view_in(text: &[u8]) -> Option<View>
-    ensures { result ≡ view_of text.now }
+fn view_in(kind: ViewKind, text: &[u8]) -> Option<View>
+    ensures { result ≡ view_of kind text.now }
 {
     let (x, rest) = cut_field(text);
     let (y, rest) = next_field(rest)?;
@@ -116,17 +140,20 @@ fn view_in(text: &[u8]) -> Option<View>
     let eye = read_eye(x, y, z)?;
     let focal = read_unsigned(focal, 65_535)?;
     let tol = read_unsigned(tol, 65_535)?;
+    let (sil, rest) = read_sil(kind, tol, rest)?;
     let planes = read_planes(rest)?;
-    Some(View::within_range(eye, focal, tol, planes))
+    Some(View::within_range(eye, focal, tol, sil, planes))
 }
 
-/// The view that a text spells: the numbers of the eye, the focal length, the tolerance, and the four numbers of each of up
-/// to six planes, separated by one space. It takes no memory.
+/// The view that a text spells: the numbers of the eye, the focal length, the tolerance, the tolerance for outlines where the
+/// kind is `Outline`, and the four numbers of each of up to six planes, separated by one space. The outlines of a plain view
+/// have its one tolerance. It takes no memory.
 ///
-/// BadView comes exactly where the text isn't of this form or a number is out of range.
-pub fn read_view(fields: &[u8]) -> Result<View, BadView>
-    ensures ok { IfOk result (λ view. view_of fields.now ≡ Some view) }
-    ensures bad { OnErr result (view_of fields.now ≡ None) }
+/// BadView comes exactly where the text isn't of this form, a number is out of range, or the tolerance for outlines is above
+/// the other.
+pub fn read_view(kind: ViewKind, fields: &[u8]) -> Result<View, BadView>
+    ensures ok { IfOk result (λ view. view_of kind fields.now ≡ Some view) }
+    ensures bad { OnErr result (view_of kind fields.now ≡ None) }
 {
-    view_in(fields).ok_or(BadView)
+    view_in(kind, fields).ok_or(BadView)
 }

@@ -13,7 +13,7 @@ mod theory;
 mod view;
 mod wanted;
 
-pub use fields::{BadView, cut_field, next_field, read_view};
+pub use fields::{BadView, ViewKind, cut_field, next_field, read_view};
 pub use number::read_small;
 pub use plane::Plane;
 pub use steps::Steps;

@@ -2,7 +2,7 @@ ghost use Rattle.std.specs.Prelude.{◌≡◌, ◌<◌};
 ghost use Rattle.pm_forest.specs.Forest.{node_count};
 ghost use Rattle.pm_bounds.specs.Bounds.{AreBoundsOf};
 
-use crate::{Plane, Steps, View, read_view, wants};
+use crate::{Plane, Steps, View, ViewKind, read_view, wants};
 use arrayvec::ArrayVec;
 use pm_base::NodeId;
 use pm_bounds::Bounds;
@@ -139,11 +139,11 @@ fn counted<L: Ledger>(h: &Hierarchy, bounds: &Bounds, node: u32, view: &View, bl
 }
 
 // Whether the view that a text spells wants nodes 2 and 3.
-fn asked(h: &Hierarchy, bounds: &Bounds, text: &[u8]) -> Option<(bool, bool)>
+fn asked(h: &Hierarchy, bounds: &Bounds, kind: ViewKind, text: &[u8]) -> Option<(bool, bool)>
     requires bounds { AreBoundsOf h.now bounds.now }
     requires nodes { 3 < node_count h.now }
 {
-    let view = read_view(text).ok()?;
+    let view = read_view(kind, text).ok()?;
     Some((
         counted::<Brand>(h, bounds, 2, &view, Blank::new(1)),
         counted::<Brand>(h, bounds, 3, &view, Blank::new(1)),
@@ -151,13 +151,19 @@ fn asked(h: &Hierarchy, bounds: &Bounds, text: &[u8]) -> Option<(bool, bool)>
 }
 
 // Asks for nodes 2 and 3 in each of these views.
-fn ask(rt: &impl Abort, h: &Hierarchy, bounds: &Bounds, views: &[(&[u8], bool, bool)])
+fn ask(
+    rt: &impl Abort,
+    h: &Hierarchy,
+    bounds: &Bounds,
+    kind: ViewKind,
+    views: &[(&[u8], bool, bool)],
+)
     requires bounds { AreBoundsOf h.now bounds.now }
     requires nodes { 3 < node_count h.now }
 {
     for (text, second, third) in views {
         assert_eq!(rt;
-            asked(h, bounds, text),
+            asked(h, bounds, kind, text),
             Some((*second, *third)),
             "in view {text:?}"
         );
@@ -173,11 +179,22 @@ fn wanted_nodes_of_the_octahedron(rt: HostRuntime) -> Result<(), Fail> {
         &rt,
         &h,
         &bounds,
+        ViewKind::Plain,
         &[
             (b"1000 0 0 100 9", true, false),
             (b"1000 0 0 100 20", false, false),
             (b"1000 0 0 100 9 1 0 0 -400", false, false),
             (b"1000 0 0 100 9 2 0 0 -400", true, false),
+        ],
+    );
+    ask(
+        &rt,
+        &h,
+        &bounds,
+        ViewKind::Outline,
+        &[
+            (b"1000 0 0 100 20 9", true, false),
+            (b"1000 0 0 100 20 20", false, false),
         ],
     );
     Ok(())
@@ -193,9 +210,20 @@ fn square_from_above_and_below(rt: HostRuntime) -> Result<(), Fail> {
         &rt,
         &h,
         &bounds,
+        ViewKind::Plain,
         &[
             (b"5 5 1000 1000 1", true, false),
             (b"5 5 -1000 1000 1", false, false),
+        ],
+    );
+    ask(
+        &rt,
+        &h,
+        &bounds,
+        ViewKind::Outline,
+        &[
+            (b"5 5 1000 1000 20 1", false, false),
+            (b"1000 5 0 1000 20 1", true, false),
         ],
     );
     Ok(())
@@ -239,7 +267,7 @@ fn texts_of_views(rt: HostRuntime) {
         (b"0 0 0 0 0 0 0 0 100000000000000000000000000", false),
     ];
     for (i, (text, good)) in texts.iter().enumerate() {
-        assert_eq!(rt; read_view(text).is_ok(), *good, "text {i}");
+        assert_eq!(rt; read_view(ViewKind::Plain, text).is_ok(), *good, "text {i}");
     }
 }
 
@@ -257,13 +285,15 @@ fn numbers_out_of_range(rt: HostRuntime) {
             16_777_215,
             65_535,
             65_535,
+            65_535,
             plane(-32_767, 1)
         )
         .is_some()
     );
-    assert!(rt; View::new(0, 16_777_216, 0, 1, 1, ArrayVec::new()).is_none());
-    assert!(rt; View::new(0, 0, 0, 65_536, 1, ArrayVec::new()).is_none());
-    assert!(rt; View::new(0, 0, 0, 1, 65_536, ArrayVec::new()).is_none());
-    assert!(rt; View::new(0, 0, 0, 1, 1, plane(32_768, 1)).is_none());
-    assert!(rt; View::new(0, 0, 0, 1, 1, plane(0, -4_398_046_511_105)).is_none());
+    assert!(rt; View::new(0, 16_777_216, 0, 1, 1, 1, ArrayVec::new()).is_none());
+    assert!(rt; View::new(0, 0, 0, 65_536, 1, 1, ArrayVec::new()).is_none());
+    assert!(rt; View::new(0, 0, 0, 1, 65_536, 1, ArrayVec::new()).is_none());
+    assert!(rt; View::new(0, 0, 0, 1, 5, 6, ArrayVec::new()).is_none());
+    assert!(rt; View::new(0, 0, 0, 1, 1, 1, plane(32_768, 1)).is_none());
+    assert!(rt; View::new(0, 0, 0, 1, 1, 1, plane(0, -4_398_046_511_105)).is_none());
 }

@@ -3,11 +3,11 @@ ghost use Rattle.std.specs.List.{list_all};
 ghost use Rattle.pm_base.specs.Geometry.{dist2_of};
 ghost use Rattle.pm_bounds.specs.Boxes.{IsSmallBox};
 ghost use Rattle.pm_bounds.specs.declared.normal_box.NormalBox.{NormalBox};
-ghost use Rattle.pm_view.specs.Views.{is_eye, is_plane, is_view};
-ghost use Rattle.pm_view.specs.Wanted.{Bounded, is_outside_any, least_facing, is_large};
+ghost use Rattle.pm_view.specs.Views.{is_eye, is_plane, are_tolerances, is_view};
+ghost use Rattle.pm_view.specs.Wanted.{Bounded, is_outside_any, least_facing, greatest_facing, may_turn_away, looks_large, is_large};
 
 use crate::Plane;
-use crate::facing::{add_three, least_on_axis};
+use crate::facing::{add_three, greatest_on_axis, least_on_axis};
 use crate::plane::is_outside_any;
 use crate::size::{is_large, squared_gap};
 use arrayvec::ArrayVec;
@@ -16,8 +16,8 @@ use pm_bounds::NormalBox;
 use std::marker::Model;
 
 /// What is looked at: from where, how finely, and in front of which planes. The numbers are in range, which the type
-/// keeps: the eye's are at most 16,777,215 away from 0, focal length and tolerance at most 65,535, the numbers a, b and c of
-/// a plane at most 32,767 away from 0, and d at most 4,398,046,511,104.
+/// keeps: the eye's are at most 16,777,215 away from 0, focal length and tolerance at most 65,535, the tolerance for outlines
+/// at most the tolerance, the numbers a, b and c of a plane at most 32,767 away from 0, and d at most 4,398,046,511,104.
 #[derive(Drop)]
 pub struct View {
     ex: i32,
@@ -25,6 +25,7 @@ pub struct View {
     ez: i32,
     focal: u32,
     tol: u32,
+    sil: u32,
     planes: ArrayVec<Plane, 6>,
 }
 
@@ -33,9 +34,9 @@ impl Model for View {
 
     ghost Value = { View };
 
-    ghost view = { λ v. record { eye = record { x = v.ex; y = v.ey; z = v.ez }; focal = v.focal; tol = v.tol; planes = v.planes.items } };
+    ghost view = { λ v. record { eye = record { x = v.ex; y = v.ey; z = v.ez }; focal = v.focal; tol = v.tol; sil = v.sil; planes = v.planes.items } };
 
-    ghost invariant = { λ v. IsView (record { eye = record { x = v.ex; y = v.ey; z = v.ez }; focal = v.focal; tol = v.tol; planes = v.planes.items }) };
+    ghost invariant = { λ v. IsView (record { eye = record { x = v.ex; y = v.ey; z = v.ez }; focal = v.focal; tol = v.tol; sil = v.sil; planes = v.planes.items }) };
 }
 
 fn is_within(n: i32, most: u32) -> bool
@@ -65,34 +66,42 @@ fn is_eye(x: i32, y: i32, z: i32) -> bool
     is_within(x, 16_777_215) && is_within(y, 16_777_215) && is_within(z, 16_777_215)
 }
 
-fn are_in_range(ex: i32, ey: i32, ez: i32, focal: u32, tol: u32, planes: &[Plane]) -> bool
-    ensures { result ≡ is_view (record { eye = record { x = ex; y = ey; z = ez }; focal = focal; tol = tol; planes = planes.now }) }
+fn are_tolerances(tol: u32, sil: u32) -> bool
+    ensures { result ≡ are_tolerances tol sil }
 {
-    let is_fine = is_eye(ex, ey, ez) && focal <= 65_535 && tol <= 65_535;
+    tol <= 65_535 && sil <= tol
+}
+
+fn are_in_range(ex: i32, ey: i32, ez: i32, focal: u32, tol: u32, sil: u32, planes: &[Plane]) -> bool
+    ensures { result ≡ is_view (record { eye = record { x = ex; y = ey; z = ez }; focal = focal; tol = tol; sil = sil; planes = planes.now }) }
+{
+    let is_fine = is_eye(ex, ey, ez) && focal <= 65_535 && are_tolerances(tol, sil);
     is_fine && are_planes(planes)
 }
 
 impl View {
-    /// The view of these numbers; none exactly where one of them is out of range. It takes no memory.
+    /// The view of these numbers; none exactly where one of them is out of range or `sil` is above `tol`. It takes no memory.
     pub fn new(
         ex: i32,
         ey: i32,
         ez: i32,
         focal: u32,
         tol: u32,
+        sil: u32,
         planes: ArrayVec<Plane, 6>,
     ) -> Option<View>
-        ensures some { IfSome result (λ v. v ≡ record { eye = record { x = ex; y = ey; z = ez }; focal = focal; tol = tol; planes = planes.items }) }
-        ensures in_range { OnSome result (is_view (record { eye = record { x = ex; y = ey; z = ez }; focal = focal; tol = tol; planes = planes.items }) ≡ true) }
-        ensures none { IfNone result (is_view (record { eye = record { x = ex; y = ey; z = ez }; focal = focal; tol = tol; planes = planes.items }) ≡ false) }
+        ensures some { IfSome result (λ v. v ≡ record { eye = record { x = ex; y = ey; z = ez }; focal = focal; tol = tol; sil = sil; planes = planes.items }) }
+        ensures in_range { OnSome result (is_view (record { eye = record { x = ex; y = ey; z = ez }; focal = focal; tol = tol; sil = sil; planes = planes.items }) ≡ true) }
+        ensures none { IfNone result (is_view (record { eye = record { x = ex; y = ey; z = ez }; focal = focal; tol = tol; sil = sil; planes = planes.items }) ≡ false) }
     {
-        if are_in_range(ex, ey, ez, focal, tol, planes.as_slice()) {
+        if are_in_range(ex, ey, ez, focal, tol, sil, planes.as_slice()) {
             Some(View {
                 ex,
                 ey,
                 ez,
                 focal,
                 tol,
+                sil,
                 planes,
             })
         } else {
@@ -105,6 +114,7 @@ impl View {
         eye: (i32, i32, i32),
         focal: u32,
         tol: u32,
+        sil: u32,
         planes: ArrayVec<Plane, 6>,
     ) -> View
         requires x { unsigned_abs eye.0 ≤ 16777215 }
@@ -112,8 +122,9 @@ impl View {
         requires z { unsigned_abs eye.2 ≤ 16777215 }
         requires focal { focal ≤ 65535 }
         requires tol { tol ≤ 65535 }
+        requires sil { sil ≤ tol }
         requires planes { list_all is_plane planes.items ≡ true }
-        ensures { result ≡ record { eye = record { x = eye.0; y = eye.1; z = eye.2 }; focal = focal; tol = tol; planes = planes.items } }
+        ensures { result ≡ record { eye = record { x = eye.0; y = eye.1; z = eye.2 }; focal = focal; tol = tol; sil = sil; planes = planes.items } }
     {
         let (ex, ey, ez) = eye;
         View {
@@ -122,6 +133,7 @@ impl View {
             ez,
             focal,
             tol,
+            sil,
             planes,
         }
     }
@@ -156,6 +168,28 @@ impl View {
         self.least_facing(place, radius, normals) <= 0
     }
 
+    // The greatest that the product of a normal in the box and a way from the eye into the ball can be.
+    fn greatest_facing(&self, place: Point, radius: u64, normals: NormalBox) -> i128
+        requires radius_small { radius ≤ 2 ^ 38 }
+        requires box_small { IsSmallBox normals }
+        ensures { (error : ℕ) → result ≡ greatest_facing (record { place = place; error = error; radius = radius; box = normals }) self.now.eye }
+    {
+        let (low, high) = (normals.low, normals.high);
+        let x = greatest_on_axis(low.x, high.x, place.x(), radius, self.ex);
+        let y = greatest_on_axis(low.y, high.y, place.y(), radius, self.ey);
+        let z = greatest_on_axis(low.z, high.z, place.z(), radius, self.ez);
+        add_three(x, y, z)
+    }
+
+    // Whether a face in the ball, with its normal in the box, may be turned away from the eye.
+    fn may_turn_away(&self, place: Point, radius: u64, normals: NormalBox) -> bool
+        requires radius_small { radius ≤ 2 ^ 38 }
+        requires box_small { IsSmallBox normals }
+        ensures { (error : ℕ) → result ≡ may_turn_away (record { place = place; error = error; radius = radius; box = normals }) self.now.eye }
+    {
+        self.greatest_facing(place, radius, normals) >= 0
+    }
+
     // The squared distance of a place from the eye.
     fn squared_distance(&self, place: Point) -> u64
         ensures value { result ≡ dist2_of place self.now.eye }
@@ -166,19 +200,28 @@ impl View {
             + squared_gap(place.z(), self.ez)
     }
 
-    // Whether the error of a node looks larger than the tolerance.
-    #[tactic(auto, unfolding(crate::specs::Wanted::is_large))]
-    pub(crate) fn is_large(&self, place: Point, error: u64, radius: u64) -> bool
+    // Whether the error of a node looks larger than a tolerance.
+    #[tactic(auto, unfolding(crate::specs::Wanted::looks_large))]
+    fn looks_large(&self, tol: u32, place: Point, error: u64, radius: u64) -> bool
+        requires tol_small { tol ≤ 65535 }
         requires error_small { error ≤ 2 ^ 38 }
         requires radius_small { radius ≤ 2 ^ 38 }
-        ensures { (box : NormalBox) → result ≡ is_large (record { place = place; error = error; radius = radius; box = box }) self.now }
+        ensures { (box : NormalBox) → result ≡ looks_large (record { place = place; error = error; radius = radius; box = box }) self.now tol }
     {
-        is_large(
-            error,
-            radius,
-            self.focal,
-            self.tol,
-            self.squared_distance(place),
-        )
+        is_large(error, radius, self.focal, tol, self.squared_distance(place))
+    }
+
+    // Whether the error of a node looks larger than the tolerance; or than the one for outlines, where an outline may run
+    // through the node.
+    #[tactic(auto, unfolding(crate::specs::Wanted::is_large))]
+    pub(crate) fn is_large(&self, place: Point, error: u64, radius: u64, normals: NormalBox) -> bool
+        requires error_small { error ≤ 2 ^ 38 }
+        requires radius_small { radius ≤ 2 ^ 38 }
+        requires box_small { IsSmallBox normals }
+        ensures { result ≡ is_large (record { place = place; error = error; radius = radius; box = normals }) self.now }
+    {
+        self.looks_large(self.tol, place, error, radius)
+            || self.may_turn_away(place, radius, normals)
+                && self.looks_large(self.sil, place, error, radius)
     }
 }

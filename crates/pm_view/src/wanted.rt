@@ -18,13 +18,15 @@ fn passes(h: &Hierarchy, bounds: &Bounds, node: NodeId, view: &View) -> bool
 {
     let place = h.place(node);
     let radius = bounds.radius(node);
+    let normals = bounds.normals(node);
     !view.is_behind(place, radius)
-        && view.may_face(place, radius, bounds.normals(node))
-        && view.is_large(place, bounds.error(node), radius)
+        && view.may_face(place, radius, normals)
+        && view.is_large(place, bounds.error(node), radius, normals)
 }
 
 /// Whether the view wants the node refined: no plane of the view has the node's whole ball behind it, a face under the node
-/// may be turned to the eye, and the node's error looks larger than the tolerance. It counts one step, and takes no memory.
+/// may be turned to the eye, and the node's error looks larger than the tolerance, or than the tolerance for outlines where a
+/// face under the node may be turned away too. It counts one step, and takes no memory.
 pub fn wants<L: Ledger>(
     h: &Hierarchy,
     bounds: &Bounds,

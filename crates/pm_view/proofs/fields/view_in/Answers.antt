@@ -6,3 +6,6 @@ within_range-requires-clause-focal c = unsigned_small 65535 c.in_ok-focal-2.foca
 
 pub within_range-requires-clause-tol : goal.within_range-requires-clause-tol
 within_range-requires-clause-tol c = unsigned_small 65535 c.in_ok-tol-2.tol _ c.in_ok-tol-2.ensures
+
+pub read_sil-requires : goal.read_sil-requires
+read_sil-requires c = unsigned_small 65535 c.in_ok-tol-2.tol _ c.in_ok-tol-2.ensures

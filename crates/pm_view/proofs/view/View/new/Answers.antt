@@ -10,6 +10,7 @@ invariant_of-result c =
       eye = record { x = to_z w32 (of_z w32 c.args.ex); y = to_z w32 (of_z w32 c.args.ey); z = to_z w32 (of_z w32 c.args.ez) };
       focal = c.args.focal;
       tol = c.args.tol;
+      sil = c.args.sil;
       planes = planes;
     } in
     subst (λ (planes : List Plane). IsView (with planes)) c.as_slice.ensures.value

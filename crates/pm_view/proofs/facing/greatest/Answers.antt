@@ -1,0 +1,43 @@
+use Rattle.std.proofs.Common.{◌≡◌, ℕ, ◌≤◌, FitsSigned, rules, arith}
+use mir.Syntax.{w128}
+use Rattle.std.specs.Prelude.{ℤ, unsigned_abs}
+use Rattle.std.specs.Int.{int_max}
+use Rattle.std.proofs.lemmas.Int.{to_z-of_z, clamps}
+use borrow.Author.Differences.{ints}
+use Rattle.pm_view.proofs.facing.greatest.Goals as goal
+
+pub returns-clause-value : goal.returns-clause-value
+returns-clause-value c =
+    let fa = c.ranges.a in
+    let fb = c.ranges.b in
+    let fc = c.ranges.c in
+    let fd = c.ranges.d in
+    let p1 : FitsSigned w128 c.product.result = search rules in
+    let p2 : FitsSigned w128 c.product-2.result = search rules in
+    let p3 : FitsSigned w128 c.product-3.result = search rules in
+    let p4 : FitsSigned w128 c.product-4.result = search rules in
+    let m1 : FitsSigned w128 c.max.result = search rules in
+    let m2 : FitsSigned w128 c.max-2.result = search rules in
+    let m3 : FitsSigned w128 c.max-3.result = search rules in
+    simp to_z-of_z
+    (rw c.max-3.ensures.value (simp to_z-of_z (rw (c.max.ensures.value, c.max-2.ensures.value) (simp to_z-of_z (rw (c.product.ensures.value, c.product-2.ensures.value, c.product-3.ensures.value, c.product-4.ensures.value) (simp to_z-of_z))))))
+
+max_small : (r x y : ℤ) (m : ℕ) → r ≡ int_max x y → unsigned_abs x ≤ m → unsigned_abs y ≤ m → unsigned_abs r ≤ m
+max_small r x y m e p q = omega (arith, ints, clamps)
+
+pub returns-clause-small : goal.returns-clause-small
+returns-clause-small c =
+    let p1 : FitsSigned w128 c.product.result = search rules in
+    let p2 : FitsSigned w128 c.product-2.result = search rules in
+    let p3 : FitsSigned w128 c.product-3.result = search rules in
+    let p4 : FitsSigned w128 c.product-4.result = search rules in
+    let m1 : FitsSigned w128 c.max.result = search rules in
+    let m2 : FitsSigned w128 c.max-2.result = search rules in
+    let m3 : FitsSigned w128 c.max-3.result = search rules in
+    let e1 = simp to_z-of_z at c.max.ensures.value in
+    let e2 = simp to_z-of_z at c.max-2.ensures.value in
+    let e3 = simp to_z-of_z at c.max-3.ensures.value in
+    simp to_z-of_z
+    (max_small c.max-3.result c.max.result c.max-2.result _ e3
+    (max_small c.max.result c.product.result c.product-2.result _ e1 c.product.ensures.small c.product-2.ensures.small)
+    (max_small c.max-2.result c.product-3.result c.product-4.result _ e2 c.product-3.ensures.small c.product-4.ensures.small))
