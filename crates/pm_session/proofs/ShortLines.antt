@@ -9,12 +9,15 @@ use Rattle.pm_base.specs.Place.{Place}
 use Rattle.pm_io.specs.Digits.{value, is_unsigned, are_digits, unsigned_of}
 use Rattle.pm_view.specs.declared.plane.Plane.{Plane}
 use Rattle.pm_view.specs.Views.{View}
-use Rattle.pm_view.specs.Fields.{onto_field, fields, negative, signed_of, eye_of, plane_of, first_plane, planes_of, view_in, view_of}
+use Rattle.pm_view.specs.declared.fields.ViewKind.{ViewKind}
+use Rattle.pm_view.specs.declared.fields.ViewKind.TheVariants as kinds
+use Rattle.pm_view.specs.Fields.{onto_field, fields, negative, signed_of, eye_of, plane_of, first_plane, planes_of, first_sil, view_in, view_of}
+use Rattle.pm_view.proofs.NumberLaws.{unsigned_small}
 use Rattle.pm_pick.specs.Rays.{Ray}
 use Rattle.pm_pick.specs.Fields.{three_of, ray_in, ray_of}
 use Rattle.pm_session.specs.declared.command.Command.{Command}
 use Rattle.pm_session.specs.declared.command.Command.TheVariants as commands
-use Rattle.pm_session.specs.Script.{begins_with, split_of, collapse_of, look_of, pick_by, record_in, command_of}
+use Rattle.pm_session.specs.Script.{begins_with, begins_with_both, split_of, collapse_of, look_of, pick_by, record_in, command_of}
 
 -- Options
 
@@ -160,19 +163,46 @@ planes_few (suc n) (x ∷ xs) planes e =
     let m = mapped _ (planes_of n c.from.1) planes c.to in
     omega (arith, first_few (x ∷ xs) c.from c.is, planes_few n c.from.1 m.from m.is)
 
-view_few : (fs : List (List ℕ)) (view : View) → view_in fs ≡ Some view → width fs ≤ 435
+sil_few : (kind : ViewKind) (tol : ℕ) (fs : List (List ℕ)) (s : ℕ × List (List ℕ)) → tol ≤ 65535 → first_sil kind tol fs ≡ Some s → width fs ≤ 14 + width s.1
+unfolding first_sil
+sil_few kind tol fs s le e = go kind fs e
+  where
+    rest_of : Option (ℕ × List (List ℕ)) → List (List ℕ)
+    rest_of None = []
+    rest_of (Some q) = q.1
+
+    few : (sil : List ℕ) (rest : List (List ℕ)) (number : Option ℕ) → unsigned_of tol sil ≡ number
+        → option_map (λ (n : ℕ). (n, rest)) number ≡ Some s → width (sil ∷ rest) ≤ 14 + width s.1
+    few sil rest None is to = absurd cc
+    few sil rest (Some n) is to =
+        omega (arith, unsigned_few tol n sil (omega (arith, le)) is, ap (λ (o : Option (ℕ × List (List ℕ))). width (rest_of o)) to)
+
+    go : (kind : ViewKind) (fs : List (List ℕ)) → first_sil kind tol fs ≡ Some s → width fs ≤ 14 + width s.1
+    go kinds.Plain fs to = omega (arith, ap (λ (o : Option (ℕ × List (List ℕ))). width (rest_of o)) to)
+    go kinds.Outline [] to = absurd cc
+    go kinds.Outline (sil ∷ rest) to = few sil rest (unsigned_of tol sil) refl to
+
+view_few : (kind : ViewKind) (fs : List (List ℕ)) (view : View) → view_in kind fs ≡ Some view → width fs ≤ 449
 unfolding view_in
-view_few (x ∷ y ∷ z ∷ focal ∷ tol ∷ rest) view e =
+view_few kind (x ∷ y ∷ z ∷ focal ∷ tol ∷ rest) view e =
     let a = came _ (eye_of x y z) view e in
     let b = came _ (unsigned_of 65535 focal) view a.to in
     let c = came _ (unsigned_of 65535 tol) view b.to in
-    let m = mapped _ (planes_of 6 rest) view c.to in
-    omega (arith, eye_few x y z a.from a.is, unsigned_few 65535 b.from focal (omega arith) b.is, unsigned_few 65535 c.from tol (omega arith) c.is, planes_few 6 rest m.from m.is)
-view_few [] view e = absurd cc
-view_few (x ∷ []) view e = absurd cc
-view_few (x ∷ y ∷ []) view e = absurd cc
-view_few (x ∷ y ∷ z ∷ []) view e = absurd cc
-view_few (x ∷ y ∷ z ∷ focal ∷ []) view e = absurd cc
+    let s = came _ (first_sil kind c.from rest) view c.to in
+    let m = mapped _ (planes_of 6 s.from.1) view s.to in
+    omega (
+      arith,
+      eye_few x y z a.from a.is,
+      unsigned_few 65535 b.from focal (omega arith) b.is,
+      unsigned_few 65535 c.from tol (omega arith) c.is,
+      sil_few kind c.from rest s.from (unsigned_small 65535 c.from tol (sym c.is)) s.is,
+      planes_few 6 s.from.1 m.from m.is,
+    )
+view_few kind [] view e = absurd cc
+view_few kind (x ∷ []) view e = absurd cc
+view_few kind (x ∷ y ∷ []) view e = absurd cc
+view_few kind (x ∷ y ∷ z ∷ []) view e = absurd cc
+view_few kind (x ∷ y ∷ z ∷ focal ∷ []) view e = absurd cc
 
 three_few : (most : ℕ) (x y z : List ℕ) (p : Place) → most < 10000000000000 → three_of most x y z ≡ Some p → length x + length y + length z ≤ 42
 unfolding three_of
@@ -210,9 +240,11 @@ collapse_bad : (line : List ℕ) → 1024 < length line → (number : Option ℕ
 collapse_bad line long None is = refl
 collapse_bad line long (Some k) is = absurd (omega (arith, long, length-drop 2 line, unsigned_few 4294967295 k (drop 2 line) (omega arith) is))
 
-look_bad : (line : List ℕ) → 1024 < length line → (view : Option View) → view_of (drop 2 line) ≡ view → look_of view ≡ commands.Bad
-look_bad line long None is = refl
-look_bad line long (Some view) is = absurd (omega (arith, long, length-drop 2 line, fields_width (drop 2 line), view_few (fields (drop 2 line)) view is))
+-- The fields begin after a few bytes, the line's word and its space.
+look_bad : (kind : ViewKind) (n : ℕ) (line : List ℕ) → n ≤ 3 → 1024 < length line → (view : Option View) → view_of kind (drop n line) ≡ view → look_of view ≡ commands.Bad
+look_bad kind n line le long None is = refl
+look_bad kind n line le long (Some view) is =
+    absurd (omega (arith, le, long, length-drop n line, fields_width (drop n line), view_few kind (fields (drop n line)) view is))
 
 pick_bad : (line : List ℕ) → 1024 < length line → (ray : Option Ray) → ray_of (drop 2 line) ≡ ray → pick_by ray ≡ commands.Bad
 pick_bad line long None is = refl
@@ -223,5 +255,7 @@ unfolding command_of
 long_is_bad line long =
     let one : eqb (length line) 1 ≡ false = ne_eqb _ _ (λ e. omega (arith, e, long)) in
     rw one (either_bad (begins_with 115 line) _ _ (split_bad line long _ refl)
-    (either_bad (begins_with 99 line) _ _ (collapse_bad line long _ refl) (either_bad (begins_with 118 line) _ _ (look_bad line long _ refl)
-    (either_bad (begins_with 112 line) _ _ (pick_bad line long _ refl) refl))))
+    (either_bad (begins_with 99 line) _ _ (collapse_bad line long _ refl)
+    (either_bad (begins_with 118 line) _ _ (look_bad kinds.Plain 2 line (omega arith) long _ refl)
+    (either_bad (begins_with_both 118 115 line) _ _ (look_bad kinds.Outline 3 line (omega arith) long _ refl)
+    (either_bad (begins_with 112 line) _ _ (pick_bad line long _ refl) refl)))))

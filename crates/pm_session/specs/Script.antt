@@ -10,6 +10,7 @@ use Rattle.pm_beyond.specs.Moves.{split_fault, collapse_fault}
 use Rattle.pm_beyond.specs.Plans.{moved_by}
 use Rattle.pm_frame.specs.Frame.{frame_text}
 use Rattle.pm_view.specs.Views.{View}
+use Rattle.pm_view.specs.declared.fields.ViewKind.TheVariants as kinds
 use Rattle.pm_view.specs.Fields.{view_of}
 use Rattle.pm_refine.specs.declared.refiner.Adapted.{Adapted}
 use Rattle.pm_refine.specs.declared.refiner.Adapted.TheVariants as adapted
@@ -41,6 +42,11 @@ is_letter letter line = length line == 1 && slice_index_or line 0 0 == letter
 abbrev pub begins_with : ℕ → List ℕ → Bool
 begins_with letter line = nat_le 2 (length line) && slice_index_or line 0 0 == letter && slice_index_or line 1 0 == 32
 
+-- The line begins with these two letters and a space.
+abbrev pub begins_with_both : ℕ → ℕ → List ℕ → Bool
+begins_with_both first second line =
+    nat_le 3 (length line) && slice_index_or line 0 0 == first && slice_index_or line 1 0 == second && slice_index_or line 2 0 == 32
+
 abbrev pub split_of : Option ℕ → Command
 split_of None = commands.Bad
 split_of (Some k) = commands.Split k
@@ -61,8 +67,8 @@ pick_by (Some ray) = commands.Pick ray
 abbrev pub record_in : List ℕ → Option ℕ
 record_in line = unsigned_of 4294967295 (drop 2 line)
 
--- `w`, `m`, `q`, `s K` or `c K` with one space and K an unsigned number of 32 bits, or `v`, a space and the fields of a view,
--- or `p`, a space and the fields of a ray.
+-- `w`, `m`, `q`, `s K` or `c K` with one space and K an unsigned number of 32 bits, `v`, a space and the fields of a plain
+-- view, `vs`, a space and the fields of a view with outlines, or `p`, a space and the fields of a ray.
 unfoldable pub command_of : List ℕ → Command
 command_of line =
     if is_letter 119 line then commands.Show
@@ -70,7 +76,8 @@ command_of line =
     else if is_letter 113 line then commands.Quit
     else if begins_with 115 line then split_of (record_in line)
     else if begins_with 99 line then collapse_of (record_in line)
-    else if begins_with 118 line then look_of (view_of (drop 2 line))
+    else if begins_with 118 line then look_of (view_of kinds.Plain (drop 2 line))
+    else if begins_with_both 118 115 line then look_of (view_of kinds.Outline (drop 3 line))
     else if begins_with 112 line then pick_by (ray_of (drop 2 line))
     else commands.Bad
 
