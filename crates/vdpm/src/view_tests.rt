@@ -79,3 +79,30 @@ fn square_is_measured_before_and_after_its_split(rt: HostRuntime) -> Result<(), 
     check(&rt, alloc, &["view", "0"], &input, 0, out, b"")?;
     Ok(())
 }
+
+// A tolerance for outlines refines a node that may lie on the outline, and no other.
+#[test]
+fn outlines_are_refined_further(rt: HostRuntime) -> Result<(), Fail> {
+    let alloc = rt.alloc();
+    let back = joined(alloc, b"settled 2\nsettled 2\n", BASE)?;
+    let turned: &[u8] = b"vs 5 5 1000 1000 20 1\nvs 1000 5 0 1000 20 1\n";
+    let bad: &[u8] = b"vdpm: fault 30 line 1\n";
+    let cases: [(&[i32], &str, &[u8], u8, &[u8], &[u8]); 4] = [
+        (
+            &OCTAHEDRON,
+            "2",
+            b"vs 1000 0 0 100 20 9\nvs 1000 0 0 100 20 20\nw\n",
+            0,
+            &back,
+            b"",
+        ),
+        (&SQUARE, "1", turned, 0, b"settled 0\nsettled 1\n", b""),
+        (&OCTAHEDRON, "2", b"vs 0 0 0 100 9 20\n", 1, b"", bad),
+        (&OCTAHEDRON, "2", b"vs 0 0 0 100 9\n", 1, b"", bad),
+    ];
+    for (stream, budget, script, status, out, err) in cases {
+        let input = text(alloc, stream, script)?;
+        check(&rt, alloc, &["view", budget], &input, status, out, err)?;
+    }
+    Ok(())
+}
