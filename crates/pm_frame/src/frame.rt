@@ -66,8 +66,9 @@ fn put_shown(front: &Front, line: &mut Line, face: FaceId)
     put_face(line, face.0, a.0, b.0, c.0);
 }
 
-// A line for each kept face.
-fn put_faces<K: Sink>(front: &Front, page: &mut Page, out: &mut K) -> Result<(), WriteFault>
+/// Adds a line for each kept face, with the ancestors of its corners, ascending by number. It takes no memory. After a
+/// fault the sink has gained a part of what the page held and the lines.
+pub fn put_faces<K: Sink>(front: &Front, page: &mut Page, out: &mut K) -> Result<(), WriteFault>
     ensures ok { let text = face_lines front.now.h (set_of front.now.flags) in
         OnOk result (GainsThrough (K.got out.old) (K.got out.new) page.old page.new text) }
     ensures err { let text = face_lines front.now.h (set_of front.now.flags) in
@@ -86,8 +87,8 @@ fn put_faces<K: Sink>(front: &Front, page: &mut Page, out: &mut K) -> Result<(),
     Ok(())
 }
 
-// The last line.
-fn put_last<K: Sink>(page: &mut Page, out: &mut K) -> Result<(), WriteFault>
+/// Adds the last line of a frame. It takes no memory.
+pub fn put_last<K: Sink>(page: &mut Page, out: &mut K) -> Result<(), WriteFault>
     ensures ok { OnOk result (GainsThrough (K.got out.old) (K.got out.new) page.old page.new end_line) }
     ensures err { OnErr result (GainsPart (K.got out.old) (K.got out.new) (page.old ++ end_line)) }
     ensures cause { HasCause (K.faults out.old) (K.faults out.new) result }

@@ -4,4 +4,5 @@
 mod frame;
 mod line;
 
-pub use frame::write_frame;
+pub use frame::{put_faces, put_last, write_frame};
+pub use line::put_node;

@@ -18,9 +18,9 @@ pub(crate) fn put_head(line: &mut Line, vertices: u32, faces: u32)
     line.add(b"\n");
 }
 
-/// The line of an active node.
+/// The line of an active node at a place. It takes no memory.
 #[tactic(auto, unfolding(crate::specs::Frame::node_line))]
-pub(crate) fn put_node(line: &mut Line, node: u32, p: &Point)
+pub fn put_node(line: &mut Line, node: u32, p: &Point)
     ensures { line.new ≡ node_line node p.now }
 {
     line.clear();
