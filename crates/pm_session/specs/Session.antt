@@ -18,16 +18,20 @@ pub record Shown : Type 0 where
   pub flags : List Bool
   pub budget : ℕ
 
--- The bounds are those of the hierarchy, and the refiner has room for its records.
-pub record IsFitting (h : Hierarchy) (bounds : Bounds) (room : ℕ) : Type 0 where
-  pub are_its_bounds : AreBoundsOf h bounds
-  pub fits : room ≡ record_count h
+-- What the tools of a session have: the bounds of nodes, for how many records there is room, for how many sides there is a
+-- mark, and the lists of the faces at each leaf.
+pub record Toolbox : Type 0 where
+  pub bounds : Bounds
+  pub room : ℕ
+  pub marks : ℕ
+  pub lists : Lists
 
--- And the tracer has a mark for each side, and the picker lists the faces at each leaf.
-pub record HasTools (h : Hierarchy) (bounds : Bounds) (room marks : ℕ) (lists : Lists) : Type 0 where
-  pub fitting : IsFitting h bounds room
-  pub marks_fit : marks ≡ 3 * face_count h
-  pub are_its_lists : AreListsOf h lists
+-- They are those of the hierarchy.
+pub record AreToolsOf (h : Hierarchy) (tools : Toolbox) : Type 0 where
+  pub are_its_bounds : AreBoundsOf h tools.bounds
+  pub room_fits : tools.room ≡ record_count h
+  pub marks_fit : tools.marks ≡ 3 * face_count h
+  pub are_its_lists : AreListsOf h tools.lists
 
 -- How a line ends, by its deed: `before` and `after` are the split records, and `old` and `new` what the sink had taken.
 abbrev pub LineEnds : Deed → Result Next LineFail → (ℕ → Bool) → (ℕ → Bool) → Option (List ℕ) → Option (List ℕ) → Type 0

@@ -1,5 +1,5 @@
 // A session over one hierarchy. All its memory is taken when it starts.
-ghost use Rattle.std.specs.Prelude.{◌≡◌, ◌≢◌, ◌<◌, ℕ, List, IfOk, IfErr, OnOk, OnErr};
+ghost use Rattle.std.specs.Prelude.{◌≡◌, ◌≢◌, ◌<◌, List, IfOk, IfErr, OnOk, OnErr};
 ghost use Rattle.pm_io.specs.Bytes.{Gains, GainsPart};
 ghost use Rattle.pm_io.specs.Causes.{HasCause};
 ghost use Rattle.pm_forest.specs.Forest.{record_count};
@@ -10,25 +10,23 @@ ghost use Rattle.pm_load.specs.Faults.{IsLoadFault};
 ghost use Rattle.pm_frame.specs.Frame.{frame_text};
 ghost use Rattle.pm_pick.specs.Picks.{pick_of};
 ghost use Rattle.pm_session.specs.Script.{reply_to, line_deed, after_split, after_collapse, view_reply, adapted_to, after_view, shape_reply};
-ghost use Rattle.pm_session.specs.Session.{LineEnds, LineCounts, IsFitting};
+ghost use Rattle.pm_session.specs.Session.{LineEnds, LineCounts};
 
 use crate::command::{Command, command_of};
-use crate::picking::{pick_face, put_pick};
+use crate::picking::put_pick;
 use crate::reply::{put_reply, put_shape, put_view_reply};
+use crate::tools::Tools;
 use pm_beyond::MoveFault;
-use pm_bounds::Bounds;
 use pm_forest::Hierarchy;
 use pm_frame::write_frame;
 use pm_front::Front;
 use pm_io::{Line, Sink, WriteFault, put_all};
 use pm_load::{LoadFail, open_front};
-use pm_manifold::Tracer;
-use pm_pick::{Hit, Picker, Ray};
-use pm_refine::{Adapted, Refiner};
-use pm_view::{Steps, View};
+use pm_pick::{Hit, Ray};
+use pm_refine::Adapted;
+use pm_view::View;
 use std::alloc::Global;
-use std::marker::{Brand, Model};
-use std::sync::ledger::{Blank, Ledger};
+use std::marker::Model;
 
 /// What comes after a line: the next one, or the end of the script.
 #[derive(Clone, Copy, Debug, PartialEq, Eq)]
@@ -49,44 +47,18 @@ pub enum LineFail {
 #[derive(Drop)]
 pub struct Session {
     front: Front,
-    bounds: Bounds,
-    refiner: Refiner,
-    tracer: Tracer,
-    picker: Picker,
+    tools: Tools,
     budget: u32,
 }
 
 impl Model for Session {
-    ghost use Rattle.pm_session.specs.Session.{Shown, IsFitting, HasTools};
+    ghost use Rattle.pm_session.specs.Session.{Shown, AreToolsOf};
 
     ghost Value = { Shown };
 
     ghost view = { λ s. record { h = s.front.h; flags = s.front.flags; budget = s.budget } };
 
-    ghost invariant = { λ s. HasTools s.front.h s.bounds s.refiner s.tracer s.picker };
-}
-
-// Adapts a front to a view, where nobody counts the steps.
-#[tactic(auto, unfolding(crate::specs::Script::adapted_to, crate::specs::Script::after_view))]
-fn adapt<L: Ledger>(
-    refiner: &mut Refiner,
-    front: &mut Front,
-    bounds: &Bounds,
-    view: &View,
-    budget: u32,
-    blank: Blank,
-) -> Adapted
-    requires fitting { IsFitting front.old.h bounds.now refiner.old }
-    requires name { blank.name ≡ L.name }
-    requires parts { blank.parts ≡ L.parts }
-    requires some { 0 < L.parts }
-    ensures answer { result ≡ adapted_to front.old.h budget (set_of front.old.flags) view.now }
-    ensures after { set_of front.new.flags ≡ after_view front.old.h budget (set_of front.old.flags) view.now }
-    ensures hierarchy { front.new.h ≡ front.old.h }
-    ensures fitting { IsFitting front.new.h bounds.now refiner.new }
-{
-    let mut steps: Steps<L> = Steps::new(blank);
-    refiner.adapt(front, bounds, view, budget, &mut steps)
+    ghost invariant = { λ s. AreToolsOf s.front.h s.tools };
 }
 
 // Puts the reply to a view.
@@ -136,24 +108,12 @@ impl Session {
             Ok(front) => front,
             Err(fail) => return Err(fail),
         };
-        let Ok(bounds) = Bounds::of(alloc, front.hierarchy()) else {
-            return Err(LoadFail::OutOfMemory);
-        };
-        let Ok(refiner) = Refiner::new(alloc, front.hierarchy()) else {
-            return Err(LoadFail::OutOfMemory);
-        };
-        let Ok(tracer) = Tracer::new(alloc, front.hierarchy()) else {
-            return Err(LoadFail::OutOfMemory);
-        };
-        let Ok(picker) = Picker::new(alloc, front.hierarchy()) else {
+        let Ok(tools) = Tools::new(alloc, front.hierarchy()) else {
             return Err(LoadFail::OutOfMemory);
         };
         Ok(Session {
             front,
-            bounds,
-            refiner,
-            tracer,
-            picker,
+            tools,
             budget,
         })
     }
@@ -210,22 +170,14 @@ impl Session {
         ensures after { set_of self.new.flags ≡ after_view self.old.h self.old.budget (set_of self.old.flags) view.now }
         ensures same { (self.new.h ≡ self.old.h) × (self.new.budget ≡ self.old.budget) }
     {
-        adapt::<Brand>(
-            &mut self.refiner,
-            &mut self.front,
-            &self.bounds,
-            view,
-            self.budget,
-            Blank::new(1),
-        )
+        self.tools.adapt(&mut self.front, view, self.budget)
     }
 
     // The face of the input that a ray hits first.
     fn pick(&self, ray: &Ray) -> Option<Hit>
         ensures { result ≡ pick_of self.now.h ray.now }
     {
-        let h = self.front.hierarchy();
-        pick_face::<Brand>(&self.picker, h, &self.bounds, ray, Blank::new(1))
+        self.tools.pick(self.front.hierarchy(), ray)
     }
 
     // Writes the measure.
@@ -238,7 +190,7 @@ impl Session {
         ensures cause { HasCause (K.faults out.old) (K.faults out.new) result }
         ensures same { self.new ≡ self.old }
     {
-        let measure = self.tracer.measure(&self.front);
+        let measure = self.tools.measure(&self.front);
         let mut line = Line::new();
         put_shape(&mut line, measure);
         put_all(out, line.as_slice())

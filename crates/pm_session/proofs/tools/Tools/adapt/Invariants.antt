@@ -1,4 +1,4 @@
-use Rattle.pm_session.proofs.session.Session.look.Given as goal
+use Rattle.pm_session.proofs.tools.Tools.adapt.Given as goal
 
 abbrev pub ghosts-adapt : goal.ghosts-adapt
 ghosts-adapt a = record { name = a.blank.name; parts = a.blank.parts }
