@@ -1,0 +1,6 @@
+pub mod ElderLaws
+pub mod LeastLaws
+pub mod InterpolationLaws
+pub mod MarkLaws
+pub mod FaceLaws
+pub mod GeomorphLaws
