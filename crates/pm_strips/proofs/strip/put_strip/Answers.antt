@@ -1,0 +1,76 @@
+use Rattle.pm_base.specs.Sides.{next}
+use Rattle.std.proofs.Common.{◌<◌, Bool, List, true, false, length, slice_set, refl, sym, ap, ◌∙◌, arith}
+use Rattle.pm_io.proofs.PageLaws.{through_both, through_more, through_part}
+use Rattle.pm_forest.specs.Fronts.{set_of}
+use Rattle.pm_forest.specs.Faces.{face_count}
+use Rattle.pm_forest.proofs.Flags.{set_of-clear}
+use Rattle.pm_strips.specs.Strips.{entered, first_side}
+use Rattle.pm_strips.specs.Shown.{beyond_in, node_at}
+use Rattle.pm_strips.specs.Texts.{first_text, entered_text, line_end}
+use Rattle.pm_strips.proofs.ShownLaws.{there-parts}
+use Rattle.pm_strips.proofs.Entering.{part_as, through_as, strip_text, strip_left}
+use Rattle.pm_strips.proofs.strip.put_strip.Goals as goal
+
+pub returns-in-Err-clause-err : goal.returns-in-Err-clause-err
+returns-in-Err-clause-err g c =
+    let h = c.args.front.now.h in
+    let T = set_of c.args.front.now.flags in
+    let f = c.args.face.0 in
+    let items = c.args.free.now.items in
+    let e = c.first_side-first.result.0 in
+    let low : f < length items = omega (arith, (there-parts h T f c.requires.there).0, c.requires.len) in
+    let first = c.first_side-first.ensures.value ∙ ap (λ (l : List Bool). first_side (beyond_in h T) (set_of l) f) c.deref.ensures.value in
+    let text = strip_text (beyond_in h T) (face_count h) (set_of items) (set_of (slice_set items f false)) f e (next e) (set_of-clear items f low) first refl (node_at h T) in
+    let rest = entered_text (node_at h T) (entered (beyond_in h T) (face_count h) (set_of (slice_set items f false)) true (next e)) in
+    part_as _ _ _ _ _ text (through_more _ _ _ _ line_end (through_more _ _ _ (first_text (node_at h T) e) rest c.in-Err.ensures.err))
+
+pub returns-in-Err-put_entered-clause-err : goal.returns-in-Err-put_entered-clause-err
+returns-in-Err-put_entered-clause-err g c =
+    let h = c.args.front.now.h in
+    let T = set_of c.args.front.now.flags in
+    let f = c.args.face.0 in
+    let items = c.args.free.now.items in
+    let e = c.first_side-first.result.0 in
+    let low : f < length items = omega (arith, (there-parts h T f c.requires.there).0, c.requires.len) in
+    let first = c.first_side-first.ensures.value ∙ ap (λ (l : List Bool). first_side (beyond_in h T) (set_of l) f) c.deref.ensures.value in
+    let text = strip_text (beyond_in h T) (face_count h) (set_of items) (set_of (slice_set items f false)) f e c.next.result.0 (set_of-clear items f low) first c.next.ensures.value (node_at h T) in
+    part_as _ _ _ _ _ text
+    (through_more _ _ _ _ line_end (through_part _ _ _ _ _ (first_text (node_at h T) e) _ c.in_default.ensures.ok c.in-Err-put_entered.ensures.err))
+
+pub returns-in-Err-add-clause-err : goal.returns-in-Err-add-clause-err
+returns-in-Err-add-clause-err g c =
+    let h = c.args.front.now.h in
+    let T = set_of c.args.front.now.flags in
+    let f = c.args.face.0 in
+    let items = c.args.free.now.items in
+    let e = c.first_side-first.result.0 in
+    let low : f < length items = omega (arith, (there-parts h T f c.requires.there).0, c.requires.len) in
+    let first = c.first_side-first.ensures.value ∙ ap (λ (l : List Bool). first_side (beyond_in h T) (set_of l) f) c.deref.ensures.value in
+    let text = strip_text (beyond_in h T) (face_count h) (set_of items) (set_of (slice_set items f false)) f e c.next.result.0 (set_of-clear items f low) first c.next.ensures.value (node_at h T) in
+    part_as _ _ _ _ _ text
+    (through_part _ _ _ _ _ _ line_end (through_both _ _ _ _ _ _ _ _ c.in_default.ensures.ok c.in_default-put_entered.ensures.ok) c.in-Err-add.ensures.err)
+
+pub returns-clause-ok : goal.returns-clause-ok
+returns-clause-ok g c =
+    let h = c.args.front.now.h in
+    let T = set_of c.args.front.now.flags in
+    let f = c.args.face.0 in
+    let items = c.args.free.now.items in
+    let e = c.first_side-first.result.0 in
+    let low : f < length items = omega (arith, (there-parts h T f c.requires.there).0, c.requires.len) in
+    let first = c.first_side-first.ensures.value ∙ ap (λ (l : List Bool). first_side (beyond_in h T) (set_of l) f) c.deref.ensures.value in
+    let text = strip_text (beyond_in h T) (face_count h) (set_of items) (set_of (slice_set items f false)) f e c.next.result.0 (set_of-clear items f low) first c.next.ensures.value (node_at h T) in
+    through_as _ _ _ _ _ _ text
+    (through_both _ _ _ _ _ _ _ line_end (through_both _ _ _ _ _ _ _ _ c.in_default.ensures.ok c.in_default-put_entered.ensures.ok) c.in_default-add.ensures.ok)
+
+pub returns-clause-left : goal.returns-clause-left
+returns-clause-left g c =
+    let h = c.args.front.now.h in
+    let T = set_of c.args.front.now.flags in
+    let f = c.args.face.0 in
+    let items = c.args.free.now.items in
+    let e = c.first_side-first.result.0 in
+    let low : f < length items = omega (arith, (there-parts h T f c.requires.there).0, c.requires.len) in
+    let first = c.first_side-first.ensures.value ∙ ap (λ (l : List Bool). first_side (beyond_in h T) (set_of l) f) c.deref.ensures.value in
+    let left = strip_left (beyond_in h T) (face_count h) (set_of items) (set_of (slice_set items f false)) f e c.next.result.0 (set_of-clear items f low) first c.next.ensures.value in
+    c.in_default-put_entered.ensures.left ∙ sym left

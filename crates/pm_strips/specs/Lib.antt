@@ -1,0 +1,4 @@
+pub mod Strips
+pub mod Shown
+pub mod Texts
+pub mod Laws

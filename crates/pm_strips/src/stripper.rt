@@ -1,0 +1,126 @@
+// Writes the strips of a front.
+ghost use Rattle.std.specs.Prelude.{◌≡◌, ◌++◌, length, IfOk, OnOk, OnErr};
+ghost use Rattle.std.specs.List.{flat_map};
+ghost use Rattle.pm_io.specs.Bytes.{Gains, GainsPart, GainsThrough};
+ghost use Rattle.pm_io.specs.Causes.{HasCause};
+ghost use Rattle.pm_forest.specs.Fronts.{set_of};
+ghost use Rattle.pm_forest.specs.Faces.{face_count};
+ghost use Rattle.pm_strips.specs.Shown.{is_there, lists_of, strip_line, count_line, strips_text};
+
+use crate::OutOfMemory;
+use crate::line::put_count;
+use crate::strip::put_strip;
+use pm_base::FaceId;
+use pm_forest::Hierarchy;
+use pm_front::Front;
+use pm_io::{Line, Page, Sink, WriteFault};
+use std::alloc::Global;
+use std::marker::Model;
+
+/// Writes the fronts of one hierarchy as triangle strips. It has a flag for each face, and contracts see how many.
+#[derive(Drop)]
+pub struct Stripper {
+    free: Vec<bool>,
+}
+
+impl Model for Stripper {
+    ghost use Rattle.std.specs.Prelude.{ℕ, length};
+
+    ghost Value = { ℕ };
+
+    ghost view = { λ s. length s.free.items };
+}
+
+impl Stripper {
+    /// A stripper for the fronts of a hierarchy. All memory is taken here.
+    pub fn new(alloc: Global, h: &Hierarchy) -> Result<Stripper, OutOfMemory>
+        ensures { IfOk result (λ s. s ≡ face_count h.now) }
+    {
+        let faces = h.faces() as usize;
+        Ok(Stripper {
+            free: vec![in alloc; false; faces]?,
+        })
+    }
+
+    /// Writes the mesh that the front shows as triangle strips, and how many there are. The front is one of the stripper's
+    /// hierarchy. All faces are looked at once, and for each kept one at most four sides; no memory. After a fault the sink
+    /// has gained a part of the text from its front, and not the whole. A later call starts anew.
+    ///
+    /// The text is put in pages of 4,096 bytes, of which the last may be shorter: when the call returns, nothing is held
+    /// back.
+    #[tactic(auto, unfolding(crate::specs::Shown::strips_text))]
+    pub fn write_strips<K: Sink>(&mut self, front: &Front, out: &mut K) -> Result<(), WriteFault>
+        requires { self.old ≡ face_count front.now.h }
+        ensures ok { let text = strips_text front.now.h (set_of front.now.flags) in
+            OnOk result (Gains (K.got out.old) (K.got out.new) text) }
+        ensures err { let text = strips_text front.now.h (set_of front.now.flags) in
+            OnErr result (GainsPart (K.got out.old) (K.got out.new) text) }
+        ensures cause { HasCause (K.faults out.old) (K.faults out.new) result }
+        ensures same { self.new ≡ self.old }
+    {
+        let mut page = Page::new();
+        free_kept(&mut self.free, front);
+        let strips = match put_strips(&mut self.free, front, &mut page, out) {
+            Ok(strips) => strips,
+            Err(fault) => return Err(fault),
+        };
+        if let Err(fault) = put_total(strips, &mut page, out) {
+            return Err(fault);
+        }
+        if let Err(fault) = page.flush(out) {
+            return Err(fault);
+        }
+        Ok(())
+    }
+}
+
+// The last line.
+fn put_total<K: Sink>(strips: u32, page: &mut Page, out: &mut K) -> Result<(), WriteFault>
+    ensures ok { OnOk result (GainsThrough (K.got out.old) (K.got out.new) page.old page.new (count_line strips)) }
+    ensures err { OnErr result (GainsPart (K.got out.old) (K.got out.new) (page.old ++ count_line strips)) }
+    ensures cause { HasCause (K.faults out.old) (K.faults out.new) result }
+{
+    let mut line = Line::new();
+    put_count(&mut line, strips);
+    page.add(line.as_slice(), out)
+}
+
+// The kept faces are free, and no others.
+fn free_kept(free: &mut Vec<bool>, front: &Front)
+    requires { length free.old.items ≡ face_count front.now.h }
+    ensures free { set_of free.new.items ≡ is_there front.now.h (set_of front.now.flags) }
+    ensures len { length free.new.items ≡ length free.old.items }
+{
+    for face in 0..front.hierarchy().faces() {
+        free[face as usize] = front.is_kept(FaceId(face));
+    }
+}
+
+// A line for each strip, each from the least face that is free. The answer is how many there are.
+fn put_strips<K: Sink>(
+    free: &mut Vec<bool>,
+    front: &Front,
+    page: &mut Page,
+    out: &mut K,
+) -> Result<u32, WriteFault>
+    requires len { length free.old.items ≡ face_count front.now.h }
+    requires free { set_of free.old.items ≡ is_there front.now.h (set_of front.now.flags) }
+    ensures ok { let text = flat_map strip_line (lists_of front.now.h (set_of front.now.flags)) in
+        OnOk result (GainsThrough (K.got out.old) (K.got out.new) page.old page.new text) }
+    ensures count { IfOk result (λ n. n ≡ length (lists_of front.now.h (set_of front.now.flags))) }
+    ensures err { let text = flat_map strip_line (lists_of front.now.h (set_of front.now.flags)) in
+        OnErr result (GainsPart (K.got out.old) (K.got out.new) (page.old ++ text)) }
+    ensures len { length free.new.items ≡ length free.old.items }
+    ensures cause { HasCause (K.faults out.old) (K.faults out.new) result }
+{
+    let mut strips = 0u32;
+    for face in 0..front.hierarchy().faces() {
+        if free[face as usize] {
+            if let Err(fault) = put_strip(free, front, FaceId(face), page, out) {
+                return Err(fault);
+            }
+            strips += 1;
+        }
+    }
+    Ok(strips)
+}
