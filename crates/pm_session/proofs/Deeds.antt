@@ -10,6 +10,7 @@ use Rattle.pm_forest.specs.Fronts.{set_of, no_records, with, without}
 use Rattle.pm_beyond.specs.declared.moves.MoveFault.{MoveFault}
 use Rattle.pm_beyond.specs.Moves.{split_fault, collapse_fault}
 use Rattle.pm_view.specs.Views.{View}
+use Rattle.pm_strips.specs.Shown.{strips_text}
 use Rattle.pm_pick.specs.declared.hits.Hit.{Hit}
 use Rattle.pm_pick.specs.Rays.{Ray}
 use Rattle.pm_pick.specs.Picks.{pick_of}
@@ -63,6 +64,10 @@ deed_bad h b T line is = rw is refl
 pub deed_measure : (h : Hierarchy) (b : ℕ) (T : ℕ → Bool) (line : List ℕ) → command_of line ≡ commands.Measure → line_deed h b T line ≡ Replies (shape_reply h T) T
 unfolding line_deed
 deed_measure h b T line is = rw is refl
+
+pub deed_strip : (h : Hierarchy) (b : ℕ) (T : ℕ → Bool) (line : List ℕ) → command_of line ≡ commands.Strip → line_deed h b T line ≡ Replies (strips_text h T) T
+unfolding line_deed
+deed_strip h b T line is = rw is refl
 
 pub deed_show : (h : Hierarchy) (b : ℕ) (T : ℕ → Bool) (line : List ℕ) → command_of line ≡ commands.Show → line_deed h b T line ≡ Replies (frame_text h T) T
 unfolding line_deed

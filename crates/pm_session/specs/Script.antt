@@ -16,6 +16,7 @@ use Rattle.pm_refine.specs.declared.refiner.Adapted.{Adapted}
 use Rattle.pm_refine.specs.declared.refiner.Adapted.TheVariants as adapted
 use Rattle.pm_refine.specs.Adapting.{view_plan, adapted_of}
 use Rattle.pm_manifold.specs.Measure.{nodes_shown, edges_shown, faces_shown, loops_shown}
+use Rattle.pm_strips.specs.Shown.{strips_text}
 use Rattle.pm_pick.specs.declared.hits.Hit.{Hit}
 use Rattle.pm_pick.specs.Rays.{Ray}
 use Rattle.pm_pick.specs.Fields.{ray_of}
@@ -67,12 +68,13 @@ pick_by (Some ray) = commands.Pick ray
 abbrev pub record_in : List ℕ → Option ℕ
 record_in line = unsigned_of 4294967295 (drop 2 line)
 
--- `w`, `m`, `q`, `s K` or `c K` with one space and K an unsigned number of 32 bits, `v`, a space and the fields of a plain
+-- `w`, `m`, `t`, `q`, `s K` or `c K` with one space and K an unsigned number of 32 bits, `v`, a space and the fields of a plain
 -- view, `vs`, a space and the fields of a view with outlines, or `p`, a space and the fields of a ray.
 unfoldable pub command_of : List ℕ → Command
 command_of line =
     if is_letter 119 line then commands.Show
     else if is_letter 109 line then commands.Measure
+    else if is_letter 116 line then commands.Strip
     else if is_letter 113 line then commands.Quit
     else if begins_with 115 line then split_of (record_in line)
     else if begins_with 99 line then collapse_of (record_in line)
@@ -131,6 +133,7 @@ pub data Deed : Type 0 where
 abbrev pub deed_of : Hierarchy → ℕ → (ℕ → Bool) → Command → Deed
 deed_of h budget T commands.Show = Replies (frame_text h T) T
 deed_of h budget T commands.Measure = Replies (shape_reply h T) T
+deed_of h budget T commands.Strip = Replies (strips_text h T) T
 deed_of h budget T commands.Quit = Ends
 deed_of h budget T commands.Bad = IsBad
 deed_of h budget T (commands.Split k) = if nat_lt k (record_count h) then Replies (reply_to (split_fault h T k)) (after_split h T k) else NamesNoRecord

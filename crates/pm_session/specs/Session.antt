@@ -19,12 +19,13 @@ pub record Shown : Type 0 where
   pub budget : ℕ
 
 -- What the tools of a session have: the bounds of nodes, for how many records there is room, for how many sides there is a
--- mark, and the lists of the faces at each leaf.
+-- mark, the lists of the faces at each leaf, and for how many faces there is a flag.
 pub record Toolbox : Type 0 where
   pub bounds : Bounds
   pub room : ℕ
   pub marks : ℕ
   pub lists : Lists
+  pub flags : ℕ
 
 -- They are those of the hierarchy.
 pub record AreToolsOf (h : Hierarchy) (tools : Toolbox) : Type 0 where
@@ -32,6 +33,7 @@ pub record AreToolsOf (h : Hierarchy) (tools : Toolbox) : Type 0 where
   pub room_fits : tools.room ≡ record_count h
   pub marks_fit : tools.marks ≡ 3 * face_count h
   pub are_its_lists : AreListsOf h tools.lists
+  pub flags_fit : tools.flags ≡ face_count h
 
 -- How a line ends, by its deed: `before` and `after` are the split records, and `old` and `new` what the sink had taken.
 abbrev pub LineEnds : Deed → Result Next LineFail → (ℕ → Bool) → (ℕ → Bool) → Option (List ℕ) → Option (List ℕ) → Type 0

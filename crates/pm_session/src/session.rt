@@ -9,6 +9,7 @@ ghost use Rattle.pm_beyond.specs.Moves.{split_fault, collapse_fault};
 ghost use Rattle.pm_load.specs.Faults.{IsLoadFault};
 ghost use Rattle.pm_frame.specs.Frame.{frame_text};
 ghost use Rattle.pm_pick.specs.Picks.{pick_of};
+ghost use Rattle.pm_strips.specs.Shown.{strips_text};
 ghost use Rattle.pm_session.specs.Script.{reply_to, line_deed, after_split, after_collapse, view_reply, adapted_to, after_view, shape_reply};
 ghost use Rattle.pm_session.specs.Session.{LineEnds, LineCounts};
 
@@ -196,6 +197,18 @@ impl Session {
         put_all(out, line.as_slice())
     }
 
+    // Writes the strips.
+    fn strip<K: Sink>(&mut self, out: &mut K) -> Result<(), WriteFault>
+        ensures ok { let text = strips_text self.old.h (set_of self.old.flags) in
+            OnOk result (Gains (K.got out.old) (K.got out.new) text) }
+        ensures err { let text = strips_text self.old.h (set_of self.old.flags) in
+            OnErr result (GainsPart (K.got out.old) (K.got out.new) text) }
+        ensures cause { HasCause (K.faults out.old) (K.faults out.new) result }
+        ensures same { self.new ≡ self.old }
+    {
+        self.tools.write_strips(&self.front, out)
+    }
+
     /// Does one script line, which is given without its LF, and writes its whole reply. BadLine comes exactly where the
     /// line is none of the forms, and NoRecord exactly where it names a record that isn't there; nothing is changed or
     /// written then. Write comes only where the sink failed: the line's move stands, and the sink gained a part of the
@@ -212,6 +225,7 @@ impl Session {
             Command::Bad => Err(LineFail::BadLine),
             Command::Show => after_reply(self.show(out)),
             Command::Measure => after_reply(self.measure(out)),
+            Command::Strip => after_reply(self.strip(out)),
             Command::Look(view) => after_reply(put_adapted(self.look(&view), out)),
             Command::Pick(ray) => after_reply(put_pick(self.pick(&ray), out)),
             Command::Split(k) if k < self.records() => after_reply(put_answer(self.split(k), out)),

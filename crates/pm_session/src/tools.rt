@@ -1,10 +1,13 @@
 // What a session works with beside its front.
-ghost use Rattle.std.specs.Prelude.{◌≡◌, ◌×◌, ◌<◌, ◌≤◌, IfOk};
+ghost use Rattle.std.specs.Prelude.{◌≡◌, ◌<◌, ◌≤◌, IfOk, OnOk, OnErr};
+ghost use Rattle.pm_io.specs.Bytes.{Gains, GainsPart};
+ghost use Rattle.pm_io.specs.Causes.{HasCause};
 ghost use Rattle.pm_forest.specs.Forest.{record_count};
 ghost use Rattle.pm_forest.specs.Fronts.{set_of};
 ghost use Rattle.pm_bounds.specs.Bounds.{AreBoundsOf};
 ghost use Rattle.pm_manifold.specs.Measure.{nodes_shown, edges_shown, faces_shown, loops_shown};
 ghost use Rattle.pm_pick.specs.Picks.{pick_of};
+ghost use Rattle.pm_strips.specs.Shown.{strips_text};
 ghost use Rattle.pm_session.specs.Script.{adapted_to, after_view};
 ghost use Rattle.pm_session.specs.Session.{AreToolsOf};
 
@@ -12,22 +15,25 @@ use crate::picking::pick_face;
 use pm_bounds::Bounds;
 use pm_forest::Hierarchy;
 use pm_front::Front;
+use pm_io::{Sink, WriteFault};
 use pm_manifold::{Measure, Tracer};
 use pm_pick::{Hit, Picker, Ray};
 use pm_refine::{Adapted, Refiner};
+use pm_strips::Stripper;
 use pm_view::{Steps, View};
 use std::alloc::{AllocError, Global};
 use std::marker::{Brand, Model};
 use std::sync::ledger::{Blank, Ledger};
 
 /// The tools of a session: the bounds of the nodes, and what adapts fronts to views, measures the mesh that a front shows,
-/// and picks faces. `new` takes all the memory that they want.
+/// picks faces, and writes strips. `new` takes all the memory that they want.
 #[derive(Drop)]
 pub(crate) struct Tools {
     bounds: Bounds,
     refiner: Refiner,
     tracer: Tracer,
     picker: Picker,
+    stripper: Stripper,
 }
 
 impl Model for Tools {
@@ -35,7 +41,7 @@ impl Model for Tools {
 
     ghost Value = { Toolbox };
 
-    ghost view = { λ t. record { bounds = t.bounds; room = t.refiner; marks = t.tracer; lists = t.picker } };
+    ghost view = { λ t. record { bounds = t.bounds; room = t.refiner; marks = t.tracer; lists = t.picker; flags = t.stripper } };
 }
 
 // Adapts a front to a view, where nobody counts the steps.
@@ -71,11 +77,13 @@ impl Tools {
         let refiner = Refiner::new(alloc, h)?;
         let tracer = Tracer::new(alloc, h)?;
         let picker = Picker::new(alloc, h)?;
+        let stripper = Stripper::new(alloc, h)?;
         Ok(Tools {
             bounds,
             refiner,
             tracer,
             picker,
+            stripper,
         })
     }
 
@@ -116,5 +124,21 @@ impl Tools {
         ensures same { self.new ≡ self.old }
     {
         self.tracer.measure(front)
+    }
+    /// Writes the mesh that a front shows as triangle strips.
+    pub(crate) fn write_strips<K: Sink>(
+        &mut self,
+        front: &Front,
+        out: &mut K,
+    ) -> Result<(), WriteFault>
+        requires { AreToolsOf front.now.h self.old }
+        ensures ok { let text = strips_text front.now.h (set_of front.now.flags) in
+            OnOk result (Gains (K.got out.old) (K.got out.new) text) }
+        ensures err { let text = strips_text front.now.h (set_of front.now.flags) in
+            OnErr result (GainsPart (K.got out.old) (K.got out.new) text) }
+        ensures cause { HasCause (K.faults out.old) (K.faults out.new) result }
+        ensures same { self.new ≡ self.old }
+    {
+        self.stripper.write_strips(front, out)
     }
 }

@@ -1,6 +1,6 @@
 use Rattle.std.proofs.Common.{arith, refl, sym, ap, ◌∙◌}
 use Rattle.pm_forest.specs.Fronts.{set_of}
-use Rattle.pm_session.proofs.Deeds.{deed_quit, deed_measure, deed_bad, deed_show, deed_split, deed_collapse, deed_look, deed_pick, deed_no_split, deed_no_collapse, replied, ended, bad, named_none}
+use Rattle.pm_session.proofs.Deeds.{deed_quit, deed_measure, deed_strip, deed_bad, deed_show, deed_split, deed_collapse, deed_look, deed_pick, deed_no_split, deed_no_collapse, replied, ended, bad, named_none}
 use Rattle.pm_session.specs.Session.{Shown}
 use Rattle.pm_session.proofs.session.Session.line.Goals as goal
 
@@ -47,3 +47,8 @@ pub returns-in-Measure-clause-ends : goal.returns-in-Measure-clause-ends
 returns-in-Measure-clause-ends g c =
     replied _ _ _ _ _ c.measure.result _ _ _ (deed_measure _ _ _ _ (sym c.command_of.ensures ∙ c.in-Measure.is)) (ap (λ (s : Shown). set_of s.flags) c.measure.ensures.same)
     c.after_reply-in-Measure.ensures.ok c.after_reply-in-Measure.ensures.err c.measure.ensures.ok c.measure.ensures.err
+
+pub returns-in-Strip-clause-ends : goal.returns-in-Strip-clause-ends
+returns-in-Strip-clause-ends g c =
+    replied _ _ _ _ _ c.strip.result _ _ _ (deed_strip _ _ _ _ (sym c.command_of.ensures ∙ c.in-Strip.is)) (ap (λ (s : Shown). set_of s.flags) c.strip.ensures.same)
+    c.after_reply-in-Strip.ensures.ok c.after_reply-in-Strip.ensures.err c.strip.ensures.ok c.strip.ensures.err
