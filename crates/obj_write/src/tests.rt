@@ -104,7 +104,7 @@ fn the_octahedron_is_written_as_far_as_the_room_goes(rt: HostRuntime) {
             Ok(())
         };
         assert!(rt;
-            write_obj(&mesh, &mut sink) == fault,
+            write_obj(&mesh, 0, &mut sink) == fault,
             "with room for {room} bytes, {step} at a time"
         );
         assert!(rt;
@@ -123,7 +123,7 @@ fn two_pages_and_a_part_are_put_by_three_calls(rt: HostRuntime) {
         let fault = if call < 3 { Err(WriteFault) } else { Ok(()) };
         let bytes = [0, 4096, 8192, 9000][call as usize];
         assert!(rt;
-            write_obj(&mesh, &mut sink) == fault,
+            write_obj(&mesh, 0, &mut sink) == fault,
             "with a fault at call {call}"
         );
         assert_eq!(rt; sink.bytes().len(), bytes);

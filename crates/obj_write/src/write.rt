@@ -1,4 +1,4 @@
-ghost use Rattle.std.specs.Prelude.{◌≡◌, ◌++◌, OnOk, OnErr};
+ghost use Rattle.std.specs.Prelude.{◌≡◌, ◌≤◌, ◌++◌, OnOk, OnErr};
 ghost use Rattle.std.specs.List.{flat_map};
 ghost use Rattle.pm_base.specs.Canonical.{point_line, corner_line, canonical_text};
 ghost use Rattle.pm_base.specs.Meshes.{IsWellFormed, mesh_of};
@@ -9,14 +9,20 @@ use crate::line::{put_corners, put_point};
 use pm_base::Mesh;
 use pm_io::{Line, Page, Sink, WriteFault};
 
-fn put_points<K: Sink>(mesh: &Mesh, page: &mut Page, out: &mut K) -> Result<(), WriteFault>
-    ensures ok { OnOk result (GainsThrough (K.got out.old) (K.got out.new) page.old page.new (flat_map point_line mesh.now.points.items)) }
-    ensures err { OnErr result (GainsPart (K.got out.old) (K.got out.new) (page.old ++ flat_map point_line mesh.now.points.items)) }
+fn put_points<K: Sink>(
+    mesh: &Mesh,
+    digits: u32,
+    page: &mut Page,
+    out: &mut K,
+) -> Result<(), WriteFault>
+    requires { digits ≤ 4 }
+    ensures ok { OnOk result (GainsThrough (K.got out.old) (K.got out.new) page.old page.new (flat_map (point_line digits) mesh.now.points.items)) }
+    ensures err { OnErr result (GainsPart (K.got out.old) (K.got out.new) (page.old ++ flat_map (point_line digits) mesh.now.points.items)) }
     ensures cause { HasCause (K.faults out.old) (K.faults out.new) result }
 {
     let mut line = Line::new();
     for point in mesh.points.as_slice() {
-        put_point(&mut line, point);
+        put_point(&mut line, digits, point);
         if let Err(fault) = page.add(line.as_slice(), out) {
             return Err(fault);
         }
@@ -40,19 +46,21 @@ fn put_faces<K: Sink>(mesh: &Mesh, page: &mut Page, out: &mut K) -> Result<(), W
     Ok(())
 }
 
-/// Writes the canonical text of a well-formed mesh: a line for each point, and then one for each face. After a fault
-/// the sink has gained a part of the text from its front, and not the whole.
+/// Writes the canonical text of a well-formed mesh: a line for each point, and then one for each face. Coordinates are
+/// written with so many decimals, at most four; the mesh has them in units of 10 to the power -digits. After a fault the
+/// sink has gained a part of the text from its front, and not the whole.
 ///
 /// The text is put in pages of 4,096 bytes, of which the last may be shorter. It takes no memory.
 #[tactic(auto, unfolding(pm_base::specs::Canonical::canonical_text))]
-pub fn write_obj<K: Sink>(mesh: &Mesh, out: &mut K) -> Result<(), WriteFault>
-    requires { IsWellFormed (mesh_of mesh.now) }
-    ensures ok { OnOk result (Gains (K.got out.old) (K.got out.new) (canonical_text (mesh_of mesh.now))) }
-    ensures err { OnErr result (GainsPart (K.got out.old) (K.got out.new) (canonical_text (mesh_of mesh.now))) }
+pub fn write_obj<K: Sink>(mesh: &Mesh, digits: u32, out: &mut K) -> Result<(), WriteFault>
+    requires few { digits ≤ 4 }
+    requires formed { IsWellFormed (mesh_of mesh.now) }
+    ensures ok { OnOk result (Gains (K.got out.old) (K.got out.new) (canonical_text digits (mesh_of mesh.now))) }
+    ensures err { OnErr result (GainsPart (K.got out.old) (K.got out.new) (canonical_text digits (mesh_of mesh.now))) }
     ensures cause { HasCause (K.faults out.old) (K.faults out.new) result }
 {
     let mut page = Page::new();
-    if let Err(fault) = put_points(mesh, &mut page, out) {
+    if let Err(fault) = put_points(mesh, digits, &mut page, out) {
         return Err(fault);
     }
     if let Err(fault) = put_faces(mesh, &mut page, out) {

@@ -15,7 +15,7 @@ loop-point-preserved g c =
     let item = subst (λ l. point ≡ get_or l i point) same c.point-item.is in
     record {
       items = same;
-      text = line_through point_line points i point _ _ _ _ _ _ within item c.loop-point.invariant.text
+      text = line_through (point_line c.args.digits) points i point _ _ _ _ _ _ within item c.loop-point.invariant.text
           (subst (λ l. GainsThrough (g.K.Sink.got c.loop-point.out) (g.K.Sink.got c.add.new.out) c.loop-point.page c.add.new.self l) (c.as_slice.ensures ∙ c.put_point.ensures) c.in_default.ensures.ok);
       count = grind (arith, common_steps, c.in_default.ensures.cause.same);
     }
@@ -28,9 +28,9 @@ returns-in-Err-clause-err g c =
     let same = c.as_slice-point-items.ensures in
     let within = subst (λ l. i < length l) same c.loop-point-test.true in
     let item = subst (λ l. point ≡ get_or l i point) same c.point-item.is in
-    line_through_part point_line points i point _ _ _ _ _ within item c.loop-point.invariant.text
+    line_through_part (point_line c.args.digits) points i point _ _ _ _ _ within item c.loop-point.invariant.text
     (subst (λ l. GainsPart (g.K.Sink.got c.loop-point.out) (g.K.Sink.got c.add.new.out) (c.loop-point.page ++ l)) (c.as_slice.ensures ∙ c.put_point.ensures) c.in-Err.ensures.err)
 
 pub returns-clause-ok : goal.returns-clause-ok
 returns-clause-ok g c =
-    lines_through point_line c.args.mesh.now.points.items c.loop-point.point-index _ _ _ _ (subst (λ l. length l ≤ c.loop-point.point-index) c.as_slice-point-items.ensures c.loop-point-test.false) c.loop-point.invariant.text
+    lines_through (point_line c.args.digits) c.args.mesh.now.points.items c.loop-point.point-index _ _ _ _ (subst (λ l. length l ≤ c.loop-point.point-index) c.as_slice-point-items.ensures c.loop-point-test.false) c.loop-point.invariant.text
