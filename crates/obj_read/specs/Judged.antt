@@ -20,8 +20,8 @@ abbrev pub is_full : ℕ → Bool
 is_full n = nat_le 1048576 n
 
 -- The vertex with these three fields.
-unfoldable pub vertex_of : ℕ → List ℕ → List ℕ → List ℕ → Result Found ObjFault
-vertex_of vertices a b c = coordinate a >>= λ x. coordinate b >>= λ y. coordinate c >>= λ z.
+unfoldable pub vertex_of : ℕ → ℕ → List ℕ → List ℕ → List ℕ → Result Found ObjFault
+vertex_of digits vertices a b c = coordinate digits a >>= λ x. coordinate digits b >>= λ y. coordinate digits c >>= λ z.
     if is_full vertices then Err faults.TooMany
     else Ok (found.Vertex (record { x = x; y = y; z = z }))
 
@@ -33,9 +33,9 @@ face_of vertices faces x y z = index vertices (index_text x) >>= λ a. index ver
     else Ok (found.Face (record { a = a; b = b; c = c }))
 
 -- The fields after `v`. Those after the third aren't read.
-abbrev pub vertex_line : ℕ → List (List ℕ) → Result Found ObjFault
-vertex_line vertices (x ∷ y ∷ z ∷ more) = vertex_of vertices x y z
-vertex_line vertices _ = Err faults.TooFewFields
+abbrev pub vertex_line : ℕ → ℕ → List (List ℕ) → Result Found ObjFault
+vertex_line digits vertices (x ∷ y ∷ z ∷ more) = vertex_of digits vertices x y z
+vertex_line digits vertices _ = Err faults.TooFewFields
 
 -- The fields after `f`.
 abbrev pub face_line : ℕ → ℕ → List (List ℕ) → Result Found ObjFault
@@ -44,13 +44,13 @@ face_line vertices faces (a ∷ b ∷ c ∷ d ∷ more) = Err faults.NotTriangle
 face_line vertices faces _ = Err faults.TooFewFields
 
 -- The fields of a line. One that begins with neither `v` nor `f` is skipped, as is one without fields.
-abbrev pub fields_found : ℕ → ℕ → List (List ℕ) → Result Found ObjFault
-fields_found vertices faces [] = Ok found.Nothing
-fields_found vertices faces (keyword ∷ more) =
-    if is_letter 118 keyword then vertex_line vertices more
+abbrev pub fields_found : ℕ → ℕ → ℕ → List (List ℕ) → Result Found ObjFault
+fields_found digits vertices faces [] = Ok found.Nothing
+fields_found digits vertices faces (keyword ∷ more) =
+    if is_letter 118 keyword then vertex_line digits vertices more
     else if is_letter 102 keyword then face_line vertices faces more
     else Ok found.Nothing
 
--- What is read of a line, after so many vertices and faces.
-unfoldable pub line_found : ℕ → ℕ → List ℕ → Result Found ObjFault
-line_found vertices faces line = if is_continued line then Err faults.Continuation else fields_found vertices faces (fields line)
+-- What is read of a line after so many vertices and faces, with so many decimals a coordinate.
+unfoldable pub line_found : ℕ → ℕ → ℕ → List ℕ → Result Found ObjFault
+line_found digits vertices faces line = if is_continued line then Err faults.Continuation else fields_found digits vertices faces (fields line)

@@ -8,8 +8,10 @@ use Rattle.obj_read.specs.declared.found.Found.{Found}
 use Rattle.obj_read.specs.Judged.{line_found}
 use Rattle.obj_read.specs.Fits.{with_found}
 
--- What the lines before gave: how many bytes they have, the number of the next line, and the mesh so far.
+-- How many decimals a coordinate has, and what the lines before gave: how many bytes they have, the number of the next
+-- line, and the mesh so far.
 pub record SoFar : Type 0 where
+  pub digits : ℕ
   pub bytes : ℕ
   pub number : ℕ
   pub mesh : Mesh
@@ -33,12 +35,12 @@ is_long line = nat_lt 65536 (length (until 10 line))
 abbrev pub is_ended : List ℕ → Bool
 is_ended line = nat_lt (length (until 10 line)) (length line)
 
--- A line judged alone, given how many bytes, vertices and faces stand before it.
+-- A line judged alone, given how many decimals a coordinate has, and how many bytes, vertices and faces stand before it.
 unfoldable pub judged : SoFar → List ℕ → Result Found ObjFault
 judged s line =
     if is_past s.bytes (length line) then Err faults.TooMany
     else if is_long line then Err faults.LineTooLong
-    else line_found (length s.mesh.points) (length s.mesh.faces) (content (until 10 line))
+    else line_found s.digits (length s.mesh.points) (length s.mesh.faces) (content (until 10 line))
 
 -- The byte that shows the line's fault: the one too many in the text or in the line, else the line's LF.
 unfoldable pub place : SoFar → List ℕ → Option ℕ
@@ -50,7 +52,7 @@ place s line =
 
 -- After one line more.
 unfoldable pub and_line : SoFar → List ℕ → Found → SoFar
-and_line s line f = record { bytes = s.bytes + length line; number = s.number + 1; mesh = with_found s.mesh f }
+and_line s line f = record { digits = s.digits; bytes = s.bytes + length line; number = s.number + 1; mesh = with_found s.mesh f }
 
 -- The first line with a fault ends the reading.
 abbrev pub then_lines : Result Found ObjFault → SoFar → List ℕ → (SoFar → Result Mesh Refused) → Result Mesh Refused
@@ -62,9 +64,9 @@ meaning_from s [] = Ok s.mesh
 meaning_from s (line ∷ more) = then_lines (judged s line) s line (λ t. meaning_from t more)
 
 -- Before the first line.
-abbrev pub nothing_yet : SoFar
-nothing_yet = record { bytes = 0; number = 1; mesh = record { points = []; faces = [] } }
+abbrev pub nothing_yet : ℕ → SoFar
+nothing_yet digits = record { digits = digits; bytes = 0; number = 1; mesh = record { points = []; faces = [] } }
 
--- The mesh of the bytes, or their first line with a fault.
-unfoldable pub meaning_of : List ℕ → Result Mesh Refused
-meaning_of bytes = meaning_from nothing_yet (lines bytes)
+-- The mesh of the bytes with so many decimals a coordinate, or their first line with a fault.
+unfoldable pub meaning_of : ℕ → List ℕ → Result Mesh Refused
+meaning_of digits bytes = meaning_from (nothing_yet digits) (lines bytes)

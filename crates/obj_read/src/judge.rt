@@ -16,13 +16,21 @@ use pm_base::{Corners, Point};
 const MOST: u32 = 1_048_576;
 
 #[tactic(auto, unfolding(crate::specs::Judged::vertex_of))]
-fn vertex_of(vertices: u32, faces: u32, x: &[u8], y: &[u8], z: &[u8]) -> Result<Found, ObjFault>
-    ensures value { result ≡ vertex_of vertices x.now y.now z.now }
+fn vertex_of(
+    digits: u32,
+    vertices: u32,
+    faces: u32,
+    x: &[u8],
+    y: &[u8],
+    z: &[u8],
+) -> Result<Found, ObjFault>
+    requires { digits ≤ 4 }
+    ensures value { result ≡ vertex_of digits vertices x.now y.now z.now }
     ensures fits { IfOk result (Fits vertices faces) }
 {
-    let x = coordinate(x)?;
-    let y = coordinate(y)?;
-    let z = coordinate(z)?;
+    let x = coordinate(digits, x)?;
+    let y = coordinate(digits, y)?;
+    let z = coordinate(digits, z)?;
     if vertices >= MOST {
         return Err(ObjFault::TooMany);
     }
@@ -51,8 +59,9 @@ fn face_of(vertices: u32, faces: u32, a: &[u8], b: &[u8], c: &[u8]) -> Result<Fo
 }
 
 // What stands after the keyword of a vertex: three coordinates, and fields that aren't read.
-fn vertex_line(vertices: u32, faces: u32, text: &[u8]) -> Result<Found, ObjFault>
-    ensures value { result ≡ vertex_line vertices (fields text.now) }
+fn vertex_line(digits: u32, vertices: u32, faces: u32, text: &[u8]) -> Result<Found, ObjFault>
+    requires { digits ≤ 4 }
+    ensures value { result ≡ vertex_line digits vertices (fields text.now) }
     ensures fits { IfOk result (Fits vertices faces) }
 {
     let Some((x, rest)) = next_field(text) else {
@@ -64,7 +73,7 @@ fn vertex_line(vertices: u32, faces: u32, text: &[u8]) -> Result<Found, ObjFault
     let Some((z, _)) = next_field(rest) else {
         return Err(ObjFault::TooFewFields);
     };
-    vertex_of(vertices, faces, x, y, z)
+    vertex_of(digits, vertices, faces, x, y, z)
 }
 
 // What stands after the keyword of a face: three corners.
@@ -88,26 +97,30 @@ fn face_line(vertices: u32, faces: u32, text: &[u8]) -> Result<Found, ObjFault>
 }
 
 // A line that begins with neither keyword is skipped.
-fn fields_found(vertices: u32, faces: u32, line: &[u8]) -> Result<Found, ObjFault>
-    ensures value { result ≡ fields_found vertices faces (fields line.now) }
+fn fields_found(digits: u32, vertices: u32, faces: u32, line: &[u8]) -> Result<Found, ObjFault>
+    requires { digits ≤ 4 }
+    ensures value { result ≡ fields_found digits vertices faces (fields line.now) }
     ensures fits { IfOk result (Fits vertices faces) }
 {
     match next_field(line) {
-        Some((keyword, rest)) if is_letter(b'v', keyword) => vertex_line(vertices, faces, rest),
+        Some((keyword, rest)) if is_letter(b'v', keyword) => {
+            vertex_line(digits, vertices, faces, rest)
+        }
         Some((keyword, rest)) if is_letter(b'f', keyword) => face_line(vertices, faces, rest),
         _ => Ok(Found::Nothing),
     }
 }
 
-/// What a line gives after so many vertices and faces, or its first fault. The line stands here as it is read, without
-/// its LF, a CR at its end and a comment.
+/// What a line gives after so many vertices and faces, or its first fault. Its coordinates are read with so many digits
+/// after the point. The line stands here as it is read, without its LF, a CR at its end and a comment.
 #[tactic(auto, unfolding(crate::specs::Judged::line_found))]
-pub fn line_found(vertices: u32, faces: u32, line: &[u8]) -> Result<Found, ObjFault>
-    ensures value { result ≡ line_found vertices faces line.now }
+pub fn line_found(digits: u32, vertices: u32, faces: u32, line: &[u8]) -> Result<Found, ObjFault>
+    requires { digits ≤ 4 }
+    ensures value { result ≡ line_found digits vertices faces line.now }
     ensures fits { IfOk result (Fits vertices faces) }
 {
     if is_continued(line) {
         return Err(ObjFault::Continuation);
     }
-    fields_found(vertices, faces, line)
+    fields_found(digits, vertices, faces, line)
 }

@@ -1,4 +1,4 @@
-ghost use Rattle.std.specs.Prelude.{◌≡◌, Ok, IfOk, IfErr, OnOk, IfSome};
+ghost use Rattle.std.specs.Prelude.{◌≡◌, ◌≤◌, Ok, IfOk, IfErr, OnOk, IfSome};
 ghost use Rattle.pm_base.specs.Meshes.{IsWellFormed, mesh_of};
 ghost use Rattle.pm_io.specs.Bytes.{AtEnd};
 ghost use Rattle.pm_io.specs.Causes.{HasCause};
@@ -14,16 +14,18 @@ use std::alloc::Global;
 
 /// Reads a source to its end, and answers the mesh that its bytes spell.
 ///
-/// Lines that begin with neither `v` nor `f` are skipped. Coordinates are whole numbers from -32,767 to 32,767, and
-/// faces are triangles. All bytes that are held are judged before more are asked for, so a fault is answered as soon as
-/// the byte that shows it has come. However the source cuts its bytes, the answer is the same.
+/// Lines that begin with neither `v` nor `f` are skipped. Coordinates are kept in units of 10 to the power -digits, with
+/// at most four digits: they are from -32,767 to 32,767 units, and each decimal past the first so many is a zero. Faces
+/// are triangles. All bytes that are held are judged before more are asked for, so a fault is answered as soon as the byte
+/// that shows it has come. However the source cuts its bytes, the answer is the same.
 ///
 /// Each byte is looked at a constant number of times. Memory is taken for the window, for one line, and for the mesh.
-pub fn read_obj<S: Source>(alloc: Global, source: &mut S) -> Result<Mesh, ObjFail>
-    ensures ok { IfOk result (λ m. IfSome (S.left source.old) (λ bytes. meaning_of bytes ≡ Ok (mesh_of m))) }
+pub fn read_obj<S: Source>(alloc: Global, digits: u32, source: &mut S) -> Result<Mesh, ObjFail>
+    requires { digits ≤ 4 }
+    ensures ok { IfOk result (λ m. IfSome (S.left source.old) (λ bytes. meaning_of digits bytes ≡ Ok (mesh_of m))) }
     ensures mesh { IfOk result (λ m. IsWellFormed (mesh_of m)) }
     ensures end { OnOk result (AtEnd (S.left source.new)) }
-    ensures err { IfErr result (λ e. Explains e (S.left source.old) (S.left source.new)) }
+    ensures err { IfErr result (λ e. Explains digits e (S.left source.old) (S.left source.new)) }
     ensures cause { HasCause (S.faults source.old) (S.faults source.new) (of_source result) }
 {
     let mut mesh = Mesh {
@@ -42,9 +44,16 @@ pub fn read_obj<S: Source>(alloc: Global, source: &mut S) -> Result<Mesh, ObjFai
         number: 1,
     };
     loop {
-        match step(source, &mut taker, &mut lines, &mut mesh, &mut progress) {
+        match step(
+            digits,
+            source,
+            &mut taker,
+            &mut lines,
+            &mut mesh,
+            &mut progress,
+        ) {
             Err(fail) => return Err(fail),
-            Ok(false) => return finish(mesh, lines, progress),
+            Ok(false) => return finish(digits, mesh, lines, progress),
             Ok(true) => {}
         }
     }

@@ -1,5 +1,5 @@
 // One step of the reading: the bytes that the window holds, at most up to the end of a line.
-ghost use Rattle.std.specs.Prelude.{ℕ, List, Option, ◌≡◌, ◌<◌, length, true, false, Ok, IfOk, IfErr, OnOk};
+ghost use Rattle.std.specs.Prelude.{ℕ, List, Option, ◌≡◌, ◌≤◌, ◌<◌, length, true, false, Ok, IfOk, IfErr, OnOk};
 ghost use Rattle.std.specs.Io.KnownBytes.{prepend_known};
 ghost use Rattle.pm_base.specs.Meshes.{IsWellFormed, mesh_of};
 ghost use Rattle.pm_io.specs.Bytes.{AtEnd};
@@ -43,13 +43,19 @@ fn put(mesh: &mut Mesh, found: Found) -> Result<(), OutOfMemory>
 }
 
 // Judges what is read of a line, and puts what it gives into the mesh.
-fn take_line(mesh: &mut Mesh, text: &[u8], number: u32) -> Result<(), ObjFail>
-    requires { IsWellFormed (mesh_of mesh.old) }
-    ensures ok { OnOk result (Gives (mesh_of mesh.old) text.now (mesh_of mesh.new)) }
+fn take_line(mesh: &mut Mesh, digits: u32, text: &[u8], number: u32) -> Result<(), ObjFail>
+    requires few { digits ≤ 4 }
+    requires formed { IsWellFormed (mesh_of mesh.old) }
+    ensures ok { OnOk result (Gives digits (mesh_of mesh.old) text.now (mesh_of mesh.new)) }
     ensures mesh { OnOk result (IsWellFormed (mesh_of mesh.new)) }
-    ensures fault { IfErr result (λ e. IsFaultOf e number (line_found (length mesh.old.points.items) (length mesh.old.faces.items) text.now)) }
+    ensures fault { IfErr result (λ e. IsFaultOf e number (line_found digits (length mesh.old.points.items) (length mesh.old.faces.items) text.now)) }
 {
-    match line_found(mesh.points.len() as u32, mesh.faces.len() as u32, text) {
+    match line_found(
+        digits,
+        mesh.points.len() as u32,
+        mesh.faces.len() as u32,
+        text,
+    ) {
         Err(fault) => Err(ObjFail::Fault {
             fault,
             line: number,
@@ -64,20 +70,22 @@ fn take_line(mesh: &mut Mesh, text: &[u8], number: u32) -> Result<(), ObjFail>
 /// Takes what the window holds, at most up to the end of a line, and judges a line that has ended. False at the end of
 /// input. The window is used up before the source is asked for more.
 pub fn step<S: Source>(
+    digits: u32,
     source: &mut S,
     taker: &mut Taker,
     lines: &mut Lines,
     mesh: &mut Mesh,
     progress: &mut Progress,
 ) -> Result<bool, ObjFail>
-    requires { IsReady lines.old (mesh_of mesh.old) progress.old }
+    requires few { digits ≤ 4 }
+    requires ready { IsReady lines.old (mesh_of mesh.old) progress.old }
     ensures ready { OnOk result (IsReady lines.new (mesh_of mesh.new) progress.new) }
-    ensures reads_on { (whole : Option (List ℕ)) → IsReading whole taker.old (S.left source.old) progress.old (mesh_of mesh.old) lines.old
-        → OnOk result (IsReading whole taker.new (S.left source.new) progress.new (mesh_of mesh.new) lines.new) }
+    ensures reads_on { (whole : Option (List ℕ)) → IsReading digits whole taker.old (S.left source.old) progress.old (mesh_of mesh.old) lines.old
+        → OnOk result (IsReading digits whole taker.new (S.left source.new) progress.new (mesh_of mesh.new) lines.new) }
     ensures more { IfOk result (λ more. more ≡ true → progress.old.taken < progress.new.taken) }
     ensures end { IfOk result (λ more. more ≡ false → AtEnd (prepend_known taker.new (S.left source.new))) }
     ensures err { IfErr result (λ e. (whole : Option (List ℕ))
-        → IsReading whole taker.old (S.left source.old) progress.old (mesh_of mesh.old) lines.old → Explains e whole (S.left source.new)) }
+        → IsReading digits whole taker.old (S.left source.old) progress.old (mesh_of mesh.old) lines.old → Explains digits e whole (S.left source.new)) }
     ensures cause { HasCause (S.faults source.old) (S.faults source.new) (of_source result) }
 {
     let fed = match taker.piece(source) {
@@ -105,7 +113,7 @@ pub fn step<S: Source>(
             line: progress.number,
         }),
         LineState::Whole | LineState::Continued => {
-            if let Err(fail) = take_line(mesh, lines.line(), progress.number) {
+            if let Err(fail) = take_line(mesh, digits, lines.line(), progress.number) {
                 return Err(fail);
             }
             progress.start = progress.taken;
@@ -116,18 +124,19 @@ pub fn step<S: Source>(
 }
 
 /// At the end of input: the last line, where one is open.
-pub fn finish(mesh: Mesh, lines: Lines, progress: Progress) -> Result<Mesh, ObjFail>
-    requires { IsReady lines (mesh_of mesh) progress }
-    ensures ok { IfOk result (λ m. meaning_from (so_far progress (mesh_of mesh)) (lines_of (open_line lines)) ≡ Ok (mesh_of m)) }
+pub fn finish(digits: u32, mesh: Mesh, lines: Lines, progress: Progress) -> Result<Mesh, ObjFail>
+    requires few { digits ≤ 4 }
+    requires ready { IsReady lines (mesh_of mesh) progress }
+    ensures ok { IfOk result (λ m. meaning_from (so_far digits progress (mesh_of mesh)) (lines_of (open_line lines)) ≡ Ok (mesh_of m)) }
     ensures mesh { IfOk result (λ m. IsWellFormed (mesh_of m)) }
-    ensures err { IfErr result (λ e. IsRefused e (meaning_from (so_far progress (mesh_of mesh)) (lines_of (open_line lines)))) }
+    ensures err { IfErr result (λ e. IsRefused e (meaning_from (so_far digits progress (mesh_of mesh)) (lines_of (open_line lines)))) }
 {
     let mut mesh = mesh;
     let mut lines = lines;
     match lines.finish() {
         LineState::Partial | LineState::TooLong => Ok(mesh),
         LineState::Whole | LineState::Continued => {
-            match take_line(&mut mesh, lines.line(), progress.number) {
+            match take_line(&mut mesh, digits, lines.line(), progress.number) {
                 Ok(()) => Ok(mesh),
                 Err(fail) => Err(fail),
             }
