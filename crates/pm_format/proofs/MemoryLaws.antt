@@ -1,5 +1,5 @@
 -- No bytes of a text want memory: only a shaper does, when it starts.
-use Rattle.std.proofs.Common.{◌≡◌, ℕ, zero, suc, ◌+◌, ◌-◌, Bool, true, false, not, cond, eqb, List, [], ◌∷◌, ◌++◌, length, Option, Some, None, Result, Ok, Err, refl, subst}
+use Rattle.std.proofs.Common.{◌≡◌, ℕ, zero, suc, ◌+◌, ◌-◌, Bool, true, false, not, cond, eqb, ltb, ◌||◌, List, [], ◌∷◌, ◌++◌, length, Option, Some, None, Result, Ok, Err, refl, subst}
 use Rattle.std.specs.Prelude.{nat_lt, sum}
 use Rattle.pm_base.specs.Place.{is_place}
 use Rattle.pm_forest.specs.declared.parts.Record.{Record}
@@ -22,7 +22,7 @@ use Rattle.pm_format.specs.declared.stage.Stage.TheVariants as stages
 use Rattle.pm_format.specs.declared.stop.Stop.{Stop}
 use Rattle.pm_format.specs.declared.stop.Stop.TheVariants as stops
 use Rattle.pm_format.specs.Words.{words_of}
-use Rattle.pm_format.specs.Reading.{then_read, whole, judged, fitting, root_at, base_at, head_at, FaceUnit, new_face_at, counts_at, units_at, root_after, base_after, face_after, face_if, faces_after, record_after, record_after_all, header_at}
+use Rattle.pm_format.specs.Reading.{then_read, whole, judged, fitting, root_at, base_at, head_at, FaceUnit, new_face_at, counts_at, units_at, root_after, base_after, face_after, face_if, faces_after, record_after, record_after_all, told_digits, digits_at, header_at}
 use Rattle.pm_format.specs.Faults.{named}
 use Rattle.pm_format.specs.Standing.{stage_of}
 use Rattle.pm_format.specs.Decoding.{all_after, on_from, StopsAt}
@@ -39,6 +39,7 @@ is_rule (Some shapes.OutOfMemory) = false
 
 abbrev is_told : Stop → Bool
 is_told (stops.Version v) = true
+is_told (stops.Digits d) = true
 is_told stops.End = true
 is_told (stops.Fault f) = is_rule (Some f)
 
@@ -167,15 +168,28 @@ rest_told : (c : Counts) (h : Hierarchy) (coming : Option Unfinished) (ws : List
 rest_told c h None ws = all_told c h ws
 rest_told c h (Some p) ws = then_told (λ q. all_after c (with_record h q.0.split) q.1) (faces_after h p ws) (faces_told h p ws) (λ q. all_told c (with_record h q.0.split) q.1)
 
+digits_told : (ws : List ℕ) → reads_or_told (digits_at ws) ≡ true
+unfolding digits_at
+digits_told [] = refl
+digits_told (magic ∷ []) = refl
+digits_told (magic ∷ version ∷ ws) = go (eqb version 1) (eqb version 2) ws
+  where
+    known : (bad : Bool) (d : ℕ) (ws : List ℕ) → reads_or_told (cond {A = Result (ℕ × List ℕ) Stop} bad (Err (stops.Digits d)) (Ok (d, ws))) ≡ true
+    known true d ws = refl
+    known false d ws = refl
+
+    told : (ws : List ℕ) → reads_or_told (told_digits ws) ≡ true
+    told [] = refl
+    told (d ∷ ws) = known (eqb d 0 || ltb 4 d) d ws
+
+    go : (first second : Bool) (ws : List ℕ) → reads_or_told (cond {A = Result (ℕ × List ℕ) Stop} first (Ok (0, ws)) (cond second (told_digits ws) (Err (stops.Version version)))) ≡ true
+    go true second ws = refl
+    go false true ws = told ws
+    go false false ws = refl
+
 header_told : (ws : List ℕ) → reads_or_told (header_at ws) ≡ true
 unfolding header_at
-header_told [] = refl
-header_told (magic ∷ []) = refl
-header_told (magic ∷ version ∷ ws) = go (eqb version 1) (counts_at ws)
-  where
-    go : (known : Bool) (counts : Option (Counts × List ℕ)) → reads_or_told (cond known (whole counts) (Err (stops.Version version))) ≡ true
-    go true counts = whole_told counts
-    go false counts = refl
+header_told ws = then_told (λ (d : ℕ × List ℕ). whole (counts_at d.1)) (digits_at ws) (digits_told ws) (λ d. whole_told (counts_at d.1))
 
 -- Answers
 
@@ -189,6 +203,7 @@ rule_no_memory n shapes.OutOfMemory rule is = absurd cc
 
 told_no_memory : (n : ℕ) (e : Stop) → is_told e ≡ true → named n e ≡ faults.OutOfMemory → ⊥
 told_no_memory n (stops.Version v) told is = absurd cc
+told_no_memory n (stops.Digits d) told is = absurd cc
 told_no_memory n (stops.Fault f) told is = rule_no_memory n f told is
 told_no_memory n stops.End told is = absurd cc
 
@@ -202,6 +217,7 @@ header_no_memory ws e at = go e (subst (λ r. reads_or_told r ≡ true) at (head
     go : (e : Stop) → is_told e ≡ true → ◌≡◌ {A = Stage} (stage_of e) (stages.Refused faults.OutOfMemory) → ⊥
     go stops.End told is = absurd cc
     go (stops.Version v) told is = absurd cc
+    go (stops.Digits d) told is = absurd cc
     go (stops.Fault f) told is = rule_no_memory 0 f told (same_refusal (named 0 (stops.Fault f)) faults.OutOfMemory is)
 
 -- nor a unit,

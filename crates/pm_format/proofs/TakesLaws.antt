@@ -1,8 +1,8 @@
 -- What is read has no fault, and is spelled so.
-use Rattle.std.proofs.Common.{◌≡◌, ℕ, zero, suc, eqb, Bool, true, false, cond, Result, List, [], ◌∷◌, ◌++◌, Option, Some, None, Ok, Err, length, refl, sym, ◌∙◌, ap, subst, arith, append_assoc}
+use Rattle.std.proofs.Common.{◌≡◌, ◌≤◌, ℕ, zero, suc, eqb, ltb, ◌||◌, Bool, true, false, cond, List, [], ◌∷◌, ◌++◌, Option, Some, None, Ok, Err, length, refl, sym, ◌∙◌, ap, subst, arith, append_assoc}
 use Rattle.std.specs.List.{flat_map}
 use Rattle.std.specs.Int.{w32}
-use Rattle.std.proofs.lemmas.Bool.{eqb-true}
+use Rattle.std.proofs.lemmas.Bool.{eqb-true, ne_eqb, ltb-false, or_parts}
 use Rattle.std.proofs.lemmas.Option.{same_Some}
 use Rattle.std.proofs.lemmas.Int.{of_z-to_z}
 use Rattle.std.proofs.lemmas.List.{append-nil}
@@ -11,11 +11,10 @@ use Rattle.pm_forest.specs.declared.parts.Root.{Root}
 use Rattle.pm_forest.specs.declared.parts.Face.{Face}
 use Rattle.pm_forest.specs.declared.parts.Shape.{Shape}
 use Rattle.pm_forest.specs.Rules.{AllFit, root_fault, base_fault}
-use Rattle.pm_format.specs.declared.stop.Stop.{Stop}
 use Rattle.pm_format.specs.declared.stop.Stop.TheVariants as stops
 use Rattle.pm_format.specs.Words.{AreWords}
-use Rattle.pm_format.specs.Stream.{root_words, base_words}
-use Rattle.pm_format.specs.Reading.{root_at, base_at, whole, fitting, units_at, root_after, base_after, counts_at, header_at}
+use Rattle.pm_format.specs.Stream.{root_words, base_words, version_words}
+use Rattle.pm_format.specs.Reading.{root_at, base_at, whole, fitting, units_at, root_after, base_after, counts_at, told_digits, digits_at, digits_in, header_at}
 use Rattle.pm_format.proofs.ReadingLaws.{Reader, same_Ok, then_read_ok, whole_ok, judged_ok}
 
 -- What was read from the front: its words, and the words after it.
@@ -128,8 +127,17 @@ bases_read roots before ws u fit is =
 abbrev pub BeginsWithMagic : List ℕ → Type 0
 BeginsWithMagic ws = (w : ℕ) (rest : List ℕ) → ws ≡ w ∷ rest → w ≡ 1297106006
 
+-- The number of decimals that was read, and the words after it.
+record DigitsTake (ws rest : List ℕ) (digits : ℕ) : Type 0 where
+  few : digits ≤ 4
+  parts : ws ≡ 1297106006 ∷ (version_words digits ++ rest)
+  rest_fits : AreWords rest
+
 pub record HeaderTakes (ws rest : List ℕ) (c : Counts) : Type 0 where
-  pub parts : ws ≡ 1297106006 ∷ 1 ∷ c.leaves ∷ c.roots ∷ c.bases ∷ c.records ∷ rest
+  pub digits : ℕ
+  pub few : digits ≤ 4
+  pub told : digits_in (digits_at ws) ≡ digits
+  pub parts : ws ≡ 1297106006 ∷ (version_words digits ++ c.leaves ∷ c.roots ∷ c.bases ∷ c.records ∷ rest)
   pub rest_fits : AreWords rest
 
 -- the counts that were read
@@ -146,19 +154,50 @@ counts_take (l ∷ []) u fit is = absurd cc
 counts_take (l ∷ r ∷ []) u fit is = absurd cc
 counts_take (l ∷ r ∷ b ∷ []) u fit is = absurd cc
 
-cond_ok : {A : Type 0} (b : Bool) (r s : Result A Stop) (stop : Stop) (y : A) → s ≡ Err stop → cond b r s ≡ Ok y →
-    (b ≡ true) × (r ≡ Ok y)
-cond_ok true r s stop y none is = (refl, is)
-cond_ok false r s stop y none is = absurd (cc (none, is))
+-- The words of version 2.
+pub version_two : (d : ℕ) → version_words (suc d) ≡ 2 ∷ suc d ∷ []
+version_two d = rw (ne_eqb (suc d) 0 (λ e. omega (arith, e))) refl
+
+-- the word that tells the number of decimals
+told_take : (bad : Bool) (d : ℕ) (ws : List ℕ) (u : ℕ × List ℕ) → (eqb d 0 || ltb 4 d) ≡ bad →
+    cond bad (Err (stops.Digits d)) (Ok (d, ws)) ≡ Ok u → AreWords ws →
+    (u.0 ≤ 4) × (2 ∷ d ∷ ws ≡ version_words u.0 ++ u.1) × AreWords u.1
+told_take true d ws u bad is fit = absurd cc
+told_take false zero ws u bad is fit = absurd cc
+told_take false (suc d) ws u bad is fit =
+    let most : suc d ≤ 4 = ltb-false _ _ (or_parts (eqb (suc d) 0) (ltb 4 (suc d)) bad).1 in
+    subst (λ (w : ℕ × List ℕ). (w.0 ≤ 4) × (2 ∷ suc d ∷ ws ≡ version_words w.0 ++ w.1) × AreWords w.1) (same_Ok _ _ is) (most, ap (λ (l : List ℕ). l ++ ws) (sym (version_two d)), fit)
+
+version_take : (first second : Bool) (m v : ℕ) (ws : List ℕ) (u : ℕ × List ℕ) → eqb v 1 ≡ first → eqb v 2 ≡ second → m ≡ 1297106006 →
+    cond first (Ok (0, ws)) (cond second (told_digits ws) (Err (stops.Version v))) ≡ Ok u → AreWords ws → DigitsTake (m ∷ v ∷ ws) u.1 u.0
+version_take true second m v ws u one two at_m is fit =
+    let at_v = eqb-true v 1 one in
+    subst (λ (w : ℕ × List ℕ). DigitsTake (m ∷ v ∷ ws) w.1 w.0) (same_Ok _ _ is)
+    (record { few = omega arith; parts = λ j. at_m j ∷ at_v j ∷ ws; rest_fits = fit })
+version_take false true m v (d ∷ ws) u one two at_m is fit =
+    let at_v = eqb-true v 2 two in
+    let t = told_take (eqb d 0 || ltb 4 d) d ws u refl is fit.1 in
+    record { few = t.0; parts = (λ j. at_m j ∷ at_v j ∷ d ∷ ws) ∙ ap (λ (l : List ℕ). 1297106006 ∷ l) t.1; rest_fits = t.2 }
+version_take false true m v [] u one two at_m is fit = absurd cc
+version_take false false m v ws u one two at_m is fit = absurd cc
+
+digits_take : (ws : List ℕ) (u : ℕ × List ℕ) → BeginsWithMagic ws → AreWords ws → digits_at ws ≡ Ok u → DigitsTake ws u.1 u.0
+unfolding digits_at
+digits_take (m ∷ v ∷ ws) u magic fit is = version_take (eqb v 1) (eqb v 2) m v ws u refl refl (magic m (v ∷ ws) refl) is fit.1.1
+digits_take [] u magic fit is = absurd cc
+digits_take (m ∷ []) u magic fit is = absurd cc
 
 pub header_takes : (ws : List ℕ) (u : Counts × List ℕ) → BeginsWithMagic ws → AreWords ws → header_at ws ≡ Ok u →
     HeaderTakes ws u.1 u.0
 unfolding header_at
-header_takes (m ∷ v ∷ ws) u magic fit is =
-    let g = cond_ok (eqb v 1) (whole (counts_at ws)) (Err (stops.Version v)) (stops.Version v) u refl is in
-    let at_m = magic m (v ∷ ws) refl in
-    let at_v = eqb-true v 1 g.0 in
-    let counts = counts_take ws u fit.1.1 (whole_ok (counts_at ws) u g.1) in
-    record { parts = λ j. at_m j ∷ at_v j ∷ counts.parts j; rest_fits = counts.rest_fits }
-header_takes [] u magic fit is = absurd cc
-header_takes (m ∷ []) u magic fit is = absurd cc
+header_takes ws u magic fit is =
+    then_read_ok (λ (d : ℕ × List ℕ). whole (counts_at d.1)) (digits_at ws) u is (λ d was next.
+    let t = digits_take ws d magic fit was in
+    let counts = counts_take d.1 u t.rest_fits (whole_ok (counts_at d.1) u next) in
+    record {
+      digits = d.0;
+      few = t.few;
+      told = ap digits_in was;
+      parts = t.parts ∙ ap (λ (l : List ℕ). 1297106006 ∷ (version_words d.0 ++ l)) counts.parts;
+      rest_fits = counts.rest_fits;
+    })

@@ -1,8 +1,8 @@
 -- A text in bytes, and the hierarchy that its words spell.
-use Rattle.std.proofs.Common.{◌≡◌, ℕ, ◌+◌, ◌-◌, ◌*◌, ◌≤◌, eqb, ltb, Bool, true, false, cond, ◌&&◌, ◌||◌, not, List, [], ◌∷◌, ◌++◌, Some, None, Result, Ok, Err, length, sum, take, drop, get_or, refl, sym, ◌∙◌, ap, subst, arith, append_assoc, length-append}
+use Rattle.std.proofs.Common.{◌≡◌, ℕ, zero, suc, ◌+◌, ◌-◌, ◌*◌, ◌≤◌, eqb, ltb, Bool, true, false, cond, ◌&&◌, ◌||◌, not, List, [], ◌∷◌, ◌++◌, Some, None, Result, Ok, Err, length, sum, take, drop, get_or, refl, sym, ◌∙◌, ap, subst, arith, append_assoc, length-append}
 use Rattle.std.specs.List.{flat_map}
 use Rattle.std.specs.Cmp.Lexicographic.{same_text}
-use Rattle.std.proofs.lemmas.Bool.{eqb-true, or_parts, eq-eqb, not-false}
+use Rattle.std.proofs.lemmas.Bool.{eqb-true, or_parts, eq-eqb, not-false, le-ltb, ne_eqb}
 use Rattle.std.proofs.lemmas.List.{take_at, append-nil, append_cancel_left, take-append-drop}
 use Rattle.pm_base.specs.Place.{is_place}
 use Rattle.pm_forest.specs.declared.parts.Counts.{Counts}
@@ -16,13 +16,13 @@ use Rattle.pm_forest.proofs.OwnerLaws.{sum-cons}
 use Rattle.pm_format.specs.declared.fault.FormatError.TheVariants as faults
 use Rattle.pm_format.specs.declared.stop.Stop.{Stop}
 use Rattle.pm_format.specs.Words.{words_of, spelled, AreWords, IsBytes}
-use Rattle.pm_format.specs.Stream.{root_words, base_words, record_words, stream_words, stream}
-use Rattle.pm_format.specs.Reading.{root_after, base_after, record_after_all, units_at, header_at, rest_at, forest_at}
-use Rattle.pm_format.specs.Faults.{magic_is_bad, fault_in, stream_fault}
-use Rattle.pm_format.specs.Laws.{OneSpelling, NoPrefix, WholeTextsHaveNoFault, WhatHasNoFaultIsWhole}
+use Rattle.pm_format.specs.Stream.{root_words, base_words, record_words, version_words, count_words, stream_words, stream}
+use Rattle.pm_format.specs.Reading.{root_after, base_after, record_after_all, units_at, digits_at, digits_in, header_at, rest_at, forest_at}
+use Rattle.pm_format.specs.Faults.{magic_is_bad, fault_in, stream_fault, stream_digits}
+use Rattle.pm_format.specs.Laws.{OneSpelling, NoPrefix, WholeTextsHaveNoFault, WhatHasNoFaultIsWhole, TextsTellTheirDigits}
 use Rattle.pm_format.proofs.ReadingLaws.{same_Ok, then_read_ok, judged_ok}
 use Rattle.pm_format.proofs.WordLaws.{words_again, words_take, text_words, length-words_of, length-spelled}
-use Rattle.pm_format.proofs.TakesLaws.{BeginsWithMagic, Takes, takes_both, units_take, roots_read, bases_read, header_takes}
+use Rattle.pm_format.proofs.TakesLaws.{BeginsWithMagic, Takes, takes_both, units_take, roots_read, bases_read, header_takes, version_two}
 use Rattle.pm_format.proofs.RecordTakes.{records_read}
 use Rattle.pm_format.proofs.AgainLaws.{units_again, roots_again, bases_again, records_again}
 use Rattle.pm_format.proofs.WordFits.{stream_is_words}
@@ -76,8 +76,18 @@ unit_words roots bases records =
 
 -- What was read is a hierarchy of the right shape, and its words.
 pub record ForestTakes (ws : List ℕ) (h : Hierarchy) (rest : List ℕ) : Type 0 where
+  pub digits : ℕ
+  pub few : digits ≤ 4
+  pub told : digits_in (digits_at ws) ≡ digits
   pub shape : HasShape h
-  pub takes : Takes ws (stream_words h) rest
+  pub takes : Takes ws (stream_words digits h) rest
+
+-- The words of a text, part by part.
+spread : (d : ℕ) (h : Hierarchy) (units rest : List ℕ) →
+    (1297106006 ∷ (version_words d ++ count_words h) ++ units) ++ rest ≡ 1297106006 ∷ (version_words d ++ (count_words h ++ (units ++ rest)))
+spread d h units rest =
+    ap (λ (l : List ℕ). 1297106006 ∷ l)
+    (append_assoc (version_words d ++ count_words h) units rest ∙ append_assoc (version_words d) (count_words h) (units ++ rest))
 
 pub forest_takes : (ws : List ℕ) (h : Hierarchy) (rest : List ℕ) → BeginsWithMagic ws → AreWords ws →
     forest_at ws ≡ Ok (h, rest) → ForestTakes ws h rest
@@ -116,6 +126,9 @@ forest_takes ws h rest magic fit is =
     let tail : c.1 ≡ unit_words h.roots h.bases h.records ++ rest =
     all.parts ∙ (λ j. unit_words (same_roots j) (same_bases j) (same_records j) ++ is_rest j) in
     record {
+      digits = head.digits;
+      few = head.few;
+      told = head.told;
       shape = record {
         counts = subst (λ v. counts_are_bad v ≡ false) counts good.0;
         roots = subst (λ (v : Counts × List Root). AllFit (root_fault v.0) [] v.1) (λ j. (counts j, same_roots j)) rs.fits;
@@ -124,15 +137,30 @@ forest_takes ws h rest magic fit is =
         inputs = subst (λ (v : Hierarchy). past_fault v ≡ None) is_h judgement.0;
       };
       takes = record {
-        parts = head.parts ∙ (λ j. 1297106006 ∷ 1 ∷ leaves j ∷ root_count j ∷ base_count j ∷ count j ∷ tail j);
+        parts = head.parts ∙ (λ j. 1297106006 ∷ (version_words head.digits ++ leaves j ∷ root_count j ∷ base_count j ∷ count j ∷ tail j))
+            ∙ sym (spread head.digits h (unit_words h.roots h.bases h.records) rest);
         rest_fits = subst AreWords is_rest all.rest_fits;
       };
     }))))
 
-pub forest_again : (h : Hierarchy) (rest : List ℕ) → HasShape h →
-    forest_at (stream_words h ++ rest) ≡ Ok (h, rest)
+-- The number of decimals is read again.
+digits_again : (d : ℕ) (ws : List ℕ) → d ≤ 4 → digits_at (1297106006 ∷ (version_words d ++ ws)) ≡ Ok (d, ws)
+unfolding digits_at
+digits_again zero ws few = refl
+digits_again (suc d) ws few =
+    let most : ltb 4 (suc d) ≡ false = le-ltb 4 (suc d) few in
+    rw (version_two d, ne_eqb (suc d) 0 (λ e. omega (arith, e)), most) refl
+
+pub digits_of_words : (d : ℕ) (h : Hierarchy) → d ≤ 4 → digits_in (digits_at (stream_words d h)) ≡ d
+digits_of_words d h few =
+    let units = flat_map root_words h.roots ++ (flat_map base_words h.bases ++ flat_map record_words h.records) in
+    ap (λ (l : List ℕ). digits_in (digits_at (1297106006 ∷ l))) (append_assoc (version_words d) (count_words h) units)
+    ∙ ap digits_in (digits_again d (count_words h ++ units) few)
+
+pub forest_again : (d : ℕ) (h : Hierarchy) (rest : List ℕ) → d ≤ 4 → HasShape h →
+    forest_at (stream_words d h ++ rest) ≡ Ok (h, rest)
 unfolding forest_at rest_at header_at
-forest_again h rest shape =
+forest_again d h rest few shape =
     let c = counts_of h in
     let root_part = flat_map root_words h.roots in
     let base_part = flat_map base_words h.bases in
@@ -146,7 +174,8 @@ forest_again h rest shape =
     let fault = record_fault_after h.roots h.bases in
     let read_record = records_again h.roots h.bases in
     let records = units_again fault record_words (record_after_all h.roots h.bases) read_record [] h.records rest shape.records in
-    rw (shape.counts, apart, roots, bases, records, shape.inputs) refl
+    let told = digits_again d (count_words h ++ ((root_part ++ (base_part ++ record_part)) ++ rest)) few in
+    rw (spread d h (root_part ++ (base_part ++ record_part)) rest, told, shape.counts, apart, roots, bases, records, shape.inputs) refl
 
 -- with good counts all is what follows the header
 pub forest_is : (ws : List ℕ) (c : Counts) (rest : List ℕ) → header_at ws ≡ Ok (c, rest) →
@@ -169,50 +198,64 @@ magic_first (a ∷ b ∷ c ∷ []) good w rest is = absurd cc
 
 pub record Begins (bytes : List ℕ) (h : Hierarchy) (used : ℕ) : Type 0 where
   pub within : used ≤ length bytes
-  pub text : take used bytes ≡ stream h
+  pub text : take used bytes ≡ stream (digits_in (digits_at (words_of bytes))) h
+  pub few : digits_in (digits_at (words_of bytes)) ≤ 4
 
 pub begins : (bytes : List ℕ) (h : Hierarchy) (rest : List ℕ) (used : ℕ) → IsBytes bytes →
-    magic_is_bad bytes ≡ false → forest_at (words_of bytes) ≡ Ok (h, rest) → used ≡ length (stream h) →
+    magic_is_bad bytes ≡ false → forest_at (words_of bytes) ≡ Ok (h, rest) → used ≡ length (stream (digits_in (digits_at (words_of bytes))) h) →
     Begins bytes h used
 unfolding stream
 begins bytes h rest used fit magic read is =
-    let t = (forest_takes (words_of bytes) h rest (magic_first bytes magic) (text_words bytes fit) read).takes in
-    let k = length (stream_words h) in
-    let len : used ≡ 4 * k = is ∙ length-spelled (stream_words h) in
-    let enough : k ≤ length (words_of bytes) = omega (arith, ap length t.parts, length-append (stream_words h) rest) in
-    let front : take k (words_of bytes) ≡ stream_words h =
-    ap (λ (l : List ℕ). take k l) t.parts ∙ take_at (stream_words h) rest k refl in
+    let f = forest_takes (words_of bytes) h rest (magic_first bytes magic) (text_words bytes fit) read in
+    let t = f.takes in
+    let d = digits_in (digits_at (words_of bytes)) in
+    let ws : stream_words f.digits h ≡ stream_words d h = ap (λ (e : ℕ). stream_words e h) (sym f.told) in
+    let parts : words_of bytes ≡ stream_words d h ++ rest = t.parts ∙ ap (λ (l : List ℕ). l ++ rest) ws in
+    let k = length (stream_words d h) in
+    let len : used ≡ 4 * k = is ∙ length-spelled (stream_words d h) in
+    let enough : k ≤ length (words_of bytes) = omega (arith, ap length parts, length-append (stream_words d h) rest) in
+    let front : take k (words_of bytes) ≡ stream_words d h =
+    ap (λ (l : List ℕ). take k l) parts ∙ take_at (stream_words d h) rest k refl in
     record {
       within = omega (arith, length-words_of bytes);
       text = ap (λ (n : ℕ). take n bytes) len ∙ words_take bytes k fit enough ∙ ap spelled front;
+      few = subst (λ (e : ℕ). e ≤ 4) (sym f.told) f.few;
     }
 
-pub text_again : (h : Hierarchy) (rest : List ℕ) → HasShape h →
-    forest_at (words_of (stream h ++ rest)) ≡ Ok (h, words_of rest)
+pub text_again : (d : ℕ) (h : Hierarchy) (rest : List ℕ) → d ≤ 4 → HasShape h →
+    forest_at (words_of (stream d h ++ rest)) ≡ Ok (h, words_of rest)
 unfolding stream
-text_again h rest shape =
-    ap forest_at (words_again (stream_words h) rest (stream_is_words h shape)) ∙ forest_again h (words_of rest) shape
+text_again d h rest few shape =
+    ap forest_at (words_again (stream_words d h) rest (stream_is_words d h few shape)) ∙ forest_again d h (words_of rest) few shape
 
-magic_again : (h : Hierarchy) (rest : List ℕ) → magic_is_bad (stream h ++ rest) ≡ false
+magic_again : (d : ℕ) (h : Hierarchy) (rest : List ℕ) → magic_is_bad (stream d h ++ rest) ≡ false
 unfolding magic_is_bad stream spelled
-magic_again h rest = refl
+magic_again d h rest = refl
+
+pub digits_told : TextsTellTheirDigits
+unfolding stream_digits stream
+digits_told d h rest few shape =
+    let units = flat_map root_words h.roots ++ (flat_map base_words h.bases ++ flat_map record_words h.records) in
+    ap (λ (l : List ℕ). digits_in (digits_at l)) (words_again (stream_words d h) rest (stream_is_words d h few shape) ∙ spread d h units (words_of rest))
+    ∙ ap digits_in (digits_again d (count_words h ++ (units ++ words_of rest)) few)
 
 pub one_text : OneSpelling
-one_text h g rest more h_shape g_shape is =
-    let same = sym (text_again h rest h_shape) ∙ ap (λ l. forest_at (words_of l)) is ∙ text_again g more g_shape in
-    ap (λ (v : Hierarchy × List ℕ). v.0) (same_Ok _ _ same)
+one_text d e h g rest more d_few e_few h_shape g_shape is =
+    let same = sym (text_again d h rest d_few h_shape) ∙ ap (λ l. forest_at (words_of l)) is ∙ text_again e g more e_few g_shape in
+    let told = sym (digits_told d h rest d_few h_shape) ∙ ap stream_digits is ∙ digits_told e g more e_few g_shape in
+    (ap (λ (v : Hierarchy × List ℕ). v.0) (same_Ok _ _ same), told)
 
 pub no_longer : NoPrefix
-no_longer h g rest h_shape g_shape is =
-    let whole : stream h ++ rest ≡ stream g ++ [] = is ∙ sym (append-nil (stream g)) in
-    let same = one_text h g rest [] h_shape g_shape whole in
-    append_cancel_left (stream h) rest [] (whole ∙ ap (λ q. stream q ++ []) (sym same))
+no_longer d e h g rest d_few e_few h_shape g_shape is =
+    let whole : stream d h ++ rest ≡ stream e g ++ [] = is ∙ sym (append-nil (stream e g)) in
+    let same = one_text d e h g rest [] d_few e_few h_shape g_shape whole in
+    append_cancel_left (stream d h) rest [] (whole ∙ (λ j. stream (sym same.1 j) (sym same.0 j) ++ []))
 
 -- Faults
 
 pub whole_text : WholeTextsHaveNoFault
 unfolding stream_fault
-whole_text h rest shape = rw (magic_again h rest, text_again h rest shape) refl
+whole_text d h rest few shape = rw (magic_again d h rest, text_again d h rest few shape) refl
 
 pub no_fault : {A : Type 0} (count : ℕ) (r : Result A Stop) → fault_in count r ≡ None → (x : A) × (r ≡ Ok x)
 no_fault count (Ok x) is = (x, refl)
@@ -224,12 +267,15 @@ what_is_whole bytes fit none =
     let (good, read) = passed (magic_is_bad bytes) _ _ none in
     let (u, is) = no_fault (length bytes) (forest_at (words_of bytes)) read in
     let t = forest_takes (words_of bytes) u.0 u.1 (magic_first bytes good) (text_words bytes fit) is in
-    let b = begins bytes u.0 u.1 (length (stream u.0)) fit good is refl in
+    let d = digits_in (digits_at (words_of bytes)) in
+    let b = begins bytes u.0 u.1 (length (stream d u.0)) fit good is refl in
     record {
+      digits = d;
       h = u.0;
-      rest = drop (length (stream u.0)) bytes;
+      rest = drop (length (stream d u.0)) bytes;
+      few = b.few;
       shape = t.shape;
-      text = sym (take-append-drop (length (stream u.0)) bytes) ∙ ap (λ l. l ++ drop (length (stream u.0)) bytes) b.text;
+      text = sym (take-append-drop (length (stream d u.0)) bytes) ∙ ap (λ l. l ++ drop (length (stream d u.0)) bytes) b.text;
     }
 
 pub bad_magic : (bytes : List ℕ) → magic_is_bad bytes ≡ true → stream_fault bytes ≡ Some faults.BadMagic

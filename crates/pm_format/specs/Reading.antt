@@ -1,6 +1,6 @@
 -- Reading a hierarchy from words, unit by unit: what was read and the words after it, or why reading stops there. Each
 -- unit is judged by those before it, as soon as all its words are there.
-use Rattle.std.specs.Prelude.{ℕ, ℤ, zero, suc, ◌==◌, List, [], ◌∷◌, ◌++◌, Option, Some, None, Result, Ok, Err, Bool, if◌then◌else◌}
+use Rattle.std.specs.Prelude.{ℕ, ℤ, zero, suc, ◌==◌, ◌||◌, nat_lt, List, [], ◌∷◌, ◌++◌, Option, Some, None, Result, Ok, Err, Bool, if◌then◌else◌}
 use Rattle.std.specs.Int.{w32, cast_signed}
 use Rattle.pm_forest.specs.declared.parts.Counts.{Counts}
 use Rattle.pm_forest.specs.declared.parts.Root.{Root}
@@ -103,10 +103,24 @@ abbrev pub counts_at : List ℕ → Option (Counts × List ℕ)
 counts_at (l ∷ r ∷ b ∷ n ∷ ws) = Some (record { leaves = l; roots = r; bases = b; records = n }, ws)
 counts_at _ = None
 
--- The version is judged before the counts. The first word is the magic, which is judged by its bytes.
+-- The word of version 2 that tells how many decimals coordinates have, from 1 to 4.
+abbrev pub told_digits : List ℕ → Result (ℕ × List ℕ) Stop
+told_digits (d ∷ ws) = if d == 0 || nat_lt 4 d then Err (stops.Digits d) else Ok (d, ws)
+told_digits [] = Err stops.End
+
+-- How many decimals coordinates have. The first word is the magic, which is judged by its bytes.
+unfoldable pub digits_at : List ℕ → Result (ℕ × List ℕ) Stop
+digits_at (magic ∷ version ∷ ws) = if version == 1 then Ok (0, ws) else if version == 2 then told_digits ws else Err (stops.Version version)
+digits_at _ = Err stops.End
+
+-- The version, and in version 2 the number of decimals, is judged before the counts.
 unfoldable pub header_at : List ℕ → Result (Counts × List ℕ) Stop
-header_at (magic ∷ version ∷ ws) = if version == 1 then whole (counts_at ws) else Err (stops.Version version)
-header_at _ = Err stops.End
+header_at ws = then_read (λ d. whole (counts_at d.1)) (digits_at ws)
+
+-- The number of decimals that a text tells, where it tells one.
+abbrev pub digits_in : Result (ℕ × List ℕ) Stop → ℕ
+digits_in (Ok d) = d.0
+digits_in (Err stop) = 0
 
 -- All the units after a header.
 unfoldable pub rest_at : Counts → List ℕ → Result (Hierarchy × List ℕ) Stop

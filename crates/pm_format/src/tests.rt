@@ -1,5 +1,4 @@
-use crate::{FormatError, OutOfMemory, StreamFail, encode, read_stream, stream_len};
-use pm_forest::Hierarchy;
+use crate::{FormatError, OutOfMemory, Stream, StreamFail, encode, read_stream, stream_len};
 use pm_io::{MemSink, MemSource, Taker};
 use std::alloc::Global;
 use std::test::Fail;
@@ -39,6 +38,15 @@ const SQUARE: [i32; 42] = [
     2, 3, 1, 1, 0, 1, //
 ];
 
+// A triangle with two decimals: three roots and one base face.
+const TRIANGLE: [i32; 26] = [
+    MAGIC, 2, 2, 3, 3, 1, 0, // two decimals, and counts
+    150, 0, 0, 1, 1, // roots
+    0, -25, 0, 1, 2, //
+    0, 0, 300, 1, 3, //
+    0, 1, 2, 1, // a base face
+];
+
 // The bytes of these words, the lowest first.
 fn bytes_of(alloc: Global, words: &[i32]) -> Result<Vec<u8>, OutOfMemory> {
     let mut bytes = Vec::new(alloc);
@@ -55,13 +63,13 @@ fn read(
     bytes: &[u8],
     step: usize,
     fails: &[u32],
-) -> Result<(Hierarchy, Option<usize>), StreamFail> {
+) -> Result<(Stream, Option<usize>), StreamFail> {
     let wanting = |_| StreamFail::Fault(FormatError::OutOfMemory);
     let mut source = MemSource::new(alloc, bytes, step.max(1), fails).map_err(wanting)?;
     let mut taker = Taker::new(alloc).map_err(wanting)?;
-    let h = read_stream(alloc, &mut taker, &mut source)?;
+    let stream = read_stream(alloc, &mut taker, &mut source)?;
     let next = taker.piece(&mut source).ok().map(|piece| piece.len());
-    Ok((h, next))
+    Ok((stream, next))
 }
 
 // The fault of the text that the bytes begin with, where pieces of each size give the same.
@@ -98,20 +106,23 @@ const DAMAGED: [(usize, i32, FormatError); 11] = [
 #[test]
 fn reads_and_writes_the_text_that_bytes_begin_with(rt: HostRuntime) -> Result<(), Fail> {
     let alloc = rt.alloc();
-    for (words, size, records, faces) in [
-        (OCTAHEDRON.as_slice(), 352, 2, 8),
-        (SQUARE.as_slice(), 168, 1, 2),
+    for (words, size, digits, records, faces) in [
+        (OCTAHEDRON.as_slice(), 352, 0, 2, 8),
+        (SQUARE.as_slice(), 168, 0, 1, 2),
+        (TRIANGLE.as_slice(), 104, 2, 0, 1),
     ] {
         let mut bytes = bytes_of(alloc, words)?;
         for after in 0..2 {
             for step in STEPS {
-                let (h, next) = read(alloc, &bytes, step, &[]).expect(&rt, "a stream");
+                let (stream, next) = read(alloc, &bytes, step, &[]).expect(&rt, "a stream");
+                let h = &stream.h;
                 assert_eq!(rt; next, Some(after));
+                assert_eq!(rt; stream.digits, digits);
                 assert_eq!(rt; h.records(), records);
                 assert_eq!(rt; h.faces(), faces);
-                assert_eq!(rt; stream_len(&h), size as u64);
+                assert_eq!(rt; stream_len(h, digits), size as u64);
                 let mut sink = MemSink::new(alloc, size, 7, &[])?;
-                assert!(rt; encode(&h, &mut sink).is_ok());
+                assert!(rt; encode(h, digits, &mut sink).is_ok());
                 assert_eq!(rt; sink.bytes().len(), size);
                 assert!(rt; bytes.starts_with(sink.bytes()), "the text of {size} bytes");
             }
@@ -169,9 +180,12 @@ fn judges_a_unit_when_its_last_byte_is_there(rt: HostRuntime) -> Result<(), Fail
         (b"".as_slice(), FormatError::Truncated(0)),
         (b"VDP", FormatError::Truncated(3)),
         (b"VDX", FormatError::BadMagic),
-        (b"VDPX\x02\0\0\0", FormatError::BadMagic),
-        (b"VDPM\x02\0\0", FormatError::Truncated(7)),
-        (b"VDPM\x02\0\0\0", FormatError::BadVersion(2)),
+        (b"VDPX\x03\0\0\0", FormatError::BadMagic),
+        (b"VDPM\x03\0\0", FormatError::Truncated(7)),
+        (b"VDPM\x03\0\0\0", FormatError::BadVersion(3)),
+        (b"VDPM\x02\0\0\0\0\0\0", FormatError::Truncated(11)),
+        (b"VDPM\x02\0\0\0\0\0\0\0", FormatError::BadDigits(0)),
+        (b"VDPM\x02\0\0\0\x05\0\0\0", FormatError::BadDigits(5)),
     ] {
         assert_eq!(rt; fault_of(alloc, bytes), Some(fault));
     }

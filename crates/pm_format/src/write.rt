@@ -8,7 +8,7 @@ ghost use Rattle.pm_forest.specs.Rules.{word_of};
 ghost use Rattle.pm_format.specs.Words.{spelled, AreWords};
 ghost use Rattle.pm_format.specs.Stream.{header_words, root_words, base_words, head_words, new_face_words, record_words, stream};
 
-use crate::units::{MAGIC, VERSION};
+use crate::units::{MAGIC, WHOLE, WITH_DIGITS};
 use byteorder::{ByteOrder, LittleEndian};
 use pm_base::Side;
 use pm_forest::{Face, Hierarchy, NewFace, Record, Root};
@@ -39,12 +39,20 @@ fn word_of(side: Option<Side>) -> u32
     }
 }
 
-fn header_words(h: &Hierarchy) -> [u32; 6]
-    ensures { result ≡ header_words h.now }
+fn whole_header(h: &Hierarchy) -> [u32; 6]
+    ensures { result ≡ header_words 0 h.now }
+{
+    [MAGIC, WHOLE, h.leaves(), h.roots(), h.bases(), h.records()]
+}
+
+fn header_with_digits(h: &Hierarchy, digits: u32) -> [u32; 7]
+    requires { 0 < digits }
+    ensures { result ≡ header_words digits h.now }
 {
     [
         MAGIC,
-        VERSION,
+        WITH_DIGITS,
+        digits,
         h.leaves(),
         h.roots(),
         h.bases(),
@@ -107,12 +115,21 @@ fn new_face_words(new: &NewFace) -> [u32; 6]
     ]
 }
 
-fn put_header<K: Sink>(h: &Hierarchy, page: &mut Page, out: &mut K) -> Result<(), WriteFault>
-    ensures ok { OnOk result (GainsThrough (K.got out.old) (K.got out.new) page.old page.new (spelled (header_words h.now))) }
-    ensures err { OnErr result (GainsPart (K.got out.old) (K.got out.new) (page.old ++ spelled (header_words h.now))) }
+fn put_header<K: Sink>(
+    h: &Hierarchy,
+    digits: u32,
+    page: &mut Page,
+    out: &mut K,
+) -> Result<(), WriteFault>
+    ensures ok { OnOk result (GainsThrough (K.got out.old) (K.got out.new) page.old page.new (spelled (header_words digits h.now))) }
+    ensures err { OnErr result (GainsPart (K.got out.old) (K.got out.new) (page.old ++ spelled (header_words digits h.now))) }
     ensures cause { HasCause (K.faults out.old) (K.faults out.new) result }
 {
-    put_words(&header_words(h), page, out)
+    if digits == 0 {
+        put_words(&whole_header(h), page, out)
+    } else {
+        put_words(&header_with_digits(h, digits), page, out)
+    }
 }
 
 // Puts a new face where there is one.
@@ -202,16 +219,17 @@ fn put_records<K: Sink>(h: &Hierarchy, page: &mut Page, out: &mut K) -> Result<(
     Ok(())
 }
 
-/// Writes the stream text of a hierarchy. After a fault the sink has gained a part of the text from its front, and not
-/// the whole. It takes no memory, and time linear in the text. The text is put in pages of 4,096 bytes, of
-/// which the last may be shorter.
-pub fn encode<K: Sink>(h: &Hierarchy, out: &mut K) -> Result<(), WriteFault>
-    ensures ok { OnOk result (Gains (K.got out.old) (K.got out.new) (stream h.now)) }
-    ensures err { OnErr result (GainsPart (K.got out.old) (K.got out.new) (stream h.now)) }
+/// Writes the stream text of a hierarchy whose coordinates have so many decimals, at most four. After a fault the sink has
+/// gained a part of the text from its front, and not the whole. It takes no memory, and time linear in the text. The text
+/// is put in pages of 4,096 bytes, of which the last may be shorter.
+pub fn encode<K: Sink>(h: &Hierarchy, digits: u32, out: &mut K) -> Result<(), WriteFault>
+    requires { digits ≤ 4 }
+    ensures ok { OnOk result (Gains (K.got out.old) (K.got out.new) (stream digits h.now)) }
+    ensures err { OnErr result (GainsPart (K.got out.old) (K.got out.new) (stream digits h.now)) }
     ensures cause { HasCause (K.faults out.old) (K.faults out.new) result }
 {
     let mut page = Page::new();
-    if let Err(fault) = put_header(h, &mut page, out) {
+    if let Err(fault) = put_header(h, digits, &mut page, out) {
         return Err(fault);
     }
     if let Err(fault) = put_roots(h, &mut page, out) {
