@@ -1,5 +1,5 @@
 -- A script keeps the split records closed, and what is built shows an oriented manifold at every closed set.
-use Rattle.std.proofs.Common.{◌≡◌, ℕ, ◌+◌, ◌<◌, Bool, true, false, cond, if◌then◌else◌, ltb, List, [], ◌∷◌, ◌++◌, length, Option, Some, None, Ok, IfSome, refl}
+use Rattle.std.proofs.Common.{◌≡◌, ℕ, ◌+◌, ◌<◌, ◌≤◌, Bool, true, false, cond, if◌then◌else◌, ltb, List, [], ◌∷◌, ◌++◌, length, Option, Some, None, Ok, IfSome, refl}
 use Rattle.std.specs.Prelude.{is_none}
 use Rattle.std.proofs.lemmas.Bool.{ltb-true, false≢true}
 use Rattle.pm_io.specs.Bytes.{Gains}
@@ -108,17 +108,17 @@ scripts_closed h sound b T closed script = lines_closed h sound b (record { byte
 none_closed : (h : Hierarchy) → IsClosed h no_records
 none_closed h j k l t needs = absurd (false≢true t)
 
-pub shows_surfaces : (target : ℕ) (left old new : Option (List ℕ)) (h : Hierarchy) → IfSome left (λ bytes. IsBuilt target bytes (Ok h) None) → IsFirm h → Gains old new (stream h)
-    → IfSome left (λ bytes. ShowsSurfaces target bytes old new)
-shows_surfaces target None old new h built firm gained = tt
-shows_surfaces target (Some bytes) old new h built firm gained = record {
+pub shows_surfaces : (target digits : ℕ) (left old new : Option (List ℕ)) (h : Hierarchy) → IfSome left (λ bytes. IsBuilt target digits bytes (Ok h) None) → digits ≤ 4 → IsFirm h → Gains old new (stream digits h)
+    → IfSome left (λ bytes. ShowsSurfaces target digits bytes old new)
+shows_surfaces target digits None old new h built few firm gained = tt
+shows_surfaces target digits (Some bytes) old new h built few firm gained = record {
   h = h;
   built = built;
   gained = gained;
   views = λ budget script.
-      let o : Opening = record { h = h; rest = script } in
-      let place : Option ℕ = Some (length (stream h)) in
-      record { read = Ok o; place = place; is = valid o place (begins h script firm.valid.shape refl) firm.valid; done = refl };
+      let o : Opening = record { digits = digits; h = h; rest = script } in
+      let place : Option ℕ = Some (length (stream digits h)) in
+      record { read = Ok o; place = place; is = valid o place (begins digits h script few firm.valid.shape refl) firm.valid; done = refl };
   frames = λ budget front. (firm_fronts h firm (played h budget no_records front).split (scripts_closed h firm.valid budget no_records (none_closed h) front)).manifold;
   fronts = λ T closed. (firm_fronts h firm T closed).manifold;
 }

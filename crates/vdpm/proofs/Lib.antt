@@ -1,3 +1,4 @@
+pub mod WordLaws
 pub mod SurfaceLaws
 pub mod OpeningLaws
 pub mod ReadingLaws

@@ -1,5 +1,5 @@
 -- What bytes give that should begin with a stream text.
-use Rattle.std.proofs.Common.{◌≡◌, ◌≢◌, inl, inr, ℕ, ◌+◌, ◌<◌, true, false, List, [], ◌++◌, length, take, drop, Option, Some, None, Result, Ok, Err, refl, sym, ◌∙◌, ap, subst, arith}
+use Rattle.std.proofs.Common.{◌≡◌, ◌≢◌, inl, inr, ℕ, ◌+◌, ◌<◌, ◌≤◌, true, false, List, [], ◌++◌, length, take, drop, Option, Some, None, Result, Ok, Err, refl, sym, ◌∙◌, ap, subst, arith}
 use Rattle.std.proofs.lemmas.Bool.{cases_lt}
 use Rattle.std.proofs.lemmas.List.{append_cancel_left, take-append-drop}
 use Rattle.pm_base.specs.Sides.{net_of}
@@ -39,9 +39,9 @@ cut_or_decided bytes n k cut at =
 
 -- Bytes give one opening, or are refused for one fault.
 
-fault_or_text : (bytes : List ℕ) (e : FormatError) (h : Hierarchy) (rest : List ℕ) → stream_fault bytes ≡ Some e → HasShape h → bytes ≡ stream h ++ rest → ⊥
-fault_or_text bytes e h rest fault shape is =
-    let none : stream_fault bytes ≡ None = ap stream_fault is ∙ whole_text h rest shape in
+fault_or_text : (bytes : List ℕ) (e : FormatError) (d : ℕ) (h : Hierarchy) (rest : List ℕ) → stream_fault bytes ≡ Some e → d ≤ 4 → HasShape h → bytes ≡ stream d h ++ rest → ⊥
+fault_or_text bytes e d h rest fault few shape is =
+    let none : stream_fault bytes ≡ None = ap stream_fault is ∙ whole_text d h rest few shape in
     absurd (cc)
 
 pub one_opening : (bytes : List ℕ) {a b : Result Opening Fault} {i j : Option ℕ} → IsOpening bytes a i → IsOpening bytes b j → (a ≡ b) × (i ≡ j)
@@ -49,39 +49,41 @@ one_opening bytes (bad_unit e n fault at) (bad_unit o m other stands) =
     let same : e ≡ o = cc in
     (ap (λ (x : FormatError). Err (faults.Stream x)) same, ap (λ (k : ℕ). Some k) (one_place bytes n m at stands))
 one_opening bytes (bad_unit e n fault at) (cut_off cut) = absurd (cut_or_decided bytes n (length bytes) cut at)
-one_opening bytes (bad_unit e n fault at) (begins h rest shape is) = absurd (fault_or_text bytes e h rest fault shape is)
+one_opening bytes (bad_unit e n fault at) (begins d h rest few shape is) = absurd (fault_or_text bytes e d h rest fault few shape is)
 one_opening bytes (cut_off cut) (bad_unit e n fault at) = absurd (cut_or_decided bytes n (length bytes) cut at)
 one_opening bytes (cut_off cut) (cut_off other) = (refl, refl)
-one_opening bytes (cut_off cut) (begins h rest shape is) = absurd (fault_or_text bytes (format.Truncated (length bytes)) h rest cut shape is)
-one_opening bytes (begins h rest shape is) (bad_unit e n fault at) = absurd (fault_or_text bytes e h rest fault shape is)
-one_opening bytes (begins h rest shape is) (cut_off cut) = absurd (fault_or_text bytes (format.Truncated (length bytes)) h rest cut shape is)
-one_opening bytes (begins h rest shape is) (begins g more fits are) =
-    let same : h ≡ g = one_text h g rest more shape fits (sym is ∙ are) in
-    let both : stream h ++ rest ≡ stream h ++ more = sym is ∙ are ∙ ap (λ (f : Hierarchy). stream f ++ more) (sym same) in
-    let tail : rest ≡ more = append_cancel_left (stream h) rest more both in
-    (ap (λ (f : Hierarchy). Ok (record { h = f; rest = rest })) same ∙ ap (λ (l : List ℕ). Ok (record { h = g; rest = l })) tail, ap (λ (f : Hierarchy). Some (length (stream f))) same)
+one_opening bytes (cut_off cut) (begins d h rest few shape is) = absurd (fault_or_text bytes (format.Truncated (length bytes)) d h rest cut few shape is)
+one_opening bytes (begins d h rest few shape is) (bad_unit e n fault at) = absurd (fault_or_text bytes e d h rest fault few shape is)
+one_opening bytes (begins d h rest few shape is) (cut_off cut) = absurd (fault_or_text bytes (format.Truncated (length bytes)) d h rest cut few shape is)
+one_opening bytes (begins d h rest few shape is) (begins e g more small fits are) =
+    let one = one_text d e h g rest more few small shape fits (sym is ∙ are) in
+    let same : h ≡ g = one.0 in
+    let told : d ≡ e = one.1 in
+    let both : stream d h ++ rest ≡ stream d h ++ more = sym is ∙ are ∙ (λ j. stream (sym told j) (sym same j) ++ more) in
+    let tail : rest ≡ more = append_cancel_left (stream d h) rest more both in
+    (λ j. Ok (record { digits = told j; h = same j; rest = tail j }), λ j. Some (length (stream (told j) (same j))))
 
 -- An opening has a hierarchy of the right shape, and the last byte of its text decides it.
 pub opening_shape : (bytes : List ℕ) (r : Result Opening Fault) (place : Option ℕ) (o : Opening) → r ≡ Ok o → IsOpening bytes r place → HasShape o.h
 opening_shape bytes r place o is (bad_unit e n fault at) = absurd (cc)
 opening_shape bytes r place o is (cut_off cut) = absurd (cc)
-opening_shape bytes r place o is (begins h rest shape text) =
-    let same : record { h = h; rest = rest } ≡ o = cc in
+opening_shape bytes r place o is (begins d h rest few shape text) =
+    let same : record { digits = d; h = h; rest = rest } ≡ o = cc in
     subst (λ (x : Opening). HasShape x.h) same shape
 
-pub opening_place : (bytes : List ℕ) (r : Result Opening Fault) (place : Option ℕ) (o : Opening) → r ≡ Ok o → IsOpening bytes r place → place ≡ Some (length (stream o.h))
+pub opening_place : (bytes : List ℕ) (r : Result Opening Fault) (place : Option ℕ) (o : Opening) → r ≡ Ok o → IsOpening bytes r place → place ≡ Some (length (stream o.digits o.h))
 opening_place bytes r place o is (bad_unit e n fault at) = absurd (cc)
 opening_place bytes r place o is (cut_off cut) = absurd (cc)
-opening_place bytes r place o is (begins h rest shape text) =
-    let same : record { h = h; rest = rest } ≡ o = cc in
-    ap (λ (x : Opening). Some (length (stream x.h))) same
+opening_place bytes r place o is (begins d h rest few shape text) =
+    let same : record { digits = d; h = h; rest = rest } ≡ o = cc in
+    ap (λ (x : Opening). Some (length (stream x.digits x.h))) same
 
-pub valid_place : (bytes : List ℕ) (r : Result Opening Fault) (place : Option ℕ) (o : Opening) → r ≡ Ok o → IsValidOpening bytes r place → place ≡ Some (length (stream o.h))
+pub valid_place : (bytes : List ℕ) (r : Result Opening Fault) (place : Option ℕ) (o : Opening) → r ≡ Ok o → IsValidOpening bytes r place → place ≡ Some (length (stream o.digits o.h))
 valid_place bytes r place o is (no_stream f i fault) = absurd (cc)
 valid_place bytes r place o is (invalid q f i opening fault) = absurd (cc)
 valid_place bytes r place o is (valid q i opening good) =
     let same : q ≡ o = cc in
-    opening_place bytes (Ok q) i q refl opening ∙ ap (λ (x : Opening). Some (length (stream x.h))) same
+    opening_place bytes (Ok q) i q refl opening ∙ ap (λ (x : Opening). Some (length (stream x.digits x.h))) same
 
 -- A hierarchy that is opened has one fault, or none.
 
@@ -139,7 +141,7 @@ no_valid bytes o f is are =
     absurd (cc)
 
 -- and so it is where nothing may follow.
-pub one_hierarchy : (bytes : List ℕ) {a b : Result Hierarchy Fault} {i j : Option ℕ} → IsHierarchyText bytes a i → IsHierarchyText bytes b j → (a ≡ b) × (i ≡ j)
+pub one_hierarchy : (bytes : List ℕ) {a b : Result Opening Fault} {i j : Option ℕ} → IsHierarchyText bytes a i → IsHierarchyText bytes b j → (a ≡ b) × (i ≡ j)
 one_hierarchy bytes (no_hierarchy f i is) (no_hierarchy g j are) =
     let same : Err f ≡ Err g = (one_valid bytes is are).0 in
     let one : f ≡ g = cc in
@@ -147,8 +149,8 @@ one_hierarchy bytes (no_hierarchy f i is) (no_hierarchy g j are) =
 one_hierarchy bytes (no_hierarchy f i is) (bytes_after q j are some) = absurd (no_valid bytes q f are is)
 one_hierarchy bytes (no_hierarchy f i is) (all_text q j are none) = absurd (no_valid bytes q f are is)
 one_hierarchy bytes (bytes_after o i is more) (no_hierarchy g j are) = absurd (no_valid bytes o g is are)
-one_hierarchy bytes (bytes_after o i is more) (bytes_after q j are some) = (refl, ap (λ (x : Opening). Some (length (stream x.h) + 1)) (sym (same_valid bytes o q is are)))
+one_hierarchy bytes (bytes_after o i is more) (bytes_after q j are some) = (refl, ap (λ (x : Opening). Some (length (stream x.digits x.h) + 1)) (sym (same_valid bytes o q is are)))
 one_hierarchy bytes (bytes_after o i is more) (all_text q j are none) = absurd (more (sym (ap (λ (x : Opening). x.rest) (same_valid bytes o q is are)) ∙ none))
 one_hierarchy bytes (all_text o i is end) (no_hierarchy g j are) = absurd (no_valid bytes o g is are)
 one_hierarchy bytes (all_text o i is end) (bytes_after q j are some) = absurd (some (ap (λ (x : Opening). x.rest) (same_valid bytes o q is are) ∙ end))
-one_hierarchy bytes (all_text o i is end) (all_text q j are none) = (ap (λ (x : Opening). Ok x.h) (sym (same_valid bytes o q is are)), refl)
+one_hierarchy bytes (all_text o i is end) (all_text q j are none) = (ap (λ (x : Opening). Ok x) (sym (same_valid bytes o q is are)), refl)

@@ -26,8 +26,8 @@ one_follows {does = does} one is are =
     is.done ∙ ap (λ (r : Result _ Fault). done_with does r is.place) same.0 ∙ ap (λ (i : Option ℕ). done_with does are.read i) same.1 ∙ sym are.done
 
 pub one_outcome : OneOutcome
-one_outcome asked.Canon bytes a b is are = one_follows (λ p q i j one other. one_surface bytes one other) is are
-one_outcome (asked.Build target) bytes a b is are = one_follows (λ p q i j one other. one_build target bytes one other) is are
+one_outcome (asked.Canon digits) bytes a b is are = one_follows (λ p q i j one other. one_surface digits bytes one other) is are
+one_outcome (asked.Build target digits) bytes a b is are = one_follows (λ p q i j one other. one_build digits target bytes one other) is are
 one_outcome asked.Expand bytes a b is are = one_follows (λ p q i j one other. one_hierarchy bytes one other) is are
 one_outcome asked.Check bytes a b is are = one_follows (λ p q i j one other. one_hierarchy bytes one other) is are
 one_outcome (asked.View budget) bytes a b is are = one_follows (λ p q i j one other. one_valid bytes one other) is are

@@ -14,6 +14,7 @@ use Rattle.pm_format.specs.declared.fault.FormatError.{FormatError}
 use Rattle.pm_format.specs.declared.fault.FormatError.TheVariants as format
 use Rattle.pm_format.specs.declared.stop.Stop.{Stop}
 use Rattle.pm_format.specs.declared.stop.Stop.TheVariants as kinds
+use Rattle.pm_format.specs.declared.read.Stream.{Stream}
 use Rattle.pm_format.specs.declared.read.StreamFail.{StreamFail}
 use Rattle.pm_format.specs.declared.read.StreamFail.TheVariants as streams
 use Rattle.pm_format.specs.Words.{words_of}
@@ -42,7 +43,7 @@ rest_is bytes taken (Some rest) took = (rest, cc took, refl)
 opening_before : (taken rest : List ℕ) → stream_fault taken ≡ Some (format.Truncated (length taken)) → (r : Result Opening Fault) (place : Option ℕ) → IsOpening (taken ++ rest) r place → IfSome place (λ n. length taken < n)
 opening_before taken rest cut r place (bad_unit e n fault at) = dont_reach taken rest n cut at
 opening_before taken rest cut r place (cut_off fault) = tt
-opening_before taken rest cut r place (begins h more shape is) = dont_reach_end taken rest more h shape cut is
+opening_before taken rest cut r place (begins d h more few shape is) = dont_reach_end taken rest more d h few shape cut is
 
 valid_before : (taken rest : List ℕ) → stream_fault taken ≡ Some (format.Truncated (length taken)) → (r : Result Opening Fault) (place : Option ℕ) → IsValidOpening (taken ++ rest) r place → IfSome place (λ n. length taken < n)
 valid_before taken rest cut r place (no_stream f i is) = opening_before taken rest cut (Err f) i is
@@ -80,6 +81,7 @@ truncated_is bytes n is = go (magic_is_bad bytes) (forest_at (words_of bytes)) i
     go false (Ok u) e = absurd cc
     go false (Err kinds.End) e = cc
     go false (Err (kinds.Version v)) e = absurd cc
+    go false (Err (kinds.Digits d)) e = absurd cc
     go false (Err (kinds.Fault f)) e = absurd (shape_no f e)
 
 bad_text : (bytes : List ℕ) (e : FormatError) (cut : Bool) → is_cut (Some e) ≡ cut → stream_fault bytes ≡ Some e → IsFaulty IsValidOpening bytes (faults.Stream e)
@@ -95,6 +97,7 @@ bad_text bytes (format.Truncated n) true told is =
     }
 bad_text bytes format.BadMagic true told is = absurd cc
 bad_text bytes (format.BadVersion v) true told is = absurd cc
+bad_text bytes (format.BadDigits d) true told is = absurd cc
 bad_text bytes format.BadCount true told is = absurd cc
 bad_text bytes (format.BadRoot i) true told is = absurd cc
 bad_text bytes (format.BadFace i) true told is = absurd cc
@@ -107,14 +110,15 @@ bad_stream left e other (inl memory) = absurd (other memory)
 bad_stream None e other (inr is) = tt
 bad_stream (Some bytes) e other (inr is) = bad_text bytes e (is_cut (Some e)) refl is
 
-pub stream_stops : (left whole mid now : Option (List ℕ)) (e : StreamFail) (in_old in_new : ℕ) → whole ≡ left → Reads whole mid now (Err e) → HasCause in_old in_new (of_source {T = Hierarchy} (Err e)) → Stops IsValidOpening (stream_fail e) left now in_old in_new
+pub stream_stops : (left whole mid now : Option (List ℕ)) (e : StreamFail) (in_old in_new : ℕ) → whole ≡ left → Reads whole mid now (Err e) → HasCause in_old in_new (of_source {T = Stream} (Err e)) → Stops IsValidOpening (stream_fail e) left now in_old in_new
 stream_stops left whole mid now e in_old in_new same reads cause = go e (subst (λ (o : Option (List ℕ)). Reads o mid now (Err e)) same reads) cause
   where
-    go : (e : StreamFail) → Reads left mid now (Err e) → HasCause in_old in_new (of_source {T = Hierarchy} (Err e)) → Stops IsValidOpening (stream_fail e) left now in_old in_new
+    go : (e : StreamFail) → Reads left mid now (Err e) → HasCause in_old in_new (of_source {T = Stream} (Err e)) → Stops IsValidOpening (stream_fail e) left now in_old in_new
     go streams.Read reads cause = (valid_unreached left now reads, cause.failed)
     go (streams.Fault format.OutOfMemory) reads cause = tt
     go (streams.Fault format.BadMagic) reads cause = (bad_stream left format.BadMagic (λ e. absurd cc) reads, cause.same)
     go (streams.Fault (format.BadVersion v)) reads cause = (bad_stream left (format.BadVersion v) (λ e. absurd cc) reads, cause.same)
+    go (streams.Fault (format.BadDigits d)) reads cause = (bad_stream left (format.BadDigits d) (λ e. absurd cc) reads, cause.same)
     go (streams.Fault (format.Truncated n)) reads cause = (bad_stream left (format.Truncated n) (λ e. absurd cc) reads, cause.same)
     go (streams.Fault format.BadCount) reads cause = (bad_stream left format.BadCount (λ e. absurd cc) reads, cause.same)
     go (streams.Fault (format.BadRoot i)) reads cause = (bad_stream left (format.BadRoot i) (λ e. absurd cc) reads, cause.same)
@@ -124,44 +128,44 @@ stream_stops left whole mid now e in_old in_new same reads cause = go e (subst (
 
 -- The text was read.
 
-pub record Begun (left mid : Option (List ℕ)) (h : Hierarchy) : Type 0 where
+pub record Begun (left mid : Option (List ℕ)) (d : ℕ) (h : Hierarchy) : Type 0 where
   pub bytes : List ℕ
-  pub text : IsText bytes h
+  pub text : IsText bytes d h
   pub took : Loses left mid bytes
 
-pub begun : (left whole mid now : Option (List ℕ)) (h : Hierarchy) → whole ≡ left → Reads whole mid now (Ok h) → Begun left mid h
-begun left whole mid now h same reads = record { bytes = reads.0; text = reads.1; took = subst (λ (o : Option (List ℕ)). Loses o mid reads.0) same reads.2 }
+pub begun : (left whole mid now : Option (List ℕ)) (s : Stream) → whole ≡ left → Reads whole mid now (Ok s) → Begun left mid s.digits s.h
+begun left whole mid now s same reads = record { bytes = reads.0; text = reads.1; took = subst (λ (o : Option (List ℕ)). Loses o mid reads.0) same reads.2 }
 
-pub took_text : (left mid : Option (List ℕ)) (h : Hierarchy) → Begun left mid h → Loses left mid (stream h)
-took_text left mid h b = subst (λ (l : List ℕ). Loses left mid l) b.text.text b.took
+pub took_text : (left mid : Option (List ℕ)) (d : ℕ) (h : Hierarchy) → Begun left mid d h → Loses left mid (stream d h)
+took_text left mid d h b = subst (λ (l : List ℕ). Loses left mid l) b.text.text b.took
 
-pub opened : (bytes rest : List ℕ) (h : Hierarchy) → Begun (Some bytes) (Some rest) h → IsOpening bytes (Ok (record { h = h; rest = rest })) (Some (length (stream h)))
-opened bytes rest h b = begins h rest b.text.shape (cc (took_text (Some bytes) (Some rest) h b))
+pub opened : (bytes rest : List ℕ) (d : ℕ) (h : Hierarchy) → Begun (Some bytes) (Some rest) d h → IsOpening bytes (Ok (record { digits = d; h = h; rest = rest })) (Some (length (stream d h)))
+opened bytes rest d h b = begins d h rest b.text.few b.text.shape (cc (took_text (Some bytes) (Some rest) d h b))
 
-load_refuses : (bytes rest : List ℕ) (h : Hierarchy) (e : LoadFail) (now : Option (List ℕ)) (in_old in_new : ℕ) → Begun (Some bytes) (Some rest) h → IsLoadFault h e → in_new ≡ in_old
+load_refuses : (bytes rest : List ℕ) (d : ℕ) (h : Hierarchy) (e : LoadFail) (now : Option (List ℕ)) (in_old in_new : ℕ) → Begun (Some bytes) (Some rest) d h → IsLoadFault h e → in_new ≡ in_old
     → Stops IsValidOpening (load_fail e) (Some bytes) now in_old in_new
-load_refuses bytes rest h (loads.EdgeTwice f) now in_old in_new b fault same =
-    let o : Opening = record { h = h; rest = rest } in
-    (record { place = Some (length (stream h)); is = invalid o (faults.EdgeTwice f.0) (Some (length (stream h))) (opened bytes rest h b) (leaf_side_twice f.0 fault) }, same)
-load_refuses bytes rest h (loads.BadNeighbour k) now in_old in_new b fault same =
-    let o : Opening = record { h = h; rest = rest } in
-    (record { place = Some (length (stream h)); is = invalid o (faults.BadNeighbour k) (Some (length (stream h))) (opened bytes rest h b) (wrong_neighbour k fault.0 fault.1) }, same)
-load_refuses bytes rest h loads.OutOfMemory now in_old in_new b fault same = tt
+load_refuses bytes rest d h (loads.EdgeTwice f) now in_old in_new b fault same =
+    let o : Opening = record { digits = d; h = h; rest = rest } in
+    (record { place = Some (length (stream d h)); is = invalid o (faults.EdgeTwice f.0) (Some (length (stream d h))) (opened bytes rest d h b) (leaf_side_twice f.0 fault) }, same)
+load_refuses bytes rest d h (loads.BadNeighbour k) now in_old in_new b fault same =
+    let o : Opening = record { digits = d; h = h; rest = rest } in
+    (record { place = Some (length (stream d h)); is = invalid o (faults.BadNeighbour k) (Some (length (stream d h))) (opened bytes rest d h b) (wrong_neighbour k fault.0 fault.1) }, same)
+load_refuses bytes rest d h loads.OutOfMemory now in_old in_new b fault same = tt
 
-pub load_stops : (left mid now : Option (List ℕ)) (h : Hierarchy) (e : LoadFail) (in_old in_new : ℕ) → Begun left mid h → IsLoadFault h e → in_new ≡ in_old → Stops IsValidOpening (load_fail e) left now in_old in_new
-load_stops None mid now h (loads.EdgeTwice f) in_old in_new b fault same = (tt, same)
-load_stops None mid now h (loads.BadNeighbour k) in_old in_new b fault same = (tt, same)
-load_stops None mid now h loads.OutOfMemory in_old in_new b fault same = tt
-load_stops (Some bytes) None now h e in_old in_new b fault same = absurd (cc b.took)
-load_stops (Some bytes) (Some rest) now h e in_old in_new b fault same = load_refuses bytes rest h e now in_old in_new b fault same
+pub load_stops : (left mid now : Option (List ℕ)) (d : ℕ) (h : Hierarchy) (e : LoadFail) (in_old in_new : ℕ) → Begun left mid d h → IsLoadFault h e → in_new ≡ in_old → Stops IsValidOpening (load_fail e) left now in_old in_new
+load_stops None mid now d h (loads.EdgeTwice f) in_old in_new b fault same = (tt, same)
+load_stops None mid now d h (loads.BadNeighbour k) in_old in_new b fault same = (tt, same)
+load_stops None mid now d h loads.OutOfMemory in_old in_new b fault same = tt
+load_stops (Some bytes) None now d h e in_old in_new b fault same = absurd (cc b.took)
+load_stops (Some bytes) (Some rest) now d h e in_old in_new b fault same = load_refuses bytes rest d h e now in_old in_new b fault same
 
 -- Where nothing may follow, what stops the opening stops all.
 
 text_before : (bytes : List ℕ) (taken : ℕ) → ((r : Result Opening Fault) (place : Option ℕ) → IsValidOpening bytes r place → IfSome place (λ n. taken < n))
-    → (r : Result Hierarchy Fault) (place : Option ℕ) → IsHierarchyText bytes r place → IfSome place (λ n. taken < n)
+    → (r : Result Opening Fault) (place : Option ℕ) → IsHierarchyText bytes r place → IfSome place (λ n. taken < n)
 text_before bytes taken before r place (no_hierarchy f i is) = before (Err f) i is
 text_before bytes taken before r place (bytes_after o i is more) =
-    let lt : taken < length (stream o.h) = subst (λ (p : Option ℕ). IfSome p (λ n. taken < n)) (valid_place bytes (Ok o) i o refl is) (before (Ok o) i is) in
+    let lt : taken < length (stream o.digits o.h) = subst (λ (p : Option ℕ). IfSome p (λ n. taken < n)) (valid_place bytes (Ok o) i o refl is) (before (Ok o) i is) in
     omega (arith, lt)
 text_before bytes taken before r place (whole_text o i is none) = tt
 
@@ -169,7 +173,7 @@ text_unreached : (left now : Option (List ℕ)) → Unreached IsValidOpening lef
 text_unreached left now u = record { taken = u.taken; took = u.took; before = before left u.before }
   where
     before : (left : Option (List ℕ)) → IfSome left (λ bytes. (r : Result Opening Fault) (place : Option ℕ) → IsValidOpening bytes r place → IfSome place (λ n. length u.taken < n))
-        → IfSome left (λ bytes. (r : Result Hierarchy Fault) (place : Option ℕ) → IsHierarchyText bytes r place → IfSome place (λ n. length u.taken < n))
+        → IfSome left (λ bytes. (r : Result Opening Fault) (place : Option ℕ) → IsHierarchyText bytes r place → IfSome place (λ n. length u.taken < n))
     before None is = tt
     before (Some bytes) is = text_before bytes (length u.taken) is
 
@@ -181,58 +185,59 @@ text_stops input.OutOfMemory left now in_old in_new stops = tt
 
 -- What the bytes after the text make of it.
 
-module _ (left mid now : Option (List ℕ)) (h : Hierarchy) (piece : List ℕ) (b : Begun left mid h) (good : IsValid h) (after : mid ≡ prepend_known piece now) where
-  pub text_whole : piece ≡ [] → AtEnd now → IfSome left (λ bytes. IsHierarchyText bytes (Ok h) None)
+module _ (left mid now : Option (List ℕ)) (d : ℕ) (h : Hierarchy) (piece : List ℕ) (b : Begun left mid d h) (good : IsValid h) (after : mid ≡ prepend_known piece now) where
+  pub text_whole : piece ≡ [] → AtEnd now → IfSome left (λ bytes. IsHierarchyText bytes (Ok (record { digits = d; h = h; rest = [] })) None)
   text_whole none end = go left mid now b after end
     where
-      go : (left mid now : Option (List ℕ)) → Begun left mid h → mid ≡ prepend_known piece now → AtEnd now → IfSome left (λ bytes. IsHierarchyText bytes (Ok h) None)
+      go : (left mid now : Option (List ℕ)) → Begun left mid d h → mid ≡ prepend_known piece now → AtEnd now → IfSome left (λ bytes. IsHierarchyText bytes (Ok (record { digits = d; h = h; rest = [] })) None)
       go None mid now b after end = tt
       go (Some bytes) None now b after end = absurd (cc b.took)
       go (Some bytes) (Some rest) None b after end = absurd (cc after)
       go (Some bytes) (Some rest) (Some later) b after end =
-          let o : Opening = record { h = h; rest = rest } in
+          let o : Opening = record { digits = d; h = h; rest = rest } in
           let is : rest ≡ piece ++ later = cc after in
           let nothing : rest ≡ [] = is ∙ ap (λ (l : List ℕ). l ++ later) none ∙ end in
-          whole_text o (Some (length (stream h))) (valid o (Some (length (stream h))) (opened bytes rest h b) good) nothing
+          subst (λ (l : List ℕ). IsHierarchyText bytes (Ok (record { digits = d; h = h; rest = l })) None) nothing
+          (whole_text o (Some (length (stream d h))) (valid o (Some (length (stream d h))) (opened bytes rest d h b) good) nothing)
 
   pub text_trails : 0 < length piece → IfSome left (λ bytes. IsFaulty IsHierarchyText bytes faults.Trailing)
   text_trails some = go left mid now b after
     where
-      go : (left mid now : Option (List ℕ)) → Begun left mid h → mid ≡ prepend_known piece now → IfSome left (λ bytes. IsFaulty IsHierarchyText bytes faults.Trailing)
+      go : (left mid now : Option (List ℕ)) → Begun left mid d h → mid ≡ prepend_known piece now → IfSome left (λ bytes. IsFaulty IsHierarchyText bytes faults.Trailing)
       go None mid now b after = tt
       go (Some bytes) None now b after = absurd (cc b.took)
       go (Some bytes) (Some rest) None b after = absurd (cc after)
       go (Some bytes) (Some rest) (Some later) b after =
-          let o : Opening = record { h = h; rest = rest } in
+          let o : Opening = record { digits = d; h = h; rest = rest } in
           let is : rest ≡ piece ++ later = cc after in
           record {
-            place = Some (length (stream h) + 1);
-            is = bytes_after o (Some (length (stream h))) (valid o (Some (length (stream h))) (opened bytes rest h b) good) (λ none. absurd (omega (arith, some, ap length is, ap length none, length-append piece later)));
+            place = Some (length (stream d h) + 1);
+            is = bytes_after o (Some (length (stream d h))) (valid o (Some (length (stream d h))) (opened bytes rest d h b) good) (λ none. absurd (omega (arith, some, ap length is, ap length none, length-append piece later)));
           }
 
 -- The read failed that looks for a byte after the text.
 
-after_text : (bytes rest : List ℕ) (h : Hierarchy) (n : ℕ) → IsOpening bytes (Ok (record { h = h; rest = rest })) (Some (length (stream h))) → IsValid h → n ≡ length (stream h)
-    → (r : Result Hierarchy Fault) (place : Option ℕ) → IsHierarchyText bytes r place → IfSome place (λ m. n < m)
-after_text bytes rest h n open_is good same r place (no_hierarchy f i is) =
-    let o : Opening = record { h = h; rest = rest } in
-    absurd (no_valid bytes o f (valid o (Some (length (stream h))) open_is good) is)
-after_text bytes rest h n open_is good same r place (bytes_after q i is more) =
-    let o : Opening = record { h = h; rest = rest } in
-    let one : q ≡ o = same_valid bytes o q (valid o (Some (length (stream h))) open_is good) is in
-    omega (arith, same, ap (λ (x : Opening). length (stream x.h)) one)
-after_text bytes rest h n open_is good same r place (whole_text q i is none) = tt
+after_text : (bytes rest : List ℕ) (d : ℕ) (h : Hierarchy) (n : ℕ) → IsOpening bytes (Ok (record { digits = d; h = h; rest = rest })) (Some (length (stream d h))) → IsValid h → n ≡ length (stream d h)
+    → (r : Result Opening Fault) (place : Option ℕ) → IsHierarchyText bytes r place → IfSome place (λ m. n < m)
+after_text bytes rest d h n open_is good same r place (no_hierarchy f i is) =
+    let o : Opening = record { digits = d; h = h; rest = rest } in
+    absurd (no_valid bytes o f (valid o (Some (length (stream d h))) open_is good) is)
+after_text bytes rest d h n open_is good same r place (bytes_after q i is more) =
+    let o : Opening = record { digits = d; h = h; rest = rest } in
+    let one : q ≡ o = same_valid bytes o q (valid o (Some (length (stream d h))) open_is good) is in
+    omega (arith, same, ap (λ (x : Opening). length (stream x.digits x.h)) one)
+after_text bytes rest d h n open_is good same r place (whole_text q i is none) = tt
 
-pub end_unread : (left mid now : Option (List ℕ)) (h : Hierarchy) → Begun left mid h → IsValid h → mid ≡ now → Unreached IsHierarchyText left now
-end_unread left mid now h b good same = record {
+pub end_unread : (left mid now : Option (List ℕ)) (d : ℕ) (h : Hierarchy) → Begun left mid d h → IsValid h → mid ≡ now → Unreached IsHierarchyText left now
+end_unread left mid now d h b good same = record {
   taken = b.bytes;
   took = subst (λ (o : Option (List ℕ)). Loses left o b.bytes) same b.took;
   before = before left mid b.took;
 }
   where
-    before : (left mid : Option (List ℕ)) → Loses left mid b.bytes → IfSome left (λ bytes. (r : Result Hierarchy Fault) (place : Option ℕ) → IsHierarchyText bytes r place → IfSome place (λ n. length b.bytes < n))
+    before : (left mid : Option (List ℕ)) → Loses left mid b.bytes → IfSome left (λ bytes. (r : Result Opening Fault) (place : Option ℕ) → IsHierarchyText bytes r place → IfSome place (λ n. length b.bytes < n))
     before None mid took = tt
     before (Some bytes) None took = absurd (cc took)
     before (Some bytes) (Some rest) took =
-        let begin : Begun (Some bytes) (Some rest) h = record { bytes = b.bytes; text = b.text; took = took } in
-        after_text bytes rest h (length b.bytes) (opened bytes rest h begin) good (ap length b.text.text)
+        let begin : Begun (Some bytes) (Some rest) d h = record { bytes = b.bytes; text = b.text; took = took } in
+        after_text bytes rest d h (length b.bytes) (opened bytes rest d h begin) good (ap length b.text.text)

@@ -51,29 +51,6 @@ fault_or_manifold : (m : Mesh) → IsWellFormed m → {f : Fault} → IsSurfaceF
 fault_or_manifold m formed (side_twice f is) whole = repeats_none m formed whole.no_side_twice f is
 fault_or_manifold m formed (no_fan v once is) whole = is.broken.no_fan (whole.fans v is.broken.used)
 
--- A text spells one mesh.
-one_mesh : (bytes : List ℕ) (m n : Mesh) → meaning_of bytes ≡ Ok m → meaning_of bytes ≡ Ok n → n ≡ m
-one_mesh bytes m n is are = cc
-
-pub one_surface : (bytes : List ℕ) {a b : Result Mesh Fault} {i j : Option ℕ} → IsSurface bytes a i → IsSurface bytes b j → (a ≡ b) × (i ≡ j)
-one_surface bytes (bad_line r is) (bad_line q are) =
-    let same : r ≡ q = cc in
-    (ap (λ (x : Refused). Err (faults.Obj x.fault x.line)) same, ap (λ (x : Refused). x.place) same)
-one_surface bytes (bad_line r is) (no_manifold m f are fault) = absurd (cc)
-one_surface bytes (bad_line r is) (manifold m are whole) = absurd (cc)
-one_surface bytes (no_manifold m f is fault) (bad_line r are) = absurd (cc)
-one_surface bytes (no_manifold m f is fault) (no_manifold n g are other) = (
-  ap (λ (x : Fault). Err x)
-      (one_surface_fault m (meaning_formed bytes m is) fault (subst (λ (x : Mesh). IsSurfaceFault (net_of x.faces) g) (one_mesh bytes m n is are) other)),
-  refl,
-)
-one_surface bytes (no_manifold m f is fault) (manifold n are whole) =
-    absurd (fault_or_manifold m (meaning_formed bytes m is) fault (subst (λ (x : Mesh). IsOrientedManifold (net_of x.faces)) (one_mesh bytes m n is are) whole))
-one_surface bytes (manifold m is whole) (bad_line r are) = absurd (cc)
-one_surface bytes (manifold m is whole) (no_manifold n f are fault) =
-    absurd (fault_or_manifold m (meaning_formed bytes m is) (subst (λ (x : Mesh). IsSurfaceFault (net_of x.faces) f) (one_mesh bytes m n is are) fault) whole)
-one_surface bytes (manifold m is whole) (manifold n are other) = (ap (λ (x : Mesh). Ok x) (sym (one_mesh bytes m n is are)), refl)
-
 -- Counted from 1, faces and vertices stay within 32 bits.
 
 pub face_small : (m : Mesh) → IsWellFormed m → (f : ℕ) → IsFirstRepeating (net_of m.faces) f → f < 1048576
@@ -85,40 +62,65 @@ vertex_small m formed v is =
     let below = (mesh_side m formed e stands.is_side).1 in
     omega (arith, below, at, formed.points)
 
--- What follows where the source tells its bytes.
+-- With so many decimals a coordinate
+module _ (digits : ℕ) where
+  -- A text spells one mesh.
+  one_mesh : (bytes : List ℕ) (m n : Mesh) → meaning_of digits bytes ≡ Ok m → meaning_of digits bytes ≡ Ok n → n ≡ m
+  one_mesh bytes m n is are = cc
 
-refuses_line : (bytes : List ℕ) (fault : ObjFault) (line : ℕ) (r : Result Mesh Refused) → meaning_of bytes ≡ r → IsRefusal fault line r → IsFaulty IsSurface bytes (faults.Obj fault line)
-refuses_line bytes fault line (Ok m) is refusal = absurd refusal
-refuses_line bytes fault line (Err r) is refusal = record {
-  place = r.place;
-  is = subst (λ (f : Fault). IsSurface bytes (Err f) r.place) (ap (λ (e : ObjFault). faults.Obj e r.line) refusal.0 ∙ ap (λ (n : ℕ). faults.Obj fault n) refusal.1) (bad_line r is);
-}
+  pub one_surface : (bytes : List ℕ) {a b : Result Mesh Fault} {i j : Option ℕ} → IsSurface digits bytes a i → IsSurface digits bytes b j → (a ≡ b) × (i ≡ j)
+  one_surface bytes (bad_line r is) (bad_line q are) =
+      let same : r ≡ q = cc in
+      (ap (λ (x : Refused). Err (faults.Obj x.fault x.line)) same, ap (λ (x : Refused). x.place) same)
+  one_surface bytes (bad_line r is) (no_manifold m f are fault) = absurd (cc)
+  one_surface bytes (bad_line r is) (manifold m are whole) = absurd (cc)
+  one_surface bytes (no_manifold m f is fault) (bad_line r are) = absurd (cc)
+  one_surface bytes (no_manifold m f is fault) (no_manifold n g are other) = (
+    ap (λ (x : Fault). Err x)
+        (one_surface_fault m (meaning_formed digits bytes m is) fault (subst (λ (x : Mesh). IsSurfaceFault (net_of x.faces) g) (one_mesh bytes m n is are) other)),
+    refl,
+  )
+  one_surface bytes (no_manifold m f is fault) (manifold n are whole) =
+      absurd (fault_or_manifold m (meaning_formed digits bytes m is) fault (subst (λ (x : Mesh). IsOrientedManifold (net_of x.faces)) (one_mesh bytes m n is are) whole))
+  one_surface bytes (manifold m is whole) (bad_line r are) = absurd (cc)
+  one_surface bytes (manifold m is whole) (no_manifold n f are fault) =
+      absurd (fault_or_manifold m (meaning_formed digits bytes m is) (subst (λ (x : Mesh). IsSurfaceFault (net_of x.faces) f) (one_mesh bytes m n is are) fault) whole)
+  one_surface bytes (manifold m is whole) (manifold n are other) = (ap (λ (x : Mesh). Ok x) (sym (one_mesh bytes m n is are)), refl)
 
-pub line_refuses : (left : Option (List ℕ)) (fault : ObjFault) (line : ℕ) → IfSome left (λ bytes. IsRefusal fault line (meaning_of bytes)) → IfSome left (λ bytes. IsFaulty IsSurface bytes (faults.Obj fault line))
-line_refuses None fault line is = tt
-line_refuses (Some bytes) fault line is = refuses_line bytes fault line (meaning_of bytes) refl is
+  -- What follows where the source tells its bytes.
 
--- Bytes that don't reach the first fault's place decide nothing.
-surface_before : (bytes : List ℕ) (taken : ℕ) → NotReached taken (meaning_of bytes) → (r : Result Mesh Fault) (place : Option ℕ) → IsSurface bytes r place → IfSome place (λ n. taken < n)
-surface_before bytes taken before found place (bad_line r is) = subst (λ (m : Result Mesh Refused). NotReached taken m) is before
-surface_before bytes taken before found place (no_manifold m f is fault) = tt
-surface_before bytes taken before found place (manifold m is whole) = tt
+  refuses_line : (bytes : List ℕ) (fault : ObjFault) (line : ℕ) (r : Result Mesh Refused) → meaning_of digits bytes ≡ r → IsRefusal fault line r → IsFaulty (IsSurface digits) bytes (faults.Obj fault line)
+  refuses_line bytes fault line (Ok m) is refusal = absurd refusal
+  refuses_line bytes fault line (Err r) is refusal = record {
+    place = r.place;
+    is = subst (λ (f : Fault). IsSurface digits bytes (Err f) r.place) (ap (λ (e : ObjFault). faults.Obj e r.line) refusal.0 ∙ ap (λ (n : ℕ). faults.Obj fault n) refusal.1) (bad_line r is);
+  }
 
-pub surface_unreached : (left now : Option (List ℕ)) → FailsBefore left now → Unreached IsSurface left now
-surface_unreached left now fails = record { taken = fails.taken; took = fails.took; before = before left fails.before }
-  where
-    before : (left : Option (List ℕ)) → IfSome left (λ bytes. NotReached (length fails.taken) (meaning_of bytes))
-        → IfSome left (λ bytes. (r : Result Mesh Fault) (place : Option ℕ) → IsSurface bytes r place → IfSome place (λ n. length fails.taken < n))
-    before None is = tt
-    before (Some bytes) is = surface_before bytes (length fails.taken) is
+  pub line_refuses : (left : Option (List ℕ)) (fault : ObjFault) (line : ℕ) → IfSome left (λ bytes. IsRefusal fault line (meaning_of digits bytes)) → IfSome left (λ bytes. IsFaulty (IsSurface digits) bytes (faults.Obj fault line))
+  line_refuses None fault line is = tt
+  line_refuses (Some bytes) fault line is = refuses_line bytes fault line (meaning_of digits bytes) refl is
 
-pub mesh_refuses : (left now : Option (List ℕ)) (m : Mesh) (e : InputFail) (in_old in_new : ℕ) → IfSome left (λ bytes. meaning_of bytes ≡ Ok m) → in_new ≡ in_old → IsSurfaceFail (net_of m.faces) e
-    → Stops IsSurface e left now in_old in_new
-mesh_refuses None now m (input.Faulty f) in_old in_new is same fault = (tt, same)
-mesh_refuses (Some bytes) now m (input.Faulty f) in_old in_new is same fault = (record { place = None; is = no_manifold m f is fault }, same)
-mesh_refuses left now m input.Read in_old in_new is same fault = absurd fault
-mesh_refuses left now m input.OutOfMemory in_old in_new is same fault = tt
+  -- Bytes that don't reach the first fault's place decide nothing.
+  surface_before : (bytes : List ℕ) (taken : ℕ) → NotReached taken (meaning_of digits bytes) → (r : Result Mesh Fault) (place : Option ℕ) → IsSurface digits bytes r place → IfSome place (λ n. taken < n)
+  surface_before bytes taken before found place (bad_line r is) = subst (λ (m : Result Mesh Refused). NotReached taken m) is before
+  surface_before bytes taken before found place (no_manifold m f is fault) = tt
+  surface_before bytes taken before found place (manifold m is whole) = tt
 
-pub mesh_stands : (left : Option (List ℕ)) (m : Mesh) → IfSome left (λ bytes. meaning_of bytes ≡ Ok m) → IsOrientedManifold (net_of m.faces) → IfSome left (λ bytes. IsSurface bytes (Ok m) None)
-mesh_stands None m is whole = tt
-mesh_stands (Some bytes) m is whole = manifold m is whole
+  pub surface_unreached : (left now : Option (List ℕ)) → FailsBefore digits left now → Unreached (IsSurface digits) left now
+  surface_unreached left now fails = record { taken = fails.taken; took = fails.took; before = before left fails.before }
+    where
+      before : (left : Option (List ℕ)) → IfSome left (λ bytes. NotReached (length fails.taken) (meaning_of digits bytes))
+          → IfSome left (λ bytes. (r : Result Mesh Fault) (place : Option ℕ) → IsSurface digits bytes r place → IfSome place (λ n. length fails.taken < n))
+      before None is = tt
+      before (Some bytes) is = surface_before bytes (length fails.taken) is
+
+  pub mesh_refuses : (left now : Option (List ℕ)) (m : Mesh) (e : InputFail) (in_old in_new : ℕ) → IfSome left (λ bytes. meaning_of digits bytes ≡ Ok m) → in_new ≡ in_old → IsSurfaceFail (net_of m.faces) e
+      → Stops (IsSurface digits) e left now in_old in_new
+  mesh_refuses None now m (input.Faulty f) in_old in_new is same fault = (tt, same)
+  mesh_refuses (Some bytes) now m (input.Faulty f) in_old in_new is same fault = (record { place = None; is = no_manifold m f is fault }, same)
+  mesh_refuses left now m input.Read in_old in_new is same fault = absurd fault
+  mesh_refuses left now m input.OutOfMemory in_old in_new is same fault = tt
+
+  pub mesh_stands : (left : Option (List ℕ)) (m : Mesh) → IfSome left (λ bytes. meaning_of digits bytes ≡ Ok m) → IsOrientedManifold (net_of m.faces) → IfSome left (λ bytes. IsSurface digits bytes (Ok m) None)
+  mesh_stands None m is whole = tt
+  mesh_stands (Some bytes) m is whole = manifold m is whole

@@ -43,11 +43,11 @@ moved before (Some n) taken lt = lt n
 view_before : (b : ℕ) (bytes : List ℕ) (taken : ℕ) (all : Ran) → ((r : Result Opening Fault) (place : Option ℕ) → IsValidOpening bytes r place → IfSome place (λ n. taken < n)) → IsOutcome (asked.View b) bytes all → IfSome all.place (λ n. taken < n)
 view_before b bytes taken all before f = subst (λ (a : Ran). IfSome a.place (λ n. taken < n)) (sym f.done) (go f.read f.place f.is)
   where
-    go : (r : Result Opening Fault) (place : Option ℕ) → IsValidOpening bytes r place → IfSome (done_with (λ o. of_script (length (stream o.h)) (played o.h b no_records o.rest)) r place).place (λ n. taken < n)
+    go : (r : Result Opening Fault) (place : Option ℕ) → IsValidOpening bytes r place → IfSome (done_with (λ o. of_script (length (stream o.digits o.h)) (played o.h b no_records o.rest)) r place).place (λ n. taken < n)
     go (Err e) place is = before (Err e) place is
     go (Ok o) place is =
-        let lt : taken < length (stream o.h) = subst (λ (p : Option ℕ). IfSome p (λ n. taken < n)) (valid_place bytes (Ok o) place o refl is) (before (Ok o) place is) in
-        moved (length (stream o.h)) (played o.h b no_records o.rest).place taken (λ n. omega (arith, lt))
+        let lt : taken < length (stream o.digits o.h) = subst (λ (p : Option ℕ). IfSome p (λ n. taken < n)) (valid_place bytes (Ok o) place o refl is) (before (Ok o) place is) in
+        moved (length (stream o.digits o.h)) (played o.h b no_records o.rest).place taken (λ n. omega (arith, lt))
 
 -- A read failed within the stream.
 stream_unread : (b : ℕ) (left now got : Option (List ℕ)) → Unread left now → ReadFails (asked.View b) left now got got
@@ -69,7 +69,7 @@ stream_unread b left now got u = record {
 view_faulty : (b : ℕ) (left got : Option (List ℕ)) (f : Fault) → IfSome left (λ bytes. IsFaulty IsValidOpening bytes f) → IfSome left (λ bytes. Replied (asked.View b) bytes (Some f) got got)
 view_faulty b None got f is = tt
 view_faulty b (Some bytes) got f is =
-    ends_refused (asked.View b) (Some bytes) got f (is.place, follows_refused (IsValidOpening bytes) (λ o. of_script (length (stream o.h)) (played o.h b no_records o.rest)) f is.place is.is)
+    ends_refused (asked.View b) (Some bytes) got f (is.place, follows_refused (IsValidOpening bytes) (λ o. of_script (length (stream o.digits o.h)) (played o.h b no_records o.rest)) f is.place is.is)
 
 -- The hierarchy isn't opened.
 pub view_load : (b : ℕ) (e : LoadFail) (left now got : Option (List ℕ)) (in_old in_new : ℕ) → Stops IsValidOpening (load_fail e) left now in_old in_new → Ends (asked.View b) (Err (fail_of (load_fail e))) left now got got
@@ -85,6 +85,7 @@ view_stream b left whole mid now got e in_old in_new same reads stops = go e (su
     go (streams.Fault format.OutOfMemory) reads stops = refl
     go (streams.Fault format.BadMagic) reads stops = view_faulty b left got (faults.Stream format.BadMagic) stops.0
     go (streams.Fault (format.BadVersion v)) reads stops = view_faulty b left got (faults.Stream (format.BadVersion v)) stops.0
+    go (streams.Fault (format.BadDigits d)) reads stops = view_faulty b left got (faults.Stream (format.BadDigits d)) stops.0
     go (streams.Fault (format.Truncated n)) reads stops = view_faulty b left got (faults.Stream (format.Truncated n)) stops.0
     go (streams.Fault format.BadCount) reads stops = view_faulty b left got (faults.Stream format.BadCount) stops.0
     go (streams.Fault (format.BadRoot i)) reads stops = view_faulty b left got (faults.Stream (format.BadRoot i)) stops.0
@@ -94,49 +95,49 @@ view_stream b left whole mid now got e in_old in_new same reads stops = go e (su
 
 -- The script begins after the stream of a valid hierarchy.
 
-view_outcome : (b : ℕ) (h : Hierarchy) (bytes rest : List ℕ) → Begun (Some bytes) (Some rest) h → IsValid h → IsOutcome (asked.View b) bytes (of_script (length (stream h)) (played h b no_records rest))
-view_outcome b h bytes rest begun good =
-    let o : Opening = record { h = h; rest = rest } in
-    record { read = Ok o; place = Some (length (stream h)); is = valid o (Some (length (stream h))) (opened bytes rest h begun) good; done = refl }
+view_outcome : (b d : ℕ) (h : Hierarchy) (bytes rest : List ℕ) → Begun (Some bytes) (Some rest) d h → IsValid h → IsOutcome (asked.View b) bytes (of_script (length (stream d h)) (played h b no_records rest))
+view_outcome b d h bytes rest begun good =
+    let o : Opening = record { digits = d; h = h; rest = rest } in
+    record { read = Ok o; place = Some (length (stream d h)); is = valid o (Some (length (stream d h))) (opened bytes rest d h begun) good; done = refl }
 
 -- A read failed within the script.
-script_before : (b : ℕ) (h : Hierarchy) (bytes rest : List ℕ) (n : ℕ) (all : Ran) → Begun (Some bytes) (Some rest) h → IsValid h → NotReached n (played h b no_records rest) → IsOutcome (asked.View b) bytes all → IfSome all.place (λ m. length (stream h) + n < m)
-script_before b h bytes rest n all begun good before is =
-    subst (λ (a : Ran). IfSome a.place (λ m. length (stream h) + n < m)) (one_outcome (asked.View b) bytes (of_script (length (stream h)) (played h b no_records rest)) all (view_outcome b h bytes rest begun good) is)
+script_before : (b d : ℕ) (h : Hierarchy) (bytes rest : List ℕ) (n : ℕ) (all : Ran) → Begun (Some bytes) (Some rest) d h → IsValid h → NotReached n (played h b no_records rest) → IsOutcome (asked.View b) bytes all → IfSome all.place (λ m. length (stream d h) + n < m)
+script_before b d h bytes rest n all begun good before is =
+    subst (λ (a : Ran). IfSome a.place (λ m. length (stream d h) + n < m)) (one_outcome (asked.View b) bytes (of_script (length (stream d h)) (played h b no_records rest)) all (view_outcome b d h bytes rest begun good) is)
     (on (played h b no_records rest).place before)
   where
-    on : (o : Option ℕ) → IfSome o (λ place. n < place) → IfSome (option_map (λ k. length (stream h) + k) o) (λ m. length (stream h) + n < m)
+    on : (o : Option ℕ) → IfSome o (λ place. n < place) → IfSome (option_map (λ k. length (stream d h) + k) o) (λ m. length (stream d h) + n < m)
     on None lt = tt
     on (Some k) lt = omega (arith, lt)
 
-script_unread : (b : ℕ) (h : Hierarchy) (left mid now got_old got_new : Option (List ℕ)) (after : ℕ → Bool) → Begun left mid h → IsValid h → CutOff h b no_records mid now got_old got_new after → ReadFails (asked.View b) left now got_old got_new
-script_unread b h left mid now got_old got_new after begun good c = record {
-  taken = stream h ++ (c.front ++ c.line);
-  took = loses_both left mid now (stream h) (c.front ++ c.line) (took_text left mid h begun) c.took;
+script_unread : (b d : ℕ) (h : Hierarchy) (left mid now got_old got_new : Option (List ℕ)) (after : ℕ → Bool) → Begun left mid d h → IsValid h → CutOff h b no_records mid now got_old got_new after → ReadFails (asked.View b) left now got_old got_new
+script_unread b d h left mid now got_old got_new after begun good c = record {
+  taken = stream d h ++ (c.front ++ c.line);
+  took = loses_both left mid now (stream d h) (c.front ++ c.line) (took_text left mid d h begun) c.took;
   before = before left mid begun c.before;
   text = (played h b no_records c.front).text;
-  put = in_script h c.front c.line good c.ends c.open_line;
+  put = in_script d h c.front c.line begun.text.few good c.ends c.open_line;
   gained = c.gained;
 }
   where
-    len : length (stream h ++ (c.front ++ c.line)) ≡ length (stream h) + (length c.front + length c.line)
-    len = omega (arith, length-append (stream h) (c.front ++ c.line), length-append c.front c.line)
+    len : length (stream d h ++ (c.front ++ c.line)) ≡ length (stream d h) + (length c.front + length c.line)
+    len = omega (arith, length-append (stream d h) (c.front ++ c.line), length-append c.front c.line)
 
-    before : (left mid : Option (List ℕ)) → Begun left mid h → IfSome mid (λ rest. NotReached (length c.front + length c.line) (played h b no_records rest))
-        → IfSome left (λ bytes. (all : Ran) → IsOutcome (asked.View b) bytes all → IfSome all.place (λ n. length (stream h ++ (c.front ++ c.line)) < n))
+    before : (left mid : Option (List ℕ)) → Begun left mid d h → IfSome mid (λ rest. NotReached (length c.front + length c.line) (played h b no_records rest))
+        → IfSome left (λ bytes. (all : Ran) → IsOutcome (asked.View b) bytes all → IfSome all.place (λ n. length (stream d h ++ (c.front ++ c.line)) < n))
     before None mid begun not_yet = tt
     before (Some bytes) None begun not_yet = absurd (cc begun.took)
     before (Some bytes) (Some rest) begun not_yet = λ all is.
-        subst (λ (k : ℕ). IfSome all.place (λ n. k < n)) (sym len) (script_before b h bytes rest (length c.front + length c.line) all begun good not_yet is)
+        subst (λ (k : ℕ). IfSome all.place (λ n. k < n)) (sym len) (script_before b d h bytes rest (length c.front + length c.line) all begun good not_yet is)
 
 -- The script has ended.
-script_ended : (b : ℕ) (h : Hierarchy) (left mid now got_old got_new : Option (List ℕ)) (fault : Option ScriptFault) (found : Option Fault) (after : ℕ → Bool) → Begun left mid h → IsValid h → option_map line_fault fault ≡ found
+script_ended : (b d : ℕ) (h : Hierarchy) (left mid now got_old got_new : Option (List ℕ)) (fault : Option ScriptFault) (found : Option Fault) (after : ℕ → Bool) → Begun left mid d h → IsValid h → option_map line_fault fault ≡ found
     → Ended h b no_records mid now got_old got_new fault after → IfSome left (λ bytes. Replied (asked.View b) bytes found got_old got_new)
-script_ended b h None mid now got_old got_new fault found after begun good same ended = tt
-script_ended b h (Some bytes) None now got_old got_new fault found after begun good same ended = absurd (cc begun.took)
-script_ended b h (Some bytes) (Some rest) now got_old got_new fault found after begun good same ended = record {
-  all = of_script (length (stream h)) (played h b no_records rest);
-  outcome = view_outcome b h bytes rest begun good;
+script_ended b d h None mid now got_old got_new fault found after begun good same ended = tt
+script_ended b d h (Some bytes) None now got_old got_new fault found after begun good same ended = absurd (cc begun.took)
+script_ended b d h (Some bytes) (Some rest) now got_old got_new fault found after begun good same ended = record {
+  all = of_script (length (stream d h)) (played h b no_records rest);
+  outcome = view_outcome b d h bytes rest begun good;
   fault_is = ap (option_map line_fault) ended.fault_is ∙ same;
   gained = ended.gained;
 }
@@ -150,34 +151,36 @@ later_end window None end = tt
 later_end [] (Some rest) end = end
 later_end (x ∷ xs) (Some rest) end = absurd (cc end)
 
-script_to_end : (b : ℕ) (h : Hierarchy) (left mid now got_old got_new : Option (List ℕ)) (window : List ℕ) (after : ℕ → Bool) → Begun left mid h → IsValid h → Ended h b no_records mid (prepend_known window now) got_old got_new None after → ReadToEnd (asked.View b) left now
-script_to_end b h None mid now got_old got_new window after begun good ended = tt
-script_to_end b h (Some bytes) None now got_old got_new window after begun good ended = absurd (cc begun.took)
-script_to_end b h (Some bytes) (Some rest) now got_old got_new window after begun good ended = λ all is none.
+script_to_end : (b d : ℕ) (h : Hierarchy) (left mid now got_old got_new : Option (List ℕ)) (window : List ℕ) (after : ℕ → Bool) → Begun left mid d h → IsValid h → Ended h b no_records mid (prepend_known window now) got_old got_new None after → ReadToEnd (asked.View b) left now
+script_to_end b d h None mid now got_old got_new window after begun good ended = tt
+script_to_end b d h (Some bytes) None now got_old got_new window after begun good ended = absurd (cc begun.took)
+script_to_end b d h (Some bytes) (Some rest) now got_old got_new window after begun good ended = λ all is none.
     let p = played h b no_records rest in
-    let same = one_outcome (asked.View b) bytes (of_script (length (stream h)) p) all (view_outcome b h bytes rest begun good) is in
-    let nowhere : p.place ≡ None = no_place (length (stream h)) p.place (ap (λ (a : Ran). a.place) same ∙ none) in
+    let same = one_outcome (asked.View b) bytes (of_script (length (stream d h)) p) all (view_outcome b d h bytes rest begun good) is in
+    let nowhere : p.place ≡ None = no_place (length (stream d h)) p.place (ap (λ (a : Ran). a.place) same ∙ none) in
     later_end window now (subst (λ (place : Option ℕ). Reaches (Some rest) (prepend_known window now) place) nowhere ended.reaches)
 
 -- A write failed.
-script_cut : (b : ℕ) (h : Hierarchy) (left mid now got_old got_new : Option (List ℕ)) (after : ℕ → Bool) → Begun left mid h → IsValid h → PutPart h b no_records mid now got_old got_new after → IfSome left (λ bytes. CutShort (asked.View b) bytes got_old got_new)
-script_cut b h None mid now got_old got_new after begun good p = tt
-script_cut b h (Some bytes) None now got_old got_new after begun good p = absurd (cc begun.took)
-script_cut b h (Some bytes) (Some rest) now got_old got_new after begun good p = record {
-  all = of_script (length (stream h)) (played h b no_records rest);
-  outcome = view_outcome b h bytes rest begun good;
+script_cut : (b d : ℕ) (h : Hierarchy) (left mid now got_old got_new : Option (List ℕ)) (after : ℕ → Bool) → Begun left mid d h → IsValid h → PutPart h b no_records mid now got_old got_new after → IfSome left (λ bytes. CutShort (asked.View b) bytes got_old got_new)
+script_cut b d h None mid now got_old got_new after begun good p = tt
+script_cut b d h (Some bytes) None now got_old got_new after begun good p = absurd (cc begun.took)
+script_cut b d h (Some bytes) (Some rest) now got_old got_new after begun good p = record {
+  all = of_script (length (stream d h)) (played h b no_records rest);
+  outcome = view_outcome b d h bytes rest begun good;
   part = p.all;
 }
 
-script_few : (b : ℕ) (h : Hierarchy) (window : List ℕ) (left mid now got_old got_new : Option (List ℕ)) (after : ℕ → Bool) → Begun left mid h → IsValid h → length window ≤ 4095
+script_few : (b d : ℕ) (h : Hierarchy) (window : List ℕ) (left mid now got_old got_new : Option (List ℕ)) (after : ℕ → Bool) → Begun left mid d h → IsValid h → length window ≤ 4095
     → PutPart h b no_records mid (prepend_known window now) got_old got_new after → FewMore b left now got_old got_new
-script_few b h window left mid now got_old got_new after begun good few p = record {
+script_few b d h window left mid now got_old got_new after begun good few p = record {
+  digits = d;
   h = h;
   front = p.front;
   line = p.line;
   window = window;
+  told = begun.text.few;
   good = good;
-  took = loses_both left mid now (stream h) ((p.front ++ p.line) ++ window) (took_text left mid h begun) (loses_both mid (prepend_known window now) now (p.front ++ p.line) window p.took refl);
+  took = loses_both left mid now (stream d h) ((p.front ++ p.line) ++ window) (took_text left mid d h begun) (loses_both mid (prepend_known window now) now (p.front ++ p.line) window p.took refl);
   one = p.one;
   few = few;
   part = p.part;
@@ -193,24 +196,24 @@ shown h h' b b' T mid now got_old got_new r after same_h same_b base serves =
     (subst (λ (S : ℕ → Bool). Serves h' b' S mid now got_old got_new r after) base serves))
 
 -- What a session that began so makes of `view`.
-module _ (b b' : ℕ) (h h' : Hierarchy) (T : ℕ → Bool) (left mid now got_old got_new : Option (List ℕ)) (window : List ℕ) (after : ℕ → Bool) (begun : Begun left mid h) (good : IsValid h) (same_h : h' ≡ h) (same_b : b' ≡ b) (base : T ≡ no_records) where
+module _ (b b' d : ℕ) (h h' : Hierarchy) (T : ℕ → Bool) (left mid now got_old got_new : Option (List ℕ)) (window : List ℕ) (after : ℕ → Bool) (begun : Begun left mid d h) (good : IsValid h) (same_h : h' ≡ h) (same_b : b' ≡ b) (base : T ≡ no_records) where
   pub view_done : Serves h' b' T mid (prepend_known window now) got_old got_new (Ok tt) after → IfSome left (λ bytes. Replied (asked.View b) bytes None got_old got_new)
-  view_done serves = script_ended b h left mid (prepend_known window now) got_old got_new None None after begun good refl (shown h h' b b' T mid (prepend_known window now) got_old got_new (Ok tt) after same_h same_b base serves)
+  view_done serves = script_ended b d h left mid (prepend_known window now) got_old got_new None None after begun good refl (shown h h' b b' T mid (prepend_known window now) got_old got_new (Ok tt) after same_h same_b base serves)
 
   pub view_to_end : Serves h' b' T mid (prepend_known window now) got_old got_new (Ok tt) after → ReadToEnd (asked.View b) left now
-  view_to_end serves = script_to_end b h left mid now got_old got_new window after begun good (shown h h' b b' T mid (prepend_known window now) got_old got_new (Ok tt) after same_h same_b base serves)
+  view_to_end serves = script_to_end b d h left mid now got_old got_new window after begun good (shown h h' b b' T mid (prepend_known window now) got_old got_new (Ok tt) after same_h same_b base serves)
 
   pub view_served : (e : ServeFail) → Serves h' b' T mid (prepend_known window now) got_old got_new (Err e) after → WindowAfter {X = Unit {0}} (Err e) window → Ends (asked.View b) (Err (serve_fail e)) left now got_old got_new
   view_served e serves is = go e (shown h h' b b' T mid (prepend_known window now) got_old got_new (Err e) after same_h same_b base serves) is
     where
       go : (e : ServeFail) → Serves h b no_records mid (prepend_known window now) got_old got_new (Err e) after → WindowAfter {X = Unit {0}} (Err e) window → Ends (asked.View b) (Err (serve_fail e)) left now got_old got_new
-      go (serve_fails.BadLine n) s w = script_ended b h left mid (prepend_known window now) got_old got_new (Some (script.BadLine n)) (Some (faults.BadLine n)) after begun good refl s
-      go (serve_fails.NoRecord n) s w = script_ended b h left mid (prepend_known window now) got_old got_new (Some (script.NoRecord n)) (Some (faults.NoRecord n)) after begun good refl s
-      go serve_fails.ScriptTooLong s w = script_ended b h left mid (prepend_known window now) got_old got_new (Some script.TooLong) (Some faults.ScriptTooLong) after begun good refl s
+      go (serve_fails.BadLine n) s w = script_ended b d h left mid (prepend_known window now) got_old got_new (Some (script.BadLine n)) (Some (faults.BadLine n)) after begun good refl s
+      go (serve_fails.NoRecord n) s w = script_ended b d h left mid (prepend_known window now) got_old got_new (Some (script.NoRecord n)) (Some (faults.NoRecord n)) after begun good refl s
+      go serve_fails.ScriptTooLong s w = script_ended b d h left mid (prepend_known window now) got_old got_new (Some script.TooLong) (Some faults.ScriptTooLong) after begun good refl s
       go serve_fails.Read s w =
-          script_unread b h left mid now got_old got_new after begun good
+          script_unread b d h left mid now got_old got_new after begun good
           (subst (λ (o : Option (List ℕ)). CutOff h b no_records mid o got_old got_new after) (ap (λ (l : List ℕ). prepend_known l now) w ∙ sym (loses_none now)) s)
-      go serve_fails.Write s w = script_cut b h left mid (prepend_known window now) got_old got_new after begun good s
+      go serve_fails.Write s w = script_cut b d h left mid (prepend_known window now) got_old got_new after begun good s
 
   pub view_few : (e : ServeFail) → Serves h' b' T mid (prepend_known window now) got_old got_new (Err e) after → WindowAfter {X = Unit {0}} (Err e) window → serve_fail e ≡ fails.Write → FewMore b left now got_old got_new
   view_few e serves is write = go e (shown h h' b b' T mid (prepend_known window now) got_old got_new (Err e) after same_h same_b base serves) is write
@@ -220,7 +223,7 @@ module _ (b b' : ℕ) (h h' : Hierarchy) (T : ℕ → Bool) (left mid now got_ol
       go (serve_fails.NoRecord n) s w write = absurd (cc write)
       go serve_fails.ScriptTooLong s w write = absurd (cc write)
       go serve_fails.Read s w write = absurd (cc write)
-      go serve_fails.Write s w write = script_few b h window left mid now got_old got_new after begun good w s
+      go serve_fails.Write s w write = script_few b d h window left mid now got_old got_new after begun good w s
 
 pub view_counts : (e : ServeFail) (in_old in_mid in_new out_old out_new : ℕ) → in_mid ≡ in_old → ServeCounts {X = Unit {0}} (Err e) in_mid in_new out_old out_new → Counts (Err (serve_fail e)) in_old in_new out_old out_new
 view_counts (serve_fails.BadLine n) in_old in_mid in_new out_old out_new same counts = (counts.0 ∙ same, counts.1)

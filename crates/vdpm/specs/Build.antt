@@ -16,6 +16,6 @@ pub record IsSimplified (m : Mesh) (target : ℕ) (h : Hierarchy) : Type 0 where
   pub made : h ≡ hierarchy_of_run m log
 
 -- The text gives no mesh, or its mesh is simplified; and how many bytes decide that, where it isn't the end of the text.
-pub data IsBuilt (target : ℕ) (bytes : List ℕ) : Result Hierarchy Fault → Option ℕ → Type 0 where
-  no_surface : (f : Fault) (place : Option ℕ) → IsSurface bytes (Err f) place → IsBuilt target bytes (Err f) place
-  simplified : (m : Mesh) (h : Hierarchy) (place : Option ℕ) → IsSurface bytes (Ok m) place → IsSimplified m target h → IsBuilt target bytes (Ok h) place
+pub data IsBuilt (target digits : ℕ) (bytes : List ℕ) : Result Hierarchy Fault → Option ℕ → Type 0 where
+  no_surface : (f : Fault) (place : Option ℕ) → IsSurface digits bytes (Err f) place → IsBuilt target digits bytes (Err f) place
+  simplified : (m : Mesh) (h : Hierarchy) (place : Option ℕ) → IsSurface digits bytes (Ok m) place → IsSimplified m target h → IsBuilt target digits bytes (Ok h) place

@@ -22,12 +22,13 @@ use Rattle.vdpm.specs.Outcome.{IsOutcome, Replied, CutShort}
 -- script lines whose LF is among them.
 pub data RepliesTo (budget : ℕ) : List ℕ → List ℕ → Type 0 where
   in_stream : (taken : List ℕ) → stream_fault taken ≡ Some (format.Truncated (length taken)) → RepliesTo budget taken []
-  in_script : (h : Hierarchy) (front line : List ℕ) → IsValid h → AreLines front → until 10 line ≡ line → RepliesTo budget (stream h ++ (front ++ line)) (played h budget no_records front).text
+  in_script : (digits : ℕ) (h : Hierarchy) (front line : List ℕ) → digits ≤ 4 → IsValid h → AreLines front → until 10 line ≡ line
+      → RepliesTo budget (stream digits h ++ (front ++ line)) (played h budget no_records front).text
 
 -- What a command has put once these bytes were taken and no more can be: `view` its replies, and the others nothing.
 abbrev pub PutBy : Asked → List ℕ → List ℕ → Type 0
-PutBy asked.Canon taken text = text ≡ []
-PutBy (asked.Build target) taken text = text ≡ []
+PutBy (asked.Canon digits) taken text = text ≡ []
+PutBy (asked.Build target digits) taken text = text ≡ []
 PutBy asked.Expand taken text = text ≡ []
 PutBy asked.Check taken text = text ≡ []
 PutBy (asked.View budget) taken text = RepliesTo budget taken text
@@ -47,12 +48,14 @@ ReadToEnd asks left now = IfSome left (λ bytes. (all : Ran) → IsOutcome asks 
 
 -- A write of `view` failed at the reply to this line, and few bytes were taken past the line.
 pub record FewMore (budget : ℕ) (left now old new : Option (List ℕ)) : Type 0 where
+  pub digits : ℕ
   pub h : Hierarchy
   pub front : List ℕ
   pub line : List ℕ
   pub window : List ℕ
+  pub told : digits ≤ 4
   pub good : IsValid h
-  pub took : Loses left now (stream h ++ ((front ++ line) ++ window))
+  pub took : Loses left now (stream digits h ++ ((front ++ line) ++ window))
   pub one : lines line ≡ line ∷ []
   pub few : length window ≤ 4095
   pub part : GainsPart old new (played h budget no_records (front ++ line)).text

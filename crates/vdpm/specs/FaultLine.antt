@@ -35,6 +35,7 @@ line_of number = codes "vdpm: fault " ++ decimal number ++ codes "\n"
 abbrev pub stream_line : FormatError → List ℕ
 stream_line format.BadMagic = line_of 20
 stream_line (format.BadVersion version) = line_at 21 (codes "version") version
+stream_line (format.BadDigits digits) = line_at 33 (codes "digits") digits
 stream_line (format.Truncated bytes) = line_at 22 (codes "byte") bytes
 stream_line format.BadCount = line_of 23
 stream_line (format.BadRoot root) = line_at 24 (codes "root") root

@@ -22,12 +22,12 @@ ScriptsKeepSetsClosed =
 
 -- The sink gained the stream text of what was built. `view` plays on it the script that follows, and a `w` after any lines
 -- shows an oriented manifold, as every closed set of split records does.
-pub record ShowsSurfaces (target : ℕ) (bytes : List ℕ) (old new : Option (List ℕ)) : Type 0 where
+pub record ShowsSurfaces (target digits : ℕ) (bytes : List ℕ) (old new : Option (List ℕ)) : Type 0 where
   pub h : Hierarchy
-  pub built : IsBuilt target bytes (Ok h) None
-  pub gained : Gains old new (stream h)
+  pub built : IsBuilt target digits bytes (Ok h) None
+  pub gained : Gains old new (stream digits h)
   pub views :
       (budget : ℕ) (script : List ℕ)
-      → IsOutcome (asked.View budget) (stream h ++ script) (of_script (length (stream h)) (played h budget no_records script))
+      → IsOutcome (asked.View budget) (stream digits h ++ script) (of_script (length (stream digits h)) (played h budget no_records script))
   pub frames : (budget : ℕ) (front : List ℕ) → IsOrientedManifold (shown_net h (played h budget no_records front).split)
   pub fronts : (T : ℕ → Bool) → IsClosed h T → IsOrientedManifold (shown_net h T)

@@ -1,5 +1,5 @@
 -- What bytes give that should begin with a stream text.
-use Rattle.std.specs.Prelude.{◌≡◌, ◌≢◌, ℕ, ◌+◌, List, [], ◌++◌, length, Option, Some, None, Result, Ok, Err}
+use Rattle.std.specs.Prelude.{◌≡◌, ◌≢◌, ℕ, ◌+◌, ◌≤◌, List, [], ◌++◌, length, Option, Some, None, Result, Ok, Err}
 use Rattle.pm_base.specs.Sides.{net_of, NoSideTwice}
 use Rattle.pm_twins.specs.Faults.{IsFirstRepeating}
 use Rattle.pm_forest.specs.Forest.{Hierarchy}
@@ -21,8 +21,9 @@ use Rattle.vdpm.specs.declared.fault.Fault.TheVariants as faults
 use Rattle.vdpm.specs.declared.fault.InputFail.{InputFail}
 use Rattle.vdpm.specs.declared.fault.InputFail.TheVariants as input
 
--- A hierarchy, and the bytes that follow its stream text.
+-- A hierarchy, how many decimals its coordinates have, and the bytes that follow its stream text.
 pub record Opening : Type 0 where
+  pub digits : ℕ
   pub h : Hierarchy
   pub rest : List ℕ
 
@@ -31,7 +32,8 @@ pub record Opening : Type 0 where
 pub data IsOpening (bytes : List ℕ) : Result Opening Fault → Option ℕ → Type 0 where
   bad_unit : (e : FormatError) (n : ℕ) → stream_fault bytes ≡ Some e → IsDecidedAt bytes n → IsOpening bytes (Err (faults.Stream e)) (Some n)
   cut_off : stream_fault bytes ≡ Some (format.Truncated (length bytes)) → IsOpening bytes (Err (faults.Stream (format.Truncated (length bytes)))) None
-  begins : (h : Hierarchy) (rest : List ℕ) → HasShape h → bytes ≡ stream h ++ rest → IsOpening bytes (Ok (record { h = h; rest = rest })) (Some (length (stream h)))
+  begins : (digits : ℕ) (h : Hierarchy) (rest : List ℕ) → digits ≤ 4 → HasShape h → bytes ≡ stream digits h ++ rest
+      → IsOpening bytes (Ok (record { digits = digits; h = h; rest = rest })) (Some (length (stream digits h)))
 
 -- Want of memory is no fault of the bytes.
 abbrev pub stream_fail : StreamFail → InputFail
@@ -39,6 +41,7 @@ stream_fail streams.Read = input.Read
 stream_fail (streams.Fault format.OutOfMemory) = input.OutOfMemory
 stream_fail (streams.Fault format.BadMagic) = input.Faulty (faults.Stream format.BadMagic)
 stream_fail (streams.Fault (format.BadVersion version)) = input.Faulty (faults.Stream (format.BadVersion version))
+stream_fail (streams.Fault (format.BadDigits digits)) = input.Faulty (faults.Stream (format.BadDigits digits))
 stream_fail (streams.Fault (format.Truncated bytes)) = input.Faulty (faults.Stream (format.Truncated bytes))
 stream_fail (streams.Fault format.BadCount) = input.Faulty (faults.Stream format.BadCount)
 stream_fail (streams.Fault (format.BadRoot root)) = input.Faulty (faults.Stream (format.BadRoot root))
@@ -61,10 +64,10 @@ pub data IsValidOpening (bytes : List ℕ) : Result Opening Fault → Option ℕ
 
 -- The bytes don't begin with the stream text of a valid hierarchy, or a byte follows it, or they are its text. That
 -- nothing follows is decided by the end of the bytes alone.
-pub data IsHierarchyText (bytes : List ℕ) : Result Hierarchy Fault → Option ℕ → Type 0 where
+pub data IsHierarchyText (bytes : List ℕ) : Result Opening Fault → Option ℕ → Type 0 where
   no_hierarchy : (f : Fault) (place : Option ℕ) → IsValidOpening bytes (Err f) place → IsHierarchyText bytes (Err f) place
-  bytes_after : (o : Opening) (place : Option ℕ) → IsValidOpening bytes (Ok o) place → o.rest ≢ [] → IsHierarchyText bytes (Err faults.Trailing) (Some (length (stream o.h) + 1))
-  whole_text : (o : Opening) (place : Option ℕ) → IsValidOpening bytes (Ok o) place → o.rest ≡ [] → IsHierarchyText bytes (Ok o.h) None
+  bytes_after : (o : Opening) (place : Option ℕ) → IsValidOpening bytes (Ok o) place → o.rest ≢ [] → IsHierarchyText bytes (Err faults.Trailing) (Some (length (stream o.digits o.h) + 1))
+  whole_text : (o : Opening) (place : Option ℕ) → IsValidOpening bytes (Ok o) place → o.rest ≡ [] → IsHierarchyText bytes (Ok o) None
 
 -- Want of memory is no fault of a hierarchy.
 abbrev pub load_fail : LoadFail → InputFail

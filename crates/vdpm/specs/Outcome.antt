@@ -36,14 +36,14 @@ counts_line h =
     ++ codes " records " ++ decimal (record_count h) ++ codes " faces " ++ decimal (face_count h) ++ codes "\n"
 
 -- The outcome of a command on bytes. `canon` writes the canonical text of the mesh, `build` the stream text of the
--- hierarchy that the mesh's run makes, `expand` the canonical text of the mesh that a hierarchy was made from, `check` how
--- large the hierarchy is, and `view` what the script does that follows it.
+-- hierarchy that the mesh's run makes, `expand` the canonical text of the mesh that a hierarchy was made from, with as many
+-- decimals as the stream tells, `check` how large the hierarchy is, and `view` what the script does that follows it.
 abbrev pub IsOutcome : Asked → List ℕ → Ran → Type 0
-IsOutcome asked.Canon bytes all = Follows (IsSurface bytes) (λ m. whole (canonical_text m)) all
-IsOutcome (asked.Build target) bytes all = Follows (IsBuilt target bytes) (λ h. whole (stream h)) all
-IsOutcome asked.Expand bytes all = Follows (IsHierarchyText bytes) (λ h. whole (canonical_text (input_mesh_of h))) all
-IsOutcome asked.Check bytes all = Follows (IsHierarchyText bytes) (λ h. whole (counts_line h)) all
-IsOutcome (asked.View budget) bytes all = Follows (IsValidOpening bytes) (λ o. of_script (length (stream o.h)) (played o.h budget no_records o.rest)) all
+IsOutcome (asked.Canon digits) bytes all = Follows (IsSurface digits bytes) (λ m. whole (canonical_text digits m)) all
+IsOutcome (asked.Build target digits) bytes all = Follows (IsBuilt target digits bytes) (λ h. whole (stream digits h)) all
+IsOutcome asked.Expand bytes all = Follows (IsHierarchyText bytes) (λ o. whole (canonical_text o.digits (input_mesh_of o.h))) all
+IsOutcome asked.Check bytes all = Follows (IsHierarchyText bytes) (λ o. whole (counts_line o.h)) all
+IsOutcome (asked.View budget) bytes all = Follows (IsValidOpening bytes) (λ o. of_script (length (stream o.digits o.h)) (played o.h budget no_records o.rest)) all
 
 -- An input has one outcome: one text, one fault or none, and one place.
 abbrev pub OneOutcome : Type 0
@@ -56,10 +56,11 @@ pub record Replied (asks : Asked) (bytes : List ℕ) (fault : Option Fault) (old
   pub fault_is : all.fault ≡ fault
   pub gained : Gains old new all.text
 
--- The sink gained the text of a build, and `expand` does with that text what `canon` does with the OBJ text.
-pub record GivesBack (target : ℕ) (bytes : List ℕ) (old new : Option (List ℕ)) : Type 0 where
-  pub replied : Replied (asked.Build target) bytes None old new
-  pub expands : (all : Ran) → IsOutcome asked.Canon bytes all → IsOutcome asked.Expand replied.all.text all
+-- The sink gained the text of a build, and `expand` does with that text what `canon` does with the OBJ text, with the same
+-- number of decimals.
+pub record GivesBack (target digits : ℕ) (bytes : List ℕ) (old new : Option (List ℕ)) : Type 0 where
+  pub replied : Replied (asked.Build target digits) bytes None old new
+  pub expands : (all : Ran) → IsOutcome (asked.Canon digits) bytes all → IsOutcome asked.Expand replied.all.text all
 
 -- The sink gained a proper prefix of the outcome's text.
 pub record CutShort (asks : Asked) (bytes : List ℕ) (old new : Option (List ℕ)) : Type 0 where

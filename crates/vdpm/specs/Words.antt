@@ -1,5 +1,5 @@
 -- The words of a command line.
-use Rattle.std.specs.Prelude.{ℕ, nat_eq, Bool, true, false, List, [], ◌∷◌, Option, Some, None, if◌then◌else◌, codes}
+use Rattle.std.specs.Prelude.{ℕ, nat_eq, Bool, ◌&&◌, true, false, List, [], ◌∷◌, Option, Some, None, if◌then◌else◌, codes}
 use Rattle.std.specs.Cmp.Lexicographic.{pointwise}
 use Rattle.pm_io.specs.Digits.{unsigned_of}
 use Rattle.vdpm.specs.declared.words.Asked.{Asked}
@@ -8,8 +8,8 @@ use Rattle.vdpm.specs.declared.words.Asked.TheVariants as asked
 -- What a word asks for that stands alone.
 unfoldable pub alone : List ℕ → Option Asked
 alone word =
-    if pointwise nat_eq word (codes "canon") then Some asked.Canon
-    else if pointwise nat_eq word (codes "build") then Some (asked.Build 0)
+    if pointwise nat_eq word (codes "canon") then Some (asked.Canon 0)
+    else if pointwise nat_eq word (codes "build") then Some (asked.Build 0 0)
     else if pointwise nat_eq word (codes "expand") then Some asked.Expand
     else if pointwise nat_eq word (codes "check") then Some asked.Check
     else None
@@ -18,13 +18,35 @@ alone word =
 abbrev pub with_number : List ℕ → Option ℕ → Option Asked
 with_number word None = None
 with_number word (Some n) =
-    if pointwise nat_eq word (codes "build") then Some (asked.Build n)
+    if pointwise nat_eq word (codes "build") then Some (asked.Build n 0)
     else if pointwise nat_eq word (codes "view") then Some (asked.View n)
     else None
 
--- What the words ask for: `canon`, `build`, `build N`, `expand`, `check`, or `view B`, with N and B unsigned numbers of 32
--- bits. Other words ask for nothing.
+-- What `canon` asks for with a number of decimals after `--digits`, and `build N` with one.
+abbrev pub canon_with : List ℕ → List ℕ → Option ℕ → Option Asked
+canon_with word flag None = None
+canon_with word flag (Some digits) =
+    if pointwise nat_eq word (codes "canon") && pointwise nat_eq flag (codes "--digits") then Some (asked.Canon digits) else None
+
+abbrev pub build_with : List ℕ → Option ℕ → List ℕ → Option ℕ → Option Asked
+build_with word None flag digits = None
+build_with word (Some target) flag None = None
+build_with word (Some target) flag (Some digits) =
+    if pointwise nat_eq word (codes "build") && pointwise nat_eq flag (codes "--digits") then Some (asked.Build target digits) else None
+
+-- What the words ask for: `canon`, `canon --digits D`, `build`, `build N`, `build N --digits D`, `expand`, `check`, or
+-- `view B`, with N and B unsigned numbers of 32 bits and D from 0 to 4. Other words ask for nothing.
 unfoldable pub asked_of : List (List ℕ) → Option Asked
 asked_of (word ∷ []) = alone word
 asked_of (word ∷ number ∷ []) = with_number word (unsigned_of 4294967295 number)
+asked_of (word ∷ flag ∷ digits ∷ []) = canon_with word flag (unsigned_of 4 digits)
+asked_of (word ∷ number ∷ flag ∷ digits ∷ []) = build_with word (unsigned_of 4294967295 number) flag (unsigned_of 4 digits)
 asked_of _ = None
+
+-- How many decimals the coordinates of the text have that is read.
+abbrev pub digits_of : Asked → ℕ
+digits_of (asked.Canon digits) = digits
+digits_of (asked.Build target digits) = digits
+digits_of asked.Expand = 0
+digits_of asked.Check = 0
+digits_of (asked.View budget) = 0

@@ -1,5 +1,5 @@
 // `build`: an OBJ text's mesh is simplified, and the hierarchy of the run is written as a stream.
-ghost use Rattle.std.specs.Prelude.{◌≡◌, None, Ok, IfOk, IfErr, IfSome, OnOk};
+ghost use Rattle.std.specs.Prelude.{◌≡◌, ◌≤◌, None, Ok, IfOk, IfErr, IfSome, OnOk};
 ghost use Rattle.pm_base.specs.Meshes.{mesh_of};
 ghost use Rattle.pm_io.specs.Bytes.{AtEnd};
 ghost use Rattle.pm_forest.specs.Meshes.{input_mesh_of};
@@ -44,16 +44,18 @@ fn simplified(alloc: Global, mesh: &Mesh, target: u32) -> Result<Hierarchy, OutO
 fn build_hierarchy<S: Source>(
     alloc: Global,
     target: u32,
+    digits: u32,
     input: &mut S,
 ) -> Result<Hierarchy, InputFail>
-    ensures built { IfOk result (λ h. IfSome (S.left input.old) (λ bytes. IsBuilt target bytes (Ok h) None)) }
-    ensures mesh { IfOk result (λ h. IfSome (S.left input.old) (λ bytes. IsSurface bytes (Ok (input_mesh_of h)) None)) }
+    requires { digits ≤ 4 }
+    ensures built { IfOk result (λ h. IfSome (S.left input.old) (λ bytes. IsBuilt target digits bytes (Ok h) None)) }
+    ensures mesh { IfOk result (λ h. IfSome (S.left input.old) (λ bytes. IsSurface digits bytes (Ok (input_mesh_of h)) None)) }
     ensures firm { IfOk result IsFirm }
     ensures end { OnOk result (AtEnd (S.left input.new)) }
     ensures count { OnOk result (S.faults input.new ≡ S.faults input.old) }
-    ensures err { IfErr result (λ e. Stops (IsBuilt target) e (S.left input.old) (S.left input.new) (S.faults input.old) (S.faults input.new)) }
+    ensures err { IfErr result (λ e. Stops (IsBuilt target digits) e (S.left input.old) (S.left input.new) (S.faults input.old) (S.faults input.new)) }
 {
-    let mesh = match read_surface(alloc, input) {
+    let mesh = match read_surface(alloc, digits, input) {
         Ok(mesh) => mesh,
         Err(fail) => return Err(fail),
     };
@@ -63,25 +65,27 @@ fn build_hierarchy<S: Source>(
     }
 }
 
-/// `build N`: reads an OBJ text, simplifies its mesh to N faces or as far as pairs may be collapsed, and writes the stream
-/// text of the run's hierarchy.
+/// `build N --digits D`: reads an OBJ text, simplifies its mesh to N faces or as far as pairs may be collapsed, and writes
+/// the stream text of the run's hierarchy, each with D decimals a coordinate.
 pub fn build<S: Source, K: Sink>(
     alloc: Global,
     target: u32,
+    digits: u32,
     input: &mut S,
     out: &mut K,
 ) -> Result<(), CommandFail>
-    ensures ends { Ends (Asked.Build target) result (S.left input.old) (S.left input.new) (K.got out.old) (K.got out.new) }
-    ensures gives_back { OnOk result (IfSome (S.left input.old) (λ bytes. GivesBack target bytes (K.got out.old) (K.got out.new))) }
-    ensures surfaces { OnOk result (IfSome (S.left input.old) (λ bytes. ShowsSurfaces target bytes (K.got out.old) (K.got out.new))) }
+    requires { digits ≤ 4 }
+    ensures ends { Ends (Asked.Build target digits) result (S.left input.old) (S.left input.new) (K.got out.old) (K.got out.new) }
+    ensures gives_back { OnOk result (IfSome (S.left input.old) (λ bytes. GivesBack target digits bytes (K.got out.old) (K.got out.new))) }
+    ensures surfaces { OnOk result (IfSome (S.left input.old) (λ bytes. ShowsSurfaces target digits bytes (K.got out.old) (K.got out.new))) }
     ensures counts { Counts result (S.faults input.old) (S.faults input.new) (K.faults out.old) (K.faults out.new) }
     ensures read_whole { OnOk result (AtEnd (S.left input.new)) }
 {
-    let h = match build_hierarchy(alloc, target, input) {
+    let h = match build_hierarchy(alloc, target, digits, input) {
         Ok(h) => h,
         Err(fail) => return Err(fail_of(fail)),
     };
-    match encode(&h, out) {
+    match encode(&h, digits, out) {
         Ok(()) => Ok(()),
         Err(_) => Err(CommandFail::Write),
     }

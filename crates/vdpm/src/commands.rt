@@ -1,5 +1,5 @@
 // What each command does with its devices. All memory is taken before the first byte of output.
-ghost use Rattle.std.specs.Prelude.{◌≡◌, OnOk, IfErr};
+ghost use Rattle.std.specs.Prelude.{◌≡◌, ◌≤◌, OnOk, IfErr};
 ghost use Rattle.pm_io.specs.Bytes.{AtEnd};
 ghost use Rattle.vdpm.specs.Ran.{serve_fail};
 ghost use Rattle.vdpm.specs.Ending.{Ends, Counts, ReadToEnd, FewMore};
@@ -10,32 +10,36 @@ use crate::opening::{load_fail, read_hierarchy, stream_fail};
 use crate::surface::read_surface;
 use crate::words::Asked;
 use obj_write::write_obj;
-use pm_format::read_stream;
+use pm_format::{Stream, read_stream};
 use pm_io::{Line, Sink, Source, Taker, put_all};
 use pm_session::{ServeFail, Session};
 use std::alloc::Global;
 
-/// `canon`: reads an OBJ text, and writes the canonical text of its mesh where that is an oriented manifold.
+/// `canon --digits D`: reads an OBJ text, and writes the canonical text of its mesh where that is an oriented manifold, each
+/// with D decimals a coordinate.
 pub fn canon<S: Source, K: Sink>(
     alloc: Global,
+    digits: u32,
     input: &mut S,
     out: &mut K,
 ) -> Result<(), CommandFail>
-    ensures ends { Ends Asked.Canon result (S.left input.old) (S.left input.new) (K.got out.old) (K.got out.new) }
+    requires { digits ≤ 4 }
+    ensures ends { Ends (Asked.Canon digits) result (S.left input.old) (S.left input.new) (K.got out.old) (K.got out.new) }
     ensures counts { Counts result (S.faults input.old) (S.faults input.new) (K.faults out.old) (K.faults out.new) }
     ensures read_whole { OnOk result (AtEnd (S.left input.new)) }
 {
-    let mesh = match read_surface(alloc, input) {
+    let mesh = match read_surface(alloc, digits, input) {
         Ok(mesh) => mesh,
         Err(fail) => return Err(fail_of(fail)),
     };
-    match write_obj(&mesh, out) {
+    match write_obj(&mesh, digits, out) {
         Ok(()) => Ok(()),
         Err(_) => Err(CommandFail::Write),
     }
 }
 
-/// `expand`: reads a stream text, and writes the canonical text of the mesh that its hierarchy was made from.
+/// `expand`: reads a stream text, and writes the canonical text of the mesh that its hierarchy was made from, with as many
+/// decimals as the stream tells.
 pub fn expand<S: Source, K: Sink>(
     alloc: Global,
     input: &mut S,
@@ -45,14 +49,14 @@ pub fn expand<S: Source, K: Sink>(
     ensures counts { Counts result (S.faults input.old) (S.faults input.new) (K.faults out.old) (K.faults out.new) }
     ensures read_whole { OnOk result (AtEnd (S.left input.new)) }
 {
-    let front = match read_hierarchy(alloc, input) {
-        Ok(front) => front,
+    let base = match read_hierarchy(alloc, input) {
+        Ok(base) => base,
         Err(fail) => return Err(fail_of(fail)),
     };
-    let Ok(mesh) = front.hierarchy().input_mesh(alloc) else {
+    let Ok(mesh) = base.front.hierarchy().input_mesh(alloc) else {
         return Err(CommandFail::OutOfMemory);
     };
-    match write_obj(&mesh, out) {
+    match write_obj(&mesh, base.digits, out) {
         Ok(()) => Ok(()),
         Err(_) => Err(CommandFail::Write),
     }
@@ -68,12 +72,12 @@ pub fn check<S: Source, K: Sink>(
     ensures counts { Counts result (S.faults input.old) (S.faults input.new) (K.faults out.old) (K.faults out.new) }
     ensures read_whole { OnOk result (AtEnd (S.left input.new)) }
 {
-    let front = match read_hierarchy(alloc, input) {
-        Ok(front) => front,
+    let base = match read_hierarchy(alloc, input) {
+        Ok(base) => base,
         Err(fail) => return Err(fail_of(fail)),
     };
     let mut line = Line::new();
-    put_counts(&mut line, front.hierarchy());
+    put_counts(&mut line, base.front.hierarchy());
     match put_all(out, line.as_slice()) {
         Ok(()) => Ok(()),
         Err(_) => Err(CommandFail::Write),
@@ -109,8 +113,8 @@ pub fn view<S: Source, K: Sink>(
     let Ok(mut taker) = Taker::new(alloc) else {
         return Err(CommandFail::OutOfMemory);
     };
-    let h = match read_stream(alloc, &mut taker, input) {
-        Ok(h) => h,
+    let Stream { h, .. } = match read_stream(alloc, &mut taker, input) {
+        Ok(stream) => stream,
         Err(fail) => return Err(fail_of(stream_fail(fail))),
     };
     let mut session = match Session::start(alloc, h, budget) {

@@ -8,6 +8,8 @@ mod build;
 #[cfg(test)]
 mod build_tests;
 mod commands;
+#[cfg(test)]
+mod digits_tests;
 mod fault;
 mod line;
 mod opening;

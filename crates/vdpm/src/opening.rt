@@ -1,11 +1,11 @@
 // The hierarchy of a stream text.
-ghost use Rattle.std.specs.Prelude.{◌≡◌, None, Ok, IfOk, IfErr, IfSome, OnOk};
+ghost use Rattle.std.specs.Prelude.{◌≡◌, ◌≤◌, [], None, Ok, IfOk, IfErr, IfSome, OnOk};
 ghost use Rattle.pm_io.specs.Bytes.{AtEnd};
 ghost use Rattle.vdpm.specs.Input.{Stops};
 ghost use Rattle.vdpm.specs.Opening.{stream_fail, load_fail, IsHierarchyText};
 
 use crate::fault::{Fault, InputFail};
-use pm_format::{FormatError, StreamFail, read_stream};
+use pm_format::{FormatError, Stream, StreamFail, read_stream};
 use pm_front::Front;
 use pm_io::{Source, Taker};
 use pm_load::{LoadFail, open_front};
@@ -33,10 +33,18 @@ pub fn load_fail(fail: LoadFail) -> InputFail
     }
 }
 
+/// The base front of a valid hierarchy, and how many decimals its coordinates have.
+#[derive(Drop)]
+pub struct Base {
+    pub front: Front,
+    pub digits: u32,
+}
+
 /// Reads the stream text of a valid hierarchy and looks that no byte follows it, and answers its base front. A fault is
 /// answered once the bytes that decide it were taken.
-pub fn read_hierarchy<S: Source>(alloc: Global, input: &mut S) -> Result<Front, InputFail>
-    ensures read { IfOk result (λ f. IfSome (S.left input.old) (λ bytes. IsHierarchyText bytes (Ok f.h) None)) }
+pub fn read_hierarchy<S: Source>(alloc: Global, input: &mut S) -> Result<Base, InputFail>
+    ensures read { IfOk result (λ b. IfSome (S.left input.old) (λ bytes. IsHierarchyText bytes (Ok (record { digits = b.digits; h = b.front.h; rest = [] })) None)) }
+    ensures few { IfOk result (λ b. b.digits ≤ 4) }
     ensures end { OnOk result (AtEnd (S.left input.new)) }
     ensures count { OnOk result (S.faults input.new ≡ S.faults input.old) }
     ensures err { IfErr result (λ e. Stops IsHierarchyText e (S.left input.old) (S.left input.new) (S.faults input.old) (S.faults input.new)) }
@@ -44,8 +52,8 @@ pub fn read_hierarchy<S: Source>(alloc: Global, input: &mut S) -> Result<Front, 
     let Ok(mut taker) = Taker::new(alloc) else {
         return Err(InputFail::OutOfMemory);
     };
-    let h = match read_stream(alloc, &mut taker, input) {
-        Ok(h) => h,
+    let Stream { h, digits } = match read_stream(alloc, &mut taker, input) {
+        Ok(stream) => stream,
         Err(fail) => return Err(stream_fail(fail)),
     };
     let front = match open_front(alloc, h) {
@@ -53,7 +61,7 @@ pub fn read_hierarchy<S: Source>(alloc: Global, input: &mut S) -> Result<Front, 
         Err(fail) => return Err(load_fail(fail)),
     };
     match taker.piece(input) {
-        Ok([]) => Ok(front),
+        Ok([]) => Ok(Base { front, digits }),
         Ok(_) => Err(InputFail::Faulty(Fault::Trailing)),
         Err(_) => Err(InputFail::Read),
     }

@@ -3,7 +3,7 @@ ghost use Rattle.std.specs.Prelude.{◌≡◌, ◌⊎◌, ◌≤◌, ◌<◌, �
 ghost use Rattle.std.specs.String.{string_bytes};
 ghost use Rattle.pm_io.specs.Causes.{Rose};
 ghost use Rattle.vdpm.specs.declared.fault.Fault.{Fault};
-ghost use Rattle.vdpm.specs.Words.{asked_of};
+ghost use Rattle.vdpm.specs.Words.{asked_of, digits_of};
 ghost use Rattle.vdpm.specs.FaultLine.{fault_line};
 ghost use Rattle.vdpm.specs.Ran.{Ran};
 ghost use Rattle.vdpm.specs.Outcome.{IsOutcome, Replied, GivesBack, CutShort};
@@ -27,16 +27,17 @@ fn obey<S: Source, K: Sink>(
     input: &mut S,
     out: &mut K,
 ) -> Result<(), CommandFail>
+    requires { digits_of asked ≤ 4 }
     ensures ends { Ends asked result (S.left input.old) (S.left input.new) (K.got out.old) (K.got out.new) }
     ensures counts { Counts result (S.faults input.old) (S.faults input.new) (K.faults out.old) (K.faults out.new) }
     ensures read_whole { OnOk result (ReadToEnd asked (S.left input.old) (S.left input.new)) }
-    ensures gives_back { (target : ℕ) → asked ≡ Asked.Build target → OnOk result (IfSome (S.left input.old) (λ bytes. GivesBack target bytes (K.got out.old) (K.got out.new))) }
-    ensures surfaces { (target : ℕ) → asked ≡ Asked.Build target → OnOk result (IfSome (S.left input.old) (λ bytes. ShowsSurfaces target bytes (K.got out.old) (K.got out.new))) }
+    ensures gives_back { (target digits : ℕ) → asked ≡ Asked.Build target digits → OnOk result (IfSome (S.left input.old) (λ bytes. GivesBack target digits bytes (K.got out.old) (K.got out.new))) }
+    ensures surfaces { (target digits : ℕ) → asked ≡ Asked.Build target digits → OnOk result (IfSome (S.left input.old) (λ bytes. ShowsSurfaces target digits bytes (K.got out.old) (K.got out.new))) }
     ensures few_more { (budget : ℕ) → asked ≡ Asked.View budget → IfErr result (λ e. e ≡ CommandFail.Write → FewMore budget (S.left input.old) (S.left input.new) (K.got out.old) (K.got out.new)) }
 {
     match asked {
-        Asked::Canon => canon(alloc, input, out),
-        Asked::Build(target) => build(alloc, target, input, out),
+        Asked::Canon(digits) => canon(alloc, digits, input, out),
+        Asked::Build(target, digits) => build(alloc, target, digits, input, out),
         Asked::Expand => expand(alloc, input, out),
         Asked::Check => check(alloc, input, out),
         Asked::View(budget) => view(alloc, budget, input, out),
@@ -46,8 +47,9 @@ fn obey<S: Source, K: Sink>(
 /// Does what the words after the program's name ask for, and answers the exit status.
 ///
 /// `canon` reads an OBJ text from `input` and writes its canonical text to `out`. `build N` reads one too, and writes the
-/// stream text of its mesh simplified to N faces; `build` is `build 0`. `expand` reads a stream text and writes
-/// the canonical text of the mesh that it was made from; `check` writes how large it is. `view B` reads a stream text and
+/// stream text of its mesh simplified to N faces; `build` is `build 0`. With `--digits D` after it each of them reads and
+/// writes coordinates with D decimals, and else with none. `expand` reads a stream text and writes the canonical text of
+/// the mesh that it was made from, with as many decimals as it tells; `check` writes how large it is. `view B` reads a stream text and
 /// the script that follows it, and writes the replies, each before it asks for more input. What ended a command early is
 /// said on `err`. Status 0: all was done. 1: the input has a fault, and the replies before it were put. 2: the words are none
 /// of the forms. 3: a read failed before the bytes that decide the outcome were taken. 4: a write to `out` failed. 5: memory
@@ -67,9 +69,9 @@ pub fn run<S: Source, K: Sink, E: Sink>(
     // The outcome of what was asked for is whole, and exactly its text was put.
     ensures whole { (asked : Asked) → asked_of (map string_bytes words.now) ≡ Some asked → result ≡ 0 → IfSome (S.left input.old) (λ bytes. Replied asked bytes None (K.got out.old) (K.got out.new)) }
     // The stream of a build expands to the mesh of the OBJ text: what `canon` does with that text, `expand` does with the stream.
-    ensures expands { (target : ℕ) → asked_of (map string_bytes words.now) ≡ Some (Asked.Build target) → result ≡ 0 → IfSome (S.left input.old) (λ bytes. GivesBack target bytes (K.got out.old) (K.got out.new)) }
+    ensures expands { (target digits : ℕ) → asked_of (map string_bytes words.now) ≡ Some (Asked.Build target digits) → result ≡ 0 → IfSome (S.left input.old) (λ bytes. GivesBack target digits bytes (K.got out.old) (K.got out.new)) }
     // Each frame that `view` writes of that stream, after whatever lines of a script, shows an oriented manifold.
-    ensures surfaces { (target : ℕ) → asked_of (map string_bytes words.now) ≡ Some (Asked.Build target) → result ≡ 0 → IfSome (S.left input.old) (λ bytes. ShowsSurfaces target bytes (K.got out.old) (K.got out.new)) }
+    ensures surfaces { (target digits : ℕ) → asked_of (map string_bytes words.now) ≡ Some (Asked.Build target digits) → result ≡ 0 → IfSome (S.left input.old) (λ bytes. ShowsSurfaces target digits bytes (K.got out.old) (K.got out.new)) }
     ensures whole_counts { result ≡ 0 → (S.faults input.new ≡ S.faults input.old) × (K.faults out.new ≡ K.faults out.old) }
     // The input was read to its end, or to the `q` of a script.
     ensures read_whole { (asked : Asked) → asked_of (map string_bytes words.now) ≡ Some asked → result ≡ 0 → ReadToEnd asked (S.left input.old) (S.left input.new) }

@@ -68,6 +68,7 @@ fn put_stream_fault(line: &mut Line, fault: FormatError)
     match fault {
         FormatError::BadMagic => put_number(line, 20),
         FormatError::BadVersion(version) => put_place(line, 21, b"version", u64::from(version)),
+        FormatError::BadDigits(digits) => put_place(line, 33, b"digits", u64::from(digits)),
         FormatError::Truncated(bytes) => put_place(line, 22, b"byte", u64::from(bytes)),
         FormatError::BadCount => put_number(line, 23),
         FormatError::BadRoot(root) => put_place(line, 24, b"root", u64::from(root)),

@@ -1,5 +1,5 @@
 // The mesh of an OBJ text, where it is an oriented manifold.
-ghost use Rattle.std.specs.Prelude.{◌≡◌, None, Ok, IfOk, IfErr, IfSome, OnOk};
+ghost use Rattle.std.specs.Prelude.{◌≡◌, ◌≤◌, None, Ok, IfOk, IfErr, IfSome, OnOk};
 ghost use Rattle.pm_base.specs.Meshes.{IsWellFormed, mesh_of};
 ghost use Rattle.pm_base.specs.Sides.{net_of};
 ghost use Rattle.pm_base.specs.Fans.{IsOrientedManifold};
@@ -35,16 +35,17 @@ fn check_surface(alloc: Global, mesh: &Mesh) -> Result<(), InputFail>
     }
 }
 
-/// Reads an OBJ text, and answers its mesh where that is an oriented manifold. A line with a fault is refused as soon as
+/// Reads an OBJ text with so many decimals a coordinate, and answers its mesh where that is an oriented manifold. A line with a fault is refused as soon as
 /// the byte that shows the fault has come; the surface is looked at once the text has ended.
-pub fn read_surface<S: Source>(alloc: Global, input: &mut S) -> Result<Mesh, InputFail>
-    ensures surface { IfOk result (λ m. IfSome (S.left input.old) (λ bytes. IsSurface bytes (Ok (mesh_of m)) None)) }
+pub fn read_surface<S: Source>(alloc: Global, digits: u32, input: &mut S) -> Result<Mesh, InputFail>
+    requires { digits ≤ 4 }
+    ensures surface { IfOk result (λ m. IfSome (S.left input.old) (λ bytes. IsSurface digits bytes (Ok (mesh_of m)) None)) }
     ensures start { IfOk result (λ m. IsStart (mesh_of m)) }
     ensures end { OnOk result (AtEnd (S.left input.new)) }
     ensures count { OnOk result (S.faults input.new ≡ S.faults input.old) }
-    ensures err { IfErr result (λ e. Stops IsSurface e (S.left input.old) (S.left input.new) (S.faults input.old) (S.faults input.new)) }
+    ensures err { IfErr result (λ e. Stops (IsSurface digits) e (S.left input.old) (S.left input.new) (S.faults input.old) (S.faults input.new)) }
 {
-    let mesh = match read_obj(alloc, input) {
+    let mesh = match read_obj(alloc, digits, input) {
         Ok(mesh) => mesh,
         Err(ObjFail::Fault { fault, line }) => {
             return Err(InputFail::Faulty(Fault::Obj(fault, line)));

@@ -149,7 +149,7 @@ fn obj_texts(rt: HostRuntime) -> Result<(), Fail> {
 #[test]
 fn words(rt: HostRuntime) -> Result<(), Fail> {
     let alloc = rt.alloc();
-    let refused: [&[&str]; 11] = [
+    let refused: [&[&str]; 16] = [
         &[],
         &["view"],
         &["view", "-1"],
@@ -161,6 +161,11 @@ fn words(rt: HostRuntime) -> Result<(), Fail> {
         &["build", "01"],
         &["expand", "1"],
         &["check", "x"],
+        &["build", "0", "--digits", "5"],
+        &["build", "--digits", "2"],
+        &["canon", "--digits"],
+        &["canon", "--digits", "02"],
+        &["expand", "--digits", "2"],
     ];
     for words in refused {
         let mut source = MemSource::new(alloc, b"x", 1, &[0])?;

@@ -1,18 +1,18 @@
 // The words of the command line.
-ghost use Rattle.std.specs.Prelude.{◌≡◌, map};
+ghost use Rattle.std.specs.Prelude.{◌≡◌, ◌≤◌, map, IfSome};
 ghost use Rattle.std.specs.String.{string_bytes};
-ghost use Rattle.vdpm.specs.Words.{alone, asked_of};
+ghost use Rattle.vdpm.specs.Words.{alone, asked_of, digits_of};
 
 use pm_io::read_unsigned;
 
 /// What the words ask for.
 #[derive(Clone, Copy, Debug, PartialEq, Eq)]
 pub enum Asked {
-    /// `canon`: the canonical text of an OBJ text.
-    Canon,
-    /// `build` and `build N`: the stream of an OBJ text's mesh, simplified to this number of faces; to none by `build`
-    /// alone.
-    Build(u32),
+    /// `canon` and `canon --digits D`: the canonical text of an OBJ text, with so many decimals; with none by `canon` alone.
+    Canon(u32),
+    /// `build`, `build N` and `build N --digits D`: the stream of an OBJ text's mesh, simplified to this number of faces, with
+    /// so many decimals; to none and with none by `build` alone.
+    Build(u32, u32),
     /// `expand`: the canonical text of the mesh that a stream was made from.
     Expand,
     /// `check`: how large a stream's hierarchy is.
@@ -24,12 +24,13 @@ pub enum Asked {
 // What a word asks for that stands alone.
 #[tactic(auto, unfolding(crate::specs::Words::alone))]
 fn alone(word: &str) -> Option<Asked>
-    ensures { result ≡ alone word.now }
+    ensures asked { result ≡ alone word.now }
+    ensures few { IfSome result (λ a. digits_of a ≤ 4) }
 {
     if word == "canon" {
-        Some(Asked::Canon)
+        Some(Asked::Canon(0))
     } else if word == "build" {
-        Some(Asked::Build(0))
+        Some(Asked::Build(0, 0))
     } else if word == "expand" {
         Some(Asked::Expand)
     } else if word == "check" {
@@ -42,15 +43,31 @@ fn alone(word: &str) -> Option<Asked>
 /// What the words ask for; none where they are none of the forms.
 #[tactic(auto, unfolding(crate::specs::Words::asked_of))]
 pub fn read_words(words: &[String]) -> Option<Asked>
-    ensures { result ≡ asked_of (map string_bytes words.now) }
+    ensures asked { result ≡ asked_of (map string_bytes words.now) }
+    ensures few { IfSome result (λ a. digits_of a ≤ 4) }
 {
     match words {
         [word] => alone(word.as_str()),
         [word, number] => match read_unsigned(number.as_bytes(), u32::MAX) {
-            Some(target) if word.as_str() == "build" => Some(Asked::Build(target)),
+            Some(target) if word.as_str() == "build" => Some(Asked::Build(target, 0)),
             Some(budget) if word.as_str() == "view" => Some(Asked::View(budget)),
             _ => None,
         },
+        [word, flag, digits] => match read_unsigned(digits.as_bytes(), 4) {
+            Some(digits) if word.as_str() == "canon" && flag.as_str() == "--digits" => {
+                Some(Asked::Canon(digits))
+            }
+            _ => None,
+        },
+        [word, number, flag, digits] => {
+            let target = read_unsigned(number.as_bytes(), u32::MAX)?;
+            let digits = read_unsigned(digits.as_bytes(), 4)?;
+            if word.as_str() == "build" && flag.as_str() == "--digits" {
+                Some(Asked::Build(target, digits))
+            } else {
+                None
+            }
+        }
         _ => None,
     }
 }

@@ -33,7 +33,7 @@ returns-in-Err-start-clause-ends g c =
     let later = g.S.Source.left c.read_stream.new.source in
     let same : prepend_known c.in-Ok.taker left ≡ left = ap (λ l. prepend_known l left) c.in-Ok.ensures ∙ sym (loses_none left) in
     rw (c.fail_of-in-Err-start.ensures, c.load_fail.ensures)
-    (view_load c.args.budget c.in-Err-start.fail left later _ _ _ (load_stops left (prepend_known c.read_stream.new.taker later) later c.in-Ok-read_stream.h c.in-Err-start.fail _ _ (begun left (prepend_known c.in-Ok.taker left) (prepend_known c.read_stream.new.taker later) later c.in-Ok-read_stream.h same c.in-Ok-read_stream.ensures.reads) c.in-Err-start.ensures.fault c.in-Ok-read_stream.ensures.counts.same))
+    (view_load c.args.budget c.in-Err-start.fail left later _ _ _ (load_stops left (prepend_known c.read_stream.new.taker later) later c.in-Ok-read_stream.stream.digits c.in-Ok-read_stream.stream.h c.in-Err-start.fail _ _ (begun left (prepend_known c.in-Ok.taker left) (prepend_known c.read_stream.new.taker later) later c.in-Ok-read_stream.stream same c.in-Ok-read_stream.ensures.reads) c.in-Err-start.ensures.fault c.in-Ok-read_stream.ensures.counts.same))
 
 pub returns-in-Err-start-clause-counts : goal.returns-in-Err-start-clause-counts
 returns-in-Err-start-clause-counts g c =
@@ -41,7 +41,7 @@ returns-in-Err-start-clause-counts g c =
     let later = g.S.Source.left c.read_stream.new.source in
     let same : prepend_known c.in-Ok.taker left ≡ left = ap (λ l. prepend_known l left) c.in-Ok.ensures ∙ sym (loses_none left) in
     rw (c.fail_of-in-Err-start.ensures, c.load_fail.ensures)
-    (counts_stopped IsValidOpening (load_fail c.in-Err-start.fail) left later _ _ _ (load_stops left (prepend_known c.read_stream.new.taker later) later c.in-Ok-read_stream.h c.in-Err-start.fail _ _ (begun left (prepend_known c.in-Ok.taker left) (prepend_known c.read_stream.new.taker later) later c.in-Ok-read_stream.h same c.in-Ok-read_stream.ensures.reads) c.in-Err-start.ensures.fault c.in-Ok-read_stream.ensures.counts.same))
+    (counts_stopped IsValidOpening (load_fail c.in-Err-start.fail) left later _ _ _ (load_stops left (prepend_known c.read_stream.new.taker later) later c.in-Ok-read_stream.stream.digits c.in-Ok-read_stream.stream.h c.in-Err-start.fail _ _ (begun left (prepend_known c.in-Ok.taker left) (prepend_known c.read_stream.new.taker later) later c.in-Ok-read_stream.stream same c.in-Ok-read_stream.ensures.reads) c.in-Err-start.ensures.fault c.in-Ok-read_stream.ensures.counts.same))
 
 pub returns-in-Err-start-clause-few_more : goal.returns-in-Err-start-clause-few_more
 returns-in-Err-start-clause-few_more g c = λ is. absurd (no_write c.load_fail.result (sym c.fail_of-in-Err-start.ensures ∙ is))
@@ -53,10 +53,11 @@ returns-in-Ok-serve-clause-ends g c =
     let same : prepend_known c.in-Ok.taker left ≡ left = ap (λ l. prepend_known l left) c.in-Ok.ensures ∙ sym (loses_none left) in
     let now = g.S.Source.left c.serve.new.source in
     let mid = prepend_known c.read_stream.new.taker later in
-    let h = c.in-Ok-read_stream.h in
+    let d = c.in-Ok-read_stream.stream.digits in
+    let h = c.in-Ok-read_stream.stream.h in
     let s = c.in-Ok-start.session in
-    let text = begun left (prepend_known c.in-Ok.taker left) mid later h same c.in-Ok-read_stream.ensures.reads in
-    view_done c.args.budget s.budget h s.h (set_of s.flags) left mid now (g.K.Sink.got c.args.out.now) (g.K.Sink.got c.serve.new.out) c.serve.new.taker (set_of c.serve.new.self.flags) text c.in-Ok-start.ensures.valid c.in-Ok-start.ensures.shown.0 c.in-Ok-start.ensures.shown.1 c.in-Ok-start.ensures.shown.2 c.in-Ok-serve.ensures.serves
+    let text = begun left (prepend_known c.in-Ok.taker left) mid later c.in-Ok-read_stream.stream same c.in-Ok-read_stream.ensures.reads in
+    view_done c.args.budget s.budget d h s.h (set_of s.flags) left mid now (g.K.Sink.got c.args.out.now) (g.K.Sink.got c.serve.new.out) c.serve.new.taker (set_of c.serve.new.self.flags) text c.in-Ok-start.ensures.valid c.in-Ok-start.ensures.shown.0 c.in-Ok-start.ensures.shown.1 c.in-Ok-start.ensures.shown.2 c.in-Ok-serve.ensures.serves
 
 pub returns-in-Ok-serve-clause-read_whole : goal.returns-in-Ok-serve-clause-read_whole
 returns-in-Ok-serve-clause-read_whole g c =
@@ -65,10 +66,11 @@ returns-in-Ok-serve-clause-read_whole g c =
     let same : prepend_known c.in-Ok.taker left ≡ left = ap (λ l. prepend_known l left) c.in-Ok.ensures ∙ sym (loses_none left) in
     let now = g.S.Source.left c.serve.new.source in
     let mid = prepend_known c.read_stream.new.taker later in
-    let h = c.in-Ok-read_stream.h in
+    let d = c.in-Ok-read_stream.stream.digits in
+    let h = c.in-Ok-read_stream.stream.h in
     let s = c.in-Ok-start.session in
-    let text = begun left (prepend_known c.in-Ok.taker left) mid later h same c.in-Ok-read_stream.ensures.reads in
-    view_to_end c.args.budget s.budget h s.h (set_of s.flags) left mid now (g.K.Sink.got c.args.out.now) (g.K.Sink.got c.serve.new.out) c.serve.new.taker (set_of c.serve.new.self.flags) text c.in-Ok-start.ensures.valid c.in-Ok-start.ensures.shown.0 c.in-Ok-start.ensures.shown.1 c.in-Ok-start.ensures.shown.2 c.in-Ok-serve.ensures.serves
+    let text = begun left (prepend_known c.in-Ok.taker left) mid later c.in-Ok-read_stream.stream same c.in-Ok-read_stream.ensures.reads in
+    view_to_end c.args.budget s.budget d h s.h (set_of s.flags) left mid now (g.K.Sink.got c.args.out.now) (g.K.Sink.got c.serve.new.out) c.serve.new.taker (set_of c.serve.new.self.flags) text c.in-Ok-start.ensures.valid c.in-Ok-start.ensures.shown.0 c.in-Ok-start.ensures.shown.1 c.in-Ok-start.ensures.shown.2 c.in-Ok-serve.ensures.serves
 
 pub returns-clause-ends : goal.returns-clause-ends
 returns-clause-ends g c =
@@ -77,10 +79,11 @@ returns-clause-ends g c =
     let same : prepend_known c.in-Ok.taker left ≡ left = ap (λ l. prepend_known l left) c.in-Ok.ensures ∙ sym (loses_none left) in
     let now = g.S.Source.left c.serve.new.source in
     let mid = prepend_known c.read_stream.new.taker later in
-    let h = c.in-Ok-read_stream.h in
+    let d = c.in-Ok-read_stream.stream.digits in
+    let h = c.in-Ok-read_stream.stream.h in
     let s = c.in-Ok-start.session in
-    let text = begun left (prepend_known c.in-Ok.taker left) mid later h same c.in-Ok-read_stream.ensures.reads in
-    rw c.serve_fail.ensures (view_served c.args.budget s.budget h s.h (set_of s.flags) left mid now (g.K.Sink.got c.args.out.now) (g.K.Sink.got c.serve.new.out) c.serve.new.taker (set_of c.serve.new.self.flags) text c.in-Ok-start.ensures.valid c.in-Ok-start.ensures.shown.0 c.in-Ok-start.ensures.shown.1 c.in-Ok-start.ensures.shown.2 c.in-Err-serve.fail c.in-Err-serve.ensures.serves c.in-Err-serve.ensures.window)
+    let text = begun left (prepend_known c.in-Ok.taker left) mid later c.in-Ok-read_stream.stream same c.in-Ok-read_stream.ensures.reads in
+    rw c.serve_fail.ensures (view_served c.args.budget s.budget d h s.h (set_of s.flags) left mid now (g.K.Sink.got c.args.out.now) (g.K.Sink.got c.serve.new.out) c.serve.new.taker (set_of c.serve.new.self.flags) text c.in-Ok-start.ensures.valid c.in-Ok-start.ensures.shown.0 c.in-Ok-start.ensures.shown.1 c.in-Ok-start.ensures.shown.2 c.in-Err-serve.fail c.in-Err-serve.ensures.serves c.in-Err-serve.ensures.window)
 
 pub returns-clause-counts : goal.returns-clause-counts
 returns-clause-counts g c = rw c.serve_fail.ensures (view_counts c.in-Err-serve.fail _ _ _ _ _ c.in-Ok-read_stream.ensures.counts.same c.in-Err-serve.ensures.counts)
@@ -92,7 +95,8 @@ returns-clause-few_more g c =
     let same : prepend_known c.in-Ok.taker left ≡ left = ap (λ l. prepend_known l left) c.in-Ok.ensures ∙ sym (loses_none left) in
     let now = g.S.Source.left c.serve.new.source in
     let mid = prepend_known c.read_stream.new.taker later in
-    let h = c.in-Ok-read_stream.h in
+    let d = c.in-Ok-read_stream.stream.digits in
+    let h = c.in-Ok-read_stream.stream.h in
     let s = c.in-Ok-start.session in
-    let text = begun left (prepend_known c.in-Ok.taker left) mid later h same c.in-Ok-read_stream.ensures.reads in
-    λ is. view_few c.args.budget s.budget h s.h (set_of s.flags) left mid now (g.K.Sink.got c.args.out.now) (g.K.Sink.got c.serve.new.out) c.serve.new.taker (set_of c.serve.new.self.flags) text c.in-Ok-start.ensures.valid c.in-Ok-start.ensures.shown.0 c.in-Ok-start.ensures.shown.1 c.in-Ok-start.ensures.shown.2 c.in-Err-serve.fail c.in-Err-serve.ensures.serves c.in-Err-serve.ensures.window (sym c.serve_fail.ensures ∙ is)
+    let text = begun left (prepend_known c.in-Ok.taker left) mid later c.in-Ok-read_stream.stream same c.in-Ok-read_stream.ensures.reads in
+    λ is. view_few c.args.budget s.budget d h s.h (set_of s.flags) left mid now (g.K.Sink.got c.args.out.now) (g.K.Sink.got c.serve.new.out) c.serve.new.taker (set_of c.serve.new.self.flags) text c.in-Ok-start.ensures.valid c.in-Ok-start.ensures.shown.0 c.in-Ok-start.ensures.shown.1 c.in-Ok-start.ensures.shown.2 c.in-Err-serve.fail c.in-Err-serve.ensures.serves c.in-Err-serve.ensures.window (sym c.serve_fail.ensures ∙ is)
