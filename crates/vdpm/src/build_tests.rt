@@ -1,7 +1,7 @@
 // What `build` makes of small meshes, and that the streams lead back to them.
 use crate::run::run;
 use crate::stream_tests::OCTAHEDRON_TEXT;
-use crate::tests::{TETRAHEDRA, check, command};
+use crate::tests::{Row, TETRAHEDRA, check, check_rows, command};
 use pm_io::{MemSink, MemSource};
 use std::alloc::{AllocError, Global};
 use std::process::Abort;
@@ -12,73 +12,82 @@ const GRID: &[u8] =
 
 const GREATEST: &[u8] = b"v 32767 -32767 0\nv -32767 32767 0\nv 0 0 32767\nf 1 2 3\n";
 
-// Builds a canonical text, and compares the stream's length and its counts; the stream expands to the text.
-fn check_build<A: Abort>(
-    rt: &A,
-    alloc: Global,
-    words: &[&str],
-    mesh: &[u8],
+// A mesh in canonical text, the length of its stream, and the counts.
+#[derive(Clone, Copy)]
+struct Built<'a> {
+    words: &'a [&'a str],
+    mesh: &'a [u8],
     length: usize,
-    counts: &[u8],
-) -> Result<(), AllocError> {
-    let words = command(alloc, words)?;
-    let mut source = MemSource::new(alloc, mesh, 7, &[])?;
+    counts: &'a [u8],
+}
+
+// Builds a mesh, and compares the stream's length and its counts; the stream expands to the text.
+fn check_build<A: Abort>(rt: &A, alloc: Global, built: &Built) -> Result<(), AllocError> {
+    let words = command(alloc, built.words)?;
+    let mut source = MemSource::new(alloc, built.mesh, 7, &[])?;
     let mut sink = MemSink::new(alloc, 1000, 1000, &[])?;
     let mut errors = MemSink::new(alloc, 100, 100, &[])?;
     assert_eq!(rt; run(alloc, &words, &mut source, &mut sink, &mut errors), 0);
-    assert_eq!(rt; sink.bytes().len(), length);
-    check(rt, alloc, &["check"], sink.bytes(), 0, counts, b"")?;
-    check(rt, alloc, &["expand"], sink.bytes(), 0, mesh, b"")
+    assert_eq!(rt; sink.bytes().len(), built.length);
+    check(
+        rt,
+        alloc,
+        &["check"],
+        &Row::new(sink.bytes(), &[built.counts], b""),
+    )?;
+    check(
+        rt,
+        alloc,
+        &["expand"],
+        &Row::new(sink.bytes(), &[built.mesh], b""),
+    )
 }
 
 #[test]
 fn builds(rt: HostRuntime) -> Result<(), Fail> {
-    let alloc = rt.alloc();
-    let cases: [(&[&str], &[u8], usize, &[u8]); 4] = [
-        (
-            &["build"],
-            GRID,
-            532,
-            b"leaves 9 roots 3 base 1 records 6 faces 8\n",
-        ),
-        (
-            &["build"],
-            GREATEST,
-            100,
-            b"leaves 3 roots 3 base 1 records 0 faces 1\n",
-        ),
-        (
-            &["build", "6"],
-            OCTAHEDRON_TEXT,
-            312,
-            b"leaves 6 roots 5 base 6 records 1 faces 8\n",
-        ),
-        (
-            &["build", "8"],
-            OCTAHEDRON_TEXT,
-            272,
-            b"leaves 6 roots 6 base 8 records 0 faces 8\n",
-        ),
+    let all = [
+        Built {
+            words: &["build"],
+            mesh: GRID,
+            length: 532,
+            counts: b"leaves 9 roots 3 base 1 records 6 faces 8\n",
+        },
+        Built {
+            words: &["build"],
+            mesh: GREATEST,
+            length: 100,
+            counts: b"leaves 3 roots 3 base 1 records 0 faces 1\n",
+        },
+        Built {
+            words: &["build", "6"],
+            mesh: OCTAHEDRON_TEXT,
+            length: 312,
+            counts: b"leaves 6 roots 5 base 6 records 1 faces 8\n",
+        },
+        Built {
+            words: &["build", "8"],
+            mesh: OCTAHEDRON_TEXT,
+            length: 272,
+            counts: b"leaves 6 roots 6 base 8 records 0 faces 8\n",
+        },
     ];
-    for (words, mesh, length, counts) in cases {
-        check_build(&rt, alloc, words, mesh, length, counts)?;
+    for built in &all {
+        check_build(&rt, rt.alloc(), built)?;
     }
     Ok(())
 }
 
 #[test]
 fn refused_meshes(rt: HostRuntime) -> Result<(), Fail> {
-    let alloc = rt.alloc();
-    let cases: [(&[u8], &[u8]); 3] = [
-        (b"v 32768 0 0\n", b"vdpm: fault 6 line 1\n"),
-        (
+    let rows = [
+        Row::new(b"v 32768 0 0\n", &[], b"vdpm: fault 6 line 1\n"),
+        Row::new(
             b"v 0 0 0\nv 10 0 0\nv 0 10 0\nv 0 -10 0\nf 1 2 3\nf 1 2 4\n",
+            &[],
             b"vdpm: fault 11 face 2\n",
         ),
-        (TETRAHEDRA, b"vdpm: fault 12 vertex 1\n"),
+        Row::new(TETRAHEDRA, &[], b"vdpm: fault 12 vertex 1\n"),
     ];
-    for (mesh, line) in cases {
-        check(&rt, alloc, &["build"], mesh, 1, b"", line)?;
-    }
+    check_rows(&rt, rt.alloc(), &["build"], &[], &rows)?;
     Ok(())
 }

@@ -1,6 +1,6 @@
 // Coordinates with decimals: what is read, and what is written.
 use crate::stream_tests::OCTAHEDRON_TEXT;
-use crate::tests::{OCTAHEDRON, check, text};
+use crate::tests::{OCTAHEDRON, Row, check, text};
 use std::test::Fail;
 
 const TRIANGLE: &[u8] = b"v 1.5 0 0\nv 0 -0.25 0\nv 0 0 3\nf 1 2 3\n";
@@ -21,36 +21,43 @@ fn decimals_are_read_and_written(rt: HostRuntime) -> Result<(), Fail> {
     let mut words = STREAM;
     words[1] = 0;
     let none = text(alloc, &words, b"")?;
-    let cases: [(&[&str], &[u8], u8, &[u8], &[u8]); 8] = [
-        (&["build", "0", "--digits", "2"], TRIANGLE, 0, &stream, b""),
-        (&["expand"], &stream, 0, HUNDREDTHS, b""),
-        (&["canon", "--digits", "2"], TRIANGLE, 0, HUNDREDTHS, b""),
-        (&["canon", "--digits", "2"], HUNDREDTHS, 0, HUNDREDTHS, b""),
+    let rows: [(&[&str], Row); 8] = [
         (
-            &["canon", "--digits", "1"],
-            TRIANGLE,
-            1,
-            b"",
-            b"vdpm: fault 5 line 2\n",
+            &["build", "0", "--digits", "2"],
+            Row::new(TRIANGLE, &[&stream], b""),
+        ),
+        (&["expand"], Row::new(&stream, &[HUNDREDTHS], b"")),
+        (
+            &["canon", "--digits", "2"],
+            Row::new(TRIANGLE, &[HUNDREDTHS], b""),
         ),
         (
             &["canon", "--digits", "2"],
-            b"v 327.67 0 -0.000\nv 327.68 0 0\n",
-            1,
-            b"",
-            b"vdpm: fault 6 line 2\n",
+            Row::new(HUNDREDTHS, &[HUNDREDTHS], b""),
         ),
-        (&["check"], &none, 1, b"", b"vdpm: fault 33 digits 0\n"),
+        (
+            &["canon", "--digits", "1"],
+            Row::new(TRIANGLE, &[], b"vdpm: fault 5 line 2\n"),
+        ),
+        (
+            &["canon", "--digits", "2"],
+            Row::new(
+                b"v 327.67 0 -0.000\nv 327.68 0 0\n",
+                &[],
+                b"vdpm: fault 6 line 2\n",
+            ),
+        ),
+        (
+            &["check"],
+            Row::new(&none, &[], b"vdpm: fault 33 digits 0\n"),
+        ),
         (
             &["build", "0", "--digits", "0"],
-            OCTAHEDRON_TEXT,
-            0,
-            &octahedron,
-            b"",
+            Row::new(OCTAHEDRON_TEXT, &[&octahedron], b""),
         ),
     ];
-    for (words, input, status, out, err) in cases {
-        check(&rt, alloc, words, input, status, out, err)?;
+    for (words, row) in rows {
+        check(&rt, alloc, words, &row)?;
     }
     Ok(())
 }

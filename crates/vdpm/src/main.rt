@@ -9,13 +9,13 @@ mod build;
 mod build_tests;
 mod commands;
 #[cfg(test)]
+mod device_tests;
+#[cfg(test)]
 mod digits_tests;
 mod fault;
 mod line;
 mod opening;
 mod outcomes;
-#[cfg(test)]
-mod pick_tests;
 mod run;
 mod say;
 #[cfg(test)]
