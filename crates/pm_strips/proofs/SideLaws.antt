@@ -1,15 +1,13 @@
 -- What the code's answers say of the sides of kept faces.
-use Rattle.std.proofs.Common.{◌≡◌, ℕ, ◌*◌, ◌<◌, Bool, true, false, ◌&&◌, List, length, get_or, Option, Some, None, inl, inr, sym, ap, ◌∙◌, arith}
+use Rattle.std.proofs.Common.{◌≡◌, ℕ, ◌*◌, ◌<◌, Bool, true, false, List, length, get_or, Option, Some, None, sym, ap, ◌∙◌, arith}
 use Rattle.std.specs.Prelude.{IfSome}
-use Rattle.std.proofs.Math.Path.{fun_ext}
-use Rattle.std.proofs.lemmas.Bool.{cases_lt, cond-true, lt-ltb, le-ltb}
-use Rattle.std.proofs.lemmas.List.{get_or_past, get_or_default}
+use Rattle.std.proofs.lemmas.Bool.{cond-true}
+use Rattle.std.proofs.lemmas.List.{get_or_default}
 use Rattle.pm_base.specs.declared.ids.Side.{Side}
 use Rattle.pm_base.specs.Sides.{face_of}
 use Rattle.pm_forest.specs.Forest.{Hierarchy}
 use Rattle.pm_forest.specs.Fronts.{set_of}
 use Rattle.pm_forest.specs.Faces.{face_count}
-use Rattle.pm_forest.specs.Kept.{is_kept}
 use Rattle.pm_forest.specs.Rules.{HasShape}
 use Rattle.pm_forest.proofs.ShapeLaws.{face_count-most}
 use Rattle.pm_beyond.specs.Walks.{StandsBeyond, number_of}
@@ -53,12 +51,3 @@ few_faces h shape T f there = let p = there-parts h T f there in omega (arith, p
 
 pub few_sides : (h : Hierarchy) → HasShape h → (T : ℕ → Bool) (e : ℕ) → is_there h T (face_of e) ≡ true → e < 3145728
 few_sides h shape T e there = let l = few_faces h shape T (face_of e) there in omega (arith, l)
-
--- The flags say which faces are there.
-pub flags_there : (h : Hierarchy) (T : ℕ → Bool) (flags : List Bool) → length flags ≡ face_count h → ((f : ℕ) → f < face_count h → set_of flags f ≡ is_kept h T f)
-    → set_of flags ≡ is_there h T
-flags_there h T flags len each = fun_ext (λ f.
-    elim (cases_lt f (face_count h)) [
-      | inl l ↦ each f l ∙ sym (ap (λ b. b && is_kept h T f) (lt-ltb f (face_count h) l))
-      | inr past ↦ get_or_past flags f false (omega (arith, len)) ∙ sym (ap (λ b. b && is_kept h T f) (le-ltb f (face_count h) (omega arith)))
-    ])

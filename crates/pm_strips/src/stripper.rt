@@ -5,7 +5,7 @@ ghost use Rattle.pm_io.specs.Bytes.{Gains, GainsPart, GainsThrough};
 ghost use Rattle.pm_io.specs.Causes.{HasCause};
 ghost use Rattle.pm_forest.specs.Fronts.{set_of};
 ghost use Rattle.pm_forest.specs.Faces.{face_count};
-ghost use Rattle.pm_strips.specs.Shown.{is_there, lists_of, strip_line, count_line, strips_text};
+ghost use Rattle.pm_strips.specs.Shown.{is_there, lists_of, strip_line, count_line, strips_text, ShowTheMesh};
 
 use crate::OutOfMemory;
 use crate::line::put_count;
@@ -43,12 +43,13 @@ impl Stripper {
     }
 
     /// Writes the mesh that the front shows as triangle strips, and how many there are. The front is one of the stripper's
-    /// hierarchy. All faces are looked at once, and for each kept one at most four sides; no memory. After a fault the sink
-    /// has gained a part of the text from its front, and not the whole. A later call starts anew.
+    /// hierarchy. The lists of the strips stand for the kept faces, each once, with their corners in cyclic order. All
+    /// faces are looked at twice, and at most four sides of each kept one; no memory. After a fault the sink has gained a
+    /// part of the text from its front, and not the whole. A later call starts anew.
     ///
     /// The text is put in pages of 4,096 bytes, of which the last may be shorter: when the call returns, nothing is held
     /// back.
-    #[tactic(auto, unfolding(crate::specs::Shown::strips_text))]
+    #[tactic(auto, using(crate::proofs::ShownLaws::strips_show), unfolding(crate::specs::Shown::strips_text))]
     pub fn write_strips<K: Sink>(&mut self, front: &Front, out: &mut K) -> Result<(), WriteFault>
         requires { self.old ≡ face_count front.now.h }
         ensures ok { let text = strips_text front.now.h (set_of front.now.flags) in
@@ -57,7 +58,9 @@ impl Stripper {
             OnErr result (GainsPart (K.got out.old) (K.got out.new) text) }
         ensures cause { HasCause (K.faults out.old) (K.faults out.new) result }
         ensures same { self.new ≡ self.old }
+        ensures mesh { ShowTheMesh front.now.h (set_of front.now.flags) }
     {
+        front.is_sound();
         let mut page = Page::new();
         free_kept(&mut self.free, front);
         let strips = match put_strips(&mut self.free, front, &mut page, out) {
@@ -91,7 +94,8 @@ fn free_kept(free: &mut Vec<bool>, front: &Front)
     ensures free { set_of free.new.items ≡ is_there front.now.h (set_of front.now.flags) }
     ensures len { length free.new.items ≡ length free.old.items }
 {
-    for face in 0..front.hierarchy().faces() {
+    let faces = front.hierarchy().faces();
+    for face in 0..faces {
         free[face as usize] = front.is_kept(FaceId(face));
     }
 }
