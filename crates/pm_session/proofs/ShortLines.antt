@@ -1,4 +1,4 @@
--- The forms of a script line are short: of 32-bit numbers, of the numbers of a view with six planes, and of a ray's numbers.
+-- The forms of a script line are short: of one or two 32-bit numbers, of the numbers of a view with six planes, and of a ray's numbers.
 use Rattle.std.proofs.Common.{◌≡◌, ℕ, zero, suc, ℤ, pos, ◌+◌, ◌-◌, ◌*◌, ◌<◌, ◌≤◌, Bool, true, false, cond, eqb, leb, not, ◌&&◌, ◌||◌, List, [], ◌∷◌, Option, Some, None, length, drop, inl, inr, refl, sym, ◌∙◌, ap, subst, arith}
 use Rattle.std.specs.Prelude.{nat_lt}
 use Rattle.std.specs.Option.{option_map, option_and_then}
@@ -17,7 +17,7 @@ use Rattle.pm_pick.specs.Rays.{Ray}
 use Rattle.pm_pick.specs.Fields.{three_of, ray_in, ray_of}
 use Rattle.pm_session.specs.declared.command.Command.{Command}
 use Rattle.pm_session.specs.declared.command.Command.TheVariants as commands
-use Rattle.pm_session.specs.Script.{begins_with, begins_with_both, split_of, collapse_of, look_of, pick_by, record_in, command_of}
+use Rattle.pm_session.specs.Script.{begins_with, begins_with_both, split_of, collapse_of, look_of, pick_by, two_in, two_of, morph_by, record_in, command_of}
 
 -- Options
 
@@ -226,6 +226,16 @@ ray_few (x ∷ y ∷ z ∷ a ∷ []) ray e = absurd cc
 ray_few (x ∷ y ∷ z ∷ a ∷ b ∷ []) ray e = absurd cc
 ray_few (x ∷ y ∷ z ∷ a ∷ b ∷ c ∷ d ∷ rest) ray e = absurd cc
 
+two_few : (fs : List (List ℕ)) (two : ℕ × ℕ) → two_in fs ≡ Some two → width fs ≤ 28
+unfolding two_in
+two_few (a ∷ b ∷ []) two e =
+    let p = came _ (unsigned_of 4294967295 a) two e in
+    let q = mapped _ (unsigned_of 4294967295 b) two p.to in
+    omega (arith, unsigned_few 4294967295 p.from a (omega arith) p.is, unsigned_few 4294967295 q.from b (omega arith) q.is)
+two_few [] two e = absurd cc
+two_few (a ∷ []) two e = absurd cc
+two_few (a ∷ b ∷ c ∷ rest) two e = absurd cc
+
 -- Lines
 
 either_bad : (test : Bool) (a b : Command) → a ≡ commands.Bad → b ≡ commands.Bad → cond test a b ≡ commands.Bad
@@ -250,6 +260,10 @@ pick_bad : (line : List ℕ) → 1024 < length line → (ray : Option Ray) → r
 pick_bad line long None is = refl
 pick_bad line long (Some ray) is = absurd (omega (arith, long, length-drop 2 line, fields_width (drop 2 line), ray_few (fields (drop 2 line)) ray is))
 
+morph_bad : (line : List ℕ) → 1024 < length line → (two : Option (ℕ × ℕ)) → two_of (drop 2 line) ≡ two → morph_by two ≡ commands.Bad
+morph_bad line long None is = refl
+morph_bad line long (Some two) is = absurd (omega (arith, long, length-drop 2 line, fields_width (drop 2 line), two_few (fields (drop 2 line)) two is))
+
 pub long_is_bad : (line : List ℕ) → 1024 < length line → command_of line ≡ commands.Bad
 unfolding command_of
 long_is_bad line long =
@@ -258,4 +272,5 @@ long_is_bad line long =
     (either_bad (begins_with 99 line) _ _ (collapse_bad line long _ refl)
     (either_bad (begins_with 118 line) _ _ (look_bad kinds.Plain 2 line (omega arith) long _ refl)
     (either_bad (begins_with_both 118 115 line) _ _ (look_bad kinds.Outline 3 line (omega arith) long _ refl)
-    (either_bad (begins_with 112 line) _ _ (pick_bad line long _ refl) refl)))))
+    (either_bad (begins_with 112 line) _ _ (pick_bad line long _ refl)
+    (either_bad (begins_with 103 line) _ _ (morph_bad line long _ refl) refl))))))

@@ -1,17 +1,21 @@
--- The script machine: what a line, and what a list of lines, does from a state, which is the set of split records.
+-- The script machine: what a line, and what a list of lines, does from a state: which records are split, and which are
+-- marked.
 use Rattle.std.specs.Prelude.{ℕ, ◌+◌, pos, ◌+ℤ◌, ◌-ℤ◌, ◌==◌, ◌&&◌, nat_lt, nat_le, Bool, is_none, List, [], ◌∷◌, ◌++◌, length, drop, take, slice_index_or, Option, Some, None, if◌then◌else◌, cond, codes}
+use Rattle.std.specs.Option.{option_map, option_and_then}
 use Rattle.std.specs.Fmt.{decimal, signed_decimal}
 use Rattle.pm_io.specs.Digits.{unsigned_of}
 use Rattle.pm_forest.specs.Forest.{Hierarchy, record_count}
-use Rattle.pm_forest.specs.Fronts.{with, without}
+use Rattle.pm_forest.specs.Fronts.{no_records, with, without}
 use Rattle.pm_beyond.specs.declared.moves.MoveFault.{MoveFault}
 use Rattle.pm_beyond.specs.declared.moves.MoveFault.TheVariants as moves
 use Rattle.pm_beyond.specs.Moves.{split_fault, collapse_fault}
 use Rattle.pm_beyond.specs.Plans.{moved_by}
 use Rattle.pm_frame.specs.Frame.{frame_text}
+use Rattle.pm_morph.specs.Elders.{unsplit_of}
+use Rattle.pm_morph.specs.Texts.{morph_text}
 use Rattle.pm_view.specs.Views.{View}
 use Rattle.pm_view.specs.declared.fields.ViewKind.TheVariants as kinds
-use Rattle.pm_view.specs.Fields.{view_of}
+use Rattle.pm_view.specs.Fields.{fields, view_of}
 use Rattle.pm_refine.specs.declared.refiner.Adapted.{Adapted}
 use Rattle.pm_refine.specs.declared.refiner.Adapted.TheVariants as adapted
 use Rattle.pm_refine.specs.Adapting.{view_plan, adapted_of}
@@ -64,23 +68,38 @@ abbrev pub pick_by : Option Ray → Command
 pick_by None = commands.Bad
 pick_by (Some ray) = commands.Pick ray
 
+-- The two unsigned numbers of 32 bits that fields spell, and those that a text spells.
+unfoldable pub two_in : List (List ℕ) → Option (ℕ × ℕ)
+two_in (a ∷ b ∷ []) = option_and_then (λ x. option_map (λ y. (x, y)) (unsigned_of 4294967295 b)) (unsigned_of 4294967295 a)
+two_in _ = None
+
+abbrev pub two_of : List ℕ → Option (ℕ × ℕ)
+two_of text = two_in (fields text)
+
+abbrev pub morph_by : Option (ℕ × ℕ) → Command
+morph_by None = commands.Bad
+morph_by (Some part) = commands.Morph part.0 part.1
+
 -- What stands after the letter and its space, as an unsigned number of 32 bits.
 abbrev pub record_in : List ℕ → Option ℕ
 record_in line = unsigned_of 4294967295 (drop 2 line)
 
--- `w`, `m`, `t`, `q`, `s K` or `c K` with one space and K an unsigned number of 32 bits, `v`, a space and the fields of a plain
--- view, `vs`, a space and the fields of a view with outlines, or `p`, a space and the fields of a ray.
+-- `w`, `m`, `t`, `k` or `q`; `s K`, `c K` or `g A B` with one space between fields, and K, A and B unsigned numbers of 32 bits;
+-- `v`, a space and the fields of a plain view; `vs`, a space and those of a view with outlines; or `p`, a space and the fields
+-- of a ray.
 unfoldable pub command_of : List ℕ → Command
 command_of line =
     if is_letter 119 line then commands.Show
     else if is_letter 109 line then commands.Measure
     else if is_letter 116 line then commands.Strip
     else if is_letter 113 line then commands.Quit
+    else if is_letter 107 line then commands.Mark
     else if begins_with 115 line then split_of (record_in line)
     else if begins_with 99 line then collapse_of (record_in line)
     else if begins_with 118 line then look_of (view_of kinds.Plain (drop 2 line))
     else if begins_with_both 118 115 line then look_of (view_of kinds.Outline (drop 3 line))
     else if begins_with 112 line then pick_by (ray_of (drop 2 line))
+    else if begins_with 103 line then morph_by (two_of (drop 2 line))
     else commands.Bad
 
 -- The reply to a move.
@@ -123,26 +142,56 @@ adapted_to h budget T view = adapted_of budget (length (view_plan h T view))
 unfoldable pub after_view : Hierarchy → ℕ → (ℕ → Bool) → View → ℕ → Bool
 after_view h budget T view = moved_by T (take budget (view_plan h T view))
 
+-- The state: which records are split, and which are marked. At first none is.
+pub record Sets : Type 0 where
+  pub split : ℕ → Bool
+  pub marked : ℕ → Bool
+
+abbrev pub at_first : Sets
+at_first = record { split = no_records; marked = no_records }
+
+-- A/B is a fraction of the way: B is from 1 to 65,535, and A at most B.
+unfoldable pub is_fraction : ℕ → ℕ → Bool
+is_fraction a b = nat_le 1 b && nat_le b 65535 && nat_le a b
+
+-- `not finer K`
+unfoldable pub not_finer : ℕ → List ℕ
+not_finer k = codes "not finer " ++ decimal k ++ codes "\n"
+
+-- The reply to `g`: the text of the geomorph, or the least marked record that isn't split.
+abbrev pub morph_or_refusal : Option ℕ → List ℕ → List ℕ
+morph_or_refusal None text = text
+morph_or_refusal (Some k) text = not_finer k
+
+abbrev pub morph_reply : Hierarchy → (ℕ → Bool) → (ℕ → Bool) → ℕ → ℕ → List ℕ
+morph_reply h T S a b = morph_or_refusal (unsplit_of h T S) (morph_text h T S a b)
+
 -- What a line does: it has a reply and leads to a state, or it ends the script, or it has a fault.
 pub data Deed : Type 0 where
-  Replies : List ℕ → (ℕ → Bool) → Deed
+  Replies : List ℕ → Sets → Deed
   Ends : Deed
   IsBad : Deed
   NamesNoRecord : Deed
 
-abbrev pub deed_of : Hierarchy → ℕ → (ℕ → Bool) → Command → Deed
-deed_of h budget T commands.Show = Replies (frame_text h T) T
-deed_of h budget T commands.Measure = Replies (shape_reply h T) T
-deed_of h budget T commands.Strip = Replies (strips_text h T) T
-deed_of h budget T commands.Quit = Ends
-deed_of h budget T commands.Bad = IsBad
-deed_of h budget T (commands.Split k) = if nat_lt k (record_count h) then Replies (reply_to (split_fault h T k)) (after_split h T k) else NamesNoRecord
-deed_of h budget T (commands.Collapse k) = if nat_lt k (record_count h) then Replies (reply_to (collapse_fault h T k)) (after_collapse h T k) else NamesNoRecord
-deed_of h budget T (commands.Look view) = Replies (view_reply (adapted_to h budget T view)) (after_view h budget T view)
-deed_of h budget T (commands.Pick ray) = Replies (pick_reply (pick_of h ray)) T
+-- Other records are split then, and the same are marked.
+abbrev pub now_split : Sets → (ℕ → Bool) → Sets
+now_split s T = record { split = T; marked = s.marked }
 
-unfoldable pub line_deed : Hierarchy → ℕ → (ℕ → Bool) → List ℕ → Deed
-line_deed h budget T line = deed_of h budget T (command_of line)
+abbrev pub deed_of : Hierarchy → ℕ → Sets → Command → Deed
+deed_of h budget s commands.Show = Replies (frame_text h s.split) s
+deed_of h budget s commands.Measure = Replies (shape_reply h s.split) s
+deed_of h budget s commands.Strip = Replies (strips_text h s.split) s
+deed_of h budget s commands.Quit = Ends
+deed_of h budget s commands.Bad = IsBad
+deed_of h budget s (commands.Split k) = if nat_lt k (record_count h) then Replies (reply_to (split_fault h s.split k)) (now_split s (after_split h s.split k)) else NamesNoRecord
+deed_of h budget s (commands.Collapse k) = if nat_lt k (record_count h) then Replies (reply_to (collapse_fault h s.split k)) (now_split s (after_collapse h s.split k)) else NamesNoRecord
+deed_of h budget s (commands.Look view) = Replies (view_reply (adapted_to h budget s.split view)) (now_split s (after_view h budget s.split view))
+deed_of h budget s (commands.Pick ray) = Replies (pick_reply (pick_of h ray)) s
+deed_of h budget s commands.Mark = Replies (reply_to None) (record { split = s.split; marked = s.split })
+deed_of h budget s (commands.Morph a b) = if is_fraction a b then Replies (morph_reply h s.marked s.split a b) s else IsBad
+
+unfoldable pub line_deed : Hierarchy → ℕ → Sets → List ℕ → Deed
+line_deed h budget s line = deed_of h budget s (command_of line)
 
 -- The replies, and the fault that ends them, if one does.
 pub record Ran : Type 0 where
@@ -153,14 +202,14 @@ abbrev pub replying : List ℕ → Ran → Ran
 replying reply later = record { text = reply ++ later.text; fault = later.fault }
 
 -- What a line with the number n does, where `later` is what the lines after it do from a state.
-abbrev pub done_by : ℕ → Deed → ((ℕ → Bool) → Ran) → Ran
-done_by n (Replies reply T) later = replying reply (later T)
+abbrev pub done_by : ℕ → Deed → (Sets → Ran) → Ran
+done_by n (Replies reply s) later = replying reply (later s)
 done_by n Ends later = record { text = []; fault = None }
 done_by n IsBad later = record { text = []; fault = Some (faults.BadLine n) }
 done_by n NamesNoRecord later = record { text = []; fault = Some (faults.NoRecord n) }
 
--- What the lines do from state T with a budget of moves for each view, the first of which has the number n: `q` ends the script, and so does the first line
+-- What the lines do from state s with a budget of moves for each view, the first of which has the number n: `q` ends the script, and so does the first line
 -- that is none of the forms or names no record.
-unfoldable pub ran : Hierarchy → ℕ → (ℕ → Bool) → ℕ → List (List ℕ) → Ran
-ran h budget T n [] = record { text = []; fault = None }
-ran h budget T n (line ∷ lines) = done_by n (line_deed h budget T line) (λ S. ran h budget S (n + 1) lines)
+unfoldable pub ran : Hierarchy → ℕ → Sets → ℕ → List (List ℕ) → Ran
+ran h budget s n [] = record { text = []; fault = None }
+ran h budget s n (line ∷ lines) = done_by n (line_deed h budget s line) (λ later. ran h budget later (n + 1) lines)

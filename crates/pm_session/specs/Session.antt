@@ -3,20 +3,28 @@ use Rattle.std.specs.Prelude.{◌≡◌, ◌*◌, ℕ, Bool, List, Option, Resul
 use Rattle.pm_io.specs.Bytes.{Gains, GainsPart}
 use Rattle.pm_io.specs.Causes.{Rose}
 use Rattle.pm_forest.specs.Forest.{Hierarchy, record_count}
+use Rattle.pm_forest.specs.Fronts.{set_of}
 use Rattle.pm_forest.specs.Faces.{face_count}
 use Rattle.pm_bounds.specs.Bounds.{Bounds, AreBoundsOf}
 use Rattle.pm_pick.specs.Lists.{Lists, AreListsOf}
+use Rattle.pm_morph.specs.Marks.{AreMarksOf}
 use Rattle.pm_session.specs.declared.session.Next.{Next}
 use Rattle.pm_session.specs.declared.session.Next.TheVariants as nexts
 use Rattle.pm_session.specs.declared.session.LineFail.{LineFail}
 use Rattle.pm_session.specs.declared.session.LineFail.TheVariants as fails
-use Rattle.pm_session.specs.Script.{Deed, Replies, Ends, IsBad, NamesNoRecord}
+use Rattle.pm_session.specs.Script.{Sets, Deed, Replies, Ends, IsBad, NamesNoRecord}
 
--- The hierarchy that is shown, a flag for each record that is set where it is split, and the budget of moves a view.
+-- The hierarchy that is shown, a flag for each record that is set where it is split, a mark for each that is set where it
+-- is marked, and the budget of moves a view.
 pub record Shown : Type 0 where
   pub h : Hierarchy
   pub flags : List Bool
+  pub marks : List Bool
   pub budget : ℕ
+
+-- The state of a session.
+abbrev pub sets_of : Shown → Sets
+sets_of s = record { split = set_of s.flags; marked = set_of s.marks }
 
 -- What the tools of a session have: the bounds of nodes, for how many records there is room, for how many sides there is a
 -- mark, the lists of the faces at each leaf, and for how many faces there is a flag.
@@ -35,10 +43,15 @@ pub record AreToolsOf (h : Hierarchy) (tools : Toolbox) : Type 0 where
   pub are_its_lists : AreListsOf h tools.lists
   pub flags_fit : tools.flags ≡ face_count h
 
--- How a line ends, by its deed: `before` and `after` are the split records, and `old` and `new` what the sink had taken.
-abbrev pub LineEnds : Deed → Result Next LineFail → (ℕ → Bool) → (ℕ → Bool) → Option (List ℕ) → Option (List ℕ) → Type 0
-LineEnds (Replies reply T) (Ok nexts.More) before after old new = (after ≡ T) × Gains old new reply
-LineEnds (Replies reply T) (Err fails.Write) before after old new = (after ≡ T) × GainsPart old new reply
+-- The tools and the marks are those of the hierarchy.
+pub record IsFitting (h : Hierarchy) (tools : Toolbox) (marks : List Bool) : Type 0 where
+  pub tools_fit : AreToolsOf h tools
+  pub marks_fit : AreMarksOf h marks
+
+-- How a line ends, by its deed: `before` and `after` are the states, and `old` and `new` what the sink had taken.
+abbrev pub LineEnds : Deed → Result Next LineFail → Sets → Sets → Option (List ℕ) → Option (List ℕ) → Type 0
+LineEnds (Replies reply s) (Ok nexts.More) before after old new = (after ≡ s) × Gains old new reply
+LineEnds (Replies reply s) (Err fails.Write) before after old new = (after ≡ s) × GainsPart old new reply
 LineEnds Ends (Ok nexts.Quit) before after old new = (after ≡ before) × (new ≡ old)
 LineEnds IsBad (Err fails.BadLine) before after old new = (after ≡ before) × (new ≡ old)
 LineEnds NamesNoRecord (Err fails.NoRecord) before after old new = (after ≡ before) × (new ≡ old)

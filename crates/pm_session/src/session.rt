@@ -1,19 +1,32 @@
 // A session over one hierarchy. All its memory is taken when it starts.
-ghost use Rattle.std.specs.Prelude.{◌≡◌, ◌≢◌, ◌<◌, List, IfOk, IfErr, OnOk, OnErr};
+ghost use Rattle.std.specs.Prelude.{◌≡◌, ◌≢◌, ◌<◌, true, IfOk, IfErr, OnOk, OnErr};
 ghost use Rattle.pm_io.specs.Bytes.{Gains, GainsPart};
-ghost use Rattle.pm_io.specs.Causes.{HasCause};
+ghost use Rattle.pm_io.specs.Causes.{Rose, HasCause};
 ghost use Rattle.pm_forest.specs.Forest.{record_count};
-ghost use Rattle.pm_forest.specs.Fronts.{set_of, no_records};
+ghost use Rattle.pm_forest.specs.Fronts.{set_of};
 ghost use Rattle.pm_beyond.specs.Valid.{IsValid};
 ghost use Rattle.pm_beyond.specs.Moves.{split_fault, collapse_fault};
 ghost use Rattle.pm_load.specs.Faults.{IsLoadFault};
 ghost use Rattle.pm_frame.specs.Frame.{frame_text};
 ghost use Rattle.pm_pick.specs.Picks.{pick_of};
 ghost use Rattle.pm_strips.specs.Shown.{strips_text};
-ghost use Rattle.pm_session.specs.Script.{reply_to, line_deed, after_split, after_collapse, view_reply, adapted_to, after_view, shape_reply};
-ghost use Rattle.pm_session.specs.Session.{LineEnds, LineCounts};
+ghost use Rattle.pm_session.specs.Script.{
+  reply_to,
+  line_deed,
+  at_first,
+  after_split,
+  after_collapse,
+  view_reply,
+  adapted_to,
+  after_view,
+  shape_reply,
+  is_fraction,
+  morph_reply,
+};
+ghost use Rattle.pm_session.specs.Session.{LineEnds, LineCounts, sets_of};
 
 use crate::command::{Command, command_of};
+use crate::morphing::{is_fraction, put_morph};
 use crate::picking::put_pick;
 use crate::reply::{put_reply, put_shape, put_view_reply};
 use crate::tools::Tools;
@@ -23,6 +36,7 @@ use pm_frame::write_frame;
 use pm_front::Front;
 use pm_io::{Line, Sink, WriteFault, put_all};
 use pm_load::{LoadFail, open_front};
+use pm_morph::Marker;
 use pm_pick::{Hit, Ray};
 use pm_refine::Adapted;
 use pm_view::View;
@@ -44,22 +58,24 @@ pub enum LineFail {
     Write,
 }
 
-/// A hierarchy that is being shown. Contracts see it, which of its records are split, and the budget of moves a view.
+/// A hierarchy that is being shown. Contracts see it, which of its records are split and which are marked, and the budget of
+/// moves a view.
 #[derive(Drop)]
 pub struct Session {
     front: Front,
     tools: Tools,
+    marker: Marker,
     budget: u32,
 }
 
 impl Model for Session {
-    ghost use Rattle.pm_session.specs.Session.{Shown, AreToolsOf};
+    ghost use Rattle.pm_session.specs.Session.{Shown, IsFitting};
 
     ghost Value = { Shown };
 
-    ghost view = { λ s. record { h = s.front.h; flags = s.front.flags; budget = s.budget } };
+    ghost view = { λ s. record { h = s.front.h; flags = s.front.flags; marks = s.marker; budget = s.budget } };
 
-    ghost invariant = { λ s. AreToolsOf s.front.h s.tools };
+    ghost invariant = { λ s. IsFitting s.front.h s.tools s.marker };
 }
 
 // Puts the reply to a view.
@@ -100,7 +116,7 @@ impl Session {
     /// a script can want is taken here.
     #[tactic(auto, using(crate::proofs::Deeds::none_split))]
     pub fn start(alloc: Global, h: Hierarchy, budget: u32) -> Result<Session, LoadFail>
-        ensures shown { IfOk result (λ s. (s.h ≡ h) × (s.budget ≡ budget) × (set_of s.flags ≡ no_records)) }
+        ensures shown { IfOk result (λ s. (s.h ≡ h) × (s.budget ≡ budget) × (sets_of s ≡ at_first)) }
         ensures valid { OnOk result (IsValid h) }
         ensures fault { IfErr result (IsLoadFault h) }
         ensures refused { IfErr result (λ e. e ≢ LoadFail.OutOfMemory → IsValid h → ⊥) }
@@ -112,9 +128,13 @@ impl Session {
         let Ok(tools) = Tools::new(alloc, front.hierarchy()) else {
             return Err(LoadFail::OutOfMemory);
         };
+        let Ok(marker) = Marker::new(alloc, front.hierarchy()) else {
+            return Err(LoadFail::OutOfMemory);
+        };
         Ok(Session {
             front,
             tools,
+            marker,
             budget,
         })
     }
@@ -143,7 +163,7 @@ impl Session {
         requires { k < record_count self.old.h }
         ensures answer { result ≡ split_fault self.old.h (set_of self.old.flags) k }
         ensures after { set_of self.new.flags ≡ after_split self.old.h (set_of self.old.flags) k }
-        ensures same { (self.new.h ≡ self.old.h) × (self.new.budget ≡ self.old.budget) }
+        ensures same { (self.new.h ≡ self.old.h) × (self.new.budget ≡ self.old.budget) × (self.new.marks ≡ self.old.marks) }
     {
         match self.front.split(k) {
             Ok(()) => None,
@@ -157,7 +177,7 @@ impl Session {
         requires { k < record_count self.old.h }
         ensures answer { result ≡ collapse_fault self.old.h (set_of self.old.flags) k }
         ensures after { set_of self.new.flags ≡ after_collapse self.old.h (set_of self.old.flags) k }
-        ensures same { (self.new.h ≡ self.old.h) × (self.new.budget ≡ self.old.budget) }
+        ensures same { (self.new.h ≡ self.old.h) × (self.new.budget ≡ self.old.budget) × (self.new.marks ≡ self.old.marks) }
     {
         match self.front.collapse(k) {
             Ok(()) => None,
@@ -169,7 +189,7 @@ impl Session {
     fn look(&mut self, view: &View) -> Adapted
         ensures answer { result ≡ adapted_to self.old.h self.old.budget (set_of self.old.flags) view.now }
         ensures after { set_of self.new.flags ≡ after_view self.old.h self.old.budget (set_of self.old.flags) view.now }
-        ensures same { (self.new.h ≡ self.old.h) × (self.new.budget ≡ self.old.budget) }
+        ensures same { (self.new.h ≡ self.old.h) × (self.new.budget ≡ self.old.budget) × (self.new.marks ≡ self.old.marks) }
     {
         self.tools.adapt(&mut self.front, view, self.budget)
     }
@@ -209,13 +229,35 @@ impl Session {
         self.tools.write_strips(&self.front, out)
     }
 
+    // Marks the split records.
+    fn mark(&mut self)
+        ensures marked { set_of self.new.marks ≡ set_of self.old.flags }
+        ensures same { (self.new.h ≡ self.old.h) × (self.new.budget ≡ self.old.budget) × (self.new.flags ≡ self.old.flags) }
+    {
+        self.marker.mark(&self.front);
+    }
+
+    // Writes the geomorph at a/b of the way from the marked front, or which marked record isn't split.
+    fn morph<K: Sink>(&mut self, a: u32, b: u32, out: &mut K) -> Result<(), WriteFault>
+        requires { is_fraction a b ≡ true }
+        ensures ok { let text = morph_reply self.old.h (set_of self.old.marks) (set_of self.old.flags) a b in
+            OnOk result (Gains (K.got out.old) (K.got out.new) text) }
+        ensures err { let text = morph_reply self.old.h (set_of self.old.marks) (set_of self.old.flags) a b in
+            OnErr result (GainsPart (K.got out.old) (K.got out.new) text) }
+        ensures count { OnOk result (K.faults out.new ≡ K.faults out.old) }
+        ensures rose { OnErr result (Rose (K.faults out.old) (K.faults out.new)) }
+        ensures same { self.new ≡ self.old }
+    {
+        put_morph(&mut self.marker, &self.front, a, b, out)
+    }
+
     /// Does one script line, which is given without its LF, and writes its whole reply. BadLine comes exactly where the
     /// line is none of the forms, and NoRecord exactly where it names a record that isn't there; nothing is changed or
     /// written then. Write comes only where the sink failed: the line's move stands, and the sink gained a part of the
     /// reply from its front, and not the whole. It takes no memory.
     pub fn line<K: Sink>(&mut self, text: &[u8], out: &mut K) -> Result<Next, LineFail>
-        ensures ends { let T = set_of self.old.flags in
-            LineEnds (line_deed self.old.h self.old.budget T text.now) result T (set_of self.new.flags) (K.got out.old) (K.got out.new) }
+        ensures ends { let s = sets_of self.old in
+            LineEnds (line_deed self.old.h self.old.budget s text.now) result s (sets_of self.new) (K.got out.old) (K.got out.new) }
         ensures counts { LineCounts result (K.faults out.old) (K.faults out.new) }
         ensures same { (self.new.h ≡ self.old.h) × (self.new.budget ≡ self.old.budget) }
         ensures refused { IfErr result (λ e. (e ≡ LineFail.Write → ⊥) → self.new ≡ self.old) }
@@ -227,6 +269,12 @@ impl Session {
             Command::Measure => after_reply(self.measure(out)),
             Command::Strip => after_reply(self.strip(out)),
             Command::Look(view) => after_reply(put_adapted(self.look(&view), out)),
+            Command::Mark => {
+                self.mark();
+                after_reply(put_answer(None, out))
+            }
+            Command::Morph(a, b) if is_fraction(a, b) => after_reply(self.morph(a, b, out)),
+            Command::Morph(_, _) => Err(LineFail::BadLine),
             Command::Pick(ray) => after_reply(put_pick(self.pick(&ray), out)),
             Command::Split(k) if k < self.records() => after_reply(put_answer(self.split(k), out)),
             Command::Collapse(k) if k < self.records() => {

@@ -1,7 +1,8 @@
-use Rattle.std.proofs.Common.{arith, refl, sym, ap, ◌∙◌}
+use Rattle.std.proofs.Common.{List, Bool, arith, refl, sym, ap, ◌∙◌}
 use Rattle.pm_forest.specs.Fronts.{set_of}
 use Rattle.pm_session.proofs.Deeds.{deed_quit, deed_measure, deed_strip, deed_bad, deed_show, deed_split, deed_collapse, deed_look, deed_pick, deed_no_split, deed_no_collapse, replied, ended, bad, named_none}
-use Rattle.pm_session.specs.Session.{Shown}
+use Rattle.pm_session.proofs.MorphLaws.{deed_mark, deed_morph, deed_no_fraction}
+use Rattle.pm_session.specs.Session.{sets_of}
 use Rattle.pm_session.proofs.session.Session.line.Goals as goal
 
 pub returns-in-Quit-clause-ends : goal.returns-in-Quit-clause-ends
@@ -14,16 +15,34 @@ pub returns-in-Show-clause-ends : goal.returns-in-Show-clause-ends
 returns-in-Show-clause-ends g c =
     replied _ _ _ _ _ c.show.result _ _ _ (deed_show _ _ _ _ (sym c.command_of.ensures ∙ c.in-Show.is)) refl c.after_reply.ensures.ok c.after_reply.ensures.err c.show.ensures.ok c.show.ensures.err
 
+pub returns-in-Mark-clause-ends : goal.returns-in-Mark-clause-ends
+returns-in-Mark-clause-ends g c =
+    replied _ _ _ _ _ c.put_answer.result _ _ _
+    (deed_mark _ _ _ _ _ _ (sym c.command_of.ensures ∙ c.in-Mark.is) (ap (λ (flags : List Bool). set_of flags) c.mark.ensures.same.2) c.mark.ensures.marked) refl
+    c.after_reply-in-Mark.ensures.ok c.after_reply-in-Mark.ensures.err c.put_answer.ensures.ok c.put_answer.ensures.err
+
+pub returns-in-Morph-clause-ends : goal.returns-in-Morph-clause-ends
+returns-in-Morph-clause-ends g c =
+    replied _ _ _ _ _ c.morph.result _ _ _
+    (deed_morph _ _ _ _ c.in-Morph.a c.in-Morph.b (sym c.command_of.ensures ∙ c.in-Morph.is) (sym c.is_fraction.ensures ∙ c.if-is_fraction.true)) (ap sets_of c.morph.ensures.same)
+    c.after_reply-in-Morph.ensures.ok c.after_reply-in-Morph.ensures.err c.morph.ensures.ok c.morph.ensures.err
+
+pub returns-in-Morph-2-clause-ends : goal.returns-in-Morph-2-clause-ends
+returns-in-Morph-2-clause-ends g c =
+    bad _ _ _ (deed_no_fraction _ _ _ _ c.in-Morph.a c.in-Morph.b (sym c.command_of.ensures ∙ c.in-Morph.is) (sym c.is_fraction.ensures ∙ c.if-is_fraction.false))
+
 pub returns-in-Split-clause-ends : goal.returns-in-Split-clause-ends
 returns-in-Split-clause-ends g c =
-    replied _ _ _ _ _ c.put_answer.result _ _ _
-    (deed_split _ _ _ _ _ c.in-Split.k c.split.result (sym c.command_of.ensures ∙ c.in-Split.is) (omega arith) c.split.ensures.answer c.split.ensures.after) refl
-    c.after_reply-in-Split.ensures.ok c.after_reply-in-Split.ensures.err c.put_answer.ensures.ok c.put_answer.ensures.err
+    replied _ _ _ _ _ c.put_answer-in-Split.result _ _ _
+    (deed_split _ _ _ _ _ _ c.in-Split.k c.split.result (sym c.command_of.ensures ∙ c.in-Split.is) (omega arith) c.split.ensures.answer c.split.ensures.after
+    (ap (λ (marks : List Bool). set_of marks) c.split.ensures.same.2)) refl
+    c.after_reply-in-Split.ensures.ok c.after_reply-in-Split.ensures.err c.put_answer-in-Split.ensures.ok c.put_answer-in-Split.ensures.err
 
 pub returns-in-Collapse-clause-ends : goal.returns-in-Collapse-clause-ends
 returns-in-Collapse-clause-ends g c =
     replied _ _ _ _ _ c.put_answer-in-Collapse.result _ _ _
-    (deed_collapse _ _ _ _ _ c.in-Collapse.k c.collapse.result (sym c.command_of.ensures ∙ c.in-Collapse.is) (omega arith) c.collapse.ensures.answer c.collapse.ensures.after) refl
+    (deed_collapse _ _ _ _ _ _ c.in-Collapse.k c.collapse.result (sym c.command_of.ensures ∙ c.in-Collapse.is) (omega arith) c.collapse.ensures.answer c.collapse.ensures.after
+    (ap (λ (marks : List Bool). set_of marks) c.collapse.ensures.same.2)) refl
     c.after_reply-in-Collapse.ensures.ok c.after_reply-in-Collapse.ensures.err c.put_answer-in-Collapse.ensures.ok c.put_answer-in-Collapse.ensures.err
 
 pub returns-in-Split-2-clause-ends : goal.returns-in-Split-2-clause-ends
@@ -35,7 +54,8 @@ returns-in-Split-2-2-clause-ends g c = named_none _ _ _ (deed_no_collapse _ _ _ 
 pub returns-in-Look-clause-ends : goal.returns-in-Look-clause-ends
 returns-in-Look-clause-ends g c =
     replied _ _ _ _ _ c.put_adapted.result _ _ _
-    (deed_look _ _ _ _ _ c.in-Look.view c.look.result (sym c.command_of.ensures ∙ c.in-Look.is) c.look.ensures.answer c.look.ensures.after) refl
+    (deed_look _ _ _ _ _ _ c.in-Look.view c.look.result (sym c.command_of.ensures ∙ c.in-Look.is) c.look.ensures.answer c.look.ensures.after
+    (ap (λ (marks : List Bool). set_of marks) c.look.ensures.same.2)) refl
     c.after_reply-in-Look.ensures.ok c.after_reply-in-Look.ensures.err c.put_adapted.ensures.ok c.put_adapted.ensures.err
 
 pub returns-in-Pick-clause-ends : goal.returns-in-Pick-clause-ends
@@ -45,10 +65,10 @@ returns-in-Pick-clause-ends g c =
 
 pub returns-in-Measure-clause-ends : goal.returns-in-Measure-clause-ends
 returns-in-Measure-clause-ends g c =
-    replied _ _ _ _ _ c.measure.result _ _ _ (deed_measure _ _ _ _ (sym c.command_of.ensures ∙ c.in-Measure.is)) (ap (λ (s : Shown). set_of s.flags) c.measure.ensures.same)
+    replied _ _ _ _ _ c.measure.result _ _ _ (deed_measure _ _ _ _ (sym c.command_of.ensures ∙ c.in-Measure.is)) (ap sets_of c.measure.ensures.same)
     c.after_reply-in-Measure.ensures.ok c.after_reply-in-Measure.ensures.err c.measure.ensures.ok c.measure.ensures.err
 
 pub returns-in-Strip-clause-ends : goal.returns-in-Strip-clause-ends
 returns-in-Strip-clause-ends g c =
-    replied _ _ _ _ _ c.strip.result _ _ _ (deed_strip _ _ _ _ (sym c.command_of.ensures ∙ c.in-Strip.is)) (ap (λ (s : Shown). set_of s.flags) c.strip.ensures.same)
+    replied _ _ _ _ _ c.strip.result _ _ _ (deed_strip _ _ _ _ (sym c.command_of.ensures ∙ c.in-Strip.is)) (ap sets_of c.strip.ensures.same)
     c.after_reply-in-Strip.ensures.ok c.after_reply-in-Strip.ensures.err c.strip.ensures.ok c.strip.ensures.err
