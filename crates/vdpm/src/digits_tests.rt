@@ -21,10 +21,12 @@ fn decimals_are_read_and_written(rt: HostRuntime) -> Result<(), Fail> {
     let mut words = STREAM;
     words[1] = 0;
     let none = text(alloc, &words, b"")?;
+    let built = [stream.as_slice()];
+    let whole = [octahedron.as_slice()];
     let rows: [(&[&str], Row); 8] = [
         (
             &["build", "0", "--digits", "2"],
-            Row::new(TRIANGLE, &[&stream], b""),
+            Row::new(TRIANGLE, &built, b""),
         ),
         (&["expand"], Row::new(&stream, &[HUNDREDTHS], b"")),
         (
@@ -53,7 +55,7 @@ fn decimals_are_read_and_written(rt: HostRuntime) -> Result<(), Fail> {
         ),
         (
             &["build", "0", "--digits", "0"],
-            Row::new(OCTAHEDRON_TEXT, &[&octahedron], b""),
+            Row::new(OCTAHEDRON_TEXT, &whole, b""),
         ),
     ];
     for (words, row) in rows {
