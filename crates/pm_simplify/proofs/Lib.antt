@@ -12,3 +12,4 @@ pub mod ObstacleLaws
 pub mod BorderStays
 pub mod Waiting
 pub mod Freeing
+pub mod Faultless

@@ -1,0 +1,4 @@
+pub mod Views
+pub mod Scene
+pub mod Summary
+pub mod Ending

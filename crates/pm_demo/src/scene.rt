@@ -1,0 +1,165 @@
+// The hierarchy of a grid and what adapts its fronts. All memory of a summary is taken here.
+ghost use Rattle.std.specs.Prelude.{◌≡◌, ◌+◌, ◌≤◌, ◌<◌, length, IfOk, OnOk, OnErr};
+ghost use Rattle.pm_base.specs.Meshes.{mesh_of};
+ghost use Rattle.pm_grid.specs.Grid.{grid as grid_of};
+ghost use Rattle.pm_io.specs.Bytes.{Gains, GainsPart};
+ghost use Rattle.pm_io.specs.Causes.{HasCause};
+ghost use Rattle.pm_forest.specs.Fronts.{set_of, no_records};
+ghost use Rattle.pm_beyond.specs.Valid.{IsValid};
+ghost use Rattle.pm_front.specs.Shown.{active_nodes, kept_faces};
+ghost use Rattle.pm_refine.specs.Adapting.{view_target, view_plan};
+ghost use Rattle.pm_demo.specs.Scene.{HasTools};
+ghost use Rattle.pm_demo.specs.Summary.{IsOfGrid, view_line};
+
+use crate::OutOfMemory;
+use crate::lines::put_settled;
+use pm_beyond::plans_are_sound;
+use pm_bounds::Bounds;
+use pm_forest::Hierarchy;
+use pm_front::Front;
+use pm_grid::{grid, grids_are_sound};
+use pm_io::{Line, Sink, WriteFault, put_all};
+use pm_load::{LoadFail, open_front};
+use pm_number::from_log;
+use pm_refine::{Adapted, Refiner};
+use pm_simplify::{SimplifyFail, simplify};
+use pm_view::{Steps, View};
+use std::alloc::{AllocError, Global};
+use std::marker::{Brand, Model};
+use std::sync::ledger::{Blank, Ledger};
+
+/// A hierarchy that is looked at. Contracts see it and which of its records are split.
+#[derive(Drop)]
+pub struct Scene {
+    front: Front,
+    bounds: Bounds,
+    refiner: Refiner,
+}
+
+impl Model for Scene {
+    ghost use Rattle.pm_demo.specs.Scene.{Shown, HasTools};
+
+    ghost Value = { Shown };
+
+    ghost view = { λ s. record { h = s.front.h; flags = s.front.flags } };
+
+    ghost invariant = { λ s. HasTools s.front.h s.bounds s.refiner };
+}
+
+// The hierarchy of a grid that is simplified as far as pairs may be collapsed.
+fn simplified_grid(alloc: Global, n: u32) -> Result<Hierarchy, OutOfMemory>
+    requires some { 1 ≤ n }
+    requires most { n ≤ 256 }
+    ensures of_grid { IfOk result (IsOfGrid n) }
+    ensures valid { IfOk result IsValid }
+{
+    grids_are_sound();
+    let mesh = grid(alloc, n)?;
+    let log = match simplify(alloc, &mesh, 0) {
+        Ok(log) => log,
+        Err(SimplifyFail::OutOfMemory) => return Err(AllocError),
+        // A grid is an oriented manifold.
+        Err(SimplifyFail::EdgeTwice(_)) => unreachable!(),
+        Err(SimplifyFail::NotFan(_)) => unreachable!(),
+    };
+    from_log(alloc, &mesh, &log)
+}
+
+// Adapts a front to a view, with a budget of the number of records, and answers how many moves
+// that took.
+fn settle<L: Ledger>(
+    refiner: &mut Refiner,
+    front: &mut Front,
+    bounds: &Bounds,
+    view: &View,
+    blank: Blank,
+) -> u32
+    requires tools { HasTools front.old.h bounds.now refiner.old }
+    requires name { blank.name ≡ L.name }
+    requires parts { blank.parts ≡ L.parts }
+    requires some { 0 < L.parts }
+    ensures moves { result ≡ length (view_plan front.old.h (set_of front.old.flags) view.now) }
+    ensures after { set_of front.new.flags ≡ view_target front.old.h view.now }
+    ensures hierarchy { front.new.h ≡ front.old.h }
+    ensures tools { HasTools front.new.h bounds.now refiner.new }
+{
+    plans_are_sound();
+    let budget = front.hierarchy().records();
+    let mut steps: Steps<L> = Steps::new(blank);
+    match refiner.adapt(front, bounds, view, budget, &mut steps) {
+        Adapted::Settled { moves } => moves,
+        // A plan has at most as many moves as there are records.
+        Adapted::Spent { .. } => unreachable!(),
+    }
+}
+
+impl Scene {
+    /// The base front of the simplified grid of n times n cells, n from 1 to 256.
+    pub fn open(alloc: Global, n: u32) -> Result<Scene, OutOfMemory>
+        requires some { 1 ≤ n }
+        requires most { n ≤ 256 }
+        ensures of_grid { IfOk result (λ s. IsOfGrid n s.h) }
+        ensures base { IfOk result (λ s. set_of s.flags ≡ no_records) }
+    {
+        let h = simplified_grid(alloc, n)?;
+        let front = match open_front(alloc, h) {
+            Ok(front) => front,
+            Err(LoadFail::OutOfMemory) => return Err(AllocError),
+            // The hierarchy of a run is valid.
+            Err(LoadFail::EdgeTwice(_)) => unreachable!(),
+            Err(LoadFail::BadNeighbour(_)) => unreachable!(),
+        };
+        let bounds = Bounds::of(alloc, front.hierarchy())?;
+        let refiner = Refiner::new(alloc, front.hierarchy())?;
+        Ok(Scene {
+            front,
+            bounds,
+            refiner,
+        })
+    }
+
+    /// The hierarchy.
+    pub fn hierarchy(&self) -> &Hierarchy
+        ensures { result.now ≡ self.now.h }
+    {
+        self.front.hierarchy()
+    }
+
+    // Adapts the front to a view, and answers how many moves that took.
+    fn look(&mut self, view: &View) -> u32
+        ensures moves { result ≡ length (view_plan self.old.h (set_of self.old.flags) view.now) }
+        ensures after { set_of self.new.flags ≡ view_target self.old.h view.now }
+        ensures hierarchy { self.new.h ≡ self.old.h }
+    {
+        settle::<Brand>(
+            &mut self.refiner,
+            &mut self.front,
+            &self.bounds,
+            view,
+            Blank::new(1),
+        )
+    }
+
+    /// Adapts the front to a view with the number i, and puts the line of that.
+    #[tactic(auto, unfolding(crate::specs::Summary::view_line))]
+    pub fn show<K: Sink>(&mut self, i: u32, view: &View, out: &mut K) -> Result<(), WriteFault>
+        ensures after { set_of self.new.flags ≡ view_target self.old.h view.now }
+        ensures hierarchy { self.new.h ≡ self.old.h }
+        ensures ok { let text = view_line self.old.h (set_of self.old.flags) i view.now in
+            OnOk result (Gains (K.got out.old) (K.got out.new) text) }
+        ensures err { let text = view_line self.old.h (set_of self.old.flags) i view.now in
+            OnErr result (GainsPart (K.got out.old) (K.got out.new) text) }
+        ensures cause { HasCause (K.faults out.old) (K.faults out.new) result }
+    {
+        let moves = self.look(view);
+        let mut line = Line::new();
+        put_settled(
+            &mut line,
+            i,
+            moves,
+            self.front.active_count(),
+            self.front.kept_count(),
+        );
+        put_all(out, line.as_slice())
+    }
+}
