@@ -29,7 +29,7 @@ grid_line n vertices faces =
 unfoldable pub hierarchy_line : Hierarchy → List ℕ
 hierarchy_line h =
     codes "roots " ++ decimal (length h.roots) ++ codes " records " ++ decimal (record_count h)
-    ++ codes " base " ++ decimal (length h.bases) ++ codes " bytes " ++ decimal (length (stream h)) ++ codes "\n"
+    ++ codes " base " ++ decimal (length h.bases) ++ codes " bytes " ++ decimal (length (stream 0 h)) ++ codes "\n"
 
 -- `view I settled X active A kept K`
 unfoldable pub settled_line : ℕ → ℕ → ℕ → ℕ → List ℕ

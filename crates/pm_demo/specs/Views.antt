@@ -8,6 +8,7 @@ middle_view n = record {
   eye = record { x = pos (50 * n); y = pos (50 * n); z = pos 2000 };
   focal = 1000;
   tol = 40;
+  sil = 40;
   planes = [];
 }
 
@@ -17,5 +18,6 @@ corner_view n = record {
   eye = record { x = pos 0; y = pos 0; z = pos 500 };
   focal = 1000;
   tol = 20;
+  sil = 20;
   planes = record { a = pos 1; b = pos 0; c = pos 0; d = neg_ℤ (pos (50 * n)) } ∷ [];
 }

@@ -34,7 +34,7 @@ pub fn put_hierarchy(line: &mut Line, h: &Hierarchy)
     line.add(b" base ");
     line.add_number(h.bases());
     line.add(b" bytes ");
-    line.add_long_number(stream_len(h));
+    line.add_long_number(stream_len(h, 0));
     line.add(b"\n");
 }
 

@@ -11,7 +11,7 @@ pub fn middle_view(n: u32) -> View
     ensures { result ≡ middle_view n }
 {
     let middle = (50 * n) as i32;
-    let Some(view) = View::new(middle, middle, 2000, 1000, 40, ArrayVec::new()) else {
+    let Some(view) = View::new(middle, middle, 2000, 1000, 40, 40, ArrayVec::new()) else {
         unreachable!()
     };
     view
@@ -29,7 +29,7 @@ pub fn corner_view(n: u32) -> View
         c: 0,
         d: -i64::from(50 * n),
     });
-    let Some(view) = View::new(0, 0, 500, 1000, 20, planes) else {
+    let Some(view) = View::new(0, 0, 500, 1000, 20, 20, planes) else {
         unreachable!()
     };
     view

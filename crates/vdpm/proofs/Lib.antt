@@ -5,5 +5,6 @@ pub mod ReadingLaws
 pub mod BuildLaws
 pub mod FrameLaws
 pub mod OutcomeLaws
+pub mod DemoLaws
 pub mod EndingLaws
 pub mod ViewLaws

@@ -11,7 +11,8 @@ use Rattle.vdpm.specs.declared.fault.CommandFail.TheVariants as fails
 use Rattle.vdpm.specs.declared.words.Asked.{Asked}
 use Rattle.vdpm.specs.declared.words.Asked.TheVariants as asked
 use Rattle.vdpm.specs.Input.{fail_of, Unreached, IsFaulty, Stops}
-use Rattle.vdpm.specs.Ran.{Ran, refused, whole}
+use Rattle.pm_demo.proofs.SummaryLaws.{one_summary}
+use Rattle.vdpm.specs.Ran.{Ran, refused, whole, unread}
 use Rattle.vdpm.specs.Outcome.{IsOutcome, done_with, Follows, OneOutcome, Replied, CutShort}
 use Rattle.vdpm.specs.Ending.{PutBy, ReadFails, ReadToEnd, Ends, Counts}
 use Rattle.vdpm.proofs.SurfaceLaws.{one_surface}
@@ -31,6 +32,7 @@ one_outcome (asked.Build target digits) bytes a b is are = one_follows (λ p q i
 one_outcome asked.Expand bytes a b is are = one_follows (λ p q i j one other. one_hierarchy bytes one other) is are
 one_outcome asked.Check bytes a b is are = one_follows (λ p q i j one other. one_hierarchy bytes one other) is are
 one_outcome (asked.View budget) bytes a b is are = one_follows (λ p q i j one other. one_valid bytes one other) is are
+one_outcome (asked.Demo n) bytes a b is are = is.done ∙ ap unread (one_summary n is.text are.text is.summary are.summary) ∙ sym are.done
 
 -- What follows from what the bytes give.
 

@@ -6,6 +6,7 @@ use Rattle.pm_base.specs.Sides.{Net, net_of, Stands, NoSideTwice}
 use Rattle.pm_base.specs.Fans.{IsOrientedManifold}
 use Rattle.pm_base.proofs.NetLaws.{mesh_side}
 use Rattle.pm_twins.specs.Faults.{IsFirstRepeating, IsFirstBroken}
+use Rattle.pm_simplify.proofs.Faultless.{repeats_none}
 use Rattle.obj_read.specs.declared.fault.ObjFault.{ObjFault}
 use Rattle.obj_read.specs.Fails.{IsRefusal, NotReached, FailsBefore}
 use Rattle.obj_read.specs.Meaning.{Refused, meaning_of}
@@ -16,16 +17,6 @@ use Rattle.vdpm.specs.declared.fault.InputFail.{InputFail}
 use Rattle.vdpm.specs.declared.fault.InputFail.TheVariants as input
 use Rattle.vdpm.specs.Input.{Unreached, IsFaulty, Stops}
 use Rattle.vdpm.specs.Surface.{IsSurfaceFault, side_twice, no_fan, IsSurface, bad_line, no_manifold, manifold, IsSurfaceFail}
-
--- In a well-formed mesh no face repeats a side where no directed side stands twice.
-pub repeats_none : (m : Mesh) → IsWellFormed m → NoSideTwice (net_of m.faces) → (f : ℕ) → IsFirstRepeating (net_of m.faces) f → ⊥
-repeats_none m formed once f is =
-    let r = is.repeats in
-    let net = net_of m.faces in
-    let side : Stands net r.side = (mesh_side m formed r.side (omega (arith, is.in_range, r.of_face))).0 in
-    let earlier : Stands net r.earlier = (mesh_side m formed r.earlier (omega (arith, is.in_range, r.before))).0 in
-    let same : r.earlier ≡ r.side = once r.earlier r.side earlier side r.from r.to in
-    absurd (omega (arith, same, r.before, r.of_face))
 
 pub first_repeating_one : (m : Net) (f g : ℕ) → IsFirstRepeating m f → IsFirstRepeating m g → f ≡ g
 first_repeating_one m f g is are =

@@ -1,5 +1,5 @@
 -- How a command ends, and when each status comes.
-use Rattle.std.specs.Prelude.{◌≡◌, ◌⊎◌, ℕ, ◌<◌, ◌≤◌, List, [], ◌∷◌, ◌++◌, length, Option, Some, None, IfSome, Result, Ok, Err}
+use Rattle.std.specs.Prelude.{◌≡◌, ◌≢◌, ◌⊎◌, ℕ, ◌<◌, ◌≤◌, List, [], ◌∷◌, ◌++◌, length, Option, Some, None, IfSome, Result, Ok, Err}
 use Rattle.pm_io.specs.Bytes.{Loses, Gains, GainsPart, AtEnd}
 use Rattle.pm_io.specs.Causes.{Rose}
 use Rattle.obj_lines.specs.Text.{until, lines}
@@ -26,12 +26,14 @@ pub data RepliesTo (budget : ℕ) : List ℕ → List ℕ → Type 0 where
       → RepliesTo budget (stream digits h ++ (front ++ line)) (played h budget no_records front).text
 
 -- What a command has put once these bytes were taken and no more can be: `view` its replies, and the others nothing.
+-- `demo` takes none, so no read of it fails.
 abbrev pub PutBy : Asked → List ℕ → List ℕ → Type 0
 PutBy (asked.Canon digits) taken text = text ≡ []
 PutBy (asked.Build target digits) taken text = text ≡ []
 PutBy asked.Expand taken text = text ≡ []
 PutBy asked.Check taken text = text ≡ []
 PutBy (asked.View budget) taken text = RepliesTo budget taken text
+PutBy (asked.Demo n) taken text = ⊥
 
 -- A read failed before the place that decides the outcome.
 pub record ReadFails (asks : Asked) (left now old new : Option (List ℕ)) : Type 0 where
@@ -83,6 +85,10 @@ status_of (fails.Faulty f) = 1
 status_of fails.Read = 3
 status_of fails.Write = 4
 status_of fails.OutOfMemory = 5
+
+-- The status is neither that of a fault of the input nor that of a failed read.
+abbrev pub BlamesNoInput : ℕ → Type 0
+BlamesNoInput status = (status ≢ 1) × (status ≢ 3)
 
 -- The error sink gained the line, or a part of it where it failed.
 abbrev pub Said : Option (List ℕ) → Option (List ℕ) → ℕ → ℕ → List ℕ → Type 0

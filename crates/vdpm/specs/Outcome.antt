@@ -9,13 +9,14 @@ use Rattle.pm_forest.specs.Fronts.{no_records}
 use Rattle.pm_base.specs.Canonical.{canonical_text}
 use Rattle.pm_session.specs.Serving.{played}
 use Rattle.pm_format.specs.Stream.{stream}
+use Rattle.pm_demo.specs.Summary.{IsSummary}
 use Rattle.vdpm.specs.declared.words.Asked.{Asked}
 use Rattle.vdpm.specs.declared.words.Asked.TheVariants as asked
 use Rattle.vdpm.specs.declared.fault.Fault.{Fault}
 use Rattle.vdpm.specs.Surface.{IsSurface}
 use Rattle.vdpm.specs.Build.{IsBuilt}
 use Rattle.vdpm.specs.Opening.{IsValidOpening, IsHierarchyText}
-use Rattle.vdpm.specs.Ran.{Ran, refused, whole, of_script}
+use Rattle.vdpm.specs.Ran.{Ran, refused, whole, unread, of_script}
 
 -- What a command does with what it reads, and nothing where the input is refused.
 abbrev pub done_with : {X : Type 0} → (X → Ran) → Result X Fault → Option ℕ → Ran
@@ -35,15 +36,23 @@ counts_line h =
     codes "leaves " ++ decimal (leaf_count h) ++ codes " roots " ++ decimal (length h.roots) ++ codes " base " ++ decimal (length h.bases)
     ++ codes " records " ++ decimal (record_count h) ++ codes " faces " ++ decimal (face_count h) ++ codes "\n"
 
+-- The outcome of `demo`, whatever the bytes are: the summary of the grid.
+pub record Summarizes (n : ℕ) (all : Ran) : Type 0 where
+  pub text : List ℕ
+  pub summary : IsSummary n text
+  pub done : all ≡ unread text
+
 -- The outcome of a command on bytes. `canon` writes the canonical text of the mesh, `build` the stream text of the
 -- hierarchy that the mesh's run makes, `expand` the canonical text of the mesh that a hierarchy was made from, with as many
--- decimals as the stream tells, `check` how large the hierarchy is, and `view` what the script does that follows it.
+-- decimals as the stream tells, `check` how large the hierarchy is, `view` what the script does that follows it, and `demo`
+-- the summary of a grid.
 abbrev pub IsOutcome : Asked → List ℕ → Ran → Type 0
 IsOutcome (asked.Canon digits) bytes all = Follows (IsSurface digits bytes) (λ m. whole (canonical_text digits m)) all
 IsOutcome (asked.Build target digits) bytes all = Follows (IsBuilt target digits bytes) (λ h. whole (stream digits h)) all
 IsOutcome asked.Expand bytes all = Follows (IsHierarchyText bytes) (λ o. whole (canonical_text o.digits (input_mesh_of o.h))) all
 IsOutcome asked.Check bytes all = Follows (IsHierarchyText bytes) (λ o. whole (counts_line o.h)) all
 IsOutcome (asked.View budget) bytes all = Follows (IsValidOpening bytes) (λ o. of_script (length (stream o.digits o.h)) (played o.h budget no_records o.rest)) all
+IsOutcome (asked.Demo n) bytes all = Summarizes n all
 
 -- An input has one outcome: one text, one fault or none, and one place.
 abbrev pub OneOutcome : Type 0

@@ -26,6 +26,10 @@ refused f place = record { text = []; fault = Some f; place = place }
 abbrev pub whole : List ℕ → Ran
 whole text = record { text = text; fault = None; place = None }
 
+-- All of the text is written, and no byte of the input decides that.
+abbrev pub unread : List ℕ → Ran
+unread text = record { text = text; fault = None; place = Some 0 }
+
 -- The fault of a script is one of the input.
 abbrev pub line_fault : ScriptFault → Fault
 line_fault (lines.BadLine n) = faults.BadLine n

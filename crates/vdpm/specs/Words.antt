@@ -1,5 +1,5 @@
 -- The words of a command line.
-use Rattle.std.specs.Prelude.{ℕ, nat_eq, Bool, ◌&&◌, true, false, List, [], ◌∷◌, Option, Some, None, if◌then◌else◌, codes}
+use Rattle.std.specs.Prelude.{ℕ, ◌≤◌, nat_eq, nat_le, ◌&&◌, Bool, true, false, List, [], ◌∷◌, Option, Some, None, if◌then◌else◌, codes}
 use Rattle.std.specs.Cmp.Lexicographic.{pointwise}
 use Rattle.pm_io.specs.Digits.{unsigned_of}
 use Rattle.vdpm.specs.declared.words.Asked.{Asked}
@@ -20,6 +20,7 @@ with_number word None = None
 with_number word (Some n) =
     if pointwise nat_eq word (codes "build") then Some (asked.Build n 0)
     else if pointwise nat_eq word (codes "view") then Some (asked.View n)
+    else if pointwise nat_eq word (codes "demo") && nat_le 1 n && nat_le n 256 then Some (asked.Demo n)
     else None
 
 -- What `canon` asks for with a number of decimals after `--digits`, and `build N` with one.
@@ -34,8 +35,9 @@ build_with word (Some target) flag None = None
 build_with word (Some target) flag (Some digits) =
     if pointwise nat_eq word (codes "build") && pointwise nat_eq flag (codes "--digits") then Some (asked.Build target digits) else None
 
--- What the words ask for: `canon`, `canon --digits D`, `build`, `build N`, `build N --digits D`, `expand`, `check`, or
--- `view B`, with N and B unsigned numbers of 32 bits and D from 0 to 4. Other words ask for nothing.
+-- What the words ask for: `canon`, `canon --digits D`, `build`, `build N`, `build N --digits D`, `expand`, `check`,
+-- `view B` or `demo N`, with N and B unsigned numbers of 32 bits, that of `demo` from 1 to 256, and D from 0 to 4. Other words
+-- ask for nothing.
 unfoldable pub asked_of : List (List ℕ) → Option Asked
 asked_of (word ∷ []) = alone word
 asked_of (word ∷ number ∷ []) = with_number word (unsigned_of 4294967295 number)
@@ -50,3 +52,9 @@ digits_of (asked.Build target digits) = digits
 digits_of asked.Expand = 0
 digits_of asked.Check = 0
 digits_of (asked.View budget) = 0
+digits_of (asked.Demo n) = 0
+
+-- The grid of `demo` has from 1 to 256 cells a side.
+abbrev pub HasSize : Asked → Type 0
+HasSize (asked.Demo n) = (1 ≤ n) × (n ≤ 256)
+HasSize asks = Unit {0}

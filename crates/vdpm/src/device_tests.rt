@@ -185,6 +185,23 @@ fn calls_that_are_not_made(rt: HostRuntime) -> Result<(), Fail> {
     Ok(())
 }
 
+// `demo` reads nothing: the first call of its source would fail.
+#[test]
+fn one_cell_is_summarized(rt: HostRuntime) -> Result<(), Fail> {
+    let summary: &[u8] =
+        b"grid 1 vertices 4 faces 2\nroots 3 records 1 base 1 bytes 168\nview 0 settled 1 active 4 kept 2\nview 1 settled 0 active 4 kept 2\nview 2 settled 0 active 4 kept 2\n";
+    let words = ["demo", "1"];
+    let unread = Devices::new(b"x", 1, &[0], 100);
+    let whole = Left::new(0, summary, b"");
+    check_left(&rt, rt.alloc(), &words, &unread, &whole)?;
+    let mut small = unread;
+    small.room = 30;
+    let part = summary.get(..30).unwrap_or_default();
+    let cut = Left::new(4, part, b"vdpm: write fault\n");
+    check_left(&rt, rt.alloc(), &words, &small, &cut)?;
+    Ok(())
+}
+
 // A reply is put before more is asked for: where the first one fails, the second line is still to be taken.
 #[test]
 fn reply_before_the_next_read(rt: HostRuntime) -> Result<(), Fail> {

@@ -20,6 +20,7 @@ mod run;
 mod say;
 #[cfg(test)]
 mod stream_tests;
+mod summary;
 mod surface;
 #[cfg(test)]
 mod tests;

@@ -3,18 +3,19 @@ ghost use Rattle.std.specs.Prelude.{◌≡◌, ◌⊎◌, ◌≤◌, ◌<◌, �
 ghost use Rattle.std.specs.String.{string_bytes};
 ghost use Rattle.pm_io.specs.Causes.{Rose};
 ghost use Rattle.vdpm.specs.declared.fault.Fault.{Fault};
-ghost use Rattle.vdpm.specs.Words.{asked_of, digits_of};
+ghost use Rattle.vdpm.specs.Words.{asked_of, digits_of, HasSize};
 ghost use Rattle.vdpm.specs.FaultLine.{fault_line};
 ghost use Rattle.vdpm.specs.Ran.{Ran};
 ghost use Rattle.vdpm.specs.Outcome.{IsOutcome, Replied, GivesBack, CutShort};
 ghost use Rattle.vdpm.specs.Frames.{ShowsSurfaces};
-ghost use Rattle.vdpm.specs.Ending.{Ends, Counts, ReadFails, ReadToEnd, FewMore, Said, Stayed, Answers};
+ghost use Rattle.vdpm.specs.Ending.{Ends, Counts, ReadFails, ReadToEnd, FewMore, BlamesNoInput, status_of, Said, Stayed, Answers};
 
 use crate::build::build;
 use crate::commands::{canon, check, expand, view};
 use crate::fault::CommandFail;
 use crate::outcomes::outcomes_are_sound;
 use crate::say::{say, tell};
+use crate::summary::summarize;
 use crate::words::{Asked, read_words};
 use pm_io::{Sink, Source};
 use std::alloc::Global;
@@ -27,12 +28,14 @@ fn obey<S: Source, K: Sink>(
     input: &mut S,
     out: &mut K,
 ) -> Result<(), CommandFail>
-    requires { digits_of asked ≤ 4 }
+    requires few { digits_of asked ≤ 4 }
+    requires size { HasSize asked }
     ensures ends { Ends asked result (S.left input.old) (S.left input.new) (K.got out.old) (K.got out.new) }
     ensures counts { Counts result (S.faults input.old) (S.faults input.new) (K.faults out.old) (K.faults out.new) }
     ensures read_whole { OnOk result (ReadToEnd asked (S.left input.old) (S.left input.new)) }
     ensures gives_back { (target digits : ℕ) → asked ≡ Asked.Build target digits → OnOk result (IfSome (S.left input.old) (λ bytes. GivesBack target digits bytes (K.got out.old) (K.got out.new))) }
     ensures surfaces { (target digits : ℕ) → asked ≡ Asked.Build target digits → OnOk result (IfSome (S.left input.old) (λ bytes. ShowsSurfaces target digits bytes (K.got out.old) (K.got out.new))) }
+    ensures unread { (n : ℕ) → asked ≡ Asked.Demo n → Stayed (S.left input.old) (S.left input.new) (S.faults input.old) (S.faults input.new) × IfErr result (λ e. BlamesNoInput (status_of e)) }
     ensures few_more { (budget : ℕ) → asked ≡ Asked.View budget → IfErr result (λ e. e ≡ CommandFail.Write → FewMore budget (S.left input.old) (S.left input.new) (K.got out.old) (K.got out.new)) }
 {
     match asked {
@@ -41,6 +44,7 @@ fn obey<S: Source, K: Sink>(
         Asked::Expand => expand(alloc, input, out),
         Asked::Check => check(alloc, input, out),
         Asked::View(budget) => view(alloc, budget, input, out),
+        Asked::Demo(n) => summarize(alloc, n, out),
     }
 }
 
@@ -49,11 +53,12 @@ fn obey<S: Source, K: Sink>(
 /// `canon` reads an OBJ text from `input` and writes its canonical text to `out`. `build N` reads one too, and writes the
 /// stream text of its mesh simplified to N faces; `build` is `build 0`. With `--digits D` after it each of them reads and
 /// writes coordinates with D decimals, and else with none. `expand` reads a stream text and writes the canonical text of
-/// the mesh that it was made from, with as many decimals as it tells; `check` writes how large it is. `view B` reads a stream text and
-/// the script that follows it, and writes the replies, each before it asks for more input. What ended a command early is
-/// said on `err`. Status 0: all was done. 1: the input has a fault, and the replies before it were put. 2: the words are none
-/// of the forms. 3: a read failed before the bytes that decide the outcome were taken. 4: a write to `out` failed. 5: memory
-/// was wanted, before the first byte of output.
+/// the mesh that it was made from, with as many decimals as it tells; `check` writes how large it is. `view B` reads a stream
+/// text and the script that follows it, and writes the replies, each before it asks for more input. `demo N` reads nothing,
+/// and writes a summary of the grid of N times N cells. What ended a command early is said on `err`. Status 0: all was done.
+/// 1: the input has a fault, and the replies before it were put. 2: the words are none of the forms. 3: a read failed before
+/// the bytes that decide the outcome were taken. 4: a write to `out` failed. 5: memory was wanted, before the first byte of
+/// output.
 pub fn run<S: Source, K: Sink, E: Sink>(
     alloc: Global,
     words: &[String],
@@ -75,6 +80,8 @@ pub fn run<S: Source, K: Sink, E: Sink>(
     ensures whole_counts { result ≡ 0 → (S.faults input.new ≡ S.faults input.old) × (K.faults out.new ≡ K.faults out.old) }
     // The input was read to its end, or to the `q` of a script.
     ensures read_whole { (asked : Asked) → asked_of (map string_bytes words.now) ≡ Some asked → result ≡ 0 → ReadToEnd asked (S.left input.old) (S.left input.new) }
+    // `demo` reads nothing.
+    ensures unread { (n : ℕ) → asked_of (map string_bytes words.now) ≡ Some (Asked.Demo n) → Stayed (S.left input.old) (S.left input.new) (S.faults input.old) (S.faults input.new) × BlamesNoInput result }
     ensures silent { result ≡ 0 → Stayed (E.got err.old) (E.got err.new) (E.faults err.old) (E.faults err.new) }
     // The outcome has a fault, which is said, and exactly the text before it was put.
     ensures faulty { (asked : Asked) → asked_of (map string_bytes words.now) ≡ Some asked → result ≡ 1 → (f : Fault) × IfSome (S.left input.old) (λ bytes. Replied asked bytes (Some f) (K.got out.old) (K.got out.new)) × Said (E.got err.old) (E.got err.new) (E.faults err.old) (E.faults err.new) (fault_line f) }

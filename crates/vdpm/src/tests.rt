@@ -178,7 +178,7 @@ fn obj_texts(rt: HostRuntime) -> Result<(), Fail> {
 
 #[test]
 fn words(rt: HostRuntime) -> Result<(), Fail> {
-    let refused: [&[&str]; 16] = [
+    let refused: [&[&str]; 20] = [
         &[],
         &["view"],
         &["view", "-1"],
@@ -195,6 +195,10 @@ fn words(rt: HostRuntime) -> Result<(), Fail> {
         &["canon", "--digits"],
         &["canon", "--digits", "02"],
         &["expand", "--digits", "2"],
+        &["demo"],
+        &["demo", "0"],
+        &["demo", "257"],
+        &["demo", "01"],
     ];
     let row = Row {
         input: b"x",

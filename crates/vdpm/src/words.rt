@@ -1,7 +1,7 @@
 // The words of the command line.
 ghost use Rattle.std.specs.Prelude.{◌≡◌, ◌≤◌, map, IfSome};
 ghost use Rattle.std.specs.String.{string_bytes};
-ghost use Rattle.vdpm.specs.Words.{alone, asked_of, digits_of};
+ghost use Rattle.vdpm.specs.Words.{alone, asked_of, digits_of, HasSize};
 
 use pm_io::read_unsigned;
 
@@ -19,6 +19,8 @@ pub enum Asked {
     Check,
     /// `view B`: a stream and its script, with this budget of moves a view.
     View(u32),
+    /// `demo N`: the summary of the grid of N times N cells, N from 1 to 256.
+    Demo(u32),
 }
 
 // What a word asks for that stands alone.
@@ -26,6 +28,7 @@ pub enum Asked {
 fn alone(word: &str) -> Option<Asked>
     ensures asked { result ≡ alone word.now }
     ensures few { IfSome result (λ a. digits_of a ≤ 4) }
+    ensures size { IfSome result HasSize }
 {
     if word == "canon" {
         Some(Asked::Canon(0))
@@ -45,12 +48,14 @@ fn alone(word: &str) -> Option<Asked>
 pub fn read_words(words: &[String]) -> Option<Asked>
     ensures asked { result ≡ asked_of (map string_bytes words.now) }
     ensures few { IfSome result (λ a. digits_of a ≤ 4) }
+    ensures size { IfSome result HasSize }
 {
     match words {
         [word] => alone(word.as_str()),
         [word, number] => match read_unsigned(number.as_bytes(), u32::MAX) {
             Some(target) if word.as_str() == "build" => Some(Asked::Build(target, 0)),
             Some(budget) if word.as_str() == "view" => Some(Asked::View(budget)),
+            Some(n) if word.as_str() == "demo" && 1 <= n && n <= 256 => Some(Asked::Demo(n)),
             _ => None,
         },
         [word, flag, digits] => match read_unsigned(digits.as_bytes(), 4) {

@@ -1,6 +1,6 @@
 use Rattle.pm_base.specs.Meshes.{mesh_of}
 use Rattle.pm_runs.proofs.LeastRuns.{run-to-run}
-use Rattle.vdpm.proofs.SurfaceLaws.{repeats_none}
+use Rattle.pm_simplify.proofs.Faultless.{repeats_none}
 use Rattle.vdpm.proofs.build.simplified.Goals as goal
 
 pub unreachable-requires : goal.unreachable-requires

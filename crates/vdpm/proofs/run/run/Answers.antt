@@ -1,4 +1,4 @@
-use Rattle.std.proofs.Common.{◌≡◌, None, Err, IfSome, inl, sym, ◌∙◌, subst}
+use Rattle.std.proofs.Common.{◌≡◌, None, Err, IfSome, inl, sym, ◌∙◌, subst, arith}
 use Rattle.vdpm.specs.declared.words.Asked.TheVariants as asked
 use Rattle.vdpm.specs.Outcome.{IsOutcome, Replied}
 use Rattle.vdpm.specs.Ending.{ReadToEnd, Ends}
@@ -15,6 +15,9 @@ returns-in-Ok-clause-expands g c = λ target digits asks is. c.in-Ok.ensures.giv
 pub returns-in-Ok-clause-surfaces : goal.returns-in-Ok-clause-surfaces
 returns-in-Ok-clause-surfaces g c = λ target digits asks is. c.in-Ok.ensures.surfaces target digits (one_asked _ _ (asked.Build target digits) (sym c.read_words.ensures.asked ∙ c.in-Some.is) asks)
 
+pub returns-in-Ok-clause-unread : goal.returns-in-Ok-clause-unread
+returns-in-Ok-clause-unread g c = λ n asks. ((c.in-Ok.ensures.unread n (one_asked _ _ (asked.Demo n) (sym c.read_words.ensures.asked ∙ c.in-Some.is) asks)).0, (λ is. absurd (omega arith), λ is. absurd (omega arith)))
+
 pub returns-in-Ok-clause-read_whole : goal.returns-in-Ok-clause-read_whole
 returns-in-Ok-clause-read_whole g c = λ other asks is.
     subst (λ a. ReadToEnd a (g.S.Source.left c.args.input.now) (g.S.Source.left c.obey.new.input)) (one_asked _ _ other (sym c.read_words.ensures.asked ∙ c.in-Some.is) asks) c.in-Ok.ensures.read_whole
@@ -26,6 +29,11 @@ returns-in-Ok-clause-complete g c = λ other bytes all asks left outcome in_same
 pub returns-in-Err-clause-faulty : goal.returns-in-Err-clause-faulty
 returns-in-Err-clause-faulty g c = λ other asks is.
     said_fault other c.in-Err.fail _ _ _ _ _ _ _ _ (sym c.tell.ensures.status ∙ is) (subst (λ a. Ends a (Err c.in-Err.fail) (g.S.Source.left c.args.input.now) (g.S.Source.left c.obey.new.input) (g.K.Sink.got c.args.out.now) (g.K.Sink.got c.obey.new.out)) (one_asked _ _ other (sym c.read_words.ensures.asked ∙ c.in-Some.is) asks) c.in-Err.ensures.ends) c.tell.ensures.said
+
+pub returns-in-Err-clause-unread : goal.returns-in-Err-clause-unread
+returns-in-Err-clause-unread g c = λ n asks.
+    let ends = c.in-Err.ensures.unread n (one_asked _ _ (asked.Demo n) (sym c.read_words.ensures.asked ∙ c.in-Some.is) asks) in
+    (ends.0, rw c.tell.ensures.status ends.1)
 
 pub returns-in-Err-clause-unreached : goal.returns-in-Err-clause-unreached
 returns-in-Err-clause-unreached g c = λ other asks is.
