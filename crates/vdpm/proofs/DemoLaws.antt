@@ -1,10 +1,9 @@
 -- The outcome of `demo` is the same whatever the bytes are.
 use Rattle.std.proofs.Common.{ℕ, List, Option, Some, None, IfSome, refl}
-use Rattle.pm_demo.specs.Summary.{IsSummary}
 use Rattle.pm_demo.specs.Ending.{IsWritten, IsCut}
 use Rattle.vdpm.specs.declared.words.Asked.TheVariants as asked
 use Rattle.vdpm.specs.Ran.{unread}
-use Rattle.vdpm.specs.Outcome.{IsOutcome, Replied, CutShort}
+use Rattle.vdpm.specs.Outcome.{Replied, CutShort}
 
 pub demo_written : (n : ℕ) (left old new : Option (List ℕ)) → IsWritten n old new → IfSome left (λ bytes. Replied (asked.Demo n) bytes None old new)
 demo_written n None old new is = tt
