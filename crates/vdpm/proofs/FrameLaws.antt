@@ -58,6 +58,7 @@ named_closed h deed false leads = tt
 deed_closed : (h : Hierarchy) → IsValid h → (b : ℕ) (T : ℕ → Bool) → IsClosed h T → (command : Command) → LeadsToClosed h (deed_of h b T command)
 deed_closed h sound b T closed commands.Show = closed
 deed_closed h sound b T closed commands.Measure = closed
+deed_closed h sound b T closed commands.Strip = closed
 deed_closed h sound b T closed (commands.Pick ray) = closed
 deed_closed h sound b T closed commands.Quit = tt
 deed_closed h sound b T closed commands.Bad = tt

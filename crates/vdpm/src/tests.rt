@@ -124,6 +124,7 @@ fn scripts(rt: HostRuntime) -> Result<(), Fail> {
             b"",
         ),
         Row::new(b"", &[], b""),
+        Row::new(b"t\n", &[b"t 0 2 3 1 0 2\nstrips 1\n"], b""),
         Row::new(b"s 0\ns 0\n", &[b"ok\nnot active\n"], b""),
         Row::new(b"s 0\ns 2\nw\n", &[b"ok\n"], b"vdpm: fault 31 line 2\n"),
         Row::new(b"s 0\ns 01\n", &[b"ok\n"], b"vdpm: fault 30 line 2\n"),

@@ -42,7 +42,7 @@ fn views_of_the_octahedron(rt: HostRuntime) -> Result<(), Fail> {
     Ok(())
 }
 
-// From above and from below, measured before and after its split, and split and collapsed twice.
+// From above and from below, in strips, measured before and after its split, and split and collapsed twice.
 #[test]
 fn scripts_on_the_square(rt: HostRuntime) -> Result<(), Fail> {
     let rows = [
@@ -54,6 +54,7 @@ fn scripts_on_the_square(rt: HostRuntime) -> Result<(), Fail> {
             ],
             b"",
         ),
+        Row::new(b"s 0\nt\n", &[b"ok\nt 0 3 1 4\nstrips 1\n"], b""),
         Row::new(
             b"m\ns 0\nm\n",
             &[b"shape 3 3 1 loops 1 euler 1\nok\nshape 4 5 2 loops 1 euler 1\n"],
