@@ -1,8 +1,8 @@
 -- The header of a text, whose bytes come in pieces.
-use Rattle.std.proofs.Common.{◌≡◌, ◌⊎◌, ℕ, ◌+◌, ◌-◌, ◌*◌, ◌^◌, ◌<◌, ◌≤◌, min, Bool, true, false, cond, eqb, ltb, ◌||◌, List, [], ◌∷◌, ◌++◌, Result, Ok, Err, length, take, drop, inl, inr, refl, sym, ◌∙◌, ap, subst, arith, length-append, append_assoc}
+use Rattle.std.proofs.Common.{◌≡◌, ◌⊎◌, ℕ, ◌+◌, ◌*◌, ◌^◌, ◌≤◌, true, false, List, [], ◌∷◌, ◌++◌, Ok, Err, length, take, drop, inl, inr, refl, sym, ◌∙◌, ap, subst, arith, length-append, append_assoc}
 use Rattle.std.proofs.Math.Seq.{take-add}
-use Rattle.std.proofs.lemmas.Bool.{cases_lt, eqb-true}
-use Rattle.std.proofs.lemmas.List.{length-take-le, length-drop, take-append-drop}
+use Rattle.std.proofs.lemmas.Bool.{cases_lt}
+use Rattle.std.proofs.lemmas.List.{length-take-le}
 use Rattle.pm_forest.specs.declared.parts.Counts.{Counts}
 use Rattle.pm_forest.specs.declared.parts.Shape.{Shape}
 use Rattle.pm_forest.specs.declared.parts.Shape.TheVariants as shapes
@@ -14,17 +14,16 @@ use Rattle.pm_format.specs.declared.stop.Stop.TheVariants as stops
 use Rattle.pm_format.specs.declared.stage.Stage.{Stage}
 use Rattle.pm_format.specs.declared.stage.Stage.TheVariants as stages
 use Rattle.pm_format.specs.Words.{words_of, IsBytes}
-use Rattle.pm_format.specs.Reading.{then_read, whole, counts_at, told_digits, digits_at, digits_in, header_at, forest_at}
+use Rattle.pm_format.specs.Reading.{digits_at, digits_in, header_at, forest_at}
 use Rattle.pm_format.specs.Faults.{magic_is_bad, named}
 use Rattle.pm_format.specs.Decoding.{bytes_to_come}
-use Rattle.pm_format.specs.Standing.{GoesOn, BeginsHeader, IsRefusal, StandsAfter, IsSound, tells_digits, header_bytes, JudgesHeader, is_open, stage_of, MayWant}
+use Rattle.pm_format.specs.Standing.{GoesOn, BeginsHeader, IsRefusal, StandsAfter, IsSound, header_bytes, JudgesHeader, is_open, stage_of}
 use Rattle.pm_format.proofs.WordLaws.{length-words_of}
-use Rattle.pm_format.proofs.ReadingLaws.{same_Ok, then_read_ok}
 use Rattle.pm_format.proofs.WholeLaws.{forest_is}
 use Rattle.pm_format.proofs.GrowLaws.{Extends, header_on}
 use Rattle.pm_format.proofs.StayLaws.{same_magic, header_digits}
 use Rattle.pm_format.proofs.OnLaws.{from_start}
-use Rattle.pm_format.proofs.UnitLaws.{words_apart, word_count}
+use Rattle.pm_format.proofs.UnitLaws.{words_apart}
 use Rattle.pm_format.proofs.StandLaws.{header_stops, stop_refused}
 use Rattle.pm_format.proofs.HeaderSizes.{size_is, within, header_size, header_long, not_begun}
 
