@@ -1,4 +1,4 @@
--- A script keeps the split records closed, and what is built shows an oriented manifold at every closed set.
+-- A script keeps the split and the marked records closed, and what is built shows an oriented manifold at every closed set.
 use Rattle.std.proofs.Common.{◌≡◌, ℕ, ◌+◌, ◌<◌, ◌≤◌, Bool, true, false, cond, if◌then◌else◌, ltb, List, [], ◌∷◌, ◌++◌, length, Option, Some, None, Ok, IfSome, refl}
 use Rattle.std.specs.Prelude.{is_none}
 use Rattle.std.proofs.lemmas.Bool.{ltb-true, false≢true}
@@ -19,7 +19,7 @@ use Rattle.pm_firm.proofs.FirmFronts.{firm_fronts}
 use Rattle.pm_session.specs.declared.command.Command.{Command}
 use Rattle.pm_session.specs.declared.command.Command.TheVariants as commands
 use Rattle.pm_session.specs.declared.command.ScriptFault.TheVariants as faults
-use Rattle.pm_session.specs.Script.{Deed, Replies, Ends, IsBad, NamesNoRecord, reply_to, after_split, after_collapse, after_view, command_of, deed_of, line_deed}
+use Rattle.pm_session.specs.Script.{Sets, at_first, now_split, is_fraction, morph_reply, Deed, Replies, Ends, IsBad, NamesNoRecord, reply_to, after_split, after_collapse, after_view, command_of, deed_of, line_deed}
 use Rattle.pm_session.specs.Serving.{At, Played, is_past, is_long, stopped, done_line, play_line, played_from, played}
 use Rattle.pm_format.specs.Stream.{stream}
 use Rattle.vdpm.specs.Opening.{Opening, begins, valid}
@@ -44,67 +44,81 @@ module _ (h : Hierarchy) (sound : IsValid h) (T : ℕ → Bool) (closed : IsClos
   unfolding after_view
   view_closed budget view = stay_closed h sound T (view_target h view) closed (targets h sound.shape (is_wanted h view)).closed budget
 
--- Where a line has a reply, it leads to a closed set.
-abbrev LeadsToClosed : Hierarchy → Deed → Type 0
-LeadsToClosed h (Replies reply T) = IsClosed h T
-LeadsToClosed h Ends = Unit {0}
-LeadsToClosed h IsBad = Unit {0}
-LeadsToClosed h NamesNoRecord = Unit {0}
+-- The split records are closed, and so are the marked ones where those at first are.
+record AreClosed (first : Type 0) (h : Hierarchy) (s : Sets) : Type 0 where
+  split : IsClosed h s.split
+  marked : first → IsClosed h s.marked
 
-named_closed : (h : Hierarchy) (deed : Deed) (named : Bool) → (named ≡ true → LeadsToClosed h deed) → LeadsToClosed h (if named then deed else NamesNoRecord)
-named_closed h deed true leads = leads refl
-named_closed h deed false leads = tt
-
-deed_closed : (h : Hierarchy) → IsValid h → (b : ℕ) (T : ℕ → Bool) → IsClosed h T → (command : Command) → LeadsToClosed h (deed_of h b T command)
-deed_closed h sound b T closed commands.Show = closed
-deed_closed h sound b T closed commands.Measure = closed
-deed_closed h sound b T closed commands.Strip = closed
-deed_closed h sound b T closed (commands.Pick ray) = closed
-deed_closed h sound b T closed commands.Quit = tt
-deed_closed h sound b T closed commands.Bad = tt
-deed_closed h sound b T closed (commands.Split k) =
-    named_closed h (Replies (reply_to (split_fault h T k)) (after_split h T k)) (ltb k (record_count h)) (λ is. split_closed h sound T closed k (ltb-true k (record_count h) is))
-deed_closed h sound b T closed (commands.Collapse k) =
-    named_closed h (Replies (reply_to (collapse_fault h T k)) (after_collapse h T k)) (ltb k (record_count h)) (λ is. collapse_closed h sound T closed k (ltb-true k (record_count h) is))
-deed_closed h sound b T closed (commands.Look view) = view_closed h sound T closed b view
-
-line_deed_closed : (h : Hierarchy) → IsValid h → (b : ℕ) (T : ℕ → Bool) → IsClosed h T → (text : List ℕ) → LeadsToClosed h (line_deed h b T text)
-unfolding line_deed
-line_deed_closed h sound b T closed text = deed_closed h sound b T closed (command_of text)
+-- Where a line has a reply, it leads to closed sets.
+abbrev LeadsToClosed : Type 0 → Hierarchy → Deed → Type 0
+LeadsToClosed first h (Replies reply s) = AreClosed first h s
+LeadsToClosed first h Ends = Unit {0}
+LeadsToClosed first h IsBad = Unit {0}
+LeadsToClosed first h NamesNoRecord = Unit {0}
 
 -- What comes later keeps closed sets closed.
-abbrev KeepsClosed : Hierarchy → (At → Played) → Type 0
-KeepsClosed h later = (s : At) → IsClosed h s.split → IsClosed h (later s).split
+abbrev KeepsClosed : Type 0 → Hierarchy → (At → Played) → Type 0
+KeepsClosed first h later = (s : At) → AreClosed first h s.sets → AreClosed first h (later s).sets
 
-done_closed : (h : Hierarchy) (s : At) (line : List ℕ) (deed : Deed) (later : At → Played) → IsClosed h s.split → LeadsToClosed h deed → KeepsClosed h later → IsClosed h (done_line s line deed later).split
-done_closed h s line (Replies reply T) later closed leads keeps =
-    let next : At = record { bytes = s.bytes + length line; number = s.number + 1; split = T } in
-    keeps next leads
-done_closed h s line Ends later closed leads keeps = closed
-done_closed h s line IsBad later closed leads keeps = closed
-done_closed h s line NamesNoRecord later closed leads keeps = closed
+module _ (first : Type 0) (h : Hierarchy) (sound : IsValid h) (b : ℕ) where
+  either_leads : (deed other : Deed) (named : Bool) → (named ≡ true → LeadsToClosed first h deed) → LeadsToClosed first h other → LeadsToClosed first h (if named then deed else other)
+  either_leads deed other true leads none = leads refl
+  either_leads deed other false leads none = none
 
-either_closed : (h : Hierarchy) (first : Bool) (p q : Played) → IsClosed h p.split → IsClosed h q.split → IsClosed h (if first then p else q).split
-either_closed h true p q one other = one
-either_closed h false p q one other = other
+  deed_closed : (s : Sets) → AreClosed first h s → (command : Command) → LeadsToClosed first h (deed_of h b s command)
+  deed_closed s closed commands.Show = closed
+  deed_closed s closed commands.Measure = closed
+  deed_closed s closed commands.Strip = closed
+  deed_closed s closed (commands.Pick ray) = closed
+  deed_closed s closed commands.Mark = record { split = closed.split; marked = λ m. closed.split }
+  deed_closed s closed (commands.Morph x y) = either_leads (Replies (morph_reply h s.marked s.split x y) s) IsBad (is_fraction x y) (λ is. closed) tt
+  deed_closed s closed commands.Quit = tt
+  deed_closed s closed commands.Bad = tt
+  deed_closed s closed (commands.Split k) =
+      either_leads (Replies (reply_to (split_fault h s.split k)) (now_split s (after_split h s.split k))) NamesNoRecord (ltb k (record_count h))
+      (λ is. record { split = split_closed h sound s.split closed.split k (ltb-true k (record_count h) is); marked = closed.marked }) tt
+  deed_closed s closed (commands.Collapse k) =
+      either_leads (Replies (reply_to (collapse_fault h s.split k)) (now_split s (after_collapse h s.split k))) NamesNoRecord (ltb k (record_count h))
+      (λ is. record { split = collapse_closed h sound s.split closed.split k (ltb-true k (record_count h) is); marked = closed.marked }) tt
+  deed_closed s closed (commands.Look view) = record { split = view_closed h sound s.split closed.split b view; marked = closed.marked }
 
-line_closed : (h : Hierarchy) → IsValid h → (b : ℕ) (s : At) (line : List ℕ) (later : At → Played) → IsClosed h s.split → KeepsClosed h later → IsClosed h (play_line h b s line later).split
-unfolding play_line
-line_closed h sound b s line later closed keeps =
-    let done : Played = done_line s line (line_deed h b s.split (until 10 line)) later in
-    let long : Played = stopped s (Some (faults.BadLine s.number)) (Some (s.bytes + 1025)) in
-    let past : Played = stopped s (Some faults.TooLong) (Some 1073741825) in
-    either_closed h (is_past s.bytes (length line)) past (if is_long line then long else done) closed
-    (either_closed h (is_long line) long done closed
-    (done_closed h s line (line_deed h b s.split (until 10 line)) later closed (line_deed_closed h sound b s.split closed (until 10 line)) keeps))
+  line_deed_closed : (s : Sets) → AreClosed first h s → (text : List ℕ) → LeadsToClosed first h (line_deed h b s text)
+  unfolding line_deed
+  line_deed_closed s closed text = deed_closed s closed (command_of text)
 
-lines_closed : (h : Hierarchy) → IsValid h → (b : ℕ) (s : At) (ls : List (List ℕ)) → IsClosed h s.split → IsClosed h (played_from h b s ls).split
-lines_closed h sound b s [] closed = closed
-lines_closed h sound b s (line ∷ more) closed = line_closed h sound b s line (λ t. played_from h b t more) closed (λ t now. lines_closed h sound b t more now)
+  done_closed : (s : At) (line : List ℕ) (deed : Deed) (later : At → Played) → AreClosed first h s.sets → LeadsToClosed first h deed → KeepsClosed first h later
+      → AreClosed first h (done_line s line deed later).sets
+  done_closed s line (Replies reply T) later closed leads keeps =
+      let next : At = record { bytes = s.bytes + length line; number = s.number + 1; sets = T } in
+      keeps next leads
+  done_closed s line Ends later closed leads keeps = closed
+  done_closed s line IsBad later closed leads keeps = closed
+  done_closed s line NamesNoRecord later closed leads keeps = closed
+
+  either_closed : (test : Bool) (p q : Played) → AreClosed first h p.sets → AreClosed first h q.sets → AreClosed first h (if test then p else q).sets
+  either_closed true p q one other = one
+  either_closed false p q one other = other
+
+  line_closed : (s : At) (line : List ℕ) (later : At → Played) → AreClosed first h s.sets → KeepsClosed first h later → AreClosed first h (play_line h b s line later).sets
+  unfolding play_line
+  line_closed s line later closed keeps =
+      let done : Played = done_line s line (line_deed h b s.sets (until 10 line)) later in
+      let long : Played = stopped s (Some (faults.BadLine s.number)) (Some (s.bytes + 1025)) in
+      let past : Played = stopped s (Some faults.TooLong) (Some 1073741825) in
+      either_closed (is_past s.bytes (length line)) past (if is_long line then long else done) closed
+      (either_closed (is_long line) long done closed
+      (done_closed s line (line_deed h b s.sets (until 10 line)) later closed (line_deed_closed s.sets closed (until 10 line)) keeps))
+
+  lines_closed : (s : At) (ls : List (List ℕ)) → AreClosed first h s.sets → AreClosed first h (played_from h b s ls).sets
+  lines_closed s [] closed = closed
+  lines_closed s (line ∷ more) closed = line_closed s line (λ t. played_from h b t more) closed (λ t now. lines_closed t more now)
 
 pub scripts_closed : ScriptsKeepSetsClosed
 unfolding played
-scripts_closed h sound b T closed script = lines_closed h sound b (record { bytes = 0; number = 1; split = T }) (lines script) closed
+scripts_closed h sound b s closed script =
+    let start : At = record { bytes = 0; number = 1; sets = s } in
+    let all = lines_closed (IsClosed h s.marked) h sound b start (lines script) (record { split = closed; marked = λ m. m }) in
+    (all.split, all.marked)
 
 none_closed : (h : Hierarchy) → IsClosed h no_records
 none_closed h j k l t needs = absurd (false≢true t)
@@ -120,6 +134,6 @@ shows_surfaces target digits (Some bytes) old new h built few firm gained = reco
       let o : Opening = record { digits = digits; h = h; rest = script } in
       let place : Option ℕ = Some (length (stream digits h)) in
       record { read = Ok o; place = place; is = valid o place (begins digits h script few firm.valid.shape refl) firm.valid; done = refl };
-  frames = λ budget front. (firm_fronts h firm (played h budget no_records front).split (scripts_closed h firm.valid budget no_records (none_closed h) front)).manifold;
+  frames = λ budget front. (firm_fronts h firm (played h budget at_first front).sets.split (scripts_closed h firm.valid budget at_first (none_closed h) front).0).manifold;
   fronts = λ T closed. (firm_fronts h firm T closed).manifold;
 }

@@ -1,12 +1,11 @@
 -- How `view` ends, by what its parts answer.
-use Rattle.std.proofs.Common.{◌≡◌, ℕ, ◌+◌, ◌<◌, ◌≤◌, Bool, List, [], ◌∷◌, ◌++◌, length, Option, Some, None, IfSome, Result, Ok, Err, refl, sym, ◌∙◌, ap, subst, arith, length-append}
+use Rattle.std.proofs.Common.{◌≡◌, ℕ, ◌+◌, ◌<◌, ◌≤◌, List, [], ◌∷◌, ◌++◌, length, Option, Some, None, IfSome, Result, Ok, Err, refl, sym, ◌∙◌, ap, subst, arith, length-append}
 use Rattle.std.specs.Option.{option_map}
 use Rattle.std.specs.Io.KnownBytes.{prepend_known}
-use Rattle.pm_io.specs.Bytes.{Gains, GainsPart, Loses, AtEnd}
+use Rattle.pm_io.specs.Bytes.{AtEnd}
 use Rattle.pm_io.specs.Causes.{Rose}
 use Rattle.pm_io.proofs.Known.{loses_both, loses_none, gains_none}
 use Rattle.pm_forest.specs.Forest.{Hierarchy}
-use Rattle.pm_forest.specs.Fronts.{no_records}
 use Rattle.pm_beyond.specs.Valid.{IsValid}
 use Rattle.pm_load.specs.declared.open.LoadFail.{LoadFail}
 use Rattle.pm_load.specs.declared.open.LoadFail.TheVariants as loads
@@ -19,16 +18,16 @@ use Rattle.pm_session.specs.declared.command.ScriptFault.{ScriptFault}
 use Rattle.pm_session.specs.declared.command.ScriptFault.TheVariants as script
 use Rattle.pm_session.specs.declared.fail.ServeFail.{ServeFail}
 use Rattle.pm_session.specs.declared.fail.ServeFail.TheVariants as serve_fails
-use Rattle.pm_session.specs.Serving.{Played, played, IsPlayed, Ended, CutOff, PutPart, NotReached, Reaches, Serves, ServeCounts, WindowAfter}
+use Rattle.pm_session.specs.Script.{Sets, at_first}
+use Rattle.pm_session.specs.Serving.{played, Ended, CutOff, PutPart, NotReached, Reaches, Serves, ServeCounts, WindowAfter}
 use Rattle.vdpm.specs.declared.fault.Fault.{Fault}
 use Rattle.vdpm.specs.declared.fault.Fault.TheVariants as faults
-use Rattle.vdpm.specs.declared.fault.CommandFail.{CommandFail}
 use Rattle.vdpm.specs.declared.fault.CommandFail.TheVariants as fails
 use Rattle.vdpm.specs.declared.words.Asked.TheVariants as asked
-use Rattle.vdpm.specs.Input.{fail_of, Unreached, IsFaulty, Stops}
-use Rattle.vdpm.specs.Ran.{Ran, refused, line_fault, of_script, serve_fail}
+use Rattle.vdpm.specs.Input.{fail_of, IsFaulty, Stops}
+use Rattle.vdpm.specs.Ran.{Ran, line_fault, of_script, serve_fail}
 use Rattle.vdpm.specs.Opening.{Opening, IsValidOpening, valid, stream_fail, load_fail}
-use Rattle.vdpm.specs.Outcome.{IsOutcome, Follows, done_with, Replied, CutShort}
+use Rattle.vdpm.specs.Outcome.{IsOutcome, done_with, Replied, CutShort}
 use Rattle.vdpm.specs.Ending.{in_stream, in_script, ReadFails, ReadToEnd, FewMore, Ends, Counts}
 use Rattle.vdpm.proofs.OpeningLaws.{valid_place}
 use Rattle.vdpm.proofs.ReadingLaws.{Begun, took_text, opened, valid_unread}
@@ -43,11 +42,11 @@ moved before (Some n) taken lt = lt n
 view_before : (b : ℕ) (bytes : List ℕ) (taken : ℕ) (all : Ran) → ((r : Result Opening Fault) (place : Option ℕ) → IsValidOpening bytes r place → IfSome place (λ n. taken < n)) → IsOutcome (asked.View b) bytes all → IfSome all.place (λ n. taken < n)
 view_before b bytes taken all before f = subst (λ (a : Ran). IfSome a.place (λ n. taken < n)) (sym f.done) (go f.read f.place f.is)
   where
-    go : (r : Result Opening Fault) (place : Option ℕ) → IsValidOpening bytes r place → IfSome (done_with (λ o. of_script (length (stream o.digits o.h)) (played o.h b no_records o.rest)) r place).place (λ n. taken < n)
+    go : (r : Result Opening Fault) (place : Option ℕ) → IsValidOpening bytes r place → IfSome (done_with (λ o. of_script (length (stream o.digits o.h)) (played o.h b at_first o.rest)) r place).place (λ n. taken < n)
     go (Err e) place is = before (Err e) place is
     go (Ok o) place is =
         let lt : taken < length (stream o.digits o.h) = subst (λ (p : Option ℕ). IfSome p (λ n. taken < n)) (valid_place bytes (Ok o) place o refl is) (before (Ok o) place is) in
-        moved (length (stream o.digits o.h)) (played o.h b no_records o.rest).place taken (λ n. omega (arith, lt))
+        moved (length (stream o.digits o.h)) (played o.h b at_first o.rest).place taken (λ n. omega (arith, lt))
 
 -- A read failed within the stream.
 stream_unread : (b : ℕ) (left now got : Option (List ℕ)) → Unread left now → ReadFails (asked.View b) left now got got
@@ -69,7 +68,7 @@ stream_unread b left now got u = record {
 view_faulty : (b : ℕ) (left got : Option (List ℕ)) (f : Fault) → IfSome left (λ bytes. IsFaulty IsValidOpening bytes f) → IfSome left (λ bytes. Replied (asked.View b) bytes (Some f) got got)
 view_faulty b None got f is = tt
 view_faulty b (Some bytes) got f is =
-    ends_refused (asked.View b) (Some bytes) got f (is.place, follows_refused (IsValidOpening bytes) (λ o. of_script (length (stream o.digits o.h)) (played o.h b no_records o.rest)) f is.place is.is)
+    ends_refused (asked.View b) (Some bytes) got f (is.place, follows_refused (IsValidOpening bytes) (λ o. of_script (length (stream o.digits o.h)) (played o.h b at_first o.rest)) f is.place is.is)
 
 -- The hierarchy isn't opened.
 pub view_load : (b : ℕ) (e : LoadFail) (left now got : Option (List ℕ)) (in_old in_new : ℕ) → Stops IsValidOpening (load_fail e) left now in_old in_new → Ends (asked.View b) (Err (fail_of (load_fail e))) left now got got
@@ -95,27 +94,27 @@ view_stream b left whole mid now got e in_old in_new same reads stops = go e (su
 
 -- The script begins after the stream of a valid hierarchy.
 
-view_outcome : (b d : ℕ) (h : Hierarchy) (bytes rest : List ℕ) → Begun (Some bytes) (Some rest) d h → IsValid h → IsOutcome (asked.View b) bytes (of_script (length (stream d h)) (played h b no_records rest))
+view_outcome : (b d : ℕ) (h : Hierarchy) (bytes rest : List ℕ) → Begun (Some bytes) (Some rest) d h → IsValid h → IsOutcome (asked.View b) bytes (of_script (length (stream d h)) (played h b at_first rest))
 view_outcome b d h bytes rest begun good =
     let o : Opening = record { digits = d; h = h; rest = rest } in
     record { read = Ok o; place = Some (length (stream d h)); is = valid o (Some (length (stream d h))) (opened bytes rest d h begun) good; done = refl }
 
 -- A read failed within the script.
-script_before : (b d : ℕ) (h : Hierarchy) (bytes rest : List ℕ) (n : ℕ) (all : Ran) → Begun (Some bytes) (Some rest) d h → IsValid h → NotReached n (played h b no_records rest) → IsOutcome (asked.View b) bytes all → IfSome all.place (λ m. length (stream d h) + n < m)
+script_before : (b d : ℕ) (h : Hierarchy) (bytes rest : List ℕ) (n : ℕ) (all : Ran) → Begun (Some bytes) (Some rest) d h → IsValid h → NotReached n (played h b at_first rest) → IsOutcome (asked.View b) bytes all → IfSome all.place (λ m. length (stream d h) + n < m)
 script_before b d h bytes rest n all begun good before is =
-    subst (λ (a : Ran). IfSome a.place (λ m. length (stream d h) + n < m)) (one_outcome (asked.View b) bytes (of_script (length (stream d h)) (played h b no_records rest)) all (view_outcome b d h bytes rest begun good) is)
-    (on (played h b no_records rest).place before)
+    subst (λ (a : Ran). IfSome a.place (λ m. length (stream d h) + n < m)) (one_outcome (asked.View b) bytes (of_script (length (stream d h)) (played h b at_first rest)) all (view_outcome b d h bytes rest begun good) is)
+    (on (played h b at_first rest).place before)
   where
     on : (o : Option ℕ) → IfSome o (λ place. n < place) → IfSome (option_map (λ k. length (stream d h) + k) o) (λ m. length (stream d h) + n < m)
     on None lt = tt
     on (Some k) lt = omega (arith, lt)
 
-script_unread : (b d : ℕ) (h : Hierarchy) (left mid now got_old got_new : Option (List ℕ)) (after : ℕ → Bool) → Begun left mid d h → IsValid h → CutOff h b no_records mid now got_old got_new after → ReadFails (asked.View b) left now got_old got_new
+script_unread : (b d : ℕ) (h : Hierarchy) (left mid now got_old got_new : Option (List ℕ)) (after : Sets) → Begun left mid d h → IsValid h → CutOff h b at_first mid now got_old got_new after → ReadFails (asked.View b) left now got_old got_new
 script_unread b d h left mid now got_old got_new after begun good c = record {
   taken = stream d h ++ (c.front ++ c.line);
   took = loses_both left mid now (stream d h) (c.front ++ c.line) (took_text left mid d h begun) c.took;
   before = before left mid begun c.before;
-  text = (played h b no_records c.front).text;
+  text = (played h b at_first c.front).text;
   put = in_script d h c.front c.line begun.text.few good c.ends c.open_line;
   gained = c.gained;
 }
@@ -123,7 +122,7 @@ script_unread b d h left mid now got_old got_new after begun good c = record {
     len : length (stream d h ++ (c.front ++ c.line)) ≡ length (stream d h) + (length c.front + length c.line)
     len = omega (arith, length-append (stream d h) (c.front ++ c.line), length-append c.front c.line)
 
-    before : (left mid : Option (List ℕ)) → Begun left mid d h → IfSome mid (λ rest. NotReached (length c.front + length c.line) (played h b no_records rest))
+    before : (left mid : Option (List ℕ)) → Begun left mid d h → IfSome mid (λ rest. NotReached (length c.front + length c.line) (played h b at_first rest))
         → IfSome left (λ bytes. (all : Ran) → IsOutcome (asked.View b) bytes all → IfSome all.place (λ n. length (stream d h ++ (c.front ++ c.line)) < n))
     before None mid begun not_yet = tt
     before (Some bytes) None begun not_yet = absurd (cc begun.took)
@@ -131,12 +130,12 @@ script_unread b d h left mid now got_old got_new after begun good c = record {
         subst (λ (k : ℕ). IfSome all.place (λ n. k < n)) (sym len) (script_before b d h bytes rest (length c.front + length c.line) all begun good not_yet is)
 
 -- The script has ended.
-script_ended : (b d : ℕ) (h : Hierarchy) (left mid now got_old got_new : Option (List ℕ)) (fault : Option ScriptFault) (found : Option Fault) (after : ℕ → Bool) → Begun left mid d h → IsValid h → option_map line_fault fault ≡ found
-    → Ended h b no_records mid now got_old got_new fault after → IfSome left (λ bytes. Replied (asked.View b) bytes found got_old got_new)
+script_ended : (b d : ℕ) (h : Hierarchy) (left mid now got_old got_new : Option (List ℕ)) (fault : Option ScriptFault) (found : Option Fault) (after : Sets) → Begun left mid d h → IsValid h → option_map line_fault fault ≡ found
+    → Ended h b at_first mid now got_old got_new fault after → IfSome left (λ bytes. Replied (asked.View b) bytes found got_old got_new)
 script_ended b d h None mid now got_old got_new fault found after begun good same ended = tt
 script_ended b d h (Some bytes) None now got_old got_new fault found after begun good same ended = absurd (cc begun.took)
 script_ended b d h (Some bytes) (Some rest) now got_old got_new fault found after begun good same ended = record {
-  all = of_script (length (stream d h)) (played h b no_records rest);
+  all = of_script (length (stream d h)) (played h b at_first rest);
   outcome = view_outcome b d h bytes rest begun good;
   fault_is = ap (option_map line_fault) ended.fault_is ∙ same;
   gained = ended.gained;
@@ -151,27 +150,27 @@ later_end window None end = tt
 later_end [] (Some rest) end = end
 later_end (x ∷ xs) (Some rest) end = absurd (cc end)
 
-script_to_end : (b d : ℕ) (h : Hierarchy) (left mid now got_old got_new : Option (List ℕ)) (window : List ℕ) (after : ℕ → Bool) → Begun left mid d h → IsValid h → Ended h b no_records mid (prepend_known window now) got_old got_new None after → ReadToEnd (asked.View b) left now
+script_to_end : (b d : ℕ) (h : Hierarchy) (left mid now got_old got_new : Option (List ℕ)) (window : List ℕ) (after : Sets) → Begun left mid d h → IsValid h → Ended h b at_first mid (prepend_known window now) got_old got_new None after → ReadToEnd (asked.View b) left now
 script_to_end b d h None mid now got_old got_new window after begun good ended = tt
 script_to_end b d h (Some bytes) None now got_old got_new window after begun good ended = absurd (cc begun.took)
 script_to_end b d h (Some bytes) (Some rest) now got_old got_new window after begun good ended = λ all is none.
-    let p = played h b no_records rest in
+    let p = played h b at_first rest in
     let same = one_outcome (asked.View b) bytes (of_script (length (stream d h)) p) all (view_outcome b d h bytes rest begun good) is in
     let nowhere : p.place ≡ None = no_place (length (stream d h)) p.place (ap (λ (a : Ran). a.place) same ∙ none) in
     later_end window now (subst (λ (place : Option ℕ). Reaches (Some rest) (prepend_known window now) place) nowhere ended.reaches)
 
 -- A write failed.
-script_cut : (b d : ℕ) (h : Hierarchy) (left mid now got_old got_new : Option (List ℕ)) (after : ℕ → Bool) → Begun left mid d h → IsValid h → PutPart h b no_records mid now got_old got_new after → IfSome left (λ bytes. CutShort (asked.View b) bytes got_old got_new)
+script_cut : (b d : ℕ) (h : Hierarchy) (left mid now got_old got_new : Option (List ℕ)) (after : Sets) → Begun left mid d h → IsValid h → PutPart h b at_first mid now got_old got_new after → IfSome left (λ bytes. CutShort (asked.View b) bytes got_old got_new)
 script_cut b d h None mid now got_old got_new after begun good p = tt
 script_cut b d h (Some bytes) None now got_old got_new after begun good p = absurd (cc begun.took)
 script_cut b d h (Some bytes) (Some rest) now got_old got_new after begun good p = record {
-  all = of_script (length (stream d h)) (played h b no_records rest);
+  all = of_script (length (stream d h)) (played h b at_first rest);
   outcome = view_outcome b d h bytes rest begun good;
   part = p.all;
 }
 
-script_few : (b d : ℕ) (h : Hierarchy) (window : List ℕ) (left mid now got_old got_new : Option (List ℕ)) (after : ℕ → Bool) → Begun left mid d h → IsValid h → length window ≤ 4095
-    → PutPart h b no_records mid (prepend_known window now) got_old got_new after → FewMore b left now got_old got_new
+script_few : (b d : ℕ) (h : Hierarchy) (window : List ℕ) (left mid now got_old got_new : Option (List ℕ)) (after : Sets) → Begun left mid d h → IsValid h → length window ≤ 4095
+    → PutPart h b at_first mid (prepend_known window now) got_old got_new after → FewMore b left now got_old got_new
 script_few b d h window left mid now got_old got_new after begun good few p = record {
   digits = d;
   h = h;
@@ -188,15 +187,15 @@ script_few b d h window left mid now got_old got_new after begun good few p = re
 }
 
 -- The session shows the base front of the hierarchy.
-shown : (h h' : Hierarchy) (b b' : ℕ) (T : ℕ → Bool) (mid now got_old got_new : Option (List ℕ)) (r : Result (Unit {0}) ServeFail) (after : ℕ → Bool) → h' ≡ h → b' ≡ b → T ≡ no_records → Serves h' b' T mid now got_old got_new r after
-    → Serves h b no_records mid now got_old got_new r after
+shown : (h h' : Hierarchy) (b b' : ℕ) (T : Sets) (mid now got_old got_new : Option (List ℕ)) (r : Result (Unit {0}) ServeFail) (after : Sets) → h' ≡ h → b' ≡ b → T ≡ at_first → Serves h' b' T mid now got_old got_new r after
+    → Serves h b at_first mid now got_old got_new r after
 shown h h' b b' T mid now got_old got_new r after same_h same_b base serves =
-    subst (λ (q : Hierarchy). Serves q b no_records mid now got_old got_new r after) same_h
-    (subst (λ (k : ℕ). Serves h' k no_records mid now got_old got_new r after) same_b
-    (subst (λ (S : ℕ → Bool). Serves h' b' S mid now got_old got_new r after) base serves))
+    subst (λ (q : Hierarchy). Serves q b at_first mid now got_old got_new r after) same_h
+    (subst (λ (k : ℕ). Serves h' k at_first mid now got_old got_new r after) same_b
+    (subst (λ (S : Sets). Serves h' b' S mid now got_old got_new r after) base serves))
 
 -- What a session that began so makes of `view`.
-module _ (b b' d : ℕ) (h h' : Hierarchy) (T : ℕ → Bool) (left mid now got_old got_new : Option (List ℕ)) (window : List ℕ) (after : ℕ → Bool) (begun : Begun left mid d h) (good : IsValid h) (same_h : h' ≡ h) (same_b : b' ≡ b) (base : T ≡ no_records) where
+module _ (b b' d : ℕ) (h h' : Hierarchy) (T : Sets) (left mid now got_old got_new : Option (List ℕ)) (window : List ℕ) (after : Sets) (begun : Begun left mid d h) (good : IsValid h) (same_h : h' ≡ h) (same_b : b' ≡ b) (base : T ≡ at_first) where
   pub view_done : Serves h' b' T mid (prepend_known window now) got_old got_new (Ok tt) after → IfSome left (λ bytes. Replied (asked.View b) bytes None got_old got_new)
   view_done serves = script_ended b d h left mid (prepend_known window now) got_old got_new None None after begun good refl (shown h h' b b' T mid (prepend_known window now) got_old got_new (Ok tt) after same_h same_b base serves)
 
@@ -206,19 +205,19 @@ module _ (b b' d : ℕ) (h h' : Hierarchy) (T : ℕ → Bool) (left mid now got_
   pub view_served : (e : ServeFail) → Serves h' b' T mid (prepend_known window now) got_old got_new (Err e) after → WindowAfter {X = Unit {0}} (Err e) window → Ends (asked.View b) (Err (serve_fail e)) left now got_old got_new
   view_served e serves is = go e (shown h h' b b' T mid (prepend_known window now) got_old got_new (Err e) after same_h same_b base serves) is
     where
-      go : (e : ServeFail) → Serves h b no_records mid (prepend_known window now) got_old got_new (Err e) after → WindowAfter {X = Unit {0}} (Err e) window → Ends (asked.View b) (Err (serve_fail e)) left now got_old got_new
+      go : (e : ServeFail) → Serves h b at_first mid (prepend_known window now) got_old got_new (Err e) after → WindowAfter {X = Unit {0}} (Err e) window → Ends (asked.View b) (Err (serve_fail e)) left now got_old got_new
       go (serve_fails.BadLine n) s w = script_ended b d h left mid (prepend_known window now) got_old got_new (Some (script.BadLine n)) (Some (faults.BadLine n)) after begun good refl s
       go (serve_fails.NoRecord n) s w = script_ended b d h left mid (prepend_known window now) got_old got_new (Some (script.NoRecord n)) (Some (faults.NoRecord n)) after begun good refl s
       go serve_fails.ScriptTooLong s w = script_ended b d h left mid (prepend_known window now) got_old got_new (Some script.TooLong) (Some faults.ScriptTooLong) after begun good refl s
       go serve_fails.Read s w =
           script_unread b d h left mid now got_old got_new after begun good
-          (subst (λ (o : Option (List ℕ)). CutOff h b no_records mid o got_old got_new after) (ap (λ (l : List ℕ). prepend_known l now) w ∙ sym (loses_none now)) s)
+          (subst (λ (o : Option (List ℕ)). CutOff h b at_first mid o got_old got_new after) (ap (λ (l : List ℕ). prepend_known l now) w ∙ sym (loses_none now)) s)
       go serve_fails.Write s w = script_cut b d h left mid (prepend_known window now) got_old got_new after begun good s
 
   pub view_few : (e : ServeFail) → Serves h' b' T mid (prepend_known window now) got_old got_new (Err e) after → WindowAfter {X = Unit {0}} (Err e) window → serve_fail e ≡ fails.Write → FewMore b left now got_old got_new
   view_few e serves is write = go e (shown h h' b b' T mid (prepend_known window now) got_old got_new (Err e) after same_h same_b base serves) is write
     where
-      go : (e : ServeFail) → Serves h b no_records mid (prepend_known window now) got_old got_new (Err e) after → WindowAfter {X = Unit {0}} (Err e) window → serve_fail e ≡ fails.Write → FewMore b left now got_old got_new
+      go : (e : ServeFail) → Serves h b at_first mid (prepend_known window now) got_old got_new (Err e) after → WindowAfter {X = Unit {0}} (Err e) window → serve_fail e ≡ fails.Write → FewMore b left now got_old got_new
       go (serve_fails.BadLine n) s w write = absurd (cc write)
       go (serve_fails.NoRecord n) s w write = absurd (cc write)
       go serve_fails.ScriptTooLong s w write = absurd (cc write)

@@ -4,11 +4,11 @@ use Rattle.pm_io.specs.Bytes.{Loses, Gains, GainsPart, AtEnd}
 use Rattle.pm_io.specs.Causes.{Rose}
 use Rattle.obj_lines.specs.Text.{until, lines}
 use Rattle.pm_forest.specs.Forest.{Hierarchy}
-use Rattle.pm_forest.specs.Fronts.{no_records}
 use Rattle.pm_beyond.specs.Valid.{IsValid}
 use Rattle.pm_format.specs.declared.fault.FormatError.TheVariants as format
 use Rattle.pm_format.specs.Stream.{stream}
 use Rattle.pm_format.specs.Faults.{stream_fault}
+use Rattle.pm_session.specs.Script.{at_first}
 use Rattle.pm_session.specs.Serving.{played, AreLines}
 use Rattle.vdpm.specs.declared.words.Asked.{Asked}
 use Rattle.vdpm.specs.declared.words.Asked.TheVariants as asked
@@ -23,7 +23,7 @@ use Rattle.vdpm.specs.Outcome.{IsOutcome, Replied, CutShort}
 pub data RepliesTo (budget : ℕ) : List ℕ → List ℕ → Type 0 where
   in_stream : (taken : List ℕ) → stream_fault taken ≡ Some (format.Truncated (length taken)) → RepliesTo budget taken []
   in_script : (digits : ℕ) (h : Hierarchy) (front line : List ℕ) → digits ≤ 4 → IsValid h → AreLines front → until 10 line ≡ line
-      → RepliesTo budget (stream digits h ++ (front ++ line)) (played h budget no_records front).text
+      → RepliesTo budget (stream digits h ++ (front ++ line)) (played h budget at_first front).text
 
 -- What a command has put once these bytes were taken and no more can be: `view` its replies, and the others nothing.
 -- `demo` takes none, so no read of it fails.
@@ -60,8 +60,8 @@ pub record FewMore (budget : ℕ) (left now old new : Option (List ℕ)) : Type 
   pub took : Loses left now (stream digits h ++ ((front ++ line) ++ window))
   pub one : lines line ≡ line ∷ []
   pub few : length window ≤ 4095
-  pub part : GainsPart old new (played h budget no_records (front ++ line)).text
-  pub before : length (played h budget no_records front).text ≤ length part.done
+  pub part : GainsPart old new (played h budget at_first (front ++ line)).text
+  pub before : length (played h budget at_first front).text ≤ length part.done
 
 -- How a command ends: `left` is what the source had left at first and `now` what it has left then, and `old` and `new` what
 -- the sink had taken.

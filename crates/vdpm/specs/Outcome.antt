@@ -1,12 +1,12 @@
 -- The outcome of each command on bytes.
-use Rattle.std.specs.Prelude.{◌≡◌, ℕ, List, ◌++◌, length, Option, Some, None, Result, Ok, Err, codes}
+use Rattle.std.specs.Prelude.{◌≡◌, ℕ, List, ◌++◌, length, Option, None, Result, Ok, Err, codes}
 use Rattle.std.specs.Fmt.{decimal}
 use Rattle.pm_io.specs.Bytes.{Gains, GainsPart}
 use Rattle.pm_forest.specs.Forest.{Hierarchy, leaf_count, record_count}
 use Rattle.pm_forest.specs.Faces.{face_count}
 use Rattle.pm_forest.specs.Meshes.{input_mesh_of}
-use Rattle.pm_forest.specs.Fronts.{no_records}
 use Rattle.pm_base.specs.Canonical.{canonical_text}
+use Rattle.pm_session.specs.Script.{at_first}
 use Rattle.pm_session.specs.Serving.{played}
 use Rattle.pm_format.specs.Stream.{stream}
 use Rattle.pm_demo.specs.Summary.{IsSummary}
@@ -51,7 +51,7 @@ IsOutcome (asked.Canon digits) bytes all = Follows (IsSurface digits bytes) (λ 
 IsOutcome (asked.Build target digits) bytes all = Follows (IsBuilt target digits bytes) (λ h. whole (stream digits h)) all
 IsOutcome asked.Expand bytes all = Follows (IsHierarchyText bytes) (λ o. whole (canonical_text o.digits (input_mesh_of o.h))) all
 IsOutcome asked.Check bytes all = Follows (IsHierarchyText bytes) (λ o. whole (counts_line o.h)) all
-IsOutcome (asked.View budget) bytes all = Follows (IsValidOpening bytes) (λ o. of_script (length (stream o.digits o.h)) (played o.h budget no_records o.rest)) all
+IsOutcome (asked.View budget) bytes all = Follows (IsValidOpening bytes) (λ o. of_script (length (stream o.digits o.h)) (played o.h budget at_first o.rest)) all
 IsOutcome (asked.Demo n) bytes all = Summarizes n all
 
 -- An input has one outcome: one text, one fault or none, and one place.

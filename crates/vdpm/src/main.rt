@@ -14,6 +14,8 @@ mod device_tests;
 mod digits_tests;
 mod fault;
 mod line;
+#[cfg(test)]
+mod morph_tests;
 mod opening;
 mod outcomes;
 mod run;

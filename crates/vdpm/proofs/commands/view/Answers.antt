@@ -1,7 +1,7 @@
 use Rattle.std.proofs.Common.{◌≡◌, sym, ◌∙◌, ap}
 use Rattle.std.specs.Io.KnownBytes.{prepend_known}
 use Rattle.pm_io.proofs.Known.{loses_none}
-use Rattle.pm_forest.specs.Fronts.{set_of}
+use Rattle.pm_session.specs.Session.{sets_of}
 use Rattle.vdpm.specs.Opening.{IsValidOpening, stream_fail, load_fail}
 use Rattle.vdpm.proofs.ReadingLaws.{begun, stream_stops, load_stops}
 use Rattle.vdpm.proofs.OutcomeLaws.{counts_stopped, no_write}
@@ -57,7 +57,7 @@ returns-in-Ok-serve-clause-ends g c =
     let h = c.in-Ok-read_stream.stream.h in
     let s = c.in-Ok-start.session in
     let text = begun left (prepend_known c.in-Ok.taker left) mid later c.in-Ok-read_stream.stream same c.in-Ok-read_stream.ensures.reads in
-    view_done c.args.budget s.budget d h s.h (set_of s.flags) left mid now (g.K.Sink.got c.args.out.now) (g.K.Sink.got c.serve.new.out) c.serve.new.taker (set_of c.serve.new.self.flags) text c.in-Ok-start.ensures.valid c.in-Ok-start.ensures.shown.0 c.in-Ok-start.ensures.shown.1 c.in-Ok-start.ensures.shown.2 c.in-Ok-serve.ensures.serves
+    view_done c.args.budget s.budget d h s.h (sets_of s) left mid now (g.K.Sink.got c.args.out.now) (g.K.Sink.got c.serve.new.out) c.serve.new.taker (sets_of c.serve.new.self) text c.in-Ok-start.ensures.valid c.in-Ok-start.ensures.shown.0 c.in-Ok-start.ensures.shown.1 c.in-Ok-start.ensures.shown.2 c.in-Ok-serve.ensures.serves
 
 pub returns-in-Ok-serve-clause-read_whole : goal.returns-in-Ok-serve-clause-read_whole
 returns-in-Ok-serve-clause-read_whole g c =
@@ -70,7 +70,7 @@ returns-in-Ok-serve-clause-read_whole g c =
     let h = c.in-Ok-read_stream.stream.h in
     let s = c.in-Ok-start.session in
     let text = begun left (prepend_known c.in-Ok.taker left) mid later c.in-Ok-read_stream.stream same c.in-Ok-read_stream.ensures.reads in
-    view_to_end c.args.budget s.budget d h s.h (set_of s.flags) left mid now (g.K.Sink.got c.args.out.now) (g.K.Sink.got c.serve.new.out) c.serve.new.taker (set_of c.serve.new.self.flags) text c.in-Ok-start.ensures.valid c.in-Ok-start.ensures.shown.0 c.in-Ok-start.ensures.shown.1 c.in-Ok-start.ensures.shown.2 c.in-Ok-serve.ensures.serves
+    view_to_end c.args.budget s.budget d h s.h (sets_of s) left mid now (g.K.Sink.got c.args.out.now) (g.K.Sink.got c.serve.new.out) c.serve.new.taker (sets_of c.serve.new.self) text c.in-Ok-start.ensures.valid c.in-Ok-start.ensures.shown.0 c.in-Ok-start.ensures.shown.1 c.in-Ok-start.ensures.shown.2 c.in-Ok-serve.ensures.serves
 
 pub returns-clause-ends : goal.returns-clause-ends
 returns-clause-ends g c =
@@ -83,7 +83,7 @@ returns-clause-ends g c =
     let h = c.in-Ok-read_stream.stream.h in
     let s = c.in-Ok-start.session in
     let text = begun left (prepend_known c.in-Ok.taker left) mid later c.in-Ok-read_stream.stream same c.in-Ok-read_stream.ensures.reads in
-    rw c.serve_fail.ensures (view_served c.args.budget s.budget d h s.h (set_of s.flags) left mid now (g.K.Sink.got c.args.out.now) (g.K.Sink.got c.serve.new.out) c.serve.new.taker (set_of c.serve.new.self.flags) text c.in-Ok-start.ensures.valid c.in-Ok-start.ensures.shown.0 c.in-Ok-start.ensures.shown.1 c.in-Ok-start.ensures.shown.2 c.in-Err-serve.fail c.in-Err-serve.ensures.serves c.in-Err-serve.ensures.window)
+    rw c.serve_fail.ensures (view_served c.args.budget s.budget d h s.h (sets_of s) left mid now (g.K.Sink.got c.args.out.now) (g.K.Sink.got c.serve.new.out) c.serve.new.taker (sets_of c.serve.new.self) text c.in-Ok-start.ensures.valid c.in-Ok-start.ensures.shown.0 c.in-Ok-start.ensures.shown.1 c.in-Ok-start.ensures.shown.2 c.in-Err-serve.fail c.in-Err-serve.ensures.serves c.in-Err-serve.ensures.window)
 
 pub returns-clause-counts : goal.returns-clause-counts
 returns-clause-counts g c = rw c.serve_fail.ensures (view_counts c.in-Err-serve.fail _ _ _ _ _ c.in-Ok-read_stream.ensures.counts.same c.in-Err-serve.ensures.counts)
@@ -99,4 +99,4 @@ returns-clause-few_more g c =
     let h = c.in-Ok-read_stream.stream.h in
     let s = c.in-Ok-start.session in
     let text = begun left (prepend_known c.in-Ok.taker left) mid later c.in-Ok-read_stream.stream same c.in-Ok-read_stream.ensures.reads in
-    λ is. view_few c.args.budget s.budget d h s.h (set_of s.flags) left mid now (g.K.Sink.got c.args.out.now) (g.K.Sink.got c.serve.new.out) c.serve.new.taker (set_of c.serve.new.self.flags) text c.in-Ok-start.ensures.valid c.in-Ok-start.ensures.shown.0 c.in-Ok-start.ensures.shown.1 c.in-Ok-start.ensures.shown.2 c.in-Err-serve.fail c.in-Err-serve.ensures.serves c.in-Err-serve.ensures.window (sym c.serve_fail.ensures ∙ is)
+    λ is. view_few c.args.budget s.budget d h s.h (sets_of s) left mid now (g.K.Sink.got c.args.out.now) (g.K.Sink.got c.serve.new.out) c.serve.new.taker (sets_of c.serve.new.self) text c.in-Ok-start.ensures.valid c.in-Ok-start.ensures.shown.0 c.in-Ok-start.ensures.shown.1 c.in-Ok-start.ensures.shown.2 c.in-Err-serve.fail c.in-Err-serve.ensures.serves c.in-Err-serve.ensures.window (sym c.serve_fail.ensures ∙ is)
