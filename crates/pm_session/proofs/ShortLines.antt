@@ -17,7 +17,7 @@ use Rattle.pm_pick.specs.Rays.{Ray}
 use Rattle.pm_pick.specs.Fields.{three_of, ray_in, ray_of}
 use Rattle.pm_session.specs.declared.command.Command.{Command}
 use Rattle.pm_session.specs.declared.command.Command.TheVariants as commands
-use Rattle.pm_session.specs.Script.{begins_with, begins_with_both, split_of, collapse_of, look_of, pick_by, two_in, two_of, morph_by, record_in, command_of}
+use Rattle.pm_session.specs.Script.{begins_with, begins_with_both, split_of, collapse_of, look_of, pick_by, two_in, two_of, morph_by, record_in, fields_command, command_of}
 
 -- Options
 
@@ -265,7 +265,7 @@ morph_bad line long None is = refl
 morph_bad line long (Some two) is = absurd (omega (arith, long, length-drop 2 line, fields_width (drop 2 line), two_few (fields (drop 2 line)) two is))
 
 pub long_is_bad : (line : List ℕ) → 1024 < length line → command_of line ≡ commands.Bad
-unfolding command_of
+unfolding command_of fields_command
 long_is_bad line long =
     let one : eqb (length line) 1 ≡ false = ne_eqb _ _ (λ e. omega (arith, e, long)) in
     rw one (either_bad (begins_with 115 line) _ _ (split_bad line long _ refl)

@@ -84,9 +84,20 @@ morph_by (Some part) = commands.Morph part.0 part.1
 abbrev pub record_in : List ℕ → Option ℕ
 record_in line = unsigned_of 4294967295 (drop 2 line)
 
--- `w`, `m`, `t`, `k` or `q`; `s K`, `c K` or `g A B` with one space between fields, and K, A and B unsigned numbers of 32 bits;
--- `v`, a space and the fields of a plain view; `vs`, a space and those of a view with outlines; or `p`, a space and the fields
--- of a ray.
+-- A line with fields: `s K`, `c K` or `g A B` with one space between fields, and K, A and B unsigned numbers of 32 bits; `v`,
+-- a space and the fields of a plain view; `vs`, a space and those of a view with outlines; or `p`, a space and the fields of
+-- a ray.
+unfoldable pub fields_command : List ℕ → Command
+fields_command line =
+    if begins_with 115 line then split_of (record_in line)
+    else if begins_with 99 line then collapse_of (record_in line)
+    else if begins_with 118 line then look_of (view_of kinds.Plain (drop 2 line))
+    else if begins_with_both 118 115 line then look_of (view_of kinds.Outline (drop 3 line))
+    else if begins_with 112 line then pick_by (ray_of (drop 2 line))
+    else if begins_with 103 line then morph_by (two_of (drop 2 line))
+    else commands.Bad
+
+-- `w`, `m`, `t`, `k`, `q`, or a line with fields.
 unfoldable pub command_of : List ℕ → Command
 command_of line =
     if is_letter 119 line then commands.Show
@@ -94,13 +105,7 @@ command_of line =
     else if is_letter 116 line then commands.Strip
     else if is_letter 113 line then commands.Quit
     else if is_letter 107 line then commands.Mark
-    else if begins_with 115 line then split_of (record_in line)
-    else if begins_with 99 line then collapse_of (record_in line)
-    else if begins_with 118 line then look_of (view_of kinds.Plain (drop 2 line))
-    else if begins_with_both 118 115 line then look_of (view_of kinds.Outline (drop 3 line))
-    else if begins_with 112 line then pick_by (ray_of (drop 2 line))
-    else if begins_with 103 line then morph_by (two_of (drop 2 line))
-    else commands.Bad
+    else fields_command line
 
 -- The reply to a move.
 unfoldable pub reply_to : Option MoveFault → List ℕ
