@@ -46,10 +46,11 @@ fn put_views<K: Sink>(n: u32, scene: &mut Scene, out: &mut K) -> Result<(), Writ
     ensures cause { HasCause (K.faults out.old) (K.faults out.new) result }
 {
     let middle = middle_view(n);
+    let corner = corner_view(n);
     if let Err(fault) = scene.show(0, &middle, out) {
         return Err(fault);
     }
-    if let Err(fault) = scene.show(1, &corner_view(n), out) {
+    if let Err(fault) = scene.show(1, &corner, out) {
         return Err(fault);
     }
     scene.show(2, &middle, out)

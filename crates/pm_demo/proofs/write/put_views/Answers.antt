@@ -24,7 +24,7 @@ returns-in-Err-show-clause-err g c =
     let first = view_line_is h h _ no_records 0 _ (middle_view n) refl c.requires.base c.middle_view-middle.ensures in
     let second =
     view_line_is _ h _ (view_target h (middle_view n)) 1 _ (corner_view n) c.show.ensures.hierarchy
-    (c.show.ensures.after ∙ ap (view_target h) c.middle_view-middle.ensures) c.corner_view.ensures in
+    (c.show.ensures.after ∙ ap (view_target h) c.middle_view-middle.ensures) c.corner_view-corner.ensures in
     part_more _ _ _ (view_line h (view_target h (corner_view n)) 2 (middle_view n))
     (part_after _ _ _ _ _ (gains_same _ _ _ _ first c.in_default.ensures.ok) (part_same _ _ _ _ second c.in-Err-show.ensures.err))
 
@@ -36,10 +36,10 @@ returns-clause-ok g c =
     let first = view_line_is h h _ no_records 0 _ (middle_view n) refl c.requires.base c.middle_view-middle.ensures in
     let second =
     view_line_is _ h _ (view_target h (middle_view n)) 1 _ (corner_view n) c.show.ensures.hierarchy
-    (c.show.ensures.after ∙ ap (view_target h) c.middle_view-middle.ensures) c.corner_view.ensures in
+    (c.show.ensures.after ∙ ap (view_target h) c.middle_view-middle.ensures) c.corner_view-corner.ensures in
     let third =
     view_line_is _ h _ (view_target h (corner_view n)) 2 _ (middle_view n) (c.show-2.ensures.hierarchy ∙ c.show.ensures.hierarchy)
-    (c.show-2.ensures.after ∙ target_is _ h _ (corner_view n) c.show.ensures.hierarchy c.corner_view.ensures) c.middle_view-middle.ensures in
+    (c.show-2.ensures.after ∙ target_is _ h _ (corner_view n) c.show.ensures.hierarchy c.corner_view-corner.ensures) c.middle_view-middle.ensures in
     ok_after c.show-3.result _ _ _ _ (view_line h (view_target h (corner_view n)) 2 (middle_view n))
     (gains_both _ _ _ _ _ (gains_same _ _ _ _ first c.in_default.ensures.ok) (gains_same _ _ _ _ second c.in_default-show.ensures.ok))
     (ok_same c.show-3.result _ _ _ _ third c.show-3.ensures.ok)
@@ -52,10 +52,10 @@ returns-clause-err g c =
     let first = view_line_is h h _ no_records 0 _ (middle_view n) refl c.requires.base c.middle_view-middle.ensures in
     let second =
     view_line_is _ h _ (view_target h (middle_view n)) 1 _ (corner_view n) c.show.ensures.hierarchy
-    (c.show.ensures.after ∙ ap (view_target h) c.middle_view-middle.ensures) c.corner_view.ensures in
+    (c.show.ensures.after ∙ ap (view_target h) c.middle_view-middle.ensures) c.corner_view-corner.ensures in
     let third =
     view_line_is _ h _ (view_target h (corner_view n)) 2 _ (middle_view n) (c.show-2.ensures.hierarchy ∙ c.show.ensures.hierarchy)
-    (c.show-2.ensures.after ∙ target_is _ h _ (corner_view n) c.show.ensures.hierarchy c.corner_view.ensures) c.middle_view-middle.ensures in
+    (c.show-2.ensures.after ∙ target_is _ h _ (corner_view n) c.show.ensures.hierarchy c.corner_view-corner.ensures) c.middle_view-middle.ensures in
     err_after c.show-3.result _ _ _ _ (view_line h (view_target h (corner_view n)) 2 (middle_view n))
     (gains_both _ _ _ _ _ (gains_same _ _ _ _ first c.in_default.ensures.ok) (gains_same _ _ _ _ second c.in_default-show.ensures.ok))
     (err_same c.show-3.result _ _ _ _ third c.show-3.ensures.err)
