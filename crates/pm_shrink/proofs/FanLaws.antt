@@ -126,6 +126,10 @@ module _ (m : Net) (v : ℕ) (xs : List ℕ) (are : AreCornersAt m v xs) where
         ]),
   )
 
+-- Who is joined to another is joined both ways.
+pub joined_back : (m : Net) (a b : ℕ) → Joined m a b → Joined m b a
+joined_back m a b j = elim j [ inl h ↦ inr h | inr h ↦ inl h ]
+
 none_from : (r : Option ℕ) → is_none r ≡ true → r ≡ None
 none_from None t = refl
 none_from (Some k) t = absurd (false≢true t)

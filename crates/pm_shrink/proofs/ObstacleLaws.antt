@@ -1,13 +1,13 @@
 -- What hinders a pair: the parts of a legal pair by what was found.
-use Rattle.std.proofs.Common.{◌≡◌, ◌≢◌, ◌↔◌, ◌&&◌, eqb, ℕ, true, false, Option, Some, None, inl, inr, refl, sym, ap, ◌∙◌, subst}
+use Rattle.std.proofs.Common.{◌≡◌, ◌↔◌, ◌&&◌, eqb, ℕ, true, Option, Some, None, inl, inr, refl, sym, ◌∙◌, subst}
 use Rattle.std.specs.Prelude.{MatchOption, is_none, is_some}
-use Rattle.std.proofs.lemmas.Bool.{or_cases, or_parts, and_parts, eqb-true, eqb-false, false≢true}
+use Rattle.std.proofs.lemmas.Bool.{or_cases, and_parts, eqb-true, false≢true}
 use Rattle.std.proofs.lemmas.Option.{same_Some}
 use Rattle.pm_base.specs.Place.{Place}
 use Rattle.pm_base.specs.Sides.{Net, next, prev, to, third, Stands, NoSideTwice}
 use Rattle.pm_base.proofs.Sides.{stands_next}
 use Rattle.pm_runs.specs.Surfaces.{Surface, net_of_surface}
-use Rattle.pm_runs.specs.Pairs.{Runs, HasFace, IsPair, ShareNoTriangle, HaveCommonThirds, StaysUpright, StayUpright}
+use Rattle.pm_runs.specs.Pairs.{HasFace, IsPair, ShareNoTriangle, HaveCommonThirds, StaysUpright, StayUpright}
 use Rattle.pm_runs.specs.Steps.{side_from_to}
 use Rattle.pm_runs.proofs.Found.{found-runs, runs-found}
 use Rattle.pm_runs.proofs.Sides.{runs_last}

@@ -99,13 +99,16 @@ impl Shrink {
         self.to(corner) == w || self.third(corner) == w
     }
 
-    // Whether some face holds both v and w.
+    // Whether some face holds both v and w. The corners at both are walked at once, so that the fewer ones decide.
     pub(crate) fn is_joined(&self, v: u32, w: u32) -> bool
-        requires { is_live_in self.now.surface v ≡ true }
+        requires v_live { is_live_in self.now.surface v ≡ true }
+        requires w_live { is_live_in self.now.surface w ≡ true }
         ensures { IsTrue result ↔ Joined (net_at self.now) v w }
     {
-        for corner in self.corners_at(v) {
-            if self.has_other(corner, w) {
+        let mut at_v = self.corners_at(v);
+        let mut at_w = self.corners_at(w);
+        while let (Some(from_v), Some(from_w)) = (at_v.next(), at_w.next()) {
+            if self.has_other(from_v, w) || self.has_other(from_w, v) {
                 return true;
             }
         }

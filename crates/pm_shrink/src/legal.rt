@@ -68,6 +68,7 @@ impl Shrink {
     pub(crate) fn is_stray(&self, a: u32, b: u32, w: u32) -> bool
         requires a_live { is_live_in self.now.surface a ≡ true }
         requires b_live { is_live_in self.now.surface b ≡ true }
+        requires w_live { is_live_in self.now.surface w ≡ true }
         ensures { IsTrue result ↔ IsStray (net_at self.now) a b w }
     {
         self.is_joined(b, w) && !self.is_third(a, b, w)

@@ -50,16 +50,18 @@ impl Shrink {
             × (AreNotAlone (net_at self.now) a b × StayUpright self.now.surface a b place))
             (Hinders self.now.surface a b place) }
     {
+        // A face that turns over is asked for first: where many corners are at one of the two, most pairs wait for one, and
+        // it is found before all neighbours have been compared.
+        if let Some(side) = self.turned(a, b, place) {
+            return Some(side);
+        }
         if let Some(side) = self.stray(a, b) {
             return Some(side);
         }
         if let Some(side) = self.shared_triangle(a, b) {
             return Some(side);
         }
-        if let Some(side) = self.lone_side(a, b) {
-            return Some(side);
-        }
-        self.turned(a, b, place)
+        self.lone_side(a, b)
     }
 
     // (i) A side that runs from a common neighbour that is no third corner.
@@ -86,6 +88,7 @@ impl Shrink {
         ensures { MatchOption result (HasStray (net_at self.now) a b corner → ⊥)
             (λ e. Stands (net_at self.now) e × Strays (net_at self.now) a b ((net_at self.now).from e)) }
     {
+        self.is_kept();
         self.has_few_sides();
         if self.is_stray(a, b, self.to(corner)) {
             return Some(next(corner));

@@ -1,4 +1,4 @@
-use Rattle.std.proofs.Common.{◌≡◌, ◌∙◌, true, ℕ, sym}
+use Rattle.std.proofs.Common.{◌∙◌, sym}
 use Rattle.pm_base.specs.Sides.{Net, Stands}
 use Rattle.pm_runs.specs.Pairs.{HaveCommonThirds}
 use Rattle.pm_shrink.specs.Shrinking.{net_at}

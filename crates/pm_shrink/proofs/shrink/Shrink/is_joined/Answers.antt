@@ -1,36 +1,61 @@
-use Rattle.std.proofs.Common.{◌∙◌, ℕ, List, true, sym, subst}
+use Rattle.std.proofs.Common.{◌∙◌, true, sym, subst, arith}
 use Rattle.std.proofs.lemmas.Bool.{false≢true}
 use Rattle.std.proofs.lemmas.List.Elements.{All-tail}
 use Rattle.pm_base.specs.Sides.{Net, Stands}
 use Rattle.pm_shrink.specs.Shrinking.{net_at, fan_at, AreCornersAt}
 use Rattle.pm_shrink.specs.Walks.{holds}
-use Rattle.pm_shrink.proofs.FanLaws.{walk_on, walk_found, walk_ended, seen_joined}
+use Rattle.pm_shrink.proofs.FanLaws.{walk_on, walk_found, walk_ended, seen_joined, joined_back}
 use Rattle.pm_shrink.proofs.shrink.Shrink.is_joined.Goals as goal
+use Rattle.pm_shrink.proofs.shrink.Shrink.is_joined.Goals.{then-has_other-via-then-has_other, then-has_other-via-else-has_other+then-has_other-2}
+
+pub has_other-requires : goal.has_other-requires
+has_other-requires c =
+    let stands : Stands (net_at c.args.self.now) c.in-Some-Some.from_v = (rw (c.in-Some-Some.ensures {u = tt}).steps at c.loop-from_v.invariant.stand_v) 0 0 (omega arith) in
+    stands.is_side
+
+pub has_other-requires-else-has_other : goal.has_other-requires-else-has_other
+has_other-requires-else-has_other c =
+    let stands : Stands (net_at c.args.self.now) c.in-Some-Some.from_w = (rw (c.in-Some-Some.ensures' {u = tt}).steps at c.loop-from_v.invariant.stand_w) 0 0 (omega arith) in
+    stands.is_side
 
 pub returns-then-has_other : goal.returns-then-has_other
 returns-then-has_other c =
     let m : Net = net_at c.args.self.now in
-    let fan : List ℕ = fan_at c.args.self.now c.args.v in
-    let items = c.corners_at-corner-items.ensures in
-    let found = walk_found (holds m c.args.w) fan c.loop-corner.corner-iterator c.in-Some.corner c.next.new.self c.loop-corner.invariant.left (c.in-Some.ensures {u = tt}).steps (sym c.has_other.ensures ∙ c.if-has_other.true) in
-    let seen = seen_joined m c.args.v fan (subst (AreCornersAt m c.args.v) items.corners items.each) c.args.w in
-    (λ t. seen.0 found, λ k. λ i. true)
+    let v = c.corners_at-at_v.ensures in
+    let w = c.corners_at-at_w.ensures in
+    let here = seen_joined m c.args.v (fan_at c.args.self.now c.args.v) (subst (AreCornersAt m c.args.v) v.corners v.each) c.args.w in
+    let there = seen_joined m c.args.w (fan_at c.args.self.now c.args.w) (subst (AreCornersAt m c.args.w) w.corners w.each) c.args.v in
+    elim c.then-has_other.branch [
+      | then-has_other-via-then-has_other x ↦ (λ t. here.0 (walk_found (holds m c.args.w) (fan_at c.args.self.now c.args.v) c.loop-from_v.at_v c.in-Some-Some.from_v c.next.new.self c.loop-from_v.invariant.left_v (c.in-Some-Some.ensures {u = tt}).steps (sym c.has_other.ensures ∙ x.if-has_other.true)), λ k. λ i. true)
+      | then-has_other-via-else-has_other+then-has_other-2 x ↦ (λ t. joined_back m c.args.w c.args.v (there.0 (walk_found (holds m c.args.v) (fan_at c.args.self.now c.args.w) c.loop-from_v.at_w c.in-Some-Some.from_w c.next-in-loop-from_v.new.self c.loop-from_v.invariant.left_w (c.in-Some-Some.ensures' {u = tt}).steps (sym x.has_other-else-has_other.ensures ∙ x.if-has_other-2.true))), λ k. λ i. true)
+    ]
 
-pub loop-corner-preserved : goal.loop-corner-preserved
-loop-corner-preserved c =
+pub loop-from_v-preserved : goal.loop-from_v-preserved
+loop-from_v-preserved c =
     let m : Net = net_at c.args.self.now in
-    let fan : List ℕ = fan_at c.args.self.now c.args.v in
-    let steps = (c.in-Some.ensures {u = tt}).steps in
+    let steps_v = (c.in-Some-Some.ensures {u = tt}).steps in
+    let steps_w = (c.in-Some-Some.ensures' {u = tt}).steps in
     record {
-      left = walk_on (holds m c.args.w) fan c.loop-corner.corner-iterator c.in-Some.corner c.next.new.self c.loop-corner.invariant.left steps (sym c.has_other.ensures ∙ c.if-has_other.false);
-      stand = All-tail (Stands m) c.in-Some.corner c.next.new.self (rw steps at c.loop-corner.invariant.stand);
+      left_v = walk_on (holds m c.args.w) (fan_at c.args.self.now c.args.v) c.loop-from_v.at_v c.in-Some-Some.from_v c.next.new.self c.loop-from_v.invariant.left_v steps_v (sym c.has_other.ensures ∙ c.if-has_other.false);
+      left_w = walk_on (holds m c.args.v) (fan_at c.args.self.now c.args.w) c.loop-from_v.at_w c.in-Some-Some.from_w c.next-in-loop-from_v.new.self c.loop-from_v.invariant.left_w steps_w (sym c.has_other-else-has_other.ensures ∙ c.if-has_other-2.false);
+      stand_v = All-tail (Stands m) c.in-Some-Some.from_v c.next.new.self (rw steps_v at c.loop-from_v.invariant.stand_v);
+      stand_w = All-tail (Stands m) c.in-Some-Some.from_w c.next-in-loop-from_v.new.self (rw steps_w at c.loop-from_v.invariant.stand_w);
     }
 
-pub returns : goal.returns
-returns c =
+-- The corners at w have all been seen,
+pub returns-in_default : goal.returns-in_default
+returns-in_default c =
     let m : Net = net_at c.args.self.now in
-    let fan : List ℕ = fan_at c.args.self.now c.args.v in
-    let items = c.corners_at-corner-items.ensures in
-    let none = walk_ended (holds m c.args.w) fan c.loop-corner.corner-iterator c.loop-corner.invariant.left (c.in-None.ensures {u = tt}).steps.0 in
-    let seen = seen_joined m c.args.v fan (subst (AreCornersAt m c.args.v) items.corners items.each) c.args.w in
+    let w = c.corners_at-at_w.ensures in
+    let none = walk_ended (holds m c.args.v) (fan_at c.args.self.now c.args.w) c.loop-from_v.at_w c.loop-from_v.invariant.left_w (c.in_default.ensures' {u = tt}).steps.0 in
+    let seen = seen_joined m c.args.w (fan_at c.args.self.now c.args.w) (subst (AreCornersAt m c.args.w) w.corners w.each) c.args.v in
+    (λ t. absurd (false≢true t), λ k. sym none ∙ seen.1 (joined_back m c.args.v c.args.w k))
+
+-- or those at v.
+pub returns-in_default-2 : goal.returns-in_default-2
+returns-in_default-2 c =
+    let m : Net = net_at c.args.self.now in
+    let v = c.corners_at-at_v.ensures in
+    let none = walk_ended (holds m c.args.w) (fan_at c.args.self.now c.args.v) c.loop-from_v.at_v c.loop-from_v.invariant.left_v (rw c.in_default.is-0 at c.next.ensures.steps).0 in
+    let seen = seen_joined m c.args.v (fan_at c.args.self.now c.args.v) (subst (AreCornersAt m c.args.v) v.corners v.each) c.args.w in
     (λ t. absurd (false≢true t), λ k. sym none ∙ seen.1 k)

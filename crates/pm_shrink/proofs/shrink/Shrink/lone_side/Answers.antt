@@ -1,4 +1,3 @@
-use Rattle.std.proofs.Common.{◌≡◌}
 use Rattle.pm_base.specs.Sides.{Net}
 use Rattle.pm_runs.specs.Pairs.{AreNotAlone}
 use Rattle.pm_shrink.specs.Shrinking.{net_at}

@@ -1,8 +1,6 @@
-use Rattle.std.proofs.Common.{◌≡◌, ◌∙◌, ℕ, true, inl, inr, sym, ap, subst}
+use Rattle.std.proofs.Common.{◌∙◌, sym}
 use Rattle.std.proofs.lemmas.Bool.{false≢true}
-use Rattle.std.proofs.lemmas.Option.{same_Some}
-use Rattle.pm_base.specs.Sides.{Net, third}
-use Rattle.pm_runs.specs.Pairs.{HasFace, Runs, ShareNoTriangle}
+use Rattle.pm_base.specs.Sides.{Net}
 use Rattle.pm_runs.proofs.Found.{found-runs, none-side}
 use Rattle.pm_shrink.specs.Shrinking.{net_at}
 use Rattle.pm_shrink.proofs.ObstacleLaws.{triangle_told, only_triangle}

@@ -1,4 +1,4 @@
-use Rattle.std.proofs.Common.{◌≡◌, inl, refl}
+use Rattle.std.proofs.Common.{inl, refl}
 use Rattle.pm_shrink.proofs.ObstacleLaws.{turns_here, turned_second}
 use Rattle.pm_shrink.proofs.shrink.Shrink.turned.Goals as goal
 

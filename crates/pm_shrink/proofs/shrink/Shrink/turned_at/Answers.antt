@@ -1,7 +1,6 @@
 use Rattle.std.proofs.Common.{◌≡◌, ◌∙◌, ℕ, List, sym, subst, arith}
 use Rattle.std.proofs.lemmas.List.Elements.{All-tail}
-use Rattle.pm_base.specs.Sides.{Net, to, third, Stands}
-use Rattle.pm_runs.specs.Pairs.{StaysUpright}
+use Rattle.pm_base.specs.Sides.{Net, Stands}
 use Rattle.pm_shrink.specs.Shrinking.{net_at, fan_at, AreCornersAt}
 use Rattle.pm_shrink.specs.Walks.{KeepsUpright}
 use Rattle.pm_shrink.proofs.FanLaws.{so_far_more, so_far_all, all_upright, own_upright, same_place}
