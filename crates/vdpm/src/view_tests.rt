@@ -3,7 +3,7 @@ use crate::stream_tests::SQUARE;
 use crate::tests::{BASE, FULL, OCTAHEDRON, Row, check_rows};
 use std::test::Fail;
 
-pub const MIDDLE: &[u8] =
+const MIDDLE: &[u8] =
     b"frame 5 6\nv 0 0 -100 0\nv 1 0 0 -100\nv 2 50 50 0\nv 4 -100 0 0\nv 5 0 0 100\nf 0 0 2 5\nf 1 4 2 1\nf 2 0 4 1\nf 3 2 0 1\nf 4 2 4 5\nf 5 4 0 5\nend\n";
 
 // Budgets, planes, an eye inside the mesh, and texts that spell no view.
