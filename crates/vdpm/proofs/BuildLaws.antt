@@ -9,20 +9,18 @@ use Rattle.pm_forest.specs.Forest.{Hierarchy}
 use Rattle.pm_forest.specs.Meshes.{input_mesh_of}
 use Rattle.pm_beyond.specs.Valid.{IsValid}
 use Rattle.pm_format.specs.Stream.{stream}
-use Rattle.pm_runs.specs.Runs.{IsStart, IsRunTo}
 use Rattle.pm_runs.proofs.LeastRuns.{one_run}
 use Rattle.pm_number.specs.Numbering.{hierarchy_of_run}
 use Rattle.vdpm.specs.declared.fault.Fault.{Fault}
 use Rattle.vdpm.specs.declared.fault.InputFail.{InputFail}
 use Rattle.vdpm.specs.declared.fault.InputFail.TheVariants as input
-use Rattle.vdpm.specs.declared.words.Asked.{Asked}
 use Rattle.vdpm.specs.declared.words.Asked.TheVariants as asked
-use Rattle.vdpm.specs.Input.{Unreached, IsFaulty, Stops}
+use Rattle.vdpm.specs.Input.{Unreached, Stops}
 use Rattle.vdpm.specs.Ran.{Ran, whole}
 use Rattle.vdpm.specs.Surface.{IsSurface}
 use Rattle.vdpm.specs.Opening.{Opening, begins, valid, whole_text}
 use Rattle.vdpm.specs.Build.{IsSimplified, IsBuilt, no_surface, simplified}
-use Rattle.vdpm.specs.Outcome.{IsOutcome, Follows, done_with, Replied, GivesBack}
+use Rattle.vdpm.specs.Outcome.{IsOutcome, done_with, GivesBack}
 use Rattle.vdpm.proofs.SurfaceLaws.{one_surface}
 
 -- The log of a run to a target is the only one, and so its hierarchy.

@@ -1,5 +1,5 @@
 -- What a status says of how a command ended.
-use Rattle.std.proofs.Common.{◌≡◌, ◌⊎◌, inl, inr, ℕ, ◌-◌, ◌^◌, ◌<◌, List, Option, Some, None, Result, Ok, Err, IfSome, IfErr, refl, sym, ◌∙◌, ap, subst, arith}
+use Rattle.std.proofs.Common.{◌≡◌, ◌⊎◌, inl, inr, ℕ, ◌-◌, ◌^◌, ◌<◌, List, Option, Some, None, Err, IfSome, refl, sym, ◌∙◌, ap, subst, arith}
 use Rattle.std.specs.Prelude.{codes}
 use Rattle.pm_io.specs.Causes.{Rose}
 use Rattle.vdpm.specs.declared.fault.Fault.{Fault}

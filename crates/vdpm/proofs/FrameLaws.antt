@@ -1,5 +1,5 @@
 -- A script keeps the split and the marked records closed, and what is built shows an oriented manifold at every closed set.
-use Rattle.std.proofs.Common.{◌≡◌, ℕ, ◌+◌, ◌<◌, ◌≤◌, Bool, true, false, cond, if◌then◌else◌, ltb, List, [], ◌∷◌, ◌++◌, length, Option, Some, None, Ok, IfSome, refl}
+use Rattle.std.proofs.Common.{◌≡◌, ℕ, ◌+◌, ◌<◌, ◌≤◌, Bool, true, false, cond, if◌then◌else◌, ltb, List, [], ◌∷◌, length, Option, Some, None, Ok, IfSome, refl}
 use Rattle.std.specs.Prelude.{is_none}
 use Rattle.std.proofs.lemmas.Bool.{ltb-true, false≢true}
 use Rattle.pm_io.specs.Bytes.{Gains}

@@ -1,7 +1,6 @@
 -- An outcome is the only one of its bytes, and how a command ends.
-use Rattle.std.proofs.Common.{◌≡◌, ◌⊎◌, inl, inr, ℕ, ◌-◌, ◌^◌, ◌<◌, List, [], length, Option, Some, None, Result, Ok, Err, IfSome, OnOk, refl, sym, ◌∙◌, ap, subst, arith}
+use Rattle.std.proofs.Common.{◌≡◌, ℕ, ◌<◌, List, [], length, Option, Some, None, Result, Ok, Err, IfSome, OnOk, refl, sym, ◌∙◌, ap, subst}
 use Rattle.pm_io.specs.Bytes.{Gains, GainsPart, AtEnd}
-use Rattle.pm_io.specs.Causes.{Rose}
 use Rattle.pm_io.proofs.Known.{gains_none}
 use Rattle.vdpm.specs.declared.fault.Fault.{Fault}
 use Rattle.vdpm.specs.declared.fault.InputFail.{InputFail}
@@ -12,7 +11,7 @@ use Rattle.vdpm.specs.declared.words.Asked.{Asked}
 use Rattle.vdpm.specs.declared.words.Asked.TheVariants as asked
 use Rattle.vdpm.specs.Input.{fail_of, Unreached, IsFaulty, Stops}
 use Rattle.pm_demo.proofs.SummaryLaws.{one_summary}
-use Rattle.vdpm.specs.Ran.{Ran, refused, whole, unread}
+use Rattle.vdpm.specs.Ran.{Ran, refused, unread}
 use Rattle.vdpm.specs.Outcome.{IsOutcome, done_with, Follows, OneOutcome, Replied, CutShort}
 use Rattle.vdpm.specs.Ending.{PutBy, ReadFails, ReadToEnd, Ends, Counts}
 use Rattle.vdpm.proofs.SurfaceLaws.{one_surface}

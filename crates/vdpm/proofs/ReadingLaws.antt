@@ -1,8 +1,8 @@
 -- How reading a stream text ends.
-use Rattle.std.proofs.Common.{◌≡◌, ◌≢◌, ◌⊎◌, inl, inr, ℕ, ◌+◌, ◌<◌, Bool, true, false, cond, List, [], ◌++◌, length, Option, Some, None, IfSome, Result, Ok, Err, refl, sym, ◌∙◌, ap, subst, arith, length-append}
+use Rattle.std.proofs.Common.{◌≡◌, inl, inr, ℕ, ◌+◌, ◌<◌, Bool, true, false, cond, List, [], ◌++◌, length, Option, Some, None, IfSome, Result, Ok, Err, refl, sym, ◌∙◌, ap, subst, arith, length-append}
 use Rattle.std.specs.Io.KnownBytes.{prepend_known}
 use Rattle.pm_io.specs.Bytes.{Loses, AtEnd}
-use Rattle.pm_io.specs.Causes.{HasCause, Rose}
+use Rattle.pm_io.specs.Causes.{HasCause}
 use Rattle.pm_forest.specs.Forest.{Hierarchy}
 use Rattle.pm_forest.specs.declared.parts.Shape.{Shape}
 use Rattle.pm_forest.specs.declared.parts.Shape.TheVariants as shapes

@@ -2,7 +2,7 @@
 use Rattle.std.proofs.Common.{◌≡◌, ℕ, ◌+◌, ◌<◌, List, length, Option, Some, None, IfSome, Result, Ok, Err, inl, inr, refl, sym, ◌∙◌, ap, subst, arith}
 use Rattle.std.proofs.lemmas.Bool.{cases_lt}
 use Rattle.pm_base.specs.Meshes.{Mesh, IsWellFormed}
-use Rattle.pm_base.specs.Sides.{Net, net_of, Stands, NoSideTwice}
+use Rattle.pm_base.specs.Sides.{Net, net_of}
 use Rattle.pm_base.specs.Fans.{IsOrientedManifold}
 use Rattle.pm_base.proofs.NetLaws.{mesh_side}
 use Rattle.pm_twins.specs.Faults.{IsFirstRepeating, IsFirstBroken}

@@ -1,4 +1,4 @@
-use Rattle.std.proofs.Common.{◌≡◌, None, Err, IfSome, inl, sym, ◌∙◌, subst, arith}
+use Rattle.std.proofs.Common.{None, Err, IfSome, inl, sym, ◌∙◌, subst, arith}
 use Rattle.vdpm.specs.declared.words.Asked.TheVariants as asked
 use Rattle.vdpm.specs.Outcome.{IsOutcome, Replied}
 use Rattle.vdpm.specs.Ending.{ReadToEnd, Ends}
