@@ -1,0 +1,5 @@
+pub mod NearestLaws
+pub mod DigitLaws
+pub mod RoundLaws
+pub mod UnitLaws
+pub mod BoxLaws

@@ -1,0 +1,4 @@
+pub mod Numbers
+pub mod Exact
+pub mod Boxes
+pub mod Whole

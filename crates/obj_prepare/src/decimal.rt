@@ -1,0 +1,155 @@
+// A coordinate in a field of a line: a sign where there is one, digits, a point with decimals where there is one, and an
+// exponent where there is one.
+ghost use Rattle.std.specs.Prelude.{◌≡◌, ◌≤◌, ◌^◌, ◌+◌, min, true, length, IfOk, unsigned_abs};
+ghost use Rattle.pm_io.specs.Digits.{are_digits};
+ghost use Rattle.obj_read.specs.Coordinates.{is_negative, without_sign, whole_part, decimals, with_sign};
+ghost use Rattle.obj_prepare.specs.Numbers.{mantissa, exponent_part, exponent_text, is_exponent, is_decimal, exponent, units, decimal_coordinate};
+
+use crate::digits::{GREATEST, rounded};
+use obj_lines::until;
+use obj_read::ObjFault;
+use pm_io::{are_digits, value_up_to};
+
+// The greatest exponent, either way.
+const GREATEST_EXPONENT: u64 = 999;
+
+// The digits of a unit after the point.
+const UNIT_DIGITS: usize = 18;
+
+fn is_negative(field: &[u8]) -> bool
+    ensures { result ≡ is_negative field.now }
+{
+    match field {
+        [b, ..] => *b == b'-',
+        _ => false,
+    }
+}
+
+#[tactic(auto, unfolding(obj_read::specs::Coordinates::without_sign))]
+fn without_sign(field: &[u8]) -> &[u8]
+    ensures { result.now ≡ without_sign field.now }
+{
+    match field {
+        [b'+' | b'-', rest @ ..] => rest,
+        _ => field,
+    }
+}
+
+#[tactic(auto, unfolding(obj_read::specs::Coordinates::whole_part))]
+fn whole_part(mantissa: &[u8]) -> &[u8]
+    ensures { result.now ≡ whole_part mantissa.now }
+{
+    until(b'.', mantissa)
+}
+
+#[tactic(auto, unfolding(obj_read::specs::Coordinates::decimals))]
+fn decimals(mantissa: &[u8]) -> &[u8]
+    ensures { result.now ≡ decimals mantissa.now }
+{
+    let n = until(b'.', mantissa).len();
+    if n < mantissa.len() {
+        &mantissa[n + 1..]
+    } else {
+        &mantissa[n..]
+    }
+}
+
+#[tactic(auto, unfolding(crate::specs::Numbers::mantissa))]
+fn mantissa(number: &[u8]) -> &[u8]
+    ensures value { result.now ≡ mantissa number.now }
+    ensures within { length result.now ≤ length number.now }
+{
+    until(b'e', until(b'E', number))
+}
+
+#[tactic(auto, unfolding(crate::specs::Numbers::exponent_part))]
+fn exponent_part(number: &[u8]) -> &[u8]
+    ensures { result.now ≡ exponent_part number.now }
+{
+    &number[mantissa(number).len()..]
+}
+
+#[tactic(auto, unfolding(crate::specs::Numbers::exponent_text))]
+fn exponent_text(number: &[u8]) -> &[u8]
+    ensures { result.now ≡ exponent_text number.now }
+{
+    match exponent_part(number) {
+        [_, rest @ ..] => rest,
+        none => none,
+    }
+}
+
+#[tactic(auto, unfolding(obj_read::specs::Coordinates::is_number, crate::specs::Numbers::is_decimal, crate::specs::Numbers::is_exponent))]
+fn is_decimal(number: &[u8]) -> bool
+    ensures { result ≡ is_decimal number.now }
+{
+    let front = whole_part(mantissa(number));
+    let back = decimals(mantissa(number));
+    let exponent = without_sign(exponent_text(number));
+    are_digits(front)
+        && are_digits(back)
+        && (!front.is_empty() || !back.is_empty())
+        && are_digits(exponent)
+        && (exponent_part(number).is_empty() || !exponent.is_empty())
+}
+
+// The exponent without its sign, or a number past the greatest one.
+#[tactic(auto, unfolding(crate::specs::Numbers::is_decimal, crate::specs::Numbers::is_exponent, crate::specs::Numbers::exponent))]
+fn exponent(number: &[u8]) -> u64
+    requires { is_decimal number.now ≡ true }
+    ensures { result ≡ min (exponent number.now) 1000 }
+{
+    value_up_to(without_sign(exponent_text(number)), GREATEST_EXPONENT + 1)
+}
+
+// The number in units, or any number past the greatest coordinate where that is past it. Only digits down to the one
+// after the last unit are looked at.
+fn units(number: &[u8], power: usize) -> u128
+    requires number { is_decimal number.now ≡ true }
+    requires power { power ≡ exponent number.now }
+    requires small { power ≤ 999 }
+    ensures { min result (10 ^ 32 + 1) ≡ min (units number.now) (10 ^ 32 + 1) }
+{
+    let front = whole_part(mantissa(number));
+    let back = decimals(mantissa(number));
+    let count = front.len() + UNIT_DIGITS;
+    if !is_negative(exponent_text(number)) {
+        rounded(front, back, count + power)
+    } else if power <= count {
+        rounded(front, back, count - power)
+    } else {
+        0
+    }
+}
+
+fn with_sign(negative: bool, n: u128) -> i128
+    requires { n ≤ 10 ^ 32 }
+    ensures value { result ≡ with_sign negative n }
+    ensures range { unsigned_abs result ≤ 10 ^ 32 }
+{
+    let n = n as i128;
+    if negative { -n } else { n }
+}
+
+/// The coordinate that a field spells, in units of 10^-18, or the field's first fault: the nearest whole number, halves
+/// away from 0. It is out of range where its exponent is above 999 either way, or it is above 10^32 units. There may be
+/// any number of digits; the time is linear in the bytes.
+#[tactic(auto, unfolding(crate::specs::Numbers::decimal_coordinate))]
+pub fn decimal_coordinate(field: &[u8]) -> Result<i128, ObjFault>
+    ensures value { result ≡ decimal_coordinate field.now }
+    ensures range { IfOk result (λ x. unsigned_abs x ≤ 10 ^ 32) }
+{
+    let number = without_sign(field);
+    if !is_decimal(number) {
+        return Err(ObjFault::BadNumber);
+    }
+    let power = exponent(number);
+    if power > GREATEST_EXPONENT {
+        return Err(ObjFault::OutOfRange);
+    }
+    let n = units(number, power as usize);
+    if n > GREATEST {
+        return Err(ObjFault::OutOfRange);
+    }
+    Ok(with_sign(is_negative(field), n))
+}

@@ -1,0 +1,5 @@
+pub mod Ends
+pub mod Keys
+pub mod Kept
+pub mod Laws
+pub mod Splits

@@ -1,0 +1,97 @@
+// Each directed side is noted in a map by its two ends, with a mark where several have the same. A side
+// that stands once is glued to the one that runs back, where that stands once too.
+ghost use Rattle.std.specs.Prelude.{◌≡◌, ◌+◌, ◌*◌, ◌<◌, ◌≤◌, ℕ, length, IfOk, OnOk, MatchOption};
+ghost use Rattle.pm_base.specs.Sides.{Net, net_of, side_count, to as to_of};
+ghost use Rattle.pm_fans.specs.Splits.{IsGlued, AreGlued, IsCuttable};
+ghost use Rattle.pm_fans.specs.Ends.{ends_key, key_at, IsAlone, AreNoted};
+
+use crate::OutOfMemory;
+use crate::sides::{from, to};
+use pm_base::Corners;
+use std::alloc::Global;
+use std::collections::BTreeMap;
+
+// A key has 32 bits an end.
+const SHIFT: u64 = 1 << 32;
+
+// Stands in the map where several sides have the same ends.
+const SEVERAL: u32 = u32::MAX;
+
+/// The side to which each side is glued: the one that joins the same two vertices in the other order,
+/// where no other side joins these two; `None` for a side along which the surface is cut.
+/// O(F log F) for F faces.
+#[tactic(auto, using(crate::proofs::GlueLaws::glued_more))]
+pub fn glued_sides(alloc: Global, faces: &[Corners]) -> Result<Vec<Option<u32>>, OutOfMemory>
+    requires { IsCuttable (net_of faces.now) }
+    ensures { IfOk result (λ glued. AreGlued (net_of faces.now) (side_count (net_of faces.now)) glued.items) }
+{
+    let sides = note_sides(alloc, faces)?;
+    let mut glued = Vec::new(alloc);
+    for side in 0..3 * faces.len() {
+        glued.push(glued_to(faces, &sides, side))?;
+    }
+    Ok(glued)
+}
+
+// All sides by their ends.
+#[tactic(auto, using(crate::proofs::GlueLaws::none_noted))]
+fn note_sides(alloc: Global, faces: &[Corners]) -> Result<BTreeMap<u64, u32>, OutOfMemory>
+    requires { IsCuttable (net_of faces.now) }
+    ensures { IfOk result (AreNoted (net_of faces.now) (side_count (net_of faces.now))) }
+{
+    let mut sides = BTreeMap::new(alloc);
+    for side in 0..3 * faces.len() {
+        note(&mut sides, faces, side)?;
+    }
+    Ok(sides)
+}
+
+// Notes one more side.
+fn note(sides: &mut BTreeMap<u64, u32>, faces: &[Corners], side: usize) -> Result<(), OutOfMemory>
+    requires short { length faces.now ≤ 1048576 }
+    requires in_range { side < 3 * length faces.now }
+    requires noted { AreNoted (net_of faces.now) side sides.old }
+    ensures { OnOk result (AreNoted (net_of faces.now) (side + 1) sides.new) }
+{
+    let key = ends(from(faces, side), to(faces, side));
+    if sides.contains_key(&key) {
+        sides.insert(key, SEVERAL)?;
+        return Ok(());
+    }
+    sides.insert(key, side as u32)?;
+    Ok(())
+}
+
+// The two ends of a side as one number.
+fn ends(p: u32, q: u32) -> u64
+    ensures { result ≡ ends_key p q }
+{
+    u64::from(p) * SHIFT + u64::from(q)
+}
+
+// The side from p to q, if it stands once.
+fn alone(sides: &BTreeMap<u64, u32>, p: u32, q: u32) -> Option<u32>
+    ensures { (m : Net) (n : ℕ) → n ≤ 3145728 → AreNoted m n sides.now
+        → MatchOption result ((v : ℕ) → IsAlone m n (ends_key p q) v → ⊥) (λ v. IsAlone m n (ends_key p q) v) }
+{
+    match sides.get(&ends(p, q)) {
+        Some(&side) if side != SEVERAL => Some(side),
+        _ => None,
+    }
+}
+
+// The side to which this one is glued.
+fn glued_to(faces: &[Corners], sides: &BTreeMap<u64, u32>, side: usize) -> Option<u32>
+    requires cuttable { IsCuttable (net_of faces.now) }
+    requires in_range { side < 3 * length faces.now }
+    requires noted { AreNoted (net_of faces.now) (3 * length faces.now) sides.now }
+    ensures { MatchOption result ((g : ℕ) → IsGlued (net_of faces.now) side g → ⊥)
+        (λ g. IsGlued (net_of faces.now) side g) }
+{
+    let p = from(faces, side);
+    let q = to(faces, side);
+    if alone(sides, p, q).is_none() {
+        return None;
+    }
+    alone(sides, q, p)
+}

@@ -1,0 +1,40 @@
+// The sides of a list of faces. Side `3f + i` of face `f` runs from corner `i` to the face's next corner.
+ghost use Rattle.std.specs.Prelude.{◌≡◌, ◌*◌, ◌<◌, ◌≤◌, length};
+ghost use Rattle.pm_base.specs.Sides.{next as next_of, to as to_of, net_of};
+
+use pm_base::Corners;
+
+/// The most sides of a list of faces: three a face.
+pub(crate) const MOST_SIDES: usize = 3_145_728;
+
+/// The side that follows in the same face.
+#[tactic(auto, unfolding(pm_base::specs::Sides::next))]
+fn next(side: usize) -> usize
+    requires { side < MOST_SIDES }
+    ensures value { result ≡ next_of side }
+    ensures small { result < MOST_SIDES }
+{
+    if side % 3 == 2 { side - 2 } else { side + 1 }
+}
+
+/// The vertex from which a side runs.
+pub(crate) fn from(faces: &[Corners], side: usize) -> u32
+    requires { side < 3 * length faces.now }
+    ensures { result ≡ (net_of faces.now).from side }
+{
+    let face = faces[side / 3];
+    match side % 3 {
+        0 => face.a,
+        1 => face.b,
+        _ => face.c,
+    }
+}
+
+/// The vertex to which a side runs.
+pub(crate) fn to(faces: &[Corners], side: usize) -> u32
+    requires short { length faces.now ≤ 1048576 }
+    requires in_range { side < 3 * length faces.now }
+    ensures { result ≡ to_of (net_of faces.now) side }
+{
+    from(faces, next(side))
+}
