@@ -5,6 +5,7 @@
 mod glue;
 mod keeping;
 mod sides;
+mod split;
 #[cfg(test)]
 mod tests;
 mod theory;
@@ -12,6 +13,7 @@ mod theory;
 pub use glue::glued_sides;
 pub use keeping::kept;
 use std::alloc::AllocError;
+pub use split::{Split, cut_sides, split_by_fans};
 pub use theory::splits_are_sound;
 
 /// The answer for want of memory.
