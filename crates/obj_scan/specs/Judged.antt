@@ -1,0 +1,65 @@
+-- A line judged alone: what it gives, or its first fault. Byte 118 is `v`, and 102 is `f`.
+use Rattle.std.specs.Prelude.{ℕ, ◌+◌, ◌-◌, List, [], ◌∷◌, ◌++◌, nat_lt, length, Result, Ok, Err, if◌then◌else◌}
+use Rattle.pm_base.specs.declared.mesh.Corners.{Corners}
+use Rattle.pm_base.specs.Place.{Place}
+use Rattle.obj_read.specs.declared.fault.ObjFault.{ObjFault}
+use Rattle.obj_read.specs.declared.fault.ObjFault.TheVariants as faults
+use Rattle.obj_read.specs.Fields.{fields, is_letter}
+use Rattle.obj_read.specs.Indices.{index, index_text}
+use Rattle.obj_read.specs.Judged.{◌>>=◌, is_full}
+use Rattle.obj_prepare.specs.Numbers.{decimal_coordinate}
+use Rattle.obj_scan.specs.Polygons.{triangles}
+
+-- What the lines so far gave: points in units of 10^-18, triangles, and how many faces had more than three corners.
+pub record Scanned : Type 0 where
+  pub points : List Place
+  pub faces : List Corners
+  pub polygons : ℕ
+
+-- What a line gives: nothing, a point, or the vertex numbers of a polygon's corners.
+pub data Found : Type 0 where
+  nothing : Found
+  vertex : Place → Found
+  polygon : List ℕ → Found
+
+-- The fields after `v`. Those after the third aren't read.
+abbrev pub vertex_line : ℕ → List (List ℕ) → Result Found ObjFault
+vertex_line vertices (a ∷ b ∷ c ∷ more) = decimal_coordinate a >>= λ x. decimal_coordinate b >>= λ y. decimal_coordinate c >>= λ z.
+    if is_full vertices then Err faults.TooMany
+    else Ok (vertex (record { x = x; y = y; z = z }))
+vertex_line vertices _ = Err faults.TooFewFields
+
+-- The vertices that these fields name, or the first fault.
+abbrev pub indices : ℕ → List (List ℕ) → Result (List ℕ) ObjFault
+indices vertices [] = Ok []
+indices vertices (field ∷ more) = index vertices (index_text field) >>= λ v. indices vertices more >>= λ vs. Ok (v ∷ vs)
+
+-- The polygon of n corners is cut into n - 2 triangles, for which there has to be room.
+abbrev pub polygon_of : ℕ → List ℕ → Result Found ObjFault
+polygon_of faces corners = if nat_lt 1048576 (faces + (length corners - 2)) then Err faults.TooMany else Ok (polygon corners)
+
+-- The fields after `f`.
+abbrev pub face_line : ℕ → ℕ → List (List ℕ) → Result Found ObjFault
+face_line vertices faces (a ∷ b ∷ c ∷ more) = indices vertices (a ∷ b ∷ c ∷ more) >>= polygon_of faces
+face_line vertices faces _ = Err faults.TooFewFields
+
+-- The fields of a line. One that begins with neither `v` nor `f` is skipped, as is one without fields.
+abbrev pub fields_found : ℕ → ℕ → List (List ℕ) → Result Found ObjFault
+fields_found vertices faces [] = Ok nothing
+fields_found vertices faces (keyword ∷ more) =
+    if is_letter 118 keyword then vertex_line vertices more
+    else if is_letter 102 keyword then face_line vertices faces more
+    else Ok nothing
+
+-- What is read of a line after so many vertices and triangles.
+unfoldable pub line_found : ℕ → ℕ → List ℕ → Result Found ObjFault
+line_found vertices faces text = fields_found vertices faces (fields text)
+
+abbrev pub polygons_after : ℕ → List ℕ → ℕ
+polygons_after n corners = if nat_lt 3 (length corners) then n + 1 else n
+
+-- With what a line gives.
+abbrev pub with_found : Scanned → Found → Scanned
+with_found s nothing = s
+with_found s (vertex p) = record { points = s.points ++ p ∷ []; faces = s.faces; polygons = s.polygons }
+with_found s (polygon corners) = record { points = s.points; faces = s.faces ++ triangles s.points corners; polygons = polygons_after s.polygons corners }

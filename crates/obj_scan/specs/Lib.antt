@@ -1,0 +1,4 @@
+pub mod Polygons
+pub mod Judged
+pub mod Meaning
+pub mod Fails

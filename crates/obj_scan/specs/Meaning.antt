@@ -1,0 +1,102 @@
+-- What any text in the syntax of Wavefront OBJ spells: points and triangles, or its first line with a fault. A line that
+-- ends in a backslash is continued by the next one.
+use Rattle.std.specs.Prelude.{ℕ, ◌+◌, ◌-◌, ◌<◌, ◌≤◌, List, [], ◌∷◌, ◌++◌, Bool, nat_lt, ◌==◌, length, take, None, Some, Option, Result, Ok, Err, if◌then◌else◌}
+use Rattle.std.specs.List.{All}
+use Rattle.pm_base.specs.declared.mesh.Corners.{Corners}
+use Rattle.obj_lines.specs.Text.{until, lines, content, is_continued}
+use Rattle.obj_read.specs.declared.fault.ObjFault.{ObjFault}
+use Rattle.obj_read.specs.declared.fault.ObjFault.TheVariants as faults
+use Rattle.obj_read.specs.Meaning.{Refused, is_past, is_long, is_ended}
+use Rattle.obj_scan.specs.Judged.{Scanned, Found, line_found, with_found}
+
+-- What the lines before gave: how many bytes they have, the number of the next line, how many of them it continues and
+-- what these say, and the points and triangles so far.
+pub record SoFar : Type 0 where
+  pub bytes : ℕ
+  pub number : ℕ
+  pub continued : ℕ
+  pub begun : List ℕ
+  pub scanned : Scanned
+
+-- The number from 1 of the byte that shows the line's fault: the one too many in the text or in the line, else the line's
+-- LF. The end of input shows it where there is none.
+unfoldable pub place : ℕ → List ℕ → Option ℕ
+place bytes line =
+    if is_past bytes (length line) then Some 1073741825
+    else if is_long line then Some (bytes + 65537)
+    else if is_ended line then Some (bytes + length line)
+    else None
+
+-- What stands here of the line and of those that it continues.
+unfoldable pub joined_text : SoFar → List ℕ → List ℕ
+joined_text s line = s.begun ++ content (until 10 line)
+
+-- The first line of those that go together.
+abbrev pub first_number : SoFar → ℕ
+first_number s = s.number - s.continued
+
+-- After one line more that is continued: the backslash stands for a blank.
+unfoldable pub and_continued : SoFar → List ℕ → SoFar
+and_continued s line = record {
+  bytes = s.bytes + length line;
+  number = s.number + 1;
+  continued = s.continued + 1;
+  begun = take (length (joined_text s line) - 1) (joined_text s line) ++ 32 ∷ [];
+  scanned = s.scanned;
+}
+
+-- After one line more that gives this.
+unfoldable pub and_line : SoFar → List ℕ → Found → SoFar
+and_line s line f = record { bytes = s.bytes + length line; number = s.number + 1; continued = 0; begun = []; scanned = with_found s.scanned f }
+
+-- A line has too many bytes before it or in it, or it has too many with those that it continues.
+unfoldable pub judged_length : SoFar → List ℕ → Option Refused
+judged_length s line =
+    if is_past s.bytes (length line) then Some (record { fault = faults.TooMany; line = s.number; place = place s.bytes line })
+    else if is_long line then Some (record { fault = faults.LineTooLong; line = s.number; place = place s.bytes line })
+    else if nat_lt 65536 (length (joined_text s line)) then Some (record { fault = faults.LineTooLong; line = first_number s; place = place s.bytes line })
+    else None
+
+abbrev pub then_found : Result Found ObjFault → SoFar → List ℕ → Result SoFar ObjFault
+then_found (Ok f) s line = Ok (and_line s line f)
+then_found (Err e) s line = Err e
+
+-- A line judged after those before it: what they give together, or the first fault.
+unfoldable pub judged : SoFar → List ℕ → Result SoFar ObjFault
+judged s line =
+    if is_continued (content (until 10 line)) then Ok (and_continued s line)
+    else then_found (line_found (length s.scanned.points) (length s.scanned.faces) (joined_text s line)) s line
+
+-- The first line with a fault ends the reading.
+abbrev pub then_lines : Option Refused → Result SoFar ObjFault → SoFar → List ℕ → (SoFar → Result Scanned Refused) → Result Scanned Refused
+then_lines (Some r) next s line more = Err r
+then_lines None (Ok t) s line more = more t
+then_lines None (Err e) s line more = Err (record { fault = e; line = first_number s; place = place s.bytes line })
+
+-- At the end no line waits for the next one.
+abbrev pub at_end : SoFar → Result Scanned Refused
+at_end s = if s.continued == 0 then Ok s.scanned else Err (record { fault = faults.Continuation; line = first_number s; place = None })
+
+abbrev pub meaning_from : SoFar → List (List ℕ) → Result Scanned Refused
+meaning_from s [] = at_end s
+meaning_from s (line ∷ more) = then_lines (judged_length s line) (judged s line) s line (λ t. meaning_from t more)
+
+-- Before the first line.
+abbrev pub nothing_yet : SoFar
+nothing_yet = record { bytes = 0; number = 1; continued = 0; begun = []; scanned = record { points = []; faces = []; polygons = 0 } }
+
+-- The points and triangles of the bytes, or their first line with a fault.
+unfoldable pub meaning_of : List ℕ → Result Scanned Refused
+meaning_of bytes = meaning_from nothing_yet (lines bytes)
+
+-- Each corner is one of n vertices.
+pub record AreCorners (n : ℕ) (f : Corners) : Type 0 where
+  pub a : f.a < n
+  pub b : f.b < n
+  pub c : f.c < n
+
+-- What a text without a fault gives is within the limits.
+pub record IsWithin (s : Scanned) : Type 0 where
+  pub points : length s.points ≤ 1048576
+  pub faces : length s.faces ≤ 1048576
+  pub corners : All (AreCorners (length s.points)) s.faces

@@ -1,0 +1,37 @@
+// Reads a text to its end.
+ghost use Rattle.std.specs.Prelude.{◌≡◌, Ok, IfOk, IfErr, OnOk, IfSome};
+ghost use Rattle.pm_io.specs.Bytes.{AtEnd};
+ghost use Rattle.pm_io.specs.Causes.{HasCause};
+ghost use Rattle.obj_read.specs.Fails.{of_source};
+ghost use Rattle.obj_scan.specs.Fails.{Explains, scanned_of};
+ghost use Rattle.obj_scan.specs.Meaning.{meaning_of, IsWithin};
+
+use obj_prepare::ExactPoint;
+use obj_read::ObjFail;
+use pm_base::Corners;
+use pm_io::Source;
+use std::alloc::Global;
+
+/// What a text spells: points in units of 10^-18, triangles, and how many faces had more than three corners.
+#[derive(Drop)]
+pub struct Scan {
+    pub points: Vec<ExactPoint>,
+    pub faces: Vec<Corners>,
+    pub polygons: u32,
+}
+
+/// Reads a source to its end, and answers the points and triangles that its bytes spell.
+///
+/// Lines that begin with neither `v` nor `f` are skipped, and one that ends in a backslash is continued by the next. A
+/// coordinate is the nearest whole number of 10^-18. A polygon is cut into triangles, begun at the corner whose point is
+/// least. All bytes that are held are judged before more are asked for. However the source cuts its bytes, the answer is
+/// the same.
+pub fn scan_obj<S: Source>(alloc: Global, source: &mut S) -> Result<Scan, ObjFail>
+    ensures ok { IfOk result (λ s. IfSome (S.left source.old) (λ bytes. meaning_of bytes ≡ Ok (scanned_of s))) }
+    ensures within { IfOk result (λ s. IsWithin (scanned_of s)) }
+    ensures end { OnOk result (AtEnd (S.left source.new)) }
+    ensures err { IfErr result (λ e. Explains e (S.left source.old) (S.left source.new)) }
+    ensures cause { HasCause (S.faults source.old) (S.faults source.new) (of_source result) }
+{
+    Err(ObjFail::OutOfMemory)
+}
