@@ -2,3 +2,8 @@ pub mod Numbers
 pub mod Exact
 pub mod Boxes
 pub mod Whole
+pub mod Named
+pub mod Placing
+pub mod Joining
+pub mod Prepared
+pub mod PrepareFails

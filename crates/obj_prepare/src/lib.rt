@@ -5,6 +5,9 @@ mod decimal;
 mod digits;
 mod exact;
 mod extents;
+mod notes;
+mod placing;
+mod preparing;
 mod scale;
 mod standing;
 #[cfg(test)]
@@ -13,5 +16,11 @@ mod tests;
 pub use decimal::decimal_coordinate;
 pub use exact::ExactPoint;
 pub use extents::{PointBox, box_of, extent, scaled};
+pub use notes::Notes;
+pub use placing::{Fit, Placing, place_points};
+pub use preparing::{PrepareFail, Prepared, prepare};
 pub use scale::{along, nearest};
 pub use standing::{stands, whole};
+
+/// The answer for want of memory.
+pub type OutOfMemory = std::alloc::AllocError;

@@ -1,0 +1,33 @@
+-- The vertices that a face names.
+use Rattle.std.specs.Prelude.{ℕ, zero, suc, ◌<◌, ◌≤◌, Bool, true, false, List, [], ◌∷◌, ◌++◌, length}
+use Rattle.std.specs.List.{All, list_any}
+use Rattle.pm_base.specs.declared.mesh.Corners.{Corners}
+use Rattle.pm_base.specs.Place.{Place}
+use Rattle.pm_fans.specs.Kept.{is_corner}
+
+-- Some face has this corner. Faces of which two corners are one count too.
+abbrev pub is_named : List Corners → ℕ → Bool
+is_named faces v = list_any (λ f. is_corner f v) faces
+
+-- Of the vertices below n, each one's flag.
+abbrev pub named_in : List Corners → ℕ → List Bool
+named_in faces zero = []
+named_in faces (suc n) = named_in faces n ++ is_named faces n ∷ []
+
+-- The points whose flag is set.
+abbrev pub chosen : List Bool → List Place → List Place
+chosen (true ∷ flags) (p ∷ ps) = p ∷ chosen flags ps
+chosen (false ∷ flags) (p ∷ ps) = chosen flags ps
+chosen _ _ = []
+
+-- Each corner is one of n vertices.
+pub record AreCorners (n : ℕ) (f : Corners) : Type 0 where
+  pub a : f.a < n
+  pub b : f.b < n
+  pub c : f.c < n
+
+-- At most 1,048,576 vertices, as many triangles, and each corner is one of the vertices.
+pub record IsWithin (vertices : ℕ) (faces : List Corners) : Type 0 where
+  pub vertices_few : vertices ≤ 1048576
+  pub faces_few : length faces ≤ 1048576
+  pub corners : All (AreCorners vertices) faces

@@ -1,0 +1,41 @@
+-- Where points come to stand on the grid.
+use Rattle.std.specs.Prelude.{◌≡◌, ℕ, ◌≤◌, Bool, true, false, List, [], ◌∷◌, length, Option, None, Some, IfSome, pos, if◌then◌else◌}
+use Rattle.std.specs.List.{list_all}
+use Rattle.pm_base.specs.declared.mesh.Corners.{Corners}
+use Rattle.pm_base.specs.Place.{Place}
+use Rattle.obj_prepare.specs.declared.placing.Fit.{Fit}
+use Rattle.obj_prepare.specs.declared.placing.Fit.TheVariants as fits
+use Rattle.obj_prepare.specs.Boxes.{box_of, scaled}
+use Rattle.obj_prepare.specs.Whole.{stands, whole}
+use Rattle.obj_prepare.specs.Named.{named_in, chosen}
+
+abbrev pub origin : Place
+origin = record { x = pos 0; y = pos 0; z = pos 0 }
+
+-- How points are brought onto the grid: as they stand, where no size is given and all fit, and else by their box. The size
+-- is 32,767 where none is given.
+abbrev pub fit_for : Option ℕ → List Place → Fit
+fit_for size [] = fits.Standing
+fit_for None (p ∷ ps) = if list_all stands (p ∷ ps) then fits.Standing else fits.Scaled 32767 (box_of p ps)
+fit_for (Some size) (p ∷ ps) = fits.Scaled size (box_of p ps)
+
+-- The place of a point.
+abbrev pub placed : Fit → Place → Place
+placed fits.Standing p = record { x = whole p.x; y = whole p.y; z = whole p.z }
+placed (fits.Scaled size frame) p = scaled size frame p
+
+-- The place of each point whose flag is set. The others, of which nothing is asked, stand at 0.
+abbrev pub places_by : Fit → List Bool → List Place → List Place
+places_by fit (named ∷ flags) (p ∷ ps) = (if named then placed fit p else origin) ∷ places_by fit flags ps
+places_by fit _ _ = []
+
+-- The points that triangles name, brought onto the grid.
+abbrev pub fit_of : Option ℕ → List Place → List Corners → Fit
+fit_of size points faces = fit_for size (chosen (named_in faces (length points)) points)
+
+abbrev pub places_of : Option ℕ → List Place → List Corners → List Place
+places_of size points faces = places_by (fit_of size points faces) (named_in faces (length points)) points
+
+-- A size is from 1 to 32,767.
+abbrev pub IsSize : Option ℕ → Type 0
+IsSize size = IfSome size (λ n. (1 ≤ n) × (n ≤ 32767))
