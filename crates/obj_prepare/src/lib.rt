@@ -5,6 +5,8 @@ mod decimal;
 mod digits;
 mod exact;
 mod extents;
+mod joining;
+mod named;
 mod notes;
 mod placing;
 mod preparing;
