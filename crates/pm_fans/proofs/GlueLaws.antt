@@ -105,16 +105,16 @@ module _ (m : Net) (ok : IsCuttable m) where
   ends_low e l = ok.low (next e) (next-lt m.faces e l)
 
   -- A side that runs from p to q, by its key.
-  runs : (e p q : ℕ) → e < side_count m → q < 4294967296 → key_at m e ≡ ends_key p q → (m.from e ≡ p) × (to m e ≡ q)
-  runs e p q l ql is = ends_are (m.from e) (to m e) p q (ends_low e l) ql is
+  pub runs_between : (e p q : ℕ) → e < side_count m → q < 4294967296 → key_at m e ≡ ends_key p q → (m.from e ≡ p) × (to m e ≡ q)
+  runs_between e p q l ql is = ends_are (m.from e) (to m e) p q (ends_low e l) ql is
 
-  key_is : (e p q : ℕ) → m.from e ≡ p → to m e ≡ q → key_at m e ≡ ends_key p q
+  pub key_is : (e p q : ℕ) → m.from e ≡ p → to m e ≡ q → key_at m e ≡ ends_key p q
   key_is e p q a b = ap (λ i. ends_key i (to m e)) a ∙ ap (ends_key p) b
 
   -- Two sides that run back along one another and stand once are glued.
   pub both_alone : (e v g : ℕ) → e < side_count m → IsAlone m (side_count m) (ends_key (m.from e) (to m e)) v → IsAlone m (side_count m) (ends_key (to m e) (m.from e)) g → IsGlued m e g
   both_alone e v g l a b =
-      let at = runs g (to m e) (m.from e) b.in_range (ok.low e l) b.has in
+      let at = runs_between g (to m e) (m.from e) b.in_range (ok.low e l) b.has in
       record {
         stands = ok.stand e l;
         twin = record { stands = ok.stand g b.in_range; begins = at.0; ends = at.1 };
@@ -126,14 +126,14 @@ module _ (m : Net) (ok : IsCuttable m) where
   not_alone e l none g w = none e (record {
     in_range = l;
     has = refl;
-    alone = λ k lk h. (let at = runs k (m.from e) (to m e) lk (ends_low e l) h in w.one k (ok.stand k lk) at.0 at.1);
+    alone = λ k lk h. (let at = runs_between k (m.from e) (to m e) lk (ends_low e l) h in w.one k (ok.stand k lk) at.0 at.1);
   })
 
   pub back_not_alone : (e : ℕ) → e < side_count m → ((v : ℕ) → IsAlone m (side_count m) (ends_key (to m e) (m.from e)) v → ⊥) → (g : ℕ) → IsGlued m e g → ⊥
   back_not_alone e l none g w = none g (record {
     in_range = w.twin.stands.is_side;
     has = key_is g (to m e) (m.from e) w.twin.begins w.twin.ends;
-    alone = λ k lk h. (let at = runs k (to m e) (m.from e) lk (ok.low e l) h in w.other k (record { stands = ok.stand k lk; begins = at.0; ends = at.1 }));
+    alone = λ k lk h. (let at = runs_between k (to m e) (m.from e) lk (ok.low e l) h in w.other k (record { stands = ok.stand k lk; begins = at.0; ends = at.1 }));
   })
 
 -- What a search for the side with a key answers.

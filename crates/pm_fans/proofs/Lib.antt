@@ -1,7 +1,14 @@
+pub mod ChainLaws
+pub mod ClosedWalks
+pub mod CutLaws
+pub mod Cuttable
 pub mod GlueLaws
 pub mod KeptLaws
 pub mod KeyLaws
 pub mod KeySets
+pub mod NumberLaws
+pub mod OpenWalks
+pub mod SplitLaws
 pub mod Splitting
 pub mod Staying
 pub mod Turned

@@ -35,7 +35,7 @@ module _ (m n : Net) (s : IsSplitByFans m n) where
   old-from : (e : ℕ) → Stands m e → s.old (n.from e) ≡ m.from e
   old-from e t = s.back e t.is_side
 
-  there : (e : ℕ) → Stands m e → Stands n e
+  pub there : (e : ℕ) → Stands m e → Stands n e
   there e t =
       let t1 = stands_next m e t in
       let t2 = stands_next m (next e) t1 in
@@ -137,7 +137,7 @@ manifolds_stay_whole m n is s e g te tg same =
     stays m n s once f0 (all (to m e) (third m e) pe) (third m e) pe ∙ sym (stays m n s once f0 (all (to m g) (third m g) pg) (third m g) pg)
 
 -- Going round a vertex stays at it.
-turns_from : (m : Net) (s e : ℕ) → Turns m s e → m.from e ≡ m.from s
+pub turns_from : (m : Net) (s e : ℕ) → Turns m s e → m.from e ≡ m.from s
 turns_from m s e stay = refl
 turns_from m s g (on {e} w _ r) = r.twin.begins ∙ ap m.from (next-next-next e) ∙ turns_from m s e w
 

@@ -1,14 +1,15 @@
 -- The sides along which a surface is cut open.
 use Rattle.std.specs.Prelude.{ℕ, Bool, ◌==◌, ◌&&◌, ◌||◌, nat_lt}
 use Rattle.pm_base.specs.Counts.{count}
-use Rattle.pm_base.specs.Sides.{Net, to, stands, side_count, runs_back}
+use Rattle.pm_base.specs.Sides.{Net, to, stands, side_count}
 
-abbrev pub runs_along : Net → ℕ → ℕ → Bool
-runs_along m e g = stands m g && ((m.from g == m.from e) && (to m g == to m e))
+-- Side g runs from p to q.
+abbrev pub runs : Net → ℕ → ℕ → ℕ → Bool
+runs m p q g = stands m g && ((m.from g == p) && (to m g == q))
 
 -- Several sides run as this one does, or several run back along it.
 unfoldable pub is_cut : Net → ℕ → Bool
-is_cut m e = nat_lt 1 (count (runs_along m e) (side_count m)) || nat_lt 1 (count (runs_back m e) (side_count m))
+is_cut m e = nat_lt 1 (count (runs m (m.from e) (to m e)) (side_count m)) || nat_lt 1 (count (runs m (to m e) (m.from e)) (side_count m))
 
 unfoldable pub cut_count : Net → ℕ
 cut_count m = count (is_cut m) (side_count m)

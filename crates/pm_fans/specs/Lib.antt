@@ -1,5 +1,7 @@
 pub mod Cuts
 pub mod Ends
+pub mod HeadKeys
+pub mod Heads
 pub mod Keys
 pub mod Kept
 pub mod Laws

@@ -14,8 +14,8 @@ use std::collections::BTreeMap;
 // A key has 32 bits an end.
 const SHIFT: u64 = 1 << 32;
 
-// Stands in the map where several sides have the same ends.
-const SEVERAL: u32 = u32::MAX;
+/// Stands in the map where several sides have the same ends.
+pub(crate) const SEVERAL: u32 = u32::MAX;
 
 /// The side to which each side is glued: the one that joins the same two vertices in the other order,
 /// where no other side joins these two; `None` for a side along which the surface is cut.
@@ -33,9 +33,12 @@ pub fn glued_sides(alloc: Global, faces: &[Corners]) -> Result<Vec<Option<u32>>,
     Ok(glued)
 }
 
-// All sides by their ends.
+/// All sides by their ends. O(F log F) for F faces.
 #[tactic(auto, using(crate::proofs::GlueLaws::none_noted))]
-fn note_sides(alloc: Global, faces: &[Corners]) -> Result<BTreeMap<u64, u32>, OutOfMemory>
+pub(crate) fn note_sides(
+    alloc: Global,
+    faces: &[Corners],
+) -> Result<BTreeMap<u64, u32>, OutOfMemory>
     requires { IsCuttable (net_of faces.now) }
     ensures { IfOk result (AreNoted (net_of faces.now) (side_count (net_of faces.now))) }
 {
@@ -62,8 +65,8 @@ fn note(sides: &mut BTreeMap<u64, u32>, faces: &[Corners], side: usize) -> Resul
     Ok(())
 }
 
-// The two ends of a side as one number.
-fn ends(p: u32, q: u32) -> u64
+/// The two ends of a side as one number.
+pub(crate) fn ends(p: u32, q: u32) -> u64
     ensures { result ≡ ends_key p q }
 {
     u64::from(p) * SHIFT + u64::from(q)

@@ -2,18 +2,22 @@
 //! three; the surface is cut along its singular sides, and each vertex is split into its fans.
 #![tactic(auto)]
 
+mod chains;
+mod cutting;
 mod glue;
 mod keeping;
+mod numbers;
 mod sides;
 mod split;
 #[cfg(test)]
 mod tests;
 mod theory;
 
+pub use cutting::cut_sides;
 pub use glue::glued_sides;
 pub use keeping::kept;
+pub use split::{Split, split_by_fans};
 use std::alloc::AllocError;
-pub use split::{Split, cut_sides, split_by_fans};
 pub use theory::splits_are_sound;
 
 /// The answer for want of memory.

@@ -1,6 +1,6 @@
 // The sides of a list of faces. Side `3f + i` of face `f` runs from corner `i` to the face's next corner.
 ghost use Rattle.std.specs.Prelude.{◌≡◌, ◌*◌, ◌<◌, ◌≤◌, length};
-ghost use Rattle.pm_base.specs.Sides.{next as next_of, to as to_of, net_of};
+ghost use Rattle.pm_base.specs.Sides.{next as next_of, prev as prev_of, to as to_of, net_of};
 
 use pm_base::Corners;
 
@@ -9,12 +9,21 @@ pub(crate) const MOST_SIDES: usize = 3_145_728;
 
 /// The side that follows in the same face.
 #[tactic(auto, unfolding(pm_base::specs::Sides::next))]
-fn next(side: usize) -> usize
+pub(crate) fn next(side: usize) -> usize
     requires { side < MOST_SIDES }
     ensures value { result ≡ next_of side }
     ensures small { result < MOST_SIDES }
 {
     if side % 3 == 2 { side - 2 } else { side + 1 }
+}
+
+/// The side that comes before in the same face.
+pub(crate) fn prev(side: usize) -> usize
+    requires { side < MOST_SIDES }
+    ensures value { result ≡ prev_of side }
+    ensures small { result < MOST_SIDES }
+{
+    next(next(side))
 }
 
 /// The vertex from which a side runs.

@@ -1,13 +1,15 @@
 // Each vertex is split into its fans.
-ghost use Rattle.std.specs.Prelude.{◌≡◌, IfOk};
+ghost use Rattle.std.specs.Prelude.{IfOk};
 ghost use Rattle.pm_base.specs.Sides.{net_of};
 ghost use Rattle.pm_fans.specs.Splits.{IsCuttable};
 ghost use Rattle.pm_fans.specs.Orders.{IsSplit};
-ghost use Rattle.pm_fans.specs.Cuts.{cut_count};
 
 use crate::OutOfMemory;
+use crate::chains::chain_heads;
+use crate::glue::glued_sides;
+use crate::numbers::{head_keys, key_places, new_faces, old_vertices};
 use pm_base::Corners;
-use std::alloc::{AllocError, Global};
+use std::alloc::Global;
 
 /// Faces with new vertices, and the old vertex of each new one.
 #[derive(Drop)]
@@ -24,13 +26,11 @@ pub fn split_by_fans(alloc: Global, faces: &[Corners]) -> Result<Split, OutOfMem
     requires { IsCuttable (net_of faces.now) }
     ensures { IfOk result (λ s. IsSplit (net_of faces.now) s.faces.items s.old.items) }
 {
-    Err(AllocError)
-}
-
-/// How many sides are cut open: those along or back along which several sides run. O(F log F) for F faces.
-pub fn cut_sides(alloc: Global, faces: &[Corners]) -> Result<u32, OutOfMemory>
-    requires { IsCuttable (net_of faces.now) }
-    ensures { IfOk result (λ n. n ≡ cut_count (net_of faces.now)) }
-{
-    Err(AllocError)
+    let glued = glued_sides(alloc, faces)?;
+    let heads = chain_heads(alloc, &glued)?;
+    let keys = head_keys(alloc, faces, &glued, &heads)?;
+    let places = key_places(alloc, &keys, heads.len())?;
+    let old = old_vertices(alloc, faces, &keys)?;
+    let faces = new_faces(alloc, &heads, &places, faces.len())?;
+    Ok(Split { faces, old })
 }

@@ -1,0 +1,8 @@
+use Rattle.std.proofs.Common.{◌≡◌}
+use Rattle.pm_base.specs.Counts.{count}
+use Rattle.pm_base.specs.Sides.{net_of}
+use Rattle.pm_fans.specs.Cuts.{is_cut}
+use Rattle.pm_fans.proofs.cutting.cut_sides.Given as goal
+
+abbrev pub invariant-loop-side : goal.invariant-loop-side
+invariant-loop-side l = l.cut ≡ count (is_cut (net_of l.faces)) l.side

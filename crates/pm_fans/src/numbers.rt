@@ -1,0 +1,153 @@
+// The new vertices, by their heads: they are numbered in the order of the heads' keys.
+ghost use Rattle.std.specs.Prelude.{◌≡◌, ℕ, ◌+◌, ◌*◌, ◌<◌, ◌≤◌, Some, length, slice_index, IfOk, OnOk, MatchBool};
+ghost use Rattle.pm_base.specs.Sides.{net_of};
+ghost use Rattle.pm_fans.specs.Heads.{at, HasHead};
+ghost use Rattle.pm_fans.specs.HeadKeys.{order_key, side_in, AreCollected, AreHeadKeys, ArePlaces, new_of, AreRenamed};
+
+use crate::OutOfMemory;
+use crate::sides::from;
+use pm_base::Corners;
+use std::alloc::Global;
+
+// A key has 22 bits for the side, one more for a closed chain, and above them the old vertex.
+const SIDES: u64 = 1 << 22;
+
+/// The keys of all heads, in ascending order. O(F log F) for F faces.
+pub(crate) fn head_keys(
+    alloc: Global,
+    faces: &[Corners],
+    glued: &[Option<u32>],
+    heads: &[Option<u32>],
+) -> Result<Vec<u64>, OutOfMemory>
+    requires short { length faces.now ≤ 1048576 }
+    requires glued { length glued.now ≡ 3 * length faces.now }
+    requires heads { length heads.now ≡ 3 * length faces.now }
+    ensures { IfOk result (λ keys. AreHeadKeys (net_of faces.now) glued.now heads.now keys.items) }
+{
+    let mut keys = Vec::new(alloc);
+    for side in 0..heads.len() {
+        put_head(&mut keys, faces, glued, heads, side)?;
+    }
+    keys.sort_unstable();
+    Ok(keys)
+}
+
+// Puts the key of a side, if that is a head.
+fn put_head(
+    keys: &mut Vec<u64>,
+    faces: &[Corners],
+    glued: &[Option<u32>],
+    heads: &[Option<u32>],
+    side: usize,
+) -> Result<(), OutOfMemory>
+    requires short { length faces.now ≤ 1048576 }
+    requires in_range { side < 3 * length faces.now }
+    requires glued { length glued.now ≡ 3 * length faces.now }
+    requires heads { length heads.now ≡ 3 * length faces.now }
+    requires so_far { AreCollected (net_of faces.now) glued.now heads.now side keys.old.items }
+    ensures { OnOk result (AreCollected (net_of faces.now) glued.now heads.now (side + 1) keys.new.items) }
+{
+    if !is_head(heads, side) {
+        return Ok(());
+    }
+    keys.push(key(faces, glued, side))?;
+    Ok(())
+}
+
+// Whether a side is the head of its chain.
+fn is_head(heads: &[Option<u32>], side: usize) -> bool
+    requires { side < length heads.now }
+    ensures { MatchBool result (at heads.now side ≡ Some side) (at heads.now side ≡ Some side → ⊥) }
+{
+    match heads[side] {
+        Some(head) => head as usize == side,
+        None => false,
+    }
+}
+
+// A head's key.
+#[tactic(auto, unfolding(crate::specs::HeadKeys::order_key))]
+fn key(faces: &[Corners], glued: &[Option<u32>], side: usize) -> u64
+    requires in_range { side < 3 * length faces.now }
+    requires glued { length glued.now ≡ 3 * length faces.now }
+    requires short { length faces.now ≤ 1048576 }
+    ensures { result ≡ order_key (net_of faces.now) glued.now side }
+{
+    let closed = u64::from(glued[side].is_some());
+    (u64::from(from(faces, side)) * 2 + closed) * SIDES + side as u64
+}
+
+// The side in a key.
+fn side_of(key: u64) -> usize
+    ensures { result ≡ side_in key }
+{
+    (key % SIDES) as usize
+}
+
+/// For each side that is a head, the place of its key. O(F) for F faces.
+pub(crate) fn key_places(alloc: Global, keys: &[u64], sides: usize) -> Result<Vec<u32>, OutOfMemory>
+    requires few { length keys.now ≤ 3145728 }
+    requires in_range { (i : ℕ) → i < length keys.now → side_in (slice_index keys.now i) < sides }
+    requires apart { (i j : ℕ) → i < j → j < length keys.now
+        → side_in (slice_index keys.now i) ≡ side_in (slice_index keys.now j) → ⊥ }
+    ensures { IfOk result (λ places. ArePlaces keys.now places.items sides (length keys.now)) }
+{
+    let mut places = vec![in alloc; 0; sides]?;
+    for place in 0..keys.len() {
+        places[side_of(keys[place])] = place as u32;
+    }
+    Ok(places)
+}
+
+/// The old vertex of each new one. O(F) for F faces.
+pub(crate) fn old_vertices(
+    alloc: Global,
+    faces: &[Corners],
+    keys: &[u64],
+) -> Result<Vec<u32>, OutOfMemory>
+    requires { (i : ℕ) → i < length keys.now → side_in (slice_index keys.now i) < 3 * length faces.now }
+    ensures sides { IfOk result (λ old. length old.items ≡ length keys.now) }
+    ensures each { IfOk result (λ old. (i : ℕ) → i < length keys.now
+        → slice_index old.items i ≡ (net_of faces.now).from (side_in (slice_index keys.now i))) }
+{
+    let mut old = Vec::new(alloc);
+    for place in 0..keys.len() {
+        old.push(from(faces, side_of(keys[place])))?;
+    }
+    Ok(old)
+}
+
+/// As many faces with their new vertices. O(F) for F faces.
+pub(crate) fn new_faces(
+    alloc: Global,
+    heads: &[Option<u32>],
+    places: &[u32],
+    count: usize,
+) -> Result<Vec<Corners>, OutOfMemory>
+    requires sides { length heads.now ≡ 3 * count }
+    requires headed { (e : ℕ) → e < length heads.now → HasHead heads.now e }
+    requires in_range { (e h : ℕ) → at heads.now e ≡ Some h → h < length places.now }
+    ensures { IfOk result (λ new. AreRenamed heads.now places.now count new.items) }
+{
+    let mut faces = Vec::new(alloc);
+    for face in 0..count {
+        let a = new_vertex(heads, places, 3 * face);
+        let b = new_vertex(heads, places, 3 * face + 1);
+        let c = new_vertex(heads, places, 3 * face + 2);
+        faces.push(Corners { a, b, c })?;
+    }
+    Ok(faces)
+}
+
+// The new vertex of a side.
+fn new_vertex(heads: &[Option<u32>], places: &[u32], side: usize) -> u32
+    requires in_range { side < length heads.now }
+    requires headed { HasHead heads.now side }
+    requires heads { (e h : ℕ) → at heads.now e ≡ Some h → h < length places.now }
+    ensures { result ≡ new_of heads.now places.now side }
+{
+    let Some(head) = heads[side] else {
+        unreachable!()
+    };
+    places[head as usize]
+}
