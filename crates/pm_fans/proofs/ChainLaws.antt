@@ -1,13 +1,13 @@
 -- Chains of sides get their heads by walks: on along an open one, back along a closed one.
-use Rattle.std.proofs.Common.{◌≡◌, ◌≢◌, ℕ, ◌+◌, ◌*◌, ◌<◌, ◌≤◌, ◌⊎◌, inl, inr, refl, sym, ap, ◌∙◌, subst, Bool, true, false, cond, Option, Some, None, List, length, set, count_by, get_or, replicate, arith}
+use Rattle.std.proofs.Common.{◌≡◌, ◌≢◌, ℕ, ◌<◌, ◌⊎◌, inl, inr, refl, sym, ap, ◌∙◌, subst, true, false, cond, Option, Some, None, List, length, set, count_by, arith}
 use Rattle.std.specs.Option.{is_none, is_some}
 use Rattle.std.proofs.lemmas.Bool.{cases_eq, cases_lt, true≢false}
-use Rattle.std.proofs.lemmas.List.{length-set, get_or-set_same, get_or-set_other, get_or-replicate, length-replicate, get_or_past}
+use Rattle.std.proofs.lemmas.List.{get_or-set_same, get_or-set_other, get_or_past}
 use Rattle.std.proofs.lemmas.List.Sums.{sum_by-set}
 use Rattle.pm_base.specs.Sides.{next, prev}
 use Rattle.pm_base.proofs.Sides.{next-next-next, next-lt}
 use Rattle.pm_base.proofs.Search.{option_cases}
-use Rattle.pm_fans.specs.Heads.{at, ArePaired, Follows, Leads, here, further, AreHeaded, AreOpenHeaded, HasHead, Keeps}
+use Rattle.pm_fans.specs.Heads.{at, ArePaired, Follows, Leads, here, further, AreOpenHeaded, HasHead, Keeps}
 
 pub none_some : {x : ℕ} {r : Option ℕ} → r ≡ None → r ≡ Some x → ⊥
 none_some a b = cc

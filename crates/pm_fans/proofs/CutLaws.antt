@@ -1,13 +1,13 @@
 -- Sides that are cut open, by the map of all sides by their ends.
-use Rattle.std.proofs.Common.{◌≡◌, ◌≢◌, ℕ, zero, suc, ◌+◌, ◌*◌, ◌<◌, ◌≤◌, ◌⊎◌, eqb, ltb, Bool, true, false, ◌&&◌, ◌||◌, inl, inr, refl, sym, ap, ◌∙◌, subst, Option, Some, None, arith}
-use Rattle.std.proofs.lemmas.Bool.{eqb-true, eq-eqb, cases_eq, cases_lt, cases_Bool, true≢false, and_parts, and_from, ltb-true, lt-ltb, false_from_ne_true}
+use Rattle.std.proofs.Common.{◌≡◌, ◌≢◌, ℕ, zero, suc, ◌+◌, ◌<◌, ◌≤◌, eqb, ltb, Bool, true, false, ◌&&◌, ◌||◌, inl, inr, sym, ap, ◌∙◌, subst, Option, Some, None, arith}
+use Rattle.std.proofs.lemmas.Bool.{eqb-true, eq-eqb, cases_eq, cases_Bool, true≢false, and_parts, and_from, ltb-true, lt-ltb, false_from_ne_true}
 use Rattle.std.specs.Int.{from_bool}
 use Rattle.pm_base.specs.Counts.{count}
-use Rattle.pm_base.specs.Sides.{Net, side_count, to, stands, Stands}
-use Rattle.pm_base.proofs.Counts.{count-true, count-false, count-zero, count_le}
+use Rattle.pm_base.specs.Sides.{Net, side_count, to, stands}
+use Rattle.pm_base.proofs.Counts.{count-true, count-false, count-zero}
 use Rattle.pm_base.proofs.TwinLaws.{stands_is_true}
 use Rattle.pm_fans.specs.Splits.{IsCuttable}
-use Rattle.pm_fans.specs.Ends.{ends_key, key_at, IsAlone, AreSeveral, IsNoted}
+use Rattle.pm_fans.specs.Ends.{ends_key, key_at, IsNoted}
 use Rattle.pm_fans.specs.Cuts.{runs, is_cut}
 use Rattle.pm_fans.proofs.GlueLaws.{runs_between, key_is}
 

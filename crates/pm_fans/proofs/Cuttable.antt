@@ -1,8 +1,8 @@
 -- Faces that can be cut.
-use Rattle.std.proofs.Common.{◌≡◌, ℕ, ◌*◌, ◌/◌, ◌%◌, ◌<◌, ◌≤◌, inl, inr, refl, sym, subst, List, length, slice_index_or, arith}
+use Rattle.std.proofs.Common.{◌≡◌, ℕ, ◌/◌, ◌%◌, ◌<◌, ◌≤◌, inl, inr, refl, sym, subst, List, length, slice_index_or, arith}
 use Rattle.std.proofs.lemmas.Bool.{cases_eq}
 use Rattle.pm_base.specs.declared.mesh.Corners.{Corners}
-use Rattle.pm_base.specs.Sides.{net_of, side_count, no_corners}
+use Rattle.pm_base.specs.Sides.{net_of, no_corners}
 use Rattle.pm_base.proofs.NetLaws.{from-corner}
 use Rattle.pm_fans.specs.Keys.{IsShort}
 use Rattle.pm_fans.specs.Kept.{kept_of}

@@ -1,10 +1,10 @@
 -- The keys of the heads in ascending order, and the place of each.
-use Rattle.std.proofs.Common.{◌≡◌, ◌≢◌, ℕ, ◌+◌, ◌*◌, ◌%◌, ◌<◌, ◌≤◌, ◌⊎◌, inl, inr, refl, sym, ap, ◌∙◌, subst, Bool, true, false, cond, eqb, Option, Some, None, List, [], ◌∷◌, ◌++◌, length, get_or, set, replicate, slice_index, slice_index_or, arith}
+use Rattle.std.proofs.Common.{◌≡◌, ℕ, ◌+◌, ◌*◌, ◌<◌, ◌≤◌, ◌⊎◌, inl, inr, sym, ap, ◌∙◌, subst, cond, eqb, Option, Some, List, [], ◌∷◌, ◌++◌, length, get_or, set, slice_index, slice_index_or, arith}
 use Rattle.std.specs.Option.{is_some}
 use Rattle.std.specs.Ordering.{nat_cmp}
 use Rattle.std.specs.List.{All, Contains, IsDistinct}
-use Rattle.std.specs.List.Sorted.{IsPermutation, IsSorted, IsNonDecreasing}
-use Rattle.std.proofs.lemmas.Bool.{cases_eq, cases_lt, eq-eqb, ne_eqb}
+use Rattle.std.specs.List.Sorted.{IsPermutation, IsSorted}
+use Rattle.std.proofs.lemmas.Bool.{cases_eq, eq-eqb, ne_eqb}
 use Rattle.std.proofs.lemmas.Nat.{mod-mul-add}
 use Rattle.std.proofs.lemmas.List.{get_or_append_left, length-append, get_or_default, length-set, get_or-set_same, get_or-set_other}
 use Rattle.std.proofs.lemmas.List.Elements.{All-from_get_or, Contains-append_left, Contains-push}
@@ -15,7 +15,7 @@ use Rattle.pm_base.specs.declared.mesh.Corners.{Corners}
 use Rattle.pm_base.specs.Sides.{Net, no_corners}
 use Rattle.pm_fans.specs.Heads.{at}
 use Rattle.pm_fans.specs.HeadKeys.{order_key, side_in, IsHeadKey, AreCollected, AreHeadKeys, ArePlaces, AreRenamed, new_of}
-use Rattle.pm_fans.proofs.ChainLaws.{in_table, one_value}
+use Rattle.pm_fans.proofs.ChainLaws.{in_table}
 
 pub key_side : (m : Net) (glued : List (Option ℕ)) (e : ℕ) → e < 4194304 → side_in (order_key m glued e) ≡ e
 unfolding order_key

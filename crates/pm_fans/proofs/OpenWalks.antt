@@ -1,10 +1,10 @@
 -- The walk on along an open chain, from its first side.
-use Rattle.std.proofs.Common.{◌≡◌, ◌≢◌, ℕ, ◌<◌, ◌≤◌, ◌⊎◌, inl, inr, refl, sym, ap, ◌∙◌, subst, Option, Some, None, List, length, set}
+use Rattle.std.proofs.Common.{◌≡◌, ℕ, ◌<◌, ◌≤◌, ◌⊎◌, inl, inr, refl, sym, ap, ◌∙◌, subst, Option, Some, None, List, length, set}
 use Rattle.std.proofs.lemmas.Bool.{cases_eq}
 use Rattle.std.proofs.lemmas.List.{length-set, get_or-set_other}
-use Rattle.pm_base.specs.Sides.{next, prev}
+use Rattle.pm_base.specs.Sides.{prev}
 use Rattle.pm_base.proofs.Search.{option_cases}
-use Rattle.pm_fans.specs.Heads.{at, ArePaired, Follows, Leads, here, further, AreHeaded, HasHead, Keeps}
+use Rattle.pm_fans.specs.Heads.{at, ArePaired, Follows, Leads, here, further, AreHeaded, Keeps}
 use Rattle.pm_fans.proofs.ChainLaws.{none_some, one_value, set_here, set_cases, set_keeps, follows_one}
 
 -- A side that the walk has reached and that has no head.

@@ -1,18 +1,18 @@
 -- Vertices numbered by the heads of their chains are a split by fans, in order.
-use Rattle.std.proofs.Common.{◌≡◌, ◌≢◌, ℕ, ◌+◌, ◌*◌, ◌/◌, ◌%◌, ◌<◌, ◌≤◌, ◌⊎◌, inl, inr, refl, sym, ap, ◌∙◌, subst, cond, Option, Some, None, List, length, slice_index, slice_index_or, arith}
+use Rattle.std.proofs.Common.{◌≡◌, ℕ, ◌+◌, ◌*◌, ◌/◌, ◌%◌, ◌<◌, ◌≤◌, inl, inr, refl, sym, ap, ◌∙◌, subst, cond, Option, Some, None, List, length, slice_index, slice_index_or, arith}
 use Rattle.std.specs.Option.{MatchOption, is_some, unwrap_or}
 use Rattle.std.proofs.lemmas.Bool.{cases_eq, cases_lt}
 use Rattle.pm_base.specs.declared.mesh.Corners.{Corners}
-use Rattle.pm_base.specs.Sides.{Net, net_of, side_count, next, prev, Stands}
+use Rattle.pm_base.specs.Sides.{Net, net_of, side_count, prev, Stands}
 use Rattle.pm_base.specs.Fans.{IsUsed}
 use Rattle.pm_base.proofs.Search.{option_cases}
 use Rattle.pm_base.proofs.Sides.{next-next-next}
 use Rattle.pm_base.proofs.NetLaws.{from-corner}
 use Rattle.pm_fans.specs.Splits.{IsGlued, Turns, stay, on, IsSplitByFans, IsNumberedBy, IsCuttable, AreGlued}
-use Rattle.pm_fans.specs.Orders.{IsFirstSide, IsLeastSide, IsHead, ComesFirst, Precedes, IsOrdered, IsSplit}
-use Rattle.pm_fans.specs.Heads.{at, ArePaired, Follows, Leads, here, further, AreHeaded, HasHead, AreAllHeaded}
+use Rattle.pm_fans.specs.Orders.{IsFirstSide, IsLeastSide, IsHead, Precedes, IsSplit}
+use Rattle.pm_fans.specs.Heads.{at, ArePaired, Leads, here, further, AreAllHeaded}
 use Rattle.pm_fans.specs.HeadKeys.{order_key, side_in, AreHeadKeys, ArePlaces, AreRenamed, new_of}
-use Rattle.pm_fans.proofs.ChainLaws.{none_some, one_value, in_table, next_in, first_led, has_head}
+use Rattle.pm_fans.proofs.ChainLaws.{in_table, next_in, first_led, has_head}
 use Rattle.pm_fans.proofs.NumberLaws.{key_side, place_of}
 use Rattle.pm_fans.proofs.Splitting.{glued_back, there, turns_from, numberings_split}
 

@@ -1,4 +1,4 @@
-use Rattle.std.proofs.Common.{◌≡◌, ◌<◌, ℕ, Some, None, List, Option, length, slice_set, sym, ap, ◌∙◌, subst, arith}
+use Rattle.std.proofs.Common.{◌<◌, ℕ, Some, List, Option, length, slice_set, sym, subst, arith}
 use Rattle.pm_fans.specs.Heads.{at}
 use Rattle.pm_fans.proofs.ChainLaws.{bare-set, prev_in}
 use Rattle.pm_fans.proofs.OpenWalks.{WalksOn, on_begins, on_more}

@@ -1,7 +1,6 @@
-use Rattle.std.proofs.Common.{◌≡◌, ◌<◌, ◌∙◌, Some, None, sym, ap, subst, arith}
+use Rattle.std.proofs.Common.{◌≡◌, ◌<◌, ◌∙◌, Some, None, sym, ap, arith}
 use Rattle.std.specs.Ordering.{nat_cmp}
 use Rattle.std.specs.BTreeMap.{get}
-use Rattle.pm_base.specs.Sides.{side_count}
 use Rattle.pm_fans.specs.Ends.{ends_key}
 use Rattle.pm_fans.proofs.CutLaws.{many_none, many_some}
 use Rattle.pm_fans.proofs.cutting.are_several.Goals as goal

@@ -1,5 +1,5 @@
 use Rattle.std.proofs.Common.{sym, arith}
-use Rattle.pm_base.specs.Sides.{Net, net_of}
+use Rattle.pm_base.specs.Sides.{net_of}
 use Rattle.pm_base.proofs.Counts.{count-zero, count_le}
 use Rattle.pm_fans.specs.Cuts.{is_cut}
 use Rattle.pm_fans.proofs.CutLaws.{bit_le, cut_more}
