@@ -8,24 +8,24 @@ use Rattle.obj_read.specs.declared.found.Found.{Found}
 use Rattle.obj_read.specs.Meaning.{SoFar, judged, place, is_past, is_long, is_ended, and_line, then_lines, meaning_from}
 use Rattle.obj_read.specs.Fails.{NotReached}
 
-place_case : (s : SoFar) (line : List ℕ) (n : ℕ) (past long ended : Bool) → is_past s.bytes (length line) ≡ past → is_long line ≡ long → is_ended line ≡ ended
-    → n ≤ 1073741824 → n ≤ s.bytes + 65536 → (length (until 10 line) < length line → n < s.bytes + length line) → IfSome (place s line) (λ p. n < p)
+place_case : (bytes : ℕ) (line : List ℕ) (n : ℕ) (past long ended : Bool) → is_past bytes (length line) ≡ past → is_long line ≡ long → is_ended line ≡ ended
+    → n ≤ 1073741824 → n ≤ bytes + 65536 → (length (until 10 line) < length line → n < bytes + length line) → IfSome (place bytes line) (λ p. n < p)
 unfolding place
-place_case s line n true long ended past_is long_is ended_is within near before = rw past_is (omega arith)
-place_case s line n false true ended past_is long_is ended_is within near before = rw (past_is, long_is) (omega arith)
-place_case s line n false false true past_is long_is ended_is within near before = rw (past_is, long_is, ended_is) (before (ltb-true _ _ ended_is))
-place_case s line n false false false past_is long_is ended_is within near before = rw (past_is, long_is, ended_is) tt
+place_case bytes line n true long ended past_is long_is ended_is within near before = rw past_is (omega arith)
+place_case bytes line n false true ended past_is long_is ended_is within near before = rw (past_is, long_is) (omega arith)
+place_case bytes line n false false true past_is long_is ended_is within near before = rw (past_is, long_is, ended_is) (before (ltb-true _ _ ended_is))
+place_case bytes line n false false false past_is long_is ended_is within near before = rw (past_is, long_is, ended_is) tt
 
 -- The place of a line's fault comes after so many bytes.
-place_after : (s : SoFar) (line : List ℕ) (n : ℕ) → n ≤ 1073741824 → n ≤ s.bytes + 65536 → (length (until 10 line) < length line → n < s.bytes + length line) → IfSome (place s line) (λ p. n < p)
-place_after s line n within near before = place_case s line n (is_past s.bytes (length line)) (is_long line) (is_ended line) refl refl refl within near before
+pub place_after : (bytes : ℕ) (line : List ℕ) (n : ℕ) → n ≤ 1073741824 → n ≤ bytes + 65536 → (length (until 10 line) < length line → n < bytes + length line) → IfSome (place bytes line) (λ p. n < p)
+place_after bytes line n within near before = place_case bytes line n (is_past bytes (length line)) (is_long line) (is_ended line) refl refl refl within near before
 
 line_case : (s : SoFar) (line : List ℕ) (more : List (List ℕ)) (n : ℕ) (r : Result Found ObjFault) → n ≤ 1073741824 → n ≤ s.bytes + 65536
     → (length (until 10 line) < length line → n < s.bytes + length line) → n ≤ s.bytes + length line → ((t : SoFar) → n ≤ t.bytes → NotReached n (meaning_from t more))
     → NotReached n (then_lines r s line (λ t. meaning_from t more))
 unfolding and_line
 line_case s line more n (Ok f) within near before after later = later (and_line s line f) after
-line_case s line more n (Err e) within near before after later = place_after s line n within near before
+line_case s line more n (Err e) within near before after later = place_after s.bytes line n within near before
 
 -- Lines that begin after so many bytes.
 places_after : (s : SoFar) (ls : List (List ℕ)) (n : ℕ) → n ≤ s.bytes → n ≤ 1073741824 → NotReached n (meaning_from s ls)

@@ -42,12 +42,13 @@ judged s line =
     else if is_long line then Err faults.LineTooLong
     else line_found s.digits (length s.mesh.points) (length s.mesh.faces) (content (until 10 line))
 
--- The byte that shows the line's fault: the one too many in the text or in the line, else the line's LF.
-unfoldable pub place : SoFar → List ℕ → Option ℕ
-place s line =
-    if is_past s.bytes (length line) then Some 1073741825
-    else if is_long line then Some (s.bytes + 65537)
-    else if is_ended line then Some (s.bytes + length line)
+-- The number from 1 of the byte that shows a line's fault, after so many bytes: the one too many in the text or in the
+-- line, else the line's LF. The end of input shows it where there is none.
+unfoldable pub place : ℕ → List ℕ → Option ℕ
+place bytes line =
+    if is_past bytes (length line) then Some 1073741825
+    else if is_long line then Some (bytes + 65537)
+    else if is_ended line then Some (bytes + length line)
     else None
 
 -- After one line more.
@@ -57,7 +58,7 @@ and_line s line f = record { digits = s.digits; bytes = s.bytes + length line; n
 -- The first line with a fault ends the reading.
 abbrev pub then_lines : Result Found ObjFault → SoFar → List ℕ → (SoFar → Result Mesh Refused) → Result Mesh Refused
 then_lines (Ok f) s line more = more (and_line s line f)
-then_lines (Err e) s line more = Err (record { fault = e; line = s.number; place = place s line })
+then_lines (Err e) s line more = Err (record { fault = e; line = s.number; place = place s.bytes line })
 
 abbrev pub meaning_from : SoFar → List (List ℕ) → Result Mesh Refused
 meaning_from s [] = Ok s.mesh

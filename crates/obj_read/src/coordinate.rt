@@ -11,6 +11,7 @@ use pm_io::{are_digits, value_up_to};
 // The greatest absolute value of a coordinate.
 const GREATEST: u64 = 32_767;
 
+/// Whether a minus sign stands at the front.
 pub fn is_negative(field: &[u8]) -> bool
     ensures { result ≡ is_negative field.now }
 {
@@ -20,8 +21,9 @@ pub fn is_negative(field: &[u8]) -> bool
     }
 }
 
+/// What stands after a sign at the front, or all where none is.
 #[tactic(auto, unfolding(crate::specs::Coordinates::without_sign))]
-fn without_sign(field: &[u8]) -> &[u8]
+pub fn without_sign(field: &[u8]) -> &[u8]
     ensures { result.now ≡ without_sign field.now }
 {
     match field {
@@ -30,15 +32,17 @@ fn without_sign(field: &[u8]) -> &[u8]
     }
 }
 
+/// What stands before the point of a number without its sign, or all where none is.
 #[tactic(auto, unfolding(crate::specs::Coordinates::whole_part))]
-fn whole_part(number: &[u8]) -> &[u8]
+pub fn whole_part(number: &[u8]) -> &[u8]
     ensures { result.now ≡ whole_part number.now }
 {
     until(b'.', number)
 }
 
+/// What stands after the point of a number, or nothing where none is.
 #[tactic(auto, unfolding(crate::specs::Coordinates::decimals))]
-fn decimals(number: &[u8]) -> &[u8]
+pub fn decimals(number: &[u8]) -> &[u8]
     ensures { result.now ≡ decimals number.now }
 {
     let n = until(b'.', number).len();

@@ -8,7 +8,7 @@ use crate::coordinate::coordinate;
 use crate::fault::ObjFault;
 use crate::fields::{is_letter, next_field};
 use crate::found::Found;
-use crate::index::index;
+use crate::indices::index;
 use obj_lines::is_continued;
 use pm_base::{Corners, Point};
 
