@@ -2,12 +2,12 @@
 // exponent where there is one.
 ghost use Rattle.std.specs.Prelude.{◌≡◌, ◌≤◌, ◌^◌, ◌+◌, min, true, length, IfOk, unsigned_abs};
 ghost use Rattle.pm_io.specs.Digits.{are_digits};
-ghost use Rattle.obj_read.specs.Coordinates.{is_negative, without_sign, whole_part, decimals, with_sign};
+ghost use Rattle.obj_read.specs.Coordinates.{with_sign};
 ghost use Rattle.obj_prepare.specs.Numbers.{mantissa, exponent_part, exponent_text, is_exponent, is_decimal, exponent, units, decimal_coordinate};
 
 use crate::digits::{GREATEST, rounded};
 use obj_lines::until;
-use obj_read::ObjFault;
+use obj_read::{ObjFault, decimals, is_negative, whole_part, without_sign};
 use pm_io::{are_digits, value_up_to};
 
 // The greatest exponent, either way.
@@ -15,44 +15,6 @@ const GREATEST_EXPONENT: u64 = 999;
 
 // The digits of a unit after the point.
 const UNIT_DIGITS: usize = 18;
-
-fn is_negative(field: &[u8]) -> bool
-    ensures { result ≡ is_negative field.now }
-{
-    match field {
-        [b, ..] => *b == b'-',
-        _ => false,
-    }
-}
-
-#[tactic(auto, unfolding(obj_read::specs::Coordinates::without_sign))]
-fn without_sign(field: &[u8]) -> &[u8]
-    ensures { result.now ≡ without_sign field.now }
-{
-    match field {
-        [b'+' | b'-', rest @ ..] => rest,
-        _ => field,
-    }
-}
-
-#[tactic(auto, unfolding(obj_read::specs::Coordinates::whole_part))]
-fn whole_part(mantissa: &[u8]) -> &[u8]
-    ensures { result.now ≡ whole_part mantissa.now }
-{
-    until(b'.', mantissa)
-}
-
-#[tactic(auto, unfolding(obj_read::specs::Coordinates::decimals))]
-fn decimals(mantissa: &[u8]) -> &[u8]
-    ensures { result.now ≡ decimals mantissa.now }
-{
-    let n = until(b'.', mantissa).len();
-    if n < mantissa.len() {
-        &mantissa[n + 1..]
-    } else {
-        &mantissa[n..]
-    }
-}
 
 #[tactic(auto, unfolding(crate::specs::Numbers::mantissa))]
 fn mantissa(number: &[u8]) -> &[u8]
