@@ -1,10 +1,9 @@
 -- What a failure says of the text, and of the source.
-use Rattle.std.specs.Prelude.{ℕ, ◌<◌, ◌≡◌, List, length, Option, IfSome, Result, Ok, Err}
+use Rattle.std.specs.Prelude.{ℕ, List, length, Option, IfSome}
 use Rattle.pm_io.specs.Bytes.{Loses}
-use Rattle.obj_read.specs.declared.fault.ObjFault.{ObjFault}
 use Rattle.obj_read.specs.declared.fault.ObjFail.{ObjFail}
 use Rattle.obj_read.specs.declared.fault.ObjFail.TheVariants as fails
-use Rattle.obj_read.specs.Meaning.{Refused}
+use Rattle.obj_read.specs.Fails.{IsRefusal, NotReached}
 use Rattle.obj_scan.specs.declared.scan.Scan.{Scan}
 use Rattle.obj_scan.specs.Judged.{Scanned}
 use Rattle.obj_scan.specs.Meaning.{meaning_of}
@@ -12,16 +11,6 @@ use Rattle.obj_scan.specs.Meaning.{meaning_of}
 -- What is held in memory, without the room of its lists.
 abbrev pub scanned_of : Scan → Scanned
 scanned_of s = record { points = s.points.items; faces = s.faces.items; polygons = s.polygons }
-
--- The first line with a fault is this one, and it has this fault first.
-abbrev pub IsRefusal : ObjFault → ℕ → Result Scanned Refused → Type 0
-IsRefusal fault line (Ok s) = ⊥
-IsRefusal fault line (Err r) = (r.fault ≡ fault) × (r.line ≡ line)
-
--- So many bytes don't reach the place of the first fault, if there is one. The end of input is not reached by bytes.
-abbrev pub NotReached : ℕ → Result Scanned Refused → Type 0
-NotReached taken (Ok s) = Unit {0}
-NotReached taken (Err r) = IfSome r.place (λ place. taken < place)
 
 -- The bytes that were taken don't reach the place of the first fault, where the source tells its bytes.
 pub record FailsBefore (whole left : Option (List ℕ)) : Type 0 where

@@ -2,3 +2,4 @@ pub mod Polygons
 pub mod Judged
 pub mod Meaning
 pub mod Fails
+pub mod Reading

@@ -6,7 +6,7 @@ use Rattle.pm_base.specs.declared.mesh.Corners.{Corners}
 use Rattle.obj_lines.specs.Text.{until, lines, content, is_continued}
 use Rattle.obj_read.specs.declared.fault.ObjFault.{ObjFault}
 use Rattle.obj_read.specs.declared.fault.ObjFault.TheVariants as faults
-use Rattle.obj_read.specs.Meaning.{Refused, is_past, is_long, is_ended}
+use Rattle.obj_read.specs.Meaning.{Refused, is_past, is_long, place}
 use Rattle.obj_scan.specs.Judged.{Scanned, Found, line_found, with_found}
 
 -- What the lines before gave: how many bytes they have, the number of the next line, how many of them it continues and
@@ -17,15 +17,6 @@ pub record SoFar : Type 0 where
   pub continued : ℕ
   pub begun : List ℕ
   pub scanned : Scanned
-
--- The number from 1 of the byte that shows the line's fault: the one too many in the text or in the line, else the line's
--- LF. The end of input shows it where there is none.
-unfoldable pub place : ℕ → List ℕ → Option ℕ
-place bytes line =
-    if is_past bytes (length line) then Some 1073741825
-    else if is_long line then Some (bytes + 65537)
-    else if is_ended line then Some (bytes + length line)
-    else None
 
 -- What stands here of the line and of those that it continues.
 unfoldable pub joined_text : SoFar → List ℕ → List ℕ

@@ -2,6 +2,15 @@
 //! continued lines.
 #![tactic(auto)]
 
+mod fields;
+mod polygons;
 mod scan;
+mod scanner;
+mod step;
+#[cfg(test)]
+mod tests;
 
 pub use scan::{Scan, scan_obj};
+
+/// The answer for want of memory.
+pub type OutOfMemory = std::alloc::AllocError;

@@ -6,10 +6,13 @@ ghost use Rattle.obj_read.specs.Fails.{of_source};
 ghost use Rattle.obj_scan.specs.Fails.{Explains, scanned_of};
 ghost use Rattle.obj_scan.specs.Meaning.{meaning_of, IsWithin};
 
+use crate::scanner::Scanner;
+use crate::step::{finish, step};
+use obj_lines::Lines;
 use obj_prepare::ExactPoint;
-use obj_read::ObjFail;
+use obj_read::{ObjFail, Progress};
 use pm_base::Corners;
-use pm_io::Source;
+use pm_io::{Source, Taker};
 use std::alloc::Global;
 
 /// What a text spells: points in units of 10^-18, triangles, and how many faces had more than three corners.
@@ -33,5 +36,23 @@ pub fn scan_obj<S: Source>(alloc: Global, source: &mut S) -> Result<Scan, ObjFai
     ensures err { IfErr result (λ e. Explains e (S.left source.old) (S.left source.new)) }
     ensures cause { HasCause (S.faults source.old) (S.faults source.new) (of_source result) }
 {
-    Err(ObjFail::OutOfMemory)
+    let Ok(mut taker) = Taker::new(alloc) else {
+        return Err(ObjFail::OutOfMemory);
+    };
+    let Ok(mut lines) = Lines::new(alloc) else {
+        return Err(ObjFail::OutOfMemory);
+    };
+    let mut scanner = Scanner::new(alloc);
+    let mut progress = Progress {
+        taken: 0,
+        start: 0,
+        number: 1,
+    };
+    loop {
+        match step(source, &mut taker, &mut lines, &mut scanner, &mut progress) {
+            Err(fail) => return Err(fail),
+            Ok(false) => return finish(scanner, lines, progress),
+            Ok(true) => {}
+        }
+    }
 }

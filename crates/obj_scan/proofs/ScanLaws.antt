@@ -1,0 +1,146 @@
+-- Laws of what lines gave.
+use Rattle.std.proofs.Common.{◌≡◌, ℕ, zero, suc, ◌+◌, ◌-◌, ◌<◌, ◌≤◌, Bool, true, false, ◌==◌, nat_lt, slice_index_or, List, [], ◌∷◌, ◌++◌, length, take, drop, Result, Ok, Err, refl, sym, ◌∙◌, ap, subst, arith, length-append, if◌then◌else◌}
+use Rattle.std.specs.List.{All}
+use Rattle.std.proofs.lemmas.Bool.{ltb-true}
+use Rattle.std.proofs.lemmas.Bool.Decides.{nat_tests}
+use Rattle.std.proofs.lemmas.List.{take-append-drop}
+use Rattle.std.proofs.lemmas.List.Elements.{All-append, All-nil, All-take, All-drop}
+use Rattle.std.proofs.Math.Seq.{take-append-add}
+use Rattle.pm_base.specs.declared.mesh.Corners.{Corners}
+use Rattle.pm_base.specs.Place.{Place}
+use Rattle.obj_lines.specs.Text.{is_continued}
+use Rattle.obj_read.specs.declared.fault.ObjFault.{ObjFault}
+use Rattle.obj_read.specs.declared.fault.ObjFail.{ObjFail}
+use Rattle.obj_read.specs.declared.fault.ObjFail.TheVariants as fails
+use Rattle.obj_read.specs.Fails.{IsFaultOf}
+use Rattle.obj_scan.specs.Polygons.{before_least, begun_least, fan, fan_of, triangles}
+use Rattle.obj_scan.specs.Judged.{Scanned, Found, polygons_after, with_found}
+use Rattle.obj_scan.specs.Meaning.{AreCorners, IsWithin}
+use Rattle.obj_scan.specs.Reading.{IsScanning, Held, given, ended}
+
+-- A polygon of n corners has n - 2 triangles.
+
+fan_length : (a : ℕ) (rest : List ℕ) → length (fan a rest) ≡ length rest - 1
+fan_length a [] = refl
+fan_length a (b ∷ []) = refl
+fan_length a (b ∷ c ∷ rest) = omega (arith, fan_length a (c ∷ rest))
+
+fan_of_length : (corners : List ℕ) → length (fan_of corners) ≡ length corners - 2
+fan_of_length [] = refl
+fan_of_length (a ∷ rest) = omega (arith, fan_length a rest)
+
+turned_length : (n : ℕ) (corners : List ℕ) → length (drop n corners ++ take n corners) ≡ length corners
+turned_length n corners = omega (arith, length-append (drop n corners) (take n corners), length-append (take n corners) (drop n corners), ap length (take-append-drop n corners))
+
+triangles_case : (points : List Place) (corners : List ℕ) (b : Bool) → (length corners == 3) ≡ b → length (triangles points corners) ≡ length corners - 2
+unfolding triangles begun_least
+triangles_case points corners true is = rw is (fan_of_length corners)
+triangles_case points corners false is =
+    let n = before_least points corners corners in
+    rw is (fan_of_length (drop n corners ++ take n corners) ∙ ap (λ k. k - 2) (turned_length n corners))
+
+triangles_length : (points : List Place) (corners : List ℕ) → length (triangles points corners) ≡ length corners - 2
+triangles_length points corners = triangles_case points corners (length corners == 3) refl
+
+-- Their corners are those of the polygon.
+
+fan_corners : (n a : ℕ) (rest : List ℕ) → a < n → All (λ (c : ℕ). c < n) rest → All (AreCorners n) (fan a rest)
+fan_corners n a [] lt all = All-nil (AreCorners n)
+fan_corners n a (b ∷ []) lt all = All-nil (AreCorners n)
+fan_corners n a (b ∷ c ∷ rest) lt all = first_and (record { a = a; b = b; c = c }) (fan a (c ∷ rest))
+    (record { a = lt; b = all 0 0 (omega arith); c = all 1 0 (omega arith) }) (fan_corners n a (c ∷ rest) lt (λ i d l. all (suc i) d (omega (arith, l))))
+  where
+    first_and : (f : Corners) (fs : List Corners) → AreCorners n f → All (AreCorners n) fs → All (AreCorners n) (f ∷ fs)
+    first_and f fs here later zero d l = here
+    first_and f fs here later (suc i) d l = later i d (omega (arith, l))
+
+fan_of_corners : (n : ℕ) (corners : List ℕ) → All (λ (c : ℕ). c < n) corners → All (AreCorners n) (fan_of corners)
+fan_of_corners n [] all = All-nil (AreCorners n)
+fan_of_corners n (a ∷ rest) all = fan_corners n a rest (all 0 0 (omega arith)) (λ i d l. all (suc i) d (omega (arith, l)))
+
+corners_case : (points : List Place) (n : ℕ) (corners : List ℕ) (b : Bool) → (length corners == 3) ≡ b → All (λ (c : ℕ). c < n) corners → All (AreCorners n) (triangles points corners)
+unfolding triangles begun_least
+corners_case points n corners true is all = rw is (fan_of_corners n corners all)
+corners_case points n corners false is all =
+    let k = before_least points corners corners in
+    let P : ℕ → Type 0 = λ c. c < n in
+    rw is (fan_of_corners n (drop k corners ++ take k corners) (All-append P (drop k corners) (take k corners) (All-drop P k corners all) (All-take P k corners all)))
+
+-- What the lines gave stays within the limits.
+
+wider : (n k : ℕ) (fs : List Corners) → n ≤ k → All (AreCorners n) fs → All (AreCorners k) fs
+wider n k fs le all = λ i d l. let f = all i d l in record { a = omega (arith, f.a, le); b = omega (arith, f.b, le); c = omega (arith, f.c, le) }
+
+pub vertex_scanning : (s t : Scanned) (p : Place) → IsScanning s → length s.points < 1048576 → t ≡ with_found s (Found.vertex p) → IsScanning t
+vertex_scanning s t p scanning room is = rw is (record {
+  within = record {
+    points = omega (arith, room, length-append s.points (p ∷ []));
+    faces = scanning.faces;
+    corners = wider (length s.points) (length (s.points ++ p ∷ [])) s.faces (omega (arith, length-append s.points (p ∷ []))) scanning.within.corners;
+  };
+  points = omega (arith, room, length-append s.points (p ∷ []));
+  faces = scanning.faces;
+  polygons = scanning.polygons;
+})
+
+-- One polygon more is at most so many triangles more.
+polygons_case : (n faces : ℕ) (corners : List ℕ) (b : Bool) → nat_lt 3 (length corners) ≡ b → n ≤ faces → (if b then n + 1 else n) ≤ faces + (length corners - 2)
+polygons_case n faces corners true some le = omega (arith, ltb-true 3 (length corners) some, le)
+polygons_case n faces corners false few le = omega (arith, le)
+
+polygon_scanning : (s t : Scanned) (corners : List ℕ) → IsScanning s → All (λ (c : ℕ). c < length s.points) corners → length s.faces + (length corners - 2) ≤ 1048576
+    → t ≡ with_found s (Found.polygon corners) → IsScanning t
+polygon_scanning s t corners scanning within room is =
+    let all = s.faces ++ triangles s.points corners in
+    let n : length all ≡ length s.faces + (length corners - 2) = omega (arith, length-append s.faces (triangles s.points corners), triangles_length s.points corners) in
+    rw is (record {
+      within = record {
+        points = scanning.points;
+        faces = omega (arith, n, room);
+        corners = All-append (AreCorners (length s.points)) s.faces (triangles s.points corners) scanning.within.corners
+            (corners_case s.points (length s.points) corners (length corners == 3) refl within);
+      };
+      points = scanning.points;
+      faces = omega (arith, n, room);
+      polygons = subst (λ k. (if nat_lt 3 (length corners) then s.polygons + 1 else s.polygons) ≤ k) (sym n) (polygons_case s.polygons (length s.faces) corners (nat_lt 3 (length corners)) refl scanning.polygons);
+    })
+
+abbrev scanned_from : List Place → List Corners → ℕ → Scanned
+scanned_from points faces polygons = record { points = points; faces = faces; polygons = polygons }
+
+-- The same, from what the parts of the code say.
+pub polygon_scanned : (s : Scanned) (points : List Place) (faces : List Corners) (polygons : ℕ) (corners held : List ℕ) → IsScanning s → All (λ (c : ℕ). c < length s.points) corners
+    → length s.faces + (length corners - 2) ≤ 1048576 → points ≡ s.points → faces ≡ s.faces ++ triangles points corners → held ≡ corners → polygons ≡ polygons_after s.polygons held
+    → IsScanning (scanned_from s.points faces polygons)
+polygon_scanned s points faces polygons corners held scanning within room points_are faces_are held_is polygons_are =
+    let all = s.faces ++ triangles s.points corners in
+    polygon_scanning s (scanned_from s.points faces polygons) corners scanning within room
+    (ap (λ f. scanned_from s.points f polygons) (faces_are ∙ ap (λ p. s.faces ++ triangles p corners) points_are)
+    ∙ ap (λ n. scanned_from s.points all n) (polygons_are ∙ ap (polygons_after s.polygons) held_is))
+
+-- A fault of what a text gives is the line's.
+pub given_fault : (s : Scanned) (r : Result Found ObjFault) (fail : ObjFail) (line : ℕ) → IsFaultOf fail line r → IsFaultOf fail line (given s r)
+given_fault s r fails.Read line fault = fault
+given_fault s r fails.OutOfMemory line fault = tt
+given_fault s r (fails.Fault e l) line (at, is) = (at, ap (given s) is)
+
+pub ended_fault : (r : Result Scanned ObjFault) (fail : ObjFail) (line : ℕ) → IsFaultOf fail line r → IsFaultOf fail line (ended r)
+ended_fault r fails.Read line fault = fault
+ended_fault r fails.OutOfMemory line fault = tt
+ended_fault r (fails.Fault e l) line (at, is) = (at, ap ended is)
+
+-- A text without its backslash, after another.
+last_case : (begun text : List ℕ) → 0 < length text → take (length (begun ++ text) - 1) (begun ++ text) ≡ begun ++ take (length text - 1) text
+last_case begun text some =
+    let n : length (begun ++ text) - 1 ≡ length begun + (length text - 1) = omega (arith, length-append begun text, some) in
+    ap (λ k. take k (begun ++ text)) n ∙ take-append-add begun text (length text - 1)
+
+some_continued : (text : List ℕ) → is_continued text ≡ true → 0 < length text
+unfolding is_continued
+some_continued [] is = let e : false ≡ true = is in cc
+some_continued (b ∷ text) is = omega arith
+
+pub without_last : (begun text after : List ℕ) (n : ℕ) → is_continued text ≡ true → n ≡ length text - 1 → after ≡ begun ++ take n text
+    → after ++ 32 ∷ [] ≡ take (length (begun ++ text) - 1) (begun ++ text) ++ 32 ∷ []
+without_last begun text after n is at after_is =
+    ap (λ l. l ++ 32 ∷ []) (after_is ∙ ap (λ k. begun ++ take k text) at ∙ sym (last_case begun text (some_continued text is)))

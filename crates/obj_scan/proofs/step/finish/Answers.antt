@@ -1,0 +1,42 @@
+use Rattle.std.proofs.Common.{◌+◌, ◌≤◌, ◌∙◌, length, arith}
+use Rattle.obj_lines.specs.Feeding.{open_line}
+use Rattle.obj_read.proofs.FinishLaws.{last_is_line, if_ok, if_err}
+use Rattle.obj_scan.specs.Reading.{so_far, held_of}
+use Rattle.obj_scan.proofs.FinishLaws.{last_none, last_ok, last_err, refused_same}
+use Rattle.obj_scan.proofs.step.finish.Goals as goal
+
+pub line-requires : goal.line-requires
+line-requires c = last_is_line _ _ _ c.finish.ensures.state c.in-Whole.is c.finish.ensures.value
+
+pub returns-in-Partial-clause-ok : goal.returns-in-Partial-clause-ok
+returns-in-Partial-clause-ok c =
+    let same = last_none (so_far c.args.progress (held_of c.args.scanner)) _ _ c.finish.ensures.state c.in-Partial.is in
+    if_ok c.end.result _ _ (λ s is. same ∙ is c.args.progress.start) c.end.ensures.ok
+
+pub returns-in-Partial-clause-err : goal.returns-in-Partial-clause-err
+returns-in-Partial-clause-err c =
+    let same = last_none (so_far c.args.progress (held_of c.args.scanner)) _ _ c.finish.ensures.state c.in-Partial.is in
+    if_err c.end.result _ _ (λ e is. refused_same e _ _ same (is c.args.progress.start)) c.end.ensures.err
+
+pub returns-in-Ok-clause-ok : goal.returns-in-Ok-clause-ok
+returns-in-Ok-clause-ok c =
+    let within : c.args.progress.start + length (open_line c.args.lines) ≤ 1073741824 = omega (arith, c.requires.ready.at, c.requires.ready.room) in
+    let same = last_ok (so_far c.args.progress (held_of c.args.scanner)) _ _ _ _ (held_of c.take_line.new.scanner)
+    (record { at = c.finish.ensures.state; which = c.in-Whole.is; finished = c.finish.ensures.value; clean = c.requires.ready.clean; short = c.requires.ready.short; within = within; is_text = c.line.ensures })
+    c.in-Ok.ensures.ok in
+    if_ok c.end-in-Ok.result _ _ (λ s is. same ∙ is (c.args.progress.start + length (open_line c.args.lines))) c.end-in-Ok.ensures.ok
+
+pub returns-in-Ok-clause-err : goal.returns-in-Ok-clause-err
+returns-in-Ok-clause-err c =
+    let within : c.args.progress.start + length (open_line c.args.lines) ≤ 1073741824 = omega (arith, c.requires.ready.at, c.requires.ready.room) in
+    let same = last_ok (so_far c.args.progress (held_of c.args.scanner)) _ _ _ _ (held_of c.take_line.new.scanner)
+    (record { at = c.finish.ensures.state; which = c.in-Whole.is; finished = c.finish.ensures.value; clean = c.requires.ready.clean; short = c.requires.ready.short; within = within; is_text = c.line.ensures })
+    c.in-Ok.ensures.ok in
+    if_err c.end-in-Ok.result _ _ (λ e is. refused_same e _ _ same (is (c.args.progress.start + length (open_line c.args.lines)))) c.end-in-Ok.ensures.err
+
+pub returns-in-Err-clause-err : goal.returns-in-Err-clause-err
+returns-in-Err-clause-err c =
+    let within : c.args.progress.start + length (open_line c.args.lines) ≤ 1073741824 = omega (arith, c.requires.ready.at, c.requires.ready.room) in
+    last_err (so_far c.args.progress (held_of c.args.scanner)) _ _ _ _ _
+    (record { at = c.finish.ensures.state; which = c.in-Whole.is; finished = c.finish.ensures.value; clean = c.requires.ready.clean; short = c.requires.ready.short; within = within; is_text = c.line.ensures })
+    c.in-Err.ensures.fault

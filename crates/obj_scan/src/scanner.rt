@@ -1,0 +1,179 @@
+// The lines of a text, one after the other: what they gave so far, and those that the next one continues.
+ghost use Rattle.std.specs.Prelude.{ℕ, ◌≡◌, ◌+◌, ◌-◌, ◌<◌, ◌≤◌, ◌++◌, ◌∷◌, [], length, true, false, take, Ok, OnOk, IfErr};
+ghost use Rattle.obj_lines.specs.Text.{is_continued};
+ghost use Rattle.obj_read.specs.Fails.{IsFaultOf};
+ghost use Rattle.obj_read.specs.Fields.{fields};
+ghost use Rattle.obj_scan.specs.Fails.{scanned_of};
+ghost use Rattle.obj_scan.specs.Judged.{vertex_line, face_line, polygons_after};
+ghost use Rattle.obj_scan.specs.Reading.{IsScanning, given, scanned_after, held_of, nothing_held, taken};
+
+use crate::OutOfMemory;
+use crate::fields::{face_line, vertex_line};
+use crate::polygons::push_polygon;
+use crate::scan::Scan;
+use obj_lines::is_continued;
+use obj_read::{ObjFail, ObjFault, is_letter, next_field};
+use std::alloc::Global;
+
+// The greatest number of bytes of a line, and of what is read of lines that go together.
+const MOST: usize = 65_536;
+
+/// What the lines so far gave, how many of them the next one continues, and what these say. The corners are those of the
+/// last face: their room is used again.
+#[derive(Drop)]
+pub struct Scanner {
+    pub scan: Scan,
+    pub continued: u32,
+    pub begun: Vec<u8>,
+    pub corners: Vec<u32>,
+}
+
+impl Scanner {
+    /// Before the first line.
+    pub fn new(alloc: Global) -> Scanner
+        ensures { held_of result ≡ nothing_held }
+    {
+        Scanner {
+            scan: Scan {
+                points: Vec::new(alloc),
+                faces: Vec::new(alloc),
+                polygons: 0,
+            },
+            continued: 0,
+            begun: Vec::new(alloc),
+            corners: Vec::new(alloc),
+        }
+    }
+}
+
+// Takes a vertex.
+fn take_vertex(scan: &mut Scan, text: &[u8], line: u32) -> Result<(), ObjFail>
+    requires scanning { IsScanning (scanned_of scan.old) }
+    ensures ok { OnOk result (given (scanned_of scan.old) (vertex_line (length scan.old.points.items) (fields text.now)) ≡ Ok (scanned_of scan.new)) }
+    ensures scanning { OnOk result (IsScanning (scanned_of scan.new)) }
+    ensures fault { IfErr result (λ e. IsFaultOf e line (vertex_line (length scan.old.points.items) (fields text.now))) }
+{
+    match vertex_line(scan.points.len() as u32, text) {
+        Err(fault) => Err(ObjFail::Fault { fault, line }),
+        Ok(point) => match scan.points.push(point) {
+            Ok(()) => Ok(()),
+            Err(_) => Err(ObjFail::OutOfMemory),
+        },
+    }
+}
+
+// How many faces had more than three corners, after one more.
+fn polygons_after(polygons: u32, corners: &[u32]) -> u32
+    requires { polygons ≤ 1048576 }
+    ensures { result ≡ polygons_after polygons corners.now }
+{
+    if corners.len() > 3 {
+        polygons + 1
+    } else {
+        polygons
+    }
+}
+
+// Takes a face.
+fn take_face(scan: &mut Scan, corners: &mut Vec<u32>, text: &[u8], line: u32) -> Result<(), ObjFail>
+    requires scanning { IsScanning (scanned_of scan.old) }
+    ensures ok { OnOk result (given (scanned_of scan.old) (face_line (length scan.old.points.items) (length scan.old.faces.items) (fields text.now)) ≡ Ok (scanned_of scan.new)) }
+    ensures scanning { OnOk result (IsScanning (scanned_of scan.new)) }
+    ensures fault { IfErr result (λ e. IsFaultOf e line (face_line (length scan.old.points.items) (length scan.old.faces.items) (fields text.now))) }
+{
+    let (vertices, faces) = (scan.points.len() as u32, scan.faces.len() as u32);
+    if let Err(fail) = face_line(vertices, faces, text, line, corners) {
+        return Err(fail);
+    }
+    scan.polygons = polygons_after(scan.polygons, corners);
+    match push_polygon(&scan.points, &mut scan.faces, corners) {
+        Ok(()) => Ok(()),
+        Err(_) => Err(ObjFail::OutOfMemory),
+    }
+}
+
+// Takes what a text gives. One that begins with neither `v` nor `f` is skipped.
+#[tactic(auto, unfolding(crate::specs::Reading::scanned_after, crate::specs::Judged::line_found), using(crate::proofs::ScanLaws::given_fault))]
+fn take_text(scan: &mut Scan, corners: &mut Vec<u32>, text: &[u8], line: u32) -> Result<(), ObjFail>
+    requires scanning { IsScanning (scanned_of scan.old) }
+    ensures ok { OnOk result (scanned_after (scanned_of scan.old) text.now ≡ Ok (scanned_of scan.new)) }
+    ensures scanning { OnOk result (IsScanning (scanned_of scan.new)) }
+    ensures fault { IfErr result (λ e. IsFaultOf e line (scanned_after (scanned_of scan.old) text.now)) }
+{
+    match next_field(text) {
+        Some((keyword, rest)) if is_letter(b'v', keyword) => take_vertex(scan, rest, line),
+        Some((keyword, rest)) if is_letter(b'f', keyword) => take_face(scan, corners, rest, line),
+        _ => Ok(()),
+    }
+}
+
+// Puts down what is read of a line that is continued, with a blank for its backslash.
+fn begin(begun: &mut Vec<u8>, text: &[u8]) -> Result<(), OutOfMemory>
+    requires continued { is_continued text.now ≡ true }
+    ensures { OnOk result (begun.new.items ≡ take (length (begun.old.items ++ text.now) - 1) (begun.old.items ++ text.now) ++ 32 ∷ []) }
+{
+    let most = text.len().saturating_sub(1);
+    begun.extend_from_slice(&text[..most])?;
+    begun.push(b' ')?;
+    Ok(())
+}
+
+// Takes what a line gives that isn't continued, with the lines that it continues.
+fn end(scanner: &mut Scanner, text: &[u8], line: u32) -> Result<(), ObjFail>
+    requires scanning { IsScanning (scanned_of scanner.old.scan) }
+    ensures ok { OnOk result (scanned_after (scanned_of scanner.old.scan) (scanner.old.begun.items ++ text.now) ≡ Ok (scanned_of scanner.new.scan)) }
+    ensures scanning { OnOk result (IsScanning (scanned_of scanner.new.scan)) }
+    ensures begun { OnOk result (scanner.new.begun.items ≡ []) }
+    ensures continued { OnOk result (scanner.new.continued ≡ 0) }
+    ensures fault { IfErr result (λ e. IsFaultOf e line (scanned_after (scanned_of scanner.old.scan) (scanner.old.begun.items ++ text.now))) }
+{
+    scanner.continued = 0;
+    if scanner.begun.is_empty() {
+        return take_text(&mut scanner.scan, &mut scanner.corners, text, line);
+    }
+    if scanner.begun.extend_from_slice(text).is_err() {
+        return Err(ObjFail::OutOfMemory);
+    }
+    match take_text(
+        &mut scanner.scan,
+        &mut scanner.corners,
+        &scanner.begun,
+        line,
+    ) {
+        Err(fail) => Err(fail),
+        Ok(()) => {
+            scanner.begun.clear();
+            Ok(())
+        }
+    }
+}
+
+/// Takes one line more: this is what is read of it, and its number. A fault of what is read has the number of the first
+/// of the lines that go together.
+#[tactic(auto, unfolding(crate::specs::Reading::taken), using(crate::proofs::ScanLaws::ended_fault))]
+pub fn take_line(scanner: &mut Scanner, text: &[u8], number: u32) -> Result<(), ObjFail>
+    requires scanning { IsScanning (scanned_of scanner.old.scan) }
+    requires continued { scanner.old.continued < number }
+    ensures ok { OnOk result (taken (held_of scanner.old) text.now ≡ Ok (held_of scanner.new)) }
+    ensures scanning { OnOk result (IsScanning (scanned_of scanner.new.scan)) }
+    ensures continued { OnOk result (scanner.new.continued ≤ number) }
+    ensures fault { IfErr result (λ e. IsFaultOf e (number - scanner.old.continued) (taken (held_of scanner.old) text.now)) }
+{
+    let line = number - scanner.continued;
+    if scanner.begun.len() + text.len() > MOST {
+        return Err(ObjFail::Fault {
+            fault: ObjFault::LineTooLong,
+            line,
+        });
+    }
+    if !is_continued(text) {
+        return end(scanner, text, line);
+    }
+    match begin(&mut scanner.begun, text) {
+        Err(_) => Err(ObjFail::OutOfMemory),
+        Ok(()) => {
+            scanner.continued += 1;
+            Ok(())
+        }
+    }
+}

@@ -1,0 +1,110 @@
+// One step of the reading: the bytes that the window holds, at most up to the end of a line.
+ghost use Rattle.std.specs.Prelude.{ℕ, List, Option, ◌≡◌, ◌+◌, ◌≤◌, ◌<◌, length, true, false, Ok, IfOk, IfErr, OnOk};
+ghost use Rattle.std.specs.Io.KnownBytes.{prepend_known};
+ghost use Rattle.pm_io.specs.Bytes.{AtEnd};
+ghost use Rattle.pm_io.specs.Causes.{HasCause};
+ghost use Rattle.obj_lines.specs.Feeding.{open_line};
+ghost use Rattle.obj_lines.specs.Text.{lines as lines_of};
+ghost use Rattle.obj_read.specs.Fails.{IsRefused, of_source};
+ghost use Rattle.obj_scan.specs.Fails.{Explains, scanned_of};
+ghost use Rattle.obj_scan.specs.Meaning.{IsWithin, at_end, meaning_from};
+ghost use Rattle.obj_scan.specs.Reading.{IsReady, IsReading, after_lines, held_of, so_far};
+
+use crate::scan::Scan;
+use crate::scanner::{Scanner, take_line};
+use obj_lines::{LineState, Lines};
+use obj_read::{ObjFail, ObjFault, Progress};
+use pm_io::{Source, Taker};
+
+// The greatest number of bytes of a text.
+const MOST: u32 = 1_073_741_824;
+
+/// Takes what the window holds, at most up to the end of a line, and judges a line that has ended. False at the end of
+/// input. The window is used up before the source is asked for more.
+pub fn step<S: Source>(
+    source: &mut S,
+    taker: &mut Taker,
+    lines: &mut Lines,
+    scanner: &mut Scanner,
+    progress: &mut Progress,
+) -> Result<bool, ObjFail>
+    requires ready { IsReady lines.old (held_of scanner.old) progress.old }
+    ensures ready { OnOk result (IsReady lines.new (held_of scanner.new) progress.new) }
+    ensures reads_on { (whole : Option (List ℕ)) → IsReading whole taker.old (S.left source.old) progress.old (held_of scanner.old) lines.old
+        → OnOk result (IsReading whole taker.new (S.left source.new) progress.new (held_of scanner.new) lines.new) }
+    ensures more { IfOk result (λ more. more ≡ true → progress.old.taken < progress.new.taken) }
+    ensures end { IfOk result (λ more. more ≡ false → AtEnd (prepend_known taker.new (S.left source.new))) }
+    ensures err { IfErr result (λ e. (whole : Option (List ℕ))
+        → IsReading whole taker.old (S.left source.old) progress.old (held_of scanner.old) lines.old → Explains e whole (S.left source.new)) }
+    ensures cause { HasCause (S.faults source.old) (S.faults source.new) (of_source result) }
+{
+    let fed = match taker.piece(source) {
+        Err(_) => return Err(ObjFail::Read),
+        Ok(piece) => {
+            if piece.is_empty() {
+                return Ok(false);
+            }
+            let room = (MOST - progress.taken) as usize;
+            if room == 0 {
+                return Err(ObjFail::Fault {
+                    fault: ObjFault::TooMany,
+                    line: progress.number,
+                });
+            }
+            lines.feed(&piece[..room.min(piece.len())])
+        }
+    };
+    taker.eat(fed.used);
+    progress.taken += fed.used as u32;
+    match fed.state {
+        LineState::Partial => Ok(true),
+        LineState::TooLong => Err(ObjFail::Fault {
+            fault: ObjFault::LineTooLong,
+            line: progress.number,
+        }),
+        LineState::Whole | LineState::Continued => {
+            if let Err(fail) = take_line(scanner, lines.line(), progress.number) {
+                return Err(fail);
+            }
+            progress.start = progress.taken;
+            progress.number += 1;
+            Ok(true)
+        }
+    }
+}
+
+// What the lines gave, where none waits for the next one, whose number this is.
+fn end(scanner: Scanner, number: u32) -> Result<Scan, ObjFail>
+    requires { scanner.continued < number }
+    ensures ok { IfOk result (λ s. (bytes : ℕ) → at_end (after_lines bytes number (held_of scanner)) ≡ Ok (scanned_of s)) }
+    ensures within { IfOk result (λ s. scanned_of s ≡ scanned_of scanner.scan) }
+    ensures err { IfErr result (λ e. (bytes : ℕ) → IsRefused e (at_end (after_lines bytes number (held_of scanner)))) }
+{
+    if scanner.continued > 0 {
+        return Err(ObjFail::Fault {
+            fault: ObjFault::Continuation,
+            line: number - scanner.continued,
+        });
+    }
+    Ok(scanner.scan)
+}
+
+/// At the end of input: the last line, where one is open.
+pub fn finish(scanner: Scanner, lines: Lines, progress: Progress) -> Result<Scan, ObjFail>
+    requires ready { IsReady lines (held_of scanner) progress }
+    ensures ok { IfOk result (λ s. meaning_from (so_far progress (held_of scanner)) (lines_of (open_line lines)) ≡ Ok (scanned_of s)) }
+    ensures within { IfOk result (λ s. IsWithin (scanned_of s)) }
+    ensures err { IfErr result (λ e. IsRefused e (meaning_from (so_far progress (held_of scanner)) (lines_of (open_line lines)))) }
+{
+    let mut scanner = scanner;
+    let mut lines = lines;
+    match lines.finish() {
+        LineState::Partial | LineState::TooLong => end(scanner, progress.number),
+        LineState::Whole | LineState::Continued => {
+            match take_line(&mut scanner, lines.line(), progress.number) {
+                Ok(()) => end(scanner, progress.number + 1),
+                Err(fail) => Err(fail),
+            }
+        }
+    }
+}
