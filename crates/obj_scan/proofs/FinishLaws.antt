@@ -27,8 +27,6 @@ use Rattle.obj_scan.proofs.JudgeLaws.{held_in, later, then_taken, judged_line}
 none_scanning : IsScanning nothing_held.scanned
 none_scanning = record {
   within = record { points = omega arith; faces = omega arith; corners = All-nil (AreCorners 0) };
-  points = omega arith;
-  faces = omega arith;
   polygons = omega arith;
 }
 

@@ -75,11 +75,9 @@ pub vertex_scanning : (s t : Scanned) (p : Place) → IsScanning s → length s.
 vertex_scanning s t p scanning room is = rw is (record {
   within = record {
     points = omega (arith, room, length-append s.points (p ∷ []));
-    faces = scanning.faces;
+    faces = scanning.within.faces;
     corners = wider (length s.points) (length (s.points ++ p ∷ [])) s.faces (omega (arith, length-append s.points (p ∷ []))) scanning.within.corners;
   };
-  points = omega (arith, room, length-append s.points (p ∷ []));
-  faces = scanning.faces;
   polygons = scanning.polygons;
 })
 
@@ -95,13 +93,11 @@ polygon_scanning s t corners scanning within room is =
     let n : length all ≡ length s.faces + (length corners - 2) = omega (arith, length-append s.faces (triangles s.points corners), triangles_length s.points corners) in
     rw is (record {
       within = record {
-        points = scanning.points;
+        points = scanning.within.points;
         faces = omega (arith, n, room);
         corners = All-append (AreCorners (length s.points)) s.faces (triangles s.points corners) scanning.within.corners
             (corners_case s.points (length s.points) corners (length corners == 3) refl within);
       };
-      points = scanning.points;
-      faces = omega (arith, n, room);
       polygons = subst (λ k. (if nat_lt 3 (length corners) then s.polygons + 1 else s.polygons) ≤ k) (sym n) (polygons_case s.polygons (length s.faces) corners (nat_lt 3 (length corners)) refl scanning.polygons);
     })
 

@@ -70,8 +70,6 @@ IsReading whole window left p h f = StandsAt whole (prepend_known window left) (
 -- What the lines gave is within the limits. A polygon that was cut has more than one triangle.
 pub record IsScanning (s : Scanned) : Type 0 where
   pub within : IsWithin s
-  pub points : length s.points ≤ 1048576
-  pub faces : length s.faces ≤ 1048576
   pub polygons : s.polygons ≤ length s.faces
 
 -- What holds between two steps of the reading.

@@ -28,24 +28,6 @@ pub struct Scanner {
     pub corners: Vec<u32>,
 }
 
-impl Scanner {
-    /// Before the first line.
-    pub fn new(alloc: Global) -> Scanner
-        ensures { held_of result ≡ nothing_held }
-    {
-        Scanner {
-            scan: Scan {
-                points: Vec::new(alloc),
-                faces: Vec::new(alloc),
-                polygons: 0,
-            },
-            continued: 0,
-            begun: Vec::new(alloc),
-            corners: Vec::new(alloc),
-        }
-    }
-}
-
 // Takes a vertex.
 fn take_vertex(scan: &mut Scan, text: &[u8], line: u32) -> Result<(), ObjFail>
     requires scanning { IsScanning (scanned_of scan.old) }
@@ -108,7 +90,7 @@ fn take_text(scan: &mut Scan, corners: &mut Vec<u32>, text: &[u8], line: u32) ->
 }
 
 // Puts down what is read of a line that is continued, with a blank for its backslash.
-fn begin(begun: &mut Vec<u8>, text: &[u8]) -> Result<(), OutOfMemory>
+fn join_continued(begun: &mut Vec<u8>, text: &[u8]) -> Result<(), OutOfMemory>
     requires continued { is_continued text.now ≡ true }
     ensures { OnOk result (begun.new.items ≡ take (length (begun.old.items ++ text.now) - 1) (begun.old.items ++ text.now) ++ 32 ∷ []) }
 {
@@ -118,62 +100,75 @@ fn begin(begun: &mut Vec<u8>, text: &[u8]) -> Result<(), OutOfMemory>
     Ok(())
 }
 
-// Takes what a line gives that isn't continued, with the lines that it continues.
-fn end(scanner: &mut Scanner, text: &[u8], line: u32) -> Result<(), ObjFail>
-    requires scanning { IsScanning (scanned_of scanner.old.scan) }
-    ensures ok { OnOk result (scanned_after (scanned_of scanner.old.scan) (scanner.old.begun.items ++ text.now) ≡ Ok (scanned_of scanner.new.scan)) }
-    ensures scanning { OnOk result (IsScanning (scanned_of scanner.new.scan)) }
-    ensures begun { OnOk result (scanner.new.begun.items ≡ []) }
-    ensures continued { OnOk result (scanner.new.continued ≡ 0) }
-    ensures fault { IfErr result (λ e. IsFaultOf e line (scanned_after (scanned_of scanner.old.scan) (scanner.old.begun.items ++ text.now))) }
-{
-    scanner.continued = 0;
-    if scanner.begun.is_empty() {
-        return take_text(&mut scanner.scan, &mut scanner.corners, text, line);
-    }
-    if scanner.begun.extend_from_slice(text).is_err() {
-        return Err(ObjFail::OutOfMemory);
-    }
-    match take_text(
-        &mut scanner.scan,
-        &mut scanner.corners,
-        &scanner.begun,
-        line,
-    ) {
-        Err(fail) => Err(fail),
-        Ok(()) => {
-            scanner.begun.clear();
-            Ok(())
+impl Scanner {
+    /// Before the first line.
+    pub fn new(alloc: Global) -> Scanner
+        ensures { held_of result ≡ nothing_held }
+    {
+        Scanner {
+            scan: Scan {
+                points: Vec::new(alloc),
+                faces: Vec::new(alloc),
+                polygons: 0,
+            },
+            continued: 0,
+            begun: Vec::new(alloc),
+            corners: Vec::new(alloc),
         }
     }
-}
 
-/// Takes one line more: this is what is read of it, and its number. A fault of what is read has the number of the first
-/// of the lines that go together.
-#[tactic(auto, unfolding(crate::specs::Reading::taken), using(crate::proofs::ScanLaws::ended_fault))]
-pub fn take_line(scanner: &mut Scanner, text: &[u8], number: u32) -> Result<(), ObjFail>
-    requires scanning { IsScanning (scanned_of scanner.old.scan) }
-    requires continued { scanner.old.continued < number }
-    ensures ok { OnOk result (taken (held_of scanner.old) text.now ≡ Ok (held_of scanner.new)) }
-    ensures scanning { OnOk result (IsScanning (scanned_of scanner.new.scan)) }
-    ensures continued { OnOk result (scanner.new.continued ≤ number) }
-    ensures fault { IfErr result (λ e. IsFaultOf e (number - scanner.old.continued) (taken (held_of scanner.old) text.now)) }
-{
-    let line = number - scanner.continued;
-    if scanner.begun.len() + text.len() > MOST {
-        return Err(ObjFail::Fault {
-            fault: ObjFault::LineTooLong,
-            line,
-        });
+    // Takes what a line gives that isn't continued, with the lines that it continues.
+    fn take_joined(&mut self, text: &[u8], line: u32) -> Result<(), ObjFail>
+        requires scanning { IsScanning (scanned_of self.old.scan) }
+        ensures ok { OnOk result (scanned_after (scanned_of self.old.scan) (self.old.begun.items ++ text.now) ≡ Ok (scanned_of self.new.scan)) }
+        ensures scanning { OnOk result (IsScanning (scanned_of self.new.scan)) }
+        ensures begun { OnOk result (self.new.begun.items ≡ []) }
+        ensures continued { OnOk result (self.new.continued ≡ 0) }
+        ensures fault { IfErr result (λ e. IsFaultOf e line (scanned_after (scanned_of self.old.scan) (self.old.begun.items ++ text.now))) }
+    {
+        self.continued = 0;
+        if self.begun.is_empty() {
+            return take_text(&mut self.scan, &mut self.corners, text, line);
+        }
+        if self.begun.extend_from_slice(text).is_err() {
+            return Err(ObjFail::OutOfMemory);
+        }
+        match take_text(&mut self.scan, &mut self.corners, &self.begun, line) {
+            Err(fail) => Err(fail),
+            Ok(()) => {
+                self.begun.clear();
+                Ok(())
+            }
+        }
     }
-    if !is_continued(text) {
-        return end(scanner, text, line);
-    }
-    match begin(&mut scanner.begun, text) {
-        Err(_) => Err(ObjFail::OutOfMemory),
-        Ok(()) => {
-            scanner.continued += 1;
-            Ok(())
+
+    /// Takes one line more: this is what is read of it, and its number. A fault of what is read has the number of the first
+    /// of the lines that go together.
+    #[tactic(auto, unfolding(crate::specs::Reading::taken), using(crate::proofs::ScanLaws::ended_fault))]
+    pub fn take_line(&mut self, text: &[u8], number: u32) -> Result<(), ObjFail>
+        requires scanning { IsScanning (scanned_of self.old.scan) }
+        requires continued { self.old.continued < number }
+        ensures ok { OnOk result (taken (held_of self.old) text.now ≡ Ok (held_of self.new)) }
+        ensures scanning { OnOk result (IsScanning (scanned_of self.new.scan)) }
+        ensures continued { OnOk result (self.new.continued ≤ number) }
+        ensures fault { IfErr result (λ e. IsFaultOf e (number - self.old.continued) (taken (held_of self.old) text.now)) }
+    {
+        let line = number - self.continued;
+        if self.begun.len() + text.len() > MOST {
+            return Err(ObjFail::Fault {
+                fault: ObjFault::LineTooLong,
+                line,
+            });
+        }
+        if !is_continued(text) {
+            return self.take_joined(text, line);
+        }
+        match join_continued(&mut self.begun, text) {
+            Err(_) => Err(ObjFail::OutOfMemory),
+            Ok(()) => {
+                self.continued += 1;
+                Ok(())
+            }
         }
     }
 }

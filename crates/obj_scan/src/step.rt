@@ -11,7 +11,7 @@ ghost use Rattle.obj_scan.specs.Meaning.{IsWithin, at_end, meaning_from};
 ghost use Rattle.obj_scan.specs.Reading.{IsReady, IsReading, after_lines, held_of, so_far};
 
 use crate::scan::Scan;
-use crate::scanner::{Scanner, take_line};
+use crate::scanner::Scanner;
 use obj_lines::{LineState, Lines};
 use obj_read::{ObjFail, ObjFault, Progress};
 use pm_io::{Source, Taker};
@@ -63,7 +63,7 @@ pub fn step<S: Source>(
             line: progress.number,
         }),
         LineState::Whole | LineState::Continued => {
-            if let Err(fail) = take_line(scanner, lines.line(), progress.number) {
+            if let Err(fail) = scanner.take_line(lines.line(), progress.number) {
                 return Err(fail);
             }
             progress.start = progress.taken;
@@ -101,7 +101,7 @@ pub fn finish(scanner: Scanner, lines: Lines, progress: Progress) -> Result<Scan
     match lines.finish() {
         LineState::Partial | LineState::TooLong => end(scanner, progress.number),
         LineState::Whole | LineState::Continued => {
-            match take_line(&mut scanner, lines.line(), progress.number) {
+            match scanner.take_line(lines.line(), progress.number) {
                 Ok(()) => end(scanner, progress.number + 1),
                 Err(fail) => Err(fail),
             }

@@ -21,7 +21,7 @@ returns-in-Partial-clause-err c =
 pub returns-in-Ok-clause-ok : goal.returns-in-Ok-clause-ok
 returns-in-Ok-clause-ok c =
     let within : c.args.progress.start + length (open_line c.args.lines) ≤ 1073741824 = omega (arith, c.requires.ready.at, c.requires.ready.room) in
-    let same = last_ok (so_far c.args.progress (held_of c.args.scanner)) _ _ _ _ (held_of c.take_line.new.scanner)
+    let same = last_ok (so_far c.args.progress (held_of c.args.scanner)) _ _ _ _ (held_of c.take_line.new.self)
     (record { at = c.finish.ensures.state; which = c.in-Whole.is; finished = c.finish.ensures.value; clean = c.requires.ready.clean; short = c.requires.ready.short; within = within; is_text = c.line.ensures })
     c.in-Ok.ensures.ok in
     if_ok c.end-in-Ok.result _ _ (λ s is. same ∙ is (c.args.progress.start + length (open_line c.args.lines))) c.end-in-Ok.ensures.ok
@@ -29,7 +29,7 @@ returns-in-Ok-clause-ok c =
 pub returns-in-Ok-clause-err : goal.returns-in-Ok-clause-err
 returns-in-Ok-clause-err c =
     let within : c.args.progress.start + length (open_line c.args.lines) ≤ 1073741824 = omega (arith, c.requires.ready.at, c.requires.ready.room) in
-    let same = last_ok (so_far c.args.progress (held_of c.args.scanner)) _ _ _ _ (held_of c.take_line.new.scanner)
+    let same = last_ok (so_far c.args.progress (held_of c.args.scanner)) _ _ _ _ (held_of c.take_line.new.self)
     (record { at = c.finish.ensures.state; which = c.in-Whole.is; finished = c.finish.ensures.value; clean = c.requires.ready.clean; short = c.requires.ready.short; within = within; is_text = c.line.ensures })
     c.in-Ok.ensures.ok in
     if_err c.end-in-Ok.result _ _ (λ e is. refused_same e _ _ same (is (c.args.progress.start + length (open_line c.args.lines)))) c.end-in-Ok.ensures.err

@@ -1,6 +1,6 @@
 use Rattle.std.proofs.Common.{◌∙◌, arith}
 use Rattle.obj_scan.proofs.ScanLaws.{without_last}
-use Rattle.obj_scan.proofs.scanner.begin.Goals as goal
+use Rattle.obj_scan.proofs.scanner.join_continued.Goals as goal
 
 pub returns : goal.returns
 returns c =
