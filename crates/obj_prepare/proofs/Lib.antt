@@ -3,3 +3,4 @@ pub mod DigitLaws
 pub mod RoundLaws
 pub mod UnitLaws
 pub mod BoxLaws
+pub mod NamedLaws

@@ -1,15 +1,44 @@
 // The vertices that a face names.
-ghost use Rattle.std.specs.Prelude.{◌≡◌, IfOk};
-ghost use Rattle.obj_prepare.specs.Named.{IsWithin, named_in};
+ghost use Rattle.std.specs.Prelude.{◌≡◌, ℕ, List, [], ◌∷◌, ◌++◌, length, IfOk};
+ghost use Rattle.pm_base.specs.declared.mesh.Corners.{Corners as FaceCorners};
+ghost use Rattle.obj_prepare.specs.Named.{AreCorners, IsWithin, named_in};
 
 use crate::OutOfMemory;
 use pm_base::Corners;
-use std::alloc::{AllocError, Global};
+use std::alloc::Global;
 
-/// Of each vertex, whether a face names it.
-pub(crate) fn named(alloc: Global, vertices: usize, faces: &[Corners]) -> Result<Vec<bool>, OutOfMemory>
+/// Of each vertex, whether a face names it. O(V + F) for V vertices and F faces.
+#[tactic(auto, using(crate::proofs::NamedLaws::one_more_named, crate::proofs::NamedLaws::corners_within))]
+pub(crate) fn named(
+    alloc: Global,
+    vertices: usize,
+    faces: &[Corners],
+) -> Result<Vec<bool>, OutOfMemory>
     requires { IsWithin vertices faces.now }
     ensures { IfOk result (λ flags. flags.items ≡ named_in faces.now vertices) }
 {
-    Err(AllocError)
+    let mut flags = unnamed(alloc, vertices)?;
+    for at in 0..faces.len() {
+        name_corners(&mut flags, faces[at]);
+    }
+    Ok(flags)
+}
+
+// A flag for each vertex where no face names one.
+#[tactic(auto, using(crate::proofs::NamedLaws::none_named))]
+fn unnamed(alloc: Global, vertices: usize) -> Result<Vec<bool>, OutOfMemory>
+    ensures { IfOk result (λ flags. flags.items ≡ named_in [] vertices) }
+{
+    vec![in alloc; false; vertices]
+}
+
+// Sets the flags of the corners of one more face.
+#[tactic(auto, using(crate::proofs::NamedLaws::corners_named))]
+fn name_corners(flags: &mut Vec<bool>, face: Corners)
+    requires { AreCorners (length flags.old.items) face }
+    ensures { (before : List FaceCorners) (n : ℕ) → flags.old.items ≡ named_in before n → flags.new.items ≡ named_in (before ++ face ∷ []) n }
+{
+    flags[face.a as usize] = true;
+    flags[face.b as usize] = true;
+    flags[face.c as usize] = true;
 }
