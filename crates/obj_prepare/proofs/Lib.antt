@@ -4,3 +4,4 @@ pub mod RoundLaws
 pub mod UnitLaws
 pub mod BoxLaws
 pub mod NamedLaws
+pub mod PlacingLaws

@@ -1,16 +1,22 @@
 -- Where points come to stand on the grid.
-use Rattle.std.specs.Prelude.{◌≡◌, ℕ, ◌≤◌, Bool, true, false, List, [], ◌∷◌, length, Option, None, Some, IfSome, pos, if◌then◌else◌}
+use Rattle.std.specs.Prelude.{◌≡◌, ℕ, ◌≤◌, Bool, true, List, [], ◌∷◌, length, Option, None, Some, IfSome, pos, if◌then◌else◌}
 use Rattle.std.specs.List.{list_all}
 use Rattle.pm_base.specs.declared.mesh.Corners.{Corners}
 use Rattle.pm_base.specs.Place.{Place}
+use Rattle.obj_prepare.specs.declared.extents.PointBox.{PointBox}
 use Rattle.obj_prepare.specs.declared.placing.Fit.{Fit}
 use Rattle.obj_prepare.specs.declared.placing.Fit.TheVariants as fits
-use Rattle.obj_prepare.specs.Boxes.{box_of, scaled}
+use Rattle.obj_prepare.specs.Boxes.{box_of, scaled, IsInBox}
 use Rattle.obj_prepare.specs.Whole.{stands, whole}
 use Rattle.obj_prepare.specs.Named.{named_in, chosen}
 
 abbrev pub origin : Place
 origin = record { x = pos 0; y = pos 0; z = pos 0 }
+
+-- The box of points, if there are any.
+abbrev pub frame_of : List Place → Option PointBox
+frame_of [] = None
+frame_of (p ∷ ps) = Some (box_of p ps)
 
 -- How points are brought onto the grid: as they stand, where no size is given and all fit, and else by their box. The size
 -- is 32,767 where none is given.
@@ -18,6 +24,11 @@ abbrev pub fit_for : Option ℕ → List Place → Fit
 fit_for size [] = fits.Standing
 fit_for None (p ∷ ps) = if list_all stands (p ∷ ps) then fits.Standing else fits.Scaled 32767 (box_of p ps)
 fit_for (Some size) (p ∷ ps) = fits.Scaled size (box_of p ps)
+
+-- A point that can be brought onto the grid so.
+abbrev pub Suits : Fit → Place → Type 0
+Suits fits.Standing p = stands p ≡ true
+Suits (fits.Scaled size frame) p = (size ≤ 32767) × IsInBox frame p
 
 -- The place of a point.
 abbrev pub placed : Fit → Place → Place

@@ -144,8 +144,8 @@ fn place_z(size: u32, extent: u128, b: &PointBox, p: &ExactPoint) -> i32
     place_along(size, extent, p.z(), b.low.z(), b.high.z())
 }
 
-// The point of the grid with these coordinates.
-fn point(x: i32, y: i32, z: i32) -> Point
+/// The point of the grid with these coordinates.
+pub(crate) fn point(x: i32, y: i32, z: i32) -> Point
     requires x { unsigned_abs x ≤ 32767 }
     requires y { unsigned_abs y ≤ 32767 }
     requires z { unsigned_abs z ≤ 32767 }

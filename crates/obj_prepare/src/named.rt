@@ -36,7 +36,8 @@ fn unnamed(alloc: Global, vertices: usize) -> Result<Vec<bool>, OutOfMemory>
 #[tactic(auto, using(crate::proofs::NamedLaws::corners_named))]
 fn name_corners(flags: &mut Vec<bool>, face: Corners)
     requires { AreCorners (length flags.old.items) face }
-    ensures { (before : List FaceCorners) (n : ℕ) → flags.old.items ≡ named_in before n → flags.new.items ≡ named_in (before ++ face ∷ []) n }
+    ensures { (before : List FaceCorners) (n : ℕ) → flags.old.items ≡ named_in before n
+        → flags.new.items ≡ named_in (before ++ face ∷ []) n }
 {
     flags[face.a as usize] = true;
     flags[face.b as usize] = true;
