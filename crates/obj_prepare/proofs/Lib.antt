@@ -5,3 +5,4 @@ pub mod UnitLaws
 pub mod BoxLaws
 pub mod NamedLaws
 pub mod PlacingLaws
+pub mod JoiningLaws

@@ -5,5 +5,6 @@ pub mod Whole
 pub mod Named
 pub mod Placing
 pub mod Joining
+pub mod Firsts
 pub mod Prepared
 pub mod PrepareFails
