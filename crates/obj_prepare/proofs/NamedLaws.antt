@@ -1,13 +1,13 @@
 -- Flags of the vertices that faces name.
 use Rattle.std.proofs.Common.{◌≡◌, ℕ, zero, suc, ◌+◌, ◌<◌, ◌≤◌, Bool, true, false, ◌||◌, ◌==◌, inl, inr, refl, sym, ap, ◌∙◌, List, [], ◌∷◌, ◌++◌, length, get_or, set, take, replicate, arith}
-use Rattle.std.specs.List.{All, list_any}
+use Rattle.std.specs.List.{All}
 use Rattle.std.proofs.lemmas.Bool.{cases_eq, eq-eqb, ne_eqb}
 use Rattle.std.proofs.lemmas.List.{length-set, length_push, get_or_push, get_or_append_left, get_or-set_same, get_or-set_other, replicate_more, take_more, take_all, ext_get_or}
 use Rattle.std.proofs.lemmas.List.Folds.{list_any-append}
 use Rattle.pm_base.specs.declared.mesh.Corners.{Corners}
 use Rattle.pm_base.specs.Sides.{no_corners}
 use Rattle.pm_fans.specs.Kept.{is_corner}
-use Rattle.obj_prepare.specs.Named.{is_named, named_in, AreCorners}
+use Rattle.obj_prepare.specs.Named.{is_named, named_in, AreCorners, IsWithin}
 
 pub length-named_in : (fs : List Corners) (n : ℕ) → length (named_in fs n) ≡ n
 length-named_in fs zero = refl
@@ -75,10 +75,10 @@ pub corners_named : (flags : List Bool) (f : Corners) (before : List Corners) (n
 corners_named flags f before n is =
     let long : length flags ≡ n = ap length is ∙ length-named_in before n in
     ext_get_or false (with_corners flags f) (named_in (before ++ f ∷ []) n) (length-with_corners flags f ∙ long ∙ sym (length-named_in (before ++ f ∷ []) n)) (λ w l.
-      let low : w < length flags = omega (arith, l, length-with_corners flags f) in
-      let in_n : w < n = omega (arith, low, long) in
-      corner_flag flags f w low ∙ ap (λ b. b || (is_corner f w || false)) (ap (λ xs. get_or xs w false) is ∙ named_at before n w in_n)
-      ∙ sym (list_any-append (λ g. is_corner g w) before (f ∷ [])) ∙ sym (named_at (before ++ f ∷ []) n w in_n))
+    let low : w < length flags = omega (arith, l, length-with_corners flags f) in
+    let in_n : w < n = omega (arith, low, long) in
+    corner_flag flags f w low ∙ ap (λ b. b || (is_corner f w || false)) (ap (λ xs. get_or xs w false) is ∙ named_at before n w in_n)
+    ∙ sym (list_any-append (λ g. is_corner g w) before (f ∷ [])) ∙ sym (named_at (before ++ f ∷ []) n w in_n))
 
 pub one_more_named : (flags : List Bool) (fs : List Corners) (n i : ℕ) → i < length fs → flags ≡ named_in (take i fs ++ get_or fs i no_corners ∷ []) n → flags ≡ named_in (take (i + 1) fs) n
 one_more_named flags fs n i l is = is ∙ ap (λ gs. named_in gs n) (sym (take_more fs i no_corners l))
@@ -95,3 +95,11 @@ corners_within flags fs before n i all l is =
     let b = f.b in
     let c = f.c in
     record { a = omega (arith, a, long); b = omega (arith, b, long); c = omega (arith, c, long) }
+
+one_face : (n : ℕ) (f : Corners) → AreCorners n f → All (AreCorners n) (f ∷ [])
+one_face n f is zero d l = is
+one_face n f is (suc k) d l = absurd (omega (arith, l))
+
+-- One face over few vertices is within the limits.
+pub one_within : (n : ℕ) (f : Corners) → n ≤ 1048576 → AreCorners n f → IsWithin n (f ∷ [])
+one_within n f few is = record { vertices_few = few; faces_few = omega arith; corners = one_face n f is }
