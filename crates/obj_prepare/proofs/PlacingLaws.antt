@@ -5,6 +5,7 @@ use Rattle.std.specs.Option.{MatchOption}
 use Rattle.std.proofs.lemmas.Bool.{cases_Bool, cond-true, cond-false, true≢false, and_parts}
 use Rattle.std.proofs.lemmas.List.{drop_more, drop_all, get_or_default, append-nil, append_assoc}
 use Rattle.std.proofs.lemmas.List.Elements.{All-head, All-tail}
+use Rattle.pm_base.specs.declared.mesh.Corners.{Corners}
 use Rattle.pm_base.specs.Place.{Place}
 use Rattle.obj_prepare.specs.declared.extents.PointBox.{PointBox}
 use Rattle.obj_prepare.specs.declared.placing.Fit.{Fit}
@@ -12,9 +13,10 @@ use Rattle.obj_prepare.specs.declared.placing.Fit.TheVariants as fits
 use Rattle.obj_prepare.specs.Exact.{lower, upper}
 use Rattle.obj_prepare.specs.Boxes.{box_of, least, greatest}
 use Rattle.obj_prepare.specs.Whole.{stands}
-use Rattle.obj_prepare.specs.Named.{chosen}
-use Rattle.obj_prepare.specs.Placing.{origin, frame_of, fit_for, Suits, placed, places_by, IsSize}
+use Rattle.obj_prepare.specs.Named.{chosen, named_in}
+use Rattle.obj_prepare.specs.Placing.{origin, frame_of, fit_for, Suits, placed, places_by, IsSize, fit_of, places_of}
 use Rattle.obj_prepare.proofs.BoxLaws.{box_has}
+use Rattle.obj_prepare.proofs.NamedLaws.{length-named_in}
 
 -- The box of what one has and of more points.
 abbrev pub frame_after : Option PointBox → List Place → Option PointBox
@@ -56,11 +58,15 @@ chosen_has P (false ∷ flags) (p ∷ ps) zero d same l is all = absurd (true≢
 chosen_has P (true ∷ flags) (p ∷ ps) (suc i) d same l is all = chosen_has P flags ps i d (omega (arith, same)) (omega (arith, l)) is (All-tail P p (chosen flags ps) all)
 chosen_has P (false ∷ flags) (p ∷ ps) (suc i) d same l is all = chosen_has P flags ps i d (omega (arith, same)) (omega (arith, l)) is all
 
-pub length-places_by : (fit : Fit) (flags : List Bool) (ps : List Place) → length flags ≡ length ps → length (places_by fit flags ps) ≡ length ps
+length-places_by : (fit : Fit) (flags : List Bool) (ps : List Place) → length flags ≡ length ps → length (places_by fit flags ps) ≡ length ps
 length-places_by fit [] [] same = refl
 length-places_by fit [] (p ∷ ps) same = absurd (omega (arith, same))
 length-places_by fit (f ∷ flags) [] same = absurd (omega (arith, same))
 length-places_by fit (f ∷ flags) (p ∷ ps) same = ap suc (length-places_by fit flags ps (omega (arith, same)))
+
+-- Each point has a place.
+pub length-places_of : (size : Option ℕ) (points : List Place) (faces : List Corners) → length (places_of size points faces) ≡ length points
+length-places_of size points faces = length-places_by (fit_of size points faces) (named_in faces (length points)) points (length-named_in faces (length points))
 
 -- What is left of flags and points, one step on.
 module _ (flags : List Bool) (ps : List Place) (i : ℕ) (p : Place) (same : length flags ≡ length ps) (l : i < length ps) (read : p ≡ get_or ps i p) where

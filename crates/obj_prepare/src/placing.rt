@@ -35,7 +35,7 @@ pub struct Placing {
 
 /// The places of the points that triangles name. Where no size is given and all of them are whole and at most 32,767 in
 /// absolute value, they stand as they are; else the longest axis of their box goes from -size to size, which is 32,767
-/// where none is given. Points that no triangle names stand at 0.
+/// where none is given. Points that no triangle names stand at 0. O(V + F) for V points and F triangles.
 pub fn place_points(
     alloc: Global,
     size: Option<u32>,
