@@ -1,6 +1,7 @@
 -- Flags of the vertices that faces name.
 use Rattle.std.proofs.Common.{◌≡◌, ℕ, zero, suc, ◌+◌, ◌<◌, ◌≤◌, Bool, true, false, ◌||◌, ◌==◌, inl, inr, refl, sym, ap, ◌∙◌, List, [], ◌∷◌, ◌++◌, length, get_or, set, take, replicate, arith}
 use Rattle.std.specs.List.{All}
+use Rattle.std.proofs.Math.Bool.{or_comm, or_assoc}
 use Rattle.std.proofs.lemmas.Bool.{cases_eq, eq-eqb, ne_eqb}
 use Rattle.std.proofs.lemmas.List.{length-set, length_push, get_or_push, get_or_append_left, get_or-set_same, get_or-set_other, replicate_more, take_more, take_all, ext_get_or}
 use Rattle.std.proofs.lemmas.List.Folds.{list_any-append}
@@ -38,22 +39,9 @@ set_flag flags v w l =
     ]
 
 turned : (a b c before : Bool) → (c || (b || (a || before))) ≡ (before || ((a || b || c) || false))
-turned true true true true = refl
-turned true true true false = refl
-turned true true false true = refl
-turned true true false false = refl
-turned true false true true = refl
-turned true false true false = refl
-turned true false false true = refl
-turned true false false false = refl
-turned false true true true = refl
-turned false true true false = refl
-turned false true false true = refl
-turned false true false false = refl
-turned false false true true = refl
-turned false false true false = refl
-turned false false false true = refl
-turned false false false false = refl
+turned a b c before =
+    ap (λ x. c || x) (sym (or_assoc b a before)) ∙ sym (or_assoc c (b || a) before) ∙ ap (λ x. x || before) (or_comm c (b || a) ∙ ap (λ x. x || c) (or_comm b a))
+    ∙ or_comm (a || b || c) before ∙ ap (λ x. before || x) (or_comm false (a || b || c))
 
 abbrev pub with_corners : List Bool → Corners → List Bool
 with_corners flags f = set (set (set flags f.a true) f.b true) f.c true
