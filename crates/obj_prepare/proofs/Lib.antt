@@ -6,3 +6,5 @@ pub mod BoxLaws
 pub mod NamedLaws
 pub mod PlacingLaws
 pub mod JoiningLaws
+pub mod PieceLaws
+pub mod CountLaws

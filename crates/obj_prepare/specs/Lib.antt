@@ -7,4 +7,5 @@ pub mod Placing
 pub mod Joining
 pub mod Firsts
 pub mod Prepared
+pub mod Pieces
 pub mod PrepareFails

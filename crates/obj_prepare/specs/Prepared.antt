@@ -46,17 +46,17 @@ unfoldable pub split_count : List ℕ → List Corners → List ℕ → ℕ
 split_count names faces old = length old - count (is_named (staying names faces)) (length names)
 
 -- What was done, in numbers.
-pub record AreNotes {places : List Place} {faces : List Corners} {m : Mesh} (prepared : IsPrepared places faces m) (notes : Notes) : Type 0 where
-  pub joined : notes.joined ≡ joined_count prepared.names faces
-  pub flat : notes.flat ≡ flat_count prepared.names faces
-  pub double : notes.double ≡ double_count prepared.names faces
-  pub cut : notes.cut ≡ cut_count (net_of (staying prepared.names faces))
-  pub split : notes.split ≡ split_count prepared.names faces prepared.old
+pub record AreNotes (places : List Place) (faces : List Corners) (names old : List ℕ) (notes : Notes) : Type 0 where
+  pub joined : notes.joined ≡ joined_count names faces
+  pub flat : notes.flat ≡ flat_count names faces
+  pub double : notes.double ≡ double_count names faces
+  pub cut : notes.cut ≡ cut_count (net_of (staying names faces))
+  pub split : notes.split ≡ split_count names faces old
   pub unnamed : notes.unnamed ≡ unnamed_count (length places) faces
 
 -- The mesh and the numbers of what was done.
 abbrev pub IsPreparedWith : List Place → List Corners → Mesh → Notes → Type 0
-IsPreparedWith places faces m notes = (p : IsPrepared places faces m) × AreNotes p notes
+IsPreparedWith places faces m notes = (p : IsPrepared places faces m) × AreNotes places faces p.names p.old notes
 
 -- More vertices come out than a mesh may have.
 pub record HasTooMany (places : List Place) (faces : List Corners) : Type 0 where

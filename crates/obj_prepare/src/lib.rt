@@ -1,6 +1,7 @@
 //! What makes any text in the syntax of Wavefront OBJ fit: decimals of any length, and points scaled onto the grid.
 #![tactic(auto)]
 
+mod counting;
 mod decimal;
 mod digits;
 mod exact;

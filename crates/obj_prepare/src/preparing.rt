@@ -1,15 +1,26 @@
 // What becomes of triangles over placed vertices.
-ghost use Rattle.std.specs.Prelude.{◌≡◌, ◌≤◌, length, IfOk, IfErr};
+ghost use Rattle.std.specs.Prelude.{◌≡◌, ◌≤◌, ◌<◌, length, map, IfOk, IfErr};
 ghost use Rattle.pm_base.specs.Meshes.{IsWellFormed, mesh_of};
 ghost use Rattle.pm_base.specs.Sides.{net_of};
 ghost use Rattle.pm_base.specs.Fans.{IsOrientedManifold};
+ghost use Rattle.std.specs.List.{All};
 ghost use Rattle.obj_prepare.specs.Named.{IsWithin};
-ghost use Rattle.obj_prepare.specs.Prepared.{IsPreparedWith, HasTooMany};
+ghost use Rattle.obj_prepare.specs.Joining.{place_at};
+ghost use Rattle.obj_prepare.specs.Prepared.{IsPreparedWith, AreNotes, HasTooMany};
 ghost use Rattle.obj_prepare.specs.PrepareFails.{IsPrepareFail};
+ghost use Rattle.obj_prepare.specs.Pieces.{ArePieces};
 
+use crate::OutOfMemory;
+use crate::counting::{count_flat, count_joined, count_set};
+use crate::joining::{joined, joined_faces};
+use crate::named::named;
 use crate::notes::Notes;
-use pm_base::{Corners, Mesh, Point};
+use pm_base::{Corners, Items, Mesh, Point, Points};
+use pm_fans::{Split, cut_sides, kept, split_by_fans};
 use std::alloc::Global;
+
+// The most vertices of a mesh.
+const MOST: usize = 1_048_576;
 
 /// A mesh that is an oriented manifold, and what was done to come there.
 #[derive(Drop)]
@@ -27,6 +38,93 @@ pub enum PrepareFail {
     OutOfMemory,
 }
 
+// The joined vertices, the faces over them, those that stay, and these with split vertices.
+#[derive(Drop)]
+struct Pieces {
+    names: Vec<u32>,
+    renamed: Vec<Corners>,
+    stay: Vec<Corners>,
+    split: Split,
+}
+
+fn cut_up(alloc: Global, places: &[Point], faces: &[Corners]) -> Result<Pieces, OutOfMemory>
+    requires { IsWithin (length places.now) faces.now }
+    ensures { IfOk result (λ p. ArePieces places.now faces.now p.names.items p.renamed.items p.stay.items p.split.faces.items p.split.old.items) }
+{
+    let names = joined(alloc, places, faces)?;
+    let renamed = joined_faces(alloc, &names, faces)?;
+    let stay = kept(alloc, &renamed)?;
+    let split = split_by_fans(alloc, &stay)?;
+    Ok(Pieces {
+        names,
+        renamed,
+        stay,
+        split,
+    })
+}
+
+// What was done, in numbers.
+fn count_up(
+    alloc: Global,
+    places: &[Point],
+    faces: &[Corners],
+    p: &Pieces,
+) -> Result<Notes, OutOfMemory>
+    requires within { IsWithin (length places.now) faces.now }
+    requires pieces { ArePieces places.now faces.now p.now.names.items p.now.renamed.items p.now.stay.items p.now.split.faces.items p.now.split.old.items }
+    requires few { length p.now.split.old.items ≤ 1048576 }
+    ensures { IfOk result (λ notes. AreNotes places.now faces.now p.now.names.items p.now.split.old.items notes) }
+{
+    let before = named(alloc, places.len(), faces)?;
+    let after = named(alloc, places.len(), &p.stay)?;
+    let flat = count_flat(&p.renamed);
+    Ok(Notes {
+        joined: count_joined(&before, &p.names),
+        flat,
+        double: (faces.len() as u32)
+            .saturating_sub(flat)
+            .saturating_sub(p.stay.len() as u32),
+        cut: cut_sides(alloc, &p.stay)?,
+        split: (p.split.old.len() as u32).saturating_sub(count_set(&after)),
+        unnamed: (places.len() as u32).saturating_sub(count_set(&before)),
+    })
+}
+
+// A list in the form that a mesh has.
+fn held<T: Copy>(alloc: Global, items: &[T]) -> Result<Items<T>, OutOfMemory>
+    ensures { IfOk result (λ list. list.items ≡ items.now) }
+{
+    let mut list = Items::new(alloc);
+    list.reserve(items.len())?;
+    for item in items {
+        list.push(*item)?;
+    }
+    Ok(list)
+}
+
+// The points where the joined vertices stand of which the new ones come.
+fn points_of(alloc: Global, places: &[Point], old: &[u32]) -> Result<Points, OutOfMemory>
+    requires { All (λ v. v < length places.now) old.now }
+    ensures { IfOk result (λ points. points.items ≡ map (place_at places.now) old.now) }
+{
+    let mut points = Points::new(alloc);
+    points.reserve(old.len())?;
+    for v in old {
+        points.push(places[*v as usize])?;
+    }
+    Ok(points)
+}
+
+fn mesh_of_split(alloc: Global, places: &[Point], split: &Split) -> Result<Mesh, OutOfMemory>
+    requires { All (λ v. v < length places.now) split.now.old.items }
+    ensures points { IfOk result (λ m. m.points.items ≡ map (place_at places.now) split.now.old.items) }
+    ensures faces { IfOk result (λ m. m.faces.items ≡ split.now.faces.items) }
+{
+    let points = points_of(alloc, places, &split.old)?;
+    let faces = held(alloc, &split.faces)?;
+    Ok(Mesh { points, faces })
+}
+
 /// Makes an oriented manifold of triangles over placed vertices: vertices at one place are joined; triangles go that
 /// became edges, and those whose three corners an earlier one has; the surface is cut open along every side that stands
 /// twice or has two twins, and each vertex is split into what is left of its fans. O(F log F) for F triangles.
@@ -37,5 +135,17 @@ pub fn prepare(alloc: Global, places: &[Point], faces: &[Corners]) -> Result<Pre
     ensures manifold { IfOk result (λ p. IsOrientedManifold (net_of p.mesh.faces.items)) }
     ensures err { IfErr result (IsPrepareFail places.now faces.now) }
 {
-    Err(PrepareFail::OutOfMemory)
+    let Ok(pieces) = cut_up(alloc, places, faces) else {
+        return Err(PrepareFail::OutOfMemory);
+    };
+    if pieces.split.old.len() > MOST {
+        return Err(PrepareFail::TooMany);
+    }
+    let Ok(notes) = count_up(alloc, places, faces, &pieces) else {
+        return Err(PrepareFail::OutOfMemory);
+    };
+    match mesh_of_split(alloc, places, &pieces.split) {
+        Ok(mesh) => Ok(Prepared { mesh, notes }),
+        Err(_) => Err(PrepareFail::OutOfMemory),
+    }
 }

@@ -47,8 +47,8 @@ fn keep(
     Ok(())
 }
 
-// Whether two corners are one: the face became an edge, or a point.
-fn is_flat(face: Corners) -> bool
+/// Whether two corners are one: the face became an edge, or a point.
+pub fn is_flat(face: Corners) -> bool
     ensures { result ≡ is_flat_of face }
 {
     face.a == face.b || face.b == face.c || face.c == face.a

@@ -15,7 +15,7 @@ mod theory;
 
 pub use cutting::cut_sides;
 pub use glue::glued_sides;
-pub use keeping::kept;
+pub use keeping::{is_flat, kept};
 pub use split::{Split, split_by_fans};
 use std::alloc::AllocError;
 pub use theory::splits_are_sound;

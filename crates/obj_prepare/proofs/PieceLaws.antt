@@ -1,0 +1,248 @@
+-- What is made of placed vertices and triangles is a well-formed oriented manifold.
+use Rattle.std.proofs.Common.{◌≡◌, ◌≢◌, ℕ, zero, suc, ◌+◌, ◌*◌, ◌/◌, ◌%◌, ◌<◌, ◌≤◌, Bool, true, false, not, ◌==◌, ◌||◌, List, [], ◌∷◌, ◌++◌, length, map, refl, sym, ◌∙◌, ap, subst, inl, inr, arith}
+use Rattle.std.specs.Prelude.{slice_index_or}
+use Rattle.std.specs.List.{All, list_any}
+use Rattle.std.proofs.lemmas.Bool.{cases_Bool, cond-true, cond-false, or_cases, or_left, or_right, eqb-true}
+use Rattle.std.proofs.lemmas.List.{length-map, length-append}
+use Rattle.std.proofs.lemmas.List.Elements.{All-nil, All-cons, All-head, All-tail, All-append, All-get_or, All-from_get_or}
+use Rattle.pm_base.specs.declared.mesh.Corners.{Corners}
+use Rattle.pm_base.specs.Place.{Place}
+use Rattle.pm_base.specs.Meshes.{Mesh, IsFace, IsWellFormed}
+use Rattle.pm_base.specs.Sides.{Net, net_of, side_count, corner_in, no_corners, to, Stands}
+use Rattle.pm_base.specs.Fans.{IsOrientedManifold}
+use Rattle.pm_base.proofs.Sides.{next_cases}
+use Rattle.pm_base.proofs.NetLaws.{face_at, first_side, second_side, third_side}
+use Rattle.pm_fans.specs.Splits.{AllStand, NoMirror, IsCuttable, IsSplitByFans}
+use Rattle.pm_fans.specs.Orders.{IsSplit}
+use Rattle.pm_fans.specs.Kept.{is_flat, is_corner, is_kept, kept_after, kept_of}
+use Rattle.pm_fans.specs.Laws.{KeptAreFit}
+use Rattle.pm_fans.proofs.KeptLaws.{kept_are_fit}
+use Rattle.pm_fans.proofs.Splitting.{splits_make_manifolds}
+use Rattle.pm_fans.proofs.Turned.{corner_a, corner_b, corner_c}
+use Rattle.obj_prepare.specs.declared.notes.Notes.{Notes}
+use Rattle.obj_prepare.specs.Named.{is_named, AreCorners, IsWithin}
+use Rattle.obj_prepare.specs.Joining.{place_at, AreJoined, renamed, joined_faces}
+use Rattle.obj_prepare.specs.Prepared.{staying, AreNotes, IsPreparedWith, HasTooMany}
+use Rattle.obj_prepare.specs.Pieces.{ArePieces}
+
+-- A vertex that a face names is one of the vertices.
+
+corner_low : (n : ℕ) (f : Corners) (v : ℕ) → AreCorners n f → is_corner f v ≡ true → v < n
+corner_low n f v are is =
+    elim (or_cases (f.a == v || f.b == v) (f.c == v) is) [
+      | inl ab ↦
+          elim (or_cases (f.a == v) (f.b == v) ab) [
+            | inl a ↦ subst (λ k. k < n) (eqb-true _ _ a) are.a
+            | inr b ↦ subst (λ k. k < n) (eqb-true _ _ b) are.b
+          ]
+      | inr c ↦ subst (λ k. k < n) (eqb-true _ _ c) are.c
+    ]
+
+pub named_low : (n : ℕ) (fs : List Corners) (v : ℕ) → All (AreCorners n) fs → is_named fs v ≡ true → v < n
+named_low n [] v are is = absurd cc
+named_low n (f ∷ fs) v are is =
+    elim (cases_Bool (is_corner f v)) [
+      | inl t ↦ corner_low n f v (All-head (AreCorners n) f fs are) t
+      | inr none ↦ named_low n fs v (All-tail (AreCorners n) f fs are) (rw none at is)
+    ]
+
+-- Each corner of a face is named.
+
+record AreNamed (faces : List Corners) (f : Corners) : Type 0 where
+  a : is_named faces f.a ≡ true
+  b : is_named faces f.b ≡ true
+  c : is_named faces f.c ≡ true
+
+more_named : (g f : Corners) (fs : List Corners) → AreNamed fs f → AreNamed (g ∷ fs) f
+more_named g f fs are = record {
+  a = or_right (is_corner g f.a) (is_named fs f.a) are.a;
+  b = or_right (is_corner g f.b) (is_named fs f.b) are.b;
+  c = or_right (is_corner g f.c) (is_named fs f.c) are.c;
+}
+
+first_named : (f : Corners) (fs : List Corners) → AreNamed (f ∷ fs) f
+first_named f fs = record {
+  a = or_left (is_corner f f.a) (is_named fs f.a) (corner_a f f.a refl);
+  b = or_left (is_corner f f.b) (is_named fs f.b) (corner_b f f.b refl);
+  c = or_left (is_corner f f.c) (is_named fs f.c) (corner_c f f.c refl);
+}
+
+corners_named : (fs : List Corners) (i : ℕ) → i < length fs → AreNamed fs (face_at fs i)
+corners_named [] i l = absurd (omega arith)
+corners_named (f ∷ fs) zero l = first_named f fs
+corners_named (f ∷ fs) (suc i) l = more_named f (face_at fs i) fs (corners_named fs i (omega arith))
+
+-- The faces over joined vertices.
+
+joined_low : (places : List Place) (faces : List Corners) (names : List ℕ) → IsWithin (length places) faces → AreJoined places faces names → (v : ℕ) → is_named faces v ≡ true → slice_index_or names v 0 < length places
+joined_low places faces names within are v is =
+    named_low (length places) faces _ within.corners (are.each v (named_low (length places) faces v within.corners is) is).named
+
+all_renamed : (places : List Place) (faces fs : List Corners) (names : List ℕ) → IsWithin (length places) faces → AreJoined places faces names → All (AreNamed faces) fs → All (AreCorners (length places)) (joined_faces names fs)
+all_renamed places faces [] names within are all = All-nil (AreCorners (length places))
+all_renamed places faces (f ∷ fs) names within are all =
+    let here = All-head (AreNamed faces) f fs all in
+    let face : AreCorners (length places) (renamed names f) = record {
+      a = joined_low places faces names within are f.a here.a;
+      b = joined_low places faces names within are f.b here.b;
+      c = joined_low places faces names within are f.c here.c;
+    } in
+    All-cons (AreCorners (length places)) (renamed names f) (joined_faces names fs) face (all_renamed places faces fs names within are (All-tail (AreNamed faces) f fs all))
+
+pub renamed_within : (places : List Place) (faces : List Corners) (names : List ℕ) → IsWithin (length places) faces → AreJoined places faces names → IsWithin (length places) (joined_faces names faces)
+renamed_within places faces names within are = record {
+  vertices_few = within.vertices_few;
+  faces_few = rw (length-map faces (renamed names)) within.faces_few;
+  corners = all_renamed places faces faces names within are (All-from_get_or (AreNamed faces) faces no_corners (λ i l. corners_named faces i l));
+}
+
+-- Faces that stay are among the faces.
+
+kept_after_all : (P : Corners → Type 0) (before fs : List Corners) → All P before → All P fs → All P (kept_after before fs)
+kept_after_all P before [] all more = all
+kept_after_all P before (f ∷ fs) all more =
+    let rest = All-tail P f fs more in
+    elim (cases_Bool (is_kept before f)) [
+      | inl t ↦ subst (All P) (sym (cond-true _ _ _ t)) (kept_after_all P (before ++ f ∷ []) fs (All-append P before (f ∷ []) all (All-cons P f [] (All-head P f fs more) (All-nil P))) rest)
+      | inr n ↦ subst (All P) (sym (cond-false _ _ _ n)) (kept_after_all P before fs all rest)
+    ]
+
+kept_after_length : (before fs : List Corners) → length (kept_after before fs) ≤ length before + length fs
+kept_after_length before [] = omega arith
+kept_after_length before (f ∷ fs) =
+    elim (cases_Bool (is_kept before f)) [
+      | inl t ↦ omega (arith, ap length (cond-true (is_kept before f) (kept_after (before ++ f ∷ []) fs) (kept_after before fs) t), kept_after_length (before ++ f ∷ []) fs, length-append before (f ∷ []))
+      | inr n ↦ omega (arith, ap length (cond-false (is_kept before f) (kept_after (before ++ f ∷ []) fs) (kept_after before fs) n), kept_after_length before fs)
+    ]
+
+pub kept_within : (n : ℕ) (fs : List Corners) → IsWithin n fs → IsWithin n (kept_of fs)
+unfolding kept_of
+kept_within n fs within = record {
+  vertices_few = within.vertices_few;
+  faces_few = omega (arith, kept_after_length [] fs, within.faces_few);
+  corners = kept_after_all (AreCorners n) [] fs (All-nil (AreCorners n)) within.corners;
+}
+
+corner_in_low : (n : ℕ) (f : Corners) (i : ℕ) → AreCorners n f → corner_in f i < n
+corner_in_low n f i are =
+    elim (cases_Bool (i == 0)) [
+      | inl a ↦ subst (λ k. k < n) (sym (cond-true (i == 0) f.a _ a)) are.a
+      | inr other ↦
+          subst (λ k. k < n) (sym (cond-false (i == 0) f.a _ other)) (elim (cases_Bool (i == 1)) [
+            | inl b ↦ subst (λ k. k < n) (sym (cond-true (i == 1) f.b f.c b)) are.b
+            | inr c ↦ subst (λ k. k < n) (sym (cond-false (i == 1) f.b f.c c)) are.c
+          ])
+    ]
+
+side_low : (n : ℕ) (fs : List Corners) → IsWithin n fs → (e : ℕ) → e < side_count (net_of fs) → (net_of fs).from e < n
+side_low n fs within e l = corner_in_low n (face_at fs (e / 3)) (e % 3) (All-get_or (AreCorners n) fs (e / 3) no_corners (omega arith) within.corners)
+
+pub kept_cuttable : KeptAreFit → (n : ℕ) (fs : List Corners) → IsWithin n fs → IsCuttable (net_of (kept_of fs))
+kept_cuttable fit n fs within =
+    let stay = kept_within n fs within in
+    record {
+      short = stay.faces_few;
+      stand = (fit fs).0;
+      low = λ e l. omega (arith, side_low n (kept_of fs) stay e l, within.vertices_few);
+    }
+
+-- Split vertices.
+
+pub old_low : (n : ℕ) (fs split : List Corners) (old : List ℕ) → IsWithin n fs → IsSplit (net_of fs) split old → All (λ v. v < n) old
+old_low n fs split old within is = All-from_get_or (λ v. v < n) old 0 (λ v l.
+    let (e, stands, at) = is.used v l in
+    let low : e < side_count (net_of fs) = subst (λ k. e < 3 * k) is.split.faces stands.is_side in
+    subst (λ k. k < n) (sym (is.back e low) ∙ ap (λ k. slice_index_or old k 0) at) (side_low n fs within e low))
+
+-- Two corners of a new face that are one were one before.
+apart_new : (m : Net) (split : List Corners) (old : List ℕ) → IsSplit m split old → (e g : ℕ) → e < side_count m → g < side_count m → m.from e ≢ m.from g → (net_of split).from e ≢ (net_of split).from g
+apart_new m split old is e g el gl differ same = differ (sym (is.back e el) ∙ ap (λ k. slice_index_or old k 0) same ∙ is.back g gl)
+
+new_face : (m : Net) (split : List Corners) (old : List ℕ) → AllStand m → IsSplit m split old → (f : ℕ) → f < length split → IsFace (length old) (face_at split f)
+new_face m split old stand is f l =
+    let n : Net = net_of split in
+    let same : length split ≡ m.faces = is.split.faces in
+    let one : 3 * f < side_count m = omega (arith, same) in
+    let two : 3 * f + 1 < side_count m = omega (arith, same) in
+    let three : 3 * f + 2 < side_count m = omega (arith, same) in
+    let first = first_side split f in
+    let second = second_side split f in
+    let last = third_side split f in
+    let i = next_cases (3 * f) in
+    let j = next_cases (3 * f + 1) in
+    let k = next_cases (3 * f + 2) in
+    let ab = apart_new m split old is (3 * f) (3 * f + 1) one two (λ e. (stand (3 * f) one).first (e ∙ ap m.from (omega arith))) in
+    let bc = apart_new m split old is (3 * f + 1) (3 * f + 2) two three (λ e. (stand (3 * f + 1) two).first (e ∙ ap m.from (omega arith))) in
+    let ca = apart_new m split old is (3 * f + 2) (3 * f) three one (λ e. (stand (3 * f + 2) three).first (e ∙ ap m.from (omega arith))) in
+    record {
+      a = subst (λ v. v < length old) first.0 (is.within (3 * f) one);
+      b = subst (λ v. v < length old) second.0 (is.within (3 * f + 1) two);
+      c = subst (λ v. v < length old) last.0 (is.within (3 * f + 2) three);
+      ab = λ e. ab (first.0 ∙ e ∙ sym second.0);
+      bc = λ e. bc (second.0 ∙ e ∙ sym last.0);
+      ca = λ e. ca (last.0 ∙ e ∙ sym first.0);
+    }
+
+pub split_formed : (m : Net) (split : List Corners) (old : List ℕ) (points : List Place) → m.faces ≤ 1048576 → AllStand m → IsSplit m split old → length points ≡ length old → length old ≤ 1048576 → IsWellFormed (record { points = points; faces = split })
+split_formed m split old points short stand is len few = record {
+  points = omega (arith, len, few);
+  faces = omega (arith, is.split.faces, short);
+  corners = rw len (All-from_get_or (IsFace (length old)) split no_corners (λ f l. new_face m split old stand is f l));
+}
+
+-- What is known of the pieces.
+
+pub joined_cuttable : (places : List Place) (faces : List Corners) (names again : List ℕ) (renamed renamed_again stay : List Corners) → IsWithin (length places) faces → AreJoined places faces names → again ≡ names → renamed ≡ joined_faces again faces
+    → renamed_again ≡ renamed → stay ≡ kept_of renamed_again → IsCuttable (net_of stay)
+joined_cuttable places faces names again renamed renamed_again stay within are same is same_faces kept =
+    rw (kept, same_faces, is, same) (kept_cuttable kept_are_fit (length places) (joined_faces names faces) (renamed_within places faces names within are))
+
+module _ {places : List Place} {faces : List Corners} {names : List ℕ} {renamed stay split : List Corners} {old : List ℕ} (within : IsWithin (length places) faces) (pieces : ArePieces places faces names renamed stay split old) where
+  pub pieces_names : length names ≡ length places
+  pieces_names = pieces.joined.all
+
+  staying_within : IsWithin (length places) (staying names faces)
+  staying_within = kept_within (length places) (joined_faces names faces) (renamed_within places faces names within pieces.joined)
+
+  pub pieces_stay : IsWithin (length places) stay
+  pieces_stay = subst (IsWithin (length places)) (sym pieces.stay_is) staying_within
+
+  pub pieces_cuttable : IsCuttable (net_of stay)
+  pieces_cuttable = subst (λ (fs : List Corners). IsCuttable (net_of fs)) (sym pieces.stay_is) (kept_cuttable kept_are_fit (length places) (joined_faces names faces) (renamed_within places faces names within pieces.joined))
+
+  pub pieces_old : All (λ v. v < length places) old
+  pieces_old = old_low (length places) stay split old pieces_stay pieces.split_is
+
+  pub pieces_manifold : IsOrientedManifold (net_of split)
+  pieces_manifold =
+      let fit = kept_are_fit (joined_faces names faces) in
+      splits_make_manifolds (net_of (staying names faces)) (net_of split) fit.0 fit.1 (subst (λ (fs : List Corners). IsSplitByFans (net_of fs) (net_of split)) pieces.stay_is pieces.split_is.split)
+
+  pub pieces_formed : (points : List Place) (fs : List Corners) → points ≡ map (place_at places) old → fs ≡ split → length old ≤ 1048576 → IsWellFormed (record { points = points; faces = fs })
+  pieces_formed points fs is same few =
+      rw same (split_formed (net_of stay) split old points pieces_cuttable.short pieces_cuttable.stand pieces.split_is (ap length is ∙ length-map old (place_at places)) few)
+
+  pub pieces_made : (points : List Place) (fs : List Corners) (notes : Notes) → points ≡ map (place_at places) old → fs ≡ split → AreNotes places faces names old notes → IsPreparedWith places faces (record { points = points; faces = fs }) notes
+  pieces_made points fs notes is same are = (
+    record {
+      names = names;
+      joined = pieces.joined;
+      old = old;
+      split = rw same (subst (λ (gs : List Corners). IsSplit (net_of gs) split old) pieces.stay_is pieces.split_is);
+      stand = is;
+    },
+    are,
+  )
+
+  pub pieces_too_many : 1048576 < length old → HasTooMany places faces
+  pieces_too_many many = record {
+    mesh = record { points = map (place_at places) old; faces = split };
+    prepared = record {
+      names = names;
+      joined = pieces.joined;
+      old = old;
+      split = subst (λ (gs : List Corners). IsSplit (net_of gs) split old) pieces.stay_is pieces.split_is;
+      stand = refl;
+    };
+    many = omega (arith, length-map old (place_at places), many);
+  }

@@ -1,0 +1,23 @@
+-- What is made of placed vertices and triangles before their points are gathered.
+use Rattle.std.specs.Prelude.{◌≡◌, ◌==◌, ◌&&◌, not, ℕ, Bool, false, List, slice_index_or}
+use Rattle.pm_base.specs.declared.mesh.Corners.{Corners}
+use Rattle.pm_base.specs.Place.{Place}
+use Rattle.pm_base.specs.Sides.{net_of}
+use Rattle.pm_base.specs.Counts.{count}
+use Rattle.pm_fans.specs.Orders.{IsSplit}
+use Rattle.obj_prepare.specs.Joining.{AreJoined, joined_faces}
+use Rattle.obj_prepare.specs.Prepared.{staying}
+
+-- The joined vertices, the faces over them, those that stay, and these with split vertices.
+pub record ArePieces (places : List Place) (faces : List Corners) (names : List ℕ) (renamed stay split : List Corners) (old : List ℕ) : Type 0 where
+  pub joined : AreJoined places faces names
+  pub renamed_is : renamed ≡ joined_faces names faces
+  pub stay_is : stay ≡ staying names faces
+  pub split_is : IsSplit (net_of stay) split old
+
+-- How many of the first n flags are set, and how many vertices among them have another one that stands for them.
+unfoldable pub set_below : List Bool → ℕ → ℕ
+set_below flags n = count (λ v. slice_index_or flags v false) n
+
+unfoldable pub joined_below : List Bool → List ℕ → ℕ → ℕ
+joined_below flags names n = count (λ v. slice_index_or flags v false && not (slice_index_or names v 0 == v)) n
