@@ -1,3 +1,6 @@
+ghost use Rattle.std.specs.Prelude.{◌≡◌};
+ghost use Rattle.obj_read.specs.Numbers.{number_of};
+
 use thiserror::Error;
 
 /// What is wrong with a line. A line with several faults is refused for the first one by the order of the OBJ profile,
@@ -24,6 +27,26 @@ pub enum ObjFault {
     TooMany,
     #[error("two corners of the face are the same vertex")]
     RepeatedCorner,
+}
+
+impl ObjFault {
+    /// The number by which programs tell the fault: from 1 to 10.
+    pub fn number(self) -> u32
+        ensures { result ≡ number_of self }
+    {
+        match self {
+            ObjFault::LineTooLong => 1,
+            ObjFault::Continuation => 2,
+            ObjFault::TooFewFields => 3,
+            ObjFault::BadNumber => 4,
+            ObjFault::NotWhole => 5,
+            ObjFault::OutOfRange => 6,
+            ObjFault::BadIndex => 7,
+            ObjFault::NotTriangle => 8,
+            ObjFault::TooMany => 9,
+            ObjFault::RepeatedCorner => 10,
+        }
+    }
 }
 
 /// Why a text gave no mesh.

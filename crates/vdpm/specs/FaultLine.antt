@@ -1,27 +1,13 @@
 -- The line that is said on the error sink where a command ends early.
 use Rattle.std.specs.Prelude.{ℕ, List, ◌++◌, codes}
 use Rattle.std.specs.Fmt.{decimal}
-use Rattle.obj_read.specs.declared.fault.ObjFault.{ObjFault}
-use Rattle.obj_read.specs.declared.fault.ObjFault.TheVariants as obj
+use Rattle.obj_read.specs.Numbers.{number_of}
 use Rattle.pm_format.specs.declared.fault.FormatError.{FormatError}
 use Rattle.pm_format.specs.declared.fault.FormatError.TheVariants as format
 use Rattle.vdpm.specs.declared.fault.Fault.{Fault}
 use Rattle.vdpm.specs.declared.fault.Fault.TheVariants as faults
 use Rattle.vdpm.specs.declared.fault.CommandFail.{CommandFail}
 use Rattle.vdpm.specs.declared.fault.CommandFail.TheVariants as fails
-
--- The number of a fault of an OBJ text.
-abbrev pub number_of : ObjFault → ℕ
-number_of obj.LineTooLong = 1
-number_of obj.Continuation = 2
-number_of obj.TooFewFields = 3
-number_of obj.BadNumber = 4
-number_of obj.NotWhole = 5
-number_of obj.OutOfRange = 6
-number_of obj.BadIndex = 7
-number_of obj.NotTriangle = 8
-number_of obj.TooMany = 9
-number_of obj.RepeatedCorner = 10
 
 -- The line of a fault with a place: a word for what is counted, and its number.
 unfoldable pub line_at : ℕ → List ℕ → ℕ → List ℕ

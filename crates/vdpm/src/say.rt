@@ -1,10 +1,9 @@
 // What is said on the error sink.
 ghost use Rattle.std.specs.Prelude.{◌≡◌, ◌≤◌, [], length};
-ghost use Rattle.vdpm.specs.FaultLine.{line_at, line_of, stream_line, fault_line, fail_line, number_of};
+ghost use Rattle.vdpm.specs.FaultLine.{line_at, line_of, stream_line, fault_line, fail_line};
 ghost use Rattle.vdpm.specs.Ending.{Said, status_of};
 
 use crate::fault::{CommandFail, Fault};
-use obj_read::ObjFault;
 use pm_format::FormatError;
 use pm_io::{Line, Sink, put_all};
 
@@ -13,24 +12,6 @@ pub fn say<E: Sink>(err: &mut E, text: &[u8])
     ensures { Said (E.got err.old) (E.got err.new) (E.faults err.old) (E.faults err.new) text.now }
 {
     let _ = put_all(err, text);
-}
-
-// The number of a fault of an OBJ text.
-fn number_of(fault: ObjFault) -> u32
-    ensures { result ≡ number_of fault }
-{
-    match fault {
-        ObjFault::LineTooLong => 1,
-        ObjFault::Continuation => 2,
-        ObjFault::TooFewFields => 3,
-        ObjFault::BadNumber => 4,
-        ObjFault::NotWhole => 5,
-        ObjFault::OutOfRange => 6,
-        ObjFault::BadIndex => 7,
-        ObjFault::NotTriangle => 8,
-        ObjFault::TooMany => 9,
-        ObjFault::RepeatedCorner => 10,
-    }
 }
 
 // The line of a fault with a place: a word for what is counted, and its number.
@@ -92,7 +73,7 @@ fn put_fault(line: &mut Line, fault: Fault)
         Fault::BadLine(number) => put_place(line, 30, b"line", number),
         Fault::NoRecord(number) => put_place(line, 31, b"line", number),
         Fault::ScriptTooLong => put_number(line, 32),
-        Fault::Obj(fault, number) => put_place(line, number_of(fault), b"line", u64::from(number)),
+        Fault::Obj(fault, number) => put_place(line, fault.number(), b"line", u64::from(number)),
         Fault::EdgeTwice(face) => put_place(line, 11, b"face", u64::from(face)),
         Fault::NotFan(vertex) => put_place(line, 12, b"vertex", u64::from(vertex)),
     }
