@@ -3,123 +3,23 @@ ghost use Rattle.pm_forest.specs.Forest.{node_count};
 
 use crate::{Bounds, NormalBox};
 use pm_base::{NodeId, Normal};
-use pm_forest::{Face, Head, Hierarchy, Shaper, UnitKind};
+use pm_forest::Hierarchy;
+use pm_samples::{Unit, face, head, octahedron, shaped};
 use std::alloc::Global;
 use std::test::Fail;
 
-// A unit of a hierarchy as a stream has it.
-#[derive(Clone, Copy)]
-enum Unit {
-    Root([i32; 3], u32, u32),
-    Base(Face),
-    Head(Head),
-    Face(Face, u32, u32),
-}
-
-fn face(a: u32, b: u32, c: u32, input: u32) -> Face {
-    Face { a, b, c, input }
-}
-
-// Whether the unit is the next one and was taken in.
-fn take(shaper: &mut Shaper, unit: Unit) -> bool {
-    match (shaper.expects(), unit) {
-        (UnitKind::Root, Unit::Root(place, width, input)) => {
-            shaper.add_root(place, width, input).is_ok()
-        }
-        (UnitKind::Base, Unit::Base(face)) => shaper.add_base(face).is_ok(),
-        (UnitKind::Head, Unit::Head(head)) => shaper.add_head(head).is_ok(),
-        (UnitKind::LeftFace | UnitKind::RightFace, Unit::Face(face, first, second)) => {
-            shaper.add_face(face, first, second).is_ok()
-        }
-        _ => false,
-    }
-}
-
-// The hierarchy with these counts of leaves, roots, base faces and records, and with these units.
-fn hierarchy(alloc: Global, counts: [u32; 4], units: &[Unit]) -> Result<Hierarchy, Fail> {
-    let [leaves, roots, bases, records] = counts;
-    let Ok(mut shaper) = Shaper::new(alloc, leaves, roots, bases, records) else {
-        return Err(Fail::new("these counts are refused"));
-    };
-    for unit in units {
-        if !take(&mut shaper, *unit) {
-            return Err(Fail::new("a unit is refused"));
-        }
-    }
-    match shaper.expects() {
-        UnitKind::Nothing => shaper
-            .done()
-            .map_err(|_| Fail::new("an input number is refused")),
-        _ => Err(Fail::new("a unit is missing")),
-    }
-}
-
-fn octahedron(alloc: Global) -> Result<Hierarchy, Fail> {
-    let heads = [
-        Head {
-            s: 3,
-            width: 1,
-            t: [-100, 0, 0],
-            t_input: 2,
-            u: [0, 0, 100],
-            u_input: 5,
-            presence: 3,
-        },
-        Head {
-            s: 2,
-            width: 1,
-            t: [100, 0, 0],
-            t_input: 1,
-            u: [0, 100, 0],
-            u_input: 3,
-            presence: 3,
-        },
-    ];
-    hierarchy(
-        alloc,
-        [6, 4, 4, 2],
-        &[
-            Unit::Root([0, -100, 0], 1, 4),
-            Unit::Root([0, 0, -100], 1, 6),
-            Unit::Root([50, 50, 0], 2, 0),
-            Unit::Root([-50, 0, 50], 2, 0),
-            Unit::Base(face(0, 2, 5, 4)),
-            Unit::Base(face(4, 3, 1, 6)),
-            Unit::Base(face(0, 4, 1, 7)),
-            Unit::Base(face(2, 0, 1, 8)),
-            Unit::Head(heads[0]),
-            Unit::Face(face(3, 4, 5, 2), 2, 4),
-            Unit::Face(face(4, 0, 5, 3), 7, 3),
-            Unit::Head(heads[1]),
-            Unit::Face(face(2, 3, 5, 1), 15, 2),
-            Unit::Face(face(3, 2, 1, 5), 12, 5),
-        ],
-    )
-}
-
 // A square of two faces, one vertex of which was merged into another, and a vertex without faces.
 fn square(alloc: Global) -> Result<Hierarchy, Fail> {
-    hierarchy(
-        alloc,
-        [5, 4, 1, 1],
-        &[
-            Unit::Root([0, 10, 0], 1, 3),
-            Unit::Root([10, 10, 0], 1, 4),
-            Unit::Root([0, 0, 0], 2, 0),
-            Unit::Root([7, 7, 7], 1, 5),
-            Unit::Base(face(2, 1, 0, 2)),
-            Unit::Head(Head {
-                s: 2,
-                width: 1,
-                t: [0, 0, 0],
-                t_input: 1,
-                u: [10, 0, 0],
-                u_input: 2,
-                presence: 1,
-            }),
-            Unit::Face(face(2, 3, 1, 1), 0, 1),
-        ],
-    )
+    let units = [
+        Unit::Root([0, 10, 0], 1, 3),
+        Unit::Root([10, 10, 0], 1, 4),
+        Unit::Root([0, 0, 0], 2, 0),
+        Unit::Root([7, 7, 7], 1, 5),
+        Unit::Base(face(2, 1, 0, 2)),
+        Unit::Head(head(2, ([0, 0, 0], 1), ([10, 0, 0], 2), 1)),
+        Unit::Face(face(2, 3, 1, 1), 0, 1),
+    ];
+    shaped(alloc, [5, 4, 1, 1], &units)
 }
 
 #[test]

@@ -4,8 +4,6 @@
 mod collapse;
 mod fan;
 mod legal;
-#[cfg(test)]
-mod random;
 mod readers;
 mod setup;
 mod shrink;

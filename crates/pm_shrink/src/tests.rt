@@ -1,47 +1,13 @@
-ghost use Rattle.std.specs.Prelude.{◌≡◌, ◌≤◌, length, IfOk};
-ghost use Rattle.pm_base.specs.Meshes.{mesh_of, IsWellFormed};
+ghost use Rattle.std.specs.Prelude.{◌≤◌, length};
 
 use crate::Shrink;
-use pm_base::{Collapse, Corners, FaceId, Gone, Mesh, Point, Points, Side, Triples};
+use pm_base::{Collapse, FaceId, Gone, Point, Side};
+use pm_samples::{OCTAHEDRON, OCTAHEDRON_FACES, Spot, Triple, mesh, point};
 use pm_twins::{Twins, check_fans};
 use std::alloc::Global;
 use std::test::Fail;
 
-pub(crate) type Place = (i32, i32, i32);
-
-pub(crate) type Triple = (u32, u32, u32);
-
-fn point(place: Place) -> Result<Point, Fail> {
-    match Point::new(place.0, place.1, place.2) {
-        Some(point) => Ok(point),
-        None => Err(Fail::new("this is no place")),
-    }
-}
-
-fn mesh(alloc: Global, places: &[Place], faces: &[Triple]) -> Result<Mesh, Fail>
-    requires few { length places.now ≤ 1048576 }
-    requires short { length faces.now ≤ 1048576 }
-    ensures formed { IfOk result (λ m. IsWellFormed (mesh_of m)) }
-{
-    let mut points = Points::new(alloc);
-    let mut triples = Triples::new(alloc);
-    for &place in places {
-        points.push(point(place)?)?;
-    }
-    let count = places.len() as u32;
-    for &(a, b, c) in faces {
-        if a >= count || b >= count || c >= count || a == b || b == c || c == a {
-            return Err(Fail::new("this is no face"));
-        }
-        triples.push(Corners { a, b, c })?;
-    }
-    Ok(Mesh {
-        points,
-        faces: triples,
-    })
-}
-
-pub(crate) fn shrink_of(alloc: Global, places: &[Place], faces: &[Triple]) -> Result<Shrink, Fail>
+fn shrink_of(alloc: Global, places: &[Spot], faces: &[Triple]) -> Result<Shrink, Fail>
     requires few { length places.now ≤ 1048576 }
     requires short { length faces.now ≤ 1048576 }
 {
@@ -66,26 +32,6 @@ fn try_collapse(
     }
     Ok(Some(shrink.collapse(a, b, place)))
 }
-
-const OCTAHEDRON: [Place; 6] = [
-    (100, 0, 0),
-    (-100, 0, 0),
-    (0, 100, 0),
-    (0, -100, 0),
-    (0, 0, 100),
-    (0, 0, -100),
-];
-
-const OCTAHEDRON_FACES: [Triple; 8] = [
-    (0, 2, 4),
-    (2, 1, 4),
-    (1, 3, 4),
-    (3, 0, 4),
-    (2, 0, 5),
-    (1, 2, 5),
-    (3, 1, 5),
-    (0, 3, 5),
-];
 
 #[test]
 fn first_collapse_of_the_octahedron(rt: HostRuntime) -> Result<(), Fail> {
@@ -123,7 +69,7 @@ fn first_collapse_of_the_octahedron(rt: HostRuntime) -> Result<(), Fail> {
 }
 
 // Whether each pair of the first vertices is refused at the place of its smaller end.
-fn are_all_refused(shrink: &mut Shrink, places: &[Place]) -> Result<bool, Fail>
+fn are_all_refused(shrink: &mut Shrink, places: &[Spot]) -> Result<bool, Fail>
     requires { length places.now ≤ 1048576 }
 {
     for b in 0..places.len() {

@@ -1,53 +1,14 @@
-ghost use Rattle.std.specs.Prelude.{◌≡◌, ◌≤◌, length, IfOk};
-ghost use Rattle.pm_base.specs.Meshes.{mesh_of, IsWellFormed};
+ghost use Rattle.std.specs.Prelude.{◌≤◌, length};
 
 use crate::{FansFail, Twins, TwinsFail, check_fans};
-use pm_base::{Corners, FaceId, Mesh, Point, Points, Side, Triples};
+use pm_base::{FaceId, Side};
+use pm_samples::{OCTAHEDRON_FACES, Triple, at_origin};
 use std::alloc::Global;
 use std::test::Fail;
 
-// A mesh of `count` points, all at one place, and these faces.
-fn mesh(alloc: Global, count: u32, faces: &[(u32, u32, u32)]) -> Result<Mesh, Fail>
-    requires few { count ≤ 1048576 }
-    requires short { length faces.now ≤ 1048576 }
-    ensures formed { IfOk result (λ m. IsWellFormed (mesh_of m)) }
-    ensures points { IfOk result (λ m. length m.points.items ≡ count) }
-    ensures faces { IfOk result (λ m. length m.faces.items ≡ length faces.now) }
-{
-    let mut points = Points::new(alloc);
-    let mut triples = Triples::new(alloc);
-    let Some(origin) = Point::new(0, 0, 0) else {
-        return Err(Fail::new("the origin is a place"));
-    };
-    for _point in 0..count {
-        points.push(origin)?;
-    }
-    for &(a, b, c) in faces {
-        if a >= count || b >= count || c >= count || a == b || b == c || c == a {
-            return Err(Fail::new("this is no face"));
-        }
-        triples.push(Corners { a, b, c })?;
-    }
-    Ok(Mesh {
-        points,
-        faces: triples,
-    })
-}
-
-const OCTAHEDRON: [(u32, u32, u32); 8] = [
-    (0, 2, 4),
-    (2, 1, 4),
-    (1, 3, 4),
-    (3, 0, 4),
-    (2, 0, 5),
-    (1, 2, 5),
-    (3, 1, 5),
-    (0, 3, 5),
-];
-
 #[test]
 fn sides_of_the_octahedron_are_paired(rt: HostRuntime) -> Result<(), Fail> {
-    let octahedron = mesh(rt.alloc(), 6, &OCTAHEDRON)?;
+    let octahedron = at_origin(rt.alloc(), 6, &OCTAHEDRON_FACES)?;
     let twins = Twins::of(rt.alloc(), &octahedron)?;
     let expected: [u32; 24] = [
         12, 5, 10, 15, 8, 1, 18, 11, 4, 21, 2, 7, 0, 23, 16, 3, 14, 19, 6, 17, 22, 9, 20, 13,
@@ -64,7 +25,7 @@ fn sides_of_the_octahedron_are_paired(rt: HostRuntime) -> Result<(), Fail> {
 
 #[test]
 fn border_of_a_square_and_a_point_apart(rt: HostRuntime) -> Result<(), Fail> {
-    let square = mesh(rt.alloc(), 5, &[(0, 1, 2), (0, 2, 3)])?;
+    let square = at_origin(rt.alloc(), 5, &[(0, 1, 2), (0, 2, 3)])?;
     let twins = Twins::of(rt.alloc(), &square)?;
     assert_eq!(rt; twins.twin(Side(2)), Some(Side(3)));
     assert_eq!(rt; twins.twin(Side(4)), None);
@@ -83,11 +44,11 @@ enum Fault {
     NotFan(u32),
 }
 
-fn first_fault(alloc: Global, count: u32, faces: &[(u32, u32, u32)]) -> Result<Option<Fault>, Fail>
+fn first_fault(alloc: Global, count: u32, faces: &[Triple]) -> Result<Option<Fault>, Fail>
     requires few { count ≤ 1048576 }
     requires short { length faces.now ≤ 1048576 }
 {
-    let mesh = mesh(alloc, count, faces)?;
+    let mesh = at_origin(alloc, count, faces)?;
     let twins = match Twins::of(alloc, &mesh) {
         Ok(twins) => twins,
         Err(TwinsFail::EdgeTwice(face)) => return Ok(Some(Fault::EdgeTwice(face))),
