@@ -1,0 +1,91 @@
+"""Draws each frame of a reply text as an SVG picture, which any browser shows.
+
+    ./vdpm view B < INPUT | python3 tools/frames_to_svg.py NAME [--from X Y Z] [..]
+    ./vdpm view B < INPUT | python3 tools/frames_to_svg.py NAME --eyes SCRIPT [--at X Y Z] [..]
+
+Picture 1 goes to NAME-1.svg, and so on. Either all pictures are drawn from far away in the direction --from, at one
+scale; or each from the eye of the view that stands last before it in SCRIPT, the script that the frames answer, with
+that view's focal length in pixels, looking at the place --at (else at the middle of the first frame). Then the
+tolerance of a view is in pixels too.
+
+Ends with status 1 where the text or the script has a fault or a file can't be written, and says which on standard error.
+"""
+import argparse
+import sys
+from itertools import chain
+
+from drawing import FarCamera, NearCamera, box, svg
+from frames import FrameFault, all_frames, file_names
+
+
+def eyes_of(script):
+    """For each frame that a script asks for, the eye and the focal length of the view before it."""
+    last, eyes = None, []
+    for number, line in enumerate(script, 1):
+        fields = line.rstrip("\n").split(" ")
+        if fields[0] in ("v", "vs"):
+            try:
+                x, y, z, focal = (int(field) for field in fields[1:5])
+            except ValueError:
+                raise FrameFault(number, "this is no view of a script") from None
+            last = (x, y, z), focal
+        elif fields[0] in ("w", "g"):
+            if last is None:
+                raise FrameFault(number, "the script asks for a frame before any view")
+            eyes.append(last)
+        elif fields[0] == "q":
+            break
+    return eyes
+
+
+def near_cameras(frames, asked):
+    with open(asked.eyes, encoding="ascii") as script:
+        eyes = eyes_of(script)
+    if len(eyes) != len(frames):
+        raise FrameFault(1, f"{len(frames)} frames came, and the script {asked.eyes} asks for {len(eyes)}")
+    low, high = box(frames[0].points)
+    at = asked.at or [(a + b) / 2 for a, b in zip(low, high)]
+    height = asked.height or asked.width * 3 // 4
+    return [NearCamera(eye, at, asked.up, focal, asked.width, height) for eye, focal in eyes]
+
+
+def cameras(frames, asked):
+    """One for each frame."""
+    if asked.eyes:
+        return near_cameras(frames, asked)
+    every_point = chain.from_iterable(frame.points for frame in frames)
+    return [FarCamera(asked.towards, asked.up, every_point, asked.width)] * len(frames)
+
+
+def arguments():
+    parser = argparse.ArgumentParser(description="Draws each frame of a reply text (standard input) as an SVG picture.")
+    place = {"type": float, "nargs": 3, "metavar": ("X", "Y", "Z")}
+    parser.add_argument("name", help="where to write: NAME-1.svg and so on")
+    parser.add_argument("--from", dest="towards", default=(1, -2, 1), help="the direction of the eye", **place)
+    parser.add_argument("--eyes", metavar="SCRIPT", help="draw each frame from the eye of its view in this script")
+    parser.add_argument("--at", help="the place that --eyes look at", **place)
+    parser.add_argument("--up", default=(0, 0, 1), help="the direction that is up in the picture", **place)
+    parser.add_argument("--light", default=(-2, -1, 2), help="the direction of the light", **place)
+    parser.add_argument("--width", type=int, default=800, help="pixels")
+    parser.add_argument("--height", type=int, help="pixels, for --eyes")
+    parser.add_argument("--no-edges", action="store_true", help="draw no edges")
+    parser.add_argument("--back", action="store_true", help="draw faces that are turned away too, as of open surfaces")
+    parser.add_argument("--background", metavar="COLOR", help="as #202830; else none")
+    return parser.parse_args()
+
+
+def main():
+    asked = arguments()
+    try:
+        frames = all_frames(sys.stdin)
+        paths = file_names(asked.name, "svg", len(frames))
+        for frame, camera, path in zip(frames, cameras(frames, asked), paths):
+            with open(path, "w", encoding="ascii") as out:
+                out.write(svg(frame, camera, asked.light, not asked.no_edges, asked.back, asked.background))
+            print(f"{path}: {frame.title()}")
+    except (FrameFault, OSError) as fault:
+        sys.exit(f"frames_to_svg: {fault}")
+
+
+if __name__ == "__main__":
+    main()

@@ -1,0 +1,151 @@
+"""Tries the tools of this folder on stored replies: python3 tools/test_frames.py"""
+import subprocess
+import sys
+import tempfile
+import unittest
+import xml.etree.ElementTree as xml
+from pathlib import Path
+
+from drawing import FarCamera, dot, minus, painted
+from flight import LARGEST, planes
+from frames import FrameFault, all_frames, file_names, read_frames
+from frames_to_obj import coordinate, obj_lines
+from frames_to_svg import eyes_of
+
+TOOLS = Path(__file__).resolve().parent
+TOP = TOOLS.parent
+REPLIES = TOP / "crates" / "vdpm" / "stdout"
+GLIDE = TOP / "examples" / "octahedron_glide.replies"
+TRIANGLE = ["frame 3 1", "v 0 0 0 0", "v 1 9 0 0", "v 2 0 9 0", "f 0 0 1 2", "end"]
+
+
+def lines_of(path):
+    return path.read_text().splitlines(keepends=True)
+
+
+def triangles(text):
+    """The faces of an OBJ text by their points, each from its least corner on."""
+    points, faces = [], set()
+    for kind, *fields in (line.split("#")[0].split() for line in text):
+        if kind == "v":
+            points.append(tuple(fields))
+        else:
+            corners = [points[int(field) - 1] for field in fields]
+            least = corners.index(min(corners))
+            faces.add(tuple(corners[least:] + corners[:least]))
+    return faces
+
+
+def run(tool, words, text):
+    return subprocess.run([sys.executable, TOOLS / tool, *words], input=text, capture_output=True, text=True)
+
+
+class Reading(unittest.TestCase):
+    def test_frames_are_found_between_other_replies(self):
+        [frame] = read_frames(lines_of(REPLIES))
+        self.assertEqual((len(frame.points), len(frame.faces), frame.step), (6, 8, None))
+        self.assertEqual(frame.nodes, [0, 1, 4, 5, 6, 7])
+
+    def test_steps_of_a_geomorph_are_found(self):
+        self.assertEqual([frame.step for frame in read_frames(lines_of(GLIDE))], [(0, 2), (1, 2), (2, 2)])
+
+    def test_faults_are_named_with_their_line(self):
+        cases = [
+            (TRIANGLE[:3], "line 3: the text ends within a frame"),
+            (["frame 3"] + TRIANGLE[1:], "line 1: `frame V F` was to come"),
+            (TRIANGLE[:2] + ["v 1 9 0"] + TRIANGLE[3:], "line 3: `v NODE X Y Z` was to come"),
+            (TRIANGLE[:2] + ["v 0 9 0 0"] + TRIANGLE[3:], "line 3: node 0 stands twice"),
+            (TRIANGLE[:4] + ["f 0 0 1 7", "end"], "line 5: face 0 has a corner at node 7"),
+            (TRIANGLE[:5] + ["f 1 0 2 1", "end"], "line 6: `end` was to come, and `f 1 0 2 1` came"),
+            (["ok"], "line 1: no frame stands in this text"),
+        ]
+        for text, said in cases:
+            with self.assertRaises(FrameFault) as caught:
+                all_frames(text)
+            self.assertTrue(str(caught.exception).startswith(said), str(caught.exception))
+
+
+class WritingObj(unittest.TestCase):
+    def test_the_full_front_is_the_input(self):
+        [frame] = read_frames(lines_of(REPLIES))
+        self.assertEqual(triangles(obj_lines(frame)), triangles(lines_of(TOP / "examples" / "octahedron.obj")))
+        self.assertEqual(triangles(obj_lines(frame, names=True)), triangles(obj_lines(frame)))
+
+    def test_decimals_are_exact(self):
+        cases = [(-25, 2, "-0.25"), (0, 1, "0.0"), (32767, 4, "3.2767"), (-7, 0, "-7"), (100, 2, "1.00")]
+        for units, digits, text in cases:
+            self.assertEqual(coordinate(units, digits), text)
+
+    def test_a_file_a_frame_is_written(self):
+        with tempfile.TemporaryDirectory() as folder:
+            done = run("frames_to_obj.py", [f"{folder}/glide", "--digits", "2"], GLIDE.read_text())
+            self.assertEqual(done.returncode, 0, done.stderr)
+            self.assertEqual(sorted(p.name for p in Path(folder).iterdir()), [f"glide-{i}.obj" for i in (1, 2, 3)])
+            self.assertIn("v -0.50 0.00 0.50\n", (Path(folder) / "glide-1.obj").read_text())
+
+
+class Drawing(unittest.TestCase):
+    def test_only_faces_that_are_turned_to_the_eye_are_drawn(self):
+        frames = list(read_frames(lines_of(GLIDE)))
+        for frame, seen, all_faces in zip(frames, (2, 4, 4), (4, 8, 8)):
+            camera = FarCamera((4, -2, 1), (0, 0, 1), frame.points, 100)
+            self.assertEqual(len(painted(frame, camera, (0, 0, 1), False)), seen)
+            self.assertEqual(len(painted(frame, camera, (0, 0, 1), True)), all_faces)
+
+    def test_the_nearest_face_is_painted_last(self):
+        near = ["v 3 0 0 5", "v 4 9 0 5", "v 5 0 9 5"]
+        [frame] = read_frames(["frame 6 2"] + near + TRIANGLE[1:4] + ["f 0 3 4 5", "f 1 0 1 2", "end"])
+        faces = painted(frame, FarCamera((0, 0, 1), (0, 1, 0), frame.points, 100), (0, 0, 1), False)
+        self.assertEqual([sum(corner[2] for corner in face[2]) for face in faces], [0, 15])
+
+    def test_the_picture_is_svg_and_holds_all_points(self):
+        with tempfile.TemporaryDirectory() as folder:
+            done = run("frames_to_svg.py", [f"{folder}/p", "--from", "4", "-2", "1", "--width", "300"], REPLIES.read_text())
+            self.assertEqual(done.returncode, 0, done.stderr)
+            root = xml.parse(f"{folder}/p-1.svg").getroot()
+        self.assertEqual(root.get("width"), "300")
+        self.assertEqual(len(root.findall(".//{http://www.w3.org/2000/svg}path")), 4)
+        [frame] = read_frames(lines_of(REPLIES))
+        camera = FarCamera((4, -2, 1), (0, 0, 1), frame.points, 300)
+        for x, y, _ in map(camera.place, frame.points):
+            self.assertTrue(0 < x < 300 and 0 < y < camera.height)
+
+    def test_frames_are_drawn_from_the_eyes_of_their_script(self):
+        script = ["v 3 4 5 1000 2\n", "w\n", "k\n", "vs 6 7 8 900 2 1\n", "m\n", "g 0 2\n", "g 1 2\n", "q\n", "w\n"]
+        self.assertEqual(eyes_of(script), [((3, 4, 5), 1000), ((6, 7, 8), 900), ((6, 7, 8), 900)])
+        for faulty in (["w\n"], ["v 3 4\n", "w\n"]):
+            with self.assertRaises(FrameFault):
+                eyes_of(faulty)
+
+    def test_a_fault_has_status_1_and_is_said(self):
+        for tool in ("frames_to_obj.py", "frames_to_svg.py"):
+            done = run(tool, ["unused"], "frame 1 0\n")
+            self.assertEqual((done.returncode, done.stdout), (1, ""))
+            self.assertIn("line 1: the text ends within a frame", done.stderr)
+
+    def test_names_are_as_wide_as_the_last_one(self):
+        self.assertEqual(file_names("a", "svg", 10)[::9], ["a-01.svg", "a-10.svg"])
+
+
+class Flying(unittest.TestCase):
+    class Asked:
+        at, up, focal, width, height = (0, 0, 0), (0, 0, 1), 1000, 800, 600
+
+    def test_planes_have_the_picture_inside(self):
+        eye = (-9000, -7000, 3000)
+        for a, b, c, d in planes(eye, self.Asked):
+            self.assertTrue(max(abs(a), abs(b), abs(c)) <= LARGEST and abs(d) <= 2**42)
+            self.assertTrue(d > 0, "the place that is looked at is inside")
+            self.assertEqual(dot((a, b, c), eye) + d, 0)
+            behind = tuple(2 * e for e in eye)
+            self.assertTrue(dot((a, b, c), minus(behind, (0, 0, 0))) + d < 0)
+
+    def test_a_view_and_a_frame_are_written_for_each_eye(self):
+        done = run("flight.py", ["--at", "0", "0", "0", "--outline", "1"], "9 0 0\n0 9 0\n")
+        self.assertEqual([line.split()[0] for line in done.stdout.splitlines()], ["vs", "w", "vs", "w"])
+        self.assertEqual(len(done.stdout.splitlines()[0].split()), 7 + 4 * 4)
+        self.assertEqual(run("flight.py", ["--at", "0", "0", "0"], "9 0\n").returncode, 1)
+
+
+if __name__ == "__main__":
+    unittest.main()
