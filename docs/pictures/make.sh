@@ -1,0 +1,24 @@
+#!/usr/bin/env bash
+# Makes the pictures of this folder anew: bash docs/pictures/make.sh [PROGRAM]. PROGRAM is ./vdpm unless another is named.
+set -euo pipefail
+cd "$(dirname "${BASH_SOURCE[0]}")/../.."
+vdpm=${1:-./vdpm}
+work=$(mktemp -d)
+trap 'rm -r "$work"' EXIT
+"$vdpm" build 0 --digits 1 < examples/asteroid.obj > "$work/asteroid.vdpm"
+
+# Draws the frames of a script: its file, the pictures' name, and how they are drawn.
+draw() {
+    local script=$1 name=$2
+    shift 2
+    cat "$work/asteroid.vdpm" "$script" | "$vdpm" view 3238 |
+        python3 tools/frames_to_svg.py "docs/pictures/$name" --width 640 "$@"
+}
+
+# The third front has every record split.
+(cat examples/asteroid_fronts.script; seq -f 's %.0f' 0 3237; echo w) > "$work/fronts.script"
+draw "$work/fronts.script" fronts --from 0 -3 1
+draw examples/asteroid_outline.script outline --from 0 -10 3
+draw examples/asteroid_glide.script glide --from 0 -10 3
+python3 tools/flight.py --at 0 0 0 --tolerance 16 --width 640 --height 480 < examples/asteroid.eyes > "$work/flight.script"
+draw "$work/flight.script" flight --at 0 0 0 --height 480 --eyes "$work/flight.script"
