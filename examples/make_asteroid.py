@@ -1,6 +1,8 @@
-"""Writes examples/asteroid.obj: a small body of 3,242 vertices and 6,480 faces, with tenths of a metre.
+"""Writes examples/asteroid.obj: a small body of 3,242 vertices and 6,480 faces, with tenths of a
+metre.
 
-It stands for a scan: a long, lumpy surface without symmetry, which is closed and has fine detail everywhere.
+It stands for a scan: a long, lumpy surface without symmetry, which is closed and has fine detail
+everywhere.
 """
 from math import cos, exp, pi, sin, sqrt
 from pathlib import Path
@@ -108,11 +110,11 @@ def place(way):
 def lines():
     points, faces = divided(*icosahedron())
     for p in points:
-        yield "v {:.1f} {:.1f} {:.1f}".format(*place(p))
+        # What is added turns -0.0 into 0.0.
+        yield "v {:.1f} {:.1f} {:.1f}".format(*(round(c, 1) + 0.0 for c in place(p)))
     for a, b, c in faces:
         yield f"f {a + 1} {b + 1} {c + 1}"
 
 
 if __name__ == "__main__":
-    text = "\n".join(lines()) + "\n"
-    Path(__file__).with_name("asteroid.obj").write_text(text.replace("-0.0 ", "0.0 ").replace("-0.0\n", "0.0\n"))
+    Path(__file__).with_name("asteroid.obj").write_text("\n".join(lines()) + "\n")

@@ -3,19 +3,19 @@
     ./vdpm view B < INPUT | python3 tools/frames_to_svg.py NAME [--from X Y Z] [..]
     ./vdpm view B < INPUT | python3 tools/frames_to_svg.py NAME --eyes SCRIPT [--at X Y Z] [..]
 
-Picture 1 goes to NAME-1.svg, and so on. Either all pictures are drawn from far away in the direction --from, at one
-scale; or each from the eye of the view that stands last before it in SCRIPT, the script that the frames answer, with
-that view's focal length in pixels, looking at the place --at (else at the middle of the first frame). Then the
-tolerance of a view is in pixels too.
+Picture 1 goes to NAME-1.svg, and so on. Either all pictures are drawn from far away in the
+direction --from, at one scale; or each from the eye of the view that stands last before it in
+SCRIPT, the script that the frames answer, with that view's focal length in pixels, looking at the
+place --at (else at the middle of the first frame). Then the tolerance of a view is in pixels too.
 
-Ends with status 1 where the text or the script has a fault or a file can't be written, and says which on standard error.
+Ends with status 1 where the text or the script has a fault or a file can't be written, and says
+which on standard error.
 """
 import argparse
-import sys
 from itertools import chain
 
 from drawing import FarCamera, NearCamera, box, svg
-from frames import FrameFault, all_frames, file_names
+from frames import FrameFault, write_files
 
 
 def eyes_of(script):
@@ -58,7 +58,7 @@ def cameras(frames, asked):
 
 
 def arguments():
-    parser = argparse.ArgumentParser(description="Draws each frame of a reply text (standard input) as an SVG picture.")
+    parser = argparse.ArgumentParser(description="Draws each frame of standard input as an SVG picture.")
     place = {"type": float, "nargs": 3, "metavar": ("X", "Y", "Z")}
     parser.add_argument("name", help="where to write: NAME-1.svg and so on")
     parser.add_argument("--from", dest="towards", default=(1, -2, 1), help="the direction of the eye", **place)
@@ -69,22 +69,19 @@ def arguments():
     parser.add_argument("--width", type=int, default=800, help="pixels")
     parser.add_argument("--height", type=int, help="pixels, for --eyes")
     parser.add_argument("--no-edges", action="store_true", help="draw no edges")
-    parser.add_argument("--back", action="store_true", help="draw faces that are turned away too, as of open surfaces")
+    parser.add_argument("--back", action="store_true", help="draw faces that are turned away too")
     parser.add_argument("--background", metavar="COLOR", help="as #202830; else none")
     return parser.parse_args()
 
 
 def main():
     asked = arguments()
-    try:
-        frames = all_frames(sys.stdin)
-        paths = file_names(asked.name, "svg", len(frames))
-        for frame, camera, path in zip(frames, cameras(frames, asked), paths):
-            with open(path, "w", encoding="ascii") as out:
-                out.write(svg(frame, camera, asked.light, not asked.no_edges, asked.back, asked.background))
-            print(f"{path}: {frame.title()}")
-    except (FrameFault, OSError) as fault:
-        sys.exit(f"frames_to_svg: {fault}")
+
+    def texts_of(frames):
+        for frame, camera in zip(frames, cameras(frames, asked)):
+            yield svg(frame, camera, asked.light, not asked.no_edges, asked.back, asked.background)
+
+    write_files("frames_to_svg", asked.name, "svg", texts_of)
 
 
 if __name__ == "__main__":

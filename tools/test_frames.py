@@ -68,7 +68,8 @@ class Reading(unittest.TestCase):
 class WritingObj(unittest.TestCase):
     def test_the_full_front_is_the_input(self):
         [frame] = read_frames(lines_of(REPLIES))
-        self.assertEqual(triangles(obj_lines(frame)), triangles(lines_of(TOP / "examples" / "octahedron.obj")))
+        octahedron = lines_of(TOP / "examples" / "octahedron.obj")
+        self.assertEqual(triangles(obj_lines(frame)), triangles(octahedron))
         self.assertEqual(triangles(obj_lines(frame, names=True)), triangles(obj_lines(frame)))
 
     def test_decimals_are_exact(self):
@@ -80,7 +81,8 @@ class WritingObj(unittest.TestCase):
         with tempfile.TemporaryDirectory() as folder:
             done = run("frames_to_obj.py", [f"{folder}/glide", "--digits", "2"], GLIDE.read_text())
             self.assertEqual(done.returncode, 0, done.stderr)
-            self.assertEqual(sorted(p.name for p in Path(folder).iterdir()), [f"glide-{i}.obj" for i in (1, 2, 3)])
+            names = sorted(path.name for path in Path(folder).iterdir())
+            self.assertEqual(names, ["glide-1.obj", "glide-2.obj", "glide-3.obj"])
             self.assertIn("v -0.50 0.00 0.50\n", (Path(folder) / "glide-1.obj").read_text())
 
 
@@ -100,7 +102,8 @@ class Drawing(unittest.TestCase):
 
     def test_the_picture_is_svg_and_holds_all_points(self):
         with tempfile.TemporaryDirectory() as folder:
-            done = run("frames_to_svg.py", [f"{folder}/p", "--from", "4", "-2", "1", "--width", "300"], REPLIES.read_text())
+            words = [f"{folder}/p", "--from", "4", "-2", "1", "--width", "300"]
+            done = run("frames_to_svg.py", words, REPLIES.read_text())
             self.assertEqual(done.returncode, 0, done.stderr)
             root = xml.parse(f"{folder}/p-1.svg").getroot()
         self.assertEqual(root.get("width"), "300")
@@ -111,8 +114,8 @@ class Drawing(unittest.TestCase):
             self.assertTrue(0 < x < 300 and 0 < y < camera.height)
 
     def test_frames_are_drawn_from_the_eyes_of_their_script(self):
-        script = ["v 3 4 5 1000 2\n", "w\n", "k\n", "vs 6 7 8 900 2 1\n", "m\n", "g 0 2\n", "g 1 2\n", "q\n", "w\n"]
-        self.assertEqual(eyes_of(script), [((3, 4, 5), 1000), ((6, 7, 8), 900), ((6, 7, 8), 900)])
+        script = "v 3 4 5 1000 2\nw\nk\nvs 6 7 8 900 2 1\nm\ng 0 2\ng 1 2\nq\nw\n"
+        self.assertEqual(eyes_of(script.splitlines()), [((3, 4, 5), 1000), ((6, 7, 8), 900), ((6, 7, 8), 900)])
         for faulty in (["w\n"], ["v 3 4\n", "w\n"]):
             with self.assertRaises(FrameFault):
                 eyes_of(faulty)

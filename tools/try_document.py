@@ -1,8 +1,10 @@
-"""Runs the commands that a document prints, and compares what they print: python3 tools/try_document.py docs/GUIDE.md
+"""Runs the commands that a document prints, and compares what they print: python3
+tools/try_document.py docs/GUIDE.md
 
-A command is a line `    $ COMMAND` of an indented block; the lines after it in the block, up to the next command, are what
-it has to print, on both streams together. Commands run one after the other at the top of the repository, by bash. A line
-`    ...` stands for any further lines. Ends with status 1 where something else was printed.
+A command is a line `    $ COMMAND` of an indented block; the lines after it in the block, up to the
+next command, are what it has to print, on both streams together. Commands run one after the other
+at the top of the repository, by bash. A line `    ...` stands for any further lines. Ends with
+status 1 where something else was printed.
 """
 import subprocess
 import sys
@@ -38,9 +40,8 @@ def main():
     wrong = count = 0
     for name in sys.argv[1:]:
         for number, command, told in commands(Path(name).read_text(encoding="utf-8").splitlines()):
-            done = subprocess.run(
-                ["bash", "-c", command], cwd=TOP, stdout=subprocess.PIPE, stderr=subprocess.STDOUT, text=True, check=False
-            )
+            both = {"stdout": subprocess.PIPE, "stderr": subprocess.STDOUT}
+            done = subprocess.run(["bash", "-c", command], cwd=TOP, text=True, check=False, **both)
             printed = done.stdout.splitlines()
             count += 1
             if not is_as_told(printed, told):

@@ -1,5 +1,6 @@
 #!/usr/bin/env bash
-# Makes the pictures of this folder anew: bash docs/pictures/make.sh [PROGRAM]. PROGRAM is ./vdpm unless another is named.
+# Makes the pictures of this folder anew: bash docs/pictures/make.sh [PROGRAM]
+# PROGRAM is ./vdpm unless another is named.
 set -euo pipefail
 cd "$(dirname "${BASH_SOURCE[0]}")/../.."
 vdpm=${1:-./vdpm}
@@ -20,5 +21,6 @@ draw() {
 draw "$work/fronts.script" fronts --from 0 -3 1
 draw examples/asteroid_outline.script outline --from 0 -10 3
 draw examples/asteroid_glide.script glide --from 0 -10 3
-python3 tools/flight.py --at 0 0 0 --tolerance 16 --width 640 --height 480 < examples/asteroid.eyes > "$work/flight.script"
+python3 tools/flight.py --at 0 0 0 --tolerance 16 --width 640 --height 480 \
+    < examples/asteroid.eyes > "$work/flight.script"
 draw "$work/flight.script" flight --at 0 0 0 --height 480 --eyes "$work/flight.script"
