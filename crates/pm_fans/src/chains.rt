@@ -1,5 +1,5 @@
-// The sides that run from one vertex follow one another over glued sides, in chains, open or closed. Each side of a chain
-// is given the same head: the first side of an open chain, the least one of a closed chain.
+// The sides that run from one vertex follow one another over glued sides, in chains, open or closed.
+// All sides of a chain have one head: the first side of an open chain, the least of a closed one.
 ghost use Rattle.std.specs.Prelude.{◌≡◌, ℕ, ◌<◌, ◌⊎◌, Some, None, length, IfOk};
 ghost use Rattle.pm_fans.specs.Heads.{at, ArePaired, AreHeaded, HasHead, Keeps, AreOpenHeaded, AreAllHeaded};
 
@@ -7,7 +7,7 @@ use crate::OutOfMemory;
 use crate::sides::{next, prev};
 use std::alloc::Global;
 
-/// The head of the chain of each side. O(F) for F faces.
+/// The head of each side's chain. O(F) for F faces.
 pub(crate) fn chain_heads(
     alloc: Global,
     glued: &[Option<u32>],

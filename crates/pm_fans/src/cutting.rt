@@ -13,7 +13,8 @@ use pm_base::Corners;
 use std::alloc::Global;
 use std::collections::BTreeMap;
 
-/// How many sides are cut open: those along or back along which several sides run. O(F log F) for F faces.
+/// How many sides are cut open: those along or back along which several sides run. A side without a
+/// twin isn't counted, as it is open already. O(F log F) for F faces.
 #[tactic(auto, unfolding(crate::specs::Cuts::cut_count))]
 pub fn cut_sides(alloc: Global, faces: &[Corners]) -> Result<u32, OutOfMemory>
     requires { IsCuttable (net_of faces.now) }
