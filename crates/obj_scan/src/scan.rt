@@ -27,8 +27,11 @@ pub struct Scan {
 ///
 /// Lines that begin with neither `v` nor `f` are skipped, and one that ends in a backslash is continued by the next. A
 /// coordinate is the nearest whole number of 10^-18. A polygon is cut into triangles, begun at the corner whose point is
-/// least. All bytes that are held are judged before more are asked for. However the source cuts its bytes, the answer is
-/// the same.
+/// least. All bytes that are held are judged before more are asked for, so a fault is answered as soon as the byte that
+/// shows it has come. However the source cuts its bytes, the answer is the same.
+///
+/// Each byte, and each corner, is looked at a constant number of times. Memory is taken for the window, for one line, for
+/// lines that are continued, for the corners of one face, and for what is read.
 pub fn scan_obj<S: Source>(alloc: Global, source: &mut S) -> Result<Scan, ObjFail>
     ensures ok { IfOk result (λ s. IfSome (S.left source.old) (λ bytes. meaning_of bytes ≡ Ok (scanned_of s))) }
     ensures within { IfOk result (λ s. IsWithin (scanned_of s)) }
