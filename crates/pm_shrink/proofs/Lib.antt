@@ -5,6 +5,7 @@ mod CornerTables
 mod Started
 mod FanLaws
 pub mod ObstacleLaws
+mod BesideLaws
 mod ReaderLaws
 mod WriteLaws
 mod GoneLaws

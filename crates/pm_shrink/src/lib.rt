@@ -1,6 +1,7 @@
 //! The mesh that is being simplified: which pairs of vertices may be collapsed, and the collapse of one.
 #![tactic(auto)]
 
+mod beside;
 mod collapse;
 mod fan;
 mod legal;

@@ -141,6 +141,9 @@ impl Shrink {
         requires b_live { is_live_in self.now.surface b ≡ true }
         ensures { MatchOption result (StayUpright self.now.surface a b place) (TurnsOver self.now.surface a b place) }
     {
+        if let Some(corner) = self.turned_near(a, b, place) {
+            return Some(corner);
+        }
         if let Some(corner) = self.turned_at(a, b, place) {
             return Some(corner);
         }
@@ -166,7 +169,7 @@ impl Shrink {
     }
 
     // Whether the face at a corner doesn't hold q, and turns over.
-    fn turns_over(&self, corner: u32, q: u32, place: Point) -> bool
+    pub(crate) fn turns_over(&self, corner: u32, q: u32, place: Point) -> bool
         requires { Stands (net_at self.now) corner }
         ensures yes { IsTrue result → TurnsAt self.now.surface q place corner }
         ensures no { IsFalse result → KeepsUpright self.now.surface q place corner }

@@ -1,0 +1,27 @@
+use Rattle.std.proofs.Common.{◌≡◌, ℕ, Option, sym, subst, arith}
+use Rattle.std.specs.Option.{IfSome}
+use Rattle.pm_base.specs.Sides.{Net, next, prev, Stands, IsTwin}
+use Rattle.pm_base.proofs.Sides.{stands_next}
+use Rattle.pm_shrink.specs.Shrinking.{net_at}
+use Rattle.pm_shrink.proofs.BesideLaws.{left_corner, right_corner}
+use Rattle.pm_shrink.proofs.shrink.Shrink.corner_beside.Goals as goal
+
+pub twin-requires : goal.twin-requires
+twin-requires c = (let m : Net = net_at c.args.self.now in subst (Stands m) (sym c.prev.ensures.value) (stands_next m (next c.args.corner) (stands_next m c.args.corner c.requires)))
+
+pub next-requires : goal.next-requires
+next-requires c =
+    let w : IsTwin (net_at c.args.self.now) c.args.corner c.in-Some.twin = c.in-Some.ensures {u = tt} in
+    let l = w.stands.is_side in
+    let few = c.has_few_sides.ensures in
+    omega arith
+
+pub returns-in-Left : goal.returns-in-Left
+returns-in-Left c =
+    let m : Net = net_at c.args.self.now in
+    left_corner m c.args.corner c.twin.result (subst (λ (e : ℕ). IfSome c.twin.result (IsTwin m e)) c.prev.ensures.value c.twin.ensures)
+
+pub returns-in-Some : goal.returns-in-Some
+returns-in-Some c =
+    let m : Net = net_at c.args.self.now in
+    subst (λ (e : ℕ). Stands m e × (m.from e ≡ m.from c.args.corner)) (sym c.next.ensures.value) (right_corner m c.args.corner c.in-Some.twin (c.in-Some.ensures {u = tt}))

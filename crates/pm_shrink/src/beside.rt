@@ -1,0 +1,127 @@
+// A face that turns over, looked for beside the pair's edge. Where many corners are at one vertex, as in the middle of a cap,
+// a face that does is mostly a few steps away, and the list of corners would come to it late.
+ghost use Rattle.std.specs.Prelude.{◌≡◌, ◌≢◌, ◌<◌, ℕ, true, IfSome};
+ghost use Rattle.pm_base.specs.Sides.{Stands, IsTwin};
+ghost use Rattle.pm_runs.specs.Surfaces.{is_live as is_live_in};
+ghost use Rattle.pm_shrink.specs.Shrinking.{net_at};
+ghost use Rattle.pm_shrink.specs.Obstacles.{TurnsOver};
+ghost use Rattle.pm_shrink.specs.Walks.{TurnsAt};
+
+use crate::Shrink;
+use crate::sides::{next, prev};
+use pm_base::{Point, Side};
+
+// How many corners a walk over all of them may have: with more, it begins beside the pair's edge.
+const MANY: usize = 32;
+
+// How many faces each way are looked at.
+const NEAR: u32 = 16;
+
+// The two ways round a vertex.
+#[derive(Clone, Copy)]
+enum Way {
+    Left,
+    Right,
+}
+
+impl Shrink {
+    // A corner of one of the two whose face doesn't hold the other, lies beside the pair's edge, and turns over.
+    pub(crate) fn turned_near(&self, a: u32, b: u32, place: Point) -> Option<u32>
+        requires a_live { is_live_in self.now.surface a ≡ true }
+        requires b_live { is_live_in self.now.surface b ≡ true }
+        ensures { IfSome result (TurnsOver self.now.surface a b place) }
+    {
+        if let Some(corner) = self.turned_near_at(a, b, place) {
+            return Some(corner);
+        }
+        self.turned_near_at(b, a, place)
+    }
+
+    // Such a corner of p, where many corners are at p and it doesn't stay at its place.
+    fn turned_near_at(&self, p: u32, q: u32, place: Point) -> Option<u32>
+        requires p_live { is_live_in self.now.surface p ≡ true }
+        requires q_live { is_live_in self.now.surface q ≡ true }
+        ensures { IfSome result (λ e. Stands (net_at self.now) e × ((net_at self.now).from e ≡ p)
+            × TurnsAt self.now.surface q place e) }
+    {
+        if place == self.place(p) || self.corners_at(p).nth(MANY).is_none() {
+            return None;
+        }
+        let Some(edge) = self.corner_with(p, q) else {
+            return None;
+        };
+        if let Some(corner) = self.turned_along(edge, Way::Left, q, place) {
+            return Some(corner);
+        }
+        self.turned_along(edge, Way::Right, q, place)
+    }
+
+    // A corner of p in a face that holds q. The corners at both are walked at once, so that the fewer ones decide.
+    fn corner_with(&self, p: u32, q: u32) -> Option<u32>
+        requires p_live { is_live_in self.now.surface p ≡ true }
+        requires q_live { is_live_in self.now.surface q ≡ true }
+        ensures { IfSome result (λ e. Stands (net_at self.now) e × ((net_at self.now).from e ≡ p)) }
+    {
+        self.has_few_sides();
+        let mut at_p = self.corners_at(p);
+        let mut at_q = self.corners_at(q);
+        while let (Some(from_p), Some(from_q)) = (at_p.next(), at_q.next()) {
+            if self.has_other(from_p, q) {
+                return Some(from_p);
+            }
+            if self.to(from_q) == p {
+                return Some(next(from_q));
+            }
+            if self.third(from_q) == p {
+                return Some(prev(from_q));
+            }
+        }
+        None
+    }
+
+    // The first of the corners from this one on, one way round its vertex, whose face doesn't hold q and turns over.
+    fn turned_along(&self, from: u32, way: Way, q: u32, place: Point) -> Option<u32>
+        requires { Stands (net_at self.now) from }
+        ensures { IfSome result (λ e. Stands (net_at self.now) e × ((net_at self.now).from e ≡ (net_at self.now).from from)
+            × TurnsAt self.now.surface q place e) }
+    {
+        let mut corner = from;
+        for _ in 0..NEAR {
+            let Some(following) = self.corner_beside(corner, way) else {
+                return None;
+            };
+            if self.turns_over(following, q, place) {
+                return Some(following);
+            }
+            corner = following;
+        }
+        None
+    }
+
+    // The next corner one way round the vertex of this one.
+    fn corner_beside(&self, corner: u32, way: Way) -> Option<u32>
+        requires { Stands (net_at self.now) corner }
+        ensures { IfSome result (λ e. Stands (net_at self.now) e
+            × ((net_at self.now).from e ≡ (net_at self.now).from corner)) }
+    {
+        self.has_few_sides();
+        match way {
+            Way::Left => self.twin(prev(corner)),
+            Way::Right => match self.twin(corner) {
+                None => None,
+                Some(twin) => Some(next(twin)),
+            },
+        }
+    }
+
+    // What stands across a side.
+    fn twin(&self, side: u32) -> Option<u32>
+        requires { Stands (net_at self.now) side }
+        ensures { IfSome result (IsTwin (net_at self.now) side) }
+    {
+        match self.across(Side(side)) {
+            None => None,
+            Some(twin) => Some(twin.0),
+        }
+    }
+}
