@@ -6,8 +6,8 @@ use Rattle.std.proofs.lemmas.List.Elements.{Contains-get_or}
 use Rattle.std.proofs.lemmas.Bool.{or_cases, or_left, or_right, and_parts, and_from, eqb-true, eq-eqb, cases_Bool, false≢true}
 use Rattle.pm_base.specs.Sides.{Net, next, prev, to, third, Stands, side_count, IsBorderSide, IsBorder, twin_of}
 use Rattle.pm_base.proofs.Sides.{stands_next, next-next-next}
-use Rattle.pm_base.proofs.TwinLaws.{twin-none, none-twin}
-use Rattle.pm_base.proofs.Search.{Decided}
+use Rattle.pm_base.proofs.TwinLaws.{twin-is, twin-none, none-twin}
+use Rattle.pm_base.proofs.Search.{Decided, option_cases}
 use Rattle.pm_links.specs.Lists.{has}
 use Rattle.pm_links.proofs.Members.{has_head, has_tail, has_from_Contains}
 use Rattle.pm_runs.specs.Pairs.{StaysUpright, StayUpright, Runs, Joined, IsThird, HasFace, HaveCommonThirds}
@@ -182,12 +182,21 @@ pub no_stray_common : (m : Net) (a b : ℕ) (xs : List ℕ) → AreCornersAt m a
 no_stray_common m a b xs are third? none w = (
   λ (near, other). elim (third? w) [
     | inl is ↦ is
-    | inr never ↦ absurd (elim near [
-      | inl (e, r) ↦ none e ((are.each e).1 (r.stands, r.begins)) (inl (subst (Joined m b) (sym r.ends) other, λ t. never (subst (IsThird m a b) r.ends t)))
-      | inr (e, r) ↦
-          let is : third m (next e) ≡ w = third_next m e ∙ r.begins in
-          none (next e) ((are.each (next e)).1 (stands_next m e r.stands, r.ends)) (inr (subst (Joined m b) (sym is) other, λ t. never (subst (IsThird m a b) is t)))
-    ])
+    | inr never ↦
+        let onward : (e : ℕ) → Runs m e a w → ⊥ = λ e r. none e ((are.each e).1 (r.stands, r.begins)) (inl (subst (Joined m b) (sym r.ends) other, λ t. never (subst (IsThird m a b) r.ends t))) in
+        absurd (elim near [
+          | inl (e, r) ↦ onward e r
+          | inr (e, r) ↦
+              elim (option_cases (twin_of m e)) [
+                | inl alone ↦
+                    let is : third m (next e) ≡ w = third_next m e ∙ r.begins in
+                    none (next e) ((are.each (next e)).1 (stands_next m e r.stands, r.ends))
+                    (inr (ap is_none (ap (twin_of m) (next-next-next e) ∙ alone), (subst (Joined m b) (sym is) other, λ t. never (subst (IsThird m a b) is t))))
+                | inr (g, t) ↦
+                    let k = twin-is m e g t in
+                    onward g (record { stands = k.stands; begins = k.begins ∙ r.ends; ends = k.ends ∙ r.begins })
+              ]
+        ])
   ],
   third-common m a b w,
 )

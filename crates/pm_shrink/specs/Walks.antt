@@ -1,5 +1,5 @@
 -- What a walk over the corners at a vertex looks for, as tests of one corner.
-use Rattle.std.specs.Prelude.{◌≡◌, ◌≢◌, ℕ, ◌⊎◌, ◌==◌, Bool, ◌&&◌, ◌||◌, is_none}
+use Rattle.std.specs.Prelude.{◌≡◌, ◌≢◌, ℕ, ◌⊎◌, ◌==◌, Bool, ◌&&◌, ◌||◌, true, is_none}
 use Rattle.pm_base.specs.Place.{Place}
 use Rattle.pm_base.specs.Sides.{Net, next, prev, to, third, Stands, IsBorderSide, twin_of}
 use Rattle.pm_runs.specs.Surfaces.{Surface, net_of_surface}
@@ -25,9 +25,10 @@ IsAloneAlong m p q = (e : ℕ) × Runs m e p q × IsBorderSide m e × IsBorderSi
 abbrev pub IsStray : Net → ℕ → ℕ → ℕ → Type 0
 IsStray m a b w = Joined m b w × (IsThird m a b w → ⊥)
 
--- Such a one is among the other two corners of the face at the corner.
+-- Such a one follows in the face at the corner; or it comes before there, and nothing stands across the side between. Else it
+-- follows in the face that stands there.
 abbrev pub HasStray : Net → ℕ → ℕ → ℕ → Type 0
-HasStray m a b e = IsStray m a b (to m e) ⊎ IsStray m a b (third m e)
+HasStray m a b e = IsStray m a b (to m e) ⊎ ((is_none (twin_of m (prev e)) ≡ true) × IsStray m a b (third m e))
 
 -- The face at the corner, if it doesn't hold q, stays upright when the corner moves to the place.
 abbrev pub KeepsUpright : Surface → ℕ → Place → ℕ → Type 0

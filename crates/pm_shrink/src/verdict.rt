@@ -79,7 +79,8 @@ impl Shrink {
         None
     }
 
-    // Such a side in the face at a corner of a.
+    // Such a side in the face at a corner of a. A neighbour that comes before a in the face follows it in the next face, so
+    // that it is asked about here only where there is none.
     fn stray_at(&self, a: u32, b: u32, corner: u32) -> Option<u32>
         requires a_live { is_live_in self.now.surface a ≡ true }
         requires b_live { is_live_in self.now.surface b ≡ true }
@@ -93,7 +94,7 @@ impl Shrink {
         if self.is_stray(a, b, self.to(corner)) {
             return Some(next(corner));
         }
-        if self.is_stray(a, b, self.third(corner)) {
+        if self.is_border_side(prev(corner)) && self.is_stray(a, b, self.third(corner)) {
             return Some(prev(corner));
         }
         None

@@ -1,6 +1,6 @@
-use Rattle.std.proofs.Common.{◌≡◌, ℕ, Option, sym, subst, arith}
+use Rattle.std.proofs.Common.{◌≡◌, ℕ, sym, subst, arith}
 use Rattle.std.specs.Option.{IfSome}
-use Rattle.pm_base.specs.Sides.{Net, next, prev, Stands, IsTwin}
+use Rattle.pm_base.specs.Sides.{Net, next, Stands, IsTwin}
 use Rattle.pm_base.proofs.Sides.{stands_next}
 use Rattle.pm_shrink.specs.Shrinking.{net_at}
 use Rattle.pm_shrink.proofs.BesideLaws.{left_corner, right_corner}

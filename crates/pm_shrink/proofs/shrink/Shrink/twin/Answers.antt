@@ -1,4 +1,4 @@
-use Rattle.std.proofs.Common.{◌≡◌, ◌∙◌, sym, ap}
+use Rattle.std.proofs.Common.{◌∙◌, sym, ap}
 use Rattle.std.specs.Option.{option_map}
 use Rattle.pm_base.specs.declared.ids.Side.{Side}
 use Rattle.pm_base.proofs.TwinLaws.{twin-is}
