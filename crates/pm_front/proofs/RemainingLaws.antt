@@ -1,29 +1,33 @@
 -- Whether nothing needs a record once some are gone: the walk's state, and the answer.
-use Rattle.std.proofs.Common.{◌≡◌, ℕ, suc, ◌*◌, ◌<◌, Bool, true, false, not, ◌&&◌, List, [], ◌∷◌, ◌++◌, Option, Some, None, IfSome, inl, inr, refl, sym, ap, ◌∙◌, subst, arith}
+use Rattle.std.proofs.Common.{◌≡◌, ℕ, suc, ◌+◌, ◌*◌, ◌<◌, eqb, Bool, true, false, not, ◌&&◌, List, [], ◌∷◌, ◌++◌, Option, Some, None, is_some, IfSome, inl, inr, refl, sym, ap, ◌∙◌, subst, arith}
+use Rattle.std.specs.Option.{unwrap_or}
 use Rattle.std.proofs.Math.Bool.{and_assoc}
-use Rattle.std.proofs.lemmas.Bool.{cases_Bool, and_parts, and_from, both_ways, false_from_ne_true}
+use Rattle.std.proofs.lemmas.Bool.{cases_Bool, cases_eq, and_parts, and_from, and_left, and_right, both_ways, false_from_ne_true, eq-eqb, ne_eqb, cond-true, cond-false}
 use Rattle.pm_base.specs.declared.ids.Side.{Side}
 use Rattle.pm_base.proofs.Search.{option_cases}
-use Rattle.pm_forest.specs.Forest.{Hierarchy, record_count, t_of, u_of}
-use Rattle.pm_forest.specs.Fronts.{is_active}
-use Rattle.pm_forest.specs.Faces.{face_count, record_of}
+use Rattle.pm_forest.specs.Forest.{Hierarchy, record_at, record_count, t_of, u_of}
+use Rattle.pm_base.specs.Counts.{one_if}
+use Rattle.pm_base.specs.Sides.{face_of}
+use Rattle.pm_forest.specs.Fronts.{set_of, is_active}
+use Rattle.pm_forest.specs.Faces.{no_face, first_face, face_count, is_left, new_face, record_of, inner_of}
 use Rattle.pm_forest.specs.Kept.{is_shown}
 use Rattle.pm_forest.proofs.Active.{is_active-true, is_active-from}
 use Rattle.pm_forest.proofs.FaceNumbers.{record-lt}
 use Rattle.pm_forest.proofs.ShapeLaws.{shape_of_nodes}
-use Rattle.pm_forest.proofs.Shown.{shown_record, hidden-parts}
+use Rattle.pm_forest.proofs.Shown.{shown_record, shown_base, hidden-parts}
 use Rattle.pm_beyond.specs.Walks.{Reaches, StopsAt, Beyond, IsOuter, across, expected, beyond_of, number_of}
 use Rattle.pm_beyond.specs.Valid.{IsValid}
-use Rattle.pm_beyond.specs.Moves.{Needs, IsClosed, MayCollapse, needs, same_side, outer_sides}
+use Rattle.pm_beyond.specs.Moves.{Needs, as_neighbour, IsClosed, MayCollapse, needs, same_side, outer_sides}
 use Rattle.pm_beyond.proofs.AnswerLaws.{same_side-from, same_side-parts}
 use Rattle.pm_beyond.proofs.ClosedTheory.{needed}
 use Rattle.pm_beyond.proofs.Distinct.{In, in-here, in-later, in-nil, in-cases}
 use Rattle.pm_beyond.proofs.Found.{beyond-found}
+use Rattle.pm_beyond.proofs.Neighbours.{expected-inner}
 use Rattle.pm_beyond.proofs.Outer.{needs-true, needs-from, outer_sides-outer, outer_sides-has}
 use Rattle.pm_beyond.proofs.Reaching.{reaches-lt, Beyond-unique}
 use Rattle.pm_beyond.proofs.Standing.{forest_of, closed-front}
 use Rattle.pm_beyond.proofs.TargetLaws.{any_below-parts, any_below-from}
-use Rattle.pm_front.specs.Needed.{is_needed}
+use Rattle.pm_front.specs.Needed.{is_needed, remaining, AreRemaining}
 use Rattle.pm_front.specs.Told.{are_told, told_of}
 use Rattle.pm_front.proofs.RemainingWalks.{across_there, walk_ends, shown_before, jump, jump_shown, begins, begins_shown, falls}
 
@@ -94,6 +98,55 @@ module _ (h : Hierarchy) (valid : IsValid h) (S T : ℕ → Bool) (S_closed : Is
 
   pub way_ends : (r : Option Side) → IsOnWay h S T e r → StopsAt h T (number_of r) → number_of r ≡ beyond_of h T e
   way_ends r way stops = walk_ends h valid T T_closed e (number_of r) l shown way.reaches stops
+
+  -- What record k of T tells is shown in T,
+  told_shown : (k : ℕ) → k < record_count h → T k ≡ true → record_of h e ≡ Some k → (r : Option ℕ) → expected h e ≡ r → StopsAt h T r
+  told_shown k k_lt t own None q = tt
+  told_shown k k_lt t own (Some b) q =
+      elim (cases_eq e (inner_of h k (face_of e))) [
+        | inl inner ↦ shown_record h T b k (expected-inner h k e b l (own, inner) q).0 ∙ t
+        | inr outer ↦
+            elim (option_cases (record_of h b)) [
+              | inl base ↦ shown_base h T b base
+              | inr (m, is) ↦ shown_record h T b m is ∙ T_closed k m k_lt t (as_neighbour e b l (own, outer) q is)
+            ]
+      ]
+
+  -- so where it stands beyond side e in S, it does in T too.
+  pub told_stays : (k : ℕ) → k < record_count h → T k ≡ true → record_of h e ≡ Some k → beyond_of h S e ≡ expected h e → beyond_of h T e ≡ expected h e
+  told_stays k k_lt t own is =
+      let before = shown_before h valid S T S_closed T_closed part e shown in
+      let way : Reaches h T e (expected h e) = subst (Reaches h T e) is (begins h valid S T S_closed T_closed part e l before) in
+      sym (walk_ends h valid T T_closed e (expected h e) l shown way (told_shown k k_lt t own (expected h e) refl))
+
+-- The same from the parts of the code.
+pub still_told : (h : Hierarchy) (flags gone : List Bool) (k : ℕ) (e : ℕ) → AreRemaining h flags gone → k < record_count h → e < 3 * face_count h
+    → record_of h e ≡ Some k → remaining (set_of flags) (set_of gone) k ≡ true → beyond_of h (set_of flags) e ≡ expected h e
+    → same_side (beyond_of h (remaining (set_of flags) (set_of gone)) e) (expected h e) ≡ true
+still_told h flags gone k e r k_lt l own t is =
+    let S = set_of flags in
+    let T = remaining S (set_of gone) in
+    let part : (j : ℕ) → T j ≡ true → S j ≡ true = λ j u. (and_parts (S j) (not (set_of gone j)) u).0 in
+    same_side-from (beyond_of h T e) (expected h e)
+    (told_stays h r.valid S T r.closed r.remain_closed part e l (shown_record h T e k own ∙ t) k k_lt t own is)
+
+-- The faces of record k are those that it has.
+pub left_face : (h : Hierarchy) (k : ℕ) → is_some (record_at h k).left ≡ true → new_face h k (first_face h k) ≡ unwrap_or (record_at h k).left no_face
+unfolding is_left
+left_face h k left =
+    cond-true _ (unwrap_or (record_at h k).left no_face) (unwrap_or (record_at h k).right no_face)
+    (and_from (is_some (record_at h k).left) (eqb (first_face h k) (first_face h k)) left (eq-eqb (first_face h k) (first_face h k) refl))
+
+pub right_face : (h : Hierarchy) (k : ℕ) → new_face h k (first_face h k + one_if (is_some (record_at h k).left)) ≡ unwrap_or (record_at h k).right no_face
+unfolding is_left
+right_face h k =
+    let x = is_some (record_at h k).left in
+    let f = first_face h k + one_if x in
+    let not_left : (x && eqb f (first_face h k)) ≡ false = elim (cases_Bool x) [
+      | inl t ↦ (let one : one_if x ≡ 1 = ap one_if t in and_right x (eqb f (first_face h k)) (ne_eqb f (first_face h k) (omega arith)))
+      | inr t ↦ and_left x (eqb f (first_face h k)) t
+    ] in
+    cond-false _ (unwrap_or (record_at h k).left no_face) (unwrap_or (record_at h k).right no_face) not_left
 
 pub told_both : (h : Hierarchy) (T : ℕ → Bool) (xs ys : List ℕ) → are_told h T (xs ++ ys) ≡ (are_told h T xs && are_told h T ys)
 told_both h T [] ys = refl

@@ -4,7 +4,8 @@
 ghost use Rattle.std.specs.Prelude.{◌≡◌, ◌*◌, ◌<◌, ◌&&◌, not, true, length, Some};
 ghost use Rattle.pm_forest.specs.Forest.{node_count, record_count};
 ghost use Rattle.pm_forest.specs.Fronts.{set_of, is_active};
-ghost use Rattle.pm_forest.specs.Faces.{face_count, revealed_by, record_of};
+ghost use Rattle.std.specs.Option.{unwrap_or};
+ghost use Rattle.pm_forest.specs.Faces.{no_face, face_count, revealed_by, record_of, new_face};
 ghost use Rattle.pm_forest.specs.Kept.{is_shown};
 ghost use Rattle.pm_beyond.specs.Walks.{across, number_of, expected, beyond_of};
 ghost use Rattle.pm_beyond.specs.Moves.{same_side, outer_pair, outer_sides};
@@ -15,6 +16,21 @@ use crate::corners::first_child;
 use crate::refinement::Refinement;
 use crate::sides::next;
 use pm_base::{FaceId, NodeId, Side};
+use pm_forest::NewFace;
+
+// What a record tells of the first outer side of a new face.
+fn first_told(new: Option<NewFace>) -> Option<Side>
+    ensures { result ≡ (unwrap_or new no_face).first }
+{
+    new?.first
+}
+
+// And of the second one.
+fn second_told(new: Option<NewFace>) -> Option<Side>
+    ensures { result ≡ (unwrap_or new no_face).second }
+{
+    new?.second
+}
 
 impl Refinement {
     // Whether a record is split and not gone.
@@ -86,36 +102,45 @@ impl Refinement {
         found
     }
 
-    // Whether beyond a side of a face of record `k`, which remains, stands what the record tells.
-    #[tactic(auto, using(pm_forest::proofs::Shown::shown_record))]
-    fn remains_told(&self, gone: &[bool], k: u32, side: Side) -> bool
+    // Whether beyond a side of a face of record `k`, which remains, stands what the record tells. What is told remains too,
+    // so where it stood there before any record was gone, it still does.
+    #[tactic(auto, using(pm_forest::proofs::Shown::shown_record, crate::proofs::RemainingLaws::still_told))]
+    fn remains_told(&self, gone: &[bool], k: u32, side: Side, told: Option<Side>) -> bool
+        requires record { k < record_count self.now.h }
         requires side { side.0 < 3 * face_count self.now.h }
         requires remain { AreRemaining self.now.h self.now.flags gone.now }
         requires own { record_of self.now.h side.0 ≡ Some k }
         requires there { remaining (set_of self.now.flags) (set_of gone.now) k ≡ true }
+        requires told { number_of told ≡ expected self.now.h side.0 }
         ensures { result
             ≡ same_side (beyond_of self.now.h (remaining (set_of self.now.flags) (set_of gone.now)) side.0)
             (expected self.now.h side.0) }
     {
-        self.remains_beyond(gone, side) == self.indexed.expected(side)
+        if self.beyond(side) == told {
+            return true;
+        }
+        self.remains_beyond(gone, side) == told
     }
 
-    // Whether beyond both outer sides of a face of record `k` stands what is recorded.
-    fn face_remains_told(&self, gone: &[bool], k: u32, face: FaceId) -> bool
+    // Whether beyond both outer sides of a face of record `k` stands what the record tells of the face.
+    #[tactic(auto, using(pm_beyond::proofs::Neighbours::first_expected, pm_beyond::proofs::Neighbours::second_expected))]
+    fn face_remains_told(&self, gone: &[bool], k: u32, face: FaceId, new: Option<NewFace>) -> bool
         requires record { k < record_count self.now.h }
         requires face { face.0 < face_count self.now.h }
         requires remain { AreRemaining self.now.h self.now.flags gone.now }
         requires own { revealed_by self.now.h face.0 ≡ Some k }
         requires there { remaining (set_of self.now.flags) (set_of gone.now) k ≡ true }
+        requires new { new_face self.now.h k face.0 ≡ unwrap_or new no_face }
         ensures { result ≡ are_told self.now.h (remaining (set_of self.now.flags) (set_of gone.now))
             (outer_pair self.now.h k face.0) }
     {
         let first = next(self.indexed.inner(k, face));
-        self.remains_told(gone, k, first) && self.remains_told(gone, k, next(first))
+        self.remains_told(gone, k, first, first_told(new))
+            && self.remains_told(gone, k, next(first), second_told(new))
     }
 
     // Whether beyond each outer side of record `k` stands what is recorded.
-    #[tactic(auto, unfolding(pm_beyond::specs::Moves::outer_sides), using(crate::proofs::FirstLaws::left_there, crate::proofs::FirstLaws::right_there, crate::proofs::FirstLaws::left_own, crate::proofs::FirstLaws::right_own, crate::proofs::RemainingLaws::told_both))]
+    #[tactic(auto, unfolding(pm_beyond::specs::Moves::outer_sides), using(crate::proofs::FirstLaws::left_there, crate::proofs::FirstLaws::right_there, crate::proofs::FirstLaws::left_own, crate::proofs::FirstLaws::right_own, crate::proofs::RemainingLaws::left_face, crate::proofs::RemainingLaws::right_face, crate::proofs::RemainingLaws::told_both))]
     fn sides_remain_told(&self, gone: &[bool], k: u32) -> bool
         requires record { k < record_count self.now.h }
         requires remain { AreRemaining self.now.h self.now.flags gone.now }
@@ -126,11 +151,11 @@ impl Refinement {
         let change = self.indexed.hierarchy().record_at(k);
         let face = self.indexed.first_face(k);
         let right_face = face + u32::from(change.left.is_some());
-        if change.left.is_some() && !self.face_remains_told(gone, k, FaceId(face)) {
+        if change.left.is_some() && !self.face_remains_told(gone, k, FaceId(face), change.left) {
             return false;
         }
         if change.right.is_some() {
-            self.face_remains_told(gone, k, FaceId(right_face))
+            self.face_remains_told(gone, k, FaceId(right_face), change.right)
         } else {
             true
         }
