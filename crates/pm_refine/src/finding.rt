@@ -1,6 +1,6 @@
-// Records that aren't split and whose nodes are wanted are found from the active nodes: a wanted
-// node has a wanted parent.
-ghost use Rattle.std.specs.Prelude.{◌≡◌, ◌+◌, ◌*◌, ◌<◌, ◌≤◌, ◌==◌, ◌||◌, length, false};
+// Records that aren't split and whose nodes are wanted are found from the active nodes, since a wanted
+// node has a wanted parent, and so are records that may go.
+ghost use Rattle.std.specs.Prelude.{ℕ, ◌≡◌, ◌+◌, ◌*◌, ◌<◌, ◌≤◌, ◌==◌, ◌||◌, length, false};
 ghost use Rattle.pm_base.specs.Counts.{count};
 ghost use Rattle.pm_queue.specs.Entries.{IsEmpty};
 ghost use Rattle.pm_forest.specs.Forest.{record_count, node_count, t_of, u_of};
@@ -8,8 +8,10 @@ ghost use Rattle.pm_forest.specs.Fronts.{set_of};
 ghost use Rattle.pm_bounds.specs.Bounds.{AreBoundsOf};
 ghost use Rattle.pm_view.specs.Wanted.{is_wanted};
 ghost use Rattle.pm_refine.specs.Queued.{up_key, held, AreKeyed, Joins, leads_to};
-ghost use Rattle.pm_refine.specs.Finding.{is_due, AreSeen, AreDue};
+ghost use Rattle.pm_refine.specs.Needed.{is_free};
+ghost use Rattle.pm_refine.specs.Finding.{is_due, AreSeen, AreLoose, IsStart};
 
+use crate::loosening::try_maker;
 use crate::queues::{put_down, put_up};
 use pm_base::NodeId;
 use pm_bounds::Bounds;
@@ -44,25 +46,35 @@ fn look<L: Ledger>(
     }
 }
 
-// Looks at each active node.
+// Looks at each active node, and tries its maker.
 fn see_active<L: Ledger>(
     front: &Front,
     bounds: &Bounds,
     view: &View,
+    gone: &[bool],
     moves: &mut Queue,
+    work: &mut Queue,
     steps: &mut Steps<L>,
 )
     requires bounds { AreBoundsOf front.now.h bounds.now }
+    requires gone { length gone.now ≡ record_count front.now.h }
+    requires clear { (j : ℕ) → set_of gone.now j ≡ false }
     requires moves { length moves.old ≡ record_count front.now.h }
+    requires work { length work.old ≡ record_count front.now.h }
     requires no_moves { IsEmpty moves.old }
+    requires no_work { IsEmpty work.old }
     ensures seen { AreSeen front.now.h (is_wanted front.now.h view.now) (set_of front.now.flags)
         (λ v. false) moves.new }
-    ensures cost { steps.new ≤ steps.old + length front.now.active }
+    ensures loose { AreLoose front.now.h (is_wanted front.now.h view.now) (set_of front.now.flags)
+        work.new }
+    ensures cost { let h = front.now.h in steps.new ≤ steps.old + length front.now.active
+        + count (is_free h (set_of front.now.flags)) (record_count h) }
 {
     front.is_sound();
     let mut cursor = front.first_active();
     while let Some(node) = cursor {
         look(front.hierarchy(), bounds, view, node, moves, steps);
+        try_maker(front, bounds, view, gone, node, work, steps);
         cursor = front.next_active(node);
     }
 }
@@ -92,32 +104,36 @@ fn look_below<L: Ledger>(
     look(h, bounds, view, NodeId(t + 1), moves, steps);
 }
 
-/// Finds the records that aren't split and whose nodes are wanted, and puts them on the queue `work`.
-/// It uses the queue `moves`, and tests each active node and each child of what it finds once at
-/// most.
+/// Finds the records that aren't split and whose nodes are wanted, and the records that may go, and puts
+/// them on the queue `work`. It uses the queue `moves`. It goes over the active nodes once, tests each of
+/// them and each child of what it finds once at most, and each split record that no split record needs
+/// once.
 pub(crate) fn find<L: Ledger>(
     front: &Front,
     bounds: &Bounds,
     view: &View,
+    gone: &[bool],
     moves: &mut Queue,
     work: &mut Queue,
     steps: &mut Steps<L>,
 )
     requires bounds { AreBoundsOf front.now.h bounds.now }
+    requires gone { length gone.now ≡ record_count front.now.h }
+    requires clear { (j : ℕ) → set_of gone.now j ≡ false }
     requires moves { length moves.old ≡ record_count front.now.h }
     requires work { length work.old ≡ record_count front.now.h }
     requires no_moves { IsEmpty moves.old }
     requires no_work { IsEmpty work.old }
     ensures len { length moves.new ≡ length moves.old }
     ensures empty { IsEmpty moves.new }
-    ensures found { AreDue front.now.h (is_wanted front.now.h view.now) (set_of front.now.flags)
+    ensures start { IsStart front.now.h (is_wanted front.now.h view.now) (set_of front.now.flags)
         work.new }
     ensures cost { let h = front.now.h in let S = set_of front.now.flags in
-        steps.new ≤ steps.old + length front.now.active
+        steps.new ≤ steps.old + length front.now.active + count (is_free h S) (record_count h)
         + 2 * count (is_due h (is_wanted h view.now) S) (record_count h) }
 {
     front.is_sound();
-    see_active(front, bounds, view, moves, steps);
+    see_active(front, bounds, view, gone, moves, work, steps);
     let mut next = 0;
     while let Some((k, _)) = moves.take_least() {
         put_down(work, k);

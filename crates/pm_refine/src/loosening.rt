@@ -8,7 +8,6 @@ ghost use Rattle.pm_beyond.specs.Moves.{IsClosed};
 ghost use Rattle.pm_bounds.specs.Bounds.{AreBoundsOf};
 ghost use Rattle.pm_view.specs.Wanted.{is_wanted};
 ghost use Rattle.pm_refine.specs.Queued.{down_key, held, AreKeyed, Joins};
-ghost use Rattle.pm_refine.specs.Finding.{AreDue, IsStart};
 ghost use Rattle.pm_front.specs.Needed.{is_needed, remaining};
 ghost use Rattle.pm_refine.specs.Needed.{is_free, is_loose};
 
@@ -63,8 +62,9 @@ fn may_go<L: Ledger>(
     !wants(h, bounds, NodeId(h.record_at(k).s), view, steps)
 }
 
-// Puts the record whose first child an active node is on the queue, if it may go.
-fn try_maker<L: Ledger>(
+/// Puts the record whose first child an active node is on the queue, if it may go. It tests the record's node where no
+/// split record needs the record.
+pub(crate) fn try_maker<L: Ledger>(
     front: &Front,
     bounds: &Bounds,
     view: &View,
@@ -91,33 +91,5 @@ fn try_maker<L: Ledger>(
         if may_go(front, bounds, view, gone, k, steps) {
             put_down(work, k);
         }
-    }
-}
-
-/// Puts the records that may go on the queue. It tests each split record that no split record needs
-/// once.
-pub(crate) fn find_loose<L: Ledger>(
-    front: &Front,
-    bounds: &Bounds,
-    view: &View,
-    gone: &[bool],
-    work: &mut Queue,
-    steps: &mut Steps<L>,
-)
-    requires bounds { AreBoundsOf front.now.h bounds.now }
-    requires gone { length gone.now ≡ record_count front.now.h }
-    requires clear { (j : ℕ) → set_of gone.now j ≡ false }
-    requires due { AreDue front.now.h (is_wanted front.now.h view.now) (set_of front.now.flags)
-        work.old }
-    ensures start { IsStart front.now.h (is_wanted front.now.h view.now) (set_of front.now.flags)
-        work.new }
-    ensures cost { let h = front.now.h in
-        steps.new ≤ steps.old + count (is_free h (set_of front.now.flags)) (record_count h) }
-{
-    front.is_sound();
-    let mut cursor = front.first_active();
-    while let Some(node) = cursor {
-        try_maker(front, bounds, view, gone, node, work, steps);
-        cursor = front.next_active(node);
     }
 }

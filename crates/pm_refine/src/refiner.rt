@@ -13,7 +13,6 @@ use crate::OutOfMemory;
 use crate::deciding::decide_all;
 use crate::doing::{adapted, advance};
 use crate::finding::find;
-use crate::loosening::find_loose;
 use crate::queues::clear;
 use pm_bounds::Bounds;
 use pm_forest::Hierarchy;
@@ -104,8 +103,15 @@ impl Refiner {
             + 2 * length (active_nodes front.old.h S) + 4 * length (view_plan front.old.h S view.now) }
     {
         front.is_sound();
-        find(front, bounds, view, &mut self.moves, &mut self.work, steps);
-        find_loose(front, bounds, view, &self.gone, &mut self.work, steps);
+        find(
+            front,
+            bounds,
+            view,
+            &self.gone,
+            &mut self.moves,
+            &mut self.work,
+            steps,
+        );
         let moves = decide_all(
             front,
             bounds,

@@ -46,6 +46,5 @@ returns-clause-cost g c =
     let plan = length-plan h S (view_target h view) in
     let down = c.find.ensures.cost in
     let up = c.decide_all-moves.ensures.cost in
-    let loose = c.find_loose.ensures.cost in
     let apart = free_and_needed h shape (is_wanted h view) S closed in
     omega arith
