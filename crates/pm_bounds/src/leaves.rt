@@ -1,17 +1,17 @@
 // The bounds of leaves, which the faces at them give.
-ghost use Rattle.std.specs.Prelude.{◌≡◌, ℕ, ◌+◌, ◌*◌, ◌<◌, ◌≤◌, ◌||◌, ◌==◌, max, cond, None, Some, replicate, length, map, IfOk, IfSome, slice_index_or, slice_set};
-ghost use Rattle.pm_base.specs.Geometry.{IsNormal};
+ghost use Rattle.std.specs.Prelude.{◌≡◌, ℕ, ◌+◌, ◌*◌, ◌<◌, ◌≤◌, ◌||◌, ◌==◌, max, cond, [], ◌∷◌, None, Some, replicate, length, map, IfOk, IfSome, slice_index_or, slice_set};
+ghost use Rattle.pm_base.specs.Geometry.{IsNormal, dist2_of, cross_of};
 ghost use Rattle.pm_base.specs.Rounded.{root_up};
 ghost use Rattle.pm_forest.specs.Forest.{node_count, splitter_of};
 ghost use Rattle.pm_forest.specs.Faces.{face_count, corners_of};
 ghost use Rattle.pm_forest.specs.Tables.{leaf_node_of};
 ghost use Rattle.pm_bounds.specs.Boxes.{join, box_at, IsSmallBox};
-ghost use Rattle.pm_bounds.specs.Bounds.{normal_of, leaf_radius, box_under};
+ghost use Rattle.pm_bounds.specs.Bounds.{greatest, normal_of, leaf_radius, box_under};
 ghost use Rattle.pm_bounds.specs.Tables.{is_corner_node, square_reach};
 
 use crate::normal_box::join;
 use crate::{NormalBox, OutOfMemory};
-use pm_base::{FaceId, NodeId, cross, dist2};
+use pm_base::{FaceId, NodeId, Point, cross, dist2};
 use pm_forest::Hierarchy;
 use std::alloc::Global;
 
@@ -47,48 +47,40 @@ fn corner_nodes(h: &Hierarchy, f: FaceId) -> (NodeId, NodeId, NodeId)
     )
 }
 
-// The squared distance of the farthest corner of a face from the place of a node.
-#[tactic(auto, unfolding(crate::specs::Tables::square_reach))]
-fn square_reach(h: &Hierarchy, node: NodeId, f: FaceId) -> u64
-    requires face { f.0 < face_count h.now }
-    requires node { node.0 < node_count h.now }
-    ensures value { result ≡ square_reach h.now node.0 (corners_of h.now f.0) }
+// The squared distance of the farthest of three places from a place.
+fn square_reach(place: Point, a: Point, b: Point, c: Point) -> u64
+    ensures value { result ≡ greatest (dist2_of place a ∷ dist2_of place b ∷ dist2_of place c ∷ []) }
     ensures small { result ≤ 12884115468 }
 {
-    let place = h.place(node);
-    let (a, b, c) = corner_nodes(h, f);
-    let first = dist2(place, h.place(a));
-    let second = dist2(place, h.place(b));
-    let third = dist2(place, h.place(c));
+    let first = dist2(place, a);
+    let second = dist2(place, b);
+    let third = dist2(place, c);
     first.max(second.max(third))
 }
 
-// The face's normal alone, as a box.
-fn face_box(h: &Hierarchy, f: FaceId) -> NormalBox
-    requires { f.0 < face_count h.now }
-    ensures value { result ≡ box_at (normal_of h.now (corners_of h.now f.0)) }
+// The normal of the face between three places alone, as a box.
+fn face_box(a: Point, b: Point, c: Point) -> NormalBox
+    ensures value { result ≡ box_at (cross_of a b c) }
     ensures small { IsSmallBox result }
 {
-    let (a, b, c) = corner_nodes(h, f);
-    let normal = cross(h.place(a), h.place(b), h.place(c));
+    let normal = cross(a, b, c);
     NormalBox {
         low: normal,
         high: normal,
     }
 }
 
-// Lets the square of a node reach a face.
-fn widen_square(h: &Hierarchy, squares: &mut Vec<u64>, node: NodeId, f: FaceId)
-    requires face { f.0 < face_count h.now }
-    requires node { node.0 < node_count h.now }
-    requires len { length squares.old.items ≡ node_count h.now }
-    requires small { (v : ℕ) → v < node_count h.now → slice_index_or squares.old.items v 0 ≤ 12884115468 }
-    ensures value { squares.new.items ≡ slice_set squares.old.items node.0 (max (slice_index_or squares.old.items node.0 0) (square_reach h.now node.0 (corners_of h.now f.0))) }
-    ensures len { length squares.new.items ≡ node_count h.now }
-    ensures small { (v : ℕ) → v < node_count h.now → slice_index_or squares.new.items v 0 ≤ 12884115468 }
+// Lets the square of a node reach as far as another.
+fn widen_square(squares: &mut Vec<u64>, node: NodeId, square: u64)
+    requires node { node.0 < length squares.old.items }
+    requires square { square ≤ 12884115468 }
+    requires small { (v : ℕ) → v < length squares.old.items → slice_index_or squares.old.items v 0 ≤ 12884115468 }
+    ensures value { squares.new.items ≡ slice_set squares.old.items node.0 (max (slice_index_or squares.old.items node.0 0) square) }
+    ensures len { length squares.new.items ≡ length squares.old.items }
+    ensures small { (v : ℕ) → v < length squares.new.items → slice_index_or squares.new.items v 0 ≤ 12884115468 }
 {
     let at = node.0 as usize;
-    squares[at] = squares[at].max(square_reach(h, node, f));
+    squares[at] = squares[at].max(square);
 }
 
 // Takes the normal of a face into the box of a node.
@@ -115,9 +107,10 @@ fn widen_squares(h: &Hierarchy, squares: &mut Vec<u64>, f: FaceId)
         slice_index_or squares.new.items v 0 ≡ cond (is_corner_node h.now v (corners_of h.now f.0)) (max old (square_reach h.now v (corners_of h.now f.0))) old }
 {
     let (a, b, c) = corner_nodes(h, f);
-    widen_square(h, squares, a, f);
-    widen_square(h, squares, b, f);
-    widen_square(h, squares, c, f);
+    let (first, second, third) = (h.place(a), h.place(b), h.place(c));
+    widen_square(squares, a, square_reach(first, first, second, third));
+    widen_square(squares, b, square_reach(second, first, second, third));
+    widen_square(squares, c, square_reach(third, first, second, third));
 }
 
 // The least whole number whose square is at least n.
@@ -154,7 +147,7 @@ fn widen_boxes(h: &Hierarchy, boxes: &mut Vec<Option<NormalBox>>, f: FaceId)
         slice_index_or boxes.new.items v None ≡ cond (is_corner_node h.now v (corners_of h.now f.0)) (join old (Some (box_at (normal_of h.now (corners_of h.now f.0))))) old }
 {
     let (a, b, c) = corner_nodes(h, f);
-    let face = face_box(h, f);
+    let face = face_box(h.place(a), h.place(b), h.place(c));
     widen_box(boxes, a, face);
     widen_box(boxes, b, face);
     widen_box(boxes, c, face);

@@ -15,4 +15,4 @@ returns-clause-each c v l =
     c.corner_nodes.result.0.0 c.corner_nodes.result.1.0 c.corner_nodes.result.2.0
     (omega (arith, ends.a_node)) (omega (arith, ends.b_node)) (omega (arith, ends.c_node))
     c.widen_box.ensures.value c.widen_box-2.ensures.value c.widen_box-3.ensures.value v in
-    read ∙ (rw (ends.a, ends.b, ends.c, c.face_box-face.ensures.value) refl)
+    read ∙ (rw (c.face_box-face.ensures.value, c.place.ensures, c.place-2.ensures, c.place-3.ensures, ends.a, ends.b, ends.c) refl)
