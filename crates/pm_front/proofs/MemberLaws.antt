@@ -7,13 +7,10 @@ use Rattle.pm_links.proofs.Calls.{list_of-past, after_push, after_unlink}
 use Rattle.pm_links.proofs.Members.{has_head, has_tail}
 use Rattle.pm_links.proofs.Without.{without_none, has-without, once-without}
 use Rattle.pm_forest.specs.Forest.{Hierarchy, node_count}
-use Rattle.pm_forest.specs.Fronts.{IsFront, is_active}
-use Rattle.pm_forest.specs.Faces.{face_count, IsForest}
-use Rattle.pm_forest.specs.Kept.{is_kept}
-use Rattle.pm_forest.proofs.Shown.{kept-shown}
+use Rattle.pm_forest.specs.Fronts.{is_active}
 use Rattle.pm_front.specs.Members.{Members, AreMembers}
-use Rattle.pm_front.specs.Shown.{numbers, active_nodes, kept_faces}
-use Rattle.pm_front.specs.Active.{AreActive, AreKept}
+use Rattle.pm_front.specs.Shown.{numbers, active_nodes}
+use Rattle.pm_front.specs.Active.{AreActive}
 use Rattle.pm_front.proofs.ListLaws.{has_filter-parts, has_filter-from, once-filter, once-range, number-member}
 
 -- ---- how many
@@ -59,13 +56,6 @@ as_many p n xs once each =
 
 pub active-many : (h : Hierarchy) (T : ℕ → Bool) (nodes : List ℕ) → AreActive h T nodes → length nodes ≡ length (active_nodes h T)
 active-many h T nodes right = as_many (is_active h T) (node_count h) nodes right.once right.each
-
-pub kept-many : (h : Hierarchy) → IsForest h → (T : ℕ → Bool) → IsFront h T → (faces : List ℕ) → AreKept h T faces → length faces ≡ length (kept_faces h T)
-kept-many h tree T front faces right =
-    as_many (is_kept h T) (face_count h) faces right.once (λ f. (
-      λ t. (let q = (right.each f).0 t in (q.0, kept-shown h tree T front f q.0 ∙ q.1)),
-      λ q. (right.each f).1 (q.0, sym (kept-shown h tree T front f q.0) ∙ q.1),
-    ))
 
 -- ---- the arena
 

@@ -1,16 +1,14 @@
 // Different numbers below a bound in a linked list, which can be walked, and how many they are.
-ghost use Rattle.std.specs.Prelude.{◌≡◌, ◌-◌, ◌<◌, ◌≤◌, ◌∷◌, [], ℕ, true, false, filter, length, IfOk};
+ghost use Rattle.std.specs.Prelude.{◌≡◌, ◌<◌, ◌≤◌, ◌∷◌, [], true, false, length, IfOk};
 ghost use Rattle.pm_links.specs.Lists.{has, without, first_of, after};
 ghost use Rattle.pm_links.specs.declared.links.TheConstants.{LIMIT};
-ghost use Rattle.pm_forest.specs.Fronts.{every};
-ghost use Rattle.pm_front.specs.Corners.{prepend_passing, is_outside};
 
 use crate::OutOfMemory;
 use pm_links::Links;
 use std::alloc::Global;
 use std::marker::Model;
 
-/// Contracts see the bound and the list. All calls but `new` and the two on ranges take O(1) time.
+/// Contracts see the bound and the list. All calls but `new` take O(1) time.
 #[derive(Drop)]
 pub(crate) struct Members {
     links: Links,
@@ -55,30 +53,6 @@ impl Members {
     {
         self.links.unlink(number);
         self.count -= 1;
-    }
-
-    /// Puts the numbers from `from` to before `until` first, one after the other.
-    pub(crate) fn insert_range(&mut self, from: u32, until: u32)
-        requires below { until ≤ self.old.bound }
-        requires absent { (x : ℕ) → from ≤ x → x < until → has self.old.list x ≡ false }
-        ensures bound { self.new.bound ≡ self.old.bound }
-        ensures list { self.new.list ≡ prepend_passing every from (until - from) self.old.list }
-    {
-        for number in from..until {
-            self.insert(number);
-        }
-    }
-
-    /// Takes the numbers from `from` to before `until` out.
-    pub(crate) fn remove_range(&mut self, from: u32, until: u32)
-        requires ordered { from ≤ until }
-        requires there { (x : ℕ) → from ≤ x → x < until → has self.old.list x ≡ true }
-        ensures bound { self.new.bound ≡ self.old.bound }
-        ensures list { self.new.list ≡ filter (is_outside from until) self.old.list }
-    {
-        for number in from..until {
-            self.remove(number);
-        }
     }
 
     /// How many they are.
