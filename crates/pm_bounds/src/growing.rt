@@ -8,7 +8,8 @@ ghost use Rattle.pm_bounds.specs.Tables.{grown_at};
 
 use crate::NormalBox;
 use crate::normal_box::join;
-use pm_base::{NodeId, dist_up};
+use crate::roots::root_up;
+use pm_base::{NodeId, dist2};
 use pm_forest::Hierarchy;
 
 // The node that a record splits, and its two children.
@@ -36,8 +37,8 @@ fn from_children(h: &Hierarchy, numbers: &[u64], k: u32) -> u64
 {
     let (s, t, u) = nodes_of(h, k);
     let place = h.place(s);
-    let by_t = numbers[t.0 as usize] + u64::from(dist_up(place, h.place(t)));
-    let by_u = numbers[u.0 as usize] + u64::from(dist_up(place, h.place(u)));
+    let by_t = numbers[t.0 as usize] + root_up(dist2(place, h.place(t)));
+    let by_u = numbers[u.0 as usize] + root_up(dist2(place, h.place(u)));
     by_t.max(by_u)
 }
 

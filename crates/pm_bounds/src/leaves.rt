@@ -10,6 +10,7 @@ ghost use Rattle.pm_bounds.specs.Bounds.{greatest, normal_of, leaf_radius, box_u
 ghost use Rattle.pm_bounds.specs.Tables.{is_corner_node, square_reach};
 
 use crate::normal_box::join;
+use crate::roots::root_up;
 use crate::{NormalBox, OutOfMemory};
 use pm_base::{FaceId, NodeId, Point, cross, dist2};
 use pm_forest::Hierarchy;
@@ -111,17 +112,6 @@ fn widen_squares(h: &Hierarchy, squares: &mut Vec<u64>, f: FaceId)
     widen_square(squares, a, square_reach(first, first, second, third));
     widen_square(squares, b, square_reach(second, first, second, third));
     widen_square(squares, c, square_reach(third, first, second, third));
-}
-
-// The least whole number whose square is at least n.
-fn root_up(n: u64) -> u64
-    requires { n ≤ 12884115468 }
-    ensures enough { n ≤ result * result }
-    ensures least { (m : ℕ) → n ≤ m * m → result ≤ m }
-    ensures small { result ≤ 113509 }
-{
-    let root = n.isqrt();
-    if root * root < n { root + 1 } else { root }
 }
 
 // Puts the root of each number, rounded up, in its place.

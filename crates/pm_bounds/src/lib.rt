@@ -5,6 +5,7 @@ mod bounds;
 mod growing;
 mod leaves;
 mod normal_box;
+mod roots;
 #[cfg(test)]
 mod tests;
 mod theory;
