@@ -1,5 +1,5 @@
 -- The start and the end of the reading.
-use Rattle.std.proofs.Common.{◌≡◌, ℕ, ◌+◌, ◌-◌, ◌<◌, ◌≤◌, ◌⊎◌, inl, inr, true, List, [], ◌∷◌, ◌++◌, length, Option, Some, None, Result, Ok, Err, IfSome, IfOk, IfErr, refl, sym, ◌∙◌, ap, subst, arith}
+use Rattle.std.proofs.Common.{◌≡◌, ℕ, ◌+◌, ◌-◌, ◌<◌, ◌≤◌, ◌⊎◌, inl, inr, List, [], ◌++◌, length, Option, Some, None, Result, Ok, Err, IfSome, refl, sym, ◌∙◌, ap, subst, arith}
 use Rattle.std.specs.Io.KnownBytes.{prepend_known}
 use Rattle.std.proofs.lemmas.List.{append-nil}
 use Rattle.std.proofs.lemmas.List.Elements.{All-nil}
@@ -13,16 +13,15 @@ use Rattle.obj_lines.proofs.FedLaws.{end_none, end_some}
 use Rattle.obj_read.specs.declared.fault.ObjFault.{ObjFault}
 use Rattle.obj_read.specs.declared.fault.ObjFail.{ObjFail}
 use Rattle.obj_read.specs.declared.fault.ObjFail.TheVariants as fails
-use Rattle.obj_read.specs.declared.step.Progress.{Progress}
 use Rattle.obj_read.specs.Fails.{IsFaultOf, IsRefusal, IsRefused}
 use Rattle.obj_read.proofs.FinishLaws.{start, is_last}
 use Rattle.obj_read.specs.Meaning.{Refused}
 use Rattle.obj_scan.specs.Judged.{Scanned}
-use Rattle.obj_scan.specs.Meaning.{SoFar, AreCorners, first_number, at_end, meaning_from, meaning_of, nothing_yet}
+use Rattle.obj_scan.specs.Meaning.{SoFar, AreCorners, at_end, meaning_from, meaning_of}
 use Rattle.obj_scan.specs.Reading.{Held, StandsAt, IsScanning, IsReady, taken, nothing_held, so_far, after_lines}
 use Rattle.obj_scan.specs.Fails.{Explains}
 use Rattle.obj_scan.proofs.StandLaws.{stands_start}
-use Rattle.obj_scan.proofs.JudgeLaws.{held_in, later, then_taken, judged_line}
+use Rattle.obj_scan.proofs.JudgeLaws.{held_in, then_taken, judged_line}
 
 none_scanning : IsScanning nothing_held.scanned
 none_scanning = record {

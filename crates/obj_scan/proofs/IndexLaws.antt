@@ -1,5 +1,5 @@
 -- Laws of the fields of a face.
-use Rattle.std.proofs.Common.{◌≡◌, ℕ, ◌+◌, ◌-◌, ◌<◌, ◌≤◌, Bool, true, false, nat_lt, nat_le, List, [], ◌∷◌, ◌++◌, length, Result, Ok, Err, refl, sym, ◌∙◌, ap, subst, arith, append_assoc}
+use Rattle.std.proofs.Common.{◌≡◌, ℕ, true, false, nat_le, List, [], ◌∷◌, ◌++◌, length, Result, Ok, Err, refl, sym, ◌∙◌, ap, arith, append_assoc}
 use Rattle.std.proofs.lemmas.List.{append-nil}
 use Rattle.std.proofs.lemmas.Bool.Decides.{nat_tests}
 use Rattle.obj_read.specs.declared.fault.ObjFault.{ObjFault}
@@ -9,7 +9,7 @@ use Rattle.obj_read.specs.declared.fault.ObjFail.TheVariants as fails
 use Rattle.obj_read.specs.Fails.{IsFaultOf}
 use Rattle.obj_read.specs.Indices.{index, index_text}
 use Rattle.obj_read.specs.Judged.{◌>>=◌}
-use Rattle.obj_scan.specs.Judged.{Found, indices, polygon_of, face_line}
+use Rattle.obj_scan.specs.Judged.{indices, polygon_of, face_line}
 
 -- Three fields, one after the other.
 pub three_fields : (a b c : List ℕ) (fs gs hs more : List (List ℕ)) → fs ≡ a ∷ gs → gs ≡ b ∷ hs → hs ≡ c ∷ more → fs ≡ a ∷ b ∷ c ∷ more

@@ -1,8 +1,7 @@
 -- Laws of what lines gave.
-use Rattle.std.proofs.Common.{◌≡◌, ℕ, zero, suc, ◌+◌, ◌-◌, ◌<◌, ◌≤◌, Bool, true, false, ◌==◌, nat_lt, slice_index_or, List, [], ◌∷◌, ◌++◌, length, take, drop, Result, Ok, Err, refl, sym, ◌∙◌, ap, subst, arith, length-append, if◌then◌else◌}
+use Rattle.std.proofs.Common.{◌≡◌, ℕ, zero, suc, ◌+◌, ◌-◌, ◌<◌, ◌≤◌, Bool, true, false, ◌==◌, nat_lt, List, [], ◌∷◌, ◌++◌, length, take, drop, Result, refl, sym, ◌∙◌, ap, subst, arith, length-append, if◌then◌else◌}
 use Rattle.std.specs.List.{All}
 use Rattle.std.proofs.lemmas.Bool.{ltb-true}
-use Rattle.std.proofs.lemmas.Bool.Decides.{nat_tests}
 use Rattle.std.proofs.lemmas.List.{take-append-drop}
 use Rattle.std.proofs.lemmas.List.Elements.{All-append, All-nil, All-take, All-drop}
 use Rattle.std.proofs.Math.Seq.{take-append-add}
@@ -15,8 +14,8 @@ use Rattle.obj_read.specs.declared.fault.ObjFail.TheVariants as fails
 use Rattle.obj_read.specs.Fails.{IsFaultOf}
 use Rattle.obj_scan.specs.Polygons.{before_least, begun_least, fan, fan_of, triangles}
 use Rattle.obj_scan.specs.Judged.{Scanned, Found, polygons_after, with_found}
-use Rattle.obj_scan.specs.Meaning.{AreCorners, IsWithin}
-use Rattle.obj_scan.specs.Reading.{IsScanning, Held, given, ended}
+use Rattle.obj_scan.specs.Meaning.{AreCorners}
+use Rattle.obj_scan.specs.Reading.{IsScanning, given, ended}
 
 -- A polygon of n corners has n - 2 triangles.
 

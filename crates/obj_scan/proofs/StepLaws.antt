@@ -1,7 +1,7 @@
 -- One step of the reading, over plain variables: a lemma for each thing that a step has to say.
-use Rattle.std.proofs.Common.{◌≡◌, ℕ, ◌+◌, ◌-◌, ◌<◌, ◌≤◌, ◌⊎◌, List, [], ◌∷◌, ◌++◌, length, take, drop, Option, Ok, Err, IfSome, refl, sym, ◌∙◌, ap, subst, arith, length-append, append_assoc}
+use Rattle.std.proofs.Common.{◌≡◌, ℕ, ◌+◌, ◌-◌, ◌<◌, ◌≤◌, ◌⊎◌, List, [], ◌∷◌, ◌++◌, length, take, drop, Option, Ok, Err, IfSome, sym, ◌∙◌, ap, subst, arith, length-append, append_assoc}
 use Rattle.std.specs.Io.KnownBytes.{prepend_known}
-use Rattle.std.proofs.lemmas.List.{take-append-drop, length-take-le, take-take}
+use Rattle.std.proofs.lemmas.List.{take-append-drop, length-take-le}
 use Rattle.obj_lines.specs.declared.state.LineState.{LineState}
 use Rattle.obj_lines.specs.declared.state.LineState.TheVariants as states
 use Rattle.obj_lines.specs.Text.{until, lines, content}
@@ -17,7 +17,7 @@ use Rattle.obj_read.proofs.StepLaws.{ends}
 use Rattle.obj_scan.specs.Meaning.{SoFar, first_number, meaning_from, meaning_of}
 use Rattle.obj_scan.specs.Reading.{Held, StandsAt, IsScanning, IsReady, taken, so_far, after_lines}
 use Rattle.obj_scan.specs.Fails.{FailsBefore, Explains}
-use Rattle.obj_scan.proofs.JudgeLaws.{held_in, refused_whole, refused_long, refused_past}
+use Rattle.obj_scan.proofs.JudgeLaws.{refused_whole, refused_long, refused_past}
 use Rattle.obj_scan.proofs.StandLaws.{stands_partial, stands_whole, line_later, explains_fault, explains_read}
 
 -- The source failed where the window is empty.

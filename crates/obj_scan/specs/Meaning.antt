@@ -1,6 +1,6 @@
 -- What any text in the syntax of Wavefront OBJ spells: points and triangles, or its first line with a fault. A line that
 -- ends in a backslash is continued by the next one.
-use Rattle.std.specs.Prelude.{ℕ, ◌+◌, ◌-◌, ◌<◌, ◌≤◌, List, [], ◌∷◌, ◌++◌, Bool, nat_lt, ◌==◌, length, take, None, Some, Option, Result, Ok, Err, if◌then◌else◌}
+use Rattle.std.specs.Prelude.{ℕ, ◌+◌, ◌-◌, ◌<◌, ◌≤◌, List, [], ◌∷◌, ◌++◌, nat_lt, ◌==◌, length, take, None, Some, Option, Result, Ok, Err, if◌then◌else◌}
 use Rattle.std.specs.List.{All}
 use Rattle.pm_base.specs.declared.mesh.Corners.{Corners}
 use Rattle.obj_lines.specs.Text.{until, lines, content, is_continued}

@@ -1,4 +1,4 @@
-use Rattle.std.proofs.Common.{ℕ, length, ◌≡◌, ◌<◌, ◌∙◌, sym, subst, arith, get_or}
+use Rattle.std.proofs.Common.{length, ◌≡◌, ◌<◌, ◌∙◌, subst, arith, get_or}
 use Rattle.obj_scan.specs.Polygons.{no_place}
 use Rattle.obj_scan.proofs.PolygonLaws.{HasLeast, point_at, read_any, before_is, least_here, least_stays, least_is}
 use Rattle.obj_scan.proofs.polygons.before_least.Goals as goal

@@ -1,4 +1,4 @@
-use Rattle.std.proofs.Common.{List, ◌+◌, ◌-◌, ◌++◌, ◌∷◌, [], take, slice_index_or, sym, ◌∙◌, ap, arith, append_assoc}
+use Rattle.std.proofs.Common.{List, ◌-◌, ◌++◌, ◌∷◌, [], take, slice_index_or, sym, ◌∙◌, ap, arith, append_assoc}
 use Rattle.pm_base.specs.declared.mesh.Corners.{Corners}
 use Rattle.obj_scan.specs.Polygons.{fan}
 use Rattle.obj_scan.proofs.PolygonLaws.{fan_next}
