@@ -10,18 +10,19 @@ use pm_bounds::Bounds;
 use pm_forest::Hierarchy;
 use std::sync::ledger::Ledger;
 
-// The three tests of a node.
+// The three tests of a node. All that is kept of the node is read first, so that the memory is asked for all of it at once.
 fn passes(h: &Hierarchy, bounds: &Bounds, node: NodeId, view: &View) -> bool
     requires bounds { AreBoundsOf h.now bounds.now }
     requires node { node.0 < node_count h.now }
     ensures { result ≡ is_wanted h.now view.now node.0 }
 {
     let place = h.place(node);
+    let error = bounds.error(node);
     let radius = bounds.radius(node);
     let normals = bounds.normals(node);
     !view.is_behind(place, radius)
         && view.may_face(place, radius, normals)
-        && view.is_large(place, bounds.error(node), radius, normals)
+        && view.is_large(place, error, radius, normals)
 }
 
 /// Whether the view wants the node refined: no plane of the view has the node's whole ball behind it, a face under the node
