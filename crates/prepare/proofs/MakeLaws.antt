@@ -1,0 +1,110 @@
+-- What a text gives is what its mesh is made of.
+use Rattle.std.proofs.Common.{◌≡◌, ℕ, ◌<◌, Bool, List, [], ◌∷◌, ◌++◌, length, Option, Some, None, IfSome, Result, Ok, Err, refl, sym, ◌∙◌, ap, subst, arith}
+use Rattle.std.specs.List.{All}
+use Rattle.std.proofs.lemmas.List.Elements.{All-get_or, All-from_get_or}
+use Rattle.pm_base.specs.declared.mesh.Corners.{Corners}
+use Rattle.pm_base.specs.Place.{Place}
+use Rattle.pm_base.specs.Meshes.{Mesh, IsWellFormed}
+use Rattle.pm_base.specs.Sides.{no_corners, net_of}
+use Rattle.pm_base.specs.Fans.{IsOrientedManifold}
+use Rattle.pm_base.specs.Canonical.{canonical_text}
+use Rattle.obj_read.specs.declared.fault.ObjFault.{ObjFault}
+use Rattle.obj_read.specs.Meaning.{Refused}
+use Rattle.obj_scan.specs.Judged.{Scanned}
+use Rattle.obj_scan.specs.Meaning.{meaning_of, AreCorners, IsWithin}
+use Rattle.obj_scan.specs.Fails.{IsRefusal, NotReached, FailsBefore}
+use Rattle.obj_prepare.specs.declared.notes.Notes.{Notes}
+use Rattle.obj_prepare.specs.declared.placing.Fit.{Fit}
+use Rattle.obj_prepare.specs.Placing.{fit_of, places_of, places_by}
+use Rattle.obj_prepare.specs.Prepared.{IsPreparedWith}
+use Rattle.obj_prepare.proofs.CountLaws.{named_in_length}
+use Rattle.prepare.specs.Texts.{head_line, notes_text}
+use Rattle.obj_prepare.specs.Named.{named_in, AreCorners as AreNamedCorners, IsWithin as IsNamedWithin}
+use Rattle.prepare.specs.declared.fault.Fault.{Fault}
+use Rattle.prepare.specs.declared.fault.Fault.TheVariants as faults
+use Rattle.prepare.specs.declared.fault.InputFail.{InputFail}
+use Rattle.prepare.specs.declared.fault.InputFail.TheVariants as input
+use Rattle.prepare.specs.Outcome.{Done, Makes, IsPreparedText, bad_line, too_many, made}
+use Rattle.prepare.specs.Making.{IsMakeFail}
+use Rattle.prepare.specs.Ending.{IsFaulty, Unreached, Stops}
+
+corners_same : (n : ℕ) (f : Corners) → AreCorners n f → AreNamedCorners n f
+corners_same n f are = record { a = are.a; b = are.b; c = are.c }
+
+pub named_within : (s : Scanned) → IsWithin s → IsNamedWithin (length s.points) s.faces
+named_within s within = record {
+  vertices_few = within.points;
+  faces_few = within.faces;
+  corners = All-from_get_or (AreNamedCorners (length s.points)) s.faces no_corners (λ i l. corners_same (length s.points) _ (All-get_or (AreCorners (length s.points)) s.faces i no_corners l within.corners));
+}
+
+-- Each point has a place.
+
+places_length : (fit : Fit) (flags : List Bool) (ps : List Place) → length flags ≡ length ps → length (places_by fit flags ps) ≡ length ps
+places_length fit [] [] same = refl
+places_length fit [] (p ∷ ps) same = absurd (omega (arith, same))
+places_length fit (named ∷ flags) [] same = absurd (omega (arith, same))
+places_length fit (named ∷ flags) (p ∷ ps) same = omega (arith, places_length fit flags ps (omega (arith, same)))
+
+-- Lists that were lent are the same lists.
+
+pub placed_within : (size : Option ℕ) (s : Scanned) (points : List Place) (faces : List Corners) (places lent : List Place) (again : List Corners) → IsWithin s → points ≡ s.points → faces ≡ s.faces → places ≡ places_of size points faces → lent ≡ places → again ≡ s.faces
+    → IsNamedWithin (length lent) again
+placed_within size s points faces places lent again within points_are faces_are placed lent_is same =
+    let count : length lent ≡ length s.points = ap length (lent_is ∙ placed) ∙ places_length (fit_of size points faces) (named_in faces (length points)) points (named_in_length faces (length points)) ∙ ap length points_are in
+    rw (count, same) (named_within s within)
+
+pub makes_done : (size : Option ℕ) (s : Scanned) (points : List Place) (faces : List Corners) (fit : Fit) (places lent : List Place) (again : List Corners) (m : Mesh) (notes : Notes) (shown : List Corners) (head said : List ℕ)
+    → points ≡ s.points → faces ≡ s.faces → fit ≡ fit_of size points faces → places ≡ places_of size points faces → lent ≡ places → again ≡ s.faces
+    → IsPreparedWith lent again m notes → IsWellFormed m → IsOrientedManifold (net_of m.faces) → shown ≡ m.faces → head ≡ head_line fit shown → said ≡ notes_text s.polygons notes fit shown
+    → Makes size s (record { text = head ++ canonical_text 0 m; notes = said })
+makes_done size s points faces fit places lent again m notes shown head said points_are faces_are fit_is placed lent_is same prepared formed manifold shown_is head_is said_is =
+    let fit_same : fit ≡ fit_of size s.points s.faces = fit_is ∙ ap (λ ps. fit_of size ps faces) points_are ∙ ap (λ fs. fit_of size s.points fs) faces_are in
+    let places_same : lent ≡ places_of size s.points s.faces = lent_is ∙ placed ∙ ap (λ ps. places_of size ps faces) points_are ∙ ap (λ fs. places_of size s.points fs) faces_are in
+    record {
+      mesh = m;
+      notes = notes;
+      prepared = subst (λ fs. IsPreparedWith (places_of size s.points s.faces) fs m notes) same (subst (λ ps. IsPreparedWith ps again m notes) places_same prepared);
+      formed = formed;
+      manifold = manifold;
+      text_is = ap (λ h. h ++ canonical_text 0 m) (head_is ∙ ap (λ f. head_line f shown) fit_same ∙ ap (head_line (fit_of size s.points s.faces)) shown_is);
+      notes_are = said_is ∙ ap (λ f. notes_text s.polygons notes f shown) fit_same ∙ ap (notes_text s.polygons notes (fit_of size s.points s.faces)) shown_is;
+    }
+
+-- What follows where the source tells its bytes.
+module _ (size : Option ℕ) where
+  refuses_line : (bytes : List ℕ) (fault : ObjFault) (line : ℕ) (r : Result Scanned Refused) → meaning_of bytes ≡ r → IsRefusal fault line r → IsFaulty size bytes (faults.Obj fault line)
+  refuses_line bytes fault line (Ok s) is refusal = absurd refusal
+  refuses_line bytes fault line (Err r) is refusal = record {
+    place = r.place;
+    outcome = subst (λ (f : Fault). IsPreparedText size bytes (Err f) r.place) (ap (λ (e : ObjFault). faults.Obj e r.line) refusal.0 ∙ ap (λ (n : ℕ). faults.Obj fault n) refusal.1) (bad_line r is);
+  }
+
+  pub line_refuses : (left : Option (List ℕ)) (fault : ObjFault) (line : ℕ) → IfSome left (λ bytes. IsRefusal fault line (meaning_of bytes)) → IfSome left (λ bytes. IsFaulty size bytes (faults.Obj fault line))
+  line_refuses None fault line is = tt
+  line_refuses (Some bytes) fault line is = refuses_line bytes fault line (meaning_of bytes) refl is
+
+  -- Bytes that don't reach the first fault's place decide nothing.
+  text_before : (bytes : List ℕ) (taken : ℕ) → NotReached taken (meaning_of bytes) → (r : Result Done Fault) (place : Option ℕ) → IsPreparedText size bytes r place → IfSome place (λ n. taken < n)
+  text_before bytes taken before found place (bad_line r is) = subst (λ (m : Result Scanned Refused). NotReached taken m) is before
+  text_before bytes taken before found place (too_many s is many) = tt
+  text_before bytes taken before found place (made s done is makes) = tt
+
+  pub text_unreached : (left now : Option (List ℕ)) → FailsBefore left now → Unreached size left now
+  text_unreached left now fails = record { taken = fails.taken; took = fails.took; before = before left fails.before }
+    where
+      before : (left : Option (List ℕ)) → IfSome left (λ bytes. NotReached (length fails.taken) (meaning_of bytes))
+          → IfSome left (λ bytes. (r : Result Done Fault) (place : Option ℕ) → IsPreparedText size bytes r place → IfSome place (λ n. length fails.taken < n))
+      before None is = tt
+      before (Some bytes) is = text_before bytes (length fails.taken) is
+
+  pub make_stops : (left now : Option (List ℕ)) (s : Scanned) (e : InputFail) (in_old in_new : ℕ) → IfSome left (λ bytes. meaning_of bytes ≡ Ok s) → in_new ≡ in_old → IsMakeFail size s e → Stops size e left now in_old in_new
+  make_stops left now s (input.Faulty (faults.Obj e n)) in_old in_new is same fail = absurd fail
+  make_stops None now s (input.Faulty faults.TooMany) in_old in_new is same fail = (tt, same)
+  make_stops (Some bytes) now s (input.Faulty faults.TooMany) in_old in_new is same fail = (record { place = None; outcome = too_many s is fail }, same)
+  make_stops left now s input.Read in_old in_new is same fail = absurd fail
+  make_stops left now s input.OutOfMemory in_old in_new is same fail = tt
+
+  pub make_stands : (left : Option (List ℕ)) (s : Scanned) (done : Done) → IfSome left (λ bytes. meaning_of bytes ≡ Ok s) → Makes size s done → IfSome left (λ bytes. IsPreparedText size bytes (Ok done) None)
+  make_stands None s done is makes = tt
+  make_stands (Some bytes) s done is makes = made s done is makes

@@ -1,0 +1,41 @@
+use Rattle.std.proofs.Common.{inl, sym, refl, ◌∙◌}
+use Rattle.prepare.proofs.EndingLaws.{one_asked, said_done, fault_of, counts_of, rose_of, read_of, cut_of, nothing_of, completes, line_of_read, line_of_write, line_of_memory, said_line}
+use Rattle.prepare.proofs.run.run.Goals as goal
+
+pub returns-in-Ok-clause-whole : goal.returns-in-Ok-clause-whole
+returns-in-Ok-clause-whole g c = λ other asks is.
+    said_done c.in-Some.asked other _ _ _ _ _ _ _ c.in-Ok.notes.items c.deref.result.now (one_asked _ _ other (sym c.read_words.ensures.asked ∙ c.in-Some.is) asks) c.in-Ok.ensures.written c.deref.ensures.value c.say-in-Ok.ensures
+
+pub returns-in-Err-clause-faulty : goal.returns-in-Err-clause-faulty
+returns-in-Err-clause-faulty g c = λ other asks is.
+    fault_of c.in-Some.asked other _ _ _ _ _ _ _ _ c.in-Err.fail _ _ _ _ (one_asked _ _ other (sym c.read_words.ensures.asked ∙ c.in-Some.is) asks) (sym c.tell.ensures.status ∙ is) c.in-Err.ensures.err c.tell.ensures.said
+
+pub returns-in-Err-clause-faulty_counts : goal.returns-in-Err-clause-faulty_counts
+returns-in-Err-clause-faulty_counts g c = λ is. counts_of c.in-Some.asked c.in-Some.asked _ _ _ _ _ _ _ _ c.in-Err.fail (sym c.tell.ensures.status ∙ is) c.in-Err.ensures.err
+
+pub returns-in-Err-clause-read : goal.returns-in-Err-clause-read
+returns-in-Err-clause-read g c = λ is. rose_of c.in-Some.asked c.in-Some.asked _ _ _ _ _ _ _ _ c.in-Err.fail (sym c.tell.ensures.status ∙ is) c.in-Err.ensures.err
+
+pub returns-in-Err-clause-unreached : goal.returns-in-Err-clause-unreached
+returns-in-Err-clause-unreached g c = λ other asks is.
+    read_of c.in-Some.asked other _ _ _ _ _ _ _ _ c.in-Err.fail (one_asked _ _ other (sym c.read_words.ensures.asked ∙ c.in-Some.is) asks) (sym c.tell.ensures.status ∙ is) c.in-Err.ensures.err
+
+pub returns-in-Err-clause-write : goal.returns-in-Err-clause-write
+returns-in-Err-clause-write g c = λ other asks is.
+    cut_of c.in-Some.asked other _ _ _ _ _ _ _ _ c.in-Err.fail (one_asked _ _ other (sym c.read_words.ensures.asked ∙ c.in-Some.is) asks) (sym c.tell.ensures.status ∙ is) c.in-Err.ensures.err
+
+pub returns-in-Err-clause-nothing_put : goal.returns-in-Err-clause-nothing_put
+returns-in-Err-clause-nothing_put g c = λ is. nothing_of c.in-Some.asked c.in-Some.asked _ _ _ _ _ _ _ _ c.in-Err.fail _ c.tell.ensures.status is c.in-Err.ensures.err
+
+pub returns-in-Err-clause-said_read : goal.returns-in-Err-clause-said_read
+returns-in-Err-clause-said_read g c = λ is. said_line c.in-Err.fail _ _ _ _ _ (line_of_read c.in-Err.fail (sym c.tell.ensures.status ∙ is)) c.tell.ensures.said
+
+pub returns-in-Err-clause-said_write : goal.returns-in-Err-clause-said_write
+returns-in-Err-clause-said_write g c = λ is. said_line c.in-Err.fail _ _ _ _ _ (line_of_write c.in-Err.fail (sym c.tell.ensures.status ∙ is)) c.tell.ensures.said
+
+pub returns-in-Err-clause-said_memory : goal.returns-in-Err-clause-said_memory
+returns-in-Err-clause-said_memory g c = λ is. said_line c.in-Err.fail _ _ _ _ _ (line_of_memory c.in-Err.fail (sym c.tell.ensures.status ∙ is)) c.tell.ensures.said
+
+pub returns-in-Err-clause-complete : goal.returns-in-Err-clause-complete
+returns-in-Err-clause-complete g c = λ other asks in_same out_same in_few out_few.
+    completes c.in-Some.asked c.in-Some.asked _ _ _ _ _ _ _ _ c.in-Err.fail _ c.tell.ensures.status c.in-Err.ensures.err in_same out_same in_few out_few

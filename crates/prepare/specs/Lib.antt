@@ -1,0 +1,5 @@
+pub mod Words
+pub mod Texts
+pub mod Outcome
+pub mod Making
+pub mod Ending

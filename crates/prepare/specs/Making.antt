@@ -1,0 +1,23 @@
+-- What is held of a mesh that was made, and why none was.
+use Rattle.std.specs.Prelude.{ℕ, ◌++◌, Option}
+use Rattle.pm_base.specs.Meshes.{mesh_of}
+use Rattle.pm_base.specs.Canonical.{canonical_text}
+use Rattle.obj_scan.specs.Judged.{Scanned}
+use Rattle.obj_prepare.specs.Placing.{places_of}
+use Rattle.obj_prepare.specs.Prepared.{HasTooMany}
+use Rattle.prepare.specs.declared.fault.Fault.TheVariants as faults
+use Rattle.prepare.specs.declared.fault.InputFail.{InputFail}
+use Rattle.prepare.specs.declared.fault.InputFail.TheVariants as input
+use Rattle.prepare.specs.declared.make.Made.{Made}
+use Rattle.prepare.specs.Outcome.{Done}
+
+-- The texts that are written and said of it.
+abbrev pub done_of : Made → Done
+done_of m = record { text = m.head.items ++ canonical_text 0 (mesh_of m.mesh); notes = m.notes.items }
+
+-- Of points and triangles no mesh is made where too many vertices come out, or memory is wanting.
+abbrev pub IsMakeFail : Option ℕ → Scanned → InputFail → Type 0
+IsMakeFail size s (input.Faulty (faults.Obj e n)) = ⊥
+IsMakeFail size s (input.Faulty faults.TooMany) = HasTooMany (places_of size s.points s.faces) s.faces
+IsMakeFail size s input.Read = ⊥
+IsMakeFail size s input.OutOfMemory = Unit {0}

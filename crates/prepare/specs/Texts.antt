@@ -1,0 +1,64 @@
+-- What is written of a mesh that was made, and what is said of it.
+use Rattle.std.specs.Prelude.{ℕ, ◌*◌, ◌==◌, ℤ, pos, ◌+ℤ◌, ◌*ℤ◌, List, ◌++◌, length, codes, if◌then◌else◌}
+use Rattle.std.specs.Fmt.{decimal}
+use Rattle.pm_base.specs.declared.mesh.Corners.{Corners}
+use Rattle.pm_base.specs.Meshes.{Mesh}
+use Rattle.pm_base.specs.Canonical.{coordinate_text, canonical_text}
+use Rattle.obj_prepare.specs.declared.extents.PointBox.{PointBox}
+use Rattle.obj_prepare.specs.declared.notes.Notes.{Notes}
+use Rattle.obj_prepare.specs.declared.placing.Fit.{Fit}
+use Rattle.obj_prepare.specs.declared.placing.Fit.TheVariants as fits
+use Rattle.obj_prepare.specs.Boxes.{extent}
+
+-- The middle of an axis with these ends, in units of 10^-19: half of 10^-18 is 5 of them.
+abbrev pub middle : ℤ → ℤ → ℤ
+middle low high = pos 5 *ℤ (low +ℤ high)
+
+-- The extent of a box, and twice the size.
+unfoldable pub scale_text : ℕ → PointBox → List ℕ
+scale_text size b = codes "coordinate = " ++ coordinate_text 18 (pos (extent b)) ++ codes " / " ++ decimal (2 * size) ++ codes " * place + ("
+
+-- The middle of each axis.
+unfoldable pub middle_text : PointBox → List ℕ
+middle_text b = coordinate_text 19 (middle b.low.x b.high.x) ++ codes " " ++ coordinate_text 19 (middle b.low.y b.high.y) ++ codes " " ++ coordinate_text 19 (middle b.low.z b.high.z)
+
+-- `coordinate = E / D * place + (X Y Z)`: how places lead back to coordinates.
+unfoldable pub way_back : ℕ → PointBox → List ℕ
+way_back size b = scale_text size b ++ middle_text b ++ codes ")\n"
+
+abbrev pub fit_line : Fit → List ℕ
+fit_line fits.Standing = codes "# coordinates as they stood\n"
+fit_line (fits.Scaled size b) = codes "# " ++ way_back size b
+
+-- The first line of the output.
+unfoldable pub head_line : Fit → List Corners → List ℕ
+head_line fit faces = if length faces == 0 then codes "# no faces\n" else fit_line fit
+
+-- The output: the line that tells how places lead back, and the canonical text of the mesh.
+abbrev pub output_text : Fit → Mesh → List ℕ
+output_text fit m = head_line fit m.faces ++ canonical_text 0 m
+
+-- `prepare: WHAT N`, where N isn't 0.
+unfoldable pub note_line : List ℕ → ℕ → List ℕ
+note_line what n = if n == 0 then codes "" else codes "prepare: " ++ what ++ codes " " ++ decimal n ++ codes "\n"
+
+abbrev pub fit_note : Fit → List ℕ
+fit_note fits.Standing = codes ""
+fit_note (fits.Scaled size b) = codes "prepare: " ++ way_back size b
+
+-- The last line that is said, if any.
+unfoldable pub last_note : Fit → List Corners → List ℕ
+last_note fit faces = if length faces == 0 then codes "prepare: no faces\n" else fit_note fit
+
+-- What is said of the faces and places of the input, and of what was cut and left out.
+unfoldable pub face_notes : ℕ → Notes → List ℕ
+face_notes polygons notes =
+    note_line (codes "polygons cut") polygons ++ note_line (codes "vertices joined") notes.joined ++ note_line (codes "faces that became edges") notes.flat
+    ++ note_line (codes "faces that stand twice") notes.double
+
+unfoldable pub vertex_notes : Notes → List ℕ
+vertex_notes notes = note_line (codes "sides cut open") notes.cut ++ note_line (codes "vertices split off") notes.split ++ note_line (codes "vertices that no face has") notes.unnamed
+
+-- What is said of the work: a line for each kind of change that was made, and how places lead back.
+unfoldable pub notes_text : ℕ → Notes → Fit → List Corners → List ℕ
+notes_text polygons notes fit faces = face_notes polygons notes ++ vertex_notes notes ++ last_note fit faces

@@ -1,0 +1,114 @@
+// The program over any source and sinks.
+ghost use Rattle.std.specs.Prelude.{◌≡◌, ◌⊎◌, ◌≤◌, ◌<◌, ◌-◌, ◌^◌, map, ℕ, None, Some, IfOk, IfErr, IfSome, OnOk, OnErr, codes};
+ghost use Rattle.std.specs.String.{string_bytes};
+ghost use Rattle.pm_base.specs.Meshes.{IsWellFormed, mesh_of};
+ghost use Rattle.pm_io.specs.Bytes.{AtEnd, Gains, GainsPart};
+ghost use Rattle.pm_io.specs.Causes.{HasCause, Rose};
+ghost use Rattle.obj_prepare.specs.Placing.{IsSize};
+ghost use Rattle.prepare.specs.declared.words.Asked.{Asked};
+ghost use Rattle.prepare.specs.declared.fault.Fault.{Fault};
+ghost use Rattle.prepare.specs.Words.{asked_of};
+ghost use Rattle.prepare.specs.Making.{done_of};
+ghost use Rattle.prepare.specs.Ending.{Written, IsFaulty, Unreached, CutShort, FailsBy, Finished, Said, Stayed, fault_line};
+
+use crate::fault::RunFail;
+use crate::make::{Made, make};
+use crate::say::{say, tell};
+use crate::words::read_words;
+use obj_write::write_obj;
+use pm_io::{Sink, Source, WriteFault, put_all};
+use std::alloc::Global;
+
+// Writes what was made.
+fn write<K: Sink>(made: &Made, out: &mut K) -> Result<(), WriteFault>
+    requires { IsWellFormed (mesh_of made.now.mesh) }
+    ensures ok { OnOk result (Gains (K.got out.old) (K.got out.new) (done_of made.now).text) }
+    ensures err { OnErr result (GainsPart (K.got out.old) (K.got out.new) (done_of made.now).text) }
+    ensures cause { HasCause (K.faults out.old) (K.faults out.new) result }
+{
+    if let Err(fault) = put_all(out, &made.head) {
+        return Err(fault);
+    }
+    if let Err(fault) = write_obj(&made.mesh, 0, out) {
+        return Err(fault);
+    }
+    Ok(())
+}
+
+// Makes a mesh of the input and writes it, and answers what is to be said of it. All memory is taken before the first byte
+// of output.
+#[tactic(auto, using(crate::proofs::EndingLaws::text_cut))]
+fn obey<S: Source, K: Sink>(
+    alloc: Global,
+    size: Option<u32>,
+    input: &mut S,
+    out: &mut K,
+) -> Result<Vec<u8>, RunFail>
+    requires { IsSize size }
+    ensures written { IfOk result (λ notes. IfSome (S.left input.old) (λ bytes. Written size bytes notes.items (K.got out.old) (K.got out.new))) }
+    ensures counts { OnOk result ((S.faults input.new ≡ S.faults input.old) × (K.faults out.new ≡ K.faults out.old)) }
+    ensures end { OnOk result (AtEnd (S.left input.new)) }
+    ensures err { IfErr result (λ e. FailsBy size e (S.left input.old) (S.left input.new) (S.faults input.old) (S.faults input.new) (K.got out.old) (K.got out.new) (K.faults out.old) (K.faults out.new)) }
+{
+    let made = match make(alloc, size, input) {
+        Ok(made) => made,
+        Err(fail) => return Err(RunFail::Input(fail)),
+    };
+    match write(&made, out) {
+        Ok(()) => Ok(made.notes),
+        Err(_) => Err(RunFail::Write),
+    }
+}
+
+/// Makes a mesh of any OBJ text that is an oriented manifold of points on the grid, and answers the exit status.
+///
+/// Without words, points that fit the grid stand as they are, and others are scaled by their box; with one word, a size from
+/// 1 to 32,767, the longest axis of the box goes from -size to size. `out` gains a line that tells how places lead back to
+/// coordinates, and then the canonical text of the mesh; `err` gains a line for each kind of change. Status 0: all was done.
+/// 1: the input has a fault. 2: the words aren't understood. 3: a read failed before the bytes that decide the outcome were
+/// taken. 4: a write to `out` failed. 5: memory was wanted, before the first byte of output.
+pub fn run<S: Source, K: Sink, E: Sink>(
+    alloc: Global,
+    words: &[String],
+    input: &mut S,
+    out: &mut K,
+    err: &mut E,
+) -> u8
+    ensures statuses { result ≤ 5 }
+    // Other words are refused, and only they; then nothing is read or put.
+    ensures refused { asked_of (map string_bytes words.now) ≡ None → result ≡ 2 }
+    ensures known { result ≡ 2 → asked_of (map string_bytes words.now) ≡ None }
+    ensures untouched { result ≡ 2 → Stayed (S.left input.old) (S.left input.new) (S.faults input.old) (S.faults input.new) × Stayed (K.got out.old) (K.got out.new) (K.faults out.old) (K.faults out.new) }
+    // A mesh was made of the text, exactly its text was put, and what was done is said.
+    ensures whole { (asked : Asked) → asked_of (map string_bytes words.now) ≡ Some asked → result ≡ 0 → IfSome (S.left input.old) (λ bytes. Finished asked.size bytes (K.got out.old) (K.got out.new) (E.got err.old) (E.got err.new) (E.faults err.old) (E.faults err.new)) }
+    ensures whole_counts { result ≡ 0 → (S.faults input.new ≡ S.faults input.old) × (K.faults out.new ≡ K.faults out.old) }
+    ensures read_whole { result ≡ 0 → AtEnd (S.left input.new) }
+    // The text has a fault, which is said, and nothing was put.
+    ensures faulty { (asked : Asked) → asked_of (map string_bytes words.now) ≡ Some asked → result ≡ 1 → (f : Fault) × IfSome (S.left input.old) (λ bytes. IsFaulty asked.size bytes f) × Said (E.got err.old) (E.got err.new) (E.faults err.old) (E.faults err.new) (fault_line f) }
+    ensures faulty_counts { result ≡ 1 → (S.faults input.new ≡ S.faults input.old) × (K.faults out.new ≡ K.faults out.old) }
+    // A read failed before the bytes that decide the outcome were all taken.
+    ensures read { result ≡ 3 → Rose (S.faults input.old) (S.faults input.new) }
+    ensures unreached { (asked : Asked) → asked_of (map string_bytes words.now) ≡ Some asked → result ≡ 3 → Unreached asked.size (S.left input.old) (S.left input.new) }
+    // A write failed, and a proper prefix of the text was put; in all other cases but status 0 nothing was.
+    ensures write { (asked : Asked) → asked_of (map string_bytes words.now) ≡ Some asked → result ≡ 4 → Rose (K.faults out.old) (K.faults out.new) × IfSome (S.left input.old) (λ bytes. CutShort asked.size bytes (K.got out.old) (K.got out.new)) }
+    ensures nothing_put { (result ≡ 1) ⊎ ((result ≡ 3) ⊎ (result ≡ 5)) → K.got out.new ≡ K.got out.old }
+    ensures said_words { result ≡ 2 → Said (E.got err.old) (E.got err.new) (E.faults err.old) (E.faults err.new) (codes "prepare: words not understood\n") }
+    ensures said_read { result ≡ 3 → Said (E.got err.old) (E.got err.new) (E.faults err.old) (E.faults err.new) (codes "prepare: read fault\n") }
+    ensures said_write { result ≡ 4 → Said (E.got err.old) (E.got err.new) (E.faults err.old) (E.faults err.new) (codes "prepare: write fault\n") }
+    ensures said_memory { result ≡ 5 → Said (E.got err.old) (E.got err.new) (E.faults err.old) (E.faults err.new) (codes "prepare: out of memory\n") }
+    // Where no device failed and the words are understood, the work is done, or the input has a fault, or memory is wanted.
+    ensures complete { (asked : Asked) → asked_of (map string_bytes words.now) ≡ Some asked → S.faults input.new ≡ S.faults input.old → K.faults out.new ≡ K.faults out.old
+        → S.faults input.old < 2 ^ 64 - 1 → K.faults out.old < 2 ^ 64 - 1 → (result ≡ 0) ⊎ ((result ≡ 1) ⊎ (result ≡ 5)) }
+{
+    let Some(asked) = read_words(words) else {
+        say(err, b"prepare: words not understood\n");
+        return 2;
+    };
+    match obey(alloc, asked.size, input, out) {
+        Ok(notes) => {
+            say(err, &notes);
+            0
+        }
+        Err(fail) => tell(err, fail),
+    }
+}
