@@ -1,5 +1,5 @@
 -- What a status says of how the program ended.
-use Rattle.std.proofs.Common.{◌≡◌, ◌⊎◌, inl, inr, ℕ, ◌-◌, ◌^◌, ◌<◌, List, Option, Some, None, Ok, IfSome, refl, sym, ◌∙◌, ap, subst, arith}
+use Rattle.std.proofs.Common.{◌≡◌, ◌⊎◌, inl, inr, ℕ, ◌-◌, ◌^◌, ◌<◌, List, Option, Some, None, Ok, IfSome, refl, ◌∙◌, subst, arith}
 use Rattle.std.specs.Prelude.{codes}
 use Rattle.pm_io.specs.Bytes.{Gains, GainsPart}
 use Rattle.pm_io.specs.Causes.{Rose}
@@ -9,7 +9,7 @@ use Rattle.prepare.specs.declared.fault.RunFail.{RunFail}
 use Rattle.prepare.specs.declared.fault.RunFail.TheVariants as fails
 use Rattle.prepare.specs.declared.words.Asked.{Asked}
 use Rattle.prepare.specs.Outcome.{Done, IsPreparedText}
-use Rattle.prepare.specs.Ending.{Written, IsFaulty, Unreached, CutShort, FailsBy, Finished, Said, Stayed, fail_line, fault_line, status_of}
+use Rattle.prepare.specs.Ending.{Written, IsFaulty, Unreached, CutShort, FailsBy, Finished, Said, fail_line, fault_line, status_of}
 
 -- A text that was made was written, or a part of it.
 

@@ -1,5 +1,5 @@
 -- Laws of text that is put together.
-use Rattle.std.proofs.Common.{◌≡◌, ℕ, suc, ◌+◌, ◌-◌, ◌*◌, ◌/◌, ◌%◌, ◌^◌, ◌<◌, ◌≤◌, List, [], ◌∷◌, ◌++◌, append_assoc, refl, sym, ◌∙◌, ap, arith}
+use Rattle.std.proofs.Common.{◌≡◌, ℕ, suc, ◌+◌, ◌-◌, ◌*◌, ◌/◌, ◌%◌, ◌^◌, ◌<◌, List, [], ◌∷◌, ◌++◌, append_assoc, sym, ◌∙◌, ap, arith}
 use Rattle.std.proofs.Math.Nat.{pow-suc, one-le-pow}
 use Rattle.std.proofs.lemmas.List.{append-nil}
 use Rattle.pm_base.specs.Canonical.{last_digits}

@@ -1,6 +1,6 @@
 use Rattle.obj_scan.specs.Fails.{scanned_of}
 use Rattle.prepare.specs.Making.{done_of}
-use Rattle.prepare.proofs.MakeLaws.{line_refuses, text_unreached, make_stops, make_stands}
+use Rattle.prepare.proofs.MakeLaws.{line_refuses, make_stops, make_stands}
 use Rattle.prepare.proofs.make.make.Goals as goal
 
 pub returns-in-Err-Fault-clause-err : goal.returns-in-Err-Fault-clause-err

@@ -1,6 +1,6 @@
 use Rattle.std.proofs.Common.{refl}
 use Rattle.prepare.specs.Making.{done_of}
-use Rattle.prepare.proofs.EndingLaws.{text_written, text_cut}
+use Rattle.prepare.proofs.EndingLaws.{text_written}
 use Rattle.prepare.proofs.run.obey.Goals as goal
 
 pub returns-in-Ok-write-clause-written : goal.returns-in-Ok-write-clause-written

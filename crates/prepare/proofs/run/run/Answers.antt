@@ -1,4 +1,4 @@
-use Rattle.std.proofs.Common.{inl, sym, refl, ◌∙◌}
+use Rattle.std.proofs.Common.{sym, ◌∙◌}
 use Rattle.prepare.proofs.EndingLaws.{one_asked, said_done, fault_of, counts_of, rose_of, read_of, cut_of, nothing_of, completes, line_of_read, line_of_write, line_of_memory, said_line}
 use Rattle.prepare.proofs.run.run.Goals as goal
 
