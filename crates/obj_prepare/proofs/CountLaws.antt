@@ -1,12 +1,9 @@
 -- Laws of counting what was done.
-use Rattle.std.proofs.Common.{◌≡◌, ◌≢◌, ℕ, zero, suc, ◌+◌, ◌-◌, ◌<◌, ◌≤◌, ◌==◌, ◌&&◌, not, Bool, true, false, List, [], ◌∷◌, ◌++◌, length, refl, sym, ◌∙◌, ap, subst, inl, inr, arith}
+use Rattle.std.proofs.Common.{◌≡◌, ℕ, zero, suc, ◌+◌, ◌-◌, ◌==◌, ◌&&◌, not, Bool, true, false, List, length, refl, sym, ◌∙◌, ap, inl, inr, arith}
 use Rattle.std.specs.Prelude.{slice_index_or}
 use Rattle.std.specs.List.{filter}
-use Rattle.std.proofs.lemmas.Bool.{cases_Bool, cases_lt, and_from}
-use Rattle.std.proofs.lemmas.List.{length-append, get_or_append_left}
-use Rattle.std.proofs.Math.Seq.{get_or-append_seam}
+use Rattle.std.proofs.lemmas.Bool.{cases_Bool, and_from}
 use Rattle.pm_base.specs.declared.mesh.Corners.{Corners}
-use Rattle.pm_base.specs.Place.{Place}
 use Rattle.pm_base.specs.Sides.{net_of}
 use Rattle.pm_base.specs.Counts.{count}
 use Rattle.pm_base.proofs.Counts.{count-true, count-false, count-zero, count_same}
@@ -14,6 +11,7 @@ use Rattle.pm_fans.specs.Kept.{is_flat}
 use Rattle.pm_fans.specs.Cuts.{cut_count}
 use Rattle.obj_prepare.specs.Named.{is_named, named_in}
 use Rattle.obj_prepare.specs.Joining.{joined_faces}
+use Rattle.obj_prepare.proofs.NamedLaws.{length-named_in, named_at}
 use Rattle.obj_prepare.specs.Prepared.{staying, joined_count, flat_count, double_count, unnamed_count, split_count}
 use Rattle.obj_prepare.specs.Pieces.{set_below, joined_below}
 
@@ -54,22 +52,6 @@ unfolding joined_below
 itself_next flags names v n is f =
     passed (λ v. slice_index_or flags v false && not (slice_index_or names v 0 == v)) v n is (elim (cases_Bool (slice_index_or flags v false)) [ inl t ↦ rw (t, f) refl | inr u ↦ rw u refl ])
 
--- The flags of the vertices that a face names.
-
-pub named_in_length : (fs : List Corners) (n : ℕ) → length (named_in fs n) ≡ n
-named_in_length fs zero = refl
-named_in_length fs (suc n) = omega (arith, length-append (named_in fs n) (is_named fs n ∷ []), named_in_length fs n)
-
-flag_at : (fs : List Corners) (n v : ℕ) → v < n → slice_index_or (named_in fs n) v false ≡ is_named fs v
-flag_at fs zero v l = absurd (omega arith)
-flag_at fs (suc n) v l =
-    elim (cases_lt v n) [
-      | inl k ↦ get_or_append_left (named_in fs n) (is_named fs n ∷ []) false v (omega (arith, k, named_in_length fs n)) ∙ flag_at fs n v k
-      | inr k ↦
-          let last : v ≡ n = omega arith in
-          ap (λ i. slice_index_or (named_in fs n ++ is_named fs n ∷ []) i false) (last ∙ sym (named_in_length fs n)) ∙ get_or-append_seam (named_in fs n) (is_named fs n) [] false ∙ ap (is_named fs) (sym last)
-    ]
-
 -- Those that pass, and those that don't.
 count_both : (p : ℕ → Bool) (n : ℕ) → count p n + count (λ v. not (p v)) n ≡ n
 count_both p zero = omega (arith, count-zero p, count-zero (λ v. not (p v)))
@@ -82,13 +64,13 @@ count_both p (suc n) =
 set_named : (fs : List Corners) (n : ℕ) → set_below (named_in fs n) (length (named_in fs n)) ≡ count (is_named fs) n
 unfolding set_below
 set_named fs n =
-    ap (count (λ v. slice_index_or (named_in fs n) v false)) (named_in_length fs n) ∙ count_same (λ v. slice_index_or (named_in fs n) v false) (is_named fs) n (λ i l. flag_at fs n i l)
+    ap (count (λ v. slice_index_or (named_in fs n) v false)) (length-named_in fs n) ∙ count_same (λ v. slice_index_or (named_in fs n) v false) (is_named fs) n (λ i l. named_at fs n i l)
 
 joined_named : (fs : List Corners) (names : List ℕ) → joined_below (named_in fs (length names)) names (length names) ≡ joined_count names fs
 unfolding joined_below joined_count
 joined_named fs names =
     count_same (λ v. slice_index_or (named_in fs (length names)) v false && not (slice_index_or names v 0 == v)) (λ v. is_named fs v && not (slice_index_or names v 0 == v)) (length names)
-    (λ i l. ap (λ b. b && not (slice_index_or names i 0 == i)) (flag_at fs (length names) i l))
+    (λ i l. ap (λ b. b && not (slice_index_or names i 0 == i)) (named_at fs (length names) i l))
 
 -- Each number of what was done, from what was counted. Lists that were lent are the same lists.
 

@@ -1,20 +1,20 @@
 -- What is made of placed vertices and triangles is a well-formed oriented manifold.
-use Rattle.std.proofs.Common.{◌≡◌, ◌≢◌, ℕ, zero, suc, ◌+◌, ◌*◌, ◌/◌, ◌%◌, ◌<◌, ◌≤◌, Bool, true, false, not, ◌==◌, ◌||◌, List, [], ◌∷◌, ◌++◌, length, map, refl, sym, ◌∙◌, ap, subst, inl, inr, arith}
+use Rattle.std.proofs.Common.{◌≡◌, ◌≢◌, ℕ, zero, suc, ◌+◌, ◌*◌, ◌/◌, ◌%◌, ◌<◌, ◌≤◌, true, ◌==◌, ◌||◌, List, [], ◌∷◌, ◌++◌, length, map, refl, sym, ◌∙◌, ap, subst, inl, inr, arith}
 use Rattle.std.specs.Prelude.{slice_index_or}
-use Rattle.std.specs.List.{All, list_any}
+use Rattle.std.specs.List.{All}
 use Rattle.std.proofs.lemmas.Bool.{cases_Bool, cond-true, cond-false, or_cases, or_left, or_right, eqb-true}
 use Rattle.std.proofs.lemmas.List.{length-map, length-append}
 use Rattle.std.proofs.lemmas.List.Elements.{All-nil, All-cons, All-head, All-tail, All-append, All-get_or, All-from_get_or}
 use Rattle.pm_base.specs.declared.mesh.Corners.{Corners}
 use Rattle.pm_base.specs.Place.{Place}
-use Rattle.pm_base.specs.Meshes.{Mesh, IsFace, IsWellFormed}
-use Rattle.pm_base.specs.Sides.{Net, net_of, side_count, corner_in, no_corners, to, Stands}
+use Rattle.pm_base.specs.Meshes.{IsFace, IsWellFormed}
+use Rattle.pm_base.specs.Sides.{Net, net_of, side_count, corner_in, no_corners}
 use Rattle.pm_base.specs.Fans.{IsOrientedManifold}
 use Rattle.pm_base.proofs.Sides.{next_cases}
 use Rattle.pm_base.proofs.NetLaws.{face_at, first_side, second_side, third_side}
-use Rattle.pm_fans.specs.Splits.{AllStand, NoMirror, IsCuttable, IsSplitByFans}
+use Rattle.pm_fans.specs.Splits.{AllStand, IsCuttable, IsSplitByFans}
 use Rattle.pm_fans.specs.Orders.{IsSplit}
-use Rattle.pm_fans.specs.Kept.{is_flat, is_corner, is_kept, kept_after, kept_of}
+use Rattle.pm_fans.specs.Kept.{is_corner, is_kept, kept_after, kept_of}
 use Rattle.pm_fans.specs.Laws.{KeptAreFit}
 use Rattle.pm_fans.proofs.KeptLaws.{kept_are_fit}
 use Rattle.pm_fans.proofs.Splitting.{splits_make_manifolds}

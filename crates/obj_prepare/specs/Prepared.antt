@@ -1,6 +1,6 @@
 -- What becomes of placed vertices and triangles: vertices at one place are joined; triangles go that became edges, and
 -- those whose corners an earlier one has; the surface is cut along singular sides, and each vertex split into its fans.
-use Rattle.std.specs.Prelude.{◌≡◌, ℕ, ◌-◌, ◌<◌, Bool, false, not, ◌==◌, ◌&&◌, List, map, length, slice_index_or}
+use Rattle.std.specs.Prelude.{◌≡◌, ℕ, ◌-◌, ◌<◌, not, ◌==◌, ◌&&◌, List, map, length, slice_index_or}
 use Rattle.std.specs.List.{filter}
 use Rattle.pm_base.specs.declared.mesh.Corners.{Corners}
 use Rattle.pm_base.specs.Place.{Place}

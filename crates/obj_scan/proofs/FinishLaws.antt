@@ -17,7 +17,8 @@ use Rattle.obj_read.specs.Fails.{IsFaultOf, IsRefusal, IsRefused}
 use Rattle.obj_read.proofs.FinishLaws.{start, is_last}
 use Rattle.obj_read.specs.Meaning.{Refused}
 use Rattle.obj_scan.specs.Judged.{Scanned}
-use Rattle.obj_scan.specs.Meaning.{SoFar, AreCorners, at_end, meaning_from, meaning_of}
+use Rattle.obj_prepare.specs.Named.{AreCorners}
+use Rattle.obj_scan.specs.Meaning.{SoFar, at_end, meaning_from, meaning_of}
 use Rattle.obj_scan.specs.Reading.{Held, StandsAt, IsScanning, IsReady, taken, nothing_held, so_far, after_lines}
 use Rattle.obj_scan.specs.Fails.{Explains}
 use Rattle.obj_scan.proofs.StandLaws.{stands_start}

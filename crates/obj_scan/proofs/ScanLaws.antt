@@ -14,7 +14,7 @@ use Rattle.obj_read.specs.declared.fault.ObjFail.TheVariants as fails
 use Rattle.obj_read.specs.Fails.{IsFaultOf}
 use Rattle.obj_scan.specs.Polygons.{before_least, begun_least, fan, fan_of, triangles}
 use Rattle.obj_scan.specs.Judged.{Scanned, Found, polygons_after, with_found}
-use Rattle.obj_scan.specs.Meaning.{AreCorners}
+use Rattle.obj_prepare.specs.Named.{AreCorners}
 use Rattle.obj_scan.specs.Reading.{IsScanning, given, ended}
 
 -- A polygon of n corners has n - 2 triangles.

@@ -1,12 +1,12 @@
 -- What any text in the syntax of Wavefront OBJ spells: points and triangles, or its first line with a fault. A line that
 -- ends in a backslash is continued by the next one.
-use Rattle.std.specs.Prelude.{ℕ, ◌+◌, ◌-◌, ◌<◌, ◌≤◌, List, [], ◌∷◌, ◌++◌, nat_lt, ◌==◌, length, take, None, Some, Option, Result, Ok, Err, if◌then◌else◌}
+use Rattle.std.specs.Prelude.{ℕ, ◌+◌, ◌-◌, ◌≤◌, List, [], ◌∷◌, ◌++◌, nat_lt, ◌==◌, length, take, None, Some, Option, Result, Ok, Err, if◌then◌else◌}
 use Rattle.std.specs.List.{All}
-use Rattle.pm_base.specs.declared.mesh.Corners.{Corners}
 use Rattle.obj_lines.specs.Text.{until, lines, content, is_continued}
 use Rattle.obj_read.specs.declared.fault.ObjFault.{ObjFault}
 use Rattle.obj_read.specs.declared.fault.ObjFault.TheVariants as faults
 use Rattle.obj_read.specs.Meaning.{Refused, is_past, is_long, place}
+use Rattle.obj_prepare.specs.Named.{AreCorners}
 use Rattle.obj_scan.specs.Judged.{Scanned, Found, line_found, with_found}
 
 -- What the lines before gave: how many bytes they have, the number of the next line, how many of them it continues and
@@ -79,12 +79,6 @@ nothing_yet = record { bytes = 0; number = 1; continued = 0; begun = []; scanned
 -- The points and triangles of the bytes, or their first line with a fault.
 unfoldable pub meaning_of : List ℕ → Result Scanned Refused
 meaning_of bytes = meaning_from nothing_yet (lines bytes)
-
--- Each corner is one of n vertices.
-pub record AreCorners (n : ℕ) (f : Corners) : Type 0 where
-  pub a : f.a < n
-  pub b : f.b < n
-  pub c : f.c < n
 
 -- What a text without a fault gives is within the limits.
 pub record IsWithin (s : Scanned) : Type 0 where

@@ -1,25 +1,24 @@
 -- What a text gives is what its mesh is made of.
-use Rattle.std.proofs.Common.{◌≡◌, ℕ, ◌<◌, Bool, List, [], ◌∷◌, ◌++◌, length, Option, Some, None, IfSome, Result, Ok, Err, refl, ◌∙◌, ap, subst, arith}
-use Rattle.std.proofs.lemmas.List.Elements.{All-get_or, All-from_get_or}
+use Rattle.std.proofs.Common.{◌≡◌, ℕ, ◌<◌, List, ◌++◌, length, Option, Some, None, IfSome, Result, Ok, Err, refl, ◌∙◌, ap, subst}
 use Rattle.pm_base.specs.declared.mesh.Corners.{Corners}
 use Rattle.pm_base.specs.Place.{Place}
 use Rattle.pm_base.specs.Meshes.{Mesh, IsWellFormed}
-use Rattle.pm_base.specs.Sides.{no_corners, net_of}
+use Rattle.pm_base.specs.Sides.{net_of}
 use Rattle.pm_base.specs.Fans.{IsOrientedManifold}
 use Rattle.pm_base.specs.Canonical.{canonical_text}
 use Rattle.obj_read.specs.declared.fault.ObjFault.{ObjFault}
 use Rattle.obj_read.specs.Meaning.{Refused}
 use Rattle.obj_scan.specs.Judged.{Scanned}
-use Rattle.obj_scan.specs.Meaning.{meaning_of, AreCorners, IsWithin}
+use Rattle.obj_scan.specs.Meaning.{meaning_of, IsWithin}
 use Rattle.obj_scan.specs.Fails.{FailsBefore}
 use Rattle.obj_read.specs.Fails.{IsRefusal, NotReached}
 use Rattle.obj_prepare.specs.declared.notes.Notes.{Notes}
 use Rattle.obj_prepare.specs.declared.placing.Fit.{Fit}
-use Rattle.obj_prepare.specs.Placing.{fit_of, places_of, places_by}
+use Rattle.obj_prepare.specs.Placing.{fit_of, places_of}
 use Rattle.obj_prepare.specs.Prepared.{IsPreparedWith}
-use Rattle.obj_prepare.proofs.CountLaws.{named_in_length}
+use Rattle.obj_prepare.proofs.PlacingLaws.{length-places_of}
 use Rattle.prepare.specs.Texts.{head_line, notes_text}
-use Rattle.obj_prepare.specs.Named.{named_in, AreCorners as AreNamedCorners, IsWithin as IsNamedWithin}
+use Rattle.obj_prepare.specs.Named.{IsWithin as IsNamedWithin}
 use Rattle.prepare.specs.declared.fault.Fault.{Fault}
 use Rattle.prepare.specs.declared.fault.Fault.TheVariants as faults
 use Rattle.prepare.specs.declared.fault.InputFail.{InputFail}
@@ -28,30 +27,19 @@ use Rattle.prepare.specs.Outcome.{Done, Makes, IsPreparedText, bad_line, too_man
 use Rattle.prepare.specs.Making.{IsMakeFail}
 use Rattle.prepare.specs.Ending.{IsFaulty, Unreached, Stops}
 
-corners_same : (n : ℕ) (f : Corners) → AreCorners n f → AreNamedCorners n f
-corners_same n f are = record { a = are.a; b = are.b; c = are.c }
-
 pub named_within : (s : Scanned) → IsWithin s → IsNamedWithin (length s.points) s.faces
 named_within s within = record {
   vertices_few = within.points;
   faces_few = within.faces;
-  corners = All-from_get_or (AreNamedCorners (length s.points)) s.faces no_corners (λ i l. corners_same (length s.points) _ (All-get_or (AreCorners (length s.points)) s.faces i no_corners l within.corners));
+  corners = within.corners;
 }
-
--- Each point has a place.
-
-places_length : (fit : Fit) (flags : List Bool) (ps : List Place) → length flags ≡ length ps → length (places_by fit flags ps) ≡ length ps
-places_length fit [] [] same = refl
-places_length fit [] (p ∷ ps) same = absurd (omega (arith, same))
-places_length fit (named ∷ flags) [] same = absurd (omega (arith, same))
-places_length fit (named ∷ flags) (p ∷ ps) same = omega (arith, places_length fit flags ps (omega (arith, same)))
 
 -- Lists that were lent are the same lists.
 
 pub placed_within : (size : Option ℕ) (s : Scanned) (points : List Place) (faces : List Corners) (places lent : List Place) (again : List Corners) → IsWithin s → points ≡ s.points → faces ≡ s.faces → places ≡ places_of size points faces → lent ≡ places → again ≡ s.faces
     → IsNamedWithin (length lent) again
 placed_within size s points faces places lent again within points_are faces_are placed lent_is same =
-    let count : length lent ≡ length s.points = ap length (lent_is ∙ placed) ∙ places_length (fit_of size points faces) (named_in faces (length points)) points (named_in_length faces (length points)) ∙ ap length points_are in
+    let count : length lent ≡ length s.points = ap length (lent_is ∙ placed) ∙ length-places_of size points faces ∙ ap length points_are in
     rw (count, same) (named_within s within)
 
 pub makes_done : (size : Option ℕ) (s : Scanned) (points : List Place) (faces : List Corners) (fit : Fit) (places lent : List Place) (again : List Corners) (m : Mesh) (notes : Notes) (shown : List Corners) (head said : List ℕ)

@@ -9,6 +9,8 @@ mod make;
 mod notes;
 mod run;
 mod say;
+#[cfg(test)]
+mod tests;
 mod text;
 mod words;
 

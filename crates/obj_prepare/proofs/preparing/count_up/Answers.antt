@@ -1,7 +1,8 @@
 use Rattle.std.proofs.Common.{length, sym, ◌∙◌, ap, arith}
 use Rattle.obj_prepare.specs.Named.{named_in}
 use Rattle.obj_prepare.proofs.PieceLaws.{pieces_names, pieces_stay, pieces_cuttable}
-use Rattle.obj_prepare.proofs.CountLaws.{named_in_length, counted_joined, counted_flat, counted_double, counted_cut, counted_split, counted_unnamed}
+use Rattle.obj_prepare.proofs.NamedLaws.{length-named_in}
+use Rattle.obj_prepare.proofs.CountLaws.{counted_joined, counted_flat, counted_double, counted_cut, counted_split, counted_unnamed}
 use Rattle.obj_prepare.proofs.preparing.count_up.Goals as goal
 
 pub named-requires-2 : goal.named-requires-2
@@ -12,17 +13,17 @@ overflow_cast-len c = omega (arith, c.len.ensures, (pieces_stay c.requires.withi
 
 pub count_joined-requires-clause-both : goal.count_joined-requires-clause-both
 count_joined-requires-clause-both c =
-    let flags = ap length (c.deref-3.ensures.value ∙ c.in_ok-before.ensures) ∙ named_in_length c.args.faces.now (length c.args.places.now) in
+    let flags = ap length (c.deref-3.ensures.value ∙ c.in_ok-before.ensures) ∙ length-named_in c.args.faces.now (length c.args.places.now) in
     flags ∙ sym (ap length c.deref-4.ensures.value ∙ pieces_names c.requires.within c.requires.pieces)
 
 pub count_set-requires : goal.count_set-requires
 count_set-requires c =
-    let flags = ap length (c.deref-6.ensures.value ∙ c.in_ok-after.ensures) ∙ named_in_length c.deref.result.now (length c.args.places.now) in
+    let flags = ap length (c.deref-6.ensures.value ∙ c.in_ok-after.ensures) ∙ length-named_in c.deref.result.now (length c.args.places.now) in
     omega (arith, flags, c.requires.within.vertices_few)
 
 pub count_set-requires-2 : goal.count_set-requires-2
 count_set-requires-2 c =
-    let flags = ap length (c.deref-7.ensures.value ∙ c.in_ok-before.ensures) ∙ named_in_length c.args.faces.now (length c.args.places.now) in
+    let flags = ap length (c.deref-7.ensures.value ∙ c.in_ok-before.ensures) ∙ length-named_in c.args.faces.now (length c.args.places.now) in
     omega (arith, flags, c.requires.within.vertices_few)
 
 pub cut_sides-requires : goal.cut_sides-requires
