@@ -3,11 +3,15 @@ pub mod ClosedWalks
 pub mod CutLaws
 pub mod Cuttable
 pub mod GlueLaws
+pub mod KeptAgain
 pub mod KeptLaws
 pub mod KeyLaws
 pub mod KeySets
 pub mod NumberLaws
+pub mod OneSplit
 pub mod OpenWalks
+pub mod OwnSplit
+pub mod SameEnds
 pub mod SplitLaws
 pub mod Splitting
 pub mod Staying

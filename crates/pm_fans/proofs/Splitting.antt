@@ -116,7 +116,7 @@ module _ (m n : Net) (s : IsSplitByFans m n) where
       s.along p.side f.side p.stands k ∙ stays once f0 w _ p
 
 -- The first pair of a way that meets every pair.
-first_pair : (m : Net) (once : NoSideTwice m) (v a x y : ℕ) → Goes m v a x → IsPairAt m v x y → (b : ℕ) × IsPairAt m v a b
+pub first_pair : (m : Net) (once : NoSideTwice m) (v a x y : ℕ) → Goes m v a x → IsPairAt m v x y → (b : ℕ) × IsPairAt m v a b
 first_pair m once v a x y w f =
     elim (uncons m once v w) [
       | inl is ↦ (y, subst (λ i. IsPairAt m v i y) (sym is) f)

@@ -1,10 +1,11 @@
 -- The laws of splitting vertices by fans, each as a statement.
 use Rattle.std.specs.Prelude.{◌≡◌, ℕ, ◌<◌, List, length, slice_index_or, true, false}
-use Rattle.std.specs.List.{list_any}
+use Rattle.std.specs.List.{list_any, range_with_len}
 use Rattle.pm_base.specs.declared.mesh.Corners.{Corners}
-use Rattle.pm_base.specs.Sides.{Net, net_of, no_corners, Stands}
-use Rattle.pm_base.specs.Fans.{IsOrientedManifold}
+use Rattle.pm_base.specs.Sides.{Net, net_of, side_count, no_corners, Stands}
+use Rattle.pm_base.specs.Fans.{IsUsed, IsOrientedManifold}
 use Rattle.pm_fans.specs.Splits.{AllStand, NoMirror, IsSplitByFans, IsNumberedBy}
+use Rattle.pm_fans.specs.Orders.{IsSplit}
 use Rattle.pm_fans.specs.Kept.{is_flat, is_alike, kept_of, IsFitList}
 
 -- Faces of three different corners, no two of them with the same corners in opposite orders, become an oriented manifold.
@@ -39,3 +40,11 @@ FitListsStay = (fs : List Corners) → IsFitList fs → kept_of fs ≡ fs
 -- So do the faces of an oriented manifold.
 abbrev pub ManifoldsStay : Type 0
 ManifoldsStay = (fs : List Corners) → AllStand (net_of fs) → IsOrientedManifold (net_of fs) → kept_of fs ≡ fs
+
+-- Faces of three different corners have one split: any two have the same faces and the same old vertices.
+abbrev pub SplitsAreOne : Type 0
+SplitsAreOne = (m : Net) (fs gs : List Corners) (old was : List ℕ) → AllStand m → IsSplit m fs old → IsSplit m gs was → (fs ≡ gs) × (old ≡ was)
+
+-- An oriented manifold whose vertices are 0 to n - 1, each used, is its own split.
+abbrev pub ManifoldsAreTheirOwnSplit : Type 0
+ManifoldsAreTheirOwnSplit = (fs : List Corners) (n : ℕ) → IsOrientedManifold (net_of fs) → ((e : ℕ) → e < side_count (net_of fs) → (net_of fs).from e < n) → ((v : ℕ) → v < n → IsUsed (net_of fs) v) → IsSplit (net_of fs) fs (range_with_len 0 n)

@@ -7,6 +7,8 @@ ghost use Rattle.pm_fans.specs.Laws.{
   NothingIsLost,
   FitListsStay,
   ManifoldsStay,
+  SplitsAreOne,
+  ManifoldsAreTheirOwnSplit,
 };
 
 /// The laws of keeping faces and of splitting vertices by fans, which takes no step.
@@ -19,4 +21,6 @@ pub fn splits_are_sound()
     ensures kept { NothingIsLost }
     ensures stay { FitListsStay }
     ensures fit_input { ManifoldsStay }
+    ensures one { SplitsAreOne }
+    ensures own { ManifoldsAreTheirOwnSplit }
 {}

@@ -1,6 +1,8 @@
 use Rattle.pm_fans.proofs.Splitting.{splits_make_manifolds, manifolds_stay_whole, numberings_split}
 use Rattle.pm_fans.proofs.KeptLaws.{kept_are_fit, nothing_is_lost}
 use Rattle.pm_fans.proofs.Staying.{fit_lists_stay, manifolds_stay}
+use Rattle.pm_fans.proofs.OneSplit.{splits_are_one}
+use Rattle.pm_fans.proofs.OwnSplit.{manifolds_are_their_own_split}
 use Rattle.pm_fans.proofs.theory.splits_are_sound.Goals as goal
 
 pub returns : goal.returns
@@ -13,4 +15,6 @@ returns c = record {
   kept = nothing_is_lost;
   stay = fit_lists_stay;
   fit_input = manifolds_stay;
+  one = splits_are_one;
+  own = manifolds_are_their_own_split;
 }
