@@ -7,4 +7,7 @@ pub mod NamedLaws
 pub mod PlacingLaws
 pub mod JoiningLaws
 pub mod PieceLaws
+pub mod AgainLaws
+pub mod OnePrepared
+pub mod FitMeshes
 pub mod CountLaws

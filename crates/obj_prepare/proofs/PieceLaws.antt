@@ -48,10 +48,10 @@ named_low n (f ∷ fs) v are is =
 
 -- Each corner of a face is named.
 
-record AreNamed (faces : List Corners) (f : Corners) : Type 0 where
-  a : is_named faces f.a ≡ true
-  b : is_named faces f.b ≡ true
-  c : is_named faces f.c ≡ true
+pub record AreNamed (faces : List Corners) (f : Corners) : Type 0 where
+  pub a : is_named faces f.a ≡ true
+  pub b : is_named faces f.b ≡ true
+  pub c : is_named faces f.c ≡ true
 
 more_named : (g f : Corners) (fs : List Corners) → AreNamed fs f → AreNamed (g ∷ fs) f
 more_named g f fs are = record {
@@ -67,7 +67,7 @@ first_named f fs = record {
   c = or_left (is_corner f f.c) (is_named fs f.c) (corner_c f f.c refl);
 }
 
-corners_named : (fs : List Corners) (i : ℕ) → i < length fs → AreNamed fs (face_at fs i)
+pub corners_named : (fs : List Corners) (i : ℕ) → i < length fs → AreNamed fs (face_at fs i)
 corners_named [] i l = absurd (omega arith)
 corners_named (f ∷ fs) zero l = first_named f fs
 corners_named (f ∷ fs) (suc i) l = more_named f (face_at fs i) fs (corners_named fs i (omega arith))
@@ -98,7 +98,7 @@ renamed_within places faces names within are = record {
 
 -- Faces that stay are among the faces.
 
-kept_after_all : (P : Corners → Type 0) (before fs : List Corners) → All P before → All P fs → All P (kept_after before fs)
+pub kept_after_all : (P : Corners → Type 0) (before fs : List Corners) → All P before → All P fs → All P (kept_after before fs)
 kept_after_all P before [] all more = all
 kept_after_all P before (f ∷ fs) all more =
     let rest = All-tail P f fs more in
@@ -123,19 +123,22 @@ kept_within n fs within = record {
   corners = kept_after_all (AreCorners n) [] fs (All-nil (AreCorners n)) within.corners;
 }
 
-corner_in_low : (n : ℕ) (f : Corners) (i : ℕ) → AreCorners n f → corner_in f i < n
-corner_in_low n f i are =
+-- What holds of all three corners holds of each.
+pub corner_in_has : (P : ℕ → Type 0) (f : Corners) (i : ℕ) → P f.a → P f.b → P f.c → P (corner_in f i)
+corner_in_has P f i a b c =
     elim (cases_Bool (i == 0)) [
-      | inl a ↦ subst (λ k. k < n) (sym (cond-true (i == 0) f.a _ a)) are.a
+      | inl is ↦ subst P (sym (cond-true (i == 0) f.a _ is)) a
       | inr other ↦
-          subst (λ k. k < n) (sym (cond-false (i == 0) f.a _ other)) (elim (cases_Bool (i == 1)) [
-            | inl b ↦ subst (λ k. k < n) (sym (cond-true (i == 1) f.b f.c b)) are.b
-            | inr c ↦ subst (λ k. k < n) (sym (cond-false (i == 1) f.b f.c c)) are.c
+          subst P (sym (cond-false (i == 0) f.a _ other)) (elim (cases_Bool (i == 1)) [
+            | inl is ↦ subst P (sym (cond-true (i == 1) f.b f.c is)) b
+            | inr last ↦ subst P (sym (cond-false (i == 1) f.b f.c last)) c
           ])
     ]
 
 side_low : (n : ℕ) (fs : List Corners) → IsWithin n fs → (e : ℕ) → e < side_count (net_of fs) → (net_of fs).from e < n
-side_low n fs within e l = corner_in_low n (face_at fs (e / 3)) (e % 3) (All-get_or (AreCorners n) fs (e / 3) no_corners (omega arith) within.corners)
+side_low n fs within e l =
+    let are = All-get_or (AreCorners n) fs (e / 3) no_corners (omega arith) within.corners in
+    corner_in_has (λ v. v < n) (face_at fs (e / 3)) (e % 3) are.a are.b are.c
 
 pub kept_cuttable : KeptAreFit → (n : ℕ) (fs : List Corners) → IsWithin n fs → IsCuttable (net_of (kept_of fs))
 kept_cuttable fit n fs within =

@@ -9,3 +9,4 @@ pub mod Firsts
 pub mod Prepared
 pub mod Pieces
 pub mod PrepareFails
+pub mod Laws

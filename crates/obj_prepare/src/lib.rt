@@ -15,6 +15,7 @@ mod scale;
 mod standing;
 #[cfg(test)]
 mod tests;
+mod theory;
 
 pub use decimal::decimal_coordinate;
 pub use exact::ExactPoint;
@@ -24,6 +25,7 @@ pub use placing::{Fit, Placing, place_points};
 pub use preparing::{PrepareFail, Prepared, prepare};
 pub use scale::{along, nearest};
 pub use standing::{stands, whole};
+pub use theory::prepared_are_sound;
 
 /// The answer for want of memory.
 pub type OutOfMemory = std::alloc::AllocError;

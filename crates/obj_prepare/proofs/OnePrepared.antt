@@ -1,0 +1,69 @@
+-- Two meshes that are prepared of one input are the same, and so are the numbers of what was done.
+use Rattle.std.proofs.Common.{◌≡◌, ℕ, ◌<◌, inl, inr, sym, ap, ◌∙◌, subst, List, length, map}
+use Rattle.std.specs.Prelude.{slice_index_or}
+use Rattle.std.proofs.lemmas.Bool.{cases_Bool, cases_order}
+use Rattle.std.proofs.lemmas.Grind.{same_number_lists}
+use Rattle.pm_base.specs.declared.mesh.Corners.{Corners}
+use Rattle.pm_base.specs.Place.{Place}
+use Rattle.pm_base.specs.Meshes.{Mesh}
+use Rattle.pm_base.specs.Sides.{net_of}
+use Rattle.pm_fans.specs.Orders.{IsSplit}
+use Rattle.pm_fans.specs.Cuts.{cut_count}
+use Rattle.pm_fans.proofs.KeptLaws.{kept_are_fit}
+use Rattle.pm_fans.proofs.OneSplit.{splits_are_one}
+use Rattle.obj_prepare.specs.declared.notes.Notes.{Notes}
+use Rattle.obj_prepare.specs.Named.{is_named}
+use Rattle.obj_prepare.specs.Joining.{place_at, IsFirstAt, AreJoined, joined_faces}
+use Rattle.obj_prepare.specs.Prepared.{staying, IsPrepared, joined_count, flat_count, double_count, split_count, IsPreparedWith}
+
+module _ (places : List Place) (faces : List Corners) where
+  -- Of two first vertices at a place neither is before the other.
+  one_first : (v u w : ℕ) → IsFirstAt places faces v u → IsFirstAt places faces v w → u ≡ w
+  one_first v u w a b =
+      elim (cases_order u w) [
+        | inl same ↦ same
+        | inr k ↦ elim k [ inl l ↦ absurd (b.least u l a.named a.same) | inr l ↦ absurd (a.least w l b.named b.same) ]
+      ]
+
+  one_name : (names others : List ℕ) → AreJoined places faces names → AreJoined places faces others → (v : ℕ) → v < length names → slice_index_or names v 0 ≡ slice_index_or others v 0
+  one_name names others a b v l =
+      let low : v < length places = subst (λ k. v < k) a.all l in
+      elim (cases_Bool (is_named faces v)) [
+        | inl named ↦ one_first v _ _ (a.each v low named) (b.each v low named)
+        | inr out ↦ a.others v low out ∙ sym (b.others v low out)
+      ]
+
+  names_are_one : (names others : List ℕ) → AreJoined places faces names → AreJoined places faces others → names ≡ others
+  names_are_one names others a b = same_number_lists names others (a.all ∙ sym b.all) (one_name names others a b)
+
+-- The lists of which one mesh is made are those of which another one is.
+record AreSame {places : List Place} {faces : List Corners} {m n : Mesh} (p : IsPrepared places faces m) (q : IsPrepared places faces n) : Type 0 where
+  names : p.names ≡ q.names
+  faces_same : m.faces ≡ n.faces
+  old : p.old ≡ q.old
+
+are_same : (places : List Place) (faces : List Corners) (m n : Mesh) (p : IsPrepared places faces m) (q : IsPrepared places faces n) → AreSame p q
+are_same places faces m n p q =
+    let same = names_are_one places faces p.names q.names p.joined q.joined in
+    let split : IsSplit (net_of (staying p.names faces)) n.faces q.old = subst (λ (names : List ℕ). IsSplit (net_of (staying names faces)) n.faces q.old) (sym same) q.split in
+    let (fs, old) = splits_are_one (net_of (staying p.names faces)) m.faces n.faces p.old q.old (kept_are_fit (joined_faces p.names faces)).0 p.split split in
+    record { names = same; faces_same = fs; old = old }
+
+pub prepared_are_one : (places : List Place) (faces : List Corners) (m n : Mesh) → IsPrepared places faces m → IsPrepared places faces n → m ≡ n
+prepared_are_one places faces m n p q =
+    let s = are_same places faces m n p q in
+    let points = p.stand ∙ ap (map (place_at places)) s.old ∙ sym q.stand in
+    let fs = s.faces_same in
+    λ i. record { points = points i; faces = fs i }
+
+-- Each number is told by the same lists.
+pub notes_are_one : (places : List Place) (faces : List Corners) (m n : Mesh) (notes others : Notes) → IsPreparedWith places faces m notes → IsPreparedWith places faces n others → notes ≡ others
+notes_are_one places faces m n notes others (p, a) (q, b) =
+    let s = are_same places faces m n p q in
+    let joined = a.joined ∙ ap (λ names. joined_count names faces) s.names ∙ sym b.joined in
+    let flat = a.flat ∙ ap (λ names. flat_count names faces) s.names ∙ sym b.flat in
+    let double = a.double ∙ ap (λ names. double_count names faces) s.names ∙ sym b.double in
+    let cut = a.cut ∙ ap (λ names. cut_count (net_of (staying names faces))) s.names ∙ sym b.cut in
+    let split = a.split ∙ ap (λ names. split_count names faces p.old) s.names ∙ ap (split_count q.names faces) s.old ∙ sym b.split in
+    let unnamed = a.unnamed ∙ sym b.unnamed in
+    λ i. record { joined = joined i; flat = flat i; double = double i; cut = cut i; split = split i; unnamed = unnamed i }

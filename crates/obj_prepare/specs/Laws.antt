@@ -1,0 +1,34 @@
+-- The laws of preparing placed vertices and triangles, each as a statement.
+use Rattle.std.specs.Prelude.{◌≡◌, ◌≢◌, ℕ, ◌<◌, List, length}
+use Rattle.std.specs.List.{All}
+use Rattle.pm_base.specs.declared.mesh.Corners.{Corners}
+use Rattle.pm_base.specs.Place.{Place}
+use Rattle.pm_base.specs.Meshes.{Mesh}
+use Rattle.pm_base.specs.Sides.{net_of}
+use Rattle.pm_base.specs.Fans.{IsUsed, IsOrientedManifold}
+use Rattle.pm_fans.specs.Splits.{AllStand}
+use Rattle.obj_prepare.specs.declared.notes.Notes.{Notes}
+use Rattle.obj_prepare.specs.Named.{AreCorners, IsWithin}
+use Rattle.obj_prepare.specs.Joining.{place_at}
+use Rattle.obj_prepare.specs.Prepared.{IsPrepared, IsPreparedWith}
+
+-- One mesh is prepared of placed vertices and triangles.
+abbrev pub PreparedAreOne : Type 0
+PreparedAreOne = (places : List Place) (faces : List Corners) (m n : Mesh) → IsPrepared places faces m → IsPrepared places faces n → m ≡ n
+
+-- What was done is told by one list of numbers.
+abbrev pub NotesAreOne : Type 0
+NotesAreOne = (places : List Place) (faces : List Corners) (m n : Mesh) (notes others : Notes) → IsPreparedWith places faces m notes → IsPreparedWith places faces n others → notes ≡ others
+
+-- Each vertex is used, and no two stand at one place.
+pub record AreFit (places : List Place) (faces : List Corners) : Type 0 where
+  pub used : (v : ℕ) → v < length places → IsUsed (net_of faces) v
+  pub apart : (v w : ℕ) → v < length places → w < length places → v ≢ w → place_at places v ≢ place_at places w
+
+-- An oriented manifold of such vertices comes back as it is.
+abbrev pub FitMeshesStay : Type 0
+FitMeshesStay = (places : List Place) (faces : List Corners) → IsWithin (length places) faces → AllStand (net_of faces) → IsOrientedManifold (net_of faces) → AreFit places faces → IsPrepared places faces (record { points = places; faces = faces })
+
+-- What is made of placed vertices and triangles, prepared again, is itself.
+abbrev pub PreparedStays : Type 0
+PreparedStays = (places : List Place) (faces : List Corners) (m : Mesh) → All (AreCorners (length places)) faces → IsPrepared places faces m → IsPrepared m.points m.faces m
