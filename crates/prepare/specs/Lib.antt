@@ -3,3 +3,4 @@ pub mod Texts
 pub mod Outcome
 pub mod Making
 pub mod Ending
+pub mod Laws

@@ -7,6 +7,7 @@ ghost use Rattle.prepare.specs.Ending.{Said, Stayed};
 mod fault;
 mod make;
 mod notes;
+mod outcomes;
 mod run;
 mod say;
 #[cfg(test)]
