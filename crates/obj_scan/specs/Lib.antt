@@ -3,3 +3,4 @@ pub mod Judged
 pub mod Meaning
 pub mod Fails
 pub mod Reading
+pub mod Laws

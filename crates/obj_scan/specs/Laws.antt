@@ -1,0 +1,31 @@
+-- The laws of texts that the reader of the strict profile, `obj_read`, takes too. A unit is 10^-18, and byte 35 is `#`.
+use Rattle.std.specs.Prelude.{ℕ, ◌≡◌, ◌<◌, ◌^◌, ◌*ℤ◌, ℤ, pos, List, ◌∷◌, ◌++◌, length, map, Ok}
+use Rattle.std.specs.List.{All}
+use Rattle.pm_base.specs.Place.{Place, IsPlace}
+use Rattle.pm_base.specs.Meshes.{Mesh, IsWellFormed}
+use Rattle.pm_base.specs.Canonical.{canonical_text}
+use Rattle.obj_lines.specs.Text.{until}
+use Rattle.obj_read.specs.Meaning.{meaning_of as mesh_meaning}
+use Rattle.obj_scan.specs.Judged.{Scanned}
+use Rattle.obj_scan.specs.Meaning.{meaning_of}
+
+-- A whole number in units.
+abbrev pub in_units : ℤ → ℤ
+in_units n = n *ℤ pos (10 ^ 18)
+
+-- A point of the grid in units.
+abbrev pub scaled_up : Place → Place
+scaled_up p = record { x = in_units p.x; y = in_units p.y; z = in_units p.z }
+
+-- A mesh as the lines of its text give it: its points in units, its triangles, and no polygon.
+abbrev pub scanned_of : Mesh → Scanned
+scanned_of m = record { points = map scaled_up m.points; faces = m.faces; polygons = 0 }
+
+-- A text that is read as a mesh, with whole numbers for coordinates, is scanned as that mesh.
+abbrev pub ReadIsScanned : Type 0
+ReadIsScanned = (bytes : List ℕ) (m : Mesh) → mesh_meaning 0 bytes ≡ Ok m → meaning_of bytes ≡ Ok (scanned_of m)
+
+-- So is the canonical text of a mesh after a comment.
+abbrev pub CommentedIsScanned : Type 0
+CommentedIsScanned = (line : List ℕ) (m : Mesh) → until 10 line ≡ line → length line < 65536 → IsWellFormed m → All IsPlace m.points
+    → meaning_of ((35 ∷ line) ++ 10 ∷ canonical_text 0 m) ≡ Ok (scanned_of m)
