@@ -6,3 +6,6 @@ pub mod PlaceLaws
 pub mod StandLaws
 pub mod StepLaws
 pub mod FinishLaws
+pub mod NumberLaws
+pub mod FoundLaws
+pub mod ReadLaws

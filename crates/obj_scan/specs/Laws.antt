@@ -1,4 +1,4 @@
--- The laws of texts that the reader of the strict profile, `obj_read`, takes too. A unit is 10^-18, and byte 35 is `#`.
+-- The laws of texts that `obj_read`, which reads the OBJ profile, takes too. A unit is 10^-18, and byte 35 is `#`.
 use Rattle.std.specs.Prelude.{ℕ, ◌≡◌, ◌<◌, ◌^◌, ◌*ℤ◌, ℤ, pos, List, ◌∷◌, ◌++◌, length, map, Ok}
 use Rattle.std.specs.List.{All}
 use Rattle.pm_base.specs.Place.{Place, IsPlace}

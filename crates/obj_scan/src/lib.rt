@@ -9,8 +9,10 @@ mod scanner;
 mod step;
 #[cfg(test)]
 mod tests;
+mod theory;
 
 pub use scan::{Scan, scan_obj};
+pub use theory::scans_are_sound;
 
 /// The answer for want of memory.
 pub type OutOfMemory = std::alloc::AllocError;

@@ -1,0 +1,86 @@
+-- A text that `obj_read` takes as a mesh is scanned as that mesh, by induction on its lines.
+use Rattle.std.proofs.Common.{◌≡◌, ℕ, ◌+◌, ◌-◌, ◌≤◌, Bool, true, false, List, [], ◌∷◌, length, drop, nat_lt, None, Result, Ok, Err, refl, ap, arith, length-append}
+use Rattle.std.proofs.lemmas.Bool.{le-ltb, ltb-false}
+use Rattle.std.proofs.lemmas.List.{length-map, length-take}
+use Rattle.pm_base.specs.Meshes.{Mesh}
+use Rattle.obj_lines.specs.Text.{until, lines, ends_with, without_cr, content}
+use Rattle.obj_lines.proofs.TextLaws.{until_split}
+use Rattle.obj_read.specs.declared.fault.ObjFault.{ObjFault}
+use Rattle.obj_read.specs.declared.found.Found.{Found as ReadFound}
+use Rattle.obj_read.specs.Fits.{with_found as with_read}
+use Rattle.obj_read.specs.Meaning.{SoFar as ReadSoFar, Refused, is_past, is_long, judged as read_judged, and_line as and_read, then_lines as then_read, meaning_from as read_from, meaning_of as read_meaning}
+use Rattle.obj_read.proofs.CommentLaws.{commented_is_read}
+use Rattle.obj_scan.specs.Judged.{Scanned}
+use Rattle.obj_scan.specs.Meaning.{SoFar, joined_text, judged_length, judged, and_line, meaning_from, meaning_of}
+use Rattle.obj_scan.specs.Laws.{scanned_of, ReadIsScanned, CommentedIsScanned}
+use Rattle.obj_scan.proofs.FoundLaws.{line_is_found, scanned_with}
+
+-- What is read of a line isn't longer than it.
+
+length_until : (stop : ℕ) (text : List ℕ) → length (until stop text) ≤ length text
+length_until stop text = omega (arith, ap length (until_split stop text), length-append (until stop text) (drop (length (until stop text)) text))
+
+cr_case : (text : List ℕ) (b : Bool) → ends_with 13 text ≡ b → length (without_cr text) ≤ length text
+unfolding without_cr
+cr_case text true is = rw is (omega (arith, length-take (length text - 1) text))
+cr_case text false is = rw is (omega arith)
+
+length_content : (text : List ℕ) → length (content text) ≤ length text
+unfolding content
+length_content text = omega (arith, length_until 35 (without_cr text), cr_case text (ends_with 13 text) refl)
+
+-- How far both readings have come after so many bytes, where the next line has this number and a mesh was given.
+abbrev read_after : ℕ → ℕ → Mesh → ReadSoFar
+read_after bytes number m = record { digits = 0; bytes = bytes; number = number; mesh = m }
+
+abbrev scan_after : ℕ → ℕ → Mesh → SoFar
+scan_after bytes number m = record { bytes = bytes; number = number; continued = 0; begun = []; scanned = scanned_of m }
+
+-- A line without a fault for `obj_read` has none here, and gives the same.
+record IsScanned (bytes number : ℕ) (m : Mesh) (line : List ℕ) (f : ReadFound) : Type 0 where
+  within : judged_length (scan_after bytes number m) line ≡ None
+  gives : judged (scan_after bytes number m) line ≡ Ok (scan_after (bytes + length line) (number + 1) (with_read m f))
+
+line_case : (bytes number : ℕ) (m : Mesh) (line : List ℕ) (f : ReadFound) (past long : Bool) → is_past bytes (length line) ≡ past → is_long line ≡ long
+    → read_judged (read_after bytes number m) line ≡ Ok f → IsScanned bytes number m line f
+unfolding read_judged judged_length judged joined_text and_line
+line_case bytes number m line f true long a b is = let e = rw a at is in cc
+line_case bytes number m line f false true a b is = let e = rw (a, b) at is in cc
+line_case bytes number m line f false false a b is =
+    let text = content (until 10 line) in
+    let found = line_is_found (length m.points) (length m.faces) text f (rw (a, b) at is) in
+    let short : nat_lt 65536 (length text) ≡ false = le-ltb _ _ (omega (arith, length_content (until 10 line), ltb-false _ _ b)) in
+    record {
+      within = rw (a, b, short) refl;
+      gives = rw (found.ended, length-map m.points _, found.gives) (ap (λ s. Ok (record { bytes = bytes + length line; number = number + 1; continued = 0; begun = []; scanned = s })) (scanned_with m f));
+    }
+
+line_is_scanned : (bytes number : ℕ) (m : Mesh) (line : List ℕ) (f : ReadFound) → read_judged (read_after bytes number m) line ≡ Ok f → IsScanned bytes number m line f
+line_is_scanned bytes number m line f is = line_case bytes number m line f _ _ refl refl is
+
+-- The same of a line and those after it.
+then_scanned : (bytes number : ℕ) (m n : Mesh) (line : List ℕ) (more : List (List ℕ)) (r : Result ReadFound ObjFault) → read_judged (read_after bytes number m) line ≡ r
+    → ((b i : ℕ) (k : Mesh) → read_from (read_after b i k) more ≡ Ok n → meaning_from (scan_after b i k) more ≡ Ok (scanned_of n))
+    → then_read r (read_after bytes number m) line (λ t. read_from t more) ≡ Ok n → meaning_from (scan_after bytes number m) (line ∷ more) ≡ Ok (scanned_of n)
+unfolding and_read
+then_scanned bytes number m n line more (Ok f) judges later is =
+    let scan = line_is_scanned bytes number m line f judges in
+    rw (scan.within, scan.gives) (later (bytes + length line) (number + 1) (with_read m f) is)
+then_scanned bytes number m n line more (Err e) judges later is = cc
+
+scanned_result : Result Mesh Refused → Result Scanned Refused
+scanned_result (Ok m) = Ok (scanned_of m)
+scanned_result (Err r) = Err r
+
+lines_are_scanned : (bytes number : ℕ) (m n : Mesh) (ls : List (List ℕ)) → read_from (read_after bytes number m) ls ≡ Ok n → meaning_from (scan_after bytes number m) ls ≡ Ok (scanned_of n)
+unfolding scanned_result
+lines_are_scanned bytes number m n [] is = ap scanned_result is
+lines_are_scanned bytes number m n (line ∷ more) is =
+    then_scanned bytes number m n line more _ refl (λ b i k spells. lines_are_scanned b i k n more spells) is
+
+pub read_scanned : ReadIsScanned
+unfolding read_meaning meaning_of
+read_scanned bytes m is = lines_are_scanned 0 1 (record { points = []; faces = [] }) m (lines bytes) is
+
+pub canonical_scanned : CommentedIsScanned
+canonical_scanned line m clean short formed places = read_scanned _ m (commented_is_read 0 line m clean short (omega arith) formed places)

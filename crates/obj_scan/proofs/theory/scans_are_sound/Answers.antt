@@ -1,0 +1,5 @@
+use Rattle.obj_scan.proofs.ReadLaws.{read_scanned, canonical_scanned}
+use Rattle.obj_scan.proofs.theory.scans_are_sound.Goals as goal
+
+pub returns : goal.returns
+returns c = record { read = read_scanned; commented = canonical_scanned }
