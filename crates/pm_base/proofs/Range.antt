@@ -1,12 +1,12 @@
 -- How far from 0 products and normals can be.
-use Rattle.std.proofs.Common.{ℕ, ◌+◌, ◌*◌, ◌^◌, ◌<◌, ◌≤◌, FitsSigned, arith}
+use Rattle.std.proofs.Common.{ℕ, ◌*◌, ◌^◌, ◌<◌, ◌≤◌, FitsSigned, arith}
 use mir.Syntax.{w128}
-use Rattle.std.specs.Prelude.{ℤ, ◌+ℤ◌, ◌-ℤ◌, ◌*ℤ◌, unsigned_abs}
+use Rattle.std.specs.Prelude.{ℤ, ◌-ℤ◌, ◌*ℤ◌, unsigned_abs}
 use Rattle.std.proofs.lemmas.Nat.{mul-le}
 use Rattle.std.proofs.lemmas.Int.{unsigned_abs-mul, fits_signed_from_abs}
 use Rattle.pm_base.specs.Place.{Place, IsPlace}
 use Rattle.pm_base.specs.Geometry.{IsNormal, cross_of}
-use Rattle.pm_base.proofs.Squares.{abs_minus, abs_plus}
+use Rattle.pm_base.proofs.Squares.{abs_minus}
 
 pub abs_product : (a b : ℤ) (m n : ℕ) → unsigned_abs a ≤ m → unsigned_abs b ≤ n → unsigned_abs (a *ℤ b) ≤ m * n
 abs_product a b m n p q = rw unsigned_abs-mul (mul-le (unsigned_abs a) (unsigned_abs b) m n p q)
@@ -29,10 +29,6 @@ cross_small a b c p q r =
       minor_small (b.z -ℤ a.z) (b.x -ℤ a.x) (c.z -ℤ a.z) (c.x -ℤ a.x) bz bx cz cx,
       minor_small (b.x -ℤ a.x) (b.y -ℤ a.y) (c.x -ℤ a.x) (c.y -ℤ a.y) bx by cx cy,
     )
-
--- At 128 bits: what a sum comes to fits, and is read back.
-pub add_fits : (x y : ℤ) (m n : ℕ) → unsigned_abs x ≤ m → unsigned_abs y ≤ n → m + n < 2 ^ 127 → FitsSigned w128 (x +ℤ y)
-add_fits x y m n p q r = fits_signed_from_abs w128 (x +ℤ y) (omega (arith, abs_plus x y))
 
 pub fits_abs : (x : ℤ) (m : ℕ) → unsigned_abs x ≤ m → m < 2 ^ 127 → FitsSigned w128 x
 fits_abs x m p q = fits_signed_from_abs w128 x (omega arith)

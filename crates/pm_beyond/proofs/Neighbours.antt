@@ -14,7 +14,7 @@ use Rattle.pm_forest.specs.Moves.{side_in, neighbours_in, neighbours_of}
 use Rattle.pm_forest.specs.Rules.{HasShape}
 use Rattle.pm_forest.proofs.Sides.{next-face, next-differs, next_next-differs, inner-face, three_sides}
 use Rattle.pm_forest.proofs.FaceNumbers.{first_face-mono, revealed-parts, revealed-from, record-lt, which_face}
-use Rattle.pm_forest.proofs.ShapeLaws.{neighbours_of-older}
+use Rattle.pm_forest.proofs.FaceLimits.{neighbours_of-older}
 use Rattle.pm_beyond.specs.Walks.{IsInner, IsOuter, number_of, mate_of, expected_at, expected}
 use Rattle.pm_beyond.proofs.Distinct.{In, in-here, in-nil, in-cases, in-append, in-append_left, in-append_right, all-in}
 

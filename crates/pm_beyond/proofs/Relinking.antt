@@ -13,7 +13,8 @@ use Rattle.pm_forest.proofs.OneStep.{with-cases, with-same, without-parts}
 use Rattle.pm_forest.proofs.Shown.{shown_record, hidden-parts, shown_with, shown_without}
 use Rattle.pm_forest.specs.Rules.{HasShape}
 use Rattle.pm_forest.specs.Moves.{neighbours_of}
-use Rattle.pm_forest.proofs.ShapeLaws.{shape_is_forest, neighbours_of-older}
+use Rattle.pm_forest.proofs.ShapeLaws.{shape_is_forest}
+use Rattle.pm_forest.proofs.FaceLimits.{neighbours_of-older}
 use Rattle.pm_beyond.specs.RelinkingLaws as law
 use Rattle.pm_beyond.specs.Walks.{leaf_net, across, IsOuter, StopsAt, Beyond, expected}
 use Rattle.pm_beyond.specs.Valid.{IsValid}

@@ -1,6 +1,6 @@
 -- A walk by a step that is one to one among the numbers below n, from a number to which no step leads, ends within n
 -- steps.
-use Rattle.std.proofs.Common.{cond, ◌≡◌, ℕ, zero, suc, ◌+◌, ◌-◌, ◌*◌, ◌<◌, ◌≤◌, Bool, true, false, Option, Some, None, inl, inr, refl, sym, ap, ◌∙◌, arith}
+use Rattle.std.proofs.Common.{cond, ◌≡◌, ℕ, zero, suc, ◌+◌, ◌-◌, ◌*◌, ◌<◌, ◌≤◌, Bool, false, Option, Some, None, inl, inr, refl, sym, ap, ◌∙◌, arith}
 use Rattle.std.proofs.lemmas.Bool.{cases_Bool, cases_eq, cond-true, cond-false}
 use Rattle.std.proofs.lemmas.Option.{none-some}
 use Rattle.pm_base.proofs.Search.{option_cases}
@@ -8,7 +8,7 @@ use Rattle.pm_base.proofs.Walks.{after_steps, after_steps-zero, IsTrail, trail-g
 use Rattle.pm_forest.specs.Forest.{Hierarchy}
 use Rattle.pm_forest.specs.Faces.{face_count}
 use Rattle.pm_forest.specs.Kept.{is_shown}
-use Rattle.pm_beyond.specs.Walks.{leaf_twin, across, out_at, way_out, go_on, walk, beyond_of}
+use Rattle.pm_beyond.specs.Walks.{leaf_twin, across, out_at, way_out, go_on, walk}
 use Rattle.pm_beyond.proofs.Twins.{twin-is}
 use Rattle.pm_beyond.proofs.Across.{across-lt}
 
@@ -23,10 +23,6 @@ walk-none f m a e = ap (λ r. go_on r a (walk f m)) e
 pub walk-some : (f : ℕ → Option ℕ) (m a o : ℕ) → f a ≡ Some o → walk f (suc m) a ≡ walk f m o
 unfolding walk
 walk-some f m a o e = ap (λ r. go_on r a (walk f m)) e
-
--- The walk goes on where there is a step, and stays where there is none.
-pub walk_goes_on : (f : ℕ → Option ℕ) (m a o : ℕ) → f a ≡ Some o → walk f (m + 1) a ≡ walk f m o
-walk_goes_on f m a o e = let n : m + 1 ≡ suc m = omega arith in rw n (walk-some f m a o e)
 
 pub walk_stays : (f : ℕ → Option ℕ) (m a : ℕ) → f a ≡ None → walk f m a ≡ a
 walk_stays f zero a e = walk_zero f a
@@ -58,19 +54,6 @@ module _ (f : ℕ → Option ℕ) (n a : ℕ) (start : a < n) (keeps : (p o : �
         | inr returns ↦ absurd (fresh (after_steps f a l) (trail-good f Below keeps injective a start l t l (omega arith)) returns)
       ]
 
--- One step of the walk beyond a side: none where there is no twin or the twin's face is shown, else across that face.
-pub no_way_out : (h : Hierarchy) (T : ℕ → Bool) (a : ℕ) → leaf_twin h a ≡ None → way_out h T a ≡ None
-unfolding way_out
-no_way_out h T a t = ap (out_at h T) t
-
-pub way_out_shown : (h : Hierarchy) (T : ℕ → Bool) (a c : ℕ) → leaf_twin h a ≡ Some c → is_shown h T c ≡ true → way_out h T a ≡ None
-unfolding way_out
-way_out_shown h T a c t s = ap (out_at h T) t ∙ cond-true (is_shown h T c) None (across h c) s
-
-pub way_out_past : (h : Hierarchy) (T : ℕ → Bool) (a c : ℕ) → leaf_twin h a ≡ Some c → is_shown h T c ≡ false → way_out h T a ≡ across h c
-unfolding way_out
-way_out_past h T a c t d = ap (out_at h T) t ∙ cond-false (is_shown h T c) None (across h c) d
-
 -- A step goes over a twin whose face isn't shown, and across that face,
 pub way_out_parts : (h : Hierarchy) (T : ℕ → Bool) (a o : ℕ) → way_out h T a ≡ Some o → (c : ℕ) × (leaf_twin h a ≡ Some c) × (is_shown h T c ≡ false) × (across h c ≡ Some o)
 unfolding way_out
@@ -88,8 +71,3 @@ way_out_parts h T a o e =
 -- to a side of the mesh.
 pub way_out_lt : (h : Hierarchy) (T : ℕ → Bool) (a o : ℕ) → way_out h T a ≡ Some o → o < 3 * face_count h
 way_out_lt h T a o e = let q = way_out_parts h T a o e in across-lt h q.0 o (twin-is h a q.0 q.1).2 q.3
-
--- What stands beyond is the twin of the side at which the walk ends.
-pub beyond_of_walk : (h : Hierarchy) (T : ℕ → Bool) (a : ℕ) → beyond_of h T a ≡ leaf_twin h (walk (way_out h T) (3 * face_count h) a)
-unfolding beyond_of
-beyond_of_walk h T a = refl

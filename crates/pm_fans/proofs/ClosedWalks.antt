@@ -1,5 +1,5 @@
 -- The walk back along a closed chain, from its least side.
-use Rattle.std.proofs.Common.{◌≡◌, ◌≢◌, ℕ, ◌<◌, ◌≤◌, ◌⊎◌, inl, inr, refl, sym, ap, ◌∙◌, subst, Option, Some, None, List, length, set}
+use Rattle.std.proofs.Common.{◌≡◌, ◌≢◌, ℕ, ◌<◌, ◌≤◌, ◌⊎◌, inl, inr, sym, ap, ◌∙◌, subst, Option, Some, None, List, length, set}
 use Rattle.std.proofs.lemmas.Bool.{cases_eq, cases_lt}
 use Rattle.std.proofs.lemmas.List.{length-set, get_or-set_other}
 use Rattle.pm_base.specs.Sides.{next, prev}
@@ -31,21 +31,6 @@ pub record WalksBack (glued old heads : List (Option ℕ)) (least side : ℕ) : 
   pub keeps : Keeps old heads
   pub free : side ≢ least → at heads side ≡ None
   pub began : StandsAtLeast glued heads least side ⊎ HasLeft glued heads least side
-
-pub back_begins : (glued old : List (Option ℕ)) (least : ℕ) → AreHeaded glued old → least < length glued → at old least ≡ None → WalksBack glued old old least least
-back_begins glued old least a l bare = record {
-  long = a.long;
-  in_range = l;
-  led = λ e h k _. a.led e h k;
-  near = λ e k. absurd (none_some bare (a.own e least k));
-  own = a.own;
-  on = λ e g h f k _. a.on e g h f k;
-  back = λ e g h f k _. a.back e g h f k;
-  kind = a.kind;
-  keeps = λ e h k. k;
-  free = λ ne. absurd (ne refl);
-  began = inl (record { here = refl; bare = bare; after = λ g h f k. none_some bare (a.back least g h f k) });
-}
 
 module _ (glued old heads : List (Option ℕ)) (least side : ℕ) (w : WalksBack glued old heads least side) (met : HasHead heads side) where
   at_least : side ≡ least

@@ -1,5 +1,5 @@
 -- Sides that stand once are told by their two ends, and two that run back along one another are glued.
-use Rattle.std.proofs.Common.{◌≡◌, ◌≢◌, ℕ, ◌+◌, ◌*◌, ◌/◌, ◌<◌, ◌≤◌, true, false, inl, inr, refl, sym, ap, ◌∙◌, subst, Option, Some, None, List, [], ◌∷◌, ◌++◌, length, slice_index_or, arith}
+use Rattle.std.proofs.Common.{◌≡◌, ◌≢◌, ℕ, ◌+◌, ◌*◌, ◌/◌, ◌<◌, true, false, inl, inr, refl, sym, ap, ◌∙◌, subst, Option, Some, None, List, [], ◌∷◌, ◌++◌, length, slice_index_or, arith}
 use Rattle.std.specs.Option.{MatchOption, is_some}
 use Rattle.std.specs.Ordering.{nat_cmp}
 use Rattle.std.specs.BTreeMap.{BTreeMap, get, is_at, Updates}
@@ -84,20 +84,6 @@ again_noted m n s t noted some u =
     elim (option_cases (get nat_cmp s (key_at m n))) [
       | inl is ↦ absurd (true≢false (sym some ∙ ap is_some is))
       | inr (v, is) ↦ noted_at m n 4294967295 s t noted u (noted_again m n (key_at m n) v refl (subst (IsNoted m n (key_at m n)) is (noted (key_at m n))))
-    ]
-
--- What the map says of a key whose side stands once, and of any other.
-pub noted_alone : (m : Net) (n k v : ℕ) (r : Option ℕ) → n ≤ 3145728 → IsNoted m n k r → r ≡ Some v → v ≢ 4294967295 → IsAlone m n k v
-noted_alone m n k v r few h is ne = elim (subst (IsNoted m n k) is h) [ inl a ↦ a | inr s ↦ absurd (ne s.mark) ]
-
-pub none_alone : (m : Net) (n k : ℕ) (r : Option ℕ) → IsNoted m n k r → r ≡ None → (v : ℕ) → IsAlone m n k v → ⊥
-none_alone m n k r h is v a = subst (IsNoted m n k) is h v a.in_range a.has
-
-pub several_alone : (m : Net) (n k w : ℕ) (r : Option ℕ) → n ≤ 3145728 → IsNoted m n k r → r ≡ Some w → w ≡ 4294967295 → (v : ℕ) → IsAlone m n k v → ⊥
-several_alone m n k w r few h is mark v a =
-    elim (subst (IsNoted m n k) is h) [
-      | inl b ↦ (let low = b.in_range in absurd (omega arith))
-      | inr s ↦ s.differ (a.alone s.one s.one_in s.one_has ∙ sym (a.alone s.other s.other_in s.other_has))
     ]
 
 module _ (m : Net) (ok : IsCuttable m) where

@@ -1,12 +1,12 @@
 -- The keys of the heads in ascending order, and the place of each.
-use Rattle.std.proofs.Common.{◌≡◌, ℕ, ◌+◌, ◌*◌, ◌<◌, ◌≤◌, ◌⊎◌, inl, inr, sym, ap, ◌∙◌, subst, cond, eqb, Option, Some, List, [], ◌∷◌, ◌++◌, length, get_or, set, slice_index, slice_index_or, arith}
+use Rattle.std.proofs.Common.{◌≡◌, ℕ, ◌+◌, ◌*◌, ◌<◌, ◌≤◌, ◌⊎◌, inl, inr, sym, ap, ◌∙◌, subst, cond, eqb, Option, Some, List, [], ◌∷◌, ◌++◌, length, get_or, slice_index, slice_index_or, arith}
 use Rattle.std.specs.Option.{is_some}
 use Rattle.std.specs.Ordering.{nat_cmp}
 use Rattle.std.specs.List.{All, Contains, IsDistinct}
 use Rattle.std.specs.List.Sorted.{IsPermutation, IsSorted}
 use Rattle.std.proofs.lemmas.Bool.{cases_eq, eq-eqb, ne_eqb}
 use Rattle.std.proofs.lemmas.Nat.{mod-mul-add}
-use Rattle.std.proofs.lemmas.List.{get_or_append_left, length-append, get_or_default, length-set, get_or-set_same, get_or-set_other}
+use Rattle.std.proofs.lemmas.List.{get_or_append_left, length-append, get_or_default}
 use Rattle.std.proofs.lemmas.List.Elements.{All-from_get_or, Contains-append_left, Contains-push}
 use Rattle.std.proofs.lemmas.List.Sorted.{All-permutation, Contains-permutation, length_permutation, IsNonDecreasingBy-from_sort}
 use Rattle.std.proofs.lemmas.Map.Keys.{IsDistinct-from_apart, IsDistinct-IsPermutation, IsStrictlyIncreasing-from_distinct, sorted_from_strictly_increasing, below_from_sorted}
@@ -108,17 +108,6 @@ keys_sorted m glued heads xs ys c perm sorted =
       ascend = λ i j ij jl. below_from_sorted ys i j 0 (sorted_from_strictly_increasing ys rise) ij jl;
     }
 
-pub keys_none : (m : Net) (glued heads : List (Option ℕ)) (xs : List ℕ) → xs ≡ [] → AreCollected m glued heads 0 xs
-keys_none m glued heads xs is =
-    let none : length xs ≡ 0 = ap length is in
-    record {
-      few = omega (arith, none);
-      each = λ i l. absurd (omega (arith, none));
-      low = λ i l. absurd (omega (arith, none));
-      all = λ e l h. absurd (omega arith);
-      apart = λ i j ij jl. absurd (omega (arith, none));
-    }
-
 -- Keys of different heads have different sides.
 module _ (m : Net) (glued heads : List (Option ℕ)) (keys : List ℕ) (h : AreHeadKeys m glued heads keys) where
   pub key_in : (i : ℕ) → i < length keys → side_in (slice_index keys i) < length heads
@@ -141,15 +130,6 @@ module _ (m : Net) (glued heads : List (Option ℕ)) (keys : List ℕ) (h : AreH
         let s : side_in (slice_index keys i) ≡ e = ap side_in is' ∙ key_side m glued e (omega arith) in
         let place : slice_index places e ≡ i = ap (slice_index places) (sym s) ∙ p.each i l in
         (subst (λ j. j < length keys) (sym place) l, ap (slice_index keys) place ∙ is')
-
-pub places_more : (keys places : List ℕ) (sides n : ℕ) → ArePlaces keys places sides n → n < length keys → side_in (slice_index keys n) < sides → ((i j : ℕ) → i < j → j < length keys → side_in (slice_index keys i) ≡ side_in (slice_index keys j) → ⊥) → ArePlaces keys (set places (side_in (slice_index keys n)) n) sides (n + 1)
-places_more keys places sides n p l low apart = record {
-  long = length-set places (side_in (slice_index keys n)) n ∙ p.long;
-  each = λ i il. elim (cases_eq i n) [
-    | inl same ↦ ap (λ j. slice_index (set places (side_in (slice_index keys n)) n) (side_in (slice_index keys j))) same ∙ get_or-set_same places (side_in (slice_index keys n)) n 0 (subst (λ j. side_in (slice_index keys n) < j) (sym p.long) low) ∙ sym same
-    | inr other ↦ get_or-set_other places (side_in (slice_index keys n)) (side_in (slice_index keys i)) n 0 (apart i n (omega arith) l) ∙ p.each i (omega arith)
-  ];
-}
 
 pub renamed_more : (heads : List (Option ℕ)) (places : List ℕ) (n : ℕ) (fs gs : List Corners) (f : Corners) → AreRenamed heads places n fs → gs ≡ fs ++ f ∷ [] → f.a ≡ new_of heads places (3 * n) → f.b ≡ new_of heads places (3 * n + 1) → f.c ≡ new_of heads places (3 * n + 2) → AreRenamed heads places (n + 1) gs
 renamed_more heads places n fs gs f r is a b c =

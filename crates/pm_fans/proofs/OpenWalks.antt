@@ -48,16 +48,6 @@ on_begins glued old first a l bare_end bare p = record {
   began = inl refl;
 }
 
-pub on_ends : (glued old heads : List (Option ℕ)) (first : ℕ) → WalksOn glued old heads first None → AreHeaded glued heads
-on_ends glued old heads first w = record {
-  long = w.long;
-  led = w.led;
-  own = w.own;
-  on = λ e g h f k. w.on e g h f k (λ r. none_some refl r);
-  back = w.back;
-  kind = w.kind;
-}
-
 module _ (glued old heads : List (Option ℕ)) (first side : ℕ) (p : ArePaired glued) (bare_end : at glued first ≡ None) (w : WalksOn glued old heads first (Some side)) where
   f : IsReached glued heads first side
   f = w.free side refl

@@ -13,7 +13,6 @@ use Rattle.pm_forest.proofs.OneStep.{with-same, split-under, split-elsewhere}
 use Rattle.pm_beyond.specs.Valid.{IsValid}
 use Rattle.pm_beyond.specs.Moves.{IsClosed, MaySplit}
 use Rattle.pm_beyond.proofs.Standing.{forest_of, closed-front}
-use Rattle.pm_beyond.proofs.WalkTheory as law
 use Rattle.pm_runs.specs.Surfaces.{merge}
 use Rattle.pm_runs.specs.Pairs.{IsPair}
 use Rattle.pm_runs.specs.Merged.{merged}

@@ -20,7 +20,6 @@ use Rattle.pm_beyond.proofs.Reaching.{kept_at_side, back, Beyond-unique}
 use Rattle.pm_beyond.proofs.Neighbours.{expected-lt}
 use Rattle.pm_beyond.proofs.Standing.{forest_of, closed-front}
 use Rattle.pm_beyond.proofs.Closed.{four_faces}
-use Rattle.pm_beyond.proofs.WalkTheory as law
 use Rattle.pm_runs.specs.Pairs.{IsPair}
 use Rattle.pm_runs.specs.Merged.{merged}
 use Rattle.pm_splits.specs.Splits.{IsBetween, IsSplit}

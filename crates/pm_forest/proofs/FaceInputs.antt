@@ -13,7 +13,8 @@ use Rattle.pm_forest.specs.Meshes.{face_input}
 use Rattle.pm_forest.proofs.Prefix.{cut, faces_of-with_record}
 use Rattle.pm_forest.proofs.UnitLaws.{passed}
 use Rattle.pm_forest.proofs.FaceLists.{length-faces_of, faces_of-cut_more, faces_of-cut_all, corners_of-faces_of}
-use Rattle.pm_forest.proofs.ShapeLaws.{record_fits, input-le}
+use Rattle.pm_forest.proofs.ShapeLaws.{record_fits}
+use Rattle.pm_forest.proofs.FaceLimits.{input-le}
 use Rattle.pm_forest.proofs.InputLaws.{unused}
 
 -- The number of face f of a list.

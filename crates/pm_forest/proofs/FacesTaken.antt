@@ -15,7 +15,7 @@ use Rattle.pm_forest.specs.Tables.{Grown, grown, with_new_face}
 use Rattle.pm_forest.specs.Shaping.{side_of, next_face, SplitFits, ComingFits, IsShaping}
 use Rattle.pm_forest.proofs.Prefix.{faces_of-with_record}
 use Rattle.pm_forest.proofs.UnitLaws.{AllFit-push}
-use Rattle.pm_forest.proofs.ShapingLaws.{nodes_with_record}
+use Rattle.pm_forest.proofs.HeadShaping.{nodes_with_record}
 
 some_of : (coming : Option Record) → is_some coming ≡ true → (r : Record) × (coming ≡ Some r)
 some_of None there = absurd cc

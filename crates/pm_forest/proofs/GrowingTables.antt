@@ -13,7 +13,8 @@ use Rattle.pm_forest.specs.Faces.{face_in, faces_in, faces_of, first_face, face_
 use Rattle.pm_forest.specs.Rules.{with_record}
 use Rattle.pm_forest.specs.Tables.{IsSingle, leaf_node_of, AreTables, WithoutFaces, units, with_new_face}
 use Rattle.pm_forest.proofs.Ancestors.{ancestor-lt}
-use Rattle.pm_forest.proofs.Prefix.{record_count-with_record, interval_of-with_record, interval_of-with_record_t, interval_of-with_record_u, splitter_of-with_record, face_count-with_record, revealed_by-with_record, faces_of-with_record, interval_of-same_split, splitter_of-same_split}
+use Rattle.pm_forest.proofs.Prefix.{record_count-with_record, interval_of-with_record, interval_of-with_record_t, interval_of-with_record_u, splitter_of-with_record, face_count-with_record, revealed_by-with_record, faces_of-with_record}
+use Rattle.pm_forest.proofs.SameSplit.{interval_of-same_split, splitter_of-same_split}
 use Rattle.pm_forest.proofs.RootTables.{width_count, widths-push, root_interval-push, root_interval-last}
 use Rattle.pm_forest.proofs.LeafNodes.{noted, leaf-last, leaf-before, Splits, both_noted, leaf-with_record, leaf_node-same_split}
 

@@ -14,7 +14,8 @@ use Rattle.pm_forest.proofs.Nodes.{within-true, within-from, interval-kept, inte
 use Rattle.pm_forest.proofs.Ancestors.{ancestor-lt, holds-ancestor_of}
 use Rattle.pm_forest.proofs.FaceNumbers.{revealed-parts, first_face-mono}
 use Rattle.pm_forest.proofs.LeafNodes.{interval_of-le, leaf_node-unsplit}
-use Rattle.pm_forest.proofs.ShapeLaws.{shape_of_nodes, roots_wide, leaf_nodes_of_shape}
+use Rattle.pm_forest.proofs.ShapeLaws.{shape_of_nodes, roots_wide}
+use Rattle.pm_forest.proofs.FaceLimits.{leaf_nodes_of_shape}
 
 -- With no record to come, the forest's units are those of the hierarchy.
 pub all_units : (g : Grown) (h : Hierarchy) → g.coming ≡ None → g.h ≡ h → grown g ≡ h

@@ -18,7 +18,8 @@ use Rattle.pm_forest.specs.Meshes.{input_of_node, leaf_input}
 use Rattle.pm_forest.proofs.Nodes.{interval-kept, interval_of-t, interval_of-u, has_maker}
 use Rattle.pm_forest.proofs.Prefix.{cut, record_count-cut, interval_of-cut}
 use Rattle.pm_forest.proofs.UnitLaws.{AllFit-at, passed}
-use Rattle.pm_forest.proofs.ShapeLaws.{record_fits, shape_of_nodes, leaf_nodes_of_shape}
+use Rattle.pm_forest.proofs.ShapeLaws.{record_fits, shape_of_nodes}
+use Rattle.pm_forest.proofs.FaceLimits.{leaf_nodes_of_shape}
 use Rattle.pm_forest.proofs.HierarchyLaws.{root_is, leaf_node-alone, leaf_node-lt}
 
 -- a number that isn't used is at no place of the list

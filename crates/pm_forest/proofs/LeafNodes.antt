@@ -10,7 +10,8 @@ use Rattle.pm_forest.specs.Rules.{with_record}
 use Rattle.pm_forest.specs.Tables.{IsSingle, leaf_node_of}
 use Rattle.pm_forest.proofs.Nodes.{within-true, within-false, within-from, interval-kept, has_maker}
 use Rattle.pm_forest.proofs.Ancestors.{stays, to_t, to_u, move, ancestor-lt, holds-ancestor_of, ancestor-at, every-front}
-use Rattle.pm_forest.proofs.Prefix.{record_count-with_record, s_of-with_record, s_of-with_record_last, interval_of-with_record, interval_of-with_record_t, interval_of-with_record_u, s_of-same_split, interval_of-same_split, unsplit}
+use Rattle.pm_forest.proofs.Prefix.{record_count-with_record, s_of-with_record, s_of-with_record_last, interval_of-with_record, interval_of-with_record_t, interval_of-with_record_u}
+use Rattle.pm_forest.proofs.SameSplit.{s_of-same_split, interval_of-same_split, unsplit}
 use Rattle.pm_forest.proofs.RootTables.{width_count, widths-push, sum-push, root_interval-push, root_interval-last, root_of-push, root_of-last, root_interval-le}
 
 -- The table once a node is noted: it is the node of its leaf, where it has but one.

@@ -16,7 +16,8 @@ use Rattle.pm_forest.proofs.Nodes.{none_or_some, not_both, holds-s_from_t, holds
 use Rattle.pm_forest.proofs.FaceNumbers.{revealed-parts}
 use Rattle.pm_forest.proofs.FaceLists.{length-faces_of, corners_of-faces_of}
 use Rattle.pm_forest.proofs.Corners.{CornersFit, AreAlong, ways}
-use Rattle.pm_forest.proofs.ShapeLaws.{leaf_count-le, face_count-most, shape_of_nodes, base_corners, new_corners, leaves_at}
+use Rattle.pm_forest.proofs.ShapeLaws.{leaf_count-le, shape_of_nodes, base_corners, new_corners, leaves_at}
+use Rattle.pm_forest.proofs.FaceLimits.{face_count-most}
 use Rattle.pm_forest.proofs.InputLaws.{some_input, input_most, leaf_input-once}
 use Rattle.pm_forest.proofs.FaceInputs.{some_face_input, face_input_most, face_input-once}
 use Rattle.pm_forest.proofs.OneToOne.{each_is_met}

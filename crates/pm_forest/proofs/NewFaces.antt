@@ -10,7 +10,8 @@ use Rattle.pm_forest.specs.Rules.{with_record, runs, new_face_is_bad, new_face_f
 use Rattle.pm_forest.proofs.Nodes.{interval-kept}
 use Rattle.pm_forest.proofs.UnitLaws.{passed}
 use Rattle.pm_forest.proofs.Corners.{CornersFit}
-use Rattle.pm_forest.proofs.Prefix.{cut, cut-more, record_count-cut, interval_of-cut, first_face-cut, face_count-cut, record_count-with_record, s_of-with_record_last, first_face-with_record, face_count-with_record, interval_of-same_split}
+use Rattle.pm_forest.proofs.Prefix.{cut, cut-more, record_count-cut, interval_of-cut, first_face-cut, face_count-cut, record_count-with_record, s_of-with_record_last, first_face-with_record, face_count-with_record}
+use Rattle.pm_forest.proofs.SameSplit.{interval_of-same_split}
 
 -- Record k with some of its faces, after those before it.
 module _ (h : Hierarchy) (nodes : HasForestShape h) (k : ℕ) (l : k < record_count h) (q : Record) (node : q.s ≡ s_of h k) (width : q.width ≡ (record_at h k).width) where

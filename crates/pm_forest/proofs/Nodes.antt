@@ -139,9 +139,6 @@ maker_of-none h v e =
 pub maker_of-root : (h : Hierarchy) (v : ℕ) → v < length h.roots → maker_of h v ≡ None
 maker_of-root h v l = cond-true _ None (Some ((v - length h.roots) / 2)) (lt-ltb v (length h.roots) l)
 
-pub maker_of-later : (h : Hierarchy) (v : ℕ) → length h.roots ≤ v → maker_of h v ≡ Some ((v - length h.roots) / 2)
-maker_of-later h v l = cond-false _ None (Some ((v - length h.roots) / 2)) (le-ltb v (length h.roots) l)
-
 pub maker_of-lt : (h : Hierarchy) (j v : ℕ) → v < node_count h → maker_of h v ≡ Some j → j < record_count h
 maker_of-lt h j v l e = elim (maker_of-makes h j v e) [ inl a ↦ omega arith | inr a ↦ omega arith ]
 

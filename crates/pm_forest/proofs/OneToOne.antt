@@ -6,7 +6,7 @@ use Rattle.std.proofs.lemmas.Map.Steps.{length-le_from_distinct_below}
 use Rattle.pm_base.specs.Sides.{find_below}
 use Rattle.pm_base.proofs.Search.{find_below-some}
 use Rattle.pm_forest.proofs.Nodes.{none_or_some}
-use Rattle.pm_forest.proofs.Prefix.{find_below-none}
+use Rattle.pm_forest.proofs.SameSplit.{find_below-none}
 
 -- f (n - 1) down to f 0
 abbrev pub images : (ℕ → ℕ) → ℕ → List ℕ

@@ -1,13 +1,12 @@
 -- A hierarchy cut after its first records, and a hierarchy with one record more: what they share with the whole.
-use Rattle.std.proofs.Common.{◌≡◌, ◌≢◌, ℕ, zero, suc, ◌+◌, ◌<◌, ◌≤◌, eqb, leb, Bool, false, cond, List, [], ◌∷◌, ◌++◌, length, get_or, take, None, Some, is_some, inl, inr, refl, sym, ap, ◌∙◌, arith, append_assoc}
-use Rattle.std.proofs.lemmas.Bool.{cases_Bool, cases_lt, cases_eq, eqb-false, eq-eqb, ne_eqb, cond-true, cond-false}
+use Rattle.std.proofs.Common.{◌≡◌, ◌≢◌, ℕ, zero, suc, ◌+◌, ◌<◌, ◌≤◌, eqb, leb, Bool, cond, List, [], ◌∷◌, ◌++◌, length, take, Some, is_some, refl, sym, ap, ◌∙◌, arith, append_assoc}
+use Rattle.std.proofs.lemmas.Bool.{eq-eqb, ne_eqb}
 use Rattle.std.proofs.lemmas.List.{get_or-take, get_or_append_left, get_or_push, length_push, length-take-le, take_more, append-nil}
-use Rattle.std.proofs.lemmas.Option.{none-some}
 use Rattle.std.specs.List.{flat_map}
 use Rattle.pm_base.specs.Sides.{find_below}
 use Rattle.pm_base.specs.Counts.{one_if}
 use Rattle.pm_forest.specs.declared.parts.Record.{Record}
-use Rattle.pm_forest.specs.Forest.{Hierarchy, no_record, record_at, record_count, s_of, t_of, u_of, node_count, first_part, rest, interval_after, interval_of, splitter_of, HasForestShape}
+use Rattle.pm_forest.specs.Forest.{Hierarchy, no_record, record_at, record_count, s_of, t_of, u_of, node_count, first_part, rest, interval_after, interval_of, splitter_of}
 use Rattle.pm_forest.specs.Faces.{faces_in, faces_of, first_face, face_count, revealed_after, revealed_by}
 use Rattle.pm_forest.specs.Rules.{with_record}
 use Rattle.pm_forest.proofs.Nodes.{interval-kept}
@@ -104,16 +103,6 @@ first_face-cut h k j l = first_face-alike (cut h k) h j (cut_reveals_alike h k j
 
 pub face_count-cut : (h : Hierarchy) (k : ℕ) → k ≤ record_count h → face_count (cut h k) ≡ first_face h k
 face_count-cut h k l = ap (first_face (cut h k)) (record_count-cut h k l) ∙ first_face-cut h k k (omega arith)
-
-pub revealed_after-cut : (h : Hierarchy) (k j f : ℕ) → j ≤ k → revealed_after (cut h k) j f ≡ revealed_after h j f
-revealed_after-cut h k j f l = revealed_after-alike (cut h k) h j (cut_reveals_alike h k j l) f
-
-pub splitter_of-cut : (h : Hierarchy) (k v : ℕ) → k ≤ record_count h →
-    splitter_of (cut h k) v ≡ find_below (λ j. eqb (s_of h j) v) k
-unfolding splitter_of
-splitter_of-cut h k v l =
-    ap (find_below (λ j. eqb (s_of (cut h k) j) v)) (record_count-cut h k l)
-    ∙ find_below-alike (λ j. eqb (s_of (cut h k) j) v) (λ j. eqb (s_of h j) v) k (λ j m. ap (λ s. eqb s v) (s_of-cut h k j m))
 
 -- the record that comes next gives the hierarchy that is cut after it
 pub cut-more : (h : Hierarchy) (k : ℕ) → k < record_count h → cut h (suc k) ≡ with_record (cut h k) (record_at h k)
@@ -230,108 +219,3 @@ flat_map-push f (y ∷ xs) x = rw (flat_map-push f xs x) (sym (append_assoc (f y
 pub faces_of-with_record : (h : Hierarchy) (r : Record) → faces_of (with_record h r) ≡ faces_of h ++ faces_in r
 unfolding faces_of
 faces_of-with_record h r = rw (flat_map-push faces_in h.records r) (sym (append_assoc h.bases (flat_map faces_in h.records) (faces_in r)))
-
--- Records that split the same node in the same way: their faces don't matter to the nodes
-
-push_alike : {X Y : Type 0} (f : X → Y) (xs : List X) (x y d : X) (j : ℕ) → f x ≡ f y →
-    f (get_or (xs ++ x ∷ []) j d) ≡ f (get_or (xs ++ y ∷ []) j d)
-push_alike f [] x y d zero same = same
-push_alike f [] x y d (suc j) same = refl
-push_alike f (z ∷ xs) x y d zero same = refl
-push_alike f (z ∷ xs) x y d (suc j) same = push_alike f xs x y d j same
-
-pub s_of-same_split : (h : Hierarchy) (r q : Record) → r.s ≡ q.s → (j : ℕ) →
-    s_of (with_record h r) j ≡ s_of (with_record h q) j
-unfolding s_of
-s_of-same_split h r q node j = push_alike (λ p. p.s) h.records r q no_record j node
-
-pub interval_after-same_split : (h : Hierarchy) (r q : Record) → r.s ≡ q.s → r.width ≡ q.width → (k v : ℕ) →
-    interval_after (with_record h r) k v ≡ interval_after (with_record h q) k v
-interval_after-same_split h r q node width k v =
-    interval_after-alike (with_record h r) (with_record h q) k (record {
-      roots = refl;
-      node = λ j l. s_of-same_split h r q node j;
-      width = λ j l. push_alike (λ p. p.width) h.records r q no_record j width;
-    }) v
-
-record_count-same : (h : Hierarchy) (r q : Record) → record_count (with_record h r) ≡ record_count (with_record h q)
-record_count-same h r q = record_count-with_record h r ∙ sym (record_count-with_record h q)
-
-pub interval_of-same_split : (h : Hierarchy) (r q : Record) → r.s ≡ q.s → r.width ≡ q.width → (v : ℕ) →
-    interval_of (with_record h r) v ≡ interval_of (with_record h q) v
-interval_of-same_split h r q node width v =
-    ap (λ n. interval_after (with_record h r) n v) (record_count-same h r q)
-    ∙ interval_after-same_split h r q node width (record_count (with_record h q)) v
-
-pub splitter_of-same_split : (h : Hierarchy) (r q : Record) → r.s ≡ q.s → (v : ℕ) →
-    splitter_of (with_record h r) v ≡ splitter_of (with_record h q) v
-splitter_of-same_split h r q node v =
-    splitter_of-with_record h r v
-    ∙ ap (λ s. cond (eqb s v) (Some (record_count h)) (splitter_of h v)) node
-    ∙ sym (splitter_of-with_record h q v)
-
--- The shape of the nodes
-
-pub find_below-none : (p : ℕ → Bool) (n k : ℕ) → find_below p n ≡ None → k < n → p k ≡ false
-find_below-none p zero k none l = absurd (omega arith)
-find_below-none p (suc n) k none l =
-    elim (cases_Bool (p n)) [
-      | inl found ↦ absurd (none-some n (sym none ∙ cond-true (p n) (Some n) (find_below p n) found))
-      | inr passed ↦
-          let rest : find_below p n ≡ None = sym (cond-false (p n) (Some n) (find_below p n) passed) ∙ none in
-          elim (cases_eq k n) [
-            | inl is ↦ (rw is passed)
-            | inr differs ↦ find_below-none p n k rest (omega arith)
-          ]
-    ]
-
--- no record splits a node that has no splitter
-pub unsplit : (h : Hierarchy) (v : ℕ) → splitter_of h v ≡ None → (k : ℕ) → k < record_count h → s_of h k ≢ v
-unfolding splitter_of
-unsplit h v none k l = eqb-false _ _ (find_below-none (λ j. eqb (s_of h j) v) (record_count h) k none l)
-
--- a record may be added that splits a node that isn't split yet and leaves each child a leaf
-pub HasForestShape-with_record : (h : Hierarchy) (r : Record) → HasForestShape h → r.s < node_count h →
-    splitter_of h r.s ≡ None → 0 < r.width → (interval_of h r.s).from + r.width < (interval_of h r.s).until →
-    HasForestShape (with_record h r)
-HasForestShape-with_record h r shape there none first rest_of =
-    let n = record_count h in
-    let count = record_count-with_record h r in
-    let last = s_of-with_record_last h r in
-    record {
-      older = λ k l. elim (cases_lt k n) [
-        | inl before ↦ (rw (s_of-with_record h r k before) (shape.older k before))
-        | inr past ↦ (let is : k ≡ n = omega arith in rw (is, last) there)
-      ];
-      once = λ j k a l. elim (cases_lt k n) [
-        | inl before ↦
-            let earlier : j < n = omega arith in
-            (rw (s_of-with_record h r j earlier, s_of-with_record h r k before) (shape.once j k a before))
-        | inr past ↦
-            let is : k ≡ n = omega arith in
-            let earlier : j < n = omega arith in
-            rw (is, last, s_of-with_record h r j earlier) (unsplit h r.s none j earlier)
-      ];
-      width = λ k l. elim (cases_lt k n) [
-        | inl before ↦
-            let older = shape.older k before in
-            let same = interval_of-with_record h r (s_of h k) (omega arith) in
-            rw (s_of-with_record h r k before, record_at-with_record h r k before, same) (shape.width k before)
-        | inr past ↦
-            let is : k ≡ n = omega arith in
-            rw (is, last, record_at-with_record_last h r, interval_of-with_record h r r.s there) (first, rest_of)
-      ];
-    }
-
-pub HasForestShape-same_split : (h : Hierarchy) (r q : Record) → r.s ≡ q.s → r.width ≡ q.width →
-    HasForestShape (with_record h r) → HasForestShape (with_record h q)
-HasForestShape-same_split h r q node width shape =
-    let count = record_count-same h r q in
-    record {
-      older = λ k l. rw (← s_of-same_split h r q node k) (shape.older k (omega arith));
-      once = λ j k a l. rw (← s_of-same_split h r q node j, ← s_of-same_split h r q node k) (shape.once j k a (omega arith));
-      width = λ k l.
-          let w : (record_at (with_record h r) k).width ≡ (record_at (with_record h q) k).width =
-          push_alike (λ p. p.width) h.records r q no_record k width in
-          rw (← s_of-same_split h r q node k, ← interval_of-same_split h r q node width (s_of (with_record h r) k), ← w) (shape.width k (omega arith));
-    }

@@ -2,16 +2,13 @@
 -- to an ancestor.
 use Rattle.std.proofs.Common.{◌≡◌, ℕ, ◌+◌, ◌*◌, ◌<◌, Bool, true, false, Some, ap, ◌∙◌, arith}
 use Rattle.pm_base.specs.Sides.{face_of}
-use Rattle.pm_forest.specs.Forest.{Hierarchy, record_count, leaf_count, s_of, maker_of}
-use Rattle.pm_forest.specs.Fronts.{IsFront, made_in, is_active, ancestor_of, every, no_records, with}
+use Rattle.pm_forest.specs.Forest.{Hierarchy, leaf_count, s_of, maker_of}
+use Rattle.pm_forest.specs.Fronts.{IsFront, made_in, ancestor_of, every}
 use Rattle.pm_forest.specs.Faces.{face_count, revealed_by, corners_of, from_leaf}
 use Rattle.pm_forest.specs.Kept.{is_kept, is_shown}
 use Rattle.pm_forest.specs.Rules.{HasShape}
-use Rattle.pm_forest.proofs.Active.{is_active-true}
-use Rattle.pm_forest.proofs.Ancestors.{no_records-front}
 use Rattle.pm_forest.proofs.Climbing.{IsAbove, climb_start, climb_on, climb_lowers, climb_done}
 use Rattle.pm_forest.proofs.Corners.{corner_a, corner_b, corner_c}
-use Rattle.pm_forest.proofs.OneStep.{with-front}
 use Rattle.pm_forest.proofs.ShapeLaws.{shape_of_nodes, shape_of_faces, shape_is_forest}
 use Rattle.pm_forest.proofs.Shown.{kept-shown}
 
@@ -51,18 +48,6 @@ corner_below h shape f l =
     }
 
 -- Fronts
-
--- the base front
-pub no_records_front : (h : Hierarchy) → IsFront h no_records
-no_records_front h = no_records-front h
-
--- a split of an active node leaves a front
-pub split_goes_on : (h : Hierarchy) → HasShape h → (T : ℕ → Bool) → IsFront h T → (k : ℕ) → k < record_count h →
-    is_active h T (s_of h k) ≡ true → IsFront h (with T k)
-split_goes_on h shape T front k l active =
-    let nodes = shape_of_nodes h shape in
-    let older = nodes.older k l in
-    with-front h nodes T front k l (is_active-true h nodes T (s_of h k) (omega arith) active)
 
 -- The climb to the ancestor of leaf x begins at the leaf's node in the full front, goes from a child of a record that
 -- isn't split to the node of that record, always to a smaller number, and ends at the ancestor.

@@ -1,11 +1,11 @@
 // A forest that grows unit by unit, with the tables that make its readers quick: the root of each leaf, the interval and
 // the splitter of each node, the node of each leaf, and the faces with the records that reveal them.
-ghost use Rattle.std.specs.Prelude.{false, ◌≡◌, ◌+◌, ◌-◌, ◌*◌, ◌<◌, ◌≤◌, [], ◌∷◌, ◌++◌, ◌==◌, cond, length, sum, replicate, None, Some, is_some, true, if◌then◌else◌, IfOk, IfSome, Option, ℕ, slice_index_or, slice_set};
+ghost use Rattle.std.specs.Prelude.{false, ◌≡◌, ◌+◌, ◌-◌, ◌*◌, ◌<◌, ◌≤◌, [], ◌∷◌, ◌++◌, ◌==◌, cond, length, sum, replicate, None, Some, is_some, true, if◌then◌else◌, IfOk, IfSome, Option, slice_set};
 ghost use Rattle.std.specs.Option.{option_map};
-ghost use Rattle.pm_forest.specs.Forest.{Hierarchy, widths, widths_of, leaf_count, node_count, record_count, root_of, interval_of, splitter_of};
-ghost use Rattle.pm_forest.specs.Faces.{faces_of, face_count, first_face, revealed_by, no_corners};
+ghost use Rattle.pm_forest.specs.Forest.{widths_of, node_count, record_count, interval_of, splitter_of};
+ghost use Rattle.pm_forest.specs.Faces.{face_count};
 ghost use Rattle.pm_forest.specs.Rules.{counts_are_bad, with_record};
-ghost use Rattle.pm_forest.specs.Tables.{Grown, grown, all_of, IsSingle, leaf_node_of, WithoutFaces, with_new_face};
+ghost use Rattle.pm_forest.specs.Tables.{Grown, grown, WithoutFaces, with_new_face};
 
 use crate::{Counts, Face, FaceList, NewFace, OutOfMemory, Record, Records, Root, Roots};
 use pm_base::Items;
@@ -19,17 +19,17 @@ pub const MOST: u32 = 1_048_576;
 /// takes one step.
 #[derive(Drop)]
 pub struct Growing {
-    counts: Counts,
-    roots: Roots,
-    bases: FaceList,
-    records: Records,
-    coming: Option<Record>,
-    owners: Items<u32>,
-    intervals: Vec<(u32, u32)>,
-    splitters: Vec<Option<u32>>,
-    leaf_nodes: Vec<u32>,
-    faces: FaceList,
-    revealed: Items<Option<u32>>,
+    pub(crate) counts: Counts,
+    pub(crate) roots: Roots,
+    pub(crate) bases: FaceList,
+    pub(crate) records: Records,
+    pub(crate) coming: Option<Record>,
+    pub(crate) owners: Items<u32>,
+    pub(crate) intervals: Vec<(u32, u32)>,
+    pub(crate) splitters: Vec<Option<u32>>,
+    pub(crate) leaf_nodes: Vec<u32>,
+    pub(crate) faces: FaceList,
+    pub(crate) revealed: Items<Option<u32>>,
 }
 
 impl Model for Growing {
@@ -228,121 +228,5 @@ impl Growing {
         if let Some(split) = self.coming.take() {
             self.records.put(split);
         }
-    }
-
-    /// The limits that the forest was made for.
-    pub fn counts(&self) -> Counts
-        ensures value { result ≡ self.now.counts }
-        ensures leaves { result.leaves ≤ 1048576 }
-        ensures bases { result.bases ≤ 1048576 }
-        ensures all { result.roots + result.records ≡ result.leaves }
-    {
-        self.counts
-    }
-
-    /// The roots so far.
-    pub fn roots(&self) -> &Roots
-        ensures value { result.now.items ≡ self.now.h.roots }
-        ensures most { length result.now.items ≤ 1048576 }
-    {
-        &self.roots
-    }
-
-    /// The base faces so far.
-    pub fn bases(&self) -> &FaceList
-        ensures value { result.now.items ≡ self.now.h.bases }
-        ensures most { length result.now.items ≤ 1048576 }
-    {
-        &self.bases
-    }
-
-    /// The whole records so far.
-    pub fn records(&self) -> &Records
-        ensures value { result.now.items ≡ self.now.h.records }
-        ensures most { length result.now.items ≤ 1048576 }
-    {
-        &self.records
-    }
-
-    /// The record whose faces are still to come.
-    pub fn coming(&self) -> &Option<Record>
-        ensures { result.now ≡ self.now.coming }
-    {
-        &self.coming
-    }
-
-    /// How many leaves the roots so far have.
-    pub fn leaves(&self) -> u32
-        ensures value { result ≡ leaf_count self.now.h }
-        ensures most { result ≤ self.now.counts.leaves }
-    {
-        self.owners.len() as u32
-    }
-
-    /// How many nodes there are, the children of the coming record among them.
-    pub fn nodes(&self) -> u32
-        ensures value { result ≡ node_count (grown self.now) }
-        ensures most { result ≤ 2097152 }
-    {
-        let records = self.records.len() + if self.coming.is_some() { 1 } else { 0 };
-        (self.roots.len() + 2 * records) as u32
-    }
-
-    /// How many faces there are, those of the coming record among them.
-    pub fn faces(&self) -> u32
-        ensures value { result ≡ face_count (grown self.now) }
-        ensures most { result ≤ 1048576 }
-    {
-        self.faces.len() as u32
-    }
-
-    /// The root of a leaf.
-    #[tactic(auto, using(crate::proofs::GrowingLaws::owner_read))]
-    pub fn owner(&self, leaf: u32) -> u32
-        requires { leaf < leaf_count self.now.h }
-        ensures { result ≡ root_of (widths self.now.h) 0 leaf }
-    {
-        *self.owners.get(leaf as usize)
-    }
-
-    /// The leaves of a node: the first, and the first after.
-    pub fn interval(&self, node: u32) -> (u32, u32)
-        requires { node < node_count (grown self.now) }
-        ensures { interval_of (grown self.now) node ≡ record { from = result.0; until = result.1 } }
-    {
-        self.intervals[node as usize]
-    }
-
-    /// The record that splits a node.
-    pub fn splitter(&self, node: u32) -> Option<u32>
-        requires { node < node_count (grown self.now) }
-        ensures { result ≡ splitter_of (grown self.now) node }
-    {
-        self.splitters[node as usize]
-    }
-
-    /// The node of a leaf, once it has one of its own.
-    pub fn leaf_node(&self, leaf: u32) -> u32
-        requires leaf { leaf < leaf_count self.now.h }
-        requires single { IsSingle (interval_of (grown self.now) (leaf_node_of (grown self.now) leaf)) }
-        ensures { result ≡ leaf_node_of (grown self.now) leaf }
-    {
-        self.leaf_nodes[leaf as usize]
-    }
-
-    /// Face `f`, by its number.
-    pub fn face(&self, f: u32) -> Face
-        requires { f < face_count (grown self.now) }
-        ensures { result ≡ slice_index_or (faces_of (grown self.now)) f no_corners }
-    {
-        *self.faces.get(f as usize)
-    }
-
-    /// The record that reveals a face.
-    pub fn revealed_by(&self, f: u32) -> Option<u32>
-        requires { f < face_count (grown self.now) }
-        ensures { result ≡ revealed_by (grown self.now) f }
-    {
-        *self.revealed.get(f as usize)
     }
 }

@@ -1,12 +1,14 @@
 //! The vertex forest of a progressive mesh: roots, base faces and vertex splits, and the rules of their shape.
 #![tactic(auto)]
 
+mod face_faults;
 mod faults;
 mod growing;
 mod hierarchy;
 mod marks;
 mod meshes;
 mod parts;
+mod readers;
 mod shaper;
 #[cfg(test)]
 mod tests;

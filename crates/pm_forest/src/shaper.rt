@@ -5,9 +5,8 @@ ghost use Rattle.pm_forest.specs.declared.parts.UnitKind.TheVariants as kinds;
 ghost use Rattle.pm_forest.specs.Rules.{counts_are_bad, root_fault, base_fault, head_fault, new_face_fault, past_fault};
 ghost use Rattle.pm_forest.specs.Shaping.{expects, nothing_in, next_root, next_face, started, settled, with_face, so_far};
 
-use crate::faults::{
-    are_counts_bad, base_fault, neighbour, new_face_fault, next_record, next_root, past_fault,
-};
+use crate::face_faults::{neighbour, new_face_fault, past_fault};
+use crate::faults::{are_counts_bad, base_fault, next_record, next_root};
 use crate::growing::{Growing, MOST};
 use crate::hierarchy::Hierarchy;
 use crate::marks::{mark, unmarked};

@@ -1,9 +1,8 @@
 -- Nets with the same faces there, whatever they keep of dropped ones: all that is said of one holds of the other.
 use Rattle.std.proofs.Common.{◌≡◌, ℕ, Option, Some, None, refl, sym, ap, ◌∙◌}
-use Rattle.pm_base.specs.Sides.{Net, to, third, Stands, NoSideTwice, twin_of}
+use Rattle.pm_base.specs.Sides.{Net, to, third, Stands}
 use Rattle.pm_runs.specs.Surfaces.{merge}
 use Rattle.pm_runs.specs.Merged.{IsProper, StandsAcross, Alike, merged}
-use Rattle.pm_runs.proofs.Sides.{twin-across, across-twin}
 use Rattle.pm_runs.proofs.Around.{agrees-sym}
 
 module _ (m n : Net) (alike : Alike m n) where
@@ -29,9 +28,6 @@ module _ (m n : Net) (alike : Alike m n) where
     once = λ e g st st' a b. let f = back_side e st in let k = back_side g st' in proper.once e g f.0 k.0 (f.1 ∙ a ∙ sym k.1) (f.2 ∙ b ∙ sym k.2);
     no_mirror = λ e g st st' a b c. let f = back_side e st in let k = back_side g st' in proper.no_mirror e g f.0 k.0 (k.1 ∙ a ∙ sym f.2) (k.2 ∙ b ∙ sym f.1) (k.3 ∙ c ∙ sym f.3);
   }
-
-pub alike-twin : (m n : Net) → Alike m n → NoSideTwice n → (e : ℕ) → Stands m e → twin_of n e ≡ twin_of m e
-alike-twin m n alike once e st = across-twin n once e (twin_of m e) (alike-across m n alike e (twin_of m e) st (twin-across m e (twin_of m e) refl))
 
 merged_half : (m n : Net) → Alike m n → (t u s p e : ℕ) → Stands (merged m t u s) e → merge t u s (m.from e) ≡ p → Stands (merged n t u s) e × (merge t u s (n.from e) ≡ p) × (merge t u s (to n e) ≡ merge t u s (to m e)) × (merge t u s (third n e) ≡ merge t u s (third m e))
 merged_half m n alike t u s p e st is =

@@ -1,13 +1,10 @@
 -- The state at first, what the lines `k` and `g A B` do, and how a geomorph is told.
-use Rattle.std.proofs.Common.{◌≡◌, ℕ, ◌<◌, ◌≤◌, Bool, true, false, List, Option, Some, None, Ok, Err, refl, sym, ap, ◌∙◌, leb, ◌&&◌}
+use Rattle.std.proofs.Common.{◌≡◌, ℕ, ◌<◌, ◌≤◌, Bool, true, false, List, None, refl, ap, ◌∙◌, leb, ◌&&◌}
 use Rattle.std.proofs.lemmas.Bool.{leb-true, and_parts}
-use Rattle.pm_io.specs.Bytes.{Gains, GainsPart}
 use Rattle.pm_forest.specs.Forest.{Hierarchy}
 use Rattle.pm_forest.specs.Fronts.{no_records}
-use Rattle.pm_morph.specs.declared.marker.MorphFail.TheVariants as morphs
-use Rattle.pm_morph.specs.Marks.{MorphEnds}
 use Rattle.pm_session.specs.declared.command.Command.TheVariants as commands
-use Rattle.pm_session.specs.Script.{command_of, reply_to, Sets, at_first, is_fraction, not_finer, morph_or_refusal, morph_reply, Replies, IsBad, line_deed}
+use Rattle.pm_session.specs.Script.{command_of, reply_to, Sets, at_first, is_fraction, morph_reply, Replies, IsBad, line_deed}
 
 abbrev as_sets : (ℕ → Bool) → (ℕ → Bool) → Sets
 as_sets S M = record { split = S; marked = M }
@@ -40,17 +37,3 @@ fraction_parts a b e =
     let p = and_parts (leb 1 b && leb b 65535) (leb a b) e in
     let q = and_parts (leb 1 b) (leb b 65535) p.0 in
     record { some = leb-true 1 b q.0; most = leb-true b 65535 q.1; within = leb-true a b p.1 }
-
--- What a geomorph leaves of the sink.
-pub morph_whole : (unsplit : Option ℕ) (text : List ℕ) (old new : Option (List ℕ)) → MorphEnds unsplit text (Ok tt) old new → Gains old new (morph_or_refusal unsplit text)
-morph_whole None text old new ends = ends
-morph_whole (Some k) text old new ends = absurd ends
-
-pub morph_cut : (unsplit : Option ℕ) (text : List ℕ) (old new : Option (List ℕ)) → MorphEnds unsplit text (Err morphs.Write) old new → GainsPart old new (morph_or_refusal unsplit text)
-morph_cut None text old new ends = ends
-morph_cut (Some k) text old new ends = absurd ends
-
-pub morph_refused : (unsplit : Option ℕ) (text : List ℕ) (k : ℕ) (old new : Option (List ℕ)) → MorphEnds unsplit text (Err (morphs.NotFiner k)) old new
-    → (morph_or_refusal unsplit text ≡ not_finer k) × (new ≡ old)
-morph_refused None text k old new ends = absurd ends
-morph_refused (Some j) text k old new ends = (ap not_finer (sym ends.0), ends.1)

@@ -9,7 +9,7 @@ use Rattle.pm_forest.specs.Forest.{Hierarchy}
 use Rattle.pm_forest.specs.Fronts.{set_of}
 use Rattle.pm_forest.specs.Faces.{face_count}
 use Rattle.pm_forest.specs.Rules.{HasShape}
-use Rattle.pm_forest.proofs.ShapeLaws.{face_count-most}
+use Rattle.pm_forest.proofs.FaceLimits.{face_count-most}
 use Rattle.pm_beyond.specs.Walks.{StandsBeyond, number_of}
 use Rattle.pm_beyond.specs.Valid.{IsValid}
 use Rattle.pm_beyond.specs.Moves.{IsClosed}

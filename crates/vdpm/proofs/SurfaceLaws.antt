@@ -4,7 +4,6 @@ use Rattle.std.proofs.lemmas.Bool.{cases_lt}
 use Rattle.pm_base.specs.Meshes.{Mesh, IsWellFormed}
 use Rattle.pm_base.specs.Sides.{Net, net_of}
 use Rattle.pm_base.specs.Fans.{IsOrientedManifold}
-use Rattle.pm_base.proofs.NetLaws.{mesh_side}
 use Rattle.pm_twins.specs.Faults.{IsFirstRepeating, IsFirstBroken}
 use Rattle.pm_simplify.proofs.Faultless.{repeats_none}
 use Rattle.obj_read.specs.declared.fault.ObjFault.{ObjFault}
@@ -43,15 +42,6 @@ fault_or_manifold m formed (side_twice f is) whole = repeats_none m formed whole
 fault_or_manifold m formed (no_fan v once is) whole = is.broken.no_fan (whole.fans v is.broken.used)
 
 -- Counted from 1, faces and vertices stay within 32 bits.
-
-pub face_small : (m : Mesh) → IsWellFormed m → (f : ℕ) → IsFirstRepeating (net_of m.faces) f → f < 1048576
-face_small m formed f is = omega (arith, is.in_range, formed.faces)
-
-pub vertex_small : (m : Mesh) → IsWellFormed m → (v : ℕ) → IsFirstBroken (net_of m.faces) v → v < 1048576
-vertex_small m formed v is =
-    let (e, stands, at) = is.broken.used in
-    let below = (mesh_side m formed e stands.is_side).1 in
-    omega (arith, below, at, formed.points)
 
 -- With so many decimals a coordinate
 module _ (digits : ℕ) where

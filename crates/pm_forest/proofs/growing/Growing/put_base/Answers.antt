@@ -1,5 +1,5 @@
 use Rattle.std.proofs.Common.{◌≡◌, ◌<◌, length, sym, subst}
-use Rattle.pm_forest.proofs.GrowingLaws.{base_added}
+use Rattle.pm_forest.proofs.GrowthLaws.{base_added}
 use Rattle.pm_forest.proofs.growing.Growing.put_base.Goals as goal
 
 pub invariant_of-self : goal.invariant_of-self

@@ -1,5 +1,6 @@
 use Rattle.std.proofs.Common.{sym, subst}
-use Rattle.pm_forest.proofs.GrowingLaws.{TakesFace, face_fits, face_added}
+use Rattle.pm_forest.proofs.GrowingLaws.{TakesFace}
+use Rattle.pm_forest.proofs.GrowthLaws.{face_fits, face_added}
 use Rattle.pm_forest.proofs.growing.Growing.put_face.Goals as goal
 
 pub put-requires : goal.put-requires

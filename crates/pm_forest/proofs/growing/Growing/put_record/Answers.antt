@@ -1,6 +1,7 @@
 use Rattle.std.proofs.Common.{◌≡◌, ◌+◌, ◌*◌, ◌∙◌, ap, length, sym, subst, arith}
 use Rattle.pm_forest.proofs.LeafNodes.{length-noted}
-use Rattle.pm_forest.proofs.GrowingLaws.{TakesRecord, split_leaves_fit, record_added}
+use Rattle.pm_forest.proofs.GrowingLaws.{TakesRecord}
+use Rattle.pm_forest.proofs.GrowthLaws.{split_leaves_fit, record_added}
 use Rattle.pm_forest.proofs.growing.Growing.put_record.Goals as goal
 
 pub put_node-requires-clause-leaves : goal.put_node-requires-clause-leaves

@@ -1,6 +1,6 @@
 use Rattle.std.proofs.Common.{◌+◌, ◌<◌, ◌≤◌, length, sum, sym, subst}
 use Rattle.pm_forest.specs.Forest.{widths_of}
-use Rattle.pm_forest.proofs.GrowingLaws.{root_added}
+use Rattle.pm_forest.proofs.GrowthLaws.{root_added}
 use Rattle.pm_forest.proofs.growing.Growing.put_root.Goals as goal
 
 pub invariant_of-self : goal.invariant_of-self

@@ -2,7 +2,7 @@ use Rattle.std.proofs.Common.{ap, ◌∙◌, subst}
 use Rattle.pm_forest.specs.Rules.{HasShape}
 use Rattle.pm_forest.specs.Tables.{leaf_node_of}
 use Rattle.pm_forest.proofs.HierarchyLaws.{all_units, leaf_node-alone, leaf_node-lt}
-use Rattle.pm_forest.proofs.ShapeLaws.{leaf_nodes_of_shape}
+use Rattle.pm_forest.proofs.FaceLimits.{leaf_nodes_of_shape}
 use Rattle.pm_forest.proofs.hierarchy.Hierarchy.leaf_node.Goals as goal
 
 pub leaf_node-requires-clause-single : goal.leaf_node-requires-clause-single

@@ -4,7 +4,8 @@ use Rattle.pm_forest.specs.Marks.{AreMarked}
 use Rattle.pm_forest.specs.Rules.{node_inputs}
 use Rattle.pm_forest.specs.Shaping.{expects}
 use Rattle.pm_forest.proofs.NextUnit.{expects_head}
-use Rattle.pm_forest.proofs.ShapingLaws.{leaves_complete, head_added}
+use Rattle.pm_forest.proofs.ShapingLaws.{leaves_complete}
+use Rattle.pm_forest.proofs.HeadShaping.{head_added}
 use Rattle.pm_forest.proofs.shaper.Shaper.add_head.Goals as goal
 
 pub next_record-requires-clause-flags : goal.next_record-requires-clause-flags

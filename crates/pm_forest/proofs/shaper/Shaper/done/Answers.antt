@@ -2,7 +2,7 @@ use Rattle.std.proofs.Common.{◌≡◌, sym, subst, ◌∙◌}
 use Rattle.pm_forest.specs.declared.parts.UnitKind.TheVariants as kinds
 use Rattle.pm_forest.specs.Shaping.{expects}
 use Rattle.pm_forest.proofs.NextUnit.{expects_nothing}
-use Rattle.pm_forest.proofs.ShapingLaws.{counts_complete, shaped}
+use Rattle.pm_forest.proofs.HeadShaping.{counts_complete, shaped}
 use Rattle.pm_forest.proofs.shaper.Shaper.done.Goals as goal
 
 pub new-requires-clause-counts : goal.new-requires-clause-counts

@@ -1,7 +1,7 @@
 use Rattle.std.proofs.Common.{◌∙◌, true, false, refl, sym, arith}
 use Rattle.std.proofs.lemmas.Bool.Decides.{nat_tests}
 use Rattle.pm_forest.proofs.FaultLaws.{new_face_coming}
-use Rattle.pm_forest.proofs.faults.is_new_face_bad.Goals as goal
+use Rattle.pm_forest.proofs.face_faults.is_new_face_bad.Goals as goal
 
 pub returns-then-is_out_of_place-clause-exact : goal.returns-then-is_out_of_place-clause-exact
 returns-then-is_out_of_place-clause-exact c =
