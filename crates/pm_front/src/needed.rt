@@ -14,7 +14,6 @@ ghost use Rattle.pm_front.specs.Needed.{is_needed, remaining, AreRemaining};
 
 use crate::corners::first_child;
 use crate::refinement::Refinement;
-use crate::sides::next;
 use pm_base::{FaceId, NodeId, Side};
 use pm_forest::NewFace;
 
@@ -69,7 +68,7 @@ impl Refinement {
         requires gone { length gone.now ≡ record_count self.now.h }
         ensures { result ≡ is_shown self.now.h (remaining (set_of self.now.flags) (set_of gone.now)) side.0 }
     {
-        match self.indexed.hierarchy().revealed_by(FaceId(side.0 / 3)) {
+        match self.indexed.hierarchy().revealed_by(side.face()) {
             None => true,
             Some(k) => self.remains(gone, k),
         }
@@ -134,9 +133,9 @@ impl Refinement {
         ensures { result ≡ are_told self.now.h (remaining (set_of self.now.flags) (set_of gone.now))
             (outer_pair self.now.h k face.0) }
     {
-        let first = next(self.indexed.inner(k, face));
+        let first = self.indexed.inner(k, face).next();
         self.remains_told(gone, k, first, first_told(new))
-            && self.remains_told(gone, k, next(first), second_told(new))
+            && self.remains_told(gone, k, first.next(), second_told(new))
     }
 
     // Whether beyond each outer side of record `k` stands what is recorded.

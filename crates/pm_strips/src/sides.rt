@@ -10,20 +10,6 @@ ghost use Rattle.pm_strips.specs.Shown.{is_there, beyond_in};
 use pm_base::{FaceId, Side};
 use pm_front::Front;
 
-// The side that follows in the same face.
-#[tactic(auto, unfolding(pm_base::specs::Sides::next))]
-fn following(side: Side) -> Side
-    requires { side.0 < 3145728 }
-    ensures value { result.0 ≡ next_of side.0 }
-    ensures face { face_of result.0 ≡ face_of side.0 }
-{
-    if side.0 % 3 == 2 {
-        Side(side.0 - 2)
-    } else {
-        Side(side.0 + 1)
-    }
-}
-
 /// The side that follows in the same kept face.
 #[tactic(auto, using(crate::proofs::SideLaws::few_sides))]
 pub(crate) fn next(front: &Front, side: Side) -> Side
@@ -32,7 +18,7 @@ pub(crate) fn next(front: &Front, side: Side) -> Side
     ensures there { is_there front.now.h (set_of front.now.flags) (face_of result.0) ≡ true }
 {
     front.hierarchy().has_shape();
-    following(side)
+    side.next()
 }
 
 /// Where a strip leaves the kept face that it entered by a side.
@@ -64,7 +50,7 @@ pub(crate) fn free_beyond(free: &[bool], front: &Front, side: Side) -> Option<Si
     ensures there { IfSome result (λ g. is_there front.now.h (set_of front.now.flags) (face_of g.0) ≡ true) }
 {
     match beyond(front, side) {
-        Some(far) if free[far.0 as usize / 3] => Some(far),
+        Some(far) if free[far.face().0 as usize] => Some(far),
         _ => None,
     }
 }
@@ -88,9 +74,9 @@ pub(crate) fn first_side(free: &[bool], front: &Front, face: FaceId) -> Side
     ensures there { is_there front.now.h (set_of front.now.flags) (face_of result.0) ≡ true }
 {
     front.hierarchy().has_shape();
-    let first = Side(3 * face.0);
-    let second = Side(3 * face.0 + 1);
-    let third = Side(3 * face.0 + 2);
+    let first = face.side(0);
+    let second = face.side(1);
+    let third = face.side(2);
     if leads_on(free, front, first) {
         first
     } else if leads_on(free, front, second) {
