@@ -5,3 +5,6 @@ pub mod Decision
 pub mod Noted
 pub mod MeshLaws
 pub mod SideListLaws
+pub mod StampLaws
+pub mod PairLaws
+pub mod RepeatLaws

@@ -1,10 +1,10 @@
--- Tables that are filled side by side: the twins, and the marks of the border.
-use Rattle.std.proofs.Common.{◌≡◌, ◌≢◌, ℕ, ◌+◌, ◌<◌, Bool, true, false, not, Option, Some, None, ◌⊎◌, inl, inr, List, [], ◌∷◌, ◌++◌, length, slice_index_or, refl, sym, ap, ◌∙◌, subst, arith, length-append}
+-- The marks of the border are filled in side by side.
+use Rattle.std.proofs.Common.{◌≡◌, ◌≢◌, ℕ, ◌+◌, ◌<◌, Bool, true, false, not, Option, Some, None, ◌⊎◌, inl, inr, List, length, slice_index_or, refl, sym, ap, ◌∙◌, subst, arith}
 use Rattle.std.proofs.Math.ListN.{set, replicate}
 use Rattle.std.proofs.lemmas.Bool.{cases_eq, false≢true, true≢false}
 use Rattle.std.specs.Option.{is_some}
 use Rattle.std.proofs.lemmas.Option.{none-some}
-use Rattle.std.proofs.lemmas.List.{get_or_append_left, get_or_push, get_or-set_same, get_or-set_other, length-set, get_or-replicate, length-replicate}
+use Rattle.std.proofs.lemmas.List.{get_or-set_same, get_or-set_other, length-set, get_or-replicate, length-replicate}
 use Rattle.pm_base.specs.Sides.{Net, side_count, to, twin_of, IsBorderSide, IsBorder}
 use Rattle.pm_base.proofs.TwinLaws.{none-twin}
 use Rattle.pm_twins.specs.Table.{IsBorderOf}
@@ -17,17 +17,6 @@ none_from_test (Some x) b e t = absurd (true≢false (e ∙ ap not t))
 pub some_from_test : (r : Option ℕ) (b : Bool) → is_some r ≡ not b → b ≡ false → r ≢ None
 some_from_test None b e t n = false≢true (e ∙ ap not t)
 some_from_test (Some x) b e t n = none-some x (sym n)
-
-pub table_more : (f : ℕ → Option ℕ) (xs ys : List (Option ℕ)) (n : ℕ) (r : Option ℕ) → length xs ≡ n → ((e : ℕ) → e < n → slice_index_or xs e None ≡ f e) → ys ≡ xs ++ (r ∷ []) → r ≡ f n →
-    (length ys ≡ n + 1) × ((e : ℕ) → e < n + 1 → slice_index_or ys e None ≡ f e)
-table_more f xs ys n r len all is at = (
-  omega (arith, ap length is, length-append xs (r ∷ [])),
-  λ e l.
-      elim (cases_eq e n) [
-        | inl same ↦ ap (λ zs. slice_index_or zs e None) is ∙ get_or_push xs r None e (len ∙ sym same) ∙ at ∙ ap f (sym same)
-        | inr ne ↦ ap (λ zs. slice_index_or zs e None) is ∙ get_or_append_left xs (r ∷ []) None e (omega arith) ∙ all e (omega arith)
-      ],
-)
 
 -- After n sides: a vertex is marked only if it is on the border, and the ends of a border side among them are marked.
 pub record AreMarked (m : Net) (vertices n : ℕ) (border : List Bool) : Type 0 where

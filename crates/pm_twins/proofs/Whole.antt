@@ -15,9 +15,6 @@ mesh_whole m formed =
     let faces = formed.faces in
     record { short = omega arith; few = omega arith; stands = λ e l. (mesh_side m formed e l).0; within = λ e l. (mesh_side m formed e l).1 }
 
-pub whole_more : (m : Net) (n : ℕ) → IsWhole m n → IsWhole m 1048576
-whole_more m n whole = record { short = whole.short; few = omega arith; stands = whole.stands; within = λ e l. let a = whole.within e l in let b = whole.few in omega arith }
-
 pub to_within : (m : Net) (n : ℕ) → IsWhole m n → (e : ℕ) → e < side_count m → to m e < n
 to_within m n whole e l = whole.within _ (next-lt m.faces e l)
 

@@ -1,5 +1,6 @@
 pub mod Table
 pub mod Faults
 pub mod SideLists
+pub mod Stamping
 pub mod Walks
 pub mod Laws

@@ -6,6 +6,7 @@ mod fans;
 mod half_edges;
 mod side_lists;
 mod sides;
+mod stamps;
 #[cfg(test)]
 mod tests;
 mod theory;

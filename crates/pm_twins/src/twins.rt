@@ -1,17 +1,18 @@
-// The sides of a mesh are put into lists, face by face: each at the vertex from which it runs. A side
-// whose vertices have a listed side already stands twice; else the twin of a side is the listed one
-// between its vertices in the other order.
-ghost use Rattle.std.specs.Prelude.{◌≡◌, ◌*◌, ◌<◌, ℕ, ◌↔◌, length, IfOk, IfErr, OnOk, MatchOption, IsTrue};
+// The sides of a mesh are put into lists, each at the vertex from which it runs, and then the vertices are
+// gone through. Of the sides that leave one, two that run to the same vertex are one side twice; and a side
+// that arrives there has the one that runs back as its twin.
+ghost use Rattle.std.specs.Prelude.{◌≡◌, ◌<◌, ℕ, ◌↔◌, None, length, replicate, IfOk, IfErr, OnOk, MatchOption, IsTrue};
 ghost use Rattle.std.specs.Option.{option_map};
 ghost use Rattle.pm_base.specs.Meshes.{mesh_of, IsWellFormed};
-ghost use Rattle.pm_base.specs.Sides.{Net, net_of, NoSideTwice, IsTwin, HasNoTwin, IsBorder};
+ghost use Rattle.pm_base.specs.Sides.{Net, net_of, side_count, NoSideTwice, IsTwin, HasNoTwin, IsBorder};
 ghost use Rattle.pm_twins.specs.Table.{twin_at, border_at, AreTwinsOf, IsBorderOf, IsTableOf};
 ghost use Rattle.pm_twins.specs.Faults.{IsTwinsFault};
 ghost use Rattle.pm_twins.specs.SideLists.{AreListed, IsWhole};
 
 use crate::OutOfMemory;
-use crate::side_lists::{put_face, repeats, side_to};
+use crate::side_lists::list_sides;
 use crate::sides::{from, to};
+use crate::stamps::{pair_arriving, stamp_leaving};
 use pm_base::{Corners, FaceId, Mesh, Side};
 use pm_links::Links;
 use std::alloc::Global;
@@ -43,8 +44,9 @@ impl Model for Twins {
 }
 
 impl Twins {
-    /// The twins of a well-formed mesh. The sum over all sides of the lesser number of faces at their two
-    /// vertices: O(F) for F faces of a planar mesh, and O(F √F) for any.
+    /// The twins of a well-formed mesh. O(F + V) for F faces and V vertices, also where a side stands twice
+    /// and where many faces have one vertex: each side is listed, stamped and paired once, with one look at
+    /// a table for each.
     pub fn of(alloc: Global, mesh: &Mesh) -> Result<Twins, TwinsFail>
         requires { IsWellFormed (mesh_of mesh.now) }
         ensures twins { IfOk result
@@ -52,11 +54,12 @@ impl Twins {
         ensures edge_twice { IfErr result (IsTwinsFault (net_of mesh.now.faces.items)) }
     {
         let faces = mesh.faces.as_slice();
-        let lists = list_sides(alloc, faces, mesh.points.len())?;
-        let Ok(twins) = pair_sides(alloc, faces, &lists) else {
+        let vertices = mesh.points.len();
+        let Ok(lists) = list_sides(alloc, faces, vertices) else {
             return Err(TwinsFail::OutOfMemory);
         };
-        let Ok(border) = mark_border(alloc, faces, mesh.points.len(), &twins) else {
+        let twins = pair_sides(alloc, faces, &lists, vertices)?;
+        let Ok(border) = mark_border(alloc, faces, vertices, &twins) else {
             return Err(TwinsFail::OutOfMemory);
         };
         Ok(Twins { twins, border })
@@ -90,43 +93,43 @@ impl Twins {
     }
 }
 
-// All sides, in the lists of their vertices.
-fn list_sides(alloc: Global, faces: &[Corners], vertices: usize) -> Result<Links, TwinsFail>
-    requires { IsWhole (net_of faces.now) vertices }
-    ensures heads { IfOk result (λ lists. length lists.lists ≡ vertices) }
-    ensures listed { IfOk result (AreListed (net_of faces.now) (3 * length faces.now)) }
-    ensures once { OnOk result (NoSideTwice (net_of faces.now)) }
-    ensures edge_twice { IfErr result (IsTwinsFault (net_of faces.now)) }
-{
-    let Ok(mut lists) = Links::new(alloc, 3 * faces.len() as u32, vertices as u32) else {
-        return Err(TwinsFail::OutOfMemory);
-    };
-    for face in 0..faces.len() {
-        if repeats(faces, &lists, face) {
-            return Err(TwinsFail::EdgeTwice(FaceId(face as u32)));
-        }
-        put_face(faces, &mut lists, face);
-    }
-    Ok(lists)
-}
-
-// The twin of each side.
+// The twin of each side. The vertices are gone through one by one: the sides that leave one are stamped,
+// and those that arrive look for their twins among them.
 fn pair_sides(
     alloc: Global,
     faces: &[Corners],
     lists: &Links,
-) -> Result<Vec<Option<u32>>, OutOfMemory>
-    requires whole { IsWhole (net_of faces.now) (length lists.now.lists) }
-    requires once { NoSideTwice (net_of faces.now) }
-    requires listed { AreListed (net_of faces.now) (3 * length faces.now) lists.now }
-    ensures { IfOk result (λ twins. AreTwinsOf (net_of faces.now) twins.items) }
+    vertices: usize,
+) -> Result<Vec<Option<u32>>, TwinsFail>
+    requires whole { IsWhole (net_of faces.now) vertices }
+    requires heads { length lists.now.lists ≡ vertices }
+    requires listed { AreListed (net_of faces.now) (side_count (net_of faces.now)) lists.now }
+    ensures twins { IfOk result (λ twins. AreTwinsOf (net_of faces.now) twins.items) }
+    ensures once { OnOk result (NoSideTwice (net_of faces.now)) }
+    ensures edge_twice { IfErr result (IsTwinsFault (net_of faces.now)) }
 {
-    let mut twins = Vec::with_capacity(alloc, 3 * faces.len())?;
-    for side in 0..3 * faces.len() {
-        let twin = side_to(faces, lists, to(faces, side), from(faces, side));
-        twins.push(twin)?;
+    let Ok(mut twins) = free_slots(alloc, 3 * faces.len()) else {
+        return Err(TwinsFail::OutOfMemory);
+    };
+    let Ok(mut stamps) = free_slots(alloc, vertices) else {
+        return Err(TwinsFail::OutOfMemory);
+    };
+    let mut repeat = None;
+    for vertex in 0..vertices as u32 {
+        repeat = stamp_leaving(faces, lists, vertex, &mut stamps, repeat);
+        pair_arriving(faces, lists, vertex, &stamps, &mut twins);
     }
-    Ok(twins)
+    match repeat {
+        Some(side) => Err(TwinsFail::EdgeTwice(FaceId(side / 3))),
+        None => Ok(twins),
+    }
+}
+
+// As many free slots. The length is a parameter, so that no proof unfolds the list.
+fn free_slots(alloc: Global, len: usize) -> Result<Vec<Option<u32>>, OutOfMemory>
+    ensures { IfOk result (λ slots. slots.items ≡ replicate len None) }
+{
+    vec![in alloc; None; len]
 }
 
 // A flag for each vertex: whether it is on the border.

@@ -1,17 +1,29 @@
-use Rattle.std.proofs.Common.{ℕ, length, subst, arith}
-use Rattle.pm_base.specs.Sides.{Net, net_of, side_count, to, twin_of}
-use Rattle.pm_twins.specs.SideLists.{IsSideAmong}
-use Rattle.pm_twins.proofs.SideListLaws.{among_twin}
-use Rattle.pm_twins.proofs.TwinTables.{table_more}
+use Rattle.std.proofs.Common.{◌≡◌, ℕ, Some, None, Option, subst, arith}
+use Rattle.pm_base.specs.Sides.{Net, net_of, NoSideTwice}
+use Rattle.pm_twins.specs.Stamping.{IsLeastRepeat, ArePaired}
+use Rattle.pm_twins.proofs.PairLaws.{paired_all}
+use Rattle.pm_twins.proofs.RepeatLaws.{none_twice, first_repeating}
 use Rattle.pm_twins.proofs.twins.pair_sides.Goals as goal
 
-pub loop-side-preserved : goal.loop-side-preserved
-loop-side-preserved c =
+pub returns-in-Some-clause-edge_twice : goal.returns-in-Some-clause-edge_twice
+returns-in-Some-clause-edge_twice c =
     let m : Net = net_of c.args.faces.now in
-    let e = c.loop-side.side in
-    let among : IsSideAmong m (side_count m) (to m e) (m.from e) c.side_to-twin.result =
-    subst (λ (q : ℕ). IsSideAmong m (side_count m) (to m e) q c.side_to-twin.result) c.from.ensures
-    (subst (λ (p : ℕ). IsSideAmong m (side_count m) p c.from.result c.side_to-twin.result) c.to.ensures (c.side_to-twin.ensures (length c.args.faces.now) c.requires.listed)) in
-    let found = among_twin m (length c.args.lists.now.lists) c.requires.whole c.requires.once e (omega arith) c.side_to-twin.result among in
-    let h = table_more (twin_of m) c.loop-side.twins.items c.push.new.self.items e c.side_to-twin.result c.loop-side.invariant.sides c.loop-side.invariant.each c.in_ok-push.ensures.items found in
-    record { sides = h.0; each = h.1 }
+    let all : c.loop-vertex.vertex ≡ c.args.vertices = omega (arith, c.loop-vertex-test.false, c.loop-vertex.auto.vertex-end) in
+    first_repeating m c.args.vertices c.requires.whole c.in-Some.side
+    (subst (λ (n : ℕ). IsLeastRepeat m n (Some c.in-Some.side)) all (subst (λ (r : Option ℕ). IsLeastRepeat m c.loop-vertex.vertex r) c.in-Some.is c.loop-vertex.invariant.repeat))
+
+pub returns-in-None-clause-once : goal.returns-in-None-clause-once
+returns-in-None-clause-once c =
+    let m : Net = net_of c.args.faces.now in
+    let all : c.loop-vertex.vertex ≡ c.args.vertices = omega (arith, c.loop-vertex-test.false, c.loop-vertex.auto.vertex-end) in
+    none_twice m c.args.vertices c.requires.whole
+    (subst (λ (n : ℕ). IsLeastRepeat m n None) all (subst (λ (r : Option ℕ). IsLeastRepeat m c.loop-vertex.vertex r) c.in-None.is c.loop-vertex.invariant.repeat))
+
+pub returns-in-None-clause-twins : goal.returns-in-None-clause-twins
+returns-in-None-clause-twins c =
+    let m : Net = net_of c.args.faces.now in
+    let all : c.loop-vertex.vertex ≡ c.args.vertices = omega (arith, c.loop-vertex-test.false, c.loop-vertex.auto.vertex-end) in
+    let once : NoSideTwice m = none_twice m c.args.vertices c.requires.whole
+    (subst (λ (n : ℕ). IsLeastRepeat m n None) all (subst (λ (r : Option ℕ). IsLeastRepeat m c.loop-vertex.vertex r) c.in-None.is c.loop-vertex.invariant.repeat)) in
+    paired_all m c.args.vertices c.loop-vertex.twins.items c.requires.whole once
+    (subst (λ (n : ℕ). ArePaired m n c.loop-vertex.twins.items) all c.loop-vertex.invariant.paired)

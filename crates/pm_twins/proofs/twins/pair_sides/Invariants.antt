@@ -1,9 +1,12 @@
-use Rattle.std.proofs.Common.{◌≡◌, ℕ, ◌<◌, length, None, slice_index_or}
-use Rattle.pm_base.specs.Sides.{net_of, twin_of}
+use Rattle.std.proofs.Common.{◌≡◌, length}
+use Rattle.pm_base.specs.Sides.{net_of}
+use Rattle.pm_twins.specs.Stamping.{AreStamps, IsLeastRepeat, ArePaired}
 use Rattle.pm_twins.proofs.twins.pair_sides.Given as goal
 
-abbrev pub invariant-loop-side : goal.invariant-loop-side
-invariant-loop-side l = record {
-  sides : length l.twins.items ≡ l.side;
-  each : (e : ℕ) → e < l.side → slice_index_or l.twins.items e None ≡ twin_of (net_of l.faces) e;
+abbrev pub invariant-loop-vertex : goal.invariant-loop-vertex
+invariant-loop-vertex l = record {
+  len : length l.stamps.items ≡ l.vertices;
+  stamps : AreStamps (net_of l.faces) l.vertex l.stamps.items;
+  repeat : IsLeastRepeat (net_of l.faces) l.vertex l.repeat;
+  paired : ArePaired (net_of l.faces) l.vertex l.twins.items;
 }

@@ -1,0 +1,110 @@
+-- The sides that arrive at one vertex are paired one by one, and in the end all are.
+use Rattle.std.proofs.Common.{◌≡◌, ◌≢◌, ℕ, ◌+◌, ◌<◌, eqb, true, Option, Some, None, List, [], ◌∷◌, length, slice_index_or, ◌⊎◌, inl, inr, sym, ap, ◌∙◌, subst, arith}
+use Rattle.std.proofs.Math.ListN.{set}
+use Rattle.std.proofs.lemmas.Bool.{cases_eq, eqb-true, or_cases, false≢true}
+use Rattle.std.proofs.lemmas.List.{get_or-set_same, get_or-set_other, length-set}
+use Rattle.std.proofs.lemmas.Option.{none-some}
+use Rattle.pm_base.specs.Sides.{Net, side_count, next, prev, to, NoSideTwice, twin_of}
+use Rattle.pm_base.proofs.Search.{option_cases}
+use Rattle.pm_base.proofs.Sides.{next-lt, next-next-next}
+use Rattle.pm_base.proofs.TwinLaws.{twin-is, twin-one}
+use Rattle.pm_links.specs.Lists.{has}
+use Rattle.pm_links.proofs.Members.{has_head, has_tail}
+use Rattle.pm_twins.specs.Table.{AreTwinsOf}
+use Rattle.pm_twins.specs.SideLists.{IsWhole}
+use Rattle.pm_twins.specs.Stamping.{leaving, AreStamps, AreAllStamped, IsSideBetween, ArePaired}
+use Rattle.pm_twins.proofs.Whole.{to_within}
+use Rattle.pm_twins.proofs.StampLaws.{leaving-some, leaving-here}
+
+-- Where all sides that leave v are stamped, a look at the stamps finds the one that runs to q.
+found : (m : Net) (v q : ℕ) (stamps : List (Option ℕ)) (r : Option ℕ) → AreStamps m (v + 1) stamps → AreAllStamped m v stamps → r ≡ leaving m v (slice_index_or stamps q None) → IsSideBetween m v q r
+found m v q stamps None are all is = λ e l from ends.
+    let (s, there, at) = all e l from in
+    none-some s (is ∙ leaving-here m v s (slice_index_or stamps q None) (ap (λ (u : ℕ). slice_index_or stamps u None) (sym ends) ∙ there) at)
+found m v q stamps (Some s) are all is =
+    let (there, at) = leaving-some m v s (slice_index_or stamps q None) (sym is) in
+    let (l, low, ends) = are.each q s there in
+    (l, at, ends)
+
+-- Of the sides that leave v these are still to be gone through; the sides before the others are paired.
+pub record IsPairing (m : Net) (v : ℕ) (left : List ℕ) (twins : List (Option ℕ)) : Type 0 where
+  pub leave : (e : ℕ) → has left e ≡ true → (e < side_count m) × (m.from e ≡ v)
+  pub sides : length twins ≡ side_count m
+  pub passed : (g : ℕ) → g < side_count m → m.from g ≡ v → (has left g ≡ true) ⊎ IsSideBetween m v (m.from (prev g)) (slice_index_or twins (prev g) None)
+  pub before : (e : ℕ) → e < side_count m → to m e < v → IsSideBetween m (to m e) (m.from e) (slice_index_or twins e None)
+
+prev-lt : (m : Net) (e : ℕ) → e < side_count m → prev e < side_count m
+prev-lt m e l = next-lt m.faces (next e) (next-lt m.faces e l)
+
+pub pairing_prev : (m : Net) (v x : ℕ) (left : List ℕ) (twins : List (Option ℕ)) → IsPairing m v (x ∷ left) twins → prev x < side_count m
+pairing_prev m v x left twins i = prev-lt m x (i.leave x (has_head x left)).0
+
+-- One more side is paired.
+module _ (m : Net) (v x p : ℕ) (left : List ℕ) (stamps twins : List (Option ℕ)) (r : Option ℕ) (i : IsPairing m v (x ∷ left) twins) (are : AreStamps m (v + 1) stamps) (all : AreAllStamped m v stamps) (is : p ≡ prev x) (looked : r ≡ leaving m v (slice_index_or stamps (m.from p) None)) where
+  here_x : (x < side_count m) × (m.from x ≡ v)
+  here_x = i.leave x (has_head x left)
+
+  p_low : p < length twins
+  p_low = subst (λ (n : ℕ). p < n) (sym i.sides) (subst (λ (k : ℕ). k < side_count m) (sym is) (prev-lt m x here_x.0))
+
+  p_ends : to m p ≡ v
+  p_ends = ap (to m) is ∙ ap m.from (next-next-next x) ∙ here_x.1
+
+  at_p : IsSideBetween m v (m.from p) (slice_index_or (set twins p r) p None)
+  at_p = subst (IsSideBetween m v (m.from p)) (sym (get_or-set_same twins p r None p_low)) (found m v (m.from p) stamps r are all looked)
+
+  other_slot : (u : ℕ) → u ≢ p → slice_index_or twins u None ≡ slice_index_or (set twins p r) u None
+  other_slot u ne = sym (get_or-set_other twins p u r None ne)
+
+  pub pairing_more : IsPairing m v left (set twins p r)
+  pairing_more = record {
+    leave = λ e h. i.leave e (has_tail x left e h);
+    sides = length-set twins p r ∙ i.sides;
+    passed = λ g l from. elim (i.passed g l from) [
+      | inl h ↦
+          elim (or_cases (eqb x g) (has left g) h) [
+            | inl t ↦ inr (subst (λ (k : ℕ). IsSideBetween m v (m.from k) (slice_index_or (set twins p r) k None)) (is ∙ ap prev (eqb-true x g t)) at_p)
+            | inr t ↦ inl t
+          ]
+      | inr done ↦
+          inr (elim (cases_eq (prev g) p) [
+            | inl same ↦ subst (λ (k : ℕ). IsSideBetween m v (m.from k) (slice_index_or (set twins p r) k None)) (sym same) at_p
+            | inr ne ↦ subst (IsSideBetween m v (m.from (prev g))) (other_slot (prev g) ne) done
+          ])
+    ];
+    before = λ e l low.
+        let ne : e ≢ p = λ same. absurd (let ends : to m e ≡ v = ap (to m) same ∙ p_ends in omega (arith, ends, low)) in
+        subst (IsSideBetween m (to m e) (m.from e)) (other_slot e ne) (i.before e l low);
+  }
+
+-- All that arrive are paired.
+pub paired_more : (m : Net) (v : ℕ) (twins : List (Option ℕ)) → IsPairing m v [] twins → ArePaired m (v + 1) twins
+paired_more m v twins i = record {
+  sides = i.sides;
+  each = λ e l low. elim (cases_eq (to m e) v) [
+    | inr ne ↦ i.before e l (omega (arith, low, ne))
+    | inl ends ↦
+        elim (i.passed (next e) (next-lt m.faces e l) ends) [
+          | inl h ↦ absurd (false≢true h)
+          | inr done ↦
+              subst (λ (v : ℕ). IsSideBetween m v (m.from e) (slice_index_or twins e None)) (sym ends)
+              (subst (λ (k : ℕ). IsSideBetween m v (m.from k) (slice_index_or twins k None)) (next-next-next e) done)
+        ]
+  ];
+}
+
+-- Where no side stands twice, the side that runs back is the twin.
+between_twin : (m : Net) (vertices : ℕ) → IsWhole m vertices → NoSideTwice m → (e : ℕ) → (r : Option ℕ) → IsSideBetween m (to m e) (m.from e) r → r ≡ twin_of m e
+between_twin m vertices whole once e None none =
+    elim (option_cases (twin_of m e)) [
+      | inl same ↦ sym same
+      | inr (g, is) ↦ (let w = twin-is m e g is in absurd (none g w.stands.is_side w.begins w.ends))
+    ]
+between_twin m vertices whole once e (Some g) (l, from, ends) =
+    sym (twin-one m once e g (record { stands = whole.stands g l; begins = from; ends = ends }))
+
+pub paired_all : (m : Net) (vertices : ℕ) (twins : List (Option ℕ)) → IsWhole m vertices → NoSideTwice m → ArePaired m vertices twins → AreTwinsOf m twins
+paired_all m vertices twins whole once paired = record {
+  sides = paired.sides;
+  each = λ e l. between_twin m vertices whole once e (slice_index_or twins e None) (paired.each e l (to_within m vertices whole e l));
+}

@@ -1,0 +1,45 @@
+-- What the least side that repeats an earlier one says of sides and faces.
+use Rattle.std.proofs.Common.{◌≡◌, ◌≢◌, ℕ, ◌<◌, Some, None, inl, inr, refl, sym, ap, ◌∙◌, arith}
+use Rattle.std.proofs.lemmas.Bool.{cases_eq, cases_lt}
+use Rattle.pm_base.specs.Sides.{Net, side_count, face_of, NoSideTwice}
+use Rattle.pm_base.proofs.Sides.{face_cases}
+use Rattle.pm_twins.specs.Faults.{IsFirstRepeating}
+use Rattle.pm_twins.specs.SideLists.{IsWhole}
+use Rattle.pm_twins.specs.Stamping.{IsLeastRepeat}
+
+module _ (m : Net) (vertices : ℕ) (whole : IsWhole m vertices) where
+  -- Two sides of one face run from different vertices.
+  one_face : (e g : ℕ) → e < side_count m → face_of e ≡ face_of g → e ≢ g → m.from e ≢ m.from g
+  one_face e g l f ne is =
+      let t = whole.stands e l in
+      elim (face_cases e g f) [
+        | inl same ↦ ne (sym same)
+        | inr h ↦ elim h [ inl at ↦ t.first (is ∙ ap m.from at) | inr at ↦ t.last (sym (is ∙ ap m.from at)) ]
+      ]
+
+  pub none_twice : IsLeastRepeat m vertices None → NoSideTwice m
+  none_twice none e g te tg from ends =
+      elim (cases_eq e g) [
+        | inl same ↦ same
+        | inr ne ↦
+            absurd (elim (cases_lt e g) [
+              | inl l ↦ none.least g tg.is_side (whole.within g tg.is_side) (e, l, from, ends)
+              | inr l ↦ none.least e te.is_side (whole.within e te.is_side) (g, omega (arith, l, ne), sym from, sym ends)
+            ])
+      ]
+
+  pub first_repeating : (g : ℕ) → IsLeastRepeat m vertices (Some g) → IsFirstRepeating m (face_of g)
+  first_repeating g least =
+      let (l, (earlier, before, from, ends)) = least.is_one in
+      let apart : face_of earlier ≢ face_of g = λ same. one_face earlier g (omega (arith, before, l)) same (λ k. absurd (omega (arith, k, before))) from in
+      record {
+        in_range = omega (arith, l);
+        repeats = record { side = g; earlier = earlier; of_face = refl; before = omega (arith, before, apart); from = from; to = ends };
+        least = λ h low r.
+            let of_face = r.of_face in
+            let first = r.before in
+            let less : r.side < g = omega (arith, of_face, low) in
+            let in_range : r.side < side_count m = omega (arith, less, l) in
+            let up_to = least.least r.side in_range (whole.within r.side in_range) (r.earlier, omega (arith, first, of_face), r.from, r.to) in
+            omega (arith, up_to, less);
+      }

@@ -1,0 +1,53 @@
+-- Stamps: at some vertices a side that runs there. They are good for the sides that leave one vertex at a time.
+use Rattle.std.specs.Prelude.{◌≡◌, ℕ, ◌<◌, ◌≤◌, ◌==◌, cond, min, max, Option, None, Some, List, length, slice_index_or}
+use Rattle.std.specs.Option.{IfSome}
+use Rattle.pm_base.specs.Sides.{Net, side_count, to}
+use Rattle.pm_twins.specs.declared.stamps.Ordered.{Ordered}
+
+-- What is stamped, where it leaves vertex v.
+abbrev pub leaving : Net → ℕ → Option ℕ → Option ℕ
+leaving m v None = None
+leaving m v (Some e) = cond (m.from e == v) (Some e) None
+
+-- Side e with the one that was stamped before, if any, the earlier first.
+abbrev pub in_order : Option ℕ → ℕ → Ordered
+in_order None e = record { first = e; later = None }
+in_order (Some g) e = record { first = min g e; later = Some (max g e) }
+
+-- The lesser of two numbers, where there are two.
+abbrev pub lesser_of : Option ℕ → Option ℕ → Option ℕ
+lesser_of None b = b
+lesser_of (Some a) None = Some a
+lesser_of (Some a) (Some b) = Some (min a b)
+
+-- Each stamp is a side that leaves one of the first n vertices, and stands at the vertex to which it runs.
+pub record AreStamps (m : Net) (n : ℕ) (stamps : List (Option ℕ)) : Type 0 where
+  pub each : (w e : ℕ) → slice_index_or stamps w None ≡ Some e → (e < side_count m) × (m.from e < n) × (to m e ≡ w)
+
+-- Where a side that leaves v runs to, such a side is stamped.
+abbrev pub AreAllStamped : Net → ℕ → List (Option ℕ) → Type 0
+AreAllStamped m v stamps = (e : ℕ) → e < side_count m → m.from e ≡ v → (s : ℕ) × (slice_index_or stamps (to m e) None ≡ Some s) × (m.from s ≡ v)
+
+-- A side before side e has the same two vertices in the same order.
+abbrev pub IsRepeat : Net → ℕ → Type 0
+IsRepeat m e = (g : ℕ) × (g < e) × (m.from g ≡ m.from e) × (to m g ≡ to m e)
+
+-- There is a number, and it is e at most.
+abbrev pub IsUpTo : Option ℕ → ℕ → Type 0
+IsUpTo None e = ⊥
+IsUpTo (Some g) e = g ≤ e
+
+-- This side is a repeat, and no lesser one that leaves one of the first n vertices is.
+pub record IsLeastRepeat (m : Net) (n : ℕ) (repeat : Option ℕ) : Type 0 where
+  pub is_one : IfSome repeat (λ g. (g < side_count m) × IsRepeat m g)
+  pub least : (e : ℕ) → e < side_count m → m.from e < n → IsRepeat m e → IsUpTo repeat e
+
+-- This side runs from p to q, or none does.
+abbrev pub IsSideBetween : Net → ℕ → ℕ → Option ℕ → Type 0
+IsSideBetween m p q None = (e : ℕ) → e < side_count m → m.from e ≡ p → to m e ≡ q → ⊥
+IsSideBetween m p q (Some e) = (e < side_count m) × (m.from e ≡ p) × (to m e ≡ q)
+
+-- The table has a side that runs back for each that runs to one of the first n vertices.
+pub record ArePaired (m : Net) (n : ℕ) (twins : List (Option ℕ)) : Type 0 where
+  pub sides : length twins ≡ side_count m
+  pub each : (e : ℕ) → e < side_count m → to m e < n → IsSideBetween m (to m e) (m.from e) (slice_index_or twins e None)
