@@ -1,14 +1,11 @@
 -- The lists of sides by vertex grow by one side at a time.
 use Rattle.std.proofs.Common.{◌≡◌, ℕ, ◌+◌, ◌<◌, eqb, ◌∷◌, length, inl, inr, sym, ap, ◌∙◌, arith}
-use Rattle.std.proofs.lemmas.Bool.{or_cases, or_left, eqb-true, eq-eqb, cases_eq, false_from_ne_true}
+use Rattle.std.proofs.lemmas.Bool.{or_cases, or_left, eqb-true, eq-eqb, cases_eq}
 use Rattle.pm_base.specs.Sides.{Net}
-use Rattle.pm_links.specs.Lists.{Lists, list_of, has, with_first, IsFree}
+use Rattle.pm_links.specs.Lists.{Lists, list_of, has, with_first}
 use Rattle.pm_links.proofs.Members.{has_tail}
 use Rattle.pm_links.proofs.Calls.{after_push}
 use Rattle.pm_twins.specs.SideLists.{AreListed}
-
-pub listed_free : (m : Net) (n : ℕ) (lists : Lists) → AreListed m n lists → IsFree lists n
-listed_free m n lists listed v = false_from_ne_true (has (list_of lists v) n) (λ t. absurd (omega (arith, ((listed.each v n).0 t).0)))
 
 pub listed_more : (m : Net) (n head : ℕ) (lists more : Lists) → head ≡ m.from n → head < length lists.lists → more ≡ with_first lists head n →
     AreListed m n lists → AreListed m (n + 1) more

@@ -4,7 +4,6 @@ use Rattle.std.specs.Option.{IfSome}
 use Rattle.std.proofs.Math.ListN.{set}
 use Rattle.std.proofs.lemmas.Bool.{cases_eq, cases_lt, cond-true, cond-false, eqb-true, eq-eqb, ne_eqb, or_cases, or_parts, false≢true}
 use Rattle.std.proofs.lemmas.List.{get_or-set_same, get_or-set_other}
-use Rattle.std.proofs.lemmas.Int.{clamps}
 use Rattle.std.proofs.lemmas.Option.{none-some, same_Some}
 use Rattle.pm_base.specs.Sides.{Net, side_count, to}
 use Rattle.pm_links.specs.Lists.{Lists, list_of, has, IsOnce, IsSound}
@@ -16,20 +15,20 @@ use Rattle.pm_twins.specs.Stamping.{leaving, in_order, lesser_of, AreStamps, IsR
 up_to_first : (a b : Option ℕ) (e : ℕ) → IsUpTo a e → IsUpTo (lesser_of a b) e
 up_to_first None b e l = absurd l
 up_to_first (Some a) None e l = l
-up_to_first (Some a) (Some b) e l = omega (arith, clamps, l)
+up_to_first (Some a) (Some b) e l = omega (arith, l)
 
 up_to_second : (a b : Option ℕ) (e : ℕ) → IsUpTo b e → IsUpTo (lesser_of a b) e
 up_to_second None b e l = l
 up_to_second (Some a) None e l = absurd l
-up_to_second (Some a) (Some b) e l = omega (arith, clamps, l)
+up_to_second (Some a) (Some b) e l = omega (arith, l)
 
 lesser-either : (P : ℕ → Type 0) (a b : Option ℕ) → IfSome a P → IfSome b P → IfSome (lesser_of a b) P
 lesser-either P None b p q = q
 lesser-either P (Some a) None p q = p
 lesser-either P (Some a) (Some b) p q =
     elim (cases_lt a b) [
-      | inl lt ↦ (let is : min a b ≡ a = omega (arith, clamps, lt) in subst P (sym is) p)
-      | inr ge ↦ (let is : min a b ≡ b = omega (arith, clamps, ge) in subst P (sym is) q)
+      | inl lt ↦ (let is : min a b ≡ a = omega (arith, lt) in subst P (sym is) p)
+      | inr ge ↦ (let is : min a b ≡ b = omega (arith, ge) in subst P (sym is) q)
     ]
 
 -- What is stamped, where it leaves a vertex.
@@ -151,12 +150,12 @@ module _ (m : Net) (v x w : ℕ) (left : List ℕ) (stamps : List (Option ℕ)) 
       let (stamp, from) = leaving-some m v s (slice_index_or stamps w None) (sym is) in
       elim (cases_lt s x) [
         | inl lt ↦
-            let least_is : min s x ≡ s = omega (arith, clamps, lt) in
-            let most_is : max s x ≡ x = omega (arith, clamps, lt) in
+            let least_is : min s x ≡ s = omega (arith, lt) in
+            let most_is : max s x ≡ x = omega (arith, lt) in
             rw (least_is, most_is) (adds_after s stamp from lt)
         | inr ge ↦
-            let least_is : min s x ≡ x = omega (arith, clamps, ge) in
-            let most_is : max s x ≡ s = omega (arith, clamps, ge) in
+            let least_is : min s x ≡ x = omega (arith, ge) in
+            let most_is : max s x ≡ s = omega (arith, ge) in
             rw (least_is, most_is) (adds_before s stamp from ge)
       ]
 

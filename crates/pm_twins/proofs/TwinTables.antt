@@ -1,10 +1,10 @@
 -- The marks of the border are filled in side by side.
 use Rattle.std.proofs.Common.{◌≡◌, ◌≢◌, ℕ, ◌+◌, ◌<◌, Bool, true, false, not, Option, Some, None, ◌⊎◌, inl, inr, List, length, slice_index_or, refl, sym, ap, ◌∙◌, subst, arith}
-use Rattle.std.proofs.Math.ListN.{set, replicate}
+use Rattle.std.proofs.Math.ListN.{set}
 use Rattle.std.proofs.lemmas.Bool.{cases_eq, false≢true, true≢false}
 use Rattle.std.specs.Option.{is_some}
 use Rattle.std.proofs.lemmas.Option.{none-some}
-use Rattle.std.proofs.lemmas.List.{get_or-set_same, get_or-set_other, length-set, get_or-replicate, length-replicate}
+use Rattle.std.proofs.lemmas.List.{get_or-set_same, get_or-set_other, length-set}
 use Rattle.pm_base.specs.Sides.{Net, side_count, to, twin_of, IsBorderSide, IsBorder}
 use Rattle.pm_base.proofs.TwinLaws.{none-twin}
 use Rattle.pm_twins.specs.Table.{IsBorderOf}
@@ -23,13 +23,6 @@ pub record AreMarked (m : Net) (vertices n : ℕ) (border : List Bool) : Type 0 
   pub len : length border ≡ vertices
   pub sound : (v : ℕ) → v < vertices → slice_index_or border v false ≡ true → IsBorder m v
   pub complete : (e : ℕ) → e < n → IsBorderSide m e → (slice_index_or border (m.from e) false ≡ true) × (slice_index_or border (to m e) false ≡ true)
-
-pub none_marked : (m : Net) (vertices : ℕ) → AreMarked m vertices 0 (replicate vertices false)
-none_marked m vertices = record {
-  len = length-replicate vertices false;
-  sound = λ v l t. absurd (false≢true (sym (get_or-replicate vertices v false false l) ∙ t));
-  complete = λ e l b. absurd (omega arith);
-}
 
 -- A side with a twin marks nothing.
 pub marked_twinned : (m : Net) (vertices n : ℕ) (border : List Bool) → AreMarked m vertices n border → twin_of m n ≢ None → AreMarked m vertices (n + 1) border
