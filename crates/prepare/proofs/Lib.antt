@@ -3,3 +3,7 @@ pub mod TextLaws
 pub mod MakeLaws
 pub mod EndingLaws
 pub mod OutcomeLaws
+pub mod ScannedLaws
+pub mod GridLaws
+pub mod HeadLaws
+pub mod ReadLaws

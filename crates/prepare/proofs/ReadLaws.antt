@@ -1,0 +1,47 @@
+-- What is written is read as the mesh that was made.
+use Rattle.std.proofs.Common.{◌≡◌, ℕ, List, [], ◌∷◌, ◌++◌, Option, Result, Ok, IfOk, sym, ◌∙◌, ap, subst, arith, append_assoc}
+use Rattle.std.specs.List.{All}
+use Rattle.pm_base.specs.Place.{IsPlace}
+use Rattle.pm_base.specs.Canonical.{canonical_text}
+use Rattle.obj_read.specs.Meaning.{meaning_of}
+use Rattle.obj_read.proofs.CommentLaws.{commented_is_read}
+use Rattle.obj_scan.specs.Judged.{Scanned}
+use Rattle.obj_scan.specs.Meaning.{meaning_of as scan_meaning_of}
+use Rattle.obj_prepare.specs.Placing.{IsSize, fit_of, places_of}
+use Rattle.prepare.specs.declared.fault.Fault.{Fault}
+use Rattle.prepare.specs.Outcome.{Done, Makes, IsPreparedText, bad_line, too_many, made}
+use Rattle.prepare.specs.Laws.{IsFitText, TextsAreRead}
+use Rattle.prepare.proofs.ScannedLaws.{meaning_sound}
+use Rattle.prepare.proofs.GridLaws.{places_on_grid, taken_on_grid, fit_of_measured}
+use Rattle.prepare.proofs.HeadLaws.{head_comment}
+
+-- The points of a mesh that was made are on the grid.
+made_on_grid : (size : Option ℕ) (s : Scanned) (done : Done) → IsSize size → (m : Makes size s done) → All IsPlace m.mesh.points
+made_on_grid size s done is m =
+    let places = places_of size s.points s.faces in
+    let p = m.prepared.0 in
+    subst (All IsPlace) (sym p.stand) (taken_on_grid places p.old (places_on_grid size s.points s.faces is))
+
+made_is_read : (size : Option ℕ) (bytes : List ℕ) (s : Scanned) (done : Done) → IsSize size → scan_meaning_of bytes ≡ Ok s → Makes size s done → IsFitText done.text
+made_is_read size bytes s done is means m =
+    let fit = fit_of size s.points s.faces in
+    let head = head_comment fit m.mesh.faces (fit_of_measured size s.points s.faces is (meaning_sound bytes s means).exact) in
+    let text = canonical_text 0 m.mesh in
+    let text_is : done.text ≡ (35 ∷ head.line) ++ 10 ∷ text = m.text_is ∙ ap (λ (h : List ℕ). h ++ text) head.text_is ∙ append_assoc (35 ∷ head.line) (10 ∷ []) text in
+    record {
+      mesh = m.mesh;
+      line = head.line;
+      line_is = head.line_is;
+      text_is = text_is;
+      formed = m.formed;
+      manifold = m.manifold;
+      read = ap (meaning_of 0) text_is ∙ commented_is_read 0 head.line m.mesh head.line_is head.short (omega arith) m.formed (made_on_grid size s done is m);
+    }
+
+outcome_is_read : (size : Option ℕ) (bytes : List ℕ) (r : Result Done Fault) (place : Option ℕ) → IsSize size → IsPreparedText size bytes r place → IfOk r (λ done. IsFitText done.text)
+outcome_is_read size bytes found place is (bad_line r means) = tt
+outcome_is_read size bytes found place is (too_many s means many) = tt
+outcome_is_read size bytes found place is (made s done means makes) = made_is_read size bytes s done is means makes
+
+pub texts_are_read : TextsAreRead
+texts_are_read size bytes done place is outcome = outcome_is_read size bytes (Ok done) place is outcome
