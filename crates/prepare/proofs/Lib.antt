@@ -7,3 +7,6 @@ pub mod ScannedLaws
 pub mod GridLaws
 pub mod HeadLaws
 pub mod ReadLaws
+pub mod StandingLaws
+pub mod NothingLaws
+pub mod AgainLaws

@@ -16,7 +16,7 @@ use Rattle.prepare.proofs.GridLaws.{places_on_grid, taken_on_grid, fit_of_measur
 use Rattle.prepare.proofs.HeadLaws.{head_comment}
 
 -- The points of a mesh that was made are on the grid.
-made_on_grid : (size : Option ℕ) (s : Scanned) (done : Done) → IsSize size → (m : Makes size s done) → All IsPlace m.mesh.points
+pub made_on_grid : (size : Option ℕ) (s : Scanned) (done : Done) → IsSize size → (m : Makes size s done) → All IsPlace m.mesh.points
 made_on_grid size s done is m =
     let places = places_of size s.points s.faces in
     let p = m.prepared.0 in
@@ -37,6 +37,10 @@ made_is_read size bytes s done is means m =
       manifold = m.manifold;
       read = ap (meaning_of 0) text_is ∙ commented_is_read 0 head.line m.mesh head.line_is head.short (omega arith) m.formed (made_on_grid size s done is m);
     }
+
+pub mesh_is_read : (size : Option ℕ) (bytes : List ℕ) (s : Scanned) (done : Done) → IsSize size → scan_meaning_of bytes ≡ Ok s → (m : Makes size s done) → meaning_of 0 done.text ≡ Ok m.mesh
+unfolding made_is_read
+mesh_is_read size bytes s done is means m = (made_is_read size bytes s done is means m).read
 
 outcome_is_read : (size : Option ℕ) (bytes : List ℕ) (r : Result Done Fault) (place : Option ℕ) → IsSize size → IsPreparedText size bytes r place → IfOk r (λ done. IsFitText done.text)
 outcome_is_read size bytes found place is (bad_line r means) = tt

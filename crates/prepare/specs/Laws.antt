@@ -1,13 +1,18 @@
 -- The laws of outcomes, each as a statement. Byte 10 is LF, and 35 is `#`.
-use Rattle.std.specs.Prelude.{◌≡◌, ℕ, List, ◌∷◌, ◌++◌, Option, Result, Ok}
+use Rattle.std.specs.Prelude.{◌≡◌, ℕ, List, ◌∷◌, ◌++◌, Option, None, Result, Ok}
 use Rattle.pm_base.specs.Meshes.{Mesh, IsWellFormed}
 use Rattle.pm_base.specs.Sides.{net_of}
 use Rattle.pm_base.specs.Fans.{IsOrientedManifold}
 use Rattle.pm_base.specs.Canonical.{canonical_text}
 use Rattle.obj_lines.specs.Text.{until}
 use Rattle.obj_read.specs.Meaning.{meaning_of}
+use Rattle.obj_prepare.specs.declared.notes.Notes.{Notes}
+use Rattle.obj_prepare.specs.declared.placing.Fit.TheVariants as fits
 use Rattle.obj_prepare.specs.Placing.{IsSize}
+use Rattle.obj_prepare.specs.Prepared.{IsPreparedWith}
+use Rattle.obj_prepare.specs.Laws.{AreFit}
 use Rattle.prepare.specs.declared.fault.Fault.{Fault}
+use Rattle.prepare.specs.Texts.{output_text, notes_text, last_note}
 use Rattle.prepare.specs.Outcome.{Done, IsPreparedText}
 
 -- A text has one outcome, and one place that decides it.
@@ -27,3 +32,20 @@ pub record IsFitText (text : List ℕ) : Type 0 where
 -- What is written is such a text.
 abbrev pub TextsAreRead : Type 0
 TextsAreRead = (size : Option ℕ) (bytes : List ℕ) (done : Done) (place : Option ℕ) → IsSize size → IsPreparedText size bytes (Ok done) place → IsFitText done.text
+
+-- The text of a mesh, prepared without a size, comes back after another comment; and so many things were done to make the
+-- mesh of itself. They may be some: vertices that were split stand at one place, so they are joined and split again.
+pub record ComesBack (text : List ℕ) (m : Mesh) : Type 0 where
+  pub notes : Notes
+  pub told : IsPreparedWith m.points m.faces m notes
+  pub outcome : IsPreparedText None text (Ok (record { text = output_text fits.Standing m; notes = notes_text 0 notes fits.Standing m.faces })) None
+
+-- What is written comes back so, whatever the size was.
+abbrev pub TextsComeBack : Type 0
+TextsComeBack = (size : Option ℕ) (bytes : List ℕ) (done : Done) (place : Option ℕ) (m : Mesh) → IsSize size → IsPreparedText size bytes (Ok done) place → meaning_of 0 done.text ≡ Ok m → ComesBack done.text m
+
+-- The text of an oriented manifold whose vertices are used and stand apart comes back with nothing said of it, but where it
+-- has no faces.
+abbrev pub FitTextsStay : Type 0
+FitTextsStay = (bytes : List ℕ) (m : Mesh) → meaning_of 0 bytes ≡ Ok m → IsOrientedManifold (net_of m.faces) → AreFit m.points m.faces
+    → IsPreparedText None bytes (Ok (record { text = output_text fits.Standing m; notes = last_note fits.Standing m.faces })) None

@@ -1,10 +1,11 @@
-ghost use Rattle.prepare.specs.Laws.{OneOutcome, TextsAreRead};
+ghost use Rattle.prepare.specs.Laws.{OneOutcome, TextsAreRead, TextsComeBack, FitTextsStay};
 
-/// States that a text has one outcome for a size or none: one text with one set of notes, or one fault; and one place that
-/// decides it. And that the text that is written is a comment and the canonical text of an oriented manifold, which is
-/// read without a fault. It does nothing, and callers cite its clauses.
-#[tactic(auto, using(crate::proofs::OutcomeLaws::one_outcome, crate::proofs::ReadLaws::texts_are_read))]
+/// The laws of outcomes, which takes no step: a text has one outcome for a size or none, and one place that decides it; what
+/// is written is read as the mesh that was made; it comes back where it is prepared again without a size; and so does the
+/// text of a mesh that needs nothing.
 pub fn outcomes_are_sound()
     ensures one { OneOutcome }
     ensures read { TextsAreRead }
+    ensures again { TextsComeBack }
+    ensures fit { FitTextsStay }
 {}

@@ -1,0 +1,109 @@
+-- A text that is prepared again comes back, and so does that of a mesh that needs nothing.
+use Rattle.std.proofs.Common.{◌≡◌, ℕ, ◌<◌, List, length, Option, None, Result, Ok, IfOk, refl, sym, ap, ◌∙◌, subst, arith}
+use Rattle.std.proofs.lemmas.List.{length-map}
+use Rattle.std.specs.List.{All}
+use Rattle.pm_base.specs.Place.{IsPlace}
+use Rattle.pm_base.specs.Meshes.{Mesh, IsWellFormed}
+use Rattle.pm_base.specs.Sides.{net_of}
+use Rattle.pm_base.specs.Fans.{IsUsed, IsOrientedManifold}
+use Rattle.pm_base.proofs.NetLaws.{mesh_side}
+use Rattle.pm_fans.specs.Cuts.{cut_count}
+use Rattle.obj_read.specs.Meaning.{Refused, meaning_of}
+use Rattle.obj_read.proofs.FormedLaws.{meaning_formed}
+use Rattle.obj_read.proofs.PlacedLaws.{meaning_placed}
+use Rattle.obj_scan.specs.Judged.{Scanned}
+use Rattle.obj_scan.specs.Meaning.{meaning_of as scan_meaning_of}
+use Rattle.obj_scan.specs.Laws.{scanned_of}
+use Rattle.obj_scan.proofs.ReadLaws.{read_scanned}
+use Rattle.obj_prepare.specs.declared.notes.Notes.{Notes}
+use Rattle.obj_prepare.specs.declared.placing.Fit.{Fit}
+use Rattle.obj_prepare.specs.declared.placing.Fit.TheVariants as fits
+use Rattle.obj_prepare.specs.Named.{AreCorners, IsWithin}
+use Rattle.obj_prepare.specs.Joining.{place_at}
+use Rattle.obj_prepare.specs.Placing.{IsSize, places_of}
+use Rattle.obj_prepare.specs.Prepared.{staying, joined_count, flat_count, double_count, unnamed_count, split_count, IsPrepared, IsPreparedWith}
+use Rattle.obj_prepare.proofs.AgainLaws.{prepared_again}
+use Rattle.obj_prepare.proofs.FitMeshes.{fit_meshes_stay}
+use Rattle.obj_prepare.proofs.PlacingLaws.{length-places_of}
+use Rattle.prepare.specs.declared.fault.Fault.{Fault}
+use Rattle.prepare.specs.Texts.{output_text, notes_text}
+use Rattle.prepare.specs.Outcome.{Done, Makes, IsPreparedText, bad_line, too_many, made}
+use Rattle.prepare.specs.Laws.{ComesBack, TextsComeBack, FitTextsStay}
+use Rattle.prepare.proofs.ScannedLaws.{meaning_sound}
+use Rattle.prepare.proofs.ReadLaws.{made_on_grid, mesh_is_read}
+use Rattle.prepare.proofs.StandingLaws.{standing_fit, standing_places}
+use Rattle.prepare.proofs.NothingLaws.{corners_of, nothing_done, nothing_told, nothing_said}
+
+-- The numbers of what was done to make a mesh.
+numbers : (m : Mesh) → IsPrepared m.points m.faces m → Notes
+numbers m p = record {
+  joined = joined_count p.names m.faces;
+  flat = flat_count p.names m.faces;
+  double = double_count p.names m.faces;
+  cut = cut_count (net_of (staying p.names m.faces));
+  split = split_count p.names m.faces p.old;
+  unnamed = unnamed_count (length m.points) m.faces;
+}
+
+numbered : (m : Mesh) (p : IsPrepared m.points m.faces m) → IsPreparedWith m.points m.faces m (numbers m p)
+unfolding numbers
+numbered m p = (p, record { joined = refl; flat = refl; double = refl; cut = refl; split = refl; unnamed = refl })
+
+-- What is written and said where a mesh is made of itself.
+abbrev standing_done : Mesh → Notes → Done
+standing_done m notes = record { text = output_text fits.Standing m; notes = notes_text 0 notes fits.Standing m.faces }
+
+-- A mesh on the grid all of whose vertices are used is made of its own points in units.
+makes_itself : (m : Mesh) (notes : Notes) → IsWellFormed m → IsOrientedManifold (net_of m.faces) → All IsPlace m.points → ((v : ℕ) → v < length m.points → IsUsed (net_of m.faces) v)
+    → IsPreparedWith m.points m.faces m notes → Makes None (scanned_of m) (standing_done m notes)
+makes_itself m notes formed manifold placed used prepared =
+    let fit = standing_fit m.points m.faces placed in
+    record {
+      mesh = m;
+      notes = notes;
+      prepared = subst (λ ps. IsPreparedWith ps m.faces m notes) (sym (standing_places m.points m.faces placed used)) prepared;
+      formed = formed;
+      manifold = manifold;
+      text_is = ap (λ (f : Fit). output_text f m) (sym fit);
+      notes_are = ap (λ (f : Fit). notes_text 0 notes f m.faces) (sym fit);
+    }
+
+one_mesh : (found : Result Mesh Refused) (m n : Mesh) → found ≡ Ok m → found ≡ Ok n → m ≡ n
+one_mesh found m n is are = cc
+
+made_comes_back : (size : Option ℕ) (bytes : List ℕ) (s : Scanned) (done : Done) → IsSize size → scan_meaning_of bytes ≡ Ok s → (k : Makes size s done) → meaning_of 0 done.text ≡ Ok k.mesh → ComesBack done.text k.mesh
+made_comes_back size bytes s done is means k read =
+    let m = k.mesh in
+    let p = k.prepared.0 in
+    let places = places_of size s.points s.faces in
+    let corners = (meaning_sound bytes s means).scanning.within.corners in
+    let long : length s.points ≡ length places = sym (length-places_of size s.points s.faces) in
+    let again = prepared_again places s.faces m (subst (λ n. All (AreCorners n) s.faces) long corners) p in
+    let count : length m.points ≡ length p.old = ap length p.stand ∙ length-map p.old (place_at places) in
+    let told = numbered m again in
+    record {
+      notes = numbers m again;
+      told = told;
+      outcome = made (scanned_of m) (standing_done m (numbers m again)) (read_scanned done.text m read)
+          (makes_itself m (numbers m again) k.formed k.manifold (made_on_grid size s done is k) (λ v l. p.split.used v (omega (arith, count, l))) told);
+    }
+
+outcome_comes_back : (size : Option ℕ) (bytes : List ℕ) (r : Result Done Fault) (place : Option ℕ) → IsSize size → IsPreparedText size bytes r place
+    → IfOk r (λ done. (m : Mesh) → meaning_of 0 done.text ≡ Ok m → ComesBack done.text m)
+outcome_comes_back size bytes found place is (bad_line r means) = tt
+outcome_comes_back size bytes found place is (too_many s means many) = tt
+outcome_comes_back size bytes found place is (made s done means k) = λ m read.
+    let own = mesh_is_read size bytes s done is means k in
+    subst (ComesBack done.text) (one_mesh (meaning_of 0 done.text) k.mesh m own read) (made_comes_back size bytes s done is means k own)
+
+pub texts_come_back : TextsComeBack
+texts_come_back size bytes done place m is outcome read = outcome_comes_back size bytes (Ok done) place is outcome m read
+
+pub fit_texts_stay : FitTextsStay
+fit_texts_stay bytes m read manifold fit =
+    let formed = meaning_formed 0 bytes m read in
+    let within : IsWithin (length m.points) m.faces = record { vertices_few = formed.points; faces_few = formed.faces; corners = corners_of (length m.points) m.faces formed.corners } in
+    let p : IsPrepared m.points m.faces m = fit_meshes_stay m.points m.faces within (λ e l. (mesh_side m formed e l).0) manifold fit in
+    let itself = makes_itself m nothing_done formed manifold (meaning_placed 0 bytes m read) fit.used (p, nothing_told m formed manifold fit p) in
+    subst (λ (notes : List ℕ). IsPreparedText None bytes (Ok (record { text = output_text fits.Standing m; notes = notes })) None) (nothing_said m.faces)
+    (made (scanned_of m) (standing_done m nothing_done) (read_scanned bytes m read) itself)
