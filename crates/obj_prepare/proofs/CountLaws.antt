@@ -53,7 +53,7 @@ itself_next flags names v n is f =
     passed (λ v. slice_index_or flags v false && not (slice_index_or names v 0 == v)) v n is (elim (cases_Bool (slice_index_or flags v false)) [ inl t ↦ rw (t, f) refl | inr u ↦ rw u refl ])
 
 -- Those that pass, and those that don't.
-count_both : (p : ℕ → Bool) (n : ℕ) → count p n + count (λ v. not (p v)) n ≡ n
+pub count_both : (p : ℕ → Bool) (n : ℕ) → count p n + count (λ v. not (p v)) n ≡ n
 count_both p zero = omega (arith, count-zero p, count-zero (λ v. not (p v)))
 count_both p (suc n) =
     elim (cases_Bool (p n)) [

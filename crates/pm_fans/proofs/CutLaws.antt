@@ -11,7 +11,7 @@ use Rattle.pm_fans.specs.Ends.{ends_key, key_at, IsNoted}
 use Rattle.pm_fans.specs.Cuts.{runs, is_cut}
 use Rattle.pm_fans.proofs.GlueLaws.{runs_between, key_is}
 
-count_none : (p : ℕ → Bool) (n : ℕ) → ((i : ℕ) → i < n → p i ≡ true → ⊥) → count p n ≡ 0
+pub count_none : (p : ℕ → Bool) (n : ℕ) → ((i : ℕ) → i < n → p i ≡ true → ⊥) → count p n ≡ 0
 count_none p zero h = count-zero p
 count_none p (suc n) h =
     let r = count_none p n (λ i l e. h i (omega arith) e) in

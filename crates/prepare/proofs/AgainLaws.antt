@@ -3,7 +3,8 @@ use Rattle.std.proofs.Common.{◌≡◌, ℕ, ◌<◌, List, length, Option, Non
 use Rattle.std.proofs.lemmas.List.{length-map}
 use Rattle.std.specs.List.{All}
 use Rattle.pm_base.specs.Place.{IsPlace}
-use Rattle.pm_base.specs.Meshes.{Mesh, IsWellFormed}
+use Rattle.pm_base.specs.declared.mesh.Corners.{Corners}
+use Rattle.pm_base.specs.Meshes.{Mesh, IsFace, IsWellFormed}
 use Rattle.pm_base.specs.Sides.{net_of}
 use Rattle.pm_base.specs.Fans.{IsUsed, IsOrientedManifold}
 use Rattle.pm_base.proofs.NetLaws.{mesh_side}
@@ -32,7 +33,8 @@ use Rattle.prepare.specs.Laws.{ComesBack, TextsComeBack, FitTextsStay}
 use Rattle.prepare.proofs.ScannedLaws.{meaning_sound}
 use Rattle.prepare.proofs.ReadLaws.{made_on_grid, mesh_is_read}
 use Rattle.prepare.proofs.StandingLaws.{standing_fit, standing_places}
-use Rattle.prepare.proofs.NothingLaws.{corners_of, nothing_done, nothing_told, nothing_said}
+use Rattle.prepare.proofs.RestoredLaws.{none_flat, none_double, none_unnamed, split_as_joined}
+use Rattle.prepare.proofs.NothingLaws.{nothing_done, nothing_told, nothing_said}
 
 -- The numbers of what was done to make a mesh.
 numbers : (m : Mesh) → IsPrepared m.points m.faces m → Notes
@@ -68,10 +70,14 @@ makes_itself m notes formed manifold placed used prepared =
       notes_are = ap (λ (f : Fit). notes_text 0 notes f m.faces) (sym fit);
     }
 
+corners_of : (n : ℕ) (faces : List Corners) → All (IsFace n) faces → All (AreCorners n) faces
+corners_of n faces all = λ i d l. let f = all i d l in record { a = f.a; b = f.b; c = f.c }
+
 one_mesh : (found : Result Mesh Refused) (m n : Mesh) → found ≡ Ok m → found ≡ Ok n → m ≡ n
 one_mesh found m n is are = cc
 
 made_comes_back : (size : Option ℕ) (bytes : List ℕ) (s : Scanned) (done : Done) → IsSize size → scan_meaning_of bytes ≡ Ok s → (k : Makes size s done) → meaning_of 0 done.text ≡ Ok k.mesh → ComesBack done.text k.mesh
+unfolding numbers
 made_comes_back size bytes s done is means k read =
     let m = k.mesh in
     let p = k.prepared.0 in
@@ -80,12 +86,17 @@ made_comes_back size bytes s done is means k read =
     let long : length s.points ≡ length places = sym (length-places_of size s.points s.faces) in
     let again = prepared_again places s.faces m (subst (λ n. All (AreCorners n) s.faces) long corners) p in
     let count : length m.points ≡ length p.old = ap length p.stand ∙ length-map p.old (place_at places) in
+    let used : (v : ℕ) → v < length m.points → IsUsed (net_of m.faces) v = λ v l. p.split.used v (omega (arith, count, l)) in
     let told = numbered m again in
     record {
       notes = numbers m again;
       told = told;
+      split = split_as_joined m used again (corners_of (length m.points) m.faces k.formed.corners);
+      flat = none_flat m used again;
+      double = none_double m used again;
+      unnamed = none_unnamed m used again;
       outcome = made (scanned_of m) (standing_done m (numbers m again)) (read_scanned done.text m read)
-          (makes_itself m (numbers m again) k.formed k.manifold (made_on_grid size s done is k) (λ v l. p.split.used v (omega (arith, count, l))) told);
+          (makes_itself m (numbers m again) k.formed k.manifold (made_on_grid size s done is k) used told);
     }
 
 outcome_comes_back : (size : Option ℕ) (bytes : List ℕ) (r : Result Done Fault) (place : Option ℕ) → IsSize size → IsPreparedText size bytes r place
@@ -102,8 +113,9 @@ texts_come_back size bytes done place m is outcome read = outcome_comes_back siz
 pub fit_texts_stay : FitTextsStay
 fit_texts_stay bytes m read manifold fit =
     let formed = meaning_formed 0 bytes m read in
-    let within : IsWithin (length m.points) m.faces = record { vertices_few = formed.points; faces_few = formed.faces; corners = corners_of (length m.points) m.faces formed.corners } in
+    let corners = corners_of (length m.points) m.faces formed.corners in
+    let within : IsWithin (length m.points) m.faces = record { vertices_few = formed.points; faces_few = formed.faces; corners = corners } in
     let p : IsPrepared m.points m.faces m = fit_meshes_stay m.points m.faces within (λ e l. (mesh_side m formed e l).0) manifold fit in
-    let itself = makes_itself m nothing_done formed manifold (meaning_placed 0 bytes m read) fit.used (p, nothing_told m formed manifold fit p) in
+    let itself = makes_itself m nothing_done formed manifold (meaning_placed 0 bytes m read) fit.used (p, nothing_told m corners manifold fit p) in
     subst (λ (notes : List ℕ). IsPreparedText None bytes (Ok (record { text = output_text fits.Standing m; notes = notes })) None) (nothing_said m.faces)
     (made (scanned_of m) (standing_done m nothing_done) (read_scanned bytes m read) itself)

@@ -8,5 +8,6 @@ pub mod GridLaws
 pub mod HeadLaws
 pub mod ReadLaws
 pub mod StandingLaws
+pub mod RestoredLaws
 pub mod NothingLaws
 pub mod AgainLaws

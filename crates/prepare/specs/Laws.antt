@@ -33,11 +33,15 @@ pub record IsFitText (text : List ℕ) : Type 0 where
 abbrev pub TextsAreRead : Type 0
 TextsAreRead = (size : Option ℕ) (bytes : List ℕ) (done : Done) (place : Option ℕ) → IsSize size → IsPreparedText size bytes (Ok done) place → IsFitText done.text
 
--- The text of a mesh, prepared without a size, comes back after another comment; and so many things were done to make the
--- mesh of itself. They may be some: vertices that were split stand at one place, so they are joined and split again.
+-- The text of a mesh, prepared without a size, comes back after a comment. Vertices that were split off stand at one place,
+-- so they are joined, and as many are split off again, maybe along sides that are cut open. Nothing else is done.
 pub record ComesBack (text : List ℕ) (m : Mesh) : Type 0 where
   pub notes : Notes
   pub told : IsPreparedWith m.points m.faces m notes
+  pub split : notes.split ≡ notes.joined
+  pub flat : notes.flat ≡ 0
+  pub double : notes.double ≡ 0
+  pub unnamed : notes.unnamed ≡ 0
   pub outcome : IsPreparedText None text (Ok (record { text = output_text fits.Standing m; notes = notes_text 0 notes fits.Standing m.faces })) None
 
 -- What is written comes back so, whatever the size was.
