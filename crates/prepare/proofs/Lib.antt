@@ -11,3 +11,4 @@ pub mod StandingLaws
 pub mod RestoredLaws
 pub mod NothingLaws
 pub mod AgainLaws
+pub mod FitLaws

@@ -5,6 +5,7 @@ use Rattle.pm_base.specs.Sides.{net_of}
 use Rattle.pm_base.specs.Fans.{IsOrientedManifold}
 use Rattle.pm_base.specs.Canonical.{canonical_text}
 use Rattle.obj_lines.specs.Text.{until}
+use Rattle.pm_io.specs.Bytes.{Gains}
 use Rattle.obj_read.specs.Meaning.{meaning_of}
 use Rattle.obj_prepare.specs.declared.notes.Notes.{Notes}
 use Rattle.obj_prepare.specs.declared.placing.Fit.TheVariants as fits
@@ -53,3 +54,10 @@ TextsComeBack = (size : Option ℕ) (bytes : List ℕ) (done : Done) (place : Op
 abbrev pub FitTextsStay : Type 0
 FitTextsStay = (bytes : List ℕ) (m : Mesh) → meaning_of 0 bytes ≡ Ok m → IsOrientedManifold (net_of m.faces) → AreFit m.points m.faces
     → IsPreparedText None bytes (Ok (record { text = output_text fits.Standing m; notes = last_note fits.Standing m.faces })) None
+
+-- A sink gained the text of an oriented manifold, which is read as that mesh and comes back.
+pub record GainsFitText (old new : Option (List ℕ)) : Type 0 where
+  pub text : List ℕ
+  pub gained : Gains old new text
+  pub fit : IsFitText text
+  pub comes_back : ComesBack text fit.mesh

@@ -8,6 +8,7 @@ ghost use Rattle.obj_prepare.specs.Placing.{IsSize};
 ghost use Rattle.prepare.specs.declared.words.Asked.{Asked};
 ghost use Rattle.prepare.specs.declared.fault.Fault.{Fault};
 ghost use Rattle.prepare.specs.Words.{asked_of};
+ghost use Rattle.prepare.specs.Laws.{GainsFitText};
 ghost use Rattle.prepare.specs.Making.{done_of};
 ghost use Rattle.prepare.specs.Ending.{Written, IsFaulty, Unreached, CutShort, FailsBy, Finished, Said, Stayed, fault_line};
 
@@ -81,6 +82,8 @@ pub fn run<S: Source, K: Sink, E: Sink>(
     ensures untouched { result ≡ 2 → Stayed (S.left input.old) (S.left input.new) (S.faults input.old) (S.faults input.new) × Stayed (K.got out.old) (K.got out.new) (K.faults out.old) (K.faults out.new) }
     // A mesh was made of the text, exactly its text was put, and what was done is said.
     ensures whole { (asked : Asked) → asked_of (map string_bytes words.now) ≡ Some asked → result ≡ 0 → IfSome (S.left input.old) (λ bytes. Finished asked.size bytes (K.got out.old) (K.got out.new) (E.got err.old) (E.got err.new) (E.faults err.old) (E.faults err.new)) }
+    // What was put is read as an oriented manifold, and prepared again it comes back.
+    ensures fit_text { result ≡ 0 → IfSome (S.left input.old) (λ bytes. GainsFitText (K.got out.old) (K.got out.new)) }
     ensures whole_counts { result ≡ 0 → (S.faults input.new ≡ S.faults input.old) × (K.faults out.new ≡ K.faults out.old) }
     ensures read_whole { result ≡ 0 → AtEnd (S.left input.new) }
     // The text has a fault, which is said, and nothing was put.

@@ -1,10 +1,17 @@
-use Rattle.std.proofs.Common.{sym, ◌∙◌}
+use Rattle.std.proofs.Common.{Option, IfSome, sym, ◌∙◌, subst}
+use Rattle.obj_prepare.specs.Placing.{IsSize}
+use Rattle.prepare.specs.declared.words.Asked.{Asked}
 use Rattle.prepare.proofs.EndingLaws.{one_asked, said_done, fault_of, counts_of, rose_of, read_of, cut_of, nothing_of, completes, line_of_read, line_of_write, line_of_memory, said_line}
+use Rattle.prepare.proofs.FitLaws.{gained_fits}
 use Rattle.prepare.proofs.run.run.Goals as goal
 
 pub returns-in-Ok-clause-whole : goal.returns-in-Ok-clause-whole
 returns-in-Ok-clause-whole g c = λ other asks is.
     said_done c.in-Some.asked other _ _ _ _ _ _ _ c.in-Ok.notes.items c.deref.result.now (one_asked _ _ other (sym c.read_words.ensures.asked ∙ c.in-Some.is) asks) c.in-Ok.ensures.written c.deref.ensures.value c.say-in-Ok.ensures
+
+pub returns-in-Ok-clause-fit_text : goal.returns-in-Ok-clause-fit_text
+returns-in-Ok-clause-fit_text g c = λ is.
+    gained_fits c.in-Some.asked.size _ c.in-Ok.notes.items _ _ (subst (λ (a : Option Asked). IfSome a (λ x. IsSize x.size)) c.in-Some.is c.read_words.ensures.size) c.in-Ok.ensures.written
 
 pub returns-in-Err-clause-faulty : goal.returns-in-Err-clause-faulty
 returns-in-Err-clause-faulty g c = λ other asks is.
