@@ -6,3 +6,4 @@ pub mod GrownLaws
 pub mod FacesUnder
 pub mod ListLaws
 pub mod Covering
+pub mod NodeTables

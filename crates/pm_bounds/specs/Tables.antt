@@ -1,12 +1,21 @@
 -- What the tables of bounds keep.
-use Rattle.std.specs.Prelude.{◌≡◌, ℕ, ◌<◌, ◌^◌, ◌||◌, ◌==◌, Bool, None, List, [], ◌∷◌, length, IfSome, slice_index_or}
+use Rattle.std.specs.Prelude.{◌≡◌, ℕ, ◌<◌, ◌≤◌, ◌^◌, ◌||◌, ◌==◌, Bool, None, List, [], ◌∷◌, length, map, IfSome, slice_index_or}
 use Rattle.pm_forest.specs.declared.parts.Face.{Face}
-use Rattle.pm_forest.specs.Forest.{Hierarchy}
+use Rattle.pm_forest.specs.Forest.{Hierarchy, node_count, splitter_of}
 use Rattle.pm_base.specs.Geometry.{dist2_of}
 use Rattle.pm_forest.specs.Places.{place_of_node}
 use Rattle.pm_forest.specs.Tables.{leaf_node_of}
+use Rattle.pm_bounds.specs.declared.node_bounds.NodeBounds.{NodeBounds}
 use Rattle.pm_bounds.specs.Boxes.{IsSmallBox}
-use Rattle.pm_bounds.specs.Bounds.{Bounds, greatest, leaf_place, over_children}
+use Rattle.pm_bounds.specs.Bounds.{Bounds, greatest, leaf_place, leaf_radius, over_children, box_under}
+
+-- The entries of all nodes as a list of each kind.
+abbrev pub lists_of : List NodeBounds → Bounds
+lists_of nodes = record {
+  errors = map (λ (n : NodeBounds). n.error) nodes;
+  radii = map (λ (n : NodeBounds). n.radius) nodes;
+  boxes = map (λ (n : NodeBounds). n.normals) nodes;
+}
 
 -- One of each kind for each node, and none is large.
 pub record IsBounds (b : Bounds) : Type 0 where
@@ -15,6 +24,21 @@ pub record IsBounds (b : Bounds) : Type 0 where
   pub small_errors : (v : ℕ) → v < length b.errors → slice_index_or b.errors v 0 < 2 ^ 38
   pub small_radii : (v : ℕ) → v < length b.errors → slice_index_or b.radii v 0 < 2 ^ 38
   pub small_boxes : (v : ℕ) → v < length b.errors → IfSome (slice_index_or b.boxes v None) IsSmallBox
+
+-- The entry of a node of which nothing is known yet.
+abbrev pub bare : NodeBounds
+bare = record { error = 0; radius = 0; normals = None }
+
+-- No radius is above a number, and no box is large.
+pub record AreWithin (most : ℕ) (b : Bounds) : Type 0 where
+  pub radii : (v : ℕ) → v < length b.radii → slice_index_or b.radii v 0 ≤ most
+  pub boxes : (v : ℕ) → v < length b.boxes → IfSome (slice_index_or b.boxes v None) IsSmallBox
+
+-- No error yet, and of the nodes that no record splits the radii and boxes.
+pub record AreOfLeaves (h : Hierarchy) (b : Bounds) : Type 0 where
+  pub errors : (v : ℕ) → v < node_count h → slice_index_or b.errors v 0 ≡ 0
+  pub radii : (v : ℕ) → v < node_count h → splitter_of h v ≡ None → slice_index_or b.radii v 0 ≡ leaf_radius h v
+  pub boxes : (v : ℕ) → v < node_count h → splitter_of h v ≡ None → slice_index_or b.boxes v None ≡ box_under h v
 
 -- Node v is the node of a leaf at a corner of the face.
 abbrev pub is_corner_node : Hierarchy → ℕ → Face → Bool

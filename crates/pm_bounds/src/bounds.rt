@@ -2,8 +2,9 @@ ghost use Rattle.std.specs.Prelude.{◌≡◌, ◌<◌, ◌^◌, None, length, I
 ghost use Rattle.pm_bounds.specs.Boxes.{zero_box, IsSmallBox};
 ghost use Rattle.pm_bounds.specs.Bounds.{AreBoundsOf};
 
-use crate::growing::{grow, join_boxes};
-use crate::leaves::{leaf_boxes, leaf_radii, zeros};
+use crate::growing::grow;
+use crate::leaves::leaf_bounds;
+use crate::node_bounds::{NodeBounds, entry_of};
 use crate::normal_box::or_zero;
 use crate::{NormalBox, OutOfMemory};
 use pm_base::NodeId;
@@ -15,20 +16,18 @@ use std::marker::Model;
 /// of each kind, by node.
 #[derive(Drop)]
 pub struct Bounds {
-    errors: Vec<u64>,
-    radii: Vec<u64>,
-    boxes: Vec<Option<NormalBox>>,
+    nodes: Vec<NodeBounds>,
 }
 
 impl Model for Bounds {
     ghost use Rattle.pm_bounds.specs.Bounds.{Bounds};
-    ghost use Rattle.pm_bounds.specs.Tables.{IsBounds};
+    ghost use Rattle.pm_bounds.specs.Tables.{lists_of, IsBounds};
 
     ghost Value = { Bounds };
 
-    ghost view = { λ b. record { errors = b.errors.items; radii = b.radii.items; boxes = b.boxes.items } };
+    ghost view = { λ b. lists_of b.nodes.items };
 
-    ghost invariant = { λ b. IsBounds (record { errors = b.errors.items; radii = b.radii.items; boxes = b.boxes.items }) };
+    ghost invariant = { λ b. IsBounds (lists_of b.nodes.items) };
 }
 
 impl Bounds {
@@ -36,17 +35,9 @@ impl Bounds {
     pub fn of(alloc: Global, h: &Hierarchy) -> Result<Bounds, OutOfMemory>
         ensures { IfOk result (λ bounds. AreBoundsOf h.now bounds) }
     {
-        let mut errors = zeros(alloc, h.nodes() as usize)?;
-        grow(h, &mut errors);
-        let mut radii = leaf_radii(alloc, h)?;
-        grow(h, &mut radii);
-        let mut boxes = leaf_boxes(alloc, h)?;
-        join_boxes(h, &mut boxes);
-        Ok(Bounds {
-            errors,
-            radii,
-            boxes,
-        })
+        let mut nodes = leaf_bounds(alloc, h)?;
+        grow(h, &mut nodes);
+        Ok(Bounds { nodes })
     }
 
     /// The node's error: no leaf under the node is farther from its place.
@@ -55,7 +46,7 @@ impl Bounds {
         ensures value { result ≡ slice_index_or self.now.errors node.0 0 }
         ensures small { result < 2 ^ 38 }
     {
-        self.errors[node.0 as usize]
+        entry_of(&self.nodes, node).error
     }
 
     /// The node's radius: no corner of a face of the input that has a corner under the node is farther from its place.
@@ -64,7 +55,7 @@ impl Bounds {
         ensures value { result ≡ slice_index_or self.now.radii node.0 0 }
         ensures small { result < 2 ^ 38 }
     {
-        self.radii[node.0 as usize]
+        entry_of(&self.nodes, node).radius
     }
 
     /// The node's box of normals: those of all faces of the input that have a corner under the node. It is 0 to 0 on each
@@ -74,6 +65,6 @@ impl Bounds {
         ensures value { result ≡ unwrap_or (slice_index_or self.now.boxes node.0 None) zero_box }
         ensures small { IsSmallBox result }
     {
-        or_zero(self.boxes[node.0 as usize])
+        or_zero(entry_of(&self.nodes, node).normals)
     }
 }

@@ -1,14 +1,15 @@
 // The bounds of leaves, which the faces at them give.
-ghost use Rattle.std.specs.Prelude.{◌≡◌, ℕ, ◌+◌, ◌*◌, ◌<◌, ◌≤◌, ◌||◌, ◌==◌, max, cond, [], ◌∷◌, None, Some, replicate, length, map, IfOk, IfSome, slice_index_or, slice_set};
+ghost use Rattle.std.specs.Prelude.{◌≡◌, ℕ, ◌<◌, ◌≤◌, max, cond, [], ◌∷◌, None, Some, replicate, length, map, IfOk, slice_index_or, slice_set};
 ghost use Rattle.pm_base.specs.Geometry.{IsNormal, dist2_of, cross_of};
 ghost use Rattle.pm_base.specs.Rounded.{root_up};
-ghost use Rattle.pm_forest.specs.Forest.{node_count, splitter_of};
+ghost use Rattle.pm_forest.specs.Forest.{node_count};
 ghost use Rattle.pm_forest.specs.Faces.{face_count, corners_of};
 ghost use Rattle.pm_forest.specs.Tables.{leaf_node_of};
 ghost use Rattle.pm_bounds.specs.Boxes.{join, box_at, IsSmallBox};
-ghost use Rattle.pm_bounds.specs.Bounds.{greatest, normal_of, leaf_radius, box_under};
-ghost use Rattle.pm_bounds.specs.Tables.{is_corner_node, square_reach};
+ghost use Rattle.pm_bounds.specs.Bounds.{greatest, normal_of};
+ghost use Rattle.pm_bounds.specs.Tables.{bare, lists_of, AreWithin, AreOfLeaves, is_corner_node, square_reach};
 
+use crate::node_bounds::NodeBounds;
 use crate::normal_box::join;
 use crate::roots::root_up;
 use crate::{NormalBox, OutOfMemory};
@@ -16,17 +17,16 @@ use pm_base::{FaceId, NodeId, Point, cross, dist2};
 use pm_forest::Hierarchy;
 use std::alloc::Global;
 
-// As many zeros as there are nodes. The length is a parameter, so that no proof unfolds the list.
-pub(crate) fn zeros(alloc: Global, nodes: usize) -> Result<Vec<u64>, OutOfMemory>
-    ensures { IfOk result (λ v. v.items ≡ replicate nodes 0) }
+// As many entries without bounds as there are nodes. The length is a parameter, so that no proof unfolds the list.
+fn bare_nodes(alloc: Global, nodes: usize) -> Result<Vec<NodeBounds>, OutOfMemory>
+    ensures { IfOk result (λ v. v.items ≡ replicate nodes bare) }
 {
-    vec![in alloc; 0; nodes]
-}
-
-fn no_boxes(alloc: Global, nodes: usize) -> Result<Vec<Option<NormalBox>>, OutOfMemory>
-    ensures { IfOk result (λ v. v.items ≡ replicate nodes None) }
-{
-    vec![in alloc; None; nodes]
+    let bare = NodeBounds {
+        error: 0,
+        radius: 0,
+        normals: None,
+    };
+    vec![in alloc; bare; nodes]
 }
 
 // The nodes of the leaves at a face's corners.
@@ -71,104 +71,85 @@ fn face_box(a: Point, b: Point, c: Point) -> NormalBox
     }
 }
 
-// Lets the square of a node reach as far as another.
-fn widen_square(squares: &mut Vec<u64>, node: NodeId, square: u64)
-    requires node { node.0 < length squares.old.items }
+// Lets the square of a node reach as far as another, and takes the normal of a face into its box.
+fn widen(nodes: &mut Vec<NodeBounds>, node: NodeId, square: u64, face: NormalBox)
+    requires node { node.0 < length nodes.old.items }
     requires square { square ≤ 12884115468 }
-    requires small { (v : ℕ) → v < length squares.old.items → slice_index_or squares.old.items v 0 ≤ 12884115468 }
-    ensures value { squares.new.items ≡ slice_set squares.old.items node.0 (max (slice_index_or squares.old.items node.0 0) square) }
-    ensures len { length squares.new.items ≡ length squares.old.items }
-    ensures small { (v : ℕ) → v < length squares.new.items → slice_index_or squares.new.items v 0 ≤ 12884115468 }
-{
-    let at = node.0 as usize;
-    squares[at] = squares[at].max(square);
-}
-
-// Takes the normal of a face into the box of a node.
-fn widen_box(boxes: &mut Vec<Option<NormalBox>>, node: NodeId, face: NormalBox)
-    requires node { node.0 < length boxes.old.items }
-    requires small { (v : ℕ) → v < length boxes.old.items → IfSome (slice_index_or boxes.old.items v None) IsSmallBox }
     requires face { IsSmallBox face }
-    ensures value { boxes.new.items ≡ slice_set boxes.old.items node.0 (join (slice_index_or boxes.old.items node.0 None) (Some face)) }
-    ensures len { length boxes.new.items ≡ length boxes.old.items }
-    ensures small { (v : ℕ) → v < length boxes.new.items → IfSome (slice_index_or boxes.new.items v None) IsSmallBox }
+    requires small { AreWithin 12884115468 (lists_of nodes.old.items) }
+    ensures len { length nodes.new.items ≡ length nodes.old.items }
+    ensures errors { (lists_of nodes.new.items).errors ≡ (lists_of nodes.old.items).errors }
+    ensures radii { let old = (lists_of nodes.old.items).radii in
+        (lists_of nodes.new.items).radii ≡ slice_set old node.0 (max (slice_index_or old node.0 0) square) }
+    ensures boxes { let old = (lists_of nodes.old.items).boxes in
+        (lists_of nodes.new.items).boxes ≡ slice_set old node.0 (join (slice_index_or old node.0 None) (Some face)) }
+    ensures small { AreWithin 12884115468 (lists_of nodes.new.items) }
 {
-    let at = node.0 as usize;
-    boxes[at] = join(boxes[at], Some(face));
+    let entry = &mut nodes[node.0 as usize];
+    entry.radius = entry.radius.max(square);
+    entry.normals = join(entry.normals, Some(face));
 }
 
-// Lets the squares of the leaves at a face's corners reach it.
-fn widen_squares(h: &Hierarchy, squares: &mut Vec<u64>, f: FaceId)
+// Lets the squares of the leaves at a face's corners reach it, and takes its normal into their boxes.
+fn widen_corners(h: &Hierarchy, nodes: &mut Vec<NodeBounds>, f: FaceId)
     requires face { f.0 < face_count h.now }
-    requires len { length squares.old.items ≡ node_count h.now }
-    requires small { (v : ℕ) → v < node_count h.now → slice_index_or squares.old.items v 0 ≤ 12884115468 }
-    ensures len { length squares.new.items ≡ node_count h.now }
-    ensures small { (v : ℕ) → v < node_count h.now → slice_index_or squares.new.items v 0 ≤ 12884115468 }
-    ensures each { (v : ℕ) → v < node_count h.now → let old = slice_index_or squares.old.items v 0 in
-        slice_index_or squares.new.items v 0 ≡ cond (is_corner_node h.now v (corners_of h.now f.0)) (max old (square_reach h.now v (corners_of h.now f.0))) old }
+    requires len { length nodes.old.items ≡ node_count h.now }
+    requires small { AreWithin 12884115468 (lists_of nodes.old.items) }
+    ensures len { length nodes.new.items ≡ node_count h.now }
+    ensures errors { (lists_of nodes.new.items).errors ≡ (lists_of nodes.old.items).errors }
+    ensures radii { (v : ℕ) → v < node_count h.now → let old = slice_index_or (lists_of nodes.old.items).radii v 0 in
+        slice_index_or (lists_of nodes.new.items).radii v 0 ≡ cond (is_corner_node h.now v (corners_of h.now f.0)) (max old (square_reach h.now v (corners_of h.now f.0))) old }
+    ensures boxes { (v : ℕ) → v < node_count h.now → let old = slice_index_or (lists_of nodes.old.items).boxes v None in
+        slice_index_or (lists_of nodes.new.items).boxes v None ≡ cond (is_corner_node h.now v (corners_of h.now f.0)) (join old (Some (box_at (normal_of h.now (corners_of h.now f.0))))) old }
+    ensures small { AreWithin 12884115468 (lists_of nodes.new.items) }
 {
     let (a, b, c) = corner_nodes(h, f);
     let (first, second, third) = (h.place(a), h.place(b), h.place(c));
-    widen_square(squares, a, square_reach(first, first, second, third));
-    widen_square(squares, b, square_reach(second, first, second, third));
-    widen_square(squares, c, square_reach(third, first, second, third));
+    let face = face_box(first, second, third);
+    widen(nodes, a, square_reach(first, first, second, third), face);
+    widen(nodes, b, square_reach(second, first, second, third), face);
+    widen(nodes, c, square_reach(third, first, second, third), face);
 }
 
-// Puts the root of each number, rounded up, in its place.
-fn take_roots(numbers: &mut Vec<u64>)
-    requires { (v : ℕ) → v < length numbers.old.items → slice_index_or numbers.old.items v 0 ≤ 12884115468 }
-    ensures len { length numbers.new.items ≡ length numbers.old.items }
-    ensures each { (v : ℕ) → v < length numbers.old.items → slice_index_or numbers.new.items v 0 ≡ root_up (slice_index_or numbers.old.items v 0) }
-    ensures small { (v : ℕ) → v < length numbers.old.items → slice_index_or numbers.new.items v 0 ≤ 113509 }
+// Puts the root of a node's square, rounded up, in its place.
+fn take_root(nodes: &mut Vec<NodeBounds>, at: usize)
+    requires at { at < length nodes.old.items }
+    requires small { AreWithin 12884115468 (lists_of nodes.old.items) }
+    ensures len { length nodes.new.items ≡ length nodes.old.items }
+    ensures errors { (lists_of nodes.new.items).errors ≡ (lists_of nodes.old.items).errors }
+    ensures radii { let old = (lists_of nodes.old.items).radii in (lists_of nodes.new.items).radii ≡ slice_set old at (root_up (slice_index_or old at 0)) }
+    ensures boxes { (lists_of nodes.new.items).boxes ≡ (lists_of nodes.old.items).boxes }
+    ensures small { AreWithin 12884115468 (lists_of nodes.new.items) }
 {
-    for at in 0..numbers.len() {
-        numbers[at] = root_up(numbers[at]);
+    nodes[at].radius = root_up(nodes[at].radius);
+}
+
+// The same for each node.
+fn take_roots(nodes: &mut Vec<NodeBounds>)
+    requires { AreWithin 12884115468 (lists_of nodes.old.items) }
+    ensures len { length nodes.new.items ≡ length nodes.old.items }
+    ensures errors { (lists_of nodes.new.items).errors ≡ (lists_of nodes.old.items).errors }
+    ensures radii { (lists_of nodes.new.items).radii ≡ map root_up (lists_of nodes.old.items).radii }
+    ensures boxes { (lists_of nodes.new.items).boxes ≡ (lists_of nodes.old.items).boxes }
+    ensures small { AreWithin 113509 (lists_of nodes.new.items) }
+{
+    for at in 0..nodes.len() {
+        take_root(nodes, at);
     }
 }
 
-// Takes the normal of a face into the boxes of the leaves at its corners.
-fn widen_boxes(h: &Hierarchy, boxes: &mut Vec<Option<NormalBox>>, f: FaceId)
-    requires face { f.0 < face_count h.now }
-    requires len { length boxes.old.items ≡ node_count h.now }
-    requires small { (v : ℕ) → v < length boxes.old.items → IfSome (slice_index_or boxes.old.items v None) IsSmallBox }
-    ensures len { length boxes.new.items ≡ node_count h.now }
-    ensures small { (v : ℕ) → v < length boxes.new.items → IfSome (slice_index_or boxes.new.items v None) IsSmallBox }
-    ensures each { (v : ℕ) → v < node_count h.now → let old = slice_index_or boxes.old.items v None in
-        slice_index_or boxes.new.items v None ≡ cond (is_corner_node h.now v (corners_of h.now f.0)) (join old (Some (box_at (normal_of h.now (corners_of h.now f.0))))) old }
+/// The bounds of each node that no record splits, by node; for the others only room, with no error.
+pub fn leaf_bounds(alloc: Global, h: &Hierarchy) -> Result<Vec<NodeBounds>, OutOfMemory>
+    ensures len { IfOk result (λ nodes. length nodes.items ≡ node_count h.now) }
+    ensures are { IfOk result (λ nodes. AreOfLeaves h.now (lists_of nodes.items)) }
+    ensures small { IfOk result (λ nodes. AreWithin 113509 (lists_of nodes.items)) }
 {
-    let (a, b, c) = corner_nodes(h, f);
-    let face = face_box(h.place(a), h.place(b), h.place(c));
-    widen_box(boxes, a, face);
-    widen_box(boxes, b, face);
-    widen_box(boxes, c, face);
-}
-
-/// The radius of each node that no record splits, by node.
-pub fn leaf_radii(alloc: Global, h: &Hierarchy) -> Result<Vec<u64>, OutOfMemory>
-    ensures len { IfOk result (λ radii. length radii.items ≡ node_count h.now) }
-    ensures each { IfOk result (λ radii. (v : ℕ) → v < node_count h.now → splitter_of h.now v ≡ None → slice_index_or radii.items v 0 ≡ leaf_radius h.now v) }
-    ensures small { IfOk result (λ radii. (v : ℕ) → v < node_count h.now → slice_index_or radii.items v 0 ≤ 113509) }
-{
-    // The root of the greatest square is the greatest of the roots.
-    let mut squares = zeros(alloc, h.nodes() as usize)?;
+    // The root of the greatest square is the greatest of the roots, so the radii are squares until all faces are seen.
+    let mut nodes = bare_nodes(alloc, h.nodes() as usize)?;
     h.has_shape();
     for f in 0..h.faces() {
-        widen_squares(h, &mut squares, FaceId(f));
+        widen_corners(h, &mut nodes, FaceId(f));
     }
-    take_roots(&mut squares);
-    Ok(squares)
-}
-
-/// The normal box of each node that no record splits, by node.
-pub fn leaf_boxes(alloc: Global, h: &Hierarchy) -> Result<Vec<Option<NormalBox>>, OutOfMemory>
-    ensures len { IfOk result (λ boxes. length boxes.items ≡ node_count h.now) }
-    ensures each { IfOk result (λ boxes. (v : ℕ) → v < node_count h.now → splitter_of h.now v ≡ None → slice_index_or boxes.items v None ≡ box_under h.now v) }
-    ensures small { IfOk result (λ boxes. (v : ℕ) → v < length boxes.items → IfSome (slice_index_or boxes.items v None) IsSmallBox) }
-{
-    let mut boxes = no_boxes(alloc, h.nodes() as usize)?;
-    h.has_shape();
-    for f in 0..h.faces() {
-        widen_boxes(h, &mut boxes, FaceId(f));
-    }
-    Ok(boxes)
+    take_roots(&mut nodes);
+    Ok(nodes)
 }

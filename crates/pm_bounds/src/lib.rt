@@ -4,6 +4,7 @@
 mod bounds;
 mod growing;
 mod leaves;
+mod node_bounds;
 mod normal_box;
 mod roots;
 #[cfg(test)]

@@ -1,5 +1,5 @@
-use Rattle.pm_bounds.proofs.GrownLaws.{IsGrown}
+use Rattle.pm_bounds.proofs.NodeTables.{AreGrown}
 use Rattle.pm_bounds.proofs.growing.grow.Given as goal
 
 abbrev pub invariant-loop-k : goal.invariant-loop-k
-invariant-loop-k l = IsGrown l.h l.fn.numbers.items l.numbers.items l.k
+invariant-loop-k l = AreGrown l.h l.fn.nodes.items l.nodes.items l.k

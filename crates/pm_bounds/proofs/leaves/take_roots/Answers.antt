@@ -1,25 +1,41 @@
-use Rattle.std.proofs.Common.{◌≡◌, ◌≤◌, ◌<◌, ◌∙◌, ℕ, List, length, slice_index_or, slice_set, inl, inr, sym, ap, arith}
-use Rattle.std.proofs.lemmas.Bool.{cases_eq}
-use Rattle.std.proofs.lemmas.List.{get_or-set_same, get_or-set_other, get_or_default, length-set}
+use Rattle.std.proofs.Common.{◌≡◌, ℕ, ◌<◌, List, length, get_or, ◌∙◌, arith}
+use Rattle.std.proofs.lemmas.List.{get_or_default, length-map}
+use Rattle.std.proofs.lemmas.List.Edits.{map_over_more}
 use Rattle.pm_base.specs.Rounded.{root_up}
-use Rattle.pm_base.proofs.Root.{root_up_only}
+use Rattle.pm_bounds.specs.declared.node_bounds.NodeBounds.{NodeBounds}
+use Rattle.pm_bounds.specs.Tables.{lists_of}
+use Rattle.pm_bounds.proofs.NodeTables.{rooted_all, within_roots}
 use Rattle.pm_bounds.proofs.leaves.take_roots.Goals as goal
 
 pub loop-at-preserved : goal.loop-at-preserved
 loop-at-preserved c =
-    let xs : List ℕ = c.loop-at.numbers.items in
-    let low : c.loop-at.at < length xs = omega (arith, c.loop-at-test.true, c.len-at-end.ensures, c.loop-at.invariant.len) in
-    let is : c.index.result.now ≡ slice_index_or xs c.loop-at.at 0 = c.index.ensures ∙ get_or_default xs c.loop-at.at c.index.result.now 0 low in
-    let root : c.root_up.result ≡ root_up (slice_index_or xs c.loop-at.at 0) = root_up_only (slice_index_or xs c.loop-at.at 0) c.root_up.result (omega (arith, is, c.root_up.ensures.enough)) (λ m h. c.root_up.ensures.least m (omega (arith, is, h))) in
+    let was = c.loop-at.invariant in
+    let at = c.loop-at.at in
+    let first : List ℕ = (lists_of c.args.nodes.now.items).radii in
+    let old : List ℕ = (lists_of c.loop-at.nodes.items).radii in
+    let radius = λ (n : NodeBounds). n.radius in
+    let root = get_or old at 0 in
+    let low : at < length c.loop-at.nodes.items = omega (arith, c.loop-at-test.true, c.len-at-end.ensures, was.len) in
+    let in_first : at < length first = omega (arith, was.len, length-map c.args.nodes.now.items radius) in
+    let in_old : at < length old = omega (arith, length-map c.loop-at.nodes.items radius) in
     record {
-      len = length-set xs c.loop-at.at c.root_up.result ∙ c.loop-at.invariant.len;
-      done = λ v l. elim (cases_eq v c.loop-at.at) [
-        | inl is ↦ ap (λ k. slice_index_or (slice_set xs c.loop-at.at c.root_up.result) k 0) is ∙ get_or-set_same xs c.loop-at.at c.root_up.result 0 low ∙ root ∙ ap root_up (ap (λ k. slice_index_or xs k 0) (sym is) ∙ c.loop-at.invariant.left v (omega arith))
-        | inr ne ↦ get_or-set_other xs c.loop-at.at v c.root_up.result 0 ne ∙ c.loop-at.invariant.done v (omega arith)
-      ];
-      small = λ v l. elim (cases_eq v c.loop-at.at) [
-        | inl is ↦ omega (arith, ap (λ k. slice_index_or (slice_set xs c.loop-at.at c.root_up.result) k 0) is, get_or-set_same xs c.loop-at.at c.root_up.result 0 low, c.root_up.ensures.small)
-        | inr ne ↦ omega (arith, get_or-set_other xs c.loop-at.at v c.root_up.result 0 ne, c.loop-at.invariant.small v (omega arith))
-      ];
-      left = λ v l. get_or-set_other xs c.loop-at.at v c.root_up.result 0 (λ is. omega arith) ∙ c.loop-at.invariant.left v (omega arith);
+      len = c.take_root.ensures.len ∙ was.len;
+      errors = c.take_root.ensures.errors ∙ was.errors;
+      radii = c.take_root.ensures.radii ∙ map_over_more root_up first old at root in_first was.radii (get_or_default old at 0 root in_old);
+      boxes = c.take_root.ensures.boxes ∙ was.boxes;
+      small = c.take_root.ensures.small;
+    }
+
+pub returns : goal.returns
+returns c =
+    let was = c.loop-at.invariant in
+    let first : List ℕ = (lists_of c.args.nodes.now.items).radii in
+    let all : length first ≡ c.loop-at.at = omega (arith, c.loop-at-test.false, c.loop-at.auto.at-end, c.len-at-end.ensures, length-map c.args.nodes.now.items (λ (n : NodeBounds). n.radius)) in
+    let radii = was.radii ∙ rooted_all first c.loop-at.at all in
+    record {
+      len = was.len;
+      errors = was.errors;
+      radii = radii;
+      boxes = was.boxes;
+      small = within_roots (lists_of c.args.nodes.now.items) (lists_of c.loop-at.nodes.items) c.requires radii was.boxes;
     }
