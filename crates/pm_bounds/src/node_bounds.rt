@@ -5,8 +5,8 @@ ghost use Rattle.pm_bounds.specs.Tables.{lists_of};
 use crate::NormalBox;
 use pm_base::NodeId;
 
-/// The bounds of one node. They stand side by side, since a view asks for all three: 72 bytes are in one or two lines of
-/// the cache.
+/// The bounds of one node, 72 bytes. They stand side by side, since a view asks for all three: so they are in two lines of
+/// the cache, and not in one line of each of three tables.
 #[derive(Clone, Copy)]
 pub(crate) struct NodeBounds {
     pub error: u64,
