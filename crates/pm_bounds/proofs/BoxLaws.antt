@@ -1,7 +1,6 @@
 -- Boxes joined in any order, and any number of times, are one box.
 use Rattle.std.proofs.Common.{◌≡◌, ℕ, ◌≤◌, Bool, ◌||◌, List, [], ◌∷◌, ◌++◌, map, Option, None, Some, IfSome, inl, inr, refl, sym, ap, ◌∙◌, arith}
 use Rattle.std.specs.Prelude.{ℤ, unsigned_abs}
-use Rattle.std.specs.Option.{unwrap_or}
 use Rattle.std.specs.Int.{int_min, int_max}
 use Rattle.std.specs.List.{filter}
 use Rattle.std.proofs.lemmas.Int.{clamps}
@@ -9,7 +8,7 @@ use Rattle.std.proofs.lemmas.Bool.{cases_Bool}
 use borrow.Author.Differences.{ints}
 use Rattle.pm_base.specs.Geometry.{Direction}
 use Rattle.pm_bounds.specs.declared.normal_box.NormalBox.{NormalBox}
-use Rattle.pm_bounds.specs.Boxes.{box_at, joined, join, box_of, zero_box, IsSmallBox}
+use Rattle.pm_bounds.specs.Boxes.{box_at, joined, join, box_of, IsSmallBox}
 
 -- one number
 
@@ -90,10 +89,6 @@ pub join-small : (a b : Option NormalBox) → IfSome a IsSmallBox → IfSome b I
 join-small None b p q = q
 join-small (Some a) None p q = p
 join-small (Some a) (Some b) p q = joined-small a b p q
-
-pub or_zero-small : (a : Option NormalBox) → IfSome a IsSmallBox → IsSmallBox (unwrap_or a zero_box)
-or_zero-small None p = ((omega arith, omega arith, omega arith), (omega arith, omega arith, omega arith))
-or_zero-small (Some a) p = p
 
 -- Lists
 

@@ -1,8 +1,8 @@
 -- Nodes of a hierarchy of the right shape: their numbers, the leaves and faces under them.
-use Rattle.std.proofs.Common.{◌≡◌, ◌≢◌, ℕ, ◌<◌, ◌≤◌, eqb, Bool, true, false, ◌||◌, None, inl, inr, refl, sym, ◌∙◌, subst, arith}
+use Rattle.std.proofs.Common.{◌≡◌, ℕ, ◌<◌, ◌≤◌, eqb, Bool, true, false, ◌||◌, None, inl, inr, refl, sym, ◌∙◌, subst, arith}
 use Rattle.std.proofs.lemmas.Bool.{cases_Bool, cases_eq, eq-eqb, ne_eqb, false_from_ne_true, both_ways}
 use Rattle.pm_forest.specs.declared.parts.Face.{Face}
-use Rattle.pm_forest.specs.Forest.{Hierarchy, record_count, node_count, leaf_count, s_of, t_of, u_of, holds, Holds, Makes, splitter_of}
+use Rattle.pm_forest.specs.Forest.{Hierarchy, record_count, node_count, leaf_count, s_of, t_of, u_of, holds, Holds, splitter_of}
 use Rattle.pm_forest.specs.Fronts.{every}
 use Rattle.pm_forest.specs.Rules.{HasShape}
 use Rattle.pm_forest.specs.Tables.{leaf_node_of}
@@ -69,9 +69,3 @@ module _ (h : Hierarchy) (shape : HasShape h) where
   children_faces k f l =
       rw (children_hold k f.a l, children_hold k f.b l, children_hold k f.c l)
       (mixed (holds h (t_of h k) f.a) (holds h (u_of h k) f.a) (holds h (t_of h k) f.b) (holds h (u_of h k) f.b) (holds h (t_of h k) f.c) (holds h (u_of h k) f.c))
-
-  -- a node's splitter is a record that splits it, and none of the lower ones does
-  pub not_split_below : (k j v : ℕ) → k ≤ j → j < record_count h → Makes h j v → (i : ℕ) → i ≤ k → s_of h i ≢ v
-  not_split_below k j v le l makes i below is =
-      let older = (shape_of_nodes h shape).older i (omega arith) in
-      elim makes [ inl e ↦ omega arith | inr e ↦ omega arith ]
