@@ -163,6 +163,19 @@ pub plain : (b : Bounded) (v : View) → v.sil ≡ v.tol → is_large b v ≡ lo
 unfolding is_large
 plain b v same = ap (λ (s : ℕ). looks_large b v v.tol || (may_turn_away b v.eye && looks_large b v s)) same ∙ absorbed (looks_large b v v.tol) (may_turn_away b v.eye)
 
+-- size first, and of each tolerance what is left to ask
+pub asked_in_turn : (o f t w s : Bool) → ((t || s) && not o && (f && (t || w))) ≡ (not o && f && (t || (w && s)))
+asked_in_turn true f true w s = refl
+asked_in_turn true f false w true = refl
+asked_in_turn true f false w false = refl
+asked_in_turn false f true w s = refl
+asked_in_turn false true false true true = refl
+asked_in_turn false true false true false = refl
+asked_in_turn false true false false true = refl
+asked_in_turn false true false false false = refl
+asked_in_turn false false false w true = refl
+asked_in_turn false false false w false = refl
+
 -- all three
 pub wanted_passes : (child parent : Bounded) (v : View) → IsChild child parent → passes child v ≡ true → passes parent v ≡ true
 wanted_passes s b v h e =

@@ -1,10 +1,10 @@
-ghost use Rattle.std.specs.Prelude.{◌≡◌, ◌≤◌, ◌^◌, ℕ, nat_le, true, false, pos, int_le, unsigned_abs, IfSome, OnSome, IfNone};
+ghost use Rattle.std.specs.Prelude.{◌≡◌, ◌≤◌, ◌^◌, ◌&&◌, ◌||◌, ℕ, nat_le, true, false, pos, int_le, unsigned_abs, IfSome, OnSome, IfNone};
 ghost use Rattle.std.specs.List.{list_all};
 ghost use Rattle.pm_base.specs.Geometry.{dist2_of};
 ghost use Rattle.pm_bounds.specs.Boxes.{IsSmallBox};
 ghost use Rattle.pm_bounds.specs.declared.normal_box.NormalBox.{NormalBox};
 ghost use Rattle.pm_view.specs.Views.{is_eye, is_plane, are_tolerances, is_view};
-ghost use Rattle.pm_view.specs.Wanted.{Bounded, is_outside_any, least_facing, greatest_facing, may_turn_away, looks_large, is_large};
+ghost use Rattle.pm_view.specs.Wanted.{Bounded, is_outside_any, least_facing, greatest_facing, may_turn_away, looks_large};
 
 use crate::Plane;
 use crate::facing::{add_three, greatest_on_axis, least_on_axis};
@@ -160,7 +160,7 @@ impl View {
     }
 
     // Whether a face in the ball, with its normal in the box, may be turned to the eye.
-    pub(crate) fn may_face(&self, place: Point, radius: u64, normals: NormalBox) -> bool
+    fn may_face(&self, place: Point, radius: u64, normals: NormalBox) -> bool
         requires radius_small { radius ≤ 2 ^ 38 }
         requires box_small { IsSmallBox normals }
         ensures { (error : ℕ) → result ≡ int_le (least_facing (record { place = place; error = error; radius = radius; box = normals }) self.now.eye) (pos 0) }
@@ -190,6 +190,24 @@ impl View {
         self.greatest_facing(place, radius, normals) >= 0
     }
 
+    // Whether a face in the ball, with its normal in the box, may be turned to the eye; and, unless the node is large
+    // without an outline too, whether one may be turned away.
+    pub(crate) fn may_show(
+        &self,
+        place: Point,
+        radius: u64,
+        normals: NormalBox,
+        is_large: bool,
+    ) -> bool
+        requires radius_small { radius ≤ 2 ^ 38 }
+        requires box_small { IsSmallBox normals }
+        ensures { (error : ℕ) → let b : Bounded = record { place = place; error = error; radius = radius; box = normals } in
+            result ≡ (int_le (least_facing b self.now.eye) (pos 0) && (is_large || may_turn_away b self.now.eye)) }
+    {
+        self.may_face(place, radius, normals)
+            && (is_large || self.may_turn_away(place, radius, normals))
+    }
+
     // The squared distance of a place from the eye.
     fn squared_distance(&self, place: Point) -> u64
         ensures value { result ≡ dist2_of place self.now.eye }
@@ -202,7 +220,7 @@ impl View {
 
     // Whether the error of a node looks larger than a tolerance.
     #[tactic(auto, unfolding(crate::specs::Wanted::looks_large))]
-    fn looks_large(&self, tol: u32, place: Point, error: u64, radius: u64) -> bool
+    fn looks_larger_than(&self, tol: u32, place: Point, error: u64, radius: u64) -> bool
         requires tol_small { tol ≤ 65535 }
         requires error_small { error ≤ 2 ^ 38 }
         requires radius_small { radius ≤ 2 ^ 38 }
@@ -211,17 +229,21 @@ impl View {
         is_large(error, radius, self.focal, tol, self.squared_distance(place))
     }
 
-    // Whether the error of a node looks larger than the tolerance; or than the one for outlines, where an outline may run
-    // through the node.
-    #[tactic(auto, unfolding(crate::specs::Wanted::is_large))]
-    pub(crate) fn is_large(&self, place: Point, error: u64, radius: u64, normals: NormalBox) -> bool
+    // Whether the error of a node looks larger than the tolerance.
+    pub(crate) fn looks_large(&self, place: Point, error: u64, radius: u64) -> bool
         requires error_small { error ≤ 2 ^ 38 }
         requires radius_small { radius ≤ 2 ^ 38 }
-        requires box_small { IsSmallBox normals }
-        ensures { result ≡ is_large (record { place = place; error = error; radius = radius; box = normals }) self.now }
+        ensures { (box : NormalBox) → result ≡ looks_large (record { place = place; error = error; radius = radius; box = box }) self.now self.now.tol }
     {
-        self.looks_large(self.tol, place, error, radius)
-            || self.may_turn_away(place, radius, normals)
-                && self.looks_large(self.sil, place, error, radius)
+        self.looks_larger_than(self.tol, place, error, radius)
+    }
+
+    // Whether the error of a node looks larger than the tolerance for outlines.
+    pub(crate) fn outline_looks_large(&self, place: Point, error: u64, radius: u64) -> bool
+        requires error_small { error ≤ 2 ^ 38 }
+        requires radius_small { radius ≤ 2 ^ 38 }
+        ensures { (box : NormalBox) → result ≡ looks_large (record { place = place; error = error; radius = radius; box = box }) self.now self.now.sil }
+    {
+        self.looks_larger_than(self.sil, place, error, radius)
     }
 }

@@ -10,7 +10,9 @@ use pm_bounds::Bounds;
 use pm_forest::Hierarchy;
 use std::sync::ledger::Ledger;
 
-// The three tests of a node. All that is kept of the node is read first, so that the memory is asked for all of it at once.
+// The three tests of a node. The box of its normals is read last and only where it is asked for: most nodes are too small,
+// and a box is more memory than all else that is kept of a node.
+#[tactic(auto, unfolding(crate::specs::Wanted::is_large), using(crate::proofs::Passing::asked_in_turn))]
 fn passes(h: &Hierarchy, bounds: &Bounds, node: NodeId, view: &View) -> bool
     requires bounds { AreBoundsOf h.now bounds.now }
     requires node { node.0 < node_count h.now }
@@ -19,10 +21,10 @@ fn passes(h: &Hierarchy, bounds: &Bounds, node: NodeId, view: &View) -> bool
     let place = h.place(node);
     let error = bounds.error(node);
     let radius = bounds.radius(node);
-    let normals = bounds.normals(node);
-    !view.is_behind(place, radius)
-        && view.may_face(place, radius, normals)
-        && view.is_large(place, error, radius, normals)
+    let is_large = view.looks_large(place, error, radius);
+    (is_large || view.outline_looks_large(place, error, radius))
+        && !view.is_behind(place, radius)
+        && view.may_show(place, radius, bounds.normals(node), is_large)
 }
 
 /// Whether the view wants the node refined: no plane of the view has the node's whole ball behind it, a face under the node
