@@ -13,7 +13,8 @@ use pm_base::{FaceId, NodeId, Side};
 use pm_forest::{Hierarchy, NewFace};
 use pm_queue::Queue;
 
-// Puts a record on the queue, if there is one.
+// Puts a record on the queue, if there is one. Most are there already, and finding that out moves nothing in the queue.
+#[tactic(auto, using(crate::proofs::QueueLaws::there_joined))]
 fn push(work: &mut Queue, found: Option<u32>)
     requires work { IfSome found (λ k. k < length work.old) }
     ensures work_len { length work.new ≡ length work.old }
@@ -21,7 +22,9 @@ fn push(work: &mut Queue, found: Option<u32>)
     ensures keyed { AreKeyed down_key work.old → AreKeyed down_key work.new }
 {
     if let Some(k) = found {
-        put_down(work, k);
+        if !work.has(k) {
+            put_down(work, k);
+        }
     }
 }
 
