@@ -8,7 +8,7 @@ pub mod ObstacleLaws
 mod BesideLaws
 mod ReaderLaws
 mod WriteLaws
-mod GoneLaws
+pub mod GoneLaws
 mod MergedCorners
 mod MergedFaces
 mod MergedTables

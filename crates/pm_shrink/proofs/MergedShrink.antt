@@ -8,13 +8,14 @@ use Rattle.pm_base.specs.declared.mesh.Corners.{Corners}
 use Rattle.pm_base.specs.Sides.{Net, face_of}
 use Rattle.pm_links.specs.Lists.{Lists, list_of, with_moved, IsSound}
 use Rattle.pm_quadric.specs.Sums.{Sums, plus_sums, zero_sums}
+use Rattle.pm_runs.specs.Counts.{live_count_of}
 use Rattle.pm_runs.specs.Surfaces.{Surface, next_vertex, is_live, net_of_surface, face_count_of, collapsed}
 use Rattle.pm_runs.specs.Pairs.{IsLegalPair}
 use Rattle.pm_runs.specs.Steps.{side_from_to, gone_at, gone_of}
 use Rattle.pm_runs.proofs.Collapsed.{next_face}
 use Rattle.pm_runs.proofs.FacesLeft.{faces-left, faces-fewer}
 use Rattle.pm_runs.proofs.Live.{live_below, next-after}
-use Rattle.pm_runs.proofs.Living.{joined_live}
+use Rattle.pm_runs.proofs.Living.{joined_live, live_fewer}
 use Rattle.pm_runs.proofs.Present.{is_some-map}
 use Rattle.pm_runs.proofs.StepLaws.{steps_keep_surfaces, legal_steps_keep_manifolds}
 use Rattle.pm_shrink.specs.Shrinking.{AreCornersAt, IsKept}
@@ -58,8 +59,11 @@ module _ (faces : List (Option Corners)) (places : List (Option Place)) (next le
   fewer : face_count_of (collapsed s a b place) < face_count_of s
   fewer = faces-fewer s inv.kept.surface inv.kept.proper a b place legal.joined
 
+  live_less : live_count_of (collapsed s a b place) < live_count_of s
+  live_less = omega (arith, live_fewer s a b place both_live.0 both_live.1 (λ is. absurd (omega (arith, is))))
+
   pub next_low : next < length places
-  next_low = (let room = inv.roomy.room in let count = inv.roomy.count in let few = fewer in omega arith)
+  next_low = (let room = inv.roomy.room in let less = live_less in omega arith)
 
   gone-count : (p q : ℕ) → is_some (gone_of m p q) ≡ is_some (option_map face_of (side_from_to m p q))
   gone-count p q = is_some-map (gone_at m) (side_from_to m p q) ∙ sym (is_some-map face_of (side_from_to m p q))
@@ -176,8 +180,8 @@ module _ (faces : List (Option Corners)) (places : List (Option Place)) (next le
         let same : left_now ≡ face_count_of (collapsed s a b place) = omega arith in
         let made_now : length (collapsed s a b place).places ≡ next + 1 = next-after s a b place ∙ ap (λ k. k + 1) made in
         let room = inv.roomy.room in
-        let one_less = fewer in
-        let were = inv.roomy.count in
+        let one_less = live_less in
+        let counted_now : live_count_of (surface_with faces_now places_now (next + 1)) ≡ live_count_of (collapsed s a b place) = ap live_count_of done-surface in
         record {
           kept = subst (λ (x : Surface). IsKept (record { surface = x; quadrics = quadrics_now; corners = corners_now.lists })) (sym done-surface) new_kept;
           twins = subst (λ (x : Surface). IsAcross x across_now) (sym done-surface) new_across;

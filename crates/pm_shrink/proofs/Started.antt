@@ -1,5 +1,5 @@
 -- What a `Shrink` holds before the first collapse.
-use Rattle.std.proofs.Common.{◌≡◌, ℕ, ◌+◌, ◌-◌, ◌*◌, ◌<◌, ◌≤◌, cond, List, [], ◌∷◌, ◌++◌, length, map, take, get_or, Option, Some, None, inl, inr, refl, sym, ap, ◌∙◌, subst, arith}
+use Rattle.std.proofs.Common.{◌≡◌, ℕ, ◌-◌, ◌*◌, ◌<◌, ◌≤◌, cond, List, [], ◌∷◌, ◌++◌, length, map, take, get_or, Option, Some, None, inl, inr, refl, sym, ap, ◌∙◌, subst, arith}
 use Rattle.std.specs.Prelude.{is_some}
 use Rattle.std.specs.List.{count_by}
 use Rattle.std.proofs.Math.ListN.{replicate}
@@ -20,7 +20,9 @@ use Rattle.pm_quadric.proofs.QuadricLaws.{count_is}
 use Rattle.pm_runs.specs.Surfaces.{Surface, surface_of, net_of_surface, is_live}
 use Rattle.pm_runs.specs.Planes.{planes_at}
 use Rattle.pm_runs.proofs.Collapsed.{input-alike}
+use Rattle.pm_runs.specs.Counts.{live_count_of}
 use Rattle.pm_runs.proofs.Live.{input-sound}
+use Rattle.pm_runs.proofs.Living.{first_live_count}
 use Rattle.pm_runs.proofs.Manifolds.{manifold-same}
 use Rattle.pm_runs.proofs.Proper.{input-proper}
 use Rattle.pm_shrink.specs.Shrinking.{IsKept, planes_counted}
@@ -40,11 +42,11 @@ side_there m formed e l = subst (λ (n : Net). Stands n e × (n.from e < length 
 
 -- The places with room for later ones.
 abbrev pub roomy_places : Mesh → List (Option Place)
-roomy_places m = map Some m.points ++ replicate (length m.points + length m.faces - length m.points) None
+roomy_places m = map Some m.points ++ replicate (2 * length m.points - length m.points) None
 
 taken_places : (m : Mesh) → take (length m.points) (roomy_places m) ≡ map Some m.points
 taken_places m =
-    let later : List (Option Place) = replicate (length m.points + length m.faces - length m.points) None in
+    let later : List (Option Place) = replicate (2 * length m.points - length m.points) None in
     ap (λ (k : ℕ). take k (map Some m.points ++ later)) (sym (length-map m.points Some)) ∙ take-append_seam (map Some m.points) later
 
 pub surface_there : (m : Mesh) → surface_with (map Some m.faces) (roomy_places m) (length m.points) ≡ surface_of m
@@ -52,7 +54,7 @@ surface_there m = ap (λ (k : List (Option Place)). let s : Surface = record { f
 
 fresh_places : (m : Mesh) (v : ℕ) → length m.points ≤ v → get_or (roomy_places m) v None ≡ None
 fresh_places m v le =
-    let n = length m.points + length m.faces - length m.points in
+    let n = 2 * length m.points - length m.points in
     get_or-append_right (map Some m.points) (replicate n None) (length m.points) v None (length-map m.points Some) le
     ∙ elim (cases_lt (v - length m.points) n) [
       | inl l ↦ get_or-replicate n (v - length m.points) None None l
@@ -96,15 +98,15 @@ module _ (m : Mesh) (formed : IsWellFormed m) (manifold : IsOrientedManifold (ne
 
   pub started : (places : List (Option Place)) (twins : Table) (quadrics : List Sums) (corners : Lists) → places ≡ roomy_places m →
       IsTableOf (net_of m.faces) (length m.points) twins →
-      length quadrics ≡ length m.points + length m.faces → ((v : ℕ) → v < length m.points → get_or quadrics v zero_sums ≡ sums_of (planes_at m v)) →
-      corners.items ≡ 3 * length m.faces → length corners.lists ≡ length m.points + length m.faces → IsSound corners → AreListed (map Some m.faces) (3 * length m.faces) corners →
+      length quadrics ≡ 2 * length m.points → ((v : ℕ) → v < length m.points → get_or quadrics v zero_sums ≡ sums_of (planes_at m v)) →
+      corners.items ≡ 3 * length m.faces → length corners.lists ≡ 2 * length m.points → IsSound corners → AreListed (map Some m.faces) (3 * length m.faces) corners →
       IsShrink (map Some m.faces) places (length m.points) (length m.faces) quadrics twins.twins corners
   started places twins quadrics corners places_are table len each items heads sound listed =
       let P : List (Option Place) → Type 0 = λ (k : List (Option Place)). IsShrink (map Some m.faces) k (length m.points) (length m.faces) quadrics twins.twins corners in
       let all : length (map Some m.faces) ≡ length m.faces = length-map m.faces Some in
-      let room : length (roomy_places m) ≡ length m.points + length m.faces = (
-      let later : List (Option Place) = replicate (length m.points + length m.faces - length m.points) None in
-      let later_len : length later ≡ length m.points + length m.faces - length m.points = length-replicate (length m.points + length m.faces - length m.points) None in
+      let room : length (roomy_places m) ≡ 2 * length m.points = (
+      let later : List (Option Place) = replicate (2 * length m.points - length m.points) None in
+      let later_len : length later ≡ 2 * length m.points - length m.points = length-replicate (2 * length m.points - length m.points) None in
       omega (arith, length-append (map Some m.points) later, length-map m.points Some, later_len)) in
       subst P (sym places_are) (record {
         kept = subst (λ (s : Surface). IsKept (record { surface = s; quadrics = quadrics; corners = corners.lists })) (sym (surface_there m)) (kept_there quadrics corners each sound listed);
@@ -112,8 +114,8 @@ module _ (m : Mesh) (formed : IsWellFormed m) (manifold : IsOrientedManifold (ne
         roomy = record {
           count = sym (all_counted m.faces);
           made = ap (λ (s : Surface). length s.places) (surface_there m) ∙ length-map m.points Some;
-          room = omega arith;
-          most = omega (arith, formed.faces, formed.points);
+          room = omega (arith, ap live_count_of (surface_there m), first_live_count m);
+          most = omega (arith, formed.points);
           fresh = fresh_places m;
         };
         quadrics_len = omega arith;

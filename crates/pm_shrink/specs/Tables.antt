@@ -7,6 +7,7 @@ use Rattle.pm_base.specs.Sides.{Stands, twin_of, face_of, corner_in, no_corners}
 use Rattle.pm_links.specs.Lists.{Lists}
 use Rattle.pm_quadric.specs.Sums.{Sums}
 use Rattle.pm_runs.specs.Surfaces.{Surface, net_of_surface, face_count_of}
+use Rattle.pm_runs.specs.Counts.{live_count_of}
 use Rattle.pm_shrink.specs.Shrinking.{Shrinking, IsKept}
 
 -- The vertex from which a side runs, as in the surface of these faces.
@@ -32,11 +33,11 @@ pub record IsAcross (s : Surface) (across : List (Option ℕ)) : Type 0 where
   pub sides : length across ≡ 3 * length s.faces
   pub each : (e : ℕ) → Stands (net_of_surface s) e → slice_index_or across e None ≡ twin_of (net_of_surface s) e
 
--- The tables have room for every collapse that can come: each drops a face.
+-- The tables have room for every collapse that can come: each makes one vertex of two.
 pub record IsRoomy (s : Surface) (places : List (Option Place)) (next left : ℕ) : Type 0 where
   pub count : left ≡ face_count_of s
   pub made : length s.places ≡ next
-  pub room : next + left ≤ length places
+  pub room : next + live_count_of s ≤ length places
   pub most : length places ≤ 2097152
   pub fresh : (v : ℕ) → next ≤ v → slice_index_or places v None ≡ None
 

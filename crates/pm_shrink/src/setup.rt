@@ -34,7 +34,7 @@ impl Shrink {
     {
         let triples = mesh.faces.as_slice();
         let points = mesh.points.as_slice();
-        let room = points.len() + triples.len();
+        let room = 2 * points.len();
         let faces = all_there(alloc, triples)?;
         let places = places_with_room(alloc, points, room)?;
         let quadrics = face_quadrics(alloc, points, triples, room)?;

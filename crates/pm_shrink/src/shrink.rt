@@ -10,8 +10,8 @@ pub type OutOfMemory = AllocError;
 /// A mesh that is being simplified. Contracts see the faces that are still there, the places of the live vertices, and
 /// by vertex number the quadrics and the lists of corners.
 ///
-/// Vertices are named by numbers, and each collapse makes the next one. Only `new` takes memory, some 300 bytes a face
-/// and 200 a point: there is room for as many later vertices as there are faces, since each collapse drops one at least.
+/// Vertices are named by numbers, and each collapse makes the next one. Only `new` takes memory, some 80 bytes a face and
+/// 400 a point: there is room for as many later vertices as there are points, since each collapse takes two away for one.
 #[derive(Drop)]
 pub struct Shrink {
     // The corners of each face; none where it was dropped.

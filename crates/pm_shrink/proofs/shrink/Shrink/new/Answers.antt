@@ -23,9 +23,9 @@ invariant_of-result c =
     let m : Mesh = mesh_of c.args.mesh in
     let faces : c.in_ok-faces.faces.items ≡ map Some m.faces = c.in_ok-faces.ensures ∙ ap (map Some) c.as_slice-triples.ensures in
     let deref : c.deref.result.now ≡ map Some m.faces = c.deref.ensures.value ∙ faces in
-    let places : c.in_ok-places.places.items ≡ roomy_places m = rw (c.as_slice-points.ensures, c.as_slice-triples.ensures) at c.in_ok-places.ensures in
+    let places : c.in_ok-places.places.items ≡ roomy_places m = rw c.as_slice-points.ensures at c.in_ok-places.ensures in
     let quadrics = rw (c.as_slice-points.ensures, c.as_slice-triples.ensures) at (c.in_ok-quadrics.ensures {u = tt}) in
-    let corners = rw (deref, length-map m.faces Some, c.as_slice-points.ensures, c.as_slice-triples.ensures) at (c.in_ok-corners.ensures {u = tt}) in
+    let corners = rw (deref, length-map m.faces Some, c.as_slice-points.ensures) at (c.in_ok-corners.ensures {u = tt}) in
     rw (faces, c.as_slice-points.ensures, c.as_slice-triples.ensures, c.in_ok-across.ensures)
     (started m c.requires.formed c.requires.manifold c.in_ok-places.places.items c.args.twins c.in_ok-quadrics.quadrics.items c.in_ok-corners.corners
     places c.requires.twins quadrics.len (λ v l. quadrics.each v (omega arith))
@@ -39,7 +39,7 @@ returns-clause-after c =
     let m : Mesh = mesh_of c.args.mesh in
     let start : IsStart m = record { formed = c.requires.formed; manifold = c.requires.manifold } in
     let faces : c.in_ok-faces.faces.items ≡ map Some m.faces = c.in_ok-faces.ensures ∙ ap (map Some) c.as_slice-triples.ensures in
-    let places : c.in_ok-places.places.items ≡ roomy_places m = rw (c.as_slice-points.ensures, c.as_slice-triples.ensures) at c.in_ok-places.ensures in
+    let places : c.in_ok-places.places.items ≡ roomy_places m = rw c.as_slice-points.ensures at c.in_ok-places.ensures in
     let new : Shrinking = shrinking_with c.in_ok-faces.faces.items c.in_ok-places.places.items (length c.as_slice-points.result.now) c.in_ok-quadrics.quadrics.items c.in_ok-corners.corners in
     let made : new.surface ≡ surface_of m = rw (faces, places, c.as_slice-points.ensures) (surface_there m) in
     start_after m new start made (returns-clause-quadrics c)
