@@ -1,5 +1,5 @@
 -- The number of an edge: both of its sides have the same one, and it is that of one of them.
-use Rattle.std.proofs.Common.{◌≡◌, ℕ, ◌<◌, ltb, Option, Some, None, ◌⊎◌, inl, inr, refl, sym, ap, ◌∙◌, subst, arith}
+use Rattle.std.proofs.Common.{◌≡◌, ℕ, ◌<◌, ltb, Option, Some, None, ◌⊎◌, inl, inr, sym, ap, ◌∙◌, subst, arith}
 use Rattle.std.proofs.lemmas.Bool.{cases_Bool, cond-true, cond-false, ltb-true, ltb-false}
 use Rattle.pm_base.specs.Sides.{Net, next, prev, to, Stands, NoSideTwice, IsTwin, twin_of}
 use Rattle.pm_base.proofs.Search.{option_cases}
@@ -73,24 +73,8 @@ module _ (m : Net) where
         | inr (g, t, is) ↦ subst (λ i. Links m i a b) (sym is) (twin_links e g a b (twin-is m e g t) l)
       ]
 
-  pub item_links : (e a b : ℕ) → Stands m e → Links m (item_of m e) a b → Links m e a b
-  item_links e a b st l =
-      elim (item_cases e) [
-        | inl is ↦ subst (λ i. Links m i a b) is l
-        | inr (g, t, is) ↦ twin_links g e a b (twin-twin m e g st (twin-is m e g t)) (subst (λ i. Links m i a b) is l)
-      ]
-
   pub link_stands : (e a b : ℕ) → Links m e a b → Stands m e
   link_stands e a b l = elim l [ inl r ↦ r.stands | inr r ↦ r.stands ]
-
-  pub link_first : (e a b : ℕ) → Links m e a b → IsSideAt m a e
-  link_first e a b l = elim l [ inl r ↦ record { stands = r.stands; ends = inl r.begins } | inr r ↦ record { stands = r.stands; ends = inr r.ends } ]
-
-  pub link_second : (e a b : ℕ) → Links m e a b → IsSideAt m b e
-  link_second e a b l = elim l [ inl r ↦ record { stands = r.stands; ends = inr r.ends } | inr r ↦ record { stands = r.stands; ends = inl r.begins } ]
-
-  pub own_runs : (e : ℕ) → Stands m e → Runs m e (m.from e) (to m e)
-  own_runs e st = record { stands = st; begins = refl; ends = refl }
 
   -- The two ends of a side, the lesser one first, are these.
   pub same_ends : (e a b c d : ℕ) → Links m e a b → Links m e c d → a < b → c < d → (a ≡ c) × (b ≡ d)
@@ -115,13 +99,3 @@ module _ (m : Net) where
   -- Its twin runs from the vertex to which it runs.
   pub twin_corner : (e g : ℕ) → twin_of m e ≡ Some g → Stands m g × (m.from g ≡ to m e) × (to m g ≡ m.from e)
   twin_corner e g t = let w = twin-is m e g t in (w.stands, w.begins, w.ends)
-
-  pub item_at : (v e : ℕ) → IsSideAt m v e → IsSideAt m v (item_of m e)
-  item_at v e at =
-      elim (item_cases e) [
-        | inl is ↦ subst (IsSideAt m v) (sym is) at
-        | inr (g, t, is) ↦
-            let w = twin-is m e g t in
-            let back : IsSideAt m v g = record { stands = w.stands; ends = elim at.ends [ inl x ↦ inr (w.ends ∙ x) | inr x ↦ inl (w.begins ∙ x) ] } in
-            subst (IsSideAt m v) (sym is) back
-      ]

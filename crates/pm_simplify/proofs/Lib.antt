@@ -4,6 +4,7 @@ pub mod Weighing
 pub mod Choosing
 pub mod Walking
 pub mod AroundLaws
+pub mod ForgetLaws
 pub mod Renewing
 pub mod Stepping
 pub mod Starting

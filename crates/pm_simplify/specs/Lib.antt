@@ -3,3 +3,4 @@ pub mod Choices
 pub mod Walks
 pub mod Faults
 pub mod SparedFaces
+pub mod Forgetting

@@ -4,10 +4,10 @@ use Rattle.std.specs.Option.{option_map}
 use Rattle.pm_base.specs.declared.ids.Side.{Side}
 use Rattle.pm_base.specs.declared.log.Collapse.{Collapse}
 use Rattle.pm_base.specs.Meshes.{Mesh}
-use Rattle.pm_base.specs.Sides.{Net, prev, twin_of}
+use Rattle.pm_base.specs.Sides.{prev, twin_of}
 use Rattle.pm_links.specs.Lists.{has, rest}
-use Rattle.pm_queue.specs.Entries.{Entries, key_at}
-use Rattle.pm_simplify.specs.Items.{item_of, IsSideAt}
+use Rattle.pm_queue.specs.Entries.{Entries}
+use Rattle.pm_simplify.specs.Items.{item_of}
 use Rattle.pm_simplify.specs.Choices.{net_after, IsRightAt}
 
 -- The corners that a walk has still to see.
@@ -23,17 +23,3 @@ pub record IsWalk (fan : List ℕ) (Done : ℕ → Type 0) (at : Option Side) : 
 pub record IsRightBeside (m : Mesh) (log : List Collapse) (entries : Entries) (e : ℕ) : Type 0 where
   pub out : IsRightAt m log entries (item_of (net_after m log) e)
   pub back : twin_of (net_after m log) (prev e) ≡ None → IsRightAt m log entries (item_of (net_after m log) (prev e))
-
--- The item is that of an edge at vertex v.
-abbrev pub IsItemAt : Net → ℕ → ℕ → Type 0
-IsItemAt m v i = (e : ℕ) × IsSideAt m v e × (item_of m e ≡ i)
-
--- The entries are as before but for items at vertex v, of which some have none now.
-pub record ClearsAt (m : Net) (v : ℕ) (old new : Entries) : Type 0 where
-  pub fewer : (i : ℕ) → (key_at new i ≡ key_at old i) ⊎ (key_at new i ≡ None)
-  pub others : (i : ℕ) → (IsItemAt m v i → ⊥) → key_at new i ≡ key_at old i
-
--- Neither side at the corner has a key.
-pub record IsClearBeside (m : Net) (entries : Entries) (e : ℕ) : Type 0 where
-  pub out : key_at entries (item_of m e) ≡ None
-  pub back : key_at entries (item_of m (prev e)) ≡ None

@@ -9,7 +9,8 @@ ghost use Rattle.pm_shrink.specs.Shrinking.{net_at};
 ghost use Rattle.pm_shrink.specs.Following.{IsAfter};
 ghost use Rattle.pm_simplify.specs.Choices.{IsRight};
 
-use crate::around::{clear_around, weigh_around};
+use crate::around::renew_around;
+use crate::forget::forget;
 use crate::free::free_around;
 use crate::pairs::best_of;
 use pm_base::Collapse;
@@ -17,8 +18,8 @@ use pm_links::Links;
 use pm_queue::Queue;
 use pm_shrink::Shrink;
 
-/// Collapses a pair that may be collapsed. The pairs that wait for a face at one of its ends come back to the queue, and
-/// the edges at the new vertex get their keys.
+/// Collapses a pair that may be collapsed. The pairs that wait for a face at one of its ends come back to the queue, the
+/// edges of the dropped faces leave it, and those at the new vertex get new keys.
 pub(crate) fn collapse(
     shrink: &mut Shrink,
     queue: &mut Queue,
@@ -44,9 +45,9 @@ pub(crate) fn collapse(
     let (place, _) = best_of(shrink, a, b);
     free_around(shrink, queue, waiting, a);
     free_around(shrink, queue, waiting, b);
-    clear_around(shrink, queue, a);
-    clear_around(shrink, queue, b);
     let entry = shrink.collapse(a, b, place);
-    weigh_around(shrink, queue, entry.s);
+    forget(queue, entry.left);
+    forget(queue, entry.right);
+    renew_around(shrink, queue, entry.s);
     entry
 }

@@ -1,5 +1,14 @@
-use Rattle.pm_base.specs.Sides.{face_of}
+use Rattle.std.proofs.Common.{◌≡◌, ◌∙◌, ◌+◌, ◌*◌, ◌<◌, ◌++◌, ◌∷◌, [], length, refl, sym, ap, subst}
+use Rattle.std.specs.Prelude.{IfSome}
+use Rattle.pm_base.specs.declared.log.Collapse.{Collapse as Entry}
+use Rattle.pm_base.specs.Sides.{face_of, side_count}
+use Rattle.pm_queue.specs.Entries.{Entries}
 use Rattle.pm_runs.specs.Pairs.{IsLegalPair}
+use Rattle.pm_shrink.specs.Shrinking.{net_at}
+use Rattle.pm_shrink.proofs.GoneLaws.{gone_first_in, gone_second_in}
+use Rattle.pm_simplify.specs.Choices.{Renews}
+use Rattle.pm_simplify.specs.Forgetting.{forgotten}
+use Rattle.pm_simplify.proofs.ForgetLaws.{gone_small, gone_within}
 use Rattle.pm_simplify.proofs.Stepping.{candidate_live, candidate_legal, right_collapse}
 use Rattle.pm_simplify.proofs.step.collapse.Goals as goal
 
@@ -15,11 +24,51 @@ free_around-requires-clause-live c = let (m, log, after, x) = c.requires.candida
 pub free_around-requires-2-clause-live : goal.free_around-requires-2-clause-live
 free_around-requires-2-clause-live c = let (m, log, after, x) = c.requires.candidate in (candidate_live m log c.args.shrink.now after c.args.a c.args.b x).1
 
-pub clear_around-requires-clause-live : goal.clear_around-requires-clause-live
-clear_around-requires-clause-live c = let (m, log, after, x) = c.requires.candidate in (candidate_live m log c.args.shrink.now after c.args.a c.args.b x).0
+pub forget-requires-clause-small : goal.forget-requires-clause-small
+forget-requires-clause-small c =
+    let n = net_at c.args.shrink.now in
+    subst (λ (x : Entry). IfSome x.left (λ g. g.face.0 < 1048576)) (sym c.collapse-entry.ensures.entry) (gone_small n c.args.a c.args.b (side_count n) refl c.is_kept.ensures.short)
 
-pub clear_around-requires-2-clause-live : goal.clear_around-requires-2-clause-live
-clear_around-requires-2-clause-live c = let (m, log, after, x) = c.requires.candidate in (candidate_live m log c.args.shrink.now after c.args.a c.args.b x).1
+pub forget-requires-clause-face : goal.forget-requires-clause-face
+forget-requires-clause-face c =
+    let n = net_at c.args.shrink.now in
+    let room = c.free_around-2.ensures.room ∙ c.free_around.ensures.room ∙ c.requires.room in
+    subst (λ (x : Entry). IfSome x.left (λ g. 3 * g.face.0 + 2 < length c.free_around-2.new.queue)) (sym c.collapse-entry.ensures.entry) (gone_within n c.args.a c.args.b (length c.free_around-2.new.queue) room c.is_kept.ensures.short)
+
+pub forget-requires-clause-first : goal.forget-requires-clause-first
+forget-requires-clause-first c =
+    let n = net_at c.args.shrink.now in
+    let room = c.free_around-2.ensures.room ∙ c.free_around.ensures.room ∙ c.requires.room in
+    subst (λ (x : Entry). IfSome x.left (λ g. IfSome g.first (λ s. s.0 < length c.free_around-2.new.queue))) (sym c.collapse-entry.ensures.entry) (gone_first_in n c.args.a c.args.b (length c.free_around-2.new.queue) room)
+
+pub forget-requires-clause-second : goal.forget-requires-clause-second
+forget-requires-clause-second c =
+    let n = net_at c.args.shrink.now in
+    let room = c.free_around-2.ensures.room ∙ c.free_around.ensures.room ∙ c.requires.room in
+    subst (λ (x : Entry). IfSome x.left (λ g. IfSome g.second (λ s. s.0 < length c.free_around-2.new.queue))) (sym c.collapse-entry.ensures.entry) (gone_second_in n c.args.a c.args.b (length c.free_around-2.new.queue) room)
+
+pub forget-requires-2-clause-small : goal.forget-requires-2-clause-small
+forget-requires-2-clause-small c =
+    let n = net_at c.args.shrink.now in
+    subst (λ (x : Entry). IfSome x.right (λ g. g.face.0 < 1048576)) (sym c.collapse-entry.ensures.entry) (gone_small n c.args.b c.args.a (side_count n) refl c.is_kept.ensures.short)
+
+pub forget-requires-2-clause-face : goal.forget-requires-2-clause-face
+forget-requires-2-clause-face c =
+    let n = net_at c.args.shrink.now in
+    let room = c.forget.ensures.room ∙ c.free_around-2.ensures.room ∙ c.free_around.ensures.room ∙ c.requires.room in
+    subst (λ (x : Entry). IfSome x.right (λ g. 3 * g.face.0 + 2 < length c.forget.new.queue)) (sym c.collapse-entry.ensures.entry) (gone_within n c.args.b c.args.a (length c.forget.new.queue) room c.is_kept.ensures.short)
+
+pub forget-requires-2-clause-first : goal.forget-requires-2-clause-first
+forget-requires-2-clause-first c =
+    let n = net_at c.args.shrink.now in
+    let room = c.forget.ensures.room ∙ c.free_around-2.ensures.room ∙ c.free_around.ensures.room ∙ c.requires.room in
+    subst (λ (x : Entry). IfSome x.right (λ g. IfSome g.first (λ s. s.0 < length c.forget.new.queue))) (sym c.collapse-entry.ensures.entry) (gone_first_in n c.args.b c.args.a (length c.forget.new.queue) room)
+
+pub forget-requires-2-clause-second : goal.forget-requires-2-clause-second
+forget-requires-2-clause-second c =
+    let n = net_at c.args.shrink.now in
+    let room = c.forget.ensures.room ∙ c.free_around-2.ensures.room ∙ c.free_around.ensures.room ∙ c.requires.room in
+    subst (λ (x : Entry). IfSome x.right (λ g. IfSome g.second (λ s. s.0 < length c.forget.new.queue))) (sym c.collapse-entry.ensures.entry) (gone_second_in n c.args.b c.args.a (length c.forget.new.queue) room)
 
 pub returns-clause-right : goal.returns-clause-right
 returns-clause-right c = λ m log after right.
@@ -28,10 +77,11 @@ returns-clause-right c = λ m log after right.
     let place = c.best_of-place.result.0 in
     let legal : IsLegalPair s.surface c.args.a c.args.b place = candidate_legal m0 log0 s after0 c.args.a c.args.b place x (c.best_of-place.ensures.place m0 log0 after0) in
     let e = c.collapse-entry.ensures in
+    let entry = c.collapse-entry.result in
     let then = e.after m log after in
     let freed = c.free_around-2.ensures.right m log after (c.free_around.ensures.right m log after right) in
-    right_collapse m log s c.args.a c.args.b place after x.ordered legal (c.best_of-place.ensures.place m log after) c.collapse-entry.result e.entry
-    c.free_around-2.new.queue c.clear_around.new.queue c.clear_around-2.new.queue c.weigh_around.new.queue c.free_around-2.new.waiting freed
+    let keys : c.forget-2.new.queue ≡ forgotten (forgotten c.free_around-2.new.queue entry.left) entry.right = c.forget-2.ensures.keys ∙ ap (λ (q : Entries). forgotten q entry.right) c.forget.ensures.keys in
+    right_collapse m log s c.args.a c.args.b place after x.ordered legal (c.best_of-place.ensures.place m log after) entry e.entry
+    c.free_around-2.new.queue c.renew_around.new.queue c.free_around-2.new.waiting freed
     (λ k st from. c.free_around-2.ensures.others (face_of k) (c.free_around.ensures.empty k st from)) c.free_around-2.ensures.empty
-    c.clear_around.ensures.clear c.clear_around.ensures.others c.clear_around-2.ensures.clear c.clear_around-2.ensures.others
-    (c.weigh_around.ensures.stays m _ then) (c.weigh_around.ensures.right m _ then)
+    (subst (λ (q : Entries). Renews m (log ++ entry ∷ []) q c.renew_around.new.queue) keys (c.renew_around.ensures.renews m _ then)) (c.renew_around.ensures.right m _ then)
