@@ -6,5 +6,7 @@ mod SiftUp
 mod SiftDown
 mod Members
 mod NewKey
+mod PlacedKeys
+mod QueueTables
 mod EntryTables
 mod LeastAtRoot

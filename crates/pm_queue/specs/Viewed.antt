@@ -5,7 +5,7 @@ use Rattle.pm_queue.specs.declared.key.Key.{Key}
 use Rattle.pm_queue.specs.declared.queue.TheConstants.{ITEM_LIMIT}
 use Rattle.pm_queue.specs.Entries.{Entries}
 use Rattle.pm_queue.specs.Places.{is_member, IsPlaces}
-use Rattle.pm_queue.specs.Heap.{goes_first, IsHeap}
+use Rattle.pm_queue.specs.Heap.{goes_first, keys_of, IsHeap}
 
 -- the key of a member, and none for another item
 abbrev pub entry : List Key → List ℕ → ℕ → ℕ → Option Key
@@ -20,4 +20,4 @@ pub record IsIndexedHeap (keys : List Key) (heap place : List ℕ) (len : ℕ) :
   pub limit : length keys ≤ ITEM_LIMIT
   pub within : len ≤ length keys
   pub inverse : IsPlaces (length keys) heap place
-  pub ordered : IsHeap (goes_first keys) heap len
+  pub ordered : IsHeap (goes_first (keys_of keys place)) heap len

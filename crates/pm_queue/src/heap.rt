@@ -1,8 +1,8 @@
 //! The heap: every item has a place, and the members are the items of the first `len` places.
 
-ghost use Rattle.std.specs.Prelude.{◌<◌, ◌≤◌, length};
+ghost use Rattle.std.specs.Prelude.{◌<◌, ◌≤◌, List, length};
 ghost use Rattle.pm_queue.specs.Places.{AddsMember, DropsMember, IsPlaces};
-ghost use Rattle.pm_queue.specs.Heap.{goes_first, IsHeap, IsHeapButItem};
+ghost use Rattle.pm_queue.specs.Heap.{goes_first, IsKeyed, IsHeap, IsHeapButItem};
 
 use super::key::Key;
 use super::places::exchange;
@@ -15,18 +15,21 @@ use super::sift::restore;
 pub(crate) fn place_item(
     heap: &mut [u32],
     place: &mut [u32],
-    keys: &[Key],
+    keys: &mut [Key],
     len: u32,
     item: u32,
 ) -> u32
-    requires places { IsPlaces (length keys.now) heap.old place.old }
-    requires keys_limit { length keys.now ≤ ITEM_LIMIT }
-    requires len_in { len ≤ length keys.now }
-    requires item_in { item < length keys.now }
-    requires heap { IsHeapButItem (goes_first keys.now) heap.old len item }
-    ensures places { IsPlaces (length keys.now) heap.new place.new }
-    ensures heap { IsHeap (goes_first keys.now) heap.new result }
-    ensures len { result ≤ length keys.now }
+    ghost item_keys: { List Key }
+    requires places { IsPlaces (length item_keys) heap.old place.old }
+    requires keyed { IsKeyed item_keys heap.old keys.old }
+    requires keys_limit { length item_keys ≤ ITEM_LIMIT }
+    requires len_in { len ≤ length item_keys }
+    requires item_in { item < length item_keys }
+    requires heap { IsHeapButItem (goes_first item_keys) heap.old len item }
+    ensures places { IsPlaces (length item_keys) heap.new place.new }
+    ensures keyed { IsKeyed item_keys heap.new keys.new }
+    ensures heap { IsHeap (goes_first item_keys) heap.new result }
+    ensures len { result ≤ length item_keys }
     ensures members { AddsMember place.old place.new len result item }
 {
     let from = place[item as usize];
@@ -34,7 +37,7 @@ pub(crate) fn place_item(
         restore(heap, place, keys, len, from);
         return len;
     }
-    exchange(heap, place, from, len);
+    exchange(heap, place, keys, from, len);
     restore(heap, place, keys, len + 1, len);
     len + 1
 }
@@ -46,18 +49,21 @@ pub(crate) fn place_item(
 pub(crate) fn drop_item(
     heap: &mut [u32],
     place: &mut [u32],
-    keys: &[Key],
+    keys: &mut [Key],
     len: u32,
     item: u32,
 ) -> u32
-    requires places { IsPlaces (length keys.now) heap.old place.old }
-    requires keys_limit { length keys.now ≤ ITEM_LIMIT }
-    requires len_in { len ≤ length keys.now }
-    requires item_in { item < length keys.now }
-    requires heap { IsHeap (goes_first keys.now) heap.old len }
-    ensures places { IsPlaces (length keys.now) heap.new place.new }
-    ensures heap { IsHeap (goes_first keys.now) heap.new result }
-    ensures len { result ≤ length keys.now }
+    ghost item_keys: { List Key }
+    requires places { IsPlaces (length item_keys) heap.old place.old }
+    requires keyed { IsKeyed item_keys heap.old keys.old }
+    requires keys_limit { length item_keys ≤ ITEM_LIMIT }
+    requires len_in { len ≤ length item_keys }
+    requires item_in { item < length item_keys }
+    requires heap { IsHeap (goes_first item_keys) heap.old len }
+    ensures places { IsPlaces (length item_keys) heap.new place.new }
+    ensures keyed { IsKeyed item_keys heap.new keys.new }
+    ensures heap { IsHeap (goes_first item_keys) heap.new result }
+    ensures len { result ≤ length item_keys }
     ensures members { DropsMember place.old place.new len result item }
 {
     let from = place[item as usize];
@@ -65,7 +71,7 @@ pub(crate) fn drop_item(
         return len;
     }
     let last = len - 1;
-    exchange(heap, place, from, last);
+    exchange(heap, place, keys, from, last);
     if from < last {
         restore(heap, place, keys, last, from);
     }

@@ -1,11 +1,14 @@
-//! The two tables of the heap: which item stands at a place, and at which place an item stands.
+//! The tables of the heap: which item stands at a place, with its key, and at which place an item
+//! stands.
 //!
-//! Each is the inverse of the other, over all items at all times, so one exchange is the only
-//! write that they need.
+//! The tables of items and of places are inverse to each other, over all items at all times, so one
+//! exchange is the only write that they need.
 
-ghost use Rattle.std.specs.Prelude.{◌≡◌, ℕ, ◌<◌, length, slice_index, IfOk};
+ghost use Rattle.std.specs.Prelude.{◌≡◌, ℕ, ◌<◌, List, length, slice_index, slice_set, IfOk};
+ghost use Rattle.pm_queue.specs.Heap.{key_of, IsKeyed};
 ghost use Rattle.pm_queue.specs.Places.{moved, IsPlaces, IsSwapped};
 
+use super::key::Key;
 use super::queue::OutOfMemory;
 use std::alloc::Global;
 
@@ -21,8 +24,8 @@ pub(crate) fn identity(alloc: Global, len: u32) -> Result<Vec<u32>, OutOfMemory>
     Ok(numbers)
 }
 
-/// Puts the items at places `p` and `q` in each other's place.
-pub(crate) fn exchange(heap: &mut [u32], place: &mut [u32], p: u32, q: u32)
+// Puts the items at places `p` and `q` in each other's place.
+fn exchange_items(heap: &mut [u32], place: &mut [u32], p: u32, q: u32)
     requires places { IsPlaces (length heap.old) heap.old place.old }
     requires p_in { p < length heap.old }
     requires q_in { q < length heap.old }
@@ -37,4 +40,32 @@ pub(crate) fn exchange(heap: &mut [u32], place: &mut [u32], p: u32, q: u32)
     heap[q as usize] = x;
     place[x as usize] = q;
     place[y as usize] = p;
+}
+
+// Puts the keys of places `p` and `q` in each other's place.
+fn exchange_keys(keys: &mut [Key], p: u32, q: u32)
+    requires p_in { p < length keys.old }
+    requires q_in { q < length keys.old }
+    ensures { keys.new ≡ slice_set (slice_set keys.old p (key_of keys.old q)) q (key_of keys.old p) }
+{
+    let key = keys[p as usize];
+    keys[p as usize] = keys[q as usize];
+    keys[q as usize] = key;
+}
+
+/// Puts the items at places `p` and `q` in each other's place, with their keys.
+pub(crate) fn exchange(heap: &mut [u32], place: &mut [u32], keys: &mut [Key], p: u32, q: u32)
+    ghost item_keys: { List Key }
+    requires places { IsPlaces (length item_keys) heap.old place.old }
+    requires keyed { IsKeyed item_keys heap.old keys.old }
+    requires p_in { p < length item_keys }
+    requires q_in { q < length item_keys }
+    ensures places { IsPlaces (length item_keys) heap.new place.new }
+    ensures keyed { IsKeyed item_keys heap.new keys.new }
+    ensures heap { IsSwapped heap.old heap.new p q }
+    ensures place { (i : ℕ) → i < length item_keys
+        → slice_index place.new i ≡ moved p q (slice_index place.old i) }
+{
+    exchange_items(heap, place, p, q);
+    exchange_keys(keys, p, q);
 }

@@ -24,7 +24,8 @@ pub struct Queue {
     heap: Vec<u32>,
     // The place of each item.
     place: Vec<u32>,
-    // The key of each item, with no meaning where the item has none.
+    // The key of the item at each place, beside the keys that it is compared with; no meaning where
+    // the item has none.
     keys: Vec<Key>,
     len: u32,
 }
@@ -32,11 +33,12 @@ pub struct Queue {
 impl Model for Queue {
     ghost use Rattle.std.specs.Prelude.{length};
     ghost use Rattle.pm_queue.specs.Entries.{Entries};
+    ghost use Rattle.pm_queue.specs.Heap.{keys_of};
     ghost use Rattle.pm_queue.specs.Viewed.{entries, IsIndexedHeap};
 
     ghost Value = { Entries };
 
-    ghost view = { λ q. entries (length q.keys.items) q.keys.items q.place.items q.len };
+    ghost view = { λ q. entries (length q.keys.items) (keys_of q.keys.items q.place.items) q.place.items q.len };
 
     ghost invariant = { λ q. IsIndexedHeap q.keys.items q.heap.items q.place.items q.len };
 }
@@ -72,8 +74,15 @@ impl Queue {
         requires in_range { item < length self.old }
         ensures replaced { self.new ≡ slice_set self.old item (Some key) }
     {
-        self.keys[item as usize] = key;
-        self.len = place_item(&mut self.heap, &mut self.place, &self.keys, self.len, item);
+        let at = self.place[item as usize];
+        self.keys[at as usize] = key;
+        self.len = place_item(
+            &mut self.heap,
+            &mut self.place,
+            &mut self.keys,
+            self.len,
+            item,
+        );
     }
 
     /// Whether `item` has a key. O(1) time.
@@ -92,7 +101,13 @@ impl Queue {
         ensures unchanged { result ≡ false → self.new ≡ self.old }
     {
         let had = self.place[item as usize] < self.len;
-        self.len = drop_item(&mut self.heap, &mut self.place, &self.keys, self.len, item);
+        self.len = drop_item(
+            &mut self.heap,
+            &mut self.place,
+            &mut self.keys,
+            self.len,
+            item,
+        );
         had
     }
 
@@ -104,8 +119,7 @@ impl Queue {
         if self.len == 0 {
             return None;
         }
-        let item = self.heap[0];
-        Some((item, self.keys[item as usize]))
+        Some((self.heap[0], self.keys[0]))
     }
 
     /// The same answer as `least`, and the item loses its key. O(log n) time.

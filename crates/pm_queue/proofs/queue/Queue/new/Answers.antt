@@ -10,5 +10,5 @@ returns c =
     ap length (keys.items_if_clones_equal (λ y e. e)) ∙ length-replicate c.args.n _ in
     record {
       empty =
-          rw n_is (entries_none c.args.n c.in_ok-keys.keys.items c.in_ok-place.place.items);
+          rw n_is (entries_none c.args.n _ c.in_ok-place.place.items);
     }

@@ -1,0 +1,5 @@
+use Rattle.pm_queue.specs.Heap.{keys_of}
+use Rattle.pm_queue.proofs.queue.Queue.set.Given as goal
+
+abbrev pub ghost-place_item : goal.ghost-place_item
+ghost-place_item a = keys_of a.keys.now a.place.now
