@@ -4,8 +4,6 @@
 mod cutting;
 mod lines;
 mod state;
-#[cfg(test)]
-mod tests;
 mod text;
 
 pub use cutting::any_cutting;

@@ -7,8 +7,6 @@ mod polygons;
 mod scan;
 mod scanner;
 mod step;
-#[cfg(test)]
-mod tests;
 mod theory;
 
 pub use scan::{Scan, scan_obj};

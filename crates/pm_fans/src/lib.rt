@@ -9,8 +9,6 @@ mod keeping;
 mod numbers;
 mod sides;
 mod split;
-#[cfg(test)]
-mod tests;
 mod theory;
 
 pub use cutting::cut_sides;

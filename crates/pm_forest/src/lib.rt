@@ -10,8 +10,6 @@ mod meshes;
 mod parts;
 mod readers;
 mod shaper;
-#[cfg(test)]
-mod tests;
 mod theory;
 
 pub use hierarchy::Hierarchy;

@@ -9,8 +9,6 @@ mod page;
 mod put;
 mod streams;
 mod taker;
-#[cfg(test)]
-mod tests;
 
 pub use device::{Failed, ReadFault, Sink, Source, WriteFault};
 pub use line::Line;

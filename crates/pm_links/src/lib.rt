@@ -4,8 +4,6 @@
 mod items;
 mod links;
 mod rings;
-#[cfg(test)]
-mod tests;
 
 pub use items::Items;
 pub use links::{LIMIT, Links, OutOfMemory};

@@ -6,8 +6,6 @@ mod limits;
 mod plane;
 mod quadric;
 mod terms;
-#[cfg(test)]
-mod tests;
 
 pub use best::best_place;
 pub use limits::values_fit;

@@ -9,6 +9,3 @@ mod sift;
 
 pub use key::Key;
 pub use queue::{ITEM_LIMIT, OutOfMemory, Queue};
-
-#[cfg(test)]
-mod tests;

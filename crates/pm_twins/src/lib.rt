@@ -7,8 +7,6 @@ mod half_edges;
 mod side_lists;
 mod sides;
 mod stamps;
-#[cfg(test)]
-mod tests;
 mod theory;
 mod twins;
 

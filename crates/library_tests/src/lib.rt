@@ -1,0 +1,25 @@
+//! The tests of the libraries, a module for each crate.
+#![tactic(auto)]
+
+#[cfg(test)]
+mod fans;
+#[cfg(test)]
+mod forest;
+#[cfg(test)]
+mod io;
+#[cfg(test)]
+mod lines;
+#[cfg(test)]
+mod links;
+#[cfg(test)]
+mod quadric;
+#[cfg(test)]
+mod queue;
+#[cfg(test)]
+mod read;
+#[cfg(test)]
+mod scan;
+#[cfg(test)]
+mod twins;
+#[cfg(test)]
+mod write;
