@@ -33,10 +33,9 @@ pub(crate) fn from(faces: &[Option<Corners>], side: u32) -> u32
     requires { side < 3 * length faces.now }
     ensures { result ≡ side_from faces.now side }
 {
-    match (faces[side as usize / 3], side % 3) {
-        (None, _) => 0,
-        (Some(face), 0) => face.a,
-        (Some(face), 1) => face.b,
-        (Some(face), _) => face.c,
+    match faces[side as usize / 3] {
+        None => 0,
+        // Which corner it is can't be foreseen, and a wrong guess costs more than a look-up.
+        Some(face) => [face.a, face.b, face.c][side as usize % 3],
     }
 }
