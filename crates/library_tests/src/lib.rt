@@ -1,16 +1,22 @@
-//! The tests of the libraries, a module for each crate.
+//! Tests of libraries, a module for each crate.
 #![tactic(auto)]
 
+#[cfg(test)]
+mod bounds;
 #[cfg(test)]
 mod fans;
 #[cfg(test)]
 mod forest;
+#[cfg(test)]
+mod grid;
 #[cfg(test)]
 mod io;
 #[cfg(test)]
 mod lines;
 #[cfg(test)]
 mod links;
+#[cfg(test)]
+mod load;
 #[cfg(test)]
 mod quadric;
 #[cfg(test)]
@@ -20,6 +26,12 @@ mod read;
 #[cfg(test)]
 mod scan;
 #[cfg(test)]
+mod shrink;
+#[cfg(test)]
+mod simplify;
+#[cfg(test)]
 mod twins;
+#[cfg(test)]
+mod view;
 #[cfg(test)]
 mod write;

@@ -7,8 +7,6 @@ mod leaves;
 mod node_bounds;
 mod normal_box;
 mod roots;
-#[cfg(test)]
-mod tests;
 mod theory;
 
 pub use bounds::Bounds;

@@ -2,8 +2,6 @@
 #![tactic(auto)]
 
 mod mesh;
-#[cfg(test)]
-mod tests;
 mod theory;
 
 pub use mesh::grid;

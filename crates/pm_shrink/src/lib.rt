@@ -10,8 +10,6 @@ mod setup;
 mod shrink;
 mod sides;
 mod tables;
-#[cfg(test)]
-mod tests;
 mod verdict;
 
 pub use shrink::{OutOfMemory, Shrink};

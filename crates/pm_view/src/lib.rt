@@ -7,8 +7,6 @@ mod number;
 mod plane;
 mod size;
 mod steps;
-#[cfg(test)]
-mod tests;
 mod theory;
 mod view;
 mod wanted;

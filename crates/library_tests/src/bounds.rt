@@ -1,8 +1,9 @@
+// Tests of pm_bounds.
 ghost use Rattle.std.specs.Prelude.{◌≡◌, ◌<◌, length, IfOk};
 ghost use Rattle.pm_forest.specs.Forest.{node_count};
 
-use crate::{Bounds, NormalBox};
 use pm_base::{NodeId, Normal};
+use pm_bounds::{Bounds, NormalBox};
 use pm_forest::Hierarchy;
 use pm_samples::{Unit, face, head, octahedron, shaped};
 use std::alloc::Global;

@@ -1,8 +1,9 @@
+// Tests of pm_shrink.
 ghost use Rattle.std.specs.Prelude.{◌≤◌, length};
 
-use crate::Shrink;
 use pm_base::{Collapse, FaceId, Gone, Point, Side};
 use pm_samples::{OCTAHEDRON, OCTAHEDRON_FACES, Spot, Triple, mesh, point};
+use pm_shrink::Shrink;
 use pm_twins::{Twins, check_fans};
 use std::alloc::Global;
 use std::test::Fail;

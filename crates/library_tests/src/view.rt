@@ -1,13 +1,14 @@
+// Tests of pm_view.
 ghost use Rattle.std.specs.Prelude.{◌≡◌, ◌<◌};
 ghost use Rattle.pm_forest.specs.Forest.{node_count};
 ghost use Rattle.pm_bounds.specs.Bounds.{AreBoundsOf};
 
-use crate::{Plane, Steps, View, ViewKind, read_view, wants};
 use arrayvec::ArrayVec;
 use pm_base::NodeId;
 use pm_bounds::Bounds;
 use pm_forest::Hierarchy;
 use pm_samples::{octahedron, square};
+use pm_view::{Plane, Steps, View, ViewKind, read_view, wants};
 use std::marker::Brand;
 use std::process::Abort;
 use std::sync::ledger::{Blank, Ledger};

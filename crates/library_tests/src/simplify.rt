@@ -1,6 +1,7 @@
-use crate::{SimplifyFail, simplify};
+// Tests of pm_simplify.
 use pm_base::{Collapse, FaceId, Gone, Point, Side};
 use pm_samples::{OCTAHEDRON, OCTAHEDRON_FACES, Spot, Triple, mesh};
+use pm_simplify::{SimplifyFail, simplify};
 use std::test::Fail;
 
 #[test]

@@ -1,5 +1,6 @@
-use crate::grid;
+// Tests of pm_grid.
 use pm_base::{Corners, Point};
+use pm_grid::grid;
 use std::test::Fail;
 
 #[test]
