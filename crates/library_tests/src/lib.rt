@@ -18,11 +18,15 @@ mod links;
 #[cfg(test)]
 mod load;
 #[cfg(test)]
+mod manifold;
+#[cfg(test)]
 mod quadric;
 #[cfg(test)]
 mod queue;
 #[cfg(test)]
 mod read;
+#[cfg(test)]
+mod refine;
 #[cfg(test)]
 mod scan;
 #[cfg(test)]

@@ -9,8 +9,6 @@ mod marks;
 mod needs;
 mod queues;
 mod refiner;
-#[cfg(test)]
-mod tests;
 
 pub use refiner::{Adapted, Refiner};
 

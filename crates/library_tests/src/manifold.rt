@@ -1,7 +1,7 @@
-use crate::{Measure, Tracer};
-use pm_forest::Hierarchy;
+// Tests of pm_manifold.
+use crate::load::opened;
 use pm_front::Front;
-use pm_load::open_front;
+use pm_manifold::{Measure, Tracer};
 use pm_samples::{loosened, octahedron, square};
 use std::alloc::Global;
 use std::test::Fail;
@@ -9,10 +9,6 @@ use std::test::Fail;
 // Splits a record that there is.
 fn split(front: &mut Front, k: u32) -> bool {
     k < front.hierarchy().records() && front.split(k).is_ok()
-}
-
-fn opened(alloc: Global, h: Hierarchy) -> Result<Front, Fail> {
-    open_front(alloc, h).map_err(|_| Fail::new("the hierarchy isn't opened"))
 }
 
 // Whether the mesh shown has so many nodes, edges, faces and loops.
