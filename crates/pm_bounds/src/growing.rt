@@ -22,7 +22,7 @@ fn nodes_of(h: &Hierarchy, k: u32) -> (NodeId, NodeId, NodeId)
     ensures t_node { t_of h.now k < node_count h.now }
     ensures u_node { u_of h.now k < node_count h.now }
 {
-    h.has_shape();
+    h.invariant();
     let t = h.roots() + 2 * k;
     (NodeId(h.record_at(k).s), NodeId(t), NodeId(t + 1))
 }
@@ -61,7 +61,7 @@ pub fn grow(h: &Hierarchy, nodes: &mut Vec<NodeBounds>)
     ensures are { AreBoundsOf h.now (lists_of nodes.new.items) }
     ensures small { IsBounds (lists_of nodes.new.items) }
 {
-    h.has_shape();
+    h.invariant();
     for k in (0..h.records()).rev() {
         let (s, ..) = nodes_of(h, k);
         let bounds = from_children(h, nodes, k);

@@ -39,7 +39,7 @@ fn corner_nodes(h: &Hierarchy, f: FaceId) -> (NodeId, NodeId, NodeId)
     ensures b_node { result.1.0 < node_count h.now }
     ensures c_node { result.2.0 < node_count h.now }
 {
-    h.has_shape();
+    h.invariant();
     let face = h.face_at(f);
     (
         h.leaf_node(face.a),
@@ -146,7 +146,7 @@ pub fn leaf_bounds(alloc: Global, h: &Hierarchy) -> Result<Vec<NodeBounds>, OutO
 {
     // The root of the greatest square is the greatest of the roots, so the radii are squares until all faces are seen.
     let mut nodes = bare_nodes(alloc, h.nodes() as usize)?;
-    h.has_shape();
+    h.invariant();
     for f in 0..h.faces() {
         widen_corners(h, &mut nodes, FaceId(f));
     }

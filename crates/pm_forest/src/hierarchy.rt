@@ -41,7 +41,7 @@ impl Hierarchy {
     }
 
     /// The hierarchy has the right shape.
-    pub fn has_shape(&self)
+    pub fn invariant(&self)
         ensures { HasShape self.now }
     {
         let _ = &self.forest;

@@ -49,7 +49,7 @@ fn leaf_input(h: &Hierarchy, leaf: u32) -> u32
     ensures some { 0 < result }
     ensures most { result ≤ leaf_count h.now }
 {
-    h.has_shape();
+    h.invariant();
     node_input(h, h.leaf_node(leaf))
 }
 
@@ -61,7 +61,7 @@ fn face_input(h: &Hierarchy, f: u32) -> u32
     ensures some { 0 < result }
     ensures most { result ≤ face_count h.now }
 {
-    h.has_shape();
+    h.invariant();
     h.face_at(FaceId(f)).input
 }
 
@@ -135,7 +135,7 @@ fn input_corners(h: &Hierarchy, f: u32) -> Corners
     requires { f < face_count h.now }
     ensures { result ≡ input_corners h.now (corners_of h.now f) }
 {
-    h.has_shape();
+    h.invariant();
     let face = h.face_at(FaceId(f));
     Corners {
         a: leaf_input(h, face.a) - 1,
@@ -164,7 +164,7 @@ impl Hierarchy {
         ensures mesh { IfOk result (λ mesh. mesh_of mesh ≡ leaf_mesh_of self.now) }
         ensures formed { IsWellFormed (leaf_mesh_of self.now) }
     {
-        self.has_shape();
+        self.invariant();
         let points = leaf_points(self, alloc)?;
         let faces = leaf_faces(self, alloc)?;
         Ok(Mesh { points, faces })
@@ -177,7 +177,7 @@ impl Hierarchy {
         ensures mesh { IfOk result (λ mesh. mesh_of mesh ≡ input_mesh_of self.now) }
         ensures formed { IsWellFormed (input_mesh_of self.now) }
     {
-        self.has_shape();
+        self.invariant();
         let points = input_points(self, alloc)?;
         let faces = input_faces(self, alloc)?;
         Ok(Mesh { points, faces })

@@ -210,7 +210,7 @@ fn put_records<K: Sink>(h: &Hierarchy, page: &mut Page, out: &mut K) -> Result<(
         OnErr result (GainsPart (K.got out.old) (K.got out.new) (page.old ++ text)) }
     ensures cause { HasCause (K.faults out.old) (K.faults out.new) result }
 {
-    h.has_shape();
+    h.invariant();
     for k in 0..h.records() {
         if let Err(fault) = put_record(h.record_at(k), page, out) {
             return Err(fault);

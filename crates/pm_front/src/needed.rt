@@ -38,7 +38,7 @@ impl Refinement {
         requires gone { length gone.now ≡ record_count self.now.h }
         ensures { result ≡ remaining (set_of self.now.flags) (set_of gone.now) k }
     {
-        self.is_sound();
+        self.invariant();
         self.split[k as usize] && !gone[k as usize]
     }
 

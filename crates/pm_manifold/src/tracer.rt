@@ -41,7 +41,7 @@ impl Tracer {
     pub fn new(alloc: Global, h: &Hierarchy) -> Result<Tracer, OutOfMemory>
         ensures { IfOk result (λ t. t ≡ 3 * face_count h.now) }
     {
-        h.has_shape();
+        h.invariant();
         let sides = 3 * h.faces() as usize;
         Ok(Tracer {
             marks: vec![in alloc; false; sides]?,
@@ -59,8 +59,8 @@ impl Tracer {
         ensures few { (result.nodes ≤ 2097152) × (result.edges ≤ 3145728) × (result.faces ≤ 1048576) }
         ensures same { self.new ≡ self.old }
     {
-        front.is_sound();
-        front.hierarchy().has_shape();
+        front.invariant();
+        front.hierarchy().invariant();
         let nodes = front.active_count();
         let faces = front.kept_count();
         let borders = count_borders(front);
@@ -77,7 +77,7 @@ impl Tracer {
 fn count_borders(front: &Front) -> u32
     ensures { result ≡ border_sides front.now.h (set_of front.now.flags) }
 {
-    front.hierarchy().has_shape();
+    front.hierarchy().invariant();
     let mut borders = 0u32;
     for side in 0..3 * front.hierarchy().faces() {
         if is_border(front, Side(side)) {
@@ -105,7 +105,7 @@ fn mark_loop(marks: &mut Vec<bool>, front: &Front, first: Side)
     ensures marked { (i : ℕ) → (mark_at marks.new.items i ≡ true)
         ↔ ((mark_at marks.old.items i ≡ true) ⊎ IsInLoop front.now.h (set_of front.now.flags) first.0 i) }
 {
-    front.is_sound();
+    front.invariant();
     let mut at = first;
     for _turn in 0..marks.len() {
         marks[at.0 as usize] = true;
@@ -123,8 +123,8 @@ fn count_loops(marks: &mut Vec<bool>, front: &Front) -> u32
     ensures len { length marks.new.items ≡ length marks.old.items }
 {
     clear(marks);
-    front.is_sound();
-    front.hierarchy().has_shape();
+    front.invariant();
+    front.hierarchy().invariant();
     let mut loops = 0u32;
     for side in 0..3 * front.hierarchy().faces() {
         if is_border(front, Side(side)) && !marks[side as usize] {

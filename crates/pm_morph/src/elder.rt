@@ -20,7 +20,7 @@ fn climb(h: &Hierarchy, marks: &[bool], from: NodeId) -> NodeId
     ensures value { result.0 ≡ ancestor_of h.now (set_of marks.now) (interval_of h.now from.0).from }
     ensures there { result.0 < node_count h.now }
 {
-    h.has_shape();
+    h.invariant();
     let mut node = from;
     while let Some(k) = h.maker(node) {
         if marks[k as usize] {
@@ -41,7 +41,6 @@ pub(crate) fn elder(front: &Front, marks: &[bool], node: NodeId) -> NodeId
     ensures value { result.0 ≡ elder_of front.now.h (set_of marks.now) node.0 }
     ensures there { result.0 < node_count front.now.h }
 {
-    front.is_sound();
-    front.hierarchy().has_shape();
+    front.invariant();
     climb(front.hierarchy(), marks, node)
 }

@@ -43,7 +43,7 @@ fn copy_flags(front: &Front, marks: &mut Vec<bool>)
     ensures len { length marks.new.items ≡ length marks.old.items }
     ensures same { set_of marks.new.items ≡ set_of front.now.flags }
 {
-    front.is_sound();
+    front.invariant();
     for k in 0..front.hierarchy().records() {
         marks[k as usize] = front.is_split(k);
     }
@@ -92,7 +92,7 @@ impl Marker {
         ensures same { set_of self.new ≡ set_of front.now.flags }
         ensures made { AreMarksOf front.now.h self.new }
     {
-        front.is_sound();
+        front.invariant();
         copy_flags(front, &mut self.marks);
     }
 

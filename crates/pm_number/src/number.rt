@@ -41,6 +41,6 @@ pub fn from_log(alloc: Global, mesh: &Mesh, log: &Log) -> Result<Hierarchy, OutO
     let Ok(hierarchy) = shaper.done() else {
         unreachable!()
     };
-    hierarchy.has_shape();
+    hierarchy.invariant();
     Ok(hierarchy)
 }

@@ -104,6 +104,6 @@ pub fn ball_met<L: Ledger>(
     ensures cost { steps.new ≡ steps.old + 1 }
 {
     steps.tick();
-    h.has_shape();
+    h.invariant();
     is_met(h, bounds, node, ray)
 }

@@ -136,7 +136,7 @@ fn corners(h: &Hierarchy, f: FaceId) -> (Point, Point, Point)
     ensures b { result.1 ≡ leaf_place h.now (corners_of h.now f.0).b }
     ensures c { result.2 ≡ leaf_place h.now (corners_of h.now f.0).c }
 {
-    h.has_shape();
+    h.invariant();
     let face = h.face_at(f);
     (
         h.place(h.leaf_node(face.a)),

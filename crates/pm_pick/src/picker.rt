@@ -111,7 +111,7 @@ impl Picker {
         ensures ahead { ((interval_of h.now node.0).from < leaf_next h.now result) ⊎ (((interval_of h.now node.0).from ≡ leaf_next h.now result) × (node.0 < node_next result)) }
         ensures walked { (base : ℕ) → IsWalked h.now ray.now (Some node) best.old base steps.old → IsWalked h.now ray.now result best.new base steps.new }
     {
-        h.has_shape();
+        h.invariant();
         if !ball_met(h, bounds, node, ray, steps) {
             return after(h, node);
         }
@@ -137,7 +137,7 @@ impl Picker {
         ensures none { IfNone result ((f : ℕ) → f < face_count h.now → MissesFace h.now ray.now f) }
         ensures cost { steps.new ≤ steps.old + most_tests h.now (is_met h.now ray.now) }
     {
-        h.has_shape();
+        h.invariant();
         let mut best = None;
         let mut at = first(h);
         while let Some(node) = at {

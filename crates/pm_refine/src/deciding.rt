@@ -62,7 +62,7 @@ fn stays<L: Ledger>(
         return true;
     }
     let h = front.hierarchy();
-    h.has_shape();
+    h.invariant();
     wants(h, bounds, NodeId(h.record_at(k).s), view, steps)
 }
 
@@ -117,7 +117,7 @@ fn decide<L: Ledger>(
     ensures cost { let h = front.now.h in let S = set_of front.now.flags in
         steps.new ≤ steps.old + (one_if (S k && is_needed h S k) + one_if (differs S (view_target h view.now) k)) }
 {
-    front.is_sound();
+    front.invariant();
     let is_split = front.is_split(k);
     let stays = stays(front, bounds, view, marks, gone, k, steps);
     marks[k as usize] = false;
@@ -165,7 +165,7 @@ pub(crate) fn decide_all<L: Ledger>(
         steps.new ≤ steps.old + count (λ j. S j && is_needed h S j) (record_count h)
         + count (differs S (view_target h view.now)) (record_count h) }
 {
-    front.is_sound();
+    front.invariant();
     let mut moves_found = 0;
     let mut bound = front.hierarchy().records();
     while let Some((k, _)) = work.take_least() {

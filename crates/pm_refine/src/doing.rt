@@ -53,7 +53,7 @@ pub(crate) fn advance(
     ensures corners { let S = set_of front.old.flags in front.new.corners
         ≡ corner_lists_after front.old.h S (take budget (view_plan front.old.h S _view.now)) front.old.corners }
 {
-    front.is_sound();
+    front.invariant();
     let _records = front.hierarchy().records();
     let mut left = budget;
     while left > 0 {

@@ -70,7 +70,7 @@ fn see_active<L: Ledger>(
     ensures cost { let h = front.now.h in steps.new ≤ steps.old + length front.now.active
         + count (is_free h (set_of front.now.flags)) (record_count h) }
 {
-    front.is_sound();
+    front.invariant();
     let mut cursor = front.first_active();
     while let Some(node) = cursor {
         look(front.hierarchy(), bounds, view, node, moves, steps);
@@ -132,7 +132,7 @@ pub(crate) fn find<L: Ledger>(
         steps.new ≤ steps.old + length front.now.active + count (is_free h S) (record_count h)
         + 2 * count (is_due h (is_wanted h view.now) S) (record_count h) }
 {
-    front.is_sound();
+    front.invariant();
     see_active(front, bounds, view, gone, moves, work, steps);
     let mut next = 0;
     while let Some((k, _)) = moves.take_least() {

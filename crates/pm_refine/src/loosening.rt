@@ -54,7 +54,7 @@ fn may_go<L: Ledger>(
         result ≡ is_loose h (is_wanted h view.now) (set_of front.now.flags) k }
     ensures cost { steps.new ≤ steps.old + one_if (is_free front.now.h (set_of front.now.flags) k) }
 {
-    front.is_sound();
+    front.invariant();
     if !front.nothing_needs(gone, k) {
         return false;
     }

@@ -60,7 +60,7 @@ pub(crate) fn mark_needs(h: &Hierarchy, marks: &mut Vec<bool>, k: u32)
     ensures len { length marks.new.items ≡ length marks.old.items }
     ensures marked { Joins (set_of marks.old.items) (set_of marks.new.items) (needs h.now k) }
 {
-    h.has_shape();
+    h.invariant();
     let change = h.record_at(k);
     mark(marks, h.maker(NodeId(change.s)));
     mark_beside(h, marks, &change.left);

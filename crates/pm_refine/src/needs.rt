@@ -66,7 +66,7 @@ pub(crate) fn push_needs(h: &Hierarchy, work: &mut Queue, k: u32)
     ensures joined { Joins (held work.old) (held work.new) (needs h.now k) }
     ensures keyed { AreKeyed down_key work.old → AreKeyed down_key work.new }
 {
-    h.has_shape();
+    h.invariant();
     let change = h.record_at(k);
     push(work, h.maker(NodeId(change.s)));
     push_beside(h, work, &change.left);

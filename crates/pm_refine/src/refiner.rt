@@ -102,7 +102,7 @@ impl Refiner {
         ensures cost { let S = set_of front.old.flags in steps.new ≤ steps.old
             + 2 * length (active_nodes front.old.h S) + 4 * length (view_plan front.old.h S view.now) }
     {
-        front.is_sound();
+        front.invariant();
         find(
             front,
             bounds,
@@ -124,7 +124,7 @@ impl Refiner {
         );
         advance(front, view, &mut self.moves, &mut self.gone, budget);
         clear(&mut self.moves, &mut self.gone);
-        front.is_sound();
+        front.invariant();
         adapted(moves, budget)
     }
 }

@@ -22,7 +22,6 @@ use Rattle.pm_session.specs.Script.{Sets, Deed, Replies, Ends, IsBad, NamesNoRec
 use Rattle.pm_session.specs.Session.{LineEnds}
 use Rattle.pm_session.specs.Serving.{At, Played, stopped, done_line, played_from, Ended, CutOff, PutPart, IsServing, EndsLine, IsReady, at_of, Steps, AfterLine, AfterLast, line_place, Gathers, WindowAfter}
 use Rattle.pm_session.proofs.PlayLaws.{line_later, whole_stops, last_stops, long_stops, past_stops}
-
 use Rattle.pm_session.proofs.ServeLaws.{goes_on, ended_by, ended_all, cut_off, line_put, whole_part, last_part, last_put}
 
 module _ (h : Hierarchy) (b : ℕ) (T : Sets) where

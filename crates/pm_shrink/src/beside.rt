@@ -62,7 +62,7 @@ impl Shrink {
         requires q_live { is_live_in self.now.surface q ≡ true }
         ensures { IfSome result (λ e. Stands (net_at self.now) e × ((net_at self.now).from e ≡ p)) }
     {
-        self.has_few_sides();
+        self.invariant();
         let mut at_p = self.corners_at(p);
         let mut at_q = self.corners_at(q);
         while let (Some(from_p), Some(from_q)) = (at_p.next(), at_q.next()) {
@@ -104,7 +104,7 @@ impl Shrink {
         ensures { IfSome result (λ e. Stands (net_at self.now) e
             × ((net_at self.now).from e ≡ (net_at self.now).from corner)) }
     {
-        self.has_few_sides();
+        self.invariant();
         match way {
             Way::Left => self.twin(prev(corner)),
             Way::Right => match self.twin(corner) {

@@ -32,7 +32,7 @@ impl Shrink {
         ensures after { (m : Mesh) (log : List Entry) → IsAfter m log self.old
             → IsAfter m (log ++ result ∷ []) self.new }
     {
-        self.is_kept();
+        self.invariant();
         let left = self.gone(a, b);
         let right = self.gone(b, a);
         let s = self.next;
@@ -59,7 +59,7 @@ impl Shrink {
         requires { is_live_in self.now.surface p ≡ true }
         ensures { result ≡ gone_of (net_at self.now) p q }
     {
-        self.has_few_sides();
+        self.invariant();
         match self.side_to(p, q) {
             None => None,
             Some(side) => Some(Gone {

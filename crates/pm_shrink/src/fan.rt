@@ -25,13 +25,6 @@ impl Shrink {
         self.corners.items(v)
     }
 
-    // No side has a number past the greatest.
-    pub(crate) fn has_few_sides(&self)
-        ensures { side_count (net_at self.now) ≤ MOST_SIDES }
-    {
-        let _ = &self.faces;
-    }
-
     // The vertex from which a side runs.
     pub(crate) fn from(&self, side: u32) -> u32
         requires { side < side_count (net_at self.now) }
@@ -45,7 +38,7 @@ impl Shrink {
         requires { side < side_count (net_at self.now) }
         ensures { result ≡ to_of (net_at self.now) side }
     {
-        self.has_few_sides();
+        self.invariant();
         self.from(next(side))
     }
 
@@ -54,7 +47,7 @@ impl Shrink {
         requires { side < side_count (net_at self.now) }
         ensures { result ≡ third_of (net_at self.now) side }
     {
-        self.has_few_sides();
+        self.invariant();
         self.from(prev(side))
     }
 
@@ -73,7 +66,7 @@ impl Shrink {
         ensures { result ≡ (is_none (twin_of (net_at self.now) corner)
             || is_none (twin_of (net_at self.now) (prev_of corner))) }
     {
-        self.has_few_sides();
+        self.invariant();
         self.is_border_side(corner) || self.is_border_side(prev(corner))
     }
 
@@ -82,7 +75,7 @@ impl Shrink {
         requires { is_live_in self.now.surface p ≡ true }
         ensures { result ≡ side_from_to (net_at self.now) p q }
     {
-        self.is_kept();
+        self.invariant();
         for corner in self.corners_at(p) {
             if self.to(corner) == q {
                 return Some(corner);

@@ -80,7 +80,7 @@ impl Shrink {
         requires b_live { is_live_in self.now.surface b ≡ true }
         ensures { IsTrue result ↔ AreOnceOnBorder (net_at self.now) a b }
     {
-        self.is_kept();
+        self.invariant();
         !self.are_twice_on_border(a, b)
     }
 
@@ -142,7 +142,7 @@ impl Shrink {
         requires { is_live_in self.now.surface p ≡ true }
         ensures { IsTrue result ↔ IsAloneAlong (net_at self.now) p q }
     {
-        self.is_kept();
+        self.invariant();
         match self.side_to(p, q) {
             None => false,
             Some(side) => self.is_border_side(side) && self.is_alone_beside(side),
@@ -155,7 +155,7 @@ impl Shrink {
         ensures { result ≡ (is_none (twin_of (net_at self.now) (next_of side))
             && is_none (twin_of (net_at self.now) (prev_of side))) }
     {
-        self.has_few_sides();
+        self.invariant();
         self.is_border_side(next(side)) && self.is_border_side(prev(side))
     }
 
@@ -183,7 +183,7 @@ impl Shrink {
         ensures { IsTrue result ↔ StaysUpright self.now.surface place ((net_at self.now).from corner)
             (to_of (net_at self.now) corner) (third_of (net_at self.now) corner) }
     {
-        self.has_few_sides();
+        self.invariant();
         let was = self.place_of(corner);
         let (q, r) = (self.place_of(next(corner)), self.place_of(prev(corner)));
         is_at_least_zero(dot_of_normals(place, was, q, r))
@@ -194,7 +194,7 @@ impl Shrink {
         requires { Stands (net_at self.now) corner }
         ensures { result ≡ place_at self.now.surface ((net_at self.now).from corner) }
     {
-        self.is_kept();
+        self.invariant();
         self.place(self.from(corner))
     }
 }

@@ -11,8 +11,9 @@ use pm_quadric::Quadric;
 
 impl Shrink {
     /// What the type keeps, as a law: the call takes no step.
-    pub fn is_kept(&self)
-        ensures { IsKept self.now }
+    pub fn invariant(&self)
+        ensures kept { IsKept self.now }
+        ensures few_sides { side_count (net_at self.now) ≤ 3145728 }
     {
         let _ = &self.faces;
     }
@@ -81,7 +82,7 @@ impl Shrink {
         requires { side.0 < side_count (net_at self.now) }
         ensures { IsTrue result ↔ Stands (net_at self.now) side.0 }
     {
-        self.is_kept();
+        self.invariant();
         self.corners.head_of(side.0).is_some()
     }
 

@@ -31,7 +31,7 @@ impl Shrink {
         requires joined { Joined (net_at self.now) a b }
         ensures { Tells self.now.surface a b place result }
     {
-        self.is_kept();
+        self.invariant();
         if let Some(side) = self.hindrance(a, b, place) {
             return Verdict::Waits(FaceId(side / 3));
         }
@@ -89,8 +89,7 @@ impl Shrink {
         ensures { MatchOption result (HasStray (net_at self.now) a b corner → ⊥)
             (λ e. Stands (net_at self.now) e × Strays (net_at self.now) a b ((net_at self.now).from e)) }
     {
-        self.is_kept();
-        self.has_few_sides();
+        self.invariant();
         if self.is_stray(a, b, self.to(corner)) {
             return Some(next(corner));
         }
@@ -108,7 +107,7 @@ impl Shrink {
         ensures { MatchOption result (ShareNoTriangle (net_at self.now) a b)
             (λ e. Stands (net_at self.now) e × TellsTriangle (net_at self.now) a b e) }
     {
-        self.is_kept();
+        self.invariant();
         let (Some(left), Some(right)) = (self.side_to(a, b), self.side_to(b, a)) else {
             return None;
         };
@@ -126,7 +125,7 @@ impl Shrink {
         ensures { MatchOption result (AreNotAlone (net_at self.now) a b)
             (λ e. Stands (net_at self.now) e × IsAlone (net_at self.now) a b e) }
     {
-        self.is_kept();
+        self.invariant();
         if self.is_alone_along(a, b) {
             return self.side_to(a, b);
         }

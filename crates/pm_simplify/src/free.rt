@@ -64,7 +64,7 @@ pub(crate) fn free_around(shrink: &Shrink, queue: &mut Queue, waiting: &mut Link
     ensures right { (m : Mesh) (log : List Collapse) → IsAfter m log shrink.now → IsRight m log queue.old waiting.old
         → IsRight m log queue.new waiting.new }
 {
-    shrink.is_kept();
+    shrink.invariant();
     let mut at = shrink.first_corner(v);
     while let Some(corner) = at {
         free(shrink, queue, waiting, corner.0 / 3);

@@ -15,7 +15,7 @@ pub(crate) fn next(shrink: &Shrink, side: Side) -> Side
     ensures value { result.0 ≡ next_of side.0 }
     ensures stands { Stands (net_at shrink.now) result.0 }
 {
-    shrink.is_kept();
+    shrink.invariant();
     Side(if side.0 % 3 == 2 {
         side.0 - 2
     } else {

@@ -41,7 +41,7 @@ pub(crate) fn collapse(
     ensures right { (m : Mesh) (log : List Entry) → IsAfter m log shrink.old → IsRight m log queue.old waiting.old
         → IsRight m (log ++ result ∷ []) queue.new waiting.new }
 {
-    shrink.is_kept();
+    shrink.invariant();
     let (place, _) = best_of(shrink, a, b);
     free_around(shrink, queue, waiting, a);
     free_around(shrink, queue, waiting, b);

@@ -17,7 +17,7 @@ pub(crate) fn next(front: &Front, side: Side) -> Side
     ensures value { result.0 ≡ next_of side.0 }
     ensures there { is_there front.now.h (set_of front.now.flags) (face_of result.0) ≡ true }
 {
-    front.hierarchy().has_shape();
+    front.hierarchy().invariant();
     side.next()
 }
 
@@ -37,7 +37,7 @@ fn beyond(front: &Front, side: Side) -> Option<Side>
     ensures value { number_of result ≡ beyond_in front.now.h (set_of front.now.flags) side.0 }
     ensures there { IfSome result (λ g. is_there front.now.h (set_of front.now.flags) (face_of g.0) ≡ true) }
 {
-    front.is_sound();
+    front.invariant();
     front.beyond(side)
 }
 
@@ -73,7 +73,7 @@ pub(crate) fn first_side(free: &[bool], front: &Front, face: FaceId) -> Side
         ≡ first_side_in (beyond_in front.now.h (set_of front.now.flags)) (set_of free.now) face.0 }
     ensures there { is_there front.now.h (set_of front.now.flags) (face_of result.0) ≡ true }
 {
-    front.hierarchy().has_shape();
+    front.hierarchy().invariant();
     let first = face.side(0);
     let second = face.side(1);
     let third = face.side(2);

@@ -60,7 +60,7 @@ impl Stripper {
         ensures same { self.new ≡ self.old }
         ensures mesh { ShowTheMesh front.now.h (set_of front.now.flags) }
     {
-        front.is_sound();
+        front.invariant();
         let mut page = Page::new();
         free_kept(&mut self.free, front);
         let strips = match put_strips(&mut self.free, front, &mut page, out) {

@@ -45,6 +45,6 @@ pub fn wants<L: Ledger>(
     ensures reason { result ≡ false → IsBehind h.now view.now node.0 ⊎ (IsTurnedAway h.now view.now node.0 ⊎ IsTiny h.now view.now node.0) }
 {
     steps.tick();
-    h.has_shape();
+    h.invariant();
     passes(h, bounds, node, view)
 }

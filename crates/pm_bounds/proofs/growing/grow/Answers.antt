@@ -11,7 +11,7 @@ loop-k-init c =
     let h = c.args.h.now in
     let first = c.args.nodes.now.items in
     subst (AreGrown h first first) (sym c.records-k.ensures.value)
-    (table_start h c.has_shape.ensures first c.requires.leaves c.requires.len c.requires.small)
+    (table_start h c.invariant.ensures first c.requires.leaves c.requires.len c.requires.small)
 
 pub loop-k-preserved : goal.loop-k-preserved
 loop-k-preserved c =
@@ -28,7 +28,7 @@ loop-k-preserved c =
     let small_error = clauses.small_error most (subst (λ (t : List NodeBounds). (v : ℕ) → v < node_count h → get_or (lists_of t).errors v 0 ≤ most) (sym seen) was.errors.small) in
     let small_radius = clauses.small_radius most (subst (λ (t : List NodeBounds). (v : ℕ) → v < node_count h → get_or (lists_of t).radii v 0 ≤ most) (sym seen) was.radii.small) in
     subst (λ s. AreGrown h first (set old s new) k) (sym c.nodes_of.ensures.s)
-    (table_step h c.has_shape.ensures first c.requires.leaves old k new (omega (arith, c.loop-k.auto.k, c.records-k.ensures.value)) was
+    (table_step h c.invariant.ensures first c.requires.leaves old k new (omega (arith, c.loop-k.auto.k, c.records-k.ensures.value)) was
     (clauses.error ∙ ap (λ (t : List NodeBounds). grown_at h (lists_of t).errors k) seen) small_error
     (clauses.radius ∙ ap (λ (t : List NodeBounds). grown_at h (lists_of t).radii k) seen) small_radius
     (clauses.normals ∙ ap (λ (t : List NodeBounds). join (get_or (lists_of t).boxes (t_of h k) None) (get_or (lists_of t).boxes (u_of h k) None)) seen))
@@ -38,11 +38,11 @@ returns-clause-are c =
     let h = c.args.h.now in
     let first = c.args.nodes.now.items in
     let none : c.loop-k.k ≡ 0 = omega (arith, c.loop-k-test.false) in
-    table_bounds h c.has_shape.ensures first c.requires.leaves c.loop-k.nodes.items (subst (AreGrown h first c.loop-k.nodes.items) none c.loop-k.invariant)
+    table_bounds h c.invariant.ensures first c.requires.leaves c.loop-k.nodes.items (subst (AreGrown h first c.loop-k.nodes.items) none c.loop-k.invariant)
 
 pub returns-clause-small : goal.returns-clause-small
 returns-clause-small c =
     let h = c.args.h.now in
     let first = c.args.nodes.now.items in
     let none : c.loop-k.k ≡ 0 = omega (arith, c.loop-k-test.false) in
-    table_small h c.has_shape.ensures first c.requires.leaves c.loop-k.nodes.items (subst (AreGrown h first c.loop-k.nodes.items) none c.loop-k.invariant)
+    table_small h c.invariant.ensures first c.requires.leaves c.loop-k.nodes.items (subst (AreGrown h first c.loop-k.nodes.items) none c.loop-k.invariant)

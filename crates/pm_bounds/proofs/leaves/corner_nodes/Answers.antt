@@ -7,14 +7,14 @@ use Rattle.pm_bounds.proofs.leaves.corner_nodes.Goals as goal
 pub leaf_node-requires : goal.leaf_node-requires
 leaf_node-requires c =
     subst (λ (f : Face). f.a < leaf_count c.args.h.now) (sym c.face_at-face.ensures.corners)
-    (corner_below c.args.h.now c.has_shape.ensures c.args.f.0 c.requires).a_below
+    (corner_below c.args.h.now c.invariant.ensures c.args.f.0 c.requires).a_below
 
 pub leaf_node-requires-2 : goal.leaf_node-requires-2
 leaf_node-requires-2 c =
     subst (λ (f : Face). f.b < leaf_count c.args.h.now) (sym c.face_at-face.ensures.corners)
-    (corner_below c.args.h.now c.has_shape.ensures c.args.f.0 c.requires).b_below
+    (corner_below c.args.h.now c.invariant.ensures c.args.f.0 c.requires).b_below
 
 pub leaf_node-requires-3 : goal.leaf_node-requires-3
 leaf_node-requires-3 c =
     subst (λ (f : Face). f.c < leaf_count c.args.h.now) (sym c.face_at-face.ensures.corners)
-    (corner_below c.args.h.now c.has_shape.ensures c.args.f.0 c.requires).c_below
+    (corner_below c.args.h.now c.invariant.ensures c.args.f.0 c.requires).c_below

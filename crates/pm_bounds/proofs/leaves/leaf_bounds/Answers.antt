@@ -11,7 +11,7 @@ loop-f-init c =
 pub loop-f-preserved : goal.loop-f-preserved
 loop-f-preserved c =
     let wider = c.widen_corners.ensures in
-    seen_more c.args.h.now c.has_shape.ensures c.loop-f.f (omega (arith, c.loop-f-test.true, c.faces-f-end.ensures.value))
+    seen_more c.args.h.now c.invariant.ensures c.loop-f.f (omega (arith, c.loop-f-test.true, c.faces-f-end.ensures.value))
     c.loop-f.nodes.items c.widen_corners.new.nodes.items c.loop-f.invariant wider.len wider.errors wider.radii wider.boxes wider.small
 
 pub returns-clause-are : goal.returns-clause-are

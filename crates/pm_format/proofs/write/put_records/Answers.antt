@@ -11,12 +11,12 @@ use Rattle.pm_format.proofs.write.put_records.Goals as goal
 
 pub put_record-requires-clause-left : goal.put_record-requires-clause-left
 put_record-requires-clause-left g c =
-    let both = faces_are_words c.args.h.now c.has_shape.ensures c.loop-k.k (omega (arith, c.records-k-end.ensures.value)) in
+    let both = faces_are_words c.args.h.now c.invariant.ensures c.loop-k.k (omega (arith, c.records-k-end.ensures.value)) in
     subst (λ r. AreWords (new_face_words r.left)) (sym c.record_at.ensures) both.0
 
 pub put_record-requires-clause-right : goal.put_record-requires-clause-right
 put_record-requires-clause-right g c =
-    let both = faces_are_words c.args.h.now c.has_shape.ensures c.loop-k.k (omega (arith, c.records-k-end.ensures.value)) in
+    let both = faces_are_words c.args.h.now c.invariant.ensures c.loop-k.k (omega (arith, c.records-k-end.ensures.value)) in
     subst (λ r. AreWords (new_face_words r.right)) (sym c.record_at.ensures) both.1
 
 pub returns-in-Err-clause-err : goal.returns-in-Err-clause-err

@@ -162,14 +162,14 @@ returns-clause-valid c =
     let m = mesh_of c.args.mesh.now in
     let log = c.args.log.now.items in
     let is = whole_is m log c.as_slice-log.result.now c.add_records.new.shaper c.in-Ok-done.hierarchy c.as_slice-log.ensures c.add_records.ensures c.in-Ok-done.ensures.whole in
-    subst IsValid (sym is) (are_valid m c.requires.start log c.requires.run (subst HasShape is c.has_shape.ensures))
+    subst IsValid (sym is) (are_valid m c.requires.start log c.requires.run (subst HasShape is c.invariant.ensures))
 
 pub returns-clause-firm : goal.returns-clause-firm
 returns-clause-firm c =
     let m = mesh_of c.args.mesh.now in
     let log = c.args.log.now.items in
     let is = whole_is m log c.as_slice-log.result.now c.add_records.new.shaper c.in-Ok-done.hierarchy c.as_slice-log.ensures c.add_records.ensures c.in-Ok-done.ensures.whole in
-    subst IsFirm (sym is) (are_firm m c.requires.start log c.requires.run (subst HasShape is c.has_shape.ensures))
+    subst IsFirm (sym is) (are_firm m c.requires.start log c.requires.run (subst HasShape is c.invariant.ensures))
 
 pub returns-clause-mesh : goal.returns-clause-mesh
 returns-clause-mesh c =

@@ -23,7 +23,7 @@ loop-left-init c =
       len = refl;
       gone_len = refl;
       gone = c.requires.gone;
-      to_do = begin h S (view_target h c.args._view.now) c.args.budget c.is_sound.ensures.valid c.is_sound.ensures.closed c.requires.closed c.args.moves.now c.requires.moves;
+      to_do = begin h S (view_target h c.args._view.now) c.args.budget c.invariant.ensures.valid c.invariant.ensures.closed c.requires.closed c.args.moves.now c.requires.moves;
       corners = refl;
     }
 
@@ -44,7 +44,7 @@ make_move-requires-clause-legal c =
     let h = c.args.front.now.h in
     let S = set_of c.args.front.now.flags in
     let T = set_of c.loop-left.front.flags in
-    let few = records_few h c.is_sound.ensures.valid.shape in
+    let few = records_few h c.invariant.ensures.valid.shape in
     subst (λ (x : Hierarchy). MayMove x T (move_of T c.in-Some.k)) (sym c.loop-left.invariant.hierarchy)
     (may_move h S (view_target h c.args._view.now) c.args.budget c.loop-left.left T c.loop-left.moves (c.in-Some.k, c.in-Some.field-0-1) (omega arith) c.loop-left.invariant.to_do c.in-Some.ensures.some)
 
@@ -54,7 +54,7 @@ loop-left-preserved c =
     let S = set_of c.args.front.now.flags in
     let G = view_target h c.args._view.now in
     let T = set_of c.loop-left.front.flags in
-    let few = records_few h c.is_sound.ensures.valid.shape in
+    let few = records_few h c.invariant.ensures.valid.shape in
     let some = c.loop-left-test.true in
     let low = key_at_in c.loop-left.moves c.in-Some.k c.in-Some.field-0-1 c.in-Some.ensures.some.there in
     let moves_len = c.loop-left.invariant.to_do.moves.len in

@@ -18,11 +18,11 @@ loop-cursor-init g c =
     let all = start_rest xs cursor c.first_active-cursor.ensures in
     let same = ap length all in
     let wanted = is_wanted h c.args.view.now in
-    let some : (v : _) → v < node_count h → is_active h S v ≡ true → has _ v ≡ true = λ v l a. subst (λ ys. has ys v ≡ true) (sym all) ((c.is_sound.ensures.active.each v).1 (l, a)) in
-    let none = tests_none h c.is_sound.ensures.valid.shape wanted S _ some in
+    let some : (v : _) → v < node_count h → is_active h S v ≡ true → has _ v ≡ true = λ v l a. subst (λ ys. has ys v ≡ true) (sym all) ((c.invariant.ensures.active.each v).1 (l, a)) in
+    let none = tests_none h c.invariant.ensures.valid.shape wanted S _ some in
     record {
-      seen = none_seen h c.is_sound.ensures.valid.shape wanted S _ c.args.moves.now some c.requires.moves c.requires.no_moves;
-      tried = none_tried h c.is_sound.ensures.valid.shape wanted S _ c.args.work.now some c.requires.work c.requires.no_work;
+      seen = none_seen h c.invariant.ensures.valid.shape wanted S _ c.args.moves.now some c.requires.moves c.requires.no_moves;
+      tried = none_tried h c.invariant.ensures.valid.shape wanted S _ c.args.work.now some c.requires.work c.requires.no_work;
       active = start_in xs cursor c.first_active-cursor.ensures;
       cost = omega arith;
     }
@@ -30,35 +30,35 @@ loop-cursor-init g c =
 pub look-requires-clause-node : goal.look-requires-clause-node
 look-requires-clause-node g c =
     let there = cursor_in c.args.front.now.active c.loop-cursor.cursor c.in-Some.node c.in-Some.is c.loop-cursor.invariant.active in
-    let p = (c.is_sound.ensures.active.each c.in-Some.node.0).0 there in
+    let p = (c.invariant.ensures.active.each c.in-Some.node.0).0 there in
     subst (λ (x : Hierarchy). c.in-Some.node.0 < node_count x) (sym c.hierarchy.ensures) p.0
 
 pub try_maker-requires-clause-node : goal.try_maker-requires-clause-node
 try_maker-requires-clause-node g c =
     let there = cursor_in c.args.front.now.active c.loop-cursor.cursor c.in-Some.node c.in-Some.is c.loop-cursor.invariant.active in
-    ((c.is_sound.ensures.active.each c.in-Some.node.0).0 there).0
+    ((c.invariant.ensures.active.each c.in-Some.node.0).0 there).0
 
 pub try_maker-requires-clause-active : goal.try_maker-requires-clause-active
 try_maker-requires-clause-active g c =
     let there = cursor_in c.args.front.now.active c.loop-cursor.cursor c.in-Some.node c.in-Some.is c.loop-cursor.invariant.active in
-    ((c.is_sound.ensures.active.each c.in-Some.node.0).0 there).1
+    ((c.invariant.ensures.active.each c.in-Some.node.0).0 there).1
 
 pub next_active-cursor-requires-clause-node : goal.next_active-cursor-requires-clause-node
 next_active-cursor-requires-clause-node g c =
     let there = cursor_in c.args.front.now.active c.loop-cursor.cursor c.in-Some.node c.in-Some.is c.loop-cursor.invariant.active in
-    ((c.is_sound.ensures.active.each c.in-Some.node.0).0 there).0
+    ((c.invariant.ensures.active.each c.in-Some.node.0).0 there).0
 
 pub next_active-cursor-requires-clause-active : goal.next_active-cursor-requires-clause-active
 next_active-cursor-requires-clause-active g c =
     let there = cursor_in c.args.front.now.active c.loop-cursor.cursor c.in-Some.node c.in-Some.is c.loop-cursor.invariant.active in
-    ((c.is_sound.ensures.active.each c.in-Some.node.0).0 there).1
+    ((c.invariant.ensures.active.each c.in-Some.node.0).0 there).1
 
 pub loop-cursor-smaller : goal.loop-cursor-smaller
 loop-cursor-smaller g c =
     let xs = c.args.front.now.active in
     let there = cursor_in xs c.loop-cursor.cursor c.in-Some.node c.in-Some.is c.loop-cursor.invariant.active in
     let here = ap length (cursor_rest xs c.loop-cursor.cursor c.in-Some.node c.in-Some.is) in
-    let later = ap length (next_rest xs c.next_active-cursor.result c.in-Some.node.0 c.is_sound.ensures.active.once there c.next_active-cursor.ensures) in
+    let later = ap length (next_rest xs c.next_active-cursor.result c.in-Some.node.0 c.invariant.ensures.active.once there c.next_active-cursor.ensures) in
     omega arith
 
 pub loop-cursor-preserved : goal.loop-cursor-preserved
@@ -67,12 +67,12 @@ loop-cursor-preserved g c =
     let S = set_of c.args.front.now.flags in
     let view = c.args.view.now in
     let wanted = is_wanted h view in
-    let shape = c.is_sound.ensures.valid.shape in
+    let shape = c.invariant.ensures.valid.shape in
     let xs = c.args.front.now.active in
     let cursor = c.loop-cursor.cursor in
     let node = c.in-Some.node in
     let next = c.next_active-cursor.result in
-    let once = c.is_sound.ensures.active.once in
+    let once = c.invariant.ensures.active.once in
     let there = cursor_in xs cursor node c.in-Some.is c.loop-cursor.invariant.active in
     let rest_is = next_rest xs next node.0 once there c.next_active-cursor.ensures in
     let here_is = cursor_rest xs cursor node c.in-Some.is in
@@ -88,7 +88,7 @@ loop-cursor-preserved g c =
     let cost_too = c.try_maker.ensures.cost in
     let before = c.loop-cursor.invariant.cost in
     record {
-      seen = seen_more h shape wanted S _ _ node.0 c.loop-cursor.moves c.look.new.moves s ((c.is_sound.ensures.active.each node.0).0 there).1 (one_less xs cursor node next c.in-Some.is rest_is)
+      seen = seen_more h shape wanted S _ _ node.0 c.loop-cursor.moves c.look.new.moves s ((c.invariant.ensures.active.each node.0).0 there).1 (one_less xs cursor node next c.in-Some.is rest_is)
           (c.look.ensures.len ∙ s.moves_len) c.look.ensures.keyed
           (subst (λ (x : Hierarchy). Joins (held c.loop-cursor.moves) (held c.look.new.moves) (leads_to x (is_wanted x view) node.0)) c.hierarchy.ensures c.look.ensures.joined);
       tried = tried_more h shape wanted S _ _ node.0 c.loop-cursor.work c.try_maker.new.work t (one_less xs cursor node next c.in-Some.is rest_is)
@@ -101,6 +101,6 @@ pub returns-clause-cost : goal.returns-clause-cost
 returns-clause-cost g c =
     let h = c.args.front.now.h in
     let S = set_of c.args.front.now.flags in
-    let few = tests_few h c.is_sound.ensures.valid.shape (is_wanted h c.args.view.now) S (has (rest (number c.loop-cursor.cursor) c.args.front.now.active)) in
+    let few = tests_few h c.invariant.ensures.valid.shape (is_wanted h c.args.view.now) S (has (rest (number c.loop-cursor.cursor) c.args.front.now.active)) in
     let before = c.loop-cursor.invariant.cost in
     omega arith

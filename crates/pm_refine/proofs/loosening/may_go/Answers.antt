@@ -7,7 +7,7 @@ use Rattle.pm_refine.proofs.NeedLaws.{remaining_all, remaining_whole}
 use Rattle.pm_refine.proofs.loosening.may_go.Goals as goal
 
 pub nothing_needs-requires-clause-closed : goal.nothing_needs-requires-clause-closed
-nothing_needs-requires-clause-closed g c = remaining_whole c.args.front.now.h (set_of c.args.front.now.flags) (set_of c.args.gone.now) c.is_sound.ensures.closed c.requires.clear
+nothing_needs-requires-clause-closed g c = remaining_whole c.args.front.now.h (set_of c.args.front.now.flags) (set_of c.args.gone.now) c.invariant.ensures.closed c.requires.clear
 
 pub returns-then-not-nothing_needs-clause-value : goal.returns-then-not-nothing_needs-clause-value
 returns-then-not-nothing_needs-clause-value g c =

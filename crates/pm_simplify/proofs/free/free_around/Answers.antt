@@ -21,7 +21,7 @@ pub free-requires-clause-face_in : goal.free-requires-clause-face_in
 free-requires-clause-face_in c =
     let fan : List ℕ = fan_at c.args.shrink.now c.args.v in
     let walk : IsWalk fan (λ e. list_of c.loop-at.waiting (face_of e) ≡ []) (Some c.in-Some.corner) = subst (IsWalk fan (λ e. list_of c.loop-at.waiting (face_of e) ≡ [])) c.in-Some.is c.loop-at.invariant.walk in
-    let low = (((c.is_kept.ensures.corners c.args.v).each c.in-Some.corner.0).0 walk.held).0.is_side in
+    let low = (((c.invariant.ensures.kept.corners c.args.v).each c.in-Some.corner.0).0 walk.held).0.is_side in
     let heads = c.loop-at.invariant.heads in
     let all = c.requires.heads in
     omega arith
@@ -31,7 +31,7 @@ loop-at-smaller c =
     let fan : List ℕ = fan_at c.args.shrink.now c.args.v in
     let walk : IsWalk fan (λ e. list_of c.loop-at.waiting (face_of e) ≡ []) (Some c.in-Some.corner) = subst (IsWalk fan (λ e. list_of c.loop-at.waiting (face_of e) ≡ [])) c.in-Some.is c.loop-at.invariant.walk in
     subst (λ (o : Option Side). length (still c.next_corner-at.result fan) < length (still o fan)) (sym c.in-Some.is)
-    (fan_shorter c.args.shrink.now c.args.v (c.is_kept.ensures.corners c.args.v) c.in-Some.corner c.next_corner-at.result walk.held c.next_corner-at.ensures.value)
+    (fan_shorter c.args.shrink.now c.args.v (c.invariant.ensures.kept.corners c.args.v) c.in-Some.corner c.next_corner-at.result walk.held c.next_corner-at.ensures.value)
 
 pub loop-at-preserved : goal.loop-at-preserved
 loop-at-preserved c =
@@ -42,7 +42,7 @@ loop-at-preserved c =
       room = c.free.ensures.room ∙ i.room;
       items = c.free.ensures.items ∙ i.items;
       heads = c.free.ensures.heads ∙ i.heads;
-      walk = fan_goes c.args.shrink.now c.args.v (c.is_kept.ensures.corners c.args.v) c.in-Some.corner c.next_corner-at.result walk.held c.next_corner-at.ensures.value
+      walk = fan_goes c.args.shrink.now c.args.v (c.invariant.ensures.kept.corners c.args.v) c.in-Some.corner c.next_corner-at.result walk.held c.next_corner-at.ensures.value
           (λ e. list_of c.loop-at.waiting (face_of e) ≡ []) (λ e. list_of c.free.new.waiting (face_of e) ≡ []) walk
           (λ e. c.free.ensures.others (face_of e)) c.free.ensures.empty;
       others = λ f none. c.free.ensures.others f (i.others f none);
@@ -52,4 +52,4 @@ loop-at-preserved c =
 pub returns-clause-empty : goal.returns-clause-empty
 returns-clause-empty c = λ e st from.
     let Done : ℕ → Type 0 = λ e. list_of c.loop-at.waiting (face_of e) ≡ [] in
-    walk_ends (fan_at c.args.shrink.now c.args.v) Done (subst (IsWalk (fan_at c.args.shrink.now c.args.v) Done) c.in_default.is c.loop-at.invariant.walk) e (((c.is_kept.ensures.corners c.args.v).each e).1 (st, from))
+    walk_ends (fan_at c.args.shrink.now c.args.v) Done (subst (IsWalk (fan_at c.args.shrink.now c.args.v) Done) c.in_default.is c.loop-at.invariant.walk) e (((c.invariant.ensures.kept.corners c.args.v).each e).1 (st, from))

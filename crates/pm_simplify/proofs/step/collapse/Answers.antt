@@ -27,13 +27,13 @@ free_around-requires-2-clause-live c = let (m, log, after, x) = c.requires.candi
 pub forget-requires-clause-small : goal.forget-requires-clause-small
 forget-requires-clause-small c =
     let n = net_at c.args.shrink.now in
-    subst (λ (x : Entry). IfSome x.left (λ g. g.face.0 < 1048576)) (sym c.collapse-entry.ensures.entry) (gone_small n c.args.a c.args.b (side_count n) refl c.is_kept.ensures.short)
+    subst (λ (x : Entry). IfSome x.left (λ g. g.face.0 < 1048576)) (sym c.collapse-entry.ensures.entry) (gone_small n c.args.a c.args.b (side_count n) refl c.invariant.ensures.kept.short)
 
 pub forget-requires-clause-face : goal.forget-requires-clause-face
 forget-requires-clause-face c =
     let n = net_at c.args.shrink.now in
     let room = c.free_around-2.ensures.room ∙ c.free_around.ensures.room ∙ c.requires.room in
-    subst (λ (x : Entry). IfSome x.left (λ g. 3 * g.face.0 + 2 < length c.free_around-2.new.queue)) (sym c.collapse-entry.ensures.entry) (gone_within n c.args.a c.args.b (length c.free_around-2.new.queue) room c.is_kept.ensures.short)
+    subst (λ (x : Entry). IfSome x.left (λ g. 3 * g.face.0 + 2 < length c.free_around-2.new.queue)) (sym c.collapse-entry.ensures.entry) (gone_within n c.args.a c.args.b (length c.free_around-2.new.queue) room c.invariant.ensures.kept.short)
 
 pub forget-requires-clause-first : goal.forget-requires-clause-first
 forget-requires-clause-first c =
@@ -50,13 +50,13 @@ forget-requires-clause-second c =
 pub forget-requires-2-clause-small : goal.forget-requires-2-clause-small
 forget-requires-2-clause-small c =
     let n = net_at c.args.shrink.now in
-    subst (λ (x : Entry). IfSome x.right (λ g. g.face.0 < 1048576)) (sym c.collapse-entry.ensures.entry) (gone_small n c.args.b c.args.a (side_count n) refl c.is_kept.ensures.short)
+    subst (λ (x : Entry). IfSome x.right (λ g. g.face.0 < 1048576)) (sym c.collapse-entry.ensures.entry) (gone_small n c.args.b c.args.a (side_count n) refl c.invariant.ensures.kept.short)
 
 pub forget-requires-2-clause-face : goal.forget-requires-2-clause-face
 forget-requires-2-clause-face c =
     let n = net_at c.args.shrink.now in
     let room = c.forget.ensures.room ∙ c.free_around-2.ensures.room ∙ c.free_around.ensures.room ∙ c.requires.room in
-    subst (λ (x : Entry). IfSome x.right (λ g. 3 * g.face.0 + 2 < length c.forget.new.queue)) (sym c.collapse-entry.ensures.entry) (gone_within n c.args.b c.args.a (length c.forget.new.queue) room c.is_kept.ensures.short)
+    subst (λ (x : Entry). IfSome x.right (λ g. 3 * g.face.0 + 2 < length c.forget.new.queue)) (sym c.collapse-entry.ensures.entry) (gone_within n c.args.b c.args.a (length c.forget.new.queue) room c.invariant.ensures.kept.short)
 
 pub forget-requires-2-clause-first : goal.forget-requires-2-clause-first
 forget-requires-2-clause-first c =

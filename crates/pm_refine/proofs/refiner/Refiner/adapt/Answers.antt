@@ -16,7 +16,7 @@ use Rattle.pm_refine.proofs.refiner.Refiner.adapt.Goals as goal
 pub advance-requires-clause-closed : goal.advance-requires-clause-closed
 advance-requires-clause-closed g c =
     let h = c.args.front.now.h in
-    (target-least h c.is_sound.ensures.valid.shape (is_wanted h c.args.view.now)).closed
+    (target-least h c.invariant.ensures.valid.shape (is_wanted h c.args.view.now)).closed
 
 pub returns-clause-answer : goal.returns-clause-answer
 returns-clause-answer g c =
@@ -30,7 +30,7 @@ returns-clause-settled g c moves settled =
     let S = set_of c.args.front.now.flags in
     let view = c.args.view.now in
     let answer = c.adapted.ensures ∙ ap (adapted_of c.args.budget) (c.decide_all-moves.ensures.answer ∙ sym (length-plan h S (view_target h view))) in
-    settled_there h view S c.advance.new.front.flags c.args.budget moves (c.is_sound-2.ensures.flags ∙ ap record_count c.advance.ensures.hierarchy) c.advance.ensures.moved
+    settled_there h view S c.advance.new.front.flags c.args.budget moves (c.invariant-2.ensures.flags ∙ ap record_count c.advance.ensures.hierarchy) c.advance.ensures.moved
     (subst (λ a. a ≡ answers.Settled moves) answer settled)
 
 pub returns-clause-cost : goal.returns-clause-cost
@@ -38,9 +38,9 @@ returns-clause-cost g c =
     let h = c.args.front.now.h in
     let S = set_of c.args.front.now.flags in
     let view = c.args.view.now in
-    let shape = c.is_sound.ensures.valid.shape in
-    let closed = c.is_sound.ensures.closed in
-    let long = as_long h S c.args.front.now.active c.is_sound.ensures.active in
+    let shape = c.invariant.ensures.valid.shape in
+    let closed = c.invariant.ensures.closed in
+    let long = as_long h S c.args.front.now.active c.invariant.ensures.active in
     let many = active_many h S (closed-front h S closed) in
     let due = due_few h shape (is_wanted h view) S closed in
     let plan = length-plan h S (view_target h view) in

@@ -8,7 +8,7 @@ use Rattle.pm_shrink.proofs.shrink.Shrink.are_once_on_border.Goals as goal
 pub returns : goal.returns
 returns c =
     let m : Net = net_at c.args.self.now in
-    let no_twice = c.is_kept.ensures.proper.once in
+    let no_twice = c.invariant.ensures.kept.proper.once in
     let twice = c.are_twice_on_border.ensures in
     let result : Bool = c.are_twice_on_border.result in (
       λ t. border_once m no_twice c.args.a c.args.b (λ x y h k. both_ways_not result (twice.1 ((x, y), (h, k))) t),

@@ -24,12 +24,12 @@ use Rattle.pm_shrink.proofs.shrink.Shrink.collapse.Goals as goal
 
 pub gone-left-requires : goal.gone-left-requires
 gone-left-requires c =
-    let live = joined_live c.args.self.now.surface c.is_kept.ensures.surface c.args.a c.args.b c.requires.legal.joined in
+    let live = joined_live c.args.self.now.surface c.invariant.ensures.kept.surface c.args.a c.args.b c.requires.legal.joined in
     live.0
 
 pub gone-right-requires : goal.gone-right-requires
 gone-right-requires c =
-    let live = joined_live c.args.self.now.surface c.is_kept.ensures.surface c.args.a c.args.b c.requires.legal.joined in
+    let live = joined_live c.args.self.now.surface c.invariant.ensures.kept.surface c.args.a c.args.b c.requires.legal.joined in
     live.1
 
 pub drop_face-requires-clause-face : goal.drop_face-requires-clause-face

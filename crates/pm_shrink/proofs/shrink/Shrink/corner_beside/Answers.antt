@@ -13,7 +13,7 @@ pub next-requires : goal.next-requires
 next-requires c =
     let w : IsTwin (net_at c.args.self.now) c.args.corner c.in-Some.twin = c.in-Some.ensures {u = tt} in
     let l = w.stands.is_side in
-    let few = c.has_few_sides.ensures in
+    let few = c.invariant.ensures.few_sides in
     omega arith
 
 pub returns-in-Left : goal.returns-in-Left

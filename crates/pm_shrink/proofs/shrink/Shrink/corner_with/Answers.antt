@@ -31,14 +31,14 @@ pub next-requires-then-to-p : goal.next-requires-then-to-p
 next-requires-then-to-p c =
     let stands : Stands (net_at c.args.self.now) c.in-Some-Some.from_q = (rw (c.in-Some-Some.ensures' {u = tt}).steps at c.loop-from_p.invariant.stand_q) 0 0 (omega arith) in
     let l = stands.is_side in
-    let few = c.has_few_sides.ensures in
+    let few = c.invariant.ensures.few_sides in
     omega arith
 
 pub prev-requires : goal.prev-requires
 prev-requires c =
     let stands : Stands (net_at c.args.self.now) c.in-Some-Some.from_q = (rw (c.in-Some-Some.ensures' {u = tt}).steps at c.loop-from_p.invariant.stand_q) 0 0 (omega arith) in
     let l = stands.is_side in
-    let few = c.has_few_sides.ensures in
+    let few = c.invariant.ensures.few_sides in
     omega arith
 
 pub returns-then-to-p : goal.returns-then-to-p

@@ -6,7 +6,7 @@ use Rattle.pm_shrink.specs.Shrinking.{net_at}
 use Rattle.pm_shrink.proofs.shrink.Shrink.gone.Goals as goal
 
 pub next-requires : goal.next-requires
-next-requires c = (let l = (found-runs (net_at c.args.self.now) c.args.p c.args.q c.in-Some.side (sym c.side_to.ensures ∙ c.in-Some.is)).stands.is_side in omega (arith, c.has_few_sides.ensures))
+next-requires c = (let l = (found-runs (net_at c.args.self.now) c.args.p c.args.q c.in-Some.side (sym c.side_to.ensures ∙ c.in-Some.is)).stands.is_side in omega (arith, c.invariant.ensures.few_sides))
 
 pub across-requires : goal.across-requires
 across-requires c =
@@ -15,7 +15,7 @@ across-requires c =
     subst (Stands m) (sym c.next.ensures.value) (stands_next m c.in-Some.side r.stands)
 
 pub prev-requires : goal.prev-requires
-prev-requires c = (let l = (found-runs (net_at c.args.self.now) c.args.p c.args.q c.in-Some.side (sym c.side_to.ensures ∙ c.in-Some.is)).stands.is_side in omega (arith, c.has_few_sides.ensures))
+prev-requires c = (let l = (found-runs (net_at c.args.self.now) c.args.p c.args.q c.in-Some.side (sym c.side_to.ensures ∙ c.in-Some.is)).stands.is_side in omega (arith, c.invariant.ensures.few_sides))
 
 pub across-requires-in-Some : goal.across-requires-in-Some
 across-requires-in-Some c =

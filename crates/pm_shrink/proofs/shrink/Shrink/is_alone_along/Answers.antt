@@ -33,7 +33,7 @@ returns-then-is_border_side c =
       λ t. (let p = and_parts first second (sym c.is_alone_beside.ensures ∙ t) in
           (e, r, (border-side m e r.stands).0 (sym c.is_border_side.ensures ∙ c.if-is_border_side.true), (border-side m (next e) one).0 p.0, (border-side m (prev e) two).0 p.1)),
       λ (g, w, x, y, z). (
-          let same : g ≡ e = same_Some g e (sym (runs-found m c.args.p c.args.q c.is_kept.ensures.proper.once g w) ∙ found) in
+          let same : g ≡ e = same_Some g e (sym (runs-found m c.args.p c.args.q c.invariant.ensures.kept.proper.once g w) ∙ found) in
           c.is_alone_beside.ensures ∙ and_from first second
           ((border-side m (next e) one).1 (subst (λ (k : ℕ). IsBorderSide m (next k)) same y)) ((border-side m (prev e) two).1 (subst (λ (k : ℕ). IsBorderSide m (prev k)) same z))),
     )
@@ -46,6 +46,6 @@ returns-else-is_border_side c =
     let r = found-runs m c.args.p c.args.q e found in (
       λ t. absurd (false≢true (sym c.if-is_border_side.false ∙ t)),
       λ (g, w, x, y, z). (
-          let same : g ≡ e = same_Some g e (sym (runs-found m c.args.p c.args.q c.is_kept.ensures.proper.once g w) ∙ found) in
+          let same : g ≡ e = same_Some g e (sym (runs-found m c.args.p c.args.q c.invariant.ensures.kept.proper.once g w) ∙ found) in
           c.is_border_side.ensures ∙ (border-side m e r.stands).1 (subst (IsBorderSide m) same x)),
     )

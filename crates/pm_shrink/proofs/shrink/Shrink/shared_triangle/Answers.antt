@@ -22,7 +22,7 @@ pub returns-then-not-has_face : goal.returns-then-not-has_face
 returns-then-not-has_face c =
     let m : Net = net_at c.args.self.now in
     let found = rw (c.third-v.ensures, c.third-w.ensures) at c.has_face.ensures in
-    only_triangle m c.args.a c.args.b c.is_kept.ensures.proper.once c.in-Some-Some.left c.in-Some-Some.right (sym c.side_to.ensures ∙ c.in-Some-Some.is-0) (sym c.side_to-2.ensures ∙ c.in-Some-Some.is-1)
+    only_triangle m c.args.a c.args.b c.invariant.ensures.kept.proper.once c.in-Some-Some.left c.in-Some-Some.right (sym c.side_to.ensures ∙ c.in-Some-Some.is-0) (sym c.side_to-2.ensures ∙ c.in-Some-Some.is-1)
     (λ f k. false≢true (sym c.if-not-has_face.true ∙ found.1 k))
 
 pub returns : goal.returns
@@ -30,5 +30,5 @@ returns c =
     let m : Net = net_at c.args.self.now in
     let found = rw (c.third-v.ensures, c.third-w.ensures) at c.has_face.ensures in
     let with = rw (c.third-v.ensures, c.third-w.ensures) at c.face_with.ensures in
-    triangle_told m c.args.a c.args.b c.is_kept.ensures.proper.once c.in-Some-Some.left c.in-Some-Some.right (sym c.side_to.ensures ∙ c.in-Some-Some.is-0) (sym c.side_to-2.ensures ∙ c.in-Some-Some.is-1)
+    triangle_told m c.args.a c.args.b c.invariant.ensures.kept.proper.once c.in-Some-Some.left c.in-Some-Some.right (sym c.side_to.ensures ∙ c.in-Some-Some.is-0) (sym c.side_to-2.ensures ∙ c.in-Some-Some.is-1)
     (found.0 c.if-not-has_face.false) c.face_with.result with

@@ -15,7 +15,7 @@ returns-then-to-q c =
     let e : ℕ = c.in-Some.corner in
     let stands : Stands m e = (rw steps at c.loop-corner.invariant.stand) 0 0 (omega arith) in
     let start : m.from e ≡ c.args.p = (rw steps at c.loop-corner.invariant.start) 0 0 (omega arith) in
-    sym (runs-found m c.args.p c.args.q c.is_kept.ensures.proper.once e (record { stands = stands; begins = start; ends = sym c.to.ensures ∙ c.if-to-q.true }))
+    sym (runs-found m c.args.p c.args.q c.invariant.ensures.kept.proper.once e (record { stands = stands; begins = start; ends = sym c.to.ensures ∙ c.if-to-q.true }))
 
 pub loop-corner-preserved : goal.loop-corner-preserved
 loop-corner-preserved c =

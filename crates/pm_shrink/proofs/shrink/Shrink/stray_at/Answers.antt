@@ -15,7 +15,7 @@ pub is_stray-requires-clause-w_live : goal.is_stray-requires-clause-w_live
 is_stray-requires-clause-w_live c =
     let s = c.args.self.now.surface in
     let m : Net = net_at c.args.self.now in
-    subst (λ (v : ℕ). is_live s v ≡ true) (sym c.to.ensures) (corner_live s c.is_kept.ensures.surface (next c.args.corner) (stands_next m c.args.corner c.requires.corner))
+    subst (λ (v : ℕ). is_live s v ≡ true) (sym c.to.ensures) (corner_live s c.invariant.ensures.kept.surface (next c.args.corner) (stands_next m c.args.corner c.requires.corner))
 
 pub returns-then-is_stray : goal.returns-then-is_stray
 returns-then-is_stray c =
@@ -33,7 +33,7 @@ pub is_stray-requires-then-is_border_side-clause-w_live : goal.is_stray-requires
 is_stray-requires-then-is_border_side-clause-w_live c =
     let s = c.args.self.now.surface in
     let m : Net = net_at c.args.self.now in
-    subst (λ (v : ℕ). is_live s v ≡ true) (sym c.third.ensures) (corner_live s c.is_kept.ensures.surface (prev c.args.corner) (before_stands m c.args.corner (prev c.args.corner) c.requires.corner refl))
+    subst (λ (v : ℕ). is_live s v ≡ true) (sym c.third.ensures) (corner_live s c.invariant.ensures.kept.surface (prev c.args.corner) (before_stands m c.args.corner (prev c.args.corner) c.requires.corner refl))
 
 pub returns-then-is_stray-2 : goal.returns-then-is_stray-2
 returns-then-is_stray-2 c =
