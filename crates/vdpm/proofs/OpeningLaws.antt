@@ -92,7 +92,7 @@ valid_or_fault h shape (leaf_side_twice f is) good = repeats_twice h (leaf_mesh_
 valid_or_fault h shape (wrong_neighbour k once last) good = ((one_fails h shape once).1 k k last).0 good
 
 one_hierarchy_fault : (h : Hierarchy) → HasShape h → {f g : Fault} → IsHierarchyFault h f → IsHierarchyFault h g → f ≡ g
-one_hierarchy_fault h shape (leaf_side_twice f is) (leaf_side_twice g are) = ap (λ (k : ℕ). faults.EdgeTwice k) (first_repeating_one (net_of (leaf_mesh_of h).faces) f g is are)
+one_hierarchy_fault h shape (leaf_side_twice f is) (leaf_side_twice g are) = ap (λ (k : ℕ). faults.LeafEdgeTwice k) (first_repeating_one (net_of (leaf_mesh_of h).faces) f g is are)
 one_hierarchy_fault h shape (leaf_side_twice f is) (wrong_neighbour k once last) = absurd (repeats_twice h (leaf_mesh_formed h shape) f is once)
 one_hierarchy_fault h shape (wrong_neighbour k once last) (leaf_side_twice f is) = absurd (repeats_twice h (leaf_mesh_formed h shape) f is once)
 one_hierarchy_fault h shape (wrong_neighbour j once last) (wrong_neighbour k other least) = ap (λ (i : ℕ). faults.BadNeighbour i) (((one_fails h shape once).1 j k last).1 least)

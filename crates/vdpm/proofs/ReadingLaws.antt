@@ -146,7 +146,7 @@ load_refuses : (bytes rest : List ℕ) (d : ℕ) (h : Hierarchy) (e : LoadFail) 
     → Stops IsValidOpening (load_fail e) (Some bytes) now in_old in_new
 load_refuses bytes rest d h (loads.EdgeTwice f) now in_old in_new b fault same =
     let o : Opening = record { digits = d; h = h; rest = rest } in
-    (record { place = Some (length (stream d h)); is = invalid o (faults.EdgeTwice f.0) (Some (length (stream d h))) (opened bytes rest d h b) (leaf_side_twice f.0 fault) }, same)
+    (record { place = Some (length (stream d h)); is = invalid o (faults.LeafEdgeTwice f.0) (Some (length (stream d h))) (opened bytes rest d h b) (leaf_side_twice f.0 fault) }, same)
 load_refuses bytes rest d h (loads.BadNeighbour k) now in_old in_new b fault same =
     let o : Opening = record { digits = d; h = h; rest = rest } in
     (record { place = Some (length (stream d h)); is = invalid o (faults.BadNeighbour k) (Some (length (stream d h))) (opened bytes rest d h b) (wrong_neighbour k fault.0 fault.1) }, same)

@@ -72,7 +72,7 @@ view_faulty b (Some bytes) got f is =
 
 -- The hierarchy isn't opened.
 pub view_load : (b : ℕ) (e : LoadFail) (left now got : Option (List ℕ)) (in_old in_new : ℕ) → Stops IsValidOpening (load_fail e) left now in_old in_new → Ends (asked.View b) (Err (fail_of (load_fail e))) left now got got
-view_load b (loads.EdgeTwice f) left now got in_old in_new stops = view_faulty b left got (faults.EdgeTwice f.0) stops.0
+view_load b (loads.EdgeTwice f) left now got in_old in_new stops = view_faulty b left got (faults.LeafEdgeTwice f.0) stops.0
 view_load b (loads.BadNeighbour k) left now got in_old in_new stops = view_faulty b left got (faults.BadNeighbour k) stops.0
 view_load b loads.OutOfMemory left now got in_old in_new stops = refl
 

@@ -37,6 +37,7 @@ fault_line (faults.BadNeighbour record_number) = line_at 28 (codes "record") rec
 fault_line faults.Trailing = line_of 29
 fault_line (faults.Obj e n) = line_at (number_of e) (codes "line") n
 fault_line (faults.EdgeTwice face) = line_at 11 (codes "face") face
+fault_line (faults.LeafEdgeTwice face) = line_at 11 (codes "face") face
 fault_line (faults.NotFan vertex) = line_at 12 (codes "vertex") vertex
 fault_line (faults.BadLine n) = line_at 30 (codes "line") n
 fault_line (faults.NoRecord n) = line_at 31 (codes "line") n

@@ -52,7 +52,7 @@ stream_fail (streams.Fault (format.BadInput field)) = input.Faulty (faults.Strea
 -- What is wrong with the hierarchy of a stream: the least face of the leaf mesh that has a directed side of an earlier
 -- face; or else the last record that isn't as told. Faces and records are counted from 0.
 pub data IsHierarchyFault (h : Hierarchy) : Fault → Type 0 where
-  leaf_side_twice : (f : ℕ) → IsFirstRepeating (net_of (leaf_mesh_of h).faces) f → IsHierarchyFault h (faults.EdgeTwice f)
+  leaf_side_twice : (f : ℕ) → IsFirstRepeating (net_of (leaf_mesh_of h).faces) f → IsHierarchyFault h (faults.LeafEdgeTwice f)
   wrong_neighbour : (k : ℕ) → NoSideTwice (leaf_net h) → IsLastToFail h k → IsHierarchyFault h (faults.BadNeighbour k)
 
 -- The bytes begin with no stream text, or its hierarchy has a fault, or it is valid. The hierarchy is judged once its last
@@ -71,6 +71,6 @@ pub data IsHierarchyText (bytes : List ℕ) : Result Opening Fault → Option �
 
 -- Want of memory is no fault of a hierarchy.
 abbrev pub load_fail : LoadFail → InputFail
-load_fail (loads.EdgeTwice f) = input.Faulty (faults.EdgeTwice f.0)
+load_fail (loads.EdgeTwice f) = input.Faulty (faults.LeafEdgeTwice f.0)
 load_fail (loads.BadNeighbour k) = input.Faulty (faults.BadNeighbour k)
 load_fail loads.OutOfMemory = input.OutOfMemory

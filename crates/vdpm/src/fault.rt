@@ -22,9 +22,10 @@ pub enum Fault {
     ScriptTooLong,
     /// This line of an OBJ text, counted from 1, has this fault.
     Obj(ObjFault, u32),
-    /// A directed side of this face is one of an earlier face too. The faces of an OBJ text are counted from 1, those of
-    /// a stream from 0.
+    /// A directed side of this face of an OBJ text, counted from 1, is one of an earlier face too.
     EdgeTwice(u32),
+    /// A directed side of this face of a stream's leaf mesh, counted from 0, is one of an earlier face too.
+    LeafEdgeTwice(u32),
     /// The faces at this vertex, counted from 1, are no fan.
     NotFan(u32),
 }

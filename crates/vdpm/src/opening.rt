@@ -27,7 +27,7 @@ pub fn load_fail(fail: LoadFail) -> InputFail
     ensures { result ≡ load_fail fail }
 {
     match fail {
-        LoadFail::EdgeTwice(face) => InputFail::Faulty(Fault::EdgeTwice(face.0)),
+        LoadFail::EdgeTwice(face) => InputFail::Faulty(Fault::LeafEdgeTwice(face.0)),
         LoadFail::BadNeighbour(record) => InputFail::Faulty(Fault::BadNeighbour(record)),
         LoadFail::OutOfMemory => InputFail::OutOfMemory,
     }

@@ -75,6 +75,7 @@ fn put_fault(line: &mut Line, fault: Fault)
         Fault::ScriptTooLong => put_number(line, 32),
         Fault::Obj(fault, number) => put_place(line, fault.number(), b"line", u64::from(number)),
         Fault::EdgeTwice(face) => put_place(line, 11, b"face", u64::from(face)),
+        Fault::LeafEdgeTwice(face) => put_place(line, 11, b"face", u64::from(face)),
         Fault::NotFan(vertex) => put_place(line, 12, b"vertex", u64::from(vertex)),
     }
 }
