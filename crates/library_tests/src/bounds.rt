@@ -1,4 +1,4 @@
-// Tests of pm_bounds.
+//! Tests of pm_bounds.
 ghost use Rattle.std.specs.Prelude.{◌≡◌, ◌<◌, length, IfOk};
 ghost use Rattle.pm_forest.specs.Forest.{node_count};
 

@@ -1,4 +1,4 @@
-// Tests of pm_fans.
+//! Tests of pm_fans.
 ghost use Rattle.std.specs.Prelude.{ℕ, ◌<◌, length, slice_index_or};
 ghost use Rattle.pm_base.specs.Sides.{no_corners};
 ghost use Rattle.pm_fans.specs.Keys.{IsShort};

@@ -1,4 +1,4 @@
-// Tests of pm_forest.
+//! Tests of pm_forest.
 use pm_base::{Corners, FaceId, Mesh, NodeId};
 use pm_samples::{face, octahedron, square};
 use std::test::Fail;

@@ -1,4 +1,4 @@
-// Tests of pm_grid.
+//! Tests of pm_grid.
 use pm_base::{Corners, Point};
 use pm_grid::grid;
 use std::test::Fail;

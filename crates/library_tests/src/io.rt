@@ -1,4 +1,4 @@
-// Tests of pm_io.
+//! Tests of pm_io.
 use pm_io::{MemSink, MemSource, Sink, Source, StdSink, StdSource, SureSource, Taker, put_all};
 
 // Copies what a source gives to a sink through a window, until the source ends or a device fails. Answers how many

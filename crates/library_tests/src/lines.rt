@@ -1,4 +1,4 @@
-// Tests of obj_lines.
+//! Tests of obj_lines.
 ghost use Rattle.std.specs.Prelude.{◌≡◌, ◌<◌, ◌≤◌, length, IfOk};
 ghost use Rattle.obj_lines.specs.Feeding.{is_going};
 

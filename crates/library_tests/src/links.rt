@@ -1,4 +1,4 @@
-// Tests of pm_links.
+//! Tests of pm_links.
 ghost use Rattle.std.specs.Prelude.{◌≡◌, ◌<◌, length};
 
 use pm_links::{Links, OutOfMemory};

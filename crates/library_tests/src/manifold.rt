@@ -1,4 +1,4 @@
-// Tests of pm_manifold.
+//! Tests of pm_manifold.
 use crate::load::opened;
 use pm_front::Front;
 use pm_manifold::{Measure, Tracer};

@@ -1,4 +1,4 @@
-// Tests of pm_quadric.
+//! Tests of pm_quadric.
 use pm_base::Point;
 use pm_quadric::{Quadric, best_place};
 use std::process::Abort;

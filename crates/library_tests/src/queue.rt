@@ -1,4 +1,4 @@
-// Tests of pm_queue.
+//! Tests of pm_queue.
 use pm_queue::{Key, Queue};
 use std::test::Fail;
 

@@ -1,4 +1,4 @@
-// Tests of obj_read.
+//! Tests of obj_read.
 ghost use Rattle.std.specs.Prelude.{◌≤◌};
 
 use obj_read::ObjFault::*;

@@ -1,4 +1,4 @@
-// Tests of obj_scan.
+//! Tests of obj_scan.
 ghost use Rattle.std.specs.Prelude.{◌≤◌};
 
 use obj_read::ObjFault::*;

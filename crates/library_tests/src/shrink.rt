@@ -1,4 +1,4 @@
-// Tests of pm_shrink.
+//! Tests of pm_shrink.
 ghost use Rattle.std.specs.Prelude.{◌≤◌, length};
 
 use pm_base::{Collapse, FaceId, Gone, Point, Side};

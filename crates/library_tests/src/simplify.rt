@@ -1,4 +1,4 @@
-// Tests of pm_simplify.
+//! Tests of pm_simplify.
 use pm_base::{Collapse, FaceId, Gone, Point, Side};
 use pm_samples::{OCTAHEDRON, OCTAHEDRON_FACES, Spot, Triple, mesh};
 use pm_simplify::{SimplifyFail, simplify};

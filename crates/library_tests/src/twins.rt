@@ -1,4 +1,4 @@
-// Tests of pm_twins.
+//! Tests of pm_twins.
 ghost use Rattle.std.specs.Prelude.{◌≤◌, length};
 
 use pm_base::{FaceId, Side};

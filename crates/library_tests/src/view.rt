@@ -1,4 +1,4 @@
-// Tests of pm_view.
+//! Tests of pm_view.
 ghost use Rattle.std.specs.Prelude.{◌≡◌, ◌<◌};
 ghost use Rattle.pm_forest.specs.Forest.{node_count};
 ghost use Rattle.pm_bounds.specs.Bounds.{AreBoundsOf};

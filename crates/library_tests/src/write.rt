@@ -1,4 +1,4 @@
-// Tests of obj_write.
+//! Tests of obj_write.
 ghost use Rattle.std.specs.Prelude.{◌≤◌, length, IfOk};
 ghost use Rattle.pm_base.specs.Meshes.{IsWellFormed, mesh_of};
 

@@ -1,3 +1,4 @@
+//! The lines of a text that comes in pieces.
 ghost use Rattle.std.specs.Prelude.{◌≡◌, ◌+◌, ◌<◌, ◌≤◌, [], length, true, vec_capacity, IfOk};
 ghost use Rattle.obj_lines.specs.Feeding.{begun, is_going, is_line, opened, open_line, last_line, line_state, end_state, fed, fed_state, fed_used, finished, number};
 

@@ -1,3 +1,4 @@
+//! What one piece of a text does to the open line.
 /// What came of a piece.
 #[derive(Clone, Copy, Debug, PartialEq, Eq)]
 pub enum LineState {

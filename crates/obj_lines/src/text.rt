@@ -1,4 +1,4 @@
-// What is read of a line.
+//! What is read of a line.
 ghost use Rattle.std.specs.Prelude.{◌≡◌, ◌≤◌, length};
 ghost use Rattle.obj_lines.specs.Text.{until, without_cr, content, is_continued};
 

@@ -1,4 +1,4 @@
-// Counting what was done.
+//! Counting what was done.
 ghost use Rattle.std.specs.Prelude.{◌≡◌, ◌≤◌, length};
 ghost use Rattle.std.specs.List.{filter};
 ghost use Rattle.pm_fans.specs.Kept.{is_flat as is_flat_of};

@@ -1,5 +1,5 @@
-// A coordinate in a field of a line: a sign where there is one, digits, a point with decimals where there is one, and an
-// exponent where there is one.
+//! A coordinate in a field of a line: a sign where there is one, digits, a point with decimals where there is one, and an
+//! exponent where there is one.
 ghost use Rattle.std.specs.Prelude.{◌≡◌, ◌≤◌, ◌^◌, ◌+◌, min, true, length, IfOk, unsigned_abs};
 ghost use Rattle.pm_io.specs.Digits.{are_digits};
 ghost use Rattle.obj_read.specs.Coordinates.{with_sign};

@@ -1,3 +1,4 @@
+//! Points in units of 10^-18, as texts spell them.
 ghost use Rattle.std.specs.Prelude.{◌≡◌, ◌≤◌, ◌^◌, true, false, unsigned_abs, IfSome, OnSome, IfNone};
 ghost use Rattle.std.specs.Int.{int_min, int_max};
 ghost use Rattle.obj_prepare.specs.Exact.{is_exact, are_exact, AreExact, lower, upper};

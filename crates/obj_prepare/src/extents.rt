@@ -1,4 +1,4 @@
-// The box of points, and their places on the grid.
+//! The box of points, and their places on the grid.
 ghost use Rattle.std.specs.Prelude.{◌≡◌, ◌≤◌, ◌<◌, ◌*◌, ◌^◌, ℤ, ◌+ℤ◌, ◌-ℤ◌, ◌≤ℤ◌, unsigned_abs};
 ghost use Rattle.obj_prepare.specs.Boxes.{along, off_middle, box_of, extent, scaled, IsInBox};
 

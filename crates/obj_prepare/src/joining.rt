@@ -1,4 +1,4 @@
-// Vertices at one place become one. The first at each place is kept in a map by the place as one number.
+//! Vertices at one place become one. The first at each place is kept in a map by the place as one number.
 ghost use Rattle.std.specs.Prelude.{◌≡◌, ◌<◌, ◌≤◌, ◌+◌, List, length, true, unsigned_abs, IfOk, OnOk};
 ghost use Rattle.pm_base.specs.declared.mesh.Corners.{Corners as FaceCorners};
 ghost use Rattle.pm_base.specs.Place.{IsPlace};

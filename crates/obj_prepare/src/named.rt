@@ -1,4 +1,4 @@
-// The vertices that a face names.
+//! The vertices that a face names.
 ghost use Rattle.std.specs.Prelude.{◌≡◌, ℕ, List, [], ◌∷◌, ◌++◌, length, IfOk};
 ghost use Rattle.pm_base.specs.declared.mesh.Corners.{Corners as FaceCorners};
 ghost use Rattle.obj_prepare.specs.Named.{AreCorners, IsWithin, named_in};

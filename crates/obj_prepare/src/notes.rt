@@ -1,3 +1,4 @@
+//! The numbers of what was done to a mesh.
 /// What was done to triangles, in numbers.
 #[derive(Clone, Copy, Debug, PartialEq, Eq)]
 pub struct Notes {

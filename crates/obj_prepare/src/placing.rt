@@ -1,4 +1,4 @@
-// Points come to stand on the grid.
+//! Points come to stand on the grid.
 ghost use Rattle.std.specs.Prelude.{◌≡◌, [], length, IfOk, MatchOption};
 ghost use Rattle.std.specs.List.{All, list_all};
 ghost use Rattle.obj_prepare.specs.Boxes.{box_of};

@@ -1,4 +1,4 @@
-// Points scaled by their box.
+//! Points scaled by their box.
 ghost use Rattle.std.specs.Prelude.{◌≡◌, ◌<◌, ◌≤◌, ◌*◌, ◌^◌, unsigned_abs};
 ghost use Rattle.obj_prepare.specs.Numbers.{nearest};
 ghost use Rattle.obj_prepare.specs.Boxes.{along};

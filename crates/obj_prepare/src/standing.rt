@@ -1,4 +1,4 @@
-// Points that fit the grid as they stand.
+//! Points that fit the grid as they stand.
 ghost use Rattle.std.specs.Prelude.{◌≡◌, ◌≤◌, true, unsigned_abs};
 ghost use Rattle.obj_prepare.specs.Whole.{is_whole, whole, stands};
 

@@ -1,3 +1,4 @@
+//! Tests: numbers, places and joined vertices.
 ghost use Rattle.obj_prepare.specs.Placing.{IsSize};
 
 use crate::joining::{joined, joined_faces};

@@ -1,3 +1,4 @@
+//! The laws of preparing.
 ghost use Rattle.obj_prepare.specs.Laws.{PreparedAreOne, NotesAreOne, FitMeshesStay, PreparedStays};
 
 /// The laws of what is prepared, which takes no step.

@@ -1,4 +1,4 @@
-// A coordinate in a field of a line: a sign where there is one, digits, and a point with decimals where there is one.
+//! A coordinate in a field of a line: a sign where there is one, digits, and a point with decimals where there is one.
 ghost use Rattle.std.specs.Prelude.{◌≡◌, ◌≤◌, ◌<◌, ◌^◌, min, true, drop, IfOk};
 ghost use Rattle.pm_base.specs.Place.{is_coordinate};
 ghost use Rattle.pm_io.specs.Digits.{are_digits, value};

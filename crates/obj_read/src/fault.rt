@@ -1,3 +1,4 @@
+//! The faults of an OBJ text, and why none was read.
 ghost use Rattle.std.specs.Prelude.{◌≡◌};
 ghost use Rattle.obj_read.specs.Numbers.{number_of};
 

@@ -1,4 +1,4 @@
-// The fields of a line, one after the other.
+//! The fields of a line, one after the other.
 ghost use Rattle.std.specs.Prelude.{◌≡◌, ◌<◌, ◌∷◌, [], length, false, MatchOption};
 ghost use Rattle.obj_read.specs.Fields.{is_blank, begins_blank, fields, is_letter};
 

@@ -1,3 +1,4 @@
+//! What one line of an OBJ text gives.
 use pm_base::{Corners, Point};
 
 /// What a line gives.

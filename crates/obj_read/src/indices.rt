@@ -1,4 +1,4 @@
-// The index of a vertex in a field of a line: positive from the first vertex on, negative from the last one back.
+//! The index of a vertex in a field of a line: positive from the first vertex on, negative from the last one back.
 ghost use Rattle.std.specs.Prelude.{◌≡◌, ◌<◌, ◌≤◌, IfOk};
 ghost use Rattle.obj_read.specs.Indices.{index_text, index_digits, index};
 

@@ -1,4 +1,4 @@
-// A line judged alone: what it gives, or its first fault.
+//! A line judged alone: what it gives, or its first fault.
 ghost use Rattle.std.specs.Prelude.{◌≡◌, ◌≤◌, IfOk};
 ghost use Rattle.obj_read.specs.Fields.{fields};
 ghost use Rattle.obj_read.specs.Judged.{vertex_of, face_of, vertex_line, face_line, fields_found, line_found};

@@ -1,3 +1,4 @@
+//! Reading a mesh from a source of bytes.
 ghost use Rattle.std.specs.Prelude.{◌≡◌, ◌≤◌, Ok, IfOk, IfErr, OnOk, IfSome};
 ghost use Rattle.pm_base.specs.Meshes.{IsWellFormed, mesh_of};
 ghost use Rattle.pm_io.specs.Bytes.{AtEnd};

@@ -1,4 +1,4 @@
-// One step of the reading: the bytes that the window holds, at most up to the end of a line.
+//! One step of the reading: the bytes that the window holds, at most up to the end of a line.
 ghost use Rattle.std.specs.Prelude.{ℕ, List, Option, ◌≡◌, ◌≤◌, ◌<◌, length, true, false, Ok, IfOk, IfErr, OnOk};
 ghost use Rattle.std.specs.Io.KnownBytes.{prepend_known};
 ghost use Rattle.pm_base.specs.Meshes.{IsWellFormed, mesh_of};

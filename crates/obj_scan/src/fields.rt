@@ -1,4 +1,4 @@
-// The fields of a line after its keyword.
+//! The fields of a line after its keyword.
 ghost use Rattle.std.specs.Prelude.{ℕ, List, ◌∷◌, ◌≡◌, ◌+◌, ◌-◌, ◌<◌, ◌≤◌, nat_le, length, Ok, Err, OnOk, IfOk, IfErr};
 ghost use Rattle.std.specs.List.{All};
 ghost use Rattle.obj_read.specs.Fails.{IsFaultOf};

@@ -1,4 +1,4 @@
-// Polygons cut into triangles.
+//! Polygons cut into triangles.
 ghost use Rattle.std.specs.Prelude.{ℕ, ◌≡◌, ◌<◌, ◌≤◌, ◌++◌, length, OnOk};
 ghost use Rattle.std.specs.List.{All};
 ghost use Rattle.obj_scan.specs.Polygons.{is_before, before_least, begun_least, fan, triangles};

@@ -1,4 +1,4 @@
-// The lines of a text, one after the other: what they gave so far, and those that the next one continues.
+//! The lines of a text, one after the other: what they gave so far, and those that the next one continues.
 ghost use Rattle.std.specs.Prelude.{ℕ, ◌≡◌, ◌+◌, ◌-◌, ◌<◌, ◌≤◌, ◌++◌, ◌∷◌, [], length, true, false, take, Ok, OnOk, IfErr};
 ghost use Rattle.obj_lines.specs.Text.{is_continued};
 ghost use Rattle.obj_read.specs.Fails.{IsFaultOf};

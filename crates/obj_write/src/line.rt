@@ -1,4 +1,4 @@
-// The line of a point, and the line of a face.
+//! The line of a point, and the line of a face.
 ghost use Rattle.std.specs.Prelude.{◌≡◌, ◌<◌, ◌≤◌, ◌+◌, ◌++◌, ◌^◌, length};
 ghost use Rattle.pm_base.specs.Canonical.{last_digits, coordinate_text, point_line, corner_line};
 

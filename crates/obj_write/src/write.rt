@@ -1,3 +1,4 @@
+//! Writing the canonical OBJ text of a mesh.
 ghost use Rattle.std.specs.Prelude.{◌≡◌, ◌≤◌, ◌++◌, OnOk, OnErr};
 ghost use Rattle.std.specs.List.{flat_map};
 ghost use Rattle.pm_base.specs.Canonical.{point_line, corner_line, canonical_text};

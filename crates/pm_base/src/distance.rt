@@ -1,4 +1,4 @@
-// Distances by whole numbers alone: squared, or rounded up to the next whole number.
+//! Distances by whole numbers alone: squared, or rounded up to the next whole number.
 ghost use Rattle.std.specs.Prelude.{◌≡◌, ◌-ℤ◌, ◌<◌, ◌≤◌, ◌+◌, ◌*◌, ℕ, unsigned_abs};
 ghost use Rattle.pm_base.specs.Place.{Place};
 ghost use Rattle.pm_base.specs.Geometry.{Direction, dot_of, dist2_of, square_of, norm2_of, plus_of};

@@ -1,4 +1,4 @@
-// The numbers that name parts of a mesh. Each kind has a type of its own, so that none is taken for another.
+//! The numbers that name parts of a mesh. Each kind has a type of its own, so that none is taken for another.
 ghost use Rattle.std.specs.Prelude.{◌≡◌, ◌+◌, ◌*◌, ◌<◌};
 ghost use Rattle.pm_base.specs.Sides.{next as next_of, prev as prev_of, face_of};
 

@@ -1,3 +1,4 @@
+//! Lists that grow within room that was taken before.
 ghost use Rattle.std.specs.Prelude.{◌≡◌, ◌+◌, ◌-◌, ◌≤◌, ◌<◌, [], ◌∷◌, ◌++◌, length, OnOk, OnErr, IfOk, slice_index_or};
 
 use std::alloc::{AllocError, Global};

@@ -1,5 +1,5 @@
-// What a run of edge collapses leaves behind, so that it can be undone. The names follow Hoppe 1996: an edge collapse
-// puts the vertex s in place of t and u, and drops the face to the left and the face to the right of the edge.
+//! What a run of edge collapses leaves behind, so that it can be undone. The names follow Hoppe 1996: an edge collapse
+//! puts the vertex s in place of t and u, and drops the face to the left and the face to the right of the edge.
 use crate::{FaceId, Items, Point, Side};
 
 /// A face that a collapse dropped. `first` and `second` are what stood just before across its two other sides, in the

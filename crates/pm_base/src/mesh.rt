@@ -1,3 +1,4 @@
+//! Meshes: points, and faces by the vertices at their corners.
 ghost use Rattle.std.specs.Prelude.{◌≡◌, IfOk};
 ghost use Rattle.pm_base.specs.Meshes.{mesh_of};
 

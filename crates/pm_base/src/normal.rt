@@ -1,3 +1,4 @@
+//! Normals of faces, which are exact.
 ghost use Rattle.std.specs.Prelude.{◌≡◌, ◌+ℤ◌, ◌-ℤ◌, ◌*ℤ◌, ◌≤◌, ◌^◌, unsigned_abs};
 ghost use Rattle.pm_base.specs.Place.{IsPlace};
 ghost use Rattle.pm_base.specs.Geometry.{IsNormal, cross_of, dot_of};

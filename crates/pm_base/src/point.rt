@@ -1,3 +1,4 @@
+//! Points of the grid.
 ghost use Rattle.std.specs.Prelude.{◌≡◌, true, false, IfSome, OnSome, IfNone};
 ghost use Rattle.pm_base.specs.Place.{IsPlace, is_coordinate, is_place};
 

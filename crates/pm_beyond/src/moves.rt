@@ -1,3 +1,4 @@
+//! Why a split or a collapse is refused.
 use pm_base::FaceId;
 
 /// Why a split or a collapse isn't made. `NotActive`: the record is or isn't split already, or a node of it isn't

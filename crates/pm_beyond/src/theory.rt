@@ -1,5 +1,5 @@
-// The theory of what stands beyond the sides of a front's faces (after Hoppe 1997, whose neighbours these are), and of
-// the sets of records that legal moves lead to.
+//! The theory of what stands beyond the sides of a front's faces (after Hoppe 1997, whose neighbours these are), and of
+//! the sets of records that legal moves lead to.
 ghost use Rattle.pm_beyond.specs.WalkLaws.{
   OneStandsBeyond,
   WalksGoBack,

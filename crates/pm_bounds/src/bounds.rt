@@ -1,3 +1,4 @@
+//! The bounds of all nodes, and their readers.
 ghost use Rattle.std.specs.Prelude.{◌≡◌, ◌<◌, ◌^◌, None, length, IfOk, slice_index_or, unwrap_or};
 ghost use Rattle.pm_bounds.specs.Boxes.{zero_box, IsSmallBox};
 ghost use Rattle.pm_bounds.specs.Bounds.{AreBoundsOf};

@@ -1,5 +1,5 @@
-// The bounds of all nodes from those of the leaves: the records are gone through from the last to the first, so that a
-// node's children have their bounds before it. No call goes down the forest, which can be as deep as it has records.
+//! The bounds of all nodes from those of the leaves: the records are gone through from the last to the first, so that a
+//! node's children have their bounds before it. No call goes down the forest, which can be as deep as it has records.
 ghost use Rattle.std.specs.Prelude.{◌≡◌, ℕ, ◌+◌, ◌*◌, ◌<◌, ◌≤◌, None, length, slice_index_or};
 ghost use Rattle.pm_forest.specs.Forest.{node_count, record_count, s_of, t_of, u_of};
 ghost use Rattle.pm_bounds.specs.Boxes.{join};

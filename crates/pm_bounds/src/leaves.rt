@@ -1,4 +1,4 @@
-// The bounds of leaves, which the faces at them give.
+//! The bounds of leaves, which the faces at them give.
 ghost use Rattle.std.specs.Prelude.{◌≡◌, ℕ, ◌<◌, ◌≤◌, max, cond, [], ◌∷◌, None, Some, replicate, length, map, IfOk, slice_index_or, slice_set};
 ghost use Rattle.pm_base.specs.Geometry.{IsNormal, dist2_of, cross_of};
 ghost use Rattle.pm_base.specs.Rounded.{root_up};

@@ -1,4 +1,4 @@
-// What is kept of one node.
+//! What is kept of one node.
 ghost use Rattle.std.specs.Prelude.{◌≡◌, ◌<◌, None, length, slice_index_or};
 ghost use Rattle.pm_bounds.specs.Tables.{lists_of};
 

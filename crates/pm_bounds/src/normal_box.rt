@@ -1,3 +1,4 @@
+//! Boxes of normals.
 ghost use Rattle.std.specs.Prelude.{◌≡◌, unwrap_or};
 ghost use Rattle.std.specs.Int.{int_min, int_max};
 ghost use Rattle.pm_bounds.specs.Boxes.{join, zero_box};

@@ -1,4 +1,4 @@
-// Square roots of squared distances, rounded up to whole numbers.
+//! Square roots of squared distances, rounded up to whole numbers.
 ghost use Rattle.std.specs.Prelude.{◌≡◌, ℕ, ◌*◌, ◌≤◌};
 ghost use Rattle.pm_base.specs.Rounded.{root_up};
 

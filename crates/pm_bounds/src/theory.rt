@@ -1,3 +1,4 @@
+//! The laws of bounds.
 ghost use Rattle.pm_bounds.specs.Laws.{
   ErrorsGrow,
   RadiiGrow,

@@ -1,4 +1,4 @@
-// The lines of a summary.
+//! The lines of a summary.
 ghost use Rattle.std.specs.Prelude.{◌≡◌};
 ghost use Rattle.pm_demo.specs.Summary.{grid_line, hierarchy_line, settled_line};
 

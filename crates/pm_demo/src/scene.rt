@@ -1,4 +1,4 @@
-// The hierarchy of a grid and what adapts its fronts. All memory of a summary is taken here.
+//! The hierarchy of a grid and what adapts its fronts. All memory of a summary is taken here.
 ghost use Rattle.std.specs.Prelude.{◌≡◌, ◌+◌, ◌≤◌, ◌<◌, length, IfOk, OnOk, OnErr};
 ghost use Rattle.pm_base.specs.Meshes.{mesh_of};
 ghost use Rattle.pm_grid.specs.Grid.{grid as grid_of};

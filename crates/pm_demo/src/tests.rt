@@ -1,3 +1,4 @@
+//! Tests: worked values, and one call of each kind on its happy path.
 use crate::demo;
 use pm_io::MemSink;
 use std::test::Fail;

@@ -1,4 +1,4 @@
-// The two views of a grid.
+//! The two views of a grid.
 ghost use Rattle.std.specs.Prelude.{◌≡◌, ◌≤◌};
 ghost use Rattle.pm_demo.specs.Views.{middle_view, corner_view};
 

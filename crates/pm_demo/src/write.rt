@@ -1,3 +1,4 @@
+//! The summary of a grid, line by line.
 ghost use Rattle.std.specs.Prelude.{◌≡◌, ◌≤◌, OnOk, OnErr};
 ghost use Rattle.pm_io.specs.Bytes.{Gains, GainsPart};
 ghost use Rattle.pm_io.specs.Causes.{HasCause};

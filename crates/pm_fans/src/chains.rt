@@ -1,5 +1,5 @@
-// The sides that run from one vertex follow one another over glued sides, in chains, open or closed.
-// All sides of a chain have one head: the first side of an open chain, the least of a closed one.
+//! The sides that run from one vertex follow one another over glued sides, in chains, open or closed.
+//! All sides of a chain have one head: the first side of an open chain, the least of a closed one.
 ghost use Rattle.std.specs.Prelude.{◌≡◌, ℕ, ◌<◌, ◌⊎◌, Some, None, length, IfOk};
 ghost use Rattle.pm_fans.specs.Heads.{at, ArePaired, AreHeaded, HasHead, Keeps, AreOpenHeaded, AreAllHeaded};
 

@@ -1,5 +1,5 @@
-// Each directed side is noted in a map by its two ends, with a mark where several have the same. A side
-// that stands once is glued to the one that runs back, where that stands once too.
+//! Each directed side is noted in a map by its two ends, with a mark where several have the same. A side
+//! that stands once is glued to the one that runs back, where that stands once too.
 ghost use Rattle.std.specs.Prelude.{◌≡◌, ◌+◌, ◌*◌, ◌<◌, ◌≤◌, ℕ, length, IfOk, OnOk, MatchOption};
 ghost use Rattle.pm_base.specs.Sides.{Net, net_of, side_count, to as to_of};
 ghost use Rattle.pm_fans.specs.Splits.{IsGlued, AreGlued, IsCuttable};

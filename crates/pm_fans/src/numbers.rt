@@ -1,4 +1,4 @@
-// The new vertices, by their heads: they are numbered in the order of the heads' keys.
+//! The new vertices, by their heads: they are numbered in the order of the heads' keys.
 ghost use Rattle.std.specs.Prelude.{◌≡◌, ℕ, ◌+◌, ◌*◌, ◌<◌, ◌≤◌, Some, length, slice_index, IfOk, OnOk, MatchBool};
 ghost use Rattle.pm_base.specs.Sides.{net_of};
 ghost use Rattle.pm_fans.specs.Heads.{at, HasHead};

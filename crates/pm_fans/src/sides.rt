@@ -1,4 +1,4 @@
-// The sides of a list of faces. Side `3f + i` of face `f` runs from corner `i` to the face's next corner.
+//! The sides of a list of faces. Side `3f + i` of face `f` runs from corner `i` to the face's next corner.
 ghost use Rattle.std.specs.Prelude.{◌≡◌, ◌*◌, ◌<◌, ◌≤◌, length};
 ghost use Rattle.pm_base.specs.Sides.{next as next_of, prev as prev_of, to as to_of, net_of};
 

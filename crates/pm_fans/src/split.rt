@@ -1,4 +1,4 @@
-// Each vertex is split into its fans.
+//! Each vertex is split into its fans.
 ghost use Rattle.std.specs.Prelude.{IfOk};
 ghost use Rattle.pm_base.specs.Sides.{net_of};
 ghost use Rattle.pm_fans.specs.Splits.{IsCuttable};

@@ -1,3 +1,4 @@
+//! The laws of keeping faces and splitting vertices.
 ghost use Rattle.pm_fans.specs.Laws.{
   SplitsMakeManifolds,
   ManifoldsStayWhole,

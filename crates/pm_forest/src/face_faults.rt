@@ -1,4 +1,4 @@
-// What is wrong with the next face of a record that comes, and with the input numbers of all faces.
+//! What is wrong with the next face of a record that comes, and with the input numbers of all faces.
 ghost use Rattle.std.specs.Prelude.{if◌then◌else◌, slice_index_or, true, false, ◌≡◌, ◌+◌, ◌-◌, ◌*◌, ◌<◌, ◌≤◌, ◌||◌, ◌&&◌, not, nat_le, length, None, Some, IfSome, is_some};
 ghost use Rattle.pm_forest.specs.Marks.{AreMarked};
 ghost use Rattle.pm_forest.specs.Forest.{Hierarchy, Interval, leaf_count, node_count, record_count, t_of, u_of, interval_of, within};

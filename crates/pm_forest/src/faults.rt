@@ -1,4 +1,4 @@
-// What is wrong with the next unit, by the rules of shape, over a forest that has those before it.
+//! What is wrong with the next unit, by the rules of shape, over a forest that has those before it.
 ghost use Rattle.std.specs.Prelude.{if◌then◌else◌, sum, OnOk, OnSome, IfNone, true, false, ◌≡◌, ◌+◌, ◌-◌, ◌<◌, ◌≤◌, ◌||◌, ◌&&◌, length, None, Some, IfOk, IfErr, IfSome, is_some};
 ghost use Rattle.pm_base.specs.Place.{is_place, place_of};
 ghost use Rattle.pm_forest.specs.Marks.{AreMarked};

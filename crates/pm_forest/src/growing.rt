@@ -1,5 +1,5 @@
-// A forest that grows unit by unit, with the tables that make its readers quick: the root of each leaf, the interval and
-// the splitter of each node, the node of each leaf, and the faces with the records that reveal them.
+//! A forest that grows unit by unit, with the tables that make its readers quick: the root of each leaf, the interval and
+//! the splitter of each node, the node of each leaf, and the faces with the records that reveal them.
 ghost use Rattle.std.specs.Prelude.{false, ◌≡◌, ◌+◌, ◌-◌, ◌*◌, ◌<◌, ◌≤◌, [], ◌∷◌, ◌++◌, ◌==◌, cond, length, sum, replicate, None, Some, is_some, true, if◌then◌else◌, IfOk, IfSome, Option, slice_set};
 ghost use Rattle.std.specs.Option.{option_map};
 ghost use Rattle.pm_forest.specs.Forest.{widths_of, node_count, record_count, interval_of, splitter_of};

@@ -1,3 +1,4 @@
+//! Hierarchies that are whole, and their readers.
 ghost use Rattle.std.specs.Prelude.{◌≡◌, ◌+◌, ◌≤◌, ◌<◌, ◌↔◌, None, IfSome, length, slice_index_or};
 ghost use Rattle.pm_base.specs.Place.{Place};
 ghost use Rattle.pm_forest.specs.Forest.{leaf_count, node_count, record_count, record_at, interval_of, maker_of, splitter_of, no_record};

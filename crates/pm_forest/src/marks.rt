@@ -1,4 +1,4 @@
-// Numbers from 1 that were used, as one flag for each.
+//! Numbers from 1 that were used, as one flag for each.
 ghost use Rattle.std.specs.Prelude.{false, ◌≡◌, ◌+◌, ◌≤◌, length, [], ◌∷◌, ◌++◌, List, ℕ, IfOk};
 ghost use Rattle.pm_forest.specs.Marks.{AreMarked};
 ghost use Rattle.pm_forest.specs.Rules.{vertex_input_is_bad, face_input_is_bad};

@@ -1,4 +1,4 @@
-// The meshes that a hierarchy holds, taken out whole.
+//! The meshes that a hierarchy holds, taken out whole.
 ghost use Rattle.std.specs.Prelude.{◌≡◌, ℕ, ◌≤◌, ◌<◌, length, map, IfOk, slice_index_or};
 ghost use Rattle.std.specs.List.{range_with_len};
 ghost use Rattle.pm_base.specs.Meshes.{mesh_of, IsWellFormed};

@@ -1,5 +1,5 @@
-// What a hierarchy is made of. The names follow Hoppe 1996 and 1997: a vertex split replaces the vertex s by t and u and
-// brings in a left and a right face.
+//! What a hierarchy is made of. The names follow Hoppe 1996 and 1997: a vertex split replaces the vertex s by t and u and
+//! brings in a left and a right face.
 use pm_base::{Items, Point, Side};
 
 /// How many units of each kind a hierarchy has.

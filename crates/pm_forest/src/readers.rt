@@ -1,4 +1,4 @@
-// What is read of a forest that grows.
+//! What is read of a forest that grows.
 ghost use Rattle.std.specs.Prelude.{◌≡◌, ◌+◌, ◌-◌, ◌*◌, ◌<◌, ◌≤◌, length, is_some, if◌then◌else◌, Option, slice_index_or};
 ghost use Rattle.pm_forest.specs.Forest.{widths, leaf_count, node_count, root_of, interval_of, splitter_of};
 ghost use Rattle.pm_forest.specs.Faces.{faces_of, face_count, revealed_by, no_corners};

@@ -1,4 +1,4 @@
-// Takes a hierarchy in unit by unit, and refuses the first unit that breaks a rule of shape.
+//! Takes a hierarchy in unit by unit, and refuses the first unit that breaks a rule of shape.
 ghost use Rattle.std.specs.Prelude.{true, false, ◌≡◌, ◌+◌, ◌≤◌, ◌⊎◌, length, [], ◌∷◌, ◌++◌, None, Some, is_some, OnOk, OnErr, IfOk, IfErr, IfSome};
 ghost use Rattle.pm_forest.specs.declared.parts.Counts.{Counts};
 ghost use Rattle.pm_forest.specs.declared.parts.UnitKind.TheVariants as kinds;

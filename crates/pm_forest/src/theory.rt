@@ -1,5 +1,5 @@
-// The theory of fronts: what a front is to the leaves and faces of its hierarchy, and what one split or collapse
-// changes (Hoppe 1997).
+//! The theory of fronts: what a front is to the leaves and faces of its hierarchy, and what one split or collapse
+//! changes (Hoppe 1997).
 ghost use Rattle.pm_forest.specs.Laws.{
   EachLeafHasOneAncestor,
   FrontsHavePrefixes,

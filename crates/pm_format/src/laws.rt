@@ -1,3 +1,4 @@
+//! The law that a stream has one meaning.
 ghost use Rattle.pm_format.specs.Laws.{OneSpelling, NoPrefix, WhatHasNoFaultIsWhole, WholeTextsHaveNoFault, TextsTellTheirDigits, FaultsStay, CutTextsAreTruncated};
 
 /// Laws of stream texts, which take no step: each hierarchy, with its number of decimals, has one spelling; no stream text

@@ -1,4 +1,4 @@
-// The 32-bit little-endian words of a text, one after the other.
+//! The 32-bit little-endian words of a text, one after the other.
 ghost use Rattle.std.specs.Prelude.{◌≡◌, ◌∷◌, [], MatchOption};
 ghost use Rattle.pm_format.specs.Words.{words_of};
 

@@ -1,4 +1,4 @@
-// Writes the stream text of a hierarchy, in pages.
+//! Writes the stream text of a hierarchy, in pages.
 ghost use Rattle.std.specs.Prelude.{◌≡◌, ◌≤◌, ◌<◌, ◌^◌, ◌++◌, length, Some, OnOk, OnErr};
 ghost use Rattle.std.specs.List.{flat_map};
 ghost use Rattle.pm_io.specs.Bytes.{Gains, GainsPart, GainsThrough};

@@ -1,4 +1,4 @@
-// Writes the frame that a front shows.
+//! Writes the frame that a front shows.
 ghost use Rattle.std.specs.Prelude.{true, ◌≡◌, ◌<◌, ◌++◌, OnOk, OnErr};
 ghost use Rattle.pm_io.specs.Bytes.{Gains, GainsPart, GainsThrough};
 ghost use Rattle.pm_io.specs.Causes.{HasCause};

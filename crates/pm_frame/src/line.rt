@@ -1,4 +1,4 @@
-// The lines of a frame.
+//! The lines of a frame.
 ghost use Rattle.std.specs.Prelude.{◌≡◌};
 ghost use Rattle.pm_frame.specs.Frame.{head_line, node_line, face_line, end_line};
 

@@ -1,4 +1,4 @@
-// Different numbers below a bound in a linked list, which can be walked, and how many they are.
+//! Different numbers below a bound in a linked list, which can be walked, and how many they are.
 ghost use Rattle.std.specs.Prelude.{◌≡◌, ◌<◌, ◌≤◌, ◌∷◌, [], true, false, length, IfOk};
 ghost use Rattle.pm_links.specs.Lists.{has, without, first_of, after};
 ghost use Rattle.pm_links.specs.declared.links.TheConstants.{LIMIT};

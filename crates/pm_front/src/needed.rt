@@ -1,6 +1,6 @@
-// Whether a split record needs a record, once some of the split records are gone. The walk through the faces of gone
-// records is short: where it comes to a gone record's face, it goes on to what that record tells of the face's other
-// outer side, since that stood beyond it when the record could go.
+//! Whether a split record needs a record, once some of the split records are gone. The walk through the faces of gone
+//! records is short: where it comes to a gone record's face, it goes on to what that record tells of the face's other
+//! outer side, since that stood beyond it when the record could go.
 ghost use Rattle.std.specs.Prelude.{◌≡◌, ◌*◌, ◌<◌, ◌&&◌, not, true, length, Some};
 ghost use Rattle.pm_forest.specs.Forest.{node_count, record_count};
 ghost use Rattle.pm_forest.specs.Fronts.{set_of, is_active};

@@ -1,3 +1,4 @@
+//! Grids of cells as meshes.
 ghost use Rattle.std.specs.Prelude.{◌≡◌, ◌+◌, ◌*◌, ◌<◌, ◌≤◌, ◌++◌, IfOk, OnOk};
 ghost use Rattle.pm_base.specs.Meshes.{mesh_of};
 ghost use Rattle.pm_grid.specs.Grid.{grid as grid_of, point_row, face_row};

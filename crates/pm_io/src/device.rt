@@ -1,5 +1,5 @@
-// Where bytes come from and where they go. Each device counts its failures, so that a caller that is generic over it can
-// answer "it failed" only where the count says so.
+//! Where bytes come from and where they go. Each device counts its failures, so that a caller that is generic over it can
+//! answer "it failed" only where the count says so.
 ghost use Rattle.std.specs.Prelude.{◌≡◌, ◌<◌, ◌≤◌, List, ℕ, Option, length, take, IfOk, OnErr};
 ghost use Rattle.pm_io.specs.Bytes.{Loses, Gains, AtEnd};
 ghost use Rattle.pm_io.specs.Causes.{HasCause};

@@ -1,4 +1,4 @@
-// One line of text that is being put together, without memory.
+//! One line of text that is being put together, without memory.
 ghost use Rattle.std.specs.Prelude.{◌≡◌, ◌+◌, ◌≤◌, [], ◌++◌, length};
 ghost use Rattle.std.specs.Fmt.{decimal, signed_decimal};
 

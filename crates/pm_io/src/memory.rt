@@ -1,4 +1,4 @@
-// Devices in memory, for tests and for callers that have their bytes already.
+//! Devices in memory, for tests and for callers that have their bytes already.
 ghost use Rattle.std.specs.Prelude.{◌≡◌, ◌+◌, ◌-◌, ◌^◌, ◌≤◌, ◌<◌, ◌||◌, ◌==◌, [], ◌++◌, min, length, take, drop, nat_le, if◌then◌else◌, false, IfOk, OnOk, OnErr, Some, is_err};
 ghost use Rattle.pm_io.specs.Bytes.{Loses, Gains, AtEnd};
 ghost use Rattle.pm_io.specs.Causes.{HasCause};

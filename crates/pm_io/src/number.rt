@@ -1,4 +1,4 @@
-// Numbers in decimal digits.
+//! Numbers in decimal digits.
 ghost use Rattle.std.specs.Prelude.{◌≡◌, ◌≤◌, ◌^◌, min, true};
 ghost use Rattle.pm_io.specs.Digits.{is_digit, are_digits, value, unsigned_of};
 

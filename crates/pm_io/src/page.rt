@@ -1,4 +1,4 @@
-// A page of bytes, in which a long text is gathered before it is put.
+//! A page of bytes, in which a long text is gathered before it is put.
 ghost use Rattle.std.specs.Prelude.{◌≡◌, ◌+◌, ◌≤◌, [], ◌++◌, length, OnOk, OnErr};
 ghost use Rattle.pm_io.specs.Bytes.{Gains, GainsPart, GainsThrough};
 ghost use Rattle.pm_io.specs.Causes.{HasCause};

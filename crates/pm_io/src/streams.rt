@@ -1,6 +1,6 @@
-// The readers and writers of std as devices. What a terminal, pipe or file gives and takes is outside every proof, so
-// these devices tell nothing of their bytes. A reader or writer over memory tells its own, and there a call hands on
-// exactly those bytes.
+//! The readers and writers of std as devices. What a terminal, pipe or file gives and takes is outside every proof, so
+//! these devices tell nothing of their bytes. A reader or writer over memory tells its own, and there a call hands on
+//! exactly those bytes.
 ghost use Rattle.std.specs.Prelude.{◌≡◌, ◌≤◌, ◌<◌, length, take, None, [], IfOk, OnErr};
 ghost use Rattle.std.specs.Io.KnownBytes.{ReadConsumes, WriteAppends};
 ghost use Rattle.pm_io.specs.Bytes.{Loses, Gains, AtEnd};

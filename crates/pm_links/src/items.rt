@@ -1,3 +1,4 @@
+//! The items of one list, in order.
 ghost use Rattle.std.specs.Prelude.{◌≡◌, ◌<◌, ◌≤◌, length};
 ghost use Rattle.std.specs.Iterator.{YieldsFirst, item_count};
 ghost use Rattle.pm_links.specs.Lists.{list_of, IsSound};

@@ -1,4 +1,4 @@
-// Linked lists in one arena: each head has a list of items, and each item is in at most one list.
+//! Linked lists in one arena: each head has a list of items, and each item is in at most one list.
 #![tactic(auto)]
 
 mod items;

@@ -1,3 +1,4 @@
+//! Linked lists in one arena.
 ghost use Rattle.std.specs.Prelude.{◌≡◌, ℕ, ◌+◌, ◌<◌, ◌≤◌, ◌≢◌, length, slice_index, true, IfOk, ◌↔◌};
 ghost use Rattle.pm_links.specs.Lists.{list_of, has, after, first_of, IsHeld, IsFree, IsSound, empty_lists, with_first, with_moved, without_item};
 

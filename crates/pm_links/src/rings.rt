@@ -1,3 +1,4 @@
+//! Rings of nodes, from which lists are made.
 ghost use Rattle.std.specs.Prelude.{◌≡◌, ℕ, ◌+◌, ◌<◌, ◌≤◌, length, slice_index, slice_set};
 ghost use Rattle.pm_links.specs.Arena.{walk};
 ghost use Rattle.pm_links.specs.Lists.{set_all};

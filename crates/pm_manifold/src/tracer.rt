@@ -1,3 +1,4 @@
+//! Counting nodes, edges, faces and border loops of the mesh shown.
 ghost use Rattle.std.specs.Prelude.{◌≡◌, ◌+◌, ◌*◌, ◌<◌, ◌≤◌, ◌↔◌, ◌⊎◌, ℕ, true, false, length, IfOk};
 ghost use Rattle.pm_base.specs.Counts.{count};
 ghost use Rattle.pm_forest.specs.Fronts.{set_of};

@@ -1,4 +1,4 @@
-// Whether a front is as fine as the marked one.
+//! Whether a front is as fine as the marked one.
 ghost use Rattle.std.specs.Prelude.{◌≡◌, length};
 ghost use Rattle.pm_forest.specs.Forest.{record_count};
 ghost use Rattle.pm_forest.specs.Fronts.{set_of};

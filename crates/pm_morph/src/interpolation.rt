@@ -1,4 +1,4 @@
-// Places between two places.
+//! Places between two places.
 ghost use Rattle.std.specs.Prelude.{◌≡◌, ◌<◌, ◌≤◌, ◌*◌, pos, ◌+ℤ◌, ◌*ℤ◌, unsigned_abs};
 ghost use Rattle.std.specs.Int.{int_div_euclid};
 ghost use Rattle.pm_morph.specs.Interpolation.{interpolated, place_between};

@@ -1,4 +1,4 @@
-// Hands the units of the hierarchy of a run to a shaper. It refuses none of them, as each passes the rules of shape.
+//! Hands the units of the hierarchy of a run to a shaper. It refuses none of them, as each passes the rules of shape.
 ghost use Rattle.std.specs.Prelude.{◌≡◌, ◌+◌, ◌*◌, ◌<◌, ℕ, Some, length};
 ghost use Rattle.pm_base.specs.Meshes.{mesh_of};
 ghost use Rattle.pm_base.specs.declared.log.Gone.{Gone};

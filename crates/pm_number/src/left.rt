@@ -1,4 +1,4 @@
-// What a run leaves: the vertices that no collapse merged, and the faces that none dropped.
+//! What a run leaves: the vertices that no collapse merged, and the faces that none dropped.
 ghost use Rattle.std.specs.Prelude.{true, false, ◌≡◌, ◌≢◌, ◌+◌, ◌<◌, ◌||◌, ℕ, IfOk, length, is_some, slice_index_or};
 ghost use Rattle.pm_base.specs.Meshes.{mesh_of};
 ghost use Rattle.pm_number.specs.Stages.{run_of, entry};

@@ -1,3 +1,4 @@
+//! The hierarchy of a log, made in one go.
 ghost use Rattle.std.specs.Prelude.{◌≡◌, IfOk};
 ghost use Rattle.pm_base.specs.Meshes.{mesh_of};
 ghost use Rattle.pm_forest.specs.Meshes.{input_mesh_of};

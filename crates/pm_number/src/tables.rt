@@ -1,4 +1,4 @@
-// The tables of a run's numbers. Widths are summed up the log; nodes, leaves and faces are numbered down it.
+//! The tables of a run's numbers. Widths are summed up the log; nodes, leaves and faces are numbered down it.
 ghost use Rattle.std.specs.Prelude.{◌≡◌, ◌+◌, ◌<◌, ℕ, true, IfOk, length, is_some, slice_index_or};
 ghost use Rattle.pm_base.specs.Counts.{one_if};
 ghost use Rattle.pm_base.specs.Meshes.{mesh_of};

@@ -1,3 +1,4 @@
+//! Tests: worked values, and one call of each kind on its happy path.
 use crate::from_log;
 use pm_base::{FaceId, Log};
 use pm_forest::Face;

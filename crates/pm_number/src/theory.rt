@@ -1,3 +1,4 @@
+//! The laws of the hierarchy of a run.
 ghost use Rattle.pm_number.specs.Laws.{HierarchiesHaveShape, HierarchiesKeepMeshes, SurfacesAreShown, HierarchiesOfRunsAreValid, HierarchiesOfRunsAreFirm};
 
 /// The laws of the hierarchy of a run, which takes no step.

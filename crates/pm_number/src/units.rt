@@ -1,4 +1,4 @@
-// The units of the hierarchy of a run, from its log and the tables of its numbers.
+//! The units of the hierarchy of a run, from its log and the tables of its numbers.
 ghost use Rattle.std.specs.Prelude.{true, ◌≡◌, ◌+◌, ◌*◌, ◌<◌, ℕ, Some, List, length, is_some};
 ghost use Rattle.pm_base.specs.Meshes.{mesh_of};
 ghost use Rattle.pm_base.specs.Place.{is_place};

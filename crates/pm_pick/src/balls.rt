@@ -1,4 +1,4 @@
-// Which balls a ray meets.
+//! Which balls a ray meets.
 ghost use Rattle.std.specs.Prelude.{◌≡◌, ◌≤◌, ◌<◌, ◌^◌, ◌+◌, ◌*◌, ◌||◌, not, pos, ℕ, int_lt, nat_lt, true, false, unsigned_abs};
 ghost use Rattle.pm_base.specs.Geometry.{norm2_of, square_of};
 ghost use Rattle.pm_base.specs.Sides.{face_of};

@@ -1,4 +1,4 @@
-// The fields that spell a ray, read from left to right.
+//! The fields that spell a ray, read from left to right.
 ghost use Rattle.std.specs.Prelude.{◌≡◌, ◌<◌, ◌^◌, Some, None, MatchOption, IfOk, OnErr};
 ghost use Rattle.pm_pick.specs.Fields.{three_of, ray_from, ray_of};
 

@@ -1,5 +1,5 @@
-// Where a ray meets a face. The ray passes the three sides of a face that it hits on one hand: the volumes that it spans with
-// them have one sign. All by whole numbers, without a division.
+//! Where a ray meets a face. The ray passes the three sides of a face that it hits on one hand: the volumes that it spans with
+//! them have one sign. All by whole numbers, without a division.
 ghost use Rattle.std.specs.Prelude.{◌≡◌, ◌≤◌, ◌<◌, ◌^◌, ◌+◌, ◌*◌, ◌≤ℤ◌, pos, ℕ, int_le, nat_lt, unsigned_abs, IfSome, IfNone, true, false, Some, None};
 ghost use Rattle.pm_base.specs.Geometry.{cross_of, dot_of, IsNormal};
 ghost use Rattle.pm_forest.specs.Faces.{face_count, corners_of};

@@ -1,3 +1,4 @@
+//! Finding the first face that a ray meets.
 ghost use Rattle.std.specs.Prelude.{◌≡◌, ◌≤◌, ◌<◌, ◌+◌, ◌*◌, ◌==◌, ◌⊎◌, ℕ, IfOk, IfSome, IfNone, length, slice_index_or, None, Some};
 ghost use Rattle.pm_base.specs.Counts.{count};
 ghost use Rattle.pm_base.specs.Sides.{face_of};

@@ -1,5 +1,5 @@
-// The place of a collapsed pair: the least of three candidates, which keeps it on the whole-number grid. Garland and
-// Heckbert (1997) solve for the least of all places, and fall back on these three where that fails.
+//! The place of a collapsed pair: the least of three candidates, which keeps it on the whole-number grid. Garland and
+//! Heckbert (1997) solve for the least of all places, and fall back on these three where that fails.
 ghost use Rattle.std.specs.Prelude.{◌≡◌, ◌<◌, ◌≤◌, ◌^◌, List, pos, ◌+ℤ◌, unsigned_abs};
 ghost use Rattle.std.specs.Int.{int_div_euclid};
 ghost use Rattle.pm_quadric.specs.Planes.{Plane, squares_of};

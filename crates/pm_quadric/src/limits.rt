@@ -1,4 +1,4 @@
-// How great the values of planes and the sums of quadrics can be: 128 bits hold each with room.
+//! How great the values of planes and the sums of quadrics can be: 128 bits hold each with room.
 ghost use Rattle.std.specs.Prelude.{◌<◌, ◌≤◌, ◌*◌, ◌^◌, List, length};
 ghost use Rattle.pm_base.specs.Place.{Place, IsPlace};
 ghost use Rattle.pm_quadric.specs.declared.quadric.TheConstants.{MOST_PLANES};

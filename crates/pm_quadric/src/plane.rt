@@ -1,4 +1,4 @@
-// The numbers of a face's plane, and the products of two of them.
+//! The numbers of a face's plane, and the products of two of them.
 ghost use Rattle.std.specs.Prelude.{◌≡◌, ◌≤◌, ◌^◌, pos, ◌+ℤ◌, ◌*ℤ◌, neg_ℤ, unsigned_abs};
 ghost use Rattle.pm_base.specs.Geometry.{IsNormal};
 

@@ -1,5 +1,5 @@
-// Quadrics after Garland and Heckbert (1997). They sum squared distances to planes. Here the planes' normals are not
-// made unit, so that every number is whole and every sum exact.
+//! Quadrics after Garland and Heckbert (1997). They sum squared distances to planes. Here the planes' normals are not
+//! made unit, so that every number is whole and every sum exact.
 ghost use Rattle.std.specs.Prelude.{◌≡◌, ◌<◌, ◌≤◌, ◌+◌, ◌^◌, List, [], ◌∷◌, ◌++◌, length, unsigned_abs};
 ghost use Rattle.pm_base.specs.Place.{IsPlace};
 ghost use Rattle.pm_quadric.specs.Planes.{Plane, plane_of, squares_of};

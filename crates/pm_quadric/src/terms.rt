@@ -1,4 +1,4 @@
-// The terms of a quadric's polynomial, and their sums. The bounds leave each sum within 128 bits.
+//! The terms of a quadric's polynomial, and their sums. The bounds leave each sum within 128 bits.
 ghost use Rattle.std.specs.Prelude.{◌≡◌, ◌≤◌, ◌*◌, ◌^◌, ◌+ℤ◌, ◌*ℤ◌, unsigned_abs};
 
 pub(crate) fn add_three(a: i128, b: i128, c: i128) -> i128

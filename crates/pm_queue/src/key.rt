@@ -1,3 +1,4 @@
+//! Keys, and which of two comes first.
 ghost use Rattle.std.specs.Prelude.{◌≡◌};
 
 /// What a queue orders its items by: `cost`, then `a`, then `b`.

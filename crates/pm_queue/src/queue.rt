@@ -1,3 +1,4 @@
+//! A queue of items by their keys.
 ghost use Rattle.std.specs.Prelude.{◌≡◌, ◌<◌, ◌≤◌, IfNone, IfOk, IfSome, false, is_some, length, replicate, slice_set};
 
 use super::heap::{drop_item, place_item};

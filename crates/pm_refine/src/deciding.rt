@@ -1,5 +1,5 @@
-// Which records are in the target of a view, and which moves lead there, from the last record down:
-// over those that were found, and what a record needs that a move is made of.
+//! Which records are in the target of a view, and which moves lead there, from the last record down:
+//! over those that were found, and what a record needs that a move is made of.
 ghost use Rattle.std.specs.Prelude.{ℕ, ◌≡◌, ◌+◌, ◌<◌, ◌≤◌, ◌&&◌, ◌||◌, not, cond, Some, length, true, false, slice_set};
 ghost use Rattle.pm_base.specs.Counts.{count, one_if};
 ghost use Rattle.pm_queue.specs.Entries.{IsEmpty};

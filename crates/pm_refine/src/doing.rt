@@ -1,4 +1,4 @@
-// The first moves of a plan are made.
+//! The first moves of a plan are made.
 ghost use Rattle.std.specs.Prelude.{ℕ, ◌≡◌, ◌<◌, true, length, take};
 ghost use Rattle.pm_forest.specs.Forest.{record_count};
 ghost use Rattle.pm_forest.specs.Fronts.{set_of, with, without};

@@ -1,5 +1,5 @@
-// Records that aren't split and whose nodes are wanted are found from the active nodes, since a wanted
-// node has a wanted parent, and so are records that may go.
+//! Records that aren't split and whose nodes are wanted are found from the active nodes, since a wanted
+//! node has a wanted parent, and so are records that may go.
 ghost use Rattle.std.specs.Prelude.{ℕ, ◌≡◌, ◌+◌, ◌*◌, ◌<◌, ◌≤◌, ◌==◌, ◌||◌, length, false};
 ghost use Rattle.pm_base.specs.Counts.{count};
 ghost use Rattle.pm_queue.specs.Entries.{IsEmpty};

@@ -1,5 +1,5 @@
-// Records that may go are found from the active nodes: no split record needs them, and their nodes
-// aren't wanted.
+//! Records that may go are found from the active nodes: no split record needs them, and their nodes
+//! aren't wanted.
 ghost use Rattle.std.specs.Prelude.{ℕ, ◌≡◌, ◌+◌, ◌*◌, ◌<◌, ◌≤◌, ◌==◌, ◌&&◌, not, true, false, length, IfSome, IfNone};
 ghost use Rattle.pm_base.specs.Counts.{count, one_if};
 ghost use Rattle.pm_forest.specs.Forest.{record_count, node_count, t_of};

@@ -1,4 +1,4 @@
-// Marks on records: what a record needs is marked.
+//! Marks on records: what a record needs is marked.
 ghost use Rattle.std.specs.Prelude.{ℕ, ◌≡◌, ◌<◌, ◌*◌, length, IfSome};
 ghost use Rattle.std.specs.List.{All};
 ghost use Rattle.pm_forest.specs.Forest.{record_count};

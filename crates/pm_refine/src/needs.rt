@@ -1,4 +1,4 @@
-// What a record needs is put on the queue of records to be decided.
+//! What a record needs is put on the queue of records to be decided.
 ghost use Rattle.std.specs.Prelude.{ℕ, ◌≡◌, ◌<◌, ◌*◌, ◌==◌, ◌||◌, ◌&&◌, false, length, IfSome};
 ghost use Rattle.std.specs.List.{All};
 ghost use Rattle.pm_forest.specs.Forest.{record_count};

@@ -1,5 +1,5 @@
-// The queues of a refiner give out records in ascending order and, after them, records in
-// descending order.
+//! The queues of a refiner give out records in ascending order and, after them, records in
+//! descending order.
 ghost use Rattle.std.specs.Prelude.{ℕ, ◌≡◌, ◌<◌, ◌==◌, true, false, Some, None, length, slice_set, IfSome, IfNone, cond};
 ghost use Rattle.pm_queue.specs.Entries.{IsEmpty, IsLeast};
 ghost use Rattle.pm_forest.specs.Fronts.{set_of};

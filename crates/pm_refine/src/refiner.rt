@@ -1,3 +1,4 @@
+//! Adapting a front to a view.
 ghost use Rattle.std.specs.Prelude.{ℕ, ◌≡◌, ◌+◌, ◌*◌, ◌≤◌, length, take, IfOk};
 ghost use Rattle.pm_base.specs.Counts.{count};
 ghost use Rattle.pm_forest.specs.Forest.{record_count};

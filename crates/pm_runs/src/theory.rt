@@ -1,3 +1,4 @@
+//! The laws of collapses and of runs of them.
 ghost use Rattle.pm_runs.specs.Laws.{
   MeshesAreSurfaces,
   CollapsesAreMerges,

@@ -1,3 +1,4 @@
+//! Small hierarchies.
 use crate::units::{Unit, face, head, shaped};
 use pm_forest::Hierarchy;
 use std::alloc::Global;

@@ -1,3 +1,4 @@
+//! Small meshes.
 ghost use Rattle.std.specs.Prelude.{◌≡◌, ◌≤◌, length, IfOk};
 ghost use Rattle.std.specs.List.{All};
 ghost use Rattle.pm_base.specs.Meshes.{mesh_of, IsFace, IsWellFormed};

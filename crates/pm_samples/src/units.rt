@@ -1,4 +1,4 @@
-// A hierarchy by its units.
+//! A hierarchy by its units.
 use pm_forest::{Face, Head, Hierarchy, Shaper, UnitKind};
 use std::alloc::Global;
 use std::test::Fail;

@@ -1,3 +1,4 @@
+//! The law of script lines.
 ghost use Rattle.pm_session.specs.Laws.{LongLinesAreBad};
 
 /// A law of script lines, which takes no step: a line of more than 1,024 bytes is none of the forms. So it may be refused

@@ -1,4 +1,4 @@
-// Geomorphs for a script, and how they are told.
+//! Geomorphs for a script, and how they are told.
 ghost use Rattle.std.specs.Prelude.{◌≡◌, true, OnOk, OnErr};
 ghost use Rattle.pm_io.specs.Bytes.{Gains, GainsPart};
 ghost use Rattle.pm_io.specs.Causes.{Rose, HasCause};

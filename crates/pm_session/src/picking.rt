@@ -1,4 +1,4 @@
-// Picks for a script, and how they are told.
+//! Picks for a script, and how they are told.
 ghost use Rattle.std.specs.Prelude.{◌≡◌, ◌<◌, OnOk, OnErr};
 ghost use Rattle.pm_io.specs.Bytes.{Gains, GainsPart};
 ghost use Rattle.pm_io.specs.Causes.{HasCause};

@@ -1,4 +1,4 @@
-// The replies to moves, views, measures and picks.
+//! The replies to moves, views, measures and picks.
 ghost use Rattle.std.specs.Prelude.{◌≡◌, ◌≤◌, pos, ◌+ℤ◌, ◌-ℤ◌};
 ghost use Rattle.pm_session.specs.Script.{reply_to, view_reply, shape_line, pick_reply};
 

@@ -1,4 +1,4 @@
-// A session over one hierarchy. All its memory is taken when it starts.
+//! A session over one hierarchy. All its memory is taken when it starts.
 ghost use Rattle.std.specs.Prelude.{◌≡◌, ◌≢◌, ◌<◌, true, IfOk, IfErr, OnOk, OnErr};
 ghost use Rattle.pm_io.specs.Bytes.{Gains, GainsPart};
 ghost use Rattle.pm_io.specs.Causes.{Rose, HasCause};

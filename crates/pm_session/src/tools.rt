@@ -1,4 +1,4 @@
-// What a session works with beside its front.
+//! What a session works with beside its front.
 ghost use Rattle.std.specs.Prelude.{◌≡◌, ◌<◌, ◌≤◌, IfOk, OnOk, OnErr};
 ghost use Rattle.pm_io.specs.Bytes.{Gains, GainsPart};
 ghost use Rattle.pm_io.specs.Causes.{HasCause};

@@ -1,3 +1,4 @@
+//! The collapse of a pair.
 ghost use Rattle.std.specs.Prelude.{◌≡◌, ◌≢◌, ◌<◌, ℕ, true, List, [], ◌∷◌, ◌++◌};
 ghost use Rattle.pm_base.specs.Fans.{IsOrientedManifold};
 ghost use Rattle.pm_base.specs.declared.log.Collapse.{Collapse as Entry};

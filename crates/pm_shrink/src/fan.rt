@@ -1,4 +1,4 @@
-// Walks over the corners at one vertex.
+//! Walks over the corners at one vertex.
 ghost use Rattle.std.specs.Prelude.{◌≡◌, ◌<◌, ◌≤◌, ℕ, ◌↔◌, ◌||◌, true, IsTrue, All, MatchOption, is_none};
 ghost use Rattle.pm_base.specs.Sides.{side_count, prev as prev_of, to as to_of, third as third_of, Stands, IsBorder, twin_of};
 ghost use Rattle.pm_runs.specs.Surfaces.{is_live as is_live_in};

@@ -1,3 +1,4 @@
+//! What is read of a surface that shrinks.
 ghost use Rattle.std.specs.Prelude.{◌≡◌, ◌<◌, ◌≤◌, ◌↔◌, ℕ, true, IfSome, IsTrue};
 ghost use Rattle.std.specs.Option.{option_map};
 ghost use Rattle.pm_base.specs.Sides.{side_count, Stands, twin_of};

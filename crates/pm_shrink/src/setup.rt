@@ -1,3 +1,4 @@
+//! The surface before the first collapse.
 ghost use Rattle.std.specs.Prelude.{◌≡◌, ◌+◌, ◌-◌, ◌*◌, ◌<◌, ◌≤◌, ◌≢◌, ◌++◌, ◌↔◌, ℕ, [], ◌∷◌, Some, None, true, cond, length, map, replicate, slice_index_or, slice_set, IfOk};
 ghost use Rattle.pm_base.specs.Meshes.{mesh_of, IsFace, IsWellFormed};
 ghost use Rattle.pm_base.specs.Sides.{net_of};

@@ -1,3 +1,4 @@
+//! A surface that shrinks, collapse by collapse.
 use pm_base::{Corners, Point};
 use pm_links::Links;
 use pm_quadric::Quadric;

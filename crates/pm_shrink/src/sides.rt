@@ -1,5 +1,5 @@
-// The sides of a list of faces, of which some were dropped. Side `3f + i` of face `f` runs from corner `i` to the
-// face's next corner.
+//! The sides of a list of faces, of which some were dropped. Side `3f + i` of face `f` runs from corner `i` to the
+//! face's next corner.
 ghost use Rattle.std.specs.Prelude.{◌≡◌, ◌+◌, ◌*◌, ◌<◌, ◌≤◌, length};
 ghost use Rattle.pm_base.specs.Sides.{next as next_of, prev as prev_of};
 ghost use Rattle.pm_shrink.specs.Tables.{side_from};

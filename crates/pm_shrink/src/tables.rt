@@ -1,4 +1,4 @@
-// What a collapse writes to the tables: free functions, each over the tables that it changes.
+//! What a collapse writes to the tables: free functions, each over the tables that it changes.
 ghost use Rattle.std.specs.Prelude.{◌≡◌, ◌≢◌, ◌+◌, ◌*◌, ◌<◌, ◌≤◌, ℕ, None, Some, length, slice_index_or, slice_set, is_some, IfSome};
 ghost use Rattle.pm_base.specs.Counts.{one_if};
 ghost use Rattle.pm_links.specs.Lists.{list_of, with_moved, IsHeld, IsSound};

@@ -1,4 +1,4 @@
-// Whether a pair may be collapsed, and if not which face shows why.
+//! Whether a pair may be collapsed, and if not which face shows why.
 ghost use Rattle.std.specs.Prelude.{◌≡◌, ◌≢◌, ◌<◌, ℕ, true, IsTrue, IsFalse, MatchOption};
 ghost use Rattle.pm_base.specs.Sides.{to as to_of, third as third_of, Stands};
 ghost use Rattle.pm_runs.specs.Surfaces.{is_live as is_live_in};

@@ -1,4 +1,4 @@
-// The queue's entries of the edges of a face that was dropped.
+//! The queue's entries of the edges of a face that was dropped.
 ghost use Rattle.std.specs.Prelude.{◌≡◌, ◌+◌, ◌*◌, ◌<◌, length, IfSome};
 ghost use Rattle.pm_simplify.specs.Forgetting.{without_key, without_keys_of, forgotten};
 

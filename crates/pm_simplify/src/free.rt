@@ -1,4 +1,4 @@
-// Pairs that wait for a face come back to the queue before a corner of the face is merged.
+//! Pairs that wait for a face come back to the queue before a corner of the face is merged.
 ghost use Rattle.std.specs.Prelude.{◌≡◌, ◌*◌, ◌<◌, ℕ, List, [], length, true};
 ghost use Rattle.pm_base.specs.declared.log.Collapse.{Collapse};
 ghost use Rattle.pm_base.specs.Meshes.{Mesh};

@@ -1,4 +1,4 @@
-// One collapse, with what is known of each edge kept right.
+//! One collapse, with what is known of each edge kept right.
 ghost use Rattle.std.specs.Prelude.{◌≡◌, ◌*◌, ◌++◌, ◌∷◌, [], ℕ, List, length};
 ghost use Rattle.pm_base.specs.declared.log.Collapse.{Collapse as Entry};
 ghost use Rattle.pm_base.specs.Meshes.{Mesh};

@@ -1,4 +1,4 @@
-// The pieces of a strip's line, and the last line.
+//! The pieces of a strip's line, and the last line.
 ghost use Rattle.std.specs.Prelude.{◌≡◌, ◌+◌, ◌≤◌, true, ◌++◌, length};
 ghost use Rattle.pm_base.specs.Sides.{face_of};
 ghost use Rattle.pm_forest.specs.Fronts.{set_of};

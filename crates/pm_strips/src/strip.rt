@@ -1,4 +1,4 @@
-// Puts one strip.
+//! Puts one strip.
 ghost use Rattle.std.specs.Prelude.{◌≡◌, true, ◌++◌, length, map, codes, OnOk, OnErr};
 ghost use Rattle.std.specs.List.{flat_map};
 ghost use Rattle.pm_io.specs.Bytes.{GainsPart, GainsThrough};

@@ -1,4 +1,4 @@
-// Writes the strips of a front.
+//! Writes the strips of a front.
 ghost use Rattle.std.specs.Prelude.{◌≡◌, ◌++◌, length, IfOk, OnOk, OnErr};
 ghost use Rattle.std.specs.List.{flat_map};
 ghost use Rattle.pm_io.specs.Bytes.{Gains, GainsPart, GainsThrough};

@@ -1,3 +1,4 @@
+//! Tests: worked values, and one call of each kind on its happy path.
 use crate::Stripper;
 use pm_forest::Hierarchy;
 use pm_front::Front;

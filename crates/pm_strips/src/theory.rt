@@ -1,3 +1,4 @@
+//! The laws of strips.
 ghost use Rattle.pm_strips.specs.Laws.{StripsShowTheMesh, FrontsCarryEnds, StripsGoOn};
 
 /// States the laws of strips. It does nothing, and callers cite its clauses.

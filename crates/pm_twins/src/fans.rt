@@ -1,5 +1,5 @@
-// Each side is noted at the vertex from which it runs; then one walk round each vertex decides whether
-// its faces are a fan. A side without twin begins an open fan, so a walk starts at one where there is one.
+//! Each side is noted at the vertex from which it runs; then one walk round each vertex decides whether
+//! its faces are a fan. A side without twin begins an open fan, so a walk starts at one where there is one.
 ghost use Rattle.std.specs.Prelude.{◌≡◌, ◌+◌, ◌<◌, ℕ, length, slice_index_or, OnOk, IfOk, IfErr};
 ghost use Rattle.pm_base.specs.Meshes.{mesh_of, IsWellFormed};
 ghost use Rattle.pm_base.specs.Sides.{net_of, side_count};

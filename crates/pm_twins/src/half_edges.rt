@@ -1,3 +1,4 @@
+//! Walks from side to side round a vertex.
 ghost use Rattle.std.specs.Prelude.{◌≡◌, ◌<◌, ◌≤◌, ◌↔◌, IsTrue, is_none};
 ghost use Rattle.pm_base.specs.Sides.{net_of, side_count, Stands, twin_of, around as around_of};
 ghost use Rattle.pm_base.specs.Fans.{IsFan};

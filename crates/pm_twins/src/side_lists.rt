@@ -1,4 +1,4 @@
-// The sides of a mesh in lists: each at the vertex from which it runs.
+//! The sides of a mesh in lists: each at the vertex from which it runs.
 ghost use Rattle.std.specs.Prelude.{◌≡◌, length, IfOk};
 ghost use Rattle.pm_base.specs.Sides.{net_of, side_count};
 ghost use Rattle.pm_twins.specs.SideLists.{AreListed, IsWhole};

@@ -1,6 +1,6 @@
-// While a vertex is gone through, each side that leaves it is stamped at the vertex to which it runs. The
-// twin of a side that arrives is then the stamp at the vertex from which it comes. A stamp that an earlier
-// vertex left behind is told by where its side runs from, so the stamps are never wiped.
+//! While a vertex is gone through, each side that leaves it is stamped at the vertex to which it runs. The
+//! twin of a side that arrives is then the stamp at the vertex from which it comes. A stamp that an earlier
+//! vertex left behind is told by where its side runs from, so the stamps are never wiped.
 ghost use Rattle.std.specs.Prelude.{◌≡◌, ◌+◌, ◌*◌, ◌<◌, ◌≤◌, ℕ, None, Some, length, slice_index_or};
 ghost use Rattle.pm_base.specs.Sides.{net_of, side_count};
 ghost use Rattle.pm_twins.specs.SideLists.{AreListed, IsWhole};

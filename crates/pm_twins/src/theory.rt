@@ -1,3 +1,4 @@
+//! The laws of twins and fans.
 ghost use Rattle.pm_twins.specs.Laws.{
   SidesAreCorners,
   MeshesStand,

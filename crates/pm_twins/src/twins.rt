@@ -1,6 +1,6 @@
-// The sides of a mesh are put into lists, each at the vertex from which it runs, and then the vertices are
-// gone through. Of the sides that leave one, two that run to the same vertex are one side twice; and a side
-// that arrives there has the one that runs back as its twin.
+//! The sides of a mesh are put into lists, each at the vertex from which it runs, and then the vertices are
+//! gone through. Of the sides that leave one, two that run to the same vertex are one side twice; and a side
+//! that arrives there has the one that runs back as its twin.
 ghost use Rattle.std.specs.Prelude.{◌≡◌, ◌<◌, ℕ, ◌↔◌, None, length, replicate, IfOk, IfErr, OnOk, MatchOption, IsTrue};
 ghost use Rattle.std.specs.Option.{option_map};
 ghost use Rattle.pm_base.specs.Meshes.{mesh_of, IsWellFormed};

@@ -1,4 +1,4 @@
-// The least and the greatest that the product of a normal in a box and a way from the eye to a ball can be.
+//! The least and the greatest that the product of a normal in a box and a way from the eye to a ball can be.
 ghost use Rattle.std.specs.Prelude.{◌≡◌, ◌≤◌, ◌^◌, pos, ◌+ℤ◌, ◌-ℤ◌, ◌*ℤ◌, unsigned_abs};
 ghost use Rattle.std.specs.Int.{int_min, int_max};
 ghost use Rattle.pm_view.specs.Wanted.{least_product, greatest_product};

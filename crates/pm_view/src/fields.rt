@@ -1,4 +1,4 @@
-// The fields that spell a view, read from left to right.
+//! The fields that spell a view, read from left to right.
 ghost use Rattle.std.specs.Prelude.{◌≡◌, ◌<◌, ◌≤◌, ◌∷◌, [], ℕ, suc, true, length, Some, None, MatchOption, IfSome, IfNone, IfOk, OnErr, unsigned_abs};
 ghost use Rattle.std.specs.List.{list_all};
 ghost use Rattle.pm_view.specs.Views.{is_plane};

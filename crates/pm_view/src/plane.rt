@@ -1,4 +1,4 @@
-// Planes, and whether a ball lies wholly on the negative side of one.
+//! Planes, and whether a ball lies wholly on the negative side of one.
 ghost use Rattle.std.specs.Prelude.{◌≡◌, ◌+◌, ◌*◌, ◌≤◌, ◌^◌, ◌&&◌, true, pos, ◌+ℤ◌, ◌*ℤ◌, int_lt, nat_lt, unsigned_abs};
 ghost use Rattle.std.specs.List.{list_all};
 ghost use Rattle.pm_base.specs.Geometry.{square_of, norm2_of};

@@ -1,4 +1,4 @@
-// Squares, and how large an error looks from the eye.
+//! Squares, and how large an error looks from the eye.
 ghost use Rattle.std.specs.Prelude.{◌≡◌, ◌+◌, ◌*◌, ◌≤◌, ◌^◌, ◌-ℤ◌, nat_lt, unsigned_abs};
 ghost use Rattle.pm_base.specs.Geometry.{square_of};
 

@@ -1,3 +1,4 @@
+//! The laws of wanted nodes.
 ghost use Rattle.pm_view.specs.Laws.{WantingPassesUp, UnwantedForAReason, OneToleranceIsPlain};
 
 /// States the laws of wanted nodes, which hold for every hierarchy of the right shape and every view. It does nothing, and

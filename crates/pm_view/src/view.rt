@@ -1,3 +1,4 @@
+//! Views, and what each of their tests asks.
 ghost use Rattle.std.specs.Prelude.{◌≡◌, ◌≤◌, ◌^◌, ◌&&◌, ◌||◌, ℕ, nat_le, true, false, pos, int_le, unsigned_abs, IfSome, OnSome, IfNone};
 ghost use Rattle.std.specs.List.{list_all};
 ghost use Rattle.pm_base.specs.Geometry.{dist2_of};

@@ -1,3 +1,4 @@
+//! Whether a view wants a node refined.
 ghost use Rattle.std.specs.Prelude.{◌≡◌, ℕ, ◌+◌, ◌<◌, ◌⊎◌, true, false};
 ghost use Rattle.pm_forest.specs.Forest.{node_count, record_count, s_of, Makes};
 ghost use Rattle.pm_bounds.specs.Bounds.{AreBoundsOf};

@@ -1,4 +1,4 @@
-// Why the program ends before its work is whole.
+//! Why the program ends before its work is whole.
 use obj_read::ObjFault;
 
 /// A fault of the input.

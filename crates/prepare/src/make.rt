@@ -1,4 +1,4 @@
-// A mesh that is an oriented manifold, made of any OBJ text.
+//! A mesh that is an oriented manifold, made of any OBJ text.
 ghost use Rattle.std.specs.Prelude.{◌≡◌, None, Ok, IfOk, IfErr, IfSome, OnOk};
 ghost use Rattle.pm_base.specs.Meshes.{IsWellFormed, mesh_of};
 ghost use Rattle.pm_io.specs.Bytes.{AtEnd};

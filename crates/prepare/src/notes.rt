@@ -1,4 +1,4 @@
-// The line that tells how places lead back, and what is said of the work.
+//! The line that tells how places lead back, and what is said of the work.
 ghost use Rattle.std.specs.Prelude.{◌≡◌, ◌≤◌, ◌^◌, ◌*◌, ◌++◌, OnOk, IfOk, pos, ◌+ℤ◌, ◌*ℤ◌, unsigned_abs};
 ghost use Rattle.pm_base.specs.Canonical.{coordinate_text};
 ghost use Rattle.prepare.specs.Texts.{middle, scale_text, middle_text, way_back, head_line, note_line, last_note, face_notes, vertex_notes, notes_text};

@@ -1,3 +1,4 @@
+//! The laws of outcomes.
 ghost use Rattle.prepare.specs.Laws.{OneOutcome, TextsAreRead, TextsComeBack, FitTextsStay};
 
 /// The laws of outcomes, which takes no step: a text has one outcome for a size or none, and one place that decides it; what

@@ -1,4 +1,4 @@
-// The program over any source and sinks.
+//! The program over any source and sinks.
 ghost use Rattle.std.specs.Prelude.{◌≡◌, ◌⊎◌, ◌≤◌, ◌<◌, ◌-◌, ◌^◌, map, ℕ, None, Some, IfOk, IfErr, IfSome, OnOk, OnErr, codes};
 ghost use Rattle.std.specs.String.{string_bytes};
 ghost use Rattle.pm_base.specs.Meshes.{IsWellFormed, mesh_of};

@@ -1,4 +1,4 @@
-// What is said on the error sink.
+//! What is said on the error sink.
 ghost use Rattle.std.specs.Prelude.{◌≡◌};
 ghost use Rattle.prepare.specs.Ending.{Said, fault_line, fail_line, status_of};
 

@@ -1,3 +1,4 @@
+//! Tests of the program on texts of each kind and on failing devices.
 use crate::run::run;
 use pm_io::{MemSink, MemSource};
 use std::alloc::{AllocError, Global};

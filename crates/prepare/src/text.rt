@@ -1,4 +1,4 @@
-// Text that is put together in memory.
+//! Text that is put together in memory.
 ghost use Rattle.std.specs.Prelude.{◌≡◌, ◌<◌, ◌≤◌, ◌+◌, ◌*◌, ◌^◌, ◌++◌, codes, OnOk, pos, unsigned_abs};
 ghost use Rattle.std.specs.Fmt.{decimal};
 ghost use Rattle.pm_base.specs.Canonical.{last_digits, minus_if, coordinate_text};

@@ -1,4 +1,4 @@
-// `build`: an OBJ text's mesh is simplified, and the hierarchy of the run is written as a stream.
+//! `build`: an OBJ text's mesh is simplified, and the hierarchy of the run is written as a stream.
 ghost use Rattle.std.specs.Prelude.{◌≡◌, ◌≤◌, None, Ok, IfOk, IfErr, IfSome, OnOk};
 ghost use Rattle.pm_base.specs.Meshes.{mesh_of};
 ghost use Rattle.pm_io.specs.Bytes.{AtEnd};

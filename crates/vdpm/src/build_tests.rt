@@ -1,4 +1,4 @@
-// What `build` makes of small meshes, and that the streams lead back to them.
+//! What `build` makes of small meshes, and that the streams lead back to them.
 use crate::run::run;
 use crate::stream_tests::OCTAHEDRON_TEXT;
 use crate::tests::{Row, TETRAHEDRA, check, check_rows, command};

@@ -1,4 +1,4 @@
-// What each command does with its devices. All memory is taken before the first byte of output.
+//! What each command does with its devices. All memory is taken before the first byte of output.
 ghost use Rattle.std.specs.Prelude.{◌≡◌, ◌≤◌, OnOk, IfErr};
 ghost use Rattle.pm_io.specs.Bytes.{AtEnd};
 ghost use Rattle.vdpm.specs.Ran.{serve_fail};

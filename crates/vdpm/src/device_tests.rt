@@ -1,4 +1,4 @@
-// Devices that fail: each read, each room of the sink, and what was put by then.
+//! Devices that fail: each read, each room of the sink, and what was put by then.
 use crate::run::run;
 use crate::stream_tests::OCTAHEDRON_TEXT;
 use crate::tests::{FULL, OCTAHEDRON, command, text};

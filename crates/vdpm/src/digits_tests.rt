@@ -1,4 +1,4 @@
-// Coordinates with decimals: what is read, and what is written.
+//! Coordinates with decimals: what is read, and what is written.
 use crate::stream_tests::OCTAHEDRON_TEXT;
 use crate::tests::{OCTAHEDRON, Row, check, check_rows, text};
 use std::test::Fail;

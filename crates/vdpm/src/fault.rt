@@ -1,4 +1,4 @@
-// Why a command ends before its work is whole.
+//! Why a command ends before its work is whole.
 ghost use Rattle.std.specs.Prelude.{◌≡◌};
 ghost use Rattle.vdpm.specs.Input.{fail_of};
 

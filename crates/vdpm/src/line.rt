@@ -1,4 +1,4 @@
-// The line that `check` writes.
+//! The line that `check` writes.
 ghost use Rattle.std.specs.Prelude.{◌≡◌};
 ghost use Rattle.vdpm.specs.Outcome.{counts_line};
 

@@ -1,4 +1,4 @@
-// Geomorphs through the whole program: the octahedron on its way, a front that isn't finer, and elders far above a node.
+//! Geomorphs through the whole program: the octahedron on its way, a front that isn't finer, and elders far above a node.
 use crate::tests::{OCTAHEDRON, Row, check_rows};
 use std::test::Fail;
 

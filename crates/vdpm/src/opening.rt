@@ -1,4 +1,4 @@
-// The hierarchy of a stream text.
+//! The hierarchy of a stream text.
 ghost use Rattle.std.specs.Prelude.{◌≡◌, ◌≤◌, [], None, Ok, IfOk, IfErr, IfSome, OnOk};
 ghost use Rattle.pm_io.specs.Bytes.{AtEnd};
 ghost use Rattle.vdpm.specs.Input.{Stops};

@@ -1,4 +1,4 @@
-// The laws of outcomes.
+//! The laws of outcomes.
 ghost use Rattle.vdpm.specs.Outcome.{OneOutcome};
 ghost use Rattle.vdpm.specs.Frames.{ScriptsKeepSetsClosed};
 

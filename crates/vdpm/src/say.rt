@@ -1,4 +1,4 @@
-// What is said on the error sink.
+//! What is said on the error sink.
 ghost use Rattle.std.specs.Prelude.{◌≡◌, ◌≤◌, [], length};
 ghost use Rattle.vdpm.specs.FaultLine.{line_at, line_of, stream_line, fault_line, fail_line};
 ghost use Rattle.vdpm.specs.Ending.{Said, status_of};

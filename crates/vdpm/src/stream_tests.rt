@@ -1,4 +1,4 @@
-// What `expand` and `check` say of streams, whole and damaged.
+//! What `expand` and `check` say of streams, whole and damaged.
 use crate::tests::{OCTAHEDRON, Row, TETRAHEDRON, check, text};
 use pm_io::Line;
 use std::alloc::{AllocError, Global};

@@ -1,4 +1,4 @@
-// `demo`: nothing is read, and the summary of a grid is written.
+//! `demo`: nothing is read, and the summary of a grid is written.
 ghost use Rattle.std.specs.Prelude.{◌≤◌, ℕ, List, Option, IfErr};
 ghost use Rattle.vdpm.specs.Ending.{Ends, Counts, BlamesNoInput, status_of};
 

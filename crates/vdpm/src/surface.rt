@@ -1,4 +1,4 @@
-// The mesh of an OBJ text, where it is an oriented manifold.
+//! The mesh of an OBJ text, where it is an oriented manifold.
 ghost use Rattle.std.specs.Prelude.{◌≡◌, ◌≤◌, None, Ok, IfOk, IfErr, IfSome, OnOk};
 ghost use Rattle.pm_base.specs.Meshes.{IsWellFormed, mesh_of};
 ghost use Rattle.pm_base.specs.Sides.{net_of};

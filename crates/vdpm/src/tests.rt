@@ -1,3 +1,4 @@
+//! Tests of the program on scripts, texts and failing devices.
 use crate::run::run;
 use pm_io::{MemSink, MemSource};
 use std::alloc::{AllocError, Global};

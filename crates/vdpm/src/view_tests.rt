@@ -1,4 +1,4 @@
-// Scripts of views, measures and picks through the whole program.
+//! Scripts of views, measures and picks through the whole program.
 use crate::stream_tests::SQUARE;
 use crate::tests::{BASE, FULL, OCTAHEDRON, Row, check_rows};
 use std::test::Fail;
