@@ -39,9 +39,6 @@ pub record HasLeast (points : List Place) (corners : List ℕ) (i n : ℕ) : Typ
   pub none : (k : ℕ) → k < i → is_before (point_at points corners k) (point_at points corners n) ≡ false
   pub first : (k : ℕ) → k < n → is_before (point_at points corners n) (point_at points corners k) ≡ true
 
-pub least_start : (points : List Place) (corners : List ℕ) → HasLeast points corners 0 0
-least_start points corners = record { within = omega arith; under = λ some. some; none = λ k lt. absurd (omega (arith, lt)); first = λ k lt. absurd (omega (arith, lt)) }
-
 at_or_under : (P : ℕ → Type 0) (i k : ℕ) (b : Bool) → nat_lt k i ≡ b → ((j : ℕ) → j < i → P j) → P i → k < i + 1 → P k
 at_or_under P i k true less under here lt = under k (ltb-true k i less)
 at_or_under P i k false less under here lt = let e : i ≡ k = grind (arith, nat_tests, less, lt) in subst P e here

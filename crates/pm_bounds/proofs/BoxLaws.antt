@@ -77,10 +77,6 @@ join-same : (a : Option NormalBox) → join a a ≡ a
 join-same None = refl
 join-same (Some a) = ap Some (joined-same a)
 
-join-none : (a : Option NormalBox) → join a None ≡ a
-join-none None = refl
-join-none (Some a) = refl
-
 -- taking a box in twice is taking it in once
 pub join-twice : (a b : Option NormalBox) → join (join a b) b ≡ join a b
 join-twice a b = join-assoc a b b ∙ ap (join a) (join-same b)

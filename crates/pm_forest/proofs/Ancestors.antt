@@ -5,13 +5,10 @@ use Rattle.std.proofs.lemmas.Bool.{ltb-true, ltb-false, lt-ltb, le-ltb, eqb-true
 use Rattle.std.proofs.lemmas.List.{length-map}
 use Rattle.std.proofs.lemmas.List.Sums.{sum_by-cons}
 use Rattle.pm_forest.specs.Forest.{widths, Hierarchy, record_count, leaf_count, s_of, t_of, u_of, within, root_interval, root_of, interval_after, interval_of, holds, Holds, Makes, node_count, HasForestShape}
-use Rattle.pm_forest.specs.Fronts.{IsFront, IsThere, IsActive, ancestor_after, ancestor_of, every, no_records, below}
+use Rattle.pm_forest.specs.Fronts.{IsFront, IsThere, IsActive, ancestor_after, ancestor_of, every, below}
 use Rattle.pm_forest.proofs.Nodes.{within-true, within-from, holds-s_from_t, holds-s_from_u, holds-u_from_s, not_both, interval-kept, has_maker}
 
 -- The base front, the full front, and the records below a number, of which the last one has active children.
-
-pub no_records-front : (h : Hierarchy) → IsFront h no_records
-no_records-front h k j l e makes = e
 
 pub every-front : (h : Hierarchy) → IsFront h every
 every-front h k j l e makes = refl

@@ -1,6 +1,6 @@
 -- Laws for callers: the list of each head after a call, and which items are then held or free. Each takes
 -- the call's clause as it stands.
-use Rattle.std.proofs.Common.{◌≡◌, ◌≢◌, ◌↔◌, ℕ, ◌<◌, ◌≤◌, Option, Some, None, true, eqb, List, [], ◌∷◌, ◌++◌, length, sym, refl, ap, ◌∙◌, subst, ⊎_elim, get_or-set_other, get_or-set_same, length-set}
+use Rattle.std.proofs.Common.{◌≡◌, ◌≢◌, ◌↔◌, ℕ, ◌<◌, ◌≤◌, Option, Some, None, true, eqb, List, [], ◌∷◌, ◌++◌, length, sym, ap, ◌∙◌, subst, ⊎_elim, get_or-set_other, get_or-set_same, length-set}
 use Rattle.std.proofs.lemmas.List.{length-map, ext_get_or, get_or_past}
 use Rattle.std.proofs.lemmas.Option.{none-some}
 use Rattle.std.proofs.lemmas.Bool.{or_from, or_left, or_right, cases_lt, cases_eq, ne_eqb, false≢true, false_from_ne_true}
@@ -42,11 +42,6 @@ pub free_from_none : (v : Lists) (x : ℕ) (head : Option ℕ) →
     ((h : ℕ) → (head ≡ Some h) ↔ (has (list_of v h) x ≡ true)) → head ≡ None → IsFree v x
 free_from_none v x head clause e h = false_from_ne_true (has (list_of v h) x)
     (λ t. none-some h (sym e ∙ (clause h).1 t))
-
-pub none_from_free : (v : Lists) (x : ℕ) (head : Option ℕ) →
-    ((h : ℕ) → (head ≡ Some h) ↔ (has (list_of v h) x ≡ true)) → IsFree v x → head ≡ None
-none_from_free v x None clause f = refl
-none_from_free v x (Some h) clause f = absurd (false≢true (sym (f h) ∙ (clause h).0 refl))
 
 -- ---- push_front
 

@@ -1,14 +1,14 @@
 -- Laws for callers: a loop that takes the first item of one list and puts it first in one of two
 -- others.
-use Rattle.std.proofs.Common.{◌≡◌, ◌≢◌, ℕ, ◌<◌, Some, Bool, true, false, not, eqb, List, [], ◌∷◌, ◌++◌, length, reverse, sym, refl, ap, ◌∙◌, subst, ◌⊎◌, ⊎_elim, append_assoc, arith, length-set}
+use Rattle.std.proofs.Common.{◌≡◌, ◌≢◌, ℕ, ◌<◌, Some, Bool, true, false, not, eqb, List, [], ◌∷◌, ◌++◌, length, reverse, sym, refl, ap, ◌∙◌, subst, ◌⊎◌, ⊎_elim, append_assoc, arith}
 use Rattle.std.specs.List.{filter}
 use Rattle.std.proofs.lemmas.Grind.{reverse_onto}
 use Rattle.std.proofs.lemmas.Bool.{eqb-true, eqb-false, cases_Bool}
-use Rattle.pm_links.specs.Lists.{Lists, list_of, has, first_of, IsOnce, IsSound, without, with_list, with_first, without_item}
-use Rattle.pm_links.specs.Dealt.{dealt, dealt_left, dealt_right, with_dealt}
+use Rattle.pm_links.specs.Lists.{Lists, list_of, has, first_of, IsOnce, IsSound, without, with_first, without_item}
+use Rattle.pm_links.specs.Dealt.{dealt}
 use Rattle.pm_links.proofs.Members.{has_head, first_is}
 use Rattle.pm_links.proofs.Without.{without_first}
-use Rattle.pm_links.proofs.Calls.{after_push, after_unlink, others-unlink, list_of-with_list_same, list_of-with_list_other, same_from_list_of}
+use Rattle.pm_links.proofs.Calls.{after_push, after_unlink, others-unlink}
 
 -- ---- the first item of one list goes first in another
 
@@ -110,55 +110,3 @@ dealt_turn p v m w from left right to x s lf rf rl ll rlow c first me we =
     }
 
 -- ---- all of it as one value
-
-pub length-with_dealt : (p : ℕ → Bool) (v : Lists) (from left right : ℕ) →
-    length (with_dealt p v from left right).lists ≡ length v.lists
-length-with_dealt p v from left right =
-    let a : Lists = with_list v from [] in
-    let b : Lists = with_list a left (dealt_left p v from left) in
-    length-set b.lists right (dealt_right p v from right)
-    ∙ length-set a.lists left (dealt_left p v from left) ∙ length-set v.lists from []
-
-pub list_of-with_dealt : (p : ℕ → Bool) (v : Lists) (from left right h : ℕ) →
-    from < length v.lists → left < length v.lists → right < length v.lists → left ≢ from →
-    right ≢ from → right ≢ left →
-    list_of (with_dealt p v from left right) h ≡ dealt p v from left right h
-list_of-with_dealt p v from left right h fl ll rlow lf rf rl =
-    let xs : List ℕ = dealt_left p v from left in
-    let ys : List ℕ = dealt_right p v from right in
-    let a : Lists = with_list v from [] in
-    let b : Lists = with_list a left xs in
-    let a_len : length a.lists ≡ length v.lists = length-set v.lists from [] in
-    let b_len : length b.lists ≡ length v.lists = length-set a.lists left xs ∙ a_len in
-    ⊎_elim
-    (λ (k : eqb h from ≡ true). rw k (
-    let e : h ≡ from = eqb-true h from k in
-    ap (list_of (with_list b right ys)) e
-    ∙ list_of-with_list_other b right from ys (λ t. rf (sym t))
-    ∙ list_of-with_list_other a left from xs (λ t. lf (sym t))
-    ∙ list_of-with_list_same v from [] fl))
-    (λ (k : eqb h from ≡ false). rw k (⊎_elim
-    (λ (m : eqb h left ≡ true). rw m (
-    let e : h ≡ left = eqb-true h left m in
-    ap (list_of (with_list b right ys)) e
-    ∙ list_of-with_list_other b right left ys (λ t. rl (sym t))
-    ∙ list_of-with_list_same a left xs (rw a_len ll)))
-    (λ (m : eqb h left ≡ false). rw m (⊎_elim
-    (λ (t : eqb h right ≡ true). rw t (ap (list_of (with_list b right ys)) (eqb-true h right t)
-    ∙ list_of-with_list_same b right ys (rw b_len rlow)))
-    (λ (t : eqb h right ≡ false). rw t (list_of-with_list_other b right h ys (eqb-false h right t)
-    ∙ list_of-with_list_other a left h xs (eqb-false h left m)
-    ∙ list_of-with_list_other v from h [] (eqb-false h from k)))
-    (cases_Bool (eqb h right))))
-    (cases_Bool (eqb h left))))
-    (cases_Bool (eqb h from))
-
--- the list of each head, as one equation
-pub dealt_exact : (p : ℕ → Bool) (v w : Lists) (from left right : ℕ) → from < length v.lists →
-    left < length v.lists → right < length v.lists → left ≢ from → right ≢ from → right ≢ left →
-    w.items ≡ v.items → length w.lists ≡ length v.lists →
-    ((h : ℕ) → list_of w h ≡ dealt p v from left right h) → w ≡ with_dealt p v from left right
-dealt_exact p v w from left right fl ll rlow lf rf rl items heads lists =
-    same_from_list_of w (with_dealt p v from left right) items
-    (heads ∙ sym (length-with_dealt p v from left right))
-    (λ h. lists h ∙ sym (list_of-with_dealt p v from left right h fl ll rlow lf rf rl))

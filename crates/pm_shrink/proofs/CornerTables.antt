@@ -1,8 +1,8 @@
 -- The lists of corners by vertex, as they are built.
 use Rattle.std.proofs.Common.{◌≡◌, ◌↔◌, ℕ, ◌+◌, ◌<◌, true, eqb, Option, List, ◌∷◌, length, inl, inr, sym, ap, ◌∙◌, arith}
-use Rattle.std.proofs.lemmas.Bool.{or_cases, or_left, eqb-true, eq-eqb, cases_eq, false_from_ne_true}
+use Rattle.std.proofs.lemmas.Bool.{or_cases, or_left, eqb-true, eq-eqb, cases_eq}
 use Rattle.pm_base.specs.declared.mesh.Corners.{Corners}
-use Rattle.pm_links.specs.Lists.{Lists, list_of, has, with_first, IsFree}
+use Rattle.pm_links.specs.Lists.{Lists, list_of, has, with_first}
 use Rattle.pm_links.proofs.Members.{has_tail}
 use Rattle.pm_links.proofs.Calls.{after_push}
 use Rattle.pm_shrink.specs.Tables.{side_from}
@@ -10,9 +10,6 @@ use Rattle.pm_shrink.specs.Tables.{side_from}
 -- The first n corners are in the lists of their vertices, and no other ones.
 abbrev pub AreListed : List (Option Corners) → ℕ → Lists → Type 0
 AreListed faces n lists = (v e : ℕ) → (has (list_of lists v) e ≡ true) ↔ ((e < n) × (side_from faces e ≡ v))
-
-pub listed-free : (faces : List (Option Corners)) (n : ℕ) (lists : Lists) → AreListed faces n lists → IsFree lists n
-listed-free faces n lists listed v = false_from_ne_true (has (list_of lists v) n) (λ t. absurd (omega (arith, ((listed v n).0 t).0)))
 
 pub listed-more : (faces : List (Option Corners)) (n head : ℕ) (lists more : Lists) → head ≡ side_from faces n → head < length lists.lists → more ≡ with_first lists head n →
     AreListed faces n lists → AreListed faces (n + 1) more

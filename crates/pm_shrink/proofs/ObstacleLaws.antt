@@ -1,6 +1,6 @@
 -- What hinders a pair: the parts of a legal pair by what was found.
 use Rattle.std.proofs.Common.{◌≡◌, ◌↔◌, ◌&&◌, eqb, ℕ, true, Option, Some, None, inl, inr, refl, sym, ◌∙◌, subst}
-use Rattle.std.specs.Prelude.{MatchOption, is_none, is_some}
+use Rattle.std.specs.Prelude.{MatchOption, is_none}
 use Rattle.std.proofs.lemmas.Bool.{or_cases, and_parts, eqb-true, false≢true}
 use Rattle.std.proofs.lemmas.Option.{same_Some}
 use Rattle.pm_base.specs.Place.{Place}
@@ -63,17 +63,10 @@ module _ (m : Net) (a b : ℕ) (once : NoSideTwice m) (l g : ℕ) (left : side_f
             (st, record { left = l; right = g; shares = record { left = runs_left; right = runs_right; first = (e, st, at, inr (i, j)); second = second }; left_in = inr j; right_in = inl i })
       ]
 
-pub tells_shared : (m : Net) (a b e : ℕ) → TellsTriangle m a b e → ShareNoTriangle m a b → ⊥
-tells_shared m a b e x none = none x.left x.right x.shares.left x.shares.right x.shares.first x.shares.second
-
 -- The answer of a search as a test.
 pub none_iff : (r : Option ℕ) (P : Type 0) (Q : ℕ → Type 0) → MatchOption r P Q → ((e : ℕ) → Q e → P → ⊥) → (is_none r ≡ true) ↔ P
 none_iff None P Q p apart = (λ t. p, λ k. refl)
 none_iff (Some e) P Q q apart = (λ t. absurd (false≢true t), λ k. absurd (apart e q k))
-
-pub some_iff : (r : Option ℕ) (P : Type 0) (Q : ℕ → Type 0) → MatchOption r (P → ⊥) Q → ((e : ℕ) → Q e → P) → (is_some r ≡ true) ↔ P
-some_iff None P Q never here = (λ t. absurd (false≢true t), λ k. absurd (never k))
-some_iff (Some e) P Q q here = (λ t. here e q, λ k. refl)
 
 -- A face that is alone along the pair, in either direction, is the one that the search finds.
 pub alone_found : (m : Net) (p q : ℕ) → NoSideTwice m → IsAloneAlong m p q → (r : Option ℕ) → r ≡ side_from_to m p q → (P : Type 0) → MatchOption r P (λ e. Stands m e × IsAlone m p q e)
@@ -100,9 +93,6 @@ turns_here s a b p q place pair e st at x = record {
   not_third = x.1;
   turns = λ ok. x.2 (subst (λ (v : ℕ). StaysUpright s place v (to (net_of_surface s) e) (third (net_of_surface s) e)) (sym at) ok);
 }
-
-pub turns_not : (s : Surface) (p q : ℕ) (place : Place) (e : ℕ) → Stands (net_of_surface s) e → (net_of_surface s).from e ≡ p → TurnsAt s q place e → StayUprightAt s p q place → ⊥
-turns_not s p q place e st at x all = x.2 (subst (λ (v : ℕ). StaysUpright s place v (to (net_of_surface s) e) (third (net_of_surface s) e)) (sym at) (all e st at x.0 x.1))
 
 pub turned_second : (s : Surface) (a b : ℕ) (place : Place) → StayUprightAt s a b place → (r : Option ℕ) →
     MatchOption r (StayUprightAt s b a place) (λ e. Stands (net_of_surface s) e × ((net_of_surface s).from e ≡ b) × TurnsAt s a place e) →

@@ -45,7 +45,3 @@ both_ways_not false t f = false≢true t
 pub no_from : (b : Bool) → (b ≡ true → ⊥) → not b ≡ true
 no_from true never = absurd (never (λ i. true))
 no_from false never = λ i. true
-
-pub none_test : (r : Option ℕ) → is_none r ≡ true → r ≡ None
-none_test None t = λ i. None
-none_test (Some k) t = absurd (false≢true t)
