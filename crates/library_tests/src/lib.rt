@@ -4,9 +4,13 @@
 #[cfg(test)]
 mod bounds;
 #[cfg(test)]
+mod demo;
+#[cfg(test)]
 mod fans;
 #[cfg(test)]
 mod forest;
+#[cfg(test)]
+mod format;
 #[cfg(test)]
 mod grid;
 #[cfg(test)]
@@ -19,6 +23,10 @@ mod links;
 mod load;
 #[cfg(test)]
 mod manifold;
+#[cfg(test)]
+mod number;
+#[cfg(test)]
+mod pick;
 #[cfg(test)]
 mod quadric;
 #[cfg(test)]
@@ -33,6 +41,8 @@ mod scan;
 mod shrink;
 #[cfg(test)]
 mod simplify;
+#[cfg(test)]
+mod strips;
 #[cfg(test)]
 mod twins;
 #[cfg(test)]

@@ -3,8 +3,6 @@
 
 mod lines;
 mod scene;
-#[cfg(test)]
-mod tests;
 mod theory;
 mod views;
 mod write;

@@ -5,8 +5,6 @@ mod feed;
 mod left;
 mod number;
 mod tables;
-#[cfg(test)]
-mod tests;
 mod theory;
 mod units;
 

@@ -8,8 +8,6 @@ mod lists;
 mod nearest;
 mod picker;
 mod ray;
-#[cfg(test)]
-mod tests;
 mod theory;
 mod walk;
 mod ways;

@@ -5,8 +5,6 @@ mod line;
 mod sides;
 mod strip;
 mod stripper;
-#[cfg(test)]
-mod tests;
 mod theory;
 
 pub use stripper::Stripper;

@@ -1,5 +1,5 @@
-//! Tests: worked values, and one call of each kind on its happy path.
-use crate::demo;
+//! Tests of pm_demo.
+use pm_demo::demo;
 use pm_io::MemSink;
 use std::test::Fail;
 

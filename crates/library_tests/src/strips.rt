@@ -1,16 +1,11 @@
-//! Tests: worked values, and one call of each kind on its happy path.
-use crate::Stripper;
-use pm_forest::Hierarchy;
+//! Tests of pm_strips.
+use crate::load::opened;
 use pm_front::Front;
 use pm_io::MemSink;
-use pm_load::open_front;
 use pm_samples::{octahedron, square};
+use pm_strips::Stripper;
 use std::alloc::Global;
 use std::test::Fail;
-
-fn opened(alloc: Global, h: Hierarchy) -> Result<Front, Fail> {
-    open_front(alloc, h).map_err(|_| Fail::new("the hierarchy isn't opened"))
-}
 
 // Whether the strips of a front are told by this text.
 fn has_strips(alloc: Global, front: &Front, text: &[u8]) -> bool {

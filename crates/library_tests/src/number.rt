@@ -1,7 +1,7 @@
-//! Tests: worked values, and one call of each kind on its happy path.
-use crate::from_log;
+//! Tests of pm_number.
 use pm_base::{FaceId, Log};
 use pm_forest::Face;
+use pm_number::from_log;
 use pm_samples::{OCTAHEDRON_FACES, at_origin};
 use pm_twins::{Twins, check_fans};
 use std::test::Fail;

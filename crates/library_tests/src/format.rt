@@ -1,5 +1,5 @@
-//! Tests: worked values, and one call of each kind on its happy path.
-use crate::{FormatError, OutOfMemory, Stream, StreamFail, encode, read_stream, stream_len};
+//! Tests of pm_format.
+use pm_format::{FormatError, OutOfMemory, Stream, StreamFail, encode, read_stream, stream_len};
 use pm_io::{MemSink, MemSource, Taker};
 use std::alloc::Global;
 use std::test::Fail;
