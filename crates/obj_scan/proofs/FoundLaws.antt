@@ -15,7 +15,7 @@ use Rattle.obj_read.specs.Judged.{is_full, vertex_of, face_of, vertex_line as re
 use Rattle.obj_read.specs.Fits.{with_found as with_read}
 use Rattle.obj_scan.specs.Polygons.{triangles}
 use Rattle.obj_scan.specs.Judged.{Found, polygon_of, vertex_line, face_line, fields_found, line_found, with_found}
-use Rattle.obj_scan.specs.Laws.{scaled_up, scanned_of}
+use Rattle.obj_scan.specs.Laws.{scaled_up, scanned_mesh}
 use Rattle.obj_scan.proofs.NumberLaws.{whole_in_units}
 
 -- What `obj_read` finds, as it is found here.
@@ -95,7 +95,7 @@ pub line_is_found : (n k : ℕ) (text : List ℕ) (f : ReadFound) → read_line 
 line_is_found n k text f is = line_case n k text f (is_continued text) refl is
 
 -- It is put into what was scanned so far as it is put into the mesh.
-pub scanned_with : (m : Mesh) (f : ReadFound) → with_found (scanned_of m) (found_of f) ≡ scanned_of (with_read m f)
+pub scanned_with : (m : Mesh) (f : ReadFound) → with_found (scanned_mesh m) (found_of f) ≡ scanned_mesh (with_read m f)
 unfolding triangles
 scanned_with m reads.Nothing = refl
 scanned_with m (reads.Vertex p) = ap (λ points. record { points = points; faces = m.faces; polygons = 0 }) (sym (map-append scaled_up m.points (p ∷ [])))

@@ -12,7 +12,7 @@ use Rattle.obj_read.specs.Meaning.{SoFar as ReadSoFar, Refused, is_past, is_long
 use Rattle.obj_read.proofs.CommentLaws.{commented_is_read}
 use Rattle.obj_scan.specs.Judged.{Scanned}
 use Rattle.obj_scan.specs.Meaning.{SoFar, joined_text, judged_length, judged, and_line, meaning_from, meaning_of}
-use Rattle.obj_scan.specs.Laws.{scanned_of, ReadIsScanned, CommentedIsScanned}
+use Rattle.obj_scan.specs.Laws.{scanned_mesh, ReadIsScanned, CommentedIsScanned}
 use Rattle.obj_scan.proofs.FoundLaws.{line_is_found, scanned_with}
 
 -- What is read of a line isn't longer than it.
@@ -34,7 +34,7 @@ abbrev read_after : ℕ → ℕ → Mesh → ReadSoFar
 read_after bytes number m = record { digits = 0; bytes = bytes; number = number; mesh = m }
 
 abbrev scan_after : ℕ → ℕ → Mesh → SoFar
-scan_after bytes number m = record { bytes = bytes; number = number; continued = 0; begun = []; scanned = scanned_of m }
+scan_after bytes number m = record { bytes = bytes; number = number; continued = 0; begun = []; scanned = scanned_mesh m }
 
 -- A line without a fault for `obj_read` has none here, and gives the same.
 record IsScanned (bytes number : ℕ) (m : Mesh) (line : List ℕ) (f : ReadFound) : Type 0 where
@@ -60,8 +60,8 @@ line_is_scanned bytes number m line f is = line_case bytes number m line f _ _ r
 
 -- The same of a line and those after it.
 then_scanned : (bytes number : ℕ) (m n : Mesh) (line : List ℕ) (more : List (List ℕ)) (r : Result ReadFound ObjFault) → read_judged (read_after bytes number m) line ≡ r
-    → ((b i : ℕ) (k : Mesh) → read_from (read_after b i k) more ≡ Ok n → meaning_from (scan_after b i k) more ≡ Ok (scanned_of n))
-    → then_read r (read_after bytes number m) line (λ t. read_from t more) ≡ Ok n → meaning_from (scan_after bytes number m) (line ∷ more) ≡ Ok (scanned_of n)
+    → ((b i : ℕ) (k : Mesh) → read_from (read_after b i k) more ≡ Ok n → meaning_from (scan_after b i k) more ≡ Ok (scanned_mesh n))
+    → then_read r (read_after bytes number m) line (λ t. read_from t more) ≡ Ok n → meaning_from (scan_after bytes number m) (line ∷ more) ≡ Ok (scanned_mesh n)
 unfolding and_read
 then_scanned bytes number m n line more (Ok f) judges later is =
     let scan = line_is_scanned bytes number m line f judges in
@@ -69,10 +69,10 @@ then_scanned bytes number m n line more (Ok f) judges later is =
 then_scanned bytes number m n line more (Err e) judges later is = cc
 
 scanned_result : Result Mesh Refused → Result Scanned Refused
-scanned_result (Ok m) = Ok (scanned_of m)
+scanned_result (Ok m) = Ok (scanned_mesh m)
 scanned_result (Err r) = Err r
 
-lines_are_scanned : (bytes number : ℕ) (m n : Mesh) (ls : List (List ℕ)) → read_from (read_after bytes number m) ls ≡ Ok n → meaning_from (scan_after bytes number m) ls ≡ Ok (scanned_of n)
+lines_are_scanned : (bytes number : ℕ) (m n : Mesh) (ls : List (List ℕ)) → read_from (read_after bytes number m) ls ≡ Ok n → meaning_from (scan_after bytes number m) ls ≡ Ok (scanned_mesh n)
 unfolding scanned_result
 lines_are_scanned bytes number m n [] is = ap scanned_result is
 lines_are_scanned bytes number m n (line ∷ more) is =

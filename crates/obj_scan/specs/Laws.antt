@@ -18,14 +18,14 @@ abbrev pub scaled_up : Place → Place
 scaled_up p = record { x = in_units p.x; y = in_units p.y; z = in_units p.z }
 
 -- A mesh as the lines of its text give it: its points in units, its triangles, and no polygon.
-abbrev pub scanned_of : Mesh → Scanned
-scanned_of m = record { points = map scaled_up m.points; faces = m.faces; polygons = 0 }
+abbrev pub scanned_mesh : Mesh → Scanned
+scanned_mesh m = record { points = map scaled_up m.points; faces = m.faces; polygons = 0 }
 
 -- A text that is read as a mesh, with whole numbers for coordinates, is scanned as that mesh.
 abbrev pub ReadIsScanned : Type 0
-ReadIsScanned = (bytes : List ℕ) (m : Mesh) → mesh_meaning 0 bytes ≡ Ok m → meaning_of bytes ≡ Ok (scanned_of m)
+ReadIsScanned = (bytes : List ℕ) (m : Mesh) → mesh_meaning 0 bytes ≡ Ok m → meaning_of bytes ≡ Ok (scanned_mesh m)
 
 -- So is the canonical text of a mesh after a comment.
 abbrev pub CommentedIsScanned : Type 0
 CommentedIsScanned = (line : List ℕ) (m : Mesh) → until 10 line ≡ line → length line < 65536 → IsWellFormed m → All IsPlace m.points
-    → meaning_of ((35 ∷ line) ++ 10 ∷ canonical_text 0 m) ≡ Ok (scanned_of m)
+    → meaning_of ((35 ∷ line) ++ 10 ∷ canonical_text 0 m) ≡ Ok (scanned_mesh m)

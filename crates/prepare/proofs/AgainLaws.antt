@@ -14,7 +14,7 @@ use Rattle.obj_read.proofs.FormedLaws.{meaning_formed}
 use Rattle.obj_read.proofs.PlacedLaws.{meaning_placed}
 use Rattle.obj_scan.specs.Judged.{Scanned}
 use Rattle.obj_scan.specs.Meaning.{meaning_of as scan_meaning_of}
-use Rattle.obj_scan.specs.Laws.{scanned_of}
+use Rattle.obj_scan.specs.Laws.{scanned_mesh}
 use Rattle.obj_scan.proofs.ReadLaws.{read_scanned}
 use Rattle.obj_prepare.specs.declared.notes.Notes.{Notes}
 use Rattle.obj_prepare.specs.declared.placing.Fit.{Fit}
@@ -57,7 +57,7 @@ standing_done m notes = record { text = output_text fits.Standing m; notes = not
 
 -- A mesh on the grid all of whose vertices are used is made of its own points in units.
 makes_itself : (m : Mesh) (notes : Notes) → IsWellFormed m → IsOrientedManifold (net_of m.faces) → All IsPlace m.points → ((v : ℕ) → v < length m.points → IsUsed (net_of m.faces) v)
-    → IsPreparedWith m.points m.faces m notes → Makes None (scanned_of m) (standing_done m notes)
+    → IsPreparedWith m.points m.faces m notes → Makes None (scanned_mesh m) (standing_done m notes)
 makes_itself m notes formed manifold placed used prepared =
     let fit = standing_fit m.points m.faces placed in
     record {
@@ -95,7 +95,7 @@ made_comes_back size bytes s done is means k read =
       flat = none_flat m used again;
       double = none_double m used again;
       unnamed = none_unnamed m used again;
-      outcome = made (scanned_of m) (standing_done m (numbers m again)) (read_scanned done.text m read)
+      outcome = made (scanned_mesh m) (standing_done m (numbers m again)) (read_scanned done.text m read)
           (makes_itself m (numbers m again) k.formed k.manifold (made_on_grid size s done is k) used told);
     }
 
@@ -118,4 +118,4 @@ fit_texts_stay bytes m read manifold fit =
     let p : IsPrepared m.points m.faces m = fit_meshes_stay m.points m.faces within (λ e l. (mesh_side m formed e l).0) manifold fit in
     let itself = makes_itself m nothing_done formed manifold (meaning_placed 0 bytes m read) fit.used (p, nothing_told m corners manifold fit p) in
     subst (λ (notes : List ℕ). IsPreparedText None bytes (Ok (record { text = output_text fits.Standing m; notes = notes })) None) (nothing_said m.faces)
-    (made (scanned_of m) (standing_done m nothing_done) (read_scanned bytes m read) itself)
+    (made (scanned_mesh m) (standing_done m nothing_done) (read_scanned bytes m read) itself)
