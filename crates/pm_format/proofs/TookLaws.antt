@@ -19,7 +19,7 @@ use Rattle.pm_format.specs.Decoding.{on_from, rest_from, IsWaiting, due_bytes, b
 use Rattle.pm_format.proofs.ReadingLaws.{read_map_ok}
 use Rattle.pm_format.proofs.FaceSteps.{face_in, after_left, after_right}
 use Rattle.pm_format.proofs.OnLaws.{root_on, root_off, base_on, base_off, head_on, head_off, face_on, face_off}
-use Rattle.pm_format.proofs.UnitLaws.{alone, base_has, head_has, new_face_has, root_has}
+use Rattle.pm_format.proofs.UnitLaws.{JudgedAlone, alone, base_has, head_has, new_face_has, root_has}
 
 -- What comes next
 
