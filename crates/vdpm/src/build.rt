@@ -12,7 +12,7 @@ ghost use Rattle.vdpm.specs.Outcome.{GivesBack};
 ghost use Rattle.vdpm.specs.Frames.{ShowsSurfaces};
 ghost use Rattle.vdpm.specs.Ending.{Ends, Counts};
 
-use crate::fault::{CommandFail, InputFail, fail_of};
+use crate::fault::{CommandFail, InputFail};
 use crate::surface::read_surface;
 use crate::words::Asked;
 use pm_base::Mesh;
@@ -55,14 +55,8 @@ fn build_hierarchy<S: Source>(
     ensures count { OnOk result (S.faults input.new ≡ S.faults input.old) }
     ensures err { IfErr result (λ e. Stops (IsBuilt target digits) e (S.left input.old) (S.left input.new) (S.faults input.old) (S.faults input.new)) }
 {
-    let mesh = match read_surface(alloc, digits, input) {
-        Ok(mesh) => mesh,
-        Err(fail) => return Err(fail),
-    };
-    match simplified(alloc, &mesh, target) {
-        Ok(h) => Ok(h),
-        Err(_) => Err(InputFail::OutOfMemory),
-    }
+    let mesh = read_surface(alloc, digits, input)?;
+    Ok(simplified(alloc, &mesh, target)?)
 }
 
 /// `build N --digits D`: reads an OBJ text, simplifies its mesh to N faces or as far as pairs may be collapsed, and writes
@@ -81,12 +75,7 @@ pub fn build<S: Source, K: Sink>(
     ensures counts { Counts result (S.faults input.old) (S.faults input.new) (K.faults out.old) (K.faults out.new) }
     ensures read_whole { OnOk result (AtEnd (S.left input.new)) }
 {
-    let h = match build_hierarchy(alloc, target, digits, input) {
-        Ok(h) => h,
-        Err(fail) => return Err(fail_of(fail)),
-    };
-    match encode(&h, digits, out) {
-        Ok(()) => Ok(()),
-        Err(_) => Err(CommandFail::Write),
-    }
+    let h = build_hierarchy(alloc, target, digits, input)?;
+    encode(&h, digits, out)?;
+    Ok(())
 }

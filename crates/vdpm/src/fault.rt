@@ -1,9 +1,17 @@
 //! Why a command ends before its work is whole.
 ghost use Rattle.std.specs.Prelude.{◌≡◌};
+ghost use Rattle.vdpm.specs.declared.fault.InputFail.TheVariants as input;
+ghost use Rattle.vdpm.specs.declared.fault.CommandFail.TheVariants as fails;
 ghost use Rattle.vdpm.specs.Input.{fail_of};
+ghost use Rattle.vdpm.specs.Opening.{stream_fail, load_fail};
+ghost use Rattle.vdpm.specs.Ran.{serve_fail};
 
 use obj_read::ObjFault;
-use pm_format::FormatError;
+use pm_format::{FormatError, StreamFail};
+use pm_io::WriteFault;
+use pm_load::LoadFail;
+use pm_session::ServeFail;
+use std::alloc::AllocError;
 
 /// A fault of the input, with its place.
 #[derive(Clone, Copy, Debug, PartialEq, Eq)]
@@ -47,13 +55,94 @@ pub enum CommandFail {
     OutOfMemory,
 }
 
-/// A command ends as its input does.
-pub fn fail_of(fail: InputFail) -> CommandFail
-    ensures { result ≡ fail_of fail }
-{
-    match fail {
-        InputFail::Faulty(fault) => CommandFail::Faulty(fault),
-        InputFail::Read => CommandFail::Read,
-        InputFail::OutOfMemory => CommandFail::OutOfMemory,
+impl From<AllocError> for InputFail {
+    ghost from_gives = { λ _ fail. fail ≡ input.OutOfMemory };
+
+    fn from(_refused: AllocError) -> InputFail {
+        InputFail::OutOfMemory
+    }
+}
+
+// Want of memory is no fault of the bytes.
+impl From<StreamFail> for InputFail {
+    ghost from_gives = { λ cause fail. fail ≡ stream_fail cause };
+
+    fn from(cause: StreamFail) -> InputFail {
+        match cause {
+            StreamFail::Read => InputFail::Read,
+            StreamFail::Fault(FormatError::OutOfMemory) => InputFail::OutOfMemory,
+            StreamFail::Fault(fault) => InputFail::Faulty(Fault::Stream(fault)),
+        }
+    }
+}
+
+// Want of memory is no fault of a hierarchy.
+impl From<LoadFail> for InputFail {
+    ghost from_gives = { λ cause fail. fail ≡ load_fail cause };
+
+    fn from(cause: LoadFail) -> InputFail {
+        match cause {
+            LoadFail::EdgeTwice(face) => InputFail::Faulty(Fault::LeafEdgeTwice(face.0)),
+            LoadFail::BadNeighbour(record) => InputFail::Faulty(Fault::BadNeighbour(record)),
+            LoadFail::OutOfMemory => InputFail::OutOfMemory,
+        }
+    }
+}
+
+impl From<AllocError> for CommandFail {
+    ghost from_gives = { λ _ fail. fail ≡ fails.OutOfMemory };
+
+    fn from(_refused: AllocError) -> CommandFail {
+        CommandFail::OutOfMemory
+    }
+}
+
+impl From<WriteFault> for CommandFail {
+    ghost from_gives = { λ _ fail. fail ≡ fails.Write };
+
+    fn from(_fault: WriteFault) -> CommandFail {
+        CommandFail::Write
+    }
+}
+
+impl From<InputFail> for CommandFail {
+    ghost from_gives = { λ cause fail. fail ≡ fail_of cause };
+
+    fn from(cause: InputFail) -> CommandFail {
+        match cause {
+            InputFail::Faulty(fault) => CommandFail::Faulty(fault),
+            InputFail::Read => CommandFail::Read,
+            InputFail::OutOfMemory => CommandFail::OutOfMemory,
+        }
+    }
+}
+
+impl From<StreamFail> for CommandFail {
+    ghost from_gives = { λ cause fail. fail ≡ fail_of (stream_fail cause) };
+
+    fn from(cause: StreamFail) -> CommandFail {
+        CommandFail::from(InputFail::from(cause))
+    }
+}
+
+impl From<LoadFail> for CommandFail {
+    ghost from_gives = { λ cause fail. fail ≡ fail_of (load_fail cause) };
+
+    fn from(cause: LoadFail) -> CommandFail {
+        CommandFail::from(InputFail::from(cause))
+    }
+}
+
+impl From<ServeFail> for CommandFail {
+    ghost from_gives = { λ cause fail. fail ≡ serve_fail cause };
+
+    fn from(cause: ServeFail) -> CommandFail {
+        match cause {
+            ServeFail::BadLine(number) => CommandFail::Faulty(Fault::BadLine(number)),
+            ServeFail::NoRecord(number) => CommandFail::Faulty(Fault::NoRecord(number)),
+            ServeFail::ScriptTooLong => CommandFail::Faulty(Fault::ScriptTooLong),
+            ServeFail::Read => CommandFail::Read,
+            ServeFail::Write => CommandFail::Write,
+        }
     }
 }

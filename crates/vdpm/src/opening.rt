@@ -2,36 +2,14 @@
 ghost use Rattle.std.specs.Prelude.{◌≡◌, ◌≤◌, [], None, Ok, IfOk, IfErr, IfSome, OnOk};
 ghost use Rattle.pm_io.specs.Bytes.{AtEnd};
 ghost use Rattle.vdpm.specs.Input.{Stops};
-ghost use Rattle.vdpm.specs.Opening.{stream_fail, load_fail, IsHierarchyText};
+ghost use Rattle.vdpm.specs.Opening.{IsHierarchyText};
 
 use crate::fault::{Fault, InputFail};
-use pm_format::{FormatError, Stream, StreamFail, read_stream};
+use pm_format::{Stream, read_stream};
 use pm_front::Front;
 use pm_io::{Source, Taker};
-use pm_load::{LoadFail, open_front};
+use pm_load::open_front;
 use std::alloc::Global;
-
-/// Why an input has no stream text. Want of memory is no fault of its bytes.
-pub fn stream_fail(fail: StreamFail) -> InputFail
-    ensures { result ≡ stream_fail fail }
-{
-    match fail {
-        StreamFail::Read => InputFail::Read,
-        StreamFail::Fault(FormatError::OutOfMemory) => InputFail::OutOfMemory,
-        StreamFail::Fault(fault) => InputFail::Faulty(Fault::Stream(fault)),
-    }
-}
-
-/// Why a hierarchy isn't opened. Want of memory is no fault of it.
-pub fn load_fail(fail: LoadFail) -> InputFail
-    ensures { result ≡ load_fail fail }
-{
-    match fail {
-        LoadFail::EdgeTwice(face) => InputFail::Faulty(Fault::LeafEdgeTwice(face.0)),
-        LoadFail::BadNeighbour(record) => InputFail::Faulty(Fault::BadNeighbour(record)),
-        LoadFail::OutOfMemory => InputFail::OutOfMemory,
-    }
-}
 
 /// The base front of a valid hierarchy, and how many decimals its coordinates have.
 #[derive(Drop)]
@@ -49,17 +27,9 @@ pub fn read_hierarchy<S: Source>(alloc: Global, input: &mut S) -> Result<Base, I
     ensures count { OnOk result (S.faults input.new ≡ S.faults input.old) }
     ensures err { IfErr result (λ e. Stops IsHierarchyText e (S.left input.old) (S.left input.new) (S.faults input.old) (S.faults input.new)) }
 {
-    let Ok(mut taker) = Taker::new(alloc) else {
-        return Err(InputFail::OutOfMemory);
-    };
-    let Stream { h, digits } = match read_stream(alloc, &mut taker, input) {
-        Ok(stream) => stream,
-        Err(fail) => return Err(stream_fail(fail)),
-    };
-    let front = match open_front(alloc, h) {
-        Ok(front) => front,
-        Err(fail) => return Err(load_fail(fail)),
-    };
+    let mut taker = Taker::new(alloc)?;
+    let Stream { h, digits } = read_stream(alloc, &mut taker, input)?;
+    let front = open_front(alloc, h)?;
     match taker.piece(input) {
         Ok([]) => Ok(Base { front, digits }),
         Ok(_) => Err(InputFail::Faulty(Fault::Trailing)),

@@ -53,8 +53,6 @@ pub fn read_surface<S: Source>(alloc: Global, digits: u32, input: &mut S) -> Res
         Err(ObjFail::Read) => return Err(InputFail::Read),
         Err(ObjFail::OutOfMemory) => return Err(InputFail::OutOfMemory),
     };
-    match check_surface(alloc, &mesh) {
-        Ok(()) => Ok(mesh),
-        Err(fail) => Err(fail),
-    }
+    check_surface(alloc, &mesh)?;
+    Ok(mesh)
 }

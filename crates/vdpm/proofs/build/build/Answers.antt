@@ -1,4 +1,5 @@
 use Rattle.std.proofs.Common.{None, refl}
+use Rattle.std.proofs.lemmas.Result.{err_from_is_err_and}
 use Rattle.pm_format.specs.Stream.{stream}
 use Rattle.vdpm.specs.declared.words.Asked.TheVariants as asked
 use Rattle.vdpm.specs.Build.{IsBuilt}
@@ -8,23 +9,29 @@ use Rattle.vdpm.proofs.BuildLaws.{gives_back}
 use Rattle.vdpm.proofs.FrameLaws.{shows_surfaces}
 use Rattle.vdpm.proofs.build.build.Goals as goal
 
-pub returns-in-Err-clause-ends : goal.returns-in-Err-clause-ends
-returns-in-Err-clause-ends g c = rw c.fail_of.ensures (ends_stopped (asked.Build c.args.target c.args.digits) (IsBuilt c.args.target c.args.digits) (λ h. whole (stream c.args.digits h)) (λ x. refl) (λ taken. refl) (λ bytes all is. is) (λ bytes all is. is) c.in-Err.fail _ _ _ _ _ c.in-Err.ensures.err)
+pub returns-in_err-h-clause-ends : goal.returns-in_err-h-clause-ends
+returns-in_err-h-clause-ends g c =
+    let p = err_from_is_err_and c.from_residual.result c.from_residual.ensures.1 in
+    rw (p.1, p.2) (ends_stopped (asked.Build c.args.target c.args.digits) (IsBuilt c.args.target c.args.digits) (λ h. whole (stream c.args.digits h)) (λ x. refl) (λ taken. refl) (λ bytes all is. is) (λ bytes all is. is) c.in_err-h.field-0.0 _ _ _ _ _ c.in_err-h.ensures.err)
 
-pub returns-in-Err-clause-counts : goal.returns-in-Err-clause-counts
-returns-in-Err-clause-counts g c = rw c.fail_of.ensures (counts_stopped (IsBuilt c.args.target c.args.digits) c.in-Err.fail _ _ _ _ _ c.in-Err.ensures.err)
-
-pub returns-in-Ok-encode-clause-ends : goal.returns-in-Ok-encode-clause-ends
-returns-in-Ok-encode-clause-ends g c =
-    ends_all (asked.Build c.args.target c.args.digits) _ _ _ (whole (stream c.args.digits c.in-Ok.h)) None (follows_done (IsBuilt c.args.target c.args.digits) (λ h. whole (stream c.args.digits h)) _ c.in-Ok.h None c.in-Ok.ensures.built) refl c.in-Ok-encode.ensures.ok
-
-pub returns-in-Ok-encode-clause-gives_back : goal.returns-in-Ok-encode-clause-gives_back
-returns-in-Ok-encode-clause-gives_back g c =
-    gives_back c.args.digits c.args.target _ _ _ c.in-Ok.h c.requires c.in-Ok.ensures.built c.in-Ok.ensures.mesh c.in-Ok.ensures.firm.valid c.in-Ok-encode.ensures.ok
-
-pub returns-in-Ok-encode-clause-surfaces : goal.returns-in-Ok-encode-clause-surfaces
-returns-in-Ok-encode-clause-surfaces g c = shows_surfaces c.args.target c.args.digits _ _ _ c.in-Ok.h c.in-Ok.ensures.built c.requires c.in-Ok.ensures.firm c.in-Ok-encode.ensures.ok
+pub returns-in_err-h-clause-counts : goal.returns-in_err-h-clause-counts
+returns-in_err-h-clause-counts g c =
+    let p = err_from_is_err_and c.from_residual.result c.from_residual.ensures.1 in
+    rw (p.1, p.2) (counts_stopped (IsBuilt c.args.target c.args.digits) c.in_err-h.field-0.0 _ _ _ _ _ c.in_err-h.ensures.err)
 
 pub returns-clause-ends : goal.returns-clause-ends
 returns-clause-ends g c =
-    ends_part (asked.Build c.args.target c.args.digits) _ _ _ (whole (stream c.args.digits c.in-Ok.h)) (follows_done (IsBuilt c.args.target c.args.digits) (λ h. whole (stream c.args.digits h)) _ c.in-Ok.h None c.in-Ok.ensures.built) c.in-Err-encode.ensures.err
+    ends_all (asked.Build c.args.target c.args.digits) _ _ _ (whole (stream c.args.digits c.in_ok-h.h)) None (follows_done (IsBuilt c.args.target c.args.digits) (λ h. whole (stream c.args.digits h)) _ c.in_ok-h.h None c.in_ok-h.ensures.built) refl c.in_ok-encode.ensures.ok
+
+pub returns-clause-gives_back : goal.returns-clause-gives_back
+returns-clause-gives_back g c =
+    gives_back c.args.digits c.args.target _ _ _ c.in_ok-h.h c.requires c.in_ok-h.ensures.built c.in_ok-h.ensures.mesh c.in_ok-h.ensures.firm.valid c.in_ok-encode.ensures.ok
+
+pub returns-clause-surfaces : goal.returns-clause-surfaces
+returns-clause-surfaces g c = shows_surfaces c.args.target c.args.digits _ _ _ c.in_ok-h.h c.in_ok-h.ensures.built c.requires c.in_ok-h.ensures.firm c.in_ok-encode.ensures.ok
+
+pub returns-in_err-encode-clause-ends : goal.returns-in_err-encode-clause-ends
+returns-in_err-encode-clause-ends g c =
+    let p = err_from_is_err_and c.from_residual-in_err-encode.result c.from_residual-in_err-encode.ensures.1 in
+    rw (p.1, p.2)
+    (ends_part (asked.Build c.args.target c.args.digits) _ _ _ (whole (stream c.args.digits c.in_ok-h.h)) (follows_done (IsBuilt c.args.target c.args.digits) (λ h. whole (stream c.args.digits h)) _ c.in_ok-h.h None c.in_ok-h.ensures.built) c.in_err-encode.ensures.err)
