@@ -97,15 +97,21 @@ box_round p r = record {
 abbrev pub point_box_of : Hierarchy → ℕ → PointBox
 point_box_of h v = box_round (place_of_node h v) (radius_of h v)
 
--- The bounds of all nodes of a hierarchy, each list by node.
+-- The bounds of all nodes of a hierarchy, with their places, each list by node.
 pub record Bounds : Type 0 where
+  pub places : List Place
   pub errors : List ℕ
   pub radii : List ℕ
   pub boxes : List (Option NormalBox)
 
+-- The middle of space, which stands where a list of places has none.
+abbrev pub origin : Place
+origin = record { x = pos 0; y = pos 0; z = pos 0 }
+
 -- These are the bounds of h.
 pub record AreBoundsOf (h : Hierarchy) (b : Bounds) : Type 0 where
   pub nodes : length b.errors ≡ node_count h
+  pub places : (v : ℕ) → v < node_count h → slice_index_or b.places v origin ≡ place_of_node h v
   pub errors : (v : ℕ) → v < node_count h → slice_index_or b.errors v 0 ≡ error_of h v
   pub radii : (v : ℕ) → v < node_count h → slice_index_or b.radii v 0 ≡ radius_of h v
   pub boxes : (v : ℕ) → v < node_count h → slice_index_or b.boxes v None ≡ box_under h v

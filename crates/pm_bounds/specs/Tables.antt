@@ -1,21 +1,28 @@
 -- What the tables of bounds keep.
-use Rattle.std.specs.Prelude.{◌≡◌, ℕ, ◌<◌, ◌≤◌, ◌^◌, ◌||◌, ◌==◌, Bool, None, List, [], ◌∷◌, length, map, IfSome, slice_index_or}
+use Rattle.std.specs.Prelude.{◌≡◌, ℕ, ◌<◌, ◌≤◌, ◌^◌, ◌||◌, ◌==◌, Bool, None, List, [], ◌∷◌, length, map, Option, IfSome, slice_index_or}
+use Rattle.pm_base.specs.Place.{Place}
 use Rattle.pm_forest.specs.declared.parts.Face.{Face}
 use Rattle.pm_forest.specs.Forest.{Hierarchy, node_count, splitter_of}
 use Rattle.pm_base.specs.Geometry.{dist2_of}
 use Rattle.pm_forest.specs.Places.{place_of_node}
 use Rattle.pm_forest.specs.Tables.{leaf_node_of}
-use Rattle.pm_bounds.specs.declared.node_bounds.NodeBounds.{NodeBounds}
+use Rattle.pm_bounds.specs.declared.balls.Ball.{Ball}
+use Rattle.pm_bounds.specs.declared.normal_box.NormalBox.{NormalBox}
 use Rattle.pm_bounds.specs.Boxes.{IsSmallBox}
-use Rattle.pm_bounds.specs.Bounds.{Bounds, greatest, leaf_place, leaf_radius, over_children, box_under}
+use Rattle.pm_bounds.specs.Bounds.{Bounds, origin, greatest, leaf_place, leaf_radius, over_children, box_under}
 
--- The entries of all nodes as a list of each kind.
-abbrev pub lists_of : List NodeBounds → Bounds
-lists_of nodes = record {
-  errors = map (λ (n : NodeBounds). n.error) nodes;
-  radii = map (λ (n : NodeBounds). n.radius) nodes;
-  boxes = map (λ (n : NodeBounds). n.normals) nodes;
-}
+-- A list of each kind from the balls and the boxes of all nodes.
+abbrev pub places_of : List Ball → List Place
+places_of balls = map (λ (b : Ball). b.place) balls
+
+abbrev pub errors_of : List Ball → List ℕ
+errors_of balls = map (λ (b : Ball). b.error) balls
+
+abbrev pub radii_of : List Ball → List ℕ
+radii_of balls = map (λ (b : Ball). b.radius) balls
+
+abbrev pub lists_of : List Ball → List (Option NormalBox) → Bounds
+lists_of balls boxes = record { places = places_of balls; errors = errors_of balls; radii = radii_of balls; boxes = boxes }
 
 -- One of each kind for each node, and none is large.
 pub record IsBounds (b : Bounds) : Type 0 where
@@ -25,17 +32,29 @@ pub record IsBounds (b : Bounds) : Type 0 where
   pub small_radii : (v : ℕ) → v < length b.errors → slice_index_or b.radii v 0 < 2 ^ 38
   pub small_boxes : (v : ℕ) → v < length b.errors → IfSome (slice_index_or b.boxes v None) IsSmallBox
 
--- The entry of a node of which nothing is known yet.
-abbrev pub bare : NodeBounds
-bare = record { error = 0; radius = 0; normals = None }
+-- The places of all nodes.
+abbrev pub ArePlaces : Hierarchy → List Place → Type 0
+ArePlaces h places = (v : ℕ) → v < node_count h → slice_index_or places v origin ≡ place_of_node h v
 
--- No radius is above a number, and no box is large.
-pub record AreWithin (most : ℕ) (b : Bounds) : Type 0 where
-  pub radii : (v : ℕ) → v < length b.radii → slice_index_or b.radii v 0 ≤ most
-  pub boxes : (v : ℕ) → v < length b.boxes → IfSome (slice_index_or b.boxes v None) IsSmallBox
+-- A ball at a place, of which no more is known yet.
+abbrev pub bare_at : Place → Ball
+bare_at p = record { place = p; error = 0; radius = 0 }
 
--- No error yet, and of the nodes that no record splits the radii and boxes.
+-- Such balls at the places of the first n nodes.
+pub record AreBare (h : Hierarchy) (n : ℕ) (balls : List Ball) : Type 0 where
+  pub len : length balls ≡ n
+  pub each : (v : ℕ) → v < n → slice_index_or balls v (bare_at origin) ≡ bare_at (place_of_node h v)
+
+-- No number is above another, and no box is large.
+abbrev pub AreAtMost : ℕ → List ℕ → Type 0
+AreAtMost most numbers = (v : ℕ) → v < length numbers → slice_index_or numbers v 0 ≤ most
+
+abbrev pub AreSmallBoxes : List (Option NormalBox) → Type 0
+AreSmallBoxes boxes = (v : ℕ) → v < length boxes → IfSome (slice_index_or boxes v None) IsSmallBox
+
+-- The places, no error yet, and of the nodes that no record splits the radii and boxes.
 pub record AreOfLeaves (h : Hierarchy) (b : Bounds) : Type 0 where
+  pub places : ArePlaces h b.places
   pub errors : (v : ℕ) → v < node_count h → slice_index_or b.errors v 0 ≡ 0
   pub radii : (v : ℕ) → v < node_count h → splitter_of h v ≡ None → slice_index_or b.radii v 0 ≡ leaf_radius h v
   pub boxes : (v : ℕ) → v < node_count h → splitter_of h v ≡ None → slice_index_or b.boxes v None ≡ box_under h v

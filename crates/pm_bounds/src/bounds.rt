@@ -1,23 +1,24 @@
 //! The bounds of all nodes, and their readers.
 ghost use Rattle.std.specs.Prelude.{◌≡◌, ◌<◌, ◌^◌, None, length, IfOk, slice_index_or, unwrap_or};
 ghost use Rattle.pm_bounds.specs.Boxes.{zero_box, IsSmallBox};
-ghost use Rattle.pm_bounds.specs.Bounds.{AreBoundsOf};
+ghost use Rattle.pm_bounds.specs.Bounds.{origin, AreBoundsOf};
 
+use crate::balls::{bare_balls, node_ball};
 use crate::growing::grow;
-use crate::leaves::leaf_bounds;
-use crate::node_bounds::{NodeBounds, entry_of};
-use crate::normal_box::or_zero;
-use crate::{NormalBox, OutOfMemory};
+use crate::leaves::bound_leaves;
+use crate::normal_box::{bare_boxes, node_box, or_zero};
+use crate::{Ball, NormalBox, OutOfMemory};
 use pm_base::NodeId;
 use pm_forest::Hierarchy;
 use std::alloc::Global;
 use std::marker::Model;
 
-/// The bounds of all nodes of a hierarchy: for each node an error, a radius and a box of normals. Contracts see one list
-/// of each kind, by node.
+/// The bounds of all nodes of a hierarchy: for each node its place, an error, a radius and a box of normals. Contracts see
+/// one list of each kind, by node.
 #[derive(Drop)]
 pub struct Bounds {
-    nodes: Vec<NodeBounds>,
+    balls: Vec<Ball>,
+    boxes: Vec<Option<NormalBox>>,
 }
 
 impl Model for Bounds {
@@ -26,9 +27,9 @@ impl Model for Bounds {
 
     ghost Value = { Bounds };
 
-    ghost view = { λ b. lists_of b.nodes.items };
+    ghost view = { λ b. lists_of b.balls.items b.boxes.items };
 
-    ghost invariant = { λ b. IsBounds (lists_of b.nodes.items) };
+    ghost invariant = { λ b. IsBounds (lists_of b.balls.items b.boxes.items) };
 }
 
 impl Bounds {
@@ -36,9 +37,23 @@ impl Bounds {
     pub fn of(alloc: Global, h: &Hierarchy) -> Result<Bounds, OutOfMemory>
         ensures { IfOk result (λ bounds. AreBoundsOf h.now bounds) }
     {
-        let mut nodes = leaf_bounds(alloc, h)?;
-        grow(h, &mut nodes);
-        Ok(Bounds { nodes })
+        let mut balls = bare_balls(alloc, h)?;
+        let mut boxes = bare_boxes(alloc, h.nodes() as usize)?;
+        bound_leaves(h, &mut balls, &mut boxes);
+        grow(h, &mut balls, &mut boxes);
+        Ok(Bounds { balls, boxes })
+    }
+
+    /// The node's place, error and radius, which lie side by side.
+    pub fn ball(&self, node: NodeId) -> Ball
+        requires { node.0 < length self.now.errors }
+        ensures place { result.place ≡ slice_index_or self.now.places node.0 origin }
+        ensures error { result.error ≡ slice_index_or self.now.errors node.0 0 }
+        ensures radius { result.radius ≡ slice_index_or self.now.radii node.0 0 }
+        ensures small_error { result.error < 2 ^ 38 }
+        ensures small_radius { result.radius < 2 ^ 38 }
+    {
+        node_ball(&self.balls, node)
     }
 
     /// The node's error: no leaf under the node is farther from its place.
@@ -47,7 +62,7 @@ impl Bounds {
         ensures value { result ≡ slice_index_or self.now.errors node.0 0 }
         ensures small { result < 2 ^ 38 }
     {
-        entry_of(&self.nodes, node).error
+        node_ball(&self.balls, node).error
     }
 
     /// The node's radius: no corner of a face of the input that has a corner under the node is farther from its place.
@@ -56,7 +71,7 @@ impl Bounds {
         ensures value { result ≡ slice_index_or self.now.radii node.0 0 }
         ensures small { result < 2 ^ 38 }
     {
-        entry_of(&self.nodes, node).radius
+        node_ball(&self.balls, node).radius
     }
 
     /// The node's box of normals: those of all faces of the input that have a corner under the node. It is 0 to 0 on each
@@ -66,6 +81,6 @@ impl Bounds {
         ensures value { result ≡ unwrap_or (slice_index_or self.now.boxes node.0 None) zero_box }
         ensures small { IsSmallBox result }
     {
-        or_zero(entry_of(&self.nodes, node).normals)
+        or_zero(node_box(&self.boxes, node))
     }
 }

@@ -1,15 +1,29 @@
 //! The bounds of all nodes from those of the leaves: the records are gone through from the last to the first, so that a
 //! node's children have their bounds before it. No call goes down the forest, which can be as deep as it has records.
-ghost use Rattle.std.specs.Prelude.{◌≡◌, ℕ, ◌+◌, ◌*◌, ◌<◌, ◌≤◌, None, length, slice_index_or};
+ghost use Rattle.std.specs.Prelude.{◌≡◌, ℕ, ◌+◌, ◌*◌, ◌^◌, ◌<◌, ◌≤◌, max, None, length, slice_index_or, slice_set};
+ghost use Rattle.pm_base.specs.Rounded.{distance_of};
 ghost use Rattle.pm_forest.specs.Forest.{node_count, record_count, s_of, t_of, u_of};
+ghost use Rattle.pm_forest.specs.Places.{place_of_node};
 ghost use Rattle.pm_bounds.specs.Boxes.{join};
 ghost use Rattle.pm_bounds.specs.Bounds.{AreBoundsOf};
-ghost use Rattle.pm_bounds.specs.Tables.{lists_of, AreOfLeaves, AreWithin, IsBounds, grown_at};
+ghost use Rattle.pm_bounds.specs.Tables.{
+  lists_of,
+  places_of,
+  errors_of,
+  radii_of,
+  ArePlaces,
+  AreAtMost,
+  AreSmallBoxes,
+  AreOfLeaves,
+  IsBounds,
+  grown_at,
+};
 
-use crate::node_bounds::{NodeBounds, entry_of};
-use crate::normal_box::join;
+use crate::balls::node_ball;
+use crate::normal_box::{join, node_box};
 use crate::roots::root_up;
-use pm_base::{NodeId, dist2};
+use crate::{Ball, NormalBox};
+use pm_base::{NodeId, Point, dist2};
 use pm_forest::Hierarchy;
 
 // The node that a record splits, and its two children.
@@ -27,44 +41,75 @@ fn nodes_of(h: &Hierarchy, k: u32) -> (NodeId, NodeId, NodeId)
     (NodeId(h.record_at(k).s), NodeId(t), NodeId(t + 1))
 }
 
-// The bounds of a node by those of its children: each number is the greater, over the two, of the child's number and its
-// distance, and the box has both boxes in it.
-fn from_children(h: &Hierarchy, nodes: &[NodeBounds], k: u32) -> NodeBounds
-    requires record { k < record_count h.now }
-    requires len { length nodes.now ≡ node_count h.now }
-    requires small_errors { (v : ℕ) → v < node_count h.now → slice_index_or (lists_of nodes.now).errors v 0 ≤ 113509 * 1048576 }
-    requires small_radii { (v : ℕ) → v < node_count h.now → slice_index_or (lists_of nodes.now).radii v 0 ≤ 113509 * 1048576 }
-    ensures error { result.error ≡ grown_at h.now (lists_of nodes.now).errors k }
-    ensures radius { result.radius ≡ grown_at h.now (lists_of nodes.now).radii k }
-    ensures normals { result.normals ≡ join (slice_index_or (lists_of nodes.now).boxes (t_of h.now k) None) (slice_index_or (lists_of nodes.now).boxes (u_of h.now k) None) }
-    ensures small_error { (m : ℕ) → ((v : ℕ) → v < node_count h.now → slice_index_or (lists_of nodes.now).errors v 0 ≤ m) → result.error ≤ m + 113509 }
-    ensures small_radius { (m : ℕ) → ((v : ℕ) → v < node_count h.now → slice_index_or (lists_of nodes.now).radii v 0 ≤ m) → result.radius ≤ m + 113509 }
+// The ball of a node at a place by those of its children: each number is the greater, over the two, of the child's number
+// and its distance.
+fn over(place: Point, t: &Ball, u: &Ball) -> Ball
+    requires t_error { t.now.error ≤ 2 ^ 38 }
+    requires t_radius { t.now.radius ≤ 2 ^ 38 }
+    requires u_error { u.now.error ≤ 2 ^ 38 }
+    requires u_radius { u.now.radius ≤ 2 ^ 38 }
+    ensures at { result.place ≡ place }
+    ensures error { result.error ≡ max (t.now.error + distance_of place t.now.place) (u.now.error + distance_of place u.now.place) }
+    ensures radius { result.radius ≡ max (t.now.radius + distance_of place t.now.place) (u.now.radius + distance_of place u.now.place) }
+    ensures small_error { result.error ≤ max t.now.error u.now.error + 113509 }
+    ensures small_radius { result.radius ≤ max t.now.radius u.now.radius + 113509 }
 {
-    let (s, t, u) = nodes_of(h, k);
-    let place = h.place(s);
-    let to_t = root_up(dist2(place, h.place(t)));
-    let to_u = root_up(dist2(place, h.place(u)));
-    let by_t = entry_of(nodes, t);
-    let by_u = entry_of(nodes, u);
-    NodeBounds {
-        error: (by_t.error + to_t).max(by_u.error + to_u),
-        radius: (by_t.radius + to_t).max(by_u.radius + to_u),
-        normals: join(by_t.normals, by_u.normals),
+    let to_t = root_up(dist2(place, t.place));
+    let to_u = root_up(dist2(place, u.place));
+    Ball {
+        place,
+        error: (t.error + to_t).max(u.error + to_u),
+        radius: (t.radius + to_t).max(u.radius + to_u),
     }
 }
 
+// The ball of the node that a record splits.
+fn from_children(h: &Hierarchy, balls: &[Ball], k: u32) -> Ball
+    requires record { k < record_count h.now }
+    requires len { length balls.now ≡ node_count h.now }
+    requires places { ArePlaces h.now (places_of balls.now) }
+    requires small_errors { (v : ℕ) → v < node_count h.now → slice_index_or (errors_of balls.now) v 0 ≤ 113509 * 1048576 }
+    requires small_radii { (v : ℕ) → v < node_count h.now → slice_index_or (radii_of balls.now) v 0 ≤ 113509 * 1048576 }
+    ensures place { result.place ≡ place_of_node h.now (s_of h.now k) }
+    ensures error { result.error ≡ grown_at h.now (errors_of balls.now) k }
+    ensures radius { result.radius ≡ grown_at h.now (radii_of balls.now) k }
+    ensures small_error { (m : ℕ) → ((v : ℕ) → v < node_count h.now → slice_index_or (errors_of balls.now) v 0 ≤ m) → result.error ≤ m + 113509 }
+    ensures small_radius { (m : ℕ) → ((v : ℕ) → v < node_count h.now → slice_index_or (radii_of balls.now) v 0 ≤ m) → result.radius ≤ m + 113509 }
+{
+    let (s, t, u) = nodes_of(h, k);
+    let place = node_ball(balls, s).place;
+    let by_t = node_ball(balls, t);
+    let by_u = node_ball(balls, u);
+    over(place, &by_t, &by_u)
+}
+
+// Gives the node that a record splits the least box that has its children's boxes in it.
+fn join_children(h: &Hierarchy, boxes: &mut Vec<Option<NormalBox>>, k: u32)
+    requires record { k < record_count h.now }
+    requires len { length boxes.old.items ≡ node_count h.now }
+    ensures { let old = boxes.old.items in
+        boxes.new.items ≡ slice_set old (s_of h.now k) (join (slice_index_or old (t_of h.now k) None) (slice_index_or old (u_of h.now k) None)) }
+{
+    let (s, t, u) = nodes_of(h, k);
+    let joined = join(node_box(boxes, t), node_box(boxes, u));
+    boxes[s.0 as usize] = joined;
+}
+
 /// Gives all nodes their bounds, where those that no record splits have theirs.
-pub fn grow(h: &Hierarchy, nodes: &mut Vec<NodeBounds>)
-    requires len { length nodes.old.items ≡ node_count h.now }
-    requires leaves { AreOfLeaves h.now (lists_of nodes.old.items) }
-    requires small { AreWithin 113509 (lists_of nodes.old.items) }
-    ensures are { AreBoundsOf h.now (lists_of nodes.new.items) }
-    ensures small { IsBounds (lists_of nodes.new.items) }
+pub fn grow(h: &Hierarchy, balls: &mut Vec<Ball>, boxes: &mut Vec<Option<NormalBox>>)
+    requires balls_len { length balls.old.items ≡ node_count h.now }
+    requires boxes_len { length boxes.old.items ≡ node_count h.now }
+    requires leaves { AreOfLeaves h.now (lists_of balls.old.items boxes.old.items) }
+    requires small_radii { AreAtMost 113509 (radii_of balls.old.items) }
+    requires small_boxes { AreSmallBoxes boxes.old.items }
+    ensures are { AreBoundsOf h.now (lists_of balls.new.items boxes.new.items) }
+    ensures small { IsBounds (lists_of balls.new.items boxes.new.items) }
 {
     h.invariant();
     for k in (0..h.records()).rev() {
         let (s, ..) = nodes_of(h, k);
-        let bounds = from_children(h, nodes, k);
-        nodes[s.0 as usize] = bounds;
+        let ball = from_children(h, balls, k);
+        balls[s.0 as usize] = ball;
+        join_children(h, boxes, k);
     }
 }

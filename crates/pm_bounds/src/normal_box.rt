@@ -1,9 +1,11 @@
 //! Boxes of normals.
-ghost use Rattle.std.specs.Prelude.{◌≡◌, unwrap_or};
+ghost use Rattle.std.specs.Prelude.{◌≡◌, ◌<◌, None, replicate, length, IfOk, slice_index_or, unwrap_or};
 ghost use Rattle.std.specs.Int.{int_min, int_max};
 ghost use Rattle.pm_bounds.specs.Boxes.{join, zero_box};
 
-use pm_base::Normal;
+use crate::OutOfMemory;
+use pm_base::{NodeId, Normal};
+use std::alloc::Global;
 
 /// The normals whose numbers lie between those of `low` and those of `high`, on each axis.
 #[derive(Clone, Copy, Debug, PartialEq, Eq)]
@@ -57,4 +59,19 @@ pub(crate) fn or_zero(a: Option<NormalBox>) -> NormalBox
         low: zero,
         high: zero,
     })
+}
+
+// As many missing boxes as there are nodes. The length is a parameter, so that no proof unfolds the list.
+pub(crate) fn bare_boxes(alloc: Global, nodes: usize) -> Result<Vec<Option<NormalBox>>, OutOfMemory>
+    ensures { IfOk result (λ boxes. boxes.items ≡ replicate nodes None) }
+{
+    vec![in alloc; None; nodes]
+}
+
+// The box of a node.
+pub(crate) fn node_box(boxes: &[Option<NormalBox>], node: NodeId) -> Option<NormalBox>
+    requires { node.0 < length boxes.now }
+    ensures { result ≡ slice_index_or boxes.now node.0 None }
+{
+    boxes[node.0 as usize]
 }

@@ -1,13 +1,13 @@
 use Rattle.std.proofs.Common.{◌≡◌, ◌++◌, length, map, take, drop}
 use Rattle.pm_base.specs.Rounded.{root_up}
-use Rattle.pm_bounds.specs.Tables.{lists_of, AreWithin}
+use Rattle.pm_bounds.specs.Tables.{places_of, errors_of, radii_of, AreAtMost}
 use Rattle.pm_bounds.proofs.leaves.take_roots.Given as goal
 
 abbrev pub invariant-loop-at : goal.invariant-loop-at
 invariant-loop-at l = record {
-  len : length l.nodes.items ≡ length l.fn.nodes.items;
-  errors : (lists_of l.nodes.items).errors ≡ (lists_of l.fn.nodes.items).errors;
-  radii : (lists_of l.nodes.items).radii ≡ map root_up (take l.at (lists_of l.fn.nodes.items).radii) ++ drop l.at (lists_of l.fn.nodes.items).radii;
-  boxes : (lists_of l.nodes.items).boxes ≡ (lists_of l.fn.nodes.items).boxes;
-  small : AreWithin 12884115468 (lists_of l.nodes.items);
+  len : length l.balls.items ≡ length l.fn.balls.items;
+  places : places_of l.balls.items ≡ places_of l.fn.balls.items;
+  errors : errors_of l.balls.items ≡ errors_of l.fn.balls.items;
+  radii : radii_of l.balls.items ≡ map root_up (take l.at (radii_of l.fn.balls.items)) ++ drop l.at (radii_of l.fn.balls.items);
+  small : AreAtMost 12884115468 (radii_of l.balls.items);
 }

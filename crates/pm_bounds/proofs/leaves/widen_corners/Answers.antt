@@ -1,5 +1,4 @@
-use Rattle.std.proofs.Common.{◌≡◌, ℕ, eqb, cond, ◌||◌, max, [], ◌∷◌, None, Some, Option, get_or, refl, ap, ◌∙◌, arith}
-use Rattle.std.proofs.Math.ListN.{set}
+use Rattle.std.proofs.Common.{◌≡◌, ℕ, eqb, cond, ◌||◌, max, [], ◌∷◌, None, Some, Option, get_or, set, refl, ap, ◌∙◌, arith}
 use Rattle.std.proofs.lemmas.List.{length-map}
 use Rattle.pm_base.specs.Place.{Place}
 use Rattle.pm_base.specs.Geometry.{dist2_of, cross_of}
@@ -8,12 +7,13 @@ use Rattle.pm_forest.specs.Forest.{Hierarchy}
 use Rattle.pm_forest.specs.Faces.{corners_of}
 use Rattle.pm_forest.specs.Places.{place_of_node}
 use Rattle.pm_forest.specs.Tables.{leaf_node_of}
+use Rattle.pm_bounds.specs.declared.balls.Ball.{Ball}
 use Rattle.pm_bounds.specs.declared.normal_box.NormalBox.{NormalBox}
-use Rattle.pm_bounds.specs.declared.node_bounds.NodeBounds.{NodeBounds}
 use Rattle.pm_bounds.specs.Boxes.{box_at, join}
 use Rattle.pm_bounds.specs.Bounds.{greatest, normal_of}
-use Rattle.pm_bounds.specs.Tables.{lists_of, is_corner_node, square_reach}
+use Rattle.pm_bounds.specs.Tables.{radii_of, is_corner_node, square_reach}
 use Rattle.pm_bounds.proofs.BoxLaws.{join-twice}
+use Rattle.pm_bounds.proofs.NodeTables.{place_is}
 use Rattle.pm_bounds.proofs.TableLaws.{three}
 use Rattle.pm_bounds.proofs.leaves.widen_corners.Goals as goal
 
@@ -40,39 +40,51 @@ returns-clause-radii c v l =
     let face = corners_of h c.args.f.0 in
     let far = λ (w : ℕ). square_reach h w face in
     let ends = c.corner_nodes.ensures in
-    let len = c.requires.len in
+    let len = c.requires.balls_len in
     let x = c.corner_nodes.result.0.0 in
     let y = c.corner_nodes.result.1.0 in
     let z = c.corner_nodes.result.2.0 in
-    let reach = λ (w : ℕ) (p : Place) (is : p ≡ place_of_node h w).
-    reach_is h face w x y z p c.place-first.result c.place-second.result c.place-third.result is c.place-first.ensures c.place-second.ensures c.place-third.ensures ends.a ends.b ends.c in
-    let was = (lists_of c.args.nodes.now.items).radii in
-    let one = (lists_of c.widen.new.nodes.items).radii in
-    let two = (lists_of c.widen-2.new.nodes.items).radii in
-    let all = length-map c.args.nodes.now.items (λ (n : NodeBounds). n.radius) in
+    let balls = c.args.balls.now.items in
+    let first = c.node_ball-first.result.place in
+    let second = c.node_ball-second.result.place in
+    let third = c.node_ball-third.result.place in
+    let at_x = place_is h balls c.deref.result.now x first c.requires.places ends.a_node c.deref.ensures.value c.node_ball-first.ensures.place in
+    let at_y = place_is h balls c.deref-2.result.now y second c.requires.places ends.b_node c.deref-2.ensures.value c.node_ball-second.ensures.place in
+    let at_z = place_is h balls c.deref-3.result.now z third c.requires.places ends.c_node c.deref-3.ensures.value c.node_ball-third.ensures.place in
+    let reach = λ (w : ℕ) (p : Place) (is : p ≡ place_of_node h w). reach_is h face w x y z p first second third is at_x at_y at_z ends.a ends.b ends.c in
+    let was = radii_of balls in
+    let one = radii_of c.widen.new.balls.items in
+    let two = radii_of c.widen-2.new.balls.items in
+    let all = length-map balls (λ (b : Ball). b.radius) in
     let read = three 0 (λ w x. max x (far w)) (max_twice far)
-    was one two (lists_of c.widen-3.new.nodes.items).radii x y z
+    was one two (radii_of c.widen-3.new.balls.items) x y z
     (omega (arith, ends.a_node)) (omega (arith, ends.b_node)) (omega (arith, ends.c_node))
-    (c.widen.ensures.radii ∙ ap (λ n. set was x (max (get_or was x 0) n)) (c.square_reach.ensures.value ∙ reach x c.place-first.result c.place-first.ensures))
-    (c.widen-2.ensures.radii ∙ ap (λ n. set one y (max (get_or one y 0) n)) (c.square_reach-2.ensures.value ∙ reach y c.place-second.result c.place-second.ensures))
-    (c.widen-3.ensures.radii ∙ ap (λ n. set two z (max (get_or two z 0) n)) (c.square_reach-3.ensures.value ∙ reach z c.place-third.result c.place-third.ensures)) v in
+    (c.widen.ensures.radii ∙ ap (λ n. set was x (max (get_or was x 0) n)) (c.square_reach.ensures.value ∙ reach x first at_x))
+    (c.widen-2.ensures.radii ∙ ap (λ n. set one y (max (get_or one y 0) n)) (c.square_reach-2.ensures.value ∙ reach y second at_y))
+    (c.widen-3.ensures.radii ∙ ap (λ n. set two z (max (get_or two z 0) n)) (c.square_reach-3.ensures.value ∙ reach z third at_z)) v in
     read
     ∙ (rw (ends.a, ends.b, ends.c) refl)
 
-pub returns-clause-boxes : goal.returns-clause-boxes
-returns-clause-boxes c v l =
+pub returns-clause-joined : goal.returns-clause-joined
+returns-clause-joined c v l =
+    let h = c.args.h.now in
     let ends = c.corner_nodes.ensures in
-    let len = c.requires.len in
+    let len = c.requires.boxes_len in
     let x = c.corner_nodes.result.0.0 in
     let y = c.corner_nodes.result.1.0 in
     let z = c.corner_nodes.result.2.0 in
+    let balls = c.args.balls.now.items in
+    let first = c.node_ball-first.result.place in
+    let second = c.node_ball-second.result.place in
+    let third = c.node_ball-third.result.place in
+    let at_x = place_is h balls c.deref.result.now x first c.requires.places ends.a_node c.deref.ensures.value c.node_ball-first.ensures.place in
+    let at_y = place_is h balls c.deref-2.result.now y second c.requires.places ends.b_node c.deref-2.ensures.value c.node_ball-second.ensures.place in
+    let at_z = place_is h balls c.deref-3.result.now z third c.requires.places ends.c_node c.deref-3.ensures.value c.node_ball-third.ensures.place in
     let face = c.face_box-face.result in
-    let was = (lists_of c.args.nodes.now.items).boxes in
-    let all = length-map c.args.nodes.now.items (λ (n : NodeBounds). n.normals) in
+    let was = c.args.boxes.now.items in
     let read = three None (λ w (b : Option NormalBox). join b (Some face)) (λ w b. join-twice b (Some face))
-    was (lists_of c.widen.new.nodes.items).boxes (lists_of c.widen-2.new.nodes.items).boxes (lists_of c.widen-3.new.nodes.items).boxes x y z
+    was c.widen_box.new.boxes.items c.widen_box-2.new.boxes.items c.widen_box-3.new.boxes.items x y z
     (omega (arith, ends.a_node)) (omega (arith, ends.b_node)) (omega (arith, ends.c_node))
-    c.widen.ensures.boxes c.widen-2.ensures.boxes c.widen-3.ensures.boxes v in
+    c.widen_box.ensures.joined c.widen_box-2.ensures.joined c.widen_box-3.ensures.joined v in
     read
-    ∙ box_is c.args.h.now (corners_of c.args.h.now c.args.f.0) x y z v c.place-first.result c.place-second.result c.place-third.result face (get_or was v None)
-    c.face_box-face.ensures.value c.place-first.ensures c.place-second.ensures c.place-third.ensures ends.a ends.b ends.c
+    ∙ box_is h (corners_of h c.args.f.0) x y z v first second third face (get_or was v None) c.face_box-face.ensures.value at_x at_y at_z ends.a ends.b ends.c
