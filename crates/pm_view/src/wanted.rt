@@ -12,20 +12,18 @@ use pm_forest::Hierarchy;
 use std::sync::ledger::Ledger;
 
 // The three tests of a node. The box of its normals is read last and only where it is asked for: most nodes are too small,
-// and a box is more memory than all else that is kept of a node.
+// and the box lies apart from the ball.
 #[tactic(auto, unfolding(crate::specs::Wanted::is_large), using(crate::proofs::Passing::asked_in_turn))]
 fn passes(h: &Hierarchy, bounds: &Bounds, node: NodeId, view: &View) -> bool
     requires bounds { AreBoundsOf h.now bounds.now }
     requires node { node.0 < node_count h.now }
     ensures { result ≡ is_wanted h.now view.now node.0 }
 {
-    let place = h.place(node);
-    let error = bounds.error(node);
-    let radius = bounds.radius(node);
-    let is_large = view.looks_large(place, error, radius);
-    (is_large || view.outline_looks_large(place, error, radius))
-        && !view.is_behind(place, radius)
-        && view.may_show(place, radius, bounds.normals(node), is_large)
+    let ball = bounds.ball(node);
+    let is_large = view.looks_large(ball.place, ball.error, ball.radius);
+    (is_large || view.outline_looks_large(ball.place, ball.error, ball.radius))
+        && !view.is_behind(ball.place, ball.radius)
+        && view.may_show(ball.place, ball.radius, bounds.normals(node), is_large)
 }
 
 /// Whether the view wants the node refined: no plane of the view has the node's whole ball behind it, a face under the node
