@@ -85,7 +85,8 @@ fn is_met(h: &Hierarchy, bounds: &Bounds, node: NodeId, ray: &Ray) -> bool
     requires node { node.0 < node_count h.now }
     ensures { result ≡ is_met h.now ray.now node.0 }
 {
-    ray.meets(h.place(node), bounds.radius(node))
+    let ball = bounds.ball(node);
+    ray.meets(ball.place, ball.radius)
 }
 
 /// Whether the ray meets the ball of a node, whose middle is the node's place and whose radius is that of the bounds. If it
