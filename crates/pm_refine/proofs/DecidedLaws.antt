@@ -1,6 +1,6 @@
 -- What is marked, gone, on a queue and to be done once the next record is decided.
 use Rattle.std.proofs.Common.{◌≡◌, ◌≢◌, ℕ, suc, ◌<◌, Bool, true, false, ◌&&◌, ◌||◌, not, cond, List, length, set, length-set, get_or-set_same, get_or-set_other, Option, Some, ◌⊎◌, inl, inr, refl, sym, ap, ◌∙◌, subst, arith}
-use Rattle.std.proofs.lemmas.Bool.{cases_Bool, cases_eq, both_ways, and_from, or_left, or_right, not_from_false, not_from_true, cond-true, cond-false}
+use Rattle.std.proofs.lemmas.Bool.{cases_Bool, cases_eq, both_ways, and_parts, and_from, or_left, or_right, not-true, not_from_false, not_from_true, cond-true, cond-false}
 use Rattle.std.proofs.Math.Bool.{beq}
 use Rattle.std.proofs.lemmas.Option.{same_Some}
 use Rattle.pm_queue.specs.declared.key.Key.{Key}
@@ -17,8 +17,9 @@ use Rattle.pm_beyond.proofs.Outer.{needs-true, needs-from}
 use Rattle.pm_beyond.proofs.TargetLaws.{target-least}
 use Rattle.pm_refine.specs.Queued.{down_key, held, AreKeyed, Joins, move_key, HoldsMoves}
 use Rattle.pm_front.specs.Needed.{is_needed, remaining}
-use Rattle.pm_refine.specs.Deciding.{AreDecided, IsNext}
-use Rattle.pm_front.proofs.RemainingLaws.{needed-from}
+use Rattle.pm_refine.specs.Deciding.{AreDecided, IsNext, is_put}
+use Rattle.pm_refine.specs.Needed.{is_free}
+use Rattle.pm_refine.proofs.MarkLaws.{joined_as}
 use Rattle.pm_refine.proofs.DecidingLaws.{stays_is, same_there}
 use Rattle.pm_refine.proofs.FindingLaws.{joined-old, joined-new, joined-cases}
 
@@ -177,13 +178,13 @@ module _ (h : Hierarchy) (shape : HasShape h) (wanted S : ℕ → Bool) (closed 
           | inl same ↦ absurd (both_ways _ f (subst (λ x. T x ≡ true) (sym same) g))
           | inr other ↦ n.goes j (omega arith) j_lt t f
         ];
-        pushed = λ i j t need j_lt. stays j (n.pushed i j t need j_lt);
+        pushed = λ i j t need f j_lt. stays j (n.pushed i j t need f j_lt);
         to_do = moved;
       }
 
-  -- and one that goes pushes it.
+  -- and one that goes pushes what isn't free of it.
   pub decided_gone : (k : ℕ) (marks gone : List Bool) (work work' moves : Entries) → IsNext h wanted S k marks gone work moves → S k ≡ true → target_of h wanted k ≡ false →
-      length work' ≡ record_count h → (AreKeyed down_key work → AreKeyed down_key work') → Joins (held work) (held work') (needs h k) →
+      length work' ≡ record_count h → (AreKeyed down_key work → AreKeyed down_key work') → Joins (held work) (held work') (is_put h S true k) →
       AreDecided h wanted S k (set marks k false) (set gone k true) work' (set moves k (Some (move_key S k)))
   decided_gone k marks gone work work' moves n s g work_len keyed w =
       let T = target_of h wanted in
@@ -192,7 +193,8 @@ module _ (h : Hierarchy) (shape : HasShape h) (wanted S : ℕ → Bool) (closed 
       let gone_len = n.gone_len in
       let d : differs S T k ≡ true = or_left (less S T k) (less T S k) (and_from (S k) (not (T k)) s (not_from_false (T k) g)) in
       let moved : HoldsMoves (record_count h) S T k (set moves k (Some (move_key S k))) = subst (HoldsMoves (record_count h) S T k) (cond-true (differs S T k) (set moves k (Some (move_key S k))) moves d) (moves_more k moves l n.to_do) in
-      let stays : (j : ℕ) → held work j ≡ true → held work' j ≡ true = λ j t. joined-old (held work) (held work') (needs h k) j w t in
+      let stays : (j : ℕ) → held work j ≡ true → held work' j ≡ true = λ j t. joined-old (held work) (held work') (is_put h S true k) j w t in
+      let put_parts : (j : ℕ) → is_put h S true k j ≡ true → (needs h k j ≡ true) × (is_free h S j ≡ false) = λ j u. (let p = and_parts (needs h k j) (not (is_free h S j)) u in (p.0, not-true (is_free h S j) p.1)) in
       let here : set_of (set gone k true) k ≡ true = get_or-set_same gone k true false (omega arith) in
       let gone_cases : (j : ℕ) → set_of (set gone k true) j ≡ true → (j ≡ k) ⊎ (set_of gone j ≡ true) = λ j t.
       elim (cases_eq j k) [ inl is ↦ inl is | inr other ↦ inr (sym (get_or-set_other gone k j true false other) ∙ t) ] in
@@ -202,10 +204,10 @@ module _ (h : Hierarchy) (shape : HasShape h) (wanted S : ℕ → Bool) (closed 
         gone_len = length-set {A = Bool} gone k true ∙ n.gone_len;
         work_len = work_len;
         keyed = keyed n.keyed;
-        below = λ j t. elim (joined-cases (held work) (held work') (needs h k) j w t) [ inl u ↦ n.below j u | inr u ↦ needs-older h shape k j l (needs-true h k j l u) ];
-        only = λ j t. elim (joined-cases (held work) (held work') (needs h k) j w t) [ inl u ↦ n.only j u | inr u ↦ inl (closed k j l s (needs-true h k j l u)) ];
-        tried = λ j t is. elim (joined-cases (held work) (held work') (needs h k) j w t) [
-          | inr u ↦ inr (inl (needed-from h S k j l s (needs-true h k j l u)))
+        below = λ j t. elim (joined-cases (held work) (held work') (is_put h S true k) j w t) [ inl u ↦ n.below j u | inr u ↦ needs-older h shape k j l (needs-true h k j l (put_parts j u).0) ];
+        only = λ j t. elim (joined-cases (held work) (held work') (is_put h S true k) j w t) [ inl u ↦ n.only j u | inr u ↦ inl (closed k j l s (needs-true h k j l (put_parts j u).0)) ];
+        tried = λ j t is. elim (joined-cases (held work) (held work') (is_put h S true k) j w t) [
+          | inr u ↦ inr (inl (put_parts j u).1)
           | inl u ↦ elim (n.tried j u is) [ inl m ↦ inl (unset-other marks k j (let low = n.below j u in omega arith) m) | inr v ↦ inr v ]
         ];
         marked = λ j t. let u = unset-parts marks k j (omega arith) t in stays j (n.marked j u.0 u.1);
@@ -224,15 +226,19 @@ module _ (h : Hierarchy) (shape : HasShape h) (wanted S : ℕ → Bool) (closed 
           | inl is ↦ subst (λ x. set_of (set gone k true) x ≡ true) (sym is) here
           | inr other ↦ get_or-set_other gone k j true false other ∙ n.goes j (omega arith) j_lt t f
         ];
-        pushed = λ i j t need j_lt. elim (gone_cases i t) [
-          | inl is ↦ joined-new (held work) (held work') (needs h k) j w (needs-from h k j (subst (λ x. Needs h x j) is need))
-          | inr u ↦ stays j (n.pushed i j u need j_lt)
+        pushed = λ i j t need f j_lt. elim (gone_cases i t) [
+          | inl is ↦ joined-new (held work) (held work') (is_put h S true k) j w (and_from (needs h k j) (not (is_free h S j)) (needs-from h k j (subst (λ x. Needs h x j) is need)) (not_from_false (is_free h S j) f))
+          | inr u ↦ stays j (n.pushed i j u need f j_lt)
         ];
         to_do = moved;
       }
 
+  whole : (x : Bool) → (x && true) ≡ x
+  whole true = refl
+  whole false = refl
+
   pub decided_by : (k : ℕ) (is_split : Bool) (marks marks' gone gone' : List Bool) (work work' moves : Entries) → IsNext h wanted S k marks gone work moves → is_split ≡ S k → target_of h wanted k ≡ not (S k) →
-      length marks' ≡ record_count h → length work' ≡ record_count h → (AreKeyed down_key work → AreKeyed down_key work') → Joins (held work) (held work') (needs h k) →
+      length marks' ≡ record_count h → length work' ≡ record_count h → (AreKeyed down_key work → AreKeyed down_key work') → Joins (held work) (held work') (is_put h S is_split k) →
       (is_split ≡ true → (marks' ≡ set marks k false) × (gone' ≡ set gone k true)) → (is_split ≡ false → (gone' ≡ gone) × Joins (set_of (set marks k false)) (set_of marks') (needs h k)) →
       AreDecided h wanted S k marks' gone' work' (set moves k (Some (move_key S k)))
   decided_by k is_split marks marks' gone gone' work work' moves n split turned mark_len work_len keyed w goes comes =
@@ -241,9 +247,11 @@ module _ (h : Hierarchy) (shape : HasShape h) (wanted S : ℕ → Bool) (closed 
             let p = goes (split ∙ t) in
             subst (λ ms. AreDecided h wanted S k ms gone' work' (set moves k (Some (move_key S k)))) (sym p.0)
             (subst (λ gs. AreDecided h wanted S k (set marks k false) gs work' (set moves k (Some (move_key S k)))) (sym p.1)
-            (decided_gone k marks gone work work' moves n t (turned ∙ not_from_true (S k) t) work_len keyed w))
+            (decided_gone k marks gone work work' moves n t (turned ∙ not_from_true (S k) t) work_len keyed
+            (joined_as (held work) (held work') (is_put h S is_split k) (is_put h S true k) w (λ j. ap (λ b. is_put h S b k j) (split ∙ t)))))
         | inr f ↦
             let p = comes (split ∙ f) in
             subst (λ gs. AreDecided h wanted S k marks' gs work' (set moves k (Some (move_key S k)))) (sym p.0)
-            (decided_split k marks marks' gone work work' moves n f (turned ∙ not_from_false (S k) f) mark_len work_len keyed p.1 w)
+            (decided_split k marks marks' gone work work' moves n f (turned ∙ not_from_false (S k) f) mark_len work_len keyed p.1
+            (joined_as (held work) (held work') (is_put h S is_split k) (needs h k) w (λ j. ap (λ b. is_put h S b k j) (split ∙ f) ∙ whole (needs h k j))))
       ]

@@ -1,4 +1,4 @@
--- The tests of nodes, counted: over the records that something needs, that nothing needs, and of which a move is made.
+-- The tests of nodes, counted: over the records that are free, that are split and aren't, and of which a move is made.
 use Rattle.std.proofs.Common.{◌≡◌, ℕ, ◌+◌, ◌≤◌, Bool, true, false, ◌&&◌, ◌||◌, not, List, inl, inr, sym, ap, ◌∙◌, arith}
 use Rattle.std.proofs.lemmas.Bool.{cases_Bool, both_ways, and_parts, and_from, or_left, or_right, or_from, not-true, not_from_false, not_from_true}
 use Rattle.pm_base.specs.Counts.{count, one_if}
@@ -16,21 +16,22 @@ use Rattle.pm_refine.specs.Finding.{is_due}
 use Rattle.pm_front.specs.Needed.{is_needed, remaining}
 use Rattle.pm_refine.specs.Needed.{is_free}
 use Rattle.pm_refine.specs.Deciding.{IsNext}
+use Rattle.pm_refine.proofs.FindingLaws.{free_split}
 use Rattle.pm_refine.proofs.DecidingLaws.{stays_is}
 
 module _ (h : Hierarchy) (shape : HasShape h) (wanted S : ℕ → Bool) (closed : IsClosed h S) where
-  -- A test is made of a record that isn't needed any more; either it was needed before, or it goes.
+  -- A test is made of a record that isn't needed any more; either it wasn't free before, or it goes.
   pub tested : (k : ℕ) (marks gone : List Bool) (work moves : Entries) → IsNext h wanted S k marks gone work moves → S k ≡ true → set_of marks k ≡ false → is_needed h (remaining S (set_of gone)) k ≡ false →
-      1 ≤ one_if (S k && is_needed h S k) + one_if (differs S (target_of h wanted) k)
+      1 ≤ one_if (S k && not (is_free h S k)) + one_if (differs S (target_of h wanted) k)
   tested k marks gone work moves n s m f =
-      elim (cases_Bool (is_needed h S k)) [
-        | inl t ↦ (let a = ap one_if (and_from (S k) (is_needed h S k) s t) in omega arith)
-        | inr t ↦
+      elim (cases_Bool (is_free h S k)) [
+        | inr t ↦ (let a = ap one_if (and_from (S k) (not (is_free h S k)) s (not_from_false (is_free h S k) t)) in omega arith)
+        | inl t ↦
             elim (n.tried_itself s) [
               | inl u ↦ absurd (both_ways _ m u)
               | inr u ↦
                   elim u [
-                    | inl v ↦ absurd (both_ways _ t v)
+                    | inl v ↦ absurd (both_ways _ v t)
                     | inr v ↦
                         let x = is_needed h (remaining S (set_of gone)) k in
                         let none : target_of h wanted k ≡ false = sym (stays_is h shape wanted S closed k marks gone work moves n)
@@ -49,16 +50,16 @@ module _ (h : Hierarchy) (shape : HasShape h) (wanted S : ℕ → Bool) (closed 
       let p = and_parts (wanted (s_of h j)) (not (S j)) d in
       or_right (less S T j) (less T S j) (and_from (T j) (not (S j)) ((target-least h shape wanted).takes j l p.0) p.1))
 
-  -- Those that nothing needs and those that something needs are the split ones.
-  pub free_and_needed : count (is_free h S) (record_count h) + count (λ j. S j && is_needed h S j) (record_count h) ≤ count S (record_count h)
-  free_and_needed =
+  -- Those that are free and those that aren't are the split ones.
+  pub free_and_others : count (is_free h S) (record_count h) + count (λ j. S j && not (is_free h S j)) (record_count h) ≤ count S (record_count h)
+  free_and_others =
       let n = record_count h in
-      count_apart (is_free h S) (λ j. S j && is_needed h S j) S n (λ j t. (and_parts (S j) (not (is_needed h S j)) t).0) (λ j t. (and_parts (S j) (is_needed h S j) t).0)
-      (λ j t u. both_ways _ (not-true (is_needed h S j) (and_parts (S j) (not (is_needed h S j)) t).1) (and_parts (S j) (is_needed h S j) u).1)
+      count_apart (is_free h S) (λ j. S j && not (is_free h S j)) S n (free_split h shape wanted S) (λ j t. (and_parts (S j) (not (is_free h S j)) t).0)
+      (λ j t u. both_ways _ (not-true (is_free h S j) (and_parts (S j) (not (is_free h S j)) u).1) t)
 
   -- The tests of a record are paid for.
   pub paid : (k : ℕ) (marks gone : List Bool) (work moves : Entries) → IsNext h wanted S k marks gone work moves →
-      one_if (S k && (not (set_of marks k) && not (is_needed h (remaining S (set_of gone)) k))) ≤ one_if (S k && is_needed h S k) + one_if (differs S (target_of h wanted) k)
+      one_if (S k && (not (set_of marks k) && not (is_needed h (remaining S (set_of gone)) k))) ≤ one_if (S k && not (is_free h S k)) + one_if (differs S (target_of h wanted) k)
   paid k marks gone work moves n =
       let x = S k && (not (set_of marks k) && not (is_needed h (remaining S (set_of gone)) k)) in
       elim (cases_Bool x) [

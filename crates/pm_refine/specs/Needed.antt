@@ -1,11 +1,11 @@
 -- Records that may go.
 use Rattle.std.specs.Prelude.{ℕ, Bool, ◌&&◌, not}
-use Rattle.pm_forest.specs.Forest.{Hierarchy, s_of}
-use Rattle.pm_front.specs.Needed.{is_needed}
+use Rattle.pm_forest.specs.Forest.{Hierarchy, s_of, t_of, u_of}
+use Rattle.pm_forest.specs.Fronts.{is_active}
 
--- Record j is split, and no split record needs it.
+-- Both children of record j are active.
 abbrev pub is_free : Hierarchy → (ℕ → Bool) → ℕ → Bool
-is_free h S j = S j && not (is_needed h S j)
+is_free h S j = is_active h S (t_of h j) && is_active h S (u_of h j)
 
 -- And its node isn't wanted.
 abbrev pub is_loose : Hierarchy → (ℕ → Bool) → (ℕ → Bool) → ℕ → Bool

@@ -13,6 +13,7 @@ ghost use Rattle.pm_refine.specs.Queued.{down_key, up_key, held, AreKeyed, Joins
 ghost use Rattle.pm_refine.specs.Finding.{IsStart};
 ghost use Rattle.pm_refine.specs.Deciding.{AreDecided, IsNext};
 ghost use Rattle.pm_front.specs.Needed.{is_needed, remaining};
+ghost use Rattle.pm_refine.specs.Needed.{is_free};
 ghost use Rattle.pm_refine.specs.Adapting.{view_target};
 
 use crate::marks::mark_needs;
@@ -115,7 +116,7 @@ fn decide<L: Ledger>(
         marks.new.items gone.new.items work.new moves.new }
     ensures answer { result ≡ differs (set_of front.now.flags) (view_target front.now.h view.now) k }
     ensures cost { let h = front.now.h in let S = set_of front.now.flags in
-        steps.new ≤ steps.old + (one_if (S k && is_needed h S k) + one_if (differs S (view_target h view.now) k)) }
+        steps.new ≤ steps.old + (one_if (S k && not (is_free h S k)) + one_if (differs S (view_target h view.now) k)) }
 {
     front.invariant();
     let is_split = front.is_split(k);
@@ -124,7 +125,7 @@ fn decide<L: Ledger>(
     if stays == is_split {
         return false;
     }
-    push_needs(front.hierarchy(), work, k);
+    push_needs(front, work, k, is_split);
     note(front.hierarchy(), marks, gone, k, is_split);
     put_move(moves, k, is_split);
     true
@@ -162,7 +163,7 @@ pub(crate) fn decide_all<L: Ledger>(
     ensures answer { result ≡ count (differs (set_of front.now.flags) (view_target front.now.h view.now))
         (record_count front.now.h) }
     ensures cost { let h = front.now.h in let S = set_of front.now.flags in
-        steps.new ≤ steps.old + count (λ j. S j && is_needed h S j) (record_count h)
+        steps.new ≤ steps.old + count (λ j. S j && not (is_free h S j)) (record_count h)
         + count (differs S (view_target h view.now)) (record_count h) }
 {
     front.invariant();

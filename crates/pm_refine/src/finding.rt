@@ -51,14 +51,11 @@ fn see_active<L: Ledger>(
     front: &Front,
     bounds: &Bounds,
     view: &View,
-    gone: &[bool],
     moves: &mut Queue,
     work: &mut Queue,
     steps: &mut Steps<L>,
 )
     requires bounds { AreBoundsOf front.now.h bounds.now }
-    requires gone { length gone.now ≡ record_count front.now.h }
-    requires clear { (j : ℕ) → set_of gone.now j ≡ false }
     requires moves { length moves.old ≡ record_count front.now.h }
     requires work { length work.old ≡ record_count front.now.h }
     requires no_moves { IsEmpty moves.old }
@@ -74,7 +71,7 @@ fn see_active<L: Ledger>(
     let mut cursor = front.first_active();
     while let Some(node) = cursor {
         look(front.hierarchy(), bounds, view, node, moves, steps);
-        try_maker(front, bounds, view, gone, node, work, steps);
+        try_maker(front, bounds, view, node, work, steps);
         cursor = front.next_active(node);
     }
 }
@@ -106,20 +103,16 @@ fn look_below<L: Ledger>(
 
 /// Finds the records that aren't split and whose nodes are wanted, and the records that may go, and puts
 /// them on the queue `work`. It uses the queue `moves`. It goes over the active nodes once, tests each of
-/// them and each child of what it finds once at most, and each split record that no split record needs
-/// once.
+/// them and each child of what it finds once at most, and each record whose children are active once.
 pub(crate) fn find<L: Ledger>(
     front: &Front,
     bounds: &Bounds,
     view: &View,
-    gone: &[bool],
     moves: &mut Queue,
     work: &mut Queue,
     steps: &mut Steps<L>,
 )
     requires bounds { AreBoundsOf front.now.h bounds.now }
-    requires gone { length gone.now ≡ record_count front.now.h }
-    requires clear { (j : ℕ) → set_of gone.now j ≡ false }
     requires moves { length moves.old ≡ record_count front.now.h }
     requires work { length work.old ≡ record_count front.now.h }
     requires no_moves { IsEmpty moves.old }
@@ -133,7 +126,7 @@ pub(crate) fn find<L: Ledger>(
         + 2 * count (is_due h (is_wanted h view.now) S) (record_count h) }
 {
     front.invariant();
-    see_active(front, bounds, view, gone, moves, work, steps);
+    see_active(front, bounds, view, moves, work, steps);
     let mut next = 0;
     while let Some((k, _)) = moves.take_least() {
         put_down(work, k);

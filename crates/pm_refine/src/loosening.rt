@@ -1,14 +1,12 @@
-//! Records that may go are found from the active nodes: no split record needs them, and their nodes
+//! Records that may go are found from the active nodes: both their children are active, and their nodes
 //! aren't wanted.
-ghost use Rattle.std.specs.Prelude.{ℕ, ◌≡◌, ◌+◌, ◌*◌, ◌<◌, ◌≤◌, ◌==◌, ◌&&◌, not, true, false, length, IfSome, IfNone};
+ghost use Rattle.std.specs.Prelude.{ℕ, ◌≡◌, ◌+◌, ◌*◌, ◌<◌, ◌≤◌, ◌==◌, ◌&&◌, true, length, IfSome, IfNone};
 ghost use Rattle.pm_base.specs.Counts.{count, one_if};
 ghost use Rattle.pm_forest.specs.Forest.{record_count, node_count, t_of};
 ghost use Rattle.pm_forest.specs.Fronts.{set_of, is_active};
-ghost use Rattle.pm_beyond.specs.Moves.{IsClosed};
 ghost use Rattle.pm_bounds.specs.Bounds.{AreBoundsOf};
 ghost use Rattle.pm_view.specs.Wanted.{is_wanted};
 ghost use Rattle.pm_refine.specs.Queued.{down_key, held, AreKeyed, Joins};
-ghost use Rattle.pm_front.specs.Needed.{is_needed, remaining};
 ghost use Rattle.pm_refine.specs.Needed.{is_free, is_loose};
 
 use crate::queues::put_down;
@@ -35,40 +33,46 @@ fn first_child_of(h: &Hierarchy, node: NodeId) -> Option<u32>
     }
 }
 
-// Whether a split record may go.
+/// Whether both children of a record are active.
+pub(crate) fn is_free(front: &Front, k: u32) -> bool
+    requires { k < record_count front.now.h }
+    ensures { result ≡ is_free front.now.h (set_of front.now.flags) k }
+{
+    let _records = front.hierarchy().records();
+    let t = front.hierarchy().roots() + 2 * k;
+    front.is_active(NodeId(t)) && front.is_active(NodeId(t + 1))
+}
+
+// Whether a record may go. Whether another one needs it by a face is asked when it is decided: that costs more than a test, and
+// the nodes of most are wanted.
 #[tactic(auto, using(pm_front::proofs::SplitLaws::s_below, pm_front::proofs::Counting::s_is))]
 fn may_go<L: Ledger>(
     front: &Front,
     bounds: &Bounds,
     view: &View,
-    gone: &[bool],
     k: u32,
     steps: &mut Steps<L>,
 ) -> bool
     requires bounds { AreBoundsOf front.now.h bounds.now }
     requires record { k < record_count front.now.h }
-    requires split { set_of front.now.flags k ≡ true }
-    requires gone { length gone.now ≡ record_count front.now.h }
-    requires clear { (j : ℕ) → set_of gone.now j ≡ false }
     ensures value { let h = front.now.h in
         result ≡ is_loose h (is_wanted h view.now) (set_of front.now.flags) k }
     ensures cost { steps.new ≤ steps.old + one_if (is_free front.now.h (set_of front.now.flags) k) }
 {
     front.invariant();
-    if !front.nothing_needs(gone, k) {
+    if !is_free(front, k) {
         return false;
     }
     let h = front.hierarchy();
     !wants(h, bounds, NodeId(h.record_at(k).s), view, steps)
 }
 
-/// Puts the record whose first child an active node is on the queue, if it may go. It tests the record's node where no
-/// split record needs the record.
+/// Puts the record whose first child an active node is on the queue, if it may go. It tests the record's node where the
+/// second child is active too.
 pub(crate) fn try_maker<L: Ledger>(
     front: &Front,
     bounds: &Bounds,
     view: &View,
-    gone: &[bool],
     node: NodeId,
     work: &mut Queue,
     steps: &mut Steps<L>,
@@ -76,8 +80,6 @@ pub(crate) fn try_maker<L: Ledger>(
     requires bounds { AreBoundsOf front.now.h bounds.now }
     requires node { node.0 < node_count front.now.h }
     requires active { is_active front.now.h (set_of front.now.flags) node.0 ≡ true }
-    requires gone { length gone.now ≡ record_count front.now.h }
-    requires clear { (j : ℕ) → set_of gone.now j ≡ false }
     requires work { length work.old ≡ record_count front.now.h }
     ensures work_len { length work.new ≡ length work.old }
     ensures joined { let h = front.now.h in let S = set_of front.now.flags in
@@ -88,7 +90,7 @@ pub(crate) fn try_maker<L: Ledger>(
         steps.new ≤ steps.old + count (λ j. t_of h j == node.0 && is_free h S j) (record_count h) }
 {
     if let Some(k) = first_child_of(front.hierarchy(), node) {
-        if may_go(front, bounds, view, gone, k, steps) {
+        if may_go(front, bounds, view, k, steps) {
             put_down(work, k);
         }
     }

@@ -104,15 +104,7 @@ impl Refiner {
             + 2 * length (active_nodes front.old.h S) + 4 * length (view_plan front.old.h S view.now) }
     {
         front.invariant();
-        find(
-            front,
-            bounds,
-            view,
-            &self.gone,
-            &mut self.moves,
-            &mut self.work,
-            steps,
-        );
+        find(front, bounds, view, &mut self.moves, &mut self.work, steps);
         let moves = decide_all(
             front,
             bounds,

@@ -1,4 +1,4 @@
-use Rattle.std.proofs.Common.{◌≡◌, ◌<◌, eqb, ◌&&◌, inl, sym, ap, subst, arith}
+use Rattle.std.proofs.Common.{◌≡◌, ◌<◌, eqb, ◌&&◌, sym, ap, subst, arith}
 use Rattle.std.proofs.lemmas.Bool.{eq-eqb, ne_eqb}
 use Rattle.pm_base.specs.Counts.{one_if}
 use Rattle.pm_forest.specs.Forest.{Hierarchy, record_count, t_of}
@@ -8,13 +8,7 @@ use Rattle.pm_refine.specs.Queued.{held}
 use Rattle.pm_refine.specs.Needed.{is_free, is_loose}
 use Rattle.pm_refine.proofs.CountLaws.{count_at}
 use Rattle.pm_refine.proofs.MarkLaws.{nothing_joined}
-use Rattle.pm_refine.proofs.FindingLaws.{made_split}
 use Rattle.pm_refine.proofs.loosening.try_maker.Goals as goal
-
-pub may_go-requires-clause-split : goal.may_go-requires-clause-split
-may_go-requires-clause-split g c =
-    let is = subst (λ (x : Hierarchy). t_of x c.in-Some.k ≡ c.args.node.0) c.hierarchy.ensures c.in-Some.ensures.some.1 in
-    made_split c.args.front.now.h (set_of c.args.front.now.flags) c.in-Some.k c.args.node.0 c.requires.active (inl (sym is))
 
 pub returns-then-may_go-clause-cost : goal.returns-then-may_go-clause-cost
 returns-then-may_go-clause-cost g c =

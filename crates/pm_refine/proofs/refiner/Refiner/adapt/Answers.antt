@@ -10,7 +10,7 @@ use Rattle.pm_refine.specs.Adapting.{view_target, adapted_of}
 use Rattle.pm_refine.proofs.AnswerLaws.{settled_there}
 use Rattle.pm_refine.proofs.ActiveLaws.{as_long}
 use Rattle.pm_refine.proofs.CountLaws.{active_many}
-use Rattle.pm_refine.proofs.DecisionCounts.{due_few, free_and_needed}
+use Rattle.pm_refine.proofs.DecisionCounts.{due_few, free_and_others}
 use Rattle.pm_refine.proofs.refiner.Refiner.adapt.Goals as goal
 
 pub advance-requires-clause-closed : goal.advance-requires-clause-closed
@@ -46,5 +46,5 @@ returns-clause-cost g c =
     let plan = length-plan h S (view_target h view) in
     let down = c.find.ensures.cost in
     let up = c.decide_all-moves.ensures.cost in
-    let apart = free_and_needed h shape (is_wanted h view) S closed in
+    let apart = free_and_others h shape (is_wanted h view) S closed in
     omega arith
