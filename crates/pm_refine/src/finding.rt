@@ -21,7 +21,8 @@ use pm_queue::Queue;
 use pm_view::{Steps, View, wants};
 use std::sync::ledger::Ledger;
 
-// Puts the record that splits a node on the queue, if one does and the node is wanted.
+// Puts the record that splits a node on the queue, if the node is wanted and one does. Most nodes aren't wanted, and the
+// table of splitters isn't looked at for these.
 fn look<L: Ledger>(
     h: &Hierarchy,
     bounds: &Bounds,
@@ -39,8 +40,8 @@ fn look<L: Ledger>(
     ensures keyed { AreKeyed up_key moves.old → AreKeyed up_key moves.new }
     ensures cost { steps.new ≤ steps.old + 1 }
 {
-    if let Some(k) = h.splitter(node) {
-        if wants(h, bounds, node, view, steps) {
+    if wants(h, bounds, node, view, steps) {
+        if let Some(k) = h.splitter(node) {
             put_up(moves, k);
         }
     }
