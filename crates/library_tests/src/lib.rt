@@ -1,10 +1,6 @@
-//! Tests of libraries, a module for each crate.
+//! Tests of the libraries of text, meshes and the builder, a module for each crate.
 #![tactic(auto)]
 
-#[cfg(test)]
-mod bounds;
-#[cfg(test)]
-mod demo;
 #[cfg(test)]
 mod fans;
 #[cfg(test)]
@@ -20,21 +16,11 @@ mod lines;
 #[cfg(test)]
 mod links;
 #[cfg(test)]
-mod load;
-#[cfg(test)]
-mod manifold;
-#[cfg(test)]
-mod number;
-#[cfg(test)]
-mod pick;
-#[cfg(test)]
 mod quadric;
 #[cfg(test)]
 mod queue;
 #[cfg(test)]
 mod read;
-#[cfg(test)]
-mod refine;
 #[cfg(test)]
 mod scan;
 #[cfg(test)]
@@ -42,10 +28,6 @@ mod shrink;
 #[cfg(test)]
 mod simplify;
 #[cfg(test)]
-mod strips;
-#[cfg(test)]
 mod twins;
-#[cfg(test)]
-mod view;
 #[cfg(test)]
 mod write;

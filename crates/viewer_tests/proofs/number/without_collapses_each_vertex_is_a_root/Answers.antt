@@ -3,7 +3,7 @@ use Rattle.pm_base.specs.declared.log.Collapse.{Collapse}
 use Rattle.pm_base.specs.Meshes.{mesh_of}
 use Rattle.pm_runs.specs.Runs.{IsRun}
 use Rattle.pm_runs.proofs.Logs.{run-nil}
-use Rattle.library_tests.proofs.number.without_collapses_each_vertex_is_a_root.Goals as goal
+use Rattle.viewer_tests.proofs.number.without_collapses_each_vertex_is_a_root.Goals as goal
 
 pub from_log-requires-clause-run : goal.from_log-requires-clause-run
 from_log-requires-clause-run g c =
