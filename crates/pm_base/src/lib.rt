@@ -4,6 +4,7 @@
 mod distance;
 mod ids;
 mod items;
+mod limits;
 mod log;
 mod mesh;
 mod normal;
@@ -12,6 +13,7 @@ mod point;
 pub use distance::{dist_up, dist2, distances_add, lengths_add};
 pub use ids::{FaceId, NodeId, Side};
 pub use items::{Items, OutOfMemory};
+pub use limits::{GREATEST_COORDINATE, MOST_FACES, MOST_NODES, MOST_SIDES, MOST_VERTICES};
 pub use log::{Collapse, Gone, Log};
 pub use mesh::{Corners, Mesh, Triples};
 pub use normal::{Normal, cross, dot};
