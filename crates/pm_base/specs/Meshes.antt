@@ -1,6 +1,7 @@
 -- Triangle meshes: a list of places, and a list of triples of vertex numbers (Hoppe 1996).
 use Rattle.std.specs.Prelude.{ℕ, ◌≢◌, ◌<◌, ◌≤◌, List, length}
 use Rattle.std.specs.List.{All}
+use Rattle.pm_base.specs.declared.limits.TheConstants.{MOST_FACES, MOST_VERTICES}
 use Rattle.pm_base.specs.Place.{Place}
 use Rattle.pm_base.specs.declared.mesh.Corners.{Corners}
 use Rattle.pm_base.specs.declared.mesh.Mesh.{Mesh as HeldMesh}
@@ -23,6 +24,6 @@ pub record IsFace (n : ℕ) (f : Corners) : Type 0 where
   pub ca : f.c ≢ f.a
 
 pub record IsWellFormed (m : Mesh) : Type 0 where
-  pub points : length m.points ≤ 1048576
-  pub faces : length m.faces ≤ 1048576
+  pub points : length m.points ≤ MOST_VERTICES
+  pub faces : length m.faces ≤ MOST_FACES
   pub corners : All (IsFace (length m.points)) m.faces

@@ -1,5 +1,6 @@
 -- Places in space: the points of the whole-number grid as contracts see them.
 use Rattle.std.specs.Prelude.{ℤ, pos, ◌≤◌, nat_le, Bool, ◌&&◌, List, unsigned_abs, slice_index_or}
+use Rattle.pm_base.specs.declared.limits.TheConstants.{GREATEST_COORDINATE}
 
 pub record Place : Type 0 where
   pub x : ℤ
@@ -8,14 +9,14 @@ pub record Place : Type 0 where
 
 -- A coordinate is from -32,767 to 32,767.
 abbrev pub is_coordinate : ℤ → Bool
-is_coordinate n = nat_le (unsigned_abs n) 32767
+is_coordinate n = nat_le (unsigned_abs n) GREATEST_COORDINATE
 
 abbrev pub is_place : Place → Bool
 is_place p = is_coordinate p.x && is_coordinate p.y && is_coordinate p.z
 
 -- The same as a fact.
 abbrev pub IsPlace : Place → Type 0
-IsPlace p = (unsigned_abs p.x ≤ 32767) × (unsigned_abs p.y ≤ 32767) × (unsigned_abs p.z ≤ 32767)
+IsPlace p = (unsigned_abs p.x ≤ GREATEST_COORDINATE) × (unsigned_abs p.y ≤ GREATEST_COORDINATE) × (unsigned_abs p.z ≤ GREATEST_COORDINATE)
 
 -- The place with these three coordinates.
 abbrev pub place_of : List ℤ → Place

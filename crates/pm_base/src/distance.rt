@@ -1,5 +1,6 @@
 //! Distances by whole numbers alone: squared, or rounded up to the next whole number.
 ghost use Rattle.std.specs.Prelude.{◌≡◌, ◌-ℤ◌, ◌<◌, ◌≤◌, ◌+◌, ◌*◌, ℕ, unsigned_abs};
+ghost use Rattle.pm_base.specs.declared.limits.TheConstants.{GREATEST_COORDINATE};
 ghost use Rattle.pm_base.specs.Place.{Place};
 ghost use Rattle.pm_base.specs.Geometry.{Direction, dot_of, dist2_of, square_of, norm2_of, plus_of};
 ghost use Rattle.pm_base.specs.Rounded.{distance_of};
@@ -8,8 +9,8 @@ use crate::Point;
 
 // The square of the difference of two coordinates.
 fn square(x: i32, y: i32) -> u64
-    requires x_small { unsigned_abs x ≤ 32767 }
-    requires y_small { unsigned_abs y ≤ 32767 }
+    requires x_small { unsigned_abs x ≤ GREATEST_COORDINATE }
+    requires y_small { unsigned_abs y ≤ GREATEST_COORDINATE }
     ensures value { result ≡ square_of (unsigned_abs (x -ℤ y)) }
     ensures small { result ≤ 4294705156 }
 {

@@ -1,5 +1,6 @@
 //! Normals of faces, which are exact.
 ghost use Rattle.std.specs.Prelude.{◌≡◌, ◌+ℤ◌, ◌-ℤ◌, ◌*ℤ◌, ◌≤◌, ◌^◌, unsigned_abs};
+ghost use Rattle.pm_base.specs.declared.limits.TheConstants.{GREATEST_COORDINATE};
 ghost use Rattle.pm_base.specs.Place.{IsPlace};
 ghost use Rattle.pm_base.specs.Geometry.{IsNormal, cross_of, dot_of};
 
@@ -15,8 +16,8 @@ pub struct Normal {
 
 // How far x is above y.
 fn above(x: i32, y: i32) -> i64
-    requires x_small { unsigned_abs x ≤ 32767 }
-    requires y_small { unsigned_abs y ≤ 32767 }
+    requires x_small { unsigned_abs x ≤ GREATEST_COORDINATE }
+    requires y_small { unsigned_abs y ≤ GREATEST_COORDINATE }
     ensures value { result ≡ x -ℤ y }
     ensures small { unsigned_abs result ≤ 65534 }
 {

@@ -3,6 +3,7 @@ ghost use Rattle.std.specs.Prelude.{◌≡◌, true, false, IfSome, OnSome, IfNo
 ghost use Rattle.pm_base.specs.Place.{IsPlace, is_coordinate, is_place};
 
 use crate::Items;
+use crate::limits::GREATEST_COORDINATE;
 use std::marker::Model;
 
 /// A point of the whole-number grid. Each coordinate is from -32,767 to 32,767, which the type keeps.
@@ -28,13 +29,10 @@ impl Model for Point {
 /// A list of points.
 pub type Points = Items<Point>;
 
-// The greatest coordinate. With it a quadric's value stays within 128 bits.
-const GREATEST: u32 = 32_767;
-
 fn is_coordinate(n: i32) -> bool
     ensures { result ≡ is_coordinate n }
 {
-    n.unsigned_abs() <= GREATEST
+    n.unsigned_abs() <= GREATEST_COORDINATE
 }
 
 impl Point {
