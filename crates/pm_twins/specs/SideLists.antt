@@ -1,5 +1,6 @@
 -- The sides of a mesh in lists: each at the vertex from which it runs.
 use Rattle.std.specs.Prelude.{◌≡◌, ℕ, ◌<◌, ◌≤◌, ◌↔◌, true}
+use Rattle.pm_base.specs.declared.limits.TheConstants.{MOST_FACES, MOST_VERTICES}
 use Rattle.pm_base.specs.Sides.{Net, side_count, Stands}
 use Rattle.pm_links.specs.Lists.{Lists, list_of, has}
 
@@ -10,7 +11,7 @@ pub record AreListed (m : Net) (n : ℕ) (lists : Lists) : Type 0 where
 
 -- Every side stands, and its two vertices are among the first so many.
 pub record IsWhole (m : Net) (vertices : ℕ) : Type 0 where
-  pub short : m.faces ≤ 1048576
-  pub few : vertices ≤ 1048576
+  pub short : m.faces ≤ MOST_FACES
+  pub few : vertices ≤ MOST_VERTICES
   pub stands : (e : ℕ) → e < side_count m → Stands m e
   pub within : (e : ℕ) → e < side_count m → m.from e < vertices

@@ -1,5 +1,6 @@
 -- The walk round a vertex that decides whether its faces are a fan.
 use Rattle.std.specs.Prelude.{◌≡◌, ◌≢◌, ℕ, ◌+◌, ◌<◌, ◌≤◌, ◌==◌, Bool, cond, ◌&&◌, Option, Some, None, List, ◌⊎◌}
+use Rattle.pm_base.specs.declared.limits.TheConstants.{MOST_FACES}
 use Rattle.pm_base.specs.Sides.{Net, side_count, Stands, stands, NoSideTwice, twin_of}
 use Rattle.pm_base.specs.Counts.{count}
 use Rattle.pm_twins.specs.Table.{AreTwinsOf}
@@ -18,7 +19,7 @@ IsStart m a = (twin_of m a ≡ None) ⊎ ((g : ℕ) → g < side_count m → m.f
 
 -- A list of faces with the twins of their sides can be walked.
 pub record IsWalkable (m : Net) (table : List (Option ℕ)) : Type 0 where
-  pub short : m.faces ≤ 1048576
+  pub short : m.faces ≤ MOST_FACES
   pub stands : (e : ℕ) → e < side_count m → Stands m e
   pub once : NoSideTwice m
   pub twins : AreTwinsOf m table

@@ -1,10 +1,11 @@
 //! Walks from side to side round a vertex.
 ghost use Rattle.std.specs.Prelude.{◌≡◌, ◌<◌, ◌≤◌, ◌↔◌, IsTrue, is_none};
+ghost use Rattle.pm_base.specs.declared.limits.TheConstants.{MOST_SIDES};
 ghost use Rattle.pm_base.specs.Sides.{net_of, side_count, Stands, twin_of, around as around_of};
 ghost use Rattle.pm_base.specs.Fans.{IsFan};
 ghost use Rattle.pm_twins.specs.Walks.{degree as degree_of, IsStart};
 
-use crate::sides::{self, MOST_SIDES};
+use crate::sides;
 use pm_base::Corners;
 use std::marker::Model;
 
