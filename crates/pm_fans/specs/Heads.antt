@@ -1,5 +1,6 @@
 -- The chains of sides round vertices, and the side by which each chain is told: its head.
 use Rattle.std.specs.Prelude.{◌≡◌, ℕ, ◌*◌, ◌<◌, ◌≤◌, ◌⊎◌, List, Option, Some, None, length, slice_index_or}
+use Rattle.pm_base.specs.declared.limits.TheConstants.{MOST_FACES}
 use Rattle.pm_base.specs.Sides.{prev}
 
 -- What a table has for side e.
@@ -10,7 +11,7 @@ at table e = slice_index_or table e None
 pub record ArePaired (glued : List (Option ℕ)) : Type 0 where
   pub faces : ℕ
   pub sides : length glued ≡ 3 * faces
-  pub short : faces ≤ 1048576
+  pub short : faces ≤ MOST_FACES
   pub back : (e g : ℕ) → at glued e ≡ Some g → (g < length glued) × (at glued g ≡ Some e)
 
 -- Side g is the next one after e round the vertex from which both run.

@@ -1,6 +1,7 @@
 -- A mesh cut along its singular sides, and its vertices split by what is left of their fans (Guéziec, Taubin, Lazarus
 -- and Horn 1998: cutting).
 use Rattle.std.specs.Prelude.{◌≡◌, ℕ, ◌<◌, ◌≤◌, Option, None, List, length, slice_index_or, MatchOption}
+use Rattle.pm_base.specs.declared.limits.TheConstants.{MOST_FACES}
 use Rattle.pm_base.specs.Sides.{Net, side_count, prev, to, Stands, IsTwin}
 use Rattle.pm_base.specs.Rounds.{NoMirrorAt}
 
@@ -43,9 +44,9 @@ pub record IsNumberedBy (m n : Net) (first : ℕ → ℕ) : Type 0 where
   pub stands : (e : ℕ) → Stands m e → Stands m (first (n.from e))
   pub met : (e : ℕ) → Stands m e → Turns m (first (n.from e)) e
 
--- A mesh that can be cut: each face has three different corners of 32 bits, and there are at most 1,048,576.
+-- A mesh that can be cut: each face has three different corners of 32 bits, and there are no more than a mesh can have.
 pub record IsCuttable (m : Net) : Type 0 where
-  pub short : m.faces ≤ 1048576
+  pub short : m.faces ≤ MOST_FACES
   pub stand : AllStand m
   pub low : (e : ℕ) → e < side_count m → m.from e < 4294967296
 

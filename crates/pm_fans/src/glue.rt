@@ -1,6 +1,7 @@
 //! Each directed side is noted in a map by its two ends, with a mark where several have the same. A side
 //! that stands once is glued to the one that runs back, where that stands once too.
 ghost use Rattle.std.specs.Prelude.{◌≡◌, ◌+◌, ◌*◌, ◌<◌, ◌≤◌, ℕ, length, IfOk, OnOk, MatchOption};
+ghost use Rattle.pm_base.specs.declared.limits.TheConstants.{MOST_FACES, MOST_SIDES};
 ghost use Rattle.pm_base.specs.Sides.{Net, net_of, side_count, to as to_of};
 ghost use Rattle.pm_fans.specs.Splits.{IsGlued, AreGlued, IsCuttable};
 ghost use Rattle.pm_fans.specs.Ends.{ends_key, key_at, IsAlone, AreNoted};
@@ -51,7 +52,7 @@ pub(crate) fn note_sides(
 
 // Notes one more side.
 fn note(sides: &mut BTreeMap<u64, u32>, faces: &[Corners], side: usize) -> Result<(), OutOfMemory>
-    requires short { length faces.now ≤ 1048576 }
+    requires short { length faces.now ≤ MOST_FACES }
     requires in_range { side < 3 * length faces.now }
     requires noted { AreNoted (net_of faces.now) side sides.old }
     ensures { OnOk result (AreNoted (net_of faces.now) (side + 1) sides.new) }
@@ -74,7 +75,7 @@ pub(crate) fn ends(p: u32, q: u32) -> u64
 
 // The side from p to q, if it stands once.
 fn alone(sides: &BTreeMap<u64, u32>, p: u32, q: u32) -> Option<u32>
-    ensures { (m : Net) (n : ℕ) → n ≤ 3145728 → AreNoted m n sides.now
+    ensures { (m : Net) (n : ℕ) → n ≤ MOST_SIDES → AreNoted m n sides.now
         → MatchOption result ((v : ℕ) → IsAlone m n (ends_key p q) v → ⊥) (λ v. IsAlone m n (ends_key p q) v) }
 {
     match sides.get(&ends(p, q)) {

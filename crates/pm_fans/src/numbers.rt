@@ -1,5 +1,6 @@
 //! The new vertices, by their heads: they are numbered in the order of the heads' keys.
 ghost use Rattle.std.specs.Prelude.{◌≡◌, ℕ, ◌+◌, ◌*◌, ◌<◌, ◌≤◌, Some, length, slice_index, IfOk, OnOk, MatchBool};
+ghost use Rattle.pm_base.specs.declared.limits.TheConstants.{MOST_FACES, MOST_SIDES};
 ghost use Rattle.pm_base.specs.Sides.{net_of};
 ghost use Rattle.pm_fans.specs.Heads.{at, HasHead};
 ghost use Rattle.pm_fans.specs.HeadKeys.{order_key, side_in, AreCollected, AreHeadKeys, ArePlaces, new_of, AreRenamed};
@@ -19,7 +20,7 @@ pub(crate) fn head_keys(
     glued: &[Option<u32>],
     heads: &[Option<u32>],
 ) -> Result<Vec<u64>, OutOfMemory>
-    requires short { length faces.now ≤ 1048576 }
+    requires short { length faces.now ≤ MOST_FACES }
     requires glued { length glued.now ≡ 3 * length faces.now }
     requires heads { length heads.now ≡ 3 * length faces.now }
     ensures { IfOk result (λ keys. AreHeadKeys (net_of faces.now) glued.now heads.now keys.items) }
@@ -40,7 +41,7 @@ fn put_head(
     heads: &[Option<u32>],
     side: usize,
 ) -> Result<(), OutOfMemory>
-    requires short { length faces.now ≤ 1048576 }
+    requires short { length faces.now ≤ MOST_FACES }
     requires in_range { side < 3 * length faces.now }
     requires glued { length glued.now ≡ 3 * length faces.now }
     requires heads { length heads.now ≡ 3 * length faces.now }
@@ -70,7 +71,7 @@ fn is_head(heads: &[Option<u32>], side: usize) -> bool
 fn key(faces: &[Corners], glued: &[Option<u32>], side: usize) -> u64
     requires in_range { side < 3 * length faces.now }
     requires glued { length glued.now ≡ 3 * length faces.now }
-    requires short { length faces.now ≤ 1048576 }
+    requires short { length faces.now ≤ MOST_FACES }
     ensures { result ≡ order_key (net_of faces.now) glued.now side }
 {
     let closed = u64::from(glued[side].is_some());
@@ -86,7 +87,7 @@ fn side_of(key: u64) -> usize
 
 /// For each side that is a head, the place of its key. O(F) for F faces.
 pub(crate) fn key_places(alloc: Global, keys: &[u64], sides: usize) -> Result<Vec<u32>, OutOfMemory>
-    requires few { length keys.now ≤ 3145728 }
+    requires few { length keys.now ≤ MOST_SIDES }
     requires in_range { (i : ℕ) → i < length keys.now → side_in (slice_index keys.now i) < sides }
     requires apart { (i j : ℕ) → i < j → j < length keys.now
         → side_in (slice_index keys.now i) ≡ side_in (slice_index keys.now j) → ⊥ }

@@ -1,11 +1,9 @@
 //! The sides of a list of faces. Side `3f + i` of face `f` runs from corner `i` to the face's next corner.
 ghost use Rattle.std.specs.Prelude.{◌≡◌, ◌*◌, ◌<◌, ◌≤◌, length};
+ghost use Rattle.pm_base.specs.declared.limits.TheConstants.{MOST_FACES, MOST_SIDES};
 ghost use Rattle.pm_base.specs.Sides.{next as next_of, prev as prev_of, to as to_of, net_of};
 
 use pm_base::Corners;
-
-/// The most sides of a list of faces: three a face.
-pub(crate) const MOST_SIDES: usize = 3_145_728;
 
 /// The side that follows in the same face.
 #[tactic(auto, unfolding(pm_base::specs::Sides::next))]
@@ -41,7 +39,7 @@ pub(crate) fn from(faces: &[Corners], side: usize) -> u32
 
 /// The vertex to which a side runs.
 pub(crate) fn to(faces: &[Corners], side: usize) -> u32
-    requires short { length faces.now ≤ 1048576 }
+    requires short { length faces.now ≤ MOST_FACES }
     requires in_range { side < 3 * length faces.now }
     ensures { result ≡ to_of (net_of faces.now) side }
 {
