@@ -2,6 +2,7 @@
 //! Heckbert (1997) solve for the least of all places, and fall back on these three where that fails.
 ghost use Rattle.std.specs.Prelude.{◌≡◌, ◌<◌, ◌≤◌, ◌^◌, List, pos, ◌+ℤ◌, unsigned_abs};
 ghost use Rattle.std.specs.Int.{int_div_euclid};
+ghost use Rattle.pm_base.specs.declared.limits.TheConstants.{GREATEST_COORDINATE};
 ghost use Rattle.pm_quadric.specs.Planes.{Plane, squares_of};
 ghost use Rattle.pm_quadric.specs.Sums.{StandsFor};
 ghost use Rattle.pm_quadric.specs.Candidates.{midpoint, least_place, IsLeast};
@@ -11,10 +12,10 @@ use pm_base::Point;
 
 // Half the sum of two coordinates, rounded down.
 fn middle(t: i32, u: i32) -> i32
-    requires t_small { unsigned_abs t ≤ 32767 }
-    requires u_small { unsigned_abs u ≤ 32767 }
+    requires t_small { unsigned_abs t ≤ GREATEST_COORDINATE }
+    requires u_small { unsigned_abs u ≤ GREATEST_COORDINATE }
     ensures value { result ≡ int_div_euclid (t +ℤ u) (pos 2) }
-    ensures small { unsigned_abs result ≤ 32767 }
+    ensures small { unsigned_abs result ≤ GREATEST_COORDINATE }
 {
     (t + u).div_euclid(2)
 }

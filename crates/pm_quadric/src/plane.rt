@@ -1,5 +1,6 @@
 //! The numbers of a face's plane, and the products of two of them.
 ghost use Rattle.std.specs.Prelude.{◌≡◌, ◌≤◌, ◌^◌, pos, ◌+ℤ◌, ◌*ℤ◌, neg_ℤ, unsigned_abs};
+ghost use Rattle.pm_base.specs.declared.limits.TheConstants.{GREATEST_COORDINATE};
 ghost use Rattle.pm_base.specs.Geometry.{IsNormal};
 
 use pm_base::{Normal, Point};
@@ -7,7 +8,7 @@ use pm_base::{Normal, Point};
 // A number of a normal times a coordinate.
 fn component(a: i64, x: i32) -> i64
     requires a_small { unsigned_abs a ≤ 8589410312 }
-    requires x_small { unsigned_abs x ≤ 32767 }
+    requires x_small { unsigned_abs x ≤ GREATEST_COORDINATE }
     ensures value { result ≡ a *ℤ x }
     ensures small { unsigned_abs result ≤ 2 ^ 48 }
 {

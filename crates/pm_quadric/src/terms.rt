@@ -1,5 +1,6 @@
 //! The terms of a quadric's polynomial, and their sums. The bounds leave each sum within 128 bits.
 ghost use Rattle.std.specs.Prelude.{◌≡◌, ◌≤◌, ◌*◌, ◌^◌, ◌+ℤ◌, ◌*ℤ◌, unsigned_abs};
+ghost use Rattle.pm_base.specs.declared.limits.TheConstants.{GREATEST_COORDINATE};
 
 pub(crate) fn add_three(a: i128, b: i128, c: i128) -> i128
     requires a_small { unsigned_abs a ≤ 2 ^ 122 }
@@ -23,8 +24,8 @@ pub(crate) fn add_four(a: i128, b: i128, c: i128, d: i128) -> i128
 
 // The product of two coordinates.
 fn product(x: i32, y: i32) -> i32
-    requires x_small { unsigned_abs x ≤ 32767 }
-    requires y_small { unsigned_abs y ≤ 32767 }
+    requires x_small { unsigned_abs x ≤ GREATEST_COORDINATE }
+    requires y_small { unsigned_abs y ≤ GREATEST_COORDINATE }
     ensures value { result ≡ x *ℤ y }
     ensures small { unsigned_abs result ≤ 1073676289 }
 {
@@ -43,8 +44,8 @@ fn times(coefficient: i128, factor: i32) -> i128
 // A coefficient times two coordinates.
 pub(crate) fn quadratic(coefficient: i128, x: i32, y: i32) -> i128
     requires coefficient_small { unsigned_abs coefficient ≤ 2 ^ 89 }
-    requires x_small { unsigned_abs x ≤ 32767 }
-    requires y_small { unsigned_abs y ≤ 32767 }
+    requires x_small { unsigned_abs x ≤ GREATEST_COORDINATE }
+    requires y_small { unsigned_abs y ≤ GREATEST_COORDINATE }
     ensures value { result ≡ coefficient *ℤ (x *ℤ y) }
     ensures small { unsigned_abs result ≤ 2 ^ 122 }
 {
@@ -54,7 +55,7 @@ pub(crate) fn quadratic(coefficient: i128, x: i32, y: i32) -> i128
 // A coefficient times a coordinate.
 pub(crate) fn linear(coefficient: i128, x: i32) -> i128
     requires coefficient_small { unsigned_abs coefficient ≤ 2 ^ 106 }
-    requires x_small { unsigned_abs x ≤ 32767 }
+    requires x_small { unsigned_abs x ≤ GREATEST_COORDINATE }
     ensures value { result ≡ coefficient *ℤ x }
     ensures small { unsigned_abs result ≤ 2 ^ 122 }
 {
