@@ -1,6 +1,7 @@
 -- The lines that come out of a text, however it is cut into pieces.
 use Rattle.std.specs.Prelude.{ℕ, ◌≡◌, ◌+◌, ◌<◌, ◌≤◌, List, [], ◌∷◌, ◌++◌, true, length, drop, if◌then◌else◌}
 use Rattle.std.specs.List.{All, concat}
+use Rattle.obj_lines.specs.declared.limits.TheConstants.{MOST_LINE_BYTES}
 use Rattle.obj_lines.specs.declared.state.LineState.TheVariants as states
 use Rattle.obj_lines.specs.Text.{until, lines, content}
 use Rattle.obj_lines.specs.Feeding.{Feeding, begun, is_line, open_line, last_line, end_state, fed_state, fed_used, fed, finished, number}
@@ -36,9 +37,9 @@ pub data Feeds : Feeding → List (List ℕ) → List Line → Feeding → Type 
 abbrev pub AnyCutting : Type 0
 AnyCutting = (pieces : List (List ℕ)) (ls : List Line) (g : Feeding) → Feeds begun pieces ls g → ls ++ last_out g ≡ numbered 1 (lines (concat pieces))
 
--- A line has no more than 65,536 bytes before its LF.
+-- A line has no more bytes before its LF than a line may have.
 abbrev pub IsShort : List ℕ → Type 0
-IsShort l = length (until 10 l) ≤ 65536
+IsShort l = length (until 10 l) ≤ MOST_LINE_BYTES
 
 -- Of the lines of the bytes, those came out that stand before the first with too many bytes, which has the number n.
 pub record StopsAt (out : List Line) (n : ℕ) (bytes : List ℕ) : Type 0 where
@@ -48,7 +49,7 @@ pub record StopsAt (out : List Line) (n : ℕ) (bytes : List ℕ) : Type 0 where
   pub are : lines bytes ≡ before ++ long ∷ more
   pub came : out ≡ numbered 1 before
   pub short : All IsShort before
-  pub too_long : 65536 < length (until 10 long)
+  pub too_long : MOST_LINE_BYTES < length (until 10 long)
   pub number : n ≡ length before + 1
 
 -- For any cutting, and whatever bytes follow, a line that is told to be too long is the first such line of the bytes.

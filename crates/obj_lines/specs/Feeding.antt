@@ -1,5 +1,6 @@
 -- What contracts see of the lines of a text that comes in pieces.
 use Rattle.std.specs.Prelude.{ℕ, ◌+◌, ◌-◌, List, [], ◌++◌, Bool, true, false, length, nat_lt, max, if◌then◌else◌}
+use Rattle.obj_lines.specs.declared.limits.TheConstants.{MOST_LINE_BYTES}
 use Rattle.obj_lines.specs.declared.state.LineState.{LineState}
 use Rattle.obj_lines.specs.declared.state.LineState.TheVariants as states
 use Rattle.obj_lines.specs.Text.{until, content, is_continued}
@@ -60,9 +61,9 @@ number f = if is_open f.state f.text then f.whole + 1 else max 1 f.whole
 abbrev pub line_state : List ℕ → LineState
 line_state text = if is_continued (content text) then states.Continued else states.Whole
 
--- The line that goes on with this piece has more than 65,536 bytes before its LF.
+-- The line that goes on with this piece has too many bytes before its LF.
 abbrev pub is_too_long : List ℕ → List ℕ → Bool
-is_too_long line piece = nat_lt 65536 (length line + length (until 10 piece))
+is_too_long line piece = nat_lt MOST_LINE_BYTES (length line + length (until 10 piece))
 
 -- An LF stands in the piece.
 abbrev pub has_end : List ℕ → Bool
@@ -75,10 +76,10 @@ fed_state line piece =
     else if has_end piece then line_state (line ++ until 10 piece)
     else states.Partial
 
--- How many bytes of the piece are taken: up to byte 65,537 of the line, up to the LF, or all.
+-- How many bytes of the piece are taken: up to the first byte too many of the line, up to the LF, or all.
 unfoldable pub fed_used : List ℕ → List ℕ → ℕ
 fed_used line piece =
-    if is_too_long line piece then 65537 - length line
+    if is_too_long line piece then MOST_LINE_BYTES + 1 - length line
     else if has_end piece then length (until 10 piece) + 1
     else length piece
 

@@ -2,11 +2,13 @@
 #![tactic(auto)]
 
 mod cutting;
+mod limits;
 mod lines;
 mod state;
 mod text;
 
 pub use cutting::any_cutting;
+pub use limits::{MOST_LINE_BYTES, MOST_TEXT_BYTES};
 pub use lines::Lines;
 pub use state::{Fed, LineState};
 pub use text::{is_continued, until};

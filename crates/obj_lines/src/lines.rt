@@ -1,15 +1,14 @@
 //! The lines of a text that comes in pieces.
 ghost use Rattle.std.specs.Prelude.{◌≡◌, ◌+◌, ◌<◌, ◌≤◌, [], length, true, vec_capacity, IfOk};
+ghost use Rattle.obj_lines.specs.declared.limits.TheConstants.{MOST_TEXT_BYTES};
 ghost use Rattle.obj_lines.specs.Feeding.{begun, is_going, is_line, opened, open_line, last_line, line_state, end_state, fed, fed_state, fed_used, finished, number};
 
 use crate::OutOfMemory;
+use crate::limits::MOST_LINE_BYTES;
 use crate::state::{Fed, LineState};
 use crate::text::{content_of, is_continued, until};
 use std::alloc::Global;
 use std::marker::Model;
-
-// The greatest number of bytes before a line's LF.
-const MOST: usize = 65_536;
 
 /// The lines of a text that comes in pieces of any size, one line at a time.
 ///
@@ -26,13 +25,14 @@ pub struct Lines {
 
 impl Model for Lines {
     ghost use Rattle.std.specs.Prelude.{◌+◌, ◌≤◌, if◌then◌else◌, length, vec_len, vec_capacity};
+    ghost use Rattle.obj_lines.specs.declared.limits.TheConstants.{MOST_LINE_BYTES, MOST_TEXT_BYTES};
     ghost use Rattle.obj_lines.specs.Feeding.{Feeding, is_open};
 
     ghost Value = { Feeding };
 
     ghost view = { λ s. record { text = s.text.items; state = s.state; whole = s.whole; taken = s.taken } };
 
-    ghost invariant = { λ s. (vec_len s.text ≤ 65536) × (65536 ≤ vec_capacity s.text) × (s.whole + (if is_open s.state s.text.items then 1 else 0) ≤ s.taken) × (s.taken ≤ 1073741824) };
+    ghost invariant = { λ s. (vec_len s.text ≤ MOST_LINE_BYTES) × (MOST_LINE_BYTES ≤ vec_capacity s.text) × (s.whole + (if is_open s.state s.text.items then 1 else 0) ≤ s.taken) × (s.taken ≤ MOST_TEXT_BYTES) };
 }
 
 // Drops a line that is whole: the next one begins.
@@ -58,12 +58,12 @@ fn line_state(text: &[u8]) -> LineState
 }
 
 impl Lines {
-    /// Takes the memory for a line, 65,536 bytes. No later call takes any.
+    /// Takes the memory for a line, `MOST_LINE_BYTES` bytes. No later call takes any.
     pub fn new(alloc: Global) -> Result<Lines, OutOfMemory>
         ensures { IfOk result (λ s. s ≡ begun) }
     {
         Ok(Lines {
-            text: Vec::with_capacity(alloc, MOST)?,
+            text: Vec::with_capacity(alloc, MOST_LINE_BYTES)?,
             state: LineState::Partial,
             whole: 0,
             taken: 0,
@@ -71,11 +71,11 @@ impl Lines {
     }
 
     /// Takes the bytes of a piece up to its first LF, and that LF: what is left of the piece is for the next call. No
-    /// call comes after one that answered `TooLong`, and no more than 1,073,741,824 bytes are fed in all.
+    /// call comes after one that answered `TooLong`, and no more than `MOST_TEXT_BYTES` bytes are fed in all.
     #[tactic(auto, unfolding(crate::specs::Feeding::fed, crate::specs::Feeding::fed_state, crate::specs::Feeding::fed_used))]
     pub fn feed(&mut self, piece: &[u8]) -> Fed
         requires going { is_going self.old.state ≡ true }
-        requires room { self.old.taken + length piece.now ≤ 1073741824 }
+        requires room { self.old.taken + length piece.now ≤ MOST_TEXT_BYTES }
         ensures state { result.state ≡ fed_state (open_line self.old) piece.now }
         ensures used { result.used ≡ fed_used (open_line self.old) piece.now }
         ensures within { result.used ≤ length piece.now }
@@ -84,8 +84,8 @@ impl Lines {
     {
         begin(&mut self.text, self.state);
         let front = until(b'\n', piece);
-        if front.len() > MOST - self.text.len() {
-            let used = MOST + 1 - self.text.len();
+        if front.len() > MOST_LINE_BYTES - self.text.len() {
+            let used = MOST_LINE_BYTES + 1 - self.text.len();
             self.state = LineState::TooLong;
             self.taken += used as u32;
             return Fed {
