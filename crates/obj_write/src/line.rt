@@ -1,5 +1,6 @@
 //! The line of a point, and the line of a face.
 ghost use Rattle.std.specs.Prelude.{◌≡◌, ◌<◌, ◌≤◌, ◌+◌, ◌++◌, ◌^◌, length};
+ghost use Rattle.pm_base.specs.declared.limits.TheConstants.{MOST_VERTICES};
 ghost use Rattle.pm_base.specs.Canonical.{last_digits, coordinate_text, point_line, corner_line};
 
 use pm_base::{Corners, Point};
@@ -75,9 +76,9 @@ pub fn put_point(line: &mut Line, digits: u32, point: &Point)
 /// Makes the line that of a face. In the text the vertices are numbered from 1.
 #[tactic(auto, unfolding(pm_base::specs::Canonical::corner_line))]
 pub fn put_corners(line: &mut Line, corners: &Corners)
-    requires a { corners.now.a < 1048576 }
-    requires b { corners.now.b < 1048576 }
-    requires c { corners.now.c < 1048576 }
+    requires a { corners.now.a < MOST_VERTICES }
+    requires b { corners.now.b < MOST_VERTICES }
+    requires c { corners.now.c < MOST_VERTICES }
     ensures { line.new ≡ corner_line corners.now }
 {
     line.clear();
