@@ -1,6 +1,6 @@
 -- The points of a mesh that a text spells are on the grid.
 use Rattle.std.proofs.Common.{◌≡◌, ℕ, ◌≤◌, not, ◌==◌, ◌||◌, nat_lt, ℤ, List, [], ◌∷◌, length, drop, Result, Ok, Err, IfOk, if◌then◌else◌, subst, arith}
-use Rattle.std.specs.Prelude.{unsigned_abs}
+use Rattle.std.specs.Prelude.{nat_le, unsigned_abs}
 use Rattle.std.specs.List.{All}
 use Rattle.std.proofs.lemmas.Bool.Decides.{nat_tests}
 use Rattle.std.proofs.lemmas.List.Elements.{All-nil, All-push}
@@ -14,7 +14,7 @@ use Rattle.obj_read.specs.declared.found.Found.TheVariants as found
 use Rattle.obj_read.specs.Fields.{fields}
 use Rattle.obj_read.specs.Coordinates.{with_sign, without_sign, is_negative, is_number, are_zeros, decimals, magnitude, coordinate}
 use Rattle.obj_read.specs.Indices.{index, index_text}
-use Rattle.obj_read.specs.Judged.{is_full, vertex_of, face_of, vertex_line, face_line, fields_found, line_found}
+use Rattle.obj_read.specs.Judged.{vertex_of, face_of, vertex_line, face_line, fields_found, line_found}
 use Rattle.obj_read.specs.Fits.{with_found}
 use Rattle.obj_read.specs.Meaning.{SoFar, Refused, nothing_yet, is_past, is_long, judged, and_line, then_lines, meaning_from, meaning_of}
 use Rattle.obj_read.proofs.DecimalLaws.{with_sign_abs}
@@ -47,15 +47,15 @@ unfolding vertex_of IsPlaced
 vertex_placed d n x y z =
     then_gives _ _ _ _ (coordinate_small d x) (λ a small_a. then_gives _ _ _ _ (coordinate_small d y) (λ b small_b. then_gives _ _ _ _ (coordinate_small d z) (λ c small_c.
     let v = found.Vertex (record { x = a; y = b; z = c }) in
-    unless IsPlaced (is_full n) faults.TooMany (Ok v) (λ room. given IsPlaced v (small_a, small_b, small_c)))))
+    unless IsPlaced (nat_le 1048576 n) faults.TooMany (Ok v) (λ room. given IsPlaced v (small_a, small_b, small_c)))))
 
 face_placed : (n k : ℕ) (x y z : List ℕ) → Gives IsPlaced (face_of n k x y z)
 unfolding face_of IsPlaced
 face_placed n k x y z =
     then_gives _ _ _ _ (anything (index n (index_text x))) (λ a known_a. then_gives _ _ _ _ (anything (index n (index_text y))) (λ b known_b. then_gives _ _ _ _ (anything (index n (index_text z))) (λ c known_c.
     let f = found.Face (record { a = a; b = b; c = c }) in
-    unless IsPlaced (a == b || b == c || c == a) faults.RepeatedCorner (if is_full k then Err faults.TooMany else Ok f)
-    (λ apart. unless IsPlaced (is_full k) faults.TooMany (Ok f) (λ room. given IsPlaced f tt)))))
+    unless IsPlaced (a == b || b == c || c == a) faults.RepeatedCorner (if nat_le 1048576 k then Err faults.TooMany else Ok f)
+    (λ apart. unless IsPlaced (nat_le 1048576 k) faults.TooMany (Ok f) (λ room. given IsPlaced f tt)))))
 
 vertex_line_placed : (d n : ℕ) (fs : List (List ℕ)) → Gives IsPlaced (vertex_line d n fs)
 vertex_line_placed d n [] = record { so = tt }

@@ -2,6 +2,7 @@
 -- 48 is the digit 0.
 use Rattle.std.specs.Prelude.{ℕ, ◌+◌, ◌*◌, ◌^◌, List, [], ◌∷◌, ◌++◌, Bool, false, not, ◌==◌, ◌&&◌, ◌||◌, nat_lt, length, take, drop, replicate, ℤ, pos, neg_ℤ, Result, Ok, Err, if◌then◌else◌}
 use Rattle.std.specs.List.{list_all}
+use Rattle.pm_base.specs.declared.limits.TheConstants.{GREATEST_COORDINATE}
 use Rattle.pm_io.specs.Digits.{are_digits, value}
 use Rattle.obj_lines.specs.Text.{until}
 use Rattle.obj_read.specs.declared.fault.ObjFault.{ObjFault}
@@ -52,5 +53,5 @@ unfoldable pub coordinate : ℕ → List ℕ → Result ℤ ObjFault
 coordinate digits field =
     if not (is_number (without_sign field)) then Err faults.BadNumber
     else if not (are_zeros (drop digits (decimals (without_sign field)))) then Err faults.NotWhole
-    else if nat_lt 32767 (magnitude digits (without_sign field)) then Err faults.OutOfRange
+    else if nat_lt GREATEST_COORDINATE (magnitude digits (without_sign field)) then Err faults.OutOfRange
     else Ok (with_sign (is_negative field) (magnitude digits (without_sign field)))

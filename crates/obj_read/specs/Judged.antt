@@ -1,5 +1,6 @@
 -- A line judged alone: what it gives, or its first fault. Byte 118 is `v`, and 102 is `f`.
-use Rattle.std.specs.Prelude.{ℕ, List, [], ◌∷◌, Bool, ◌==◌, ◌||◌, nat_le, Result, Ok, Err, if◌then◌else◌}
+use Rattle.std.specs.Prelude.{ℕ, List, [], ◌∷◌, ◌==◌, ◌||◌, nat_le, Result, Ok, Err, if◌then◌else◌}
+use Rattle.pm_base.specs.declared.limits.TheConstants.{MOST_FACES, MOST_VERTICES}
 use Rattle.obj_lines.specs.Text.{is_continued}
 use Rattle.obj_read.specs.declared.fault.ObjFault.{ObjFault}
 use Rattle.obj_read.specs.declared.fault.ObjFault.TheVariants as faults
@@ -15,21 +16,17 @@ abbrev pub ◌>>=◌ : {A B : Type 0} → Result A ObjFault → (A → Result B 
 (Ok x) >>= f = f x
 (Err e) >>= f = Err e
 
--- There is no room for one more vertex, or face, after so many.
-abbrev pub is_full : ℕ → Bool
-is_full n = nat_le 1048576 n
-
 -- The vertex with these three fields.
 unfoldable pub vertex_of : ℕ → ℕ → List ℕ → List ℕ → List ℕ → Result Found ObjFault
 vertex_of digits vertices a b c = coordinate digits a >>= λ x. coordinate digits b >>= λ y. coordinate digits c >>= λ z.
-    if is_full vertices then Err faults.TooMany
+    if nat_le MOST_VERTICES vertices then Err faults.TooMany
     else Ok (found.Vertex (record { x = x; y = y; z = z }))
 
 -- The face with these three fields.
 unfoldable pub face_of : ℕ → ℕ → List ℕ → List ℕ → List ℕ → Result Found ObjFault
 face_of vertices faces x y z = index vertices (index_text x) >>= λ a. index vertices (index_text y) >>= λ b. index vertices (index_text z) >>= λ c.
     if a == b || b == c || c == a then Err faults.RepeatedCorner
-    else if is_full faces then Err faults.TooMany
+    else if nat_le MOST_FACES faces then Err faults.TooMany
     else Ok (found.Face (record { a = a; b = b; c = c }))
 
 -- The fields after `v`. Those after the third aren't read.

@@ -1,5 +1,6 @@
 -- The meaning of a text in the syntax of Wavefront OBJ: its mesh, or its first line with a fault.
 use Rattle.std.specs.Prelude.{ℕ, ◌+◌, List, [], ◌∷◌, Bool, min, nat_lt, length, Option, Some, None, Result, Ok, Err, if◌then◌else◌}
+use Rattle.obj_lines.specs.declared.limits.TheConstants.{MOST_LINE_BYTES, MOST_TEXT_BYTES}
 use Rattle.pm_base.specs.Meshes.{Mesh}
 use Rattle.obj_lines.specs.Text.{until, lines, content}
 use Rattle.obj_read.specs.declared.fault.ObjFault.{ObjFault}
@@ -23,13 +24,14 @@ pub record Refused : Type 0 where
   pub line : ℕ
   pub place : Option ℕ
 
--- Byte 1,073,741,825 of the text is one of the first 65,537 bytes of a line of this length after so many bytes.
+-- The first byte too many of the text is among the bytes of a line of this length after so many bytes, up to the first
+-- too many of the line.
 abbrev pub is_past : ℕ → ℕ → Bool
-is_past bytes length = nat_lt 1073741824 (bytes + min length 65537)
+is_past bytes length = nat_lt MOST_TEXT_BYTES (bytes + min length (MOST_LINE_BYTES + 1))
 
--- The line has more than 65,536 bytes before its LF.
+-- The line has too many bytes before its LF.
 abbrev pub is_long : List ℕ → Bool
-is_long line = nat_lt 65536 (length (until 10 line))
+is_long line = nat_lt MOST_LINE_BYTES (length (until 10 line))
 
 -- The line has its LF.
 abbrev pub is_ended : List ℕ → Bool
@@ -46,8 +48,8 @@ judged s line =
 -- line, else the line's LF. The end of input shows it where there is none.
 unfoldable pub place : ℕ → List ℕ → Option ℕ
 place bytes line =
-    if is_past bytes (length line) then Some 1073741825
-    else if is_long line then Some (bytes + 65537)
+    if is_past bytes (length line) then Some (MOST_TEXT_BYTES + 1)
+    else if is_long line then Some (bytes + (MOST_LINE_BYTES + 1))
     else if is_ended line then Some (bytes + length line)
     else None
 

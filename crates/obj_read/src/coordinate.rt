@@ -6,10 +6,11 @@ ghost use Rattle.obj_read.specs.Coordinates.{is_negative, without_sign, whole_pa
 
 use crate::fault::ObjFault;
 use obj_lines::until;
+use pm_base::GREATEST_COORDINATE;
 use pm_io::{are_digits, value_up_to};
 
 // The greatest absolute value of a coordinate.
-const GREATEST: u64 = 32_767;
+const GREATEST: u64 = GREATEST_COORDINATE as u64;
 
 /// Whether a minus sign stands at the front.
 pub fn is_negative(field: &[u8]) -> bool
@@ -69,7 +70,7 @@ fn are_zeros(digits: &[u8]) -> bool
 }
 
 fn with_sign(negative: bool, n: u64) -> i32
-    requires { n ≤ 32767 }
+    requires { n ≤ GREATEST_COORDINATE }
     ensures value { result ≡ with_sign negative n }
     ensures range { is_coordinate result ≡ true }
 {

@@ -10,10 +10,7 @@ use crate::fields::{is_letter, next_field};
 use crate::found::Found;
 use crate::indices::index;
 use obj_lines::is_continued;
-use pm_base::{Corners, Point};
-
-// The greatest number of vertices, and of faces.
-const MOST: u32 = 1_048_576;
+use pm_base::{Corners, MOST_FACES, MOST_VERTICES, Point};
 
 #[tactic(auto, unfolding(crate::specs::Judged::vertex_of))]
 fn vertex_of(
@@ -31,7 +28,7 @@ fn vertex_of(
     let x = coordinate(digits, x)?;
     let y = coordinate(digits, y)?;
     let z = coordinate(digits, z)?;
-    if vertices >= MOST {
+    if vertices >= MOST_VERTICES {
         return Err(ObjFault::TooMany);
     }
     // Each of the three is in range, so there is a point.
@@ -52,7 +49,7 @@ fn face_of(vertices: u32, faces: u32, a: &[u8], b: &[u8], c: &[u8]) -> Result<Fo
     if a == b || b == c || c == a {
         return Err(ObjFault::RepeatedCorner);
     }
-    if faces >= MOST {
+    if faces >= MOST_FACES {
         return Err(ObjFault::TooMany);
     }
     Ok(Found::Face(Corners { a, b, c }))

@@ -16,12 +16,9 @@ use crate::OutOfMemory;
 use crate::fault::{ObjFail, ObjFault};
 use crate::found::Found;
 use crate::judge::line_found;
-use obj_lines::{LineState, Lines};
+use obj_lines::{LineState, Lines, MOST_TEXT_BYTES};
 use pm_base::Mesh;
 use pm_io::{Source, Taker};
-
-// The greatest number of bytes of a text.
-const MOST: u32 = 1_073_741_824;
 
 /// How far the reading has come: the bytes taken, those before the open line, and that line's number.
 #[derive(Clone, Copy, Debug, PartialEq, Eq)]
@@ -94,7 +91,7 @@ pub fn step<S: Source>(
             if piece.is_empty() {
                 return Ok(false);
             }
-            let room = (MOST - progress.taken) as usize;
+            let room = (MOST_TEXT_BYTES - progress.taken) as usize;
             if room == 0 {
                 return Err(ObjFail::Fault {
                     fault: ObjFault::TooMany,
