@@ -1,6 +1,7 @@
 -- The rules of shape. Each unit of a hierarchy is judged by those before it: its fault is the first rule that it breaks.
 use Rattle.std.specs.Prelude.{◌≡◌, ℕ, ◌+◌, ◌-◌, ◌*◌, List, [], ◌∷◌, ◌++◌, length, map, sum, Bool, true, false, not, ◌&&◌, ◌||◌, nat_lt, nat_le, ◌==◌, is_some, Option, Some, None, if◌then◌else◌}
 use Rattle.std.specs.List.{flat_map}
+use Rattle.pm_base.specs.declared.limits.TheConstants.{MOST_FACES, MOST_VERTICES}
 use Rattle.pm_base.specs.Place.{is_place, place_of}
 use Rattle.pm_base.specs.declared.ids.Side.{Side}
 use Rattle.pm_base.specs.Counts.{one_if}
@@ -16,10 +17,10 @@ use Rattle.pm_forest.specs.Marks.{is_used}
 use Rattle.pm_forest.specs.Forest.{Hierarchy, Interval, within, widths_of, root_of, leaf_count, node_count, record_count, s_of, t_of, u_of, interval_of, splitter_of}
 use Rattle.pm_forest.specs.Faces.{faces_of, first_face, face_count, revealed_by}
 
--- At most 1,048,576 leaves and base faces; roots are among the leaves, and there is one if there is a leaf; each record
--- adds one node without children, so there are as many as leaves that aren't roots.
+-- No more leaves and base faces than a mesh can have vertices and faces; roots are among the leaves, and there is one if
+-- there is a leaf; each record adds one node without children, so there are as many as leaves that aren't roots.
 unfoldable pub counts_are_bad : Counts → Bool
-counts_are_bad c = nat_lt 1048576 c.leaves || nat_lt 1048576 c.bases || nat_lt c.leaves c.roots || (c.roots == 0 && not (c.leaves == 0)) || not (c.records == c.leaves - c.roots)
+counts_are_bad c = nat_lt MOST_VERTICES c.leaves || nat_lt MOST_FACES c.bases || nat_lt c.leaves c.roots || (c.roots == 0 && not (c.leaves == 0)) || not (c.records == c.leaves - c.roots)
 
 -- The input numbers of the nodes and of the faces so far, in stream order.
 abbrev pub root_inputs : List Root → List ℕ
@@ -40,7 +41,7 @@ vertex_input_is_bad leaves used width input = if width == 1 then (input == 0 || 
 
 -- A face has a number that no earlier face has.
 unfoldable pub face_input_is_bad : List ℕ → ℕ → Bool
-face_input_is_bad used input = input == 0 || nat_lt 1048576 input || is_used used input
+face_input_is_bad used input = input == 0 || nat_lt MOST_FACES input || is_used used input
 
 -- A root's width, where `taken` leaves are those of the `before` roots before it. It is at least 1 and leaves as much
 -- to each root that is still to come, and the last root takes all that is left.
@@ -111,7 +112,7 @@ runs p q s f = runs_from p q s f.a f.b f.c || runs_from p q s f.b f.c f.a || run
 
 -- A new face of the last record of h, the left one or the right one. It has one corner under t, one under u and one
 -- outside s, a left face running from t to u and a right face from u to t; the neighbours that its words name are sides
--- of faces before the record; and there are at most 1,048,576 faces.
+-- of faces before the record; and there are no more faces than a mesh can have.
 unfoldable pub new_face_is_bad : Hierarchy → Bool → Face → ℕ → ℕ → Bool
 new_face_is_bad h left f first second =
     let k = record_count h - 1 in
@@ -121,7 +122,7 @@ new_face_is_bad h left f first second =
     nat_le (leaf_count h) f.a || nat_le (leaf_count h) f.b || nat_le (leaf_count h) f.c
     || not (if left then runs t u s f else runs u t s f)
     || nat_lt (3 * first_face h k) first || nat_lt (3 * first_face h k) second
-    || nat_le 1048576 (face_count h)
+    || nat_le MOST_FACES (face_count h)
 
 -- What is wrong with the next face of the last record of h, which has the faces that came before.
 unfoldable pub new_face_fault : Hierarchy → Bool → Face → ℕ → ℕ → Option Shape

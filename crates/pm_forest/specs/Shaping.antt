@@ -1,5 +1,6 @@
 -- A hierarchy that is being taken in, as contracts see it.
 use Rattle.std.specs.Prelude.{◌≡◌, ◌<◌, ◌≤◌, ℕ, ℤ, ◌+◌, ◌-◌, ◌==◌, List, [], length, Bool, true, false, ◌||◌, not, nat_lt, Option, Some, None, is_some, if◌then◌else◌}
+use Rattle.pm_base.specs.declared.limits.TheConstants.{MOST_FACES}
 use Rattle.pm_base.specs.Place.{place_of}
 use Rattle.pm_base.specs.declared.ids.Side.{Side}
 use Rattle.pm_forest.specs.declared.parts.Counts.{Counts}
@@ -119,7 +120,7 @@ pub record IsShaping (g : Grown) (left_due right_due : Bool) (vertices faces : L
   pub nodes_marked : AreMarked vertices (node_inputs (grown g))
   pub node_flags : length vertices ≡ g.counts.leaves
   pub faces_marked : AreMarked faces (face_inputs (faces_of (grown g)))
-  pub face_flags : length faces ≡ 1048576
+  pub face_flags : length faces ≡ MOST_FACES
 
 -- A record whose faces are due, as contracts see it.
 abbrev pub unfinished : Bool → Bool → Record → Unfinished

@@ -1,5 +1,6 @@
 -- The tables that stand beside a forest that grows.
 use Rattle.std.specs.Prelude.{◌≡◌, ℕ, ◌+◌, ◌*◌, ◌<◌, ◌≤◌, List, [], ◌∷◌, ◌++◌, replicate, length, sum, Bool, false, min, Option, None, Some, is_some, slice_index_or, if◌then◌else◌, ◌⊎◌}
+use Rattle.pm_base.specs.declared.limits.TheConstants.{MOST_FACES, MOST_VERTICES}
 use Rattle.pm_base.specs.Held.{Held}
 use Rattle.pm_base.specs.Counts.{one_if}
 use Rattle.pm_forest.specs.declared.parts.Counts.{Counts}
@@ -85,13 +86,13 @@ units_in p = units p.roots.items p.bases.items p.records.items p.coming
 
 -- As many faces as the limits allow.
 abbrev pub most_faces : Counts → ℕ
-most_faces c = min (c.bases + 2 * c.records) 1048576
+most_faces c = min (c.bases + 2 * c.records) MOST_FACES
 
 -- There is no more of anything than the limits allow, whatever may still come has its room, and the tables are those of
 -- all units so far.
 pub record IsGrowing (p : Parts) : Type 0 where
-  pub leaf_most : p.counts.leaves ≤ 1048576
-  pub base_most : p.counts.bases ≤ 1048576
+  pub leaf_most : p.counts.leaves ≤ MOST_VERTICES
+  pub base_most : p.counts.bases ≤ MOST_FACES
   pub all_leaves : p.counts.roots + p.counts.records ≡ p.counts.leaves
   pub root_most : length p.roots.items ≤ p.counts.roots
   pub root_room : p.counts.roots ≤ length p.roots.items + p.roots.spare
@@ -107,7 +108,7 @@ pub record IsGrowing (p : Parts) : Type 0 where
   pub interval_len : length p.intervals ≡ p.counts.roots + 2 * p.counts.records
   pub splitter_len : length p.splitters ≡ p.counts.roots + 2 * p.counts.records
   pub leaf_node_len : length p.leaf_nodes ≡ p.counts.leaves
-  pub face_most : length p.faces.items ≤ 1048576
+  pub face_most : length p.faces.items ≤ MOST_FACES
   pub face_total : length p.faces.items ≤ length p.bases.items + 2 * record_total p.records.items p.coming
   pub face_room : most_faces p.counts ≤ length p.faces.items + p.faces.spare
   pub revealed_room : most_faces p.counts ≤ length p.faces.items + p.revealed.spare

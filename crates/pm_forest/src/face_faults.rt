@@ -1,5 +1,6 @@
 //! What is wrong with the next face of a record that comes, and with the input numbers of all faces.
 ghost use Rattle.std.specs.Prelude.{if◌then◌else◌, slice_index_or, true, false, ◌≡◌, ◌+◌, ◌-◌, ◌*◌, ◌<◌, ◌≤◌, ◌||◌, ◌&&◌, not, nat_le, length, None, Some, IfSome, is_some};
+ghost use Rattle.pm_base.specs.declared.limits.TheConstants.{MOST_VERTICES};
 ghost use Rattle.pm_forest.specs.Marks.{AreMarked};
 ghost use Rattle.pm_forest.specs.Forest.{Hierarchy, Interval, leaf_count, node_count, record_count, t_of, u_of, interval_of, within};
 ghost use Rattle.pm_forest.specs.Faces.{faces_of, face_count, first_face, revealed_by};
@@ -8,10 +9,10 @@ ghost use Rattle.pm_forest.specs.Shaping.{side_of};
 ghost use Rattle.pm_forest.specs.Tables.{grown};
 
 use crate::faults::next_field;
-use crate::growing::{Growing, MOST};
+use crate::growing::Growing;
 use crate::marks::is_face_input_bad;
 use crate::{Face, Record, Shape};
-use pm_base::Side;
+use pm_base::{MOST_FACES, Side};
 
 fn is_within(leaves: (u32, u32), x: u32) -> bool
     ensures { result ≡ within (record { from = leaves.0; until = leaves.1 }) x }
@@ -40,7 +41,7 @@ fn runs(p: (u32, u32), q: (u32, u32), s: (u32, u32), f: &Face) -> bool
 fn first_face(forest: &Growing, split: &Record) -> u32
     requires { forest.now.coming ≡ Some split.now }
     ensures value { result ≡ first_face (grown forest.now) (record_count forest.now.h) }
-    ensures most { result ≤ 1048576 }
+    ensures most { result ≤ MOST_FACES }
 {
     forest.faces() - u32::from(split.left.is_some()) - u32::from(split.right.is_some())
 }
@@ -84,13 +85,13 @@ fn is_new_face_bad(
     requires coming { forest.now.coming ≡ Some split.now }
     requires node { split.now.s < node_count (grown forest.now) }
     ensures exact { new_face_is_bad (grown forest.now) left f.now first second ≡ result }
-    ensures few { result ≡ false → face_count (grown forest.now) < 1048576 }
+    ensures few { result ≡ false → face_count (grown forest.now) < MOST_FACES }
 {
     if is_out_of_place(forest, split, left, f) {
         return true;
     }
     let sides = 3 * first_face(forest, split);
-    first > sides || second > sides || forest.faces() >= MOST
+    first > sides || second > sides || forest.faces() >= MOST_FACES
 }
 
 /// What is wrong with the next face of the coming record.
@@ -106,9 +107,9 @@ pub fn new_face_fault(
     requires coming { is_some forest.now.coming ≡ true }
     requires node { IfSome forest.now.coming (λ r. r.s < node_count (grown forest.now)) }
     requires marked { AreMarked flags.now (face_inputs (faces_of (grown forest.now))) }
-    requires flags { length flags.now ≡ 1048576 }
+    requires flags { length flags.now ≡ MOST_FACES }
     ensures exact { new_face_fault (grown forest.now) left f.now first second ≡ result }
-    ensures few { result ≡ None → face_count (grown forest.now) < 1048576 }
+    ensures few { result ≡ None → face_count (grown forest.now) < MOST_FACES }
     ensures within { result ≡ None → f.now.input ≤ length flags.now }
 {
     let Some(split) = forest.coming() else {
@@ -136,7 +137,7 @@ fn heads_before(forest: &Growing, f: u32) -> u32
     requires settled { forest.now.coming ≡ None }
     requires face { f < face_count forest.now.h }
     ensures value { result ≡ heads_before (revealed_by forest.now.h f) }
-    ensures most { result ≤ 1048576 }
+    ensures most { result ≤ MOST_VERTICES }
 {
     // There are no more than this, so that the number after one fits.
     let _records = forest.records();

@@ -1,5 +1,6 @@
 //! What is wrong with the next unit, by the rules of shape, over a forest that has those before it.
 ghost use Rattle.std.specs.Prelude.{if◌then◌else◌, sum, OnOk, OnSome, IfNone, true, false, ◌≡◌, ◌+◌, ◌-◌, ◌<◌, ◌≤◌, ◌||◌, ◌&&◌, length, None, Some, IfOk, IfErr, IfSome, is_some};
+ghost use Rattle.pm_base.specs.declared.limits.TheConstants.{MOST_NODES};
 ghost use Rattle.pm_base.specs.Place.{is_place, place_of};
 ghost use Rattle.pm_forest.specs.Marks.{AreMarked};
 ghost use Rattle.pm_forest.specs.Forest.{widths_of, leaf_count, within};
@@ -7,17 +8,17 @@ ghost use Rattle.pm_forest.specs.Rules.{counts_are_bad, width_is_bad, root_input
 ghost use Rattle.pm_forest.specs.Shaping.{next_root, started, SplitFits};
 ghost use Rattle.pm_forest.specs.Tables.{grown};
 
-use crate::growing::{Growing, MOST};
+use crate::growing::Growing;
 use crate::marks::{is_face_input_bad, is_second_input_bad, is_vertex_input_bad};
 use crate::{Child, Counts, Face, Head, Record, Root, Shape};
-use pm_base::Point;
+use pm_base::{MOST_FACES, MOST_VERTICES, Point};
 
 #[tactic(auto, unfolding(crate::specs::Rules::counts_are_bad))]
 pub fn are_counts_bad(c: Counts) -> bool
     ensures { result ≡ counts_are_bad c }
 {
-    c.leaves > MOST
-        || c.bases > MOST
+    c.leaves > MOST_VERTICES
+        || c.bases > MOST_FACES
         || c.roots > c.leaves
         || c.roots == 0 && c.leaves != 0
         || c.records != c.leaves - c.roots
@@ -87,7 +88,7 @@ fn is_base_bad(forest: &Growing, f: &Face) -> bool
 #[tactic(auto, unfolding(crate::specs::Rules::base_fault))]
 pub fn base_fault(forest: &Growing, flags: &[bool], f: &Face) -> Option<Shape>
     requires marked { AreMarked flags.now (face_inputs forest.now.h.bases) }
-    requires flags { length flags.now ≡ 1048576 }
+    requires flags { length flags.now ≡ MOST_FACES }
     ensures exact { base_fault forest.now.h.roots forest.now.h.bases f.now ≡ result }
     ensures within { result ≡ None → f.now.input ≤ length flags.now }
 {
@@ -104,7 +105,7 @@ pub fn base_fault(forest: &Growing, flags: &[bool], f: &Face) -> Option<Shape>
 /// The number of the next input field.
 pub(crate) fn next_field(forest: &Growing) -> u32
     ensures value { result ≡ fields_before (grown forest.now) }
-    ensures most { result ≤ 3145728 }
+    ensures most { result ≤ MOST_NODES + MOST_FACES }
 {
     forest.nodes() + forest.faces()
 }

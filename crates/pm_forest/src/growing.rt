@@ -8,12 +8,9 @@ ghost use Rattle.pm_forest.specs.Rules.{counts_are_bad, with_record};
 ghost use Rattle.pm_forest.specs.Tables.{Grown, grown, WithoutFaces, with_new_face};
 
 use crate::{Counts, Face, FaceList, NewFace, OutOfMemory, Record, Records, Root, Roots};
-use pm_base::Items;
+use pm_base::{Items, MOST_FACES};
 use std::alloc::Global;
 use std::marker::Model;
-
-/// The greatest number of leaves, of base faces and of all faces.
-pub const MOST: u32 = 1_048_576;
 
 /// A forest that grows. Contracts see its limits, its whole units and the record whose faces may still come. Each reader
 /// takes one step.
@@ -124,7 +121,7 @@ impl Growing {
         ensures { IfOk result (λ g. g ≡ record { counts = counts; h = record { roots = []; bases = []; records = [] }; coming = None }) }
     {
         let nodes = counts.roots as usize + 2 * counts.records as usize;
-        let faces = (counts.bases as usize + 2 * counts.records as usize).min(MOST as usize);
+        let faces = (counts.bases as usize + 2 * counts.records as usize).min(MOST_FACES as usize);
         let mut growing = Growing {
             counts,
             roots: Roots::new(alloc),
@@ -211,7 +208,7 @@ impl Growing {
         requires coming { IfSome self.old.coming (λ r. is_some (if left then r.left else r.right) ≡ false) }
         requires there { is_some self.old.coming ≡ true }
         requires in_order { IfSome self.old.coming (λ r. left ≡ true → is_some r.right ≡ false) }
-        requires few { face_count (grown self.old) < 1048576 }
+        requires few { face_count (grown self.old) < MOST_FACES }
         ensures { IfSome self.old.coming (λ r. self.new ≡ record self.old { coming = Some (with_new_face r left face) }) }
     {
         let number = self.records.len() as u32;

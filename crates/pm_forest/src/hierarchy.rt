@@ -1,5 +1,6 @@
 //! Hierarchies that are whole, and their readers.
 ghost use Rattle.std.specs.Prelude.{◌≡◌, ◌+◌, ◌≤◌, ◌<◌, ◌↔◌, None, IfSome, length, slice_index_or};
+ghost use Rattle.pm_base.specs.declared.limits.TheConstants.{MOST_FACES, MOST_NODES, MOST_VERTICES};
 ghost use Rattle.pm_base.specs.Place.{Place};
 ghost use Rattle.pm_forest.specs.Forest.{leaf_count, node_count, record_count, record_at, interval_of, maker_of, splitter_of, no_record};
 ghost use Rattle.pm_forest.specs.Faces.{faces_of, face_count, revealed_by, corners_of, no_corners};
@@ -51,7 +52,7 @@ impl Hierarchy {
     /// How many roots there are.
     pub fn roots(&self) -> u32
         ensures value { result ≡ length self.now.roots }
-        ensures most { result ≤ 1048576 }
+        ensures most { result ≤ MOST_VERTICES }
     {
         self.forest.roots().len() as u32
     }
@@ -59,7 +60,7 @@ impl Hierarchy {
     /// How many leaves there are.
     pub fn leaves(&self) -> u32
         ensures value { result ≡ leaf_count self.now }
-        ensures most { result ≤ 1048576 }
+        ensures most { result ≤ MOST_VERTICES }
     {
         self.forest.counts().leaves
     }
@@ -67,7 +68,7 @@ impl Hierarchy {
     /// How many records there are.
     pub fn records(&self) -> u32
         ensures value { result ≡ record_count self.now }
-        ensures most { result ≤ 1048576 }
+        ensures most { result ≤ MOST_VERTICES }
     {
         self.forest.records().len() as u32
     }
@@ -75,7 +76,7 @@ impl Hierarchy {
     /// How many base faces there are.
     pub fn bases(&self) -> u32
         ensures value { result ≡ length self.now.bases }
-        ensures most { result ≤ 1048576 }
+        ensures most { result ≤ MOST_FACES }
     {
         self.forest.bases().len() as u32
     }
@@ -83,7 +84,7 @@ impl Hierarchy {
     /// How many faces there are in all.
     pub fn faces(&self) -> u32
         ensures value { result ≡ face_count self.now }
-        ensures most { result ≤ 1048576 }
+        ensures most { result ≤ MOST_FACES }
     {
         self.forest.faces()
     }
@@ -91,7 +92,7 @@ impl Hierarchy {
     /// How many nodes there are.
     pub fn nodes(&self) -> u32
         ensures value { result ≡ node_count self.now }
-        ensures most { result ≤ 2097152 }
+        ensures most { result ≤ MOST_NODES }
     {
         self.forest.nodes()
     }

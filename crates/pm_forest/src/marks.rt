@@ -1,5 +1,6 @@
 //! Numbers from 1 that were used, as one flag for each.
 ghost use Rattle.std.specs.Prelude.{false, ◌≡◌, ◌+◌, ◌≤◌, length, [], ◌∷◌, ◌++◌, List, ℕ, IfOk};
+ghost use Rattle.pm_base.specs.declared.limits.TheConstants.{MOST_FACES};
 ghost use Rattle.pm_forest.specs.Marks.{AreMarked};
 ghost use Rattle.pm_forest.specs.Rules.{vertex_input_is_bad, face_input_is_bad};
 
@@ -37,7 +38,7 @@ pub fn is_second_input_bad(flags: &[bool], first: u32, width: u32, input: u32) -
 
 #[tactic(auto, unfolding(crate::specs::Rules::face_input_is_bad))]
 pub fn is_face_input_bad(flags: &[bool], input: u32) -> bool
-    requires { length flags.now ≡ 1048576 }
+    requires { length flags.now ≡ MOST_FACES }
     ensures within { result ≡ false → input ≤ length flags.now }
     ensures exact { (used : List ℕ) → AreMarked flags.now used → result ≡ face_input_is_bad used input }
 {

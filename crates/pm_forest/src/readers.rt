@@ -1,5 +1,6 @@
 //! What is read of a forest that grows.
 ghost use Rattle.std.specs.Prelude.{◌≡◌, ◌+◌, ◌-◌, ◌*◌, ◌<◌, ◌≤◌, length, is_some, if◌then◌else◌, Option, slice_index_or};
+ghost use Rattle.pm_base.specs.declared.limits.TheConstants.{MOST_FACES, MOST_NODES, MOST_VERTICES};
 ghost use Rattle.pm_forest.specs.Forest.{widths, leaf_count, node_count, root_of, interval_of, splitter_of};
 ghost use Rattle.pm_forest.specs.Faces.{faces_of, face_count, revealed_by, no_corners};
 ghost use Rattle.pm_forest.specs.Tables.{grown, IsSingle, leaf_node_of};
@@ -11,8 +12,8 @@ impl Growing {
     /// The limits that the forest was made for.
     pub fn counts(&self) -> Counts
         ensures value { result ≡ self.now.counts }
-        ensures leaves { result.leaves ≤ 1048576 }
-        ensures bases { result.bases ≤ 1048576 }
+        ensures leaves { result.leaves ≤ MOST_VERTICES }
+        ensures bases { result.bases ≤ MOST_FACES }
         ensures all { result.roots + result.records ≡ result.leaves }
     {
         self.counts
@@ -21,7 +22,7 @@ impl Growing {
     /// The roots so far.
     pub fn roots(&self) -> &Roots
         ensures value { result.now.items ≡ self.now.h.roots }
-        ensures most { length result.now.items ≤ 1048576 }
+        ensures most { length result.now.items ≤ MOST_VERTICES }
     {
         &self.roots
     }
@@ -29,7 +30,7 @@ impl Growing {
     /// The base faces so far.
     pub fn bases(&self) -> &FaceList
         ensures value { result.now.items ≡ self.now.h.bases }
-        ensures most { length result.now.items ≤ 1048576 }
+        ensures most { length result.now.items ≤ MOST_FACES }
     {
         &self.bases
     }
@@ -37,7 +38,7 @@ impl Growing {
     /// The whole records so far.
     pub fn records(&self) -> &Records
         ensures value { result.now.items ≡ self.now.h.records }
-        ensures most { length result.now.items ≤ 1048576 }
+        ensures most { length result.now.items ≤ MOST_VERTICES }
     {
         &self.records
     }
@@ -60,7 +61,7 @@ impl Growing {
     /// How many nodes there are, the children of the coming record among them.
     pub fn nodes(&self) -> u32
         ensures value { result ≡ node_count (grown self.now) }
-        ensures most { result ≤ 2097152 }
+        ensures most { result ≤ MOST_NODES }
     {
         let records = self.records.len() + if self.coming.is_some() { 1 } else { 0 };
         (self.roots.len() + 2 * records) as u32
@@ -69,7 +70,7 @@ impl Growing {
     /// How many faces there are, those of the coming record among them.
     pub fn faces(&self) -> u32
         ensures value { result ≡ face_count (grown self.now) }
-        ensures most { result ≤ 1048576 }
+        ensures most { result ≤ MOST_FACES }
     {
         self.faces.len() as u32
     }

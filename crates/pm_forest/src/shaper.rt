@@ -7,10 +7,11 @@ ghost use Rattle.pm_forest.specs.Shaping.{expects, nothing_in, next_root, next_f
 
 use crate::face_faults::{neighbour, new_face_fault, past_fault};
 use crate::faults::{are_counts_bad, base_fault, next_record, next_root};
-use crate::growing::{Growing, MOST};
+use crate::growing::Growing;
 use crate::hierarchy::Hierarchy;
 use crate::marks::{mark, unmarked};
 use crate::{Counts, Face, Head, NewFace, OutOfMemory, Shape, UnitKind};
+use pm_base::MOST_FACES;
 use std::alloc::Global;
 use std::marker::Model;
 
@@ -43,7 +44,7 @@ fn new_shaper(alloc: Global, counts: Counts) -> Result<Shaper, OutOfMemory>
 {
     let forest = Growing::new(alloc, counts)?;
     let vertices_seen = unmarked(alloc, counts.leaves)?;
-    let faces_seen = unmarked(alloc, MOST)?;
+    let faces_seen = unmarked(alloc, MOST_FACES)?;
     Ok(Shaper {
         forest,
         left_due: false,
