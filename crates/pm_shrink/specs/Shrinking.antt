@@ -1,5 +1,6 @@
 -- The mesh that is being simplified, as contracts see it.
 use Rattle.std.specs.Prelude.{◌≡◌, ℕ, ◌+◌, ◌≤◌, true, cond, List, [], length, slice_index_or, ◌↔◌}
+use Rattle.pm_base.specs.declared.limits.TheConstants.{MOST_FACES, MOST_NODES}
 use Rattle.pm_base.specs.Sides.{Net, Stands}
 use Rattle.pm_base.specs.Fans.{IsOrientedManifold}
 use Rattle.pm_links.specs.Lists.{has, IsOnce}
@@ -39,8 +40,8 @@ planes_counted s quadrics v = cond (is_live s v) (slice_index_or quadrics v zero
 
 -- What holds of every `Shrink`.
 pub record IsKept (s : Shrinking) : Type 0 where
-  pub short : length s.surface.faces ≤ 1048576
-  pub room : next_vertex s.surface + face_count_of s.surface ≤ 2097152
+  pub short : length s.surface.faces ≤ MOST_FACES
+  pub room : next_vertex s.surface + face_count_of s.surface ≤ MOST_NODES
   pub surface : IsSurface s.surface
   pub proper : IsProper (net_at s)
   pub manifold : IsOrientedManifold (net_at s)

@@ -1,5 +1,6 @@
 -- How the tables of a `Shrink` hold what contracts see.
 use Rattle.std.specs.Prelude.{◌≡◌, ℕ, ◌+◌, ◌*◌, ◌≤◌, ◌%◌, Option, None, List, length, take, slice_index_or, unwrap_or}
+use Rattle.pm_base.specs.declared.limits.TheConstants.{MOST_NODES}
 use Rattle.pm_base.specs.Place.{Place}
 use Rattle.pm_base.specs.declared.mesh.Corners.{Corners}
 use Rattle.pm_base.specs.Meshes.{Mesh}
@@ -38,7 +39,7 @@ pub record IsRoomy (s : Surface) (places : List (Option Place)) (next left : ℕ
   pub count : left ≡ face_count_of s
   pub made : length s.places ≡ next
   pub room : next + live_count_of s ≤ length places
-  pub most : length places ≤ 2097152
+  pub most : length places ≤ MOST_NODES
   pub fresh : (v : ℕ) → next ≤ v → slice_index_or places v None ≡ None
 
 -- What the type keeps.

@@ -1,5 +1,6 @@
 //! Walks over the corners at one vertex.
 ghost use Rattle.std.specs.Prelude.{◌≡◌, ◌<◌, ◌≤◌, ℕ, ◌↔◌, ◌||◌, true, IsTrue, All, MatchOption, is_none};
+ghost use Rattle.pm_base.specs.declared.limits.TheConstants.{MOST_SIDES};
 ghost use Rattle.pm_base.specs.Sides.{side_count, prev as prev_of, to as to_of, third as third_of, Stands, IsBorder, twin_of};
 ghost use Rattle.pm_runs.specs.Surfaces.{is_live as is_live_in};
 ghost use Rattle.pm_runs.specs.Pairs.{Joined, IsThird, HasFace};
@@ -8,7 +9,7 @@ ghost use Rattle.pm_shrink.specs.Shrinking.{net_at, fan_at, AreCornersAt};
 ghost use Rattle.pm_shrink.specs.Walks.{holds, has_two};
 
 use crate::Shrink;
-use crate::sides::{self, MOST_SIDES, next, prev};
+use crate::sides::{self, next, prev};
 use pm_links::Items;
 
 impl Shrink {

@@ -1,6 +1,7 @@
 //! What is read of a surface that shrinks.
 ghost use Rattle.std.specs.Prelude.{◌≡◌, ◌<◌, ◌≤◌, ◌↔◌, ℕ, true, IfSome, IsTrue};
 ghost use Rattle.std.specs.Option.{option_map};
+ghost use Rattle.pm_base.specs.declared.limits.TheConstants.{MOST_SIDES};
 ghost use Rattle.pm_base.specs.Sides.{side_count, Stands, twin_of};
 ghost use Rattle.pm_links.specs.Lists.{first_of, after};
 ghost use Rattle.pm_runs.specs.Surfaces.{next_vertex as next_vertex_of, is_live as is_live_in, place_at, face_count_of};
@@ -14,7 +15,7 @@ impl Shrink {
     /// What the type keeps, as a law: the call takes no step.
     pub fn invariant(&self)
         ensures kept { IsKept self.now }
-        ensures few_sides { side_count (net_at self.now) ≤ 3145728 }
+        ensures few_sides { side_count (net_at self.now) ≤ MOST_SIDES }
     {
         let _ = &self.faces;
     }

@@ -1,5 +1,6 @@
 //! The surface before the first collapse.
 ghost use Rattle.std.specs.Prelude.{◌≡◌, ◌+◌, ◌-◌, ◌*◌, ◌<◌, ◌≤◌, ◌≢◌, ◌++◌, ◌↔◌, ℕ, [], ◌∷◌, Some, None, true, cond, length, map, replicate, slice_index_or, slice_set, IfOk};
+ghost use Rattle.pm_base.specs.declared.limits.TheConstants.{MOST_FACES, MOST_NODES, MOST_SIDES};
 ghost use Rattle.pm_base.specs.Meshes.{mesh_of, IsFace, IsWellFormed};
 ghost use Rattle.pm_base.specs.Sides.{net_of};
 ghost use Rattle.pm_base.specs.Fans.{IsOrientedManifold};
@@ -76,7 +77,7 @@ fn places_with_room(
 
 // What stands across each side.
 fn twins_of(alloc: Global, twins: &Twins, sides: usize) -> Result<Vec<Option<u32>>, OutOfMemory>
-    requires few { sides ≤ 3145728 }
+    requires few { sides ≤ MOST_SIDES }
     requires all { sides ≡ length twins.now.twins }
     ensures { IfOk result (λ across. across.items ≡ twins.now.twins) }
 {
@@ -89,8 +90,8 @@ fn twins_of(alloc: Global, twins: &Twins, sides: usize) -> Result<Vec<Option<u32
 
 // Each corner in the list of its vertex.
 fn corner_lists(alloc: Global, faces: &[Option<Corners>], room: usize) -> Result<Links, OutOfMemory>
-    requires few { length faces.now ≤ 1048576 }
-    requires room { room ≤ 2097152 }
+    requires few { length faces.now ≤ MOST_FACES }
+    requires room { room ≤ MOST_NODES }
     requires within { (e : ℕ) → e < 3 * length faces.now → side_from faces.now e < room }
     ensures items { IfOk result (λ lists. lists.items ≡ 3 * length faces.now) }
     ensures heads { IfOk result (λ lists. length lists.lists ≡ room) }

@@ -1,13 +1,11 @@
 //! The sides of a list of faces, of which some were dropped. Side `3f + i` of face `f` runs from corner `i` to the
 //! face's next corner.
 ghost use Rattle.std.specs.Prelude.{◌≡◌, ◌+◌, ◌*◌, ◌<◌, ◌≤◌, length};
+ghost use Rattle.pm_base.specs.declared.limits.TheConstants.{MOST_SIDES};
 ghost use Rattle.pm_base.specs.Sides.{next as next_of, prev as prev_of};
 ghost use Rattle.pm_shrink.specs.Tables.{side_from};
 
 use pm_base::Corners;
-
-/// The most sides: three for each of the 1,048,576 faces that a mesh can have.
-pub(crate) const MOST_SIDES: u32 = 3_145_728;
 
 /// The side that follows in the same face.
 #[tactic(auto, unfolding(pm_base::specs::Sides::next))]

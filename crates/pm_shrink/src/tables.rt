@@ -1,5 +1,6 @@
 //! What a collapse writes to the tables: free functions, each over the tables that it changes.
 ghost use Rattle.std.specs.Prelude.{◌≡◌, ◌≢◌, ◌+◌, ◌*◌, ◌<◌, ◌≤◌, ℕ, None, Some, length, slice_index_or, slice_set, is_some, IfSome};
+ghost use Rattle.pm_base.specs.declared.limits.TheConstants.{MOST_FACES};
 ghost use Rattle.pm_base.specs.Counts.{one_if};
 ghost use Rattle.pm_links.specs.Lists.{list_of, with_moved, IsHeld, IsSound};
 ghost use Rattle.pm_quadric.specs.declared.quadric.TheConstants.{MOST_PLANES};
@@ -62,7 +63,7 @@ pub(crate) fn merge_corners(
 
 // Takes the three corners of a face out of their lists.
 fn unlink_face(corners: &mut Links, face: u32)
-    requires small { face < 1048576 }
+    requires small { face < MOST_FACES }
     requires first { IsHeld corners.old (3 * face) }
     requires second { IsHeld corners.old (3 * face + 1) }
     requires third { IsHeld corners.old (3 * face + 2) }
@@ -92,7 +93,7 @@ pub(crate) fn drop_face(
     corners: &mut Links,
     gone: Option<Gone>,
 )
-    requires small { length faces.old.items ≤ 1048576 }
+    requires small { length faces.old.items ≤ MOST_FACES }
     requires face { IfSome gone (λ g. g.face.0 < length faces.old.items) }
     requires first { IfSome gone (λ g. IfSome g.first (λ s. s.0 < length across.old.items)) }
     requires second { IfSome gone (λ g. IfSome g.second (λ s. s.0 < length across.old.items)) }
