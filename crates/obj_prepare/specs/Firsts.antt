@@ -3,6 +3,7 @@ use Rattle.std.specs.Prelude.{◌≡◌, ◌≢◌, ℕ, ◌+◌, ◌*◌, ◌<�
 use Rattle.std.specs.Option.{MatchOption}
 use Rattle.std.specs.Ordering.{nat_cmp}
 use Rattle.std.specs.BTreeMap.{BTreeMap, get}
+use Rattle.pm_base.specs.declared.limits.TheConstants.{GREATEST_COORDINATE}
 use Rattle.pm_base.specs.declared.mesh.Corners.{Corners}
 use Rattle.pm_base.specs.Place.{Place, IsPlace}
 use Rattle.obj_prepare.specs.Named.{is_named}
@@ -10,7 +11,7 @@ use Rattle.obj_prepare.specs.Joining.{place_at}
 
 -- How far a coordinate is above the least one.
 abbrev pub raised : ℤ → ℕ
-raised n = unsigned_abs (n +ℤ pos 32767)
+raised n = unsigned_abs (n +ℤ pos GREATEST_COORDINATE)
 
 -- A place as one number: 16 bits a coordinate.
 unfoldable pub place_key : Place → ℕ

@@ -1,6 +1,7 @@
 -- The vertices that a face names.
 use Rattle.std.specs.Prelude.{ℕ, zero, suc, ◌<◌, ◌≤◌, Bool, true, false, List, [], ◌∷◌, ◌++◌, length}
 use Rattle.std.specs.List.{All, list_any}
+use Rattle.pm_base.specs.declared.limits.TheConstants.{MOST_FACES, MOST_VERTICES}
 use Rattle.pm_base.specs.declared.mesh.Corners.{Corners}
 use Rattle.pm_base.specs.Place.{Place}
 use Rattle.pm_fans.specs.Kept.{is_corner}
@@ -26,8 +27,8 @@ pub record AreCorners (n : ℕ) (f : Corners) : Type 0 where
   pub b : f.b < n
   pub c : f.c < n
 
--- At most 1,048,576 vertices, as many triangles, and each corner is one of the vertices.
+-- No more vertices and triangles than a mesh can have vertices and faces, and each corner is one of the vertices.
 pub record IsWithin (vertices : ℕ) (faces : List Corners) : Type 0 where
-  pub vertices_few : vertices ≤ 1048576
-  pub faces_few : length faces ≤ 1048576
+  pub vertices_few : vertices ≤ MOST_VERTICES
+  pub faces_few : length faces ≤ MOST_FACES
   pub corners : All (AreCorners vertices) faces

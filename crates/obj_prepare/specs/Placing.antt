@@ -1,6 +1,7 @@
 -- Where points come to stand on the grid.
 use Rattle.std.specs.Prelude.{◌≡◌, ℕ, ◌≤◌, Bool, true, List, [], ◌∷◌, length, Option, None, Some, IfSome, pos, if◌then◌else◌}
 use Rattle.std.specs.List.{list_all}
+use Rattle.pm_base.specs.declared.limits.TheConstants.{GREATEST_COORDINATE}
 use Rattle.pm_base.specs.declared.mesh.Corners.{Corners}
 use Rattle.pm_base.specs.Place.{Place}
 use Rattle.obj_prepare.specs.declared.extents.PointBox.{PointBox}
@@ -19,16 +20,16 @@ frame_of [] = None
 frame_of (p ∷ ps) = Some (box_of p ps)
 
 -- How points are brought onto the grid: as they stand, where no size is given and all fit, and else by their box. The size
--- is 32,767 where none is given.
+-- is the greatest coordinate where none is given.
 abbrev pub fit_for : Option ℕ → List Place → Fit
 fit_for size [] = fits.Standing
-fit_for None (p ∷ ps) = if list_all stands (p ∷ ps) then fits.Standing else fits.Scaled 32767 (box_of p ps)
+fit_for None (p ∷ ps) = if list_all stands (p ∷ ps) then fits.Standing else fits.Scaled GREATEST_COORDINATE (box_of p ps)
 fit_for (Some size) (p ∷ ps) = fits.Scaled size (box_of p ps)
 
 -- A point that can be brought onto the grid so.
 abbrev pub Suits : Fit → Place → Type 0
 Suits fits.Standing p = stands p ≡ true
-Suits (fits.Scaled size frame) p = (size ≤ 32767) × IsInBox frame p
+Suits (fits.Scaled size frame) p = (size ≤ GREATEST_COORDINATE) × IsInBox frame p
 
 -- The place of a point.
 abbrev pub placed : Fit → Place → Place
@@ -47,6 +48,6 @@ fit_of size points faces = fit_for size (chosen (named_in faces (length points))
 abbrev pub places_of : Option ℕ → List Place → List Corners → List Place
 places_of size points faces = places_by (fit_of size points faces) (named_in faces (length points)) points
 
--- A size is from 1 to 32,767.
+-- A size is from 1 to the greatest coordinate.
 abbrev pub IsSize : Option ℕ → Type 0
-IsSize size = IfSome size (λ n. (1 ≤ n) × (n ≤ 32767))
+IsSize size = IfSome size (λ n. (1 ≤ n) × (n ≤ GREATEST_COORDINATE))

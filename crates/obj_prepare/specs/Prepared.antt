@@ -2,6 +2,7 @@
 -- those whose corners an earlier one has; the surface is cut along singular sides, and each vertex split into its fans.
 use Rattle.std.specs.Prelude.{◌≡◌, ℕ, ◌-◌, ◌<◌, not, ◌==◌, ◌&&◌, List, map, length, slice_index_or}
 use Rattle.std.specs.List.{filter}
+use Rattle.pm_base.specs.declared.limits.TheConstants.{MOST_VERTICES}
 use Rattle.pm_base.specs.declared.mesh.Corners.{Corners}
 use Rattle.pm_base.specs.Place.{Place}
 use Rattle.pm_base.specs.Meshes.{Mesh}
@@ -62,4 +63,4 @@ IsPreparedWith places faces m notes = (p : IsPrepared places faces m) × AreNote
 pub record HasTooMany (places : List Place) (faces : List Corners) : Type 0 where
   pub mesh : Mesh
   pub prepared : IsPrepared places faces mesh
-  pub many : 1048576 < length mesh.points
+  pub many : MOST_VERTICES < length mesh.points

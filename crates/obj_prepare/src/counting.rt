@@ -1,6 +1,7 @@
 //! Counting what was done.
 ghost use Rattle.std.specs.Prelude.{◌≡◌, ◌≤◌, length};
 ghost use Rattle.std.specs.List.{filter};
+ghost use Rattle.pm_base.specs.declared.limits.TheConstants.{MOST_FACES, MOST_VERTICES};
 ghost use Rattle.pm_fans.specs.Kept.{is_flat as is_flat_of};
 ghost use Rattle.obj_prepare.specs.Pieces.{set_below, joined_below};
 
@@ -10,7 +11,7 @@ use pm_fans::is_flat;
 /// How many of the flags are set.
 #[tactic(auto, using(crate::proofs::CountLaws::none_set, crate::proofs::CountLaws::set_next, crate::proofs::CountLaws::unset_next))]
 pub(crate) fn count_set(flags: &[bool]) -> u32
-    requires { length flags.now ≤ 1048576 }
+    requires { length flags.now ≤ MOST_VERTICES }
     ensures { result ≡ set_below flags.now (length flags.now) }
 {
     let mut n = 0;
@@ -25,7 +26,7 @@ pub(crate) fn count_set(flags: &[bool]) -> u32
 /// How many vertices whose flag is set have another one that stands for them.
 #[tactic(auto, using(crate::proofs::CountLaws::none_joined, crate::proofs::CountLaws::joined_next, crate::proofs::CountLaws::unnamed_next, crate::proofs::CountLaws::itself_next))]
 pub(crate) fn count_joined(flags: &[bool], names: &[u32]) -> u32
-    requires few { length names.now ≤ 1048576 }
+    requires few { length names.now ≤ MOST_VERTICES }
     requires both { length flags.now ≡ length names.now }
     ensures { result ≡ joined_below flags.now names.now (length names.now) }
 {
@@ -40,7 +41,7 @@ pub(crate) fn count_joined(flags: &[bool], names: &[u32]) -> u32
 
 /// How many faces became edges.
 pub(crate) fn count_flat(faces: &[Corners]) -> u32
-    requires { length faces.now ≤ 1048576 }
+    requires { length faces.now ≤ MOST_FACES }
     ensures { result ≡ length (filter is_flat_of faces.now) }
 {
     let mut n = 0;

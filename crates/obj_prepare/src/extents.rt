@@ -1,5 +1,6 @@
 //! The box of points, and their places on the grid.
 ghost use Rattle.std.specs.Prelude.{◌≡◌, ◌≤◌, ◌<◌, ◌*◌, ◌^◌, ℤ, ◌+ℤ◌, ◌-ℤ◌, ◌≤ℤ◌, unsigned_abs};
+ghost use Rattle.pm_base.specs.declared.limits.TheConstants.{GREATEST_COORDINATE};
 ghost use Rattle.obj_prepare.specs.Boxes.{along, off_middle, box_of, extent, scaled, IsInBox};
 
 use crate::exact::ExactPoint;
@@ -92,7 +93,7 @@ fn off_middle(n: i128, low: i128, high: i128) -> i128
 // The place of a coordinate along an axis that is no longer than the extent.
 #[tactic(auto, using(crate::proofs::BoxLaws::off_within))]
 fn place_along(size: u32, extent: u128, n: i128, low: i128, high: i128) -> i32
-    requires size { size ≤ 32767 }
+    requires size { size ≤ GREATEST_COORDINATE }
     requires positive { 0 < extent }
     requires extent { extent ≤ 2 * 10 ^ 32 }
     requires n { unsigned_abs n ≤ 10 ^ 32 }
@@ -102,53 +103,53 @@ fn place_along(size: u32, extent: u128, n: i128, low: i128, high: i128) -> i32
     requires below { n ≤ℤ high }
     requires long { unsigned_abs (high -ℤ low) ≤ extent }
     ensures value { result ≡ along size extent (off_middle n low high) }
-    ensures within { unsigned_abs result ≤ 32767 }
+    ensures within { unsigned_abs result ≤ GREATEST_COORDINATE }
 {
     along(size, extent, off_middle(n, low, high))
 }
 
 // The place of a point along each axis of a box that is no longer than the extent.
 fn place_x(size: u32, extent: u128, b: &PointBox, p: &ExactPoint) -> i32
-    requires size { size ≤ 32767 }
+    requires size { size ≤ GREATEST_COORDINATE }
     requires positive { 0 < extent }
     requires extent { extent ≤ 2 * 10 ^ 32 }
     requires inside { IsInBox b.now p.now }
     requires long { unsigned_abs (b.now.high.x -ℤ b.now.low.x) ≤ extent }
     ensures value { result ≡ along size extent (off_middle p.now.x b.now.low.x b.now.high.x) }
-    ensures within { unsigned_abs result ≤ 32767 }
+    ensures within { unsigned_abs result ≤ GREATEST_COORDINATE }
 {
     place_along(size, extent, p.x(), b.low.x(), b.high.x())
 }
 
 fn place_y(size: u32, extent: u128, b: &PointBox, p: &ExactPoint) -> i32
-    requires size { size ≤ 32767 }
+    requires size { size ≤ GREATEST_COORDINATE }
     requires positive { 0 < extent }
     requires extent { extent ≤ 2 * 10 ^ 32 }
     requires inside { IsInBox b.now p.now }
     requires long { unsigned_abs (b.now.high.y -ℤ b.now.low.y) ≤ extent }
     ensures value { result ≡ along size extent (off_middle p.now.y b.now.low.y b.now.high.y) }
-    ensures within { unsigned_abs result ≤ 32767 }
+    ensures within { unsigned_abs result ≤ GREATEST_COORDINATE }
 {
     place_along(size, extent, p.y(), b.low.y(), b.high.y())
 }
 
 fn place_z(size: u32, extent: u128, b: &PointBox, p: &ExactPoint) -> i32
-    requires size { size ≤ 32767 }
+    requires size { size ≤ GREATEST_COORDINATE }
     requires positive { 0 < extent }
     requires extent { extent ≤ 2 * 10 ^ 32 }
     requires inside { IsInBox b.now p.now }
     requires long { unsigned_abs (b.now.high.z -ℤ b.now.low.z) ≤ extent }
     ensures value { result ≡ along size extent (off_middle p.now.z b.now.low.z b.now.high.z) }
-    ensures within { unsigned_abs result ≤ 32767 }
+    ensures within { unsigned_abs result ≤ GREATEST_COORDINATE }
 {
     place_along(size, extent, p.z(), b.low.z(), b.high.z())
 }
 
 /// The point of the grid with these coordinates.
 pub(crate) fn point(x: i32, y: i32, z: i32) -> Point
-    requires x { unsigned_abs x ≤ 32767 }
-    requires y { unsigned_abs y ≤ 32767 }
-    requires z { unsigned_abs z ≤ 32767 }
+    requires x { unsigned_abs x ≤ GREATEST_COORDINATE }
+    requires y { unsigned_abs y ≤ GREATEST_COORDINATE }
+    requires z { unsigned_abs z ≤ GREATEST_COORDINATE }
     ensures { result ≡ record { x = x; y = y; z = z } }
 {
     let Some(point) = Point::new(x, y, z) else {
@@ -161,7 +162,7 @@ pub(crate) fn point(x: i32, y: i32, z: i32) -> Point
 /// away from 0.
 #[tactic(auto, unfolding(crate::specs::Boxes::scaled))]
 pub fn scaled(size: u32, b: &PointBox, p: &ExactPoint) -> Point
-    requires size { size ≤ 32767 }
+    requires size { size ≤ GREATEST_COORDINATE }
     requires within { IsInBox b.now p.now }
     ensures { result ≡ scaled size b.now p.now }
 {

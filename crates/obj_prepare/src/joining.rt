@@ -1,5 +1,6 @@
 //! Vertices at one place become one. The first at each place is kept in a map by the place as one number.
 ghost use Rattle.std.specs.Prelude.{◌≡◌, ◌<◌, ◌≤◌, ◌+◌, List, length, true, unsigned_abs, IfOk, OnOk};
+ghost use Rattle.pm_base.specs.declared.limits.TheConstants.{GREATEST_COORDINATE, MOST_VERTICES};
 ghost use Rattle.pm_base.specs.declared.mesh.Corners.{Corners as FaceCorners};
 ghost use Rattle.pm_base.specs.Place.{IsPlace};
 ghost use Rattle.obj_prepare.specs.Named.{AreCorners, IsWithin, is_named};
@@ -42,7 +43,7 @@ pub(crate) fn joined(
 // The first vertex at the place of one that a face names. Where that is itself, the map notes it.
 #[tactic(auto, using(crate::proofs::JoiningLaws::old_is_first, crate::proofs::JoiningLaws::old_on, crate::proofs::JoiningLaws::new_is_first, crate::proofs::JoiningLaws::new_on))]
 fn first_at(firsts: &mut BTreeMap<u64, u32>, places: &[Point], v: usize) -> Result<u32, OutOfMemory>
-    requires few { length places.now ≤ 1048576 }
+    requires few { length places.now ≤ MOST_VERTICES }
     requires in_range { v < length places.now }
     ensures first { (faces : List FaceCorners) → AreFirsts places.now faces v firsts.old
         → is_named faces v ≡ true → IfOk result (IsFirstAt places.now faces v) }
@@ -60,7 +61,7 @@ fn first_at(firsts: &mut BTreeMap<u64, u32>, places: &[Point], v: usize) -> Resu
 // How far a coordinate is above the least one.
 #[tactic(auto, using(crate::proofs::JoiningLaws::raised_small))]
 fn raised(n: i32) -> u64
-    requires { unsigned_abs n ≤ 32767 }
+    requires { unsigned_abs n ≤ GREATEST_COORDINATE }
     ensures value { result ≡ raised_of n }
     ensures small { result < 65536 }
 {

@@ -11,11 +11,8 @@ use crate::extents::{PointBox, point, scaled};
 use crate::named::named;
 use crate::standing::{stands, whole};
 use crate::{ExactPoint, OutOfMemory};
-use pm_base::{Corners, Point};
+use pm_base::{Corners, GREATEST_COORDINATE, Point};
 use std::alloc::Global;
-
-// The greatest size, which stands where none is given.
-const GREATEST_SIZE: u32 = 32_767;
 
 /// How points are brought onto the grid.
 #[derive(Clone, Copy, Debug, PartialEq, Eq)]
@@ -67,7 +64,7 @@ fn fit_for(size: Option<u32>, named: &[bool], points: &[ExactPoint]) -> Fit
             if all_stand(named, points) {
                 Fit::Standing
             } else {
-                Fit::Scaled(GREATEST_SIZE, frame)
+                Fit::Scaled(GREATEST_COORDINATE, frame)
             }
         }
     }

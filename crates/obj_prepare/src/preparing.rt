@@ -15,12 +15,9 @@ use crate::counting::{count_flat, count_joined, count_set};
 use crate::joining::{joined, joined_faces};
 use crate::named::named;
 use crate::notes::Notes;
-use pm_base::{Corners, Items, Mesh, Point, Points};
+use pm_base::{Corners, Items, MOST_VERTICES, Mesh, Point, Points};
 use pm_fans::{Split, cut_sides, kept, split_by_fans};
 use std::alloc::Global;
-
-// The most vertices of a mesh.
-const MOST: usize = 1_048_576;
 
 /// A mesh that is an oriented manifold, and what was done to come there.
 #[derive(Drop)]
@@ -72,7 +69,7 @@ fn count_up(
 ) -> Result<Notes, OutOfMemory>
     requires within { IsWithin (length places.now) faces.now }
     requires pieces { ArePieces places.now faces.now p.now.names.items p.now.renamed.items p.now.stay.items p.now.split.faces.items p.now.split.old.items }
-    requires few { length p.now.split.old.items ≤ 1048576 }
+    requires few { length p.now.split.old.items ≤ MOST_VERTICES }
     ensures { IfOk result (λ notes. AreNotes places.now faces.now p.now.names.items p.now.split.old.items notes) }
 {
     let before = named(alloc, places.len(), faces)?;
@@ -138,7 +135,7 @@ pub fn prepare(alloc: Global, places: &[Point], faces: &[Corners]) -> Result<Pre
     let Ok(pieces) = cut_up(alloc, places, faces) else {
         return Err(PrepareFail::OutOfMemory);
     };
-    if pieces.split.old.len() > MOST {
+    if pieces.split.old.len() > MOST_VERTICES as usize {
         return Err(PrepareFail::TooMany);
     }
     let Ok(notes) = count_up(alloc, places, faces, &pieces) else {

@@ -1,5 +1,6 @@
 //! Points scaled by their box.
 ghost use Rattle.std.specs.Prelude.{◌≡◌, ◌<◌, ◌≤◌, ◌*◌, ◌^◌, unsigned_abs};
+ghost use Rattle.pm_base.specs.declared.limits.TheConstants.{GREATEST_COORDINATE};
 ghost use Rattle.obj_prepare.specs.Numbers.{nearest};
 ghost use Rattle.obj_prepare.specs.Boxes.{along};
 
@@ -16,7 +17,7 @@ pub fn nearest(n: u128, d: u128) -> u128
 
 // A size times twice a way from the middle of a box.
 fn stretched(size: u32, way: u128) -> u128
-    requires size { size ≤ 32767 }
+    requires size { size ≤ GREATEST_COORDINATE }
     requires way { way ≤ 2 * 10 ^ 32 }
     ensures value { result ≡ size * way }
     ensures bound { result ≤ 2 ^ 125 }
@@ -28,7 +29,7 @@ fn stretched(size: u32, way: u128) -> u128
 /// becomes twice the size. It is the nearest whole number, halves away from 0, and at most the size away from 0.
 #[tactic(auto, unfolding(crate::specs::Boxes::along), using(crate::proofs::NearestLaws::nearest_within))]
 pub fn along(size: u32, extent: u128, off: i128) -> i32
-    requires size { size ≤ 32767 }
+    requires size { size ≤ GREATEST_COORDINATE }
     requires positive { 0 < extent }
     requires extent { extent ≤ 2 * 10 ^ 32 }
     requires within { unsigned_abs off ≤ extent }

@@ -3,6 +3,7 @@ ghost use Rattle.std.specs.Prelude.{◌≡◌, ◌≤◌, true, unsigned_abs};
 ghost use Rattle.obj_prepare.specs.Whole.{is_whole, whole, stands};
 
 use crate::exact::ExactPoint;
+use pm_base::GREATEST_COORDINATE;
 
 // The units in one step of the grid.
 const STEP: u128 = 1_000_000_000_000_000_000;
@@ -10,10 +11,10 @@ const STEP: u128 = 1_000_000_000_000_000_000;
 fn is_whole(n: i128) -> bool
     ensures { result ≡ is_whole n }
 {
-    n.unsigned_abs() % STEP == 0 && n.unsigned_abs() <= 32_767 * STEP
+    n.unsigned_abs() % STEP == 0 && n.unsigned_abs() <= u128::from(GREATEST_COORDINATE) * STEP
 }
 
-/// Whether each coordinate of a point is a whole number, at most 32,767 away from 0.
+/// Whether each coordinate of a point is a whole number, at most `GREATEST_COORDINATE` away from 0.
 pub fn stands(p: &ExactPoint) -> bool
     ensures { result ≡ stands p.now }
 {
@@ -24,7 +25,7 @@ pub fn stands(p: &ExactPoint) -> bool
 pub fn whole(n: i128) -> i32
     requires { is_whole n ≡ true }
     ensures value { result ≡ whole n }
-    ensures within { unsigned_abs result ≤ 32767 }
+    ensures within { unsigned_abs result ≤ GREATEST_COORDINATE }
 {
     let whole = (n.unsigned_abs() / STEP) as i32;
     if n < 0 { -whole } else { whole }
