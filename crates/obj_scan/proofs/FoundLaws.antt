@@ -1,4 +1,5 @@
 -- What `obj_read` finds in a line, with whole coordinates, is found in it here too.
+use Rattle.std.specs.Prelude.{nat_le}
 use Rattle.std.proofs.Common.{◌≡◌, ℕ, ◌+◌, ℤ, Bool, true, false, ◌==◌, ◌||◌, nat_lt, List, [], ◌∷◌, Result, Ok, Err, refl, sym, ap, arith, if◌then◌else◌}
 use Rattle.std.proofs.lemmas.Bool.{le-ltb, leb-false}
 use Rattle.std.proofs.lemmas.List.{map-append}
@@ -11,7 +12,7 @@ use Rattle.obj_read.specs.declared.found.Found.TheVariants as reads
 use Rattle.obj_read.specs.Coordinates.{coordinate}
 use Rattle.obj_read.specs.Fields.{fields, is_letter}
 use Rattle.obj_read.specs.Indices.{index, index_text}
-use Rattle.obj_read.specs.Judged.{is_full, vertex_of, face_of, vertex_line as read_vertex, face_line as read_face, fields_found as read_fields, line_found as read_line}
+use Rattle.obj_read.specs.Judged.{vertex_of, face_of, vertex_line as read_vertex, face_line as read_face, fields_found as read_fields, line_found as read_line}
 use Rattle.obj_read.specs.Fits.{with_found as with_read}
 use Rattle.obj_scan.specs.Polygons.{triangles}
 use Rattle.obj_scan.specs.Judged.{Found, polygon_of, vertex_line, face_line, fields_found, line_found, with_found}
@@ -28,7 +29,7 @@ abbrev given : Result ReadFound ObjFault → Result Found ObjFault
 given (Ok f) = Ok (found_of f)
 given (Err e) = Err e
 
-vertex_case : (n : ℕ) (a b c : List ℕ) (more : List (List ℕ)) (f : ReadFound) (x y z : Result ℤ ObjFault) (full : Bool) → coordinate 0 a ≡ x → coordinate 0 b ≡ y → coordinate 0 c ≡ z → is_full n ≡ full
+vertex_case : (n : ℕ) (a b c : List ℕ) (more : List (List ℕ)) (f : ReadFound) (x y z : Result ℤ ObjFault) (full : Bool) → coordinate 0 a ≡ x → coordinate 0 b ≡ y → coordinate 0 c ≡ z → nat_le 1048576 n ≡ full
     → vertex_of 0 n a b c ≡ Ok f → vertex_line n (a ∷ b ∷ c ∷ more) ≡ Ok (found_of f)
 unfolding vertex_of
 vertex_case n a b c more f (Err e) y z full p q r room is = let k = rw p at is in cc
@@ -45,7 +46,7 @@ vertex_found n (a ∷ []) f is = cc
 vertex_found n (a ∷ b ∷ []) f is = cc
 vertex_found n (a ∷ b ∷ c ∷ more) f is = vertex_case n a b c more f _ _ _ _ refl refl refl refl is
 
-face_case : (n k : ℕ) (x y z : List ℕ) (f : ReadFound) (a b c : Result ℕ ObjFault) (full : Bool) → index n (index_text x) ≡ a → index n (index_text y) ≡ b → index n (index_text z) ≡ c → is_full k ≡ full
+face_case : (n k : ℕ) (x y z : List ℕ) (f : ReadFound) (a b c : Result ℕ ObjFault) (full : Bool) → index n (index_text x) ≡ a → index n (index_text y) ≡ b → index n (index_text z) ≡ c → nat_le 1048576 k ≡ full
     → face_of n k x y z ≡ Ok f → face_line n k (x ∷ y ∷ z ∷ []) ≡ Ok (found_of f)
 unfolding face_of
 face_case n k x y z f (Err e) b c full p q r room is = let h = rw p at is in cc
@@ -55,7 +56,7 @@ face_case n k x y z f (Ok a) (Ok b) (Ok c) full p q r room is =
     let h = rw (p, q, r, room) at is in
     rw (p, q, r) (room_case full _ room refl h)
   where
-    room_case : (full again : Bool) → is_full k ≡ full → (a == b || b == c || c == a) ≡ again
+    room_case : (full again : Bool) → nat_le 1048576 k ≡ full → (a == b || b == c || c == a) ≡ again
         → (if again then Err faults.RepeatedCorner else if full then Err faults.TooMany else Ok (reads.Face (record { a = a; b = b; c = c }))) ≡ Ok f → polygon_of k (a ∷ b ∷ c ∷ []) ≡ Ok (found_of f)
     room_case full true room same is = cc
     room_case true false room same is = cc

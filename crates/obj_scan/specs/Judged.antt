@@ -1,12 +1,13 @@
 -- A line judged alone: what it gives, or its first fault. Byte 118 is `v`, and 102 is `f`.
-use Rattle.std.specs.Prelude.{ℕ, ◌+◌, ◌-◌, List, [], ◌∷◌, ◌++◌, nat_lt, length, Result, Ok, Err, if◌then◌else◌}
+use Rattle.std.specs.Prelude.{ℕ, ◌+◌, ◌-◌, List, [], ◌∷◌, ◌++◌, nat_le, nat_lt, length, Result, Ok, Err, if◌then◌else◌}
+use Rattle.pm_base.specs.declared.limits.TheConstants.{MOST_FACES, MOST_VERTICES}
 use Rattle.pm_base.specs.declared.mesh.Corners.{Corners}
 use Rattle.pm_base.specs.Place.{Place}
 use Rattle.obj_read.specs.declared.fault.ObjFault.{ObjFault}
 use Rattle.obj_read.specs.declared.fault.ObjFault.TheVariants as faults
 use Rattle.obj_read.specs.Fields.{fields, is_letter}
 use Rattle.obj_read.specs.Indices.{index, index_text}
-use Rattle.obj_read.specs.Judged.{◌>>=◌, is_full}
+use Rattle.obj_read.specs.Judged.{◌>>=◌}
 use Rattle.obj_prepare.specs.Numbers.{decimal_coordinate}
 use Rattle.obj_scan.specs.Polygons.{triangles}
 
@@ -25,7 +26,7 @@ pub data Found : Type 0 where
 -- The fields after `v`. Those after the third aren't read.
 abbrev pub vertex_line : ℕ → List (List ℕ) → Result Found ObjFault
 vertex_line vertices (a ∷ b ∷ c ∷ more) = decimal_coordinate a >>= λ x. decimal_coordinate b >>= λ y. decimal_coordinate c >>= λ z.
-    if is_full vertices then Err faults.TooMany
+    if nat_le MOST_VERTICES vertices then Err faults.TooMany
     else Ok (vertex (record { x = x; y = y; z = z }))
 vertex_line vertices _ = Err faults.TooFewFields
 
@@ -36,7 +37,7 @@ indices vertices (field ∷ more) = index vertices (index_text field) >>= λ v. 
 
 -- The polygon of n corners is cut into n - 2 triangles, for which there has to be room.
 abbrev pub polygon_of : ℕ → List ℕ → Result Found ObjFault
-polygon_of faces corners = if nat_lt 1048576 (faces + (length corners - 2)) then Err faults.TooMany else Ok (polygon corners)
+polygon_of faces corners = if nat_lt MOST_FACES (faces + (length corners - 2)) then Err faults.TooMany else Ok (polygon corners)
 
 -- The fields after `f`.
 abbrev pub face_line : ℕ → ℕ → List (List ℕ) → Result Found ObjFault

@@ -1,6 +1,7 @@
 -- The laws of texts that `obj_read`, which reads the OBJ profile, takes too. A unit is 10^-18, and byte 35 is `#`.
 use Rattle.std.specs.Prelude.{ℕ, ◌≡◌, ◌<◌, ◌^◌, ◌*ℤ◌, ℤ, pos, List, ◌∷◌, ◌++◌, length, map, Ok}
 use Rattle.std.specs.List.{All}
+use Rattle.obj_lines.specs.declared.limits.TheConstants.{MOST_LINE_BYTES}
 use Rattle.pm_base.specs.Place.{Place, IsPlace}
 use Rattle.pm_base.specs.Meshes.{Mesh, IsWellFormed}
 use Rattle.pm_base.specs.Canonical.{canonical_text}
@@ -27,5 +28,5 @@ ReadIsScanned = (bytes : List ℕ) (m : Mesh) → mesh_meaning 0 bytes ≡ Ok m 
 
 -- So is the canonical text of a mesh after a comment.
 abbrev pub CommentedIsScanned : Type 0
-CommentedIsScanned = (line : List ℕ) (m : Mesh) → until 10 line ≡ line → length line < 65536 → IsWellFormed m → All IsPlace m.points
+CommentedIsScanned = (line : List ℕ) (m : Mesh) → until 10 line ≡ line → length line < MOST_LINE_BYTES → IsWellFormed m → All IsPlace m.points
     → meaning_of ((35 ∷ line) ++ 10 ∷ canonical_text 0 m) ≡ Ok (scanned_mesh m)

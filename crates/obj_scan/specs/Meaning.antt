@@ -2,6 +2,8 @@
 -- ends in a backslash is continued by the next one.
 use Rattle.std.specs.Prelude.{ℕ, ◌+◌, ◌-◌, ◌≤◌, List, [], ◌∷◌, ◌++◌, nat_lt, ◌==◌, length, take, None, Some, Option, Result, Ok, Err, if◌then◌else◌}
 use Rattle.std.specs.List.{All}
+use Rattle.pm_base.specs.declared.limits.TheConstants.{MOST_FACES, MOST_VERTICES}
+use Rattle.obj_lines.specs.declared.limits.TheConstants.{MOST_LINE_BYTES}
 use Rattle.obj_lines.specs.Text.{until, lines, content, is_continued}
 use Rattle.obj_read.specs.declared.fault.ObjFault.{ObjFault}
 use Rattle.obj_read.specs.declared.fault.ObjFault.TheVariants as faults
@@ -45,7 +47,7 @@ unfoldable pub judged_length : SoFar → List ℕ → Option Refused
 judged_length s line =
     if is_past s.bytes (length line) then Some (record { fault = faults.TooMany; line = s.number; place = place s.bytes line })
     else if is_long line then Some (record { fault = faults.LineTooLong; line = s.number; place = place s.bytes line })
-    else if nat_lt 65536 (length (joined_text s line)) then Some (record { fault = faults.LineTooLong; line = first_number s; place = place s.bytes line })
+    else if nat_lt MOST_LINE_BYTES (length (joined_text s line)) then Some (record { fault = faults.LineTooLong; line = first_number s; place = place s.bytes line })
     else None
 
 abbrev pub then_found : Result Found ObjFault → SoFar → List ℕ → Result SoFar ObjFault
@@ -82,6 +84,6 @@ meaning_of bytes = meaning_from nothing_yet (lines bytes)
 
 -- What a text without a fault gives is within the limits.
 pub record IsWithin (s : Scanned) : Type 0 where
-  pub points : length s.points ≤ 1048576
-  pub faces : length s.faces ≤ 1048576
+  pub points : length s.points ≤ MOST_VERTICES
+  pub faces : length s.faces ≤ MOST_FACES
   pub corners : All (AreCorners (length s.points)) s.faces

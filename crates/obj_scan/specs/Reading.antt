@@ -2,6 +2,7 @@
 use Rattle.std.specs.Prelude.{ℕ, ◌+◌, ◌-◌, ◌≡◌, ◌<◌, ◌≤◌, List, [], ◌∷◌, ◌++◌, true, nat_lt, length, take, Option, Result, Ok, Err, if◌then◌else◌}
 use Rattle.std.specs.Io.KnownBytes.{prepend_known}
 use Rattle.std.specs.Option.{option_map}
+use Rattle.obj_lines.specs.declared.limits.TheConstants.{MOST_LINE_BYTES, MOST_TEXT_BYTES}
 use Rattle.pm_io.specs.Bytes.{Loses}
 use Rattle.obj_lines.specs.Text.{until, lines, is_continued}
 use Rattle.obj_lines.specs.Feeding.{Feeding, is_going, open_line}
@@ -43,7 +44,7 @@ ended (Err e) = Err e
 -- One line more, of which this is read.
 unfoldable pub taken : Held → List ℕ → Result Held ObjFault
 taken h text =
-    if nat_lt 65536 (length (h.begun ++ text)) then Err faults.LineTooLong
+    if nat_lt MOST_LINE_BYTES (length (h.begun ++ text)) then Err faults.LineTooLong
     else if is_continued text then Ok (record { continued = h.continued + 1; begun = take (length (h.begun ++ text) - 1) (h.begun ++ text) ++ 32 ∷ []; scanned = h.scanned })
     else ended (scanned_after h.scanned (h.begun ++ text))
 
@@ -76,10 +77,10 @@ pub record IsScanning (s : Scanned) : Type 0 where
 pub record IsReady (f : Feeding) (h : Held) (p : Progress) : Type 0 where
   pub going : is_going f.state ≡ true
   pub clean : until 10 (open_line f) ≡ open_line f
-  pub short : length (open_line f) ≤ 65536
+  pub short : length (open_line f) ≤ MOST_LINE_BYTES
   pub at : p.start + length (open_line f) ≡ p.taken
   pub counted : f.taken ≡ p.taken
-  pub room : p.taken ≤ 1073741824
+  pub room : p.taken ≤ MOST_TEXT_BYTES
   pub numbered : p.number ≤ p.start + 1
   pub continued : h.continued < p.number
   pub scanned : IsScanning h.scanned

@@ -7,20 +7,18 @@ ghost use Rattle.obj_scan.specs.Judged.{Found, vertex_line, indices, face_line};
 
 use obj_prepare::{ExactPoint, decimal_coordinate};
 use obj_read::{ObjFail, ObjFault, index, next_field};
-
-// The greatest number of vertices, and of triangles.
-const MOST: u32 = 1_048_576;
+use pm_base::{MOST_FACES, MOST_VERTICES};
 
 // The point with these coordinates. Each of the three is in range, so there is one.
 fn point_of(x: &[u8], y: &[u8], z: &[u8], vertices: u32) -> Result<ExactPoint, ObjFault>
     ensures ok { IfOk result (λ p. (more : List (List ℕ)) → vertex_line vertices (x.now ∷ y.now ∷ z.now ∷ more) ≡ Ok (Found.vertex p)) }
     ensures fault { IfErr result (λ e. (more : List (List ℕ)) → vertex_line vertices (x.now ∷ y.now ∷ z.now ∷ more) ≡ Err e) }
-    ensures room { OnOk result (vertices < 1048576) }
+    ensures room { OnOk result (vertices < MOST_VERTICES) }
 {
     let x = decimal_coordinate(x)?;
     let y = decimal_coordinate(y)?;
     let z = decimal_coordinate(z)?;
-    if vertices >= MOST {
+    if vertices >= MOST_VERTICES {
         return Err(ObjFault::TooMany);
     }
     match ExactPoint::new(x, y, z) {
@@ -33,7 +31,7 @@ fn point_of(x: &[u8], y: &[u8], z: &[u8], vertices: u32) -> Result<ExactPoint, O
 pub fn vertex_line(vertices: u32, text: &[u8]) -> Result<ExactPoint, ObjFault>
     ensures ok { IfOk result (λ p. vertex_line vertices (fields text.now) ≡ Ok (Found.vertex p)) }
     ensures fault { IfErr result (λ e. vertex_line vertices (fields text.now) ≡ Err e) }
-    ensures room { OnOk result (vertices < 1048576) }
+    ensures room { OnOk result (vertices < MOST_VERTICES) }
 {
     let Some((x, rest)) = next_field(text) else {
         return Err(ObjFault::TooFewFields);
@@ -98,7 +96,7 @@ pub fn face_line(
 ) -> Result<(), ObjFail>
     ensures ok { OnOk result (face_line vertices faces (fields text.now) ≡ Ok (Found.polygon corners.new.items)) }
     ensures within { OnOk result (All (λ (c : ℕ). c < vertices) corners.new.items) }
-    ensures room { OnOk result (faces + (length corners.new.items - 2) ≤ 1048576) }
+    ensures room { OnOk result (faces + (length corners.new.items - 2) ≤ MOST_FACES) }
     ensures fault { IfErr result (λ e. IsFaultOf e line (face_line vertices faces (fields text.now))) }
 {
     if !has_three(text) {
@@ -110,7 +108,7 @@ pub fn face_line(
     if let Err(fail) = read_corners(vertices, text, line, corners) {
         return Err(fail);
     }
-    if faces as usize + corners.len().saturating_sub(2) > MOST as usize {
+    if faces as usize + corners.len().saturating_sub(2) > MOST_FACES as usize {
         return Err(ObjFail::Fault {
             fault: ObjFault::TooMany,
             line,

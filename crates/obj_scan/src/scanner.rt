@@ -1,5 +1,6 @@
 //! The lines of a text, one after the other: what they gave so far, and those that the next one continues.
 ghost use Rattle.std.specs.Prelude.{ℕ, ◌≡◌, ◌+◌, ◌-◌, ◌<◌, ◌≤◌, ◌++◌, ◌∷◌, [], length, true, false, take, Ok, OnOk, IfErr};
+ghost use Rattle.pm_base.specs.declared.limits.TheConstants.{MOST_FACES};
 ghost use Rattle.obj_lines.specs.Text.{is_continued};
 ghost use Rattle.obj_read.specs.Fails.{IsFaultOf};
 ghost use Rattle.obj_read.specs.Fields.{fields};
@@ -11,12 +12,9 @@ use crate::OutOfMemory;
 use crate::fields::{face_line, vertex_line};
 use crate::polygons::push_polygon;
 use crate::scan::Scan;
-use obj_lines::is_continued;
+use obj_lines::{MOST_LINE_BYTES, is_continued};
 use obj_read::{ObjFail, ObjFault, is_letter, next_field};
 use std::alloc::Global;
-
-// The greatest number of bytes of a line, and of what is read of lines that go together.
-const MOST: usize = 65_536;
 
 /// What the lines so far gave, how many of them the next one continues, and what these say. The corners are those of the
 /// last face: their room is used again.
@@ -46,7 +44,7 @@ fn take_vertex(scan: &mut Scan, text: &[u8], line: u32) -> Result<(), ObjFail>
 
 // How many faces had more than three corners, after one more.
 fn polygons_after(polygons: u32, corners: &[u32]) -> u32
-    requires { polygons ≤ 1048576 }
+    requires { polygons ≤ MOST_FACES }
     ensures { result ≡ polygons_after polygons corners.now }
 {
     if corners.len() > 3 {
@@ -154,7 +152,7 @@ impl Scanner {
         ensures fault { IfErr result (λ e. IsFaultOf e (number - self.old.continued) (taken (held_of self.old) text.now)) }
     {
         let line = number - self.continued;
-        if self.begun.len() + text.len() > MOST {
+        if self.begun.len() + text.len() > MOST_LINE_BYTES {
             return Err(ObjFail::Fault {
                 fault: ObjFault::LineTooLong,
                 line,

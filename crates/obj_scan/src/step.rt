@@ -12,12 +12,9 @@ ghost use Rattle.obj_scan.specs.Reading.{IsReady, IsReading, after_lines, held_o
 
 use crate::scan::Scan;
 use crate::scanner::Scanner;
-use obj_lines::{LineState, Lines};
+use obj_lines::{LineState, Lines, MOST_TEXT_BYTES};
 use obj_read::{ObjFail, ObjFault, Progress};
 use pm_io::{Source, Taker};
-
-// The greatest number of bytes of a text.
-const MOST: u32 = 1_073_741_824;
 
 /// Takes what the window holds, at most up to the end of a line, and judges a line that has ended. False at the end of
 /// input. The window is used up before the source is asked for more.
@@ -44,7 +41,7 @@ pub fn step<S: Source>(
             if piece.is_empty() {
                 return Ok(false);
             }
-            let room = (MOST - progress.taken) as usize;
+            let room = (MOST_TEXT_BYTES - progress.taken) as usize;
             if room == 0 {
                 return Err(ObjFail::Fault {
                     fault: ObjFault::TooMany,
