@@ -1,5 +1,6 @@
 //! The queue's entries of the edges of a face that was dropped.
 ghost use Rattle.std.specs.Prelude.{◌≡◌, ◌+◌, ◌*◌, ◌<◌, length, IfSome};
+ghost use Rattle.pm_base.specs.declared.limits.TheConstants.{MOST_FACES};
 ghost use Rattle.pm_simplify.specs.Forgetting.{without_key, without_keys_of, forgotten};
 
 use pm_base::{Gone, Side};
@@ -18,7 +19,7 @@ fn forget_side(queue: &mut Queue, side: Option<Side>)
 
 // Takes the keys of the numbers of a face's three sides away.
 fn forget_face(queue: &mut Queue, face: u32)
-    requires small { face < 1048576 }
+    requires small { face < MOST_FACES }
     requires within { 3 * face + 2 < length queue.old }
     ensures room { length queue.new ≡ length queue.old }
     ensures keys { queue.new ≡ without_keys_of queue.old face }
@@ -30,7 +31,7 @@ fn forget_face(queue: &mut Queue, face: u32)
 
 /// Takes the keys of the edges of a dropped face away, whichever of their sides they were named by.
 pub(crate) fn forget(queue: &mut Queue, gone: Option<Gone>)
-    requires small { IfSome gone (λ g. g.face.0 < 1048576) }
+    requires small { IfSome gone (λ g. g.face.0 < MOST_FACES) }
     requires face { IfSome gone (λ g. 3 * g.face.0 + 2 < length queue.old) }
     requires first { IfSome gone (λ g. IfSome g.first (λ s. s.0 < length queue.old)) }
     requires second { IfSome gone (λ g. IfSome g.second (λ s. s.0 < length queue.old)) }
