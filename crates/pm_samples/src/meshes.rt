@@ -1,6 +1,7 @@
 //! Small meshes.
 ghost use Rattle.std.specs.Prelude.{◌≡◌, ◌≤◌, length, IfOk};
 ghost use Rattle.std.specs.List.{All};
+ghost use Rattle.pm_base.specs.declared.limits.TheConstants.{MOST_FACES, MOST_VERTICES};
 ghost use Rattle.pm_base.specs.Meshes.{mesh_of, IsFace, IsWellFormed};
 
 use pm_base::{Corners, Mesh, Point, Points, Triples};
@@ -57,8 +58,8 @@ fn triples(alloc: Global, count: u32, faces: &[Triple]) -> Result<Triples, Fail>
 
 /// The mesh of these points and faces.
 pub fn mesh(alloc: Global, spots: &[Spot], faces: &[Triple]) -> Result<Mesh, Fail>
-    requires few { length spots.now ≤ 1048576 }
-    requires short { length faces.now ≤ 1048576 }
+    requires few { length spots.now ≤ MOST_VERTICES }
+    requires short { length faces.now ≤ MOST_FACES }
     ensures formed { IfOk result (λ m. IsWellFormed (mesh_of m)) }
 {
     let mut points = Points::new(alloc);
@@ -71,8 +72,8 @@ pub fn mesh(alloc: Global, spots: &[Spot], faces: &[Triple]) -> Result<Mesh, Fai
 
 /// The mesh of so many points, all at one place, and these faces.
 pub fn at_origin(alloc: Global, count: u32, faces: &[Triple]) -> Result<Mesh, Fail>
-    requires few { count ≤ 1048576 }
-    requires short { length faces.now ≤ 1048576 }
+    requires few { count ≤ MOST_VERTICES }
+    requires short { length faces.now ≤ MOST_FACES }
     ensures formed { IfOk result (λ m. IsWellFormed (mesh_of m)) }
     ensures points { IfOk result (λ m. length m.points.items ≡ count) }
     ensures faces { IfOk result (λ m. length m.faces.items ≡ length faces.now) }
