@@ -2,6 +2,8 @@
 #![tactic(auto)]
 
 #[cfg(test)]
+mod base;
+#[cfg(test)]
 mod fans;
 #[cfg(test)]
 mod forest;
@@ -15,6 +17,8 @@ mod io;
 mod lines;
 #[cfg(test)]
 mod links;
+#[cfg(test)]
+mod prepare;
 #[cfg(test)]
 mod quadric;
 #[cfg(test)]

@@ -13,8 +13,6 @@ mod placing;
 mod preparing;
 mod scale;
 mod standing;
-#[cfg(test)]
-mod tests;
 mod theory;
 
 pub use decimal::decimal_coordinate;

@@ -63,27 +63,3 @@ pub fn lengths_add()
     ensures first { (u v : Direction) (a b m : ℕ) → norm2_of u < a * a * m → norm2_of v ≤ b * b * m → norm2_of (plus_of u v) < (a + b) * (a + b) * m }
     ensures second { (u v : Direction) (a b m : ℕ) → norm2_of u ≤ a * a * m → norm2_of v < b * b * m → norm2_of (plus_of u v) < (a + b) * (a + b) * m }
 {}
-
-#[cfg(test)]
-mod tests {
-    use super::*;
-    use std::process::Abort;
-
-    fn at(rt: &impl Abort, x: i32, y: i32, z: i32) -> Point {
-        Point::new(x, y, z).expect(rt, "a place in range")
-    }
-
-    #[test]
-    fn distances_are_rounded_up(rt: HostRuntime) {
-        let p = at(&rt, 100, 0, 0);
-        let q = at(&rt, 0, 100, 0);
-        assert_eq!(rt; dist2(p, q), 20_000);
-        assert_eq!(rt; dist_up(p, q), 142);
-        assert_eq!(rt; dist_up(p, p), 0);
-        let far = dist_up(
-            at(&rt, -32_767, -32_767, -32_767),
-            at(&rt, 32_767, 32_767, 32_767),
-        );
-        assert_eq!(rt; far, 113_509);
-    }
-}

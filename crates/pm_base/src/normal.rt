@@ -102,22 +102,3 @@ pub fn dot(m: Normal, n: Normal) -> i128
 {
     add_three(wide(m.x, n.x), wide(m.y, n.y), wide(m.z, n.z))
 }
-
-#[cfg(test)]
-mod tests {
-    use super::*;
-    use std::process::Abort;
-
-    fn at(rt: &impl Abort, x: i32, y: i32, z: i32) -> Point {
-        Point::new(x, y, z).expect(rt, "a place in range")
-    }
-
-    #[test]
-    fn normal_of_a_right_triangle(rt: HostRuntime) {
-        let n = cross(at(&rt, 0, 0, 0), at(&rt, 10, 0, 0), at(&rt, 0, 10, 0));
-        assert_eq!(rt; n.x, 0);
-        assert_eq!(rt; n.y, 0);
-        assert_eq!(rt; n.z, 100);
-        assert_eq!(rt; dot(n, n), 10_000);
-    }
-}

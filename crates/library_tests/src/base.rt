@@ -1,0 +1,28 @@
+//! Tests of pm_base.
+use pm_base::{Point, cross, dist_up, dist2, dot};
+use std::process::Abort;
+
+pub(crate) fn at(rt: &impl Abort, x: i32, y: i32, z: i32) -> Point {
+    Point::new(x, y, z).expect(rt, "a place in range")
+}
+
+#[test]
+fn distances_are_rounded_up(rt: HostRuntime) {
+    let p = at(&rt, 100, 0, 0);
+    let q = at(&rt, 0, 100, 0);
+    assert_eq!(rt; dist2(p, q), 20_000);
+    assert_eq!(rt; dist_up(p, q), 142);
+    assert_eq!(rt; dist_up(p, p), 0);
+    let far = dist_up(
+        at(&rt, -32_767, -32_767, -32_767),
+        at(&rt, 32_767, 32_767, 32_767),
+    );
+    assert_eq!(rt; far, 113_509);
+}
+
+#[test]
+fn normal_of_a_right_triangle(rt: HostRuntime) {
+    let n = cross(at(&rt, 0, 0, 0), at(&rt, 10, 0, 0), at(&rt, 0, 10, 0));
+    assert_eq!(rt; (n.x, n.y, n.z), (0, 0, 100));
+    assert_eq!(rt; dot(n, n), 10_000);
+}
