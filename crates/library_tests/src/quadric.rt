@@ -1,24 +1,34 @@
 //! Tests of pm_quadric.
+ghost use Rattle.std.specs.Prelude.{◌≡◌};
+
+use crate::base::at;
 use pm_base::Point;
 use pm_quadric::{Quadric, best_place};
 use std::process::Abort;
 
 type Vector = (i128, i128, i128);
 
-fn at(rt: &impl Abort, x: i32, y: i32, z: i32) -> Point {
-    Point::new(x, y, z).expect(rt, "a place in range")
+// The quadric of the plane of height 0, from a face of twice the area 100.
+fn ground(rt: &impl Abort) -> Quadric
+    ensures { result.count ≡ 1 }
+{
+    Quadric::of_face(at(rt, 0, 0, 0), at(rt, 10, 0, 0), at(rt, 0, 10, 0))
 }
 
 #[test]
-fn values_and_best_places(rt: HostRuntime) {
-    let q = Quadric::of_face(at(&rt, 0, 0, 0), at(&rt, 10, 0, 0), at(&rt, 0, 10, 0));
+fn values_of_planes(rt: HostRuntime) {
+    let q = ground(&rt);
     let p = at(&rt, 3, 4, 5);
-    assert_eq!(rt; Quadric::zero().planes(), 0);
-    assert_eq!(rt; Quadric::zero().value(p), 0);
-    assert_eq!(rt; q.planes(), 1);
-    assert_eq!(rt; q.value(p), 250_000);
-    assert_eq!(rt; q.plus(&q).planes(), 2);
-    assert_eq!(rt; q.plus(&q).value(p), 500_000);
+    let none = Quadric::zero();
+    let twice = q.plus(&q);
+    assert_eq!(rt; (none.planes(), none.value(p)), (0, 0));
+    assert_eq!(rt; (q.planes(), q.value(p)), (1, 250_000));
+    assert_eq!(rt; (twice.planes(), twice.value(p)), (2, 500_000));
+}
+
+#[test]
+fn best_places_are_found(rt: HostRuntime) {
+    let q = ground(&rt);
     // The heights of t and u above the plane, and then that of the best place and its value.
     for (t, u, best, value) in [(2, -1, 0, 0), (1, 0, 0, 0), (1, -2, 1, 10_000)] {
         let found = best_place(&q, at(&rt, 0, 0, t), at(&rt, 0, 0, u));
