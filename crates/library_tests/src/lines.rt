@@ -99,9 +99,7 @@ fn long_text(alloc: Global, front: &[u8], many: usize, end: &[u8]) -> Result<Vec
     ensures { IfOk result (λ text. length text.items ≤ 100200) }
 {
     let mut text = Vec::from_slice(alloc, front)?;
-    for _turn in 0..many {
-        text.push(b'x')?;
-    }
+    text.extend_from_slice(&b"x".repeat(alloc, many)?)?;
     text.extend_from_slice(end)?;
     Ok(text)
 }

@@ -215,10 +215,7 @@ fn a_failed_read_counts_only_before_the_fault(rt: HostRuntime) {
 
 // A line of so many bytes, and what stands after them.
 fn long_line(alloc: Global, byte: u8, many: usize, end: &[u8]) -> Result<Vec<u8>, OutOfMemory> {
-    let mut text = Vec::new(alloc);
-    for _turn in 0..many {
-        text.push(byte)?;
-    }
+    let mut text = [byte].repeat(alloc, many)?;
     text.extend_from_slice(end)?;
     Ok(text)
 }

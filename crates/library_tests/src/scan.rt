@@ -118,14 +118,9 @@ fn each_text_spells_what_it_should(rt: HostRuntime) {
 
 // Two lines of so many bytes each, the first of which ends in a backslash.
 fn two_lines(alloc: Global, first: usize, second: usize) -> Result<Vec<u8>, OutOfMemory> {
-    let mut text = Vec::new(alloc);
-    for _turn in 1..first {
-        text.push(b'x')?;
-    }
+    let mut text = b"x".repeat(alloc, first.saturating_sub(1))?;
     text.extend_from_slice(b"\\\n")?;
-    for _turn in 0..second {
-        text.push(b'x')?;
-    }
+    text.extend_from_slice(&b"x".repeat(alloc, second)?)?;
     Ok(text)
 }
 
