@@ -36,3 +36,4 @@ pub mod InputLaws
 pub mod FaceInputs
 pub mod OneToOne
 pub mod MeshLaws
+pub mod NeighbourLaws

@@ -13,6 +13,11 @@ abbrev pub side_in : Option Side → List ℕ
 side_in None = []
 side_in (Some e) = e.0 ∷ []
 
+-- Those that there are, in order.
+abbrev pub sides_in : List (Option Side) → List ℕ
+sides_in [] = []
+sides_in (x ∷ xs) = side_in x ++ sides_in xs
+
 abbrev pub neighbours_in : Option NewFace → List ℕ
 neighbours_in None = []
 neighbours_in (Some n) = side_in n.first ++ side_in n.second

@@ -2,7 +2,7 @@
 ghost use Rattle.std.specs.Prelude.{◌≡◌, ◌+◌, ◌≤◌, ◌<◌, ◌↔◌, None, IfSome, length, slice_index_or};
 ghost use Rattle.pm_base.specs.declared.limits.TheConstants.{MOST_FACES, MOST_NODES, MOST_VERTICES};
 ghost use Rattle.pm_base.specs.Place.{Place};
-ghost use Rattle.pm_forest.specs.Forest.{leaf_count, node_count, record_count, record_at, interval_of, maker_of, splitter_of, no_record};
+ghost use Rattle.pm_forest.specs.Forest.{leaf_count, node_count, record_count, record_at, t_of, u_of, interval_of, maker_of, splitter_of, no_record};
 ghost use Rattle.pm_forest.specs.Faces.{faces_of, face_count, revealed_by, corners_of, no_corners};
 ghost use Rattle.pm_forest.specs.Places.{place_of_node};
 ghost use Rattle.pm_forest.specs.Rules.{HasShape, counts_of};
@@ -128,6 +128,17 @@ impl Hierarchy {
         ensures corners { result ≡ corners_of self.now f.0 }
     {
         self.forest.face(f.0)
+    }
+
+    /// The two children of the node that record `k` splits.
+    pub fn children(&self, k: u32) -> (NodeId, NodeId)
+        requires { k < record_count self.now }
+        ensures t { result.0.0 ≡ t_of self.now k }
+        ensures u { result.1.0 ≡ u_of self.now k }
+        ensures nodes { result.1.0 < node_count self.now }
+    {
+        let t = self.nodes() - 2 * (self.records() - k);
+        (NodeId(t), NodeId(t + 1))
     }
 
     /// The leaves of a node: the first leaf, and the first leaf after.

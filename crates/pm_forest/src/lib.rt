@@ -7,6 +7,7 @@ mod growing;
 mod hierarchy;
 mod marks;
 mod meshes;
+mod neighbours;
 mod parts;
 mod readers;
 mod shaper;
