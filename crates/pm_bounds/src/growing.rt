@@ -37,8 +37,8 @@ fn nodes_of(h: &Hierarchy, k: u32) -> (NodeId, NodeId, NodeId)
     ensures u_node { u_of h.now k < node_count h.now }
 {
     h.invariant();
-    let t = h.roots() + 2 * k;
-    (NodeId(h.record_at(k).s), NodeId(t), NodeId(t + 1))
+    let (t, u) = h.children(k);
+    (NodeId(h.record_at(k).s), t, u)
 }
 
 // The ball of a node at a place by those of its children: each number is the greater, over the two, of the child's number
