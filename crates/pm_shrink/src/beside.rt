@@ -11,9 +11,6 @@ use crate::Shrink;
 use crate::sides::{next, prev};
 use pm_base::{Point, Side};
 
-// How many corners a walk over all of them may have: with more, it begins beside the pair's edge.
-const MANY: usize = 32;
-
 // How many faces each way are looked at.
 const NEAR: u32 = 16;
 
@@ -44,7 +41,7 @@ impl Shrink {
         ensures { IfSome result (λ e. Stands (net_at self.now) e × ((net_at self.now).from e ≡ p)
             × TurnsAt self.now.surface q place e) }
     {
-        if place == self.place(p) || self.corners_at(p).nth(MANY).is_none() {
+        if place == self.place(p) || !self.has_many_corners(p) {
             return None;
         }
         let Some(edge) = self.corner_with(p, q) else {

@@ -12,6 +12,9 @@ use crate::Shrink;
 use crate::sides::{self, next, prev};
 use pm_links::Items;
 
+// How many corners a walk over all of them may have until it counts as long.
+const MANY: usize = 32;
+
 impl Shrink {
     // The corners at a live vertex.
     pub(crate) fn corners_at(&self, v: u32) -> Items<'_>
@@ -93,8 +96,42 @@ impl Shrink {
         self.to(corner) == w || self.third(corner) == w
     }
 
-    // Whether some face holds both v and w. The corners at both are walked at once, so that the fewer ones decide.
+    // Whether some face holds both v and w. Where few corners are at v they decide, since those at w are seldom at hand.
+    // Else the corners at both are walked at once, so that the fewer ones decide.
     pub(crate) fn is_joined(&self, v: u32, w: u32) -> bool
+        requires v_live { is_live_in self.now.surface v ≡ true }
+        requires w_live { is_live_in self.now.surface w ≡ true }
+        ensures { IsTrue result ↔ Joined (net_at self.now) v w }
+    {
+        if self.has_many_corners(v) {
+            self.is_joined_at_either(v, w)
+        } else {
+            self.is_joined_at(v, w)
+        }
+    }
+
+    // Whether a walk over all corners at a vertex is long.
+    pub(crate) fn has_many_corners(&self, v: u32) -> bool
+        requires { is_live_in self.now.surface v ≡ true }
+    {
+        self.corners_at(v).nth(MANY).is_some()
+    }
+
+    // The same answer as `is_joined`, by the corners at v.
+    fn is_joined_at(&self, v: u32, w: u32) -> bool
+        requires { is_live_in self.now.surface v ≡ true }
+        ensures { IsTrue result ↔ Joined (net_at self.now) v w }
+    {
+        for corner in self.corners_at(v) {
+            if self.has_other(corner, w) {
+                return true;
+            }
+        }
+        false
+    }
+
+    // The same answer as `is_joined`, by the corners at v or those at w, whichever end first.
+    fn is_joined_at_either(&self, v: u32, w: u32) -> bool
         requires v_live { is_live_in self.now.surface v ≡ true }
         requires w_live { is_live_in self.now.surface w ≡ true }
         ensures { IsTrue result ↔ Joined (net_at self.now) v w }

@@ -3,7 +3,7 @@ use Rattle.std.specs.List.{All, list_any}
 use Rattle.pm_base.specs.Sides.{Stands}
 use Rattle.pm_shrink.specs.Shrinking.{net_at, fan_at}
 use Rattle.pm_shrink.specs.Walks.{holds}
-use Rattle.pm_shrink.proofs.shrink.Shrink.is_joined.Given as goal
+use Rattle.pm_shrink.proofs.shrink.Shrink.is_joined_at_either.Given as goal
 
 -- What is left to see at either vertex decides.
 abbrev pub invariant-loop-from_v : goal.invariant-loop-from_v

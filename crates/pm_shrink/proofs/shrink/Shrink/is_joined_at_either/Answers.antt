@@ -5,8 +5,8 @@ use Rattle.pm_base.specs.Sides.{Net, Stands}
 use Rattle.pm_shrink.specs.Shrinking.{net_at, fan_at, AreCornersAt}
 use Rattle.pm_shrink.specs.Walks.{holds}
 use Rattle.pm_shrink.proofs.FanLaws.{walk_on, walk_found, walk_ended, seen_joined, joined_back}
-use Rattle.pm_shrink.proofs.shrink.Shrink.is_joined.Goals as goal
-use Rattle.pm_shrink.proofs.shrink.Shrink.is_joined.Goals.{then-has_other-via-then-has_other, then-has_other-via-else-has_other+then-has_other-2}
+use Rattle.pm_shrink.proofs.shrink.Shrink.is_joined_at_either.Goals as goal
+use Rattle.pm_shrink.proofs.shrink.Shrink.is_joined_at_either.Goals.{then-has_other-via-then-has_other, then-has_other-via-else-has_other+then-has_other-2}
 
 pub has_other-requires : goal.has_other-requires
 has_other-requires c =
