@@ -1,13 +1,14 @@
 //! The heap: every item has a place, and the members are the items of the first `len` places.
 
 ghost use Rattle.std.specs.Prelude.{◌<◌, ◌≤◌, List, length};
+ghost use Rattle.pm_queue.specs.declared.key.Key.{Key};
 ghost use Rattle.pm_queue.specs.Places.{AddsMember, DropsMember, IsPlaces};
 ghost use Rattle.pm_queue.specs.Heap.{goes_first, IsKeyed, IsHeap, IsHeapButItem};
 
-use super::key::Key;
 use super::places::exchange;
 use super::queue::ITEM_LIMIT;
 use super::sift::restore;
+use super::slot::Slot;
 
 /// Makes `item` a member, if it is none, and lets it go to where its key belongs.
 ///
@@ -15,7 +16,7 @@ use super::sift::restore;
 pub(crate) fn place_item(
     heap: &mut [u32],
     place: &mut [u32],
-    keys: &mut [Key],
+    keys: &mut [Slot],
     len: u32,
     item: u32,
 ) -> u32
@@ -49,7 +50,7 @@ pub(crate) fn place_item(
 pub(crate) fn drop_item(
     heap: &mut [u32],
     place: &mut [u32],
-    keys: &mut [Key],
+    keys: &mut [Slot],
     len: u32,
     item: u32,
 ) -> u32

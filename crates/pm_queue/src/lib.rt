@@ -6,6 +6,7 @@ mod key;
 mod places;
 mod queue;
 mod sift;
+mod slot;
 
 pub use key::Key;
 pub use queue::{ITEM_LIMIT, OutOfMemory, Queue};

@@ -5,11 +5,12 @@
 //! exchange is the only write that they need.
 
 ghost use Rattle.std.specs.Prelude.{◌≡◌, ℕ, ◌<◌, List, length, slice_index, slice_set, IfOk};
+ghost use Rattle.pm_queue.specs.declared.key.Key.{Key};
 ghost use Rattle.pm_queue.specs.Heap.{key_of, IsKeyed};
 ghost use Rattle.pm_queue.specs.Places.{moved, IsPlaces, IsSwapped};
 
-use super::key::Key;
 use super::queue::OutOfMemory;
+use super::slot::Slot;
 use std::alloc::Global;
 
 /// Each number below `len`, in order.
@@ -43,7 +44,7 @@ fn exchange_items(heap: &mut [u32], place: &mut [u32], p: u32, q: u32)
 }
 
 // Puts the keys of places `p` and `q` in each other's place.
-fn exchange_keys(keys: &mut [Key], p: u32, q: u32)
+fn exchange_keys(keys: &mut [Slot], p: u32, q: u32)
     requires p_in { p < length keys.old }
     requires q_in { q < length keys.old }
     ensures { keys.new ≡ slice_set (slice_set keys.old p (key_of keys.old q)) q (key_of keys.old p) }
@@ -54,7 +55,7 @@ fn exchange_keys(keys: &mut [Key], p: u32, q: u32)
 }
 
 /// Puts the items at places `p` and `q` in each other's place, with their keys.
-pub(crate) fn exchange(heap: &mut [u32], place: &mut [u32], keys: &mut [Key], p: u32, q: u32)
+pub(crate) fn exchange(heap: &mut [u32], place: &mut [u32], keys: &mut [Slot], p: u32, q: u32)
     ghost item_keys: { List Key }
     requires places { IsPlaces (length item_keys) heap.old place.old }
     requires keyed { IsKeyed item_keys heap.old keys.old }

@@ -4,6 +4,7 @@ ghost use Rattle.std.specs.Prelude.{◌≡◌, ◌<◌, ◌≤◌, IfNone, IfOk,
 use super::heap::{drop_item, place_item};
 use super::key::Key;
 use super::places::identity;
+use super::slot::Slot;
 use std::alloc::{AllocError, Global};
 use std::marker::Model;
 
@@ -27,7 +28,7 @@ pub struct Queue {
     place: Vec<u32>,
     // The key of the item at each place, beside the keys that it is compared with; no meaning where
     // the item has none.
-    keys: Vec<Key>,
+    keys: Vec<Slot>,
     len: u32,
 }
 
@@ -56,11 +57,11 @@ impl Queue {
     {
         let heap = identity(alloc, n)?;
         let place = identity(alloc, n)?;
-        let unset = Key {
+        let unset = Slot::of(Key {
             cost: 0,
             a: 0,
             b: 0,
-        };
+        });
         let keys = vec![in alloc; unset; n as usize]?;
         Ok(Queue {
             heap,
@@ -75,8 +76,9 @@ impl Queue {
         requires in_range { item < length self.old }
         ensures replaced { self.new ≡ slice_set self.old item (Some key) }
     {
+        let slot = Slot::of(key);
         let at = self.place[item as usize];
-        self.keys[at as usize] = key;
+        self.keys[at as usize] = slot;
         self.len = place_item(
             &mut self.heap,
             &mut self.place,
@@ -120,7 +122,7 @@ impl Queue {
         if self.len == 0 {
             return None;
         }
-        Some((self.heap[0], self.keys[0]))
+        Some((self.heap[0], self.keys[0].key()))
     }
 
     /// The same answer as `least`, and the item loses its key. O(log n) time.

@@ -1,4 +1,4 @@
-use Rattle.std.proofs.Common.{◌<◌, [], length, arith}
+use Rattle.std.proofs.Common.{◌<◌, [], length, ◌∙◌, arith}
 use Rattle.std.proofs.lemmas.List.{get_or_read}
 use Rattle.pm_queue.specs.Heap.{key_of}
 use Rattle.pm_queue.proofs.EntryTables.{empty_at_none}
@@ -16,6 +16,6 @@ returns-clause-some c =
     let inner : 0 < length c.self.inside.heap.items = omega (arith, i.within, i.inverse.heap_len) in
     let keyed : 0 < length c.self.inside.keys.items = omega (arith, i.within) in
     rw (← c.self.view_is)
-    (least_of_tables c.self.inside.keys.items c.self.inside.heap.items c.self.inside.place.items c.self.inside.len i pos c.index.result.now c.index-2.result.now
+    (least_of_tables c.self.inside.keys.items c.self.inside.heap.items c.self.inside.place.items c.self.inside.len i pos c.index.result.now c.key.result
     (get_or_read c.self.inside.heap.items 0 _ inner c.index.ensures 0)
-    (get_or_read c.self.inside.keys.items 0 _ keyed c.index-2.ensures (key_of [] 0)))
+    (c.key.ensures ∙ get_or_read c.self.inside.keys.items 0 _ keyed c.index-2.ensures (key_of [] 0)))

@@ -27,7 +27,8 @@ place_item-self-inside-requires c =
     let inner : c.args.item < length i.place.items = omega arith in
     let read = get_or_read i.place.items c.args.item _ inner c.index-at.ensures 0 in
     let keys_now : c.deref_mut-3.result.now ≡ set i.keys.items (get_or i.place.items c.args.item 0) c.args.key =
-    c.deref_mut-3.ensures.value ∙ ap (λ (at : ℕ). set i.keys.items at c.args.key) read in
+    c.deref_mut-3.ensures.value ∙ ap (λ (at : ℕ). set i.keys.items at c.of-slot.result) read
+    ∙ ap (set i.keys.items (get_or i.place.items c.args.item 0)) c.of-slot.ensures in
     let then : List Key = set i.keys.items (get_or i.place.items c.args.item 0) c.args.key in
     let ready : IsReadyToPlace then i.heap.items i.place.items i.len c.args.item =
     set_given i.keys.items i.heap.items i.place.items i.len c.args.item c.self.invariant low c.args.key in
@@ -42,7 +43,8 @@ invariant_of-self c =
     let inner : c.args.item < length i.place.items = omega arith in
     let read = get_or_read i.place.items c.args.item _ inner c.index-at.ensures 0 in
     let keys_now : c.deref_mut-3.result.now ≡ set i.keys.items (get_or i.place.items c.args.item 0) c.args.key =
-    c.deref_mut-3.ensures.value ∙ ap (λ (at : ℕ). set i.keys.items at c.args.key) read in
+    c.deref_mut-3.ensures.value ∙ ap (λ (at : ℕ). set i.keys.items at c.of-slot.result) read
+    ∙ ap (set i.keys.items (get_or i.place.items c.args.item 0)) c.of-slot.ensures in
     let e = c.place_item-self-inside.ensures in
     let new = c.place_item-self-inside.new in
     let all : keys_of c.deref_mut-3.result.now c.deref_mut-2.result.now
@@ -52,7 +54,7 @@ invariant_of-self c =
     let done = subst (λ (k : List Key). IsDone k new.heap new.place new.keys c.place_item-self-inside.result) all
     (record { places = e.places; keyed = e.keyed; ordered = e.heap; within = e.len }) in
     let len = then_len i.keys.items i.heap.items i.place.items i.len c.args.item c.self.invariant low c.args.key in
-    let keys_is = with_items_is (with_item i.keys c.index-at.result.now c.args.key) new.keys (omega (arith, done.keyed.keys_len, len)) in
+    let keys_is = with_items_is (with_item i.keys c.index-at.result.now c.of-slot.result) new.keys (omega (arith, done.keyed.keys_len, len)) in
     let place_is = with_items_is i.place new.place (omega (arith, done.places.place_len, c.self.invariant.inverse.place_len, len)) in
     let heap_is = with_items_is i.heap new.heap (omega (arith, done.places.heap_len, c.self.invariant.inverse.heap_len, len)) in
     rw (keys_is, heap_is, place_is)
@@ -66,7 +68,8 @@ returns c =
     let inner : c.args.item < length i.place.items = omega arith in
     let read = get_or_read i.place.items c.args.item _ inner c.index-at.ensures 0 in
     let keys_now : c.deref_mut-3.result.now ≡ set i.keys.items (get_or i.place.items c.args.item 0) c.args.key =
-    c.deref_mut-3.ensures.value ∙ ap (λ (at : ℕ). set i.keys.items at c.args.key) read in
+    c.deref_mut-3.ensures.value ∙ ap (λ (at : ℕ). set i.keys.items at c.of-slot.result) read
+    ∙ ap (set i.keys.items (get_or i.place.items c.args.item 0)) c.of-slot.ensures in
     let e = c.place_item-self-inside.ensures in
     let new = c.place_item-self-inside.new in
     let all : keys_of c.deref_mut-3.result.now c.deref_mut-2.result.now
@@ -76,7 +79,7 @@ returns c =
     let done = subst (λ (k : List Key). IsDone k new.heap new.place new.keys c.place_item-self-inside.result) all
     (record { places = e.places; keyed = e.keyed; ordered = e.heap; within = e.len }) in
     let len = then_len i.keys.items i.heap.items i.place.items i.len c.args.item c.self.invariant low c.args.key in
-    let keys_is = with_items_is (with_item i.keys c.index-at.result.now c.args.key) new.keys (omega (arith, done.keyed.keys_len, len)) in
+    let keys_is = with_items_is (with_item i.keys c.index-at.result.now c.of-slot.result) new.keys (omega (arith, done.keyed.keys_len, len)) in
     let place_is = with_items_is i.place new.place (omega (arith, done.places.place_len, c.self.invariant.inverse.place_len, len)) in
     let members = subst (λ (p : List ℕ). AddsMember p new.place i.len c.place_item-self-inside.result c.args.item) c.deref_mut-2.ensures.value e.members in
     record {
