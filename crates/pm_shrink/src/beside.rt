@@ -8,6 +8,7 @@ ghost use Rattle.pm_shrink.specs.Obstacles.{TurnsOver};
 ghost use Rattle.pm_shrink.specs.Walks.{TurnsAt};
 
 use crate::Shrink;
+use crate::fan::MANY;
 use crate::sides::{next, prev};
 use pm_base::{Point, Side};
 
@@ -41,7 +42,7 @@ impl Shrink {
         ensures { IfSome result (λ e. Stands (net_at self.now) e × ((net_at self.now).from e ≡ p)
             × TurnsAt self.now.surface q place e) }
     {
-        if place == self.place(p) || !self.has_many_corners(p) {
+        if place == self.place(p) || self.corners_at(p).nth(MANY).is_none() {
             return None;
         }
         let Some(edge) = self.corner_with(p, q) else {

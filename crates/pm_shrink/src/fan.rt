@@ -12,8 +12,8 @@ use crate::Shrink;
 use crate::sides::{self, next, prev};
 use pm_links::Items;
 
-// How many corners a walk over all of them may have until it counts as long.
-const MANY: usize = 32;
+/// How many corners a walk over all of them may have until it counts as long.
+pub(crate) const MANY: usize = 32;
 
 impl Shrink {
     // The corners at a live vertex.
@@ -103,18 +103,11 @@ impl Shrink {
         requires w_live { is_live_in self.now.surface w ≡ true }
         ensures { IsTrue result ↔ Joined (net_at self.now) v w }
     {
-        if self.has_many_corners(v) {
-            self.is_joined_at_either(v, w)
-        } else {
+        if self.corners_at(v).nth(MANY).is_none() {
             self.is_joined_at(v, w)
+        } else {
+            self.is_joined_at_either(v, w)
         }
-    }
-
-    // Whether a walk over all corners at a vertex is long.
-    pub(crate) fn has_many_corners(&self, v: u32) -> bool
-        requires { is_live_in self.now.surface v ≡ true }
-    {
-        self.corners_at(v).nth(MANY).is_some()
     }
 
     // The same answer as `is_joined`, by the corners at v.
