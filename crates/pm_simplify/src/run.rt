@@ -1,10 +1,9 @@
 //! The run of collapses from a mesh to so many faces.
-ghost use Rattle.std.specs.Prelude.{◌≡◌, length, OnOk, IfOk, IfErr};
+ghost use Rattle.std.specs.Prelude.{OnOk, IfOk, IfErr};
 ghost use Rattle.pm_base.specs.Meshes.{mesh_of, IsWellFormed};
 ghost use Rattle.pm_base.specs.Sides.{net_of};
 ghost use Rattle.pm_base.specs.Fans.{IsOrientedManifold};
 ghost use Rattle.pm_runs.specs.Runs.{IsRunTo};
-ghost use Rattle.pm_twins.specs.Table.{IsTableOf};
 ghost use Rattle.pm_simplify.specs.Faults.{IsSimplifyFault};
 
 use crate::choose::least_pair;
@@ -13,10 +12,11 @@ use crate::weigh::filled;
 use pm_base::{FaceId, Log, Mesh};
 use pm_links::Links;
 use pm_shrink::Shrink;
-use pm_twins::{FansFail, Twins, TwinsFail, check_fans};
+use pm_twins::{Surface, SurfaceFail};
 use std::alloc::{AllocError, Global};
 
-pub(crate) type OutOfMemory = AllocError;
+/// The answer for want of memory.
+pub type OutOfMemory = AllocError;
 
 /// Why a mesh isn't simplified.
 #[derive(Clone, Copy, Debug, PartialEq, Eq)]
@@ -42,34 +42,36 @@ pub fn simplify(alloc: Global, mesh: &Mesh, target_faces: u32) -> Result<Log, Si
     ensures manifold { OnOk result (IsOrientedManifold (net_of mesh.now.faces.items)) }
     ensures fault { IfErr result (IsSimplifyFault (net_of mesh.now.faces.items)) }
 {
-    let twins = match Twins::of(alloc, mesh) {
-        Ok(twins) => twins,
-        Err(TwinsFail::EdgeTwice(face)) => return Err(SimplifyFail::EdgeTwice(face)),
-        Err(TwinsFail::OutOfMemory) => return Err(SimplifyFail::OutOfMemory),
+    let Ok(copy) = mesh.copy(alloc) else {
+        return Err(SimplifyFail::OutOfMemory);
     };
-    match check_fans(alloc, mesh, &twins) {
-        Ok(()) => {}
-        Err(FansFail::NotFan(vertex)) => return Err(SimplifyFail::NotFan(vertex)),
-        Err(FansFail::OutOfMemory) => return Err(SimplifyFail::OutOfMemory),
-    }
-    run_to(alloc, mesh, twins, target_faces).map_err(|_| SimplifyFail::OutOfMemory)
+    let surface = match Surface::of(alloc, copy) {
+        Ok(surface) => surface,
+        Err(SurfaceFail::EdgeTwice(face)) => return Err(SimplifyFail::EdgeTwice(face)),
+        Err(SurfaceFail::NotFan(vertex)) => return Err(SimplifyFail::NotFan(vertex)),
+        Err(SurfaceFail::OutOfMemory) => return Err(SimplifyFail::OutOfMemory),
+    };
+    simplify_surface(alloc, surface, target_faces).map_err(|_| SimplifyFail::OutOfMemory)
 }
 
-// The run to a number of faces of a well-formed oriented manifold.
-fn run_to(alloc: Global, mesh: &Mesh, twins: Twins, target: u32) -> Result<Log, OutOfMemory>
-    requires formed { IsWellFormed (mesh_of mesh.now) }
-    requires manifold { IsOrientedManifold (net_of mesh.now.faces.items) }
-    requires twins { IsTableOf (net_of mesh.now.faces.items) (length mesh.now.points.items) twins }
-    ensures { IfOk result (λ log. IsRunTo (mesh_of mesh.now) target log.items) }
+/// The same of a surface, which is used up: one who needs its mesh afterwards copies that before.
+pub fn simplify_surface(
+    alloc: Global,
+    surface: Surface,
+    target_faces: u32,
+) -> Result<Log, OutOfMemory>
+    ensures run { IfOk result (λ log. IsRunTo surface target_faces log.items) }
 {
+    let (mesh, twins) = surface.into_parts();
+    let points = mesh.points.len();
+    let faces = mesh.faces.len() as u32;
     let mut log = Log::new(alloc);
     // Each collapse takes a vertex away, and the last one stays.
-    log.reserve(mesh.points.len().saturating_sub(1))?;
-    let mut shrink = Shrink::new(alloc, mesh.copy(alloc)?, twins)?;
-    let sides = 3 * mesh.faces.len() as u32;
-    let mut queue = filled(alloc, &shrink, sides)?;
-    let mut waiting = Links::new(alloc, sides, mesh.faces.len() as u32)?;
-    while shrink.face_count() > target {
+    log.reserve(points.saturating_sub(1))?;
+    let mut shrink = Shrink::new(alloc, mesh, twins)?;
+    let mut queue = filled(alloc, &shrink, 3 * faces)?;
+    let mut waiting = Links::new(alloc, 3 * faces, faces)?;
+    while shrink.face_count() > target_faces {
         let Some(key) = least_pair(&shrink, &mut queue, &mut waiting) else {
             break;
         };

@@ -8,3 +8,4 @@ pub mod SideListLaws
 pub mod StampLaws
 pub mod PairLaws
 pub mod RepeatLaws
+pub mod Faultless

@@ -4,3 +4,4 @@ pub mod SideLists
 pub mod Stamping
 pub mod Walks
 pub mod Laws
+pub mod Surface
