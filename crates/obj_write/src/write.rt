@@ -1,10 +1,9 @@
 //! Writing the canonical OBJ text of a mesh.
-ghost use Rattle.std.specs.Prelude.{◌≡◌, ◌≤◌, ◌++◌, OnOk, OnErr};
+ghost use Rattle.std.specs.Prelude.{◌≤◌};
 ghost use Rattle.std.specs.List.{flat_map};
 ghost use Rattle.pm_base.specs.Canonical.{point_line, corner_line, canonical_text};
 ghost use Rattle.pm_base.specs.Meshes.{IsWellFormed, mesh_of};
-ghost use Rattle.pm_io.specs.Bytes.{Gains, GainsPart, GainsThrough};
-ghost use Rattle.pm_io.specs.Causes.{HasCause};
+ghost use Rattle.pm_io.specs.Puts.{Puts, PutsThrough};
 
 use crate::line::{put_corners, put_point};
 use pm_base::Mesh;
@@ -17,9 +16,8 @@ fn put_points<K: Sink>(
     out: &mut K,
 ) -> Result<(), WriteFault>
     requires { digits ≤ 4 }
-    ensures ok { OnOk result (GainsThrough (K.got out.old) (K.got out.new) page.old page.new (flat_map (point_line digits) mesh.now.points.items)) }
-    ensures err { OnErr result (GainsPart (K.got out.old) (K.got out.new) (page.old ++ flat_map (point_line digits) mesh.now.points.items)) }
-    ensures cause { HasCause (K.faults out.old) (K.faults out.new) result }
+    ensures { let text = flat_map (point_line digits) mesh.now.points.items in
+        PutsThrough K.Sink out.old out.new page.old page.new text result }
 {
     let mut line = Line::new();
     for point in mesh.points.as_slice() {
@@ -33,9 +31,8 @@ fn put_points<K: Sink>(
 
 fn put_faces<K: Sink>(mesh: &Mesh, page: &mut Page, out: &mut K) -> Result<(), WriteFault>
     requires { IsWellFormed (mesh_of mesh.now) }
-    ensures ok { OnOk result (GainsThrough (K.got out.old) (K.got out.new) page.old page.new (flat_map corner_line mesh.now.faces.items)) }
-    ensures err { OnErr result (GainsPart (K.got out.old) (K.got out.new) (page.old ++ flat_map corner_line mesh.now.faces.items)) }
-    ensures cause { HasCause (K.faults out.old) (K.faults out.new) result }
+    ensures { let text = flat_map corner_line mesh.now.faces.items in
+        PutsThrough K.Sink out.old out.new page.old page.new text result }
 {
     let mut line = Line::new();
     for corners in mesh.faces.as_slice() {
@@ -56,9 +53,7 @@ fn put_faces<K: Sink>(mesh: &Mesh, page: &mut Page, out: &mut K) -> Result<(), W
 pub fn write_obj<K: Sink>(mesh: &Mesh, digits: u32, out: &mut K) -> Result<(), WriteFault>
     requires few { digits ≤ 4 }
     requires formed { IsWellFormed (mesh_of mesh.now) }
-    ensures ok { OnOk result (Gains (K.got out.old) (K.got out.new) (canonical_text digits (mesh_of mesh.now))) }
-    ensures err { OnErr result (GainsPart (K.got out.old) (K.got out.new) (canonical_text digits (mesh_of mesh.now))) }
-    ensures cause { HasCause (K.faults out.old) (K.faults out.new) result }
+    ensures { Puts K.Sink out.old out.new (canonical_text digits (mesh_of mesh.now)) result }
 {
     let mut page = Page::new();
     if let Err(fault) = put_points(mesh, digits, &mut page, out) {

@@ -1,9 +1,8 @@
 -- A grid has one summary, and how the parts of a summary are put one after the other.
-use Rattle.std.proofs.Common.{◌≡◌, ℕ, ◌+◌, ◌*◌, ◌≤◌, Bool, List, ◌++◌, length, Option, Result, Ok, Err, OnOk, OnErr, refl, sym, ◌∙◌, ap, subst}
+use Rattle.std.proofs.Common.{◌≡◌, ℕ, ◌+◌, ◌*◌, ◌≤◌, Bool, List, ◌++◌, length, Option, refl, sym, ◌∙◌, ap, subst}
 use Rattle.pm_base.specs.Meshes.{Mesh}
 use Rattle.pm_base.specs.declared.log.Collapse.{Collapse}
 use Rattle.pm_io.specs.Bytes.{Gains, GainsPart}
-use Rattle.pm_io.proofs.Known.{gains_both, part_after}
 use Rattle.pm_grid.specs.Grid.{grid}
 use Rattle.pm_grid.specs.Laws.{GridsAreCounted}
 use Rattle.pm_grid.proofs.GridMeshes.{grids_are_manifolds, grids_are_well_formed}
@@ -45,22 +44,7 @@ view_line_is h g S T i v w same_h same_S same_v = rw (same_h, same_S, same_v) re
 pub target_is : (h g : Hierarchy) (v w : View) → h ≡ g → v ≡ w → view_target h v ≡ view_target g w
 target_is h g v w same_h same_v = rw (same_h, same_v) refl
 
--- A text whose last part was put, or a part of that.
-pub ok_after : {X E : Type 0} (r : Result X E) (old mid new : Option (List ℕ)) (a b : List ℕ) → Gains old mid a → OnOk r (Gains mid new b) → OnOk r (Gains old new (a ++ b))
-ok_after (Ok x) old mid new a b first second = gains_both old mid new a b first second
-ok_after (Err e) old mid new a b first second = tt
-
-pub err_after : {X E : Type 0} (r : Result X E) (old mid new : Option (List ℕ)) (a b : List ℕ) → Gains old mid a → OnErr r (GainsPart mid new b) → OnErr r (GainsPart old new (a ++ b))
-err_after (Ok x) old mid new a b first second = tt
-err_after (Err e) old mid new a b first second = part_after old mid new a b first second
-
 -- The same text.
-pub ok_same : {X E : Type 0} (r : Result X E) (old new : Option (List ℕ)) (a b : List ℕ) → a ≡ b → OnOk r (Gains old new a) → OnOk r (Gains old new b)
-ok_same r old new a b is = subst (λ (l : List ℕ). OnOk r (Gains old new l)) is
-
-pub err_same : {X E : Type 0} (r : Result X E) (old new : Option (List ℕ)) (a b : List ℕ) → a ≡ b → OnErr r (GainsPart old new a) → OnErr r (GainsPart old new b)
-err_same r old new a b is = subst (λ (l : List ℕ). OnErr r (GainsPart old new l)) is
-
 pub gains_same : (old new : Option (List ℕ)) (a b : List ℕ) → a ≡ b → Gains old new a → Gains old new b
 gains_same old new a b is = subst (λ (l : List ℕ). Gains old new l) is
 

@@ -1,9 +1,8 @@
 //! The hierarchy of a grid and what adapts its fronts. All memory of a summary is taken here.
-ghost use Rattle.std.specs.Prelude.{◌≡◌, ◌+◌, ◌≤◌, ◌<◌, length, IfOk, OnOk, OnErr};
+ghost use Rattle.std.specs.Prelude.{◌≡◌, ◌+◌, ◌≤◌, ◌<◌, length, IfOk};
 ghost use Rattle.pm_base.specs.Meshes.{mesh_of};
 ghost use Rattle.pm_grid.specs.Grid.{grid as grid_of};
-ghost use Rattle.pm_io.specs.Bytes.{Gains, GainsPart};
-ghost use Rattle.pm_io.specs.Causes.{HasCause};
+ghost use Rattle.pm_io.specs.Puts.{Puts};
 ghost use Rattle.pm_forest.specs.Fronts.{set_of, no_records};
 ghost use Rattle.pm_beyond.specs.Valid.{IsValid};
 ghost use Rattle.pm_front.specs.Shown.{active_nodes, kept_faces};
@@ -145,11 +144,8 @@ impl Scene {
     pub fn show<K: Sink>(&mut self, i: u32, view: &View, out: &mut K) -> Result<(), WriteFault>
         ensures after { set_of self.new.flags ≡ view_target self.old.h view.now }
         ensures hierarchy { self.new.h ≡ self.old.h }
-        ensures ok { let text = view_line self.old.h (set_of self.old.flags) i view.now in
-            OnOk result (Gains (K.got out.old) (K.got out.new) text) }
-        ensures err { let text = view_line self.old.h (set_of self.old.flags) i view.now in
-            OnErr result (GainsPart (K.got out.old) (K.got out.new) text) }
-        ensures cause { HasCause (K.faults out.old) (K.faults out.new) result }
+        ensures puts { let text = view_line self.old.h (set_of self.old.flags) i view.now in
+            Puts K.Sink out.old out.new text result }
     {
         let moves = self.look(view);
         let mut line = Line::new();

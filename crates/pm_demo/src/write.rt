@@ -1,7 +1,6 @@
 //! The summary of a grid, line by line.
-ghost use Rattle.std.specs.Prelude.{◌≡◌, ◌≤◌, OnOk, OnErr};
-ghost use Rattle.pm_io.specs.Bytes.{Gains, GainsPart};
-ghost use Rattle.pm_io.specs.Causes.{HasCause};
+ghost use Rattle.std.specs.Prelude.{◌≡◌, ◌≤◌};
+ghost use Rattle.pm_io.specs.Puts.{Puts};
 ghost use Rattle.pm_forest.specs.Fronts.{set_of, no_records};
 ghost use Rattle.pm_demo.specs.Summary.{IsOfGrid, sizes_text, views_text};
 ghost use Rattle.pm_demo.specs.Ending.{DemoEnds, DemoCounts};
@@ -24,9 +23,7 @@ pub enum DemoFail {
 // Puts how large the grid and its hierarchy are.
 fn put_sizes<K: Sink>(n: u32, h: &Hierarchy, out: &mut K) -> Result<(), WriteFault>
     requires most { n ≤ 256 }
-    ensures ok { OnOk result (Gains (K.got out.old) (K.got out.new) (sizes_text n h.now)) }
-    ensures err { OnErr result (GainsPart (K.got out.old) (K.got out.new) (sizes_text n h.now)) }
-    ensures cause { HasCause (K.faults out.old) (K.faults out.new) result }
+    ensures { Puts K.Sink out.old out.new (sizes_text n h.now) result }
 {
     grids_are_sound();
     let mut line = Line::new();
@@ -42,9 +39,7 @@ fn put_sizes<K: Sink>(n: u32, h: &Hierarchy, out: &mut K) -> Result<(), WriteFau
 fn put_views<K: Sink>(n: u32, scene: &mut Scene, out: &mut K) -> Result<(), WriteFault>
     requires most { n ≤ 256 }
     requires base { set_of scene.old.flags ≡ no_records }
-    ensures ok { OnOk result (Gains (K.got out.old) (K.got out.new) (views_text n scene.old.h)) }
-    ensures err { OnErr result (GainsPart (K.got out.old) (K.got out.new) (views_text n scene.old.h)) }
-    ensures cause { HasCause (K.faults out.old) (K.faults out.new) result }
+    ensures { Puts K.Sink out.old out.new (views_text n scene.old.h) result }
 {
     let middle = middle_view(n);
     let corner = corner_view(n);

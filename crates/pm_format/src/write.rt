@@ -1,8 +1,7 @@
 //! Writes the stream text of a hierarchy, in pages.
-ghost use Rattle.std.specs.Prelude.{◌≡◌, ◌≤◌, ◌<◌, ◌^◌, ◌++◌, length, Some, OnOk, OnErr};
+ghost use Rattle.std.specs.Prelude.{◌≡◌, ◌≤◌, ◌<◌, ◌^◌, length, Some};
 ghost use Rattle.std.specs.List.{flat_map};
-ghost use Rattle.pm_io.specs.Bytes.{Gains, GainsPart, GainsThrough};
-ghost use Rattle.pm_io.specs.Causes.{HasCause};
+ghost use Rattle.pm_io.specs.Puts.{Puts, PutsThrough};
 ghost use Rattle.pm_forest.specs.Forest.{leaf_count, record_count};
 ghost use Rattle.pm_forest.specs.Rules.{word_of};
 ghost use Rattle.pm_format.specs.Words.{spelled, AreWords};
@@ -18,9 +17,7 @@ use pm_io::{Page, Sink, WriteFault};
 #[tactic(auto, unfolding(crate::specs::Words::spelled))]
 fn put_words<K: Sink>(words: &[u32], page: &mut Page, out: &mut K) -> Result<(), WriteFault>
     requires { length words.now ≤ 11 }
-    ensures ok { OnOk result (GainsThrough (K.got out.old) (K.got out.new) page.old page.new (spelled words.now)) }
-    ensures err { OnErr result (GainsPart (K.got out.old) (K.got out.new) (page.old ++ spelled words.now)) }
-    ensures cause { HasCause (K.faults out.old) (K.faults out.new) result }
+    ensures { PutsThrough K.Sink out.old out.new page.old page.new (spelled words.now) result }
 {
     let mut bytes = [0; 44];
     let unit = &mut bytes[..4 * words.len()];
@@ -121,9 +118,8 @@ fn put_header<K: Sink>(
     page: &mut Page,
     out: &mut K,
 ) -> Result<(), WriteFault>
-    ensures ok { OnOk result (GainsThrough (K.got out.old) (K.got out.new) page.old page.new (spelled (header_words digits h.now))) }
-    ensures err { OnErr result (GainsPart (K.got out.old) (K.got out.new) (page.old ++ spelled (header_words digits h.now))) }
-    ensures cause { HasCause (K.faults out.old) (K.faults out.new) result }
+    ensures { let text = spelled (header_words digits h.now) in
+        PutsThrough K.Sink out.old out.new page.old page.new text result }
 {
     if digits == 0 {
         put_words(&whole_header(h), page, out)
@@ -139,9 +135,7 @@ fn put_new_face<K: Sink>(
     out: &mut K,
 ) -> Result<(), WriteFault>
     requires { AreWords (new_face_words new) }
-    ensures ok { OnOk result (GainsThrough (K.got out.old) (K.got out.new) page.old page.new (spelled (new_face_words new))) }
-    ensures err { OnErr result (GainsPart (K.got out.old) (K.got out.new) (page.old ++ spelled (new_face_words new))) }
-    ensures cause { HasCause (K.faults out.old) (K.faults out.new) result }
+    ensures { PutsThrough K.Sink out.old out.new page.old page.new (spelled (new_face_words new)) result }
 {
     match new {
         None => Ok(()),
@@ -150,9 +144,7 @@ fn put_new_face<K: Sink>(
 }
 
 fn put_head<K: Sink>(split: &Record, page: &mut Page, out: &mut K) -> Result<(), WriteFault>
-    ensures ok { OnOk result (GainsThrough (K.got out.old) (K.got out.new) page.old page.new (spelled (head_words split.now))) }
-    ensures err { OnErr result (GainsPart (K.got out.old) (K.got out.new) (page.old ++ spelled (head_words split.now))) }
-    ensures cause { HasCause (K.faults out.old) (K.faults out.new) result }
+    ensures { PutsThrough K.Sink out.old out.new page.old page.new (spelled (head_words split.now)) result }
 {
     put_words(&head_words(split), page, out)
 }
@@ -160,9 +152,7 @@ fn put_head<K: Sink>(split: &Record, page: &mut Page, out: &mut K) -> Result<(),
 fn put_record<K: Sink>(split: &Record, page: &mut Page, out: &mut K) -> Result<(), WriteFault>
     requires left { AreWords (new_face_words split.now.left) }
     requires right { AreWords (new_face_words split.now.right) }
-    ensures ok { OnOk result (GainsThrough (K.got out.old) (K.got out.new) page.old page.new (spelled (record_words split.now))) }
-    ensures err { OnErr result (GainsPart (K.got out.old) (K.got out.new) (page.old ++ spelled (record_words split.now))) }
-    ensures cause { HasCause (K.faults out.old) (K.faults out.new) result }
+    ensures { PutsThrough K.Sink out.old out.new page.old page.new (spelled (record_words split.now)) result }
 {
     if let Err(fault) = put_head(split, page, out) {
         return Err(fault);
@@ -174,11 +164,8 @@ fn put_record<K: Sink>(split: &Record, page: &mut Page, out: &mut K) -> Result<(
 }
 
 fn put_roots<K: Sink>(h: &Hierarchy, page: &mut Page, out: &mut K) -> Result<(), WriteFault>
-    ensures ok { let text = flat_map (λ r. spelled (root_words r)) h.now.roots in
-        OnOk result (GainsThrough (K.got out.old) (K.got out.new) page.old page.new text) }
-    ensures err { let text = flat_map (λ r. spelled (root_words r)) h.now.roots in
-        OnErr result (GainsPart (K.got out.old) (K.got out.new) (page.old ++ text)) }
-    ensures cause { HasCause (K.faults out.old) (K.faults out.new) result }
+    ensures { let text = flat_map (λ r. spelled (root_words r)) h.now.roots in
+        PutsThrough K.Sink out.old out.new page.old page.new text result }
 {
     for i in 0..h.roots() {
         if let Err(fault) = put_words(&root_words(&h.root_at(i)), page, out) {
@@ -189,11 +176,8 @@ fn put_roots<K: Sink>(h: &Hierarchy, page: &mut Page, out: &mut K) -> Result<(),
 }
 
 fn put_bases<K: Sink>(h: &Hierarchy, page: &mut Page, out: &mut K) -> Result<(), WriteFault>
-    ensures ok { let text = flat_map (λ f. spelled (base_words f)) h.now.bases in
-        OnOk result (GainsThrough (K.got out.old) (K.got out.new) page.old page.new text) }
-    ensures err { let text = flat_map (λ f. spelled (base_words f)) h.now.bases in
-        OnErr result (GainsPart (K.got out.old) (K.got out.new) (page.old ++ text)) }
-    ensures cause { HasCause (K.faults out.old) (K.faults out.new) result }
+    ensures { let text = flat_map (λ f. spelled (base_words f)) h.now.bases in
+        PutsThrough K.Sink out.old out.new page.old page.new text result }
 {
     for i in 0..h.bases() {
         if let Err(fault) = put_words(&base_words(&h.base_at(i)), page, out) {
@@ -204,11 +188,8 @@ fn put_bases<K: Sink>(h: &Hierarchy, page: &mut Page, out: &mut K) -> Result<(),
 }
 
 fn put_records<K: Sink>(h: &Hierarchy, page: &mut Page, out: &mut K) -> Result<(), WriteFault>
-    ensures ok { let text = flat_map (λ r. spelled (record_words r)) h.now.records in
-        OnOk result (GainsThrough (K.got out.old) (K.got out.new) page.old page.new text) }
-    ensures err { let text = flat_map (λ r. spelled (record_words r)) h.now.records in
-        OnErr result (GainsPart (K.got out.old) (K.got out.new) (page.old ++ text)) }
-    ensures cause { HasCause (K.faults out.old) (K.faults out.new) result }
+    ensures { let text = flat_map (λ r. spelled (record_words r)) h.now.records in
+        PutsThrough K.Sink out.old out.new page.old page.new text result }
 {
     h.invariant();
     for k in 0..h.records() {
@@ -224,9 +205,7 @@ fn put_records<K: Sink>(h: &Hierarchy, page: &mut Page, out: &mut K) -> Result<(
 /// is put in pages of 4,096 bytes, of which the last may be shorter.
 pub fn encode<K: Sink>(h: &Hierarchy, digits: u32, out: &mut K) -> Result<(), WriteFault>
     requires { digits ≤ 4 }
-    ensures ok { OnOk result (Gains (K.got out.old) (K.got out.new) (stream digits h.now)) }
-    ensures err { OnErr result (GainsPart (K.got out.old) (K.got out.new) (stream digits h.now)) }
-    ensures cause { HasCause (K.faults out.old) (K.faults out.new) result }
+    ensures { Puts K.Sink out.old out.new (stream digits h.now) result }
 {
     let mut page = Page::new();
     if let Err(fault) = put_header(h, digits, &mut page, out) {

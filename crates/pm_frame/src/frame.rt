@@ -1,7 +1,6 @@
 //! Writes the frame that a front shows.
-ghost use Rattle.std.specs.Prelude.{true, ◌≡◌, ◌<◌, ◌++◌, OnOk, OnErr};
-ghost use Rattle.pm_io.specs.Bytes.{Gains, GainsPart, GainsThrough};
-ghost use Rattle.pm_io.specs.Causes.{HasCause};
+ghost use Rattle.std.specs.Prelude.{true, ◌≡◌, ◌<◌};
+ghost use Rattle.pm_io.specs.Puts.{Puts, PutsThrough};
 ghost use Rattle.pm_forest.specs.Forest.{node_count};
 ghost use Rattle.pm_forest.specs.Faces.{face_count};
 ghost use Rattle.pm_forest.specs.Fronts.{set_of};
@@ -15,11 +14,8 @@ use pm_io::{Line, Page, Sink, WriteFault};
 
 // The first line, with how many nodes are active and how many faces are kept.
 fn put_first<K: Sink>(front: &Front, page: &mut Page, out: &mut K) -> Result<(), WriteFault>
-    ensures ok { let text = first_line front.now.h (set_of front.now.flags) in
-        OnOk result (GainsThrough (K.got out.old) (K.got out.new) page.old page.new text) }
-    ensures err { let text = first_line front.now.h (set_of front.now.flags) in
-        OnErr result (GainsPart (K.got out.old) (K.got out.new) (page.old ++ text)) }
-    ensures cause { HasCause (K.faults out.old) (K.faults out.new) result }
+    ensures { let text = first_line front.now.h (set_of front.now.flags) in
+        PutsThrough K.Sink out.old out.new page.old page.new text result }
 {
     let mut line = Line::new();
     put_head(&mut line, front.active_count(), front.kept_count());
@@ -36,11 +32,8 @@ fn put_active(front: &Front, line: &mut Line, node: NodeId)
 
 // A line for each active node.
 fn put_nodes<K: Sink>(front: &Front, page: &mut Page, out: &mut K) -> Result<(), WriteFault>
-    ensures ok { let text = node_lines front.now.h (set_of front.now.flags) in
-        OnOk result (GainsThrough (K.got out.old) (K.got out.new) page.old page.new text) }
-    ensures err { let text = node_lines front.now.h (set_of front.now.flags) in
-        OnErr result (GainsPart (K.got out.old) (K.got out.new) (page.old ++ text)) }
-    ensures cause { HasCause (K.faults out.old) (K.faults out.new) result }
+    ensures { let text = node_lines front.now.h (set_of front.now.flags) in
+        PutsThrough K.Sink out.old out.new page.old page.new text result }
 {
     let mut line = Line::new();
     for node in 0..front.hierarchy().nodes() {
@@ -69,11 +62,8 @@ fn put_shown(front: &Front, line: &mut Line, face: FaceId)
 /// Adds a line for each kept face, with the ancestors of its corners, ascending by number. It takes no memory. After a
 /// fault the sink has gained a part of what the page held and the lines.
 pub fn put_faces<K: Sink>(front: &Front, page: &mut Page, out: &mut K) -> Result<(), WriteFault>
-    ensures ok { let text = face_lines front.now.h (set_of front.now.flags) in
-        OnOk result (GainsThrough (K.got out.old) (K.got out.new) page.old page.new text) }
-    ensures err { let text = face_lines front.now.h (set_of front.now.flags) in
-        OnErr result (GainsPart (K.got out.old) (K.got out.new) (page.old ++ text)) }
-    ensures cause { HasCause (K.faults out.old) (K.faults out.new) result }
+    ensures { let text = face_lines front.now.h (set_of front.now.flags) in
+        PutsThrough K.Sink out.old out.new page.old page.new text result }
 {
     let mut line = Line::new();
     for face in 0..front.hierarchy().faces() {
@@ -89,9 +79,7 @@ pub fn put_faces<K: Sink>(front: &Front, page: &mut Page, out: &mut K) -> Result
 
 /// Adds the last line of a frame. It takes no memory.
 pub fn put_last<K: Sink>(page: &mut Page, out: &mut K) -> Result<(), WriteFault>
-    ensures ok { OnOk result (GainsThrough (K.got out.old) (K.got out.new) page.old page.new end_line) }
-    ensures err { OnErr result (GainsPart (K.got out.old) (K.got out.new) (page.old ++ end_line)) }
-    ensures cause { HasCause (K.faults out.old) (K.faults out.new) result }
+    ensures { PutsThrough K.Sink out.old out.new page.old page.new end_line result }
 {
     let mut line = Line::new();
     put_end(&mut line);
@@ -105,11 +93,7 @@ pub fn put_last<K: Sink>(page: &mut Page, out: &mut K) -> Result<(), WriteFault>
 /// The text is put in pages of 4,096 bytes, of which the last may be shorter: when the call returns, nothing is held back.
 #[tactic(auto, unfolding(crate::specs::Frame::frame_text))]
 pub fn write_frame<K: Sink>(front: &Front, out: &mut K) -> Result<(), WriteFault>
-    ensures ok { let text = frame_text front.now.h (set_of front.now.flags) in
-        OnOk result (Gains (K.got out.old) (K.got out.new) text) }
-    ensures err { let text = frame_text front.now.h (set_of front.now.flags) in
-        OnErr result (GainsPart (K.got out.old) (K.got out.new) text) }
-    ensures cause { HasCause (K.faults out.old) (K.faults out.new) result }
+    ensures { Puts K.Sink out.old out.new (frame_text front.now.h (set_of front.now.flags)) result }
 {
     let mut page = Page::new();
     if let Err(fault) = put_first(front, &mut page, out) {

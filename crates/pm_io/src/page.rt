@@ -1,7 +1,6 @@
 //! A page of bytes, in which a long text is gathered before it is put.
-ghost use Rattle.std.specs.Prelude.{◌≡◌, ◌+◌, ◌≤◌, [], ◌++◌, length, OnOk, OnErr};
-ghost use Rattle.pm_io.specs.Bytes.{Gains, GainsPart, GainsThrough};
-ghost use Rattle.pm_io.specs.Causes.{HasCause};
+ghost use Rattle.std.specs.Prelude.{◌≡◌, ◌+◌, ◌≤◌, [], ◌++◌, length, OnErr};
+ghost use Rattle.pm_io.specs.Puts.{Puts, PutsThrough};
 
 use crate::{Sink, WriteFault, put_all};
 use arrayvec::ArrayVec;
@@ -46,11 +45,9 @@ impl Page {
     /// pages, and the rest is held. After a fault the sink has gained a part of what was held and the piece, and the page
     /// is empty: what wasn't put is lost.
     pub fn add<K: Sink>(&mut self, piece: &[u8], out: &mut K) -> Result<(), WriteFault>
-        ensures ok { OnOk result (GainsThrough (K.got out.old) (K.got out.new) self.old self.new piece.now) }
+        ensures puts { PutsThrough K.Sink out.old out.new self.old self.new piece.now result }
         ensures quiet { length self.old + length piece.now ≤ 4096 → out.new ≡ out.old }
-        ensures err { OnErr result (GainsPart (K.got out.old) (K.got out.new) (self.old ++ piece.now)) }
         ensures lost { OnErr result (self.new ≡ []) }
-        ensures cause { HasCause (K.faults out.old) (K.faults out.new) result }
     {
         let room = self.held.remaining_capacity();
         if piece.len() <= room {
@@ -73,10 +70,8 @@ impl Page {
     /// Puts what the page holds; an empty page makes no call. The page is empty then. After a fault the sink has gained
     /// a part of what was held, and the rest is lost.
     pub fn flush<K: Sink>(&mut self, out: &mut K) -> Result<(), WriteFault>
-        ensures ok { OnOk result (Gains (K.got out.old) (K.got out.new) self.old) }
-        ensures err { OnErr result (GainsPart (K.got out.old) (K.got out.new) self.old) }
+        ensures puts { Puts K.Sink out.old out.new self.old result }
         ensures empty { self.new ≡ [] }
-        ensures cause { HasCause (K.faults out.old) (K.faults out.new) result }
     {
         let put = put_all(out, self.held.as_slice());
         self.held.clear();

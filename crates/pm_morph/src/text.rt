@@ -1,7 +1,6 @@
 //! Writes the text of a geomorph.
-ghost use Rattle.std.specs.Prelude.{true, ◌≡◌, ◌<◌, ◌≤◌, ◌++◌, OnOk, OnErr};
-ghost use Rattle.pm_io.specs.Bytes.{Gains, GainsPart, GainsThrough};
-ghost use Rattle.pm_io.specs.Causes.{HasCause};
+ghost use Rattle.std.specs.Prelude.{true, ◌≡◌, ◌<◌, ◌≤◌};
+ghost use Rattle.pm_io.specs.Puts.{Puts, PutsThrough};
 ghost use Rattle.pm_forest.specs.Forest.{node_count};
 ghost use Rattle.pm_forest.specs.Fronts.{set_of, is_active};
 ghost use Rattle.pm_morph.specs.Elders.{IsPart};
@@ -40,11 +39,8 @@ fn put_first<K: Sink>(
     page: &mut Page,
     out: &mut K,
 ) -> Result<(), WriteFault>
-    ensures ok { let text = first_line front.now.h (set_of front.now.flags) a b in
-        OnOk result (GainsThrough (K.got out.old) (K.got out.new) page.old page.new text) }
-    ensures err { let text = first_line front.now.h (set_of front.now.flags) a b in
-        OnErr result (GainsPart (K.got out.old) (K.got out.new) (page.old ++ text)) }
-    ensures cause { HasCause (K.faults out.old) (K.faults out.new) result }
+    ensures { let text = first_line front.now.h (set_of front.now.flags) a b in
+        PutsThrough K.Sink out.old out.new page.old page.new text result }
 {
     let mut line = Line::new();
     put_head(&mut line, front.active_count(), front.kept_count(), a, b);
@@ -82,11 +78,8 @@ fn put_nodes<K: Sink>(
     requires some { 0 < b }
     requires most { b ≤ 65535 }
     requires within { a ≤ b }
-    ensures ok { let text = moved_lines front.now.h (set_of marks.now) (set_of front.now.flags) a b in
-        OnOk result (GainsThrough (K.got out.old) (K.got out.new) page.old page.new text) }
-    ensures err { let text = moved_lines front.now.h (set_of marks.now) (set_of front.now.flags) a b in
-        OnErr result (GainsPart (K.got out.old) (K.got out.new) (page.old ++ text)) }
-    ensures cause { HasCause (K.faults out.old) (K.faults out.new) result }
+    ensures { let text = moved_lines front.now.h (set_of marks.now) (set_of front.now.flags) a b in
+        PutsThrough K.Sink out.old out.new page.old page.new text result }
 {
     let mut line = Line::new();
     for node in 0..front.hierarchy().nodes() {
@@ -114,11 +107,8 @@ pub(crate) fn write_text<K: Sink>(
     requires some { 0 < b }
     requires most { b ≤ 65535 }
     requires within { a ≤ b }
-    ensures ok { let text = morph_text front.now.h (set_of marks.now) (set_of front.now.flags) a b in
-        OnOk result (Gains (K.got out.old) (K.got out.new) text) }
-    ensures err { let text = morph_text front.now.h (set_of marks.now) (set_of front.now.flags) a b in
-        OnErr result (GainsPart (K.got out.old) (K.got out.new) text) }
-    ensures cause { HasCause (K.faults out.old) (K.faults out.new) result }
+    ensures { let text = morph_text front.now.h (set_of marks.now) (set_of front.now.flags) a b in
+        Puts K.Sink out.old out.new text result }
 {
     let mut page = Page::new();
     if let Err(fault) = put_first(front, a, b, &mut page, out) {

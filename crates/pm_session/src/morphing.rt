@@ -1,7 +1,8 @@
 //! Geomorphs for a script, and how they are told.
 ghost use Rattle.std.specs.Prelude.{◌≡◌, true, OnOk, OnErr};
 ghost use Rattle.pm_io.specs.Bytes.{Gains, GainsPart};
-ghost use Rattle.pm_io.specs.Causes.{Rose, HasCause};
+ghost use Rattle.pm_io.specs.Causes.{Rose};
+ghost use Rattle.pm_io.specs.Puts.{Puts};
 ghost use Rattle.pm_forest.specs.Fronts.{set_of};
 ghost use Rattle.pm_morph.specs.Marks.{AreMarksOf};
 ghost use Rattle.pm_session.specs.Script.{is_fraction, not_finer, morph_reply};
@@ -31,9 +32,7 @@ fn put_not_finer(line: &mut Line, k: u32)
 
 // Puts that reply.
 fn put_refusal<K: Sink>(k: u32, out: &mut K) -> Result<(), WriteFault>
-    ensures ok { OnOk result (Gains (K.got out.old) (K.got out.new) (not_finer k)) }
-    ensures err { OnErr result (GainsPart (K.got out.old) (K.got out.new) (not_finer k)) }
-    ensures cause { HasCause (K.faults out.old) (K.faults out.new) result }
+    ensures { Puts K.Sink out.old out.new (not_finer k) result }
 {
     let mut line = Line::new();
     put_not_finer(&mut line, k);

@@ -1,7 +1,6 @@
 //! Picks for a script, and how they are told.
-ghost use Rattle.std.specs.Prelude.{◌≡◌, ◌<◌, OnOk, OnErr};
-ghost use Rattle.pm_io.specs.Bytes.{Gains, GainsPart};
-ghost use Rattle.pm_io.specs.Causes.{HasCause};
+ghost use Rattle.std.specs.Prelude.{◌≡◌, ◌<◌};
+ghost use Rattle.pm_io.specs.Puts.{Puts};
 ghost use Rattle.pm_bounds.specs.Bounds.{AreBoundsOf};
 ghost use Rattle.pm_pick.specs.Lists.{AreListsOf};
 ghost use Rattle.pm_pick.specs.Picks.{pick_of};
@@ -36,9 +35,7 @@ pub(crate) fn pick_face<L: Ledger>(
 
 // Puts the reply to a ray.
 pub(crate) fn put_pick<K: Sink>(hit: Option<Hit>, out: &mut K) -> Result<(), WriteFault>
-    ensures ok { OnOk result (Gains (K.got out.old) (K.got out.new) (pick_reply hit)) }
-    ensures err { OnErr result (GainsPart (K.got out.old) (K.got out.new) (pick_reply hit)) }
-    ensures cause { HasCause (K.faults out.old) (K.faults out.new) result }
+    ensures { Puts K.Sink out.old out.new (pick_reply hit) result }
 {
     let mut line = Line::new();
     put_hit(&mut line, hit);

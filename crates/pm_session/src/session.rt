@@ -1,7 +1,8 @@
 //! A session over one hierarchy. All its memory is taken when it starts.
 ghost use Rattle.std.specs.Prelude.{◌≡◌, ◌≢◌, ◌<◌, true, IfOk, IfErr, OnOk, OnErr};
 ghost use Rattle.pm_io.specs.Bytes.{Gains, GainsPart};
-ghost use Rattle.pm_io.specs.Causes.{Rose, HasCause};
+ghost use Rattle.pm_io.specs.Causes.{Rose};
+ghost use Rattle.pm_io.specs.Puts.{Puts};
 ghost use Rattle.pm_forest.specs.Forest.{record_count};
 ghost use Rattle.pm_forest.specs.Fronts.{set_of};
 ghost use Rattle.pm_beyond.specs.Valid.{IsValid};
@@ -80,9 +81,7 @@ impl Model for Session {
 
 // Puts the reply to a view.
 fn put_adapted<K: Sink>(adapted: Adapted, out: &mut K) -> Result<(), WriteFault>
-    ensures ok { OnOk result (Gains (K.got out.old) (K.got out.new) (view_reply adapted)) }
-    ensures err { OnErr result (GainsPart (K.got out.old) (K.got out.new) (view_reply adapted)) }
-    ensures cause { HasCause (K.faults out.old) (K.faults out.new) result }
+    ensures { Puts K.Sink out.old out.new (view_reply adapted) result }
 {
     let mut line = Line::new();
     put_view_reply(&mut line, adapted);
@@ -91,9 +90,7 @@ fn put_adapted<K: Sink>(adapted: Adapted, out: &mut K) -> Result<(), WriteFault>
 
 // Puts the reply to a move.
 fn put_answer<K: Sink>(fault: Option<MoveFault>, out: &mut K) -> Result<(), WriteFault>
-    ensures ok { OnOk result (Gains (K.got out.old) (K.got out.new) (reply_to fault)) }
-    ensures err { OnErr result (GainsPart (K.got out.old) (K.got out.new) (reply_to fault)) }
-    ensures cause { HasCause (K.faults out.old) (K.faults out.new) result }
+    ensures { Puts K.Sink out.old out.new (reply_to fault) result }
 {
     let mut line = Line::new();
     put_reply(&mut line, fault);
@@ -141,11 +138,7 @@ impl Session {
 
     // Writes the frame.
     fn show<K: Sink>(&self, out: &mut K) -> Result<(), WriteFault>
-        ensures ok { let text = frame_text self.now.h (set_of self.now.flags) in
-            OnOk result (Gains (K.got out.old) (K.got out.new) text) }
-        ensures err { let text = frame_text self.now.h (set_of self.now.flags) in
-            OnErr result (GainsPart (K.got out.old) (K.got out.new) text) }
-        ensures cause { HasCause (K.faults out.old) (K.faults out.new) result }
+        ensures { Puts K.Sink out.old out.new (frame_text self.now.h (set_of self.now.flags)) result }
     {
         write_frame(&self.front, out)
     }
@@ -204,11 +197,7 @@ impl Session {
     // Writes the measure.
     #[tactic(auto, unfolding(crate::specs::Script::shape_reply))]
     fn measure<K: Sink>(&mut self, out: &mut K) -> Result<(), WriteFault>
-        ensures ok { let text = shape_reply self.old.h (set_of self.old.flags) in
-            OnOk result (Gains (K.got out.old) (K.got out.new) text) }
-        ensures err { let text = shape_reply self.old.h (set_of self.old.flags) in
-            OnErr result (GainsPart (K.got out.old) (K.got out.new) text) }
-        ensures cause { HasCause (K.faults out.old) (K.faults out.new) result }
+        ensures puts { Puts K.Sink out.old out.new (shape_reply self.old.h (set_of self.old.flags)) result }
         ensures same { self.new ≡ self.old }
     {
         let measure = self.tools.measure(&self.front);
@@ -219,11 +208,7 @@ impl Session {
 
     // Writes the strips.
     fn strip<K: Sink>(&mut self, out: &mut K) -> Result<(), WriteFault>
-        ensures ok { let text = strips_text self.old.h (set_of self.old.flags) in
-            OnOk result (Gains (K.got out.old) (K.got out.new) text) }
-        ensures err { let text = strips_text self.old.h (set_of self.old.flags) in
-            OnErr result (GainsPart (K.got out.old) (K.got out.new) text) }
-        ensures cause { HasCause (K.faults out.old) (K.faults out.new) result }
+        ensures puts { Puts K.Sink out.old out.new (strips_text self.old.h (set_of self.old.flags)) result }
         ensures same { self.new ≡ self.old }
     {
         self.tools.write_strips(&self.front, out)

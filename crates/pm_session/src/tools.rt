@@ -1,7 +1,6 @@
 //! What a session works with beside its front.
-ghost use Rattle.std.specs.Prelude.{◌≡◌, ◌<◌, ◌≤◌, IfOk, OnOk, OnErr};
-ghost use Rattle.pm_io.specs.Bytes.{Gains, GainsPart};
-ghost use Rattle.pm_io.specs.Causes.{HasCause};
+ghost use Rattle.std.specs.Prelude.{◌≡◌, ◌<◌, ◌≤◌, IfOk};
+ghost use Rattle.pm_io.specs.Puts.{Puts};
 ghost use Rattle.pm_forest.specs.Forest.{record_count};
 ghost use Rattle.pm_forest.specs.Fronts.{set_of};
 ghost use Rattle.pm_bounds.specs.Bounds.{AreBoundsOf};
@@ -132,11 +131,7 @@ impl Tools {
         out: &mut K,
     ) -> Result<(), WriteFault>
         requires { AreToolsOf front.now.h self.old }
-        ensures ok { let text = strips_text front.now.h (set_of front.now.flags) in
-            OnOk result (Gains (K.got out.old) (K.got out.new) text) }
-        ensures err { let text = strips_text front.now.h (set_of front.now.flags) in
-            OnErr result (GainsPart (K.got out.old) (K.got out.new) text) }
-        ensures cause { HasCause (K.faults out.old) (K.faults out.new) result }
+        ensures puts { Puts K.Sink out.old out.new (strips_text front.now.h (set_of front.now.flags)) result }
         ensures same { self.new ≡ self.old }
     {
         self.stripper.write_strips(front, out)

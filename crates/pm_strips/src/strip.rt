@@ -1,8 +1,7 @@
 //! Puts one strip.
-ghost use Rattle.std.specs.Prelude.{◌≡◌, true, ◌++◌, length, map, codes, OnOk, OnErr};
+ghost use Rattle.std.specs.Prelude.{◌≡◌, true, length, map, codes, OnOk};
 ghost use Rattle.std.specs.List.{flat_map};
-ghost use Rattle.pm_io.specs.Bytes.{GainsPart, GainsThrough};
-ghost use Rattle.pm_io.specs.Causes.{HasCause};
+ghost use Rattle.pm_io.specs.Puts.{PutsThrough};
 ghost use Rattle.pm_base.specs.Sides.{face_of};
 ghost use Rattle.pm_forest.specs.Fronts.{set_of};
 ghost use Rattle.pm_forest.specs.Faces.{face_count};
@@ -24,11 +23,8 @@ fn put_begin<K: Sink>(
     out: &mut K,
 ) -> Result<(), WriteFault>
     requires { is_there front.now.h (set_of front.now.flags) (face_of first.0) ≡ true }
-    ensures ok { let text = first_text (node_at front.now.h (set_of front.now.flags)) first.0 in
-        OnOk result (GainsThrough (K.got out.old) (K.got out.new) page.old page.new text) }
-    ensures err { let text = first_text (node_at front.now.h (set_of front.now.flags)) first.0 in
-        OnErr result (GainsPart (K.got out.old) (K.got out.new) (page.old ++ text)) }
-    ensures cause { HasCause (K.faults out.old) (K.faults out.new) result }
+    ensures { let text = first_text (node_at front.now.h (set_of front.now.flags)) first.0 in
+        PutsThrough K.Sink out.old out.new page.old page.new text result }
 {
     let mut line = Line::new();
     put_first(&mut line, front, first);
@@ -43,11 +39,8 @@ fn put_node<K: Sink>(
     out: &mut K,
 ) -> Result<(), WriteFault>
     requires { is_there front.now.h (set_of front.now.flags) (face_of corner.0) ≡ true }
-    ensures ok { let text = node_text (node_at front.now.h (set_of front.now.flags) corner.0) in
-        OnOk result (GainsThrough (K.got out.old) (K.got out.new) page.old page.new text) }
-    ensures err { let text = node_text (node_at front.now.h (set_of front.now.flags) corner.0) in
-        OnErr result (GainsPart (K.got out.old) (K.got out.new) (page.old ++ text)) }
-    ensures cause { HasCause (K.faults out.old) (K.faults out.new) result }
+    ensures { let text = node_text (node_at front.now.h (set_of front.now.flags) corner.0) in
+        PutsThrough K.Sink out.old out.new page.old page.new text result }
 {
     let mut line = Line::new();
     add_node(&mut line, front, corner);
@@ -65,17 +58,13 @@ fn put_entered<K: Sink>(
 ) -> Result<(), WriteFault>
     requires len { length free.old.items ≡ face_count front.now.h }
     requires there { is_there front.now.h (set_of front.now.flags) (face_of first_exit.0) ≡ true }
-    ensures ok { let h = front.now.h in let T = set_of front.now.flags in
+    ensures puts { let h = front.now.h in let T = set_of front.now.flags in
         let sides = entered (beyond_in h T) (face_count h) (set_of free.old.items) true first_exit.0 in
-        OnOk result (GainsThrough (K.got out.old) (K.got out.new) page.old page.new (entered_text (node_at h T) sides)) }
+        PutsThrough K.Sink out.old out.new page.old page.new (entered_text (node_at h T) sides) result }
     ensures left { let h = front.now.h in let T = set_of front.now.flags in
         let sides = entered (beyond_in h T) (face_count h) (set_of free.old.items) true first_exit.0 in
         OnOk result (set_of free.new.items ≡ left_by (set_of free.old.items) sides) }
-    ensures err { let h = front.now.h in let T = set_of front.now.flags in
-        let sides = entered (beyond_in h T) (face_count h) (set_of free.old.items) true first_exit.0 in
-        OnErr result (GainsPart (K.got out.old) (K.got out.new) (page.old ++ entered_text (node_at h T) sides)) }
     ensures len { length free.new.items ≡ length free.old.items }
-    ensures cause { HasCause (K.faults out.old) (K.faults out.new) result }
 {
     let mut exit = first_exit;
     let mut is_odd = true;
@@ -105,17 +94,13 @@ pub(crate) fn put_strip<K: Sink>(
 ) -> Result<(), WriteFault>
     requires len { length free.old.items ≡ face_count front.now.h }
     requires there { is_there front.now.h (set_of front.now.flags) face.0 ≡ true }
-    ensures ok { let h = front.now.h in let T = set_of front.now.flags in
+    ensures puts { let h = front.now.h in let T = set_of front.now.flags in
         let sides = strip_from (beyond_in h T) (face_count h) (set_of free.old.items) face.0 in
-        OnOk result (GainsThrough (K.got out.old) (K.got out.new) page.old page.new (line_of (node_at h T) sides)) }
+        PutsThrough K.Sink out.old out.new page.old page.new (line_of (node_at h T) sides) result }
     ensures left { let h = front.now.h in let T = set_of front.now.flags in
         let sides = strip_from (beyond_in h T) (face_count h) (set_of free.old.items) face.0 in
         OnOk result (set_of free.new.items ≡ left_by (set_of free.old.items) sides) }
-    ensures err { let h = front.now.h in let T = set_of front.now.flags in
-        let sides = strip_from (beyond_in h T) (face_count h) (set_of free.old.items) face.0 in
-        OnErr result (GainsPart (K.got out.old) (K.got out.new) (page.old ++ line_of (node_at h T) sides)) }
     ensures len { length free.new.items ≡ length free.old.items }
-    ensures cause { HasCause (K.faults out.old) (K.faults out.new) result }
 {
     free[face.0 as usize] = false;
     let first = first_side(free, front, face);

@@ -1,8 +1,7 @@
 //! Writes the strips of a front.
-ghost use Rattle.std.specs.Prelude.{◌≡◌, ◌++◌, length, IfOk, OnOk, OnErr};
+ghost use Rattle.std.specs.Prelude.{◌≡◌, length, IfOk};
 ghost use Rattle.std.specs.List.{flat_map};
-ghost use Rattle.pm_io.specs.Bytes.{Gains, GainsPart, GainsThrough};
-ghost use Rattle.pm_io.specs.Causes.{HasCause};
+ghost use Rattle.pm_io.specs.Puts.{Puts, PutsThrough};
 ghost use Rattle.pm_forest.specs.Fronts.{set_of};
 ghost use Rattle.pm_forest.specs.Faces.{face_count};
 ghost use Rattle.pm_strips.specs.Shown.{is_there, lists_of, strip_line, count_line, strips_text, ShowTheMesh};
@@ -52,11 +51,7 @@ impl Stripper {
     #[tactic(auto, using(crate::proofs::ShownLaws::strips_show), unfolding(crate::specs::Shown::strips_text))]
     pub fn write_strips<K: Sink>(&mut self, front: &Front, out: &mut K) -> Result<(), WriteFault>
         requires { self.old ≡ face_count front.now.h }
-        ensures ok { let text = strips_text front.now.h (set_of front.now.flags) in
-            OnOk result (Gains (K.got out.old) (K.got out.new) text) }
-        ensures err { let text = strips_text front.now.h (set_of front.now.flags) in
-            OnErr result (GainsPart (K.got out.old) (K.got out.new) text) }
-        ensures cause { HasCause (K.faults out.old) (K.faults out.new) result }
+        ensures puts { Puts K.Sink out.old out.new (strips_text front.now.h (set_of front.now.flags)) result }
         ensures same { self.new ≡ self.old }
         ensures mesh { ShowTheMesh front.now.h (set_of front.now.flags) }
     {
@@ -79,9 +74,7 @@ impl Stripper {
 
 // The last line.
 fn put_total<K: Sink>(strips: u32, page: &mut Page, out: &mut K) -> Result<(), WriteFault>
-    ensures ok { OnOk result (GainsThrough (K.got out.old) (K.got out.new) page.old page.new (count_line strips)) }
-    ensures err { OnErr result (GainsPart (K.got out.old) (K.got out.new) (page.old ++ count_line strips)) }
-    ensures cause { HasCause (K.faults out.old) (K.faults out.new) result }
+    ensures { PutsThrough K.Sink out.old out.new page.old page.new (count_line strips) result }
 {
     let mut line = Line::new();
     put_count(&mut line, strips);
@@ -109,13 +102,10 @@ fn put_strips<K: Sink>(
 ) -> Result<u32, WriteFault>
     requires len { length free.old.items ≡ face_count front.now.h }
     requires free { set_of free.old.items ≡ is_there front.now.h (set_of front.now.flags) }
-    ensures ok { let text = flat_map strip_line (lists_of front.now.h (set_of front.now.flags)) in
-        OnOk result (GainsThrough (K.got out.old) (K.got out.new) page.old page.new text) }
+    ensures puts { let text = flat_map strip_line (lists_of front.now.h (set_of front.now.flags)) in
+        PutsThrough K.Sink out.old out.new page.old page.new text result }
     ensures count { IfOk result (λ n. n ≡ length (lists_of front.now.h (set_of front.now.flags))) }
-    ensures err { let text = flat_map strip_line (lists_of front.now.h (set_of front.now.flags)) in
-        OnErr result (GainsPart (K.got out.old) (K.got out.new) (page.old ++ text)) }
     ensures len { length free.new.items ≡ length free.old.items }
-    ensures cause { HasCause (K.faults out.old) (K.faults out.new) result }
 {
     let mut strips = 0u32;
     for face in 0..front.hierarchy().faces() {

@@ -1,9 +1,10 @@
 //! The program over any source and sinks.
-ghost use Rattle.std.specs.Prelude.{◌≡◌, ◌⊎◌, ◌≤◌, ◌<◌, ◌-◌, ◌^◌, map, ℕ, None, Some, IfOk, IfErr, IfSome, OnOk, OnErr, codes};
+ghost use Rattle.std.specs.Prelude.{◌≡◌, ◌⊎◌, ◌≤◌, ◌<◌, ◌-◌, ◌^◌, map, ℕ, None, Some, IfOk, IfErr, IfSome, OnOk, codes};
 ghost use Rattle.std.specs.String.{string_bytes};
 ghost use Rattle.pm_base.specs.Meshes.{IsWellFormed, mesh_of};
-ghost use Rattle.pm_io.specs.Bytes.{AtEnd, Gains, GainsPart};
-ghost use Rattle.pm_io.specs.Causes.{HasCause, Rose};
+ghost use Rattle.pm_io.specs.Bytes.{AtEnd};
+ghost use Rattle.pm_io.specs.Causes.{Rose};
+ghost use Rattle.pm_io.specs.Puts.{Puts};
 ghost use Rattle.obj_prepare.specs.Placing.{IsSize};
 ghost use Rattle.prepare.specs.declared.words.Asked.{Asked};
 ghost use Rattle.prepare.specs.declared.fault.Fault.{Fault};
@@ -23,9 +24,7 @@ use std::alloc::Global;
 // Writes what was made.
 fn write<K: Sink>(made: &Made, out: &mut K) -> Result<(), WriteFault>
     requires { IsWellFormed (mesh_of made.now.mesh) }
-    ensures ok { OnOk result (Gains (K.got out.old) (K.got out.new) (done_of made.now).text) }
-    ensures err { OnErr result (GainsPart (K.got out.old) (K.got out.new) (done_of made.now).text) }
-    ensures cause { HasCause (K.faults out.old) (K.faults out.new) result }
+    ensures { Puts K.Sink out.old out.new (done_of made.now).text result }
 {
     if let Err(fault) = put_all(out, &made.head) {
         return Err(fault);

@@ -1,16 +1,17 @@
-use Rattle.std.proofs.Common.{◌++◌, arith, subst}
-use Rattle.std.proofs.lemmas.Grind.{common_steps}
+use Rattle.std.proofs.Common.{◌<◌, ◌++◌, length, arith, ◌∙◌, subst}
 use Rattle.pm_io.specs.Bytes.{GainsPart, GainsThrough}
 use Rattle.pm_io.proofs.PageLaws.{line_through, line_through_part}
+use Rattle.pm_io.proofs.PutLaws.{through_failed}
 use Rattle.pm_format.specs.Words.{spelled}
 use Rattle.pm_format.specs.Stream.{root_words}
 use Rattle.pm_format.proofs.write.put_roots.Goals as goal
 
-pub returns-in-Err-clause-err : goal.returns-in-Err-clause-err
-returns-in-Err-clause-err g c =
-    let part = subst (λ ws. GainsPart (g.K.Sink.got c.loop-i.out) (g.K.Sink.got c.put_words.new.out) (c.loop-i.page ++ spelled ws)) c.root_words.ensures c.in-Err.ensures.err in
-    line_through_part (λ x. spelled (root_words x)) c.args.h.now.roots c.loop-i.i c.root_at.result _ _ _ _ _ (omega (arith, c.roots-i-end.ensures.value)) c.root_at.ensures
-    c.loop-i.invariant.text part
+pub returns-in-Err : goal.returns-in-Err
+returns-in-Err g c =
+    let unit = subst (λ ws. GainsPart (g.K.Sink.got c.loop-i.out) (g.K.Sink.got c.put_words.new.out) (c.loop-i.page ++ spelled ws)) c.root_words.ensures c.in-Err.ensures.err in
+    let below : c.loop-i.i < length c.args.h.now.roots = omega (arith, c.roots-i-end.ensures.value) in
+    let part = line_through_part (λ x. spelled (root_words x)) c.args.h.now.roots c.loop-i.i c.root_at.result _ _ _ _ _ below c.root_at.ensures c.loop-i.invariant.text unit in
+    through_failed g.K.Sink c.args.out.now c.loop-i.out _ _ _ _ _ part c.loop-i.invariant.count c.in-Err.ensures.cause
 
 pub loop-i-preserved : goal.loop-i-preserved
 loop-i-preserved g c =
@@ -18,5 +19,5 @@ loop-i-preserved g c =
     record {
       text = line_through (λ x. spelled (root_words x)) c.args.h.now.roots c.loop-i.i c.root_at.result _ _ _ _ _ _ (omega (arith, c.roots-i-end.ensures.value))
           c.root_at.ensures c.loop-i.invariant.text unit;
-      count = grind (arith, common_steps, c.in_default.ensures.cause.same);
+      count = c.in_default.ensures.cause.same ∙ c.loop-i.invariant.count;
     }

@@ -1,86 +1,80 @@
 use Rattle.std.proofs.Common.{◌++◌}
-use Rattle.pm_io.proofs.PageLaws.{through_both, through_flush, through_more, through_part, through_page_part, from_empty, from_empty_part}
+use Rattle.pm_io.proofs.PutLaws.{through_then, through_stops, flush_then, flush_stops}
 use Rattle.pm_forest.specs.Fronts.{set_of}
 use Rattle.pm_frame.specs.Frame.{face_lines, end_line}
 use Rattle.pm_morph.specs.Texts.{first_line, moved_lines, morph_text}
 use Rattle.pm_morph.proofs.text.write_text.Goals as goal
 
-pub returns-in-Err-clause-err : goal.returns-in-Err-clause-err
+pub returns-in-Err : goal.returns-in-Err
 unfolding morph_text
-returns-in-Err-clause-err g c =
+returns-in-Err g c =
     let h = c.args.front.now.h in
     let T = set_of c.args.marks.now in
     let S = set_of c.args.front.now.flags in
     let first = first_line h S c.args.a c.args.b in
     let moved = moved_lines h T S c.args.a c.args.b in
-    let page = c.new-page.result in
-    let two = through_more _ _ page first moved c.in-Err.ensures.err in
-    let three = through_more _ _ page (first ++ moved) (face_lines h S) two in
-    from_empty_part _ _ page _ c.new-page.ensures (through_more _ _ page _ end_line three)
+    let two = through_stops g.K.Sink _ _ _ _ first moved _ c.in-Err.ensures in
+    let three = through_stops g.K.Sink _ _ _ _ (first ++ moved) (face_lines h S) _ two in
+    flush_stops g.K.Sink _ _ _ _ _ _ c.new-page.ensures (through_stops g.K.Sink _ _ _ _ _ end_line _ three)
 
-pub returns-in-Err-put_nodes-clause-err : goal.returns-in-Err-put_nodes-clause-err
+pub returns-in-Err-put_nodes : goal.returns-in-Err-put_nodes
 unfolding morph_text
-returns-in-Err-put_nodes-clause-err g c =
+returns-in-Err-put_nodes g c =
     let h = c.args.front.now.h in
     let T = set_of c.args.marks.now in
     let S = set_of c.args.front.now.flags in
     let first = first_line h S c.args.a c.args.b in
     let moved = moved_lines h T S c.args.a c.args.b in
-    let page = c.new-page.result in
-    let two = through_part _ _ _ page _ first moved c.in_default.ensures.ok c.in-Err-put_nodes.ensures.err in
-    let three = through_more _ _ page (first ++ moved) (face_lines h S) two in
-    from_empty_part _ _ page _ c.new-page.ensures (through_more _ _ page _ end_line three)
+    let two = through_then g.K.Sink _ _ _ _ _ _ first moved _ _ c.in_default.ensures c.in-Err-put_nodes.ensures in
+    let three = through_stops g.K.Sink _ _ _ _ (first ++ moved) (face_lines h S) _ two in
+    flush_stops g.K.Sink _ _ _ _ _ _ c.new-page.ensures (through_stops g.K.Sink _ _ _ _ _ end_line _ three)
 
-pub returns-in-Err-put_faces-clause-err : goal.returns-in-Err-put_faces-clause-err
+pub returns-in-Err-put_faces : goal.returns-in-Err-put_faces
 unfolding morph_text
-returns-in-Err-put_faces-clause-err g c =
+returns-in-Err-put_faces g c =
     let h = c.args.front.now.h in
     let T = set_of c.args.marks.now in
     let S = set_of c.args.front.now.flags in
     let first = first_line h S c.args.a c.args.b in
     let moved = moved_lines h T S c.args.a c.args.b in
-    let page = c.new-page.result in
-    let two = through_both _ _ _ page _ _ first moved c.in_default.ensures.ok c.in_default-put_nodes.ensures.ok in
-    let three = through_part _ _ _ page _ _ (face_lines h S) two c.in-Err-put_faces.ensures.err in
-    from_empty_part _ _ page _ c.new-page.ensures (through_more _ _ page _ end_line three)
+    let two = through_then g.K.Sink _ _ _ _ _ _ first moved _ _ c.in_default.ensures c.in_default-put_nodes.ensures in
+    let three = through_then g.K.Sink _ _ _ _ _ _ _ (face_lines h S) _ _ two c.in-Err-put_faces.ensures in
+    flush_stops g.K.Sink _ _ _ _ _ _ c.new-page.ensures (through_stops g.K.Sink _ _ _ _ _ end_line _ three)
 
-pub returns-in-Err-put_last-clause-err : goal.returns-in-Err-put_last-clause-err
+pub returns-in-Err-put_last : goal.returns-in-Err-put_last
 unfolding morph_text
-returns-in-Err-put_last-clause-err g c =
+returns-in-Err-put_last g c =
     let h = c.args.front.now.h in
     let T = set_of c.args.marks.now in
     let S = set_of c.args.front.now.flags in
     let first = first_line h S c.args.a c.args.b in
     let moved = moved_lines h T S c.args.a c.args.b in
-    let page = c.new-page.result in
-    let two = through_both _ _ _ page _ _ first moved c.in_default.ensures.ok c.in_default-put_nodes.ensures.ok in
-    let three = through_both _ _ _ page _ _ _ (face_lines h S) two c.in_default-put_faces.ensures.ok in
-    from_empty_part _ _ page _ c.new-page.ensures (through_part _ _ _ page _ _ end_line three c.in-Err-put_last.ensures.err)
+    let two = through_then g.K.Sink _ _ _ _ _ _ first moved _ _ c.in_default.ensures c.in_default-put_nodes.ensures in
+    let three = through_then g.K.Sink _ _ _ _ _ _ _ (face_lines h S) _ _ two c.in_default-put_faces.ensures in
+    flush_stops g.K.Sink _ _ _ _ _ _ c.new-page.ensures (through_then g.K.Sink _ _ _ _ _ _ _ end_line _ _ three c.in-Err-put_last.ensures)
 
-pub returns-in-Err-flush-clause-err : goal.returns-in-Err-flush-clause-err
+pub returns-in-Err-flush : goal.returns-in-Err-flush
 unfolding morph_text
-returns-in-Err-flush-clause-err g c =
+returns-in-Err-flush g c =
     let h = c.args.front.now.h in
     let T = set_of c.args.marks.now in
     let S = set_of c.args.front.now.flags in
     let first = first_line h S c.args.a c.args.b in
     let moved = moved_lines h T S c.args.a c.args.b in
-    let page = c.new-page.result in
-    let two = through_both _ _ _ page _ _ first moved c.in_default.ensures.ok c.in_default-put_nodes.ensures.ok in
-    let three = through_both _ _ _ page _ _ _ (face_lines h S) two c.in_default-put_faces.ensures.ok in
-    let all = through_both _ _ _ page _ _ _ end_line three c.in_default-put_last.ensures.ok in
-    from_empty_part _ _ page _ c.new-page.ensures (through_page_part _ _ _ page _ _ all c.in-Err-flush.ensures.err)
+    let two = through_then g.K.Sink _ _ _ _ _ _ first moved _ _ c.in_default.ensures c.in_default-put_nodes.ensures in
+    let three = through_then g.K.Sink _ _ _ _ _ _ _ (face_lines h S) _ _ two c.in_default-put_faces.ensures in
+    let all = through_then g.K.Sink _ _ _ _ _ _ _ end_line _ _ three c.in_default-put_last.ensures in
+    flush_then g.K.Sink _ _ _ _ _ _ _ _ c.new-page.ensures all c.in-Err-flush.ensures.puts
 
-pub returns-clause-ok : goal.returns-clause-ok
+pub returns : goal.returns
 unfolding morph_text
-returns-clause-ok g c =
+returns g c =
     let h = c.args.front.now.h in
     let T = set_of c.args.marks.now in
     let S = set_of c.args.front.now.flags in
     let first = first_line h S c.args.a c.args.b in
     let moved = moved_lines h T S c.args.a c.args.b in
-    let page = c.new-page.result in
-    let two = through_both _ _ _ page _ _ first moved c.in_default.ensures.ok c.in_default-put_nodes.ensures.ok in
-    let three = through_both _ _ _ page _ _ _ (face_lines h S) two c.in_default-put_faces.ensures.ok in
-    let all = through_both _ _ _ page _ _ _ end_line three c.in_default-put_last.ensures.ok in
-    from_empty _ _ page _ c.new-page.ensures (through_flush _ _ _ page _ _ all c.in_default-flush.ensures.ok)
+    let two = through_then g.K.Sink _ _ _ _ _ _ first moved _ _ c.in_default.ensures c.in_default-put_nodes.ensures in
+    let three = through_then g.K.Sink _ _ _ _ _ _ _ (face_lines h S) _ _ two c.in_default-put_faces.ensures in
+    let all = through_then g.K.Sink _ _ _ _ _ _ _ end_line _ _ three c.in_default-put_last.ensures in
+    flush_then g.K.Sink _ _ _ _ _ _ _ _ c.new-page.ensures all c.in_default-flush.ensures.puts

@@ -1,6 +1,6 @@
 use Rattle.pm_base.specs.Sides.{next}
 use Rattle.std.proofs.Common.{◌<◌, Bool, List, true, false, length, slice_set, refl, sym, ap, ◌∙◌, arith}
-use Rattle.pm_io.proofs.PageLaws.{through_both, through_more, through_part}
+use Rattle.pm_io.proofs.PutLaws.{through_then, through_stops, through_same}
 use Rattle.pm_forest.specs.Fronts.{set_of}
 use Rattle.pm_forest.specs.Faces.{face_count}
 use Rattle.pm_forest.proofs.Flags.{set_of-clear}
@@ -8,11 +8,11 @@ use Rattle.pm_strips.specs.Strips.{entered, first_side}
 use Rattle.pm_strips.specs.Shown.{beyond_in, node_at}
 use Rattle.pm_strips.specs.Texts.{first_text, entered_text, line_end}
 use Rattle.pm_strips.proofs.ShownLaws.{there-parts}
-use Rattle.pm_strips.proofs.Entering.{part_as, through_as, strip_text, strip_left}
+use Rattle.pm_strips.proofs.Entering.{strip_text, strip_left}
 use Rattle.pm_strips.proofs.strip.put_strip.Goals as goal
 
-pub returns-in-Err-clause-err : goal.returns-in-Err-clause-err
-returns-in-Err-clause-err g c =
+pub returns-in-Err-clause-puts : goal.returns-in-Err-clause-puts
+returns-in-Err-clause-puts g c =
     let h = c.args.front.now.h in
     let T = set_of c.args.front.now.flags in
     let f = c.args.face.0 in
@@ -22,10 +22,10 @@ returns-in-Err-clause-err g c =
     let first = c.first_side-first.ensures.value ∙ ap (λ (l : List Bool). first_side (beyond_in h T) (set_of l) f) c.deref.ensures.value in
     let text = strip_text (beyond_in h T) (face_count h) (set_of items) (set_of (slice_set items f false)) f e (next e) (set_of-clear items f low) first refl (node_at h T) in
     let rest = entered_text (node_at h T) (entered (beyond_in h T) (face_count h) (set_of (slice_set items f false)) true (next e)) in
-    part_as _ _ _ _ _ text (through_more _ _ _ _ line_end (through_more _ _ _ (first_text (node_at h T) e) rest c.in-Err.ensures.err))
+    through_same g.K.Sink _ _ _ _ _ _ _ (sym text) (through_stops g.K.Sink _ _ _ _ _ line_end _ (through_stops g.K.Sink _ _ _ _ (first_text (node_at h T) e) rest _ c.in-Err.ensures))
 
-pub returns-in-Err-put_entered-clause-err : goal.returns-in-Err-put_entered-clause-err
-returns-in-Err-put_entered-clause-err g c =
+pub returns-in-Err-put_entered-clause-puts : goal.returns-in-Err-put_entered-clause-puts
+returns-in-Err-put_entered-clause-puts g c =
     let h = c.args.front.now.h in
     let T = set_of c.args.front.now.flags in
     let f = c.args.face.0 in
@@ -34,11 +34,11 @@ returns-in-Err-put_entered-clause-err g c =
     let low : f < length items = omega (arith, (there-parts h T f c.requires.there).0, c.requires.len) in
     let first = c.first_side-first.ensures.value ∙ ap (λ (l : List Bool). first_side (beyond_in h T) (set_of l) f) c.deref.ensures.value in
     let text = strip_text (beyond_in h T) (face_count h) (set_of items) (set_of (slice_set items f false)) f e c.next.result.0 (set_of-clear items f low) first c.next.ensures.value (node_at h T) in
-    part_as _ _ _ _ _ text
-    (through_more _ _ _ _ line_end (through_part _ _ _ _ _ (first_text (node_at h T) e) _ c.in_default.ensures.ok c.in-Err-put_entered.ensures.err))
+    through_same g.K.Sink _ _ _ _ _ _ _ (sym text)
+    (through_stops g.K.Sink _ _ _ _ _ line_end _ (through_then g.K.Sink _ _ _ _ _ _ (first_text (node_at h T) e) _ _ _ c.in_default.ensures c.in-Err-put_entered.ensures.puts))
 
-pub returns-in-Err-add-clause-err : goal.returns-in-Err-add-clause-err
-returns-in-Err-add-clause-err g c =
+pub returns-in-Err-add-clause-puts : goal.returns-in-Err-add-clause-puts
+returns-in-Err-add-clause-puts g c =
     let h = c.args.front.now.h in
     let T = set_of c.args.front.now.flags in
     let f = c.args.face.0 in
@@ -47,11 +47,11 @@ returns-in-Err-add-clause-err g c =
     let low : f < length items = omega (arith, (there-parts h T f c.requires.there).0, c.requires.len) in
     let first = c.first_side-first.ensures.value ∙ ap (λ (l : List Bool). first_side (beyond_in h T) (set_of l) f) c.deref.ensures.value in
     let text = strip_text (beyond_in h T) (face_count h) (set_of items) (set_of (slice_set items f false)) f e c.next.result.0 (set_of-clear items f low) first c.next.ensures.value (node_at h T) in
-    part_as _ _ _ _ _ text
-    (through_part _ _ _ _ _ _ line_end (through_both _ _ _ _ _ _ _ _ c.in_default.ensures.ok c.in_default-put_entered.ensures.ok) c.in-Err-add.ensures.err)
+    let both = through_then g.K.Sink _ _ _ _ _ _ _ _ _ _ c.in_default.ensures c.in_default-put_entered.ensures.puts in
+    through_same g.K.Sink _ _ _ _ _ _ _ (sym text) (through_then g.K.Sink _ _ _ _ _ _ _ line_end _ _ both c.in-Err-add.ensures.puts)
 
-pub returns-clause-ok : goal.returns-clause-ok
-returns-clause-ok g c =
+pub returns-clause-puts : goal.returns-clause-puts
+returns-clause-puts g c =
     let h = c.args.front.now.h in
     let T = set_of c.args.front.now.flags in
     let f = c.args.face.0 in
@@ -60,8 +60,8 @@ returns-clause-ok g c =
     let low : f < length items = omega (arith, (there-parts h T f c.requires.there).0, c.requires.len) in
     let first = c.first_side-first.ensures.value ∙ ap (λ (l : List Bool). first_side (beyond_in h T) (set_of l) f) c.deref.ensures.value in
     let text = strip_text (beyond_in h T) (face_count h) (set_of items) (set_of (slice_set items f false)) f e c.next.result.0 (set_of-clear items f low) first c.next.ensures.value (node_at h T) in
-    through_as _ _ _ _ _ _ text
-    (through_both _ _ _ _ _ _ _ line_end (through_both _ _ _ _ _ _ _ _ c.in_default.ensures.ok c.in_default-put_entered.ensures.ok) c.in_default-add.ensures.ok)
+    let both = through_then g.K.Sink _ _ _ _ _ _ _ _ _ _ c.in_default.ensures c.in_default-put_entered.ensures.puts in
+    through_same g.K.Sink _ _ _ _ _ _ _ (sym text) (through_then g.K.Sink _ _ _ _ _ _ _ line_end _ _ both c.in_default-add.ensures.puts)
 
 pub returns-clause-left : goal.returns-clause-left
 returns-clause-left g c =

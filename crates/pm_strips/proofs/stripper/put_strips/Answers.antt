@@ -1,5 +1,6 @@
 use Rattle.std.proofs.Common.{◌≡◌, ◌<◌, ◌≤◌, ℕ, Bool, true, false, length, map, refl, sym, ap, ◌∙◌, subst, arith}
 use Rattle.std.specs.List.{flat_map}
+use Rattle.pm_io.proofs.PutLaws.{through_done, through_failed}
 use Rattle.pm_forest.specs.Fronts.{set_of}
 use Rattle.pm_forest.specs.Faces.{face_count}
 use Rattle.pm_strips.specs.Strips.{listed}
@@ -26,17 +27,18 @@ put_strip-requires-clause-there g c =
     let free = flag_read c.loop-face.free.items f c.index.result.now true low c.index.ensures c.if-index.true in
     ap (λ (fs : ℕ → Bool). fs f) (sym c.requires.free) ∙ c.loop-face.invariant.so_far.left f free
 
-pub returns-in-Err-clause-err : goal.returns-in-Err-clause-err
-returns-in-Err-clause-err g c =
+pub returns-in-Err-clause-puts : goal.returns-in-Err-clause-puts
+returns-in-Err-clause-puts g c =
     let h = c.args.front.now.h in
     let T = set_of c.args.front.now.flags in
     let f : ℕ = c.loop-face.face in
     let faces : c.faces-face-end.result ≡ face_count h = c.faces-face-end.ensures.value ∙ ap face_count c.hierarchy.ensures in
     let low : f < length c.loop-face.free.items = omega (arith, c.loop-face-test.true, faces, c.loop-face.invariant.len, c.requires.len) in
     let free = flag_read c.loop-face.free.items f c.index.result.now true low c.index.ensures c.if-index.true in
-    part_as _ _ _ _ _ (ap (λ ss. flat_map strip_line (map (listed (node_at h T)) ss)) (sym (shown_strips h T (set_of c.args.free.now.items) c.requires.free)))
+    let part = part_as _ _ _ _ _ (ap (λ ss. flat_map strip_line (map (listed (node_at h T)) ss)) (sym (shown_strips h T (set_of c.args.free.now.items) c.requires.free)))
     (stripping_cut (beyond_in h T) (node_at h T) (face_count h) f (set_of c.args.free.now.items) (set_of c.loop-face.free.items) c.loop-face.strips _ _ _ _ _ (omega (arith, c.loop-face-test.true, faces)) free
-    c.loop-face.invariant.so_far c.in-Err.ensures.err)
+    c.loop-face.invariant.so_far c.in-Err.ensures.puts.err) in
+    through_failed g.K.Sink c.args.out.now c.loop-face.out _ _ _ _ _ part c.loop-face.invariant.count c.in-Err.ensures.puts.cause
 
 pub loop-face-preserved : goal.loop-face-preserved
 loop-face-preserved g c =
@@ -51,9 +53,9 @@ loop-face-preserved g c =
           let free = flag_read c.loop-face.free.items f c.index.result.now true low c.index.ensures w.if-index.true in
           rw (w.out-is, w.page-is, w.free-is, w.strips-is) (record {
             so_far = stripping_more (beyond_in h T) (node_at h T) (face_count h) f (set_of c.args.free.now.items) (set_of c.loop-face.free.items) c.loop-face.strips
-                _ _ _ _ _ _ _ below free w.in_default.ensures.left c.loop-face.invariant.so_far w.in_default.ensures.ok;
+                _ _ _ _ _ _ _ below free w.in_default.ensures.left c.loop-face.invariant.so_far w.in_default.ensures.puts.ok;
             len = w.in_default.ensures.len ∙ c.loop-face.invariant.len;
-            count = w.in_default.ensures.cause.same ∙ c.loop-face.invariant.count;
+            count = w.in_default.ensures.puts.cause.same ∙ c.loop-face.invariant.count;
           })
       | else-index w ↦
           let taken = flag_read c.loop-face.free.items f c.index.result.now false low c.index.ensures w.if-index.false in
@@ -64,14 +66,15 @@ loop-face-preserved g c =
           })
     ]
 
-pub returns-clause-ok : goal.returns-clause-ok
-returns-clause-ok g c =
+pub returns-clause-puts : goal.returns-clause-puts
+returns-clause-puts g c =
     let h = c.args.front.now.h in
     let T = set_of c.args.front.now.flags in
     let faces : c.faces-face-end.result ≡ face_count h = c.faces-face-end.ensures.value ∙ ap face_count c.hierarchy.ensures in
     let past : face_count h ≤ c.loop-face.face = omega (arith, faces, c.loop-face-test.false) in
-    through_as _ _ _ _ _ _ (ap (λ ss. flat_map strip_line (map (listed (node_at h T)) ss)) (sym (shown_strips h T (set_of c.args.free.now.items) c.requires.free)))
-    (stripping_all (beyond_in h T) (node_at h T) (face_count h) c.loop-face.face (set_of c.args.free.now.items) (set_of c.loop-face.free.items) c.loop-face.strips _ _ _ _ past c.loop-face.invariant.so_far).0
+    let all = through_as _ _ _ _ _ _ (ap (λ ss. flat_map strip_line (map (listed (node_at h T)) ss)) (sym (shown_strips h T (set_of c.args.free.now.items) c.requires.free)))
+    (stripping_all (beyond_in h T) (node_at h T) (face_count h) c.loop-face.face (set_of c.args.free.now.items) (set_of c.loop-face.free.items) c.loop-face.strips _ _ _ _ past c.loop-face.invariant.so_far).0 in
+    through_done g.K.Sink c.args.out.now _ _ _ _ _ all c.loop-face.invariant.count
 
 pub returns-clause-count : goal.returns-clause-count
 returns-clause-count g c =

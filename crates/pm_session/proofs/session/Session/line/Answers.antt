@@ -66,9 +66,9 @@ returns-in-Pick-clause-ends g c =
 pub returns-in-Measure-clause-ends : goal.returns-in-Measure-clause-ends
 returns-in-Measure-clause-ends g c =
     replied _ _ _ _ _ c.measure.result _ _ _ (deed_measure _ _ _ _ (sym c.command_of.ensures ∙ c.in-Measure.is)) (ap sets_of c.measure.ensures.same)
-    c.after_reply-in-Measure.ensures.ok c.after_reply-in-Measure.ensures.err c.measure.ensures.ok c.measure.ensures.err
+    c.after_reply-in-Measure.ensures.ok c.after_reply-in-Measure.ensures.err c.measure.ensures.puts.ok c.measure.ensures.puts.err
 
 pub returns-in-Strip-clause-ends : goal.returns-in-Strip-clause-ends
 returns-in-Strip-clause-ends g c =
     replied _ _ _ _ _ c.strip.result _ _ _ (deed_strip _ _ _ _ (sym c.command_of.ensures ∙ c.in-Strip.is)) (ap sets_of c.strip.ensures.same)
-    c.after_reply-in-Strip.ensures.ok c.after_reply-in-Strip.ensures.err c.strip.ensures.ok c.strip.ensures.err
+    c.after_reply-in-Strip.ensures.ok c.after_reply-in-Strip.ensures.err c.strip.ensures.puts.ok c.strip.ensures.puts.err

@@ -1,0 +1,17 @@
+-- What it is to put a text: all of it, or a part and a failure that is counted.
+use Rattle.std.specs.Prelude.{ℕ, List, ◌++◌, Result, OnOk, OnErr}
+use Rattle.pm_io.specs.Bytes.{Gains, GainsPart, GainsThrough}
+use Rattle.pm_io.specs.Causes.{HasCause}
+use Rattle.pm_io.specs.declared.device.Sink as sink
+
+-- The sink gained the text, or it failed, and gained a part of the text from its front and not the whole.
+pub record Puts {K T E : Type 0} (k : sink.Ghosts K) (before now : K) (text : List ℕ) (result : Result T E) : Type 0 where
+  pub ok : OnOk result (Gains (k.got before) (k.got now) text)
+  pub err : OnErr result (GainsPart (k.got before) (k.got now) text)
+  pub cause : HasCause (k.faults before) (k.faults now) result
+
+-- The same through a page, which held and holds these bytes: the sink gained what it held and the text but for what it holds.
+pub record PutsThrough {K T E : Type 0} (k : sink.Ghosts K) (before now : K) (held holds text : List ℕ) (result : Result T E) : Type 0 where
+  pub ok : OnOk result (GainsThrough (k.got before) (k.got now) held holds text)
+  pub err : OnErr result (GainsPart (k.got before) (k.got now) (held ++ text))
+  pub cause : HasCause (k.faults before) (k.faults now) result
