@@ -4,7 +4,8 @@ pub mod Readers
 pub mod Decision
 pub mod Noted
 pub mod MeshLaws
-pub mod SideListLaws
+pub mod RowLaws
+pub mod RowFilling
 pub mod StampLaws
 pub mod PairLaws
 pub mod RepeatLaws

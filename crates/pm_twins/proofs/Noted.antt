@@ -12,7 +12,7 @@ use Rattle.pm_base.proofs.TwinLaws.{stands_is_true}
 use Rattle.pm_base.proofs.FanLaws.{unused_fan}
 use Rattle.pm_twins.specs.declared.fans.Vertex.{Vertex}
 use Rattle.pm_twins.specs.Walks.{begins_at, degree, IsStart, with_side, first_given, no_vertex, StartsSoFar, IsKnown}
-use Rattle.pm_twins.specs.SideLists.{IsWhole}
+use Rattle.pm_twins.specs.SideRows.{IsWhole}
 
 pub known_none : (m : Net) (v : ℕ) → IsKnown m 0 v no_vertex
 known_none m v = record { degree = sym (count-zero (begins_at m v)); start = λ e l. absurd (omega arith) }

@@ -1,5 +1,5 @@
 -- The sides that arrive at one vertex are paired one by one, and in the end all are.
-use Rattle.std.proofs.Common.{◌≡◌, ◌≢◌, ℕ, ◌+◌, ◌<◌, eqb, true, Option, Some, None, List, [], ◌∷◌, length, slice_index_or, ◌⊎◌, inl, inr, sym, ap, ◌∙◌, subst, arith}
+use Rattle.std.proofs.Common.{◌≡◌, ◌≢◌, ℕ, ◌+◌, ◌-◌, ◌<◌, ◌≤◌, eqb, true, Option, Some, None, List, [], ◌∷◌, length, slice_index_or, ◌⊎◌, inl, inr, sym, ap, ◌∙◌, subst, arith}
 use Rattle.std.proofs.Math.ListN.{set}
 use Rattle.std.proofs.lemmas.Bool.{cases_eq, eqb-true, or_cases, false≢true}
 use Rattle.std.proofs.lemmas.List.{get_or-set_same, get_or-set_other, length-set}
@@ -11,9 +11,10 @@ use Rattle.pm_base.proofs.TwinLaws.{twin-is, twin-one}
 use Rattle.pm_links.specs.Lists.{has}
 use Rattle.pm_links.proofs.Members.{has_head, has_tail}
 use Rattle.pm_twins.specs.Table.{AreTwinsOf}
-use Rattle.pm_twins.specs.SideLists.{IsWhole}
+use Rattle.pm_twins.specs.SideRows.{IsWhole, row, start_at, row_at, AreRows}
 use Rattle.pm_twins.specs.Stamping.{leaving, AreStamps, AreAllStamped, IsSideBetween, ArePaired}
 use Rattle.pm_twins.proofs.Whole.{to_within}
+use Rattle.pm_twins.proofs.RowLaws.{row_next, row_ends}
 use Rattle.pm_twins.proofs.StampLaws.{leaving-some, leaving-here}
 
 -- Where all sides that leave v are stamped, a look at the stamps finds the one that runs to q.
@@ -32,6 +33,22 @@ pub record IsPairing (m : Net) (v : ℕ) (left : List ℕ) (twins : List (Option
   pub sides : length twins ≡ side_count m
   pub passed : (g : ℕ) → g < side_count m → m.from g ≡ v → (has left g ≡ true) ⊎ IsSideBetween m v (m.from (prev g)) (slice_index_or twins (prev g) None)
   pub before : (e : ℕ) → e < side_count m → to m e < v → IsSideBetween m (to m e) (m.from e) (slice_index_or twins e None)
+
+pub pairing_begins : (m : Net) (n v : ℕ) (starts sides : List ℕ) (twins : List (Option ℕ)) → AreRows m n starts sides → v < n → ArePaired m v twins → IsPairing m v (row_at starts sides v) twins
+pairing_begins m n v starts sides twins rows low paired = record {
+  leave = λ e h. (rows.each v e low).0 h;
+  sides = paired.sides;
+  passed = λ g l at. inl ((rows.each v g low).1 (l, at));
+  before = paired.each;
+}
+
+pub pairing_side : (m : Net) (v i end x : ℕ) (sides : List ℕ) (twins : List (Option ℕ)) → i < end → x ≡ start_at sides i → IsPairing m v (row sides i (end - i)) twins →
+    IsPairing m v (x ∷ row sides (i + 1) (end - (i + 1))) twins
+pairing_side m v i end x sides twins l is h =
+    subst (λ (left : List ℕ). IsPairing m v left twins) (row_next sides i end l ∙ ap (λ (k : ℕ). k ∷ row sides (i + 1) (end - (i + 1))) (sym is)) h
+
+pub pairing_ends : (m : Net) (v i end : ℕ) (sides : List ℕ) (twins : List (Option ℕ)) → end ≤ i → IsPairing m v (row sides i (end - i)) twins → IsPairing m v [] twins
+pairing_ends m v i end sides twins l h = subst (λ (left : List ℕ). IsPairing m v left twins) (row_ends sides i end l) h
 
 prev-lt : (m : Net) (e : ℕ) → e < side_count m → prev e < side_count m
 prev-lt m e l = next-lt m.faces (next e) (next-lt m.faces e l)

@@ -4,7 +4,7 @@ use Rattle.std.proofs.lemmas.Bool.{cases_eq, cases_lt}
 use Rattle.pm_base.specs.Sides.{Net, side_count, face_of, NoSideTwice}
 use Rattle.pm_base.proofs.Sides.{face_cases}
 use Rattle.pm_twins.specs.Faults.{IsFirstRepeating}
-use Rattle.pm_twins.specs.SideLists.{IsWhole}
+use Rattle.pm_twins.specs.SideRows.{IsWhole}
 use Rattle.pm_twins.specs.Stamping.{IsLeastRepeat}
 
 module _ (m : Net) (vertices : ℕ) (whole : IsWhole m vertices) where

@@ -1,15 +1,16 @@
 -- The sides that leave one vertex are stamped one by one.
-use Rattle.std.proofs.Common.{◌≡◌, ◌≢◌, ℕ, ◌+◌, ◌<◌, ◌≤◌, eqb, min, max, true, false, Option, Some, None, List, [], ◌∷◌, length, slice_index_or, ◌⊎◌, inl, inr, refl, sym, ap, ◌∙◌, subst, arith}
+use Rattle.std.proofs.Common.{◌≡◌, ◌≢◌, ℕ, ◌+◌, ◌-◌, ◌<◌, ◌≤◌, eqb, min, max, true, false, Option, Some, None, List, [], ◌∷◌, length, slice_index_or, ◌⊎◌, inl, inr, refl, sym, ap, ◌∙◌, subst, arith}
 use Rattle.std.specs.Option.{IfSome}
 use Rattle.std.proofs.Math.ListN.{set}
 use Rattle.std.proofs.lemmas.Bool.{cases_eq, cases_lt, cond-true, cond-false, eqb-true, eq-eqb, ne_eqb, or_cases, or_parts, false≢true}
 use Rattle.std.proofs.lemmas.List.{get_or-set_same, get_or-set_other}
 use Rattle.std.proofs.lemmas.Option.{none-some, same_Some}
 use Rattle.pm_base.specs.Sides.{Net, side_count, to}
-use Rattle.pm_links.specs.Lists.{Lists, list_of, has, IsOnce, IsSound}
+use Rattle.pm_links.specs.Lists.{has, IsOnce}
 use Rattle.pm_links.proofs.Members.{has_head, has_tail}
-use Rattle.pm_twins.specs.SideLists.{AreListed}
-use Rattle.pm_twins.specs.Stamping.{leaving, in_order, lesser_of, AreStamps, IsRepeat, IsUpTo, IsLeastRepeat}
+use Rattle.pm_twins.specs.SideRows.{row, start_at, row_at, AreRows}
+use Rattle.pm_twins.proofs.RowLaws.{row_next, row_ends}
+use Rattle.pm_twins.specs.Stamping.{leaving, stamp_from, in_order, lesser_of, AreStamps, AreOrigins, AreAllStamped, IsRepeat, IsUpTo, IsLeastRepeat}
 
 -- The lesser of two numbers.
 up_to_first : (a b : Option ℕ) (e : ℕ) → IsUpTo a e → IsUpTo (lesser_of a b) e
@@ -45,6 +46,24 @@ leaving-some m v s (Some e) is =
 pub leaving-here : (m : Net) (v s : ℕ) (r : Option ℕ) → r ≡ Some s → m.from s ≡ v → leaving m v r ≡ Some s
 leaving-here m v s r is at = ap (leaving m v) is ∙ cond-true (eqb (m.from s) v) (Some s) None (eq-eqb (m.from s) v at)
 
+-- Where each stamp has its origin, that tells whether its side leaves a vertex.
+origin-at : (m : Net) (v o : ℕ) (r : Option ℕ) → ((e : ℕ) → r ≡ Some e → o ≡ m.from e) → stamp_from o v r ≡ leaving m v r
+origin-at m v o None h = refl
+origin-at m v o (Some e) h = ap (λ (k : ℕ). stamp_from k v (Some e)) (h e refl)
+
+pub origin-leaving : (m : Net) (v w : ℕ) (stamps : List (Option ℕ)) (origins : List ℕ) → AreOrigins m stamps origins →
+    stamp_from (slice_index_or origins w 0) v (slice_index_or stamps w None) ≡ leaving m v (slice_index_or stamps w None)
+origin-leaving m v w stamps origins are = origin-at m v (slice_index_or origins w 0) (slice_index_or stamps w None) (are w)
+
+pub origins_more : (m : Net) (v f w : ℕ) (stamps : List (Option ℕ)) (origins : List ℕ) → AreOrigins m stamps origins → w < length stamps → w < length origins → m.from f ≡ v → AreOrigins m (set stamps w (Some f)) (set origins w v)
+origins_more m v f w stamps origins are ls lo is u e at =
+    elim (cases_eq u w) [
+      | inl same ↦
+          let f_is : f ≡ e = same_Some f e (sym (get_or-set_same stamps w (Some f) None ls) ∙ ap (λ (k : ℕ). slice_index_or (set stamps w (Some f)) k None) (sym same) ∙ at) in
+          ap (λ (k : ℕ). slice_index_or (set origins w v) k 0) same ∙ get_or-set_same origins w v 0 lo ∙ sym is ∙ ap m.from f_is
+      | inr ne ↦ get_or-set_other origins w u v 0 ne ∙ are u e (sym (get_or-set_other stamps w u (Some f) None ne) ∙ at)
+    ]
+
 -- For side e a side with the same vertices is stamped that isn't later, and that is e itself unless a repeat up to e is known.
 abbrev pub IsStamped : Net → List (Option ℕ) → Option ℕ → ℕ → Type 0
 IsStamped m stamps least e = (s : ℕ) × (slice_index_or stamps (to m e) None ≡ Some s) × (m.from s ≡ m.from e) × (s ≤ e) × ((s ≡ e) ⊎ IsUpTo least e)
@@ -58,16 +77,25 @@ pub record IsStamping (m : Net) (v : ℕ) (left : List ℕ) (stamps : List (Opti
   pub is_one : IfSome least (λ g. (g < side_count m) × IsRepeat m g)
   pub below : (e : ℕ) → e < side_count m → m.from e < v → IsRepeat m e → IsUpTo least e
 
-pub stamping_begins : (m : Net) (v : ℕ) (lists : Lists) (stamps : List (Option ℕ)) (least : Option ℕ) → IsSound lists → AreListed m (side_count m) lists → AreStamps m v stamps → IsLeastRepeat m v least →
-    IsStamping m v (list_of lists v) stamps least
-stamping_begins m v lists stamps least sound listed are r = record {
-  once = sound.once v;
-  leave = λ e h. (listed.each v e).0 h;
+pub stamping_begins : (m : Net) (n v : ℕ) (starts sides : List ℕ) (stamps : List (Option ℕ)) (least : Option ℕ) → AreRows m n starts sides → v < n → AreStamps m v stamps → IsLeastRepeat m v least →
+    IsStamping m v (row_at starts sides v) stamps least
+stamping_begins m n v starts sides stamps least rows low are r = record {
+  once = rows.once v low;
+  leave = λ e h. (rows.each v e low).0 h;
   each = λ w s is. let (l, from, ends) = are.each w s is in (l, omega (arith, from), ends, λ at. absurd (omega (arith, from, at)));
-  passed = λ e l at. inl ((listed.each v e).1 (l, at));
+  passed = λ e l at. inl ((rows.each v e low).1 (l, at));
   is_one = r.is_one;
   below = r.least;
 }
+
+-- The next side of the row.
+pub stamping_side : (m : Net) (v i end x : ℕ) (sides : List ℕ) (stamps : List (Option ℕ)) (least : Option ℕ) → i < end → x ≡ start_at sides i → IsStamping m v (row sides i (end - i)) stamps least →
+    IsStamping m v (x ∷ row sides (i + 1) (end - (i + 1))) stamps least
+stamping_side m v i end x sides stamps least l is h =
+    subst (λ (left : List ℕ). IsStamping m v left stamps least) (row_next sides i end l ∙ ap (λ (k : ℕ). k ∷ row sides (i + 1) (end - (i + 1))) (sym is)) h
+
+pub stamping_ends : (m : Net) (v i end : ℕ) (sides : List ℕ) (stamps : List (Option ℕ)) (least : Option ℕ) → end ≤ i → IsStamping m v (row sides i (end - i)) stamps least → IsStamping m v [] stamps least
+stamping_ends m v i end sides stamps least l h = subst (λ (left : List ℕ). IsStamping m v left stamps least) (row_ends sides i end l) h
 
 -- What stamping side f for side x at vertex w brings, with another least repeat.
 record Adds (m : Net) (v x w f : ℕ) (left : List ℕ) (stamps : List (Option ℕ)) (least next : Option ℕ) : Type 0 where
@@ -207,6 +235,10 @@ pub stamping_more : (m : Net) (v x w : ℕ) (left : List ℕ) (stamps : List (Op
 stamping_more m v x w left stamps least known i at low is =
     stamping_adds m v x w left stamps least i at (in_order known x).first (lesser_of least (in_order known x).later) low (adds m v x w left stamps least i at known is)
 
+-- The side that is stamped then leaves the vertex.
+pub stamping_leaves : (m : Net) (v x w : ℕ) (left : List ℕ) (stamps : List (Option ℕ)) (least known : Option ℕ) → IsStamping m v (x ∷ left) stamps least → w ≡ to m x → known ≡ leaving m v (slice_index_or stamps w None) → m.from (in_order known x).first ≡ v
+stamping_leaves m v x w left stamps least known i at is = (adds m v x w left stamps least i at known is).leaves
+
 -- All are stamped.
 module _ (m : Net) (v : ℕ) (stamps : List (Option ℕ)) (least : Option ℕ) (i : IsStamping m v [] stamps least) where
   all_passed : (e : ℕ) → e < side_count m → m.from e ≡ v → IsStamped m stamps least e
@@ -214,6 +246,9 @@ module _ (m : Net) (v : ℕ) (stamps : List (Option ℕ)) (least : Option ℕ) (
 
   pub stamps_more : AreStamps m (v + 1) stamps
   stamps_more = record { each = λ w e is. let (l, from, ends, out) = i.each w e is in (l, omega (arith, from), ends) }
+
+  pub all_stamped : AreAllStamped m v stamps
+  all_stamped e l from = let (s, is, sf, le, way) = all_passed e l from in (s, is, sf ∙ from)
 
   pub least_more : IsLeastRepeat m (v + 1) least
   least_more = record {

@@ -5,7 +5,7 @@ use Rattle.pm_base.specs.Meshes.{Mesh, IsWellFormed}
 use Rattle.pm_base.specs.Sides.{Net, side_count, to, net_of, NoSideTwice}
 use Rattle.pm_base.proofs.Sides.{next-lt}
 use Rattle.pm_base.proofs.NetLaws.{mesh_side}
-use Rattle.pm_twins.specs.SideLists.{IsWhole}
+use Rattle.pm_twins.specs.SideRows.{IsWhole}
 use Rattle.pm_twins.specs.Table.{AreTwinsOf}
 use Rattle.pm_twins.specs.Walks.{IsWalkable}
 

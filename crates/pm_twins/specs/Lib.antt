@@ -1,6 +1,6 @@
 pub mod Table
 pub mod Faults
-pub mod SideLists
+pub mod SideRows
 pub mod Stamping
 pub mod Walks
 pub mod Laws

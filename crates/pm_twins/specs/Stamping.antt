@@ -9,6 +9,15 @@ abbrev pub leaving : Net → ℕ → Option ℕ → Option ℕ
 leaving m v None = None
 leaving m v (Some e) = cond (m.from e == v) (Some e) None
 
+-- What is stamped, where its origin is vertex v.
+abbrev pub stamp_from : ℕ → ℕ → Option ℕ → Option ℕ
+stamp_from origin v None = None
+stamp_from origin v (Some e) = cond (origin == v) (Some e) None
+
+-- Each stamp's origin is the vertex that its side leaves.
+abbrev pub AreOrigins : Net → List (Option ℕ) → List ℕ → Type 0
+AreOrigins m stamps origins = (w e : ℕ) → slice_index_or stamps w None ≡ Some e → slice_index_or origins w 0 ≡ m.from e
+
 -- Side e with the one that was stamped before, if any, the earlier first.
 abbrev pub in_order : Option ℕ → ℕ → Ordered
 in_order None e = record { first = e; later = None }

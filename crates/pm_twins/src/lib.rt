@@ -4,7 +4,7 @@
 
 mod fans;
 mod half_edges;
-mod side_lists;
+mod side_rows;
 mod sides;
 mod stamps;
 mod surface;

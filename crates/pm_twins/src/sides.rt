@@ -23,17 +23,13 @@ pub(crate) fn prev(side: usize) -> usize
     next(next(side))
 }
 
-/// The vertex from which a side runs.
+/// The vertex from which a side runs. The corner is chosen without a jump, since in the order of the rows no guess of it is good.
 pub(crate) fn from(faces: &[Corners], side: usize) -> u32
     requires { side < 3 * length faces.now }
     ensures { result ≡ (net_of faces.now).from side }
 {
     let face = faces[side / 3];
-    match side % 3 {
-        0 => face.a,
-        1 => face.b,
-        _ => face.c,
-    }
+    [face.a, face.b, face.c][side % 3]
 }
 
 /// The vertex to which a side runs.

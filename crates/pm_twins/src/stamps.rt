@@ -1,14 +1,14 @@
 //! While a vertex is gone through, each side that leaves it is stamped at the vertex to which it runs. The
 //! twin of a side that arrives is then the stamp at the vertex from which it comes. A stamp that an earlier
-//! vertex left behind is told by where its side runs from, so the stamps are never wiped.
+//! vertex left behind is told by its origin, where its side runs from, so the stamps are never wiped.
 ghost use Rattle.std.specs.Prelude.{◌≡◌, ◌+◌, ◌*◌, ◌<◌, ◌≤◌, ℕ, None, Some, length, slice_index_or};
 ghost use Rattle.pm_base.specs.Sides.{net_of, side_count};
-ghost use Rattle.pm_twins.specs.SideLists.{AreListed, IsWhole};
-ghost use Rattle.pm_twins.specs.Stamping.{leaving, in_order as ordered, lesser_of, AreStamps, AreAllStamped, IsLeastRepeat, ArePaired};
+ghost use Rattle.pm_twins.specs.SideRows.{AreRows, IsWhole, row};
+ghost use Rattle.pm_twins.specs.Stamping.{stamp_from, in_order as ordered, lesser_of, AreStamps, AreOrigins, AreAllStamped, IsLeastRepeat, ArePaired};
 
+use crate::side_rows::SideRows;
 use crate::sides::{from, prev, to};
 use pm_base::Corners;
-use pm_links::Links;
 
 // Two sides that run between the same vertices, or one alone.
 #[derive(Clone, Copy)]
@@ -45,13 +45,13 @@ fn lesser(a: Option<u32>, b: Option<u32>) -> Option<u32>
 }
 
 // The stamped side from `vertex` to `end`, if there is one.
-fn stamped(faces: &[Corners], stamps: &[Option<u32>], vertex: u32, end: u32) -> Option<u32>
+fn stamped(stamps: &[Option<u32>], origins: &[u32], vertex: u32, end: u32) -> Option<u32>
     requires in_range { end < length stamps.now }
-    requires sides { (w e : ℕ) → slice_index_or stamps.now w None ≡ Some e → e < 3 * length faces.now }
-    ensures { result ≡ leaving (net_of faces.now) vertex (slice_index_or stamps.now end None) }
+    requires origins { length origins.now ≡ length stamps.now }
+    ensures { result ≡ stamp_from (slice_index_or origins.now end 0) vertex (slice_index_or stamps.now end None) }
 {
     let side = stamps[end as usize]?;
-    if from(faces, side as usize) == vertex {
+    if origins[end as usize] == vertex {
         Some(side)
     } else {
         None
@@ -62,27 +62,34 @@ fn stamped(faces: &[Corners], stamps: &[Option<u32>], vertex: u32, end: u32) -> 
 /// vertices as an earlier one. Of two such sides the earlier keeps the stamp.
 pub(crate) fn stamp_leaving(
     faces: &[Corners],
-    lists: &Links,
+    rows: &SideRows,
     vertex: u32,
     stamps: &mut Vec<Option<u32>>,
+    origins: &mut Vec<u32>,
     repeat: Option<u32>,
 ) -> Option<u32>
-    requires whole { IsWhole (net_of faces.now) (length lists.now.lists) }
-    requires listed { AreListed (net_of faces.now) (side_count (net_of faces.now)) lists.now }
-    requires in_range { vertex < length lists.now.lists }
-    requires len { length stamps.old.items ≡ length lists.now.lists }
+    requires whole { IsWhole (net_of faces.now) (length stamps.old.items) }
+    requires rows { AreRows (net_of faces.now) (length stamps.old.items) rows.now.starts.items rows.now.sides.items }
+    requires in_range { vertex < length stamps.old.items }
     requires stamps { AreStamps (net_of faces.now) vertex stamps.old.items }
+    requires origins_len { length origins.old.items ≡ length stamps.old.items }
+    requires origins { AreOrigins (net_of faces.now) stamps.old.items origins.old.items }
     requires repeat { IsLeastRepeat (net_of faces.now) vertex repeat }
     ensures len { length stamps.new.items ≡ length stamps.old.items }
     ensures stamps { AreStamps (net_of faces.now) (vertex + 1) stamps.new.items }
+    ensures origins_len { length origins.new.items ≡ length stamps.old.items }
+    ensures origins { AreOrigins (net_of faces.now) stamps.new.items origins.new.items }
     ensures all { AreAllStamped (net_of faces.now) vertex stamps.new.items }
     ensures repeat { IsLeastRepeat (net_of faces.now) (vertex + 1) result }
 {
+    let until = rows.starts[vertex as usize + 1];
     let mut least = repeat;
-    for side in lists.items(vertex) {
+    for place in rows.starts[vertex as usize]..until {
+        let side = rows.sides[place as usize];
         let end = to(faces, side as usize);
-        let sides = in_order(stamped(faces, stamps, vertex, end), side);
+        let sides = in_order(stamped(stamps, origins, vertex, end), side);
         stamps[end as usize] = Some(sides.first);
+        origins[end as usize] = vertex;
         least = lesser(least, sides.later);
     }
     least
@@ -91,22 +98,26 @@ pub(crate) fn stamp_leaving(
 /// Notes the twin of each side that arrives at a vertex. The sides that leave it are stamped.
 pub(crate) fn pair_arriving(
     faces: &[Corners],
-    lists: &Links,
+    rows: &SideRows,
     vertex: u32,
     stamps: &[Option<u32>],
+    origins: &[u32],
     twins: &mut Vec<Option<u32>>,
 )
-    requires whole { IsWhole (net_of faces.now) (length lists.now.lists) }
-    requires listed { AreListed (net_of faces.now) (side_count (net_of faces.now)) lists.now }
-    requires in_range { vertex < length lists.now.lists }
-    requires len { length stamps.now ≡ length lists.now.lists }
+    requires whole { IsWhole (net_of faces.now) (length stamps.now) }
+    requires rows { AreRows (net_of faces.now) (length stamps.now) rows.now.starts.items rows.now.sides.items }
+    requires in_range { vertex < length stamps.now }
     requires stamps { AreStamps (net_of faces.now) (vertex + 1) stamps.now }
+    requires origins_len { length origins.now ≡ length stamps.now }
+    requires origins { AreOrigins (net_of faces.now) stamps.now origins.now }
     requires all { AreAllStamped (net_of faces.now) vertex stamps.now }
     requires paired { ArePaired (net_of faces.now) vertex twins.old.items }
     ensures paired { ArePaired (net_of faces.now) (vertex + 1) twins.new.items }
 {
-    for side in lists.items(vertex) {
+    let until = rows.starts[vertex as usize + 1];
+    for place in rows.starts[vertex as usize]..until {
+        let side = rows.sides[place as usize];
         let arriving = prev(side as usize);
-        twins[arriving] = stamped(faces, stamps, vertex, from(faces, arriving));
+        twins[arriving] = stamped(stamps, origins, vertex, from(faces, arriving));
     }
 }

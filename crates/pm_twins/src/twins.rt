@@ -1,4 +1,4 @@
-//! The sides of a mesh are put into lists, each at the vertex from which it runs, and then the vertices are
+//! The sides of a mesh are put into rows, each at the vertex from which it runs, and then the vertices are
 //! gone through. Of the sides that leave one, two that run to the same vertex are one side twice; and a side
 //! that arrives there has the one that runs back as its twin.
 ghost use Rattle.std.specs.Prelude.{◌≡◌, ◌<◌, ℕ, ◌↔◌, None, length, replicate, IfOk, IfErr, OnOk, MatchOption, IsTrue};
@@ -7,14 +7,13 @@ ghost use Rattle.pm_base.specs.Meshes.{mesh_of, IsWellFormed};
 ghost use Rattle.pm_base.specs.Sides.{Net, net_of, side_count, NoSideTwice, IsTwin, HasNoTwin, IsBorder};
 ghost use Rattle.pm_twins.specs.Table.{twin_at, border_at, AreTwinsOf, IsBorderOf, IsTableOf};
 ghost use Rattle.pm_twins.specs.Faults.{IsTwinsFault};
-ghost use Rattle.pm_twins.specs.SideLists.{AreListed, IsWhole};
+ghost use Rattle.pm_twins.specs.SideRows.{AreRows, IsWhole};
 
 use crate::OutOfMemory;
-use crate::side_lists::list_sides;
+use crate::side_rows::{SideRows, row_sides, zeros};
 use crate::sides::{from, to};
 use crate::stamps::{pair_arriving, stamp_leaving};
 use pm_base::{Corners, FaceId, Mesh, Side};
-use pm_links::Links;
 use std::alloc::Global;
 use std::marker::Model;
 
@@ -45,7 +44,7 @@ impl Model for Twins {
 
 impl Twins {
     /// The twins of a well-formed mesh. O(F + V) for F faces and V vertices, also where a side stands twice
-    /// and where many faces have one vertex: each side is listed, stamped and paired once, with one look at
+    /// and where many faces have one vertex: each side is put into a row, stamped and paired once, with one look at
     /// a table for each.
     pub fn of(alloc: Global, mesh: &Mesh) -> Result<Twins, TwinsFail>
         requires { IsWellFormed (mesh_of mesh.now) }
@@ -55,10 +54,10 @@ impl Twins {
     {
         let faces = mesh.faces.as_slice();
         let vertices = mesh.points.len();
-        let Ok(lists) = list_sides(alloc, faces, vertices) else {
+        let Ok(rows) = row_sides(alloc, faces, vertices) else {
             return Err(TwinsFail::OutOfMemory);
         };
-        let twins = pair_sides(alloc, faces, &lists, vertices)?;
+        let twins = pair_sides(alloc, faces, &rows, vertices)?;
         let Ok(border) = mark_border(alloc, faces, vertices, &twins) else {
             return Err(TwinsFail::OutOfMemory);
         };
@@ -98,12 +97,11 @@ impl Twins {
 fn pair_sides(
     alloc: Global,
     faces: &[Corners],
-    lists: &Links,
+    rows: &SideRows,
     vertices: usize,
 ) -> Result<Vec<Option<u32>>, TwinsFail>
     requires whole { IsWhole (net_of faces.now) vertices }
-    requires heads { length lists.now.lists ≡ vertices }
-    requires listed { AreListed (net_of faces.now) (side_count (net_of faces.now)) lists.now }
+    requires rows { AreRows (net_of faces.now) vertices rows.now.starts.items rows.now.sides.items }
     ensures twins { IfOk result (λ twins. AreTwinsOf (net_of faces.now) twins.items) }
     ensures once { OnOk result (NoSideTwice (net_of faces.now)) }
     ensures edge_twice { IfErr result (IsTwinsFault (net_of faces.now)) }
@@ -114,10 +112,13 @@ fn pair_sides(
     let Ok(mut stamps) = free_slots(alloc, vertices) else {
         return Err(TwinsFail::OutOfMemory);
     };
+    let Ok(mut origins) = zeros(alloc, vertices) else {
+        return Err(TwinsFail::OutOfMemory);
+    };
     let mut repeat = None;
     for vertex in 0..vertices as u32 {
-        repeat = stamp_leaving(faces, lists, vertex, &mut stamps, repeat);
-        pair_arriving(faces, lists, vertex, &stamps, &mut twins);
+        repeat = stamp_leaving(faces, rows, vertex, &mut stamps, &mut origins, repeat);
+        pair_arriving(faces, rows, vertex, &stamps, &origins, &mut twins);
     }
     match repeat {
         Some(side) => Err(TwinsFail::EdgeTwice(FaceId(side / 3))),

@@ -1,6 +1,6 @@
 -- What a text spells is within the limits, and each of its points is at most 10^32 units away from 0 on each axis.
 use Rattle.std.proofs.Common.{◌≡◌, ℕ, ◌+◌, ◌-◌, ◌^◌, ◌<◌, ◌≤◌, Bool, true, false, not, ◌==◌, ◌||◌, nat_lt, List, [], ◌∷◌, ◌++◌, length, ℤ, Option, Some, None, Result, Ok, Err, IfOk, if◌then◌else◌, refl, subst, arith}
-use Rattle.std.specs.Prelude.{unsigned_abs}
+use Rattle.std.specs.Prelude.{nat_le, unsigned_abs}
 use Rattle.std.specs.List.{All}
 use Rattle.std.proofs.lemmas.Bool.{ltb-false, or_parts}
 use Rattle.std.proofs.lemmas.Bool.Decides.{nat_tests}
@@ -11,7 +11,6 @@ use Rattle.obj_read.specs.declared.fault.ObjFault.TheVariants as faults
 use Rattle.obj_read.specs.Fields.{fields}
 use Rattle.obj_read.specs.Coordinates.{with_sign, without_sign, is_negative}
 use Rattle.obj_read.specs.Indices.{index_text}
-use Rattle.obj_read.specs.Judged.{is_full}
 use Rattle.obj_read.specs.Meaning.{Refused}
 use Rattle.obj_read.proofs.FormedLaws.{Gives, given, then_gives, unless, either, index_within, not_full}
 use Rattle.obj_read.proofs.DecimalLaws.{with_sign_abs}
@@ -52,7 +51,7 @@ vertex_suits n k (a ∷ b ∷ []) = record { so = tt }
 vertex_suits n k (a ∷ b ∷ c ∷ more) =
     then_gives _ _ _ _ (coordinate_exact a) (λ x exact_x. then_gives _ _ _ _ (coordinate_exact b) (λ y exact_y. then_gives _ _ _ _ (coordinate_exact c) (λ z exact_z.
     let v = vertex (record { x = x; y = y; z = z }) in
-    unless (Suits n k) (is_full n) faults.TooMany (Ok v) (λ room. given (Suits n k) v (not_full n room, (exact_x, exact_y, exact_z))))))
+    unless (Suits n k) (nat_le 1048576 n) faults.TooMany (Ok v) (λ room. given (Suits n k) v (not_full n room, (exact_x, exact_y, exact_z))))))
 
 indices_within : (n : ℕ) (fs : List (List ℕ)) → Gives (All (λ (c : ℕ). c < n)) (indices n fs)
 indices_within n [] = given _ _ (All-nil (λ (c : ℕ). c < n))

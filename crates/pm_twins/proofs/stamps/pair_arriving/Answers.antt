@@ -1,46 +1,106 @@
-use Rattle.std.proofs.Common.{◌<◌, ◌∙◌, ℕ, None, Option, List, slice_index_or, sym, ap, subst, arith}
+use Rattle.std.proofs.Common.{◌<◌, ◌∙◌, ◌≡◌, ◌+◌, ◌-◌, ℕ, None, Option, List, ◌∷◌, length, slice_index_or, sym, ap, subst, arith}
+use Rattle.std.proofs.lemmas.List.{get_or_default}
 use Rattle.pm_base.specs.Sides.{Net, net_of, side_count}
 use Rattle.pm_links.proofs.Members.{has_head}
+use Rattle.pm_twins.specs.SideRows.{row, start_at}
 use Rattle.pm_twins.specs.Stamping.{leaving}
-use Rattle.pm_twins.proofs.PairLaws.{IsPairing, pairing_prev, pairing_more, paired_more}
+use Rattle.pm_twins.proofs.StampLaws.{origin-leaving}
+use Rattle.pm_twins.proofs.PairLaws.{IsPairing, pairing_begins, pairing_side, pairing_ends, pairing_prev, pairing_more, paired_more}
 use Rattle.pm_twins.proofs.stamps.pair_arriving.Goals as goal
+
+pub loop-place-init : goal.loop-place-init
+loop-place-init c =
+    let m : Net = net_of c.args.faces.now in
+    let v = c.args.vertex in
+    let starts : List ℕ = c.args.rows.now.starts.items in
+    let sides : List ℕ = c.args.rows.now.sides.items in
+    let r = c.requires.rows in
+    let until_is : c.index-until.result.now ≡ start_at starts (v + 1) = c.index-until.ensures ∙ get_or_default starts (v + 1) c.index-until.result.now 0 (omega (arith, r.bounds, c.requires.in_range)) in
+    let from_is : c.index-place.result.now ≡ start_at starts v = c.index-place.ensures ∙ get_or_default starts v c.index-place.result.now 0 (omega (arith, r.bounds, c.requires.in_range)) in
+    rw (from_is, until_is) (pairing_begins m (length c.args.stamps.now) v starts sides c.args.twins.now.items r c.requires.in_range c.requires.paired)
 
 pub prev-arriving-requires : goal.prev-arriving-requires
 prev-arriving-requires c =
     let m : Net = net_of c.args.faces.now in
-    let i = subst (λ (xs : List ℕ). IsPairing m c.args.vertex xs c.loop-side.twins.items) (c.in-Some.ensures {u = tt}).steps c.loop-side.invariant in
-    omega (arith, (i.leave c.in-Some.side (has_head c.in-Some.side c.next.new.self)).0, c.requires.whole.short)
+    let v = c.args.vertex in
+    let starts : List ℕ = c.args.rows.now.starts.items in
+    let sides : List ℕ = c.args.rows.now.sides.items in
+    let r = c.requires.rows in
+    let until_is : c.index-until.result.now ≡ start_at starts (v + 1) = c.index-until.ensures ∙ get_or_default starts (v + 1) c.index-until.result.now 0 (omega (arith, r.bounds, c.requires.in_range)) in
+    let place = c.loop-place.place in
+    let until = c.index-until.result.now in
+    let low : place < until = omega (arith, c.loop-place-test.true, c.loop-place.auto.place-end) in
+    let most = r.within (v + 1) (omega (arith, c.requires.in_range)) in
+    let there : place < length sides = omega (arith, low, until_is, most, r.places) in
+    let side_is : c.index-side.result.now ≡ start_at sides place = c.index-side.ensures ∙ get_or_default sides place c.index-side.result.now 0 there in
+    let left : List ℕ = row sides (place + 1) (until - (place + 1)) in
+    let i : IsPairing m v (c.index-side.result.now ∷ left) c.loop-place.twins.items = pairing_side m v place until c.index-side.result.now sides c.loop-place.twins.items low side_is c.loop-place.invariant in
+    let l = (i.leave c.index-side.result.now (has_head c.index-side.result.now left)).0 in
+    omega (arith, l, c.requires.whole.short)
 
 pub from-requires : goal.from-requires
 from-requires c =
     let m : Net = net_of c.args.faces.now in
-    let i = subst (λ (xs : List ℕ). IsPairing m c.args.vertex xs c.loop-side.twins.items) (c.in-Some.ensures {u = tt}).steps c.loop-side.invariant in
-    subst (λ (k : ℕ). k < side_count m) (sym c.prev-arriving.ensures.value) (pairing_prev m c.args.vertex c.in-Some.side c.next.new.self c.loop-side.twins.items i)
-
-pub stamped-requires-clause-sides : goal.stamped-requires-clause-sides
-stamped-requires-clause-sides c w e is = (c.requires.stamps.each w e is).0
+    let v = c.args.vertex in
+    let starts : List ℕ = c.args.rows.now.starts.items in
+    let sides : List ℕ = c.args.rows.now.sides.items in
+    let r = c.requires.rows in
+    let until_is : c.index-until.result.now ≡ start_at starts (v + 1) = c.index-until.ensures ∙ get_or_default starts (v + 1) c.index-until.result.now 0 (omega (arith, r.bounds, c.requires.in_range)) in
+    let place = c.loop-place.place in
+    let until = c.index-until.result.now in
+    let low : place < until = omega (arith, c.loop-place-test.true, c.loop-place.auto.place-end) in
+    let most = r.within (v + 1) (omega (arith, c.requires.in_range)) in
+    let there : place < length sides = omega (arith, low, until_is, most, r.places) in
+    let side_is : c.index-side.result.now ≡ start_at sides place = c.index-side.ensures ∙ get_or_default sides place c.index-side.result.now 0 there in
+    let left : List ℕ = row sides (place + 1) (until - (place + 1)) in
+    let i : IsPairing m v (c.index-side.result.now ∷ left) c.loop-place.twins.items = pairing_side m v place until c.index-side.result.now sides c.loop-place.twins.items low side_is c.loop-place.invariant in
+    subst (λ (k : ℕ). k < side_count m) (sym c.prev-arriving.ensures.value) (pairing_prev m v c.index-side.result.now left c.loop-place.twins.items i)
 
 pub index_mut-requires : goal.index_mut-requires
 index_mut-requires c =
     let m : Net = net_of c.args.faces.now in
-    let i = subst (λ (xs : List ℕ). IsPairing m c.args.vertex xs c.loop-side.twins.items) (c.in-Some.ensures {u = tt}).steps c.loop-side.invariant in
-    let low = subst (λ (k : ℕ). k < side_count m) (sym c.prev-arriving.ensures.value) (pairing_prev m c.args.vertex c.in-Some.side c.next.new.self c.loop-side.twins.items i) in
+    let v = c.args.vertex in
+    let starts : List ℕ = c.args.rows.now.starts.items in
+    let sides : List ℕ = c.args.rows.now.sides.items in
+    let r = c.requires.rows in
+    let until_is : c.index-until.result.now ≡ start_at starts (v + 1) = c.index-until.ensures ∙ get_or_default starts (v + 1) c.index-until.result.now 0 (omega (arith, r.bounds, c.requires.in_range)) in
+    let place = c.loop-place.place in
+    let until = c.index-until.result.now in
+    let low : place < until = omega (arith, c.loop-place-test.true, c.loop-place.auto.place-end) in
+    let most = r.within (v + 1) (omega (arith, c.requires.in_range)) in
+    let there : place < length sides = omega (arith, low, until_is, most, r.places) in
+    let side_is : c.index-side.result.now ≡ start_at sides place = c.index-side.ensures ∙ get_or_default sides place c.index-side.result.now 0 there in
+    let left : List ℕ = row sides (place + 1) (until - (place + 1)) in
+    let i : IsPairing m v (c.index-side.result.now ∷ left) c.loop-place.twins.items = pairing_side m v place until c.index-side.result.now sides c.loop-place.twins.items low side_is c.loop-place.invariant in
+    let low = subst (λ (k : ℕ). k < side_count m) (sym c.prev-arriving.ensures.value) (pairing_prev m v c.index-side.result.now left c.loop-place.twins.items i) in
     omega (arith, low, i.sides)
 
-pub loop-side-preserved : goal.loop-side-preserved
-loop-side-preserved c =
+pub loop-place-preserved : goal.loop-place-preserved
+loop-place-preserved c =
     let m : Net = net_of c.args.faces.now in
     let v = c.args.vertex in
+    let starts : List ℕ = c.args.rows.now.starts.items in
+    let sides : List ℕ = c.args.rows.now.sides.items in
+    let r = c.requires.rows in
+    let until_is : c.index-until.result.now ≡ start_at starts (v + 1) = c.index-until.ensures ∙ get_or_default starts (v + 1) c.index-until.result.now 0 (omega (arith, r.bounds, c.requires.in_range)) in
+    let place = c.loop-place.place in
+    let until = c.index-until.result.now in
+    let low : place < until = omega (arith, c.loop-place-test.true, c.loop-place.auto.place-end) in
+    let most = r.within (v + 1) (omega (arith, c.requires.in_range)) in
+    let there : place < length sides = omega (arith, low, until_is, most, r.places) in
+    let side_is : c.index-side.result.now ≡ start_at sides place = c.index-side.ensures ∙ get_or_default sides place c.index-side.result.now 0 there in
+    let left : List ℕ = row sides (place + 1) (until - (place + 1)) in
+    let i : IsPairing m v (c.index-side.result.now ∷ left) c.loop-place.twins.items = pairing_side m v place until c.index-side.result.now sides c.loop-place.twins.items low side_is c.loop-place.invariant in
     let stamps : List (Option ℕ) = c.args.stamps.now in
-    let twins = c.loop-side.twins.items in
-    let i = subst (λ (xs : List ℕ). IsPairing m v xs twins) (c.in-Some.ensures {u = tt}).steps c.loop-side.invariant in
-    let looked = c.stamped.ensures ∙ ap (λ (u : ℕ). leaving m v (slice_index_or stamps u None)) c.from.ensures in
-    pairing_more m v c.in-Some.side c.prev-arriving.result c.next.new.self stamps twins c.stamped.result i c.requires.stamps c.requires.all c.prev-arriving.ensures.value looked
+    let twins = c.loop-place.twins.items in
+    let looked = c.stamped.ensures ∙ origin-leaving m v c.from.result stamps c.args.origins.now c.requires.origins ∙ ap (λ (u : ℕ). leaving m v (slice_index_or stamps u None)) c.from.ensures in
+    pairing_more m v c.index-side.result.now c.prev-arriving.result left stamps twins c.stamped.result i c.requires.stamps c.requires.all c.prev-arriving.ensures.value looked
 
 pub returns : goal.returns
 returns c =
     let m : Net = net_of c.args.faces.now in
+    let twins = c.loop-place.twins.items in
     record {
-      paired = paired_more m c.args.vertex c.loop-side.twins.items
-          (subst (λ (left : List ℕ). IsPairing m c.args.vertex left c.loop-side.twins.items) (c.in-None.ensures {u = tt}).steps.0 c.loop-side.invariant);
+      paired = paired_more m c.args.vertex twins
+          (pairing_ends m c.args.vertex c.loop-place.place c.index-until.result.now c.args.rows.now.sides.items twins (omega (arith, c.loop-place-test.false, c.loop-place.auto.place-end)) c.loop-place.invariant);
     }

@@ -1,45 +1,83 @@
-use Rattle.std.proofs.Common.{◌<◌, ◌∙◌, ℕ, Some, None, Option, List, ◌∷◌, length, slice_index_or, refl, sym, ap, subst, arith}
+use Rattle.std.proofs.Common.{◌<◌, ◌∙◌, ◌≡◌, ◌+◌, ◌-◌, ℕ, Some, None, Option, List, ◌∷◌, length, slice_index_or, refl, sym, ap, subst, arith}
 use Rattle.std.proofs.Math.ListN.{set}
 use Rattle.pm_base.specs.Sides.{Net, net_of}
 use Rattle.pm_links.proofs.Members.{has_head}
-use Rattle.std.proofs.lemmas.List.{length-set}
+use Rattle.std.proofs.lemmas.List.{length-set, get_or_default}
 use Rattle.pm_twins.specs.declared.stamps.Ordered.{Ordered}
-use Rattle.pm_twins.specs.Stamping.{leaving, lesser_of}
+use Rattle.pm_twins.specs.SideRows.{row, start_at}
+use Rattle.pm_twins.specs.Stamping.{stamp_from, lesser_of}
 use Rattle.pm_twins.proofs.Whole.{to_within}
-use Rattle.pm_twins.proofs.StampLaws.{IsStamping, stamping_begins, stamping_more, stamps_more, least_more}
+use Rattle.pm_twins.proofs.StampLaws.{IsStamping, stamping_begins, stamping_side, stamping_ends, stamping_more, stamping_leaves, origin-leaving, origins_more, stamps_more, all_stamped, least_more}
 use Rattle.pm_twins.proofs.stamps.stamp_leaving.Goals as goal
 
-pub loop-side-init : goal.loop-side-init
-loop-side-init c =
-    let m : Net = net_of c.args.faces.now in
-    let items_is = c.into_iter-side-iterator.ensures.into_iter_gives ∙ c.items-side-items.ensures.items in
-    record {
-      len = refl;
-      stamping = subst (λ (left : List ℕ). IsStamping m c.args.vertex left c.args.stamps.now.items c.args.repeat) (sym items_is)
-          (stamping_begins m c.args.vertex c.args.lists.now c.args.stamps.now.items c.args.repeat c.items-side-items.ensures.sound c.requires.listed c.requires.stamps c.requires.repeat);
-    }
-
-pub stamped-requires-clause-sides : goal.stamped-requires-clause-sides
-stamped-requires-clause-sides c w e is =
-    (c.loop-side.invariant.stamping.each w e (ap (λ (stamps : List (Option ℕ)). slice_index_or stamps w None) (sym c.deref.ensures.value) ∙ is)).0
-
-pub loop-side-preserved : goal.loop-side-preserved
-loop-side-preserved c =
+pub loop-place-init : goal.loop-place-init
+loop-place-init c =
     let m : Net = net_of c.args.faces.now in
     let v = c.args.vertex in
-    let x = c.in-Some.side in
-    let w = c.to-end.result in
-    let left : List ℕ = c.next.new.self in
-    let stamps = c.loop-side.stamps.items in
-    let least = c.loop-side.least in
-    let steps = (c.in-Some.ensures {u = tt}).steps in
-    let i : IsStamping m v (x ∷ left) stamps least = subst (λ (xs : List ℕ). IsStamping m v xs stamps least) steps c.loop-side.invariant.stamping in
-    let end = to_within m (length c.args.lists.now.lists) c.requires.whole x (i.leave x (has_head x left)).0 in
-    let low : w < length stamps = omega (arith, c.to-end.ensures, end, c.loop-side.invariant.len, c.requires.len) in
-    let known = c.stamped.ensures ∙ ap (λ (table : List (Option ℕ)). leaving m v (slice_index_or table w None)) c.deref.ensures.value in
-    let done = stamping_more m v x w left stamps least c.stamped.result i c.to-end.ensures low known in
+    let starts : List ℕ = c.args.rows.now.starts.items in
+    let sides : List ℕ = c.args.rows.now.sides.items in
+    let r = c.requires.rows in
+    let until_is : c.index-until.result.now ≡ start_at starts (v + 1) = c.index-until.ensures ∙ get_or_default starts (v + 1) c.index-until.result.now 0 (omega (arith, r.bounds, c.requires.in_range)) in
+    let from_is : c.index-place.result.now ≡ start_at starts v = c.index-place.ensures ∙ get_or_default starts v c.index-place.result.now 0 (omega (arith, r.bounds, c.requires.in_range)) in
     record {
-      len = length-set stamps w (Some c.in_order-sides.result.first) ∙ c.loop-side.invariant.len;
+      len = refl;
+      origins_len = c.requires.origins_len;
+      origins = c.requires.origins;
+      stamping = rw (from_is, until_is) (stamping_begins m (length c.args.stamps.now.items) v starts sides c.args.stamps.now.items c.args.repeat r c.requires.in_range c.requires.stamps c.requires.repeat);
+    }
+
+pub to-end-requires-clause-in_range : goal.to-end-requires-clause-in_range
+to-end-requires-clause-in_range c =
+    let m : Net = net_of c.args.faces.now in
+    let v = c.args.vertex in
+    let starts : List ℕ = c.args.rows.now.starts.items in
+    let sides : List ℕ = c.args.rows.now.sides.items in
+    let r = c.requires.rows in
+    let until_is : c.index-until.result.now ≡ start_at starts (v + 1) = c.index-until.ensures ∙ get_or_default starts (v + 1) c.index-until.result.now 0 (omega (arith, r.bounds, c.requires.in_range)) in
+    let place = c.loop-place.place in
+    let until = c.index-until.result.now in
+    let low : place < until = omega (arith, c.loop-place-test.true, c.loop-place.auto.place-end) in
+    let most = r.within (v + 1) (omega (arith, c.requires.in_range)) in
+    let there : place < length sides = omega (arith, low, until_is, most, r.places) in
+    let side_is : c.index-side.result.now ≡ start_at sides place = c.index-side.ensures ∙ get_or_default sides place c.index-side.result.now 0 there in
+    let left : List ℕ = row sides (place + 1) (until - (place + 1)) in
+    let i : IsStamping m v (c.index-side.result.now ∷ left) c.loop-place.stamps.items c.loop-place.least = stamping_side m v place until c.index-side.result.now sides c.loop-place.stamps.items c.loop-place.least low side_is c.loop-place.invariant.stamping in
+    (i.leave c.index-side.result.now (has_head c.index-side.result.now left)).0
+
+pub loop-place-preserved : goal.loop-place-preserved
+loop-place-preserved c =
+    let m : Net = net_of c.args.faces.now in
+    let v = c.args.vertex in
+    let starts : List ℕ = c.args.rows.now.starts.items in
+    let sides : List ℕ = c.args.rows.now.sides.items in
+    let r = c.requires.rows in
+    let until_is : c.index-until.result.now ≡ start_at starts (v + 1) = c.index-until.ensures ∙ get_or_default starts (v + 1) c.index-until.result.now 0 (omega (arith, r.bounds, c.requires.in_range)) in
+    let place = c.loop-place.place in
+    let until = c.index-until.result.now in
+    let low : place < until = omega (arith, c.loop-place-test.true, c.loop-place.auto.place-end) in
+    let most = r.within (v + 1) (omega (arith, c.requires.in_range)) in
+    let there : place < length sides = omega (arith, low, until_is, most, r.places) in
+    let side_is : c.index-side.result.now ≡ start_at sides place = c.index-side.ensures ∙ get_or_default sides place c.index-side.result.now 0 there in
+    let left : List ℕ = row sides (place + 1) (until - (place + 1)) in
+    let i : IsStamping m v (c.index-side.result.now ∷ left) c.loop-place.stamps.items c.loop-place.least = stamping_side m v place until c.index-side.result.now sides c.loop-place.stamps.items c.loop-place.least low side_is c.loop-place.invariant.stamping in
+    let x = c.index-side.result.now in
+    let w = c.to-end.result in
+    let stamps = c.loop-place.stamps.items in
+    let least = c.loop-place.least in
+    let end = to_within m (length c.args.stamps.now.items) c.requires.whole x (i.leave x (has_head x left)).0 in
+    let w_low : w < length stamps = omega (arith, c.to-end.ensures, end, c.loop-place.invariant.len) in
+    let origins : List ℕ = c.loop-place.origins.items in
+    let looked = c.stamped.ensures
+    ∙ ap (λ (table : List (Option ℕ)). stamp_from (slice_index_or c.deref-in-loop-place.result.now w 0) v (slice_index_or table w None)) c.deref.ensures.value
+    ∙ ap (λ (table : List ℕ). stamp_from (slice_index_or table w 0) v (slice_index_or stamps w None)) c.deref-in-loop-place.ensures.value in
+    let known = looked ∙ origin-leaving m v w stamps origins c.loop-place.invariant.origins in
+    let leaves = stamping_leaves m v x w left stamps least c.stamped.result i c.to-end.ensures known in
+    let first_leaves = ap (λ (o : Ordered). m.from o.first) c.in_order-sides.ensures ∙ leaves in
+    let done = stamping_more m v x w left stamps least c.stamped.result i c.to-end.ensures w_low known in
+    record {
+      len = length-set stamps w (Some c.in_order-sides.result.first) ∙ c.loop-place.invariant.len;
+      origins_len = length-set origins w v ∙ c.loop-place.invariant.origins_len;
+      origins = origins_more m v c.in_order-sides.result.first w stamps origins c.loop-place.invariant.origins w_low (omega (arith, w_low, c.loop-place.invariant.len, c.loop-place.invariant.origins_len)) first_leaves;
       stamping = subst (λ (r : Option ℕ). IsStamping m v left (set stamps w (Some c.in_order-sides.result.first)) r) (sym c.lesser-least.ensures)
           (subst (λ (o : Ordered). IsStamping m v left (set stamps w (Some o.first)) (lesser_of least o.later)) (sym c.in_order-sides.ensures) done);
     }
@@ -47,13 +85,23 @@ loop-side-preserved c =
 pub returns-clause-stamps : goal.returns-clause-stamps
 returns-clause-stamps c =
     let m : Net = net_of c.args.faces.now in
-    let ended = (c.in-None.ensures {u = tt}).steps.0 in
-    stamps_more m c.args.vertex c.loop-side.stamps.items c.loop-side.least
-    (subst (λ (left : List ℕ). IsStamping m c.args.vertex left c.loop-side.stamps.items c.loop-side.least) ended c.loop-side.invariant.stamping)
+    let stamps = c.loop-place.stamps.items in
+    let least = c.loop-place.least in
+    stamps_more m c.args.vertex stamps least
+    (stamping_ends m c.args.vertex c.loop-place.place c.index-until.result.now c.args.rows.now.sides.items stamps least (omega (arith, c.loop-place-test.false, c.loop-place.auto.place-end)) c.loop-place.invariant.stamping)
+
+pub returns-clause-all : goal.returns-clause-all
+returns-clause-all c =
+    let m : Net = net_of c.args.faces.now in
+    let stamps = c.loop-place.stamps.items in
+    let least = c.loop-place.least in
+    all_stamped m c.args.vertex stamps least
+    (stamping_ends m c.args.vertex c.loop-place.place c.index-until.result.now c.args.rows.now.sides.items stamps least (omega (arith, c.loop-place-test.false, c.loop-place.auto.place-end)) c.loop-place.invariant.stamping)
 
 pub returns-clause-repeat : goal.returns-clause-repeat
 returns-clause-repeat c =
     let m : Net = net_of c.args.faces.now in
-    let ended = (c.in-None.ensures {u = tt}).steps.0 in
-    least_more m c.args.vertex c.loop-side.stamps.items c.loop-side.least
-    (subst (λ (left : List ℕ). IsStamping m c.args.vertex left c.loop-side.stamps.items c.loop-side.least) ended c.loop-side.invariant.stamping)
+    let stamps = c.loop-place.stamps.items in
+    let least = c.loop-place.least in
+    least_more m c.args.vertex stamps least
+    (stamping_ends m c.args.vertex c.loop-place.place c.index-until.result.now c.args.rows.now.sides.items stamps least (omega (arith, c.loop-place-test.false, c.loop-place.auto.place-end)) c.loop-place.invariant.stamping)

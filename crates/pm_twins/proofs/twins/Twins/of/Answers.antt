@@ -2,13 +2,13 @@ use Rattle.std.proofs.Common.{ℕ, length, List, sym, subst}
 use Rattle.pm_base.specs.declared.mesh.Corners.{Corners}
 use Rattle.pm_base.specs.Sides.{Net, net_of, NoSideTwice}
 use Rattle.pm_base.specs.Meshes.{mesh_of}
-use Rattle.pm_twins.specs.SideLists.{IsWhole}
+use Rattle.pm_twins.specs.SideRows.{IsWhole}
 use Rattle.pm_twins.specs.Table.{AreTwinsOf, IsBorderOf}
 use Rattle.pm_twins.proofs.Whole.{mesh_whole}
 use Rattle.pm_twins.proofs.twins.Twins.of.Goals as goal
 
-pub list_sides-requires : goal.list_sides-requires
-list_sides-requires c =
+pub row_sides-requires : goal.row_sides-requires
+row_sides-requires c =
     rw c.len-vertices.ensures
     (subst (λ (fs : List Corners). IsWhole (net_of fs) (length c.args.mesh.now.points.items)) (sym c.as_slice-faces.ensures) (mesh_whole (mesh_of c.args.mesh.now) c.requires))
 
