@@ -1,19 +1,15 @@
--- Different numbers in a list: one more, one less, and how many they are.
-use Rattle.std.proofs.Common.{◌≡◌, ◌≢◌, ◌↔◌, ℕ, suc, ◌+◌, ◌-◌, ◌<◌, ◌≤◌, Bool, true, false, eqb, List, [], ◌∷◌, length, ◌⊎◌, inl, inr, sym, ap, ◌∙◌, subst, arith}
+-- How many different numbers a list has.
+use Rattle.std.proofs.Common.{◌≡◌, ◌≢◌, ◌↔◌, ℕ, suc, ◌<◌, ◌≤◌, Bool, true, false, eqb, List, [], ◌∷◌, length, ◌⊎◌, inl, inr, sym, ap, ◌∙◌, subst, arith}
 use Rattle.std.specs.List.{filter}
 use Rattle.std.proofs.lemmas.Bool.{cases_eq, eq-eqb, ne_eqb, or_cases, eqb-true, false≢true}
-use Rattle.pm_links.specs.Lists.{Lists, list_of, has, without, with_first, without_item, IsOnce, IsFree}
-use Rattle.pm_links.proofs.Calls.{list_of-past, after_push, after_unlink}
+use Rattle.pm_links.specs.Lists.{has, without, IsOnce}
 use Rattle.pm_links.proofs.Members.{has_head, has_tail}
 use Rattle.pm_links.proofs.Without.{without_none, has-without, once-without}
 use Rattle.pm_forest.specs.Forest.{Hierarchy, node_count}
 use Rattle.pm_forest.specs.Fronts.{is_active}
-use Rattle.pm_front.specs.Members.{Members, AreMembers}
 use Rattle.pm_front.specs.Shown.{numbers, active_nodes}
 use Rattle.pm_front.specs.Active.{AreActive}
 use Rattle.pm_front.proofs.ListLaws.{has_filter-parts, has_filter-from, once-filter, once-range, number-member}
-
--- ---- how many
 
 length-without : (x : ℕ) (xs : List ℕ) → IsOnce xs → has xs x ≡ true → length xs ≡ suc (length (without x xs))
 length-without x [] once there = absurd (false≢true there)
@@ -56,41 +52,3 @@ as_many p n xs once each =
 
 pub active-many : (h : Hierarchy) (T : ℕ → Bool) (nodes : List ℕ) → AreActive h T nodes → length nodes ≡ length (active_nodes h T)
 active-many h T nodes right = as_many (is_active h T) (node_count h) nodes right.once right.each
-
--- ---- the arena
-
-pub one_free : (v : Lists) (x : ℕ) → length v.lists ≡ 1 → has (list_of v 0) x ≡ false → IsFree v x
-one_free v x one free g =
-    elim (cases_eq g 0) [
-      | inl is ↦ ap (λ k. has (list_of v k) x) is ∙ free
-      | inr other ↦ ap (λ l. has l x) (list_of-past v g (omega (arith, one)))
-    ]
-
-pub inserted : (v w : Lists) (count x : ℕ) → AreMembers v count → has (list_of v 0) x ≡ false → w ≡ with_first v 0 x → AreMembers w (count + 1)
-inserted v w count x was absent is =
-    let p = after_push v w 0 x (omega (arith, was.one)) is in
-    let more : length (list_of w 0) ≡ suc (length (list_of v 0)) = ap length p.gained in
-    record { one = p.heads ∙ was.one; once = subst IsOnce (sym p.gained) (absent, was.once); counted = omega (arith, more, was.counted) }
-
-pub removed : (v w : Lists) (count x : ℕ) → AreMembers v count → has (list_of v 0) x ≡ true → w ≡ without_item v x → AreMembers w (count - 1)
-removed v w count x was there is =
-    let u = after_unlink v w x is in
-    let less : length (list_of w 0) ≡ length (without x (list_of v 0)) = ap length (u.lost 0) in
-    let one = length-without x (list_of v 0) was.once there in
-    record { one = u.heads ∙ was.one; once = subst IsOnce (sym (u.lost 0)) (once-without x (list_of v 0) was.once); counted = omega (arith, less, one, was.counted) }
-
--- as the type's value
-abbrev pub members_of : Lists → Members
-members_of v = record { bound = v.items; list = list_of v 0 }
-
-pub inserted-value : (v w : Lists) (x : ℕ) → length v.lists ≡ 1 → w ≡ with_first v 0 x → members_of w ≡ record { bound = v.items; list = x ∷ list_of v 0 }
-inserted-value v w x one is =
-    let p = after_push v w 0 x (omega (arith, one)) is in
-    ap (λ b. let m : Members = record { bound = b; list = list_of w 0 } in m) p.items
-    ∙ ap (λ l. let m : Members = record { bound = v.items; list = l } in m) p.gained
-
-pub removed-value : (v w : Lists) (x : ℕ) → w ≡ without_item v x → members_of w ≡ record { bound = v.items; list = without x (list_of v 0) }
-removed-value v w x is =
-    let u = after_unlink v w x is in
-    ap (λ b. let m : Members = record { bound = b; list = list_of w 0 } in m) u.items
-    ∙ ap (λ l. let m : Members = record { bound = v.items; list = l } in m) (u.lost 0)

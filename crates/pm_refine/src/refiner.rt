@@ -79,7 +79,8 @@ impl Refiner {
     /// the splits in ascending order, then the collapses in descending order. `Spent` comes exactly
     /// where the plan is longer than the budget. It takes no memory, and counts a step for each
     /// test of a node. It looks at the active nodes and at the records of the plan, and at no
-    /// others but those that they split or need.
+    /// others but those that they split or need; its walk over the active nodes passes over each
+    /// block of 64 nodes that has none.
     pub fn adapt<L: Ledger>(
         &mut self,
         front: &mut Front,
