@@ -24,9 +24,9 @@ fn make_move(front: &mut Front, k: u32)
         front.new.corners ≡ moved_lists front.old.h S (move_of S k) front.old.corners }
 {
     if front.is_split(k) {
-        let _ = front.collapse(k);
+        front.collapse_legal(k);
     } else {
-        let _ = front.split(k);
+        front.split_legal(k);
     }
 }
 
