@@ -8,3 +8,4 @@ pub mod FaultLine
 pub mod Outcome
 pub mod Frames
 pub mod Ending
+pub mod Devices

@@ -8,9 +8,8 @@ ghost use Rattle.pm_runs.specs.Runs.{IsStart};
 ghost use Rattle.vdpm.specs.Input.{Stops};
 ghost use Rattle.vdpm.specs.Surface.{IsSurface};
 ghost use Rattle.vdpm.specs.Build.{IsSimplified, IsBuilt};
-ghost use Rattle.vdpm.specs.Outcome.{GivesBack};
-ghost use Rattle.vdpm.specs.Frames.{ShowsSurfaces};
 ghost use Rattle.vdpm.specs.Ending.{Ends, Counts};
+ghost use Rattle.vdpm.specs.Devices.{LeadsBack, FramesAreSurfaces};
 
 use crate::fault::{CommandFail, InputFail};
 use crate::surface::read_surface;
@@ -48,12 +47,15 @@ fn build_hierarchy<S: Source>(
     input: &mut S,
 ) -> Result<Hierarchy, InputFail>
     requires { digits ≤ 4 }
-    ensures built { IfOk result (λ h. IfSome (S.left input.old) (λ bytes. IsBuilt target digits bytes (Ok h) None)) }
-    ensures mesh { IfOk result (λ h. IfSome (S.left input.old) (λ bytes. IsSurface digits bytes (Ok (input_mesh_of h)) None)) }
+    ensures built { IfOk result (λ h. IfSome (S.left input.old)
+        (λ bytes. IsBuilt target digits bytes (Ok h) None)) }
+    ensures mesh { IfOk result (λ h. IfSome (S.left input.old)
+        (λ bytes. IsSurface digits bytes (Ok (input_mesh_of h)) None)) }
     ensures firm { IfOk result IsFirm }
     ensures end { OnOk result (AtEnd (S.left input.new)) }
     ensures count { OnOk result (S.faults input.new ≡ S.faults input.old) }
-    ensures err { IfErr result (λ e. Stops (IsBuilt target digits) e (S.left input.old) (S.left input.new) (S.faults input.old) (S.faults input.new)) }
+    ensures err { IfErr result (λ e. Stops (IsBuilt target digits) e
+        (S.left input.old) (S.left input.new) (S.faults input.old) (S.faults input.new)) }
 {
     let mesh = read_surface(alloc, digits, input)?;
     Ok(simplified(alloc, &mesh, target)?)
@@ -69,9 +71,10 @@ pub fn build<S: Source, K: Sink>(
     out: &mut K,
 ) -> Result<(), CommandFail>
     requires { digits ≤ 4 }
-    ensures ends { Ends (Asked.Build target digits) result (S.left input.old) (S.left input.new) (K.got out.old) (K.got out.new) }
-    ensures gives_back { OnOk result (IfSome (S.left input.old) (λ bytes. GivesBack target digits bytes (K.got out.old) (K.got out.new))) }
-    ensures surfaces { OnOk result (IfSome (S.left input.old) (λ bytes. ShowsSurfaces target digits bytes (K.got out.old) (K.got out.new))) }
+    ensures ends { Ends (Asked.Build target digits) result
+        (S.left input.old) (S.left input.new) (K.got out.old) (K.got out.new) }
+    ensures gives_back { OnOk result (LeadsBack S.Source K.Sink target digits input.old out.old out.new) }
+    ensures surfaces { OnOk result (FramesAreSurfaces S.Source K.Sink target digits input.old out.old out.new) }
     ensures counts { Counts result (S.faults input.old) (S.faults input.new) (K.faults out.old) (K.faults out.new) }
     ensures read_whole { OnOk result (AtEnd (S.left input.new)) }
 {

@@ -23,7 +23,8 @@ pub fn canon<S: Source, K: Sink>(
     out: &mut K,
 ) -> Result<(), CommandFail>
     requires { digits ≤ 4 }
-    ensures ends { Ends (Asked.Canon digits) result (S.left input.old) (S.left input.new) (K.got out.old) (K.got out.new) }
+    ensures ends { Ends (Asked.Canon digits) result
+        (S.left input.old) (S.left input.new) (K.got out.old) (K.got out.new) }
     ensures counts { Counts result (S.faults input.old) (S.faults input.new) (K.faults out.old) (K.faults out.new) }
     ensures read_whole { OnOk result (AtEnd (S.left input.new)) }
 {
@@ -39,7 +40,8 @@ pub fn expand<S: Source, K: Sink>(
     input: &mut S,
     out: &mut K,
 ) -> Result<(), CommandFail>
-    ensures ends { Ends Asked.Expand result (S.left input.old) (S.left input.new) (K.got out.old) (K.got out.new) }
+    ensures ends { Ends Asked.Expand result
+        (S.left input.old) (S.left input.new) (K.got out.old) (K.got out.new) }
     ensures counts { Counts result (S.faults input.old) (S.faults input.new) (K.faults out.old) (K.faults out.new) }
     ensures read_whole { OnOk result (AtEnd (S.left input.new)) }
 {
@@ -55,7 +57,8 @@ pub fn check<S: Source, K: Sink>(
     input: &mut S,
     out: &mut K,
 ) -> Result<(), CommandFail>
-    ensures ends { Ends Asked.Check result (S.left input.old) (S.left input.new) (K.got out.old) (K.got out.new) }
+    ensures ends { Ends Asked.Check result
+        (S.left input.old) (S.left input.new) (K.got out.old) (K.got out.new) }
     ensures counts { Counts result (S.faults input.old) (S.faults input.new) (K.faults out.old) (K.faults out.new) }
     ensures read_whole { OnOk result (AtEnd (S.left input.new)) }
 {
@@ -74,10 +77,12 @@ pub fn view<S: Source, K: Sink>(
     input: &mut S,
     out: &mut K,
 ) -> Result<(), CommandFail>
-    ensures ends { Ends (Asked.View budget) result (S.left input.old) (S.left input.new) (K.got out.old) (K.got out.new) }
+    ensures ends { Ends (Asked.View budget) result
+        (S.left input.old) (S.left input.new) (K.got out.old) (K.got out.new) }
     ensures counts { Counts result (S.faults input.old) (S.faults input.new) (K.faults out.old) (K.faults out.new) }
     ensures read_whole { OnOk result (ReadToEnd (Asked.View budget) (S.left input.old) (S.left input.new)) }
-    ensures few_more { IfErr result (λ e. e ≡ CommandFail.Write → FewMore budget (S.left input.old) (S.left input.new) (K.got out.old) (K.got out.new)) }
+    ensures few_more { IfErr result (λ e. e ≡ CommandFail.Write
+        → FewMore budget (S.left input.old) (S.left input.new) (K.got out.old) (K.got out.new)) }
 {
     let mut taker = Taker::new(alloc)?;
     let Stream { h, .. } = read_stream(alloc, &mut taker, input)?;

@@ -25,7 +25,8 @@ pub fn read_hierarchy<S: Source>(alloc: Global, input: &mut S) -> Result<Base, I
     ensures few { IfOk result (λ b. b.digits ≤ 4) }
     ensures end { OnOk result (AtEnd (S.left input.new)) }
     ensures count { OnOk result (S.faults input.new ≡ S.faults input.old) }
-    ensures err { IfErr result (λ e. Stops IsHierarchyText e (S.left input.old) (S.left input.new) (S.faults input.old) (S.faults input.new)) }
+    ensures err { IfErr result (λ e. Stops IsHierarchyText e
+        (S.left input.old) (S.left input.new) (S.faults input.old) (S.faults input.new)) }
 {
     let mut taker = Taker::new(alloc)?;
     let Stream { h, digits } = read_stream(alloc, &mut taker, input)?;

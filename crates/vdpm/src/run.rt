@@ -1,14 +1,14 @@
 //! The program over any source and sinks.
-ghost use Rattle.std.specs.Prelude.{◌≡◌, ◌⊎◌, ◌≤◌, ◌<◌, ◌-◌, ◌^◌, map, ℕ, List, None, Some, IfSome, IfErr, OnOk, codes};
+ghost use Rattle.std.specs.Prelude.{◌≡◌, ◌⊎◌, ◌≤◌, ◌<◌, ◌-◌, ◌^◌, map, ℕ, List, None, Some, IfErr, OnOk, codes};
 ghost use Rattle.std.specs.String.{string_bytes};
 ghost use Rattle.pm_io.specs.Causes.{Rose};
 ghost use Rattle.vdpm.specs.declared.fault.Fault.{Fault};
 ghost use Rattle.vdpm.specs.Words.{asked_of, digits_of, HasSize};
 ghost use Rattle.vdpm.specs.FaultLine.{fault_line};
 ghost use Rattle.vdpm.specs.Ran.{Ran};
-ghost use Rattle.vdpm.specs.Outcome.{IsOutcome, Replied, GivesBack, CutShort};
-ghost use Rattle.vdpm.specs.Frames.{ShowsSurfaces};
-ghost use Rattle.vdpm.specs.Ending.{Ends, Counts, ReadFails, ReadToEnd, FewMore, BlamesNoInput, status_of, Said, Stayed, Answers};
+ghost use Rattle.vdpm.specs.Outcome.{IsOutcome};
+ghost use Rattle.vdpm.specs.Ending.{Ends, Counts, ReadFails, ReadToEnd, FewMore, BlamesNoInput, status_of, Answers};
+ghost use Rattle.vdpm.specs.Devices.{Asks, Unread, Unput, Tells, Replies, LeadsBack, FramesAreSurfaces, Breaks};
 
 use crate::build::build;
 use crate::commands::{canon, check, expand, view};
@@ -33,10 +33,14 @@ fn obey<S: Source, K: Sink>(
     ensures ends { Ends asked result (S.left input.old) (S.left input.new) (K.got out.old) (K.got out.new) }
     ensures counts { Counts result (S.faults input.old) (S.faults input.new) (K.faults out.old) (K.faults out.new) }
     ensures read_whole { OnOk result (ReadToEnd asked (S.left input.old) (S.left input.new)) }
-    ensures gives_back { (target digits : ℕ) → asked ≡ Asked.Build target digits → OnOk result (IfSome (S.left input.old) (λ bytes. GivesBack target digits bytes (K.got out.old) (K.got out.new))) }
-    ensures surfaces { (target digits : ℕ) → asked ≡ Asked.Build target digits → OnOk result (IfSome (S.left input.old) (λ bytes. ShowsSurfaces target digits bytes (K.got out.old) (K.got out.new))) }
-    ensures unread { (n : ℕ) → asked ≡ Asked.Demo n → Stayed (S.left input.old) (S.left input.new) (S.faults input.old) (S.faults input.new) × IfErr result (λ e. BlamesNoInput (status_of e)) }
-    ensures few_more { (budget : ℕ) → asked ≡ Asked.View budget → IfErr result (λ e. e ≡ CommandFail.Write → FewMore budget (S.left input.old) (S.left input.new) (K.got out.old) (K.got out.new)) }
+    ensures gives_back { (target digits : ℕ) → asked ≡ Asked.Build target digits
+        → OnOk result (LeadsBack S.Source K.Sink target digits input.old out.old out.new) }
+    ensures surfaces { (target digits : ℕ) → asked ≡ Asked.Build target digits
+        → OnOk result (FramesAreSurfaces S.Source K.Sink target digits input.old out.old out.new) }
+    ensures unread { (n : ℕ) → asked ≡ Asked.Demo n
+        → Unread S.Source input.old input.new × IfErr result (λ e. BlamesNoInput (status_of e)) }
+    ensures few_more { (budget : ℕ) → asked ≡ Asked.View budget → IfErr result (λ e. e ≡ CommandFail.Write
+        → FewMore budget (S.left input.old) (S.left input.new) (K.got out.old) (K.got out.new)) }
 {
     match asked {
         Asked::Canon(digits) => canon(alloc, digits, input, out),
@@ -70,40 +74,55 @@ pub fn run<S: Source, K: Sink, E: Sink>(
     // Other words are refused, and only they; then nothing is read or put.
     ensures refused { asked_of (map string_bytes words.now) ≡ None → result ≡ 2 }
     ensures known { result ≡ 2 → asked_of (map string_bytes words.now) ≡ None }
-    ensures untouched { result ≡ 2 → Stayed (S.left input.old) (S.left input.new) (S.faults input.old) (S.faults input.new) × Stayed (K.got out.old) (K.got out.new) (K.faults out.old) (K.faults out.new) }
+    ensures untouched { result ≡ 2 → Unread S.Source input.old input.new × Unput K.Sink out.old out.new }
     // The outcome of what was asked for is whole, and exactly its text was put.
-    ensures whole { (asked : Asked) → asked_of (map string_bytes words.now) ≡ Some asked → result ≡ 0 → IfSome (S.left input.old) (λ bytes. Replied asked bytes None (K.got out.old) (K.got out.new)) }
+    ensures whole { (asked : Asked) → Asks words.now asked → result ≡ 0
+        → Replies S.Source K.Sink asked None input.old out.old out.new }
     // The stream of a build expands to the mesh of the OBJ text: what `canon` does with that text, `expand` does with the stream.
-    ensures expands { (target digits : ℕ) → asked_of (map string_bytes words.now) ≡ Some (Asked.Build target digits) → result ≡ 0 → IfSome (S.left input.old) (λ bytes. GivesBack target digits bytes (K.got out.old) (K.got out.new)) }
+    ensures expands { (target digits : ℕ) → Asks words.now (Asked.Build target digits) → result ≡ 0
+        → LeadsBack S.Source K.Sink target digits input.old out.old out.new }
     // Each frame that `view` writes of that stream, after whatever lines of a script, shows an oriented manifold.
-    ensures surfaces { (target digits : ℕ) → asked_of (map string_bytes words.now) ≡ Some (Asked.Build target digits) → result ≡ 0 → IfSome (S.left input.old) (λ bytes. ShowsSurfaces target digits bytes (K.got out.old) (K.got out.new)) }
-    ensures whole_counts { result ≡ 0 → (S.faults input.new ≡ S.faults input.old) × (K.faults out.new ≡ K.faults out.old) }
+    ensures surfaces { (target digits : ℕ) → Asks words.now (Asked.Build target digits) → result ≡ 0
+        → FramesAreSurfaces S.Source K.Sink target digits input.old out.old out.new }
+    ensures whole_counts { result ≡ 0
+        → (S.faults input.new ≡ S.faults input.old) × (K.faults out.new ≡ K.faults out.old) }
     // The input was read to its end, or to the `q` of a script.
-    ensures read_whole { (asked : Asked) → asked_of (map string_bytes words.now) ≡ Some asked → result ≡ 0 → ReadToEnd asked (S.left input.old) (S.left input.new) }
+    ensures read_whole { (asked : Asked) → Asks words.now asked → result ≡ 0
+        → ReadToEnd asked (S.left input.old) (S.left input.new) }
     // `demo` reads nothing.
-    ensures unread { (n : ℕ) → asked_of (map string_bytes words.now) ≡ Some (Asked.Demo n) → Stayed (S.left input.old) (S.left input.new) (S.faults input.old) (S.faults input.new) × BlamesNoInput result }
-    ensures silent { result ≡ 0 → Stayed (E.got err.old) (E.got err.new) (E.faults err.old) (E.faults err.new) }
+    ensures unread { (n : ℕ) → Asks words.now (Asked.Demo n)
+        → Unread S.Source input.old input.new × BlamesNoInput result }
+    ensures silent { result ≡ 0 → Unput E.Sink err.old err.new }
     // The outcome has a fault, which is said, and exactly the text before it was put.
-    ensures faulty { (asked : Asked) → asked_of (map string_bytes words.now) ≡ Some asked → result ≡ 1 → (f : Fault) × IfSome (S.left input.old) (λ bytes. Replied asked bytes (Some f) (K.got out.old) (K.got out.new)) × Said (E.got err.old) (E.got err.new) (E.faults err.old) (E.faults err.new) (fault_line f) }
-    ensures faulty_counts { result ≡ 1 → (S.faults input.new ≡ S.faults input.old) × (K.faults out.new ≡ K.faults out.old) }
+    ensures faulty { (asked : Asked) → Asks words.now asked → result ≡ 1 → (f : Fault)
+        × Replies S.Source K.Sink asked (Some f) input.old out.old out.new
+        × Tells E.Sink err.old err.new (fault_line f) }
+    ensures faulty_counts { result ≡ 1
+        → (S.faults input.new ≡ S.faults input.old) × (K.faults out.new ≡ K.faults out.old) }
     // A read failed before the bytes that decide the outcome were all taken. What `view` put then are the replies to the
     // script lines whose LF was taken; the others put nothing.
     ensures read { result ≡ 3 → Rose (S.faults input.old) (S.faults input.new) }
-    ensures unreached { (asked : Asked) → asked_of (map string_bytes words.now) ≡ Some asked → result ≡ 3 → ReadFails asked (S.left input.old) (S.left input.new) (K.got out.old) (K.got out.new) }
+    ensures unreached { (asked : Asked) → Asks words.now asked → result ≡ 3
+        → ReadFails asked (S.left input.old) (S.left input.new) (K.got out.old) (K.got out.new) }
     // A write failed, and a proper prefix of the text was put.
-    ensures write { (asked : Asked) → asked_of (map string_bytes words.now) ≡ Some asked → result ≡ 4 → Rose (K.faults out.old) (K.faults out.new) × IfSome (S.left input.old) (λ bytes. CutShort asked bytes (K.got out.old) (K.got out.new)) }
+    ensures write { (asked : Asked) → Asks words.now asked → result ≡ 4
+        → Rose (K.faults out.old) (K.faults out.new)
+        × Breaks S.Source K.Sink asked input.old out.old out.new }
     // In a script, it was the reply to a line that wasn't put whole, and few bytes were taken past that line.
-    ensures few_more { (budget : ℕ) → asked_of (map string_bytes words.now) ≡ Some (Asked.View budget) → result ≡ 4 → FewMore budget (S.left input.old) (S.left input.new) (K.got out.old) (K.got out.new) }
+    ensures few_more { (budget : ℕ) → Asks words.now (Asked.View budget) → result ≡ 4
+        → FewMore budget (S.left input.old) (S.left input.new) (K.got out.old) (K.got out.new) }
     // Memory was wanted, and nothing was put.
     ensures memory { result ≡ 5 → K.got out.new ≡ K.got out.old }
-    ensures said_words { result ≡ 2 → Said (E.got err.old) (E.got err.new) (E.faults err.old) (E.faults err.new) (codes "vdpm: words not understood\n") }
-    ensures said_read { result ≡ 3 → Said (E.got err.old) (E.got err.new) (E.faults err.old) (E.faults err.new) (codes "vdpm: read fault\n") }
-    ensures said_write { result ≡ 4 → Said (E.got err.old) (E.got err.new) (E.faults err.old) (E.faults err.new) (codes "vdpm: write fault\n") }
-    ensures said_memory { result ≡ 5 → Said (E.got err.old) (E.got err.new) (E.faults err.old) (E.faults err.new) (codes "vdpm: out of memory\n") }
+    ensures said_words { result ≡ 2 → Tells E.Sink err.old err.new (codes "vdpm: words not understood\n") }
+    ensures said_read { result ≡ 3 → Tells E.Sink err.old err.new (codes "vdpm: read fault\n") }
+    ensures said_write { result ≡ 4 → Tells E.Sink err.old err.new (codes "vdpm: write fault\n") }
+    ensures said_memory { result ≡ 5 → Tells E.Sink err.old err.new (codes "vdpm: out of memory\n") }
     // Where no device failed, a whole outcome gives 0 and a fault gives 1, unless memory is wanted.
-    ensures complete { (asked : Asked) (bytes : List ℕ) (all : Ran) → asked_of (map string_bytes words.now) ≡ Some asked → S.left input.old ≡ Some bytes
-        → IsOutcome asked bytes all → S.faults input.new ≡ S.faults input.old → K.faults out.new ≡ K.faults out.old
-        → S.faults input.old < 2 ^ 64 - 1 → K.faults out.old < 2 ^ 64 - 1 → Answers all.fault result ⊎ (result ≡ 5) }
+    ensures complete { (asked : Asked) (bytes : List ℕ) (all : Ran) → Asks words.now asked
+        → S.left input.old ≡ Some bytes → IsOutcome asked bytes all
+        → S.faults input.new ≡ S.faults input.old → K.faults out.new ≡ K.faults out.old
+        → S.faults input.old < 2 ^ 64 - 1 → K.faults out.old < 2 ^ 64 - 1
+        → Answers all.fault result ⊎ (result ≡ 5) }
 {
     outcomes_are_sound();
     let Some(asked) = read_words(words) else {

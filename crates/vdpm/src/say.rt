@@ -1,7 +1,8 @@
 //! What is said on the error sink.
 ghost use Rattle.std.specs.Prelude.{◌≡◌, ◌≤◌, [], length};
 ghost use Rattle.vdpm.specs.FaultLine.{line_at, line_of, stream_line, fault_line, fail_line};
-ghost use Rattle.vdpm.specs.Ending.{Said, status_of};
+ghost use Rattle.vdpm.specs.Ending.{status_of};
+ghost use Rattle.vdpm.specs.Devices.{Tells};
 
 use crate::fault::{CommandFail, Fault};
 use pm_format::FormatError;
@@ -9,7 +10,7 @@ use pm_io::{Line, Sink, put_all};
 
 /// Puts a line on the error sink. That it fails changes nothing.
 pub fn say<E: Sink>(err: &mut E, text: &[u8])
-    ensures { Said (E.got err.old) (E.got err.new) (E.faults err.old) (E.faults err.new) text.now }
+    ensures { Tells E.Sink err.old err.new text.now }
 {
     let _ = put_all(err, text);
 }
@@ -104,7 +105,7 @@ fn put_fail(line: &mut Line, fail: CommandFail)
 /// Says why a command ended early, and answers its status.
 pub fn tell<E: Sink>(err: &mut E, fail: CommandFail) -> u8
     ensures status { result ≡ status_of fail }
-    ensures said { Said (E.got err.old) (E.got err.new) (E.faults err.old) (E.faults err.new) (fail_line fail) }
+    ensures said { Tells E.Sink err.old err.new (fail_line fail) }
 {
     let mut line = Line::new();
     put_fail(&mut line, fail);

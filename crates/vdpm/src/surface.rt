@@ -43,7 +43,8 @@ pub fn read_surface<S: Source>(alloc: Global, digits: u32, input: &mut S) -> Res
     ensures start { IfOk result (λ m. IsStart (mesh_of m)) }
     ensures end { OnOk result (AtEnd (S.left input.new)) }
     ensures count { OnOk result (S.faults input.new ≡ S.faults input.old) }
-    ensures err { IfErr result (λ e. Stops (IsSurface digits) e (S.left input.old) (S.left input.new) (S.faults input.old) (S.faults input.new)) }
+    ensures err { IfErr result (λ e. Stops (IsSurface digits) e
+        (S.left input.old) (S.left input.new) (S.faults input.old) (S.faults input.new)) }
 {
     let mesh = match read_obj(alloc, digits, input) {
         Ok(mesh) => mesh,
