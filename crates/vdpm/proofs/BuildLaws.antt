@@ -1,5 +1,5 @@
 -- Bytes have one build, and its text expands to the mesh of the bytes.
-use Rattle.std.proofs.Common.{◌≡◌, ℕ, List, [], ◌<◌, ◌≤◌, length, Option, Some, None, Result, Ok, Err, IfSome, refl, sym, ◌∙◌, ap, subst}
+use Rattle.std.proofs.Common.{◌≡◌, ℕ, List, [], ◌<◌, ◌≤◌, length, Option, Some, None, Result, Ok, Err, IfOk, IfSome, refl, sym, ◌∙◌, ap, subst}
 use Rattle.std.proofs.lemmas.List.{append-nil}
 use Rattle.pm_base.specs.declared.log.Collapse.{Collapse}
 use Rattle.pm_base.specs.Meshes.{Mesh}
@@ -9,6 +9,7 @@ use Rattle.pm_forest.specs.Forest.{Hierarchy}
 use Rattle.pm_forest.specs.Meshes.{input_mesh_of}
 use Rattle.pm_beyond.specs.Valid.{IsValid}
 use Rattle.pm_format.specs.Stream.{stream}
+use Rattle.pm_runs.specs.Runs.{IsRunTo}
 use Rattle.pm_runs.proofs.LeastRuns.{one_run}
 use Rattle.pm_number.specs.Numbering.{hierarchy_of_run}
 use Rattle.vdpm.specs.declared.fault.Fault.{Fault}
@@ -27,6 +28,11 @@ use Rattle.vdpm.proofs.SurfaceLaws.{one_surface}
 one_hierarchy : (m : Mesh) (target : ℕ) (h g : Hierarchy) → IsSimplified m target h → IsSimplified m target g → h ≡ g
 one_hierarchy m target h g is are =
     is.made ∙ ap (λ (l : List Collapse). hierarchy_of_run m l) (one_run m target is.log are.log is.run are.run) ∙ sym are.made
+
+-- The hierarchy of the run of an equal mesh.
+pub run_simplifies : {E : Type 0} (n m : Mesh) (target : ℕ) (log : List Collapse) (r : Result Hierarchy E) → n ≡ m → IsRunTo m target log → IfOk r (λ h. h ≡ hierarchy_of_run n log) → IfOk r (IsSimplified m target)
+run_simplifies n m target log (Ok h) same run made = record { log = log; run = run; made = made ∙ ap (λ (k : Mesh). hierarchy_of_run k log) same }
+run_simplifies n m target log (Err e) same run made = tt
 
 -- With so many decimals a coordinate
 module _ (digits : ℕ) where

@@ -5,17 +5,15 @@ use Rattle.pm_base.specs.Meshes.{Mesh, IsWellFormed}
 use Rattle.pm_base.specs.Sides.{Net, net_of}
 use Rattle.pm_base.specs.Fans.{IsOrientedManifold}
 use Rattle.pm_twins.specs.Faults.{IsFirstRepeating, IsFirstBroken}
-use Rattle.pm_simplify.proofs.Faultless.{repeats_none}
+use Rattle.pm_twins.proofs.Faultless.{repeats_none}
 use Rattle.obj_read.specs.declared.fault.ObjFault.{ObjFault}
 use Rattle.obj_read.specs.Fails.{IsRefusal, NotReached, FailsBefore}
 use Rattle.obj_read.specs.Meaning.{Refused, meaning_of}
 use Rattle.obj_read.proofs.FormedLaws.{meaning_formed}
 use Rattle.vdpm.specs.declared.fault.Fault.{Fault}
 use Rattle.vdpm.specs.declared.fault.Fault.TheVariants as faults
-use Rattle.vdpm.specs.declared.fault.InputFail.{InputFail}
-use Rattle.vdpm.specs.declared.fault.InputFail.TheVariants as input
-use Rattle.vdpm.specs.Input.{Unreached, IsFaulty, Stops}
-use Rattle.vdpm.specs.Surface.{IsSurfaceFault, side_twice, no_fan, IsSurface, bad_line, no_manifold, manifold, IsSurfaceFail}
+use Rattle.vdpm.specs.Input.{Unreached, IsFaulty}
+use Rattle.vdpm.specs.Surface.{IsSurfaceFault, side_twice, no_fan, IsSurface, bad_line, no_manifold, manifold}
 
 pub first_repeating_one : (m : Net) (f g : ℕ) → IsFirstRepeating m f → IsFirstRepeating m g → f ≡ g
 first_repeating_one m f g is are =
@@ -40,8 +38,6 @@ one_surface_fault m formed (no_fan v once is) (no_fan w other are) = ap (λ (k :
 fault_or_manifold : (m : Mesh) → IsWellFormed m → {f : Fault} → IsSurfaceFault (net_of m.faces) f → IsOrientedManifold (net_of m.faces) → ⊥
 fault_or_manifold m formed (side_twice f is) whole = repeats_none m formed whole.no_side_twice f is
 fault_or_manifold m formed (no_fan v once is) whole = is.broken.no_fan (whole.fans v is.broken.used)
-
--- Counted from 1, faces and vertices stay within 32 bits.
 
 -- With so many decimals a coordinate
 module _ (digits : ℕ) where
@@ -95,13 +91,10 @@ module _ (digits : ℕ) where
       before None is = tt
       before (Some bytes) is = surface_before bytes (length fails.taken) is
 
-  pub mesh_refuses : (left now : Option (List ℕ)) (m : Mesh) (e : InputFail) (in_old in_new : ℕ) → IfSome left (λ bytes. meaning_of digits bytes ≡ Ok m) → in_new ≡ in_old → IsSurfaceFail (net_of m.faces) e
-      → Stops (IsSurface digits) e left now in_old in_new
-  mesh_refuses None now m (input.Faulty f) in_old in_new is same fault = (tt, same)
-  mesh_refuses (Some bytes) now m (input.Faulty f) in_old in_new is same fault = (record { place = None; is = no_manifold m f is fault }, same)
-  mesh_refuses left now m input.Read in_old in_new is same fault = absurd fault
-  mesh_refuses left now m input.OutOfMemory in_old in_new is same fault = tt
+  pub mesh_refuses : (left : Option (List ℕ)) (m : Mesh) (f : Fault) → IfSome left (λ bytes. meaning_of digits bytes ≡ Ok m) → IsSurfaceFault (net_of m.faces) f → IfSome left (λ bytes. IsFaulty (IsSurface digits) bytes f)
+  mesh_refuses None m f is fault = tt
+  mesh_refuses (Some bytes) m f is fault = record { place = None; is = no_manifold m f is fault }
 
-  pub mesh_stands : (left : Option (List ℕ)) (m : Mesh) → IfSome left (λ bytes. meaning_of digits bytes ≡ Ok m) → IsOrientedManifold (net_of m.faces) → IfSome left (λ bytes. IsSurface digits bytes (Ok m) None)
-  mesh_stands None m is whole = tt
-  mesh_stands (Some bytes) m is whole = manifold m is whole
+  pub mesh_stands : (left : Option (List ℕ)) (m s : Mesh) → s ≡ m → IfSome left (λ bytes. meaning_of digits bytes ≡ Ok m) → IsOrientedManifold (net_of m.faces) → IfSome left (λ bytes. IsSurface digits bytes (Ok s) None)
+  mesh_stands None m s same is whole = tt
+  mesh_stands (Some bytes) m s same is whole = subst (λ (x : Mesh). IsSurface digits bytes (Ok x) None) (sym same) (manifold m is whole)

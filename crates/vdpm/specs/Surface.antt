@@ -7,8 +7,6 @@ use Rattle.pm_twins.specs.Faults.{IsFirstRepeating, IsFirstBroken}
 use Rattle.obj_read.specs.Meaning.{Refused, meaning_of}
 use Rattle.vdpm.specs.declared.fault.Fault.{Fault}
 use Rattle.vdpm.specs.declared.fault.Fault.TheVariants as faults
-use Rattle.vdpm.specs.declared.fault.InputFail.{InputFail}
-use Rattle.vdpm.specs.declared.fault.InputFail.TheVariants as input
 
 -- Why a mesh is no oriented manifold: the least face that has a directed side of an earlier face, else the least vertex
 -- whose faces are no fan. Faces and vertices are counted from 1.
@@ -22,9 +20,3 @@ pub data IsSurface (digits : ℕ) (bytes : List ℕ) : Result Mesh Fault → Opt
   bad_line : (r : Refused) → meaning_of digits bytes ≡ Err r → IsSurface digits bytes (Err (faults.Obj r.fault r.line)) r.place
   no_manifold : (m : Mesh) (f : Fault) → meaning_of digits bytes ≡ Ok m → IsSurfaceFault (net_of m.faces) f → IsSurface digits bytes (Err f) None
   manifold : (m : Mesh) → meaning_of digits bytes ≡ Ok m → IsOrientedManifold (net_of m.faces) → IsSurface digits bytes (Ok m) None
-
--- What is said where a mesh isn't found to be an oriented manifold.
-abbrev pub IsSurfaceFail : Net → InputFail → Type 0
-IsSurfaceFail m (input.Faulty f) = IsSurfaceFault m f
-IsSurfaceFail m input.Read = ⊥
-IsSurfaceFail m input.OutOfMemory = Unit {0}

@@ -1,10 +1,8 @@
 //! `build`: an OBJ text's mesh is simplified, and the hierarchy of the run is written as a stream.
 ghost use Rattle.std.specs.Prelude.{◌≡◌, ◌≤◌, None, Ok, IfOk, IfErr, IfSome, OnOk};
-ghost use Rattle.pm_base.specs.Meshes.{mesh_of};
 ghost use Rattle.pm_io.specs.Bytes.{AtEnd};
 ghost use Rattle.pm_forest.specs.Meshes.{input_mesh_of};
 ghost use Rattle.pm_firm.specs.Firm.{IsFirm};
-ghost use Rattle.pm_runs.specs.Runs.{IsStart};
 ghost use Rattle.vdpm.specs.Input.{Stops};
 ghost use Rattle.vdpm.specs.Surface.{IsSurface};
 ghost use Rattle.vdpm.specs.Build.{IsSimplified, IsBuilt};
@@ -14,29 +12,24 @@ ghost use Rattle.vdpm.specs.Devices.{LeadsBack, FramesAreSurfaces};
 use crate::fault::{CommandFail, InputFail};
 use crate::surface::read_surface;
 use crate::words::Asked;
-use pm_base::Mesh;
 use pm_forest::Hierarchy;
 use pm_format::encode;
 use pm_io::{Sink, Source};
 use pm_number::{OutOfMemory, from_log};
-use pm_simplify::{SimplifyFail, simplify};
-use std::alloc::{AllocError, Global};
+use pm_simplify::simplify_surface;
+use pm_twins::Surface;
+use std::alloc::Global;
 
-// The hierarchy of a mesh's run to a number of faces.
-fn simplified(alloc: Global, mesh: &Mesh, target: u32) -> Result<Hierarchy, OutOfMemory>
-    requires { IsStart (mesh_of mesh.now) }
-    ensures simplified { IfOk result (IsSimplified (mesh_of mesh.now) target) }
+// The hierarchy of a surface's run to a number of faces.
+fn simplified(alloc: Global, surface: Surface, target: u32) -> Result<Hierarchy, OutOfMemory>
+    ensures simplified { IfOk result (IsSimplified surface target) }
     ensures firm { IfOk result IsFirm }
-    ensures mesh { IfOk result (λ h. input_mesh_of h ≡ mesh_of mesh.now) }
+    ensures mesh { IfOk result (λ h. input_mesh_of h ≡ surface) }
 {
-    let log = match simplify(alloc, mesh, target) {
-        Ok(log) => log,
-        Err(SimplifyFail::OutOfMemory) => return Err(AllocError),
-        // The mesh is an oriented manifold.
-        Err(SimplifyFail::EdgeTwice(_)) => unreachable!(),
-        Err(SimplifyFail::NotFan(_)) => unreachable!(),
-    };
-    from_log(alloc, mesh, &log)
+    surface.invariant();
+    let mesh = surface.mesh().copy(alloc)?;
+    let log = simplify_surface(alloc, surface, target)?;
+    from_log(alloc, &mesh, &log)
 }
 
 // Reads an OBJ text, and simplifies its mesh to a number of faces.
@@ -57,8 +50,8 @@ fn build_hierarchy<S: Source>(
     ensures err { IfErr result (λ e. Stops (IsBuilt target digits) e
         (S.left input.old) (S.left input.new) (S.faults input.old) (S.faults input.new)) }
 {
-    let mesh = read_surface(alloc, digits, input)?;
-    Ok(simplified(alloc, &mesh, target)?)
+    let surface = read_surface(alloc, digits, input)?;
+    Ok(simplified(alloc, surface, target)?)
 }
 
 /// `build N --digits D`: reads an OBJ text, simplifies its mesh to N faces or as far as pairs may be collapsed, and writes

@@ -28,8 +28,8 @@ pub fn canon<S: Source, K: Sink>(
     ensures counts { Counts result (S.faults input.old) (S.faults input.new) (K.faults out.old) (K.faults out.new) }
     ensures read_whole { OnOk result (AtEnd (S.left input.new)) }
 {
-    let mesh = read_surface(alloc, digits, input)?;
-    write_obj(&mesh, digits, out)?;
+    let surface = read_surface(alloc, digits, input)?;
+    write_obj(surface.mesh(), digits, out)?;
     Ok(())
 }
 

@@ -1,13 +1,12 @@
 use Rattle.std.proofs.lemmas.Result.{err_from_is_err_and}
-use Rattle.pm_base.specs.Meshes.{mesh_of}
 use Rattle.vdpm.proofs.BuildLaws.{build_refused, build_stands}
 use Rattle.vdpm.proofs.build.build_hierarchy.Goals as goal
 
-pub returns-in_err-mesh-clause-err : goal.returns-in_err-mesh-clause-err
-returns-in_err-mesh-clause-err g c =
+pub returns-in_err-surface-clause-err : goal.returns-in_err-surface-clause-err
+returns-in_err-surface-clause-err g c =
     let p = err_from_is_err_and c.from_residual.result c.from_residual.ensures.1 in
-    rw (p.1, p.2) (build_refused c.args.digits c.args.target c.in_err-mesh.field-0.0 _ _ _ _ c.in_err-mesh.ensures.err)
+    rw (p.1, p.2) (build_refused c.args.digits c.args.target c.in_err-surface.field-0.0 _ _ _ _ c.in_err-surface.ensures.err)
 
 pub returns-clause-built : goal.returns-clause-built
 returns-clause-built g c =
-    build_stands c.args.digits c.args.target _ (mesh_of c.in_ok-mesh.mesh) c.in_ok-simplified.field-0 c.in_ok-mesh.ensures.surface c.in_ok-simplified.ensures.simplified
+    build_stands c.args.digits c.args.target _ c.in_ok-surface.surface c.in_ok-simplified.field-0 c.in_ok-surface.ensures.surface c.in_ok-simplified.ensures.simplified

@@ -1,5 +1,7 @@
-use Rattle.std.proofs.lemmas.Result.{err_from_is_err_and}
-use Rattle.pm_base.specs.Meshes.{mesh_of}
+use Rattle.std.proofs.Common.{sym, subst}
+use Rattle.pm_base.specs.Meshes.{Mesh, mesh_of}
+use Rattle.pm_runs.specs.Runs.{IsStart}
+use Rattle.vdpm.specs.Surface.{side_twice, no_fan}
 use Rattle.vdpm.proofs.SurfaceLaws.{line_refuses, mesh_refuses, mesh_stands, surface_unreached}
 use Rattle.vdpm.proofs.surface.read_surface.Goals as goal
 
@@ -11,10 +13,21 @@ pub returns-in-Err-Read-clause-err : goal.returns-in-Err-Read-clause-err
 returns-in-Err-Read-clause-err g c =
     (surface_unreached c.args.digits _ _ (rw c.in-Err-Read.field-0-is at c.in-Err-Read.ensures.err), rw c.in-Err-Read.field-0-is at c.in-Err-Read.ensures.cause.failed)
 
-pub returns-clause-surface : goal.returns-clause-surface
-returns-clause-surface g c = mesh_stands c.args.digits _ (mesh_of c.in-Ok.mesh) c.in-Ok.ensures.ok c.in_ok-check_surface.ensures.manifold
+pub returns-in-Ok-of-clause-surface : goal.returns-in-Ok-of-clause-surface
+returns-in-Ok-of-clause-surface g c =
+    mesh_stands c.args.digits _ (mesh_of c.in-Ok.mesh) c.in-Ok-of.surface c.in-Ok-of.ensures.mesh c.in-Ok.ensures.ok c.in-Ok-of.ensures.manifold
 
-pub returns-in_err-check_surface-clause-err : goal.returns-in_err-check_surface-clause-err
-returns-in_err-check_surface-clause-err g c =
-    let p = err_from_is_err_and c.from_residual.result c.from_residual.ensures.1 in
-    rw (p.1, p.2) (mesh_refuses c.args.digits _ _ (mesh_of c.in-Ok.mesh) c.in_err-check_surface.field-0.0 _ _ c.in-Ok.ensures.ok c.in-Ok.ensures.cause.same c.in_err-check_surface.ensures.fault)
+pub returns-in-Ok-of-clause-start : goal.returns-in-Ok-of-clause-start
+returns-in-Ok-of-clause-start g c =
+    let start : IsStart (mesh_of c.in-Ok.mesh) = record { formed = c.in-Ok.ensures.mesh; manifold = c.in-Ok-of.ensures.manifold } in
+    subst (λ (m : Mesh). IsStart m) (sym c.in-Ok-of.ensures.mesh) start
+
+pub returns-in-Err-EdgeTwice-clause-err : goal.returns-in-Err-EdgeTwice-clause-err
+returns-in-Err-EdgeTwice-clause-err g c =
+    let fault = rw c.in-Err-EdgeTwice.field-0-is at c.in-Err-EdgeTwice.ensures.fault in
+    (mesh_refuses c.args.digits _ (mesh_of c.in-Ok.mesh) _ c.in-Ok.ensures.ok (side_twice c.in-Err-EdgeTwice.face.0 fault), c.in-Ok.ensures.cause.same)
+
+pub returns-in-Err-NotFan-clause-err : goal.returns-in-Err-NotFan-clause-err
+returns-in-Err-NotFan-clause-err g c =
+    let fault = rw c.in-Err-NotFan.field-0-is at c.in-Err-NotFan.ensures.fault in
+    (mesh_refuses c.args.digits _ (mesh_of c.in-Ok.mesh) _ c.in-Ok.ensures.ok (no_fan c.in-Err-NotFan.vertex fault.0 fault.1), c.in-Ok.ensures.cause.same)
