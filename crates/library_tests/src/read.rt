@@ -62,7 +62,7 @@ fn joined(alloc: Global, front: &[u8], back: &[u8]) -> Result<Vec<u8>, OutOfMemo
 }
 
 // What comes after the three vertices, and the points and faces that it adds.
-const ACCEPTED: [(&[u8], &[Place], &[Face]); 18] = [
+const ACCEPTED: &[(&[u8], &[Place], &[Face])] = &[
     (b"", &[], &[]),
     (b"v 1 +1 1.", &[(1, 1, 1)], &[]),
     (b"v 1.000000 -0.0 .0\r\n", &[(1, 0, 0)], &[]),
@@ -92,7 +92,7 @@ const ACCEPTED: [(&[u8], &[Place], &[Face]); 18] = [
 ];
 
 // What comes after the three vertices, on line 4, and the fault that it has first.
-const REFUSED: [(&[u8], ObjFault); 44] = [
+const REFUSED: &[(&[u8], ObjFault)] = &[
     (b"f 1 2 3 1", NotTriangle),
     (b"v 1.5 0 0", NotWhole),
     (b"f 0 1 2", BadIndex),
@@ -148,7 +148,7 @@ const REFUSED: [(&[u8], ObjFault); 44] = [
 #[test]
 fn each_line_gives_what_the_profile_says(rt: HostRuntime) {
     let alloc = rt.alloc();
-    for (line, points, faces) in ACCEPTED {
+    for &(line, points, faces) in ACCEPTED {
         let text = joined(alloc, FRONT, line).expect(&rt, "memory");
         let mut all = Vec::from_slice(alloc, &[(0, 0, 0), (10, 0, 0), (0, 10, 0)]).expect(
             &rt, "memory",
@@ -156,7 +156,7 @@ fn each_line_gives_what_the_profile_says(rt: HostRuntime) {
         all.extend_from_slice(points).expect(&rt, "memory");
         assert!(rt; spells(alloc, &text, &all, faces), "{line:?}");
     }
-    for (line, fault) in REFUSED {
+    for &(line, fault) in REFUSED {
         let text = joined(alloc, FRONT, line).expect(&rt, "memory");
         assert!(rt; is_refused(alloc, &text, fault, 4), "{line:?}");
     }
