@@ -3,7 +3,7 @@ ghost use Rattle.std.specs.Prelude.{◌≤◌, length};
 
 use pm_base::{FaceId, Side};
 use pm_samples::{OCTAHEDRON_FACES, Triple, at_origin};
-use pm_twins::{FansFail, Twins, TwinsFail, check_fans};
+use pm_twins::{FansFail, Surface, SurfaceFail, Twins, TwinsFail, check_fans};
 use std::alloc::Global;
 use std::test::Fail;
 
@@ -83,5 +83,39 @@ fn faults_name_the_least(rt: HostRuntime) -> Result<(), Fail> {
         ],
     )?;
     assert_eq!(rt; two_tetrahedra, Some(Fault::NotFan(0)));
+    Ok(())
+}
+
+// Why a small mesh is no surface, if it isn't.
+fn refusal(alloc: Global, count: u32, faces: &[Triple]) -> Result<Option<SurfaceFail>, Fail> {
+    if count > 9 || faces.len() > 9 {
+        return Err(Fail::new("this mesh isn't small"));
+    }
+    match Surface::of(alloc, at_origin(alloc, count, faces)?) {
+        Ok(_) => Ok(None),
+        Err(SurfaceFail::OutOfMemory) => Err(Fail::new("no memory for the surface")),
+        Err(fail) => Ok(Some(fail)),
+    }
+}
+
+#[test]
+fn surfaces_and_what_is_none(rt: HostRuntime) -> Result<(), Fail> {
+    let rows: [(u32, &[Triple], Option<SurfaceFail>); 4] = [
+        (6, &OCTAHEDRON_FACES, None),
+        (5, &[(0, 1, 2), (0, 2, 3)], None),
+        (
+            4,
+            &[(0, 1, 2), (0, 1, 3)],
+            Some(SurfaceFail::EdgeTwice(FaceId(1))),
+        ),
+        (3, &[(0, 1, 2), (0, 2, 1)], Some(SurfaceFail::NotFan(0))),
+    ];
+    for (count, faces, fault) in rows {
+        assert_eq!(rt; refusal(rt.alloc(), count, faces)?, fault);
+    }
+    let square = at_origin(rt.alloc(), 5, &[(0, 1, 2), (0, 2, 3)])?;
+    let surface = Surface::of(rt.alloc(), square)?;
+    assert_eq!(rt; surface.mesh().faces.len(), 2);
+    assert_eq!(rt; surface.twins().twin(Side(2)), Some(Side(3)));
     Ok(())
 }
