@@ -96,10 +96,9 @@ fn look_below<L: Ledger>(
     ensures keyed { AreKeyed up_key moves.old → AreKeyed up_key moves.new }
     ensures cost { steps.new ≤ steps.old + 2 }
 {
-    let _records = h.records();
-    let t = h.roots() + 2 * k;
-    look(h, bounds, view, NodeId(t), moves, steps);
-    look(h, bounds, view, NodeId(t + 1), moves, steps);
+    let (t, u) = h.children(k);
+    look(h, bounds, view, t, moves, steps);
+    look(h, bounds, view, u, moves, steps);
 }
 
 /// Finds the records that aren't split and whose nodes are wanted, and the records that may go, and puts

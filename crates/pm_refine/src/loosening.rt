@@ -25,12 +25,8 @@ fn first_child_of(h: &Hierarchy, node: NodeId) -> Option<u32>
     ensures none { IfNone result ((k : ℕ) → t_of h.now k ≡ node.0 → ⊥) }
 {
     let k = h.maker(node)?;
-    let _records = h.records();
-    if node.0 == h.roots() + 2 * k {
-        Some(k)
-    } else {
-        None
-    }
+    let (t, _) = h.children(k);
+    if node.0 == t.0 { Some(k) } else { None }
 }
 
 /// Whether both children of a record are active.
@@ -38,9 +34,8 @@ pub(crate) fn is_free(front: &Front, k: u32) -> bool
     requires { k < record_count front.now.h }
     ensures { result ≡ is_free front.now.h (set_of front.now.flags) k }
 {
-    let _records = front.hierarchy().records();
-    let t = front.hierarchy().roots() + 2 * k;
-    front.is_active(NodeId(t)) && front.is_active(NodeId(t + 1))
+    let (t, u) = front.hierarchy().children(k);
+    front.is_active(t) && front.is_active(u)
 }
 
 // Whether a record may go. Whether another one needs it by a face is asked when it is decided: that costs more than a test, and

@@ -4,13 +4,13 @@ ghost use Rattle.std.specs.List.{All};
 ghost use Rattle.pm_forest.specs.Forest.{record_count};
 ghost use Rattle.pm_forest.specs.Fronts.{set_of};
 ghost use Rattle.pm_forest.specs.Faces.{face_count};
-ghost use Rattle.pm_forest.specs.Moves.{side_in, neighbours_in};
+ghost use Rattle.pm_forest.specs.Moves.{side_in};
 ghost use Rattle.pm_beyond.specs.Moves.{is_at, needs};
 ghost use Rattle.pm_refine.specs.Queued.{Joins};
 ghost use Rattle.pm_refine.specs.Marks.{reveals_any};
 
 use pm_base::{FaceId, NodeId, Side};
-use pm_forest::{Hierarchy, NewFace};
+use pm_forest::Hierarchy;
 
 // Marks a record, if there is one.
 #[tactic(auto, using(crate::proofs::MarkLaws::marked))]
@@ -37,20 +37,6 @@ fn mark_revealer(h: &Hierarchy, marks: &mut Vec<bool>, side: Option<Side>)
     }
 }
 
-// Marks those that reveal the neighbours of a new face.
-fn mark_beside(h: &Hierarchy, marks: &mut Vec<bool>, face: &Option<NewFace>)
-    requires there { All (λ e. e < 3 * face_count h.now) (neighbours_in face.now) }
-    requires marks { length marks.old.items ≡ record_count h.now }
-    ensures len { length marks.new.items ≡ length marks.old.items }
-    ensures marked { Joins (set_of marks.old.items) (set_of marks.new.items)
-        (reveals_any h.now (neighbours_in face.now)) }
-{
-    if let Some(face) = face {
-        mark_revealer(h, marks, face.first);
-        mark_revealer(h, marks, face.second);
-    }
-}
-
 /// Marks what a record needs: the maker of its node, and those that reveal its recorded
 /// neighbours.
 #[tactic(auto, using(pm_front::proofs::SplitLaws::s_below, pm_front::proofs::Counting::s_is))]
@@ -63,6 +49,7 @@ pub(crate) fn mark_needs(h: &Hierarchy, marks: &mut Vec<bool>, k: u32)
     h.invariant();
     let change = h.record_at(k);
     mark(marks, h.maker(NodeId(change.s)));
-    mark_beside(h, marks, &change.left);
-    mark_beside(h, marks, &change.right);
+    for side in change.neighbours() {
+        mark_revealer(h, marks, side);
+    }
 }

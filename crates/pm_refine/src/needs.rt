@@ -3,7 +3,7 @@ ghost use Rattle.std.specs.Prelude.{ℕ, ◌≡◌, ◌<◌, ◌*◌, ◌==◌, 
 ghost use Rattle.std.specs.List.{All};
 ghost use Rattle.pm_forest.specs.Forest.{record_count};
 ghost use Rattle.pm_forest.specs.Faces.{face_count};
-ghost use Rattle.pm_forest.specs.Moves.{side_in, neighbours_in};
+ghost use Rattle.pm_forest.specs.Moves.{side_in};
 ghost use Rattle.pm_forest.specs.Fronts.{set_of};
 ghost use Rattle.pm_beyond.specs.Moves.{is_at};
 ghost use Rattle.pm_refine.specs.Queued.{down_key, held, AreKeyed, Joins};
@@ -14,7 +14,6 @@ ghost use Rattle.pm_refine.specs.Deciding.{is_put};
 use crate::loosening::is_free;
 use crate::queues::put_down;
 use pm_base::{FaceId, NodeId, Side};
-use pm_forest::NewFace;
 use pm_front::Front;
 use pm_queue::Queue;
 
@@ -59,21 +58,6 @@ fn push_revealer(front: &Front, work: &mut Queue, side: Option<Side>, goes: bool
     }
 }
 
-// Puts those that reveal the neighbours of a new face on the queue.
-fn push_beside(front: &Front, work: &mut Queue, face: &Option<NewFace>, goes: bool)
-    requires there { All (λ e. e < 3 * face_count front.now.h) (neighbours_in face.now) }
-    requires work { length work.old ≡ record_count front.now.h }
-    ensures work_len { length work.new ≡ length work.old }
-    ensures joined { Joins (held work.old) (held work.new) (λ j. reveals_any front.now.h (neighbours_in face.now) j
-        && not (goes && is_free front.now.h (set_of front.now.flags) j)) }
-    ensures keyed { AreKeyed down_key work.old → AreKeyed down_key work.new }
-{
-    if let Some(face) = face {
-        push_revealer(front, work, face.first, goes);
-        push_revealer(front, work, face.second, goes);
-    }
-}
-
 /// Puts what a record needs on the queue: the maker of its node, and those that reveal its recorded
 /// neighbours. Where the record goes, those are left out that are free: they were tried before.
 #[tactic(auto, using(pm_front::proofs::SplitLaws::s_below, pm_front::proofs::Counting::s_is))]
@@ -88,6 +72,7 @@ pub(crate) fn push_needs(front: &Front, work: &mut Queue, k: u32, goes: bool)
     h.invariant();
     let change = h.record_at(k);
     push(front, work, h.maker(NodeId(change.s)), goes);
-    push_beside(front, work, &change.left, goes);
-    push_beside(front, work, &change.right, goes);
+    for side in change.neighbours() {
+        push_revealer(front, work, side, goes);
+    }
 }
