@@ -14,7 +14,7 @@ use crate::balls::ball_met;
 use crate::hits::face_hit;
 use crate::lists::{list_corner, nothing};
 use crate::nearest::nearer;
-use crate::walk::{after, first, first_child};
+use crate::walk::{after, first};
 use crate::{Hit, OutOfMemory, Ray};
 use pm_base::{FaceId, NodeId};
 use pm_bounds::Bounds;
@@ -117,7 +117,7 @@ impl Picker {
             return after(h, node);
         }
         if let Some(k) = h.splitter(node) {
-            return Some(first_child(h, k));
+            return Some(h.children(k).0);
         }
         let (leaf, _) = h.interval(node);
         *best = self.test_corners(h, leaf, ray, *best, steps);
