@@ -1,12 +1,12 @@
 -- A grid has one summary, and how the parts of a summary are put one after the other.
-use Rattle.std.proofs.Common.{◌≡◌, ℕ, ◌+◌, ◌*◌, ◌≤◌, Bool, List, ◌++◌, length, Option, refl, sym, ◌∙◌, ap, subst}
+use Rattle.std.proofs.Common.{◌≡◌, ℕ, ◌+◌, ◌*◌, ◌≤◌, Bool, List, ◌++◌, length, Option, Result, Ok, Err, IfOk, refl, sym, ◌∙◌, ap, subst}
 use Rattle.pm_base.specs.Meshes.{Mesh}
 use Rattle.pm_base.specs.declared.log.Collapse.{Collapse}
 use Rattle.pm_io.specs.Bytes.{Gains, GainsPart}
 use Rattle.pm_grid.specs.Grid.{grid}
 use Rattle.pm_grid.specs.Laws.{GridsAreCounted}
 use Rattle.pm_grid.proofs.GridMeshes.{grids_are_manifolds, grids_are_well_formed}
-use Rattle.pm_runs.specs.Runs.{IsStart}
+use Rattle.pm_runs.specs.Runs.{IsStart, IsRunTo}
 use Rattle.pm_runs.proofs.LeastRuns.{one_run}
 use Rattle.pm_number.specs.Numbering.{hierarchy_of_run}
 use Rattle.pm_forest.specs.Forest.{Hierarchy}
@@ -19,6 +19,15 @@ pub grid_start : (n : ℕ) (m : Mesh) → 1 ≤ n → n ≤ 256 → m ≡ grid n
 grid_start n m some most is =
     let start : IsStart (grid n) = record { formed = grids_are_well_formed n some most; manifold = grids_are_manifolds n some } in
     subst (λ (x : Mesh). IsStart x) (sym is) start
+
+-- The hierarchy of the run of a mesh that is a grid. The run is told of an equal mesh.
+pub run_of_grid : {E : Type 0} (n : ℕ) (k m : Mesh) (log : List Collapse) (r : Result Hierarchy E) → m ≡ grid n → k ≡ m → IsRunTo k 0 log → IfOk r (λ h. h ≡ hierarchy_of_run m log) → IfOk r (IsOfGrid n)
+run_of_grid n k m log (Ok h) is same run made = record {
+  log = log;
+  run = subst (λ (x : Mesh). IsRunTo x 0 log) (same ∙ is) run;
+  made = made ∙ ap (λ (x : Mesh). hierarchy_of_run x log) is;
+}
+run_of_grid n k m log (Err e) is same run made = tt
 
 one_hierarchy : (n : ℕ) (h g : Hierarchy) → IsOfGrid n h → IsOfGrid n g → h ≡ g
 one_hierarchy n h g is are =

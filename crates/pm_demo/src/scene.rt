@@ -21,7 +21,8 @@ use pm_io::{Line, Sink, WriteFault, put_all};
 use pm_load::{LoadFail, open_front};
 use pm_number::from_log;
 use pm_refine::{Adapted, Refiner};
-use pm_simplify::{SimplifyFail, simplify};
+use pm_simplify::simplify_surface;
+use pm_twins::Surface;
 use pm_view::{Steps, View};
 use std::alloc::{AllocError, Global};
 use std::marker::{Brand, Model};
@@ -54,13 +55,11 @@ fn simplified_grid(alloc: Global, n: u32) -> Result<Hierarchy, OutOfMemory>
 {
     grids_are_sound();
     let mesh = grid(alloc, n)?;
-    let log = match simplify(alloc, &mesh, 0) {
-        Ok(log) => log,
-        Err(SimplifyFail::OutOfMemory) => return Err(AllocError),
-        // A grid is an oriented manifold.
-        Err(SimplifyFail::EdgeTwice(_)) => unreachable!(),
-        Err(SimplifyFail::NotFan(_)) => unreachable!(),
+    // A grid is an oriented manifold, so it is refused for want of memory alone.
+    let Ok(surface) = Surface::of(alloc, mesh.copy(alloc)?) else {
+        return Err(AllocError);
     };
+    let log = simplify_surface(alloc, surface, 0)?;
     from_log(alloc, &mesh, &log)
 }
 

@@ -13,4 +13,3 @@ pub mod ObstacleLaws
 pub mod BorderStays
 pub mod Waiting
 pub mod Freeing
-pub mod Faultless
