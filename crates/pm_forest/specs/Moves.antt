@@ -26,6 +26,15 @@ neighbours_in (Some n) = side_in n.first ++ side_in n.second
 abbrev pub neighbours_of : Record → List ℕ
 neighbours_of r = neighbours_in r.left ++ neighbours_in r.right
 
+-- The sides recorded beyond the two outer sides of a new face; none where the face isn't there.
+abbrev pub places_in : Option NewFace → List (Option Side)
+places_in None = None ∷ None ∷ []
+places_in (Some n) = n.first ∷ n.second ∷ []
+
+-- The four places of neighbours of a record, in the order of neighbours_of.
+abbrev pub places_of : Record → List (Option Side)
+places_of r = places_in r.left ++ places_in r.right
+
 -- The face of the first of these sides whose face isn't kept.
 abbrev pub first_dropped : Hierarchy → (ℕ → Bool) → List ℕ → Option ℕ
 first_dropped h T [] = None

@@ -1,13 +1,13 @@
 //! The neighbours that a record tells.
-ghost use Rattle.std.specs.Prelude.{◌≡◌, ◌++◌};
-ghost use Rattle.pm_forest.specs.Moves.{side_in, sides_in, neighbours_in, neighbours_of};
+ghost use Rattle.std.specs.Prelude.{◌≡◌, ◌∷◌, []};
+ghost use Rattle.pm_forest.specs.Moves.{sides_in, neighbours_of, places_in, places_of};
 
 use crate::{NewFace, Record};
 use pm_base::Side;
 
 // The sides recorded beyond the two outer sides of a face, if it is there.
 fn beside(face: &Option<NewFace>) -> (Option<Side>, Option<Side>)
-    ensures { side_in result.0 ++ side_in result.1 ≡ neighbours_in face.now }
+    ensures { result.0 ∷ result.1 ∷ [] ≡ places_in face.now }
 {
     match face {
         None => (None, None),
@@ -18,9 +18,10 @@ fn beside(face: &Option<NewFace>) -> (Option<Side>, Option<Side>)
 impl Record {
     /// The sides recorded beyond the outer sides of the record's faces: left first, left second, right first, right second.
     /// `None` stands where none is recorded, and where the face isn't there.
-    #[tactic(auto, using(crate::proofs::NeighbourLaws::four_lists))]
+    #[tactic(auto, using(crate::proofs::NeighbourLaws::four_places, crate::proofs::NeighbourLaws::listed_in_places))]
     pub fn neighbours(&self) -> [Option<Side>; 4]
-        ensures { sides_in result ≡ neighbours_of self.now }
+        ensures places { result ≡ places_of self.now }
+        ensures list { sides_in result ≡ neighbours_of self.now }
     {
         let (left_first, left_second) = beside(&self.left);
         let (right_first, right_second) = beside(&self.right);
