@@ -7,7 +7,7 @@ ghost use Rattle.pm_queue.specs.Heap.{goes_first, IsKeyed, IsHeap, IsHeapButItem
 
 use super::places::exchange;
 use super::queue::ITEM_LIMIT;
-use super::sift::restore;
+use super::sift::{restore, sift_up};
 use super::slot::Slot;
 
 /// Makes `item` a member, if it is none, and lets it go to where its key belongs.
@@ -39,7 +39,8 @@ pub(crate) fn place_item(
         return len;
     }
     exchange(heap, place, keys, from, len);
-    restore(heap, place, keys, len + 1, len);
+    // No place is below the last one, so its item can only have to go up.
+    sift_up(heap, place, keys, len + 1, len);
     len + 1
 }
 

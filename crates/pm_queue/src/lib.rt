@@ -1,4 +1,5 @@
-//! An indexed binary heap (Williams 1964): a map from items to keys, with its least entry at hand.
+//! An indexed heap (Williams 1964) of four branches (Johnson 1975): a map from items to keys, with
+//! its least entry at hand.
 #![tactic(auto)]
 
 mod heap;

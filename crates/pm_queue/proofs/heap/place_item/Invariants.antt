@@ -5,3 +5,6 @@ ghost-exchange g a = g.item_keys
 
 abbrev pub ghost-restore : goal.ghost-restore
 ghost-restore g a = g.item_keys
+
+abbrev pub ghost-sift_up : goal.ghost-sift_up
+ghost-sift_up g a = g.item_keys
