@@ -3,6 +3,7 @@ use Rattle.std.specs.Prelude.{ℕ, zero, suc, ℤ, pos, neg_ℤ, List, [], ◌�
 use Rattle.std.specs.Option.{option_map, option_and_then}
 use Rattle.pm_base.specs.Place.{Place}
 use Rattle.pm_io.specs.Digits.{unsigned_of}
+use Rattle.pm_view.specs.declared.limits.TheConstants.{GREATEST_EYE_COORDINATE, GREATEST_FOCAL_LENGTH, GREATEST_NORMAL_COMPONENT, GREATEST_OFFSET, GREATEST_TOLERANCE}
 use Rattle.pm_view.specs.declared.plane.Plane.{Plane}
 use Rattle.pm_view.specs.declared.fields.ViewKind.{ViewKind}
 use Rattle.pm_view.specs.declared.fields.ViewKind.TheVariants as kinds
@@ -31,13 +32,13 @@ signed_of most (b ∷ bs) = if b == 45 then option_and_then negative (unsigned_o
 unfoldable pub eye_of : List ℕ → List ℕ → List ℕ → Option Place
 eye_of x y z =
     option_and_then (λ ex. option_and_then (λ ey. option_and_then (λ ez. Some (record { x = ex; y = ey; z = ez }))
-    (signed_of 16777215 z)) (signed_of 16777215 y)) (signed_of 16777215 x)
+    (signed_of GREATEST_EYE_COORDINATE z)) (signed_of GREATEST_EYE_COORDINATE y)) (signed_of GREATEST_EYE_COORDINATE x)
 
 -- The plane that four fields spell.
 unfoldable pub plane_of : List ℕ → List ℕ → List ℕ → List ℕ → Option Plane
 plane_of a b c d =
     option_and_then (λ fa. option_and_then (λ fb. option_and_then (λ fc. option_and_then (λ fd. Some (record { a = fa; b = fb; c = fc; d = fd }))
-    (signed_of 4398046511104 d)) (signed_of 32767 c)) (signed_of 32767 b)) (signed_of 32767 a)
+    (signed_of GREATEST_OFFSET d)) (signed_of GREATEST_NORMAL_COMPONENT c)) (signed_of GREATEST_NORMAL_COMPONENT b)) (signed_of GREATEST_NORMAL_COMPONENT a)
 
 -- The plane that the first four fields spell, and the fields after them.
 unfoldable pub first_plane : List (List ℕ) → Option (Plane × List (List ℕ))
@@ -62,7 +63,7 @@ first_sil kinds.Outline tol (sil ∷ rest) = option_map (λ s. (s, rest)) (unsig
 unfoldable pub view_in : ViewKind → List (List ℕ) → Option View
 view_in kind (x ∷ y ∷ z ∷ focal ∷ tol ∷ rest) =
     option_and_then (λ eye. option_and_then (λ f. option_and_then (λ t. option_and_then (λ s. option_map (λ planes. record { eye = eye; focal = f; tol = t; sil = s.0; planes = planes })
-    (planes_of 6 s.1)) (first_sil kind t rest)) (unsigned_of 65535 tol)) (unsigned_of 65535 focal)) (eye_of x y z)
+    (planes_of 6 s.1)) (first_sil kind t rest)) (unsigned_of GREATEST_TOLERANCE tol)) (unsigned_of GREATEST_FOCAL_LENGTH focal)) (eye_of x y z)
 view_in kind _ = None
 
 -- The view that a text spells.

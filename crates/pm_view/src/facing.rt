@@ -1,6 +1,8 @@
 //! The least and the greatest that the product of a normal in a box and a way from the eye to a ball can be.
 ghost use Rattle.std.specs.Prelude.{◌≡◌, ◌≤◌, ◌^◌, pos, ◌+ℤ◌, ◌-ℤ◌, ◌*ℤ◌, unsigned_abs};
 ghost use Rattle.std.specs.Int.{int_min, int_max};
+ghost use Rattle.pm_base.specs.declared.limits.TheConstants.{GREATEST_COORDINATE};
+ghost use Rattle.pm_view.specs.declared.limits.TheConstants.{GREATEST_EYE_COORDINATE};
 ghost use Rattle.pm_view.specs.Wanted.{least_product, greatest_product};
 
 // The product of an end of the normal box and an end of the point box less the eye.
@@ -43,9 +45,9 @@ fn greatest(a: i64, b: i64, c: i64, d: i64) -> i128
 
 // The lower end of the point box less the eye, on one axis.
 fn lower_end(at: i32, radius: u64, eye: i32) -> i64
-    requires at_small { unsigned_abs at ≤ 32767 }
+    requires at_small { unsigned_abs at ≤ GREATEST_COORDINATE }
     requires radius_small { radius ≤ 2 ^ 38 }
-    requires eye_small { unsigned_abs eye ≤ 16777215 }
+    requires eye_small { unsigned_abs eye ≤ GREATEST_EYE_COORDINATE }
     ensures value { result ≡ at -ℤ pos radius -ℤ eye }
     ensures small { unsigned_abs result ≤ 2 ^ 40 }
 {
@@ -54,9 +56,9 @@ fn lower_end(at: i32, radius: u64, eye: i32) -> i64
 
 // The upper end.
 fn upper_end(at: i32, radius: u64, eye: i32) -> i64
-    requires at_small { unsigned_abs at ≤ 32767 }
+    requires at_small { unsigned_abs at ≤ GREATEST_COORDINATE }
     requires radius_small { radius ≤ 2 ^ 38 }
-    requires eye_small { unsigned_abs eye ≤ 16777215 }
+    requires eye_small { unsigned_abs eye ≤ GREATEST_EYE_COORDINATE }
     ensures value { result ≡ at +ℤ pos radius -ℤ eye }
     ensures small { unsigned_abs result ≤ 2 ^ 40 }
 {
@@ -67,9 +69,9 @@ fn upper_end(at: i32, radius: u64, eye: i32) -> i64
 pub fn least_on_axis(low: i64, high: i64, at: i32, radius: u64, eye: i32) -> i128
     requires low_small { unsigned_abs low ≤ 2 ^ 34 }
     requires high_small { unsigned_abs high ≤ 2 ^ 34 }
-    requires at_small { unsigned_abs at ≤ 32767 }
+    requires at_small { unsigned_abs at ≤ GREATEST_COORDINATE }
     requires radius_small { radius ≤ 2 ^ 38 }
-    requires eye_small { unsigned_abs eye ≤ 16777215 }
+    requires eye_small { unsigned_abs eye ≤ GREATEST_EYE_COORDINATE }
     ensures value { result ≡ least_product low high (at -ℤ pos radius -ℤ eye) (at +ℤ pos radius -ℤ eye) }
     ensures small { unsigned_abs result ≤ 2 ^ 74 }
 {
@@ -85,9 +87,9 @@ pub fn least_on_axis(low: i64, high: i64, at: i32, radius: u64, eye: i32) -> i12
 pub fn greatest_on_axis(low: i64, high: i64, at: i32, radius: u64, eye: i32) -> i128
     requires low_small { unsigned_abs low ≤ 2 ^ 34 }
     requires high_small { unsigned_abs high ≤ 2 ^ 34 }
-    requires at_small { unsigned_abs at ≤ 32767 }
+    requires at_small { unsigned_abs at ≤ GREATEST_COORDINATE }
     requires radius_small { radius ≤ 2 ^ 38 }
-    requires eye_small { unsigned_abs eye ≤ 16777215 }
+    requires eye_small { unsigned_abs eye ≤ GREATEST_EYE_COORDINATE }
     ensures value { result ≡ greatest_product low high (at -ℤ pos radius -ℤ eye) (at +ℤ pos radius -ℤ eye) }
     ensures small { unsigned_abs result ≤ 2 ^ 74 }
 {

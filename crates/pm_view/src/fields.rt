@@ -1,9 +1,14 @@
 //! The fields that spell a view, read from left to right.
 ghost use Rattle.std.specs.Prelude.{◌≡◌, ◌<◌, ◌≤◌, ◌∷◌, [], ℕ, suc, true, length, Some, None, MatchOption, IfSome, IfNone, IfOk, OnErr, unsigned_abs};
 ghost use Rattle.std.specs.List.{list_all};
+ghost use Rattle.pm_view.specs.declared.limits.TheConstants.{GREATEST_EYE_COORDINATE, GREATEST_TOLERANCE};
 ghost use Rattle.pm_view.specs.Views.{is_plane};
 ghost use Rattle.pm_view.specs.Fields.{fields, fields_after, eye_of, plane_of, first_plane, planes_of, first_sil, view_of};
 
+use crate::limits::{
+    GREATEST_EYE_COORDINATE, GREATEST_FOCAL_LENGTH, GREATEST_NORMAL_COMPONENT, GREATEST_OFFSET,
+    GREATEST_TOLERANCE,
+};
 use crate::number::{read_signed, read_small};
 use crate::{Plane, View};
 use arrayvec::ArrayVec;
@@ -52,13 +57,13 @@ pub fn next_field(rest: &[u8]) -> Option<(&[u8], &[u8])>
 #[tactic(auto, unfolding(crate::specs::Fields::eye_of))]
 fn read_eye(x: &[u8], y: &[u8], z: &[u8]) -> Option<(i32, i32, i32)>
     ensures value { MatchOption result (eye_of x.now y.now z.now ≡ None) (λ e. eye_of x.now y.now z.now ≡ Some (record { x = e.0; y = e.1; z = e.2 })) }
-    ensures x_small { IfSome result (λ e. unsigned_abs e.0 ≤ 16777215) }
-    ensures y_small { IfSome result (λ e. unsigned_abs e.1 ≤ 16777215) }
-    ensures z_small { IfSome result (λ e. unsigned_abs e.2 ≤ 16777215) }
+    ensures x_small { IfSome result (λ e. unsigned_abs e.0 ≤ GREATEST_EYE_COORDINATE) }
+    ensures y_small { IfSome result (λ e. unsigned_abs e.1 ≤ GREATEST_EYE_COORDINATE) }
+    ensures z_small { IfSome result (λ e. unsigned_abs e.2 ≤ GREATEST_EYE_COORDINATE) }
 {
-    let ex = read_small(x, 16_777_215)?;
-    let ey = read_small(y, 16_777_215)?;
-    let ez = read_small(z, 16_777_215)?;
+    let ex = read_small(x, GREATEST_EYE_COORDINATE)?;
+    let ey = read_small(y, GREATEST_EYE_COORDINATE)?;
+    let ez = read_small(z, GREATEST_EYE_COORDINATE)?;
     Some((ex, ey, ez))
 }
 
@@ -68,10 +73,10 @@ fn read_plane(a: &[u8], b: &[u8], c: &[u8], d: &[u8]) -> Option<Plane>
     ensures in_range { IfSome result (λ f. is_plane f ≡ true) }
 {
     Some(Plane {
-        a: read_small(a, 32_767)?,
-        b: read_small(b, 32_767)?,
-        c: read_small(c, 32_767)?,
-        d: read_signed(d, 4_398_046_511_104)?,
+        a: read_small(a, GREATEST_NORMAL_COMPONENT)?,
+        b: read_small(b, GREATEST_NORMAL_COMPONENT)?,
+        c: read_small(c, GREATEST_NORMAL_COMPONENT)?,
+        d: read_signed(d, GREATEST_OFFSET)?,
     })
 }
 
@@ -115,7 +120,7 @@ fn read_planes(fields: &[u8]) -> Option<ArrayVec<Plane, 6>>
 // tolerance.
 #[tactic(auto, unfolding(crate::specs::Fields::first_sil))]
 fn read_sil(kind: ViewKind, tol: u32, rest: &[u8]) -> Option<(u32, &[u8])>
-    requires { tol ≤ 65535 }
+    requires { tol ≤ GREATEST_TOLERANCE }
     ensures value { MatchOption result (first_sil kind tol (fields_after rest.now) ≡ None) (λ s. first_sil kind tol (fields_after rest.now) ≡ Some (s.0, fields_after s.1.now)) }
     ensures small { IfSome result (λ s. s.0 ≤ tol) }
 {
@@ -138,8 +143,8 @@ fn view_in(kind: ViewKind, text: &[u8]) -> Option<View>
     let (focal, rest) = next_field(rest)?;
     let (tol, rest) = next_field(rest)?;
     let eye = read_eye(x, y, z)?;
-    let focal = read_unsigned(focal, 65_535)?;
-    let tol = read_unsigned(tol, 65_535)?;
+    let focal = read_unsigned(focal, GREATEST_FOCAL_LENGTH)?;
+    let tol = read_unsigned(tol, GREATEST_TOLERANCE)?;
     let (sil, rest) = read_sil(kind, tol, rest)?;
     let planes = read_planes(rest)?;
     Some(View::within_range(eye, focal, tol, sil, planes))

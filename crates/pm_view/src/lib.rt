@@ -3,6 +3,7 @@
 
 mod facing;
 mod fields;
+mod limits;
 mod number;
 mod plane;
 mod size;
@@ -12,6 +13,10 @@ mod view;
 mod wanted;
 
 pub use fields::{BadView, ViewKind, cut_field, next_field, read_view};
+pub use limits::{
+    GREATEST_EYE_COORDINATE, GREATEST_FOCAL_LENGTH, GREATEST_NORMAL_COMPONENT, GREATEST_OFFSET,
+    GREATEST_TOLERANCE,
+};
 pub use number::read_small;
 pub use plane::Plane;
 pub use steps::Steps;

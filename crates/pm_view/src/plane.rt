@@ -1,7 +1,9 @@
 //! Planes, and whether a ball lies wholly on the negative side of one.
 ghost use Rattle.std.specs.Prelude.{◌≡◌, ◌+◌, ◌*◌, ◌≤◌, ◌^◌, ◌&&◌, true, pos, ◌+ℤ◌, ◌*ℤ◌, int_lt, nat_lt, unsigned_abs};
 ghost use Rattle.std.specs.List.{list_all};
+ghost use Rattle.pm_base.specs.declared.limits.TheConstants.{GREATEST_COORDINATE};
 ghost use Rattle.pm_base.specs.Geometry.{square_of, norm2_of};
+ghost use Rattle.pm_view.specs.declared.limits.TheConstants.{GREATEST_NORMAL_COMPONENT};
 ghost use Rattle.pm_view.specs.Views.{is_plane};
 ghost use Rattle.pm_view.specs.Wanted.{value_at, normal_in, is_outside, is_outside_any};
 
@@ -19,8 +21,8 @@ pub struct Plane {
 
 // A number of the normal times a coordinate.
 fn component(a: i32, x: i32) -> i64
-    requires a_small { unsigned_abs a ≤ 32767 }
-    requires x_small { unsigned_abs x ≤ 32767 }
+    requires a_small { unsigned_abs a ≤ GREATEST_NORMAL_COMPONENT }
+    requires x_small { unsigned_abs x ≤ GREATEST_COORDINATE }
     ensures value { result ≡ a *ℤ x }
     ensures small { unsigned_abs result ≤ 2 ^ 31 }
 {
@@ -40,7 +42,7 @@ fn add_four(a: i64, b: i64, c: i64, d: i64) -> i64
 
 // The square of a number of the normal.
 fn square_of_component(a: i32) -> u64
-    requires { unsigned_abs a ≤ 32767 }
+    requires { unsigned_abs a ≤ GREATEST_NORMAL_COMPONENT }
     ensures value { result ≡ square_of (unsigned_abs a) }
     ensures small { result ≤ 2 ^ 31 }
 {

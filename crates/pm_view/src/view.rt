@@ -4,11 +4,16 @@ ghost use Rattle.std.specs.List.{list_all};
 ghost use Rattle.pm_base.specs.Geometry.{dist2_of};
 ghost use Rattle.pm_bounds.specs.Boxes.{IsSmallBox};
 ghost use Rattle.pm_bounds.specs.declared.normal_box.NormalBox.{NormalBox};
+ghost use Rattle.pm_view.specs.declared.limits.TheConstants.{GREATEST_EYE_COORDINATE, GREATEST_FOCAL_LENGTH, GREATEST_TOLERANCE};
 ghost use Rattle.pm_view.specs.Views.{is_eye, is_plane, are_tolerances, is_view};
 ghost use Rattle.pm_view.specs.Wanted.{Bounded, is_outside_any, least_facing, greatest_facing, may_turn_away, looks_large};
 
 use crate::Plane;
 use crate::facing::{add_three, greatest_on_axis, least_on_axis};
+use crate::limits::{
+    GREATEST_EYE_COORDINATE, GREATEST_FOCAL_LENGTH, GREATEST_NORMAL_COMPONENT, GREATEST_OFFSET,
+    GREATEST_TOLERANCE,
+};
 use crate::plane::is_outside_any;
 use crate::size::{is_large, squared_gap};
 use arrayvec::ArrayVec;
@@ -49,10 +54,10 @@ fn is_within(n: i32, most: u32) -> bool
 fn is_plane(plane: &Plane) -> bool
     ensures { result ≡ is_plane plane.now }
 {
-    is_within(plane.a, 32_767)
-        && is_within(plane.b, 32_767)
-        && is_within(plane.c, 32_767)
-        && plane.d.unsigned_abs() <= 4_398_046_511_104
+    is_within(plane.a, GREATEST_NORMAL_COMPONENT)
+        && is_within(plane.b, GREATEST_NORMAL_COMPONENT)
+        && is_within(plane.c, GREATEST_NORMAL_COMPONENT)
+        && plane.d.unsigned_abs() <= GREATEST_OFFSET
 }
 
 fn are_planes(planes: &[Plane]) -> bool
@@ -64,19 +69,21 @@ fn are_planes(planes: &[Plane]) -> bool
 fn is_eye(x: i32, y: i32, z: i32) -> bool
     ensures { result ≡ is_eye (record { x = x; y = y; z = z }) }
 {
-    is_within(x, 16_777_215) && is_within(y, 16_777_215) && is_within(z, 16_777_215)
+    is_within(x, GREATEST_EYE_COORDINATE)
+        && is_within(y, GREATEST_EYE_COORDINATE)
+        && is_within(z, GREATEST_EYE_COORDINATE)
 }
 
 fn are_tolerances(tol: u32, sil: u32) -> bool
     ensures { result ≡ are_tolerances tol sil }
 {
-    tol <= 65_535 && sil <= tol
+    tol <= GREATEST_TOLERANCE && sil <= tol
 }
 
 fn are_in_range(ex: i32, ey: i32, ez: i32, focal: u32, tol: u32, sil: u32, planes: &[Plane]) -> bool
     ensures { result ≡ is_view (record { eye = record { x = ex; y = ey; z = ez }; focal = focal; tol = tol; sil = sil; planes = planes.now }) }
 {
-    let is_fine = is_eye(ex, ey, ez) && focal <= 65_535 && are_tolerances(tol, sil);
+    let is_fine = is_eye(ex, ey, ez) && focal <= GREATEST_FOCAL_LENGTH && are_tolerances(tol, sil);
     is_fine && are_planes(planes)
 }
 
@@ -118,11 +125,11 @@ impl View {
         sil: u32,
         planes: ArrayVec<Plane, 6>,
     ) -> View
-        requires x { unsigned_abs eye.0 ≤ 16777215 }
-        requires y { unsigned_abs eye.1 ≤ 16777215 }
-        requires z { unsigned_abs eye.2 ≤ 16777215 }
-        requires focal { focal ≤ 65535 }
-        requires tol { tol ≤ 65535 }
+        requires x { unsigned_abs eye.0 ≤ GREATEST_EYE_COORDINATE }
+        requires y { unsigned_abs eye.1 ≤ GREATEST_EYE_COORDINATE }
+        requires z { unsigned_abs eye.2 ≤ GREATEST_EYE_COORDINATE }
+        requires focal { focal ≤ GREATEST_FOCAL_LENGTH }
+        requires tol { tol ≤ GREATEST_TOLERANCE }
         requires sil { sil ≤ tol }
         requires planes { list_all is_plane planes.items ≡ true }
         ensures { result ≡ record { eye = record { x = eye.0; y = eye.1; z = eye.2 }; focal = focal; tol = tol; sil = sil; planes = planes.items } }
@@ -222,7 +229,7 @@ impl View {
     // Whether the error of a node looks larger than a tolerance.
     #[tactic(auto, unfolding(crate::specs::Wanted::looks_large))]
     fn looks_larger_than(&self, tol: u32, place: Point, error: u64, radius: u64) -> bool
-        requires tol_small { tol ≤ 65535 }
+        requires tol_small { tol ≤ GREATEST_TOLERANCE }
         requires error_small { error ≤ 2 ^ 38 }
         requires radius_small { radius ≤ 2 ^ 38 }
         ensures { (box : NormalBox) → result ≡ looks_large (record { place = place; error = error; radius = radius; box = box }) self.now tol }
