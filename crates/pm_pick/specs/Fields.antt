@@ -2,7 +2,9 @@
 use Rattle.std.specs.Prelude.{ℕ, List, [], ◌∷◌, Option, Some, None, if◌then◌else◌}
 use Rattle.std.specs.Option.{option_and_then}
 use Rattle.pm_base.specs.Place.{Place}
+use Rattle.pm_view.specs.declared.limits.TheConstants.{GREATEST_EYE_COORDINATE}
 use Rattle.pm_view.specs.Fields.{fields, signed_of}
+use Rattle.pm_pick.specs.declared.limits.TheConstants.{GREATEST_WAY_COMPONENT}
 use Rattle.pm_pick.specs.Rays.{Ray, is_ray}
 
 -- The three numbers that three fields spell, each at most `most` away from 0.
@@ -19,7 +21,7 @@ ray_from o d =
 
 -- The ray that six fields spell: the numbers of its origin, and those of its way.
 unfoldable pub ray_in : List (List ℕ) → Option Ray
-ray_in (x ∷ y ∷ z ∷ a ∷ b ∷ c ∷ []) = option_and_then (λ o. option_and_then (λ d. ray_from o d) (three_of 32767 a b c)) (three_of 16777215 x y z)
+ray_in (x ∷ y ∷ z ∷ a ∷ b ∷ c ∷ []) = option_and_then (λ o. option_and_then (λ d. ray_from o d) (three_of GREATEST_WAY_COMPONENT a b c)) (three_of GREATEST_EYE_COORDINATE x y z)
 ray_in _ = None
 
 -- The ray that a text spells.

@@ -5,6 +5,7 @@ ghost use Rattle.pm_base.specs.Sides.{face_of};
 ghost use Rattle.pm_forest.specs.Forest.{node_count, Holds};
 ghost use Rattle.pm_forest.specs.Faces.{face_count, from_leaf};
 ghost use Rattle.pm_bounds.specs.Bounds.{AreBoundsOf};
+ghost use Rattle.pm_pick.specs.declared.limits.TheConstants.{GREATEST_WAY_COMPONENT};
 ghost use Rattle.pm_pick.specs.Balls.{is_aside, is_behind, is_ball_met, is_met};
 ghost use Rattle.pm_pick.specs.Picks.{MissesFace};
 
@@ -27,7 +28,7 @@ fn square(n: u64) -> u128
 
 // The square of a number of the way.
 fn square_of_component(a: i32) -> u64
-    requires { unsigned_abs a ≤ 32767 }
+    requires { unsigned_abs a ≤ GREATEST_WAY_COMPONENT }
     ensures value { result ≡ square_of (unsigned_abs a) }
     ensures small { result ≤ 2 ^ 31 }
 {

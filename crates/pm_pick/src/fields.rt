@@ -3,7 +3,8 @@ ghost use Rattle.std.specs.Prelude.{◌≡◌, ◌<◌, ◌^◌, Some, None, Mat
 ghost use Rattle.pm_pick.specs.Fields.{three_of, ray_from, ray_of};
 
 use crate::Ray;
-use pm_view::{cut_field, next_field, read_small};
+use crate::limits::GREATEST_WAY_COMPONENT;
+use pm_view::{GREATEST_EYE_COORDINATE, cut_field, next_field, read_small};
 
 /// The text spells no ray.
 #[derive(Clone, Copy, Debug, PartialEq, Eq)]
@@ -40,8 +41,8 @@ fn ray_in(text: &[u8]) -> Option<Ray>
     if next_field(rest).is_some() {
         return None;
     }
-    let origin = read_three(x, y, z, 16_777_215)?;
-    let way = read_three(a, b, c, 32_767)?;
+    let origin = read_three(x, y, z, GREATEST_EYE_COORDINATE)?;
+    let way = read_three(a, b, c, GREATEST_WAY_COMPONENT)?;
     ray_from(origin, way)
 }
 

@@ -4,6 +4,7 @@
 mod balls;
 mod fields;
 mod hits;
+mod limits;
 mod lists;
 mod nearest;
 mod picker;
@@ -15,6 +16,7 @@ mod ways;
 pub use balls::ball_met;
 pub use fields::{BadRay, read_ray};
 pub use hits::{Hit, face_hit};
+pub use limits::GREATEST_WAY_COMPONENT;
 pub use picker::Picker;
 pub use ray::Ray;
 pub use theory::hits_are_sound;
