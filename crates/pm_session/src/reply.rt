@@ -1,5 +1,6 @@
 //! The replies to moves, views, measures and picks.
 ghost use Rattle.std.specs.Prelude.{◌≡◌, ◌≤◌, pos, ◌+ℤ◌, ◌-ℤ◌};
+ghost use Rattle.pm_base.specs.declared.limits.TheConstants.{MOST_FACES, MOST_NODES, MOST_SIDES};
 ghost use Rattle.pm_session.specs.Script.{reply_to, view_reply, shape_line, pick_reply};
 
 use pm_beyond::MoveFault;
@@ -49,9 +50,9 @@ pub(crate) fn put_view_reply(line: &mut Line, adapted: Adapted)
 
 // The Euler number.
 fn euler(measure: Measure) -> i32
-    requires nodes { measure.nodes ≤ 2097152 }
-    requires edges { measure.edges ≤ 3145728 }
-    requires faces { measure.faces ≤ 1048576 }
+    requires nodes { measure.nodes ≤ MOST_NODES }
+    requires edges { measure.edges ≤ MOST_SIDES }
+    requires faces { measure.faces ≤ MOST_FACES }
     ensures { result ≡ pos measure.nodes -ℤ pos measure.edges +ℤ pos measure.faces }
 {
     measure.nodes as i32 - measure.edges as i32 + measure.faces as i32
@@ -60,9 +61,9 @@ fn euler(measure: Measure) -> i32
 /// The line that replies to `m`.
 #[tactic(auto, unfolding(crate::specs::Script::shape_line))]
 pub(crate) fn put_shape(line: &mut Line, measure: Measure)
-    requires nodes { measure.nodes ≤ 2097152 }
-    requires edges { measure.edges ≤ 3145728 }
-    requires faces { measure.faces ≤ 1048576 }
+    requires nodes { measure.nodes ≤ MOST_NODES }
+    requires edges { measure.edges ≤ MOST_SIDES }
+    requires faces { measure.faces ≤ MOST_FACES }
     ensures { line.new ≡ shape_line measure.nodes measure.edges measure.faces measure.loops }
 {
     line.clear();

@@ -1,5 +1,6 @@
 //! What a session works with beside its front.
 ghost use Rattle.std.specs.Prelude.{◌≡◌, ◌<◌, ◌≤◌, IfOk};
+ghost use Rattle.pm_base.specs.declared.limits.TheConstants.{MOST_FACES, MOST_NODES, MOST_SIDES};
 ghost use Rattle.pm_io.specs.Puts.{Puts};
 ghost use Rattle.pm_forest.specs.Forest.{record_count};
 ghost use Rattle.pm_forest.specs.Fronts.{set_of};
@@ -119,7 +120,7 @@ impl Tools {
         ensures edges { result.edges ≡ edges_shown front.now.h (set_of front.now.flags) }
         ensures faces { result.faces ≡ faces_shown front.now.h (set_of front.now.flags) }
         ensures loops { result.loops ≡ loops_shown front.now.h (set_of front.now.flags) }
-        ensures few { (result.nodes ≤ 2097152) × (result.edges ≤ 3145728) × (result.faces ≤ 1048576) }
+        ensures few { (result.nodes ≤ MOST_NODES) × (result.edges ≤ MOST_SIDES) × (result.faces ≤ MOST_FACES) }
         ensures same { self.new ≡ self.old }
     {
         self.tracer.measure(front)
