@@ -1,5 +1,6 @@
 //! Counting nodes, edges, faces and border loops of the mesh shown.
 ghost use Rattle.std.specs.Prelude.{◌≡◌, ◌+◌, ◌*◌, ◌<◌, ◌≤◌, ◌↔◌, ◌⊎◌, ℕ, true, false, length, IfOk};
+ghost use Rattle.pm_base.specs.declared.limits.TheConstants.{MOST_FACES, MOST_NODES, MOST_SIDES};
 ghost use Rattle.pm_base.specs.Counts.{count};
 ghost use Rattle.pm_forest.specs.Fronts.{set_of};
 ghost use Rattle.pm_forest.specs.Faces.{face_count};
@@ -57,7 +58,7 @@ impl Tracer {
         ensures edges { result.edges ≡ edges_shown front.now.h (set_of front.now.flags) }
         ensures faces { result.faces ≡ faces_shown front.now.h (set_of front.now.flags) }
         ensures loops { result.loops ≡ loops_shown front.now.h (set_of front.now.flags) }
-        ensures few { (result.nodes ≤ 2097152) × (result.edges ≤ 3145728) × (result.faces ≤ 1048576) }
+        ensures few { (result.nodes ≤ MOST_NODES) × (result.edges ≤ MOST_SIDES) × (result.faces ≤ MOST_FACES) }
         ensures same { self.new ≡ self.old }
     {
         front.invariant();
