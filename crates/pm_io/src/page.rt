@@ -56,13 +56,9 @@ impl Page {
         }
         let (front, rest) = piece.split_at(room);
         self.hold(front);
-        if let Err(fault) = self.flush(out) {
-            return Err(fault);
-        }
+        self.flush(out)?;
         let (pages, last) = rest.split_at(rest.len() - rest.len() % SIZE);
-        if let Err(fault) = put_all(out, pages) {
-            return Err(fault);
-        }
+        put_all(out, pages)?;
         self.hold(last);
         Ok(())
     }
