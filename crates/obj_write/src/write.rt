@@ -22,9 +22,7 @@ fn put_points<K: Sink>(
     let mut line = Line::new();
     for point in mesh.points.as_slice() {
         put_point(&mut line, digits, point);
-        if let Err(fault) = page.add(line.as_slice(), out) {
-            return Err(fault);
-        }
+        page.add(line.as_slice(), out)?;
     }
     Ok(())
 }
@@ -37,9 +35,7 @@ fn put_faces<K: Sink>(mesh: &Mesh, page: &mut Page, out: &mut K) -> Result<(), W
     let mut line = Line::new();
     for corners in mesh.faces.as_slice() {
         put_corners(&mut line, corners);
-        if let Err(fault) = page.add(line.as_slice(), out) {
-            return Err(fault);
-        }
+        page.add(line.as_slice(), out)?;
     }
     Ok(())
 }
@@ -56,14 +52,8 @@ pub fn write_obj<K: Sink>(mesh: &Mesh, digits: u32, out: &mut K) -> Result<(), W
     ensures { Puts K.Sink out.old out.new (canonical_text digits (mesh_of mesh.now)) result }
 {
     let mut page = Page::new();
-    if let Err(fault) = put_points(mesh, digits, &mut page, out) {
-        return Err(fault);
-    }
-    if let Err(fault) = put_faces(mesh, &mut page, out) {
-        return Err(fault);
-    }
-    if let Err(fault) = page.flush(out) {
-        return Err(fault);
-    }
+    put_points(mesh, digits, &mut page, out)?;
+    put_faces(mesh, &mut page, out)?;
+    page.flush(out)?;
     Ok(())
 }

@@ -1,5 +1,6 @@
 use Rattle.std.proofs.Common.{◌<◌, ◌≤◌, ◌++◌, get_or, length, subst, ◌∙◌, ap}
 use Rattle.std.proofs.lemmas.List.{get_or_default}
+use Rattle.std.proofs.lemmas.Result.{err_from_is_err_and}
 use Rattle.pm_io.specs.Bytes.{GainsPart, GainsThrough}
 use Rattle.pm_io.proofs.PageLaws.{line_through, line_through_part, lines_through}
 use Rattle.pm_io.proofs.PutLaws.{through_done, through_failed}
@@ -19,12 +20,13 @@ loop-corners-preserved g c =
     record {
       items = same;
       text = line_through corner_line faces i corners _ _ _ _ _ _ within (get_or_default faces i none corners within) c.loop-corners.invariant.text
-          (subst (λ l. GainsThrough (g.K.Sink.got c.loop-corners.out) (g.K.Sink.got c.add.new.out) c.loop-corners.page c.add.new.self l) line c.in_default.ensures.puts.ok);
-      count = c.in_default.ensures.puts.cause.same ∙ c.loop-corners.invariant.count;
+          (subst (λ l. GainsThrough (g.K.Sink.got c.loop-corners.out) (g.K.Sink.got c.add.new.out) c.loop-corners.page c.add.new.self l) line c.in_ok-add.ensures.puts.ok);
+      count = c.in_ok-add.ensures.puts.cause.same ∙ c.loop-corners.invariant.count;
     }
 
-pub returns-in-Err : goal.returns-in-Err
-returns-in-Err g c =
+pub returns-in_err-add : goal.returns-in_err-add
+returns-in_err-add g c =
+    let p = err_from_is_err_and c.from_residual.result c.from_residual.ensures.1 in
     let faces = c.args.mesh.now.faces.items in
     let i = c.loop-corners.corners-index in
     let same = c.as_slice-corners-items.ensures in
@@ -33,8 +35,8 @@ returns-in-Err g c =
     let corners = get_or faces i none in
     let line = c.as_slice.ensures ∙ c.put_corners.ensures ∙ ap (λ l. corner_line (get_or l i none)) same in
     let part = line_through_part corner_line faces i corners _ _ _ _ _ within (get_or_default faces i none corners within) c.loop-corners.invariant.text
-    (subst (λ l. GainsPart (g.K.Sink.got c.loop-corners.out) (g.K.Sink.got c.add.new.out) (c.loop-corners.page ++ l)) line c.in-Err.ensures.puts.err) in
-    through_failed g.K.Sink c.args.out.now c.loop-corners.out _ _ _ _ _ part c.loop-corners.invariant.count c.in-Err.ensures.puts.cause
+    (subst (λ l. GainsPart (g.K.Sink.got c.loop-corners.out) (g.K.Sink.got c.add.new.out) (c.loop-corners.page ++ l)) line c.in_err-add.ensures.puts.err) in
+    rw (p.1, p.2) (through_failed g.K.Sink c.args.out.now c.loop-corners.out _ _ _ _ _ part c.loop-corners.invariant.count c.in_err-add.ensures.puts.cause)
 
 pub returns : goal.returns
 returns g c =

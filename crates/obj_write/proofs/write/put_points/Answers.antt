@@ -1,4 +1,5 @@
 use Rattle.std.proofs.Common.{◌<◌, ◌≤◌, ◌≡◌, ◌++◌, get_or, length, subst, ◌∙◌}
+use Rattle.std.proofs.lemmas.Result.{err_from_is_err_and}
 use Rattle.pm_io.specs.Bytes.{GainsPart, GainsThrough}
 use Rattle.pm_io.proofs.PageLaws.{line_through, line_through_part, lines_through}
 use Rattle.pm_io.proofs.PutLaws.{through_done, through_failed}
@@ -16,12 +17,13 @@ loop-point-preserved g c =
     record {
       items = same;
       text = line_through (point_line c.args.digits) points i point _ _ _ _ _ _ within item c.loop-point.invariant.text
-          (subst (λ l. GainsThrough (g.K.Sink.got c.loop-point.out) (g.K.Sink.got c.add.new.out) c.loop-point.page c.add.new.self l) (c.as_slice.ensures ∙ c.put_point.ensures) c.in_default.ensures.puts.ok);
-      count = c.in_default.ensures.puts.cause.same ∙ c.loop-point.invariant.count;
+          (subst (λ l. GainsThrough (g.K.Sink.got c.loop-point.out) (g.K.Sink.got c.add.new.out) c.loop-point.page c.add.new.self l) (c.as_slice.ensures ∙ c.put_point.ensures) c.in_ok-add.ensures.puts.ok);
+      count = c.in_ok-add.ensures.puts.cause.same ∙ c.loop-point.invariant.count;
     }
 
-pub returns-in-Err : goal.returns-in-Err
-returns-in-Err g c =
+pub returns-in_err-add : goal.returns-in_err-add
+returns-in_err-add g c =
+    let p = err_from_is_err_and c.from_residual.result c.from_residual.ensures.1 in
     let points = c.args.mesh.now.points.items in
     let i = c.loop-point.point-index in
     let point = c.point-item.result in
@@ -29,8 +31,8 @@ returns-in-Err g c =
     let within = subst (λ l. i < length l) same c.loop-point-test.true in
     let item = subst (λ l. point ≡ get_or l i point) same c.point-item.is in
     let part = line_through_part (point_line c.args.digits) points i point _ _ _ _ _ within item c.loop-point.invariant.text
-    (subst (λ l. GainsPart (g.K.Sink.got c.loop-point.out) (g.K.Sink.got c.add.new.out) (c.loop-point.page ++ l)) (c.as_slice.ensures ∙ c.put_point.ensures) c.in-Err.ensures.puts.err) in
-    through_failed g.K.Sink c.args.out.now c.loop-point.out _ _ _ _ _ part c.loop-point.invariant.count c.in-Err.ensures.puts.cause
+    (subst (λ l. GainsPart (g.K.Sink.got c.loop-point.out) (g.K.Sink.got c.add.new.out) (c.loop-point.page ++ l)) (c.as_slice.ensures ∙ c.put_point.ensures) c.in_err-add.ensures.puts.err) in
+    rw (p.1, p.2) (through_failed g.K.Sink c.args.out.now c.loop-point.out _ _ _ _ _ part c.loop-point.invariant.count c.in_err-add.ensures.puts.cause)
 
 pub returns : goal.returns
 returns g c =
