@@ -110,9 +110,7 @@ pub fn step<S: Source>(
             line: progress.number,
         }),
         LineState::Whole | LineState::Continued => {
-            if let Err(fail) = take_line(mesh, digits, lines.line(), progress.number) {
-                return Err(fail);
-            }
+            take_line(mesh, digits, lines.line(), progress.number)?;
             progress.start = progress.taken;
             progress.number += 1;
             Ok(true)
