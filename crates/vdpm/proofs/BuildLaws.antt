@@ -19,7 +19,7 @@ use Rattle.vdpm.specs.declared.words.Asked.TheVariants as asked
 use Rattle.vdpm.specs.Input.{Unreached, Stops}
 use Rattle.vdpm.specs.Ran.{Ran, whole}
 use Rattle.vdpm.specs.Surface.{IsSurface}
-use Rattle.vdpm.specs.Opening.{Opening, begins, valid, whole_text}
+use Rattle.vdpm.specs.Beginning.{Beginning, begins, valid, whole_text}
 use Rattle.vdpm.specs.Build.{IsSimplified, IsBuilt, no_surface, simplified}
 use Rattle.vdpm.specs.Outcome.{IsOutcome, done_with, GivesBack}
 use Rattle.vdpm.proofs.SurfaceLaws.{one_surface}
@@ -92,7 +92,7 @@ module _ (digits : ℕ) where
   stream_expands bytes h few is sound all canon = record {
     read = Ok (record { digits = digits; h = h; rest = [] });
     place = None;
-    is = let o : Opening = record { digits = digits; h = h; rest = [] } in whole_text o (Some (length (stream digits h))) (valid o (Some (length (stream digits h))) (begins digits h [] few sound.shape (sym (append-nil (stream digits h)))) sound) refl;
+    is = let o : Beginning = record { digits = digits; h = h; rest = [] } in whole_text o (Some (length (stream digits h))) (valid o (Some (length (stream digits h))) (begins digits h [] few sound.shape (sym (append-nil (stream digits h)))) sound) refl;
     done = canon.done ∙ ap (λ (r : Result Mesh Fault). done_with (λ m. whole (canonical_text digits m)) r canon.place) (one_surface digits bytes canon.is is).0;
   }
 

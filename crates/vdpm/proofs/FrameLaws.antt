@@ -22,7 +22,7 @@ use Rattle.pm_session.specs.declared.command.ScriptFault.TheVariants as faults
 use Rattle.pm_session.specs.Script.{Sets, at_first, now_split, is_fraction, morph_reply, Deed, Replies, Ends, IsBad, NamesNoRecord, reply_to, after_split, after_collapse, after_view, command_of, deed_of, line_deed}
 use Rattle.pm_session.specs.Serving.{At, Played, is_past, is_long, stopped, done_line, play_line, played_from, played}
 use Rattle.pm_format.specs.Stream.{stream}
-use Rattle.vdpm.specs.Opening.{Opening, begins, valid}
+use Rattle.vdpm.specs.Beginning.{Beginning, begins, valid}
 use Rattle.vdpm.specs.Build.{IsBuilt}
 use Rattle.vdpm.specs.Frames.{ScriptsKeepSetsClosed, ShowsSurfaces}
 
@@ -131,7 +131,7 @@ shows_surfaces target digits (Some bytes) old new h built few firm gained = reco
   built = built;
   gained = gained;
   views = λ budget script.
-      let o : Opening = record { digits = digits; h = h; rest = script } in
+      let o : Beginning = record { digits = digits; h = h; rest = script } in
       let place : Option ℕ = Some (length (stream digits h)) in
       record { read = Ok o; place = place; is = valid o place (begins digits h script few firm.valid.shape refl) firm.valid; done = refl };
   frames = λ budget front. (firm_fronts h firm (played h budget at_first front).sets.split (scripts_closed h firm.valid budget at_first (none_closed h) front).0).manifold;

@@ -1,6 +1,6 @@
 pub mod WordLaws
 pub mod SurfaceLaws
-pub mod OpeningLaws
+pub mod BeginningLaws
 pub mod ReadingLaws
 pub mod BuildLaws
 pub mod FrameLaws

@@ -16,7 +16,7 @@ use Rattle.vdpm.specs.Outcome.{IsOutcome, done_with, Follows, OneOutcome, Replie
 use Rattle.vdpm.specs.Ending.{PutBy, ReadFails, ReadToEnd, Ends, Counts}
 use Rattle.vdpm.proofs.SurfaceLaws.{one_surface}
 use Rattle.vdpm.proofs.BuildLaws.{one_build}
-use Rattle.vdpm.proofs.OpeningLaws.{one_valid, one_hierarchy}
+use Rattle.vdpm.proofs.BeginningLaws.{one_valid, one_hierarchy}
 
 -- Bytes have one outcome.
 

@@ -26,10 +26,10 @@ use Rattle.vdpm.specs.declared.fault.CommandFail.TheVariants as fails
 use Rattle.vdpm.specs.declared.words.Asked.TheVariants as asked
 use Rattle.vdpm.specs.Input.{fail_of, IsFaulty, Stops}
 use Rattle.vdpm.specs.Ran.{Ran, line_fault, of_script, serve_fail}
-use Rattle.vdpm.specs.Opening.{Opening, IsValidOpening, valid, stream_fail, load_fail}
+use Rattle.vdpm.specs.Beginning.{Beginning, IsValidBeginning, valid, stream_fail, load_fail}
 use Rattle.vdpm.specs.Outcome.{IsOutcome, done_with, Replied, CutShort}
 use Rattle.vdpm.specs.Ending.{in_stream, in_script, ReadFails, ReadToEnd, FewMore, Ends, Counts}
-use Rattle.vdpm.proofs.OpeningLaws.{valid_place}
+use Rattle.vdpm.proofs.BeginningLaws.{valid_place}
 use Rattle.vdpm.proofs.ReadingLaws.{Begun, took_text, opened, valid_unread}
 use Rattle.vdpm.proofs.OutcomeLaws.{one_outcome, follows_refused, ends_refused}
 
@@ -39,10 +39,10 @@ moved before None taken lt = tt
 moved before (Some n) taken lt = lt n
 
 -- Bytes that don't reach the end of the stream don't reach the place of the outcome.
-view_before : (b : ℕ) (bytes : List ℕ) (taken : ℕ) (all : Ran) → ((r : Result Opening Fault) (place : Option ℕ) → IsValidOpening bytes r place → IfSome place (λ n. taken < n)) → IsOutcome (asked.View b) bytes all → IfSome all.place (λ n. taken < n)
+view_before : (b : ℕ) (bytes : List ℕ) (taken : ℕ) (all : Ran) → ((r : Result Beginning Fault) (place : Option ℕ) → IsValidBeginning bytes r place → IfSome place (λ n. taken < n)) → IsOutcome (asked.View b) bytes all → IfSome all.place (λ n. taken < n)
 view_before b bytes taken all before f = subst (λ (a : Ran). IfSome a.place (λ n. taken < n)) (sym f.done) (go f.read f.place f.is)
   where
-    go : (r : Result Opening Fault) (place : Option ℕ) → IsValidOpening bytes r place → IfSome (done_with (λ o. of_script (length (stream o.digits o.h)) (played o.h b at_first o.rest)) r place).place (λ n. taken < n)
+    go : (r : Result Beginning Fault) (place : Option ℕ) → IsValidBeginning bytes r place → IfSome (done_with (λ o. of_script (length (stream o.digits o.h)) (played o.h b at_first o.rest)) r place).place (λ n. taken < n)
     go (Err e) place is = before (Err e) place is
     go (Ok o) place is =
         let lt : taken < length (stream o.digits o.h) = subst (λ (p : Option ℕ). IfSome p (λ n. taken < n)) (valid_place bytes (Ok o) place o refl is) (before (Ok o) place is) in
@@ -59,27 +59,27 @@ stream_unread b left now got u = record {
   gained = gains_none got;
 }
   where
-    before : (left : Option (List ℕ)) → IfSome left (λ bytes. (r : Result Opening Fault) (place : Option ℕ) → IsValidOpening bytes r place → IfSome place (λ n. length u.taken < n))
+    before : (left : Option (List ℕ)) → IfSome left (λ bytes. (r : Result Beginning Fault) (place : Option ℕ) → IsValidBeginning bytes r place → IfSome place (λ n. length u.taken < n))
         → IfSome left (λ bytes. (all : Ran) → IsOutcome (asked.View b) bytes all → IfSome all.place (λ n. length u.taken < n))
     before None is = tt
     before (Some bytes) is = λ all outcome. view_before b bytes (length u.taken) all is outcome
 
 -- The stream is refused.
-view_faulty : (b : ℕ) (left got : Option (List ℕ)) (f : Fault) → IfSome left (λ bytes. IsFaulty IsValidOpening bytes f) → IfSome left (λ bytes. Replied (asked.View b) bytes (Some f) got got)
+view_faulty : (b : ℕ) (left got : Option (List ℕ)) (f : Fault) → IfSome left (λ bytes. IsFaulty IsValidBeginning bytes f) → IfSome left (λ bytes. Replied (asked.View b) bytes (Some f) got got)
 view_faulty b None got f is = tt
 view_faulty b (Some bytes) got f is =
-    ends_refused (asked.View b) (Some bytes) got f (is.place, follows_refused (IsValidOpening bytes) (λ o. of_script (length (stream o.digits o.h)) (played o.h b at_first o.rest)) f is.place is.is)
+    ends_refused (asked.View b) (Some bytes) got f (is.place, follows_refused (IsValidBeginning bytes) (λ o. of_script (length (stream o.digits o.h)) (played o.h b at_first o.rest)) f is.place is.is)
 
 -- The hierarchy isn't opened.
-pub view_load : (b : ℕ) (e : LoadFail) (left now got : Option (List ℕ)) (in_old in_new : ℕ) → Stops IsValidOpening (load_fail e) left now in_old in_new → Ends (asked.View b) (Err (fail_of (load_fail e))) left now got got
+pub view_load : (b : ℕ) (e : LoadFail) (left now got : Option (List ℕ)) (in_old in_new : ℕ) → Stops IsValidBeginning (load_fail e) left now in_old in_new → Ends (asked.View b) (Err (fail_of (load_fail e))) left now got got
 view_load b (loads.EdgeTwice f) left now got in_old in_new stops = view_faulty b left got (faults.LeafEdgeTwice f.0) stops.0
 view_load b (loads.BadNeighbour k) left now got in_old in_new stops = view_faulty b left got (faults.BadNeighbour k) stops.0
 view_load b loads.OutOfMemory left now got in_old in_new stops = refl
 
-pub view_stream : (b : ℕ) (left whole mid now got : Option (List ℕ)) (e : StreamFail) (in_old in_new : ℕ) → whole ≡ left → Reads whole mid now (Err e) → Stops IsValidOpening (stream_fail e) left now in_old in_new → Ends (asked.View b) (Err (fail_of (stream_fail e))) left now got got
+pub view_stream : (b : ℕ) (left whole mid now got : Option (List ℕ)) (e : StreamFail) (in_old in_new : ℕ) → whole ≡ left → Reads whole mid now (Err e) → Stops IsValidBeginning (stream_fail e) left now in_old in_new → Ends (asked.View b) (Err (fail_of (stream_fail e))) left now got got
 view_stream b left whole mid now got e in_old in_new same reads stops = go e (subst (λ (o : Option (List ℕ)). Reads o mid now (Err e)) same reads) stops
   where
-    go : (e : StreamFail) → Reads left mid now (Err e) → Stops IsValidOpening (stream_fail e) left now in_old in_new → Ends (asked.View b) (Err (fail_of (stream_fail e))) left now got got
+    go : (e : StreamFail) → Reads left mid now (Err e) → Stops IsValidBeginning (stream_fail e) left now in_old in_new → Ends (asked.View b) (Err (fail_of (stream_fail e))) left now got got
     go streams.Read reads stops = stream_unread b left now got reads
     go (streams.Fault format.OutOfMemory) reads stops = refl
     go (streams.Fault format.BadMagic) reads stops = view_faulty b left got (faults.Stream format.BadMagic) stops.0
@@ -96,7 +96,7 @@ view_stream b left whole mid now got e in_old in_new same reads stops = go e (su
 
 view_outcome : (b d : ℕ) (h : Hierarchy) (bytes rest : List ℕ) → Begun (Some bytes) (Some rest) d h → IsValid h → IsOutcome (asked.View b) bytes (of_script (length (stream d h)) (played h b at_first rest))
 view_outcome b d h bytes rest begun good =
-    let o : Opening = record { digits = d; h = h; rest = rest } in
+    let o : Beginning = record { digits = d; h = h; rest = rest } in
     record { read = Ok o; place = Some (length (stream d h)); is = valid o (Some (length (stream d h))) (opened bytes rest d h begun) good; done = refl }
 
 -- A read failed within the script.

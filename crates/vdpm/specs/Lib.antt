@@ -3,7 +3,7 @@ pub mod Ran
 pub mod Input
 pub mod Surface
 pub mod Build
-pub mod Opening
+pub mod Beginning
 pub mod FaultLine
 pub mod Outcome
 pub mod Frames

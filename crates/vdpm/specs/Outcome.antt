@@ -15,7 +15,7 @@ use Rattle.vdpm.specs.declared.words.Asked.TheVariants as asked
 use Rattle.vdpm.specs.declared.fault.Fault.{Fault}
 use Rattle.vdpm.specs.Surface.{IsSurface}
 use Rattle.vdpm.specs.Build.{IsBuilt}
-use Rattle.vdpm.specs.Opening.{IsValidOpening, IsHierarchyText}
+use Rattle.vdpm.specs.Beginning.{IsValidBeginning, IsHierarchyText}
 use Rattle.vdpm.specs.Ran.{Ran, refused, whole, unread, of_script}
 
 -- What a command does with what it reads, and nothing where the input is refused.
@@ -51,7 +51,7 @@ IsOutcome (asked.Canon digits) bytes all = Follows (IsSurface digits bytes) (λ 
 IsOutcome (asked.Build target digits) bytes all = Follows (IsBuilt target digits bytes) (λ h. whole (stream digits h)) all
 IsOutcome asked.Expand bytes all = Follows (IsHierarchyText bytes) (λ o. whole (canonical_text o.digits (input_mesh_of o.h))) all
 IsOutcome asked.Check bytes all = Follows (IsHierarchyText bytes) (λ o. whole (counts_line o.h)) all
-IsOutcome (asked.View budget) bytes all = Follows (IsValidOpening bytes) (λ o. of_script (length (stream o.digits o.h)) (played o.h budget at_first o.rest)) all
+IsOutcome (asked.View budget) bytes all = Follows (IsValidBeginning bytes) (λ o. of_script (length (stream o.digits o.h)) (played o.h budget at_first o.rest)) all
 IsOutcome (asked.Demo n) bytes all = Summarizes n all
 
 -- An input has one outcome: one text, one fault or none, and one place.

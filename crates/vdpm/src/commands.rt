@@ -5,7 +5,7 @@ ghost use Rattle.vdpm.specs.Ending.{Ends, Counts, ReadToEnd, FewMore};
 
 use crate::fault::CommandFail;
 use crate::line::put_counts;
-use crate::opening::read_hierarchy;
+use crate::hierarchy::read_hierarchy;
 use crate::surface::read_surface;
 use crate::words::Asked;
 use obj_write::write_obj;

@@ -3,7 +3,7 @@ ghost use Rattle.std.specs.Prelude.{◌≡◌};
 ghost use Rattle.vdpm.specs.declared.fault.InputFail.TheVariants as input;
 ghost use Rattle.vdpm.specs.declared.fault.CommandFail.TheVariants as fails;
 ghost use Rattle.vdpm.specs.Input.{fail_of};
-ghost use Rattle.vdpm.specs.Opening.{stream_fail, load_fail};
+ghost use Rattle.vdpm.specs.Beginning.{stream_fail, load_fail};
 ghost use Rattle.vdpm.specs.Ran.{serve_fail};
 
 use obj_read::ObjFault;

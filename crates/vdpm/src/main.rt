@@ -13,10 +13,10 @@ mod device_tests;
 #[cfg(test)]
 mod digits_tests;
 mod fault;
+mod hierarchy;
 mod line;
 #[cfg(test)]
 mod morph_tests;
-mod opening;
 mod outcomes;
 mod run;
 mod say;

@@ -2,7 +2,7 @@ use Rattle.std.proofs.Common.{List, [], None, refl, ◌∙◌, ap, subst}
 use Rattle.std.proofs.lemmas.Result.{err_from_is_err_and}
 use Rattle.pm_io.specs.Bytes.{Gains, GainsPart}
 use Rattle.vdpm.specs.declared.words.Asked.TheVariants as asked
-use Rattle.vdpm.specs.Opening.{IsHierarchyText}
+use Rattle.vdpm.specs.Beginning.{IsHierarchyText}
 use Rattle.vdpm.specs.Ran.{whole}
 use Rattle.vdpm.specs.Outcome.{counts_line}
 use Rattle.vdpm.proofs.OutcomeLaws.{ends_stopped, counts_stopped, ends_all, ends_part, follows_done}

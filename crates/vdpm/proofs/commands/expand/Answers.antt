@@ -5,7 +5,7 @@ use Rattle.pm_base.specs.Meshes.{Mesh}
 use Rattle.pm_base.specs.Canonical.{canonical_text}
 use Rattle.pm_forest.specs.Meshes.{input_mesh_of}
 use Rattle.vdpm.specs.declared.words.Asked.TheVariants as asked
-use Rattle.vdpm.specs.Opening.{IsHierarchyText}
+use Rattle.vdpm.specs.Beginning.{IsHierarchyText}
 use Rattle.vdpm.specs.Ran.{whole}
 use Rattle.vdpm.proofs.OutcomeLaws.{ends_stopped, counts_stopped, ends_all, ends_part, follows_done}
 use Rattle.vdpm.proofs.commands.expand.Goals as goal

@@ -3,7 +3,7 @@ use Rattle.std.proofs.lemmas.Result.{err_from_is_err_and}
 use Rattle.std.specs.Io.KnownBytes.{prepend_known}
 use Rattle.pm_io.proofs.Known.{loses_none}
 use Rattle.pm_session.specs.Session.{sets_of}
-use Rattle.vdpm.specs.Opening.{IsValidOpening, stream_fail, load_fail}
+use Rattle.vdpm.specs.Beginning.{IsValidBeginning, stream_fail, load_fail}
 use Rattle.vdpm.proofs.ReadingLaws.{begun, stream_stops, load_stops}
 use Rattle.vdpm.proofs.OutcomeLaws.{counts_stopped, no_write}
 use Rattle.vdpm.proofs.ViewLaws.{view_stream, view_load, view_done, view_to_end, view_served, view_few, view_counts}
@@ -25,7 +25,7 @@ returns-in_err-h-clause-counts g c =
     let same : prepend_known c.in_ok-taker.taker left ≡ left = ap (λ l. prepend_known l left) c.in_ok-taker.ensures ∙ sym (loses_none left) in
     let p = err_from_is_err_and c.from_residual-in_err-h.result c.from_residual-in_err-h.ensures.1 in
     rw (p.1, p.2)
-    (counts_stopped IsValidOpening (stream_fail c.in_err-h.field-0.0) left later _ _ _ (stream_stops left (prepend_known c.in_ok-taker.taker left) (prepend_known c.read_stream.new.taker later) later c.in_err-h.field-0.0 _ _ same c.in_err-h.ensures.reads c.in_err-h.ensures.counts))
+    (counts_stopped IsValidBeginning (stream_fail c.in_err-h.field-0.0) left later _ _ _ (stream_stops left (prepend_known c.in_ok-taker.taker left) (prepend_known c.read_stream.new.taker later) later c.in_err-h.field-0.0 _ _ same c.in_err-h.ensures.reads c.in_err-h.ensures.counts))
 
 pub returns-in_err-h-clause-few_more : goal.returns-in_err-h-clause-few_more
 returns-in_err-h-clause-few_more g c =
@@ -48,7 +48,7 @@ returns-in_err-session-clause-counts g c =
     let same : prepend_known c.in_ok-taker.taker left ≡ left = ap (λ l. prepend_known l left) c.in_ok-taker.ensures ∙ sym (loses_none left) in
     let p = err_from_is_err_and c.from_residual-in_err-session.result c.from_residual-in_err-session.ensures.1 in
     rw (p.1, p.2)
-    (counts_stopped IsValidOpening (load_fail c.in_err-session.field-0.0) left later _ _ _ (load_stops left (prepend_known c.read_stream.new.taker later) later c.in_ok-h.field-0.digits c.in_ok-h.field-0.h c.in_err-session.field-0.0 _ _ (begun left (prepend_known c.in_ok-taker.taker left) (prepend_known c.read_stream.new.taker later) later c.in_ok-h.field-0 same c.in_ok-h.ensures.reads) c.in_err-session.ensures.fault c.in_ok-h.ensures.counts.same))
+    (counts_stopped IsValidBeginning (load_fail c.in_err-session.field-0.0) left later _ _ _ (load_stops left (prepend_known c.read_stream.new.taker later) later c.in_ok-h.field-0.digits c.in_ok-h.field-0.h c.in_err-session.field-0.0 _ _ (begun left (prepend_known c.in_ok-taker.taker left) (prepend_known c.read_stream.new.taker later) later c.in_ok-h.field-0 same c.in_ok-h.ensures.reads) c.in_err-session.ensures.fault c.in_ok-h.ensures.counts.same))
 
 pub returns-in_err-session-clause-few_more : goal.returns-in_err-session-clause-few_more
 returns-in_err-session-clause-few_more g c =

@@ -2,7 +2,7 @@
 ghost use Rattle.std.specs.Prelude.{◌≡◌, ◌≤◌, [], None, Ok, IfOk, IfErr, IfSome, OnOk};
 ghost use Rattle.pm_io.specs.Bytes.{AtEnd};
 ghost use Rattle.vdpm.specs.Input.{Stops};
-ghost use Rattle.vdpm.specs.Opening.{IsHierarchyText};
+ghost use Rattle.vdpm.specs.Beginning.{IsHierarchyText};
 
 use crate::fault::{Fault, InputFail};
 use pm_format::{Stream, read_stream};

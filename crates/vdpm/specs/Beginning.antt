@@ -22,18 +22,18 @@ use Rattle.vdpm.specs.declared.fault.InputFail.{InputFail}
 use Rattle.vdpm.specs.declared.fault.InputFail.TheVariants as input
 
 -- A hierarchy, how many decimals its coordinates have, and the bytes that follow its stream text.
-pub record Opening : Type 0 where
+pub record Beginning : Type 0 where
   pub digits : ℕ
   pub h : Hierarchy
   pub rest : List ℕ
 
 -- A unit of the text has a fault, which the unit's last byte decides; or the text is cut off; or the bytes begin with the
 -- stream text of a hierarchy, which its last byte decides.
-pub data IsOpening (bytes : List ℕ) : Result Opening Fault → Option ℕ → Type 0 where
-  bad_unit : (e : FormatError) (n : ℕ) → stream_fault bytes ≡ Some e → IsDecidedAt bytes n → IsOpening bytes (Err (faults.Stream e)) (Some n)
-  cut_off : stream_fault bytes ≡ Some (format.Truncated (length bytes)) → IsOpening bytes (Err (faults.Stream (format.Truncated (length bytes)))) None
+pub data IsBeginning (bytes : List ℕ) : Result Beginning Fault → Option ℕ → Type 0 where
+  bad_unit : (e : FormatError) (n : ℕ) → stream_fault bytes ≡ Some e → IsDecidedAt bytes n → IsBeginning bytes (Err (faults.Stream e)) (Some n)
+  cut_off : stream_fault bytes ≡ Some (format.Truncated (length bytes)) → IsBeginning bytes (Err (faults.Stream (format.Truncated (length bytes)))) None
   begins : (digits : ℕ) (h : Hierarchy) (rest : List ℕ) → digits ≤ 4 → HasShape h → bytes ≡ stream digits h ++ rest
-      → IsOpening bytes (Ok (record { digits = digits; h = h; rest = rest })) (Some (length (stream digits h)))
+      → IsBeginning bytes (Ok (record { digits = digits; h = h; rest = rest })) (Some (length (stream digits h)))
 
 -- Want of memory is no fault of the bytes.
 abbrev pub stream_fail : StreamFail → InputFail
@@ -57,17 +57,17 @@ pub data IsHierarchyFault (h : Hierarchy) : Fault → Type 0 where
 
 -- The bytes begin with no stream text, or its hierarchy has a fault, or it is valid. The hierarchy is judged once its last
 -- byte is there.
-pub data IsValidOpening (bytes : List ℕ) : Result Opening Fault → Option ℕ → Type 0 where
-  no_stream : (f : Fault) (place : Option ℕ) → IsOpening bytes (Err f) place → IsValidOpening bytes (Err f) place
-  invalid : (o : Opening) (f : Fault) (place : Option ℕ) → IsOpening bytes (Ok o) place → IsHierarchyFault o.h f → IsValidOpening bytes (Err f) place
-  valid : (o : Opening) (place : Option ℕ) → IsOpening bytes (Ok o) place → IsValid o.h → IsValidOpening bytes (Ok o) place
+pub data IsValidBeginning (bytes : List ℕ) : Result Beginning Fault → Option ℕ → Type 0 where
+  no_stream : (f : Fault) (place : Option ℕ) → IsBeginning bytes (Err f) place → IsValidBeginning bytes (Err f) place
+  invalid : (o : Beginning) (f : Fault) (place : Option ℕ) → IsBeginning bytes (Ok o) place → IsHierarchyFault o.h f → IsValidBeginning bytes (Err f) place
+  valid : (o : Beginning) (place : Option ℕ) → IsBeginning bytes (Ok o) place → IsValid o.h → IsValidBeginning bytes (Ok o) place
 
 -- The bytes don't begin with the stream text of a valid hierarchy, or a byte follows it, or they are its text. That
 -- nothing follows is decided by the end of the bytes alone.
-pub data IsHierarchyText (bytes : List ℕ) : Result Opening Fault → Option ℕ → Type 0 where
-  no_hierarchy : (f : Fault) (place : Option ℕ) → IsValidOpening bytes (Err f) place → IsHierarchyText bytes (Err f) place
-  bytes_after : (o : Opening) (place : Option ℕ) → IsValidOpening bytes (Ok o) place → o.rest ≢ [] → IsHierarchyText bytes (Err faults.Trailing) (Some (length (stream o.digits o.h) + 1))
-  whole_text : (o : Opening) (place : Option ℕ) → IsValidOpening bytes (Ok o) place → o.rest ≡ [] → IsHierarchyText bytes (Ok o) None
+pub data IsHierarchyText (bytes : List ℕ) : Result Beginning Fault → Option ℕ → Type 0 where
+  no_hierarchy : (f : Fault) (place : Option ℕ) → IsValidBeginning bytes (Err f) place → IsHierarchyText bytes (Err f) place
+  bytes_after : (o : Beginning) (place : Option ℕ) → IsValidBeginning bytes (Ok o) place → o.rest ≢ [] → IsHierarchyText bytes (Err faults.Trailing) (Some (length (stream o.digits o.h) + 1))
+  whole_text : (o : Beginning) (place : Option ℕ) → IsValidBeginning bytes (Ok o) place → o.rest ≡ [] → IsHierarchyText bytes (Ok o) None
 
 -- Want of memory is no fault of a hierarchy.
 abbrev pub load_fail : LoadFail → InputFail
