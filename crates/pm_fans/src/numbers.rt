@@ -27,14 +27,14 @@ pub(crate) fn head_keys(
 {
     let mut keys = Vec::new(alloc);
     for side in 0..heads.len() {
-        put_head(&mut keys, faces, glued, heads, side)?;
+        push_head_key(&mut keys, faces, glued, heads, side)?;
     }
     keys.sort_unstable();
     Ok(keys)
 }
 
 // Puts the key of a side, if that is a head.
-fn put_head(
+fn push_head_key(
     keys: &mut Vec<u64>,
     faces: &[Corners],
     glued: &[Option<u32>],

@@ -71,7 +71,7 @@ pub fn no_nodes(alloc: Global, most: usize) -> Result<Vec<u32>, OutOfMemory>
 }
 
 // Puts the root's number for each of its leaves.
-fn put_leaves(owners: &mut Items<u32>, width: u32, root: u32)
+fn note_owners(owners: &mut Items<u32>, width: u32, root: u32)
     requires { width ≤ owners.old.spare }
     ensures items { owners.new.items ≡ owners.old.items ++ replicate width root }
     ensures spare { owners.new.spare + width ≡ owners.old.spare }
@@ -82,7 +82,7 @@ fn put_leaves(owners: &mut Items<u32>, width: u32, root: u32)
 }
 
 // Notes the leaves of a node, and the node of its leaf where it has but one.
-fn put_node(
+fn note_node(
     intervals: &mut Vec<(u32, u32)>,
     leaf_nodes: &mut Vec<u32>,
     node: u32,
@@ -102,7 +102,7 @@ fn put_node(
 }
 
 // Gives the record, where there is one, its left or its right face.
-fn add_face(coming: &mut Option<Record>, left: bool, face: NewFace)
+fn set_face(coming: &mut Option<Record>, left: bool, face: NewFace)
     ensures { coming.new ≡ option_map (λ r. with_new_face r left face) coming.old }
 {
     if let Some(split) = coming {
@@ -145,15 +145,15 @@ impl Growing {
     }
 
     /// Takes the next root in. It takes as many steps as the root has leaves.
-    pub fn put_root(&mut self, root: Root)
+    pub fn add_root(&mut self, root: Root)
         requires next { length self.old.h.roots < self.old.counts.roots }
         requires leaves { sum (widths_of self.old.h.roots) + root.width ≤ self.old.counts.leaves }
         ensures { self.new ≡ record self.old { h = record self.old.h { roots = self.old.h.roots ++ root ∷ [] } } }
     {
         let node = self.roots.len() as u32;
         let from = self.owners.len() as u32;
-        put_leaves(&mut self.owners, root.width, node);
-        put_node(
+        note_owners(&mut self.owners, root.width, node);
+        note_node(
             &mut self.intervals,
             &mut self.leaf_nodes,
             node,
@@ -164,7 +164,7 @@ impl Growing {
     }
 
     /// Takes the next base face in.
-    pub fn put_base(&mut self, face: Face)
+    pub fn add_base(&mut self, face: Face)
         requires roots { length self.old.h.roots ≡ self.old.counts.roots }
         requires next { length self.old.h.bases < self.old.counts.bases }
         ensures { self.new ≡ record self.old { h = record self.old.h { bases = self.old.h.bases ++ face ∷ [] } } }
@@ -175,7 +175,7 @@ impl Growing {
     }
 
     /// Takes the next record in, whose faces are still to come.
-    pub fn put_record(&mut self, split: Record)
+    pub fn add_record(&mut self, split: Record)
         requires roots { length self.old.h.roots ≡ self.old.counts.roots }
         requires bases { length self.old.h.bases ≡ self.old.counts.bases }
         requires next { record_count self.old.h < self.old.counts.records }
@@ -191,8 +191,8 @@ impl Growing {
         let first = self.roots.len() as u32 + 2 * number;
         let (from, until) = self.intervals[split.s as usize];
         let cut = from + split.width;
-        put_node(&mut self.intervals, &mut self.leaf_nodes, first, from, cut);
-        put_node(
+        note_node(&mut self.intervals, &mut self.leaf_nodes, first, from, cut);
+        note_node(
             &mut self.intervals,
             &mut self.leaf_nodes,
             first + 1,
@@ -204,7 +204,7 @@ impl Growing {
     }
 
     /// Takes the next face of the coming record in: its left face, or its right face.
-    pub fn put_face(&mut self, left: bool, face: NewFace)
+    pub fn add_face(&mut self, left: bool, face: NewFace)
         requires coming { IfSome self.old.coming (λ r. is_some (if left then r.left else r.right) ≡ false) }
         requires there { is_some self.old.coming ≡ true }
         requires in_order { IfSome self.old.coming (λ r. left ≡ true → is_some r.right ≡ false) }
@@ -214,7 +214,7 @@ impl Growing {
         let number = self.records.len() as u32;
         self.faces.put(face.face);
         self.revealed.put(Some(number));
-        add_face(&mut self.coming, left, face);
+        set_face(&mut self.coming, left, face);
     }
 
     /// Puts the coming record to the others.

@@ -116,7 +116,7 @@ impl Shaper {
             Err(fault) => Err(fault),
             Ok(root) => {
                 mark(&mut self.vertices_seen, root.input);
-                self.forest.put_root(root);
+                self.forest.add_root(root);
                 Ok(())
             }
         }
@@ -134,7 +134,7 @@ impl Shaper {
             return Err(fault);
         }
         mark(&mut self.faces_seen, f.input);
-        self.forest.put_base(f);
+        self.forest.add_base(f);
         Ok(())
     }
 
@@ -152,7 +152,7 @@ impl Shaper {
             Ok(split) => {
                 mark(&mut self.vertices_seen, split.t.input);
                 mark(&mut self.vertices_seen, split.u.input);
-                self.forest.put_record(split);
+                self.forest.add_record(split);
                 self.left_due = head.presence != 2;
                 self.right_due = head.presence != 1;
                 Ok(())
@@ -186,7 +186,7 @@ impl Shaper {
             first: neighbour(first),
             second: neighbour(second),
         };
-        self.forest.put_face(left, face);
+        self.forest.add_face(left, face);
         // After the left face the right one may still be due, and after the right one none is.
         self.left_due = false;
         self.right_due = self.right_due && left;

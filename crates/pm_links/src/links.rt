@@ -2,7 +2,7 @@
 ghost use Rattle.std.specs.Prelude.{◌≡◌, ℕ, ◌+◌, ◌<◌, ◌≤◌, ◌≢◌, length, slice_index, true, IfOk, ◌↔◌};
 ghost use Rattle.pm_links.specs.Lists.{list_of, has, after, first_of, IsHeld, IsFree, IsSound, empty_lists, with_first, with_moved, without_item};
 
-use super::rings::{cut_out, move_ring, put_after, relabel};
+use super::rings::{cut_out, move_ring, insert_after, relabel};
 use std::alloc::{AllocError, Global};
 use std::marker::Model;
 
@@ -76,7 +76,7 @@ impl Links {
         ensures sound { IsSound self.new }
     {
         let node = self.items + head;
-        put_after(&mut self.next, &mut self.prev, node, item);
+        insert_after(&mut self.next, &mut self.prev, node, item);
         self.owner[item as usize] = head;
     }
 

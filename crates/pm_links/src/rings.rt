@@ -18,7 +18,7 @@ fn link(next: &mut [u32], prev: &mut [u32], from: u32, to: u32)
 }
 
 // Puts `item` into the ring of `node`, right after it.
-pub fn put_after(next: &mut [u32], prev: &mut [u32], node: u32, item: u32)
+pub fn insert_after(next: &mut [u32], prev: &mut [u32], node: u32, item: u32)
     requires same_len { length prev.old ≡ length next.old }
     requires node_in { node < length next.old }
     requires item_in { item < length next.old }

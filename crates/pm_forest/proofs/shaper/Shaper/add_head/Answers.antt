@@ -24,8 +24,8 @@ invariant_of-self c =
     let at = expects_head s.forest.counts s.forest.h s.forest.coming s.left_due s.right_due next in
     let nodes = rw at.0 at c.self.invariant.nodes_marked in
     let marked = c.mark-in-Ok.ensures.marked _ (c.mark.ensures.marked (node_inputs s.forest.h) nodes) in
-    head_added s.forest c.put_record.new.self s.left_due s.right_due s.vertices_seen.items c.mark-in-Ok.new.flags.items s.faces_seen.items d
+    head_added s.forest c.add_record.new.self s.left_due s.right_due s.vertices_seen.items c.mark-in-Ok.new.flags.items s.faces_seen.items d
     c.self.invariant at.0 at.1 at.2 at.3 (omega arith) (omega arith) c.in-Ok.ensures.good c.in-Ok.ensures.fits
-    (rw c.in-Ok.ensures.split at c.put_record.ensures)
+    (rw c.in-Ok.ensures.split at c.add_record.ensures)
     (subst (λ r. AreMarked c.mark-in-Ok.new.flags.items ((node_inputs s.forest.h ++ r.t.input ∷ []) ++ r.u.input ∷ [])) c.in-Ok.ensures.split marked)
     (c.mark-in-Ok.ensures.len ∙ c.mark.ensures.len)

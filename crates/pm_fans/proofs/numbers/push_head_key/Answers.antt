@@ -2,7 +2,7 @@ use Rattle.std.proofs.Common.{◌≡◌, ◌+◌, ◌<◌, ◌∙◌, ℕ, List,
 use Rattle.pm_base.specs.Sides.{Net, net_of}
 use Rattle.pm_fans.specs.HeadKeys.{order_key, AreCollected}
 use Rattle.pm_fans.proofs.NumberLaws.{collected_more}
-use Rattle.pm_fans.proofs.numbers.put_head.Goals as goal
+use Rattle.pm_fans.proofs.numbers.push_head_key.Goals as goal
 
 pub returns : goal.returns
 returns c =

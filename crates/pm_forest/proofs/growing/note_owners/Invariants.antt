@@ -1,5 +1,5 @@
 use Rattle.std.proofs.Common.{◌≡◌, ◌+◌, ◌++◌, replicate}
-use Rattle.pm_forest.proofs.growing.put_leaves.Given as goal
+use Rattle.pm_forest.proofs.growing.note_owners.Given as goal
 
 abbrev pub invariant-loop-leaf : goal.invariant-loop-leaf
 invariant-loop-leaf l = record {

@@ -1,7 +1,7 @@
 use Rattle.std.proofs.Common.{sym, subst}
 use Rattle.pm_forest.proofs.GrowingLaws.{TakesFace}
 use Rattle.pm_forest.proofs.GrowthLaws.{face_fits, face_added}
-use Rattle.pm_forest.proofs.growing.Growing.put_face.Goals as goal
+use Rattle.pm_forest.proofs.growing.Growing.add_face.Goals as goal
 
 pub put-requires : goal.put-requires
 put-requires c =
@@ -35,4 +35,4 @@ invariant_of-self c =
     } in
     let seen = subst (λ v. TakesFace v c.args.left) (sym c.self.view_is) takes in
     face_added c.self.invariant c.args.left c.args.face seen _ _ _ _
-    c.add_face.ensures c.len-number.ensures c.put.ensures.items c.put.ensures.spare c.put-2.ensures.items c.put-2.ensures.spare
+    c.set_face.ensures c.len-number.ensures c.put.ensures.items c.put.ensures.spare c.put-2.ensures.items c.put-2.ensures.spare

@@ -1,6 +1,6 @@
 use Rattle.std.proofs.Common.{◌≡◌, ◌<◌, length, sym, subst}
 use Rattle.pm_forest.proofs.GrowthLaws.{base_added}
-use Rattle.pm_forest.proofs.growing.Growing.put_base.Goals as goal
+use Rattle.pm_forest.proofs.growing.Growing.add_base.Goals as goal
 
 pub invariant_of-self : goal.invariant_of-self
 invariant_of-self c =

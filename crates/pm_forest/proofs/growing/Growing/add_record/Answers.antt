@@ -2,10 +2,10 @@ use Rattle.std.proofs.Common.{◌≡◌, ◌+◌, ◌*◌, ◌∙◌, ap, length
 use Rattle.pm_forest.proofs.LeafNodes.{length-noted}
 use Rattle.pm_forest.proofs.GrowingLaws.{TakesRecord}
 use Rattle.pm_forest.proofs.GrowthLaws.{split_leaves_fit, record_added}
-use Rattle.pm_forest.proofs.growing.Growing.put_record.Goals as goal
+use Rattle.pm_forest.proofs.growing.Growing.add_record.Goals as goal
 
-pub put_node-requires-clause-leaves : goal.put_node-requires-clause-leaves
-put_node-requires-clause-leaves c =
+pub note_node-requires-clause-leaves : goal.note_node-requires-clause-leaves
+note_node-requires-clause-leaves c =
     let takes : TakesRecord c.args.self.now c.args.split = record {
       settled = c.requires.settled;
       roots = c.requires.roots;
@@ -20,8 +20,8 @@ put_node-requires-clause-leaves c =
     let seen = subst (λ v. TakesRecord v c.args.split) (sym c.self.view_is) takes in
     (split_leaves_fit c.self.invariant c.args.split seen c.index.result.now c.index.ensures).0
 
-pub put_node-requires-2-clause-leaves : goal.put_node-requires-2-clause-leaves
-put_node-requires-2-clause-leaves c =
+pub note_node-requires-2-clause-leaves : goal.note_node-requires-2-clause-leaves
+note_node-requires-2-clause-leaves c =
     let at = c.index.result.now in
     let takes : TakesRecord c.args.self.now c.args.split = record {
       settled = c.requires.settled;
@@ -37,7 +37,7 @@ put_node-requires-2-clause-leaves c =
     let seen = subst (λ v. TakesRecord v c.args.split) (sym c.self.view_is) takes in
     let fits = split_leaves_fit c.self.invariant c.args.split seen at c.index.ensures in
     let node = c.len.result + 2 * c.len-number.result in
-    let len = ap length c.put_node.ensures.leaf_nodes ∙ length-noted c.self.inside.leaf_nodes.items node at.0 (at.0 + c.args.split.width) in
+    let len = ap length c.note_node.ensures.leaf_nodes ∙ length-noted c.self.inside.leaf_nodes.items node at.0 (at.0 + c.args.split.width) in
     omega arith
 
 pub invariant_of-self : goal.invariant_of-self
@@ -58,4 +58,4 @@ invariant_of-self c =
     omega (arith, c.len.ensures, c.len-number.ensures) in
     record_added c.self.invariant c.args.split seen _ _ _ _ _ _
     c.index.result.now c.index.ensures node c.len-number.ensures
-    c.put_node.ensures.intervals c.put_node.ensures.leaf_nodes c.put_node-2.ensures.intervals c.put_node-2.ensures.leaf_nodes
+    c.note_node.ensures.intervals c.note_node.ensures.leaf_nodes c.note_node-2.ensures.intervals c.note_node-2.ensures.leaf_nodes
