@@ -23,10 +23,6 @@ length-without x (y ∷ ys) once there =
     later (inl is) other = absurd (other (eqb-true y x is))
     later (inr t) other = t
 
-pub some_members : (xs : List ℕ) (x : ℕ) → has xs x ≡ true → 0 < length xs
-some_members [] x there = absurd (false≢true there)
-some_members (y ∷ ys) x there = omega arith
-
 at_most : (xs ys : List ℕ) → IsOnce xs → IsOnce ys → ((x : ℕ) → has xs x ≡ true → has ys x ≡ true) → length xs ≤ length ys
 at_most [] ys o p within = omega arith
 at_most (x ∷ xs) ys o p within =
