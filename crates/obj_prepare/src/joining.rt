@@ -9,7 +9,7 @@ ghost use Rattle.obj_prepare.specs.Firsts.{raised as raised_of, place_key as pla
 
 use crate::OutOfMemory;
 use crate::named::named;
-use pm_base::{Corners, Point};
+use pm_base::{Corners, GREATEST_COORDINATE, Point};
 use std::alloc::Global;
 use std::collections::BTreeMap;
 
@@ -65,7 +65,7 @@ fn raised(n: i32) -> u64
     ensures value { result ≡ raised_of n }
     ensures small { result < 65536 }
 {
-    u64::from((n + 32_767).unsigned_abs())
+    u64::from((n + GREATEST_COORDINATE as i32).unsigned_abs())
 }
 
 // A place as one number.
