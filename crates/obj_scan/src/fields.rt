@@ -105,9 +105,7 @@ pub fn face_line(
             line,
         });
     }
-    if let Err(fail) = read_corners(vertices, text, line, corners) {
-        return Err(fail);
-    }
+    read_corners(vertices, text, line, corners)?;
     if faces as usize + corners.len().saturating_sub(2) > MOST_FACES as usize {
         return Err(ObjFail::Fault {
             fault: ObjFault::TooMany,

@@ -62,9 +62,7 @@ fn take_face(scan: &mut Scan, corners: &mut Vec<u32>, text: &[u8], line: u32) ->
     ensures fault { IfErr result (λ e. IsFaultOf e line (face_line (length scan.old.points.items) (length scan.old.faces.items) (fields text.now))) }
 {
     let (vertices, faces) = (scan.points.len() as u32, scan.faces.len() as u32);
-    if let Err(fail) = face_line(vertices, faces, text, line, corners) {
-        return Err(fail);
-    }
+    face_line(vertices, faces, text, line, corners)?;
     scan.polygons = polygons_after(scan.polygons, corners);
     match push_polygon(&scan.points, &mut scan.faces, corners) {
         Ok(()) => Ok(()),

@@ -60,9 +60,7 @@ pub fn step<S: Source>(
             line: progress.number,
         }),
         LineState::Whole | LineState::Continued => {
-            if let Err(fail) = scanner.take_line(lines.line(), progress.number) {
-                return Err(fail);
-            }
+            scanner.take_line(lines.line(), progress.number)?;
             progress.start = progress.taken;
             progress.number += 1;
             Ok(true)

@@ -1,5 +1,6 @@
 use Rattle.std.proofs.Common.{◌≡◌, ◌+◌, ◌≤◌, length, take, sym, ◌∙◌, ap, refl, arith, length-take-le}
 use Rattle.std.proofs.lemmas.Bool.Decides.{nat_tests}
+use Rattle.std.proofs.lemmas.Result.{err_from_is_err_and}
 use Rattle.obj_lines.specs.Feeding.{is_line}
 use Rattle.obj_lines.proofs.FedLaws.{whole}
 use Rattle.obj_scan.proofs.StepLaws.{failed, past, long, partial_ready, partial_stands, whole_ready, whole_stands, line_refused}
@@ -16,12 +17,13 @@ returns-then-room-eq0-clause-err g c = λ all stands.
 pub line-requires : goal.line-requires
 line-requires g c = ap (λ x. is_line x.state) c.feed-fed.ensures.value ∙ (whole _ _ _ c.feed-fed.ensures.state c.in-Whole.is).line
 
-pub returns-in-Err-take_line-clause-err : goal.returns-in-Err-take_line-clause-err
-returns-in-Err-take_line-clause-err g c = λ all stands.
+pub returns-in_err-take_line-in-Whole-clause-err : goal.returns-in_err-take_line-in-Whole-clause-err
+returns-in_err-take_line-in-Whole-clause-err g c =
+    let p = err_from_is_err_and c.from_residual.result c.from_residual.ensures.1 in
     let le : c.min.result ≤ length c.in-Ok.piece.now = omega (arith, c.min.ensures) in
     let most : c.args.progress.now.taken + c.min.result ≤ 1073741824 = omega (arith, c.min.ensures, c.requires.ready.room) in
-    line_refused all _ _ _ c.in-Ok.piece.now _ c.min.result _ _ c.args.progress.now _ _ _ c.in-Err-take_line.fail stands c.in-Ok.ensures.ok
-    c.feed-fed.ensures.state c.in-Whole.is c.feed-fed.ensures.value c.feed-fed.ensures.used le c.requires.ready.clean c.requires.ready.at most c.line.ensures c.in-Err-take_line.ensures.fault
+    rw (p.1, p.2) (λ all stands. line_refused all _ _ _ c.in-Ok.piece.now _ c.min.result _ _ c.args.progress.now _ _ _ c.in_err-take_line-in-Whole.field-0.0 stands c.in-Ok.ensures.ok
+    c.feed-fed.ensures.state c.in-Whole.is c.feed-fed.ensures.value c.feed-fed.ensures.used le c.requires.ready.clean c.requires.ready.at most c.line.ensures c.in_err-take_line-in-Whole.ensures.fault)
 
 pub returns-in-Partial-clause-ready : goal.returns-in-Partial-clause-ready
 returns-in-Partial-clause-ready g c =
@@ -44,18 +46,18 @@ returns-in-TooLong-clause-err g c = λ all stands.
     let most : c.args.progress.now.taken + c.min.result ≤ 1073741824 = omega (arith, c.min.ensures, c.requires.ready.room) in
     long all _ _ c.in-Ok.piece.now c.min.result _ c.args.lines.now stands c.in-Ok.ensures.ok (sym c.feed-fed.ensures.state ∙ c.in-TooLong.is) c.requires.ready.clean le (omega (arith, most, c.requires.ready.at))
 
-pub returns-in_default-clause-ready : goal.returns-in_default-clause-ready
-returns-in_default-clause-ready g c =
+pub returns-in_ok-take_line-in-Whole-clause-ready : goal.returns-in_ok-take_line-in-Whole-clause-ready
+returns-in_ok-take_line-in-Whole-clause-ready g c =
     let le : c.min.result ≤ length c.in-Ok.piece.now = omega (arith, c.min.ensures) in
     let most : c.args.progress.now.taken + c.min.result ≤ 1073741824 = omega (arith, c.min.ensures, c.requires.ready.room) in
     let all : length (take c.min.result c.in-Ok.piece.now) ≡ c.min.result = length-take-le c.min.result c.in-Ok.piece.now le in
     whole_ready c.args.lines.now _ (take c.min.result c.in-Ok.piece.now) _ _ _ c.args.progress.now _ _ c.requires.ready c.feed-fed.ensures.state c.in-Whole.is
-    c.feed-fed.ensures.value c.feed-fed.ensures.used (omega arith) c.in_default.ensures.scanning c.in_default.ensures.continued refl refl refl
+    c.feed-fed.ensures.value c.feed-fed.ensures.used (omega arith) c.in_ok-take_line-in-Whole.ensures.scanning c.in_ok-take_line-in-Whole.ensures.continued refl refl refl
 
-pub returns-in_default-clause-reads_on : goal.returns-in_default-clause-reads_on
-returns-in_default-clause-reads_on g c = λ all stands.
+pub returns-in_ok-take_line-in-Whole-clause-reads_on : goal.returns-in_ok-take_line-in-Whole-clause-reads_on
+returns-in_ok-take_line-in-Whole-clause-reads_on g c = λ all stands.
     let window : c.piece.follows.lender-at-none ≡ c.in-Ok.piece.now = rw c.in-Ok.is at (c.piece.follows.holds-at-none.0) in
     let le : c.min.result ≤ length c.in-Ok.piece.now = omega (arith, c.min.ensures) in
     let most : c.args.progress.now.taken + c.min.result ≤ 1073741824 = omega (arith, c.min.ensures, c.requires.ready.room) in
     whole_stands all _ _ c.in-Ok.piece.now _ _ _ c.min.result _ _ _ c.args.progress.now _ _ c.args.lines.now _ _ stands c.in-Ok.ensures.ok c.feed-fed.ensures.state c.in-Whole.is
-    c.feed-fed.ensures.value c.feed-fed.ensures.used le c.eat.ensures window c.requires.ready.clean c.requires.ready.at most c.line.ensures c.in_default.ensures.ok refl refl
+    c.feed-fed.ensures.value c.feed-fed.ensures.used le c.eat.ensures window c.requires.ready.clean c.requires.ready.at most c.line.ensures c.in_ok-take_line-in-Whole.ensures.ok refl refl
