@@ -2,7 +2,7 @@
 ghost use Rattle.std.specs.Prelude.{◌≡◌, ℕ, ◌+◌, ◌<◌, ◌≤◌, ◌≢◌, length, slice_index, true, IfOk, ◌↔◌};
 ghost use Rattle.pm_links.specs.Lists.{list_of, has, after, first_of, IsHeld, IsFree, IsSound, empty_lists, with_first, with_moved, without_item};
 
-use super::rings::{cut_out, move_ring, insert_after, relabel};
+use super::rings::{cut_out, insert_after, move_ring, relabel};
 use std::alloc::{AllocError, Global};
 use std::marker::Model;
 

@@ -4,8 +4,8 @@ ghost use Rattle.pm_io.specs.Bytes.{AtEnd};
 ghost use Rattle.vdpm.specs.Ending.{Ends, Counts, ReadToEnd, FewMore};
 
 use crate::fault::CommandFail;
-use crate::line::put_counts;
 use crate::hierarchy::read_hierarchy;
+use crate::line::put_counts;
 use crate::surface::read_surface;
 use crate::words::Asked;
 use obj_write::write_obj;
