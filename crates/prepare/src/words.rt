@@ -4,6 +4,7 @@ ghost use Rattle.std.specs.String.{string_bytes};
 ghost use Rattle.obj_prepare.specs.Placing.{IsSize};
 ghost use Rattle.prepare.specs.Words.{asked_of};
 
+use pm_base::GREATEST_COORDINATE;
 use pm_io::read_unsigned;
 
 /// What the words ask for.
@@ -21,7 +22,7 @@ pub fn read_words(words: &[String]) -> Option<Asked>
 {
     match words {
         [] => Some(Asked { size: None }),
-        [word] => match read_unsigned(word.as_bytes(), 32_767) {
+        [word] => match read_unsigned(word.as_bytes(), GREATEST_COORDINATE) {
             Some(n) if n != 0 => Some(Asked { size: Some(n) }),
             _ => None,
         },
