@@ -154,12 +154,8 @@ fn put_record<K: Sink>(split: &Record, page: &mut Page, out: &mut K) -> Result<(
     requires right { AreWords (new_face_words split.now.right) }
     ensures { PutsThrough K.Sink out.old out.new page.old page.new (spelled (record_words split.now)) result }
 {
-    if let Err(fault) = put_head(split, page, out) {
-        return Err(fault);
-    }
-    if let Err(fault) = put_new_face(split.left, page, out) {
-        return Err(fault);
-    }
+    put_head(split, page, out)?;
+    put_new_face(split.left, page, out)?;
     put_new_face(split.right, page, out)
 }
 
@@ -168,9 +164,7 @@ fn put_roots<K: Sink>(h: &Hierarchy, page: &mut Page, out: &mut K) -> Result<(),
         PutsThrough K.Sink out.old out.new page.old page.new text result }
 {
     for i in 0..h.roots() {
-        if let Err(fault) = put_words(&root_words(&h.root_at(i)), page, out) {
-            return Err(fault);
-        }
+        put_words(&root_words(&h.root_at(i)), page, out)?;
     }
     Ok(())
 }
@@ -180,9 +174,7 @@ fn put_bases<K: Sink>(h: &Hierarchy, page: &mut Page, out: &mut K) -> Result<(),
         PutsThrough K.Sink out.old out.new page.old page.new text result }
 {
     for i in 0..h.bases() {
-        if let Err(fault) = put_words(&base_words(&h.base_at(i)), page, out) {
-            return Err(fault);
-        }
+        put_words(&base_words(&h.base_at(i)), page, out)?;
     }
     Ok(())
 }
@@ -193,9 +185,7 @@ fn put_records<K: Sink>(h: &Hierarchy, page: &mut Page, out: &mut K) -> Result<(
 {
     h.invariant();
     for k in 0..h.records() {
-        if let Err(fault) = put_record(h.record_at(k), page, out) {
-            return Err(fault);
-        }
+        put_record(h.record_at(k), page, out)?;
     }
     Ok(())
 }
@@ -208,20 +198,10 @@ pub fn encode<K: Sink>(h: &Hierarchy, digits: u32, out: &mut K) -> Result<(), Wr
     ensures { Puts K.Sink out.old out.new (stream digits h.now) result }
 {
     let mut page = Page::new();
-    if let Err(fault) = put_header(h, digits, &mut page, out) {
-        return Err(fault);
-    }
-    if let Err(fault) = put_roots(h, &mut page, out) {
-        return Err(fault);
-    }
-    if let Err(fault) = put_bases(h, &mut page, out) {
-        return Err(fault);
-    }
-    if let Err(fault) = put_records(h, &mut page, out) {
-        return Err(fault);
-    }
-    if let Err(fault) = page.flush(out) {
-        return Err(fault);
-    }
+    put_header(h, digits, &mut page, out)?;
+    put_roots(h, &mut page, out)?;
+    put_bases(h, &mut page, out)?;
+    put_records(h, &mut page, out)?;
+    page.flush(out)?;
     Ok(())
 }
