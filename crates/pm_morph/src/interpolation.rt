@@ -2,13 +2,15 @@
 ghost use Rattle.std.specs.Prelude.{◌≡◌, ◌<◌, ◌≤◌, ◌*◌, pos, ◌+ℤ◌, ◌*ℤ◌, unsigned_abs};
 ghost use Rattle.std.specs.Int.{int_div_euclid};
 ghost use Rattle.pm_morph.specs.Interpolation.{interpolated, place_between};
+ghost use Rattle.pm_base.specs.declared.limits.TheConstants.{GREATEST_COORDINATE};
+ghost use Rattle.pm_morph.specs.declared.limits.TheConstants.{MOST_PARTS};
 
 use pm_base::Point;
 
 // A coordinate times its weight.
 fn weighed(weight: u32, coordinate: i32) -> i64
-    requires most { weight ≤ 65535 }
-    requires small { unsigned_abs coordinate ≤ 32767 }
+    requires most { weight ≤ MOST_PARTS }
+    requires small { unsigned_abs coordinate ≤ GREATEST_COORDINATE }
     ensures value { result ≡ pos weight *ℤ coordinate }
     ensures small { unsigned_abs result ≤ 2147385345 }
 {
@@ -28,10 +30,10 @@ fn sum_of(x: i64, y: i64) -> i64
 #[tactic(auto, using(crate::proofs::InterpolationLaws::part_small))]
 fn part_of(sum: i64, b: u32) -> i32
     requires some { 0 < b }
-    requires most { b ≤ 65535 }
-    requires small { unsigned_abs sum ≤ b * 32767 }
+    requires most { b ≤ MOST_PARTS }
+    requires small { unsigned_abs sum ≤ b * GREATEST_COORDINATE }
     ensures value { result ≡ int_div_euclid sum (pos b) }
-    ensures small { unsigned_abs result ≤ 32767 }
+    ensures small { unsigned_abs result ≤ GREATEST_COORDINATE }
 {
     sum.div_euclid(i64::from(b)) as i32
 }
@@ -40,12 +42,12 @@ fn part_of(sum: i64, b: u32) -> i32
 #[tactic(auto, using(crate::proofs::InterpolationLaws::way_small))]
 fn interpolated(a: u32, b: u32, elder: i32, own: i32) -> i32
     requires some { 0 < b }
-    requires most { b ≤ 65535 }
+    requires most { b ≤ MOST_PARTS }
     requires within { a ≤ b }
-    requires elder_small { unsigned_abs elder ≤ 32767 }
-    requires own_small { unsigned_abs own ≤ 32767 }
+    requires elder_small { unsigned_abs elder ≤ GREATEST_COORDINATE }
+    requires own_small { unsigned_abs own ≤ GREATEST_COORDINATE }
     ensures value { result ≡ interpolated a b elder own }
-    ensures small { unsigned_abs result ≤ 32767 }
+    ensures small { unsigned_abs result ≤ GREATEST_COORDINATE }
 {
     part_of(sum_of(weighed(b - a, elder), weighed(a, own)), b)
 }
@@ -53,7 +55,7 @@ fn interpolated(a: u32, b: u32, elder: i32, own: i32) -> i32
 /// The place at a/b of the way from the elder's place to the node's own, with each coordinate rounded down.
 pub(crate) fn place_between(a: u32, b: u32, elder: &Point, own: &Point) -> Point
     requires some { 0 < b }
-    requires most { b ≤ 65535 }
+    requires most { b ≤ MOST_PARTS }
     requires within { a ≤ b }
     ensures { result ≡ place_between a b elder.now own.now }
 {

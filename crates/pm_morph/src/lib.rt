@@ -5,10 +5,12 @@
 mod elder;
 mod finer;
 mod interpolation;
+mod limits;
 mod marker;
 mod text;
 mod theory;
 
+pub use limits::MOST_PARTS;
 pub use marker::{Marker, MorphFail};
 pub use theory::geomorphs_are_sound;
 

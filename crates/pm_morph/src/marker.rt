@@ -5,6 +5,7 @@ ghost use Rattle.pm_forest.specs.Fronts.{set_of, no_records};
 ghost use Rattle.pm_morph.specs.Elders.{unsplit_of};
 ghost use Rattle.pm_morph.specs.Marks.{AreMarksOf, MorphEnds, MorphCounts};
 ghost use Rattle.pm_morph.specs.Texts.{morph_text};
+ghost use Rattle.pm_morph.specs.declared.limits.TheConstants.{MOST_PARTS};
 
 use crate::OutOfMemory;
 use crate::finer::first_unsplit;
@@ -60,7 +61,7 @@ fn write_from<K: Sink>(
 ) -> Result<(), MorphFail>
     requires made { AreMarksOf front.now.h marks.now }
     requires some { 0 < b }
-    requires most { b ≤ 65535 }
+    requires most { b ≤ MOST_PARTS }
     requires within { a ≤ b }
     ensures ends { let S = set_of front.now.flags in let T = set_of marks.now in
         MorphEnds (unsplit_of front.now.h T S) (morph_text front.now.h T S a b) result (K.got out.old) (K.got out.new) }
@@ -121,7 +122,7 @@ impl Marker {
     ) -> Result<(), MorphFail>
         requires made { AreMarksOf front.now.h self.old }
         requires some { 0 < b }
-        requires most { b ≤ 65535 }
+        requires most { b ≤ MOST_PARTS }
         requires within { a ≤ b }
         ensures ends { let S = set_of front.now.flags in let T = set_of self.old in
             MorphEnds (unsplit_of front.now.h T S) (morph_text front.now.h T S a b) result (K.got out.old) (K.got out.new) }

@@ -6,6 +6,7 @@ ghost use Rattle.pm_forest.specs.Fronts.{set_of, is_active};
 ghost use Rattle.pm_morph.specs.Elders.{IsPart};
 ghost use Rattle.pm_morph.specs.Marks.{AreMarksOf};
 ghost use Rattle.pm_morph.specs.Texts.{morph_line, first_line, moved_node, moved_lines, morph_text};
+ghost use Rattle.pm_morph.specs.declared.limits.TheConstants.{MOST_PARTS};
 
 use crate::elder::elder;
 use crate::interpolation::place_between;
@@ -53,7 +54,7 @@ fn put_moved(front: &Front, marks: &[bool], a: u32, b: u32, line: &mut Line, nod
     requires marks { AreMarksOf front.now.h marks.now }
     requires part { IsPart front.now.h (set_of marks.now) (set_of front.now.flags) }
     requires some { 0 < b }
-    requires most { b ≤ 65535 }
+    requires most { b ≤ MOST_PARTS }
     requires within { a ≤ b }
     requires there { node.0 < node_count front.now.h }
     requires active { is_active front.now.h (set_of front.now.flags) node.0 ≡ true }
@@ -76,7 +77,7 @@ fn put_nodes<K: Sink>(
     requires marks { AreMarksOf front.now.h marks.now }
     requires part { IsPart front.now.h (set_of marks.now) (set_of front.now.flags) }
     requires some { 0 < b }
-    requires most { b ≤ 65535 }
+    requires most { b ≤ MOST_PARTS }
     requires within { a ≤ b }
     ensures { let text = moved_lines front.now.h (set_of marks.now) (set_of front.now.flags) a b in
         PutsThrough K.Sink out.old out.new page.old page.new text result }
@@ -105,7 +106,7 @@ pub(crate) fn write_text<K: Sink>(
     requires marks { AreMarksOf front.now.h marks.now }
     requires part { IsPart front.now.h (set_of marks.now) (set_of front.now.flags) }
     requires some { 0 < b }
-    requires most { b ≤ 65535 }
+    requires most { b ≤ MOST_PARTS }
     requires within { a ≤ b }
     ensures { let text = morph_text front.now.h (set_of marks.now) (set_of front.now.flags) a b in
         Puts K.Sink out.old out.new text result }

@@ -11,6 +11,7 @@ use Rattle.pm_beyond.specs.declared.moves.MoveFault.TheVariants as moves
 use Rattle.pm_beyond.specs.Moves.{split_fault, collapse_fault}
 use Rattle.pm_beyond.specs.Plans.{moved_by}
 use Rattle.pm_frame.specs.Frame.{frame_text}
+use Rattle.pm_morph.specs.declared.limits.TheConstants.{MOST_PARTS}
 use Rattle.pm_morph.specs.Elders.{unsplit_of}
 use Rattle.pm_morph.specs.Texts.{morph_text}
 use Rattle.pm_view.specs.Views.{View}
@@ -155,9 +156,9 @@ pub record Sets : Type 0 where
 abbrev pub at_first : Sets
 at_first = record { split = no_records; marked = no_records }
 
--- A/B is a fraction of the way: B is from 1 to 65,535, and A at most B.
+-- A/B is a fraction of the way: B is from 1 to MOST_PARTS, and A at most B.
 unfoldable pub is_fraction : ℕ → ℕ → Bool
-is_fraction a b = nat_le 1 b && nat_le b 65535 && nat_le a b
+is_fraction a b = nat_le 1 b && nat_le b MOST_PARTS && nat_le a b
 
 -- `not finer K`
 unfoldable pub not_finer : ℕ → List ℕ

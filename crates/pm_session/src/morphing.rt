@@ -9,14 +9,14 @@ ghost use Rattle.pm_session.specs.Script.{is_fraction, not_finer, morph_reply};
 
 use pm_front::Front;
 use pm_io::{Line, Sink, WriteFault, put_all};
-use pm_morph::{Marker, MorphFail};
+use pm_morph::{MOST_PARTS, Marker, MorphFail};
 
 /// Whether a/b is a fraction of the way from the marked front to the one that is shown.
 #[tactic(auto, unfolding(crate::specs::Script::is_fraction))]
 pub(crate) fn is_fraction(a: u32, b: u32) -> bool
     ensures { result ≡ is_fraction a b }
 {
-    1 <= b && b <= 65_535 && a <= b
+    1 <= b && b <= MOST_PARTS && a <= b
 }
 
 // The line that replies to `g` where a marked record isn't split.
