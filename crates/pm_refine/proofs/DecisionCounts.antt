@@ -4,7 +4,6 @@ use Rattle.std.proofs.lemmas.Bool.{cases_Bool, both_ways, and_parts, and_from, o
 use Rattle.pm_base.specs.Counts.{count, one_if}
 use Rattle.pm_base.proofs.Counts.{count_more}
 use Rattle.pm_refine.proofs.CountLaws.{count_apart}
-use Rattle.pm_queue.specs.Entries.{Entries}
 use Rattle.pm_forest.specs.Forest.{Hierarchy, record_count, s_of}
 use Rattle.pm_forest.specs.Fronts.{set_of}
 use Rattle.pm_forest.specs.Rules.{HasShape}
@@ -21,9 +20,9 @@ use Rattle.pm_refine.proofs.DecidingLaws.{stays_is}
 
 module _ (h : Hierarchy) (shape : HasShape h) (wanted S : ℕ → Bool) (closed : IsClosed h S) where
   -- A test is made of a record that isn't needed any more; either it wasn't free before, or it goes.
-  pub tested : (k : ℕ) (marks gone : List Bool) (work moves : Entries) → IsNext h wanted S k marks gone work moves → S k ≡ true → set_of marks k ≡ false → is_needed h (remaining S (set_of gone)) k ≡ false →
+  pub tested : (k : ℕ) (marks work rises falls : List Bool) → IsNext h wanted S k marks work rises falls → S k ≡ true → set_of marks k ≡ false → is_needed h (remaining S (set_of falls)) k ≡ false →
       1 ≤ one_if (S k && not (is_free h S k)) + one_if (differs S (target_of h wanted) k)
-  tested k marks gone work moves n s m f =
+  tested k marks work rises falls n s m f =
       elim (cases_Bool (is_free h S k)) [
         | inr t ↦ (let a = ap one_if (and_from (S k) (not (is_free h S k)) s (not_from_false (is_free h S k) t)) in omega arith)
         | inl t ↦
@@ -33,8 +32,8 @@ module _ (h : Hierarchy) (shape : HasShape h) (wanted S : ℕ → Bool) (closed 
                   elim u [
                     | inl v ↦ absurd (both_ways _ v t)
                     | inr v ↦
-                        let x = is_needed h (remaining S (set_of gone)) k in
-                        let none : target_of h wanted k ≡ false = sym (stays_is h shape wanted S closed k marks gone work moves n)
+                        let x = is_needed h (remaining S (set_of falls)) k in
+                        let none : target_of h wanted k ≡ false = sym (stays_is h shape wanted S closed k marks work rises falls n)
                         ∙ or_from (not (S k)) (set_of marks k || (x || wanted (s_of h k))) (not_from_true (S k) s) (or_from (set_of marks k) (x || wanted (s_of h k)) m (or_from x (wanted (s_of h k)) f v)) in
                         let a = ap one_if (or_left (less S (target_of h wanted) k) (less (target_of h wanted) S k) (and_from (S k) (not (target_of h wanted k)) s (not_from_false (target_of h wanted k) none))) in
                         omega arith
@@ -58,16 +57,16 @@ module _ (h : Hierarchy) (shape : HasShape h) (wanted S : ℕ → Bool) (closed 
       (λ j t u. both_ways _ (not-true (is_free h S j) (and_parts (S j) (not (is_free h S j)) u).1) t)
 
   -- The tests of a record are paid for.
-  pub paid : (k : ℕ) (marks gone : List Bool) (work moves : Entries) → IsNext h wanted S k marks gone work moves →
-      one_if (S k && (not (set_of marks k) && not (is_needed h (remaining S (set_of gone)) k))) ≤ one_if (S k && not (is_free h S k)) + one_if (differs S (target_of h wanted) k)
-  paid k marks gone work moves n =
-      let x = S k && (not (set_of marks k) && not (is_needed h (remaining S (set_of gone)) k)) in
+  pub paid : (k : ℕ) (marks work rises falls : List Bool) → IsNext h wanted S k marks work rises falls →
+      one_if (S k && (not (set_of marks k) && not (is_needed h (remaining S (set_of falls)) k))) ≤ one_if (S k && not (is_free h S k)) + one_if (differs S (target_of h wanted) k)
+  paid k marks work rises falls n =
+      let x = S k && (not (set_of marks k) && not (is_needed h (remaining S (set_of falls)) k)) in
       elim (cases_Bool x) [
         | inr f ↦ (let a = ap one_if f in omega arith)
         | inl t ↦
-            let p = and_parts (S k) (not (set_of marks k) && not (is_needed h (remaining S (set_of gone)) k)) t in
-            let q = and_parts (not (set_of marks k)) (not (is_needed h (remaining S (set_of gone)) k)) p.1 in
+            let p = and_parts (S k) (not (set_of marks k) && not (is_needed h (remaining S (set_of falls)) k)) t in
+            let q = and_parts (not (set_of marks k)) (not (is_needed h (remaining S (set_of falls)) k)) p.1 in
             let a = ap one_if t in
-            let b = tested k marks gone work moves n p.0 (not-true (set_of marks k) q.0) (not-true (is_needed h (remaining S (set_of gone)) k) q.1) in
+            let b = tested k marks work rises falls n p.0 (not-true (set_of marks k) q.0) (not-true (is_needed h (remaining S (set_of falls)) k) q.1) in
             omega arith
       ]

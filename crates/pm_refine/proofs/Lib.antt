@@ -1,6 +1,6 @@
 pub mod MarkLaws
 pub mod AnswerLaws
-pub mod QueueLaws
+pub mod SetLaws
 pub mod CountLaws
 pub mod NeedLaws
 pub mod FindingLaws

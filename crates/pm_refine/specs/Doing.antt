@@ -1,17 +1,20 @@
--- The moves of a plan, taken from a queue.
-use Rattle.std.specs.Prelude.{◌≡◌, ℕ, Bool, cond, take}
-use Rattle.pm_queue.specs.Entries.{Entries}
-use Rattle.pm_forest.specs.Forest.{Hierarchy, record_count}
-use Rattle.pm_beyond.specs.Plans.{Move, Split, Collapse, moved_by, AreLegal, plan}
-use Rattle.pm_refine.specs.Queued.{HoldsMoves}
+-- The moves of a plan, taken from the sets of their records.
+use Rattle.std.specs.Prelude.{◌≡◌, ℕ, Bool, List, length}
+use Rattle.pm_forest.specs.Forest.{Hierarchy}
+use Rattle.pm_forest.specs.Fronts.{set_of}
+use Rattle.pm_beyond.specs.Plans.{Move, Split, Collapse, moved_by, AreLegal, ascending, descending}
+use Rattle.pm_front.specs.Corners.{corner_lists_after}
 
--- The move of record k from T.
-abbrev pub move_of : (ℕ → Bool) → ℕ → Move
-move_of T k = cond (T k) (Collapse k) (Split k)
+-- The splits of the records of a set, ascending.
+abbrev pub splits_of : List Bool → List Move
+splits_of rises = ascending Split (set_of rises) (length rises)
 
--- The queue has the plan from T to G; the first `left` moves of it lead to where the first `budget`
--- moves of the plan from S lead.
-pub record AreToDo (h : Hierarchy) (S G : ℕ → Bool) (budget left : ℕ) (T : ℕ → Bool) (m : Entries) : Type 0 where
-  pub moves : HoldsMoves (record_count h) T G 0 m
-  pub ends : moved_by T (take left (plan h T G)) ≡ moved_by S (take budget (plan h S G))
-  pub legal : AreLegal h T (plan h T G)
+-- The collapses of the records of a set, descending.
+abbrev pub collapses_of : List Bool → List Move
+collapses_of falls = descending Collapse (set_of falls) (length falls)
+
+-- The moves are legal, and lead from a set of records and its corner lists to another one and its own.
+pub record AreToDo (h : Hierarchy) (T end : ℕ → Bool) (now then : List (List ℕ)) (ms : List Move) : Type 0 where
+  pub legal : AreLegal h T ms
+  pub ends : moved_by T ms ≡ end
+  pub corners : corner_lists_after h T ms now ≡ then

@@ -1,7 +1,7 @@
 pub mod Marks
 pub mod Adapting
 pub mod Needed
-pub mod Queued
+pub mod Holding
 pub mod Finding
 pub mod Deciding
 pub mod Doing

@@ -1,71 +1,98 @@
 //! The first moves of a plan are made.
-ghost use Rattle.std.specs.Prelude.{ℕ, ◌≡◌, ◌<◌, true, length, take};
+ghost use Rattle.std.specs.Prelude.{◌≡◌, ◌-◌, length, take};
+ghost use Rattle.pm_sets.specs.Sets.{IsEmptySet};
 ghost use Rattle.pm_forest.specs.Forest.{record_count};
-ghost use Rattle.pm_forest.specs.Fronts.{set_of, with, without};
-ghost use Rattle.pm_beyond.specs.Moves.{MaySplit, MayCollapse, IsClosed};
-ghost use Rattle.pm_beyond.specs.Plans.{moved, moved_by, MayMove};
-ghost use Rattle.pm_front.specs.Corners.{moved_lists, corner_lists_after};
-ghost use Rattle.pm_refine.specs.Queued.{held, HoldsMoves};
-ghost use Rattle.pm_refine.specs.Doing.{move_of};
+ghost use Rattle.pm_forest.specs.Fronts.{set_of};
+ghost use Rattle.pm_beyond.specs.Moves.{IsClosed};
+ghost use Rattle.pm_beyond.specs.Plans.{moved_by, AreLegal};
+ghost use Rattle.pm_front.specs.Corners.{corner_lists_after};
+ghost use Rattle.pm_refine.specs.Holding.{HoldsMoves};
+ghost use Rattle.pm_refine.specs.Doing.{splits_of, collapses_of};
 ghost use Rattle.pm_refine.specs.Adapting.{view_target, view_plan, adapted_of};
 
 use crate::Adapted;
 use pm_front::Front;
-use pm_queue::Queue;
+use pm_sets::NumberSet;
 use pm_view::View;
 
-// Makes the move of a record.
-fn make_move(front: &mut Front, k: u32)
-    requires record { k < record_count front.old.h }
-    requires legal { MayMove front.old.h (set_of front.old.flags) (move_of (set_of front.old.flags) k) }
+// Splits the first `budget` records of a set, in ascending order, and answers what is left of the
+// budget.
+fn split_first(front: &mut Front, rises: &mut NumberSet, budget: u32) -> u32
+    requires rises { length rises.old ≡ record_count front.old.h }
+    requires legal { AreLegal front.old.h (set_of front.old.flags) (take budget (splits_of rises.old)) }
     ensures hierarchy { front.new.h ≡ front.old.h }
-    ensures done { let S = set_of front.old.flags in set_of front.new.flags ≡ moved S (move_of S k) }
-    ensures corners { let S = set_of front.old.flags in
-        front.new.corners ≡ moved_lists front.old.h S (move_of S k) front.old.corners }
+    ensures len { length rises.new ≡ length rises.old }
+    ensures left { result ≡ budget - length (splits_of rises.old) }
+    ensures moved { set_of front.new.flags ≡ moved_by (set_of front.old.flags) (take budget (splits_of rises.old)) }
+    ensures corners { front.new.corners ≡ corner_lists_after front.old.h (set_of front.old.flags)
+        (take budget (splits_of rises.old)) front.old.corners }
 {
-    if front.is_split(k) {
-        front.collapse_legal(k);
-    } else {
+    let mut left = budget;
+    while left > 0 {
+        let Some(k) = rises.take_first() else {
+            return left;
+        };
         front.split_legal(k);
+        left -= 1;
+    }
+    left
+}
+
+// Collapses the last `budget` records of a set, in descending order.
+fn collapse_last(front: &mut Front, falls: &mut NumberSet, budget: u32)
+    requires falls { length falls.old ≡ record_count front.old.h }
+    requires legal { AreLegal front.old.h (set_of front.old.flags) (take budget (collapses_of falls.old)) }
+    ensures hierarchy { front.new.h ≡ front.old.h }
+    ensures len { length falls.new ≡ length falls.old }
+    ensures moved { set_of front.new.flags ≡ moved_by (set_of front.old.flags) (take budget (collapses_of falls.old)) }
+    ensures corners { front.new.corners ≡ corner_lists_after front.old.h (set_of front.old.flags)
+        (take budget (collapses_of falls.old)) front.old.corners }
+{
+    let mut left = budget;
+    while left > 0 {
+        let Some(k) = falls.take_last() else {
+            return;
+        };
+        front.collapse_legal(k);
+        left -= 1;
     }
 }
 
-/// Makes the first `budget` moves of the plan of a view, which the queue holds. The flags of those that are made are
-/// cleared.
+// Takes all numbers out of a set.
+fn clear(numbers: &mut NumberSet)
+    ensures len { length numbers.new ≡ length numbers.old }
+    ensures empty { IsEmptySet numbers.new }
+{
+    while let Some(_k) = numbers.take_first() {}
+}
+
+/// Makes the first `budget` moves of the plan of a view: the splits of the records of one set, and
+/// then the collapses of those of the other. It empties both.
 pub(crate) fn advance(
     front: &mut Front,
     _view: &View,
-    moves: &mut Queue,
-    gone: &mut Vec<bool>,
+    rises: &mut NumberSet,
+    falls: &mut NumberSet,
     budget: u32,
 )
     requires closed { IsClosed front.old.h (view_target front.old.h _view.now) }
     requires moves { HoldsMoves (record_count front.old.h) (set_of front.old.flags)
-        (view_target front.old.h _view.now) 0 moves.old }
-    requires gone_len { length gone.old.items ≡ record_count front.old.h }
-    requires gone { (j : ℕ) → set_of gone.old.items j ≡ true → held moves.old j ≡ true }
+        (view_target front.old.h _view.now) 0 rises.old falls.old }
     ensures hierarchy { front.new.h ≡ front.old.h }
-    ensures len { length moves.new ≡ length moves.old }
-    ensures gone_len { length gone.new.items ≡ length gone.old.items }
-    ensures gone { (j : ℕ) → set_of gone.new.items j ≡ true → held moves.new j ≡ true }
+    ensures rises_len { length rises.new ≡ length rises.old }
+    ensures falls_len { length falls.new ≡ length falls.old }
+    ensures no_rises { IsEmptySet rises.new }
+    ensures no_falls { IsEmptySet falls.new }
     ensures moved { let S = set_of front.old.flags in
         set_of front.new.flags ≡ moved_by S (take budget (view_plan front.old.h S _view.now)) }
     ensures corners { let S = set_of front.old.flags in front.new.corners
         ≡ corner_lists_after front.old.h S (take budget (view_plan front.old.h S _view.now)) front.old.corners }
 {
     front.invariant();
-    let _records = front.hierarchy().records();
-    let mut left = budget;
-    while left > 0 {
-        match moves.take_least() {
-            None => return,
-            Some((k, _)) => {
-                make_move(front, k);
-                gone[k as usize] = false;
-            }
-        }
-        left -= 1;
-    }
+    let left = split_first(front, rises, budget);
+    collapse_last(front, falls, left);
+    clear(rises);
+    clear(falls);
 }
 
 /// What is told of this many moves.

@@ -7,7 +7,6 @@ mod finding;
 mod loosening;
 mod marks;
 mod needs;
-mod queues;
 mod refiner;
 
 pub use refiner::{Adapted, Refiner};

@@ -6,15 +6,14 @@ ghost use Rattle.pm_forest.specs.Forest.{record_count, node_count, t_of};
 ghost use Rattle.pm_forest.specs.Fronts.{set_of, is_active};
 ghost use Rattle.pm_bounds.specs.Bounds.{AreBoundsOf};
 ghost use Rattle.pm_view.specs.Wanted.{is_wanted};
-ghost use Rattle.pm_refine.specs.Queued.{down_key, held, AreKeyed, Joins};
+ghost use Rattle.pm_refine.specs.Holding.{Joins};
 ghost use Rattle.pm_refine.specs.Needed.{is_free, is_loose};
 
-use crate::queues::put_down;
 use pm_base::NodeId;
 use pm_bounds::Bounds;
 use pm_forest::Hierarchy;
 use pm_front::Front;
-use pm_queue::Queue;
+use pm_sets::NumberSet;
 use pm_view::{Steps, View, wants};
 use std::sync::ledger::Ledger;
 
@@ -62,14 +61,14 @@ fn may_go<L: Ledger>(
     !wants(h, bounds, NodeId(h.record_at(k).s), view, steps)
 }
 
-/// Puts the record whose first child an active node is on the queue, if it may go. It tests the record's node where the
+/// Puts the record whose first child an active node is in the set, if it may go. It tests the record's node where the
 /// second child is active too.
 pub(crate) fn try_maker<L: Ledger>(
     front: &Front,
     bounds: &Bounds,
     view: &View,
     node: NodeId,
-    work: &mut Queue,
+    work: &mut NumberSet,
     steps: &mut Steps<L>,
 )
     requires bounds { AreBoundsOf front.now.h bounds.now }
@@ -78,15 +77,14 @@ pub(crate) fn try_maker<L: Ledger>(
     requires work { length work.old ≡ record_count front.now.h }
     ensures work_len { length work.new ≡ length work.old }
     ensures joined { let h = front.now.h in let S = set_of front.now.flags in
-        Joins (held work.old) (held work.new)
+        Joins (set_of work.old) (set_of work.new)
         (λ j. t_of h j == node.0 && is_loose h (is_wanted h view.now) S j) }
-    ensures keyed { AreKeyed down_key work.old → AreKeyed down_key work.new }
     ensures cost { let h = front.now.h in let S = set_of front.now.flags in
         steps.new ≤ steps.old + count (λ j. t_of h j == node.0 && is_free h S j) (record_count h) }
 {
     if let Some(k) = first_child_of(front.hierarchy(), node) {
         if may_go(front, bounds, view, k, steps) {
-            put_down(work, k);
+            work.insert(k);
         }
     }
 }

@@ -6,7 +6,7 @@ ghost use Rattle.pm_forest.specs.Fronts.{set_of};
 ghost use Rattle.pm_forest.specs.Faces.{face_count};
 ghost use Rattle.pm_forest.specs.Moves.{side_in};
 ghost use Rattle.pm_beyond.specs.Moves.{is_at, needs};
-ghost use Rattle.pm_refine.specs.Queued.{Joins};
+ghost use Rattle.pm_refine.specs.Holding.{Joins};
 ghost use Rattle.pm_refine.specs.Marks.{reveals_any};
 
 use pm_base::{FaceId, NodeId, Side};

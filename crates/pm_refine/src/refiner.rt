@@ -14,11 +14,10 @@ use crate::OutOfMemory;
 use crate::deciding::decide_all;
 use crate::doing::{adapted, advance};
 use crate::finding::find;
-use crate::queues::clear;
 use pm_bounds::Bounds;
 use pm_forest::Hierarchy;
 use pm_front::Front;
-use pm_queue::Queue;
+use pm_sets::NumberSet;
 use pm_view::{Steps, View};
 use std::alloc::Global;
 use std::marker::Model;
@@ -32,18 +31,18 @@ pub enum Adapted {
     Spent { moves: u32, left: u32 },
 }
 
-/// What adapts the fronts of a hierarchy to views: two flags for each record, and two queues over the
-/// records. Contracts see the number of records.
+/// What adapts the fronts of a hierarchy to views: a flag for each record, and three sets of records.
+/// Contracts see the number of records.
 #[derive(Drop)]
 pub struct Refiner {
     // Set where a record that will be split needs the record, while it is still to be decided.
     marks: Vec<bool>,
-    // Set where the record will be collapsed.
-    gone: Vec<bool>,
     // The records that are still to be decided.
-    work: Queue,
-    // The moves of the plan.
-    moves: Queue,
+    work: NumberSet,
+    // The records that will be split.
+    rises: NumberSet,
+    // The records that will be collapsed.
+    falls: NumberSet,
 }
 
 impl Model for Refiner {
@@ -54,24 +53,24 @@ impl Model for Refiner {
 
     ghost view = { λ r. length r.marks.items };
 
-    ghost invariant = { λ r. IsIdle r.marks.items r.gone.items r.work r.moves };
+    ghost invariant = { λ r. IsIdle r.marks.items r.work r.rises r.falls };
 }
 
 impl Refiner {
-    /// Takes room for two flags for each record of a hierarchy, and for two queues.
+    /// Takes room for a flag for each record of a hierarchy, and for three sets of its records.
     pub fn new(alloc: Global, h: &Hierarchy) -> Result<Refiner, OutOfMemory>
         ensures { IfOk result (λ r. r ≡ record_count h.now) }
     {
         let records = h.records();
         let marks = vec![in alloc; false; records as usize]?;
-        let gone = vec![in alloc; false; records as usize]?;
-        let work = Queue::new(alloc, records)?;
-        let moves = Queue::new(alloc, records)?;
+        let work = NumberSet::new(alloc, records)?;
+        let rises = NumberSet::new(alloc, records)?;
+        let falls = NumberSet::new(alloc, records)?;
         Ok(Refiner {
             marks,
-            gone,
             work,
-            moves,
+            rises,
+            falls,
         })
     }
 
@@ -80,7 +79,8 @@ impl Refiner {
     /// where the plan is longer than the budget. It takes no memory, and counts a step for each
     /// test of a node. It looks at the active nodes and at the records of the plan, and at no
     /// others but those that they split or need; its walk over the active nodes passes over each
-    /// block of 64 nodes that has none.
+    /// block of 64 nodes that has none, and each search in a set over the blocks of 64 and of 4,096
+    /// records that have none.
     pub fn adapt<L: Ledger>(
         &mut self,
         front: &mut Front,
@@ -105,19 +105,18 @@ impl Refiner {
             + 2 * length (active_nodes front.old.h S) + 4 * length (view_plan front.old.h S view.now) }
     {
         front.invariant();
-        find(front, bounds, view, &mut self.moves, &mut self.work, steps);
+        find(front, bounds, view, &mut self.rises, &mut self.work, steps);
         let moves = decide_all(
             front,
             bounds,
             view,
             &mut self.marks,
-            &mut self.gone,
             &mut self.work,
-            &mut self.moves,
+            &mut self.rises,
+            &mut self.falls,
             steps,
         );
-        advance(front, view, &mut self.moves, &mut self.gone, budget);
-        clear(&mut self.moves, &mut self.gone);
+        advance(front, view, &mut self.rises, &mut self.falls, budget);
         front.invariant();
         adapted(moves, budget)
     }

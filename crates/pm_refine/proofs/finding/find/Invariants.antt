@@ -9,7 +9,7 @@ use Rattle.pm_refine.proofs.finding.find.Given as goal
 
 abbrev pub invariant-loop-k : goal.invariant-loop-k
 invariant-loop-k g l = record {
-  found : AreFound l.front.h (is_wanted l.front.h l.view) (set_of l.front.flags) l.next l.moves l.work;
+  found : AreFound l.front.h (is_wanted l.front.h l.view) (set_of l.front.flags) l.next l.rises l.work;
   cost : l.steps ≤ l.fn.steps + length l.front.active
       + count (is_free l.front.h (set_of l.front.flags)) (record_count l.front.h)
       + 2 * count (is_due l.front.h (is_wanted l.front.h l.view) (set_of l.front.flags)) l.next;

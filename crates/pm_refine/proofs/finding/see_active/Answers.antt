@@ -4,7 +4,7 @@ use Rattle.pm_links.specs.Lists.{has, after, rest}
 use Rattle.pm_forest.specs.Forest.{Hierarchy, node_count}
 use Rattle.pm_forest.specs.Fronts.{is_active, set_of}
 use Rattle.pm_view.specs.Wanted.{is_wanted}
-use Rattle.pm_refine.specs.Queued.{held, Joins, leads_to}
+use Rattle.pm_refine.specs.Holding.{Joins, leads_to}
 use Rattle.pm_refine.proofs.ActiveLaws.{number, cursor_in, cursor_rest, start_rest, start_in, next_rest, next_in, one_less, after_once}
 use Rattle.pm_refine.proofs.FindingLaws.{none_seen, seen_more, none_tried, tried_more, tests_more, tests_few, tests_none}
 use Rattle.pm_refine.proofs.finding.see_active.Goals as goal
@@ -21,7 +21,7 @@ loop-cursor-init g c =
     let some : (v : _) → v < node_count h → is_active h S v ≡ true → has _ v ≡ true = λ v l a. subst (λ ys. has ys v ≡ true) (sym all) ((c.invariant.ensures.active.each v).1 (l, a)) in
     let none = tests_none h c.invariant.ensures.valid.shape wanted S _ some in
     record {
-      seen = none_seen h c.invariant.ensures.valid.shape wanted S _ c.args.moves.now some c.requires.moves c.requires.no_moves;
+      seen = none_seen h c.invariant.ensures.valid.shape wanted S _ c.args.rises.now some c.requires.rises c.requires.no_rises;
       tried = none_tried h c.invariant.ensures.valid.shape wanted S _ c.args.work.now some c.requires.work c.requires.no_work;
       active = start_in xs cursor c.first_active-cursor.ensures;
       cost = omega arith;
@@ -88,11 +88,11 @@ loop-cursor-preserved g c =
     let cost_too = c.try_maker.ensures.cost in
     let before = c.loop-cursor.invariant.cost in
     record {
-      seen = seen_more h shape wanted S _ _ node.0 c.loop-cursor.moves c.look.new.moves s ((c.invariant.ensures.active.each node.0).0 there).1 (one_less xs cursor node next c.in-Some.is rest_is)
-          (c.look.ensures.len ∙ s.moves_len) c.look.ensures.keyed
-          (subst (λ (x : Hierarchy). Joins (held c.loop-cursor.moves) (held c.look.new.moves) (leads_to x (is_wanted x view) node.0)) c.hierarchy.ensures c.look.ensures.joined);
+      seen = seen_more h shape wanted S _ _ node.0 c.loop-cursor.rises c.look.new.rises s ((c.invariant.ensures.active.each node.0).0 there).1 (one_less xs cursor node next c.in-Some.is rest_is)
+          (c.look.ensures.len ∙ s.rises_len)
+          (subst (λ (x : Hierarchy). Joins (set_of c.loop-cursor.rises) (set_of c.look.new.rises) (leads_to x (is_wanted x view) node.0)) c.hierarchy.ensures c.look.ensures.joined);
       tried = tried_more h shape wanted S _ _ node.0 c.loop-cursor.work c.try_maker.new.work t (one_less xs cursor node next c.in-Some.is rest_is)
-          (c.try_maker.ensures.work_len ∙ t.work_len) c.try_maker.ensures.keyed c.try_maker.ensures.joined;
+          (c.try_maker.ensures.work_len ∙ t.work_len) c.try_maker.ensures.joined;
       active = next_in xs next node.0 c.next_active-cursor.ensures;
       cost = omega arith;
     }

@@ -12,7 +12,7 @@ use Rattle.pm_refine.proofs.finding.see_active.Given as goal
 abbrev pub invariant-loop-cursor : goal.invariant-loop-cursor
 invariant-loop-cursor g l = record {
   seen : AreSeen l.front.h (is_wanted l.front.h l.view) (set_of l.front.flags)
-      (has (rest (option_map (λ v. v.0) l.cursor) l.front.active)) l.moves;
+      (has (rest (option_map (λ v. v.0) l.cursor) l.front.active)) l.rises;
   tried : AreTried l.front.h (is_wanted l.front.h l.view) (set_of l.front.flags)
       (has (rest (option_map (λ v. v.0) l.cursor) l.front.active)) l.work;
   active : IfSome l.cursor (λ v. has l.front.active v.0 ≡ true);

@@ -4,7 +4,6 @@ use Rattle.pm_base.specs.Counts.{one_if}
 use Rattle.pm_forest.specs.Forest.{Hierarchy, record_count, t_of}
 use Rattle.pm_forest.specs.Fronts.{set_of}
 use Rattle.pm_view.specs.Wanted.{is_wanted}
-use Rattle.pm_refine.specs.Queued.{held}
 use Rattle.pm_refine.specs.Needed.{is_free, is_loose}
 use Rattle.pm_refine.proofs.CountLaws.{count_at}
 use Rattle.pm_refine.proofs.MarkLaws.{nothing_joined}
@@ -37,6 +36,6 @@ returns-else-may_go-clause-cost g c =
 pub returns-in_default-clause-joined : goal.returns-in_default-clause-joined
 returns-in_default-clause-joined g c =
     let h = c.args.front.now.h in
-    nothing_joined (held c.args.work.now) (λ j. eqb (t_of h j) c.args.node.0 && is_loose h (is_wanted h c.args.view.now) (set_of c.args.front.now.flags) j)
+    nothing_joined (set_of c.args.work.now) (λ j. eqb (t_of h j) c.args.node.0 && is_loose h (is_wanted h c.args.view.now) (set_of c.args.front.now.flags) j)
     (λ j. ap (λ b. b && is_loose h (is_wanted h c.args.view.now) (set_of c.args.front.now.flags) j)
     (ne_eqb (t_of h j) c.args.node.0 (λ is. c.in_default.ensures.none j (subst (λ (x : Hierarchy). t_of x j ≡ c.args.node.0) (sym c.hierarchy.ensures) is))))

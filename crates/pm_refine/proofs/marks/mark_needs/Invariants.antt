@@ -3,7 +3,7 @@ use Rattle.pm_forest.specs.Forest.{s_of, maker_of}
 use Rattle.pm_forest.specs.Fronts.{set_of}
 use Rattle.pm_forest.specs.Moves.{sides_in}
 use Rattle.pm_beyond.specs.Moves.{is_at}
-use Rattle.pm_refine.specs.Queued.{Joins}
+use Rattle.pm_refine.specs.Holding.{Joins}
 use Rattle.pm_refine.specs.Marks.{reveals_any}
 use Rattle.pm_refine.proofs.marks.mark_needs.Given as goal
 

@@ -1,0 +1,110 @@
+-- What sets of records hold once a record is put in or taken out, and which record comes out.
+use Rattle.std.proofs.Common.{◌≡◌, ◌≢◌, ℕ, suc, ◌<◌, ◌≤◌, eqb, Bool, true, false, ◌||◌, ◌&&◌, not, List, length, replicate, set, length-set, get_or-set_same, get_or-set_other, inl, inr, refl, sym, ap, subst, ◌∙◌, arith}
+use Rattle.std.proofs.lemmas.Bool.{cases_eq, cases_lt, eq-eqb, eqb-true, ne_eqb, or_left, and_from, and_left, and_right, not_from_true, not_from_false, both_ways}
+use Rattle.std.proofs.lemmas.List.{get_or_past, get_or-replicate, length-replicate}
+use Rattle.pm_base.specs.Counts.{count}
+use Rattle.pm_sets.specs.Sets.{IsFirst, IsLast}
+use Rattle.pm_forest.specs.Fronts.{set_of}
+use Rattle.pm_beyond.proofs.PlanLists.{less-parts}
+use Rattle.pm_refine.specs.Holding.{Joins, Holds, HoldsMoves}
+use Rattle.pm_refine.proofs.CountLaws.{count_apart, count_some}
+use Rattle.pm_refine.proofs.MarkLaws.{or_none}
+
+pub set_in : (flags : List Bool) (k : ℕ) → set_of flags k ≡ true → k < length flags
+set_in flags k t = elim (cases_lt k (length flags)) [ inl l ↦ l | inr m ↦ absurd (both_ways _ (get_or_past flags k false (omega arith)) t) ]
+
+-- A new set has none.
+pub none_there : (n j : ℕ) → set_of (replicate n false) j ≡ false
+none_there n j =
+    let len = length-replicate n false in
+    elim (cases_lt j n) [ inl l ↦ get_or-replicate n j false false l | inr m ↦ get_or_past (replicate n false) j false (omega arith) ]
+
+-- A record that is there already joins nothing.
+there_joined : (m : List Bool) (k : ℕ) → set_of m k ≡ true → Joins (set_of m) (set_of m) (λ j. eqb k j)
+there_joined m k there j =
+    elim (cases_eq k j) [
+      | inl is ↦
+          let here : set_of m j ≡ true = subst (λ i. set_of m i ≡ true) is there in
+          here ∙ sym (or_left (set_of m j) (eqb k j) here)
+      | inr other ↦ or_none (set_of m j) (eqb k j) (ne_eqb k j other)
+    ]
+
+-- The same over records of which some are left out.
+pub there_left : (m : List Bool) (out : ℕ → Bool) (k : ℕ) → set_of m k ≡ true → Joins (set_of m) (set_of m) (λ j. eqb k j && not (out j))
+there_left m out k there j = there_joined m k there j ∙ elim (cases_eq k j) [
+  | inl is ↦ (let here : set_of m j ≡ true = subst (λ i. set_of m i ≡ true) is there in or_left (set_of m j) (eqb k j) here ∙ sym (or_left (set_of m j) (eqb k j && not (out j)) here))
+  | inr other ↦ ap (λ b. set_of m j || b) (ne_eqb k j other) ∙ sym (ap (λ b. set_of m j || (b && not (out j))) (ne_eqb k j other))
+]
+
+pub free_left : (m : List Bool) (out : ℕ → Bool) (k : ℕ) → out k ≡ true → Joins (set_of m) (set_of m) (λ j. eqb k j && not (out j))
+free_left m out k left j = or_none (set_of m j) (eqb k j && not (out j)) (elim (cases_eq k j) [
+  | inl is ↦ and_right (eqb k j) (not (out j)) (not_from_true (out j) (subst (λ i. out i ≡ true) is left))
+  | inr other ↦ and_left (eqb k j) (not (out j)) (ne_eqb k j other)
+])
+
+pub put_in : (m m' : List Bool) (out : ℕ → Bool) (k : ℕ) → out k ≡ false → Joins (set_of m) (set_of m') (λ j. eqb k j) → Joins (set_of m) (set_of m') (λ j. eqb k j && not (out j))
+put_in m m' out k free joins j = joins j ∙ ap (λ b. set_of m j || b) (elim (cases_eq k j) [
+  | inl is ↦ eq-eqb k j is ∙ sym (and_from (eqb k j) (not (out j)) (eq-eqb k j is) (not_from_false (out j) (subst (λ i. out i ≡ false) is free)))
+  | inr other ↦ ne_eqb k j other ∙ sym (and_left (eqb k j) (not (out j)) (ne_eqb k j other))
+])
+
+-- A record is taken out.
+pub out-parts : (flags : List Bool) (k j : ℕ) → k < length flags → set_of (set flags k false) j ≡ true → (j ≢ k) × (set_of flags j ≡ true)
+out-parts flags k j l t =
+    let other : j ≢ k = λ is. both_ways _ (get_or-set_same flags k false false l) (subst (λ i. set_of (set flags k false) i ≡ true) is t) in
+    (other, sym (get_or-set_other flags k j false false other) ∙ t)
+
+pub out-other : (flags : List Bool) (k j : ℕ) → j ≢ k → set_of flags j ≡ true → set_of (set flags k false) j ≡ true
+out-other flags k j other t = get_or-set_other flags k j false false other ∙ t
+
+-- The first record of a set, and the last.
+pub first_least : (m : List Bool) (k : ℕ) → IsFirst m 0 k → (j : ℕ) → set_of m j ≡ true → k ≤ j
+first_least m k first j t = elim (cases_lt j k) [ inl l ↦ absurd (both_ways _ (first.none j (omega arith) l) t) | inr l ↦ l ]
+
+pub last_greatest : (m : List Bool) (k : ℕ) → IsLast m (length m) k → (j : ℕ) → set_of m j ≡ true → j ≤ k
+last_greatest m k last j t = elim (cases_lt k j) [ inl l ↦ absurd (both_ways _ (last.none j l (set_in m j t)) t) | inr l ↦ l ]
+
+-- A set without one of its records has fewer.
+pub fewer_left : (m : List Bool) (k : ℕ) → set_of m k ≡ true → count (set_of (set m k false)) (length m) < count (set_of m) (length m)
+fewer_left m k t =
+    let l = set_in m k t in
+    let a = count_some (eqb k) k (length m) l (eq-eqb k k refl) in
+    let b = count_apart (eqb k) (set_of (set m k false)) (set_of m) (length m) (λ j e. subst (λ i. set_of m i ≡ true) (eqb-true k j e) t) (λ j u. (out-parts m k j l u).1)
+    (λ j e u. (out-parts m k j l u).0 (sym (eqb-true k j e))) in
+    omega arith
+
+-- The moves that two sets hold.
+module _ (n : ℕ) (S G : ℕ → Bool) (b : ℕ) (rises falls : List Bool) (m : HoldsMoves n S G b rises falls) where
+  pub gone-parts : (j : ℕ) → set_of falls j ≡ true → (b ≤ j) × (S j ≡ true) × (G j ≡ false)
+  gone-parts j t = let o = m.down.only j t in let p = less-parts S G j o.1 in (o.0, p.0, p.1)
+
+  pub gone-from : (j : ℕ) → b ≤ j → j < n → S j ≡ true → G j ≡ false → set_of falls j ≡ true
+  gone-from j low l s f = m.down.there j low l (and_from (S j) (not (G j)) s (not_from_false (G j) f))
+
+-- A set that has all records from b on that pass a test has all from a lower one on, where none between passes.
+module _ (n : ℕ) (p : ℕ → Bool) where
+  pub holds_below : (a b : ℕ) (m : List Bool) → a ≤ b → Holds n p b m → ((j : ℕ) → a ≤ j → j < b → p j ≡ false) → Holds n p a m
+  holds_below a b m l holds none = record {
+    len = holds.len;
+    there = λ j low less t. elim (cases_lt j b) [ inl c ↦ absurd (both_ways _ (none j low c) t) | inr c ↦ holds.there j c less t ];
+    only = λ j t. let o = holds.only j t in let c = o.0 in (omega arith, o.1);
+  }
+
+  -- It has one record more.
+  pub holds_more : (k : ℕ) (m : List Bool) → k < n → Holds n p (suc k) m → p k ≡ true → Holds n p k (set m k true)
+  holds_more k m l holds t =
+      let len = holds.len in
+      record {
+        len = length-set {A = Bool} m k true ∙ holds.len;
+        there = λ j low less u. elim (cases_eq j k) [
+          | inl is ↦ subst (λ i. set_of (set m k true) i ≡ true) (sym is) (get_or-set_same m k true false (omega arith))
+          | inr other ↦ get_or-set_other m k j true false other ∙ holds.there j (omega arith) less u
+        ];
+        only = λ j u. elim (cases_eq j k) [
+          | inl is ↦ (omega arith, subst (λ i. p i ≡ true) (sym is) t)
+          | inr other ↦ (let o = holds.only j (sym (get_or-set_other m k j true false other) ∙ u) in let c = o.0 in (omega arith, o.1))
+        ];
+      }
+
+  pub holds_same : (k : ℕ) (m : List Bool) → Holds n p (suc k) m → p k ≡ false → Holds n p k m
+  holds_same k m holds f = holds_below k (suc k) m (omega arith) holds (λ j low high. let is : j ≡ k = omega arith in subst (λ i. p i ≡ false) (sym is) f)
