@@ -9,8 +9,8 @@ use pm_sets::NumberSet;
 use std::alloc::Global;
 use std::marker::Model;
 
-/// Contracts see the bound and the ascending list. `insert`, `remove` and `len` take O(1) time; a walk over all takes time
-/// linear in them and in a 4,096th of the bound.
+/// Contracts see the bound and the ascending list. `insert`, `remove`, `has` and `len` take O(1) time; a walk over all
+/// takes time linear in them and in a 4,096th of the bound.
 #[derive(Drop)]
 pub(crate) struct Members {
     numbers: NumberSet,
@@ -57,6 +57,14 @@ impl Members {
     {
         self.numbers.remove(number);
         self.count -= 1;
+    }
+
+    /// Whether it has a number.
+    pub(crate) fn has(&self, number: u32) -> bool
+        requires { number < self.now.bound }
+        ensures { result ≡ has self.now.list number }
+    {
+        self.numbers.has(number)
     }
 
     /// How many they are.
