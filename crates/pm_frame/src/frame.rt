@@ -39,9 +39,7 @@ fn put_nodes<K: Sink>(front: &Front, page: &mut Page, out: &mut K) -> Result<(),
     for node in 0..front.hierarchy().nodes() {
         if front.is_active(NodeId(node)) {
             put_active(front, &mut line, NodeId(node));
-            if let Err(fault) = page.add(line.as_slice(), out) {
-                return Err(fault);
-            }
+            page.add(line.as_slice(), out)?;
         }
     }
     Ok(())
@@ -69,9 +67,7 @@ pub fn put_faces<K: Sink>(front: &Front, page: &mut Page, out: &mut K) -> Result
     for face in 0..front.hierarchy().faces() {
         if front.is_kept(FaceId(face)) {
             put_shown(front, &mut line, FaceId(face));
-            if let Err(fault) = page.add(line.as_slice(), out) {
-                return Err(fault);
-            }
+            page.add(line.as_slice(), out)?;
         }
     }
     Ok(())
@@ -96,20 +92,10 @@ pub fn write_frame<K: Sink>(front: &Front, out: &mut K) -> Result<(), WriteFault
     ensures { Puts K.Sink out.old out.new (frame_text front.now.h (set_of front.now.flags)) result }
 {
     let mut page = Page::new();
-    if let Err(fault) = put_first(front, &mut page, out) {
-        return Err(fault);
-    }
-    if let Err(fault) = put_nodes(front, &mut page, out) {
-        return Err(fault);
-    }
-    if let Err(fault) = put_faces(front, &mut page, out) {
-        return Err(fault);
-    }
-    if let Err(fault) = put_last(&mut page, out) {
-        return Err(fault);
-    }
-    if let Err(fault) = page.flush(out) {
-        return Err(fault);
-    }
+    put_first(front, &mut page, out)?;
+    put_nodes(front, &mut page, out)?;
+    put_faces(front, &mut page, out)?;
+    put_last(&mut page, out)?;
+    page.flush(out)?;
     Ok(())
 }
