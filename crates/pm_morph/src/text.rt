@@ -86,9 +86,7 @@ fn put_nodes<K: Sink>(
     for node in 0..front.hierarchy().nodes() {
         if front.is_active(NodeId(node)) {
             put_moved(front, marks, a, b, &mut line, NodeId(node));
-            if let Err(fault) = page.add(line.as_slice(), out) {
-                return Err(fault);
-            }
+            page.add(line.as_slice(), out)?;
         }
     }
     Ok(())
@@ -112,20 +110,10 @@ pub(crate) fn write_text<K: Sink>(
         Puts K.Sink out.old out.new text result }
 {
     let mut page = Page::new();
-    if let Err(fault) = put_first(front, a, b, &mut page, out) {
-        return Err(fault);
-    }
-    if let Err(fault) = put_nodes(front, marks, a, b, &mut page, out) {
-        return Err(fault);
-    }
-    if let Err(fault) = put_faces(front, &mut page, out) {
-        return Err(fault);
-    }
-    if let Err(fault) = put_last(&mut page, out) {
-        return Err(fault);
-    }
-    if let Err(fault) = page.flush(out) {
-        return Err(fault);
-    }
+    put_first(front, a, b, &mut page, out)?;
+    put_nodes(front, marks, a, b, &mut page, out)?;
+    put_faces(front, &mut page, out)?;
+    put_last(&mut page, out)?;
+    page.flush(out)?;
     Ok(())
 }

@@ -1,22 +1,24 @@
 use Rattle.std.proofs.Common.{◌<◌, sym, ap, ◌∙◌, arith}
+use Rattle.std.proofs.lemmas.Result.{err_from_is_err_and}
 use Rattle.pm_forest.specs.Forest.{node_count}
 use Rattle.pm_forest.specs.Fronts.{is_active, set_of}
 use Rattle.pm_io.proofs.PutLaws.{through_failed}
 use Rattle.pm_frame.proofs.Lines.{line_next, line_cut, line_same}
 use Rattle.pm_morph.specs.Texts.{moved_node}
-use Rattle.pm_morph.proofs.text.put_nodes.Goals.{then-is_active+in_default, else-is_active}
+use Rattle.pm_morph.proofs.text.put_nodes.Goals.{then-is_active+in_ok-add, else-is_active}
 use Rattle.pm_morph.proofs.text.put_nodes.Goals as goal
 
-pub returns-in-Err : goal.returns-in-Err
-returns-in-Err g c =
+pub returns-in_err-add : goal.returns-in_err-add
+returns-in_err-add g c =
+    let p = err_from_is_err_and c.from_residual.result c.from_residual.ensures.1 in
     let h = c.args.front.now.h in
     let T = set_of c.args.marks.now in
     let S = set_of c.args.front.now.flags in
     let below : c.loop-node.node < node_count h = omega (arith, ap node_count c.hierarchy.ensures) in
     let pass = sym c.is_active.ensures ∙ c.if-is_active.true in
     let line = ◌∙◌ {c = moved_node h T c.args.a c.args.b c.loop-node.node} c.as_slice.ensures c.put_moved.ensures in
-    let part = line_cut (is_active h S) (moved_node h T c.args.a c.args.b) c.loop-node.node (node_count h) _ _ _ _ _ _ below pass line c.loop-node.invariant.text c.in-Err.ensures.puts.err in
-    through_failed g.K.Sink c.args.out.now c.loop-node.out _ _ _ _ _ part c.loop-node.invariant.count c.in-Err.ensures.puts.cause
+    let part = line_cut (is_active h S) (moved_node h T c.args.a c.args.b) c.loop-node.node (node_count h) _ _ _ _ _ _ below pass line c.loop-node.invariant.text c.in_err-add.ensures.puts.err in
+    rw (p.1, p.2) (through_failed g.K.Sink c.args.out.now c.loop-node.out _ _ _ _ _ part c.loop-node.invariant.count c.in_err-add.ensures.puts.cause)
 
 pub loop-node-preserved : goal.loop-node-preserved
 loop-node-preserved g c =
@@ -24,10 +26,10 @@ loop-node-preserved g c =
     let T = set_of c.args.marks.now in
     let S = set_of c.args.front.now.flags in
     elim c.if-is_active.branch [
-      | then-is_active+in_default w ↦
+      | then-is_active+in_ok-add w ↦
           rw (w.out-is, w.page-is) (record {
-            text = line_next (is_active h S) (moved_node h T c.args.a c.args.b) c.loop-node.node _ _ _ _ _ _ _ (sym c.is_active.ensures ∙ w.if-is_active.true) (◌∙◌ {c = moved_node h T c.args.a c.args.b c.loop-node.node} w.as_slice.ensures w.put_moved.ensures) c.loop-node.invariant.text w.in_default.ensures.puts.ok;
-            count = w.in_default.ensures.puts.cause.same ∙ c.loop-node.invariant.count;
+            text = line_next (is_active h S) (moved_node h T c.args.a c.args.b) c.loop-node.node _ _ _ _ _ _ _ (sym c.is_active.ensures ∙ w.if-is_active.true) (◌∙◌ {c = moved_node h T c.args.a c.args.b c.loop-node.node} w.as_slice.ensures w.put_moved.ensures) c.loop-node.invariant.text w.in_ok-add.ensures.puts.ok;
+            count = w.in_ok-add.ensures.puts.cause.same ∙ c.loop-node.invariant.count;
           })
       | else-is_active w ↦
           rw (w.out-is, w.page-is) (record {
