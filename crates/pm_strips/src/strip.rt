@@ -75,9 +75,7 @@ fn put_entered<K: Sink>(
         free[side.0 as usize / 3] = false;
         let second = next(front, side);
         let third = next(front, second);
-        if let Err(fault) = put_node(front, third, page, out) {
-            return Err(fault);
-        }
+        put_node(front, third, page, out)?;
         exit = exit_of(front, is_odd, side);
         is_odd = !is_odd;
     }
@@ -104,14 +102,8 @@ pub(crate) fn put_strip<K: Sink>(
 {
     free[face.0 as usize] = false;
     let first = first_side(free, front, face);
-    if let Err(fault) = put_begin(front, first, page, out) {
-        return Err(fault);
-    }
-    if let Err(fault) = put_entered(free, front, next(front, first), page, out) {
-        return Err(fault);
-    }
-    if let Err(fault) = page.add(b"\n", out) {
-        return Err(fault);
-    }
+    put_begin(front, first, page, out)?;
+    put_entered(free, front, next(front, first), page, out)?;
+    page.add(b"\n", out)?;
     Ok(())
 }

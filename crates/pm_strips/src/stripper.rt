@@ -62,12 +62,8 @@ impl Stripper {
             Ok(strips) => strips,
             Err(fault) => return Err(fault),
         };
-        if let Err(fault) = put_total(strips, &mut page, out) {
-            return Err(fault);
-        }
-        if let Err(fault) = page.flush(out) {
-            return Err(fault);
-        }
+        put_total(strips, &mut page, out)?;
+        page.flush(out)?;
         Ok(())
     }
 }
@@ -110,9 +106,7 @@ fn put_strips<K: Sink>(
     let mut strips = 0u32;
     for face in 0..front.hierarchy().faces() {
         if free[face as usize] {
-            if let Err(fault) = put_strip(free, front, FaceId(face), page, out) {
-                return Err(fault);
-            }
+            put_strip(free, front, FaceId(face), page, out)?;
             strips += 1;
         }
     }

@@ -1,4 +1,5 @@
 use Rattle.std.proofs.Common.{◌<◌, ◌≤◌, false, length, sym, ap, ◌∙◌, arith, length-set}
+use Rattle.std.proofs.lemmas.Result.{err_from_is_err_and}
 use Rattle.pm_base.specs.Sides.{face_of, next}
 use Rattle.pm_io.proofs.PutLaws.{through_done, through_failed}
 use Rattle.pm_forest.specs.Fronts.{set_of}
@@ -28,8 +29,9 @@ returns-clause-puts g c =
     _ _ _ _ c.loop-turn.invariant.so_far past).0 in
     through_done g.K.Sink c.args.out.now _ _ _ _ _ all c.loop-turn.invariant.count
 
-pub returns-in-Err-clause-puts : goal.returns-in-Err-clause-puts
-returns-in-Err-clause-puts g c =
+pub returns-in_err-put_node-clause-puts : goal.returns-in_err-put_node-clause-puts
+returns-in_err-put_node-clause-puts g c =
+    let p = err_from_is_err_and c.from_residual.result c.from_residual.ensures.1 in
     let h = c.args.front.now.h in
     let T = set_of c.args.front.now.flags in
     let low : c.loop-turn._turn < face_count h = omega (arith, c.loop-turn-test.true, c.len-turn-end.ensures, c.requires.len) in
@@ -37,8 +39,8 @@ returns-in-Err-clause-puts g c =
     let third = c.next-third.ensures.value ∙ ap next c.next-second.ensures.value in
     let part = entering_cut (beyond_in h T) (node_at h T) (face_count h) c.loop-turn._turn (set_of c.args.free.now.items) c.args.first_exit.0 (set_of c.loop-turn.free.items) c.loop-turn.is_odd c.loop-turn.exit.0
     c.in-Some.side.0 _ _ _ _ _ low some c.loop-turn.invariant.so_far
-    (part_as _ _ _ _ _ (ap (λ v. node_text (node_at h T v)) (sym third)) c.in-Err.ensures.err) in
-    through_failed g.K.Sink c.args.out.now c.loop-turn.out _ _ _ _ _ part c.loop-turn.invariant.count c.in-Err.ensures.cause
+    (part_as _ _ _ _ _ (ap (λ v. node_text (node_at h T v)) (sym third)) c.in_err-put_node.ensures.err) in
+    rw (p.1, p.2) (through_failed g.K.Sink c.args.out.now c.loop-turn.out _ _ _ _ _ part c.loop-turn.invariant.count c.in_err-put_node.ensures.cause)
 
 pub loop-turn-preserved : goal.loop-turn-preserved
 loop-turn-preserved g c =
@@ -52,8 +54,8 @@ loop-turn-preserved g c =
       so_far = rw (set_of-clear c.loop-turn.free.items (face_of c.in-Some.side.0) face, c.exit_of-exit.ensures.value)
           (entering_more (beyond_in h T) (node_at h T) (face_count h) c.loop-turn._turn (set_of c.args.free.now.items) c.args.first_exit.0 (set_of c.loop-turn.free.items) c.loop-turn.is_odd c.loop-turn.exit.0
           c.in-Some.side.0 _ _ _ _ _ _ low some c.loop-turn.invariant.so_far
-          (through_as _ _ _ _ _ _ (ap (λ v. node_text (node_at h T v)) (sym third)) c.in_default-put_node.ensures.ok));
+          (through_as _ _ _ _ _ _ (ap (λ v. node_text (node_at h T v)) (sym third)) c.in_ok-put_node.ensures.ok));
       there = c.exit_of-exit.ensures.there;
       len = length-set c.loop-turn.free.items (face_of c.in-Some.side.0) false ∙ c.loop-turn.invariant.len;
-      count = c.in_default-put_node.ensures.cause.same ∙ c.loop-turn.invariant.count;
+      count = c.in_ok-put_node.ensures.cause.same ∙ c.loop-turn.invariant.count;
     }
