@@ -26,12 +26,8 @@ fn write<K: Sink>(made: &Made, out: &mut K) -> Result<(), WriteFault>
     requires { IsWellFormed (mesh_of made.now.mesh) }
     ensures { Puts K.Sink out.old out.new (done_of made.now).text result }
 {
-    if let Err(fault) = put_all(out, &made.head) {
-        return Err(fault);
-    }
-    if let Err(fault) = write_obj(&made.mesh, 0, out) {
-        return Err(fault);
-    }
+    put_all(out, &made.head)?;
+    write_obj(&made.mesh, 0, out)?;
     Ok(())
 }
 
