@@ -28,6 +28,8 @@ mod read;
 #[cfg(test)]
 mod scan;
 #[cfg(test)]
+mod sets;
+#[cfg(test)]
 mod shrink;
 #[cfg(test)]
 mod simplify;
