@@ -28,9 +28,7 @@ fn put_sizes<K: Sink>(n: u32, h: &Hierarchy, out: &mut K) -> Result<(), WriteFau
     grids_are_sound();
     let mut line = Line::new();
     put_grid(&mut line, n, (n + 1) * (n + 1), n * (n * 2));
-    if let Err(fault) = put_all(out, line.as_slice()) {
-        return Err(fault);
-    }
+    put_all(out, line.as_slice())?;
     put_hierarchy(&mut line, h);
     put_all(out, line.as_slice())
 }
@@ -43,12 +41,8 @@ fn put_views<K: Sink>(n: u32, scene: &mut Scene, out: &mut K) -> Result<(), Writ
 {
     let middle = middle_view(n);
     let corner = corner_view(n);
-    if let Err(fault) = scene.show(0, &middle, out) {
-        return Err(fault);
-    }
-    if let Err(fault) = scene.show(1, &corner, out) {
-        return Err(fault);
-    }
+    scene.show(0, &middle, out)?;
+    scene.show(1, &corner, out)?;
     scene.show(2, &middle, out)
 }
 
