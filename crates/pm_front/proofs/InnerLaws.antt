@@ -11,10 +11,10 @@ use Rattle.pm_front.specs.Tables.{AreInnerCorners, inner_at}
 pub inners_none : (h : Hierarchy) → AreInnerCorners h 0 []
 inners_none h = record { len = refl; few = λ f l. absurd (omega arith); each = λ f l. absurd (omega arith) }
 
-entry_old : (n x : ℕ) (xs : List ℕ) → length xs ≡ n → (f : ℕ) → f < n → slice_index_or (xs ++ x ∷ []) f 0 ≡ slice_index_or xs f 0
+pub entry_old : (n x : ℕ) (xs : List ℕ) → length xs ≡ n → (f : ℕ) → f < n → slice_index_or (xs ++ x ∷ []) f 0 ≡ slice_index_or xs f 0
 entry_old n x xs len f l = get_or-append xs (x ∷ []) 0 f (omega (arith, len))
 
-entry_new : (n x : ℕ) (xs : List ℕ) → length xs ≡ n → slice_index_or (xs ++ x ∷ []) n 0 ≡ x
+pub entry_new : (n x : ℕ) (xs : List ℕ) → length xs ≡ n → slice_index_or (xs ++ x ∷ []) n 0 ≡ x
 entry_new n x xs len = ap (λ i. slice_index_or (xs ++ x ∷ []) i 0) (sym len) ∙ get_or-append_seam xs x [] 0
 
 pub inners_go_on : (h : Hierarchy) (n x : ℕ) (xs : List ℕ) → AreInnerCorners h n xs → x < 3 → 3 * n + x ≡ inner_at h n (revealed_by h n) → AreInnerCorners h (n + 1) (xs ++ x ∷ [])
