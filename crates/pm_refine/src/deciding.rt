@@ -18,7 +18,6 @@ ghost use Rattle.pm_refine.specs.Adapting.{view_target};
 
 use crate::marks::mark_needs;
 use crate::needs::push_needs;
-use pm_base::NodeId;
 use pm_bounds::Bounds;
 use pm_forest::Hierarchy;
 use pm_front::Front;
@@ -28,7 +27,6 @@ use std::sync::ledger::Ledger;
 
 // Whether a record that is to be decided is in the target. Only a split record that nothing needs
 // has to be tested.
-#[tactic(auto, using(pm_front::proofs::SplitLaws::s_below, pm_front::proofs::Counting::s_is))]
 fn stays<L: Ledger>(
     front: &Front,
     bounds: &Bounds,
@@ -61,9 +59,7 @@ fn stays<L: Ledger>(
     if !front.nothing_needs(gone, k) {
         return true;
     }
-    let h = front.hierarchy();
-    h.invariant();
-    wants(h, bounds, NodeId(h.record_at(k).s), view, steps)
+    wants(front.hierarchy(), bounds, front.split_node(k), view, steps)
 }
 
 // A record that goes is put in the one set; one that will be split is put in the other, and what it

@@ -39,7 +39,6 @@ pub(crate) fn is_free(front: &Front, k: u32) -> bool
 
 // Whether a record may go. Whether another one needs it by a face is asked when it is decided: that costs more than a test, and
 // the nodes of most are wanted.
-#[tactic(auto, using(pm_front::proofs::SplitLaws::s_below, pm_front::proofs::Counting::s_is))]
 fn may_go<L: Ledger>(
     front: &Front,
     bounds: &Bounds,
@@ -53,12 +52,10 @@ fn may_go<L: Ledger>(
         result ≡ is_loose h (is_wanted h view.now) (set_of front.now.flags) k }
     ensures cost { steps.new ≤ steps.old + one_if (is_free front.now.h (set_of front.now.flags) k) }
 {
-    front.invariant();
     if !is_free(front, k) {
         return false;
     }
-    let h = front.hierarchy();
-    !wants(h, bounds, NodeId(h.record_at(k).s), view, steps)
+    !wants(front.hierarchy(), bounds, front.split_node(k), view, steps)
 }
 
 /// Puts the record whose first child an active node is in the set, if it may go. It tests the record's node where the
