@@ -1,8 +1,15 @@
-use Rattle.std.proofs.Common.{◌∙◌, ap}
-use Rattle.pm_forest.specs.Forest.{record_count}
+use Rattle.std.proofs.Common.{◌∙◌, ap, subst}
+use Rattle.pm_forest.specs.Forest.{Hierarchy, record_count}
 use Rattle.pm_forest.specs.Fronts.{set_of}
 use Rattle.pm_forest.proofs.Flags.{set_of-unset}
+use Rattle.pm_bounds.specs.Bounds.{AreBoundsOf}
 use Rattle.pm_demo.proofs.scene.Scene.open.Goals as goal
+
+pub invariant_of-result : goal.invariant_of-result
+invariant_of-result c = record {
+  are_its_bounds = subst (λ (h : Hierarchy). AreBoundsOf h c.in_ok-bounds.bounds) c.hierarchy.ensures c.in_ok-bounds.ensures;
+  fits = c.in_ok-refiner.ensures ∙ ap record_count c.hierarchy-2.ensures;
+}
 
 pub returns-clause-base : goal.returns-clause-base
 returns-clause-base c = ap set_of c.in-Ok.ensures.flags ∙ set_of-unset (record_count c.in_ok-h.h)
