@@ -29,3 +29,8 @@ returns-in_err-put_all-clause-ends g c =
     rw (p.1, p.2)
     (ends_part asked.Check _ _ _ (whole (counts_line c.in_ok-base.base.front.h)) (follows_done IsHierarchyText (λ o. whole (counts_line o.h)) _ (record { digits = c.in_ok-base.base.digits; h = c.in_ok-base.base.front.h; rest = [] }) None c.in_ok-base.ensures.read)
     (subst (λ (l : List _). GainsPart (g.K.Sink.got c.args.out.now) (g.K.Sink.got c.put_all.new.out) l) (c.as_slice.ensures ∙ c.put_counts.ensures ∙ ap counts_line c.hierarchy.ensures) c.in_err-put_all.ensures.err))
+
+pub returns-in_err-put_all-clause-counts : goal.returns-in_err-put_all-clause-counts
+returns-in_err-put_all-clause-counts g c =
+    let p = err_from_is_err_and c.from_residual-in_err-put_all.result c.from_residual-in_err-put_all.ensures.1 in
+    rw (p.1, p.2) c.in_err-put_all.ensures.cause.failed

@@ -31,3 +31,18 @@ returns-in_err-write_obj-clause-ends g c =
     rw (p.1, p.2)
     (ends_part asked.Expand _ _ _ (whole (canonical_text c.in_ok-base.base.digits (input_mesh_of c.in_ok-base.base.front.h))) (follows_done IsHierarchyText (λ o. whole (canonical_text o.digits (input_mesh_of o.h))) _ (record { digits = c.in_ok-base.base.digits; h = c.in_ok-base.base.front.h; rest = [] }) None c.in_ok-base.ensures.read)
     (subst (λ (m : Mesh). GainsPart (g.K.Sink.got c.args.out.now) (g.K.Sink.got c.write_obj.new.out) (canonical_text c.in_ok-base.base.digits m)) (c.in_ok-mesh.ensures.mesh ∙ ap input_mesh_of c.hierarchy.ensures) c.in_err-write_obj.ensures.err))
+
+pub returns-in_err-mesh-clause-ends : goal.returns-in_err-mesh-clause-ends
+returns-in_err-mesh-clause-ends g c =
+    let p = err_from_is_err_and c.from_residual-in_err-mesh.result c.from_residual-in_err-mesh.ensures.1 in
+    rw (p.1, p.2) refl
+
+pub returns-in_err-mesh-clause-counts : goal.returns-in_err-mesh-clause-counts
+returns-in_err-mesh-clause-counts g c =
+    let p = err_from_is_err_and c.from_residual-in_err-mesh.result c.from_residual-in_err-mesh.ensures.1 in
+    rw (p.1, p.2) tt
+
+pub returns-in_err-write_obj-clause-counts : goal.returns-in_err-write_obj-clause-counts
+returns-in_err-write_obj-clause-counts g c =
+    let p = err_from_is_err_and c.from_residual-in_err-write_obj.result c.from_residual-in_err-write_obj.ensures.1 in
+    rw (p.1, p.2) c.in_err-write_obj.ensures.cause.failed
