@@ -13,7 +13,8 @@ use Rattle.pm_forest.proofs.OneStep.{collapse-under, collapse-elsewhere}
 use Rattle.pm_forest.proofs.Shown.{shown_without, shown_without-parts}
 use Rattle.pm_front.specs.Corners.{listed, rest_of, collapsed_list, collapsed_lists, lowered_lists, AreCorners}
 use Rattle.pm_front.proofs.ListLaws.{has_filter-parts, has_filter-from, once-filter}
-use Rattle.pm_front.proofs.NodeLists.{is_corner_of, length-by_node, each_by_node, once_by_node, corner_of-parts, corner_of-from, corner_of-record, record-corner_of}
+use Rattle.pm_front.proofs.NodeLists.{is_corner_of, length-by_node, each_by_node, once_by_node, corner_of-parts, corner_of-from}
+use Rattle.pm_sides.proofs.RecordSides.{corner_of-record, record-corner_of}
 
 -- what each list is after a collapse
 module _ (h : Hierarchy) (k : ℕ) (ls : List (List ℕ)) where

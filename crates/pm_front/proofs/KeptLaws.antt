@@ -10,7 +10,7 @@ use Rattle.pm_forest.proofs.Shown.{kept-shown, shown_record, shown_with, shown_w
 use Rattle.pm_front.specs.Shown.{numbers, kept_faces}
 use Rattle.pm_front.specs.Active.{shown_count}
 use Rattle.pm_front.proofs.Counting.{count_next, count_same}
-use Rattle.pm_front.proofs.NodeLists.{corner_of-record, record-corner_of}
+use Rattle.pm_sides.proofs.RecordSides.{corner_of-record, record-corner_of}
 
 -- ---- how many numbers pass a test
 

@@ -1,15 +1,13 @@
 -- Lists by node, the corners of a record, and the corner lists of the full front.
-use Rattle.std.proofs.Common.{◌≡◌, ◌↔◌, ℕ, suc, ◌+◌, ◌*◌, ◌<◌, ◌≤◌, leb, ltb, Bool, true, List, [], length, Some, inl, inr, sym, ap, ◌∙◌, subst, arith}
+use Rattle.std.proofs.Common.{◌≡◌, ◌↔◌, ℕ, ◌+◌, ◌*◌, ◌<◌, ◌≤◌, leb, ltb, Bool, true, List, [], length, inl, inr, sym, ap, ◌∙◌, subst, arith}
 use Rattle.std.proofs.lemmas.List.{ext_get_or, get_or_past}
 use Rattle.std.proofs.lemmas.List.FromFn.{length-map-range_with_len, get_or-map-range_with_len}
 use Rattle.std.proofs.lemmas.Bool.{and_parts, and_from, eqb-true, eq-eqb, le-leb, lt-ltb, leb-true, ltb-true, cases_lt, false≢true}
 use Rattle.pm_links.specs.Lists.{has, IsOnce}
-use Rattle.pm_base.specs.Sides.{face_of}
-use Rattle.pm_forest.specs.Forest.{Hierarchy, node_count, record_count}
+use Rattle.pm_forest.specs.Forest.{Hierarchy, node_count}
 use Rattle.pm_forest.specs.Fronts.{ancestor_of, every}
-use Rattle.pm_forest.specs.Faces.{first_face, face_count, record_of, from_leaf}
+use Rattle.pm_forest.specs.Faces.{first_face, face_count, from_leaf}
 use Rattle.pm_forest.specs.Kept.{is_shown}
-use Rattle.pm_forest.proofs.FaceNumbers.{first_face-mono, revealed-parts, revealed-from}
 use Rattle.pm_front.specs.Shown.{numbers}
 use Rattle.pm_front.specs.Corners.{listed, by_node, is_under, full_list, full_lists, is_between, AreCorners}
 use Rattle.pm_front.proofs.ListLaws.{has_filter-parts, has_filter-from, once-filter}
@@ -69,24 +67,6 @@ corner_of-parts h k e t =
 pub corner_of-from : (h : Hierarchy) (k e : ℕ) → 3 * first_face h k ≤ e → e < 3 * first_face h (k + 1) → is_corner_of h k e ≡ true
 corner_of-from h k e low high =
     and_from (leb (3 * first_face h k) e) (ltb e (3 * first_face h (k + 1))) (le-leb (3 * first_face h k) e low) (lt-ltb e (3 * first_face h (k + 1)) high)
-
--- they are those of the faces that the record reveals
-pub corner_of-record : (h : Hierarchy) (k e : ℕ) → k < record_count h → 3 * first_face h k ≤ e → e < 3 * first_face h (k + 1) →
-    (e < 3 * face_count h) × (record_of h e ≡ Some k)
-corner_of-record h k e l low high =
-    let at : k + 1 ≡ suc k = omega arith in
-    let top = ap (first_face h) at in
-    let most = first_face-mono h (suc k) (record_count h) (omega arith) in
-    (omega arith, revealed-from h (face_of e) k l (omega arith) (omega arith))
-
-pub record-corner_of : (h : Hierarchy) (k e : ℕ) → e < 3 * face_count h → record_of h e ≡ Some k → (3 * first_face h k ≤ e) × (e < 3 * first_face h (k + 1))
-record-corner_of h k e l own =
-    let at : k + 1 ≡ suc k = omega arith in
-    let top = ap (first_face h) at in
-    let p = revealed-parts h (face_of e) k (omega arith) own in
-    let low = p.1 in
-    let high = p.2 in
-    (omega arith, omega arith)
 
 -- ---- the full front
 

@@ -13,7 +13,8 @@ use Rattle.pm_forest.proofs.OneStep.{with-same, split-under, split-elsewhere}
 use Rattle.pm_forest.proofs.Shown.{shown_record, shown_with, shown_with-parts}
 use Rattle.pm_front.specs.Corners.{listed, is_under, dealt_list, split_list, split_lists, AreCorners}
 use Rattle.pm_front.proofs.ListLaws.{has_filter-parts, has_filter-from, once-filter, has_reverse, once-reverse, prepend_passing-old, prepend_passing-new, prepend_passing-parts, once-prepend_passing}
-use Rattle.pm_front.proofs.NodeLists.{length-by_node, each_by_node, once_by_node, corner_of-record, record-corner_of}
+use Rattle.pm_front.proofs.NodeLists.{length-by_node, each_by_node, once_by_node}
+use Rattle.pm_sides.proofs.RecordSides.{corner_of-record, record-corner_of}
 
 -- what each list is after the dealing
 module _ (h : Hierarchy) (k : ℕ) (ls : List (List ℕ)) where

@@ -12,10 +12,10 @@ ghost use Rattle.pm_beyond.specs.Moves.{same_side, outer_pair, outer_sides};
 ghost use Rattle.pm_front.specs.Told.{are_told, told_of};
 ghost use Rattle.pm_front.specs.Needed.{is_needed, remaining, AreRemaining};
 
-use crate::corners::first_child;
 use crate::refinement::Refinement;
 use pm_base::{FaceId, NodeId, Side};
 use pm_forest::NewFace;
+use pm_sides::first_child;
 
 // What a record tells of the first outer side of a new face.
 fn first_told(new: Option<NewFace>) -> Option<Side>
@@ -139,7 +139,7 @@ impl Refinement {
     }
 
     // Whether beyond each outer side of record `k` stands what is recorded.
-    #[tactic(auto, unfolding(pm_beyond::specs::Moves::outer_sides), using(crate::proofs::FirstLaws::left_there, crate::proofs::FirstLaws::right_there, crate::proofs::FirstLaws::left_own, crate::proofs::FirstLaws::right_own, crate::proofs::RemainingLaws::left_face, crate::proofs::RemainingLaws::right_face, crate::proofs::RemainingLaws::told_both))]
+    #[tactic(auto, unfolding(pm_beyond::specs::Moves::outer_sides), using(pm_sides::proofs::FirstLaws::left_there, pm_sides::proofs::FirstLaws::right_there, pm_sides::proofs::FirstLaws::left_own, pm_sides::proofs::FirstLaws::right_own, crate::proofs::RemainingLaws::left_face, crate::proofs::RemainingLaws::right_face, crate::proofs::RemainingLaws::told_both))]
     fn sides_remain_told(&self, gone: &[bool], k: u32) -> bool
         requires record { k < record_count self.now.h }
         requires remain { AreRemaining self.now.h self.now.flags gone.now }

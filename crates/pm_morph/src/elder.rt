@@ -11,7 +11,7 @@ use pm_forest::Hierarchy;
 use pm_front::Front;
 
 // The climb from a node to the ancestor of the first leaf below it.
-#[tactic(auto, using(pm_forest::proofs::ViewLaws::climb_goes_down, pm_forest::proofs::ViewLaws::climb_ends, pm_front::proofs::Counting::s_is))]
+#[tactic(auto, using(pm_forest::proofs::ViewLaws::climb_goes_down, pm_forest::proofs::ViewLaws::climb_ends, pm_sides::proofs::SplitNodeLaws::s_is))]
 fn climb(h: &Hierarchy, marks: &[bool], from: NodeId) -> NodeId
     requires marks { length marks.now ≡ record_count h.now }
     requires front { IsFront h.now (set_of marks.now) }

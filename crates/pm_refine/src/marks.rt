@@ -39,7 +39,7 @@ fn mark_revealer(h: &Hierarchy, marks: &mut Vec<bool>, side: Option<Side>)
 
 /// Marks what a record needs: the maker of its node, and those that reveal its recorded
 /// neighbours.
-#[tactic(auto, using(pm_front::proofs::SplitLaws::s_below, pm_front::proofs::Counting::s_is))]
+#[tactic(auto, using(pm_sides::proofs::SplitNodeLaws::s_below, pm_sides::proofs::SplitNodeLaws::s_is))]
 pub(crate) fn mark_needs(h: &Hierarchy, marks: &mut Vec<bool>, k: u32)
     requires record { k < record_count h.now }
     requires marks { length marks.old.items ≡ record_count h.now }

@@ -57,7 +57,7 @@ fn push_revealer(front: &Front, work: &mut NumberSet, side: Option<Side>, goes: 
 
 /// Puts what a record needs in the set: the maker of its node, and those that reveal its recorded
 /// neighbours. Where the record goes, those are left out that are free: they were tried before.
-#[tactic(auto, using(pm_front::proofs::SplitLaws::s_below, pm_front::proofs::Counting::s_is))]
+#[tactic(auto, using(pm_sides::proofs::SplitNodeLaws::s_below, pm_sides::proofs::SplitNodeLaws::s_is))]
 pub(crate) fn push_needs(front: &Front, work: &mut NumberSet, k: u32, goes: bool)
     requires record { k < record_count front.now.h }
     requires work { length work.old ≡ record_count front.now.h }

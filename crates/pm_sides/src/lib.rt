@@ -1,0 +1,14 @@
+//! A hierarchy with the tables beside it that the sides of its faces are found by, and what stands beyond each side.
+#![tactic(auto)]
+
+mod indexed;
+mod inner;
+mod sides;
+mod table;
+
+pub use indexed::IndexedHierarchy;
+pub use sides::{first_child, holds, leaf_at};
+pub use table::SideTable;
+
+/// The answer for want of memory.
+pub type OutOfMemory = std::alloc::AllocError;
