@@ -1,2 +1,4 @@
+pub mod Lowering
 pub mod Stored
 pub mod Tables
+pub mod Told

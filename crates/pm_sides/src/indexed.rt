@@ -104,6 +104,13 @@ impl IndexedHierarchy {
         &self.hierarchy
     }
 
+    /// The hierarchy, without the tables.
+    pub fn into_hierarchy(self) -> Hierarchy
+        ensures { result ≡ self }
+    {
+        self.hierarchy
+    }
+
     /// The first face of record `k`. O(1).
     #[tactic(auto, using(crate::proofs::FirstLaws::first_few))]
     pub fn first_face(&self, k: u32) -> u32

@@ -3,10 +3,13 @@
 
 mod indexed;
 mod inner;
+mod lowering;
 mod sides;
 mod table;
+mod told;
 
 pub use indexed::IndexedHierarchy;
+pub use lowering::{BadNeighbour, Lowering};
 pub use sides::{first_child, holds, leaf_at};
 pub use table::SideTable;
 

@@ -45,9 +45,9 @@ pub fn expand<S: Source, K: Sink>(
     ensures counts { Counts result (S.faults input.old) (S.faults input.new) (K.faults out.old) (K.faults out.new) }
     ensures read_whole { OnOk result (AtEnd (S.left input.new)) }
 {
-    let base = read_hierarchy(alloc, input)?;
-    let mesh = base.front.hierarchy().input_mesh(alloc)?;
-    write_obj(&mesh, base.digits, out)?;
+    let stream = read_hierarchy(alloc, input)?;
+    let mesh = stream.h.input_mesh(alloc)?;
+    write_obj(&mesh, stream.digits, out)?;
     Ok(())
 }
 
@@ -62,9 +62,9 @@ pub fn check<S: Source, K: Sink>(
     ensures counts { Counts result (S.faults input.old) (S.faults input.new) (K.faults out.old) (K.faults out.new) }
     ensures read_whole { OnOk result (AtEnd (S.left input.new)) }
 {
-    let base = read_hierarchy(alloc, input)?;
+    let stream = read_hierarchy(alloc, input)?;
     let mut line = Line::new();
-    put_counts(&mut line, base.front.hierarchy());
+    put_counts(&mut line, &stream.h);
     put_all(out, line.as_slice())?;
     Ok(())
 }

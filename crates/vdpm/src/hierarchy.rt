@@ -6,23 +6,15 @@ ghost use Rattle.vdpm.specs.Beginning.{IsHierarchyText};
 
 use crate::fault::{Fault, InputFail};
 use pm_format::{Stream, read_stream};
-use pm_front::Front;
 use pm_io::{Source, Taker};
-use pm_load::open_front;
+use pm_load::validate;
 use std::alloc::Global;
 
-/// The base front of a valid hierarchy, and how many decimals its coordinates have.
-#[derive(Drop)]
-pub struct Base {
-    pub front: Front,
-    pub digits: u32,
-}
-
-/// Reads the stream text of a valid hierarchy and looks that no byte follows it, and answers its base front. A fault is
-/// answered once the bytes that decide it were taken.
-pub fn read_hierarchy<S: Source>(alloc: Global, input: &mut S) -> Result<Base, InputFail>
-    ensures read { IfOk result (λ b. IfSome (S.left input.old) (λ bytes. IsHierarchyText bytes (Ok (record { digits = b.digits; h = b.front.h; rest = [] })) None)) }
-    ensures few { IfOk result (λ b. b.digits ≤ 4) }
+/// Reads the stream text of a valid hierarchy, and looks that no byte follows it. A fault is answered once the bytes that
+/// decide it were taken.
+pub fn read_hierarchy<S: Source>(alloc: Global, input: &mut S) -> Result<Stream, InputFail>
+    ensures read { IfOk result (λ s. IfSome (S.left input.old) (λ bytes. IsHierarchyText bytes (Ok (record { digits = s.digits; h = s.h; rest = [] })) None)) }
+    ensures few { IfOk result (λ s. s.digits ≤ 4) }
     ensures end { OnOk result (AtEnd (S.left input.new)) }
     ensures count { OnOk result (S.faults input.new ≡ S.faults input.old) }
     ensures err { IfErr result (λ e. Stops IsHierarchyText e
@@ -30,9 +22,9 @@ pub fn read_hierarchy<S: Source>(alloc: Global, input: &mut S) -> Result<Base, I
 {
     let mut taker = Taker::new(alloc)?;
     let Stream { h, digits } = read_stream(alloc, &mut taker, input)?;
-    let front = open_front(alloc, h)?;
+    let valid = validate(alloc, h)?;
     match taker.piece(input) {
-        Ok([]) => Ok(Base { front, digits }),
+        Ok([]) => Ok(Stream { h: valid, digits }),
         Ok(_) => Err(InputFail::Faulty(Fault::Trailing)),
         Err(_) => Err(InputFail::Read),
     }

@@ -1,0 +1,12 @@
+use Rattle.std.proofs.Common.{ap, ◌∙◌, subst, arith}
+use Rattle.pm_beyond.specs.Valid.{IsValid}
+use Rattle.pm_beyond.proofs.Opening.{told_valid}
+use Rattle.pm_sides.specs.Lowering.{Lowered}
+use Rattle.pm_load.proofs.validity.validate.Goals as goal
+
+pub returns-clause-valid : goal.returns-clause-valid
+returns-clause-valid c =
+    let i = c.invariant.ensures in
+    let none = c.in_default-lower_sides.ensures.left in
+    let valid = (told_valid _ i.shape i.once).1 (λ k l. i.rules k (omega (arith, none)) l) in
+    subst IsValid (c.in_default-lower_sides.ensures.h ∙ ap (λ (o : Lowered). o.h) c.in-Ok-full.ensures) valid
