@@ -1,17 +1,17 @@
 -- What holds of a hierarchy while it is lowered, from the full front on.
-use Rattle.std.proofs.Common.{◌≡◌, ℕ, suc, ◌-◌, ◌*◌, ◌<◌, Bool, true, false, List, Option, Some, inl, inr, length, replicate, sym, ap, ◌∙◌, subst, arith}
+use Rattle.std.proofs.Common.{◌≡◌, ℕ, suc, ◌-◌, ◌*◌, ◌<◌, Bool, true, false, List, [], ◌∷◌, Option, Some, inl, inr, length, replicate, refl, sym, ap, ◌∙◌, subst, arith}
 use Rattle.std.proofs.Math.ListN.{set, length-set}
-use Rattle.std.proofs.lemmas.Bool.{cases_eq, lt-ltb}
+use Rattle.std.proofs.lemmas.Bool.{cases_eq, lt-ltb, le-ltb}
 use Rattle.std.proofs.lemmas.List.{length-replicate}
 use Rattle.pm_base.specs.declared.ids.Side.{Side}
 use Rattle.pm_base.specs.Sides.{face_of, NoSideTwice}
 use Rattle.pm_forest.specs.Forest.{Hierarchy, record_count}
-use Rattle.pm_forest.specs.Fronts.{set_of, below, every, without, IsFront}
+use Rattle.pm_forest.specs.Fronts.{set_of, below, every, no_records, without, IsFront}
 use Rattle.pm_forest.specs.Faces.{face_count, record_of, inner_of}
 use Rattle.pm_forest.specs.Rules.{HasShape}
 use Rattle.pm_forest.proofs.Ancestors.{below-front}
 use Rattle.pm_forest.proofs.ShapeLaws.{shape_of_nodes}
-use Rattle.pm_forest.proofs.Flags.{set_of-clear, without-below}
+use Rattle.pm_forest.proofs.Flags.{set_of-clear, set_of-unset, without-below}
 use Rattle.pm_beyond.specs.Walks.{leaf_net, Beyond, expected}
 use Rattle.pm_beyond.specs.Valid.{IsAsTold}
 use Rattle.pm_beyond.proofs.Opening.{told_found}
@@ -86,3 +86,20 @@ lowering-goes_on h flags table left was pos tells now right =
       lowered = lowered h was.shape was.once flags left was.lowered was.flag_len pos tells;
       beyond = subst (λ (T : ℕ → Bool). AreStored h T now) (sym (set_of-clear flags (left - 1) (omega (arith, was.flag_len)))) right;
     }
+
+-- Once no record is split, no flag is set.
+all_false : (flags : List Bool) → ((j : ℕ) → j < length flags → set_of flags j ≡ false) → flags ≡ replicate (length flags) false
+all_false [] none = refl
+all_false (x ∷ xs) none =
+    let first : x ≡ false = none 0 (omega arith) in
+    let later = all_false xs (λ j l. none (suc j) (omega arith)) in
+    ap (λ y. y ∷ xs) first ∙ ap (λ (ys : List Bool). false ∷ ys) later
+
+module _ (h : Hierarchy) (flags : List Bool) (table : List (Option Side)) (left : ℕ) (was : IsLowering h flags table left) (none : left ≡ 0) where
+  pub lowered-flags : flags ≡ replicate (record_count h) false
+  lowered-flags =
+      let clear = λ (j : ℕ) (l : j < length flags). ap (λ (U : ℕ → Bool). U j) (was.lowered.front ∙ ap below none) ∙ le-ltb j 0 (omega arith) in
+      all_false flags clear ∙ ap (λ n. replicate n false) was.flag_len
+
+  pub lowered-stored : AreStored h no_records table
+  lowered-stored = subst (λ (T : ℕ → Bool). AreStored h T table) (ap set_of lowered-flags ∙ set_of-unset (record_count h)) was.beyond

@@ -1,12 +1,14 @@
 //! Lowering goes from the full front of a hierarchy down to its base front, and looks at each record's neighbours on the
 //! way. It keeps nothing of a front but what stands beyond the sides.
-ghost use Rattle.std.specs.Prelude.{ℕ, ◌≡◌, ◌-◌, ◌<◌, ◌≤◌, OnOk, OnErr, IfOk, IfErr};
+ghost use Rattle.std.specs.Prelude.{ℕ, ◌≡◌, ◌-◌, ◌<◌, ◌≤◌, OnOk, OnErr, IfOk, IfErr, replicate, false};
 ghost use Rattle.pm_base.specs.Sides.{NoSideTwice};
 ghost use Rattle.pm_twins.specs.Table.{IsTableOf};
 ghost use Rattle.pm_forest.specs.Forest.{record_count, leaf_count};
+ghost use Rattle.pm_forest.specs.Fronts.{no_records};
 ghost use Rattle.pm_forest.specs.Rules.{HasShape};
 ghost use Rattle.pm_beyond.specs.Walks.{leaf_net};
 ghost use Rattle.pm_beyond.specs.Valid.{IsAsTold};
+ghost use Rattle.pm_sides.specs.Stored.{AreStored};
 
 use crate::OutOfMemory;
 use crate::indexed::IndexedHierarchy;
@@ -60,11 +62,12 @@ impl Lowering {
         })
     }
 
-    /// The hierarchy has the right shape, no directed side stands twice in its leaf mesh, and all records from `left` on
-    /// are as told.
+    /// The hierarchy has the right shape, no directed side stands twice in its leaf mesh, at most all records are split, and
+    /// all from `left` on are as told.
     pub fn invariant(&self)
         ensures shape { HasShape self.now.h }
         ensures once { NoSideTwice (leaf_net self.now.h) }
+        ensures most { self.now.left ≤ record_count self.now.h }
         ensures rules { (k : ℕ) → self.now.left ≤ k → k < record_count self.now.h → IsAsTold self.now.h k }
     {
         let _ = &self.split;
@@ -94,6 +97,16 @@ impl Lowering {
         self.split[k as usize] = false;
         self.left = k;
         Ok(())
+    }
+
+    /// The indexed hierarchy, the records' flags and the table of the sides, once no record is split.
+    pub fn into_parts(self) -> (IndexedHierarchy, Vec<bool>, SideTable)
+        requires { self.left ≡ 0 }
+        ensures h { result.0 ≡ self.h }
+        ensures flags { result.1.items ≡ replicate (record_count self.h) false }
+        ensures stored { AreStored self.h no_records result.2 }
+    {
+        (self.indexed, self.split, self.table)
     }
 
     /// The hierarchy.
