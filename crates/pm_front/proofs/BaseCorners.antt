@@ -2,14 +2,15 @@
 -- gathered just as they would be among all others, and in the end there are no others.
 use Rattle.std.proofs.Common.{◌≡◌, ℕ, suc, ◌+◌, ◌-◌, ◌*◌, ◌<◌, ◌≤◌, Bool, true, false, List, [], ◌++◌, length, inl, inr, refl, sym, ap, ◌∙◌, arith}
 use Rattle.std.specs.List.{filter, range_with_len}
-use Rattle.std.proofs.lemmas.Bool.{cases_eq, cases_lt, le-ltb, lt-ltb, both_ways, false_from_ne_true, not_from_false}
-use Rattle.std.proofs.lemmas.List.{append-nil, ext_get_or, get_or-replicate, length-replicate}
+use Rattle.std.proofs.lemmas.Bool.{cases_eq, cases_lt, lt-ltb, false≢true, false_from_ne_true, not_from_false}
+use Rattle.std.proofs.lemmas.List.{ext_get_or, get_or-replicate, length-replicate}
 use Rattle.std.proofs.lemmas.List.Elements.{filter-append}
+use Rattle.std.proofs.lemmas.List.FromFn.{length-range_with_len}
 use Rattle.pm_base.specs.Sides.{face_of}
 use Rattle.pm_links.specs.Lists.{Lists, list_of, has, empty_lists, with_moved}
 use Rattle.pm_links.proofs.Calls.{after_move}
 use Rattle.pm_forest.specs.Forest.{Hierarchy, node_count, record_count, s_of, t_of, u_of}
-use Rattle.pm_forest.specs.Fronts.{every, below}
+use Rattle.pm_forest.specs.Fronts.{every, below, no_records}
 use Rattle.pm_forest.specs.Faces.{first_face, face_count}
 use Rattle.pm_forest.specs.Kept.{is_shown}
 use Rattle.pm_forest.specs.Rules.{HasShape}
@@ -23,18 +24,18 @@ use Rattle.pm_sides.proofs.RecordSides.{corner_of-record}
 use Rattle.pm_sides.proofs.SplitNodeLaws.{s_below}
 use Rattle.pm_front.specs.Shown.{numbers}
 use Rattle.pm_front.specs.Corners.{listed, is_under, is_outside, rest_of, collapsed_list, collapsed_lists, full_list, full_base_lists, full_lists, base_lists, opened_lists}
-use Rattle.pm_front.proofs.Counting.{numbers_parts}
-use Rattle.pm_front.proofs.ListLaws.{has_range-parts, has_filter-parts, filter-all, filter-none, filter-swap, number-member}
+use Rattle.pm_front.specs.Active.{shown_count}
+use Rattle.pm_front.proofs.ListLaws.{has_filter-parts, filter-all, filter-swap, passing_first}
 use Rattle.pm_front.proofs.NodeLists.{is_corner_of, corner_of-parts, listed-by_node, listed-past, length-by_node}
 use Rattle.pm_front.proofs.CollapsedCorners.{collapsed-s, collapsed-child, collapsed-other}
 use Rattle.pm_front.proofs.MoveLaws.{empty-s, collapse-gathered}
 use Rattle.pm_front.proofs.CornerTables.{Filling, children-differ}
-use Rattle.pm_front.proofs.OpenedLists.{opened-full, opened-next, opened-base, opened-corners}
+use Rattle.pm_front.proofs.OpenedLists.{opened-full, opened-next, opened-base, opened-corners, base-right}
 
 -- ---- the corners of base faces
 
 abbrev pub is_base : Hierarchy → ℕ → Bool
-is_base h e = is_shown h (below 0) e
+is_base h e = is_shown h no_records e
 
 pub bases-few : (h : Hierarchy) → length h.bases ≤ face_count h
 unfolding first_face
@@ -43,14 +44,14 @@ bases-few h = first_face-mono h 0 (record_count h) (omega arith)
 base-early : (h : Hierarchy) (e : ℕ) → e < 3 * length h.bases → is_base h e ≡ true
 base-early h e l =
     let few = bases-few h in
-    shown_base h (below 0) e ((revealed-base h (face_of e) (omega arith)).1 (omega arith))
+    shown_base h no_records e ((revealed-base h (face_of e) (omega arith)).1 (omega arith))
 
 base-late : (h : Hierarchy) (e : ℕ) → e < 3 * face_count h → 3 * length h.bases ≤ e → is_base h e ≡ false
 base-late h e l late =
     false_from_ne_true (is_base h e) (λ t.
-    elim (shown-parts h (below 0) e t) [
+    elim (shown-parts h no_records e t) [
       | inl none ↦ absurd (let early = (revealed-base h (face_of e) (omega arith)).0 none in omega arith)
-      | inr (j, own, split) ↦ both_ways (below 0 j) (le-ltb j 0 (omega arith)) split
+      | inr (j, own, split) ↦ false≢true split
     ])
 
 -- no record has one
@@ -59,18 +60,18 @@ base-outside h k k_lt e base =
     not_from_false (is_corner_of h k e) (false_from_ne_true (is_corner_of h k e) (λ t.
     let p = corner_of-parts h k e t in
     let own = (corner_of-record h k e k_lt p.0 p.1).1 in
-    both_ways (below 0 k) (le-ltb k 0 (omega arith)) (sym (shown_record h (below 0) e k own) ∙ base)))
+    false≢true (sym (shown_record h no_records e k own) ∙ base)))
 
 base-numbers : (h : Hierarchy) → filter (is_base h) (numbers (3 * face_count h)) ≡ numbers (3 * length h.bases)
 base-numbers h =
-    let m = 3 * length h.bases in
-    let later = 3 * face_count h - m in
     let few = bases-few h in
-    ap (filter (is_base h)) (numbers_parts m later (3 * face_count h) (omega arith))
-    ∙ filter-append (is_base h) (numbers m) (range_with_len m later)
-    ∙ ap (λ l. l ++ filter (is_base h) (range_with_len m later)) (filter-all (is_base h) (numbers m) (λ e t. base-early h e ((number-member m e).0 t)))
-    ∙ ap (λ l. numbers m ++ l) (filter-none (is_base h) (range_with_len m later) (λ e t. let p = has_range-parts m later e t in base-late h e (omega (arith, p.1)) (omega (arith, p.0))))
-    ∙ append-nil (numbers m)
+    passing_first (is_base h) (3 * length h.bases) (3 * face_count h) (omega arith) (base-early h) (base-late h)
+
+-- so many faces are kept
+pub base-kept : (h : Hierarchy) → shown_count h no_records ≡ length h.bases
+base-kept h =
+    ap length (passing_first (λ f. is_base h (3 * f)) (length h.bases) (face_count h) (bases-few h) (λ f l. base-early h (3 * f) (omega arith)) (λ f l late. base-late h (3 * f) (omega arith) (omega arith)))
+    ∙ length-range_with_len 0 (length h.bases)
 
 -- ---- in the lists of the full front
 
@@ -184,9 +185,8 @@ module _ (h : Hierarchy) (shape : HasShape h) (k : ℕ) (k_lt : k < record_count
 
 pub gathered-ends : (h : Hierarchy) → HasShape h → (n : ℕ) (v : Lists) → Gathered h n v → n ≡ 0 → v.lists ≡ base_lists h
 gathered-ends h shape n v all is =
-    let ls = opened_lists h 0 in
-    let right = opened-corners h shape 0 (omega arith) in
+    let ls = base_lists h in
+    let right = base-right h shape in
     ext_get_or [] v.lists ls (all.heads ∙ sym right.nodes) (λ g l.
-    all.each g ∙ ap (λ m. filter (is_base h) (listed (opened_lists h m) g)) is
+    all.each g ∙ ap (λ m. filter (is_base h) (listed (opened_lists h m) g)) is ∙ ap (λ k. filter (is_base h) (listed k g)) (opened-base h)
     ∙ filter-all (is_base h) (listed ls g) (λ e i. ((right.each g e).0 i).1))
-    ∙ opened-base h

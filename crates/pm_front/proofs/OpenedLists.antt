@@ -1,19 +1,25 @@
 -- The corner lists while a hierarchy is being opened, from the full front down to the base front.
-use Rattle.std.proofs.Common.{◌≡◌, ℕ, zero, suc, ◌+◌, ◌-◌, ◌<◌, ◌≤◌, Bool, inl, inr, refl, sym, ap, ◌∙◌, subst, arith}
-use Rattle.std.proofs.lemmas.Bool.{lt-ltb}
+use Rattle.std.proofs.Common.{◌≡◌, ℕ, zero, suc, ◌+◌, ◌-◌, ◌<◌, ◌≤◌, Bool, List, inl, inr, refl, sym, ap, ◌∙◌, subst, arith}
+use Rattle.std.proofs.Math.Path.{fun_ext}
+use Rattle.std.proofs.lemmas.Bool.{lt-ltb, le-ltb}
 use Rattle.pm_forest.specs.Forest.{Hierarchy, record_count, t_of, u_of}
-use Rattle.pm_forest.specs.Fronts.{below}
+use Rattle.pm_forest.specs.Fronts.{below, no_records}
 use Rattle.pm_forest.specs.Rules.{HasShape}
 use Rattle.pm_forest.proofs.Ancestors.{below-front, last_child-active}
 use Rattle.pm_forest.proofs.Flags.{without-below}
 use Rattle.pm_forest.proofs.ShapeLaws.{shape_of_nodes, shape_is_forest}
 use Rattle.pm_front.specs.Corners.{full_lists, collapsed_lists, lowered_lists, base_lists, opened_after, opened_lists, AreCorners}
+use Rattle.pm_sides.specs.Lowering.{Lowered}
+use Rattle.pm_front.specs.State.{Opened, opened_of}
 use Rattle.pm_front.proofs.CollapsedCorners.{collapsed-corners}
 use Rattle.pm_front.proofs.FullLaws.{all-corners}
 
 pub opened-full : (h : Hierarchy) → opened_lists h (record_count h) ≡ full_lists h
 unfolding opened_after
 opened-full h = let none : record_count h - record_count h ≡ 0 = omega arith in ap (opened_after h) none
+
+pub opened-begins : (o : Lowered) (h : Hierarchy) → o ≡ record { h = h; left = record_count h } → opened_of o ≡ record { h = h; left = record_count h; corners = full_lists h }
+opened-begins o h is = ap opened_of is ∙ ap (λ (ls : List (List ℕ)). let seen : Opened = record { h = h; left = record_count h; corners = ls } in seen) (opened-full h)
 
 -- one record fewer is split
 pub opened-next : (h : Hierarchy) (n : ℕ) → n < record_count h → opened_lists h n ≡ collapsed_lists h n (opened_lists h (suc n))
@@ -22,6 +28,14 @@ opened-next h n l =
     let done : record_count h - n ≡ suc (record_count h - suc n) = omega arith in
     let last : record_count h - suc (record_count h - suc n) ≡ n = omega arith in
     ap (opened_after h) done ∙ ap (λ k. collapsed_lists h k (opened_lists h (suc n))) last
+
+pub opened-lower : (o w : Lowered) → 0 < o.left → o.left ≤ record_count o.h → w ≡ record { h = o.h; left = o.left - 1 } →
+    opened_of w ≡ record { h = o.h; left = o.left - 1; corners = collapsed_lists o.h (o.left - 1) (opened_lists o.h o.left) }
+opened-lower o w some most is =
+    let last : suc (o.left - 1) ≡ o.left = omega arith in
+    ap opened_of is
+    ∙ ap (λ (ls : List (List ℕ)). let seen : Opened = record { h = o.h; left = o.left - 1; corners = ls } in seen)
+    (opened-next o.h (o.left - 1) (omega arith) ∙ ap (λ n. collapsed_lists o.h (o.left - 1) (opened_lists o.h n)) last)
 
 -- the collapses that are still to come lead to the base front
 opened-lowered : (h : Hierarchy) (n : ℕ) → n ≤ record_count h → lowered_lists h n (opened_lists h n) ≡ opened_lists h 0
@@ -49,3 +63,9 @@ opened-corners_from h shape (suc d) n is =
 
 pub opened-corners : (h : Hierarchy) → HasShape h → (n : ℕ) → n ≤ record_count h → AreCorners h (below n) (opened_lists h n)
 opened-corners h shape n l = opened-corners_from h shape (record_count h - n) n (omega arith)
+
+-- and in the end those of the base front
+pub base-right : (h : Hierarchy) → HasShape h → AreCorners h no_records (base_lists h)
+base-right h shape =
+    let none : below 0 ≡ no_records = fun_ext (λ j. le-ltb j 0 (omega arith)) in
+    subst (λ (T : ℕ → Bool). AreCorners h T (base_lists h)) none (subst (AreCorners h (below 0)) (opened-base h) (opened-corners h shape 0 (omega arith)))

@@ -1,0 +1,44 @@
+-- The base front: no record is split.
+use Rattle.std.proofs.Common.{◌≡◌, ℕ, ◌*◌, Bool, false, List, Option, length, replicate, sym, ap, ◌∙◌, subst}
+use Rattle.std.proofs.lemmas.Bool.{false≢true}
+use Rattle.std.proofs.lemmas.List.{length-replicate}
+use Rattle.pm_base.specs.declared.ids.Side.{Side}
+use Rattle.pm_base.specs.Sides.{NoSideTwice}
+use Rattle.pm_links.specs.Lists.{Lists}
+use Rattle.pm_forest.specs.Forest.{Hierarchy, node_count, record_count}
+use Rattle.pm_forest.specs.Fronts.{set_of, no_records, IsFront}
+use Rattle.pm_forest.specs.Faces.{face_count}
+use Rattle.pm_forest.specs.Rules.{HasShape}
+use Rattle.pm_forest.proofs.Flags.{set_of-unset}
+use Rattle.pm_beyond.specs.Walks.{leaf_net}
+use Rattle.pm_sides.specs.Stored.{AreStored}
+use Rattle.pm_front.specs.Active.{AreActive, shown_count}
+use Rattle.pm_front.specs.Corners.{base_lists, AreCorners}
+use Rattle.pm_front.specs.Members.{Members}
+use Rattle.pm_front.specs.State.{IsRefinement}
+use Rattle.pm_front.proofs.BaseCorners.{base-kept}
+use Rattle.pm_front.proofs.OpenedLists.{base-right}
+
+base-front : (h : Hierarchy) → IsFront h no_records
+base-front h k j l e made = absurd (false≢true e)
+
+module _ (h : Hierarchy) (flags : List Bool) (none : flags ≡ replicate (record_count h) false) where
+  pub unset : set_of flags ≡ no_records
+  unset = ap set_of none ∙ set_of-unset (record_count h)
+
+  -- All of it at once.
+  pub base-refined : HasShape h → NoSideTwice (leaf_net h) → (corners : Lists) (active : Members) (kept : ℕ) (table : List (Option Side)) →
+      corners.items ≡ 3 * face_count h → corners.lists ≡ base_lists h → active.bound ≡ node_count h → AreActive h no_records active.list →
+      kept ≡ length h.bases → AreStored h no_records table → IsRefinement h flags corners active kept table
+  base-refined shape once corners active kept table items lists bound nodes faces beyond = record {
+    shape = shape;
+    once = once;
+    flag_len = ap length none ∙ length-replicate (record_count h) false;
+    front = subst (λ (T : ℕ → Bool). IsFront h T) (sym unset) (base-front h);
+    corner_items = items;
+    corner_lists = subst (λ (T : ℕ → Bool). AreCorners h T corners.lists) (sym unset) (subst (AreCorners h no_records) (sym lists) (base-right h shape));
+    active_bound = bound;
+    active_list = subst (λ (T : ℕ → Bool). AreActive h T active.list) (sym unset) nodes;
+    kept_total = faces ∙ sym (ap (shown_count h) unset ∙ base-kept h);
+    beyond = subst (λ (T : ℕ → Bool). AreStored h T table) (sym unset) beyond;
+  }
