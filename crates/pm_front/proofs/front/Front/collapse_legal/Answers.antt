@@ -1,38 +1,27 @@
-use Rattle.std.proofs.Common.{◌<◌, subst, sym, ap, ◌∙◌}
-use Rattle.pm_forest.specs.Forest.{record_count}
-use Rattle.pm_forest.specs.Fronts.{set_of}
-use Rattle.pm_beyond.specs.Moves.{MayCollapse}
+use Rattle.std.proofs.Common.{◌<◌, Bool, List, length, arith, subst, sym, ap, ◌∙◌}
+use Rattle.pm_forest.specs.Forest.{Hierarchy, record_count}
+use Rattle.pm_forest.specs.Fronts.{set_of, without}
+use Rattle.pm_forest.proofs.Flags.{set_of-clear}
+use Rattle.pm_beyond.specs.Moves.{IsClosed, MayCollapse}
 use Rattle.pm_firm.specs.Firm.{IsFirm}
+use Rattle.pm_front.specs.Candidates.{AreCandidates}
 use Rattle.pm_front.specs.State.{State}
 use Rattle.pm_front.proofs.Surfaces.{shows_surface}
 use Rattle.pm_front.proofs.FrontLaws.{sound-same, collapse_told, collapse_sound}
+use Rattle.pm_front.proofs.ReadyLaws.{as_read, ready-same, collapse_ready}
 use Rattle.pm_front.proofs.front.Front.collapse_legal.Goals as goal
 
-pub collapse-requires-clause-is_split : goal.collapse-requires-clause-is_split
-collapse-requires-clause-is_split c =
-    let k = c.args.k in
-    let may = subst (λ (s : State). MayCollapse s.h (set_of s.flags) k) (sym c.self.view_is) c.requires.legal in
-    may.is_split
+pub collapse-requires-clause-closed : goal.collapse-requires-clause-closed
+collapse-requires-clause-closed c =
+    as_read (λ (h : Hierarchy) (flags : List Bool). IsClosed h (set_of flags)) _ _ _ _ (sym c.hierarchy.ensures) (sym c.flags.ensures) c.self.invariant.sound.closed
 
-pub collapse-requires-clause-t_active : goal.collapse-requires-clause-t_active
-collapse-requires-clause-t_active c =
-    let k = c.args.k in
-    let may = subst (λ (s : State). MayCollapse s.h (set_of s.flags) k) (sym c.self.view_is) c.requires.legal in
-    may.t_active
-
-pub collapse-requires-clause-u_active : goal.collapse-requires-clause-u_active
-collapse-requires-clause-u_active c =
-    let k = c.args.k in
-    let may = subst (λ (s : State). MayCollapse s.h (set_of s.flags) k) (sym c.self.view_is) c.requires.legal in
-    may.u_active
-
-pub collapse-requires-clause-told : goal.collapse-requires-clause-told
-collapse-requires-clause-told c =
+pub collapse-requires-2-clause-told : goal.collapse-requires-2-clause-told
+collapse-requires-2-clause-told c =
     let s = c.self.inside.refinement in
     let k = c.args.k in
     let l = subst (λ (s : State). k < record_count s.h) (sym c.self.view_is) c.requires.record in
     let may = subst (λ (s : State). MayCollapse s.h (set_of s.flags) k) (sym c.self.view_is) c.requires.legal in
-    collapse_told s.h s.flags c.self.invariant k l may
+    collapse_told s.h s.flags c.self.invariant.sound k l may
 
 pub invariant_of-self : goal.invariant_of-self
 invariant_of-self c =
@@ -40,7 +29,11 @@ invariant_of-self c =
     let k = c.args.k in
     let l = subst (λ (s : State). k < record_count s.h) (sym c.self.view_is) c.requires.record in
     let may = subst (λ (s : State). MayCollapse s.h (set_of s.flags) k) (sym c.self.view_is) c.requires.legal in
-    sound-same c.collapse.new.self s.h _ c.collapse.ensures.h c.collapse.ensures.flags (collapse_sound s.h s.flags c.self.invariant k l may)
+    let sound = c.self.invariant.sound in
+    let at : k < length s.flags = omega (arith, l, sound.flag_len) in
+    let are = as_read (λ (h : Hierarchy) (flags : List Bool). AreCandidates h (without (set_of flags) k) c.collapse.new.self) _ _ _ _ c.hierarchy.ensures c.flags.ensures c.collapse.ensures in
+    ready-same c.collapse-2.new.self s.h _ c.collapse.new.self c.collapse-2.ensures.h c.collapse-2.ensures.flags
+    (collapse_ready s.h s.flags k at c.collapse.new.self (collapse_sound s.h s.flags sound k l may) are)
 
 pub returns-clause-surface : goal.returns-clause-surface
 returns-clause-surface c firm =
@@ -48,5 +41,13 @@ returns-clause-surface c firm =
     let k = c.args.k in
     let l = subst (λ (s : State). k < record_count s.h) (sym c.self.view_is) c.requires.record in
     let may = subst (λ (s : State). MayCollapse s.h (set_of s.flags) k) (sym c.self.view_is) c.requires.legal in
-    let sound = sound-same c.collapse.new.self s.h _ c.collapse.ensures.h c.collapse.ensures.flags (collapse_sound s.h s.flags c.self.invariant k l may) in
-    shows_surface c.collapse.new.self sound (subst IsFirm (sym (c.collapse.ensures.h ∙ ap (λ (s : State). s.h) c.self.view_is)) firm)
+    let sound = sound-same c.collapse-2.new.self s.h _ c.collapse-2.ensures.h c.collapse-2.ensures.flags (collapse_sound s.h s.flags c.self.invariant.sound k l may) in
+    shows_surface c.collapse-2.new.self sound (subst IsFirm (sym (c.collapse-2.ensures.h ∙ ap (λ (s : State). s.h) c.self.view_is)) firm)
+
+pub returns-clause-done : goal.returns-clause-done
+returns-clause-done c =
+    let s = c.self.inside.refinement in
+    let k = c.args.k in
+    let l = subst (λ (s : State). k < record_count s.h) (sym c.self.view_is) c.requires.record in
+    let at : k < length s.flags = omega (arith, l, c.self.invariant.sound.flag_len) in
+    ap set_of c.collapse-2.ensures.flags ∙ set_of-clear s.flags k at ∙ ap (λ (s : State). without (set_of s.flags) k) c.self.view_is

@@ -1,17 +1,18 @@
-use Rattle.std.proofs.Common.{◌<◌, subst, sym, ap, ◌∙◌}
-use Rattle.pm_forest.specs.Forest.{record_count}
-use Rattle.pm_forest.specs.Fronts.{set_of}
-use Rattle.pm_beyond.specs.Moves.{MaySplit}
+use Rattle.std.proofs.Common.{◌<◌, Bool, List, length, arith, subst, sym, ap, ◌∙◌}
+use Rattle.pm_forest.specs.Forest.{Hierarchy, record_count}
+use Rattle.pm_forest.specs.Fronts.{set_of, with}
+use Rattle.pm_beyond.specs.Moves.{IsClosed, MaySplit}
 use Rattle.pm_firm.specs.Firm.{IsFirm}
+use Rattle.pm_front.specs.Candidates.{AreCandidates}
 use Rattle.pm_front.specs.State.{State}
 use Rattle.pm_front.proofs.Surfaces.{shows_surface}
 use Rattle.pm_front.proofs.FrontLaws.{sound-same, split_sound}
+use Rattle.pm_front.proofs.ReadyLaws.{as_read, ready-same, split_ready}
 use Rattle.pm_front.proofs.front.Front.split_legal.Goals as goal
 
-pub split-requires-clause-may : goal.split-requires-clause-may
-split-requires-clause-may c =
-    let k = c.args.k in
-    subst (λ (s : State). MaySplit s.h (set_of s.flags) k) (sym c.self.view_is) c.requires.legal
+pub split-requires-clause-closed : goal.split-requires-clause-closed
+split-requires-clause-closed c =
+    as_read (λ (h : Hierarchy) (flags : List Bool). IsClosed h (set_of flags)) _ _ _ _ (sym c.hierarchy.ensures) (sym c.flags.ensures) c.self.invariant.sound.closed
 
 pub invariant_of-self : goal.invariant_of-self
 invariant_of-self c =
@@ -19,7 +20,10 @@ invariant_of-self c =
     let k = c.args.k in
     let l = subst (λ (s : State). k < record_count s.h) (sym c.self.view_is) c.requires.record in
     let may = subst (λ (s : State). MaySplit s.h (set_of s.flags) k) (sym c.self.view_is) c.requires.legal in
-    sound-same c.split.new.self s.h _ c.split.ensures.h c.split.ensures.flags (split_sound s.h s.flags c.self.invariant k l may)
+    let sound = c.self.invariant.sound in
+    let at : k < length s.flags = omega (arith, l, sound.flag_len) in
+    let are = as_read (λ (h : Hierarchy) (flags : List Bool). AreCandidates h (with (set_of flags) k) c.split.new.self) _ _ _ _ c.hierarchy.ensures c.flags.ensures c.split.ensures in
+    ready-same c.split-2.new.self s.h _ c.split.new.self c.split-2.ensures.h c.split-2.ensures.flags (split_ready s.h s.flags k at c.split.new.self (split_sound s.h s.flags sound k l may) are)
 
 pub returns-clause-surface : goal.returns-clause-surface
 returns-clause-surface c firm =
@@ -27,5 +31,5 @@ returns-clause-surface c firm =
     let k = c.args.k in
     let l = subst (λ (s : State). k < record_count s.h) (sym c.self.view_is) c.requires.record in
     let may = subst (λ (s : State). MaySplit s.h (set_of s.flags) k) (sym c.self.view_is) c.requires.legal in
-    let sound = sound-same c.split.new.self s.h _ c.split.ensures.h c.split.ensures.flags (split_sound s.h s.flags c.self.invariant k l may) in
-    shows_surface c.split.new.self sound (subst IsFirm (sym (c.split.ensures.h ∙ ap (λ (s : State). s.h) c.self.view_is)) firm)
+    let sound = sound-same c.split-2.new.self s.h _ c.split-2.ensures.h c.split-2.ensures.flags (split_sound s.h s.flags c.self.invariant.sound k l may) in
+    shows_surface c.split-2.new.self sound (subst IsFirm (sym (c.split-2.ensures.h ∙ ap (λ (s : State). s.h) c.self.view_is)) firm)

@@ -1,0 +1,38 @@
+use Rattle.std.proofs.Common.{sym, subst}
+use Rattle.pm_forest.specs.Forest.{splitter_of}
+use Rattle.pm_forest.specs.Fronts.{set_of, without}
+use Rattle.pm_forest.specs.Moves.{may_try}
+use Rattle.pm_beyond.specs.Moves.{is_at}
+use Rattle.pm_front.specs.Needed.{is_unneeded, AreNeedCounts}
+use Rattle.pm_front.specs.Candidates.{AreAnswers, AreCleared, AreCandidates}
+use Rattle.pm_front.proofs.WaitingLaws.{waiting-without}
+use Rattle.pm_front.proofs.UnneededLaws.{with-without, without-same, unneeded-without}
+use Rattle.pm_front.proofs.CountedLaws.{names_counted, counts_without}
+use Rattle.pm_front.proofs.candidates.Candidates.collapse.Goals as goal
+
+pub free_all-requires-clause-counted : goal.free_all-requires-clause-counted
+free_all-requires-clause-counted c =
+    let h = c.args.h.now in
+    let T = set_of c.args._set.now in
+    let k = c.args.k in
+    let before = subst (AreCandidates h T) (sym c.self.view_is) c.requires.candidates in
+    let counts = subst (λ S. AreNeedCounts h S c.self.inside.needs) (sym (with-without T k c.requires.is_split)) before.counts in
+    names_counted h (without T k) k c.requires.record (without-same T k) c.names_of.result c.names_of.ensures.times c.self.inside.needs counts
+
+pub returns : goal.returns
+returns c =
+    let h = c.args.h.now in
+    let T = set_of c.args._set.now in
+    let k = c.args.k in
+    let before = subst (AreCandidates h T) (sym c.self.view_is) c.requires.candidates in
+    let put = subst (λ S. AreNeedCounts h S c.self.inside.needs) (sym (with-without T k c.requires.is_split)) before.counts in
+    let counts = counts_without h (without T k) k c.requires.record (without-same T k) c.names_of.result c.names_of.ensures.times _ _ put c.free_all.ensures.counts in
+    let first = subst (λ v. AreCleared c.self.inside.waiting c.clear_splitter.new.waiting (λ j. is_at j (splitter_of h v))) c.children.ensures.t c.clear_splitter.ensures in
+    let second = subst (λ v. AreCleared c.clear_splitter.new.waiting c.clear_splitter-2.new.waiting (λ j. is_at j (splitter_of h v))) c.children.ensures.u c.clear_splitter-2.ensures in
+    let waiting = waiting-without h c.invariant.ensures T c.requires.closed k c.requires.record c.requires.is_split _ _ _ before.waiting first second in
+    let unneeded = unneeded-without h c.invariant.ensures T c.requires.closed k c.requires.record c.requires.is_split _ _ c.names_of.result c.names_of.ensures.times c.free_all.new.needs counts before.unneeded c.free_all.ensures.unneeded in
+    record {
+      counts = counts;
+      waiting = subst (AreAnswers h (may_try h (without T k))) (sym c.insert.ensures) waiting;
+      unneeded = subst (AreAnswers h (is_unneeded h (without T k))) (sym c.remove.ensures) unneeded;
+    }

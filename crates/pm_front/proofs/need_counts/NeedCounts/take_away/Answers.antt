@@ -1,0 +1,13 @@
+use Rattle.pm_forest.specs.Fronts.{set_of}
+use Rattle.pm_front.proofs.CountedLaws.{names_counted, counts_without}
+use Rattle.pm_front.proofs.need_counts.NeedCounts.take_away.Goals as goal
+
+pub lower_all-requires-clause-counted : goal.lower_all-requires-clause-counted
+lower_all-requires-clause-counted c =
+    let T = set_of c.args._set.now in
+    names_counted c.args.h.now T c.args.k c.requires.record c.requires.absent c.names_of.result c.names_of.ensures.times c.args.self.now c.requires.counts
+
+pub returns : goal.returns
+returns c =
+    let T = set_of c.args._set.now in
+    counts_without c.args.h.now T c.args.k c.requires.record c.requires.absent c.names_of.result c.names_of.ensures.times c.args.self.now c.lower_all.new.needs c.requires.counts c.lower_all.ensures

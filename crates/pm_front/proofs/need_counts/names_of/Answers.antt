@@ -1,0 +1,38 @@
+use Rattle.std.proofs.Common.{◌≡◌, ◌<◌, length, sym, ap, ◌∙◌, subst, arith}
+use Rattle.pm_forest.specs.declared.parts.Record.{Record}
+use Rattle.pm_forest.specs.Forest.{node_count, maker_of}
+use Rattle.pm_forest.specs.Moves.{neighbours_of}
+use Rattle.pm_sides.proofs.SplitNodeLaws.{s_is, s_below}
+use Rattle.pm_front.proofs.NamedLaws.{neighbour_there, names_times}
+use Rattle.pm_front.proofs.need_counts.names_of.Goals as goal
+
+pub maker-requires : goal.maker-requires
+maker-requires c =
+    let h = c.args.h.now in
+    let s = ap (λ (r : Record). r.s) c.record_at-change.ensures ∙ s_is h c.args.k in
+    subst (λ v. v < node_count h) (sym s) (s_below h c.invariant.ensures c.args.k c.requires)
+
+pub revealer-requires : goal.revealer-requires
+revealer-requires c =
+    neighbour_there c.args.h.now c.args.k 0 c.neighbours-sides.result c.invariant.ensures c.requires (c.neighbours-sides.ensures.list ∙ ap neighbours_of c.record_at-change.ensures) (omega arith)
+
+pub revealer-requires-2 : goal.revealer-requires-2
+revealer-requires-2 c =
+    neighbour_there c.args.h.now c.args.k 1 c.neighbours-sides.result c.invariant.ensures c.requires (c.neighbours-sides.ensures.list ∙ ap neighbours_of c.record_at-change.ensures) (omega arith)
+
+pub revealer-requires-3 : goal.revealer-requires-3
+revealer-requires-3 c =
+    neighbour_there c.args.h.now c.args.k 2 c.neighbours-sides.result c.invariant.ensures c.requires (c.neighbours-sides.ensures.list ∙ ap neighbours_of c.record_at-change.ensures) (omega arith)
+
+pub revealer-requires-4 : goal.revealer-requires-4
+revealer-requires-4 c =
+    neighbour_there c.args.h.now c.args.k 3 c.neighbours-sides.result c.invariant.ensures c.requires (c.neighbours-sides.ensures.list ∙ ap neighbours_of c.record_at-change.ensures) (omega arith)
+
+pub returns-clause-times : goal.returns-clause-times
+returns-clause-times c j =
+    let h = c.args.h.now in
+    let sides = c.neighbours-sides.result in
+    let four : length sides ≡ 4 = omega arith in
+    let made = c.maker.ensures.value ∙ ap (maker_of h) (ap (λ (r : Record). r.s) c.record_at-change.ensures ∙ s_is h c.args.k) in
+    let names = names_times h c.args.k j sides four (c.neighbours-sides.ensures.list ∙ ap neighbours_of c.record_at-change.ensures) in
+    (rw (made, c.revealer.ensures.value, c.revealer-2.ensures.value, c.revealer-3.ensures.value, c.revealer-4.ensures.value) names)

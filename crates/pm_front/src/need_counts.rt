@@ -1,0 +1,141 @@
+//! For each record how often the records of a set name it among what they need, so that whether one of them needs it is
+//! answered by one look.
+ghost use Rattle.std.specs.Prelude.{ℕ, ◌≡◌, ◌<◌, ◌≤◌, ◌+◌, ◌*◌, ◌^◌, false, [], ◌∷◌, length, replicate, slice_index_or, IfOk, IfSome};
+ghost use Rattle.std.specs.List.{All};
+ghost use Rattle.pm_forest.specs.Forest.{record_count};
+ghost use Rattle.pm_forest.specs.Fronts.{set_of, with};
+ghost use Rattle.pm_forest.specs.Faces.{face_count};
+ghost use Rattle.pm_forest.specs.Moves.{side_in};
+ghost use Rattle.pm_front.specs.Needed.{revealer_of, times_in, times_named, AreRaised, AreNeedCounts};
+
+use crate::OutOfMemory;
+use pm_base::{NodeId, Side};
+use pm_forest::Hierarchy;
+use std::alloc::Global;
+use std::marker::Model;
+
+/// For each record how often the records of a set name it among what they need: the maker of a record's node, and the
+/// revealers of the faces of its recorded neighbours, once for each. Contracts see the counts.
+#[derive(Drop)]
+pub struct NeedCounts {
+    counts: Vec<u32>,
+}
+
+impl Model for NeedCounts {
+    ghost use Rattle.std.specs.Prelude.{ℕ, List};
+
+    ghost Value = { List ℕ };
+
+    ghost view = { λ n. n.counts.items };
+}
+
+// Which record reveals the face of a recorded neighbour.
+fn revealer(h: &Hierarchy, side: Option<Side>) -> Option<u32>
+    requires { All (λ e. e < 3 * face_count h.now) (side_in side) }
+    ensures value { result ≡ revealer_of h.now side }
+    ensures there { IfSome result (λ j. j < record_count h.now) }
+{
+    h.revealed_by(side?.face())
+}
+
+/// What record `k` needs, once for each reason; `None` where no neighbour is recorded, and where no record made a node
+/// or revealed a face.
+pub(crate) fn names_of(h: &Hierarchy, k: u32) -> [Option<u32>; 5]
+    requires { k < record_count h.now }
+    ensures there { All (λ name. IfSome name (λ j. j < record_count h.now)) result }
+    ensures times { (j : ℕ) → times_in j result ≡ times_named h.now k j }
+{
+    h.invariant();
+    let change = h.record_at(k);
+    let sides = change.neighbours();
+    [
+        h.maker(NodeId(change.s)),
+        revealer(h, sides[0]),
+        revealer(h, sides[1]),
+        revealer(h, sides[2]),
+        revealer(h, sides[3]),
+    ]
+}
+
+// Counts each of these names once more.
+fn raise_all(needs: &mut NeedCounts, names: &[Option<u32>])
+    requires there { All (λ name. IfSome name (λ k. k < length needs.old)) names.now }
+    requires room { (k : ℕ) → k < length needs.old → slice_index_or needs.old k 0 + times_in k names.now < 2 ^ 32 }
+    ensures { AreRaised needs.old needs.new names.now }
+{
+    for name in names {
+        needs.raise(*name);
+    }
+}
+
+// Counts each of these names once less.
+fn lower_all(needs: &mut NeedCounts, names: &[Option<u32>])
+    requires there { All (λ name. IfSome name (λ k. k < length needs.old)) names.now }
+    requires counted { (k : ℕ) → k < length needs.old → times_in k names.now ≤ slice_index_or needs.old k 0 }
+    ensures { AreRaised needs.new needs.old names.now }
+{
+    for name in names {
+        needs.lower(*name);
+    }
+}
+
+impl NeedCounts {
+    /// The counts of the empty set, for so many records. The only call that takes memory.
+    pub fn new(alloc: Global, records: u32) -> Result<NeedCounts, OutOfMemory>
+        ensures { IfOk result (λ c. c ≡ replicate records 0) }
+    {
+        let counts = vec![in alloc; 0; records as usize]?;
+        Ok(NeedCounts { counts })
+    }
+
+    /// How often record `k` is named. O(1).
+    pub fn count(&self, k: u32) -> u32
+        requires { k < length self.now }
+        ensures { result ≡ slice_index_or self.now k 0 }
+    {
+        self.counts[k as usize]
+    }
+
+    /// Counts a name once more.
+    pub(crate) fn raise(&mut self, name: Option<u32>)
+        requires there { IfSome name (λ k. k < length self.old) }
+        requires room { IfSome name (λ k. slice_index_or self.old k 0 + 1 < 2 ^ 32) }
+        ensures { AreRaised self.old self.new (name ∷ []) }
+    {
+        if let Some(k) = name {
+            self.counts[k as usize] += 1;
+        }
+    }
+
+    /// Counts a name once less.
+    pub(crate) fn lower(&mut self, name: Option<u32>)
+        requires there { IfSome name (λ k. k < length self.old) }
+        requires counted { IfSome name (λ k. 0 < slice_index_or self.old k 0) }
+        ensures { AreRaised self.new self.old (name ∷ []) }
+    {
+        if let Some(k) = name {
+            self.counts[k as usize] -= 1;
+        }
+    }
+
+    /// Counts what record `k` needs, which comes to the set. O(1).
+    pub fn add(&mut self, h: &Hierarchy, _set: &[bool], k: u32)
+        requires record { k < record_count h.now }
+        requires absent { set_of _set.now k ≡ false }
+        requires counts { AreNeedCounts h.now (set_of _set.now) self.old }
+        ensures { AreNeedCounts h.now (with (set_of _set.now) k) self.new }
+    {
+        h.invariant();
+        raise_all(self, &names_of(h, k));
+    }
+
+    /// No longer counts what record `k` needs, which has left the set. O(1).
+    pub fn take_away(&mut self, h: &Hierarchy, _set: &[bool], k: u32)
+        requires record { k < record_count h.now }
+        requires absent { set_of _set.now k ≡ false }
+        requires counts { AreNeedCounts h.now (with (set_of _set.now) k) self.old }
+        ensures { AreNeedCounts h.now (set_of _set.now) self.new }
+    {
+        lower_all(self, &names_of(h, k));
+    }
+}
