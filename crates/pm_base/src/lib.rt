@@ -9,6 +9,7 @@ mod log;
 mod mesh;
 mod normal;
 mod point;
+mod side_map;
 
 pub use distance::{dist_up, dist2, distances_add, lengths_add};
 pub use ids::{FaceId, NodeId, Side};
@@ -18,3 +19,4 @@ pub use log::{Collapse, Gone, Log};
 pub use mesh::{Corners, Mesh, Triples};
 pub use normal::{Normal, cross, dot};
 pub use point::{Point, Points};
+pub use side_map::SideMap;
