@@ -4,6 +4,8 @@ use Rattle.std.proofs.Math.ListN.{set}
 use Rattle.std.proofs.lemmas.Bool.{cases_eq, eqb-true, or_cases, false≢true}
 use Rattle.std.proofs.lemmas.List.{get_or-set_same, get_or-set_other, length-set}
 use Rattle.std.proofs.lemmas.Option.{none-some}
+use Rattle.std.specs.Option.{IfSome, option_map}
+use Rattle.pm_base.specs.declared.ids.Side.{Side}
 use Rattle.pm_base.specs.Sides.{Net, side_count, next, prev, to, NoSideTwice, twin_of}
 use Rattle.pm_base.proofs.Search.{option_cases}
 use Rattle.pm_base.proofs.Sides.{next-lt, next-next-next}
@@ -18,7 +20,7 @@ use Rattle.pm_twins.proofs.RowLaws.{row_next, row_ends}
 use Rattle.pm_twins.proofs.StampLaws.{leaving-some, leaving-here}
 
 -- Where all sides that leave v are stamped, a look at the stamps finds the one that runs to q.
-found : (m : Net) (v q : ℕ) (stamps : List (Option ℕ)) (r : Option ℕ) → AreStamps m (v + 1) stamps → AreAllStamped m v stamps → r ≡ leaving m v (slice_index_or stamps q None) → IsSideBetween m v q r
+found : (m : Net) (v q : ℕ) (stamps : List (Option Side)) (r : Option Side) → AreStamps m (v + 1) stamps → AreAllStamped m v stamps → r ≡ leaving m v (slice_index_or stamps q None) → IsSideBetween m v q (option_map (λ s. s.0) r)
 found m v q stamps None are all is = λ e l from ends.
     let (s, there, at) = all e l from in
     none-some s (is ∙ leaving-here m v s (slice_index_or stamps q None) (ap (λ (u : ℕ). slice_index_or stamps u None) (sym ends) ∙ there) at)
@@ -26,6 +28,14 @@ found m v q stamps (Some s) are all is =
     let (there, at) = leaving-some m v s (slice_index_or stamps q None) (sym is) in
     let (l, low, ends) = are.each q s there in
     (l, at, ends)
+
+-- What it finds is one of the mesh's sides.
+pub found-low : (m : Net) (v q most : ℕ) (stamps : List (Option Side)) (r : Option Side) → AreStamps m (v + 1) stamps → side_count m ≤ most → r ≡ leaving m v (slice_index_or stamps q None) → IfSome r (λ s. s.0 < most)
+found-low m v q most stamps None are few is = tt
+found-low m v q most stamps (Some s) are few is =
+    let (there, at) = leaving-some m v s (slice_index_or stamps q None) (sym is) in
+    let (l, low, ends) = are.each q s there in
+    omega (arith, l, few)
 
 -- Of the sides that leave v these are still to be gone through; the sides before the others are paired.
 pub record IsPairing (m : Net) (v : ℕ) (left : List ℕ) (twins : List (Option ℕ)) : Type 0 where
@@ -57,7 +67,7 @@ pub pairing_prev : (m : Net) (v x : ℕ) (left : List ℕ) (twins : List (Option
 pairing_prev m v x left twins i = prev-lt m x (i.leave x (has_head x left)).0
 
 -- One more side is paired.
-module _ (m : Net) (v x p : ℕ) (left : List ℕ) (stamps twins : List (Option ℕ)) (r : Option ℕ) (i : IsPairing m v (x ∷ left) twins) (are : AreStamps m (v + 1) stamps) (all : AreAllStamped m v stamps) (is : p ≡ prev x) (looked : r ≡ leaving m v (slice_index_or stamps (m.from p) None)) where
+module _ (m : Net) (v x p : ℕ) (left : List ℕ) (stamps : List (Option Side)) (twins : List (Option ℕ)) (r : Option Side) (i : IsPairing m v (x ∷ left) twins) (are : AreStamps m (v + 1) stamps) (all : AreAllStamped m v stamps) (is : p ≡ prev x) (looked : r ≡ leaving m v (slice_index_or stamps (m.from p) None)) where
   here_x : (x < side_count m) × (m.from x ≡ v)
   here_x = i.leave x (has_head x left)
 
@@ -67,25 +77,28 @@ module _ (m : Net) (v x p : ℕ) (left : List ℕ) (stamps twins : List (Option 
   p_ends : to m p ≡ v
   p_ends = ap (to m) is ∙ ap m.from (next-next-next x) ∙ here_x.1
 
-  at_p : IsSideBetween m v (m.from p) (slice_index_or (set twins p r) p None)
-  at_p = subst (IsSideBetween m v (m.from p)) (sym (get_or-set_same twins p r None p_low)) (found m v (m.from p) stamps r are all looked)
+  abbrev twin : Option ℕ
+  twin = option_map (λ s. s.0) r
 
-  other_slot : (u : ℕ) → u ≢ p → slice_index_or twins u None ≡ slice_index_or (set twins p r) u None
-  other_slot u ne = sym (get_or-set_other twins p u r None ne)
+  at_p : IsSideBetween m v (m.from p) (slice_index_or (set twins p twin) p None)
+  at_p = subst (IsSideBetween m v (m.from p)) (sym (get_or-set_same twins p twin None p_low)) (found m v (m.from p) stamps r are all looked)
 
-  pub pairing_more : IsPairing m v left (set twins p r)
+  other_slot : (u : ℕ) → u ≢ p → slice_index_or twins u None ≡ slice_index_or (set twins p twin) u None
+  other_slot u ne = sym (get_or-set_other twins p u twin None ne)
+
+  pub pairing_more : IsPairing m v left (set twins p twin)
   pairing_more = record {
     leave = λ e h. i.leave e (has_tail x left e h);
-    sides = length-set twins p r ∙ i.sides;
+    sides = length-set twins p twin ∙ i.sides;
     passed = λ g l from. elim (i.passed g l from) [
       | inl h ↦
           elim (or_cases (eqb x g) (has left g) h) [
-            | inl t ↦ inr (subst (λ (k : ℕ). IsSideBetween m v (m.from k) (slice_index_or (set twins p r) k None)) (is ∙ ap prev (eqb-true x g t)) at_p)
+            | inl t ↦ inr (subst (λ (k : ℕ). IsSideBetween m v (m.from k) (slice_index_or (set twins p twin) k None)) (is ∙ ap prev (eqb-true x g t)) at_p)
             | inr t ↦ inl t
           ]
       | inr done ↦
           inr (elim (cases_eq (prev g) p) [
-            | inl same ↦ subst (λ (k : ℕ). IsSideBetween m v (m.from k) (slice_index_or (set twins p r) k None)) (sym same) at_p
+            | inl same ↦ subst (λ (k : ℕ). IsSideBetween m v (m.from k) (slice_index_or (set twins p twin) k None)) (sym same) at_p
             | inr ne ↦ subst (IsSideBetween m v (m.from (prev g))) (other_slot (prev g) ne) done
           ])
     ];

@@ -1,6 +1,7 @@
 -- What the least side that repeats an earlier one says of sides and faces.
 use Rattle.std.proofs.Common.{◌≡◌, ◌≢◌, ℕ, ◌<◌, Some, None, inl, inr, refl, sym, ap, ◌∙◌, arith}
 use Rattle.std.proofs.lemmas.Bool.{cases_eq, cases_lt}
+use Rattle.pm_base.specs.declared.ids.Side.{Side}
 use Rattle.pm_base.specs.Sides.{Net, side_count, face_of, NoSideTwice}
 use Rattle.pm_base.proofs.Sides.{face_cases}
 use Rattle.pm_twins.specs.Faults.{IsFirstRepeating}
@@ -28,17 +29,17 @@ module _ (m : Net) (vertices : ℕ) (whole : IsWhole m vertices) where
             ])
       ]
 
-  pub first_repeating : (g : ℕ) → IsLeastRepeat m vertices (Some g) → IsFirstRepeating m (face_of g)
+  pub first_repeating : (g : Side) → IsLeastRepeat m vertices (Some g) → IsFirstRepeating m (face_of g.0)
   first_repeating g least =
       let (l, (earlier, before, from, ends)) = least.is_one in
-      let apart : face_of earlier ≢ face_of g = λ same. one_face earlier g (omega (arith, before, l)) same (λ k. absurd (omega (arith, k, before))) from in
+      let apart : face_of earlier ≢ face_of g.0 = λ same. one_face earlier g.0 (omega (arith, before, l)) same (λ k. absurd (omega (arith, k, before))) from in
       record {
         in_range = omega (arith, l);
-        repeats = record { side = g; earlier = earlier; of_face = refl; before = omega (arith, before, apart); from = from; to = ends };
+        repeats = record { side = g.0; earlier = earlier; of_face = refl; before = omega (arith, before, apart); from = from; to = ends };
         least = λ h low r.
             let of_face = r.of_face in
             let first = r.before in
-            let less : r.side < g = omega (arith, of_face, low) in
+            let less : r.side < g.0 = omega (arith, of_face, low) in
             let in_range : r.side < side_count m = omega (arith, less, l) in
             let up_to = least.least r.side in_range (whole.within r.side in_range) (r.earlier, omega (arith, first, of_face), r.from, r.to) in
             omega (arith, up_to, less);

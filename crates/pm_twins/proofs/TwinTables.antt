@@ -2,21 +2,22 @@
 use Rattle.std.proofs.Common.{◌≡◌, ◌≢◌, ℕ, ◌+◌, ◌<◌, Bool, true, false, not, Option, Some, None, ◌⊎◌, inl, inr, List, length, slice_index_or, refl, sym, ap, ◌∙◌, subst, arith}
 use Rattle.std.proofs.Math.ListN.{set}
 use Rattle.std.proofs.lemmas.Bool.{cases_eq, false≢true, true≢false}
-use Rattle.std.specs.Option.{is_some}
+use Rattle.std.specs.Option.{is_some, option_map}
 use Rattle.std.proofs.lemmas.Option.{none-some}
 use Rattle.std.proofs.lemmas.List.{get_or-set_same, get_or-set_other, length-set}
+use Rattle.pm_base.specs.declared.ids.Side.{Side}
 use Rattle.pm_base.specs.Sides.{Net, side_count, to, twin_of, IsBorderSide, IsBorder}
 use Rattle.pm_base.proofs.TwinLaws.{none-twin}
 use Rattle.pm_twins.specs.Table.{IsBorderOf}
 
--- From the test of an option to what it is.
-pub none_from_test : (r : Option ℕ) (b : Bool) → is_some r ≡ not b → b ≡ true → r ≡ None
+-- From the test of a side to its number.
+pub none_from_test : (r : Option Side) (b : Bool) → is_some r ≡ not b → b ≡ true → option_map (λ s. s.0) r ≡ None
 none_from_test None b e t = refl
 none_from_test (Some x) b e t = absurd (true≢false (e ∙ ap not t))
 
-pub some_from_test : (r : Option ℕ) (b : Bool) → is_some r ≡ not b → b ≡ false → r ≢ None
+pub some_from_test : (r : Option Side) (b : Bool) → is_some r ≡ not b → b ≡ false → option_map (λ s. s.0) r ≢ None
 some_from_test None b e t n = false≢true (e ∙ ap not t)
-some_from_test (Some x) b e t n = none-some x (sym n)
+some_from_test (Some x) b e t n = none-some x.0 (sym n)
 
 -- After n sides: a vertex is marked only if it is on the border, and the ends of a border side among them are marked.
 pub record AreMarked (m : Net) (vertices n : ℕ) (border : List Bool) : Type 0 where

@@ -10,7 +10,7 @@ ghost use Rattle.pm_twins.specs.Walks.{with_side, no_vertex, IsKnown};
 
 use crate::half_edges::HalfEdges;
 use crate::{OutOfMemory, Twins};
-use pm_base::Mesh;
+use pm_base::{Mesh, Side};
 use std::alloc::Global;
 
 /// Why the faces of a mesh are not all in fans.
@@ -26,12 +26,12 @@ pub enum FansFail {
 #[derive(Clone, Copy)]
 pub(crate) struct Vertex {
     pub(crate) degree: u32,
-    pub(crate) start: Option<u32>,
+    pub(crate) start: Option<Side>,
 }
 
 impl Vertex {
     // What is known once one more side is, which runs from the vertex.
-    fn with_side(self, side: u32, is_alone: bool) -> Vertex
+    fn with_side(self, side: Side, is_alone: bool) -> Vertex
         requires { self.degree + 1 < 4294967296 }
         ensures { result ≡ with_side self side is_alone }
     {
@@ -56,7 +56,7 @@ pub fn check_fans(alloc: Global, mesh: &Mesh, twins: &Twins) -> Result<(), FansF
 {
     let sides = HalfEdges {
         faces: mesh.faces.as_slice(),
-        twins: twins.as_slice(),
+        twins: twins.as_side_map(),
     };
     let Ok(vertices) = note_sides(alloc, &sides, mesh.points.len()) else {
         return Err(FansFail::OutOfMemory);
@@ -84,9 +84,10 @@ fn note_sides(alloc: Global, sides: &HalfEdges, count: usize) -> Result<Vec<Vert
         start: None,
     };
     let mut vertices = vec![in alloc; unused; count]?;
-    for side in 0..sides.len() {
+    for number in 0..sides.len() {
+        let side = Side(number);
         let v = sides.from(side) as usize;
-        vertices[v] = vertices[v].with_side(side as u32, sides.is_alone(side));
+        vertices[v] = vertices[v].with_side(side, sides.is_alone(side));
     }
     Ok(vertices)
 }

@@ -1,12 +1,13 @@
 //! Walks from side to side round a vertex.
 ghost use Rattle.std.specs.Prelude.{◌≡◌, ◌<◌, ◌≤◌, ◌↔◌, IsTrue, is_none};
+ghost use Rattle.std.specs.Option.{option_map};
 ghost use Rattle.pm_base.specs.declared.limits.TheConstants.{MOST_SIDES};
 ghost use Rattle.pm_base.specs.Sides.{net_of, side_count, Stands, twin_of, around as around_of};
 ghost use Rattle.pm_base.specs.Fans.{IsFan};
 ghost use Rattle.pm_twins.specs.Walks.{degree as degree_of, IsStart};
 
 use crate::sides;
-use pm_base::Corners;
+use pm_base::{Corners, Side, SideMap};
 use std::marker::Model;
 
 /// The faces of a mesh with the twins of their sides, so that one can walk round a vertex. Contracts
@@ -14,7 +15,7 @@ use std::marker::Model;
 #[derive(Drop)]
 pub(crate) struct HalfEdges<'a> {
     pub(crate) faces: &'a [Corners],
-    pub(crate) twins: &'a [Option<u32>],
+    pub(crate) twins: &'a SideMap,
 }
 
 impl<'a> Model for HalfEdges<'a> {
@@ -32,7 +33,7 @@ impl<'a> Model for HalfEdges<'a> {
 
 impl HalfEdges<'_> {
     /// How many sides there are.
-    pub(crate) fn len(&self) -> usize
+    pub(crate) fn len(&self) -> u32
         ensures value { result ≡ side_count (net_of self.now) }
         ensures small { result ≤ MOST_SIDES }
     {
@@ -40,30 +41,28 @@ impl HalfEdges<'_> {
     }
 
     /// The vertex from which a side runs.
-    pub(crate) fn from(&self, side: usize) -> u32
-        requires { side < side_count (net_of self.now) }
-        ensures value { result ≡ (net_of self.now).from side }
-        ensures stands { Stands (net_of self.now) side }
+    pub(crate) fn from(&self, side: Side) -> u32
+        requires { side.0 < side_count (net_of self.now) }
+        ensures value { result ≡ (net_of self.now).from side.0 }
+        ensures stands { Stands (net_of self.now) side.0 }
     {
         sides::from(self.faces, side)
     }
 
     /// Whether a side has no twin.
-    pub(crate) fn is_alone(&self, side: usize) -> bool
-        requires { side < side_count (net_of self.now) }
-        ensures { result ≡ is_none (twin_of (net_of self.now) side) }
+    pub(crate) fn is_alone(&self, side: Side) -> bool
+        requires { side.0 < side_count (net_of self.now) }
+        ensures { result ≡ is_none (twin_of (net_of self.now) side.0) }
     {
-        let twins = self.twins;
-        twins[side].is_none()
+        self.twins.get(side).is_none()
     }
 
     /// The next side round the vertex from which a side runs.
-    fn around(&self, side: u32) -> Option<u32>
-        requires { side < side_count (net_of self.now) }
-        ensures { result ≡ around_of (net_of self.now) side }
+    fn around(&self, side: Side) -> Option<Side>
+        requires { side.0 < side_count (net_of self.now) }
+        ensures { option_map (λ s. s.0) result ≡ around_of (net_of self.now) side.0 }
     {
-        let twins = self.twins;
-        twins[sides::prev(side as usize)]
+        self.twins.get(side.prev())
     }
 
     /// Whether the faces at the vertex from which side `start` runs, `degree` in number, are a fan.
@@ -71,11 +70,11 @@ impl HalfEdges<'_> {
     /// The walk goes from side to side until there is no next one, or it is `start`. As `start` is the
     /// first of an open fan, or any of a closed one, the faces are a fan where the walk has passed them
     /// all. It meets no side twice, so it ends before the sides run out.
-    pub(crate) fn is_fan(&self, start: u32, degree: u32) -> bool
-        requires in_range { start < side_count (net_of self.now) }
-        requires start { IsStart (net_of self.now) start }
-        requires degree { degree ≡ degree_of (net_of self.now) ((net_of self.now).from start) }
-        ensures { IsTrue result ↔ IsFan (net_of self.now) ((net_of self.now).from start) }
+    pub(crate) fn is_fan(&self, start: Side, degree: u32) -> bool
+        requires in_range { start.0 < side_count (net_of self.now) }
+        requires start { IsStart (net_of self.now) start.0 }
+        requires degree { degree ≡ degree_of (net_of self.now) ((net_of self.now).from start.0) }
+        ensures { IsTrue result ↔ IsFan (net_of self.now) ((net_of self.now).from start.0) }
     {
         let mut at = start;
         let mut passed: u32 = 1;

@@ -7,18 +7,18 @@ ghost use Rattle.pm_twins.specs.SideRows.{AreRows, IsWhole, row};
 ghost use Rattle.pm_twins.specs.Stamping.{stamp_from, in_order as ordered, lesser_of, AreStamps, AreOrigins, AreAllStamped, IsLeastRepeat, ArePaired};
 
 use crate::side_rows::SideRows;
-use crate::sides::{from, prev, to};
-use pm_base::Corners;
+use crate::sides::{from, to};
+use pm_base::{Corners, Side, SideMap};
 
 // Two sides that run between the same vertices, or one alone.
 #[derive(Clone, Copy)]
 struct Ordered {
-    first: u32,
-    later: Option<u32>,
+    first: Side,
+    later: Option<Side>,
 }
 
 // A side with the one that was stamped before, the earlier first.
-fn in_order(stamped: Option<u32>, side: u32) -> Ordered
+fn in_order(stamped: Option<Side>, side: Side) -> Ordered
     ensures { result ≡ ordered stamped side }
 {
     match stamped {
@@ -34,7 +34,7 @@ fn in_order(stamped: Option<u32>, side: u32) -> Ordered
 }
 
 // The lesser of two sides, where there are two.
-fn lesser(a: Option<u32>, b: Option<u32>) -> Option<u32>
+fn lesser(a: Option<Side>, b: Option<Side>) -> Option<Side>
     ensures { result ≡ lesser_of a b }
 {
     match (a, b) {
@@ -45,7 +45,7 @@ fn lesser(a: Option<u32>, b: Option<u32>) -> Option<u32>
 }
 
 // The stamped side from `vertex` to `end`, if there is one.
-fn stamped(stamps: &[Option<u32>], origins: &[u32], vertex: u32, end: u32) -> Option<u32>
+fn stamped(stamps: &[Option<Side>], origins: &[u32], vertex: u32, end: u32) -> Option<Side>
     requires in_range { end < length stamps.now }
     requires origins { length origins.now ≡ length stamps.now }
     ensures { result ≡ stamp_from (slice_index_or origins.now end 0) vertex (slice_index_or stamps.now end None) }
@@ -64,10 +64,10 @@ pub(crate) fn stamp_leaving(
     faces: &[Corners],
     rows: &SideRows,
     vertex: u32,
-    stamps: &mut Vec<Option<u32>>,
+    stamps: &mut Vec<Option<Side>>,
     origins: &mut Vec<u32>,
-    repeat: Option<u32>,
-) -> Option<u32>
+    repeat: Option<Side>,
+) -> Option<Side>
     requires whole { IsWhole (net_of faces.now) (length stamps.old.items) }
     requires rows { AreRows (net_of faces.now) (length stamps.old.items) rows.now.starts.items rows.now.sides.items }
     requires in_range { vertex < length stamps.old.items }
@@ -85,8 +85,8 @@ pub(crate) fn stamp_leaving(
     let until = rows.starts[vertex as usize + 1];
     let mut least = repeat;
     for place in rows.starts[vertex as usize]..until {
-        let side = rows.sides[place as usize];
-        let end = to(faces, side as usize);
+        let side = Side(rows.sides[place as usize]);
+        let end = to(faces, side);
         let sides = in_order(stamped(stamps, origins, vertex, end), side);
         stamps[end as usize] = Some(sides.first);
         origins[end as usize] = vertex;
@@ -100,9 +100,9 @@ pub(crate) fn pair_arriving(
     faces: &[Corners],
     rows: &SideRows,
     vertex: u32,
-    stamps: &[Option<u32>],
+    stamps: &[Option<Side>],
     origins: &[u32],
-    twins: &mut Vec<Option<u32>>,
+    twins: &mut SideMap,
 )
     requires whole { IsWhole (net_of faces.now) (length stamps.now) }
     requires rows { AreRows (net_of faces.now) (length stamps.now) rows.now.starts.items rows.now.sides.items }
@@ -111,13 +111,13 @@ pub(crate) fn pair_arriving(
     requires origins_len { length origins.now ≡ length stamps.now }
     requires origins { AreOrigins (net_of faces.now) stamps.now origins.now }
     requires all { AreAllStamped (net_of faces.now) vertex stamps.now }
-    requires paired { ArePaired (net_of faces.now) vertex twins.old.items }
-    ensures paired { ArePaired (net_of faces.now) (vertex + 1) twins.new.items }
+    requires paired { ArePaired (net_of faces.now) vertex twins.old }
+    ensures paired { ArePaired (net_of faces.now) (vertex + 1) twins.new }
 {
     let until = rows.starts[vertex as usize + 1];
     for place in rows.starts[vertex as usize]..until {
-        let side = rows.sides[place as usize];
-        let arriving = prev(side as usize);
-        twins[arriving] = stamped(stamps, origins, vertex, from(faces, arriving));
+        let arriving = Side(rows.sides[place as usize]).prev();
+        let twin = stamped(stamps, origins, vertex, from(faces, arriving));
+        twins.put(arriving, twin);
     }
 }

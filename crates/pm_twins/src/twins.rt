@@ -13,7 +13,7 @@ use crate::OutOfMemory;
 use crate::side_rows::{SideRows, row_sides, zeros};
 use crate::sides::{from, to};
 use crate::stamps::{pair_arriving, stamp_leaving};
-use pm_base::{Corners, FaceId, Mesh, Side};
+use pm_base::{Corners, FaceId, Mesh, Side, SideMap};
 use std::alloc::Global;
 use std::marker::Model;
 
@@ -26,11 +26,11 @@ pub enum TwinsFail {
     OutOfMemory,
 }
 
-/// The twin of each side of a mesh, and for each vertex whether it is on the border: eight bytes a side
+/// The twin of each side of a mesh, and for each vertex whether it is on the border: four bytes a side
 /// and one a vertex.
 #[derive(Drop)]
 pub struct Twins {
-    twins: Vec<Option<u32>>,
+    twins: SideMap,
     border: Vec<bool>,
 }
 
@@ -39,7 +39,7 @@ impl Model for Twins {
 
     ghost Value = { Table };
 
-    ghost view = { λ t. record { twins = t.twins.items; border = t.border.items } };
+    ghost view = { λ t. record { twins = t.twins; border = t.border.items } };
 }
 
 impl Twins {
@@ -71,7 +71,7 @@ impl Twins {
         ensures twin { (m : Net) (n : ℕ) → IsTableOf m n self.now
             → MatchOption result (HasNoTwin m side.0) (λ s. IsTwin m side.0 s.0) }
     {
-        self.twins[side.0 as usize].map(Side)
+        self.twins.get(side)
     }
 
     /// Whether a side at the vertex has no twin. O(1).
@@ -84,8 +84,15 @@ impl Twins {
         self.border[vertex as usize]
     }
 
+    /// The twins alone.
+    pub fn into_sides(self) -> SideMap
+        ensures { result ≡ self.twins }
+    {
+        self.twins
+    }
+
     // The twin of each side.
-    pub(crate) fn as_slice(&self) -> &[Option<u32>]
+    pub(crate) fn as_side_map(&self) -> &SideMap
         ensures { result.now ≡ self.now.twins }
     {
         &self.twins
@@ -99,17 +106,17 @@ fn pair_sides(
     faces: &[Corners],
     rows: &SideRows,
     vertices: usize,
-) -> Result<Vec<Option<u32>>, TwinsFail>
+) -> Result<SideMap, TwinsFail>
     requires whole { IsWhole (net_of faces.now) vertices }
     requires rows { AreRows (net_of faces.now) vertices rows.now.starts.items rows.now.sides.items }
-    ensures twins { IfOk result (λ twins. AreTwinsOf (net_of faces.now) twins.items) }
+    ensures twins { IfOk result (λ twins. AreTwinsOf (net_of faces.now) twins) }
     ensures once { OnOk result (NoSideTwice (net_of faces.now)) }
     ensures edge_twice { IfErr result (IsTwinsFault (net_of faces.now)) }
 {
-    let Ok(mut twins) = free_slots(alloc, 3 * faces.len()) else {
+    let Ok(mut twins) = SideMap::new(alloc, 3 * faces.len() as u32) else {
         return Err(TwinsFail::OutOfMemory);
     };
-    let Ok(mut stamps) = free_slots(alloc, vertices) else {
+    let Ok(mut stamps) = no_stamps(alloc, vertices) else {
         return Err(TwinsFail::OutOfMemory);
     };
     let Ok(mut origins) = zeros(alloc, vertices) else {
@@ -121,16 +128,16 @@ fn pair_sides(
         pair_arriving(faces, rows, vertex, &stamps, &origins, &mut twins);
     }
     match repeat {
-        Some(side) => Err(TwinsFail::EdgeTwice(FaceId(side / 3))),
+        Some(side) => Err(TwinsFail::EdgeTwice(side.face())),
         None => Ok(twins),
     }
 }
 
-// As many free slots. The length is a parameter, so that no proof unfolds the list.
-fn free_slots(alloc: Global, len: usize) -> Result<Vec<Option<u32>>, OutOfMemory>
-    ensures { IfOk result (λ slots. slots.items ≡ replicate len None) }
+// No stamp for each vertex. The length is a parameter, so that no proof unfolds the list.
+fn no_stamps(alloc: Global, vertices: usize) -> Result<Vec<Option<Side>>, OutOfMemory>
+    ensures { IfOk result (λ stamps. stamps.items ≡ replicate vertices None) }
 {
-    vec![in alloc; None; len]
+    vec![in alloc; None; vertices]
 }
 
 // A flag for each vertex: whether it is on the border.
@@ -138,15 +145,16 @@ fn mark_border(
     alloc: Global,
     faces: &[Corners],
     vertices: usize,
-    twins: &[Option<u32>],
+    twins: &SideMap,
 ) -> Result<Vec<bool>, OutOfMemory>
     requires whole { IsWhole (net_of faces.now) vertices }
     requires twins { AreTwinsOf (net_of faces.now) twins.now }
     ensures { IfOk result (λ border. IsBorderOf (net_of faces.now) vertices border.items) }
 {
     let mut border = vec![in alloc; false; vertices]?;
-    for side in 0..twins.len() {
-        if twins[side].is_none() {
+    for number in 0..twins.len() {
+        let side = Side(number);
+        if twins.get(side).is_none() {
             border[from(faces, side) as usize] = true;
             border[to(faces, side) as usize] = true;
         }

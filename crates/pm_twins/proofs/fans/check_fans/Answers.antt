@@ -13,7 +13,7 @@ use Rattle.pm_twins.proofs.fans.check_fans.Goals.{in-Some+else-not-is_fan, in_de
 pub invariant_of-sides : goal.invariant_of-sides
 invariant_of-sides c =
     let table = c.requires.twins in
-    mesh_walkable (mesh_of c.args.mesh.now) c.as_slice.result.now c.args.twins.now.twins c.as_slice-2.result.now c.requires.formed table.once table.twins c.as_slice.ensures c.as_slice-2.ensures
+    mesh_walkable (mesh_of c.args.mesh.now) c.as_slice.result.now c.args.twins.now.twins c.as_side_map.result.now c.requires.formed table.once table.twins c.as_slice.ensures c.as_side_map.ensures
 
 pub is_fan-requires-clause-in_range : goal.is_fan-requires-clause-in_range
 is_fan-requires-clause-in_range c =
@@ -38,9 +38,9 @@ returns-then-not-is_fan-clause-not_fan c =
     let m : Net = net_of c.as_slice.result.now in
     let known = entry_known m (side_count m) c.loop-v.v c.in-Ok.vertices.items c.index-vertex.result.now (omega arith) c.index-vertex.ensures (c.in-Ok.ensures.known c.loop-v.v (omega (arith, c.in-Ok.ensures.len))) in
     let start = start_is m c.loop-v.v c.index-vertex.result.now known c.in-Some.start c.in-Some.is in
-    let h = mesh_walkable (mesh_of c.args.mesh.now) c.as_slice.result.now c.args.twins.now.twins c.as_slice-2.result.now c.requires.formed c.requires.twins.once c.requires.twins.twins c.as_slice.ensures c.as_slice-2.ensures in
+    let h = mesh_walkable (mesh_of c.args.mesh.now) c.as_slice.result.now c.args.twins.now.twins c.as_side_map.result.now c.requires.formed c.requires.twins.once c.requires.twins.twins c.as_slice.ensures c.as_side_map.ensures in
     let broken : IsBroken m c.loop-v.v = record {
-      used = (c.in-Some.start, h.stands c.in-Some.start start.0, start.1);
+      used = (c.in-Some.start.0, h.stands c.in-Some.start.0 start.0, start.1);
       no_fan = λ fan. absurd (false≢true (sym c.if-not-is_fan.true ∙ c.is_fan.ensures.1 (subst (IsFan m) (sym start.1) fan)));
     } in
     record { broken = subst (λ (fs : List Corners). IsBroken (net_of fs) c.loop-v.v) c.as_slice.ensures broken; fans_below = c.loop-v.invariant }

@@ -1,11 +1,13 @@
 use Rattle.std.proofs.Common.{◌<◌, ◌∙◌, ◌≡◌, ◌+◌, ◌-◌, ℕ, None, Option, List, ◌∷◌, length, slice_index_or, sym, ap, subst, arith}
 use Rattle.std.proofs.lemmas.List.{get_or_default}
+use Rattle.pm_base.specs.declared.ids.Side.{Side}
+use Rattle.pm_base.specs.declared.limits.TheConstants.{MOST_SIDES}
 use Rattle.pm_base.specs.Sides.{Net, net_of, side_count}
 use Rattle.pm_links.proofs.Members.{has_head}
 use Rattle.pm_twins.specs.SideRows.{row, start_at}
 use Rattle.pm_twins.specs.Stamping.{leaving}
 use Rattle.pm_twins.proofs.StampLaws.{origin-leaving}
-use Rattle.pm_twins.proofs.PairLaws.{IsPairing, pairing_begins, pairing_side, pairing_ends, pairing_prev, pairing_more, paired_more}
+use Rattle.pm_twins.proofs.PairLaws.{found-low, IsPairing, pairing_begins, pairing_side, pairing_ends, pairing_prev, pairing_more, paired_more}
 use Rattle.pm_twins.proofs.stamps.pair_arriving.Goals as goal
 
 pub loop-place-init : goal.loop-place-init
@@ -17,7 +19,7 @@ loop-place-init c =
     let r = c.requires.rows in
     let until_is : c.index-until.result.now ≡ start_at starts (v + 1) = c.index-until.ensures ∙ get_or_default starts (v + 1) c.index-until.result.now 0 (omega (arith, r.bounds, c.requires.in_range)) in
     let from_is : c.index-place.result.now ≡ start_at starts v = c.index-place.ensures ∙ get_or_default starts v c.index-place.result.now 0 (omega (arith, r.bounds, c.requires.in_range)) in
-    rw (from_is, until_is) (pairing_begins m (length c.args.stamps.now) v starts sides c.args.twins.now.items r c.requires.in_range c.requires.paired)
+    rw (from_is, until_is) (pairing_begins m (length c.args.stamps.now) v starts sides c.args.twins.now r c.requires.in_range c.requires.paired)
 
 pub prev-arriving-requires : goal.prev-arriving-requires
 prev-arriving-requires c =
@@ -32,10 +34,10 @@ prev-arriving-requires c =
     let low : place < until = omega (arith, c.loop-place-test.true, c.loop-place.auto.place-end) in
     let most = r.within (v + 1) (omega (arith, c.requires.in_range)) in
     let there : place < length sides = omega (arith, low, until_is, most, r.places) in
-    let side_is : c.index-side.result.now ≡ start_at sides place = c.index-side.ensures ∙ get_or_default sides place c.index-side.result.now 0 there in
+    let side_is : c.index.result.now ≡ start_at sides place = c.index.ensures ∙ get_or_default sides place c.index.result.now 0 there in
     let left : List ℕ = row sides (place + 1) (until - (place + 1)) in
-    let i : IsPairing m v (c.index-side.result.now ∷ left) c.loop-place.twins.items = pairing_side m v place until c.index-side.result.now sides c.loop-place.twins.items low side_is c.loop-place.invariant in
-    let l = (i.leave c.index-side.result.now (has_head c.index-side.result.now left)).0 in
+    let i : IsPairing m v (c.index.result.now ∷ left) c.loop-place.twins = pairing_side m v place until c.index.result.now sides c.loop-place.twins low side_is c.loop-place.invariant in
+    let l = (i.leave c.index.result.now (has_head c.index.result.now left)).0 in
     omega (arith, l, c.requires.whole.short)
 
 pub from-requires : goal.from-requires
@@ -51,13 +53,21 @@ from-requires c =
     let low : place < until = omega (arith, c.loop-place-test.true, c.loop-place.auto.place-end) in
     let most = r.within (v + 1) (omega (arith, c.requires.in_range)) in
     let there : place < length sides = omega (arith, low, until_is, most, r.places) in
-    let side_is : c.index-side.result.now ≡ start_at sides place = c.index-side.ensures ∙ get_or_default sides place c.index-side.result.now 0 there in
+    let side_is : c.index.result.now ≡ start_at sides place = c.index.ensures ∙ get_or_default sides place c.index.result.now 0 there in
     let left : List ℕ = row sides (place + 1) (until - (place + 1)) in
-    let i : IsPairing m v (c.index-side.result.now ∷ left) c.loop-place.twins.items = pairing_side m v place until c.index-side.result.now sides c.loop-place.twins.items low side_is c.loop-place.invariant in
-    subst (λ (k : ℕ). k < side_count m) (sym c.prev-arriving.ensures.value) (pairing_prev m v c.index-side.result.now left c.loop-place.twins.items i)
+    let i : IsPairing m v (c.index.result.now ∷ left) c.loop-place.twins = pairing_side m v place until c.index.result.now sides c.loop-place.twins low side_is c.loop-place.invariant in
+    subst (λ (k : ℕ). k < side_count m) (sym c.prev-arriving.ensures.value) (pairing_prev m v c.index.result.now left c.loop-place.twins i)
 
-pub index_mut-requires : goal.index_mut-requires
-index_mut-requires c =
+pub put-requires-clause-small : goal.put-requires-clause-small
+put-requires-clause-small c =
+    let m : Net = net_of c.args.faces.now in
+    let v = c.args.vertex in
+    let stamps : List (Option Side) = c.args.stamps.now in
+    let known = c.stamped-twin.ensures ∙ origin-leaving m v c.from.result stamps c.args.origins.now c.requires.origins in
+    found-low m v c.from.result MOST_SIDES stamps c.stamped-twin.result c.requires.stamps (omega (arith, c.requires.whole.short)) known
+
+pub put-requires-clause-there : goal.put-requires-clause-there
+put-requires-clause-there c =
     let m : Net = net_of c.args.faces.now in
     let v = c.args.vertex in
     let starts : List ℕ = c.args.rows.now.starts.items in
@@ -69,10 +79,10 @@ index_mut-requires c =
     let low : place < until = omega (arith, c.loop-place-test.true, c.loop-place.auto.place-end) in
     let most = r.within (v + 1) (omega (arith, c.requires.in_range)) in
     let there : place < length sides = omega (arith, low, until_is, most, r.places) in
-    let side_is : c.index-side.result.now ≡ start_at sides place = c.index-side.ensures ∙ get_or_default sides place c.index-side.result.now 0 there in
+    let side_is : c.index.result.now ≡ start_at sides place = c.index.ensures ∙ get_or_default sides place c.index.result.now 0 there in
     let left : List ℕ = row sides (place + 1) (until - (place + 1)) in
-    let i : IsPairing m v (c.index-side.result.now ∷ left) c.loop-place.twins.items = pairing_side m v place until c.index-side.result.now sides c.loop-place.twins.items low side_is c.loop-place.invariant in
-    let low = subst (λ (k : ℕ). k < side_count m) (sym c.prev-arriving.ensures.value) (pairing_prev m v c.index-side.result.now left c.loop-place.twins.items i) in
+    let i : IsPairing m v (c.index.result.now ∷ left) c.loop-place.twins = pairing_side m v place until c.index.result.now sides c.loop-place.twins low side_is c.loop-place.invariant in
+    let low = subst (λ (k : ℕ). k < side_count m) (sym c.prev-arriving.ensures.value) (pairing_prev m v c.index.result.now left c.loop-place.twins i) in
     omega (arith, low, i.sides)
 
 pub loop-place-preserved : goal.loop-place-preserved
@@ -88,18 +98,19 @@ loop-place-preserved c =
     let low : place < until = omega (arith, c.loop-place-test.true, c.loop-place.auto.place-end) in
     let most = r.within (v + 1) (omega (arith, c.requires.in_range)) in
     let there : place < length sides = omega (arith, low, until_is, most, r.places) in
-    let side_is : c.index-side.result.now ≡ start_at sides place = c.index-side.ensures ∙ get_or_default sides place c.index-side.result.now 0 there in
+    let side_is : c.index.result.now ≡ start_at sides place = c.index.ensures ∙ get_or_default sides place c.index.result.now 0 there in
     let left : List ℕ = row sides (place + 1) (until - (place + 1)) in
-    let i : IsPairing m v (c.index-side.result.now ∷ left) c.loop-place.twins.items = pairing_side m v place until c.index-side.result.now sides c.loop-place.twins.items low side_is c.loop-place.invariant in
-    let stamps : List (Option ℕ) = c.args.stamps.now in
-    let twins = c.loop-place.twins.items in
-    let looked = c.stamped.ensures ∙ origin-leaving m v c.from.result stamps c.args.origins.now c.requires.origins ∙ ap (λ (u : ℕ). leaving m v (slice_index_or stamps u None)) c.from.ensures in
-    pairing_more m v c.index-side.result.now c.prev-arriving.result left stamps twins c.stamped.result i c.requires.stamps c.requires.all c.prev-arriving.ensures.value looked
+    let i : IsPairing m v (c.index.result.now ∷ left) c.loop-place.twins = pairing_side m v place until c.index.result.now sides c.loop-place.twins low side_is c.loop-place.invariant in
+    let stamps : List (Option Side) = c.args.stamps.now in
+    let twins = c.loop-place.twins in
+    let looked = c.stamped-twin.ensures ∙ origin-leaving m v c.from.result stamps c.args.origins.now c.requires.origins ∙ ap (λ (u : ℕ). leaving m v (slice_index_or stamps u None)) c.from.ensures in
+    subst (IsPairing m v left) (sym c.put.ensures)
+    (pairing_more m v c.index.result.now c.prev-arriving.result.0 left stamps twins c.stamped-twin.result i c.requires.stamps c.requires.all c.prev-arriving.ensures.value looked)
 
 pub returns : goal.returns
 returns c =
     let m : Net = net_of c.args.faces.now in
-    let twins = c.loop-place.twins.items in
+    let twins = c.loop-place.twins in
     record {
       paired = paired_more m c.args.vertex twins
           (pairing_ends m c.args.vertex c.loop-place.place c.index-until.result.now c.args.rows.now.sides.items twins (omega (arith, c.loop-place-test.false, c.loop-place.auto.place-end)) c.loop-place.invariant);

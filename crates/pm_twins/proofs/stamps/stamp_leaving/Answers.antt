@@ -1,5 +1,6 @@
 use Rattle.std.proofs.Common.{◌<◌, ◌∙◌, ◌≡◌, ◌+◌, ◌-◌, ℕ, Some, None, Option, List, ◌∷◌, length, slice_index_or, refl, sym, ap, subst, arith}
 use Rattle.std.proofs.Math.ListN.{set}
+use Rattle.pm_base.specs.declared.ids.Side.{Side}
 use Rattle.pm_base.specs.Sides.{Net, net_of}
 use Rattle.pm_links.proofs.Members.{has_head}
 use Rattle.std.proofs.lemmas.List.{length-set, get_or_default}
@@ -39,10 +40,10 @@ to-end-requires-clause-in_range c =
     let low : place < until = omega (arith, c.loop-place-test.true, c.loop-place.auto.place-end) in
     let most = r.within (v + 1) (omega (arith, c.requires.in_range)) in
     let there : place < length sides = omega (arith, low, until_is, most, r.places) in
-    let side_is : c.index-side.result.now ≡ start_at sides place = c.index-side.ensures ∙ get_or_default sides place c.index-side.result.now 0 there in
+    let side_is : c.index.result.now ≡ start_at sides place = c.index.ensures ∙ get_or_default sides place c.index.result.now 0 there in
     let left : List ℕ = row sides (place + 1) (until - (place + 1)) in
-    let i : IsStamping m v (c.index-side.result.now ∷ left) c.loop-place.stamps.items c.loop-place.least = stamping_side m v place until c.index-side.result.now sides c.loop-place.stamps.items c.loop-place.least low side_is c.loop-place.invariant.stamping in
-    (i.leave c.index-side.result.now (has_head c.index-side.result.now left)).0
+    let i : IsStamping m v (c.index.result.now ∷ left) c.loop-place.stamps.items c.loop-place.least = stamping_side m v place until c.index.result.now sides c.loop-place.stamps.items c.loop-place.least low side_is c.loop-place.invariant.stamping in
+    (i.leave c.index.result.now (has_head c.index.result.now left)).0
 
 pub loop-place-preserved : goal.loop-place-preserved
 loop-place-preserved c =
@@ -57,28 +58,29 @@ loop-place-preserved c =
     let low : place < until = omega (arith, c.loop-place-test.true, c.loop-place.auto.place-end) in
     let most = r.within (v + 1) (omega (arith, c.requires.in_range)) in
     let there : place < length sides = omega (arith, low, until_is, most, r.places) in
-    let side_is : c.index-side.result.now ≡ start_at sides place = c.index-side.ensures ∙ get_or_default sides place c.index-side.result.now 0 there in
+    let side_is : c.index.result.now ≡ start_at sides place = c.index.ensures ∙ get_or_default sides place c.index.result.now 0 there in
     let left : List ℕ = row sides (place + 1) (until - (place + 1)) in
-    let i : IsStamping m v (c.index-side.result.now ∷ left) c.loop-place.stamps.items c.loop-place.least = stamping_side m v place until c.index-side.result.now sides c.loop-place.stamps.items c.loop-place.least low side_is c.loop-place.invariant.stamping in
-    let x = c.index-side.result.now in
+    let i : IsStamping m v (c.index.result.now ∷ left) c.loop-place.stamps.items c.loop-place.least = stamping_side m v place until c.index.result.now sides c.loop-place.stamps.items c.loop-place.least low side_is c.loop-place.invariant.stamping in
+    let number = c.index.result.now in
+    let x : Side = record { 0 = number } in
     let w = c.to-end.result in
     let stamps = c.loop-place.stamps.items in
     let least = c.loop-place.least in
-    let end = to_within m (length c.args.stamps.now.items) c.requires.whole x (i.leave x (has_head x left)).0 in
+    let end = to_within m (length c.args.stamps.now.items) c.requires.whole number (i.leave number (has_head number left)).0 in
     let w_low : w < length stamps = omega (arith, c.to-end.ensures, end, c.loop-place.invariant.len) in
     let origins : List ℕ = c.loop-place.origins.items in
     let looked = c.stamped.ensures
-    ∙ ap (λ (table : List (Option ℕ)). stamp_from (slice_index_or c.deref-in-loop-place.result.now w 0) v (slice_index_or table w None)) c.deref.ensures.value
+    ∙ ap (λ (table : List (Option Side)). stamp_from (slice_index_or c.deref-in-loop-place.result.now w 0) v (slice_index_or table w None)) c.deref.ensures.value
     ∙ ap (λ (table : List ℕ). stamp_from (slice_index_or table w 0) v (slice_index_or stamps w None)) c.deref-in-loop-place.ensures.value in
     let known = looked ∙ origin-leaving m v w stamps origins c.loop-place.invariant.origins in
     let leaves = stamping_leaves m v x w left stamps least c.stamped.result i c.to-end.ensures known in
-    let first_leaves = ap (λ (o : Ordered). m.from o.first) c.in_order-sides.ensures ∙ leaves in
+    let first_leaves = ap (λ (o : Ordered). m.from o.first.0) c.in_order-sides.ensures ∙ leaves in
     let done = stamping_more m v x w left stamps least c.stamped.result i c.to-end.ensures w_low known in
     record {
       len = length-set stamps w (Some c.in_order-sides.result.first) ∙ c.loop-place.invariant.len;
       origins_len = length-set origins w v ∙ c.loop-place.invariant.origins_len;
       origins = origins_more m v c.in_order-sides.result.first w stamps origins c.loop-place.invariant.origins w_low (omega (arith, w_low, c.loop-place.invariant.len, c.loop-place.invariant.origins_len)) first_leaves;
-      stamping = subst (λ (r : Option ℕ). IsStamping m v left (set stamps w (Some c.in_order-sides.result.first)) r) (sym c.lesser-least.ensures)
+      stamping = subst (λ (r : Option Side). IsStamping m v left (set stamps w (Some c.in_order-sides.result.first)) r) (sym c.lesser-least.ensures)
           (subst (λ (o : Ordered). IsStamping m v left (set stamps w (Some o.first)) (lesser_of least o.later)) (sym c.in_order-sides.ensures) done);
     }
 

@@ -1,5 +1,7 @@
 use Rattle.std.proofs.Common.{◌≡◌, ◌∙◌, ℕ, Some, None, Option, List, slice_index_or, ap, sym, subst, arith}
+use Rattle.pm_base.specs.declared.ids.Side.{Side}
 use Rattle.pm_base.specs.Sides.{Net, net_of, NoSideTwice}
+use Rattle.pm_twins.specs.Faults.{IsFirstRepeating}
 use Rattle.pm_twins.specs.Stamping.{IsLeastRepeat, ArePaired}
 use Rattle.pm_twins.proofs.PairLaws.{paired_all}
 use Rattle.pm_twins.proofs.RepeatLaws.{none_twice, first_repeating}
@@ -8,27 +10,27 @@ use Rattle.pm_twins.proofs.twins.pair_sides.Goals as goal
 pub pair_arriving-requires-clause-origins : goal.pair_arriving-requires-clause-origins
 pair_arriving-requires-clause-origins c = λ w e is.
     ap (λ (origins : List ℕ). slice_index_or origins w 0) c.deref-in-loop-vertex.ensures.value
-    ∙ c.stamp_leaving-repeat.ensures.origins w e (ap (λ (stamps : List (Option ℕ)). slice_index_or stamps w None) (sym c.deref.ensures.value) ∙ is)
+    ∙ c.stamp_leaving-repeat.ensures.origins w e (ap (λ (stamps : List (Option Side)). slice_index_or stamps w None) (sym c.deref.ensures.value) ∙ is)
 
 pub returns-in-Some-clause-edge_twice : goal.returns-in-Some-clause-edge_twice
 returns-in-Some-clause-edge_twice c =
     let m : Net = net_of c.args.faces.now in
     let all : c.loop-vertex.vertex ≡ c.args.vertices = omega (arith, c.loop-vertex-test.false, c.loop-vertex.auto.vertex-end) in
-    first_repeating m c.args.vertices c.requires.whole c.in-Some.side
-    (subst (λ (n : ℕ). IsLeastRepeat m n (Some c.in-Some.side)) all (subst (λ (r : Option ℕ). IsLeastRepeat m c.loop-vertex.vertex r) c.in-Some.is c.loop-vertex.invariant.repeat))
+    subst (IsFirstRepeating m) (sym c.face.ensures) (first_repeating m c.args.vertices c.requires.whole c.in-Some.side
+    (subst (λ (n : ℕ). IsLeastRepeat m n (Some c.in-Some.side)) all (subst (λ (r : Option Side). IsLeastRepeat m c.loop-vertex.vertex r) c.in-Some.is c.loop-vertex.invariant.repeat)))
 
 pub returns-in-None-clause-once : goal.returns-in-None-clause-once
 returns-in-None-clause-once c =
     let m : Net = net_of c.args.faces.now in
     let all : c.loop-vertex.vertex ≡ c.args.vertices = omega (arith, c.loop-vertex-test.false, c.loop-vertex.auto.vertex-end) in
     none_twice m c.args.vertices c.requires.whole
-    (subst (λ (n : ℕ). IsLeastRepeat m n None) all (subst (λ (r : Option ℕ). IsLeastRepeat m c.loop-vertex.vertex r) c.in-None.is c.loop-vertex.invariant.repeat))
+    (subst (λ (n : ℕ). IsLeastRepeat m n None) all (subst (λ (r : Option Side). IsLeastRepeat m c.loop-vertex.vertex r) c.in-None.is c.loop-vertex.invariant.repeat))
 
 pub returns-in-None-clause-twins : goal.returns-in-None-clause-twins
 returns-in-None-clause-twins c =
     let m : Net = net_of c.args.faces.now in
     let all : c.loop-vertex.vertex ≡ c.args.vertices = omega (arith, c.loop-vertex-test.false, c.loop-vertex.auto.vertex-end) in
     let once : NoSideTwice m = none_twice m c.args.vertices c.requires.whole
-    (subst (λ (n : ℕ). IsLeastRepeat m n None) all (subst (λ (r : Option ℕ). IsLeastRepeat m c.loop-vertex.vertex r) c.in-None.is c.loop-vertex.invariant.repeat)) in
-    paired_all m c.args.vertices c.loop-vertex.twins.items c.requires.whole once
-    (subst (λ (n : ℕ). ArePaired m n c.loop-vertex.twins.items) all c.loop-vertex.invariant.paired)
+    (subst (λ (n : ℕ). IsLeastRepeat m n None) all (subst (λ (r : Option Side). IsLeastRepeat m c.loop-vertex.vertex r) c.in-None.is c.loop-vertex.invariant.repeat)) in
+    paired_all m c.args.vertices c.loop-vertex.twins c.requires.whole once
+    (subst (λ (n : ℕ). ArePaired m n c.loop-vertex.twins) all c.loop-vertex.invariant.paired)

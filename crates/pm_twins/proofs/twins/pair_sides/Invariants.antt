@@ -10,5 +10,5 @@ invariant-loop-vertex l = record {
   origins_len : length l.origins.items ≡ l.vertices;
   origins : AreOrigins (net_of l.faces) l.stamps.items l.origins.items;
   repeat : IsLeastRepeat (net_of l.faces) l.vertex l.repeat;
-  paired : ArePaired (net_of l.faces) l.vertex l.twins.items;
+  paired : ArePaired (net_of l.faces) l.vertex l.twins;
 }

@@ -28,6 +28,6 @@ returns-clause-twins c =
     let border = subst (λ (fs : List Corners). IsBorderOf (net_of fs) c.len-vertices.result c.in-Ok-mark_border.border.items) c.as_slice-faces.ensures c.in-Ok-mark_border.ensures in
     record {
       once = subst (λ (fs : List Corners). NoSideTwice (net_of fs)) c.as_slice-faces.ensures c.in_ok-twins.ensures.once;
-      twins = subst (λ (fs : List Corners). AreTwinsOf (net_of fs) c.in_ok-twins.twins.items) c.as_slice-faces.ensures c.in_ok-twins.ensures.twins;
+      twins = subst (λ (fs : List Corners). AreTwinsOf (net_of fs) c.in_ok-twins.twins) c.as_slice-faces.ensures c.in_ok-twins.ensures.twins;
       border = subst (λ (n : ℕ). IsBorderOf m n c.in-Ok-mark_border.border.items) c.len-vertices.ensures border;
     }
