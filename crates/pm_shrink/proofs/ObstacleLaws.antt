@@ -1,9 +1,10 @@
 -- What hinders a pair: the parts of a legal pair by what was found.
 use Rattle.std.proofs.Common.{◌≡◌, ◌↔◌, ◌&&◌, eqb, ℕ, true, Option, Some, None, inl, inr, refl, sym, ◌∙◌, subst}
-use Rattle.std.specs.Prelude.{MatchOption, is_none}
+use Rattle.std.specs.Prelude.{MatchOption, is_none, option_map}
 use Rattle.std.proofs.lemmas.Bool.{or_cases, and_parts, eqb-true, false≢true}
-use Rattle.std.proofs.lemmas.Option.{same_Some}
+use Rattle.std.proofs.lemmas.Option.{none-some, same_Some}
 use Rattle.pm_base.specs.Place.{Place}
+use Rattle.pm_base.specs.declared.ids.Side.{Side}
 use Rattle.pm_base.specs.Sides.{Net, next, prev, to, third, Stands, NoSideTwice}
 use Rattle.pm_base.proofs.Sides.{stands_next}
 use Rattle.pm_runs.specs.Surfaces.{Surface, net_of_surface}
@@ -38,11 +39,12 @@ module _ (m : Net) (a b : ℕ) (once : NoSideTwice m) (l g : ℕ) (left : side_f
       (subst (λ (i : ℕ). HasFace m a (third m i) (third m g)) is_left (subst (λ (i : ℕ). HasFace m a (third m x) (third m i)) is_right f))
       (subst (λ (i : ℕ). HasFace m b (third m i) (third m g)) is_left (subst (λ (i : ℕ). HasFace m b (third m x) (third m i)) is_right k))
 
-  pub triangle_told : HasFace m b (third m l) (third m g) → (r : Option ℕ) →
-      MatchOption r (HasFace m a (third m l) (third m g) → ⊥) (λ e. Stands m e × (m.from e ≡ a) × (has_two m (third m l) (third m g) e ≡ true)) →
-      MatchOption r (ShareNoTriangle m a b) (λ e. Stands m e × TellsTriangle m a b e)
+  pub triangle_told : HasFace m b (third m l) (third m g) → (r : Option Side) →
+      MatchOption r (HasFace m a (third m l) (third m g) → ⊥) (λ e. Stands m e.0 × (m.from e.0 ≡ a) × (has_two m (third m l) (third m g) e.0 ≡ true)) →
+      MatchOption r (ShareNoTriangle m a b) (λ e. Stands m e.0 × TellsTriangle m a b e.0)
   triangle_told second None never = only_triangle (λ f k. never f)
-  triangle_told second (Some e) found =
+  triangle_told second (Some s) found =
+      let e = s.0 in
       let (st, at, two) = found in
       let v = third m l in
       let w = third m g in
@@ -64,17 +66,18 @@ module _ (m : Net) (a b : ℕ) (once : NoSideTwice m) (l g : ℕ) (left : side_f
       ]
 
 -- The answer of a search as a test.
-pub none_iff : (r : Option ℕ) (P : Type 0) (Q : ℕ → Type 0) → MatchOption r P Q → ((e : ℕ) → Q e → P → ⊥) → (is_none r ≡ true) ↔ P
+pub none_iff : {A : Type 0} (r : Option A) (P : Type 0) (Q : A → Type 0) → MatchOption r P Q → ((e : A) → Q e → P → ⊥) → (is_none r ≡ true) ↔ P
 none_iff None P Q p apart = (λ t. p, λ k. refl)
 none_iff (Some e) P Q q apart = (λ t. absurd (false≢true t), λ k. absurd (apart e q k))
 
 -- A face that is alone along the pair, in either direction, is the one that the search finds.
-pub alone_found : (m : Net) (p q : ℕ) → NoSideTwice m → IsAloneAlong m p q → (r : Option ℕ) → r ≡ side_from_to m p q → (P : Type 0) → MatchOption r P (λ e. Stands m e × IsAlone m p q e)
-alone_found m p q once (e, r, x, y, z) found is P =
-    subst (λ (k : Option ℕ). MatchOption k P (λ e. Stands m e × IsAlone m p q e)) (sym (is ∙ runs-found m p q once e r))
+pub alone_found : (m : Net) (p q : ℕ) → NoSideTwice m → IsAloneAlong m p q → (r : Option Side) → option_map (λ s. s.0) r ≡ side_from_to m p q → (P : Type 0) → MatchOption r P (λ e. Stands m e.0 × IsAlone m p q e.0)
+alone_found m p q once (e, r, x, y, z) None is P = absurd (none-some e (is ∙ runs-found m p q once e r))
+alone_found m p q once (e, r, x, y, z) (Some s) is P =
+    subst (λ (k : ℕ). Stands m k × IsAlone m p q k) (sym (same_Some s.0 e (is ∙ runs-found m p q once e r)))
     (r.stands, record { links = inl r; own = x; next_side = y; prev_side = z })
 
-pub alone_back : (m : Net) (p q : ℕ) (r : Option ℕ) (P : Type 0) → MatchOption r P (λ e. Stands m e × IsAlone m q p e) → MatchOption r P (λ e. Stands m e × IsAlone m p q e)
+pub alone_back : (m : Net) (p q : ℕ) (r : Option Side) (P : Type 0) → MatchOption r P (λ e. Stands m e.0 × IsAlone m q p e.0) → MatchOption r P (λ e. Stands m e.0 × IsAlone m p q e.0)
 alone_back m p q None P h = h
 alone_back m p q (Some e) P h = (
   h.0,
@@ -94,8 +97,8 @@ turns_here s a b p q place pair e st at x = record {
   turns = λ ok. x.2 (subst (λ (v : ℕ). StaysUpright s place v (to (net_of_surface s) e) (third (net_of_surface s) e)) (sym at) ok);
 }
 
-pub turned_second : (s : Surface) (a b : ℕ) (place : Place) → StayUprightAt s a b place → (r : Option ℕ) →
-    MatchOption r (StayUprightAt s b a place) (λ e. Stands (net_of_surface s) e × ((net_of_surface s).from e ≡ b) × TurnsAt s a place e) →
-    MatchOption r (StayUpright s a b place) (TurnsOver s a b place)
+pub turned_second : (s : Surface) (a b : ℕ) (place : Place) → StayUprightAt s a b place → (r : Option Side) →
+    MatchOption r (StayUprightAt s b a place) (λ e. Stands (net_of_surface s) e.0 × ((net_of_surface s).from e.0 ≡ b) × TurnsAt s a place e.0) →
+    MatchOption r (StayUpright s a b place) (λ e. TurnsOver s a b place e.0)
 turned_second s a b place first None second = upright_from s a b place first second
-turned_second s a b place first (Some e) found = turns_here s a b b a place (inr (refl, refl)) e found.0 found.1 found.2
+turned_second s a b place first (Some e) found = turns_here s a b b a place (inr (refl, refl)) e.0 found.0 found.1 found.2

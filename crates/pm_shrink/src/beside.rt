@@ -9,7 +9,6 @@ ghost use Rattle.pm_shrink.specs.Walks.{TurnsAt};
 
 use crate::Shrink;
 use crate::fan::MANY;
-use crate::sides::{next, prev};
 use pm_base::{Point, Side};
 
 // How many faces each way are looked at.
@@ -24,10 +23,10 @@ enum Way {
 
 impl Shrink {
     // A corner of one of the two whose face doesn't hold the other, lies beside the pair's edge, and turns over.
-    pub(crate) fn turned_near(&self, a: u32, b: u32, place: Point) -> Option<u32>
+    pub(crate) fn turned_near(&self, a: u32, b: u32, place: Point) -> Option<Side>
         requires a_live { is_live_in self.now.surface a ≡ true }
         requires b_live { is_live_in self.now.surface b ≡ true }
-        ensures { IfSome result (TurnsOver self.now.surface a b place) }
+        ensures { IfSome result (λ e. TurnsOver self.now.surface a b place e.0) }
     {
         if let Some(corner) = self.turned_near_at(a, b, place) {
             return Some(corner);
@@ -36,11 +35,11 @@ impl Shrink {
     }
 
     // Such a corner of p, where many corners are at p and it doesn't stay at its place.
-    fn turned_near_at(&self, p: u32, q: u32, place: Point) -> Option<u32>
+    fn turned_near_at(&self, p: u32, q: u32, place: Point) -> Option<Side>
         requires p_live { is_live_in self.now.surface p ≡ true }
         requires q_live { is_live_in self.now.surface q ≡ true }
-        ensures { IfSome result (λ e. Stands (net_at self.now) e × ((net_at self.now).from e ≡ p)
-            × TurnsAt self.now.surface q place e) }
+        ensures { IfSome result (λ e. Stands (net_at self.now) e.0 × ((net_at self.now).from e.0 ≡ p)
+            × TurnsAt self.now.surface q place e.0) }
     {
         if place == self.place(p) || self.corners_at(p).nth(MANY).is_none() {
             return None;
@@ -55,33 +54,34 @@ impl Shrink {
     }
 
     // A corner of p in a face that holds q. The corners at both are walked at once, so that the fewer ones decide.
-    fn corner_with(&self, p: u32, q: u32) -> Option<u32>
+    fn corner_with(&self, p: u32, q: u32) -> Option<Side>
         requires p_live { is_live_in self.now.surface p ≡ true }
         requires q_live { is_live_in self.now.surface q ≡ true }
-        ensures { IfSome result (λ e. Stands (net_at self.now) e × ((net_at self.now).from e ≡ p)) }
+        ensures { IfSome result (λ e. Stands (net_at self.now) e.0 × ((net_at self.now).from e.0 ≡ p)) }
     {
         self.invariant();
         let mut at_p = self.corners_at(p);
         let mut at_q = self.corners_at(q);
         while let (Some(from_p), Some(from_q)) = (at_p.next(), at_q.next()) {
-            if self.has_other(from_p, q) {
-                return Some(from_p);
+            let (corner_p, corner_q) = (Side(from_p), Side(from_q));
+            if self.has_other(corner_p, q) {
+                return Some(corner_p);
             }
-            if self.to(from_q) == p {
-                return Some(next(from_q));
+            if self.to(corner_q) == p {
+                return Some(corner_q.next());
             }
-            if self.third(from_q) == p {
-                return Some(prev(from_q));
+            if self.third(corner_q) == p {
+                return Some(corner_q.prev());
             }
         }
         None
     }
 
     // The first of the corners from this one on, one way round its vertex, whose face doesn't hold q and turns over.
-    fn turned_along(&self, from: u32, way: Way, q: u32, place: Point) -> Option<u32>
-        requires { Stands (net_at self.now) from }
-        ensures { IfSome result (λ e. Stands (net_at self.now) e × ((net_at self.now).from e ≡ (net_at self.now).from from)
-            × TurnsAt self.now.surface q place e) }
+    fn turned_along(&self, from: Side, way: Way, q: u32, place: Point) -> Option<Side>
+        requires { Stands (net_at self.now) from.0 }
+        ensures { IfSome result (λ e. Stands (net_at self.now) e.0
+            × ((net_at self.now).from e.0 ≡ (net_at self.now).from from.0) × TurnsAt self.now.surface q place e.0) }
     {
         let mut corner = from;
         for _ in 0..NEAR {
@@ -97,29 +97,26 @@ impl Shrink {
     }
 
     // The next corner one way round the vertex of this one.
-    fn corner_beside(&self, corner: u32, way: Way) -> Option<u32>
-        requires { Stands (net_at self.now) corner }
-        ensures { IfSome result (λ e. Stands (net_at self.now) e
-            × ((net_at self.now).from e ≡ (net_at self.now).from corner)) }
+    fn corner_beside(&self, corner: Side, way: Way) -> Option<Side>
+        requires { Stands (net_at self.now) corner.0 }
+        ensures { IfSome result (λ e. Stands (net_at self.now) e.0
+            × ((net_at self.now).from e.0 ≡ (net_at self.now).from corner.0)) }
     {
         self.invariant();
         match way {
-            Way::Left => self.twin(prev(corner)),
+            Way::Left => self.twin(corner.prev()),
             Way::Right => match self.twin(corner) {
                 None => None,
-                Some(twin) => Some(next(twin)),
+                Some(twin) => Some(twin.next()),
             },
         }
     }
 
     // What stands across a side.
-    fn twin(&self, side: u32) -> Option<u32>
-        requires { Stands (net_at self.now) side }
-        ensures { IfSome result (IsTwin (net_at self.now) side) }
+    fn twin(&self, side: Side) -> Option<Side>
+        requires { Stands (net_at self.now) side.0 }
+        ensures { IfSome result (λ twin. IsTwin (net_at self.now) side.0 twin.0) }
     {
-        match self.across(Side(side)) {
-            None => None,
-            Some(twin) => Some(twin.0),
-        }
+        self.across(side)
     }
 }

@@ -11,9 +11,8 @@ ghost use Rattle.pm_shrink.specs.Shrinking.{net_at, quadric_at};
 ghost use Rattle.pm_shrink.specs.Following.{IsAfter};
 
 use crate::Shrink;
-use crate::sides::{next, prev};
 use crate::tables::{count_gone, drop_face, merge_corners, merge_places, merge_quadrics};
-use pm_base::{Collapse, FaceId, Gone, Point, Side};
+use pm_base::{Collapse, Gone, Point};
 
 impl Shrink {
     /// Collapses a pair that is legal at the place: both ends become the next vertex, there, and the faces that hold both
@@ -64,9 +63,9 @@ impl Shrink {
         match self.side_to(p, q) {
             None => None,
             Some(side) => Some(Gone {
-                face: FaceId(side / 3),
-                first: self.across(Side(next(side))),
-                second: self.across(Side(prev(side))),
+                face: side.face(),
+                first: self.across(side.next()),
+                second: self.across(side.prev()),
             }),
         }
     }

@@ -1,5 +1,6 @@
 //! Walks over the corners at one vertex.
 ghost use Rattle.std.specs.Prelude.{◌≡◌, ◌<◌, ◌≤◌, ℕ, ◌↔◌, ◌||◌, true, IsTrue, All, MatchOption, is_none};
+ghost use Rattle.std.specs.Option.{option_map};
 ghost use Rattle.pm_base.specs.declared.limits.TheConstants.{MOST_SIDES};
 ghost use Rattle.pm_base.specs.Sides.{side_count, prev as prev_of, to as to_of, third as third_of, Stands, IsBorder, twin_of};
 ghost use Rattle.pm_runs.specs.Surfaces.{is_live as is_live_in};
@@ -8,8 +9,8 @@ ghost use Rattle.pm_runs.specs.Steps.{side_from_to};
 ghost use Rattle.pm_shrink.specs.Shrinking.{net_at, fan_at, AreCornersAt};
 ghost use Rattle.pm_shrink.specs.Walks.{holds, has_two};
 
-use crate::Shrink;
-use crate::sides::{self, next, prev};
+use crate::{Shrink, sides};
+use pm_base::Side;
 use pm_links::Items;
 
 /// How many corners a walk over all of them may have until it counts as long.
@@ -30,57 +31,58 @@ impl Shrink {
     }
 
     // The vertex from which a side runs.
-    pub(crate) fn from(&self, side: u32) -> u32
-        requires { side < side_count (net_at self.now) }
-        ensures { result ≡ (net_at self.now).from side }
+    pub(crate) fn from(&self, side: Side) -> u32
+        requires { side.0 < side_count (net_at self.now) }
+        ensures { result ≡ (net_at self.now).from side.0 }
     {
         sides::from(&self.faces, side)
     }
 
     // The vertex to which a side runs.
-    pub(crate) fn to(&self, side: u32) -> u32
-        requires { side < side_count (net_at self.now) }
-        ensures { result ≡ to_of (net_at self.now) side }
+    pub(crate) fn to(&self, side: Side) -> u32
+        requires { side.0 < side_count (net_at self.now) }
+        ensures { result ≡ to_of (net_at self.now) side.0 }
     {
         self.invariant();
-        self.from(next(side))
+        self.from(side.next())
     }
 
     // The third corner of a side's face.
-    pub(crate) fn third(&self, side: u32) -> u32
-        requires { side < side_count (net_at self.now) }
-        ensures { result ≡ third_of (net_at self.now) side }
+    pub(crate) fn third(&self, side: Side) -> u32
+        requires { side.0 < side_count (net_at self.now) }
+        ensures { result ≡ third_of (net_at self.now) side.0 }
     {
         self.invariant();
-        self.from(prev(side))
+        self.from(side.prev())
     }
 
     // Whether nothing stands across a side.
-    pub(crate) fn is_border_side(&self, side: u32) -> bool
-        requires { Stands (net_at self.now) side }
-        ensures { result ≡ is_none (twin_of (net_at self.now) side) }
+    pub(crate) fn is_border_side(&self, side: Side) -> bool
+        requires { Stands (net_at self.now) side.0 }
+        ensures { result ≡ is_none (twin_of (net_at self.now) side.0) }
     {
-        self.across[side as usize].is_none()
+        self.across(side).is_none()
     }
 
     // Whether nothing stands across one of the two sides of a face at a corner: that which runs from it, and that which
     // runs to it.
-    fn is_border_corner(&self, corner: u32) -> bool
-        requires { Stands (net_at self.now) corner }
-        ensures { result ≡ (is_none (twin_of (net_at self.now) corner)
-            || is_none (twin_of (net_at self.now) (prev_of corner))) }
+    fn is_border_corner(&self, corner: Side) -> bool
+        requires { Stands (net_at self.now) corner.0 }
+        ensures { result ≡ (is_none (twin_of (net_at self.now) corner.0)
+            || is_none (twin_of (net_at self.now) (prev_of corner.0))) }
     {
         self.invariant();
-        self.is_border_side(corner) || self.is_border_side(prev(corner))
+        self.is_border_side(corner) || self.is_border_side(corner.prev())
     }
 
     // The side from p to q, if a face has one.
-    pub(crate) fn side_to(&self, p: u32, q: u32) -> Option<u32>
+    pub(crate) fn side_to(&self, p: u32, q: u32) -> Option<Side>
         requires { is_live_in self.now.surface p ≡ true }
-        ensures { result ≡ side_from_to (net_at self.now) p q }
+        ensures { option_map (λ s. s.0) result ≡ side_from_to (net_at self.now) p q }
     {
         self.invariant();
-        for corner in self.corners_at(p) {
+        for number in self.corners_at(p) {
+            let corner = Side(number);
             if self.to(corner) == q {
                 return Some(corner);
             }
@@ -89,9 +91,9 @@ impl Shrink {
     }
 
     // Whether the face at a corner has w for another corner.
-    pub(crate) fn has_other(&self, corner: u32, w: u32) -> bool
-        requires { corner < side_count (net_at self.now) }
-        ensures { result ≡ holds (net_at self.now) w corner }
+    pub(crate) fn has_other(&self, corner: Side, w: u32) -> bool
+        requires { corner.0 < side_count (net_at self.now) }
+        ensures { result ≡ holds (net_at self.now) w corner.0 }
     {
         self.to(corner) == w || self.third(corner) == w
     }
@@ -115,8 +117,8 @@ impl Shrink {
         requires { is_live_in self.now.surface v ≡ true }
         ensures { IsTrue result ↔ Joined (net_at self.now) v w }
     {
-        for corner in self.corners_at(v) {
-            if self.has_other(corner, w) {
+        for number in self.corners_at(v) {
+            if self.has_other(Side(number), w) {
                 return true;
             }
         }
@@ -132,7 +134,7 @@ impl Shrink {
         let mut at_v = self.corners_at(v);
         let mut at_w = self.corners_at(w);
         while let (Some(from_v), Some(from_w)) = (at_v.next(), at_w.next()) {
-            if self.has_other(from_v, w) || self.has_other(from_w, v) {
+            if self.has_other(Side(from_v), w) || self.has_other(Side(from_w), v) {
                 return true;
             }
         }
@@ -140,9 +142,9 @@ impl Shrink {
     }
 
     // Whether the other two corners of the face at a corner are these, in either order.
-    fn has_others(&self, corner: u32, b: u32, c: u32) -> bool
-        requires { corner < side_count (net_at self.now) }
-        ensures { result ≡ has_two (net_at self.now) b c corner }
+    fn has_others(&self, corner: Side, b: u32, c: u32) -> bool
+        requires { corner.0 < side_count (net_at self.now) }
+        ensures { result ≡ has_two (net_at self.now) b c corner.0 }
     {
         let (to, third) = (self.to(corner), self.third(corner));
         (to == b && third == c) || (to == c && third == b)
@@ -157,12 +159,14 @@ impl Shrink {
     }
 
     // The corner at a of a face with these three corners, in either order.
-    pub(crate) fn face_with(&self, a: u32, b: u32, c: u32) -> Option<u32>
+    pub(crate) fn face_with(&self, a: u32, b: u32, c: u32) -> Option<Side>
         requires { is_live_in self.now.surface a ≡ true }
         ensures { MatchOption result (HasFace (net_at self.now) a b c → ⊥)
-            (λ e. Stands (net_at self.now) e × ((net_at self.now).from e ≡ a) × (has_two (net_at self.now) b c e ≡ true)) }
+            (λ e. Stands (net_at self.now) e.0 × ((net_at self.now).from e.0 ≡ a)
+            × (has_two (net_at self.now) b c e.0 ≡ true)) }
     {
-        for corner in self.corners_at(a) {
+        for number in self.corners_at(a) {
+            let corner = Side(number);
             if self.has_others(corner, b, c) {
                 return Some(corner);
             }
@@ -183,8 +187,8 @@ impl Shrink {
         requires { is_live_in self.now.surface v ≡ true }
         ensures { IsTrue result ↔ IsBorder (net_at self.now) v }
     {
-        for corner in self.corners_at(v) {
-            if self.is_border_corner(corner) {
+        for number in self.corners_at(v) {
+            if self.is_border_corner(Side(number)) {
                 return true;
             }
         }

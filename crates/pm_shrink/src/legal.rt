@@ -9,8 +9,7 @@ ghost use Rattle.pm_shrink.specs.Shrinking.{net_at};
 ghost use Rattle.pm_shrink.specs.Walks.{IsStray, IsAloneAlong, StayUprightAt};
 
 use crate::Shrink;
-use crate::sides::{next, prev};
-use pm_base::{Point, cross, dot};
+use pm_base::{Point, Side, cross, dot};
 
 impl Shrink {
     /// Whether the pair of two different live vertices may be collapsed to the place. The time is at most the product of
@@ -150,13 +149,13 @@ impl Shrink {
     }
 
     // Whether nothing stands across the other two sides of a side's face.
-    fn is_alone_beside(&self, side: u32) -> bool
-        requires { Stands (net_at self.now) side }
-        ensures { result ≡ (is_none (twin_of (net_at self.now) (next_of side))
-            && is_none (twin_of (net_at self.now) (prev_of side))) }
+    fn is_alone_beside(&self, side: Side) -> bool
+        requires { Stands (net_at self.now) side.0 }
+        ensures { result ≡ (is_none (twin_of (net_at self.now) (next_of side.0))
+            && is_none (twin_of (net_at self.now) (prev_of side.0))) }
     {
         self.invariant();
-        self.is_border_side(next(side)) && self.is_border_side(prev(side))
+        self.is_border_side(side.next()) && self.is_border_side(side.prev())
     }
 
     // (iv) No face that holds exactly one of the two turns over when that corner moves to the place.
@@ -178,21 +177,21 @@ impl Shrink {
 
     // Whether the face at a corner doesn't turn over when the corner moves to the place: the product of its two normals
     // is then not below 0.
-    pub(crate) fn is_upright(&self, corner: u32, place: Point) -> bool
-        requires { Stands (net_at self.now) corner }
-        ensures { IsTrue result ↔ StaysUpright self.now.surface place ((net_at self.now).from corner)
-            (to_of (net_at self.now) corner) (third_of (net_at self.now) corner) }
+    pub(crate) fn is_upright(&self, corner: Side, place: Point) -> bool
+        requires { Stands (net_at self.now) corner.0 }
+        ensures { IsTrue result ↔ StaysUpright self.now.surface place ((net_at self.now).from corner.0)
+            (to_of (net_at self.now) corner.0) (third_of (net_at self.now) corner.0) }
     {
         self.invariant();
         let was = self.place_of(corner);
-        let (q, r) = (self.place_of(next(corner)), self.place_of(prev(corner)));
+        let (q, r) = (self.place_of(corner.next()), self.place_of(corner.prev()));
         is_at_least_zero(dot_of_normals(place, was, q, r))
     }
 
     // The place of the vertex at a corner.
-    fn place_of(&self, corner: u32) -> Point
-        requires { Stands (net_at self.now) corner }
-        ensures { result ≡ place_at self.now.surface ((net_at self.now).from corner) }
+    fn place_of(&self, corner: Side) -> Point
+        requires { Stands (net_at self.now) corner.0 }
+        ensures { result ≡ place_at self.now.surface ((net_at self.now).from corner.0) }
     {
         self.invariant();
         self.place(self.from(corner))

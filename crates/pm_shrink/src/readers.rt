@@ -93,7 +93,7 @@ impl Shrink {
         requires { Stands (net_at self.now) corner.0 }
         ensures { result ≡ (net_at self.now).from corner.0 }
     {
-        sides::from(&self.faces, corner.0)
+        sides::from(&self.faces, corner)
     }
 
     /// What stands across a side of a face that is still there, and none exactly where nothing does.
@@ -101,6 +101,6 @@ impl Shrink {
         requires { Stands (net_at self.now) side.0 }
         ensures { option_map (λ s. s.0) result ≡ twin_of (net_at self.now) side.0 }
     {
-        self.across[side.0 as usize].map(Side)
+        self.across.get(side)
     }
 }

@@ -1,6 +1,6 @@
 //! The surface before the first collapse.
 ghost use Rattle.std.specs.Prelude.{◌≡◌, ◌+◌, ◌-◌, ◌*◌, ◌<◌, ◌≤◌, ◌≢◌, ◌++◌, ◌↔◌, ℕ, [], ◌∷◌, Some, None, true, cond, length, map, replicate, slice_index_or, slice_set, IfOk};
-ghost use Rattle.pm_base.specs.declared.limits.TheConstants.{MOST_FACES, MOST_NODES, MOST_SIDES};
+ghost use Rattle.pm_base.specs.declared.limits.TheConstants.{MOST_FACES, MOST_NODES};
 ghost use Rattle.pm_base.specs.Meshes.{mesh_of, IsFace, IsWellFormed};
 ghost use Rattle.pm_base.specs.Sides.{net_of};
 ghost use Rattle.pm_base.specs.Fans.{IsOrientedManifold};
@@ -40,11 +40,10 @@ impl Shrink {
         let faces = all_there(alloc, triples)?;
         let places = places_with_room(alloc, points, room)?;
         let quadrics = face_quadrics(alloc, points, triples, room)?;
-        let across = twins_of(alloc, &twins, 3 * triples.len())?;
         let corners = corner_lists(alloc, &faces, room)?;
         Ok(Shrink {
             faces,
-            across,
+            across: twins.into_sides(),
             corners,
             places,
             quadrics,
@@ -75,19 +74,6 @@ fn places_with_room(
     Ok(places)
 }
 
-// What stands across each side.
-fn twins_of(alloc: Global, twins: &Twins, sides: usize) -> Result<Vec<Option<u32>>, OutOfMemory>
-    requires few { sides ≤ MOST_SIDES }
-    requires all { sides ≡ length twins.now.twins }
-    ensures { IfOk result (λ across. across.items ≡ twins.now.twins) }
-{
-    let mut across = Vec::with_capacity(alloc, sides)?;
-    for side in 0..sides {
-        across.push(twins.twin(Side(side as u32)).map(|twin| twin.0))?;
-    }
-    Ok(across)
-}
-
 // Each corner in the list of its vertex.
 fn corner_lists(alloc: Global, faces: &[Option<Corners>], room: usize) -> Result<Links, OutOfMemory>
     requires few { length faces.now ≤ MOST_FACES }
@@ -101,8 +87,8 @@ fn corner_lists(alloc: Global, faces: &[Option<Corners>], room: usize) -> Result
 {
     let sides = 3 * faces.len() as u32;
     let mut lists = Links::new(alloc, sides, room as u32)?;
-    for side in 0..sides {
-        lists.push_front(sides::from(faces, side), side);
+    for number in 0..sides {
+        lists.push_front(sides::from(faces, Side(number)), number);
     }
     Ok(lists)
 }

@@ -1,39 +1,17 @@
-//! The sides of a list of faces, of which some were dropped. Side `3f + i` of face `f` runs from corner `i` to the
-//! face's next corner.
-ghost use Rattle.std.specs.Prelude.{◌≡◌, ◌+◌, ◌*◌, ◌<◌, ◌≤◌, length};
-ghost use Rattle.pm_base.specs.declared.limits.TheConstants.{MOST_SIDES};
-ghost use Rattle.pm_base.specs.Sides.{next as next_of, prev as prev_of};
+//! The vertices of the sides of a list of faces, of which some were dropped.
+ghost use Rattle.std.specs.Prelude.{◌≡◌, ◌*◌, ◌<◌, length};
 ghost use Rattle.pm_shrink.specs.Tables.{side_from};
 
-use pm_base::Corners;
-
-/// The side that follows in the same face.
-#[tactic(auto, unfolding(pm_base::specs::Sides::next))]
-pub(crate) fn next(side: u32) -> u32
-    requires { side < MOST_SIDES }
-    ensures value { result ≡ next_of side }
-    ensures small { result < MOST_SIDES }
-{
-    if side % 3 == 2 { side - 2 } else { side + 1 }
-}
-
-/// The side that comes before in the same face.
-pub(crate) fn prev(side: u32) -> u32
-    requires { side < MOST_SIDES }
-    ensures value { result ≡ prev_of side }
-    ensures small { result < MOST_SIDES }
-{
-    next(next(side))
-}
+use pm_base::{Corners, Side};
 
 /// The vertex from which a side runs, and 0 where its face was dropped.
-pub(crate) fn from(faces: &[Option<Corners>], side: u32) -> u32
-    requires { side < 3 * length faces.now }
-    ensures { result ≡ side_from faces.now side }
+pub(crate) fn from(faces: &[Option<Corners>], side: Side) -> u32
+    requires { side.0 < 3 * length faces.now }
+    ensures { result ≡ side_from faces.now side.0 }
 {
-    match faces[side as usize / 3] {
+    match faces[side.face().0 as usize] {
         None => 0,
         // Which corner it is can't be foreseen, and a wrong guess costs more than a look-up.
-        Some(face) => [face.a, face.b, face.c][side as usize % 3],
+        Some(face) => [face.a, face.b, face.c][side.0 as usize % 3],
     }
 }

@@ -1,13 +1,13 @@
 //! What a collapse writes to the tables: free functions, each over the tables that it changes.
 ghost use Rattle.std.specs.Prelude.{◌≡◌, ◌≢◌, ◌+◌, ◌*◌, ◌<◌, ◌≤◌, ℕ, None, Some, length, slice_index_or, slice_set, is_some, IfSome};
-ghost use Rattle.pm_base.specs.declared.limits.TheConstants.{MOST_FACES};
+ghost use Rattle.pm_base.specs.declared.limits.TheConstants.{MOST_FACES, MOST_SIDES};
 ghost use Rattle.pm_base.specs.Counts.{one_if};
 ghost use Rattle.pm_links.specs.Lists.{list_of, with_moved, IsHeld, IsSound};
 ghost use Rattle.pm_quadric.specs.declared.quadric.TheConstants.{MOST_PLANES};
 ghost use Rattle.pm_quadric.specs.Sums.{plus_sums, zero_sums};
 ghost use Rattle.pm_shrink.specs.Writes.{with_vertex as vertex_put, with_corner, with_corners, without_face, without_corners, unlisted, with_across, relinked};
 
-use pm_base::{Corners, Gone, Point, Side};
+use pm_base::{Corners, FaceId, Gone, Point, Side, SideMap};
 use pm_links::Links;
 use pm_quadric::Quadric;
 
@@ -23,12 +23,12 @@ fn with_vertex(face: Corners, i: u32, vertex: u32) -> Corners
 }
 
 // Puts a vertex at a corner.
-fn set_corner(faces: &mut Vec<Option<Corners>>, corner: u32, vertex: u32)
-    requires { corner < 3 * length faces.old.items }
-    ensures { faces.new.items ≡ with_corner faces.old.items corner vertex }
+fn set_corner(faces: &mut Vec<Option<Corners>>, corner: Side, vertex: u32)
+    requires { corner.0 < 3 * length faces.old.items }
+    ensures { faces.new.items ≡ with_corner faces.old.items corner.0 vertex }
 {
-    let face = corner as usize / 3;
-    faces[face] = faces[face].map(|corners| with_vertex(corners, corner % 3, vertex));
+    let face = corner.face().0 as usize;
+    faces[face] = faces[face].map(|corners| with_vertex(corners, corner.0 % 3, vertex));
 }
 
 // Puts the vertex `to` at each corner in the list of `from`.
@@ -37,8 +37,8 @@ fn rename(faces: &mut Vec<Option<Corners>>, corners: &Links, from: u32, to: u32)
     requires corners { corners.now.items ≤ 3 * length faces.old.items }
     ensures { faces.new.items ≡ with_corners faces.old.items (list_of corners.now from) to }
 {
-    for corner in corners.items(from) {
-        set_corner(faces, corner, to);
+    for number in corners.items(from) {
+        set_corner(faces, Side(number), to);
     }
 }
 
@@ -62,51 +62,53 @@ pub(crate) fn merge_corners(
 }
 
 // Takes the three corners of a face out of their lists.
-fn unlink_face(corners: &mut Links, face: u32)
-    requires small { face < MOST_FACES }
-    requires first { IsHeld corners.old (3 * face) }
-    requires second { IsHeld corners.old (3 * face + 1) }
-    requires third { IsHeld corners.old (3 * face + 2) }
-    ensures lists { (h : ℕ) → list_of corners.new h ≡ without_corners face (list_of corners.old h) }
+fn unlink_face(corners: &mut Links, face: FaceId)
+    requires small { face.0 < MOST_FACES }
+    requires first { IsHeld corners.old (3 * face.0) }
+    requires second { IsHeld corners.old (3 * face.0 + 1) }
+    requires third { IsHeld corners.old (3 * face.0 + 2) }
+    ensures lists { (h : ℕ) → list_of corners.new h ≡ without_corners face.0 (list_of corners.old h) }
     ensures items { corners.new.items ≡ corners.old.items }
     ensures heads { length corners.new.lists ≡ length corners.old.lists }
 {
-    corners.unlink(3 * face);
-    corners.unlink(3 * face + 1);
-    corners.unlink(3 * face + 2);
+    corners.unlink(face.side(0).0);
+    corners.unlink(face.side(1).0);
+    corners.unlink(face.side(2).0);
 }
 
 // Puts `to` across a side, if there is one.
-fn set_across(across: &mut Vec<Option<u32>>, side: Option<Side>, to: Option<Side>)
-    requires { IfSome side (λ s. s.0 < length across.old.items) }
-    ensures { across.new.items ≡ with_across across.old.items side to }
+fn set_across(across: &mut SideMap, side: Option<Side>, to: Option<Side>)
+    requires there { IfSome side (λ s. s.0 < length across.old) }
+    requires small { IfSome to (λ s. s.0 < MOST_SIDES) }
+    ensures { across.new ≡ with_across across.old side to }
 {
     if let Some(side) = side {
-        across[side.0 as usize] = to.map(|other| other.0);
+        across.put(side, to);
     }
 }
 
 /// Drops a face, and links what stood across its two other sides.
 pub(crate) fn drop_face(
     faces: &mut Vec<Option<Corners>>,
-    across: &mut Vec<Option<u32>>,
+    across: &mut SideMap,
     corners: &mut Links,
     gone: Option<Gone>,
 )
     requires small { length faces.old.items ≤ MOST_FACES }
     requires face { IfSome gone (λ g. g.face.0 < length faces.old.items) }
-    requires first { IfSome gone (λ g. IfSome g.first (λ s. s.0 < length across.old.items)) }
-    requires second { IfSome gone (λ g. IfSome g.second (λ s. s.0 < length across.old.items)) }
+    requires sides { length across.old ≡ 3 * length faces.old.items }
+    requires first { IfSome gone (λ g. IfSome g.first (λ s. s.0 < length across.old)) }
+    requires second { IfSome gone (λ g. IfSome g.second (λ s. s.0 < length across.old)) }
     requires held { IfSome gone (λ g. IsHeld corners.old (3 * g.face.0)
         × IsHeld corners.old (3 * g.face.0 + 1) × IsHeld corners.old (3 * g.face.0 + 2)) }
     ensures faces { faces.new.items ≡ without_face faces.old.items gone }
-    ensures across { across.new.items ≡ relinked across.old.items gone }
+    ensures across { across.new ≡ relinked across.old gone }
     ensures lists { (h : ℕ) → list_of corners.new h ≡ unlisted gone (list_of corners.old h) }
     ensures items { corners.new.items ≡ corners.old.items }
     ensures heads { length corners.new.lists ≡ length corners.old.lists }
 {
     if let Some(gone) = gone {
-        unlink_face(corners, gone.face.0);
+        unlink_face(corners, gone.face);
         set_across(across, gone.first, gone.second);
         set_across(across, gone.second, gone.first);
         faces[gone.face.0 as usize] = None;

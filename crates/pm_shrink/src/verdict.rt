@@ -8,8 +8,7 @@ ghost use Rattle.pm_shrink.specs.Obstacles.{Strays, TellsTriangle, IsAlone, Turn
 ghost use Rattle.pm_shrink.specs.Walks.{HasStray, KeepsUpright, StayUprightAt, TurnsAt};
 
 use crate::Shrink;
-use crate::sides::{next, prev};
-use pm_base::{FaceId, Point};
+use pm_base::{FaceId, Point, Side};
 
 /// Whether a pair may be collapsed.
 #[derive(Clone, Copy, Debug, PartialEq, Eq)]
@@ -33,7 +32,7 @@ impl Shrink {
     {
         self.invariant();
         if let Some(side) = self.hindrance(a, b, place) {
-            return Verdict::Waits(FaceId(side / 3));
+            return Verdict::Waits(side.face());
         }
         if self.are_twice_on_border(a, b) {
             Verdict::Barred
@@ -43,12 +42,12 @@ impl Shrink {
     }
 
     // A side whose face shows why the pair may not be collapsed.
-    fn hindrance(&self, a: u32, b: u32, place: Point) -> Option<u32>
+    fn hindrance(&self, a: u32, b: u32, place: Point) -> Option<Side>
         requires a_live { is_live_in self.now.surface a ≡ true }
         requires b_live { is_live_in self.now.surface b ≡ true }
         ensures { MatchOption result ((HaveCommonThirds (net_at self.now) a b × ShareNoTriangle (net_at self.now) a b)
             × (AreNotAlone (net_at self.now) a b × StayUpright self.now.surface a b place))
-            (Hinders self.now.surface a b place) }
+            (λ e. Hinders self.now.surface a b place e.0) }
     {
         // A face that turns over is asked for first: where many corners are at one of the two, most pairs wait for one, and
         // it is found before all neighbours have been compared.
@@ -65,14 +64,14 @@ impl Shrink {
     }
 
     // (i) A side that runs from a common neighbour that is no third corner.
-    pub(crate) fn stray(&self, a: u32, b: u32) -> Option<u32>
+    pub(crate) fn stray(&self, a: u32, b: u32) -> Option<Side>
         requires a_live { is_live_in self.now.surface a ≡ true }
         requires b_live { is_live_in self.now.surface b ≡ true }
         ensures { MatchOption result (HaveCommonThirds (net_at self.now) a b)
-            (λ e. Stands (net_at self.now) e × Strays (net_at self.now) a b ((net_at self.now).from e)) }
+            (λ e. Stands (net_at self.now) e.0 × Strays (net_at self.now) a b ((net_at self.now).from e.0)) }
     {
-        for corner in self.corners_at(a) {
-            if let Some(side) = self.stray_at(a, b, corner) {
+        for number in self.corners_at(a) {
+            if let Some(side) = self.stray_at(a, b, Side(number)) {
                 return Some(side);
             }
         }
@@ -81,31 +80,31 @@ impl Shrink {
 
     // Such a side in the face at a corner of a. A neighbour that comes before a in the face follows it in the next face, so
     // that it is asked about here only where there is none.
-    fn stray_at(&self, a: u32, b: u32, corner: u32) -> Option<u32>
+    fn stray_at(&self, a: u32, b: u32, corner: Side) -> Option<Side>
         requires a_live { is_live_in self.now.surface a ≡ true }
         requires b_live { is_live_in self.now.surface b ≡ true }
-        requires corner { Stands (net_at self.now) corner }
-        requires at { (net_at self.now).from corner ≡ a }
-        ensures { MatchOption result (HasStray (net_at self.now) a b corner → ⊥)
-            (λ e. Stands (net_at self.now) e × Strays (net_at self.now) a b ((net_at self.now).from e)) }
+        requires corner { Stands (net_at self.now) corner.0 }
+        requires at { (net_at self.now).from corner.0 ≡ a }
+        ensures { MatchOption result (HasStray (net_at self.now) a b corner.0 → ⊥)
+            (λ e. Stands (net_at self.now) e.0 × Strays (net_at self.now) a b ((net_at self.now).from e.0)) }
     {
         self.invariant();
         if self.is_stray(a, b, self.to(corner)) {
-            return Some(next(corner));
+            return Some(corner.next());
         }
-        if self.is_border_side(prev(corner)) && self.is_stray(a, b, self.third(corner)) {
-            return Some(prev(corner));
+        if self.is_border_side(corner.prev()) && self.is_stray(a, b, self.third(corner)) {
+            return Some(corner.prev());
         }
         None
     }
 
     // (iii) If two faces hold both, with third corners v and w, and both a, v, w and b, v, w are the corners of faces, a
     // side of the first of these.
-    pub(crate) fn shared_triangle(&self, a: u32, b: u32) -> Option<u32>
+    pub(crate) fn shared_triangle(&self, a: u32, b: u32) -> Option<Side>
         requires a_live { is_live_in self.now.surface a ≡ true }
         requires b_live { is_live_in self.now.surface b ≡ true }
         ensures { MatchOption result (ShareNoTriangle (net_at self.now) a b)
-            (λ e. Stands (net_at self.now) e × TellsTriangle (net_at self.now) a b e) }
+            (λ e. Stands (net_at self.now) e.0 × TellsTriangle (net_at self.now) a b e.0) }
     {
         self.invariant();
         let (Some(left), Some(right)) = (self.side_to(a, b), self.side_to(b, a)) else {
@@ -119,11 +118,11 @@ impl Shrink {
     }
 
     // (iii) The side of a face that holds both, where nothing stands across any of its sides.
-    fn lone_side(&self, a: u32, b: u32) -> Option<u32>
+    fn lone_side(&self, a: u32, b: u32) -> Option<Side>
         requires a_live { is_live_in self.now.surface a ≡ true }
         requires b_live { is_live_in self.now.surface b ≡ true }
         ensures { MatchOption result (AreNotAlone (net_at self.now) a b)
-            (λ e. Stands (net_at self.now) e × IsAlone (net_at self.now) a b e) }
+            (λ e. Stands (net_at self.now) e.0 × IsAlone (net_at self.now) a b e.0) }
     {
         self.invariant();
         if self.is_alone_along(a, b) {
@@ -136,10 +135,11 @@ impl Shrink {
     }
 
     // (iv) A corner of one of the two whose face doesn't hold the other, and turns over.
-    fn turned(&self, a: u32, b: u32, place: Point) -> Option<u32>
+    fn turned(&self, a: u32, b: u32, place: Point) -> Option<Side>
         requires a_live { is_live_in self.now.surface a ≡ true }
         requires b_live { is_live_in self.now.surface b ≡ true }
-        ensures { MatchOption result (StayUpright self.now.surface a b place) (TurnsOver self.now.surface a b place) }
+        ensures { MatchOption result (StayUpright self.now.surface a b place)
+            (λ e. TurnsOver self.now.surface a b place e.0) }
     {
         if let Some(corner) = self.turned_near(a, b, place) {
             return Some(corner);
@@ -152,15 +152,17 @@ impl Shrink {
 
     // A corner of p whose face doesn't hold q, and turns over when p moves to the place. Where p stays at its place none
     // does.
-    pub(crate) fn turned_at(&self, p: u32, q: u32, place: Point) -> Option<u32>
+    pub(crate) fn turned_at(&self, p: u32, q: u32, place: Point) -> Option<Side>
         requires { is_live_in self.now.surface p ≡ true }
         ensures { MatchOption result (StayUprightAt self.now.surface p q place)
-            (λ e. Stands (net_at self.now) e × ((net_at self.now).from e ≡ p) × TurnsAt self.now.surface q place e) }
+            (λ e. Stands (net_at self.now) e.0 × ((net_at self.now).from e.0 ≡ p)
+            × TurnsAt self.now.surface q place e.0) }
     {
         if place == self.place(p) {
             return None;
         }
-        for corner in self.corners_at(p) {
+        for number in self.corners_at(p) {
+            let corner = Side(number);
             if self.turns_over(corner, q, place) {
                 return Some(corner);
             }
@@ -169,10 +171,10 @@ impl Shrink {
     }
 
     // Whether the face at a corner doesn't hold q, and turns over.
-    pub(crate) fn turns_over(&self, corner: u32, q: u32, place: Point) -> bool
-        requires { Stands (net_at self.now) corner }
-        ensures yes { IsTrue result → TurnsAt self.now.surface q place corner }
-        ensures no { IsFalse result → KeepsUpright self.now.surface q place corner }
+    pub(crate) fn turns_over(&self, corner: Side, q: u32, place: Point) -> bool
+        requires { Stands (net_at self.now) corner.0 }
+        ensures yes { IsTrue result → TurnsAt self.now.surface q place corner.0 }
+        ensures no { IsFalse result → KeepsUpright self.now.surface q place corner.0 }
     {
         !self.has_other(corner, q) && !self.is_upright(corner, place)
     }

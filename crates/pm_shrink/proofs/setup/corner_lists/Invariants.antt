@@ -3,10 +3,10 @@ use Rattle.pm_links.specs.Lists.{list_of, has, IsSound}
 use Rattle.pm_shrink.specs.Tables.{side_from}
 use Rattle.pm_shrink.proofs.setup.corner_lists.Given as goal
 
-abbrev pub invariant-loop-side : goal.invariant-loop-side
-invariant-loop-side l = record {
+abbrev pub invariant-loop-number : goal.invariant-loop-number
+invariant-loop-number l = record {
   items : l.lists.items ≡ l.sides;
   heads : length l.lists.lists ≡ l.room;
   sound : IsSound l.lists;
-  each : (v e : ℕ) → (has (list_of l.lists v) e ≡ true) ↔ ((e < l.side) × (side_from l.faces e ≡ v));
+  each : (v e : ℕ) → (has (list_of l.lists v) e ≡ true) ↔ ((e < l.number) × (side_from l.faces e ≡ v));
 }

@@ -6,22 +6,22 @@ use Rattle.pm_shrink.specs.Writes.{with_corners}
 use Rattle.pm_shrink.proofs.WriteLaws.{length-with_corner}
 use Rattle.pm_shrink.proofs.tables.rename.Goals as goal
 
-pub loop-corner-init : goal.loop-corner-init
-loop-corner-init c =
-    let items_is = c.into_iter-corner-iterator.ensures.into_iter_gives ∙ c.items-corner-items.ensures.items in
+pub loop-number-init : goal.loop-number-init
+loop-number-init c =
+    let items_is = c.into_iter-number-iterator.ensures.into_iter_gives ∙ c.items-number-items.ensures.items in
     rw items_is (record {
       left = λ i. with_corners c.args.faces.now.items (list_of c.args.corners.now c.args.from) c.args.to;
       len = λ i. length c.args.faces.now.items;
-      within = All-in_range c.args.corners.now c.args.from (3 * length c.args.faces.now.items) c.items-corner-items.ensures.sound c.requires.corners;
+      within = All-in_range c.args.corners.now c.args.from (3 * length c.args.faces.now.items) c.items-number-items.ensures.sound c.requires.corners;
     })
 
-pub loop-corner-preserved : goal.loop-corner-preserved
-loop-corner-preserved c =
-    let i = c.loop-corner.invariant in
+pub loop-number-preserved : goal.loop-number-preserved
+loop-number-preserved c =
+    let i = c.loop-number.invariant in
     let steps = (c.in-Some.ensures {u = tt}).steps in
-    let e : ℕ = c.in-Some.corner in
+    let e : ℕ = c.in-Some.number in
     record {
       left = ap (λ k. with_corners k c.next.new.self c.args.to) c.set_corner.ensures ∙ rw steps at i.left;
-      len = ap length c.set_corner.ensures ∙ length-with_corner c.loop-corner.faces.items e c.args.to ∙ i.len;
+      len = ap length c.set_corner.ensures ∙ length-with_corner c.loop-number.faces.items e c.args.to ∙ i.len;
       within = All-tail (λ k. k < 3 * length c.args.faces.now.items) e c.next.new.self (rw steps at i.within);
     }

@@ -5,9 +5,9 @@ use Rattle.pm_shrink.specs.Writes.{with_corners}
 use Rattle.pm_shrink.proofs.tables.rename.Given as goal
 
 -- What is left to write makes it whole.
-abbrev pub invariant-loop-corner : goal.invariant-loop-corner
-invariant-loop-corner l = record {
-  left : with_corners l.faces.items l.corner-iterator l.to ≡ with_corners l.fn.faces.items (list_of l.corners l.from) l.to;
+abbrev pub invariant-loop-number : goal.invariant-loop-number
+invariant-loop-number l = record {
+  left : with_corners l.faces.items l.number-iterator l.to ≡ with_corners l.fn.faces.items (list_of l.corners l.from) l.to;
   len : length l.faces.items ≡ length l.fn.faces.items;
-  within : All (λ e. e < 3 * length l.fn.faces.items) l.corner-iterator;
+  within : All (λ e. e < 3 * length l.fn.faces.items) l.number-iterator;
 }

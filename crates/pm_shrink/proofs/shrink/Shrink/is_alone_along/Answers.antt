@@ -1,4 +1,4 @@
-use Rattle.std.proofs.Common.{◌≡◌, ◌∙◌, ℕ, sym, subst}
+use Rattle.std.proofs.Common.{◌≡◌, ◌∙◌, ℕ, ap, sym, subst}
 use Rattle.std.specs.Prelude.{is_none}
 use Rattle.std.proofs.lemmas.Bool.{false≢true}
 use Rattle.pm_base.specs.Sides.{Net, next, prev}
@@ -8,23 +8,24 @@ use Rattle.std.proofs.lemmas.Bool.{and_parts, and_from}
 use Rattle.pm_base.specs.Sides.{twin_of, IsBorderSide}
 use Rattle.pm_base.proofs.Sides.{stands_next}
 use Rattle.pm_runs.proofs.Found.{found-runs, none-side, runs-found}
+use Rattle.pm_shrink.specs.Writes.{side_number}
 use Rattle.pm_shrink.proofs.FanLaws.{border-side}
 use Rattle.pm_shrink.proofs.shrink.Shrink.is_alone_along.Goals as goal
 
 pub is_border_side-requires : goal.is_border_side-requires
-is_border_side-requires c = (found-runs (net_at c.args.self.now) c.args.p c.args.q c.in-Some.side (sym c.side_to.ensures ∙ c.in-Some.is)).stands
+is_border_side-requires c = (found-runs (net_at c.args.self.now) c.args.p c.args.q c.in-Some.side.0 (sym c.side_to.ensures ∙ ap side_number c.in-Some.is)).stands
 
 pub is_alone_beside-requires : goal.is_alone_beside-requires
-is_alone_beside-requires c = (found-runs (net_at c.args.self.now) c.args.p c.args.q c.in-Some.side (sym c.side_to.ensures ∙ c.in-Some.is)).stands
+is_alone_beside-requires c = (found-runs (net_at c.args.self.now) c.args.p c.args.q c.in-Some.side.0 (sym c.side_to.ensures ∙ ap side_number c.in-Some.is)).stands
 
 pub returns-in-None : goal.returns-in-None
-returns-in-None c = (λ t. absurd (false≢true t), λ (e, r, x, y, z). absurd (none-side (net_at c.args.self.now) c.args.p c.args.q (sym c.side_to.ensures ∙ c.in-None.is) (e, r)))
+returns-in-None c = (λ t. absurd (false≢true t), λ (e, r, x, y, z). absurd (none-side (net_at c.args.self.now) c.args.p c.args.q (sym c.side_to.ensures ∙ ap side_number c.in-None.is) (e, r)))
 
 pub returns-then-is_border_side : goal.returns-then-is_border_side
 returns-then-is_border_side c =
     let m : Net = net_at c.args.self.now in
-    let e : ℕ = c.in-Some.side in
-    let found = sym c.side_to.ensures ∙ c.in-Some.is in
+    let e : ℕ = c.in-Some.side.0 in
+    let found = sym c.side_to.ensures ∙ ap side_number c.in-Some.is in
     let r = found-runs m c.args.p c.args.q e found in
     let one = stands_next m e r.stands in
     let two = stands_next m (next e) one in
@@ -41,8 +42,8 @@ returns-then-is_border_side c =
 pub returns-else-is_border_side : goal.returns-else-is_border_side
 returns-else-is_border_side c =
     let m : Net = net_at c.args.self.now in
-    let e : ℕ = c.in-Some.side in
-    let found = sym c.side_to.ensures ∙ c.in-Some.is in
+    let e : ℕ = c.in-Some.side.0 in
+    let found = sym c.side_to.ensures ∙ ap side_number c.in-Some.is in
     let r = found-runs m c.args.p c.args.q e found in (
       λ t. absurd (false≢true (sym c.if-is_border_side.false ∙ t)),
       λ (g, w, x, y, z). (

@@ -9,10 +9,10 @@ use Rattle.pm_base.proofs.Sides.{stands_next}
 use Rattle.pm_shrink.proofs.shrink.Shrink.is_upright.Goals as goal
 
 pub place_of-q-requires : goal.place_of-q-requires
-place_of-q-requires c = (let m : Net = net_at c.args.self.now in subst (Stands m) (sym c.next.ensures.value) (stands_next m c.args.corner c.requires))
+place_of-q-requires c = (let m : Net = net_at c.args.self.now in subst (Stands m) (sym c.next.ensures.value) (stands_next m c.args.corner.0 c.requires))
 
 pub place_of-r-requires : goal.place_of-r-requires
-place_of-r-requires c = (let m : Net = net_at c.args.self.now in subst (Stands m) (sym c.prev.ensures.value) (stands_next m (next c.args.corner) (stands_next m c.args.corner c.requires)))
+place_of-r-requires c = (let m : Net = net_at c.args.self.now in subst (Stands m) (sym c.prev.ensures.value) (stands_next m (next c.args.corner.0) (stands_next m c.args.corner.0 c.requires)))
 
 pub returns : goal.returns
 returns c =

@@ -26,7 +26,7 @@ invariant_of-result c =
     let places : c.in_ok-places.places.items ≡ roomy_places m = rw c.as_slice-points.ensures at c.in_ok-places.ensures in
     let quadrics = rw (c.as_slice-points.ensures, c.as_slice-triples.ensures) at (c.in_ok-quadrics.ensures {u = tt}) in
     let corners = rw (deref, length-map m.faces Some, c.as_slice-points.ensures) at (c.in_ok-corners.ensures {u = tt}) in
-    rw (faces, c.as_slice-points.ensures, c.as_slice-triples.ensures, c.in_ok-across.ensures)
+    rw (faces, c.as_slice-points.ensures, c.as_slice-triples.ensures, c.into_sides.ensures)
     (started m c.requires.formed c.requires.manifold c.in_ok-places.places.items c.args.twins c.in_ok-quadrics.quadrics.items c.in_ok-corners.corners
     places c.requires.twins quadrics.len (λ v l. quadrics.each v (omega arith))
     corners.items corners.heads corners.sound corners.each)

@@ -5,9 +5,9 @@ use Rattle.pm_shrink.specs.Shrinking.{net_at, fan_at}
 use Rattle.pm_shrink.proofs.shrink.Shrink.side_to.Given as goal
 
 -- What is left to see decides.
-abbrev pub invariant-loop-corner : goal.invariant-loop-corner
-invariant-loop-corner l = record {
-  left : list_any (λ e. nat_eq (to (net_at l.self) e) l.q) (fan_at l.self l.p) ≡ list_any (λ e. nat_eq (to (net_at l.self) e) l.q) l.corner-iterator;
-  stand : All (Stands (net_at l.self)) l.corner-iterator;
-  start : All (λ e. (net_at l.self).from e ≡ l.p) l.corner-iterator;
+abbrev pub invariant-loop-number : goal.invariant-loop-number
+invariant-loop-number l = record {
+  left : list_any (λ e. nat_eq (to (net_at l.self) e) l.q) (fan_at l.self l.p) ≡ list_any (λ e. nat_eq (to (net_at l.self) e) l.q) l.number-iterator;
+  stand : All (Stands (net_at l.self)) l.number-iterator;
+  start : All (λ e. (net_at l.self).from e ≡ l.p) l.number-iterator;
 }

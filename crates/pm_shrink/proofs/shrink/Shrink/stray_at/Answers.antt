@@ -15,31 +15,31 @@ pub is_stray-requires-clause-w_live : goal.is_stray-requires-clause-w_live
 is_stray-requires-clause-w_live c =
     let s = c.args.self.now.surface in
     let m : Net = net_at c.args.self.now in
-    subst (λ (v : ℕ). is_live s v ≡ true) (sym c.to.ensures) (corner_live s c.invariant.ensures.kept.surface (next c.args.corner) (stands_next m c.args.corner c.requires.corner))
+    subst (λ (v : ℕ). is_live s v ≡ true) (sym c.to.ensures) (corner_live s c.invariant.ensures.kept.surface (next c.args.corner.0) (stands_next m c.args.corner.0 c.requires.corner))
 
 pub returns-then-is_stray : goal.returns-then-is_stray
 returns-then-is_stray c =
     let m : Net = net_at c.args.self.now in
     subst (λ (e : ℕ). Stands m e × Strays m c.args.a c.args.b (m.from e)) (sym c.next.ensures.value)
-    (stray_first m c.args.a c.args.b c.args.corner c.requires.corner c.requires.at ((rw c.to.ensures at c.is_stray.ensures).0 c.if-is_stray.true))
+    (stray_first m c.args.a c.args.b c.args.corner.0 c.requires.corner c.requires.at ((rw c.to.ensures at c.is_stray.ensures).0 c.if-is_stray.true))
 
 before_stands : (m : Net) (e i : ℕ) → Stands m e → i ≡ prev e → Stands m i
 before_stands m e i st is = subst (Stands m) (sym is) (stands_next m (next e) (stands_next m e st))
 
 pub is_border_side-requires : goal.is_border_side-requires
-is_border_side-requires c = before_stands (net_at c.args.self.now) c.args.corner c.prev.result c.requires.corner c.prev.ensures.value
+is_border_side-requires c = before_stands (net_at c.args.self.now) c.args.corner.0 c.prev.result.0 c.requires.corner c.prev.ensures.value
 
 pub is_stray-requires-then-is_border_side-clause-w_live : goal.is_stray-requires-then-is_border_side-clause-w_live
 is_stray-requires-then-is_border_side-clause-w_live c =
     let s = c.args.self.now.surface in
     let m : Net = net_at c.args.self.now in
-    subst (λ (v : ℕ). is_live s v ≡ true) (sym c.third.ensures) (corner_live s c.invariant.ensures.kept.surface (prev c.args.corner) (before_stands m c.args.corner (prev c.args.corner) c.requires.corner refl))
+    subst (λ (v : ℕ). is_live s v ≡ true) (sym c.third.ensures) (corner_live s c.invariant.ensures.kept.surface (prev c.args.corner.0) (before_stands m c.args.corner.0 (prev c.args.corner.0) c.requires.corner refl))
 
 pub returns-then-is_stray-2 : goal.returns-then-is_stray-2
 returns-then-is_stray-2 c =
     let m : Net = net_at c.args.self.now in
     subst (λ (e : ℕ). Stands m e × Strays m c.args.a c.args.b (m.from e)) (sym c.prev-then-is_stray-2.ensures.value)
-    (stray_last m c.args.a c.args.b c.args.corner c.requires.corner c.requires.at ((rw c.third.ensures at c.is_stray-then-is_border_side.ensures).0 c.if-is_stray-2.true))
+    (stray_last m c.args.a c.args.b c.args.corner.0 c.requires.corner c.requires.at ((rw c.third.ensures at c.is_stray-then-is_border_side.ensures).0 c.if-is_stray-2.true))
 
 pub returns : goal.returns
 returns c = λ stray.

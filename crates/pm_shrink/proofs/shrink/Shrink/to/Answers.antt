@@ -7,4 +7,4 @@ use Rattle.pm_shrink.proofs.shrink.Shrink.to.Goals as goal
 pub from-requires : goal.from-requires
 from-requires c =
     let n : ℕ = length c.args.self.now.surface.faces in
-    subst (λ (i : ℕ). i < side_count (net_at c.args.self.now)) (sym c.next.ensures.value) (next-lt n c.args.side c.requires)
+    subst (λ (i : ℕ). i < side_count (net_at c.args.self.now)) (sym c.next.ensures.value) (next-lt n c.args.side.0 c.requires)
