@@ -12,3 +12,4 @@ pub mod Walks
 pub mod FanWalks
 pub mod FanLaws
 pub mod NetLaws
+pub mod SideNumbers

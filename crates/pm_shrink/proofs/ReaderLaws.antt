@@ -1,21 +1,12 @@
 -- What stands at the answers of readers.
 use Rattle.std.proofs.Common.{◌≡◌, ◌↔◌, ℕ, true, List, Option, Some, None, refl, sym, ap, subst}
-use Rattle.std.specs.Prelude.{option_map, IfSome, is_none, is_some}
+use Rattle.std.specs.Prelude.{option_map, IfSome, is_some}
 use Rattle.pm_base.specs.declared.ids.Side.{Side}
 use Rattle.pm_base.specs.Sides.{Net, Stands}
 use Rattle.pm_links.specs.Lists.{has, first_of, after}
 use Rattle.pm_links.proofs.Walking.{held_first, held_next}
 use Rattle.pm_shrink.specs.Shrinking.{AreCornersAt}
 use Rattle.std.proofs.lemmas.Bool.{false≢true}
-
--- A side is there where its number is.
-pub none_numbered : (r : Option Side) → is_none r ≡ is_none (option_map (λ s. s.0) r)
-none_numbered None = refl
-none_numbered (Some s) = refl
-
-pub some_numbered : (r : Option Side) → is_some r ≡ is_some (option_map (λ s. s.0) r)
-some_numbered None = refl
-some_numbered (Some s) = refl
 
 if_number : (o : Option Side) (t : Option ℕ) (P : ℕ → Type 0) → option_map (λ c. c.0) o ≡ t → IfSome t P → IfSome o (λ (c : Side). P c.0)
 if_number None t P is held = tt
