@@ -1,13 +1,14 @@
 -- Sides that stand once are told by their two ends, and two that run back along one another are glued.
-use Rattle.std.proofs.Common.{◌≡◌, ◌≢◌, ℕ, ◌+◌, ◌*◌, ◌/◌, ◌<◌, true, false, inl, inr, refl, sym, ap, ◌∙◌, subst, Option, Some, None, List, [], ◌∷◌, ◌++◌, length, slice_index_or, arith}
-use Rattle.std.specs.Option.{MatchOption, is_some}
+use Rattle.std.proofs.Common.{◌≡◌, ◌≢◌, ℕ, ◌+◌, ◌*◌, ◌/◌, ◌<◌, ◌≤◌, true, false, inl, inr, refl, sym, ap, ◌∙◌, subst, Option, Some, None, List, [], length, slice_index_or, arith}
+use Rattle.std.specs.Option.{IfSome, MatchOption, is_some, option_map}
 use Rattle.std.specs.Ordering.{nat_cmp}
 use Rattle.std.specs.BTreeMap.{BTreeMap, get, is_at, Updates}
 use Rattle.std.specs.Map.{lookup}
 use Rattle.std.proofs.lemmas.Bool.{cases_eq, cond-true, cond-false, eq-eqb, ne_eqb, true≢false}
 use Rattle.std.proofs.lemmas.Nat.{div-mul-add}
-use Rattle.std.proofs.lemmas.List.{get_or_append_left, length-append}
-use Rattle.std.proofs.Math.Seq.{get_or-append_seam}
+use Rattle.std.proofs.Math.ListN.{set, replicate}
+use Rattle.std.proofs.lemmas.List.{get_or-set_same, get_or-set_other, length-set, length-replicate}
+use Rattle.pm_base.specs.declared.ids.Side.{Side}
 use Rattle.pm_base.specs.Sides.{Net, side_count, next, to}
 use Rattle.pm_base.proofs.Search.{option_cases}
 use Rattle.pm_base.proofs.Sides.{next-lt}
@@ -123,38 +124,58 @@ module _ (m : Net) (ok : IsCuttable m) where
   })
 
 -- What a search for the side with a key answers.
-abbrev pub IsFound : Net → ℕ → Option ℕ → Type 0
-IsFound m k r = MatchOption r ((v : ℕ) → IsAlone m (side_count m) k v → ⊥) (λ v. IsAlone m (side_count m) k v)
+abbrev pub IsFound : Net → ℕ → Option Side → Type 0
+IsFound m k r = MatchOption r ((v : ℕ) → IsAlone m (side_count m) k v → ⊥) (λ v. IsAlone m (side_count m) k v.0)
 
 module _ (m : Net) (ok : IsCuttable m) (e p q : ℕ) (l : e < side_count m) (begins : p ≡ m.from e) (ends : q ≡ to m e) where
-  ahead : (r : Option ℕ) → IsFound m (ends_key p q) r → IsFound m (ends_key (m.from e) (to m e)) r
+  ahead : (r : Option Side) → IsFound m (ends_key p q) r → IsFound m (ends_key (m.from e) (to m e)) r
   ahead r h = subst (λ k. IsFound m k r) (ap (λ i. ends_key i q) begins ∙ ap (ends_key (m.from e)) ends) h
 
-  back : (r : Option ℕ) → IsFound m (ends_key q p) r → IsFound m (ends_key (to m e) (m.from e)) r
+  back : (r : Option Side) → IsFound m (ends_key q p) r → IsFound m (ends_key (to m e) (m.from e)) r
   back r h = subst (λ k. IsFound m k r) (ap (λ i. ends_key i p) ends ∙ ap (ends_key (to m e)) begins) h
 
-  pub stands_not_alone : (r : Option ℕ) → IsFound m (ends_key p q) r → is_some r ≡ false → (g : ℕ) → IsGlued m e g → ⊥
+  pub stands_not_alone : (r : Option Side) → IsFound m (ends_key p q) r → is_some r ≡ false → (g : ℕ) → IsGlued m e g → ⊥
   stands_not_alone None h none = not_alone m ok e l (ahead None h)
   stands_not_alone (Some v) h none = absurd (true≢false none)
 
-  pub glued_found : (r s : Option ℕ) → IsFound m (ends_key p q) r → is_some r ≡ true → IsFound m (ends_key q p) s → MatchOption s ((g : ℕ) → IsGlued m e g → ⊥) (λ g. IsGlued m e g)
+  pub glued_found : (r s : Option Side) → IsFound m (ends_key p q) r → is_some r ≡ true → IsFound m (ends_key q p) s → MatchOption s ((g : ℕ) → IsGlued m e g → ⊥) (λ g. IsGlued m e g.0)
   glued_found None s h some k = absurd (true≢false (sym some))
   glued_found (Some v) None h some k = back_not_alone m ok e l (back None k)
-  glued_found (Some v) (Some g) h some k = both_alone m ok e v g l (ahead (Some v) h) (back (Some g) k)
+  glued_found (Some v) (Some g) h some k = both_alone m ok e v.0 g.0 l (ahead (Some v) h) (back (Some g) k)
 
--- The table grows by a side.
-pub glued_more : (m : Net) (n : ℕ) (xs ys : List (Option ℕ)) (r : Option ℕ) → AreGlued m n xs → ys ≡ xs ++ r ∷ [] → MatchOption r ((g : ℕ) → IsGlued m n g → ⊥) (λ g. IsGlued m n g) → AreGlued m (n + 1) ys
-glued_more m n xs ys r h is now =
-    let long = h.sides in
+-- The table of all sides has that of each of the first n.
+pub record AreGluedTo (m : Net) (n : ℕ) (glued : List (Option ℕ)) : Type 0 where
+  pub sides : length glued ≡ side_count m
+  pub each : (e : ℕ) → e < n → MatchOption (slice_index_or glued e None) ((g : ℕ) → IsGlued m e g → ⊥) (λ g. IsGlued m e g)
+
+pub none_glued : (m : Net) (glued : List (Option ℕ)) → glued ≡ replicate (side_count m) None → AreGluedTo m 0 glued
+none_glued m glued is = record { sides = ap length is ∙ length-replicate (side_count m) None; each = λ e l. absurd (omega (arith, l)) }
+
+told : (m : Net) (e : ℕ) (r : Option Side) → MatchOption r ((g : ℕ) → IsGlued m e g → ⊥) (λ g. IsGlued m e g.0) → MatchOption (option_map (λ s. s.0) r) ((g : ℕ) → IsGlued m e g → ⊥) (λ g. IsGlued m e g)
+told m e None none = none
+told m e (Some s) glued = glued
+
+-- One more is put in.
+pub glued_more : (m : Net) (n : ℕ) (xs ys : List (Option ℕ)) (r : Option Side) → n < side_count m → AreGluedTo m n xs → ys ≡ set xs n (option_map (λ s. s.0) r) → MatchOption r ((g : ℕ) → IsGlued m n g → ⊥) (λ g. IsGlued m n g.0) → AreGluedTo m (n + 1) ys
+glued_more m n xs ys r low h is now =
+    let new : Option ℕ = option_map (λ s. s.0) r in
     record {
-      sides = omega (arith, ap length is, length-append xs (r ∷ []));
+      sides = ap length is ∙ length-set xs n new ∙ h.sides;
       each = λ e l. elim (cases_eq e n) [
         | inl same ↦
-            let at : slice_index_or ys e None ≡ r = ap (λ zs. slice_index_or zs e None) is ∙ ap (λ i. slice_index_or (xs ++ r ∷ []) i None) (same ∙ sym long) ∙ get_or-append_seam xs r [] None in
-            subst (λ i. MatchOption (slice_index_or ys e None) ((g : ℕ) → IsGlued m i g → ⊥) (λ g. IsGlued m i g)) (sym same) (subst (λ o. MatchOption o ((g : ℕ) → IsGlued m n g → ⊥) (λ g. IsGlued m n g)) (sym at) now)
+            let at : slice_index_or ys e None ≡ new = ap (λ zs. slice_index_or zs e None) is ∙ ap (λ i. slice_index_or (set xs n new) i None) same ∙ get_or-set_same xs n new None (omega (arith, low, h.sides)) in
+            subst (λ o. MatchOption o ((g : ℕ) → IsGlued m e g → ⊥) (λ g. IsGlued m e g)) (sym at)
+            (subst (λ i. MatchOption new ((g : ℕ) → IsGlued m i g → ⊥) (λ g. IsGlued m i g)) (sym same) (told m n r now))
         | inr other ↦
-            let low : e < n = omega arith in
-            let at : slice_index_or ys e None ≡ slice_index_or xs e None = ap (λ zs. slice_index_or zs e None) is ∙ get_or_append_left xs (r ∷ []) None e (omega (arith, long)) in
-            subst (λ o. MatchOption o ((g : ℕ) → IsGlued m e g → ⊥) (λ g. IsGlued m e g)) (sym at) (h.each e low)
+            let at : slice_index_or ys e None ≡ slice_index_or xs e None = ap (λ zs. slice_index_or zs e None) is ∙ get_or-set_other xs n e new None other in
+            subst (λ o. MatchOption o ((g : ℕ) → IsGlued m e g → ⊥) (λ g. IsGlued m e g)) (sym at) (h.each e (omega arith))
       ];
     }
+
+pub all_glued : (m : Net) (n : ℕ) (glued : List (Option ℕ)) → n ≡ side_count m → AreGluedTo m n glued → AreGlued m (side_count m) glued
+all_glued m n glued all h = record { sides = h.sides; each = λ e l. h.each e (omega (arith, all, l)) }
+
+-- A side that is glued to another has a number that sides have.
+pub glued_low : (m : Net) (e most : ℕ) (r : Option Side) → side_count m ≤ most → MatchOption r ((g : ℕ) → IsGlued m e g → ⊥) (λ g. IsGlued m e g.0) → IfSome r (λ s. s.0 < most)
+glued_low m e most None few none = tt
+glued_low m e most (Some s) few glued = (let low = glued.twin.stands.is_side in omega (arith, low, few))

@@ -9,7 +9,7 @@ ghost use Rattle.pm_fans.specs.Cuts.{runs, is_cut as is_cut_of, cut_count};
 use crate::OutOfMemory;
 use crate::glue::{SEVERAL, ends, note_sides};
 use crate::sides::{from, to};
-use pm_base::Corners;
+use pm_base::{Corners, Side};
 use std::alloc::Global;
 use std::collections::BTreeMap;
 
@@ -22,19 +22,19 @@ pub fn cut_sides(alloc: Global, faces: &[Corners]) -> Result<u32, OutOfMemory>
 {
     let sides = note_sides(alloc, faces)?;
     let mut cut = 0;
-    for side in 0..3 * faces.len() {
-        cut += u32::from(is_cut(faces, &sides, side));
+    for number in 0..3 * faces.len() as u32 {
+        cut += u32::from(is_cut(faces, &sides, Side(number)));
     }
     Ok(cut)
 }
 
 // Whether several sides run along this one or back along it.
 #[tactic(auto, unfolding(crate::specs::Cuts::is_cut))]
-fn is_cut(faces: &[Corners], sides: &BTreeMap<u64, u32>, side: usize) -> bool
+fn is_cut(faces: &[Corners], sides: &BTreeMap<u64, u32>, side: Side) -> bool
     requires cuttable { IsCuttable (net_of faces.now) }
-    requires in_range { side < 3 * length faces.now }
+    requires in_range { side.0 < 3 * length faces.now }
     requires noted { AreNoted (net_of faces.now) (3 * length faces.now) sides.now }
-    ensures { result ≡ is_cut_of (net_of faces.now) side }
+    ensures { result ≡ is_cut_of (net_of faces.now) side.0 }
 {
     let p = from(faces, side);
     let q = to(faces, side);

@@ -8,7 +8,7 @@ ghost use Rattle.pm_fans.specs.Ends.{ends_key, key_at, IsAlone, AreNoted};
 
 use crate::OutOfMemory;
 use crate::sides::{from, to};
-use pm_base::Corners;
+use pm_base::{Corners, Side, SideMap};
 use std::alloc::Global;
 use std::collections::BTreeMap;
 
@@ -21,15 +21,15 @@ pub(crate) const SEVERAL: u32 = u32::MAX;
 /// The side to which each side is glued: the one that joins the same two vertices in the other order,
 /// where no other side joins these two; `None` for a side along which the surface is cut.
 /// O(F log F) for F faces.
-#[tactic(auto, using(crate::proofs::GlueLaws::glued_more))]
-pub fn glued_sides(alloc: Global, faces: &[Corners]) -> Result<Vec<Option<u32>>, OutOfMemory>
+pub fn glued_sides(alloc: Global, faces: &[Corners]) -> Result<SideMap, OutOfMemory>
     requires { IsCuttable (net_of faces.now) }
-    ensures { IfOk result (λ glued. AreGlued (net_of faces.now) (side_count (net_of faces.now)) glued.items) }
+    ensures { IfOk result (AreGlued (net_of faces.now) (side_count (net_of faces.now))) }
 {
     let sides = note_sides(alloc, faces)?;
-    let mut glued = Vec::new(alloc);
-    for side in 0..3 * faces.len() {
-        glued.push(glued_to(faces, &sides, side))?;
+    let mut glued = SideMap::new(alloc, 3 * faces.len() as u32)?;
+    for number in 0..glued.len() {
+        let side = Side(number);
+        glued.put(side, glued_to(faces, &sides, side));
     }
     Ok(glued)
 }
@@ -44,25 +44,25 @@ pub(crate) fn note_sides(
     ensures { IfOk result (AreNoted (net_of faces.now) (side_count (net_of faces.now))) }
 {
     let mut sides = BTreeMap::new(alloc);
-    for side in 0..3 * faces.len() {
-        note(&mut sides, faces, side)?;
+    for number in 0..3 * faces.len() as u32 {
+        note(&mut sides, faces, Side(number))?;
     }
     Ok(sides)
 }
 
 // Notes one more side.
-fn note(sides: &mut BTreeMap<u64, u32>, faces: &[Corners], side: usize) -> Result<(), OutOfMemory>
+fn note(sides: &mut BTreeMap<u64, u32>, faces: &[Corners], side: Side) -> Result<(), OutOfMemory>
     requires short { length faces.now ≤ MOST_FACES }
-    requires in_range { side < 3 * length faces.now }
-    requires noted { AreNoted (net_of faces.now) side sides.old }
-    ensures { OnOk result (AreNoted (net_of faces.now) (side + 1) sides.new) }
+    requires in_range { side.0 < 3 * length faces.now }
+    requires noted { AreNoted (net_of faces.now) side.0 sides.old }
+    ensures { OnOk result (AreNoted (net_of faces.now) (side.0 + 1) sides.new) }
 {
     let key = ends(from(faces, side), to(faces, side));
     if sides.contains_key(&key) {
         sides.insert(key, SEVERAL)?;
         return Ok(());
     }
-    sides.insert(key, side as u32)?;
+    sides.insert(key, side.0)?;
     Ok(())
 }
 
@@ -74,23 +74,23 @@ pub(crate) fn ends(p: u32, q: u32) -> u64
 }
 
 // The side from p to q, if it stands once.
-fn alone(sides: &BTreeMap<u64, u32>, p: u32, q: u32) -> Option<u32>
+fn alone(sides: &BTreeMap<u64, u32>, p: u32, q: u32) -> Option<Side>
     ensures { (m : Net) (n : ℕ) → n ≤ MOST_SIDES → AreNoted m n sides.now
-        → MatchOption result ((v : ℕ) → IsAlone m n (ends_key p q) v → ⊥) (λ v. IsAlone m n (ends_key p q) v) }
+        → MatchOption result ((v : ℕ) → IsAlone m n (ends_key p q) v → ⊥) (λ v. IsAlone m n (ends_key p q) v.0) }
 {
     match sides.get(&ends(p, q)) {
-        Some(&side) if side != SEVERAL => Some(side),
+        Some(&side) if side != SEVERAL => Some(Side(side)),
         _ => None,
     }
 }
 
 // The side to which this one is glued.
-fn glued_to(faces: &[Corners], sides: &BTreeMap<u64, u32>, side: usize) -> Option<u32>
+fn glued_to(faces: &[Corners], sides: &BTreeMap<u64, u32>, side: Side) -> Option<Side>
     requires cuttable { IsCuttable (net_of faces.now) }
-    requires in_range { side < 3 * length faces.now }
+    requires in_range { side.0 < 3 * length faces.now }
     requires noted { AreNoted (net_of faces.now) (3 * length faces.now) sides.now }
-    ensures { MatchOption result ((g : ℕ) → IsGlued (net_of faces.now) side g → ⊥)
-        (λ g. IsGlued (net_of faces.now) side g) }
+    ensures { MatchOption result ((g : ℕ) → IsGlued (net_of faces.now) side.0 g → ⊥)
+        (λ g. IsGlued (net_of faces.now) side.0 g.0) }
 {
     let p = from(faces, side);
     let q = to(faces, side);

@@ -7,7 +7,7 @@ ghost use Rattle.pm_fans.specs.HeadKeys.{order_key, side_in, AreCollected, AreHe
 
 use crate::OutOfMemory;
 use crate::sides::from;
-use pm_base::Corners;
+use pm_base::{Corners, FaceId, Side, SideMap};
 use std::alloc::Global;
 
 // A key has 22 bits for the side, one more for a closed chain, and above them the old vertex.
@@ -17,8 +17,8 @@ const SIDES: u64 = 1 << 22;
 pub(crate) fn head_keys(
     alloc: Global,
     faces: &[Corners],
-    glued: &[Option<u32>],
-    heads: &[Option<u32>],
+    glued: &SideMap,
+    heads: &SideMap,
 ) -> Result<Vec<u64>, OutOfMemory>
     requires short { length faces.now ≤ MOST_FACES }
     requires glued { length glued.now ≡ 3 * length faces.now }
@@ -26,8 +26,8 @@ pub(crate) fn head_keys(
     ensures { IfOk result (λ keys. AreHeadKeys (net_of faces.now) glued.now heads.now keys.items) }
 {
     let mut keys = Vec::new(alloc);
-    for side in 0..heads.len() {
-        push_head_key(&mut keys, faces, glued, heads, side)?;
+    for number in 0..heads.len() {
+        push_head_key(&mut keys, faces, glued, heads, Side(number))?;
     }
     keys.sort_unstable();
     Ok(keys)
@@ -37,16 +37,16 @@ pub(crate) fn head_keys(
 fn push_head_key(
     keys: &mut Vec<u64>,
     faces: &[Corners],
-    glued: &[Option<u32>],
-    heads: &[Option<u32>],
-    side: usize,
+    glued: &SideMap,
+    heads: &SideMap,
+    side: Side,
 ) -> Result<(), OutOfMemory>
     requires short { length faces.now ≤ MOST_FACES }
-    requires in_range { side < 3 * length faces.now }
+    requires in_range { side.0 < 3 * length faces.now }
     requires glued { length glued.now ≡ 3 * length faces.now }
     requires heads { length heads.now ≡ 3 * length faces.now }
-    requires so_far { AreCollected (net_of faces.now) glued.now heads.now side keys.old.items }
-    ensures { OnOk result (AreCollected (net_of faces.now) glued.now heads.now (side + 1) keys.new.items) }
+    requires so_far { AreCollected (net_of faces.now) glued.now heads.now side.0 keys.old.items }
+    ensures { OnOk result (AreCollected (net_of faces.now) glued.now heads.now (side.0 + 1) keys.new.items) }
 {
     if !is_head(heads, side) {
         return Ok(());
@@ -56,33 +56,33 @@ fn push_head_key(
 }
 
 // Whether a side is the head of its chain.
-fn is_head(heads: &[Option<u32>], side: usize) -> bool
-    requires { side < length heads.now }
-    ensures { MatchBool result (at heads.now side ≡ Some side) (at heads.now side ≡ Some side → ⊥) }
+fn is_head(heads: &SideMap, side: Side) -> bool
+    requires { side.0 < length heads.now }
+    ensures { MatchBool result (at heads.now side.0 ≡ Some side.0) (at heads.now side.0 ≡ Some side.0 → ⊥) }
 {
-    match heads[side] {
-        Some(head) => head as usize == side,
+    match heads.get(side) {
+        Some(head) => head == side,
         None => false,
     }
 }
 
 // A head's key.
 #[tactic(auto, unfolding(crate::specs::HeadKeys::order_key))]
-fn key(faces: &[Corners], glued: &[Option<u32>], side: usize) -> u64
-    requires in_range { side < 3 * length faces.now }
+fn key(faces: &[Corners], glued: &SideMap, side: Side) -> u64
+    requires in_range { side.0 < 3 * length faces.now }
     requires glued { length glued.now ≡ 3 * length faces.now }
     requires short { length faces.now ≤ MOST_FACES }
-    ensures { result ≡ order_key (net_of faces.now) glued.now side }
+    ensures { result ≡ order_key (net_of faces.now) glued.now side.0 }
 {
-    let closed = u64::from(glued[side].is_some());
-    (u64::from(from(faces, side)) * 2 + closed) * SIDES + side as u64
+    let closed = u64::from(glued.get(side).is_some());
+    (u64::from(from(faces, side)) * 2 + closed) * SIDES + u64::from(side.0)
 }
 
 // The side in a key.
-fn side_of(key: u64) -> usize
-    ensures { result ≡ side_in key }
+fn side_of(key: u64) -> Side
+    ensures { result.0 ≡ side_in key }
 {
-    (key % SIDES) as usize
+    Side((key % SIDES) as u32)
 }
 
 /// For each side that is a head, the place of its key. O(F) for F faces.
@@ -95,7 +95,7 @@ pub(crate) fn key_places(alloc: Global, keys: &[u64], sides: usize) -> Result<Ve
 {
     let mut places = vec![in alloc; 0; sides]?;
     for place in 0..keys.len() {
-        places[side_of(keys[place])] = place as u32;
+        places[side_of(keys[place]).0 as usize] = place as u32;
     }
     Ok(places)
 }
@@ -121,34 +121,36 @@ pub(crate) fn old_vertices(
 /// As many faces with their new vertices. O(F) for F faces.
 pub(crate) fn new_faces(
     alloc: Global,
-    heads: &[Option<u32>],
+    heads: &SideMap,
     places: &[u32],
-    count: usize,
+    count: u32,
 ) -> Result<Vec<Corners>, OutOfMemory>
+    requires few { count ≤ MOST_FACES }
     requires sides { length heads.now ≡ 3 * count }
     requires headed { (e : ℕ) → e < length heads.now → HasHead heads.now e }
     requires in_range { (e h : ℕ) → at heads.now e ≡ Some h → h < length places.now }
     ensures { IfOk result (λ new. AreRenamed heads.now places.now count new.items) }
 {
     let mut faces = Vec::new(alloc);
-    for face in 0..count {
-        let a = new_vertex(heads, places, 3 * face);
-        let b = new_vertex(heads, places, 3 * face + 1);
-        let c = new_vertex(heads, places, 3 * face + 2);
+    for number in 0..count {
+        let face = FaceId(number);
+        let a = new_vertex(heads, places, face.side(0));
+        let b = new_vertex(heads, places, face.side(1));
+        let c = new_vertex(heads, places, face.side(2));
         faces.push(Corners { a, b, c })?;
     }
     Ok(faces)
 }
 
 // The new vertex of a side.
-fn new_vertex(heads: &[Option<u32>], places: &[u32], side: usize) -> u32
-    requires in_range { side < length heads.now }
-    requires headed { HasHead heads.now side }
+fn new_vertex(heads: &SideMap, places: &[u32], side: Side) -> u32
+    requires in_range { side.0 < length heads.now }
+    requires headed { HasHead heads.now side.0 }
     requires heads { (e h : ℕ) → at heads.now e ≡ Some h → h < length places.now }
-    ensures { result ≡ new_of heads.now places.now side }
+    ensures { result ≡ new_of heads.now places.now side.0 }
 {
-    let Some(head) = heads[side] else {
+    let Some(head) = heads.get(side) else {
         unreachable!()
     };
-    places[head as usize]
+    places[head.0 as usize]
 }

@@ -1,36 +1,17 @@
-//! The sides of a list of faces. Side `3f + i` of face `f` runs from corner `i` to the face's next corner.
+//! The vertices of the sides of a list of faces.
 ghost use Rattle.std.specs.Prelude.{◌≡◌, ◌*◌, ◌<◌, ◌≤◌, length};
-ghost use Rattle.pm_base.specs.declared.limits.TheConstants.{MOST_FACES, MOST_SIDES};
-ghost use Rattle.pm_base.specs.Sides.{next as next_of, prev as prev_of, to as to_of, net_of};
+ghost use Rattle.pm_base.specs.declared.limits.TheConstants.{MOST_FACES};
+ghost use Rattle.pm_base.specs.Sides.{to as to_of, net_of};
 
-use pm_base::Corners;
-
-/// The side that follows in the same face.
-#[tactic(auto, unfolding(pm_base::specs::Sides::next))]
-pub(crate) fn next(side: usize) -> usize
-    requires { side < MOST_SIDES }
-    ensures value { result ≡ next_of side }
-    ensures small { result < MOST_SIDES }
-{
-    if side % 3 == 2 { side - 2 } else { side + 1 }
-}
-
-/// The side that comes before in the same face.
-pub(crate) fn prev(side: usize) -> usize
-    requires { side < MOST_SIDES }
-    ensures value { result ≡ prev_of side }
-    ensures small { result < MOST_SIDES }
-{
-    next(next(side))
-}
+use pm_base::{Corners, Side};
 
 /// The vertex from which a side runs.
-pub(crate) fn from(faces: &[Corners], side: usize) -> u32
-    requires { side < 3 * length faces.now }
-    ensures { result ≡ (net_of faces.now).from side }
+pub(crate) fn from(faces: &[Corners], side: Side) -> u32
+    requires { side.0 < 3 * length faces.now }
+    ensures { result ≡ (net_of faces.now).from side.0 }
 {
-    let face = faces[side / 3];
-    match side % 3 {
+    let face = faces[side.face().0 as usize];
+    match side.0 % 3 {
         0 => face.a,
         1 => face.b,
         _ => face.c,
@@ -38,10 +19,10 @@ pub(crate) fn from(faces: &[Corners], side: usize) -> u32
 }
 
 /// The vertex to which a side runs.
-pub(crate) fn to(faces: &[Corners], side: usize) -> u32
+pub(crate) fn to(faces: &[Corners], side: Side) -> u32
     requires short { length faces.now ≤ MOST_FACES }
-    requires in_range { side < 3 * length faces.now }
-    ensures { result ≡ to_of (net_of faces.now) side }
+    requires in_range { side.0 < 3 * length faces.now }
+    ensures { result ≡ to_of (net_of faces.now) side.0 }
 {
-    from(faces, next(side))
+    from(faces, side.next())
 }

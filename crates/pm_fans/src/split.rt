@@ -29,8 +29,8 @@ pub fn split_by_fans(alloc: Global, faces: &[Corners]) -> Result<Split, OutOfMem
     let glued = glued_sides(alloc, faces)?;
     let heads = chain_heads(alloc, &glued)?;
     let keys = head_keys(alloc, faces, &glued, &heads)?;
-    let places = key_places(alloc, &keys, heads.len())?;
+    let places = key_places(alloc, &keys, heads.len() as usize)?;
     let old = old_vertices(alloc, faces, &keys)?;
-    let faces = new_faces(alloc, &heads, &places, faces.len())?;
+    let faces = new_faces(alloc, &heads, &places, faces.len() as u32)?;
     Ok(Split { faces, old })
 }

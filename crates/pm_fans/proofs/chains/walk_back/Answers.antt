@@ -1,28 +1,38 @@
-use Rattle.std.proofs.Common.{◌≡◌, ◌<◌, ℕ, Some, None, List, Option, length, slice_set, sym, ◌∙◌, subst, arith}
-use Rattle.std.proofs.lemmas.List.{get_or_read}
+use Rattle.std.proofs.Common.{◌≡◌, ◌<◌, ℕ, Some, None, List, Option, length, slice_set, sym, ap, ◌∙◌, subst, arith}
+use Rattle.std.specs.Option.{option_map}
+use Rattle.pm_base.specs.declared.ids.Side.{Side}
 use Rattle.pm_fans.specs.Heads.{at}
-use Rattle.pm_fans.proofs.ChainLaws.{bare-set}
+use Rattle.pm_fans.proofs.ChainLaws.{bare_count, bare-set}
 use Rattle.pm_fans.proofs.ClosedWalks.{WalksBack, back_more}
 use Rattle.pm_fans.proofs.chains.walk_back.Goals as goal
+
+abbrev number : Option Side → Option ℕ
+number r = option_map (λ s. s.0) r
 
 pub next-side-requires : goal.next-side-requires
 next-side-requires c =
     let p = c.requires.paired in
-    omega (arith, (p.back c.loop-twin.side c.in-None-Some.twin c.in-None-Some.is-1).0, p.sides, p.short)
+    let pair = sym c.get-in-loop-twin.ensures ∙ ap number c.in-None-Some.is-1 in
+    omega (arith, (p.back c.loop-twin.side.0 c.in-None-Some.twin.0 pair).0, p.sides, p.short)
 
 pub loop-twin-smaller : goal.loop-twin-smaller
 loop-twin-smaller c =
     let w = c.loop-twin.invariant in
-    let heads : List (Option ℕ) = c.loop-twin.heads.items in
-    let low : c.loop-twin.side < length heads = subst (λ n. c.loop-twin.side < n) (sym w.long) w.in_range in
-    let bare : at heads c.loop-twin.side ≡ None = sym (get_or_read heads _ _ low c.index.ensures None) ∙ c.in-None-Some.is-0 in
-    bare-set heads c.loop-twin.side c.args.least low bare
+    let heads : List (Option ℕ) = c.loop-twin.heads in
+    let low : c.loop-twin.side.0 < length heads = subst (λ n. c.loop-twin.side.0 < n) (sym w.long) w.in_range in
+    let bare : at heads c.loop-twin.side.0 ≡ None = sym c.get.ensures ∙ ap number c.in-None-Some.is-0 in
+    subst (λ (hs : List (Option ℕ)). bare_count hs < bare_count heads) (sym c.put.ensures)
+    (bare-set heads c.loop-twin.side.0 c.args.least.0 low bare)
 
 pub loop-twin-preserved : goal.loop-twin-preserved
 loop-twin-preserved c =
     let w = c.loop-twin.invariant in
-    let heads : List (Option ℕ) = c.loop-twin.heads.items in
-    let low : c.loop-twin.side < length heads = subst (λ n. c.loop-twin.side < n) (sym w.long) w.in_range in
-    let bare : at heads c.loop-twin.side ≡ None = sym (get_or_read heads _ _ low c.index.ensures None) ∙ c.in-None-Some.is-0 in
-    subst (WalksBack c.args.glued.now c.args.heads.now.items (slice_set heads c.loop-twin.side (Some c.args.least)) c.args.least) (sym c.next-side.ensures.value)
-    (back_more c.args.glued.now c.args.heads.now.items heads c.args.least c.loop-twin.side c.in-None-Some.twin c.requires.paired c.requires.earlier w bare c.in-None-Some.is-1)
+    let glued : List (Option ℕ) = c.args.glued.now in
+    let old : List (Option ℕ) = c.args.heads.now in
+    let heads : List (Option ℕ) = c.loop-twin.heads in
+    let least = c.args.least.0 in
+    let bare : at heads c.loop-twin.side.0 ≡ None = sym c.get.ensures ∙ ap number c.in-None-Some.is-0 in
+    let pair : at glued c.loop-twin.side.0 ≡ Some c.in-None-Some.twin.0 = sym c.get-in-loop-twin.ensures ∙ ap number c.in-None-Some.is-1 in
+    subst (λ (hs : List (Option ℕ)). WalksBack glued old hs least c.next-side.result.0) (sym c.put.ensures)
+    (subst (WalksBack glued old (slice_set heads c.loop-twin.side.0 (Some least)) least) (sym c.next-side.ensures.value)
+    (back_more glued old heads least c.loop-twin.side.0 c.in-None-Some.twin.0 c.requires.paired c.requires.earlier w bare pair))
