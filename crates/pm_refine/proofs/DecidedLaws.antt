@@ -1,6 +1,6 @@
 -- What is marked, to be decided and to be done once the next record is decided.
-use Rattle.std.proofs.Common.{◌≡◌, ◌≢◌, ℕ, suc, Bool, true, false, ◌&&◌, ◌||◌, not, List, length, set, length-set, get_or-set_other, ◌⊎◌, inl, inr, refl, sym, ap, ◌∙◌, subst, arith}
-use Rattle.std.proofs.lemmas.Bool.{cases_Bool, cases_eq, both_ways, and_parts, and_from, and_left, not-true, not_from_false, not_from_true}
+use Rattle.std.proofs.Common.{◌≡◌, ◌≢◌, ℕ, suc, Bool, true, false, ◌&&◌, ◌||◌, not, List, length, set, length-set, get_or-set_other, ◌⊎◌, inl, inr, refl, sym, ◌∙◌, subst, arith}
+use Rattle.std.proofs.lemmas.Bool.{cases_Bool, cases_eq, both_ways, and_from, and_left, not_from_false, not_from_true}
 use Rattle.std.proofs.Math.Bool.{beq}
 use Rattle.pm_forest.specs.Forest.{Hierarchy, record_count, s_of}
 use Rattle.pm_forest.specs.Fronts.{set_of}
@@ -13,9 +13,8 @@ use Rattle.pm_beyond.proofs.Outer.{needs-true, needs-from}
 use Rattle.pm_beyond.proofs.TargetLaws.{target-least}
 use Rattle.pm_refine.specs.Holding.{Joins}
 use Rattle.pm_front.specs.Needed.{is_needed, remaining}
-use Rattle.pm_refine.specs.Deciding.{AreDecided, IsNext, is_put}
-use Rattle.pm_refine.specs.Needed.{is_free}
-use Rattle.pm_refine.proofs.MarkLaws.{joined_as}
+use Rattle.pm_refine.specs.Deciding.{AreDecided, IsNext}
+use Rattle.pm_refine.proofs.NeedLaws.{needed_by}
 use Rattle.pm_refine.proofs.DecidingLaws.{stays_is, moves_below}
 use Rattle.pm_refine.proofs.SetLaws.{out-parts, out-other, holds_more, holds_same}
 use Rattle.pm_refine.proofs.FindingLaws.{joined-old, joined-new, joined-cases}
@@ -118,32 +117,31 @@ module _ (h : Hierarchy) (shape : HasShape h) (wanted S : ℕ → Bool) (closed 
         ];
         due = λ j j_lt e. stays j (n.due j j_lt e);
         loose = λ j j_lt e. stays j (n.loose j j_lt e);
-        pushed = λ i j t need f j_lt. stays j (n.pushed i j t need f j_lt);
+        pushed = λ i j t need j_lt. stays j (n.pushed i j t need j_lt);
         to_do = record {
           up = holds_more (record_count h) (less T S) k rises l n.to_do.up (and_from (T k) (not (S k)) g (not_from_false (S k) s));
           down = holds_same (record_count h) (less S T) k falls n.to_do.down (and_left (S k) (not (T k)) s);
         };
       }
 
-  -- and one that goes pushes what isn't free of it.
+  -- and one that goes puts in what it needs.
   pub decided_gone : (k : ℕ) (marks work work' rises falls : List Bool) → IsNext h wanted S k marks work rises falls → S k ≡ true → target_of h wanted k ≡ false →
-      length work' ≡ record_count h → Joins (set_of work) (set_of work') (is_put h S true k) → AreDecided h wanted S k (set marks k false) work' rises (set falls k true)
+      length work' ≡ record_count h → Joins (set_of work) (set_of work') (needs h k) → AreDecided h wanted S k (set marks k false) work' rises (set falls k true)
   decided_gone k marks work work' rises falls n s g work_len w =
       let T = target_of h wanted in
       let l = n.is_record in
       let len = n.mark_len in
-      let stays : (j : ℕ) → set_of work j ≡ true → set_of work' j ≡ true = λ j t. joined-old (set_of work) (set_of work') (is_put h S true k) j w t in
-      let put_parts : (j : ℕ) → is_put h S true k j ≡ true → (needs h k j ≡ true) × (is_free h S j ≡ false) = λ j u. (let p = and_parts (needs h k j) (not (is_free h S j)) u in (p.0, not-true (is_free h S j) p.1)) in
+      let stays : (j : ℕ) → set_of work j ≡ true → set_of work' j ≡ true = λ j t. joined-old (set_of work) (set_of work') (needs h k) j w t in
       let gone_cases : (j : ℕ) → set_of (set falls k true) j ≡ true → (j ≡ k) ⊎ (set_of falls j ≡ true) = λ j t.
       elim (cases_eq j k) [ inl is ↦ inl is | inr other ↦ inr (sym (get_or-set_other falls k j true false other) ∙ t) ] in
       record {
         most = omega arith;
         mark_len = length-set {A = Bool} marks k false ∙ n.mark_len;
         work_len = work_len;
-        below = λ j t. elim (joined-cases (set_of work) (set_of work') (is_put h S true k) j w t) [ inl u ↦ n.below j u | inr u ↦ needs-older h shape k j l (needs-true h k j l (put_parts j u).0) ];
-        only = λ j t. elim (joined-cases (set_of work) (set_of work') (is_put h S true k) j w t) [ inl u ↦ n.only j u | inr u ↦ inl (closed k j l s (needs-true h k j l (put_parts j u).0)) ];
-        tried = λ j t is. elim (joined-cases (set_of work) (set_of work') (is_put h S true k) j w t) [
-          | inr u ↦ inr (inl (put_parts j u).1)
+        below = λ j t. elim (joined-cases (set_of work) (set_of work') (needs h k) j w t) [ inl u ↦ n.below j u | inr u ↦ needs-older h shape k j l (needs-true h k j l u) ];
+        only = λ j t. elim (joined-cases (set_of work) (set_of work') (needs h k) j w t) [ inl u ↦ n.only j u | inr u ↦ inl (closed k j l s (needs-true h k j l u)) ];
+        tried = λ j t is. elim (joined-cases (set_of work) (set_of work') (needs h k) j w t) [
+          | inr u ↦ inr (inl (needed_by h S k j l s u))
           | inl u ↦ elim (n.tried j u is) [ inl m ↦ inl (out-other marks k j (let low = n.below j u in omega arith) m) | inr v ↦ inr v ]
         ];
         marked = λ j t. let u = out-parts marks k j (omega arith) t in stays j (n.marked j u.0 u.1);
@@ -154,9 +152,9 @@ module _ (h : Hierarchy) (shape : HasShape h) (wanted S : ℕ → Bool) (closed 
         ];
         due = λ j j_lt e. stays j (n.due j j_lt e);
         loose = λ j j_lt e. stays j (n.loose j j_lt e);
-        pushed = λ i j t need f j_lt. elim (gone_cases i t) [
-          | inl is ↦ joined-new (set_of work) (set_of work') (is_put h S true k) j w (and_from (needs h k j) (not (is_free h S j)) (needs-from h k j (subst (λ x. Needs h x j) is need)) (not_from_false (is_free h S j) f))
-          | inr u ↦ stays j (n.pushed i j u need f j_lt)
+        pushed = λ i j t need j_lt. elim (gone_cases i t) [
+          | inl is ↦ joined-new (set_of work) (set_of work') (needs h k) j w (needs-from h k j (subst (λ x. Needs h x j) is need))
+          | inr u ↦ stays j (n.pushed i j u need j_lt)
         ];
         to_do = record {
           up = holds_same (record_count h) (less T S) k rises n.to_do.up (and_left (T k) (not (S k)) g);
@@ -164,12 +162,8 @@ module _ (h : Hierarchy) (shape : HasShape h) (wanted S : ℕ → Bool) (closed 
         };
       }
 
-  whole : (x : Bool) → (x && true) ≡ x
-  whole true = refl
-  whole false = refl
-
   pub decided_by : (k : ℕ) (is_split : Bool) (marks marks' work work' rises rises' falls falls' : List Bool) → IsNext h wanted S k marks work rises falls → is_split ≡ S k →
-      target_of h wanted k ≡ not (S k) → length marks' ≡ record_count h → length work' ≡ record_count h → Joins (set_of work) (set_of work') (is_put h S is_split k) →
+      target_of h wanted k ≡ not (S k) → length marks' ≡ record_count h → length work' ≡ record_count h → Joins (set_of work) (set_of work') (needs h k) →
       (is_split ≡ true → (marks' ≡ set marks k false) × (rises' ≡ rises) × (falls' ≡ set falls k true)) →
       (is_split ≡ false → Joins (set_of (set marks k false)) (set_of marks') (needs h k) × (rises' ≡ set rises k true) × (falls' ≡ falls)) → AreDecided h wanted S k marks' work' rises' falls'
   decided_by k is_split marks marks' work work' rises rises' falls falls' n split turned mark_len work_len w goes comes =
@@ -179,12 +173,10 @@ module _ (h : Hierarchy) (shape : HasShape h) (wanted S : ℕ → Bool) (closed 
             subst (λ ms. AreDecided h wanted S k ms work' rises' falls') (sym p.0)
             (subst (λ rs. AreDecided h wanted S k (set marks k false) work' rs falls') (sym p.1)
             (subst (λ fs. AreDecided h wanted S k (set marks k false) work' rises fs) (sym p.2)
-            (decided_gone k marks work work' rises falls n t (turned ∙ not_from_true (S k) t) work_len
-            (joined_as (set_of work) (set_of work') (is_put h S is_split k) (is_put h S true k) w (λ j. ap (λ b. is_put h S b k j) (split ∙ t))))))
+            (decided_gone k marks work work' rises falls n t (turned ∙ not_from_true (S k) t) work_len w)))
         | inr f ↦
             let p = comes (split ∙ f) in
             subst (λ rs. AreDecided h wanted S k marks' work' rs falls') (sym p.1)
             (subst (λ fs. AreDecided h wanted S k marks' work' (set rises k true) fs) (sym p.2)
-            (decided_split k marks marks' work work' rises falls n f (turned ∙ not_from_false (S k) f) mark_len work_len p.0
-            (joined_as (set_of work) (set_of work') (is_put h S is_split k) (needs h k) w (λ j. ap (λ b. is_put h S b k j) (split ∙ f) ∙ whole (needs h k j)))))
+            (decided_split k marks marks' work work' rises falls n f (turned ∙ not_from_false (S k) f) mark_len work_len p.0 w))
       ]

@@ -1,4 +1,5 @@
--- The tests of nodes, counted: over the records that are free, that are split and aren't, and of which a move is made.
+-- The tests of nodes, counted: over the split records that no split record needs, the other split ones, and those of which a
+-- move is made.
 use Rattle.std.proofs.Common.{◌≡◌, ℕ, ◌+◌, ◌≤◌, Bool, true, false, ◌&&◌, ◌||◌, not, List, inl, inr, sym, ap, ◌∙◌, arith}
 use Rattle.std.proofs.lemmas.Bool.{cases_Bool, both_ways, and_parts, and_from, or_left, or_right, or_from, not-true, not_from_false, not_from_true}
 use Rattle.pm_base.specs.Counts.{count, one_if}
@@ -13,18 +14,17 @@ use Rattle.pm_beyond.specs.Plans.{differs, less}
 use Rattle.pm_beyond.proofs.TargetLaws.{target-least}
 use Rattle.pm_refine.specs.Finding.{is_due}
 use Rattle.pm_front.specs.Needed.{is_needed, remaining}
-use Rattle.pm_refine.specs.Needed.{is_free}
+use Rattle.pm_refine.specs.Needed.{is_unneeded}
 use Rattle.pm_refine.specs.Deciding.{IsNext}
-use Rattle.pm_refine.proofs.FindingLaws.{free_split}
 use Rattle.pm_refine.proofs.DecidingLaws.{stays_is}
 
 module _ (h : Hierarchy) (shape : HasShape h) (wanted S : ℕ → Bool) (closed : IsClosed h S) where
-  -- A test is made of a record that isn't needed any more; either it wasn't free before, or it goes.
+  -- A test is made of a record that isn't needed any more; either it was needed before, or it goes.
   pub tested : (k : ℕ) (marks work rises falls : List Bool) → IsNext h wanted S k marks work rises falls → S k ≡ true → set_of marks k ≡ false → is_needed h (remaining S (set_of falls)) k ≡ false →
-      1 ≤ one_if (S k && not (is_free h S k)) + one_if (differs S (target_of h wanted) k)
+      1 ≤ one_if (S k && not (is_unneeded h S k)) + one_if (differs S (target_of h wanted) k)
   tested k marks work rises falls n s m f =
-      elim (cases_Bool (is_free h S k)) [
-        | inr t ↦ (let a = ap one_if (and_from (S k) (not (is_free h S k)) s (not_from_false (is_free h S k) t)) in omega arith)
+      elim (cases_Bool (is_unneeded h S k)) [
+        | inr t ↦ (let a = ap one_if (and_from (S k) (not (is_unneeded h S k)) s (not_from_false (is_unneeded h S k) t)) in omega arith)
         | inl t ↦
             elim (n.tried_itself s) [
               | inl u ↦ absurd (both_ways _ m u)
@@ -49,16 +49,16 @@ module _ (h : Hierarchy) (shape : HasShape h) (wanted S : ℕ → Bool) (closed 
       let p = and_parts (wanted (s_of h j)) (not (S j)) d in
       or_right (less S T j) (less T S j) (and_from (T j) (not (S j)) ((target-least h shape wanted).takes j l p.0) p.1))
 
-  -- Those that are free and those that aren't are the split ones.
-  pub free_and_others : count (is_free h S) (record_count h) + count (λ j. S j && not (is_free h S j)) (record_count h) ≤ count S (record_count h)
-  free_and_others =
+  -- Those that no split record needs and the others are the split ones.
+  pub unneeded_and_others : count (is_unneeded h S) (record_count h) + count (λ j. S j && not (is_unneeded h S j)) (record_count h) ≤ count S (record_count h)
+  unneeded_and_others =
       let n = record_count h in
-      count_apart (is_free h S) (λ j. S j && not (is_free h S j)) S n (free_split h shape wanted S) (λ j t. (and_parts (S j) (not (is_free h S j)) t).0)
-      (λ j t u. both_ways _ (not-true (is_free h S j) (and_parts (S j) (not (is_free h S j)) u).1) t)
+      count_apart (is_unneeded h S) (λ j. S j && not (is_unneeded h S j)) S n (λ j t. (and_parts (S j) (not (is_needed h S j)) t).0) (λ j t. (and_parts (S j) (not (is_unneeded h S j)) t).0)
+      (λ j t u. both_ways _ (not-true (is_unneeded h S j) (and_parts (S j) (not (is_unneeded h S j)) u).1) t)
 
   -- The tests of a record are paid for.
   pub paid : (k : ℕ) (marks work rises falls : List Bool) → IsNext h wanted S k marks work rises falls →
-      one_if (S k && (not (set_of marks k) && not (is_needed h (remaining S (set_of falls)) k))) ≤ one_if (S k && not (is_free h S k)) + one_if (differs S (target_of h wanted) k)
+      one_if (S k && (not (set_of marks k) && not (is_needed h (remaining S (set_of falls)) k))) ≤ one_if (S k && not (is_unneeded h S k)) + one_if (differs S (target_of h wanted) k)
   paid k marks work rises falls n =
       let x = S k && (not (set_of marks k) && not (is_needed h (remaining S (set_of falls)) k)) in
       elim (cases_Bool x) [

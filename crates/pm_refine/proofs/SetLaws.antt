@@ -1,52 +1,21 @@
 -- What sets of records hold once a record is put in or taken out, and which record comes out.
-use Rattle.std.proofs.Common.{◌≡◌, ◌≢◌, ℕ, suc, ◌<◌, ◌≤◌, eqb, Bool, true, false, ◌||◌, ◌&&◌, not, List, length, replicate, set, length-set, get_or-set_same, get_or-set_other, inl, inr, refl, sym, ap, subst, ◌∙◌, arith}
-use Rattle.std.proofs.lemmas.Bool.{cases_eq, cases_lt, eq-eqb, eqb-true, ne_eqb, or_left, and_from, and_left, and_right, not_from_true, not_from_false, both_ways}
+use Rattle.std.proofs.Common.{◌≡◌, ◌≢◌, ℕ, suc, ◌<◌, ◌≤◌, eqb, Bool, true, false, not, List, length, replicate, get_or, set, length-set, get_or-set_same, get_or-set_other, inl, inr, refl, sym, subst, ◌∙◌, arith}
+use Rattle.std.proofs.lemmas.Bool.{cases_eq, cases_lt, eq-eqb, eqb-true, and_from, not_from_false, both_ways}
 use Rattle.std.proofs.lemmas.List.{get_or_past, get_or-replicate, length-replicate}
 use Rattle.pm_base.specs.Counts.{count}
 use Rattle.pm_sets.specs.Sets.{IsFirst, IsLast}
 use Rattle.pm_forest.specs.Fronts.{set_of}
 use Rattle.pm_beyond.proofs.PlanLists.{less-parts}
-use Rattle.pm_refine.specs.Holding.{Joins, Holds, HoldsMoves}
+use Rattle.pm_refine.specs.Holding.{Holds, HoldsMoves}
 use Rattle.pm_refine.proofs.CountLaws.{count_apart, count_some}
-use Rattle.pm_refine.proofs.MarkLaws.{or_none}
 
 pub set_in : (flags : List Bool) (k : ℕ) → set_of flags k ≡ true → k < length flags
 set_in flags k t = elim (cases_lt k (length flags)) [ inl l ↦ l | inr m ↦ absurd (both_ways _ (get_or_past flags k false (omega arith)) t) ]
 
--- A new set has none.
-pub none_there : (n j : ℕ) → set_of (replicate n false) j ≡ false
-none_there n j =
-    let len = length-replicate n false in
-    elim (cases_lt j n) [ inl l ↦ get_or-replicate n j false false l | inr m ↦ get_or_past (replicate n false) j false (omega arith) ]
-
--- A record that is there already joins nothing.
-there_joined : (m : List Bool) (k : ℕ) → set_of m k ≡ true → Joins (set_of m) (set_of m) (λ j. eqb k j)
-there_joined m k there j =
-    elim (cases_eq k j) [
-      | inl is ↦
-          let here : set_of m j ≡ true = subst (λ i. set_of m i ≡ true) is there in
-          here ∙ sym (or_left (set_of m j) (eqb k j) here)
-      | inr other ↦ or_none (set_of m j) (eqb k j) (ne_eqb k j other)
-    ]
-
--- The same over records of which some are left out.
-pub there_left : (m : List Bool) (out : ℕ → Bool) (k : ℕ) → set_of m k ≡ true → Joins (set_of m) (set_of m) (λ j. eqb k j && not (out j))
-there_left m out k there j = there_joined m k there j ∙ elim (cases_eq k j) [
-  | inl is ↦ (let here : set_of m j ≡ true = subst (λ i. set_of m i ≡ true) is there in or_left (set_of m j) (eqb k j) here ∙ sym (or_left (set_of m j) (eqb k j && not (out j)) here))
-  | inr other ↦ ap (λ b. set_of m j || b) (ne_eqb k j other) ∙ sym (ap (λ b. set_of m j || (b && not (out j))) (ne_eqb k j other))
-]
-
-pub free_left : (m : List Bool) (out : ℕ → Bool) (k : ℕ) → out k ≡ true → Joins (set_of m) (set_of m) (λ j. eqb k j && not (out j))
-free_left m out k left j = or_none (set_of m j) (eqb k j && not (out j)) (elim (cases_eq k j) [
-  | inl is ↦ and_right (eqb k j) (not (out j)) (not_from_true (out j) (subst (λ i. out i ≡ true) is left))
-  | inr other ↦ and_left (eqb k j) (not (out j)) (ne_eqb k j other)
-])
-
-pub put_in : (m m' : List Bool) (out : ℕ → Bool) (k : ℕ) → out k ≡ false → Joins (set_of m) (set_of m') (λ j. eqb k j) → Joins (set_of m) (set_of m') (λ j. eqb k j && not (out j))
-put_in m m' out k free joins j = joins j ∙ ap (λ b. set_of m j || b) (elim (cases_eq k j) [
-  | inl is ↦ eq-eqb k j is ∙ sym (and_from (eqb k j) (not (out j)) (eq-eqb k j is) (not_from_false (out j) (subst (λ i. out i ≡ false) is free)))
-  | inr other ↦ ne_eqb k j other ∙ sym (and_left (eqb k j) (not (out j)) (ne_eqb k j other))
-])
+-- A new set has no record, and new counts are all 0.
+pub all_alike : {A : Type 0} (a : A) (n j : ℕ) → get_or (replicate n a) j a ≡ a
+all_alike a n j =
+    elim (cases_lt j n) [ inl l ↦ get_or-replicate n j a a l | inr m ↦ get_or_past (replicate n a) j a (omega (arith, length-replicate n a)) ]
 
 -- A record is taken out.
 pub out-parts : (flags : List Bool) (k j : ℕ) → k < length flags → set_of (set flags k false) j ≡ true → (j ≢ k) × (set_of flags j ≡ true)

@@ -5,17 +5,18 @@ ghost use Rattle.pm_base.specs.Counts.{count, one_if};
 ghost use Rattle.pm_sets.specs.Sets.{IsEmptySet};
 ghost use Rattle.pm_forest.specs.Forest.{record_count, s_of};
 ghost use Rattle.pm_forest.specs.Fronts.{set_of};
-ghost use Rattle.pm_beyond.specs.Moves.{IsClosed, needs};
+ghost use Rattle.pm_beyond.specs.Moves.{needs};
 ghost use Rattle.pm_beyond.specs.Plans.{differs};
 ghost use Rattle.pm_bounds.specs.Bounds.{AreBoundsOf};
 ghost use Rattle.pm_view.specs.Wanted.{is_wanted};
 ghost use Rattle.pm_refine.specs.Holding.{Joins, HoldsMoves};
 ghost use Rattle.pm_refine.specs.Finding.{IsStart};
 ghost use Rattle.pm_refine.specs.Deciding.{AreDecided, IsNext};
-ghost use Rattle.pm_front.specs.Needed.{is_needed, remaining};
-ghost use Rattle.pm_refine.specs.Needed.{is_free};
+ghost use Rattle.pm_front.specs.Needed.{is_needed, remaining, AreNeedCounts};
+ghost use Rattle.pm_refine.specs.Needed.{is_unneeded};
 ghost use Rattle.pm_refine.specs.Adapting.{view_target};
 
+use crate::falls::Falls;
 use crate::marks::mark_needs;
 use crate::needs::push_needs;
 use pm_bounds::Bounds;
@@ -25,6 +26,18 @@ use pm_sets::NumberSet;
 use pm_view::{Steps, View, wants};
 use std::sync::ledger::Ledger;
 
+// Whether a split record needs record `k` that won't be collapsed: the split records name it more often than those of
+// them that will be.
+fn is_still_needed(front: &Front, falls: &Falls, k: u32) -> bool
+    requires record { k < record_count front.now.h }
+    requires split { (j : ℕ) → set_of falls.now.records j ≡ true → set_of front.now.flags j ≡ true }
+    requires counts { AreNeedCounts front.now.h (set_of falls.now.records) falls.now.needs }
+    ensures { result ≡ is_needed front.now.h
+        (remaining (set_of front.now.flags) (set_of falls.now.records)) k }
+{
+    falls.need_count(k) != front.need_count(k)
+}
+
 // Whether a record that is to be decided is in the target. Only a split record that nothing needs
 // has to be tested.
 fn stays<L: Ledger>(
@@ -32,23 +45,21 @@ fn stays<L: Ledger>(
     bounds: &Bounds,
     view: &View,
     marks: &[bool],
-    gone: &[bool],
+    falls: &Falls,
     k: u32,
     steps: &mut Steps<L>,
 ) -> bool
     requires bounds { AreBoundsOf front.now.h bounds.now }
     requires record { k < record_count front.now.h }
     requires marks { length marks.now ≡ record_count front.now.h }
-    requires gone { length gone.now ≡ record_count front.now.h }
-    requires closed { IsClosed front.now.h (remaining (set_of front.now.flags) (set_of gone.now)) }
-    requires there { set_of front.now.flags k ≡ true
-        → remaining (set_of front.now.flags) (set_of gone.now) k ≡ true }
+    requires split { (j : ℕ) → set_of falls.now.records j ≡ true → set_of front.now.flags j ≡ true }
+    requires counts { AreNeedCounts front.now.h (set_of falls.now.records) falls.now.needs }
     ensures value { let h = front.now.h in let S = set_of front.now.flags in
         result ≡ (not (S k) || (set_of marks.now k
-        || (is_needed h (remaining S (set_of gone.now)) k || is_wanted h view.now (s_of h k)))) }
+        || (is_needed h (remaining S (set_of falls.now.records)) k || is_wanted h view.now (s_of h k)))) }
     ensures cost { let h = front.now.h in let S = set_of front.now.flags in
         steps.new ≤ steps.old + one_if (S k
-        && (not (set_of marks.now k) && not (is_needed h (remaining S (set_of gone.now)) k))) }
+        && (not (set_of marks.now k) && not (is_needed h (remaining S (set_of falls.now.records)) k))) }
 {
     if !front.is_split(k) {
         return true;
@@ -56,7 +67,7 @@ fn stays<L: Ledger>(
     if marks[k as usize] {
         return true;
     }
-    if !front.nothing_needs(gone, k) {
+    if is_still_needed(front, falls, k) {
         return true;
     }
     wants(front.hierarchy(), bounds, front.split_node(k), view, steps)
@@ -68,22 +79,25 @@ fn note(
     h: &Hierarchy,
     marks: &mut Vec<bool>,
     rises: &mut NumberSet,
-    falls: &mut NumberSet,
+    falls: &mut Falls,
     k: u32,
     is_split: bool,
 )
     requires record { k < record_count h.now }
     requires marks { length marks.old.items ≡ record_count h.now }
     requires rises { length rises.old ≡ record_count h.now }
-    requires falls { length falls.old ≡ record_count h.now }
+    requires falls { length falls.old.records ≡ record_count h.now }
+    requires absent { set_of falls.old.records k ≡ false }
+    requires counts { AreNeedCounts h.now (set_of falls.old.records) falls.old.needs }
     ensures len { length marks.new.items ≡ length marks.old.items }
+    ensures counts { AreNeedCounts h.now (set_of falls.new.records) falls.new.needs }
     ensures goes { is_split ≡ true → (marks.new.items ≡ marks.old.items)
-        × (rises.new ≡ rises.old) × (falls.new ≡ slice_set falls.old k true) }
+        × (rises.new ≡ rises.old) × (falls.new.records ≡ slice_set falls.old.records k true) }
     ensures comes { is_split ≡ false → Joins (set_of marks.old.items) (set_of marks.new.items) (needs h.now k)
-        × (rises.new ≡ slice_set rises.old k true) × (falls.new ≡ falls.old) }
+        × (rises.new ≡ slice_set rises.old k true) × (falls.new.records ≡ falls.old.records) }
 {
     if is_split {
-        falls.insert(k);
+        falls.insert(h, k);
     } else {
         rises.insert(k);
         mark_needs(h, marks, k);
@@ -99,27 +113,30 @@ fn decide<L: Ledger>(
     marks: &mut Vec<bool>,
     work: &mut NumberSet,
     rises: &mut NumberSet,
-    falls: &mut NumberSet,
+    falls: &mut Falls,
     steps: &mut Steps<L>,
 ) -> bool
     requires bounds { AreBoundsOf front.now.h bounds.now }
     requires next { IsNext front.now.h (is_wanted front.now.h view.now) (set_of front.now.flags) k
-        marks.old.items work.old rises.old falls.old }
+        marks.old.items work.old rises.old falls.old.records }
+    requires counts { AreNeedCounts front.now.h (set_of falls.old.records) falls.old.needs }
     ensures decided { AreDecided front.now.h (is_wanted front.now.h view.now) (set_of front.now.flags) k
-        marks.new.items work.new rises.new falls.new }
+        marks.new.items work.new rises.new falls.new.records }
+    ensures counts { AreNeedCounts front.now.h (set_of falls.new.records) falls.new.needs }
     ensures answer { result ≡ differs (set_of front.now.flags) (view_target front.now.h view.now) k }
     ensures cost { let h = front.now.h in let S = set_of front.now.flags in
-        steps.new ≤ steps.old + (one_if (S k && not (is_free h S k)) + one_if (differs S (view_target h view.now) k)) }
+        steps.new ≤ steps.old + (one_if (S k && not (is_unneeded h S k)) + one_if (differs S (view_target h view.now) k)) }
 {
     front.invariant();
+    let h = front.hierarchy();
     let is_split = front.is_split(k);
-    let stays = stays(front, bounds, view, marks, falls.flags(), k, steps);
+    let stays = stays(front, bounds, view, marks, falls, k, steps);
     marks[k as usize] = false;
     if stays == is_split {
         return false;
     }
-    push_needs(front, work, k, is_split);
-    note(front.hierarchy(), marks, rises, falls, k, is_split);
+    push_needs(h, work, k);
+    note(h, marks, rises, falls, k, is_split);
     true
 }
 
@@ -132,7 +149,7 @@ pub(crate) fn decide_all<L: Ledger>(
     marks: &mut Vec<bool>,
     work: &mut NumberSet,
     rises: &mut NumberSet,
-    falls: &mut NumberSet,
+    falls: &mut Falls,
     steps: &mut Steps<L>,
 ) -> u32
     requires bounds { AreBoundsOf front.now.h bounds.now }
@@ -141,19 +158,21 @@ pub(crate) fn decide_all<L: Ledger>(
     requires marks { length marks.old.items ≡ record_count front.now.h }
     requires clear { (j : ℕ) → set_of marks.old.items j ≡ false }
     requires rises { length rises.old ≡ record_count front.now.h }
-    requires falls { length falls.old ≡ record_count front.now.h }
+    requires falls { length falls.old.records ≡ record_count front.now.h }
     requires no_rises { IsEmptySet rises.old }
-    requires no_falls { IsEmptySet falls.old }
+    requires no_falls { IsEmptySet falls.old.records }
+    requires counts { AreNeedCounts front.now.h (set_of falls.old.records) falls.old.needs }
     ensures len { length marks.new.items ≡ length marks.old.items }
     ensures clear { (j : ℕ) → set_of marks.new.items j ≡ false }
     ensures work_len { length work.new ≡ length work.old }
     ensures empty { IsEmptySet work.new }
     ensures moves { HoldsMoves (record_count front.now.h) (set_of front.now.flags)
-        (view_target front.now.h view.now) 0 rises.new falls.new }
+        (view_target front.now.h view.now) 0 rises.new falls.new.records }
+    ensures counts { AreNeedCounts front.now.h (set_of falls.new.records) falls.new.needs }
     ensures answer { result ≡ count (differs (set_of front.now.flags) (view_target front.now.h view.now))
         (record_count front.now.h) }
     ensures cost { let h = front.now.h in let S = set_of front.now.flags in
-        steps.new ≤ steps.old + count (λ j. S j && not (is_free h S j)) (record_count h)
+        steps.new ≤ steps.old + count (λ j. S j && not (is_unneeded h S j)) (record_count h)
         + count (differs S (view_target h view.now)) (record_count h) }
 {
     front.invariant();

@@ -6,11 +6,13 @@ ghost use Rattle.pm_forest.specs.Fronts.{set_of};
 ghost use Rattle.pm_beyond.specs.Moves.{IsClosed};
 ghost use Rattle.pm_beyond.specs.Plans.{moved_by, AreLegal};
 ghost use Rattle.pm_front.specs.Corners.{corner_lists_after};
+ghost use Rattle.pm_front.specs.Needed.{AreNeedCounts};
 ghost use Rattle.pm_refine.specs.Holding.{HoldsMoves};
 ghost use Rattle.pm_refine.specs.Doing.{splits_of, collapses_of};
 ghost use Rattle.pm_refine.specs.Adapting.{view_target, view_plan, adapted_of};
 
 use crate::Adapted;
+use crate::falls::Falls;
 use pm_front::Front;
 use pm_sets::NumberSet;
 use pm_view::View;
@@ -39,18 +41,21 @@ fn split_first(front: &mut Front, rises: &mut NumberSet, budget: u32) -> u32
 }
 
 // Collapses the last `budget` records of a set, in descending order.
-fn collapse_last(front: &mut Front, falls: &mut NumberSet, budget: u32)
-    requires falls { length falls.old ≡ record_count front.old.h }
-    requires legal { AreLegal front.old.h (set_of front.old.flags) (take budget (collapses_of falls.old)) }
+fn collapse_last(front: &mut Front, falls: &mut Falls, budget: u32)
+    requires falls { length falls.old.records ≡ record_count front.old.h }
+    requires counts { AreNeedCounts front.old.h (set_of falls.old.records) falls.old.needs }
+    requires legal { AreLegal front.old.h (set_of front.old.flags) (take budget (collapses_of falls.old.records)) }
     ensures hierarchy { front.new.h ≡ front.old.h }
-    ensures len { length falls.new ≡ length falls.old }
-    ensures moved { set_of front.new.flags ≡ moved_by (set_of front.old.flags) (take budget (collapses_of falls.old)) }
+    ensures len { length falls.new.records ≡ length falls.old.records }
+    ensures counts { AreNeedCounts front.old.h (set_of falls.new.records) falls.new.needs }
+    ensures moved { set_of front.new.flags
+        ≡ moved_by (set_of front.old.flags) (take budget (collapses_of falls.old.records)) }
     ensures corners { front.new.corners ≡ corner_lists_after front.old.h (set_of front.old.flags)
-        (take budget (collapses_of falls.old)) front.old.corners }
+        (take budget (collapses_of falls.old.records)) front.old.corners }
 {
     let mut left = budget;
     while left > 0 {
-        let Some(k) = falls.take_last() else {
+        let Some(k) = falls.take_last(front.hierarchy()) else {
             return;
         };
         front.collapse_legal(k);
@@ -72,17 +77,19 @@ pub(crate) fn advance(
     front: &mut Front,
     _view: &View,
     rises: &mut NumberSet,
-    falls: &mut NumberSet,
+    falls: &mut Falls,
     budget: u32,
 )
     requires closed { IsClosed front.old.h (view_target front.old.h _view.now) }
     requires moves { HoldsMoves (record_count front.old.h) (set_of front.old.flags)
-        (view_target front.old.h _view.now) 0 rises.old falls.old }
+        (view_target front.old.h _view.now) 0 rises.old falls.old.records }
+    requires counts { AreNeedCounts front.old.h (set_of falls.old.records) falls.old.needs }
     ensures hierarchy { front.new.h ≡ front.old.h }
     ensures rises_len { length rises.new ≡ length rises.old }
-    ensures falls_len { length falls.new ≡ length falls.old }
+    ensures falls_len { length falls.new.records ≡ length falls.old.records }
     ensures no_rises { IsEmptySet rises.new }
-    ensures no_falls { IsEmptySet falls.new }
+    ensures no_falls { IsEmptySet falls.new.records }
+    ensures counts { AreNeedCounts front.old.h (set_of falls.new.records) falls.new.needs }
     ensures moved { let S = set_of front.old.flags in
         set_of front.new.flags ≡ moved_by S (take budget (view_plan front.old.h S _view.now)) }
     ensures corners { let S = set_of front.old.flags in front.new.corners
@@ -92,7 +99,7 @@ pub(crate) fn advance(
     let left = split_first(front, rises, budget);
     collapse_last(front, falls, left);
     clear(rises);
-    clear(falls);
+    falls.clear(front.hierarchy());
 }
 
 /// What is told of this many moves.

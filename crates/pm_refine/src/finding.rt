@@ -8,7 +8,7 @@ ghost use Rattle.pm_forest.specs.Fronts.{set_of};
 ghost use Rattle.pm_bounds.specs.Bounds.{AreBoundsOf};
 ghost use Rattle.pm_view.specs.Wanted.{is_wanted};
 ghost use Rattle.pm_refine.specs.Holding.{Joins, leads_to};
-ghost use Rattle.pm_refine.specs.Needed.{is_free};
+ghost use Rattle.pm_refine.specs.Needed.{is_unneeded};
 ghost use Rattle.pm_refine.specs.Finding.{is_due, AreSeen, AreLoose, IsStart};
 
 use crate::loosening::try_maker;
@@ -64,7 +64,7 @@ fn see_active<L: Ledger>(
     ensures loose { AreLoose front.now.h (is_wanted front.now.h view.now) (set_of front.now.flags)
         work.new }
     ensures cost { let h = front.now.h in steps.new ≤ steps.old + length front.now.active
-        + count (is_free h (set_of front.now.flags)) (record_count h) }
+        + count (is_unneeded h (set_of front.now.flags)) (record_count h) }
 {
     front.invariant();
     let mut cursor = front.first_active();
@@ -100,7 +100,7 @@ fn look_below<L: Ledger>(
 
 /// Finds the records that aren't split and whose nodes are wanted, and the records that may go, and puts
 /// them in the set `work`. It uses the set `rises`. It goes over the active nodes once, tests each of
-/// them and each child of what it finds once at most, and each record whose children are active once.
+/// them and each child of what it finds once at most, and the node of each record that no split record needs once.
 pub(crate) fn find<L: Ledger>(
     front: &Front,
     bounds: &Bounds,
@@ -119,7 +119,7 @@ pub(crate) fn find<L: Ledger>(
     ensures start { IsStart front.now.h (is_wanted front.now.h view.now) (set_of front.now.flags)
         work.new }
     ensures cost { let h = front.now.h in let S = set_of front.now.flags in
-        steps.new ≤ steps.old + length front.now.active + count (is_free h S) (record_count h)
+        steps.new ≤ steps.old + length front.now.active + count (is_unneeded h S) (record_count h)
         + 2 * count (is_due h (is_wanted h view.now) S) (record_count h) }
 {
     front.invariant();

@@ -3,6 +3,7 @@
 
 mod deciding;
 mod doing;
+mod falls;
 mod finding;
 mod loosening;
 mod marks;

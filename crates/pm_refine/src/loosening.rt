@@ -1,5 +1,5 @@
-//! Records that may go are found from the active nodes: both their children are active, and their nodes
-//! aren't wanted.
+//! Records that may go are found from the active nodes: no split record needs them, and their nodes aren't
+//! wanted. Both children of a record that nothing needs are active.
 ghost use Rattle.std.specs.Prelude.{ℕ, ◌≡◌, ◌+◌, ◌*◌, ◌<◌, ◌≤◌, ◌==◌, ◌&&◌, true, length, IfSome, IfNone};
 ghost use Rattle.pm_base.specs.Counts.{count, one_if};
 ghost use Rattle.pm_forest.specs.Forest.{record_count, node_count, t_of};
@@ -7,7 +7,7 @@ ghost use Rattle.pm_forest.specs.Fronts.{set_of, is_active};
 ghost use Rattle.pm_bounds.specs.Bounds.{AreBoundsOf};
 ghost use Rattle.pm_view.specs.Wanted.{is_wanted};
 ghost use Rattle.pm_refine.specs.Holding.{Joins};
-ghost use Rattle.pm_refine.specs.Needed.{is_free, is_loose};
+ghost use Rattle.pm_refine.specs.Needed.{is_unneeded, is_loose};
 
 use pm_base::NodeId;
 use pm_bounds::Bounds;
@@ -28,17 +28,7 @@ fn first_child_of(h: &Hierarchy, node: NodeId) -> Option<u32>
     if node.0 == t.0 { Some(k) } else { None }
 }
 
-/// Whether both children of a record are active.
-pub(crate) fn is_free(front: &Front, k: u32) -> bool
-    requires { k < record_count front.now.h }
-    ensures { result ≡ is_free front.now.h (set_of front.now.flags) k }
-{
-    let (t, u) = front.hierarchy().children(k);
-    front.is_active(t) && front.is_active(u)
-}
-
-// Whether a record may go. Whether another one needs it by a face is asked when it is decided: that costs more than a test, and
-// the nodes of most are wanted.
+// Whether a split record may go. Its node is tested only if no split record needs it: to ask that costs less.
 fn may_go<L: Ledger>(
     front: &Front,
     bounds: &Bounds,
@@ -48,18 +38,19 @@ fn may_go<L: Ledger>(
 ) -> bool
     requires bounds { AreBoundsOf front.now.h bounds.now }
     requires record { k < record_count front.now.h }
+    requires split { set_of front.now.flags k ≡ true }
     ensures value { let h = front.now.h in
         result ≡ is_loose h (is_wanted h view.now) (set_of front.now.flags) k }
-    ensures cost { steps.new ≤ steps.old + one_if (is_free front.now.h (set_of front.now.flags) k) }
+    ensures cost { steps.new ≤ steps.old + one_if (is_unneeded front.now.h (set_of front.now.flags) k) }
 {
-    if !is_free(front, k) {
+    if front.need_count(k) != 0 {
         return false;
     }
     !wants(front.hierarchy(), bounds, front.split_node(k), view, steps)
 }
 
-/// Puts the record whose first child an active node is in the set, if it may go. It tests the record's node where the
-/// second child is active too.
+/// Puts the record whose first child an active node is in the set, if it may go. It tests the record's node where no
+/// split record needs the record.
 pub(crate) fn try_maker<L: Ledger>(
     front: &Front,
     bounds: &Bounds,
@@ -77,7 +68,7 @@ pub(crate) fn try_maker<L: Ledger>(
         Joins (set_of work.old) (set_of work.new)
         (λ j. t_of h j == node.0 && is_loose h (is_wanted h view.now) S j) }
     ensures cost { let h = front.now.h in let S = set_of front.now.flags in
-        steps.new ≤ steps.old + count (λ j. t_of h j == node.0 && is_free h S j) (record_count h) }
+        steps.new ≤ steps.old + count (λ j. t_of h j == node.0 && is_unneeded h S j) (record_count h) }
 {
     if let Some(k) = first_child_of(front.hierarchy(), node) {
         if may_go(front, bounds, view, k, steps) {

@@ -13,6 +13,7 @@ ghost use Rattle.pm_refine.specs.declared.refiner.Adapted.TheVariants as answers
 use crate::OutOfMemory;
 use crate::deciding::decide_all;
 use crate::doing::{adapted, advance};
+use crate::falls::Falls;
 use crate::finding::find;
 use pm_bounds::Bounds;
 use pm_forest::Hierarchy;
@@ -31,7 +32,7 @@ pub enum Adapted {
     Spent { moves: u32, left: u32 },
 }
 
-/// What adapts the fronts of a hierarchy to views: a flag for each record, and three sets of records.
+/// What adapts the fronts of a hierarchy to views: a flag and a count for each record, and three sets of records.
 /// Contracts see the number of records.
 #[derive(Drop)]
 pub struct Refiner {
@@ -41,8 +42,8 @@ pub struct Refiner {
     work: NumberSet,
     // The records that will be split.
     rises: NumberSet,
-    // The records that will be collapsed.
-    falls: NumberSet,
+    // The records that will be collapsed, with the counts of what they need.
+    falls: Falls,
 }
 
 impl Model for Refiner {
@@ -53,11 +54,11 @@ impl Model for Refiner {
 
     ghost view = { λ r. length r.marks.items };
 
-    ghost invariant = { λ r. IsIdle r.marks.items r.work r.rises r.falls };
+    ghost invariant = { λ r. IsIdle r.marks.items r.work r.rises r.falls.records r.falls.needs };
 }
 
 impl Refiner {
-    /// Takes room for a flag for each record of a hierarchy, and for three sets of its records.
+    /// Takes room for a flag and a count for each record of a hierarchy, and for three sets of its records.
     pub fn new(alloc: Global, h: &Hierarchy) -> Result<Refiner, OutOfMemory>
         ensures { IfOk result (λ r. r ≡ record_count h.now) }
     {
@@ -65,7 +66,7 @@ impl Refiner {
         let marks = vec![in alloc; false; records as usize]?;
         let work = NumberSet::new(alloc, records)?;
         let rises = NumberSet::new(alloc, records)?;
-        let falls = NumberSet::new(alloc, records)?;
+        let falls = Falls::new(alloc, records)?;
         Ok(Refiner {
             marks,
             work,

@@ -2,15 +2,17 @@ use Rattle.std.proofs.Common.{◌≡◌, length, take}
 use Rattle.pm_forest.specs.Fronts.{set_of}
 use Rattle.pm_beyond.specs.Plans.{moved_by}
 use Rattle.pm_front.specs.Corners.{corner_lists_after}
+use Rattle.pm_front.specs.Needed.{AreNeedCounts}
 use Rattle.pm_refine.specs.Doing.{collapses_of, AreToDo}
 use Rattle.pm_refine.proofs.doing.collapse_last.Given as goal
 
 abbrev pub invariant-loop-left : goal.invariant-loop-left
 invariant-loop-left l = record {
   hierarchy : l.front.h ≡ l.fn.front.h;
-  len : length l.falls ≡ length l.fn.falls;
-  to_do : AreToDo l.fn.front.h (set_of l.front.flags) (moved_by (set_of l.fn.front.flags) (take l.budget (collapses_of l.fn.falls))) l.front.corners
-      (corner_lists_after l.fn.front.h (set_of l.fn.front.flags) (take l.budget (collapses_of l.fn.falls)) l.fn.front.corners) (take l.left (collapses_of l.falls));
+  len : length l.falls.records ≡ length l.fn.falls.records;
+  counts : AreNeedCounts l.fn.front.h (set_of l.falls.records) l.falls.needs;
+  to_do : AreToDo l.fn.front.h (set_of l.front.flags) (moved_by (set_of l.fn.front.flags) (take l.budget (collapses_of l.fn.falls.records))) l.front.corners
+      (corner_lists_after l.fn.front.h (set_of l.fn.front.flags) (take l.budget (collapses_of l.fn.falls.records)) l.fn.front.corners) (take l.left (collapses_of l.falls.records));
 }
 
 abbrev pub decreases-loop-left : goal.decreases-loop-left

@@ -6,7 +6,7 @@ use Rattle.pm_forest.specs.Forest.{record_count, t_of}
 use Rattle.pm_forest.specs.Fronts.{set_of}
 use Rattle.pm_view.specs.Wanted.{is_wanted}
 use Rattle.pm_refine.specs.Finding.{AreSeen, AreTried}
-use Rattle.pm_refine.specs.Needed.{is_free}
+use Rattle.pm_refine.specs.Needed.{is_unneeded}
 use Rattle.pm_refine.proofs.finding.see_active.Given as goal
 
 abbrev pub invariant-loop-cursor : goal.invariant-loop-cursor
@@ -17,7 +17,7 @@ invariant-loop-cursor g l = record {
       (has (rest (option_map (λ v. v.0) l.cursor) l.front.active)) l.work;
   active : IfSome l.cursor (λ v. has l.front.active v.0 ≡ true);
   cost : l.steps + length (rest (option_map (λ v. v.0) l.cursor) l.front.active)
-      ≤ l.fn.steps + length l.front.active + count (λ j. is_free l.front.h (set_of l.front.flags) j
+      ≤ l.fn.steps + length l.front.active + count (λ j. is_unneeded l.front.h (set_of l.front.flags) j
       && not (has (rest (option_map (λ v. v.0) l.cursor) l.front.active) (t_of l.front.h j))) (record_count l.front.h);
 }
 

@@ -1,4 +1,4 @@
-use Rattle.std.proofs.Common.{◌≡◌, sym, ap, subst, ◌∙◌, arith}
+use Rattle.std.proofs.Common.{◌≡◌, length, sym, ap, subst, ◌∙◌, arith}
 use Rattle.pm_forest.specs.Forest.{record_count}
 use Rattle.pm_forest.specs.Fronts.{set_of}
 use Rattle.pm_beyond.proofs.PlanLists.{length-plan}
@@ -10,13 +10,36 @@ use Rattle.pm_refine.specs.Adapting.{view_target, adapted_of}
 use Rattle.pm_refine.proofs.AnswerLaws.{settled_there}
 use Rattle.pm_refine.proofs.ActiveLaws.{as_long}
 use Rattle.pm_refine.proofs.CountLaws.{active_many}
-use Rattle.pm_refine.proofs.DecisionCounts.{due_few, free_and_others}
+use Rattle.pm_refine.proofs.FallsLaws.{counts_start, counts_end}
+use Rattle.pm_refine.proofs.DecisionCounts.{due_few, unneeded_and_others}
 use Rattle.pm_refine.proofs.refiner.Refiner.adapt.Goals as goal
+
+pub decide_all-moves-requires-clause-counts : goal.decide_all-moves-requires-clause-counts
+decide_all-moves-requires-clause-counts g c =
+    let idle = c.self.invariant in
+    counts_start c.args.front.now.h c.self.inside.falls.needs c.self.inside.falls.records idle.no_falls (idle.count_len ∙ c.self.view_is ∙ c.requires.records) idle.no_counts
 
 pub advance-requires-clause-closed : goal.advance-requires-clause-closed
 advance-requires-clause-closed g c =
     let h = c.args.front.now.h in
     (target-least h c.invariant.ensures.valid.shape (is_wanted h c.args.view.now)).closed
+
+pub invariant_of-self : goal.invariant_of-self
+invariant_of-self g c =
+    let decided = c.decide_all-moves.ensures in
+    let done = c.advance.ensures in
+    let all : record_count c.args.front.now.h ≡ length c.decide_all-moves.new.marks.items = sym (decided.len ∙ c.self.view_is ∙ c.requires.records) in
+    record {
+      work_len = decided.work_len ∙ c.find.ensures.start.work_len ∙ all;
+      rises_len = done.rises_len ∙ decided.moves.up.len ∙ all;
+      falls_len = done.falls_len ∙ decided.moves.down.len ∙ all;
+      count_len = done.counts.len ∙ all;
+      clear = decided.clear;
+      no_work = decided.empty;
+      no_rises = done.no_rises;
+      no_falls = done.no_falls;
+      no_counts = counts_end c.args.front.now.h c.advance.new.falls.needs c.advance.new.falls.records done.no_falls done.counts;
+    }
 
 pub returns-clause-answer : goal.returns-clause-answer
 returns-clause-answer g c =
@@ -46,5 +69,5 @@ returns-clause-cost g c =
     let plan = length-plan h S (view_target h view) in
     let down = c.find.ensures.cost in
     let up = c.decide_all-moves.ensures.cost in
-    let apart = free_and_others h shape (is_wanted h view) S closed in
+    let apart = unneeded_and_others h shape (is_wanted h view) S closed in
     omega arith

@@ -1,6 +1,7 @@
-use Rattle.std.proofs.Common.{Bool, List, length, sym, ap, ◌∙◌}
+use Rattle.std.proofs.Common.{ℕ, Bool, false, List, length, get_or, sym, ap, ◌∙◌}
+use Rattle.std.proofs.lemmas.List.{length-replicate}
 use Rattle.pm_forest.specs.Fronts.{set_of}
-use Rattle.pm_refine.proofs.SetLaws.{none_there}
+use Rattle.pm_refine.proofs.SetLaws.{all_alike}
 use Rattle.pm_refine.proofs.refiner.Refiner.new.Goals as goal
 
 pub invariant_of-result : goal.invariant_of-result
@@ -11,9 +12,11 @@ invariant_of-result c =
     record {
       work_len = ap (λ (m : List Bool). length m) c.in_ok-work.ensures ∙ as_many;
       rises_len = ap (λ (m : List Bool). length m) c.in_ok-rises.ensures ∙ as_many;
-      falls_len = ap (λ (m : List Bool). length m) c.in_ok-falls.ensures ∙ as_many;
-      clear = λ j. ap (λ (m : List Bool). set_of m j) marks ∙ none_there n j;
-      no_work = λ j. ap (λ (m : List Bool). set_of m j) c.in_ok-work.ensures ∙ none_there n j;
-      no_rises = λ j. ap (λ (m : List Bool). set_of m j) c.in_ok-rises.ensures ∙ none_there n j;
-      no_falls = λ j. ap (λ (m : List Bool). set_of m j) c.in_ok-falls.ensures ∙ none_there n j;
+      falls_len = ap (λ (m : List Bool). length m) c.in_ok-falls.ensures.records ∙ as_many;
+      count_len = ap (λ (m : List ℕ). length m) c.in_ok-falls.ensures.needs ∙ length-replicate n 0 ∙ sym (length-replicate n false) ∙ as_many;
+      clear = λ j. ap (λ (m : List Bool). set_of m j) marks ∙ all_alike false n j;
+      no_work = λ j. ap (λ (m : List Bool). set_of m j) c.in_ok-work.ensures ∙ all_alike false n j;
+      no_rises = λ j. ap (λ (m : List Bool). set_of m j) c.in_ok-rises.ensures ∙ all_alike false n j;
+      no_falls = λ j. ap (λ (m : List Bool). set_of m j) c.in_ok-falls.ensures.records ∙ all_alike false n j;
+      no_counts = λ j. ap (λ (m : List ℕ). get_or m j 0) c.in_ok-falls.ensures.needs ∙ all_alike {A = ℕ} 0 n j;
     }
