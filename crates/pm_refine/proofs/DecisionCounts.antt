@@ -13,8 +13,7 @@ use Rattle.pm_beyond.specs.Targets.{target_of}
 use Rattle.pm_beyond.specs.Plans.{differs, less}
 use Rattle.pm_beyond.proofs.TargetLaws.{target-least}
 use Rattle.pm_refine.specs.Finding.{is_due}
-use Rattle.pm_front.specs.Needed.{is_needed, remaining}
-use Rattle.pm_refine.specs.Needed.{is_unneeded}
+use Rattle.pm_front.specs.Needed.{is_needed, is_unneeded, remaining}
 use Rattle.pm_refine.specs.Deciding.{IsNext}
 use Rattle.pm_refine.proofs.DecidingLaws.{stays_is}
 

@@ -9,4 +9,3 @@ pub mod DecidingLaws
 pub mod DecidedLaws
 pub mod DecisionCounts
 pub mod DoingLaws
-pub mod ActiveLaws

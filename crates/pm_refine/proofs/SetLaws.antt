@@ -1,12 +1,12 @@
 -- What sets of records hold once a record is put in or taken out, and which record comes out.
-use Rattle.std.proofs.Common.{◌≡◌, ◌≢◌, ℕ, suc, ◌<◌, ◌≤◌, eqb, Bool, true, false, not, List, length, replicate, get_or, set, length-set, get_or-set_same, get_or-set_other, inl, inr, refl, sym, subst, ◌∙◌, arith}
+use Rattle.std.proofs.Common.{◌≡◌, ◌≢◌, ℕ, suc, ◌+◌, ◌<◌, ◌≤◌, eqb, Bool, true, false, not, List, length, replicate, get_or, set, length-set, get_or-set_same, get_or-set_other, inl, inr, refl, sym, subst, ◌∙◌, arith}
 use Rattle.std.proofs.lemmas.Bool.{cases_eq, cases_lt, eq-eqb, eqb-true, and_from, not_from_false, both_ways}
 use Rattle.std.proofs.lemmas.List.{get_or_past, get_or-replicate, length-replicate}
 use Rattle.pm_base.specs.Counts.{count}
 use Rattle.pm_sets.specs.Sets.{IsFirst, IsLast}
 use Rattle.pm_forest.specs.Fronts.{set_of}
 use Rattle.pm_beyond.proofs.PlanLists.{less-parts}
-use Rattle.pm_refine.specs.Holding.{Holds, HoldsMoves}
+use Rattle.pm_refine.specs.Holding.{Holds, HoldsBelow, HoldsMoves}
 use Rattle.pm_refine.proofs.CountLaws.{count_apart, count_some}
 
 pub set_in : (flags : List Bool) (k : ℕ) → set_of flags k ≡ true → k < length flags
@@ -77,3 +77,40 @@ module _ (n : ℕ) (p : ℕ → Bool) where
 
   pub holds_same : (k : ℕ) (m : List Bool) → Holds n p (suc k) m → p k ≡ false → Holds n p k m
   holds_same k m holds f = holds_below k (suc k) m (omega arith) holds (λ j low high. let is : j ≡ k = omega arith in subst (λ i. p i ≡ false) (sym is) f)
+
+-- A set gets the records that pass a test, in ascending order.
+module _ (n : ℕ) (p : ℕ → Bool) where
+  -- It has all below a greater number too, where none between passes.
+  pub holds_up : (a b : ℕ) (m : List Bool) → a ≤ b → HoldsBelow n p a m → ((j : ℕ) → a ≤ j → j < b → p j ≡ false) → HoldsBelow n p b m
+  holds_up a b m l holds none = record {
+    len = holds.len;
+    there = λ j low t. elim (cases_lt j a) [ inl c ↦ holds.there j c t | inr c ↦ absurd (both_ways _ (none j c low) t) ];
+    only = λ j t. let o = holds.only j t in let c = o.0 in (omega arith, o.1);
+  }
+
+  -- It has one record more.
+  pub holds_next : (k : ℕ) (m : List Bool) → k < n → HoldsBelow n p k m → p k ≡ true → HoldsBelow n p (k + 1) (set m k true)
+  holds_next k m l holds t =
+      let len = holds.len in
+      record {
+        len = length-set {A = Bool} m k true ∙ holds.len;
+        there = λ j low u. elim (cases_eq j k) [
+          | inl is ↦ subst (λ i. set_of (set m k true) i ≡ true) (sym is) (get_or-set_same m k true false (omega arith))
+          | inr other ↦ get_or-set_other m k j true false other ∙ holds.there j (omega arith) u
+        ];
+        only = λ j u. elim (cases_eq j k) [
+          | inl is ↦ (omega arith, subst (λ i. p i ≡ true) (sym is) t)
+          | inr other ↦ (let o = holds.only j (sym (get_or-set_other m k j true false other) ∙ u) in let c = o.0 in (omega arith, o.1))
+        ];
+      }
+
+  pub holds_past : (k : ℕ) (m : List Bool) → HoldsBelow n p k m → p k ≡ false → HoldsBelow n p (k + 1) m
+  holds_past k m holds f = holds_up k (k + 1) m (omega arith) holds (λ j low high. let is : j ≡ k = omega arith in subst (λ i. p i ≡ false) (sym is) f)
+
+-- The next record that passes a test is the next of the set of those that do.
+module _ (n : ℕ) (p : ℕ → Bool) (m : List Bool) (len : length m ≡ n) (each : (j : ℕ) → j < n → set_of m j ≡ p j) (a k : ℕ) (first : IsFirst m a k) where
+  pub next_there : (k < n) × (p k ≡ true)
+  next_there = let l = set_in m k first.there in (omega arith, sym (each k (omega arith)) ∙ first.there)
+
+  pub none_skipped : (j : ℕ) → a ≤ j → j < k → p j ≡ false
+  none_skipped j low high = let l = set_in m k first.there in sym (each j (omega arith)) ∙ first.none j low high

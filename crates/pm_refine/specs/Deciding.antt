@@ -6,8 +6,8 @@ use Rattle.pm_forest.specs.Fronts.{set_of}
 use Rattle.pm_beyond.specs.Moves.{Needs}
 use Rattle.pm_beyond.specs.Targets.{target_of}
 use Rattle.pm_refine.specs.Holding.{HoldsMoves}
-use Rattle.pm_refine.specs.Finding.{is_due}
-use Rattle.pm_refine.specs.Needed.{is_unneeded, is_loose}
+use Rattle.pm_front.specs.Needed.{is_unneeded}
+use Rattle.pm_refine.specs.Finding.{is_due, is_loose}
 
 -- All records from b on are decided: `rises` has those that will be split, and `falls` those that will be
 -- collapsed. Of those below, what a record needs that will be split is marked. Still to be decided is what is

@@ -1,19 +1,22 @@
--- Records whose nodes are wanted are found from the active nodes, by wanted nodes, and so are records
--- that may go.
-use Rattle.std.specs.Prelude.{◌≡◌, ℕ, ◌<◌, ◌≤◌, ◌&&◌, ◌||◌, ◌⊎◌, Bool, true, false, not, List, length}
-use Rattle.pm_forest.specs.Forest.{Hierarchy, record_count, s_of, t_of, Makes}
+-- Records whose nodes are wanted are found from those that wait for a split, by wanted nodes; records that may go
+-- are among those that no split record needs.
+use Rattle.std.specs.Prelude.{◌≡◌, ℕ, ◌<◌, ◌≤◌, ◌&&◌, ◌||◌, ◌⊎◌, Bool, true, not, List, length}
+use Rattle.pm_forest.specs.Forest.{Hierarchy, record_count, s_of, Makes}
 use Rattle.pm_forest.specs.Fronts.{set_of, is_active}
-use Rattle.pm_refine.specs.Needed.{is_loose}
+use Rattle.pm_forest.specs.Moves.{may_try}
+use Rattle.pm_front.specs.Needed.{is_unneeded}
 
 -- The node of record j is wanted, and j isn't split.
 abbrev pub is_due : Hierarchy → (ℕ → Bool) → (ℕ → Bool) → ℕ → Bool
 is_due h wanted S j = wanted (s_of h j) && not (S j)
 
--- All active nodes are seen but those that are left: the records that split wanted ones are in the set.
-pub record AreSeen (h : Hierarchy) (wanted S left : ℕ → Bool) (rises : List Bool) : Type 0 where
-  pub rises_len : length rises ≡ record_count h
-  pub rises_only : (j : ℕ) → set_of rises j ≡ true → is_due h wanted S j ≡ true
-  pub down : (j : ℕ) → j < record_count h → is_due h wanted S j ≡ true → is_active h S (s_of h j) ≡ true → left (s_of h j) ≡ false → set_of rises j ≡ true
+-- Record j waits for a split, and its node is wanted.
+abbrev pub is_reached : Hierarchy → (ℕ → Bool) → (ℕ → Bool) → ℕ → Bool
+is_reached h wanted S j = may_try h S j && wanted (s_of h j)
+
+-- Record j is split, no split record needs it, and its node isn't wanted.
+abbrev pub is_loose : Hierarchy → (ℕ → Bool) → (ℕ → Bool) → ℕ → Bool
+is_loose h wanted S j = is_unneeded h S j && not (wanted (s_of h j))
 
 -- Due records from b on are in `rises`; `work` has those that were in it, and the records that may go. Found
 -- are the due records that split active nodes, and those that split children of due records in `work`.
@@ -28,18 +31,6 @@ pub record AreFound (h : Hierarchy) (wanted S : ℕ → Bool) (b : ℕ) (rises w
   pub under :
       (i j : ℕ) → j < record_count h → is_due h wanted S i ≡ true → set_of work i ≡ true → Makes h i (s_of h j)
       → is_due h wanted S j ≡ true → (set_of rises j || set_of work j) ≡ true
-
--- The set has those records that may go and whose first child isn't left.
-pub record AreTried (h : Hierarchy) (wanted S left : ℕ → Bool) (work : List Bool) : Type 0 where
-  pub work_len : length work ≡ record_count h
-  pub only : (j : ℕ) → set_of work j ≡ true → is_loose h wanted S j ≡ true
-  pub loose : (j : ℕ) → j < record_count h → is_loose h wanted S j ≡ true → left (t_of h j) ≡ false → set_of work j ≡ true
-
--- The set has the records that may go.
-pub record AreLoose (h : Hierarchy) (wanted S : ℕ → Bool) (work : List Bool) : Type 0 where
-  pub work_len : length work ≡ record_count h
-  pub only : (j : ℕ) → set_of work j ≡ true → is_loose h wanted S j ≡ true
-  pub loose : (j : ℕ) → j < record_count h → is_loose h wanted S j ≡ true → set_of work j ≡ true
 
 -- The set has the due records, and those that may go.
 pub record IsStart (h : Hierarchy) (wanted S : ℕ → Bool) (work : List Bool) : Type 0 where

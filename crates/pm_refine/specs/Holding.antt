@@ -19,6 +19,12 @@ pub record Holds (n : ℕ) (p : ℕ → Bool) (b : ℕ) (flags : List Bool) : Ty
   pub there : (k : ℕ) → b ≤ k → k < n → p k ≡ true → set_of flags k ≡ true
   pub only : (k : ℕ) → set_of flags k ≡ true → (b ≤ k) × (p k ≡ true)
 
+-- It has exactly those below b that pass the test.
+pub record HoldsBelow (n : ℕ) (p : ℕ → Bool) (b : ℕ) (flags : List Bool) : Type 0 where
+  pub len : length flags ≡ n
+  pub there : (k : ℕ) → k < b → p k ≡ true → set_of flags k ≡ true
+  pub only : (k : ℕ) → set_of flags k ≡ true → (k < b) × (p k ≡ true)
+
 -- On the way from S to G: the records from b on that are to be split, and those that are to be collapsed.
 pub record HoldsMoves (n : ℕ) (S G : ℕ → Bool) (b : ℕ) (rises falls : List Bool) : Type 0 where
   pub up : Holds n (less G S) b rises

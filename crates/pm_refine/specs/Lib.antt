@@ -1,6 +1,5 @@
 pub mod Marks
 pub mod Adapting
-pub mod Needed
 pub mod Holding
 pub mod Finding
 pub mod Deciding

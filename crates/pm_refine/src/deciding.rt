@@ -12,8 +12,7 @@ ghost use Rattle.pm_view.specs.Wanted.{is_wanted};
 ghost use Rattle.pm_refine.specs.Holding.{Joins, HoldsMoves};
 ghost use Rattle.pm_refine.specs.Finding.{IsStart};
 ghost use Rattle.pm_refine.specs.Deciding.{AreDecided, IsNext};
-ghost use Rattle.pm_front.specs.Needed.{is_needed, remaining, AreNeedCounts};
-ghost use Rattle.pm_refine.specs.Needed.{is_unneeded};
+ghost use Rattle.pm_front.specs.Needed.{is_needed, is_unneeded, remaining, AreNeedCounts};
 ghost use Rattle.pm_refine.specs.Adapting.{view_target};
 
 use crate::falls::Falls;

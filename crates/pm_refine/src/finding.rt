@@ -1,17 +1,17 @@
-//! Records that aren't split and whose nodes are wanted are found from the active nodes, since a wanted
-//! node has a wanted parent, and so are records that may go.
-ghost use Rattle.std.specs.Prelude.{ℕ, ◌≡◌, ◌+◌, ◌*◌, ◌<◌, ◌≤◌, ◌||◌, length, false};
+//! Records that aren't split and whose nodes are wanted are found from those that wait for a split, since a wanted
+//! node has a wanted parent. Records that may go are among those that no split record needs.
+ghost use Rattle.std.specs.Prelude.{◌≡◌, ◌+◌, ◌*◌, ◌<◌, ◌≤◌, ◌||◌, length};
 ghost use Rattle.pm_base.specs.Counts.{count};
 ghost use Rattle.pm_sets.specs.Sets.{IsEmptySet};
 ghost use Rattle.pm_forest.specs.Forest.{record_count, node_count, t_of, u_of};
 ghost use Rattle.pm_forest.specs.Fronts.{set_of};
+ghost use Rattle.pm_forest.specs.Moves.{may_try};
+ghost use Rattle.pm_front.specs.Needed.{is_unneeded};
 ghost use Rattle.pm_bounds.specs.Bounds.{AreBoundsOf};
 ghost use Rattle.pm_view.specs.Wanted.{is_wanted};
-ghost use Rattle.pm_refine.specs.Holding.{Joins, leads_to};
-ghost use Rattle.pm_refine.specs.Needed.{is_unneeded};
-ghost use Rattle.pm_refine.specs.Finding.{is_due, AreSeen, AreLoose, IsStart};
+ghost use Rattle.pm_refine.specs.Holding.{Joins, HoldsBelow, leads_to};
+ghost use Rattle.pm_refine.specs.Finding.{is_due, is_reached, is_loose, IsStart};
 
-use crate::loosening::try_maker;
 use pm_base::NodeId;
 use pm_bounds::Bounds;
 use pm_forest::Hierarchy;
@@ -19,6 +19,58 @@ use pm_front::Front;
 use pm_sets::NumberSet;
 use pm_view::{Steps, View, wants};
 use std::sync::ledger::Ledger;
+
+// Puts each record in the set that waits for a split and whose node is wanted.
+fn see_waiting<L: Ledger>(
+    front: &Front,
+    bounds: &Bounds,
+    view: &View,
+    rises: &mut NumberSet,
+    steps: &mut Steps<L>,
+)
+    requires bounds { AreBoundsOf front.now.h bounds.now }
+    requires rises { length rises.old ≡ record_count front.now.h }
+    requires no_rises { IsEmptySet rises.old }
+    ensures seen { let h = front.now.h in HoldsBelow (record_count h)
+        (is_reached h (is_wanted h view.now) (set_of front.now.flags)) (record_count h) rises.new }
+    ensures cost { let h = front.now.h in
+        steps.new ≤ steps.old + count (may_try h (set_of front.now.flags)) (record_count h) }
+{
+    front.invariant();
+    let mut from = 0;
+    while let Some(k) = front.waiting().first_from(from) {
+        if wants(front.hierarchy(), bounds, front.split_node(k), view, steps) {
+            rises.insert(k);
+        }
+        from = k + 1;
+    }
+}
+
+// Puts each record in the set that no split record needs and whose node isn't wanted.
+fn see_unneeded<L: Ledger>(
+    front: &Front,
+    bounds: &Bounds,
+    view: &View,
+    work: &mut NumberSet,
+    steps: &mut Steps<L>,
+)
+    requires bounds { AreBoundsOf front.now.h bounds.now }
+    requires work { length work.old ≡ record_count front.now.h }
+    requires no_work { IsEmptySet work.old }
+    ensures loose { let h = front.now.h in HoldsBelow (record_count h)
+        (is_loose h (is_wanted h view.now) (set_of front.now.flags)) (record_count h) work.new }
+    ensures cost { let h = front.now.h in
+        steps.new ≤ steps.old + count (is_unneeded h (set_of front.now.flags)) (record_count h) }
+{
+    front.invariant();
+    let mut from = 0;
+    while let Some(k) = front.unneeded().first_from(from) {
+        if !wants(front.hierarchy(), bounds, front.split_node(k), view, steps) {
+            work.insert(k);
+        }
+        from = k + 1;
+    }
+}
 
 // Puts the record that splits a node in the set, if one does and the node is wanted. A leaf is passed
 // over without a test.
@@ -42,36 +94,6 @@ fn look<L: Ledger>(
         if wants(h, bounds, node, view, steps) {
             rises.insert(k);
         }
-    }
-}
-
-// Looks at each active node, and tries its maker.
-fn see_active<L: Ledger>(
-    front: &Front,
-    bounds: &Bounds,
-    view: &View,
-    rises: &mut NumberSet,
-    work: &mut NumberSet,
-    steps: &mut Steps<L>,
-)
-    requires bounds { AreBoundsOf front.now.h bounds.now }
-    requires rises { length rises.old ≡ record_count front.now.h }
-    requires work { length work.old ≡ record_count front.now.h }
-    requires no_rises { IsEmptySet rises.old }
-    requires no_work { IsEmptySet work.old }
-    ensures seen { AreSeen front.now.h (is_wanted front.now.h view.now) (set_of front.now.flags)
-        (λ v. false) rises.new }
-    ensures loose { AreLoose front.now.h (is_wanted front.now.h view.now) (set_of front.now.flags)
-        work.new }
-    ensures cost { let h = front.now.h in steps.new ≤ steps.old + length front.now.active
-        + count (is_unneeded h (set_of front.now.flags)) (record_count h) }
-{
-    front.invariant();
-    let mut cursor = front.first_active();
-    while let Some(node) = cursor {
-        look(front.hierarchy(), bounds, view, node, rises, steps);
-        try_maker(front, bounds, view, node, work, steps);
-        cursor = front.next_active(node);
     }
 }
 
@@ -99,8 +121,8 @@ fn look_below<L: Ledger>(
 }
 
 /// Finds the records that aren't split and whose nodes are wanted, and the records that may go, and puts
-/// them in the set `work`. It uses the set `rises`. It goes over the active nodes once, tests each of
-/// them and each child of what it finds once at most, and the node of each record that no split record needs once.
+/// them in the set `work`. It uses the set `rises`. It tests the node of each record that waits for a split and of each
+/// that no split record needs once, and each child of what it finds once at most.
 pub(crate) fn find<L: Ledger>(
     front: &Front,
     bounds: &Bounds,
@@ -119,11 +141,12 @@ pub(crate) fn find<L: Ledger>(
     ensures start { IsStart front.now.h (is_wanted front.now.h view.now) (set_of front.now.flags)
         work.new }
     ensures cost { let h = front.now.h in let S = set_of front.now.flags in
-        steps.new ≤ steps.old + length front.now.active + count (is_unneeded h S) (record_count h)
+        steps.new ≤ steps.old + count (may_try h S) (record_count h) + count (is_unneeded h S) (record_count h)
         + 2 * count (is_due h (is_wanted h view.now) S) (record_count h) }
 {
     front.invariant();
-    see_active(front, bounds, view, rises, work, steps);
+    see_waiting(front, bounds, view, rises, steps);
+    see_unneeded(front, bounds, view, work, steps);
     let mut next = 0;
     while let Some(k) = rises.take_first() {
         work.insert(k);

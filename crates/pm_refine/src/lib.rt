@@ -5,7 +5,6 @@ mod deciding;
 mod doing;
 mod falls;
 mod finding;
-mod loosening;
 mod marks;
 mod needs;
 mod refiner;

@@ -78,10 +78,10 @@ impl Refiner {
     /// Does the first `budget` moves of the plan that leads from the front to the target of a view:
     /// the splits in ascending order, then the collapses in descending order. `Spent` comes exactly
     /// where the plan is longer than the budget. It takes no memory, and counts a step for each
-    /// test of a node. It looks at the active nodes and at the records of the plan, and at no
-    /// others but those that they split or need; its walk over the active nodes passes over each
-    /// block of 64 nodes that has none, and each search in a set over the blocks of 64 and of 4,096
-    /// records that have none.
+    /// test of a node. It walks over the records that wait for a split and those that no split
+    /// record needs, and looks at the records of the plan, and at no others but those that they
+    /// need or that split their children; each search in a set passes over the blocks of 64 and
+    /// of 4,096 records that have none.
     pub fn adapt<L: Ledger>(
         &mut self,
         front: &mut Front,

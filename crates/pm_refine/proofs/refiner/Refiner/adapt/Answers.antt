@@ -8,8 +8,7 @@ use Rattle.pm_view.specs.Wanted.{is_wanted}
 use Rattle.pm_refine.specs.declared.refiner.Adapted.TheVariants as answers
 use Rattle.pm_refine.specs.Adapting.{view_target, adapted_of}
 use Rattle.pm_refine.proofs.AnswerLaws.{settled_there}
-use Rattle.pm_refine.proofs.ActiveLaws.{as_long}
-use Rattle.pm_refine.proofs.CountLaws.{active_many}
+use Rattle.pm_refine.proofs.CountLaws.{active_many, waiting_few}
 use Rattle.pm_refine.proofs.FallsLaws.{counts_start, counts_end}
 use Rattle.pm_refine.proofs.DecisionCounts.{due_few, unneeded_and_others}
 use Rattle.pm_refine.proofs.refiner.Refiner.adapt.Goals as goal
@@ -63,7 +62,7 @@ returns-clause-cost g c =
     let view = c.args.view.now in
     let shape = c.invariant.ensures.valid.shape in
     let closed = c.invariant.ensures.closed in
-    let long = as_long h S c.args.front.now.active c.invariant.ensures.active in
+    let few = waiting_few h shape S in
     let many = active_many h S (closed-front h S closed) in
     let due = due_few h shape (is_wanted h view) S closed in
     let plan = length-plan h S (view_target h view) in
