@@ -2,7 +2,6 @@
 use Rattle.std.proofs.Common.{◌≡◌, ℕ, ◌*◌, Bool, false, List, Option, length, replicate, sym, ap, ◌∙◌, subst}
 use Rattle.std.proofs.lemmas.Bool.{false≢true}
 use Rattle.std.proofs.lemmas.List.{length-replicate}
-use Rattle.pm_base.specs.declared.ids.Side.{Side}
 use Rattle.pm_base.specs.Sides.{NoSideTwice}
 use Rattle.pm_links.specs.Lists.{Lists}
 use Rattle.pm_forest.specs.Forest.{Hierarchy, node_count, record_count}
@@ -27,7 +26,7 @@ module _ (h : Hierarchy) (flags : List Bool) (none : flags ≡ replicate (record
   unset = ap set_of none ∙ set_of-unset (record_count h)
 
   -- All of it at once.
-  pub base-refined : HasShape h → NoSideTwice (leaf_net h) → (corners : Lists) (active : Members) (kept : ℕ) (table : List (Option Side)) →
+  pub base-refined : HasShape h → NoSideTwice (leaf_net h) → (corners : Lists) (active : Members) (kept : ℕ) (table : List (Option ℕ)) →
       corners.items ≡ 3 * face_count h → corners.lists ≡ base_lists h → active.bound ≡ node_count h → AreActive h no_records active.list →
       kept ≡ length h.bases → AreStored h no_records table → IsRefinement h flags corners active kept table
   base-refined shape once corners active kept table items lists bound nodes faces beyond = record {

@@ -3,7 +3,6 @@ use Rattle.std.proofs.Common.{◌≡◌, ℕ, ◌*◌, ◌<◌, Bool, true, fals
 use Rattle.std.proofs.Math.Path.{fun_ext}
 use Rattle.std.proofs.lemmas.List.{get_or-replicate, get_or_past, length-replicate}
 use Rattle.std.proofs.lemmas.Bool.{lt-ltb, le-ltb, cases_lt, both_ways}
-use Rattle.pm_base.specs.declared.ids.Side.{Side}
 use Rattle.pm_base.specs.Sides.{NoSideTwice}
 use Rattle.pm_base.proofs.Search.{option_cases}
 use Rattle.pm_forest.specs.Forest.{Hierarchy, record_count}
@@ -39,7 +38,7 @@ module _ (h : Hierarchy) (shape : HasShape h) where
         | inr (k, own) ↦ shown_record h all e k own ∙ lt-ltb k (record_count h) (record-lt h e k l own)
       ]
 
-  pub all-stored : NoSideTwice (leaf_net h) → (table : List (Option Side)) → AreStored h every table → AreStored h all table
+  pub all-stored : NoSideTwice (leaf_net h) → (table : List (Option ℕ)) → AreStored h every table → AreStored h all table
   all-stored once table full = record {
     sides = full.sides;
     shown = λ a l s.

@@ -3,7 +3,6 @@ use Rattle.std.proofs.Common.{◌≡◌, ℕ, suc, ◌-◌, ◌*◌, ◌<◌, Bo
 use Rattle.std.proofs.Math.ListN.{set, length-set}
 use Rattle.std.proofs.lemmas.Bool.{cases_eq, lt-ltb, le-ltb}
 use Rattle.std.proofs.lemmas.List.{length-replicate}
-use Rattle.pm_base.specs.declared.ids.Side.{Side}
 use Rattle.pm_base.specs.Sides.{face_of, NoSideTwice}
 use Rattle.pm_forest.specs.Forest.{Hierarchy, record_count}
 use Rattle.pm_forest.specs.Fronts.{set_of, below, every, no_records, without, IsFront}
@@ -63,7 +62,7 @@ module _ (h : Hierarchy) (shape : HasShape h) (once : NoSideTwice (leaf_net h)) 
   lowered-front = subst (IsFront h) (sym to.front) (below-front h (shape_of_nodes h shape) left)
 
 -- A lowering begins with all records split, and goes on by the last one that is.
-pub lowering-begins : (h : Hierarchy) → HasShape h → NoSideTwice (leaf_net h) → (flags : List Bool) (table : List (Option Side)) → flags ≡ replicate (record_count h) true →
+pub lowering-begins : (h : Hierarchy) → HasShape h → NoSideTwice (leaf_net h) → (flags : List Bool) (table : List (Option ℕ)) → flags ≡ replicate (record_count h) true →
     AreStored h every table → IsLowering h flags table (record_count h)
 lowering-begins h shape once flags table all_set full =
     let is : set_of flags ≡ below (record_count h) = ap set_of all_set ∙ set_of-all (record_count h) in
@@ -75,8 +74,8 @@ lowering-begins h shape once flags table all_set full =
       beyond = subst (λ (T : ℕ → Bool). AreStored h T table) (sym is) (all-stored h shape once table full);
     }
 
-pub lowering-goes_on : (h : Hierarchy) (flags : List Bool) (table : List (Option Side)) (left : ℕ) → IsLowering h flags table left → 0 < left → TellsAll h (set_of flags) (left - 1) →
-    (now : List (Option Side)) → AreStored h (without (set_of flags) (left - 1)) now → IsLowering h (set flags (left - 1) false) now (left - 1)
+pub lowering-goes_on : (h : Hierarchy) (flags : List Bool) (table : List (Option ℕ)) (left : ℕ) → IsLowering h flags table left → 0 < left → TellsAll h (set_of flags) (left - 1) →
+    (now : List (Option ℕ)) → AreStored h (without (set_of flags) (left - 1)) now → IsLowering h (set flags (left - 1) false) now (left - 1)
 lowering-goes_on h flags table left was pos tells now right =
     let most = was.lowered.most in
     record {
@@ -95,7 +94,7 @@ all_false (x ∷ xs) none =
     let later = all_false xs (λ j l. none (suc j) (omega arith)) in
     ap (λ y. y ∷ xs) first ∙ ap (λ (ys : List Bool). false ∷ ys) later
 
-module _ (h : Hierarchy) (flags : List Bool) (table : List (Option Side)) (left : ℕ) (was : IsLowering h flags table left) (none : left ≡ 0) where
+module _ (h : Hierarchy) (flags : List Bool) (table : List (Option ℕ)) (left : ℕ) (was : IsLowering h flags table left) (none : left ≡ 0) where
   pub lowered-flags : flags ≡ replicate (record_count h) false
   lowered-flags =
       let clear = λ (j : ℕ) (l : j < length flags). ap (λ (U : ℕ → Bool). U j) (was.lowered.front ∙ ap below none) ∙ le-ltb j 0 (omega arith) in

@@ -1,6 +1,6 @@
 -- The table of what stands beyond the sides, as a split and a collapse write to it: each write is right by itself, and what
 -- isn't written stays right.
-use Rattle.std.proofs.Common.{◌≡◌, ◌≢◌, ℕ, ◌+◌, ◌*◌, ◌<◌, ◌≤◌, Bool, true, false, Option, Some, None, List, length, get_or, ◌⊎◌, inl, inr, refl, sym, ap, ◌∙◌, subst, arith, get_or-set_same, get_or-set_other}
+use Rattle.std.proofs.Common.{◌≡◌, ◌≢◌, ℕ, ◌+◌, ◌*◌, ◌<◌, ◌≤◌, Bool, true, false, Option, Some, None, IfSome, List, length, get_or, ◌⊎◌, inl, inr, refl, sym, ap, ◌∙◌, subst, arith, get_or-set_same, get_or-set_other}
 use Rattle.std.proofs.Math.ListN.{set}
 use Rattle.std.proofs.lemmas.List.{length-set}
 use Rattle.std.proofs.lemmas.Bool.{cases_eq, cases_Bool, both_ways, false_from_ne_true}
@@ -28,15 +28,15 @@ use Rattle.pm_beyond.proofs.Relinking.{split-new, split-other, stands-outer, col
 
 -- ---- one write
 
-pub stored-set_same : (table : List (Option Side)) (a b : ℕ) (o : Option Side) → a ≡ b → b < length table → stored (set table b o) a ≡ number_of o
-stored-set_same table a b o is l = ap number_of (ap (λ i. get_or (set table b o) i None) is ∙ get_or-set_same table b o None l)
+pub stored-set_same : (table : List (Option ℕ)) (a b : ℕ) (o : Option ℕ) → a ≡ b → b < length table → stored (set table b o) a ≡ o
+stored-set_same table a b o is l = ap (λ i. get_or (set table b o) i None) is ∙ get_or-set_same table b o None l
 
-pub stored-set_other : (table : List (Option Side)) (a b : ℕ) (o : Option Side) → a ≢ b → stored (set table b o) a ≡ stored table a
-stored-set_other table a b o n = ap number_of (get_or-set_other table b a o None n)
+pub stored-set_other : (table : List (Option ℕ)) (a b : ℕ) (o : Option ℕ) → a ≢ b → stored (set table b o) a ≡ stored table a
+stored-set_other table a b o n = get_or-set_other table b a o None n
 
 -- ---- the full front
 
-pub full-stored : (h : Hierarchy) (table : List (Option Side)) → length table ≡ 3 * face_count h → ((a : ℕ) → a < 3 * face_count h → stored table a ≡ leaf_twin h a) →
+pub full-stored : (h : Hierarchy) (table : List (Option ℕ)) → length table ≡ 3 * face_count h → ((a : ℕ) → a < 3 * face_count h → stored table a ≡ leaf_twin h a) →
     ((a : ℕ) → a < 3 * face_count h → Beyond h every a (leaf_twin h a)) → AreStored h every table
 full-stored h table len twins full = record {
   sides = len;
@@ -47,7 +47,7 @@ full-stored h table len twins full = record {
 -- ---- a split
 
 -- The sides of record k below n have been gone through. W is the set with k.
-pub record SplitLinks (h : Hierarchy) (T : ℕ → Bool) (k n : ℕ) (old now : List (Option Side)) : Type 0 where
+pub record SplitLinks (h : Hierarchy) (T : ℕ → Bool) (k n : ℕ) (old now : List (Option ℕ)) : Type 0 where
   pub sides : length now ≡ 3 * face_count h
   pub own : (e : ℕ) → e < 3 * face_count h → record_of h e ≡ Some k → stored now e ≡ expected h e
   pub hidden : (a : ℕ) → a < 3 * face_count h → is_shown h (with T k) a ≡ false → stored now a ≡ expected h a
@@ -56,7 +56,7 @@ pub record SplitLinks (h : Hierarchy) (T : ℕ → Bool) (k n : ℕ) (old now : 
       → Beyond h (with T k) a (stored now a)
       ⊎ ((stored now a ≡ stored old a) × ((e : ℕ) → e < n → e < 3 * face_count h → IsOuter h k e → expected h e ≢ Some a))
 
-module _ (h : Hierarchy) (valid : IsValid h) (T : ℕ → Bool) (closed : IsClosed h T) (k : ℕ) (k_lt : k < record_count h) (may : MaySplit h T k) (old : List (Option Side)) (was : AreStored h T old) where
+module _ (h : Hierarchy) (valid : IsValid h) (T : ℕ → Bool) (closed : IsClosed h T) (k : ℕ) (k_lt : k < record_count h) (may : MaySplit h T k) (old : List (Option ℕ)) (was : AreStored h T old) where
   abbrev W : ℕ → Bool
   W = with T k
 
@@ -72,7 +72,7 @@ module _ (h : Hierarchy) (valid : IsValid h) (T : ℕ → Bool) (closed : IsClos
   }
 
   -- a side beside which nothing is told
-  pub split-none : (n : ℕ) (now : List (Option Side)) → SplitLinks h T k n old now → n < 3 * face_count h → record_of h n ≡ Some k → stored now n ≡ None → SplitLinks h T k (n + 1) old now
+  pub split-none : (n : ℕ) (now : List (Option ℕ)) → SplitLinks h T k n old now → n < 3 * face_count h → record_of h n ≡ Some k → stored now n ≡ None → SplitLinks h T k (n + 1) old now
   split-none n now links l own none = record {
     sides = links.sides;
     own = links.own;
@@ -90,13 +90,13 @@ module _ (h : Hierarchy) (valid : IsValid h) (T : ℕ → Bool) (closed : IsClos
   }
 
   -- a side beside which side b is told
-  pub split-lt : (n b : ℕ) (now : List (Option Side)) → SplitLinks h T k n old now → n < 3 * face_count h → record_of h n ≡ Some k → stored now n ≡ Some b → b < 3 * face_count h
+  pub split-lt : (n b : ℕ) (now : List (Option ℕ)) → SplitLinks h T k n old now → n < 3 * face_count h → record_of h n ≡ Some k → stored now n ≡ Some b → b < 3 * face_count h
   split-lt n b now links l own is =
       reaches-lt h (forest_of h valid) valid.no_side_twice W b (split-new h valid T k closed k_lt may n l own).reaches (sym (links.own n l own) ∙ is)
 
-  pub split-some : (n b : ℕ) (now : List (Option Side)) (side : Side) → side.0 ≡ n → SplitLinks h T k n old now → n < 3 * face_count h → record_of h n ≡ Some k → stored now n ≡ Some b →
-      SplitLinks h T k (n + 1) old (set now b (Some side))
-  split-some n b now side side_is links l own is =
+  pub split-some : (n b : ℕ) (now : List (Option ℕ)) → SplitLinks h T k n old now → n < 3 * face_count h → record_of h n ≡ Some k → stored now n ≡ Some b →
+      SplitLinks h T k (n + 1) old (set now b (Some n))
+  split-some n b now links l own is =
       let tree = forest_of h valid in
       let once = valid.no_side_twice in
       let b_lt = split-lt n b now links l own is in
@@ -107,21 +107,21 @@ module _ (h : Hierarchy) (valid : IsValid h) (T : ℕ → Bool) (closed : IsClos
       let n_shown : is_shown h W n ≡ true = shown_record h W n k own ∙ with-same T k in
       let beyond_b : Beyond h W b (Some n) = record { reaches = back h tree once W b l beyond_n.reaches told; stops = n_shown } in
       record {
-        sides = length-set now b (Some side) ∙ links.sides;
+        sides = length-set now b (Some n) ∙ links.sides;
         own = λ e e_lt e_own. elim (cases_eq e b) [
           | inl at ↦
               let b_own : record_of h b ≡ Some k = subst (λ i. record_of h i ≡ Some k) at e_own in
-              stored-set_same now e b (Some side) at b_in ∙ ap Some side_is ∙ Beyond-unique h tree once W b (Some n) (expected h b) beyond_b (split-new h valid T k closed k_lt may b b_lt b_own) ∙ ap (expected h) (sym at)
-          | inr other ↦ stored-set_other now e b (Some side) other ∙ links.own e e_lt e_own
+              stored-set_same now e b (Some n) at b_in ∙ Beyond-unique h tree once W b (Some n) (expected h b) beyond_b (split-new h valid T k closed k_lt may b b_lt b_own) ∙ ap (expected h) (sym at)
+          | inr other ↦ stored-set_other now e b (Some n) other ∙ links.own e e_lt e_own
         ];
         hidden = λ a a_lt d. elim (cases_eq a b) [
           | inl at ↦ absurd (both_ways (is_shown h W b) (subst (λ i. is_shown h W i ≡ false) at d) b_shown)
-          | inr other ↦ stored-set_other now a b (Some side) other ∙ links.hidden a a_lt d
+          | inr other ↦ stored-set_other now a b (Some n) other ∙ links.hidden a a_lt d
         ];
         shown = λ a a_lt s. elim (cases_eq a b) [
-          | inl at ↦ inl (subst (λ i. Beyond h W i (stored (set now b (Some side)) a)) (sym at) (subst (Beyond h W b) (sym (stored-set_same now a b (Some side) at b_in ∙ ap Some side_is)) beyond_b))
+          | inl at ↦ inl (subst (λ i. Beyond h W i (stored (set now b (Some n)) a)) (sym at) (subst (Beyond h W b) (sym (stored-set_same now a b (Some n) at b_in)) beyond_b))
           | inr other ↦
-              let same = stored-set_other now a b (Some side) other in
+              let same = stored-set_other now a b (Some n) other in
               elim (links.shown a a_lt s) [
                 | inl right ↦ inl (subst (Beyond h W a) (sym same) right)
                 | inr kept ↦ inr (
@@ -135,7 +135,7 @@ module _ (h : Hierarchy) (valid : IsValid h) (T : ℕ → Bool) (closed : IsClos
         ];
       }
 
-  pub split-ends : (n : ℕ) (now : List (Option Side)) → SplitLinks h T k n old now → 3 * first_face h (k + 1) ≤ n → AreStored h W now
+  pub split-ends : (n : ℕ) (now : List (Option ℕ)) → SplitLinks h T k n old now → 3 * first_face h (k + 1) ≤ n → AreStored h W now
   split-ends n now links all = record {
     sides = links.sides;
     shown = λ a l s. elim (shown_with-parts h T k a s) [
@@ -159,7 +159,7 @@ outer-side h k n o own over =
     let (i, outer, _) = across-is_outer h n o over in
     subst (λ j. IsOuter h j n) (same_Some i k (sym outer.0 ∙ own)) outer
 
-pub record CollapseLinks (h : Hierarchy) (T : ℕ → Bool) (k n : ℕ) (old now : List (Option Side)) : Type 0 where
+pub record CollapseLinks (h : Hierarchy) (T : ℕ → Bool) (k n : ℕ) (old now : List (Option ℕ)) : Type 0 where
   pub sides : length now ≡ 3 * face_count h
   pub own : (e : ℕ) → e < 3 * face_count h → record_of h e ≡ Some k → stored now e ≡ expected h e
   pub hidden : (a : ℕ) → a < 3 * face_count h → is_shown h T a ≡ false → stored now a ≡ expected h a
@@ -170,7 +170,7 @@ pub record CollapseLinks (h : Hierarchy) (T : ℕ → Bool) (k n : ℕ) (old now
 
 module _ (h : Hierarchy) (tree : IsForest h) (once : NoSideTwice (leaf_net h)) (T : ℕ → Bool) (k : ℕ) (k_lt : k < record_count h) (split : T k ≡ true)
     (standing : (e : ℕ) → e < 3 * face_count h → record_of h e ≡ Some k → Beyond h T e (expected h e))
-    (older : (e b : ℕ) → e < 3 * face_count h → IsOuter h k e → expected h e ≡ Some b → b < 3 * first_face h k) (old : List (Option Side)) (was : AreStored h T old) where
+    (older : (e b : ℕ) → e < 3 * face_count h → IsOuter h k e → expected h e ≡ Some b → b < 3 * first_face h k) (old : List (Option ℕ)) (was : AreStored h T old) where
   abbrev V : ℕ → Bool
   V = without T k
 
@@ -186,7 +186,7 @@ module _ (h : Hierarchy) (tree : IsForest h) (once : NoSideTwice (leaf_net h)) (
   }
 
   -- an inner side, and an outer side beside which nothing is told
-  pub collapse-none : (n : ℕ) (now : List (Option Side)) → CollapseLinks h T k n old now → (IsOuter h k n → expected h n ≡ None) → CollapseLinks h T k (n + 1) old now
+  pub collapse-none : (n : ℕ) (now : List (Option ℕ)) → CollapseLinks h T k n old now → (IsOuter h k n → expected h n ≡ None) → CollapseLinks h T k (n + 1) old now
   collapse-none n now links none = record {
     sides = links.sides;
     own = links.own;
@@ -203,11 +203,21 @@ module _ (h : Hierarchy) (tree : IsForest h) (once : NoSideTwice (leaf_net h)) (
     ];
   }
 
-  pub collapse-lt : (n b : ℕ) (now : List (Option Side)) → CollapseLinks h T k n old now → n < 3 * face_count h → record_of h n ≡ Some k → stored now n ≡ Some b → b < 3 * face_count h
+  pub collapse-lt : (n b : ℕ) (now : List (Option ℕ)) → CollapseLinks h T k n old now → n < 3 * face_count h → record_of h n ≡ Some k → stored now n ≡ Some b → b < 3 * face_count h
   collapse-lt n b now links l own is = reaches-lt h tree once T b (standing n l own).reaches (sym (links.own n l own) ∙ is)
 
+  -- what is told beside the other outer side is there
+  pub collapse-over : (n o : ℕ) (now : List (Option ℕ)) → CollapseLinks h T k n old now → n < 3 * face_count h → record_of h n ≡ Some k → across h n ≡ Some o → (most : ℕ) → 3 * face_count h ≤ most →
+      (r : Option Side) → number_of r ≡ stored now o → IfSome r (λ s. s.0 < most)
+  collapse-over n o now links l own over most few None is = tt
+  collapse-over n o now links l own over most few (Some s) is =
+      let o_own = ap (λ f. revealed_by h f) (across-face h n o over) ∙ own in
+      let o_lt = across-lt h n o l over in
+      let low = reaches-lt h tree once T s.0 (standing o o_lt o_own).reaches (sym (links.own o o_lt o_own) ∙ sym is) in
+      omega arith
+
   -- an outer side beside which side b is told: then what is told beside the other outer side stands beyond b
-  pub collapse-some : (n b o : ℕ) (now : List (Option Side)) → CollapseLinks h T k n old now → n < 3 * face_count h → IsOuter h k n → across h n ≡ Some o → stored now n ≡ Some b →
+  pub collapse-some : (n b o : ℕ) (now : List (Option ℕ)) → CollapseLinks h T k n old now → n < 3 * face_count h → IsOuter h k n → across h n ≡ Some o → stored now n ≡ Some b →
       CollapseLinks h T k (n + 1) old (set now b (get_or now o None))
   collapse-some n b o now links l outer over is =
       let value = get_or now o None in
@@ -249,7 +259,7 @@ module _ (h : Hierarchy) (tree : IsForest h) (once : NoSideTwice (leaf_net h)) (
         ];
       }
 
-  pub collapse-ends : (n : ℕ) (now : List (Option Side)) → CollapseLinks h T k n old now → 3 * first_face h (k + 1) ≤ n → AreStored h V now
+  pub collapse-ends : (n : ℕ) (now : List (Option ℕ)) → CollapseLinks h T k n old now → 3 * first_face h (k + 1) ≤ n → AreStored h V now
   collapse-ends n now links all = record {
     sides = links.sides;
     shown = λ a l s. elim (links.shown a l s) [

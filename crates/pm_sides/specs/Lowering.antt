@@ -1,6 +1,5 @@
 -- A hierarchy that is being lowered from its full front to its base front, a record at a time.
 use Rattle.std.specs.Prelude.{◌≡◌, ℕ, ◌<◌, ◌≤◌, Bool, List, Option, length}
-use Rattle.pm_base.specs.declared.ids.Side.{Side}
 use Rattle.pm_base.specs.Sides.{NoSideTwice}
 use Rattle.pm_forest.specs.Forest.{Hierarchy, record_count}
 use Rattle.pm_forest.specs.Fronts.{set_of, below}
@@ -21,7 +20,7 @@ pub record IsLoweredTo (h : Hierarchy) (flags : List Bool) (left : ℕ) : Type 0
   pub told : (k : ℕ) → left ≤ k → k < record_count h → IsAsTold h k
 
 -- What a lowering keeps: a flag for each record, and the table of what stands beyond each side.
-pub record IsLowering (h : Hierarchy) (flags : List Bool) (table : List (Option Side)) (left : ℕ) : Type 0 where
+pub record IsLowering (h : Hierarchy) (flags : List Bool) (table : List (Option ℕ)) (left : ℕ) : Type 0 where
   pub shape : HasShape h
   pub once : NoSideTwice (leaf_net h)
   pub flag_len : length flags ≡ record_count h

@@ -43,15 +43,15 @@ impl Model for Lowering {
 }
 
 impl Lowering {
-    /// The full front: every record is split. It takes all memory that the lowering will use: nine bytes for each record, a
-    /// byte for each face and eight for each side.
+    /// The full front: every record is split. It takes all memory that the lowering will use: nine bytes for each record and
+    /// a byte for each face. What stands beyond the sides is kept in the twins' table, which is taken over.
     pub fn full(alloc: Global, h: Hierarchy, twins: Twins) -> Result<Lowering, OutOfMemory>
         requires { IsTableOf (leaf_net h) (leaf_count h) twins }
         ensures { IfOk result (λ o. o ≡ record { h = h; left = record_count h }) }
     {
         h.invariant();
         let left = h.records();
-        let table = SideTable::full(alloc, &h, &twins)?;
+        let table = SideTable::full(&h, twins);
         let split = vec![in alloc; true; left as usize]?;
         let indexed = IndexedHierarchy::new(alloc, h)?;
         Ok(Lowering {

@@ -1,67 +1,66 @@
-//! What stands beyond each side, in a table with an entry for each. A move changes the entries of the recorded neighbours.
-ghost use Rattle.std.specs.Prelude.{◌≡◌, ◌+◌, ◌*◌, ◌<◌, ℕ, true, length, slice_index_or, slice_set, IfOk, Some, None};
+//! What stands beyond each side, in a table of four bytes a side. A move changes it beside the recorded neighbours.
+ghost use Rattle.std.specs.Prelude.{◌≡◌, ◌+◌, ◌*◌, ◌<◌, ℕ, true, length, slice_set, IfSome, Some};
+ghost use Rattle.pm_base.specs.declared.limits.TheConstants.{MOST_SIDES};
 ghost use Rattle.pm_base.specs.Sides.{NoSideTwice};
 ghost use Rattle.pm_twins.specs.Table.{IsTableOf};
 ghost use Rattle.pm_forest.specs.Forest.{leaf_count, record_count};
 ghost use Rattle.pm_forest.specs.Fronts.{set_of, every, with, without};
 ghost use Rattle.pm_forest.specs.Faces.{face_count, record_of};
-ghost use Rattle.pm_beyond.specs.Walks.{leaf_net, Beyond, expected};
+ghost use Rattle.pm_beyond.specs.Walks.{leaf_net, Beyond, expected, number_of};
 ghost use Rattle.pm_beyond.specs.Valid.{IsValid};
 ghost use Rattle.pm_beyond.specs.Moves.{IsClosed, MaySplit};
-ghost use Rattle.pm_sides.specs.Stored.{AreStored};
+ghost use Rattle.pm_sides.specs.Stored.{stored, AreStored};
 
-use crate::OutOfMemory;
 use crate::indexed::IndexedHierarchy;
-use pm_base::Side;
+use pm_base::{Side, SideMap};
 use pm_forest::Hierarchy;
 use pm_twins::Twins;
-use std::alloc::Global;
 use std::marker::Model;
 
-/// What stands beyond each side of a hierarchy's faces in a front: an entry for each side. Contracts see the entries.
+/// What stands beyond each side of a hierarchy's faces in a front: four bytes a side. Contracts see a list with the number of
+/// what is stored beside each side, or none.
 #[derive(Drop)]
 pub struct SideTable {
-    entries: Vec<Option<Side>>,
+    sides: SideMap,
 }
 
 impl Model for SideTable {
-    ghost use Rattle.std.specs.Prelude.{List, Option};
-    ghost use Rattle.pm_base.specs.declared.ids.Side.{Side};
+    ghost use Rattle.std.specs.Prelude.{ℕ, List, Option};
 
-    ghost Value = { List (Option Side) };
+    ghost Value = { List (Option ℕ) };
 
-    ghost view = { λ t. t.entries.items };
+    ghost view = { λ t. t.sides };
 }
 
 impl SideTable {
-    /// In the full front the twins stand beyond the sides. The only call that takes memory: eight bytes a side.
-    pub fn full(alloc: Global, h: &Hierarchy, twins: &Twins) -> Result<SideTable, OutOfMemory>
-        requires { IsTableOf (leaf_net h.now) (leaf_count h.now) twins.now }
-        ensures { IfOk result (λ table. AreStored h.now every table) }
+    /// In the full front the twins stand beyond the sides, so their table is taken over. It takes no memory. O(1).
+    pub fn full(h: &Hierarchy, twins: Twins) -> SideTable
+        requires { IsTableOf (leaf_net h.now) (leaf_count h.now) twins }
+        ensures { AreStored h.now every result }
     {
         h.invariant();
-        let sides = 3 * h.faces();
-        let mut entries = Vec::with_capacity(alloc, sides as usize)?;
-        for side in 0..sides {
-            entries.push(twins.twin(Side(side)))?;
+        SideTable {
+            sides: twins.into_sides(),
         }
-        Ok(SideTable { entries })
     }
 
-    /// The entry of a side. O(1).
+    /// What is stored beside a side. O(1).
+    #[tactic(auto, using(crate::proofs::ReadLaws::number_is))]
     pub fn beyond(&self, side: Side) -> Option<Side>
         requires { side.0 < length self.now }
-        ensures { result ≡ slice_index_or self.now side.0 None }
+        ensures { number_of result ≡ stored self.now side.0 }
     {
-        self.entries[side.0 as usize]
+        self.sides.get(side)
     }
 
-    // Puts an entry in place of that of a side.
-    fn set(&mut self, side: Side, entry: Option<Side>)
-        requires { side.0 < length self.old }
-        ensures { self.new ≡ slice_set self.old side.0 entry }
+    // Stores another side, or none, beside a side.
+    #[tactic(auto, using(crate::proofs::ReadLaws::number_is))]
+    fn set(&mut self, side: Side, other: Option<Side>)
+        requires there { side.0 < length self.old }
+        requires small { IfSome other (λ s. s.0 < MOST_SIDES) }
+        ensures { self.new ≡ slice_set self.old side.0 (number_of other) }
     {
-        self.entries[side.0 as usize] = entry;
+        self.sides.put(side, other);
     }
 
     /// What stands beyond the sides once record `k` is split: beside each of its faces' sides is stored what stands beyond it

@@ -1,4 +1,4 @@
-use Rattle.std.proofs.Common.{◌≡◌, ◌∙◌, replicate, false, ap, subst}
+use Rattle.std.proofs.Common.{◌∙◌, replicate, false, ap, subst}
 use Rattle.pm_forest.specs.Forest.{record_count}
 use Rattle.pm_forest.specs.Fronts.{no_records}
 use Rattle.pm_sides.specs.Stored.{AreStored}

@@ -1,6 +1,5 @@
-use Rattle.std.proofs.Common.{◌+◌, ◌*◌, ◌∙◌, refl, sym, ap, subst, arith}
+use Rattle.std.proofs.Common.{◌+◌, ◌*◌, ◌∙◌, sym, ap, subst, arith}
 use Rattle.pm_forest.specs.Fronts.{set_of}
-use Rattle.pm_base.specs.declared.ids.Side.{Side}
 use Rattle.pm_beyond.specs.Walks.{number_of}
 use Rattle.pm_sides.proofs.RecordSides.{corner_of-record}
 use Rattle.pm_sides.proofs.StoredLaws.{SplitLinks, split-begins, split-none, split-some, split-lt, split-ends}
@@ -15,12 +14,12 @@ loop-side-init c =
     (split-begins h c.requires.valid T c.requires.closed c.args.k c.requires.record c.requires.may c.args.self.now c.requires.stored)
 
 -- the side is one of the record's, and what is read beside it is what is stored
-pub set-requires : goal.set-requires
-set-requires c =
+pub set-requires-clause-there : goal.set-requires-clause-there
+set-requires-clause-there c =
     let n = c.loop-side.side in
     let i = c.loop-side.invariant in
     let own = corner_of-record c.args.indexed.now c.args.k n c.requires.record (omega (arith, c.first_face-side.ensures.value, c.loop-side.auto.side)) (omega (arith, c.face_after-side-end.ensures.value, c.loop-side-test.true)) in
-    let read = sym (ap number_of c.beyond.ensures) in
+    let read = sym c.beyond.ensures in
     let b = split-lt c.args.indexed.now c.requires.valid (set_of c.args.split.now) c.requires.closed c.args.k c.requires.record c.requires.may c.args.self.now c.requires.stored n c.in-Some.other.0 c.loop-side.self i own.0 own.1 (read ∙ ap number_of c.in-Some.is) in
     omega (arith, b, i.sides)
 
@@ -32,12 +31,11 @@ loop-side-preserved c =
     let i = c.loop-side.invariant in
     let old = c.args.self.now in
     let own = corner_of-record h c.args.k n c.requires.record (omega (arith, c.first_face-side.ensures.value, c.loop-side.auto.side)) (omega (arith, c.face_after-side-end.ensures.value, c.loop-side-test.true)) in
-    let read = sym (ap number_of c.beyond.ensures) in
+    let read = sym c.beyond.ensures in
     elim c.match-beyond.branch [
       | in-Some w ↦
-          let side : Side = record { 0 = n } in
           subst (SplitLinks h T c.args.k (n + 1) old) (sym (w.self-is ∙ w.set.ensures))
-          (split-some h c.requires.valid T c.requires.closed c.args.k c.requires.record c.requires.may old c.requires.stored n w.in-Some.other.0 c.loop-side.self side refl i own.0 own.1 (read ∙ ap number_of w.in-Some.is))
+          (split-some h c.requires.valid T c.requires.closed c.args.k c.requires.record c.requires.may old c.requires.stored n w.in-Some.other.0 c.loop-side.self i own.0 own.1 (read ∙ ap number_of w.in-Some.is))
       | in_default w ↦
           subst (SplitLinks h T c.args.k (n + 1) old) (sym w.self-is)
           (split-none h c.requires.valid T c.requires.closed c.args.k c.requires.record c.requires.may old c.requires.stored n c.loop-side.self i own.0 own.1 (read ∙ ap number_of w.in_default.is))
