@@ -1,6 +1,7 @@
 //! Tests of pm_base.
-use pm_base::{Point, cross, dist_up, dist2, dot};
+use pm_base::{Point, Side, SideMap, cross, dist_up, dist2, dot};
 use std::process::Abort;
+use std::test::Fail;
 
 pub(crate) fn at(rt: &impl Abort, x: i32, y: i32, z: i32) -> Point {
     Point::new(x, y, z).expect(rt, "a place in range")
@@ -25,4 +26,18 @@ fn normal_of_a_right_triangle(rt: HostRuntime) {
     let n = cross(at(&rt, 0, 0, 0), at(&rt, 10, 0, 0), at(&rt, 0, 10, 0));
     assert_eq!(rt; (n.x, n.y, n.z), (0, 0, 100));
     assert_eq!(rt; dot(n, n), 10_000);
+}
+
+#[test]
+fn sides_are_mapped_to_sides_and_to_none(rt: HostRuntime) -> Result<(), Fail> {
+    let mut map = SideMap::new(rt.alloc(), 6)?;
+    assert_eq!(rt; map.len(), 6);
+    assert_eq!(rt; map.get(Side(5)), None);
+    map.put(Side(5), Some(Side(0)));
+    map.put(Side(0), Some(Side(3_145_727)));
+    assert_eq!(rt; map.get(Side(5)), Some(Side(0)));
+    assert_eq!(rt; map.get(Side(0)), Some(Side(3_145_727)));
+    map.put(Side(5), None);
+    assert_eq!(rt; map.get(Side(5)), None);
+    Ok(())
 }
