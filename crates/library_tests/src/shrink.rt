@@ -1,5 +1,6 @@
 //! Tests of pm_shrink.
 ghost use Rattle.std.specs.Prelude.{◌≤◌, length};
+ghost use Rattle.pm_base.specs.declared.limits.TheConstants.{MOST_FACES, MOST_VERTICES};
 
 use pm_base::{Collapse, FaceId, Gone, Point, Side};
 use pm_samples::{OCTAHEDRON, OCTAHEDRON_FACES, Spot, Triple, mesh, point};
@@ -9,8 +10,8 @@ use std::alloc::Global;
 use std::test::Fail;
 
 fn shrink_of(alloc: Global, places: &[Spot], faces: &[Triple]) -> Result<Shrink, Fail>
-    requires few { length places.now ≤ 1048576 }
-    requires short { length faces.now ≤ 1048576 }
+    requires few { length places.now ≤ MOST_VERTICES }
+    requires short { length faces.now ≤ MOST_FACES }
 {
     let mesh = mesh(alloc, places, faces)?;
     let twins = Twins::of(alloc, &mesh)?;
@@ -71,7 +72,7 @@ fn first_collapse_of_the_octahedron(rt: HostRuntime) -> Result<(), Fail> {
 
 // Whether each pair of the first vertices is refused at the place of its smaller end.
 fn are_all_refused(shrink: &mut Shrink, places: &[Spot]) -> Result<bool, Fail>
-    requires { length places.now ≤ 1048576 }
+    requires { length places.now ≤ MOST_VERTICES }
 {
     for b in 0..places.len() {
         for a in 0..b {

@@ -1,5 +1,6 @@
 //! Tests of pm_twins.
 ghost use Rattle.std.specs.Prelude.{◌≤◌, length};
+ghost use Rattle.pm_base.specs.declared.limits.TheConstants.{MOST_FACES, MOST_VERTICES};
 
 use pm_base::{FaceId, Side};
 use pm_samples::{OCTAHEDRON_FACES, Triple, at_origin};
@@ -46,8 +47,8 @@ enum Fault {
 }
 
 fn first_fault(alloc: Global, count: u32, faces: &[Triple]) -> Result<Option<Fault>, Fail>
-    requires few { count ≤ 1048576 }
-    requires short { length faces.now ≤ 1048576 }
+    requires few { count ≤ MOST_VERTICES }
+    requires short { length faces.now ≤ MOST_FACES }
 {
     let mesh = at_origin(alloc, count, faces)?;
     let twins = match Twins::of(alloc, &mesh) {

@@ -1,9 +1,10 @@
 //! Tests of obj_write.
 ghost use Rattle.std.specs.Prelude.{◌≤◌, length, IfOk};
+ghost use Rattle.pm_base.specs.declared.limits.TheConstants.{MOST_VERTICES};
 ghost use Rattle.pm_base.specs.Meshes.{IsWellFormed, mesh_of};
 
 use obj_write::write_obj;
-use pm_base::{Items, Mesh, OutOfMemory, Point, Points};
+use pm_base::{Items, MOST_VERTICES, Mesh, OutOfMemory, Point, Points};
 use pm_io::{MemSink, WriteFault};
 use pm_samples::{OCTAHEDRON, OCTAHEDRON_FACES, mesh};
 use std::alloc::Global;
@@ -15,11 +16,11 @@ f 1 3 5\nf 3 2 5\nf 2 4 5\nf 4 1 5\nf 3 1 6\nf 2 3 6\nf 4 2 6\nf 1 4 6\n";
 
 // Adds a point where the list is short.
 fn add_point(points: &mut Points, place: (i32, i32, i32)) -> Result<(), OutOfMemory>
-    requires { length points.old.items ≤ 1048576 }
-    ensures { length points.new.items ≤ 1048576 }
+    requires { length points.old.items ≤ MOST_VERTICES }
+    ensures { length points.new.items ≤ MOST_VERTICES }
 {
     match Point::new(place.0, place.1, place.2) {
-        Some(point) if points.len() < 1_048_576 => points.push(point),
+        Some(point) if points.len() < MOST_VERTICES as usize => points.push(point),
         _ => Ok(()),
     }
 }

@@ -46,7 +46,7 @@ first_out f p tail clean is =
     ap lines split ∙ lines_whole (open_line f ++ u) (rest ++ tail) front
 
 -- A line's bytes before its LF.
-before_end : (text : List ℕ) → until 10 text ≡ text → until 10 (text ++ 10 ∷ []) ≡ text
+pub before_end : (text : List ℕ) → until 10 text ≡ text → until 10 (text ++ 10 ∷ []) ≡ text
 before_end text clean = until_front 10 text (10 ∷ []) clean ∙ append-nil text
 
 pub comes : (f g : Feeding) (pieces : List (List ℕ)) (ls : List Line) → Feeds f pieces ls g → until 10 (open_line f) ≡ open_line f → Comes f g (concat pieces) ls

@@ -9,13 +9,14 @@ use Rattle.pm_base.specs.Meshes.{Mesh, IsFace, IsWellFormed}
 use Rattle.pm_base.specs.Canonical.{point_line, corner_line, canonical_text}
 use Rattle.obj_lines.specs.Text.{until, lines, content}
 use Rattle.obj_lines.proofs.TextLaws.{lines_whole}
+use Rattle.obj_lines.proofs.CutLaws.{before_end}
 use Rattle.obj_read.specs.declared.found.Found.{Found}
 use Rattle.obj_read.specs.declared.found.Found.TheVariants as found
 use Rattle.obj_read.specs.Judged.{line_found}
 use Rattle.obj_read.specs.Fits.{with_found}
 use Rattle.obj_read.specs.Meaning.{SoFar, nothing_yet, and_line, then_lines, meaning_from, meaning_of}
 use Rattle.obj_read.specs.Texts.{CanonicalIsRead}
-use Rattle.obj_read.proofs.JudgeLaws.{judged_line, before_end}
+use Rattle.obj_read.proofs.JudgeLaws.{judged_line}
 use Rattle.obj_read.proofs.LineLaws.{IsWritten, point_written, face_written}
 
 -- This text makes this mesh of what stands before it, whatever lines follow.

@@ -131,10 +131,8 @@ pub fn finish(digits: u32, mesh: Mesh, lines: Lines, progress: Progress) -> Resu
     match lines.finish() {
         LineState::Partial | LineState::TooLong => Ok(mesh),
         LineState::Whole | LineState::Continued => {
-            match take_line(&mut mesh, digits, lines.line(), progress.number) {
-                Ok(()) => Ok(mesh),
-                Err(fail) => Err(fail),
-            }
+            take_line(&mut mesh, digits, lines.line(), progress.number)?;
+            Ok(mesh)
         }
     }
 }

@@ -3,11 +3,11 @@ use Rattle.std.proofs.Common.{◌≡◌, ℕ, ◌+◌, ◌<◌, ◌≤◌, min, 
 use Rattle.std.proofs.lemmas.Bool.{le-ltb, lt-ltb}
 use Rattle.obj_lines.specs.Text.{until, lines, content, is_continued}
 use Rattle.obj_lines.proofs.TextLaws.{until_front, lines_whole, First, first_line}
+use Rattle.obj_lines.proofs.CutLaws.{before_end}
 use Rattle.obj_read.specs.declared.fault.ObjFault.{ObjFault}
 use Rattle.obj_read.specs.declared.fault.ObjFault.TheVariants as faults
 use Rattle.obj_read.specs.Fails.{IsRefusal}
 use Rattle.obj_read.specs.Meaning.{Refused, place}
-use Rattle.obj_read.proofs.JudgeLaws.{before_end}
 use Rattle.obj_scan.specs.Judged.{Scanned, Found, line_found}
 use Rattle.obj_scan.specs.Meaning.{SoFar, joined_text, first_number, and_continued, and_line, judged_length, judged, then_lines, meaning_from}
 use Rattle.obj_scan.specs.Reading.{Held, after_lines, scanned_after, taken}

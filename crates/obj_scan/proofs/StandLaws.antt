@@ -5,9 +5,9 @@ use Rattle.std.proofs.lemmas.List.{take-append-drop}
 use Rattle.pm_io.proofs.Known.{loses_both, loses_none}
 use Rattle.obj_lines.specs.Text.{until, lines, content}
 use Rattle.obj_lines.proofs.TextLaws.{lines_whole}
+use Rattle.obj_lines.proofs.CutLaws.{before_end}
 use Rattle.obj_read.specs.declared.fault.ObjFault.{ObjFault}
 use Rattle.obj_read.specs.Fails.{IsRefusal, NotReached}
-use Rattle.obj_read.proofs.JudgeLaws.{before_end}
 use Rattle.obj_scan.specs.Meaning.{SoFar, meaning_from, meaning_of, nothing_yet}
 use Rattle.obj_scan.specs.Reading.{Held, StandsAt, after_lines, taken}
 use Rattle.obj_scan.specs.Fails.{FailsBefore}

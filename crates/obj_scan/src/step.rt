@@ -96,10 +96,8 @@ pub fn finish(scanner: Scanner, lines: Lines, progress: Progress) -> Result<Scan
     match lines.finish() {
         LineState::Partial | LineState::TooLong => end(scanner, progress.number),
         LineState::Whole | LineState::Continued => {
-            match scanner.take_line(lines.line(), progress.number) {
-                Ok(()) => end(scanner, progress.number + 1),
-                Err(fail) => Err(fail),
-            }
+            scanner.take_line(lines.line(), progress.number)?;
+            end(scanner, progress.number + 1)
         }
     }
 }

@@ -3,6 +3,10 @@ use Rattle.std.proofs.Common.{◌≡◌, ◌≢◌, ℕ, zero, suc, ◌+◌, ◌
 use Rattle.std.proofs.lemmas.Bool.{eqb-true, eq-eqb, ne_eqb, cases_eq, cases_Bool, both_ways, false≢true, or_cases, or_left, or_right, false_from_ne_true}
 use Rattle.pm_base.specs.Counts.{one_if, count}
 
+pub one_if-le : (b : Bool) → one_if b ≤ 1
+one_if-le true = omega arith
+one_if-le false = omega arith
+
 pub count-true : (p : ℕ → Bool) (n : ℕ) → p n ≡ true → count p (suc n) ≡ suc (count p n)
 unfolding count
 count-true p n e = let h : one_if (p n) + count p n ≡ 1 + count p n = ap (λ b. one_if b + count p n) e in omega arith

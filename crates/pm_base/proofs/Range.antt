@@ -1,9 +1,9 @@
 -- How far from 0 products and normals can be.
-use Rattle.std.proofs.Common.{ℕ, ◌*◌, ◌^◌, ◌<◌, ◌≤◌, FitsSigned, arith}
+use Rattle.std.proofs.Common.{◌≡◌, ℕ, ◌*◌, ◌^◌, ◌<◌, ◌≤◌, FitsSigned, w32, to_z, of_z, arith}
 use mir.Syntax.{w128}
 use Rattle.std.specs.Prelude.{ℤ, ◌-ℤ◌, ◌*ℤ◌, unsigned_abs}
 use Rattle.std.proofs.lemmas.Nat.{mul-le}
-use Rattle.std.proofs.lemmas.Int.{unsigned_abs-mul, fits_signed_from_abs}
+use Rattle.std.proofs.lemmas.Int.{unsigned_abs-mul, to_z-of_z, fits_signed_from_abs}
 use Rattle.pm_base.specs.Place.{Place, IsPlace}
 use Rattle.pm_base.specs.Geometry.{IsNormal, cross_of}
 use Rattle.pm_base.proofs.Squares.{abs_minus}
@@ -29,6 +29,10 @@ cross_small a b c p q r =
       minor_small (b.z -ℤ a.z) (b.x -ℤ a.x) (c.z -ℤ a.z) (c.x -ℤ a.x) bz bx cz cx,
       minor_small (b.x -ℤ a.x) (b.y -ℤ a.y) (c.x -ℤ a.x) (c.y -ℤ a.y) bx by cx cy,
     )
+
+-- A coordinate stands in 32 bits.
+pub coordinate_kept : (x : ℤ) → unsigned_abs x ≤ 32767 → to_z w32 (of_z w32 x) ≡ x
+coordinate_kept x p = to_z-of_z w32 x (fits_signed_from_abs w32 x (omega arith))
 
 pub fits_abs : (x : ℤ) (m : ℕ) → unsigned_abs x ≤ m → m < 2 ^ 127 → FitsSigned w128 x
 fits_abs x m p q = fits_signed_from_abs w128 x (omega arith)

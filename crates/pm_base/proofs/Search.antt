@@ -1,6 +1,7 @@
 -- Searches and decisions over the numbers below a bound.
 use Rattle.std.proofs.Common.{◌≡◌, ◌≢◌, ℕ, zero, suc, ◌<◌, Bool, true, Option, Some, None, ◌⊎◌, inl, inr, refl, sym, ◌∙◌, subst, arith}
-use Rattle.std.proofs.lemmas.Bool.{cases_Bool, cases_eq, both_ways, cond-true, cond-false}
+use Rattle.std.specs.Option.{is_none}
+use Rattle.std.proofs.lemmas.Bool.{false≢true, cases_Bool, cases_eq, both_ways, cond-true, cond-false}
 use Rattle.std.proofs.lemmas.Option.{none-some, same_Some}
 use Rattle.pm_base.specs.Sides.{find_below}
 
@@ -26,6 +27,10 @@ find_below-has p (suc n) g l e =
 pub option_cases : (r : Option ℕ) → (r ≡ None) ⊎ ((k : ℕ) × (r ≡ Some k))
 option_cases None = inl refl
 option_cases (Some k) = inr (k, refl)
+
+pub none_from : (r : Option ℕ) → is_none r ≡ true → r ≡ None
+none_from None t = refl
+none_from (Some k) t = absurd (false≢true t)
 
 abbrev pub Decided : Type 0 → Type 0
 Decided P = P ⊎ (P → ⊥)

@@ -3,9 +3,10 @@ use Rattle.std.proofs.Common.{◌≡◌, ◌≢◌, ℕ, ◌*◌, ◌<◌, eqb, 
 use Rattle.std.proofs.lemmas.Bool.{eq-eqb, ne_eqb, cases_eq, cases_Bool, cond-true, cond-false}
 use Rattle.std.proofs.lemmas.Option.{none-some, same_Some}
 use Rattle.pm_base.specs.Sides.{face_of, next}
+use Rattle.pm_base.proofs.Sides.{face_of-next}
 use Rattle.pm_forest.specs.Forest.{Hierarchy}
 use Rattle.pm_forest.specs.Faces.{face_count, revealed_by, inner_of, record_of}
-use Rattle.pm_forest.proofs.Sides.{next-face, next-differs, next_next-differs, inner-face, three_sides}
+use Rattle.pm_forest.proofs.Sides.{next-differs, next_next-differs, inner-face, three_sides}
 use Rattle.pm_beyond.specs.Walks.{IsOuter, across_at, across}
 
 module _ (h : Hierarchy) where
@@ -51,8 +52,8 @@ module _ (h : Hierarchy) where
       let c = across_cases e o a in
       let i = inner_of h c.0 (face_of e) in
       let f = inner-face h c.0 (face_of e) in
-      let p = next-face i in
-      let q = next-face (next i) in
+      let p = face_of-next i in
+      let q = face_of-next (next i) in
       elim c.2 [ inl d ↦ (rw d.1 (q ∙ p ∙ f)) | inr d ↦ (rw d.1 (p ∙ f)) ]
 
   pub across-is_outer : (e o : ℕ) → across h e ≡ Some o → (k : ℕ) × IsOuter h k e × IsOuter h k o

@@ -2,11 +2,11 @@
 use Rattle.std.proofs.Common.{◌≡◌, ℕ, ◌*◌, ◌<◌, Bool, false, Option, Some, inl, inr, sym, ap, ◌∙◌, subst, arith}
 use Rattle.std.proofs.lemmas.Option.{same_Some}
 use Rattle.pm_base.specs.Sides.{face_of, next}
+use Rattle.pm_base.proofs.Sides.{next-next-next}
 use Rattle.pm_forest.specs.Forest.{Hierarchy}
 use Rattle.pm_forest.specs.Fronts.{ancestor_of}
 use Rattle.pm_forest.specs.Faces.{face_count, from_leaf, to_leaf, inner_of, IsForest}
 use Rattle.pm_forest.specs.Kept.{is_shown}
-use Rattle.pm_forest.proofs.Sides.{next-cycle}
 use Rattle.pm_forest.proofs.Ends.{inner-joined}
 use Rattle.pm_forest.proofs.Shown.{hidden-parts}
 use Rattle.pm_beyond.specs.Walks.{across, Reaches, here, past}
@@ -25,8 +25,8 @@ module _ (h : Hierarchy) (shape : IsForest h) where
       let j = inner-joined h shape T k (face_of c) (omega arith) p.1 (subst (λ n. T n ≡ false) same q.2) in
       let up : ℕ → ℕ = λ e. ancestor_of h T (from_leaf h e) in
       elim p.2 [
-        | inl a ↦ (ap up (a.1 ∙ ap next (sym a.0)), ap (λ e. up (next e)) a.1 ∙ ap up (next-cycle i) ∙ j ∙ ap up (sym a.0))
-        | inr a ↦ (ap up a.1 ∙ sym j ∙ ap up (sym (next-cycle i)) ∙ ap (λ e. up (next e)) (sym a.0), ap (λ e. up (next e)) a.1 ∙ ap up (sym a.0))
+        | inl a ↦ (ap up (a.1 ∙ ap next (sym a.0)), ap (λ e. up (next e)) a.1 ∙ ap up (next-next-next i) ∙ j ∙ ap up (sym a.0))
+        | inr a ↦ (ap up a.1 ∙ sym j ∙ ap up (sym (next-next-next i)) ∙ ap (λ e. up (next e)) (sym a.0), ap (λ e. up (next e)) a.1 ∙ ap up (sym a.0))
       ]
 
   -- The ends of a side are carried along a walk, the other way round.

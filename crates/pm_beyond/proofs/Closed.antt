@@ -5,6 +5,7 @@ use Rattle.std.proofs.lemmas.Bool.{cases_lt, cases_eq, both_ways}
 use Rattle.std.proofs.lemmas.Option.{same_Some}
 use Rattle.pm_base.specs.Sides.{face_of, next}
 use Rattle.pm_base.proofs.Search.{option_cases}
+use Rattle.pm_base.proofs.Sides.{next-next-next}
 use Rattle.pm_forest.specs.Forest.{Hierarchy, record_count, leaf_count, s_of, t_of, u_of, Makes, Holds}
 use Rattle.pm_forest.specs.Fronts.{IsActive, ancestor_of, below, with, without}
 use Rattle.pm_forest.specs.Faces.{face_count, revealed_by, from_leaf, to_leaf, inner_of, record_of, IsForest}
@@ -12,7 +13,7 @@ use Rattle.pm_forest.specs.Rules.{HasShape}
 use Rattle.pm_forest.proofs.Nodes.{has_maker, holds-s_from_t, holds-s_from_u, makes_once}
 use Rattle.pm_forest.proofs.Ancestors.{holds-ancestor_of, ancestor_of-unique, deep, below-front, last_child-active}
 use Rattle.pm_forest.proofs.OneStep.{with-cases, with-same, with-from, without-parts, without-from}
-use Rattle.pm_forest.proofs.Sides.{next-cycle, inner-face, three_sides}
+use Rattle.pm_forest.proofs.Sides.{inner-face, three_sides}
 use Rattle.pm_forest.proofs.Ends.{t_first, u_first, next-lt, inner_ends}
 use Rattle.pm_forest.proofs.Shown.{shown_record, shown_base}
 use Rattle.pm_forest.proofs.ShapeLaws.{shape_of_nodes, shape_is_forest}
@@ -44,7 +45,7 @@ outer_end h shape j e l outer =
                   | u_first p q ↦ from_end (t_of h j) (inl refl) (rw a q)
                 ]
             | inr a ↦
-                let turn : next e ≡ i = ap next a ∙ next-cycle i in
+                let turn : next e ≡ i = ap next a ∙ next-next-next i in
                 elim ends [
                   | t_first p q ↦ to_end (t_of h j) (inl refl) (rw turn p)
                   | u_first p q ↦ to_end (u_of h j) (inr refl) (rw turn p)

@@ -1,27 +1,11 @@
 -- Members of a list of numbers, and lists in which no number stands twice.
 use Rattle.std.proofs.Common.{◌≡◌, ℕ, ◌++◌, eqb, true, false, Bool, List, [], ◌∷◌, ◌⊎◌, inl, inr, refl, sym, subst}
-use Rattle.std.specs.List.{IsDistinct, AllByRecursion, list_any, All}
-use Rattle.std.proofs.lemmas.Bool.{eqb-true, eq-eqb, cases_Bool, false≢true, or_cases, or_left, or_right, or_parts}
+use Rattle.std.specs.List.{AllByRecursion, list_any, All}
+use Rattle.std.proofs.lemmas.Bool.{eqb-true, eq-eqb, false≢true, or_cases, or_left, or_right}
 use Rattle.std.proofs.lemmas.List.Elements.{recursion_from_All}
 
 abbrev pub In : ℕ → List ℕ → Type 0
 In q xs = list_any (eqb q) xs ≡ true
-
-none_equal : (q : ℕ) (xs : List ℕ) → list_any (eqb q) xs ≡ false → AllByRecursion (λ y. eqb q y ≡ false) xs
-none_equal q [] e = tt
-none_equal q (x ∷ xs) e = let p = or_parts (eqb q x) (list_any (eqb q) xs) e in (p.0, none_equal q xs p.1)
-
-pub distinct_more : (q : ℕ) (xs : List ℕ) → IsDistinct eqb xs → (In q xs → ⊥) → IsDistinct eqb (q ∷ xs)
-unfolding IsDistinct
-distinct_more q xs d n =
-    elim (cases_Bool (list_any (eqb q) xs)) [
-      | inl e ↦ absurd (n e)
-      | inr e ↦ (none_equal q xs e, d)
-    ]
-
-pub distinct_nil : IsDistinct eqb []
-unfolding IsDistinct
-distinct_nil = tt
 
 pub in-here : (x : ℕ) (xs : List ℕ) → In x (x ∷ xs)
 in-here x xs = or_left (eqb x x) (list_any (eqb x) xs) (eq-eqb x x refl)

@@ -7,12 +7,13 @@ use Rattle.std.proofs.lemmas.Option.{none-some, same_Some, cond_some}
 use Rattle.pm_base.specs.declared.ids.Side.{Side}
 use Rattle.pm_base.specs.Sides.{face_of, next}
 use Rattle.pm_base.specs.Counts.{one_if}
+use Rattle.pm_base.proofs.Sides.{face_of-next}
 use Rattle.pm_forest.specs.declared.parts.NewFace.{NewFace}
 use Rattle.pm_forest.specs.Forest.{Hierarchy, record_at, record_count}
 use Rattle.pm_forest.specs.Faces.{no_face, first_face, face_count, revealed_by, is_left, new_face, inner_of, record_of}
 use Rattle.pm_forest.specs.Moves.{side_in, neighbours_in, neighbours_of}
 use Rattle.pm_forest.specs.Rules.{HasShape}
-use Rattle.pm_forest.proofs.Sides.{next-face, next-differs, next_next-differs, inner-face, three_sides}
+use Rattle.pm_forest.proofs.Sides.{next-differs, next_next-differs, inner-face, three_sides}
 use Rattle.pm_forest.proofs.FaceNumbers.{first_face-mono, revealed-parts, revealed-from, record-lt, which_face}
 use Rattle.pm_forest.proofs.FaceLimits.{neighbours_of-older}
 use Rattle.pm_beyond.specs.Walks.{IsInner, IsOuter, number_of, mate_of, expected_at, expected}
@@ -58,7 +59,7 @@ module _ (h : Hierarchy) where
   first_expected k f own =
       let i = inner_of h k f in
       let e = next i in
-      let face : face_of e ≡ f = next-face i ∙ inner-face h k f in
+      let face : face_of e ≡ f = face_of-next i ∙ inner-face h k f in
       let r : record_of h e ≡ Some k = ap (λ g. revealed_by h g) face ∙ own in
       ap (expected_at h e) r
       ∙ ap (λ g. cond (eqb e (inner_of h k g)) (mate_of h k g) (cond (eqb e (next (inner_of h k g))) (number_of (new_face h k g).first) (number_of (new_face h k g).second))) face
@@ -70,7 +71,7 @@ module _ (h : Hierarchy) where
   second_expected k f own =
       let i = inner_of h k f in
       let e = next (next i) in
-      let face : face_of e ≡ f = next-face (next i) ∙ next-face i ∙ inner-face h k f in
+      let face : face_of e ≡ f = face_of-next (next i) ∙ face_of-next i ∙ inner-face h k f in
       let r : record_of h e ≡ Some k = ap (λ g. revealed_by h g) face ∙ own in
       ap (expected_at h e) r
       ∙ ap (λ g. cond (eqb e (inner_of h k g)) (mate_of h k g) (cond (eqb e (next (inner_of h k g))) (number_of (new_face h k g).first) (number_of (new_face h k g).second))) face
@@ -135,8 +136,8 @@ module _ (h : Hierarchy) where
       let own = revealed-from h f k l low high in
       let top = first_face-mono h (suc k) (record_count h) l in
       let face = inner-face h k f in
-      let second = next-face i ∙ face in
-      let third = next-face (next i) ∙ second in
+      let second = face_of-next i ∙ face in
+      let third = face_of-next (next i) ∙ second in
       elim (in-append b (side_in n.first) (side_in n.second) there) [
         | inl a ↦ record {
           side = next i;

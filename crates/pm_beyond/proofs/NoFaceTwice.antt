@@ -10,12 +10,12 @@ use Rattle.pm_forest.specs.Fronts.{IsFront}
 use Rattle.pm_forest.specs.Faces.{face_count, IsForest}
 use Rattle.pm_forest.specs.Kept.{is_shown}
 use Rattle.pm_forest.proofs.Shown.{shown-apart}
+use Rattle.pm_forest.proofs.OneToOne.{distinct_more, distinct_nil}
 use Rattle.pm_beyond.specs.Walks.{leaf_net, leaf_twin, across, Reaches, here, past, StopsAt, crossed}
 use Rattle.pm_beyond.proofs.Twins.{twin-is}
 use Rattle.pm_beyond.proofs.Across.{across_back, across-is_outer, two_outer}
 use Rattle.pm_beyond.proofs.Reaching.{stops_at, back, Beyond-unique}
 use Rattle.pm_beyond.proofs.Carried.{ends-carried}
-use Rattle.pm_beyond.proofs.Distinct.{distinct_more, distinct_nil}
 
 module _ (h : Hierarchy) (shape : IsForest h) (once : NoSideTwice (leaf_net h)) (T : ℕ → Bool) where
   -- Two walks from one side are equally long.

@@ -5,10 +5,11 @@ use Rattle.std.proofs.lemmas.Bool.{eqb-true, eq-eqb, cases_Bool, cond-true, cond
 use Rattle.std.proofs.lemmas.Option.{none-some}
 use Rattle.pm_base.specs.Sides.{face_of, next}
 use Rattle.pm_base.specs.Counts.{one_if}
+use Rattle.pm_base.proofs.Sides.{face_of-next}
 use Rattle.pm_forest.specs.Forest.{Hierarchy, record_at, record_count, s_of, maker_of}
 use Rattle.pm_forest.specs.Faces.{first_face, face_count, revealed_by, inner_of, record_of}
 use Rattle.pm_forest.proofs.Nodes.{maker_of-makes, maker_of-from}
-use Rattle.pm_forest.proofs.Sides.{next-face, next-differs, next_next-differs, inner-face, three_sides}
+use Rattle.pm_forest.proofs.Sides.{next-differs, next_next-differs, inner-face, three_sides}
 use Rattle.pm_forest.proofs.FaceNumbers.{which_face, first_face-mono, revealed-from}
 use Rattle.pm_beyond.specs.Walks.{IsOuter, expected}
 use Rattle.pm_beyond.specs.Moves.{Needs, as_maker, as_neighbour, outer_pair, outer_sides, is_at, record_beyond, needs}
@@ -19,8 +20,8 @@ module _ (h : Hierarchy) where
   pair-is k f e i =
       let n = inner_of h k f in
       let face = inner-face h k f in
-      let a = next-face n in
-      let b = next-face (next n) in
+      let a = face_of-next n in
+      let b = face_of-next (next n) in
       elim (or_cases (eqb e (next n)) (list_any (eqb e) (next (next n) ∷ [])) i) [
         | inl q ↦ (let is = eqb-true e (next n) q in (ap face_of is ∙ a ∙ face, λ z. next-differs n (sym is ∙ z)))
         | inr r ↦

@@ -9,6 +9,10 @@ use Rattle.pm_forest.specs.Fronts.{with, without}
 use Rattle.pm_forest.proofs.OneStep.{with-cases, with-same, with-from, without-parts, without-from}
 use Rattle.pm_beyond.specs.Plans.{Move, Split, Collapse, moved, moved_by, AreLegal, ascending, descending, less, differs, plan}
 
+-- Two tests of which each passes where the other does are the same.
+pub same_bools : (a b : Bool) → (a ≡ true → b ≡ true) → (b ≡ true → a ≡ true) → a ≡ b
+same_bools a b f g = elim (cases_Bool a) [ inl t ↦ t ∙ sym (f t) | inr t ↦ t ∙ sym (false_from_ne_true b (λ u. both_ways _ t (g u))) ]
+
 -- Some moves and then some more
 
 pub moved_by-append : (T : ℕ → Bool) (xs ys : List Move) → moved_by T (xs ++ ys) ≡ moved_by (moved_by T xs) ys
@@ -209,14 +213,11 @@ module _ (S G : ℕ → Bool) where
         | inr t ↦ subst (Rises (suc n)) (ap (moved_by S) (sym (ascending-false Split (less G S) n t))) (rise-skip n (moved_by S before) (rises n) t)
       ]
 
-  same_test : (a b : Bool) → (a ≡ true → b ≡ true) → (b ≡ true → a ≡ true) → a ≡ b
-  same_test a b f g = elim (cases_Bool a) [ inl t ↦ t ∙ sym (f t) | inr t ↦ t ∙ sym (false_from_ne_true b (λ u. both_ways _ t (g u))) ]
-
   -- and the collapses from there to G.
   pub falls : (top n : ℕ) (T : ℕ → Bool) → Falls top n T → (j : ℕ) → j < top → moved_by T (descending Collapse (less S G) n) j ≡ G j
   falls top zero T f j l =
       ap (λ ms. moved_by T ms j) (descending-zero Collapse (less S G))
-      ∙ same_test (T j) (G j) (λ t. elim (f.only j l t) [ inl g ↦ g | inr s ↦ (let m = s.1 in absurd (omega arith)) ]) (λ g. f.all j l (inl g))
+      ∙ same_bools (T j) (G j) (λ t. elim (f.only j l t) [ inl g ↦ g | inr s ↦ (let m = s.1 in absurd (omega arith)) ]) (λ g. f.all j l (inl g))
   falls top (suc n) T f j l =
       elim (cases_Bool (less S G n)) [
         | inl t ↦ ap (λ ms. moved_by T ms j) (descending-true Collapse (less S G) n t) ∙ falls top n (without T n) (fall-collapse top n T f t) j l

@@ -3,11 +3,9 @@ use Rattle.std.proofs.Common.{◌≡◌, ◌≢◌, ℕ, zero, suc, ◌<◌, Boo
 use Rattle.std.proofs.lemmas.Bool.{cases_Bool, cases_eq, and_left, and_right, not_from_true, cond-true, cond-false, eq-eqb, ne_eqb}
 use Rattle.pm_forest.specs.Forest.{Hierarchy, record_count}
 use Rattle.pm_forest.specs.Fronts.{with, without}
+use Rattle.pm_forest.proofs.OneStep.{with-same}
 use Rattle.pm_beyond.specs.Plans.{Move, Split, Collapse, moved, moved_by, ascending, descending, less, plan}
 use Rattle.pm_beyond.proofs.PlanLists.{ascending-zero, ascending-true, ascending-false, descending-zero, descending-true, descending-false, less-parts}
-
-with-at : (T : ℕ → Bool) (k : ℕ) → with T k k ≡ true
-with-at T k = cond-true _ true (T k) (eq-eqb k k refl)
 
 with-other : (T : ℕ → Bool) (k j : ℕ) → j ≢ k → with T k j ≡ T j
 with-other T k j n = cond-false _ true (T j) (ne_eqb j k n)
@@ -150,7 +148,7 @@ module _ (S G : ℕ → Bool) (k : ℕ) where
   split_less : (j : ℕ) → less G (with S k) j ≡ without (less G S) k j
   split_less j =
       elim (cases_eq j k) [
-        | inl is ↦ subst (λ i. less G (with S k) i ≡ without (less G S) k i) (sym is) (and_right (G k) (not (with S k k)) (not_from_true (with S k k) (with-at S k)) ∙ sym (without-at (less G S) k))
+        | inl is ↦ subst (λ i. less G (with S k) i ≡ without (less G S) k i) (sym is) (and_right (G k) (not (with S k k)) (not_from_true (with S k k) (with-same S k)) ∙ sym (without-at (less G S) k))
         | inr n ↦ (rw (with-other S k j n) (sym (without-other (less G S) k j n)))
       ]
 

@@ -35,7 +35,8 @@ walk_counts f n t a o l e = let m : n - t ≡ suc (n - (t + 1)) = omega arith in
 pub walk_over : (f : ℕ → Option ℕ) (n t a : ℕ) → n ≤ t → walk f (n - t) a ≡ a
 walk_over f n t a l = let m : n - t ≡ 0 = omega arith in rw m (walk_zero f a)
 
-walk-along : (f : ℕ → Option ℕ) (a l : ℕ) → IsTrail f a l → f (after_steps f a l) ≡ None → (m i : ℕ) → i ≤ l → l ≤ i + m → walk f m (after_steps f a i) ≡ after_steps f a l
+-- A walk along a trail to its end.
+pub walk-along : (f : ℕ → Option ℕ) (a l : ℕ) → IsTrail f a l → f (after_steps f a l) ≡ None → (m i : ℕ) → i ≤ l → l ≤ i + m → walk f m (after_steps f a i) ≡ after_steps f a l
 walk-along f a l t e zero i low high = let is : i ≡ l = omega arith in walk_zero f (after_steps f a i) ∙ ap (after_steps f a) is
 walk-along f a l t e (suc m) i low high =
     elim (cases_eq i l) [

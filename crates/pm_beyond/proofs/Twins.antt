@@ -3,13 +3,13 @@ use Rattle.std.proofs.Common.{◌≡◌, ◌≢◌, ℕ, ◌*◌, ◌<◌, true,
 use Rattle.pm_base.specs.Sides.{next, Stands, NoSideTwice}
 use Rattle.pm_base.proofs.Search.{option_cases}
 use Rattle.pm_base.proofs.TwinLaws as twins
+use Rattle.pm_base.proofs.Sides.{next-next-next}
 use Rattle.pm_forest.specs.Forest.{Hierarchy}
 use Rattle.pm_forest.specs.Fronts.{every, ancestor_of}
 use Rattle.pm_forest.specs.Faces.{face_count, from_leaf, to_leaf, record_of, IsForest}
 use Rattle.pm_forest.specs.Kept.{is_shown}
 use Rattle.pm_forest.proofs.Ancestors.{every-front}
 use Rattle.pm_forest.proofs.Ends.{next-lt}
-use Rattle.pm_forest.proofs.Sides.{next-cycle}
 use Rattle.pm_forest.proofs.Shown.{shown-apart, shown_base, shown_record}
 use Rattle.pm_beyond.specs.Walks.{leaf_net, leaf_twin}
 
@@ -29,7 +29,7 @@ side-stands h shape e l =
       is_side = l;
       first = leaves_apart h shape e l;
       second = leaves_apart h shape (next e) m;
-      last = λ is. leaves_apart h shape (next (next e)) n (is ∙ ap (from_leaf h) (sym (next-cycle e)));
+      last = λ is. leaves_apart h shape (next (next e)) n (is ∙ ap (from_leaf h) (sym (next-next-next e)));
     }
 
 pub twin-is : (h : Hierarchy) (e g : ℕ) → leaf_twin h e ≡ Some g → (from_leaf h g ≡ to_leaf h e) × (to_leaf h g ≡ from_leaf h e) × (g < 3 * face_count h)

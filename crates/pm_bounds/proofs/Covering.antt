@@ -11,6 +11,7 @@ use Rattle.pm_base.specs.Rounded.{distance_of}
 use Rattle.pm_base.specs.Sides.{face_of}
 use Rattle.pm_base.proofs.Root.{root_up_is}
 use Rattle.pm_base.proofs.Lengths.{distances_le}
+use Rattle.pm_base.proofs.Search.{option_cases}
 use Rattle.pm_forest.specs.declared.parts.Face.{Face}
 use Rattle.pm_forest.specs.Forest.{Hierarchy, record_count, node_count, s_of, t_of, u_of, holds, Holds, Makes, splitter_of, HasForestShape}
 use Rattle.pm_forest.specs.Faces.{faces_of, face_count, corners_of, from_leaf, no_corners}
@@ -20,7 +21,7 @@ use Rattle.pm_forest.specs.Tables.{leaf_node_of}
 use Rattle.pm_forest.proofs.Corners.{which_corner, corner_a, corner_b, corner_c}
 use Rattle.pm_forest.proofs.HierarchyLaws.{unsplit-single}
 use Rattle.pm_forest.proofs.LeafNodes.{leaf_node-unsplit}
-use Rattle.pm_forest.proofs.Nodes.{splitter_of-splits, none_or_some, holds-u_from_s}
+use Rattle.pm_forest.proofs.Nodes.{splitter_of-splits, holds-u_from_s}
 use Rattle.pm_forest.proofs.ShapeLaws.{shape_of_nodes}
 use Rattle.pm_bounds.specs.declared.normal_box.NormalBox.{NormalBox}
 use Rattle.pm_bounds.specs.Boxes.{joined, join, zero_box}
@@ -76,12 +77,12 @@ module _ (h : Hierarchy) (shape : HasShape h) where
   up_in : (P : ℕ → Type 0) → ((v : ℕ) → v < node_count h → splitter_of h v ≡ None → P v) → ((k : ℕ) → k < record_count h → P (t_of h k) → P (u_of h k) → P (s_of h k)) →
       (n k v : ℕ) → record_count h ≤ n + k → DoneFrom h k v → v < node_count h → P v
   up_in P leaf split zero k v enough low l =
-      elim (none_or_some (splitter_of h v)) [
+      elim (option_cases (splitter_of h v)) [
         | inl none ↦ leaf v l none
         | inr (j, e) ↦ (let p = (splitter_of-splits h j v e).1 in let q = low j e in absurd (omega arith))
       ]
   up_in P leaf split (suc n) k v enough low l =
-      elim (none_or_some (splitter_of h v)) [
+      elim (option_cases (splitter_of h v)) [
         | inl none ↦ leaf v l none
         | inr (j, e) ↦
             let p = splitter_of-splits h j v e in

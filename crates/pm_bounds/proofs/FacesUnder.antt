@@ -3,7 +3,7 @@ use Rattle.std.proofs.Common.{◌≡◌, ℕ, suc, ◌+◌, ◌*◌, ◌<◌, tr
 use Rattle.std.proofs.lemmas.Bool.{cases_Bool, or_left, or_right, or_parts, cond-true, cond-false, both_ways}
 use Rattle.pm_base.specs.Counts.{one_if}
 use Rattle.pm_base.specs.Sides.{face_of, next}
-use Rattle.pm_forest.proofs.Sides.{next-face}
+use Rattle.pm_base.proofs.Sides.{face_of-next}
 use Rattle.pm_forest.specs.Forest.{Hierarchy, record_at, record_count, t_of, u_of, holds, Holds, Makes}
 use Rattle.pm_forest.specs.Faces.{faces_of, first_face, face_count, revealed_by, is_left, corners_of, from_leaf, inner_of, no_corners}
 use Rattle.pm_forest.specs.Rules.{HasShape, head_is_bad, split_is_bad, presence_is_bad, head_fault, head_of}
@@ -81,7 +81,7 @@ module _ (h : Hierarchy) (shape : HasShape h) where
       let own : revealed_by h f ≡ Some k = revealed-from h f k l (omega arith) more in
       let i = inner_of h k f in
       let at = inner_face h k f in
-      let at_next : face_of (next i) ≡ f = next-face i ∙ at in
+      let at_next : face_of (next i) ≡ f = face_of-next i ∙ at in
       elim (cases_Bool (is_left h k f)) [
         | inl left ↦
             let ends = (shape_of_faces h shape).left f k (omega arith) own left in

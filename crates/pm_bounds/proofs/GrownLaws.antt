@@ -2,10 +2,11 @@
 use Rattle.std.proofs.Common.{◌≡◌, ℕ, zero, suc, ◌+◌, ◌*◌, ◌<◌, ◌≤◌, ◌-◌, ◌||◌, List, length, map, get_or, set, length-set, Option, None, Some, IfSome, inl, inr, refl, sym, ap, subst, ◌∙◌, arith}
 use Rattle.std.proofs.lemmas.Bool.{cases_eq}
 use Rattle.std.proofs.lemmas.List.{get_or-set_same, get_or-set_other}
+use Rattle.pm_base.proofs.Search.{option_cases}
 use Rattle.pm_forest.specs.Forest.{Hierarchy, record_count, node_count, s_of, t_of, u_of, splitter_of, HasForestShape}
 use Rattle.pm_forest.specs.Faces.{faces_of}
 use Rattle.pm_forest.specs.Rules.{HasShape}
-use Rattle.pm_forest.proofs.Nodes.{splitter_of-splits, splitter_of-s, none_or_some}
+use Rattle.pm_forest.proofs.Nodes.{splitter_of-splits, splitter_of-s}
 use Rattle.pm_forest.proofs.ShapeLaws.{shape_of_nodes}
 use Rattle.pm_bounds.specs.declared.normal_box.NormalBox.{NormalBox}
 use Rattle.pm_bounds.specs.Boxes.{join, box_of, IsSmallBox}
@@ -46,12 +47,12 @@ module _ (h : Hierarchy) (nodes : HasForestShape h) where
     -- for them.
     steady : (n k v : ℕ) → record_count h ≤ n + k → DoneFrom h k v → grown_in h leaf (suc n) v ≡ grown_in h leaf n v
     steady zero k v enough low =
-        elim (none_or_some (splitter_of h v)) [
+        elim (option_cases (splitter_of h v)) [
           | inl none ↦ at_leaf 1 v none ∙ sym (at_leaf 0 v none)
           | inr (j, e) ↦ (let p = (splitter_of-splits h j v e).1 in let q = low j e in absurd (omega arith))
         ]
     steady (suc n) k v enough low =
-        elim (none_or_some (splitter_of h v)) [
+        elim (option_cases (splitter_of h v)) [
           | inl none ↦ at_leaf (suc (suc n)) v none ∙ sym (at_leaf (suc n) v none)
           | inr (j, e) ↦
               let p = (splitter_of-splits h j v e).1 in
@@ -84,7 +85,7 @@ module _ (h : Hierarchy) (shape : HasShape h) (first : List ℕ) where
   pub grown_start : length first ≡ node_count h → ((v : ℕ) → v < node_count h → get_or first v 0 ≤ 113509) → IsGrown h first first (record_count h)
   grown_start len small = record {
     len = len;
-    each = λ leaf own v l done. elim (none_or_some (splitter_of h v)) [
+    each = λ leaf own v l done. elim (option_cases (splitter_of h v)) [
       | inl none ↦ own v l none ∙ sym (grown_at_leaf h nodes leaf v none)
       | inr (j, e) ↦ (let p = (splitter_of-splits h j v e).1 in let q = done j e in absurd (omega arith))
     ];
@@ -151,7 +152,7 @@ module _ (h : Hierarchy) (shape : HasShape h) where
       ((v : ℕ) → v < length first → IfSome (get_or first v None) IsSmallBox) → AreJoined h first (record_count h)
   joined_start first len own small = record {
     len = len;
-    each = λ v l done. elim (none_or_some (splitter_of h v)) [
+    each = λ v l done. elim (option_cases (splitter_of h v)) [
       | inl none ↦ own v l none
       | inr (j, e) ↦ (let p = (splitter_of-splits h j v e).1 in let q = done j e in absurd (omega arith))
     ];

@@ -1,6 +1,7 @@
 //! The bounds of all nodes from those of the leaves: the records are gone through from the last to the first, so that a
 //! node's children have their bounds before it. No call goes down the forest, which can be as deep as it has records.
 ghost use Rattle.std.specs.Prelude.{◌≡◌, ℕ, ◌+◌, ◌*◌, ◌^◌, ◌<◌, ◌≤◌, max, None, length, slice_index_or, slice_set};
+ghost use Rattle.pm_base.specs.declared.limits.TheConstants.{MOST_VERTICES};
 ghost use Rattle.pm_base.specs.Rounded.{distance_of};
 ghost use Rattle.pm_forest.specs.Forest.{node_count, record_count, s_of, t_of, u_of};
 ghost use Rattle.pm_forest.specs.Places.{place_of_node};
@@ -68,8 +69,8 @@ fn from_children(h: &Hierarchy, balls: &[Ball], k: u32) -> Ball
     requires record { k < record_count h.now }
     requires len { length balls.now ≡ node_count h.now }
     requires places { ArePlaces h.now (places_of balls.now) }
-    requires small_errors { (v : ℕ) → v < node_count h.now → slice_index_or (errors_of balls.now) v 0 ≤ 113509 * 1048576 }
-    requires small_radii { (v : ℕ) → v < node_count h.now → slice_index_or (radii_of balls.now) v 0 ≤ 113509 * 1048576 }
+    requires small_errors { (v : ℕ) → v < node_count h.now → slice_index_or (errors_of balls.now) v 0 ≤ 113509 * MOST_VERTICES }
+    requires small_radii { (v : ℕ) → v < node_count h.now → slice_index_or (radii_of balls.now) v 0 ≤ 113509 * MOST_VERTICES }
     ensures place { result.place ≡ place_of_node h.now (s_of h.now k) }
     ensures error { result.error ≡ grown_at h.now (errors_of balls.now) k }
     ensures radius { result.radius ≡ grown_at h.now (radii_of balls.now) k }

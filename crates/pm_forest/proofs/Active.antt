@@ -1,16 +1,17 @@
 -- The test on a node decides whether the node is active.
 use Rattle.std.proofs.Common.{◌≡◌, ℕ, ◌<◌, Bool, true, not, inl, inr, sym, ap, ◌∙◌, arith}
 use Rattle.std.proofs.lemmas.Bool.{both_ways, and_parts, and_from, not-true, not_from_false, false_from_ne_true}
+use Rattle.pm_base.proofs.Search.{option_cases}
 use Rattle.pm_forest.specs.Forest.{Hierarchy, node_count, maker_of, splitter_of, HasForestShape}
 use Rattle.pm_forest.specs.Fronts.{IsActive, made_in, split_in, is_active}
-use Rattle.pm_forest.proofs.Nodes.{maker_of-makes, maker_of-from, maker_of-none, maker_of-root, splitter_of-splits, splitter_of-s, none_or_some}
+use Rattle.pm_forest.proofs.Nodes.{maker_of-makes, maker_of-from, maker_of-none, maker_of-root, splitter_of-splits, splitter_of-s}
 
 module _ (h : Hierarchy) (shape : HasForestShape h) where
   pub is_active-true : (T : ℕ → Bool) (v : ℕ) → v < node_count h → is_active h T v ≡ true → IsActive h T v
   unfolding is_active
   is_active-true T v l e =
       let p = and_parts (made_in T (maker_of h v)) (not (split_in T (splitter_of h v))) e in (
-        elim (none_or_some (maker_of h v)) [
+        elim (option_cases (maker_of h v)) [
           | inl n ↦ inl (maker_of-none h v n)
           | inr (j, m) ↦
               let makes = maker_of-makes h j v m in
@@ -29,7 +30,7 @@ module _ (h : Hierarchy) (shape : HasForestShape h) where
         | inl a ↦ ap (made_in T) (maker_of-root h v a)
         | inr (j, _, t, makes) ↦ ap (made_in T) (maker_of-from h j v makes) ∙ t
       ])
-      (elim (none_or_some (splitter_of h v)) [
+      (elim (option_cases (splitter_of h v)) [
         | inl n ↦ ap (λ r. not (split_in T r)) n
         | inr (k, e) ↦
             let p = splitter_of-splits h k v e in

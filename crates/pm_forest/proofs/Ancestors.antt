@@ -3,10 +3,10 @@
 use Rattle.std.proofs.Common.{◌≡◌, ◌≢◌, ℕ, zero, suc, ◌+◌, ◌<◌, ◌≤◌, eqb, ltb, Bool, true, false, ◌&&◌, List, [], ◌∷◌, length, sum, inl, inr, refl, sym, ap, ◌∙◌, subst, arith}
 use Rattle.std.proofs.lemmas.Bool.{ltb-true, ltb-false, lt-ltb, le-ltb, eqb-true, eq-eqb, and_parts, and_from, cases_eq, cases_Bool, cases_lt, cond-true, cond-false, both_ways}
 use Rattle.std.proofs.lemmas.List.{length-map}
-use Rattle.std.proofs.lemmas.List.Sums.{sum_by-cons}
 use Rattle.pm_forest.specs.Forest.{widths, Hierarchy, record_count, leaf_count, s_of, t_of, u_of, within, root_interval, root_of, interval_after, interval_of, holds, Holds, Makes, node_count, HasForestShape}
 use Rattle.pm_forest.specs.Fronts.{IsFront, IsThere, IsActive, ancestor_after, ancestor_of, every, below}
 use Rattle.pm_forest.proofs.Nodes.{within-true, within-from, holds-s_from_t, holds-s_from_u, holds-u_from_s, not_both, interval-kept, has_maker}
+use Rattle.pm_forest.proofs.OwnerLaws.{sum-cons}
 
 -- The base front, the full front, and the records below a number, of which the last one has active children.
 
@@ -29,9 +29,6 @@ last_child-active h shape j v l makes = (
 )
 
 -- Among roots: the root above a leaf has the leaf in its interval, and no other root has.
-
-sum-cons : (w : ℕ) (ws : List ℕ) → sum (w ∷ ws) ≡ w + sum ws
-sum-cons w ws = sum_by-cons (λ x. x) w ws
 
 root_of-lt : (ws : List ℕ) (start x : ℕ) → start ≤ x → x < start + sum ws → root_of ws start x < length ws
 root_of-lt [] start x a b = absurd (omega arith)

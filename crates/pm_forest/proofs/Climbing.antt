@@ -2,9 +2,10 @@
 -- split to the node of that record. It ends at a root or at a child of a split record, and that is the leaf's ancestor.
 use Rattle.std.proofs.Common.{◌≡◌, ℕ, suc, ◌<◌, ◌≤◌, Bool, true, false, Some, None, length, inl, inr, refl, sym, ap, ◌∙◌, subst, arith}
 use Rattle.std.proofs.lemmas.Bool.{cases_lt}
+use Rattle.pm_base.proofs.Search.{option_cases}
 use Rattle.pm_forest.specs.Forest.{Hierarchy, record_count, node_count, leaf_count, s_of, t_of, Holds, Makes, maker_of, HasForestShape}
 use Rattle.pm_forest.specs.Fronts.{IsFront, made_in, ancestor_after, ancestor_of, every}
-use Rattle.pm_forest.proofs.Nodes.{holds-s_from_t, holds-s_from_u, not_both, has_maker, maker_of-makes, maker_of-none, maker_of-lt, none_or_some}
+use Rattle.pm_forest.proofs.Nodes.{holds-s_from_t, holds-s_from_u, not_both, has_maker, maker_of-makes, maker_of-none, maker_of-lt}
 use Rattle.pm_forest.proofs.Ancestors.{every-front, ancestor-lt, ancestor-at, ancestor-mono, holds-ancestor_of, place-s, place-after, deep, shallow}
 
 module _ (h : Hierarchy) (shape : HasForestShape h) (x : ℕ) (x_lt : x < leaf_count h) where
@@ -143,7 +144,7 @@ module _ (h : Hierarchy) (shape : HasForestShape h) (T : ℕ → Bool) (x : ℕ)
   -- The two ends in one: no maker, or one that is split.
   pub climb_done : IsFront h T → (v : ℕ) → IsAbove h T x v → made_in T (maker_of h v) ≡ true → v ≡ ancestor_of h T x
   climb_done front v above made =
-      elim (none_or_some (maker_of h v)) [
+      elim (option_cases (maker_of h v)) [
         | inl none ↦ climb_root v above none
         | inr (k, e) ↦ climb_end front v k above e (sym (ap (made_in T) e) ∙ made)
       ]

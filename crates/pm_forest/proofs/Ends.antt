@@ -3,11 +3,12 @@
 use Rattle.std.proofs.Common.{◌≡◌, ℕ, ◌*◌, ◌<◌, Bool, false, Some, inl, inr, sym, ap, ◌∙◌, arith}
 use Rattle.std.proofs.lemmas.Bool.{cases_Bool}
 use Rattle.pm_base.specs.Sides.{face_of, next}
+use Rattle.pm_base.proofs.Sides.{face_of-next}
 use Rattle.pm_forest.specs.Forest.{Hierarchy, s_of, t_of, u_of, holds, Holds}
 use Rattle.pm_forest.specs.Fronts.{ancestor_of}
 use Rattle.pm_forest.specs.Faces.{face_count, revealed_by, is_left, from_leaf, to_leaf, inner_of, IsForest}
 use Rattle.pm_forest.proofs.Kept.{joined}
-use Rattle.pm_forest.proofs.Sides.{next-face, inner-face}
+use Rattle.pm_forest.proofs.Sides.{inner-face}
 use Rattle.pm_forest.proofs.FaceNumbers.{record-lt}
 
 module _ (h : Hierarchy) (shape : IsForest h) where
@@ -20,7 +21,7 @@ module _ (h : Hierarchy) (shape : IsForest h) where
   inner-lt k e l = let f = inner-face h k (face_of e) in omega arith
 
   pub next-lt : (e : ℕ) → e < 3 * face_count h → next e < 3 * face_count h
-  next-lt e l = let f = next-face e in omega arith
+  next-lt e l = let f = face_of-next e in omega arith
 
   pub inner_ends : (k f : ℕ) → f < face_count h → revealed_by h f ≡ Some k → InnerEnds k (inner_of h k f)
   inner_ends k f l r =

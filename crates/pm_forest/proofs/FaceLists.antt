@@ -1,10 +1,11 @@
 -- Faces by number and faces as a list are the same faces.
-use Rattle.std.proofs.Common.{◌≡◌, ℕ, zero, suc, ◌+◌, ◌-◌, ◌*◌, ◌<◌, ◌≤◌, eqb, leb, Bool, true, false, cond, ◌&&◌, [], ◌++◌, length, get_or, Option, None, Some, is_some, inl, inr, refl, sym, ap, ◌∙◌, arith, length-append}
+use Rattle.std.proofs.Common.{◌≡◌, ℕ, zero, suc, ◌+◌, ◌-◌, ◌*◌, ◌<◌, ◌≤◌, eqb, leb, cond, ◌&&◌, [], ◌++◌, length, get_or, Option, None, Some, is_some, inl, inr, refl, sym, ap, ◌∙◌, arith, length-append}
 use Rattle.std.proofs.lemmas.Bool.{cases_lt, cases_eq, eq-eqb, ne_eqb, le-leb, lt-leb, cond-true, cond-false}
 use Rattle.std.proofs.lemmas.List.{get_or_append_left, get_or-append_right, take_all}
 use Rattle.std.specs.List.{flat_map}
 use Rattle.std.specs.Option.{unwrap_or}
 use Rattle.pm_base.specs.Counts.{one_if}
+use Rattle.pm_base.proofs.Counts.{one_if-le}
 use Rattle.pm_forest.specs.declared.parts.NewFace.{NewFace}
 use Rattle.pm_forest.specs.declared.parts.Record.{Record}
 use Rattle.pm_forest.specs.Forest.{Hierarchy, record_at, record_count}
@@ -39,10 +40,6 @@ pub length-faces_of : (h : Hierarchy) → length (faces_of h) ≡ face_count h
 length-faces_of h = ap length (sym (faces_of-cut_all h)) ∙ length-faces_of_cut h (record_count h) (omega arith)
 
 -- each record brings in two faces at most
-one_if-le : (b : Bool) → one_if b ≤ 1
-one_if-le true = omega arith
-one_if-le false = omega arith
-
 pub first_face-le : (h : Hierarchy) (k : ℕ) → first_face h k ≤ length h.bases + 2 * k
 unfolding first_face
 first_face-le h zero = omega arith

@@ -1,5 +1,5 @@
 -- What a shaper keeps with each face of a record that it takes in.
-use Rattle.std.proofs.Common.{◌≡◌, ℕ, Bool, true, false, ◌&&◌, ◌||◌, List, [], ◌∷◌, ◌++◌, length, Option, None, Some, is_some, IfSome, inl, inr, refl, sym, ◌∙◌, arith, append_assoc}
+use Rattle.std.proofs.Common.{◌≡◌, ℕ, ◌+◌, ◌-◌, Bool, true, false, ◌&&◌, ◌||◌, List, [], ◌∷◌, ◌++◌, length, Option, None, Some, is_some, IfSome, inl, inr, refl, sym, ◌∙◌, arith, append_assoc}
 use Rattle.std.proofs.lemmas.Bool.{cases_eq, ne_eqb, false≢true}
 use Rattle.std.proofs.lemmas.List.{append-nil, length_push, map_push}
 use Rattle.pm_base.specs.declared.ids.Side.{Side}
@@ -16,10 +16,7 @@ use Rattle.pm_forest.specs.Shaping.{side_of, next_face, SplitFits, ComingFits, I
 use Rattle.pm_forest.proofs.Prefix.{faces_of-with_record}
 use Rattle.pm_forest.proofs.UnitLaws.{AllFit-push}
 use Rattle.pm_forest.proofs.HeadShaping.{nodes_with_record}
-
-some_of : (coming : Option Record) → is_some coming ≡ true → (r : Record) × (coming ≡ Some r)
-some_of None there = absurd cc
-some_of (Some r) there = (r, refl)
+use Rattle.pm_forest.proofs.GrowingLaws.{some_coming}
 
 -- A record without its right face, without any, and the words of its neighbours
 
@@ -33,11 +30,18 @@ without_right r none = λ i. record r { right = not_there r.right none i }
 without_faces : (r : Record) → is_some r.left ≡ false → is_some r.right ≡ false → r ≡ bare r
 without_faces r no_left no_right = λ i. record r { left = not_there r.left no_left i; right = not_there r.right no_right i }
 
-same_word : (word : ℕ) → word_of (side_of word) ≡ word
-same_word word = elim (cases_eq word 0) [
+-- the word of the side that a word names, and the side that the word of a side names
+pub word_of-side : (word : ℕ) → word_of (side_of word) ≡ word
+word_of-side word = elim (cases_eq word 0) [
   | inl is ↦ (rw is refl)
   | inr some ↦ (rw (ne_eqb word 0 some) (omega arith))
 ]
+
+pub side_of-word : (o : Option Side) → side_of (word_of o) ≡ o
+side_of-word None = refl
+side_of-word (Some e) =
+    let n : e.0 + 1 - 1 ≡ e.0 = omega arith in
+    rw (ne_eqb (e.0 + 1) 0 (omega arith)) (λ j. Some (record { 0 = n j }))
 
 -- The record once it has the face that was due
 
@@ -56,7 +60,7 @@ left_fits h r right_due f first second s fits =
     record {
       head = rw no_left at s.head;
       split = s.split;
-      left = rw (same_word first, same_word second, ← without_faces r no_left s.no_right) fits;
+      left = rw (word_of-side first, word_of-side second, ← without_faces r no_left s.no_right) fits;
       right = rw (not_there r.right s.no_right) refl;
       alone = λ due. s.no_right;
     }
@@ -72,7 +76,7 @@ right_fits h r f first second s fits =
       head = rw (s.no_right, or_false (is_some r.left)) at s.head;
       split = s.split;
       left = s.left;
-      right = rw (same_word first, same_word second, ← without_right r s.no_right) fits;
+      right = rw (word_of-side first, word_of-side second, ← without_right r s.no_right) fits;
       alone = λ due. absurd cc;
     }
 
@@ -156,7 +160,7 @@ pub face_added : (g g' : Grown) (left right : Bool) (vertices faces faces' : Lis
     AreMarked faces' (face_inputs (faces_of (grown g)) ++ f.input ∷ []) → length faces' ≡ length faces → right && left ≡ true →
     IsShaping g' false true vertices faces'
 face_added g g' left right vertices faces faces' f first second a b s there fits first_is second_is put marked flags due =
-    let at = some_of g.coming there in
+    let at = some_coming g.coming there in
     rw (rw (at.1, first_is, second_is) at put)
     (face_to g.counts g.h at.0 left right vertices faces faces' f first second (rw at.1 at s) (rw at.1 at fits) (rw at.1 at marked) flags due)
 
@@ -196,6 +200,6 @@ pub record_added : (g g' g'' : Grown) (left right : Bool) (vertices faces faces'
     AreMarked faces' (face_inputs (faces_of (grown g)) ++ f.input ∷ []) → length faces' ≡ length faces → right && left ≡ false →
     IsShaping g'' false false vertices faces'
 record_added g g' g'' left right vertices faces faces' f first second a b s there fits first_is second_is put settled marked flags due =
-    let at = some_of g.coming there in
+    let at = some_coming g.coming there in
     rw (rw (rw (at.1, first_is, second_is) at put) at settled)
     (record_to g.counts g.h at.0 left right vertices faces faces' f first second (rw at.1 at s) (rw at.1 at fits) (rw at.1 at marked) flags due)

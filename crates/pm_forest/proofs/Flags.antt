@@ -1,5 +1,5 @@
 -- A set of records as a list of flags: setting or clearing one flag adds or takes one record, as an equation of sets.
-use Rattle.std.proofs.Common.{◌≡◌, ℕ, suc, ◌<◌, eqb, Bool, true, false, List, length, get_or, inl, inr, refl, sym, ◌∙◌, subst, arith, get_or-set_same, get_or-set_other}
+use Rattle.std.proofs.Common.{◌≡◌, ℕ, suc, ◌<◌, eqb, Bool, true, false, List, length, get_or, inl, inr, refl, sym, ap, ◌∙◌, subst, arith, get_or-set_same, get_or-set_other}
 use Rattle.std.proofs.Math.ListN.{set}
 use Rattle.std.proofs.Math.Path.{fun_ext}
 use Rattle.std.proofs.lemmas.Bool.{cases_eq, cases_lt, cases_order, lt-ltb, le-ltb, eq-eqb, ne_eqb, cond-true, cond-false}
@@ -34,6 +34,9 @@ set_of-unset n = fun_ext (λ j.
       | inl l ↦ get_or-replicate n j false false l
       | inr l ↦ get_or_past (replicate n false) j false (omega (arith, length-replicate n false))
     ])
+
+pub none_set : (n : ℕ) (flags : List Bool) → flags ≡ replicate n false → set_of flags ≡ no_records
+none_set n flags is = ap set_of is ∙ set_of-unset n
 
 -- The records up to k, without k, are those below k.
 pub without-below : (k : ℕ) → without (below (suc k)) k ≡ below k

@@ -3,6 +3,7 @@ use Rattle.std.proofs.Common.{◌≡◌, ◌≢◌, ℕ, ◌+◌, ◌<◌, ◌�
 use Rattle.std.proofs.lemmas.Bool.{cases_lt, cases_eq, eq-eqb, ne_eqb, le-leb, lt-leb, cond-true, cond-false}
 use Rattle.std.proofs.lemmas.List.{append-nil, append_assoc, get_or_append_left, get_or_push, get_or-set_same, get_or-set_other, get_or-replicate, length_push, length-replicate}
 use Rattle.pm_base.specs.Counts.{one_if}
+use Rattle.pm_base.proofs.Counts.{one_if-le}
 use Rattle.pm_forest.specs.declared.parts.Root.{Root}
 use Rattle.pm_forest.specs.declared.parts.Face.{Face}
 use Rattle.pm_forest.specs.declared.parts.NewFace.{NewFace}
@@ -29,10 +30,6 @@ pub record AddsFace (r q : Record) (f : Face) : Type 0 where
 pub faces_none : (n : Option NewFace) → is_some n ≡ false → face_in n ≡ []
 faces_none None none = refl
 faces_none (Some n) none = absurd cc
-
-one_if-le : (b : Bool) → one_if b ≤ 1
-one_if-le true = omega arith
-one_if-le false = omega arith
 
 pub adds_face : (r : Record) (left : Bool) (n : NewFace) → is_some (cond left r.left r.right) ≡ false →
     (left ≡ true → is_some r.right ≡ false) → AddsFace r (with_new_face r left n) n.face

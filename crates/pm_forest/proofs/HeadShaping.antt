@@ -40,7 +40,8 @@ presence_told p fit =
       ]
     ]
 
-presence_some : (p : ℕ) → not (eqb p 2) || not (eqb p 1) ≡ true
+-- and at least one is due
+pub presence_some : (p : ℕ) → not (eqb p 2) || not (eqb p 1) ≡ true
 presence_some p = elim (cases_eq p 2) [
   | inl is ↦ (rw is refl)
   | inr not_two ↦ (rw (ne_eqb p 2 not_two) refl)

@@ -3,6 +3,7 @@ use Rattle.std.proofs.Common.{◌≡◌, ◌≢◌, ◌↔◌, ℕ, zero, suc, �
 use Rattle.std.proofs.lemmas.Bool.{cases_lt, lt-ltb, le-ltb, lt-leb, le-leb, eq-eqb, ne_eqb, cond-true, cond-false}
 use Rattle.std.proofs.lemmas.List.{length-map, get_or_default}
 use Rattle.std.proofs.lemmas.Option.{none-some}
+use Rattle.pm_base.proofs.Search.{option_cases}
 use Rattle.pm_forest.specs.declared.parts.Root.{Root}
 use Rattle.pm_forest.specs.Forest.{Hierarchy, Interval, record_at, widths, record_count, node_count, leaf_count, Holds, holds, root_interval, interval_after, interval_of, splitter_of, HasForestShape}
 use Rattle.pm_forest.specs.Fronts.{every}
@@ -10,7 +11,7 @@ use Rattle.pm_forest.specs.Faces.{first_face, face_count, revealed_by, revealed_
 use Rattle.pm_forest.specs.Places.{no_root, place_of_node}
 use Rattle.pm_forest.specs.Rules.{HasShape}
 use Rattle.pm_forest.specs.Tables.{Grown, all_of, grown, IsSingle, leaf_node_of}
-use Rattle.pm_forest.proofs.Nodes.{within-true, within-from, interval-kept, interval_of-t, interval_of-u, has_maker, splitter_of-splits, none_or_some}
+use Rattle.pm_forest.proofs.Nodes.{within-true, within-from, interval-kept, interval_of-t, interval_of-u, has_maker, splitter_of-splits}
 use Rattle.pm_forest.proofs.Ancestors.{ancestor-lt, holds-ancestor_of}
 use Rattle.pm_forest.proofs.FaceNumbers.{revealed-parts, first_face-mono}
 use Rattle.pm_forest.proofs.LeafNodes.{interval_of-le, leaf_node-unsplit}
@@ -81,7 +82,7 @@ module _ (h : Hierarchy) (shape : HasShape h) where
   pub unsplit-single : (v : ℕ) → v < node_count h → (splitter_of h v ≡ None) ↔ IsSingle (interval_of h v)
   unsplit-single v l = (
     one_leaf v l,
-    λ single. elim (none_or_some (splitter_of h v)) [
+    λ single. elim (option_cases (splitter_of h v)) [
       | inl none ↦ none
       | inr (k, e) ↦ (let wide = split_wide v k e in absurd (omega arith))
     ],
@@ -120,7 +121,7 @@ revealed-base h f l = (
     | inl base ↦ base
     | inr later ↦ absurd (later_revealed h (record_count h) f later l none)
   ],
-  λ base. elim (none_or_some (revealed_by h f)) [
+  λ base. elim (option_cases (revealed_by h f)) [
     | inl none ↦ none
     | inr (k, e) ↦
         let p = revealed-parts h f k l e in
@@ -131,14 +132,14 @@ revealed-base h f l = (
 
 pub revealed-lt : (h : Hierarchy) (f : ℕ) → f < face_count h → IfSome (revealed_by h f) (λ k. k < record_count h)
 revealed-lt h f l =
-    elim (none_or_some (revealed_by h f)) [
+    elim (option_cases (revealed_by h f)) [
       | inl none ↦ (rw none tt)
       | inr (k, e) ↦ (rw e (revealed-parts h f k l e).0)
     ]
 
 pub splitter-lt : (h : Hierarchy) (v : ℕ) → IfSome (splitter_of h v) (λ k. k < record_count h)
 splitter-lt h v =
-    elim (none_or_some (splitter_of h v)) [
+    elim (option_cases (splitter_of h v)) [
       | inl none ↦ (rw none tt)
       | inr (k, e) ↦ (rw e (splitter_of-splits h k v e).1)
     ]

@@ -7,12 +7,12 @@ use Rattle.std.proofs.lemmas.List.FromFn.{length-map-range_with_len, get_or-map-
 use Rattle.std.specs.Option.{unwrap_or}
 use Rattle.pm_base.specs.Sides.{find_below}
 use Rattle.pm_base.specs.Meshes.{IsFace, IsWellFormed}
-use Rattle.pm_base.proofs.Search.{find_below-some, find_below-has}
+use Rattle.pm_base.proofs.Search.{find_below-some, find_below-has, option_cases}
 use Rattle.pm_forest.specs.Forest.{Hierarchy, leaf_count, widths, s_of, t_of, u_of, root_of, holds, Holds}
 use Rattle.pm_forest.specs.Faces.{no_corners, faces_of, face_count, corners_of, revealed_by, is_left}
 use Rattle.pm_forest.specs.Rules.{HasShape}
 use Rattle.pm_forest.specs.Meshes.{leaf_place, leaf_input, face_input, leaf_corners, input_corners, leaf_mesh_of, face_of_input, input_place, input_face, input_mesh_of, no_place, no_triple, NumbersEach, HasInputNumbers}
-use Rattle.pm_forest.proofs.Nodes.{none_or_some, not_both, holds-s_from_t, holds-s_from_u}
+use Rattle.pm_forest.proofs.Nodes.{not_both, holds-s_from_t, holds-s_from_u}
 use Rattle.pm_forest.proofs.FaceNumbers.{revealed-parts}
 use Rattle.pm_forest.proofs.FaceLists.{length-faces_of, corners_of-faces_of}
 use Rattle.pm_forest.proofs.Corners.{CornersFit, AreAlong, ways}
@@ -28,7 +28,7 @@ numbered_so number n i = unwrap_or (find_below (λ x. eqb (number x) (i + 1)) n)
 
 pub numbered_so-lt : (number : ℕ → ℕ) (n i : ℕ) → i < n → numbered_so number n i < n
 numbered_so-lt number n i l =
-    elim (none_or_some (find_below (λ x. eqb (number x) (i + 1)) n)) [
+    elim (option_cases (find_below (λ x. eqb (number x) (i + 1)) n)) [
       | inl none ↦ (rw none (omega arith))
       | inr (x, found) ↦ (rw found (find_below-some (λ y. eqb (number y) (i + 1)) n x found).1)
     ]
@@ -104,7 +104,7 @@ module _ (h : Hierarchy) (shape : HasShape h) where
       ((corners_of h f).a ≢ (corners_of h f).b) × ((corners_of h f).b ≢ (corners_of h f).c) × ((corners_of h f).c ≢ (corners_of h f).a)
   corners_apart f l =
       let nodes = shape_of_nodes h shape in
-      elim (none_or_some (revealed_by h f)) [
+      elim (option_cases (revealed_by h f)) [
         | inl none ↦
             let fits = base_corners h shape f l none in
             let root = root_of (widths h) 0 in

@@ -1,9 +1,9 @@
 -- Nodes: the record that made a node, the record that splits it, and how a record deals the leaves of its node out to
 -- the two children.
-use Rattle.std.proofs.Common.{◌≡◌, ◌≢◌, ℕ, zero, suc, ◌-◌, ◌/◌, ◌%◌, ◌<◌, ◌≤◌, eqb, ltb, Bool, true, false, Option, Some, None, length, ◌⊎◌, inl, inr, refl, sym, ap, ◌∙◌, subst, arith}
-use Rattle.std.proofs.lemmas.Bool.{ltb-true, ltb-false, le-ltb, leb-true, leb-false, le-leb, lt-ltb, eqb-true, eq-eqb, ne_eqb, and_parts, and_from, and_cases, cases_eq, cases_lt, cases_Bool, cond-true, cond-false, both_ways}
+use Rattle.std.proofs.Common.{◌≡◌, ◌≢◌, ℕ, zero, suc, ◌-◌, ◌/◌, ◌%◌, ◌<◌, ◌≤◌, eqb, ltb, true, false, Some, None, length, ◌⊎◌, inl, inr, refl, sym, ap, ◌∙◌, arith}
+use Rattle.std.proofs.lemmas.Bool.{ltb-true, ltb-false, le-ltb, leb-true, leb-false, le-leb, lt-ltb, eqb-true, eq-eqb, ne_eqb, and_parts, and_from, and_cases, cases_eq, cases_lt, cases_Bool, cond-true, cond-false}
 use Rattle.std.proofs.lemmas.Option.{none-some, same_Some}
-use Rattle.pm_base.specs.Sides.{find_below}
+use Rattle.pm_base.proofs.Search.{find_below-some, find_below-has}
 use Rattle.pm_forest.specs.Forest.{Hierarchy, Interval, record_at, record_count, s_of, t_of, u_of, node_count, within, first_part, rest, interval_after, interval_of, holds, Holds, Makes, maker_of, splitter_of, HasForestShape}
 
 -- Leaf intervals.
@@ -18,17 +18,17 @@ pub within-false : (i : Interval) (x : ℕ) → within i x ≡ false → (x < i.
 within-false i x e = elim (and_cases _ _ e) [ inl a ↦ inl (leb-false _ _ a) | inr b ↦ inr (ltb-false _ _ b) ]
 
 -- The interval of each node once record k has given its children.
-interval-t : (h : Hierarchy) (k : ℕ) → interval_after h (suc k) (t_of h k) ≡ first_part (interval_after h k (s_of h k)) (record_at h k).width
+pub interval-t : (h : Hierarchy) (k : ℕ) → interval_after h (suc k) (t_of h k) ≡ first_part (interval_after h k (s_of h k)) (record_at h k).width
 unfolding interval_after
 interval-t h k = rw (eq-eqb (t_of h k) (t_of h k) refl)
 
-interval-u : (h : Hierarchy) (k : ℕ) → interval_after h (suc k) (u_of h k) ≡ rest (interval_after h k (s_of h k)) (record_at h k).width
+pub interval-u : (h : Hierarchy) (k : ℕ) → interval_after h (suc k) (u_of h k) ≡ rest (interval_after h k (s_of h k)) (record_at h k).width
 unfolding interval_after
 interval-u h k =
     let n : u_of h k ≢ t_of h k = omega arith in
     rw (ne_eqb (u_of h k) (t_of h k) n, eq-eqb (u_of h k) (u_of h k) refl)
 
-interval-else : (h : Hierarchy) (k v : ℕ) → v ≢ t_of h k → v ≢ u_of h k → interval_after h (suc k) v ≡ interval_after h k v
+pub interval-else : (h : Hierarchy) (k v : ℕ) → v ≢ t_of h k → v ≢ u_of h k → interval_after h (suc k) v ≡ interval_after h k v
 unfolding interval_after
 interval-else h k v a b = rw (ne_eqb v (t_of h k) a, ne_eqb v (u_of h k) b)
 
@@ -142,27 +142,6 @@ maker_of-root h v l = cond-true _ None (Some ((v - length h.roots) / 2)) (lt-ltb
 pub maker_of-lt : (h : Hierarchy) (j v : ℕ) → v < node_count h → maker_of h v ≡ Some j → j < record_count h
 maker_of-lt h j v l e = elim (maker_of-makes h j v e) [ inl a ↦ omega arith | inr a ↦ omega arith ]
 
--- A search from above finds a number that passes, if there is one.
-
-pub find_below-some : (p : ℕ → Bool) (n g : ℕ) → find_below p n ≡ Some g → (p g ≡ true) × (g < n)
-find_below-some p zero g e = absurd (none-some g e)
-find_below-some p (suc n) g e =
-    elim (cases_Bool (p n)) [
-      | inl a ↦ (let is : n ≡ g = same_Some n g (sym (cond-true _ _ _ a) ∙ e) in (subst (λ i. p i ≡ true) is a, omega arith))
-      | inr a ↦ (let r = find_below-some p n g (sym (cond-false _ _ _ a) ∙ e) in (r.0, omega arith))
-    ]
-
-pub find_below-has : (p : ℕ → Bool) (n g : ℕ) → g < n → p g ≡ true → (m : ℕ) × (find_below p n ≡ Some m)
-find_below-has p zero g l e = absurd (omega arith)
-find_below-has p (suc n) g l e =
-    elim (cases_Bool (p n)) [
-      | inl a ↦ (n, cond-true _ _ _ a)
-      | inr a ↦
-          let differs : g ≢ n = λ is. both_ways _ a (subst (λ i. p i ≡ true) is e) in
-          let r = find_below-has p n g (omega arith) e in
-          (r.0, cond-false _ _ _ a ∙ r.1)
-    ]
-
 -- At most one record splits a node.
 
 pub splitter_of-splits : (h : Hierarchy) (k v : ℕ) → splitter_of h v ≡ Some k → (s_of h k ≡ v) × (k < record_count h)
@@ -178,8 +157,3 @@ splitter_of-s h shape k l =
       | inl a ↦ absurd (shape.once m k a l p.0)
       | inr a ↦ elim (cases_eq m k) [ inl b ↦ b | inr b ↦ absurd (shape.once k m (omega arith) p.1 (sym p.0)) ]
     ])
-
--- A search's answer is none or a number, with the equation that says so.
-pub none_or_some : (r : Option ℕ) → (r ≡ None) ⊎ ((k : ℕ) × (r ≡ Some k))
-none_or_some None = inl refl
-none_or_some (Some k) = inr (k, refl)

@@ -4,8 +4,7 @@ use Rattle.std.specs.List.{IsDistinct, AllByRecursion, list_any}
 use Rattle.std.proofs.lemmas.Bool.{cases_Bool, eqb-true, eq-eqb, false≢true, or_cases, or_parts, both_ways}
 use Rattle.std.proofs.lemmas.Map.Steps.{length-le_from_distinct_below}
 use Rattle.pm_base.specs.Sides.{find_below}
-use Rattle.pm_base.proofs.Search.{find_below-some}
-use Rattle.pm_forest.proofs.Nodes.{none_or_some}
+use Rattle.pm_base.proofs.Search.{find_below-some, option_cases}
 use Rattle.pm_forest.proofs.SameSplit.{find_below-none}
 
 -- f (n - 1) down to f 0
@@ -52,7 +51,7 @@ images-distinct f (suc n) once =
 pub each_is_met : (f : ℕ → ℕ) (n : ℕ) → ((x y : ℕ) → x < n → y < n → f x ≡ f y → x ≡ y) → ((x : ℕ) → x < n → f x < n) →
     (i : ℕ) → i < n → (x : ℕ) × (x < n) × (f x ≡ i)
 each_is_met f n once there i l =
-    elim (none_or_some (find_below (λ x. eqb (f x) i) n)) [
+    elim (option_cases (find_below (λ x. eqb (f x) i) n)) [
       | inr (x, found) ↦ (let p = find_below-some (λ y. eqb (f y) i) n x found in (x, p.1, eqb-true (f x) i p.0))
       | inl none ↦
           let missed : list_any (eqb i) (images f n) ≡ true → ⊥ = λ e.

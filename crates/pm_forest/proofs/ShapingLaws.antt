@@ -147,7 +147,7 @@ base_added g g' left right vertices faces faces' f s none all lt fits is marked 
 
 -- The leaves of all roots
 
-widths_push : (before : List Root) (r : Root) → sum (widths_of (before ++ r ∷ [])) ≡ sum (widths_of before) + r.width
+pub widths_push : (before : List Root) (r : Root) → sum (widths_of (before ++ r ∷ [])) ≡ sum (widths_of before) + r.width
 widths_push before r = ap sum (map_push (λ (x : Root). x.width) before r) ∙ sum_by_push (λ x. x) (widths_of before) r.width
 
 -- the last root takes all that is left

@@ -3,6 +3,7 @@ use Rattle.std.proofs.Common.{◌≡◌, ◌≢◌, ◌⊎◌, ℕ, ◌+◌, ◌
 use Rattle.std.proofs.lemmas.Bool.{eq-eqb, ne_eqb, cases_eq, cases_Bool, true≢false, and_left, and_right}
 use Rattle.std.proofs.lemmas.Option.{none-some, same_Some}
 use Rattle.pm_base.specs.Sides.{face_of, next}
+use Rattle.pm_base.proofs.Sides.{next_cases, next-next-next}
 use Rattle.pm_forest.specs.Forest.{Hierarchy, record_count, s_of, Holds}
 use Rattle.pm_forest.specs.Fronts.{IsFront, made_in, ancestor_after, ancestor_of, with, without}
 use Rattle.pm_forest.specs.Faces.{face_count, revealed_by, record_of, from_leaf, to_leaf, inner_of, IsForest}
@@ -11,7 +12,7 @@ use Rattle.pm_forest.proofs.Nodes.{holds-s_from_t, holds-s_from_u}
 use Rattle.pm_forest.proofs.Ancestors.{apart_later}
 use Rattle.pm_forest.proofs.OneStep.{with-cases, with-from, without-parts, without-from}
 use Rattle.pm_forest.proofs.Kept.{apart_children, apart_outside}
-use Rattle.pm_forest.proofs.Sides.{next_cases, next-cycle, inner-face, three_sides}
+use Rattle.pm_forest.proofs.Sides.{inner-face, three_sides}
 use Rattle.pm_forest.proofs.FaceNumbers.{record-lt}
 use Rattle.pm_forest.proofs.Ends.{t_first, u_first, inner-lt, next-lt, inner_ends, third_outside, inner-joined}
 
@@ -107,7 +108,7 @@ module _ (h : Hierarchy) (shape : IsForest h) (T : ℕ → Bool) (front : IsFron
               | inr which ↦
                   elim which [
                     | inl is ↦ (λ z. apart_outside h shape.forest T front k k_lt t (to_leaf h i) (from_leaf h (next (next i))) g_lt o_lt to_s outside (ap up (sym is) ∙ z ∙ ap (λ g. up (next g)) is))
-                    | inr is ↦ (λ z. apart_outside h shape.forest T front k k_lt t (from_leaf h i) (from_leaf h (next (next i))) f_lt o_lt from_s outside (ap up (sym (next-cycle i)) ∙ ap (λ g. up (next g)) (sym is) ∙ sym z ∙ ap up is))
+                    | inr is ↦ (λ z. apart_outside h shape.forest T front k k_lt t (from_leaf h i) (from_leaf h (next (next i))) f_lt o_lt from_s outside (ap up (sym (next-next-next i)) ∙ ap (λ g. up (next g)) (sym is) ∙ sym z ∙ ap up is))
                   ]
             ]
       ]

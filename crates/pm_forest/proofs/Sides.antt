@@ -1,19 +1,10 @@
--- Sides of a face: the next one, three times round, and the inner side of a record's face.
-use Rattle.std.proofs.Common.{◌≡◌, ◌≢◌, ℕ, ◌+◌, ◌-◌, ◌*◌, ◌%◌, cond, ◌⊎◌, inl, inr, arith}
-use Rattle.std.proofs.lemmas.Bool.{eq-eqb, ne_eqb, cases_eq, cases_Bool, cond-true, cond-false}
+-- Sides of a face: the next one and the one after it, and the inner side of a record's face.
+use Rattle.std.proofs.Common.{◌≡◌, ◌≢◌, ℕ, ◌+◌, ◌-◌, ◌*◌, cond, ◌⊎◌, inl, inr, arith}
+use Rattle.std.proofs.lemmas.Bool.{cases_eq, cases_Bool, cond-true, cond-false}
 use Rattle.pm_base.specs.Sides.{face_of, next}
+use Rattle.pm_base.proofs.Sides.{next_cases}
 use Rattle.pm_forest.specs.Forest.{Hierarchy, t_of, u_of, holds}
 use Rattle.pm_forest.specs.Faces.{is_left, from_leaf, inner_of}
-
-pub next_cases : (e : ℕ) → ((e % 3 ≡ 2) × (next e ≡ e - 2)) ⊎ ((e % 3 ≢ 2) × (next e ≡ e + 1))
-unfolding next
-next_cases e = elim (cases_eq (e % 3) 2) [ inl a ↦ inl (a, cond-true _ _ _ (eq-eqb _ _ a)) | inr a ↦ inr (a, cond-false _ _ _ (ne_eqb _ _ a)) ]
-
-pub next-face : (e : ℕ) → face_of (next e) ≡ face_of e
-next-face e = let a = next_cases e in omega arith
-
-pub next-cycle : (e : ℕ) → next (next (next e)) ≡ e
-next-cycle e = let a = next_cases e in let b = next_cases (next e) in let c = next_cases (next (next e)) in omega arith
 
 pub next-differs : (e : ℕ) → next e ≢ e
 next-differs e = let a = next_cases e in omega arith

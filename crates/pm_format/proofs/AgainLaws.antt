@@ -4,9 +4,8 @@ use Rattle.std.specs.List.{flat_map}
 use Rattle.std.specs.Int.{w32, cast_signed, cast_unsigned}
 use Rattle.std.proofs.lemmas.Int.{to_z-of_z, fits_signed_from_abs}
 use Rattle.std.proofs.lemmas.List.{append-nil}
-use Rattle.std.proofs.lemmas.Bool.{leb-true, and_parts, not-false, or_parts, ne_eqb}
+use Rattle.std.proofs.lemmas.Bool.{leb-true, and_parts, not-false, or_parts}
 use Rattle.pm_base.specs.Place.{Place, is_place, is_coordinate, place_of}
-use Rattle.pm_base.specs.declared.ids.Side.{Side}
 use Rattle.pm_base.specs.Counts.{one_if}
 use Rattle.pm_forest.specs.declared.parts.Counts.{Counts}
 use Rattle.pm_forest.specs.declared.parts.Root.{Root}
@@ -17,9 +16,10 @@ use Rattle.pm_forest.specs.declared.parts.Record.{Record}
 use Rattle.pm_forest.specs.declared.parts.Shape.{Shape}
 use Rattle.pm_forest.specs.declared.parts.Unfinished.{Unfinished}
 use Rattle.pm_forest.specs.Forest.{Hierarchy}
-use Rattle.pm_forest.specs.Rules.{AllFit, root_fault, base_fault, split_is_bad, presence_is_bad, head_is_bad, head_fault, bare, with_record, word_of, head_of, face_fault, record_fault, record_fault_after}
-use Rattle.pm_forest.specs.Shaping.{started, side_of, with_face, unfinished}
+use Rattle.pm_forest.specs.Rules.{AllFit, root_fault, base_fault, split_is_bad, presence_is_bad, head_is_bad, head_fault, bare, with_record, head_of, face_fault, record_fault, record_fault_after}
+use Rattle.pm_forest.specs.Shaping.{started, with_face, unfinished}
 use Rattle.pm_forest.proofs.UnitLaws.{passed, first_none}
+use Rattle.pm_forest.proofs.FacesTaken.{side_of-word}
 use Rattle.pm_format.specs.declared.stop.Stop.{Stop}
 use Rattle.pm_format.specs.Stream.{root_words, base_words, new_face_words, head_words, record_words}
 use Rattle.pm_format.specs.Reading.{then_read, read_map, root_at, base_at, head_at, fitting, units_at, root_after, base_after, face_after, face_if, faces_after, record_after, record_after_all}
@@ -91,20 +91,13 @@ head_fits h r fits =
     let places = and_parts (is_place (place_of d.t)) (is_place (place_of d.u)) (not-false _ two.1) in
     record { t = places.0; u = places.1; some = one.1 }
 
--- The side that the word of a side names.
-side_again : (o : Option Side) → side_of (word_of o) ≡ o
-side_again None = refl
-side_again (Some e) =
-    let n : e.0 + 1 - 1 ≡ e.0 = omega arith in
-    rw (ne_eqb (e.0 + 1) 0 (omega arith)) (λ j. Some (record { 0 = n j }))
-
 face_again : (h : Hierarchy) (p : Unfinished) (n : NewFace) (rest : List ℕ) →
     face_fault (with_record h p.split) p.left_due (Some n) ≡ None →
     face_after h p (new_face_words (Some n) ++ rest) ≡ Ok (with_face p n, rest)
 unfolding face_after
 face_again h p n rest fits =
-    let first = side_again n.first in
-    let second = side_again n.second in
+    let first = side_of-word n.first in
+    let second = side_of-word n.second in
     rw fits (λ j. Ok (with_face p (record { face = n.face; first = first j; second = second j }), rest))
 
 -- The faces of a record

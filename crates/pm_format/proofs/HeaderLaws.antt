@@ -2,7 +2,7 @@
 use Rattle.std.proofs.Common.{◌≡◌, ◌⊎◌, ℕ, ◌+◌, ◌*◌, ◌^◌, ◌≤◌, true, false, List, [], ◌∷◌, ◌++◌, Ok, Err, length, take, drop, inl, inr, refl, sym, ◌∙◌, ap, subst, arith, length-append, append_assoc}
 use Rattle.std.proofs.Math.Seq.{take-add}
 use Rattle.std.proofs.lemmas.Bool.{cases_lt}
-use Rattle.std.proofs.lemmas.List.{length-take-le}
+use Rattle.std.proofs.lemmas.List.{length-take-le, nil_from_length}
 use Rattle.pm_forest.specs.declared.parts.Counts.{Counts}
 use Rattle.pm_forest.specs.declared.parts.Shape.{Shape}
 use Rattle.pm_forest.specs.declared.parts.Shape.TheVariants as shapes
@@ -46,10 +46,6 @@ counts_refused bytes ws rest c e same good is (inr bad) =
 pub header_begins : (bytes ws : List ℕ) → ws ≡ words_of bytes → magic_is_bad bytes ≡ false → header_at ws ≡ Err stops.End → BeginsHeader bytes bytes
 header_begins bytes ws same good is = record { same = refl; good = good; ends = ap header_at (sym same) ∙ is }
 
-nothing_left : (l : List ℕ) → length l ≡ 0 → l ≡ []
-nothing_left [] is = refl
-nothing_left (x ∷ l) is = absurd (omega (arith, is))
-
 -- The magic stands where there is a word.
 magic_on : (bytes : List ℕ) → 4 ≤ length bytes → magic_is_bad bytes ≡ false → (more : List ℕ) → magic_is_bad (bytes ++ more) ≡ false
 magic_on (a ∷ b ∷ c ∷ d ∷ bytes) le good more = same_magic (a ∷ b ∷ c ∷ d ∷ bytes) more _ _ refl ∙ good
@@ -63,7 +59,7 @@ pub header_whole : (bytes ws rest : List ℕ) (digits : ℕ) (c : Counts) → Is
 header_whole bytes ws rest digits c fit short same good is told few counts =
     let size = header_size (words_of bytes) (c, rest) (ap header_at (sym same) ∙ is) in
     let len : length bytes ≡ 4 * length (words_of bytes) = omega (arith, size, size_is bytes, length-words_of bytes, short) in
-    let left : rest ≡ [] = nothing_left rest (omega (arith, size, size_is bytes, len, short)) in
+    let left : rest ≡ [] = nil_from_length rest (omega (arith, size, size_is bytes, len, short)) in
     let here : header_at (words_of bytes) ≡ Ok (c, []) = ap header_at (sym same) ∙ is ∙ ap (λ (l : List ℕ). Ok (c, l)) left in
     let apart = λ (more : List ℕ). words_apart bytes more (length (words_of bytes)) len in
     let on = λ (more : List ℕ).

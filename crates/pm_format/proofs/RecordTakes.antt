@@ -1,5 +1,5 @@
 -- What a record is read from, its head and then its faces, is spelled so, and none of it has a fault.
-use Rattle.std.proofs.Common.{◌≡◌, inl, inr, ℕ, zero, suc, ◌+◌, ◌*◌, eqb, ltb, Bool, true, false, ◌||◌, not, is_some, List, [], ◌∷◌, ◌++◌, Some, None, Ok, refl, sym, ◌∙◌, ap, subst, arith}
+use Rattle.std.proofs.Common.{◌≡◌, inl, inr, ℕ, ◌+◌, ◌*◌, eqb, ltb, Bool, true, false, ◌||◌, not, is_some, List, [], ◌∷◌, ◌++◌, Some, None, Ok, refl, sym, ◌∙◌, ap, subst, arith}
 use Rattle.std.specs.Int.{w32}
 use Rattle.std.proofs.lemmas.Bool.{eqb-false, ltb-false, or_parts, cases_eq, eq-eqb, ne_eqb}
 use Rattle.std.proofs.lemmas.Option.{same_Some}
@@ -12,9 +12,10 @@ use Rattle.pm_forest.specs.declared.parts.NewFace.{NewFace}
 use Rattle.pm_forest.specs.declared.parts.Record.{Record}
 use Rattle.pm_forest.specs.declared.parts.Unfinished.{Unfinished}
 use Rattle.pm_forest.specs.Forest.{Hierarchy}
-use Rattle.pm_forest.specs.Rules.{split_is_bad, presence_is_bad, head_is_bad, head_fault, new_face_fault, bare, left_only, with_record, word_of, head_with, head_of, face_fault, record_fault, record_fault_after}
-use Rattle.pm_forest.specs.Shaping.{started, side_of, next_face, with_face, unfinished}
+use Rattle.pm_forest.specs.Rules.{split_is_bad, presence_is_bad, head_is_bad, head_fault, new_face_fault, bare, left_only, with_record, head_with, head_of, face_fault, record_fault, record_fault_after}
+use Rattle.pm_forest.specs.Shaping.{started, next_face, with_face, unfinished}
 use Rattle.pm_forest.proofs.UnitLaws.{passed}
+use Rattle.pm_forest.proofs.FacesTaken.{word_of-side}
 use Rattle.pm_format.specs.Words.{AreWords}
 use Rattle.pm_format.specs.Stream.{place_words, base_words, new_face_words, head_words, record_words}
 use Rattle.pm_format.specs.Reading.{FaceUnit, head_at, new_face_at, fitting, face_after, face_if, faces_after, record_after, record_after_all}
@@ -103,11 +104,6 @@ unit_takes (a ∷ b ∷ c ∷ []) u fit is = absurd cc
 unit_takes (a ∷ b ∷ c ∷ i ∷ []) u fit is = absurd cc
 unit_takes (a ∷ b ∷ c ∷ i ∷ m ∷ []) u fit is = absurd cc
 
--- the word of the side that a word names
-word_again : (word : ℕ) → word_of (side_of word) ≡ word
-word_again zero = refl
-word_again (suc n) = rw (ne_eqb (suc n) 0 (omega arith)) (omega arith)
-
 record FaceTakes (h : Hierarchy) (p : Unfinished) (ws : List ℕ) (q : Unfinished) (rest : List ℕ) : Type 0 where
   face : NewFace
   is : q ≡ with_face p face
@@ -122,8 +118,8 @@ face_takes h p ws q fit is =
     then_read_ok _ (fitting fault (new_face_at ws)) q is (λ f was then_is.
     let g = fitting_ok fault (new_face_at ws) f was in
     let n : NewFace = next_face f.0.face f.0.first f.0.second in
-    let first = word_again f.0.first in
-    let second = word_again f.0.second in
+    let first = word_of-side f.0.first in
+    let second = word_of-side f.0.second in
     let unit = (unit_takes ws f fit g.0).takes in
     subst (λ (v : Unfinished × List ℕ). FaceTakes h p ws v.0 v.1) (same_Ok _ _ then_is) (record {
       face = n;

@@ -1,7 +1,8 @@
 -- What a shaper expects, and what taking a unit in leaves.
 use Rattle.std.proofs.Common.{◌≡◌, ◌⊎◌, ℕ, ◌+◌, ◌-◌, ◌*◌, ◌<◌, ◌≤◌, Bool, true, false, cond, ◌||◌, not, eqb, List, [], ◌∷◌, ◌++◌, Option, Some, None, IfSome, Result, Ok, Err, MatchResult, OnOk, IfErr, length, inl, inr, refl, sym, ◌∙◌, ap, subst, arith, length-append}
-use Rattle.std.proofs.lemmas.Bool.{cases_lt, lt-ltb, le-ltb, eqb-true}
+use Rattle.std.proofs.lemmas.Bool.{cases_lt, lt-ltb, le-ltb}
 use Rattle.pm_base.specs.Counts.{one_if}
+use Rattle.pm_base.proofs.Counts.{one_if-le}
 use Rattle.pm_forest.specs.declared.parts.Counts.{Counts}
 use Rattle.pm_forest.specs.declared.parts.Root.{Root}
 use Rattle.pm_forest.specs.declared.parts.Head.{Head}
@@ -11,6 +12,7 @@ use Rattle.pm_forest.specs.declared.parts.UnitKind.TheVariants as kinds
 use Rattle.pm_forest.specs.Forest.{Hierarchy}
 use Rattle.pm_forest.specs.Rules.{root_fault, base_fault, head_fault, new_face_fault, with_record}
 use Rattle.pm_forest.specs.Shaping.{Shaping, expects, expects_after, settled, with_face, next_face}
+use Rattle.pm_forest.proofs.HeadShaping.{presence_some}
 use Rattle.pm_format.specs.declared.stop.Stop.{Stop}
 use Rattle.pm_format.specs.declared.stop.Stop.TheVariants as stops
 use Rattle.pm_format.specs.Words.{words_of}
@@ -62,10 +64,6 @@ read_map_err make (Err f) e is = ap (λ v. Err v) (ap (stop_in f) is)
     stop_in d (Ok x) = d
     stop_in d (Err g) = g
 
-one_most : (b : Bool) → one_if b ≤ 1
-one_most true = omega arith
-one_most false = omega arith
-
 -- What taking a unit in leaves, by its answer.
 abbrev pub Took : Shaping → List ℕ → Result (Unit {0}) Stop → Shaping → Type 0
 Took s unit r t = OnOk r (TakenIn s unit t) × IfErr r (StopsAt s unit)
@@ -113,14 +111,6 @@ base_took_of s t unit rest (Err e) next size stop =
     let x = expected s kinds.Base next in
     (tt, stops_here s unit e (λ is. a.ends (stop ∙ ap (λ v. Err v) is)) (λ more. ap (λ q. on_from s.counts s.h q (words_of (unit ++ more))) x.0 ∙ base_off s.counts s.h (words_of (unit ++ more)) e x.1 x.2 (a.off e stop more)))
 
--- a head promises a face
-promises : (n : ℕ) → not (eqb n 2) || not (eqb n 1) ≡ true
-promises n = go (eqb n 2) refl
-  where
-    go : (two : Bool) → eqb n 2 ≡ two → not two || not (eqb n 1) ≡ true
-    go false is = refl
-    go true is = rw (eqb-true n 2 is) refl
-
 head_took_of : (s t : Shaping) (unit rest : List ℕ) (r : Result (Unit {0}) Stop) → expects s ≡ kinds.Head → length unit ≡ 44
     → MatchResult r (λ _. read_map (took_head s) (fitting (head_fault s.h) (head_at (words_of unit))) ≡ Ok (t, rest)) (λ e. fitting (head_fault s.h) (head_at (words_of unit)) ≡ Err e) → Took s unit r t
 head_took_of s t unit rest (Ok done) next size read =
@@ -128,11 +118,11 @@ head_took_of s t unit rest (Ok done) next size read =
     let a = alone 11 head_at (head_fault s.h) unit head_has size in
     let e = expected s kinds.Head next in
     let same : (took_head s d).0 ≡ t = ap (λ (v : Shaping × List ℕ). v.0) took in
-    let left = one_most (not (eqb d.0.presence 2)) in
-    let right = one_most (not (eqb d.0.presence 1)) in (
+    let left = one_if-le (not (eqb d.0.presence 2)) in
+    let right = one_if-le (not (eqb d.0.presence 1)) in (
       subst (λ v. TakenIn s unit v) same (record {
         on = λ more. ap (λ q. on_from s.counts s.h q (words_of (unit ++ more))) e.0 ∙ head_on s.counts s.h (words_of (unit ++ more)) (d.0, words_of more) e.1 e.2 e.3 (a.on d was more);
-        waits = promises d.0.presence;
+        waits = presence_some d.0.presence;
         less = omega (arith, e.3, ap due_bytes e.0, ap begun_count e.0, left, right, size);
       }),
       tt,

@@ -13,6 +13,7 @@ use Rattle.pm_forest.specs.Forest.{Hierarchy, leaf_count, record_count, widths_o
 use Rattle.pm_forest.specs.Rules.{AllFit, counts_are_bad, counts_of, width_is_bad, root_fault, base_fault, record_fault_after, past_fault, HasShape}
 use Rattle.pm_forest.proofs.UnitLaws.{passed}
 use Rattle.pm_forest.proofs.OwnerLaws.{sum-cons}
+use Rattle.pm_forest.proofs.ShapingLaws.{widths_push}
 use Rattle.pm_format.specs.declared.fault.FormatError.TheVariants as faults
 use Rattle.pm_format.specs.declared.stop.Stop.{Stop}
 use Rattle.pm_format.specs.Words.{words_of, spelled, AreWords, IsBytes}
@@ -34,13 +35,6 @@ unguarded : {A : Type 0} (b : Bool) (stop : Stop) (r : Result A Stop) (y : A) �
 unguarded true stop r y is = absurd cc
 unguarded false stop r y is = (refl, is)
 
-widths_more : (before : List Root) (r : Root) →
-    sum (widths_of (before ++ r ∷ [])) ≡ sum (widths_of before) + r.width
-widths_more [] r = omega (arith, sum-cons r.width [])
-widths_more (q ∷ before) r =
-    let one = sum-cons q.width (widths_of before) in
-    omega (arith, widths_more before r, one, sum-cons q.width (widths_of (before ++ r ∷ [])))
-
 -- the last root takes what the others leave
 widths_so_far : (c : Counts) (before : List Root) (r : Root) (rs : List Root) →
     length before + length (r ∷ rs) ≡ c.roots → AllFit (root_fault c) before (r ∷ rs) →
@@ -57,7 +51,7 @@ widths_so_far c before r [] count all =
     omega (arith, sum-cons r.width [])
 widths_so_far c before r (q ∷ rs) count all =
     let others = widths_so_far c (before ++ r ∷ []) q rs (omega (arith, length-append before (r ∷ []))) all.1 in
-    omega (arith, widths_more before r, sum-cons r.width (widths_of (q ∷ rs)))
+    omega (arith, widths_push before r, sum-cons r.width (widths_of (q ∷ rs)))
 
 widths_are_leaves : (c : Counts) (rs : List Root) → counts_are_bad c ≡ false → length rs ≡ c.roots →
     AllFit (root_fault c) [] rs → sum (widths_of rs) ≡ c.leaves

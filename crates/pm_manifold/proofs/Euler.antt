@@ -14,19 +14,13 @@ use Rattle.pm_beyond.specs.Moves.{Needs, IsClosed}
 use Rattle.pm_beyond.specs.Valid.{IsValid}
 use Rattle.pm_beyond.proofs.Standing.{forest_of, closed-front, needs-older}
 use Rattle.pm_beyond.proofs.Closed.{may_split-from}
+use Rattle.pm_beyond.proofs.PlanLists.{same_bools}
 use Rattle.pm_firm.specs.Firm.{IsFirm}
-use Rattle.pm_firm.proofs.FirmFronts.{rising, rise-none, rise-with, rise-without, rise-closed, and_true}
+use Rattle.pm_firm.proofs.FirmFronts.{rising, rise-none, rise-with, rise-without, rise-closed, rise-all}
 use Rattle.pm_firm.proofs.SameSets.{shown-same, beyond-same}
 use Rattle.pm_manifold.specs.Measure.{is_border_side, nodes_shown, faces_shown, border_sides, joined_sides, edges_shown, euler_of}
 use Rattle.pm_manifold.proofs.BorderSides.{border-parts, border-from}
 use Rattle.pm_manifold.proofs.SplitCounts.{sides_shown, grows}
-
-pub same_bools : (a b : Bool) → (a ≡ true → b ≡ true) → (b ≡ true → a ≡ true) → a ≡ b
-same_bools a b f g =
-    elim (cases_Bool a) [
-      | inl t ↦ t ∙ sym (f t)
-      | inr t ↦ elim (cases_Bool b) [ inl s ↦ g s ∙ sym s | inr s ↦ t ∙ sym s ]
-    ]
 
 -- Sets that agree on the hierarchy's records have the same measure.
 module _ (h : Hierarchy) (valid : IsValid h) (T E : ℕ → Bool) (front : IsFront h T) (front' : IsFront h E) (same : (k : ℕ) → k < record_count h → T k ≡ E k) where
@@ -101,5 +95,5 @@ module _ (h : Hierarchy) (firm : IsFirm h) where
     as_base =
         let n = record_count h in
         let low = rise-closed h firm T closed n in
-        sym (euler-same h firm.valid (rising T n) T (closed-front h (rising T n) low) (closed-front h T closed) (λ k l. and_true (T k) (ltb k n) (lt-ltb k n l)))
+        sym (euler-same h firm.valid (rising T n) T (closed-front h (rising T n) low) (closed-front h T closed) (rise-all T n))
         ∙ rise n (omega arith)

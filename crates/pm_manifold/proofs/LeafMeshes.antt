@@ -19,13 +19,14 @@ use Rattle.pm_beyond.proofs.Reaching.{kept_at_side}
 use Rattle.pm_beyond.proofs.Standing.{forest_of, closed-front, needs-older}
 use Rattle.pm_beyond.proofs.Closed.{may_split-from}
 use Rattle.pm_beyond.proofs.WalkTheory as walks
+use Rattle.pm_beyond.proofs.PlanLists.{same_bools}
 use Rattle.pm_firm.specs.Firm.{IsFirm}
-use Rattle.pm_firm.proofs.FirmFronts.{rising, rise-none, rise-with, rise-closed, and_true}
+use Rattle.pm_firm.proofs.FirmFronts.{rising, rise-none, rise-with, rise-closed, rise-all}
 use Rattle.pm_manifold.specs.Measure.{is_border_side, is_joined_side, nodes_shown, faces_shown, border_sides, joined_sides, edges_shown, euler_of, edges_of}
 use Rattle.pm_manifold.specs.Laws as law
 use Rattle.pm_manifold.proofs.BorderSides.{stands_as}
 use Rattle.pm_manifold.proofs.Counted.{count_all}
-use Rattle.pm_manifold.proofs.Euler.{same_bools, nodes_same, as_base}
+use Rattle.pm_manifold.proofs.Euler.{nodes_same, as_base}
 use Rattle.pm_manifold.proofs.SplitCounts.{nodes_more}
 
 every_closed : (h : Hierarchy) → IsClosed h every
@@ -72,7 +73,7 @@ module _ (h : Hierarchy) (firm : IsFirm h) where
   full_nodes =
       let n = record_count h in
       let low = closed-front h (rising every n) (rise-closed h firm every (every_closed h) n) in
-      let same = nodes_same h firm.valid (rising every n) every low front (λ k l. and_true (every k) (ltb k n) (lt-ltb k n l)) in
+      let same = nodes_same h firm.valid (rising every n) every low front (rise-all every n) in
       let all = risen_nodes n (omega arith) in
       let counts = record_count-roots h firm.valid.shape in
       sym same ∙ all ∙ omega arith

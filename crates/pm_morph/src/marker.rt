@@ -78,7 +78,7 @@ fn write_from<K: Sink>(
 
 impl Marker {
     /// A marker of the base front of a hierarchy, in which no record is split. It takes memory for a mark on each record.
-    #[tactic(auto, using(crate::proofs::MarkLaws::none_marked, crate::proofs::MarkLaws::base_marks))]
+    #[tactic(auto, using(pm_forest::proofs::Flags::none_set, crate::proofs::MarkLaws::base_marks))]
     pub fn new(alloc: Global, h: &Hierarchy) -> Result<Marker, OutOfMemory>
         ensures base { IfOk result (λ m. set_of m ≡ no_records) }
         ensures made { IfOk result (λ m. AreMarksOf h.now m) }

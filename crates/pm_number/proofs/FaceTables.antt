@@ -1,5 +1,5 @@
 -- The table of a run's face numbers, one record more at a time.
-use Rattle.std.proofs.Common.{suc, ◌≡◌, ℕ, ◌+◌, ◌-◌, ◌<◌, ◌≤◌, Bool, true, false, List, length, get_or, Option, None, Some, is_some, is_none, inl, inr, refl, sym, ap, ◌∙◌, subst, arith}
+use Rattle.std.proofs.Common.{suc, ◌≡◌, ℕ, ◌+◌, ◌-◌, ◌<◌, ◌≤◌, true, false, List, length, get_or, Option, None, Some, is_some, is_none, inl, inr, refl, sym, ap, ◌∙◌, subst, arith}
 use Rattle.std.proofs.lemmas.Bool.{cases_lt, false≢true}
 use Rattle.std.proofs.lemmas.List.{length-set}
 use Rattle.pm_base.proofs.Search.{option_cases}
@@ -17,10 +17,6 @@ use Rattle.pm_number.proofs.NumberedFaces.{none-number, is_base, is_left_of, is_
 use Rattle.pm_number.proofs.FacePositions.{gone-lt}
 use Rattle.pm_number.proofs.RunCounts.{face-count}
 use Rattle.pm_number.proofs.NumberLaws.{set_keeps, set_makes}
-
-pub one_if-le : (b : Bool) → one_if b ≤ 1
-one_if-le true = omega arith
-one_if-le false = omega arith
 
 pub bases_inside : (r : Run) → IsMerging r → (j : ℕ) → j < length (base_faces r) → (get_or (base_faces r) j 0 < r.net.faces) × (face_number r (get_or (base_faces r) j 0) ≡ j)
 unfolding base_faces

@@ -1,12 +1,11 @@
 -- What a shaper has taken in of the hierarchy of a run, one unit more at a time.
-use Rattle.std.proofs.Common.{suc, ◌≡◌, ◌≢◌, ℕ, ◌+◌, ◌-◌, ◌*◌, ◌<◌, ◌⊎◌, eqb, true, false, cond, not, List, [], ◌∷◌, ◌++◌, length, get_or, take, Option, None, Some, Ok, Err, Result, is_some, inl, inr, refl, sym, ap, ◌∙◌, subst, arith}
+use Rattle.std.proofs.Common.{suc, ◌≡◌, ℕ, ◌+◌, ◌-◌, ◌*◌, ◌<◌, ◌⊎◌, eqb, true, false, cond, not, List, [], ◌∷◌, ◌++◌, length, get_or, take, Option, None, Some, Ok, Err, Result, is_some, inl, inr, refl, sym, ap, ◌∙◌, subst, arith}
 use Rattle.std.specs.Prelude.{ℤ, IfErr, OnOk, IfSome}
-use Rattle.std.proofs.lemmas.Bool.{lt-ltb, le-ltb, ne_eqb}
+use Rattle.std.proofs.lemmas.Bool.{lt-ltb, le-ltb}
 use Rattle.std.proofs.lemmas.Option.{none-some}
 use Rattle.std.proofs.lemmas.List.{length-take-le, take_more}
 use Rattle.pm_base.specs.Counts.{one_if}
 use Rattle.pm_base.specs.Sides.{Net, next}
-use Rattle.pm_base.specs.declared.ids.Side.{Side}
 use Rattle.pm_base.specs.declared.log.Gone.{Gone}
 use Rattle.pm_forest.specs.declared.parts.Counts.{Counts}
 use Rattle.pm_forest.specs.declared.parts.Root.{Root}
@@ -21,8 +20,9 @@ use Rattle.pm_forest.specs.Forest.{Hierarchy, record_at, record_count}
 use Rattle.pm_forest.specs.Faces.{no_corners}
 use Rattle.pm_forest.specs.Places.{no_root}
 use Rattle.pm_forest.specs.Rules.{root_fault, base_fault, head_of, head_fault, presence_is_bad, new_face_fault, bare, left_only, with_record, word_of, counts_of}
-use Rattle.pm_forest.specs.Shaping.{Shaping, expects, so_far, next_root, next_face, side_of, started, settled, with_face}
+use Rattle.pm_forest.specs.Shaping.{Shaping, expects, so_far, next_root, next_face, started, settled, with_face}
 use Rattle.pm_forest.proofs.Prefix.{cut, cut-more}
+use Rattle.pm_forest.proofs.FacesTaken.{side_of-word}
 use Rattle.pm_runs.specs.Merged.{StandsAcross}
 use Rattle.pm_number.specs.Stages.{Run, steps, net_after, IsGone, IsMerging}
 use Rattle.pm_number.specs.Numbering.{step_of, place_number, width_number, input_number, numbered_root, numbered_face, numbered_side, numbered_gone, hierarchy_of}
@@ -94,13 +94,6 @@ head_taken h s new k d result is some d_is fits err ok =
     ∙ rw (is, d_is, started_is (record_at h k) some) refl
 
 -- New faces
-
-pub side_of-word : (o : Option Side) → side_of (word_of o) ≡ o
-side_of-word None = refl
-side_of-word (Some e) =
-    let some : e.0 + 1 ≢ 0 = λ z. omega arith in
-    let back : e.0 + 1 - 1 ≡ e.0 = omega arith in
-    rw (ne_eqb (e.0 + 1) 0 some, back) refl
 
 -- the left face of a record, as it was sent
 pub expects_left : (h : Hierarchy) (s : Shaping) (k : ℕ) (n : NewFace) → s ≡ took_head h k → (record_at h k).left ≡ Some n → (expects s ≡ kinds.LeftFace) ⊎ (expects s ≡ kinds.RightFace)

@@ -19,7 +19,7 @@ use Rattle.pm_forest.proofs.Prefix.{cut, record_count-cut, s_of-cut, interval_of
 use Rattle.pm_forest.proofs.FaceNumbers.{first_face-mono}
 use Rattle.pm_forest.proofs.InputLaws.{node_inputs-length, input-root, input-cut}
 use Rattle.pm_number.specs.Stages.{Run, steps, entry, net_after, IsGone, IsMerging}
-use Rattle.pm_number.specs.Numbering.{taken_by, left_over, step_of, node_number, width_number, leaf_number, place_number, input_number, numbered_gone, numbered_root, hierarchy_of}
+use Rattle.pm_number.specs.Numbering.{taken_by, left_over, step_of, node_number, width_number, leaf_number, place_number, input_number, numbered_root, hierarchy_of}
 use Rattle.pm_number.proofs.RunLaws.{ends_given}
 use Rattle.pm_number.proofs.Positions.{picked-at}
 use Rattle.pm_number.proofs.NodeNumbers.{none-left, node-t, node-u, node-there, node-back, root-count, count, record-at, s-of}
@@ -27,10 +27,7 @@ use Rattle.pm_number.proofs.LeafNumbers.{width-step, width-one, some, interval-e
 use Rattle.pm_number.proofs.RunCounts.{node-count, face-count, leaf-number-count}
 use Rattle.pm_number.proofs.NodeParts.{node-input, input-first, input-later}
 use Rattle.pm_number.proofs.UnitsPass.{unused-from, widths_fit, counts_pass, width_pass, InputPasses, input_pass, root_pass, split_pass, head_pass}
-
-same_there : (r : Run) (g : Option Gone) → is_some (numbered_gone r g) ≡ is_some g
-same_there r None = refl
-same_there r (Some g) = refl
+use Rattle.pm_number.proofs.NumberedFaces.{numbered-some}
 
 module _ (r : Run) (run : IsMerging r) where
   abbrev h : Hierarchy
@@ -178,8 +175,8 @@ module _ (r : Run) (run : IsMerging r) where
         let c = step_of r k in
         let is = record-at r k l in
         let logged = run.logged (steps r - suc k) (omega arith) in
-        let left : is_some (record_at h k).left ≡ is_some c.left = ap (λ (x : Record). is_some x.left) is ∙ same_there r c.left in
-        let right : is_some (record_at h k).right ≡ is_some c.right = ap (λ (x : Record). is_some x.right) is ∙ same_there r c.right in
+        let left : is_some (record_at h k).left ≡ is_some c.left = ap (λ (x : Record). is_some x.left) is ∙ numbered-some r c.left in
+        let right : is_some (record_at h k).right ≡ is_some c.right = ap (λ (x : Record). is_some x.right) is ∙ numbered-some r c.right in
         rw (left, right) (some_face c.left c.right logged.left logged.right)
 
     -- the numbers of the nodes before

@@ -2,7 +2,7 @@
 use Rattle.std.proofs.Common.{suc, zero, ◌≡◌, ◌≢◌, ℕ, ◌+◌, ◌-◌, ◌*◌, ◌<◌, ◌≤◌, eqb, true, cond, map, sum, length, inl, inr, refl, sym, ap, ◌∙◌, subst, arith}
 use Rattle.std.proofs.lemmas.Bool.{cases_eq, cases_lt, eq-eqb, ne_eqb, lt-ltb, cond-true, cond-false}
 use Rattle.pm_forest.proofs.Ancestors.{active-ancestor, holds-ancestor_of, there-lt}
-use Rattle.pm_forest.proofs.Nodes.{within-from, within-true}
+use Rattle.pm_forest.proofs.Nodes.{within-from, within-true, interval-t, interval-u, interval-else}
 use Rattle.pm_forest.specs.Forest.{Hierarchy, widths, record_at, leaf_count, s_of, t_of, u_of, within, root_interval, first_part, rest, interval_after, interval_of, holds, Holds, HasForestShape}
 use Rattle.pm_forest.specs.Fronts.{ancestor_of, below}
 use Rattle.pm_number.proofs.NodeNumbers.{stays_left, as_t, as_u, node-t, node-u, node_of, node-once, node-there, node-back, t_differs, root-count, count, record-at, s-of}
@@ -10,21 +10,6 @@ use Rattle.pm_number.proofs.Positions.{interval-same, root-interval, before-with
 use Rattle.pm_number.proofs.RunLaws.{ends_given}
 use Rattle.pm_number.specs.Numbering.{place_in, left_over, step_of, node_number, width_after, width_number, start_after, leaf_number, numbered_root, hierarchy_of}
 use Rattle.pm_number.specs.Stages.{Run, steps, entry, IsMerging}
-
--- One record's children in the table of intervals
-after-t : (h : Hierarchy) (k : ℕ) → interval_after h (suc k) (t_of h k) ≡ first_part (interval_after h k (s_of h k)) (record_at h k).width
-unfolding interval_after
-after-t h k = rw (eq-eqb (t_of h k) (t_of h k) refl)
-
-after-u : (h : Hierarchy) (k : ℕ) → interval_after h (suc k) (u_of h k) ≡ rest (interval_after h k (s_of h k)) (record_at h k).width
-unfolding interval_after
-after-u h k =
-    let n : u_of h k ≢ t_of h k = omega arith in
-    rw (ne_eqb (u_of h k) (t_of h k) n, eq-eqb (u_of h k) (u_of h k) refl)
-
-after-else : (h : Hierarchy) (k v : ℕ) → v ≢ t_of h k → v ≢ u_of h k → interval_after h (suc k) v ≡ interval_after h k v
-unfolding interval_after
-after-else h k v a b = rw (ne_eqb v (t_of h k) a, ne_eqb v (u_of h k) b)
 
 module _ (r : Run) (run : IsMerging r) where
   -- Widths
@@ -152,7 +137,7 @@ module _ (r : Run) (run : IsMerging r) where
             let same : width_number r v ≡ width_number r c.t = ap (width_number r) is in
             record {
               interval =
-                  ap (interval_after k (suc d)) node_is ∙ after-t k d ∙ ap (λ x. first_part x (record_at k d).width) s_interval ∙ ap (first_part (record { from = start_after r d c.s; until = start_after r d c.s + width_number r c.s })) width_is
+                  ap (interval_after k (suc d)) node_is ∙ interval-t k d ∙ ap (λ x. first_part x (record_at k d).width) s_interval ∙ ap (first_part (record { from = start_after r d c.s; until = start_after r d c.s + width_number r c.s })) width_is
                   ∙ interval-same _ _ _ _ (omega arith) (omega arith);
               within_all = omega arith;
             }
@@ -164,7 +149,7 @@ module _ (r : Run) (run : IsMerging r) where
                   let same : width_number r v ≡ width_number r c.u = ap (width_number r) is in
                   record {
                     interval =
-                        ap (interval_after k (suc d)) node_is ∙ after-u k d ∙ ap (λ x. rest x (record_at k d).width) s_interval ∙ ap (rest (record { from = start_after r d c.s; until = start_after r d c.s + width_number r c.s })) width_is
+                        ap (interval_after k (suc d)) node_is ∙ interval-u k d ∙ ap (λ x. rest x (record_at k d).width) s_interval ∙ ap (rest (record { from = start_after r d c.s; until = start_after r d c.s + width_number r c.s })) width_is
                         ∙ interval-same _ _ _ _ (omega arith) (omega arith);
                     within_all = omega arith;
                   }
@@ -178,7 +163,7 @@ module _ (r : Run) (run : IsMerging r) where
                   let start_is = start-else d v not_t not_u in
                   let all' = old.within_all in
                   record {
-                    interval = after-else k d (node_number r v) off_t off_u ∙ old.interval ∙ interval-same _ _ _ _ (omega arith) (omega arith);
+                    interval = interval-else k d (node_number r v) off_t off_u ∙ old.interval ∙ interval-same _ _ _ _ (omega arith) (omega arith);
                     within_all = omega arith;
                   }
             ]

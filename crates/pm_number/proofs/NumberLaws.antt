@@ -6,10 +6,11 @@ use Rattle.std.proofs.lemmas.List.{length-set, length-map, get_or_read, get_or-m
 use Rattle.std.proofs.lemmas.List.Sums.{sum_by-take-le, sum_by_push}
 use Rattle.pm_base.specs.declared.log.Collapse.{Collapse}
 use Rattle.pm_forest.specs.Forest.{leaf_count}
+use Rattle.pm_forest.proofs.OwnerLaws.{sum-cons}
 use Rattle.pm_number.specs.Stages.{Run, steps, entry, IsMerging}
 use Rattle.pm_number.specs.Numbering.{taken_by, place_in, sum_before, left_over, step_of, width_after, width_number, node_number, start_after, leaf_number, hierarchy_of}
 use Rattle.pm_number.specs.Tables.{IsSmallRun, all_vertices, HasNumbers, RootsHave, HasStarts}
-use Rattle.pm_number.proofs.Positions.{sum-cons, at_place, picked-at}
+use Rattle.pm_number.proofs.Positions.{at_place, picked-at}
 use Rattle.pm_number.proofs.RunLaws.{ends_given}
 use Rattle.pm_number.proofs.NodeNumbers.{stays_left, as_t, as_u, node_of, node-t, node-u, node-there, node-once, t_differs}
 use Rattle.pm_number.proofs.LeafNumbers.{is_at, width-kept, width-step, at_end, older, start-t, start-u, start-else, widths-are}

@@ -1,12 +1,9 @@
 -- Positions in lists of numbers, and the intervals of roots.
 use Rattle.std.proofs.Common.{zero, suc, ◌≡◌, ◌≢◌, ℕ, ◌+◌, ◌<◌, ◌≤◌, Bool, true, false, List, [], ◌∷◌, map, sum, length, get_or, inl, inr, refl, sym, ap, ◌∙◌, subst, arith}
 use Rattle.std.proofs.lemmas.Bool.{cases_eq, cases_Bool, false≢true, eq-eqb, ne_eqb, cond-true, cond-false}
-use Rattle.std.proofs.lemmas.List.Sums.{sum_by-cons}
 use Rattle.pm_forest.specs.Forest.{Interval, root_interval}
+use Rattle.pm_forest.proofs.OwnerLaws.{sum-cons}
 use Rattle.pm_number.specs.Numbering.{place_in, sum_before, picked}
-
-pub sum-cons : (w : ℕ) (ws : List ℕ) → sum (w ∷ ws) ≡ w + sum ws
-sum-cons w ws = sum_by-cons (λ x. x) w ws
 
 place-here : (v x : ℕ) (xs : List ℕ) → v ≡ x → place_in v (x ∷ xs) ≡ 0
 place-here v x xs is = cond-true _ 0 (suc (place_in v xs)) (eq-eqb v x is)

@@ -4,11 +4,12 @@ use Rattle.std.proofs.lemmas.Bool.{cases_Bool, and_left, cond-true, cond-false, 
 use Rattle.pm_base.specs.Counts.{one_if}
 use Rattle.pm_base.specs.Sides.{next, face_of, Net, Stands}
 use Rattle.pm_base.specs.declared.log.Gone.{Gone}
+use Rattle.pm_base.proofs.Sides.{face_of-next}
 use Rattle.pm_beyond.specs.Walks.{number_of, mate_of, expected_at, expected}
 use Rattle.pm_forest.proofs.Ancestors.{holds-ancestor_of}
 use Rattle.pm_forest.proofs.FaceNumbers.{which_face}
 use Rattle.pm_forest.proofs.Nodes.{holds-u_from_s}
-use Rattle.pm_forest.proofs.Sides.{next-differs, next_next-differs, next-face, three_sides}
+use Rattle.pm_forest.proofs.Sides.{next-differs, next_next-differs, three_sides}
 use Rattle.pm_forest.specs.Faces.{no_face, first_face, face_count, revealed_by, is_left, new_face, record_of, from_leaf, to_leaf, inner_of}
 use Rattle.pm_forest.specs.Forest.{Hierarchy, record_at, record_count, s_of, t_of, u_of, holds, Holds}
 use Rattle.pm_forest.specs.Fronts.{ancestor_of, below}
@@ -183,7 +184,7 @@ module _ (r : Run) (h : Hierarchy) (node leaf face : ℕ → ℕ) (run : IsMergi
         )
 
     next_side : (e : ℕ) → e < 3 * face_count h → next e < 3 * face_count h
-    next_side e l = let f = next-face e in omega arith
+    next_side e l = let f = face_of-next e in omega arith
 
     pub shape_left : (f : ℕ) → f < face_count h → revealed_by h f ≡ Some k → is_left h k f ≡ true → let o = inner_of h k f in
         Holds h (t_of h k) (from_leaf h o) × Holds h (u_of h k) (to_leaf h o) × (holds h (s_of h k) (from_leaf h (next (next o))) ≡ false)

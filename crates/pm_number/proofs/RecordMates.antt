@@ -2,13 +2,13 @@
 use Rattle.std.proofs.Common.{suc, ◌≡◌, ◌≢◌, ℕ, ◌+◌, ◌*◌, ◌<◌, true, false, cond, ◌&&◌, Option, Some, None, is_some, inl, inr, refl, sym, ap, ◌∙◌, subst, arith}
 use Rattle.std.proofs.lemmas.Bool.{cases_Bool, and_left, cond-true, cond-false, both_ways, true≢false, and_parts, and_from, eq-eqb, ne_eqb, and_right}
 use Rattle.std.proofs.lemmas.Option.{none-some}
-use Rattle.pm_base.proofs.Sides.{stands_next}
+use Rattle.pm_base.proofs.Sides.{stands_next, face_of-next}
 use Rattle.pm_base.specs.Counts.{one_if}
 use Rattle.pm_base.specs.Sides.{next, face_of, to, Stands}
 use Rattle.pm_base.specs.declared.log.Gone.{Gone}
 use Rattle.pm_beyond.specs.Walks.{mate_of, expected}
 use Rattle.pm_forest.proofs.FaceNumbers.{first_face-mono, revealed-from, which_face}
-use Rattle.pm_forest.proofs.Sides.{next-face, three_sides}
+use Rattle.pm_forest.proofs.Sides.{three_sides}
 use Rattle.pm_forest.specs.Faces.{first_face, face_count, revealed_by, is_left, record_of, inner_of}
 use Rattle.pm_forest.specs.Forest.{Hierarchy, record_at, record_count}
 use Rattle.pm_forest.specs.Fronts.{below}
@@ -186,5 +186,5 @@ module _ (r : Run) (h : Hierarchy) (node leaf face : ℕ → ℕ) (run : IsMergi
         n (ap (λ f. revealed_by h f) (side-face face e ∙ ap face (sym on) ∙ sym (side-face face x)) ∙ reveals x links) in
         stays (net_after r i) c.t c.u c.s (fresh-s r run i (omega arith)) e st
         (λ z. near e _ _ refl st z refl refl)
-        (λ z. near (next e) _ _ (next-face e) n1 z refl refl)
-        (λ z. near (next (next e)) _ _ (next-face (next e) ∙ next-face e) n2 z refl (third_next (net_after r i) e))
+        (λ z. near (next e) _ _ (face_of-next e) n1 z refl refl)
+        (λ z. near (next (next e)) _ _ (face_of-next (next e) ∙ face_of-next e) n2 z refl (third_next (net_after r i) e))

@@ -1,33 +1,17 @@
 -- Numberings that are one to one keep counts.
-use Rattle.std.proofs.Common.{zero, suc, ◌≡◌, ℕ, ◌+◌, ◌*◌, ◌<◌, eqb, true, List, [], ◌∷◌, length, inl, inr, refl, sym, ap, ◌∙◌, subst, arith}
-use Rattle.std.specs.List.{IsDistinct, list_any}
-use Rattle.std.proofs.lemmas.Bool.{eqb-true, eq-eqb, false≢true, or_cases, or_left, or_right, cases_eq}
+use Rattle.std.proofs.Common.{zero, suc, ◌≡◌, ℕ, ◌+◌, ◌*◌, ◌<◌, eqb, true, length, inl, inr, refl, sym, ap, ◌∙◌, subst, arith}
+use Rattle.std.specs.List.{list_any}
+use Rattle.std.proofs.lemmas.Bool.{eq-eqb, or_left, or_right, cases_eq}
 use Rattle.std.proofs.lemmas.Map.Steps.{length-le_from_distinct_below, le-length_from_below}
-use Rattle.pm_forest.proofs.OneToOne.{distinct_more, distinct_nil}
 use Rattle.pm_forest.specs.Faces.{face_count}
 use Rattle.pm_forest.specs.Forest.{leaf_count}
 use Rattle.pm_forest.specs.Fronts.{ancestor_of, below}
+use Rattle.pm_forest.proofs.OneToOne.{images, length-images, images-parts, images-distinct}
 use Rattle.pm_number.proofs.NodeNumbers.{node-once, node-there, node-back}
 use Rattle.pm_number.proofs.Stages.{leaf-node}
 use Rattle.pm_number.proofs.Whole.{numbered}
 use Rattle.pm_number.specs.Numbering.{left_over, node_number, leaf_number, face_number, hierarchy_of}
 use Rattle.pm_number.specs.Stages.{Run, steps, IsMerging}
-
-abbrev images : (ℕ → ℕ) → ℕ → List ℕ
-images f zero = []
-images f (suc n) = f n ∷ images f n
-
-length-images : (f : ℕ → ℕ) (n : ℕ) → length (images f n) ≡ n
-length-images f zero = refl
-length-images f (suc n) = ap suc (length-images f n)
-
-images-parts : (f : ℕ → ℕ) (n q : ℕ) → list_any (eqb q) (images f n) ≡ true → (x : ℕ) × (x < n) × (q ≡ f x)
-images-parts f zero q e = absurd (false≢true e)
-images-parts f (suc n) q e =
-    elim (or_cases (eqb q (f n)) (list_any (eqb q) (images f n)) e) [
-      | inl a ↦ (n, omega arith, eqb-true q (f n) a)
-      | inr a ↦ (let (x, l, is) = images-parts f n q a in (x, omega arith, is))
-    ]
 
 images-has : (f : ℕ → ℕ) (n x : ℕ) → x < n → list_any (eqb (f x)) (images f n) ≡ true
 images-has f zero x l = absurd (omega arith)
@@ -36,14 +20,6 @@ images-has f (suc n) x l =
       | inl is ↦ or_left (eqb (f x) (f n)) _ (eq-eqb (f x) (f n) (ap f is))
       | inr other ↦ or_right (eqb (f x) (f n)) _ (images-has f n x (omega arith))
     ]
-
-images-distinct : (f : ℕ → ℕ) (n : ℕ) → ((x y : ℕ) → x < n → y < n → f x ≡ f y → x ≡ y) → IsDistinct eqb (images f n)
-images-distinct f zero once = distinct_nil
-images-distinct f (suc n) once =
-    distinct_more (f n) (images f n) (images-distinct f n (λ x y l m e. once x y (omega arith) (omega arith) e)) (λ e.
-    let (x, l, is) = images-parts f n (f n) e in
-    let same = once n x (omega arith) (omega arith) is in
-    omega arith)
 
 pub same_count : (f : ℕ → ℕ) (a b : ℕ) → ((x y : ℕ) → x < a → y < a → f x ≡ f y → x ≡ y) → ((x : ℕ) → x < a → f x < b) → ((y : ℕ) → y < b → (x : ℕ) × (x < a) × (f x ≡ y)) → a ≡ b
 same_count f a b once there back =

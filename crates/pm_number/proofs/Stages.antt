@@ -3,9 +3,9 @@ use Rattle.std.proofs.Common.{suc, zero, ◌≡◌, ◌≢◌, ℕ, ◌+◌, ◌
 use Rattle.std.proofs.lemmas.Bool.{cases_lt, cases_Bool, leb-false, lt-ltb, ltb-true, cond-true, cond-false}
 use Rattle.std.proofs.lemmas.Option.{none-some}
 use Rattle.pm_base.specs.Sides.{next, face_of}
+use Rattle.pm_base.proofs.Sides.{next_cases, face_of-next}
 use Rattle.pm_forest.proofs.Ancestors.{stays as stays_there, to_t, to_u, move, ancestor_of-unique, below-front}
 use Rattle.pm_forest.proofs.Nodes.{has_maker}
-use Rattle.pm_forest.proofs.Sides.{next_cases, next-face}
 use Rattle.pm_forest.specs.Faces.{first_face, face_count, revealed_after, from_leaf}
 use Rattle.pm_forest.specs.Forest.{Hierarchy, widths, leaf_count, s_of, t_of, u_of, root_of}
 use Rattle.pm_forest.specs.Fronts.{IsFront, ancestor_after, ancestor_of, below}
@@ -27,7 +27,7 @@ pub side-turns : (face : ℕ → ℕ) (e : ℕ) → side_by face (next e) ≡ ne
 unfolding side_by
 side-turns face e =
     let a = next_cases e in
-    let f : face (face_of (next e)) ≡ face (face_of e) = ap face (next-face e) in
+    let f : face (face_of (next e)) ≡ face (face_of e) = ap face (face_of-next e) in
     let b = next_cases (side_by face e) in
     omega arith
 

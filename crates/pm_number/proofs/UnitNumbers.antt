@@ -1,8 +1,7 @@
 -- The parts of units, read from the tables of a run's numbers.
-use Rattle.std.proofs.Common.{suc, ◌≡◌, ℕ, ◌+◌, ◌-◌, ◌*◌, ◌/◌, ◌%◌, ◌<◌, ◌≤◌, ltb, List, [], ◌∷◌, length, get_or, Option, None, Some, is_some, refl, sym, ap, ◌∙◌, arith}
+use Rattle.std.proofs.Common.{suc, ◌≡◌, ℕ, ◌+◌, ◌-◌, ◌*◌, ◌/◌, ◌%◌, ◌<◌, ◌≤◌, ltb, List, [], ◌∷◌, length, get_or, Option, Some, is_some, refl, sym, ap, ◌∙◌, arith}
 use Rattle.std.proofs.Common.{w32, to_z, of_z}
-use Rattle.std.specs.Prelude.{ℤ, unsigned_abs}
-use Rattle.std.proofs.lemmas.Int.{to_z-of_z, fits_signed_from_abs}
+use Rattle.std.specs.Prelude.{ℤ}
 use Rattle.std.proofs.lemmas.Bool.{lt-ltb, le-ltb, cond-true, cond-false}
 use Rattle.std.proofs.lemmas.List.{get_or_read, get_or_default}
 use Rattle.pm_base.specs.Place.{Place, IsPlace, place_of}
@@ -11,30 +10,28 @@ use Rattle.pm_base.specs.Sides.{no_corners}
 use Rattle.pm_base.specs.declared.mesh.Corners.{Corners}
 use Rattle.pm_base.specs.declared.ids.Side.{Side}
 use Rattle.pm_base.specs.Counts.{one_if}
-use Rattle.pm_base.specs.declared.log.Gone.{Gone}
 use Rattle.pm_base.specs.declared.log.Collapse.{Collapse}
 use Rattle.pm_base.proofs.NetLaws.{first_side, second_side, third_side}
+use Rattle.pm_base.proofs.Range.{coordinate_kept}
 use Rattle.pm_forest.specs.declared.parts.Face.{Face}
 use Rattle.pm_forest.specs.declared.parts.Head.{Head}
 use Rattle.pm_forest.specs.Forest.{record_at}
 use Rattle.pm_forest.specs.Rules.{word_of, head_of}
 use Rattle.pm_number.specs.Stages.{Run, run_of, no_collapse, steps, entry, side_by, IsMerging}
-use Rattle.pm_number.specs.Numbering.{step_of, node_number, width_number, leaf_number, face_number, place_number, input_number, numbered_face, numbered_side, numbered_gone, hierarchy_of}
+use Rattle.pm_number.specs.Numbering.{step_of, node_number, width_number, leaf_number, face_number, place_number, input_number, numbered_face, numbered_side, hierarchy_of}
 use Rattle.pm_number.specs.Tables.{IsSmallRun, HasNumbers, all_vertices, coordinates}
 use Rattle.pm_number.proofs.RunLaws.{ends_given}
 use Rattle.pm_number.proofs.NodeNumbers.{record-at}
 use Rattle.pm_number.proofs.FacePositions.{face-there}
 use Rattle.pm_number.proofs.RunCounts.{face-count}
+use Rattle.pm_number.proofs.NumberedFaces.{numbered-some}
 
 -- Places
-
-same_number : (n : ℤ) → unsigned_abs n ≤ 32767 → to_z w32 (of_z w32 n) ≡ n
-same_number n l = to_z-of_z w32 n (fits_signed_from_abs w32 n (omega arith))
 
 -- the three numbers of a place are its place
 pub place_same : (p : Place) (x y z : ℤ) → IsPlace p → x ≡ p.x → y ≡ p.y → z ≡ p.z →
     to_z w32 (of_z w32 x) ∷ to_z w32 (of_z w32 y) ∷ to_z w32 (of_z w32 z) ∷ [] ≡ coordinates p
-place_same p x y z on x_is y_is z_is = rw (x_is, y_is, z_is, same_number p.x on.0, same_number p.y on.1, same_number p.z on.2) refl
+place_same p x y z on x_is y_is z_is = rw (x_is, y_is, z_is, coordinate_kept p.x on.0, coordinate_kept p.y on.1, coordinate_kept p.z on.2) refl
 
 pub first_place : (m : Mesh) (log : List Collapse) (v : ℕ) (p : Place) → v < length m.points → p ≡ get_or m.points v p → p ≡ place_number (run_of m log) v
 unfolding place_number
@@ -103,10 +100,6 @@ word_small r faces e n small has l n_is =
     let few = small.few_faces in
     omega arith
 
-same_there : (r : Run) (g : Option Gone) → is_some (numbered_gone r g) ≡ is_some g
-same_there r None = refl
-same_there r (Some g) = refl
-
 -- Heads
 
 pub head_is : (r : Run) (nodes widths : List ℕ) (k : ℕ) (c : Collapse) (s width : ℕ) (t : List ℤ) (t_input : ℕ) (u : List ℤ) (u_input presence : ℕ) → IsMerging r →
@@ -128,7 +121,7 @@ head_is r nodes widths k c s width t t_input u u_input presence run node_has wid
     let len' = width_has.len in
     let node : s ≡ node_number r c.s = get_or_read nodes c.s s (omega arith) s_is 0 ∙ node_has.each c.s s_lt in
     let wide : width ≡ width_number r c.t = get_or_read widths c.t width (omega arith) width_is 0 ∙ width_has.each c.t t_lt in
-    rw (record-at r k l, node, wide, t_place, t_number, u_place, u_number, faces, same_there r (step_of r k).left, same_there r (step_of r k).right) (rw c_is refl)
+    rw (record-at r k l, node, wide, t_place, t_number, u_place, u_number, faces, numbered-some r (step_of r k).left, numbered-some r (step_of r k).right) (rw c_is refl)
 
 -- the collapse that became record k
 pub step_is : (r : Run) (k : ℕ) (c : Collapse) → k < steps r → c ≡ entry r (steps r - 1 - k) → c ≡ step_of r k

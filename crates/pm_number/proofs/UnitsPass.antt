@@ -2,7 +2,6 @@
 use Rattle.std.proofs.Common.{◌≡◌, ◌≢◌, ℕ, zero, suc, ◌+◌, ◌-◌, ◌<◌, ◌≤◌, ◌⊎◌, eqb, true, false, not, ◌&&◌, List, [], ◌∷◌, ◌++◌, length, sum, get_or, take, Option, None, is_some, inl, inr, refl, sym, ◌∙◌, subst, arith, append_assoc}
 use Rattle.std.proofs.lemmas.Bool.{cases_eq, le-ltb, lt-leb, eq-eqb, ne_eqb, or_from, and_left, and_right, cond-true, cond-false}
 use Rattle.std.proofs.lemmas.List.{append-nil}
-use Rattle.std.proofs.lemmas.List.Sums.{sum_by-cons}
 use Rattle.pm_base.specs.Place.{is_place, place_of}
 use Rattle.pm_forest.specs.declared.parts.Counts.{Counts}
 use Rattle.pm_forest.specs.declared.parts.Root.{Root}
@@ -14,6 +13,7 @@ use Rattle.pm_forest.specs.Forest.{Hierarchy, widths_of, node_count, leaf_count,
 use Rattle.pm_forest.specs.Rules.{counts_are_bad, root_inputs, face_inputs, node_inputs, vertex_input_is_bad, face_input_is_bad, width_is_bad, root_fault, base_is_bad, base_fault, split_is_bad, presence_is_bad, head_is_bad, children_fault, head_fault, AllFit}
 use Rattle.pm_forest.specs.Shaping.{SplitFits}
 use Rattle.pm_forest.proofs.UnitLaws.{BaseFits}
+use Rattle.pm_forest.proofs.OwnerLaws.{sum-cons}
 
 -- Units in a row
 
@@ -33,9 +33,6 @@ unused-from [] n apart = refl
 unused-from (m ∷ used) n apart = or_from (eqb m n) (is_used used n) (ne_eqb m n (apart 0 (omega arith))) (unused-from used n (λ k l. apart (suc k) (omega arith)))
 
 -- Widths
-
-sum-cons : (w : ℕ) (ws : List ℕ) → sum (w ∷ ws) ≡ w + sum ws
-sum-cons w ws = sum_by-cons (λ x. x) w ws
 
 length-sum : (ws : List ℕ) → ((i : ℕ) → i < length ws → 0 < get_or ws i 0) → length ws ≤ sum ws
 length-sum [] wide = omega arith

@@ -1,5 +1,6 @@
 -- The tables of a run's numbers, and what a shaper has taken in of its hierarchy.
 use Rattle.std.specs.Prelude.{◌≡◌, ℕ, ℤ, ◌+◌, ◌*◌, ◌<◌, ◌≤◌, List, [], ◌∷◌, Bool, not, Option, Some, None, is_some, true, false, length, take, slice_index_or, slice_set, if◌then◌else◌}
+use Rattle.pm_base.specs.declared.limits.TheConstants.{MOST_FACES, MOST_VERTICES}
 use Rattle.pm_base.specs.Place.{Place}
 use Rattle.pm_base.specs.declared.log.Gone.{Gone}
 use Rattle.pm_forest.specs.Forest.{Hierarchy, record_at}
@@ -12,9 +13,9 @@ use Rattle.pm_number.specs.Numbering.{left_over, base_faces, width_number, node_
 -- A run that fits the limits of meshes.
 pub record IsSmallRun (r : Run) : Type 0 where
   pub merging : IsMerging r
-  pub few_vertices : r.vertices ≤ 1048576
-  pub few_steps : steps r ≤ 1048576
-  pub few_faces : r.net.faces ≤ 1048576
+  pub few_vertices : r.vertices ≤ MOST_VERTICES
+  pub few_steps : steps r ≤ MOST_VERTICES
+  pub few_faces : r.net.faces ≤ MOST_FACES
 
 -- How many vertices there are in all, those that collapses make among them.
 abbrev pub all_vertices : Run → ℕ

@@ -1,11 +1,11 @@
 -- The polynomial of a list's sums is the sum of the planes' squared values.
 use Rattle.std.proofs.Common.{◌≡◌, ◌+◌, List, [], ◌∷◌, ◌++◌, refl, ◌∙◌, arith, add_assoc, zero-add}
-use Rattle.std.specs.Prelude.{ℤ, pos, negsuc, ◌+ℤ◌, ◌*ℤ◌, unsigned_abs}
+use Rattle.std.specs.Prelude.{ℤ, pos, ◌+ℤ◌, ◌*ℤ◌}
 use Rattle.std.proofs.Math.IntN.{+ℤ_assoc, +ℤ_idl, +ℤ_idr}
 use borrow.Author.Differences.{ints}
 use Rattle.pm_base.specs.Place.{Place}
-use Rattle.pm_base.specs.Geometry.{square_of}
 use Rattle.pm_base.proofs.Ring.{diff-of, diff_same, add-diff, mul-diff, pos_is_diff}
+use Rattle.pm_base.proofs.Squares.{square_is}
 use Rattle.pm_quadric.specs.Planes.{Plane, plane_value, squared_value, squares_of}
 use Rattle.pm_quadric.specs.Sums.{Sums, plus_sums, coefficients, sums_of}
 use Rattle.pm_quadric.specs.Expanded.{polynomial}
@@ -42,11 +42,6 @@ multiplied_out : (a b c d x y z : ℤ) → (a *ℤ a *ℤ (x *ℤ x) +ℤ b *ℤ
 multiplied_out a b c d x y z =
     rw (diff-of a, diff-of b, diff-of c, diff-of d, diff-of x, diff-of y, diff-of z, pos_is_diff 2)
     (simp (add-diff, mul-diff) (diff_same _ _ _ _ (omega arith)))
-
--- Its sign is lost.
-square_is : (v : ℤ) → v *ℤ v ≡ pos (square_of (unsigned_abs v))
-square_is (pos n) = refl
-square_is (negsuc n) = refl
 
 pub polynomial-coefficients : (f : Plane) (p : Place) → polynomial (coefficients f) p ≡ pos (squared_value f p)
 unfolding polynomial

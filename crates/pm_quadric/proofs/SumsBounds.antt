@@ -1,5 +1,6 @@
 -- How far from 0 the sums over a list of face planes can be.
 use Rattle.std.proofs.Common.{◌≡◌, ℕ, ◌+◌, ◌*◌, ◌^◌, ◌≤◌, List, [], ◌∷◌, length, refl, subst, arith, lit≤}
+use Rattle.std.proofs.Math.Nat.{le_refl}
 use Rattle.std.specs.Prelude.{ℤ, pos, ◌+ℤ◌, ◌*ℤ◌, unsigned_abs}
 use Rattle.std.proofs.lemmas.Nat.{mul-le}
 use Rattle.pm_base.proofs.Squares.{abs_plus}
@@ -55,11 +56,8 @@ sums_within (f ∷ fs) hs =
     subst (λ (n : ℕ). IsWithin n (sums_of (f ∷ fs))) e (plane_more f (sums_of fs) (length fs) (plane_small f hs.0) (sums_within fs hs.1))
 
 -- With at most as many planes as a quadric can stand for.
-le_self : (k : ℕ) → k ≤ k
-le_self k = omega arith
-
 at_most : (x n k m : ℕ) → x ≤ n * k → n ≤ MOST_PLANES → MOST_PLANES * k ≤ m → x ≤ m
-at_most x n k m p q r = omega (arith, mul-le n k MOST_PLANES k q (le_self k))
+at_most x n k m p q r = omega (arith, mul-le n k MOST_PLANES k q (le_refl k))
 
 within_small : (n : ℕ) (s : Sums) → n ≤ MOST_PLANES → IsWithin n s → IsSmall s
 within_small n s h w = record {

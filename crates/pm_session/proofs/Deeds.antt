@@ -1,12 +1,10 @@
 -- What a line does, by its command, and how it ends.
-use Rattle.std.proofs.Common.{◌≡◌, ℕ, ◌<◌, ◌≤◌, Bool, false, List, Option, Some, None, Result, Ok, Err, OnOk, OnErr, refl, replicate, inl, inr, arith}
-use Rattle.std.proofs.Math.Path.{fun_ext}
-use Rattle.std.proofs.lemmas.Bool.{cases_lt, lt-ltb, le-ltb}
-use Rattle.std.proofs.lemmas.List.{get_or-replicate, get_or_past, length-replicate}
+use Rattle.std.proofs.Common.{◌≡◌, ℕ, ◌<◌, ◌≤◌, Bool, List, Option, Some, None, Result, Ok, Err, OnOk, OnErr, refl}
+use Rattle.std.proofs.lemmas.Bool.{lt-ltb, le-ltb}
 use Rattle.pm_io.specs.declared.device.WriteFault.{WriteFault}
 use Rattle.pm_io.specs.Bytes.{Gains, GainsPart}
 use Rattle.pm_forest.specs.Forest.{Hierarchy, record_count}
-use Rattle.pm_forest.specs.Fronts.{set_of, no_records, with, without}
+use Rattle.pm_forest.specs.Fronts.{with, without}
 use Rattle.pm_beyond.specs.declared.moves.MoveFault.{MoveFault}
 use Rattle.pm_beyond.specs.Moves.{split_fault, collapse_fault}
 use Rattle.pm_view.specs.Views.{View}
@@ -23,17 +21,6 @@ use Rattle.pm_session.specs.declared.session.LineFail.{LineFail}
 use Rattle.pm_session.specs.declared.session.LineFail.TheVariants as fails
 use Rattle.pm_session.specs.Script.{command_of, reply_to, view_reply, shape_reply, pick_reply, adapted_to, after_view, after_split, after_collapse, Sets, Deed, Replies, Ends, IsBad, NamesNoRecord, line_deed}
 use Rattle.pm_session.specs.Session.{LineEnds}
-
--- No flag is set in the base front.
-none_set : (n k : ℕ) → set_of (replicate n false) k ≡ false
-none_set n k =
-    elim (cases_lt k n) [
-      | inl l ↦ get_or-replicate n k false false l
-      | inr l ↦ get_or_past (replicate n false) k false (omega (arith, length-replicate n false))
-    ]
-
-pub none_split : (n : ℕ) (flags : List Bool) → flags ≡ replicate n false → set_of flags ≡ no_records
-none_split n flags is = rw is (fun_ext (none_set n))
 
 -- A move that nothing forbids is made, and one that something forbids isn't.
 pub split_made : (h : Hierarchy) (T S : ℕ → Bool) (k : ℕ) → split_fault h T k ≡ None → S ≡ with T k → S ≡ after_split h T k

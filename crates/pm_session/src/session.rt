@@ -111,7 +111,7 @@ fn after_reply(put: Result<(), WriteFault>) -> Result<Next, LineFail>
 impl Session {
     /// A session that shows the base front of a valid hierarchy. It is refused as `open_front` says. All the memory that
     /// a script can want is taken here.
-    #[tactic(auto, using(crate::proofs::Deeds::none_split))]
+    #[tactic(auto, using(pm_forest::proofs::Flags::none_set))]
     pub fn start(alloc: Global, h: Hierarchy, budget: u32) -> Result<Session, LoadFail>
         ensures shown { IfOk result (λ s. (s.h ≡ h) × (s.budget ≡ budget) × (sets_of s ≡ at_first)) }
         ensures valid { OnOk result (IsValid h) }

@@ -5,10 +5,11 @@ use Rattle.std.proofs.lemmas.Bool.{cases_Bool, and_parts, and_from, ltb-true, lt
 use Rattle.std.proofs.lemmas.Option.{none-some}
 use Rattle.std.proofs.lemmas.List.Folds.{flat_map-map}
 use Rattle.pm_base.specs.Sides.{face_of, next}
+use Rattle.pm_base.proofs.Sides.{next_cases}
 use Rattle.pm_forest.specs.Forest.{Hierarchy}
 use Rattle.pm_forest.specs.Faces.{face_count}
 use Rattle.pm_forest.specs.Kept.{is_kept}
-use Rattle.pm_forest.proofs.Sides.{three_sides, next_cases}
+use Rattle.pm_forest.proofs.Sides.{three_sides}
 use Rattle.pm_beyond.specs.Walks.{Beyond, beyond_of}
 use Rattle.pm_beyond.specs.Valid.{IsValid}
 use Rattle.pm_beyond.specs.Moves.{IsClosed}

@@ -6,9 +6,9 @@ use Rattle.pm_base.specs.Counts.{count}
 use Rattle.pm_base.specs.Sides.{face_of, next}
 use Rattle.pm_base.proofs.Counts.{count_le, count-true, count-false, count_more}
 use Rattle.pm_base.proofs.Search.{option_cases}
+use Rattle.pm_base.proofs.Sides.{next-next-next}
 use Rattle.pm_forest.specs.Fronts.{without}
 use Rattle.pm_forest.proofs.OneStep.{without-parts, without-from}
-use Rattle.pm_forest.proofs.Sides.{next-cycle}
 use Rattle.pm_strips.specs.Strips.{if_free, free_beyond, exit_of, enter_by, entered, first_side, strip_from, decoded, listed, corners_from}
 use Rattle.pm_strips.specs.Laws.{CarriesEnds, GoesOn, StripsGoOn}
 
@@ -36,7 +36,7 @@ further beyond node carries (suc n) free true exit p q ends =
           let back = carries exit g (free_is free (beyond exit) g some).0 in
           let from : node g ≡ q = back.0 ∙ ends.1 in
           let to : node (next g) ≡ p = back.1 ∙ ends.0 in
-          let rest = further beyond node carries n (without free (face_of g)) false (next (next g)) q (node (next (next g))) (refl, ap node (next-cycle g) ∙ from) in
+          let rest = further beyond node carries n (without free (face_of g)) false (next (next g)) q (node (next (next g))) (refl, ap node (next-next-next g) ∙ from) in
           rw some (rw (from, to) (ap (λ ts. record { a = q; b = p; c = node (next (next g)) } ∷ ts) rest))
     ]
 further beyond node carries (suc n) free false exit p q ends =

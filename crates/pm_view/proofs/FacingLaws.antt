@@ -9,6 +9,7 @@ use Rattle.pm_base.specs.Place.{Place}
 use Rattle.pm_base.specs.Geometry.{Direction, dot_of, dist2_of}
 use Rattle.pm_base.proofs.Ring.{diff-of, diff_same, add-diff, mul-diff, neg-diff, pos_is_diff}
 use Rattle.pm_base.proofs.Squares.{root_le}
+use Rattle.pm_bounds.proofs.ListLaws.{min_left, min_right, ≤ℤ_by}
 use Rattle.pm_view.specs.Wanted.{Bounded, least_product, least_facing}
 use Rattle.pm_view.specs.Laws.{way}
 use Rattle.pm_view.proofs.Premises.{IsChild, IsCorner, least_on_axis}
@@ -38,12 +39,6 @@ pub times_down : (k u v : ℤ) → k ≤ℤ pos 0 → u ≤ℤ v → (k *ℤ v) 
 times_down k u v p q = joined (k *ℤ v) (k *ℤ u) (subst (λ (z : ℤ). pos 0 ≤ℤ z) (minus_times k u v) (not_negative (pos 0 -ℤ k) (v -ℤ u) (apart k (pos 0) p) (apart u v q)))
 
 -- one factor in an interval: the product is above that with one of the ends
-min_left : (x y z : ℤ) → x ≤ℤ z → int_min x y ≤ℤ z
-min_left x y z h = omega (arith, ints, clamps)
-
-min_right : (x y z : ℤ) → y ≤ℤ z → int_min x y ≤ℤ z
-min_right x y z h = omega (arith, ints, clamps)
-
 least_one : (k u v y : ℤ) → u ≤ℤ y → y ≤ℤ v → int_min (k *ℤ u) (k *ℤ v) ≤ℤ (k *ℤ y)
 least_one k u v y p q =
     by_lt_z k (pos 0)
@@ -52,9 +47,6 @@ least_one k u v y p q =
 
 min_both : (a b c d x y : ℤ) → int_min a c ≤ℤ x → int_min b d ≤ℤ y → int_min (int_min a b) (int_min c d) ≤ℤ int_min x y
 min_both a b c d x y p q = omega (arith, ints, clamps)
-
-pub ≤ℤ_by : (x y z : ℤ) → x ≤ℤ y → y ≤ℤ z → x ≤ℤ z
-≤ℤ_by x y z p q = omega (arith, ints)
 
 least_turned : (c a b x : ℤ) → a ≤ℤ x → x ≤ℤ b → int_min (a *ℤ c) (b *ℤ c) ≤ℤ (x *ℤ c)
 least_turned c a b x p q = rw (*ℤ_comm a c, *ℤ_comm b c, *ℤ_comm x c) (least_one c a b x p q)

@@ -1,19 +1,17 @@
 -- The third test: distances times tol.
 use Rattle.std.proofs.Common.{ℕ, ◌+◌, ◌*◌, ◌<◌, ◌≤◌, arith}
+use Rattle.std.proofs.Math.Nat.{le_refl}
 use Rattle.std.specs.Prelude.{◌-ℤ◌, unsigned_abs}
 use Rattle.std.proofs.lemmas.Nat.{mul-le}
 use Rattle.pm_base.specs.Place.{Place}
 use Rattle.pm_base.specs.Geometry.{dist2_of}
 use Rattle.pm_base.proofs.Squares.{abs_between, sum_lt_right}
 
-same_le : (n : ℕ) → n ≤ n
-same_le n = omega arith
-
 squares_le : (k x y z a b c d e f : ℕ) → x ≤ a + d → y ≤ b + e → z ≤ c + f → k * k * (x * x + y * y + z * z) ≤ (k * a + k * d) * (k * a + k * d) + (k * b + k * e) * (k * b + k * e) + (k * c + k * f) * (k * c + k * f)
 squares_le k x y z a b c d e f p q r =
-    let p1 = mul-le k x k (a + d) (same_le k) p in
-    let q1 = mul-le k y k (b + e) (same_le k) q in
-    let r1 = mul-le k z k (c + f) (same_le k) r in
+    let p1 = mul-le k x k (a + d) (le_refl k) p in
+    let q1 = mul-le k y k (b + e) (le_refl k) q in
+    let r1 = mul-le k z k (c + f) (le_refl k) r in
     omega (arith, mul-le (k * x) (k * x) (k * (a + d)) (k * (a + d)) p1 p1, mul-le (k * y) (k * y) (k * (b + e)) (k * (b + e)) q1 q1, mul-le (k * z) (k * z) (k * (c + f)) (k * (c + f)) r1 r1)
 
 scaled_by : (x y z a b c d e f k m n : ℕ) → x ≤ a + d → y ≤ b + e → z ≤ c + f → k * k * (a * a + b * b + c * c) ≤ m * m → k * k * (d * d + e * e + f * f) < n * n → k * k * (x * x + y * y + z * z) < (m + n) * (m + n)

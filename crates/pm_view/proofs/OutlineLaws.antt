@@ -7,18 +7,13 @@ use Rattle.std.proofs.Math.IntN.{*ℤ_comm}
 use borrow.Author.Differences.{ints}
 use Rattle.pm_base.specs.Place.{Place}
 use Rattle.pm_base.specs.Geometry.{Direction, dot_of}
+use Rattle.pm_bounds.proofs.ListLaws.{max_left, max_right, ≤ℤ_by}
 use Rattle.pm_view.specs.Wanted.{Bounded, greatest_product, greatest_facing}
 use Rattle.pm_view.specs.Laws.{way}
 use Rattle.pm_view.proofs.Premises.{IsChild, IsCorner, greatest_on_axis}
-use Rattle.pm_view.proofs.FacingLaws.{times_up, times_down, ≤ℤ_by, axes_near, lower, upper, middle, three_le, lower_end, upper_end}
+use Rattle.pm_view.proofs.FacingLaws.{times_up, times_down, axes_near, lower, upper, middle, three_le, lower_end, upper_end}
 
 -- one factor in an interval: the product is below that with one of the ends
-max_left : (x y z : ℤ) → z ≤ℤ x → z ≤ℤ int_max x y
-max_left x y z h = omega (arith, ints, clamps)
-
-max_right : (x y z : ℤ) → z ≤ℤ y → z ≤ℤ int_max x y
-max_right x y z h = omega (arith, ints, clamps)
-
 greatest_one : (k u v y : ℤ) → u ≤ℤ y → y ≤ℤ v → (k *ℤ y) ≤ℤ int_max (k *ℤ u) (k *ℤ v)
 greatest_one k u v y p q =
     by_lt_z k (pos 0)

@@ -1,5 +1,6 @@
 -- A ball on the negative side of a plane keeps on it whatever lies in the ball.
 use Rattle.std.proofs.Common.{◌≡◌, ℕ, ◌+◌, ◌-◌, ◌*◌, ◌<◌, ◌≤◌, inl, inr, sym, subst, arith}
+use Rattle.std.proofs.Math.Nat.{le_refl}
 use Rattle.std.specs.Prelude.{ℤ, pos, ◌+ℤ◌, ◌-ℤ◌, ◌*ℤ◌, ◌<ℤ◌, unsigned_abs}
 use Rattle.std.proofs.lemmas.Nat.{mul-le}
 use Rattle.std.proofs.lemmas.Bool.{cases_lt}
@@ -16,9 +17,6 @@ use Rattle.pm_view.specs.Laws.{way}
 -- (A - K)(A - K) is above r r N, where A A is above (r + d)(r + d) N and K K is at most d d N
 left_over : (e k r d n : ℕ) → e * e ≤ r * r * n → k * k ≤ d * d * n → (e + k) * (e + k) ≤ (r + d) * (r + d) * n
 left_over e k r d n p q = omega (arith, sum_le e 0 0 k 0 0 r d n (omega arith) (omega arith))
-
-same_le : (n : ℕ) → n ≤ n
-same_le n = omega arith
 
 below : (a k r d n : ℕ) → (r + d) * (r + d) * n < a * a → k * k ≤ d * d * n → k < a
 below a k r d n p q = elim (cases_lt k a) [ inl l ↦ l | inr l ↦ absurd (omega (arith, mul-le a a k k l l)) ]
@@ -46,7 +44,7 @@ value_way f p q = along_way f.a f.b f.c p.x p.y p.z q.x q.y q.z f.d
 
 -- the product of a plane's normal and a way that is at most d long
 pub way_small : (n : Direction) (p q : Place) (d : ℕ) → dist2_of p q ≤ d * d → unsigned_abs (dot_of n (way p q)) * unsigned_abs (dot_of n (way p q)) ≤ d * d * norm2_of n
-way_small n p q d h = omega (arith, dot_le n (way p q), mul-le (norm2_of n) (dist2_of p q) (norm2_of n) (d * d) (same_le (norm2_of n)) h)
+way_small n p q d h = omega (arith, dot_le n (way p q), mul-le (norm2_of n) (dist2_of p q) (norm2_of n) (d * d) (le_refl (norm2_of n)) h)
 
 -- a negative number, and another that is nearer to 0
 moved_negative : (m t : ℤ) → m <ℤ pos 0 → unsigned_abs t < unsigned_abs m → (m -ℤ t) <ℤ pos 0
@@ -56,7 +54,7 @@ moved_far : (m t : ℤ) → m <ℤ pos 0 → unsigned_abs t < unsigned_abs m →
 moved_far m t p q = omega (arith, ints)
 
 wider : (a b n m : ℕ) → a ≤ b → b * b * n < m → a * a * n < m
-wider a b n m p q = omega (arith, mul-le (a * a) n (b * b) n (mul-le a a b b p p) (same_le n))
+wider a b n m p q = omega (arith, mul-le (a * a) n (b * b) n (mul-le a a b b p p) (le_refl n))
 
 farther : (n a b : ℕ) → n < a * a → a ≤ b → n < b * b
 farther n a b p q = omega (arith, mul-le a a b b q q)

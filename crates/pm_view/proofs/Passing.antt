@@ -1,5 +1,6 @@
 -- The tests pass from a child to its parent, and each test that fails says why.
 use Rattle.std.proofs.Common.{◌≡◌, ℕ, ◌+◌, ◌*◌, ◌<◌, ◌≤◌, true, false, ◌&&◌, ◌||◌, Bool, not, List, [], ◌∷◌, ◌⊎◌, inl, inr, refl, suc, sym, ap, ◌∙◌, arith}
+use Rattle.std.proofs.Math.Nat.{le_refl}
 use Rattle.std.specs.Prelude.{ℤ, pos, ◌≤ℤ◌, ◌<ℤ◌, int_lt, int_le, nat_lt, unsigned_abs}
 use Rattle.std.proofs.lemmas.Nat.{mul-le}
 use Rattle.std.proofs.lemmas.Bool.{cases_lt, and_parts, and_from, and_cases, or_cases, or_parts, or_left, or_right, not-true, not-false, not_from_false, both_ways, lt-ltb, ltb-true, ltb-false, false_from_ne_true, false≢true}
@@ -11,6 +12,7 @@ use Rattle.pm_view.specs.Wanted.{Bounded, value_at, normal_in, is_outside, is_ou
 use Rattle.pm_view.specs.Laws.{way}
 use Rattle.pm_view.proofs.Premises.{IsChild, IsCorner, IsBehindOne, FacesAway, FacesTo, LooksWithin, LooksTiny}
 use borrow.Author.Differences.{ints}
+use Rattle.pm_bounds.proofs.ListLaws.{≤ℤ_by}
 use Rattle.pm_view.proofs.Outside.{Outside, outside_within}
 use Rattle.pm_view.proofs.FacingLaws.{facing_child, facing_corner}
 use Rattle.pm_view.proofs.OutlineLaws.{turning_child, turning_corner}
@@ -67,9 +69,6 @@ behind_one (f ∷ fs) b e =
     ]
 
 -- facing
-≤ℤ_by : (x y z : ℤ) → x ≤ℤ y → y ≤ℤ z → x ≤ℤ z
-≤ℤ_by x y z p q = omega (arith, ints)
-
 <ℤ_by : (x y z : ℤ) → x <ℤ y → y ≤ℤ z → x <ℤ z
 <ℤ_by x y z p q = omega (arith, ints)
 
@@ -86,15 +85,12 @@ lt_by a b c p q = omega arith
 le_by : (a b c : ℕ) → a ≤ b → b ≤ c → a ≤ c
 le_by a b c p q = omega arith
 
-same_le : (n : ℕ) → n ≤ n
-same_le n = omega arith
-
 -- (e f + t r + t d) is at most (e' f + t r'), with e + d at most e' and r + d at most r'
 grown : (e r d f t e' r' : ℕ) → e + d ≤ e' → r + d ≤ r' → t * d + (e * f + t * r) ≤ e' * f + t * r'
-grown e r d f t e' r' p q = omega (arith, mul-le e f e' f (omega arith) (same_le f), mul-le t (r + d) t r' (same_le t) q)
+grown e r d f t e' r' p q = omega (arith, mul-le e f e' f (omega arith) (le_refl f), mul-le t (r + d) t r' (le_refl t) q)
 
 near_times : (t n d : ℕ) → n ≤ d * d → t * t * n ≤ (t * d) * (t * d)
-near_times t n d h = omega (arith, mul-le (t * t) n (t * t) (d * d) (same_le (t * t)) h)
+near_times t n d h = omega (arith, mul-le (t * t) n (t * t) (d * d) (le_refl (t * t)) h)
 
 pub looks_large_passes : (child parent : Bounded) (v : View) (tol : ℕ) → IsChild child parent → looks_large child v tol ≡ true → looks_large parent v tol ≡ true
 unfolding looks_large
@@ -121,7 +117,7 @@ large_passes s b v h e =
 
 -- f f n is at most e e f f
 focal_times : (f n e : ℕ) → n ≤ e * e → f * f * n ≤ (e * f) * (e * f)
-focal_times f n e h = omega (arith, mul-le (f * f) n (f * f) (e * e) (same_le (f * f)) h)
+focal_times f n e h = omega (arith, mul-le (f * f) n (f * f) (e * e) (le_refl (f * f)) h)
 
 turned : (f t r e : ℕ) → (t * r + e * f) * (t * r + e * f) ≡ (e * f + t * r) * (e * f + t * r)
 turned f t r e = omega arith

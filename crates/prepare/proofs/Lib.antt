@@ -1,4 +1,3 @@
-pub mod WordLaws
 pub mod TextLaws
 pub mod MakeLaws
 pub mod EndingLaws

@@ -15,7 +15,7 @@ pub struct Asked {
 }
 
 /// What the words ask for; none where they aren't understood.
-#[tactic(auto, using(crate::proofs::WordLaws::unsigned_most))]
+#[tactic(auto, using(pm_io::proofs::DigitLaws::unsigned_most))]
 pub fn read_words(words: &[String]) -> Option<Asked>
     ensures asked { result ≡ asked_of (map string_bytes words.now) }
     ensures size { IfSome result (λ a. IsSize a.size) }

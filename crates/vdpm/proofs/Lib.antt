@@ -1,4 +1,3 @@
-pub mod WordLaws
 pub mod SurfaceLaws
 pub mod BeginningLaws
 pub mod ReadingLaws

@@ -1,10 +1,10 @@
 -- How `view` ends, by what its parts answer.
-use Rattle.std.proofs.Common.{◌≡◌, ℕ, ◌+◌, ◌<◌, ◌≤◌, List, [], ◌∷◌, ◌++◌, length, Option, Some, None, IfSome, Result, Ok, Err, refl, sym, ◌∙◌, ap, subst, arith, length-append}
+use Rattle.std.proofs.Common.{◌≡◌, ℕ, ◌+◌, ◌<◌, ◌≤◌, List, [], ◌++◌, length, Option, Some, None, IfSome, Result, Ok, Err, refl, sym, ◌∙◌, ap, subst, arith, length-append}
 use Rattle.std.specs.Option.{option_map}
 use Rattle.std.specs.Io.KnownBytes.{prepend_known}
-use Rattle.pm_io.specs.Bytes.{AtEnd}
 use Rattle.pm_io.specs.Causes.{Rose}
 use Rattle.pm_io.proofs.Known.{loses_both, loses_none, gains_none}
+use Rattle.obj_read.proofs.FinishLaws.{left_at_end}
 use Rattle.pm_forest.specs.Forest.{Hierarchy}
 use Rattle.pm_beyond.specs.Valid.{IsValid}
 use Rattle.pm_load.specs.declared.open.LoadFail.{LoadFail}
@@ -145,11 +145,6 @@ no_place : (before : ℕ) (place : Option ℕ) → option_map (λ n. before + n)
 no_place before None is = refl
 no_place before (Some n) is = absurd (cc is)
 
-later_end : (window : List ℕ) (now : Option (List ℕ)) → AtEnd (prepend_known window now) → AtEnd now
-later_end window None end = tt
-later_end [] (Some rest) end = end
-later_end (x ∷ xs) (Some rest) end = absurd (cc end)
-
 script_to_end : (b d : ℕ) (h : Hierarchy) (left mid now got_old got_new : Option (List ℕ)) (window : List ℕ) (after : Sets) → Begun left mid d h → IsValid h → Ended h b at_first mid (prepend_known window now) got_old got_new None after → ReadToEnd (asked.View b) left now
 script_to_end b d h None mid now got_old got_new window after begun good ended = tt
 script_to_end b d h (Some bytes) None now got_old got_new window after begun good ended = absurd (cc begun.took)
@@ -157,7 +152,7 @@ script_to_end b d h (Some bytes) (Some rest) now got_old got_new window after be
     let p = played h b at_first rest in
     let same = one_outcome (asked.View b) bytes (of_script (length (stream d h)) p) all (view_outcome b d h bytes rest begun good) is in
     let nowhere : p.place ≡ None = no_place (length (stream d h)) p.place (ap (λ (a : Ran). a.place) same ∙ none) in
-    later_end window now (subst (λ (place : Option ℕ). Reaches (Some rest) (prepend_known window now) place) nowhere ended.reaches)
+    left_at_end window now (subst (λ (place : Option ℕ). Reaches (Some rest) (prepend_known window now) place) nowhere ended.reaches)
 
 -- A write failed.
 script_cut : (b d : ℕ) (h : Hierarchy) (left mid now got_old got_new : Option (List ℕ)) (after : Sets) → Begun left mid d h → IsValid h → PutPart h b at_first mid now got_old got_new after → IfSome left (λ bytes. CutShort (asked.View b) bytes got_old got_new)

@@ -2,9 +2,10 @@ use Rattle.std.proofs.Common.{◌∙◌, ◌+◌, ℕ, ◌<◌, List, length, is
 use Rattle.pm_base.specs.Meshes.{mesh_of}
 use Rattle.pm_number.specs.Stages.{run_of}
 use Rattle.pm_base.specs.Counts.{one_if}
+use Rattle.pm_base.proofs.Counts.{one_if-le}
 use Rattle.pm_number.specs.Numbering.{base_faces, face_number}
 use Rattle.pm_number.specs.Tables.{RootsHave, with_gone}
-use Rattle.pm_number.proofs.FaceTables.{one_if-le, faces_start, faces_before-le, dropped_more, faces_all, RecordsHave}
+use Rattle.pm_number.proofs.FaceTables.{faces_start, faces_before-le, dropped_more, faces_all, RecordsHave}
 use Rattle.pm_number.proofs.tables.number_dropped.Goals as goal
 
 pub number_gone-next-requires-clause-few : goal.number_gone-next-requires-clause-few
