@@ -4,12 +4,13 @@ use Rattle.std.specs.Option.{is_some, unwrap_or}
 use Rattle.std.proofs.lemmas.Bool.{cases_Bool, both_ways, false≢true, or_cases, cond-true, cond-false, and_parts, eq-eqb}
 use Rattle.pm_base.specs.Sides.{face_of, next}
 use Rattle.pm_base.specs.declared.ids.Side.{Side}
+use Rattle.pm_base.proofs.Search.{some_from}
 use Rattle.pm_base.proofs.Sides.{face_of-next}
 use Rattle.pm_forest.specs.declared.parts.NewFace.{NewFace}
 use Rattle.pm_forest.specs.Forest.{Hierarchy, record_at}
 use Rattle.pm_forest.specs.Faces.{first_face, face_count, revealed_by, is_left, no_face, new_face, inner_of}
 use Rattle.pm_forest.proofs.FaceNumbers.{which_face}
-use Rattle.pm_forest.proofs.ShapeLaws.{left_from, some_from}
+use Rattle.pm_forest.proofs.ShapeLaws.{left_from}
 use Rattle.pm_forest.proofs.Sides.{next-differs, next_next-differs, inner-face}
 use Rattle.pm_beyond.specs.Walks.{IsOuter, expected_at, expected, mate_of, number_of}
 use Rattle.pm_beyond.proofs.Neighbours.{first_expected, second_expected}

@@ -4,6 +4,7 @@ use Rattle.std.proofs.lemmas.Bool.{cases_Bool, ltb-false}
 use Rattle.std.proofs.lemmas.List.Elements.{All-nil, All-cons, All-append, All-get_or}
 use Rattle.pm_base.specs.declared.ids.Side.{Side}
 use Rattle.pm_base.specs.Counts.{one_if}
+use Rattle.pm_base.proofs.Search.{some_from}
 use Rattle.pm_forest.specs.declared.parts.Face.{Face}
 use Rattle.pm_forest.specs.declared.parts.NewFace.{NewFace}
 use Rattle.pm_forest.specs.Forest.{Hierarchy, record_at, record_count, leaf_count, interval_of}
@@ -14,7 +15,7 @@ use Rattle.pm_forest.specs.Moves.{side_in, neighbours_in, neighbours_of}
 use Rattle.pm_forest.proofs.UnitLaws.{passed}
 use Rattle.pm_forest.proofs.FaceLists.{length-faces_of, corners_of-faces_of}
 use Rattle.pm_forest.proofs.Counting.{leaf_nodes_are_single}
-use Rattle.pm_forest.proofs.ShapeLaws.{base_count-le, left_fits, record_count-roots, right_fits, roots_wide, shape_of_nodes, some_from}
+use Rattle.pm_forest.proofs.ShapeLaws.{base_count-le, left_fits, record_count-roots, right_fits, roots_wide, shape_of_nodes}
 
 -- Numbers of faces
 

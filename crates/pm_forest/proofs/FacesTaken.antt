@@ -1,5 +1,6 @@
 -- What a shaper keeps with each face of a record that it takes in.
 use Rattle.std.proofs.Common.{◌≡◌, ℕ, ◌+◌, ◌-◌, Bool, true, false, ◌&&◌, ◌||◌, List, [], ◌∷◌, ◌++◌, length, Option, None, Some, is_some, IfSome, inl, inr, refl, sym, ◌∙◌, arith, append_assoc}
+use Rattle.std.proofs.Math.Bool.{or-false}
 use Rattle.std.proofs.lemmas.Bool.{cases_eq, ne_eqb, false≢true}
 use Rattle.std.proofs.lemmas.List.{append-nil, length_push, map_push}
 use Rattle.pm_base.specs.declared.ids.Side.{Side}
@@ -65,15 +66,11 @@ left_fits h r right_due f first second s fits =
       alone = λ due. s.no_right;
     }
 
-or_false : (b : Bool) → b || false ≡ b
-or_false true = refl
-or_false false = refl
-
 right_fits : (h : Hierarchy) (r : Record) (f : Face) (first second : ℕ) → ComingFits h r false true →
     new_face_fault (with_record h r) false f first second ≡ None → FaceFits h (with_new_face r false (next_face f first second)) false
 right_fits h r f first second s fits =
     record {
-      head = rw (s.no_right, or_false (is_some r.left)) at s.head;
+      head = rw (s.no_right, or-false (is_some r.left)) at s.head;
       split = s.split;
       left = s.left;
       right = rw (word_of-side first, word_of-side second, ← without_right r s.no_right) fits;
@@ -90,7 +87,7 @@ face_fits h r false false f first second s fits = absurd (false≢true s.due)
 -- the record goes on, or is complete
 face_goes_on : (h : Hierarchy) (r : Record) → FaceFits h r true → ComingFits h r false true
 face_goes_on h r s = record {
-  head = rw (or_false (is_some r.left)) s.head;
+  head = rw (or-false (is_some r.left)) s.head;
   split = s.split;
   left = s.left;
   no_right = s.alone refl;
@@ -100,7 +97,7 @@ face_goes_on h r s = record {
 
 face_completes : (h : Hierarchy) (r : Record) → FaceFits h r false → record_fault h r ≡ None
 unfolding record_fault
-face_completes h r s = rw (← or_false (is_some r.right), s.head, s.left, s.right) refl
+face_completes h r s = rw (← or-false (is_some r.right), s.head, s.left, s.right) refl
 
 -- The faces and the input numbers of all units
 

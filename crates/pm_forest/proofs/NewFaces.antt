@@ -44,7 +44,7 @@ pub record NewFaceFits (h : Hierarchy) (k p q : ℕ) (f : Face) (first second : 
   pub first_older : first ≤ 3 * first_face h k
   pub second_older : second ≤ 3 * first_face h k
 
-runs_as : (left : Bool) (i : ℕ → Interval) (t u : ℕ) (s : Interval) (f : Face) →
+pub runs_as : (left : Bool) (i : ℕ → Interval) (t u : ℕ) (s : Interval) (f : Face) →
     cond left (runs (i t) (i u) s f) (runs (i u) (i t) s f) ≡ runs (i (cond left t u)) (i (cond left u t)) s f
 runs_as true i t u s f = refl
 runs_as false i t u s f = refl

@@ -7,6 +7,7 @@ use Rattle.std.proofs.lemmas.Option.{none-some}
 use Rattle.std.specs.Option.{unwrap_or}
 use Rattle.pm_base.specs.Counts.{one_if}
 use Rattle.pm_base.specs.Sides.{face_of}
+use Rattle.pm_base.proofs.Search.{some_from}
 use Rattle.pm_forest.specs.declared.parts.Root.{Root}
 use Rattle.pm_forest.specs.declared.parts.Face.{Face}
 use Rattle.pm_forest.specs.declared.parts.NewFace.{NewFace}
@@ -154,10 +155,6 @@ pub left_from : (h : Hierarchy) (k f : ℕ) → is_some (record_at h k).left ≡
     is_left h k f ≡ true
 unfolding is_left
 left_from h k f there is = and_from (is_some (record_at h k).left) (eqb f (first_face h k)) there (eq-eqb f (first_face h k) is)
-
-pub some_from : {A : Type 0} (o : Option A) → is_some o ≡ true → (x : A) × (o ≡ Some x)
-some_from None e = absurd cc
-some_from (Some x) e = (x, refl)
 
 pub left_corners : (h : Hierarchy) (f k : ℕ) (n : NewFace) → revealed_by h f ≡ Some k → is_left h k f ≡ true →
     (record_at h k).left ≡ Some n → corners_of h f ≡ n.face

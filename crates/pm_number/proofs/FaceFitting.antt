@@ -20,7 +20,7 @@ use Rattle.pm_forest.proofs.Corners.{corner_a, corner_b, corner_c, which_corner,
 use Rattle.pm_forest.proofs.FaceNumbers.{first_face-mono, revealed-from}
 use Rattle.pm_forest.proofs.FaceLists.{length-faces_of, length-faces_of_cut, corners_of-faces_of}
 use Rattle.pm_forest.proofs.HierarchyLaws.{revealed-base}
-use Rattle.pm_forest.proofs.NewFaces.{coming_count, coming_s, coming_interval, coming_first_face, coming_face_count}
+use Rattle.pm_forest.proofs.NewFaces.{runs_as, coming_count, coming_s, coming_interval, coming_first_face, coming_face_count}
 use Rattle.pm_forest.proofs.ShapeLaws.{left_corners, right_corners, left_from}
 use Rattle.pm_forest.proofs.UnitLaws.{BaseFits}
 use Rattle.pm_beyond.proofs.Distinct.{In, in-here, in-append_left, in-append_right}
@@ -53,13 +53,8 @@ new_face_pass h nodes k l q node width left f first second inside run older olde
     let is_u : interval_of g (u_of g k) ≡ interval_of h (u_of h k) = coming_interval h nodes k l q node width (u_of h k) (omega arith) in
     let faces = coming_first_face h nodes k l q node width in
     let way : cond left (runs (interval_of g (t_of g k)) (interval_of g (u_of g k)) (interval_of g (s_of g k)) f) (runs (interval_of g (u_of g k)) (interval_of g (t_of g k)) (interval_of g (s_of g k)) f) ≡ true =
-    rw (is_s, is_t, is_u) (runs_by left (interval_of h) (t_of h k) (u_of h k) (interval_of h (s_of h k)) f ∙ run) in
+    rw (is_s, is_t, is_u) (runs_as left (interval_of h) (t_of h k) (u_of h k) (interval_of h (s_of h k)) f ∙ run) in
     rw (number) (rw (lt-leb n f.a inside.0, lt-leb n f.b inside.1, lt-leb n f.c inside.2, way, faces, le-ltb (3 * first_face h k) first older, le-ltb (3 * first_face h k) second older', lt-leb 1048576 (face_count g) few, input) refl)
-  where
-    runs_by : (left : Bool) (i : ℕ → Interval) (t u : ℕ) (s : Interval) (f : Face) →
-        cond left (runs (i t) (i u) s f) (runs (i u) (i t) s f) ≡ runs (i (cond left t u)) (i (cond left u t)) s f
-    runs_by true i t u s f = refl
-    runs_by false i t u s f = refl
 
 -- a face that has a side along is one that runs so
 runs_from_side : (h : Hierarchy) (p q s f i : ℕ) → face_of i ≡ f → AreAlong h p q s (from_leaf h i) (to_leaf h i) (from_leaf h (next (next i))) →

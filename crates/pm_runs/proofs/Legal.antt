@@ -21,7 +21,7 @@ third-common m a b w (e, links, is) =
 pub links-turned : (m : Net) (e a b : ℕ) → Links m e a b → Links m e b a
 links-turned m e a b links = elim links [ inl r ↦ inr r | inr r ↦ inl r ]
 
-joined-turned : (m : Net) (a b : ℕ) → Joined m a b → Joined m b a
+pub joined-turned : (m : Net) (a b : ℕ) → Joined m a b → Joined m b a
 joined-turned m a b j = elim j [ inl h ↦ inr h | inr h ↦ inl h ]
 
 third-turned : (m : Net) (a b w : ℕ) → IsThird m a b w → IsThird m b a w
@@ -64,7 +64,7 @@ border_once m once a b not_both x y e g l k =
 pub once_border : (m : Net) (a b : ℕ) → AreOnceOnBorder m a b → IsBorder m a → IsBorder m b → HasSide m a b → HasSide m b a → ⊥
 once_border m a b once x y (e, r) (g, w) = no_two_ways m e g a b r w (once x y e g (inl r) (inr w))
 
-link_stands : (m : Net) (e a b : ℕ) → Links m e a b → Stands m e
+pub link_stands : (m : Net) (e a b : ℕ) → Links m e a b → Stands m e
 link_stands m e a b links = elim links [ inl r ↦ r.stands | inr r ↦ r.stands ]
 
 -- A legal pair meets the link condition, and a pair that meets it is legal where no face turns over.

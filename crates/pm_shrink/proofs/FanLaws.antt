@@ -7,7 +7,7 @@ use Rattle.std.proofs.lemmas.Bool.{or_cases, or_left, or_right, and_parts, and_f
 use Rattle.pm_base.specs.Sides.{Net, next, prev, to, third, Stands, side_count, IsBorderSide, IsBorder, twin_of}
 use Rattle.pm_base.proofs.Sides.{stands_next, next-next-next}
 use Rattle.pm_base.proofs.TwinLaws.{twin-is, twin-none, none-twin}
-use Rattle.pm_base.proofs.Search.{Decided, option_cases}
+use Rattle.pm_base.proofs.Search.{Decided, option_cases, none_from}
 use Rattle.pm_links.specs.Lists.{has}
 use Rattle.pm_links.proofs.Members.{has_head, has_tail, has_from_Contains}
 use Rattle.pm_runs.specs.Pairs.{StaysUpright, StayUpright, Runs, Joined, IsThird, HasFace, HaveCommonThirds}
@@ -125,14 +125,6 @@ module _ (m : Net) (v : ℕ) (xs : List ℕ) (are : AreCornersAt m v xs) where
           | inr k ↦ or_right one two (and_from (eqb (to m e) c) (eqb (third m e) b) (eq-eqb (to m e) c k.0) (eq-eqb (third m e) b k.1))
         ]),
   )
-
--- Who is joined to another is joined both ways.
-pub joined_back : (m : Net) (a b : ℕ) → Joined m a b → Joined m b a
-joined_back m a b j = elim j [ inl h ↦ inr h | inr h ↦ inl h ]
-
-none_from : (r : Option ℕ) → is_none r ≡ true → r ≡ None
-none_from None t = refl
-none_from (Some k) t = absurd (false≢true t)
 
 border-test : (m : Net) (e : ℕ) → Stands m e → is_none (twin_of m e) ≡ true → IsBorderSide m e
 border-test m e st t = record { stands = st; alone = twin-none m e (none_from (twin_of m e) t) }

@@ -67,10 +67,7 @@ spared? m p q f =
 
 test_same : (x : Bool) (u v : ℕ) → (x ≡ true → u ≡ v) → (u ≡ v → x ≡ true) → x ≡ eqb u v
 test_same true u v to back = sym (eq-eqb u v (to refl))
-test_same false u v to back = sym (ne_eqb u v (λ is. absurd (differ (back is))))
-  where
-    differ : false ≡ true → ⊥
-    differ e = false≢true e
+test_same false u v to back = sym (ne_eqb u v (λ is. absurd (false≢true (back is))))
 
 named_twice : (x y : Bool) (a b s v : ℕ) → x ≡ eqb v a → y ≡ eqb v b → cond y s (cond x s v) ≡ merge a b s v
 unfolding merge

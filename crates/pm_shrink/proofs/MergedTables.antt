@@ -20,6 +20,7 @@ use Rattle.pm_runs.specs.Merged.{IsProper}
 use Rattle.pm_runs.specs.Collapses.{RelinksTwins}
 use Rattle.pm_runs.proofs.Found.{found-runs, runs-found}
 use Rattle.pm_runs.proofs.Live.{new_live, old_live, gone_first, gone_second}
+use Rattle.pm_runs.proofs.Present.{option_eq?}
 use Rattle.pm_runs.proofs.StepLaws.{steps_keep_surfaces}
 use Rattle.pm_runs.proofs.Totals.{sum_two, two_within}
 use Rattle.pm_shrink.specs.Shrinking.{planes_counted}
@@ -84,10 +85,6 @@ face_right m p q table e x l right way once =
                 | inr k ↦ inr (subst (λ (i : ℕ). twin_of m (prev i) ≡ Some e) same k)
               ]
         ]
-
-option_eq? : (t : Option ℕ) (e : ℕ) → (t ≡ Some e) ⊎ (t ≢ Some e)
-option_eq? None e = inr (λ is. none-some e is)
-option_eq? (Some k) e = elim (cases_eq k e) [ inl is ↦ inl (ap Some is) | inr ne ↦ inr (λ is. ne (same_Some k e is)) ]
 
 abbrev Hits : Net → ℕ → ℕ → ℕ → Type 0
 Hits m p q e = (y : ℕ) × Runs m y p q × ((twin_of m (next y) ≡ Some e) ⊎ (twin_of m (prev y) ≡ Some e))

@@ -28,10 +28,6 @@ take_all [] n l = take-nil n
 take_all (x ∷ xs) zero l = absurd (omega arith)
 take_all (x ∷ xs) (suc n) l = ap (λ k. x ∷ k) (take_all xs n (omega arith))
 
-pub some_from : {A : Type 0} (r : Option A) → is_some r ≡ true → (k : A) × (r ≡ Some k)
-some_from None t = absurd (false≢true t)
-some_from (Some k) t = (k, λ i. Some k)
-
 pub none_is : {A : Type 0} (r : Option A) (b : Bool) → is_some r ≡ not b → b ≡ is_none r
 none_is None true e = λ i. true
 none_is None false e = absurd (false≢true e)

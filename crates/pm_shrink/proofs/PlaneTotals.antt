@@ -9,6 +9,7 @@ use Rattle.pm_base.specs.Counts.{one_if}
 use Rattle.pm_base.specs.Place.{Place}
 use Rattle.pm_base.specs.declared.mesh.Corners.{Corners}
 use Rattle.pm_base.specs.Sides.{no_corners}
+use Rattle.pm_base.proofs.Counts.{one_if-le}
 use Rattle.pm_quadric.specs.Planes.{Plane}
 use Rattle.pm_quadric.specs.Sums.{Sums, plus_sums, sums_of}
 use Rattle.pm_quadric.proofs.QuadricLaws.{sums_joined}
@@ -46,10 +47,6 @@ quadric-more points faces i v f old new l is before after =
       | inr t ↦ after ∙ cond-false _ _ _ t ∙ before ∙ ap sums_of (sym (append-nil before_is) ∙ ap (λ k. before_is ++ k) (sym (cond-false _ plane [] t)) ∙ sym more)
     ]
 
-one-small : (p : Bool) → one_if p ≤ 1
-one-small true = omega arith
-one-small false = omega arith
-
 length-one : (points : List Place) (f : Corners) (fs : List Corners) (v : ℕ) →
     length (planes_at (mesh_with points (f ∷ fs)) v) ≡ one_if (has_corner v f) + length (planes_at (mesh_with points fs) v)
 unfolding planes_at
@@ -61,4 +58,4 @@ length-one points f fs v =
 pub planes-short : (points : List Place) (faces : List Corners) (v : ℕ) → length (planes_at (mesh_with points faces) v) ≤ length faces
 unfolding planes_at
 planes-short points [] v = omega arith
-planes-short points (f ∷ fs) v = omega (arith, length-one points f fs v, one-small (has_corner v f), planes-short points fs v)
+planes-short points (f ∷ fs) v = omega (arith, length-one points f fs v, one_if-le (has_corner v f), planes-short points fs v)

@@ -11,9 +11,9 @@ use Rattle.pm_runs.specs.Pairs.{Links, IsLegalPair}
 use Rattle.pm_runs.specs.Merged.{IsProper, IsLinkable}
 use Rattle.pm_runs.specs.Nearby.{IsOther}
 use Rattle.pm_runs.specs.Laws.{IsCollapse}
+use Rattle.pm_runs.proofs.Legal.{link_stands}
 use Rattle.pm_runs.proofs.Merges.{merge-other}
 use Rattle.pm_runs.proofs.StepLaws.{linkable_is_legal, steps_keep_surfaces}
-use Rattle.pm_simplify.proofs.ItemLaws.{link_stands}
 
 module _ (s : Surface) (sound : IsSurface s) (proper : IsProper (net_of_surface s)) (t u : ℕ) (at : Place) (legal : IsLegalPair s t u at) where
   abbrev n : Net

@@ -73,9 +73,6 @@ module _ (m : Net) where
         | inr (g, t, is) ↦ subst (λ i. Links m i a b) (sym is) (twin_links e g a b (twin-is m e g t) l)
       ]
 
-  pub link_stands : (e a b : ℕ) → Links m e a b → Stands m e
-  link_stands e a b l = elim l [ inl r ↦ r.stands | inr r ↦ r.stands ]
-
   -- The two ends of a side, the lesser one first, are these.
   pub same_ends : (e a b c d : ℕ) → Links m e a b → Links m e c d → a < b → c < d → (a ≡ c) × (b ≡ d)
   same_ends e a b c d l k x y =

@@ -9,6 +9,7 @@ use Rattle.pm_base.specs.Sides.{Net, side_count, Stands, stands, twin_of}
 use Rattle.pm_base.specs.Fans.{IsFan}
 use Rattle.pm_base.specs.Counts.{count}
 use Rattle.pm_base.proofs.Counts.{count-true, count-false, count-zero, count_le}
+use Rattle.pm_base.proofs.Search.{none_from}
 use Rattle.pm_base.proofs.TwinLaws.{stands_is_true}
 use Rattle.pm_base.proofs.FanLaws.{unused_fan}
 use Rattle.pm_twins.specs.declared.fans.Vertex.{Vertex}
@@ -41,10 +42,6 @@ known_other m n v k ne h =
       start = starts_other m n v k.start ne h.start;
     }
 
-none_is : (r : Option ℕ) → is_none r ≡ true → r ≡ None
-none_is None t = refl
-none_is (Some x) t = absurd (false≢true t)
-
 some_is : (r : Option ℕ) → is_none r ≡ false → r ≢ None
 some_is r t is = false≢true (sym t ∙ ap is_none is)
 
@@ -72,7 +69,7 @@ starts_next m n (Some a) twinned (l, is, h) = (
 
 -- The same, with or without a twin.
 starts_same : (m : Net) (n : Side) (known : Vertex) (alone : Bool) → alone ≡ is_none (twin_of m n.0) → StartsSoFar m n.0 (m.from n.0) known.start → StartsSoFar m (n.0 + 1) (m.from n.0) (with_side known n alone).start
-starts_same m n known true is h = (omega arith, refl, inl (none_is (twin_of m n.0) (sym is)))
+starts_same m n known true is h = (omega arith, refl, inl (none_from (twin_of m n.0) (sym is)))
 starts_same m n known false is h = starts_next m n known.start (some_is (twin_of m n.0) (sym is)) h
 
 pub known_same : (m : Net) (n : Side) (known : Vertex) (alone : Bool) → Stands m n.0 → alone ≡ is_none (twin_of m n.0) → IsKnown m n.0 (m.from n.0) known → IsKnown m (n.0 + 1) (m.from n.0) (with_side known n alone)

@@ -5,7 +5,7 @@ use Rattle.pm_base.proofs.SideNumbers.{some_numbered}
 use Rattle.pm_shrink.specs.Shrinking.{net_at}
 use Rattle.pm_runs.proofs.Found.{runs-has, found-runs}
 use Rattle.pm_shrink.specs.Writes.{side_number}
-use Rattle.pm_shrink.proofs.PlaceTables.{some_from}
+use Rattle.pm_base.proofs.Search.{some_from}
 use Rattle.pm_shrink.proofs.shrink.Shrink.has_side.Goals as goal
 
 pub returns : goal.returns
