@@ -2,7 +2,7 @@
 use Rattle.std.proofs.Common.{◌≡◌, ◌≢◌, ℕ, ◌<◌, ◌≤◌, Option, Some, None, true, false, [], ◌∷◌, length, set, replicate, sym, refl, ap, ◌∙◌, subst, ⊎_elim, arith, zero, suc}
 use Rattle.std.proofs.lemmas.Bool.{cases_lt, cases_Bool, cases_order, false≢true}
 use Rattle.std.proofs.lemmas.List.{get_or_past, get_or-replicate, length-replicate}
-use Rattle.std.proofs.lemmas.Option.{none-some}
+use Rattle.std.proofs.lemmas.Option.{none-some, same_Some}
 use Rattle.pm_queue.specs.declared.key.Key.{Key}
 use Rattle.pm_queue.specs.Keys.{is_before}
 use Rattle.pm_queue.specs.Entries.{Entries, key_at, entry_count, IsEmpty, IsLeast}
@@ -52,11 +52,8 @@ least_unique m d e f g =
         key_at m j ≡ Some l → k ≡ l
     key_same m i j k l e p q = let at_j = ap (λ x. key_at m x) e in cc
 
-some_same : (k l : Key) → Some k ≡ Some l → k ≡ l
-some_same k l e = cc
-
 not_before : (k l : Key) → Some k ≡ Some l → is_before l k ≡ false
-not_before k l e = let same = some_same k l e in
+not_before k l e = let same = same_Some k l e in
     subst (λ (x : Key). is_before x k ≡ false) same (before_irrefl k)
 
 -- the first key of an empty map
@@ -92,11 +89,11 @@ pub least_set_more : (m : Entries) (d : ℕ × Key) (i : ℕ) (k : Key) → IsLe
     (i < d.0 → is_before d.1 k ≡ true) → IsLeast (set m i (Some k)) d
 least_set_more m d i k f ne stays smaller = record {
   there = key_at-set_other m i d.0 (Some k) (λ e. ne (sym e)) ∙ f.there;
-  least = λ j l e. ⊎_elim (λ same. let k_is_l : k ≡ l = some_same k l same.1 in
+  least = λ j l e. ⊎_elim (λ same. let k_is_l : k ≡ l = same_Some k l same.1 in
       subst (λ (x : Key). is_before x d.1 ≡ false) k_is_l stays)
       (λ had. f.least j l had) (key_at-set m i (Some k) j l e);
   smallest = λ j l e lower. ⊎_elim
-      (λ same. let k_is_l : k ≡ l = some_same k l same.1 in
+      (λ same. let k_is_l : k ≡ l = same_Some k l same.1 in
       subst (λ (x : Key). is_before d.1 x ≡ true) k_is_l (smaller (omega (arith, same.0))))
       (λ had. f.smallest j l had lower) (key_at-set m i (Some k) j l e);
 }

@@ -23,11 +23,6 @@ place_read places next v fresh =
       | inr g ↦ get_or_past (take next places) v None (omega (arith, length_taken places next)) ∙ sym (fresh v g)
     ]
 
-pub take_all : (xs : List (Option Place)) (n : ℕ) → length xs ≤ n → take n xs ≡ xs
-take_all [] n l = take-nil n
-take_all (x ∷ xs) zero l = absurd (omega arith)
-take_all (x ∷ xs) (suc n) l = ap (λ k. x ∷ k) (take_all xs n (omega arith))
-
 pub none_is : {A : Type 0} (r : Option A) (b : Bool) → is_some r ≡ not b → b ≡ is_none r
 none_is None true e = λ i. true
 none_is None false e = absurd (false≢true e)
