@@ -1,5 +1,5 @@
 -- Searches and decisions over the numbers below a bound.
-use Rattle.std.proofs.Common.{◌≡◌, ◌≢◌, ℕ, zero, suc, ◌<◌, Bool, true, Option, Some, None, ◌⊎◌, inl, inr, refl, sym, ◌∙◌, subst, arith}
+use Rattle.std.proofs.Common.{◌≡◌, ◌≢◌, ℕ, zero, suc, ◌<◌, Bool, true, false, Option, Some, None, ◌⊎◌, inl, inr, refl, sym, ◌∙◌, subst, arith}
 use Rattle.std.specs.Option.{is_some, is_none}
 use Rattle.std.proofs.lemmas.Bool.{false≢true, cases_Bool, cases_eq, both_ways, cond-true, cond-false}
 use Rattle.std.proofs.lemmas.Option.{none-some, same_Some}
@@ -31,6 +31,10 @@ option_cases (Some k) = inr (k, refl)
 pub none_from : (r : Option ℕ) → is_none r ≡ true → r ≡ None
 none_from None t = refl
 none_from (Some k) t = absurd (false≢true t)
+
+pub not_some : {A : Type 0} (r : Option A) → is_some r ≡ false → r ≡ None
+not_some None t = refl
+not_some (Some k) t = absurd (false≢true (sym t))
 
 pub some_from : {A : Type 0} (r : Option A) → is_some r ≡ true → (k : A) × (r ≡ Some k)
 some_from None t = absurd (false≢true t)

@@ -87,10 +87,6 @@ module _ (glued : List (Option ℕ)) (p : ArePaired glued) where
             absurd (omega arith)
       ]
 
-pub bare_is : (r : Option ℕ) → is_some r ≡ false → r ≡ None
-bare_is None e = refl
-bare_is (Some x) e = absurd (true≢false e)
-
 pub some_is : (r : Option ℕ) → is_some r ≡ true → r ≡ None → ⊥
 some_is r e none = true≢false (sym e ∙ ap is_some none)
 

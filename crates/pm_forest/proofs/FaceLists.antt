@@ -12,7 +12,7 @@ use Rattle.pm_forest.specs.Forest.{Hierarchy, record_at, record_count}
 use Rattle.pm_forest.specs.Faces.{no_corners, no_face, face_in, faces_in, faces_of, first_face, face_count, revealed_after, is_left, corners_at, corners_of}
 use Rattle.pm_forest.proofs.Prefix.{cut, cut-more, faces_of-with_record}
 
-length-face_in : (o : Option NewFace) → length (face_in o) ≡ one_if (is_some o)
+pub length-face_in : (o : Option NewFace) → length (face_in o) ≡ one_if (is_some o)
 length-face_in None = refl
 length-face_in (Some n) = refl
 

@@ -4,6 +4,7 @@ use Rattle.std.proofs.Math.Bool.{or-false}
 use Rattle.std.proofs.lemmas.Bool.{cases_eq, ne_eqb, false≢true}
 use Rattle.std.proofs.lemmas.List.{append-nil, length_push, map_push}
 use Rattle.pm_base.specs.declared.ids.Side.{Side}
+use Rattle.pm_base.proofs.Search.{not_some}
 use Rattle.pm_forest.specs.declared.parts.Counts.{Counts}
 use Rattle.pm_forest.specs.declared.parts.Face.{Face}
 use Rattle.pm_forest.specs.declared.parts.NewFace.{NewFace}
@@ -21,15 +22,11 @@ use Rattle.pm_forest.proofs.GrowingLaws.{some_coming}
 
 -- A record without its right face, without any, and the words of its neighbours
 
-not_there : (o : Option NewFace) → is_some o ≡ false → o ≡ None
-not_there None none = refl
-not_there (Some n) none = absurd cc
-
 without_right : (r : Record) → is_some r.right ≡ false → r ≡ left_only r
-without_right r none = λ i. record r { right = not_there r.right none i }
+without_right r none = λ i. record r { right = not_some r.right none i }
 
 without_faces : (r : Record) → is_some r.left ≡ false → is_some r.right ≡ false → r ≡ bare r
-without_faces r no_left no_right = λ i. record r { left = not_there r.left no_left i; right = not_there r.right no_right i }
+without_faces r no_left no_right = λ i. record r { left = not_some r.left no_left i; right = not_some r.right no_right i }
 
 -- the word of the side that a word names, and the side that the word of a side names
 pub word_of-side : (word : ℕ) → word_of (side_of word) ≡ word
@@ -62,7 +59,7 @@ left_fits h r right_due f first second s fits =
       head = rw no_left at s.head;
       split = s.split;
       left = rw (word_of-side first, word_of-side second, ← without_faces r no_left s.no_right) fits;
-      right = rw (not_there r.right s.no_right) refl;
+      right = rw (not_some r.right s.no_right) refl;
       alone = λ due. s.no_right;
     }
 
@@ -106,10 +103,10 @@ faces_more : (h : Hierarchy) (r : Record) (left : Bool) (n : NewFace) → is_som
     faces_of (with_record h (with_new_face r left n)) ≡ faces_of (with_record h r) ++ n.face ∷ []
 faces_more h r true n no_right no_left =
     rw (faces_of-with_record h (with_new_face r true n), faces_of-with_record h r)
-    (rw (not_there r.left (no_left refl), not_there r.right no_right, append-nil (faces_of h)) refl)
+    (rw (not_some r.left (no_left refl), not_some r.right no_right, append-nil (faces_of h)) refl)
 faces_more h r false n no_right no_left =
     rw (faces_of-with_record h (with_new_face r false n), faces_of-with_record h r)
-    (rw (not_there r.right no_right, append-nil (face_in r.left), append_assoc (faces_of h) (face_in r.left) (n.face ∷ [])) refl)
+    (rw (not_some r.right no_right, append-nil (face_in r.left), append_assoc (faces_of h) (face_in r.left) (n.face ∷ [])) refl)
 
 -- and the nodes are the same
 nodes_same : (h : Hierarchy) (r : Record) (left : Bool) (n : NewFace) →

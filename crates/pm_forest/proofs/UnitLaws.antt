@@ -3,6 +3,7 @@ use Rattle.std.proofs.Common.{◌≡◌, ◌≢◌, ℕ, zero, suc, ◌+◌, ◌
 use Rattle.std.proofs.lemmas.Bool.{eqb-true, eqb-false, leb-false, ltb-false, or_parts, not-false}
 use Rattle.std.proofs.lemmas.List.{append-nil}
 use Rattle.std.proofs.lemmas.List.Elements.{All-nil, All-cons}
+use Rattle.pm_base.proofs.Search.{not_some}
 use Rattle.pm_forest.specs.declared.parts.Counts.{Counts}
 use Rattle.pm_forest.specs.declared.parts.Root.{Root}
 use Rattle.pm_forest.specs.declared.parts.Face.{Face}
@@ -97,10 +98,6 @@ base_fits roots f fits =
       bc = eqb-false _ _ q.1;
       ca = λ e. eqb-false _ _ p.1 (sym e);
     }
-
-not_some : {A : Type 0} (o : Option A) → is_some o ≡ false → o ≡ None
-not_some None e = refl
-not_some (Some x) e = absurd cc
 
 pub split_fits : (h : Hierarchy) (s width : ℕ) → split_is_bad h s width ≡ false → SplitFits h s width
 unfolding split_is_bad

@@ -18,7 +18,7 @@ use Rattle.pm_forest.proofs.Prefix.{cut, faces_of-with_record}
 use Rattle.pm_forest.proofs.Sides.{inner-face}
 use Rattle.pm_forest.proofs.Corners.{corner_a, corner_b, corner_c, which_corner, AreAlong}
 use Rattle.pm_forest.proofs.FaceNumbers.{first_face-mono, revealed-from}
-use Rattle.pm_forest.proofs.FaceLists.{length-faces_of, length-faces_of_cut, corners_of-faces_of}
+use Rattle.pm_forest.proofs.FaceLists.{length-face_in, length-faces_of, length-faces_of_cut, corners_of-faces_of}
 use Rattle.pm_forest.proofs.HierarchyLaws.{revealed-base}
 use Rattle.pm_forest.proofs.NewFaces.{runs_as, coming_count, coming_s, coming_interval, coming_first_face, coming_face_count}
 use Rattle.pm_forest.proofs.ShapeLaws.{left_corners, right_corners, left_from}
@@ -240,7 +240,7 @@ module _ (r : Run) (run : IsMerging r) (few : r.net.faces ≤ 1048576) where
       ∙ sym (append_assoc (faces_of (cut h k)) (face_in x.left) rest) in
       let count = coming_face_count h nodes k l (left_only x) refl refl in
       let len : length (faces_of (cut h k) ++ face_in x.left) ≤ f =
-      (let a = length-append (faces_of (cut h k)) (face_in x.left) in let b = length-faces_of_cut h k (omega arith) in let d = one_length x.left in omega arith) in
+      (let a = length-append (faces_of (cut h k)) (face_in x.left) in let b = length-faces_of_cut h k (omega arith) in let d = length-face_in x.left in omega arith) in
       new_face_pass h nodes k l (left_only x) refl refl false n.face (word_of n.first) (word_of n.second)
       (rw face at (corners_inside f f_lt))
       (rw face at run_so)
@@ -248,10 +248,6 @@ module _ (r : Run) (run : IsMerging r) (few : r.net.faces ≤ 1048576) where
       (word_older k l n.second (λ b m. of_n b (in-append_right b (side_in n.first) (side_in n.second) m)))
       (omega arith)
       (rw before (rw face at (fresh_face f (faces_of (cut h k) ++ face_in x.left) rest f_lt len split)))
-    where
-      one_length : (o : Option NewFace) → length (face_in o) ≡ one_if (is_some o)
-      one_length None = refl
-      one_length (Some m) = refl
 
   -- The end
 
