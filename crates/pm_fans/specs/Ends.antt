@@ -3,6 +3,7 @@ use Rattle.std.specs.Prelude.{◌≡◌, ◌≢◌, ℕ, ◌+◌, ◌*◌, ◌<�
 use Rattle.std.specs.Ordering.{nat_cmp}
 use Rattle.std.specs.BTreeMap.{BTreeMap, get}
 use Rattle.pm_base.specs.Sides.{Net, to}
+use Rattle.pm_fans.specs.declared.glue.TheConstants.{SEVERAL}
 
 -- A side's two ends as one number.
 abbrev pub ends_key : ℕ → ℕ → ℕ
@@ -19,7 +20,7 @@ pub record IsAlone (m : Net) (n k v : ℕ) : Type 0 where
 
 -- Two of the first n sides have the key, which is marked by a number that no side has.
 pub record AreSeveral (m : Net) (n k v : ℕ) : Type 0 where
-  pub mark : v ≡ 4294967295
+  pub mark : v ≡ SEVERAL
   pub one : ℕ
   pub other : ℕ
   pub one_in : one < n

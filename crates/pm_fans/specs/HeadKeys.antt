@@ -4,14 +4,15 @@ use Rattle.std.specs.List.{Contains}
 use Rattle.std.specs.Option.{is_some, unwrap_or}
 use Rattle.pm_base.specs.declared.mesh.Corners.{Corners}
 use Rattle.pm_base.specs.Sides.{Net, no_corners}
+use Rattle.pm_fans.specs.declared.numbers.TheConstants.{SIDES}
 use Rattle.pm_fans.specs.Heads.{at}
 
 -- By the old vertex, then whether the chain is closed, then the side: 22 bits for the side, one for a closed chain.
 unfoldable pub order_key : Net → List (Option ℕ) → ℕ → ℕ
-order_key m glued e = (m.from e * 2 + (if is_some (at glued e) then 1 else 0)) * 4194304 + e
+order_key m glued e = (m.from e * 2 + (if is_some (at glued e) then 1 else 0)) * SIDES + e
 
 abbrev pub side_in : ℕ → ℕ
-side_in key = key % 4194304
+side_in key = key % SIDES
 
 pub record IsHeadKey (m : Net) (glued heads : List (Option ℕ)) (key : ℕ) : Type 0 where
   pub own : at heads (side_in key) ≡ Some (side_in key)
