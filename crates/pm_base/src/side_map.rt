@@ -18,12 +18,13 @@ struct Slot {
 
 impl Model for Slot {
     ghost use Rattle.std.specs.Prelude.{ℕ, Option, None, Some, cond, ◌==◌, unwrap_or};
+    ghost use Rattle.pm_base.specs.declared.side_map.TheConstants.{NONE};
 
     ghost Value = { Option ℕ };
 
-    ghost view = { λ s. cond (s.number == 4294967295) None (Some s.number) };
+    ghost view = { λ s. cond (s.number == NONE) None (Some s.number) };
 
-    ghost inverse = { λ o. record { number = unwrap_or o 4294967295 } };
+    ghost inverse = { λ o. record { number = unwrap_or o NONE } };
 }
 
 impl Slot {

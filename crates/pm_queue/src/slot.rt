@@ -19,19 +19,20 @@ pub(crate) struct Slot {
 impl Model for Slot {
     ghost use Rattle.std.specs.Prelude.{◌+◌, ◌*◌, ◌<◌, ◌/◌, ◌%◌};
     ghost use Rattle.pm_queue.specs.declared.key.Key.{Key};
+    ghost use Rattle.pm_queue.specs.declared.slot.TheConstants.{WORD};
     ghost use Rattle.std.proofs.lemmas.Nat.{div-mul-add, mod-mul-add};
 
     ghost Value = { Key };
 
-    ghost view = { λ s. record { cost = s.high * 18446744073709551616 + s.low; a = s.a; b = s.b } };
+    ghost view = { λ s. record { cost = s.high * WORD + s.low; a = s.a; b = s.b } };
 
-    ghost invariant = { λ s. s.low < 18446744073709551616 };
+    ghost invariant = { λ s. s.low < WORD };
 
-    ghost inverse = { λ k. record { high = k.cost / 18446744073709551616; low = k.cost % 18446744073709551616; a = k.a; b = k.b } };
+    ghost inverse = { λ k. record { high = k.cost / WORD; low = k.cost % WORD; a = k.a; b = k.b } };
 
     ghost inverse_ok = { λ s low i. record {
-      high = div-mul-add s.high 18446744073709551616 s.low low i;
-      low = mod-mul-add s.high 18446744073709551616 s.low low i;
+      high = div-mul-add s.high WORD s.low low i;
+      low = mod-mul-add s.high WORD s.low low i;
       a = s.a;
       b = s.b;
     } };
