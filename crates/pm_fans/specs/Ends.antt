@@ -3,11 +3,11 @@ use Rattle.std.specs.Prelude.{◌≡◌, ◌≢◌, ℕ, ◌+◌, ◌*◌, ◌<�
 use Rattle.std.specs.Ordering.{nat_cmp}
 use Rattle.std.specs.BTreeMap.{BTreeMap, get}
 use Rattle.pm_base.specs.Sides.{Net, to}
-use Rattle.pm_fans.specs.declared.glue.TheConstants.{SEVERAL}
+use Rattle.pm_fans.specs.declared.glue.TheConstants.{SEVERAL, SHIFT}
 
 -- A side's two ends as one number.
 abbrev pub ends_key : ℕ → ℕ → ℕ
-ends_key p q = p * 4294967296 + q
+ends_key p q = p * SHIFT + q
 
 abbrev pub key_at : Net → ℕ → ℕ
 key_at m e = ends_key (m.from e) (to m e)

@@ -4,6 +4,7 @@ use Rattle.std.specs.List.{All, list_any}
 use Rattle.std.specs.Ordering.{nat_cmp, is_eq}
 use Rattle.std.specs.BTreeSet.{BTreeSet, contains}
 use Rattle.pm_base.specs.declared.mesh.Corners.{Corners}
+use Rattle.pm_fans.specs.declared.keeping.TheConstants.{SHIFT}
 use Rattle.pm_fans.specs.Kept.{is_flat}
 
 abbrev pub least : Corners → ℕ
@@ -16,7 +17,7 @@ abbrev pub middle : Corners → ℕ
 middle f = f.a + f.b + f.c - least f - greatest f
 
 unfoldable pub key_of : Corners → ℕ
-key_of f = (least f * 4294967296 + middle f) * 4294967296 + greatest f
+key_of f = (least f * SHIFT + middle f) * SHIFT + greatest f
 
 -- Each corner is a number of 32 bits.
 pub record IsShort (f : Corners) : Type 0 where
