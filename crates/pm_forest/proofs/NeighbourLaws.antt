@@ -1,5 +1,5 @@
 -- The neighbours of a record, place by place.
-use Rattle.std.proofs.Common.{◌≡◌, ℕ, List, [], ◌∷◌, ◌++◌, Option, None, Some, sym, ap, refl, ◌∙◌, append_assoc}
+use Rattle.std.proofs.Common.{◌≡◌, List, [], ◌∷◌, ◌++◌, Option, None, Some, sym, ap, refl, ◌∙◌, append_assoc}
 use Rattle.std.proofs.lemmas.List.{append-nil}
 use Rattle.pm_base.specs.declared.ids.Side.{Side}
 use Rattle.pm_forest.specs.declared.parts.NewFace.{NewFace}

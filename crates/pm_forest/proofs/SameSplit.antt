@@ -4,7 +4,7 @@ use Rattle.std.proofs.lemmas.Bool.{cases_Bool, cases_lt, cases_eq, eqb-false, co
 use Rattle.std.proofs.lemmas.Option.{none-some}
 use Rattle.pm_base.specs.Sides.{find_below}
 use Rattle.pm_forest.specs.declared.parts.Record.{Record}
-use Rattle.pm_forest.specs.Forest.{Hierarchy, no_record, record_at, record_count, s_of, node_count, rest, interval_after, interval_of, splitter_of, HasForestShape}
+use Rattle.pm_forest.specs.Forest.{Hierarchy, no_record, record_at, record_count, s_of, node_count, interval_after, interval_of, splitter_of, HasForestShape}
 use Rattle.pm_forest.specs.Rules.{with_record}
 use Rattle.pm_forest.proofs.Prefix.{interval_after-alike, interval_of-with_record, record_at-with_record, record_at-with_record_last, record_count-with_record, s_of-with_record, s_of-with_record_last, splitter_of-with_record}
 

@@ -1,5 +1,5 @@
 -- Sides of a face: the next one and the one after it, and the inner side of a record's face.
-use Rattle.std.proofs.Common.{◌≡◌, ◌≢◌, ℕ, ◌+◌, ◌-◌, ◌*◌, cond, ◌⊎◌, inl, inr, arith}
+use Rattle.std.proofs.Common.{◌≡◌, ◌≢◌, ℕ, ◌+◌, ◌*◌, cond, ◌⊎◌, inl, inr, arith}
 use Rattle.std.proofs.lemmas.Bool.{cases_eq, cases_Bool, cond-true, cond-false}
 use Rattle.pm_base.specs.Sides.{face_of, next}
 use Rattle.pm_base.proofs.Sides.{next_cases}

@@ -1,7 +1,6 @@
 -- A table of places with room for later ones: what is read of its first entries.
-use Rattle.std.proofs.Math.Seq.{take-nil}
 use Rattle.std.specs.Prelude.{is_some, is_none}
-use Rattle.std.proofs.Common.{◌≡◌, Bool, true, false, not, Some, ℕ, zero, suc, [], ◌∷◌, ap, ◌<◌, ◌≤◌, List, length, get_or, take, Option, None, inl, inr, sym, ◌∙◌, arith}
+use Rattle.std.proofs.Common.{◌≡◌, Bool, true, false, not, Some, ℕ, ◌<◌, ◌≤◌, List, length, get_or, take, Option, None, inl, inr, sym, ◌∙◌, arith}
 use Rattle.std.proofs.lemmas.List.{get_or-take, get_or_past, length-take-le, length-take}
 use Rattle.std.proofs.lemmas.Bool.{cases_lt, false≢true}
 use Rattle.pm_base.specs.Place.{Place}
