@@ -3,6 +3,7 @@
 ghost use Rattle.std.specs.Prelude.{◌≡◌, ◌+◌, ◌*◌, ◌<◌, ◌≤◌, is_some, IfOk, IfSome, Some};
 ghost use Rattle.pm_base.specs.Counts.{one_if};
 ghost use Rattle.pm_base.specs.Sides.{face_of};
+ghost use Rattle.pm_base.specs.declared.limits.TheConstants.{MOST_FACES, MOST_SIDES};
 ghost use Rattle.pm_forest.specs.Forest.{node_count, record_count, s_of};
 ghost use Rattle.pm_forest.specs.Faces.{face_count, first_face, inner_of, revealed_by};
 ghost use Rattle.pm_forest.specs.Rules.{HasShape};
@@ -116,7 +117,7 @@ impl IndexedHierarchy {
     pub fn first_face(&self, k: u32) -> u32
         requires { k < record_count self.now }
         ensures value { result ≡ first_face self.now k }
-        ensures few { result ≤ 1048576 }
+        ensures few { result ≤ MOST_FACES }
     {
         self.first_faces[k as usize]
     }
@@ -137,7 +138,7 @@ impl IndexedHierarchy {
         requires { k < record_count self.now }
         ensures value { result ≡ first_face self.now (k + 1) }
         ensures there { result ≤ face_count self.now }
-        ensures few { result ≤ 1048576 }
+        ensures few { result ≤ MOST_FACES }
     {
         let records = self.hierarchy.records();
         if k + 1 < records {
@@ -154,7 +155,7 @@ impl IndexedHierarchy {
         requires own { revealed_by self.now face.0 ≡ Some k }
         ensures value { result.0 ≡ inner_of self.now k face.0 }
         ensures face_is { face_of result.0 ≡ face.0 }
-        ensures few { result.0 < 3145728 }
+        ensures few { result.0 < MOST_SIDES }
     {
         face.side(u32::from(self.inner_corners[face.0 as usize]))
     }
