@@ -8,7 +8,7 @@ ghost use Rattle.pm_front.specs.Corners.{base_lists, full_base_lists};
 use crate::corners::leaf;
 use pm_forest::Hierarchy;
 use pm_links::Links;
-use pm_sides::first_child;
+use pm_sides::IndexedHierarchy;
 
 // Puts each corner of a base face in the list of its leaf's node, ascending.
 fn list_at_leaves(h: &Hierarchy, corners: &mut Links)
@@ -24,29 +24,30 @@ fn list_at_leaves(h: &Hierarchy, corners: &mut Links)
 }
 
 // From the last record down, puts the corners of a record's two children in the list of its node.
-fn gather(h: &Hierarchy, corners: &mut Links)
-    requires { corners.old.lists ≡ full_base_lists h.now }
+fn gather(indexed: &IndexedHierarchy, corners: &mut Links)
+    requires { corners.old.lists ≡ full_base_lists indexed.now }
     ensures items { corners.new.items ≡ corners.old.items }
-    ensures lists { corners.new.lists ≡ base_lists h.now }
+    ensures lists { corners.new.lists ≡ base_lists indexed.now }
 {
-    h.invariant();
+    indexed.invariant();
+    let h = indexed.hierarchy();
     let mut k = h.records();
     while k > 0 {
         k -= 1;
-        let s = h.record_at(k).s;
-        let t = first_child(h, k).0;
-        corners.move_all(t, s);
-        corners.move_all(t + 1, s);
+        let s = indexed.split_node(k).0;
+        let (t, u) = h.children(k);
+        corners.move_all(t.0, s);
+        corners.move_all(u.0, s);
     }
 }
 
 /// The corner lists of the base front, where all lists are empty. It goes once through the base faces' corners and once
 /// through the records, each time from the last one down, and takes no memory.
-pub(crate) fn base_corners(h: &Hierarchy, corners: &mut Links)
-    requires { corners.old ≡ empty_lists (3 * face_count h.now) (node_count h.now) }
+pub(crate) fn base_corners(indexed: &IndexedHierarchy, corners: &mut Links)
+    requires { corners.old ≡ empty_lists (3 * face_count indexed.now) (node_count indexed.now) }
     ensures items { corners.new.items ≡ corners.old.items }
-    ensures lists { corners.new.lists ≡ base_lists h.now }
+    ensures lists { corners.new.lists ≡ base_lists indexed.now }
 {
-    list_at_leaves(h, corners);
-    gather(h, corners);
+    list_at_leaves(indexed.hierarchy(), corners);
+    gather(indexed, corners);
 }

@@ -5,7 +5,7 @@ ghost use Rattle.pm_forest.specs.Faces.{face_count, revealed_by, inner_of, is_le
 ghost use Rattle.pm_sides.specs.Tables.{AreFirstFaces, AreInnerCorners, inner_at, start_of};
 
 use crate::OutOfMemory;
-use crate::sides::{first_child, holds};
+use crate::sides::holds;
 use pm_base::{FaceId, NodeId};
 use pm_forest::Hierarchy;
 use std::alloc::Global;
@@ -26,12 +26,8 @@ fn start(h: &Hierarchy, firsts: &[u32], k: u32, face: FaceId) -> NodeId
     requires firsts { AreFirstFaces h.now (record_count h.now) firsts.now }
     ensures { result.0 ≡ start_of h.now k face.0 }
 {
-    let t = first_child(h, k);
-    if is_left(h, firsts, k, face) {
-        t
-    } else {
-        NodeId(t.0 + 1)
-    }
+    let (t, u) = h.children(k);
+    if is_left(h, firsts, k, face) { t } else { u }
 }
 
 // The corner at which the inner side of a face of record `k` begins.

@@ -10,7 +10,7 @@ mod told;
 
 pub use indexed::IndexedHierarchy;
 pub use lowering::{BadNeighbour, Lowering};
-pub use sides::{first_child, holds, leaf_at};
+pub use sides::{holds, leaf_at};
 pub use table::SideTable;
 
 /// The answer for want of memory.

@@ -1,6 +1,6 @@
 //! The leaves at the corners of a hierarchy's faces, and the nodes above them.
 ghost use Rattle.std.specs.Prelude.{◌≡◌, ◌+◌, ◌*◌, ◌<◌};
-ghost use Rattle.pm_forest.specs.Forest.{leaf_count, node_count, record_count, t_of, u_of, holds as holds_in};
+ghost use Rattle.pm_forest.specs.Forest.{leaf_count, node_count, holds as holds_in};
 ghost use Rattle.pm_forest.specs.Faces.{face_count, from_leaf};
 
 use pm_base::{FaceId, NodeId};
@@ -31,15 +31,4 @@ pub fn leaf_at(h: &Hierarchy, f: FaceId, i: u32) -> u32
         1 => corners.b,
         _ => corners.c,
     }
-}
-
-/// The first child of record `k`. The second one has the next number. O(1).
-pub fn first_child(h: &Hierarchy, k: u32) -> NodeId
-    requires { k < record_count h.now }
-    ensures value { result.0 ≡ t_of h.now k }
-    ensures second { u_of h.now k ≡ result.0 + 1 }
-    ensures below { result.0 + 1 < node_count h.now }
-    ensures few { result.0 < 2097152 }
-{
-    NodeId(h.nodes() - 2 * (h.records() - k))
 }

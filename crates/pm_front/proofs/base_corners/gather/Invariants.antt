@@ -5,7 +5,7 @@ use Rattle.pm_front.proofs.base_corners.gather.Given as goal
 abbrev pub invariant-loop-k : goal.invariant-loop-k
 invariant-loop-k l = record {
   items : l.corners.items ≡ l.fn.corners.items;
-  gathered : Gathered l.h l.k l.corners;
+  gathered : Gathered l.indexed l.k l.corners;
 }
 
 abbrev pub decreases-loop-k : goal.decreases-loop-k
