@@ -30,10 +30,7 @@ pub fn validate(alloc: Global, h: Hierarchy) -> Result<Hierarchy, LoadFail>
     ensures fault { IfErr result (IsLoadFault h) }
     ensures refused { IfErr result (λ e. e ≢ fails.OutOfMemory → IsValid h → ⊥) }
 {
-    let twins = match leaf_twins(alloc, &h) {
-        Ok(twins) => twins,
-        Err(fail) => return Err(fail),
-    };
+    let twins = leaf_twins(alloc, &h)?;
     let Ok(mut lowering) = Lowering::full(alloc, h, twins) else {
         return Err(LoadFail::OutOfMemory);
     };
