@@ -7,6 +7,7 @@ use Rattle.pm_forest.specs.Faces.{first_face, face_count, record_of, IsForest}
 use Rattle.pm_forest.specs.Kept.{is_kept, is_shown}
 use Rattle.pm_forest.proofs.OneStep.{with-same}
 use Rattle.pm_forest.proofs.Shown.{kept-shown, shown_record, shown_with, shown_with-parts, shown_without, shown_without-parts}
+use Rattle.pm_beyond.proofs.PlanLists.{same_bools}
 use Rattle.pm_front.specs.Shown.{numbers, kept_faces}
 use Rattle.pm_front.specs.Active.{shown_count}
 use Rattle.pm_front.proofs.Counting.{count_next, count_same}
@@ -80,13 +81,6 @@ own_face h k f l low high = let p = corner_of-record h k (3 * f) l (omega arith)
 face_own : (h : Hierarchy) (k f : ℕ) → f < face_count h → record_of h (3 * f) ≡ Some k → (first_face h k ≤ f) × (f < first_face h (k + 1))
 face_own h k f l own = let p = record-corner_of h k (3 * f) (omega arith) own in (omega (arith, p.0), omega (arith, p.1))
 
-same_Bool : (a b : Bool) → (a ≡ true → b ≡ true) → (b ≡ true → a ≡ true) → a ≡ b
-same_Bool a b to back =
-    elim (cases_Bool a) [
-      | inl yes_a ↦ yes_a ∙ sym (to yes_a)
-      | inr no_a ↦ no_a ∙ sym (false_from_ne_true b (λ t. both_ways a no_a (back t)))
-    ]
-
 pub shown-few : (h : Hierarchy) (T : ℕ → Bool) → shown_count h T ≤ face_count h
 shown-few h T = count-few (λ f. is_shown h T (3 * f)) (face_count h)
 
@@ -100,7 +94,7 @@ module _ (h : Hierarchy) (T : ℕ → Bool) (k : ℕ) (k_lt : k < record_count h
       count-more (λ f. is_shown h T (3 * f)) (λ f. is_shown h (with T k) (3 * f)) (face_count h) from until ordered
       (λ f l low high. shown_record h T (3 * f) k (own f low high) ∙ unsplit)
       (λ f l low high. shown_record h (with T k) (3 * f) k (own f low high) ∙ with-same T k)
-      (λ f l other. same_Bool (is_shown h (with T k) (3 * f)) (is_shown h T (3 * f))
+      (λ f l other. same_bools (is_shown h (with T k) (3 * f)) (is_shown h T (3 * f))
       (λ t. elim (shown_with-parts h T k (3 * f) t) [
         | inl r ↦ (let p = face_own h k f l r in absurd (other (omega (arith, p.0)) (omega (arith, p.1))))
         | inr old ↦ old
@@ -115,7 +109,7 @@ module _ (h : Hierarchy) (T : ℕ → Bool) (k : ℕ) (k_lt : k < record_count h
       count-more (λ f. is_shown h (less T k) (3 * f)) (λ f. is_shown h T (3 * f)) (face_count h) from until ordered
       (λ f l low high. false_from_ne_true (is_shown h (less T k) (3 * f)) (λ t. (shown_without-parts h T k (3 * f) t).0 (own f low high)))
       (λ f l low high. shown_record h T (3 * f) k (own f low high) ∙ split)
-      (λ f l other. same_Bool (is_shown h T (3 * f)) (is_shown h (less T k) (3 * f))
+      (λ f l other. same_bools (is_shown h T (3 * f)) (is_shown h (less T k) (3 * f))
       (shown_without h T k (3 * f) (λ r. (let p = face_own h k f l r in other (omega (arith, p.0)) (omega (arith, p.1)))))
       (λ t. (shown_without-parts h T k (3 * f) t).1))
       (face_count h) (omega arith)

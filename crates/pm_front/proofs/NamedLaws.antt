@@ -1,6 +1,5 @@
 -- How often a list of names has a record, and what a record names.
 use Rattle.std.proofs.Common.{◌≡◌, ℕ, zero, suc, ◌+◌, ◌*◌, ◌<◌, ◌≤◌, Bool, true, false, ◌||◌, cond, List, [], ◌∷◌, length, map, filter, get_or, Option, None, Some, inl, inr, refl, sym, ap, ◌∙◌, subst, arith, length-append}
-use Rattle.std.specs.Cmp.{both_ways as same_tests}
 use Rattle.std.specs.List.{All, list_any}
 use Rattle.std.proofs.lemmas.Bool.{or_cases, or_left, or_right, or_parts, both_ways, cond-true, cond-false}
 use Rattle.std.proofs.lemmas.List.{length-map}
@@ -16,6 +15,7 @@ use Rattle.pm_forest.proofs.Nodes.{maker_of-makes, maker_of-from}
 use Rattle.pm_beyond.specs.Moves.{Needs, as_maker, as_neighbour, is_at, needs}
 use Rattle.pm_beyond.proofs.Distinct.{any-parts, any-from}
 use Rattle.pm_beyond.proofs.Neighbours.{recorded-in, recorded-has}
+use Rattle.pm_beyond.proofs.PlanLists.{same_bools}
 use Rattle.pm_beyond.proofs.Outer.{is_at-parts, is_at-from, needs-true, needs-from}
 use Rattle.pm_front.specs.Needed.{named_by, revealer_of, times_in, times_named}
 use Rattle.pm_front.proofs.SplitLaws.{neighbours_there, all_first, all_second}
@@ -71,15 +71,15 @@ few_neighbours : (r : Record) → length (neighbours_of r) ≤ 4
 few_neighbours r = omega (arith, length-append (neighbours_in r.left) (neighbours_in r.right), few_in r.left, few_in r.right)
 
 -- A recorded neighbour's side is one of the hierarchy.
-side_below : (most : ℕ) (items : List (Option Side)) (i : ℕ) → i < length items → All (λ e. e < most) (sides_in items) → All (λ e. e < most) (side_in (get_or items i None))
-side_below most [] i l all = absurd (omega arith)
-side_below most (x ∷ xs) zero l all = all_first most (side_in x) (sides_in xs) all
-side_below most (x ∷ xs) (suc i) l all = side_below most xs i (omega arith) (all_second most (side_in x) (sides_in xs) all)
+neighbour_below : (most : ℕ) (items : List (Option Side)) (i : ℕ) → i < length items → All (λ e. e < most) (sides_in items) → All (λ e. e < most) (side_in (get_or items i None))
+neighbour_below most [] i l all = absurd (omega arith)
+neighbour_below most (x ∷ xs) zero l all = all_first most (side_in x) (sides_in xs) all
+neighbour_below most (x ∷ xs) (suc i) l all = neighbour_below most xs i (omega arith) (all_second most (side_in x) (sides_in xs) all)
 
 module _ (h : Hierarchy) where
   pub neighbour_there : (k i : ℕ) (items : List (Option Side)) → HasShape h → k < record_count h → sides_in items ≡ neighbours_of (record_at h k) → i < length items →
       All (λ e. e < 3 * face_count h) (side_in (get_or items i None))
-  neighbour_there k i items shape l are at = side_below (3 * face_count h) items i at (subst (All (λ e. e < 3 * face_count h)) (sym are) (neighbours_there h shape k l))
+  neighbour_there k i items shape l are at = neighbour_below (3 * face_count h) items i at (subst (All (λ e. e < 3 * face_count h)) (sym are) (neighbours_there h shape k l))
 
   -- What record k needs is what made its node, and what reveals the neighbours that it records.
   pub needs_is : (k j : ℕ) → k < record_count h → (is_at j (maker_of h (s_of h k)) || list_any (λ b. is_at j (record_of h b)) (neighbours_of (record_at h k))) ≡ needs h k j
@@ -87,7 +87,7 @@ module _ (h : Hierarchy) where
       let made = is_at j (maker_of h (s_of h k)) in
       let p = λ (b : ℕ). is_at j (record_of h b) in
       let sides = neighbours_of (record_at h k) in
-      same_tests (made || list_any p sides) (needs h k j)
+      same_bools (made || list_any p sides) (needs h k j)
       (λ e. needs-from h k j (elim (or_cases made (list_any p sides) e) [
         | inl t ↦ as_maker (maker_of-makes h j (s_of h k) (is_at-parts j _ t))
         | inr t ↦

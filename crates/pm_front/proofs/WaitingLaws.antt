@@ -1,7 +1,6 @@
 -- The records that wait for a split, once a record is split or collapsed, and in the base front.
 use Rattle.std.proofs.Common.{◌≡◌, ℕ, ◌+◌, ◌<◌, eqb, ltb, Bool, true, false, not, ◌&&◌, ◌||◌, cond, List, length, replicate, Option, None, Some, inl, inr, refl, sym, ap, ◌∙◌, arith}
 use Rattle.std.proofs.Math.Bool.{and-true}
-use Rattle.std.specs.Cmp.{both_ways as same_tests}
 use Rattle.std.proofs.Math.ListN.{set, length-set}
 use Rattle.std.proofs.lemmas.Bool.{cases_eq, or_cases, or_left, or_right, and_from, and_right, not_from_true, not_from_false, both_ways, false_from_ne_true, eq-eqb, ne_eqb, eqb-true, lt-ltb, ltb-true, le-ltb, cond-true, cond-false}
 use Rattle.std.proofs.lemmas.List.{length-replicate, get_or-replicate, get_or-set_other}
@@ -13,6 +12,7 @@ use Rattle.pm_forest.specs.Rules.{HasShape}
 use Rattle.pm_forest.proofs.Nodes.{maker_of-makes, maker_of-from, splitter_of-splits, splitter_of-s}
 use Rattle.pm_forest.proofs.ShapeLaws.{shape_of_nodes}
 use Rattle.pm_beyond.specs.Moves.{IsClosed, as_maker, is_at}
+use Rattle.pm_beyond.proofs.PlanLists.{same_bools}
 use Rattle.pm_beyond.proofs.Outer.{is_at-parts, is_at-from}
 use Rattle.pm_front.specs.Candidates.{AreAnswers, AreCleared, AreAdded}
 use Rattle.pm_front.proofs.NeededLaws.{not_own, unwanted}
@@ -69,7 +69,7 @@ module _ (h : Hierarchy) (shape : HasShape h) where
   -- The record that splits a node, and the one that made it
   splits_at : (v j : ℕ) → j < record_count h → is_at j (splitter_of h v) ≡ eqb (s_of h j) v
   splits_at v j l =
-      same_tests (is_at j (splitter_of h v)) (eqb (s_of h j) v)
+      same_bools (is_at j (splitter_of h v)) (eqb (s_of h j) v)
       (λ e. eq-eqb (s_of h j) v (splitter_of-splits h j v (is_at-parts j (splitter_of h v) e)).0)
       (λ e. is_at-from j (splitter_of h v) (ap (splitter_of h) (sym (eqb-true (s_of h j) v e)) ∙ splitter_of-s h (shape_of_nodes h shape) j l))
 
@@ -77,7 +77,7 @@ module _ (h : Hierarchy) (shape : HasShape h) where
   makes_it k v =
       let t = eqb v (t_of h k) in
       let u = eqb v (u_of h k) in
-      same_tests (is_at k (maker_of h v)) (t || u)
+      same_bools (is_at k (maker_of h v)) (t || u)
       (λ e. elim (maker_of-makes h k v (is_at-parts k (maker_of h v) e)) [ inl a ↦ or_left t u (eq-eqb v (t_of h k) a) | inr a ↦ or_right t u (eq-eqb v (u_of h k) a) ])
       (λ e. is_at-from k (maker_of h v) (maker_of-from h k v (elim (or_cases t u e) [ inl a ↦ inl (eqb-true v (t_of h k) a) | inr a ↦ inr (eqb-true v (u_of h k) a) ])))
 
@@ -182,7 +182,7 @@ module _ (h : Hierarchy) (shape : HasShape h) where
         added.each k (omega (arith, are.len))
         ∙ ap (λ o. o || is_at k (splitter_of h root)) (are.each k k_lt)
         ∙ ap (λ o. ltb v root || o) (splits_at root k k_lt)
-        ∙ same_tests (ltb v root || eqb v root) (ltb v (root + 1))
+        ∙ same_bools (ltb v root || eqb v root) (ltb v (root + 1))
         (λ e. elim (or_cases (ltb v root) (eqb v root) e) [
           | inl less ↦ (let under = ltb-true v root less in lt-ltb v (root + 1) (omega arith))
           | inr at ↦ (let is = eqb-true v root at in lt-ltb v (root + 1) (omega arith))

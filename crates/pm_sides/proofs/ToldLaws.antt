@@ -9,9 +9,6 @@ use Rattle.pm_beyond.proofs.AnswerLaws.{same_side-from, same_side-parts}
 use Rattle.pm_sides.specs.Told.{TellsAll}
 use Rattle.pm_sides.proofs.RecordSides.{corner_of-record, record-corner_of}
 
-pub same_eq : (a b : Option ℕ) → same_side a b ≡ true → a ≡ b
-same_eq a b e = same_side-parts a b e
-
 -- The sides of a record's faces have consecutive numbers.
 pub told_all : (h : Hierarchy) (T : ℕ → Bool) (k from until : ℕ) → from ≡ first_face h k → until ≡ first_face h (k + 1) →
     ((e : ℕ) → 3 * from ≤ e → e < 3 * until → beyond_of h T e ≡ expected h e) → TellsAll h T k

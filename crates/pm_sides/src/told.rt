@@ -30,7 +30,6 @@ impl SideTable {
     }
 
     /// Whether beyond each side of the faces of record `k`, which is split, stands what the record tells. O(1).
-    #[tactic(auto, using(crate::proofs::ToldLaws::same_eq))]
     pub fn tells_all(&self, indexed: &IndexedHierarchy, split: &[bool], k: u32) -> bool
         requires record { k < record_count indexed.now }
         requires once { NoSideTwice (leaf_net indexed.now) }
