@@ -1,11 +1,11 @@
 -- The sides of a record's faces are gone through, and each is compared with what the record tells.
-use Rattle.std.proofs.Common.{◌≡◌, ℕ, ◌+◌, ◌*◌, ◌<◌, ◌≤◌, Bool, true, false, Option, refl, ap, ◌∙◌, arith}
+use Rattle.std.proofs.Common.{◌≡◌, ℕ, ◌+◌, ◌*◌, ◌<◌, ◌≤◌, Bool, false, refl, ap, ◌∙◌, arith}
 use Rattle.std.proofs.lemmas.Bool.{both_ways}
 use Rattle.pm_forest.specs.Forest.{Hierarchy, record_count}
 use Rattle.pm_forest.specs.Faces.{first_face}
 use Rattle.pm_beyond.specs.Walks.{beyond_of, expected}
 use Rattle.pm_beyond.specs.Moves.{same_side}
-use Rattle.pm_beyond.proofs.AnswerLaws.{same_side-from, same_side-parts}
+use Rattle.pm_beyond.proofs.AnswerLaws.{same_side-from}
 use Rattle.pm_sides.specs.Told.{TellsAll}
 use Rattle.pm_sides.proofs.RecordSides.{corner_of-record, record-corner_of}
 

@@ -1,4 +1,4 @@
-use Rattle.std.proofs.Common.{◌≡◌, suc, ◌+◌, ◌-◌, ◌<◌, refl, sym, ap, subst, ◌∙◌, arith}
+use Rattle.std.proofs.Common.{◌≡◌, suc, ◌-◌, ◌<◌, refl, sym, ap, subst, ◌∙◌, arith}
 use Rattle.pm_links.specs.Lists.{Lists}
 use Rattle.pm_forest.specs.Forest.{Hierarchy, node_count, record_count, t_of, u_of}
 use Rattle.pm_sides.proofs.SplitNodeLaws.{s_below}
