@@ -58,10 +58,7 @@ impl Stripper {
         front.invariant();
         let mut page = Page::new();
         free_kept(&mut self.free, front);
-        let strips = match put_strips(&mut self.free, front, &mut page, out) {
-            Ok(strips) => strips,
-            Err(fault) => return Err(fault),
-        };
+        let strips = put_strips(&mut self.free, front, &mut page, out)?;
         put_total(strips, &mut page, out)?;
         page.flush(out)?;
         Ok(())
