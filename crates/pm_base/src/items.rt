@@ -65,7 +65,7 @@ impl<T: Copy> Items<T> {
     }
 
     /// Puts an item last, into room that was taken before. It takes no memory.
-    pub fn put(&mut self, item: T)
+    pub fn push_within_room(&mut self, item: T)
         requires { 1 ≤ self.old.spare }
         ensures items { self.new.items ≡ self.old.items ++ item ∷ [] }
         ensures spare { self.new.spare + 1 ≡ self.old.spare }

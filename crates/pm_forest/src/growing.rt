@@ -77,7 +77,7 @@ fn note_owners(owners: &mut Items<u32>, width: u32, root: u32)
     ensures spare { owners.new.spare + width ≡ owners.old.spare }
 {
     for _leaf in 0..width {
-        owners.put(root);
+        owners.push_within_room(root);
     }
 }
 
@@ -160,7 +160,7 @@ impl Growing {
             from,
             from + root.width,
         );
-        self.roots.put(root);
+        self.roots.push_within_room(root);
     }
 
     /// Takes the next base face in.
@@ -169,9 +169,9 @@ impl Growing {
         requires next { length self.old.h.bases < self.old.counts.bases }
         ensures { self.new ≡ record self.old { h = record self.old.h { bases = self.old.h.bases ++ face ∷ [] } } }
     {
-        self.faces.put(face);
-        self.revealed.put(None);
-        self.bases.put(face);
+        self.faces.push_within_room(face);
+        self.revealed.push_within_room(None);
+        self.bases.push_within_room(face);
     }
 
     /// Takes the next record in, whose faces are still to come.
@@ -212,8 +212,8 @@ impl Growing {
         ensures { IfSome self.old.coming (λ r. self.new ≡ record self.old { coming = Some (with_new_face r left face) }) }
     {
         let number = self.records.len() as u32;
-        self.faces.put(face.face);
-        self.revealed.put(Some(number));
+        self.faces.push_within_room(face.face);
+        self.revealed.push_within_room(Some(number));
         set_face(&mut self.coming, left, face);
     }
 
@@ -223,7 +223,7 @@ impl Growing {
         ensures { IfSome self.old.coming (λ r. self.new ≡ record self.old { h = with_record self.old.h r; coming = None }) }
     {
         if let Some(split) = self.coming.take() {
-            self.records.put(split);
+            self.records.push_within_room(split);
         }
     }
 }

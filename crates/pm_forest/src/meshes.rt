@@ -72,7 +72,7 @@ fn leaf_points(h: &Hierarchy, alloc: Global) -> Result<Points, OutOfMemory>
     let mut points = Points::new(alloc);
     points.reserve(h.leaves() as usize)?;
     for leaf in 0..h.leaves() {
-        points.put(h.place(h.leaf_node(leaf)));
+        points.push_within_room(h.place(h.leaf_node(leaf)));
     }
     Ok(points)
 }
@@ -85,7 +85,7 @@ fn leaf_faces(h: &Hierarchy, alloc: Global) -> Result<Triples, OutOfMemory>
     faces.reserve(h.faces() as usize)?;
     for f in 0..h.faces() {
         let Face { a, b, c, .. } = h.face_at(FaceId(f));
-        faces.put(Corners { a, b, c });
+        faces.push_within_room(Corners { a, b, c });
     }
     Ok(faces)
 }
@@ -124,7 +124,7 @@ fn input_points(h: &Hierarchy, alloc: Global) -> Result<Points, OutOfMemory>
     let mut points = Points::new(alloc);
     points.reserve(leaves.len())?;
     for i in 0..leaves.len() {
-        points.put(h.place(h.leaf_node(leaves[i])));
+        points.push_within_room(h.place(h.leaf_node(leaves[i])));
     }
     Ok(points)
 }
@@ -152,7 +152,7 @@ fn input_faces(h: &Hierarchy, alloc: Global) -> Result<Triples, OutOfMemory>
     let mut faces = Triples::new(alloc);
     faces.reserve(numbers.len())?;
     for i in 0..numbers.len() {
-        faces.put(input_corners(h, numbers[i]));
+        faces.push_within_room(input_corners(h, numbers[i]));
     }
     Ok(faces)
 }

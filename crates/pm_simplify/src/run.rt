@@ -75,7 +75,7 @@ pub fn simplify_surface(
         let Some(key) = least_pair(&shrink, &mut queue, &mut waiting) else {
             break;
         };
-        log.put(collapse(&mut shrink, &mut queue, &mut waiting, key.a, key.b));
+        log.push_within_room(collapse(&mut shrink, &mut queue, &mut waiting, key.a, key.b));
     }
     Ok(log)
 }

@@ -22,6 +22,6 @@ loop-i-preserved c =
     let read = get_or_read c.in_ok-numbers.numbers.items i c.index.result.now (omega (arith, c.in_ok-numbers.ensures.len)) c.index.ensures 0 in
     let corners = c.input_corners.ensures ∙ ap (λ f. input_corners h (corners_of h f)) (read ∙ c.in_ok-numbers.ensures.each i l) in
     record {
-      faces = rw (c.put.ensures.items, c.loop-i.invariant.faces, corners) (sym (map-range_with_len_more (input_face h) 0 i i (omega arith)));
+      faces = rw (c.push_within_room.ensures.items, c.loop-i.invariant.faces, corners) (sym (map-range_with_len_more (input_face h) 0 i i (omega arith)));
       spare = omega arith;
     }

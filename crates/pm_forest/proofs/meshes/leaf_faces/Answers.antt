@@ -10,7 +10,7 @@ loop-f-preserved c =
     let h = c.args.h.now in
     let f = c.loop-f.f in
     record {
-      faces = rw (c.put.ensures.items, c.loop-f.invariant.faces, c.face_at-a.ensures.value) (sym (map_more leaf_corners (faces_of h) f no_corners (omega (arith, length-faces_of h))));
+      faces = rw (c.push_within_room.ensures.items, c.loop-f.invariant.faces, c.face_at-a.ensures.value) (sym (map_more leaf_corners (faces_of h) f no_corners (omega (arith, length-faces_of h))));
       spare = omega arith;
     }
 

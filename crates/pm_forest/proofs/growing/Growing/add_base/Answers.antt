@@ -7,4 +7,4 @@ invariant_of-self c =
     base_added c.self.invariant _ _ _ c.args.face
     (subst (λ v. length v.h.roots ≡ v.counts.roots) (sym c.self.view_is) c.requires.roots)
     (subst (λ v. length v.h.bases < v.counts.bases) (sym c.self.view_is) c.requires.next)
-    c.put-3.ensures.items c.put-3.ensures.spare c.put.ensures.items c.put.ensures.spare c.put-2.ensures.items c.put-2.ensures.spare
+    c.push_within_room-3.ensures.items c.push_within_room-3.ensures.spare c.push_within_room.ensures.items c.push_within_room.ensures.spare c.push_within_room-2.ensures.items c.push_within_room-2.ensures.spare

@@ -3,8 +3,8 @@ use Rattle.pm_forest.proofs.GrowingLaws.{TakesFace}
 use Rattle.pm_forest.proofs.GrowthLaws.{face_fits, face_added}
 use Rattle.pm_forest.proofs.growing.Growing.add_face.Goals as goal
 
-pub put-requires : goal.put-requires
-put-requires c =
+pub push_within_room-requires : goal.push_within_room-requires
+push_within_room-requires c =
     let takes : TakesFace c.args.self.now c.args.left = record {
       there = c.requires.there;
       free = c.requires.coming;
@@ -14,8 +14,8 @@ put-requires c =
     let seen = subst (λ v. TakesFace v c.args.left) (sym c.self.view_is) takes in
     (face_fits c.self.invariant c.args.left seen).0
 
-pub put-requires-2 : goal.put-requires-2
-put-requires-2 c =
+pub push_within_room-requires-2 : goal.push_within_room-requires-2
+push_within_room-requires-2 c =
     let takes : TakesFace c.args.self.now c.args.left = record {
       there = c.requires.there;
       free = c.requires.coming;
@@ -35,4 +35,4 @@ invariant_of-self c =
     } in
     let seen = subst (λ v. TakesFace v c.args.left) (sym c.self.view_is) takes in
     face_added c.self.invariant c.args.left c.args.face seen _ _ _ _
-    c.set_face.ensures c.len-number.ensures c.put.ensures.items c.put.ensures.spare c.put-2.ensures.items c.put-2.ensures.spare
+    c.set_face.ensures c.len-number.ensures c.push_within_room.ensures.items c.push_within_room.ensures.spare c.push_within_room-2.ensures.items c.push_within_room-2.ensures.spare
