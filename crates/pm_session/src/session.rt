@@ -118,10 +118,7 @@ impl Session {
         ensures fault { IfErr result (IsLoadFault h) }
         ensures refused { IfErr result (λ e. e ≢ LoadFail.OutOfMemory → IsValid h → ⊥) }
     {
-        let front = match open_front(alloc, h) {
-            Ok(front) => front,
-            Err(fail) => return Err(fail),
-        };
+        let front = open_front(alloc, h)?;
         let Ok(tools) = Tools::new(alloc, front.hierarchy()) else {
             return Err(LoadFail::OutOfMemory);
         };
