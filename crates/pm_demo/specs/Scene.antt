@@ -9,6 +9,6 @@ pub record Shown : Type 0 where
   pub flags : List Bool
 
 -- The bounds are those of the hierarchy, and the refiner has room for its records.
-pub record HasTools (h : Hierarchy) (bounds : Bounds) (room : ℕ) : Type 0 where
+pub record AreToolsOf (h : Hierarchy) (bounds : Bounds) (room : ℕ) : Type 0 where
   pub are_its_bounds : AreBoundsOf h bounds
-  pub fits : room ≡ record_count h
+  pub room_fits : room ≡ record_count h

@@ -8,7 +8,7 @@ use Rattle.pm_demo.proofs.scene.Scene.open.Goals as goal
 pub invariant_of-result : goal.invariant_of-result
 invariant_of-result c = record {
   are_its_bounds = subst (λ (h : Hierarchy). AreBoundsOf h c.in_ok-bounds.bounds) c.hierarchy.ensures c.in_ok-bounds.ensures;
-  fits = c.in_ok-refiner.ensures ∙ ap record_count c.hierarchy-2.ensures;
+  room_fits = c.in_ok-refiner.ensures ∙ ap record_count c.hierarchy-2.ensures;
 }
 
 pub returns-clause-base : goal.returns-clause-base
