@@ -1,5 +1,5 @@
 -- The radii and boxes of leaves, when one face more is looked at.
-use Rattle.std.proofs.Common.{◌≡◌, ℕ, ◌+◌, ◌<◌, ◌≤◌, max, Bool, cond, List, [], ◌∷◌, ◌++◌, get_or, map, take, None, Some, Option, inl, inr, refl, sym, ap, ◌∙◌, arith}
+use Rattle.std.proofs.Common.{◌≡◌, ℕ, ◌+◌, ◌<◌, ◌≤◌, max, Bool, cond, List, [], ◌∷◌, ◌++◌, map, take, None, Some, Option, inl, inr, refl, sym, ap, ◌∙◌, arith}
 use Rattle.std.specs.List.{filter}
 use Rattle.std.proofs.Math.Seq.{take-length}
 use Rattle.std.proofs.lemmas.Bool.{cases_Bool, cases_lt, cond-true, cond-false}
@@ -9,15 +9,16 @@ use Rattle.pm_base.specs.Rounded.{root_up}
 use Rattle.pm_base.proofs.Root.{root_up_is, root_up_only}
 use Rattle.pm_forest.specs.Places.{place_of_node}
 use Rattle.pm_forest.specs.declared.parts.Face.{Face}
-use Rattle.pm_forest.specs.Forest.{Hierarchy, node_count, splitter_of}
+use Rattle.pm_forest.specs.Forest.{Hierarchy, leaf_count}
 use Rattle.pm_forest.specs.Faces.{faces_of, face_count, corners_of, no_corners}
 use Rattle.pm_forest.specs.Rules.{HasShape}
+use Rattle.pm_forest.specs.Tables.{leaf_node_of}
 use Rattle.pm_forest.proofs.FaceLists.{length-faces_of, corners_of-faces_of}
-use Rattle.pm_forest.proofs.ViewLaws.{corner_below}
+use Rattle.pm_bounds.specs.declared.leaves.LeafBounds.{LeafBounds}
 use Rattle.pm_bounds.specs.declared.normal_box.NormalBox.{NormalBox}
 use Rattle.pm_bounds.specs.Boxes.{box_at, join, box_of}
 use Rattle.pm_bounds.specs.Bounds.{greatest, leaf_place, reach, is_under, normal_of, leaf_radius, box_under}
-use Rattle.pm_bounds.specs.Tables.{is_corner_node, square_reach}
+use Rattle.pm_bounds.specs.Leaves.{bare_leaf_at, widened_by, is_corner, square_reach}
 use Rattle.pm_bounds.proofs.BoxLaws.{box_of-more}
 use Rattle.pm_bounds.proofs.Nodes.{own_faces}
 
@@ -64,11 +65,11 @@ module _ (h : Hierarchy) where
       let len = length-faces_of h in
       take_more (faces_of h) n no_corners (omega arith) ∙ ap (λ f. first_faces h n ++ f ∷ []) (sym (corners_of-faces_of h n l))
 
-  pub square_in-none : (v : ℕ) → square_in h 0 v ≡ 0
+  square_in-none : (v : ℕ) → square_in h 0 v ≡ 0
   unfolding square_in
   square_in-none v = refl
 
-  pub square_in-more : (n v : ℕ) → n < face_count h →
+  square_in-more : (n v : ℕ) → n < face_count h →
       square_in h (n + 1) v ≡ cond (is_under h v (corners_of h n)) (max (square_in h n v) (square_reach h v (corners_of h n))) (square_in h n v)
   unfolding square_in
   square_in-more n v l =
@@ -85,11 +86,11 @@ module _ (h : Hierarchy) where
         | inr e ↦ ap (λ l. greatest (map (square_reach h v) l)) (all ∙ cond-false _ _ _ e) ∙ sym (cond-false _ _ _ e)
       ]
 
-  pub box_in-none : (v : ℕ) → box_in h 0 v ≡ None
+  box_in-none : (v : ℕ) → box_in h 0 v ≡ None
   unfolding box_in
   box_in-none v = refl
 
-  pub box_in-more : (n v : ℕ) → n < face_count h →
+  box_in-more : (n v : ℕ) → n < face_count h →
       box_in h (n + 1) v ≡ cond (is_under h v (corners_of h n)) (join (box_in h n v) (Some (box_at (normal_of h (corners_of h n))))) (box_in h n v)
   unfolding box_in
   box_in-more n v l =
@@ -106,31 +107,29 @@ module _ (h : Hierarchy) where
         | inr e ↦ ap (λ l. box_of (map (normal_of h) l)) (all ∙ cond-false _ _ _ e) ∙ sym (cond-false _ _ _ e)
       ]
 
--- One face more in a table of the leaves' numbers.
-pub squares_step : (h : Hierarchy) → HasShape h → (n : ℕ) → n < face_count h → (old new : List ℕ) →
-    ((v : ℕ) → v < node_count h → splitter_of h v ≡ None → get_or old v 0 ≡ square_in h n v) →
-    ((v : ℕ) → v < node_count h → get_or new v 0 ≡ cond (is_corner_node h v (corners_of h n)) (max (get_or old v 0) (square_reach h v (corners_of h n))) (get_or old v 0)) →
-    (v : ℕ) → v < node_count h → splitter_of h v ≡ None → get_or new v 0 ≡ square_in h (n + 1) v
-squares_step h shape n l old new before step v m none =
-    let f = corners_of h n in
-    let c = corner_below h shape n l in
-    step v m
-    ∙ ap (λ b. cond b (max (get_or old v 0) (square_reach h v f)) (get_or old v 0)) (own_faces h shape v f m none c.a_below c.b_below c.c_below)
-    ∙ ap (λ r. cond (is_under h v f) (max r (square_reach h v f)) r) (before v m none)
-    ∙ sym (square_in-more h n v l)
+-- The bounds of leaf l by these faces alone.
+abbrev pub seen_at : Hierarchy → ℕ → ℕ → LeafBounds
+seen_at h n l = record { place = leaf_place h l; square = square_in h n (leaf_node_of h l); normals = box_in h n (leaf_node_of h l) }
 
-pub boxes_step : (h : Hierarchy) → HasShape h → (n : ℕ) → n < face_count h → (old new : List (Option NormalBox)) →
-    ((v : ℕ) → v < node_count h → splitter_of h v ≡ None → get_or old v None ≡ box_in h n v) →
-    ((v : ℕ) → v < node_count h → get_or new v None ≡ cond (is_corner_node h v (corners_of h n)) (join (get_or old v None) (Some (box_at (normal_of h (corners_of h n))))) (get_or old v None)) →
-    (v : ℕ) → v < node_count h → splitter_of h v ≡ None → get_or new v None ≡ box_in h (n + 1) v
-boxes_step h shape n l old new before step v m none =
+pub seen_at-none : (h : Hierarchy) (l : ℕ) → seen_at h 0 l ≡ bare_leaf_at (leaf_place h l)
+seen_at-none h l = rw (square_in-none h (leaf_node_of h l), box_in-none h (leaf_node_of h l)) refl
+
+pub seen_at-more : (h : Hierarchy) → HasShape h → (n l : ℕ) → n < face_count h → l < leaf_count h →
+    seen_at h (n + 1) l ≡ cond (is_corner l (corners_of h n)) (widened_by h l (corners_of h n) (seen_at h n l)) (seen_at h n l)
+seen_at-more h shape n l below leaf =
+    let v = leaf_node_of h l in
     let f = corners_of h n in
-    let c = corner_below h shape n l in
-    let normal = Some (box_at (normal_of h f)) in
-    step v m
-    ∙ ap (λ b. cond b (join (get_or old v None) normal) (get_or old v None)) (own_faces h shape v f m none c.a_below c.b_below c.c_below)
-    ∙ ap (λ r. cond (is_under h v f) (join r normal) r) (before v m none)
-    ∙ sym (box_in-more h n v l)
+    let square = square_in-more h n v below in
+    let box = box_in-more h n v below in
+    let same = own_faces h shape l f leaf in
+    elim (cases_Bool (is_under h v f)) [
+      | inl e ↦
+          rw (square ∙ cond-true _ _ _ e, box ∙ cond-true _ _ _ e) refl
+          ∙ sym (cond-true (is_corner l f) (widened_by h l f (seen_at h n l)) (seen_at h n l) (same ∙ e))
+      | inr e ↦
+          rw (square ∙ cond-false _ _ _ e, box ∙ cond-false _ _ _ e) refl
+          ∙ sym (cond-false (is_corner l f) (widened_by h l f (seen_at h n l)) (seen_at h n l) (same ∙ e))
+    ]
 
 -- All faces.
 all_faces : (h : Hierarchy) → first_faces h (face_count h) ≡ faces_of h

@@ -2,6 +2,8 @@ pub mod BoxLaws
 pub mod Nodes
 pub mod TableLaws
 pub mod LeafLaws
+pub mod MeasuredFaces
+pub mod LeafTables
 pub mod GrownLaws
 pub mod FacesUnder
 pub mod ListLaws

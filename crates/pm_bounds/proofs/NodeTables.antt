@@ -1,34 +1,29 @@
 -- The tables of all nodes' bounds, seen as a list of each kind, while the bounds are found.
-use Rattle.std.proofs.Common.{◌≡◌, ℕ, suc, ◌+◌, ◌*◌, ◌<◌, ◌≤◌, ◌-◌, max, cond, List, ◌++◌, length, map, take, drop, replicate, get_or, set, length-set, Option, None, Some, IfSome, inl, inr, refl, sym, ap, subst, ◌∙◌, arith}
-use Rattle.std.proofs.Math.Seq.{take-length, drop-length}
+use Rattle.std.proofs.Common.{◌≡◌, ℕ, suc, ◌+◌, ◌*◌, ◌<◌, ◌≤◌, ◌-◌, List, length, map, replicate, get_or, set, length-set, Option, None, IfSome, inl, inr, refl, sym, ap, subst, ◌∙◌, arith}
 use Rattle.std.proofs.lemmas.Bool.{cases_eq}
-use Rattle.std.proofs.lemmas.List.{append-nil, map-set, get_or-map, get_or-replicate, get_or-set_same, get_or-set_other, length-map, length-replicate}
+use Rattle.std.proofs.lemmas.List.{map-set, get_or-map, get_or-replicate, get_or-set_same, get_or-set_other, length-map, length-replicate}
 use Rattle.pm_base.specs.Place.{Place}
 use Rattle.pm_base.specs.Rounded.{root_up}
-use Rattle.pm_base.proofs.Root.{root_up_is}
-use Rattle.pm_forest.specs.Forest.{Hierarchy, record_count, node_count, s_of, t_of, u_of, splitter_of}
-use Rattle.pm_forest.specs.Faces.{face_count, corners_of}
+use Rattle.pm_forest.specs.Forest.{Hierarchy, record_count, node_count, leaf_count, s_of, t_of, u_of}
 use Rattle.pm_forest.specs.Places.{place_of_node}
 use Rattle.pm_forest.specs.Rules.{HasShape}
+use Rattle.pm_forest.specs.Tables.{leaf_node_of}
+use Rattle.pm_forest.proofs.HierarchyLaws.{leaf_node-lt}
 use Rattle.pm_bounds.specs.declared.balls.Ball.{Ball}
+use Rattle.pm_bounds.specs.declared.leaves.LeafBounds.{LeafBounds}
 use Rattle.pm_bounds.specs.declared.normal_box.NormalBox.{NormalBox}
-use Rattle.pm_bounds.specs.Boxes.{box_at, join, IsSmallBox}
-use Rattle.pm_bounds.specs.Bounds.{AreBoundsOf, origin, normal_of, leaf_radius, error_of, radius_of}
-use Rattle.pm_bounds.specs.Tables.{bare_at, lists_of, places_of, errors_of, radii_of, ArePlaces, AreBare, AreAtMost, AreSmallBoxes, AreOfLeaves, IsBounds, is_corner_node, square_reach, grown_at}
+use Rattle.pm_bounds.specs.Boxes.{join, IsSmallBox}
+use Rattle.pm_bounds.specs.Bounds.{AreBoundsOf, origin, leaf_radius, error_of, radius_of, box_under}
+use Rattle.pm_bounds.specs.Leaves.{bare_leaf_at, AreSeen}
+use Rattle.pm_bounds.specs.Tables.{bare_at, lists_of, places_of, errors_of, radii_of, ArePlaces, AreBare, AreAtMost, AreSmallBoxes, AreOfLeaves, IsBounds, grown_at}
 use Rattle.pm_bounds.proofs.GrownLaws.{IsGrown, AreJoined, grown_start, grown_step, joined_start, joined_step}
-use Rattle.pm_bounds.proofs.LeafLaws.{square_in, square_in-none, square_in-all, squares_step, box_in, box_in-none, box_in-all, boxes_step}
-use Rattle.pm_bounds.proofs.Nodes.{few_nodes, split_node}
+use Rattle.pm_bounds.proofs.Nodes.{few_nodes, split_node, leaf_node-apart, has_leaf}
 use Rattle.pm_bounds.proofs.TableLaws.{kept}
 
 -- a ball that is read, and what is known of it
 pub read_at : {A : Type 0} (f : Ball → A) (balls : List Ball) (at : ℕ) (b : Ball) (d : A) → at < length balls → b ≡ get_or balls at b →
     f b ≡ get_or (map f balls) at d
 read_at f balls at b d l is = ap f is ∙ sym (get_or-map f balls at b d l)
-
-pub radius_within : (most : ℕ) (balls : List Ball) (at : ℕ) (b : Ball) → at < length balls → b ≡ get_or balls at b → AreAtMost most (radii_of balls) → b.radius ≤ most
-radius_within most balls at b l is small =
-    let radius = λ (b : Ball). b.radius in
-    subst (λ (k : ℕ). k ≤ most) (sym (read_at radius balls at b 0 l is)) (small at (omega (arith, length-map balls radius)))
 
 -- a ball of a small radius is written, and a small box
 pub radii_set : (most : ℕ) (balls : List Ball) (at : ℕ) (b : Ball) → at < length balls → AreAtMost most (radii_of balls) → b.radius ≤ most → AreAtMost most (radii_of (set balls at b))
@@ -39,10 +34,6 @@ radii_set most balls at b l was small =
 
 pub boxes_set : (boxes : List (Option NormalBox)) (at : ℕ) (box : Option NormalBox) → at < length boxes → AreSmallBoxes boxes → IfSome box IsSmallBox → AreSmallBoxes (set boxes at box)
 boxes_set boxes at box l was fits = kept None (λ (b : Option NormalBox). IfSome b IsSmallBox) boxes at box l was fits
-
--- the place of a ball that is read
-pub place_is : (h : Hierarchy) (balls seen : List Ball) (v : ℕ) (p : Place) → ArePlaces h (places_of balls) → v < node_count h → seen ≡ balls → p ≡ get_or (places_of seen) v origin → p ≡ place_of_node h v
-place_is h balls seen v p are l same is = is ∙ ap (λ (t : List Ball). get_or (places_of t) v origin) same ∙ are v l
 
 -- a ball at its node's place is written
 places_set : (h : Hierarchy) (balls : List Ball) (at : ℕ) (b : Ball) → at < length balls → ArePlaces h (places_of balls) → b.place ≡ place_of_node h at → ArePlaces h (places_of (set balls at b))
@@ -57,42 +48,26 @@ places_set h balls at b l was is v m =
       | inr other ↦ get_or-set_other (map place balls) at v b.place origin other ∙ was v m
     ]
 
--- roots of small squares are small
-root_small : (n : ℕ) → n ≤ 12884115468 → root_up n ≤ 113509
-root_small n l = (root_up_is n).least 113509 (omega arith)
-
-pub roots_small : (squares roots : List ℕ) → AreAtMost 12884115468 squares → roots ≡ map root_up squares → AreAtMost 113509 roots
-roots_small squares roots was are =
-    subst (AreAtMost 113509) (sym are)
-    (λ v l. (let m : v < length squares = omega (arith, length-map squares root_up) in
-    subst (λ (n : ℕ). n ≤ 113509) (sym (get_or-map root_up squares v 0 0 m)) (root_small (get_or squares v 0) (was v m))))
-
--- roots stand in place of the first n squares, which are all
-pub rooted_all : (xs : List ℕ) (n : ℕ) → length xs ≡ n → map root_up (take n xs) ++ drop n xs ≡ map root_up xs
-rooted_all xs n all =
-    subst (λ (m : ℕ). map root_up (take m xs) ++ drop m xs ≡ map root_up xs) all
-    ((rw (take-length xs, drop-length xs) refl) ∙ append-nil (map root_up xs))
-
--- The tables of the leaves' squares and boxes by the first n faces.
-pub record AreSeen (h : Hierarchy) (n : ℕ) (balls : List Ball) (table : List (Option NormalBox)) : Type 0 where
+-- The tables of nodes when the first n leaves have given theirs.
+pub record AreGiven (h : Hierarchy) (n : ℕ) (balls : List Ball) (table : List (Option NormalBox)) : Type 0 where
   pub balls_len : length balls ≡ node_count h
   pub boxes_len : length table ≡ node_count h
   pub places : ArePlaces h (places_of balls)
   pub errors : (v : ℕ) → v < node_count h → get_or (errors_of balls) v 0 ≡ 0
-  pub squares : (v : ℕ) → v < node_count h → splitter_of h v ≡ None → get_or (radii_of balls) v 0 ≡ square_in h n v
-  pub boxes : (v : ℕ) → v < node_count h → splitter_of h v ≡ None → get_or table v None ≡ box_in h n v
-  pub small_radii : AreAtMost 12884115468 (radii_of balls)
+  pub radii : (l : ℕ) → l < n → get_or (radii_of balls) (leaf_node_of h l) 0 ≡ leaf_radius h (leaf_node_of h l)
+  pub boxes : (l : ℕ) → l < n → get_or table (leaf_node_of h l) None ≡ box_under h (leaf_node_of h l)
+  pub small_radii : AreAtMost 113509 (radii_of balls)
   pub small_boxes : AreSmallBoxes table
 
--- before any face
+-- before any leaf
 bare_reads : {A : Type 0} (f : Ball → A) (h : Hierarchy) (n : ℕ) (balls : List Ball) → AreBare h n balls → (v : ℕ) (d : A) → v < n → get_or (map f balls) v d ≡ f (bare_at (place_of_node h v))
 bare_reads f h n balls bare v d l = get_or-map f balls v (bare_at origin) d (let len = bare.len in omega arith) ∙ ap f (bare.each v l)
 
 no_box : (n : ℕ) (boxes : List (Option NormalBox)) → boxes ≡ replicate n None → (v : ℕ) → v < n → get_or boxes v None ≡ None
 no_box n boxes none v l = ap (λ (t : List (Option NormalBox)). get_or t v None) none ∙ get_or-replicate n v None None l
 
-pub seen_none : (h : Hierarchy) (balls : List Ball) (boxes : List (Option NormalBox)) → AreBare h (node_count h) balls → boxes ≡ replicate (node_count h) None → AreSeen h 0 balls boxes
-seen_none h balls boxes bare none =
+pub given_none : (h : Hierarchy) (balls : List Ball) (boxes : List (Option NormalBox)) → AreBare h (node_count h) balls → boxes ≡ replicate (node_count h) None → AreGiven h 0 balls boxes
+given_none h balls boxes bare none =
     let n = node_count h in
     let boxes_len : length boxes ≡ n = ap length none ∙ length-replicate n None in
     let radius = λ (b : Ball). b.radius in
@@ -101,41 +76,62 @@ seen_none h balls boxes bare none =
       boxes_len = boxes_len;
       places = λ v l. bare_reads (λ (b : Ball). b.place) h n balls bare v origin l;
       errors = λ v l. bare_reads (λ (b : Ball). b.error) h n balls bare v 0 l;
-      squares = λ v l whole. bare_reads radius h n balls bare v 0 l ∙ sym (square_in-none h v);
-      boxes = λ v l whole. no_box n boxes none v l ∙ sym (box_in-none h v);
+      radii = λ l m. absurd (omega arith);
+      boxes = λ l m. absurd (omega arith);
       small_radii = λ v l. (let len = bare.len in let m : v < n = omega (arith, length-map balls radius) in let is = bare_reads radius h n balls bare v 0 m in omega arith);
       small_boxes = λ v l. subst (λ (b : Option NormalBox). IfSome b IsSmallBox) (sym (no_box n boxes none v (omega arith))) tt;
     }
 
--- one face more
-pub seen_more : (h : Hierarchy) → HasShape h → (n : ℕ) → n < face_count h → (old new : List Ball) (old_boxes new_boxes : List (Option NormalBox)) → AreSeen h n old old_boxes →
-    length new ≡ node_count h → length new_boxes ≡ node_count h → places_of new ≡ places_of old → errors_of new ≡ errors_of old →
-    ((v : ℕ) → v < node_count h → get_or (radii_of new) v 0 ≡ cond (is_corner_node h v (corners_of h n)) (max (get_or (radii_of old) v 0) (square_reach h v (corners_of h n))) (get_or (radii_of old) v 0)) →
-    ((v : ℕ) → v < node_count h → get_or new_boxes v None ≡ cond (is_corner_node h v (corners_of h n)) (join (get_or old_boxes v None) (Some (box_at (normal_of h (corners_of h n))))) (get_or old_boxes v None)) →
-    AreAtMost 12884115468 (radii_of new) → AreSmallBoxes new_boxes → AreSeen h (n + 1) new new_boxes
-seen_more h shape n l old new old_boxes new_boxes was balls_len boxes_len places errors radii boxes small_radii small_boxes = record {
-  balls_len = balls_len;
-  boxes_len = boxes_len;
-  places = subst (ArePlaces h) (sym places) was.places;
-  errors = λ v m. ap (λ (t : List ℕ). get_or t v 0) errors ∙ was.errors v m;
-  squares = squares_step h shape n l (radii_of old) (radii_of new) was.squares radii;
-  boxes = boxes_step h shape n l old_boxes new_boxes was.boxes boxes;
-  small_radii = small_radii;
-  small_boxes = small_boxes;
-}
+-- what the nodes of the first leaves have, when the next leaf's node is given its own
+given_one : {A : Type 0} (h : Hierarchy) → HasShape h → (d : A) (own : ℕ → A) (n : ℕ) (old new : List A) (x : A) → n < leaf_count h → length old ≡ node_count h →
+    ((l : ℕ) → l < n → get_or old (leaf_node_of h l) d ≡ own (leaf_node_of h l)) → x ≡ own (leaf_node_of h n) → new ≡ set old (leaf_node_of h n) x →
+    (l : ℕ) → l < n + 1 → get_or new (leaf_node_of h l) d ≡ own (leaf_node_of h l)
+given_one h shape d own n old new x below len was is set_new l m =
+    let at = leaf_node_of h n in
+    ap (λ t. get_or t (leaf_node_of h l) d) set_new
+    ∙ elim (cases_eq l n) [
+      | inl same ↦
+          subst (λ k. get_or (set old at x) (leaf_node_of h k) d ≡ own (leaf_node_of h k)) (sym same)
+          (get_or-set_same old at x d (let node = leaf_node-lt h shape n below in omega arith) ∙ is)
+      | inr other ↦
+          get_or-set_other old at (leaf_node_of h l) x d (leaf_node-apart h shape l n (omega arith) below other)
+          ∙ was l (omega (arith, other))
+    ]
 
--- all faces, and then the roots of the squares
-pub seen_all : (h : Hierarchy) (old new : List Ball) (boxes : List (Option NormalBox)) → AreSeen h (face_count h) old boxes → places_of new ≡ places_of old → errors_of new ≡ errors_of old →
-    radii_of new ≡ map root_up (radii_of old) → AreOfLeaves h (lists_of new boxes)
-seen_all h old new boxes was places errors radii = record {
-  places = subst (ArePlaces h) (sym places) was.places;
-  errors = λ v m. ap (λ (t : List ℕ). get_or t v 0) errors ∙ was.errors v m;
+-- one leaf more
+pub given_more : (h : Hierarchy) → HasShape h → (leaves : List LeafBounds) → AreSeen h leaves → (n : ℕ) → n < leaf_count h →
+    (old new : List Ball) (old_boxes new_boxes : List (Option NormalBox)) → AreGiven h n old old_boxes →
+    length new ≡ length old → places_of new ≡ places_of old → errors_of new ≡ errors_of old →
+    radii_of new ≡ set (radii_of old) (leaf_node_of h n) (root_up (get_or leaves n (bare_leaf_at origin)).square) → AreAtMost 113509 (radii_of new) →
+    new_boxes ≡ set old_boxes (leaf_node_of h n) (get_or leaves n (bare_leaf_at origin)).normals → AreGiven h (n + 1) new new_boxes
+given_more h shape leaves seen n l old new old_boxes new_boxes was len places errors radii small boxes =
+    let at = leaf_node_of h n in
+    let node = leaf_node-lt h shape n l in
+    let box = (get_or leaves n (bare_leaf_at origin)).normals in
+    let boxes_len = was.boxes_len in
+    let leaves_len = seen.len in
+    record {
+      balls_len = len ∙ was.balls_len;
+      boxes_len = ap length boxes ∙ length-set old_boxes at box ∙ was.boxes_len;
+      places = subst (ArePlaces h) (sym places) was.places;
+      errors = λ v m. ap (λ (t : List ℕ). get_or t v 0) errors ∙ was.errors v m;
+      radii = given_one h shape 0 (leaf_radius h) n (radii_of old) (radii_of new) _ l (length-map old (λ (b : Ball). b.radius) ∙ was.balls_len) was.radii (seen.radii n l) radii;
+      boxes = given_one h shape None (box_under h) n old_boxes new_boxes box l was.boxes_len was.boxes (seen.boxes n l) boxes;
+      small_radii = small;
+      small_boxes = subst AreSmallBoxes (sym boxes) (boxes_set old_boxes at box (omega arith) was.small_boxes (seen.small n (omega arith)).1);
+    }
+
+-- all leaves
+pub given_all : (h : Hierarchy) → HasShape h → (n : ℕ) (balls : List Ball) (boxes : List (Option NormalBox)) → n ≡ leaf_count h → AreGiven h n balls boxes → AreOfLeaves h (lists_of balls boxes)
+given_all h shape n balls boxes all was = record {
+  places = was.places;
+  errors = was.errors;
   radii = λ v m none.
-      ap (λ (t : List ℕ). get_or t v 0) radii
-      ∙ get_or-map root_up (radii_of old) v 0 0 (let len = was.balls_len in omega (arith, length-map old (λ (b : Ball). b.radius)))
-      ∙ ap root_up (was.squares v m none)
-      ∙ square_in-all h v;
-  boxes = λ v m none. was.boxes v m none ∙ box_in-all h v;
+      let (l, below, is) = has_leaf h shape v m none in
+      subst (λ w. get_or (radii_of balls) w 0 ≡ leaf_radius h w) is (was.radii l (omega arith));
+  boxes = λ v m none.
+      let (l, below, is) = has_leaf h shape v m none in
+      subst (λ w. get_or boxes w None ≡ box_under h w) is (was.boxes l (omega arith));
 }
 
 -- The tables once the records from k on have been gone through.

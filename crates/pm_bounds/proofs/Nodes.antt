@@ -1,17 +1,27 @@
 -- Nodes of a hierarchy of the right shape: their numbers, the leaves and faces under them.
-use Rattle.std.proofs.Common.{◌≡◌, ℕ, ◌<◌, ◌≤◌, eqb, Bool, true, false, ◌||◌, None, inl, inr, refl, sym, ◌∙◌, subst, arith}
+use Rattle.std.proofs.Common.{◌≡◌, ◌≢◌, ℕ, ◌+◌, ◌<◌, ◌≤◌, eqb, Bool, true, false, ◌||◌, None, inl, inr, refl, sym, ap, ◌∙◌, arith}
 use Rattle.std.proofs.lemmas.Bool.{cases_Bool, cases_eq, eq-eqb, ne_eqb, false_from_ne_true, both_ways}
 use Rattle.pm_forest.specs.declared.parts.Face.{Face}
-use Rattle.pm_forest.specs.Forest.{Hierarchy, record_count, node_count, leaf_count, s_of, t_of, u_of, holds, Holds, splitter_of}
-use Rattle.pm_forest.specs.Fronts.{every}
+use Rattle.pm_forest.specs.Forest.{Hierarchy, Interval, within, record_count, node_count, leaf_count, s_of, t_of, u_of, holds, Holds, interval_of, splitter_of}
 use Rattle.pm_forest.specs.Rules.{HasShape}
 use Rattle.pm_forest.specs.Tables.{leaf_node_of}
-use Rattle.pm_forest.proofs.Nodes.{holds-s_from_t, holds-s_from_u, holds-u_from_s}
-use Rattle.pm_forest.proofs.Ancestors.{holds-ancestor_of}
+use Rattle.pm_forest.proofs.Nodes.{within-true, within-from, holds-s_from_t, holds-s_from_u, holds-u_from_s}
+use Rattle.pm_forest.proofs.HierarchyLaws.{some_leaves, under_node, leaf_node-alone}
 use Rattle.pm_forest.proofs.LeafNodes.{leaf_node-unsplit}
 use Rattle.pm_forest.proofs.ShapeLaws.{leaf_count-le, root_count-le, record_count-roots, shape_of_nodes}
 use Rattle.pm_bounds.specs.Bounds.{is_under}
-use Rattle.pm_bounds.specs.Tables.{is_corner_node}
+use Rattle.pm_bounds.specs.Leaves.{is_corner}
+
+-- an interval of one leaf
+within_one : (l x : ℕ) → within (record { from = l; until = l + 1 }) x ≡ eqb l x
+within_one l x =
+    let only : Interval = record { from = l; until = l + 1 } in
+    elim (cases_eq l x) [
+      | inl is ↦ within-from only x (omega arith) (omega arith) ∙ sym (eq-eqb l x is)
+      | inr differs ↦
+          false_from_ne_true (within only x) (λ e. (let p = within-true only x e in differs (omega arith)))
+          ∙ sym (ne_eqb l x differs)
+    ]
 
 module _ (h : Hierarchy) (shape : HasShape h) where
   -- numbers of nodes fit in 32 bits
@@ -21,23 +31,27 @@ module _ (h : Hierarchy) (shape : HasShape h) where
   pub split_node : (k : ℕ) → k < record_count h → s_of h k < node_count h
   split_node k l = let older = (shape_of_nodes h shape).older k l in omega arith
 
-  -- a node that no record splits has a leaf below it exactly where it is the leaf's own node
-  own_node : (v x : ℕ) → v < node_count h → splitter_of h v ≡ None → x < leaf_count h → holds h v x ≡ eqb v (leaf_node_of h x)
-  own_node v x l none below =
-      let nodes = shape_of_nodes h shape in
-      elim (cases_eq v (leaf_node_of h x)) [
-        | inl is ↦
-            let held : Holds h v x = subst (λ n. Holds h n x) (sym is) (holds-ancestor_of h nodes every x below) in
-            held ∙ sym (eq-eqb v (leaf_node_of h x) is)
-        | inr differs ↦
-            let out : holds h v x ≡ false = false_from_ne_true (holds h v x) (λ e. differs (sym (leaf_node-unsplit h nodes v x l none e))) in
-            out ∙ sym (ne_eqb v (leaf_node_of h x) differs)
-      ]
+  -- the node of a leaf has a leaf below it exactly where it is this leaf
+  own_leaf : (l x : ℕ) → l < leaf_count h → holds h (leaf_node_of h l) x ≡ eqb l x
+  unfolding holds
+  own_leaf l x below = ap (λ i. within i x) (leaf_node-alone h shape l below) ∙ within_one l x
 
-  -- so a face is under it exactly where it has the node at a corner
-  pub own_faces : (v : ℕ) (f : Face) → v < node_count h → splitter_of h v ≡ None → f.a < leaf_count h → f.b < leaf_count h → f.c < leaf_count h →
-      is_corner_node h v f ≡ is_under h v f
-  own_faces v f l none a b c = rw (own_node v f.a l none a, own_node v f.b l none b, own_node v f.c l none c) refl
+  -- so a face is under it exactly where it has the leaf at a corner
+  pub own_faces : (l : ℕ) (f : Face) → l < leaf_count h → is_corner l f ≡ is_under h (leaf_node_of h l) f
+  own_faces l f below = rw (own_leaf l f.a below, own_leaf l f.b below, own_leaf l f.c below) refl
+
+  -- two leaves have two nodes
+  pub leaf_node-apart : (l m : ℕ) → l < leaf_count h → m < leaf_count h → l ≢ m → leaf_node_of h l ≢ leaf_node_of h m
+  leaf_node-apart l m below too differs same =
+      differs (ap (λ i. i.from) (sym (leaf_node-alone h shape l below) ∙ ap (interval_of h) same ∙ leaf_node-alone h shape m too))
+
+  -- a node that no record splits is the node of a leaf
+  pub has_leaf : (v : ℕ) → v < node_count h → splitter_of h v ≡ None → (l : ℕ) × (l < leaf_count h) × (leaf_node_of h l ≡ v)
+  unfolding holds
+  has_leaf v below none =
+      let l = (interval_of h v).from in
+      let held : Holds h v l = within-from (interval_of h v) l (omega arith) (some_leaves h shape v below) in
+      (l, under_node h shape v l below held, leaf_node-unsplit h (shape_of_nodes h shape) v l below none held)
 
   -- the leaves below a node that is split are those below its children
   children_hold : (k x : ℕ) → k < record_count h → holds h (s_of h k) x ≡ (holds h (t_of h k) x || holds h (u_of h k) x)

@@ -1,15 +1,12 @@
 -- What the tables of bounds keep.
-use Rattle.std.specs.Prelude.{◌≡◌, ℕ, ◌<◌, ◌≤◌, ◌^◌, ◌||◌, ◌==◌, Bool, None, List, [], ◌∷◌, length, map, Option, IfSome, slice_index_or}
+use Rattle.std.specs.Prelude.{◌≡◌, ℕ, ◌<◌, ◌≤◌, ◌^◌, None, List, length, map, Option, IfSome, slice_index_or}
 use Rattle.pm_base.specs.Place.{Place}
-use Rattle.pm_forest.specs.declared.parts.Face.{Face}
 use Rattle.pm_forest.specs.Forest.{Hierarchy, node_count, splitter_of}
-use Rattle.pm_base.specs.Geometry.{dist2_of}
 use Rattle.pm_forest.specs.Places.{place_of_node}
-use Rattle.pm_forest.specs.Tables.{leaf_node_of}
 use Rattle.pm_bounds.specs.declared.balls.Ball.{Ball}
 use Rattle.pm_bounds.specs.declared.normal_box.NormalBox.{NormalBox}
 use Rattle.pm_bounds.specs.Boxes.{IsSmallBox}
-use Rattle.pm_bounds.specs.Bounds.{Bounds, origin, greatest, leaf_place, leaf_radius, over_children, box_under}
+use Rattle.pm_bounds.specs.Bounds.{Bounds, origin, leaf_radius, over_children, box_under}
 
 -- A list of each kind from the balls and the boxes of all nodes.
 abbrev pub places_of : List Ball → List Place
@@ -58,16 +55,6 @@ pub record AreOfLeaves (h : Hierarchy) (b : Bounds) : Type 0 where
   pub errors : (v : ℕ) → v < node_count h → slice_index_or b.errors v 0 ≡ 0
   pub radii : (v : ℕ) → v < node_count h → splitter_of h v ≡ None → slice_index_or b.radii v 0 ≡ leaf_radius h v
   pub boxes : (v : ℕ) → v < node_count h → splitter_of h v ≡ None → slice_index_or b.boxes v None ≡ box_under h v
-
--- Node v is the node of a leaf at a corner of the face.
-abbrev pub is_corner_node : Hierarchy → ℕ → Face → Bool
-is_corner_node h v f = v == leaf_node_of h f.a || v == leaf_node_of h f.b || v == leaf_node_of h f.c
-
--- The squared distance of the farthest corner of a face from the place of node v.
-unfoldable pub square_reach : Hierarchy → ℕ → Face → ℕ
-square_reach h v f =
-    let d = λ (x : ℕ). dist2_of (place_of_node h v) (leaf_place h x) in
-    greatest (d f.a ∷ d f.b ∷ d f.c ∷ [])
 
 -- The number of the node that record k splits, by those of its children in a table.
 abbrev pub grown_at : Hierarchy → List ℕ → ℕ → ℕ

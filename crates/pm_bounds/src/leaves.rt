@@ -1,61 +1,66 @@
 //! The bounds of leaves, which the faces at them give.
-ghost use Rattle.std.specs.Prelude.{◌≡◌, ℕ, ◌<◌, ◌≤◌, max, cond, [], ◌∷◌, None, Some, replicate, length, map, slice_index_or, slice_set};
-ghost use Rattle.pm_base.specs.Geometry.{dist2_of, cross_of};
+ghost use Rattle.std.specs.Prelude.{◌≡◌, ℕ, ◌<◌, ◌≤◌, cond, None, IfOk, replicate, length, slice_index_or, slice_set};
+ghost use Rattle.pm_base.specs.Geometry.{cross_of};
 ghost use Rattle.pm_base.specs.Rounded.{root_up};
-ghost use Rattle.pm_forest.specs.Forest.{node_count};
+ghost use Rattle.pm_forest.specs.Forest.{node_count, leaf_count};
 ghost use Rattle.pm_forest.specs.Faces.{face_count, corners_of};
-ghost use Rattle.pm_forest.specs.Tables.{leaf_node_of};
-ghost use Rattle.pm_bounds.specs.Boxes.{join, box_at, IsSmallBox};
-ghost use Rattle.pm_bounds.specs.Bounds.{greatest, normal_of};
+ghost use Rattle.pm_bounds.specs.Boxes.{box_at, IsSmallBox};
+ghost use Rattle.pm_bounds.specs.Bounds.{origin, leaf_place};
+ghost use Rattle.pm_bounds.specs.Leaves.{bare_leaf_at, widened, widened_by, is_corner, AreBareLeaves, AreSmallLeaves, AreSeen};
 ghost use Rattle.pm_bounds.specs.Tables.{
   lists_of,
   places_of,
   errors_of,
   radii_of,
-  ArePlaces,
   AreBare,
   AreAtMost,
   AreSmallBoxes,
   AreOfLeaves,
-  is_corner_node,
-  square_reach,
 };
 
-use crate::balls::node_ball;
-use crate::normal_box::{join, node_box};
+use crate::normal_box::join;
 use crate::roots::root_up;
-use crate::{Ball, NormalBox};
+use crate::{Ball, NormalBox, OutOfMemory};
 use pm_base::{FaceId, NodeId, Point, cross, dist2};
-use pm_forest::Hierarchy;
+use pm_forest::{Face, Hierarchy};
+use std::alloc::Global;
 
-// The nodes of the leaves at a face's corners.
-fn corner_nodes(h: &Hierarchy, f: FaceId) -> (NodeId, NodeId, NodeId)
-    requires { f.0 < face_count h.now }
-    ensures a { result.0.0 ≡ leaf_node_of h.now (corners_of h.now f.0).a }
-    ensures b { result.1.0 ≡ leaf_node_of h.now (corners_of h.now f.0).b }
-    ensures c { result.2.0 ≡ leaf_node_of h.now (corners_of h.now f.0).c }
-    ensures a_node { result.0.0 < node_count h.now }
-    ensures b_node { result.1.0 < node_count h.now }
-    ensures c_node { result.2.0 < node_count h.now }
-{
-    h.invariant();
-    let face = h.face_at(f);
-    (
-        h.leaf_node(face.a),
-        h.leaf_node(face.b),
-        h.leaf_node(face.c),
-    )
+/// What the faces at a leaf tell of it: the greatest squared distance of their corners from its place, and the box of
+/// their normals. These lie apart from the bounds of nodes, in the order of leaves, so that a face finds all that it
+/// widens by its leaf numbers alone.
+#[derive(Clone, Copy)]
+pub struct LeafBounds {
+    place: Point,
+    square: u64,
+    normals: Option<NormalBox>,
 }
 
-// The squared distance of the farthest of three places from a place.
-fn square_reach(place: Point, a: Point, b: Point, c: Point) -> u64
-    ensures value { result ≡ greatest (dist2_of place a ∷ dist2_of place b ∷ dist2_of place c ∷ []) }
-    ensures small { result ≤ 12884115468 }
+/// The bounds of each leaf before any face is seen.
+pub(crate) fn bare_leaves(alloc: Global, h: &Hierarchy) -> Result<Vec<LeafBounds>, OutOfMemory>
+    ensures { IfOk result (λ leaves. AreBareLeaves h.now (leaf_count h.now) leaves.items) }
 {
-    let first = dist2(place, a);
-    let second = dist2(place, b);
-    let third = dist2(place, c);
-    first.max(second.max(third))
+    let mut leaves = Vec::with_capacity(alloc, h.leaves() as usize)?;
+    for leaf in 0..h.leaves() {
+        let place = h.place(h.leaf_node(leaf));
+        leaves.push(LeafBounds {
+            place,
+            square: 0,
+            normals: None,
+        })?;
+    }
+    Ok(leaves)
+}
+
+// A face, whose corners are leaves.
+fn corner_leaves(h: &Hierarchy, f: FaceId) -> Face
+    requires { f.0 < face_count h.now }
+    ensures corners { result ≡ corners_of h.now f.0 }
+    ensures a_leaf { result.a < leaf_count h.now }
+    ensures b_leaf { result.b < leaf_count h.now }
+    ensures c_leaf { result.c < leaf_count h.now }
+{
+    h.invariant();
+    h.face_at(f)
 }
 
 // The normal of the face between three places alone, as a box.
@@ -70,100 +75,68 @@ fn face_box(a: Point, b: Point, c: Point) -> NormalBox
     }
 }
 
-// Lets the square of a node reach as far as another.
-fn widen(balls: &mut Vec<Ball>, node: NodeId, square: u64)
-    requires node { node.0 < length balls.old.items }
+// Lets the square of a leaf reach as far as another, and takes the normal of a face into its box.
+fn widen(leaves: &mut Vec<LeafBounds>, leaf: u32, square: u64, face: NormalBox)
+    requires leaf { leaf < length leaves.old.items }
     requires square { square ≤ 12884115468 }
-    requires small { AreAtMost 12884115468 (radii_of balls.old.items) }
-    ensures len { length balls.new.items ≡ length balls.old.items }
-    ensures places { places_of balls.new.items ≡ places_of balls.old.items }
-    ensures errors { errors_of balls.new.items ≡ errors_of balls.old.items }
-    ensures radii { let old = radii_of balls.old.items in radii_of balls.new.items ≡ slice_set old node.0 (max (slice_index_or old node.0 0) square) }
-    ensures small { AreAtMost 12884115468 (radii_of balls.new.items) }
-{
-    let ball = &mut balls[node.0 as usize];
-    ball.radius = ball.radius.max(square);
-}
-
-// Takes the normal of a face into the box of a node.
-fn widen_box(boxes: &mut Vec<Option<NormalBox>>, node: NodeId, face: NormalBox)
-    requires node { node.0 < length boxes.old.items }
     requires face { IsSmallBox face }
-    requires small { AreSmallBoxes boxes.old.items }
-    ensures len { length boxes.new.items ≡ length boxes.old.items }
-    ensures joined { boxes.new.items ≡ slice_set boxes.old.items node.0 (join (slice_index_or boxes.old.items node.0 None) (Some face)) }
-    ensures small { AreSmallBoxes boxes.new.items }
+    requires small { AreSmallLeaves leaves.old.items }
+    ensures len { length leaves.new.items ≡ length leaves.old.items }
+    ensures wider { let old = leaves.old.items in leaves.new.items ≡ slice_set old leaf (widened (slice_index_or old leaf (bare_leaf_at origin)) square face) }
+    ensures small { AreSmallLeaves leaves.new.items }
 {
-    let joined = join(node_box(boxes, node), Some(face));
-    boxes[node.0 as usize] = joined;
+    let seen = &mut leaves[leaf as usize];
+    seen.square = seen.square.max(square);
+    seen.normals = join(seen.normals, Some(face));
 }
 
 // Lets the squares of the leaves at a face's corners reach it, and takes its normal into their boxes.
-fn widen_corners(
-    h: &Hierarchy,
-    balls: &mut Vec<Ball>,
-    boxes: &mut Vec<Option<NormalBox>>,
-    f: FaceId,
-)
+fn widen_corners(h: &Hierarchy, leaves: &mut Vec<LeafBounds>, f: FaceId)
     requires face { f.0 < face_count h.now }
-    requires balls_len { length balls.old.items ≡ node_count h.now }
-    requires boxes_len { length boxes.old.items ≡ node_count h.now }
-    requires places { ArePlaces h.now (places_of balls.old.items) }
-    requires small_radii { AreAtMost 12884115468 (radii_of balls.old.items) }
-    requires small_boxes { AreSmallBoxes boxes.old.items }
-    ensures balls_len { length balls.new.items ≡ node_count h.now }
-    ensures boxes_len { length boxes.new.items ≡ node_count h.now }
-    ensures places { places_of balls.new.items ≡ places_of balls.old.items }
-    ensures errors { errors_of balls.new.items ≡ errors_of balls.old.items }
-    ensures radii { (v : ℕ) → v < node_count h.now → let old = slice_index_or (radii_of balls.old.items) v 0 in
-        slice_index_or (radii_of balls.new.items) v 0 ≡ cond (is_corner_node h.now v (corners_of h.now f.0)) (max old (square_reach h.now v (corners_of h.now f.0))) old }
-    ensures joined { (v : ℕ) → v < node_count h.now → let old = slice_index_or boxes.old.items v None in
-        slice_index_or boxes.new.items v None ≡ cond (is_corner_node h.now v (corners_of h.now f.0)) (join old (Some (box_at (normal_of h.now (corners_of h.now f.0))))) old }
-    ensures small_radii { AreAtMost 12884115468 (radii_of balls.new.items) }
-    ensures small_boxes { AreSmallBoxes boxes.new.items }
+    requires len { length leaves.old.items ≡ leaf_count h.now }
+    requires places { (l : ℕ) → l < leaf_count h.now → (slice_index_or leaves.old.items l (bare_leaf_at origin)).place ≡ leaf_place h.now l }
+    requires small { AreSmallLeaves leaves.old.items }
+    ensures len { length leaves.new.items ≡ leaf_count h.now }
+    ensures wider { (l : ℕ) → l < leaf_count h.now → let old = slice_index_or leaves.old.items l (bare_leaf_at origin) in
+        slice_index_or leaves.new.items l (bare_leaf_at origin) ≡ cond (is_corner l (corners_of h.now f.0)) (widened_by h.now l (corners_of h.now f.0) old) old }
+    ensures small { AreSmallLeaves leaves.new.items }
 {
-    let (a, b, c) = corner_nodes(h, f);
-    let first = node_ball(balls, a).place;
-    let second = node_ball(balls, b).place;
-    let third = node_ball(balls, c).place;
-    widen(balls, a, square_reach(first, first, second, third));
-    widen(balls, b, square_reach(second, first, second, third));
-    widen(balls, c, square_reach(third, first, second, third));
-    let face = face_box(first, second, third);
-    widen_box(boxes, a, face);
-    widen_box(boxes, b, face);
-    widen_box(boxes, c, face);
+    let face = corner_leaves(h, f);
+    let first = leaves[face.a as usize].place;
+    let second = leaves[face.b as usize].place;
+    let third = leaves[face.c as usize].place;
+    let ab = dist2(first, second);
+    let bc = dist2(second, third);
+    let ca = dist2(third, first);
+    let normal = face_box(first, second, third);
+    // A corner lies at no distance from itself, so it reaches along its two sides.
+    widen(leaves, face.a, ab.max(ca), normal);
+    widen(leaves, face.b, ab.max(bc), normal);
+    widen(leaves, face.c, bc.max(ca), normal);
 }
 
-// Puts the root of a node's square, rounded up, in its place.
-fn take_root(balls: &mut Vec<Ball>, at: usize)
-    requires at { at < length balls.old.items }
-    requires small { AreAtMost 12884115468 (radii_of balls.old.items) }
+// Puts the root of a square, rounded up, in the place of a node's radius.
+fn take_root(balls: &mut Vec<Ball>, node: NodeId, square: u64)
+    requires node { node.0 < length balls.old.items }
+    requires square { square ≤ 12884115468 }
+    requires small { AreAtMost 113509 (radii_of balls.old.items) }
     ensures len { length balls.new.items ≡ length balls.old.items }
     ensures places { places_of balls.new.items ≡ places_of balls.old.items }
     ensures errors { errors_of balls.new.items ≡ errors_of balls.old.items }
-    ensures radii { let old = radii_of balls.old.items in radii_of balls.new.items ≡ slice_set old at (root_up (slice_index_or old at 0)) }
-    ensures small { AreAtMost 12884115468 (radii_of balls.new.items) }
-{
-    balls[at].radius = root_up(balls[at].radius);
-}
-
-// The same for each node.
-fn take_roots(balls: &mut Vec<Ball>)
-    requires { AreAtMost 12884115468 (radii_of balls.old.items) }
-    ensures len { length balls.new.items ≡ length balls.old.items }
-    ensures places { places_of balls.new.items ≡ places_of balls.old.items }
-    ensures errors { errors_of balls.new.items ≡ errors_of balls.old.items }
-    ensures radii { radii_of balls.new.items ≡ map root_up (radii_of balls.old.items) }
+    ensures radii { radii_of balls.new.items ≡ slice_set (radii_of balls.old.items) node.0 (root_up square) }
     ensures small { AreAtMost 113509 (radii_of balls.new.items) }
 {
-    for at in 0..balls.len() {
-        take_root(balls, at);
-    }
+    balls[node.0 as usize].radius = root_up(square);
 }
 
-/// Gives each node that no record splits its bounds; the others keep only room, with no error.
-pub fn bound_leaves(h: &Hierarchy, balls: &mut Vec<Ball>, boxes: &mut Vec<Option<NormalBox>>)
+// Gives each node that no record splits the bounds of its leaf.
+fn give_nodes(
+    h: &Hierarchy,
+    leaves: &[LeafBounds],
+    balls: &mut Vec<Ball>,
+    boxes: &mut Vec<Option<NormalBox>>,
+)
+    requires leaves { AreSeen h.now leaves.now }
     requires bare { AreBare h.now (node_count h.now) balls.old.items }
     requires missing { boxes.old.items ≡ replicate (node_count h.now) None }
     ensures balls_len { length balls.new.items ≡ node_count h.now }
@@ -172,10 +145,36 @@ pub fn bound_leaves(h: &Hierarchy, balls: &mut Vec<Ball>, boxes: &mut Vec<Option
     ensures small_radii { AreAtMost 113509 (radii_of balls.new.items) }
     ensures small_boxes { AreSmallBoxes boxes.new.items }
 {
-    // The root of the greatest square is the greatest of the roots, so the radii are squares until all faces are seen.
+    h.invariant();
+    for leaf in 0..h.leaves() {
+        let node = h.leaf_node(leaf);
+        let seen = &leaves[leaf as usize];
+        take_root(balls, node, seen.square);
+        boxes[node.0 as usize] = seen.normals;
+    }
+}
+
+/// Gives each node that no record splits its bounds; the others keep only room, with no error. The table of leaves ends
+/// with this call.
+pub fn bound_leaves(
+    h: &Hierarchy,
+    mut leaves: Vec<LeafBounds>,
+    balls: &mut Vec<Ball>,
+    boxes: &mut Vec<Option<NormalBox>>,
+)
+    requires bare_leaves { AreBareLeaves h.now (leaf_count h.now) leaves.items }
+    requires bare { AreBare h.now (node_count h.now) balls.old.items }
+    requires missing { boxes.old.items ≡ replicate (node_count h.now) None }
+    ensures balls_len { length balls.new.items ≡ node_count h.now }
+    ensures boxes_len { length boxes.new.items ≡ node_count h.now }
+    ensures are { AreOfLeaves h.now (lists_of balls.new.items boxes.new.items) }
+    ensures small_radii { AreAtMost 113509 (radii_of balls.new.items) }
+    ensures small_boxes { AreSmallBoxes boxes.new.items }
+{
+    // The root of the greatest square is the greatest of the roots, so a root is taken when all faces are seen.
     h.invariant();
     for f in 0..h.faces() {
-        widen_corners(h, balls, boxes, FaceId(f));
+        widen_corners(h, &mut leaves, FaceId(f));
     }
-    take_roots(balls);
+    give_nodes(h, &leaves, balls, boxes);
 }

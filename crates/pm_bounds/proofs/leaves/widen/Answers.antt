@@ -1,33 +1,22 @@
-use Rattle.std.proofs.Common.{◌≤◌, max, set, map, ap, ◌∙◌, arith}
-use Rattle.std.proofs.Math.Seq.{map-set_same}
-use Rattle.std.proofs.lemmas.List.{map-set}
-use Rattle.pm_bounds.specs.declared.balls.Ball.{Ball}
-use Rattle.pm_bounds.proofs.NodeTables.{read_at, radius_within, radii_set}
+use Rattle.std.proofs.Common.{◌≡◌, ◌≤◌, Some, Option, IfSome, get_or, sym, subst, arith, ◌∙◌}
+use Rattle.std.proofs.lemmas.List.{get_or_default}
+use Rattle.pm_bounds.specs.declared.normal_box.NormalBox.{NormalBox}
+use Rattle.pm_bounds.specs.Boxes.{IsSmallBox}
+use Rattle.pm_bounds.specs.Bounds.{origin}
+use Rattle.pm_bounds.specs.Leaves.{bare_leaf_at, IsSmallLeaf}
+use Rattle.pm_bounds.proofs.BoxLaws.{join-small}
+use Rattle.pm_bounds.proofs.TableLaws.{kept}
 use Rattle.pm_bounds.proofs.leaves.widen.Goals as goal
-
-pub returns-clause-places : goal.returns-clause-places
-returns-clause-places c =
-    let place = λ (b : Ball). b.place in
-    map-set_same place c.args.balls.now.items c.args.node.0 _ c.index_mut-ball.result.now (ap place c.index_mut-ball.ensures.value)
-
-pub returns-clause-errors : goal.returns-clause-errors
-returns-clause-errors c =
-    let error = λ (b : Ball). b.error in
-    map-set_same error c.args.balls.now.items c.args.node.0 _ c.index_mut-ball.result.now (ap error c.index_mut-ball.ensures.value)
-
-pub returns-clause-radii : goal.returns-clause-radii
-returns-clause-radii c =
-    let balls = c.args.balls.now.items in
-    let at = c.args.node.0 in
-    let radius = λ (b : Ball). b.radius in
-    map-set radius balls at _
-    ∙ ap (set (map radius balls) at)
-    (c.max-ball.ensures ∙ ap (λ r. max r c.args.square) (read_at radius balls at c.index_mut-ball.result.now 0 c.requires.node c.index_mut-ball.ensures.value))
 
 pub returns-clause-small : goal.returns-clause-small
 returns-clause-small c =
-    let balls = c.args.balls.now.items in
-    let at = c.args.node.0 in
-    let within = radius_within 12884115468 balls at c.index_mut-ball.result.now c.requires.node c.index_mut-ball.ensures.value c.requires.small in
-    let radius : c.max-ball.result ≤ 12884115468 = omega (arith, within, c.max-ball.ensures, c.requires.square) in
-    radii_set 12884115468 balls at _ c.requires.node c.requires.small radius
+    let leaves = c.args.leaves.now.items in
+    let leaf = c.args.leaf in
+    let bare = bare_leaf_at origin in
+    let seen = c.index_mut-seen.result.now in
+    let read : get_or leaves leaf bare ≡ seen = get_or_default leaves leaf bare seen c.requires.leaf ∙ sym c.index_mut-seen.ensures.value in
+    let was : IsSmallLeaf seen = subst IsSmallLeaf read (c.requires.small leaf c.requires.leaf) in
+    let square : c.max-seen.result ≤ 12884115468 = omega (arith, was.0, c.max-seen.ensures, c.requires.square) in
+    let box : IfSome c.join-seen.result IsSmallBox =
+    subst (λ (b : Option NormalBox). IfSome b IsSmallBox) (sym c.join-seen.ensures) (join-small seen.normals (Some c.args.face) was.1 c.requires.face) in
+    kept bare IsSmallLeaf leaves leaf _ c.requires.leaf c.requires.small (square, box)
