@@ -1,7 +1,7 @@
 //! Tests of pm_fans.
 ghost use Rattle.std.specs.Prelude.{ℕ, ◌<◌, length, slice_index_or};
 ghost use Rattle.pm_base.specs.Sides.{no_corners};
-ghost use Rattle.pm_fans.specs.Keys.{IsShort};
+ghost use Rattle.pm_fans.specs.Keys.{HasShortCorners};
 
 use pm_base::Corners;
 use pm_fans::{OutOfMemory, Split, cut_sides, kept, split_by_fans};
@@ -23,14 +23,14 @@ fn second_of_two_mirrored_faces_goes(rt: HostRuntime) -> Result<(), Fail> {
 
 // The corners of a face, each of 32 bits.
 fn corners(face: Corners) -> (u32, u32, u32)
-    ensures { IsShort face }
+    ensures { HasShortCorners face }
 {
     (face.a, face.b, face.c)
 }
 
 // Reads all faces, so that their corners are known to have 32 bits.
 fn read(faces: &[Corners])
-    ensures { (f : ℕ) → f < length faces.now → IsShort (slice_index_or faces.now f no_corners) }
+    ensures { (f : ℕ) → f < length faces.now → HasShortCorners (slice_index_or faces.now f no_corners) }
 {
     for at in 0..faces.len() {
         let _corners = corners(faces[at]);

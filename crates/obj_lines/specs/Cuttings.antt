@@ -42,7 +42,7 @@ abbrev pub IsShort : List ℕ → Type 0
 IsShort l = length (until 10 l) ≤ MOST_LINE_BYTES
 
 -- Of the lines of the bytes, those came out that stand before the first with too many bytes, which has the number n.
-pub record StopsAt (out : List Line) (n : ℕ) (bytes : List ℕ) : Type 0 where
+pub record LinesStopAt (out : List Line) (n : ℕ) (bytes : List ℕ) : Type 0 where
   pub before : List (List ℕ)
   pub long : List ℕ
   pub more : List (List ℕ)
@@ -55,4 +55,4 @@ pub record StopsAt (out : List Line) (n : ℕ) (bytes : List ℕ) : Type 0 where
 -- For any cutting, and whatever bytes follow, a line that is told to be too long is the first such line of the bytes.
 abbrev pub AnyCuttingStops : Type 0
 AnyCuttingStops = (pieces : List (List ℕ)) (ls : List Line) (g : Feeding) (p rest : List ℕ) → Feeds begun pieces ls g → fed_state (open_line g) p ≡ states.TooLong
-    → StopsAt ls (number (fed g p)) (concat pieces ++ (p ++ rest))
+    → LinesStopAt ls (number (fed g p)) (concat pieces ++ (p ++ rest))

@@ -6,18 +6,17 @@ use Rattle.std.proofs.lemmas.Bool.{cases_eq, cases_order, cond-true, cond-false,
 use Rattle.std.proofs.lemmas.List.{length-map, get_or-map, ext_get_or}
 use Rattle.std.proofs.lemmas.List.Elements.{All-nil, All-get_or, All-from_get_or}
 use Rattle.pm_base.specs.declared.mesh.Corners.{Corners}
-use Rattle.pm_base.specs.Place.{Place}
+use Rattle.pm_base.specs.Place.{Place, origin}
 use Rattle.pm_base.specs.Meshes.{Mesh}
 use Rattle.pm_base.specs.Sides.{Net, net_of, side_count, no_corners}
 use Rattle.pm_base.proofs.NetLaws.{face_at, first_side, second_side, third_side}
 use Rattle.pm_fans.specs.Kept.{kept_of}
-use Rattle.pm_fans.specs.Orders.{IsSplit}
+use Rattle.pm_fans.specs.Orders.{IsSplitMesh}
 use Rattle.pm_fans.proofs.KeptLaws.{kept_are_fit}
 use Rattle.pm_fans.proofs.KeptAgain.{kept_again, renumbered, kept_renumbered}
 use Rattle.pm_fans.proofs.SameEnds.{from_renumbered, same_ends, new_rise, split_there}
-use Rattle.obj_prepare.specs.Named.{is_named, AreCorners}
-use Rattle.obj_prepare.specs.Placing.{origin}
-use Rattle.obj_prepare.specs.Joining.{place_at, IsFirstAt, AreJoined, renamed, joined_faces}
+use Rattle.obj_prepare.specs.Named.{is_some_corner, AreVerticesBelow}
+use Rattle.obj_prepare.specs.Joining.{place_in_list, IsFirstAt, AreJoined, renamed, joined_faces}
 use Rattle.obj_prepare.specs.Prepared.{staying, IsPrepared}
 use Rattle.obj_prepare.proofs.PieceLaws.{named_low, corners_named, kept_after_all, corner_in_has}
 
@@ -86,15 +85,15 @@ module _ (places : List Place) (faces : List Corners) where
   own_of : (v u : ℕ) → IsFirstAt places faces v u → IsOwn u
   own_of v u first = record { named = first.named; same = refl; least = λ w l named same. first.least w l named (same ∙ first.same) }
 
-  one_place : (u v : ℕ) → IsOwn u → IsOwn v → place_at places u ≡ place_at places v → u ≡ v
+  one_place : (u v : ℕ) → IsOwn u → IsOwn v → place_in_list places u ≡ place_in_list places v → u ≡ v
   one_place u v a b same =
       elim (cases_order u v) [
         | inl is ↦ is
         | inr k ↦ elim k [ inl l ↦ absurd (b.least u l a.named same) | inr l ↦ absurd (a.least v l b.named (sym same)) ]
       ]
 
-  module _ (names : List ℕ) (within : All (AreCorners (length places)) faces) (joined : AreJoined places faces names) where
-    name_own : (v : ℕ) → is_named faces v ≡ true → IsOwn (get_or names v 0)
+  module _ (names : List ℕ) (within : All (AreVerticesBelow (length places)) faces) (joined : AreJoined places faces names) where
+    name_own : (v : ℕ) → is_some_corner faces v ≡ true → IsOwn (get_or names v 0)
     name_own v named = own_of v _ (joined.each v (named_low (length places) faces v within named) named)
 
     joined_own : (i : ℕ) → i < length faces → AreOwn (renamed names (face_at faces i))
@@ -116,7 +115,7 @@ module _ (places : List Place) (faces : List Corners) where
         let are = All-get_or AreOwn (staying names faces) (e / 3) no_corners (omega arith) kept_own in
         corner_in_has IsOwn (face_at (staying names faces) (e / 3)) (e % 3) are.a are.b are.c
 
-module _ (places : List Place) (faces : List Corners) (m : Mesh) (within : All (AreCorners (length places)) faces) (p : IsPrepared places faces m) where
+module _ (places : List Place) (faces : List Corners) (m : Mesh) (within : All (AreVerticesBelow (length places)) faces) (p : IsPrepared places faces m) where
   abbrev kept : List Corners
   kept = staying p.names faces
 
@@ -142,24 +141,24 @@ module _ (places : List Place) (faces : List Corners) (m : Mesh) (within : All (
   firsts_at v l = get_or-map first p.old v 0 0 l
 
   points_long : length m.points ≡ length p.old
-  points_long = ap length p.stand ∙ length-map p.old (place_at places)
+  points_long = ap length p.stand ∙ length-map p.old (place_in_list places)
 
-  place_new : (v : ℕ) → v < length p.old → place_at m.points v ≡ place_at places (get_or p.old v 0)
-  place_new v l = ap (λ ps. place_at ps v) p.stand ∙ get_or-map (place_at places) p.old v 0 origin l
+  place_new : (v : ℕ) → v < length p.old → place_in_list m.points v ≡ place_in_list places (get_or p.old v 0)
+  place_new v l = ap (λ ps. place_in_list ps v) p.stand ∙ get_or-map (place_in_list places) p.old v 0 origin l
 
-  all_named : (v : ℕ) → v < length p.old → is_named m.faces v ≡ true
+  all_named : (v : ℕ) → v < length p.old → is_some_corner m.faces v ≡ true
   all_named v l =
       let (e, t, at) = p.split.used v l in
       let side = t.is_side in
       let are = corners_named m.faces (e / 3) (omega arith) in
-      subst (λ i. is_named m.faces i ≡ true) at (corner_in_has (λ i. is_named m.faces i ≡ true) (face_at m.faces (e / 3)) (e % 3) are.a are.b are.c)
+      subst (λ i. is_some_corner m.faces i ≡ true) at (corner_in_has (λ i. is_some_corner m.faces i ≡ true) (face_at m.faces (e / 3)) (e % 3) are.a are.b are.c)
 
   first_new : (v : ℕ) → v < length p.old → IsFirstAt m.points m.faces v (first (get_or p.old v 0))
   first_new v l =
       let (low, is) = first_found p.old v (get_or p.old v 0) l refl in
       record {
         named = all_named (first (get_or p.old v 0)) low;
-        same = place_new (first (get_or p.old v 0)) low ∙ ap (place_at places) is ∙ sym (place_new v l);
+        same = place_new (first (get_or p.old v 0)) low ∙ ap (place_in_list places) is ∙ sym (place_new v l);
         least = λ w before named same.
             let wl : w < length p.old = omega arith in
             none_before p.old (get_or p.old v 0) w wl before (one_place places faces _ _ (old_own w wl) (old_own v l) (sym (place_new w wl) ∙ same ∙ place_new v l));
@@ -203,22 +202,22 @@ module _ (places : List Place) (faces : List Corners) (m : Mesh) (within : All (
       let up = new_rise (net_of kept) m.faces p.old (kept_are_fit (joined_faces p.names faces)).0 p.split _ _ low_e low_g (omega (arith, is_e, is_g, less)) in
       omega (arith, up, from_renumbered first kept e el, from_renumbered first kept g gl)
 
-  split_again : IsSplit (net_of (map (renumbered first) kept)) m.faces firsts
+  split_again : IsSplitMesh (net_of (map (renumbered first) kept)) m.faces firsts
   split_again =
       split_there (net_of kept) m.faces p.old (kept_are_fit (joined_faces p.names faces)).0 p.split (net_of (map (renumbered first) kept)) (same_ends first (firsts_apart p.old) kept) rises firsts (length-map p.old first)
       (λ e l. side_again e l ∙ sym (from_renumbered first kept e l))
 
-  stand_again : m.points ≡ map (place_at m.points) firsts
-  stand_again = ext_get_or origin m.points (map (place_at m.points) firsts) (points_long ∙ sym (length-map p.old first) ∙ sym (length-map firsts (place_at m.points))) (λ v l.
+  stand_again : m.points ≡ map (place_in_list m.points) firsts
+  stand_again = ext_get_or origin m.points (map (place_in_list m.points) firsts) (points_long ∙ sym (length-map p.old first) ∙ sym (length-map firsts (place_in_list m.points))) (λ v l.
       let low : v < length p.old = omega (arith, points_long, l) in
       let in_firsts : v < length firsts = omega (arith, length-map p.old first, low) in
-      sym (first_new v low).same ∙ ap (place_at m.points) (sym (firsts_at v low)) ∙ sym (get_or-map (place_at m.points) firsts v 0 origin in_firsts))
+      sym (first_new v low).same ∙ ap (place_in_list m.points) (sym (firsts_at v low)) ∙ sym (get_or-map (place_in_list m.points) firsts v 0 origin in_firsts))
 
   pub prepared_again : IsPrepared m.points m.faces m
   prepared_again = record {
     names = firsts;
     joined = joined_again;
     old = firsts;
-    split = subst (λ (fs : List Corners). IsSplit (net_of fs) m.faces firsts) (sym kept_same) split_again;
+    split = subst (λ (fs : List Corners). IsSplitMesh (net_of fs) m.faces firsts) (sym kept_same) split_again;
     stand = stand_again;
   }

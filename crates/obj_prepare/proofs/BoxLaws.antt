@@ -6,27 +6,27 @@ use Rattle.std.proofs.lemmas.Int.{clamps}
 use borrow.Author.Differences.{ints}
 use Rattle.pm_base.specs.Place.{Place}
 use Rattle.obj_prepare.specs.declared.extents.PointBox.{PointBox}
-use Rattle.obj_prepare.specs.Boxes.{along, off_middle, least, greatest, box_of, IsInBox, extent, scaled}
+use Rattle.obj_prepare.specs.Boxes.{along, off_middle, least_of_places, greatest_of_places, box_of_points, IsInBox, extent, scaled}
 use Rattle.obj_prepare.specs.Exact.{lower, upper}
 
 -- Between the ends of an axis twice the way from the middle is at most the way between them.
 pub off_within : (n low high : ℤ) → low ≤ℤ n → n ≤ℤ high → unsigned_abs (off_middle n low high) ≤ unsigned_abs (high -ℤ low)
 off_within n low high a b = omega (arith, ints)
 
-least_first : (p : Place) (qs : List Place) → ((least p qs).x ≤ℤ p.x) × ((least p qs).y ≤ℤ p.y) × ((least p qs).z ≤ℤ p.z)
+least_first : (p : Place) (qs : List Place) → ((least_of_places p qs).x ≤ℤ p.x) × ((least_of_places p qs).y ≤ℤ p.y) × ((least_of_places p qs).z ≤ℤ p.z)
 least_first p [] = (omega (arith, ints), omega (arith, ints), omega (arith, ints))
 least_first p (q ∷ qs) =
     let (x, y, z) = least_first (lower p q) qs in
     (omega (arith, ints, clamps, x), omega (arith, ints, clamps, y), omega (arith, ints, clamps, z))
 
-greatest_first : (p : Place) (qs : List Place) → (p.x ≤ℤ (greatest p qs).x) × (p.y ≤ℤ (greatest p qs).y) × (p.z ≤ℤ (greatest p qs).z)
+greatest_first : (p : Place) (qs : List Place) → (p.x ≤ℤ (greatest_of_places p qs).x) × (p.y ≤ℤ (greatest_of_places p qs).y) × (p.z ≤ℤ (greatest_of_places p qs).z)
 greatest_first p [] = (omega (arith, ints), omega (arith, ints), omega (arith, ints))
 greatest_first p (q ∷ qs) =
     let (x, y, z) = greatest_first (upper p q) qs in
     (omega (arith, ints, clamps, x), omega (arith, ints, clamps, y), omega (arith, ints, clamps, z))
 
 least_each : (p : Place) (qs : List Place) (i : ℕ) (d : Place) → i < length qs
-    → ((least p qs).x ≤ℤ (get_or qs i d).x) × ((least p qs).y ≤ℤ (get_or qs i d).y) × ((least p qs).z ≤ℤ (get_or qs i d).z)
+    → ((least_of_places p qs).x ≤ℤ (get_or qs i d).x) × ((least_of_places p qs).y ≤ℤ (get_or qs i d).y) × ((least_of_places p qs).z ≤ℤ (get_or qs i d).z)
 least_each p [] i d lt = absurd (omega (arith, lt))
 least_each p (q ∷ qs) zero d lt =
     let (x, y, z) = least_first (lower p q) qs in
@@ -34,7 +34,7 @@ least_each p (q ∷ qs) zero d lt =
 least_each p (q ∷ qs) (suc i) d lt = least_each (lower p q) qs i d (omega (arith, lt))
 
 greatest_each : (p : Place) (qs : List Place) (i : ℕ) (d : Place) → i < length qs
-    → ((get_or qs i d).x ≤ℤ (greatest p qs).x) × ((get_or qs i d).y ≤ℤ (greatest p qs).y) × ((get_or qs i d).z ≤ℤ (greatest p qs).z)
+    → ((get_or qs i d).x ≤ℤ (greatest_of_places p qs).x) × ((get_or qs i d).y ≤ℤ (greatest_of_places p qs).y) × ((get_or qs i d).z ≤ℤ (greatest_of_places p qs).z)
 greatest_each p [] i d lt = absurd (omega (arith, lt))
 greatest_each p (q ∷ qs) zero d lt =
     let (x, y, z) = greatest_first (upper p q) qs in
@@ -42,7 +42,7 @@ greatest_each p (q ∷ qs) zero d lt =
 greatest_each p (q ∷ qs) (suc i) d lt = greatest_each (upper p q) qs i d (omega (arith, lt))
 
 -- Each point is in the box of all.
-pub box_has : (p : Place) (ps : List Place) (i : ℕ) (d : Place) → i < length (p ∷ ps) → IsInBox (box_of p ps) (get_or (p ∷ ps) i d)
+pub box_has : (p : Place) (ps : List Place) (i : ℕ) (d : Place) → i < length (p ∷ ps) → IsInBox (box_of_points p ps) (get_or (p ∷ ps) i d)
 box_has p ps zero d lt =
     let (a, b, c) = least_first p ps in
     let (e, f, g) = greatest_first p ps in

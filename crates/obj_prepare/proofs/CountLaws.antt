@@ -9,7 +9,7 @@ use Rattle.pm_base.specs.Counts.{count}
 use Rattle.pm_base.proofs.Counts.{count-true, count-false, count-zero, count_same}
 use Rattle.pm_fans.specs.Kept.{is_flat}
 use Rattle.pm_fans.specs.Cuts.{cut_count}
-use Rattle.obj_prepare.specs.Named.{is_named, named_in}
+use Rattle.obj_prepare.specs.Named.{is_some_corner, named_in}
 use Rattle.obj_prepare.specs.Joining.{joined_faces}
 use Rattle.obj_prepare.proofs.NamedLaws.{length-named_in, named_at}
 use Rattle.obj_prepare.specs.Prepared.{staying, joined_count, flat_count, double_count, unnamed_count, split_count}
@@ -61,15 +61,15 @@ count_both p (suc n) =
       | inr f ↦ omega (arith, count-false p n f, count-true (λ v. not (p v)) n (ap not f), count_both p n)
     ]
 
-set_named : (fs : List Corners) (n : ℕ) → set_below (named_in fs n) (length (named_in fs n)) ≡ count (is_named fs) n
+set_named : (fs : List Corners) (n : ℕ) → set_below (named_in fs n) (length (named_in fs n)) ≡ count (is_some_corner fs) n
 unfolding set_below
 set_named fs n =
-    ap (count (λ v. slice_index_or (named_in fs n) v false)) (length-named_in fs n) ∙ count_same (λ v. slice_index_or (named_in fs n) v false) (is_named fs) n (λ i l. named_at fs n i l)
+    ap (count (λ v. slice_index_or (named_in fs n) v false)) (length-named_in fs n) ∙ count_same (λ v. slice_index_or (named_in fs n) v false) (is_some_corner fs) n (λ i l. named_at fs n i l)
 
 joined_named : (fs : List Corners) (names : List ℕ) → joined_below (named_in fs (length names)) names (length names) ≡ joined_count names fs
 unfolding joined_below joined_count
 joined_named fs names =
-    count_same (λ v. slice_index_or (named_in fs (length names)) v false && not (slice_index_or names v 0 == v)) (λ v. is_named fs v && not (slice_index_or names v 0 == v)) (length names)
+    count_same (λ v. slice_index_or (named_in fs (length names)) v false && not (slice_index_or names v 0 == v)) (λ v. is_some_corner fs v && not (slice_index_or names v 0 == v)) (length names)
     (λ i l. ap (λ b. b && not (slice_index_or names i 0 == i)) (named_at fs (length names) i l))
 
 -- Each number of what was done, from what was counted. Lists that were lent are the same lists.
@@ -90,14 +90,14 @@ pub counted_cut : (faces stay again : List Corners) (names : List ℕ) (n : ℕ)
 counted_cut faces stay again names n stay_is same is = is ∙ ap (λ (fs : List Corners). cut_count (net_of fs)) (same ∙ stay_is)
 
 -- How many flags are set of the vertices that a face names.
-counted_set : (fs : List Corners) (flags lent : List Bool) (vertices n : ℕ) → flags ≡ named_in fs vertices → lent ≡ flags → n ≡ set_below lent (length lent) → n ≡ count (is_named fs) vertices
+counted_set : (fs : List Corners) (flags lent : List Bool) (vertices n : ℕ) → flags ≡ named_in fs vertices → lent ≡ flags → n ≡ set_below lent (length lent) → n ≡ count (is_some_corner fs) vertices
 counted_set fs flags lent vertices n are same is = is ∙ ap (λ bs. set_below bs (length bs)) (same ∙ are) ∙ set_named fs vertices
 
 pub counted_split : (faces stay : List Corners) (names old : List ℕ) (flags lent : List Bool) (vertices set n : ℕ) → length names ≡ vertices → stay ≡ staying names faces → flags ≡ named_in stay vertices → lent ≡ flags → set ≡ set_below lent (length lent) → n ≡ length old - set → n ≡ split_count names faces old
 unfolding split_count
 counted_split faces stay names old flags lent vertices set n len stay_is are same set_is is =
-    is ∙ ap (λ s. length old - s) (counted_set stay flags lent vertices set are same set_is ∙ ap (count (is_named stay)) (sym len) ∙ ap (λ (fs : List Corners). count (is_named fs) (length names)) stay_is)
+    is ∙ ap (λ s. length old - s) (counted_set stay flags lent vertices set are same set_is ∙ ap (count (is_some_corner stay)) (sym len) ∙ ap (λ (fs : List Corners). count (is_some_corner fs) (length names)) stay_is)
 
 pub counted_unnamed : (faces : List Corners) (flags lent : List Bool) (vertices set n : ℕ) → flags ≡ named_in faces vertices → lent ≡ flags → set ≡ set_below lent (length lent) → n ≡ vertices - set → n ≡ unnamed_count vertices faces
 unfolding unnamed_count
-counted_unnamed faces flags lent vertices set n are same set_is is = omega (arith, is, counted_set faces flags lent vertices set are same set_is, count_both (is_named faces) vertices)
+counted_unnamed faces flags lent vertices set n are same set_is is = omega (arith, is, counted_set faces flags lent vertices set are same set_is, count_both (is_some_corner faces) vertices)

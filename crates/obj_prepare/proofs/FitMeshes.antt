@@ -6,18 +6,17 @@ use Rattle.std.proofs.lemmas.List.{ext_get_or, length-map, get_or-map}
 use Rattle.std.proofs.lemmas.List.Elements.{All-head, All-tail, All-get_or}
 use Rattle.std.proofs.lemmas.List.FromFn.{length-range_with_len, get_or-range_with_len}
 use Rattle.pm_base.specs.declared.mesh.Corners.{Corners}
-use Rattle.pm_base.specs.Place.{Place}
+use Rattle.pm_base.specs.Place.{Place, origin}
 use Rattle.pm_base.specs.Sides.{net_of, side_count, no_corners}
 use Rattle.pm_base.specs.Fans.{IsOrientedManifold}
 use Rattle.pm_fans.specs.Splits.{AllStand}
-use Rattle.pm_fans.specs.Orders.{IsSplit}
+use Rattle.pm_fans.specs.Orders.{IsSplitMesh}
 use Rattle.pm_fans.specs.Kept.{kept_of}
 use Rattle.pm_fans.proofs.Turned.{side_turned}
 use Rattle.pm_fans.proofs.Staying.{manifolds_stay}
 use Rattle.pm_fans.proofs.OwnSplit.{manifolds_are_their_own_split}
-use Rattle.obj_prepare.specs.Named.{AreCorners, IsWithin}
-use Rattle.obj_prepare.specs.Joining.{place_at, AreJoined, renamed, joined_faces}
-use Rattle.obj_prepare.specs.Placing.{origin}
+use Rattle.obj_prepare.specs.Named.{AreVerticesBelow, IsWithinMesh}
+use Rattle.obj_prepare.specs.Joining.{place_in_list, AreJoined, renamed, joined_faces}
 use Rattle.obj_prepare.specs.Prepared.{IsPrepared}
 use Rattle.obj_prepare.specs.Laws.{AreFit}
 
@@ -35,45 +34,45 @@ own_joined places faces fit = record {
       let at = own_name (length places) v l in
       record {
         named = rw at named;
-        same = ap (place_at places) at;
+        same = ap (place_in_list places) at;
         least = λ w less also same. fit.apart w v (omega (arith, less, at, l)) l (omega (arith, less, at)) same;
       };
   others = λ v l out. own_name (length places) v l;
 }
 
-own_face : (n : ℕ) (f : Corners) → AreCorners n f → renamed (own n) f ≡ f
+own_face : (n : ℕ) (f : Corners) → AreVerticesBelow n f → renamed (own n) f ≡ f
 own_face n f are =
     let a = own_name n f.a are.a in
     let b = own_name n f.b are.b in
     let c = own_name n f.c are.c in
     λ i. record { a = a i; b = b i; c = c i }
 
-own_faces : (n : ℕ) (fs : List Corners) → All (AreCorners n) fs → joined_faces (own n) fs ≡ fs
+own_faces : (n : ℕ) (fs : List Corners) → All (AreVerticesBelow n) fs → joined_faces (own n) fs ≡ fs
 own_faces n [] are = refl
 own_faces n (f ∷ fs) are =
-    let first = own_face n f (All-head (AreCorners n) f fs are) in
-    let rest = own_faces n fs (All-tail (AreCorners n) f fs are) in
+    let first = own_face n f (All-head (AreVerticesBelow n) f fs are) in
+    let rest = own_faces n fs (All-tail (AreVerticesBelow n) f fs are) in
     λ i. first i ∷ rest i
 
 -- A vertex's place is the one it has in the list.
-own_places : (places : List Place) → map (place_at places) (own (length places)) ≡ places
+own_places : (places : List Place) → map (place_in_list places) (own (length places)) ≡ places
 own_places places =
     let n : ℕ = length places in
     let long : length (own n) ≡ n = length-range_with_len 0 n in
-    ext_get_or origin (map (place_at places) (own n)) places (length-map (own n) (place_at places) ∙ long) (λ v l.
-    let low : v < n = omega (arith, l, length-map (own n) (place_at places), long) in
-    get_or-map (place_at places) (own n) v 0 origin (subst (λ k. v < k) (sym long) low) ∙ ap (place_at places) (own_name n v low))
+    ext_get_or origin (map (place_in_list places) (own n)) places (length-map (own n) (place_in_list places) ∙ long) (λ v l.
+    let low : v < n = omega (arith, l, length-map (own n) (place_in_list places), long) in
+    get_or-map (place_in_list places) (own n) v 0 origin (subst (λ k. v < k) (sym long) low) ∙ ap (place_in_list places) (own_name n v low))
 
 -- A side runs from one of the vertices.
-begins_low : (n : ℕ) (fs : List Corners) → All (AreCorners n) fs → (e : ℕ) → e < side_count (net_of fs) → (net_of fs).from e < n
+begins_low : (n : ℕ) (fs : List Corners) → All (AreVerticesBelow n) fs → (e : ℕ) → e < side_count (net_of fs) → (net_of fs).from e < n
 begins_low n fs all e l =
-    let f = All-get_or (AreCorners n) fs (e / 3) no_corners (omega arith) all in
+    let f = All-get_or (AreVerticesBelow n) fs (e / 3) no_corners (omega arith) all in
     elim (side_turned fs e (e / 3) refl) [
       | inl t ↦ subst (λ k. k < n) t.a f.a
       | inr u ↦ elim u [ inl t ↦ subst (λ k. k < n) t.b f.b | inr t ↦ subst (λ k. k < n) t.c f.c ]
     ]
 
-pub fit_meshes_stay : (places : List Place) (faces : List Corners) → IsWithin (length places) faces → AllStand (net_of faces) → IsOrientedManifold (net_of faces) → AreFit places faces → IsPrepared places faces (record { points = places; faces = faces })
+pub fit_meshes_stay : (places : List Place) (faces : List Corners) → IsWithinMesh (length places) faces → AllStand (net_of faces) → IsOrientedManifold (net_of faces) → AreFit places faces → IsPrepared places faces (record { points = places; faces = faces })
 fit_meshes_stay places faces within stand is fit =
     let n : ℕ = length places in
     let stay : kept_of (joined_faces (own n) faces) ≡ faces = ap kept_of (own_faces n faces within.corners) ∙ manifolds_stay faces stand is in
@@ -82,6 +81,6 @@ fit_meshes_stay places faces within stand is fit =
       names = own n;
       joined = own_joined places faces fit;
       old = own n;
-      split = subst (λ (fs : List Corners). IsSplit (net_of fs) faces (own n)) (sym stay) split;
+      split = subst (λ (fs : List Corners). IsSplitMesh (net_of fs) faces (own n)) (sym stay) split;
       stand = sym (own_places places);
     }

@@ -10,12 +10,11 @@ use Rattle.std.proofs.lemmas.Nat.{div-mul-add}
 use Rattle.std.proofs.lemmas.List.{length_push, get_or_push, get_or_append_left, get_or_read, map_more, take_all}
 use borrow.Author.Differences.{ints}
 use Rattle.pm_base.specs.declared.mesh.Corners.{Corners}
-use Rattle.pm_base.specs.Place.{Place, IsPlace}
+use Rattle.pm_base.specs.Place.{Place, IsPlace, origin}
 use Rattle.pm_base.specs.Sides.{no_corners}
 use Rattle.pm_fans.proofs.KeyLaws.{equal_is}
-use Rattle.obj_prepare.specs.Named.{is_named, named_in}
-use Rattle.obj_prepare.specs.Placing.{origin}
-use Rattle.obj_prepare.specs.Joining.{place_at, IsFirstAt, AreJoined, renamed}
+use Rattle.obj_prepare.specs.Named.{is_some_corner, named_in}
+use Rattle.obj_prepare.specs.Joining.{place_in_list, IsFirstAt, AreJoined, renamed}
 use Rattle.obj_prepare.specs.Firsts.{raised, place_key, IsFirstOf, HasNone, AreFirsts}
 use Rattle.obj_prepare.proofs.NamedLaws.{named_at, length-named_in}
 
@@ -58,29 +57,29 @@ module _ (places : List Place) (faces : List Corners) where
         let low = f.in_range in
         record { in_range = omega arith; named = f.named; place = f.place; has = f.has; least = f.least }
 
-    none_on : (key : ℕ) → HasNone places faces n key → (is_named faces n ≡ true → place_key (place_at places n) ≢ key) → HasNone places faces (n + 1) key
+    none_on : (key : ℕ) → HasNone places faces n key → (is_some_corner faces n ≡ true → place_key (place_in_list places n) ≢ key) → HasNone places faces (n + 1) key
     none_on key none here w l names =
         elim (cases_eq w n) [
-          | inl same ↦ (λ has. here (ap (is_named faces) (sym same) ∙ names) (ap (λ i. place_key (place_at places i)) (sym same) ∙ has))
+          | inl same ↦ (λ has. here (ap (is_some_corner faces) (sym same) ∙ names) (ap (λ i. place_key (place_in_list places i)) (sym same) ∙ has))
           | inr other ↦ none w (omega arith) names
         ]
 
-    answers_on : (key : ℕ) (r : Option ℕ) → Answers n key r → (r ≡ None → is_named faces n ≡ true → place_key (place_at places n) ≢ key) → Answers (n + 1) key r
+    answers_on : (key : ℕ) (r : Option ℕ) → Answers n key r → (r ≡ None → is_some_corner faces n ≡ true → place_key (place_in_list places n) ≢ key) → Answers (n + 1) key r
     answers_on key None h here = none_on key h (here refl)
     answers_on key (Some v) h here = first_on key v h
 
     -- A vertex that no face names.
-    pub unnamed_on : (firsts : BTreeMap ℕ ℕ) → AreFirsts places faces n firsts → is_named faces n ≡ false → AreFirsts places faces (n + 1) firsts
+    pub unnamed_on : (firsts : BTreeMap ℕ ℕ) → AreFirsts places faces n firsts → is_some_corner faces n ≡ false → AreFirsts places faces (n + 1) firsts
     unnamed_on firsts h out key = answers_on key (get nat_cmp firsts key) (h key) (λ none names has. true≢false (sym names ∙ out))
 
-    module _ (named : is_named faces n ≡ true) (firsts : BTreeMap ℕ ℕ) (h : AreFirsts places faces n firsts) (key : ℕ) (p : Place) (l : n < length places) (read : p ≡ get_or places n p) (of_p : key ≡ place_key p) (in_p : IsPlace p) where
-      spot : p ≡ place_at places n
+    module _ (named : is_some_corner faces n ≡ true) (firsts : BTreeMap ℕ ℕ) (h : AreFirsts places faces n firsts) (key : ℕ) (p : Place) (l : n < length places) (read : p ≡ get_or places n p) (of_p : key ≡ place_key p) (in_p : IsPlace p) where
+      spot : p ≡ place_in_list places n
       spot = get_or_read places n p l read origin
 
-      is : key ≡ place_key (place_at places n)
+      is : key ≡ place_key (place_in_list places n)
       is = of_p ∙ ap place_key spot
 
-      here : IsPlace (place_at places n)
+      here : IsPlace (place_in_list places n)
       here = subst IsPlace spot in_p
 
       answer : (r : Option ℕ) → get nat_cmp firsts key ≡ r → Answers n key r
@@ -92,7 +91,7 @@ module _ (places : List Place) (faces : List Corners) where
           let f = answer (Some u) at in
           record {
             named = f.named;
-            same = place_is (place_at places u) (place_at places n) f.place here (f.has ∙ is);
+            same = place_is (place_in_list places u) (place_in_list places n) f.place here (f.has ∙ is);
             least = λ w l names same. f.least w l names (ap place_key same ∙ sym is);
           }
 
@@ -120,13 +119,13 @@ module _ (places : List Place) (faces : List Corners) where
   -- The names of the first n vertices.
   pub record AreNames (n : ℕ) (names : List ℕ) : Type 0 where
     pub all : length names ≡ n
-    pub each : (v : ℕ) → v < n → is_named faces v ≡ true → IsFirstAt places faces v (get_or names v 0)
-    pub others : (v : ℕ) → v < n → is_named faces v ≡ false → get_or names v 0 ≡ v
+    pub each : (v : ℕ) → v < n → is_some_corner faces v ≡ true → IsFirstAt places faces v (get_or names v 0)
+    pub others : (v : ℕ) → v < n → is_some_corner faces v ≡ false → get_or names v 0 ≡ v
 
   pub no_names : (names : List ℕ) → names ≡ [] → AreNames 0 names
   no_names names is = record { all = ap length is; each = λ v l. absurd (omega arith); others = λ v l. absurd (omega arith) }
 
-  pub names_more : (n u : ℕ) (names more : List ℕ) → AreNames n names → more ≡ names ++ u ∷ [] → (is_named faces n ≡ true → IsFirstAt places faces n u) → (is_named faces n ≡ false → u ≡ n) → AreNames (n + 1) more
+  pub names_more : (n u : ℕ) (names more : List ℕ) → AreNames n names → more ≡ names ++ u ∷ [] → (is_some_corner faces n ≡ true → IsFirstAt places faces n u) → (is_some_corner faces n ≡ false → u ≡ n) → AreNames (n + 1) more
   names_more n u names more h is first other =
       let long = h.all in
       let last : get_or more n 0 ≡ u = ap (λ xs. get_or xs n 0) is ∙ get_or_push names u 0 n long in
@@ -135,14 +134,14 @@ module _ (places : List Place) (faces : List Corners) where
         each = λ v l names_v. elim (cases_eq v n) [
           | inl same ↦
               let at : get_or more v 0 ≡ u = ap (λ i. get_or more i 0) same ∙ last in
-              subst (IsFirstAt places faces v) (sym at) (subst (λ i. IsFirstAt places faces i u) (sym same) (first (ap (is_named faces) (sym same) ∙ names_v)))
+              subst (IsFirstAt places faces v) (sym at) (subst (λ i. IsFirstAt places faces i u) (sym same) (first (ap (is_some_corner faces) (sym same) ∙ names_v)))
           | inr apart ↦
               let low : v < n = omega arith in
               let at : get_or more v 0 ≡ get_or names v 0 = ap (λ xs. get_or xs v 0) is ∙ get_or_append_left names (u ∷ []) 0 v (omega (arith, long)) in
               subst (IsFirstAt places faces v) (sym at) (h.each v low names_v)
         ];
         others = λ v l out. elim (cases_eq v n) [
-          | inl same ↦ ap (λ i. get_or more i 0) same ∙ last ∙ other (ap (is_named faces) (sym same) ∙ out) ∙ sym same
+          | inl same ↦ ap (λ i. get_or more i 0) same ∙ last ∙ other (ap (is_some_corner faces) (sym same) ∙ out) ∙ sym same
           | inr apart ↦
               let low : v < n = omega arith in
               ap (λ xs. get_or xs v 0) is ∙ get_or_append_left names (u ∷ []) 0 v (omega (arith, long)) ∙ h.others v low out
@@ -154,7 +153,7 @@ module _ (places : List Place) (faces : List Corners) where
       record { all = h.all ∙ is; each = λ v l. h.each v (omega (arith, is)); others = λ v l. h.others v (omega (arith, is)) }
 
 -- What a flag says of its vertex.
-pub flag_names : (flags : List Bool) (faces : List Corners) (n v : ℕ) (x b : Bool) → flags ≡ named_in faces n → v < n → x ≡ get_or flags v x → x ≡ b → is_named faces v ≡ b
+pub flag_names : (flags : List Bool) (faces : List Corners) (n v : ℕ) (x b : Bool) → flags ≡ named_in faces n → v < n → x ≡ get_or flags v x → x ≡ b → is_some_corner faces v ≡ b
 flag_names flags faces n v x b is l read at =
     let in_flags : v < length flags = omega (arith, ap length is, length-named_in faces n) in
     sym (get_or_read flags v x in_flags read false ∙ ap (λ xs. get_or xs v false) is ∙ named_at faces n v l) ∙ at

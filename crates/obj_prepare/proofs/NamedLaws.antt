@@ -8,20 +8,20 @@ use Rattle.std.proofs.lemmas.List.Folds.{list_any-append}
 use Rattle.pm_base.specs.declared.mesh.Corners.{Corners}
 use Rattle.pm_base.specs.Sides.{no_corners}
 use Rattle.pm_fans.specs.Kept.{is_corner}
-use Rattle.obj_prepare.specs.Named.{is_named, named_in, AreCorners, IsWithin}
+use Rattle.obj_prepare.specs.Named.{is_some_corner, named_in, AreVerticesBelow, IsWithinMesh}
 
 pub length-named_in : (fs : List Corners) (n : ℕ) → length (named_in fs n) ≡ n
 length-named_in fs zero = refl
-length-named_in fs (suc n) = omega (arith, length_push (named_in fs n) (is_named fs n), length-named_in fs n)
+length-named_in fs (suc n) = omega (arith, length_push (named_in fs n) (is_some_corner fs n), length-named_in fs n)
 
 -- The flag of a vertex.
-pub named_at : (fs : List Corners) (n v : ℕ) → v < n → get_or (named_in fs n) v false ≡ is_named fs v
+pub named_at : (fs : List Corners) (n v : ℕ) → v < n → get_or (named_in fs n) v false ≡ is_some_corner fs v
 named_at fs zero v l = absurd (omega arith)
 named_at fs (suc n) v l =
     let long = length-named_in fs n in
     elim (cases_eq v n) [
-      | inl same ↦ get_or_push (named_in fs n) (is_named fs n) false v (long ∙ sym same) ∙ ap (is_named fs) (sym same)
-      | inr other ↦ get_or_append_left (named_in fs n) (is_named fs n ∷ []) false v (omega (arith, long)) ∙ named_at fs n v (omega arith)
+      | inl same ↦ get_or_push (named_in fs n) (is_some_corner fs n) false v (long ∙ sym same) ∙ ap (is_some_corner fs) (sym same)
+      | inr other ↦ get_or_append_left (named_in fs n) (is_some_corner fs n ∷ []) false v (omega (arith, long)) ∙ named_at fs n v (omega arith)
     ]
 
 pub none_named : (n : ℕ) → replicate n false ≡ named_in [] n
@@ -75,7 +75,7 @@ pub all_named : (flags : List Bool) (fs : List Corners) (n i : ℕ) → length f
 all_named flags fs n i l is = is ∙ ap (λ gs. named_in gs n) (take_all i fs l)
 
 -- The corners of each face are vertices.
-pub corners_within : (flags : List Bool) (fs before : List Corners) (n i : ℕ) → All (AreCorners n) fs → i < length fs → flags ≡ named_in before n → AreCorners (length flags) (get_or fs i no_corners)
+pub corners_within : (flags : List Bool) (fs before : List Corners) (n i : ℕ) → All (AreVerticesBelow n) fs → i < length fs → flags ≡ named_in before n → AreVerticesBelow (length flags) (get_or fs i no_corners)
 corners_within flags fs before n i all l is =
     let long : length flags ≡ n = ap length is ∙ length-named_in before n in
     let f = all i no_corners l in
@@ -84,10 +84,10 @@ corners_within flags fs before n i all l is =
     let c = f.c in
     record { a = omega (arith, a, long); b = omega (arith, b, long); c = omega (arith, c, long) }
 
-one_face : (n : ℕ) (f : Corners) → AreCorners n f → All (AreCorners n) (f ∷ [])
+one_face : (n : ℕ) (f : Corners) → AreVerticesBelow n f → All (AreVerticesBelow n) (f ∷ [])
 one_face n f is zero d l = is
 one_face n f is (suc k) d l = absurd (omega (arith, l))
 
 -- One face over few vertices is within the limits.
-pub one_within : (n : ℕ) (f : Corners) → n ≤ 1048576 → AreCorners n f → IsWithin n (f ∷ [])
+pub one_within : (n : ℕ) (f : Corners) → n ≤ 1048576 → AreVerticesBelow n f → IsWithinMesh n (f ∷ [])
 one_within n f few is = record { vertices_few = few; faces_few = omega arith; corners = one_face n f is }

@@ -7,13 +7,13 @@ use Rattle.pm_base.specs.declared.mesh.Corners.{Corners}
 use Rattle.pm_base.specs.Place.{Place}
 use Rattle.pm_base.specs.Meshes.{Mesh}
 use Rattle.pm_base.specs.Sides.{net_of}
-use Rattle.pm_fans.specs.Orders.{IsSplit}
+use Rattle.pm_fans.specs.Orders.{IsSplitMesh}
 use Rattle.pm_fans.specs.Cuts.{cut_count}
 use Rattle.pm_fans.proofs.KeptLaws.{kept_are_fit}
 use Rattle.pm_fans.proofs.OneSplit.{splits_are_one}
 use Rattle.obj_prepare.specs.declared.notes.Notes.{Notes}
-use Rattle.obj_prepare.specs.Named.{is_named}
-use Rattle.obj_prepare.specs.Joining.{place_at, IsFirstAt, AreJoined, joined_faces}
+use Rattle.obj_prepare.specs.Named.{is_some_corner}
+use Rattle.obj_prepare.specs.Joining.{place_in_list, IsFirstAt, AreJoined, joined_faces}
 use Rattle.obj_prepare.specs.Prepared.{staying, IsPrepared, joined_count, flat_count, double_count, split_count, IsPreparedWith}
 
 module _ (places : List Place) (faces : List Corners) where
@@ -28,7 +28,7 @@ module _ (places : List Place) (faces : List Corners) where
   one_name : (names others : List ℕ) → AreJoined places faces names → AreJoined places faces others → (v : ℕ) → v < length names → slice_index_or names v 0 ≡ slice_index_or others v 0
   one_name names others a b v l =
       let low : v < length places = subst (λ k. v < k) a.all l in
-      elim (cases_Bool (is_named faces v)) [
+      elim (cases_Bool (is_some_corner faces v)) [
         | inl named ↦ one_first v _ _ (a.each v low named) (b.each v low named)
         | inr out ↦ a.others v low out ∙ sym (b.others v low out)
       ]
@@ -45,14 +45,14 @@ record AreSame {places : List Place} {faces : List Corners} {m n : Mesh} (p : Is
 are_same : (places : List Place) (faces : List Corners) (m n : Mesh) (p : IsPrepared places faces m) (q : IsPrepared places faces n) → AreSame p q
 are_same places faces m n p q =
     let same = names_are_one places faces p.names q.names p.joined q.joined in
-    let split : IsSplit (net_of (staying p.names faces)) n.faces q.old = subst (λ (names : List ℕ). IsSplit (net_of (staying names faces)) n.faces q.old) (sym same) q.split in
+    let split : IsSplitMesh (net_of (staying p.names faces)) n.faces q.old = subst (λ (names : List ℕ). IsSplitMesh (net_of (staying names faces)) n.faces q.old) (sym same) q.split in
     let (fs, old) = splits_are_one (net_of (staying p.names faces)) m.faces n.faces p.old q.old (kept_are_fit (joined_faces p.names faces)).0 p.split split in
     record { names = same; faces_same = fs; old = old }
 
 pub prepared_are_one : (places : List Place) (faces : List Corners) (m n : Mesh) → IsPrepared places faces m → IsPrepared places faces n → m ≡ n
 prepared_are_one places faces m n p q =
     let s = are_same places faces m n p q in
-    let points = p.stand ∙ ap (map (place_at places)) s.old ∙ sym q.stand in
+    let points = p.stand ∙ ap (map (place_in_list places)) s.old ∙ sym q.stand in
     let fs = s.faces_same in
     λ i. record { points = points i; faces = fs i }
 

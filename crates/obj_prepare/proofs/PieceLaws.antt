@@ -13,21 +13,21 @@ use Rattle.pm_base.specs.Fans.{IsOrientedManifold}
 use Rattle.pm_base.proofs.Sides.{next_cases}
 use Rattle.pm_base.proofs.NetLaws.{face_at, first_side, second_side, third_side}
 use Rattle.pm_fans.specs.Splits.{AllStand, IsCuttable, IsSplitByFans}
-use Rattle.pm_fans.specs.Orders.{IsSplit}
-use Rattle.pm_fans.specs.Kept.{is_corner, is_kept, kept_after, kept_of}
+use Rattle.pm_fans.specs.Orders.{IsSplitMesh}
+use Rattle.pm_fans.specs.Kept.{is_corner, is_kept_after, kept_after, kept_of}
 use Rattle.pm_fans.specs.Laws.{KeptAreFit}
 use Rattle.pm_fans.proofs.KeptLaws.{kept_are_fit}
 use Rattle.pm_fans.proofs.Splitting.{splits_make_manifolds}
 use Rattle.pm_fans.proofs.Turned.{corner_a, corner_b, corner_c}
 use Rattle.obj_prepare.specs.declared.notes.Notes.{Notes}
-use Rattle.obj_prepare.specs.Named.{is_named, AreCorners, IsWithin}
-use Rattle.obj_prepare.specs.Joining.{place_at, AreJoined, renamed, joined_faces}
+use Rattle.obj_prepare.specs.Named.{is_some_corner, AreVerticesBelow, IsWithinMesh}
+use Rattle.obj_prepare.specs.Joining.{place_in_list, AreJoined, renamed, joined_faces}
 use Rattle.obj_prepare.specs.Prepared.{staying, AreNotes, IsPreparedWith, HasTooMany}
 use Rattle.obj_prepare.specs.Pieces.{ArePieces}
 
 -- A vertex that a face names is one of the vertices.
 
-corner_low : (n : ℕ) (f : Corners) (v : ℕ) → AreCorners n f → is_corner f v ≡ true → v < n
+corner_low : (n : ℕ) (f : Corners) (v : ℕ) → AreVerticesBelow n f → is_corner f v ≡ true → v < n
 corner_low n f v are is =
     elim (or_cases (f.a == v || f.b == v) (f.c == v) is) [
       | inl ab ↦
@@ -38,33 +38,33 @@ corner_low n f v are is =
       | inr c ↦ subst (λ k. k < n) (eqb-true _ _ c) are.c
     ]
 
-pub named_low : (n : ℕ) (fs : List Corners) (v : ℕ) → All (AreCorners n) fs → is_named fs v ≡ true → v < n
+pub named_low : (n : ℕ) (fs : List Corners) (v : ℕ) → All (AreVerticesBelow n) fs → is_some_corner fs v ≡ true → v < n
 named_low n [] v are is = absurd cc
 named_low n (f ∷ fs) v are is =
     elim (cases_Bool (is_corner f v)) [
-      | inl t ↦ corner_low n f v (All-head (AreCorners n) f fs are) t
-      | inr none ↦ named_low n fs v (All-tail (AreCorners n) f fs are) (rw none at is)
+      | inl t ↦ corner_low n f v (All-head (AreVerticesBelow n) f fs are) t
+      | inr none ↦ named_low n fs v (All-tail (AreVerticesBelow n) f fs are) (rw none at is)
     ]
 
 -- Each corner of a face is named.
 
 pub record AreNamed (faces : List Corners) (f : Corners) : Type 0 where
-  pub a : is_named faces f.a ≡ true
-  pub b : is_named faces f.b ≡ true
-  pub c : is_named faces f.c ≡ true
+  pub a : is_some_corner faces f.a ≡ true
+  pub b : is_some_corner faces f.b ≡ true
+  pub c : is_some_corner faces f.c ≡ true
 
 more_named : (g f : Corners) (fs : List Corners) → AreNamed fs f → AreNamed (g ∷ fs) f
 more_named g f fs are = record {
-  a = or_right (is_corner g f.a) (is_named fs f.a) are.a;
-  b = or_right (is_corner g f.b) (is_named fs f.b) are.b;
-  c = or_right (is_corner g f.c) (is_named fs f.c) are.c;
+  a = or_right (is_corner g f.a) (is_some_corner fs f.a) are.a;
+  b = or_right (is_corner g f.b) (is_some_corner fs f.b) are.b;
+  c = or_right (is_corner g f.c) (is_some_corner fs f.c) are.c;
 }
 
 first_named : (f : Corners) (fs : List Corners) → AreNamed (f ∷ fs) f
 first_named f fs = record {
-  a = or_left (is_corner f f.a) (is_named fs f.a) (corner_a f f.a refl);
-  b = or_left (is_corner f f.b) (is_named fs f.b) (corner_b f f.b refl);
-  c = or_left (is_corner f f.c) (is_named fs f.c) (corner_c f f.c refl);
+  a = or_left (is_corner f f.a) (is_some_corner fs f.a) (corner_a f f.a refl);
+  b = or_left (is_corner f f.b) (is_some_corner fs f.b) (corner_b f f.b refl);
+  c = or_left (is_corner f f.c) (is_some_corner fs f.c) (corner_c f f.c refl);
 }
 
 pub corners_named : (fs : List Corners) (i : ℕ) → i < length fs → AreNamed fs (face_at fs i)
@@ -74,22 +74,22 @@ corners_named (f ∷ fs) (suc i) l = more_named f (face_at fs i) fs (corners_nam
 
 -- The faces over joined vertices.
 
-joined_low : (places : List Place) (faces : List Corners) (names : List ℕ) → IsWithin (length places) faces → AreJoined places faces names → (v : ℕ) → is_named faces v ≡ true → slice_index_or names v 0 < length places
+joined_low : (places : List Place) (faces : List Corners) (names : List ℕ) → IsWithinMesh (length places) faces → AreJoined places faces names → (v : ℕ) → is_some_corner faces v ≡ true → slice_index_or names v 0 < length places
 joined_low places faces names within are v is =
     named_low (length places) faces _ within.corners (are.each v (named_low (length places) faces v within.corners is) is).named
 
-all_renamed : (places : List Place) (faces fs : List Corners) (names : List ℕ) → IsWithin (length places) faces → AreJoined places faces names → All (AreNamed faces) fs → All (AreCorners (length places)) (joined_faces names fs)
-all_renamed places faces [] names within are all = All-nil (AreCorners (length places))
+all_renamed : (places : List Place) (faces fs : List Corners) (names : List ℕ) → IsWithinMesh (length places) faces → AreJoined places faces names → All (AreNamed faces) fs → All (AreVerticesBelow (length places)) (joined_faces names fs)
+all_renamed places faces [] names within are all = All-nil (AreVerticesBelow (length places))
 all_renamed places faces (f ∷ fs) names within are all =
     let here = All-head (AreNamed faces) f fs all in
-    let face : AreCorners (length places) (renamed names f) = record {
+    let face : AreVerticesBelow (length places) (renamed names f) = record {
       a = joined_low places faces names within are f.a here.a;
       b = joined_low places faces names within are f.b here.b;
       c = joined_low places faces names within are f.c here.c;
     } in
-    All-cons (AreCorners (length places)) (renamed names f) (joined_faces names fs) face (all_renamed places faces fs names within are (All-tail (AreNamed faces) f fs all))
+    All-cons (AreVerticesBelow (length places)) (renamed names f) (joined_faces names fs) face (all_renamed places faces fs names within are (All-tail (AreNamed faces) f fs all))
 
-pub renamed_within : (places : List Place) (faces : List Corners) (names : List ℕ) → IsWithin (length places) faces → AreJoined places faces names → IsWithin (length places) (joined_faces names faces)
+pub renamed_within : (places : List Place) (faces : List Corners) (names : List ℕ) → IsWithinMesh (length places) faces → AreJoined places faces names → IsWithinMesh (length places) (joined_faces names faces)
 renamed_within places faces names within are = record {
   vertices_few = within.vertices_few;
   faces_few = rw (length-map faces (renamed names)) within.faces_few;
@@ -102,7 +102,7 @@ pub kept_after_all : (P : Corners → Type 0) (before fs : List Corners) → All
 kept_after_all P before [] all more = all
 kept_after_all P before (f ∷ fs) all more =
     let rest = All-tail P f fs more in
-    elim (cases_Bool (is_kept before f)) [
+    elim (cases_Bool (is_kept_after before f)) [
       | inl t ↦ subst (All P) (sym (cond-true _ _ _ t)) (kept_after_all P (before ++ f ∷ []) fs (All-append P before (f ∷ []) all (All-cons P f [] (All-head P f fs more) (All-nil P))) rest)
       | inr n ↦ subst (All P) (sym (cond-false _ _ _ n)) (kept_after_all P before fs all rest)
     ]
@@ -110,17 +110,17 @@ kept_after_all P before (f ∷ fs) all more =
 kept_after_length : (before fs : List Corners) → length (kept_after before fs) ≤ length before + length fs
 kept_after_length before [] = omega arith
 kept_after_length before (f ∷ fs) =
-    elim (cases_Bool (is_kept before f)) [
-      | inl t ↦ omega (arith, ap length (cond-true (is_kept before f) (kept_after (before ++ f ∷ []) fs) (kept_after before fs) t), kept_after_length (before ++ f ∷ []) fs, length-append before (f ∷ []))
-      | inr n ↦ omega (arith, ap length (cond-false (is_kept before f) (kept_after (before ++ f ∷ []) fs) (kept_after before fs) n), kept_after_length before fs)
+    elim (cases_Bool (is_kept_after before f)) [
+      | inl t ↦ omega (arith, ap length (cond-true (is_kept_after before f) (kept_after (before ++ f ∷ []) fs) (kept_after before fs) t), kept_after_length (before ++ f ∷ []) fs, length-append before (f ∷ []))
+      | inr n ↦ omega (arith, ap length (cond-false (is_kept_after before f) (kept_after (before ++ f ∷ []) fs) (kept_after before fs) n), kept_after_length before fs)
     ]
 
-pub kept_within : (n : ℕ) (fs : List Corners) → IsWithin n fs → IsWithin n (kept_of fs)
+pub kept_within : (n : ℕ) (fs : List Corners) → IsWithinMesh n fs → IsWithinMesh n (kept_of fs)
 unfolding kept_of
 kept_within n fs within = record {
   vertices_few = within.vertices_few;
   faces_few = omega (arith, kept_after_length [] fs, within.faces_few);
-  corners = kept_after_all (AreCorners n) [] fs (All-nil (AreCorners n)) within.corners;
+  corners = kept_after_all (AreVerticesBelow n) [] fs (All-nil (AreVerticesBelow n)) within.corners;
 }
 
 -- What holds of all three corners holds of each.
@@ -135,12 +135,12 @@ corner_in_has P f i a b c =
           ])
     ]
 
-side_low : (n : ℕ) (fs : List Corners) → IsWithin n fs → (e : ℕ) → e < side_count (net_of fs) → (net_of fs).from e < n
+side_low : (n : ℕ) (fs : List Corners) → IsWithinMesh n fs → (e : ℕ) → e < side_count (net_of fs) → (net_of fs).from e < n
 side_low n fs within e l =
-    let are = All-get_or (AreCorners n) fs (e / 3) no_corners (omega arith) within.corners in
+    let are = All-get_or (AreVerticesBelow n) fs (e / 3) no_corners (omega arith) within.corners in
     corner_in_has (λ v. v < n) (face_at fs (e / 3)) (e % 3) are.a are.b are.c
 
-pub kept_cuttable : KeptAreFit → (n : ℕ) (fs : List Corners) → IsWithin n fs → IsCuttable (net_of (kept_of fs))
+pub kept_cuttable : KeptAreFit → (n : ℕ) (fs : List Corners) → IsWithinMesh n fs → IsCuttable (net_of (kept_of fs))
 kept_cuttable fit n fs within =
     let stay = kept_within n fs within in
     record {
@@ -151,17 +151,17 @@ kept_cuttable fit n fs within =
 
 -- Split vertices.
 
-pub old_low : (n : ℕ) (fs split : List Corners) (old : List ℕ) → IsWithin n fs → IsSplit (net_of fs) split old → All (λ v. v < n) old
+pub old_low : (n : ℕ) (fs split : List Corners) (old : List ℕ) → IsWithinMesh n fs → IsSplitMesh (net_of fs) split old → All (λ v. v < n) old
 old_low n fs split old within is = All-from_get_or (λ v. v < n) old 0 (λ v l.
     let (e, stands, at) = is.used v l in
     let low : e < side_count (net_of fs) = subst (λ k. e < 3 * k) is.split.faces stands.is_side in
     subst (λ k. k < n) (sym (is.back e low) ∙ ap (λ k. slice_index_or old k 0) at) (side_low n fs within e low))
 
 -- Two corners of a new face that are one were one before.
-apart_new : (m : Net) (split : List Corners) (old : List ℕ) → IsSplit m split old → (e g : ℕ) → e < side_count m → g < side_count m → m.from e ≢ m.from g → (net_of split).from e ≢ (net_of split).from g
+apart_new : (m : Net) (split : List Corners) (old : List ℕ) → IsSplitMesh m split old → (e g : ℕ) → e < side_count m → g < side_count m → m.from e ≢ m.from g → (net_of split).from e ≢ (net_of split).from g
 apart_new m split old is e g el gl differ same = differ (sym (is.back e el) ∙ ap (λ k. slice_index_or old k 0) same ∙ is.back g gl)
 
-new_face : (m : Net) (split : List Corners) (old : List ℕ) → AllStand m → IsSplit m split old → (f : ℕ) → f < length split → IsFace (length old) (face_at split f)
+new_face : (m : Net) (split : List Corners) (old : List ℕ) → AllStand m → IsSplitMesh m split old → (f : ℕ) → f < length split → IsFace (length old) (face_at split f)
 new_face m split old stand is f l =
     let n : Net = net_of split in
     let same : length split ≡ m.faces = is.split.faces in
@@ -186,7 +186,7 @@ new_face m split old stand is f l =
       ca = λ e. ca (last.0 ∙ e ∙ sym first.0);
     }
 
-pub split_formed : (m : Net) (split : List Corners) (old : List ℕ) (points : List Place) → m.faces ≤ 1048576 → AllStand m → IsSplit m split old → length points ≡ length old → length old ≤ 1048576 → IsWellFormed (record { points = points; faces = split })
+pub split_formed : (m : Net) (split : List Corners) (old : List ℕ) (points : List Place) → m.faces ≤ 1048576 → AllStand m → IsSplitMesh m split old → length points ≡ length old → length old ≤ 1048576 → IsWellFormed (record { points = points; faces = split })
 split_formed m split old points short stand is len few = record {
   points = omega (arith, len, few);
   faces = omega (arith, is.split.faces, short);
@@ -195,20 +195,20 @@ split_formed m split old points short stand is len few = record {
 
 -- What is known of the pieces.
 
-pub joined_cuttable : (places : List Place) (faces : List Corners) (names again : List ℕ) (renamed renamed_again stay : List Corners) → IsWithin (length places) faces → AreJoined places faces names → again ≡ names → renamed ≡ joined_faces again faces
+pub joined_cuttable : (places : List Place) (faces : List Corners) (names again : List ℕ) (renamed renamed_again stay : List Corners) → IsWithinMesh (length places) faces → AreJoined places faces names → again ≡ names → renamed ≡ joined_faces again faces
     → renamed_again ≡ renamed → stay ≡ kept_of renamed_again → IsCuttable (net_of stay)
 joined_cuttable places faces names again renamed renamed_again stay within are same is same_faces kept =
     rw (kept, same_faces, is, same) (kept_cuttable kept_are_fit (length places) (joined_faces names faces) (renamed_within places faces names within are))
 
-module _ {places : List Place} {faces : List Corners} {names : List ℕ} {renamed stay split : List Corners} {old : List ℕ} (within : IsWithin (length places) faces) (pieces : ArePieces places faces names renamed stay split old) where
+module _ {places : List Place} {faces : List Corners} {names : List ℕ} {renamed stay split : List Corners} {old : List ℕ} (within : IsWithinMesh (length places) faces) (pieces : ArePieces places faces names renamed stay split old) where
   pub pieces_names : length names ≡ length places
   pieces_names = pieces.joined.all
 
-  staying_within : IsWithin (length places) (staying names faces)
+  staying_within : IsWithinMesh (length places) (staying names faces)
   staying_within = kept_within (length places) (joined_faces names faces) (renamed_within places faces names within pieces.joined)
 
-  pub pieces_stay : IsWithin (length places) stay
-  pieces_stay = subst (IsWithin (length places)) (sym pieces.stay_is) staying_within
+  pub pieces_stay : IsWithinMesh (length places) stay
+  pieces_stay = subst (IsWithinMesh (length places)) (sym pieces.stay_is) staying_within
 
   pub pieces_cuttable : IsCuttable (net_of stay)
   pieces_cuttable = subst (λ (fs : List Corners). IsCuttable (net_of fs)) (sym pieces.stay_is) (kept_cuttable kept_are_fit (length places) (joined_faces names faces) (renamed_within places faces names within pieces.joined))
@@ -221,17 +221,17 @@ module _ {places : List Place} {faces : List Corners} {names : List ℕ} {rename
       let fit = kept_are_fit (joined_faces names faces) in
       splits_make_manifolds (net_of (staying names faces)) (net_of split) fit.0 fit.1 (subst (λ (fs : List Corners). IsSplitByFans (net_of fs) (net_of split)) pieces.stay_is pieces.split_is.split)
 
-  pub pieces_formed : (points : List Place) (fs : List Corners) → points ≡ map (place_at places) old → fs ≡ split → length old ≤ 1048576 → IsWellFormed (record { points = points; faces = fs })
+  pub pieces_formed : (points : List Place) (fs : List Corners) → points ≡ map (place_in_list places) old → fs ≡ split → length old ≤ 1048576 → IsWellFormed (record { points = points; faces = fs })
   pieces_formed points fs is same few =
-      rw same (split_formed (net_of stay) split old points pieces_cuttable.short pieces_cuttable.stand pieces.split_is (ap length is ∙ length-map old (place_at places)) few)
+      rw same (split_formed (net_of stay) split old points pieces_cuttable.short pieces_cuttable.stand pieces.split_is (ap length is ∙ length-map old (place_in_list places)) few)
 
-  pub pieces_made : (points : List Place) (fs : List Corners) (notes : Notes) → points ≡ map (place_at places) old → fs ≡ split → AreNotes places faces names old notes → IsPreparedWith places faces (record { points = points; faces = fs }) notes
+  pub pieces_made : (points : List Place) (fs : List Corners) (notes : Notes) → points ≡ map (place_in_list places) old → fs ≡ split → AreNotes places faces names old notes → IsPreparedWith places faces (record { points = points; faces = fs }) notes
   pieces_made points fs notes is same are = (
     record {
       names = names;
       joined = pieces.joined;
       old = old;
-      split = rw same (subst (λ (gs : List Corners). IsSplit (net_of gs) split old) pieces.stay_is pieces.split_is);
+      split = rw same (subst (λ (gs : List Corners). IsSplitMesh (net_of gs) split old) pieces.stay_is pieces.split_is);
       stand = is;
     },
     are,
@@ -239,13 +239,13 @@ module _ {places : List Place} {faces : List Corners} {names : List ℕ} {rename
 
   pub pieces_too_many : 1048576 < length old → HasTooMany places faces
   pieces_too_many many = record {
-    mesh = record { points = map (place_at places) old; faces = split };
+    mesh = record { points = map (place_in_list places) old; faces = split };
     prepared = record {
       names = names;
       joined = pieces.joined;
       old = old;
-      split = subst (λ (gs : List Corners). IsSplit (net_of gs) split old) pieces.stay_is pieces.split_is;
+      split = subst (λ (gs : List Corners). IsSplitMesh (net_of gs) split old) pieces.stay_is pieces.split_is;
       stand = refl;
     };
-    many = omega (arith, length-map old (place_at places), many);
+    many = omega (arith, length-map old (place_in_list places), many);
   }

@@ -6,25 +6,25 @@ use Rattle.std.proofs.lemmas.Bool.{cases_Bool, cond-true, cond-false, true≢fal
 use Rattle.std.proofs.lemmas.List.{drop_more, drop_all, get_or_default, append-nil, append_assoc}
 use Rattle.std.proofs.lemmas.List.Elements.{All-head, All-tail}
 use Rattle.pm_base.specs.declared.mesh.Corners.{Corners}
-use Rattle.pm_base.specs.Place.{Place}
+use Rattle.pm_base.specs.Place.{Place, origin}
 use Rattle.obj_prepare.specs.declared.extents.PointBox.{PointBox}
 use Rattle.obj_prepare.specs.declared.placing.Fit.{Fit}
 use Rattle.obj_prepare.specs.declared.placing.Fit.TheVariants as fits
 use Rattle.obj_prepare.specs.Exact.{lower, upper}
-use Rattle.obj_prepare.specs.Boxes.{box_of, least, greatest}
-use Rattle.obj_prepare.specs.Whole.{stands}
+use Rattle.obj_prepare.specs.Boxes.{box_of_points, least_of_places, greatest_of_places}
+use Rattle.obj_prepare.specs.Whole.{stands_on_grid}
 use Rattle.obj_prepare.specs.Named.{chosen, named_in}
-use Rattle.obj_prepare.specs.Placing.{origin, frame_of, fit_for, Suits, placed, places_by, IsSize, fit_of, places_of}
+use Rattle.obj_prepare.specs.Placing.{frame_of, fit_for, Suits, placed, places_by, IsSize, fit_of, prepared_places_of}
 use Rattle.obj_prepare.proofs.BoxLaws.{box_has}
 use Rattle.obj_prepare.proofs.NamedLaws.{length-named_in}
 
 -- The box of what one has and of more points.
 abbrev pub frame_after : Option PointBox → List Place → Option PointBox
 frame_after None ps = frame_of ps
-frame_after (Some b) ps = Some (record { low = least b.low ps; high = greatest b.high ps })
+frame_after (Some b) ps = Some (record { low = least_of_places b.low ps; high = greatest_of_places b.high ps })
 
 pub frame_more : (frame : Option PointBox) (p : Place) (ps : List Place) (b : PointBox)
-    → MatchOption frame (b ≡ box_of p []) (λ a. b ≡ record { low = lower a.low p; high = upper a.high p }) → frame_after (Some b) ps ≡ frame_after frame (p ∷ ps)
+    → MatchOption frame (b ≡ box_of_points p []) (λ a. b ≡ record { low = lower a.low p; high = upper a.high p }) → frame_after (Some b) ps ≡ frame_after frame (p ∷ ps)
 frame_more None p ps b is = ap (λ a. frame_after (Some a) ps) is
 frame_more (Some a) p ps b is = ap (λ a. frame_after (Some a) ps) is
 
@@ -33,19 +33,19 @@ frame_ends None = refl
 frame_ends (Some b) = refl
 
 -- Points of which all stand, one by one.
-all_stand_each : (ps : List Place) → list_all stands ps ≡ true → All (λ p. stands p ≡ true) ps
+all_stand_each : (ps : List Place) → list_all stands_on_grid ps ≡ true → All (λ p. stands_on_grid p ≡ true) ps
 all_stand_each [] h k d l = absurd (omega (arith, l))
-all_stand_each (p ∷ ps) h zero d l = (and_parts (stands p) (list_all stands ps) h).0
-all_stand_each (p ∷ ps) h (suc k) d l = all_stand_each ps (and_parts (stands p) (list_all stands ps) h).1 k d (omega (arith, l))
+all_stand_each (p ∷ ps) h zero d l = (and_parts (stands_on_grid p) (list_all stands_on_grid ps) h).0
+all_stand_each (p ∷ ps) h (suc k) d l = all_stand_each ps (and_parts (stands_on_grid p) (list_all stands_on_grid ps) h).1 k d (omega (arith, l))
 
 -- Each point suits the way in which all are brought onto the grid.
 pub fit_suits : (size : Option ℕ) (ps : List Place) → IsSize size → All (Suits (fit_for size ps)) ps
 fit_suits size [] is k d l = absurd (omega (arith, l))
 fit_suits (Some n) (p ∷ ps) is k d l = (is.1, box_has p ps k d l)
 fit_suits None (p ∷ ps) is k d l =
-    elim (cases_Bool (list_all stands (p ∷ ps))) [
-      | inl t ↦ subst (λ fit. Suits fit (get_or (p ∷ ps) k d)) (sym (cond-true (list_all stands (p ∷ ps)) fits.Standing (fits.Scaled 32767 (box_of p ps)) t)) (all_stand_each (p ∷ ps) t k d l)
-      | inr e ↦ subst (λ fit. Suits fit (get_or (p ∷ ps) k d)) (sym (cond-false (list_all stands (p ∷ ps)) fits.Standing (fits.Scaled 32767 (box_of p ps)) e)) (omega arith, box_has p ps k d l)
+    elim (cases_Bool (list_all stands_on_grid (p ∷ ps))) [
+      | inl t ↦ subst (λ fit. Suits fit (get_or (p ∷ ps) k d)) (sym (cond-true (list_all stands_on_grid (p ∷ ps)) fits.Standing (fits.Scaled 32767 (box_of_points p ps)) t)) (all_stand_each (p ∷ ps) t k d l)
+      | inr e ↦ subst (λ fit. Suits fit (get_or (p ∷ ps) k d)) (sym (cond-false (list_all stands_on_grid (p ∷ ps)) fits.Standing (fits.Scaled 32767 (box_of_points p ps)) e)) (omega arith, box_has p ps k d l)
     ]
 
 -- A point whose flag is set is one of the chosen.
@@ -65,7 +65,7 @@ length-places_by fit (f ∷ flags) [] same = absurd (omega (arith, same))
 length-places_by fit (f ∷ flags) (p ∷ ps) same = ap suc (length-places_by fit flags ps (omega (arith, same)))
 
 -- Each point has a place.
-pub length-places_of : (size : Option ℕ) (points : List Place) (faces : List Corners) → length (places_of size points faces) ≡ length points
+pub length-places_of : (size : Option ℕ) (points : List Place) (faces : List Corners) → length (prepared_places_of size points faces) ≡ length points
 length-places_of size points faces = length-places_by (fit_of size points faces) (named_in faces (length points)) points (length-named_in faces (length points))
 
 -- What is left of flags and points, one step on.
@@ -77,20 +77,20 @@ module _ (flags : List Bool) (ps : List Place) (i : ℕ) (p : Place) (same : len
   flag_is F b is = rest F ∙ ap (λ f. F (f ∷ drop (i + 1) flags) (p ∷ drop (i + 1) ps)) is
 
   pub frame_on : (frame : Option PointBox) (b : PointBox) (r : Option PointBox) → get_or flags i false ≡ true
-      → MatchOption frame (b ≡ box_of p []) (λ a. b ≡ record { low = lower a.low p; high = upper a.high p })
+      → MatchOption frame (b ≡ box_of_points p []) (λ a. b ≡ record { low = lower a.low p; high = upper a.high p })
       → frame_after frame (chosen (drop i flags) (drop i ps)) ≡ r → frame_after (Some b) (chosen (drop (i + 1) flags) (drop (i + 1) ps)) ≡ r
   frame_on frame b r is grown left =
       frame_more frame p (chosen (drop (i + 1) flags) (drop (i + 1) ps)) b grown ∙ sym (flag_is (λ bs qs. frame_after frame (chosen bs qs)) true is) ∙ left
 
-  pub stand_on : (r : Bool) → get_or flags i false ≡ true → stands p ≡ true
-      → list_all stands (chosen (drop i flags) (drop i ps)) ≡ r → list_all stands (chosen (drop (i + 1) flags) (drop (i + 1) ps)) ≡ r
+  pub stand_on : (r : Bool) → get_or flags i false ≡ true → stands_on_grid p ≡ true
+      → list_all stands_on_grid (chosen (drop i flags) (drop i ps)) ≡ r → list_all stands_on_grid (chosen (drop (i + 1) flags) (drop (i + 1) ps)) ≡ r
   stand_on r is good left =
-      sym (flag_is (λ bs qs. list_all stands (chosen bs qs)) true is ∙ ap (λ b. b && list_all stands (chosen (drop (i + 1) flags) (drop (i + 1) ps))) good) ∙ left
+      sym (flag_is (λ bs qs. list_all stands_on_grid (chosen bs qs)) true is ∙ ap (λ b. b && list_all stands_on_grid (chosen (drop (i + 1) flags) (drop (i + 1) ps))) good) ∙ left
 
-  pub stand_fails : (r : Bool) → get_or flags i false ≡ true → stands p ≡ false
-      → list_all stands (chosen (drop i flags) (drop i ps)) ≡ r → false ≡ r
+  pub stand_fails : (r : Bool) → get_or flags i false ≡ true → stands_on_grid p ≡ false
+      → list_all stands_on_grid (chosen (drop i flags) (drop i ps)) ≡ r → false ≡ r
   stand_fails r is bad left =
-      sym (flag_is (λ bs qs. list_all stands (chosen bs qs)) true is ∙ ap (λ b. b && list_all stands (chosen (drop (i + 1) flags) (drop (i + 1) ps))) bad) ∙ left
+      sym (flag_is (λ bs qs. list_all stands_on_grid (chosen bs qs)) true is ∙ ap (λ b. b && list_all stands_on_grid (chosen (drop (i + 1) flags) (drop (i + 1) ps))) bad) ∙ left
 
   pub place_on : (fit : Fit) (before more r : List Place) → get_or flags i false ≡ true → more ≡ before ++ placed fit p ∷ []
       → before ++ places_by fit (drop i flags) (drop i ps) ≡ r → more ++ places_by fit (drop (i + 1) flags) (drop (i + 1) ps) ≡ r
@@ -109,8 +109,8 @@ module _ (flags : List Bool) (ps : List Place) (i : ℕ) (same : length flags �
   frame_past frame r is left = sym (off (λ bs qs. frame_after frame (chosen bs qs)) is) ∙ left
 
   pub stand_past : (r : Bool) → get_or flags i false ≡ false
-      → list_all stands (chosen (drop i flags) (drop i ps)) ≡ r → list_all stands (chosen (drop (i + 1) flags) (drop (i + 1) ps)) ≡ r
-  stand_past r is left = sym (off (λ bs qs. list_all stands (chosen bs qs)) is) ∙ left
+      → list_all stands_on_grid (chosen (drop i flags) (drop i ps)) ≡ r → list_all stands_on_grid (chosen (drop (i + 1) flags) (drop (i + 1) ps)) ≡ r
+  stand_past r is left = sym (off (λ bs qs. list_all stands_on_grid (chosen bs qs)) is) ∙ left
 
   pub place_past : (fit : Fit) (before more r : List Place) → get_or flags i false ≡ false → more ≡ before ++ origin ∷ []
       → before ++ places_by fit (drop i flags) (drop i ps) ≡ r → more ++ places_by fit (drop (i + 1) flags) (drop (i + 1) ps) ≡ r
@@ -127,8 +127,8 @@ module _ (flags : List Bool) (ps : List Place) (i : ℕ) (same : length flags �
   pub frame_done : (frame r : Option PointBox) → frame_after frame (chosen (drop i flags) (drop i ps)) ≡ r → frame ≡ r
   frame_done frame r left = sym (none_left (λ bs qs. frame_after frame (chosen bs qs)) ∙ frame_ends frame) ∙ left
 
-  pub stand_done : (r : Bool) → list_all stands (chosen (drop i flags) (drop i ps)) ≡ r → true ≡ r
-  stand_done r left = sym (none_left (λ bs qs. list_all stands (chosen bs qs))) ∙ left
+  pub stand_done : (r : Bool) → list_all stands_on_grid (chosen (drop i flags) (drop i ps)) ≡ r → true ≡ r
+  stand_done r left = sym (none_left (λ bs qs. list_all stands_on_grid (chosen bs qs))) ∙ left
 
   pub place_done : (fit : Fit) (before r : List Place) → before ++ places_by fit (drop i flags) (drop i ps) ≡ r → before ≡ r
   place_done fit before r left = sym (ap (λ xs. before ++ xs) (none_left (places_by fit)) ∙ append-nil before) ∙ left

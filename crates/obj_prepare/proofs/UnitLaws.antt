@@ -7,7 +7,7 @@ use Rattle.std.proofs.lemmas.List.Folds.{list_all-append}
 use Rattle.pm_io.specs.Digits.{is_digit, are_digits, value}
 use Rattle.pm_io.proofs.DigitLaws.{value_cut}
 use Rattle.obj_read.specs.Coordinates.{is_negative, whole_part, decimals, is_number}
-use Rattle.obj_prepare.specs.Numbers.{shifted, mantissa, exponent_text, is_decimal, exponent, all_digits, units}
+use Rattle.obj_prepare.specs.Numbers.{shifted, mantissa, exponent_text, is_decimal, exponent, all_digits, units_of_text}
 use Rattle.obj_prepare.proofs.DigitLaws.{value_append, value_below, nearest_zero}
 use Rattle.obj_prepare.proofs.RoundLaws.{zeros_cut, shifted_is}
 
@@ -84,23 +84,23 @@ decimals_digits number is = (and_parts _ _ (and_parts _ _ (and_parts _ _ is).0).
 
 pub units_forward : (number xs ys : List ℕ) (power n : ℕ) → xs ≡ whole_part (mantissa number) → ys ≡ decimals (mantissa number) → is_negative (exponent_text number) ≡ false → power ≡ exponent number
     → ((up down : ℕ) → length xs + 18 + power + down ≡ length (xs ++ ys) + up → min n (10 ^ 32 + 1) ≡ min (shifted (value 0 (xs ++ ys)) up down) (10 ^ 32 + 1))
-    → min n (10 ^ 32 + 1) ≡ min (units number) (10 ^ 32 + 1)
-unfolding units all_digits
+    → min n (10 ^ 32 + 1) ≡ min (units_of_text number) (10 ^ 32 + 1)
+unfolding units_of_text all_digits
 units_forward number xs ys power n a b sign is each =
     let len = length-append xs ys in
     rw (sign, sym is, sym a, sym b) (each (18 + power) (length ys) (omega (arith, len)))
 
 pub units_back : (number xs ys : List ℕ) (power n : ℕ) → xs ≡ whole_part (mantissa number) → ys ≡ decimals (mantissa number) → is_negative (exponent_text number) ≡ true → power ≡ exponent number → power ≤ length xs + 18
     → ((up down : ℕ) → length xs + 18 - power + down ≡ length (xs ++ ys) + up → min n (10 ^ 32 + 1) ≡ min (shifted (value 0 (xs ++ ys)) up down) (10 ^ 32 + 1))
-    → min n (10 ^ 32 + 1) ≡ min (units number) (10 ^ 32 + 1)
-unfolding units all_digits
+    → min n (10 ^ 32 + 1) ≡ min (units_of_text number) (10 ^ 32 + 1)
+unfolding units_of_text all_digits
 units_back number xs ys power n a b sign is within each =
     let len = length-append xs ys in
     rw (sign, sym is, sym a, sym b) (each 18 (length ys + power) (omega (arith, len, within)))
 
 pub units_none : (number xs ys : List ℕ) (power : ℕ) → xs ≡ whole_part (mantissa number) → ys ≡ decimals (mantissa number) → is_negative (exponent_text number) ≡ true → power ≡ exponent number → is_decimal number ≡ true → length xs + 18 < power
-    → 0 ≡ min (units number) (10 ^ 32 + 1)
-unfolding units all_digits
+    → 0 ≡ min (units_of_text number) (10 ^ 32 + 1)
+unfolding units_of_text all_digits
 units_none number xs ys power a b sign is fit past =
     let len = length-append xs ys in
     let all = subst (λ (l : List ℕ). are_digits l ≡ true) (sym a) (whole_digits number fit) in

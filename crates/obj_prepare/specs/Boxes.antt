@@ -16,17 +16,17 @@ abbrev pub off_middle : ℤ → ℤ → ℤ → ℤ
 off_middle n low high = (n +ℤ n) -ℤ (low +ℤ high)
 
 -- The least coordinates of a point and a list, axis by axis, and the greatest.
-abbrev pub least : Place → List Place → Place
-least p [] = p
-least p (q ∷ qs) = least (lower p q) qs
+abbrev pub least_of_places : Place → List Place → Place
+least_of_places p [] = p
+least_of_places p (q ∷ qs) = least_of_places (lower p q) qs
 
-abbrev pub greatest : Place → List Place → Place
-greatest p [] = p
-greatest p (q ∷ qs) = greatest (upper p q) qs
+abbrev pub greatest_of_places : Place → List Place → Place
+greatest_of_places p [] = p
+greatest_of_places p (q ∷ qs) = greatest_of_places (upper p q) qs
 
 -- The box of a point and a list.
-abbrev pub box_of : Place → List Place → PointBox
-box_of p ps = record { low = least p ps; high = greatest p ps }
+abbrev pub box_of_points : Place → List Place → PointBox
+box_of_points p ps = record { low = least_of_places p ps; high = greatest_of_places p ps }
 
 -- A point is in a box.
 pub record IsInBox (b : PointBox) (p : Place) : Type 0 where

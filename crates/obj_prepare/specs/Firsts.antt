@@ -6,8 +6,8 @@ use Rattle.std.specs.BTreeMap.{BTreeMap, get}
 use Rattle.pm_base.specs.declared.limits.TheConstants.{GREATEST_COORDINATE}
 use Rattle.pm_base.specs.declared.mesh.Corners.{Corners}
 use Rattle.pm_base.specs.Place.{Place, IsPlace}
-use Rattle.obj_prepare.specs.Named.{is_named}
-use Rattle.obj_prepare.specs.Joining.{place_at}
+use Rattle.obj_prepare.specs.Named.{is_some_corner}
+use Rattle.obj_prepare.specs.Joining.{place_in_list}
 
 -- How far a coordinate is above the least one.
 abbrev pub raised : ℤ → ℕ
@@ -20,14 +20,14 @@ place_key p = (raised p.x * 65536 + raised p.y) * 65536 + raised p.z
 -- Of the first n vertices v is the first that a face names where the place has this key.
 pub record IsFirstOf (places : List Place) (faces : List Corners) (n key v : ℕ) : Type 0 where
   pub in_range : v < n
-  pub named : is_named faces v ≡ true
-  pub place : IsPlace (place_at places v)
-  pub has : place_key (place_at places v) ≡ key
-  pub least : (w : ℕ) → w < v → is_named faces w ≡ true → place_key (place_at places w) ≢ key
+  pub named : is_some_corner faces v ≡ true
+  pub place : IsPlace (place_in_list places v)
+  pub has : place_key (place_in_list places v) ≡ key
+  pub least : (w : ℕ) → w < v → is_some_corner faces w ≡ true → place_key (place_in_list places w) ≢ key
 
 -- None of the first n vertices that a face names is at a place with this key.
 abbrev pub HasNone : List Place → List Corners → ℕ → ℕ → Type 0
-HasNone places faces n key = (w : ℕ) → w < n → is_named faces w ≡ true → place_key (place_at places w) ≢ key
+HasNone places faces n key = (w : ℕ) → w < n → is_some_corner faces w ≡ true → place_key (place_in_list places w) ≢ key
 
 -- The map has the first of the first n vertices for each key.
 abbrev pub AreFirsts : List Place → List Corners → ℕ → BTreeMap ℕ ℕ → Type 0

@@ -8,8 +8,8 @@ use Rattle.pm_base.specs.Sides.{net_of}
 use Rattle.pm_base.specs.Fans.{IsUsed, IsOrientedManifold}
 use Rattle.pm_fans.specs.Splits.{AllStand}
 use Rattle.obj_prepare.specs.declared.notes.Notes.{Notes}
-use Rattle.obj_prepare.specs.Named.{AreCorners, IsWithin}
-use Rattle.obj_prepare.specs.Joining.{place_at}
+use Rattle.obj_prepare.specs.Named.{AreVerticesBelow, IsWithinMesh}
+use Rattle.obj_prepare.specs.Joining.{place_in_list}
 use Rattle.obj_prepare.specs.Prepared.{IsPrepared, IsPreparedWith}
 
 -- One mesh is prepared of placed vertices and triangles.
@@ -23,12 +23,12 @@ NotesAreOne = (places : List Place) (faces : List Corners) (m n : Mesh) (notes o
 -- Each vertex is used, and no two stand at one place.
 pub record AreFit (places : List Place) (faces : List Corners) : Type 0 where
   pub used : (v : ℕ) → v < length places → IsUsed (net_of faces) v
-  pub apart : (v w : ℕ) → v < length places → w < length places → v ≢ w → place_at places v ≢ place_at places w
+  pub apart : (v w : ℕ) → v < length places → w < length places → v ≢ w → place_in_list places v ≢ place_in_list places w
 
 -- An oriented manifold of such vertices comes back as it is.
 abbrev pub FitMeshesStay : Type 0
-FitMeshesStay = (places : List Place) (faces : List Corners) → IsWithin (length places) faces → AllStand (net_of faces) → IsOrientedManifold (net_of faces) → AreFit places faces → IsPrepared places faces (record { points = places; faces = faces })
+FitMeshesStay = (places : List Place) (faces : List Corners) → IsWithinMesh (length places) faces → AllStand (net_of faces) → IsOrientedManifold (net_of faces) → AreFit places faces → IsPrepared places faces (record { points = places; faces = faces })
 
 -- What is made of placed vertices and triangles, prepared again, is itself.
 abbrev pub PreparedStays : Type 0
-PreparedStays = (places : List Place) (faces : List Corners) (m : Mesh) → All (AreCorners (length places)) faces → IsPrepared places faces m → IsPrepared m.points m.faces m
+PreparedStays = (places : List Place) (faces : List Corners) (m : Mesh) → All (AreVerticesBelow (length places)) faces → IsPrepared places faces m → IsPrepared m.points m.faces m

@@ -40,8 +40,8 @@ unfoldable pub shifted : ℕ → ℕ → ℕ → ℕ
 shifted n up down = if nat_lt up down then nearest n (10 ^ (down - up)) else n * 10 ^ (up - down)
 
 -- The number in units.
-unfoldable pub units : List ℕ → ℕ
-units number =
+unfoldable pub units_of_text : List ℕ → ℕ
+units_of_text number =
     if is_negative (exponent_text number) then shifted (all_digits number) 18 (length (decimals (mantissa number)) + exponent number)
     else shifted (all_digits number) (18 + exponent number) (length (decimals (mantissa number)))
 
@@ -49,5 +49,5 @@ units number =
 unfoldable pub decimal_coordinate : List ℕ → Result ℤ ObjFault
 decimal_coordinate field =
     if not (is_decimal (without_sign field)) then Err faults.BadNumber
-    else if nat_lt 999 (exponent (without_sign field)) || nat_lt (10 ^ 32) (units (without_sign field)) then Err faults.OutOfRange
-    else Ok (with_sign (is_negative field) (units (without_sign field)))
+    else if nat_lt 999 (exponent (without_sign field)) || nat_lt (10 ^ 32) (units_of_text (without_sign field)) then Err faults.OutOfRange
+    else Ok (with_sign (is_negative field) (units_of_text (without_sign field)))

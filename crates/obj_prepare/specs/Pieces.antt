@@ -4,7 +4,7 @@ use Rattle.pm_base.specs.declared.mesh.Corners.{Corners}
 use Rattle.pm_base.specs.Place.{Place}
 use Rattle.pm_base.specs.Sides.{net_of}
 use Rattle.pm_base.specs.Counts.{count}
-use Rattle.pm_fans.specs.Orders.{IsSplit}
+use Rattle.pm_fans.specs.Orders.{IsSplitMesh}
 use Rattle.obj_prepare.specs.Joining.{AreJoined, joined_faces}
 use Rattle.obj_prepare.specs.Prepared.{staying}
 
@@ -13,7 +13,7 @@ pub record ArePieces (places : List Place) (faces : List Corners) (names : List 
   pub joined : AreJoined places faces names
   pub renamed_is : renamed ≡ joined_faces names faces
   pub stay_is : stay ≡ staying names faces
-  pub split_is : IsSplit (net_of stay) split old
+  pub split_is : IsSplitMesh (net_of stay) split old
 
 -- How many of the first n flags are set, and how many vertices among them have another one that stands for them.
 unfoldable pub set_below : List Bool → ℕ → ℕ

@@ -3,37 +3,34 @@ use Rattle.std.specs.Prelude.{◌≡◌, ℕ, ◌≤◌, Bool, true, List, [], �
 use Rattle.std.specs.List.{list_all}
 use Rattle.pm_base.specs.declared.limits.TheConstants.{GREATEST_COORDINATE}
 use Rattle.pm_base.specs.declared.mesh.Corners.{Corners}
-use Rattle.pm_base.specs.Place.{Place}
+use Rattle.pm_base.specs.Place.{Place, origin}
 use Rattle.obj_prepare.specs.declared.extents.PointBox.{PointBox}
 use Rattle.obj_prepare.specs.declared.placing.Fit.{Fit}
 use Rattle.obj_prepare.specs.declared.placing.Fit.TheVariants as fits
-use Rattle.obj_prepare.specs.Boxes.{box_of, scaled, IsInBox}
-use Rattle.obj_prepare.specs.Whole.{stands, whole}
+use Rattle.obj_prepare.specs.Boxes.{box_of_points, scaled, IsInBox}
+use Rattle.obj_prepare.specs.Whole.{stands_on_grid, whole_part_of}
 use Rattle.obj_prepare.specs.Named.{named_in, chosen}
-
-abbrev pub origin : Place
-origin = record { x = pos 0; y = pos 0; z = pos 0 }
 
 -- The box of points, if there are any.
 abbrev pub frame_of : List Place → Option PointBox
 frame_of [] = None
-frame_of (p ∷ ps) = Some (box_of p ps)
+frame_of (p ∷ ps) = Some (box_of_points p ps)
 
 -- How points are brought onto the grid: as they stand, where no size is given and all fit, and else by their box. The size
 -- is the greatest coordinate where none is given.
 abbrev pub fit_for : Option ℕ → List Place → Fit
 fit_for size [] = fits.Standing
-fit_for None (p ∷ ps) = if list_all stands (p ∷ ps) then fits.Standing else fits.Scaled GREATEST_COORDINATE (box_of p ps)
-fit_for (Some size) (p ∷ ps) = fits.Scaled size (box_of p ps)
+fit_for None (p ∷ ps) = if list_all stands_on_grid (p ∷ ps) then fits.Standing else fits.Scaled GREATEST_COORDINATE (box_of_points p ps)
+fit_for (Some size) (p ∷ ps) = fits.Scaled size (box_of_points p ps)
 
 -- A point that can be brought onto the grid so.
 abbrev pub Suits : Fit → Place → Type 0
-Suits fits.Standing p = stands p ≡ true
+Suits fits.Standing p = stands_on_grid p ≡ true
 Suits (fits.Scaled size frame) p = (size ≤ GREATEST_COORDINATE) × IsInBox frame p
 
 -- The place of a point.
 abbrev pub placed : Fit → Place → Place
-placed fits.Standing p = record { x = whole p.x; y = whole p.y; z = whole p.z }
+placed fits.Standing p = record { x = whole_part_of p.x; y = whole_part_of p.y; z = whole_part_of p.z }
 placed (fits.Scaled size frame) p = scaled size frame p
 
 -- The place of each point whose flag is set. The others, of which nothing is asked, stand at 0.
@@ -45,8 +42,8 @@ places_by fit _ _ = []
 abbrev pub fit_of : Option ℕ → List Place → List Corners → Fit
 fit_of size points faces = fit_for size (chosen (named_in faces (length points)) points)
 
-abbrev pub places_of : Option ℕ → List Place → List Corners → List Place
-places_of size points faces = places_by (fit_of size points faces) (named_in faces (length points)) points
+abbrev pub prepared_places_of : Option ℕ → List Place → List Corners → List Place
+prepared_places_of size points faces = places_by (fit_of size points faces) (named_in faces (length points)) points
 
 -- A size is from 1 to the greatest coordinate.
 abbrev pub IsSize : Option ℕ → Type 0

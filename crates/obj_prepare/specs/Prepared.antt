@@ -9,11 +9,11 @@ use Rattle.pm_base.specs.Meshes.{Mesh}
 use Rattle.pm_base.specs.Sides.{net_of}
 use Rattle.pm_base.specs.Counts.{count}
 use Rattle.pm_fans.specs.Kept.{is_flat, kept_of}
-use Rattle.pm_fans.specs.Orders.{IsSplit}
+use Rattle.pm_fans.specs.Orders.{IsSplitMesh}
 use Rattle.pm_fans.specs.Cuts.{cut_count}
 use Rattle.obj_prepare.specs.declared.notes.Notes.{Notes}
-use Rattle.obj_prepare.specs.Named.{is_named}
-use Rattle.obj_prepare.specs.Joining.{place_at, AreJoined, joined_faces}
+use Rattle.obj_prepare.specs.Named.{is_some_corner}
+use Rattle.obj_prepare.specs.Joining.{place_in_list, AreJoined, joined_faces}
 
 -- The faces that stay.
 abbrev pub staying : List ℕ → List Corners → List Corners
@@ -24,12 +24,12 @@ pub record IsPrepared (places : List Place) (faces : List Corners) (m : Mesh) : 
   pub joined : AreJoined places faces names
   -- the joined vertex of each vertex of m, where it stands
   pub old : List ℕ
-  pub split : IsSplit (net_of (staying names faces)) m.faces old
-  pub stand : m.points ≡ map (place_at places) old
+  pub split : IsSplitMesh (net_of (staying names faces)) m.faces old
+  pub stand : m.points ≡ map (place_in_list places) old
 
 -- How many vertices that a face names are joined to an earlier one.
 unfoldable pub joined_count : List ℕ → List Corners → ℕ
-joined_count names faces = count (λ v. is_named faces v && not (slice_index_or names v 0 == v)) (length names)
+joined_count names faces = count (λ v. is_some_corner faces v && not (slice_index_or names v 0 == v)) (length names)
 
 -- How many faces became edges, and how many have the corners of an earlier one.
 unfoldable pub flat_count : List ℕ → List Corners → ℕ
@@ -40,11 +40,11 @@ double_count names faces = length faces - flat_count names faces - length (stayi
 
 -- How many vertices no face names.
 unfoldable pub unnamed_count : ℕ → List Corners → ℕ
-unnamed_count vertices faces = count (λ v. not (is_named faces v)) vertices
+unnamed_count vertices faces = count (λ v. not (is_some_corner faces v)) vertices
 
 -- How many more vertices there are than the faces that stay had.
 unfoldable pub split_count : List ℕ → List Corners → List ℕ → ℕ
-split_count names faces old = length old - count (is_named (staying names faces)) (length names)
+split_count names faces old = length old - count (is_some_corner (staying names faces)) (length names)
 
 -- What was done, in numbers.
 pub record AreNotes (places : List Place) (faces : List Corners) (names old : List ℕ) (notes : Notes) : Type 0 where

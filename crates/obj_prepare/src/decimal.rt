@@ -3,7 +3,7 @@
 ghost use Rattle.std.specs.Prelude.{◌≡◌, ◌≤◌, ◌^◌, ◌+◌, min, true, length, IfOk, unsigned_abs};
 ghost use Rattle.pm_io.specs.Digits.{are_digits};
 ghost use Rattle.obj_read.specs.Coordinates.{with_sign};
-ghost use Rattle.obj_prepare.specs.Numbers.{mantissa, exponent_part, exponent_text, is_exponent, is_decimal, exponent, units, decimal_coordinate};
+ghost use Rattle.obj_prepare.specs.Numbers.{mantissa, exponent_part, exponent_text, is_exponent, is_decimal, exponent, units_of_text, decimal_coordinate};
 
 use crate::digits::{GREATEST, rounded};
 use obj_lines::until;
@@ -70,7 +70,7 @@ fn units(number: &[u8], power: usize) -> u128
     requires number { is_decimal number.now ≡ true }
     requires power { power ≡ exponent number.now }
     requires small { power ≤ 999 }
-    ensures { min result (10 ^ 32 + 1) ≡ min (units number.now) (10 ^ 32 + 1) }
+    ensures { min result (10 ^ 32 + 1) ≡ min (units_of_text number.now) (10 ^ 32 + 1) }
 {
     let front = whole_part(mantissa(number));
     let back = decimals(mantissa(number));

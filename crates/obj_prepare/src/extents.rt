@@ -1,7 +1,7 @@
 //! The box of points, and their places on the grid.
 ghost use Rattle.std.specs.Prelude.{◌≡◌, ◌≤◌, ◌<◌, ◌*◌, ◌^◌, ℤ, ◌+ℤ◌, ◌-ℤ◌, ◌≤ℤ◌, unsigned_abs};
 ghost use Rattle.pm_base.specs.declared.limits.TheConstants.{GREATEST_COORDINATE};
-ghost use Rattle.obj_prepare.specs.Boxes.{along, off_middle, box_of, extent, scaled, IsInBox};
+ghost use Rattle.obj_prepare.specs.Boxes.{along, off_middle, box_of_points, extent, scaled, IsInBox};
 
 use crate::exact::ExactPoint;
 use crate::scale::along;
@@ -16,7 +16,7 @@ pub struct PointBox {
 
 /// The box of a point and more.
 pub fn box_of(first: &ExactPoint, rest: &[ExactPoint]) -> PointBox
-    ensures { result ≡ box_of first.now rest.now }
+    ensures { result ≡ box_of_points first.now rest.now }
 {
     let mut low = *first;
     let mut high = *first;

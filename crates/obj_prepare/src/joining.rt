@@ -3,7 +3,7 @@ ghost use Rattle.std.specs.Prelude.{◌≡◌, ◌<◌, ◌≤◌, ◌+◌, List
 ghost use Rattle.pm_base.specs.declared.limits.TheConstants.{GREATEST_COORDINATE, MOST_VERTICES};
 ghost use Rattle.pm_base.specs.declared.mesh.Corners.{Corners as FaceCorners};
 ghost use Rattle.pm_base.specs.Place.{IsPlace};
-ghost use Rattle.obj_prepare.specs.Named.{AreCorners, IsWithin, is_named};
+ghost use Rattle.obj_prepare.specs.Named.{AreVerticesBelow, IsWithinMesh, is_some_corner};
 ghost use Rattle.obj_prepare.specs.Joining.{AreJoined, IsFirstAt, renamed as renamed_of, joined_faces as joined_faces_of};
 ghost use Rattle.obj_prepare.specs.Firsts.{raised as raised_of, place_key as place_key_of, AreFirsts};
 
@@ -24,7 +24,7 @@ pub(crate) fn joined(
     places: &[Point],
     faces: &[Corners],
 ) -> Result<Vec<u32>, OutOfMemory>
-    requires { IsWithin (length places.now) faces.now }
+    requires { IsWithinMesh (length places.now) faces.now }
     ensures { IfOk result (λ names. AreJoined places.now faces.now names.items) }
 {
     let named = named(alloc, places.len(), faces)?;
@@ -46,9 +46,9 @@ fn first_at(firsts: &mut BTreeMap<u64, u32>, places: &[Point], v: usize) -> Resu
     requires few { length places.now ≤ MOST_VERTICES }
     requires in_range { v < length places.now }
     ensures first { (faces : List FaceCorners) → AreFirsts places.now faces v firsts.old
-        → is_named faces v ≡ true → IfOk result (IsFirstAt places.now faces v) }
+        → is_some_corner faces v ≡ true → IfOk result (IsFirstAt places.now faces v) }
     ensures noted { (faces : List FaceCorners) → AreFirsts places.now faces v firsts.old
-        → is_named faces v ≡ true → OnOk result (AreFirsts places.now faces (v + 1) firsts.new) }
+        → is_some_corner faces v ≡ true → OnOk result (AreFirsts places.now faces (v + 1) firsts.new) }
 {
     let key = place_key(&places[v]);
     if let Some(&first) = firsts.get(&key) {
@@ -84,7 +84,7 @@ pub(crate) fn joined_faces(
     names: &[u32],
     faces: &[Corners],
 ) -> Result<Vec<Corners>, OutOfMemory>
-    requires { IsWithin (length names.now) faces.now }
+    requires { IsWithinMesh (length names.now) faces.now }
     ensures { IfOk result (λ fs. fs.items ≡ joined_faces_of names.now faces.now) }
 {
     let mut joined = Vec::new(alloc);
@@ -95,7 +95,7 @@ pub(crate) fn joined_faces(
 }
 
 fn renamed(names: &[u32], face: Corners) -> Corners
-    requires { AreCorners (length names.now) face }
+    requires { AreVerticesBelow (length names.now) face }
     ensures { result ≡ renamed_of names.now face }
 {
     Corners {

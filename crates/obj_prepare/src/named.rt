@@ -1,7 +1,7 @@
 //! The vertices that a face names.
 ghost use Rattle.std.specs.Prelude.{◌≡◌, ℕ, List, [], ◌∷◌, ◌++◌, length, IfOk};
 ghost use Rattle.pm_base.specs.declared.mesh.Corners.{Corners as FaceCorners};
-ghost use Rattle.obj_prepare.specs.Named.{AreCorners, IsWithin, named_in};
+ghost use Rattle.obj_prepare.specs.Named.{AreVerticesBelow, IsWithinMesh, named_in};
 
 use crate::OutOfMemory;
 use pm_base::Corners;
@@ -14,7 +14,7 @@ pub(crate) fn named(
     vertices: usize,
     faces: &[Corners],
 ) -> Result<Vec<bool>, OutOfMemory>
-    requires { IsWithin vertices faces.now }
+    requires { IsWithinMesh vertices faces.now }
     ensures { IfOk result (λ flags. flags.items ≡ named_in faces.now vertices) }
 {
     let mut flags = unnamed(alloc, vertices)?;
@@ -35,7 +35,7 @@ fn unnamed(alloc: Global, vertices: usize) -> Result<Vec<bool>, OutOfMemory>
 // Sets the flags of the corners of one more face.
 #[tactic(auto, using(crate::proofs::NamedLaws::corners_named))]
 fn name_corners(flags: &mut Vec<bool>, face: Corners)
-    requires { AreCorners (length flags.old.items) face }
+    requires { AreVerticesBelow (length flags.old.items) face }
     ensures { (before : List FaceCorners) (n : ℕ) → flags.old.items ≡ named_in before n
         → flags.new.items ≡ named_in (before ++ face ∷ []) n }
 {

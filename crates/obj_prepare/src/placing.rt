@@ -1,11 +1,11 @@
 //! Points come to stand on the grid.
 ghost use Rattle.std.specs.Prelude.{◌≡◌, [], length, IfOk, MatchOption};
 ghost use Rattle.std.specs.List.{All, list_all};
-ghost use Rattle.obj_prepare.specs.Boxes.{box_of};
+ghost use Rattle.obj_prepare.specs.Boxes.{box_of_points};
 ghost use Rattle.obj_prepare.specs.Exact.{lower, upper};
-ghost use Rattle.obj_prepare.specs.Named.{IsWithin, chosen};
-ghost use Rattle.obj_prepare.specs.Placing.{IsSize, Suits, frame_of, fit_for, fit_of, placed, places_by, places_of};
-ghost use Rattle.obj_prepare.specs.Whole.{stands};
+ghost use Rattle.obj_prepare.specs.Named.{IsWithinMesh, chosen};
+ghost use Rattle.obj_prepare.specs.Placing.{IsSize, Suits, frame_of, fit_for, fit_of, placed, places_by, prepared_places_of};
+ghost use Rattle.obj_prepare.specs.Whole.{stands_on_grid};
 
 use crate::extents::{PointBox, point, scaled};
 use crate::named::named;
@@ -40,9 +40,9 @@ pub fn place_points(
     faces: &[Corners],
 ) -> Result<Placing, OutOfMemory>
     requires size { IsSize size }
-    requires within { IsWithin (length points.now) faces.now }
+    requires within { IsWithinMesh (length points.now) faces.now }
     ensures fit { IfOk result (λ p. p.fit ≡ fit_of size points.now faces.now) }
-    ensures places { IfOk result (λ p. p.places.items ≡ places_of size points.now faces.now) }
+    ensures places { IfOk result (λ p. p.places.items ≡ prepared_places_of size points.now faces.now) }
 {
     let named = named(alloc, points.len(), faces)?;
     let fit = fit_for(size, &named, points);
@@ -87,7 +87,7 @@ fn frame_of(named: &[bool], points: &[ExactPoint]) -> Option<PointBox>
 
 // A box with one point more, or the box of that point alone.
 fn grown(frame: Option<PointBox>, p: &ExactPoint) -> PointBox
-    ensures { MatchOption frame (result ≡ box_of p.now [])
+    ensures { MatchOption frame (result ≡ box_of_points p.now [])
         (λ b. result ≡ record { low = lower b.low p.now; high = upper b.high p.now }) }
 {
     match frame {
@@ -103,7 +103,7 @@ fn grown(frame: Option<PointBox>, p: &ExactPoint) -> PointBox
 #[tactic(auto, using(crate::proofs::PlacingLaws::stand_on, crate::proofs::PlacingLaws::stand_past, crate::proofs::PlacingLaws::stand_fails, crate::proofs::PlacingLaws::stand_done))]
 fn all_stand(named: &[bool], points: &[ExactPoint]) -> bool
     requires { length named.now ≡ length points.now }
-    ensures { result ≡ list_all stands (chosen named.now points.now) }
+    ensures { result ≡ list_all stands_on_grid (chosen named.now points.now) }
 {
     for at in 0..points.len() {
         if named[at] && !stands(&points[at]) {

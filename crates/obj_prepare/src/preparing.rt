@@ -4,8 +4,8 @@ ghost use Rattle.pm_base.specs.Meshes.{IsWellFormed, mesh_of};
 ghost use Rattle.pm_base.specs.Sides.{net_of};
 ghost use Rattle.pm_base.specs.Fans.{IsOrientedManifold};
 ghost use Rattle.std.specs.List.{All};
-ghost use Rattle.obj_prepare.specs.Named.{IsWithin};
-ghost use Rattle.obj_prepare.specs.Joining.{place_at};
+ghost use Rattle.obj_prepare.specs.Named.{IsWithinMesh};
+ghost use Rattle.obj_prepare.specs.Joining.{place_in_list};
 ghost use Rattle.obj_prepare.specs.Prepared.{IsPreparedWith, AreNotes, HasTooMany};
 ghost use Rattle.obj_prepare.specs.PrepareFails.{IsPrepareFail};
 ghost use Rattle.obj_prepare.specs.Pieces.{ArePieces};
@@ -45,7 +45,7 @@ struct Pieces {
 }
 
 fn cut_up(alloc: Global, places: &[Point], faces: &[Corners]) -> Result<Pieces, OutOfMemory>
-    requires { IsWithin (length places.now) faces.now }
+    requires { IsWithinMesh (length places.now) faces.now }
     ensures { IfOk result (λ p. ArePieces places.now faces.now p.names.items p.renamed.items p.stay.items p.split.faces.items p.split.old.items) }
 {
     let names = joined(alloc, places, faces)?;
@@ -67,7 +67,7 @@ fn count_up(
     faces: &[Corners],
     p: &Pieces,
 ) -> Result<Notes, OutOfMemory>
-    requires within { IsWithin (length places.now) faces.now }
+    requires within { IsWithinMesh (length places.now) faces.now }
     requires pieces { ArePieces places.now faces.now p.now.names.items p.now.renamed.items p.now.stay.items p.now.split.faces.items p.now.split.old.items }
     requires few { length p.now.split.old.items ≤ MOST_VERTICES }
     ensures { IfOk result (λ notes. AreNotes places.now faces.now p.now.names.items p.now.split.old.items notes) }
@@ -102,7 +102,7 @@ fn held<T: Copy>(alloc: Global, items: &[T]) -> Result<Items<T>, OutOfMemory>
 // The points where the joined vertices stand of which the new ones come.
 fn points_of(alloc: Global, places: &[Point], old: &[u32]) -> Result<Points, OutOfMemory>
     requires { All (λ v. v < length places.now) old.now }
-    ensures { IfOk result (λ points. points.items ≡ map (place_at places.now) old.now) }
+    ensures { IfOk result (λ points. points.items ≡ map (place_in_list places.now) old.now) }
 {
     let mut points = Points::new(alloc);
     points.reserve(old.len())?;
@@ -114,7 +114,7 @@ fn points_of(alloc: Global, places: &[Point], old: &[u32]) -> Result<Points, Out
 
 fn mesh_of_split(alloc: Global, places: &[Point], split: &Split) -> Result<Mesh, OutOfMemory>
     requires { All (λ v. v < length places.now) split.now.old.items }
-    ensures points { IfOk result (λ m. m.points.items ≡ map (place_at places.now) split.now.old.items) }
+    ensures points { IfOk result (λ m. m.points.items ≡ map (place_in_list places.now) split.now.old.items) }
     ensures faces { IfOk result (λ m. m.faces.items ≡ split.now.faces.items) }
 {
     let points = points_of(alloc, places, &split.old)?;
@@ -126,7 +126,7 @@ fn mesh_of_split(alloc: Global, places: &[Point], split: &Split) -> Result<Mesh,
 /// became edges, and those whose three corners an earlier one has; the surface is cut open along every side that stands
 /// twice or has two twins, and each vertex is split into what is left of its fans. O(F log F) for F triangles.
 pub fn prepare(alloc: Global, places: &[Point], faces: &[Corners]) -> Result<Prepared, PrepareFail>
-    requires { IsWithin (length places.now) faces.now }
+    requires { IsWithinMesh (length places.now) faces.now }
     ensures ok { IfOk result (λ p. IsPreparedWith places.now faces.now (mesh_of p.mesh) p.notes) }
     ensures formed { IfOk result (λ p. IsWellFormed (mesh_of p.mesh)) }
     ensures manifold { IfOk result (λ p. IsOrientedManifold (net_of p.mesh.faces.items)) }

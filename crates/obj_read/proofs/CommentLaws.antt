@@ -11,7 +11,7 @@ use Rattle.obj_read.specs.declared.fault.ObjFault.TheVariants as faults
 use Rattle.obj_read.specs.declared.found.Found.{Found}
 use Rattle.obj_read.specs.declared.found.Found.TheVariants as found
 use Rattle.obj_read.specs.Judged.{line_found}
-use Rattle.obj_read.specs.Meaning.{SoFar, nothing_yet, judged, and_line, then_lines, meaning_from, meaning_of}
+use Rattle.obj_read.specs.Meaning.{SoFar, nothing_yet, read_alone, and_line, then_lines, meaning_from, meaning_of}
 use Rattle.obj_read.specs.Texts.{CommentIsSkipped, CommentedIsRead}
 use Rattle.obj_read.proofs.CanonicalLaws.{reads_line, length_canonical, canonical_is_read}
 
@@ -23,19 +23,19 @@ abbrev moved : SoFar → ℕ → ℕ → SoFar
 moved s bytes number = standing s.digits bytes number s.mesh
 
 -- A line without a fault has none there, where the text doesn't get too long.
-judged_case : (s : SoFar) (bytes number : ℕ) (line : List ℕ) (f : Found) (b : Bool) → nat_lt 1073741824 (s.bytes + min (length line) 65537) ≡ b → bytes + length line ≤ 1073741824 → judged s line ≡ Ok f
-    → judged (moved s bytes number) line ≡ Ok f
-unfolding judged
+judged_case : (s : SoFar) (bytes number : ℕ) (line : List ℕ) (f : Found) (b : Bool) → nat_lt 1073741824 (s.bytes + min (length line) 65537) ≡ b → bytes + length line ≤ 1073741824 → read_alone s line ≡ Ok f
+    → read_alone (moved s bytes number) line ≡ Ok f
+unfolding read_alone
 judged_case s bytes number line f true past within is = let e : Err faults.TooMany ≡ Ok f = rw past at is in cc
 judged_case s bytes number line f false past within is =
     let short : nat_lt 1073741824 (bytes + min (length line) 65537) ≡ false = le-ltb _ _ (omega (arith, within)) in
     rw short (rw past at is)
 
-judged_moved : (s : SoFar) (bytes number : ℕ) (line : List ℕ) (f : Found) → bytes + length line ≤ 1073741824 → judged s line ≡ Ok f → judged (moved s bytes number) line ≡ Ok f
+judged_moved : (s : SoFar) (bytes number : ℕ) (line : List ℕ) (f : Found) → bytes + length line ≤ 1073741824 → read_alone s line ≡ Ok f → read_alone (moved s bytes number) line ≡ Ok f
 judged_moved s bytes number line f within is = judged_case s bytes number line f (nat_lt 1073741824 (s.bytes + min (length line) 65537)) refl within is
 
 -- Lines that spell a mesh spell it there too.
-then_moved : (s : SoFar) (bytes number : ℕ) (line : List ℕ) (ls : List (List ℕ)) (m : Mesh) (r : Result Found ObjFault) → judged s line ≡ r → bytes + length (line ++ concat ls) ≤ 1073741824
+then_moved : (s : SoFar) (bytes number : ℕ) (line : List ℕ) (ls : List (List ℕ)) (m : Mesh) (r : Result Found ObjFault) → read_alone s line ≡ r → bytes + length (line ++ concat ls) ≤ 1073741824
     → ((t : SoFar) (b n : ℕ) → b + length (concat ls) ≤ 1073741824 → meaning_from t ls ≡ Ok m → meaning_from (moved t b n) ls ≡ Ok m)
     → then_lines r s line (λ t. meaning_from t ls) ≡ Ok m → meaning_from (moved s bytes number) (line ∷ ls) ≡ Ok m
 unfolding and_line
@@ -48,7 +48,7 @@ then_moved s bytes number line ls m (Err e) judges within more is = cc
 meaning_moved : (s : SoFar) (bytes number : ℕ) (ls : List (List ℕ)) (m : Mesh) → bytes + length (concat ls) ≤ 1073741824 → meaning_from s ls ≡ Ok m → meaning_from (moved s bytes number) ls ≡ Ok m
 meaning_moved s bytes number [] m within is = is
 meaning_moved s bytes number (line ∷ ls) m within is =
-    then_moved s bytes number line ls m (judged s line) refl within (λ t b n fits spells. meaning_moved t b n ls m fits spells) is
+    then_moved s bytes number line ls m (read_alone s line) refl within (λ t b n fits spells. meaning_moved t b n ls m fits spells) is
 
 nothing_found : (d n k : ℕ) → line_found d n k [] ≡ Ok found.Nothing
 unfolding line_found is_continued

@@ -13,7 +13,7 @@ use Rattle.obj_lines.proofs.PlainLaws.{is_plain, are_plain, IsReadWhole, plain_t
 use Rattle.obj_read.specs.declared.found.Found.{Found}
 use Rattle.obj_read.specs.declared.found.Found.TheVariants as found
 use Rattle.obj_read.specs.Fields.{is_blank, begins_blank, onto_field, fields}
-use Rattle.obj_read.specs.Judged.{vertex_of, face_of, fields_found, line_found}
+use Rattle.obj_read.specs.Judged.{vertex_of, face_read, fields_found, line_found}
 use Rattle.obj_read.proofs.WordLaws.{is_inner, are_inner, IsWord, inner_filled, word_plain, coordinate_word, decimal_word, written_index}
 use Rattle.obj_read.proofs.WrittenLaws.{written_is_read}
 
@@ -105,7 +105,7 @@ point_written d n k p few room place =
     (rw (written_is_read d p.x few in_x, written_is_read d p.y few in_y, written_is_read d p.z few in_z, lt-leb 1048576 n room) refl)
 
 pub face_written : (d n k : ℕ) (f : Corners) → n ≤ 1048576 → k < 1048576 → IsFace n f → IsWritten d n k (corner_line f) (found.Face f)
-unfolding corner_line face_of
+unfolding corner_line face_read
 face_written d n k f most room is =
     let x = decimal (f.a + 1) in
     let y = decimal (f.b + 1) in

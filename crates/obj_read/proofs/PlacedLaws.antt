@@ -14,9 +14,9 @@ use Rattle.obj_read.specs.declared.found.Found.TheVariants as found
 use Rattle.obj_read.specs.Fields.{fields}
 use Rattle.obj_read.specs.Coordinates.{with_sign, without_sign, is_negative, is_number, are_zeros, decimals, magnitude, coordinate}
 use Rattle.obj_read.specs.Indices.{index, index_text}
-use Rattle.obj_read.specs.Judged.{vertex_of, face_of, vertex_line, face_line, fields_found, line_found}
+use Rattle.obj_read.specs.Judged.{vertex_of, face_read, vertex_line, face_line, fields_found, line_found}
 use Rattle.obj_read.specs.Fits.{with_found}
-use Rattle.obj_read.specs.Meaning.{SoFar, Refused, nothing_yet, is_past, is_long, judged, and_line, then_lines, meaning_from, meaning_of}
+use Rattle.obj_read.specs.Meaning.{SoFar, Refused, nothing_yet, is_past, is_long, read_alone, and_line, then_lines, meaning_from, meaning_of}
 use Rattle.obj_read.proofs.DecimalLaws.{with_sign_abs}
 use Rattle.obj_read.proofs.FormedLaws.{Gives, given, anything, then_gives, unless, either}
 
@@ -49,8 +49,8 @@ vertex_placed d n x y z =
     let v = found.Vertex (record { x = a; y = b; z = c }) in
     unless IsPlaced (nat_le 1048576 n) faults.TooMany (Ok v) (λ room. given IsPlaced v (small_a, small_b, small_c)))))
 
-face_placed : (n k : ℕ) (x y z : List ℕ) → Gives IsPlaced (face_of n k x y z)
-unfolding face_of IsPlaced
+face_placed : (n k : ℕ) (x y z : List ℕ) → Gives IsPlaced (face_read n k x y z)
+unfolding face_read IsPlaced
 face_placed n k x y z =
     then_gives _ _ _ _ (anything (index n (index_text x))) (λ a known_a. then_gives _ _ _ _ (anything (index n (index_text y))) (λ b known_b. then_gives _ _ _ _ (anything (index n (index_text z))) (λ c known_c.
     let f = found.Face (record { a = a; b = b; c = c }) in
@@ -82,8 +82,8 @@ line_placed : (d n k : ℕ) (line : List ℕ) → Gives IsPlaced (line_found d n
 unfolding line_found
 line_placed d n k line = unless _ _ _ _ (λ ends. fields_placed d n k (fields line))
 
-judged_placed : (s : SoFar) (line : List ℕ) → Gives IsPlaced (judged s line)
-unfolding judged
+judged_placed : (s : SoFar) (line : List ℕ) → Gives IsPlaced (read_alone s line)
+unfolding read_alone
 judged_placed s line =
     let found = line_found s.digits (length s.mesh.points) (length s.mesh.faces) (content (until 10 line)) in
     unless IsPlaced (is_past s.bytes (length line)) faults.TooMany (if is_long line then Err faults.LineTooLong else found)
@@ -107,7 +107,7 @@ then_lines_placed (Err e) s line more is placed keeps = tt
 meaning_from_placed : (s : SoFar) (ls : List (List ℕ)) → ArePlaced s.mesh → IfOk (meaning_from s ls) ArePlaced
 meaning_from_placed s [] placed = placed
 meaning_from_placed s (line ∷ more) placed =
-    then_lines_placed (judged s line) s line (λ t. meaning_from t more) (judged_placed s line) placed (λ t keeps. meaning_from_placed t more keeps)
+    then_lines_placed (read_alone s line) s line (λ t. meaning_from t more) (judged_placed s line) placed (λ t keeps. meaning_from_placed t more keeps)
 
 pub meaning_placed : (digits : ℕ) (bytes : List ℕ) (m : Mesh) → meaning_of digits bytes ≡ Ok m → All IsPlace m.points
 unfolding meaning_of

@@ -23,8 +23,8 @@ vertex_of digits vertices a b c = coordinate digits a >>= λ x. coordinate digit
     else Ok (found.Vertex (record { x = x; y = y; z = z }))
 
 -- The face with these three fields.
-unfoldable pub face_of : ℕ → ℕ → List ℕ → List ℕ → List ℕ → Result Found ObjFault
-face_of vertices faces x y z = index vertices (index_text x) >>= λ a. index vertices (index_text y) >>= λ b. index vertices (index_text z) >>= λ c.
+unfoldable pub face_read : ℕ → ℕ → List ℕ → List ℕ → List ℕ → Result Found ObjFault
+face_read vertices faces x y z = index vertices (index_text x) >>= λ a. index vertices (index_text y) >>= λ b. index vertices (index_text z) >>= λ c.
     if a == b || b == c || c == a then Err faults.RepeatedCorner
     else if nat_le MOST_FACES faces then Err faults.TooMany
     else Ok (found.Face (record { a = a; b = b; c = c }))
@@ -36,7 +36,7 @@ vertex_line digits vertices _ = Err faults.TooFewFields
 
 -- The fields after `f`.
 abbrev pub face_line : ℕ → ℕ → List (List ℕ) → Result Found ObjFault
-face_line vertices faces (a ∷ b ∷ c ∷ []) = face_of vertices faces a b c
+face_line vertices faces (a ∷ b ∷ c ∷ []) = face_read vertices faces a b c
 face_line vertices faces (a ∷ b ∷ c ∷ d ∷ more) = Err faults.NotTriangle
 face_line vertices faces _ = Err faults.TooFewFields
 

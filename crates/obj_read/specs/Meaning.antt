@@ -38,8 +38,8 @@ abbrev pub is_ended : List ℕ → Bool
 is_ended line = nat_lt (length (until 10 line)) (length line)
 
 -- A line judged alone, given how many decimals a coordinate has, and how many bytes, vertices and faces stand before it.
-unfoldable pub judged : SoFar → List ℕ → Result Found ObjFault
-judged s line =
+unfoldable pub read_alone : SoFar → List ℕ → Result Found ObjFault
+read_alone s line =
     if is_past s.bytes (length line) then Err faults.TooMany
     else if is_long line then Err faults.LineTooLong
     else line_found s.digits (length s.mesh.points) (length s.mesh.faces) (content (until 10 line))
@@ -64,7 +64,7 @@ then_lines (Err e) s line more = Err (record { fault = e; line = s.number; place
 
 abbrev pub meaning_from : SoFar → List (List ℕ) → Result Mesh Refused
 meaning_from s [] = Ok s.mesh
-meaning_from s (line ∷ more) = then_lines (judged s line) s line (λ t. meaning_from t more)
+meaning_from s (line ∷ more) = then_lines (read_alone s line) s line (λ t. meaning_from t more)
 
 -- Before the first line.
 abbrev pub nothing_yet : ℕ → SoFar

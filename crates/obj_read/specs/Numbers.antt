@@ -3,14 +3,14 @@ use Rattle.std.specs.Prelude.{ℕ}
 use Rattle.obj_read.specs.declared.fault.ObjFault.{ObjFault}
 use Rattle.obj_read.specs.declared.fault.ObjFault.TheVariants as faults
 
-abbrev pub number_of : ObjFault → ℕ
-number_of faults.LineTooLong = 1
-number_of faults.Continuation = 2
-number_of faults.TooFewFields = 3
-number_of faults.BadNumber = 4
-number_of faults.NotWhole = 5
-number_of faults.OutOfRange = 6
-number_of faults.BadIndex = 7
-number_of faults.NotTriangle = 8
-number_of faults.TooMany = 9
-number_of faults.RepeatedCorner = 10
+abbrev pub fault_number : ObjFault → ℕ
+fault_number faults.LineTooLong = 1
+fault_number faults.Continuation = 2
+fault_number faults.TooFewFields = 3
+fault_number faults.BadNumber = 4
+fault_number faults.NotWhole = 5
+fault_number faults.OutOfRange = 6
+fault_number faults.BadIndex = 7
+fault_number faults.NotTriangle = 8
+fault_number faults.TooMany = 9
+fault_number faults.RepeatedCorner = 10

@@ -1,6 +1,6 @@
 //! The faults of an OBJ text, and why none was read.
 ghost use Rattle.std.specs.Prelude.{◌≡◌};
-ghost use Rattle.obj_read.specs.Numbers.{number_of};
+ghost use Rattle.obj_read.specs.Numbers.{fault_number};
 
 use thiserror::Error;
 
@@ -33,7 +33,7 @@ pub enum ObjFault {
 impl ObjFault {
     /// The number by which programs tell the fault: from 1 to 10.
     pub fn number(self) -> u32
-        ensures { result ≡ number_of self }
+        ensures { result ≡ fault_number self }
     {
         match self {
             ObjFault::LineTooLong => 1,

@@ -1,7 +1,7 @@
 //! A line judged alone: what it gives, or its first fault.
 ghost use Rattle.std.specs.Prelude.{◌≡◌, ◌≤◌, IfOk};
 ghost use Rattle.obj_read.specs.Fields.{fields};
-ghost use Rattle.obj_read.specs.Judged.{vertex_of, face_of, vertex_line, face_line, fields_found, line_found};
+ghost use Rattle.obj_read.specs.Judged.{vertex_of, face_read, vertex_line, face_line, fields_found, line_found};
 ghost use Rattle.obj_read.specs.Fits.{Fits};
 
 use crate::coordinate::coordinate;
@@ -38,9 +38,9 @@ fn vertex_of(
     }
 }
 
-#[tactic(auto, unfolding(crate::specs::Judged::face_of))]
+#[tactic(auto, unfolding(crate::specs::Judged::face_read))]
 fn face_of(vertices: u32, faces: u32, a: &[u8], b: &[u8], c: &[u8]) -> Result<Found, ObjFault>
-    ensures value { result ≡ face_of vertices faces a.now b.now c.now }
+    ensures value { result ≡ face_read vertices faces a.now b.now c.now }
     ensures fits { IfOk result (Fits vertices faces) }
 {
     let a = index(vertices, a)?;

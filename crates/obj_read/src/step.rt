@@ -6,11 +6,11 @@ ghost use Rattle.pm_io.specs.Bytes.{AtEnd};
 ghost use Rattle.pm_io.specs.Causes.{HasCause};
 ghost use Rattle.obj_lines.specs.Feeding.{open_line};
 ghost use Rattle.obj_lines.specs.Text.{lines as lines_of};
-ghost use Rattle.obj_read.specs.Fails.{IsFaultOf, IsRefused, Explains, of_source};
+ghost use Rattle.obj_read.specs.Fails.{IsLineFault, IsRefused, Explains, of_source};
 ghost use Rattle.obj_read.specs.Fits.{with_found};
 ghost use Rattle.obj_read.specs.Judged.{line_found};
 ghost use Rattle.obj_read.specs.Meaning.{meaning_from};
-ghost use Rattle.obj_read.specs.Reading.{Gives, IsReady, IsReading, so_far};
+ghost use Rattle.obj_read.specs.Reading.{Gives, IsReadyToRead, IsReading, read_so_far};
 
 use crate::OutOfMemory;
 use crate::fault::{ObjFail, ObjFault};
@@ -45,7 +45,7 @@ fn take_line(mesh: &mut Mesh, digits: u32, text: &[u8], number: u32) -> Result<(
     requires formed { IsWellFormed (mesh_of mesh.old) }
     ensures ok { OnOk result (Gives digits (mesh_of mesh.old) text.now (mesh_of mesh.new)) }
     ensures mesh { OnOk result (IsWellFormed (mesh_of mesh.new)) }
-    ensures fault { IfErr result (λ e. IsFaultOf e number (line_found digits (length mesh.old.points.items) (length mesh.old.faces.items) text.now)) }
+    ensures fault { IfErr result (λ e. IsLineFault e number (line_found digits (length mesh.old.points.items) (length mesh.old.faces.items) text.now)) }
 {
     match line_found(
         digits,
@@ -75,8 +75,8 @@ pub fn step<S: Source>(
     progress: &mut Progress,
 ) -> Result<bool, ObjFail>
     requires few { digits ≤ 4 }
-    requires ready { IsReady lines.old (mesh_of mesh.old) progress.old }
-    ensures ready { OnOk result (IsReady lines.new (mesh_of mesh.new) progress.new) }
+    requires ready { IsReadyToRead lines.old (mesh_of mesh.old) progress.old }
+    ensures ready { OnOk result (IsReadyToRead lines.new (mesh_of mesh.new) progress.new) }
     ensures reads_on { (whole : Option (List ℕ)) → IsReading digits whole taker.old (S.left source.old) progress.old (mesh_of mesh.old) lines.old
         → OnOk result (IsReading digits whole taker.new (S.left source.new) progress.new (mesh_of mesh.new) lines.new) }
     ensures more { IfOk result (λ more. more ≡ true → progress.old.taken < progress.new.taken) }
@@ -121,10 +121,10 @@ pub fn step<S: Source>(
 /// At the end of input: the last line, where one is open.
 pub fn finish(digits: u32, mesh: Mesh, lines: Lines, progress: Progress) -> Result<Mesh, ObjFail>
     requires few { digits ≤ 4 }
-    requires ready { IsReady lines (mesh_of mesh) progress }
-    ensures ok { IfOk result (λ m. meaning_from (so_far digits progress (mesh_of mesh)) (lines_of (open_line lines)) ≡ Ok (mesh_of m)) }
+    requires ready { IsReadyToRead lines (mesh_of mesh) progress }
+    ensures ok { IfOk result (λ m. meaning_from (read_so_far digits progress (mesh_of mesh)) (lines_of (open_line lines)) ≡ Ok (mesh_of m)) }
     ensures mesh { IfOk result (λ m. IsWellFormed (mesh_of m)) }
-    ensures err { IfErr result (λ e. IsRefused e (meaning_from (so_far digits progress (mesh_of mesh)) (lines_of (open_line lines)))) }
+    ensures err { IfErr result (λ e. IsRefused e (meaning_from (read_so_far digits progress (mesh_of mesh)) (lines_of (open_line lines)))) }
 {
     let mut mesh = mesh;
     let mut lines = lines;

@@ -13,24 +13,24 @@ use Rattle.obj_lines.proofs.FedLaws.{end_none, end_some}
 use Rattle.obj_read.specs.declared.fault.ObjFault.{ObjFault}
 use Rattle.obj_read.specs.declared.fault.ObjFail.{ObjFail}
 use Rattle.obj_read.specs.declared.fault.ObjFail.TheVariants as fails
-use Rattle.obj_read.specs.Fails.{IsFaultOf, IsRefusal, IsRefused}
+use Rattle.obj_read.specs.Fails.{IsLineFault, IsRefusal, IsRefused}
 use Rattle.obj_read.proofs.FinishLaws.{start, is_last}
 use Rattle.obj_read.specs.Meaning.{Refused}
 use Rattle.obj_scan.specs.Judged.{Scanned}
-use Rattle.obj_prepare.specs.Named.{AreCorners}
-use Rattle.obj_scan.specs.Meaning.{SoFar, at_end, meaning_from, meaning_of}
-use Rattle.obj_scan.specs.Reading.{Held, StandsAt, IsScanning, IsReady, taken, nothing_held, so_far, after_lines}
-use Rattle.obj_scan.specs.Fails.{Explains}
+use Rattle.obj_prepare.specs.Named.{AreVerticesBelow}
+use Rattle.obj_scan.specs.Meaning.{ScannedSoFar, at_end, scan_meaning_from, scan_meaning_of}
+use Rattle.obj_scan.specs.Reading.{HeldLines, ScanStandsAt, IsScanning, IsReadyToScan, taken, nothing_held, scanned_so_far, after_lines}
+use Rattle.obj_scan.specs.Fails.{ExplainsScan}
 use Rattle.obj_scan.proofs.StandLaws.{stands_start}
 use Rattle.obj_scan.proofs.JudgeLaws.{held_in, then_taken, judged_line}
 
 none_scanning : IsScanning nothing_held.scanned
 none_scanning = record {
-  within = record { points = omega arith; faces = omega arith; corners = All-nil (AreCorners 0) };
+  within = record { points = omega arith; faces = omega arith; corners = All-nil (AreVerticesBelow 0) };
   polygons = omega arith;
 }
 
-pub start_ready : (f : Feeding) (h : Held) → f ≡ begun → h ≡ nothing_held → IsReady f h start
+pub start_ready : (f : Feeding) (h : HeldLines) → f ≡ begun → h ≡ nothing_held → IsReadyToScan f h start
 start_ready f h is empty =
     let line : open_line f ≡ [] = ap open_line is in
     let long = ap length line in
@@ -42,42 +42,42 @@ start_ready f h is empty =
       counted = ap (λ (x : Feeding). x.taken) is;
       room = omega arith;
       numbered = omega arith;
-      continued = subst (λ (x : Held). x.continued < 1) (sym empty) (omega arith);
-      scanned = subst (λ (x : Held). IsScanning x.scanned) (sym empty) none_scanning;
+      continued = subst (λ (x : HeldLines). x.continued < 1) (sym empty) (omega arith);
+      scanned = subst (λ (x : HeldLines). IsScanning x.scanned) (sym empty) none_scanning;
     }
 
-pub start_stands : (all : Option (List ℕ)) (window : List ℕ) (f : Feeding) (h : Held) → window ≡ [] → f ≡ begun → h ≡ nothing_held → StandsAt all (prepend_known window all) (so_far start h) (open_line f)
+pub start_stands : (all : Option (List ℕ)) (window : List ℕ) (f : Feeding) (h : HeldLines) → window ≡ [] → f ≡ begun → h ≡ nothing_held → ScanStandsAt all (prepend_known window all) (scanned_so_far start h) (open_line f)
 start_stands all window f h empty is held =
-    subst (λ (l : List ℕ). StandsAt all (prepend_known l all) (so_far start h) (open_line f)) (sym empty)
-    (subst (λ (l : List ℕ). StandsAt all (prepend_known [] all) (so_far start h) l) (sym (ap open_line is))
-    (subst (λ (x : Held). StandsAt all (prepend_known [] all) (so_far start x) []) (sym held) (stands_start all)))
+    subst (λ (l : List ℕ). ScanStandsAt all (prepend_known l all) (scanned_so_far start h) (open_line f)) (sym empty)
+    (subst (λ (l : List ℕ). ScanStandsAt all (prepend_known [] all) (scanned_so_far start h) l) (sym (ap open_line is))
+    (subst (λ (x : HeldLines). ScanStandsAt all (prepend_known [] all) (scanned_so_far start x) []) (sym held) (stands_start all)))
 
 -- At the end of input the open line is what is left.
-rest_is : (all now : Option (List ℕ)) (s : SoFar) (line : List ℕ) → StandsAt all now s line → AtEnd now → IfSome all (λ bytes. meaning_of bytes ≡ meaning_from s (lines line))
+rest_is : (all now : Option (List ℕ)) (s : ScannedSoFar) (line : List ℕ) → ScanStandsAt all now s line → AtEnd now → IfSome all (λ bytes. scan_meaning_of bytes ≡ scan_meaning_from s (lines line))
 rest_is None now s line stands end = tt
 rest_is (Some bytes) None s line stands end = let e = stands.same in cc
 rest_is (Some bytes) (Some rest) s line stands end =
     let same = stands.same in
-    let e : meaning_of bytes ≡ meaning_from s (lines (line ++ rest)) = cc in
-    e ∙ ap (λ (l : List ℕ). meaning_from s (lines (line ++ l))) end ∙ ap (λ (l : List ℕ). meaning_from s (lines l)) (append-nil line)
+    let e : scan_meaning_of bytes ≡ scan_meaning_from s (lines (line ++ rest)) = cc in
+    e ∙ ap (λ (l : List ℕ). scan_meaning_from s (lines (line ++ l))) end ∙ ap (λ (l : List ℕ). scan_meaning_from s (lines l)) (append-nil line)
 
-pub ended_ok : (all now : Option (List ℕ)) (s : SoFar) (line : List ℕ) (m : Scanned) → StandsAt all now s line → AtEnd now → meaning_from s (lines line) ≡ Ok m → IfSome all (λ bytes. meaning_of bytes ≡ Ok m)
+pub ended_ok : (all now : Option (List ℕ)) (s : ScannedSoFar) (line : List ℕ) (m : Scanned) → ScanStandsAt all now s line → AtEnd now → scan_meaning_from s (lines line) ≡ Ok m → IfSome all (λ bytes. scan_meaning_of bytes ≡ Ok m)
 ended_ok None now s line m stands end is = tt
 ended_ok (Some bytes) now s line m stands end is = rest_is (Some bytes) now s line stands end ∙ is
 
-pub ended_err : (all now left : Option (List ℕ)) (s : SoFar) (line : List ℕ) (fail : ObjFail) → StandsAt all now s line → AtEnd now → IsRefused fail (meaning_from s (lines line)) → Explains fail all left
+pub ended_err : (all now left : Option (List ℕ)) (s : ScannedSoFar) (line : List ℕ) (fail : ObjFail) → ScanStandsAt all now s line → AtEnd now → IsRefused fail (scan_meaning_from s (lines line)) → ExplainsScan fail all left
 ended_err all now left s line fails.Read stands end is = absurd is
 ended_err all now left s line fails.OutOfMemory stands end is = tt
 ended_err None now left s line (fails.Fault e n) stands end is = tt
 ended_err (Some bytes) now left s line (fails.Fault e n) stands end is = subst (IsRefusal e n) (sym (rest_is (Some bytes) now s line stands end)) is
 
 -- No line is open.
-pub last_none : (s : SoFar) (line : List ℕ) (state : LineState) → state ≡ end_state line → (state ≡ states.Partial) ⊎ (state ≡ states.TooLong) → meaning_from s (lines line) ≡ at_end s
-last_none s line state at (inl is) = ap (λ (l : List ℕ). meaning_from s (lines l)) (end_none line (ap is_line (sym at ∙ is)))
-last_none s line state at (inr is) = ap (λ (l : List ℕ). meaning_from s (lines l)) (end_none line (ap is_line (sym at ∙ is)))
+pub last_none : (s : ScannedSoFar) (line : List ℕ) (state : LineState) → state ≡ end_state line → (state ≡ states.Partial) ⊎ (state ≡ states.TooLong) → scan_meaning_from s (lines line) ≡ at_end s
+last_none s line state at (inl is) = ap (λ (l : List ℕ). scan_meaning_from s (lines l)) (end_none line (ap is_line (sym at ∙ is)))
+last_none s line state at (inr is) = ap (λ (l : List ℕ). scan_meaning_from s (lines l)) (end_none line (ap is_line (sym at ∙ is)))
 
 -- What is held of the last line, at the end of input.
-pub record IsLast (s : SoFar) (f f' : Feeding) (state : LineState) (held : List ℕ) : Type 0 where
+pub record IsLast (s : ScannedSoFar) (f f' : Feeding) (state : LineState) (held : List ℕ) : Type 0 where
   pub at : state ≡ end_state (open_line f)
   pub which : (state ≡ states.Whole) ⊎ (state ≡ states.Continued)
   pub finished : f' ≡ finished f
@@ -86,23 +86,23 @@ pub record IsLast (s : SoFar) (f f' : Feeding) (state : LineState) (held : List 
   pub within : s.bytes + length (open_line f) ≤ 1073741824
   pub is_text : held ≡ content f'.text
 
-judged_last : (s : SoFar) (f f' : Feeding) (state : LineState) (held : List ℕ) (r : Result Held ObjFault) → IsLast s f f' state held → taken (held_in s) held ≡ r
-    → meaning_from s (lines (open_line f)) ≡ then_taken r s (open_line f) (λ t. at_end t)
+judged_last : (s : ScannedSoFar) (f f' : Feeding) (state : LineState) (held : List ℕ) (r : Result HeldLines ObjFault) → IsLast s f f' state held → taken (held_in s) held ≡ r
+    → scan_meaning_from s (lines (open_line f)) ≡ then_taken r s (open_line f) (λ t. at_end t)
 judged_last s f f' state held r is takes =
     let e = end_some f (is_last (open_line f) state is.at is.which) in
     let h : held ≡ content (open_line f) = is.is_text ∙ ap (λ (x : Feeding). content x.text) is.finished ∙ ap content e.text in
-    ap (λ (l : List (List ℕ)). meaning_from s l) (lines_last (open_line f) is.clean e.some)
-    ∙ judged_line s (open_line f) (open_line f) (λ t. meaning_from t []) is.clean is.short is.within
+    ap (λ (l : List (List ℕ)). scan_meaning_from s l) (lines_last (open_line f) is.clean e.some)
+    ∙ judged_line s (open_line f) (open_line f) (λ t. scan_meaning_from t []) is.clean is.short is.within
     ∙ ap (λ x. then_taken x s (open_line f) (λ t. at_end t)) (ap (taken (held_in s)) (sym h) ∙ takes)
 
 -- The last line has no fault: what is so at the end comes after it.
-pub last_ok : (s : SoFar) (f f' : Feeding) (state : LineState) (held : List ℕ) (h : Held) → IsLast s f f' state held → taken (held_in s) held ≡ Ok h
-    → meaning_from s (lines (open_line f)) ≡ at_end (after_lines (s.bytes + length (open_line f)) (s.number + 1) h)
+pub last_ok : (s : ScannedSoFar) (f f' : Feeding) (state : LineState) (held : List ℕ) (h : HeldLines) → IsLast s f f' state held → taken (held_in s) held ≡ Ok h
+    → scan_meaning_from s (lines (open_line f)) ≡ at_end (after_lines (s.bytes + length (open_line f)) (s.number + 1) h)
 last_ok s f f' state held h is takes = judged_last s f f' state held (Ok h) is takes
 
 -- The last line has a fault.
-pub last_err : (s : SoFar) (f f' : Feeding) (state : LineState) (held : List ℕ) (fail : ObjFail) → IsLast s f f' state held
-    → IsFaultOf fail (s.number - s.continued) (taken (held_in s) held) → IsRefused fail (meaning_from s (lines (open_line f)))
+pub last_err : (s : ScannedSoFar) (f f' : Feeding) (state : LineState) (held : List ℕ) (fail : ObjFail) → IsLast s f f' state held
+    → IsLineFault fail (s.number - s.continued) (taken (held_in s) held) → IsRefused fail (scan_meaning_from s (lines (open_line f)))
 last_err s f f' state held fails.Read is fault = absurd fault
 last_err s f f' state held fails.OutOfMemory is fault = tt
 last_err s f f' state held (fails.Fault e n) is (line, found) = subst (IsRefusal e n) (sym (judged_last s f f' state held (Err e) is found)) (refl, sym line)

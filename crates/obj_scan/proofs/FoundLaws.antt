@@ -12,10 +12,10 @@ use Rattle.obj_read.specs.declared.found.Found.TheVariants as reads
 use Rattle.obj_read.specs.Coordinates.{coordinate}
 use Rattle.obj_read.specs.Fields.{fields, is_letter}
 use Rattle.obj_read.specs.Indices.{index, index_text}
-use Rattle.obj_read.specs.Judged.{vertex_of, face_of, vertex_line as read_vertex, face_line as read_face, fields_found as read_fields, line_found as read_line}
+use Rattle.obj_read.specs.Judged.{vertex_of, face_read, vertex_line as read_vertex, face_line as read_face, fields_found as read_fields, line_found as read_line}
 use Rattle.obj_read.specs.Fits.{with_found as with_read}
 use Rattle.obj_scan.specs.Polygons.{triangles}
-use Rattle.obj_scan.specs.Judged.{Found, polygon_of, vertex_line, face_line, fields_found, line_found, with_found}
+use Rattle.obj_scan.specs.Judged.{Found, polygon_of, scanned_vertex_line, polygon_line, scanned_fields, scanned_line, with_scanned}
 use Rattle.obj_scan.specs.Laws.{scaled_up, scanned_mesh}
 use Rattle.obj_scan.proofs.NumberLaws.{whole_in_units}
 
@@ -30,7 +30,7 @@ given (Ok f) = Ok (found_of f)
 given (Err e) = Err e
 
 vertex_case : (n : ℕ) (a b c : List ℕ) (more : List (List ℕ)) (f : ReadFound) (x y z : Result ℤ ObjFault) (full : Bool) → coordinate 0 a ≡ x → coordinate 0 b ≡ y → coordinate 0 c ≡ z → nat_le 1048576 n ≡ full
-    → vertex_of 0 n a b c ≡ Ok f → vertex_line n (a ∷ b ∷ c ∷ more) ≡ Ok (found_of f)
+    → vertex_of 0 n a b c ≡ Ok f → scanned_vertex_line n (a ∷ b ∷ c ∷ more) ≡ Ok (found_of f)
 unfolding vertex_of
 vertex_case n a b c more f (Err e) y z full p q r room is = let k = rw p at is in cc
 vertex_case n a b c more f (Ok x) (Err e) z full p q r room is = let k = rw (p, q) at is in cc
@@ -40,15 +40,15 @@ vertex_case n a b c more f (Ok x) (Ok y) (Ok z) false p q r room is =
     let k = rw (p, q, r, room) at is in
     rw (whole_in_units a x p, whole_in_units b y q, whole_in_units c z r, room) (ap given k)
 
-vertex_found : (n : ℕ) (more : List (List ℕ)) (f : ReadFound) → read_vertex 0 n more ≡ Ok f → vertex_line n more ≡ Ok (found_of f)
+vertex_found : (n : ℕ) (more : List (List ℕ)) (f : ReadFound) → read_vertex 0 n more ≡ Ok f → scanned_vertex_line n more ≡ Ok (found_of f)
 vertex_found n [] f is = cc
 vertex_found n (a ∷ []) f is = cc
 vertex_found n (a ∷ b ∷ []) f is = cc
 vertex_found n (a ∷ b ∷ c ∷ more) f is = vertex_case n a b c more f _ _ _ _ refl refl refl refl is
 
 face_case : (n k : ℕ) (x y z : List ℕ) (f : ReadFound) (a b c : Result ℕ ObjFault) (full : Bool) → index n (index_text x) ≡ a → index n (index_text y) ≡ b → index n (index_text z) ≡ c → nat_le 1048576 k ≡ full
-    → face_of n k x y z ≡ Ok f → face_line n k (x ∷ y ∷ z ∷ []) ≡ Ok (found_of f)
-unfolding face_of
+    → face_read n k x y z ≡ Ok f → polygon_line n k (x ∷ y ∷ z ∷ []) ≡ Ok (found_of f)
+unfolding face_read
 face_case n k x y z f (Err e) b c full p q r room is = let h = rw p at is in cc
 face_case n k x y z f (Ok a) (Err e) c full p q r room is = let h = rw (p, q) at is in cc
 face_case n k x y z f (Ok a) (Ok b) (Err e) full p q r room is = let h = rw (p, q, r) at is in cc
@@ -65,7 +65,7 @@ face_case n k x y z f (Ok a) (Ok b) (Ok c) full p q r room is =
         let within : nat_lt 1048576 (k + 1) ≡ false = le-ltb _ _ (omega (arith, some)) in
         rw within (ap given is)
 
-face_found : (n k : ℕ) (more : List (List ℕ)) (f : ReadFound) → read_face n k more ≡ Ok f → face_line n k more ≡ Ok (found_of f)
+face_found : (n k : ℕ) (more : List (List ℕ)) (f : ReadFound) → read_face n k more ≡ Ok f → polygon_line n k more ≡ Ok (found_of f)
 face_found n k [] f is = cc
 face_found n k (x ∷ []) f is = cc
 face_found n k (x ∷ y ∷ []) f is = cc
@@ -73,22 +73,22 @@ face_found n k (x ∷ y ∷ z ∷ []) f is = face_case n k x y z f _ _ _ _ refl 
 face_found n k (x ∷ y ∷ z ∷ w ∷ more) f is = cc
 
 keyword_case : (n k : ℕ) (keyword : List ℕ) (more : List (List ℕ)) (f : ReadFound) (v t : Bool) → is_letter 118 keyword ≡ v → is_letter 102 keyword ≡ t
-    → read_fields 0 n k (keyword ∷ more) ≡ Ok f → fields_found n k (keyword ∷ more) ≡ Ok (found_of f)
+    → read_fields 0 n k (keyword ∷ more) ≡ Ok f → scanned_fields n k (keyword ∷ more) ≡ Ok (found_of f)
 keyword_case n k keyword more f true t a b is = rw a (vertex_found n more f (rw a at is))
 keyword_case n k keyword more f false true a b is = rw (a, b) (face_found n k more f (rw (a, b) at is))
 keyword_case n k keyword more f false false a b is = let e = rw (a, b) at is in rw (a, b) (ap given e)
 
-fields_are_found : (n k : ℕ) (parts : List (List ℕ)) (f : ReadFound) → read_fields 0 n k parts ≡ Ok f → fields_found n k parts ≡ Ok (found_of f)
+fields_are_found : (n k : ℕ) (parts : List (List ℕ)) (f : ReadFound) → read_fields 0 n k parts ≡ Ok f → scanned_fields n k parts ≡ Ok (found_of f)
 fields_are_found n k [] f is = ap given is
 fields_are_found n k (keyword ∷ more) f is = keyword_case n k keyword more f _ _ refl refl is
 
 -- A line isn't continued, and what is read of it gives this.
 pub record IsFound (n k : ℕ) (text : List ℕ) (f : ReadFound) : Type 0 where
   pub ended : is_continued text ≡ false
-  pub gives : line_found n k text ≡ Ok (found_of f)
+  pub gives : scanned_line n k text ≡ Ok (found_of f)
 
 line_case : (n k : ℕ) (text : List ℕ) (f : ReadFound) (ends : Bool) → is_continued text ≡ ends → read_line 0 n k text ≡ Ok f → IsFound n k text f
-unfolding read_line line_found
+unfolding read_line scanned_line
 line_case n k text f true ends is = let e = rw ends at is in cc
 line_case n k text f false ends is = record { ended = ends; gives = fields_are_found n k (fields text) f (rw ends at is) }
 
@@ -96,7 +96,7 @@ pub line_is_found : (n k : ℕ) (text : List ℕ) (f : ReadFound) → read_line 
 line_is_found n k text f is = line_case n k text f (is_continued text) refl is
 
 -- It is put into what was scanned so far as it is put into the mesh.
-pub scanned_with : (m : Mesh) (f : ReadFound) → with_found (scanned_mesh m) (found_of f) ≡ scanned_mesh (with_read m f)
+pub scanned_with : (m : Mesh) (f : ReadFound) → with_scanned (scanned_mesh m) (found_of f) ≡ scanned_mesh (with_read m f)
 unfolding triangles
 scanned_with m reads.Nothing = refl
 scanned_with m (reads.Vertex p) = ap (λ points. record { points = points; faces = m.faces; polygons = 0 }) (sym (map-append scaled_up m.points (p ∷ [])))

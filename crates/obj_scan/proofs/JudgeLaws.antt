@@ -8,58 +8,58 @@ use Rattle.obj_read.specs.declared.fault.ObjFault.{ObjFault}
 use Rattle.obj_read.specs.declared.fault.ObjFault.TheVariants as faults
 use Rattle.obj_read.specs.Fails.{IsRefusal}
 use Rattle.obj_read.specs.Meaning.{Refused, place}
-use Rattle.obj_scan.specs.Judged.{Scanned, Found, line_found}
-use Rattle.obj_scan.specs.Meaning.{SoFar, joined_text, first_number, and_continued, and_line, judged_length, judged, then_lines, meaning_from}
-use Rattle.obj_scan.specs.Reading.{Held, after_lines, scanned_after, taken}
+use Rattle.obj_scan.specs.Judged.{Scanned, Found, scanned_line}
+use Rattle.obj_scan.specs.Meaning.{ScannedSoFar, joined_text, first_number, and_continued, and_scanned_line, judged_length, line_judged, then_scanned_lines, scan_meaning_from}
+use Rattle.obj_scan.specs.Reading.{HeldLines, after_lines, scanned_after, taken}
 
 -- What the lines before hold, and what is so after one line more.
-abbrev pub held_in : SoFar → Held
+abbrev pub held_in : ScannedSoFar → HeldLines
 held_in s = record { continued = s.continued; begun = s.begun; scanned = s.scanned }
 
-abbrev pub later : SoFar → List ℕ → Held → SoFar
+abbrev pub later : ScannedSoFar → List ℕ → HeldLines → ScannedSoFar
 later s line h = after_lines (s.bytes + length line) (s.number + 1) h
 
-abbrev pub then_taken : Result Held ObjFault → SoFar → List ℕ → (SoFar → Result Scanned Refused) → Result Scanned Refused
+abbrev pub then_taken : Result HeldLines ObjFault → ScannedSoFar → List ℕ → (ScannedSoFar → Result Scanned Refused) → Result Scanned Refused
 then_taken (Ok h) s line more = more (later s line h)
 then_taken (Err e) s line more = Err (record { fault = e; line = first_number s; place = place s.bytes line })
 
-judged_case : (s : SoFar) (text line : List ℕ) (more : SoFar → Result Scanned Refused) (long ends : Bool) (r : Result Found ObjFault) → until 10 line ≡ text
+judged_case : (s : ScannedSoFar) (text line : List ℕ) (more : ScannedSoFar → Result Scanned Refused) (long ends : Bool) (r : Result Found ObjFault) → until 10 line ≡ text
     → nat_lt 1073741824 (s.bytes + min (length line) 65537) ≡ false → nat_lt 65536 (length text) ≡ false → nat_lt 65536 (length (s.begun ++ content text)) ≡ long
-    → is_continued (content text) ≡ ends → line_found (length s.scanned.points) (length s.scanned.faces) (s.begun ++ content text) ≡ r
-    → then_lines (judged_length s line) (judged s line) s line more ≡ then_taken (taken (held_in s) (content text)) s line more
-unfolding judged_length judged joined_text and_continued and_line taken scanned_after
+    → is_continued (content text) ≡ ends → scanned_line (length s.scanned.points) (length s.scanned.faces) (s.begun ++ content text) ≡ r
+    → then_scanned_lines (judged_length s line) (line_judged s line) s line more ≡ then_taken (taken (held_in s) (content text)) s line more
+unfolding judged_length line_judged joined_text and_continued and_scanned_line taken scanned_after
 judged_case s text line more true ends r is past short long goes found = rw (is, past, short, long) refl
 judged_case s text line more false true r is past short long goes found = rw (is, past, short, long, goes) refl
 judged_case s text line more false false (Ok f) is past short long goes found = rw (is, past, short, long, goes, found) refl
 judged_case s text line more false false (Err e) is past short long goes found = rw (is, past, short, long, goes, found) refl
 
 -- A line that is neither too long nor past the end of the text is judged by what is read of it.
-pub judged_line : (s : SoFar) (text line : List ℕ) (more : SoFar → Result Scanned Refused) → until 10 line ≡ text → length text ≤ 65536 → s.bytes + length line ≤ 1073741824
-    → then_lines (judged_length s line) (judged s line) s line more ≡ then_taken (taken (held_in s) (content text)) s line more
+pub judged_line : (s : ScannedSoFar) (text line : List ℕ) (more : ScannedSoFar → Result Scanned Refused) → until 10 line ≡ text → length text ≤ 65536 → s.bytes + length line ≤ 1073741824
+    → then_scanned_lines (judged_length s line) (line_judged s line) s line more ≡ then_taken (taken (held_in s) (content text)) s line more
 judged_line s text line more is short within =
     judged_case s text line more _ _ _ is (le-ltb _ _ (omega (arith, within))) (le-ltb _ _ short) refl refl refl
 
 -- A line has a fault whatever follows its front.
-refused_first : (s : SoFar) (text rest : List ℕ) (f : First text rest) (r : Refused) → judged_length s (text ++ f.line) ≡ Some r → IsRefusal r.fault r.line (meaning_from s (lines (text ++ rest)))
+refused_first : (s : ScannedSoFar) (text rest : List ℕ) (f : First text rest) (r : Refused) → judged_length s (text ++ f.line) ≡ Some r → IsRefusal r.fault r.line (scan_meaning_from s (lines (text ++ rest)))
 refused_first s text rest f r is =
-    let all : meaning_from s (lines (text ++ rest)) ≡ Err r =
-    ap (λ (l : List (List ℕ)). meaning_from s l) f.are ∙ ap (λ o. then_lines o (judged s (text ++ f.line)) s (text ++ f.line) (λ t. meaning_from t f.more)) is in
+    let all : scan_meaning_from s (lines (text ++ rest)) ≡ Err r =
+    ap (λ (l : List (List ℕ)). scan_meaning_from s l) f.are ∙ ap (λ o. then_scanned_lines o (line_judged s (text ++ f.line)) s (text ++ f.line) (λ t. scan_meaning_from t f.more)) is in
     subst (IsRefusal r.fault r.line) (sym all) (refl, refl)
 
 -- A whole line has a fault.
-pub refused_whole : (s : SoFar) (text rest : List ℕ) (e : ObjFault) → until 10 text ≡ text → length text ≤ 65536 → s.bytes + length text + 1 ≤ 1073741824
-    → taken (held_in s) (content text) ≡ Err e → IsRefusal e (first_number s) (meaning_from s (lines (text ++ 10 ∷ rest)))
+pub refused_whole : (s : ScannedSoFar) (text rest : List ℕ) (e : ObjFault) → until 10 text ≡ text → length text ≤ 65536 → s.bytes + length text + 1 ≤ 1073741824
+    → taken (held_in s) (content text) ≡ Err e → IsRefusal e (first_number s) (scan_meaning_from s (lines (text ++ 10 ∷ rest)))
 refused_whole s text rest e clean short within is =
     let line = text ++ 10 ∷ [] in
-    let all : meaning_from s (lines (text ++ 10 ∷ rest)) ≡ Err (record { fault = e; line = first_number s; place = place s.bytes line }) =
-    ap (λ (l : List (List ℕ)). meaning_from s l) (lines_whole text rest clean)
-    ∙ judged_line s text line (λ t. meaning_from t (lines rest)) (before_end text clean) short (omega (arith, within, length-append text (10 ∷ [])))
-    ∙ ap (λ r. then_taken r s line (λ t. meaning_from t (lines rest))) is in
+    let all : scan_meaning_from s (lines (text ++ 10 ∷ rest)) ≡ Err (record { fault = e; line = first_number s; place = place s.bytes line }) =
+    ap (λ (l : List (List ℕ)). scan_meaning_from s l) (lines_whole text rest clean)
+    ∙ judged_line s text line (λ t. scan_meaning_from t (lines rest)) (before_end text clean) short (omega (arith, within, length-append text (10 ∷ [])))
+    ∙ ap (λ r. then_taken r s line (λ t. scan_meaning_from t (lines rest))) is in
     subst (IsRefusal e (first_number s)) (sym all) (refl, refl)
 
 -- A line is too long.
-pub refused_long : (s : SoFar) (front rest : List ℕ) → until 10 front ≡ front → 65536 < length front → s.bytes + 65537 ≤ 1073741824
-    → IsRefusal faults.LineTooLong s.number (meaning_from s (lines (front ++ rest)))
+pub refused_long : (s : ScannedSoFar) (front rest : List ℕ) → until 10 front ≡ front → 65536 < length front → s.bytes + 65537 ≤ 1073741824
+    → IsRefusal faults.LineTooLong s.number (scan_meaning_from s (lines (front ++ rest)))
 unfolding judged_length
 refused_long s front rest clean long within =
     let f = first_line front rest clean (omega (arith, length-append front rest)) in
@@ -71,8 +71,8 @@ refused_long s front rest clean long within =
     refused_first s front rest f (record { fault = faults.LineTooLong; line = s.number; place = place s.bytes line }) (rw (past, over) refl)
 
 -- A byte comes after the last one that a text may have.
-pub refused_past : (s : SoFar) (line rest : List ℕ) → until 10 line ≡ line → length line ≤ 65536 → s.bytes + length line ≡ 1073741824 → 0 < length rest
-    → IsRefusal faults.TooMany s.number (meaning_from s (lines (line ++ rest)))
+pub refused_past : (s : ScannedSoFar) (line rest : List ℕ) → until 10 line ≡ line → length line ≤ 65536 → s.bytes + length line ≡ 1073741824 → 0 < length rest
+    → IsRefusal faults.TooMany s.number (scan_meaning_from s (lines (line ++ rest)))
 unfolding judged_length
 refused_past s line rest clean short at some =
     let f = first_line line rest clean (omega (arith, length-append line rest)) in

@@ -8,7 +8,7 @@ use Rattle.std.proofs.lemmas.Nat.{pow-add}
 use Rattle.pm_io.specs.Digits.{is_digit, are_digits, value}
 use Rattle.obj_lines.specs.Text.{until}
 use Rattle.obj_read.specs.Coordinates.{is_negative, without_sign, whole_part, decimals, is_number, are_zeros, with_sign, padded, magnitude, coordinate}
-use Rattle.obj_prepare.specs.Numbers.{nearest, mantissa, exponent_part, exponent_text, is_exponent, is_decimal, exponent, all_digits, shifted, units, decimal_coordinate}
+use Rattle.obj_prepare.specs.Numbers.{nearest, mantissa, exponent_part, exponent_text, is_exponent, is_decimal, exponent, all_digits, shifted, units_of_text, decimal_coordinate}
 use Rattle.obj_prepare.proofs.DigitLaws.{value_append, value_after}
 use Rattle.obj_scan.specs.Laws.{in_units}
 
@@ -117,8 +117,8 @@ plain_number number is =
     let both : until 101 (until 69 number) ≡ number = ap (until 101) small ∙ number_lacks 101 number (omega arith) parts.0 parts.1 in
     record { mantissa = both; exponent = ap (λ (l : List ℕ). drop (length l) number) both ∙ drop_all (length number) number (omega arith) }
 
-plain_units : (number : List ℕ) → IsPlain number → are_zeros (decimals number) ≡ true → units number ≡ value 0 (whole_part number) * 10 ^ 18
-unfolding units all_digits exponent exponent_text without_sign
+plain_units : (number : List ℕ) → IsPlain number → are_zeros (decimals number) ≡ true → units_of_text number ≡ value 0 (whole_part number) * 10 ^ 18
+unfolding units_of_text all_digits exponent exponent_text without_sign
 plain_units number plain zeros =
     let n = value 0 (whole_part number) in
     let k = length (decimals number) in

@@ -8,10 +8,10 @@ use Rattle.obj_lines.proofs.TextLaws.{until_split}
 use Rattle.obj_read.specs.declared.fault.ObjFault.{ObjFault}
 use Rattle.obj_read.specs.declared.found.Found.{Found as ReadFound}
 use Rattle.obj_read.specs.Fits.{with_found as with_read}
-use Rattle.obj_read.specs.Meaning.{SoFar as ReadSoFar, Refused, is_past, is_long, judged as read_judged, and_line as and_read, then_lines as then_read, meaning_from as read_from, meaning_of as read_meaning}
+use Rattle.obj_read.specs.Meaning.{SoFar as ReadSoFar, Refused, is_past, is_long, read_alone as read_judged, and_line as and_read, then_lines as then_read, meaning_from as read_from, meaning_of as read_meaning}
 use Rattle.obj_read.proofs.CommentLaws.{commented_is_read}
 use Rattle.obj_scan.specs.Judged.{Scanned}
-use Rattle.obj_scan.specs.Meaning.{SoFar, joined_text, judged_length, judged, and_line, meaning_from, meaning_of}
+use Rattle.obj_scan.specs.Meaning.{ScannedSoFar, joined_text, judged_length, line_judged, and_scanned_line, scan_meaning_from, scan_meaning_of}
 use Rattle.obj_scan.specs.Laws.{scanned_mesh, ReadIsScanned, CommentedIsScanned}
 use Rattle.obj_scan.proofs.FoundLaws.{line_is_found, scanned_with}
 
@@ -33,17 +33,17 @@ length_content text = omega (arith, length_until 35 (without_cr text), cr_case t
 abbrev read_after : ℕ → ℕ → Mesh → ReadSoFar
 read_after bytes number m = record { digits = 0; bytes = bytes; number = number; mesh = m }
 
-abbrev scan_after : ℕ → ℕ → Mesh → SoFar
+abbrev scan_after : ℕ → ℕ → Mesh → ScannedSoFar
 scan_after bytes number m = record { bytes = bytes; number = number; continued = 0; begun = []; scanned = scanned_mesh m }
 
 -- A line without a fault for `obj_read` has none here, and gives the same.
 record IsScanned (bytes number : ℕ) (m : Mesh) (line : List ℕ) (f : ReadFound) : Type 0 where
   within : judged_length (scan_after bytes number m) line ≡ None
-  gives : judged (scan_after bytes number m) line ≡ Ok (scan_after (bytes + length line) (number + 1) (with_read m f))
+  gives : line_judged (scan_after bytes number m) line ≡ Ok (scan_after (bytes + length line) (number + 1) (with_read m f))
 
 line_case : (bytes number : ℕ) (m : Mesh) (line : List ℕ) (f : ReadFound) (past long : Bool) → is_past bytes (length line) ≡ past → is_long line ≡ long
     → read_judged (read_after bytes number m) line ≡ Ok f → IsScanned bytes number m line f
-unfolding read_judged judged_length judged joined_text and_line
+unfolding read_judged judged_length line_judged joined_text and_scanned_line
 line_case bytes number m line f true long a b is = let e = rw a at is in cc
 line_case bytes number m line f false true a b is = let e = rw (a, b) at is in cc
 line_case bytes number m line f false false a b is =
@@ -60,8 +60,8 @@ line_is_scanned bytes number m line f is = line_case bytes number m line f _ _ r
 
 -- The same of a line and those after it.
 then_scanned : (bytes number : ℕ) (m n : Mesh) (line : List ℕ) (more : List (List ℕ)) (r : Result ReadFound ObjFault) → read_judged (read_after bytes number m) line ≡ r
-    → ((b i : ℕ) (k : Mesh) → read_from (read_after b i k) more ≡ Ok n → meaning_from (scan_after b i k) more ≡ Ok (scanned_mesh n))
-    → then_read r (read_after bytes number m) line (λ t. read_from t more) ≡ Ok n → meaning_from (scan_after bytes number m) (line ∷ more) ≡ Ok (scanned_mesh n)
+    → ((b i : ℕ) (k : Mesh) → read_from (read_after b i k) more ≡ Ok n → scan_meaning_from (scan_after b i k) more ≡ Ok (scanned_mesh n))
+    → then_read r (read_after bytes number m) line (λ t. read_from t more) ≡ Ok n → scan_meaning_from (scan_after bytes number m) (line ∷ more) ≡ Ok (scanned_mesh n)
 unfolding and_read
 then_scanned bytes number m n line more (Ok f) judges later is =
     let scan = line_is_scanned bytes number m line f judges in
@@ -72,14 +72,14 @@ scanned_result : Result Mesh Refused → Result Scanned Refused
 scanned_result (Ok m) = Ok (scanned_mesh m)
 scanned_result (Err r) = Err r
 
-lines_are_scanned : (bytes number : ℕ) (m n : Mesh) (ls : List (List ℕ)) → read_from (read_after bytes number m) ls ≡ Ok n → meaning_from (scan_after bytes number m) ls ≡ Ok (scanned_mesh n)
+lines_are_scanned : (bytes number : ℕ) (m n : Mesh) (ls : List (List ℕ)) → read_from (read_after bytes number m) ls ≡ Ok n → scan_meaning_from (scan_after bytes number m) ls ≡ Ok (scanned_mesh n)
 unfolding scanned_result
 lines_are_scanned bytes number m n [] is = ap scanned_result is
 lines_are_scanned bytes number m n (line ∷ more) is =
     then_scanned bytes number m n line more _ refl (λ b i k spells. lines_are_scanned b i k n more spells) is
 
 pub read_scanned : ReadIsScanned
-unfolding read_meaning meaning_of
+unfolding read_meaning scan_meaning_of
 read_scanned bytes m is = lines_are_scanned 0 1 (record { points = []; faces = [] }) m (lines bytes) is
 
 pub canonical_scanned : CommentedIsScanned

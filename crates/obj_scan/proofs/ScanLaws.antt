@@ -11,10 +11,10 @@ use Rattle.obj_lines.specs.Text.{is_continued}
 use Rattle.obj_read.specs.declared.fault.ObjFault.{ObjFault}
 use Rattle.obj_read.specs.declared.fault.ObjFail.{ObjFail}
 use Rattle.obj_read.specs.declared.fault.ObjFail.TheVariants as fails
-use Rattle.obj_read.specs.Fails.{IsFaultOf}
+use Rattle.obj_read.specs.Fails.{IsLineFault}
 use Rattle.obj_scan.specs.Polygons.{before_least, begun_least, fan, fan_of, triangles}
-use Rattle.obj_scan.specs.Judged.{Scanned, Found, polygons_after, with_found}
-use Rattle.obj_prepare.specs.Named.{AreCorners}
+use Rattle.obj_scan.specs.Judged.{Scanned, Found, polygons_after, with_scanned}
+use Rattle.obj_prepare.specs.Named.{AreVerticesBelow}
 use Rattle.obj_scan.specs.Reading.{IsScanning, given, ended}
 
 -- A polygon of n corners has n - 2 triangles.
@@ -43,21 +43,21 @@ triangles_length points corners = triangles_case points corners (length corners 
 
 -- Their corners are those of the polygon.
 
-fan_corners : (n a : ℕ) (rest : List ℕ) → a < n → All (λ (c : ℕ). c < n) rest → All (AreCorners n) (fan a rest)
-fan_corners n a [] lt all = All-nil (AreCorners n)
-fan_corners n a (b ∷ []) lt all = All-nil (AreCorners n)
+fan_corners : (n a : ℕ) (rest : List ℕ) → a < n → All (λ (c : ℕ). c < n) rest → All (AreVerticesBelow n) (fan a rest)
+fan_corners n a [] lt all = All-nil (AreVerticesBelow n)
+fan_corners n a (b ∷ []) lt all = All-nil (AreVerticesBelow n)
 fan_corners n a (b ∷ c ∷ rest) lt all = first_and (record { a = a; b = b; c = c }) (fan a (c ∷ rest))
     (record { a = lt; b = all 0 0 (omega arith); c = all 1 0 (omega arith) }) (fan_corners n a (c ∷ rest) lt (λ i d l. all (suc i) d (omega (arith, l))))
   where
-    first_and : (f : Corners) (fs : List Corners) → AreCorners n f → All (AreCorners n) fs → All (AreCorners n) (f ∷ fs)
+    first_and : (f : Corners) (fs : List Corners) → AreVerticesBelow n f → All (AreVerticesBelow n) fs → All (AreVerticesBelow n) (f ∷ fs)
     first_and f fs here later zero d l = here
     first_and f fs here later (suc i) d l = later i d (omega (arith, l))
 
-fan_of_corners : (n : ℕ) (corners : List ℕ) → All (λ (c : ℕ). c < n) corners → All (AreCorners n) (fan_of corners)
-fan_of_corners n [] all = All-nil (AreCorners n)
+fan_of_corners : (n : ℕ) (corners : List ℕ) → All (λ (c : ℕ). c < n) corners → All (AreVerticesBelow n) (fan_of corners)
+fan_of_corners n [] all = All-nil (AreVerticesBelow n)
 fan_of_corners n (a ∷ rest) all = fan_corners n a rest (all 0 0 (omega arith)) (λ i d l. all (suc i) d (omega (arith, l)))
 
-corners_case : (points : List Place) (n : ℕ) (corners : List ℕ) (b : Bool) → (length corners == 3) ≡ b → All (λ (c : ℕ). c < n) corners → All (AreCorners n) (triangles points corners)
+corners_case : (points : List Place) (n : ℕ) (corners : List ℕ) (b : Bool) → (length corners == 3) ≡ b → All (λ (c : ℕ). c < n) corners → All (AreVerticesBelow n) (triangles points corners)
 unfolding triangles begun_least
 corners_case points n corners true is all = rw is (fan_of_corners n corners all)
 corners_case points n corners false is all =
@@ -67,10 +67,10 @@ corners_case points n corners false is all =
 
 -- What the lines gave stays within the limits.
 
-wider : (n k : ℕ) (fs : List Corners) → n ≤ k → All (AreCorners n) fs → All (AreCorners k) fs
+wider : (n k : ℕ) (fs : List Corners) → n ≤ k → All (AreVerticesBelow n) fs → All (AreVerticesBelow k) fs
 wider n k fs le all = λ i d l. let f = all i d l in record { a = omega (arith, f.a, le); b = omega (arith, f.b, le); c = omega (arith, f.c, le) }
 
-pub vertex_scanning : (s t : Scanned) (p : Place) → IsScanning s → length s.points < 1048576 → t ≡ with_found s (Found.vertex p) → IsScanning t
+pub vertex_scanning : (s t : Scanned) (p : Place) → IsScanning s → length s.points < 1048576 → t ≡ with_scanned s (Found.vertex p) → IsScanning t
 vertex_scanning s t p scanning room is = rw is (record {
   within = record {
     points = omega (arith, room, length-append s.points (p ∷ []));
@@ -86,7 +86,7 @@ polygons_case n faces corners true some le = omega (arith, ltb-true 3 (length co
 polygons_case n faces corners false few le = omega (arith, le)
 
 polygon_scanning : (s t : Scanned) (corners : List ℕ) → IsScanning s → All (λ (c : ℕ). c < length s.points) corners → length s.faces + (length corners - 2) ≤ 1048576
-    → t ≡ with_found s (Found.polygon corners) → IsScanning t
+    → t ≡ with_scanned s (Found.polygon corners) → IsScanning t
 polygon_scanning s t corners scanning within room is =
     let all = s.faces ++ triangles s.points corners in
     let n : length all ≡ length s.faces + (length corners - 2) = omega (arith, length-append s.faces (triangles s.points corners), triangles_length s.points corners) in
@@ -94,7 +94,7 @@ polygon_scanning s t corners scanning within room is =
       within = record {
         points = scanning.within.points;
         faces = omega (arith, n, room);
-        corners = All-append (AreCorners (length s.points)) s.faces (triangles s.points corners) scanning.within.corners
+        corners = All-append (AreVerticesBelow (length s.points)) s.faces (triangles s.points corners) scanning.within.corners
             (corners_case s.points (length s.points) corners (length corners == 3) refl within);
       };
       polygons = subst (λ k. (if nat_lt 3 (length corners) then s.polygons + 1 else s.polygons) ≤ k) (sym n) (polygons_case s.polygons (length s.faces) corners (nat_lt 3 (length corners)) refl scanning.polygons);
@@ -114,12 +114,12 @@ polygon_scanned s points faces polygons corners held scanning within room points
     ∙ ap (λ n. scanned_from s.points all n) (polygons_are ∙ ap (polygons_after s.polygons) held_is))
 
 -- A fault of what a text gives is the line's.
-pub given_fault : (s : Scanned) (r : Result Found ObjFault) (fail : ObjFail) (line : ℕ) → IsFaultOf fail line r → IsFaultOf fail line (given s r)
+pub given_fault : (s : Scanned) (r : Result Found ObjFault) (fail : ObjFail) (line : ℕ) → IsLineFault fail line r → IsLineFault fail line (given s r)
 given_fault s r fails.Read line fault = fault
 given_fault s r fails.OutOfMemory line fault = tt
 given_fault s r (fails.Fault e l) line (at, is) = (at, ap (given s) is)
 
-pub ended_fault : (r : Result Scanned ObjFault) (fail : ObjFail) (line : ℕ) → IsFaultOf fail line r → IsFaultOf fail line (ended r)
+pub ended_fault : (r : Result Scanned ObjFault) (fail : ObjFail) (line : ℕ) → IsLineFault fail line r → IsLineFault fail line (ended r)
 ended_fault r fails.Read line fault = fault
 ended_fault r fails.OutOfMemory line fault = tt
 ended_fault r (fails.Fault e l) line (at, is) = (at, ap ended is)

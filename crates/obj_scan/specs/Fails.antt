@@ -3,23 +3,23 @@ use Rattle.std.specs.Prelude.{ℕ, List, length, Option, IfSome}
 use Rattle.pm_io.specs.Bytes.{Loses}
 use Rattle.obj_read.specs.declared.fault.ObjFail.{ObjFail}
 use Rattle.obj_read.specs.declared.fault.ObjFail.TheVariants as fails
-use Rattle.obj_read.specs.Fails.{IsRefusal, NotReached}
+use Rattle.obj_read.specs.Fails.{IsRefusal, FaultNotReached}
 use Rattle.obj_scan.specs.declared.scan.Scan.{Scan}
 use Rattle.obj_scan.specs.Judged.{Scanned}
-use Rattle.obj_scan.specs.Meaning.{meaning_of}
+use Rattle.obj_scan.specs.Meaning.{scan_meaning_of}
 
 -- What is held in memory, without the room of its lists.
 abbrev pub scanned_of : Scan → Scanned
 scanned_of s = record { points = s.points.items; faces = s.faces.items; polygons = s.polygons }
 
 -- The bytes that were taken don't reach the place of the first fault, where the source tells its bytes.
-pub record FailsBefore (whole left : Option (List ℕ)) : Type 0 where
+pub record ScanFailsBefore (whole left : Option (List ℕ)) : Type 0 where
   pub taken : List ℕ
   pub took : Loses whole left taken
-  pub before : IfSome whole (λ bytes. NotReached (length taken) (meaning_of bytes))
+  pub before : IfSome whole (λ bytes. FaultNotReached (length taken) (scan_meaning_of bytes))
 
 -- What a failure says of the bytes that the source had, and of those that are left. Want of memory says nothing.
-abbrev pub Explains : ObjFail → Option (List ℕ) → Option (List ℕ) → Type 0
-Explains (fails.Fault fault line) whole left = IfSome whole (λ bytes. IsRefusal fault line (meaning_of bytes))
-Explains fails.Read whole left = FailsBefore whole left
-Explains fails.OutOfMemory whole left = Unit {0}
+abbrev pub ExplainsScan : ObjFail → Option (List ℕ) → Option (List ℕ) → Type 0
+ExplainsScan (fails.Fault fault line) whole left = IfSome whole (λ bytes. IsRefusal fault line (scan_meaning_of bytes))
+ExplainsScan fails.Read whole left = ScanFailsBefore whole left
+ExplainsScan fails.OutOfMemory whole left = Unit {0}

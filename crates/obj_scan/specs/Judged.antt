@@ -24,11 +24,11 @@ pub data Found : Type 0 where
   polygon : List ℕ → Found
 
 -- The fields after `v`. Those after the third aren't read.
-abbrev pub vertex_line : ℕ → List (List ℕ) → Result Found ObjFault
-vertex_line vertices (a ∷ b ∷ c ∷ more) = decimal_coordinate a >>= λ x. decimal_coordinate b >>= λ y. decimal_coordinate c >>= λ z.
+abbrev pub scanned_vertex_line : ℕ → List (List ℕ) → Result Found ObjFault
+scanned_vertex_line vertices (a ∷ b ∷ c ∷ more) = decimal_coordinate a >>= λ x. decimal_coordinate b >>= λ y. decimal_coordinate c >>= λ z.
     if nat_le MOST_VERTICES vertices then Err faults.TooMany
     else Ok (vertex (record { x = x; y = y; z = z }))
-vertex_line vertices _ = Err faults.TooFewFields
+scanned_vertex_line vertices _ = Err faults.TooFewFields
 
 -- The vertices that these fields name, or the first fault.
 abbrev pub indices : ℕ → List (List ℕ) → Result (List ℕ) ObjFault
@@ -40,27 +40,27 @@ abbrev pub polygon_of : ℕ → List ℕ → Result Found ObjFault
 polygon_of faces corners = if nat_lt MOST_FACES (faces + (length corners - 2)) then Err faults.TooMany else Ok (polygon corners)
 
 -- The fields after `f`.
-abbrev pub face_line : ℕ → ℕ → List (List ℕ) → Result Found ObjFault
-face_line vertices faces (a ∷ b ∷ c ∷ more) = indices vertices (a ∷ b ∷ c ∷ more) >>= polygon_of faces
-face_line vertices faces _ = Err faults.TooFewFields
+abbrev pub polygon_line : ℕ → ℕ → List (List ℕ) → Result Found ObjFault
+polygon_line vertices faces (a ∷ b ∷ c ∷ more) = indices vertices (a ∷ b ∷ c ∷ more) >>= polygon_of faces
+polygon_line vertices faces _ = Err faults.TooFewFields
 
 -- The fields of a line. One that begins with neither `v` nor `f` is skipped, as is one without fields.
-abbrev pub fields_found : ℕ → ℕ → List (List ℕ) → Result Found ObjFault
-fields_found vertices faces [] = Ok nothing
-fields_found vertices faces (keyword ∷ more) =
-    if is_letter 118 keyword then vertex_line vertices more
-    else if is_letter 102 keyword then face_line vertices faces more
+abbrev pub scanned_fields : ℕ → ℕ → List (List ℕ) → Result Found ObjFault
+scanned_fields vertices faces [] = Ok nothing
+scanned_fields vertices faces (keyword ∷ more) =
+    if is_letter 118 keyword then scanned_vertex_line vertices more
+    else if is_letter 102 keyword then polygon_line vertices faces more
     else Ok nothing
 
 -- What is read of a line after so many vertices and triangles.
-unfoldable pub line_found : ℕ → ℕ → List ℕ → Result Found ObjFault
-line_found vertices faces text = fields_found vertices faces (fields text)
+unfoldable pub scanned_line : ℕ → ℕ → List ℕ → Result Found ObjFault
+scanned_line vertices faces text = scanned_fields vertices faces (fields text)
 
 abbrev pub polygons_after : ℕ → List ℕ → ℕ
 polygons_after n corners = if nat_lt 3 (length corners) then n + 1 else n
 
 -- With what a line gives.
-abbrev pub with_found : Scanned → Found → Scanned
-with_found s nothing = s
-with_found s (vertex p) = record { points = s.points ++ p ∷ []; faces = s.faces; polygons = s.polygons }
-with_found s (polygon corners) = record { points = s.points; faces = s.faces ++ triangles s.points corners; polygons = polygons_after s.polygons corners }
+abbrev pub with_scanned : Scanned → Found → Scanned
+with_scanned s nothing = s
+with_scanned s (vertex p) = record { points = s.points ++ p ∷ []; faces = s.faces; polygons = s.polygons }
+with_scanned s (polygon corners) = record { points = s.points; faces = s.faces ++ triangles s.points corners; polygons = polygons_after s.polygons corners }

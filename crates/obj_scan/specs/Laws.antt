@@ -8,7 +8,7 @@ use Rattle.pm_base.specs.Canonical.{canonical_text}
 use Rattle.obj_lines.specs.Text.{until}
 use Rattle.obj_read.specs.Meaning.{meaning_of as mesh_meaning}
 use Rattle.obj_scan.specs.Judged.{Scanned}
-use Rattle.obj_scan.specs.Meaning.{meaning_of}
+use Rattle.obj_scan.specs.Meaning.{scan_meaning_of}
 
 -- A whole number in units.
 abbrev pub in_units : ℤ → ℤ
@@ -24,9 +24,9 @@ scanned_mesh m = record { points = map scaled_up m.points; faces = m.faces; poly
 
 -- A text that is read as a mesh, with whole numbers for coordinates, is scanned as that mesh.
 abbrev pub ReadIsScanned : Type 0
-ReadIsScanned = (bytes : List ℕ) (m : Mesh) → mesh_meaning 0 bytes ≡ Ok m → meaning_of bytes ≡ Ok (scanned_mesh m)
+ReadIsScanned = (bytes : List ℕ) (m : Mesh) → mesh_meaning 0 bytes ≡ Ok m → scan_meaning_of bytes ≡ Ok (scanned_mesh m)
 
 -- So is the canonical text of a mesh after a comment.
 abbrev pub CommentedIsScanned : Type 0
 CommentedIsScanned = (line : List ℕ) (m : Mesh) → until 10 line ≡ line → length line < MOST_LINE_BYTES → IsWellFormed m → All IsPlace m.points
-    → meaning_of ((35 ∷ line) ++ 10 ∷ canonical_text 0 m) ≡ Ok (scanned_mesh m)
+    → scan_meaning_of ((35 ∷ line) ++ 10 ∷ canonical_text 0 m) ≡ Ok (scanned_mesh m)

@@ -8,12 +8,12 @@ use Rattle.obj_lines.specs.Text.{until, lines, content, is_continued}
 use Rattle.obj_read.specs.declared.fault.ObjFault.{ObjFault}
 use Rattle.obj_read.specs.declared.fault.ObjFault.TheVariants as faults
 use Rattle.obj_read.specs.Meaning.{Refused, is_past, is_long, place}
-use Rattle.obj_prepare.specs.Named.{AreCorners}
-use Rattle.obj_scan.specs.Judged.{Scanned, Found, line_found, with_found}
+use Rattle.obj_prepare.specs.Named.{AreVerticesBelow}
+use Rattle.obj_scan.specs.Judged.{Scanned, Found, scanned_line, with_scanned}
 
 -- What the lines before gave: how many bytes they have, the number of the next line, how many of them it continues and
 -- what these say, and the points and triangles so far.
-pub record SoFar : Type 0 where
+pub record ScannedSoFar : Type 0 where
   pub bytes : ℕ
   pub number : ℕ
   pub continued : ℕ
@@ -21,15 +21,15 @@ pub record SoFar : Type 0 where
   pub scanned : Scanned
 
 -- What stands here of the line and of those that it continues.
-unfoldable pub joined_text : SoFar → List ℕ → List ℕ
+unfoldable pub joined_text : ScannedSoFar → List ℕ → List ℕ
 joined_text s line = s.begun ++ content (until 10 line)
 
 -- The first line of those that go together.
-abbrev pub first_number : SoFar → ℕ
+abbrev pub first_number : ScannedSoFar → ℕ
 first_number s = s.number - s.continued
 
 -- After one line more that is continued: the backslash stands for a blank.
-unfoldable pub and_continued : SoFar → List ℕ → SoFar
+unfoldable pub and_continued : ScannedSoFar → List ℕ → ScannedSoFar
 and_continued s line = record {
   bytes = s.bytes + length line;
   number = s.number + 1;
@@ -39,51 +39,51 @@ and_continued s line = record {
 }
 
 -- After one line more that gives this.
-unfoldable pub and_line : SoFar → List ℕ → Found → SoFar
-and_line s line f = record { bytes = s.bytes + length line; number = s.number + 1; continued = 0; begun = []; scanned = with_found s.scanned f }
+unfoldable pub and_scanned_line : ScannedSoFar → List ℕ → Found → ScannedSoFar
+and_scanned_line s line f = record { bytes = s.bytes + length line; number = s.number + 1; continued = 0; begun = []; scanned = with_scanned s.scanned f }
 
 -- A line has too many bytes before it or in it, or it has too many with those that it continues.
-unfoldable pub judged_length : SoFar → List ℕ → Option Refused
+unfoldable pub judged_length : ScannedSoFar → List ℕ → Option Refused
 judged_length s line =
     if is_past s.bytes (length line) then Some (record { fault = faults.TooMany; line = s.number; place = place s.bytes line })
     else if is_long line then Some (record { fault = faults.LineTooLong; line = s.number; place = place s.bytes line })
     else if nat_lt MOST_LINE_BYTES (length (joined_text s line)) then Some (record { fault = faults.LineTooLong; line = first_number s; place = place s.bytes line })
     else None
 
-abbrev pub then_found : Result Found ObjFault → SoFar → List ℕ → Result SoFar ObjFault
-then_found (Ok f) s line = Ok (and_line s line f)
+abbrev pub then_found : Result Found ObjFault → ScannedSoFar → List ℕ → Result ScannedSoFar ObjFault
+then_found (Ok f) s line = Ok (and_scanned_line s line f)
 then_found (Err e) s line = Err e
 
 -- A line judged after those before it: what they give together, or the first fault.
-unfoldable pub judged : SoFar → List ℕ → Result SoFar ObjFault
-judged s line =
+unfoldable pub line_judged : ScannedSoFar → List ℕ → Result ScannedSoFar ObjFault
+line_judged s line =
     if is_continued (content (until 10 line)) then Ok (and_continued s line)
-    else then_found (line_found (length s.scanned.points) (length s.scanned.faces) (joined_text s line)) s line
+    else then_found (scanned_line (length s.scanned.points) (length s.scanned.faces) (joined_text s line)) s line
 
 -- The first line with a fault ends the reading.
-abbrev pub then_lines : Option Refused → Result SoFar ObjFault → SoFar → List ℕ → (SoFar → Result Scanned Refused) → Result Scanned Refused
-then_lines (Some r) next s line more = Err r
-then_lines None (Ok t) s line more = more t
-then_lines None (Err e) s line more = Err (record { fault = e; line = first_number s; place = place s.bytes line })
+abbrev pub then_scanned_lines : Option Refused → Result ScannedSoFar ObjFault → ScannedSoFar → List ℕ → (ScannedSoFar → Result Scanned Refused) → Result Scanned Refused
+then_scanned_lines (Some r) next s line more = Err r
+then_scanned_lines None (Ok t) s line more = more t
+then_scanned_lines None (Err e) s line more = Err (record { fault = e; line = first_number s; place = place s.bytes line })
 
 -- At the end no line waits for the next one.
-abbrev pub at_end : SoFar → Result Scanned Refused
+abbrev pub at_end : ScannedSoFar → Result Scanned Refused
 at_end s = if s.continued == 0 then Ok s.scanned else Err (record { fault = faults.Continuation; line = first_number s; place = None })
 
-abbrev pub meaning_from : SoFar → List (List ℕ) → Result Scanned Refused
-meaning_from s [] = at_end s
-meaning_from s (line ∷ more) = then_lines (judged_length s line) (judged s line) s line (λ t. meaning_from t more)
+abbrev pub scan_meaning_from : ScannedSoFar → List (List ℕ) → Result Scanned Refused
+scan_meaning_from s [] = at_end s
+scan_meaning_from s (line ∷ more) = then_scanned_lines (judged_length s line) (line_judged s line) s line (λ t. scan_meaning_from t more)
 
 -- Before the first line.
-abbrev pub nothing_yet : SoFar
-nothing_yet = record { bytes = 0; number = 1; continued = 0; begun = []; scanned = record { points = []; faces = []; polygons = 0 } }
+abbrev pub nothing_scanned : ScannedSoFar
+nothing_scanned = record { bytes = 0; number = 1; continued = 0; begun = []; scanned = record { points = []; faces = []; polygons = 0 } }
 
 -- The points and triangles of the bytes, or their first line with a fault.
-unfoldable pub meaning_of : List ℕ → Result Scanned Refused
-meaning_of bytes = meaning_from nothing_yet (lines bytes)
+unfoldable pub scan_meaning_of : List ℕ → Result Scanned Refused
+scan_meaning_of bytes = scan_meaning_from nothing_scanned (lines bytes)
 
 -- What a text without a fault gives is within the limits.
-pub record IsWithin (s : Scanned) : Type 0 where
+pub record IsWithinLimits (s : Scanned) : Type 0 where
   pub points : length s.points ≤ MOST_VERTICES
   pub faces : length s.faces ≤ MOST_FACES
-  pub corners : All (AreCorners (length s.points)) s.faces
+  pub corners : All (AreVerticesBelow (length s.points)) s.faces

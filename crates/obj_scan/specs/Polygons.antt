@@ -5,16 +5,16 @@ use Rattle.std.specs.Int.Signed.{lt_z}
 use Rattle.pm_base.specs.declared.mesh.Corners.{Corners}
 use Rattle.pm_base.specs.Place.{Place}
 
-abbrev pub no_place : Place
-no_place = record { x = pos 0; y = pos 0; z = pos 0 }
+abbrev pub no_point : Place
+no_point = record { x = pos 0; y = pos 0; z = pos 0 }
 
 -- A place comes before another by its x, then its y, then its z.
-unfoldable pub is_before : Place → Place → Bool
-is_before p q = lt_z p.x q.x || not (lt_z q.x p.x) && (lt_z p.y q.y || not (lt_z q.y p.y) && lt_z p.z q.z)
+unfoldable pub is_place_before : Place → Place → Bool
+is_place_before p q = lt_z p.x q.x || not (lt_z q.x p.x) && (lt_z p.y q.y || not (lt_z q.y p.y) && lt_z p.z q.z)
 
 -- No corner's point comes before this one.
 abbrev pub is_least : List Place → List ℕ → ℕ → Bool
-is_least points corners v = list_all (λ c. not (is_before (slice_index_or points c no_place) (slice_index_or points v no_place))) corners
+is_least points corners v = list_all (λ c. not (is_place_before (slice_index_or points c no_point) (slice_index_or points v no_point))) corners
 
 -- How many corners stand before the first of these whose point none comes before.
 abbrev pub before_least : List Place → List ℕ → List ℕ → ℕ

@@ -10,71 +10,71 @@ use Rattle.obj_read.specs.declared.fault.ObjFault.{ObjFault}
 use Rattle.obj_read.specs.declared.fault.ObjFault.TheVariants as faults
 use Rattle.obj_read.specs.declared.step.Progress.{Progress}
 use Rattle.obj_scan.specs.declared.scanner.Scanner.{Scanner}
-use Rattle.obj_scan.specs.Judged.{Scanned, Found, line_found, with_found}
-use Rattle.obj_scan.specs.Meaning.{SoFar, meaning_from, meaning_of, IsWithin}
+use Rattle.obj_scan.specs.Judged.{Scanned, Found, scanned_line, with_scanned}
+use Rattle.obj_scan.specs.Meaning.{ScannedSoFar, scan_meaning_from, scan_meaning_of, IsWithinLimits}
 use Rattle.obj_scan.specs.Fails.{scanned_of}
 
 -- What is held between two lines: how many lines the next one continues, what these say, and what all lines gave.
-pub record Held : Type 0 where
+pub record HeldLines : Type 0 where
   pub continued : ℕ
   pub begun : List ℕ
   pub scanned : Scanned
 
-abbrev pub held_of : Scanner → Held
+abbrev pub held_of : Scanner → HeldLines
 held_of s = record { continued = s.continued; begun = s.begun.items; scanned = scanned_of s.scan }
 
 -- Before the first line.
-abbrev pub nothing_held : Held
+abbrev pub nothing_held : HeldLines
 nothing_held = record { continued = 0; begun = []; scanned = record { points = []; faces = []; polygons = 0 } }
 
 -- With what a line gives, or its fault.
 abbrev pub given : Scanned → Result Found ObjFault → Result Scanned ObjFault
-given s (Ok f) = Ok (with_found s f)
+given s (Ok f) = Ok (with_scanned s f)
 given s (Err e) = Err e
 
 -- With what a text gives.
 unfoldable pub scanned_after : Scanned → List ℕ → Result Scanned ObjFault
-scanned_after s text = given s (line_found (length s.points) (length s.faces) text)
+scanned_after s text = given s (scanned_line (length s.points) (length s.faces) text)
 
 -- No line waits for the next one.
-abbrev pub ended : Result Scanned ObjFault → Result Held ObjFault
+abbrev pub ended : Result Scanned ObjFault → Result HeldLines ObjFault
 ended (Ok s) = Ok (record { continued = 0; begun = []; scanned = s })
 ended (Err e) = Err e
 
 -- One line more, of which this is read.
-unfoldable pub taken : Held → List ℕ → Result Held ObjFault
+unfoldable pub taken : HeldLines → List ℕ → Result HeldLines ObjFault
 taken h text =
     if nat_lt MOST_LINE_BYTES (length (h.begun ++ text)) then Err faults.LineTooLong
     else if is_continued text then Ok (record { continued = h.continued + 1; begun = take (length (h.begun ++ text) - 1) (h.begun ++ text) ++ 32 ∷ []; scanned = h.scanned })
     else ended (scanned_after h.scanned (h.begun ++ text))
 
 -- So many bytes, and this is the number of the next line.
-abbrev pub after_lines : ℕ → ℕ → Held → SoFar
+abbrev pub after_lines : ℕ → ℕ → HeldLines → ScannedSoFar
 after_lines bytes number h = record { bytes = bytes; number = number; continued = h.continued; begun = h.begun; scanned = h.scanned }
 
 -- What the lines before the open one gave.
-abbrev pub so_far : Progress → Held → SoFar
-so_far p h = after_lines p.start p.number h
+abbrev pub scanned_so_far : Progress → HeldLines → ScannedSoFar
+scanned_so_far p h = after_lines p.start p.number h
 
 -- The lines before gave s, a line is open, and what is still to come is known where the source tells it. The meaning of
 -- the whole is the meaning of that.
-pub record StandsAt (whole now : Option (List ℕ)) (s : SoFar) (line : List ℕ) : Type 0 where
-  pub same : option_map meaning_of whole ≡ option_map (λ rest. meaning_from s (lines (line ++ rest))) now
+pub record ScanStandsAt (whole now : Option (List ℕ)) (s : ScannedSoFar) (line : List ℕ) : Type 0 where
+  pub same : option_map scan_meaning_of whole ≡ option_map (λ rest. scan_meaning_from s (lines (line ++ rest))) now
   pub taken : List ℕ
   pub took : Loses whole now taken
   pub count : length taken ≡ s.bytes + length line
 
 -- A source that had all these bytes is being read: the window holds bytes that were taken and aren't read yet.
-abbrev pub IsReading : Option (List ℕ) → List ℕ → Option (List ℕ) → Progress → Held → Feeding → Type 0
-IsReading whole window left p h f = StandsAt whole (prepend_known window left) (so_far p h) (open_line f)
+abbrev pub IsScanningText : Option (List ℕ) → List ℕ → Option (List ℕ) → Progress → HeldLines → Feeding → Type 0
+IsScanningText whole window left p h f = ScanStandsAt whole (prepend_known window left) (scanned_so_far p h) (open_line f)
 
 -- What the lines gave is within the limits. A polygon that was cut has more than one triangle.
 pub record IsScanning (s : Scanned) : Type 0 where
-  pub within : IsWithin s
+  pub within : IsWithinLimits s
   pub polygons : s.polygons ≤ length s.faces
 
 -- What holds between two steps of the reading.
-pub record IsReady (f : Feeding) (h : Held) (p : Progress) : Type 0 where
+pub record IsReadyToScan (f : Feeding) (h : HeldLines) (p : Progress) : Type 0 where
   pub going : is_going f.state ≡ true
   pub clean : until 10 (open_line f) ≡ open_line f
   pub short : length (open_line f) ≤ MOST_LINE_BYTES

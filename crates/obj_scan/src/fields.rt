@@ -1,9 +1,9 @@
 //! The fields of a line after its keyword.
 ghost use Rattle.std.specs.Prelude.{ℕ, List, ◌∷◌, ◌≡◌, ◌+◌, ◌-◌, ◌<◌, ◌≤◌, nat_le, length, Ok, Err, OnOk, IfOk, IfErr};
 ghost use Rattle.std.specs.List.{All};
-ghost use Rattle.obj_read.specs.Fails.{IsFaultOf};
+ghost use Rattle.obj_read.specs.Fails.{IsLineFault};
 ghost use Rattle.obj_read.specs.Fields.{fields};
-ghost use Rattle.obj_scan.specs.Judged.{Found, vertex_line, indices, face_line};
+ghost use Rattle.obj_scan.specs.Judged.{Found, scanned_vertex_line, indices, polygon_line};
 
 use obj_prepare::{ExactPoint, decimal_coordinate};
 use obj_read::{ObjFail, ObjFault, index, next_field};
@@ -11,8 +11,8 @@ use pm_base::{MOST_FACES, MOST_VERTICES};
 
 // The point with these coordinates. Each of the three is in range, so there is one.
 fn point_of(x: &[u8], y: &[u8], z: &[u8], vertices: u32) -> Result<ExactPoint, ObjFault>
-    ensures ok { IfOk result (λ p. (more : List (List ℕ)) → vertex_line vertices (x.now ∷ y.now ∷ z.now ∷ more) ≡ Ok (Found.vertex p)) }
-    ensures fault { IfErr result (λ e. (more : List (List ℕ)) → vertex_line vertices (x.now ∷ y.now ∷ z.now ∷ more) ≡ Err e) }
+    ensures ok { IfOk result (λ p. (more : List (List ℕ)) → scanned_vertex_line vertices (x.now ∷ y.now ∷ z.now ∷ more) ≡ Ok (Found.vertex p)) }
+    ensures fault { IfErr result (λ e. (more : List (List ℕ)) → scanned_vertex_line vertices (x.now ∷ y.now ∷ z.now ∷ more) ≡ Err e) }
     ensures room { OnOk result (vertices < MOST_VERTICES) }
 {
     let x = decimal_coordinate(x)?;
@@ -29,8 +29,8 @@ fn point_of(x: &[u8], y: &[u8], z: &[u8], vertices: u32) -> Result<ExactPoint, O
 
 /// The point that a vertex spells after so many: three coordinates, and fields that aren't read.
 pub fn vertex_line(vertices: u32, text: &[u8]) -> Result<ExactPoint, ObjFault>
-    ensures ok { IfOk result (λ p. vertex_line vertices (fields text.now) ≡ Ok (Found.vertex p)) }
-    ensures fault { IfErr result (λ e. vertex_line vertices (fields text.now) ≡ Err e) }
+    ensures ok { IfOk result (λ p. scanned_vertex_line vertices (fields text.now) ≡ Ok (Found.vertex p)) }
+    ensures fault { IfErr result (λ e. scanned_vertex_line vertices (fields text.now) ≡ Err e) }
     ensures room { OnOk result (vertices < MOST_VERTICES) }
 {
     let Some((x, rest)) = next_field(text) else {
@@ -54,7 +54,7 @@ fn read_corners(
 ) -> Result<(), ObjFail>
     ensures ok { OnOk result (indices vertices (fields text.now) ≡ Ok corners.new.items) }
     ensures within { OnOk result (All (λ (c : ℕ). c < vertices) corners.new.items) }
-    ensures fault { IfErr result (λ e. IsFaultOf e line (indices vertices (fields text.now))) }
+    ensures fault { IfErr result (λ e. IsLineFault e line (indices vertices (fields text.now))) }
 {
     corners.clear();
     let mut rest = text;
@@ -94,10 +94,10 @@ pub fn face_line(
     line: u32,
     corners: &mut Vec<u32>,
 ) -> Result<(), ObjFail>
-    ensures ok { OnOk result (face_line vertices faces (fields text.now) ≡ Ok (Found.polygon corners.new.items)) }
+    ensures ok { OnOk result (polygon_line vertices faces (fields text.now) ≡ Ok (Found.polygon corners.new.items)) }
     ensures within { OnOk result (All (λ (c : ℕ). c < vertices) corners.new.items) }
     ensures room { OnOk result (faces + (length corners.new.items - 2) ≤ MOST_FACES) }
-    ensures fault { IfErr result (λ e. IsFaultOf e line (face_line vertices faces (fields text.now))) }
+    ensures fault { IfErr result (λ e. IsLineFault e line (polygon_line vertices faces (fields text.now))) }
 {
     if !has_three(text) {
         return Err(ObjFail::Fault {

@@ -1,16 +1,16 @@
 //! Polygons cut into triangles.
 ghost use Rattle.std.specs.Prelude.{ℕ, ◌≡◌, ◌<◌, ◌≤◌, ◌++◌, length, OnOk};
 ghost use Rattle.std.specs.List.{All};
-ghost use Rattle.obj_scan.specs.Polygons.{is_before, before_least, begun_least, fan, triangles};
+ghost use Rattle.obj_scan.specs.Polygons.{is_place_before, before_least, begun_least, fan, triangles};
 
 use crate::OutOfMemory;
 use obj_prepare::ExactPoint;
 use pm_base::Corners;
 
 // Whether a point comes before another: by x, then y, then z.
-#[tactic(auto, unfolding(crate::specs::Polygons::is_before))]
+#[tactic(auto, unfolding(crate::specs::Polygons::is_place_before))]
 fn is_before(p: &ExactPoint, q: &ExactPoint) -> bool
-    ensures { result ≡ is_before p.now q.now }
+    ensures { result ≡ is_place_before p.now q.now }
 {
     p.x() < q.x() || p.x() <= q.x() && (p.y() < q.y() || p.y() <= q.y() && p.z() < q.z())
 }

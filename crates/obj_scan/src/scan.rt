@@ -3,8 +3,8 @@ ghost use Rattle.std.specs.Prelude.{◌≡◌, Ok, IfOk, IfErr, OnOk, IfSome};
 ghost use Rattle.pm_io.specs.Bytes.{AtEnd};
 ghost use Rattle.pm_io.specs.Causes.{HasCause};
 ghost use Rattle.obj_read.specs.Fails.{of_source};
-ghost use Rattle.obj_scan.specs.Fails.{Explains, scanned_of};
-ghost use Rattle.obj_scan.specs.Meaning.{meaning_of, IsWithin};
+ghost use Rattle.obj_scan.specs.Fails.{ExplainsScan, scanned_of};
+ghost use Rattle.obj_scan.specs.Meaning.{scan_meaning_of, IsWithinLimits};
 
 use crate::scanner::Scanner;
 use crate::step::{finish, step};
@@ -33,10 +33,10 @@ pub struct Scan {
 /// Each byte, and each corner, is looked at a constant number of times. Memory is taken for the window, for one line, for
 /// lines that are continued, for the corners of one face, and for what is read.
 pub fn scan_obj<S: Source>(alloc: Global, source: &mut S) -> Result<Scan, ObjFail>
-    ensures ok { IfOk result (λ s. IfSome (S.left source.old) (λ bytes. meaning_of bytes ≡ Ok (scanned_of s))) }
-    ensures within { IfOk result (λ s. IsWithin (scanned_of s)) }
+    ensures ok { IfOk result (λ s. IfSome (S.left source.old) (λ bytes. scan_meaning_of bytes ≡ Ok (scanned_of s))) }
+    ensures within { IfOk result (λ s. IsWithinLimits (scanned_of s)) }
     ensures end { OnOk result (AtEnd (S.left source.new)) }
-    ensures err { IfErr result (λ e. Explains e (S.left source.old) (S.left source.new)) }
+    ensures err { IfErr result (λ e. ExplainsScan e (S.left source.old) (S.left source.new)) }
     ensures cause { HasCause (S.faults source.old) (S.faults source.new) (of_source result) }
 {
     let Ok(mut taker) = Taker::new(alloc) else {

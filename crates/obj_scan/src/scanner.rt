@@ -2,10 +2,10 @@
 ghost use Rattle.std.specs.Prelude.{ℕ, ◌≡◌, ◌+◌, ◌-◌, ◌<◌, ◌≤◌, ◌++◌, ◌∷◌, [], length, true, false, take, Ok, OnOk, IfErr};
 ghost use Rattle.pm_base.specs.declared.limits.TheConstants.{MOST_FACES};
 ghost use Rattle.obj_lines.specs.Text.{is_continued};
-ghost use Rattle.obj_read.specs.Fails.{IsFaultOf};
+ghost use Rattle.obj_read.specs.Fails.{IsLineFault};
 ghost use Rattle.obj_read.specs.Fields.{fields};
 ghost use Rattle.obj_scan.specs.Fails.{scanned_of};
-ghost use Rattle.obj_scan.specs.Judged.{vertex_line, face_line, polygons_after};
+ghost use Rattle.obj_scan.specs.Judged.{scanned_vertex_line, polygon_line, polygons_after};
 ghost use Rattle.obj_scan.specs.Reading.{IsScanning, given, scanned_after, held_of, nothing_held, taken};
 
 use crate::OutOfMemory;
@@ -29,9 +29,9 @@ pub struct Scanner {
 // Takes a vertex.
 fn take_vertex(scan: &mut Scan, text: &[u8], line: u32) -> Result<(), ObjFail>
     requires scanning { IsScanning (scanned_of scan.old) }
-    ensures ok { OnOk result (given (scanned_of scan.old) (vertex_line (length scan.old.points.items) (fields text.now)) ≡ Ok (scanned_of scan.new)) }
+    ensures ok { OnOk result (given (scanned_of scan.old) (scanned_vertex_line (length scan.old.points.items) (fields text.now)) ≡ Ok (scanned_of scan.new)) }
     ensures scanning { OnOk result (IsScanning (scanned_of scan.new)) }
-    ensures fault { IfErr result (λ e. IsFaultOf e line (vertex_line (length scan.old.points.items) (fields text.now))) }
+    ensures fault { IfErr result (λ e. IsLineFault e line (scanned_vertex_line (length scan.old.points.items) (fields text.now))) }
 {
     match vertex_line(scan.points.len() as u32, text) {
         Err(fault) => Err(ObjFail::Fault { fault, line }),
@@ -57,9 +57,9 @@ fn polygons_after(polygons: u32, corners: &[u32]) -> u32
 // Takes a face.
 fn take_face(scan: &mut Scan, corners: &mut Vec<u32>, text: &[u8], line: u32) -> Result<(), ObjFail>
     requires scanning { IsScanning (scanned_of scan.old) }
-    ensures ok { OnOk result (given (scanned_of scan.old) (face_line (length scan.old.points.items) (length scan.old.faces.items) (fields text.now)) ≡ Ok (scanned_of scan.new)) }
+    ensures ok { OnOk result (given (scanned_of scan.old) (polygon_line (length scan.old.points.items) (length scan.old.faces.items) (fields text.now)) ≡ Ok (scanned_of scan.new)) }
     ensures scanning { OnOk result (IsScanning (scanned_of scan.new)) }
-    ensures fault { IfErr result (λ e. IsFaultOf e line (face_line (length scan.old.points.items) (length scan.old.faces.items) (fields text.now))) }
+    ensures fault { IfErr result (λ e. IsLineFault e line (polygon_line (length scan.old.points.items) (length scan.old.faces.items) (fields text.now))) }
 {
     let (vertices, faces) = (scan.points.len() as u32, scan.faces.len() as u32);
     face_line(vertices, faces, text, line, corners)?;
@@ -71,12 +71,12 @@ fn take_face(scan: &mut Scan, corners: &mut Vec<u32>, text: &[u8], line: u32) ->
 }
 
 // Takes what a text gives. One that begins with neither `v` nor `f` is skipped.
-#[tactic(auto, unfolding(crate::specs::Reading::scanned_after, crate::specs::Judged::line_found), using(crate::proofs::ScanLaws::given_fault))]
+#[tactic(auto, unfolding(crate::specs::Reading::scanned_after, crate::specs::Judged::scanned_line), using(crate::proofs::ScanLaws::given_fault))]
 fn take_text(scan: &mut Scan, corners: &mut Vec<u32>, text: &[u8], line: u32) -> Result<(), ObjFail>
     requires scanning { IsScanning (scanned_of scan.old) }
     ensures ok { OnOk result (scanned_after (scanned_of scan.old) text.now ≡ Ok (scanned_of scan.new)) }
     ensures scanning { OnOk result (IsScanning (scanned_of scan.new)) }
-    ensures fault { IfErr result (λ e. IsFaultOf e line (scanned_after (scanned_of scan.old) text.now)) }
+    ensures fault { IfErr result (λ e. IsLineFault e line (scanned_after (scanned_of scan.old) text.now)) }
 {
     match next_field(text) {
         Some((keyword, rest)) if is_letter(b'v', keyword) => take_vertex(scan, rest, line),
@@ -120,7 +120,7 @@ impl Scanner {
         ensures scanning { OnOk result (IsScanning (scanned_of self.new.scan)) }
         ensures begun { OnOk result (self.new.begun.items ≡ []) }
         ensures continued { OnOk result (self.new.continued ≡ 0) }
-        ensures fault { IfErr result (λ e. IsFaultOf e line (scanned_after (scanned_of self.old.scan) (self.old.begun.items ++ text.now))) }
+        ensures fault { IfErr result (λ e. IsLineFault e line (scanned_after (scanned_of self.old.scan) (self.old.begun.items ++ text.now))) }
     {
         self.continued = 0;
         if self.begun.is_empty() {
@@ -147,7 +147,7 @@ impl Scanner {
         ensures ok { OnOk result (taken (held_of self.old) text.now ≡ Ok (held_of self.new)) }
         ensures scanning { OnOk result (IsScanning (scanned_of self.new.scan)) }
         ensures continued { OnOk result (self.new.continued ≤ number) }
-        ensures fault { IfErr result (λ e. IsFaultOf e (number - self.old.continued) (taken (held_of self.old) text.now)) }
+        ensures fault { IfErr result (λ e. IsLineFault e (number - self.old.continued) (taken (held_of self.old) text.now)) }
     {
         let line = number - self.continued;
         if self.begun.len() + text.len() > MOST_LINE_BYTES {

@@ -6,9 +6,9 @@ ghost use Rattle.pm_io.specs.Causes.{HasCause};
 ghost use Rattle.obj_lines.specs.Feeding.{open_line};
 ghost use Rattle.obj_lines.specs.Text.{lines as lines_of};
 ghost use Rattle.obj_read.specs.Fails.{IsRefused, of_source};
-ghost use Rattle.obj_scan.specs.Fails.{Explains, scanned_of};
-ghost use Rattle.obj_scan.specs.Meaning.{IsWithin, at_end, meaning_from};
-ghost use Rattle.obj_scan.specs.Reading.{IsReady, IsReading, after_lines, held_of, so_far};
+ghost use Rattle.obj_scan.specs.Fails.{ExplainsScan, scanned_of};
+ghost use Rattle.obj_scan.specs.Meaning.{IsWithinLimits, at_end, scan_meaning_from};
+ghost use Rattle.obj_scan.specs.Reading.{IsReadyToScan, IsScanningText, after_lines, held_of, scanned_so_far};
 
 use crate::scan::Scan;
 use crate::scanner::Scanner;
@@ -25,14 +25,14 @@ pub fn step<S: Source>(
     scanner: &mut Scanner,
     progress: &mut Progress,
 ) -> Result<bool, ObjFail>
-    requires ready { IsReady lines.old (held_of scanner.old) progress.old }
-    ensures ready { OnOk result (IsReady lines.new (held_of scanner.new) progress.new) }
-    ensures reads_on { (whole : Option (List ℕ)) → IsReading whole taker.old (S.left source.old) progress.old (held_of scanner.old) lines.old
-        → OnOk result (IsReading whole taker.new (S.left source.new) progress.new (held_of scanner.new) lines.new) }
+    requires ready { IsReadyToScan lines.old (held_of scanner.old) progress.old }
+    ensures ready { OnOk result (IsReadyToScan lines.new (held_of scanner.new) progress.new) }
+    ensures reads_on { (whole : Option (List ℕ)) → IsScanningText whole taker.old (S.left source.old) progress.old (held_of scanner.old) lines.old
+        → OnOk result (IsScanningText whole taker.new (S.left source.new) progress.new (held_of scanner.new) lines.new) }
     ensures more { IfOk result (λ more. more ≡ true → progress.old.taken < progress.new.taken) }
     ensures end { IfOk result (λ more. more ≡ false → AtEnd (prepend_known taker.new (S.left source.new))) }
     ensures err { IfErr result (λ e. (whole : Option (List ℕ))
-        → IsReading whole taker.old (S.left source.old) progress.old (held_of scanner.old) lines.old → Explains e whole (S.left source.new)) }
+        → IsScanningText whole taker.old (S.left source.old) progress.old (held_of scanner.old) lines.old → ExplainsScan e whole (S.left source.new)) }
     ensures cause { HasCause (S.faults source.old) (S.faults source.new) (of_source result) }
 {
     let fed = match taker.piece(source) {
@@ -86,10 +86,10 @@ fn end(scanner: Scanner, number: u32) -> Result<Scan, ObjFail>
 
 /// At the end of input: the last line, where one is open.
 pub fn finish(scanner: Scanner, lines: Lines, progress: Progress) -> Result<Scan, ObjFail>
-    requires ready { IsReady lines (held_of scanner) progress }
-    ensures ok { IfOk result (λ s. meaning_from (so_far progress (held_of scanner)) (lines_of (open_line lines)) ≡ Ok (scanned_of s)) }
-    ensures within { IfOk result (λ s. IsWithin (scanned_of s)) }
-    ensures err { IfErr result (λ e. IsRefused e (meaning_from (so_far progress (held_of scanner)) (lines_of (open_line lines)))) }
+    requires ready { IsReadyToScan lines (held_of scanner) progress }
+    ensures ok { IfOk result (λ s. scan_meaning_from (scanned_so_far progress (held_of scanner)) (lines_of (open_line lines)) ≡ Ok (scanned_of s)) }
+    ensures within { IfOk result (λ s. IsWithinLimits (scanned_of s)) }
+    ensures err { IfErr result (λ e. IsRefused e (scan_meaning_from (scanned_so_far progress (held_of scanner)) (lines_of (open_line lines)))) }
 {
     let mut scanner = scanner;
     let mut lines = lines;

@@ -2,7 +2,7 @@
 use Rattle.std.proofs.Common.{◌≡◌, ℕ, zero, suc, ◌-◌, ◌<◌, ◌≤◌, ◌⊎◌, inl, inr, refl, sym, ap, ◌∙◌, subst, arith}
 use Rattle.std.proofs.lemmas.Bool.{cases_eq, cases_order}
 use Rattle.pm_base.specs.Sides.{Net, side_count, to, third, Stands, NoSideTwice, IsBorderSide, IsBorder}
-use Rattle.pm_base.specs.Fans.{IsPairAt, IsUsed, IsChain, IsDistinctBelow, IsOpen, IsClosed, IsFan, IsOrientedManifold}
+use Rattle.pm_base.specs.Fans.{IsPairAt, IsUsed, IsChain, IsDistinctBelow, IsOpen, IsClosedChain, IsFan, IsOrientedManifold}
 use Rattle.pm_base.specs.Rounds.{Goes, stay, on, IsRound, NoMirrorAt}
 use Rattle.pm_base.proofs.Search.{Decided, search_below}
 use Rattle.pm_base.proofs.Sides.{turn}
@@ -90,18 +90,18 @@ round_fan m once v plain (c, all) =
     ]
 
 -- In a closed fan a pair leads to each first and a pair leads on from each second, so no side at the vertex is alone.
-led_to : (m : Net) (v : ℕ) (fan : IsFan m v) → IsClosed fan.w fan.n → (i : ℕ) → i < fan.n → (z : ℕ) × IsPairAt m v z (fan.w i)
+led_to : (m : Net) (v : ℕ) (fan : IsFan m v) → IsClosedChain fan.w fan.n → (i : ℕ) → i < fan.n → (z : ℕ) × IsPairAt m v z (fan.w i)
 led_to m v fan (big, closed, d) zero l =
     let last : suc (fan.n - 1) ≡ fan.n = omega arith in
     (fan.w (fan.n - 1), subst (λ x. IsPairAt m v (fan.w (fan.n - 1)) x) (ap fan.w last ∙ closed) (fan.chain.here (fan.n - 1) (omega arith)))
 led_to m v fan (big, closed, d) (suc i) l = (fan.w i, fan.chain.here i (omega arith))
 
-leads_on : (m : Net) (v : ℕ) (fan : IsFan m v) → IsClosed fan.w fan.n → (i : ℕ) → i < fan.n → (z : ℕ) × IsPairAt m v (fan.w (suc i)) z
+leads_on : (m : Net) (v : ℕ) (fan : IsFan m v) → IsClosedChain fan.w fan.n → (i : ℕ) → i < fan.n → (z : ℕ) × IsPairAt m v (fan.w (suc i)) z
 leads_on m v fan (big, closed, d) i l =
     let (r, r_lt, r_is, r_how) = after fan.w fan.n i big closed l in
     (fan.w (suc r), subst (λ x. IsPairAt m v x (fan.w (suc r))) (sym r_is) (fan.chain.here r r_lt))
 
-pub closed_inner : (m : Net) (v : ℕ) (fan : IsFan m v) → IsClosed fan.w fan.n → IsBorder m v → ⊥
+pub closed_inner : (m : Net) (v : ℕ) (fan : IsFan m v) → IsClosedChain fan.w fan.n → IsBorder m v → ⊥
 closed_inner m v fan closed (e, b, at) =
     elim at [
       | inl is ↦

@@ -28,15 +28,15 @@ abbrev pub IsOpen : (ℕ → ℕ) → ℕ → Type 0
 IsOpen w n = IsDistinctBelow w (suc n)
 
 -- A chain of at least three pairs that comes back to its first vertex.
-abbrev pub IsClosed : (ℕ → ℕ) → ℕ → Type 0
-IsClosed w n = (3 ≤ n) × (w n ≡ w 0) × IsDistinctBelow w n
+abbrev pub IsClosedChain : (ℕ → ℕ) → ℕ → Type 0
+IsClosedChain w n = (3 ≤ n) × (w n ≡ w 0) × IsDistinctBelow w n
 
 -- The faces at v are one chain, open or closed.
 pub record IsFan (m : Net) (v : ℕ) : Type 0 where
   pub w : ℕ → ℕ
   pub n : ℕ
   pub chain : IsChain m v w n
-  pub ends : IsOpen w n ⊎ IsClosed w n
+  pub ends : IsOpen w n ⊎ IsClosedChain w n
 
 -- No directed side stands twice, and the faces at each vertex that a face uses are a fan.
 pub record IsOrientedManifold (m : Net) : Type 0 where

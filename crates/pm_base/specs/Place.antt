@@ -7,6 +7,10 @@ pub record Place : Type 0 where
   pub y : ℤ
   pub z : ℤ
 
+-- The middle of space. It also stands where a list has no place.
+abbrev pub origin : Place
+origin = record { x = pos 0; y = pos 0; z = pos 0 }
+
 -- A coordinate is from -32,767 to 32,767.
 abbrev pub is_coordinate : ℤ → Bool
 is_coordinate n = nat_le (unsigned_abs n) GREATEST_COORDINATE

@@ -14,7 +14,7 @@ use Rattle.pm_base.proofs.Lengths.{distances_le}
 use Rattle.pm_base.proofs.Search.{option_cases}
 use Rattle.pm_forest.specs.declared.parts.Face.{Face}
 use Rattle.pm_forest.specs.Forest.{Hierarchy, record_count, node_count, s_of, t_of, u_of, holds, Holds, Makes, splitter_of, HasForestShape}
-use Rattle.pm_forest.specs.Faces.{faces_of, face_count, corners_of, from_leaf, no_corners}
+use Rattle.pm_forest.specs.Faces.{faces_of, face_count, corners_of, from_leaf, no_face_corners}
 use Rattle.pm_forest.specs.Places.{place_of_node}
 use Rattle.pm_forest.specs.Rules.{HasShape}
 use Rattle.pm_forest.specs.Tables.{leaf_node_of}
@@ -23,9 +23,10 @@ use Rattle.pm_forest.proofs.HierarchyLaws.{unsplit-single}
 use Rattle.pm_forest.proofs.LeafNodes.{leaf_node-unsplit}
 use Rattle.pm_forest.proofs.Nodes.{splitter_of-splits, holds-u_from_s}
 use Rattle.pm_forest.proofs.ShapeLaws.{shape_of_nodes}
+use Rattle.pm_forest.specs.Meshes.{leaf_place}
 use Rattle.pm_bounds.specs.declared.normal_box.NormalBox.{NormalBox}
 use Rattle.pm_bounds.specs.Boxes.{joined, join, zero_box}
-use Rattle.pm_bounds.specs.Bounds.{leaf_place, normal_of, is_under, reach, leaf_radius, over_children, error_of, radius_of, box_under, normal_box_of}
+use Rattle.pm_bounds.specs.Bounds.{normal_of, has_corner_under, reach, leaf_radius, over_children, error_of, radius_of, box_under, normal_box_of}
 use Rattle.pm_bounds.specs.Laws.{Grows, IsIn, IsNested}
 use Rattle.pm_bounds.proofs.FacesUnder.{under_from, face_there, child_faces}
 use Rattle.pm_bounds.proofs.ListLaws.{greatest_above, IsInSome, min_left, min_right, max_left, max_right, same_z, ≤ℤ_by, box_above}
@@ -166,9 +167,9 @@ module _ (h : Hierarchy) (shape : HasShape h) where
       let f = face_of e in
       let is_face : f < face_count h = omega arith in
       let there = face_there h f is_face in
-      let p : is_under h w (corners_of h f) ≡ true = subst (λ g. is_under h w (corners_of h g) ≡ true) same (under_from h w under held) in
-      let p' : is_under h w (get_or (faces_of h) f no_corners) ≡ true = subst (λ (g : Face). is_under h w g ≡ true) (sym there.0) p in
-      let most = subst (λ (g : Face). reach h w g ≤ leaf_radius h w) there.0 (greatest_above (reach h w) (is_under h w) (faces_of h) f no_corners there.1 p') in
+      let p : has_corner_under h w (corners_of h f) ≡ true = subst (λ g. has_corner_under h w (corners_of h g) ≡ true) same (under_from h w under held) in
+      let p' : has_corner_under h w (get_or (faces_of h) f no_face_corners) ≡ true = subst (λ (g : Face). has_corner_under h w g ≡ true) (sym there.0) p in
+      let most = subst (λ (g : Face). reach h w g ≤ leaf_radius h w) there.0 (greatest_above (reach h w) (has_corner_under h w) (faces_of h) f no_face_corners there.1 p') in
       let far = reach_corner h w e in
       let radius = own_radius w none in
       squares (dist2_of (place_of_node h w) q) (distance_of (place_of_node h w) q) (radius_of h w) (near (place_of_node h w) q) (omega arith))
@@ -184,8 +185,8 @@ module _ (h : Hierarchy) (shape : HasShape h) where
       let f = face_of e in
       let is_face : f < face_count h = omega arith in
       let there = face_there h f is_face in
-      let p : is_under h v (get_or (faces_of h) f no_corners) ≡ true = subst (λ (g : Face). is_under h v g ≡ true) (sym there.0) (under_from h v e held) in
-      subst (λ (g : Face). IsInSome (normal_of h g) (box_under h v)) there.0 (box_above (normal_of h) (is_under h v) (faces_of h) f no_corners there.1 p)
+      let p : has_corner_under h v (get_or (faces_of h) f no_face_corners) ≡ true = subst (λ (g : Face). has_corner_under h v g ≡ true) (sym there.0) (under_from h v e held) in
+      subst (λ (g : Face). IsInSome (normal_of h g) (box_under h v)) there.0 (box_above (normal_of h) (has_corner_under h v) (faces_of h) f no_face_corners there.1 p)
 
   pub normals_boxed : (v e : ℕ) → e < 3 * face_count h → Holds h v (from_leaf h e) → IsIn (normal_of h (corners_of h (face_of e))) (normal_box_of h v)
   normals_boxed v e l held =

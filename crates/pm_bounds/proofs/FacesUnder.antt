@@ -5,7 +5,7 @@ use Rattle.pm_base.specs.Counts.{one_if}
 use Rattle.pm_base.specs.Sides.{face_of, next}
 use Rattle.pm_base.proofs.Sides.{face_of-next}
 use Rattle.pm_forest.specs.Forest.{Hierarchy, record_at, record_count, t_of, u_of, holds, Holds, Makes}
-use Rattle.pm_forest.specs.Faces.{faces_of, first_face, face_count, revealed_by, is_left, corners_of, from_leaf, inner_of, no_corners}
+use Rattle.pm_forest.specs.Faces.{faces_of, first_face, face_count, revealed_by, is_left, corners_of, from_leaf, inner_of, no_face_corners}
 use Rattle.pm_forest.specs.Rules.{HasShape, head_is_bad, split_is_bad, presence_is_bad, head_fault, head_of}
 use Rattle.pm_forest.proofs.Corners.{which_corner, corner_a, corner_b, corner_c}
 use Rattle.pm_forest.proofs.FaceLists.{length-faces_of, corners_of-faces_of}
@@ -13,11 +13,11 @@ use Rattle.pm_forest.proofs.FaceNumbers.{first_face-mono, revealed-from}
 use Rattle.pm_forest.proofs.Prefix.{cut}
 use Rattle.pm_forest.proofs.ShapeLaws.{shape_of_faces, record_fits}
 use Rattle.pm_forest.proofs.UnitLaws.{passed}
-use Rattle.pm_bounds.specs.Bounds.{is_under}
+use Rattle.pm_bounds.specs.Bounds.{has_corner_under}
 
 module _ (h : Hierarchy) where
   -- a face with a side that begins under a node is under it
-  pub under_from : (v e : ℕ) → Holds h v (from_leaf h e) → is_under h v (corners_of h (face_of e)) ≡ true
+  pub under_from : (v e : ℕ) → Holds h v (from_leaf h e) → has_corner_under h v (corners_of h (face_of e)) ≡ true
   under_from v e held =
       let f = corners_of h (face_of e) in
       elim (which_corner e) [
@@ -35,7 +35,7 @@ module _ (h : Hierarchy) where
       ]
 
   -- the list of faces has face f at f
-  pub face_there : (f : ℕ) → f < face_count h → (get_or (faces_of h) f no_corners ≡ corners_of h f) × (f < length (faces_of h))
+  pub face_there : (f : ℕ) → f < face_count h → (get_or (faces_of h) f no_face_corners ≡ corners_of h f) × (f < length (faces_of h))
   face_there f l = let len = length-faces_of h in (sym (corners_of-faces_of h f l), omega arith)
 
 inner_face : (h : Hierarchy) (k f : ℕ) → face_of (inner_of h k f) ≡ f

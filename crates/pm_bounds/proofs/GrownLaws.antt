@@ -10,7 +10,7 @@ use Rattle.pm_forest.proofs.Nodes.{splitter_of-splits, splitter_of-s}
 use Rattle.pm_forest.proofs.ShapeLaws.{shape_of_nodes}
 use Rattle.pm_bounds.specs.declared.normal_box.NormalBox.{NormalBox}
 use Rattle.pm_bounds.specs.Boxes.{join, box_of, IsSmallBox}
-use Rattle.pm_bounds.specs.Bounds.{is_under, normal_of, from_children, grown_in, grown_from, box_under}
+use Rattle.pm_bounds.specs.Bounds.{has_corner_under, normal_of, from_children, grown_in, grown_from, box_under}
 use Rattle.pm_bounds.proofs.BoxLaws.{join-small, box_of-either}
 use Rattle.pm_bounds.proofs.LeafLaws.{filter_same}
 use Rattle.pm_bounds.proofs.Nodes.{split_node, children_faces}
@@ -144,8 +144,8 @@ module _ (h : Hierarchy) (shape : HasShape h) where
   pub box_under-split : (k : ℕ) → k < record_count h → box_under h (s_of h k) ≡ join (box_under h (t_of h k)) (box_under h (u_of h k))
   unfolding box_under
   box_under-split k l =
-      ap (λ fs. box_of (map (normal_of h) fs)) (filter_same (is_under h (s_of h k)) (λ f. is_under h (t_of h k) f || is_under h (u_of h k) f) (faces_of h) (λ f. children_faces h shape k f l))
-      ∙ box_of-either (normal_of h) (is_under h (t_of h k)) (is_under h (u_of h k)) (faces_of h)
+      ap (λ fs. box_of (map (normal_of h) fs)) (filter_same (has_corner_under h (s_of h k)) (λ f. has_corner_under h (t_of h k) f || has_corner_under h (u_of h k) f) (faces_of h) (λ f. children_faces h shape k f l))
+      ∙ box_of-either (normal_of h) (has_corner_under h (t_of h k)) (has_corner_under h (u_of h k)) (faces_of h)
 
   pub joined_start : (first : List (Option NormalBox)) → length first ≡ node_count h →
       ((v : ℕ) → v < node_count h → splitter_of h v ≡ None → get_or first v None ≡ box_under h v) →

@@ -10,15 +10,16 @@ use Rattle.pm_base.proofs.Root.{root_up_is, root_up_only}
 use Rattle.pm_forest.specs.Places.{place_of_node}
 use Rattle.pm_forest.specs.declared.parts.Face.{Face}
 use Rattle.pm_forest.specs.Forest.{Hierarchy, leaf_count}
-use Rattle.pm_forest.specs.Faces.{faces_of, face_count, corners_of, no_corners}
+use Rattle.pm_forest.specs.Faces.{faces_of, face_count, corners_of, no_face_corners}
 use Rattle.pm_forest.specs.Rules.{HasShape}
 use Rattle.pm_forest.specs.Tables.{leaf_node_of}
 use Rattle.pm_forest.proofs.FaceLists.{length-faces_of, corners_of-faces_of}
+use Rattle.pm_forest.specs.Meshes.{leaf_place}
 use Rattle.pm_bounds.specs.declared.leaves.LeafBounds.{LeafBounds}
 use Rattle.pm_bounds.specs.declared.normal_box.NormalBox.{NormalBox}
 use Rattle.pm_bounds.specs.Boxes.{box_at, join, box_of}
-use Rattle.pm_bounds.specs.Bounds.{greatest, leaf_place, reach, is_under, normal_of, leaf_radius, box_under}
-use Rattle.pm_bounds.specs.Leaves.{bare_leaf_at, widened_by, is_corner, square_reach}
+use Rattle.pm_bounds.specs.Bounds.{greatest, reach, has_corner_under, normal_of, leaf_radius, box_under}
+use Rattle.pm_bounds.specs.Leaves.{bare_leaf_at, widened_by, is_leaf_corner, square_reach}
 use Rattle.pm_bounds.proofs.BoxLaws.{box_of-more}
 use Rattle.pm_bounds.proofs.Nodes.{own_faces}
 
@@ -54,34 +55,34 @@ first_faces h n = take n (faces_of h)
 
 -- The square of a leaf, and the box of a node, by these faces alone.
 unfoldable pub square_in : Hierarchy → ℕ → ℕ → ℕ
-square_in h n v = greatest (map (square_reach h v) (filter (is_under h v) (first_faces h n)))
+square_in h n v = greatest (map (square_reach h v) (filter (has_corner_under h v) (first_faces h n)))
 
 unfoldable pub box_in : Hierarchy → ℕ → ℕ → Option NormalBox
-box_in h n v = box_of (map (normal_of h) (filter (is_under h v) (first_faces h n)))
+box_in h n v = box_of (map (normal_of h) (filter (has_corner_under h v) (first_faces h n)))
 
 module _ (h : Hierarchy) where
   one_more : (n : ℕ) → n < face_count h → first_faces h (n + 1) ≡ first_faces h n ++ corners_of h n ∷ []
   one_more n l =
       let len = length-faces_of h in
-      take_more (faces_of h) n no_corners (omega arith) ∙ ap (λ f. first_faces h n ++ f ∷ []) (sym (corners_of-faces_of h n l))
+      take_more (faces_of h) n no_face_corners (omega arith) ∙ ap (λ f. first_faces h n ++ f ∷ []) (sym (corners_of-faces_of h n l))
 
   square_in-none : (v : ℕ) → square_in h 0 v ≡ 0
   unfolding square_in
   square_in-none v = refl
 
   square_in-more : (n v : ℕ) → n < face_count h →
-      square_in h (n + 1) v ≡ cond (is_under h v (corners_of h n)) (max (square_in h n v) (square_reach h v (corners_of h n))) (square_in h n v)
+      square_in h (n + 1) v ≡ cond (has_corner_under h v (corners_of h n)) (max (square_in h n v) (square_reach h v (corners_of h n))) (square_in h n v)
   unfolding square_in
   square_in-more n v l =
       let f = corners_of h n in
       let fs = first_faces h n in
-      let all : filter (is_under h v) (first_faces h (n + 1)) ≡ cond (is_under h v f) (filter (is_under h v) fs ++ f ∷ []) (filter (is_under h v) fs) =
-      ap (filter (is_under h v)) (one_more n l) ∙ filter-more (is_under h v) fs f in
-      elim (cases_Bool (is_under h v f)) [
+      let all : filter (has_corner_under h v) (first_faces h (n + 1)) ≡ cond (has_corner_under h v f) (filter (has_corner_under h v) fs ++ f ∷ []) (filter (has_corner_under h v) fs) =
+      ap (filter (has_corner_under h v)) (one_more n l) ∙ filter-more (has_corner_under h v) fs f in
+      elim (cases_Bool (has_corner_under h v f)) [
         | inl e ↦
             ap (λ l. greatest (map (square_reach h v) l)) (all ∙ cond-true _ _ _ e)
-            ∙ ap greatest (map-append (square_reach h v) (filter (is_under h v) fs) (f ∷ []))
-            ∙ greatest-more (map (square_reach h v) (filter (is_under h v) fs)) (square_reach h v f)
+            ∙ ap greatest (map-append (square_reach h v) (filter (has_corner_under h v) fs) (f ∷ []))
+            ∙ greatest-more (map (square_reach h v) (filter (has_corner_under h v) fs)) (square_reach h v f)
             ∙ sym (cond-true _ _ _ e)
         | inr e ↦ ap (λ l. greatest (map (square_reach h v) l)) (all ∙ cond-false _ _ _ e) ∙ sym (cond-false _ _ _ e)
       ]
@@ -91,18 +92,18 @@ module _ (h : Hierarchy) where
   box_in-none v = refl
 
   box_in-more : (n v : ℕ) → n < face_count h →
-      box_in h (n + 1) v ≡ cond (is_under h v (corners_of h n)) (join (box_in h n v) (Some (box_at (normal_of h (corners_of h n))))) (box_in h n v)
+      box_in h (n + 1) v ≡ cond (has_corner_under h v (corners_of h n)) (join (box_in h n v) (Some (box_at (normal_of h (corners_of h n))))) (box_in h n v)
   unfolding box_in
   box_in-more n v l =
       let f = corners_of h n in
       let fs = first_faces h n in
-      let all : filter (is_under h v) (first_faces h (n + 1)) ≡ cond (is_under h v f) (filter (is_under h v) fs ++ f ∷ []) (filter (is_under h v) fs) =
-      ap (filter (is_under h v)) (one_more n l) ∙ filter-more (is_under h v) fs f in
-      elim (cases_Bool (is_under h v f)) [
+      let all : filter (has_corner_under h v) (first_faces h (n + 1)) ≡ cond (has_corner_under h v f) (filter (has_corner_under h v) fs ++ f ∷ []) (filter (has_corner_under h v) fs) =
+      ap (filter (has_corner_under h v)) (one_more n l) ∙ filter-more (has_corner_under h v) fs f in
+      elim (cases_Bool (has_corner_under h v f)) [
         | inl e ↦
             ap (λ l. box_of (map (normal_of h) l)) (all ∙ cond-true _ _ _ e)
-            ∙ ap box_of (map-append (normal_of h) (filter (is_under h v) fs) (f ∷ []))
-            ∙ box_of-more (map (normal_of h) (filter (is_under h v) fs)) (normal_of h f)
+            ∙ ap box_of (map-append (normal_of h) (filter (has_corner_under h v) fs) (f ∷ []))
+            ∙ box_of-more (map (normal_of h) (filter (has_corner_under h v) fs)) (normal_of h f)
             ∙ sym (cond-true _ _ _ e)
         | inr e ↦ ap (λ l. box_of (map (normal_of h) l)) (all ∙ cond-false _ _ _ e) ∙ sym (cond-false _ _ _ e)
       ]
@@ -115,20 +116,20 @@ pub seen_at-none : (h : Hierarchy) (l : ℕ) → seen_at h 0 l ≡ bare_leaf_at 
 seen_at-none h l = rw (square_in-none h (leaf_node_of h l), box_in-none h (leaf_node_of h l)) refl
 
 pub seen_at-more : (h : Hierarchy) → HasShape h → (n l : ℕ) → n < face_count h → l < leaf_count h →
-    seen_at h (n + 1) l ≡ cond (is_corner l (corners_of h n)) (widened_by h l (corners_of h n) (seen_at h n l)) (seen_at h n l)
+    seen_at h (n + 1) l ≡ cond (is_leaf_corner l (corners_of h n)) (widened_by h l (corners_of h n) (seen_at h n l)) (seen_at h n l)
 seen_at-more h shape n l below leaf =
     let v = leaf_node_of h l in
     let f = corners_of h n in
     let square = square_in-more h n v below in
     let box = box_in-more h n v below in
     let same = own_faces h shape l f leaf in
-    elim (cases_Bool (is_under h v f)) [
+    elim (cases_Bool (has_corner_under h v f)) [
       | inl e ↦
           rw (square ∙ cond-true _ _ _ e, box ∙ cond-true _ _ _ e) refl
-          ∙ sym (cond-true (is_corner l f) (widened_by h l f (seen_at h n l)) (seen_at h n l) (same ∙ e))
+          ∙ sym (cond-true (is_leaf_corner l f) (widened_by h l f (seen_at h n l)) (seen_at h n l) (same ∙ e))
       | inr e ↦
           rw (square ∙ cond-false _ _ _ e, box ∙ cond-false _ _ _ e) refl
-          ∙ sym (cond-false (is_corner l f) (widened_by h l f (seen_at h n l)) (seen_at h n l) (same ∙ e))
+          ∙ sym (cond-false (is_leaf_corner l f) (widened_by h l f (seen_at h n l)) (seen_at h n l) (same ∙ e))
     ]
 
 -- All faces.
@@ -174,8 +175,8 @@ root_of_reaches h v (f ∷ fs) =
 
 pub square_in-all : (h : Hierarchy) (v : ℕ) → root_up (square_in h (face_count h) v) ≡ leaf_radius h v
 unfolding square_in
-square_in-all h v = root_of_reaches h v (filter (is_under h v) (first_faces h (face_count h))) ∙ ap (λ fs. greatest (map (reach h v) (filter (is_under h v) fs))) (all_faces h)
+square_in-all h v = root_of_reaches h v (filter (has_corner_under h v) (first_faces h (face_count h))) ∙ ap (λ fs. greatest (map (reach h v) (filter (has_corner_under h v) fs))) (all_faces h)
 
 pub box_in-all : (h : Hierarchy) (v : ℕ) → box_in h (face_count h) v ≡ box_under h v
 unfolding box_in box_under
-box_in-all h v = ap (λ fs. box_of (map (normal_of h) (filter (is_under h v) fs))) (all_faces h)
+box_in-all h v = ap (λ fs. box_of (map (normal_of h) (filter (has_corner_under h v) fs))) (all_faces h)

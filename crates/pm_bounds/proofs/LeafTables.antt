@@ -2,15 +2,17 @@
 use Rattle.std.proofs.Common.{◌≡◌, ℕ, ◌+◌, ◌<◌, max, cond, List, length, get_or, Some, refl, sym, ap, ◌∙◌, subst, arith}
 use Rattle.std.proofs.lemmas.List.{get_or_default}
 use Rattle.pm_base.specs.Rounded.{root_up}
+use Rattle.pm_base.specs.Place.{origin}
 use Rattle.pm_forest.specs.declared.parts.Face.{Face}
 use Rattle.pm_forest.specs.Forest.{Hierarchy, leaf_count}
 use Rattle.pm_forest.specs.Faces.{face_count, corners_of}
 use Rattle.pm_forest.specs.Rules.{HasShape}
 use Rattle.pm_forest.specs.Tables.{leaf_node_of}
+use Rattle.pm_forest.specs.Meshes.{leaf_place}
 use Rattle.pm_bounds.specs.declared.leaves.LeafBounds.{LeafBounds}
 use Rattle.pm_bounds.specs.Boxes.{box_at}
-use Rattle.pm_bounds.specs.Bounds.{origin, leaf_place, normal_of}
-use Rattle.pm_bounds.specs.Leaves.{bare_leaf_at, widened_by, square_reach, is_corner, AreBareLeaves, IsSmallLeaf, AreSmallLeaves, AreSeen}
+use Rattle.pm_bounds.specs.Bounds.{normal_of}
+use Rattle.pm_bounds.specs.Leaves.{bare_leaf_at, widened_by, square_reach, is_leaf_corner, AreBareLeaves, IsSmallLeaf, AreSmallLeaves, AreSeen}
 use Rattle.pm_bounds.proofs.BoxLaws.{join-twice}
 use Rattle.pm_bounds.proofs.LeafLaws.{seen_at, seen_at-none, seen_at-more, square_in-all, box_in-all}
 
@@ -50,13 +52,13 @@ seen_place h n leaves was l m = ap (λ (b : LeafBounds). b.place) (was.each l m)
 -- one face more
 pub seen_more : (h : Hierarchy) → HasShape h → (n : ℕ) → n < face_count h → (old new : List LeafBounds) → AreSeenTo h n old → length new ≡ leaf_count h →
     ((l : ℕ) → l < leaf_count h → get_or new l (bare_leaf_at origin)
-    ≡ cond (is_corner l (corners_of h n)) (widened_by h l (corners_of h n) (get_or old l (bare_leaf_at origin))) (get_or old l (bare_leaf_at origin))) →
+    ≡ cond (is_leaf_corner l (corners_of h n)) (widened_by h l (corners_of h n) (get_or old l (bare_leaf_at origin))) (get_or old l (bare_leaf_at origin))) →
     AreSmallLeaves new → AreSeenTo h (n + 1) new
 seen_more h shape n below old new was len wider small = record {
   len = len;
   each = λ l m.
       wider l m
-      ∙ ap (λ b. cond (is_corner l (corners_of h n)) (widened_by h l (corners_of h n) b) b) (was.each l m)
+      ∙ ap (λ b. cond (is_leaf_corner l (corners_of h n)) (widened_by h l (corners_of h n) b) b) (was.each l m)
       ∙ sym (seen_at-more h shape n l below m);
   small = small;
 }

@@ -7,8 +7,9 @@ use Rattle.pm_base.specs.Place.{Place}
 use Rattle.pm_forest.specs.declared.parts.Face.{Face}
 use Rattle.pm_forest.specs.Forest.{Hierarchy}
 use Rattle.pm_forest.specs.Tables.{leaf_node_of}
+use Rattle.pm_forest.specs.Meshes.{leaf_place}
 use Rattle.pm_bounds.specs.Boxes.{box_at}
-use Rattle.pm_bounds.specs.Bounds.{greatest, leaf_place, normal_of}
+use Rattle.pm_bounds.specs.Bounds.{greatest, normal_of}
 use Rattle.pm_bounds.specs.Leaves.{square_reach}
 
 -- A place isn't apart from itself, and two places are as far apart from either.

@@ -2,7 +2,7 @@
 use Rattle.std.proofs.Common.{◌≡◌, ℕ, suc, ◌+◌, ◌*◌, ◌<◌, ◌≤◌, ◌-◌, List, length, map, replicate, get_or, set, length-set, Option, None, IfSome, inl, inr, refl, sym, ap, subst, ◌∙◌, arith}
 use Rattle.std.proofs.lemmas.Bool.{cases_eq}
 use Rattle.std.proofs.lemmas.List.{map-set, get_or-map, get_or-replicate, get_or-set_same, get_or-set_other, length-map, length-replicate}
-use Rattle.pm_base.specs.Place.{Place}
+use Rattle.pm_base.specs.Place.{Place, origin}
 use Rattle.pm_base.specs.Rounded.{root_up}
 use Rattle.pm_forest.specs.Forest.{Hierarchy, record_count, node_count, leaf_count, s_of, t_of, u_of}
 use Rattle.pm_forest.specs.Places.{place_of_node}
@@ -13,9 +13,9 @@ use Rattle.pm_bounds.specs.declared.balls.Ball.{Ball}
 use Rattle.pm_bounds.specs.declared.leaves.LeafBounds.{LeafBounds}
 use Rattle.pm_bounds.specs.declared.normal_box.NormalBox.{NormalBox}
 use Rattle.pm_bounds.specs.Boxes.{join, IsSmallBox}
-use Rattle.pm_bounds.specs.Bounds.{AreBoundsOf, origin, leaf_radius, error_of, radius_of, box_under}
+use Rattle.pm_bounds.specs.Bounds.{AreBoundsOf, leaf_radius, error_of, radius_of, box_under}
 use Rattle.pm_bounds.specs.Leaves.{bare_leaf_at, AreSeen}
-use Rattle.pm_bounds.specs.Tables.{bare_at, lists_of, places_of, errors_of, radii_of, ArePlaces, AreBare, AreAtMost, AreSmallBoxes, AreOfLeaves, IsBounds, grown_at}
+use Rattle.pm_bounds.specs.Tables.{bare_at, bound_lists_of, places_of, errors_of, radii_of, ArePlaces, AreBare, AreAtMost, AreSmallBoxes, AreOfLeaves, IsBounds, grown_at}
 use Rattle.pm_bounds.proofs.GrownLaws.{IsGrown, AreJoined, grown_start, grown_step, joined_start, joined_step}
 use Rattle.pm_bounds.proofs.Nodes.{few_nodes, split_node, leaf_node-apart, has_leaf}
 use Rattle.pm_bounds.proofs.TableLaws.{kept}
@@ -122,7 +122,7 @@ given_more h shape leaves seen n l old new old_boxes new_boxes was len places er
     }
 
 -- all leaves
-pub given_all : (h : Hierarchy) → HasShape h → (n : ℕ) (balls : List Ball) (boxes : List (Option NormalBox)) → n ≡ leaf_count h → AreGiven h n balls boxes → AreOfLeaves h (lists_of balls boxes)
+pub given_all : (h : Hierarchy) → HasShape h → (n : ℕ) (balls : List Ball) (boxes : List (Option NormalBox)) → n ≡ leaf_count h → AreGiven h n balls boxes → AreOfLeaves h (bound_lists_of balls boxes)
 given_all h shape n balls boxes all was = record {
   places = was.places;
   errors = was.errors;
@@ -142,7 +142,7 @@ pub record AreGrown (h : Hierarchy) (first balls : List Ball) (table : List (Opt
   pub radii : IsGrown h (radii_of first) (radii_of balls) k
   pub boxes : AreJoined h table k
 
-module _ (h : Hierarchy) (shape : HasShape h) (first : List Ball) (first_boxes : List (Option NormalBox)) (own : AreOfLeaves h (lists_of first first_boxes)) where
+module _ (h : Hierarchy) (shape : HasShape h) (first : List Ball) (first_boxes : List (Option NormalBox)) (own : AreOfLeaves h (bound_lists_of first first_boxes)) where
   -- before any record
   pub table_start : length first ≡ node_count h → length first_boxes ≡ node_count h → AreAtMost 113509 (radii_of first) → AreSmallBoxes first_boxes →
       AreGrown h first first first_boxes (record_count h)
@@ -179,7 +179,7 @@ module _ (h : Hierarchy) (shape : HasShape h) (first : List Ball) (first_boxes :
       }
 
   -- all records
-  pub table_bounds : (balls : List Ball) (boxes : List (Option NormalBox)) → AreGrown h first balls boxes 0 → AreBoundsOf h (lists_of balls boxes)
+  pub table_bounds : (balls : List Ball) (boxes : List (Option NormalBox)) → AreGrown h first balls boxes 0 → AreBoundsOf h (bound_lists_of balls boxes)
   unfolding error_of radius_of
   table_bounds balls boxes was = record {
     nodes = was.errors.len;
@@ -189,7 +189,7 @@ module _ (h : Hierarchy) (shape : HasShape h) (first : List Ball) (first_boxes :
     boxes = λ v l. was.boxes.each v l (λ j e. omega arith);
   }
 
-  pub table_small : (balls : List Ball) (boxes : List (Option NormalBox)) → AreGrown h first balls boxes 0 → IsBounds (lists_of balls boxes)
+  pub table_small : (balls : List Ball) (boxes : List (Option NormalBox)) → AreGrown h first balls boxes 0 → IsBounds (bound_lists_of balls boxes)
   table_small balls boxes was =
       let few = few_nodes h shape in
       let errors = was.errors.len in

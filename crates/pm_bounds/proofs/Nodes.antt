@@ -9,8 +9,8 @@ use Rattle.pm_forest.proofs.Nodes.{within-true, within-from, holds-s_from_t, hol
 use Rattle.pm_forest.proofs.HierarchyLaws.{some_leaves, under_node, leaf_node-alone}
 use Rattle.pm_forest.proofs.LeafNodes.{leaf_node-unsplit}
 use Rattle.pm_forest.proofs.ShapeLaws.{leaf_count-le, root_count-le, record_count-roots, shape_of_nodes}
-use Rattle.pm_bounds.specs.Bounds.{is_under}
-use Rattle.pm_bounds.specs.Leaves.{is_corner}
+use Rattle.pm_bounds.specs.Bounds.{has_corner_under}
+use Rattle.pm_bounds.specs.Leaves.{is_leaf_corner}
 
 -- an interval of one leaf
 within_one : (l x : ℕ) → within (record { from = l; until = l + 1 }) x ≡ eqb l x
@@ -37,7 +37,7 @@ module _ (h : Hierarchy) (shape : HasShape h) where
   own_leaf l x below = ap (λ i. within i x) (leaf_node-alone h shape l below) ∙ within_one l x
 
   -- so a face is under it exactly where it has the leaf at a corner
-  pub own_faces : (l : ℕ) (f : Face) → l < leaf_count h → is_corner l f ≡ is_under h (leaf_node_of h l) f
+  pub own_faces : (l : ℕ) (f : Face) → l < leaf_count h → is_leaf_corner l f ≡ has_corner_under h (leaf_node_of h l) f
   own_faces l f below = rw (own_leaf l f.a below, own_leaf l f.b below, own_leaf l f.c below) refl
 
   -- two leaves have two nodes
@@ -79,7 +79,7 @@ module _ (h : Hierarchy) (shape : HasShape h) where
   mixed false false false false false f = refl
 
   -- and so are the faces under it
-  pub children_faces : (k : ℕ) (f : Face) → k < record_count h → is_under h (s_of h k) f ≡ (is_under h (t_of h k) f || is_under h (u_of h k) f)
+  pub children_faces : (k : ℕ) (f : Face) → k < record_count h → has_corner_under h (s_of h k) f ≡ (has_corner_under h (t_of h k) f || has_corner_under h (u_of h k) f)
   children_faces k f l =
       rw (children_hold k f.a l, children_hold k f.b l, children_hold k f.c l)
       (mixed (holds h (t_of h k) f.a) (holds h (u_of h k) f.a) (holds h (t_of h k) f.b) (holds h (u_of h k) f.b) (holds h (t_of h k) f.c) (holds h (u_of h k) f.c))

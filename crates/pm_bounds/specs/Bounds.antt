@@ -1,7 +1,7 @@
 -- The bounds of nodes: how far what is under a node can be from the node's place, and which way its faces look.
 use Rattle.std.specs.Prelude.{◌≡◌, ℕ, zero, suc, ◌+◌, ◌<◌, max, List, [], ◌∷◌, length, map, Bool, ◌||◌, Option, None, Some, pos, ◌+ℤ◌, ◌-ℤ◌, unwrap_or, slice_index_or}
 use Rattle.std.specs.List.{filter}
-use Rattle.pm_base.specs.Place.{Place}
+use Rattle.pm_base.specs.Place.{Place, origin}
 use Rattle.pm_base.specs.Geometry.{Direction, cross_of}
 use Rattle.pm_base.specs.Rounded.{distance_of}
 use Rattle.pm_forest.specs.declared.parts.Face.{Face}
@@ -9,24 +9,21 @@ use Rattle.pm_forest.specs.Forest.{Hierarchy, record_count, node_count, s_of, t_
 use Rattle.pm_forest.specs.Faces.{faces_of}
 use Rattle.pm_forest.specs.Places.{place_of_node}
 use Rattle.pm_forest.specs.Tables.{leaf_node_of}
+use Rattle.pm_forest.specs.Meshes.{leaf_place}
 use Rattle.pm_bounds.specs.declared.normal_box.NormalBox.{NormalBox}
 use Rattle.pm_bounds.specs.Boxes.{box_of, zero_box}
-
--- The place of leaf x, which is a vertex of the input.
-abbrev pub leaf_place : Hierarchy → ℕ → Place
-leaf_place h x = place_of_node h (leaf_node_of h x)
 
 -- The normal of a face of the input.
 abbrev pub normal_of : Hierarchy → Face → Direction
 normal_of h f = cross_of (leaf_place h f.a) (leaf_place h f.b) (leaf_place h f.c)
 
 -- A face has a corner under node v.
-abbrev pub is_under : Hierarchy → ℕ → Face → Bool
-is_under h v f = holds h v f.a || holds h v f.b || holds h v f.c
+abbrev pub has_corner_under : Hierarchy → ℕ → Face → Bool
+has_corner_under h v f = holds h v f.a || holds h v f.b || holds h v f.c
 
 -- The faces of the input that have a corner under node v, and their normals.
 abbrev pub faces_under : Hierarchy → ℕ → List Face
-faces_under h v = filter (is_under h v) (faces_of h)
+faces_under h v = filter (has_corner_under h v) (faces_of h)
 
 abbrev pub normals_under : Hierarchy → ℕ → List Direction
 normals_under h v = map (normal_of h) (faces_under h v)
@@ -103,10 +100,6 @@ pub record Bounds : Type 0 where
   pub errors : List ℕ
   pub radii : List ℕ
   pub boxes : List (Option NormalBox)
-
--- The middle of space, which stands where a list of places has none.
-abbrev pub origin : Place
-origin = record { x = pos 0; y = pos 0; z = pos 0 }
 
 -- These are the bounds of h.
 pub record AreBoundsOf (h : Hierarchy) (b : Bounds) : Type 0 where

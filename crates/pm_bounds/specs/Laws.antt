@@ -7,9 +7,10 @@ use Rattle.pm_forest.specs.Faces.{face_count, corners_of, from_leaf}
 use Rattle.pm_forest.specs.Places.{place_of_node}
 use Rattle.pm_forest.specs.Rules.{HasShape}
 use Rattle.pm_forest.specs.Tables.{IsSingle}
+use Rattle.pm_forest.specs.Meshes.{leaf_place}
 use Rattle.pm_bounds.specs.declared.normal_box.NormalBox.{NormalBox}
 use Rattle.pm_bounds.specs.Boxes.{join}
-use Rattle.pm_bounds.specs.Bounds.{leaf_place, normal_of, leaf_radius, over_children, error_of, radius_of, box_under, normal_box_of}
+use Rattle.pm_bounds.specs.Bounds.{normal_of, leaf_radius, over_children, error_of, radius_of, box_under, normal_box_of}
 
 -- The two equations of a number that grows from the leaves up: a node of one leaf has a number of its own, and another
 -- node has one by its children.

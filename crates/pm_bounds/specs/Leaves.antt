@@ -1,16 +1,17 @@
 -- What the table of leaves keeps while faces are gone through.
 use Rattle.std.specs.Prelude.{◌≡◌, ℕ, ◌<◌, ◌≤◌, ◌||◌, ◌==◌, Bool, max, None, Some, List, [], ◌∷◌, length, IfSome, slice_index_or}
 use Rattle.pm_base.specs.Geometry.{dist2_of}
-use Rattle.pm_base.specs.Place.{Place}
+use Rattle.pm_base.specs.Place.{Place, origin}
 use Rattle.pm_base.specs.Rounded.{root_up}
 use Rattle.pm_forest.specs.declared.parts.Face.{Face}
 use Rattle.pm_forest.specs.Forest.{Hierarchy, leaf_count}
 use Rattle.pm_forest.specs.Places.{place_of_node}
 use Rattle.pm_forest.specs.Tables.{leaf_node_of}
+use Rattle.pm_forest.specs.Meshes.{leaf_place}
 use Rattle.pm_bounds.specs.declared.leaves.LeafBounds.{LeafBounds}
 use Rattle.pm_bounds.specs.declared.normal_box.NormalBox.{NormalBox}
 use Rattle.pm_bounds.specs.Boxes.{box_at, join, IsSmallBox}
-use Rattle.pm_bounds.specs.Bounds.{origin, greatest, leaf_place, normal_of, leaf_radius, box_under}
+use Rattle.pm_bounds.specs.Bounds.{greatest, normal_of, leaf_radius, box_under}
 
 -- A leaf at a place, at which no face has been seen yet.
 abbrev pub bare_leaf_at : Place → LeafBounds
@@ -36,8 +37,8 @@ abbrev pub widened_by : Hierarchy → ℕ → Face → LeafBounds → LeafBounds
 widened_by h l f b = widened b (square_reach h (leaf_node_of h l) f) (box_at (normal_of h f))
 
 -- Leaf l is at a corner of the face.
-abbrev pub is_corner : ℕ → Face → Bool
-is_corner l f = l == f.a || l == f.b || l == f.c
+abbrev pub is_leaf_corner : ℕ → Face → Bool
+is_leaf_corner l f = l == f.a || l == f.b || l == f.c
 
 -- No square and no box is large.
 abbrev pub IsSmallLeaf : LeafBounds → Type 0

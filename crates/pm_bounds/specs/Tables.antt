@@ -1,12 +1,12 @@
 -- What the tables of bounds keep.
 use Rattle.std.specs.Prelude.{◌≡◌, ℕ, ◌<◌, ◌≤◌, ◌^◌, None, List, length, map, Option, IfSome, slice_index_or}
-use Rattle.pm_base.specs.Place.{Place}
+use Rattle.pm_base.specs.Place.{Place, origin}
 use Rattle.pm_forest.specs.Forest.{Hierarchy, node_count, splitter_of}
 use Rattle.pm_forest.specs.Places.{place_of_node}
 use Rattle.pm_bounds.specs.declared.balls.Ball.{Ball}
 use Rattle.pm_bounds.specs.declared.normal_box.NormalBox.{NormalBox}
 use Rattle.pm_bounds.specs.Boxes.{IsSmallBox}
-use Rattle.pm_bounds.specs.Bounds.{Bounds, origin, leaf_radius, over_children, box_under}
+use Rattle.pm_bounds.specs.Bounds.{Bounds, leaf_radius, over_children, box_under}
 
 -- A list of each kind from the balls and the boxes of all nodes.
 abbrev pub places_of : List Ball → List Place
@@ -18,8 +18,8 @@ errors_of balls = map (λ (b : Ball). b.error) balls
 abbrev pub radii_of : List Ball → List ℕ
 radii_of balls = map (λ (b : Ball). b.radius) balls
 
-abbrev pub lists_of : List Ball → List (Option NormalBox) → Bounds
-lists_of balls boxes = record { places = places_of balls; errors = errors_of balls; radii = radii_of balls; boxes = boxes }
+abbrev pub bound_lists_of : List Ball → List (Option NormalBox) → Bounds
+bound_lists_of balls boxes = record { places = places_of balls; errors = errors_of balls; radii = radii_of balls; boxes = boxes }
 
 -- One of each kind for each node, and none is large.
 pub record IsBounds (b : Bounds) : Type 0 where

@@ -1,7 +1,7 @@
 //! What the first test of a node reads.
 ghost use Rattle.std.specs.Prelude.{◌≡◌, ◌<◌, length, IfOk, slice_index_or};
+ghost use Rattle.pm_base.specs.Place.{origin};
 ghost use Rattle.pm_forest.specs.Forest.{node_count};
-ghost use Rattle.pm_bounds.specs.Bounds.{origin};
 ghost use Rattle.pm_bounds.specs.Tables.{places_of, errors_of, radii_of, AreBare};
 
 use crate::OutOfMemory;

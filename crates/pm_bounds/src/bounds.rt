@@ -1,7 +1,8 @@
 //! The bounds of all nodes, and their readers.
 ghost use Rattle.std.specs.Prelude.{◌≡◌, ◌<◌, ◌^◌, None, length, IfOk, slice_index_or, unwrap_or};
+ghost use Rattle.pm_base.specs.Place.{origin};
 ghost use Rattle.pm_bounds.specs.Boxes.{zero_box, IsSmallBox};
-ghost use Rattle.pm_bounds.specs.Bounds.{origin, AreBoundsOf};
+ghost use Rattle.pm_bounds.specs.Bounds.{AreBoundsOf};
 
 use crate::balls::{bare_balls, node_ball};
 use crate::growing::grow;
@@ -23,13 +24,13 @@ pub struct Bounds {
 
 impl Model for Bounds {
     ghost use Rattle.pm_bounds.specs.Bounds.{Bounds};
-    ghost use Rattle.pm_bounds.specs.Tables.{lists_of, IsBounds};
+    ghost use Rattle.pm_bounds.specs.Tables.{bound_lists_of, IsBounds};
 
     ghost Value = { Bounds };
 
-    ghost view = { λ b. lists_of b.balls.items b.boxes.items };
+    ghost view = { λ b. bound_lists_of b.balls.items b.boxes.items };
 
-    ghost invariant = { λ b. IsBounds (lists_of b.balls.items b.boxes.items) };
+    ghost invariant = { λ b. IsBounds (bound_lists_of b.balls.items b.boxes.items) };
 }
 
 impl Bounds {

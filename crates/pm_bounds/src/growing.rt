@@ -8,7 +8,7 @@ ghost use Rattle.pm_forest.specs.Places.{place_of_node};
 ghost use Rattle.pm_bounds.specs.Boxes.{join};
 ghost use Rattle.pm_bounds.specs.Bounds.{AreBoundsOf};
 ghost use Rattle.pm_bounds.specs.Tables.{
-  lists_of,
+  bound_lists_of,
   places_of,
   errors_of,
   radii_of,
@@ -100,11 +100,11 @@ fn join_children(h: &Hierarchy, boxes: &mut Vec<Option<NormalBox>>, k: u32)
 pub fn grow(h: &Hierarchy, balls: &mut Vec<Ball>, boxes: &mut Vec<Option<NormalBox>>)
     requires balls_len { length balls.old.items ≡ node_count h.now }
     requires boxes_len { length boxes.old.items ≡ node_count h.now }
-    requires leaves { AreOfLeaves h.now (lists_of balls.old.items boxes.old.items) }
+    requires leaves { AreOfLeaves h.now (bound_lists_of balls.old.items boxes.old.items) }
     requires small_radii { AreAtMost 113509 (radii_of balls.old.items) }
     requires small_boxes { AreSmallBoxes boxes.old.items }
-    ensures are { AreBoundsOf h.now (lists_of balls.new.items boxes.new.items) }
-    ensures small { IsBounds (lists_of balls.new.items boxes.new.items) }
+    ensures are { AreBoundsOf h.now (bound_lists_of balls.new.items boxes.new.items) }
+    ensures small { IsBounds (bound_lists_of balls.new.items boxes.new.items) }
 {
     h.invariant();
     for k in (0..h.records()).rev() {

@@ -2,13 +2,14 @@
 ghost use Rattle.std.specs.Prelude.{◌≡◌, ℕ, ◌<◌, ◌≤◌, cond, None, IfOk, replicate, length, slice_index_or, slice_set};
 ghost use Rattle.pm_base.specs.Geometry.{cross_of};
 ghost use Rattle.pm_base.specs.Rounded.{root_up};
+ghost use Rattle.pm_base.specs.Place.{origin};
 ghost use Rattle.pm_forest.specs.Forest.{node_count, leaf_count};
 ghost use Rattle.pm_forest.specs.Faces.{face_count, corners_of};
+ghost use Rattle.pm_forest.specs.Meshes.{leaf_place};
 ghost use Rattle.pm_bounds.specs.Boxes.{box_at, IsSmallBox};
-ghost use Rattle.pm_bounds.specs.Bounds.{origin, leaf_place};
-ghost use Rattle.pm_bounds.specs.Leaves.{bare_leaf_at, widened, widened_by, is_corner, AreBareLeaves, AreSmallLeaves, AreSeen};
+ghost use Rattle.pm_bounds.specs.Leaves.{bare_leaf_at, widened, widened_by, is_leaf_corner, AreBareLeaves, AreSmallLeaves, AreSeen};
 ghost use Rattle.pm_bounds.specs.Tables.{
-  lists_of,
+  bound_lists_of,
   places_of,
   errors_of,
   radii_of,
@@ -98,7 +99,7 @@ fn widen_corners(h: &Hierarchy, leaves: &mut Vec<LeafBounds>, f: FaceId)
     requires small { AreSmallLeaves leaves.old.items }
     ensures len { length leaves.new.items ≡ leaf_count h.now }
     ensures wider { (l : ℕ) → l < leaf_count h.now → let old = slice_index_or leaves.old.items l (bare_leaf_at origin) in
-        slice_index_or leaves.new.items l (bare_leaf_at origin) ≡ cond (is_corner l (corners_of h.now f.0)) (widened_by h.now l (corners_of h.now f.0) old) old }
+        slice_index_or leaves.new.items l (bare_leaf_at origin) ≡ cond (is_leaf_corner l (corners_of h.now f.0)) (widened_by h.now l (corners_of h.now f.0) old) old }
     ensures small { AreSmallLeaves leaves.new.items }
 {
     let face = corner_leaves(h, f);
@@ -141,7 +142,7 @@ fn give_nodes(
     requires missing { boxes.old.items ≡ replicate (node_count h.now) None }
     ensures balls_len { length balls.new.items ≡ node_count h.now }
     ensures boxes_len { length boxes.new.items ≡ node_count h.now }
-    ensures are { AreOfLeaves h.now (lists_of balls.new.items boxes.new.items) }
+    ensures are { AreOfLeaves h.now (bound_lists_of balls.new.items boxes.new.items) }
     ensures small_radii { AreAtMost 113509 (radii_of balls.new.items) }
     ensures small_boxes { AreSmallBoxes boxes.new.items }
 {
@@ -167,7 +168,7 @@ pub fn bound_leaves(
     requires missing { boxes.old.items ≡ replicate (node_count h.now) None }
     ensures balls_len { length balls.new.items ≡ node_count h.now }
     ensures boxes_len { length boxes.new.items ≡ node_count h.now }
-    ensures are { AreOfLeaves h.now (lists_of balls.new.items boxes.new.items) }
+    ensures are { AreOfLeaves h.now (bound_lists_of balls.new.items boxes.new.items) }
     ensures small_radii { AreAtMost 113509 (radii_of balls.new.items) }
     ensures small_boxes { AreSmallBoxes boxes.new.items }
 {

@@ -6,7 +6,7 @@ use Rattle.pm_io.specs.Bytes.{Gains, GainsPart}
 use Rattle.pm_grid.specs.Grid.{grid}
 use Rattle.pm_grid.specs.Laws.{GridsAreCounted}
 use Rattle.pm_grid.proofs.GridMeshes.{grids_are_manifolds, grids_are_well_formed}
-use Rattle.pm_runs.specs.Runs.{IsStart, IsRunTo}
+use Rattle.pm_runs.specs.Runs.{IsStartOfRun, IsRunTo}
 use Rattle.pm_runs.proofs.LeastRuns.{one_run}
 use Rattle.pm_number.specs.Numbering.{hierarchy_of_run}
 use Rattle.pm_forest.specs.Forest.{Hierarchy}
@@ -15,10 +15,10 @@ use Rattle.pm_refine.specs.Adapting.{view_target}
 use Rattle.pm_demo.specs.Summary.{IsOfGrid, grid_line, view_line, sizes_text, views_text, IsSummary, OneSummary}
 
 -- A mesh that is a grid may be simplified.
-pub grid_start : (n : ℕ) (m : Mesh) → 1 ≤ n → n ≤ 256 → m ≡ grid n → IsStart m
+pub grid_start : (n : ℕ) (m : Mesh) → 1 ≤ n → n ≤ 256 → m ≡ grid n → IsStartOfRun m
 grid_start n m some most is =
-    let start : IsStart (grid n) = record { formed = grids_are_well_formed n some most; manifold = grids_are_manifolds n some } in
-    subst (λ (x : Mesh). IsStart x) (sym is) start
+    let start : IsStartOfRun (grid n) = record { formed = grids_are_well_formed n some most; manifold = grids_are_manifolds n some } in
+    subst (λ (x : Mesh). IsStartOfRun x) (sym is) start
 
 -- The hierarchy of the run of a mesh that is a grid. The run is told of an equal mesh.
 pub run_of_grid : {E : Type 0} (n : ℕ) (k m : Mesh) (log : List Collapse) (r : Result Hierarchy E) → m ≡ grid n → k ≡ m → IsRunTo k 0 log → IfOk r (λ h. h ≡ hierarchy_of_run m log) → IfOk r (IsOfGrid n)

@@ -4,11 +4,11 @@ use Rattle.pm_forest.specs.Forest.{Hierarchy, record_count}
 use Rattle.pm_bounds.specs.Bounds.{Bounds, AreBoundsOf}
 
 -- The hierarchy, and a flag for each record that is set where it is split.
-pub record Shown : Type 0 where
+pub record SceneShown : Type 0 where
   pub h : Hierarchy
   pub flags : List Bool
 
 -- The bounds are those of the hierarchy, and the refiner has room for its records.
-pub record AreToolsOf (h : Hierarchy) (bounds : Bounds) (room : ℕ) : Type 0 where
+pub record AreSceneTools (h : Hierarchy) (bounds : Bounds) (room : ℕ) : Type 0 where
   pub are_its_bounds : AreBoundsOf h bounds
   pub room_fits : room ≡ record_count h

@@ -7,7 +7,7 @@ ghost use Rattle.pm_forest.specs.Fronts.{set_of, no_records};
 ghost use Rattle.pm_beyond.specs.Valid.{IsValid};
 ghost use Rattle.pm_front.specs.Shown.{active_nodes, kept_faces};
 ghost use Rattle.pm_refine.specs.Adapting.{view_target, view_plan};
-ghost use Rattle.pm_demo.specs.Scene.{AreToolsOf};
+ghost use Rattle.pm_demo.specs.Scene.{AreSceneTools};
 ghost use Rattle.pm_demo.specs.Summary.{IsOfGrid, view_line};
 
 use crate::OutOfMemory;
@@ -37,13 +37,13 @@ pub struct Scene {
 }
 
 impl Model for Scene {
-    ghost use Rattle.pm_demo.specs.Scene.{Shown, AreToolsOf};
+    ghost use Rattle.pm_demo.specs.Scene.{SceneShown, AreSceneTools};
 
-    ghost Value = { Shown };
+    ghost Value = { SceneShown };
 
     ghost view = { λ s. record { h = s.front.h; flags = s.front.flags } };
 
-    ghost invariant = { λ s. AreToolsOf s.front.h s.bounds s.refiner };
+    ghost invariant = { λ s. AreSceneTools s.front.h s.bounds s.refiner };
 }
 
 // The hierarchy of a grid that is simplified as far as pairs may be collapsed.
@@ -72,14 +72,14 @@ fn settle<L: Ledger>(
     view: &View,
     blank: Blank,
 ) -> u32
-    requires tools { AreToolsOf front.old.h bounds.now refiner.old }
+    requires tools { AreSceneTools front.old.h bounds.now refiner.old }
     requires name { blank.name ≡ L.name }
     requires parts { blank.parts ≡ L.parts }
     requires some { 0 < L.parts }
     ensures moves { result ≡ length (view_plan front.old.h (set_of front.old.flags) view.now) }
     ensures after { set_of front.new.flags ≡ view_target front.old.h view.now }
     ensures hierarchy { front.new.h ≡ front.old.h }
-    ensures tools { AreToolsOf front.new.h bounds.now refiner.new }
+    ensures tools { AreSceneTools front.new.h bounds.now refiner.new }
 {
     plans_are_sound();
     let budget = front.hierarchy().records();

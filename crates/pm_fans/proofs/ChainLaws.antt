@@ -7,7 +7,7 @@ use Rattle.std.proofs.lemmas.List.Sums.{sum_by-set}
 use Rattle.pm_base.specs.Sides.{next, prev}
 use Rattle.pm_base.proofs.Sides.{next-next-next, next-lt}
 use Rattle.pm_base.proofs.Search.{option_cases}
-use Rattle.pm_fans.specs.Heads.{at, ArePaired, Follows, Leads, here, further, AreOpenHeaded, HasHead, Keeps}
+use Rattle.pm_fans.specs.Heads.{twin_in_table, AreGluedInPairs, IsNextRound, Leads, here, further, AreOpenHeaded, HasHead, Keeps}
 
 pub none_some : {x : ℕ} {r : Option ℕ} → r ≡ None → r ≡ Some x → ⊥
 none_some a b = cc
@@ -15,25 +15,25 @@ none_some a b = cc
 pub one_value : {x y : ℕ} {r : Option ℕ} → r ≡ Some x → r ≡ Some y → x ≡ y
 one_value a b = cc
 
-pub in_table : (table : List (Option ℕ)) (e h : ℕ) → at table e ≡ Some h → e < length table
+pub in_table : (table : List (Option ℕ)) (e h : ℕ) → twin_in_table table e ≡ Some h → e < length table
 in_table table e h is = elim (cases_lt e (length table)) [ inl low ↦ low | inr past ↦ absurd (none_some (get_or_past table e None past) is) ]
 
 -- One entry is written.
 module _ (heads : List (Option ℕ)) (a x : ℕ) (l : a < length heads) where
-  pub set_here : at (set heads a (Some x)) a ≡ Some x
+  pub set_here : twin_in_table (set heads a (Some x)) a ≡ Some x
   set_here = get_or-set_same heads a (Some x) None l
 
-  pub set_cases : (e h : ℕ) → at (set heads a (Some x)) e ≡ Some h → ((e ≡ a) × (h ≡ x)) ⊎ ((e ≢ a) × (at heads e ≡ Some h))
+  pub set_cases : (e h : ℕ) → twin_in_table (set heads a (Some x)) e ≡ Some h → ((e ≡ a) × (h ≡ x)) ⊎ ((e ≢ a) × (twin_in_table heads e ≡ Some h))
   set_cases e h is =
       elim (cases_eq e a) [
-        | inl same ↦ inl (same, one_value (ap (at (set heads a (Some x))) (sym same) ∙ is) set_here)
+        | inl same ↦ inl (same, one_value (ap (twin_in_table (set heads a (Some x))) (sym same) ∙ is) set_here)
         | inr other ↦ inr (other, sym (get_or-set_other heads a e (Some x) None other) ∙ is)
       ]
 
-  pub set_keeps : at heads a ≡ None → Keeps heads (set heads a (Some x))
+  pub set_keeps : twin_in_table heads a ≡ None → Keeps heads (set heads a (Some x))
   set_keeps bare e h is =
       elim (cases_eq e a) [
-        | inl same ↦ absurd (none_some bare (ap (at heads) (sym same) ∙ is))
+        | inl same ↦ absurd (none_some bare (ap (twin_in_table heads) (sym same) ∙ is))
         | inr other ↦ get_or-set_other heads a e (Some x) None other ∙ is
       ]
 
@@ -41,29 +41,29 @@ module _ (heads : List (Option ℕ)) (a x : ℕ) (l : a < length heads) where
 unfoldable pub bare_count : List (Option ℕ) → ℕ
 bare_count heads = count_by is_none heads
 
-pub bare-set : (heads : List (Option ℕ)) (a x : ℕ) → a < length heads → at heads a ≡ None → bare_count (set heads a (Some x)) < bare_count heads
+pub bare-set : (heads : List (Option ℕ)) (a x : ℕ) → a < length heads → twin_in_table heads a ≡ None → bare_count (set heads a (Some x)) < bare_count heads
 unfolding bare_count
 bare-set heads a x l is =
     let e = sum_by-set (λ o. cond (is_none o) 1 0) heads a (Some x) None l in
     let weight : Option ℕ → ℕ = λ o. cond (is_none o) 1 0 in
-    let f : weight (at heads a) ≡ 1 = ap weight is in
+    let f : weight (twin_in_table heads a) ≡ 1 = ap weight is in
     omega (arith, e, f)
 
 -- A step in front.
-pub leads_from : (glued : List (Option ℕ)) (a b e : ℕ) → Follows glued a b → Leads glued b e → Leads glued a e
+pub leads_from : (glued : List (Option ℕ)) (a b e : ℕ) → IsNextRound glued a b → Leads glued b e → Leads glued a e
 leads_from glued a b e f here = further here f
 leads_from glued a b e f (further w g) = further (leads_from glued a b _ f w) g
 
-module _ (glued : List (Option ℕ)) (p : ArePaired glued) where
-  pub follows_one : (e k g : ℕ) → Follows glued e g → Follows glued k g → e ≡ k
+module _ (glued : List (Option ℕ)) (p : AreGluedInPairs glued) where
+  pub follows_one : (e k g : ℕ) → IsNextRound glued e g → IsNextRound glued k g → e ≡ k
   follows_one e k g a b =
       let x = (p.back (prev e) g a).1 in
       let y = (p.back (prev k) g b).1 in
       sym (next-next-next e) ∙ ap next (one_value x y) ∙ next-next-next k
 
   -- What stands before a glued side.
-  pub before : (side twin : ℕ) → at glued side ≡ Some twin → Follows glued (next twin) side
-  before side twin is = ap (at glued) (next-next-next twin) ∙ (p.back side twin is).1
+  pub before : (side twin : ℕ) → twin_in_table glued side ≡ Some twin → IsNextRound glued (next twin) side
+  before side twin is = ap (twin_in_table glued) (next-next-next twin) ∙ (p.back side twin is).1
 
   pub next_in : (twin : ℕ) → twin < length glued → next twin < length glued
   next_in twin l = subst (λ n. next twin < n) (sym p.sides) (next-lt p.faces twin (subst (λ n. twin < n) p.sides l))
@@ -72,14 +72,14 @@ module _ (glued : List (Option ℕ)) (p : ArePaired glued) where
   prev_in e l = next_in (next e) (next_in e l)
 
   -- What leads to a side that isn't glued is that side itself.
-  pub first_led : (s e : ℕ) → Leads glued s e → at glued e ≡ None → s ≡ e
+  pub first_led : (s e : ℕ) → Leads glued s e → twin_in_table glued e ≡ None → s ≡ e
   first_led s e here bare = refl
   first_led s g (further {e} w f) bare = absurd (none_some bare (p.back (prev e) g f).1)
 
   -- The first side of a chain that was not walked has no head.
-  pub first_bare : (heads : List (Option ℕ)) (n : ℕ) → AreOpenHeaded glued heads n → at glued n ≡ None → at heads n ≡ None
+  pub first_bare : (heads : List (Option ℕ)) (n : ℕ) → AreOpenHeaded glued heads n → twin_in_table glued n ≡ None → twin_in_table heads n ≡ None
   first_bare heads n o bare =
-      elim (option_cases (at heads n)) [
+      elim (option_cases (twin_in_table heads n)) [
         | inl none ↦ none
         | inr (h, is) ↦
             let same : h ≡ n = first_led h n (o.headed.led n h is) bare in
@@ -91,8 +91,8 @@ pub some_is : (r : Option ℕ) → is_some r ≡ true → r ≡ None → ⊥
 some_is r e none = true≢false (sym e ∙ ap is_some none)
 
 pub kept_head : (old heads : List (Option ℕ)) → Keeps old heads → (e : ℕ) → HasHead old e → HasHead heads e
-kept_head old heads keeps e has none = elim (option_cases (at old e)) [ inl bare ↦ has bare | inr (h, is) ↦ none_some none (keeps e h is) ]
+kept_head old heads keeps e has none = elim (option_cases (twin_in_table old e)) [ inl bare ↦ has bare | inr (h, is) ↦ none_some none (keeps e h is) ]
 
 -- A side that has a head.
-pub has_head : (heads : List (Option ℕ)) (e : ℕ) → HasHead heads e → (h : ℕ) × (at heads e ≡ Some h)
-has_head heads e h = elim (option_cases (at heads e)) [ inl none ↦ absurd (h none) | inr some ↦ some ]
+pub has_head : (heads : List (Option ℕ)) (e : ℕ) → HasHead heads e → (h : ℕ) × (twin_in_table heads e ≡ Some h)
+has_head heads e h = elim (option_cases (twin_in_table heads e)) [ inl none ↦ absurd (h none) | inr some ↦ some ]

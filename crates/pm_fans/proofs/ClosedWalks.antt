@@ -4,32 +4,32 @@ use Rattle.std.proofs.lemmas.Bool.{cases_eq, cases_lt}
 use Rattle.std.proofs.lemmas.List.{length-set, get_or-set_other}
 use Rattle.pm_base.specs.Sides.{next, prev}
 use Rattle.pm_base.proofs.Search.{option_cases}
-use Rattle.pm_fans.specs.Heads.{at, ArePaired, Follows, Leads, here, further, AreHeaded, HasHead, Keeps}
+use Rattle.pm_fans.specs.Heads.{twin_in_table, AreGluedInPairs, IsNextRound, Leads, here, further, AreHeaded, HasHead, Keeps}
 use Rattle.pm_fans.proofs.ChainLaws.{none_some, one_value, set_here, set_cases, set_keeps, follows_one, before, next_in, leads_from}
 
 -- The walk stands at its first side, or has left it.
 pub record StandsAtLeast (glued heads : List (Option ℕ)) (least side : ℕ) : Type 0 where
   pub here : side ≡ least
-  pub bare : at heads least ≡ None
-  pub after : (g h : ℕ) → Follows glued side g → at heads g ≡ Some h → ⊥
+  pub bare : twin_in_table heads least ≡ None
+  pub after : (g h : ℕ) → IsNextRound glued side g → twin_in_table heads g ≡ Some h → ⊥
 
 pub record HasLeft (glued heads : List (Option ℕ)) (least side : ℕ) : Type 0 where
-  pub began : at heads least ≡ Some least
-  pub after : (g : ℕ) → Follows glued side g → at heads g ≡ Some least
+  pub began : twin_in_table heads least ≡ Some least
+  pub after : (g : ℕ) → IsNextRound glued side g → twin_in_table heads g ≡ Some least
 
 -- As if whole chains had their heads, but that the chain of the walk has it only from the side that was reached up to the
 -- least one.
 pub record WalksBack (glued old heads : List (Option ℕ)) (least side : ℕ) : Type 0 where
   pub long : length heads ≡ length glued
   pub in_range : side < length glued
-  pub led : (e h : ℕ) → at heads e ≡ Some h → h ≢ least → Leads glued h e
-  pub near : (e : ℕ) → at heads e ≡ Some least → Leads glued side e
-  pub own : (e h : ℕ) → at heads e ≡ Some h → at heads h ≡ Some h
-  pub on : (e g h : ℕ) → Follows glued e g → at heads e ≡ Some h → e ≢ least → at heads g ≡ Some h
-  pub back : (e g h : ℕ) → Follows glued e g → at heads g ≡ Some h → e ≢ side → at heads e ≡ Some h
-  pub kind : (e h : ℕ) → at heads e ≡ Some h → (at glued h ≡ None) ⊎ (h ≤ e)
+  pub led : (e h : ℕ) → twin_in_table heads e ≡ Some h → h ≢ least → Leads glued h e
+  pub near : (e : ℕ) → twin_in_table heads e ≡ Some least → Leads glued side e
+  pub own : (e h : ℕ) → twin_in_table heads e ≡ Some h → twin_in_table heads h ≡ Some h
+  pub on : (e g h : ℕ) → IsNextRound glued e g → twin_in_table heads e ≡ Some h → e ≢ least → twin_in_table heads g ≡ Some h
+  pub back : (e g h : ℕ) → IsNextRound glued e g → twin_in_table heads g ≡ Some h → e ≢ side → twin_in_table heads e ≡ Some h
+  pub kind : (e h : ℕ) → twin_in_table heads e ≡ Some h → (twin_in_table glued h ≡ None) ⊎ (h ≤ e)
   pub keeps : Keeps old heads
-  pub free : side ≢ least → at heads side ≡ None
+  pub free : side ≢ least → twin_in_table heads side ≡ None
   pub began : StandsAtLeast glued heads least side ⊎ HasLeft glued heads least side
 
 module _ (glued old heads : List (Option ℕ)) (least side : ℕ) (w : WalksBack glued old heads least side) (met : HasHead heads side) where
@@ -37,7 +37,7 @@ module _ (glued old heads : List (Option ℕ)) (least side : ℕ) (w : WalksBack
   at_least = elim (cases_eq side least) [ inl same ↦ same | inr other ↦ absurd (met (w.free other)) ]
 
   has_left : HasLeft glued heads least side
-  has_left = elim w.began [ inl s ↦ absurd (met (ap (at heads) at_least ∙ s.bare)) | inr r ↦ r ]
+  has_left = elim w.began [ inl s ↦ absurd (met (ap (twin_in_table heads) at_least ∙ s.bare)) | inr r ↦ r ]
 
   pub back_ends : AreHeaded glued heads
   back_ends = record {
@@ -49,85 +49,85 @@ module _ (glued old heads : List (Option ℕ)) (least side : ℕ) (w : WalksBack
     own = w.own;
     on = λ e g h f k. elim (cases_eq e least) [
       | inl is ↦
-          let v : h ≡ least = one_value k (ap (at heads) is ∙ has_left.began) in
-          has_left.after g (ap (λ i. at glued (prev i)) (at_least ∙ sym is) ∙ f) ∙ ap Some (sym v)
+          let v : h ≡ least = one_value k (ap (twin_in_table heads) is ∙ has_left.began) in
+          has_left.after g (ap (λ i. twin_in_table glued (prev i)) (at_least ∙ sym is) ∙ f) ∙ ap Some (sym v)
       | inr other ↦ w.on e g h f k other
     ];
     back = λ e g h f k. elim (cases_eq e side) [
       | inl is ↦
-          let v : h ≡ least = one_value k (has_left.after g (ap (λ i. at glued (prev i)) (sym is) ∙ f)) in
-          ap (at heads) (is ∙ at_least) ∙ has_left.began ∙ ap Some (sym v)
+          let v : h ≡ least = one_value k (has_left.after g (ap (λ i. twin_in_table glued (prev i)) (sym is) ∙ f)) in
+          ap (twin_in_table heads) (is ∙ at_least) ∙ has_left.began ∙ ap Some (sym v)
       | inr other ↦ w.back e g h f k other
     ];
     kind = w.kind;
   }
 
-module _ (glued old heads : List (Option ℕ)) (least side twin : ℕ) (p : ArePaired glued) (earlier : (k : ℕ) → k < least → HasHead old k) (w : WalksBack glued old heads least side) (bare : at heads side ≡ None) (pair : at glued side ≡ Some twin) where
+module _ (glued old heads : List (Option ℕ)) (least side twin : ℕ) (p : AreGluedInPairs glued) (earlier : (k : ℕ) → k < least → HasHead old k) (w : WalksBack glued old heads least side) (bare : twin_in_table heads side ≡ None) (pair : twin_in_table glued side ≡ Some twin) where
   low : side < length heads
   low = subst (λ n. side < n) (sym w.long) w.in_range
 
   kept : Keeps heads (set heads side (Some least))
   kept = set_keeps heads side least low bare
 
-  came : Follows glued (next twin) side
+  came : IsNextRound glued (next twin) side
   came = before glued p side twin pair
 
-  now : at (set heads side (Some least)) side ≡ Some least
+  now : twin_in_table (set heads side (Some least)) side ≡ Some least
   now = set_here heads side least low
 
-  started : at (set heads side (Some least)) least ≡ Some least
+  started : twin_in_table (set heads side (Some least)) least ≡ Some least
   started =
       elim w.began [
-        | inl s ↦ ap (at (set heads side (Some least))) (sym s.here) ∙ now
+        | inl s ↦ ap (twin_in_table (set heads side (Some least))) (sym s.here) ∙ now
         | inr r ↦ kept least least r.began
       ]
 
   no_less : least ≤ side
   no_less =
       elim (cases_lt side least) [
-        | inl less ↦ elim (option_cases (at old side)) [ inl none ↦ absurd (earlier side less none) | inr (h, is) ↦ absurd (none_some bare (w.keeps side h is)) ]
+        | inl less ↦ elim (option_cases (twin_in_table old side)) [ inl none ↦ absurd (earlier side less none) | inr (h, is) ↦ absurd (none_some bare (w.keeps side h is)) ]
         | inr le ↦ le
       ]
 
   -- What follows this side has the head already, unless the walk begins here.
-  step_on : (e g h : ℕ) → Follows glued e g → at (set heads side (Some least)) e ≡ Some h → e ≢ least → at (set heads side (Some least)) g ≡ Some h
+  step_on : (e g h : ℕ) → IsNextRound glued e g → twin_in_table (set heads side (Some least)) e ≡ Some h → e ≢ least → twin_in_table (set heads side (Some least)) g ≡ Some h
   step_on e g h follows k ne =
       elim (set_cases heads side least low e h k) [
         | inl (is, v) ↦
             elim w.began [
               | inl s ↦ absurd (ne (is ∙ s.here))
-              | inr r ↦ kept g h (r.after g (ap (λ i. at glued (prev i)) (sym is) ∙ follows) ∙ ap Some (sym v))
+              | inr r ↦ kept g h (r.after g (ap (λ i. twin_in_table glued (prev i)) (sym is) ∙ follows) ∙ ap Some (sym v))
             ]
         | inr (other, o) ↦ kept g h (w.on e g h follows o ne)
       ]
 
-  step_back : (e g h : ℕ) → Follows glued e g → at (set heads side (Some least)) g ≡ Some h → e ≢ next twin → at (set heads side (Some least)) e ≡ Some h
+  step_back : (e g h : ℕ) → IsNextRound glued e g → twin_in_table (set heads side (Some least)) g ≡ Some h → e ≢ next twin → twin_in_table (set heads side (Some least)) e ≡ Some h
   step_back e g h follows k ne =
       elim (set_cases heads side least low g h k) [
         | inl (is, v) ↦ absurd (ne (follows_one glued p e (next twin) side (follows ∙ ap Some is) came))
         | inr (other, o) ↦
             elim (cases_eq e side) [
               | inl is ↦
-                  let f : Follows glued side g = ap (λ i. at glued (prev i)) (sym is) ∙ follows in
+                  let f : IsNextRound glued side g = ap (λ i. twin_in_table glued (prev i)) (sym is) ∙ follows in
                   elim w.began [
                     | inl s ↦ absurd (s.after g h f o)
-                    | inr r ↦ ap (at (set heads side (Some least))) is ∙ now ∙ ap Some (one_value (r.after g f) o)
+                    | inr r ↦ ap (twin_in_table (set heads side (Some least))) is ∙ now ∙ ap Some (one_value (r.after g f) o)
                   ]
               | inr differ ↦ kept e h (w.back e g h follows o differ)
             ]
       ]
 
-  step_free : next twin ≢ least → at (set heads side (Some least)) (next twin) ≡ None
+  step_free : next twin ≢ least → twin_in_table (set heads side (Some least)) (next twin) ≡ None
   step_free ne =
       elim (cases_eq (next twin) side) [
         | inl same ↦
-            let f : Follows glued side side = ap (λ i. at glued (prev i)) (sym same) ∙ came in
+            let f : IsNextRound glued side side = ap (λ i. twin_in_table glued (prev i)) (sym same) ∙ came in
             elim w.began [
               | inl s ↦ absurd (ne (same ∙ s.here))
               | inr r ↦ absurd (none_some bare (r.after side f))
             ]
         | inr other ↦ get_or-set_other heads side (next twin) (Some least) None other
-            ∙ elim (option_cases (at heads (next twin))) [ inl none ↦ none | inr (h, is) ↦ absurd (none_some bare (w.on (next twin) side h came is ne)) ]
+            ∙ elim (option_cases (twin_in_table heads (next twin))) [ inl none ↦ none | inr (h, is) ↦ absurd (none_some bare (w.on (next twin) side h came is ne)) ]
       ]
 
   pub back_more : WalksBack glued old (set heads side (Some least)) least (next twin)
@@ -143,7 +143,7 @@ module _ (glued old heads : List (Option ℕ)) (least side twin : ℕ) (p : AreP
       | inr (other, o) ↦ leads_from glued (next twin) side e came (w.near e o)
     ];
     own = λ e h k. elim (set_cases heads side least low e h k) [
-      | inl (is, v) ↦ subst (λ i. at (set heads side (Some least)) i ≡ Some i) (sym v) started
+      | inl (is, v) ↦ subst (λ i. twin_in_table (set heads side (Some least)) i ≡ Some i) (sym v) started
       | inr (other, o) ↦ kept h h (w.own e h o)
     ];
     on = step_on;
@@ -154,5 +154,5 @@ module _ (glued old heads : List (Option ℕ)) (least side twin : ℕ) (p : AreP
     ];
     keeps = λ e h k. kept e h (w.keeps e h k);
     free = step_free;
-    began = inr (record { began = started; after = λ g f. ap (at (set heads side (Some least))) (one_value f came) ∙ now });
+    began = inr (record { began = started; after = λ g f. ap (twin_in_table (set heads side (Some least))) (one_value f came) ∙ now });
   }

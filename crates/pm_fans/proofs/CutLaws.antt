@@ -7,8 +7,8 @@ use Rattle.pm_base.specs.Sides.{Net, side_count, to, stands}
 use Rattle.pm_base.proofs.Counts.{count-true, count-false, count-zero}
 use Rattle.pm_base.proofs.TwinLaws.{stands_is_true}
 use Rattle.pm_fans.specs.Splits.{IsCuttable}
-use Rattle.pm_fans.specs.Ends.{ends_key, key_at, IsNoted}
-use Rattle.pm_fans.specs.Cuts.{runs, is_cut}
+use Rattle.pm_fans.specs.Ends.{ends_key, ends_key_at, IsNoted}
+use Rattle.pm_fans.specs.Cuts.{side_runs, is_cut}
 use Rattle.pm_fans.proofs.GlueLaws.{runs_between, key_is}
 
 pub count_none : (p : ℕ → Bool) (n : ℕ) → ((i : ℕ) → i < n → p i ≡ true → ⊥) → count p n ≡ 0
@@ -66,44 +66,44 @@ count_two p (suc n) i j il jl ne ei ej =
     ]
 
 module _ (m : Net) (ok : IsCuttable m) (p q : ℕ) (low : q < 4294967296) where
-  runs_true : (e : ℕ) → e < side_count m → key_at m e ≡ ends_key p q → runs m p q e ≡ true
+  runs_true : (e : ℕ) → e < side_count m → ends_key_at m e ≡ ends_key p q → side_runs m p q e ≡ true
   runs_true e l is =
       let at = runs_between m ok e p q l low is in
       and_from (stands m e) (eqb (m.from e) p && eqb (to m e) q) (stands_is_true m e (ok.stand e l)) (and_from (eqb (m.from e) p) (eqb (to m e) q) (eq-eqb (m.from e) p at.0) (eq-eqb (to m e) q at.1))
 
-  true_runs : (e : ℕ) → runs m p q e ≡ true → key_at m e ≡ ends_key p q
+  true_runs : (e : ℕ) → side_runs m p q e ≡ true → ends_key_at m e ≡ ends_key p q
   true_runs e is =
       let both = and_parts (stands m e) (eqb (m.from e) p && eqb (to m e) q) is in
       let ends = and_parts (eqb (m.from e) p) (eqb (to m e) q) both.1 in
       key_is m ok e p q (eqb-true (m.from e) p ends.0) (eqb-true (to m e) q ends.1)
 
-  not_many : count (runs m p q) (side_count m) ≤ 1 → ltb 1 (count (runs m p q) (side_count m)) ≡ false
-  not_many le = false_from_ne_true (ltb 1 (count (runs m p q) (side_count m))) (λ e. let more = ltb-true 1 (count (runs m p q) (side_count m)) e in absurd (omega arith))
+  not_many : count (side_runs m p q) (side_count m) ≤ 1 → ltb 1 (count (side_runs m p q) (side_count m)) ≡ false
+  not_many le = false_from_ne_true (ltb 1 (count (side_runs m p q) (side_count m))) (λ e. let more = ltb-true 1 (count (side_runs m p q) (side_count m)) e in absurd (omega arith))
 
-  pub many_none : (r : Option ℕ) → IsNoted m (side_count m) (ends_key p q) r → r ≡ None → ltb 1 (count (runs m p q) (side_count m)) ≡ false
+  pub many_none : (r : Option ℕ) → IsNoted m (side_count m) (ends_key p q) r → r ≡ None → ltb 1 (count (side_runs m p q) (side_count m)) ≡ false
   many_none r h is =
       let none = subst (IsNoted m (side_count m) (ends_key p q)) is h in
-      let zero' = count_none (runs m p q) (side_count m) (λ e l t. none e l (true_runs e t)) in
+      let zero' = count_none (side_runs m p q) (side_count m) (λ e l t. none e l (true_runs e t)) in
       not_many (omega arith)
 
-  pub many_some : (r : Option ℕ) (v : ℕ) → IsNoted m (side_count m) (ends_key p q) r → r ≡ Some v → ltb 1 (count (runs m p q) (side_count m)) ≡ eqb v 4294967295
+  pub many_some : (r : Option ℕ) (v : ℕ) → IsNoted m (side_count m) (ends_key p q) r → r ≡ Some v → ltb 1 (count (side_runs m p q) (side_count m)) ≡ eqb v 4294967295
   many_some r v h is =
       elim (subst (IsNoted m (side_count m) (ends_key p q)) is h) [
         | inl a ↦
-            let one = count_one (runs m p q) (side_count m) v (λ e l t. a.alone e l (true_runs e t)) in
+            let one = count_one (side_runs m p q) (side_count m) v (λ e l t. a.alone e l (true_runs e t)) in
             let l = a.in_range in
             let few = ok.short in
             let ne : v ≢ 4294967295 = omega arith in
             not_many one ∙ sym (false_from_ne_true (eqb v 4294967295) (λ e. ne (eqb-true v 4294967295 e)))
         | inr s ↦
-            let two = count_two (runs m p q) (side_count m) s.one s.other s.one_in s.other_in s.differ (runs_true s.one s.one_in s.one_has) (runs_true s.other s.other_in s.other_has) in
-            lt-ltb 1 (count (runs m p q) (side_count m)) two ∙ sym (eq-eqb v 4294967295 s.mark)
+            let two = count_two (side_runs m p q) (side_count m) s.one s.other s.one_in s.other_in s.differ (runs_true s.one s.one_in s.one_has) (runs_true s.other s.other_in s.other_has) in
+            lt-ltb 1 (count (side_runs m p q) (side_count m)) two ∙ sym (eq-eqb v 4294967295 s.mark)
       ]
 
-pub cut_here : (m : Net) (p q e : ℕ) (a b : Bool) → p ≡ m.from e → q ≡ to m e → a ≡ ltb 1 (count (runs m p q) (side_count m)) → a ≡ false → b ≡ ltb 1 (count (runs m q p) (side_count m)) → b ≡ is_cut m e
+pub cut_here : (m : Net) (p q e : ℕ) (a b : Bool) → p ≡ m.from e → q ≡ to m e → a ≡ ltb 1 (count (side_runs m p q) (side_count m)) → a ≡ false → b ≡ ltb 1 (count (side_runs m q p) (side_count m)) → b ≡ is_cut m e
 unfolding is_cut
 cut_here m p q e a b pe qe along none back =
-    let many : ℕ → ℕ → Bool = λ i j. ltb 1 (count (runs m i j) (side_count m)) in
+    let many : ℕ → ℕ → Bool = λ i j. ltb 1 (count (side_runs m i j) (side_count m)) in
     let one : many (m.from e) (to m e) ≡ false = ap (λ i. many i (to m e)) (sym pe) ∙ ap (many p) (sym qe) ∙ sym along ∙ none in
     let two : b ≡ many (to m e) (m.from e) = back ∙ ap (λ i. many i p) qe ∙ ap (many (to m e)) pe in
     two ∙ sym (ap (λ z. z || many (to m e) (m.from e)) one)

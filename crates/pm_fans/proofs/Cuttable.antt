@@ -4,12 +4,12 @@ use Rattle.std.proofs.lemmas.Bool.{cases_eq}
 use Rattle.pm_base.specs.declared.mesh.Corners.{Corners}
 use Rattle.pm_base.specs.Sides.{net_of, no_corners}
 use Rattle.pm_base.proofs.NetLaws.{from-corner}
-use Rattle.pm_fans.specs.Keys.{IsShort}
+use Rattle.pm_fans.specs.Keys.{HasShortCorners}
 use Rattle.pm_fans.specs.Kept.{kept_of}
 use Rattle.pm_fans.specs.Splits.{AllStand, IsCuttable}
 use Rattle.pm_fans.proofs.KeptLaws.{kept_are_fit}
 
-pub short_cuttable : (fs : List Corners) → length fs ≤ 1048576 → AllStand (net_of fs) → ((f : ℕ) → f < length fs → IsShort (slice_index_or fs f no_corners)) → IsCuttable (net_of fs)
+pub short_cuttable : (fs : List Corners) → length fs ≤ 1048576 → AllStand (net_of fs) → ((f : ℕ) → f < length fs → HasShortCorners (slice_index_or fs f no_corners)) → IsCuttable (net_of fs)
 short_cuttable fs few stand short = record {
   short = few;
   stand = stand;
@@ -27,5 +27,5 @@ short_cuttable fs few stand short = record {
 }
 
 -- Those that stay have three different corners.
-pub kept_cuttable : (all fs : List Corners) → fs ≡ kept_of all → length fs ≤ 1048576 → ((f : ℕ) → f < length fs → IsShort (slice_index_or fs f no_corners)) → IsCuttable (net_of fs)
+pub kept_cuttable : (all fs : List Corners) → fs ≡ kept_of all → length fs ≤ 1048576 → ((f : ℕ) → f < length fs → HasShortCorners (slice_index_or fs f no_corners)) → IsCuttable (net_of fs)
 kept_cuttable all fs is few short = short_cuttable fs few (subst (λ (gs : List Corners). AllStand (net_of gs)) (sym is) (kept_are_fit all).0) short

@@ -13,7 +13,7 @@ use Rattle.pm_base.specs.Sides.{Net, side_count, next, to}
 use Rattle.pm_base.proofs.Search.{option_cases}
 use Rattle.pm_base.proofs.Sides.{next-lt}
 use Rattle.pm_fans.specs.Splits.{IsGlued, AreGlued, IsCuttable}
-use Rattle.pm_fans.specs.Ends.{ends_key, key_at, IsAlone, AreSeveral, IsNoted, AreNoted}
+use Rattle.pm_fans.specs.Ends.{ends_key, ends_key_at, IsAloneWithKey, AreSeveral, IsNoted, AreNoted}
 use Rattle.pm_fans.proofs.KeyLaws.{equal_is}
 
 -- Two ends are known from their key.
@@ -35,26 +35,26 @@ several_on m n k v s =
     record { mark = s.mark; one = s.one; other = s.other; one_in = omega arith; other_in = omega arith; differ = s.differ; one_has = s.one_has; other_has = s.other_has }
 
 -- One more side with another key.
-noted_other : (m : Net) (n k : ℕ) (r : Option ℕ) → key_at m n ≢ k → IsNoted m n k r → IsNoted m (n + 1) k r
-noted_other m n k None ne h = λ e l. elim (cases_eq e n) [ inl same ↦ (λ is. ne (ap (key_at m) (sym same) ∙ is)) | inr other ↦ h e (omega arith) ]
+noted_other : (m : Net) (n k : ℕ) (r : Option ℕ) → ends_key_at m n ≢ k → IsNoted m n k r → IsNoted m (n + 1) k r
+noted_other m n k None ne h = λ e l. elim (cases_eq e n) [ inl same ↦ (λ is. ne (ap (ends_key_at m) (sym same) ∙ is)) | inr other ↦ h e (omega arith) ]
 noted_other m n k (Some v) ne (inl a) =
     let low = a.in_range in
     inl (record {
       in_range = omega arith;
       has = a.has;
-      alone = λ e l is. elim (cases_eq e n) [ inl same ↦ absurd (ne (ap (key_at m) (sym same) ∙ is)) | inr other ↦ a.alone e (omega arith) is ];
+      alone = λ e l is. elim (cases_eq e n) [ inl same ↦ absurd (ne (ap (ends_key_at m) (sym same) ∙ is)) | inr other ↦ a.alone e (omega arith) is ];
     })
 noted_other m n k (Some v) ne (inr s) = inr (several_on m n k v s)
 
 -- One more side with this key: the first, or one of several.
-noted_first : (m : Net) (n k : ℕ) → key_at m n ≡ k → IsNoted m n k None → IsNoted m (n + 1) k (Some n)
+noted_first : (m : Net) (n k : ℕ) → ends_key_at m n ≡ k → IsNoted m n k None → IsNoted m (n + 1) k (Some n)
 noted_first m n k is none = inl (record {
   in_range = omega arith;
   has = is;
   alone = λ e l h. elim (cases_eq e n) [ inl same ↦ same | inr other ↦ absurd (none e (omega arith) h) ];
 })
 
-noted_again : (m : Net) (n k v : ℕ) → key_at m n ≡ k → IsNoted m n k (Some v) → IsNoted m (n + 1) k (Some 4294967295)
+noted_again : (m : Net) (n k v : ℕ) → ends_key_at m n ≡ k → IsNoted m n k (Some v) → IsNoted m (n + 1) k (Some 4294967295)
 noted_again m n k v is (inl a) =
     let low = a.in_range in
     inr (record { mark = refl; one = v; other = n; one_in = omega arith; other_in = omega arith; differ = omega arith; one_has = a.has; other_has = is })
@@ -62,29 +62,29 @@ noted_again m n k v is (inr s) =
     let more = several_on m n k v s in
     inr (record { mark = refl; one = more.one; other = more.other; one_in = more.one_in; other_in = more.other_in; differ = more.differ; one_has = more.one_has; other_has = more.other_has })
 
-noted_at : (m : Net) (n w : ℕ) (s t : BTreeMap ℕ ℕ) → AreNoted m n s → Updates nat_cmp s t (key_at m n) (Some w) → IsNoted m (n + 1) (key_at m n) (Some w) → AreNoted m (n + 1) t
+noted_at : (m : Net) (n w : ℕ) (s t : BTreeMap ℕ ℕ) → AreNoted m n s → Updates nat_cmp s t (ends_key_at m n) (Some w) → IsNoted m (n + 1) (ends_key_at m n) (Some w) → AreNoted m (n + 1) t
 noted_at m n w s t noted u now k =
-    elim (cases_eq (key_at m n) k) [
+    elim (cases_eq (ends_key_at m n) k) [
       | inl same ↦
-          let at : get nat_cmp t k ≡ Some w = u.0 k ∙ cond-true _ _ _ (equal_is (key_at m n) k ∙ eq-eqb _ _ same) in
+          let at : get nat_cmp t k ≡ Some w = u.0 k ∙ cond-true _ _ _ (equal_is (ends_key_at m n) k ∙ eq-eqb _ _ same) in
           subst (IsNoted m (n + 1) k) (sym at) (subst (λ j. IsNoted m (n + 1) j (Some w)) same now)
       | inr ne ↦
-          let at : get nat_cmp t k ≡ get nat_cmp s k = u.0 k ∙ cond-false _ _ _ (equal_is (key_at m n) k ∙ ne_eqb _ _ ne) in
+          let at : get nat_cmp t k ≡ get nat_cmp s k = u.0 k ∙ cond-false _ _ _ (equal_is (ends_key_at m n) k ∙ ne_eqb _ _ ne) in
           subst (IsNoted m (n + 1) k) (sym at) (noted_other m n k (get nat_cmp s k) ne (noted k))
     ]
 
-pub first_noted : (m : Net) (n : ℕ) (s t : BTreeMap ℕ ℕ) → AreNoted m n s → is_some (get nat_cmp s (key_at m n)) ≡ false → Updates nat_cmp s t (key_at m n) (Some n) → AreNoted m (n + 1) t
+pub first_noted : (m : Net) (n : ℕ) (s t : BTreeMap ℕ ℕ) → AreNoted m n s → is_some (get nat_cmp s (ends_key_at m n)) ≡ false → Updates nat_cmp s t (ends_key_at m n) (Some n) → AreNoted m (n + 1) t
 first_noted m n s t noted none u =
-    elim (option_cases (get nat_cmp s (key_at m n))) [
-      | inl is ↦ noted_at m n n s t noted u (noted_first m n (key_at m n) refl (subst (IsNoted m n (key_at m n)) is (noted (key_at m n))))
+    elim (option_cases (get nat_cmp s (ends_key_at m n))) [
+      | inl is ↦ noted_at m n n s t noted u (noted_first m n (ends_key_at m n) refl (subst (IsNoted m n (ends_key_at m n)) is (noted (ends_key_at m n))))
       | inr (v, is) ↦ absurd (true≢false (sym (ap is_some is) ∙ none))
     ]
 
-pub again_noted : (m : Net) (n : ℕ) (s t : BTreeMap ℕ ℕ) → AreNoted m n s → is_some (get nat_cmp s (key_at m n)) ≡ true → Updates nat_cmp s t (key_at m n) (Some 4294967295) → AreNoted m (n + 1) t
+pub again_noted : (m : Net) (n : ℕ) (s t : BTreeMap ℕ ℕ) → AreNoted m n s → is_some (get nat_cmp s (ends_key_at m n)) ≡ true → Updates nat_cmp s t (ends_key_at m n) (Some 4294967295) → AreNoted m (n + 1) t
 again_noted m n s t noted some u =
-    elim (option_cases (get nat_cmp s (key_at m n))) [
+    elim (option_cases (get nat_cmp s (ends_key_at m n))) [
       | inl is ↦ absurd (true≢false (sym some ∙ ap is_some is))
-      | inr (v, is) ↦ noted_at m n 4294967295 s t noted u (noted_again m n (key_at m n) v refl (subst (IsNoted m n (key_at m n)) is (noted (key_at m n))))
+      | inr (v, is) ↦ noted_at m n 4294967295 s t noted u (noted_again m n (ends_key_at m n) v refl (subst (IsNoted m n (ends_key_at m n)) is (noted (ends_key_at m n))))
     ]
 
 module _ (m : Net) (ok : IsCuttable m) where
@@ -92,14 +92,14 @@ module _ (m : Net) (ok : IsCuttable m) where
   ends_low e l = ok.low (next e) (next-lt m.faces e l)
 
   -- A side that runs from p to q, by its key.
-  pub runs_between : (e p q : ℕ) → e < side_count m → q < 4294967296 → key_at m e ≡ ends_key p q → (m.from e ≡ p) × (to m e ≡ q)
+  pub runs_between : (e p q : ℕ) → e < side_count m → q < 4294967296 → ends_key_at m e ≡ ends_key p q → (m.from e ≡ p) × (to m e ≡ q)
   runs_between e p q l ql is = ends_are (m.from e) (to m e) p q (ends_low e l) ql is
 
-  pub key_is : (e p q : ℕ) → m.from e ≡ p → to m e ≡ q → key_at m e ≡ ends_key p q
+  pub key_is : (e p q : ℕ) → m.from e ≡ p → to m e ≡ q → ends_key_at m e ≡ ends_key p q
   key_is e p q a b = ap (λ i. ends_key i (to m e)) a ∙ ap (ends_key p) b
 
   -- Two sides that run back along one another and stand once are glued.
-  pub both_alone : (e v g : ℕ) → e < side_count m → IsAlone m (side_count m) (ends_key (m.from e) (to m e)) v → IsAlone m (side_count m) (ends_key (to m e) (m.from e)) g → IsGlued m e g
+  pub both_alone : (e v g : ℕ) → e < side_count m → IsAloneWithKey m (side_count m) (ends_key (m.from e) (to m e)) v → IsAloneWithKey m (side_count m) (ends_key (to m e) (m.from e)) g → IsGlued m e g
   both_alone e v g l a b =
       let at = runs_between g (to m e) (m.from e) b.in_range (ok.low e l) b.has in
       record {
@@ -109,14 +109,14 @@ module _ (m : Net) (ok : IsCuttable m) where
         other = λ k w. b.alone k w.stands.is_side (key_is k (to m e) (m.from e) w.begins w.ends);
       }
 
-  pub not_alone : (e : ℕ) → e < side_count m → ((v : ℕ) → IsAlone m (side_count m) (ends_key (m.from e) (to m e)) v → ⊥) → (g : ℕ) → IsGlued m e g → ⊥
+  pub not_alone : (e : ℕ) → e < side_count m → ((v : ℕ) → IsAloneWithKey m (side_count m) (ends_key (m.from e) (to m e)) v → ⊥) → (g : ℕ) → IsGlued m e g → ⊥
   not_alone e l none g w = none e (record {
     in_range = l;
     has = refl;
     alone = λ k lk h. (let at = runs_between k (m.from e) (to m e) lk (ends_low e l) h in w.one k (ok.stand k lk) at.0 at.1);
   })
 
-  pub back_not_alone : (e : ℕ) → e < side_count m → ((v : ℕ) → IsAlone m (side_count m) (ends_key (to m e) (m.from e)) v → ⊥) → (g : ℕ) → IsGlued m e g → ⊥
+  pub back_not_alone : (e : ℕ) → e < side_count m → ((v : ℕ) → IsAloneWithKey m (side_count m) (ends_key (to m e) (m.from e)) v → ⊥) → (g : ℕ) → IsGlued m e g → ⊥
   back_not_alone e l none g w = none g (record {
     in_range = w.twin.stands.is_side;
     has = key_is g (to m e) (m.from e) w.twin.begins w.twin.ends;
@@ -125,7 +125,7 @@ module _ (m : Net) (ok : IsCuttable m) where
 
 -- What a search for the side with a key answers.
 abbrev pub IsFound : Net → ℕ → Option Side → Type 0
-IsFound m k r = MatchOption r ((v : ℕ) → IsAlone m (side_count m) k v → ⊥) (λ v. IsAlone m (side_count m) k v.0)
+IsFound m k r = MatchOption r ((v : ℕ) → IsAloneWithKey m (side_count m) k v → ⊥) (λ v. IsAloneWithKey m (side_count m) k v.0)
 
 module _ (m : Net) (ok : IsCuttable m) (e p q : ℕ) (l : e < side_count m) (begins : p ≡ m.from e) (ends : q ≡ to m e) where
   ahead : (r : Option Side) → IsFound m (ends_key p q) r → IsFound m (ends_key (m.from e) (to m e)) r

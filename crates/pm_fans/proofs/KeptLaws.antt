@@ -9,8 +9,8 @@ use Rattle.pm_base.specs.declared.mesh.Corners.{Corners}
 use Rattle.pm_base.specs.Sides.{Net, to, net_of, no_corners}
 use Rattle.pm_base.proofs.Sides.{face_cases, corner-first, first-second, second-corner}
 use Rattle.pm_base.proofs.NetLaws.{face_at}
-use Rattle.pm_fans.specs.Splits.{AllStand, NoMirror}
-use Rattle.pm_fans.specs.Kept.{is_flat, is_corner, is_alike, is_kept, kept_after, kept_of, IsFitList}
+use Rattle.pm_fans.specs.Splits.{AllStand, NoMirroredFaces}
+use Rattle.pm_fans.specs.Kept.{is_flat, is_corner, is_alike, is_kept_after, kept_after, kept_of, IsFitList}
 use Rattle.pm_fans.proofs.Turned.{side_turned, not_flat, turned_differ, corner_a, corner_b, corner_c, mirrors_alike}
 
 none_fit : IsFitList []
@@ -26,8 +26,8 @@ more_cases fs f i l =
           inr (is, ap (λ n. face_at (fs ++ f ∷ []) n) is ∙ get_or-append_seam fs f [] no_corners)
     ]
 
-parts_kept : (fs : List Corners) (f : Corners) → is_kept fs f ≡ true → (is_flat f ≡ false) × (list_any (is_alike f) fs ≡ false)
-unfolding is_kept
+parts_kept : (fs : List Corners) (f : Corners) → is_kept_after fs f ≡ true → (is_flat f ≡ false) × (list_any (is_alike f) fs ≡ false)
+unfolding is_kept_after
 parts_kept fs f k = let (a, b) = and_parts (not (is_flat f)) (not (list_any (is_alike f) fs)) k in (not-true _ a, not-true _ b)
 
 unlike : (fs : List Corners) (f : Corners) (i : ℕ) → list_any (is_alike f) fs ≡ false → i < length fs → is_alike f (face_at fs i) ≡ false
@@ -37,7 +37,7 @@ unlike fs f i none l =
       | inr n ↦ n
     ]
 
-more_fit : (fs : List Corners) (f : Corners) → IsFitList fs → is_kept fs f ≡ true → IsFitList (fs ++ f ∷ [])
+more_fit : (fs : List Corners) (f : Corners) → IsFitList fs → is_kept_after fs f ≡ true → IsFitList (fs ++ f ∷ [])
 more_fit fs f h k =
     let (flat, none) = parts_kept fs f k in
     record {
@@ -56,7 +56,7 @@ more_fit fs f h k =
 kept_after_fit : (before fs : List Corners) → IsFitList before → IsFitList (kept_after before fs)
 kept_after_fit before [] h = h
 kept_after_fit before (f ∷ fs) h =
-    elim (cases_Bool (is_kept before f)) [
+    elim (cases_Bool (is_kept_after before f)) [
       | inl t ↦ subst IsFitList (sym (cond-true _ _ _ t)) (kept_after_fit (before ++ f ∷ []) fs (more_fit before f h t))
       | inr n ↦ subst IsFitList (sym (cond-false _ _ _ n)) (kept_after_fit before fs h)
     ]
@@ -66,7 +66,7 @@ fit_stand fs h e l =
     let d = turned_differ _ _ _ _ (not_flat (face_at fs (e / 3)) (h.flat (e / 3) (omega arith))) (side_turned fs e (e / 3) refl) in
     record { is_side = l; first = d.xy; second = d.yz; last = d.zx }
 
-fit_single : (fs : List Corners) → IsFitList fs → NoMirror (net_of fs)
+fit_single : (fs : List Corners) → IsFitList fs → NoMirroredFaces (net_of fs)
 fit_single fs h v x y f g =
     let m : Net = net_of fs in
     let fl = f.stands.is_side in
@@ -88,7 +88,7 @@ fit_single fs h v x y f g =
           ]
     ]
 
-pub kept_are_fit : (fs : List Corners) → AllStand (net_of (kept_of fs)) × NoMirror (net_of (kept_of fs))
+pub kept_are_fit : (fs : List Corners) → AllStand (net_of (kept_of fs)) × NoMirroredFaces (net_of (kept_of fs))
 unfolding kept_of
 kept_are_fit fs = let h = kept_after_fit [] fs none_fit in (fit_stand (kept_after [] fs) h, fit_single (kept_after [] fs) h)
 
@@ -96,7 +96,7 @@ kept_are_fit fs = let h = kept_after_fit [] fs none_fit in (fit_stand (kept_afte
 grows : (p : Corners → Bool) (before fs : List Corners) → list_any p before ≡ true → list_any p (kept_after before fs) ≡ true
 grows p before [] h = h
 grows p before (f ∷ fs) h =
-    elim (cases_Bool (is_kept before f)) [
+    elim (cases_Bool (is_kept_after before f)) [
       | inl t ↦ ap (list_any p) (cond-true _ _ _ t) ∙ grows p (before ++ f ∷ []) fs (list_any-append p before (f ∷ []) ∙ or_left (list_any p before) (list_any p (f ∷ [])) h)
       | inr n ↦ ap (list_any p) (cond-false _ _ _ n) ∙ grows p before fs h
     ]
@@ -105,8 +105,8 @@ alike_itself : (f : Corners) → is_alike f f ≡ true
 unfolding is_alike
 alike_itself f = and_from (is_corner f f.a && is_corner f f.b) (is_corner f f.c) (and_from (is_corner f f.a) (is_corner f f.b) (corner_a f f.a refl) (corner_b f f.b refl)) (corner_c f f.c refl)
 
-was_there : (before : List Corners) (f : Corners) → is_flat f ≡ false → is_kept before f ≡ false → list_any (is_alike f) before ≡ true
-unfolding is_kept
+was_there : (before : List Corners) (f : Corners) → is_flat f ≡ false → is_kept_after before f ≡ false → list_any (is_alike f) before ≡ true
+unfolding is_kept_after
 was_there before f flat n =
     elim (and_cases (not (is_flat f)) (not (list_any (is_alike f) before)) n) [
       | inl a ↦ absurd (true≢false (sym (not-false _ a) ∙ flat))
@@ -116,12 +116,12 @@ was_there before f flat n =
 not_lost : (before fs : List Corners) (i : ℕ) → i < length fs → is_flat (face_at fs i) ≡ false → list_any (is_alike (face_at fs i)) (kept_after before fs) ≡ true
 not_lost before [] i l flat = absurd (omega arith)
 not_lost before (f ∷ fs) zero l flat =
-    elim (cases_Bool (is_kept before f)) [
+    elim (cases_Bool (is_kept_after before f)) [
       | inl t ↦ ap (list_any (is_alike f)) (cond-true _ _ _ t) ∙ grows (is_alike f) (before ++ f ∷ []) fs (list_any-append (is_alike f) before (f ∷ []) ∙ or_right (list_any (is_alike f) before) (list_any (is_alike f) (f ∷ [])) (or_left (is_alike f f) false (alike_itself f)))
       | inr n ↦ ap (list_any (is_alike f)) (cond-false _ _ _ n) ∙ grows (is_alike f) before fs (was_there before f flat n)
     ]
 not_lost before (f ∷ fs) (suc i) l flat =
-    elim (cases_Bool (is_kept before f)) [
+    elim (cases_Bool (is_kept_after before f)) [
       | inl t ↦ ap (list_any (is_alike (face_at fs i))) (cond-true _ _ _ t) ∙ not_lost (before ++ f ∷ []) fs i (omega arith) flat
       | inr n ↦ ap (list_any (is_alike (face_at fs i))) (cond-false _ _ _ n) ∙ not_lost before fs i (omega arith) flat
     ]

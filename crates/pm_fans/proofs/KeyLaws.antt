@@ -7,7 +7,7 @@ use Rattle.std.proofs.lemmas.Bool.{cases_Bool, cases_lt, and_parts, true≢false
 use Rattle.std.proofs.lemmas.Nat.{div-mul-add}
 use Rattle.pm_base.specs.declared.mesh.Corners.{Corners}
 use Rattle.pm_fans.specs.Kept.{is_flat, is_corner, is_alike}
-use Rattle.pm_fans.specs.Keys.{least, middle, greatest, key_of, IsShort, IsProper}
+use Rattle.pm_fans.specs.Keys.{least_corner, middle_corner, greatest_corner, corners_key_of, HasShortCorners, IsProperFace}
 use Rattle.pm_fans.proofs.Turned.{Turned, not_flat, HasAll, turned_has, turned_alike, which}
 
 -- The corners in ascending order, and that they are those of the face.
@@ -16,7 +16,7 @@ record IsOrdered (f : Corners) (x y z : ℕ) : Type 0 where
   last : y < z
   are : Turned f x y z ⊎ Turned f x z y
 
-ordered : (f : Corners) → is_flat f ≡ false → IsOrdered f (least f) (middle f) (greatest f)
+ordered : (f : Corners) → is_flat f ≡ false → IsOrdered f (least_corner f) (middle_corner f) (greatest_corner f)
 ordered f flat =
     let d = not_flat f flat in
     let xy = d.xy in
@@ -120,8 +120,8 @@ digits x y z p q r yl zl ql rl e =
     let twos : (x * b + y) * b ≡ (p * b + q) * b = ap (λ n. n * b) two in
     (one, omega (arith, ones, two), omega (arith, twos, e))
 
-same_key : (f g : Corners) → IsShort f → IsShort g → key_of f ≡ key_of g → (least f ≡ least g) × (middle f ≡ middle g) × (greatest f ≡ greatest g)
-unfolding key_of
+same_key : (f g : Corners) → HasShortCorners f → HasShortCorners g → corners_key_of f ≡ corners_key_of g → (least_corner f ≡ least_corner g) × (middle_corner f ≡ middle_corner g) × (greatest_corner f ≡ greatest_corner g)
+unfolding corners_key_of
 same_key f g s t e =
     let fa = s.a in
     let fb = s.b in
@@ -129,32 +129,32 @@ same_key f g s t e =
     let ga = t.a in
     let gb = t.b in
     let gc = t.c in
-    digits (least f) (middle f) (greatest f) (least g) (middle g) (greatest g) (omega arith) (omega arith) (omega arith) (omega arith) e
+    digits (least_corner f) (middle_corner f) (greatest_corner f) (least_corner g) (middle_corner g) (greatest_corner g) (omega arith) (omega arith) (omega arith) (omega arith) e
 
-key_from : (f g : Corners) → (least f ≡ least g) × (middle f ≡ middle g) × (greatest f ≡ greatest g) → key_of g ≡ key_of f
-unfolding key_of
+key_from : (f g : Corners) → (least_corner f ≡ least_corner g) × (middle_corner f ≡ middle_corner g) × (greatest_corner f ≡ greatest_corner g) → corners_key_of g ≡ corners_key_of f
+unfolding corners_key_of
 key_from f g e =
     let two = ap (λ n. n * 4294967296) e.0 in
-    let three : (least f * 4294967296 + middle f) * 4294967296 ≡ (least g * 4294967296 + middle g) * 4294967296 = ap (λ n. n * 4294967296) (omega (arith, two, e.1)) in
+    let three : (least_corner f * 4294967296 + middle_corner f) * 4294967296 ≡ (least_corner g * 4294967296 + middle_corner g) * 4294967296 = ap (λ n. n * 4294967296) (omega (arith, two, e.1)) in
     omega (arith, three, e.2)
 
 pub equal_is : (x y : ℕ) → is_eq (nat_cmp x y) ≡ (x == y)
 equal_is x y = grind (arith, nat_tests)
 
-one_alike : (f g : Corners) → IsProper f → IsProper g → key_of f ≡ key_of g → is_alike f g ≡ true
+one_alike : (f g : Corners) → IsProperFace f → IsProperFace g → corners_key_of f ≡ corners_key_of g → is_alike f g ≡ true
 one_alike f g p q e =
     let is = same_key f g p.short q.short e in
     let s = ordered g q.flat in
-    let there = subst (λ x. IsOrdered g x (middle g) (greatest g)) (sym is.0) s in
-    let then = subst (λ y. IsOrdered g (least f) y (greatest g)) (sym is.1) there in
-    same_alike f g _ _ _ (ordered f p.flat) (subst (λ z. IsOrdered g (least f) (middle f) z) (sym is.2) then)
+    let there = subst (λ x. IsOrdered g x (middle_corner g) (greatest_corner g)) (sym is.0) s in
+    let then = subst (λ y. IsOrdered g (least_corner f) y (greatest_corner g)) (sym is.1) there in
+    same_alike f g _ _ _ (ordered f p.flat) (subst (λ z. IsOrdered g (least_corner f) (middle_corner f) z) (sym is.2) then)
 
 -- Of faces with three different corners: they are alike where they have one key.
-pub alike_key : (f g : Corners) → IsProper f → IsProper g → is_eq (nat_cmp (key_of g) (key_of f)) ≡ is_alike f g
+pub alike_key : (f g : Corners) → IsProperFace f → IsProperFace g → is_eq (nat_cmp (corners_key_of g) (corners_key_of f)) ≡ is_alike f g
 alike_key f g p q =
     let o = ordered f p.flat in
     let s = ordered g q.flat in
-    equal_is (key_of g) (key_of f) ∙ elim (cases_Bool (is_alike f g)) [
+    equal_is (corners_key_of g) (corners_key_of f) ∙ elim (cases_Bool (is_alike f g)) [
       | inl t ↦ eq-eqb _ _ (key_from f g (alike_same f g _ _ _ _ _ _ o s t)) ∙ sym t
       | inr n ↦ ne_eqb _ _ (λ e. true≢false (sym (one_alike f g p q (sym e)) ∙ n)) ∙ sym n
     ]

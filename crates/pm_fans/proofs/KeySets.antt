@@ -10,18 +10,18 @@ use Rattle.std.proofs.lemmas.List.Elements.{All-append}
 use Rattle.pm_base.specs.declared.mesh.Corners.{Corners}
 use Rattle.pm_base.specs.Sides.{no_corners}
 use Rattle.pm_base.proofs.NetLaws.{face_at}
-use Rattle.pm_fans.specs.Kept.{is_flat, is_alike, is_kept, kept_after, kept_of}
-use Rattle.pm_fans.specs.Keys.{key_of, IsProper, has_key, HoldsKeys, IsShort}
+use Rattle.pm_fans.specs.Kept.{is_flat, is_alike, is_kept_after, kept_after, kept_of}
+use Rattle.pm_fans.specs.Keys.{corners_key_of, IsProperFace, has_key, HoldsKeys, HasShortCorners}
 use Rattle.pm_fans.proofs.KeyLaws.{alike_key}
 
 pub no_keys : (stay : List Corners) (s : BTreeSet ℕ) → stay ≡ [] → s.keys ≡ [] → HoldsKeys stay s
 no_keys stay s none is = record {
-  proper = subst (All IsProper) (sym none) (λ k d l. absurd (omega arith));
+  proper = subst (All IsProperFace) (sym none) (λ k d l. absurd (omega arith));
   each = λ k. ap (list_any (λ q. is_eq (nat_cmp k q))) is ∙ sym (ap (λ fs. has_key fs k) none);
 }
 
 -- A face has the key where one is alike.
-has_alike : (fs : List Corners) (f : Corners) → All IsProper fs → IsProper f → has_key fs (key_of f) ≡ list_any (is_alike f) fs
+has_alike : (fs : List Corners) (f : Corners) → All IsProperFace fs → IsProperFace f → has_key fs (corners_key_of f) ≡ list_any (is_alike f) fs
 has_alike [] f all p = refl
 has_alike (g ∷ fs) f all p = rw (alike_key f g p (all zero g (omega arith)), has_alike fs f (λ k d l. all (suc k) d (omega arith)) p) refl
 
@@ -29,46 +29,46 @@ or_none : (b : Bool) → (b || (false || false)) ≡ b
 or_none true = refl
 or_none false = refl
 
-one_proper : (f : Corners) → IsProper f → All IsProper (f ∷ [])
+one_proper : (f : Corners) → IsProperFace f → All IsProperFace (f ∷ [])
 one_proper f p zero d l = p
 one_proper f p (suc k) d l = absurd (omega arith)
 
 -- One more key.
-keys_more : (stay : List Corners) (f : Corners) (s n : BTreeSet ℕ) → ((k : ℕ) → contains nat_cmp s k ≡ has_key stay k) → Updates nat_cmp s n (key_of f) true → (k : ℕ) → contains nat_cmp n k ≡ has_key (stay ++ f ∷ []) k
+keys_more : (stay : List Corners) (f : Corners) (s n : BTreeSet ℕ) → ((k : ℕ) → contains nat_cmp s k ≡ has_key stay k) → Updates nat_cmp s n (corners_key_of f) true → (k : ℕ) → contains nat_cmp n k ≡ has_key (stay ++ f ∷ []) k
 keys_more stay f s n is u k =
-    u.0 k ∙ (elim (cases_Bool (is_eq (nat_cmp (key_of f) k))) [
-      | inl t ↦ cond-true _ _ _ t ∙ sym (or_right (has_key stay k) (is_eq (nat_cmp (key_of f) k) || false) (ap (λ b. b || false) t))
+    u.0 k ∙ (elim (cases_Bool (is_eq (nat_cmp (corners_key_of f) k))) [
+      | inl t ↦ cond-true _ _ _ t ∙ sym (or_right (has_key stay k) (is_eq (nat_cmp (corners_key_of f) k) || false) (ap (λ b. b || false) t))
       | inr e ↦ cond-false _ _ _ e ∙ is k ∙ sym (ap (λ b. has_key stay k || (b || false)) e ∙ or_none (has_key stay k))
-    ]) ∙ sym (list_any-append (λ g. is_eq (nat_cmp (key_of g) k)) stay (f ∷ []))
+    ]) ∙ sym (list_any-append (λ g. is_eq (nat_cmp (corners_key_of g) k)) stay (f ∷ []))
 
 -- Whether the key is new says whether the face stays.
-stays_where_new : (stay : List Corners) (f : Corners) (s : BTreeSet ℕ) → HoldsKeys stay s → IsProper f → is_kept stay f ≡ not (contains nat_cmp s (key_of f))
-unfolding is_kept
-stays_where_new stay f s h p = rw (p.flat, h.each (key_of f), has_alike stay f h.proper p) refl
+stays_where_new : (stay : List Corners) (f : Corners) (s : BTreeSet ℕ) → HoldsKeys stay s → IsProperFace f → is_kept_after stay f ≡ not (contains nat_cmp s (corners_key_of f))
+unfolding is_kept_after
+stays_where_new stay f s h p = rw (p.flat, h.each (corners_key_of f), has_alike stay f h.proper p) refl
 
 pub flat_goes : (stay : List Corners) (f : Corners) → is_flat f ≡ true → stay ≡ kept_after stay (f ∷ [])
-unfolding is_kept
+unfolding is_kept_after
 flat_goes stay f e = sym (cond-false _ _ _ (ap (λ b. not b && not (list_any (is_alike f) stay)) e))
 
-pub old_goes : (stay : List Corners) (f : Corners) (s : BTreeSet ℕ) → HoldsKeys stay s → is_flat f ≡ false → IsShort f → not (contains nat_cmp s (key_of f)) ≡ false → stay ≡ kept_after stay (f ∷ [])
+pub old_goes : (stay : List Corners) (f : Corners) (s : BTreeSet ℕ) → HoldsKeys stay s → is_flat f ≡ false → HasShortCorners f → not (contains nat_cmp s (corners_key_of f)) ≡ false → stay ≡ kept_after stay (f ∷ [])
 old_goes stay f s h e short new = sym (cond-false _ _ _ (stays_where_new stay f s h (record { flat = e; short = short }) ∙ new))
 
-pub new_stays : (stay : List Corners) (f : Corners) (s : BTreeSet ℕ) → HoldsKeys stay s → is_flat f ≡ false → IsShort f → not (contains nat_cmp s (key_of f)) ≡ true → stay ++ f ∷ [] ≡ kept_after stay (f ∷ [])
+pub new_stays : (stay : List Corners) (f : Corners) (s : BTreeSet ℕ) → HoldsKeys stay s → is_flat f ≡ false → HasShortCorners f → not (contains nat_cmp s (corners_key_of f)) ≡ true → stay ++ f ∷ [] ≡ kept_after stay (f ∷ [])
 new_stays stay f s h e short new = sym (cond-true _ _ _ (stays_where_new stay f s h (record { flat = e; short = short }) ∙ new))
 
 pub old_holds : (stay : List Corners) (s n : BTreeSet ℕ) → HoldsKeys stay s → n.keys ≡ s.keys → HoldsKeys stay n
 old_holds stay s n h same = record { proper = h.proper; each = λ k. ap (list_any (λ q. is_eq (nat_cmp k q))) same ∙ h.each k }
 
-pub new_holds : (stay more : List Corners) (f : Corners) (s n : BTreeSet ℕ) → HoldsKeys stay s → is_flat f ≡ false → IsShort f → Updates nat_cmp s n (key_of f) true → more ≡ stay ++ f ∷ [] → HoldsKeys more n
+pub new_holds : (stay more : List Corners) (f : Corners) (s n : BTreeSet ℕ) → HoldsKeys stay s → is_flat f ≡ false → HasShortCorners f → Updates nat_cmp s n (corners_key_of f) true → more ≡ stay ++ f ∷ [] → HoldsKeys more n
 new_holds stay more f s n h e short u is = record {
-  proper = subst (All IsProper) (sym is) (All-append IsProper stay (f ∷ []) h.proper (one_proper f (record { flat = e; short = short })));
+  proper = subst (All IsProperFace) (sym is) (All-append IsProperFace stay (f ∷ []) h.proper (one_proper f (record { flat = e; short = short })));
   each = λ k. keys_more stay f s n h.each u k ∙ sym (ap (λ fs. has_key fs k) is);
 }
 
 -- One face after the other.
 then_rest : (stay : List Corners) (f : Corners) (fs : List Corners) → kept_after (kept_after stay (f ∷ [])) fs ≡ kept_after stay (f ∷ fs)
 then_rest stay f fs =
-    elim (cases_Bool (is_kept stay f)) [
+    elim (cases_Bool (is_kept_after stay f)) [
       | inl t ↦ ap (λ xs. kept_after xs fs) (cond-true _ _ _ t) ∙ sym (cond-true _ _ _ t)
       | inr n ↦ ap (λ xs. kept_after xs fs) (cond-false _ _ _ n) ∙ sym (cond-false _ _ _ n)
     ]

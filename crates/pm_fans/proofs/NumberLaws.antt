@@ -13,13 +13,13 @@ use Rattle.std.proofs.lemmas.Map.Keys.{IsDistinct-from_apart, IsDistinct-IsPermu
 use Rattle.std.proofs.Math.Seq.{get_or-append_seam}
 use Rattle.pm_base.specs.declared.mesh.Corners.{Corners}
 use Rattle.pm_base.specs.Sides.{Net, no_corners}
-use Rattle.pm_fans.specs.Heads.{at}
-use Rattle.pm_fans.specs.HeadKeys.{order_key, side_in, IsHeadKey, AreCollected, AreHeadKeys, ArePlaces, AreRenamed, new_of}
+use Rattle.pm_fans.specs.Heads.{twin_in_table}
+use Rattle.pm_fans.specs.HeadKeys.{order_key, side_of_key, IsHeadKey, AreCollected, AreHeadKeys, AreKeyPlaces, AreRenamed, new_of}
 use Rattle.pm_fans.proofs.ChainLaws.{in_table}
 
-pub key_side : (m : Net) (glued : List (Option ℕ)) (e : ℕ) → e < 4194304 → side_in (order_key m glued e) ≡ e
+pub key_side : (m : Net) (glued : List (Option ℕ)) (e : ℕ) → e < 4194304 → side_of_key (order_key m glued e) ≡ e
 unfolding order_key
-key_side m glued e l = mod-mul-add (m.from e * 2 + cond (is_some (at glued e)) 1 0) 4194304 e l
+key_side m glued e l = mod-mul-add (m.from e * 2 + cond (is_some (twin_in_table glued e)) 1 0) 4194304 e l
 
 -- What stands in a list after a push.
 pub pushed : {X : Type 0} (xs : List X) (y d : X) (i : ℕ) → i < length xs + 1 → ((i < length xs) × (slice_index_or (xs ++ y ∷ []) i d ≡ slice_index_or xs i d)) ⊎ ((i ≡ length xs) × (slice_index_or (xs ++ y ∷ []) i d ≡ y))
@@ -30,31 +30,31 @@ pushed xs y d i l =
     ]
 
 module _ (m : Net) (glued heads : List (Option ℕ)) (n : ℕ) (xs : List ℕ) (c : AreCollected m glued heads n xs) where
-  pub collected_none : (at heads n ≡ Some n → ⊥) → AreCollected m glued heads (n + 1) xs
+  pub collected_none : (twin_in_table heads n ≡ Some n → ⊥) → AreCollected m glued heads (n + 1) xs
   collected_none not = record {
     few = let few = c.few in omega arith;
     each = c.each;
     low = λ i l. let low = c.low i l in omega arith;
     all = λ e l h. elim (cases_eq e n) [
-      | inl same ↦ absurd (not (subst (λ i. at heads i ≡ Some i) same h))
+      | inl same ↦ absurd (not (subst (λ i. twin_in_table heads i ≡ Some i) same h))
       | inr other ↦ c.all e (omega arith) h
     ];
     apart = c.apart;
   }
 
-  module _ (few : n < 4194304) (own : at heads n ≡ Some n) where
+  module _ (few : n < 4194304) (own : twin_in_table heads n ≡ Some n) where
     k : ℕ
     k = order_key m glued n
 
     long : length (xs ++ order_key m glued n ∷ []) ≡ length xs + 1
     long = length-append xs (order_key m glued n ∷ [])
 
-    side : side_in (order_key m glued n) ≡ n
+    side : side_of_key (order_key m glued n) ≡ n
     side = key_side m glued n few
 
     is_key : IsHeadKey m glued heads (order_key m glued n)
     is_key = record {
-      own = subst (λ i. at heads i ≡ Some i) (sym side) own;
+      own = subst (λ i. twin_in_table heads i ≡ Some i) (sym side) own;
       is = ap (order_key m glued) (sym side);
     }
 
@@ -69,8 +69,8 @@ module _ (m : Net) (glued heads : List (Option ℕ)) (n : ℕ) (xs : List ℕ) (
         | inr (end, is) ↦ subst (IsHeadKey m glued heads) (sym is) is_key
       ];
       low = λ i l. elim (at_place i l) [
-        | inl (low, is) ↦ subst (λ j. side_in j < n + 1) (sym is) (let b = c.low i low in omega arith)
-        | inr (end, is) ↦ subst (λ j. side_in j < n + 1) (sym is) (subst (λ j. j < n + 1) (sym side) (omega arith))
+        | inl (low, is) ↦ subst (λ j. side_of_key j < n + 1) (sym is) (let b = c.low i low in omega arith)
+        | inr (end, is) ↦ subst (λ j. side_of_key j < n + 1) (sym is) (subst (λ j. j < n + 1) (sym side) (omega arith))
       ];
       all = λ e l h. elim (cases_eq e n) [
         | inl same ↦ subst (λ j. Contains (xs ++ order_key m glued n ∷ []) (order_key m glued j)) (sym same) (Contains-push xs (order_key m glued n))
@@ -80,11 +80,11 @@ module _ (m : Net) (glued heads : List (Option ℕ)) (n : ℕ) (xs : List ℕ) (
         | inl (low, is) ↦
             let before : i < length xs = omega arith in
             let is' : slice_index (xs ++ order_key m glued n ∷ []) i ≡ slice_index xs i = get_or_append_left xs (order_key m glued n ∷ []) 0 i before in
-            subst (λ x. side_in x < side_in (slice_index (xs ++ order_key m glued n ∷ []) j)) (sym is') (subst (λ y. side_in (slice_index xs i) < side_in y) (sym is) (c.apart i j ij low))
+            subst (λ x. side_of_key x < side_of_key (slice_index (xs ++ order_key m glued n ∷ []) j)) (sym is') (subst (λ y. side_of_key (slice_index xs i) < side_of_key y) (sym is) (c.apart i j ij low))
         | inr (end, is) ↦
             let before : i < length xs = omega arith in
             let is' : slice_index (xs ++ order_key m glued n ∷ []) i ≡ slice_index xs i = get_or_append_left xs (order_key m glued n ∷ []) 0 i before in
-            subst (λ x. side_in x < side_in (slice_index (xs ++ order_key m glued n ∷ []) j)) (sym is') (subst (λ y. side_in (slice_index xs i) < side_in y) (sym is) (subst (λ y. side_in (slice_index xs i) < y) (sym side) (c.low i before)))
+            subst (λ x. side_of_key x < side_of_key (slice_index (xs ++ order_key m glued n ∷ []) j)) (sym is') (subst (λ y. side_of_key (slice_index xs i) < side_of_key y) (sym is) (subst (λ y. side_of_key (slice_index xs i) < y) (sym side) (c.low i before)))
       ];
     }
 
@@ -99,7 +99,7 @@ keys_sorted m glued heads xs ys c perm sorted =
     let il : i < length xs = omega arith in
     let e' : slice_index xs i ≡ slice_index xs j = get_or_default xs i 0 d il ∙ e ∙ get_or_default xs j d 0 jl in
     let less = c.apart i j ij jl in
-    absurd (omega (arith, ap side_in e')))) in
+    absurd (omega (arith, ap side_of_key e')))) in
     let rise = IsStrictlyIncreasing-from_distinct ys (IsNonDecreasingBy-from_sort (λ x. x) ys sorted) (IsDistinct-IsPermutation eqb eqb_flips xs ys perm differ) in
     record {
       few = subst (λ j. j ≤ length heads) (sym (length_permutation xs ys perm)) c.few;
@@ -110,10 +110,10 @@ keys_sorted m glued heads xs ys c perm sorted =
 
 -- Keys of different heads have different sides.
 module _ (m : Net) (glued heads : List (Option ℕ)) (keys : List ℕ) (h : AreHeadKeys m glued heads keys) where
-  pub key_in : (i : ℕ) → i < length keys → side_in (slice_index keys i) < length heads
-  key_in i l = in_table heads (side_in (slice_index keys i)) (side_in (slice_index keys i)) (h.each i l).own
+  pub key_in : (i : ℕ) → i < length keys → side_of_key (slice_index keys i) < length heads
+  key_in i l = in_table heads (side_of_key (slice_index keys i)) (side_of_key (slice_index keys i)) (h.each i l).own
 
-  pub keys_apart : (i j : ℕ) → i < j → j < length keys → side_in (slice_index keys i) ≡ side_in (slice_index keys j) → ⊥
+  pub keys_apart : (i j : ℕ) → i < j → j < length keys → side_of_key (slice_index keys i) ≡ side_of_key (slice_index keys j) → ⊥
   keys_apart i j ij jl same =
       let il : i < length keys = omega arith in
       let e : slice_index keys i ≡ slice_index keys j = (h.each i il).is ∙ ap (order_key m glued) same ∙ sym (h.each j jl).is in
@@ -121,13 +121,13 @@ module _ (m : Net) (glued heads : List (Option ℕ)) (keys : List ℕ) (h : AreH
       absurd (omega (arith, e))
 
   -- The key at a head's place.
-  module _ (places : List ℕ) (p : ArePlaces keys places (length heads) (length keys)) (few : length heads ≤ 3145728) where
-    pub place_of : (e : ℕ) → at heads e ≡ Some e → (slice_index places e < length keys) × (slice_index keys (slice_index places e) ≡ order_key m glued e)
+  module _ (places : List ℕ) (p : AreKeyPlaces keys places (length heads) (length keys)) (few : length heads ≤ 3145728) where
+    pub place_of : (e : ℕ) → twin_in_table heads e ≡ Some e → (slice_index places e < length keys) × (slice_index keys (slice_index places e) ≡ order_key m glued e)
     place_of e own =
         let (i, l, is) = h.all e own in
         let low = in_table heads e e own in
         let is' : slice_index keys i ≡ order_key m glued e = get_or_default keys i 0 (order_key m glued e) l ∙ is in
-        let s : side_in (slice_index keys i) ≡ e = ap side_in is' ∙ key_side m glued e (omega arith) in
+        let s : side_of_key (slice_index keys i) ≡ e = ap side_of_key is' ∙ key_side m glued e (omega arith) in
         let place : slice_index places e ≡ i = ap (slice_index places) (sym s) ∙ p.each i l in
         (subst (λ j. j < length keys) (sym place) l, ap (slice_index keys) place ∙ is')
 

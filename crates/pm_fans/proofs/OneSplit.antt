@@ -8,7 +8,7 @@ use Rattle.pm_base.specs.declared.mesh.Corners.{Corners}
 use Rattle.pm_base.specs.Sides.{Net, net_of, no_corners, side_count, prev, Stands}
 use Rattle.pm_base.proofs.NetLaws.{face_at, first_side, second_side, third_side}
 use Rattle.pm_fans.specs.Splits.{Turns, stay, on, AllStand, IsSplitByFans}
-use Rattle.pm_fans.specs.Orders.{IsFirstSide, IsLeastSide, IsHead, ComesFirst, Precedes, IsOrdered, IsSplit}
+use Rattle.pm_fans.specs.Orders.{IsFirstSide, IsLeastSide, IsHead, ComesFirst, Precedes, IsOrdered, IsSplitMesh}
 use Rattle.pm_fans.proofs.Splitting.{glued_back}
 
 -- Where x numbers some things with no gaps, and y numbers them in the same order, no number of y is less than that of x.
@@ -110,7 +110,7 @@ module _ (m n p : Net) (split : IsSplitByFans m n) (other : IsSplitByFans m p) w
         ]
       ]
 
-module _ (m : Net) (fs gs : List Corners) (old was : List ℕ) (stand : AllStand m) (s : IsSplit m fs old) (t : IsSplit m gs was) where
+module _ (m : Net) (fs gs : List Corners) (old was : List ℕ) (stand : AllStand m) (s : IsSplitMesh m fs old) (t : IsSplitMesh m gs was) where
   -- A new vertex isn't without a head.
   headed : (v : ℕ) → v < length old → ((e : ℕ) → Stands m e → IsHead m (net_of fs) e → (net_of fs).from e ≡ v → ⊥) → ⊥
   headed v l none =
@@ -124,7 +124,7 @@ module _ (m : Net) (fs gs : List Corners) (old was : List ℕ) (stand : AllStand
       (λ v i l p none. headed v (let w = s.within i p.0.is_side in omega arith) (λ g tg hg at. none g (tg, hg) at))
       ((net_of fs).from e) e (te, he) refl
 
-module _ (m : Net) (fs gs : List Corners) (old was : List ℕ) (stand : AllStand m) (s : IsSplit m fs old) (t : IsSplit m gs was) where
+module _ (m : Net) (fs gs : List Corners) (old was : List ℕ) (stand : AllStand m) (s : IsSplitMesh m fs old) (t : IsSplitMesh m gs was) where
   number : (e : ℕ) → Stands m e → IsHead m (net_of fs) e → (net_of fs).from e ≡ (net_of gs).from e
   number e te he =
       let a = not_less m fs gs old was stand s t e te he in
@@ -168,7 +168,7 @@ module _ (m : Net) (fs gs : List Corners) (old was : List ℕ) (stand : AllStand
       let (e, low, is) = side_of v l in
       ap (λ k. slice_index_or old k 0) (sym is) ∙ s.back e low ∙ sym (t.back e low) ∙ ap (λ k. slice_index_or was k 0) (sym (one_from e low) ∙ is)
 
-pub splits_are_one : (m : Net) (fs gs : List Corners) (old was : List ℕ) → AllStand m → IsSplit m fs old → IsSplit m gs was → (fs ≡ gs) × (old ≡ was)
+pub splits_are_one : (m : Net) (fs gs : List Corners) (old was : List ℕ) → AllStand m → IsSplitMesh m fs old → IsSplitMesh m gs was → (fs ≡ gs) × (old ≡ was)
 splits_are_one m fs gs old was stand s t =
     let a = no_more m fs gs old was stand s t in
     let b = no_more m gs fs was old stand t s in

@@ -9,7 +9,7 @@ use Rattle.pm_base.specs.Rounds.{Goes, stay as halt, on as go}
 use Rattle.pm_base.proofs.Sides.{next-next-next, stands_next, pair_at, one_side}
 use Rattle.pm_base.proofs.FanLaws.{fan_round}
 use Rattle.pm_fans.specs.Splits.{Turns, stay, on, IsSplitByFans}
-use Rattle.pm_fans.specs.Orders.{IsSplit}
+use Rattle.pm_fans.specs.Orders.{IsSplitMesh}
 use Rattle.pm_fans.proofs.Splitting.{twins_glued, first_pair}
 
 -- From a pair on round a vertex the sides follow one another, where no directed side stands twice.
@@ -39,7 +39,7 @@ own_fans m is = record {
       );
 }
 
-pub manifolds_are_their_own_split : (fs : List Corners) (n : ℕ) → IsOrientedManifold (net_of fs) → ((e : ℕ) → e < side_count (net_of fs) → (net_of fs).from e < n) → ((v : ℕ) → v < n → IsUsed (net_of fs) v) → IsSplit (net_of fs) fs (range_with_len 0 n)
+pub manifolds_are_their_own_split : (fs : List Corners) (n : ℕ) → IsOrientedManifold (net_of fs) → ((e : ℕ) → e < side_count (net_of fs) → (net_of fs).from e < n) → ((v : ℕ) → v < n → IsUsed (net_of fs) v) → IsSplitMesh (net_of fs) fs (range_with_len 0 n)
 manifolds_are_their_own_split fs n is low used = record {
   split = own_fans (net_of fs) is;
   ordered = λ e g te tg he hg less. inl less;

@@ -8,7 +8,7 @@ use Rattle.pm_base.specs.Sides.{Net, next, prev, net_of, side_count, corner_in, 
 use Rattle.pm_base.proofs.Sides.{next-lt}
 use Rattle.pm_base.proofs.NetLaws.{face_at}
 use Rattle.pm_fans.specs.Splits.{IsGlued, Turns, stay, on, AllStand}
-use Rattle.pm_fans.specs.Orders.{IsFirstSide, IsLeastSide, IsHead, ComesFirst, Precedes, IsSplit}
+use Rattle.pm_fans.specs.Orders.{IsFirstSide, IsLeastSide, IsHead, ComesFirst, Precedes, IsSplitMesh}
 use Rattle.pm_fans.proofs.KeptAgain.{renumbered}
 
 pub record HaveSameEnds (m k : Net) : Type 0 where
@@ -92,7 +92,7 @@ none_below m n v none (suc k) e l t at =
       elim (cases_lt g e) [ inl less ↦ absurd (none_below m n v none k g (omega arith) tg (same ∙ at)) | inr le ↦ le ],
     )))
 
-module _ (m : Net) (fs : List Corners) (old : List ℕ) (stand : AllStand m) (p : IsSplit m fs old) where
+module _ (m : Net) (fs : List Corners) (old : List ℕ) (stand : AllStand m) (p : IsSplitMesh m fs old) where
   not_headless : (v : ℕ) → v < length old → ((e : ℕ) → Stands m e → (net_of fs).from e ≡ v → IsHead m (net_of fs) e → ⊥) → ⊥
   not_headless v l none =
       let (e, t, at) = p.used v l in
@@ -118,7 +118,7 @@ module _ (m : Net) (fs : List Corners) (old : List ℕ) (stand : AllStand m) (p 
     precedes_there e g el gl (inl less) = inl (rise e g el gl less)
     precedes_there e g el gl (inr (is, comes)) = inr (s.there e g el gl is, comes_there m k (net_of fs) s e g comes)
 
-    pub split_there : (other : List ℕ) → length other ≡ length old → ((e : ℕ) → e < side_count m → get_or other ((net_of fs).from e) 0 ≡ k.from e) → IsSplit k fs other
+    pub split_there : (other : List ℕ) → length other ≡ length old → ((e : ℕ) → e < side_count m → get_or other ((net_of fs).from e) 0 ≡ k.from e) → IsSplitMesh k fs other
     split_there other long back =
         let r = swapped m k s in
         let low = side_there k m r in

@@ -7,7 +7,7 @@ use Rattle.pm_base.proofs.Sides.{next-next-next, stands_next, pair_at, one_side}
 use Rattle.pm_base.proofs.TwinLaws.{twin-twin}
 use Rattle.pm_base.proofs.Rounds.{uncons}
 use Rattle.pm_base.proofs.FanLaws.{round_fan, fan_round}
-use Rattle.pm_fans.specs.Splits.{IsGlued, Turns, stay, on, AllStand, NoMirror, IsSplitByFans, IsNumberedBy}
+use Rattle.pm_fans.specs.Splits.{IsGlued, Turns, stay, on, AllStand, NoMirroredFaces, IsSplitByFans, IsNumberedBy}
 
 -- Gluing is mutual.
 pub glued_back : (m : Net) (e g : ℕ) → IsGlued m e g → IsGlued m g e
@@ -101,7 +101,7 @@ module _ (m n : Net) (s : IsSplitByFans m n) where
               subst (λ i. Goes n v (to n a) i) f.one (subst (λ i. Goes n i (to n a) (to n f.side)) (sym k ∙ f.at) g),
         )
 
-    pub manifold_split : NoMirror m → IsOrientedManifold n
+    pub manifold_split : NoMirroredFaces m → IsOrientedManifold n
     manifold_split single = record {
       no_side_twice = once_split;
       fans = λ v u. round_fan n once_split v (λ x y f g. single (s.old v) (s.old x) (s.old y) (old_pair f) (old_pair g)) (round_split v u);
@@ -123,7 +123,7 @@ first_pair m once v a x y w f =
       | inr (b, g, u) ↦ (b, g)
     ]
 
-pub splits_make_manifolds : (m n : Net) → AllStand m → NoMirror m → IsSplitByFans m n → IsOrientedManifold n
+pub splits_make_manifolds : (m n : Net) → AllStand m → NoMirroredFaces m → IsSplitByFans m n → IsOrientedManifold n
 splits_make_manifolds m n stand single s = manifold_split m n s stand single
 
 pub manifolds_stay_whole : (m n : Net) → IsOrientedManifold m → IsSplitByFans m n → (e g : ℕ) → Stands m e → Stands m g → m.from e ≡ m.from g → n.from e ≡ n.from g

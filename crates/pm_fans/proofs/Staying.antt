@@ -12,15 +12,15 @@ use Rattle.pm_base.proofs.Sides.{next_cases}
 use Rattle.pm_base.proofs.NetLaws.{face_at, from-corner, first_side, second_side, third_side}
 use Rattle.pm_base.proofs.FanLaws.{fan_no_mirror}
 use Rattle.pm_fans.specs.Splits.{AllStand}
-use Rattle.pm_fans.specs.Kept.{is_flat, is_corner, is_alike, is_kept, kept_after, kept_of, IsFitList}
+use Rattle.pm_fans.specs.Kept.{is_flat, is_corner, is_alike, is_kept_after, kept_after, kept_of, IsFitList}
 use Rattle.pm_fans.proofs.Turned.{side_turned, which}
 
 none_any : (p : Corners → Bool) (xs : List Corners) → ((i : ℕ) → i < length xs → p (face_at xs i) ≡ false) → list_any p xs ≡ false
 none_any p [] h = refl
 none_any p (x ∷ xs) h = or_from (p x) (list_any p xs) (h 0 (omega arith)) (none_any p xs (λ i l. h (suc i) (omega arith)))
 
-fits : (before : List Corners) (f : Corners) (fs : List Corners) → IsFitList (before ++ f ∷ fs) → is_kept before f ≡ true
-unfolding is_kept
+fits : (before : List Corners) (f : Corners) (fs : List Corners) → IsFitList (before ++ f ∷ fs) → is_kept_after before f ≡ true
+unfolding is_kept_after
 fits before f fs h =
     let n : ℕ = length before in
     let long : n < length (before ++ f ∷ fs) = omega (arith, length-append before (f ∷ fs)) in

@@ -9,14 +9,14 @@ use Rattle.pm_fans.specs.declared.glue.TheConstants.{SEVERAL, SHIFT}
 abbrev pub ends_key : ℕ → ℕ → ℕ
 ends_key p q = p * SHIFT + q
 
-abbrev pub key_at : Net → ℕ → ℕ
-key_at m e = ends_key (m.from e) (to m e)
+abbrev pub ends_key_at : Net → ℕ → ℕ
+ends_key_at m e = ends_key (m.from e) (to m e)
 
 -- Of the first n sides this one alone has the key.
-pub record IsAlone (m : Net) (n k v : ℕ) : Type 0 where
+pub record IsAloneWithKey (m : Net) (n k v : ℕ) : Type 0 where
   pub in_range : v < n
-  pub has : key_at m v ≡ k
-  pub alone : (e : ℕ) → e < n → key_at m e ≡ k → e ≡ v
+  pub has : ends_key_at m v ≡ k
+  pub alone : (e : ℕ) → e < n → ends_key_at m e ≡ k → e ≡ v
 
 -- Two of the first n sides have the key, which is marked by a number that no side has.
 pub record AreSeveral (m : Net) (n k v : ℕ) : Type 0 where
@@ -26,12 +26,12 @@ pub record AreSeveral (m : Net) (n k v : ℕ) : Type 0 where
   pub one_in : one < n
   pub other_in : other < n
   pub differ : one ≢ other
-  pub one_has : key_at m one ≡ k
-  pub other_has : key_at m other ≡ k
+  pub one_has : ends_key_at m one ≡ k
+  pub other_has : ends_key_at m other ≡ k
 
 abbrev pub IsNoted : Net → ℕ → ℕ → Option ℕ → Type 0
-IsNoted m n k None = (e : ℕ) → e < n → key_at m e ≢ k
-IsNoted m n k (Some v) = IsAlone m n k v ⊎ AreSeveral m n k v
+IsNoted m n k None = (e : ℕ) → e < n → ends_key_at m e ≢ k
+IsNoted m n k (Some v) = IsAloneWithKey m n k v ⊎ AreSeveral m n k v
 
 -- The map says of each key whether none of the first n sides has it, one alone, or several.
 abbrev pub AreNoted : Net → ℕ → BTreeMap ℕ ℕ → Type 0

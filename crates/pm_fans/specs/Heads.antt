@@ -4,46 +4,46 @@ use Rattle.pm_base.specs.declared.limits.TheConstants.{MOST_FACES}
 use Rattle.pm_base.specs.Sides.{prev}
 
 -- What a table has for side e.
-abbrev pub at : List (Option ℕ) → ℕ → Option ℕ
-at table e = slice_index_or table e None
+abbrev pub twin_in_table : List (Option ℕ) → ℕ → Option ℕ
+twin_in_table table e = slice_index_or table e None
 
 -- A table of the sides of some faces that glues them in pairs.
-pub record ArePaired (glued : List (Option ℕ)) : Type 0 where
+pub record AreGluedInPairs (glued : List (Option ℕ)) : Type 0 where
   pub faces : ℕ
   pub sides : length glued ≡ 3 * faces
   pub short : faces ≤ MOST_FACES
-  pub back : (e g : ℕ) → at glued e ≡ Some g → (g < length glued) × (at glued g ≡ Some e)
+  pub back : (e g : ℕ) → twin_in_table glued e ≡ Some g → (g < length glued) × (twin_in_table glued g ≡ Some e)
 
 -- Side g is the next one after e round the vertex from which both run.
-abbrev pub Follows : List (Option ℕ) → ℕ → ℕ → Type 0
-Follows glued e g = at glued (prev e) ≡ Some g
+abbrev pub IsNextRound : List (Option ℕ) → ℕ → ℕ → Type 0
+IsNextRound glued e g = twin_in_table glued (prev e) ≡ Some g
 
 -- From side s on, from each side to the next one.
 pub data Leads (glued : List (Option ℕ)) (s : ℕ) : ℕ → Type 0 where
   here : Leads glued s s
-  further : {e g : ℕ} → Leads glued s e → Follows glued e g → Leads glued s g
+  further : {e g : ℕ} → Leads glued s e → IsNextRound glued e g → Leads glued s g
 
 -- Whole chains have their heads: the first side of an open chain, the least of a closed one.
 pub record AreHeaded (glued heads : List (Option ℕ)) : Type 0 where
   pub long : length heads ≡ length glued
-  pub led : (e h : ℕ) → at heads e ≡ Some h → Leads glued h e
-  pub own : (e h : ℕ) → at heads e ≡ Some h → at heads h ≡ Some h
-  pub on : (e g h : ℕ) → Follows glued e g → at heads e ≡ Some h → at heads g ≡ Some h
-  pub back : (e g h : ℕ) → Follows glued e g → at heads g ≡ Some h → at heads e ≡ Some h
-  pub kind : (e h : ℕ) → at heads e ≡ Some h → (at glued h ≡ None) ⊎ (h ≤ e)
+  pub led : (e h : ℕ) → twin_in_table heads e ≡ Some h → Leads glued h e
+  pub own : (e h : ℕ) → twin_in_table heads e ≡ Some h → twin_in_table heads h ≡ Some h
+  pub on : (e g h : ℕ) → IsNextRound glued e g → twin_in_table heads e ≡ Some h → twin_in_table heads g ≡ Some h
+  pub back : (e g h : ℕ) → IsNextRound glued e g → twin_in_table heads g ≡ Some h → twin_in_table heads e ≡ Some h
+  pub kind : (e h : ℕ) → twin_in_table heads e ≡ Some h → (twin_in_table glued h ≡ None) ⊎ (h ≤ e)
 
 abbrev pub HasHead : List (Option ℕ) → ℕ → Type 0
-HasHead heads e = at heads e ≡ None → ⊥
+HasHead heads e = twin_in_table heads e ≡ None → ⊥
 
 -- Heads that are there stay.
 abbrev pub Keeps : List (Option ℕ) → List (Option ℕ) → Type 0
-Keeps old heads = (e h : ℕ) → at old e ≡ Some h → at heads e ≡ Some h
+Keeps old heads = (e h : ℕ) → twin_in_table old e ≡ Some h → twin_in_table heads e ≡ Some h
 
 -- Heads are the first sides of open chains, of those that begin below n.
 pub record AreOpenHeaded (glued heads : List (Option ℕ)) (n : ℕ) : Type 0 where
   pub headed : AreHeaded glued heads
-  pub opened : (e : ℕ) → e < n → at glued e ≡ None → HasHead heads e
-  pub only : (e h : ℕ) → at heads e ≡ Some h → h < n
+  pub opened : (e : ℕ) → e < n → twin_in_table glued e ≡ None → HasHead heads e
+  pub only : (e h : ℕ) → twin_in_table heads e ≡ Some h → h < n
 
 -- Every side has a head.
 pub record AreAllHeaded (glued heads : List (Option ℕ)) : Type 0 where

@@ -4,14 +4,14 @@ use Rattle.std.specs.List.{list_any, range_with_len}
 use Rattle.pm_base.specs.declared.mesh.Corners.{Corners}
 use Rattle.pm_base.specs.Sides.{Net, net_of, side_count, no_corners, Stands}
 use Rattle.pm_base.specs.Fans.{IsUsed, IsOrientedManifold}
-use Rattle.pm_fans.specs.Splits.{AllStand, NoMirror, IsSplitByFans, IsNumberedBy}
-use Rattle.pm_fans.specs.Orders.{IsSplit}
+use Rattle.pm_fans.specs.Splits.{AllStand, NoMirroredFaces, IsSplitByFans, IsNumberedBy}
+use Rattle.pm_fans.specs.Orders.{IsSplitMesh}
 use Rattle.pm_fans.specs.Kept.{is_flat, is_alike, kept_of, IsFitList}
 
 -- Faces of three different corners, no two of them with the same corners in opposite orders, become an oriented manifold.
 -- Directed sides may stand any number of times.
 abbrev pub SplitsMakeManifolds : Type 0
-SplitsMakeManifolds = (m n : Net) → AllStand m → NoMirror m → IsSplitByFans m n → IsOrientedManifold n
+SplitsMakeManifolds = (m n : Net) → AllStand m → NoMirroredFaces m → IsSplitByFans m n → IsOrientedManifold n
 
 -- An oriented manifold isn't split: sides that run from one vertex still do.
 abbrev pub ManifoldsStayWhole : Type 0
@@ -23,7 +23,7 @@ NumberingsSplit = (m n : Net) (first : ℕ → ℕ) → AllStand m → IsNumbere
 
 -- The faces that stay have three different corners, and no two have the same ones in opposite orders.
 abbrev pub KeptAreFit : Type 0
-KeptAreFit = (fs : List Corners) → AllStand (net_of (kept_of fs)) × NoMirror (net_of (kept_of fs))
+KeptAreFit = (fs : List Corners) → AllStand (net_of (kept_of fs)) × NoMirroredFaces (net_of (kept_of fs))
 
 -- Whatever the faces are: those that stay, split by fans, are an oriented manifold.
 abbrev pub AnyFacesBecomeManifolds : Type 0
@@ -43,8 +43,8 @@ ManifoldsStay = (fs : List Corners) → AllStand (net_of fs) → IsOrientedManif
 
 -- Faces of three different corners have one split: any two have the same faces and the same old vertices.
 abbrev pub SplitsAreOne : Type 0
-SplitsAreOne = (m : Net) (fs gs : List Corners) (old was : List ℕ) → AllStand m → IsSplit m fs old → IsSplit m gs was → (fs ≡ gs) × (old ≡ was)
+SplitsAreOne = (m : Net) (fs gs : List Corners) (old was : List ℕ) → AllStand m → IsSplitMesh m fs old → IsSplitMesh m gs was → (fs ≡ gs) × (old ≡ was)
 
 -- An oriented manifold whose vertices are 0 to n - 1, each used, is its own split.
 abbrev pub ManifoldsAreTheirOwnSplit : Type 0
-ManifoldsAreTheirOwnSplit = (fs : List Corners) (n : ℕ) → IsOrientedManifold (net_of fs) → ((e : ℕ) → e < side_count (net_of fs) → (net_of fs).from e < n) → ((v : ℕ) → v < n → IsUsed (net_of fs) v) → IsSplit (net_of fs) fs (range_with_len 0 n)
+ManifoldsAreTheirOwnSplit = (fs : List Corners) (n : ℕ) → IsOrientedManifold (net_of fs) → ((e : ℕ) → e < side_count (net_of fs) → (net_of fs).from e < n) → ((v : ℕ) → v < n → IsUsed (net_of fs) v) → IsSplitMesh (net_of fs) fs (range_with_len 0 n)

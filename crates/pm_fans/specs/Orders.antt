@@ -29,7 +29,7 @@ abbrev pub IsOrdered : Net → Net → Type 0
 IsOrdered m n = (e g : ℕ) → Stands m e → Stands m g → IsHead m n e → IsHead m n g → n.from e < n.from g → Precedes m n e g
 
 -- The faces of m with new vertices, and the old vertex of each new one.
-pub record IsSplit (m : Net) (faces : List Corners) (old : List ℕ) : Type 0 where
+pub record IsSplitMesh (m : Net) (faces : List Corners) (old : List ℕ) : Type 0 where
   pub split : IsSplitByFans m (net_of faces)
   pub ordered : IsOrdered m (net_of faces)
   -- every new vertex has a side, and there is no other vertex

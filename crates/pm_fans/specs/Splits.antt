@@ -10,8 +10,8 @@ abbrev pub AllStand : Net → Type 0
 AllStand m = (e : ℕ) → e < side_count m → Stands m e
 
 -- No two faces have the same three corners in opposite orders.
-abbrev pub NoMirror : Net → Type 0
-NoMirror m = (v : ℕ) → NoMirrorAt m v
+abbrev pub NoMirroredFaces : Net → Type 0
+NoMirroredFaces m = (v : ℕ) → NoMirrorAt m v
 
 -- Sides e and g are glued: they join the same two vertices in opposite orders, and no other side joins these two. Every
 -- other side is cut open: one without a twin, one that stands twice, and one with two twins.

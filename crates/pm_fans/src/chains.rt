@@ -1,7 +1,7 @@
 //! The sides that run from one vertex follow one another over glued sides, in chains, open or closed.
 //! All sides of a chain have one head: the first side of an open chain, the least of a closed one.
 ghost use Rattle.std.specs.Prelude.{◌≡◌, ℕ, ◌<◌, ◌⊎◌, Some, None, length, IfOk};
-ghost use Rattle.pm_fans.specs.Heads.{at, ArePaired, AreHeaded, HasHead, Keeps, AreOpenHeaded, AreAllHeaded};
+ghost use Rattle.pm_fans.specs.Heads.{twin_in_table, AreGluedInPairs, AreHeaded, HasHead, Keeps, AreOpenHeaded, AreAllHeaded};
 
 use crate::OutOfMemory;
 use pm_base::{Side, SideMap};
@@ -9,7 +9,7 @@ use std::alloc::Global;
 
 /// The head of each side's chain. O(F) for F faces.
 pub(crate) fn chain_heads(alloc: Global, glued: &SideMap) -> Result<SideMap, OutOfMemory>
-    requires { ArePaired glued.now }
+    requires { AreGluedInPairs glued.now }
     ensures { IfOk result (AreAllHeaded glued.now) }
 {
     let mut heads = open_heads(alloc, glued)?;
@@ -24,7 +24,7 @@ pub(crate) fn chain_heads(alloc: Global, glued: &SideMap) -> Result<SideMap, Out
 
 // The heads of the sides of open chains.
 fn open_heads(alloc: Global, glued: &SideMap) -> Result<SideMap, OutOfMemory>
-    requires { ArePaired glued.now }
+    requires { AreGluedInPairs glued.now }
     ensures { IfOk result (λ heads. AreOpenHeaded glued.now heads (length glued.now)) }
 {
     let mut heads = SideMap::new(alloc, glued.len())?;
@@ -39,15 +39,15 @@ fn open_heads(alloc: Global, glued: &SideMap) -> Result<SideMap, OutOfMemory>
 
 // Gives an open chain its head, from its first side on.
 fn walk_on(glued: &SideMap, heads: &mut SideMap, first: Side)
-    requires paired { ArePaired glued.now }
+    requires paired { AreGluedInPairs glued.now }
     requires headed { AreHeaded glued.now heads.old }
     requires in_range { first.0 < length glued.now }
-    requires not_glued { at glued.now first.0 ≡ None }
-    requires new { at heads.old first.0 ≡ None }
+    requires not_glued { twin_in_table glued.now first.0 ≡ None }
+    requires new { twin_in_table heads.old first.0 ≡ None }
     ensures headed { AreHeaded glued.now heads.new }
     ensures keeps { Keeps heads.old heads.new }
-    ensures only { (e h : ℕ) → at heads.new e ≡ Some h → (at heads.old e ≡ Some h) ⊎ (h ≡ first.0) }
-    ensures done { at heads.new first.0 ≡ Some first.0 }
+    ensures only { (e h : ℕ) → twin_in_table heads.new e ≡ Some h → (twin_in_table heads.old e ≡ Some h) ⊎ (h ≡ first.0) }
+    ensures done { twin_in_table heads.new first.0 ≡ Some first.0 }
 {
     let mut reached = Some(first);
     while let Some(side) = reached {
@@ -58,12 +58,12 @@ fn walk_on(glued: &SideMap, heads: &mut SideMap, first: Side)
 
 // Gives a closed chain its head, from its least side back.
 fn walk_back(glued: &SideMap, heads: &mut SideMap, least: Side)
-    requires paired { ArePaired glued.now }
+    requires paired { AreGluedInPairs glued.now }
     requires headed { AreHeaded glued.now heads.old }
-    requires open { (e : ℕ) → e < length glued.now → at glued.now e ≡ None → HasHead heads.old e }
+    requires open { (e : ℕ) → e < length glued.now → twin_in_table glued.now e ≡ None → HasHead heads.old e }
     requires earlier { (e : ℕ) → e < least.0 → HasHead heads.old e }
     requires in_range { least.0 < length glued.now }
-    requires new { at heads.old least.0 ≡ None }
+    requires new { twin_in_table heads.old least.0 ≡ None }
     ensures headed { AreHeaded glued.now heads.new }
     ensures keeps { Keeps heads.old heads.new }
     ensures done { HasHead heads.new least.0 }

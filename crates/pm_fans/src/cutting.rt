@@ -4,7 +4,7 @@ ghost use Rattle.pm_base.specs.Counts.{count};
 ghost use Rattle.pm_base.specs.Sides.{Net, net_of, side_count};
 ghost use Rattle.pm_fans.specs.Splits.{IsCuttable};
 ghost use Rattle.pm_fans.specs.Ends.{AreNoted};
-ghost use Rattle.pm_fans.specs.Cuts.{runs, is_cut as is_cut_of, cut_count};
+ghost use Rattle.pm_fans.specs.Cuts.{side_runs, is_cut as is_cut_of, cut_count};
 
 use crate::OutOfMemory;
 use crate::glue::{SEVERAL, ends, note_sides};
@@ -44,7 +44,7 @@ fn is_cut(faces: &[Corners], sides: &BTreeMap<u64, u32>, side: Side) -> bool
 // Whether several sides run from p to q.
 fn are_several(sides: &BTreeMap<u64, u32>, p: u32, q: u32) -> bool
     ensures { (m : Net) → IsCuttable m → AreNoted m (side_count m) sides.now
-        → result ≡ nat_lt 1 (count (runs m p q) (side_count m)) }
+        → result ≡ nat_lt 1 (count (side_runs m p q) (side_count m)) }
 {
     match sides.get(&ends(p, q)) {
         Some(&side) => side == SEVERAL,

@@ -4,7 +4,7 @@ ghost use Rattle.std.specs.Prelude.{◌≡◌, ◌+◌, ◌*◌, ◌<◌, ◌≤
 ghost use Rattle.pm_base.specs.declared.limits.TheConstants.{MOST_FACES, MOST_SIDES};
 ghost use Rattle.pm_base.specs.Sides.{Net, net_of, side_count, to as to_of};
 ghost use Rattle.pm_fans.specs.Splits.{IsGlued, AreGlued, IsCuttable};
-ghost use Rattle.pm_fans.specs.Ends.{ends_key, key_at, IsAlone, AreNoted};
+ghost use Rattle.pm_fans.specs.Ends.{ends_key, ends_key_at, IsAloneWithKey, AreNoted};
 
 use crate::OutOfMemory;
 use crate::sides::{from, to};
@@ -76,7 +76,7 @@ pub(crate) fn ends(p: u32, q: u32) -> u64
 // The side from p to q, if it stands once.
 fn alone(sides: &BTreeMap<u64, u32>, p: u32, q: u32) -> Option<Side>
     ensures { (m : Net) (n : ℕ) → n ≤ MOST_SIDES → AreNoted m n sides.now
-        → MatchOption result ((v : ℕ) → IsAlone m n (ends_key p q) v → ⊥) (λ v. IsAlone m n (ends_key p q) v.0) }
+        → MatchOption result ((v : ℕ) → IsAloneWithKey m n (ends_key p q) v → ⊥) (λ v. IsAloneWithKey m n (ends_key p q) v.0) }
 {
     match sides.get(&ends(p, q)) {
         Some(&side) if side != SEVERAL => Some(Side(side)),

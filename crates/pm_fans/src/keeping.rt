@@ -2,7 +2,7 @@
 //! kept in a set, each three as one number.
 ghost use Rattle.std.specs.Prelude.{◌≡◌, [], ◌∷◌, IfOk, OnOk};
 ghost use Rattle.pm_fans.specs.Kept.{is_flat as is_flat_of, kept_after, kept_of};
-ghost use Rattle.pm_fans.specs.Keys.{key_of, IsShort, HoldsKeys};
+ghost use Rattle.pm_fans.specs.Keys.{corners_key_of, HasShortCorners, HoldsKeys};
 
 use crate::OutOfMemory;
 use pm_base::Corners;
@@ -55,10 +55,10 @@ pub fn is_flat(face: Corners) -> bool
 }
 
 // The corners in ascending order, as one number.
-#[tactic(auto, unfolding(crate::specs::Keys::key_of))]
+#[tactic(auto, unfolding(crate::specs::Keys::corners_key_of))]
 fn key(face: Corners) -> u128
-    ensures key { result ≡ key_of face }
-    ensures short { IsShort face }
+    ensures key { result ≡ corners_key_of face }
+    ensures short { HasShortCorners face }
 {
     let least = face.a.min(face.b).min(face.c);
     let greatest = face.a.max(face.b).max(face.c);

@@ -2,8 +2,8 @@
 ghost use Rattle.std.specs.Prelude.{◌≡◌, ℕ, ◌+◌, ◌*◌, ◌<◌, ◌≤◌, Some, length, slice_index, IfOk, OnOk, MatchBool};
 ghost use Rattle.pm_base.specs.declared.limits.TheConstants.{MOST_FACES, MOST_SIDES};
 ghost use Rattle.pm_base.specs.Sides.{net_of};
-ghost use Rattle.pm_fans.specs.Heads.{at, HasHead};
-ghost use Rattle.pm_fans.specs.HeadKeys.{order_key, side_in, AreCollected, AreHeadKeys, ArePlaces, new_of, AreRenamed};
+ghost use Rattle.pm_fans.specs.Heads.{twin_in_table, HasHead};
+ghost use Rattle.pm_fans.specs.HeadKeys.{order_key, side_of_key, AreCollected, AreHeadKeys, AreKeyPlaces, new_of, AreRenamed};
 
 use crate::OutOfMemory;
 use crate::sides::from;
@@ -58,7 +58,7 @@ fn push_head_key(
 // Whether a side is the head of its chain.
 fn is_head(heads: &SideMap, side: Side) -> bool
     requires { side.0 < length heads.now }
-    ensures { MatchBool result (at heads.now side.0 ≡ Some side.0) (at heads.now side.0 ≡ Some side.0 → ⊥) }
+    ensures { MatchBool result (twin_in_table heads.now side.0 ≡ Some side.0) (twin_in_table heads.now side.0 ≡ Some side.0 → ⊥) }
 {
     match heads.get(side) {
         Some(head) => head == side,
@@ -80,7 +80,7 @@ fn key(faces: &[Corners], glued: &SideMap, side: Side) -> u64
 
 // The side in a key.
 fn side_of(key: u64) -> Side
-    ensures { result.0 ≡ side_in key }
+    ensures { result.0 ≡ side_of_key key }
 {
     Side((key % SIDES) as u32)
 }
@@ -88,10 +88,10 @@ fn side_of(key: u64) -> Side
 /// For each side that is a head, the place of its key. O(F) for F faces.
 pub(crate) fn key_places(alloc: Global, keys: &[u64], sides: usize) -> Result<Vec<u32>, OutOfMemory>
     requires few { length keys.now ≤ MOST_SIDES }
-    requires in_range { (i : ℕ) → i < length keys.now → side_in (slice_index keys.now i) < sides }
+    requires in_range { (i : ℕ) → i < length keys.now → side_of_key (slice_index keys.now i) < sides }
     requires apart { (i j : ℕ) → i < j → j < length keys.now
-        → side_in (slice_index keys.now i) ≡ side_in (slice_index keys.now j) → ⊥ }
-    ensures { IfOk result (λ places. ArePlaces keys.now places.items sides (length keys.now)) }
+        → side_of_key (slice_index keys.now i) ≡ side_of_key (slice_index keys.now j) → ⊥ }
+    ensures { IfOk result (λ places. AreKeyPlaces keys.now places.items sides (length keys.now)) }
 {
     let mut places = vec![in alloc; 0; sides]?;
     for place in 0..keys.len() {
@@ -106,10 +106,10 @@ pub(crate) fn old_vertices(
     faces: &[Corners],
     keys: &[u64],
 ) -> Result<Vec<u32>, OutOfMemory>
-    requires { (i : ℕ) → i < length keys.now → side_in (slice_index keys.now i) < 3 * length faces.now }
+    requires { (i : ℕ) → i < length keys.now → side_of_key (slice_index keys.now i) < 3 * length faces.now }
     ensures sides { IfOk result (λ old. length old.items ≡ length keys.now) }
     ensures each { IfOk result (λ old. (i : ℕ) → i < length keys.now
-        → slice_index old.items i ≡ (net_of faces.now).from (side_in (slice_index keys.now i))) }
+        → slice_index old.items i ≡ (net_of faces.now).from (side_of_key (slice_index keys.now i))) }
 {
     let mut old = Vec::new(alloc);
     for place in 0..keys.len() {
@@ -128,7 +128,7 @@ pub(crate) fn new_faces(
     requires few { count ≤ MOST_FACES }
     requires sides { length heads.now ≡ 3 * count }
     requires headed { (e : ℕ) → e < length heads.now → HasHead heads.now e }
-    requires in_range { (e h : ℕ) → at heads.now e ≡ Some h → h < length places.now }
+    requires in_range { (e h : ℕ) → twin_in_table heads.now e ≡ Some h → h < length places.now }
     ensures { IfOk result (λ new. AreRenamed heads.now places.now count new.items) }
 {
     let mut faces = Vec::new(alloc);
@@ -146,7 +146,7 @@ pub(crate) fn new_faces(
 fn new_vertex(heads: &SideMap, places: &[u32], side: Side) -> u32
     requires in_range { side.0 < length heads.now }
     requires headed { HasHead heads.now side.0 }
-    requires heads { (e h : ℕ) → at heads.now e ≡ Some h → h < length places.now }
+    requires heads { (e h : ℕ) → twin_in_table heads.now e ≡ Some h → h < length places.now }
     ensures { result ≡ new_of heads.now places.now side.0 }
 {
     let Some(head) = heads.get(side) else {

@@ -2,7 +2,7 @@
 ghost use Rattle.std.specs.Prelude.{IfOk};
 ghost use Rattle.pm_base.specs.Sides.{net_of};
 ghost use Rattle.pm_fans.specs.Splits.{IsCuttable};
-ghost use Rattle.pm_fans.specs.Orders.{IsSplit};
+ghost use Rattle.pm_fans.specs.Orders.{IsSplitMesh};
 
 use crate::OutOfMemory;
 use crate::chains::chain_heads;
@@ -24,7 +24,7 @@ pub struct Split {
 /// first side, of a closed one by its least. There may be up to three a face. O(F log F) for F faces.
 pub fn split_by_fans(alloc: Global, faces: &[Corners]) -> Result<Split, OutOfMemory>
     requires { IsCuttable (net_of faces.now) }
-    ensures { IfOk result (λ s. IsSplit (net_of faces.now) s.faces.items s.old.items) }
+    ensures { IfOk result (λ s. IsSplitMesh (net_of faces.now) s.faces.items s.old.items) }
 {
     let glued = glued_sides(alloc, faces)?;
     let heads = chain_heads(alloc, &glued)?;

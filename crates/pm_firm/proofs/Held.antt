@@ -14,7 +14,7 @@ use Rattle.pm_forest.proofs.ShapeLaws.{left_from}
 use Rattle.pm_forest.proofs.Sides.{next-differs, next_next-differs, inner-face}
 use Rattle.pm_beyond.specs.Walks.{IsOuter, expected_at, expected, mate_of, number_of}
 use Rattle.pm_beyond.proofs.Neighbours.{first_expected, second_expected}
-use Rattle.pm_firm.specs.Firm.{IsHeld, FacesAreHeld}
+use Rattle.pm_firm.specs.Firm.{HasNeighbour, FacesAreHeld}
 
 some_number : (r : Option Side) → is_some r ≡ true → (b : ℕ) × (number_of r ≡ Some b)
 some_number None e = absurd (false≢true e)
@@ -51,20 +51,20 @@ module _ (h : Hierarchy) (k f : ℕ) (fl : f < face_count h) (own : revealed_by 
   pub is-right-face : (n : NewFace) → is_left h k f ≡ false → (record_at h k).right ≡ Some n → new_face h k f ≡ n
   is-right-face n is there = cond-false (is_left h k f) (unwrap_or (record_at h k).left no_face) (unwrap_or (record_at h k).right no_face) is ∙ ap (λ r. unwrap_or r no_face) there
 
-  is_held : FacesAreHeld h k → IsHeld (new_face h k f)
+  is_held : FacesAreHeld h k → HasNeighbour (new_face h k f)
   unfolding is_left
   is_held held =
       elim (cases_Bool (is_left h k f)) [
         | inl is ↦
             let p = and_parts (is_some (record_at h k).left) (eqb f (first_face h k)) is in
             let (n, there) = some_from (record_at h k).left p.0 in
-            subst IsHeld (sym (is-left-face n is there)) (held.left n there)
+            subst HasNeighbour (sym (is-left-face n is there)) (held.left n there)
         | inr is ↦
             elim (which_face h f k fl own) [
               | inl (a, b) ↦ absurd (both_ways (is_left h k f) is (left_from h k f a b))
               | inr (a, b) ↦
                   let (n, there) = some_from (record_at h k).right a in
-                  subst IsHeld (sym (is-right-face n is there)) (held.right n there)
+                  subst HasNeighbour (sym (is-right-face n is there)) (held.right n there)
             ]
       ]
 

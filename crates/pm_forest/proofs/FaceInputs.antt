@@ -7,7 +7,7 @@ use Rattle.pm_forest.specs.declared.parts.Face.{Face}
 use Rattle.pm_forest.specs.declared.parts.NewFace.{NewFace}
 use Rattle.pm_forest.specs.Marks.{is_used}
 use Rattle.pm_forest.specs.Forest.{Hierarchy, record_at, record_count}
-use Rattle.pm_forest.specs.Faces.{no_corners, face_in, faces_of, face_count}
+use Rattle.pm_forest.specs.Faces.{no_face_corners, face_in, faces_of, face_count}
 use Rattle.pm_forest.specs.Rules.{face_inputs, face_input_is_bad, base_is_bad, base_fault, new_face_is_bad, new_face_fault, face_fault, bare, left_only, with_record, word_of, AllFit, HasShape}
 use Rattle.pm_forest.specs.Meshes.{face_input}
 use Rattle.pm_forest.proofs.Prefix.{cut, faces_of-with_record}
@@ -19,7 +19,7 @@ use Rattle.pm_forest.proofs.InputLaws.{unused}
 
 -- The number of face f of a list.
 abbrev number_in : List Face → ℕ → ℕ
-number_in fs f = (get_or fs f no_corners).input
+number_in fs f = (get_or fs f no_face_corners).input
 
 -- No face of the list has the number 0, and no two have the same.
 record AreNumbered (fs : List Face) : Type 0 where
@@ -36,8 +36,8 @@ push_numbered fs x are fits =
     let p = or_parts (eqb x.input 0 || ltb 1048576 x.input) (is_used (face_inputs fs) x.input) fits in
     let nonzero = eqb-false x.input 0 (or_parts (eqb x.input 0) (ltb 1048576 x.input) p.0).0 in
     let old : (f : ℕ) → f < length fs → number_in (fs ++ x ∷ []) f ≡ number_in fs f = λ f l.
-    ap (λ (y : Face). y.input) (get_or_append_left fs (x ∷ []) no_corners f l) in
-    let new : (f : ℕ) → length fs ≡ f → number_in (fs ++ x ∷ []) f ≡ x.input = λ f is. ap (λ (y : Face). y.input) (get_or_push fs x no_corners f is) in
+    ap (λ (y : Face). y.input) (get_or_append_left fs (x ∷ []) no_face_corners f l) in
+    let new : (f : ℕ) → length fs ≡ f → number_in (fs ++ x ∷ []) f ≡ x.input = λ f is. ap (λ (y : Face). y.input) (get_or_push fs x no_face_corners f is) in
     let len = length_push fs x in
     record {
       some = λ f l. elim (cases_lt f (length fs)) [
@@ -50,7 +50,7 @@ push_numbered fs x are fits =
             let last : length fs ≡ f = omega arith in
             let there : g < length (face_inputs fs) = omega (arith, length-map fs (λ (y : Face). y.input)) in
             unused (face_inputs fs) x.input g p.1 there
-            (get_or-map (λ (y : Face). y.input) fs g no_corners 0 (omega arith) ∙ sym (old g (omega arith)) ∙ e ∙ new f last))
+            (get_or-map (λ (y : Face). y.input) fs g no_face_corners 0 (omega arith) ∙ sym (old g (omega arith)) ∙ e ∙ new f last))
       ];
     }
 

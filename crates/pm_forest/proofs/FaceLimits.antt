@@ -8,7 +8,7 @@ use Rattle.pm_base.proofs.Search.{some_from}
 use Rattle.pm_forest.specs.declared.parts.Face.{Face}
 use Rattle.pm_forest.specs.declared.parts.NewFace.{NewFace}
 use Rattle.pm_forest.specs.Forest.{Hierarchy, record_at, record_count, leaf_count, interval_of}
-use Rattle.pm_forest.specs.Faces.{no_corners, faces_of, first_face, face_count, corners_of}
+use Rattle.pm_forest.specs.Faces.{no_face_corners, faces_of, first_face, face_count, corners_of}
 use Rattle.pm_forest.specs.Rules.{word_of, past_from, past_fault, HasShape}
 use Rattle.pm_forest.specs.Tables.{IsSingle, leaf_node_of}
 use Rattle.pm_forest.specs.Moves.{side_in, neighbours_in, neighbours_of}
@@ -73,7 +73,7 @@ face_inputs-le h shape = inputs_from h 0 (faces_of h) shape.inputs
 pub input-le : (h : Hierarchy) → HasShape h → (f : ℕ) → f < face_count h → (corners_of h f).input ≤ face_count h
 input-le h shape f l =
     let below : f < length (faces_of h) = omega (arith, length-faces_of h) in
-    rw (corners_of-faces_of h f l) (All-get_or (λ (x : Face). x.input ≤ face_count h) (faces_of h) f no_corners below (face_inputs-le h shape))
+    rw (corners_of-faces_of h f l) (All-get_or (λ (x : Face). x.input ≤ face_count h) (faces_of h) f no_face_corners below (face_inputs-le h shape))
 
 -- Once all records are split each leaf has a node of its own.
 pub leaf_nodes_of_shape : (h : Hierarchy) → HasShape h → (x : ℕ) → x < leaf_count h →

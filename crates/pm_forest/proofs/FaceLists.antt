@@ -9,7 +9,7 @@ use Rattle.pm_base.proofs.Counts.{one_if-le}
 use Rattle.pm_forest.specs.declared.parts.NewFace.{NewFace}
 use Rattle.pm_forest.specs.declared.parts.Record.{Record}
 use Rattle.pm_forest.specs.Forest.{Hierarchy, record_at, record_count}
-use Rattle.pm_forest.specs.Faces.{no_corners, no_face, face_in, faces_in, faces_of, first_face, face_count, revealed_after, is_left, corners_at, corners_of}
+use Rattle.pm_forest.specs.Faces.{no_face_corners, no_face, face_in, faces_in, faces_of, first_face, face_count, revealed_after, is_left, corners_told_by, corners_of}
 use Rattle.pm_forest.proofs.Prefix.{cut, cut-more, faces_of-with_record}
 
 pub length-face_in : (o : Option NewFace) → length (face_in o) ≡ one_if (is_some o)
@@ -50,7 +50,7 @@ face_count-le h = first_face-le h (record_count h)
 
 -- the faces of a record by number and as a list
 new_face-at : (l r : Option NewFace) (first f : ℕ) → first ≤ f → f < first + one_if (is_some l) + one_if (is_some r) →
-    (cond (is_some l && eqb f first) (unwrap_or l no_face) (unwrap_or r no_face)).face ≡ get_or (face_in l ++ face_in r) (f - first) no_corners
+    (cond (is_some l && eqb f first) (unwrap_or l no_face) (unwrap_or r no_face)).face ≡ get_or (face_in l ++ face_in r) (f - first) no_face_corners
 new_face-at None None first f a b = absurd (omega arith)
 new_face-at None (Some m) first f a b = let place : f - first ≡ 0 = omega arith in rw place refl
 new_face-at (Some n) None first f a b =
@@ -64,26 +64,26 @@ new_face-at (Some n) (Some m) first f a b =
     ]
 
 corners_after : (h : Hierarchy) (k f : ℕ) → k ≤ record_count h → f < first_face h k →
-    corners_at h f (revealed_after h k f) ≡ get_or (faces_of (cut h k)) f no_corners
+    corners_told_by h f (revealed_after h k f) ≡ get_or (faces_of (cut h k)) f no_face_corners
 unfolding faces_of first_face revealed_after is_left
-corners_after h zero f l below = sym (get_or_append_left h.bases (flat_map faces_in []) no_corners f below)
+corners_after h zero f l below = sym (get_or_append_left h.bases (flat_map faces_in []) no_face_corners f below)
 corners_after h (suc k) f l below =
     let r = record_at h k in
     let len = length-faces_of_cut h k (omega arith) in
-    let more = ap (λ fs. get_or fs f no_corners) (faces_of-cut_more h k l) in
+    let more = ap (λ fs. get_or fs f no_face_corners) (faces_of-cut_more h k l) in
     elim (cases_lt f (first_face h k)) [
       | inl before ↦
           let revealed = cond-false (leb (first_face h k) f) (Some k) (revealed_after h k f) (lt-leb (first_face h k) f before) in
-          let old = get_or_append_left (faces_of (cut h k)) (faces_in r) no_corners f (omega arith) in
-          ap (corners_at h f) revealed ∙ corners_after h k f (omega arith) before ∙ sym old ∙ sym more
+          let old = get_or_append_left (faces_of (cut h k)) (faces_in r) no_face_corners f (omega arith) in
+          ap (corners_told_by h f) revealed ∙ corners_after h k f (omega arith) before ∙ sym old ∙ sym more
       | inr past ↦
           let revealed = cond-true (leb (first_face h k) f) (Some k) (revealed_after h k f) (le-leb (first_face h k) f past) in
-          let new = get_or-append_right (faces_of (cut h k)) (faces_in r) (first_face h k) f no_corners len past in
-          ap (corners_at h f) revealed ∙ new_face-at r.left r.right (first_face h k) f past below ∙ sym new ∙ sym more
+          let new = get_or-append_right (faces_of (cut h k)) (faces_in r) (first_face h k) f no_face_corners len past in
+          ap (corners_told_by h f) revealed ∙ new_face-at r.left r.right (first_face h k) f past below ∙ sym new ∙ sym more
     ]
 
 -- the corners of face f are those of the list's face f
 pub corners_of-faces_of : (h : Hierarchy) (f : ℕ) → f < face_count h →
-    corners_of h f ≡ get_or (faces_of h) f no_corners
+    corners_of h f ≡ get_or (faces_of h) f no_face_corners
 unfolding corners_of
-corners_of-faces_of h f l = corners_after h (record_count h) f (omega arith) l ∙ ap (λ fs. get_or fs f no_corners) (faces_of-cut_all h)
+corners_of-faces_of h f l = corners_after h (record_count h) f (omega arith) l ∙ ap (λ fs. get_or fs f no_face_corners) (faces_of-cut_all h)

@@ -9,7 +9,7 @@ use Rattle.pm_base.specs.Sides.{find_below}
 use Rattle.pm_base.specs.Meshes.{IsFace, IsWellFormed}
 use Rattle.pm_base.proofs.Search.{find_below-some, find_below-has, option_cases}
 use Rattle.pm_forest.specs.Forest.{Hierarchy, leaf_count, widths, s_of, t_of, u_of, root_of, holds, Holds}
-use Rattle.pm_forest.specs.Faces.{no_corners, faces_of, face_count, corners_of, revealed_by, is_left}
+use Rattle.pm_forest.specs.Faces.{no_face_corners, faces_of, face_count, corners_of, revealed_by, is_left}
 use Rattle.pm_forest.specs.Rules.{HasShape}
 use Rattle.pm_forest.specs.Meshes.{leaf_place, leaf_input, face_input, leaf_corners, input_corners, leaf_mesh_of, face_of_input, input_place, input_face, input_mesh_of, no_place, no_triple, NumbersEach, HasInputNumbers}
 use Rattle.pm_forest.proofs.Nodes.{not_both, holds-s_from_t, holds-s_from_u}
@@ -130,7 +130,7 @@ module _ (h : Hierarchy) (shape : HasShape h) where
         faces = omega (arith, length-faces_of h, face_count-most h shape);
         corners = λ f d l.
             let there : f < face_count h = omega (arith, length-faces_of h) in
-            let is = get_or-map leaf_corners (faces_of h) f no_corners d (omega arith) ∙ ap leaf_corners (sym (corners_of-faces_of h f there)) in
+            let is = get_or-map leaf_corners (faces_of h) f no_face_corners d (omega arith) ∙ ap leaf_corners (sym (corners_of-faces_of h f there)) in
             let inside = corners_in f there in
             let apart = corners_apart f there in
             rw (is, points) (record { a = inside.0; b = inside.1; c = inside.2; ab = apart.0; bc = apart.1; ca = apart.2 });

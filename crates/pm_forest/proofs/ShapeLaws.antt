@@ -12,7 +12,7 @@ use Rattle.pm_forest.specs.declared.parts.Root.{Root}
 use Rattle.pm_forest.specs.declared.parts.Face.{Face}
 use Rattle.pm_forest.specs.declared.parts.NewFace.{NewFace}
 use Rattle.pm_forest.specs.Forest.{Hierarchy, no_record, record_at, record_count, widths, leaf_count, s_of, t_of, u_of, interval_of, Holds, HasForestShape}
-use Rattle.pm_forest.specs.Faces.{no_corners, no_face, corners_at, first_face, face_count, revealed_after, revealed_by, is_left, corners_of, inner_of, HasFaceShape, IsForest}
+use Rattle.pm_forest.specs.Faces.{no_face_corners, no_face, corners_told_by, first_face, face_count, revealed_after, revealed_by, is_left, corners_of, inner_of, HasFaceShape, IsForest}
 use Rattle.pm_forest.specs.Rules.{root_fault, base_is_bad, base_fault, split_is_bad, head_is_bad, head_fault, bare, left_only, with_record, head_of, new_face_fault, word_of, face_fault, record_fault, record_fault_after, counts_of, HasShape}
 use Rattle.pm_forest.specs.Shaping.{SplitFits}
 use Rattle.pm_forest.proofs.Nodes.{interval-kept, holds-s_from_t, holds-s_from_u, not_both}
@@ -118,7 +118,7 @@ pub base_corners : (h : Hierarchy) → HasShape h → (f : ℕ) → f < face_cou
 unfolding corners_of
 base_corners h shape f l e =
     let base = revealed_after-none h (record_count h) f l e in
-    rw e (All-get_or (BaseFits h.roots) h.bases f no_corners base (bases_fit h shape))
+    rw e (All-get_or (BaseFits h.roots) h.bases f no_face_corners base (bases_fit h shape))
 
 -- The left face of record k, and its right face.
 
@@ -160,7 +160,7 @@ pub left_corners : (h : Hierarchy) (f k : ℕ) (n : NewFace) → revealed_by h f
     (record_at h k).left ≡ Some n → corners_of h f ≡ n.face
 unfolding corners_of
 left_corners h f k n own left is =
-    ap (corners_at h f) own
+    ap (corners_told_by h f) own
     ∙ ap (λ b. (cond b (unwrap_or (record_at h k).left no_face) (unwrap_or (record_at h k).right no_face)).face) left
     ∙ ap (λ o. (unwrap_or o no_face).face) is
 
@@ -168,7 +168,7 @@ pub right_corners : (h : Hierarchy) (f k : ℕ) (n : NewFace) → revealed_by h 
     (record_at h k).right ≡ Some n → corners_of h f ≡ n.face
 unfolding corners_of
 right_corners h f k n own left is =
-    ap (corners_at h f) own
+    ap (corners_told_by h f) own
     ∙ ap (λ b. (cond b (unwrap_or (record_at h k).left no_face) (unwrap_or (record_at h k).right no_face)).face) left
     ∙ ap (λ o. (unwrap_or o no_face).face) is
 

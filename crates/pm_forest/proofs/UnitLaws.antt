@@ -9,7 +9,7 @@ use Rattle.pm_forest.specs.declared.parts.Root.{Root}
 use Rattle.pm_forest.specs.declared.parts.Face.{Face}
 use Rattle.pm_forest.specs.declared.parts.Shape.{Shape}
 use Rattle.pm_forest.specs.Forest.{Hierarchy, widths_of, node_count, root_of, interval_of, splitter_of}
-use Rattle.pm_forest.specs.Rules.{counts_are_bad, width_is_bad, root_fault, base_is_bad, split_is_bad, first_of, AllFit}
+use Rattle.pm_forest.specs.Rules.{counts_are_bad, width_is_bad, root_fault, base_is_bad, split_is_bad, first_fault_of, AllFit}
 use Rattle.pm_forest.specs.Shaping.{SplitFits}
 
 -- Units in a row
@@ -41,7 +41,7 @@ pub passed : {A : Type 0} (b : Bool) (e : A) (later : Option A) → cond b (Some
 passed false e later is = (refl, is)
 passed true e later is = absurd cc
 
-pub first_none : (a b : Option Shape) → first_of a b ≡ None → (a ≡ None) × (b ≡ None)
+pub first_none : (a b : Option Shape) → first_fault_of a b ≡ None → (a ≡ None) × (b ≡ None)
 first_none None b is = (refl, is)
 first_none (Some e) b is = absurd cc
 

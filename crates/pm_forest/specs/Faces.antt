@@ -22,11 +22,11 @@ faces_in r = face_in r.left ++ face_in r.right
 unfoldable pub faces_of : Hierarchy → List Face
 faces_of h = h.bases ++ flat_map faces_in h.records
 
-abbrev pub no_corners : Face
-no_corners = record { a = 0; b = 0; c = 0; input = 0 }
+abbrev pub no_face_corners : Face
+no_face_corners = record { a = 0; b = 0; c = 0; input = 0 }
 
 abbrev pub no_face : NewFace
-no_face = record { face = no_corners; first = None; second = None }
+no_face = record { face = no_face_corners; first = None; second = None }
 
 -- The number of the first face of record k: how many faces come before it.
 unfoldable pub first_face : Hierarchy → ℕ → ℕ
@@ -51,13 +51,13 @@ is_left h k f = is_some (record_at h k).left && (f == first_face h k)
 abbrev pub new_face : Hierarchy → ℕ → ℕ → NewFace
 new_face h k f = cond (is_left h k f) (unwrap_or (record_at h k).left no_face) (unwrap_or (record_at h k).right no_face)
 
-abbrev pub corners_at : Hierarchy → ℕ → Option ℕ → Face
-corners_at h f None = slice_index_or h.bases f no_corners
-corners_at h f (Some k) = (new_face h k f).face
+abbrev pub corners_told_by : Hierarchy → ℕ → Option ℕ → Face
+corners_told_by h f None = slice_index_or h.bases f no_face_corners
+corners_told_by h f (Some k) = (new_face h k f).face
 
 -- The corners of face f.
 unfoldable pub corners_of : Hierarchy → ℕ → Face
-corners_of h f = corners_at h f (revealed_by h f)
+corners_of h f = corners_told_by h f (revealed_by h f)
 
 -- The leaves that side e runs from and to.
 unfoldable pub from_leaf : Hierarchy → ℕ → ℕ

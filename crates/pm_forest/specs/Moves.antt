@@ -32,8 +32,8 @@ places_in None = None ∷ None ∷ []
 places_in (Some n) = n.first ∷ n.second ∷ []
 
 -- The four places of neighbours of a record, in the order of neighbours_of.
-abbrev pub places_of : Record → List (Option Side)
-places_of r = places_in r.left ++ places_in r.right
+abbrev pub neighbour_places_of : Record → List (Option Side)
+neighbour_places_of r = places_in r.left ++ places_in r.right
 
 -- The face of the first of these sides whose face isn't kept.
 abbrev pub first_dropped : Hierarchy → (ℕ → Bool) → List ℕ → Option ℕ

@@ -165,15 +165,15 @@ abbrev pub face_fault : Hierarchy → Bool → Option NewFace → Option Shape
 face_fault h left None = None
 face_fault h left (Some n) = new_face_fault h left n.face (word_of n.first) (word_of n.second)
 
-abbrev pub first_of : Option Shape → Option Shape → Option Shape
-first_of None later = later
-first_of (Some e) later = Some e
+abbrev pub first_fault_of : Option Shape → Option Shape → Option Shape
+first_fault_of None later = later
+first_fault_of (Some e) later = Some e
 
 -- What is wrong with the next record: with its head, else with its left face, else with its right face.
 unfoldable pub record_fault : Hierarchy → Record → Option Shape
 record_fault h r =
-    first_of (head_fault h (head_of r))
-    (first_of (face_fault (with_record h (bare r)) true r.left) (face_fault (with_record h (left_only r)) false r.right))
+    first_fault_of (head_fault h (head_of r))
+    (first_fault_of (face_fault (with_record h (bare r)) true r.left) (face_fault (with_record h (left_only r)) false r.right))
 
 -- The input field of face f: those of the roots and of the faces before it come first, and of the heads before it.
 abbrev pub heads_before : Option ℕ → ℕ

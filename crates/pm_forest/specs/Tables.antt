@@ -63,7 +63,7 @@ abbrev pub record_total : List Record → Option Record → ℕ
 record_total records coming = length records + one_if (is_some coming)
 
 -- The roots come first, then the base faces, and then the records.
-pub record IsInOrder (c : Counts) (roots bases records : ℕ) : Type 0 where
+pub record AreTakenInOrder (c : Counts) (roots bases records : ℕ) : Type 0 where
   pub roots_first : (roots ≡ c.roots) ⊎ (bases + records ≡ 0)
   pub bases_first : (bases ≡ c.bases) ⊎ (records ≡ 0)
 
@@ -100,7 +100,7 @@ pub record IsGrowing (p : Parts) : Type 0 where
   pub base_room : p.counts.bases ≤ length p.bases.items + p.bases.spare
   pub record_most : record_total p.records.items p.coming ≤ p.counts.records
   pub record_room : p.counts.records ≤ length p.records.items + p.records.spare
-  pub order : IsInOrder p.counts (length p.roots.items) (length p.bases.items) (record_total p.records.items p.coming)
+  pub order : AreTakenInOrder p.counts (length p.roots.items) (length p.bases.items) (record_total p.records.items p.coming)
   pub owned : p.owners.items ≡ owners_from 0 (widths_of p.roots.items)
   pub owner_len : length p.owners.items ≡ sum (widths_of p.roots.items)
   pub owner_most : length p.owners.items ≤ p.counts.leaves

@@ -3,7 +3,7 @@ ghost use Rattle.std.specs.Prelude.{◌≡◌, ◌+◌, ◌≤◌, ◌<◌, ◌�
 ghost use Rattle.pm_base.specs.declared.limits.TheConstants.{MOST_FACES, MOST_NODES, MOST_VERTICES};
 ghost use Rattle.pm_base.specs.Place.{Place};
 ghost use Rattle.pm_forest.specs.Forest.{leaf_count, node_count, record_count, record_at, t_of, u_of, interval_of, maker_of, splitter_of, no_record};
-ghost use Rattle.pm_forest.specs.Faces.{faces_of, face_count, revealed_by, corners_of, no_corners};
+ghost use Rattle.pm_forest.specs.Faces.{faces_of, face_count, revealed_by, corners_of, no_face_corners};
 ghost use Rattle.pm_forest.specs.Places.{place_of_node};
 ghost use Rattle.pm_forest.specs.Rules.{HasShape, counts_of};
 ghost use Rattle.pm_forest.specs.Tables.{leaf_node_of};
@@ -124,7 +124,7 @@ impl Hierarchy {
     /// Face `f`: a base face, or a face of a record.
     pub fn face_at(&self, f: FaceId) -> Face
         requires { f.0 < face_count self.now }
-        ensures value { result ≡ slice_index_or (faces_of self.now) f.0 no_corners }
+        ensures value { result ≡ slice_index_or (faces_of self.now) f.0 no_face_corners }
         ensures corners { result ≡ corners_of self.now f.0 }
     {
         self.forest.face(f.0)

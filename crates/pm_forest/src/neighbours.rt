@@ -1,6 +1,6 @@
 //! The neighbours that a record tells.
 ghost use Rattle.std.specs.Prelude.{◌≡◌, ◌∷◌, []};
-ghost use Rattle.pm_forest.specs.Moves.{sides_in, neighbours_of, places_in, places_of};
+ghost use Rattle.pm_forest.specs.Moves.{sides_in, neighbours_of, places_in, neighbour_places_of};
 
 use crate::{NewFace, Record};
 use pm_base::Side;
@@ -20,7 +20,7 @@ impl Record {
     /// `None` stands where none is recorded, and where the face isn't there.
     #[tactic(auto, using(crate::proofs::NeighbourLaws::four_places, crate::proofs::NeighbourLaws::listed_in_places))]
     pub fn neighbours(&self) -> [Option<Side>; 4]
-        ensures places { result ≡ places_of self.now }
+        ensures places { result ≡ neighbour_places_of self.now }
         ensures list { sides_in result ≡ neighbours_of self.now }
     {
         let (left_first, left_second) = beside(&self.left);

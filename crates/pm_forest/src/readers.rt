@@ -2,7 +2,7 @@
 ghost use Rattle.std.specs.Prelude.{◌≡◌, ◌+◌, ◌-◌, ◌*◌, ◌<◌, ◌≤◌, length, is_some, if◌then◌else◌, Option, slice_index_or};
 ghost use Rattle.pm_base.specs.declared.limits.TheConstants.{MOST_FACES, MOST_NODES, MOST_VERTICES};
 ghost use Rattle.pm_forest.specs.Forest.{widths, leaf_count, node_count, root_of, interval_of, splitter_of};
-ghost use Rattle.pm_forest.specs.Faces.{faces_of, face_count, revealed_by, no_corners};
+ghost use Rattle.pm_forest.specs.Faces.{faces_of, face_count, revealed_by, no_face_corners};
 ghost use Rattle.pm_forest.specs.Tables.{grown, IsSingle, leaf_node_of};
 
 use crate::growing::Growing;
@@ -112,7 +112,7 @@ impl Growing {
     /// Face `f`, by its number.
     pub fn face(&self, f: u32) -> Face
         requires { f < face_count (grown self.now) }
-        ensures { result ≡ slice_index_or (faces_of (grown self.now)) f no_corners }
+        ensures { result ≡ slice_index_or (faces_of (grown self.now)) f no_face_corners }
     {
         *self.faces.get(f as usize)
     }

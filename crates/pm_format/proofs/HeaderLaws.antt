@@ -17,7 +17,7 @@ use Rattle.pm_format.specs.Words.{words_of, IsBytes}
 use Rattle.pm_format.specs.Reading.{digits_at, digits_in, header_at, forest_at}
 use Rattle.pm_format.specs.Faults.{magic_is_bad, named}
 use Rattle.pm_format.specs.Decoding.{bytes_to_come}
-use Rattle.pm_format.specs.Standing.{GoesOn, BeginsHeader, IsRefusal, StandsAfter, IsSound, header_bytes, JudgesHeader, is_open, stage_of}
+use Rattle.pm_format.specs.Standing.{GoesOn, BeginsHeader, HasFaultAlready, StandsAfter, IsSoundDecoding, header_bytes, JudgesHeader, takes_more, stage_of}
 use Rattle.pm_format.proofs.WordLaws.{length-words_of}
 use Rattle.pm_format.proofs.WholeLaws.{forest_is}
 use Rattle.pm_format.proofs.GrowLaws.{Extends, header_on}
@@ -29,16 +29,16 @@ use Rattle.pm_format.proofs.HeaderSizes.{size_is, within, header_size, header_lo
 
 -- Refusals
 
-pub header_refused : (bytes ws : List ℕ) (e : Stop) → ws ≡ words_of bytes → magic_is_bad bytes ≡ false → header_at ws ≡ Err e → (e ≡ stops.End → ⊥) → IsRefusal bytes (named 0 e)
+pub header_refused : (bytes ws : List ℕ) (e : Stop) → ws ≡ words_of bytes → magic_is_bad bytes ≡ false → header_at ws ≡ Err e → (e ≡ stops.End → ⊥) → HasFaultAlready bytes (named 0 e)
 header_refused bytes ws e same good is other = stop_refused bytes 0 e good (ap forest_at (sym same) ∙ header_stops ws e is) other
 
 -- Counts that are bad are refused, and memory may be wanting.
 pub counts_refused : (bytes ws rest : List ℕ) (c : Counts) (e : Shape) → ws ≡ words_of bytes → magic_is_bad bytes ≡ false → header_at ws ≡ Ok (c, rest)
-    → ((e ≡ shapes.OutOfMemory) × (counts_are_bad c ≡ false)) ⊎ ((e ≡ shapes.BadCount) × (counts_are_bad c ≡ true)) → IsRefusal bytes (named 0 (stops.Fault e))
+    → ((e ≡ shapes.OutOfMemory) × (counts_are_bad c ≡ false)) ⊎ ((e ≡ shapes.BadCount) × (counts_are_bad c ≡ true)) → HasFaultAlready bytes (named 0 (stops.Fault e))
 unfolding forest_at
 counts_refused bytes ws rest c e same good is (inl memory) = inl (ap (λ f. named 0 (stops.Fault f)) memory.0)
 counts_refused bytes ws rest c e same good is (inr bad) =
-    subst (λ f. IsRefusal bytes (named 0 (stops.Fault f))) (sym bad.0)
+    subst (λ f. HasFaultAlready bytes (named 0 (stops.Fault f))) (sym bad.0)
     (stop_refused bytes 0 (stops.Fault shapes.BadCount) good (ap forest_at (sym same) ∙ rw (is, bad.1) refl) (λ e. absurd cc))
 
 -- What it makes of a decoder
@@ -99,10 +99,10 @@ header_goes_on bytes held piece kept rest none left n m digits s stage b is empt
     subst (λ (l : List ℕ). StandsAfter l stage left) (sym all) (stands kept (subst (λ (l : List ℕ). GoesOn kept digits s l) (sym empty) judged.0))
 
 pub header_sound : (held piece kept none left : List ℕ) (n m digits : ℕ) (s : Shaping) (stage : Stage) → kept ≡ held ++ take n piece → n ≤ length piece → none ≡ [] → JudgesHeader kept (stages.Units s digits)
-    → ((taken : ℕ) → taken + bytes_to_come s ≤ 2 ^ 28 + length none → IsSound stage left (taken + m)) → IsSound stage left (length held + (n + m))
+    → ((taken : ℕ) → taken + bytes_to_come s ≤ 2 ^ 28 + length none → IsSoundDecoding stage left (taken + m)) → IsSoundDecoding stage left (length held + (n + m))
 header_sound held piece kept none left n m digits s stage is within empty judged sound =
     let len : length kept ≡ length held + n = ap (λ (l : List ℕ). length l) is ∙ omega (arith, length-append held (take n piece), length-take-le n piece within) in
-    subst (λ (k : ℕ). IsSound stage left k) (omega (arith, len)) (sound (length kept) (omega (arith, judged.2, judged.3, ap (λ (l : List ℕ). length l) empty)))
+    subst (λ (k : ℕ). IsSoundDecoding stage left k) (omega (arith, len)) (sound (length kept) (omega (arith, judged.2, judged.3, ap (λ (l : List ℕ). length l) empty)))
 
 -- The header isn't whole, or is refused.
 pub header_stays : (bytes held piece kept : List ℕ) (n : ℕ) (stage : Stage) → BeginsHeader bytes held → kept ≡ held ++ take n piece → ((s : Shaping) (d : ℕ) → stage ≡ stages.Units s d → ⊥) → JudgesHeader kept stage → StandsAfter (bytes ++ take n piece) stage kept
@@ -114,16 +114,16 @@ header_stays bytes held piece kept n stage b is other judged =
     go stages.Header other j all = record { same = sym all; good = ap magic_is_bad (sym all) ∙ j.good; ends = ap (λ (l : List ℕ). header_at (words_of l)) (sym all) ∙ j.ends }
     go (stages.Units s d) other j all = absurd (other s d refl)
     go (stages.Whole h d) other j all = absurd j
-    go (stages.Refused e) other j all = subst (λ (l : List ℕ). IsRefusal l e) all j
+    go (stages.Refused e) other j all = subst (λ (l : List ℕ). HasFaultAlready l e) all j
 
-pub header_all : (kept : List ℕ) (piece n : ℕ) (stage : Stage) → (n ≡ piece) ⊎ (length kept ≡ header_bytes kept) → ((s : Shaping) (d : ℕ) → stage ≡ stages.Units s d → ⊥) → JudgesHeader kept stage → is_open stage ≡ true → n ≡ piece
+pub header_all : (kept : List ℕ) (piece n : ℕ) (stage : Stage) → (n ≡ piece) ⊎ (length kept ≡ header_bytes kept) → ((s : Shaping) (d : ℕ) → stage ≡ stages.Units s d → ⊥) → JudgesHeader kept stage → takes_more stage ≡ true → n ≡ piece
 header_all kept piece n stage (inl all) other j is = all
 header_all kept piece n stages.Header (inr len) other j is = absurd (not_begun kept len j.ends)
 header_all kept piece n (stages.Units s d) (inr len) other j is = absurd (other s d refl)
 header_all kept piece n (stages.Whole h d) (inr len) other j is = absurd j
 header_all kept piece n (stages.Refused e) (inr len) other j is = absurd cc
 
-pub header_short : (held piece kept : List ℕ) (n : ℕ) (stage : Stage) → kept ≡ held ++ take n piece → n ≤ length piece → length kept ≤ header_bytes kept → ((s : Shaping) (d : ℕ) → stage ≡ stages.Units s d → ⊥) → JudgesHeader kept stage → IsSound stage kept (length held + n)
+pub header_short : (held piece kept : List ℕ) (n : ℕ) (stage : Stage) → kept ≡ held ++ take n piece → n ≤ length piece → length kept ≤ header_bytes kept → ((s : Shaping) (d : ℕ) → stage ≡ stages.Units s d → ⊥) → JudgesHeader kept stage → IsSoundDecoding stage kept (length held + n)
 header_short held piece kept n stages.Header is within_piece short other j =
     let len : length kept ≡ length held + n = ap (λ (l : List ℕ). length l) is ∙ omega (arith, length-append held (take n piece), length-take-le n piece within_piece) in (
       elim (cases_lt (length kept) (header_bytes kept)) [ inl l ↦ l | inr r ↦ absurd (not_begun kept (omega (arith, r, short)) j.ends) ],

@@ -25,7 +25,7 @@ use Rattle.pm_format.specs.Words.{words_of}
 use Rattle.pm_format.specs.Reading.{then_read, whole, judged, fitting, root_at, base_at, head_at, FaceUnit, new_face_at, counts_at, units_at, root_after, base_after, face_after, face_if, faces_after, record_after, record_after_all, told_digits, digits_at, header_at}
 use Rattle.pm_format.specs.Faults.{named}
 use Rattle.pm_format.specs.Standing.{stage_of}
-use Rattle.pm_format.specs.Decoding.{all_after, on_from, StopsAt}
+use Rattle.pm_format.specs.Decoding.{all_after, on_from, ReadingStopsAt}
 
 -- A fault of shape that isn't want of memory.
 abbrev is_rule : Option Shape → Bool
@@ -221,7 +221,7 @@ header_no_memory ws e at = go e (subst (λ r. reads_or_told r ≡ true) at (head
     go (stops.Fault f) told is = rule_no_memory 0 f told (same_refusal (named 0 (stops.Fault f)) faults.OutOfMemory is)
 
 -- nor a unit,
-pub unit_no_memory : (s : Shaping) (bytes : List ℕ) (n : ℕ) (e : Stop) → StopsAt s bytes e → named n e ≡ faults.OutOfMemory → ⊥
+pub unit_no_memory : (s : Shaping) (bytes : List ℕ) (n : ℕ) (e : Stop) → ReadingStopsAt s bytes e → named n e ≡ faults.OutOfMemory → ⊥
 unit_no_memory s bytes n e stops_at is = told_no_memory n e (subst (λ r. reads_or_told r ≡ true) (stops_at.off []) (rest_told s.counts s.h s.coming (words_of (bytes ++ [])))) is
 
 -- nor the check after the last one.

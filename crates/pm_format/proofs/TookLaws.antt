@@ -17,7 +17,7 @@ use Rattle.pm_format.specs.declared.stop.Stop.{Stop}
 use Rattle.pm_format.specs.declared.stop.Stop.TheVariants as stops
 use Rattle.pm_format.specs.Words.{words_of}
 use Rattle.pm_format.specs.Reading.{read_map, judged, fitting, root_at, base_at, head_at, new_face_at, FaceUnit, root_after, base_after, face_after, took_root, took_base, took_face}
-use Rattle.pm_format.specs.Decoding.{on_from, rest_from, IsWaiting, due_bytes, begun_count, bytes_to_come, took_head, TakenIn, StopsAt}
+use Rattle.pm_format.specs.Decoding.{on_from, rest_from, IsWaiting, due_bytes, begun_count, bytes_to_come, took_head, TakenIn, ReadingStopsAt}
 use Rattle.pm_format.proofs.ReadingLaws.{read_map_ok}
 use Rattle.pm_format.proofs.FaceSteps.{face_in, after_left, after_right}
 use Rattle.pm_format.proofs.OnLaws.{root_on, root_off, base_on, base_off, head_on, head_off, face_on, face_off}
@@ -66,9 +66,9 @@ read_map_err make (Err f) e is = ap (λ v. Err v) (ap (stop_in f) is)
 
 -- What taking a unit in leaves, by its answer.
 abbrev pub Took : Shaping → List ℕ → Result (Unit {0}) Stop → Shaping → Type 0
-Took s unit r t = OnOk r (TakenIn s unit t) × IfErr r (StopsAt s unit)
+Took s unit r t = OnOk r (TakenIn s unit t) × IfErr r (ReadingStopsAt s unit)
 
-stops_here : (s : Shaping) (unit : List ℕ) (e : Stop) → (e ≡ stops.End → ⊥) → ((more : List ℕ) → rest_from s (words_of (unit ++ more)) ≡ Err e) → StopsAt s unit e
+stops_here : (s : Shaping) (unit : List ℕ) (e : Stop) → (e ≡ stops.End → ⊥) → ((more : List ℕ) → rest_from s (words_of (unit ++ more)) ≡ Err e) → ReadingStopsAt s unit e
 stops_here s unit e judged off = record { off = off; judged = judged }
 
 root_took_of : (s t : Shaping) (unit rest : List ℕ) (r : Result (Unit {0}) Stop) → expects s ≡ kinds.Root → length unit ≡ 20

@@ -40,11 +40,11 @@ abbrev pub fitting : {X : Type 0} → (X → Option Shape) → Option (X × List
 fitting fault o = then_read (λ u. judged (fault u.0) u) (whole o)
 
 -- Coordinates as signed numbers.
-abbrev pub place_at : ℕ → ℕ → ℕ → List ℤ
-place_at x y z = cast_signed w32 x ∷ cast_signed w32 y ∷ cast_signed w32 z ∷ []
+abbrev pub signed_place : ℕ → ℕ → ℕ → List ℤ
+signed_place x y z = cast_signed w32 x ∷ cast_signed w32 y ∷ cast_signed w32 z ∷ []
 
 abbrev pub root_at : List ℕ → Option (Root × List ℕ)
-root_at (x ∷ y ∷ z ∷ width ∷ input ∷ ws) = Some (next_root (place_at x y z) width input, ws)
+root_at (x ∷ y ∷ z ∷ width ∷ input ∷ ws) = Some (next_root (signed_place x y z) width input, ws)
 root_at _ = None
 
 abbrev pub base_at : List ℕ → Option (Face × List ℕ)
@@ -53,7 +53,7 @@ base_at _ = None
 
 abbrev pub head_at : List ℕ → Option (Head × List ℕ)
 head_at (s ∷ width ∷ tx ∷ ty ∷ tz ∷ t_input ∷ ux ∷ uy ∷ uz ∷ u_input ∷ presence ∷ ws) =
-    Some (record { s = s; width = width; t = place_at tx ty tz; t_input = t_input; u = place_at ux uy uz; u_input = u_input; presence = presence }, ws)
+    Some (record { s = s; width = width; t = signed_place tx ty tz; t_input = t_input; u = signed_place ux uy uz; u_input = u_input; presence = presence }, ws)
 head_at _ = None
 
 -- A new face with the two words that name its neighbours.

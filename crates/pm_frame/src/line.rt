@@ -1,6 +1,6 @@
 //! The lines of a frame.
 ghost use Rattle.std.specs.Prelude.{◌≡◌};
-ghost use Rattle.pm_frame.specs.Frame.{head_line, node_line, face_line, end_line};
+ghost use Rattle.pm_frame.specs.Frame.{head_line, node_line, shown_face_line, end_line};
 
 use pm_base::Point;
 use pm_io::Line;
@@ -36,9 +36,9 @@ pub fn put_node(line: &mut Line, node: u32, p: &Point)
 }
 
 /// The line of a kept face.
-#[tactic(auto, unfolding(crate::specs::Frame::face_line))]
+#[tactic(auto, unfolding(crate::specs::Frame::shown_face_line))]
 pub(crate) fn put_face(line: &mut Line, face: u32, a: u32, b: u32, c: u32)
-    ensures { line.new ≡ face_line face a b c }
+    ensures { line.new ≡ shown_face_line face a b c }
 {
     line.clear();
     line.add(b"f ");

@@ -22,8 +22,8 @@ use Rattle.pm_forest.proofs.ShapeLaws.{shape_of_nodes, shape_is_forest}
 use Rattle.pm_forest.proofs.Shown.{shown_base, shown_record, shown-parts}
 use Rattle.pm_sides.proofs.RecordSides.{corner_of-record}
 use Rattle.pm_sides.proofs.SplitNodeLaws.{s_below}
-use Rattle.pm_front.specs.Shown.{numbers}
-use Rattle.pm_front.specs.Corners.{listed, is_under, is_outside, rest_of, collapsed_list, collapsed_lists, full_list, full_base_lists, full_lists, base_lists, opened_lists}
+use Rattle.pm_front.specs.Shown.{numbers_below}
+use Rattle.pm_front.specs.Corners.{listed, is_under, is_not_between, rest_of, collapsed_list, collapsed_lists, full_list, full_base_lists, full_lists, base_lists, opened_lists}
 use Rattle.pm_front.specs.Active.{shown_count}
 use Rattle.pm_front.proofs.ListLaws.{has_filter-parts, filter-all, filter-swap, passing_first}
 use Rattle.pm_front.proofs.NodeLists.{is_corner_of, corner_of-parts, listed-by_node, listed-past, length-by_node}
@@ -55,14 +55,14 @@ base-late h e l late =
     ])
 
 -- no record has one
-base-outside : (h : Hierarchy) (k : ℕ) → k < record_count h → (e : ℕ) → is_base h e ≡ true → is_outside (3 * first_face h k) (3 * first_face h (k + 1)) e ≡ true
+base-outside : (h : Hierarchy) (k : ℕ) → k < record_count h → (e : ℕ) → is_base h e ≡ true → is_not_between (3 * first_face h k) (3 * first_face h (k + 1)) e ≡ true
 base-outside h k k_lt e base =
     not_from_false (is_corner_of h k e) (false_from_ne_true (is_corner_of h k e) (λ t.
     let p = corner_of-parts h k e t in
     let own = (corner_of-record h k e k_lt p.0 p.1).1 in
     false≢true (sym (shown_record h no_records e k own) ∙ base)))
 
-base-numbers : (h : Hierarchy) → filter (is_base h) (numbers (3 * face_count h)) ≡ numbers (3 * length h.bases)
+base-numbers : (h : Hierarchy) → filter (is_base h) (numbers_below (3 * face_count h)) ≡ numbers_below (3 * length h.bases)
 base-numbers h =
     let few = bases-few h in
     passing_first (is_base h) (3 * length h.bases) (3 * face_count h) (omega arith) (base-early h) (base-late h)
@@ -75,13 +75,13 @@ base-kept h =
 
 -- ---- in the lists of the full front
 
-base-list : (h : Hierarchy) (g : ℕ) → filter (is_under h every g) (numbers (3 * length h.bases)) ≡ filter (is_base h) (full_list h g)
+base-list : (h : Hierarchy) (g : ℕ) → filter (is_under h every g) (numbers_below (3 * length h.bases)) ≡ filter (is_base h) (full_list h g)
 base-list h g =
-    ap (filter (is_under h every g)) (sym (base-numbers h)) ∙ filter-swap (is_under h every g) (is_base h) (numbers (3 * face_count h))
+    ap (filter (is_under h every g)) (sym (base-numbers h)) ∙ filter-swap (is_under h every g) (is_base h) (numbers_below (3 * face_count h))
 
 full-bases : (h : Hierarchy) (g : ℕ) → listed (full_base_lists h) g ≡ filter (is_base h) (listed (full_lists h) g)
 full-bases h g =
-    let bases = λ (v : ℕ). filter (is_under h every v) (numbers (3 * length h.bases)) in
+    let bases = λ (v : ℕ). filter (is_under h every v) (numbers_below (3 * length h.bases)) in
     elim (cases_lt g (node_count h)) [
       | inl l ↦ listed-by_node h bases g l ∙ base-list h g ∙ ap (filter (is_base h)) (sym (listed-by_node h (full_list h) g l))
       | inr past ↦ listed-past h bases g past ∙ ap (filter (is_base h)) (sym (listed-past h (full_list h) g past))
@@ -92,7 +92,7 @@ full-bases h g =
 module _ (h : Hierarchy) (k : ℕ) (p : ℕ → Bool) (ls ms : List (List ℕ)) (same : (g : ℕ) → listed ms g ≡ filter p (listed ls g)) where
   rest-filtered : (g : ℕ) → rest_of h k ms g ≡ filter p (rest_of h k ls g)
   rest-filtered g =
-      let out = is_outside (3 * first_face h k) (3 * first_face h (k + 1)) in
+      let out = is_not_between (3 * first_face h k) (3 * first_face h (k + 1)) in
       ap (filter out) (same g) ∙ filter-swap out p (listed ls g)
 
   collapsed-filtered : (g : ℕ) → collapsed_list h k ms g ≡ filter p (collapsed_list h k ls g)
@@ -144,7 +144,7 @@ pub record Gathered (h : Hierarchy) (n : ℕ) (v : Lists) : Type 0 where
 pub gathered-begins : (h : Hierarchy) (n : ℕ) (v : Lists) → n ≡ record_count h → v.lists ≡ full_base_lists h → Gathered h n v
 gathered-begins h n v all is = record {
   most = omega (arith, all);
-  heads = ap length is ∙ length-by_node h (λ g. filter (is_under h every g) (numbers (3 * length h.bases)));
+  heads = ap length is ∙ length-by_node h (λ g. filter (is_under h every g) (numbers_below (3 * length h.bases)));
   each = λ g. ap (λ ls. listed ls g) is ∙ full-bases h g ∙ ap (λ ls. filter (is_base h) (listed ls g)) (sym (opened-full h) ∙ ap (opened_lists h) (sym all));
 }
 
@@ -168,8 +168,8 @@ module _ (h : Hierarchy) (shape : HasShape h) (k : ℕ) (k_lt : k < record_count
       let until = 3 * first_face h (k + 1) in
       let nodes = shape_of_nodes h shape in
       let s_none = empty-s h (shape_is_forest h shape) (below (suc k)) (below-front h nodes (suc k)) k k_lt ls (opened-corners h shape (suc k) old.most) (lt-ltb k (suc k) (omega arith)) in
-      let out : (g : ℕ) → list_of v g ≡ filter (is_outside from until) (list_of v g) = λ g.
-      sym (filter-all (is_outside from until) (list_of v g) (λ e i.
+      let out : (g : ℕ) → list_of v g ≡ filter (is_not_between from until) (list_of v g) = λ g.
+      sym (filter-all (is_not_between from until) (list_of v g) (λ e i.
       base-outside h k k_lt e (has_filter-parts (is_base h) (listed ls g) e (ap (λ l. has l e) (sym (old.each g)) ∙ i)).0)) in
       collapse-gathered h shape k k_lt v v a w old.heads refl from until refl refl out (old.each (s_of h k) ∙ ap (filter (is_base h)) s_none)
       s t u s_is t_is u_is u_lt first second

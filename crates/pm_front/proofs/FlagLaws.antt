@@ -4,15 +4,15 @@ use Rattle.std.specs.Prelude.{IfSome, IfNone}
 use Rattle.std.specs.List.{filter, range_with_len}
 use Rattle.std.proofs.lemmas.Bool.{cases_Bool, cases_eq, eq-eqb, ne_eqb, both_ways, false_from_ne_true, or_left}
 use Rattle.std.proofs.lemmas.List.{length-set, length-replicate}
-use Rattle.pm_links.specs.Lists.{has, first_of, after, without, IsOnce}
+use Rattle.pm_links.specs.Lists.{has, first_of, after, list_without, IsOnce}
 use Rattle.pm_links.proofs.Without.{has-without, has-without_same}
 use Rattle.pm_links.specs.declared.links.TheConstants.{LIMIT}
 use Rattle.pm_sets.specs.Sets.{is_in, IsGap, IsFirst}
 use Rattle.pm_sets.specs.Counted.{members_in}
 use Rattle.pm_sets.proofs.Ranges.{none_passes}
 use Rattle.pm_sets.proofs.FlagLaws.{in_below, no_members, set_other, set_here, more_in, less_in}
-use Rattle.pm_front.specs.Members.{Members, AreNumbersOf, AreMembers, members_of}
-use Rattle.pm_front.specs.Shown.{numbers}
+use Rattle.pm_front.specs.Members.{Members, AreSameNumbers, AreMembers, members_of}
+use Rattle.pm_front.specs.Shown.{numbers_below}
 use Rattle.pm_front.proofs.ListLaws.{has_filter-parts, has_filter-from, once-filter, once-range, number-member}
 
 -- ---- in a range
@@ -47,17 +47,17 @@ after_passes p a (suc n) x low high pass =
 pub has-flagged : (flags : List Bool) (x : ℕ) → has (members_of flags) x ≡ is_in flags x
 has-flagged flags x =
     elim (cases_Bool (is_in flags x)) [
-      | inl there ↦ has_filter-from (is_in flags) (numbers (length flags)) x there ((number-member (length flags) x).1 (in_below flags x there)) ∙ sym there
+      | inl there ↦ has_filter-from (is_in flags) (numbers_below (length flags)) x there ((number-member (length flags) x).1 (in_below flags x there)) ∙ sym there
       | inr clear ↦
-          false_from_ne_true (has (members_of flags) x) (λ t. both_ways _ clear (has_filter-parts (is_in flags) (numbers (length flags)) x t).0) ∙ sym clear
+          false_from_ne_true (has (members_of flags) x) (λ t. both_ways _ clear (has_filter-parts (is_in flags) (numbers_below (length flags)) x t).0) ∙ sym clear
     ]
 
 pub once-flagged : (flags : List Bool) → IsOnce (members_of flags)
-once-flagged flags = once-filter (is_in flags) (numbers (length flags)) (once-range 0 (length flags))
+once-flagged flags = once-filter (is_in flags) (numbers_below (length flags)) (once-range 0 (length flags))
 
 -- a set with one more, or one less
 module _ (flags : List Bool) (n : ℕ) (n_lt : n < length flags) where
-  pub put_in : AreNumbersOf (members_of (set flags n true)) (n ∷ members_of flags)
+  pub put_in : AreSameNumbers (members_of (set flags n true)) (n ∷ members_of flags)
   put_in = record {
     same = λ x.
         has-flagged (set flags n true) x ∙ elim (cases_eq n x) [
@@ -68,13 +68,13 @@ module _ (flags : List Bool) (n : ℕ) (n_lt : n < length flags) where
     once = once-flagged (set flags n true);
   }
 
-  pub taken_out : AreNumbersOf (members_of (set flags n false)) (without n (members_of flags))
+  pub taken_out : AreSameNumbers (members_of (set flags n false)) (list_without n (members_of flags))
   taken_out = record {
     same = λ x.
         has-flagged (set flags n false) x ∙ elim (cases_eq x n) [
           | inl is ↦
               ap (is_in (set flags n false)) is ∙ set_here flags n n_lt false ∙ sym (has-without_same n (members_of flags))
-              ∙ ap (has (without n (members_of flags))) (sym is)
+              ∙ ap (has (list_without n (members_of flags))) (sym is)
           | inr other ↦ set_other flags n n_lt false x other ∙ sym (has-flagged flags x) ∙ sym (has-without n (members_of flags) x other)
         ];
     once = once-flagged (set flags n false);

@@ -8,24 +8,24 @@ use Rattle.pm_forest.specs.Kept.{is_kept, is_shown}
 use Rattle.pm_forest.proofs.OneStep.{with-same}
 use Rattle.pm_forest.proofs.Shown.{kept-shown, shown_record, shown_with, shown_with-parts, shown_without, shown_without-parts}
 use Rattle.pm_beyond.proofs.PlanLists.{same_bools}
-use Rattle.pm_front.specs.Shown.{numbers, kept_faces}
+use Rattle.pm_front.specs.Shown.{numbers_below, kept_faces}
 use Rattle.pm_front.specs.Active.{shown_count}
 use Rattle.pm_front.proofs.Counting.{count_next, count_same}
 use Rattle.pm_sides.proofs.RecordSides.{corner_of-record, record-corner_of}
 
 -- ---- how many numbers pass a test
 
-pub count-all : (p : ℕ → Bool) (n : ℕ) → ((x : ℕ) → x < n → p x ≡ true) → length (filter p (numbers n)) ≡ n
+pub count-all : (p : ℕ → Bool) (n : ℕ) → ((x : ℕ) → x < n → p x ≡ true) → length (filter p (numbers_below n)) ≡ n
 count-all p zero all = omega arith
 count-all p (suc n) all =
     let at : n + 1 ≡ suc n = omega arith in
-    ap (λ m. length (filter p (numbers m))) (sym at) ∙ count_next p n (all n (omega arith)) ∙ ap (λ m. m + 1) (count-all p n (λ x l. all x (omega arith))) ∙ at
+    ap (λ m. length (filter p (numbers_below m))) (sym at) ∙ count_next p n (all n (omega arith)) ∙ ap (λ m. m + 1) (count-all p n (λ x l. all x (omega arith))) ∙ at
 
-pub count-few : (p : ℕ → Bool) (n : ℕ) → length (filter p (numbers n)) ≤ n
+pub count-few : (p : ℕ → Bool) (n : ℕ) → length (filter p (numbers_below n)) ≤ n
 count-few p zero = omega arith
 count-few p (suc n) =
     let next_is : n + 1 ≡ suc n = omega arith in
-    let at = ap (λ m. length (filter p (numbers m))) next_is in
+    let at = ap (λ m. length (filter p (numbers_below m))) next_is in
     let rest = count-few p n in
     elim (cases_Bool (p n)) [
       | inl pass ↦ (let next = count_next p n pass in omega (arith, at, next, rest))
@@ -37,13 +37,13 @@ module _ (p q : ℕ → Bool) (n from until : ℕ) (ordered : from ≤ until)
     (old : (x : ℕ) → x < n → from ≤ x → x < until → p x ≡ false)
     (new : (x : ℕ) → x < n → from ≤ x → x < until → q x ≡ true)
     (same : (x : ℕ) → x < n → (from ≤ x → x < until → ⊥) → q x ≡ p x) where
-  pub count-more : (m : ℕ) → m ≤ n → length (filter q (numbers m)) ≡ length (filter p (numbers m)) + ((m - from) - (m - until))
+  pub count-more : (m : ℕ) → m ≤ n → length (filter q (numbers_below m)) ≡ length (filter p (numbers_below m)) + ((m - from) - (m - until))
   count-more zero l = omega arith
   count-more (suc m) l =
       let rest = count-more m (omega arith) in
       let next_is : m + 1 ≡ suc m = omega arith in
-      let q_at = ap (λ i. length (filter q (numbers i))) next_is in
-      let p_at = ap (λ i. length (filter p (numbers i))) next_is in
+      let q_at = ap (λ i. length (filter q (numbers_below i))) next_is in
+      let p_at = ap (λ i. length (filter p (numbers_below i))) next_is in
       elim (cases_lt m from) [
         | inl low ↦ both m (omega arith) rest q_at p_at (same m (omega arith) (λ a b. omega arith)) (omega arith)
         | inr high ↦ elim (cases_lt m until) [
@@ -56,11 +56,11 @@ module _ (p q : ℕ → Bool) (n from until : ℕ) (ordered : from ≤ until)
       ]
     where
       both :
-          (m : ℕ) → m < n → length (filter q (numbers m)) ≡ length (filter p (numbers m)) + ((m - from) - (m - until))
-          → length (filter q (numbers (m + 1))) ≡ length (filter q (numbers (suc m)))
-          → length (filter p (numbers (m + 1))) ≡ length (filter p (numbers (suc m)))
+          (m : ℕ) → m < n → length (filter q (numbers_below m)) ≡ length (filter p (numbers_below m)) + ((m - from) - (m - until))
+          → length (filter q (numbers_below (m + 1))) ≡ length (filter q (numbers_below (suc m)))
+          → length (filter p (numbers_below (m + 1))) ≡ length (filter p (numbers_below (suc m)))
           → q m ≡ p m → (suc m - from) - (suc m - until) ≡ (m - from) - (m - until)
-          → length (filter q (numbers (suc m))) ≡ length (filter p (numbers (suc m))) + ((suc m - from) - (suc m - until))
+          → length (filter q (numbers_below (suc m))) ≡ length (filter p (numbers_below (suc m))) + ((suc m - from) - (suc m - until))
       both m l rest q_at p_at is gap =
           elim (cases_Bool (p m)) [
             | inl pass ↦

@@ -2,16 +2,16 @@
 use Rattle.std.proofs.Common.{◌≡◌, ◌≢◌, ◌↔◌, ℕ, suc, ◌<◌, ◌≤◌, Bool, true, false, eqb, List, [], ◌∷◌, length, ◌⊎◌, inl, inr, sym, ap, ◌∙◌, subst, arith}
 use Rattle.std.specs.List.{filter}
 use Rattle.std.proofs.lemmas.Bool.{cases_eq, eq-eqb, ne_eqb, or_cases, eqb-true, false≢true}
-use Rattle.pm_links.specs.Lists.{has, without, IsOnce}
+use Rattle.pm_links.specs.Lists.{has, list_without, IsOnce}
 use Rattle.pm_links.proofs.Members.{has_head, has_tail}
 use Rattle.pm_links.proofs.Without.{without_none, has-without, once-without}
 use Rattle.pm_forest.specs.Forest.{Hierarchy, node_count}
 use Rattle.pm_forest.specs.Fronts.{is_active}
-use Rattle.pm_front.specs.Shown.{numbers, active_nodes}
+use Rattle.pm_front.specs.Shown.{numbers_below, active_nodes}
 use Rattle.pm_front.specs.Active.{AreActive}
 use Rattle.pm_front.proofs.ListLaws.{has_filter-parts, has_filter-from, once-filter, once-range, number-member}
 
-length-without : (x : ℕ) (xs : List ℕ) → IsOnce xs → has xs x ≡ true → length xs ≡ suc (length (without x xs))
+length-without : (x : ℕ) (xs : List ℕ) → IsOnce xs → has xs x ≡ true → length xs ≡ suc (length (list_without x xs))
 length-without x [] once there = absurd (false≢true there)
 length-without x (y ∷ ys) once there =
     elim (cases_eq y x) [
@@ -27,7 +27,7 @@ at_most : (xs ys : List ℕ) → IsOnce xs → IsOnce ys → ((x : ℕ) → has 
 at_most [] ys o p within = omega arith
 at_most (x ∷ xs) ys o p within =
     let one = length-without x ys p (within x (has_head x xs)) in
-    let rest = at_most xs (without x ys) o.1 (once-without x ys p) (λ y t.
+    let rest = at_most xs (list_without x ys) o.1 (once-without x ys p) (λ y t.
     has-without x ys y (λ (is : y ≡ x). false≢true (sym o.0 ∙ ap (has xs) (sym is) ∙ t)) ∙ within y (has_tail x xs y t)) in
     omega (arith, one, rest)
 
@@ -39,11 +39,11 @@ as_long xs ys o p same =
     omega (arith, a, b)
 
 -- the numbers below n that pass a test are as many as those of a list that has just these
-pub as_many : (p : ℕ → Bool) (n : ℕ) (xs : List ℕ) → IsOnce xs → ((x : ℕ) → (has xs x ≡ true) ↔ ((x < n) × (p x ≡ true))) → length xs ≡ length (filter p (numbers n))
+pub as_many : (p : ℕ → Bool) (n : ℕ) (xs : List ℕ) → IsOnce xs → ((x : ℕ) → (has xs x ≡ true) ↔ ((x < n) × (p x ≡ true))) → length xs ≡ length (filter p (numbers_below n))
 as_many p n xs once each =
-    as_long xs (filter p (numbers n)) once (once-filter p (numbers n) (once-range 0 n)) (λ x. (
-      λ t. (let q = (each x).0 t in has_filter-from p (numbers n) x q.1 ((number-member n x).1 q.0)),
-      λ t. (let q = has_filter-parts p (numbers n) x t in (each x).1 ((number-member n x).0 q.1, q.0)),
+    as_long xs (filter p (numbers_below n)) once (once-filter p (numbers_below n) (once-range 0 n)) (λ x. (
+      λ t. (let q = (each x).0 t in has_filter-from p (numbers_below n) x q.1 ((number-member n x).1 q.0)),
+      λ t. (let q = has_filter-parts p (numbers_below n) x t in (each x).1 ((number-member n x).0 q.1, q.0)),
     ))
 
 pub active-many : (h : Hierarchy) (T : ℕ → Bool) (nodes : List ℕ) → AreActive h T nodes → length nodes ≡ length (active_nodes h T)

@@ -8,7 +8,7 @@ use Rattle.pm_forest.specs.Forest.{Hierarchy, node_count}
 use Rattle.pm_forest.specs.Fronts.{ancestor_of, every}
 use Rattle.pm_forest.specs.Faces.{first_face, face_count, from_leaf}
 use Rattle.pm_forest.specs.Kept.{is_shown}
-use Rattle.pm_front.specs.Shown.{numbers}
+use Rattle.pm_front.specs.Shown.{numbers_below}
 use Rattle.pm_front.specs.Corners.{listed, by_node, is_under, full_list, full_lists, is_between, AreCorners}
 use Rattle.pm_front.proofs.ListLaws.{has_filter-parts, has_filter-from, once-filter}
 
@@ -71,17 +71,17 @@ corner_of-from h k e low high =
 -- ---- the full front
 
 pub full-corners : (h : Hierarchy) → ((e : ℕ) → is_shown h every e ≡ true) → ((e : ℕ) → e < 3 * face_count h → ancestor_of h every (from_leaf h e) < node_count h) →
-    ((n e : ℕ) → (has (numbers n) e ≡ true) ↔ (e < n)) → ((n : ℕ) → IsOnce (numbers n)) → AreCorners h every (full_lists h)
+    ((n e : ℕ) → (has (numbers_below n) e ≡ true) ↔ (e < n)) → ((n : ℕ) → IsOnce (numbers_below n)) → AreCorners h every (full_lists h)
 full-corners h shown low member once = record {
   nodes = length-by_node h (full_list h);
   each = each_by_node h (full_list h) (λ v e. (e < 3 * face_count h) × (is_shown h every e ≡ true) × (ancestor_of h every (from_leaf h e) ≡ v))
       (λ v e l. (
         λ t. (
-            let p = has_filter-parts (is_under h every v) (numbers (3 * face_count h)) e t in
+            let p = has_filter-parts (is_under h every v) (numbers_below (3 * face_count h)) e t in
             ((member (3 * face_count h) e).0 p.1, shown e, eqb-true (ancestor_of h every (from_leaf h e)) v p.0)
             ),
-        λ p. has_filter-from (is_under h every v) (numbers (3 * face_count h)) e (eq-eqb (ancestor_of h every (from_leaf h e)) v p.2) ((member (3 * face_count h) e).1 p.0),
+        λ p. has_filter-from (is_under h every v) (numbers_below (3 * face_count h)) e (eq-eqb (ancestor_of h every (from_leaf h e)) v p.2) ((member (3 * face_count h) e).1 p.0),
       ))
       (λ v e p. subst (λ n. n < node_count h) p.2 (low e p.0));
-  once = once_by_node h (full_list h) (λ v l. once-filter (is_under h every v) (numbers (3 * face_count h)) (once (3 * face_count h)));
+  once = once_by_node h (full_list h) (λ v l. once-filter (is_under h every v) (numbers_below (3 * face_count h)) (once (3 * face_count h)));
 }

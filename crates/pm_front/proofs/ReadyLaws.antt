@@ -5,7 +5,7 @@ use Rattle.pm_forest.specs.Forest.{Hierarchy}
 use Rattle.pm_forest.specs.Fronts.{set_of, with, without}
 use Rattle.pm_forest.proofs.Flags.{set_of-set, set_of-clear}
 use Rattle.pm_front.specs.Candidates.{Candidates, AreCandidates}
-use Rattle.pm_front.specs.State.{State, IsSound, IsReadyFront}
+use Rattle.pm_front.specs.State.{State, IsSoundFront, IsReadyFront}
 
 -- What holds of what is read holds of what it is.
 pub as_read : (P : Hierarchy → List Bool → Type 0) (g h : Hierarchy) (fs flags : List Bool) → g ≡ h → fs ≡ flags → P g fs → P h flags
@@ -17,8 +17,8 @@ ready-same s h flags c same is ready = as_read (λ (g : Hierarchy) (fs : List Bo
 
 -- After a move
 module _ (h : Hierarchy) (flags : List Bool) (k : ℕ) (l : k < length flags) (c : Candidates) where
-  pub split_ready : IsSound h (set flags k true) → AreCandidates h (with (set_of flags) k) c → IsReadyFront h (set flags k true) c
+  pub split_ready : IsSoundFront h (set flags k true) → AreCandidates h (with (set_of flags) k) c → IsReadyFront h (set flags k true) c
   split_ready sound are = record { sound = sound; candidates = subst (λ (T : ℕ → Bool). AreCandidates h T c) (sym (set_of-set flags k l)) are }
 
-  pub collapse_ready : IsSound h (set flags k false) → AreCandidates h (without (set_of flags) k) c → IsReadyFront h (set flags k false) c
+  pub collapse_ready : IsSoundFront h (set flags k false) → AreCandidates h (without (set_of flags) k) c → IsReadyFront h (set flags k false) c
   collapse_ready sound are = record { sound = sound; candidates = subst (λ (T : ℕ → Bool). AreCandidates h T c) (sym (set_of-clear flags k l)) are }

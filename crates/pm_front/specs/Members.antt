@@ -9,7 +9,7 @@ pub record Members : Type 0 where
   pub list : List ℕ
 
 -- The numbers of one list, each once.
-pub record AreNumbersOf (xs ys : List ℕ) : Type 0 where
+pub record AreSameNumbers (xs ys : List ℕ) : Type 0 where
   pub same : (x : ℕ) → has xs x ≡ has ys x
   pub once : IsOnce xs
 

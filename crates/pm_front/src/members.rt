@@ -1,8 +1,8 @@
 //! Different numbers below a bound, which can be walked in ascending order, and how many they are.
 ghost use Rattle.std.specs.Prelude.{◌≡◌, ◌<◌, ◌≤◌, ◌∷◌, [], true, false, length, IfOk};
-ghost use Rattle.pm_links.specs.Lists.{has, without, first_of, after};
+ghost use Rattle.pm_links.specs.Lists.{has, list_without, first_of, after};
 ghost use Rattle.pm_links.specs.declared.links.TheConstants.{LIMIT};
-ghost use Rattle.pm_front.specs.Members.{AreNumbersOf};
+ghost use Rattle.pm_front.specs.Members.{AreSameNumbers};
 
 use crate::OutOfMemory;
 use pm_sets::NumberSet;
@@ -43,7 +43,7 @@ impl Members {
         requires below { number < self.old.bound }
         requires absent { has self.old.list number ≡ false }
         ensures bound { self.new.bound ≡ self.old.bound }
-        ensures list { AreNumbersOf self.new.list (number ∷ self.old.list) }
+        ensures list { AreSameNumbers self.new.list (number ∷ self.old.list) }
     {
         self.numbers.insert(number);
         self.count += 1;
@@ -53,7 +53,7 @@ impl Members {
     pub(crate) fn remove(&mut self, number: u32)
         requires { has self.old.list number ≡ true }
         ensures bound { self.new.bound ≡ self.old.bound }
-        ensures list { AreNumbersOf self.new.list (without number self.old.list) }
+        ensures list { AreSameNumbers self.new.list (list_without number self.old.list) }
     {
         self.numbers.remove(number);
         self.count -= 1;

@@ -4,7 +4,7 @@ use Rattle.std.proofs.Common.{◌≡◌, ◌≢◌, ◌↔◌, ℕ, ◌<◌, ◌
 use Rattle.std.proofs.lemmas.List.{length-map, ext_get_or, get_or_past}
 use Rattle.std.proofs.lemmas.Option.{none-some}
 use Rattle.std.proofs.lemmas.Bool.{or_from, or_left, or_right, cases_lt, cases_eq, ne_eqb, false≢true, false_from_ne_true}
-use Rattle.pm_links.specs.Lists.{Lists, IsHeld, IsFree, IsSound, list_of, has, without, with_list, with_first, with_moved, without_item}
+use Rattle.pm_links.specs.Lists.{Lists, IsHeld, IsFree, IsSound, list_of, has, list_without, with_list, with_first, with_moved, without_item}
 use Rattle.pm_links.proofs.Members.{has_head, has_tail, has-append}
 use Rattle.pm_links.proofs.Without.{without_none, has-without, has-without_same, get_without}
 
@@ -88,7 +88,7 @@ module _ {v w : Lists} {head item : ℕ} (a : AfterPush v w head item) where
 -- ---- unlink
 
 pub record AfterUnlink (v w : Lists) (item : ℕ) : Type 0 where
-  pub lost : (g : ℕ) → list_of w g ≡ without item (list_of v g)
+  pub lost : (g : ℕ) → list_of w g ≡ list_without item (list_of v g)
   pub items : w.items ≡ v.items
   pub heads : length w.lists ≡ length v.lists
 
@@ -96,7 +96,7 @@ pub after_unlink : (v w : Lists) (item : ℕ) → w ≡ without_item v item → 
 after_unlink v w item e = record {
   lost = λ g. ap (λ k. list_of k g) e ∙ get_without item v.lists g;
   items = ap (λ k. k.items) e;
-  heads = ap (λ k. length k.lists) e ∙ length-map v.lists (without item);
+  heads = ap (λ k. length k.lists) e ∙ length-map v.lists (list_without item);
 }
 
 module _ {v w : Lists} {item : ℕ} (a : AfterUnlink v w item) where

@@ -4,7 +4,7 @@ use Rattle.std.proofs.Common.{◌≡◌, ◌≢◌, ℕ, ◌<◌, Some, Bool, tr
 use Rattle.std.specs.List.{filter}
 use Rattle.std.proofs.lemmas.Grind.{reverse_onto}
 use Rattle.std.proofs.lemmas.Bool.{eqb-true, eqb-false, cases_Bool}
-use Rattle.pm_links.specs.Lists.{Lists, list_of, has, first_of, IsOnce, IsSound, without, with_first, without_item}
+use Rattle.pm_links.specs.Lists.{Lists, list_of, has, first_of, IsOnce, IsSound, list_without, with_first, without_item}
 use Rattle.pm_links.specs.Dealt.{dealt}
 use Rattle.pm_links.proofs.Members.{has_head, first_is}
 use Rattle.pm_links.proofs.Without.{without_first}
@@ -28,7 +28,7 @@ moves_first v m w from to x xs s first ne low me we =
     let u = after_unlink v m x me in
     let p = after_push m w to x (rw u.heads low) we in
     record {
-      taken = p.others from (λ k. ne (sym k)) ∙ u.lost from ∙ ap (without x) first
+      taken = p.others from (λ k. ne (sym k)) ∙ u.lost from ∙ ap (list_without x) first
           ∙ without_first x xs (subst IsOnce first (s.once from));
       put = p.gained ∙ ap (λ k. x ∷ k) (others-unlink u from to s held ne);
       others = λ g nf nt. p.others g nt ∙ others-unlink u from g s held nf;

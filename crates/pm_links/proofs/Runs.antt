@@ -3,7 +3,7 @@ use Rattle.std.proofs.Common.{◌≡◌, ◌≢◌, ℕ, ◌<◌, true, false, e
 use Rattle.std.proofs.lemmas.List.{append-nil}
 use Rattle.std.proofs.lemmas.Grind.{get_or-set_at}
 use Rattle.std.proofs.lemmas.Bool.{or_parts, or_cases, or_left, or_right, eqb-true, eqb-false, eq-eqb, cases_Bool, false≢true}
-use Rattle.pm_links.specs.Lists.{has, IsOnce, without}
+use Rattle.pm_links.specs.Lists.{has, IsOnce, list_without}
 use Rattle.pm_links.specs.Arena.{IsLinked}
 use Rattle.pm_links.proofs.Members.{differs}
 use Rattle.pm_links.proofs.Without.{without_none}
@@ -117,7 +117,7 @@ module _ (next prev : List ℕ) where
   pub cut : (a : ℕ) (xs : List ℕ) (b x p q : ℕ) → p < length next → q < length prev →
       get_or prev x 0 ≡ p → get_or next x 0 ≡ q → has xs a ≡ false → has xs b ≡ false → IsOnce xs →
       has xs x ≡ true → IsLinked next prev a xs b →
-      IsLinked (set next p q) (set prev q p) a (without x xs) b
+      IsLinked (set next p q) (set prev q p) a (list_without x xs) b
   cut a [] b x p q pl ql pi qi ha hb o h l = absurd (false≢true h)
   cut a (y ∷ ys) b x p q pl ql pi qi ha hb o h l =
       let sa = or_parts (eqb y a) (has ys a) ha in

@@ -2,7 +2,7 @@
 use Rattle.std.proofs.Common.{◌≡◌, ◌≢◌, ℕ, ◌+◌, ◌<◌, ◌≤◌, true, false, List, [], get_or, set, map, sym, ◌∙◌, subst, ◌⊎◌, ⊎_elim, arith, get_or-set_other, get_or-set_same, length-set}
 use Rattle.std.proofs.lemmas.List.{length-map}
 use Rattle.std.proofs.lemmas.Bool.{cases_eq}
-use Rattle.pm_links.specs.Lists.{has, without}
+use Rattle.pm_links.specs.Lists.{has, list_without}
 use Rattle.pm_links.specs.Arena.{IsArena}
 use Rattle.pm_links.proofs.Without.{without_none, has-without, was_there, once-without, get_without}
 use Rattle.pm_links.proofs.Runs.{cut}
@@ -13,7 +13,7 @@ use Rattle.pm_links.proofs.Outside.{stays, head_out, outside_item, outside, befo
 pub unlinked : {n m : ℕ} {next prev owner : List ℕ} {ls : List (List ℕ)} →
     IsArena n m next prev owner ls → (h x p q none : ℕ) → h < m → has (get_or ls h []) x ≡ true →
     get_or prev x 0 ≡ p → get_or next x 0 ≡ q → m ≤ none →
-    IsArena n m (set next p q) (set prev q p) (set owner x none) (map (without x) ls)
+    IsArena n m (set next p q) (set prev q p) (set owner x none) (map (list_without x) ls)
 unlinked {n} {m} {next} {prev} {owner} {ls} a h x p q none hm i pi qi mn =
     let xs : List ℕ = get_or ls h [] in
     let xn : x < n = a.in_range h x hm i in
@@ -27,14 +27,14 @@ unlinked {n} {m} {next} {prev} {owner} {ls} a h x p q none hm i pi qi mn =
     let own : (y : ℕ) → y ≢ x → get_or (set owner x none) y 0 ≡ get_or owner y 0 =
     λ y ne. get_or-set_other owner x y none 0 ne in
     let own_x : get_or (set owner x none) x 0 ≡ none = get_or-set_same owner x none 0 (rw a.owner_len xn) in
-    let back : (g y : ℕ) → has (get_or (map (without x) ls) g []) y ≡ true →
+    let back : (g y : ℕ) → has (get_or (map (list_without x) ls) g []) y ≡ true →
     (y ≢ x) × (has (get_or ls g []) y ≡ true) =
     λ g y k. was_there x (get_or ls g []) y
     (subst (λ (ys : List ℕ). has ys y ≡ true) (get_without x ls g) k) in
     record {
       few_items = a.few_items;
       few_heads = a.few_heads;
-      heads = length-map ls (without x) ∙ a.heads;
+      heads = length-map ls (list_without x) ∙ a.heads;
       next_len = length-set next p q ∙ a.next_len;
       prev_len = length-set prev q p ∙ a.prev_len;
       owner_len = length-set owner x none ∙ a.owner_len;

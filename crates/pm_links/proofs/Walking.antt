@@ -4,13 +4,13 @@ use Rattle.std.specs.List.{All}
 use Rattle.std.specs.Option.{IfSome}
 use Rattle.std.proofs.lemmas.List.Elements.{Contains-get_or}
 use Rattle.std.proofs.lemmas.Bool.{or_parts, or_cases, eqb-false, eq-eqb, ne_eqb, cases_Bool, false≢true}
-use Rattle.pm_links.specs.Lists.{Lists, list_of, has, IsOnce, first_of, after, rest, IsSound}
+use Rattle.pm_links.specs.Lists.{Lists, list_of, has, IsOnce, first_of, after, rest_of_walk, IsSound}
 use Rattle.pm_links.proofs.Members.{has_head, has_tail, has_from_Contains}
 
 -- ---- what is left to see
 
 -- at the start it is the whole list
-pub rest_first : (xs : List ℕ) → rest (first_of xs) xs ≡ xs
+pub rest_first : (xs : List ℕ) → rest_of_walk (first_of xs) xs ≡ xs
 rest_first [] = refl
 rest_first (x ∷ xs) = rw (eq-eqb x x refl) refl
 
@@ -23,7 +23,7 @@ held_after x (z ∷ zs) w t =
 
 -- one step on
 pub rest_next : (xs : List ℕ) (x : ℕ) → IsOnce xs → has xs x ≡ true →
-    rest (first_of (after x xs)) xs ≡ after x xs
+    rest_of_walk (first_of (after x xs)) xs ≡ after x xs
 rest_next [] x o h = refl
 rest_next (y ∷ ys) x o h =
     ⊎_elim (λ (e : eqb y x ≡ true). rw e (at_head ys o.0))
@@ -33,14 +33,14 @@ rest_next (y ∷ ys) x o h =
     rw e (later (after x ys) (held_after x ys) ∙ rest_next ys x o.1 k))
     (cases_Bool (eqb y x))
   where
-    at_head : (zs : List ℕ) → has zs y ≡ false → rest (first_of zs) (y ∷ zs) ≡ zs
+    at_head : (zs : List ℕ) → has zs y ≡ false → rest_of_walk (first_of zs) (y ∷ zs) ≡ zs
     at_head [] n = refl
     at_head (z ∷ zs) n =
         let s = or_parts (eqb z y) (has zs y) n in
         rw (ne_eqb y z (λ t. eqb-false z y s.0 (sym t)), eq-eqb z z refl) refl
 
     later : (ws : List ℕ) → ((w : ℕ) → has ws w ≡ true → has ys w ≡ true) →
-        rest (first_of ws) (y ∷ ys) ≡ rest (first_of ws) ys
+        rest_of_walk (first_of ws) (y ∷ ys) ≡ rest_of_walk (first_of ws) ys
     later [] f = refl
     later (w ∷ ws) f =
         let inside : has ys w ≡ true = f w (has_head w ws) in

@@ -12,13 +12,13 @@ IsLinked next prev a (x ∷ xs) b =
     (slice_index next a ≡ x) × (slice_index prev x ≡ a) × IsLinked next prev x xs b
 
 -- the items from node a on, up to the first node of a head; at most k
-unfoldable pub walk : List ℕ → ℕ → ℕ → ℕ → List ℕ
-walk next n zero a = []
-walk next n (suc k) a = if nat_lt a n then a ∷ walk next n k (slice_index next a) else []
+unfoldable pub walk_items : List ℕ → ℕ → ℕ → ℕ → List ℕ
+walk_items next n zero a = []
+walk_items next n (suc k) a = if nat_lt a n then a ∷ walk_items next n k (slice_index next a) else []
 
 -- the list of each head
 unfoldable pub lists_of : ℕ → ℕ → List ℕ → List (List ℕ)
-lists_of n m next = map (λ h. walk next n n (slice_index next (n + h))) (range_with_len 0 m)
+lists_of n m next = map (λ h. walk_items next n n (slice_index next (n + h))) (range_with_len 0 m)
 
 -- the arrays of n items and m heads hold the lists ls
 pub record IsArena (n m : ℕ) (next prev owner : List ℕ) (ls : List (List ℕ)) : Type 0 where

@@ -21,8 +21,8 @@ IsOnce [] = Unit {0}
 IsOnce (x ∷ xs) = (has xs x ≡ false) × IsOnce xs
 
 -- the list with the item taken out
-abbrev pub without : ℕ → List ℕ → List ℕ
-without x xs = filter (λ y. not (nat_eq y x)) xs
+abbrev pub list_without : ℕ → List ℕ → List ℕ
+list_without x xs = filter (λ y. not (nat_eq y x)) xs
 
 -- the first item
 abbrev pub first_of : List ℕ → Option ℕ
@@ -35,9 +35,9 @@ after x [] = []
 after x (y ∷ ys) = if nat_eq y x then ys else after x ys
 
 -- what a walk that has come to this item still has to see
-abbrev pub rest : Option ℕ → List ℕ → List ℕ
-rest None xs = []
-rest (Some x) xs = x ∷ after x xs
+abbrev pub rest_of_walk : Option ℕ → List ℕ → List ℕ
+rest_of_walk None xs = []
+rest_of_walk (Some x) xs = x ∷ after x xs
 
 -- the table with v at each of the items xs
 abbrev pub set_all : List ℕ → List ℕ → ℕ → List ℕ
@@ -70,7 +70,7 @@ with_moved v from to = with_list (with_list v to (list_of v from ++ list_of v to
 
 -- the lists with the item in none of them
 abbrev pub without_item : Lists → ℕ → Lists
-without_item v x = record { items = v.items; lists = map (without x) v.lists }
+without_item v x = record { items = v.items; lists = map (list_without x) v.lists }
 
 -- what holds of the lists of every `Links`
 pub record IsSound (v : Lists) : Type 0 where

@@ -17,11 +17,11 @@ pub struct Items<'a> {
 
 impl<'a> Model for Items<'a> {
     ghost use Rattle.std.specs.Prelude.{◌≡◌, ℕ, List, true, IfSome};
-    ghost use Rattle.pm_links.specs.Lists.{list_of, has, rest};
+    ghost use Rattle.pm_links.specs.Lists.{list_of, has, rest_of_walk};
 
     ghost Value = { List ℕ };
 
-    ghost view = { λ i. rest i.cursor (list_of i.links.now i.head) };
+    ghost view = { λ i. rest_of_walk i.cursor (list_of i.links.now i.head) };
 
     ghost invariant = { λ i. IfSome i.cursor (λ x. has (list_of i.links.now i.head) x ≡ true) };
 }

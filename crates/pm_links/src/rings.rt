@@ -1,6 +1,6 @@
 //! Rings of nodes, from which lists are made.
 ghost use Rattle.std.specs.Prelude.{◌≡◌, ℕ, ◌+◌, ◌<◌, ◌≤◌, length, slice_index, slice_set};
-ghost use Rattle.pm_links.specs.Arena.{walk};
+ghost use Rattle.pm_links.specs.Arena.{walk_items};
 ghost use Rattle.pm_links.specs.Lists.{set_all};
 
 // Circular lists with links both ways and a node for each head (Knuth 1968). A ring is never empty, so
@@ -70,7 +70,7 @@ pub fn move_ring(next: &mut [u32], prev: &mut [u32], from: u32, to: u32)
 // Makes `head` the owner of each item from node `start` on, up to the node of a head.
 pub fn relabel(next: &[u32], owner: &mut [u32], start: u32, head: u32)
     requires { length owner.old ≤ length next.now }
-    ensures { owner.new ≡ set_all owner.old (walk next.now (length owner.old) (length owner.old) start) head }
+    ensures { owner.new ≡ set_all owner.old (walk_items next.now (length owner.old) (length owner.old) start) head }
 {
     let mut node = start;
     // No list has more items than there are, and so the walk comes to a head's node within the count.

@@ -6,7 +6,7 @@ use Rattle.pm_forest.specs.Faces.{face_count}
 use Rattle.pm_beyond.specs.Valid.{IsValid}
 use Rattle.pm_beyond.specs.Moves.{IsClosed}
 use Rattle.pm_manifold.specs.Measure.{is_border_side, border_after, is_least_within, begins_loop}
-use Rattle.pm_manifold.specs.Tracing.{IsBorderOf, IsInLoop}
+use Rattle.pm_manifold.specs.Tracing.{IsBorderSideIn, IsInLoop}
 use Rattle.pm_manifold.specs.Laws as law
 use Rattle.pm_manifold.proofs.Loops.{after-zero, after_border, joins, turns, begins_not}
 
@@ -20,11 +20,11 @@ lesser h T e (suc n) off =
     ]
 
 module _ (h : Hierarchy) (valid : IsValid h) (T : ℕ → Bool) (closed : IsClosed h T) where
-  border-of : (e : ℕ) → e < 3 * face_count h → begins_loop h T e ≡ true → IsBorderOf h T e
+  border-of : (e : ℕ) → e < 3 * face_count h → begins_loop h T e ≡ true → IsBorderSideIn h T e
   unfolding begins_loop
   border-of e l t = record { low = l; border = (and_parts (is_border_side h T e) (is_least_within h T e (3 * face_count h)) t).0 }
 
-  not_least : (e : ℕ) → IsBorderOf h T e → begins_loop h T e ≡ false → is_least_within h T e (3 * face_count h) ≡ false
+  not_least : (e : ℕ) → IsBorderSideIn h T e → begins_loop h T e ≡ false → is_least_within h T e (3 * face_count h) ≡ false
   unfolding begins_loop
   not_least e b off =
       elim (and_cases (is_border_side h T e) (is_least_within h T e (3 * face_count h)) off) [
@@ -38,7 +38,7 @@ module _ (h : Hierarchy) (valid : IsValid h) (T : ℕ → Bool) (closed : IsClos
     begins : begins_loop h T least ≡ true
     leads : IsInLoop h T least e
 
-  find : (n e : ℕ) → e < n → IsBorderOf h T e → Least e
+  find : (n e : ℕ) → e < n → IsBorderSideIn h T e → Least e
   find zero e l b = absurd (omega arith)
   find (suc n) e l b =
       elim (cases_Bool (begins_loop h T e)) [
@@ -50,7 +50,7 @@ module _ (h : Hierarchy) (valid : IsValid h) (T : ℕ → Bool) (closed : IsClos
             record { least = r.least; low = r.low; begins = r.begins; leads = joins h valid T closed r.least x e r.leads (turns h valid T closed e x b (i, refl)) }
       ]
 
-  same_least : (g k e : ℕ) → IsBorderOf h T g → IsBorderOf h T k → begins_loop h T g ≡ true → begins_loop h T k ≡ true → IsInLoop h T g e → IsInLoop h T k e → g ≡ k
+  same_least : (g k e : ℕ) → IsBorderSideIn h T g → IsBorderSideIn h T k → begins_loop h T g ≡ true → begins_loop h T k ≡ true → IsInLoop h T g e → IsInLoop h T k e → g ≡ k
   same_least g k e bg bk tg tk a b =
       elim (cases_order g k) [
         | inl is ↦ is

@@ -9,7 +9,7 @@ use Rattle.pm_beyond.specs.Valid.{IsValid}
 use Rattle.pm_beyond.specs.Moves.{IsClosed}
 use Rattle.pm_beyond.proofs.Standing.{closed-front}
 use Rattle.pm_manifold.specs.Measure.{is_border_side, next_border, border_after, is_least_within, begins_loop}
-use Rattle.pm_manifold.specs.Tracing.{IsBorderOf, IsInLoop, mark_at, AreMarkedBelow}
+use Rattle.pm_manifold.specs.Tracing.{IsBorderSideIn, IsInLoop, mark_at, AreMarkedBelow}
 use Rattle.pm_manifold.proofs.KeptSides.{next_is_border}
 use Rattle.pm_manifold.proofs.NextBorders.{one_before}
 
@@ -58,28 +58,28 @@ module _ (h : Hierarchy) (valid : IsValid h) (T : ℕ → Bool) (closed : IsClos
   abbrev sides : ℕ
   sides = 3 * face_count h
 
-  pub after_border : (e n : ℕ) → IsBorderOf h T e → IsBorderOf h T (border_after h T e n)
-  after_border e zero b = subst (IsBorderOf h T) (sym (after-zero h T e)) b
-  after_border e (suc n) b = subst (IsBorderOf h T) (sym (after-suc h T e n)) (next_is_border h valid T closed (border_after h T e n) (after_border e n b))
+  pub after_border : (e n : ℕ) → IsBorderSideIn h T e → IsBorderSideIn h T (border_after h T e n)
+  after_border e zero b = subst (IsBorderSideIn h T) (sym (after-zero h T e)) b
+  after_border e (suc n) b = subst (IsBorderSideIn h T) (sym (after-suc h T e n)) (next_is_border h valid T closed (border_after h T e n) (after_border e n b))
 
   -- Each loop comes back.
   abbrev step : ℕ → Option ℕ
   step x = Some (next_border h T x)
 
-  step-one : (p q o : ℕ) → IsBorderOf h T p → IsBorderOf h T q → step p ≡ Some o → step q ≡ Some o → p ≡ q
+  step-one : (p q o : ℕ) → IsBorderSideIn h T p → IsBorderSideIn h T q → step p ≡ Some o → step q ≡ Some o → p ≡ q
   step-one p q o bp bq a b = one_before h valid T (closed-front h T closed) p q bp.low bq.low bp.border bq.border (same_Some (next_border h T p) o a ∙ sym (same_Some (next_border h T q) o b))
 
-  step-keeps : (p o : ℕ) → IsBorderOf h T p → step p ≡ Some o → IsBorderOf h T o
-  step-keeps p o b is = subst (IsBorderOf h T) (same_Some (next_border h T p) o is) (next_is_border h valid T closed p b)
+  step-keeps : (p o : ℕ) → IsBorderSideIn h T p → step p ≡ Some o → IsBorderSideIn h T o
+  step-keeps p o b is = subst (IsBorderSideIn h T) (same_Some (next_border h T p) o is) (next_is_border h valid T closed p b)
 
   steps-are : (e n : ℕ) → after_steps step e n ≡ border_after h T e n
   steps-are e zero = after_steps-zero step e ∙ sym (after-zero h T e)
   steps-are e (suc n) = after_steps-suc step e n (next_border h T (after_steps step e n)) refl ∙ ap (next_border h T) (steps-are e n) ∙ sym (after-suc h T e n)
 
-  pub comes_back : (e : ℕ) → IsBorderOf h T e → (p : ℕ) × (1 ≤ p) × (p ≤ 3 * face_count h) × (border_after h T e p ≡ e)
+  pub comes_back : (e : ℕ) → IsBorderSideIn h T e → (p : ℕ) × (1 ≤ p) × (p ≤ 3 * face_count h) × (border_after h T e p ≡ e)
   comes_back e b =
-      let (l, trail, end) = trail-ends step (IsBorderOf h T) step-keeps step-one e b sides (λ p q. q.low) in
-      let short = trail-lt step (IsBorderOf h T) step-keeps step-one e b sides (λ p q. q.low) l trail in
+      let (l, trail, end) = trail-ends step (IsBorderSideIn h T) step-keeps step-one e b sides (λ p q. q.low) in
+      let short = trail-lt step (IsBorderSideIn h T) step-keeps step-one e b sides (λ p q. q.low) l trail in
       elim end [
         | inl stops ↦ absurd (none-some (next_border h T (after_steps step e l)) (sym stops))
         | inr returns ↦
@@ -89,18 +89,18 @@ module _ (h : Hierarchy) (valid : IsValid h) (T : ℕ → Bool) (closed : IsClos
   pub joins : (e x y : ℕ) → IsInLoop h T e x → IsInLoop h T x y → IsInLoop h T e y
   joins e x y (m, a) (n, b) = (m + n, sym (after-add h T e m n) ∙ ap (λ i. border_after h T i n) a ∙ b)
 
-  pub turns : (e x : ℕ) → IsBorderOf h T e → IsInLoop h T e x → IsInLoop h T x e
+  pub turns : (e x : ℕ) → IsBorderSideIn h T e → IsInLoop h T e x → IsInLoop h T x e
   turns e x b (n, is) =
       let (p, some, low, back) = comes_back e b in
       let (i, l, same) = periodic h T e p some back n in
       let z : i + (p - i) ≡ p = omega arith in
       (p - i, ap (λ j. border_after h T j (p - i)) (sym is ∙ same) ∙ after-add h T e i (p - i) ∙ ap (border_after h T e) z ∙ back)
 
-  pub loop_border : (e x : ℕ) → IsBorderOf h T e → IsInLoop h T e x → IsBorderOf h T x
-  loop_border e x b (n, is) = subst (IsBorderOf h T) is (after_border e n b)
+  pub loop_border : (e x : ℕ) → IsBorderSideIn h T e → IsInLoop h T e x → IsBorderSideIn h T x
+  loop_border e x b (n, is) = subst (IsBorderSideIn h T) is (after_border e n b)
 
   -- The least side of a loop is that which is in no lesser side's loop.
-  pub begins : (e : ℕ) → IsBorderOf h T e → ((g : ℕ) → g < e → IsBorderOf h T g → IsInLoop h T g e → ⊥) → begins_loop h T e ≡ true
+  pub begins : (e : ℕ) → IsBorderSideIn h T e → ((g : ℕ) → g < e → IsBorderSideIn h T g → IsInLoop h T g e → ⊥) → begins_loop h T e ≡ true
   unfolding begins_loop
   begins e b none =
       and_from (is_border_side h T e) (is_least_within h T e (3 * face_count h)) b.border (least-from h T e (3 * face_count h) (λ i l.
@@ -109,7 +109,7 @@ module _ (h : Hierarchy) (valid : IsValid h) (T : ℕ → Bool) (closed : IsClos
         | inl less ↦ absurd (none (border_after h T e i) less (after_border e i b) (turns e (border_after h T e i) b (i, refl)))
       ]))
 
-  pub begins_not : (e g : ℕ) → g < e → IsBorderOf h T g → IsInLoop h T g e → begins_loop h T e ≡ false
+  pub begins_not : (e g : ℕ) → g < e → IsBorderSideIn h T g → IsInLoop h T g e → begins_loop h T e ≡ false
   unfolding begins_loop
   begins_not e g less bg loop =
       false_from_ne_true (is_border_side h T e && is_least_within h T e (3 * face_count h)) (λ t.
@@ -145,7 +145,7 @@ module _ (h : Hierarchy) (valid : IsValid h) (T : ℕ → Bool) (closed : IsClos
     ],
   )
 
-  pub marks_more : (n : ℕ) (old new : List Bool) → IsBorderOf h T n → ((i : ℕ) → (mark_at new i ≡ true) ↔ ((mark_at old i ≡ true) ⊎ IsInLoop h T n i)) → AreMarkedBelow h T n old → AreMarkedBelow h T (n + 1) new
+  pub marks_more : (n : ℕ) (old new : List Bool) → IsBorderSideIn h T n → ((i : ℕ) → (mark_at new i ≡ true) ↔ ((mark_at old i ≡ true) ⊎ IsInLoop h T n i)) → AreMarkedBelow h T n old → AreMarkedBelow h T (n + 1) new
   marks_more n old new bn marked are i = (
     λ t. elim ((marked i).0 t) [
       | inl o ↦ (let (g, l, b, loop) = (are i).0 o in (g, omega arith, b, loop))
@@ -157,7 +157,7 @@ module _ (h : Hierarchy) (valid : IsValid h) (T : ℕ → Bool) (closed : IsClos
     ]),
   )
 
-  pub begins_unmarked : (n : ℕ) (marks : List Bool) → IsBorderOf h T n → mark_at marks n ≡ false → AreMarkedBelow h T n marks → begins_loop h T n ≡ true
+  pub begins_unmarked : (n : ℕ) (marks : List Bool) → IsBorderSideIn h T n → mark_at marks n ≡ false → AreMarkedBelow h T n marks → begins_loop h T n ≡ true
   begins_unmarked n marks b off are = begins n b (λ g l bg loop. both_ways (mark_at marks n) off ((are n).1 (g, l, bg, loop)))
 
   pub begins_marked : (n : ℕ) (marks : List Bool) → mark_at marks n ≡ true → AreMarkedBelow h T n marks → begins_loop h T n ≡ false

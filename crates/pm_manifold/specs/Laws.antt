@@ -10,7 +10,7 @@ use Rattle.pm_beyond.specs.Valid.{IsValid}
 use Rattle.pm_beyond.specs.Moves.{IsClosed}
 use Rattle.pm_firm.specs.Firm.{IsFirm}
 use Rattle.pm_manifold.specs.Measure.{is_border_side, euler_of, euler_of_mesh, next_border, begins_loop}
-use Rattle.pm_manifold.specs.Tracing.{IsBorderOf, IsInLoop}
+use Rattle.pm_manifold.specs.Tracing.{IsBorderSideIn, IsInLoop}
 
 -- A border side is a side of a kept face beyond which nothing stands.
 abbrev pub BorderSidesStandAlone : Type 0
@@ -59,4 +59,4 @@ pub record HasOneLoop (h : Hierarchy) (T : ℕ → Bool) (e : ℕ) : Type 0 wher
 
 abbrev pub EachLoopHasOneLeast : Type 0
 EachLoopHasOneLeast =
-    (h : Hierarchy) → IsValid h → (T : ℕ → Bool) → IsClosed h T → (e : ℕ) → IsBorderOf h T e → HasOneLoop h T e
+    (h : Hierarchy) → IsValid h → (T : ℕ → Bool) → IsClosed h T → (e : ℕ) → IsBorderSideIn h T e → HasOneLoop h T e

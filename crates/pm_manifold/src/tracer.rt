@@ -5,7 +5,7 @@ ghost use Rattle.pm_base.specs.Counts.{count};
 ghost use Rattle.pm_forest.specs.Fronts.{set_of};
 ghost use Rattle.pm_forest.specs.Faces.{face_count};
 ghost use Rattle.pm_manifold.specs.Measure.{nodes_shown, edges_shown, faces_shown, border_sides, loops_shown};
-ghost use Rattle.pm_manifold.specs.Tracing.{IsBorderOf, IsInLoop, mark_at};
+ghost use Rattle.pm_manifold.specs.Tracing.{IsBorderSideIn, IsInLoop, mark_at};
 
 use crate::OutOfMemory;
 use crate::sides::{is_border, next_border};
@@ -102,7 +102,7 @@ fn clear(marks: &mut Vec<bool>)
 // Marks the sides of a loop.
 fn mark_loop(marks: &mut Vec<bool>, front: &Front, first: Side)
     requires len { length marks.old.items ≡ 3 * face_count front.now.h }
-    requires border { IsBorderOf front.now.h (set_of front.now.flags) first.0 }
+    requires border { IsBorderSideIn front.now.h (set_of front.now.flags) first.0 }
     ensures len { length marks.new.items ≡ length marks.old.items }
     ensures marked { (i : ℕ) → (mark_at marks.new.items i ≡ true)
         ↔ ((mark_at marks.old.items i ≡ true) ⊎ IsInLoop front.now.h (set_of front.now.flags) first.0 i) }

@@ -7,7 +7,7 @@ use Rattle.pm_forest.specs.Places.{place_of_node}
 use Rattle.pm_front.specs.Shown.{active_nodes}
 use Rattle.pm_frame.specs.Frame.{node_line, shown_node}
 use Rattle.pm_morph.specs.Elders.{elder_of}
-use Rattle.pm_morph.specs.Interpolation.{place_at}
+use Rattle.pm_morph.specs.Interpolation.{morph_place_at}
 use Rattle.pm_morph.specs.Texts.{moved_node}
 use Rattle.pm_morph.specs.Laws as law
 use Rattle.pm_morph.proofs.ElderLaws.{is_elder, only_elder}
@@ -18,8 +18,8 @@ use Rattle.pm_morph.proofs.InterpolationLaws.{place_at_end, place_at_start}
 pub elders : law.EachNodeHasOneElder
 elders h shape T S marked front part v active = (is_elder h shape T S marked front part v active, only_elder h shape T S marked front part v active)
 
-own_place : (h : Hierarchy) (T : ℕ → Bool) (b v : ℕ) → 0 < b → place_at h T b b v ≡ place_of_node h v
-unfolding place_at
+own_place : (h : Hierarchy) (T : ℕ → Bool) (b v : ℕ) → 0 < b → morph_place_at h T b b v ≡ place_of_node h v
+unfolding morph_place_at
 own_place h T b v some = place_at_end b (place_of_node h (elder_of h T v)) (place_of_node h v) some
 
 own_line : (h : Hierarchy) (T : ℕ → Bool) (b v : ℕ) → 0 < b → moved_node h T b b v ≡ shown_node h v
@@ -29,7 +29,7 @@ pub ends : law.EndsAtTheFrame
 ends h T S b some = ap (λ (line : ℕ → List ℕ). flat_map line (active_nodes h S)) (fun_ext (λ v. own_line h T b v some))
 
 pub starts : law.StartsAtElders
-unfolding place_at
+unfolding morph_place_at
 starts h T b v some = place_at_start b (place_of_node h (elder_of h T v)) (place_of_node h v) some
 
 pub faces : law.EldersShowTheMarkedFront

@@ -14,5 +14,5 @@ abbrev pub place_between : ℕ → ℕ → Place → Place → Place
 place_between a b elder own = record { x = interpolated a b elder.x own.x; y = interpolated a b elder.y own.y; z = interpolated a b elder.z own.z }
 
 -- The place of node v at a/b, where T is the marked front.
-unfoldable pub place_at : Hierarchy → (ℕ → Bool) → ℕ → ℕ → ℕ → Place
-place_at h T a b v = place_between a b (place_of_node h (elder_of h T v)) (place_of_node h v)
+unfoldable pub morph_place_at : Hierarchy → (ℕ → Bool) → ℕ → ℕ → ℕ → Place
+morph_place_at h T a b v = place_between a b (place_of_node h (elder_of h T v)) (place_of_node h v)

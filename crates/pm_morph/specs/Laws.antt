@@ -8,7 +8,7 @@ use Rattle.pm_forest.specs.Rules.{HasShape}
 use Rattle.pm_front.specs.Shown.{kept_faces}
 use Rattle.pm_frame.specs.Frame.{node_lines}
 use Rattle.pm_morph.specs.Elders.{IsPart, IsElder, elder_of, unsplit_of}
-use Rattle.pm_morph.specs.Interpolation.{place_at}
+use Rattle.pm_morph.specs.Interpolation.{morph_place_at}
 use Rattle.pm_morph.specs.Texts.{moved_lines}
 
 -- Each active node of the finer front has one elder.
@@ -23,7 +23,7 @@ EndsAtTheFrame = (h : Hierarchy) (T S : ℕ → Bool) (b : ℕ) → 0 < b → mo
 
 -- At its start each node stands at its elder's place.
 abbrev pub StartsAtElders : Type 0
-StartsAtElders = (h : Hierarchy) (T : ℕ → Bool) (b v : ℕ) → 0 < b → place_at h T 0 b v ≡ place_of_node h (elder_of h T v)
+StartsAtElders = (h : Hierarchy) (T : ℕ → Bool) (b v : ℕ) → 0 < b → morph_place_at h T 0 b v ≡ place_of_node h (elder_of h T v)
 
 -- A face that is shown: its number, and the nodes at its corners.
 pub record ShownFace : Type 0 where
@@ -32,12 +32,12 @@ pub record ShownFace : Type 0 where
   pub b : ℕ
   pub c : ℕ
 
-abbrev pub shown_at : Hierarchy → (ℕ → Bool) → ℕ → ShownFace
-shown_at h T f = record { number = f; a = ancestor_of h T (from_leaf h (3 * f)); b = ancestor_of h T (from_leaf h (3 * f + 1)); c = ancestor_of h T (from_leaf h (3 * f + 2)) }
+abbrev pub shown_face_at : Hierarchy → (ℕ → Bool) → ℕ → ShownFace
+shown_face_at h T f = record { number = f; a = ancestor_of h T (from_leaf h (3 * f)); b = ancestor_of h T (from_leaf h (3 * f + 1)); c = ancestor_of h T (from_leaf h (3 * f + 2)) }
 
 -- The faces that a front shows, ascending by number.
 abbrev pub shown_faces : Hierarchy → (ℕ → Bool) → List ShownFace
-shown_faces h T = map (shown_at h T) (kept_faces h T)
+shown_faces h T = map (shown_face_at h T) (kept_faces h T)
 
 -- A face with each corner replaced by its elder, and whether its corners are three nodes.
 abbrev pub with_elders : Hierarchy → (ℕ → Bool) → ShownFace → ShownFace

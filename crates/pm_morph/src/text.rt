@@ -5,7 +5,7 @@ ghost use Rattle.pm_forest.specs.Forest.{node_count};
 ghost use Rattle.pm_forest.specs.Fronts.{set_of, is_active};
 ghost use Rattle.pm_morph.specs.Elders.{IsPart};
 ghost use Rattle.pm_morph.specs.Marks.{AreMarksOf};
-ghost use Rattle.pm_morph.specs.Texts.{morph_line, first_line, moved_node, moved_lines, morph_text};
+ghost use Rattle.pm_morph.specs.Texts.{morph_line, first_morph_line, moved_node, moved_lines, morph_text};
 ghost use Rattle.pm_morph.specs.declared.limits.TheConstants.{MOST_PARTS};
 
 use crate::elder::elder;
@@ -40,7 +40,7 @@ fn put_first<K: Sink>(
     page: &mut Page,
     out: &mut K,
 ) -> Result<(), WriteFault>
-    ensures { let text = first_line front.now.h (set_of front.now.flags) a b in
+    ensures { let text = first_morph_line front.now.h (set_of front.now.flags) a b in
         PutsThrough K.Sink out.old out.new page.old page.new text result }
 {
     let mut line = Line::new();
@@ -49,7 +49,7 @@ fn put_first<K: Sink>(
 }
 
 // The line of an active node at a/b of the way from its elder's place to its own.
-#[tactic(auto, unfolding(crate::specs::Interpolation::place_at))]
+#[tactic(auto, unfolding(crate::specs::Interpolation::morph_place_at))]
 fn put_moved(front: &Front, marks: &[bool], a: u32, b: u32, line: &mut Line, node: NodeId)
     requires marks { AreMarksOf front.now.h marks.now }
     requires part { IsPart front.now.h (set_of marks.now) (set_of front.now.flags) }

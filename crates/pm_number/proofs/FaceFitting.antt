@@ -11,7 +11,7 @@ use Rattle.pm_forest.specs.declared.parts.Face.{Face}
 use Rattle.pm_forest.specs.declared.parts.NewFace.{NewFace}
 use Rattle.pm_forest.specs.declared.parts.Record.{Record}
 use Rattle.pm_forest.specs.Forest.{Hierarchy, record_at, record_count, no_record, leaf_count, s_of, t_of, u_of, holds, interval_of, Interval, HasForestShape}
-use Rattle.pm_forest.specs.Faces.{no_corners, face_in, faces_in, faces_of, first_face, face_count, revealed_by, is_left, corners_of, from_leaf, to_leaf, inner_of}
+use Rattle.pm_forest.specs.Faces.{no_face_corners, face_in, faces_in, faces_of, first_face, face_count, revealed_by, is_left, corners_of, from_leaf, to_leaf, inner_of}
 use Rattle.pm_forest.specs.Moves.{side_in, neighbours_in, neighbours_of}
 use Rattle.pm_forest.specs.Rules.{face_inputs, face_input_is_bad, base_fault, runs, new_face_is_bad, new_face_fault, bare, left_only, with_record, word_of, past_from, past_fault}
 use Rattle.pm_forest.proofs.Prefix.{cut, faces_of-with_record}
@@ -113,8 +113,8 @@ module _ (r : Run) (run : IsMerging r) (few : r.net.faces ≤ 1048576) where
       (unused-from (face_inputs fs) (corners_of h f).input (λ k m same.
       let (j, j_lt, j_is, other) = input-is k (omega arith) in
       let read : get_or (face_inputs fs) k 0 ≡ (corners_of h k).input =
-      get_or-map (λ (x : Face). x.input) fs k no_corners 0 (omega arith)
-      ∙ ap (λ (x : Face). x.input) (sym (get_or_append_left fs more no_corners k (omega arith)) ∙ ap (λ (xs : List Face). get_or xs k no_corners) (sym is) ∙ sym (corners_of-faces_of h k (omega arith))) in
+      get_or-map (λ (x : Face). x.input) fs k no_face_corners 0 (omega arith)
+      ∙ ap (λ (x : Face). x.input) (sym (get_or_append_left fs more no_face_corners k (omega arith)) ∙ ap (λ (xs : List Face). get_or xs k no_face_corners) (sym is) ∙ sym (corners_of-faces_of h k (omega arith))) in
       let one : j ≡ g = omega arith in
       let face = ap (face_number r) one in
       omega arith))
@@ -133,14 +133,14 @@ module _ (r : Run) (run : IsMerging r) (few : r.net.faces ≤ 1048576) where
 
   -- Base faces
 
-  base-is : (j : ℕ) → j < length (hierarchy_of r).bases → get_or (hierarchy_of r).bases j no_corners ≡ corners_of (hierarchy_of r) j
+  base-is : (j : ℕ) → j < length (hierarchy_of r).bases → get_or (hierarchy_of r).bases j no_face_corners ≡ corners_of (hierarchy_of r) j
   unfolding faces_of first_face
   base-is j l =
       let all = first_face-mono h 0 (record_count h) (omega arith) in
-      sym (get_or_append_left h.bases (flat_map faces_in h.records) no_corners j l) ∙ sym (corners_of-faces_of h j (omega arith))
+      sym (get_or_append_left h.bases (flat_map faces_in h.records) no_face_corners j l) ∙ sym (corners_of-faces_of h j (omega arith))
 
   pub base_fits : (j : ℕ) → j < length (hierarchy_of r).bases →
-      base_fault (hierarchy_of r).roots (take j (hierarchy_of r).bases) (get_or (hierarchy_of r).bases j no_corners) ≡ None
+      base_fault (hierarchy_of r).roots (take j (hierarchy_of r).bases) (get_or (hierarchy_of r).bases j no_face_corners) ≡ None
   unfolding faces_of first_face
   base_fits j l =
       let all = first_face-mono h 0 (record_count h) (omega arith) in
@@ -251,7 +251,7 @@ module _ (r : Run) (run : IsMerging r) (few : r.net.faces ≤ 1048576) where
 
   -- The end
 
-  none_past : (g : Hierarchy) (f : ℕ) (fs : List Face) → ((k : ℕ) → k < length fs → (get_or fs k no_corners).input ≤ face_count g) → past_from g f fs ≡ None
+  none_past : (g : Hierarchy) (f : ℕ) (fs : List Face) → ((k : ℕ) → k < length fs → (get_or fs k no_face_corners).input ≤ face_count g) → past_from g f fs ≡ None
   none_past g f [] below = refl
   none_past g f (x ∷ fs) below =
       cond-false (ltb (face_count g) x.input) _ _ (le-ltb (face_count g) x.input (below 0 (omega arith)))

@@ -8,14 +8,14 @@ use Rattle.pm_base.specs.Counts.{one_if}
 use Rattle.pm_base.specs.Sides.{face_of}
 use Rattle.pm_base.specs.declared.log.Gone.{Gone}
 use Rattle.pm_forest.proofs.FaceNumbers.{first_face-mono, revealed-parts, revealed-from, which_face}
-use Rattle.pm_forest.specs.Faces.{no_corners, no_face, first_face, face_count, revealed_by, is_left, corners_at, corners_of, from_leaf}
+use Rattle.pm_forest.specs.Faces.{no_face_corners, no_face, first_face, face_count, revealed_by, is_left, corners_told_by, corners_of, from_leaf}
 use Rattle.pm_forest.specs.Forest.{record_count, record_at}
 use Rattle.pm_forest.specs.declared.parts.Face.{Face}
 use Rattle.pm_number.proofs.NodeNumbers.{count, record-at}
 use Rattle.pm_number.proofs.Positions.{at_place, place-once, picked-at}
 use Rattle.pm_number.proofs.Stages.{side-face, base-first}
 use Rattle.pm_number.specs.Numbering.{place_in, dropped_by, base_faces, step_of, faces_before, face_number, leaf_number, numbered_face, numbered_gone, hierarchy_of}
-use Rattle.pm_number.specs.Stages.{Run, steps, entry, net_after, IsGone, IsMerging, side_by}
+use Rattle.pm_number.specs.Stages.{Run, steps, entry_at, net_of_run_after, IsGone, IsMerging, side_by}
 use Rattle.pm_number.proofs.NumberedFaces.{gone-side, numbered-some, some_gone, base-none, left-number, right-number, none-number, face_is, first-face, first-base, first-next, is_base, is_left_of, is_right_of}
 
 module _ (r : Run) (run : IsMerging r) where
@@ -37,7 +37,7 @@ module _ (r : Run) (run : IsMerging r) where
             let k_lt : k < steps r = omega arith in
             let first_is = first-face r run k (omega arith) in
             let up = first-next r run k k_lt in
-            let here : (step_of r k).left ≡ Some g = ap (λ n. (entry r n).left) back ∙ is in
+            let here : (step_of r k).left ≡ Some g = ap (λ n. (entry_at r n).left) back ∙ is in
             let one : one_if (is_some (step_of r k).left) ≡ 1 = ap (λ x. one_if (is_some x)) here in
             left_at k g k_lt here on (omega arith) (omega arith)
         | is_right_of i g i_lt is on n ↦
@@ -46,9 +46,9 @@ module _ (r : Run) (run : IsMerging r) where
             let k_lt : k < steps r = omega arith in
             let first_is = first-face r run k (omega arith) in
             let up = first-next r run k k_lt in
-            let here : (step_of r k).right ≡ Some g = ap (λ n. (entry r n).right) back ∙ is in
+            let here : (step_of r k).right ≡ Some g = ap (λ n. (entry_at r n).right) back ∙ is in
             let one : one_if (is_some (step_of r k).right) ≡ 1 = ap (λ x. one_if (is_some x)) here in
-            let left_is : one_if (is_some (step_of r k).left) ≡ one_if (is_some (entry r i).left) = ap (λ n. one_if (is_some (entry r n).left)) back in
+            let left_is : one_if (is_some (step_of r k).left) ≡ one_if (is_some (entry_at r i).left) = ap (λ n. one_if (is_some (entry_at r n).left)) back in
             right_at k g k_lt here on (omega arith) (omega arith)
       ]
 
@@ -108,8 +108,8 @@ module _ (r : Run) (run : IsMerging r) where
             ]
       ]
 
-  pub gone-lt : (k : ℕ) (p q : ℕ) (g : Option Gone) (x : Gone) → IsGone (net_after r k) p q g → g ≡ Some x → x.face.0 < r.net.faces
-  gone-lt k p q g x a e = let (y, runs, on) = gone-side (net_after r k) p q g x a e in let l = runs.stands.is_side in omega arith
+  pub gone-lt : (k : ℕ) (p q : ℕ) (g : Option Gone) (x : Gone) → IsGone (net_of_run_after r k) p q g → g ≡ Some x → x.face.0 < r.net.faces
+  gone-lt k p q g x a e = let (y, runs, on) = gone-side (net_of_run_after r k) p q g x a e in let l = runs.stands.is_side in omega arith
 
   pub face-back : (f : ℕ) → f < face_count (hierarchy_of r) → (g : ℕ) × (g < r.net.faces) × (face_number r g ≡ f)
   unfolding base_faces
@@ -133,20 +133,20 @@ module _ (r : Run) (run : IsMerging r) where
             let logged = run.logged i i_lt in
             let first_is = first-face r run k (omega arith) in
             let again = ap (faces_before r) back in
-            let left_is : is_some (record_at h k).left ≡ is_some (entry r i).left = ap (λ c. is_some c.left) (record-at r k s_lt) ∙ numbered-some r (entry r i).left in
-            let right_is : is_some (record_at h k).right ≡ is_some (entry r i).right = ap (λ c. is_some c.right) (record-at r k s_lt) ∙ numbered-some r (entry r i).right in
+            let left_is : is_some (record_at h k).left ≡ is_some (entry_at r i).left = ap (λ c. is_some c.left) (record-at r k s_lt) ∙ numbered-some r (entry_at r i).left in
+            let right_is : is_some (record_at h k).right ≡ is_some (entry_at r i).right = ap (λ c. is_some c.right) (record-at r k s_lt) ∙ numbered-some r (entry_at r i).right in
             let one = ap one_if left_is in
             elim (which_face h f k l e) [
               | inl p ↦
-                  let (g, g_is) = some_gone (entry r i).left (sym left_is ∙ p.0) in
+                  let (g, g_is) = some_gone (entry_at r i).left (sym left_is ∙ p.0) in
                   let n = left-number r run i g i_lt g_is in
                   let q = p.1 in
-                  (g.face.0, gone-lt i _ _ (entry r i).left g logged.left g_is, omega arith)
+                  (g.face.0, gone-lt i _ _ (entry_at r i).left g logged.left g_is, omega arith)
               | inr p ↦
-                  let (g, g_is) = some_gone (entry r i).right (sym right_is ∙ p.0) in
+                  let (g, g_is) = some_gone (entry_at r i).right (sym right_is ∙ p.0) in
                   let n = right-number r run i g i_lt g_is in
                   let q = p.1 in
-                  (g.face.0, gone-lt i _ _ (entry r i).right g logged.right g_is, omega arith)
+                  (g.face.0, gone-lt i _ _ (entry_at r i).right g logged.right g_is, omega arith)
             ]
       ]
 
@@ -164,14 +164,14 @@ module _ (r : Run) (run : IsMerging r) where
       elim (lies f l) [
         | base_at a b d ↦
             let e : revealed_by h n ≡ None = base-none h (record_count h) n a in
-            ap (corners_at h n) e ∙ get_or-map (numbered_face r) (base_faces r) n 0 no_corners (omega arith) ∙ ap (λ j. numbered_face r (get_or (base_faces r) j 0)) b ∙ ap (numbered_face r) (at_place f 0 (base_faces r) d)
+            ap (corners_told_by h n) e ∙ get_or-map (numbered_face r) (base_faces r) n 0 no_face_corners (omega arith) ∙ ap (λ j. numbered_face r (get_or (base_faces r) j 0)) b ∙ ap (numbered_face r) (at_place f 0 (base_faces r) d)
         | left_at k g k_lt is on is_n top ↦
             let e = revealed-from h n k (omega arith) (omega arith) top in
             let has : is_some (record_at h k).left ≡ true = ap (λ c. is_some c.left) (record-at r k k_lt) ∙ numbered-some r (step_of r k).left ∙ ap is_some is in
             let left : is_left h k n ≡ true = and_from _ _ has (eq-eqb n (first_face h k) is_n) in
             let x = unwrap_or (record_at h k).left no_face in
             let y = unwrap_or (record_at h k).right no_face in
-            ap (corners_at h n) e ∙ ap (λ z. z.face) (cond-true _ x y left) ∙ ap (λ c. (unwrap_or c.left no_face).face) (record-at r k k_lt) ∙ face_of_some (step_of r k).left g is ∙ ap (numbered_face r) on
+            ap (corners_told_by h n) e ∙ ap (λ z. z.face) (cond-true _ x y left) ∙ ap (λ c. (unwrap_or c.left no_face).face) (record-at r k k_lt) ∙ face_of_some (step_of r k).left g is ∙ ap (numbered_face r) on
         | right_at k g k_lt is on is_n top ↦
             let e = revealed-from h n k (omega arith) (omega arith) top in
             let left_is : is_some (record_at h k).left ≡ is_some (step_of r k).left = ap (λ c. is_some c.left) (record-at r k k_lt) ∙ numbered-some r (step_of r k).left in
@@ -182,7 +182,7 @@ module _ (r : Run) (run : IsMerging r) where
             ] in
             let x = unwrap_or (record_at h k).left no_face in
             let y = unwrap_or (record_at h k).right no_face in
-            ap (corners_at h n) e ∙ ap (λ z. z.face) (cond-false _ x y left) ∙ ap (λ c. (unwrap_or c.right no_face).face) (record-at r k k_lt) ∙ face_of_some (step_of r k).right g is ∙ ap (numbered_face r) on
+            ap (corners_told_by h n) e ∙ ap (λ z. z.face) (cond-false _ x y left) ∙ ap (λ c. (unwrap_or c.right no_face).face) (record-at r k k_lt) ∙ face_of_some (step_of r k).right g is ∙ ap (numbered_face r) on
       ]
 
   side-corner : (e : ℕ) → side_by (face_number r) e % 3 ≡ e % 3

@@ -8,7 +8,7 @@ use Rattle.pm_base.specs.declared.log.Gone.{Gone}
 use Rattle.pm_base.specs.declared.log.Collapse.{Collapse}
 use Rattle.pm_forest.specs.Forest.{record_count}
 use Rattle.pm_forest.proofs.FaceNumbers.{first_face-mono}
-use Rattle.pm_number.specs.Stages.{Run, steps, entry, IsMerging}
+use Rattle.pm_number.specs.Stages.{Run, steps, entry_at, IsMerging}
 use Rattle.pm_number.specs.Numbering.{dropped_by, place_in, base_faces, step_of, faces_before, face_number, hierarchy_of}
 use Rattle.pm_number.specs.Tables.{HasNumbers, RootsHave, GoneHas, with_gone}
 use Rattle.pm_number.proofs.Positions.{at_place, picked-at}
@@ -62,9 +62,9 @@ dropped_fit r run d l n is =
     let i_lt : i < steps r = omega arith in
     let back : steps r - suc i ≡ d = omega arith in
     let logged = run.logged i i_lt in (
-      fits_from (face_number r) (step_of r d).left n r.net.faces (λ x x_is. (left-number r run i x i_lt x_is ∙ ap (faces_before r) back ∙ sym is, gone-lt r run i _ _ (entry r i).left x logged.left x_is)),
+      fits_from (face_number r) (step_of r d).left n r.net.faces (λ x x_is. (left-number r run i x i_lt x_is ∙ ap (faces_before r) back ∙ sym is, gone-lt r run i _ _ (entry_at r i).left x logged.left x_is)),
       fits_from (face_number r) (step_of r d).right (n + one_if (is_some (step_of r d).left)) r.net.faces (λ x x_is.
-          (right-number r run i x i_lt x_is ∙ ap (λ k. faces_before r k + one_if (is_some (entry r i).left)) back ∙ ap (λ k. k + one_if (is_some (entry r i).left)) (sym is), gone-lt r run i _ _ (entry r i).right x logged.right x_is)),
+          (right-number r run i x i_lt x_is ∙ ap (λ k. faces_before r k + one_if (is_some (entry_at r i).left)) back ∙ ap (λ k. k + one_if (is_some (entry_at r i).left)) (sym is), gone-lt r run i _ _ (entry_at r i).right x logged.right x_is)),
     )
 
 pub faces_next : (r : Run) (d : ℕ) → faces_before r (d + 1) ≡ faces_before r d + one_if (is_some (step_of r d).left) + one_if (is_some (step_of r d).right)
@@ -84,13 +84,13 @@ pub faces_start : (r : Run) → faces_before r 0 ≡ length (base_faces r)
 unfolding faces_before
 faces_start r = refl
 
-pub dropped_more : (r : Run) → IsMerging r → (table : List ℕ) (d n : ℕ) (c : Collapse) → c ≡ entry r (steps r - 1 - d) → d < steps r → length table ≡ r.net.faces → n ≡ faces_before r d →
+pub dropped_more : (r : Run) → IsMerging r → (table : List ℕ) (d n : ℕ) (c : Collapse) → c ≡ entry_at r (steps r - 1 - d) → d < steps r → length table ≡ r.net.faces → n ≡ faces_before r d →
     ((j : ℕ) → j < length (base_faces r) → RootsHave table (face_number r) (base_faces r) j) → RecordsHave r table d →
     let after = with_gone (with_gone table c.left n) c.right (n + one_if (is_some c.left)) in
     (length after ≡ r.net.faces) × (n + one_if (is_some c.left) + one_if (is_some c.right) ≡ faces_before r (d + 1)) × ((j : ℕ) → j < length (base_faces r) → RootsHave after (face_number r) (base_faces r) j) × RecordsHave r after (d + 1)
 dropped_more r run table d n c is l len n_is bases records =
     let same : steps r - 1 - d ≡ steps r - suc d = omega arith in
-    let c_is : c ≡ step_of r d = is ∙ ap (entry r) same in
+    let c_is : c ≡ step_of r d = is ∙ ap (entry_at r) same in
     let m = n + one_if (is_some c.left) in
     let fits : GoneFits (face_number r) c.left n r.net.faces × GoneFits (face_number r) c.right (n + one_if (is_some c.left)) r.net.faces =
     subst (λ (x : Collapse). GoneFits (face_number r) x.left n r.net.faces × GoneFits (face_number r) x.right (n + one_if (is_some x.left)) r.net.faces) (sym c_is) (dropped_fit r run d l n n_is) in
@@ -127,9 +127,9 @@ faces_all r run table len bases records = record {
     | is_base place is ↦ subst (λ w. get_or table w 0 ≡ face_number r w) (at_place f 0 (base_faces r) place) (bases (place_in f (base_faces r)) place)
     | is_left_of i g i_lt g_is on is ↦
         let back : steps r - suc (steps r - suc i) ≡ i = omega arith in
-        rw (← on) (gone_read table (face_number r) (step_of r (steps r - suc i)).left g (ap (λ k. (entry r k).left) back ∙ g_is) (records (steps r - suc i) (omega arith)).0)
+        rw (← on) (gone_read table (face_number r) (step_of r (steps r - suc i)).left g (ap (λ k. (entry_at r k).left) back ∙ g_is) (records (steps r - suc i) (omega arith)).0)
     | is_right_of i g i_lt g_is on is ↦
         let back : steps r - suc (steps r - suc i) ≡ i = omega arith in
-        rw (← on) (gone_read table (face_number r) (step_of r (steps r - suc i)).right g (ap (λ k. (entry r k).right) back ∙ g_is) (records (steps r - suc i) (omega arith)).1)
+        rw (← on) (gone_read table (face_number r) (step_of r (steps r - suc i)).right g (ap (λ k. (entry_at r k).right) back ∙ g_is) (records (steps r - suc i) (omega arith)).1)
   ];
 }

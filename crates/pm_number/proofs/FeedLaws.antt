@@ -17,18 +17,18 @@ use Rattle.pm_forest.specs.declared.parts.Shape.{Shape}
 use Rattle.pm_forest.specs.declared.parts.Unfinished.{Unfinished}
 use Rattle.pm_forest.specs.declared.parts.UnitKind.TheVariants as kinds
 use Rattle.pm_forest.specs.Forest.{Hierarchy, record_at, record_count}
-use Rattle.pm_forest.specs.Faces.{no_corners}
+use Rattle.pm_forest.specs.Faces.{no_face_corners}
 use Rattle.pm_forest.specs.Places.{no_root}
 use Rattle.pm_forest.specs.Rules.{root_fault, base_fault, head_of, head_fault, presence_is_bad, new_face_fault, bare, left_only, with_record, word_of, counts_of}
 use Rattle.pm_forest.specs.Shaping.{Shaping, expects, so_far, next_root, next_face, started, settled, with_face}
 use Rattle.pm_forest.proofs.Prefix.{cut, cut-more}
 use Rattle.pm_forest.proofs.FacesTaken.{side_of-word}
 use Rattle.pm_runs.specs.Merged.{StandsAcross}
-use Rattle.pm_number.specs.Stages.{Run, steps, net_after, IsGone, IsMerging}
+use Rattle.pm_number.specs.Stages.{Run, steps, net_of_run_after, IsGone, IsMerging}
 use Rattle.pm_number.specs.Numbering.{step_of, place_number, width_number, input_number, numbered_root, numbered_face, numbered_side, numbered_gone, hierarchy_of}
 use Rattle.pm_number.proofs.NodeNumbers.{record-at}
 use Rattle.pm_number.proofs.FacePositions.{gone-lt}
-use Rattle.pm_number.specs.Tables.{coordinates, took_roots, took_bases, first_records, took_records, took_head, took_left}
+use Rattle.pm_number.specs.Tables.{coordinates, took_roots, took_bases, first_records, took_records, with_head_taken, took_left}
 use Rattle.pm_beyond.specs.Walks.{number_of}
 
 -- where there is no fault, the answer is what comes with no fault
@@ -60,13 +60,13 @@ expects_base h s i is l =
     rw (is, le-ltb (length h.roots) (length h.roots) (omega arith), lt-ltb (length (take i h.bases)) (length h.bases) (omega arith)) refl
 
 pub base_taken : (h : Hierarchy) (s new : Shaping) (i : ℕ) (x : Face) (result : Result (Unit {0}) Shape) → s ≡ took_bases h i → i < length h.bases →
-    x ≡ get_or h.bases i no_corners → base_fault h.roots (take i h.bases) (get_or h.bases i no_corners) ≡ None →
+    x ≡ get_or h.bases i no_face_corners → base_fault h.roots (take i h.bases) (get_or h.bases i no_face_corners) ≡ None →
     IfErr result (λ e. base_fault s.h.roots s.h.bases x ≡ Some e) →
     OnOk result (new ≡ record s { h = record s.h { bases = s.h.bases ++ x ∷ [] } }) → new ≡ took_bases h (i + 1)
 base_taken h s new i x result is l x_is fits err ok =
     let none : base_fault s.h.roots s.h.bases x ≡ None = rw (is, x_is) fits in
     ok_only (new ≡ record s { h = record s.h { bases = s.h.bases ++ x ∷ [] } }) result (base_fault s.h.roots s.h.bases x) none err ok
-    ∙ rw (is, x_is, take_more h.bases i no_corners l) refl
+    ∙ rw (is, x_is, take_more h.bases i no_face_corners l) refl
 
 -- Heads
 
@@ -87,7 +87,7 @@ started_is x fits = let due = due_is x.left x.right fits in rw (due.0, due.1) re
 
 pub head_taken : (h : Hierarchy) (s new : Shaping) (k : ℕ) (d : Head) (result : Result (Unit {0}) Shape) → s ≡ took_records h k → presence_is_bad (head_of (record_at h k)).presence ≡ false →
     d ≡ head_of (record_at h k) → head_fault (cut h k) (head_of (record_at h k)) ≡ None →
-    IfErr result (λ e. head_fault s.h d ≡ Some e) → OnOk result (new ≡ record s { coming = Some (started d) }) → new ≡ took_head h k
+    IfErr result (λ e. head_fault s.h d ≡ Some e) → OnOk result (new ≡ record s { coming = Some (started d) }) → new ≡ with_head_taken h k
 head_taken h s new k d result is some d_is fits err ok =
     let none : head_fault s.h d ≡ None = rw (is, d_is) fits in
     ok_only (new ≡ record s { coming = Some (started d) }) result (head_fault s.h d) none err ok
@@ -96,7 +96,7 @@ head_taken h s new k d result is some d_is fits err ok =
 -- New faces
 
 -- the left face of a record, as it was sent
-pub expects_left : (h : Hierarchy) (s : Shaping) (k : ℕ) (n : NewFace) → s ≡ took_head h k → (record_at h k).left ≡ Some n → (expects s ≡ kinds.LeftFace) ⊎ (expects s ≡ kinds.RightFace)
+pub expects_left : (h : Hierarchy) (s : Shaping) (k : ℕ) (n : NewFace) → s ≡ with_head_taken h k → (record_at h k).left ≡ Some n → (expects s ≡ kinds.LeftFace) ⊎ (expects s ≡ kinds.RightFace)
 expects_left h s k n is left = inl (rw (is, left) refl)
 
 left_settled : (c : Counts) (g whole : Hierarchy) (x : Record) (n : NewFace) (o : Option NewFace) → x.left ≡ Some n → x.right ≡ o → with_record g x ≡ whole →
@@ -107,7 +107,7 @@ left_settled c g whole x n None left right all =
     rw (same, all) refl
 left_settled c g whole x n (Some m) left right all = rw left refl
 
-pub left_taken : (h : Hierarchy) (s new : Shaping) (k : ℕ) (f : Face) (first second : ℕ) (n : NewFace) (result : Result (Unit {0}) Shape) → s ≡ took_head h k → k < record_count h →
+pub left_taken : (h : Hierarchy) (s new : Shaping) (k : ℕ) (f : Face) (first second : ℕ) (n : NewFace) (result : Result (Unit {0}) Shape) → s ≡ with_head_taken h k → k < record_count h →
     (record_at h k).left ≡ Some n → next_face f first second ≡ n →
     f ≡ n.face → first ≡ word_of n.first → second ≡ word_of n.second →
     new_face_fault (with_record (cut h k) (bare (record_at h k))) true n.face (word_of n.first) (word_of n.second) ≡ None →
@@ -127,7 +127,7 @@ left_taken h s new k f first second n result is l left next f_is first_is second
 
 -- a record without a left face has its right one still to come
 pub no_left : (h : Hierarchy) (k : ℕ) (o : Option NewFace) → (record_at h k).right ≡ o → presence_is_bad (head_of (record_at h k)).presence ≡ false → (record_at h k).left ≡ None →
-    took_head h k ≡ took_left h k
+    with_head_taken h k ≡ took_left h k
 no_left h k None right fits none =
     let bad : presence_is_bad 0 ≡ false = rw (none, right) at fits in
     absurd cc
@@ -179,11 +179,11 @@ pub record Sent (r : Run) (o : Option Gone) (g : Gone) : Type 0 where
   pub first_is : numbered_side r g.first ≡ taken.first
   pub second_is : numbered_side r g.second ≡ taken.second
 
-pub sent : (r : Run) (i p q : ℕ) (o : Option Gone) (g : Gone) → IsMerging r → o ≡ Some g → IsGone (net_after r i) p q o → Sent r o g
+pub sent : (r : Run) (i p q : ℕ) (o : Option Gone) (g : Gone) → IsMerging r → o ≡ Some g → IsGone (net_of_run_after r i) p q o → Sent r o g
 sent r i p q o g run is gone = record {
   face = gone-lt r run i p q o g gone is;
-  first = λ e. (sides_inside (net_after r i) p q o g is gone e).0;
-  second = λ e. (sides_inside (net_after r i) p q o g is gone e).1;
+  first = λ e. (sides_inside (net_of_run_after r i) p q o g is gone e).0;
+  second = λ e. (sides_inside (net_of_run_after r i) p q o g is gone e).1;
   taken = record { face = numbered_face r g.face.0; first = numbered_side r g.first; second = numbered_side r g.second };
   is = ap (numbered_gone r) is;
   face_is = refl;

@@ -18,7 +18,7 @@ use Rattle.pm_forest.proofs.Nodes.{interval-kept, splitter_of-splits}
 use Rattle.pm_forest.proofs.Prefix.{cut, record_count-cut, s_of-cut, interval_of-cut}
 use Rattle.pm_forest.proofs.FaceNumbers.{first_face-mono}
 use Rattle.pm_forest.proofs.InputLaws.{node_inputs-length, input-root, input-cut}
-use Rattle.pm_number.specs.Stages.{Run, steps, entry, net_after, IsGone, IsMerging}
+use Rattle.pm_number.specs.Stages.{Run, steps, entry_at, net_of_run_after, IsGone, IsMerging}
 use Rattle.pm_number.specs.Numbering.{taken_by, left_over, step_of, node_number, width_number, leaf_number, place_number, input_number, numbered_root, hierarchy_of}
 use Rattle.pm_number.proofs.RunLaws.{ends_given}
 use Rattle.pm_number.proofs.Positions.{picked-at}
@@ -78,10 +78,10 @@ module _ (r : Run) (run : IsMerging r) where
         | inr later ↦
             let i = v - r.vertices in
             let i_lt : i < steps r = omega arith in
-            let named : (entry r i).s ≡ v = (let n = run.named i i_lt in omega arith) in
+            let named : (entry_at r i).s ≡ v = (let n = run.named i i_lt in omega arith) in
             let both = width-step r run i i_lt in
-            let t = some r run (entry r i).t in
-            let u = some r run (entry r i).u in
+            let t = some r run (entry_at r i).t in
+            let u = some r run (entry_at r i).u in
             let is = ap (width_number r) named in
             inr (λ one. omega arith, input-later r run v later)
       ]
@@ -163,7 +163,7 @@ module _ (r : Run) (run : IsMerging r) where
           rest = rw same wide_enough.1;
         }
 
-    some_face : (g g' : Option Gone) → IsGone (net_after r (steps r - suc k)) (step_of r k).t (step_of r k).u g → IsGone (net_after r (steps r - suc k)) (step_of r k).u (step_of r k).t g' →
+    some_face : (g g' : Option Gone) → IsGone (net_of_run_after r (steps r - suc k)) (step_of r k).t (step_of r k).u g → IsGone (net_of_run_after r (steps r - suc k)) (step_of r k).u (step_of r k).t g' →
         presence_is_bad (one_if (is_some g) + 2 * one_if (is_some g')) ≡ false
     some_face None None left right = absurd (elim (run.linkable (steps r - suc k) (omega arith)).joined [ inl a ↦ left a | inr a ↦ right a ])
     some_face None (Some g') left right = refl

@@ -10,7 +10,7 @@ use Rattle.pm_forest.specs.Forest.{Hierarchy, leaf_count, record_count}
 use Rattle.pm_forest.specs.declared.parts.Shape.{Shape}
 use Rattle.pm_forest.specs.Rules.{counts_of, counts_are_bad, past_fault}
 use Rattle.pm_forest.specs.Shaping.{Shaping, expects, nothing_in}
-use Rattle.pm_runs.specs.Runs.{IsStart, IsRun}
+use Rattle.pm_runs.specs.Runs.{IsStartOfRun, IsRun}
 use Rattle.pm_number.specs.Stages.{Run, run_of, steps}
 use Rattle.pm_number.specs.Numbering.{hierarchy_of, hierarchy_of_run}
 use Rattle.pm_number.specs.Tables.{IsSmallRun, first_records, took_records}
@@ -20,7 +20,7 @@ use Rattle.pm_number.proofs.Merging.{merging}
 use Rattle.pm_number.proofs.NodeNumbers.{count}
 use Rattle.pm_number.proofs.RunCounts.{node-count}
 
-pub small_run : (m : Mesh) (log : List Collapse) → IsStart m → IsRun m log → IsSmallRun (run_of m log)
+pub small_run : (m : Mesh) (log : List Collapse) → IsStartOfRun m → IsRun m log → IsSmallRun (run_of m log)
 small_run m log start run =
     let told = merging m log start run in
     let nodes = node-count (run_of m log) told in

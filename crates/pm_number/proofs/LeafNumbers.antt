@@ -9,7 +9,7 @@ use Rattle.pm_number.proofs.NodeNumbers.{stays_left, as_t, as_u, node-t, node-u,
 use Rattle.pm_number.proofs.Positions.{interval-same, root-interval, before-within, map_map}
 use Rattle.pm_number.proofs.RunLaws.{ends_given}
 use Rattle.pm_number.specs.Numbering.{place_in, left_over, step_of, node_number, width_after, width_number, start_after, leaf_number, numbered_root, hierarchy_of}
-use Rattle.pm_number.specs.Stages.{Run, steps, entry, IsMerging}
+use Rattle.pm_number.specs.Stages.{Run, steps, entry_at, IsMerging}
 
 module _ (r : Run) (run : IsMerging r) where
   -- Widths
@@ -22,14 +22,14 @@ module _ (r : Run) (run : IsMerging r) where
         | inl c ↦ (let is : suc n ≡ i = omega arith in ap (λ n. width_after r n v) is)
         | inr c ↦
             let named = run.named n b in
-            let other : v ≢ (entry r n).s = omega arith in
-            cond-false _ (width_after r n (entry r n).t + width_after r n (entry r n).u) (width_after r n v) (ne_eqb v (entry r n).s other) ∙ width-kept i n v c (omega arith) l
+            let other : v ≢ (entry_at r n).s = omega arith in
+            cond-false _ (width_after r n (entry_at r n).t + width_after r n (entry_at r n).u) (width_after r n v) (ne_eqb v (entry_at r n).s other) ∙ width-kept i n v c (omega arith) l
       ]
 
-  pub width-step : (i : ℕ) → i < steps r → width_number r (entry r i).s ≡ width_number r (entry r i).t + width_number r (entry r i).u
+  pub width-step : (i : ℕ) → i < steps r → width_number r (entry_at r i).s ≡ width_number r (entry_at r i).t + width_number r (entry_at r i).u
   unfolding width_after
   width-step i l =
-      let c = entry r i in
+      let c = entry_at r i in
       let g = ends_given r run i l in
       let named = run.named i l in
       let t = width-kept i (steps r) c.t (omega arith) (omega arith) g.0 in
@@ -46,7 +46,7 @@ module _ (r : Run) (run : IsMerging r) where
   unfolding width_after
   some-width zero v = omega arith
   some-width (suc n) v =
-      let c = entry r n in
+      let c = entry_at r n in
       let t = some-width n c.t in
       elim (cases_eq v c.s) [
         | inl is ↦ (let e = cond-true _ (width_after r n c.t + width_after r n c.u) (width_after r n v) (eq-eqb v c.s is) in omega arith)
@@ -82,10 +82,10 @@ module _ (r : Run) (run : IsMerging r) where
   h = hierarchy_of r
 
   -- the vertex that a collapse makes is taken later, if at all
-  pub older : (i : ℕ) → i < steps r → node_number r (entry r i).s < length (left_over r) + 2 * (steps r - suc i)
+  pub older : (i : ℕ) → i < steps r → node_number r (entry_at r i).s < length (left_over r) + 2 * (steps r - suc i)
   older i l =
       let named = run.named i l in
-      elim (node_of r run (entry r i).s (omega arith)) [
+      elim (node_of r run (entry_at r i).s (omega arith)) [
         | stays_left a b c ↦ omega arith
         | as_t j j_lt is c ↦ (let g = ends_given r run j j_lt in omega arith)
         | as_u j j_lt is c ↦ (let g = ends_given r run j j_lt in omega arith)
@@ -119,7 +119,7 @@ module _ (r : Run) (run : IsMerging r) where
   is_at (suc d) v l m n =
       let i = steps r - suc d in
       let i_lt : i < steps r = omega arith in
-      let c = entry r i in
+      let c = entry_at r i in
       let k = hierarchy_of r in
       let roots = root-count r in
       let named = run.named i i_lt in
@@ -197,7 +197,7 @@ module _ (r : Run) (run : IsMerging r) where
         let k_lt : k < steps r = omega arith in
         let i = steps r - suc k in
         let i_lt : i < steps r = omega arith in
-        let e = entry r i in
+        let e = entry_at r i in
         let named = run.named i i_lt in
         let is : interval_of (hierarchy_of r) (s_of (hierarchy_of r) k) ≡ record { from = leaf_number r e.s; until = leaf_number r e.s + width_number r e.s } = ap (interval_of (hierarchy_of r)) (s-of r k k_lt) ∙ interval-end e.s (omega arith) in
         let from_is : (interval_of (hierarchy_of r) (s_of (hierarchy_of r) k)).from ≡ leaf_number r e.s = ap (λ x. x.from) is in
@@ -243,6 +243,6 @@ module _ (r : Run) (run : IsMerging r) where
             let j_lt : j < steps r = omega arith in
             let named = run.named i i_lt in
             let back : steps r - suc j ≡ i = omega arith in
-            let is : v ≡ (step_of r j).s = (let q : (step_of r j).s ≡ (entry r i).s = ap (λ n. (entry r n).s) back in omega arith) in
+            let is : v ≡ (step_of r j).s = (let q : (step_of r j).s ≡ (entry_at r i).s = ap (λ n. (entry_at r n).s) back in omega arith) in
             absurd (active.1 j (omega arith) (lt-ltb j (steps r) j_lt) (s-of r j j_lt ∙ ap (node_number r) (sym is) ∙ v_is))
       ]

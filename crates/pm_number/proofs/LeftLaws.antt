@@ -9,7 +9,7 @@ use Rattle.pm_base.specs.declared.log.Collapse.{Collapse}
 use Rattle.std.proofs.lemmas.Bool.{cases_eq, cases_Bool, eqb-true, eq-eqb, ne_eqb}
 use Rattle.pm_base.specs.Sides.{find_below}
 use Rattle.pm_base.specs.declared.log.Gone.{Gone}
-use Rattle.pm_number.specs.Stages.{Run, no_collapse, steps, entry, net_after, IsGone, IsMerging}
+use Rattle.pm_number.specs.Stages.{Run, no_collapse, steps, entry_at, net_of_run_after, IsGone, IsMerging}
 use Rattle.pm_number.specs.Numbering.{picked, takes, taken_by, is_gone, drops, dropped_by, left_over, base_faces}
 use Rattle.pm_number.specs.Tables.{is_unset}
 use Rattle.pm_number.proofs.FacePositions.{gone-lt}
@@ -50,24 +50,24 @@ not_some None b is = rw is refl
 not_some (Some x) b is = rw is refl
 
 -- a face that the log drops is a face
-gone_some : (r : Run) (i p q : ℕ) (g : Option Gone) → IsMerging r → IsGone (net_after r i) p q g → (f : ℕ) → is_gone f g ≡ true → f < r.net.faces
+gone_some : (r : Run) (i p q : ℕ) (g : Option Gone) → IsMerging r → IsGone (net_of_run_after r i) p q g → (f : ℕ) → is_gone f g ≡ true → f < r.net.faces
 gone_some r i p q None run gone f is = absurd cc
 gone_some r i p q (Some x) run gone f is = rw (← eqb-true x.face.0 f is) (gone-lt r run i p q (Some x) x gone refl)
 
 pub gone_inside : (r : Run) (i : ℕ) → IsMerging r → i < steps r → (f : ℕ) →
-    (is_gone f (entry r i).left ≡ true → f < r.net.faces) × (is_gone f (entry r i).right ≡ true → f < r.net.faces)
+    (is_gone f (entry_at r i).left ≡ true → f < r.net.faces) × (is_gone f (entry_at r i).right ≡ true → f < r.net.faces)
 gone_inside r i run l f = (
-  gone_some r i (entry r i).t (entry r i).u (entry r i).left run (run.logged i l).left f,
-  gone_some r i (entry r i).u (entry r i).t (entry r i).right run (run.logged i l).right f,
+  gone_some r i (entry_at r i).t (entry_at r i).u (entry_at r i).left run (run.logged i l).left f,
+  gone_some r i (entry_at r i).u (entry_at r i).t (entry_at r i).right run (run.logged i l).right f,
 )
 
 -- what a read of the log gives
-pub entry_read : (r : Run) (i : ℕ) (c : Collapse) → i < steps r → c ≡ get_or r.log i c → c ≡ entry r i
-unfolding entry
+pub entry_read : (r : Run) (i : ℕ) (c : Collapse) → i < steps r → c ≡ get_or r.log i c → c ≡ entry_at r i
+unfolding entry_at
 entry_read r i c l is = is ∙ get_or_default r.log i c no_collapse l
 
 -- flags after one more collapse
-pub taken_more : (r : Run) (flags : List Bool) (i n : ℕ) (c : Collapse) → c ≡ entry r i → length flags ≡ n → c.t < n → c.u < n →
+pub taken_more : (r : Run) (flags : List Bool) (i n : ℕ) (c : Collapse) → c ≡ entry_at r i → length flags ≡ n → c.t < n → c.u < n →
     ((v : ℕ) → v < n → get_or flags v false ≡ is_some (find_below (takes r v) i)) →
     (v : ℕ) → v < n → get_or (set (set flags c.t true) c.u true) v false ≡ is_some (find_below (takes r v) (i + 1))
 taken_more r flags i n c is len t u before v l =
@@ -78,7 +78,7 @@ taken_more r flags i n c is len t u before v l =
     flag_set flags' c.u v second ∙ ap (λ b. eqb c.u v || b) (flag_set flags c.t v first) ∙ both
     ∙ rw (is, before v l) (sym (is_some-next (takes r v) i))
 
-pub dropped_more : (r : Run) (before middle after : List Bool) (i n : ℕ) (c : Collapse) → c ≡ entry r i → length before ≡ n → length middle ≡ length before →
+pub dropped_more : (r : Run) (before middle after : List Bool) (i n : ℕ) (c : Collapse) → c ≡ entry_at r i → length before ≡ n → length middle ≡ length before →
     ((f : ℕ) → f < length before → get_or middle f false ≡ (is_gone f c.left || get_or before f false)) →
     ((f : ℕ) → f < length middle → get_or after f false ≡ (is_gone f c.right || get_or middle f false)) →
     ((f : ℕ) → f < n → get_or before f false ≡ is_some (find_below (drops r f) i)) →
@@ -110,7 +110,7 @@ pub record EntryFits (r : Run) (i : ℕ) (c : Collapse) : Type 0 where
   pub left : (f : ℕ) → is_gone f c.left ≡ true → f < r.net.faces
   pub right : (f : ℕ) → is_gone f c.right ≡ true → f < r.net.faces
 
-pub entry_fits : (r : Run) (i : ℕ) (c : Collapse) → IsMerging r → i < steps r → c ≡ entry r i → EntryFits r i c
+pub entry_fits : (r : Run) (i : ℕ) (c : Collapse) → IsMerging r → i < steps r → c ≡ entry_at r i → EntryFits r i c
 entry_fits r i c run l is =
     let ends = ends_given r run i l in
     rw is (record {

@@ -7,7 +7,7 @@ use Rattle.pm_forest.specs.Fronts.{IsActive, below}
 use Rattle.pm_number.proofs.LeafNumbers.{forest}
 use Rattle.pm_number.proofs.NodeNumbers.{stays_left, as_t, as_u, takes-t, takes-u, takes-parts, node-t, node-u, node_of, node-once, node-back, root-count, count, s-of}
 use Rattle.pm_number.specs.Numbering.{takes, left_over, step_of, node_number, hierarchy_of, IsThereAfter}
-use Rattle.pm_number.specs.Stages.{Run, steps, entry, IsMerging}
+use Rattle.pm_number.specs.Stages.{Run, steps, entry_at, IsMerging}
 
 module _ (r : Run) (run : IsMerging r) (i k : ℕ) (is : i + k ≡ steps r) where
   -- a record below k doesn't split the node of a vertex given by then
@@ -66,7 +66,7 @@ module _ (r : Run) (run : IsMerging r) (i k : ℕ) (is : i + k ≡ steps r) wher
             let j = steps r - suc o in
             let named = run.named o o_lt in
             let back : steps r - suc j ≡ o = omega arith in
-            let same : (step_of r j).s ≡ (entry r o).s = ap (λ n. (entry r n).s) back in
+            let same : (step_of r j).s ≡ (entry_at r o).s = ap (λ n. (entry_at r n).s) back in
             let v_s : (step_of r j).s ≡ v = omega arith in
             absurd (active.1 j (omega arith) (lt-ltb j k (omega arith)) (s-of r j (omega arith) ∙ ap (node_number r) v_s ∙ v_is))
       ] in

@@ -8,29 +8,29 @@ use Rattle.pm_forest.specs.Forest.{record_count, record_at, no_record, s_of}
 use Rattle.pm_number.proofs.Positions.{place-once, picked-has, picked-at}
 use Rattle.pm_number.proofs.RunLaws.{used_t, used_u, ends_given, never_again}
 use Rattle.pm_number.specs.Numbering.{place_in, takes, taken_by, left_over, step_of, node_at, node_number, numbered_step, numbered_root, hierarchy_of}
-use Rattle.pm_number.specs.Stages.{IsBegun, Run, steps, entry, net_after, IsMerging}
+use Rattle.pm_number.specs.Stages.{BeginsSide, Run, steps, entry_at, net_of_run_after, IsMerging}
 
-pub takes-parts : (r : Run) (v i : ℕ) → takes r v i ≡ true → ((entry r i).t ≡ v) ⊎ ((entry r i).u ≡ v)
+pub takes-parts : (r : Run) (v i : ℕ) → takes r v i ≡ true → ((entry_at r i).t ≡ v) ⊎ ((entry_at r i).u ≡ v)
 takes-parts r v i e = elim (or_cases _ _ e) [ inl a ↦ inl (eqb-true _ _ a) | inr a ↦ inr (eqb-true _ _ a) ]
 
-pub takes-t : (r : Run) (i : ℕ) → takes r (entry r i).t i ≡ true
-takes-t r i = or_left _ _ (eq-eqb (entry r i).t (entry r i).t refl)
+pub takes-t : (r : Run) (i : ℕ) → takes r (entry_at r i).t i ≡ true
+takes-t r i = or_left _ _ (eq-eqb (entry_at r i).t (entry_at r i).t refl)
 
-pub takes-u : (r : Run) (i : ℕ) → takes r (entry r i).u i ≡ true
-takes-u r i = or_right _ _ (eq-eqb (entry r i).u (entry r i).u refl)
+pub takes-u : (r : Run) (i : ℕ) → takes r (entry_at r i).u i ≡ true
+takes-u r i = or_right _ _ (eq-eqb (entry_at r i).u (entry_at r i).u refl)
 
 module _ (r : Run) (run : IsMerging r) where
   -- no vertex is taken twice
-  used_once : (i j v : ℕ) → i < steps r → j < i → takes r v j ≡ true → IsBegun (net_after r i) v → ⊥
+  used_once : (i j v : ℕ) → i < steps r → j < i → takes r v j ≡ true → BeginsSide (net_of_run_after r i) v → ⊥
   used_once i j v l m e (g, g_lt, is) =
       let n = never_again r run i j g (omega arith) m g_lt in
       elim (takes-parts r v j e) [ inl z ↦ n.0 (is ∙ sym z) | inr z ↦ n.1 (is ∙ sym z) ]
 
-  taken_used : (i v : ℕ) → i < steps r → takes r v i ≡ true → IsBegun (net_after r i) v
+  taken_used : (i v : ℕ) → i < steps r → takes r v i ≡ true → BeginsSide (net_of_run_after r i) v
   taken_used i v l e =
       elim (takes-parts r v i e) [
-        | inl z ↦ subst (IsBegun (net_after r i)) z (used_t r run i l)
-        | inr z ↦ subst (IsBegun (net_after r i)) z (used_u r run i l)
+        | inl z ↦ subst (BeginsSide (net_of_run_after r i)) z (used_t r run i l)
+        | inr z ↦ subst (BeginsSide (net_of_run_after r i)) z (used_u r run i l)
       ]
 
   takes-same : (i j v : ℕ) → i < steps r → j < steps r → takes r v i ≡ true → takes r v j ≡ true → i ≡ j
@@ -54,7 +54,7 @@ module _ (r : Run) (run : IsMerging r) where
   unfolding taken_by
   taken-parts i v e = let p = find_below-some (takes r v) (steps r) i e in (p.1, p.0)
 
-  pub t_differs : (i : ℕ) → i < steps r → (entry r i).t ≢ (entry r i).u
+  pub t_differs : (i : ℕ) → i < steps r → (entry_at r i).t ≢ (entry_at r i).u
   t_differs i l z =
       elim (run.linkable i l).joined [
         | inl (e, w) ↦ w.stands.first (w.begins ∙ z ∙ sym w.ends)
@@ -62,26 +62,26 @@ module _ (r : Run) (run : IsMerging r) where
       ]
 
   -- The nodes of the two ends
-  pub node-t : (i : ℕ) → i < steps r → node_number r (entry r i).t ≡ length (left_over r) + 2 * (steps r - suc i)
+  pub node-t : (i : ℕ) → i < steps r → node_number r (entry_at r i).t ≡ length (left_over r) + 2 * (steps r - suc i)
   unfolding node_number
   node-t i l =
-      let v = (entry r i).t in
+      let v = (entry_at r i).t in
       let base = length (left_over r) + 2 * (steps r - suc i) in
-      let none : cond (eqb (entry r i).t v) 0 1 ≡ 0 = cond-true _ 0 1 (eq-eqb v v refl) in
+      let none : cond (eqb (entry_at r i).t v) 0 1 ≡ 0 = cond-true _ 0 1 (eq-eqb v v refl) in
       ap (node_at r v) (taken-by i v l (takes-t r i)) ∙ ap (λ n. base + n) none ∙ (let plain : base + 0 ≡ base = omega arith in plain)
 
-  pub node-u : (i : ℕ) → i < steps r → node_number r (entry r i).u ≡ length (left_over r) + 2 * (steps r - suc i) + 1
+  pub node-u : (i : ℕ) → i < steps r → node_number r (entry_at r i).u ≡ length (left_over r) + 2 * (steps r - suc i) + 1
   unfolding node_number
   node-u i l =
-      let v = (entry r i).u in
-      let one : cond (eqb (entry r i).t v) 0 1 ≡ 1 = cond-false _ 0 1 (ne_eqb (entry r i).t v (t_differs i l)) in
+      let v = (entry_at r i).u in
+      let one : cond (eqb (entry_at r i).t v) 0 1 ≡ 1 = cond-false _ 0 1 (ne_eqb (entry_at r i).t v (t_differs i l)) in
       ap (node_at r v) (taken-by i v l (takes-u r i)) ∙ ap (λ n. length (left_over r) + 2 * (steps r - suc i) + n) one
 
   -- Each vertex is left, or is an end of a collapse
   pub data NodeOf (v : ℕ) : Type 0 where
     stays_left : taken_by r v ≡ None → place_in v (left_over r) < length (left_over r) → node_number r v ≡ place_in v (left_over r) → NodeOf v
-    as_t : (i : ℕ) → i < steps r → v ≡ (entry r i).t → node_number r v ≡ length (left_over r) + 2 * (steps r - suc i) → NodeOf v
-    as_u : (i : ℕ) → i < steps r → v ≡ (entry r i).u → node_number r v ≡ length (left_over r) + 2 * (steps r - suc i) + 1 → NodeOf v
+    as_t : (i : ℕ) → i < steps r → v ≡ (entry_at r i).t → node_number r v ≡ length (left_over r) + 2 * (steps r - suc i) → NodeOf v
+    as_u : (i : ℕ) → i < steps r → v ≡ (entry_at r i).u → node_number r v ≡ length (left_over r) + 2 * (steps r - suc i) + 1 → NodeOf v
 
   pub none-left : (v : ℕ) → taken_by r v ≡ None → node_number r v ≡ place_in v (left_over r)
   unfolding node_number
@@ -115,14 +115,14 @@ module _ (r : Run) (run : IsMerging r) where
         | as_t i i_lt is c ↦
             elim (node_of w m) [
               | stays_left a' b' c' ↦ absurd (omega arith)
-              | as_t j j_lt is' c' ↦ (let same : i ≡ j = omega arith in is ∙ ap (λ n. (entry r n).t) same ∙ sym is')
+              | as_t j j_lt is' c' ↦ (let same : i ≡ j = omega arith in is ∙ ap (λ n. (entry_at r n).t) same ∙ sym is')
               | as_u j j_lt is' c' ↦ absurd (omega arith)
             ]
         | as_u i i_lt is c ↦
             elim (node_of w m) [
               | stays_left a' b' c' ↦ absurd (omega arith)
               | as_t j j_lt is' c' ↦ absurd (omega arith)
-              | as_u j j_lt is' c' ↦ (let same : i ≡ j = omega arith in is ∙ ap (λ n. (entry r n).u) same ∙ sym is')
+              | as_u j j_lt is' c' ↦ (let same : i ≡ j = omega arith in is ∙ ap (λ n. (entry_at r n).u) same ∙ sym is')
             ]
       ]
 
@@ -145,8 +145,8 @@ module _ (r : Run) (run : IsMerging r) where
             let i_lt : i < steps r = omega arith in
             let g = ends_given r run i i_lt in
             elim (cases_eq ((n - length (left_over r)) % 2) 0) [
-              | inl z ↦ ((entry r i).t, (let q = g.0 in omega arith), node-t i i_lt ∙ omega arith)
-              | inr z ↦ ((entry r i).u, (let q = g.1 in omega arith), node-u i i_lt ∙ omega arith)
+              | inl z ↦ ((entry_at r i).t, (let q = g.0 in omega arith), node-t i i_lt ∙ omega arith)
+              | inr z ↦ ((entry_at r i).u, (let q = g.1 in omega arith), node-u i i_lt ∙ omega arith)
             ]
       ]
 

@@ -12,7 +12,7 @@ use Rattle.pm_forest.specs.Tables.{leaf_node_of}
 use Rattle.pm_forest.specs.Meshes.{input_of_node, leaf_place, leaf_input}
 use Rattle.pm_forest.proofs.HierarchyLaws.{place-root, place-t, place-u}
 use Rattle.pm_forest.proofs.InputLaws.{input-root, input-t, input-u}
-use Rattle.pm_number.specs.Stages.{Run, steps, entry, IsMerging}
+use Rattle.pm_number.specs.Stages.{Run, steps, entry_at, IsMerging}
 use Rattle.pm_number.specs.Numbering.{place_in, left_over, node_number, leaf_number, place_number, input_number, numbered_root, hierarchy_of}
 use Rattle.pm_number.proofs.Positions.{at_place}
 use Rattle.pm_number.proofs.NodeNumbers.{stays_left, as_t, as_u, node_of, root-count, count, record-at}
@@ -58,12 +58,12 @@ module _ (r : Run) (run : IsMerging r) where
             let k = steps r - suc i in
             let node : node_number r v ≡ t_of h k = omega arith in
             ap (place_of_node h) node ∙ place-at_t h k ∙ ap (λ (x : Record). x.t.place) (record-at r k (omega arith))
-            ∙ ap (λ j. place_number r (entry r j).t) (step-back i i_lt) ∙ ap (place_number r) (sym v_is)
+            ∙ ap (λ j. place_number r (entry_at r j).t) (step-back i i_lt) ∙ ap (place_number r) (sym v_is)
         | as_u i i_lt v_is is ↦
             let k = steps r - suc i in
             let node : node_number r v ≡ u_of h k = omega arith in
             ap (place_of_node h) node ∙ place-at_u h k ∙ ap (λ (x : Record). x.u.place) (record-at r k (omega arith))
-            ∙ ap (λ j. place_number r (entry r j).u) (step-back i i_lt) ∙ ap (place_number r) (sym v_is)
+            ∙ ap (λ j. place_number r (entry_at r j).u) (step-back i i_lt) ∙ ap (place_number r) (sym v_is)
       ]
 
   pub node-input : (v : ℕ) → v < r.vertices + steps r → input_of_node (hierarchy_of r) (node_number r v) ≡ input_number r v
@@ -78,12 +78,12 @@ module _ (r : Run) (run : IsMerging r) where
             let k = steps r - suc i in
             let node : node_number r v ≡ t_of h k = omega arith in
             ap (input_of_node h) node ∙ input-t h k (omega arith) ∙ ap (λ (x : Record). x.t.input) (record-at r k (omega arith))
-            ∙ ap (λ j. input_number r (entry r j).t) (step-back i i_lt) ∙ ap (input_number r) (sym v_is)
+            ∙ ap (λ j. input_number r (entry_at r j).t) (step-back i i_lt) ∙ ap (input_number r) (sym v_is)
         | as_u i i_lt v_is is ↦
             let k = steps r - suc i in
             let node : node_number r v ≡ u_of h k = omega arith in
             ap (input_of_node h) node ∙ input-u h k (omega arith) ∙ ap (λ (x : Record). x.u.input) (record-at r k (omega arith))
-            ∙ ap (λ j. input_number r (entry r j).u) (step-back i i_lt) ∙ ap (input_number r) (sym v_is)
+            ∙ ap (λ j. input_number r (entry_at r j).u) (step-back i i_lt) ∙ ap (input_number r) (sym v_is)
       ]
 
   -- an input vertex's leaf has the vertex's node

@@ -7,7 +7,7 @@ use Rattle.std.proofs.lemmas.List.Sums.{sum_by-take-le, sum_by_push}
 use Rattle.pm_base.specs.declared.log.Collapse.{Collapse}
 use Rattle.pm_forest.specs.Forest.{leaf_count}
 use Rattle.pm_forest.proofs.OwnerLaws.{sum-cons}
-use Rattle.pm_number.specs.Stages.{Run, steps, entry, IsMerging}
+use Rattle.pm_number.specs.Stages.{Run, steps, entry_at, IsMerging}
 use Rattle.pm_number.specs.Numbering.{taken_by, place_in, sum_before, left_over, step_of, width_after, width_number, node_number, start_after, leaf_number, hierarchy_of}
 use Rattle.pm_number.specs.Tables.{IsSmallRun, all_vertices, HasNumbers, RootsHave, HasStarts}
 use Rattle.pm_number.proofs.Positions.{at_place, picked-at}
@@ -34,7 +34,7 @@ pub widths_start : (r : Run) (table : List ℕ) (n : ℕ) → length table ≡ n
 unfolding width_after
 widths_start r table n len each = record { len = len; each = each }
 
-pub widths_more : (r : Run) (table : List ℕ) (i n : ℕ) (c : Collapse) (a b : ℕ) → c ≡ entry r i → HasNumbers table (width_after r i) n →
+pub widths_more : (r : Run) (table : List ℕ) (i n : ℕ) (c : Collapse) (a b : ℕ) → c ≡ entry_at r i → HasNumbers table (width_after r i) n →
     c.t < n → c.u < n → c.s < n → a ≡ get_or table c.t a → b ≡ get_or table c.u b → HasNumbers (set table c.s (a + b)) (width_after r (i + 1)) n
 unfolding width_after
 widths_more r table i n c a b is has t u s a_is b_is =
@@ -55,7 +55,7 @@ pub width-small : (r : Run) → IsMerging r → (v : ℕ) → v < all_vertices r
 width-small r run v l = let a = (at_end r run v l).within_all in let n = leaf-number-count r run in omega arith
 
 -- the widths of two vertices that are merged, while they are summed up
-pub widths_small : (r : Run) (table : List ℕ) (i n : ℕ) (c : Collapse) (a b : ℕ) → IsSmallRun r → c ≡ entry r i → i < steps r → HasNumbers table (width_after r i) n → n ≡ all_vertices r →
+pub widths_small : (r : Run) (table : List ℕ) (i n : ℕ) (c : Collapse) (a b : ℕ) → IsSmallRun r → c ≡ entry_at r i → i < steps r → HasNumbers table (width_after r i) n → n ≡ all_vertices r →
     a ≡ get_or table c.t a → b ≡ get_or table c.u b → a + b ≤ 1048576
 widths_small r table i n c a b small is l has n_is a_is b_is =
     let run = small.merging in
@@ -65,13 +65,13 @@ widths_small r table i n c a b small is l has n_is a_is b_is =
     let u_lt : c.u < n = rw is (let p = given.1 in omega arith) in
     let first : a ≡ width_after r i c.t = get_or_read table c.t a (omega arith) a_is 0 ∙ has.each c.t t_lt in
     let second : b ≡ width_after r i c.u = get_or_read table c.u b (omega arith) b_is 0 ∙ has.each c.u u_lt in
-    let t_all : width_number r (entry r i).t ≡ width_after r i (entry r i).t = width-kept r run i (steps r) (entry r i).t (omega arith) (omega arith) given.0 in
-    let u_all : width_number r (entry r i).u ≡ width_after r i (entry r i).u = width-kept r run i (steps r) (entry r i).u (omega arith) (omega arith) given.1 in
+    let t_all : width_number r (entry_at r i).t ≡ width_after r i (entry_at r i).t = width-kept r run i (steps r) (entry_at r i).t (omega arith) (omega arith) given.0 in
+    let u_all : width_number r (entry_at r i).u ≡ width_after r i (entry_at r i).u = width-kept r run i (steps r) (entry_at r i).u (omega arith) (omega arith) given.1 in
     let t_is = ap (λ (x : Collapse). width_after r i x.t) is in
     let u_is = ap (λ (x : Collapse). width_after r i x.u) is in
     let whole = width-step r run i l in
     let named = run.named i l in
-    let fits = width-small r run (entry r i).s (omega arith) in
+    let fits = width-small r run (entry_at r i).s (omega arith) in
     let few = small.few_vertices in
     omega arith
 
@@ -85,9 +85,9 @@ left_number r run j l = (root_vertex r run j l).1
 
 -- The nodes of the ends of collapse j.
 abbrev pub EndsHave : Run → List ℕ → ℕ → Type 0
-EndsHave r table j = (get_or table (entry r j).t 0 ≡ node_number r (entry r j).t) × (get_or table (entry r j).u 0 ≡ node_number r (entry r j).u)
+EndsHave r table j = (get_or table (entry_at r j).t 0 ≡ node_number r (entry_at r j).t) × (get_or table (entry_at r j).u 0 ≡ node_number r (entry_at r j).u)
 
-pub ends_more : (r : Run) → IsMerging r → (table : List ℕ) (i n node : ℕ) (c : Collapse) → c ≡ entry r i → i < steps r → length table ≡ n → n ≡ all_vertices r →
+pub ends_more : (r : Run) → IsMerging r → (table : List ℕ) (i n node : ℕ) (c : Collapse) → c ≡ entry_at r i → i < steps r → length table ≡ n → n ≡ all_vertices r →
     node ≡ length (left_over r) + 2 * (steps r - 1 - i) →
     ((j : ℕ) → j < length (left_over r) → RootsHave table (node_number r) (left_over r) j) → ((j : ℕ) → j < i → EndsHave r table j) →
     let after = set (set table c.t node) c.u (node + 1) in
@@ -108,7 +108,7 @@ ends_more r run table i n node c is l len n_is node_is roots ends =
       length-set middle c.u (node + 1) ∙ middle_len ∙ len,
       λ j m. keeps (get_or (left_over r) j 0) (roots j m),
       λ j m. elim (cases_lt j i) [
-        | inl a ↦ (let old = ends j a in (keeps (entry r j).t old.0, keeps (entry r j).u old.1))
+        | inl a ↦ (let old = ends j a in (keeps (entry_at r j).t old.0, keeps (entry_at r j).u old.1))
         | inr a ↦
             let j_is : j ≡ i = omega arith in
             let first : get_or (set middle c.u (node + 1)) c.t 0 ≡ node_number r c.t = set_keeps middle (node_number r) c.u (node + 1) c.t u_is (set_makes table (node_number r) c.t node t_is t_lt) u_lt in
@@ -192,14 +192,14 @@ roots_all r run table has v l node =
     ]
 
 -- one record more gives its children their first leaves
-pub starts_more : (r : Run) → IsMerging r → (table : List ℕ) (d : ℕ) (c : Collapse) (start width : ℕ) → c ≡ entry r (steps r - 1 - d) → d < steps r → length table ≡ all_vertices r →
+pub starts_more : (r : Run) → IsMerging r → (table : List ℕ) (d : ℕ) (c : Collapse) (start width : ℕ) → c ≡ entry_at r (steps r - 1 - d) → d < steps r → length table ≡ all_vertices r →
     HasStarts r table d → start ≡ get_or table c.s start → width ≡ width_number r c.t →
     let after = set (set table c.t start) c.u (start + width) in (length after ≡ all_vertices r) × HasStarts r after (d + 1)
 starts_more r run table d c start width is l len has start_is width_is =
     let i = steps r - suc d in
     let i_lt : i < steps r = omega arith in
     let same : steps r - 1 - d ≡ i = omega arith in
-    let c_is : c ≡ step_of r d = is ∙ ap (entry r) same in
+    let c_is : c ≡ step_of r d = is ∙ ap (entry_at r) same in
     let given = ends_given r run i i_lt in
     let named = run.named i i_lt in
     let s_lt : c.s < all_vertices r = rw c_is (omega arith) in
@@ -242,14 +242,14 @@ pub starts_all : (r : Run) → IsMerging r → (table : List ℕ) → length tab
 starts_all r run table len has = record { len = len; each = λ v l. has v l (node-there r run v l) }
 
 -- a first leaf and the width of the vertex are no more than there are vertices
-pub start-small : (r : Run) → IsSmallRun r → (table : List ℕ) (d : ℕ) (c : Collapse) (start width : ℕ) → c ≡ entry r (steps r - 1 - d) → d < steps r → length table ≡ all_vertices r →
+pub start-small : (r : Run) → IsSmallRun r → (table : List ℕ) (d : ℕ) (c : Collapse) (start width : ℕ) → c ≡ entry_at r (steps r - 1 - d) → d < steps r → length table ≡ all_vertices r →
     HasStarts r table d → start ≡ get_or table c.s start → width ≡ width_number r c.t → start + width ≤ 1048576
 start-small r small table d c start width is l len has start_is width_is =
     let run = small.merging in
     let i = steps r - suc d in
     let i_lt : i < steps r = omega arith in
     let same : steps r - 1 - d ≡ i = omega arith in
-    let c_is : c ≡ step_of r d = is ∙ ap (entry r) same in
+    let c_is : c ≡ step_of r d = is ∙ ap (entry_at r) same in
     let named = run.named i i_lt in
     let s_lt : c.s < all_vertices r = rw c_is (omega arith) in
     let s_node : node_number r c.s < length (left_over r) + 2 * d = rw c_is (let o = older r run i i_lt in omega arith) in

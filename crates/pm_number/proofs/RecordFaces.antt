@@ -18,7 +18,7 @@ use Rattle.pm_number.proofs.Renamed.{runs-moved}
 use Rattle.pm_number.proofs.ShownNets.{at-t, at-u}
 use Rattle.pm_firm.specs.Firm.{shown_net}
 use Rattle.pm_number.specs.Shown.{SameGone, IsNumbered}
-use Rattle.pm_number.specs.Stages.{moved, Renames, Run, steps, entry, net_after, IsGone, IsMerging, side_by}
+use Rattle.pm_number.specs.Stages.{side_moved, Renames, Run, steps, entry_at, net_of_run_after, IsGone, IsMerging, side_by}
 use Rattle.pm_runs.specs.Merged.{StandsAcross}
 use Rattle.pm_runs.specs.Pairs.{Runs}
 use Rattle.pm_number.proofs.Stages.{side-face, leaves, stage}
@@ -28,16 +28,16 @@ module _ (r : Run) (h : Hierarchy) (node leaf face : ℕ → ℕ) (run : IsMergi
 
   record IsGoneFace (i k f p q : ℕ) : Type 0 where
     pub x : ℕ
-    pub runs : Runs (net_after r i) x p q
+    pub runs : Runs (net_of_run_after r i) x p q
     pub is_face : face_of (side_by face x) ≡ f
     pub first : Option ℕ
     pub second : Option ℕ
-    pub across_first : StandsAcross (net_after r i) (next x) first
-    pub across_second : StandsAcross (net_after r i) (next (next x)) second
-    pub keeps_first : number_of (new_face h k f).first ≡ moved (λ e. side_by face e) first
-    pub keeps_second : number_of (new_face h k f).second ≡ moved (λ e. side_by face e) second
+    pub across_first : StandsAcross (net_of_run_after r i) (next x) first
+    pub across_second : StandsAcross (net_of_run_after r i) (next (next x)) second
+    pub keeps_first : number_of (new_face h k f).first ≡ side_moved (λ e. side_by face e) first
+    pub keeps_second : number_of (new_face h k f).second ≡ side_moved (λ e. side_by face e) second
 
-  gone-face : (i k f p q : ℕ) (g : Option Gone) (n : Option NewFace) → IsGone (net_after r i) p q g → SameGone face f g n → is_some n ≡ true → new_face h k f ≡ unwrap_or n no_face → IsGoneFace i k f p q
+  gone-face : (i k f p q : ℕ) (g : Option Gone) (n : Option NewFace) → IsGone (net_of_run_after r i) p q g → SameGone face f g n → is_some n ≡ true → new_face h k f ≡ unwrap_or n no_face → IsGoneFace i k f p q
   gone-face i k f p q None None a b t is = absurd (false≢true t)
   gone-face i k f p q None (Some n) a b t is = absurd b
   gone-face i k f p q (Some g) None a b t is = absurd b
@@ -55,8 +55,8 @@ module _ (r : Run) (h : Hierarchy) (node leaf face : ℕ → ℕ) (run : IsMergi
 
   -- the run's account of a face of record k: which ends it runs between
   data FaceOf (i k f : ℕ) : Type 0 where
-    left_face : is_left h k f ≡ true → IsGoneFace i k f (entry r i).t (entry r i).u → FaceOf i k f
-    right_face : is_left h k f ≡ false → IsGoneFace i k f (entry r i).u (entry r i).t → FaceOf i k f
+    left_face : is_left h k f ≡ true → IsGoneFace i k f (entry_at r i).t (entry_at r i).u → FaceOf i k f
+    right_face : is_left h k f ≡ false → IsGoneFace i k f (entry_at r i).u (entry_at r i).t → FaceOf i k f
 
   face_of_record : (i k f : ℕ) → i + suc k ≡ steps r → f < face_count h → revealed_by h f ≡ Some k → FaceOf i k f
   unfolding is_left
@@ -68,14 +68,14 @@ module _ (r : Run) (h : Hierarchy) (node leaf face : ℕ → ℕ) (run : IsMergi
       elim (which_face h f k l own) [
         | inl p ↦
             let left : is_left h k f ≡ true = and_from a _ p.0 (eq-eqb f (first_face h k) p.1) in
-            left_face left (gone-face i k f _ _ (entry r i).left (record_at h k).left logged.left (subst (λ n. SameGone face n (entry r i).left (record_at h k).left) (sym p.1) (num.left i k is)) p.0 (cond-true _ x y left))
+            left_face left (gone-face i k f _ _ (entry_at r i).left (record_at h k).left logged.left (subst (λ n. SameGone face n (entry_at r i).left (record_at h k).left) (sym p.1) (num.left i k is)) p.0 (cond-true _ x y left))
         | inr p ↦
             let left : is_left h k f ≡ false =
             elim (cases_Bool a) [
               | inl t ↦ (let one : one_if a ≡ 1 = ap one_if t in and_right a _ (ne_eqb f (first_face h k) (let q = p.1 in omega arith)))
               | inr t ↦ and_left a _ t
             ] in
-            right_face left (gone-face i k f _ _ (entry r i).right (record_at h k).right logged.right (subst (λ n. SameGone face n (entry r i).right (record_at h k).right) (sym p.1) (num.right i k is)) p.0 (cond-false _ x y left))
+            right_face left (gone-face i k f _ _ (entry_at r i).right (record_at h k).right logged.right (subst (λ n. SameGone face n (entry_at r i).right (record_at h k).right) (sym p.1) (num.right i k is)) p.0 (cond-false _ x y left))
       ]
 
   -- the inner side of a face is the one with the right child at its beginning alone
@@ -107,7 +107,7 @@ module _ (r : Run) (h : Hierarchy) (node leaf face : ℕ → ℕ) (run : IsMergi
 
   module _ (i k : ℕ) (is : i + suc k ≡ steps r) where
     abbrev pub m : Net
-    m = net_after r i
+    m = net_of_run_after r i
 
     abbrev now : ℕ → ℕ
     now e = ancestor_of h (below (suc k)) (from_leaf h e)
@@ -115,7 +115,7 @@ module _ (r : Run) (h : Hierarchy) (node leaf face : ℕ → ℕ) (run : IsMergi
     pub k_lt : k < record_count h
     k_lt = let c = num.count in omega arith
 
-    pub map : Renames (net_after r i) (shown_net h (below (suc k))) (λ e. side_by face e) node
+    pub map : Renames (net_of_run_after r i) (shown_net h (below (suc k))) (λ e. side_by face e) node
     map = stage r h node leaf face run num i (suc k) is
 
     -- just before record k goes, a leaf is under t or u exactly where that is its ancestor
@@ -144,9 +144,9 @@ module _ (r : Run) (h : Hierarchy) (node leaf face : ℕ → ℕ) (run : IsMergi
       pub apart_a : now (next (next e)) ≢ a
       pub apart_b : now (next (next e)) ≢ b
 
-    ends_of : (x p q a b : ℕ) → Runs (net_after r i) x p q → node p ≡ a → node q ≡ b → Ends (side_by face x) a b
+    ends_of : (x p q a b : ℕ) → Runs (net_of_run_after r i) x p q → node p ≡ a → node q ≡ b → Ends (side_by face x) a b
     ends_of x p q a b runs i1 i2 =
-        let w = runs-moved (net_after r i) (shown_net h (below (suc k))) (λ e. side_by face e) node map x p q runs in
+        let w = runs-moved (net_of_run_after r i) (shown_net h (below (suc k))) (λ e. side_by face e) node map x p q runs in
         record {
           is_side = w.stands.is_side;
           stands = w.stands;
@@ -157,7 +157,7 @@ module _ (r : Run) (h : Hierarchy) (node leaf face : ℕ → ℕ) (run : IsMergi
         }
 
     -- the inner side of a face of record k
-    inner_left : (f : ℕ) → is_left h k f ≡ true → (g : IsGoneFace i k f (entry r i).t (entry r i).u) → (inner_of h k f ≡ side_by face g.x) × Ends (side_by face g.x) (t_of h k) (u_of h k)
+    inner_left : (f : ℕ) → is_left h k f ≡ true → (g : IsGoneFace i k f (entry_at r i).t (entry_at r i).u) → (inner_of h k f ≡ side_by face g.x) × Ends (side_by face g.x) (t_of h k) (u_of h k)
     inner_left f left g =
         let e = ends_of g.x _ _ _ _ g.runs (num.node_t i k is) (num.node_u i k is) in
         let o = side_by face g.x in
@@ -170,7 +170,7 @@ module _ (r : Run) (h : Hierarchy) (node leaf face : ℕ → ℕ) (run : IsMergi
           e,
         )
 
-    inner_right : (f : ℕ) → is_left h k f ≡ false → (g : IsGoneFace i k f (entry r i).u (entry r i).t) → (inner_of h k f ≡ side_by face g.x) × Ends (side_by face g.x) (u_of h k) (t_of h k)
+    inner_right : (f : ℕ) → is_left h k f ≡ false → (g : IsGoneFace i k f (entry_at r i).u (entry_at r i).t) → (inner_of h k f ≡ side_by face g.x) × Ends (side_by face g.x) (u_of h k) (t_of h k)
     inner_right f left g =
         let e = ends_of g.x _ _ _ _ g.runs (num.node_u i k is) (num.node_t i k is) in
         let o = side_by face g.x in
@@ -241,10 +241,10 @@ module _ (r : Run) (h : Hierarchy) (node leaf face : ℕ → ℕ) (run : IsMergi
     pub record InnerOf (f a b : ℕ) : Type 0 where
       pub x : ℕ
       pub is_inner : inner_of h k f ≡ side_by face x
-      pub runs : Runs (net_after r i) x a b
+      pub runs : Runs (net_of_run_after r i) x a b
       pub face_is : face_of (side_by face x) ≡ f
-      pub on_first : (q : Option ℕ) → number_of (new_face h k f).first ≡ q → (c : Option ℕ) × (q ≡ moved (λ e. side_by face e) c) × StandsAcross (net_after r i) (next x) c
-      pub on_second : (q : Option ℕ) → number_of (new_face h k f).second ≡ q → (c : Option ℕ) × (q ≡ moved (λ e. side_by face e) c) × StandsAcross (net_after r i) (next (next x)) c
+      pub on_first : (q : Option ℕ) → number_of (new_face h k f).first ≡ q → (c : Option ℕ) × (q ≡ side_moved (λ e. side_by face e) c) × StandsAcross (net_of_run_after r i) (next x) c
+      pub on_second : (q : Option ℕ) → number_of (new_face h k f).second ≡ q → (c : Option ℕ) × (q ≡ side_moved (λ e. side_by face e) c) × StandsAcross (net_of_run_after r i) (next (next x)) c
 
     inner-of : (f a b : ℕ) → (g : IsGoneFace i k f a b) → inner_of h k f ≡ side_by face g.x → InnerOf f a b
     inner-of f a b g same = record {
@@ -256,14 +256,14 @@ module _ (r : Run) (h : Hierarchy) (node leaf face : ℕ → ℕ) (run : IsMergi
       on_second = λ q z. (g.second, sym z ∙ g.keeps_second, g.across_second);
     }
 
-    pub left_inner : (f : ℕ) → f < face_count h → revealed_by h f ≡ Some k → is_left h k f ≡ true → InnerOf f (entry r i).t (entry r i).u
+    pub left_inner : (f : ℕ) → f < face_count h → revealed_by h f ≡ Some k → is_left h k f ≡ true → InnerOf f (entry_at r i).t (entry_at r i).u
     left_inner f l own left =
         elim (face_of_record i k f is l own) [
           | left_face _ g ↦ inner-of f _ _ g (inner_left f left g).0
           | right_face not_left g ↦ absurd (both_ways _ not_left left)
         ]
 
-    pub right_inner : (f : ℕ) → f < face_count h → revealed_by h f ≡ Some k → is_left h k f ≡ false → InnerOf f (entry r i).u (entry r i).t
+    pub right_inner : (f : ℕ) → f < face_count h → revealed_by h f ≡ Some k → is_left h k f ≡ false → InnerOf f (entry_at r i).u (entry_at r i).t
     right_inner f l own left =
         elim (face_of_record i k f is l own) [
           | left_face is_left g ↦ absurd (both_ways _ left is_left)

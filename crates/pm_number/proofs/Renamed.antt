@@ -2,7 +2,7 @@
 use Rattle.std.proofs.Common.{◌≡◌, ℕ, ◌*◌, ◌<◌, Option, Some, None, inl, inr, refl, sym, ap, ◌∙◌, subst}
 use Rattle.pm_base.proofs.Sides.{next-lt as next-side}
 use Rattle.pm_base.specs.Sides.{next, Net, to, third, Stands, NoSideTwice}
-use Rattle.pm_number.specs.Stages.{IsBegun, moved, Renames}
+use Rattle.pm_number.specs.Stages.{BeginsSide, side_moved, Renames}
 use Rattle.pm_runs.specs.Merged.{NoMirror, StandsAcross, KeepsApart}
 use Rattle.pm_runs.specs.Pairs.{Runs, Joined, HasFace}
 
@@ -15,13 +15,13 @@ module _ (m n : Net) (side name : ℕ → ℕ) (map : Renames m n side name) whe
       let k = next-side m.faces e l in
       ap (λ g. n.from (next g)) (sym (map.turns e l)) ∙ ap n.from (sym (map.turns (next e) k)) ∙ map.from (next (next e)) (next-side m.faces (next e) k)
 
-  used : (e : ℕ) → e < 3 * m.faces → IsBegun m (m.from e)
+  used : (e : ℕ) → e < 3 * m.faces → BeginsSide m (m.from e)
   used e l = (e, l, refl)
 
-  used_to : (e : ℕ) → e < 3 * m.faces → IsBegun m (to m e)
+  used_to : (e : ℕ) → e < 3 * m.faces → BeginsSide m (to m e)
   used_to e l = (next e, next-side m.faces e l, refl)
 
-  used_third : (e : ℕ) → e < 3 * m.faces → IsBegun m (third m e)
+  used_third : (e : ℕ) → e < 3 * m.faces → BeginsSide m (third m e)
   used_third e l = (next (next e), next-side m.faces (next e) (next-side m.faces e l), refl)
 
   pub stands-moved : (e : ℕ) → Stands m e → Stands n (side e)
@@ -46,7 +46,7 @@ module _ (m n : Net) (side name : ℕ → ℕ) (map : Renames m n side name) whe
   runs-moved e p q r = record { stands = stands-moved e r.stands; begins = map.from e r.stands.is_side ∙ ap name r.begins; ends = at_to e r.stands.is_side ∙ ap name r.ends }
 
   -- a side of n between vertices of m
-  pub runs-before : (e p q : ℕ) → e < 3 * m.faces → IsBegun m p → IsBegun m q → Runs n (side e) (name p) (name q) → Runs m e p q
+  pub runs-before : (e p q : ℕ) → e < 3 * m.faces → BeginsSide m p → BeginsSide m q → Runs n (side e) (name p) (name q) → Runs m e p q
   runs-before e p q l a b r = record {
     stands = stood-before e l r.stands;
     begins = map.one _ _ (used e l) a (sym (map.from e l) ∙ r.begins);
@@ -56,7 +56,7 @@ module _ (m n : Net) (side name : ℕ → ℕ) (map : Renames m n side name) whe
   data Before (P : ℕ → Type 0) (e : ℕ) : Type 0 where
     was : (g : ℕ) → g < 3 * m.faces → side g ≡ e → P g → Before P e
 
-  pub across-moved : (e : ℕ) (r : Option ℕ) → e < 3 * m.faces → StandsAcross m e r → StandsAcross n (side e) (moved side r)
+  pub across-moved : (e : ℕ) (r : Option ℕ) → e < 3 * m.faces → StandsAcross m e r → StandsAcross n (side e) (side_moved side r)
   across-moved e None l border =
       λ g w.
       let (g', k, is) = map.back g w.stands.is_side in
@@ -95,7 +95,7 @@ module _ (m n : Net) (side name : ℕ → ℕ) (map : Renames m n side name) whe
       (map.one _ _ (used_third g' l) (used_third e' k) (sym (at_third g' l) ∙ ap (third n) is' ∙ c ∙ sym (ap (third n) is) ∙ at_third e' k))
 
   -- a vertex of n that is joined to one of m has a name
-  named : (p w : ℕ) → IsBegun m p → Joined n (name p) w → (v : ℕ) × IsBegun m v × (name v ≡ w) × Joined m p v
+  named : (p w : ℕ) → BeginsSide m p → Joined n (name p) w → (v : ℕ) × BeginsSide m v × (name v ≡ w) × Joined m p v
   named p w a j =
       elim j [
         | inl (e, r) ↦
@@ -108,24 +108,24 @@ module _ (m n : Net) (side name : ℕ → ℕ) (map : Renames m n side name) whe
             (m.from e', used e' k, sym (map.from e' k) ∙ ap n.from is ∙ r.begins, inr (e', runs-before e' _ p k (used e' k) a r'))
       ]
 
-  links-before : (e p q : ℕ) → IsBegun m p → IsBegun m q → Runs n e (name p) (name q) → (g : ℕ) × (side g ≡ e) × Runs m g p q
+  links-before : (e p q : ℕ) → BeginsSide m p → BeginsSide m q → Runs n e (name p) (name q) → (g : ℕ) × (side g ≡ e) × Runs m g p q
   links-before e p q a b r =
       let (e', k, is) = map.back e r.stands.is_side in
       (e', is, runs-before e' p q k a b (subst (λ g. Runs n g (name p) (name q)) (sym is) r))
 
-  face-before : (a b c : ℕ) → IsBegun m a → IsBegun m b → IsBegun m c → HasFace n (name a) (name b) (name c) → HasFace m a b c
+  face-before : (a b c : ℕ) → BeginsSide m a → BeginsSide m b → BeginsSide m c → HasFace n (name a) (name b) (name c) → HasFace m a b c
   face-before a b c x y z (e, st, is, way) =
       let (e', k, q) = map.back e st.is_side in
       let st' = stood-before e' k (subst (Stands n) (sym q) st) in
-      let t' : (v : ℕ) → IsBegun m v → to n e ≡ name v → to m e' ≡ v = λ v w i. map.one _ _ (used_to e' k) w (sym (at_to e' k) ∙ ap (to n) q ∙ i) in
-      let u' : (v : ℕ) → IsBegun m v → third n e ≡ name v → third m e' ≡ v = λ v w i. map.one _ _ (used_third e' k) w (sym (at_third e' k) ∙ ap (third n) q ∙ i) in (
+      let t' : (v : ℕ) → BeginsSide m v → to n e ≡ name v → to m e' ≡ v = λ v w i. map.one _ _ (used_to e' k) w (sym (at_to e' k) ∙ ap (to n) q ∙ i) in
+      let u' : (v : ℕ) → BeginsSide m v → third n e ≡ name v → third m e' ≡ v = λ v w i. map.one _ _ (used_third e' k) w (sym (at_third e' k) ∙ ap (third n) q ∙ i) in (
         e',
         st',
         map.one _ _ (used e' k) x (sym (map.from e' k) ∙ ap n.from q ∙ is),
         elim way [ inl i ↦ inl (t' b y i.0, u' c z i.1) | inr i ↦ inr (t' c z i.0, u' b y i.1) ],
       )
 
-  pub apart-moved : (t u : ℕ) → IsBegun m t → IsBegun m u → KeepsApart m t u → KeepsApart n (name t) (name u)
+  pub apart-moved : (t u : ℕ) → BeginsSide m t → BeginsSide m u → KeepsApart m t u → KeepsApart n (name t) (name u)
   apart-moved t u a b keeps = record {
     common = λ w j k.
         let (v, in_use, is, j') = named t w a j in

@@ -7,11 +7,11 @@ use Rattle.pm_base.specs.declared.log.Collapse.{Collapse}
 use Rattle.pm_forest.specs.declared.parts.NewFace.{NewFace}
 use Rattle.pm_forest.specs.declared.parts.Shape.{Shape}
 use Rattle.pm_forest.specs.Forest.{Hierarchy, no_record, record_at}
-use Rattle.pm_forest.specs.Faces.{no_corners}
+use Rattle.pm_forest.specs.Faces.{no_face_corners}
 use Rattle.pm_forest.specs.Places.{no_root}
-use Rattle.pm_forest.specs.Rules.{root_fault, base_fault, new_face_fault, face_fault, record_fault, record_fault_after, bare, left_only, with_record, word_of, first_of, counts_of, HasShape}
+use Rattle.pm_forest.specs.Rules.{root_fault, base_fault, new_face_fault, face_fault, record_fault, record_fault_after, bare, left_only, with_record, word_of, first_fault_of, counts_of, HasShape}
 use Rattle.pm_forest.proofs.Prefix.{cut}
-use Rattle.pm_number.specs.Stages.{Run, run_of, steps, entry, no_collapse, IsMerging}
+use Rattle.pm_number.specs.Stages.{Run, run_of, steps, entry_at, no_collapse, IsMerging}
 use Rattle.pm_number.specs.Numbering.{left_over, step_of, place_number, hierarchy_of}
 use Rattle.pm_number.specs.Laws.{AreOnGrid}
 use Rattle.pm_number.proofs.RunLaws.{ends_given}
@@ -28,7 +28,7 @@ face_none : (h : Hierarchy) (left : _) (o : Option NewFace) → ((n : NewFace) �
 face_none h left None fits = refl
 face_none h left (Some n) fits = fits n refl
 
-none_first : (a b : Option Shape) → a ≡ None → b ≡ None → first_of a b ≡ None
+none_first : (a b : Option Shape) → a ≡ None → b ≡ None → first_fault_of a b ≡ None
 none_first a b e f = rw (e, f) refl
 
 module _ (r : Run) (run : IsMerging r) (few : r.vertices ≤ 1048576) (few_faces : r.net.faces ≤ 1048576) (placed : (v : ℕ) → v < r.vertices + steps r → is_place (place_number r v) ≡ true) where
@@ -43,7 +43,7 @@ module _ (r : Run) (run : IsMerging r) (few : r.vertices ≤ 1048576) (few_faces
         roots = AllFit-from (root_fault (counts_of h)) no_root [] h.roots (λ i l.
             let i_lt : i < length (left_over r) = omega arith in
             root_fits r run i i_lt (placed (get_or (left_over r) i 0) (root_vertex r run i i_lt).0));
-        bases = AllFit-from (base_fault h.roots) no_corners [] h.bases (λ j l. base_fits r run few_faces j l);
+        bases = AllFit-from (base_fault h.roots) no_face_corners [] h.bases (λ j l. base_fits r run few_faces j l);
         records = AllFit-from (record_fault_after h.roots h.bases) no_record [] h.records (λ k l.
             let k_lt : k < steps r = omega arith in
             let x = record_at h k in
@@ -59,13 +59,13 @@ module _ (r : Run) (run : IsMerging r) (few : r.vertices ≤ 1048576) (few_faces
 
 -- a vertex of a run on the grid is on it
 pub on_grid : (m : Mesh) (log : List Collapse) → AreOnGrid m log → (v : ℕ) → v < length m.points + length log → is_place (place_number (run_of m log) v) ≡ true
-unfolding place_number entry
+unfolding place_number entry_at
 on_grid m log are v l =
     let r = run_of m log in
     place-true (place_number r v)
     (elim (cases_lt v (length m.points)) [
-      | inl a ↦ subst IsPlace (sym (cond-true (ltb v (length m.points)) (get_or m.points v (place_of [])) (entry r (v - length m.points)).place (lt-ltb v (length m.points) a))) (are.points v (place_of []) a)
+      | inl a ↦ subst IsPlace (sym (cond-true (ltb v (length m.points)) (get_or m.points v (place_of [])) (entry_at r (v - length m.points)).place (lt-ltb v (length m.points) a))) (are.points v (place_of []) a)
       | inr a ↦
           let i_lt : v - length m.points < length log = omega arith in
-          subst IsPlace (sym (cond-false (ltb v (length m.points)) (get_or m.points v (place_of [])) (entry r (v - length m.points)).place (le-ltb v (length m.points) a))) (are.merged (v - length m.points) no_collapse i_lt)
+          subst IsPlace (sym (cond-false (ltb v (length m.points)) (get_or m.points v (place_of [])) (entry_at r (v - length m.points)).place (le-ltb v (length m.points) a))) (are.merged (v - length m.points) no_collapse i_lt)
     ])

@@ -8,14 +8,14 @@ use Rattle.pm_base.specs.Meshes.{Mesh}
 use Rattle.pm_base.specs.declared.log.Collapse.{Collapse}
 use Rattle.pm_forest.specs.Fronts.{below}
 use Rattle.pm_runs.specs.Surfaces.{Surface, next_vertex, is_live, place_at, net_of_surface, collapsed}
-use Rattle.pm_runs.specs.Runs.{IsStart, surface_after, IsRun}
+use Rattle.pm_runs.specs.Runs.{IsStartOfRun, surface_after, IsRun}
 use Rattle.pm_runs.proofs.RunsProved.{spared_vertices_are_live}
 use Rattle.pm_runs.proofs.Collapsed.{alike-sym}
 use Rattle.pm_runs.proofs.Alike.{same_side}
 use Rattle.pm_runs.proofs.Live.{new_at, old_at, old_live}
 use Rattle.pm_runs.proofs.Living.{first_dead, second_dead}
 use Rattle.pm_runs.proofs.Logs.{run-front, run-sound, surface_after-nil, next-run}
-use Rattle.pm_number.specs.Stages.{Run, run_of, no_collapse, steps, entry, net_after, side_by, IsMerging}
+use Rattle.pm_number.specs.Stages.{Run, run_of, no_collapse, steps, entry_at, net_of_run_after, side_by, IsMerging}
 use Rattle.pm_number.specs.Numbering.{node_number, leaf_number, face_number, place_number, hierarchy_of, hierarchy_of_run, IsThereAfter}
 use Rattle.pm_firm.specs.Firm.{shown_net}
 use Rattle.pm_number.specs.Laws.{IsShown}
@@ -28,7 +28,7 @@ use Rattle.pm_number.proofs.RunCounts.{face-count}
 use Rattle.pm_number.proofs.LiveNodes.{live-active, active-live}
 use Rattle.pm_number.proofs.NodeParts.{node-place}
 
-module _ (m : Mesh) (start : IsStart m) (log : List Collapse) (run : IsRun m log) where
+module _ (m : Mesh) (start : IsStartOfRun m) (log : List Collapse) (run : IsRun m log) where
   abbrev r : Run
   r = run_of m log
 
@@ -41,8 +41,8 @@ module _ (m : Mesh) (start : IsStart m) (log : List Collapse) (run : IsRun m log
   front-run : (i : ℕ) → IsRun m (take i log)
   front-run i = run-front m (take i log) (drop i log) (subst (IsRun m) (sym (take-append-drop i log)) run)
 
-  entry-taken : (i j : ℕ) → j < i → get_or (take i log) j no_collapse ≡ entry (run_of m log) j
-  unfolding entry
+  entry-taken : (i j : ℕ) → j < i → get_or (take i log) j no_collapse ≡ entry_at (run_of m log) j
+  unfolding entry_at
   entry-taken i j l = get_or-take i log j no_collapse l
 
   -- Live vertices are those that no collapse before has taken
@@ -55,7 +55,7 @@ module _ (m : Mesh) (start : IsStart m) (log : List Collapse) (run : IsRun m log
         λ j j_lt.
             let apart = p.1 j no_collapse (omega arith) in
             let is = entry-taken i j j_lt in
-            or_from _ _ (ne_eqb (entry r j).t v (λ z. apart.0 (sym z ∙ ap (λ (c : Collapse). c.t) (sym is)))) (ne_eqb (entry r j).u v (λ z. apart.1 (sym z ∙ ap (λ (c : Collapse). c.u) (sym is)))),
+            or_from _ _ (ne_eqb (entry_at r j).t v (λ z. apart.0 (sym z ∙ ap (λ (c : Collapse). c.t) (sym is)))) (ne_eqb (entry_at r j).u v (λ z. apart.1 (sym z ∙ ap (λ (c : Collapse). c.u) (sym is)))),
       )
 
   there-live : (i v : ℕ) → i ≤ length log → IsThereAfter (run_of m log) i v → is_live (surface_after m (take i log)) v ≡ true
@@ -65,8 +65,8 @@ module _ (m : Mesh) (start : IsStart m) (log : List Collapse) (run : IsRun m log
         (omega arith),
         λ j d j_lt.
             let below_i : j < i = omega arith in
-            let is : get_or (take i log) j d ≡ entry r j = get_or_default (take i log) j d no_collapse j_lt ∙ entry-taken i j below_i in
-            let p = or_parts (eqb (entry r j).t v) (eqb (entry r j).u v) (free j below_i) in
+            let is : get_or (take i log) j d ≡ entry_at r j = get_or_default (take i log) j d no_collapse j_lt ∙ entry-taken i j below_i in
+            let p = or_parts (eqb (entry_at r j).t v) (eqb (entry_at r j).u v) (free j below_i) in
             (λ z. eqb-false _ _ p.0 (sym (z ∙ ap (λ (c : Collapse). c.t) is)), λ z. eqb-false _ _ p.1 (sym (z ∙ ap (λ (c : Collapse). c.u) is))),
       )
 
@@ -77,11 +77,11 @@ module _ (m : Mesh) (start : IsStart m) (log : List Collapse) (run : IsRun m log
   place-live zero v l live =
       let p = live-there zero v l live in
       let low : v < length m.points = (let a = p.0 in omega arith) in
-      cond-true (ltb v (length m.points)) (get_or m.points v (place_of [])) (entry r (v - length m.points)).place (lt-ltb v (length m.points) low)
+      cond-true (ltb v (length m.points)) (get_or m.points v (place_of [])) (entry_at r (v - length m.points)).place (lt-ltb v (length m.points) low)
       ∙ sym (ap (λ (s : Surface). place_at s v) (surface_after-nil m)
       ∙ ap (λ p. unwrap_or p (place_of [])) (get_or-map Some m.points v (place_of []) None low))
   place-live (suc i) v l live =
-      let c = entry r i in
+      let c = entry_at r i in
       let s = surface i in
       let next_i : i + 1 ≡ suc i = omega arith in
       let step = step-at m log start run i l in
@@ -92,8 +92,8 @@ module _ (m : Mesh) (start : IsStart m) (log : List Collapse) (run : IsRun m log
         | inl here ↦
             let number : v - length m.points ≡ i = omega arith in
             let past : length m.points ≤ v = omega arith in
-            cond-false (ltb v (length m.points)) (get_or m.points v (place_of [])) (entry r (v - length m.points)).place (le-ltb v (length m.points) past)
-            ∙ ap (λ j. (entry r j).place) number
+            cond-false (ltb v (length m.points)) (get_or m.points v (place_of [])) (entry_at r (v - length m.points)).place (le-ltb v (length m.points) past)
+            ∙ ap (λ j. (entry_at r j).place) number
             ∙ sym (ap (λ (x : Surface). place_at x v) is ∙ ap (place_at (collapsed s c.t c.u c.place)) here ∙ new_at s c.t c.u c.place)
         | inr other ↦
             let sound = run-sound m start (take i log) (front-run i) in
@@ -112,17 +112,17 @@ module _ (m : Mesh) (start : IsStart m) (log : List Collapse) (run : IsRun m log
       let num = numbered r told in
       let names = stage r h (node_number r) (leaf_number r) (face_number r) told num i k is in
       let to_surface = alike-at m log start run i i_le in
-      let back = alike-sym (net_after r i) (net_of_surface (surface i)) to_surface in
+      let back = alike-sym (net_of_run_after r i) (net_of_surface (surface i)) to_surface in
       let faces = face-count r told in
       let given : (v : ℕ) → is_live (surface i) v ≡ true → v < r.vertices + steps r = λ v live. (let p = (live-there i v i_le live).0 in omega arith) in
       record {
         sides = λ e l. (
-          λ st. stands-moved (net_after r i) (shown_net h (below k)) (λ e. side_by (face_number r) e) (node_number r) names e (same_side (net_of_surface (surface i)) (net_after r i) back e st).0,
-          λ st. (same_side (net_after r i) (net_of_surface (surface i)) to_surface e (stood-before (net_after r i) (shown_net h (below k)) (λ e. side_by (face_number r) e) (node_number r) names e l st)).0,
+          λ st. stands-moved (net_of_run_after r i) (shown_net h (below k)) (λ e. side_by (face_number r) e) (node_number r) names e (same_side (net_of_surface (surface i)) (net_of_run_after r i) back e st).0,
+          λ st. (same_side (net_of_run_after r i) (net_of_surface (surface i)) to_surface e (stood-before (net_of_run_after r i) (shown_net h (below k)) (λ e. side_by (face_number r) e) (node_number r) names e l st)).0,
         );
         all_sides = λ e l. names.back e (omega arith);
         corners = λ e st.
-            let old = same_side (net_of_surface (surface i)) (net_after r i) back e st in
+            let old = same_side (net_of_surface (surface i)) (net_of_run_after r i) back e st in
             names.from e old.0.is_side ∙ ap (node_number r) old.1;
         vertices = λ v live. live-active r told i k is v (live-there i v i_le live);
         all_vertices = λ n active.

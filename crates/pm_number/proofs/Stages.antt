@@ -13,7 +13,7 @@ use Rattle.pm_number.proofs.RunLaws.{merge_cases, given, used-given, ends_given}
 use Rattle.pm_number.proofs.ShownNets.{shown-merged}
 use Rattle.pm_firm.specs.Firm.{shown_net}
 use Rattle.pm_number.specs.Shown.{IsNumbered}
-use Rattle.pm_number.specs.Stages.{Renames, Run, steps, entry, from_after, net_after, IsMerging, side_by}
+use Rattle.pm_number.specs.Stages.{Renames, Run, steps, entry_at, from_after, net_of_run_after, IsMerging, side_by}
 use Rattle.pm_runs.proofs.Merges.{merge-pair, merge-other}
 use Rattle.pm_runs.specs.Surfaces.{merge}
 
@@ -74,9 +74,9 @@ module _ (r : Run) (h : Hierarchy) (node leaf face : ℕ → ℕ) (run : IsMergi
   front k = below-front h num.forest k
 
   -- a merge is one of nodes as well as of vertices
-  node-merge : (i k v : ℕ) → i + suc k ≡ steps r → v < r.vertices + i → merge (t_of h k) (u_of h k) (s_of h k) (node v) ≡ node (merge (entry r i).t (entry r i).u (entry r i).s v)
+  node-merge : (i k v : ℕ) → i + suc k ≡ steps r → v < r.vertices + i → merge (t_of h k) (u_of h k) (s_of h k) (node v) ≡ node (merge (entry_at r i).t (entry_at r i).u (entry_at r i).s v)
   node-merge i k v e l =
-      let c = entry r i in
+      let c = entry_at r i in
       let g = ends_given r run i (omega arith) in
       let both = merge-pair (t_of h k) (u_of h k) (s_of h k) (t_of h k) (u_of h k) (inl (refl, refl)) in
       elim (merge_cases c.t c.u c.s v) [
@@ -107,7 +107,7 @@ module _ (r : Run) (h : Hierarchy) (node leaf face : ℕ → ℕ) (run : IsMergi
             let i = steps r - suc j in
             let e : i + suc j ≡ steps r = omega arith in
             let named = run.named i (omega arith) in
-            let same = num.node_once (entry r i).s x (omega arith) (omega arith) (num.node_s i j e ∙ q) in
+            let same = num.node_once (entry_at r i).s x (omega arith) (omega arith) (num.node_s i j e ∙ q) in
             omega arith,
       )
       (num.held x l)
@@ -131,7 +131,7 @@ module _ (r : Run) (h : Hierarchy) (node leaf face : ℕ → ℕ) (run : IsMergi
       ∙ ap (merge (t_of h k) (u_of h k) (s_of h k)) old
       ∙ node-merge i k (from_after r i e) (omega arith) (given r run i e (omega arith) l)
 
-  pub stage : (i k : ℕ) → i + k ≡ steps r → Renames (net_after r i) (shown_net h (below k)) (λ e. side_by face e) node
+  pub stage : (i k : ℕ) → i + k ≡ steps r → Renames (net_of_run_after r i) (shown_net h (below k)) (λ e. side_by face e) node
   stage i k is = record {
     is_side = λ e l. side-lt face e (face_count h) (num.face_there (face_of e) (omega arith));
     turns = λ e l. side-turns face e;

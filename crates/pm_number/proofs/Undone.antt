@@ -31,7 +31,7 @@ use Rattle.pm_firm.proofs.ShownNets.{stands-shown, shown-stands}
 use Rattle.pm_number.proofs.ShownNets.{at-t, at-u, shown-fresh, shown-step}
 use Rattle.pm_firm.specs.Firm.{shown_net}
 use Rattle.pm_number.specs.Shown.{UndoesCollapses}
-use Rattle.pm_number.specs.Stages.{Renames, moved}
+use Rattle.pm_number.specs.Stages.{Renames, side_moved}
 use Rattle.pm_runs.proofs.Across.{across-past, across-kept}
 use Rattle.pm_runs.proofs.Apart.{once_after, no_mirror_after}
 use Rattle.pm_runs.proofs.Sides.{across-twin, twin-across}
@@ -41,7 +41,7 @@ use Rattle.pm_runs.specs.Pairs.{Links}
 lt_next : (k : ℕ) → k < suc k
 lt_next k = omega arith
 
-moved-same : (r : Option ℕ) → moved (λ e. e) r ≡ r
+moved-same : (r : Option ℕ) → side_moved (λ e. e) r ≡ r
 moved-same None = refl
 moved-same (Some e) = refl
 

@@ -17,7 +17,7 @@ use Rattle.pm_forest.specs.declared.parts.Face.{Face}
 use Rattle.pm_forest.specs.declared.parts.Head.{Head}
 use Rattle.pm_forest.specs.Forest.{record_at}
 use Rattle.pm_forest.specs.Rules.{word_of, head_of}
-use Rattle.pm_number.specs.Stages.{Run, run_of, no_collapse, steps, entry, side_by, IsMerging}
+use Rattle.pm_number.specs.Stages.{Run, run_of, no_collapse, steps, entry_at, side_by, IsMerging}
 use Rattle.pm_number.specs.Numbering.{step_of, node_number, width_number, leaf_number, face_number, place_number, input_number, numbered_face, numbered_side, hierarchy_of}
 use Rattle.pm_number.specs.Tables.{IsSmallRun, HasNumbers, all_vertices, coordinates}
 use Rattle.pm_number.proofs.RunLaws.{ends_given}
@@ -37,13 +37,13 @@ pub first_place : (m : Mesh) (log : List Collapse) (v : ℕ) (p : Place) → v <
 unfolding place_number
 first_place m log v p l is =
     get_or_read m.points v p l is (place_of [])
-    ∙ sym (cond-true (ltb v (length m.points)) (get_or m.points v (place_of [])) (entry (run_of m log) (v - length m.points)).place (lt-ltb v (length m.points) l))
+    ∙ sym (cond-true (ltb v (length m.points)) (get_or m.points v (place_of [])) (entry_at (run_of m log) (v - length m.points)).place (lt-ltb v (length m.points) l))
 
 pub later_place : (m : Mesh) (log : List Collapse) (v n : ℕ) (d : Collapse) → n ≡ length m.points → n ≤ v → v - n < length log → (get_or log (v - n) d).place ≡ place_number (run_of m log) v
-unfolding place_number entry
+unfolding place_number entry_at
 later_place m log v n d is l inside =
     ap (λ (x : Collapse). x.place) (get_or_default log (v - n) d no_collapse inside) ∙ ap (λ k. (get_or log (v - k) no_collapse).place) is
-    ∙ sym (cond-false (ltb v (length m.points)) (get_or m.points v (place_of [])) (entry (run_of m log) (v - length m.points)).place (le-ltb v (length m.points) (omega arith)))
+    ∙ sym (cond-false (ltb v (length m.points)) (get_or m.points v (place_of [])) (entry_at (run_of m log) (v - length m.points)).place (le-ltb v (length m.points) (omega arith)))
 
 -- Faces
 
@@ -103,7 +103,7 @@ word_small r faces e n small has l n_is =
 -- Heads
 
 pub head_is : (r : Run) (nodes widths : List ℕ) (k : ℕ) (c : Collapse) (s width : ℕ) (t : List ℤ) (t_input : ℕ) (u : List ℤ) (u_input presence : ℕ) → IsMerging r →
-    HasNumbers nodes (node_number r) (all_vertices r) → HasNumbers widths (width_number r) (all_vertices r) → k < steps r → c ≡ entry r (steps r - 1 - k) →
+    HasNumbers nodes (node_number r) (all_vertices r) → HasNumbers widths (width_number r) (all_vertices r) → k < steps r → c ≡ entry_at r (steps r - 1 - k) →
     s ≡ get_or nodes c.s s → width ≡ get_or widths c.t width →
     t ≡ coordinates (place_number r c.t) → t_input ≡ input_number r c.t → u ≡ coordinates (place_number r c.u) → u_input ≡ input_number r c.u →
     presence ≡ one_if (is_some c.left) + 2 * one_if (is_some c.right) →
@@ -112,7 +112,7 @@ head_is r nodes widths k c s width t t_input u u_input presence run node_has wid
     let i = steps r - suc k in
     let i_lt : i < steps r = omega arith in
     let same : steps r - 1 - k ≡ i = omega arith in
-    let c_is : c ≡ step_of r k = is ∙ ap (entry r) same in
+    let c_is : c ≡ step_of r k = is ∙ ap (entry_at r) same in
     let named = run.named i i_lt in
     let given = ends_given r run i i_lt in
     let s_lt : c.s < all_vertices r = rw c_is (omega arith) in
@@ -124,5 +124,5 @@ head_is r nodes widths k c s width t t_input u u_input presence run node_has wid
     rw (record-at r k l, node, wide, t_place, t_number, u_place, u_number, faces, numbered-some r (step_of r k).left, numbered-some r (step_of r k).right) (rw c_is refl)
 
 -- the collapse that became record k
-pub step_is : (r : Run) (k : ℕ) (c : Collapse) → k < steps r → c ≡ entry r (steps r - 1 - k) → c ≡ step_of r k
-step_is r k c l is = let same : steps r - 1 - k ≡ steps r - suc k = omega arith in is ∙ ap (entry r) same
+pub step_is : (r : Run) (k : ℕ) (c : Collapse) → k < steps r → c ≡ entry_at r (steps r - 1 - k) → c ≡ step_of r k
+step_is r k c l is = let same : steps r - 1 - k ≡ steps r - suc k = omega arith in is ∙ ap (entry_at r) same

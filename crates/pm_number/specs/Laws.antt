@@ -12,7 +12,7 @@ use Rattle.pm_forest.specs.Places.{place_of_node}
 use Rattle.pm_forest.specs.Rules.{HasShape}
 use Rattle.pm_forest.specs.Meshes.{input_mesh_of}
 use Rattle.pm_runs.specs.Surfaces.{Surface, is_live, place_at, net_of_surface}
-use Rattle.pm_runs.specs.Runs.{IsStart, surface_after, IsRun}
+use Rattle.pm_runs.specs.Runs.{IsStartOfRun, surface_after, IsRun}
 use Rattle.pm_beyond.specs.Valid.{IsValid}
 use Rattle.pm_firm.specs.Firm.{IsFirm}
 use Rattle.pm_number.specs.Stages.{run_of, side_by}
@@ -26,7 +26,7 @@ pub record AreOnGrid (m : Mesh) (log : List Collapse) : Type 0 where
 
 -- The hierarchy of a run has the right shape.
 abbrev pub HierarchiesHaveShape : Type 0
-HierarchiesHaveShape = (m : Mesh) → IsStart m → (log : List Collapse) → IsRun m log → AreOnGrid m log →
+HierarchiesHaveShape = (m : Mesh) → IsStartOfRun m → (log : List Collapse) → IsRun m log → AreOnGrid m log →
     HasShape (hierarchy_of_run m log)
 
 -- It keeps the mesh that the run began with: its leaves are that mesh's vertices. Each collapse is a record.
@@ -37,21 +37,21 @@ pub record KeepsMesh (m : Mesh) (log : List Collapse) : Type 0 where
   pub records : record_count (hierarchy_of_run m log) ≡ length log
 
 abbrev pub HierarchiesKeepMeshes : Type 0
-HierarchiesKeepMeshes = (m : Mesh) → IsStart m → (log : List Collapse) → IsRun m log → KeepsMesh m log
+HierarchiesKeepMeshes = (m : Mesh) → IsStartOfRun m → (log : List Collapse) → IsRun m log → KeepsMesh m log
 
 -- The surface after the first i collapses, and its sides.
 abbrev pub surface_at : Mesh → List Collapse → ℕ → Surface
 surface_at m log i = surface_after m (take i log)
 
-abbrev pub net_at : Mesh → List Collapse → ℕ → Net
-net_at m log i = net_of_surface (surface_at m log i)
+abbrev pub net_of_log_at : Mesh → List Collapse → ℕ → Net
+net_of_log_at m log i = net_of_surface (surface_at m log i)
 
 -- The node of a vertex, and the side of the hierarchy that a side of the input becomes.
 abbrev pub node_in : Mesh → List Collapse → ℕ → ℕ
 node_in m log v = node_number (run_of m log) v
 
-abbrev pub side_in : Mesh → List Collapse → ℕ → ℕ
-side_in m log e = side_by (face_number (run_of m log)) e
+abbrev pub side_numbered_in : Mesh → List Collapse → ℕ → ℕ
+side_numbered_in m log e = side_by (face_number (run_of m log)) e
 
 -- What the front of the records below k shows, and its active nodes.
 abbrev pub shown_at : Mesh → List Collapse → ℕ → Net
@@ -64,10 +64,10 @@ IsActiveAt m log k n = IsActive (hierarchy_of_run m log) (below k) n
 -- faces stand, with the nodes of their corners; the live vertices are the active nodes, each at its place.
 pub record IsShown (m : Mesh) (log : List Collapse) (i k : ℕ) : Type 0 where
   pub sides : (e : ℕ) → e < 3 * length m.faces →
-      Stands (net_at m log i) e ↔ Stands (shown_at m log k) (side_in m log e)
-  pub all_sides : (e : ℕ) → e < 3 * length m.faces → (g : ℕ) × (g < 3 * length m.faces) × (side_in m log g ≡ e)
-  pub corners : (e : ℕ) → Stands (net_at m log i) e →
-      (shown_at m log k).from (side_in m log e) ≡ node_in m log ((net_at m log i).from e)
+      Stands (net_of_log_at m log i) e ↔ Stands (shown_at m log k) (side_numbered_in m log e)
+  pub all_sides : (e : ℕ) → e < 3 * length m.faces → (g : ℕ) × (g < 3 * length m.faces) × (side_numbered_in m log g ≡ e)
+  pub corners : (e : ℕ) → Stands (net_of_log_at m log i) e →
+      (shown_at m log k).from (side_numbered_in m log e) ≡ node_in m log ((net_of_log_at m log i).from e)
   pub vertices : (v : ℕ) → is_live (surface_at m log i) v ≡ true → IsActiveAt m log k (node_in m log v)
   pub all_vertices : (n : ℕ) → IsActiveAt m log k n →
       (v : ℕ) × (is_live (surface_at m log i) v ≡ true) × (node_in m log v ≡ n)
@@ -77,15 +77,15 @@ pub record IsShown (m : Mesh) (log : List Collapse) (i k : ℕ) : Type 0 where
       place_of_node (hierarchy_of_run m log) (node_in m log v) ≡ place_at (surface_at m log i) v
 
 abbrev pub SurfacesAreShown : Type 0
-SurfacesAreShown = (m : Mesh) → IsStart m → (log : List Collapse) → IsRun m log → (i k : ℕ) → i + k ≡ length log →
+SurfacesAreShown = (m : Mesh) → IsStartOfRun m → (log : List Collapse) → IsRun m log → (i k : ℕ) → i + k ≡ length log →
     IsShown m log i k
 
 -- It is valid where it has the right shape.
 abbrev pub HierarchiesOfRunsAreValid : Type 0
-HierarchiesOfRunsAreValid = (m : Mesh) → IsStart m → (log : List Collapse) → IsRun m log →
+HierarchiesOfRunsAreValid = (m : Mesh) → IsStartOfRun m → (log : List Collapse) → IsRun m log →
     HasShape (hierarchy_of_run m log) → IsValid (hierarchy_of_run m log)
 
 -- And firm.
 abbrev pub HierarchiesOfRunsAreFirm : Type 0
-HierarchiesOfRunsAreFirm = (m : Mesh) → IsStart m → (log : List Collapse) → IsRun m log →
+HierarchiesOfRunsAreFirm = (m : Mesh) → IsStartOfRun m → (log : List Collapse) → IsRun m log →
     HasShape (hierarchy_of_run m log) → IsFirm (hierarchy_of_run m log)

@@ -15,7 +15,7 @@ use Rattle.pm_forest.specs.declared.parts.Child.{Child}
 use Rattle.pm_forest.specs.declared.parts.NewFace.{NewFace}
 use Rattle.pm_forest.specs.declared.parts.Record.{Record}
 use Rattle.pm_forest.specs.Forest.{Hierarchy}
-use Rattle.pm_number.specs.Stages.{Run, run_of, steps, entry, side_by}
+use Rattle.pm_number.specs.Stages.{Run, run_of, steps, entry_at, side_by}
 
 -- The position of v in a list, and the sum of f over what stands before it.
 abbrev pub place_in : ℕ → List ℕ → ℕ
@@ -32,7 +32,7 @@ picked p a n = filter p (range_with_len a n)
 
 -- The collapse that takes vertex v, if one does, and the one that drops face f.
 abbrev pub takes : Run → ℕ → ℕ → Bool
-takes r v i = ((entry r i).t == v) || ((entry r i).u == v)
+takes r v i = ((entry_at r i).t == v) || ((entry_at r i).u == v)
 
 unfoldable pub taken_by : Run → ℕ → Option ℕ
 taken_by r v = find_below (takes r v) (steps r)
@@ -42,7 +42,7 @@ is_gone f None = false
 is_gone f (Some g) = g.face.0 == f
 
 abbrev pub drops : Run → ℕ → ℕ → Bool
-drops r f i = is_gone f (entry r i).left || is_gone f (entry r i).right
+drops r f i = is_gone f (entry_at r i).left || is_gone f (entry_at r i).right
 
 unfoldable pub dropped_by : Run → ℕ → Option ℕ
 dropped_by r f = find_below (drops r f) (steps r)
@@ -56,12 +56,12 @@ base_faces r = picked (λ f. is_none (dropped_by r f)) 0 r.net.faces
 
 -- The collapse that becomes record k.
 abbrev pub step_of : Run → ℕ → Collapse
-step_of r k = entry r (steps r - suc k)
+step_of r k = entry_at r (steps r - suc k)
 
 -- The node of vertex v.
 abbrev pub node_at : Run → ℕ → Option ℕ → ℕ
 node_at r v None = place_in v (left_over r)
-node_at r v (Some i) = length (left_over r) + 2 * (steps r - suc i) + cond ((entry r i).t == v) 0 1
+node_at r v (Some i) = length (left_over r) + 2 * (steps r - suc i) + cond ((entry_at r i).t == v) 0 1
 
 unfoldable pub node_number : Run → ℕ → ℕ
 node_number r v = node_at r v (taken_by r v)
@@ -70,7 +70,7 @@ node_number r v = node_at r v (taken_by r v)
 unfoldable pub width_after : Run → ℕ → ℕ → ℕ
 width_after r zero v = 1
 width_after r (suc i) v =
-    let c = entry r i in
+    let c = entry_at r i in
     cond (v == c.s) (width_after r i c.t + width_after r i c.u) (width_after r i v)
 
 abbrev pub width_number : Run → ℕ → ℕ
@@ -96,14 +96,14 @@ faces_before r (suc k) = let c = step_of r k in faces_before r k + one_if (is_so
 abbrev pub face_at : Run → ℕ → Option ℕ → ℕ
 face_at r f None = place_in f (base_faces r)
 face_at r f (Some i) =
-    faces_before r (steps r - suc i) + cond (is_gone f (entry r i).left) 0 (one_if (is_some (entry r i).left))
+    faces_before r (steps r - suc i) + cond (is_gone f (entry_at r i).left) 0 (one_if (is_some (entry_at r i).left))
 
 unfoldable pub face_number : Run → ℕ → ℕ
 face_number r f = face_at r f (dropped_by r f)
 
 -- The place of a vertex: that of an input vertex, or that of the collapse that made it.
 unfoldable pub place_number : Run → ℕ → Place
-place_number r v = cond (nat_lt v r.vertices) (slice_index_or r.points v (place_of [])) (entry r (v - r.vertices)).place
+place_number r v = cond (nat_lt v r.vertices) (slice_index_or r.points v (place_of [])) (entry_at r (v - r.vertices)).place
 
 -- The number of an input vertex from 1, and 0 for the others.
 unfoldable pub input_number : Run → ℕ → ℕ

@@ -27,16 +27,16 @@ no_collapse = record { t = 0; u = 0; s = 0; place = place_of []; left = None; ri
 abbrev pub steps : Run → ℕ
 steps r = length r.log
 
-unfoldable pub entry : Run → ℕ → Collapse
-entry r i = slice_index_or r.log i no_collapse
+unfoldable pub entry_at : Run → ℕ → Collapse
+entry_at r i = slice_index_or r.log i no_collapse
 
 -- The sides after the first i collapses.
 abbrev pub from_after : Run → ℕ → ℕ → ℕ
 from_after r zero e = r.net.from e
-from_after r (suc i) e = let c = entry r i in merge c.t c.u c.s (from_after r i e)
+from_after r (suc i) e = let c = entry_at r i in merge c.t c.u c.s (from_after r i e)
 
-abbrev pub net_after : Run → ℕ → Net
-net_after r i = record { faces = r.net.faces; from = from_after r i }
+abbrev pub net_of_run_after : Run → ℕ → Net
+net_of_run_after r i = record { faces = r.net.faces; from = from_after r i }
 
 -- What the log keeps of the face in which p is followed by q.
 abbrev pub IsGone : Net → ℕ → ℕ → Option Gone → Type 0
@@ -45,7 +45,7 @@ IsGone m p q (Some g) =
     (e : ℕ) × Runs m e p q × (face_of e ≡ g.face.0) × StandsAcross m (next e) (number_of g.first) ×
     StandsAcross m (next (next e)) (number_of g.second)
 
-pub record IsEntry (m : Net) (c : Collapse) : Type 0 where
+pub record TellsWhatGoes (m : Net) (c : Collapse) : Type 0 where
   pub left : IsGone m c.t c.u c.left
   pub right : IsGone m c.u c.t c.right
 
@@ -54,21 +54,21 @@ pub record IsMerging (r : Run) : Type 0 where
   pub vertex : (e : ℕ) → e < 3 * r.net.faces → r.net.from e < r.vertices
   pub whole : (e : ℕ) → e < 3 * r.net.faces → Stands r.net e
   pub proper : IsProper r.net
-  pub named : (i : ℕ) → i < steps r → (entry r i).s ≡ r.vertices + i
-  pub linkable : (i : ℕ) → i < steps r → IsLinkable (net_after r i) (entry r i).t (entry r i).u
-  pub logged : (i : ℕ) → i < steps r → IsEntry (net_after r i) (entry r i)
+  pub named : (i : ℕ) → i < steps r → (entry_at r i).s ≡ r.vertices + i
+  pub linkable : (i : ℕ) → i < steps r → IsLinkable (net_of_run_after r i) (entry_at r i).t (entry_at r i).u
+  pub logged : (i : ℕ) → i < steps r → TellsWhatGoes (net_of_run_after r i) (entry_at r i)
 
 -- The side that a side becomes, where faces take the numbers that `face` gives.
 unfoldable pub side_by : (ℕ → ℕ) → ℕ → ℕ
 side_by face e = 3 * face (face_of e) + e % 3
 
 -- Vertex v is the beginning of a side.
-abbrev pub IsBegun : Net → ℕ → Type 0
-IsBegun m v = (e : ℕ) × (e < 3 * m.faces) × (m.from e ≡ v)
+abbrev pub BeginsSide : Net → ℕ → Type 0
+BeginsSide m v = (e : ℕ) × (e < 3 * m.faces) × (m.from e ≡ v)
 
-abbrev pub moved : (ℕ → ℕ) → Option ℕ → Option ℕ
-moved side None = None
-moved side (Some e) = Some (side e)
+abbrev pub side_moved : (ℕ → ℕ) → Option ℕ → Option ℕ
+side_moved side None = None
+side_moved side (Some e) = Some (side e)
 
 -- The same mesh with other numbers: `side` numbers the sides, `name` the vertices.
 pub record Renames (m n : Net) (side name : ℕ → ℕ) : Type 0 where
@@ -76,4 +76,4 @@ pub record Renames (m n : Net) (side name : ℕ → ℕ) : Type 0 where
   pub turns : (e : ℕ) → e < 3 * m.faces → side (next e) ≡ next (side e)
   pub from : (e : ℕ) → e < 3 * m.faces → n.from (side e) ≡ name (m.from e)
   pub back : (e : ℕ) → e < 3 * n.faces → (g : ℕ) × (g < 3 * m.faces) × (side g ≡ e)
-  pub one : (v w : ℕ) → IsBegun m v → IsBegun m w → name v ≡ name w → v ≡ w
+  pub one : (v w : ℕ) → BeginsSide m v → BeginsSide m w → name v ≡ name w → v ≡ w

@@ -65,8 +65,8 @@ abbrev pub took_records : Hierarchy → ℕ → Shaping
 took_records h k = record { counts = counts_of h; h = first_records h k; coming = None }
 
 -- And of record k its head; then its left face too, where it has one.
-abbrev pub took_head : Hierarchy → ℕ → Shaping
-took_head h k = let x = record_at h k in record {
+abbrev pub with_head_taken : Hierarchy → ℕ → Shaping
+with_head_taken h k = let x = record_at h k in record {
   counts = counts_of h;
   h = first_records h k;
   coming = Some (record { split = record x { left = None; right = None }; left_due = is_some x.left; right_due = is_some x.right });

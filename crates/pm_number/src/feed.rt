@@ -6,7 +6,7 @@ ghost use Rattle.pm_forest.specs.Shaping.{nothing_in};
 ghost use Rattle.pm_forest.specs.Rules.{counts_of};
 ghost use Rattle.pm_number.specs.Stages.{run_of};
 ghost use Rattle.pm_number.specs.Numbering.{step_of, hierarchy_of};
-ghost use Rattle.pm_number.specs.Tables.{IsSmallRun, AreNumbersOf, took_roots, took_bases, took_records, took_head, took_left};
+ghost use Rattle.pm_number.specs.Tables.{IsSmallRun, AreNumbersOf, took_roots, took_bases, took_records, with_head_taken, took_left};
 
 use crate::left::entry;
 use crate::tables::Numbers;
@@ -57,7 +57,7 @@ fn add_left(
     requires numbers { AreNumbersOf (run_of (mesh_of mesh.now) log.now) numbers.now }
     requires inside { k < length log.now }
     requires gone { gone.now ≡ (step_of (run_of (mesh_of mesh.now) log.now) k).left }
-    requires before { shaper.old ≡ took_head (hierarchy_of (run_of (mesh_of mesh.now) log.now)) k }
+    requires before { shaper.old ≡ with_head_taken (hierarchy_of (run_of (mesh_of mesh.now) log.now)) k }
     ensures { shaper.new ≡ took_left (hierarchy_of (run_of (mesh_of mesh.now) log.now)) k }
 {
     if let Some(gone) = gone {

@@ -1,7 +1,7 @@
 //! What a run leaves: the vertices that no collapse merged, and the faces that none dropped.
 ghost use Rattle.std.specs.Prelude.{true, false, ◌≡◌, ◌≢◌, ◌+◌, ◌<◌, ◌||◌, ℕ, IfOk, length, is_some, slice_index_or};
 ghost use Rattle.pm_base.specs.Meshes.{mesh_of};
-ghost use Rattle.pm_number.specs.Stages.{run_of, entry};
+ghost use Rattle.pm_number.specs.Stages.{run_of, entry_at};
 ghost use Rattle.pm_number.specs.Numbering.{picked, taken_by, is_gone, dropped_by, left_over, base_faces};
 ghost use Rattle.pm_number.specs.Tables.{IsSmallRun, all_vertices, is_unset};
 
@@ -13,7 +13,7 @@ use std::alloc::Global;
 pub fn entry<'a>(mesh: &Mesh, log: &'a [Collapse], i: usize) -> &'a Collapse
     requires run { IsSmallRun (run_of (mesh_of mesh.now) log.now) }
     requires inside { i < length log.now }
-    ensures value { result.now ≡ entry (run_of (mesh_of mesh.now) log.now) i }
+    ensures value { result.now ≡ entry_at (run_of (mesh_of mesh.now) log.now) i }
     ensures made { result.now.s ≡ length mesh.now.points.items + i }
     ensures first { result.now.t < length mesh.now.points.items + i }
     ensures second { result.now.u < length mesh.now.points.items + i }

@@ -2,7 +2,7 @@
 ghost use Rattle.std.specs.Prelude.{◌≡◌, IfOk};
 ghost use Rattle.pm_base.specs.Meshes.{mesh_of};
 ghost use Rattle.pm_forest.specs.Meshes.{input_mesh_of};
-ghost use Rattle.pm_runs.specs.Runs.{IsStart, IsRun};
+ghost use Rattle.pm_runs.specs.Runs.{IsStartOfRun, IsRun};
 ghost use Rattle.pm_beyond.specs.Valid.{IsValid};
 ghost use Rattle.pm_firm.specs.Firm.{IsFirm};
 ghost use Rattle.pm_number.specs.Numbering.{hierarchy_of_run};
@@ -17,7 +17,7 @@ use std::alloc::Global;
 /// The hierarchy of the run that the log tells of the mesh. It is valid, and its input mesh is the mesh. It takes linear
 /// time and memory.
 pub fn from_log(alloc: Global, mesh: &Mesh, log: &Log) -> Result<Hierarchy, OutOfMemory>
-    requires start { IsStart (mesh_of mesh.now) }
+    requires start { IsStartOfRun (mesh_of mesh.now) }
     requires run { IsRun (mesh_of mesh.now) log.now.items }
     ensures hierarchy { IfOk result (λ h. h ≡ hierarchy_of_run (mesh_of mesh.now) log.now.items) }
     ensures valid { IfOk result IsValid }

@@ -3,7 +3,7 @@ use Rattle.std.specs.Prelude.{ℕ, List, [], ◌∷◌, Option, Some, None, if�
 use Rattle.std.specs.Option.{option_and_then}
 use Rattle.pm_base.specs.Place.{Place}
 use Rattle.pm_view.specs.declared.limits.TheConstants.{GREATEST_EYE_COORDINATE}
-use Rattle.pm_view.specs.Fields.{fields, signed_of}
+use Rattle.pm_view.specs.Fields.{spaced_fields, signed_of}
 use Rattle.pm_pick.specs.declared.limits.TheConstants.{GREATEST_WAY_COMPONENT}
 use Rattle.pm_pick.specs.Rays.{Ray, is_ray}
 
@@ -26,4 +26,4 @@ ray_in _ = None
 
 -- The ray that a text spells.
 abbrev pub ray_of : List ℕ → Option Ray
-ray_of text = ray_in (fields text)
+ray_of text = ray_in (spaced_fields text)

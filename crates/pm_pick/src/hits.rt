@@ -3,9 +3,9 @@
 ghost use Rattle.std.specs.Prelude.{◌≡◌, ◌≤◌, ◌<◌, ◌^◌, ◌+◌, ◌*◌, ◌≤ℤ◌, pos, ℕ, int_le, nat_lt, unsigned_abs, IfSome, IfNone, true, false, Some, None};
 ghost use Rattle.pm_base.specs.Geometry.{cross_of, dot_of, IsNormal};
 ghost use Rattle.pm_forest.specs.Faces.{face_count, corners_of};
-ghost use Rattle.pm_bounds.specs.Bounds.{leaf_place};
+ghost use Rattle.pm_forest.specs.Meshes.{leaf_place};
 ghost use Rattle.pm_pick.specs.Rays.{direction_of, IsWithin};
-ghost use Rattle.pm_pick.specs.Hits.{turned, slope_of, height_of, passing, is_hit_at, is_hit, IsHit};
+ghost use Rattle.pm_pick.specs.Hits.{sign_turned, slope_of, height_of, passing, is_hit_at, is_hit, IsHit};
 ghost use Rattle.pm_pick.specs.Picks.{HitsFace, MissesFace};
 
 use crate::Ray;
@@ -42,7 +42,7 @@ fn normal(a: Point, b: Point, c: Point) -> Way
 // x, negated where n is below 0.
 fn turned(n: i128, x: i128) -> i128
     requires { unsigned_abs x ≤ 2 ^ 78 }
-    ensures { result ≡ turned n x }
+    ensures { result ≡ sign_turned n x }
 {
     if n < 0 { -x } else { x }
 }
@@ -50,7 +50,7 @@ fn turned(n: i128, x: i128) -> i128
 // Whether a number that is turned with the slope isn't below 0.
 fn is_up(slope: i128, x: i128) -> bool
     requires { unsigned_abs x ≤ 2 ^ 78 }
-    ensures { result ≡ int_le (pos 0) (turned slope x) }
+    ensures { result ≡ int_le (pos 0) (sign_turned slope x) }
 {
     turned(slope, x) >= 0
 }
@@ -84,14 +84,14 @@ impl Ray {
 
     // Whether the height, turned with the slope, isn't below 0.
     fn is_ahead(&self, slope: i128, a: Point, b: Point, c: Point) -> bool
-        ensures { result ≡ int_le (pos 0) (turned slope (height_of a b c self.now)) }
+        ensures { result ≡ int_le (pos 0) (sign_turned slope (height_of a b c self.now)) }
     {
         is_up(slope, self.height(a, b, c))
     }
 
     // Whether the ray passes a side on the hand that the slope tells.
     fn is_inside(&self, slope: i128, p: Point, q: Point) -> bool
-        ensures { result ≡ int_le (pos 0) (turned slope (passing p q self.now)) }
+        ensures { result ≡ int_le (pos 0) (sign_turned slope (passing p q self.now)) }
     {
         is_up(slope, self.passing(p, q))
     }

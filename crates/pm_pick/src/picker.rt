@@ -33,9 +33,9 @@ pub struct Picker {
 }
 
 impl Model for Picker {
-    ghost use Rattle.pm_pick.specs.Lists.{Lists};
+    ghost use Rattle.pm_pick.specs.Lists.{CornerLists};
 
-    ghost Value = { Lists };
+    ghost Value = { CornerLists };
 
     ghost view = { λ p. record { last = p.last.items; before = p.before.items } };
 }

@@ -16,7 +16,7 @@ abbrev pub least_place : (Place → ℕ) → Place → Place → Place
 least_place value t u = first_least value t u (midpoint t u)
 
 -- No candidate has a lesser value than this place.
-pub record IsLeast (value : Place → ℕ) (best t u : Place) : Type 0 where
+pub record IsLeastPlace (value : Place → ℕ) (best t u : Place) : Type 0 where
   pub first : value best ≤ value t
   pub second : value best ≤ value u
   pub middle : value best ≤ value (midpoint t u)

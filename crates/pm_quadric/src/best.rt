@@ -5,7 +5,7 @@ ghost use Rattle.std.specs.Int.{int_div_euclid};
 ghost use Rattle.pm_base.specs.declared.limits.TheConstants.{GREATEST_COORDINATE};
 ghost use Rattle.pm_quadric.specs.Planes.{Plane, squares_of};
 ghost use Rattle.pm_quadric.specs.Sums.{StandsFor};
-ghost use Rattle.pm_quadric.specs.Candidates.{midpoint, least_place, IsLeast};
+ghost use Rattle.pm_quadric.specs.Candidates.{midpoint, least_place, IsLeastPlace};
 
 use crate::Quadric;
 use pm_base::Point;
@@ -37,7 +37,7 @@ fn midpoint_of(t: Point, u: Point) -> Point
 /// coordinates are rounded down.
 pub fn best_place(q: &Quadric, t: Point, u: Point) -> (Point, u128)
     ensures place { (fs : List Plane) → StandsFor q.now fs → result.0 ≡ least_place (squares_of fs) t u }
-    ensures least { (fs : List Plane) → StandsFor q.now fs → IsLeast (squares_of fs) result.0 t u }
+    ensures least { (fs : List Plane) → StandsFor q.now fs → IsLeastPlace (squares_of fs) result.0 t u }
     ensures value { (fs : List Plane) → StandsFor q.now fs → result.1 ≡ squares_of fs result.0 }
     ensures small { result.1 < 2 ^ 124 }
 {

@@ -5,7 +5,7 @@ use Rattle.pm_queue.specs.declared.queue.TheConstants.{ITEM_LIMIT}
 use Rattle.std.specs.List.{slice_get}
 use Rattle.std.proofs.lemmas.Option.{slice_get-get_or}
 use Rattle.pm_queue.specs.Entries.{Entries, IsLeast}
-use Rattle.pm_queue.specs.Heap.{key_of, goes_first, keys_of, IsKeyed, IsHeap, IsHeapButItem}
+use Rattle.pm_queue.specs.Heap.{item_key_of, goes_first, keys_of, IsKeyed, IsHeap, IsHeapButItem}
 use Rattle.pm_queue.specs.Places.{is_member, AddsMember, DropsMember, IsPlaces}
 use Rattle.pm_queue.specs.Viewed.{entries, IsIndexedHeap}
 use Rattle.pm_queue.proofs.EntryTables.{entries_set, entries_drop, entries_drop_absent}
@@ -150,7 +150,7 @@ module _ (keys : List Key) (heap place : List ℕ) (len item : ℕ) (inv : IsInd
 
 -- the item at the top has the least key
 pub least_of_tables : (keys : List Key) (heap place : List ℕ) (len : ℕ) → IsIndexedHeap keys heap place len → 0 < len →
-    (x : ℕ) (key : Key) → x ≡ get_or heap 0 0 → key ≡ key_of keys 0 → IsLeast (entries_of keys place len) (x, key)
+    (x : ℕ) (key : Key) → x ≡ get_or heap 0 0 → key ≡ item_key_of keys 0 → IsLeast (entries_of keys place len) (x, key)
 least_of_tables keys heap place len inv pos x key x_is key_is =
     let all : List Key = keys_of keys place in
     let all_len : length all ≡ length keys = length-keys_of keys place in
@@ -158,6 +158,6 @@ least_of_tables keys heap place len inv pos x key x_is key_is =
     let k = keyed_of keys heap place inv.inverse in
     let x_in : x < length keys = subst (λ (i : ℕ). i < length keys) (sym x_is) (inv.inverse.heap_in 0 low) in
     let there : slice_get all x ≡ Some key =
-    slice_get-get_or all x (key_of [] 0) (omega (arith, all_len))
-    ∙ ap Some (ap (key_of all) x_is ∙ sym (k.each 0 (omega (arith, all_len))) ∙ sym key_is) in
+    slice_get-get_or all x (item_key_of [] 0) (omega (arith, all_len))
+    ∙ ap Some (ap (item_key_of all) x_is ∙ sym (k.each 0 (omega (arith, all_len))) ∙ sym key_is) in
     least_at_root (length keys) all heap place len x key inv.inverse inv.ordered inv.within pos (sym x_is) there

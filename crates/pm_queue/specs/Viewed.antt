@@ -8,12 +8,12 @@ use Rattle.pm_queue.specs.Places.{is_member, IsPlaces}
 use Rattle.pm_queue.specs.Heap.{goes_first, keys_of, IsHeap}
 
 -- the key of a member, and none for another item
-abbrev pub entry : List Key → List ℕ → ℕ → ℕ → Option Key
-entry keys place len item = if is_member place len item then slice_get keys item else None
+abbrev pub entry_in : List Key → List ℕ → ℕ → ℕ → Option Key
+entry_in keys place len item = if is_member place len item then slice_get keys item else None
 
 -- the entry of each of the n items
 unfoldable pub entries : ℕ → List Key → List ℕ → ℕ → Entries
-entries n keys place len = map (λ item. entry keys place len item) (range_with_len 0 n)
+entries n keys place len = map (λ item. entry_in keys place len item) (range_with_len 0 n)
 
 -- the tables are inverse to each other, and the members are a heap
 pub record IsIndexedHeap (keys : List Key) (heap place : List ℕ) (len : ℕ) : Type 0 where

@@ -6,8 +6,8 @@
 
 ghost use Rattle.std.specs.Prelude.{◌≡◌, ℕ, ◌<◌, List, length, slice_index, slice_set, IfOk};
 ghost use Rattle.pm_queue.specs.declared.key.Key.{Key};
-ghost use Rattle.pm_queue.specs.Heap.{key_of, IsKeyed};
-ghost use Rattle.pm_queue.specs.Places.{moved, IsPlaces, IsSwapped};
+ghost use Rattle.pm_queue.specs.Heap.{item_key_of, IsKeyed};
+ghost use Rattle.pm_queue.specs.Places.{place_moved, IsPlaces, IsSwapped};
 
 use super::queue::OutOfMemory;
 use super::slot::Slot;
@@ -33,7 +33,7 @@ fn exchange_items(heap: &mut [u32], place: &mut [u32], p: u32, q: u32)
     ensures places { IsPlaces (length heap.old) heap.new place.new }
     ensures heap { IsSwapped heap.old heap.new p q }
     ensures place { (i : ℕ) → i < length heap.old
-        → slice_index place.new i ≡ moved p q (slice_index place.old i) }
+        → slice_index place.new i ≡ place_moved p q (slice_index place.old i) }
 {
     let x = heap[p as usize];
     let y = heap[q as usize];
@@ -47,7 +47,7 @@ fn exchange_items(heap: &mut [u32], place: &mut [u32], p: u32, q: u32)
 fn exchange_keys(keys: &mut [Slot], p: u32, q: u32)
     requires p_in { p < length keys.old }
     requires q_in { q < length keys.old }
-    ensures { keys.new ≡ slice_set (slice_set keys.old p (key_of keys.old q)) q (key_of keys.old p) }
+    ensures { keys.new ≡ slice_set (slice_set keys.old p (item_key_of keys.old q)) q (item_key_of keys.old p) }
 {
     let key = keys[p as usize];
     keys[p as usize] = keys[q as usize];
@@ -65,7 +65,7 @@ pub(crate) fn exchange(heap: &mut [u32], place: &mut [u32], keys: &mut [Slot], p
     ensures keyed { IsKeyed item_keys heap.new keys.new }
     ensures heap { IsSwapped heap.old heap.new p q }
     ensures place { (i : ℕ) → i < length item_keys
-        → slice_index place.new i ≡ moved p q (slice_index place.old i) }
+        → slice_index place.new i ≡ place_moved p q (slice_index place.old i) }
 {
     exchange_items(heap, place, p, q);
     exchange_keys(keys, p, q);

@@ -11,7 +11,7 @@ use Rattle.pm_beyond.specs.Plans.{Move, Split, Collapse, moved, moved_by, MayMov
 use Rattle.pm_beyond.proofs.PlanLists.{ascending-zero, ascending-true, ascending-false, descending-zero, descending-true, descending-false, legal-take, same_bools}
 use Rattle.pm_beyond.proofs.PlanTheory.{legal}
 use Rattle.pm_front.specs.Corners.{moved_lists, corner_lists_after}
-use Rattle.pm_refine.specs.Holding.{Holds, HoldsMoves}
+use Rattle.pm_refine.specs.Holding.{HoldsFrom, HoldsMoves}
 use Rattle.pm_refine.specs.Doing.{splits_of, collapses_of, AreToDo}
 use Rattle.pm_refine.proofs.SetLaws.{set_in}
 
@@ -121,7 +121,7 @@ module _ (h : Hierarchy) where
 
 -- The plan is the splits of the one set and the collapses of the other.
 module _ (h : Hierarchy) (S G : ℕ → Bool) (rises falls : List Bool) (m : HoldsMoves (record_count h) S G 0 rises falls) where
-  as_held : (p : ℕ → Bool) (flags : List Bool) → Holds (record_count h) p 0 flags → (j : ℕ) → j < record_count h → p j ≡ set_of flags j
+  as_held : (p : ℕ → Bool) (flags : List Bool) → HoldsFrom (record_count h) p 0 flags → (j : ℕ) → j < record_count h → p j ≡ set_of flags j
   as_held p flags holds j l = same_bools (p j) (set_of flags j) (λ t. holds.there j (omega arith) l t) (λ t. (holds.only j t).1)
 
   pub plan_is : plan h S G ≡ splits_of rises ++ collapses_of falls

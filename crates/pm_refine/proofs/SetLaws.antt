@@ -6,7 +6,7 @@ use Rattle.pm_base.specs.Counts.{count}
 use Rattle.pm_sets.specs.Sets.{IsFirst, IsLast}
 use Rattle.pm_forest.specs.Fronts.{set_of}
 use Rattle.pm_beyond.proofs.PlanLists.{less-parts}
-use Rattle.pm_refine.specs.Holding.{Holds, HoldsBelow, HoldsMoves}
+use Rattle.pm_refine.specs.Holding.{HoldsFrom, HoldsBelow, HoldsMoves}
 use Rattle.pm_refine.proofs.CountLaws.{count_apart, count_some}
 
 pub set_in : (flags : List Bool) (k : ℕ) → set_of flags k ≡ true → k < length flags
@@ -52,7 +52,7 @@ module _ (n : ℕ) (S G : ℕ → Bool) (b : ℕ) (rises falls : List Bool) (m :
 
 -- A set that has all records from b on that pass a test has all from a lower one on, where none between passes.
 module _ (n : ℕ) (p : ℕ → Bool) where
-  pub holds_below : (a b : ℕ) (m : List Bool) → a ≤ b → Holds n p b m → ((j : ℕ) → a ≤ j → j < b → p j ≡ false) → Holds n p a m
+  pub holds_below : (a b : ℕ) (m : List Bool) → a ≤ b → HoldsFrom n p b m → ((j : ℕ) → a ≤ j → j < b → p j ≡ false) → HoldsFrom n p a m
   holds_below a b m l holds none = record {
     len = holds.len;
     there = λ j low less t. elim (cases_lt j b) [ inl c ↦ absurd (both_ways _ (none j low c) t) | inr c ↦ holds.there j c less t ];
@@ -60,7 +60,7 @@ module _ (n : ℕ) (p : ℕ → Bool) where
   }
 
   -- It has one record more.
-  pub holds_more : (k : ℕ) (m : List Bool) → k < n → Holds n p (suc k) m → p k ≡ true → Holds n p k (set m k true)
+  pub holds_more : (k : ℕ) (m : List Bool) → k < n → HoldsFrom n p (suc k) m → p k ≡ true → HoldsFrom n p k (set m k true)
   holds_more k m l holds t =
       let len = holds.len in
       record {
@@ -75,7 +75,7 @@ module _ (n : ℕ) (p : ℕ → Bool) where
         ];
       }
 
-  pub holds_same : (k : ℕ) (m : List Bool) → Holds n p (suc k) m → p k ≡ false → Holds n p k m
+  pub holds_same : (k : ℕ) (m : List Bool) → HoldsFrom n p (suc k) m → p k ≡ false → HoldsFrom n p k m
   holds_same k m holds f = holds_below k (suc k) m (omega arith) holds (λ j low high. let is : j ≡ k = omega arith in subst (λ i. p i ≡ false) (sym is) f)
 
 -- A set gets the records that pass a test, in ascending order.

@@ -11,8 +11,8 @@ abbrev pub is_due : Hierarchy → (ℕ → Bool) → (ℕ → Bool) → ℕ → 
 is_due h wanted S j = wanted (s_of h j) && not (S j)
 
 -- Record j waits for a split, and its node is wanted.
-abbrev pub is_reached : Hierarchy → (ℕ → Bool) → (ℕ → Bool) → ℕ → Bool
-is_reached h wanted S j = may_try h S j && wanted (s_of h j)
+abbrev pub is_wanted_next : Hierarchy → (ℕ → Bool) → (ℕ → Bool) → ℕ → Bool
+is_wanted_next h wanted S j = may_try h S j && wanted (s_of h j)
 
 -- Record j is split, no split record needs it, and its node isn't wanted.
 abbrev pub is_loose : Hierarchy → (ℕ → Bool) → (ℕ → Bool) → ℕ → Bool
@@ -33,7 +33,7 @@ pub record AreFound (h : Hierarchy) (wanted S : ℕ → Bool) (b : ℕ) (rises w
       → is_due h wanted S j ≡ true → (set_of rises j || set_of work j) ≡ true
 
 -- The set has the due records, and those that may go.
-pub record IsStart (h : Hierarchy) (wanted S : ℕ → Bool) (work : List Bool) : Type 0 where
+pub record IsStartOfPlan (h : Hierarchy) (wanted S : ℕ → Bool) (work : List Bool) : Type 0 where
   pub work_len : length work ≡ record_count h
   pub only : (j : ℕ) → set_of work j ≡ true → (is_due h wanted S j ≡ true) ⊎ (is_loose h wanted S j ≡ true)
   pub due : (j : ℕ) → j < record_count h → is_due h wanted S j ≡ true → set_of work j ≡ true

@@ -14,7 +14,7 @@ abbrev pub leads_to : Hierarchy → (ℕ → Bool) → ℕ → ℕ → Bool
 leads_to h wanted v j = is_at j (splitter_of h v) && wanted v
 
 -- Of n records, the set has exactly those from b on that pass the test.
-pub record Holds (n : ℕ) (p : ℕ → Bool) (b : ℕ) (flags : List Bool) : Type 0 where
+pub record HoldsFrom (n : ℕ) (p : ℕ → Bool) (b : ℕ) (flags : List Bool) : Type 0 where
   pub len : length flags ≡ n
   pub there : (k : ℕ) → b ≤ k → k < n → p k ≡ true → set_of flags k ≡ true
   pub only : (k : ℕ) → set_of flags k ≡ true → (b ≤ k) × (p k ≡ true)
@@ -27,5 +27,5 @@ pub record HoldsBelow (n : ℕ) (p : ℕ → Bool) (b : ℕ) (flags : List Bool)
 
 -- On the way from S to G: the records from b on that are to be split, and those that are to be collapsed.
 pub record HoldsMoves (n : ℕ) (S G : ℕ → Bool) (b : ℕ) (rises falls : List Bool) : Type 0 where
-  pub up : Holds n (less G S) b rises
-  pub down : Holds n (less S G) b falls
+  pub up : HoldsFrom n (less G S) b rises
+  pub down : HoldsFrom n (less S G) b falls

@@ -10,7 +10,7 @@ ghost use Rattle.pm_beyond.specs.Plans.{differs};
 ghost use Rattle.pm_bounds.specs.Bounds.{AreBoundsOf};
 ghost use Rattle.pm_view.specs.Wanted.{is_wanted};
 ghost use Rattle.pm_refine.specs.Holding.{Joins, HoldsMoves};
-ghost use Rattle.pm_refine.specs.Finding.{IsStart};
+ghost use Rattle.pm_refine.specs.Finding.{IsStartOfPlan};
 ghost use Rattle.pm_refine.specs.Deciding.{AreDecided, IsNext};
 ghost use Rattle.pm_front.specs.Needed.{is_needed, is_unneeded, remaining, AreNeedCounts};
 ghost use Rattle.pm_refine.specs.Adapting.{view_target};
@@ -152,7 +152,7 @@ pub(crate) fn decide_all<L: Ledger>(
     steps: &mut Steps<L>,
 ) -> u32
     requires bounds { AreBoundsOf front.now.h bounds.now }
-    requires start { IsStart front.now.h (is_wanted front.now.h view.now) (set_of front.now.flags)
+    requires start { IsStartOfPlan front.now.h (is_wanted front.now.h view.now) (set_of front.now.flags)
         work.old }
     requires marks { length marks.old.items ≡ record_count front.now.h }
     requires clear { (j : ℕ) → set_of marks.old.items j ≡ false }

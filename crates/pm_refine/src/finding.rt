@@ -10,7 +10,7 @@ ghost use Rattle.pm_front.specs.Needed.{is_unneeded};
 ghost use Rattle.pm_bounds.specs.Bounds.{AreBoundsOf};
 ghost use Rattle.pm_view.specs.Wanted.{is_wanted};
 ghost use Rattle.pm_refine.specs.Holding.{Joins, HoldsBelow, leads_to};
-ghost use Rattle.pm_refine.specs.Finding.{is_due, is_reached, is_loose, IsStart};
+ghost use Rattle.pm_refine.specs.Finding.{is_due, is_wanted_next, is_loose, IsStartOfPlan};
 
 use pm_base::NodeId;
 use pm_bounds::Bounds;
@@ -32,7 +32,7 @@ fn see_waiting<L: Ledger>(
     requires rises { length rises.old ≡ record_count front.now.h }
     requires no_rises { IsEmptySet rises.old }
     ensures seen { let h = front.now.h in HoldsBelow (record_count h)
-        (is_reached h (is_wanted h view.now) (set_of front.now.flags)) (record_count h) rises.new }
+        (is_wanted_next h (is_wanted h view.now) (set_of front.now.flags)) (record_count h) rises.new }
     ensures cost { let h = front.now.h in
         steps.new ≤ steps.old + count (may_try h (set_of front.now.flags)) (record_count h) }
 {
@@ -138,7 +138,7 @@ pub(crate) fn find<L: Ledger>(
     requires no_work { IsEmptySet work.old }
     ensures len { length rises.new ≡ length rises.old }
     ensures empty { IsEmptySet rises.new }
-    ensures start { IsStart front.now.h (is_wanted front.now.h view.now) (set_of front.now.flags)
+    ensures start { IsStartOfPlan front.now.h (is_wanted front.now.h view.now) (set_of front.now.flags)
         work.new }
     ensures cost { let h = front.now.h in let S = set_of front.now.flags in
         steps.new ≤ steps.old + count (may_try h S) (record_count h) + count (is_unneeded h S) (record_count h)

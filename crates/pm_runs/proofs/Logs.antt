@@ -8,7 +8,7 @@ use Rattle.pm_base.specs.Meshes.{Mesh}
 use Rattle.pm_quadric.specs.Planes.{Plane}
 use Rattle.pm_runs.specs.Surfaces.{Surface, next_vertex, net_of_surface, surface_of, IsSurface, collapsed}
 use Rattle.pm_runs.specs.Planes.{planes_at, joined_planes, planes_from, planes_after}
-use Rattle.pm_runs.specs.Runs.{IsStart, after_entry, surface_from, surface_after, IsStep, AreSteps, IsRun}
+use Rattle.pm_runs.specs.Runs.{IsStartOfRun, after_entry, surface_from, surface_after, IsStep, AreSteps, IsRun}
 use Rattle.pm_runs.specs.Merged.{IsProper}
 use Rattle.pm_runs.proofs.Live.{collapse-sound, input-sound, next-after}
 use Rattle.pm_runs.proofs.Proper.{collapse-proper, input-proper, legal-apart}
@@ -79,11 +79,11 @@ stays_proper s [] sound proper steps = proper
 stays_proper s (c ∷ cs) sound proper steps =
     stays_proper (after_entry s c) cs (collapse-sound s sound c.t c.u c.place) (collapse-proper s sound proper c.t c.u c.place (legal-apart s c.t c.u c.place steps.0.legal)) steps.1
 
-pub run-sound : (m : Mesh) → IsStart m → (log : List Collapse) → IsRun m log → IsSurface (surface_after m log)
+pub run-sound : (m : Mesh) → IsStartOfRun m → (log : List Collapse) → IsRun m log → IsSurface (surface_after m log)
 unfolding IsRun surface_after
 run-sound m start log run = stays_sound (surface_of m) log (input-sound m start.formed) run
 
-pub run-proper : (m : Mesh) → IsStart m → (log : List Collapse) → IsRun m log → IsProper (net_of_surface (surface_after m log))
+pub run-proper : (m : Mesh) → IsStartOfRun m → (log : List Collapse) → IsRun m log → IsProper (net_of_surface (surface_after m log))
 unfolding IsRun surface_after
 run-proper m start log run = stays_proper (surface_of m) log (input-sound m start.formed) (input-proper m start.manifold) run
 

@@ -9,7 +9,7 @@ use Rattle.pm_base.specs.Rounds.{Goes, stay, on, IsRound, NoMirrorAt}
 use Rattle.pm_base.proofs.Sides.{back}
 use Rattle.pm_base.proofs.FanLaws.{round_fan, every_round}
 use Rattle.pm_runs.specs.Surfaces.{Surface, next_vertex, net_of_surface, surface_of, IsSurface, collapsed}
-use Rattle.pm_runs.specs.Runs.{IsStart, after_entry, surface_from, surface_after, AreSteps, IsRun}
+use Rattle.pm_runs.specs.Runs.{IsStartOfRun, after_entry, surface_from, surface_after, AreSteps, IsRun}
 use Rattle.pm_runs.specs.Merged.{NoMirror, IsProper, IsLinkable, Alike, merged, IsFresh}
 use Rattle.pm_runs.proofs.Alike.{same_side, back_side, alike-proper}
 use Rattle.pm_runs.proofs.Collapsed.{collapse-alike, input-alike}
@@ -65,7 +65,7 @@ stays_manifold s (c ∷ cs) sound manifold steps =
     stays_manifold (after_entry s c) cs (collapse-sound s sound c.t c.u c.place)
     (collapse-manifold s sound c.t c.u c.place (legal-linkable s c.t c.u c.place steps.0.legal) manifold) steps.1
 
-pub run-manifold : (m : Mesh) → IsStart m → (log : List Collapse) → IsRun m log → IsOrientedManifold (net_of_surface (surface_after m log))
+pub run-manifold : (m : Mesh) → IsStartOfRun m → (log : List Collapse) → IsRun m log → IsOrientedManifold (net_of_surface (surface_after m log))
 unfolding IsRun surface_after
 run-manifold m start log run =
     stays_manifold (surface_of m) log (input-sound m start.formed) (manifold-same (net_of m.faces) (net_of_surface (surface_of m)) (input-alike m) start.manifold) run

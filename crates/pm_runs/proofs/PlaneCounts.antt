@@ -10,7 +10,7 @@ use Rattle.pm_base.specs.Meshes.{Mesh}
 use Rattle.pm_quadric.specs.Planes.{Plane}
 use Rattle.pm_runs.specs.Surfaces.{Surface, next_vertex, is_live, surface_of, IsSurface}
 use Rattle.pm_runs.specs.Planes.{plane_of_face, has_corner, planes_at, joined_planes, planes_from, planes_after}
-use Rattle.pm_runs.specs.Runs.{IsStart, after_entry, surface_from, surface_after, IsStep, AreSteps, IsRun}
+use Rattle.pm_runs.specs.Runs.{IsStartOfRun, after_entry, surface_from, surface_after, IsStep, AreSteps, IsRun}
 use Rattle.pm_runs.specs.Counts.{sum_below, plane_count_of}
 use Rattle.pm_runs.proofs.Live.{live_below, new_live, old_live, next-after, collapse-sound, input-sound}
 use Rattle.pm_runs.proofs.Logs.{step-new}
@@ -117,7 +117,7 @@ counts-kept s sound [] steps planes = refl
 counts-kept s sound (c ∷ cs) steps planes =
     counts-kept (after_entry s c) (collapse-sound s sound c.t c.u c.place) cs steps.1 (joined_planes planes c) ∙ count-kept s sound c steps.0 planes
 
-pub run-count : (m : Mesh) → IsStart m → (log : List Collapse) → IsRun m log → plane_count_of (planes_after m log) (surface_after m log) ≡ plane_count_of (planes_at m) (surface_of m)
+pub run-count : (m : Mesh) → IsStartOfRun m → (log : List Collapse) → IsRun m log → plane_count_of (planes_after m log) (surface_after m log) ≡ plane_count_of (planes_at m) (surface_of m)
 unfolding IsRun surface_after planes_after
 run-count m start log run = counts-kept (surface_of m) (input-sound m start.formed) log run (planes_at m)
 

@@ -25,18 +25,18 @@ octahedron = record {
   faces = face 0 2 4 ∷ face 2 1 4 ∷ face 1 3 4 ∷ face 3 0 4 ∷ face 2 0 5 ∷ face 1 2 5 ∷ face 3 1 5 ∷ face 0 3 5 ∷ [];
 }
 
-abbrev pub middle : Place
-middle = at (pos 50) (pos 50) (pos 0)
+abbrev pub middle_place : Place
+middle_place = at (pos 50) (pos 50) (pos 0)
 
 abbrev pub first_entry : Collapse
-first_entry = record { t = 0; u = 2; s = 6; place = middle; left = gone 0 5 10; right = gone 4 23 16 }
+first_entry = record { t = 0; u = 2; s = 6; place = middle_place; left = gone 0 5 10; right = gone 4 23 16 }
 
 -- The pair 0, 2 goes to the midpoint at a cost of 4,000,000,000,000. Faces 0 and 4 are dropped, six are left.
 pub record IsFirstCollapse : Type 0 where
-  pub place : best_place_of (planes_at octahedron) (surface_of octahedron) 0 2 ≡ middle
+  pub place : best_place_of (planes_at octahedron) (surface_of octahedron) 0 2 ≡ middle_place
   pub cost : cost_of (planes_at octahedron) (surface_of octahedron) 0 2 ≡ 4000000000000
-  pub entry : entry_of (surface_of octahedron) 0 2 middle ≡ first_entry
-  pub faces : face_count_of (collapsed (surface_of octahedron) 0 2 middle) ≡ 6
-  pub next : next_vertex (collapsed (surface_of octahedron) 0 2 middle) ≡ 7
-  pub first_gone : is_live (collapsed (surface_of octahedron) 0 2 middle) 0 ≡ false
-  pub second_gone : is_live (collapsed (surface_of octahedron) 0 2 middle) 2 ≡ false
+  pub entry : entry_of (surface_of octahedron) 0 2 middle_place ≡ first_entry
+  pub faces : face_count_of (collapsed (surface_of octahedron) 0 2 middle_place) ≡ 6
+  pub next : next_vertex (collapsed (surface_of octahedron) 0 2 middle_place) ≡ 7
+  pub first_gone : is_live (collapsed (surface_of octahedron) 0 2 middle_place) 0 ≡ false
+  pub second_gone : is_live (collapsed (surface_of octahedron) 0 2 middle_place) 2 ≡ false

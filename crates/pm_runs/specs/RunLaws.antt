@@ -6,7 +6,7 @@ use Rattle.pm_base.specs.Sides.{net_of}
 use Rattle.pm_base.specs.Fans.{IsOrientedManifold}
 use Rattle.pm_runs.specs.Surfaces.{next_vertex, is_live, net_of_surface, surface_of, IsSurface, collapsed}
 use Rattle.pm_runs.specs.Planes.{planes_at, planes_after}
-use Rattle.pm_runs.specs.Runs.{IsStart, surface_after, IsStep, IsRun, place_of_pair, key_of_pair, IsCandidate, IsStepTo, IsEnd, IsRunTo, IsBegun}
+use Rattle.pm_runs.specs.Runs.{IsStartOfRun, surface_after, IsStep, IsRun, place_of_pair, key_of_pair, IsCandidate, IsStepTo, IsEnd, IsRunTo, IsBegun}
 use Rattle.pm_runs.specs.Merged.{IsProper, Alike, net_from}
 use Rattle.pm_runs.specs.Counts.{live_count_of, plane_count_of, IsSpared}
 use Rattle.pm_runs.specs.Nearby.{IsOther, IsFar}
@@ -24,7 +24,7 @@ EntriesAreSteps = (m : Mesh) (log : List Collapse) → IsRun m log → (i : ℕ)
 
 -- No side and no face comes twice.
 abbrev pub RunsStayProper : Type 0
-RunsStayProper = (m : Mesh) → IsStart m → (log : List Collapse) → IsRun m log → IsSurface (surface_after m log) ×
+RunsStayProper = (m : Mesh) → IsStartOfRun m → (log : List Collapse) → IsRun m log → IsSurface (surface_after m log) ×
     IsProper (net_of_surface (surface_after m log))
 
 -- The surface after a log has the faces of the input after its merges.
@@ -34,18 +34,18 @@ RunsAreMerges = (m : Mesh) (log : List Collapse) → IsRun m log →
 
 -- Each surface of a run is an oriented manifold.
 abbrev pub RunsStayManifolds : Type 0
-RunsStayManifolds = (m : Mesh) → IsStart m → (log : List Collapse) → IsRun m log →
+RunsStayManifolds = (m : Mesh) → IsStartOfRun m → (log : List Collapse) → IsRun m log →
     IsOrientedManifold (net_of_surface (surface_after m log))
 
 -- The vertices that are left are those that no collapse merged into another.
 abbrev pub SparedVerticesAreLive : Type 0
-SparedVerticesAreLive = (m : Mesh) → IsStart m → (log : List Collapse) → IsRun m log →
+SparedVerticesAreLive = (m : Mesh) → IsStartOfRun m → (log : List Collapse) → IsRun m log →
     (next_vertex (surface_after m log) ≡ length m.points + length log) ×
     ((v : ℕ) → (is_live (surface_after m log) v ≡ true) ↔ ((v < length m.points + length log) × IsSpared v log))
 
 -- Each collapse takes one live vertex away, and never the last one.
 abbrev pub RunsAreShort : Type 0
-RunsAreShort = (m : Mesh) → IsStart m → (log : List Collapse) → IsRun m log →
+RunsAreShort = (m : Mesh) → IsStartOfRun m → (log : List Collapse) → IsRun m log →
     (length log + live_count_of (surface_after m log) ≡ length m.points) ×
     (0 < length m.points → length log < length m.points)
 
@@ -56,7 +56,7 @@ PlanesStay = (m : Mesh) (log more : List Collapse) → IsRun m (log ++ more) →
 
 -- The live vertices stand for as many planes as at first, three a face at most.
 abbrev pub PlanesAreKept : Type 0
-PlanesAreKept = (m : Mesh) → IsStart m → (log : List Collapse) → IsRun m log →
+PlanesAreKept = (m : Mesh) → IsStartOfRun m → (log : List Collapse) → IsRun m log →
     let all = plane_count_of (planes_after m log) (surface_after m log) in
     (all ≡ plane_count_of (planes_at m) (surface_of m)) × (all ≤ 3 * length m.faces) ×
     ((a b : ℕ) → a < b → is_live (surface_after m log) a ≡ true → is_live (surface_after m log) b ≡ true →
@@ -71,7 +71,7 @@ KeysAreKept = (m : Mesh) (log : List Collapse) (c : Collapse) → let s = surfac
 
 -- And one that is far from a collapse may be collapsed afterwards exactly where it might before.
 abbrev pub CandidatesAreLocal : Type 0
-CandidatesAreLocal = (m : Mesh) → IsStart m → (log : List Collapse) (c : Collapse) → IsRun m log →
+CandidatesAreLocal = (m : Mesh) → IsStartOfRun m → (log : List Collapse) (c : Collapse) → IsRun m log →
     let s = surface_after m log in IsStep s c → (p q : ℕ) → IsFar s c.t c.u p → IsFar s c.t c.u q →
     IsCandidate m log p q ↔ IsCandidate m (log ++ c ∷ []) p q
 

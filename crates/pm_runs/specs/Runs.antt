@@ -13,7 +13,7 @@ use Rattle.pm_runs.specs.Steps.{entry_of}
 use Rattle.pm_runs.specs.Planes.{planes_after, best_place_of, key_of}
 
 -- What simplification starts from.
-pub record IsStart (m : Mesh) : Type 0 where
+pub record IsStartOfRun (m : Mesh) : Type 0 where
   pub formed : IsWellFormed m
   pub manifold : IsOrientedManifold (net_of m.faces)
 

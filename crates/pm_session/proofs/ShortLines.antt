@@ -11,7 +11,7 @@ use Rattle.pm_view.specs.declared.plane.Plane.{Plane}
 use Rattle.pm_view.specs.Views.{View}
 use Rattle.pm_view.specs.declared.fields.ViewKind.{ViewKind}
 use Rattle.pm_view.specs.declared.fields.ViewKind.TheVariants as kinds
-use Rattle.pm_view.specs.Fields.{onto_field, fields, negative, signed_of, eye_of, plane_of, first_plane, planes_of, first_sil, view_in, view_of}
+use Rattle.pm_view.specs.Fields.{onto_spaced_field, spaced_fields, negative, signed_of, eye_of, plane_read, first_plane, planes_of, first_sil, view_in, view_of}
 use Rattle.pm_view.proofs.NumberLaws.{unsigned_small}
 use Rattle.pm_pick.specs.Rays.{Ray}
 use Rattle.pm_pick.specs.Fields.{three_of, ray_in, ray_of}
@@ -103,16 +103,16 @@ abbrev width : List (List ℕ) → ℕ
 width [] = 0
 width (f ∷ fs) = length f + 1 + width fs
 
-onto_width : (b : ℕ) (fs : List (List ℕ)) → width fs + 1 ≤ width (onto_field b fs)
+onto_width : (b : ℕ) (fs : List (List ℕ)) → width fs + 1 ≤ width (onto_spaced_field b fs)
 onto_width b [] = omega arith
 onto_width b (f ∷ fs) = omega arith
 
-fields_width : (text : List ℕ) → length text + 1 ≤ width (fields text)
+fields_width : (text : List ℕ) → length text + 1 ≤ width (spaced_fields text)
 fields_width [] = omega arith
 fields_width (b ∷ bs) =
     elim (cases_Bool (eqb b 32)) [
       | inl e ↦ rw e (omega (arith, fields_width bs))
-      | inr e ↦ rw e (omega (arith, fields_width bs, onto_width b (fields bs)))
+      | inr e ↦ rw e (omega (arith, fields_width bs, onto_width b (spaced_fields bs)))
     ]
 
 eye_few : (x y z : List ℕ) (eye : Place) → eye_of x y z ≡ Some eye → length x + length y + length z ≤ 42
@@ -123,8 +123,8 @@ eye_few x y z eye e =
     let c = came _ (signed_of 16777215 z) eye b.to in
     omega (arith, signed_few 16777215 a.from x (omega arith) a.is, signed_few 16777215 b.from y (omega arith) b.is, signed_few 16777215 c.from z (omega arith) c.is)
 
-plane_few : (a b c d : List ℕ) (f : Plane) → plane_of a b c d ≡ Some f → length a + length b + length c + length d ≤ 56
-unfolding plane_of
+plane_few : (a b c d : List ℕ) (f : Plane) → plane_read a b c d ≡ Some f → length a + length b + length c + length d ≤ 56
+unfolding plane_read
 plane_few a b c d f e =
     let p = came _ (signed_of 32767 a) f e in
     let q = came _ (signed_of 32767 b) f p.to in
@@ -140,13 +140,13 @@ plane_few a b c d f e =
 
 first_few : (fs : List (List ℕ)) (p : Plane × List (List ℕ)) → first_plane fs ≡ Some p → width fs ≤ 60 + width p.1
 unfolding first_plane
-first_few (a ∷ b ∷ c ∷ d ∷ rest) p e = go (plane_of a b c d) refl e
+first_few (a ∷ b ∷ c ∷ d ∷ rest) p e = go (plane_read a b c d) refl e
   where
     rest_of : Option (Plane × List (List ℕ)) → List (List ℕ)
     rest_of None = []
     rest_of (Some q) = q.1
 
-    go : (plane : Option Plane) → plane_of a b c d ≡ plane → option_map (λ (f : Plane). (f, rest)) plane ≡ Some p → width (a ∷ b ∷ c ∷ d ∷ rest) ≤ 60 + width p.1
+    go : (plane : Option Plane) → plane_read a b c d ≡ plane → option_map (λ (f : Plane). (f, rest)) plane ≡ Some p → width (a ∷ b ∷ c ∷ d ∷ rest) ≤ 60 + width p.1
     go None is to = absurd cc
     go (Some f) is to = omega (arith, plane_few a b c d f is, ap (λ (o : Option (Plane × List (List ℕ))). width (rest_of o)) to)
 first_few [] p e = absurd cc
@@ -254,15 +254,15 @@ collapse_bad line long (Some k) is = absurd (omega (arith, long, length-drop 2 l
 look_bad : (kind : ViewKind) (n : ℕ) (line : List ℕ) → n ≤ 3 → 1024 < length line → (view : Option View) → view_of kind (drop n line) ≡ view → look_of view ≡ commands.Bad
 look_bad kind n line le long None is = refl
 look_bad kind n line le long (Some view) is =
-    absurd (omega (arith, le, long, length-drop n line, fields_width (drop n line), view_few kind (fields (drop n line)) view is))
+    absurd (omega (arith, le, long, length-drop n line, fields_width (drop n line), view_few kind (spaced_fields (drop n line)) view is))
 
 pick_bad : (line : List ℕ) → 1024 < length line → (ray : Option Ray) → ray_of (drop 2 line) ≡ ray → pick_by ray ≡ commands.Bad
 pick_bad line long None is = refl
-pick_bad line long (Some ray) is = absurd (omega (arith, long, length-drop 2 line, fields_width (drop 2 line), ray_few (fields (drop 2 line)) ray is))
+pick_bad line long (Some ray) is = absurd (omega (arith, long, length-drop 2 line, fields_width (drop 2 line), ray_few (spaced_fields (drop 2 line)) ray is))
 
 morph_bad : (line : List ℕ) → 1024 < length line → (two : Option (ℕ × ℕ)) → two_of (drop 2 line) ≡ two → morph_by two ≡ commands.Bad
 morph_bad line long None is = refl
-morph_bad line long (Some two) is = absurd (omega (arith, long, length-drop 2 line, fields_width (drop 2 line), two_few (fields (drop 2 line)) two is))
+morph_bad line long (Some two) is = absurd (omega (arith, long, length-drop 2 line, fields_width (drop 2 line), two_few (spaced_fields (drop 2 line)) two is))
 
 pub long_is_bad : (line : List ℕ) → 1024 < length line → command_of line ≡ commands.Bad
 unfolding command_of fields_command

@@ -16,7 +16,7 @@ use Rattle.pm_morph.specs.Elders.{unsplit_of}
 use Rattle.pm_morph.specs.Texts.{morph_text}
 use Rattle.pm_view.specs.Views.{View}
 use Rattle.pm_view.specs.declared.fields.ViewKind.TheVariants as kinds
-use Rattle.pm_view.specs.Fields.{fields, view_of}
+use Rattle.pm_view.specs.Fields.{spaced_fields, view_of}
 use Rattle.pm_refine.specs.declared.refiner.Adapted.{Adapted}
 use Rattle.pm_refine.specs.declared.refiner.Adapted.TheVariants as adapted
 use Rattle.pm_refine.specs.Adapting.{view_plan, adapted_of}
@@ -32,17 +32,17 @@ use Rattle.pm_session.specs.declared.command.ScriptFault.{ScriptFault}
 use Rattle.pm_session.specs.declared.command.ScriptFault.TheVariants as faults
 
 -- Lines are separated by LF. What follows the last LF is a line if it isn't empty.
-abbrev pub onto : ℕ → List (List ℕ) → List (List ℕ)
-onto b [] = (b ∷ []) ∷ []
-onto b (l ∷ ls) = (b ∷ l) ∷ ls
+abbrev pub onto_line : ℕ → List (List ℕ) → List (List ℕ)
+onto_line b [] = (b ∷ []) ∷ []
+onto_line b (l ∷ ls) = (b ∷ l) ∷ ls
 
 abbrev pub split_lines : List ℕ → List (List ℕ)
 split_lines [] = []
-split_lines (b ∷ bytes) = if b == 10 then [] ∷ split_lines bytes else onto b (split_lines bytes)
+split_lines (b ∷ bytes) = if b == 10 then [] ∷ split_lines bytes else onto_line b (split_lines bytes)
 
 -- The line is this one letter.
-abbrev pub is_letter : ℕ → List ℕ → Bool
-is_letter letter line = length line == 1 && slice_index_or line 0 0 == letter
+abbrev pub is_one_letter : ℕ → List ℕ → Bool
+is_one_letter letter line = length line == 1 && slice_index_or line 0 0 == letter
 
 -- The line begins with this letter and a space.
 abbrev pub begins_with : ℕ → List ℕ → Bool
@@ -75,7 +75,7 @@ two_in (a ∷ b ∷ []) = option_and_then (λ x. option_map (λ y. (x, y)) (unsi
 two_in _ = None
 
 abbrev pub two_of : List ℕ → Option (ℕ × ℕ)
-two_of text = two_in (fields text)
+two_of text = two_in (spaced_fields text)
 
 abbrev pub morph_by : Option (ℕ × ℕ) → Command
 morph_by None = commands.Bad
@@ -101,11 +101,11 @@ fields_command line =
 -- `w`, `m`, `t`, `k`, `q`, or a line with fields.
 unfoldable pub command_of : List ℕ → Command
 command_of line =
-    if is_letter 119 line then commands.Show
-    else if is_letter 109 line then commands.Measure
-    else if is_letter 116 line then commands.Strip
-    else if is_letter 113 line then commands.Quit
-    else if is_letter 107 line then commands.Mark
+    if is_one_letter 119 line then commands.Show
+    else if is_one_letter 109 line then commands.Measure
+    else if is_one_letter 116 line then commands.Strip
+    else if is_one_letter 113 line then commands.Quit
+    else if is_one_letter 107 line then commands.Mark
     else fields_command line
 
 -- The reply to a move.
@@ -200,15 +200,15 @@ unfoldable pub line_deed : Hierarchy → ℕ → Sets → List ℕ → Deed
 line_deed h budget s line = deed_of h budget s (command_of line)
 
 -- The replies, and the fault that ends them, if one does.
-pub record Ran : Type 0 where
+pub record ScriptRun : Type 0 where
   pub text : List ℕ
   pub fault : Option ScriptFault
 
-abbrev pub replying : List ℕ → Ran → Ran
+abbrev pub replying : List ℕ → ScriptRun → ScriptRun
 replying reply later = record { text = reply ++ later.text; fault = later.fault }
 
 -- What a line with the number n does, where `later` is what the lines after it do from a state.
-abbrev pub done_by : ℕ → Deed → (Sets → Ran) → Ran
+abbrev pub done_by : ℕ → Deed → (Sets → ScriptRun) → ScriptRun
 done_by n (Replies reply s) later = replying reply (later s)
 done_by n Ends later = record { text = []; fault = None }
 done_by n IsBad later = record { text = []; fault = Some (faults.BadLine n) }
@@ -216,6 +216,6 @@ done_by n NamesNoRecord later = record { text = []; fault = Some (faults.NoRecor
 
 -- What the lines do from state s with a budget of moves for each view, the first of which has the number n: `q` ends the script, and so does the first line
 -- that is none of the forms or names no record.
-unfoldable pub ran : Hierarchy → ℕ → Sets → ℕ → List (List ℕ) → Ran
+unfoldable pub ran : Hierarchy → ℕ → Sets → ℕ → List (List ℕ) → ScriptRun
 ran h budget s n [] = record { text = []; fault = None }
 ran h budget s n (line ∷ lines) = done_by n (line_deed h budget s line) (λ later. ran h budget later (n + 1) lines)

@@ -6,7 +6,7 @@ use Rattle.pm_forest.specs.Forest.{Hierarchy, record_count}
 use Rattle.pm_forest.specs.Fronts.{set_of}
 use Rattle.pm_forest.specs.Faces.{face_count}
 use Rattle.pm_bounds.specs.Bounds.{Bounds, AreBoundsOf}
-use Rattle.pm_pick.specs.Lists.{Lists, AreListsOf}
+use Rattle.pm_pick.specs.Lists.{CornerLists, AreListsOf}
 use Rattle.pm_morph.specs.Marks.{AreMarksOf}
 use Rattle.pm_session.specs.declared.session.Next.{Next}
 use Rattle.pm_session.specs.declared.session.Next.TheVariants as nexts
@@ -32,7 +32,7 @@ pub record Toolbox : Type 0 where
   pub bounds : Bounds
   pub room : ℕ
   pub marks : ℕ
-  pub lists : Lists
+  pub lists : CornerLists
   pub flags : ℕ
 
 -- They are those of the hierarchy.

@@ -3,7 +3,7 @@ use Rattle.std.proofs.Common.{◌≡◌, ℕ, ◌+◌, ◌<◌, ◌≤◌, ◌*�
 use Rattle.std.proofs.lemmas.Bool.{false_from_ne_true}
 use Rattle.std.proofs.Math.Nat.{mul-div-le, lt-mul-div-succ, div-eq_of_lt-le, le-div_iff_mul-le, div-lt_iff_lt-mul}
 use Rattle.pm_sets.specs.Sets.{is_in, IsGap}
-use Rattle.pm_sets.specs.Counted.{AreCounts}
+use Rattle.pm_sets.specs.Counted.{AreBlockCounts}
 use Rattle.pm_sets.proofs.Ranges.{none_passes}
 use Rattle.pm_sets.proofs.FlagLaws.{some_members}
 
@@ -20,7 +20,7 @@ module _ (size : ℕ) (some : 0 < size) where
   pub block_below : (n m : ℕ) → n < m → n / size < m / size + 1
   block_below n m l = (div-lt_iff_lt-mul some).1 (let h = block_high m in omega (arith, l, h))
 
-  module _ (flags : List Bool) (counts : List ℕ) (are : AreCounts size flags counts) where
+  module _ (flags : List Bool) (counts : List ℕ) (are : AreBlockCounts size flags counts) where
     empty_block : (b : ℕ) → b < length counts → get_or counts b 0 ≡ 0 → (y : ℕ) → size * b ≤ y → y < size * b + size → is_in flags y ≡ false
     empty_block b l none y low high =
         false_from_ne_true (is_in flags y) (λ there. absurd (omega (arith, are.each b l, none, some_members flags (size * b) size y low high there)))

@@ -3,12 +3,12 @@ use Rattle.std.proofs.Common.{◌≡◌, ℕ, ◌+◌, ◌-◌, ◌<◌, ◌≤�
 use Rattle.std.proofs.lemmas.Bool.{cases_eq}
 use Rattle.std.proofs.lemmas.List.{get_or-set_same, get_or-set_other, get_or-replicate, length-set, length-replicate}
 use Rattle.pm_sets.specs.Sets.{is_in}
-use Rattle.pm_sets.specs.Counted.{AreCounts, AreCounted, members_in}
+use Rattle.pm_sets.specs.Counted.{AreBlockCounts, AreCounted, members_in}
 use Rattle.pm_sets.specs.declared.set.TheConstants.{BOUND_LIMIT}
 use Rattle.pm_sets.proofs.FlagLaws.{more_in, less_in, same_out, some_members, few_members, no_members}
 use Rattle.pm_sets.proofs.BlockLaws.{block_low, block_high, block_is, block_below}
 
-module _ (size : ℕ) (some : 0 < size) (flags : List Bool) (n : ℕ) (n_lt : n < length flags) (counts : List ℕ) (was : AreCounts size flags counts) where
+module _ (size : ℕ) (some : 0 < size) (flags : List Bool) (n : ℕ) (n_lt : n < length flags) (counts : List ℕ) (was : AreBlockCounts size flags counts) where
   pub block_there : n / size < length counts
   block_there = let l = block_below size some n (length flags) n_lt in omega (arith, was.blocks, l)
 
@@ -20,7 +20,7 @@ module _ (size : ℕ) (some : 0 < size) (flags : List Bool) (n : ℕ) (n_lt : n 
       omega (arith, was.each (n / size) block_there, some_members flags (size * (n / size)) size n (block_low size some n) (block_high size some n) there)
 
   -- a count that is written, where the flag is changed
-  written : (b : Bool) (w : ℕ) → w ≡ length (members_in (set flags n b) (size * (n / size)) size) → AreCounts size (set flags n b) (set counts (n / size) w)
+  written : (b : Bool) (w : ℕ) → w ≡ length (members_in (set flags n b) (size * (n / size)) size) → AreBlockCounts size (set flags n b) (set counts (n / size) w)
   written b w now = record {
     blocks = length-set counts (n / size) w ∙ was.blocks ∙ ap (λ m. m / size + 1) (sym (length-set flags n b));
     each = λ i l.
@@ -35,12 +35,12 @@ module _ (size : ℕ) (some : 0 < size) (flags : List Bool) (n : ℕ) (n_lt : n 
         ];
   }
 
-  pub counts_more : (v : ℕ) → is_in flags n ≡ false → v ≡ get_or counts (n / size) 0 → AreCounts size (set flags n true) (set counts (n / size) (v + 1))
+  pub counts_more : (v : ℕ) → is_in flags n ≡ false → v ≡ get_or counts (n / size) 0 → AreBlockCounts size (set flags n true) (set counts (n / size) (v + 1))
   counts_more v clear is =
       written true (v + 1) (let more = more_in flags n n_lt (size * (n / size)) size clear (block_low size some n) (block_high size some n) in
       omega (arith, was.each (n / size) block_there, more, is))
 
-  pub counts_less : (v : ℕ) → is_in flags n ≡ true → v ≡ get_or counts (n / size) 0 → AreCounts size (set flags n false) (set counts (n / size) (v - 1))
+  pub counts_less : (v : ℕ) → is_in flags n ≡ true → v ≡ get_or counts (n / size) 0 → AreBlockCounts size (set flags n false) (set counts (n / size) (v - 1))
   counts_less v there is =
       written false (v - 1) (let less = less_in flags n n_lt (size * (n / size)) size there (block_low size some n) (block_high size some n) in
       omega (arith, was.each (n / size) block_there, less, is))
@@ -62,7 +62,7 @@ module _ (flags : List Bool) (n : ℕ) (n_lt : n < length flags) (small large : 
     large = counts_less 4096 (omega arith) flags n n_lt large was.large w there is_w;
   }
 
-none_counted : (size n : ℕ) → AreCounts size (replicate n false) (replicate (n / size + 1) 0)
+none_counted : (size n : ℕ) → AreBlockCounts size (replicate n false) (replicate (n / size + 1) 0)
 none_counted size n = record {
   blocks = length-replicate {A = ℕ} (n / size + 1) 0 ∙ ap (λ m. m / size + 1) (sym (length-replicate n false));
   each = λ b l.
@@ -76,6 +76,6 @@ none_yet flags small large n few is s l =
     subst (λ fs. AreCounted fs small large) (sym is)
     (record {
       few = omega (arith, length-replicate n false, few);
-      small = subst (AreCounts 64 (replicate n false)) (sym s) (none_counted 64 n);
-      large = subst (AreCounts 4096 (replicate n false)) (sym l) (none_counted 4096 n);
+      small = subst (AreBlockCounts 64 (replicate n false)) (sym s) (none_counted 64 n);
+      large = subst (AreBlockCounts 4096 (replicate n false)) (sym l) (none_counted 4096 n);
     })

@@ -2,12 +2,12 @@
 use Rattle.std.proofs.Common.{◌≡◌, ℕ, ◌+◌, ◌<◌, ◌≤◌, ◌*◌, ◌/◌, min, Bool, true, false, get_or, List, length, inl, inr, subst, arith}
 use Rattle.std.proofs.lemmas.Bool.{cases_lt}
 use Rattle.pm_sets.specs.Sets.{is_in, IsEmptySet, IsGap, IsFirst, IsLast}
-use Rattle.pm_sets.specs.Counted.{AreCounts, AreCounted}
+use Rattle.pm_sets.specs.Counted.{AreBlockCounts, AreCounted}
 use Rattle.pm_sets.proofs.OrderLaws.{gap_join, gap_far, no_member}
 use Rattle.pm_sets.proofs.BlockLaws.{filled_block, empty_blocks, all_blocks}
 
 -- in a small block that has a number of the set
-module _ (flags : List Bool) (small : List ℕ) (are : AreCounts 64 flags small) (block : ℕ) (block_lt : block < length small) (some : 0 < get_or small block 0) where
+module _ (flags : List Bool) (small : List ℕ) (are : AreBlockCounts 64 flags small) (block : ℕ) (block_lt : block < length small) (some : 0 < get_or small block 0) where
   not_empty : IsGap flags (64 * block) (min (length flags) (64 * (block + 1))) → ⊥
   not_empty gap =
       filled_block 64 (omega arith) flags small are block block_lt some

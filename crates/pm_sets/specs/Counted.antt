@@ -9,12 +9,12 @@ abbrev pub members_in : List Bool → ℕ → ℕ → List ℕ
 members_in flags a n = filter (is_in flags) (range_with_len a n)
 
 -- The counts of the blocks of so many numbers.
-pub record AreCounts (size : ℕ) (flags : List Bool) (counts : List ℕ) : Type 0 where
+pub record AreBlockCounts (size : ℕ) (flags : List Bool) (counts : List ℕ) : Type 0 where
   pub blocks : length counts ≡ length flags / size + 1
   pub each : (b : ℕ) → b < length counts → slice_index_or counts b 0 ≡ length (members_in flags (size * b) size)
 
 -- What is kept beside the flags.
 pub record AreCounted (flags : List Bool) (smalls larges : List ℕ) : Type 0 where
   pub few : length flags ≤ BOUND_LIMIT
-  pub small : AreCounts 64 flags smalls
-  pub large : AreCounts 4096 flags larges
+  pub small : AreBlockCounts 64 flags smalls
+  pub large : AreBlockCounts 4096 flags larges

@@ -1,7 +1,7 @@
 //! Searches in a list of flags, with counts of how many are set, that pass over blocks in which none is.
 ghost use Rattle.std.specs.Prelude.{◌≡◌, ◌+◌, ◌*◌, ◌<◌, ◌≤◌, length, slice_index_or, IfSome, IfNone};
 ghost use Rattle.pm_sets.specs.Sets.{IsEmptySet, IsGap, IsFirst, IsLast};
-ghost use Rattle.pm_sets.specs.Counted.{AreCounts, AreCounted};
+ghost use Rattle.pm_sets.specs.Counted.{AreBlockCounts, AreCounted};
 
 use crate::scans::{first_counted, first_set, last_counted, last_set};
 use crate::set::BOUND_LIMIT;
@@ -15,7 +15,7 @@ pub(crate) const LARGE: usize = 4096;
 // The first number of the set in a small block that has one.
 fn first_in_block(flags: &[bool], small: &[u32], block: usize) -> u32
     requires few { length flags.now ≤ BOUND_LIMIT }
-    requires counts { AreCounts 64 flags.now small.now }
+    requires counts { AreBlockCounts 64 flags.now small.now }
     requires block { block < length small.now }
     requires some { 0 < slice_index_or small.now block 0 }
     ensures { IsFirst flags.now (64 * block) result }
@@ -27,7 +27,7 @@ fn first_in_block(flags: &[bool], small: &[u32], block: usize) -> u32
 // The last number of the set in a small block that has one.
 fn last_in_block(flags: &[bool], small: &[u32], block: usize) -> u32
     requires few { length flags.now ≤ BOUND_LIMIT }
-    requires counts { AreCounts 64 flags.now small.now }
+    requires counts { AreBlockCounts 64 flags.now small.now }
     requires block { block < length small.now }
     requires some { 0 < slice_index_or small.now block 0 }
     ensures { IsLast flags.now (64 * (block + 1)) result }

@@ -21,7 +21,7 @@ use Rattle.pm_runs.specs.Surfaces.{Surface, net_of_surface, place_at}
 use Rattle.pm_runs.proofs.Legal.{third-common}
 use Rattle.pm_runs.proofs.Sides.{runs_last, third_next}
 use Rattle.pm_shrink.specs.Shrinking.{AreCornersAt}
-use Rattle.pm_shrink.specs.Walks.{holds, has_two, is_open, HasStray, KeepsUpright, StayUprightAt}
+use Rattle.pm_shrink.specs.Walks.{holds_vertex, has_two, is_open_corner, HasStray, KeepsUpright, StayUprightAt}
 
 module _ (m : Net) (v : ℕ) (xs : List ℕ) (are : AreCornersAt m v xs) where
   pub all_stand : All (Stands m) xs
@@ -87,18 +87,18 @@ module _ (m : Net) (v : ℕ) (xs : List ℕ) (are : AreCornersAt m v xs) where
   pub corner-any : (p : ℕ → Bool) (e : ℕ) → Stands m e → m.from e ≡ v → p e ≡ true → list_any p xs ≡ true
   corner-any p e st at is = has-any p xs e ((are.each e).1 (st, at)) is
 
-  pub seen_joined : (w : ℕ) → (list_any (holds m w) xs ≡ true) ↔ Joined m v w
+  pub seen_joined : (w : ℕ) → (list_any (holds_vertex m w) xs ≡ true) ↔ Joined m v w
   seen_joined w = (
     λ t. (
-        let (e, st, at, is) = any-corner (holds m w) t in
+        let (e, st, at, is) = any-corner (holds_vertex m w) t in
         elim (or_cases (eqb (to m e) w) (eqb (third m e) w) is) [
           | inl k ↦ inl (e, record { stands = st; begins = at; ends = eqb-true (to m e) w k })
           | inr k ↦ inr (prev e, runs_last m e v (to m e) w (record { stands = st; begins = at; ends = refl }) (eqb-true (third m e) w k))
         ]),
     λ j. elim j [
-      | inl (e, r) ↦ corner-any (holds m w) e r.stands r.begins (or_left (eqb (to m e) w) (eqb (third m e) w) (eq-eqb (to m e) w r.ends))
+      | inl (e, r) ↦ corner-any (holds_vertex m w) e r.stands r.begins (or_left (eqb (to m e) w) (eqb (third m e) w) (eq-eqb (to m e) w r.ends))
       | inr (e, r) ↦
-          corner-any (holds m w) (next e) (stands_next m e r.stands) r.ends
+          corner-any (holds_vertex m w) (next e) (stands_next m e r.stands) r.ends
           (or_right (eqb (to m (next e)) w) (eqb (third m (next e)) w) (eq-eqb (third m (next e)) w (third_next m e ∙ r.begins)))
     ],
   )
@@ -136,19 +136,19 @@ pub border-side : (m : Net) (e : ℕ) → Stands m e → (is_none (twin_of m e) 
 border-side m e st = (border-test m e st, test-border m e)
 
 module _ (m : Net) (v : ℕ) (xs : List ℕ) (are : AreCornersAt m v xs) where
-  pub seen_border : (list_any (is_open m) xs ≡ true) ↔ IsBorder m v
+  pub seen_border : (list_any (is_open_corner m) xs ≡ true) ↔ IsBorder m v
   seen_border = (
     λ t. (
-        let (e, st, at, is) = any-corner m v xs are (is_open m) t in
+        let (e, st, at, is) = any-corner m v xs are (is_open_corner m) t in
         let before = stands_next m (next e) (stands_next m e st) in
         elim (or_cases (is_none (twin_of m e)) (is_none (twin_of m (prev e))) is) [
           | inl k ↦ (e, border-test m e st k, inl at)
           | inr k ↦ (prev e, border-test m (prev e) before k, inr (ap m.from (next-next-next e) ∙ at))
         ]),
     λ (e, side, way). elim way [
-      | inl at ↦ corner-any m v xs are (is_open m) e side.stands at (or_left (is_none (twin_of m e)) (is_none (twin_of m (prev e))) (test-border m e side))
+      | inl at ↦ corner-any m v xs are (is_open_corner m) e side.stands at (or_left (is_none (twin_of m e)) (is_none (twin_of m (prev e))) (test-border m e side))
       | inr at ↦
-          corner-any m v xs are (is_open m) (next e) (stands_next m e side.stands) at
+          corner-any m v xs are (is_open_corner m) (next e) (stands_next m e side.stands) at
           (or_right (is_none (twin_of m (next e))) (is_none (twin_of m (prev (next e)))) (ap (λ g. is_none (twin_of m g)) (next-next-next e) ∙ test-border m e side))
     ],
   )

@@ -11,14 +11,14 @@ use Rattle.pm_runs.specs.Surfaces.{Surface, next_vertex, is_live, surface_of, co
 use Rattle.pm_runs.specs.Pairs.{IsLegalPair}
 use Rattle.pm_runs.specs.Steps.{entry_of}
 use Rattle.pm_runs.specs.Planes.{planes_at, planes_after}
-use Rattle.pm_runs.specs.Runs.{IsStart, IsStep, surface_after}
+use Rattle.pm_runs.specs.Runs.{IsStartOfRun, IsStep, surface_after}
 use Rattle.pm_runs.proofs.Live.{live_below, old_live}
 use Rattle.pm_runs.proofs.Living.{joined_live, first_dead, second_dead}
 use Rattle.pm_runs.proofs.Logs.{run-nil, surface_after-nil, planes_after-nil, run-sound, run-more, surface_after-more, planes_after-new, planes_after-other, step-new}
 use Rattle.pm_shrink.specs.Shrinking.{Shrinking, quadric_at}
 use Rattle.pm_shrink.specs.Following.{IsAfter}
 
-pub start_after : (m : Mesh) (s : Shrinking) → IsStart m → s.surface ≡ surface_of m → ((v : ℕ) → v < length m.points → quadric_at s v ≡ sums_of (planes_at m v)) → IsAfter m [] s
+pub start_after : (m : Mesh) (s : Shrinking) → IsStartOfRun m → s.surface ≡ surface_of m → ((v : ℕ) → v < length m.points → quadric_at s v ≡ sums_of (planes_at m v)) → IsAfter m [] s
 start_after m s start made quadrics = record {
   start = start;
   run = run-nil m;

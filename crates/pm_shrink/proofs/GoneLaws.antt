@@ -7,7 +7,7 @@ use Rattle.pm_base.specs.Sides.{Net, face_of, next, prev, Stands, NoSideTwice, s
 use Rattle.pm_base.proofs.Sides.{stands_next, face_cases}
 use Rattle.pm_base.proofs.Search.{option_cases}
 use Rattle.pm_base.proofs.TwinLaws.{twin-is}
-use Rattle.pm_links.specs.Lists.{Lists, has, without, IsHeld}
+use Rattle.pm_links.specs.Lists.{Lists, has, list_without, IsHeld}
 use Rattle.pm_links.proofs.Without.{has-without, was_there}
 use Rattle.pm_runs.specs.Pairs.{Runs, Links}
 use Rattle.pm_runs.specs.Steps.{side_from_to, side_id, gone_at, gone_of}
@@ -68,13 +68,13 @@ IsSparedBy o f = IfSome o (λ g. f ≢ g.face.0)
 
 without-other : (f : ℕ) (xs : List ℕ) (x : ℕ) → face_of x ≢ f → has (without_corners f xs) x ≡ has xs x
 without-other f xs x ne =
-    has-without (3 * f + 2) (without (3 * f + 1) (without (3 * f) xs)) x (λ e. ne (omega (arith, e)))
-    ∙ has-without (3 * f + 1) (without (3 * f) xs) x (λ e. ne (omega (arith, e))) ∙ has-without (3 * f) xs x (λ e. ne (omega (arith, e)))
+    has-without (3 * f + 2) (list_without (3 * f + 1) (list_without (3 * f) xs)) x (λ e. ne (omega (arith, e)))
+    ∙ has-without (3 * f + 1) (list_without (3 * f) xs) x (λ e. ne (omega (arith, e))) ∙ has-without (3 * f) xs x (λ e. ne (omega (arith, e)))
 
 without-was : (f : ℕ) (xs : List ℕ) (x : ℕ) → has (without_corners f xs) x ≡ true → (has xs x ≡ true) × (face_of x ≢ f)
 without-was f xs x h =
-    let (c, i) = was_there (3 * f + 2) (without (3 * f + 1) (without (3 * f) xs)) x h in
-    let (b, j) = was_there (3 * f + 1) (without (3 * f) xs) x i in
+    let (c, i) = was_there (3 * f + 2) (list_without (3 * f + 1) (list_without (3 * f) xs)) x h in
+    let (b, j) = was_there (3 * f + 1) (list_without (3 * f) xs) x i in
     let (a, k) = was_there (3 * f) xs x j in
     (k, λ e. absurd (omega (arith, e, a, b, c)))
 

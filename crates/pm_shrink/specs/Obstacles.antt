@@ -59,7 +59,7 @@ pub record IsBarred (m : Net) (a b : ℕ) : Type 0 where
   pub back : HasSide m b a
 
 -- What a verdict on a pair says.
-abbrev pub Tells : Surface → ℕ → ℕ → Place → Verdict → Type 0
-Tells s a b place verdicts.Legal = IsLegalPair s a b place
-Tells s a b place (verdicts.Waits f) = (x : ℕ) × (face_of x ≡ f.0) × Hinders s a b place x
-Tells s a b place verdicts.Barred = IsBarred (net_of_surface s) a b
+abbrev pub VerdictTells : Surface → ℕ → ℕ → Place → Verdict → Type 0
+VerdictTells s a b place verdicts.Legal = IsLegalPair s a b place
+VerdictTells s a b place (verdicts.Waits f) = (x : ℕ) × (face_of x ≡ f.0) × Hinders s a b place x
+VerdictTells s a b place verdicts.Barred = IsBarred (net_of_surface s) a b

@@ -6,16 +6,16 @@ use Rattle.pm_runs.specs.Surfaces.{Surface, net_of_surface}
 use Rattle.pm_runs.specs.Pairs.{Runs, Joined, IsThird, StaysUpright}
 
 -- The face at the corner holds vertex w.
-abbrev pub holds : Net → ℕ → ℕ → Bool
-holds m w e = to m e == w || third m e == w
+abbrev pub holds_vertex : Net → ℕ → ℕ → Bool
+holds_vertex m w e = to m e == w || third m e == w
 
 -- The other two corners of the face at the corner are b and c.
 abbrev pub has_two : Net → ℕ → ℕ → ℕ → Bool
 has_two m b c e = (to m e == b && third m e == c) || (to m e == c && third m e == b)
 
 -- Of the two sides at the corner one has nothing across it.
-abbrev pub is_open : Net → ℕ → Bool
-is_open m e = is_none (twin_of m e) || is_none (twin_of m (prev e))
+abbrev pub is_open_corner : Net → ℕ → Bool
+is_open_corner m e = is_none (twin_of m e) || is_none (twin_of m (prev e))
 
 -- A face has a side from p to q, and nothing stands across any of its sides.
 abbrev pub IsAloneAlong : Net → ℕ → ℕ → Type 0

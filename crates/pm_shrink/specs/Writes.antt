@@ -4,7 +4,7 @@ use Rattle.pm_base.specs.declared.ids.Side.{Side}
 use Rattle.pm_base.specs.declared.log.Gone.{Gone}
 use Rattle.pm_base.specs.declared.mesh.Corners.{Corners}
 use Rattle.pm_base.specs.Sides.{face_of}
-use Rattle.pm_links.specs.Lists.{without}
+use Rattle.pm_links.specs.Lists.{list_without}
 
 -- A face with the vertex at corner number 0, 1 or 2.
 abbrev pub with_vertex : Corners → ℕ → ℕ → Corners
@@ -30,7 +30,7 @@ without_face faces (Some g) = slice_set faces g.face.0 None
 
 -- The list of a vertex without the three corners of a face.
 abbrev pub without_corners : ℕ → List ℕ → List ℕ
-without_corners f xs = without (3 * f + 2) (without (3 * f + 1) (without (3 * f) xs))
+without_corners f xs = list_without (3 * f + 2) (list_without (3 * f + 1) (list_without (3 * f) xs))
 
 abbrev pub unlisted : Option Gone → List ℕ → List ℕ
 unlisted None xs = xs

@@ -7,7 +7,7 @@ ghost use Rattle.pm_runs.specs.Surfaces.{is_live as is_live_in};
 ghost use Rattle.pm_runs.specs.Pairs.{Joined, IsThird, HasFace};
 ghost use Rattle.pm_runs.specs.Steps.{side_from_to};
 ghost use Rattle.pm_shrink.specs.Shrinking.{net_at, fan_at, AreCornersAt};
-ghost use Rattle.pm_shrink.specs.Walks.{holds, has_two};
+ghost use Rattle.pm_shrink.specs.Walks.{holds_vertex, has_two};
 
 use crate::{Shrink, sides};
 use pm_base::Side;
@@ -93,7 +93,7 @@ impl Shrink {
     // Whether the face at a corner has w for another corner.
     pub(crate) fn has_other(&self, corner: Side, w: u32) -> bool
         requires { corner.0 < side_count (net_at self.now) }
-        ensures { result ≡ holds (net_at self.now) w corner.0 }
+        ensures { result ≡ holds_vertex (net_at self.now) w corner.0 }
     {
         self.to(corner) == w || self.third(corner) == w
     }

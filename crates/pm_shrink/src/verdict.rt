@@ -4,7 +4,7 @@ ghost use Rattle.pm_base.specs.Sides.{to as to_of, third as third_of, Stands};
 ghost use Rattle.pm_runs.specs.Surfaces.{is_live as is_live_in};
 ghost use Rattle.pm_runs.specs.Pairs.{Joined, HaveCommonThirds, ShareNoTriangle, AreNotAlone, StaysUpright, StayUpright};
 ghost use Rattle.pm_shrink.specs.Shrinking.{net_at};
-ghost use Rattle.pm_shrink.specs.Obstacles.{Strays, TellsTriangle, IsAlone, TurnsOver, Hinders, Tells};
+ghost use Rattle.pm_shrink.specs.Obstacles.{Strays, TellsTriangle, IsAlone, TurnsOver, Hinders, VerdictTells};
 ghost use Rattle.pm_shrink.specs.Walks.{HasStray, KeepsUpright, StayUprightAt, TurnsAt};
 
 use crate::Shrink;
@@ -28,7 +28,7 @@ impl Shrink {
         requires a_live { is_live_in self.now.surface a ≡ true }
         requires b_live { is_live_in self.now.surface b ≡ true }
         requires joined { Joined (net_at self.now) a b }
-        ensures { Tells self.now.surface a b place result }
+        ensures { VerdictTells self.now.surface a b place result }
     {
         self.invariant();
         if let Some(side) = self.hindrance(a, b, place) {

@@ -5,7 +5,7 @@ use Rattle.std.proofs.lemmas.Bool.{cases_eq, false≢true}
 use Rattle.pm_base.specs.declared.log.Collapse.{Collapse}
 use Rattle.pm_base.specs.Meshes.{Mesh}
 use Rattle.pm_base.specs.Sides.{Stands}
-use Rattle.pm_links.specs.Lists.{Lists, list_of, has, first_of, without, without_item, IsOnce, IsHeld, IsFree, IsSound}
+use Rattle.pm_links.specs.Lists.{Lists, list_of, has, first_of, list_without, without_item, IsOnce, IsHeld, IsFree, IsSound}
 use Rattle.pm_links.proofs.Members.{has_head, first_is}
 use Rattle.pm_links.proofs.Without.{without_first}
 use Rattle.pm_links.proofs.Calls.{after_unlink, has-unlink, free_from_none}
@@ -41,14 +41,14 @@ module _ (was now : Lists) (face i : ℕ) (sound : IsSound was) (first : first_o
   pub shorter : length (list_of now face) < length (list_of was face)
   shorter =
       let (rest, all) = first_is (list_of was face) i first in
-      let now_is : list_of now face ≡ rest = (after_unlink was now i is).lost face ∙ ap (without i) all ∙ without_first i rest (subst IsOnce all (sound.once face)) in
+      let now_is : list_of now face ≡ rest = (after_unlink was now i is).lost face ∙ ap (list_without i) all ∙ without_first i rest (subst IsOnce all (sound.once face)) in
       let a = ap (λ (l : List ℕ). length l) now_is in
       let b = ap (λ (l : List ℕ). length l) all in
       omega arith
 
   -- An empty list stays empty.
   pub stays_empty : (f : ℕ) → list_of was f ≡ [] → list_of now f ≡ []
-  stays_empty f none = (after_unlink was now i is).lost f ∙ ap (without i) none
+  stays_empty f none = (after_unlink was now i is).lost f ∙ ap (list_without i) none
 
 -- Whether an item is in a list.
 module _ (lists : Lists) (i : ℕ) where

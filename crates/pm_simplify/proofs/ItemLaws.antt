@@ -7,12 +7,12 @@ use Rattle.pm_base.proofs.Sides.{next-next-next, stands_next}
 use Rattle.pm_base.proofs.TwinLaws.{twin-is, twin-twin}
 use Rattle.pm_runs.specs.Pairs.{Runs, Links}
 use Rattle.pm_runs.proofs.Sides.{across-twin}
-use Rattle.pm_simplify.specs.Items.{lesser, item_of, IsSideAt}
+use Rattle.pm_simplify.specs.Items.{lesser_of_pair, item_of, IsSideAt}
 
 module _ (m : Net) where
-  pub item_by : (e : ℕ) (r : Option ℕ) → twin_of m e ≡ r → item_of m e ≡ lesser e r
+  pub item_by : (e : ℕ) (r : Option ℕ) → twin_of m e ≡ r → item_of m e ≡ lesser_of_pair e r
   unfolding item_of
-  item_by e r t = ap (lesser e) t
+  item_by e r t = ap (lesser_of_pair e) t
 
   pub item_cases : (e : ℕ) → (item_of m e ≡ e) ⊎ ((g : ℕ) × (twin_of m e ≡ Some g) × (item_of m e ≡ g))
   item_cases e =
@@ -28,7 +28,7 @@ module _ (m : Net) where
   pub twin_back : NoSideTwice m → (e g : ℕ) → Stands m e → twin_of m e ≡ Some g → twin_of m g ≡ Some e
   twin_back once e g st t = across-twin m once g (Some e) (twin-twin m e g st (twin-is m e g t))
 
-  lesser_turned : (e g : ℕ) → lesser g (Some e) ≡ lesser e (Some g)
+  lesser_turned : (e g : ℕ) → lesser_of_pair g (Some e) ≡ lesser_of_pair e (Some g)
   lesser_turned e g =
       elim (cases_Bool (ltb g e)) [
         | inl a ↦

@@ -11,7 +11,7 @@ use Rattle.pm_runs.specs.Surfaces.{Surface, net_of_surface, IsSurface, collapsed
 use Rattle.pm_runs.specs.Pairs.{Links, IsLegalPair}
 use Rattle.pm_runs.specs.Merged.{IsProper, IsLinkable}
 use Rattle.pm_runs.specs.Nearby.{IsOther}
-use Rattle.pm_runs.specs.Runs.{IsStart, IsRun, IsStep, surface_after, place_of_pair, IsCandidate}
+use Rattle.pm_runs.specs.Runs.{IsStartOfRun, IsRun, IsStep, surface_after, place_of_pair, IsCandidate}
 use Rattle.pm_runs.proofs.Live.{live_below, corner_live}
 use Rattle.pm_runs.proofs.StepLaws.{linkable_is_legal}
 use Rattle.pm_runs.proofs.Logs.{run-sound, run-proper, surface_after-more}
@@ -105,7 +105,7 @@ module _ (s : Surface) (sound : IsSurface s) (proper : IsProper (net_of_surface 
   links_stay e l = elim l [ inl r ↦ inl (stays s sound proper t u at legal e a b x y r) | inr r ↦ inr (stays s sound proper t u at legal e b a y x r) ]
 
 -- What is held back may not be collapsed.
-pub held_not : (m : Mesh) (log : List Collapse) → IsStart m → IsRun m log → (lists : Lists) (e c d : ℕ) → IsHeldBack m log lists e → Links (net_after m log) e c d → IsCandidate m log c d → ⊥
+pub held_not : (m : Mesh) (log : List Collapse) → IsStartOfRun m → IsRun m log → (lists : Lists) (e c d : ℕ) → IsHeldBack m log lists e → Links (net_after m log) e c d → IsCandidate m log c d → ⊥
 held_not m log start run lists e c d h l x =
     let (ca, db) = same_ends (net_after m log) e c d h.a h.b l h.pair.links x.ordered h.pair.ordered in
     let fit : IsCandidate m log h.a h.b = subst (λ v. IsCandidate m log h.a v) db (subst (λ v. IsCandidate m log v d) ca x) in
@@ -127,7 +127,7 @@ held_kept m log old new e stays h = record {
 }
 
 -- What is held back stays so after a collapse that spares its ends and the face that it waits for.
-pub held_stays : (m : Mesh) (log : List Collapse) (c : Collapse) → IsStart m → IsRun m log → IsStep (surface_after m log) c → (old new : Lists) (e : ℕ) → (h : IsHeldBack m log old e) →
+pub held_stays : (m : Mesh) (log : List Collapse) (c : Collapse) → IsStartOfRun m → IsRun m log → IsStep (surface_after m log) c → (old new : Lists) (e : ℕ) → (h : IsHeldBack m log old e) →
     IsOther (surface_after m log) c.t c.u h.a → IsOther (surface_after m log) c.t c.u h.b →
     ((x : ℕ) → has (list_of old (face_of x)) e ≡ true → Stands (net_after m log) x → IsFaceSpared (surface_after m log) c.t c.u x × (has (list_of new (face_of x)) e ≡ true)) →
     IsHeldBack m (log ++ c ∷ []) new e

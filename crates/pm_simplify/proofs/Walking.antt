@@ -3,7 +3,7 @@ use Rattle.std.proofs.Common.{◌≡◌, ℕ, ◌<◌, true, Option, Some, None,
 use Rattle.std.specs.Option.{IfSome, option_map}
 use Rattle.std.proofs.lemmas.Bool.{or_cases, eqb-true, false≢true}
 use Rattle.pm_base.specs.declared.ids.Side.{Side}
-use Rattle.pm_links.specs.Lists.{has, IsOnce, first_of, after, rest}
+use Rattle.pm_links.specs.Lists.{has, IsOnce, first_of, after, rest_of_walk}
 use Rattle.pm_links.proofs.Walking.{rest_first, rest_next, held_first, held_next}
 use Rattle.pm_shrink.specs.Shrinking.{Shrinking, net_at, fan_at, AreCornersAt}
 use Rattle.pm_simplify.specs.Walks.{still, IsWalk}
@@ -17,11 +17,11 @@ module _ (fan : List ℕ) (Done : ℕ → Type 0) where
   pub walk_begins : (at : Option Side) → option_map (λ c. c.0) at ≡ first_of fan → IsWalk fan Done at
   walk_begins at is = record {
     held = held_side fan at (subst (λ o. IfSome o (λ x. has fan x ≡ true)) (sym is) (held_first fan));
-    seen = λ e h. inl (subst (λ o. has (rest o fan) e ≡ true) (sym is) (subst (λ l. has l e ≡ true) (sym (rest_first fan)) h));
+    seen = λ e h. inl (subst (λ o. has (rest_of_walk o fan) e ≡ true) (sym is) (subst (λ l. has l e ≡ true) (sym (rest_first fan)) h));
   }
 
   still_next : (c : Side) (at : Option Side) → IsOnce fan → has fan c.0 ≡ true → option_map (λ c. c.0) at ≡ first_of (after c.0 fan) → still at fan ≡ after c.0 fan
-  still_next c at once h is = ap (λ o. rest o fan) is ∙ rest_next fan c.0 once h
+  still_next c at once h is = ap (λ o. rest_of_walk o fan) is ∙ rest_next fan c.0 once h
 
   pub walk_goes : (c : Side) (at : Option Side) → IsOnce fan → IsWalk fan Done (Some c) → option_map (λ c. c.0) at ≡ first_of (after c.0 fan) → Done c.0 → IsWalk fan Done at
   walk_goes c at once walk is done = record {

@@ -5,14 +5,14 @@ use Rattle.pm_base.specs.declared.ids.Side.{Side}
 use Rattle.pm_base.specs.declared.log.Collapse.{Collapse}
 use Rattle.pm_base.specs.Meshes.{Mesh}
 use Rattle.pm_base.specs.Sides.{prev, twin_of}
-use Rattle.pm_links.specs.Lists.{has, rest}
+use Rattle.pm_links.specs.Lists.{has, rest_of_walk}
 use Rattle.pm_queue.specs.Entries.{Entries}
 use Rattle.pm_simplify.specs.Items.{item_of}
 use Rattle.pm_simplify.specs.Choices.{net_after, IsRightAt}
 
 -- The corners that a walk has still to see.
 abbrev pub still : Option Side → List ℕ → List ℕ
-still at fan = rest (option_map (λ c. c.0) at) fan
+still at fan = rest_of_walk (option_map (λ c. c.0) at) fan
 
 -- The walk stands at one of the corners, or at its end; of those that it has seen each is done.
 pub record IsWalk (fan : List ℕ) (Done : ℕ → Type 0) (at : Option Side) : Type 0 where

@@ -16,8 +16,8 @@ use Rattle.pm_beyond.specs.Moves.{IsClosed}
 use Rattle.pm_beyond.proofs.Reaching.{kept_at_side, reaches-lt}
 use Rattle.pm_beyond.proofs.Standing.{forest_of, closed-front}
 use Rattle.pm_beyond.proofs.WalkTheory as walk
-use Rattle.pm_strips.specs.Strips.{strip_from, left_by, strips_from, listed, decoded, corners_from, IsTurnOf}
-use Rattle.pm_strips.specs.Shown.{is_there, beyond_in, node_at, strips_of, lists_of, corners_shown, AreTurned}
+use Rattle.pm_strips.specs.Strips.{strip_from, left_by, strips_from, listed_nodes, decoded, corners_from, IsTurnOf}
+use Rattle.pm_strips.specs.Shown.{is_there, beyond_in, node_of_corner, strips_of, strip_lists_of, corners_shown, AreTurned}
 use Rattle.pm_strips.specs.Laws.{CarriesEnds, FrontsCarryEnds, StripsShowTheMesh}
 use Rattle.pm_strips.proofs.StripLaws.{strip_decoded}
 use Rattle.pm_strips.proofs.TakenLaws.{all_taken, faces_once}
@@ -64,7 +64,7 @@ map_more f [] ys = refl
 map_more f (x ∷ xs) ys = ap (λ ts. f x ∷ ts) (map_more f xs ys)
 
 all_decoded : (beyond : ℕ → Option ℕ) (node : ℕ → ℕ) → CarriesEnds beyond node → (n m : ℕ) (free : ℕ → Bool) (f : ℕ)
-    → flat_map (λ s. decoded false (listed node s)) (strips_from beyond n m free f) ≡ map (corners_from node) (flat_map (λ s. s) (strips_from beyond n m free f))
+    → flat_map (λ s. decoded false (listed_nodes node s)) (strips_from beyond n m free f) ≡ map (corners_from node) (flat_map (λ s. s) (strips_from beyond n m free f))
 all_decoded beyond node ends n zero free f = refl
 all_decoded beyond node ends n (suc m) free f =
     let s = strip_from beyond n free f in
@@ -73,7 +73,7 @@ all_decoded beyond node ends n (suc m) free f =
           let rest = all_decoded beyond node ends n m (left_by free s) (suc f) in
           let here = strip_decoded beyond node ends n free f in
           let later = strips_from beyond n m (left_by free s) (suc f) in
-          rw is (ap (λ ts. ts ++ flat_map (λ t. decoded false (listed node t)) later) here
+          rw is (ap (λ ts. ts ++ flat_map (λ t. decoded false (listed_nodes node t)) later) here
           ∙ ap (λ ts. map (corners_from node) s ++ ts) rest ∙ sym (map_more (corners_from node) s (flat_map (λ t. t) later)))
       | inr is ↦ (rw is (all_decoded beyond node ends n m free (suc f)))
     ]
@@ -93,10 +93,10 @@ turned_from node f e which =
       ]
     ]
 
-corners_turned : (h : Hierarchy) (T : ℕ → Bool) (e : ℕ) → IsTurnOf (corners_from (node_at h T) e) (corners_shown h T (face_of e))
-corners_turned h T e = turned_from (node_at h T) (face_of e) e (three_sides e (3 * face_of e) (omega arith))
+corners_turned : (h : Hierarchy) (T : ℕ → Bool) (e : ℕ) → IsTurnOf (corners_from (node_of_corner h T) e) (corners_shown h T (face_of e))
+corners_turned h T e = turned_from (node_of_corner h T) (face_of e) e (three_sides e (3 * face_of e) (omega arith))
 
-all_turned : (h : Hierarchy) (T : ℕ → Bool) (gs : List ℕ) → AreTurned (corners_shown h T) (map face_of gs) (map (corners_from (node_at h T)) gs)
+all_turned : (h : Hierarchy) (T : ℕ → Bool) (gs : List ℕ) → AreTurned (corners_shown h T) (map face_of gs) (map (corners_from (node_of_corner h T)) gs)
 all_turned h T [] = tt
 all_turned h T (g ∷ gs) = (corners_turned h T g, all_turned h T gs)
 
@@ -107,9 +107,9 @@ strips_show h valid T closed =
     let sides = flat_map (λ s. s) strips in
     let all = all_taken (beyond_in h T) (face_count h) (face_count h) (is_there h T) 0 (λ x e. let l = (there-parts h T x e).0 in (omega arith, omega arith)) in
     let once = faces_once (is_there h T) sides all.0 all.1 in
-    let triangles : flat_map (decoded false) (lists_of h T) ≡ map (corners_from (node_at h T)) sides =
-    flat_map-map (decoded false) (listed (node_at h T)) strips
-    ∙ all_decoded (beyond_in h T) (node_at h T) (fronts_carry h valid T closed) (face_count h) (face_count h) (is_there h T) 0 in
+    let triangles : flat_map (decoded false) (strip_lists_of h T) ≡ map (corners_from (node_of_corner h T)) sides =
+    flat_map-map (decoded false) (listed_nodes (node_of_corner h T)) strips
+    ∙ all_decoded (beyond_in h T) (node_of_corner h T) (fronts_carry h valid T closed) (face_count h) (face_count h) (is_there h T) 0 in
     record {
       faces = map face_of sides;
       kept = record {

@@ -13,7 +13,7 @@ use Rattle.pm_forest.proofs.FaceLimits.{face_count-most}
 use Rattle.pm_beyond.specs.Walks.{StandsBeyond, number_of}
 use Rattle.pm_beyond.specs.Valid.{IsValid}
 use Rattle.pm_beyond.specs.Moves.{IsClosed}
-use Rattle.pm_front.specs.State.{IsSound}
+use Rattle.pm_front.specs.State.{IsSoundFront}
 use Rattle.pm_front.proofs.FrontLaws.{beyond_only}
 use Rattle.pm_strips.specs.Strips.{free_beyond}
 use Rattle.pm_strips.specs.Shown.{is_there, beyond_in}
@@ -22,7 +22,7 @@ use Rattle.pm_strips.proofs.ShownLaws.{there-parts, there_beyond}
 pub side_low : (h : Hierarchy) (T : ℕ → Bool) (e : ℕ) → is_there h T (face_of e) ≡ true → e < 3 * face_count h
 side_low h T e there = let p = there-parts h T (face_of e) there in omega (arith, p.0)
 
-pub beyond_is : (h : Hierarchy) (flags : List Bool) → IsSound h flags → (e : ℕ) → is_there h (set_of flags) (face_of e) ≡ true → (r : Option ℕ)
+pub beyond_is : (h : Hierarchy) (flags : List Bool) → IsSoundFront h flags → (e : ℕ) → is_there h (set_of flags) (face_of e) ≡ true → (r : Option ℕ)
     → StandsBeyond h (set_of flags) e r → r ≡ beyond_in h (set_of flags) e
 beyond_is h flags sound e there r stands =
     beyond_only h flags sound e (side_low h (set_of flags) e there) (there-parts h (set_of flags) (face_of e) there).1 r stands

@@ -9,8 +9,8 @@ use Rattle.pm_base.proofs.Search.{option_cases}
 use Rattle.pm_base.proofs.Sides.{next-next-next}
 use Rattle.pm_forest.specs.Fronts.{without}
 use Rattle.pm_forest.proofs.OneStep.{without-parts, without-from}
-use Rattle.pm_strips.specs.Strips.{if_free, free_beyond, exit_of, enter_by, entered, first_side, strip_from, decoded, listed, corners_from}
-use Rattle.pm_strips.specs.Laws.{CarriesEnds, GoesOn, StripsGoOn}
+use Rattle.pm_strips.specs.Strips.{if_free, free_beyond, exit_of, enter_by, entered, first_side, strip_from, decoded, listed_nodes, corners_from}
+use Rattle.pm_strips.specs.Laws.{CarriesEnds, StripGoesOn, StripsGoOn}
 
 pub free_is : (free : ℕ → Bool) (o : Option ℕ) (g : ℕ) → if_free free o ≡ Some g → (o ≡ Some g) × (free (face_of g) ≡ true)
 free_is free None g e = absurd (none-some g e)
@@ -51,7 +51,7 @@ further beyond node carries (suc n) free false exit p q ends =
     ]
 
 pub strip_decoded : (beyond : ℕ → Option ℕ) (node : ℕ → ℕ) → CarriesEnds beyond node → (n : ℕ) (free : ℕ → Bool) (f : ℕ)
-    → decoded false (listed node (strip_from beyond n free f)) ≡ map (corners_from node) (strip_from beyond n free f)
+    → decoded false (listed_nodes node (strip_from beyond n free f)) ≡ map (corners_from node) (strip_from beyond n free f)
 strip_decoded beyond node carries n free f =
     let e = first_side beyond (without free f) f in
     ap (λ ts. corners_from node e ∷ ts) (further beyond node carries n (without free f) true (next e) (node (next e)) (node (next (next e))) (refl, refl))
@@ -79,7 +79,7 @@ fewer free f (suc n) l is =
 
 -- As many turns as there are free faces are enough.
 enough : (beyond : ℕ → Option ℕ) (m n : ℕ) (free : ℕ → Bool) (is_odd : Bool) (exit : ℕ) → ((f : ℕ) → free f ≡ true → f < m) → count free m ≤ n
-    → GoesOn beyond free is_odd exit (entered beyond n free is_odd exit)
+    → StripGoesOn beyond free is_odd exit (entered beyond n free is_odd exit)
 enough beyond m zero free is_odd exit within few =
     elim (option_cases (free_beyond beyond free exit)) [
       | inl none ↦ none
@@ -90,12 +90,12 @@ enough beyond m zero free is_odd exit within few =
     ]
 enough beyond m (suc n) free is_odd exit within few =
     elim (option_cases (free_beyond beyond free exit)) [
-      | inl none ↦ subst (λ (o : Option ℕ). GoesOn beyond free is_odd exit (enter_by (λ g. entered beyond n (without free (face_of g)) (not is_odd) (exit_of is_odd g)) o)) (sym none) none
+      | inl none ↦ subst (λ (o : Option ℕ). StripGoesOn beyond free is_odd exit (enter_by (λ g. entered beyond n (without free (face_of g)) (not is_odd) (exit_of is_odd g)) o)) (sym none) none
       | inr (g, some) ↦
           let is = (free_is free (beyond exit) g some).1 in
           let less = fewer free (face_of g) m (within (face_of g) is) is in
           let rest = enough beyond m n (without free (face_of g)) (not is_odd) (exit_of is_odd g) (λ x e. within x (without-parts free (face_of g) x e).1) (omega arith) in
-          subst (λ (o : Option ℕ). GoesOn beyond free is_odd exit (enter_by (λ k. entered beyond n (without free (face_of k)) (not is_odd) (exit_of is_odd k)) o)) (sym some) (some, rest)
+          subst (λ (o : Option ℕ). StripGoesOn beyond free is_odd exit (enter_by (λ k. entered beyond n (without free (face_of k)) (not is_odd) (exit_of is_odd k)) o)) (sym some) (some, rest)
     ]
 
 pub strips_go_on : StripsGoOn

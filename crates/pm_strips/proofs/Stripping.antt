@@ -9,7 +9,7 @@ use Rattle.pm_io.specs.Bytes.{GainsPart, GainsThrough}
 use Rattle.pm_io.proofs.PageLaws.{through_none, through_both, through_more, through_part}
 use Rattle.pm_forest.specs.Forest.{Hierarchy}
 use Rattle.pm_forest.specs.Faces.{face_count}
-use Rattle.pm_strips.specs.Strips.{strip_from, strips_from, left_by, listed}
+use Rattle.pm_strips.specs.Strips.{strip_from, strips_from, left_by, listed_nodes}
 use Rattle.pm_strips.specs.Shown.{is_there, beyond_in, strips_of, strip_line}
 use Rattle.pm_strips.specs.Texts.{line_of}
 use Rattle.pm_strips.proofs.TakenLaws.{left_less}
@@ -93,23 +93,23 @@ module _ (beyond : ℕ → Option ℕ) (node : ℕ → ℕ) (n face : ℕ) (firs
   -- The sink failed within the line of the next strip.
   pub stripping_cut : (old mid new : Option (List ℕ)) (p q : List ℕ) → face < n → free face ≡ true
       → IsStripping beyond node n face first free strips old mid p q → GainsPart mid new (q ++ line_of node strip)
-      → GainsPart old new (p ++ flat_map strip_line (map (listed node) all))
+      → GainsPart old new (p ++ flat_map strip_line (map (listed_nodes node) all))
   stripping_cut old mid new p q low is so_far part =
       let rest = later (left_by free strip) in
       let line = line_of node in
-      let whole : flat_map strip_line (map (listed node) all) ≡ (flat_map line so_far.done ++ line strip) ++ flat_map line rest =
-      flat_map-map strip_line (listed node) all
+      let whole : flat_map strip_line (map (listed_nodes node) all) ≡ (flat_map line so_far.done ++ line strip) ++ flat_map line rest =
+      flat_map-map strip_line (listed_nodes node) all
       ∙ ap (λ ss. flat_map line ss) (so_far.whole ∙ ap (λ ss. so_far.done ++ ss) (begins low is))
       ∙ flat_map-append line so_far.done (strip ∷ rest) ∙ sym (append_assoc (flat_map line so_far.done) (line strip) (flat_map line rest)) in
       subst (λ l. GainsPart old new (p ++ l)) (sym whole) (through_more old new p _ (flat_map line rest) (through_part old mid new p q _ _ so_far.text part))
 
   pub stripping_all : (old new : Option (List ℕ)) (p q : List ℕ) → n ≤ face → IsStripping beyond node n face first free strips old new p q
-      → GainsThrough old new p q (flat_map strip_line (map (listed node) all)) × (strips ≡ length (map (listed node) all))
+      → GainsThrough old new p q (flat_map strip_line (map (listed_nodes node) all)) × (strips ≡ length (map (listed_nodes node) all))
   stripping_all old new p q past s =
       let k : n - face ≡ 0 = omega arith in
       let is : all ≡ s.done = s.whole ∙ ap (λ ss. s.done ++ ss) (ap (λ m. strips_from beyond n m free face) k) ∙ append-nil s.done in (
-        subst (GainsThrough old new p q) (sym (flat_map-map strip_line (listed node) all ∙ ap (λ ss. flat_map (line_of node) ss) is)) s.text,
-        s.count ∙ ap length (sym is) ∙ sym (length-map all (listed node)),
+        subst (GainsThrough old new p q) (sym (flat_map-map strip_line (listed_nodes node) all ∙ ap (λ ss. flat_map (line_of node) ss) is)) s.text,
+        s.count ∙ ap length (sym is) ∙ sym (length-map all (listed_nodes node)),
       )
 
 pub shown_strips : (h : Hierarchy) (T : ℕ → Bool) (first : ℕ → Bool) → first ≡ is_there h T → strips_from (beyond_in h T) (face_count h) (face_count h) first 0 ≡ strips_of h T

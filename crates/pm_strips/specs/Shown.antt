@@ -10,7 +10,7 @@ use Rattle.pm_forest.specs.Fronts.{ancestor_of}
 use Rattle.pm_forest.specs.Faces.{face_count, from_leaf}
 use Rattle.pm_forest.specs.Kept.{is_kept}
 use Rattle.pm_beyond.specs.Walks.{beyond_of}
-use Rattle.pm_strips.specs.Strips.{strips_from, listed, decoded, IsTurnOf}
+use Rattle.pm_strips.specs.Strips.{strips_from, listed_nodes, decoded, IsTurnOf}
 
 -- Face f is kept. At first these are the free faces.
 abbrev pub is_there : Hierarchy → (ℕ → Bool) → ℕ → Bool
@@ -21,16 +21,16 @@ abbrev pub beyond_in : Hierarchy → (ℕ → Bool) → ℕ → Option ℕ
 beyond_in h T e = cond (is_there h T (face_of e)) (beyond_of h T e) None
 
 -- The active node at which side e begins.
-abbrev pub node_at : Hierarchy → (ℕ → Bool) → ℕ → ℕ
-node_at h T e = ancestor_of h T (from_leaf h e)
+abbrev pub node_of_corner : Hierarchy → (ℕ → Bool) → ℕ → ℕ
+node_of_corner h T e = ancestor_of h T (from_leaf h e)
 
 -- The strips, each by the sides with which it comes to its triangles, and the list of each. No strip has more triangles than
 -- there are faces.
 unfoldable pub strips_of : Hierarchy → (ℕ → Bool) → List (List ℕ)
 strips_of h T = strips_from (beyond_in h T) (face_count h) (face_count h) (is_there h T) 0
 
-abbrev pub lists_of : Hierarchy → (ℕ → Bool) → List (List ℕ)
-lists_of h T = map (listed (node_at h T)) (strips_of h T)
+abbrev pub strip_lists_of : Hierarchy → (ℕ → Bool) → List (List ℕ)
+strip_lists_of h T = map (listed_nodes (node_of_corner h T)) (strips_of h T)
 
 -- A node in a list, with a space before it.
 unfoldable pub node_text : ℕ → List ℕ
@@ -45,7 +45,7 @@ count_line strips = codes "strips " ++ decimal strips ++ codes "\n"
 
 -- The text of the strips.
 unfoldable pub strips_text : Hierarchy → (ℕ → Bool) → List ℕ
-strips_text h T = flat_map strip_line (lists_of h T) ++ count_line (length (lists_of h T))
+strips_text h T = flat_map strip_line (strip_lists_of h T) ++ count_line (length (strip_lists_of h T))
 
 -- The list has each kept face once.
 pub record HasEachOnce (h : Hierarchy) (T : ℕ → Bool) (faces : List ℕ) : Type 0 where
@@ -54,7 +54,7 @@ pub record HasEachOnce (h : Hierarchy) (T : ℕ → Bool) (faces : List ℕ) : T
 
 -- The active nodes at the corners of face f.
 abbrev pub corners_shown : Hierarchy → (ℕ → Bool) → ℕ → Corners
-corners_shown h T f = record { a = node_at h T (3 * f); b = node_at h T (3 * f + 1); c = node_at h T (3 * f + 2) }
+corners_shown h T f = record { a = node_of_corner h T (3 * f); b = node_of_corner h T (3 * f + 1); c = node_of_corner h T (3 * f + 2) }
 
 -- Each triangle is the face in its place, up to a turn of the corners.
 abbrev pub AreTurned : (ℕ → Corners) → List ℕ → List Corners → Type 0
@@ -66,4 +66,4 @@ AreTurned shown _ _ = ⊥
 pub record ShowTheMesh (h : Hierarchy) (T : ℕ → Bool) : Type 0 where
   pub faces : List ℕ
   pub kept : HasEachOnce h T faces
-  pub triangles : AreTurned (corners_shown h T) faces (flat_map (decoded false) (lists_of h T))
+  pub triangles : AreTurned (corners_shown h T) faces (flat_map (decoded false) (strip_lists_of h T))

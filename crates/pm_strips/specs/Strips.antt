@@ -60,9 +60,9 @@ strips_from beyond n (suc m) free f =
 
 -- The nodes that a strip lists: three for its first triangle, and for each further one the node that isn't on the side by
 -- which it was entered.
-abbrev pub listed : (ℕ → ℕ) → List ℕ → List ℕ
-listed node [] = []
-listed node (e ∷ gs) = node e ∷ node (next e) ∷ node (next (next e)) ∷ map (λ g. node (next (next g))) gs
+abbrev pub listed_nodes : (ℕ → ℕ) → List ℕ → List ℕ
+listed_nodes node [] = []
+listed_nodes node (e ∷ gs) = node e ∷ node (next e) ∷ node (next (next e)) ∷ map (λ g. node (next (next g))) gs
 
 -- The triangles that a list of nodes stands for: each three that follow one another, the first two swapped where it is odd.
 abbrev pub decoded : Bool → List ℕ → List Corners

@@ -2,7 +2,7 @@
 use Rattle.std.specs.Prelude.{ℕ, List, ◌++◌, codes}
 use Rattle.std.specs.List.{flat_map}
 use Rattle.pm_base.specs.Sides.{next}
-use Rattle.pm_strips.specs.Strips.{listed}
+use Rattle.pm_strips.specs.Strips.{listed_nodes}
 use Rattle.pm_strips.specs.Shown.{node_text, strip_line}
 
 -- The first three nodes of a strip that begins with side e.
@@ -21,4 +21,4 @@ line_end = codes "\n"
 
 -- The line of a strip.
 abbrev pub line_of : (ℕ → ℕ) → List ℕ → List ℕ
-line_of node sides = strip_line (listed node sides)
+line_of node sides = strip_line (listed_nodes node sides)

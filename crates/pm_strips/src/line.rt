@@ -2,7 +2,7 @@
 ghost use Rattle.std.specs.Prelude.{◌≡◌, ◌+◌, ◌≤◌, true, ◌++◌, length};
 ghost use Rattle.pm_base.specs.Sides.{face_of};
 ghost use Rattle.pm_forest.specs.Fronts.{set_of};
-ghost use Rattle.pm_strips.specs.Shown.{is_there, node_at, node_text, count_line};
+ghost use Rattle.pm_strips.specs.Shown.{is_there, node_of_corner, node_text, count_line};
 ghost use Rattle.pm_strips.specs.Texts.{first_text};
 
 use crate::sides::next;
@@ -15,7 +15,7 @@ use pm_io::Line;
 pub(crate) fn add_node(line: &mut Line, front: &Front, corner: Side)
     requires there { is_there front.now.h (set_of front.now.flags) (face_of corner.0) ≡ true }
     requires room { length line.old + 11 ≤ 128 }
-    ensures text { line.new ≡ line.old ++ node_text (node_at front.now.h (set_of front.now.flags) corner.0) }
+    ensures text { line.new ≡ line.old ++ node_text (node_of_corner front.now.h (set_of front.now.flags) corner.0) }
     ensures short { length line.new ≤ length line.old + 11 }
 {
     let node = front.corner(FaceId(corner.0 / 3), corner.0 % 3);
@@ -27,7 +27,7 @@ pub(crate) fn add_node(line: &mut Line, front: &Front, corner: Side)
 #[tactic(auto, unfolding(crate::specs::Texts::first_text))]
 pub(crate) fn put_first(line: &mut Line, front: &Front, first: Side)
     requires { is_there front.now.h (set_of front.now.flags) (face_of first.0) ≡ true }
-    ensures { line.new ≡ first_text (node_at front.now.h (set_of front.now.flags)) first.0 }
+    ensures { line.new ≡ first_text (node_of_corner front.now.h (set_of front.now.flags)) first.0 }
 {
     let second = next(front, first);
     let third = next(front, second);

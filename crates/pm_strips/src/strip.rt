@@ -6,7 +6,7 @@ ghost use Rattle.pm_base.specs.Sides.{face_of};
 ghost use Rattle.pm_forest.specs.Fronts.{set_of};
 ghost use Rattle.pm_forest.specs.Faces.{face_count};
 ghost use Rattle.pm_strips.specs.Strips.{entered, strip_from, left_by};
-ghost use Rattle.pm_strips.specs.Shown.{is_there, beyond_in, node_at, node_text};
+ghost use Rattle.pm_strips.specs.Shown.{is_there, beyond_in, node_of_corner, node_text};
 ghost use Rattle.pm_strips.specs.Texts.{first_text, entered_text, line_of};
 
 use crate::line::{add_node, put_first};
@@ -23,7 +23,7 @@ fn put_begin<K: Sink>(
     out: &mut K,
 ) -> Result<(), WriteFault>
     requires { is_there front.now.h (set_of front.now.flags) (face_of first.0) ≡ true }
-    ensures { let text = first_text (node_at front.now.h (set_of front.now.flags)) first.0 in
+    ensures { let text = first_text (node_of_corner front.now.h (set_of front.now.flags)) first.0 in
         PutsThrough K.Sink out.old out.new page.old page.new text result }
 {
     let mut line = Line::new();
@@ -39,7 +39,7 @@ fn put_node<K: Sink>(
     out: &mut K,
 ) -> Result<(), WriteFault>
     requires { is_there front.now.h (set_of front.now.flags) (face_of corner.0) ≡ true }
-    ensures { let text = node_text (node_at front.now.h (set_of front.now.flags) corner.0) in
+    ensures { let text = node_text (node_of_corner front.now.h (set_of front.now.flags) corner.0) in
         PutsThrough K.Sink out.old out.new page.old page.new text result }
 {
     let mut line = Line::new();
@@ -60,7 +60,7 @@ fn put_entered<K: Sink>(
     requires there { is_there front.now.h (set_of front.now.flags) (face_of first_exit.0) ≡ true }
     ensures puts { let h = front.now.h in let T = set_of front.now.flags in
         let sides = entered (beyond_in h T) (face_count h) (set_of free.old.items) true first_exit.0 in
-        PutsThrough K.Sink out.old out.new page.old page.new (entered_text (node_at h T) sides) result }
+        PutsThrough K.Sink out.old out.new page.old page.new (entered_text (node_of_corner h T) sides) result }
     ensures left { let h = front.now.h in let T = set_of front.now.flags in
         let sides = entered (beyond_in h T) (face_count h) (set_of free.old.items) true first_exit.0 in
         OnOk result (set_of free.new.items ≡ left_by (set_of free.old.items) sides) }
@@ -94,7 +94,7 @@ pub(crate) fn put_strip<K: Sink>(
     requires there { is_there front.now.h (set_of front.now.flags) face.0 ≡ true }
     ensures puts { let h = front.now.h in let T = set_of front.now.flags in
         let sides = strip_from (beyond_in h T) (face_count h) (set_of free.old.items) face.0 in
-        PutsThrough K.Sink out.old out.new page.old page.new (line_of (node_at h T) sides) result }
+        PutsThrough K.Sink out.old out.new page.old page.new (line_of (node_of_corner h T) sides) result }
     ensures left { let h = front.now.h in let T = set_of front.now.flags in
         let sides = strip_from (beyond_in h T) (face_count h) (set_of free.old.items) face.0 in
         OnOk result (set_of free.new.items ≡ left_by (set_of free.old.items) sides) }

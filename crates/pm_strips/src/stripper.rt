@@ -4,7 +4,7 @@ ghost use Rattle.std.specs.List.{flat_map};
 ghost use Rattle.pm_io.specs.Puts.{Puts, PutsThrough};
 ghost use Rattle.pm_forest.specs.Fronts.{set_of};
 ghost use Rattle.pm_forest.specs.Faces.{face_count};
-ghost use Rattle.pm_strips.specs.Shown.{is_there, lists_of, strip_line, count_line, strips_text, ShowTheMesh};
+ghost use Rattle.pm_strips.specs.Shown.{is_there, strip_lists_of, strip_line, count_line, strips_text, ShowTheMesh};
 
 use crate::OutOfMemory;
 use crate::line::put_count;
@@ -95,9 +95,9 @@ fn put_strips<K: Sink>(
 ) -> Result<u32, WriteFault>
     requires len { length free.old.items ≡ face_count front.now.h }
     requires free { set_of free.old.items ≡ is_there front.now.h (set_of front.now.flags) }
-    ensures puts { let text = flat_map strip_line (lists_of front.now.h (set_of front.now.flags)) in
+    ensures puts { let text = flat_map strip_line (strip_lists_of front.now.h (set_of front.now.flags)) in
         PutsThrough K.Sink out.old out.new page.old page.new text result }
-    ensures count { IfOk result (λ n. n ≡ length (lists_of front.now.h (set_of front.now.flags))) }
+    ensures count { IfOk result (λ n. n ≡ length (strip_lists_of front.now.h (set_of front.now.flags))) }
     ensures len { length free.new.items ≡ length free.old.items }
 {
     let mut strips = 0u32;

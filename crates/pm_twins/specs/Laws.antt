@@ -3,7 +3,7 @@ use Rattle.std.specs.Prelude.{◌≡◌, ◌≢◌, ℕ, ◌+◌, ◌*◌, ◌<�
 use Rattle.pm_base.specs.declared.mesh.Corners.{Corners}
 use Rattle.pm_base.specs.Meshes.{Mesh, IsWellFormed}
 use Rattle.pm_base.specs.Sides.{Net, face_of, to, net_of, no_corners, Stands, NoSideTwice, IsTwin, twin_of, IsBorderSide, IsBorder}
-use Rattle.pm_base.specs.Fans.{IsPairAt, IsUsed, IsOpen, IsClosed, IsFan, IsOrientedManifold}
+use Rattle.pm_base.specs.Fans.{IsPairAt, IsUsed, IsOpen, IsClosedChain, IsFan, IsOrientedManifold}
 use Rattle.pm_base.specs.Rounds.{IsRound, NoMirrorAt}
 
 -- Of a list of faces, face f with the corners a, b and c has the sides a to b, b to c and c to a, with the numbers 3f,
@@ -44,7 +44,7 @@ OneBorderSideEach = (m : Net) → IsOrientedManifold m → (e g : ℕ) → IsBor
 -- The fan of a used vertex is open where the vertex is on the border, and closed where it isn't.
 abbrev pub FansCloseInside : Type 0
 FansCloseInside = (m : Net) (v : ℕ) (fan : IsFan m v) → IsUsed m v →
-    (IsBorder m v → IsOpen fan.w fan.n) × ((IsBorder m v → ⊥) → IsClosed fan.w fan.n)
+    (IsBorder m v → IsOpen fan.w fan.n) × ((IsBorder m v → ⊥) → IsClosedChain fan.w fan.n)
 
 -- An oriented manifold has no two faces with the same three corners.
 abbrev pub NoTwoFacesAlike : Type 0

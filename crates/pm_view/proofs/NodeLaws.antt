@@ -7,12 +7,13 @@ use Rattle.pm_forest.specs.Forest.{Hierarchy, record_count, node_count, s_of, Ma
 use Rattle.pm_forest.specs.Faces.{face_count, corners_of, from_leaf}
 use Rattle.pm_forest.specs.Places.{place_of_node}
 use Rattle.pm_forest.specs.Rules.{HasShape}
+use Rattle.pm_forest.specs.Meshes.{leaf_place}
 use Rattle.pm_bounds.specs.Laws.{IsIn}
-use Rattle.pm_bounds.specs.Bounds.{leaf_place, normal_of, leaf_radius, error_of, radius_of, normal_box_of}
+use Rattle.pm_bounds.specs.Bounds.{normal_of, leaf_radius, error_of, radius_of, normal_box_of}
 use Rattle.pm_bounds.proofs.Covering.{near, errors_grow, radii_grow, child_number, leaves_covered, corners_covered, normals_boxed, boxes_nest}
 use Rattle.pm_view.specs.Views.{View}
 use Rattle.pm_view.specs.Wanted.{bounded, is_outside_any, least_facing, looks_large, is_wanted}
-use Rattle.pm_view.specs.Laws.{IsCornerNear, IsBehind, IsTurnedAway, IsWithin, IsTiny}
+use Rattle.pm_view.specs.Laws.{IsCornerNear, IsBehind, IsTurnedAway, IsWithinTolerance, IsTiny}
 use Rattle.pm_view.proofs.Premises.{IsChild, IsCorner, LooksWithin}
 use Rattle.pm_view.proofs.Passing.{wanted_passes, reasons, plain}
 
@@ -39,7 +40,7 @@ module _ (h : Hierarchy) (shape : HasShape h) where
   pub wanting_passes_up : (view : View) (k v : ℕ) → k < record_count h → Makes h k v → is_wanted h view v ≡ true → is_wanted h view (s_of h k) ≡ true
   wanting_passes_up view k v l makes e = wanted_passes (bounded h v) (bounded h (s_of h k)) view (child k v l makes) e
 
-  within : (v : ℕ) → v < node_count h → (view : View) (tol : ℕ) → LooksWithin (bounded h v) view tol → IsWithin h view tol v
+  within : (v : ℕ) → v < node_count h → (view : View) (tol : ℕ) → LooksWithin (bounded h v) view tol → IsWithinTolerance h view tol v
   within v l view tol fine x s held c = fine (leaf_place h x) (normal_of h (corners_of h (face_of s))) (leaf_place h (from_leaf h s)) (leaves_covered h shape v x l held) (corner v s l c)
 
   pub unwanted_for_a_reason : (view : View) (v : ℕ) → v < node_count h → is_wanted h view v ≡ false → IsBehind h view v ⊎ (IsTurnedAway h view v ⊎ IsTiny h view v)

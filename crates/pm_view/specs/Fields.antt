@@ -10,14 +10,14 @@ use Rattle.pm_view.specs.declared.fields.ViewKind.TheVariants as kinds
 use Rattle.pm_view.specs.Views.{View}
 
 -- A byte put before the first field.
-abbrev pub onto_field : ℕ → List (List ℕ) → List (List ℕ)
-onto_field b [] = (b ∷ []) ∷ []
-onto_field b (f ∷ fs) = (b ∷ f) ∷ fs
+abbrev pub onto_spaced_field : ℕ → List (List ℕ) → List (List ℕ)
+onto_spaced_field b [] = (b ∷ []) ∷ []
+onto_spaced_field b (f ∷ fs) = (b ∷ f) ∷ fs
 
 -- The text cut at each space: n spaces make n + 1 fields, and some of them may be empty.
-abbrev pub fields : List ℕ → List (List ℕ)
-fields [] = [] ∷ []
-fields (b ∷ bs) = if b == 32 then [] ∷ fields bs else onto_field b (fields bs)
+abbrev pub spaced_fields : List ℕ → List (List ℕ)
+spaced_fields [] = [] ∷ []
+spaced_fields (b ∷ bs) = if b == 32 then [] ∷ spaced_fields bs else onto_spaced_field b (spaced_fields bs)
 
 -- A number below 0, by what follows its sign: it isn't `-0`.
 abbrev pub negative : ℕ → Option ℤ
@@ -35,14 +35,14 @@ eye_of x y z =
     (signed_of GREATEST_EYE_COORDINATE z)) (signed_of GREATEST_EYE_COORDINATE y)) (signed_of GREATEST_EYE_COORDINATE x)
 
 -- The plane that four fields spell.
-unfoldable pub plane_of : List ℕ → List ℕ → List ℕ → List ℕ → Option Plane
-plane_of a b c d =
+unfoldable pub plane_read : List ℕ → List ℕ → List ℕ → List ℕ → Option Plane
+plane_read a b c d =
     option_and_then (λ fa. option_and_then (λ fb. option_and_then (λ fc. option_and_then (λ fd. Some (record { a = fa; b = fb; c = fc; d = fd }))
     (signed_of GREATEST_OFFSET d)) (signed_of GREATEST_NORMAL_COMPONENT c)) (signed_of GREATEST_NORMAL_COMPONENT b)) (signed_of GREATEST_NORMAL_COMPONENT a)
 
 -- The plane that the first four fields spell, and the fields after them.
 unfoldable pub first_plane : List (List ℕ) → Option (Plane × List (List ℕ))
-first_plane (a ∷ b ∷ c ∷ d ∷ rest) = option_map (λ f. (f, rest)) (plane_of a b c d)
+first_plane (a ∷ b ∷ c ∷ d ∷ rest) = option_map (λ f. (f, rest)) (plane_read a b c d)
 first_plane _ = None
 
 -- The planes that groups of four fields spell, n of them at most.
@@ -68,9 +68,9 @@ view_in kind _ = None
 
 -- The view that a text spells.
 abbrev pub view_of : ViewKind → List ℕ → Option View
-view_of kind text = view_in kind (fields text)
+view_of kind text = view_in kind (spaced_fields text)
 
 -- The fields after a field that has just been read, where `rest` is empty or begins with the space that ended that field.
 abbrev pub fields_after : List ℕ → List (List ℕ)
 fields_after [] = []
-fields_after (b ∷ bs) = fields bs
+fields_after (b ∷ bs) = spaced_fields bs

@@ -8,7 +8,8 @@ use Rattle.pm_forest.specs.Forest.{Hierarchy, record_count, node_count, s_of, Ho
 use Rattle.pm_forest.specs.Faces.{face_count, corners_of, from_leaf}
 use Rattle.pm_forest.specs.Places.{place_of_node}
 use Rattle.pm_forest.specs.Rules.{HasShape}
-use Rattle.pm_bounds.specs.Bounds.{leaf_place, normal_of}
+use Rattle.pm_forest.specs.Meshes.{leaf_place}
+use Rattle.pm_bounds.specs.Bounds.{normal_of}
 use Rattle.pm_view.specs.declared.plane.Plane.{Plane}
 use Rattle.pm_view.specs.Views.{View}
 use Rattle.pm_view.specs.Wanted.{value_at, bounded, is_outside_any, least_facing, looks_large, is_wanted}
@@ -40,15 +41,15 @@ IsTurnedTo h view v =
 
 -- No leaf under the node is farther from the node's place than a tolerance, as it looks from the eye by way of any of these
 -- corners.
-abbrev pub IsWithin : Hierarchy → View → ℕ → ℕ → Type 0
-IsWithin h view tol v =
+abbrev pub IsWithinTolerance : Hierarchy → View → ℕ → ℕ → Type 0
+IsWithinTolerance h view tol v =
     (x e : ℕ) → Holds h v x → IsCornerNear h v e
     → view.focal * view.focal * dist2_of (place_of_node h v) (leaf_place h x) ≤ tol * tol * dist2_of (leaf_place h (from_leaf h e)) view.eye
 
 -- No leaf under the node looks farther than the tolerance; and none looks farther than the tolerance for outlines either, or
 -- no outline runs through the node.
 abbrev pub IsTiny : Hierarchy → View → ℕ → Type 0
-IsTiny h view v = IsWithin h view view.tol v × (IsWithin h view view.sil v ⊎ IsTurnedTo h view v)
+IsTiny h view v = IsWithinTolerance h view view.tol v × (IsWithinTolerance h view view.sil v ⊎ IsTurnedTo h view v)
 
 -- A view that wants a node wants the node that was split to make it.
 abbrev pub WantingPassesUp : Type 0

@@ -3,7 +3,7 @@ ghost use Rattle.std.specs.Prelude.{◌≡◌, ◌<◌, ◌≤◌, ◌∷◌, []
 ghost use Rattle.std.specs.List.{list_all};
 ghost use Rattle.pm_view.specs.declared.limits.TheConstants.{GREATEST_EYE_COORDINATE, GREATEST_TOLERANCE};
 ghost use Rattle.pm_view.specs.Views.{is_plane};
-ghost use Rattle.pm_view.specs.Fields.{fields, fields_after, eye_of, plane_of, first_plane, planes_of, first_sil, view_of};
+ghost use Rattle.pm_view.specs.Fields.{spaced_fields, fields_after, eye_of, plane_read, first_plane, planes_of, first_sil, view_of};
 
 use crate::limits::{
     GREATEST_EYE_COORDINATE, GREATEST_FOCAL_LENGTH, GREATEST_NORMAL_COMPONENT, GREATEST_OFFSET,
@@ -27,7 +27,7 @@ pub struct BadView;
 
 /// The first field, and the rest, which is empty or begins with the space that ends the field.
 pub fn cut_field(text: &[u8]) -> (&[u8], &[u8])
-    ensures { fields text.now ≡ result.0.now ∷ fields_after result.1.now }
+    ensures { spaced_fields text.now ≡ result.0.now ∷ fields_after result.1.now }
 {
     for (i, b) in text.iter().enumerate() {
         if *b == b' ' {
@@ -39,7 +39,7 @@ pub fn cut_field(text: &[u8]) -> (&[u8], &[u8])
 
 // The text after the space that ends a field; none where the last field was read.
 fn after_space(rest: &[u8]) -> Option<&[u8]>
-    ensures { MatchOption result (fields_after rest.now ≡ []) (λ text. fields_after rest.now ≡ fields text.now) }
+    ensures { MatchOption result (fields_after rest.now ≡ []) (λ text. fields_after rest.now ≡ spaced_fields text.now) }
 {
     match rest {
         [] => None,
@@ -67,9 +67,9 @@ fn read_eye(x: &[u8], y: &[u8], z: &[u8]) -> Option<(i32, i32, i32)>
     Some((ex, ey, ez))
 }
 
-#[tactic(auto, unfolding(crate::specs::Fields::plane_of))]
+#[tactic(auto, unfolding(crate::specs::Fields::plane_read))]
 fn read_plane(a: &[u8], b: &[u8], c: &[u8], d: &[u8]) -> Option<Plane>
-    ensures value { result ≡ plane_of a.now b.now c.now d.now }
+    ensures value { result ≡ plane_read a.now b.now c.now d.now }
     ensures in_range { IfSome result (λ f. is_plane f ≡ true) }
 {
     Some(Plane {
@@ -83,7 +83,7 @@ fn read_plane(a: &[u8], b: &[u8], c: &[u8], d: &[u8]) -> Option<Plane>
 // The first plane and the rest.
 #[tactic(auto, unfolding(crate::specs::Fields::first_plane))]
 fn cut_plane(text: &[u8]) -> Option<(Plane, &[u8])>
-    ensures value { MatchOption result (first_plane (fields text.now) ≡ None) (λ r. first_plane (fields text.now) ≡ Some (r.0, fields_after r.1.now)) }
+    ensures value { MatchOption result (first_plane (spaced_fields text.now) ≡ None) (λ r. first_plane (spaced_fields text.now) ≡ Some (r.0, fields_after r.1.now)) }
     ensures in_range { IfSome result (λ r. is_plane r.0 ≡ true) }
 {
     let (a, rest) = cut_field(text);

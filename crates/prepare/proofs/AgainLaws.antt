@@ -13,22 +13,22 @@ use Rattle.obj_read.specs.Meaning.{Refused, meaning_of}
 use Rattle.obj_read.proofs.FormedLaws.{meaning_formed}
 use Rattle.obj_read.proofs.PlacedLaws.{meaning_placed}
 use Rattle.obj_scan.specs.Judged.{Scanned}
-use Rattle.obj_scan.specs.Meaning.{meaning_of as scan_meaning_of}
+use Rattle.obj_scan.specs.Meaning.{scan_meaning_of}
 use Rattle.obj_scan.specs.Laws.{scanned_mesh}
 use Rattle.obj_scan.proofs.ReadLaws.{read_scanned}
 use Rattle.obj_prepare.specs.declared.notes.Notes.{Notes}
 use Rattle.obj_prepare.specs.declared.placing.Fit.{Fit}
 use Rattle.obj_prepare.specs.declared.placing.Fit.TheVariants as fits
-use Rattle.obj_prepare.specs.Named.{AreCorners, IsWithin}
-use Rattle.obj_prepare.specs.Joining.{place_at}
-use Rattle.obj_prepare.specs.Placing.{IsSize, places_of}
+use Rattle.obj_prepare.specs.Named.{AreVerticesBelow, IsWithinMesh}
+use Rattle.obj_prepare.specs.Joining.{place_in_list}
+use Rattle.obj_prepare.specs.Placing.{IsSize, prepared_places_of}
 use Rattle.obj_prepare.specs.Prepared.{staying, joined_count, flat_count, double_count, unnamed_count, split_count, IsPrepared, IsPreparedWith}
 use Rattle.obj_prepare.proofs.AgainLaws.{prepared_again}
 use Rattle.obj_prepare.proofs.FitMeshes.{fit_meshes_stay}
 use Rattle.obj_prepare.proofs.PlacingLaws.{length-places_of}
 use Rattle.prepare.specs.declared.fault.Fault.{Fault}
 use Rattle.prepare.specs.Texts.{output_text, notes_text}
-use Rattle.prepare.specs.Outcome.{Done, Makes, IsPreparedText, bad_line, too_many, made}
+use Rattle.prepare.specs.Outcome.{Done, MakesPrepared, IsPreparedText, bad_line, too_many, made}
 use Rattle.prepare.specs.Laws.{ComesBack, TextsComeBack, FitTextsStay}
 use Rattle.prepare.proofs.ScannedLaws.{meaning_sound}
 use Rattle.prepare.proofs.ReadLaws.{made_on_grid, mesh_is_read}
@@ -57,7 +57,7 @@ standing_done m notes = record { text = output_text fits.Standing m; notes = not
 
 -- A mesh on the grid all of whose vertices are used is made of its own points in units.
 makes_itself : (m : Mesh) (notes : Notes) → IsWellFormed m → IsOrientedManifold (net_of m.faces) → All IsPlace m.points → ((v : ℕ) → v < length m.points → IsUsed (net_of m.faces) v)
-    → IsPreparedWith m.points m.faces m notes → Makes None (scanned_mesh m) (standing_done m notes)
+    → IsPreparedWith m.points m.faces m notes → MakesPrepared None (scanned_mesh m) (standing_done m notes)
 makes_itself m notes formed manifold placed used prepared =
     let fit = standing_fit m.points m.faces placed in
     record {
@@ -70,22 +70,22 @@ makes_itself m notes formed manifold placed used prepared =
       notes_are = ap (λ (f : Fit). notes_text 0 notes f m.faces) (sym fit);
     }
 
-corners_of : (n : ℕ) (faces : List Corners) → All (IsFace n) faces → All (AreCorners n) faces
+corners_of : (n : ℕ) (faces : List Corners) → All (IsFace n) faces → All (AreVerticesBelow n) faces
 corners_of n faces all = λ i d l. let f = all i d l in record { a = f.a; b = f.b; c = f.c }
 
 one_mesh : (found : Result Mesh Refused) (m n : Mesh) → found ≡ Ok m → found ≡ Ok n → m ≡ n
 one_mesh found m n is are = cc
 
-made_comes_back : (size : Option ℕ) (bytes : List ℕ) (s : Scanned) (done : Done) → IsSize size → scan_meaning_of bytes ≡ Ok s → (k : Makes size s done) → meaning_of 0 done.text ≡ Ok k.mesh → ComesBack done.text k.mesh
+made_comes_back : (size : Option ℕ) (bytes : List ℕ) (s : Scanned) (done : Done) → IsSize size → scan_meaning_of bytes ≡ Ok s → (k : MakesPrepared size s done) → meaning_of 0 done.text ≡ Ok k.mesh → ComesBack done.text k.mesh
 unfolding numbers
 made_comes_back size bytes s done is means k read =
     let m = k.mesh in
     let p = k.prepared.0 in
-    let places = places_of size s.points s.faces in
+    let places = prepared_places_of size s.points s.faces in
     let corners = (meaning_sound bytes s means).scanning.within.corners in
     let long : length s.points ≡ length places = sym (length-places_of size s.points s.faces) in
-    let again = prepared_again places s.faces m (subst (λ n. All (AreCorners n) s.faces) long corners) p in
-    let count : length m.points ≡ length p.old = ap length p.stand ∙ length-map p.old (place_at places) in
+    let again = prepared_again places s.faces m (subst (λ n. All (AreVerticesBelow n) s.faces) long corners) p in
+    let count : length m.points ≡ length p.old = ap length p.stand ∙ length-map p.old (place_in_list places) in
     let used : (v : ℕ) → v < length m.points → IsUsed (net_of m.faces) v = λ v l. p.split.used v (omega (arith, count, l)) in
     let told = numbered m again in
     record {
@@ -114,7 +114,7 @@ pub fit_texts_stay : FitTextsStay
 fit_texts_stay bytes m read manifold fit =
     let formed = meaning_formed 0 bytes m read in
     let corners = corners_of (length m.points) m.faces formed.corners in
-    let within : IsWithin (length m.points) m.faces = record { vertices_few = formed.points; faces_few = formed.faces; corners = corners } in
+    let within : IsWithinMesh (length m.points) m.faces = record { vertices_few = formed.points; faces_few = formed.faces; corners = corners } in
     let p : IsPrepared m.points m.faces m = fit_meshes_stay m.points m.faces within (λ e l. (mesh_side m formed e l).0) manifold fit in
     let itself = makes_itself m nothing_done formed manifold (meaning_placed 0 bytes m read) fit.used (p, nothing_told m corners manifold fit p) in
     subst (λ (notes : List ℕ). IsPreparedText None bytes (Ok (record { text = output_text fits.Standing m; notes = notes })) None) (nothing_said m.faces)

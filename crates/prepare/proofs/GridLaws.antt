@@ -9,18 +9,18 @@ use Rattle.std.proofs.lemmas.Int.{clamps}
 use Rattle.std.proofs.lemmas.List.Elements.{All-nil, All-cons, All-head, All-tail, All-map}
 use borrow.Author.Differences.{ints}
 use Rattle.pm_base.specs.declared.mesh.Corners.{Corners}
-use Rattle.pm_base.specs.Place.{Place, IsPlace}
+use Rattle.pm_base.specs.Place.{Place, IsPlace, origin}
 use Rattle.obj_read.proofs.DecimalLaws.{with_sign_abs}
 use Rattle.obj_prepare.specs.declared.extents.PointBox.{PointBox}
 use Rattle.obj_prepare.specs.declared.placing.Fit.{Fit}
 use Rattle.obj_prepare.specs.declared.placing.Fit.TheVariants as fits
 use Rattle.obj_prepare.specs.Numbers.{nearest}
 use Rattle.obj_prepare.specs.Exact.{lower, upper, AreExact}
-use Rattle.obj_prepare.specs.Boxes.{along, off_middle, least, greatest, box_of, IsInBox, extent, scaled}
-use Rattle.obj_prepare.specs.Whole.{is_whole, whole, stands}
+use Rattle.obj_prepare.specs.Boxes.{along, off_middle, least_of_places, greatest_of_places, box_of_points, IsInBox, extent, scaled}
+use Rattle.obj_prepare.specs.Whole.{is_whole_coordinate, whole_part_of, stands_on_grid}
 use Rattle.obj_prepare.specs.Named.{chosen, named_in}
-use Rattle.obj_prepare.specs.Placing.{origin, fit_for, Suits, placed, places_by, fit_of, places_of, IsSize}
-use Rattle.obj_prepare.specs.Joining.{place_at}
+use Rattle.obj_prepare.specs.Placing.{fit_for, Suits, placed, places_by, fit_of, prepared_places_of, IsSize}
+use Rattle.obj_prepare.specs.Joining.{place_in_list}
 use Rattle.obj_prepare.proofs.BoxLaws.{off_within}
 use Rattle.obj_prepare.proofs.NearestLaws.{nearest_within}
 use Rattle.obj_prepare.proofs.PlacingLaws.{fit_suits}
@@ -47,7 +47,7 @@ scaled_case size b p false is few inside =
     let in_z = along_within size e (off_middle p.z b.low.z b.high.z) some (omega (arith, z, off_within p.z b.low.z b.high.z inside.low_z inside.high_z)) in
     rw is (omega (arith, in_x, few), omega (arith, in_y, few), omega (arith, in_z, few))
 
-whole_small : (n : ℤ) → is_whole n ≡ true → unsigned_abs (whole n) ≤ 32767
+whole_small : (n : ℤ) → is_whole_coordinate n ≡ true → unsigned_abs (whole_part_of n) ≤ 32767
 whole_small n is =
     let k : ℕ = unsigned_abs n in
     let few = leb-true k (32767 * 10 ^ 18) (and_parts (k % 10 ^ 18 == 0) (nat_le k (32767 * 10 ^ 18)) is).1 in
@@ -55,8 +55,8 @@ whole_small n is =
 
 placed_on_grid : (fit : Fit) (p : Place) → Suits fit p → IsPlace (placed fit p)
 placed_on_grid fits.Standing p is =
-    let (xy, z) = and_parts (is_whole p.x && is_whole p.y) (is_whole p.z) is in
-    let (x, y) = and_parts (is_whole p.x) (is_whole p.y) xy in
+    let (xy, z) = and_parts (is_whole_coordinate p.x && is_whole_coordinate p.y) (is_whole_coordinate p.z) is in
+    let (x, y) = and_parts (is_whole_coordinate p.x) (is_whole_coordinate p.y) xy in
     (whole_small p.x x, whole_small p.y y, whole_small p.z z)
 placed_on_grid (fits.Scaled size b) p (few, inside) = scaled_case size b p (extent b == 0) refl few inside
 
@@ -70,19 +70,19 @@ places_by_on_grid fit (true ∷ flags) (p ∷ ps) suit =
     All-cons IsPlace (placed fit p) (places_by fit flags ps) (placed_on_grid fit p (All-head (Suits fit) p (chosen flags ps) suit)) (places_by_on_grid fit flags ps (All-tail (Suits fit) p (chosen flags ps) suit))
 places_by_on_grid fit (false ∷ flags) (p ∷ ps) suit = All-cons IsPlace origin (places_by fit flags ps) origin_on_grid (places_by_on_grid fit flags ps suit)
 
-pub places_on_grid : (size : Option ℕ) (points : List Place) (faces : List Corners) → IsSize size → All IsPlace (places_of size points faces)
+pub places_on_grid : (size : Option ℕ) (points : List Place) (faces : List Corners) → IsSize size → All IsPlace (prepared_places_of size points faces)
 places_on_grid size points faces is =
     let flags = named_in faces (length points) in
     places_by_on_grid (fit_of size points faces) flags points (fit_suits size (chosen flags points) is)
 
-at_on_grid : (places : List Place) (v : ℕ) → All IsPlace places → IsPlace (place_at places v)
+at_on_grid : (places : List Place) (v : ℕ) → All IsPlace places → IsPlace (place_in_list places v)
 at_on_grid [] v all = origin_on_grid
 at_on_grid (p ∷ places) zero all = All-head IsPlace p places all
 at_on_grid (p ∷ places) (suc v) all = at_on_grid places v (All-tail IsPlace p places all)
 
 -- So do points of which each has the place of one of them.
-pub taken_on_grid : (places : List Place) (old : List ℕ) → All IsPlace places → All IsPlace (map (place_at places) old)
-taken_on_grid places old all = All-map IsPlace (place_at places) old (λ i d l. at_on_grid places (get_or old i d) all)
+pub taken_on_grid : (places : List Place) (old : List ℕ) → All IsPlace places → All IsPlace (map (place_in_list places) old)
+taken_on_grid places old all = All-map IsPlace (place_in_list places) old (λ i d l. at_on_grid places (get_or old i d) all)
 
 -- The box of points of which each is exact.
 
@@ -92,11 +92,11 @@ lower_exact p q (a, b, c) (d, e, f) = (omega (arith, ints, clamps, a, d), omega 
 upper_exact : (p q : Place) → AreExact p → AreExact q → AreExact (upper p q)
 upper_exact p q (a, b, c) (d, e, f) = (omega (arith, ints, clamps, a, d), omega (arith, ints, clamps, b, e), omega (arith, ints, clamps, c, f))
 
-least_exact : (p : Place) (ps : List Place) → AreExact p → All AreExact ps → AreExact (least p ps)
+least_exact : (p : Place) (ps : List Place) → AreExact p → All AreExact ps → AreExact (least_of_places p ps)
 least_exact p [] exact all = exact
 least_exact p (q ∷ qs) exact all = least_exact (lower p q) qs (lower_exact p q exact (All-head AreExact q qs all)) (All-tail AreExact q qs all)
 
-greatest_exact : (p : Place) (ps : List Place) → AreExact p → All AreExact ps → AreExact (greatest p ps)
+greatest_exact : (p : Place) (ps : List Place) → AreExact p → All AreExact ps → AreExact (greatest_of_places p ps)
 greatest_exact p [] exact all = exact
 greatest_exact p (q ∷ qs) exact all = greatest_exact (upper p q) qs (upper_exact p q exact (All-head AreExact q qs all)) (All-tail AreExact q qs all)
 
@@ -105,7 +105,7 @@ abbrev pub IsMeasured : Fit → Type 0
 IsMeasured fits.Standing = Unit {0}
 IsMeasured (fits.Scaled size b) = (size ≤ 32767) × AreExact b.low × AreExact b.high
 
-boxed : (n : ℕ) (p : Place) (ps : List Place) → n ≤ 32767 → All AreExact (p ∷ ps) → IsMeasured (fits.Scaled n (box_of p ps))
+boxed : (n : ℕ) (p : Place) (ps : List Place) → n ≤ 32767 → All AreExact (p ∷ ps) → IsMeasured (fits.Scaled n (box_of_points p ps))
 boxed n p ps few all =
     let here = All-head AreExact p ps all in
     let more = All-tail AreExact p ps all in
@@ -115,9 +115,9 @@ fit_measured : (size : Option ℕ) (ps : List Place) → IsSize size → All Are
 fit_measured size [] is all = tt
 fit_measured (Some n) (p ∷ ps) is all = boxed n p ps is.1 all
 fit_measured None (p ∷ ps) is all =
-    elim (cases_Bool (list_all stands (p ∷ ps))) [
-      | inl t ↦ subst IsMeasured (sym (cond-true (list_all stands (p ∷ ps)) fits.Standing (fits.Scaled 32767 (box_of p ps)) t)) tt
-      | inr f ↦ subst IsMeasured (sym (cond-false (list_all stands (p ∷ ps)) fits.Standing (fits.Scaled 32767 (box_of p ps)) f)) (boxed 32767 p ps (omega arith) all)
+    elim (cases_Bool (list_all stands_on_grid (p ∷ ps))) [
+      | inl t ↦ subst IsMeasured (sym (cond-true (list_all stands_on_grid (p ∷ ps)) fits.Standing (fits.Scaled 32767 (box_of_points p ps)) t)) tt
+      | inr f ↦ subst IsMeasured (sym (cond-false (list_all stands_on_grid (p ∷ ps)) fits.Standing (fits.Scaled 32767 (box_of_points p ps)) f)) (boxed 32767 p ps (omega arith) all)
     ]
 
 pub chosen_all : (P : Place → Type 0) (flags : List Bool) (ps : List Place) → All P ps → All P (chosen flags ps)

@@ -15,7 +15,7 @@ use Rattle.obj_prepare.specs.Boxes.{extent}
 use Rattle.obj_prepare.specs.declared.extents.PointBox.{PointBox}
 use Rattle.obj_prepare.specs.declared.placing.Fit.{Fit}
 use Rattle.obj_prepare.specs.declared.placing.Fit.TheVariants as fits
-use Rattle.prepare.specs.Texts.{middle, scale_text, middle_text, way_back, fit_line, head_line}
+use Rattle.prepare.specs.Texts.{middle, scale_text, middle_text, way_back, fit_line, fit_head_line}
 use Rattle.prepare.proofs.GridLaws.{IsMeasured}
 
 -- No LF, and at most so many bytes.
@@ -106,10 +106,10 @@ fit_comment (fits.Scaled size b) (few, low, high) =
       text_is = ap (λ (t : List ℕ). 35 ∷ 32 ∷ t) (sym (append_assoc back (41 ∷ []) (10 ∷ [])));
     }
 
-head_case : (fit : Fit) (faces : List Corners) (none : Bool) → (length faces == 0) ≡ none → IsMeasured fit → IsComment (head_line fit faces)
-unfolding head_line
+head_case : (fit : Fit) (faces : List Corners) (none : Bool) → (length faces == 0) ≡ none → IsMeasured fit → IsComment (fit_head_line fit faces)
+unfolding fit_head_line
 head_case fit faces true is measured = rw is (record { line = codes " no faces"; line_is = refl; short = omega arith; text_is = refl })
 head_case fit faces false is measured = rw is (fit_comment fit measured)
 
-pub head_comment : (fit : Fit) (faces : List Corners) → IsMeasured fit → IsComment (head_line fit faces)
+pub head_comment : (fit : Fit) (faces : List Corners) → IsMeasured fit → IsComment (fit_head_line fit faces)
 head_comment fit faces measured = head_case fit faces (length faces == 0) refl measured

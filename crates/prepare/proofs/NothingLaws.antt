@@ -10,11 +10,11 @@ use Rattle.pm_base.specs.Fans.{IsOrientedManifold}
 use Rattle.pm_base.specs.Counts.{count}
 use Rattle.pm_base.proofs.Counts.{count-true, count-false, count-zero}
 use Rattle.pm_base.proofs.TwinLaws.{stands-true}
-use Rattle.pm_fans.specs.Cuts.{runs, is_cut, cut_count}
+use Rattle.pm_fans.specs.Cuts.{side_runs, is_cut, cut_count}
 use Rattle.pm_fans.proofs.CutLaws.{count_none}
 use Rattle.obj_prepare.specs.declared.notes.Notes.{Notes}
 use Rattle.obj_prepare.specs.declared.placing.Fit.TheVariants as fits
-use Rattle.obj_prepare.specs.Named.{AreCorners}
+use Rattle.obj_prepare.specs.Named.{AreVerticesBelow}
 use Rattle.obj_prepare.specs.Joining.{renamed, joined_faces}
 use Rattle.obj_prepare.specs.Prepared.{staying, IsPrepared, joined_count, AreNotes}
 use Rattle.obj_prepare.specs.Laws.{AreFit}
@@ -33,8 +33,8 @@ count_lone p (suc n) lone =
 
 -- No side of an oriented manifold is cut open.
 
-runs_once : (m : Net) (p q : ℕ) → IsOrientedManifold m → nat_lt 1 (count (runs m p q) (side_count m)) ≡ false
-runs_once m p q is = le-ltb 1 (count (runs m p q) (side_count m)) (count_lone (runs m p q) (side_count m) (λ i j a b.
+runs_once : (m : Net) (p q : ℕ) → IsOrientedManifold m → nat_lt 1 (count (side_runs m p q) (side_count m)) ≡ false
+runs_once m p q is = le-ltb 1 (count (side_runs m p q) (side_count m)) (count_lone (side_runs m p q) (side_count m) (λ i j a b.
     let (si, ei) = and_parts (stands m i) (m.from i == p && to m i == q) a in
     let (sj, ej) = and_parts (stands m j) (m.from j == p && to m j == q) b in
     let (fi, ti) = and_parts (m.from i == p) (to m i == q) ei in
@@ -49,25 +49,25 @@ none_cut m is = count_none (is_cut m) (side_count m) (λ e l t. true≢false (sy
 abbrev pub nothing_done : Notes
 nothing_done = record { joined = 0; flat = 0; double = 0; cut = 0; split = 0; unnamed = 0 }
 
-module _ (m : Mesh) (corners : All (AreCorners (length m.points)) m.faces) (manifold : IsOrientedManifold (net_of m.faces)) (fit : AreFit m.points m.faces) (p : IsPrepared m.points m.faces m) where
+module _ (m : Mesh) (corners : All (AreVerticesBelow (length m.points)) m.faces) (manifold : IsOrientedManifold (net_of m.faces)) (fit : AreFit m.points m.faces) (p : IsPrepared m.points m.faces m) where
   own_name : (v : ℕ) → v < length m.points → get_or p.names v 0 ≡ v
   own_name v l =
       let first = p.joined.each v l (all_named m fit.used p v l) in
       let low = named_low (length m.points) m.faces (get_or p.names v 0) corners first.named in
       elim (cases_eq (get_or p.names v 0) v) [ inl is ↦ is | inr other ↦ absurd (fit.apart (get_or p.names v 0) v low l other first.same) ]
 
-  own_face : (f : Corners) → AreCorners (length m.points) f → renamed p.names f ≡ f
+  own_face : (f : Corners) → AreVerticesBelow (length m.points) f → renamed p.names f ≡ f
   own_face f are =
       let a = own_name f.a are.a in
       let b = own_name f.b are.b in
       let c = own_name f.c are.c in
       λ i. record { a = a i; b = b i; c = c i }
 
-  own_faces : (fs : List Corners) → All (AreCorners (length m.points)) fs → joined_faces p.names fs ≡ fs
+  own_faces : (fs : List Corners) → All (AreVerticesBelow (length m.points)) fs → joined_faces p.names fs ≡ fs
   own_faces [] are = refl
   own_faces (f ∷ fs) are =
-      let first = own_face f (All-head (AreCorners (length m.points)) f fs are) in
-      let rest = own_faces fs (All-tail (AreCorners (length m.points)) f fs are) in
+      let first = own_face f (All-head (AreVerticesBelow (length m.points)) f fs are) in
+      let rest = own_faces fs (All-tail (AreVerticesBelow (length m.points)) f fs are) in
       λ i. first i ∷ rest i
 
   stay_same : staying p.names m.faces ≡ m.faces

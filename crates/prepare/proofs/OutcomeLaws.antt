@@ -3,16 +3,16 @@ use Rattle.std.proofs.Common.{◌≡◌, ℕ, List, length, Option, Result, Ok, 
 use Rattle.pm_base.specs.Meshes.{Mesh}
 use Rattle.obj_read.specs.Meaning.{Refused}
 use Rattle.obj_scan.specs.Judged.{Scanned}
-use Rattle.obj_scan.specs.Meaning.{meaning_of}
+use Rattle.obj_scan.specs.Meaning.{scan_meaning_of}
 use Rattle.obj_prepare.specs.declared.notes.Notes.{Notes}
 use Rattle.obj_prepare.specs.declared.placing.Fit.{Fit}
-use Rattle.obj_prepare.specs.Placing.{fit_of, places_of}
+use Rattle.obj_prepare.specs.Placing.{fit_of, prepared_places_of}
 use Rattle.obj_prepare.specs.Prepared.{HasTooMany}
 use Rattle.obj_prepare.proofs.OnePrepared.{prepared_are_one, notes_are_one}
 use Rattle.prepare.specs.declared.fault.Fault.{Fault}
 use Rattle.prepare.specs.declared.fault.Fault.TheVariants as faults
 use Rattle.prepare.specs.Texts.{output_text, notes_text}
-use Rattle.prepare.specs.Outcome.{Done, Makes, IsPreparedText, bad_line, too_many, made}
+use Rattle.prepare.specs.Outcome.{Done, MakesPrepared, IsPreparedText, bad_line, too_many, made}
 
 one_refused : (found : Result Scanned Refused) (r q : Refused) → found ≡ Err r → found ≡ Err q → r ≡ q
 one_refused found r q is are = cc
@@ -24,39 +24,39 @@ not_both : (found : Result Scanned Refused) (r : Refused) (s : Scanned) → foun
 not_both found r s is are = cc
 
 -- The texts tell of one mesh and of one list of numbers.
-one_made : (size : Option ℕ) (s : Scanned) (done other : Done) → Makes size s done → Makes size s other → done ≡ other
+one_made : (size : Option ℕ) (s : Scanned) (done other : Done) → MakesPrepared size s done → MakesPrepared size s other → done ≡ other
 one_made size s done other a b =
     let fit : Fit = fit_of size s.points s.faces in
-    let mesh = prepared_are_one (places_of size s.points s.faces) s.faces a.mesh b.mesh a.prepared.0 b.prepared.0 in
-    let notes = notes_are_one (places_of size s.points s.faces) s.faces a.mesh b.mesh a.notes b.notes a.prepared b.prepared in
+    let mesh = prepared_are_one (prepared_places_of size s.points s.faces) s.faces a.mesh b.mesh a.prepared.0 b.prepared.0 in
+    let notes = notes_are_one (prepared_places_of size s.points s.faces) s.faces a.mesh b.mesh a.notes b.notes a.prepared b.prepared in
     let text = a.text_is ∙ ap (output_text fit) mesh ∙ sym b.text_is in
     let said = a.notes_are ∙ ap (λ (n : Notes). notes_text s.polygons n fit a.mesh.faces) notes ∙ ap (λ (m : Mesh). notes_text s.polygons b.notes fit m.faces) mesh ∙ sym b.notes_are in
     λ i. record { text = text i; notes = said i }
 
 -- A mesh that is made doesn't have too many vertices.
-not_too_many : (size : Option ℕ) (s : Scanned) (done : Done) → HasTooMany (places_of size s.points s.faces) s.faces → Makes size s done → ⊥
+not_too_many : (size : Option ℕ) (s : Scanned) (done : Done) → HasTooMany (prepared_places_of size s.points s.faces) s.faces → MakesPrepared size s done → ⊥
 not_too_many size s done over makes =
-    let mesh = prepared_are_one (places_of size s.points s.faces) s.faces over.mesh makes.mesh over.prepared makes.prepared.0 in
+    let mesh = prepared_are_one (prepared_places_of size s.points s.faces) s.faces over.mesh makes.mesh over.prepared makes.prepared.0 in
     absurd (omega (arith, over.many, makes.formed.points, ap (λ (m : Mesh). length m.points) mesh))
 
 module _ (size : Option ℕ) (bytes : List ℕ) where
-  over_or_made : (s t : Scanned) (done : Done) → meaning_of bytes ≡ Ok s → meaning_of bytes ≡ Ok t → HasTooMany (places_of size s.points s.faces) s.faces → Makes size t done → ⊥
-  over_or_made s t done is are over makes = not_too_many size s done over (subst (λ (u : Scanned). Makes size u done) (one_scanned (meaning_of bytes) t s are is) makes)
+  over_or_made : (s t : Scanned) (done : Done) → scan_meaning_of bytes ≡ Ok s → scan_meaning_of bytes ≡ Ok t → HasTooMany (prepared_places_of size s.points s.faces) s.faces → MakesPrepared size t done → ⊥
+  over_or_made s t done is are over makes = not_too_many size s done over (subst (λ (u : Scanned). MakesPrepared size u done) (one_scanned (scan_meaning_of bytes) t s are is) makes)
 
   abbrev refusal : Refused → Result Done Fault
   refusal r = Err (faults.Obj r.fault r.line)
 
   pub one_outcome : (one other : Result Done Fault) (place there : Option ℕ) → IsPreparedText size bytes one place → IsPreparedText size bytes other there → (one ≡ other) × (place ≡ there)
   one_outcome one other place there (bad_line r is) (bad_line q are) =
-      let same = one_refused (meaning_of bytes) r q is are in
+      let same = one_refused (scan_meaning_of bytes) r q is are in
       (ap refusal same, ap (λ (f : Refused). f.place) same)
-  one_outcome one other place there (bad_line r is) (too_many t are over) = absurd (not_both (meaning_of bytes) r t is are)
-  one_outcome one other place there (bad_line r is) (made t done are makes) = absurd (not_both (meaning_of bytes) r t is are)
-  one_outcome one other place there (too_many s is over) (bad_line q are) = absurd (not_both (meaning_of bytes) q s are is)
+  one_outcome one other place there (bad_line r is) (too_many t are over) = absurd (not_both (scan_meaning_of bytes) r t is are)
+  one_outcome one other place there (bad_line r is) (made t done are makes) = absurd (not_both (scan_meaning_of bytes) r t is are)
+  one_outcome one other place there (too_many s is over) (bad_line q are) = absurd (not_both (scan_meaning_of bytes) q s are is)
   one_outcome one other place there (too_many s is over) (too_many t are more) = (refl, refl)
   one_outcome one other place there (too_many s is over) (made t done are makes) = absurd (over_or_made s t done is are over makes)
-  one_outcome one other place there (made s done is makes) (bad_line q are) = absurd (not_both (meaning_of bytes) q s are is)
+  one_outcome one other place there (made s done is makes) (bad_line q are) = absurd (not_both (scan_meaning_of bytes) q s are is)
   one_outcome one other place there (made s done is makes) (too_many t are over) = absurd (over_or_made t s done are is over makes)
   one_outcome one other place there (made s done is makes) (made t more are again) =
-      let same : done ≡ more = one_made size s done more makes (subst (λ (u : Scanned). Makes size u more) (one_scanned (meaning_of bytes) t s are is) again) in
+      let same : done ≡ more = one_made size s done more makes (subst (λ (u : Scanned). MakesPrepared size u more) (one_scanned (scan_meaning_of bytes) t s are is) again) in
       (ap Ok same, refl)

@@ -6,23 +6,23 @@ use Rattle.pm_base.specs.Canonical.{canonical_text}
 use Rattle.obj_read.specs.Meaning.{meaning_of}
 use Rattle.obj_read.proofs.CommentLaws.{commented_is_read}
 use Rattle.obj_scan.specs.Judged.{Scanned}
-use Rattle.obj_scan.specs.Meaning.{meaning_of as scan_meaning_of}
-use Rattle.obj_prepare.specs.Placing.{IsSize, fit_of, places_of}
+use Rattle.obj_scan.specs.Meaning.{scan_meaning_of}
+use Rattle.obj_prepare.specs.Placing.{IsSize, fit_of, prepared_places_of}
 use Rattle.prepare.specs.declared.fault.Fault.{Fault}
-use Rattle.prepare.specs.Outcome.{Done, Makes, IsPreparedText, bad_line, too_many, made}
+use Rattle.prepare.specs.Outcome.{Done, MakesPrepared, IsPreparedText, bad_line, too_many, made}
 use Rattle.prepare.specs.Laws.{IsFitText, TextsAreRead}
 use Rattle.prepare.proofs.ScannedLaws.{meaning_sound}
 use Rattle.prepare.proofs.GridLaws.{places_on_grid, taken_on_grid, fit_of_measured}
 use Rattle.prepare.proofs.HeadLaws.{head_comment}
 
 -- The points of a mesh that was made are on the grid.
-pub made_on_grid : (size : Option ℕ) (s : Scanned) (done : Done) → IsSize size → (m : Makes size s done) → All IsPlace m.mesh.points
+pub made_on_grid : (size : Option ℕ) (s : Scanned) (done : Done) → IsSize size → (m : MakesPrepared size s done) → All IsPlace m.mesh.points
 made_on_grid size s done is m =
-    let places = places_of size s.points s.faces in
+    let places = prepared_places_of size s.points s.faces in
     let p = m.prepared.0 in
     subst (All IsPlace) (sym p.stand) (taken_on_grid places p.old (places_on_grid size s.points s.faces is))
 
-made_is_read : (size : Option ℕ) (bytes : List ℕ) (s : Scanned) (done : Done) → IsSize size → scan_meaning_of bytes ≡ Ok s → Makes size s done → IsFitText done.text
+made_is_read : (size : Option ℕ) (bytes : List ℕ) (s : Scanned) (done : Done) → IsSize size → scan_meaning_of bytes ≡ Ok s → MakesPrepared size s done → IsFitText done.text
 made_is_read size bytes s done is means m =
     let fit = fit_of size s.points s.faces in
     let head = head_comment fit m.mesh.faces (fit_of_measured size s.points s.faces is (meaning_sound bytes s means).exact) in
@@ -38,7 +38,7 @@ made_is_read size bytes s done is means m =
       read = ap (meaning_of 0) text_is ∙ commented_is_read 0 head.line m.mesh head.line_is head.short (omega arith) m.formed (made_on_grid size s done is m);
     }
 
-pub mesh_is_read : (size : Option ℕ) (bytes : List ℕ) (s : Scanned) (done : Done) → IsSize size → scan_meaning_of bytes ≡ Ok s → (m : Makes size s done) → meaning_of 0 done.text ≡ Ok m.mesh
+pub mesh_is_read : (size : Option ℕ) (bytes : List ℕ) (s : Scanned) (done : Done) → IsSize size → scan_meaning_of bytes ≡ Ok s → (m : MakesPrepared size s done) → meaning_of 0 done.text ≡ Ok m.mesh
 unfolding made_is_read
 mesh_is_read size bytes s done is means m = (made_is_read size bytes s done is means m).read
 

@@ -10,17 +10,17 @@ use Rattle.pm_base.specs.Sides.{net_of}
 use Rattle.pm_base.specs.Fans.{IsUsed}
 use Rattle.pm_base.specs.Counts.{count}
 use Rattle.pm_base.proofs.Counts.{count_same}
-use Rattle.pm_fans.specs.Kept.{is_flat, is_corner, is_kept, kept_after, kept_of}
+use Rattle.pm_fans.specs.Kept.{is_flat, is_corner, is_kept_after, kept_after, kept_of}
 use Rattle.pm_fans.proofs.CutLaws.{count_none}
-use Rattle.obj_prepare.specs.Named.{is_named, AreCorners}
-use Rattle.obj_prepare.specs.Joining.{place_at, renamed, joined_faces}
+use Rattle.obj_prepare.specs.Named.{is_some_corner, AreVerticesBelow}
+use Rattle.obj_prepare.specs.Joining.{place_in_list, renamed, joined_faces}
 use Rattle.obj_prepare.specs.Prepared.{staying, IsPrepared, joined_count, flat_count, double_count, unnamed_count, split_count}
 use Rattle.obj_prepare.proofs.CountLaws.{count_both}
 use Rattle.prepare.proofs.StandingLaws.{used_named}
 
 -- A face that became an edge doesn't stay.
-kept_not_flat : (before : List Corners) (f : Corners) → is_kept before f ≡ true → is_flat f ≡ false
-unfolding is_kept
+kept_not_flat : (before : List Corners) (f : Corners) → is_kept_after before f ≡ true → is_flat f ≡ false
+unfolding is_kept_after
 kept_not_flat before f is =
     elim (cases_Bool (is_flat f)) [
       | inl t ↦ absurd (true≢false (sym (and_parts (not (is_flat f)) _ is).0 ∙ ap not t))
@@ -31,13 +31,13 @@ kept_and_flat : (before fs : List Corners) → length (kept_after before fs) + l
 kept_and_flat before [] = omega arith
 kept_and_flat before (f ∷ fs) =
     let long = length-append before (f ∷ []) in
-    elim (cases_Bool (is_kept before f)) [
+    elim (cases_Bool (is_kept_after before f)) [
       | inl k ↦
-          let a = ap length (cond-true (is_kept before f) (kept_after (before ++ f ∷ []) fs) (kept_after before fs) k) in
+          let a = ap length (cond-true (is_kept_after before f) (kept_after (before ++ f ∷ []) fs) (kept_after before fs) k) in
           let b = ap length (cond-false (is_flat f) (f ∷ filter is_flat fs) (filter is_flat fs) (kept_not_flat before f k)) in
           omega (arith, a, b, long, kept_and_flat (before ++ f ∷ []) fs)
       | inr n ↦
-          let a = ap length (cond-false (is_kept before f) (kept_after (before ++ f ∷ []) fs) (kept_after before fs) n) in
+          let a = ap length (cond-false (is_kept_after before f) (kept_after (before ++ f ∷ []) fs) (kept_after before fs) n) in
           elim (cases_Bool (is_flat f)) [
             | inl t ↦ (let b = ap length (cond-true (is_flat f) (f ∷ filter is_flat fs) (filter is_flat fs) t) in omega (arith, a, b, kept_and_flat before fs))
             | inr g ↦ (let b = ap length (cond-false (is_flat f) (f ∷ filter is_flat fs) (filter is_flat fs) g) in omega (arith, a, b, kept_and_flat before fs))
@@ -49,12 +49,12 @@ all_kept : (before fs : List Corners) → length (kept_after before fs) ≡ leng
 all_kept before [] as_many = sym (append-nil before)
 all_kept before (f ∷ fs) as_many =
     let long = length-append before (f ∷ []) in
-    elim (cases_Bool (is_kept before f)) [
+    elim (cases_Bool (is_kept_after before f)) [
       | inl k ↦
-          let a = cond-true (is_kept before f) (kept_after (before ++ f ∷ []) fs) (kept_after before fs) k in
+          let a = cond-true (is_kept_after before f) (kept_after (before ++ f ∷ []) fs) (kept_after before fs) k in
           a ∙ all_kept (before ++ f ∷ []) fs (omega (arith, ap length a, long, as_many)) ∙ append_assoc before (f ∷ []) fs
       | inr n ↦
-          let a = ap length (cond-false (is_kept before f) (kept_after (before ++ f ∷ []) fs) (kept_after before fs) n) in
+          let a = ap length (cond-false (is_kept_after before f) (kept_after (before ++ f ∷ []) fs) (kept_after before fs) n) in
           absurd (omega (arith, a, as_many, kept_and_flat before fs))
     ]
 
@@ -75,19 +75,19 @@ module _ (names : List ℕ) where
         | inr c ↦ or_right (name f.a == name v || name f.b == name v) (name f.c == name v) (same f.c c)
       ]
 
-  joined_named : (fs : List Corners) (v : ℕ) → is_named fs v ≡ true → is_named (joined_faces names fs) (name v) ≡ true
+  joined_named : (fs : List Corners) (v : ℕ) → is_some_corner fs v ≡ true → is_some_corner (joined_faces names fs) (name v) ≡ true
   joined_named [] v is = absurd (false≢true is)
   joined_named (f ∷ fs) v is =
-      elim (or_cases (is_corner f v) (is_named fs v) is) [
-        | inl c ↦ or_left (is_corner (renamed names f) (name v)) (is_named (joined_faces names fs) (name v)) (corner_joined f v c)
-        | inr more ↦ or_right (is_corner (renamed names f) (name v)) (is_named (joined_faces names fs) (name v)) (joined_named fs v more)
+      elim (or_cases (is_corner f v) (is_some_corner fs v) is) [
+        | inl c ↦ or_left (is_corner (renamed names f) (name v)) (is_some_corner (joined_faces names fs) (name v)) (corner_joined f v c)
+        | inr more ↦ or_right (is_corner (renamed names f) (name v)) (is_some_corner (joined_faces names fs) (name v)) (joined_named fs v more)
       ]
 
   -- A vertex below n for which this one stands.
   abbrev StandsFor : ℕ → ℕ → Type 0
   StandsFor n v = (w : ℕ) × (w < n) × (name w ≡ v)
 
-  joined_corner : (n : ℕ) (f : Corners) (v : ℕ) → AreCorners n f → is_corner (renamed names f) v ≡ true → StandsFor n v
+  joined_corner : (n : ℕ) (f : Corners) (v : ℕ) → AreVerticesBelow n f → is_corner (renamed names f) v ≡ true → StandsFor n v
   joined_corner n f v are is =
       elim (or_cases (name f.a == v || name f.b == v) (name f.c == v) is) [
         | inl ab ↦
@@ -98,12 +98,12 @@ module _ (names : List ℕ) where
         | inr c ↦ (f.c, are.c, eqb-true _ _ c)
       ]
 
-  named_joined : (n : ℕ) (fs : List Corners) (v : ℕ) → All (AreCorners n) fs → is_named (joined_faces names fs) v ≡ true → StandsFor n v
+  named_joined : (n : ℕ) (fs : List Corners) (v : ℕ) → All (AreVerticesBelow n) fs → is_some_corner (joined_faces names fs) v ≡ true → StandsFor n v
   named_joined n [] v are is = absurd (false≢true is)
   named_joined n (f ∷ fs) v are is =
-      elim (or_cases (is_corner (renamed names f) v) (is_named (joined_faces names fs) v) is) [
-        | inl c ↦ joined_corner n f v (All-head (AreCorners n) f fs are) c
-        | inr more ↦ named_joined n fs v (All-tail (AreCorners n) f fs are) more
+      elim (or_cases (is_corner (renamed names f) v) (is_some_corner (joined_faces names fs) v) is) [
+        | inl c ↦ joined_corner n f v (All-head (AreVerticesBelow n) f fs are) c
+        | inr more ↦ named_joined n fs v (All-tail (AreVerticesBelow n) f fs are) more
       ]
 
 module _ (m : Mesh) (used : (v : ℕ) → v < length m.points → IsUsed (net_of m.faces) v) (p : IsPrepared m.points m.faces m) where
@@ -128,7 +128,7 @@ module _ (m : Mesh) (used : (v : ℕ) → v < length m.points → IsUsed (net_of
   unfolding double_count
   none_double = omega (arith, stay_long)
 
-  pub all_named : (v : ℕ) → v < length m.points → is_named m.faces v ≡ true
+  pub all_named : (v : ℕ) → v < length m.points → is_some_corner m.faces v ≡ true
   all_named v l = used_named m.faces v (used v l)
 
   pub none_unnamed : unnamed_count (length m.points) m.faces ≡ 0
@@ -140,27 +140,27 @@ module _ (m : Mesh) (used : (v : ℕ) → v < length m.points → IsUsed (net_of
   own_name v w l low is =
       let a = p.joined.each w low (all_named w low) in
       let b = p.joined.each v l (all_named v l) in
-      let here : place_at m.points v ≡ place_at m.points w = ap (place_at m.points) (sym is) ∙ a.same in
+      let here : place_in_list m.points v ≡ place_in_list m.points w = ap (place_in_list m.points) (sym is) ∙ a.same in
       elim (cases_order (name p.names v) v) [
         | inl same ↦ same
         | inr k ↦ elim k [ inl less ↦ absurd (a.least (name p.names v) (omega (arith, less, is)) b.named (b.same ∙ here)) | inr more ↦ absurd (b.least v more (all_named v l) refl) ]
       ]
 
-  named_own : (corners : All (AreCorners (length m.points)) m.faces) (v : ℕ) → v < length m.points → is_named joined v ≡ (name p.names v == v)
+  named_own : (corners : All (AreVerticesBelow (length m.points)) m.faces) (v : ℕ) → v < length m.points → is_some_corner joined v ≡ (name p.names v == v)
   named_own corners v l =
-      elim (cases_Bool (is_named joined v)) [
+      elim (cases_Bool (is_some_corner joined v)) [
         | inl t ↦ (let (w, low, is) = named_joined p.names (length m.points) m.faces v corners t in t ∙ sym (eq-eqb _ _ (own_name v w l low is)))
-        | inr out ↦ out ∙ sym (ne_eqb _ _ (λ own. true≢false (sym (subst (λ u. is_named joined u ≡ true) own (joined_named p.names m.faces v (all_named v l))) ∙ out)))
+        | inr out ↦ out ∙ sym (ne_eqb _ _ (λ own. true≢false (sym (subst (λ u. is_some_corner joined u ≡ true) own (joined_named p.names m.faces v (all_named v l))) ∙ out)))
       ]
 
-  pub split_as_joined : All (AreCorners (length m.points)) m.faces → split_count p.names m.faces p.old ≡ joined_count p.names m.faces
+  pub split_as_joined : All (AreVerticesBelow (length m.points)) m.faces → split_count p.names m.faces p.old ≡ joined_count p.names m.faces
   unfolding split_count joined_count
   split_as_joined corners =
       let n : ℕ = length p.names in
-      let old_long : length p.old ≡ length m.points = sym (length-map p.old (place_at m.points)) ∙ sym (ap length p.stand) in
-      let others : count (λ v. is_named m.faces v && not (name p.names v == v)) n ≡ count (λ v. not (is_named joined v)) n =
+      let old_long : length p.old ≡ length m.points = sym (length-map p.old (place_in_list m.points)) ∙ sym (ap length p.stand) in
+      let others : count (λ v. is_some_corner m.faces v && not (name p.names v == v)) n ≡ count (λ v. not (is_some_corner joined v)) n =
       count_same _ _ n (λ v l.
       let low : v < length m.points = omega (arith, l, p.joined.all) in
       ap (λ b. b && not (name p.names v == v)) (all_named v low) ∙ ap not (sym (named_own corners v low))) in
-      let stay : count (is_named (staying p.names m.faces)) n ≡ count (is_named joined) n = ap (λ (fs : List Corners). count (is_named fs) n) all_stay in
-      omega (arith, old_long, p.joined.all, others, stay, count_both (is_named joined) n)
+      let stay : count (is_some_corner (staying p.names m.faces)) n ≡ count (is_some_corner joined) n = ap (λ (fs : List Corners). count (is_some_corner fs) n) all_stay in
+      omega (arith, old_long, p.joined.all, others, stay, count_both (is_some_corner joined) n)

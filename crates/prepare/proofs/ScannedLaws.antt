@@ -15,11 +15,11 @@ use Rattle.obj_read.specs.Meaning.{Refused}
 use Rattle.obj_read.proofs.FormedLaws.{Gives, given, then_gives, unless, either, index_within, not_full}
 use Rattle.obj_read.proofs.DecimalLaws.{with_sign_abs}
 use Rattle.obj_prepare.specs.Exact.{AreExact}
-use Rattle.obj_prepare.specs.Named.{AreCorners}
-use Rattle.obj_prepare.specs.Numbers.{units, exponent, is_decimal, decimal_coordinate}
+use Rattle.obj_prepare.specs.Named.{AreVerticesBelow}
+use Rattle.obj_prepare.specs.Numbers.{units_of_text, exponent, is_decimal, decimal_coordinate}
 use Rattle.obj_scan.specs.Polygons.{triangles}
-use Rattle.obj_scan.specs.Judged.{Scanned, Found, nothing, vertex, polygon, vertex_line, indices, polygon_of, face_line, fields_found, line_found, polygons_after, with_found}
-use Rattle.obj_scan.specs.Meaning.{SoFar, nothing_yet, joined_text, and_continued, and_line, judged_length, then_found, judged, then_lines, at_end, meaning_from, meaning_of}
+use Rattle.obj_scan.specs.Judged.{Scanned, Found, nothing, vertex, polygon, scanned_vertex_line, indices, polygon_of, polygon_line, scanned_fields, scanned_line, polygons_after, with_scanned}
+use Rattle.obj_scan.specs.Meaning.{ScannedSoFar, nothing_scanned, joined_text, and_continued, and_scanned_line, judged_length, then_found, line_judged, then_scanned_lines, at_end, scan_meaning_from, scan_meaning_of}
 use Rattle.obj_scan.specs.Reading.{IsScanning}
 use Rattle.obj_scan.proofs.ScanLaws.{vertex_scanning, polygon_scanned}
 
@@ -30,7 +30,7 @@ coordinate_exact : (field : List ℕ) → Gives IsExact (decimal_coordinate fiel
 unfolding decimal_coordinate
 coordinate_exact field =
     let number = without_sign field in
-    let n = units number in
+    let n = units_of_text number in
     let z = with_sign (is_negative field) n in
     let far = nat_lt 999 (exponent number) || nat_lt (10 ^ 32) n in
     unless IsExact (not (is_decimal number)) faults.BadNumber (if far then Err faults.OutOfRange else Ok z)
@@ -43,7 +43,7 @@ Suits n k nothing = Unit {0}
 Suits n k (vertex p) = (n < 1048576) × AreExact p
 Suits n k (polygon corners) = All (λ (c : ℕ). c < n) corners × (k + (length corners - 2) ≤ 1048576)
 
-vertex_suits : (n k : ℕ) (fs : List (List ℕ)) → Gives (Suits n k) (vertex_line n fs)
+vertex_suits : (n k : ℕ) (fs : List (List ℕ)) → Gives (Suits n k) (scanned_vertex_line n fs)
 unfolding Suits
 vertex_suits n k [] = record { so = tt }
 vertex_suits n k (a ∷ []) = record { so = tt }
@@ -64,7 +64,7 @@ unfolding Suits
 polygon_suits n k corners all =
     unless (Suits n k) (nat_lt 1048576 (k + (length corners - 2))) faults.TooMany (Ok (polygon corners)) (λ room. given (Suits n k) (polygon corners) (all, grind (arith, nat_tests, room)))
 
-face_suits : (n k : ℕ) (fs : List (List ℕ)) → Gives (Suits n k) (face_line n k fs)
+face_suits : (n k : ℕ) (fs : List (List ℕ)) → Gives (Suits n k) (polygon_line n k fs)
 face_suits n k [] = record { so = tt }
 face_suits n k (a ∷ []) = record { so = tt }
 face_suits n k (a ∷ b ∷ []) = record { so = tt }
@@ -74,65 +74,65 @@ nothing_suits : (n k : ℕ) → Gives (Suits n k) (Ok nothing)
 unfolding Suits
 nothing_suits n k = given (Suits n k) nothing tt
 
-fields_suit : (n k : ℕ) (fs : List (List ℕ)) → Gives (Suits n k) (fields_found n k fs)
+fields_suit : (n k : ℕ) (fs : List (List ℕ)) → Gives (Suits n k) (scanned_fields n k fs)
 fields_suit n k [] = nothing_suits n k
 fields_suit n k (keyword ∷ more) = either _ _ _ _ (vertex_suits n k more) (either _ _ _ _ (face_suits n k more) (nothing_suits n k))
 
-line_suits : (n k : ℕ) (text : List ℕ) → Gives (Suits n k) (line_found n k text)
-unfolding line_found
+line_suits : (n k : ℕ) (text : List ℕ) → Gives (Suits n k) (scanned_line n k text)
+unfolding scanned_line
 line_suits n k text = fields_suit n k (fields text)
 
 pub record IsSound (s : Scanned) : Type 0 where
   pub exact : All AreExact s.points
   pub scanning : IsScanning s
 
-with_found_sound : (s : Scanned) (f : Found) → IsSound s → Suits (length s.points) (length s.faces) f → IsSound (with_found s f)
+with_found_sound : (s : Scanned) (f : Found) → IsSound s → Suits (length s.points) (length s.faces) f → IsSound (with_scanned s f)
 unfolding Suits
 with_found_sound s nothing sound suits = sound
 with_found_sound s (vertex p) sound suits = record {
   exact = All-push AreExact s.points p sound.exact suits.1;
-  scanning = vertex_scanning s (with_found s (vertex p)) p sound.scanning suits.0 refl;
+  scanning = vertex_scanning s (with_scanned s (vertex p)) p sound.scanning suits.0 refl;
 }
 with_found_sound s (polygon corners) sound suits = record {
   exact = sound.exact;
   scanning = polygon_scanned s s.points (s.faces ++ triangles s.points corners) (polygons_after s.polygons corners) corners corners sound.scanning suits.0 suits.1 refl refl refl refl;
 }
 
-abbrev AfterSound : SoFar → Type 0
+abbrev AfterSound : ScannedSoFar → Type 0
 AfterSound s = IsSound s.scanned
 
-then_found_sound : (r : Result Found ObjFault) (s : SoFar) (line : List ℕ) → Gives (Suits (length s.scanned.points) (length s.scanned.faces)) r → AfterSound s → Gives AfterSound (then_found r s line)
-unfolding and_line
+then_found_sound : (r : Result Found ObjFault) (s : ScannedSoFar) (line : List ℕ) → Gives (Suits (length s.scanned.points) (length s.scanned.faces)) r → AfterSound s → Gives AfterSound (then_found r s line)
+unfolding and_scanned_line
 then_found_sound (Ok f) s line suits sound = given _ _ (with_found_sound s.scanned f sound suits.so)
 then_found_sound (Err e) s line suits sound = record { so = tt }
 
-judged_sound : (s : SoFar) (line : List ℕ) → AfterSound s → Gives AfterSound (judged s line)
-unfolding judged and_continued
+judged_sound : (s : ScannedSoFar) (line : List ℕ) → AfterSound s → Gives AfterSound (line_judged s line)
+unfolding line_judged and_continued
 judged_sound s line sound =
     either AfterSound (is_continued (content (until 10 line))) _ _ (given AfterSound (and_continued s line) sound)
-    (then_found_sound (line_found (length s.scanned.points) (length s.scanned.faces) (joined_text s line)) s line (line_suits _ _ (joined_text s line)) sound)
+    (then_found_sound (scanned_line (length s.scanned.points) (length s.scanned.faces) (joined_text s line)) s line (line_suits _ _ (joined_text s line)) sound)
 
-then_lines_sound : (r : Option Refused) (next : Result SoFar ObjFault) (s : SoFar) (line : List ℕ) (more : SoFar → Result Scanned Refused) → Gives AfterSound next
-    → ((t : SoFar) → AfterSound t → IfOk (more t) IsSound) → IfOk (then_lines r next s line more) IsSound
+then_lines_sound : (r : Option Refused) (next : Result ScannedSoFar ObjFault) (s : ScannedSoFar) (line : List ℕ) (more : ScannedSoFar → Result Scanned Refused) → Gives AfterSound next
+    → ((t : ScannedSoFar) → AfterSound t → IfOk (more t) IsSound) → IfOk (then_scanned_lines r next s line more) IsSound
 then_lines_sound (Some r) next s line more sound keeps = tt
 then_lines_sound None (Ok t) s line more sound keeps = keeps t sound.so
 then_lines_sound None (Err e) s line more sound keeps = tt
 
-end_sound : (s : SoFar) (ended : Bool) → (s.continued == 0) ≡ ended → AfterSound s → IfOk (at_end s) IsSound
+end_sound : (s : ScannedSoFar) (ended : Bool) → (s.continued == 0) ≡ ended → AfterSound s → IfOk (at_end s) IsSound
 end_sound s true is sound = rw is sound
 end_sound s false is sound = rw is tt
 
-meaning_from_sound : (s : SoFar) (ls : List (List ℕ)) → AfterSound s → IfOk (meaning_from s ls) IsSound
+meaning_from_sound : (s : ScannedSoFar) (ls : List (List ℕ)) → AfterSound s → IfOk (scan_meaning_from s ls) IsSound
 meaning_from_sound s [] sound = end_sound s (s.continued == 0) refl sound
 meaning_from_sound s (line ∷ more) sound =
-    then_lines_sound (judged_length s line) (judged s line) s line (λ t. meaning_from t more) (judged_sound s line sound) (λ t keeps. meaning_from_sound t more keeps)
+    then_lines_sound (judged_length s line) (line_judged s line) s line (λ t. scan_meaning_from t more) (judged_sound s line sound) (λ t keeps. meaning_from_sound t more keeps)
 
 nothing_sound : IsSound (record { points = []; faces = []; polygons = 0 })
 nothing_sound = record {
   exact = All-nil AreExact;
-  scanning = record { within = record { points = omega arith; faces = omega arith; corners = All-nil (AreCorners 0) }; polygons = omega arith };
+  scanning = record { within = record { points = omega arith; faces = omega arith; corners = All-nil (AreVerticesBelow 0) }; polygons = omega arith };
 }
 
-pub meaning_sound : (bytes : List ℕ) (s : Scanned) → meaning_of bytes ≡ Ok s → IsSound s
-unfolding meaning_of
-meaning_sound bytes s is = subst (λ (r : Result Scanned Refused). IfOk r IsSound) is (meaning_from_sound nothing_yet (lines bytes) nothing_sound)
+pub meaning_sound : (bytes : List ℕ) (s : Scanned) → scan_meaning_of bytes ≡ Ok s → IsSound s
+unfolding scan_meaning_of
+meaning_sound bytes s is = subst (λ (r : Result Scanned Refused). IfOk r IsSound) is (meaning_from_sound nothing_scanned (lines bytes) nothing_sound)

@@ -3,7 +3,7 @@ use Rattle.std.specs.Prelude.{◌≡◌, ◌⊎◌, ℕ, ◌<◌, List, ◌++◌
 use Rattle.std.specs.Fmt.{decimal}
 use Rattle.pm_io.specs.Bytes.{Loses, Gains, GainsPart}
 use Rattle.pm_io.specs.Causes.{Rose}
-use Rattle.obj_read.specs.Numbers.{number_of}
+use Rattle.obj_read.specs.Numbers.{fault_number}
 use Rattle.prepare.specs.declared.fault.Fault.{Fault}
 use Rattle.prepare.specs.declared.fault.Fault.TheVariants as faults
 use Rattle.prepare.specs.declared.fault.InputFail.{InputFail}
@@ -20,61 +20,61 @@ pub record Written (size : Option ℕ) (bytes notes : List ℕ) (old new : Optio
   pub gained : Gains old new done.text
 
 -- The bytes have this fault.
-pub record IsFaulty (size : Option ℕ) (bytes : List ℕ) (f : Fault) : Type 0 where
+pub record HasPreparedFault (size : Option ℕ) (bytes : List ℕ) (f : Fault) : Type 0 where
   pub place : Option ℕ
   pub outcome : IsPreparedText size bytes (Err f) place
 
 -- A read failed before the place that decides what comes of the bytes.
-pub record Unreached (size : Option ℕ) (left now : Option (List ℕ)) : Type 0 where
+pub record PlaceUnreached (size : Option ℕ) (left now : Option (List ℕ)) : Type 0 where
   pub taken : List ℕ
   pub took : Loses left now taken
   pub before : IfSome left (λ bytes. (r : Result Done Fault) (place : Option ℕ) → IsPreparedText size bytes r place → IfSome place (λ n. length taken < n))
 
 -- The sink gained a proper prefix of the text.
-pub record CutShort (size : Option ℕ) (bytes : List ℕ) (old new : Option (List ℕ)) : Type 0 where
+pub record IsPreparedInPart (size : Option ℕ) (bytes : List ℕ) (old new : Option (List ℕ)) : Type 0 where
   pub done : Done
   pub outcome : IsPreparedText size bytes (Ok done) None
   pub part : GainsPart old new done.text
 
 -- Why nothing could be made of what the source had left: `left` at first and `now` then, and what its count did.
-abbrev pub Stops : Option ℕ → InputFail → Option (List ℕ) → Option (List ℕ) → ℕ → ℕ → Type 0
-Stops size (input.Faulty f) left now in_old in_new = IfSome left (λ bytes. IsFaulty size bytes f) × (in_new ≡ in_old)
-Stops size input.Read left now in_old in_new = Unreached size left now × Rose in_old in_new
-Stops size input.OutOfMemory left now in_old in_new = Unit {0}
+abbrev pub StopsPreparing : Option ℕ → InputFail → Option (List ℕ) → Option (List ℕ) → ℕ → ℕ → Type 0
+StopsPreparing size (input.Faulty f) left now in_old in_new = IfSome left (λ bytes. HasPreparedFault size bytes f) × (in_new ≡ in_old)
+StopsPreparing size input.Read left now in_old in_new = PlaceUnreached size left now × Rose in_old in_new
+StopsPreparing size input.OutOfMemory left now in_old in_new = Unit {0}
 
 -- The error sink gained the text, or a part of it where it failed.
-abbrev pub Said : Option (List ℕ) → Option (List ℕ) → ℕ → ℕ → List ℕ → Type 0
-Said old new before now text = Gains old new text ⊎ (GainsPart old new text × Rose before now)
+abbrev pub SaidText : Option (List ℕ) → Option (List ℕ) → ℕ → ℕ → List ℕ → Type 0
+SaidText old new before now text = Gains old new text ⊎ (GainsPart old new text × Rose before now)
 
 -- The sink gained the text of what was done, and the error sink what is said of it.
 pub record Finished (size : Option ℕ) (bytes : List ℕ) (old new err_old err_new : Option (List ℕ)) (err_before err_now : ℕ) : Type 0 where
   pub done : Done
   pub outcome : IsPreparedText size bytes (Ok done) None
   pub gained : Gains old new done.text
-  pub said : Said err_old err_new err_before err_now done.notes
+  pub said : SaidText err_old err_new err_before err_now done.notes
 
 -- A device is as it was.
-abbrev pub Stayed : Option (List ℕ) → Option (List ℕ) → ℕ → ℕ → Type 0
-Stayed old new before now = (new ≡ old) × (now ≡ before)
+abbrev pub DeviceStayed : Option (List ℕ) → Option (List ℕ) → ℕ → ℕ → Type 0
+DeviceStayed old new before now = (new ≡ old) × (now ≡ before)
 
 -- The line of a fault.
-unfoldable pub fault_line : Fault → List ℕ
-fault_line (faults.Obj e n) = codes "prepare: fault " ++ decimal (number_of e) ++ codes " line " ++ decimal n ++ codes "\n"
-fault_line faults.TooMany = codes "prepare: fault 9\n"
+unfoldable pub prepare_fault_line : Fault → List ℕ
+prepare_fault_line (faults.Obj e n) = codes "prepare: fault " ++ decimal (fault_number e) ++ codes " line " ++ decimal n ++ codes "\n"
+prepare_fault_line faults.TooMany = codes "prepare: fault 9\n"
 
-unfoldable pub fail_line : RunFail → List ℕ
-fail_line (fails.Input (input.Faulty f)) = fault_line f
-fail_line (fails.Input input.Read) = codes "prepare: read fault\n"
-fail_line (fails.Input input.OutOfMemory) = codes "prepare: out of memory\n"
-fail_line fails.Write = codes "prepare: write fault\n"
+unfoldable pub prepare_fail_line : RunFail → List ℕ
+prepare_fail_line (fails.Input (input.Faulty f)) = prepare_fault_line f
+prepare_fail_line (fails.Input input.Read) = codes "prepare: read fault\n"
+prepare_fail_line (fails.Input input.OutOfMemory) = codes "prepare: out of memory\n"
+prepare_fail_line fails.Write = codes "prepare: write fault\n"
 
-abbrev pub status_of : RunFail → ℕ
-status_of (fails.Input (input.Faulty f)) = 1
-status_of (fails.Input input.Read) = 3
-status_of (fails.Input input.OutOfMemory) = 5
-status_of fails.Write = 4
+abbrev pub prepare_status_of : RunFail → ℕ
+prepare_status_of (fails.Input (input.Faulty f)) = 1
+prepare_status_of (fails.Input input.Read) = 3
+prepare_status_of (fails.Input input.OutOfMemory) = 5
+prepare_status_of fails.Write = 4
 
 -- How the program ends early: only a failed write finds the output changed.
 abbrev pub FailsBy : Option ℕ → RunFail → Option (List ℕ) → Option (List ℕ) → ℕ → ℕ → Option (List ℕ) → Option (List ℕ) → ℕ → ℕ → Type 0
-FailsBy size (fails.Input e) left now in_old in_new old new out_old out_new = Stops size e left now in_old in_new × Stayed old new out_old out_new
-FailsBy size fails.Write left now in_old in_new old new out_old out_new = IfSome left (λ bytes. CutShort size bytes old new) × Rose out_old out_new
+FailsBy size (fails.Input e) left now in_old in_new old new out_old out_new = StopsPreparing size e left now in_old in_new × DeviceStayed old new out_old out_new
+FailsBy size fails.Write left now in_old in_new old new out_old out_new = IfSome left (λ bytes. IsPreparedInPart size bytes old new) × Rose out_old out_new

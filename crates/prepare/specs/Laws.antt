@@ -17,8 +17,8 @@ use Rattle.prepare.specs.Texts.{output_text, notes_text, last_note}
 use Rattle.prepare.specs.Outcome.{Done, IsPreparedText}
 
 -- A text has one outcome, and one place that decides it.
-abbrev pub OneOutcome : Type 0
-OneOutcome = (size : Option ℕ) (bytes : List ℕ) (one other : Result Done Fault) (place there : Option ℕ) → IsPreparedText size bytes one place → IsPreparedText size bytes other there → (one ≡ other) × (place ≡ there)
+abbrev pub OnePreparedText : Type 0
+OnePreparedText = (size : Option ℕ) (bytes : List ℕ) (one other : Result Done Fault) (place there : Option ℕ) → IsPreparedText size bytes one place → IsPreparedText size bytes other there → (one ≡ other) × (place ≡ there)
 
 -- A comment and the canonical text of an oriented manifold, read without decimals as that mesh.
 pub record IsFitText (text : List ℕ) : Type 0 where

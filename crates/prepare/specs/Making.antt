@@ -3,7 +3,7 @@ use Rattle.std.specs.Prelude.{ℕ, ◌++◌, Option}
 use Rattle.pm_base.specs.Meshes.{mesh_of}
 use Rattle.pm_base.specs.Canonical.{canonical_text}
 use Rattle.obj_scan.specs.Judged.{Scanned}
-use Rattle.obj_prepare.specs.Placing.{places_of}
+use Rattle.obj_prepare.specs.Placing.{prepared_places_of}
 use Rattle.obj_prepare.specs.Prepared.{HasTooMany}
 use Rattle.prepare.specs.declared.fault.Fault.TheVariants as faults
 use Rattle.prepare.specs.declared.fault.InputFail.{InputFail}
@@ -18,6 +18,6 @@ done_of m = record { text = m.head.items ++ canonical_text 0 (mesh_of m.mesh); n
 -- Of points and triangles no mesh is made where too many vertices come out, or memory is wanting.
 abbrev pub IsMakeFail : Option ℕ → Scanned → InputFail → Type 0
 IsMakeFail size s (input.Faulty (faults.Obj e n)) = ⊥
-IsMakeFail size s (input.Faulty faults.TooMany) = HasTooMany (places_of size s.points s.faces) s.faces
+IsMakeFail size s (input.Faulty faults.TooMany) = HasTooMany (prepared_places_of size s.points s.faces) s.faces
 IsMakeFail size s input.Read = ⊥
 IsMakeFail size s input.OutOfMemory = Unit {0}

@@ -5,9 +5,9 @@ use Rattle.pm_base.specs.Sides.{net_of}
 use Rattle.pm_base.specs.Fans.{IsOrientedManifold}
 use Rattle.obj_read.specs.Meaning.{Refused}
 use Rattle.obj_scan.specs.Judged.{Scanned}
-use Rattle.obj_scan.specs.Meaning.{meaning_of}
+use Rattle.obj_scan.specs.Meaning.{scan_meaning_of}
 use Rattle.obj_prepare.specs.declared.notes.Notes.{Notes}
-use Rattle.obj_prepare.specs.Placing.{fit_of, places_of}
+use Rattle.obj_prepare.specs.Placing.{fit_of, prepared_places_of}
 use Rattle.obj_prepare.specs.Prepared.{IsPreparedWith, HasTooMany}
 use Rattle.prepare.specs.declared.fault.Fault.{Fault}
 use Rattle.prepare.specs.declared.fault.Fault.TheVariants as faults
@@ -20,10 +20,10 @@ pub record Done : Type 0 where
 
 -- What is done with the points and triangles of a text: points are brought onto the grid, triangles become an oriented
 -- manifold of these points, and the texts tell of that.
-pub record Makes (size : Option ℕ) (s : Scanned) (done : Done) : Type 0 where
+pub record MakesPrepared (size : Option ℕ) (s : Scanned) (done : Done) : Type 0 where
   pub mesh : Mesh
   pub notes : Notes
-  pub prepared : IsPreparedWith (places_of size s.points s.faces) s.faces mesh notes
+  pub prepared : IsPreparedWith (prepared_places_of size s.points s.faces) s.faces mesh notes
   pub formed : IsWellFormed mesh
   pub manifold : IsOrientedManifold (net_of mesh.faces)
   pub text_is : done.text ≡ output_text (fit_of size s.points s.faces) mesh
@@ -32,6 +32,6 @@ pub record Makes (size : Option ℕ) (s : Scanned) (done : Done) : Type 0 where
 -- The text has a line with a fault, or more vertices come of it than a mesh may have, or a mesh is made of it; and how
 -- many bytes decide that, where it isn't the end of the text.
 pub data IsPreparedText (size : Option ℕ) (bytes : List ℕ) : Result Done Fault → Option ℕ → Type 0 where
-  bad_line : (r : Refused) → meaning_of bytes ≡ Err r → IsPreparedText size bytes (Err (faults.Obj r.fault r.line)) r.place
-  too_many : (s : Scanned) → meaning_of bytes ≡ Ok s → HasTooMany (places_of size s.points s.faces) s.faces → IsPreparedText size bytes (Err faults.TooMany) None
-  made : (s : Scanned) (done : Done) → meaning_of bytes ≡ Ok s → Makes size s done → IsPreparedText size bytes (Ok done) None
+  bad_line : (r : Refused) → scan_meaning_of bytes ≡ Err r → IsPreparedText size bytes (Err (faults.Obj r.fault r.line)) r.place
+  too_many : (s : Scanned) → scan_meaning_of bytes ≡ Ok s → HasTooMany (prepared_places_of size s.points s.faces) s.faces → IsPreparedText size bytes (Err faults.TooMany) None
+  made : (s : Scanned) (done : Done) → scan_meaning_of bytes ≡ Ok s → MakesPrepared size s done → IsPreparedText size bytes (Ok done) None

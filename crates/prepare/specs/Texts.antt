@@ -31,12 +31,12 @@ fit_line fits.Standing = codes "# coordinates as they stood\n"
 fit_line (fits.Scaled size b) = codes "# " ++ way_back size b
 
 -- The first line of the output.
-unfoldable pub head_line : Fit → List Corners → List ℕ
-head_line fit faces = if length faces == 0 then codes "# no faces\n" else fit_line fit
+unfoldable pub fit_head_line : Fit → List Corners → List ℕ
+fit_head_line fit faces = if length faces == 0 then codes "# no faces\n" else fit_line fit
 
 -- The output: the line that tells how places lead back, and the canonical text of the mesh.
 abbrev pub output_text : Fit → Mesh → List ℕ
-output_text fit m = head_line fit m.faces ++ canonical_text 0 m
+output_text fit m = fit_head_line fit m.faces ++ canonical_text 0 m
 
 -- `prepare: WHAT N`, where N isn't 0.
 unfoldable pub note_line : List ℕ → ℕ → List ℕ

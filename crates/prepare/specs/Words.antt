@@ -10,7 +10,7 @@ with_size None = None
 with_size (Some n) = if n == 0 then None else Some (record { size = Some n })
 
 -- What the words ask for: none, or a number from 1 to 32,767, the size. Other words ask for nothing.
-abbrev pub asked_of : List (List ℕ) → Option Asked
-asked_of [] = Some (record { size = None })
-asked_of (size ∷ []) = with_size (unsigned_of GREATEST_COORDINATE size)
-asked_of _ = None
+abbrev pub asked_size_of : List (List ℕ) → Option Asked
+asked_size_of [] = Some (record { size = None })
+asked_size_of (size ∷ []) = with_size (unsigned_of GREATEST_COORDINATE size)
+asked_size_of _ = None

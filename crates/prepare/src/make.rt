@@ -3,11 +3,11 @@ ghost use Rattle.std.specs.Prelude.{◌≡◌, None, Ok, IfOk, IfErr, IfSome, On
 ghost use Rattle.pm_base.specs.Meshes.{IsWellFormed, mesh_of};
 ghost use Rattle.pm_io.specs.Bytes.{AtEnd};
 ghost use Rattle.obj_scan.specs.Fails.{scanned_of};
-ghost use Rattle.obj_scan.specs.Meaning.{IsWithin};
+ghost use Rattle.obj_scan.specs.Meaning.{IsWithinLimits};
 ghost use Rattle.obj_prepare.specs.Placing.{IsSize};
-ghost use Rattle.prepare.specs.Outcome.{Makes, IsPreparedText};
+ghost use Rattle.prepare.specs.Outcome.{MakesPrepared, IsPreparedText};
 ghost use Rattle.prepare.specs.Making.{done_of, IsMakeFail};
-ghost use Rattle.prepare.specs.Ending.{Stops};
+ghost use Rattle.prepare.specs.Ending.{StopsPreparing};
 
 use crate::fault::{Fault, InputFail};
 use crate::notes::{head_line, notes_text};
@@ -30,8 +30,8 @@ pub struct Made {
 #[tactic(auto, using(crate::proofs::MakeLaws::named_within))]
 fn make_of(alloc: Global, size: Option<u32>, scan: &Scan) -> Result<Made, InputFail>
     requires size { IsSize size }
-    requires within { IsWithin (scanned_of scan.now) }
-    ensures made { IfOk result (λ m. Makes size (scanned_of scan.now) (done_of m)) }
+    requires within { IsWithinLimits (scanned_of scan.now) }
+    ensures made { IfOk result (λ m. MakesPrepared size (scanned_of scan.now) (done_of m)) }
     ensures formed { IfOk result (λ m. IsWellFormed (mesh_of m.mesh)) }
     ensures err { IfErr result (IsMakeFail size (scanned_of scan.now)) }
 {
@@ -62,7 +62,7 @@ pub fn make<S: Source>(alloc: Global, size: Option<u32>, input: &mut S) -> Resul
     ensures formed { IfOk result (λ m. IsWellFormed (mesh_of m.mesh)) }
     ensures end { OnOk result (AtEnd (S.left input.new)) }
     ensures count { OnOk result (S.faults input.new ≡ S.faults input.old) }
-    ensures err { IfErr result (λ e. Stops size e (S.left input.old) (S.left input.new) (S.faults input.old) (S.faults input.new)) }
+    ensures err { IfErr result (λ e. StopsPreparing size e (S.left input.old) (S.left input.new) (S.faults input.old) (S.faults input.new)) }
 {
     let scan = match scan_obj(alloc, input) {
         Ok(scan) => scan,

@@ -1,7 +1,7 @@
 //! The line that tells how places lead back, and what is said of the work.
 ghost use Rattle.std.specs.Prelude.{◌≡◌, ◌≤◌, ◌^◌, ◌*◌, ◌++◌, OnOk, IfOk, pos, ◌+ℤ◌, ◌*ℤ◌, unsigned_abs};
 ghost use Rattle.pm_base.specs.Canonical.{coordinate_text};
-ghost use Rattle.prepare.specs.Texts.{middle, scale_text, middle_text, way_back, head_line, note_line, last_note, face_notes, vertex_notes, notes_text};
+ghost use Rattle.prepare.specs.Texts.{middle, scale_text, middle_text, way_back, fit_head_line, note_line, last_note, face_notes, vertex_notes, notes_text};
 
 use crate::text::{add_coordinate, add_length, add_number};
 use obj_prepare::{Fit, Notes, PointBox, extent};
@@ -100,9 +100,9 @@ fn add_way_back(text: &mut Vec<u8>, size: u32, b: &PointBox) -> Result<(), Alloc
 }
 
 /// The first line of the output.
-#[tactic(auto, unfolding(crate::specs::Texts::head_line))]
+#[tactic(auto, unfolding(crate::specs::Texts::fit_head_line))]
 pub fn head_line(alloc: Global, fit: &Fit, faces: &[Corners]) -> Result<Vec<u8>, AllocError>
-    ensures { IfOk result (λ text. text.items ≡ head_line fit.now faces.now) }
+    ensures { IfOk result (λ text. text.items ≡ fit_head_line fit.now faces.now) }
 {
     let mut text = Vec::new(alloc);
     if faces.is_empty() {

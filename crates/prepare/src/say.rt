@@ -1,21 +1,21 @@
 //! What is said on the error sink.
 ghost use Rattle.std.specs.Prelude.{◌≡◌};
-ghost use Rattle.prepare.specs.Ending.{Said, fault_line, fail_line, status_of};
+ghost use Rattle.prepare.specs.Ending.{SaidText, prepare_fault_line, prepare_fail_line, prepare_status_of};
 
 use crate::fault::{Fault, InputFail, RunFail};
 use pm_io::{Line, Sink, put_all};
 
 /// Puts text on the error sink. That it fails changes nothing.
 pub fn say<E: Sink>(err: &mut E, text: &[u8])
-    ensures { Said (E.got err.old) (E.got err.new) (E.faults err.old) (E.faults err.new) text.now }
+    ensures { SaidText (E.got err.old) (E.got err.new) (E.faults err.old) (E.faults err.new) text.now }
 {
     let _ = put_all(err, text);
 }
 
 // The line of a fault.
-#[tactic(auto, unfolding(crate::specs::Ending::fault_line))]
+#[tactic(auto, unfolding(crate::specs::Ending::prepare_fault_line))]
 fn put_fault(line: &mut Line, fault: Fault)
-    ensures { line.new ≡ fault_line fault }
+    ensures { line.new ≡ prepare_fault_line fault }
 {
     line.clear();
     match fault {
@@ -30,9 +30,9 @@ fn put_fault(line: &mut Line, fault: Fault)
     }
 }
 
-#[tactic(auto, unfolding(crate::specs::Ending::fail_line))]
+#[tactic(auto, unfolding(crate::specs::Ending::prepare_fail_line))]
 fn put_fail(line: &mut Line, fail: RunFail)
-    ensures { line.new ≡ fail_line fail }
+    ensures { line.new ≡ prepare_fail_line fail }
 {
     line.clear();
     match fail {
@@ -45,8 +45,8 @@ fn put_fail(line: &mut Line, fail: RunFail)
 
 /// Says why the program ended early, and answers its status.
 pub fn tell<E: Sink>(err: &mut E, fail: RunFail) -> u8
-    ensures status { result ≡ status_of fail }
-    ensures said { Said (E.got err.old) (E.got err.new) (E.faults err.old) (E.faults err.new) (fail_line fail) }
+    ensures status { result ≡ prepare_status_of fail }
+    ensures said { SaidText (E.got err.old) (E.got err.new) (E.faults err.old) (E.faults err.new) (prepare_fail_line fail) }
 {
     let mut line = Line::new();
     put_fail(&mut line, fail);

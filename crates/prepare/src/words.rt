@@ -2,7 +2,7 @@
 ghost use Rattle.std.specs.Prelude.{◌≡◌, map, IfSome};
 ghost use Rattle.std.specs.String.{string_bytes};
 ghost use Rattle.obj_prepare.specs.Placing.{IsSize};
-ghost use Rattle.prepare.specs.Words.{asked_of};
+ghost use Rattle.prepare.specs.Words.{asked_size_of};
 
 use pm_base::GREATEST_COORDINATE;
 use pm_io::read_unsigned;
@@ -17,7 +17,7 @@ pub struct Asked {
 /// What the words ask for; none where they aren't understood.
 #[tactic(auto, using(pm_io::proofs::DigitLaws::unsigned_most))]
 pub fn read_words(words: &[String]) -> Option<Asked>
-    ensures asked { result ≡ asked_of (map string_bytes words.now) }
+    ensures asked { result ≡ asked_size_of (map string_bytes words.now) }
     ensures size { IfSome result (λ a. IsSize a.size) }
 {
     match words {

@@ -14,7 +14,7 @@ use Rattle.pm_format.specs.declared.fault.FormatError.{FormatError}
 use Rattle.pm_format.specs.declared.fault.FormatError.TheVariants as format
 use Rattle.pm_format.specs.Stream.{stream}
 use Rattle.pm_format.specs.Faults.{stream_fault}
-use Rattle.pm_format.specs.Places.{is_cut, IsDecidedAt}
+use Rattle.pm_format.specs.Places.{is_truncated, IsDecidedAt}
 use Rattle.pm_format.proofs.WholeLaws.{one_text, whole_text}
 use Rattle.pm_format.proofs.PlaceLaws.{decided_stays}
 use Rattle.vdpm.specs.declared.fault.Fault.{Fault}
@@ -35,7 +35,7 @@ one_place bytes n m at other =
 cut_or_decided : (bytes : List ℕ) (n k : ℕ) → stream_fault bytes ≡ Some (format.Truncated k) → IsDecidedAt bytes n → ⊥
 cut_or_decided bytes n k cut at =
     let stays : stream_fault bytes ≡ stream_fault (take n bytes) = ap stream_fault (sym (take-append-drop n bytes)) ∙ decided_stays (take n bytes) (drop n bytes) at.decided in
-    absurd (cc (ap is_cut cut, ap is_cut stays, at.decided))
+    absurd (cc (ap is_truncated cut, ap is_truncated stays, at.decided))
 
 -- Bytes have one beginning, or are refused for one fault.
 

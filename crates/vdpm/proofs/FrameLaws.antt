@@ -20,7 +20,7 @@ use Rattle.pm_session.specs.declared.command.Command.{Command}
 use Rattle.pm_session.specs.declared.command.Command.TheVariants as commands
 use Rattle.pm_session.specs.declared.command.ScriptFault.TheVariants as faults
 use Rattle.pm_session.specs.Script.{Sets, at_first, now_split, is_fraction, morph_reply, Deed, Replies, Ends, IsBad, NamesNoRecord, reply_to, after_split, after_collapse, after_view, command_of, deed_of, line_deed}
-use Rattle.pm_session.specs.Serving.{At, Played, is_past, is_long, stopped, done_line, play_line, played_from, played}
+use Rattle.pm_session.specs.Serving.{At, Played, is_past_script, is_script_line_long, stopped, done_line, play_line, played_from, played}
 use Rattle.pm_format.specs.Stream.{stream}
 use Rattle.vdpm.specs.Beginning.{Beginning, begins, valid}
 use Rattle.vdpm.specs.Build.{IsBuilt}
@@ -105,8 +105,8 @@ module _ (first : Type 0) (h : Hierarchy) (sound : IsValid h) (b : ℕ) where
       let done : Played = done_line s line (line_deed h b s.sets (until 10 line)) later in
       let long : Played = stopped s (Some (faults.BadLine s.number)) (Some (s.bytes + 1025)) in
       let past : Played = stopped s (Some faults.TooLong) (Some 1073741825) in
-      either_closed (is_past s.bytes (length line)) past (if is_long line then long else done) closed
-      (either_closed (is_long line) long done closed
+      either_closed (is_past_script s.bytes (length line)) past (if is_script_line_long line then long else done) closed
+      (either_closed (is_script_line_long line) long done closed
       (done_closed s line (line_deed h b s.sets (until 10 line)) later closed (line_deed_closed s.sets closed (until 10 line)) keeps))
 
   lines_closed : (s : At) (ls : List (List ℕ)) → AreClosed first h s.sets → AreClosed first h (played_from h b s ls).sets

@@ -21,9 +21,9 @@ use Rattle.pm_format.specs.Words.{words_of}
 use Rattle.pm_format.specs.Reading.{forest_at}
 use Rattle.pm_format.specs.Stream.{stream}
 use Rattle.pm_format.specs.Faults.{stream_fault, magic_is_bad, fault_in, named}
-use Rattle.pm_format.specs.Places.{is_cut}
+use Rattle.pm_format.specs.Places.{is_truncated}
 use Rattle.pm_format.specs.Standing.{IsText}
-use Rattle.pm_format.specs.Taking.{Unread, HasFault, Reads, of_source}
+use Rattle.pm_format.specs.Taking.{CutOffUnread, HasFault, Reads, of_stream_source}
 use Rattle.pm_format.proofs.PlaceLaws.{there_is_a_place, dont_reach, dont_reach_end}
 use Rattle.vdpm.specs.declared.fault.Fault.{Fault}
 use Rattle.vdpm.specs.declared.fault.Fault.TheVariants as faults
@@ -50,7 +50,7 @@ valid_before taken rest cut r place (no_stream f i is) = beginning_before taken 
 valid_before taken rest cut r place (invalid o f i is fault) = beginning_before taken rest cut (Ok o) i is
 valid_before taken rest cut r place (valid o i is good) = beginning_before taken rest cut (Ok o) i is
 
-pub valid_unread : (left now : Option (List ℕ)) (u : Unread left now) → IfSome left (λ bytes. (r : Result Beginning Fault) (place : Option ℕ) → IsValidBeginning bytes r place → IfSome place (λ n. length u.taken < n))
+pub valid_unread : (left now : Option (List ℕ)) (u : CutOffUnread left now) → IfSome left (λ bytes. (r : Result Beginning Fault) (place : Option ℕ) → IsValidBeginning bytes r place → IfSome place (λ n. length u.taken < n))
 valid_unread left now u = go left u.took
   where
     go : (left : Option (List ℕ)) → Loses left now u.taken → IfSome left (λ bytes. (r : Result Beginning Fault) (place : Option ℕ) → IsValidBeginning bytes r place → IfSome place (λ n. length u.taken < n))
@@ -59,7 +59,7 @@ valid_unread left now u = go left u.took
         let (rest, whole, now_is) = rest_is bytes u.taken now took in
         valid_before u.taken rest u.cut r place (subst (λ (l : List ℕ). IsValidBeginning l r place) whole is)
 
-valid_unreached : (left now : Option (List ℕ)) → Unread left now → Unreached IsValidBeginning left now
+valid_unreached : (left now : Option (List ℕ)) → CutOffUnread left now → Unreached IsValidBeginning left now
 valid_unreached left now u = record { taken = u.taken; took = u.took; before = valid_unread left now u }
 
 -- The text has a fault.
@@ -84,9 +84,9 @@ truncated_is bytes n is = go (magic_is_bad bytes) (forest_at (words_of bytes)) i
     go false (Err (kinds.Digits d)) e = absurd cc
     go false (Err (kinds.Fault f)) e = absurd (shape_no f e)
 
-bad_text : (bytes : List ℕ) (e : FormatError) (cut : Bool) → is_cut (Some e) ≡ cut → stream_fault bytes ≡ Some e → IsFaulty IsValidBeginning bytes (faults.Stream e)
+bad_text : (bytes : List ℕ) (e : FormatError) (cut : Bool) → is_truncated (Some e) ≡ cut → stream_fault bytes ≡ Some e → IsFaulty IsValidBeginning bytes (faults.Stream e)
 bad_text bytes e false told is =
-    let (n, at) = there_is_a_place bytes (ap is_cut is ∙ told) in
+    let (n, at) = there_is_a_place bytes (ap is_truncated is ∙ told) in
     record { place = Some n; is = no_stream (faults.Stream e) (Some n) (bad_unit e n is at) }
 bad_text bytes (format.Truncated n) true told is =
     let len = truncated_is bytes n is in
@@ -108,12 +108,12 @@ bad_text bytes format.OutOfMemory true told is = absurd cc
 bad_stream : (left : Option (List ℕ)) (e : FormatError) → (e ≡ format.OutOfMemory → ⊥) → HasFault left e → IfSome left (λ bytes. IsFaulty IsValidBeginning bytes (faults.Stream e))
 bad_stream left e other (inl memory) = absurd (other memory)
 bad_stream None e other (inr is) = tt
-bad_stream (Some bytes) e other (inr is) = bad_text bytes e (is_cut (Some e)) refl is
+bad_stream (Some bytes) e other (inr is) = bad_text bytes e (is_truncated (Some e)) refl is
 
-pub stream_stops : (left whole mid now : Option (List ℕ)) (e : StreamFail) (in_old in_new : ℕ) → whole ≡ left → Reads whole mid now (Err e) → HasCause in_old in_new (of_source {T = Stream} (Err e)) → Stops IsValidBeginning (stream_fail e) left now in_old in_new
+pub stream_stops : (left whole mid now : Option (List ℕ)) (e : StreamFail) (in_old in_new : ℕ) → whole ≡ left → Reads whole mid now (Err e) → HasCause in_old in_new (of_stream_source {T = Stream} (Err e)) → Stops IsValidBeginning (stream_fail e) left now in_old in_new
 stream_stops left whole mid now e in_old in_new same reads cause = go e (subst (λ (o : Option (List ℕ)). Reads o mid now (Err e)) same reads) cause
   where
-    go : (e : StreamFail) → Reads left mid now (Err e) → HasCause in_old in_new (of_source {T = Stream} (Err e)) → Stops IsValidBeginning (stream_fail e) left now in_old in_new
+    go : (e : StreamFail) → Reads left mid now (Err e) → HasCause in_old in_new (of_stream_source {T = Stream} (Err e)) → Stops IsValidBeginning (stream_fail e) left now in_old in_new
     go streams.Read reads cause = (valid_unreached left now reads, cause.failed)
     go (streams.Fault format.OutOfMemory) reads cause = tt
     go (streams.Fault format.BadMagic) reads cause = (bad_stream left format.BadMagic (λ e. absurd cc) reads, cause.same)

@@ -13,13 +13,13 @@ use Rattle.pm_format.specs.declared.fault.FormatError.TheVariants as format
 use Rattle.pm_format.specs.declared.read.StreamFail.{StreamFail}
 use Rattle.pm_format.specs.declared.read.StreamFail.TheVariants as streams
 use Rattle.pm_format.specs.Stream.{stream}
-use Rattle.pm_format.specs.Taking.{Unread, Reads}
+use Rattle.pm_format.specs.Taking.{CutOffUnread, Reads}
 use Rattle.pm_session.specs.declared.command.ScriptFault.{ScriptFault}
 use Rattle.pm_session.specs.declared.command.ScriptFault.TheVariants as script
 use Rattle.pm_session.specs.declared.fail.ServeFail.{ServeFail}
 use Rattle.pm_session.specs.declared.fail.ServeFail.TheVariants as serve_fails
 use Rattle.pm_session.specs.Script.{Sets, at_first}
-use Rattle.pm_session.specs.Serving.{played, Ended, CutOff, PutPart, NotReached, Reaches, Serves, ServeCounts, WindowAfter}
+use Rattle.pm_session.specs.Serving.{played, Ended, CutOff, PutPart, NotReached, ReachesPlace, Serves, ServeCounts, WindowAfter}
 use Rattle.vdpm.specs.declared.fault.Fault.{Fault}
 use Rattle.vdpm.specs.declared.fault.Fault.TheVariants as faults
 use Rattle.vdpm.specs.declared.fault.CommandFail.TheVariants as fails
@@ -49,7 +49,7 @@ view_before b bytes taken all before f = subst (λ (a : Ran). IfSome a.place (λ
         moved (length (stream o.digits o.h)) (played o.h b at_first o.rest).place taken (λ n. omega (arith, lt))
 
 -- A read failed within the stream.
-stream_unread : (b : ℕ) (left now got : Option (List ℕ)) → Unread left now → ReadFails (asked.View b) left now got got
+stream_unread : (b : ℕ) (left now got : Option (List ℕ)) → CutOffUnread left now → ReadFails (asked.View b) left now got got
 stream_unread b left now got u = record {
   taken = u.taken;
   took = u.took;
@@ -152,7 +152,7 @@ script_to_end b d h (Some bytes) (Some rest) now got_old got_new window after be
     let p = played h b at_first rest in
     let same = one_outcome (asked.View b) bytes (of_script (length (stream d h)) p) all (view_outcome b d h bytes rest begun good) is in
     let nowhere : p.place ≡ None = no_place (length (stream d h)) p.place (ap (λ (a : Ran). a.place) same ∙ none) in
-    left_at_end window now (subst (λ (place : Option ℕ). Reaches (Some rest) (prepend_known window now) place) nowhere ended.reaches)
+    left_at_end window now (subst (λ (place : Option ℕ). ReachesPlace (Some rest) (prepend_known window now) place) nowhere ended.reaches)
 
 -- A write failed.
 script_cut : (b d : ℕ) (h : Hierarchy) (left mid now got_old got_new : Option (List ℕ)) (after : Sets) → Begun left mid d h → IsValid h → PutPart h b at_first mid now got_old got_new after → IfSome left (λ bytes. CutShort (asked.View b) bytes got_old got_new)

@@ -6,7 +6,7 @@ use Rattle.pm_forest.specs.Forest.{Hierarchy}
 use Rattle.pm_runs.specs.Runs.{IsRunTo}
 use Rattle.pm_number.specs.Numbering.{hierarchy_of_run}
 use Rattle.vdpm.specs.declared.fault.Fault.{Fault}
-use Rattle.vdpm.specs.Surface.{IsSurface}
+use Rattle.vdpm.specs.Surface.{IsSurfaceRead}
 
 -- The hierarchy is that of a log of the mesh's run to the target, each time by the legal pair of least cost. There is one
 -- such log: `OneRunToATarget`.
@@ -17,5 +17,5 @@ pub record IsSimplified (m : Mesh) (target : ℕ) (h : Hierarchy) : Type 0 where
 
 -- The text gives no mesh, or its mesh is simplified; and how many bytes decide that, where it isn't the end of the text.
 pub data IsBuilt (target digits : ℕ) (bytes : List ℕ) : Result Hierarchy Fault → Option ℕ → Type 0 where
-  no_surface : (f : Fault) (place : Option ℕ) → IsSurface digits bytes (Err f) place → IsBuilt target digits bytes (Err f) place
-  simplified : (m : Mesh) (h : Hierarchy) (place : Option ℕ) → IsSurface digits bytes (Ok m) place → IsSimplified m target h → IsBuilt target digits bytes (Ok h) place
+  no_surface : (f : Fault) (place : Option ℕ) → IsSurfaceRead digits bytes (Err f) place → IsBuilt target digits bytes (Err f) place
+  simplified : (m : Mesh) (h : Hierarchy) (place : Option ℕ) → IsSurfaceRead digits bytes (Ok m) place → IsSimplified m target h → IsBuilt target digits bytes (Ok h) place

@@ -13,10 +13,10 @@ use Rattle.pm_demo.specs.Summary.{IsSummary}
 use Rattle.vdpm.specs.declared.words.Asked.{Asked}
 use Rattle.vdpm.specs.declared.words.Asked.TheVariants as asked
 use Rattle.vdpm.specs.declared.fault.Fault.{Fault}
-use Rattle.vdpm.specs.Surface.{IsSurface}
+use Rattle.vdpm.specs.Surface.{IsSurfaceRead}
 use Rattle.vdpm.specs.Build.{IsBuilt}
 use Rattle.vdpm.specs.Beginning.{IsValidBeginning, IsHierarchyText}
-use Rattle.vdpm.specs.Ran.{Ran, refused, whole, unread, of_script}
+use Rattle.vdpm.specs.Ran.{Ran, refused, whole_output, unread, of_script}
 
 -- What a command does with what it reads, and nothing where the input is refused.
 abbrev pub done_with : {X : Type 0} → (X → Ran) → Result X Fault → Option ℕ → Ran
@@ -47,10 +47,10 @@ pub record Summarizes (n : ℕ) (all : Ran) : Type 0 where
 -- decimals as the stream tells, `check` how large the hierarchy is, `view` what the script does that follows it, and `demo`
 -- the summary of a grid.
 abbrev pub IsOutcome : Asked → List ℕ → Ran → Type 0
-IsOutcome (asked.Canon digits) bytes all = Follows (IsSurface digits bytes) (λ m. whole (canonical_text digits m)) all
-IsOutcome (asked.Build target digits) bytes all = Follows (IsBuilt target digits bytes) (λ h. whole (stream digits h)) all
-IsOutcome asked.Expand bytes all = Follows (IsHierarchyText bytes) (λ o. whole (canonical_text o.digits (input_mesh_of o.h))) all
-IsOutcome asked.Check bytes all = Follows (IsHierarchyText bytes) (λ o. whole (counts_line o.h)) all
+IsOutcome (asked.Canon digits) bytes all = Follows (IsSurfaceRead digits bytes) (λ m. whole_output (canonical_text digits m)) all
+IsOutcome (asked.Build target digits) bytes all = Follows (IsBuilt target digits bytes) (λ h. whole_output (stream digits h)) all
+IsOutcome asked.Expand bytes all = Follows (IsHierarchyText bytes) (λ o. whole_output (canonical_text o.digits (input_mesh_of o.h))) all
+IsOutcome asked.Check bytes all = Follows (IsHierarchyText bytes) (λ o. whole_output (counts_line o.h)) all
 IsOutcome (asked.View budget) bytes all = Follows (IsValidBeginning bytes) (λ o. of_script (length (stream o.digits o.h)) (played o.h budget at_first o.rest)) all
 IsOutcome (asked.Demo n) bytes all = Summarizes n all
 

@@ -23,8 +23,8 @@ abbrev pub refused : Fault → Option ℕ → Ran
 refused f place = record { text = []; fault = Some f; place = place }
 
 -- All of the text is written, and the end of the input decides that.
-abbrev pub whole : List ℕ → Ran
-whole text = record { text = text; fault = None; place = None }
+abbrev pub whole_output : List ℕ → Ran
+whole_output text = record { text = text; fault = None; place = None }
 
 -- All of the text is written, and no byte of the input decides that.
 abbrev pub unread : List ℕ → Ran

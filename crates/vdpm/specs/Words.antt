@@ -46,13 +46,13 @@ asked_of (word ∷ number ∷ flag ∷ digits ∷ []) = build_with word (unsigne
 asked_of _ = None
 
 -- How many decimals the coordinates of the text have that is read.
-abbrev pub digits_of : Asked → ℕ
-digits_of (asked.Canon digits) = digits
-digits_of (asked.Build target digits) = digits
-digits_of asked.Expand = 0
-digits_of asked.Check = 0
-digits_of (asked.View budget) = 0
-digits_of (asked.Demo n) = 0
+abbrev pub digits_asked : Asked → ℕ
+digits_asked (asked.Canon digits) = digits
+digits_asked (asked.Build target digits) = digits
+digits_asked asked.Expand = 0
+digits_asked asked.Check = 0
+digits_asked (asked.View budget) = 0
+digits_asked (asked.Demo n) = 0
 
 -- The grid of `demo` has from 1 to 256 cells a side.
 abbrev pub HasSize : Asked → Type 0

@@ -4,7 +4,7 @@ ghost use Rattle.pm_io.specs.Bytes.{AtEnd};
 ghost use Rattle.pm_forest.specs.Meshes.{input_mesh_of};
 ghost use Rattle.pm_firm.specs.Firm.{IsFirm};
 ghost use Rattle.vdpm.specs.Input.{Stops};
-ghost use Rattle.vdpm.specs.Surface.{IsSurface};
+ghost use Rattle.vdpm.specs.Surface.{IsSurfaceRead};
 ghost use Rattle.vdpm.specs.Build.{IsSimplified, IsBuilt};
 ghost use Rattle.vdpm.specs.Ending.{Ends, Counts};
 ghost use Rattle.vdpm.specs.Devices.{LeadsBack, FramesAreSurfaces};
@@ -43,7 +43,7 @@ fn build_hierarchy<S: Source>(
     ensures built { IfOk result (λ h. IfSome (S.left input.old)
         (λ bytes. IsBuilt target digits bytes (Ok h) None)) }
     ensures mesh { IfOk result (λ h. IfSome (S.left input.old)
-        (λ bytes. IsSurface digits bytes (Ok (input_mesh_of h)) None)) }
+        (λ bytes. IsSurfaceRead digits bytes (Ok (input_mesh_of h)) None)) }
     ensures firm { IfOk result IsFirm }
     ensures end { OnOk result (AtEnd (S.left input.new)) }
     ensures count { OnOk result (S.faults input.new ≡ S.faults input.old) }

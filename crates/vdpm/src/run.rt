@@ -3,7 +3,7 @@ ghost use Rattle.std.specs.Prelude.{◌≡◌, ◌⊎◌, ◌≤◌, ◌<◌, �
 ghost use Rattle.std.specs.String.{string_bytes};
 ghost use Rattle.pm_io.specs.Causes.{Rose};
 ghost use Rattle.vdpm.specs.declared.fault.Fault.{Fault};
-ghost use Rattle.vdpm.specs.Words.{asked_of, digits_of, HasSize};
+ghost use Rattle.vdpm.specs.Words.{asked_of, digits_asked, HasSize};
 ghost use Rattle.vdpm.specs.FaultLine.{fault_line};
 ghost use Rattle.vdpm.specs.Ran.{Ran};
 ghost use Rattle.vdpm.specs.Outcome.{IsOutcome};
@@ -28,7 +28,7 @@ fn obey<S: Source, K: Sink>(
     input: &mut S,
     out: &mut K,
 ) -> Result<(), CommandFail>
-    requires few { digits_of asked ≤ 4 }
+    requires few { digits_asked asked ≤ 4 }
     requires size { HasSize asked }
     ensures ends { Ends asked result (S.left input.old) (S.left input.new) (K.got out.old) (K.got out.new) }
     ensures counts { Counts result (S.faults input.old) (S.faults input.new) (K.faults out.old) (K.faults out.new) }

@@ -1,6 +1,6 @@
 //! What is said on the error sink.
 ghost use Rattle.std.specs.Prelude.{◌≡◌, ◌≤◌, [], length};
-ghost use Rattle.vdpm.specs.FaultLine.{line_at, line_of, stream_line, fault_line, fail_line};
+ghost use Rattle.vdpm.specs.FaultLine.{line_at, bare_fault_line, stream_line, fault_line, fail_line};
 ghost use Rattle.vdpm.specs.Ending.{status_of};
 ghost use Rattle.vdpm.specs.Devices.{Tells};
 
@@ -32,10 +32,10 @@ fn put_place(line: &mut Line, number: u32, word: &[u8], place: u64)
 }
 
 // The line of a fault without a place.
-#[tactic(auto, unfolding(crate::specs::FaultLine::line_of))]
+#[tactic(auto, unfolding(crate::specs::FaultLine::bare_fault_line))]
 fn put_number(line: &mut Line, number: u32)
     requires { line.old ≡ [] }
-    ensures { line.new ≡ line_of number }
+    ensures { line.new ≡ bare_fault_line number }
 {
     line.add(b"vdpm: fault ");
     line.add_number(number);

@@ -1,9 +1,9 @@
 //! The mesh of an OBJ text, where it is an oriented manifold.
 ghost use Rattle.std.specs.Prelude.{◌≡◌, ◌≤◌, None, Ok, IfOk, IfErr, IfSome, OnOk};
-ghost use Rattle.pm_runs.specs.Runs.{IsStart};
+ghost use Rattle.pm_runs.specs.Runs.{IsStartOfRun};
 ghost use Rattle.pm_io.specs.Bytes.{AtEnd};
 ghost use Rattle.vdpm.specs.Input.{Stops};
-ghost use Rattle.vdpm.specs.Surface.{IsSurface};
+ghost use Rattle.vdpm.specs.Surface.{IsSurfaceRead};
 
 use crate::fault::{Fault, InputFail};
 use obj_read::{ObjFail, read_obj};
@@ -19,11 +19,11 @@ pub fn read_surface<S: Source>(
     input: &mut S,
 ) -> Result<Surface, InputFail>
     requires { digits ≤ 4 }
-    ensures surface { IfOk result (λ m. IfSome (S.left input.old) (λ bytes. IsSurface digits bytes (Ok m) None)) }
-    ensures start { IfOk result IsStart }
+    ensures surface { IfOk result (λ m. IfSome (S.left input.old) (λ bytes. IsSurfaceRead digits bytes (Ok m) None)) }
+    ensures start { IfOk result IsStartOfRun }
     ensures end { OnOk result (AtEnd (S.left input.new)) }
     ensures count { OnOk result (S.faults input.new ≡ S.faults input.old) }
-    ensures err { IfErr result (λ e. Stops (IsSurface digits) e
+    ensures err { IfErr result (λ e. Stops (IsSurfaceRead digits) e
         (S.left input.old) (S.left input.new) (S.faults input.old) (S.faults input.new)) }
 {
     let mesh = match read_obj(alloc, digits, input) {

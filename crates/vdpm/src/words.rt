@@ -1,7 +1,7 @@
 //! The words of the command line.
 ghost use Rattle.std.specs.Prelude.{◌≡◌, ◌≤◌, map, IfSome};
 ghost use Rattle.std.specs.String.{string_bytes};
-ghost use Rattle.vdpm.specs.Words.{alone, asked_of, digits_of, HasSize};
+ghost use Rattle.vdpm.specs.Words.{alone, asked_of, digits_asked, HasSize};
 
 use pm_io::read_unsigned;
 
@@ -27,7 +27,7 @@ pub enum Asked {
 #[tactic(auto, unfolding(crate::specs::Words::alone))]
 fn alone(word: &str) -> Option<Asked>
     ensures asked { result ≡ alone word.now }
-    ensures few { IfSome result (λ a. digits_of a ≤ 4) }
+    ensures few { IfSome result (λ a. digits_asked a ≤ 4) }
     ensures size { IfSome result HasSize }
 {
     if word == "canon" {
@@ -47,7 +47,7 @@ fn alone(word: &str) -> Option<Asked>
 #[tactic(auto, unfolding(crate::specs::Words::asked_of))]
 pub fn read_words(words: &[String]) -> Option<Asked>
     ensures asked { result ≡ asked_of (map string_bytes words.now) }
-    ensures few { IfSome result (λ a. digits_of a ≤ 4) }
+    ensures few { IfSome result (λ a. digits_asked a ≤ 4) }
     ensures size { IfSome result HasSize }
 {
     match words {

@@ -1,11 +1,11 @@
 use Rattle.std.proofs.Common.{◌≡◌, ◌-◌}
-use Rattle.obj_scan.specs.Reading.{IsReady, IsReading, held_of}
+use Rattle.obj_scan.specs.Reading.{IsReadyToScan, IsScanningText, held_of}
 use Rattle.obj_scan.proofs.scan.scan_obj.Given as goal
 
 abbrev pub invariant-loop-fail : goal.invariant-loop-fail
 invariant-loop-fail g l = record {
-  ready : IsReady l.lines (held_of l.scanner) l.progress;
-  reading : IsReading (g.S.Source.left l.fn.source) l.taker (g.S.Source.left l.source) l.progress (held_of l.scanner) l.lines;
+  ready : IsReadyToScan l.lines (held_of l.scanner) l.progress;
+  reading : IsScanningText (g.S.Source.left l.fn.source) l.taker (g.S.Source.left l.source) l.progress (held_of l.scanner) l.lines;
   count : g.S.Source.faults l.source ≡ g.S.Source.faults l.fn.source;
 }
 

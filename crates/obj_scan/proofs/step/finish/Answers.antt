@@ -2,7 +2,7 @@ use Rattle.std.proofs.Common.{◌+◌, ◌≤◌, ◌∙◌, length, arith}
 use Rattle.std.proofs.lemmas.Result.{err_from_is_err_and}
 use Rattle.obj_lines.specs.Feeding.{open_line}
 use Rattle.obj_read.proofs.FinishLaws.{last_is_line, if_ok, if_err}
-use Rattle.obj_scan.specs.Reading.{so_far, held_of}
+use Rattle.obj_scan.specs.Reading.{scanned_so_far, held_of}
 use Rattle.obj_scan.proofs.FinishLaws.{last_none, last_ok, last_err, refused_same}
 use Rattle.obj_scan.proofs.step.finish.Goals as goal
 
@@ -11,18 +11,18 @@ line-requires c = last_is_line _ _ _ c.finish.ensures.state c.in-Whole.is c.fini
 
 pub returns-in-Partial-clause-ok : goal.returns-in-Partial-clause-ok
 returns-in-Partial-clause-ok c =
-    let same = last_none (so_far c.args.progress (held_of c.args.scanner)) _ _ c.finish.ensures.state c.in-Partial.is in
+    let same = last_none (scanned_so_far c.args.progress (held_of c.args.scanner)) _ _ c.finish.ensures.state c.in-Partial.is in
     if_ok c.end.result _ _ (λ s is. same ∙ is c.args.progress.start) c.end.ensures.ok
 
 pub returns-in-Partial-clause-err : goal.returns-in-Partial-clause-err
 returns-in-Partial-clause-err c =
-    let same = last_none (so_far c.args.progress (held_of c.args.scanner)) _ _ c.finish.ensures.state c.in-Partial.is in
+    let same = last_none (scanned_so_far c.args.progress (held_of c.args.scanner)) _ _ c.finish.ensures.state c.in-Partial.is in
     if_err c.end.result _ _ (λ e is. refused_same e _ _ same (is c.args.progress.start)) c.end.ensures.err
 
 pub returns-clause-ok : goal.returns-clause-ok
 returns-clause-ok c =
     let within : c.args.progress.start + length (open_line c.args.lines) ≤ 1073741824 = omega (arith, c.requires.ready.at, c.requires.ready.room) in
-    let same = last_ok (so_far c.args.progress (held_of c.args.scanner)) _ _ _ _ (held_of c.take_line.new.self)
+    let same = last_ok (scanned_so_far c.args.progress (held_of c.args.scanner)) _ _ _ _ (held_of c.take_line.new.self)
     (record { at = c.finish.ensures.state; which = c.in-Whole.is; finished = c.finish.ensures.value; clean = c.requires.ready.clean; short = c.requires.ready.short; within = within; is_text = c.line.ensures })
     c.in_ok-take_line-in-Whole.ensures.ok in
     if_ok c.end-in-Whole.result _ _ (λ s is. same ∙ is (c.args.progress.start + length (open_line c.args.lines))) c.end-in-Whole.ensures.ok
@@ -30,7 +30,7 @@ returns-clause-ok c =
 pub returns-clause-err : goal.returns-clause-err
 returns-clause-err c =
     let within : c.args.progress.start + length (open_line c.args.lines) ≤ 1073741824 = omega (arith, c.requires.ready.at, c.requires.ready.room) in
-    let same = last_ok (so_far c.args.progress (held_of c.args.scanner)) _ _ _ _ (held_of c.take_line.new.self)
+    let same = last_ok (scanned_so_far c.args.progress (held_of c.args.scanner)) _ _ _ _ (held_of c.take_line.new.self)
     (record { at = c.finish.ensures.state; which = c.in-Whole.is; finished = c.finish.ensures.value; clean = c.requires.ready.clean; short = c.requires.ready.short; within = within; is_text = c.line.ensures })
     c.in_ok-take_line-in-Whole.ensures.ok in
     if_err c.end-in-Whole.result _ _ (λ e is. refused_same e _ _ same (is (c.args.progress.start + length (open_line c.args.lines)))) c.end-in-Whole.ensures.err
@@ -39,6 +39,6 @@ pub returns-in_err-take_line-in-Whole-clause-err : goal.returns-in_err-take_line
 returns-in_err-take_line-in-Whole-clause-err c =
     let p = err_from_is_err_and c.from_residual.result c.from_residual.ensures.1 in
     let within : c.args.progress.start + length (open_line c.args.lines) ≤ 1073741824 = omega (arith, c.requires.ready.at, c.requires.ready.room) in
-    rw (p.1, p.2) (last_err (so_far c.args.progress (held_of c.args.scanner)) _ _ _ _ _
+    rw (p.1, p.2) (last_err (scanned_so_far c.args.progress (held_of c.args.scanner)) _ _ _ _ _
     (record { at = c.finish.ensures.state; which = c.in-Whole.is; finished = c.finish.ensures.value; clean = c.requires.ready.clean; short = c.requires.ready.short; within = within; is_text = c.line.ensures })
     c.in_err-take_line-in-Whole.ensures.fault)

@@ -1,5 +1,5 @@
+use Rattle.pm_base.specs.Place.{origin}
 use Rattle.pm_bounds.specs.declared.balls.Ball.{Ball}
-use Rattle.pm_bounds.specs.Bounds.{origin}
 use Rattle.pm_bounds.proofs.NodeTables.{read_at}
 use Rattle.pm_bounds.proofs.balls.node_ball.Goals as goal
 

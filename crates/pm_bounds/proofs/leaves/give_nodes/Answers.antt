@@ -1,10 +1,10 @@
 use Rattle.std.proofs.Common.{◌≡◌, ◌<◌, get_or, set, ap, ◌∙◌, arith}
 use Rattle.std.proofs.lemmas.List.{get_or_default}
 use Rattle.pm_base.specs.Rounded.{root_up}
+use Rattle.pm_base.specs.Place.{origin}
 use Rattle.pm_forest.specs.Forest.{leaf_count}
 use Rattle.pm_forest.specs.Tables.{leaf_node_of}
 use Rattle.pm_bounds.specs.declared.leaves.LeafBounds.{LeafBounds}
-use Rattle.pm_bounds.specs.Bounds.{origin}
 use Rattle.pm_bounds.specs.Leaves.{bare_leaf_at}
 use Rattle.pm_bounds.specs.Tables.{radii_of}
 use Rattle.pm_bounds.proofs.NodeTables.{given_none, given_more, given_all}

@@ -1,8 +1,8 @@
 use Rattle.std.proofs.Common.{◌≡◌, ◌≤◌, Some, Option, IfSome, get_or, sym, subst, arith, ◌∙◌}
 use Rattle.std.proofs.lemmas.List.{get_or_default}
+use Rattle.pm_base.specs.Place.{origin}
 use Rattle.pm_bounds.specs.declared.normal_box.NormalBox.{NormalBox}
 use Rattle.pm_bounds.specs.Boxes.{IsSmallBox}
-use Rattle.pm_bounds.specs.Bounds.{origin}
 use Rattle.pm_bounds.specs.Leaves.{bare_leaf_at, IsSmallLeaf}
 use Rattle.pm_bounds.proofs.BoxLaws.{join-small}
 use Rattle.pm_bounds.proofs.TableLaws.{kept}

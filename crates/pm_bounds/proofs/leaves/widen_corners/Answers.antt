@@ -1,12 +1,13 @@
 use Rattle.std.proofs.Common.{◌≡◌, ℕ, cond, List, get_or, set, ap, ◌∙◌, subst, arith}
+use Rattle.pm_base.specs.Place.{origin}
 use Rattle.pm_forest.specs.declared.parts.Face.{Face}
 use Rattle.pm_forest.specs.Forest.{Hierarchy}
 use Rattle.pm_forest.specs.Tables.{leaf_node_of}
 use Rattle.pm_bounds.specs.declared.leaves.LeafBounds.{LeafBounds}
 use Rattle.pm_bounds.specs.declared.normal_box.NormalBox.{NormalBox}
 use Rattle.pm_bounds.specs.Boxes.{box_at}
-use Rattle.pm_bounds.specs.Bounds.{origin, normal_of}
-use Rattle.pm_bounds.specs.Leaves.{bare_leaf_at, widened, widened_by, square_reach, is_corner}
+use Rattle.pm_bounds.specs.Bounds.{normal_of}
+use Rattle.pm_bounds.specs.Leaves.{bare_leaf_at, widened, widened_by, square_reach, is_leaf_corner}
 use Rattle.pm_bounds.proofs.LeafTables.{widened-twice, place_read}
 use Rattle.pm_bounds.proofs.MeasuredFaces.{IsMeasured, reach_a, reach_b, reach_c, own_normal}
 use Rattle.pm_bounds.proofs.TableLaws.{three}
@@ -46,11 +47,11 @@ returns-clause-wider c l m =
     let one = c.widen.new.leaves.items in
     let two = c.widen-2.new.leaves.items in
     let all = c.widen-3.new.leaves.items in
-    let read : get_or all l (bare_leaf_at origin) ≡ cond (is_corner l face) (widened_by h l face (get_or leaves l (bare_leaf_at origin))) (get_or leaves l (bare_leaf_at origin)) =
+    let read : get_or all l (bare_leaf_at origin) ≡ cond (is_leaf_corner l face) (widened_by h l face (get_or leaves l (bare_leaf_at origin))) (get_or leaves l (bare_leaf_at origin)) =
     three (bare_leaf_at origin) (λ w b. widened_by h w face b) (widened-twice h face)
     leaves one two all face.a face.b face.c (omega (arith, corners.a_leaf, len)) (omega (arith, corners.b_leaf, len)) (omega (arith, corners.c_leaf, len))
     (one_wider h face leaves one face.a _ _ c.widen.ensures.wider (c.max.ensures ∙ reach_a h face first second third _ _ _ is) normal)
     (one_wider h face one two face.b _ _ c.widen-2.ensures.wider (c.max-2.ensures ∙ reach_b h face first second third _ _ _ is) normal)
     (one_wider h face two all face.c _ _ c.widen-3.ensures.wider (c.max-3.ensures ∙ reach_c h face first second third _ _ _ is) normal) l in
-    subst (λ (f : Face). get_or all l (bare_leaf_at origin) ≡ cond (is_corner l f) (widened_by h l f (get_or leaves l (bare_leaf_at origin))) (get_or leaves l (bare_leaf_at origin)))
+    subst (λ (f : Face). get_or all l (bare_leaf_at origin) ≡ cond (is_leaf_corner l f) (widened_by h l f (get_or leaves l (bare_leaf_at origin))) (get_or leaves l (bare_leaf_at origin)))
     corners.corners read

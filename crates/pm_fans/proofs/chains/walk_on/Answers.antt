@@ -2,7 +2,7 @@ use Rattle.std.proofs.Common.{◌≡◌, ◌<◌, ◌∙◌, ℕ, Some, List, Op
 use Rattle.std.specs.Option.{option_map}
 use Rattle.pm_base.specs.declared.ids.Side.{Side}
 use Rattle.pm_base.specs.Sides.{prev}
-use Rattle.pm_fans.specs.Heads.{at}
+use Rattle.pm_fans.specs.Heads.{twin_in_table}
 use Rattle.pm_fans.proofs.ChainLaws.{bare_count, bare-set, prev_in}
 use Rattle.pm_fans.proofs.OpenWalks.{WalksOn, on_begins, on_more}
 use Rattle.pm_fans.proofs.chains.walk_on.Goals as goal
@@ -47,7 +47,7 @@ loop-reached-preserved c =
     let heads : List (Option ℕ) = c.loop-reached.heads in
     let first = c.args.first.0 in
     let w : WalksOn glued old heads first (Some c.in-Some.side.0) = subst (WalksOn glued old heads first) (ap number c.in-Some.is) c.loop-reached.invariant in
-    let next : number c.get-reached.result ≡ at glued (prev c.in-Some.side.0) = c.get-reached.ensures ∙ ap (at glued) c.prev.ensures.value in
+    let next : number c.get-reached.result ≡ twin_in_table glued (prev c.in-Some.side.0) = c.get-reached.ensures ∙ ap (twin_in_table glued) c.prev.ensures.value in
     subst (λ (hs : List (Option ℕ)). WalksOn glued old hs first (number c.get-reached.result)) (sym c.put.ensures)
     (subst (WalksOn glued old (slice_set heads c.in-Some.side.0 (Some first)) first) (sym next)
     (on_more glued old heads first c.in-Some.side.0 c.requires.paired c.requires.not_glued w))

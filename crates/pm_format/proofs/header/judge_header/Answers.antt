@@ -1,6 +1,6 @@
 use Rattle.std.proofs.Common.{◌∙◌, sym, arith, subst}
 use Rattle.pm_format.specs.Words.{IsBytes}
-use Rattle.pm_format.specs.Standing.{JudgesHeader, IsRefusal}
+use Rattle.pm_format.specs.Standing.{JudgesHeader, HasFaultAlready}
 use Rattle.pm_format.proofs.MemoryLaws.{header_no_memory}
 use Rattle.pm_format.proofs.StandLaws.{magic_refused}
 use Rattle.pm_format.proofs.HeaderSizes.{header_long}
@@ -30,7 +30,7 @@ returns-in-Err c =
 pub returns-in-Err-new : goal.returns-in-Err-new
 returns-in-Err-new c =
     record {
-      judged = subst (λ e. IsRefusal c.args.bytes.now e) (sym c.named.ensures)
+      judged = subst (λ e. HasFaultAlready c.args.bytes.now e) (sym c.named.ensures)
           (counts_refused c.args.bytes.now c.new-words.result c.take_header.new.words c.in-Ok.header.counts c.in-Err-new.fault c.new-words.ensures (sym c.is_magic_bad.ensures ∙ c.if-is_magic_bad.false)
           c.in-Ok.ensures.header c.in-Err-new.ensures.err);
       memory = λ is. header_long c.args.bytes.now c.new-words.result c.take_header.new.words c.in-Ok.header.counts c.new-words.ensures c.in-Ok.ensures.header;

@@ -2,12 +2,12 @@ use Rattle.std.proofs.Common.{◌≡◌, filter}
 use Rattle.std.specs.List.{flat_map}
 use Rattle.pm_io.specs.Bytes.{GainsThrough}
 use Rattle.pm_forest.specs.Fronts.{is_active, set_of}
-use Rattle.pm_front.specs.Shown.{numbers}
+use Rattle.pm_front.specs.Shown.{numbers_below}
 use Rattle.pm_morph.specs.Texts.{moved_node}
 use Rattle.pm_morph.proofs.text.put_nodes.Given as goal
 
 abbrev pub invariant-loop-node : goal.invariant-loop-node
 invariant-loop-node g l = record {
-  text : GainsThrough (g.K.Sink.got l.fn.out) (g.K.Sink.got l.out) l.fn.page l.page (flat_map (moved_node l.front.h (set_of l.marks) l.a l.b) (filter (is_active l.front.h (set_of l.front.flags)) (numbers l.node)));
+  text : GainsThrough (g.K.Sink.got l.fn.out) (g.K.Sink.got l.out) l.fn.page l.page (flat_map (moved_node l.front.h (set_of l.marks) l.a l.b) (filter (is_active l.front.h (set_of l.front.flags)) (numbers_below l.node)));
   count : g.K.Sink.faults l.out ≡ g.K.Sink.faults l.fn.out;
 }

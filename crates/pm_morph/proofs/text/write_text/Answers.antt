@@ -3,7 +3,7 @@ use Rattle.std.proofs.lemmas.Result.{err_from_is_err_and}
 use Rattle.pm_io.proofs.PutLaws.{through_then, through_stops, flush_then, flush_stops}
 use Rattle.pm_forest.specs.Fronts.{set_of}
 use Rattle.pm_frame.specs.Frame.{face_lines, end_line}
-use Rattle.pm_morph.specs.Texts.{first_line, moved_lines, morph_text}
+use Rattle.pm_morph.specs.Texts.{first_morph_line, moved_lines, morph_text}
 use Rattle.pm_morph.proofs.text.write_text.Goals as goal
 
 pub returns-in_err-put_first : goal.returns-in_err-put_first
@@ -13,7 +13,7 @@ returns-in_err-put_first g c =
     let h = c.args.front.now.h in
     let T = set_of c.args.marks.now in
     let S = set_of c.args.front.now.flags in
-    let first = first_line h S c.args.a c.args.b in
+    let first = first_morph_line h S c.args.a c.args.b in
     let moved = moved_lines h T S c.args.a c.args.b in
     let two = through_stops g.K.Sink _ _ _ _ first moved _ c.in_err-put_first.ensures in
     let three = through_stops g.K.Sink _ _ _ _ (first ++ moved) (face_lines h S) _ two in
@@ -26,7 +26,7 @@ returns-in_err-put_nodes g c =
     let h = c.args.front.now.h in
     let T = set_of c.args.marks.now in
     let S = set_of c.args.front.now.flags in
-    let first = first_line h S c.args.a c.args.b in
+    let first = first_morph_line h S c.args.a c.args.b in
     let moved = moved_lines h T S c.args.a c.args.b in
     let two = through_then g.K.Sink _ _ _ _ _ _ first moved _ _ c.in_ok-put_first.ensures c.in_err-put_nodes.ensures in
     let three = through_stops g.K.Sink _ _ _ _ (first ++ moved) (face_lines h S) _ two in
@@ -39,7 +39,7 @@ returns-in_err-put_faces g c =
     let h = c.args.front.now.h in
     let T = set_of c.args.marks.now in
     let S = set_of c.args.front.now.flags in
-    let first = first_line h S c.args.a c.args.b in
+    let first = first_morph_line h S c.args.a c.args.b in
     let moved = moved_lines h T S c.args.a c.args.b in
     let two = through_then g.K.Sink _ _ _ _ _ _ first moved _ _ c.in_ok-put_first.ensures c.in_ok-put_nodes.ensures in
     let three = through_then g.K.Sink _ _ _ _ _ _ _ (face_lines h S) _ _ two c.in_err-put_faces.ensures in
@@ -52,7 +52,7 @@ returns-in_err-put_last g c =
     let h = c.args.front.now.h in
     let T = set_of c.args.marks.now in
     let S = set_of c.args.front.now.flags in
-    let first = first_line h S c.args.a c.args.b in
+    let first = first_morph_line h S c.args.a c.args.b in
     let moved = moved_lines h T S c.args.a c.args.b in
     let two = through_then g.K.Sink _ _ _ _ _ _ first moved _ _ c.in_ok-put_first.ensures c.in_ok-put_nodes.ensures in
     let three = through_then g.K.Sink _ _ _ _ _ _ _ (face_lines h S) _ _ two c.in_ok-put_faces.ensures in
@@ -65,7 +65,7 @@ returns-in_err-flush g c =
     let h = c.args.front.now.h in
     let T = set_of c.args.marks.now in
     let S = set_of c.args.front.now.flags in
-    let first = first_line h S c.args.a c.args.b in
+    let first = first_morph_line h S c.args.a c.args.b in
     let moved = moved_lines h T S c.args.a c.args.b in
     let two = through_then g.K.Sink _ _ _ _ _ _ first moved _ _ c.in_ok-put_first.ensures c.in_ok-put_nodes.ensures in
     let three = through_then g.K.Sink _ _ _ _ _ _ _ (face_lines h S) _ _ two c.in_ok-put_faces.ensures in
@@ -78,7 +78,7 @@ returns g c =
     let h = c.args.front.now.h in
     let T = set_of c.args.marks.now in
     let S = set_of c.args.front.now.flags in
-    let first = first_line h S c.args.a c.args.b in
+    let first = first_morph_line h S c.args.a c.args.b in
     let moved = moved_lines h T S c.args.a c.args.b in
     let two = through_then g.K.Sink _ _ _ _ _ _ first moved _ _ c.in_ok-put_first.ensures c.in_ok-put_nodes.ensures in
     let three = through_then g.K.Sink _ _ _ _ _ _ _ (face_lines h S) _ _ two c.in_ok-put_faces.ensures in

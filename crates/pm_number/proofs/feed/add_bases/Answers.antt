@@ -3,7 +3,7 @@ use Rattle.std.proofs.lemmas.List.{get_or_read, get_or-map, length-map}
 use Rattle.pm_base.specs.Meshes.{mesh_of}
 use Rattle.pm_number.specs.Stages.{run_of}
 use Rattle.pm_number.specs.Numbering.{hierarchy_of}
-use Rattle.pm_forest.specs.Faces.{no_corners}
+use Rattle.pm_forest.specs.Faces.{no_face_corners}
 use Rattle.pm_number.specs.Numbering.{base_faces, numbered_face}
 use Rattle.pm_number.specs.Tables.{took_bases}
 use Rattle.pm_number.proofs.FaceTables.{bases_inside}
@@ -22,7 +22,7 @@ loop-i-preserved c =
     let l : i < length (base_faces r) = omega arith in
     let all = length-map (base_faces r) (numbered_face r) in
     let f = get_or_read c.args.numbers.now.bases.items i c.index.result.now inside c.index.ensures 0 ∙ ap (λ xs. get_or xs i 0) is in
-    let face = c.face.ensures ∙ ap (numbered_face r) f ∙ sym (get_or-map (numbered_face r) (base_faces r) i 0 no_corners l) in
+    let face = c.face.ensures ∙ ap (numbered_face r) f ∙ sym (get_or-map (numbered_face r) (base_faces r) i 0 no_face_corners l) in
     base_taken h c.loop-i.shaper c.add_base.new.self i c.face.result c.add_base.result c.loop-i.invariant (omega arith) face (base_fits r c.requires.run.merging c.requires.run.few_faces i (omega arith)) c.add_base.ensures.fault c.add_base.ensures.taken
 
 pub returns : goal.returns

@@ -4,7 +4,7 @@ use Rattle.pm_number.specs.Stages.{run_of}
 use Rattle.pm_number.specs.Numbering.{hierarchy_of}
 use Rattle.pm_forest.specs.Forest.{record_at, record_count}
 use Rattle.pm_forest.specs.Rules.{word_of}
-use Rattle.pm_number.specs.Stages.{steps, entry}
+use Rattle.pm_number.specs.Stages.{steps, entry_at}
 use Rattle.pm_number.specs.Numbering.{step_of}
 use Rattle.pm_number.proofs.NodeNumbers.{count}
 use Rattle.pm_number.proofs.Fitting.{presence_fits}
@@ -18,7 +18,7 @@ add_face-requires c =
     let h = hierarchy_of r in
     let i = steps r - suc c.args.k in
     let i_lt : i < steps r = (let l = c.requires.inside in omega arith) in
-    let w = sent r i (entry r i).t (entry r i).u (step_of r c.args.k).left c.in-Some.gone c.requires.run.merging (sym c.requires.gone ∙ c.in-Some.is) (c.requires.run.merging.logged i i_lt).left in
+    let w = sent r i (entry_at r i).t (entry_at r i).u (step_of r c.args.k).left c.in-Some.gone c.requires.run.merging (sym c.requires.gone ∙ c.in-Some.is) (c.requires.run.merging.logged i i_lt).left in
     expects_left h c.args.shaper.now c.args.k w.taken c.requires.before (left_is r c.args.k w.taken c.requires.inside w.is)
 
 pub face-requires-clause-inside : goal.face-requires-clause-inside
@@ -27,7 +27,7 @@ face-requires-clause-inside c =
     let h = hierarchy_of r in
     let i = steps r - suc c.args.k in
     let i_lt : i < steps r = (let l = c.requires.inside in omega arith) in
-    let w = sent r i (entry r i).t (entry r i).u (step_of r c.args.k).left c.in-Some.gone c.requires.run.merging (sym c.requires.gone ∙ c.in-Some.is) (c.requires.run.merging.logged i i_lt).left in
+    let w = sent r i (entry_at r i).t (entry_at r i).u (step_of r c.args.k).left c.in-Some.gone c.requires.run.merging (sym c.requires.gone ∙ c.in-Some.is) (c.requires.run.merging.logged i i_lt).left in
     w.face
 
 pub word-requires-clause-inside : goal.word-requires-clause-inside
@@ -36,7 +36,7 @@ word-requires-clause-inside c =
     let h = hierarchy_of r in
     let i = steps r - suc c.args.k in
     let i_lt : i < steps r = (let l = c.requires.inside in omega arith) in
-    let w = sent r i (entry r i).t (entry r i).u (step_of r c.args.k).left c.in-Some.gone c.requires.run.merging (sym c.requires.gone ∙ c.in-Some.is) (c.requires.run.merging.logged i i_lt).left in
+    let w = sent r i (entry_at r i).t (entry_at r i).u (step_of r c.args.k).left c.in-Some.gone c.requires.run.merging (sym c.requires.gone ∙ c.in-Some.is) (c.requires.run.merging.logged i i_lt).left in
     w.first
 
 pub word-requires-in-Some-clause-inside : goal.word-requires-in-Some-clause-inside
@@ -45,7 +45,7 @@ word-requires-in-Some-clause-inside c =
     let h = hierarchy_of r in
     let i = steps r - suc c.args.k in
     let i_lt : i < steps r = (let l = c.requires.inside in omega arith) in
-    let w = sent r i (entry r i).t (entry r i).u (step_of r c.args.k).left c.in-Some.gone c.requires.run.merging (sym c.requires.gone ∙ c.in-Some.is) (c.requires.run.merging.logged i i_lt).left in
+    let w = sent r i (entry_at r i).t (entry_at r i).u (step_of r c.args.k).left c.in-Some.gone c.requires.run.merging (sym c.requires.gone ∙ c.in-Some.is) (c.requires.run.merging.logged i i_lt).left in
     w.second
 
 pub returns-in-Some : goal.returns-in-Some
@@ -54,7 +54,7 @@ returns-in-Some c =
     let h = hierarchy_of r in
     let i = steps r - suc c.args.k in
     let i_lt : i < steps r = (let l = c.requires.inside in omega arith) in
-    let w = sent r i (entry r i).t (entry r i).u (step_of r c.args.k).left c.in-Some.gone c.requires.run.merging (sym c.requires.gone ∙ c.in-Some.is) (c.requires.run.merging.logged i i_lt).left in
+    let w = sent r i (entry_at r i).t (entry_at r i).u (step_of r c.args.k).left c.in-Some.gone c.requires.run.merging (sym c.requires.gone ∙ c.in-Some.is) (c.requires.run.merging.logged i i_lt).left in
     let face = c.face.ensures ∙ w.face_is in
     let first = c.word.ensures ∙ ap word_of w.first_is in
     let second = c.word-in-Some.ensures ∙ ap word_of w.second_is in

@@ -4,7 +4,7 @@ use Rattle.pm_number.specs.Stages.{run_of}
 use Rattle.pm_number.specs.Numbering.{hierarchy_of}
 use Rattle.pm_forest.specs.Forest.{record_count}
 use Rattle.pm_forest.specs.Rules.{word_of}
-use Rattle.pm_number.specs.Stages.{steps, entry}
+use Rattle.pm_number.specs.Stages.{steps, entry_at}
 use Rattle.pm_number.specs.Numbering.{step_of}
 use Rattle.pm_number.proofs.NodeNumbers.{count}
 use Rattle.pm_number.proofs.FaceFitting.{right_fits}
@@ -17,7 +17,7 @@ add_face-requires c =
     let h = hierarchy_of r in
     let i = steps r - suc c.args.k in
     let i_lt : i < steps r = (let l = c.requires.inside in omega arith) in
-    let w = sent r i (entry r i).u (entry r i).t (step_of r c.args.k).right c.in-Some.gone c.requires.run.merging (sym c.requires.gone ∙ c.in-Some.is) (c.requires.run.merging.logged i i_lt).right in
+    let w = sent r i (entry_at r i).u (entry_at r i).t (step_of r c.args.k).right c.in-Some.gone c.requires.run.merging (sym c.requires.gone ∙ c.in-Some.is) (c.requires.run.merging.logged i i_lt).right in
     expects_right h c.args.shaper.now c.args.k w.taken c.requires.before (right_is r c.args.k w.taken c.requires.inside w.is)
 
 pub face-requires-clause-inside : goal.face-requires-clause-inside
@@ -26,7 +26,7 @@ face-requires-clause-inside c =
     let h = hierarchy_of r in
     let i = steps r - suc c.args.k in
     let i_lt : i < steps r = (let l = c.requires.inside in omega arith) in
-    let w = sent r i (entry r i).u (entry r i).t (step_of r c.args.k).right c.in-Some.gone c.requires.run.merging (sym c.requires.gone ∙ c.in-Some.is) (c.requires.run.merging.logged i i_lt).right in
+    let w = sent r i (entry_at r i).u (entry_at r i).t (step_of r c.args.k).right c.in-Some.gone c.requires.run.merging (sym c.requires.gone ∙ c.in-Some.is) (c.requires.run.merging.logged i i_lt).right in
     w.face
 
 pub word-requires-clause-inside : goal.word-requires-clause-inside
@@ -35,7 +35,7 @@ word-requires-clause-inside c =
     let h = hierarchy_of r in
     let i = steps r - suc c.args.k in
     let i_lt : i < steps r = (let l = c.requires.inside in omega arith) in
-    let w = sent r i (entry r i).u (entry r i).t (step_of r c.args.k).right c.in-Some.gone c.requires.run.merging (sym c.requires.gone ∙ c.in-Some.is) (c.requires.run.merging.logged i i_lt).right in
+    let w = sent r i (entry_at r i).u (entry_at r i).t (step_of r c.args.k).right c.in-Some.gone c.requires.run.merging (sym c.requires.gone ∙ c.in-Some.is) (c.requires.run.merging.logged i i_lt).right in
     w.first
 
 pub word-requires-in-Some-clause-inside : goal.word-requires-in-Some-clause-inside
@@ -44,7 +44,7 @@ word-requires-in-Some-clause-inside c =
     let h = hierarchy_of r in
     let i = steps r - suc c.args.k in
     let i_lt : i < steps r = (let l = c.requires.inside in omega arith) in
-    let w = sent r i (entry r i).u (entry r i).t (step_of r c.args.k).right c.in-Some.gone c.requires.run.merging (sym c.requires.gone ∙ c.in-Some.is) (c.requires.run.merging.logged i i_lt).right in
+    let w = sent r i (entry_at r i).u (entry_at r i).t (step_of r c.args.k).right c.in-Some.gone c.requires.run.merging (sym c.requires.gone ∙ c.in-Some.is) (c.requires.run.merging.logged i i_lt).right in
     w.second
 
 pub returns-in-Some : goal.returns-in-Some
@@ -53,7 +53,7 @@ returns-in-Some c =
     let h = hierarchy_of r in
     let i = steps r - suc c.args.k in
     let i_lt : i < steps r = (let l = c.requires.inside in omega arith) in
-    let w = sent r i (entry r i).u (entry r i).t (step_of r c.args.k).right c.in-Some.gone c.requires.run.merging (sym c.requires.gone ∙ c.in-Some.is) (c.requires.run.merging.logged i i_lt).right in
+    let w = sent r i (entry_at r i).u (entry_at r i).t (step_of r c.args.k).right c.in-Some.gone c.requires.run.merging (sym c.requires.gone ∙ c.in-Some.is) (c.requires.run.merging.logged i i_lt).right in
     let face = c.face.ensures ∙ w.face_is in
     let first = c.word.ensures ∙ ap word_of w.first_is in
     let second = c.word-in-Some.ensures ∙ ap word_of w.second_is in

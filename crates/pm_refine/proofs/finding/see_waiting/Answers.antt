@@ -7,7 +7,7 @@ use Rattle.pm_forest.specs.Fronts.{set_of}
 use Rattle.pm_forest.specs.Moves.{may_try}
 use Rattle.pm_view.specs.Wanted.{is_wanted}
 use Rattle.pm_refine.specs.Holding.{HoldsBelow}
-use Rattle.pm_refine.specs.Finding.{is_reached}
+use Rattle.pm_refine.specs.Finding.{is_wanted_next}
 use Rattle.pm_refine.proofs.CountLaws.{count_up}
 use Rattle.pm_refine.proofs.SetLaws.{set_in, holds_up, holds_next, holds_past, next_there, none_skipped}
 use Rattle.pm_refine.proofs.FindingLaws.{records_few}
@@ -31,7 +31,7 @@ loop-k-preserved g c =
     let k = c.in-Some.k in
     let flags = c.loop-k.rises in
     let test = may_try h S in
-    let found = is_reached h wanted S in
+    let found = is_wanted_next h wanted S in
     let first = c.in-Some.ensures.some in
     let next = next_there n test c.waiting.result.now c.waiting.ensures.len c.waiting.ensures.each c.loop-k.from k first in
     let none = none_skipped n test c.waiting.result.now c.waiting.ensures.len c.waiting.ensures.each c.loop-k.from k first in

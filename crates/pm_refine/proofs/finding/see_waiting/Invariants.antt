@@ -5,13 +5,13 @@ use Rattle.pm_forest.specs.Fronts.{set_of}
 use Rattle.pm_forest.specs.Moves.{may_try}
 use Rattle.pm_view.specs.Wanted.{is_wanted}
 use Rattle.pm_refine.specs.Holding.{HoldsBelow}
-use Rattle.pm_refine.specs.Finding.{is_reached}
+use Rattle.pm_refine.specs.Finding.{is_wanted_next}
 use Rattle.pm_refine.proofs.finding.see_waiting.Given as goal
 
 abbrev pub invariant-loop-k : goal.invariant-loop-k
 invariant-loop-k g l = record {
   most : l.from ≤ record_count l.front.h;
-  seen : HoldsBelow (record_count l.front.h) (is_reached l.front.h (is_wanted l.front.h l.view) (set_of l.front.flags)) l.from l.rises;
+  seen : HoldsBelow (record_count l.front.h) (is_wanted_next l.front.h (is_wanted l.front.h l.view) (set_of l.front.flags)) l.from l.rises;
   cost : l.steps ≤ l.fn.steps + count (may_try l.front.h (set_of l.front.flags)) l.from;
 }
 

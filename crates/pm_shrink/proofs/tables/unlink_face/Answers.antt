@@ -1,5 +1,5 @@
 use Rattle.std.proofs.Common.{◌≡◌, ◌*◌, sym, ap, subst, ◌∙◌, arith}
-use Rattle.pm_links.specs.Lists.{without, IsHeld}
+use Rattle.pm_links.specs.Lists.{list_without, IsHeld}
 use Rattle.pm_links.proofs.Calls.{after_unlink, held-unlink}
 use Rattle.pm_shrink.proofs.tables.unlink_face.Goals as goal
 
@@ -27,4 +27,4 @@ returns-clause-lists c h =
     let three = after_unlink c.unlink-2.new.self c.unlink-3.new.self c.side-3.result.0 c.unlink-3.ensures.lists in
     let first : c.side.result.0 ≡ 3 * c.args.face.0 = omega (arith, c.side.ensures.value) in
     rw (first, c.side-2.ensures.value, c.side-3.ensures.value) at
-    (three.lost h ∙ ap (without c.side-3.result.0) (two.lost h ∙ ap (without c.side-2.result.0) (one.lost h)))
+    (three.lost h ∙ ap (list_without c.side-3.result.0) (two.lost h ∙ ap (list_without c.side-2.result.0) (one.lost h)))

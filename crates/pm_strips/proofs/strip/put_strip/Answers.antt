@@ -6,7 +6,7 @@ use Rattle.pm_forest.specs.Fronts.{set_of}
 use Rattle.pm_forest.specs.Faces.{face_count}
 use Rattle.pm_forest.proofs.Flags.{set_of-clear}
 use Rattle.pm_strips.specs.Strips.{entered, first_side}
-use Rattle.pm_strips.specs.Shown.{beyond_in, node_at}
+use Rattle.pm_strips.specs.Shown.{beyond_in, node_of_corner}
 use Rattle.pm_strips.specs.Texts.{first_text, entered_text, line_end}
 use Rattle.pm_strips.proofs.ShownLaws.{there-parts}
 use Rattle.pm_strips.proofs.Entering.{strip_text, strip_left}
@@ -22,9 +22,9 @@ returns-in_err-put_begin-clause-puts g c =
     let e = c.first_side-first.result.0 in
     let low : f < length items = omega (arith, (there-parts h T f c.requires.there).0, c.requires.len) in
     let first = c.first_side-first.ensures.value ∙ ap (λ (l : List Bool). first_side (beyond_in h T) (set_of l) f) c.deref.ensures.value in
-    let text = strip_text (beyond_in h T) (face_count h) (set_of items) (set_of (slice_set items f false)) f e (next e) (set_of-clear items f low) first refl (node_at h T) in
-    let rest = entered_text (node_at h T) (entered (beyond_in h T) (face_count h) (set_of (slice_set items f false)) true (next e)) in
-    rw (p.1, p.2) (through_same g.K.Sink _ _ _ _ _ _ _ (sym text) (through_stops g.K.Sink _ _ _ _ _ line_end _ (through_stops g.K.Sink _ _ _ _ (first_text (node_at h T) e) rest _ c.in_err-put_begin.ensures)))
+    let text = strip_text (beyond_in h T) (face_count h) (set_of items) (set_of (slice_set items f false)) f e (next e) (set_of-clear items f low) first refl (node_of_corner h T) in
+    let rest = entered_text (node_of_corner h T) (entered (beyond_in h T) (face_count h) (set_of (slice_set items f false)) true (next e)) in
+    rw (p.1, p.2) (through_same g.K.Sink _ _ _ _ _ _ _ (sym text) (through_stops g.K.Sink _ _ _ _ _ line_end _ (through_stops g.K.Sink _ _ _ _ (first_text (node_of_corner h T) e) rest _ c.in_err-put_begin.ensures)))
 
 pub returns-in_err-put_entered-clause-puts : goal.returns-in_err-put_entered-clause-puts
 returns-in_err-put_entered-clause-puts g c =
@@ -36,9 +36,9 @@ returns-in_err-put_entered-clause-puts g c =
     let e = c.first_side-first.result.0 in
     let low : f < length items = omega (arith, (there-parts h T f c.requires.there).0, c.requires.len) in
     let first = c.first_side-first.ensures.value ∙ ap (λ (l : List Bool). first_side (beyond_in h T) (set_of l) f) c.deref.ensures.value in
-    let text = strip_text (beyond_in h T) (face_count h) (set_of items) (set_of (slice_set items f false)) f e c.next.result.0 (set_of-clear items f low) first c.next.ensures.value (node_at h T) in
+    let text = strip_text (beyond_in h T) (face_count h) (set_of items) (set_of (slice_set items f false)) f e c.next.result.0 (set_of-clear items f low) first c.next.ensures.value (node_of_corner h T) in
     rw (p.1, p.2) (through_same g.K.Sink _ _ _ _ _ _ _ (sym text)
-    (through_stops g.K.Sink _ _ _ _ _ line_end _ (through_then g.K.Sink _ _ _ _ _ _ (first_text (node_at h T) e) _ _ _ c.in_ok-put_begin.ensures c.in_err-put_entered.ensures.puts)))
+    (through_stops g.K.Sink _ _ _ _ _ line_end _ (through_then g.K.Sink _ _ _ _ _ _ (first_text (node_of_corner h T) e) _ _ _ c.in_ok-put_begin.ensures c.in_err-put_entered.ensures.puts)))
 
 pub returns-in_err-add-clause-puts : goal.returns-in_err-add-clause-puts
 returns-in_err-add-clause-puts g c =
@@ -50,7 +50,7 @@ returns-in_err-add-clause-puts g c =
     let e = c.first_side-first.result.0 in
     let low : f < length items = omega (arith, (there-parts h T f c.requires.there).0, c.requires.len) in
     let first = c.first_side-first.ensures.value ∙ ap (λ (l : List Bool). first_side (beyond_in h T) (set_of l) f) c.deref.ensures.value in
-    let text = strip_text (beyond_in h T) (face_count h) (set_of items) (set_of (slice_set items f false)) f e c.next.result.0 (set_of-clear items f low) first c.next.ensures.value (node_at h T) in
+    let text = strip_text (beyond_in h T) (face_count h) (set_of items) (set_of (slice_set items f false)) f e c.next.result.0 (set_of-clear items f low) first c.next.ensures.value (node_of_corner h T) in
     let both = through_then g.K.Sink _ _ _ _ _ _ _ _ _ _ c.in_ok-put_begin.ensures c.in_ok-put_entered.ensures.puts in
     rw (p.1, p.2) (through_same g.K.Sink _ _ _ _ _ _ _ (sym text) (through_then g.K.Sink _ _ _ _ _ _ _ line_end _ _ both c.in_err-add.ensures.puts))
 
@@ -63,7 +63,7 @@ returns-clause-puts g c =
     let e = c.first_side-first.result.0 in
     let low : f < length items = omega (arith, (there-parts h T f c.requires.there).0, c.requires.len) in
     let first = c.first_side-first.ensures.value ∙ ap (λ (l : List Bool). first_side (beyond_in h T) (set_of l) f) c.deref.ensures.value in
-    let text = strip_text (beyond_in h T) (face_count h) (set_of items) (set_of (slice_set items f false)) f e c.next.result.0 (set_of-clear items f low) first c.next.ensures.value (node_at h T) in
+    let text = strip_text (beyond_in h T) (face_count h) (set_of items) (set_of (slice_set items f false)) f e c.next.result.0 (set_of-clear items f low) first c.next.ensures.value (node_of_corner h T) in
     let both = through_then g.K.Sink _ _ _ _ _ _ _ _ _ _ c.in_ok-put_begin.ensures c.in_ok-put_entered.ensures.puts in
     through_same g.K.Sink _ _ _ _ _ _ _ (sym text) (through_then g.K.Sink _ _ _ _ _ _ _ line_end _ _ both c.in_ok-add.ensures.puts)
 

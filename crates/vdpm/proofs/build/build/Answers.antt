@@ -3,7 +3,7 @@ use Rattle.std.proofs.lemmas.Result.{err_from_is_err_and}
 use Rattle.pm_format.specs.Stream.{stream}
 use Rattle.vdpm.specs.declared.words.Asked.TheVariants as asked
 use Rattle.vdpm.specs.Build.{IsBuilt}
-use Rattle.vdpm.specs.Ran.{whole}
+use Rattle.vdpm.specs.Ran.{whole_output}
 use Rattle.vdpm.proofs.OutcomeLaws.{ends_stopped, counts_stopped, ends_all, ends_part, follows_done}
 use Rattle.vdpm.proofs.BuildLaws.{gives_back}
 use Rattle.vdpm.proofs.FrameLaws.{shows_surfaces}
@@ -12,7 +12,7 @@ use Rattle.vdpm.proofs.build.build.Goals as goal
 pub returns-in_err-h-clause-ends : goal.returns-in_err-h-clause-ends
 returns-in_err-h-clause-ends g c =
     let p = err_from_is_err_and c.from_residual.result c.from_residual.ensures.1 in
-    rw (p.1, p.2) (ends_stopped (asked.Build c.args.target c.args.digits) (IsBuilt c.args.target c.args.digits) (λ h. whole (stream c.args.digits h)) (λ x. refl) (λ taken. refl) (λ bytes all is. is) (λ bytes all is. is) c.in_err-h.field-0.0 _ _ _ _ _ c.in_err-h.ensures.err)
+    rw (p.1, p.2) (ends_stopped (asked.Build c.args.target c.args.digits) (IsBuilt c.args.target c.args.digits) (λ h. whole_output (stream c.args.digits h)) (λ x. refl) (λ taken. refl) (λ bytes all is. is) (λ bytes all is. is) c.in_err-h.field-0.0 _ _ _ _ _ c.in_err-h.ensures.err)
 
 pub returns-in_err-h-clause-counts : goal.returns-in_err-h-clause-counts
 returns-in_err-h-clause-counts g c =
@@ -21,7 +21,7 @@ returns-in_err-h-clause-counts g c =
 
 pub returns-clause-ends : goal.returns-clause-ends
 returns-clause-ends g c =
-    ends_all (asked.Build c.args.target c.args.digits) _ _ _ (whole (stream c.args.digits c.in_ok-h.h)) None (follows_done (IsBuilt c.args.target c.args.digits) (λ h. whole (stream c.args.digits h)) _ c.in_ok-h.h None c.in_ok-h.ensures.built) refl c.in_ok-encode.ensures.ok
+    ends_all (asked.Build c.args.target c.args.digits) _ _ _ (whole_output (stream c.args.digits c.in_ok-h.h)) None (follows_done (IsBuilt c.args.target c.args.digits) (λ h. whole_output (stream c.args.digits h)) _ c.in_ok-h.h None c.in_ok-h.ensures.built) refl c.in_ok-encode.ensures.ok
 
 pub returns-clause-gives_back : goal.returns-clause-gives_back
 returns-clause-gives_back g c =
@@ -34,4 +34,4 @@ pub returns-in_err-encode-clause-ends : goal.returns-in_err-encode-clause-ends
 returns-in_err-encode-clause-ends g c =
     let p = err_from_is_err_and c.from_residual-in_err-encode.result c.from_residual-in_err-encode.ensures.1 in
     rw (p.1, p.2)
-    (ends_part (asked.Build c.args.target c.args.digits) _ _ _ (whole (stream c.args.digits c.in_ok-h.h)) (follows_done (IsBuilt c.args.target c.args.digits) (λ h. whole (stream c.args.digits h)) _ c.in_ok-h.h None c.in_ok-h.ensures.built) c.in_err-encode.ensures.err)
+    (ends_part (asked.Build c.args.target c.args.digits) _ _ _ (whole_output (stream c.args.digits c.in_ok-h.h)) (follows_done (IsBuilt c.args.target c.args.digits) (λ h. whole_output (stream c.args.digits h)) _ c.in_ok-h.h None c.in_ok-h.ensures.built) c.in_err-encode.ensures.err)

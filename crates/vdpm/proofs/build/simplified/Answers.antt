@@ -1,7 +1,7 @@
 use Rattle.std.proofs.Common.{◌≡◌, ◌∙◌, IfOk, sym, subst}
 use Rattle.pm_base.specs.Meshes.{Mesh, mesh_of}
 use Rattle.pm_forest.specs.Meshes.{input_mesh_of}
-use Rattle.pm_runs.specs.Runs.{IsStart, IsRunTo}
+use Rattle.pm_runs.specs.Runs.{IsStartOfRun, IsRunTo}
 use Rattle.pm_runs.proofs.LeastRuns.{run-to-run}
 use Rattle.vdpm.proofs.BuildLaws.{run_simplifies}
 use Rattle.vdpm.proofs.build.simplified.Goals as goal
@@ -9,8 +9,8 @@ use Rattle.vdpm.proofs.build.simplified.Goals as goal
 pub from_log-requires-clause-start : goal.from_log-requires-clause-start
 from_log-requires-clause-start c =
     let same : mesh_of c.in_ok-mesh.mesh ≡ c.args.surface = c.in_ok-mesh.ensures ∙ c.mesh.ensures in
-    let start : IsStart c.args.surface = record { formed = c.invariant.ensures.formed; manifold = c.invariant.ensures.manifold } in
-    subst (λ (m : Mesh). IsStart m) (sym same) start
+    let start : IsStartOfRun c.args.surface = record { formed = c.invariant.ensures.formed; manifold = c.invariant.ensures.manifold } in
+    subst (λ (m : Mesh). IsStartOfRun m) (sym same) start
 
 pub from_log-requires-clause-run : goal.from_log-requires-clause-run
 from_log-requires-clause-run c =

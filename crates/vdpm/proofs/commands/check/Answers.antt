@@ -3,7 +3,7 @@ use Rattle.std.proofs.lemmas.Result.{err_from_is_err_and}
 use Rattle.pm_io.specs.Bytes.{Gains, GainsPart}
 use Rattle.vdpm.specs.declared.words.Asked.TheVariants as asked
 use Rattle.vdpm.specs.Beginning.{IsHierarchyText}
-use Rattle.vdpm.specs.Ran.{whole}
+use Rattle.vdpm.specs.Ran.{whole_output}
 use Rattle.vdpm.specs.Outcome.{counts_line}
 use Rattle.vdpm.proofs.OutcomeLaws.{ends_stopped, counts_stopped, ends_all, ends_part, follows_done}
 use Rattle.vdpm.proofs.commands.check.Goals as goal
@@ -11,7 +11,7 @@ use Rattle.vdpm.proofs.commands.check.Goals as goal
 pub returns-in_err-stream-clause-ends : goal.returns-in_err-stream-clause-ends
 returns-in_err-stream-clause-ends g c =
     let p = err_from_is_err_and c.from_residual.result c.from_residual.ensures.1 in
-    rw (p.1, p.2) (ends_stopped asked.Check IsHierarchyText (λ o. whole (counts_line o.h)) (λ x. refl) (λ taken. refl) (λ bytes all is. is) (λ bytes all is. is) c.in_err-stream.field-0.0 _ _ _ _ _ c.in_err-stream.ensures.err)
+    rw (p.1, p.2) (ends_stopped asked.Check IsHierarchyText (λ o. whole_output (counts_line o.h)) (λ x. refl) (λ taken. refl) (λ bytes all is. is) (λ bytes all is. is) c.in_err-stream.field-0.0 _ _ _ _ _ c.in_err-stream.ensures.err)
 
 pub returns-in_err-stream-clause-counts : goal.returns-in_err-stream-clause-counts
 returns-in_err-stream-clause-counts g c =
@@ -20,14 +20,14 @@ returns-in_err-stream-clause-counts g c =
 
 pub returns-clause-ends : goal.returns-clause-ends
 returns-clause-ends g c =
-    ends_all asked.Check _ _ _ (whole (counts_line c.in_ok-stream.stream.h)) None (follows_done IsHierarchyText (λ o. whole (counts_line o.h)) _ (record { digits = c.in_ok-stream.stream.digits; h = c.in_ok-stream.stream.h; rest = [] }) None c.in_ok-stream.ensures.read) refl
+    ends_all asked.Check _ _ _ (whole_output (counts_line c.in_ok-stream.stream.h)) None (follows_done IsHierarchyText (λ o. whole_output (counts_line o.h)) _ (record { digits = c.in_ok-stream.stream.digits; h = c.in_ok-stream.stream.h; rest = [] }) None c.in_ok-stream.ensures.read) refl
     (subst (λ (l : List _). Gains (g.K.Sink.got c.args.out.now) (g.K.Sink.got c.put_all.new.out) l) (c.as_slice.ensures ∙ c.put_counts.ensures) c.in_ok-put_all.ensures.ok)
 
 pub returns-in_err-put_all-clause-ends : goal.returns-in_err-put_all-clause-ends
 returns-in_err-put_all-clause-ends g c =
     let p = err_from_is_err_and c.from_residual-in_err-put_all.result c.from_residual-in_err-put_all.ensures.1 in
     rw (p.1, p.2)
-    (ends_part asked.Check _ _ _ (whole (counts_line c.in_ok-stream.stream.h)) (follows_done IsHierarchyText (λ o. whole (counts_line o.h)) _ (record { digits = c.in_ok-stream.stream.digits; h = c.in_ok-stream.stream.h; rest = [] }) None c.in_ok-stream.ensures.read)
+    (ends_part asked.Check _ _ _ (whole_output (counts_line c.in_ok-stream.stream.h)) (follows_done IsHierarchyText (λ o. whole_output (counts_line o.h)) _ (record { digits = c.in_ok-stream.stream.digits; h = c.in_ok-stream.stream.h; rest = [] }) None c.in_ok-stream.ensures.read)
     (subst (λ (l : List _). GainsPart (g.K.Sink.got c.args.out.now) (g.K.Sink.got c.put_all.new.out) l) (c.as_slice.ensures ∙ c.put_counts.ensures) c.in_err-put_all.ensures.err))
 
 pub returns-in_err-put_all-clause-counts : goal.returns-in_err-put_all-clause-counts

@@ -1,6 +1,6 @@
 use Rattle.std.proofs.Common.{sym, subst}
 use Rattle.pm_base.specs.Meshes.{Mesh, mesh_of}
-use Rattle.pm_runs.specs.Runs.{IsStart}
+use Rattle.pm_runs.specs.Runs.{IsStartOfRun}
 use Rattle.vdpm.specs.Surface.{side_twice, no_fan}
 use Rattle.vdpm.proofs.SurfaceLaws.{line_refuses, mesh_refuses, mesh_stands, surface_unreached}
 use Rattle.vdpm.proofs.surface.read_surface.Goals as goal
@@ -19,8 +19,8 @@ returns-in-Ok-of-clause-surface g c =
 
 pub returns-in-Ok-of-clause-start : goal.returns-in-Ok-of-clause-start
 returns-in-Ok-of-clause-start g c =
-    let start : IsStart (mesh_of c.in-Ok.mesh) = record { formed = c.in-Ok.ensures.mesh; manifold = c.in-Ok-of.ensures.manifold } in
-    subst (λ (m : Mesh). IsStart m) (sym c.in-Ok-of.ensures.mesh) start
+    let start : IsStartOfRun (mesh_of c.in-Ok.mesh) = record { formed = c.in-Ok.ensures.mesh; manifold = c.in-Ok-of.ensures.manifold } in
+    subst (λ (m : Mesh). IsStartOfRun m) (sym c.in-Ok-of.ensures.mesh) start
 
 pub returns-in-Err-EdgeTwice-clause-err : goal.returns-in-Err-EdgeTwice-clause-err
 returns-in-Err-EdgeTwice-clause-err g c =

@@ -1,7 +1,7 @@
 use Rattle.std.proofs.Common.{◌≡◌, ◌+◌, ◌<◌, ◌∷◌, List, Bool, true, false, set, length, sym, ◌∙◌, subst, arith}
 use Rattle.pm_links.specs.Lists.{has}
 use Rattle.pm_sets.proofs.FlagLaws.{few_members}
-use Rattle.pm_front.specs.Members.{Members, AreNumbersOf, AreMembers, members_of}
+use Rattle.pm_front.specs.Members.{Members, AreSameNumbers, AreMembers, members_of}
 use Rattle.pm_front.proofs.FlagLaws.{has-flagged, members_more, put_in}
 use Rattle.pm_front.proofs.members.Members.insert.Goals as goal
 
@@ -21,5 +21,5 @@ pub returns-clause-list : goal.returns-clause-list
 returns-clause-list c =
     let numbers = c.self.inside.numbers in
     let below = subst (λ (m : Members). c.args.number < m.bound) (sym c.self.view_is) c.requires.below in
-    subst (λ (l : List Bool). AreNumbersOf (members_of l) (c.args.number ∷ c.args.self.now.list)) (sym c.insert.ensures)
-    (subst (λ (m : Members). AreNumbersOf (members_of (set numbers c.args.number true)) (c.args.number ∷ m.list)) c.self.view_is (put_in numbers c.args.number below))
+    subst (λ (l : List Bool). AreSameNumbers (members_of l) (c.args.number ∷ c.args.self.now.list)) (sym c.insert.ensures)
+    (subst (λ (m : Members). AreSameNumbers (members_of (set numbers c.args.number true)) (c.args.number ∷ m.list)) c.self.view_is (put_in numbers c.args.number below))

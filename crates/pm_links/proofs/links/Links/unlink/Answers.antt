@@ -3,7 +3,7 @@ use Rattle.std.proofs.lemmas.List.{with_items_is}
 use Rattle.std.specs.Vec.{with_items}
 use Rattle.pm_links.specs.declared.links.TheConstants.{FREE}
 use Rattle.pm_links.specs.Arena.{IsArena, lists_of}
-use Rattle.pm_links.specs.Lists.{without}
+use Rattle.pm_links.specs.Lists.{list_without}
 use Rattle.pm_links.proofs.Outside.{before_in, after_in, low_head}
 use Rattle.pm_links.proofs.Unlinked.{unlinked}
 use Rattle.pm_links.proofs.Walks.{closed, seen, sound}
@@ -27,7 +27,7 @@ made : (c : goal.After-self-3-1) → IsArena c.self.inside.items c.self.inside.h
     (with_items c.self.inside.next c.cut_out.new.next).items
     (with_items c.self.inside.prev c.cut_out.new.prev).items
     (set c.self.inside.owner.items c.args.item FREE)
-    (map (without c.args.item) (lists_of c.self.inside.items c.self.inside.heads c.self.inside.next.items))
+    (map (list_without c.args.item) (lists_of c.self.inside.items c.self.inside.heads c.self.inside.next.items))
 made c =
     let a = c.self.invariant in
     let held = rw (← c.self.view_is) at c.requires in

@@ -1,6 +1,6 @@
 use Rattle.std.proofs.Common.{◌<◌, [], length, ◌∙◌, arith}
 use Rattle.std.proofs.lemmas.List.{get_or_read}
-use Rattle.pm_queue.specs.Heap.{key_of}
+use Rattle.pm_queue.specs.Heap.{item_key_of}
 use Rattle.pm_queue.proofs.EntryTables.{empty_at_none}
 use Rattle.pm_queue.proofs.QueueTables.{least_of_tables}
 use Rattle.pm_queue.proofs.queue.Queue.least.Goals as goal
@@ -18,4 +18,4 @@ returns-clause-some c =
     rw (← c.self.view_is)
     (least_of_tables c.self.inside.keys.items c.self.inside.heap.items c.self.inside.place.items c.self.inside.len i pos c.index.result.now c.key.result
     (get_or_read c.self.inside.heap.items 0 _ inner c.index.ensures 0)
-    (c.key.ensures ∙ get_or_read c.self.inside.keys.items 0 _ keyed c.index-2.ensures (key_of [] 0)))
+    (c.key.ensures ∙ get_or_read c.self.inside.keys.items 0 _ keyed c.index-2.ensures (item_key_of [] 0)))

@@ -3,7 +3,7 @@ use Rattle.std.proofs.lemmas.List.{length-map}
 use Rattle.pm_base.specs.declared.mesh.Corners.{Corners}
 use Rattle.pm_base.specs.Meshes.{Mesh, mesh_of}
 use Rattle.pm_runs.specs.Surfaces.{surface_of}
-use Rattle.pm_runs.specs.Runs.{IsStart}
+use Rattle.pm_runs.specs.Runs.{IsStartOfRun}
 use Rattle.pm_shrink.specs.Shrinking.{Shrinking}
 use Rattle.pm_shrink.specs.Tables.{side_from, shrinking_with}
 use Rattle.pm_shrink.proofs.FollowingLaws.{start_after}
@@ -37,7 +37,7 @@ returns-clause-quadrics c = search rules
 pub returns-clause-after : goal.returns-clause-after
 returns-clause-after c =
     let m : Mesh = mesh_of c.args.mesh in
-    let start : IsStart m = record { formed = c.requires.formed; manifold = c.requires.manifold } in
+    let start : IsStartOfRun m = record { formed = c.requires.formed; manifold = c.requires.manifold } in
     let faces : c.in_ok-faces.faces.items ≡ map Some m.faces = c.in_ok-faces.ensures ∙ ap (map Some) c.as_slice-triples.ensures in
     let places : c.in_ok-places.places.items ≡ roomy_places m = rw c.as_slice-points.ensures at c.in_ok-places.ensures in
     let new : Shrinking = shrinking_with c.in_ok-faces.faces.items c.in_ok-places.places.items (length c.as_slice-points.result.now) c.in_ok-quadrics.quadrics.items c.in_ok-corners.corners in
