@@ -16,7 +16,7 @@ use Rattle.pm_beyond.specs.Walks.{IsOuter, Beyond, beyond_of, expected}
 use Rattle.pm_beyond.specs.Valid.{IsValid}
 use Rattle.pm_beyond.specs.Moves.{IsClosed, MaySplit}
 use Rattle.pm_beyond.proofs.Across.{across-face, across-outer, across-is_outer, across-differs}
-use Rattle.pm_beyond.proofs.Reaching.{kept_at_side, back, Beyond-unique}
+use Rattle.pm_beyond.proofs.Reaching.{kept_at_side, Beyond-unique}
 use Rattle.pm_beyond.proofs.Neighbours.{expected-lt}
 use Rattle.pm_beyond.proofs.Standing.{forest_of, closed-front}
 use Rattle.pm_beyond.proofs.Closed.{four_faces}

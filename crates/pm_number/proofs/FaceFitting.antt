@@ -10,7 +10,7 @@ use Rattle.pm_base.specs.declared.ids.Side.{Side}
 use Rattle.pm_forest.specs.declared.parts.Face.{Face}
 use Rattle.pm_forest.specs.declared.parts.NewFace.{NewFace}
 use Rattle.pm_forest.specs.declared.parts.Record.{Record}
-use Rattle.pm_forest.specs.Forest.{Hierarchy, record_at, record_count, no_record, leaf_count, s_of, t_of, u_of, holds, interval_of, Interval, HasForestShape}
+use Rattle.pm_forest.specs.Forest.{Hierarchy, record_at, record_count, no_record, leaf_count, s_of, t_of, u_of, holds, interval_of, HasForestShape}
 use Rattle.pm_forest.specs.Faces.{no_face_corners, face_in, faces_in, faces_of, first_face, face_count, revealed_by, is_left, corners_of, from_leaf, to_leaf, inner_of}
 use Rattle.pm_forest.specs.Moves.{side_in, neighbours_in, neighbours_of}
 use Rattle.pm_forest.specs.Rules.{face_inputs, face_input_is_bad, base_fault, runs, new_face_is_bad, new_face_fault, bare, left_only, with_record, word_of, past_from, past_fault}

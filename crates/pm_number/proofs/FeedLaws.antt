@@ -1,5 +1,5 @@
 -- What a shaper has taken in of the hierarchy of a run, one unit more at a time.
-use Rattle.std.proofs.Common.{suc, ◌≡◌, ℕ, ◌+◌, ◌-◌, ◌*◌, ◌<◌, ◌⊎◌, eqb, true, false, cond, not, List, [], ◌∷◌, ◌++◌, length, get_or, take, Option, None, Some, Ok, Err, Result, is_some, inl, inr, refl, sym, ap, ◌∙◌, subst, arith}
+use Rattle.std.proofs.Common.{suc, ◌≡◌, ℕ, ◌+◌, ◌*◌, ◌<◌, ◌⊎◌, eqb, true, false, cond, not, List, [], ◌∷◌, ◌++◌, length, get_or, take, Option, None, Some, Ok, Err, Result, is_some, inl, inr, refl, sym, ap, ◌∙◌, subst, arith}
 use Rattle.std.specs.Prelude.{ℤ, IfErr, OnOk, IfSome}
 use Rattle.std.proofs.lemmas.Bool.{lt-ltb, le-ltb}
 use Rattle.std.proofs.lemmas.Option.{none-some}
