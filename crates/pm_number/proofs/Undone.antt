@@ -1,5 +1,6 @@
 -- A hierarchy that undoes collapses is valid: what stands across a side in the mesh shown is what stands beyond it.
 use Rattle.std.proofs.Common.{zero, suc, ◌≡◌, ◌≢◌, ℕ, ◌+◌, ◌-◌, ◌*◌, ◌<◌, ◌≤◌, true, Option, Some, None, ◌⊎◌, inl, inr, refl, sym, ap, ◌∙◌, subst, arith}
+use Rattle.std.proofs.Math.Nat.{lt-suc_self}
 use Rattle.std.proofs.lemmas.Bool.{cases_Bool, lt-ltb, both_ways}
 use Rattle.std.proofs.lemmas.Option.{none-some, same_Some}
 use Rattle.pm_base.proofs.Search.{option_cases}
@@ -37,9 +38,6 @@ use Rattle.pm_runs.proofs.Apart.{once_after, no_mirror_after}
 use Rattle.pm_runs.proofs.Sides.{across-twin, twin-across}
 use Rattle.pm_runs.specs.Merged.{IsProper, StandsAcross, merged}
 use Rattle.pm_runs.specs.Pairs.{Links}
-
-lt_next : (k : ℕ) → k < suc k
-lt_next k = omega arith
 
 moved-same : (r : Option ℕ) → side_moved (λ e. e) r ≡ r
 moved-same None = refl
@@ -115,7 +113,7 @@ module _ (h : Hierarchy) (un : UndoesCollapses h) where
     step = shown-step h un.shape k l
 
     shown_k : (e : ℕ) → record_of h e ≡ Some k → is_shown h (below (suc k)) e ≡ true
-    shown_k e r = shown_record h (below (suc k)) e k r ∙ lt-ltb k (suc k) (lt_next k)
+    shown_k e r = shown_record h (below (suc k)) e k r ∙ lt-ltb k (suc k) (lt-suc_self k)
 
     standing : (e : ℕ) → e < 3 * face_count h → record_of h e ≡ Some k → Beyond h (below (suc k)) e (expected h e)
     standing e b r = upper.beyond e (expected h e) b (shown_k e r) (un.recorded e k b r)
@@ -205,7 +203,7 @@ module _ (h : Hierarchy) (un : UndoesCollapses h) where
   as_told : (e k : ℕ) → e < 3 * face_count h → record_of h e ≡ Some k → Beyond h (below (suc k)) e (expected h e)
   as_told e k l r =
       let b = record-lt h e k l r in
-      (across-is_beyond (suc k) b).beyond e (expected h e) l (shown_record h (below (suc k)) e k r ∙ lt-ltb k (suc k) (lt_next k)) (un.recorded e k l r)
+      (across-is_beyond (suc k) b).beyond e (expected h e) l (shown_record h (below (suc k)) e k r ∙ lt-ltb k (suc k) (lt-suc_self k)) (un.recorded e k l r)
 
   pub valid : HasShape h → IsValid h
   valid shape = record {
