@@ -9,7 +9,7 @@ ghost use Rattle.pm_beyond.specs.Moves.{is_at, needs};
 ghost use Rattle.pm_refine.specs.Holding.{Joins};
 ghost use Rattle.pm_refine.specs.Marks.{reveals_any};
 
-use pm_base::{FaceId, NodeId, Side};
+use pm_base::{NodeId, Side};
 use pm_forest::Hierarchy;
 
 // Marks a record, if there is one.
@@ -32,8 +32,8 @@ fn mark_revealer(h: &Hierarchy, marks: &mut Vec<bool>, side: Option<Side>)
     ensures marked { Joins (set_of marks.old.items) (set_of marks.new.items)
         (reveals_any h.now (side_in side)) }
 {
-    if let Some(Side(e)) = side {
-        mark(marks, h.revealed_by(FaceId(e / 3)));
+    if let Some(side) = side {
+        mark(marks, h.revealed_by(side.face()));
     }
 }
 

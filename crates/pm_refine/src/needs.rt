@@ -9,7 +9,7 @@ ghost use Rattle.pm_beyond.specs.Moves.{is_at, needs};
 ghost use Rattle.pm_refine.specs.Holding.{Joins};
 ghost use Rattle.pm_refine.specs.Marks.{reveals_any};
 
-use pm_base::{FaceId, NodeId, Side};
+use pm_base::{NodeId, Side};
 use pm_forest::Hierarchy;
 use pm_sets::NumberSet;
 
@@ -33,8 +33,8 @@ fn push_revealer(h: &Hierarchy, work: &mut NumberSet, side: Option<Side>)
     ensures joined { Joins (set_of work.old) (set_of work.new)
         (reveals_any h.now (side_in side)) }
 {
-    if let Some(Side(e)) = side {
-        push(work, h.revealed_by(FaceId(e / 3)));
+    if let Some(side) = side {
+        push(work, h.revealed_by(side.face()));
     }
 }
 
