@@ -17,7 +17,7 @@ use Rattle.pm_beyond.specs.Valid.{IsValid}
 use Rattle.pm_beyond.specs.Moves.{outer_sides, needs, split_fault, collapse_fault}
 use Rattle.pm_beyond.specs.Targets.{taken_after, target_of}
 use Rattle.pm_beyond.specs.Plans.{Split, Collapse, ascending, descending, plan}
-use Rattle.pm_beyond.proofs.Checked.{no_side_twice, all_told, valid-from}
+use Rattle.pm_beyond.proofs.Checked.{no_side_twice, all_told}
 
 abbrev at : ℤ → ℤ → ℤ → Place
 at x y z = record { x = x; y = y; z = z }
@@ -61,16 +61,6 @@ octahedron_with p = record {
 abbrev pub octahedron : Hierarchy
 octahedron = octahedron_with 1
 
-has_shape : HasShape octahedron
-unfolding counts_are_bad vertex_input_is_bad face_input_is_bad width_is_bad root_fault base_is_bad base_fault split_is_bad head_is_bad children_fault head_fault runs new_face_is_bad new_face_fault record_fault past_fault s_of splitter_of interval_after faces_of first_face revealed_after
-has_shape = record {
-  counts = refl;
-  roots = (refl, (refl, (refl, (refl, tt))));
-  bases = (refl, (refl, (refl, (refl, tt))));
-  records = (refl, (refl, tt));
-  inputs = refl;
-}
-
 once : no_side_twice octahedron ≡ true
 unfolding from_leaf next corners_of is_left revealed_after first_face
 once = refl
@@ -79,19 +69,10 @@ told : all_told octahedron ≡ true
 unfolding beyond_of walk way_out is_shown across stands twin_of expected mate_of inner_of holds interval_after s_of from_leaf next corners_of is_left revealed_after first_face
 told = refl
 
--- It is valid.
-pub octahedron_valid : IsValid octahedron
-octahedron_valid = valid-from octahedron has_shape once told
-
 -- With another recorded neighbour a record isn't as told.
 damaged : all_told (octahedron_with 0) ≡ false
 unfolding beyond_of walk way_out is_shown across stands twin_of expected mate_of inner_of holds interval_after s_of from_leaf next corners_of is_left revealed_after first_face
 damaged = refl
-
--- A split before its time is blocked by the first face that isn't kept.
-forbidden : split_fault octahedron (below 0) 1 ≡ Some (faults.Blocked (record { 0 = 4 }))
-unfolding split_fault is_active is_kept ancestor_after holds interval_after s_of splitter_of from_leaf next corners_of is_left revealed_after first_face
-forbidden = refl
 
 in_order : split_fault octahedron (below 0) 0 ≡ None
 unfolding split_fault is_active is_kept ancestor_after holds interval_after s_of splitter_of from_leaf next corners_of is_left revealed_after first_face
@@ -114,10 +95,6 @@ unsplit = refl
 needed : map (λ k. needs octahedron 1 k) (0 ∷ 1 ∷ []) ≡ true ∷ false ∷ []
 unfolding needs outer_sides expected mate_of inner_of holds interval_after s_of from_leaf next corners_of is_left revealed_after first_face
 needed = refl
-
-planned : plan octahedron (below 0) (target_of octahedron (λ v. eqb v 2)) ≡ Split 0 ∷ Split 1 ∷ []
-unfolding plan ascending descending taken_after needs outer_sides expected mate_of inner_of holds interval_after s_of from_leaf next corners_of is_left revealed_after first_face
-planned = refl
 
 undone : plan octahedron (below 2) (target_of octahedron (λ v. eqb v 3)) ≡ Collapse 1 ∷ []
 unfolding plan ascending descending taken_after needs outer_sides expected mate_of inner_of holds interval_after s_of from_leaf next corners_of is_left revealed_after first_face

@@ -39,29 +39,6 @@ module _ (glued old heads : List (Option ℕ)) (least side : ℕ) (w : WalksBack
   has_left : HasLeft glued heads least side
   has_left = elim w.began [ inl s ↦ absurd (met (ap (twin_in_table heads) at_least ∙ s.bare)) | inr r ↦ r ]
 
-  pub back_ends : AreHeaded glued heads
-  back_ends = record {
-    long = w.long;
-    led = λ e h k. elim (cases_eq h least) [
-      | inl is ↦ subst (λ i. Leads glued i e) (at_least ∙ sym is) (w.near e (k ∙ ap Some is))
-      | inr other ↦ w.led e h k other
-    ];
-    own = w.own;
-    on = λ e g h f k. elim (cases_eq e least) [
-      | inl is ↦
-          let v : h ≡ least = one_value k (ap (twin_in_table heads) is ∙ has_left.began) in
-          has_left.after g (ap (λ i. twin_in_table glued (prev i)) (at_least ∙ sym is) ∙ f) ∙ ap Some (sym v)
-      | inr other ↦ w.on e g h f k other
-    ];
-    back = λ e g h f k. elim (cases_eq e side) [
-      | inl is ↦
-          let v : h ≡ least = one_value k (has_left.after g (ap (λ i. twin_in_table glued (prev i)) (sym is) ∙ f)) in
-          ap (twin_in_table heads) (is ∙ at_least) ∙ has_left.began ∙ ap Some (sym v)
-      | inr other ↦ w.back e g h f k other
-    ];
-    kind = w.kind;
-  }
-
 module _ (glued old heads : List (Option ℕ)) (least side twin : ℕ) (p : AreGluedInPairs glued) (earlier : (k : ℕ) → k < least → HasHead old k) (w : WalksBack glued old heads least side) (bare : twin_in_table heads side ≡ None) (pair : twin_in_table glued side ≡ Some twin) where
   low : side < length heads
   low = subst (λ n. side < n) (sym w.long) w.in_range

@@ -30,18 +30,6 @@ pushed xs y d i l =
     ]
 
 module _ (m : Net) (glued heads : List (Option ℕ)) (n : ℕ) (xs : List ℕ) (c : AreCollected m glued heads n xs) where
-  pub collected_none : (twin_in_table heads n ≡ Some n → ⊥) → AreCollected m glued heads (n + 1) xs
-  collected_none not = record {
-    few = let few = c.few in omega arith;
-    each = c.each;
-    low = λ i l. let low = c.low i l in omega arith;
-    all = λ e l h. elim (cases_eq e n) [
-      | inl same ↦ absurd (not (subst (λ i. twin_in_table heads i ≡ Some i) same h))
-      | inr other ↦ c.all e (omega arith) h
-    ];
-    apart = c.apart;
-  }
-
   module _ (few : n < 4194304) (own : twin_in_table heads n ≡ Some n) where
     k : ℕ
     k = order_key m glued n
@@ -110,16 +98,6 @@ keys_sorted m glued heads xs ys c perm sorted =
 
 -- Keys of different heads have different sides.
 module _ (m : Net) (glued heads : List (Option ℕ)) (keys : List ℕ) (h : AreHeadKeys m glued heads keys) where
-  pub key_in : (i : ℕ) → i < length keys → side_of_key (slice_index keys i) < length heads
-  key_in i l = in_table heads (side_of_key (slice_index keys i)) (side_of_key (slice_index keys i)) (h.each i l).own
-
-  pub keys_apart : (i j : ℕ) → i < j → j < length keys → side_of_key (slice_index keys i) ≡ side_of_key (slice_index keys j) → ⊥
-  keys_apart i j ij jl same =
-      let il : i < length keys = omega arith in
-      let e : slice_index keys i ≡ slice_index keys j = (h.each i il).is ∙ ap (order_key m glued) same ∙ sym (h.each j jl).is in
-      let less = h.ascend i j ij jl in
-      absurd (omega (arith, e))
-
   -- The key at a head's place.
   module _ (places : List ℕ) (p : AreKeyPlaces keys places (length heads) (length keys)) (few : length heads ≤ 3145728) where
     pub place_of : (e : ℕ) → twin_in_table heads e ≡ Some e → (slice_index places e < length keys) × (slice_index keys (slice_index places e) ≡ order_key m glued e)

@@ -38,11 +38,6 @@ Reader X = List X → List ℕ → Result (X × List ℕ) Stop
 -- Units in a row
 
 module _ {X : Type 0} (read : Reader X) (count i : ℕ) (before : List X) (ws : List ℕ) where
-  units_go_on : (u : X × List ℕ) → i < count → read before ws ≡ Ok u →
-      units_at read (count - i) before ws ≡ units_at read (count - (i + 1)) (before ++ u.0 ∷ []) u.1
-  unfolding units_at
-  units_go_on u lt is = let k : count - i ≡ suc (count - (i + 1)) = omega arith in rw (k, is) refl
-
   pub units_stop : (e : Stop) → i < count → read before ws ≡ Err e → units_at read (count - i) before ws ≡ Err e
   unfolding units_at
   units_stop e lt is = let k : count - i ≡ suc (count - (i + 1)) = omega arith in rw (k, is) refl

@@ -51,9 +51,6 @@ module _ (h : Hierarchy) (tree : IsForest h) (T : ℕ → Bool) (front : IsFront
     abbrev After : ℕ → ℕ → Type 0
     After v e = (e < 3 * face_count h) × (is_shown h (without T k) e ≡ true) × (ancestor_of h (without T k) (from_leaf h e) ≡ v)
 
-    s_differs : (v : ℕ) → Makes h k v → v ≢ s_of h k
-    s_differs v made is = let o = tree.forest.older k k_lt in elim made [ inl a ↦ absurd (omega arith) | inr a ↦ absurd (omega arith) ]
-
     -- the leaf of a corner is below s exactly where its ancestor is t or u
     below-s : (x : ℕ) → x < leaf_count h → Makes h k (ancestor_of h T x) → Holds h (s_of h k) x
     below-s x l made =

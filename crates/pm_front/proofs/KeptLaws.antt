@@ -15,12 +15,6 @@ use Rattle.pm_sides.proofs.RecordSides.{corner_of-record, record-corner_of}
 
 -- ---- how many numbers pass a test
 
-pub count-all : (p : ℕ → Bool) (n : ℕ) → ((x : ℕ) → x < n → p x ≡ true) → length (filter p (numbers_below n)) ≡ n
-count-all p zero all = omega arith
-count-all p (suc n) all =
-    let at : n + 1 ≡ suc n = omega arith in
-    ap (λ m. length (filter p (numbers_below m))) (sym at) ∙ count_next p n (all n (omega arith)) ∙ ap (λ m. m + 1) (count-all p n (λ x l. all x (omega arith))) ∙ at
-
 pub count-few : (p : ℕ → Bool) (n : ℕ) → length (filter p (numbers_below n)) ≤ n
 count-few p zero = omega arith
 count-few p (suc n) =

@@ -36,9 +36,6 @@ module _ (h : Hierarchy) where
       let rest = below_alike A B k n (λ i l. same i (omega arith)) in
       omega (arith, below_more A k n, below_more B k n, here, rest)
 
-  pub need_count-alike : (A B : ℕ → Bool) (k : ℕ) → ((i : ℕ) → i < record_count h → A i ≡ B i) → need_count h A k ≡ need_count h B k
-  need_count-alike A B k same = below_alike A B k (record_count h) same
-
   -- No record's count is above five times the number of records.
   below_most : (T : ℕ → Bool) (k n : ℕ) → named_below h T k n ≤ 5 * n
   below_most T k zero = omega (arith, below_none T k)
@@ -78,9 +75,6 @@ module _ (h : Hierarchy) where
   pub unneeded-count : (T : ℕ → Bool) (k : ℕ) → need_count h T k ≡ 0 → is_needed h T k ≡ false
   unneeded-count T k e = uncounted-below T k (record_count h) (omega arith) e
 
-  pub need_count-zero : (T : ℕ → Bool) (k : ℕ) → need_count h T k ≡ 0 ↔ (is_needed h T k ≡ false)
-  need_count-zero T k = (unneeded-count T k, need_count-unneeded T k)
-
   -- as a test.
   pub zero_test : (T : ℕ → Bool) (k : ℕ) → eqb (need_count h T k) 0 ≡ not (is_needed h T k)
   zero_test T k = elim (cases_Bool (is_needed h T k)) [
@@ -104,9 +98,6 @@ module _ (h : Hierarchy) where
 
     pub remaining-same : is_needed h (remaining S F) k ≡ false → need_count h F k ≡ need_count h S k
     remaining-same e = omega (arith, need_count-parts, need_count-unneeded (remaining S F) k e)
-
-    pub need_count-remaining : (need_count h F k ≡ need_count h S k) ↔ (is_needed h (remaining S F) k ≡ false)
-    need_count-remaining = (remaining-unneeded, remaining-same)
 
     -- as a test.
     pub remaining_test : eqb (need_count h F k) (need_count h S k) ≡ not (is_needed h (remaining S F) k)

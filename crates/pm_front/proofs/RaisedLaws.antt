@@ -1,8 +1,7 @@
 -- Counts of names that go up, name after name.
-use Rattle.std.proofs.Common.{◌≡◌, ℕ, zero, suc, ◌+◌, ◌<◌, ◌≤◌, ◌^◌, cond, List, [], ◌∷◌, length, take, get_or, Option, None, Some, IfSome, refl, ap, ◌∙◌, subst, arith}
+use Rattle.std.proofs.Common.{◌≡◌, ℕ, zero, suc, ◌+◌, ◌<◌, ◌≤◌, ◌^◌, cond, List, [], ◌∷◌, length, take, get_or, Option, None, Some, IfSome, refl, ap, ◌∙◌, arith}
 use Rattle.std.specs.List.{All}
 use Rattle.std.proofs.lemmas.Bool.{cond-true, eq-eqb}
-use Rattle.std.proofs.lemmas.List.{take_all}
 use Rattle.std.proofs.lemmas.List.Filters.{length-filter_more}
 use Rattle.pm_beyond.specs.Moves.{is_at}
 use Rattle.pm_front.specs.Needed.{times_in, AreRaised}
@@ -15,29 +14,9 @@ times_taken k (name ∷ names) zero l = omega (arith, passing_more (is_at k) nam
 times_taken k (name ∷ names) (suc i) l =
     omega (arith, passing_more (is_at k) name names, passing_more (is_at k) name (take i names), times_taken k names i (omega arith))
 
--- One list of names after another.
-pub raised_after : (a b c : List ℕ) (xs ys zs : List (Option ℕ)) → AreRaised a b xs → AreRaised b c ys → ((k : ℕ) → times_in k zs ≡ times_in k xs + times_in k ys) → AreRaised a c zs
-raised_after a b c xs ys zs first second all = record {
-  len = second.len ∙ first.len;
-  each = λ k l. omega (arith, first.each k l, second.each k (omega (arith, first.len)), all k);
-}
-
-pub raised_none : (a : List ℕ) → AreRaised a a []
-raised_none a = record { len = refl; each = λ k l. omega arith }
-
 module _ (names : List (Option ℕ)) (i : ℕ) (l : i < length names) where
   pub one_more : (k : ℕ) → times_in k (take (i + 1) names) ≡ times_in k (take i names) + times_in k (get_or names i None ∷ [])
   one_more k = omega (arith, length-filter_more (is_at k) names i None l, passing_more (is_at k) (get_or names i None) [])
-
-  pub raised_more : (old now new : List ℕ) → AreRaised old now (take i names) → AreRaised now new (get_or names i None ∷ []) → AreRaised old new (take (i + 1) names)
-  raised_more old now new before here = raised_after old now new (take i names) (get_or names i None ∷ []) (take (i + 1) names) before here one_more
-
-  pub lowered_more : (old now new : List ℕ) → AreRaised now old (take i names) → AreRaised new now (get_or names i None ∷ []) → AreRaised new old (take (i + 1) names)
-  lowered_more old now new before here =
-      raised_after new now old (get_or names i None ∷ []) (take i names) (take (i + 1) names) here before (λ k. omega (arith, one_more k))
-
-pub raised_all : (old new : List ℕ) (names : List (Option ℕ)) (i : ℕ) → length names ≤ i → AreRaised old new (take i names) → AreRaised old new names
-raised_all old new names i l raised = subst (AreRaised old new) (take_all i names l) raised
 
 -- There is room for the next name, and it was counted.
 if_some : (P Q : ℕ → Type 0) (o : Option ℕ) → ((k : ℕ) → o ≡ Some k → P k → Q k) → IfSome o P → IfSome o Q

@@ -1,9 +1,9 @@
 -- The records that wait for a split, once a record is split or collapsed, and in the base front.
-use Rattle.std.proofs.Common.{◌≡◌, ℕ, ◌+◌, ◌<◌, eqb, ltb, Bool, true, false, not, ◌&&◌, ◌||◌, cond, List, length, replicate, Option, None, Some, inl, inr, refl, sym, ap, ◌∙◌, arith}
+use Rattle.std.proofs.Common.{◌≡◌, ℕ, ◌+◌, ◌<◌, eqb, ltb, Bool, true, false, not, ◌&&◌, ◌||◌, cond, List, length, Option, None, Some, inl, inr, refl, sym, ap, ◌∙◌, arith}
 use Rattle.std.proofs.Math.Bool.{and-true}
 use Rattle.std.proofs.Math.ListN.{set, length-set}
-use Rattle.std.proofs.lemmas.Bool.{cases_eq, or_cases, or_left, or_right, and_from, and_right, not_from_true, not_from_false, both_ways, false_from_ne_true, eq-eqb, ne_eqb, eqb-true, lt-ltb, ltb-true, le-ltb, cond-true, cond-false}
-use Rattle.std.proofs.lemmas.List.{length-replicate, get_or-replicate, get_or-set_other}
+use Rattle.std.proofs.lemmas.Bool.{cases_eq, or_cases, or_left, or_right, and_from, and_right, not_from_true, not_from_false, both_ways, false_from_ne_true, eq-eqb, ne_eqb, eqb-true, lt-ltb, ltb-true, cond-true, cond-false}
+use Rattle.std.proofs.lemmas.List.{get_or-set_other}
 use Rattle.std.proofs.lemmas.Grind.{get_or-set_at}
 use Rattle.pm_forest.specs.Forest.{Hierarchy, record_count, s_of, t_of, u_of, maker_of, splitter_of}
 use Rattle.pm_forest.specs.Fronts.{with, without, no_records, made_in, split_in, is_active}
@@ -165,13 +165,6 @@ module _ (h : Hierarchy) (shape : HasShape h) where
                       ∙ sym (tries (without T k) j j_lt)
                 ];
           }
-
-  -- The base front: the records that split a root wait.
-  pub roots_none : AreAnswers h (λ k. ltb (s_of h k) 0) (replicate (record_count h) false)
-  roots_none = record {
-    len = length-replicate (record_count h) false;
-    each = λ k k_lt. get_or-replicate (record_count h) k false false k_lt ∙ sym (le-ltb (s_of h k) 0 (omega arith));
-  }
 
   pub roots_more : (root : ℕ) (a b : List Bool) → AreAnswers h (λ k. ltb (s_of h k) root) a → AreAdded a b (λ k. is_at k (splitter_of h root)) →
       AreAnswers h (λ k. ltb (s_of h k) (root + 1)) b

@@ -95,10 +95,3 @@ line_through_part line xs i x old mid new p q lt is so_far part =
 pub lines_through : {X : Type 0} (line : X → List ℕ) (xs : List X) (i : ℕ) (old new : Option (List ℕ)) (p q : List ℕ) → length xs ≤ i
     → GainsThrough old new p q (flat_map line (take i xs)) → GainsThrough old new p q (flat_map line xs)
 lines_through line xs i old new p q le all = subst (λ (l : List _). GainsThrough old new p q (flat_map line l)) (take_all i xs le) all
-
--- The page was empty at first.
-pub from_empty : (old new : Option (List ℕ)) (p text : List ℕ) → p ≡ [] → Gains old new (p ++ text) → Gains old new text
-from_empty old new p text none all = subst (λ (l : List ℕ). Gains old new (l ++ text)) none all
-
-pub from_empty_part : (old new : Option (List ℕ)) (p text : List ℕ) → p ≡ [] → GainsPart old new (p ++ text) → GainsPart old new text
-from_empty_part old new p text none part = subst (λ (l : List ℕ). GainsPart old new (l ++ text)) none part

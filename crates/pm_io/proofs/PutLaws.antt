@@ -30,25 +30,6 @@ cause_of_err before now e cause = record {
   failed = cause.failed;
 }
 
--- The text was put.
-pub puts_done : {K T E : Type 0} (k : sink.Ghosts K) (before now : K) (text : List ℕ) (v : T)
-    → Gains (k.got before) (k.got now) text → k.faults now ≡ k.faults before → Puts {E = E} k before now text (Ok v)
-puts_done k before now text v gained same = record {
-  ok = gained;
-  err = tt;
-  cause = no_cause _ _ v same;
-}
-
--- The sink failed, where it hadn't before `mid`.
-pub puts_failed : {K T U E : Type 0} (k : sink.Ghosts K) (before mid now : K) (text : List ℕ) (e : E)
-    → GainsPart (k.got before) (k.got now) text → k.faults mid ≡ k.faults before → HasCause {T = T} (k.faults mid) (k.faults now) (Err e)
-    → Puts {T = U} k before now text (Err e)
-puts_failed k before mid now text e part same cause = record {
-  ok = tt;
-  err = part;
-  cause = cause_after _ _ _ (Err e) same (cause_of_err _ _ e cause);
-}
-
 -- The same through a page.
 pub through_done : {K T E : Type 0} (k : sink.Ghosts K) (before now : K) (held holds text : List ℕ) (v : T)
     → GainsThrough (k.got before) (k.got now) held holds text → k.faults now ≡ k.faults before

@@ -1,11 +1,11 @@
 -- Laws for callers: the list of each head after a call, and which items are then held or free. Each takes
 -- the call's clause as it stands.
 use Rattle.std.proofs.Common.{◌≡◌, ◌≢◌, ◌↔◌, ℕ, ◌<◌, ◌≤◌, Option, Some, None, true, eqb, List, [], ◌∷◌, ◌++◌, length, sym, ap, ◌∙◌, subst, ⊎_elim, get_or-set_other, get_or-set_same, length-set}
-use Rattle.std.proofs.lemmas.List.{length-map, ext_get_or, get_or_past}
+use Rattle.std.proofs.lemmas.List.{length-map, get_or_past}
 use Rattle.std.proofs.lemmas.Option.{none-some}
-use Rattle.std.proofs.lemmas.Bool.{or_from, or_left, or_right, cases_lt, cases_eq, ne_eqb, false≢true, false_from_ne_true}
+use Rattle.std.proofs.lemmas.Bool.{or_from, cases_lt, cases_eq, ne_eqb, false≢true, false_from_ne_true}
 use Rattle.pm_links.specs.Lists.{Lists, IsHeld, IsFree, IsSound, list_of, has, list_without, with_list, with_first, with_moved, without_item}
-use Rattle.pm_links.proofs.Members.{has_head, has_tail, has-append}
+use Rattle.pm_links.proofs.Members.{has_tail}
 use Rattle.pm_links.proofs.Without.{without_none, has-without, has-without_same, get_without}
 
 -- ---- lists of a value
@@ -26,14 +26,6 @@ list_of-with_list_same v h xs l = get_or-set_same v.lists h xs [] l
 pub list_of-with_list_other : (v : Lists) (h g : ℕ) (xs : List ℕ) → g ≢ h →
     list_of (with_list v h xs) g ≡ list_of v g
 list_of-with_list_other v h g xs ne = get_or-set_other v.lists h g xs [] ne
-
--- two values with as many items and the same list at each head are one
-pub same_from_list_of : (v w : Lists) → v.items ≡ w.items → length v.lists ≡ length w.lists →
-    ((h : ℕ) → list_of v h ≡ list_of w h) → v ≡ w
-same_from_list_of v w items heads lists =
-    let lists_are : v.lists ≡ w.lists = ext_get_or [] v.lists w.lists heads (λ i lt. lists i) in
-    ap (λ (k : List (List ℕ)). let u : Lists = record { items = v.items; lists = k } in u) lists_are
-    ∙ ap (λ (k : ℕ). let u : Lists = record { items = k; lists = w.lists } in u) items
 
 -- ---- head_of
 
@@ -69,12 +61,6 @@ module _ {v w : Lists} {head item : ℕ} (a : AfterPush v w head item) where
       (has_tail item (list_of v head) x (subst (λ (k : ℕ). has (list_of v k) x ≡ true) e i))))
       (λ ne. ap (λ k. has k x) (a.others h ne) ∙ i)
       (cases_eq h head)
-
-  pub held-push : (x : ℕ) → IsHeld v x → IsHeld w x
-  held-push x i = (i.0, has-push i.0 x i.1)
-
-  pub held-push_same : IsHeld w item
-  held-push_same = (head, ap (λ k. has k item) a.gained ∙ has_head item (list_of v head))
 
   -- another item stays free
   pub free-push : (x : ℕ) → item ≢ x → IsFree v x → IsFree w x
@@ -115,9 +101,6 @@ module _ {v w : Lists} {item : ℕ} (a : AfterUnlink v w item) where
   pub has-unlink : (h x : ℕ) → x ≢ item → has (list_of w h) x ≡ has (list_of v h) x
   has-unlink h x ne = ap (λ k. has k x) (a.lost h) ∙ has-without item (list_of v h) x ne
 
-  pub free-unlink : (x : ℕ) → x ≢ item → IsFree v x → IsFree w x
-  free-unlink x ne f h = has-unlink h x ne ∙ f h
-
   pub held-unlink : (x : ℕ) → x ≢ item → IsHeld v x → IsHeld w x
   held-unlink x ne i = (i.0, has-unlink i.0 x ne ∙ i.1)
 
@@ -145,36 +128,3 @@ after_move v w from to fl tl ne e =
       items = ap (λ k. k.items) e;
       heads = ap (λ k. length k.lists) e ∙ length-set m.lists from [] ∙ len;
     }
-
-module _ {v w : Lists} {from to : ℕ} (a : AfterMove v w from to) where
-  -- an item is in the list of `to`, or in that of its own head
-  pub held-move : (x : ℕ) → IsHeld v x → IsHeld w x
-  held-move x i =
-      ⊎_elim
-      (λ (e : i.0 ≡ from). (
-        to,
-        ap (λ k. has k x) a.gained ∙ has-append (list_of v from) (list_of v to) x
-            ∙ or_left (has (list_of v from) x) (has (list_of v to) x)
-            (subst (λ (k : ℕ). has (list_of v k) x ≡ true) e i.1),
-      ))
-      (λ nf. ⊎_elim
-      (λ (e : i.0 ≡ to). (
-        to,
-        ap (λ k. has k x) a.gained ∙ has-append (list_of v from) (list_of v to) x
-            ∙ or_right (has (list_of v from) x) (has (list_of v to) x)
-            (subst (λ (k : ℕ). has (list_of v k) x ≡ true) e i.1),
-      ))
-      (λ nt. (i.0, ap (λ k. has k x) (a.others i.0 nf nt) ∙ i.1))
-      (cases_eq i.0 to))
-      (cases_eq i.0 from)
-
-  pub free-move : (x : ℕ) → IsFree v x → IsFree w x
-  free-move x f h =
-      ⊎_elim
-      (λ (e : h ≡ from). rw e (ap (λ k. has k x) a.emptied))
-      (λ nf. ⊎_elim
-      (λ (e : h ≡ to). rw e (ap (λ k. has k x) a.gained ∙ has-append (list_of v from) (list_of v to) x
-      ∙ or_from (has (list_of v from) x) (has (list_of v to) x) (f from) (f to)))
-      (λ nt. ap (λ k. has k x) (a.others h nf nt) ∙ f h)
-      (cases_eq h to))
-      (cases_eq h from)

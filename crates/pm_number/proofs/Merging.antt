@@ -35,10 +35,6 @@ module _ (m : Mesh) (log : List Collapse) (start : IsStartOfRun m) (run : IsRun 
   abbrev surface : ℕ → Surface
   surface i = surface_after m (take i log)
 
-  entry-is : (i : ℕ) → entry_at (run_of m log) i ≡ get_or log i no_collapse
-  unfolding entry_at
-  entry-is i = refl
-
   pub step-at : (i : ℕ) → i < length log → IsStep (surface_after m (take i log)) (entry_at (run_of m log) i)
   unfolding entry_at
   step-at i l = run-step m log run i no_collapse l

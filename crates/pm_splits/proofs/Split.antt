@@ -95,9 +95,6 @@ module _ (n : Net) (t u s : ℕ) (beyond : ℕ → Option ℕ) (h : IsSplit n t 
   pub new_prev : (p q w : ℕ) → AreEnds t u p q → (f : IsPairAt n p q w) → Stands merged_net (prev f.side) → ⊥
   new_prev p q w k f = new_gone (prev f.side) (record { p = p; q = q; w = w; are_ends = k; face = f; which = inr (inr refl) })
 
-  pub new_inner : (p q w : ℕ) → AreEnds t u p q → (f : IsPairAt n p q w) → Stands merged_net f.side → ⊥
-  new_inner p q w k f = new_gone f.side (record { p = p; q = q; w = w; are_ends = k; face = f; which = inl refl })
-
   abbrev pub renamed_face : (a b c a' b' c' : ℕ) → IsPairAt n a b c → a ≡ a' → b ≡ b' → c ≡ c' → IsPairAt n a' b' c'
   renamed_face a b c a' b' c' f x y z = record { side = f.side; stands = f.stands; at = f.at ∙ x; one = f.one ∙ y; two = f.two ∙ z }
 
