@@ -9,9 +9,9 @@ use std::marker::Model;
 /// A point of the whole-number grid. Each coordinate is from -32,767 to 32,767, which the type keeps.
 #[derive(Clone, Copy, Debug, PartialEq, Eq)]
 pub struct Point {
-    x: i32,
-    y: i32,
-    z: i32,
+    x: i16,
+    y: i16,
+    z: i16,
 }
 
 impl Model for Point {
@@ -43,7 +43,11 @@ impl Point {
         ensures none { IfNone result (is_place (record { x = x; y = y; z = z }) ≡ false) }
     {
         if is_coordinate(x) && is_coordinate(y) && is_coordinate(z) {
-            Some(Point { x, y, z })
+            Some(Point {
+                x: x as i16,
+                y: y as i16,
+                z: z as i16,
+            })
         } else {
             None
         }
@@ -53,20 +57,20 @@ impl Point {
         ensures value { result ≡ self.now.x }
         ensures in_range { IsPlace self.now }
     {
-        self.x
+        i32::from(self.x)
     }
 
     pub fn y(&self) -> i32
         ensures value { result ≡ self.now.y }
         ensures in_range { IsPlace self.now }
     {
-        self.y
+        i32::from(self.y)
     }
 
     pub fn z(&self) -> i32
         ensures value { result ≡ self.now.z }
         ensures in_range { IsPlace self.now }
     {
-        self.z
+        i32::from(self.z)
     }
 }
