@@ -19,4 +19,4 @@ pub use log::{Collapse, Gone, Log};
 pub use mesh::{Corners, Mesh, Triples};
 pub use normal::{Normal, cross, dot};
 pub use point::{Point, Points};
-pub use side_map::SideMap;
+pub use side_map::{OptionalSide, SideMap};

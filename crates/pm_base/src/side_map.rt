@@ -10,13 +10,13 @@ use std::marker::Model;
 // Stands in a place for no side. No side has this number, since it is past `MOST_SIDES`.
 const NONE: u32 = u32::MAX;
 
-// A side or none in four bytes, where an `Option<Side>` takes eight. Contracts see the option.
+/// A side or none in four bytes, where an `Option<Side>` takes eight. Contracts see the number of the side, or none.
 #[derive(Clone, Copy)]
-struct Slot {
+pub struct OptionalSide {
     number: u32,
 }
 
-impl Model for Slot {
+impl Model for OptionalSide {
     ghost use Rattle.std.specs.Prelude.{ℕ, Option, None, Some, cond, ◌==◌, unwrap_or};
     ghost use Rattle.pm_base.specs.declared.side_map.TheConstants.{NONE};
 
@@ -27,18 +27,20 @@ impl Model for Slot {
     ghost inverse = { λ o. record { number = unwrap_or o NONE } };
 }
 
-impl Slot {
-    fn of(side: Option<Side>) -> Slot
+impl OptionalSide {
+    /// The same in four bytes. The side is one of a mesh.
+    pub fn of(side: Option<Side>) -> OptionalSide
         requires { IfSome side (λ s. s.0 < MOST_SIDES) }
         ensures { result ≡ option_map (λ s. s.0) side }
     {
         match side {
-            None => Slot { number: NONE },
-            Some(side) => Slot { number: side.0 },
+            None => OptionalSide { number: NONE },
+            Some(side) => OptionalSide { number: side.0 },
         }
     }
 
-    fn side(&self) -> Option<Side>
+    /// The side, if there is one.
+    pub fn side(&self) -> Option<Side>
         ensures { option_map (λ s. s.0) result ≡ self.now }
     {
         if self.number == NONE {
@@ -53,7 +55,7 @@ impl Slot {
 /// for each.
 #[derive(Drop)]
 pub struct SideMap {
-    others: Vec<Slot>,
+    others: Vec<OptionalSide>,
 }
 
 impl Model for SideMap {
@@ -73,7 +75,7 @@ impl SideMap {
         requires { sides ≤ MOST_SIDES }
         ensures { IfOk result (λ m. m ≡ replicate sides None) }
     {
-        let others = vec![in alloc; Slot::of(None); sides as usize]?;
+        let others = vec![in alloc; OptionalSide::of(None); sides as usize]?;
         Ok(SideMap { others })
     }
 
@@ -99,6 +101,6 @@ impl SideMap {
         requires small { IfSome other (λ s. s.0 < MOST_SIDES) }
         ensures { self.new ≡ slice_set self.old side.0 (option_map (λ s. s.0) other) }
     {
-        self.others[side.0 as usize] = Slot::of(other);
+        self.others[side.0 as usize] = OptionalSide::of(other);
     }
 }
