@@ -1,6 +1,7 @@
 -- Laws on the keys of a queue's items, and on how many have one, for those who hold a queue.
-use Rattle.std.proofs.Common.{◌≡◌, ◌≢◌, ℕ, ◌+◌, ◌<◌, ◌≤◌, Option, Some, None, [], ◌∷◌, length, set, replicate, sym, refl, ap, ◌∙◌, ⊎_elim, arith, get_or-set_other, get_or-set_same, length-set, ◌⊎◌, inl, inr, zero, suc}
-use Rattle.std.proofs.lemmas.Bool.{cases_eq, cases_lt}
+use Rattle.std.proofs.Common.{◌≡◌, ◌≢◌, ℕ, ◌+◌, ◌<◌, ◌≤◌, Option, Some, None, false, [], ◌∷◌, length, set, replicate, sym, refl, ap, ◌∙◌, ⊎_elim, arith, get_or-set_other, get_or-set_same, length-set, ◌⊎◌, inl, inr, zero, suc}
+use Rattle.std.specs.Option.{is_some}
+use Rattle.std.proofs.lemmas.Bool.{cases_eq, cases_lt, false≢true}
 use Rattle.std.proofs.lemmas.List.{get_or_past}
 use Rattle.std.proofs.lemmas.Option.{none-some}
 use Rattle.pm_queue.specs.declared.key.Key.{Key}
@@ -40,6 +41,10 @@ key_at-set m i o j l e =
     (cases_lt i (length m)))
     (λ other. inr (sym (key_at-set_other m i j o other) ∙ e))
     (cases_eq j i)
+
+pub no_key : (o : Option Key) → is_some o ≡ false → o ≡ None
+no_key None e = refl
+no_key (Some k) e = absurd (false≢true (sym e))
 
 -- taking a key away from an item that has none changes nothing
 pub set-absent : (m : Entries) (i : ℕ) → key_at m i ≡ None → set m i None ≡ m

@@ -2,7 +2,8 @@
 //! stands.
 //!
 //! The tables of items and of places are inverse to each other, over all items at all times, so one
-//! exchange is the only write that they need.
+//! exchange is the only write that they need. Keys are kept for the first places alone, those of
+//! the items that have one.
 
 ghost use Rattle.std.specs.Prelude.{◌≡◌, ℕ, ◌<◌, List, length, slice_index, slice_set, IfOk};
 ghost use Rattle.pm_queue.specs.declared.key.Key.{Key};
@@ -25,8 +26,8 @@ pub(crate) fn identity(alloc: Global, len: u32) -> Result<Vec<u32>, OutOfMemory>
     Ok(numbers)
 }
 
-// Puts the items at places `p` and `q` in each other's place.
-fn exchange_items(heap: &mut [u32], place: &mut [u32], p: u32, q: u32)
+/// Puts the items at places `p` and `q` in each other's place. Their keys stay where they are.
+pub(crate) fn exchange_items(heap: &mut [u32], place: &mut [u32], p: u32, q: u32)
     requires places { IsPlaces (length heap.old) heap.old place.old }
     requires p_in { p < length heap.old }
     requires q_in { q < length heap.old }
@@ -59,10 +60,11 @@ pub(crate) fn exchange(heap: &mut [u32], place: &mut [u32], keys: &mut [Slot], p
     ghost item_keys: { List Key }
     requires places { IsPlaces (length item_keys) heap.old place.old }
     requires keyed { IsKeyed item_keys heap.old keys.old }
-    requires p_in { p < length item_keys }
-    requires q_in { q < length item_keys }
+    requires p_in { p < length keys.old }
+    requires q_in { q < length keys.old }
     ensures places { IsPlaces (length item_keys) heap.new place.new }
     ensures keyed { IsKeyed item_keys heap.new keys.new }
+    ensures keys_len { length keys.new ≡ length keys.old }
     ensures heap { IsSwapped heap.old heap.new p q }
     ensures place { (i : ℕ) → i < length item_keys
         → slice_index place.new i ≡ place_moved p q (slice_index place.old i) }

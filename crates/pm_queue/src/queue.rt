@@ -22,27 +22,25 @@ const _: () = prove!(ITEM_LIMIT == 4_194_304);
 /// Contracts see a list with an optional key for each item.
 #[derive(Drop)]
 pub struct Queue {
-    // The item at each place. Those that have a key stand in the first `len` places.
+    // The item at each place. Those that have a key stand in the first places.
     heap: Vec<u32>,
     // The place of each item.
     place: Vec<u32>,
-    // The key of the item at each place, beside the keys that it is compared with; no meaning where
-    // the item has none.
+    // The key of the item at each of the first places, beside the keys that it is compared with.
+    // The list has room for the key of each item, which is touched only as keys come.
     keys: Vec<Slot>,
-    len: u32,
 }
 
 impl Model for Queue {
-    ghost use Rattle.std.specs.Prelude.{length};
+    ghost use Rattle.std.specs.Prelude.{vec_capacity};
     ghost use Rattle.pm_queue.specs.Entries.{Entries};
-    ghost use Rattle.pm_queue.specs.Heap.{keys_of};
     ghost use Rattle.pm_queue.specs.Viewed.{entries, IsIndexedHeap};
 
     ghost Value = { Entries };
 
-    ghost view = { λ q. entries (length q.keys.items) (keys_of q.keys.items q.place.items) q.place.items q.len };
+    ghost view = { λ q. entries q.keys.items q.place.items };
 
-    ghost invariant = { λ q. IsIndexedHeap q.keys.items q.heap.items q.place.items q.len };
+    ghost invariant = { λ q. IsIndexedHeap q.keys.items (vec_capacity q.keys) q.heap.items q.place.items };
 }
 
 impl Queue {
@@ -57,18 +55,8 @@ impl Queue {
     {
         let heap = identity(alloc, n)?;
         let place = identity(alloc, n)?;
-        let unset = Slot::of(Key {
-            cost: 0,
-            a: 0,
-            b: 0,
-        });
-        let keys = vec![in alloc; unset; n as usize]?;
-        Ok(Queue {
-            heap,
-            place,
-            keys,
-            len: 0,
-        })
+        let keys = Vec::with_capacity(alloc, n as usize)?;
+        Ok(Queue { heap, place, keys })
     }
 
     /// Gives `item` the key, in place of any that it has. O(log n) time.
@@ -77,15 +65,7 @@ impl Queue {
         ensures replaced { self.new ≡ slice_set self.old item (Some key) }
     {
         let slot = Slot::of(key);
-        let at = self.place[item as usize];
-        self.keys[at as usize] = slot;
-        self.len = place_item(
-            &mut self.heap,
-            &mut self.place,
-            &mut self.keys,
-            self.len,
-            item,
-        );
+        place_item(&mut self.heap, &mut self.place, &mut self.keys, item, slot);
     }
 
     /// Whether `item` has a key. O(1) time.
@@ -93,7 +73,7 @@ impl Queue {
         requires in_range { item < length self.now }
         ensures { result ≡ is_some (key_at self.now item) }
     {
-        self.place[item as usize] < self.len
+        (self.place[item as usize] as usize) < self.keys.len()
     }
 
     /// Takes the key of `item` away, and says whether it had one. O(log n) time.
@@ -103,14 +83,8 @@ impl Queue {
         ensures taken { self.new ≡ slice_set self.old item None }
         ensures unchanged { result ≡ false → self.new ≡ self.old }
     {
-        let had = self.place[item as usize] < self.len;
-        self.len = drop_item(
-            &mut self.heap,
-            &mut self.place,
-            &mut self.keys,
-            self.len,
-            item,
-        );
+        let had = self.has(item);
+        drop_item(&mut self.heap, &mut self.place, &mut self.keys, item);
         had
     }
 
@@ -119,7 +93,7 @@ impl Queue {
         ensures some { IfSome result (IsLeast self.now) }
         ensures none { IfNone result (IsEmpty self.now) }
     {
-        if self.len == 0 {
+        if self.keys.is_empty() {
             return None;
         }
         Some((self.heap[0], self.keys[0].key()))

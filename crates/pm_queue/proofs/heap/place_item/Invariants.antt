@@ -1,10 +1,7 @@
 use Rattle.pm_queue.proofs.heap.place_item.Given as goal
 
-abbrev pub ghost-exchange : goal.ghost-exchange
-ghost-exchange g a = g.item_keys
-
 abbrev pub ghost-restore : goal.ghost-restore
-ghost-restore g a = g.item_keys
+ghost-restore g a = g.item_keys.after
 
 abbrev pub ghost-sift_up : goal.ghost-sift_up
-ghost-sift_up g a = g.item_keys
+ghost-sift_up g a = g.item_keys.after

@@ -1,8 +1,6 @@
-use Rattle.std.proofs.Common.{◌<◌, length, arith, sym}
+use Rattle.std.proofs.Common.{arith, sym, ◌∙◌}
 use Rattle.std.proofs.lemmas.List.{get_or_read}
-use Rattle.pm_queue.specs.Heap.{keys_of}
 use Rattle.pm_queue.proofs.EntryTables.{length-entries, is_some-key_at}
-use Rattle.pm_queue.proofs.PlacedKeys.{length-keys_of}
 use Rattle.pm_queue.proofs.queue.Queue.has.Goals as goal
 
 pub index-requires : goal.index-requires
@@ -12,9 +10,8 @@ index-requires c =
 
 pub returns : goal.returns
 returns c =
+    let inside = c.self.inside in
     let low = rw (← c.self.view_is, length-entries) at c.requires.in_range in
-    let inner : c.args.item < length c.self.inside.place.items = omega arith in
-    let read = get_or_read c.self.inside.place.items c.args.item _ inner c.index.ensures 0 in
-    rw (← c.self.view_is, read)
-    (sym (is_some-key_at _ (keys_of c.self.inside.keys.items c.self.inside.place.items) c.self.inside.place.items c.self.inside.len
-    c.args.item (length-keys_of c.self.inside.keys.items c.self.inside.place.items) low))
+    let read = get_or_read inside.place.items c.args.item _ low c.index.ensures 0 in
+    rw (← c.self.view_is, read, c.len.ensures ∙ inside.keys.ok.0)
+    (sym (is_some-key_at inside.keys.items inside.place.items c.args.item low))
