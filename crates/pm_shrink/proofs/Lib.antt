@@ -1,6 +1,7 @@
 pub mod AllFaces
 pub mod PlaceTables
 mod PlaneTotals
+mod FaceTables
 mod CornerTables
 mod Started
 mod FanLaws

@@ -1,18 +1,22 @@
 -- What a `Shrink` holds before the first collapse.
 use Rattle.std.proofs.Common.{◌≡◌, ℕ, ◌-◌, ◌*◌, ◌<◌, ◌≤◌, cond, List, [], ◌∷◌, ◌++◌, length, map, take, get_or, Option, Some, None, inl, inr, refl, sym, ap, ◌∙◌, subst, arith}
-use Rattle.std.specs.Prelude.{is_some}
+use Rattle.std.specs.Prelude.{is_some, IfSome}
 use Rattle.std.specs.List.{count_by}
 use Rattle.std.proofs.Math.ListN.{replicate}
 use Rattle.std.proofs.Math.Seq.{take-append_seam}
 use Rattle.std.proofs.lemmas.List.{length-map, length-append, length-replicate, get_or-append_right, get_or-replicate, get_or_past}
 use Rattle.std.proofs.lemmas.List.Sums.{sum_by-cons}
 use Rattle.std.proofs.lemmas.Bool.{cases_lt}
+use Rattle.std.proofs.lemmas.Option.{none-some}
+use Rattle.pm_base.specs.declared.limits.TheConstants.{MOST_FACES, MOST_SIDES}
 use Rattle.pm_base.specs.Place.{Place}
 use Rattle.pm_base.specs.declared.mesh.Corners.{Corners}
 use Rattle.pm_base.specs.Meshes.{Mesh, IsWellFormed}
-use Rattle.pm_base.specs.Sides.{Net, Stands, net_of, twin_of}
+use Rattle.pm_base.specs.Sides.{Net, side_count, Stands, net_of, twin_of}
 use Rattle.pm_base.specs.Fans.{IsOrientedManifold}
 use Rattle.pm_base.proofs.NetLaws.{mesh_side}
+use Rattle.pm_base.proofs.Search.{option_cases}
+use Rattle.pm_base.proofs.TwinLaws.{twin-is}
 use Rattle.pm_links.specs.Lists.{Lists, IsSound}
 use Rattle.pm_twins.specs.Table.{Table, AreTwinsOf, IsTableOf}
 use Rattle.pm_quadric.specs.Sums.{Sums, sums_of, zero_sums}
@@ -68,6 +72,17 @@ record AreTwins (n : Net) (twins : List (Option ℕ)) : Type 0 where
 
 twins_there : (n : Net) (twins : List (Option ℕ)) → AreTwinsOf n twins → AreTwins n twins
 twins_there n twins are = record { sides = are.sides; each = λ e stands. are.each e stands.is_side }
+
+-- Each side in the table is one of the net.
+pub twins_low : (n : Net) (twins : List (Option ℕ)) → AreTwinsOf n twins → n.faces ≤ MOST_FACES → (e : ℕ) → IfSome (get_or twins e None) (λ g. g < MOST_SIDES)
+twins_low n twins are few e =
+    elim (option_cases (get_or twins e None)) [
+      | inl none ↦ subst (λ (o : Option ℕ). IfSome o (λ g. g < MOST_SIDES)) (sym none) tt
+      | inr (g, is) ↦
+          let low : e < side_count n = elim (cases_lt e (side_count n)) [ inl l ↦ l | inr past ↦ absurd (none-some g (sym (get_or_past twins e None (omega (arith, are.sides))) ∙ is)) ] in
+          let side = (twin-is n e g (sym (are.each e low) ∙ is)).stands.is_side in
+          subst (λ (o : Option ℕ). IfSome o (λ k. k < MOST_SIDES)) (sym is) (omega (arith, side, few))
+    ]
 
 module _ (m : Mesh) (formed : IsWellFormed m) (manifold : IsOrientedManifold (net_of m.faces)) where
   net : Net

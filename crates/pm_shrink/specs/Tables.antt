@@ -11,6 +11,11 @@ use Rattle.pm_runs.specs.Surfaces.{Surface, net_of_surface, face_count_of}
 use Rattle.pm_runs.specs.Counts.{live_count_of}
 use Rattle.pm_shrink.specs.Shrinking.{Shrinking, IsKept}
 
+-- The faces by number, each with its corners or none where it was dropped; and by number of a side what stands across it.
+pub record Faces : Type 0 where
+  pub faces : List (Option Corners)
+  pub across : List (Option ℕ)
+
 -- The vertex from which a side runs, as in the surface of these faces.
 abbrev pub side_from : List (Option Corners) → ℕ → ℕ
 side_from faces e = corner_in (unwrap_or (slice_index_or faces (face_of e) None) no_corners) (e % 3)

@@ -36,8 +36,8 @@ impl Shrink {
         let left = self.gone(a, b);
         let right = self.gone(b, a);
         let s = self.next;
-        drop_face(&mut self.faces, &mut self.across, &mut self.corners, left);
-        drop_face(&mut self.faces, &mut self.across, &mut self.corners, right);
+        drop_face(&mut self.faces, &mut self.corners, left);
+        drop_face(&mut self.faces, &mut self.corners, right);
         merge_corners(&mut self.faces, &mut self.corners, a, s);
         merge_corners(&mut self.faces, &mut self.corners, b, s);
         merge_places(&mut self.places, a, b, s, place);

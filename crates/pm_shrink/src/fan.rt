@@ -9,7 +9,7 @@ ghost use Rattle.pm_runs.specs.Steps.{side_from_to};
 ghost use Rattle.pm_shrink.specs.Shrinking.{net_at, fan_at, AreCornersAt};
 ghost use Rattle.pm_shrink.specs.Walks.{holds_vertex, has_two};
 
-use crate::{Shrink, sides};
+use crate::Shrink;
 use pm_base::Side;
 use pm_links::Items;
 
@@ -32,15 +32,15 @@ impl Shrink {
 
     // The vertex from which a side runs.
     pub(crate) fn from(&self, side: Side) -> u32
-        requires { side.0 < side_count (net_at self.now) }
+        requires { Stands (net_at self.now) side.0 }
         ensures { result ≡ (net_at self.now).from side.0 }
     {
-        sides::from(&self.faces, side)
+        self.faces.from(side)
     }
 
     // The vertex to which a side runs.
     pub(crate) fn to(&self, side: Side) -> u32
-        requires { side.0 < side_count (net_at self.now) }
+        requires { Stands (net_at self.now) side.0 }
         ensures { result ≡ to_of (net_at self.now) side.0 }
     {
         self.invariant();
@@ -49,7 +49,7 @@ impl Shrink {
 
     // The third corner of a side's face.
     pub(crate) fn third(&self, side: Side) -> u32
-        requires { side.0 < side_count (net_at self.now) }
+        requires { Stands (net_at self.now) side.0 }
         ensures { result ≡ third_of (net_at self.now) side.0 }
     {
         self.invariant();
@@ -92,7 +92,7 @@ impl Shrink {
 
     // Whether the face at a corner has w for another corner.
     pub(crate) fn has_other(&self, corner: Side, w: u32) -> bool
-        requires { corner.0 < side_count (net_at self.now) }
+        requires { Stands (net_at self.now) corner.0 }
         ensures { result ≡ holds_vertex (net_at self.now) w corner.0 }
     {
         self.to(corner) == w || self.third(corner) == w
@@ -143,7 +143,7 @@ impl Shrink {
 
     // Whether the other two corners of the face at a corner are these, in either order.
     fn has_others(&self, corner: Side, b: u32, c: u32) -> bool
-        requires { corner.0 < side_count (net_at self.now) }
+        requires { Stands (net_at self.now) corner.0 }
         ensures { result ≡ has_two (net_at self.now) b c corner.0 }
     {
         let (to, third) = (self.to(corner), self.third(corner));

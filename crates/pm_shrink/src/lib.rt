@@ -3,12 +3,13 @@
 
 mod beside;
 mod collapse;
+mod corners;
+mod faces;
 mod fan;
 mod legal;
 mod readers;
 mod setup;
 mod shrink;
-mod sides;
 mod tables;
 mod verdict;
 

@@ -7,7 +7,7 @@ ghost use Rattle.pm_links.specs.Lists.{first_of, after};
 ghost use Rattle.pm_runs.specs.Surfaces.{next_vertex as next_vertex_of, is_live as is_live_in, place_at, face_count_of};
 ghost use Rattle.pm_shrink.specs.Shrinking.{net_at, quadric_at, fan_at, IsKept};
 
-use crate::{Shrink, sides};
+use crate::Shrink;
 use pm_base::{Point, Side};
 use pm_quadric::Quadric;
 
@@ -93,7 +93,7 @@ impl Shrink {
         requires { Stands (net_at self.now) corner.0 }
         ensures { result ≡ (net_at self.now).from corner.0 }
     {
-        sides::from(&self.faces, corner)
+        self.faces.from(corner)
     }
 
     /// What stands across a side of a face that is still there, and none exactly where nothing does.
@@ -101,6 +101,6 @@ impl Shrink {
         requires { Stands (net_at self.now) side.0 }
         ensures { option_map (λ s. s.0) result ≡ twin_of (net_at self.now) side.0 }
     {
-        self.across.get(side)
+        self.faces.across(side)
     }
 }

@@ -1,8 +1,8 @@
 //! The surface before the first collapse.
-ghost use Rattle.std.specs.Prelude.{◌≡◌, ◌+◌, ◌-◌, ◌*◌, ◌<◌, ◌≤◌, ◌≢◌, ◌++◌, ◌↔◌, ℕ, [], ◌∷◌, Some, None, true, cond, length, map, replicate, slice_index_or, slice_set, IfOk};
+ghost use Rattle.std.specs.Prelude.{◌≡◌, ◌+◌, ◌-◌, ◌*◌, ◌<◌, ◌≤◌, ◌≢◌, ◌++◌, ◌↔◌, ℕ, [], ◌∷◌, Some, None, true, cond, is_some, length, map, replicate, slice_index_or, slice_set, IfOk};
 ghost use Rattle.pm_base.specs.declared.limits.TheConstants.{MOST_FACES, MOST_NODES};
 ghost use Rattle.pm_base.specs.Meshes.{mesh_of, IsFace, IsWellFormed};
-ghost use Rattle.pm_base.specs.Sides.{net_of};
+ghost use Rattle.pm_base.specs.Sides.{face_of, net_of};
 ghost use Rattle.pm_base.specs.Fans.{IsOrientedManifold};
 ghost use Rattle.pm_links.specs.Lists.{list_of, has, IsSound};
 ghost use Rattle.pm_quadric.specs.declared.quadric.TheConstants.{MOST_PLANES};
@@ -14,8 +14,9 @@ ghost use Rattle.pm_shrink.specs.Shrinking.{quadric_at};
 ghost use Rattle.pm_shrink.specs.Tables.{side_from, mesh_with};
 ghost use Rattle.pm_shrink.specs.Following.{IsAfter};
 
+use crate::Shrink;
+use crate::faces::FaceTable;
 use crate::shrink::OutOfMemory;
-use crate::{Shrink, sides};
 use pm_base::{Corners, Mesh, Point, Side};
 use pm_links::Links;
 use pm_quadric::Quadric;
@@ -37,13 +38,12 @@ impl Shrink {
         let triples = mesh.faces.as_slice();
         let points = mesh.points.as_slice();
         let room = 2 * points.len();
-        let faces = all_there(alloc, triples)?;
+        let faces = FaceTable::new(alloc, triples, twins.into_sides())?;
         let places = places_with_room(alloc, points, room)?;
         let quadrics = face_quadrics(alloc, points, triples, room)?;
         let corners = corner_lists(alloc, &faces, room)?;
         Ok(Shrink {
             faces,
-            across: twins.into_sides(),
             corners,
             places,
             quadrics,
@@ -75,20 +75,22 @@ fn places_with_room(
 }
 
 // Each corner in the list of its vertex.
-fn corner_lists(alloc: Global, faces: &[Option<Corners>], room: usize) -> Result<Links, OutOfMemory>
-    requires few { length faces.now ≤ MOST_FACES }
+fn corner_lists(alloc: Global, faces: &FaceTable, room: usize) -> Result<Links, OutOfMemory>
+    requires few { length faces.now.faces ≤ MOST_FACES }
     requires room { room ≤ MOST_NODES }
-    requires within { (e : ℕ) → e < 3 * length faces.now → side_from faces.now e < room }
-    ensures items { IfOk result (λ lists. lists.items ≡ 3 * length faces.now) }
+    requires there { (e : ℕ) → e < 3 * length faces.now.faces
+        → is_some (slice_index_or faces.now.faces (face_of e) None) ≡ true }
+    requires within { (e : ℕ) → e < 3 * length faces.now.faces → side_from faces.now.faces e < room }
+    ensures items { IfOk result (λ lists. lists.items ≡ 3 * length faces.now.faces) }
     ensures heads { IfOk result (λ lists. length lists.lists ≡ room) }
     ensures sound { IfOk result IsSound }
     ensures each { IfOk result (λ lists. (v e : ℕ) → (has (list_of lists v) e ≡ true)
-        ↔ ((e < 3 * length faces.now) × (side_from faces.now e ≡ v))) }
+        ↔ ((e < 3 * length faces.now.faces) × (side_from faces.now.faces e ≡ v))) }
 {
     let sides = 3 * faces.len() as u32;
     let mut lists = Links::new(alloc, sides, room as u32)?;
     for number in 0..sides {
-        lists.push_front(sides::from(faces, Side(number)), number);
+        lists.push_front(faces.from(Side(number)), number);
     }
     Ok(lists)
 }

@@ -1,5 +1,6 @@
 //! A surface that shrinks, collapse by collapse.
-use pm_base::{Corners, Point, SideMap};
+use crate::faces::FaceTable;
+use pm_base::Point;
 use pm_links::Links;
 use pm_quadric::Quadric;
 use std::alloc::AllocError;
@@ -11,14 +12,12 @@ pub type OutOfMemory = AllocError;
 /// A mesh that is being simplified. Contracts see the faces that are still there, the places of the live vertices, and
 /// by vertex number the quadrics and the lists of corners.
 ///
-/// Vertices are named by numbers, and each collapse makes the next one. Only `new` takes memory, some 64 bytes a face and
+/// Vertices are named by numbers, and each collapse makes the next one. Only `new` takes memory, some 60 bytes a face and
 /// 400 a point: there is room for as many later vertices as there are points, since each collapse takes two away for one.
 #[derive(Drop)]
 pub struct Shrink {
-    // The corners of each face; none where it was dropped.
-    pub(crate) faces: Vec<Option<Corners>>,
-    // What stands across each side of a face that is there.
-    pub(crate) across: SideMap,
+    // Each face, and what stands across its sides; of the sides of a dropped face that says nothing.
+    pub(crate) faces: FaceTable,
     // Which corners are at each vertex, in faces that are there.
     pub(crate) corners: Links,
     // The place of each live vertex; none where it was merged into another, or isn't made yet.
@@ -36,8 +35,8 @@ impl Model for Shrink {
 
     ghost Value = { Shrinking };
 
-    ghost view = { λ s. shrinking_with s.faces.items s.places.items s.next s.quadrics.items s.corners };
+    ghost view = { λ s. shrinking_with s.faces.faces s.places.items s.next s.quadrics.items s.corners };
 
-    ghost invariant = { λ s. IsShrink s.faces.items s.places.items s.next s.left s.quadrics.items
-        s.across s.corners };
+    ghost invariant = { λ s. IsShrink s.faces.faces s.places.items s.next s.left s.quadrics.items
+        s.faces.across s.corners };
 }

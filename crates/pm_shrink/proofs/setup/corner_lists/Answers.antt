@@ -12,5 +12,5 @@ loop-number-preserved c =
       items = pushed.items ∙ i.items;
       heads = pushed.heads ∙ i.heads;
       sound = c.push_front.ensures.sound;
-      each = listed-more c.args.faces.now c.loop-number.number c.from.result c.loop-number.lists c.push_front.new.self c.from.ensures low c.push_front.ensures.lists i.each;
+      each = listed-more c.args.faces.now.faces c.loop-number.number c.from.result c.loop-number.lists c.push_front.new.self c.from.ensures low c.push_front.ensures.lists i.each;
     }

@@ -7,8 +7,7 @@ use Rattle.pm_shrink.proofs.shrink.Shrink.corner_with.Goals as goal
 
 pub has_other-requires : goal.has_other-requires
 has_other-requires c =
-    let stands : Stands (net_at c.args.self.now) c.in-Some-Some.from_p = (rw (c.in-Some-Some.ensures {u = tt}).steps at c.loop-from_p.invariant.stand_p) 0 0 (omega arith) in
-    stands.is_side
+    (rw (c.in-Some-Some.ensures {u = tt}).steps at c.loop-from_p.invariant.stand_p) 0 0 (omega arith)
 
 pub returns-then-has_other : goal.returns-then-has_other
 returns-then-has_other c =
@@ -19,13 +18,11 @@ returns-then-has_other c =
 
 pub to-requires : goal.to-requires
 to-requires c =
-    let stands : Stands (net_at c.args.self.now) c.in-Some-Some.from_q = (rw (c.in-Some-Some.ensures' {u = tt}).steps at c.loop-from_p.invariant.stand_q) 0 0 (omega arith) in
-    stands.is_side
+    (rw (c.in-Some-Some.ensures' {u = tt}).steps at c.loop-from_p.invariant.stand_q) 0 0 (omega arith)
 
 pub third-requires : goal.third-requires
 third-requires c =
-    let stands : Stands (net_at c.args.self.now) c.in-Some-Some.from_q = (rw (c.in-Some-Some.ensures' {u = tt}).steps at c.loop-from_p.invariant.stand_q) 0 0 (omega arith) in
-    stands.is_side
+    (rw (c.in-Some-Some.ensures' {u = tt}).steps at c.loop-from_p.invariant.stand_q) 0 0 (omega arith)
 
 pub next-requires-then-to-p : goal.next-requires-then-to-p
 next-requires-then-to-p c =

@@ -11,13 +11,11 @@ use Rattle.pm_shrink.proofs.shrink.Shrink.is_joined_at_either.Goals.{then-has_ot
 
 pub has_other-requires : goal.has_other-requires
 has_other-requires c =
-    let stands : Stands (net_at c.args.self.now) c.in-Some-Some.from_v = (rw (c.in-Some-Some.ensures {u = tt}).steps at c.loop-from_v.invariant.stand_v) 0 0 (omega arith) in
-    stands.is_side
+    (rw (c.in-Some-Some.ensures {u = tt}).steps at c.loop-from_v.invariant.stand_v) 0 0 (omega arith)
 
 pub has_other-requires-else-has_other : goal.has_other-requires-else-has_other
 has_other-requires-else-has_other c =
-    let stands : Stands (net_at c.args.self.now) c.in-Some-Some.from_w = (rw (c.in-Some-Some.ensures' {u = tt}).steps at c.loop-from_v.invariant.stand_w) 0 0 (omega arith) in
-    stands.is_side
+    (rw (c.in-Some-Some.ensures' {u = tt}).steps at c.loop-from_v.invariant.stand_w) 0 0 (omega arith)
 
 pub returns-then-has_other : goal.returns-then-has_other
 returns-then-has_other c =

@@ -10,13 +10,13 @@ use Rattle.pm_shrink.proofs.shrink.Shrink.next_corner.Goals as goal
 pub next-requires : goal.next-requires
 next-requires c =
     let stands = rw (← c.self.view_is) at c.requires in
-    let v = side_from c.self.inside.faces.items c.args.corner.0 in
+    let v = side_from c.self.inside.faces.faces c.args.corner.0 in
     (v, ((c.self.invariant.kept.corners v).each c.args.corner.0).1 (stands, refl))
 
 pub returns-clause-value : goal.returns-clause-value
 returns-clause-value c =
     let stands = rw (← c.self.view_is) at c.requires in
-    let v : ℕ = side_from c.self.inside.faces.items c.args.corner.0 in
+    let v : ℕ = side_from c.self.inside.faces.faces c.args.corner.0 in
     let is = c.next.ensures.value v (((c.self.invariant.kept.corners v).each c.args.corner.0).1 (stands, refl)) in
     let same : option_map (λ (k : Side). k.0) c.map.result ≡ c.next.result = search rules in
     subst (λ (s : Shrinking). option_map (λ (k : Side). k.0) c.map.result ≡ first_of (after c.args.corner.0 (fan_at s ((net_at s).from c.args.corner.0)))) c.self.view_is

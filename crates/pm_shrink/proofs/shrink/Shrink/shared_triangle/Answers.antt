@@ -14,10 +14,10 @@ pub returns-in_default-2 : goal.returns-in_default-2
 returns-in_default-2 c e g r w f k = none-side (net_at c.args.self.now) c.args.a c.args.b (sym c.side_to.ensures ∙ ap side_number c.in_default.is-0) (e, r)
 
 pub third-v-requires : goal.third-v-requires
-third-v-requires c = (found-runs (net_at c.args.self.now) c.args.a c.args.b c.in-Some-Some.left.0 (sym c.side_to.ensures ∙ ap side_number c.in-Some-Some.is-0)).stands.is_side
+third-v-requires c = (found-runs (net_at c.args.self.now) c.args.a c.args.b c.in-Some-Some.left.0 (sym c.side_to.ensures ∙ ap side_number c.in-Some-Some.is-0)).stands
 
 pub third-w-requires : goal.third-w-requires
-third-w-requires c = (found-runs (net_at c.args.self.now) c.args.b c.args.a c.in-Some-Some.right.0 (sym c.side_to-2.ensures ∙ ap side_number c.in-Some-Some.is-1)).stands.is_side
+third-w-requires c = (found-runs (net_at c.args.self.now) c.args.b c.args.a c.in-Some-Some.right.0 (sym c.side_to-2.ensures ∙ ap side_number c.in-Some-Some.is-1)).stands
 
 pub returns-then-not-has_face : goal.returns-then-not-has_face
 returns-then-not-has_face c =

@@ -8,6 +8,9 @@ use Rattle.pm_shrink.specs.Shrinking.{net_at, fan_at, AreCornersAt}
 use Rattle.pm_shrink.proofs.FanLaws.{walk_on, walk_ended, corner-any}
 use Rattle.pm_shrink.proofs.shrink.Shrink.side_to.Goals as goal
 
+pub to-requires : goal.to-requires
+to-requires c = (rw (c.in-Some.ensures {u = tt}).steps at c.loop-number.invariant.stand) 0 0 (omega arith)
+
 pub returns-then-to-q : goal.returns-then-to-q
 returns-then-to-q c =
     let m : Net = net_at c.args.self.now in

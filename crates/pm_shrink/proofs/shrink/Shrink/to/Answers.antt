@@ -1,10 +1,10 @@
-use Rattle.std.proofs.Common.{ℕ, ◌<◌, length, sym, subst}
-use Rattle.pm_base.specs.Sides.{side_count}
-use Rattle.pm_base.proofs.Sides.{next-lt}
+use Rattle.std.proofs.Common.{sym, subst}
+use Rattle.pm_base.specs.Sides.{Net, Stands}
+use Rattle.pm_base.proofs.Sides.{stands_next}
 use Rattle.pm_shrink.specs.Shrinking.{net_at}
 use Rattle.pm_shrink.proofs.shrink.Shrink.to.Goals as goal
 
 pub from-requires : goal.from-requires
 from-requires c =
-    let n : ℕ = length c.args.self.now.surface.faces in
-    subst (λ (i : ℕ). i < side_count (net_at c.args.self.now)) (sym c.next.ensures.value) (next-lt n c.args.side.0 c.requires)
+    let m : Net = net_at c.args.self.now in
+    subst (Stands m) (sym c.next.ensures.value) (stands_next m c.args.side.0 c.requires)

@@ -1,0 +1,23 @@
+-- How the rows of a table of faces hold what contracts see.
+use Rattle.std.specs.Prelude.{ℕ, ◌*◌, ◌%◌, Option, None, List, [], length, map, slice_index_or}
+use Rattle.std.specs.List.{range_with_len}
+use Rattle.pm_base.specs.declared.mesh.Corners.{Corners}
+use Rattle.pm_base.specs.Sides.{face_of}
+use Rattle.pm_shrink.specs.declared.faces.Row.{Row}
+
+-- What stands across side number 0, 1 or 2 of a face.
+abbrev pub across_in : Row → ℕ → Option ℕ
+across_in r i = slice_index_or r.across i None
+
+abbrev pub no_row : Row
+no_row = record { corners = None; across = [] }
+
+abbrev pub row_at : List Row → ℕ → Row
+row_at rows f = slice_index_or rows f no_row
+
+abbrev pub corners_of : List Row → List (Option Corners)
+corners_of rows = map (λ (r : Row). r.corners) rows
+
+-- What stands across each side of the faces.
+unfoldable pub across_of : List Row → List (Option ℕ)
+across_of rows = map (λ e. across_in (row_at rows (face_of e)) (e % 3)) (range_with_len 0 (3 * length rows))
