@@ -67,7 +67,7 @@ pub(crate) fn free_around(shrink: &Shrink, queue: &mut Queue, waiting: &mut Link
     shrink.invariant();
     let mut at = shrink.first_corner(v);
     while let Some(corner) = at {
-        free(shrink, queue, waiting, corner.0 / 3);
+        free(shrink, queue, waiting, corner.face().0);
         at = shrink.next_corner(corner);
     }
 }

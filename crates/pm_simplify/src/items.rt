@@ -9,18 +9,13 @@ use pm_base::Side;
 use pm_shrink::Shrink;
 
 /// The side that follows in the same face.
-#[tactic(auto, unfolding(pm_base::specs::Sides::next))]
 pub(crate) fn next(shrink: &Shrink, side: Side) -> Side
     requires { Stands (net_at shrink.now) side.0 }
     ensures value { result.0 ≡ next_of side.0 }
     ensures stands { Stands (net_at shrink.now) result.0 }
 {
     shrink.invariant();
-    Side(if side.0 % 3 == 2 {
-        side.0 - 2
-    } else {
-        side.0 + 1
-    })
+    side.next()
 }
 
 /// The side that comes before in the same face.

@@ -72,10 +72,10 @@ pub fn simplify_surface(
     let mut queue = filled(alloc, &shrink, 3 * faces)?;
     let mut waiting = Links::new(alloc, 3 * faces, faces)?;
     while shrink.face_count() > target_faces {
-        let Some(key) = least_pair(&shrink, &mut queue, &mut waiting) else {
+        let Some(pair) = least_pair(&shrink, &mut queue, &mut waiting) else {
             break;
         };
-        log.push_within_room(collapse(&mut shrink, &mut queue, &mut waiting, key.a, key.b));
+        log.push_within_room(collapse(&mut shrink, &mut queue, &mut waiting, pair));
     }
     Ok(log)
 }

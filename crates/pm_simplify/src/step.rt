@@ -10,24 +10,25 @@ ghost use Rattle.pm_shrink.specs.Following.{IsAfter};
 ghost use Rattle.pm_simplify.specs.Choices.{IsRight};
 
 use crate::around::renew_around;
+use crate::choose::Choice;
 use crate::forget::forget;
 use crate::free::free_around;
-use crate::pairs::best_of;
 use pm_base::Collapse;
 use pm_links::Links;
 use pm_queue::Queue;
 use pm_shrink::Shrink;
 
-/// Collapses a pair that may be collapsed. The pairs that wait for a face at one of its ends come back to the queue, the
+/// Collapses a pair that may be collapsed, to its place. The pairs that wait for a face at one of its ends come back to the queue, the
 /// edges of the dropped faces leave it, and those at the new vertex get new keys.
 pub(crate) fn collapse(
     shrink: &mut Shrink,
     queue: &mut Queue,
     waiting: &mut Links,
-    a: u32,
-    b: u32,
+    pair: Choice,
 ) -> Collapse
-    requires candidate { (m : Mesh) × (log : List Entry) × IsAfter m log shrink.old × IsCandidate m log a b }
+    requires candidate { (m : Mesh) × (log : List Entry) × IsAfter m log shrink.old × IsCandidate m log pair.a pair.b }
+    requires place { (m : Mesh) (log : List Entry) → IsAfter m log shrink.old
+        → pair.place ≡ place_of_pair m log pair.a pair.b }
     requires room { length queue.old ≡ side_count (net_at shrink.old) }
     requires items { waiting.old.items ≡ side_count (net_at shrink.old) }
     requires heads { 3 * length waiting.old.lists ≡ side_count (net_at shrink.old) }
@@ -36,16 +37,15 @@ pub(crate) fn collapse(
     ensures items { waiting.new.items ≡ waiting.old.items }
     ensures heads { length waiting.new.lists ≡ length waiting.old.lists }
     ensures entry { (m : Mesh) (log : List Entry) → IsAfter m log shrink.old
-        → result ≡ entry_of (surface_after m log) a b (place_of_pair m log a b) }
+        → result ≡ entry_of (surface_after m log) pair.a pair.b (place_of_pair m log pair.a pair.b) }
     ensures after { (m : Mesh) (log : List Entry) → IsAfter m log shrink.old → IsAfter m (log ++ result ∷ []) shrink.new }
     ensures right { (m : Mesh) (log : List Entry) → IsAfter m log shrink.old → IsRight m log queue.old waiting.old
         → IsRight m (log ++ result ∷ []) queue.new waiting.new }
 {
     shrink.invariant();
-    let (place, _) = best_of(shrink, a, b);
-    free_around(shrink, queue, waiting, a);
-    free_around(shrink, queue, waiting, b);
-    let entry = shrink.collapse(a, b, place);
+    free_around(shrink, queue, waiting, pair.a);
+    free_around(shrink, queue, waiting, pair.b);
+    let entry = shrink.collapse(pair.a, pair.b, pair.place);
     forget(queue, entry.left);
     forget(queue, entry.right);
     renew_around(shrink, queue, entry.s);

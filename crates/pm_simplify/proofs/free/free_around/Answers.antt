@@ -44,7 +44,7 @@ loop-at-preserved c =
       heads = c.free.ensures.heads ∙ i.heads;
       walk = fan_goes c.args.shrink.now c.args.v (c.invariant.ensures.kept.corners c.args.v) c.in-Some.corner c.next_corner-at.result walk.held c.next_corner-at.ensures.value
           (λ e. list_of c.loop-at.waiting (face_of e) ≡ []) (λ e. list_of c.free.new.waiting (face_of e) ≡ []) walk
-          (λ e. c.free.ensures.others (face_of e)) c.free.ensures.empty;
+          (λ e. c.free.ensures.others (face_of e)) (subst (λ f. list_of c.free.new.waiting f ≡ []) c.face.ensures c.free.ensures.empty);
       others = λ f none. c.free.ensures.others f (i.others f none);
       right = λ m log after right. c.free.ensures.right m log after (i.right m log after right);
     }
