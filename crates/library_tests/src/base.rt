@@ -33,11 +33,11 @@ fn sides_are_mapped_to_sides_and_to_none(rt: HostRuntime) -> Result<(), Fail> {
     let mut map = SideMap::new(rt.alloc(), 6)?;
     assert_eq!(rt; map.len(), 6);
     assert_eq!(rt; map.get(Side(5)), None);
-    map.put(Side(5), Some(Side(0)));
-    map.put(Side(0), Some(Side(3_145_727)));
+    map.set(Side(5), Some(Side(0)));
+    map.set(Side(0), Some(Side(3_145_727)));
     assert_eq!(rt; map.get(Side(5)), Some(Side(0)));
     assert_eq!(rt; map.get(Side(0)), Some(Side(3_145_727)));
-    map.put(Side(5), None);
+    map.set(Side(5), None);
     assert_eq!(rt; map.get(Side(5)), None);
     Ok(())
 }

@@ -3,7 +3,8 @@ use Rattle.std.proofs.Common.{◌≡◌, ℕ, suc, ◌-◌, ◌<◌, Bool, true,
 use Rattle.std.specs.List.{list_all, concat}
 use Rattle.std.proofs.lemmas.Bool.{true≢false, and_parts, eqb-true, ne_eqb, true_from_ne_false}
 use Rattle.std.proofs.lemmas.List.Folds.{list_all_at}
-use Rattle.obj_lines.specs.Text.{until, onto, lines, ends_with, without_cr, content, is_continued}
+use Rattle.obj_lines.specs.Text.{until, lines, ends_with, without_cr, content, is_continued}
+use Rattle.pm_io.specs.Bytes.{onto}
 
 -- A byte that isn't special: no control byte, no `#`, and no backslash.
 abbrev pub is_plain : ℕ → Bool

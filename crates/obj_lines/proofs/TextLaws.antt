@@ -1,7 +1,8 @@
 -- Laws of the lines of a text. That a text has no LF in it is said as `until 10 text ≡ text`.
 use Rattle.std.proofs.Common.{◌≡◌, ℕ, zero, suc, ◌+◌, ◌<◌, ◌≤◌, Bool, true, false, ◌==◌, List, [], ◌∷◌, ◌++◌, length, get_or, take, drop, refl, ◌∙◌, ap, arith}
 use Rattle.std.proofs.lemmas.Bool.Decides.{nat_tests}
-use Rattle.obj_lines.specs.Text.{until, onto, lines}
+use Rattle.obj_lines.specs.Text.{until, lines}
+use Rattle.pm_io.specs.Bytes.{onto}
 
 pub until_at : (stop : ℕ) (bytes : List ℕ) (i : ℕ) → i < length bytes → ((k : ℕ) → k < i → (get_or bytes k 0 == stop) ≡ false) → (get_or bytes i 0 == stop) ≡ true
     → until stop bytes ≡ take i bytes

@@ -1,15 +1,11 @@
 -- The lines of a text, and what is read of a line. Byte 10 is LF, 13 is CR, 35 is `#`, and 92 is a backslash.
 use Rattle.std.specs.Prelude.{ℕ, ◌-◌, List, [], ◌∷◌, Bool, ◌==◌, length, take, slice_index_or, if◌then◌else◌}
+use Rattle.pm_io.specs.Bytes.{onto}
 
 -- The bytes before the first that is this one.
 abbrev pub until : ℕ → List ℕ → List ℕ
 until stop [] = []
 until stop (b ∷ bs) = if b == stop then [] else b ∷ until stop bs
-
--- A byte put before the first line.
-abbrev pub onto : ℕ → List (List ℕ) → List (List ℕ)
-onto b [] = (b ∷ []) ∷ []
-onto b (l ∷ ls) = (b ∷ l) ∷ ls
 
 -- The lines of the bytes, each with its LF. What follows the last LF is a line if it isn't empty.
 abbrev pub lines : List ℕ → List (List ℕ)

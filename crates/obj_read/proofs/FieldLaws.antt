@@ -1,6 +1,7 @@
 -- Laws of the fields of a line.
 use Rattle.std.proofs.Common.{◌≡◌, ℕ, zero, suc, ◌<◌, true, false, List, [], ◌∷◌, length, get_or, take, drop, refl, sym, ◌∙◌, ap, arith}
-use Rattle.obj_read.specs.Fields.{is_blank, begins_blank, onto_field, fields}
+use Rattle.obj_read.specs.Fields.{is_blank, begins_blank, fields}
+use Rattle.pm_io.specs.Bytes.{onto}
 
 -- Blanks at the front make no field.
 pub fields_skip : (bytes : List ℕ) (i : ℕ) → i < length bytes → ((k : ℕ) → k < i → is_blank (get_or bytes k 0) ≡ true) → fields (drop i bytes) ≡ fields bytes
@@ -28,7 +29,7 @@ fields_word (b ∷ c ∷ bytes) (suc (suc i)) some lt word here =
     let first : is_blank b ≡ false = word 0 (omega arith) in
     let second : is_blank c ≡ false = word 1 (omega arith) in
     let more = fields_word (c ∷ bytes) (suc i) (omega arith) (omega arith) (λ k below. word (suc k) (omega arith)) here in
-    rw first (rw second (ap (onto_field b) (rw second at more)))
+    rw first (rw second (ap (onto b) (rw second at more)))
 
 -- A line without blanks is one field.
 pub fields_all_word : (bytes : List ℕ) → 0 < length bytes → ((k : ℕ) → k < length bytes → is_blank (get_or bytes k 0) ≡ false) → fields bytes ≡ bytes ∷ []
@@ -38,7 +39,7 @@ fields_all_word (b ∷ c ∷ bytes) some word =
     let first : is_blank b ≡ false = word 0 (omega arith) in
     let second : is_blank c ≡ false = word 1 (omega arith) in
     let more = fields_all_word (c ∷ bytes) (omega arith) (λ k below. word (suc k) (omega arith)) in
-    rw first (rw second (ap (onto_field b) (rw second at more)))
+    rw first (rw second (ap (onto b) (rw second at more)))
 
 -- The first field and what stands after it, cut at a blank.
 pub fields_cut : (bytes : List ℕ) (i : ℕ) (rest : List ℕ) → begins_blank bytes ≡ false → i < length bytes → ((k : ℕ) → k < i → is_blank (get_or bytes k 0) ≡ false) → is_blank (get_or bytes i 0) ≡ true

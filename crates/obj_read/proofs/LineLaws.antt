@@ -12,7 +12,8 @@ use Rattle.obj_lines.specs.Text.{until, content}
 use Rattle.obj_lines.proofs.PlainLaws.{is_plain, are_plain, IsReadWhole, plain_text}
 use Rattle.obj_read.specs.declared.found.Found.{Found}
 use Rattle.obj_read.specs.declared.found.Found.TheVariants as found
-use Rattle.obj_read.specs.Fields.{is_blank, begins_blank, onto_field, fields}
+use Rattle.obj_read.specs.Fields.{is_blank, begins_blank, fields}
+use Rattle.pm_io.specs.Bytes.{onto}
 use Rattle.obj_read.specs.Judged.{vertex_of, face_read, fields_found, line_found}
 use Rattle.obj_read.proofs.WordLaws.{is_inner, are_inner, IsWord, inner_filled, word_plain, coordinate_word, decimal_word, written_index}
 use Rattle.obj_read.proofs.WrittenLaws.{written_is_read}
@@ -28,7 +29,7 @@ fields_first (b ∷ c ∷ bs) rest some inner ends =
     let first : is_blank b ≡ false = inner_filled b parts.0 in
     let second : is_blank c ≡ false = inner_filled c (and_parts (is_inner c) (are_inner bs) parts.1).0 in
     let more = fields_first (c ∷ bs) rest (omega arith) parts.1 ends in
-    rw first (rw second (ap (onto_field b) (rw second at more)))
+    rw first (rw second (ap (onto b) (rw second at more)))
 
 -- Three words with a space between them.
 abbrev three : List ℕ → List ℕ → List ℕ → List ℕ

@@ -5,10 +5,11 @@ use Rattle.obj_lines.specs.Text.{until, lines}
 use Rattle.obj_lines.proofs.TextLaws.{until_front, First, first_line}
 use Rattle.obj_read.specs.declared.fault.ObjFault.{ObjFault}
 use Rattle.obj_read.specs.declared.found.Found.{Found}
-use Rattle.obj_read.specs.Meaning.{SoFar, read_alone, place, is_past, is_long, is_ended, and_line, then_lines, meaning_from}
+use Rattle.obj_read.specs.Meaning.{SoFar, read_alone, place, is_past, is_long, and_line, then_lines, meaning_from}
+use Rattle.obj_lines.specs.Feeding.{has_end}
 use Rattle.obj_read.specs.Fails.{FaultNotReached}
 
-place_case : (bytes : ℕ) (line : List ℕ) (n : ℕ) (past long ended : Bool) → is_past bytes (length line) ≡ past → is_long line ≡ long → is_ended line ≡ ended
+place_case : (bytes : ℕ) (line : List ℕ) (n : ℕ) (past long ended : Bool) → is_past bytes (length line) ≡ past → is_long line ≡ long → has_end line ≡ ended
     → n ≤ 1073741824 → n ≤ bytes + 65536 → (length (until 10 line) < length line → n < bytes + length line) → IfSome (place bytes line) (λ p. n < p)
 unfolding place
 place_case bytes line n true long ended past_is long_is ended_is within near before = rw past_is (omega arith)
@@ -18,7 +19,7 @@ place_case bytes line n false false false past_is long_is ended_is within near b
 
 -- The place of a line's fault comes after so many bytes.
 pub place_after : (bytes : ℕ) (line : List ℕ) (n : ℕ) → n ≤ 1073741824 → n ≤ bytes + 65536 → (length (until 10 line) < length line → n < bytes + length line) → IfSome (place bytes line) (λ p. n < p)
-place_after bytes line n within near before = place_case bytes line n (is_past bytes (length line)) (is_long line) (is_ended line) refl refl refl within near before
+place_after bytes line n within near before = place_case bytes line n (is_past bytes (length line)) (is_long line) (has_end line) refl refl refl within near before
 
 line_case : (s : SoFar) (line : List ℕ) (more : List (List ℕ)) (n : ℕ) (r : Result Found ObjFault) → n ≤ 1073741824 → n ≤ s.bytes + 65536
     → (length (until 10 line) < length line → n < s.bytes + length line) → n ≤ s.bytes + length line → ((t : SoFar) → n ≤ t.bytes → FaultNotReached n (meaning_from t more))

@@ -1,5 +1,6 @@
 -- The fields of a line. Byte 32 is a space, and 9 is a tab.
 use Rattle.std.specs.Prelude.{ℕ, List, [], ◌∷◌, Bool, true, false, ◌==◌, ◌||◌, if◌then◌else◌}
+use Rattle.pm_io.specs.Bytes.{onto}
 
 -- A space or a tab.
 abbrev pub is_blank : ℕ → Bool
@@ -10,18 +11,13 @@ abbrev pub begins_blank : List ℕ → Bool
 begins_blank [] = true
 begins_blank (b ∷ bs) = is_blank b
 
--- A byte put before the first field.
-abbrev pub onto_field : ℕ → List (List ℕ) → List (List ℕ)
-onto_field b [] = (b ∷ []) ∷ []
-onto_field b (x ∷ xs) = (b ∷ x) ∷ xs
-
 -- What stands between blanks.
 abbrev pub fields : List ℕ → List (List ℕ)
 fields [] = []
 fields (b ∷ bs) =
     if is_blank b then fields bs
     else if begins_blank bs then (b ∷ []) ∷ fields bs
-    else onto_field b (fields bs)
+    else onto b (fields bs)
 
 -- The field is this letter and no more.
 abbrev pub is_letter : ℕ → List ℕ → Bool

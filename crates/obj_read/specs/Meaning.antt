@@ -8,6 +8,7 @@ use Rattle.obj_read.specs.declared.fault.ObjFault.TheVariants as faults
 use Rattle.obj_read.specs.declared.found.Found.{Found}
 use Rattle.obj_read.specs.Judged.{line_found}
 use Rattle.obj_read.specs.Fits.{with_found}
+use Rattle.obj_lines.specs.Feeding.{has_end}
 
 -- How many decimals a coordinate has, and what the lines before gave: how many bytes they have, the number of the next
 -- line, and the mesh so far.
@@ -33,10 +34,6 @@ is_past bytes length = nat_lt MOST_TEXT_BYTES (bytes + min length (MOST_LINE_BYT
 abbrev pub is_long : List ℕ → Bool
 is_long line = nat_lt MOST_LINE_BYTES (length (until 10 line))
 
--- The line has its LF.
-abbrev pub is_ended : List ℕ → Bool
-is_ended line = nat_lt (length (until 10 line)) (length line)
-
 -- A line judged alone, given how many decimals a coordinate has, and how many bytes, vertices and faces stand before it.
 unfoldable pub read_alone : SoFar → List ℕ → Result Found ObjFault
 read_alone s line =
@@ -50,7 +47,7 @@ unfoldable pub place : ℕ → List ℕ → Option ℕ
 place bytes line =
     if is_past bytes (length line) then Some (MOST_TEXT_BYTES + 1)
     else if is_long line then Some (bytes + (MOST_LINE_BYTES + 1))
-    else if is_ended line then Some (bytes + length line)
+    else if has_end line then Some (bytes + length line)
     else None
 
 -- After one line more.

@@ -6,8 +6,8 @@ use Rattle.std.proofs.lemmas.Bool.{ltb-true}
 use Rattle.std.proofs.lemmas.Bool.Decides.{nat_tests}
 use borrow.Author.Differences.{ints}
 use Rattle.pm_base.specs.declared.mesh.Corners.{Corners}
-use Rattle.pm_base.specs.Place.{Place}
-use Rattle.obj_scan.specs.Polygons.{no_point, is_place_before, is_least, before_least, fan}
+use Rattle.pm_base.specs.Place.{Place, origin}
+use Rattle.obj_scan.specs.Polygons.{is_place_before, is_least, before_least, fan}
 
 -- The order of places.
 
@@ -21,7 +21,7 @@ before_both p q r first later = (grind (arith, ints, first, later), grind (arith
 
 -- The point of corner k.
 abbrev pub point_at : List Place → List ℕ → ℕ → Place
-point_at points corners k = get_or points (get_or corners k 0) no_point
+point_at points corners k = get_or points (get_or corners k 0) origin
 
 -- A read within a list has no need of what stands for the rest.
 pub read_any : (points : List Place) (k : ℕ) (p q : Place) → k < length points → get_or points k p ≡ get_or points k q
@@ -81,8 +81,8 @@ least_is points (c ∷ corners) n least =
     let all = c ∷ corners in
     let lt : n < length all = least.under (omega arith) in
     sym (count_first points all all n lt
-    (all_each (λ c. not (is_place_before (get_or points c no_point) (point_at points all n))) all (λ k less. ap not (least.none k less)))
-    (λ k less. list_all_at (λ c. not (is_place_before (get_or points c no_point) (point_at points all k))) all n 0 lt (ap not (least.first k less))))
+    (all_each (λ c. not (is_place_before (get_or points c origin) (point_at points all n))) all (λ k less. ap not (least.none k less)))
+    (λ k less. list_all_at (λ c. not (is_place_before (get_or points c origin) (point_at points all k))) all n 0 lt (ap not (least.first k less))))
 
 -- The triangles of a corner and each two neighbours, one more.
 fan_after : (a : ℕ) (rest : List ℕ) (i : ℕ) → suc i < length rest

@@ -3,10 +3,7 @@ use Rattle.std.specs.Prelude.{ℕ, ◌+◌, ◌==◌, not, ◌&&◌, ◌||◌, B
 use Rattle.std.specs.List.{list_all}
 use Rattle.std.specs.Int.Signed.{lt_z}
 use Rattle.pm_base.specs.declared.mesh.Corners.{Corners}
-use Rattle.pm_base.specs.Place.{Place}
-
-abbrev pub no_point : Place
-no_point = record { x = pos 0; y = pos 0; z = pos 0 }
+use Rattle.pm_base.specs.Place.{Place, origin}
 
 -- A place comes before another by its x, then its y, then its z.
 unfoldable pub is_place_before : Place → Place → Bool
@@ -14,7 +11,7 @@ is_place_before p q = lt_z p.x q.x || not (lt_z q.x p.x) && (lt_z p.y q.y || not
 
 -- No corner's point comes before this one.
 abbrev pub is_least : List Place → List ℕ → ℕ → Bool
-is_least points corners v = list_all (λ c. not (is_place_before (slice_index_or points c no_point) (slice_index_or points v no_point))) corners
+is_least points corners v = list_all (λ c. not (is_place_before (slice_index_or points c origin) (slice_index_or points v origin))) corners
 
 -- How many corners stand before the first of these whose point none comes before.
 abbrev pub before_least : List Place → List ℕ → List ℕ → ℕ

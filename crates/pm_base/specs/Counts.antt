@@ -1,5 +1,14 @@
--- Counting the numbers that pass a test.
-use Rattle.std.specs.Prelude.{ℕ, zero, suc, ◌+◌, Bool, true, false}
+-- Sets of numbers: those below a number, those that a list of flags tells, and how many pass a test.
+use Rattle.std.specs.Prelude.{ℕ, zero, suc, ◌+◌, Bool, true, false, List, slice_index_or}
+use Rattle.std.specs.List.{range_with_len}
+
+-- The numbers below n, ascending.
+abbrev pub numbers_below : ℕ → List ℕ
+numbers_below n = range_with_len 0 n
+
+-- The numbers whose flags are set.
+abbrev pub set_of : List Bool → ℕ → Bool
+set_of flags k = slice_index_or flags k false
 
 abbrev pub one_if : Bool → ℕ
 one_if true = 1

@@ -37,6 +37,10 @@ corner_in f i = cond (i == 0) f.a (cond (i == 1) f.b f.c)
 abbrev pub no_corners : Corners
 no_corners = record { a = 0; b = 0; c = 0 }
 
+-- What a table has beside side e: a side, or none.
+abbrev pub beside_side : List (Option ℕ) → ℕ → Option ℕ
+beside_side table e = slice_index_or table e None
+
 -- The sides of a list of faces.
 abbrev pub net_of : List Corners → Net
 net_of fs = record { faces = length fs; from = λ e. corner_in (slice_index_or fs (face_of e) no_corners) (e % 3) }

@@ -96,7 +96,7 @@ impl SideMap {
     }
 
     /// Maps a side to another one, or to none. O(1).
-    pub fn put(&mut self, side: Side, other: Option<Side>)
+    pub fn set(&mut self, side: Side, other: Option<Side>)
         requires there { side.0 < length self.old }
         requires small { IfSome other (λ s. s.0 < MOST_SIDES) }
         ensures { self.new ≡ slice_set self.old side.0 (option_map (λ s. s.0) other) }

@@ -15,7 +15,7 @@ use Rattle.pm_beyond.specs.declared.moves.MoveFault.{MoveFault}
 use Rattle.pm_beyond.specs.declared.moves.MoveFault.TheVariants as faults
 use Rattle.pm_beyond.specs.Walks.{IsOuter, Beyond, beyond_of, expected}
 use Rattle.pm_beyond.specs.Valid.{IsValid}
-use Rattle.pm_beyond.specs.Moves.{IsClosed, MaySplit, MayCollapse, outer_sides, blocked_by, split_fault, may_try_collapse, same_side, face_of_beyond, first_other, collapse_fault}
+use Rattle.pm_beyond.specs.Moves.{IsClosed, MaySplit, MayCollapse, outer_sides, blocked_by, split_fault, may_try_collapse, same_side, face_beyond, first_other, collapse_fault}
 use Rattle.pm_beyond.proofs.Distinct.{In, in-here, in-later, in-nil, in-cases}
 use Rattle.pm_beyond.proofs.Neighbours.{recorded-in, recorded-has}
 use Rattle.pm_beyond.proofs.Found.{beyond-found}
@@ -117,11 +117,11 @@ pub same_side-from : (r s : Option ℕ) → r ≡ s → same_side r s ≡ true
 same_side-from None s e = ap (same_side None) (sym e)
 same_side-from (Some x) s e = ap (same_side (Some x)) (sym e) ∙ eq-eqb x x refl
 
-face_at-none : (r : Option ℕ) → face_of_beyond r ≡ None → r ≡ None
+face_at-none : (r : Option ℕ) → face_beyond r ≡ None → r ≡ None
 face_at-none None e = refl
 face_at-none (Some b) e = absurd (none-some (face_of b) (sym e))
 
-face_at-some : (f : ℕ) (r : Option ℕ) → face_of_beyond r ≡ Some f → (c : ℕ) × (r ≡ Some c) × (face_of c ≡ f)
+face_at-some : (f : ℕ) (r : Option ℕ) → face_beyond r ≡ Some f → (c : ℕ) × (r ≡ Some c) × (face_of c ≡ f)
 face_at-some f None e = absurd (none-some f e)
 face_at-some f (Some c) e = (c, refl, same_Some (face_of c) f e)
 
@@ -137,10 +137,10 @@ others_none h T (x ∷ xs) met n e i =
       | inl t ↦
           elim (in-cases e x xs i) [
             | inl is ↦ ap (beyond_of h T) is ∙ same_side-parts (beyond_of h T x) (expected h x) t ∙ ap (expected h) (sym is)
-            | inr j ↦ others_none h T xs (λ g m. met g (in-later g x xs m)) (sym (cond-true b (first_other h T xs) (face_of_beyond (beyond_of h T x)) t) ∙ n) e j
+            | inr j ↦ others_none h T xs (λ g m. met g (in-later g x xs m)) (sym (cond-true b (first_other h T xs) (face_beyond (beyond_of h T x)) t) ∙ n) e j
           ]
       | inr t ↦
-          let nothing = face_at-none (beyond_of h T x) (sym (cond-false b (first_other h T xs) (face_of_beyond (beyond_of h T x)) t) ∙ n) in
+          let nothing = face_at-none (beyond_of h T x) (sym (cond-false b (first_other h T xs) (face_beyond (beyond_of h T x)) t) ∙ n) in
           elim (met x (in-here x xs)) [
             | inl is ↦ absurd (both_ways _ t (same_side-from (beyond_of h T x) (expected h x) is))
             | inr (c, q, _) ↦ absurd (none-some c (sym nothing ∙ q))
@@ -150,7 +150,7 @@ others_none h T (x ∷ xs) met n e i =
 none_other : (h : Hierarchy) (T : ℕ → Bool) (xs : List ℕ) → ((e : ℕ) → In e xs → beyond_of h T e ≡ expected h e) → first_other h T xs ≡ None
 none_other h T [] all = refl
 none_other h T (x ∷ xs) all =
-    cond-true _ (first_other h T xs) (face_of_beyond (beyond_of h T x)) (same_side-from (beyond_of h T x) (expected h x) (all x (in-here x xs)))
+    cond-true _ (first_other h T xs) (face_beyond (beyond_of h T x)) (same_side-from (beyond_of h T x) (expected h x) (all x (in-here x xs)))
     ∙ none_other h T xs (λ e i. all e (in-later e x xs i))
 
 some_other : (h : Hierarchy) (T : ℕ → Bool) (f : ℕ) (xs : List ℕ) → first_other h T xs ≡ Some f → (e : ℕ) × (c : ℕ) × In e xs × (beyond_of h T e ≡ Some c) × (face_of c ≡ f) × (beyond_of h T e ≢ expected h e)
@@ -159,10 +159,10 @@ some_other h T f (x ∷ xs) n =
     let b = same_side (beyond_of h T x) (expected h x) in
     elim (cases_Bool b) [
       | inl t ↦
-          let (e, c, i, q, is, d) = some_other h T f xs (sym (cond-true b (first_other h T xs) (face_of_beyond (beyond_of h T x)) t) ∙ n) in
+          let (e, c, i, q, is, d) = some_other h T f xs (sym (cond-true b (first_other h T xs) (face_beyond (beyond_of h T x)) t) ∙ n) in
           (e, c, in-later e x xs i, q, is, d)
       | inr t ↦
-          let (c, q, is) = face_at-some f (beyond_of h T x) (sym (cond-false b (first_other h T xs) (face_of_beyond (beyond_of h T x)) t) ∙ n) in
+          let (c, q, is) = face_at-some f (beyond_of h T x) (sym (cond-false b (first_other h T xs) (face_beyond (beyond_of h T x)) t) ∙ n) in
           (x, c, in-here x xs, q, is, λ same. both_ways _ t (same_side-from (beyond_of h T x) (expected h x) same))
     ]
 

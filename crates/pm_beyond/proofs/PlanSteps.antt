@@ -10,15 +10,15 @@ use Rattle.pm_beyond.proofs.PlanLists.{ascending-zero, ascending-true, ascending
 with-other : (T : ℕ → Bool) (k j : ℕ) → j ≢ k → with T k j ≡ T j
 with-other T k j n = cond-false _ true (T j) (ne_eqb j k n)
 
-without-at : (T : ℕ → Bool) (k : ℕ) → without T k k ≡ false
-without-at T k = cond-true _ false (T k) (eq-eqb k k refl)
+pub without-same : (T : ℕ → Bool) (k : ℕ) → without T k k ≡ false
+without-same T k = cond-true _ false (T k) (eq-eqb k k refl)
 
 without-other : (T : ℕ → Bool) (k j : ℕ) → j ≢ k → without T k j ≡ T j
 without-other T k j n = cond-false _ false (T j) (ne_eqb j k n)
 
 -- Tests that are the same below n have the same moves.
 module _ (make : ℕ → Move) (p q : ℕ → Bool) where
-  ascending-same : (n : ℕ) → ((j : ℕ) → j < n → p j ≡ q j) → ascending make p n ≡ ascending make q n
+  pub ascending-same : (n : ℕ) → ((j : ℕ) → j < n → p j ≡ q j) → ascending make p n ≡ ascending make q n
   ascending-same zero same = ascending-zero make p ∙ sym (ascending-zero make q)
   ascending-same (suc n) same =
       let before = ascending-same n (λ j l. same j (omega arith)) in
@@ -28,7 +28,7 @@ module _ (make : ℕ → Move) (p q : ℕ → Bool) where
         | inr t ↦ ascending-false make p n t ∙ before ∙ sym (ascending-false make q n (sym here ∙ t))
       ]
 
-  descending-same : (n : ℕ) → ((j : ℕ) → j < n → p j ≡ q j) → descending make p n ≡ descending make q n
+  pub descending-same : (n : ℕ) → ((j : ℕ) → j < n → p j ≡ q j) → descending make p n ≡ descending make q n
   descending-same zero same = descending-zero make p ∙ sym (descending-zero make q)
   descending-same (suc n) same =
       let before = descending-same n (λ j l. same j (omega arith)) in
@@ -91,7 +91,7 @@ module _ (make : ℕ → Move) (p : ℕ → Bool) where
                     passes = t;
                     move = ap (head m) (sym one);
                     others =
-                        ascending-false make (without p n) n (without-at p n)
+                        ascending-false make (without p n) n (without-same p n)
                         ∙ ascending-same make (without p n) p n (λ j l. without-other p n j (omega arith))
                         ∙ none
                         ∙ ap tail one;
@@ -137,7 +137,7 @@ module _ (make : ℕ → Move) (p : ℕ → Bool) where
               passes = t;
               move = ap (head m) (sym all);
               others =
-                  descending-false make (without p n) n (without-at p n)
+                  descending-false make (without p n) n (without-same p n)
                   ∙ descending-same make (without p n) p n (λ j l. without-other p n j (omega arith))
                   ∙ ap tail all;
             }
@@ -148,7 +148,7 @@ module _ (S G : ℕ → Bool) (k : ℕ) where
   split_less : (j : ℕ) → less G (with S k) j ≡ without (less G S) k j
   split_less j =
       elim (cases_eq j k) [
-        | inl is ↦ subst (λ i. less G (with S k) i ≡ without (less G S) k i) (sym is) (and_right (G k) (not (with S k k)) (not_from_true (with S k k) (with-same S k)) ∙ sym (without-at (less G S) k))
+        | inl is ↦ subst (λ i. less G (with S k) i ≡ without (less G S) k i) (sym is) (and_right (G k) (not (with S k k)) (not_from_true (with S k k) (with-same S k)) ∙ sym (without-same (less G S) k))
         | inr n ↦ (rw (with-other S k j n) (sym (without-other (less G S) k j n)))
       ]
 
@@ -164,7 +164,7 @@ module _ (S G : ℕ → Bool) (k : ℕ) where
   collapse_less : (j : ℕ) → less (without S k) G j ≡ without (less S G) k j
   collapse_less j =
       elim (cases_eq j k) [
-        | inl is ↦ subst (λ i. less (without S k) G i ≡ without (less S G) k i) (sym is) (and_left (without S k k) (not (G k)) (without-at S k) ∙ sym (without-at (less S G) k))
+        | inl is ↦ subst (λ i. less (without S k) G i ≡ without (less S G) k i) (sym is) (and_left (without S k k) (not (G k)) (without-same S k) ∙ sym (without-same (less S G) k))
         | inr n ↦ (rw (without-other S k j n) (sym (without-other (less S G) k j n)))
       ]
 

@@ -83,16 +83,17 @@ same_side None (Some y) = false
 same_side (Some x) None = false
 same_side (Some x) (Some y) = x == y
 
-abbrev pub face_of_beyond : Option ℕ → Option ℕ
-face_of_beyond None = None
-face_of_beyond (Some b) = Some (face_of b)
+-- The face of the side that stands beyond another one, if any does.
+abbrev pub face_beyond : Option ℕ → Option ℕ
+face_beyond None = None
+face_beyond (Some b) = Some (face_of b)
 
 -- The face that stands beyond the first of these sides beyond which something else stands than is recorded.
 abbrev pub first_other : Hierarchy → (ℕ → Bool) → List ℕ → Option ℕ
 first_other h T [] = None
 first_other h T (e ∷ es) =
     let beyond = beyond_of h T e in
-    cond (same_side beyond (expected h e)) (first_other h T es) (face_of_beyond beyond)
+    cond (same_side beyond (expected h e)) (first_other h T es) (face_beyond beyond)
 
 -- What forbids the collapse of record k, if anything.
 unfoldable pub collapse_fault : Hierarchy → (ℕ → Bool) → ℕ → Option MoveFault

@@ -13,7 +13,7 @@ use Rattle.pm_base.proofs.Root.{root_up_is}
 use Rattle.pm_base.proofs.Lengths.{distances_le}
 use Rattle.pm_base.proofs.Search.{option_cases}
 use Rattle.pm_forest.specs.declared.parts.Face.{Face}
-use Rattle.pm_forest.specs.Forest.{Hierarchy, record_count, node_count, s_of, t_of, u_of, holds, Holds, Makes, splitter_of, HasForestShape}
+use Rattle.pm_forest.specs.Forest.{Hierarchy, record_count, node_count, s_of, t_of, u_of, holds, Holds, Makes, splitter_of}
 use Rattle.pm_forest.specs.Faces.{faces_of, face_count, corners_of, from_leaf, no_face_corners}
 use Rattle.pm_forest.specs.Places.{place_of_node}
 use Rattle.pm_forest.specs.Rules.{HasShape}
@@ -71,9 +71,6 @@ reach_corner h v e =
     ]
 
 module _ (h : Hierarchy) (shape : HasShape h) where
-  own : HasForestShape h
-  own = shape_of_nodes h shape
-
   -- From the leaves up: what holds of each node of one leaf, and of each other node where it holds of its children.
   up_in : (P : ℕ → Type 0) → ((v : ℕ) → v < node_count h → splitter_of h v ≡ None → P v) → ((k : ℕ) → k < record_count h → P (t_of h k) → P (u_of h k) → P (s_of h k)) →
       (n k v : ℕ) → record_count h ≤ n + k → DoneFrom h k v → v < node_count h → P v
@@ -89,8 +86,8 @@ module _ (h : Hierarchy) (shape : HasShape h) where
             let p = splitter_of-splits h j v e in
             let m = p.1 in
             let q = low j e in
-            let t = up_in P leaf split n (suc j) (t_of h j) (omega arith) (λ i g. later h own j i (t_of h j) m (omega arith) g) (omega arith) in
-            let u = up_in P leaf split n (suc j) (u_of h j) (omega arith) (λ i g. later h own j i (u_of h j) m (omega arith) g) (omega arith) in
+            let t = up_in P leaf split n (suc j) (t_of h j) (omega arith) (λ i g. later h (shape_of_nodes h shape) j i (t_of h j) m (omega arith) g) (omega arith) in
+            let u = up_in P leaf split n (suc j) (u_of h j) (omega arith) (λ i g. later h (shape_of_nodes h shape) j i (u_of h j) m (omega arith) g) (omega arith) in
             subst P p.0 (split j m t u)
       ]
 
@@ -101,20 +98,20 @@ module _ (h : Hierarchy) (shape : HasShape h) where
   pub errors_grow : Grows h (λ v. 0) (error_of h)
   unfolding error_of
   errors_grow = record {
-    leaves = λ v l single. grown_at_leaf h own (λ w. 0) v ((unsplit-single h shape v l).1 single);
-    splits = λ k l. grown_at_split h own (λ w. 0) k l;
+    leaves = λ v l single. grown_at_leaf h (shape_of_nodes h shape) (λ w. 0) v ((unsplit-single h shape v l).1 single);
+    splits = λ k l. grown_at_split h (shape_of_nodes h shape) (λ w. 0) k l;
   }
 
   pub radii_grow : Grows h (leaf_radius h) (radius_of h)
   unfolding radius_of
   radii_grow = record {
-    leaves = λ v l single. grown_at_leaf h own (leaf_radius h) v ((unsplit-single h shape v l).1 single);
-    splits = λ k l. grown_at_split h own (leaf_radius h) k l;
+    leaves = λ v l single. grown_at_leaf h (shape_of_nodes h shape) (leaf_radius h) v ((unsplit-single h shape v l).1 single);
+    splits = λ k l. grown_at_split h (shape_of_nodes h shape) (leaf_radius h) k l;
   }
 
   own_radius : (v : ℕ) → splitter_of h v ≡ None → radius_of h v ≡ leaf_radius h v
   unfolding radius_of
-  own_radius v none = grown_at_leaf h own (leaf_radius h) v none
+  own_radius v none = grown_at_leaf h (shape_of_nodes h shape) (leaf_radius h) v none
 
   -- the greater of the two is at least each
   by_t : (number : ℕ → ℕ) (k : ℕ) → number (s_of h k) ≡ over_children h number k → number (t_of h k) + distance_of (place_of_node h (s_of h k)) (place_of_node h (t_of h k)) ≤ number (s_of h k)
@@ -143,13 +140,13 @@ module _ (h : Hierarchy) (shape : HasShape h) where
 
   -- a leaf under a node that is split is under one of its children
   child_of_leaf : (k x : ℕ) → k < record_count h → Holds h (s_of h k) x → Holds h (t_of h k) x ⊎ Holds h (u_of h k) x
-  child_of_leaf k x l held = elim (cases_Bool (holds h (t_of h k) x)) [ inl t ↦ inl t | inr t ↦ inr (holds-u_from_s h own k x l held t) ]
+  child_of_leaf k x l held = elim (cases_Bool (holds h (t_of h k) x)) [ inl t ↦ inl t | inr t ↦ inr (holds-u_from_s h (shape_of_nodes h shape) k x l held t) ]
 
   pub leaves_covered : (v x : ℕ) → v < node_count h → Holds h v x → dist2_of (place_of_node h v) (leaf_place h x) ≤ error_of h v * error_of h v
   leaves_covered v x l =
       up_from_leaves (λ w. Holds h w x → dist2_of (place_of_node h w) (leaf_place h x) ≤ error_of h w * error_of h w)
       (λ w m none held.
-      let is : leaf_node_of h x ≡ w = leaf_node-unsplit h own w x m none held in
+      let is : leaf_node_of h x ≡ w = leaf_node-unsplit h (shape_of_nodes h shape) w x m none held in
       let zero_way : dist2_of (place_of_node h w) (leaf_place h x) ≡ 0 = ap (λ n. dist2_of (place_of_node h w) (place_of_node h n)) is ∙ no_way (place_of_node h w) in
       omega arith)
       (λ k m t u held. elim (child_of_leaf k x m held) [

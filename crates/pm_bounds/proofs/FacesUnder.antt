@@ -1,10 +1,10 @@
 -- The faces under a node, by side numbers and as a list, and that a child has one.
-use Rattle.std.proofs.Common.{◌≡◌, ℕ, suc, ◌+◌, ◌*◌, ◌<◌, true, false, cond, ◌||◌, length, get_or, Some, is_some, inl, inr, refl, sym, ap, ◌∙◌, subst, arith}
-use Rattle.std.proofs.lemmas.Bool.{cases_Bool, or_left, or_right, or_parts, cond-true, cond-false, both_ways}
+use Rattle.std.proofs.Common.{◌≡◌, ℕ, suc, ◌+◌, ◌*◌, ◌<◌, true, false, ◌||◌, length, get_or, Some, is_some, inl, inr, refl, sym, ap, ◌∙◌, subst, arith}
+use Rattle.std.proofs.lemmas.Bool.{cases_Bool, or_left, or_right, or_parts, both_ways}
 use Rattle.pm_base.specs.Counts.{one_if}
 use Rattle.pm_base.specs.Sides.{face_of, next}
 use Rattle.pm_base.proofs.Sides.{face_of-next}
-use Rattle.pm_forest.specs.Forest.{Hierarchy, record_at, record_count, t_of, u_of, holds, Holds, Makes}
+use Rattle.pm_forest.specs.Forest.{Hierarchy, record_at, record_count, holds, Holds, Makes}
 use Rattle.pm_forest.specs.Faces.{faces_of, first_face, face_count, revealed_by, is_left, corners_of, from_leaf, inner_of, no_face_corners}
 use Rattle.pm_forest.specs.Rules.{HasShape, head_is_bad, split_is_bad, presence_is_bad, head_fault, head_of}
 use Rattle.pm_forest.proofs.Corners.{which_corner, corner_a, corner_b, corner_c}
@@ -12,6 +12,7 @@ use Rattle.pm_forest.proofs.FaceLists.{length-faces_of, corners_of-faces_of}
 use Rattle.pm_forest.proofs.FaceNumbers.{first_face-mono, revealed-from}
 use Rattle.pm_forest.proofs.Prefix.{cut}
 use Rattle.pm_forest.proofs.ShapeLaws.{shape_of_faces, record_fits}
+use Rattle.pm_forest.proofs.Sides.{inner-face}
 use Rattle.pm_forest.proofs.UnitLaws.{passed}
 use Rattle.pm_bounds.specs.Bounds.{has_corner_under}
 
@@ -37,18 +38,6 @@ module _ (h : Hierarchy) where
   -- the list of faces has face f at f
   pub face_there : (f : ℕ) → f < face_count h → (get_or (faces_of h) f no_face_corners ≡ corners_of h f) × (f < length (faces_of h))
   face_there f l = let len = length-faces_of h in (sym (corners_of-faces_of h f l), omega arith)
-
-inner_face : (h : Hierarchy) (k f : ℕ) → face_of (inner_of h k f) ≡ f
-unfolding inner_of
-inner_face h k f =
-    let v = cond (is_left h k f) (t_of h k) (u_of h k) in
-    elim (cases_Bool (holds h v (from_leaf h (3 * f)))) [
-      | inl e ↦ ap face_of (cond-true _ _ _ e) ∙ omega arith
-      | inr e ↦ elim (cases_Bool (holds h v (from_leaf h (3 * f + 1)))) [
-        | inl g ↦ ap face_of (cond-false _ _ _ e ∙ cond-true _ _ _ g) ∙ omega arith
-        | inr g ↦ ap face_of (cond-false _ _ _ e ∙ cond-false _ _ _ g) ∙ omega arith
-      ]
-    ]
 
 no_presence : presence_is_bad 0 ≡ true
 no_presence = refl
@@ -80,7 +69,7 @@ module _ (h : Hierarchy) (shape : HasShape h) where
       let last = first_face-mono h (suc k) (record_count h) l in
       let own : revealed_by h f ≡ Some k = revealed-from h f k l (omega arith) more in
       let i = inner_of h k f in
-      let at = inner_face h k f in
+      let at = inner-face h k f in
       let at_next : face_of (next i) ≡ f = face_of-next i ∙ at in
       elim (cases_Bool (is_left h k f)) [
         | inl left ↦

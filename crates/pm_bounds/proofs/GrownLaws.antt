@@ -78,15 +78,12 @@ pub record IsGrown (h : Hierarchy) (first now : List ℕ) (k : ℕ) : Type 0 whe
   pub small : (v : ℕ) → v < node_count h → get_or now v 0 ≤ 113509 * (1 + (record_count h - k))
 
 module _ (h : Hierarchy) (shape : HasShape h) (first : List ℕ) where
-  nodes : HasForestShape h
-  nodes = shape_of_nodes h shape
-
   -- before any record
   pub grown_start : length first ≡ node_count h → ((v : ℕ) → v < node_count h → get_or first v 0 ≤ 113509) → IsGrown h first first (record_count h)
   grown_start len small = record {
     len = len;
     each = λ leaf own v l done. elim (option_cases (splitter_of h v)) [
-      | inl none ↦ own v l none ∙ sym (grown_at_leaf h nodes leaf v none)
+      | inl none ↦ own v l none ∙ sym (grown_at_leaf h (shape_of_nodes h shape) leaf v none)
       | inr (j, e) ↦ (let p = (splitter_of-splits h j v e).1 in let q = done j e in absurd (omega arith))
     ];
     small = λ v l. (let s = small v l in omega arith);
@@ -95,9 +92,9 @@ module _ (h : Hierarchy) (shape : HasShape h) (first : List ℕ) where
   at_s : (old : List ℕ) (k : ℕ) → k < record_count h → IsGrown h first old (suc k) → (leaf : ℕ → ℕ) →
       ((v : ℕ) → v < node_count h → splitter_of h v ≡ None → get_or first v 0 ≡ leaf v) → grown_at h old k ≡ grown_from h leaf (s_of h k)
   at_s old k l was leaf own =
-      let t = was.each leaf own (t_of h k) (omega arith) (λ j e. later h nodes k j (t_of h k) l (omega arith) e) in
-      let u = was.each leaf own (u_of h k) (omega arith) (λ j e. later h nodes k j (u_of h k) l (omega arith) e) in
-      rw (t, u) (sym (grown_at_split h nodes leaf k l))
+      let t = was.each leaf own (t_of h k) (omega arith) (λ j e. later h (shape_of_nodes h shape) k j (t_of h k) l (omega arith) e) in
+      let u = was.each leaf own (u_of h k) (omega arith) (λ j e. later h (shape_of_nodes h shape) k j (u_of h k) l (omega arith) e) in
+      rw (t, u) (sym (grown_at_split h (shape_of_nodes h shape) leaf k l))
 
   -- one record more
   pub grown_step : (old : List ℕ) (k x : ℕ) → k < record_count h → IsGrown h first old (suc k) → x ≡ grown_at h old k →
@@ -137,9 +134,6 @@ pub record AreJoined (h : Hierarchy) (now : List (Option NormalBox)) (k : ℕ) :
   pub small : (v : ℕ) → v < length now → IfSome (get_or now v None) IsSmallBox
 
 module _ (h : Hierarchy) (shape : HasShape h) where
-  joined_nodes : HasForestShape h
-  joined_nodes = shape_of_nodes h shape
-
   -- what lies under a node that is split lies under its children
   pub box_under-split : (k : ℕ) → k < record_count h → box_under h (s_of h k) ≡ join (box_under h (t_of h k)) (box_under h (u_of h k))
   unfolding box_under
@@ -165,8 +159,8 @@ module _ (h : Hierarchy) (shape : HasShape h) where
       let node = split_node h shape k l in
       let len = was.len in
       let inside : s_of h k < length old = omega arith in
-      let t = was.each (t_of h k) (omega arith) (λ j e. later h joined_nodes k j (t_of h k) l (omega arith) e) in
-      let u = was.each (u_of h k) (omega arith) (λ j e. later h joined_nodes k j (u_of h k) l (omega arith) e) in
+      let t = was.each (t_of h k) (omega arith) (λ j e. later h (shape_of_nodes h shape) k j (t_of h k) l (omega arith) e) in
+      let u = was.each (u_of h k) (omega arith) (λ j e. later h (shape_of_nodes h shape) k j (u_of h k) l (omega arith) e) in
       let value : x ≡ box_under h (s_of h k) = is ∙ (rw (t, u) (sym (box_under-split k l))) in
       let fits : IfSome x IsSmallBox =
       subst (λ b. IfSome b IsSmallBox) (sym is) (join-small (get_or old (t_of h k) None) (get_or old (u_of h k) None) (was.small (t_of h k) (omega arith)) (was.small (u_of h k) (omega arith))) in

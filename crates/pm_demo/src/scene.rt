@@ -3,7 +3,8 @@ ghost use Rattle.std.specs.Prelude.{◌≡◌, ◌+◌, ◌≤◌, ◌<◌, leng
 ghost use Rattle.pm_base.specs.Meshes.{mesh_of};
 ghost use Rattle.pm_grid.specs.Grid.{grid as grid_of};
 ghost use Rattle.pm_io.specs.Puts.{Puts};
-ghost use Rattle.pm_forest.specs.Fronts.{set_of, no_records};
+ghost use Rattle.pm_forest.specs.Fronts.{no_records};
+ghost use Rattle.pm_base.specs.Counts.{set_of};
 ghost use Rattle.pm_beyond.specs.Valid.{IsValid};
 ghost use Rattle.pm_front.specs.Shown.{active_nodes, kept_faces};
 ghost use Rattle.pm_refine.specs.Adapting.{view_target, view_plan};

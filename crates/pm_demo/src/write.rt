@@ -1,7 +1,8 @@
 //! The summary of a grid, line by line.
 ghost use Rattle.std.specs.Prelude.{◌≡◌, ◌≤◌};
 ghost use Rattle.pm_io.specs.Puts.{Puts};
-ghost use Rattle.pm_forest.specs.Fronts.{set_of, no_records};
+ghost use Rattle.pm_forest.specs.Fronts.{no_records};
+ghost use Rattle.pm_base.specs.Counts.{set_of};
 ghost use Rattle.pm_demo.specs.Summary.{IsOfGrid, sizes_text, views_text};
 ghost use Rattle.pm_demo.specs.Ending.{DemoEnds, DemoCounts};
 

@@ -12,14 +12,13 @@ use Rattle.std.proofs.lemmas.List.Sorted.{All-permutation, Contains-permutation,
 use Rattle.std.proofs.lemmas.Map.Keys.{IsDistinct-from_apart, IsDistinct-IsPermutation, IsStrictlyIncreasing-from_distinct, sorted_from_strictly_increasing, below_from_sorted}
 use Rattle.std.proofs.Math.Seq.{get_or-append_seam}
 use Rattle.pm_base.specs.declared.mesh.Corners.{Corners}
-use Rattle.pm_base.specs.Sides.{Net, no_corners}
-use Rattle.pm_fans.specs.Heads.{twin_in_table}
+use Rattle.pm_base.specs.Sides.{Net, no_corners, beside_side}
 use Rattle.pm_fans.specs.HeadKeys.{order_key, side_of_key, IsHeadKey, AreCollected, AreHeadKeys, AreKeyPlaces, AreRenamed, new_of}
 use Rattle.pm_fans.proofs.ChainLaws.{in_table}
 
 pub key_side : (m : Net) (glued : List (Option ℕ)) (e : ℕ) → e < 4194304 → side_of_key (order_key m glued e) ≡ e
 unfolding order_key
-key_side m glued e l = mod-mul-add (m.from e * 2 + cond (is_some (twin_in_table glued e)) 1 0) 4194304 e l
+key_side m glued e l = mod-mul-add (m.from e * 2 + cond (is_some (beside_side glued e)) 1 0) 4194304 e l
 
 -- What stands in a list after a push.
 pub pushed : {X : Type 0} (xs : List X) (y d : X) (i : ℕ) → i < length xs + 1 → ((i < length xs) × (slice_index_or (xs ++ y ∷ []) i d ≡ slice_index_or xs i d)) ⊎ ((i ≡ length xs) × (slice_index_or (xs ++ y ∷ []) i d ≡ y))
@@ -30,7 +29,7 @@ pushed xs y d i l =
     ]
 
 module _ (m : Net) (glued heads : List (Option ℕ)) (n : ℕ) (xs : List ℕ) (c : AreCollected m glued heads n xs) where
-  module _ (few : n < 4194304) (own : twin_in_table heads n ≡ Some n) where
+  module _ (few : n < 4194304) (own : beside_side heads n ≡ Some n) where
     k : ℕ
     k = order_key m glued n
 
@@ -42,7 +41,7 @@ module _ (m : Net) (glued heads : List (Option ℕ)) (n : ℕ) (xs : List ℕ) (
 
     is_key : IsHeadKey m glued heads (order_key m glued n)
     is_key = record {
-      own = subst (λ i. twin_in_table heads i ≡ Some i) (sym side) own;
+      own = subst (λ i. beside_side heads i ≡ Some i) (sym side) own;
       is = ap (order_key m glued) (sym side);
     }
 
@@ -100,7 +99,7 @@ keys_sorted m glued heads xs ys c perm sorted =
 module _ (m : Net) (glued heads : List (Option ℕ)) (keys : List ℕ) (h : AreHeadKeys m glued heads keys) where
   -- The key at a head's place.
   module _ (places : List ℕ) (p : AreKeyPlaces keys places (length heads) (length keys)) (few : length heads ≤ 3145728) where
-    pub place_of : (e : ℕ) → twin_in_table heads e ≡ Some e → (slice_index places e < length keys) × (slice_index keys (slice_index places e) ≡ order_key m glued e)
+    pub place_of : (e : ℕ) → beside_side heads e ≡ Some e → (slice_index places e < length keys) × (slice_index keys (slice_index places e) ≡ order_key m glued e)
     place_of e own =
         let (i, l, is) = h.all e own in
         let low = in_table heads e e own in

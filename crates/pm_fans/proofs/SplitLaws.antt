@@ -3,14 +3,14 @@ use Rattle.std.proofs.Common.{◌≡◌, ℕ, ◌+◌, ◌*◌, ◌/◌, ◌%◌
 use Rattle.std.specs.Option.{MatchOption, is_some, unwrap_or}
 use Rattle.std.proofs.lemmas.Bool.{cases_eq, cases_lt}
 use Rattle.pm_base.specs.declared.mesh.Corners.{Corners}
-use Rattle.pm_base.specs.Sides.{Net, net_of, side_count, prev, Stands}
+use Rattle.pm_base.specs.Sides.{Net, net_of, side_count, prev, Stands, beside_side}
 use Rattle.pm_base.specs.Fans.{IsUsed}
 use Rattle.pm_base.proofs.Search.{option_cases}
 use Rattle.pm_base.proofs.Sides.{next-next-next}
 use Rattle.pm_base.proofs.NetLaws.{from-corner}
 use Rattle.pm_fans.specs.Splits.{IsGlued, Turns, stay, on, IsSplitByFans, IsNumberedBy, IsCuttable, AreGlued}
 use Rattle.pm_fans.specs.Orders.{IsFirstSide, IsLeastSide, IsHead, Precedes, IsSplitMesh}
-use Rattle.pm_fans.specs.Heads.{twin_in_table, AreGluedInPairs, Leads, here, further, AreAllHeaded}
+use Rattle.pm_fans.specs.Heads.{AreGluedInPairs, Leads, here, further, AreAllHeaded}
 use Rattle.pm_fans.specs.HeadKeys.{order_key, side_of_key, AreHeadKeys, AreKeyPlaces, AreRenamed, new_of}
 use Rattle.pm_fans.proofs.ChainLaws.{in_table, next_in, first_led, has_head}
 use Rattle.pm_fans.proofs.NumberLaws.{key_side, place_of}
@@ -20,21 +20,21 @@ module _ (m : Net) (glued : List (Option ℕ)) (ok : IsCuttable m) (g : AreGlued
   in_net : (e : ℕ) → e < length glued → e < side_count m
   in_net e l = subst (λ n. e < n) g.sides l
 
-  glued_of : (e k : ℕ) → twin_in_table glued e ≡ Some k → IsGlued m e k
+  glued_of : (e k : ℕ) → beside_side glued e ≡ Some k → IsGlued m e k
   glued_of e k is = subst (λ r. MatchOption r ((i : ℕ) → IsGlued m e i → ⊥) (λ i. IsGlued m e i)) is (g.each e (in_net e (in_table glued e k is)))
 
-  not_glued : (e : ℕ) → e < side_count m → twin_in_table glued e ≡ None → IsFirstSide m e
+  not_glued : (e : ℕ) → e < side_count m → beside_side glued e ≡ None → IsFirstSide m e
   not_glued e l is = subst (λ r. MatchOption r ((i : ℕ) → IsGlued m e i → ⊥) (λ i. IsGlued m e i)) is (g.each e l)
 
-  table_of : (e k : ℕ) → IsGlued m e k → twin_in_table glued e ≡ Some k
+  table_of : (e k : ℕ) → IsGlued m e k → beside_side glued e ≡ Some k
   table_of e k w =
-      elim (option_cases (twin_in_table glued e)) [
+      elim (option_cases (beside_side glued e)) [
         | inl none ↦ absurd (not_glued e w.stands.is_side none k w)
         | inr (j, is) ↦ is ∙ ap Some (w.other j (glued_of e j is).twin)
       ]
 
-  first_none : (e : ℕ) → IsFirstSide m e → twin_in_table glued e ≡ None
-  first_none e first = elim (option_cases (twin_in_table glued e)) [ inl none ↦ none | inr (k, is) ↦ absurd (first k (glued_of e k is)) ]
+  first_none : (e : ℕ) → IsFirstSide m e → beside_side glued e ≡ None
+  first_none e first = elim (option_cases (beside_side glued e)) [ inl none ↦ none | inr (k, is) ↦ absurd (first k (glued_of e k is)) ]
 
   pub are_paired : AreGluedInPairs glued
   are_paired = record {
@@ -53,17 +53,17 @@ module _ (m : Net) (glued : List (Option ℕ)) (ok : IsCuttable m) (g : AreGlued
       let l : e < length glued = subst (λ i. i < length glued) (next-next-next e) (next_in glued are_paired (prev e) low) in
       on (turns s e w) (ok.stand e (in_net e l)) (glued_of (prev e) k f)
 
-order_open : (m : Net) (glued : List (Option ℕ)) (e : ℕ) → twin_in_table glued e ≡ None → order_key m glued e ≡ m.from e * 8388608 + e
+order_open : (m : Net) (glued : List (Option ℕ)) (e : ℕ) → beside_side glued e ≡ None → order_key m glued e ≡ m.from e * 8388608 + e
 unfolding order_key
 order_open m glued e is =
-    let bit : ℕ = cond (is_some (twin_in_table glued e)) 1 0 in
+    let bit : ℕ = cond (is_some (beside_side glued e)) 1 0 in
     let none : bit ≡ 0 = ap (λ (o : Option ℕ). cond (is_some o) 1 0) is in
     omega (arith, none)
 
-order_closed : (m : Net) (glued : List (Option ℕ)) (e k : ℕ) → twin_in_table glued e ≡ Some k → order_key m glued e ≡ m.from e * 8388608 + 4194304 + e
+order_closed : (m : Net) (glued : List (Option ℕ)) (e k : ℕ) → beside_side glued e ≡ Some k → order_key m glued e ≡ m.from e * 8388608 + 4194304 + e
 unfolding order_key
 order_closed m glued e k is =
-    let bit : ℕ = cond (is_some (twin_in_table glued e)) 1 0 in
+    let bit : ℕ = cond (is_some (beside_side glued e)) 1 0 in
     let one : bit ≡ 1 = ap (λ (o : Option ℕ). cond (is_some o) 1 0) is in
     omega (arith, one)
 
@@ -71,10 +71,10 @@ module _ (m : Net) (glued heads : List (Option ℕ)) (keys places : List ℕ) (f
   few : length heads ≤ 3145728
   few = omega (arith, a.headed.long, g.sides, ok.short)
 
-  in_heads : (e h : ℕ) → twin_in_table heads e ≡ Some h → e < side_count m
+  in_heads : (e h : ℕ) → beside_side heads e ≡ Some h → e < side_count m
   in_heads e h is = in_net m glued ok g e (subst (λ i. e < i) a.headed.long (in_table heads e h is))
 
-  head : (e : ℕ) → e < side_count m → (h : ℕ) × (twin_in_table heads e ≡ Some h)
+  head : (e : ℕ) → e < side_count m → (h : ℕ) × (beside_side heads e ≡ Some h)
   head e l = has_head heads e (a.all e (subst (λ i. e < i) (sym g.sides) l))
 
   new_at : (e : ℕ) → e < side_count m → (net_of fs).from e ≡ new_of heads places e
@@ -95,19 +95,19 @@ module _ (m : Net) (glued heads : List (Option ℕ)) (keys places : List ℕ) (f
             ]
       ]
 
-  new_is : (e h : ℕ) → twin_in_table heads e ≡ Some h → (net_of fs).from e ≡ slice_index places h
+  new_is : (e h : ℕ) → beside_side heads e ≡ Some h → (net_of fs).from e ≡ slice_index places h
   new_is e h is = new_at e (in_heads e h is) ∙ ap (λ (o : Option ℕ). slice_index places (unwrap_or o 0)) is
 
-  place : (e h : ℕ) → twin_in_table heads e ≡ Some h → (slice_index places h < length keys) × (slice_index keys (slice_index places h) ≡ order_key m glued h)
+  place : (e h : ℕ) → beside_side heads e ≡ Some h → (slice_index places h < length keys) × (slice_index keys (slice_index places h) ≡ order_key m glued h)
   place e h is = place_of m glued heads keys ks places ps few h (a.headed.own e h is)
 
-  first_is : (e h : ℕ) → twin_in_table heads e ≡ Some h → side_of_key (slice_index keys ((net_of fs).from e)) ≡ h
+  first_is : (e h : ℕ) → beside_side heads e ≡ Some h → side_of_key (slice_index keys ((net_of fs).from e)) ≡ h
   first_is e h is =
       let low = in_heads h h (a.headed.own e h is) in
       let short = ok.short in
       ap (λ v. side_of_key (slice_index keys v)) (new_is e h is) ∙ ap side_of_key (place e h is).1 ∙ key_side m glued h (omega arith)
 
-  around : (e h : ℕ) → twin_in_table heads e ≡ Some h → Turns m h e
+  around : (e h : ℕ) → beside_side heads e ≡ Some h → Turns m h e
   around e h is = turns m glued ok g h e (a.headed.led e h is)
 
   numbered : IsNumberedBy m (net_of fs) (λ v. side_of_key (slice_index keys v))
@@ -129,12 +129,12 @@ module _ (m : Net) (glued heads : List (Option ℕ)) (keys places : List ℕ) (f
   split = numberings_split m (net_of fs) (λ v. side_of_key (slice_index keys v)) ok.stand numbered
 
   -- A side by which a new vertex has its number is the head of its chain.
-  own_first : (e : ℕ) → Stands m e → IsFirstSide m e → twin_in_table heads e ≡ Some e
+  own_first : (e : ℕ) → Stands m e → IsFirstSide m e → beside_side heads e ≡ Some e
   own_first e t none =
       let (h, is) = head e t.is_side in
       is ∙ ap Some (first_led glued (are_paired m glued ok g) h e (a.headed.led e h is) (first_none m glued ok g e none))
 
-  own_least : (e : ℕ) → Stands m e → IsLeastSide m (net_of fs) e → twin_in_table heads e ≡ Some e
+  own_least : (e : ℕ) → Stands m e → IsLeastSide m (net_of fs) e → beside_side heads e ≡ Some e
   own_least e t least =
       let (h, is) = head e t.is_side in
       let own = a.headed.own e h is in
@@ -145,14 +145,14 @@ module _ (m : Net) (glued heads : List (Option ℕ)) (keys places : List ℕ) (f
         | inr ge ↦ let same : h ≡ e = omega arith in is ∙ ap Some same
       ]
 
-  least_glued : (e : ℕ) → Stands m e → IsLeastSide m (net_of fs) e → (k : ℕ) × (twin_in_table glued e ≡ Some k)
+  least_glued : (e : ℕ) → Stands m e → IsLeastSide m (net_of fs) e → (k : ℕ) × (beside_side glued e ≡ Some k)
   least_glued e t least =
-      elim (option_cases (twin_in_table glued e)) [
+      elim (option_cases (beside_side glued e)) [
         | inl none ↦ absurd ((least e t refl).0 (not_glued m glued ok g e t.is_side none))
         | inr some ↦ some
       ]
 
-  own_of : (e : ℕ) → Stands m e → IsHead m (net_of fs) e → twin_in_table heads e ≡ Some e
+  own_of : (e : ℕ) → Stands m e → IsHead m (net_of fs) e → beside_side heads e ≡ Some e
   own_of e t (inl none) = own_first e t none
   own_of e t (inr least) = own_least e t least
 

@@ -29,7 +29,7 @@ pub fn glued_sides(alloc: Global, faces: &[Corners]) -> Result<SideMap, OutOfMem
     let mut glued = SideMap::new(alloc, 3 * faces.len() as u32)?;
     for number in 0..glued.len() {
         let side = Side(number);
-        glued.put(side, glued_to(faces, &sides, side));
+        glued.set(side, glued_to(faces, &sides, side));
     }
     Ok(glued)
 }

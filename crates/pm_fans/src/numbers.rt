@@ -1,8 +1,8 @@
 //! The new vertices, by their heads: they are numbered in the order of the heads' keys.
 ghost use Rattle.std.specs.Prelude.{◌≡◌, ℕ, ◌+◌, ◌*◌, ◌<◌, ◌≤◌, Some, length, slice_index, IfOk, OnOk, MatchBool};
 ghost use Rattle.pm_base.specs.declared.limits.TheConstants.{MOST_FACES, MOST_SIDES};
-ghost use Rattle.pm_base.specs.Sides.{net_of};
-ghost use Rattle.pm_fans.specs.Heads.{twin_in_table, HasHead};
+ghost use Rattle.pm_base.specs.Sides.{net_of, beside_side};
+ghost use Rattle.pm_fans.specs.Heads.{HasHead};
 ghost use Rattle.pm_fans.specs.HeadKeys.{order_key, side_of_key, AreCollected, AreHeadKeys, AreKeyPlaces, new_of, AreRenamed};
 
 use crate::OutOfMemory;
@@ -58,7 +58,7 @@ fn push_head_key(
 // Whether a side is the head of its chain.
 fn is_head(heads: &SideMap, side: Side) -> bool
     requires { side.0 < length heads.now }
-    ensures { MatchBool result (twin_in_table heads.now side.0 ≡ Some side.0) (twin_in_table heads.now side.0 ≡ Some side.0 → ⊥) }
+    ensures { MatchBool result (beside_side heads.now side.0 ≡ Some side.0) (beside_side heads.now side.0 ≡ Some side.0 → ⊥) }
 {
     match heads.get(side) {
         Some(head) => head == side,
@@ -128,7 +128,7 @@ pub(crate) fn new_faces(
     requires few { count ≤ MOST_FACES }
     requires sides { length heads.now ≡ 3 * count }
     requires headed { (e : ℕ) → e < length heads.now → HasHead heads.now e }
-    requires in_range { (e h : ℕ) → twin_in_table heads.now e ≡ Some h → h < length places.now }
+    requires in_range { (e h : ℕ) → beside_side heads.now e ≡ Some h → h < length places.now }
     ensures { IfOk result (λ new. AreRenamed heads.now places.now count new.items) }
 {
     let mut faces = Vec::new(alloc);
@@ -146,7 +146,7 @@ pub(crate) fn new_faces(
 fn new_vertex(heads: &SideMap, places: &[u32], side: Side) -> u32
     requires in_range { side.0 < length heads.now }
     requires headed { HasHead heads.now side.0 }
-    requires heads { (e h : ℕ) → twin_in_table heads.now e ≡ Some h → h < length places.now }
+    requires heads { (e h : ℕ) → beside_side heads.now e ≡ Some h → h < length places.now }
     ensures { result ≡ new_of heads.now places.now side.0 }
 {
     let Some(head) = heads.get(side) else {

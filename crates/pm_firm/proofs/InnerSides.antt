@@ -13,7 +13,7 @@ use Rattle.pm_forest.proofs.Ancestors.{holds-ancestor_of}
 use Rattle.pm_forest.proofs.Ends.{third_outside}
 use Rattle.pm_forest.proofs.FaceNumbers.{which_face}
 use Rattle.pm_forest.proofs.Nodes.{not_both}
-use Rattle.pm_forest.proofs.OneStep.{with-cases, with-front, split-elsewhere}
+use Rattle.pm_forest.proofs.OneStep.{with-cases, with-same, with-front, split-elsewhere}
 use Rattle.pm_forest.proofs.ShapeLaws.{left_from}
 use Rattle.pm_forest.proofs.Shown.{shown_record, hidden-parts}
 use Rattle.pm_forest.proofs.Sides.{inner-face, three_sides}
@@ -24,12 +24,12 @@ use Rattle.pm_beyond.proofs.Carried.{ends-carried}
 use Rattle.pm_beyond.proofs.Reaching.{reaches-lt, back, Beyond-unique}
 use Rattle.pm_beyond.proofs.Standing.{forest_of, closed-front}
 use Rattle.pm_beyond.proofs.WalkTheory as law
+use Rattle.pm_beyond.proofs.Relinking.{split-new}
 use Rattle.pm_runs.specs.Pairs.{IsPair}
 use Rattle.pm_runs.specs.Merged.{merged}
 use Rattle.pm_firm.specs.Firm.{shown_net}
 use Rattle.pm_firm.proofs.Held.{inner_expected}
 use Rattle.pm_firm.proofs.ShownNets.{stands-shown, shown-stands}
-use Rattle.pm_firm.proofs.Relinking.{shown_new, new_beyond}
 use Rattle.pm_firm.proofs.MergedShown.{leaf, not_child, rename, both_s, next_lt, there_c}
 
 module _ (h : Hierarchy) (valid : IsValid h) (T : ℕ → Bool) (closed : IsClosed h T) (k : ℕ) (l : k < record_count h) (may : MaySplit h T k) where
@@ -63,7 +63,7 @@ module _ (h : Hierarchy) (valid : IsValid h) (T : ℕ → Bool) (closed : IsClos
   is_link e r le is b = Beyond-unique h tree valid.no_side_twice split_set e (beyond e) r (linked e le is) b
 
   pub link_new : (e : ℕ) → e < 3 * face_count h → record_of h e ≡ Some k → beyond e ≡ expected h e
-  link_new e le rec = is_link e (expected h e) le (shown_new h valid T closed k l may e rec) (new_beyond h valid T closed k l may e le rec)
+  link_new e le rec = is_link e (expected h e) le (shown_record h (with T k) e k rec ∙ with-same T k) (split-new h valid T k closed l may e le rec)
 
   shown_n : (e : ℕ) → Stands net_after e → is_shown h (with T k) e ≡ true
   shown_n e et = shown-stands h tree split_set split_front e et

@@ -1,5 +1,4 @@
 pub mod ShownNets
-pub mod Relinking
 pub mod Held
 pub mod MergedShown
 pub mod InnerSides

@@ -11,6 +11,7 @@ use Rattle.pm_forest.specs.Fronts.{IsFront, with}
 use Rattle.pm_forest.specs.Faces.{face_count, from_leaf, record_of, inner_of, IsForest}
 use Rattle.pm_forest.specs.Kept.{is_shown}
 use Rattle.pm_forest.proofs.OneStep.{with-front}
+use Rattle.pm_forest.proofs.Shown.{shown_with}
 use Rattle.pm_forest.proofs.Sides.{three_sides}
 use Rattle.pm_beyond.specs.Walks.{IsOuter, Beyond, beyond_of, expected}
 use Rattle.pm_beyond.specs.Valid.{IsValid}
@@ -20,6 +21,7 @@ use Rattle.pm_beyond.proofs.Reaching.{kept_at_side, Beyond-unique}
 use Rattle.pm_beyond.proofs.Neighbours.{expected-lt}
 use Rattle.pm_beyond.proofs.Standing.{forest_of, closed-front}
 use Rattle.pm_beyond.proofs.Closed.{four_faces}
+use Rattle.pm_beyond.proofs.Relinking.{split-neighbour, split-other}
 use Rattle.pm_runs.specs.Pairs.{IsPair}
 use Rattle.pm_runs.specs.Merged.{merged}
 use Rattle.pm_splits.specs.Splits.{IsBetween, IsSplit}
@@ -27,7 +29,6 @@ use Rattle.pm_splits.proofs.SplitTwins.{splits_keep_manifolds}
 use Rattle.pm_firm.specs.Firm.{shown_net, IsSurfaceShown, FacesAreHeld}
 use Rattle.pm_firm.proofs.Held.{held_side}
 use Rattle.pm_firm.proofs.ShownNets.{stands-shown, shown-stands, twins-beyond, beyond-twins}
-use Rattle.pm_firm.proofs.Relinking.{shown_with, neighbour_beyond, other_beyond}
 use Rattle.pm_firm.proofs.MergedShown.{leaf, ends_differ, gone, there_m, there_c, twin_m, manifold_c}
 use Rattle.pm_firm.proofs.InnerSides.{linked, is_link, link_new, ends, goes_back, inner_side, one, inner}
 
@@ -98,9 +99,9 @@ module _ (h : Hierarchy) (valid : IsValid h) (T : ℕ → Bool) (closed : IsClos
         let shown_e = shown-stands h tree T front e em in
         let tm = twin-one net_before surface.manifold.no_side_twice e g (twin_m h valid T closed k l may e g et (twin-is merged_net e g is)) in
         let b : Beyond h T e (Some g) = subst (Beyond h T e) tm (twins-beyond h tree T front valid.no_side_twice surface.twins e et.is_side shown_e) in
-        let shown_e1 = shown_with h valid T closed k l may e shown_e in
+        let shown_e1 = shown_with h T k e shown_e in
         elim (search_below (λ o. IsOuter h k o × (expected h o ≡ Some e)) (points? e) (3 * face_count h)) [
-          | inr none ↦ inl (is_link h valid T closed k l may e (Some g) et.is_side shown_e1 (other_beyond h valid T closed k l may e (Some g) et.is_side shown_e b (λ o ol outer x. none o ol (outer, x))))
+          | inr none ↦ inl (is_link h valid T closed k l may e (Some g) et.is_side shown_e1 (split-other h valid T k closed l may e (Some g) et.is_side shown_e b (λ o ol outer x. none o ol (outer, x))))
           | inl (o, ol, (outer, x)) ↦
               let (p, px) = across-outer h k o outer in
               let face = across-face h o p px in
@@ -113,7 +114,7 @@ module _ (h : Hierarchy) (valid : IsValid h) (T : ℕ → Bool) (closed : IsClos
               inr (record {
                 o = o;
                 r = p;
-                meets = is_link h valid T closed k l may e (Some o) et.is_side shown_e1 (neighbour_beyond h valid T closed k l may e o ol outer x);
+                meets = is_link h valid T closed k l may e (Some o) et.is_side shown_e1 (split-neighbour h valid T k closed l may o e ol outer x);
                 leaves = link_new h valid T closed k l may p pl rec ∙ eq;
                 sides = elim (three_sides p o face) [ inl i ↦ absurd (across-differs h o p px i) | inr w ↦ w ];
               })

@@ -2,11 +2,11 @@
 -- of the records on the leaf's path a front has those whose children's numbers aren't above the ancestor's.
 use Rattle.std.proofs.Common.{◌≡◌, ◌≢◌, ℕ, zero, suc, ◌+◌, ◌<◌, ◌≤◌, eqb, ltb, Bool, true, false, ◌&&◌, List, [], ◌∷◌, length, sum, inl, inr, refl, sym, ap, ◌∙◌, subst, arith}
 use Rattle.std.proofs.lemmas.Bool.{ltb-true, ltb-false, lt-ltb, le-ltb, eqb-true, eq-eqb, and_parts, and_from, cases_eq, cases_Bool, cases_lt, cond-true, cond-false, both_ways}
-use Rattle.std.proofs.lemmas.List.{length-map}
 use Rattle.pm_forest.specs.Forest.{widths, Hierarchy, record_count, leaf_count, s_of, t_of, u_of, within, root_interval, root_of, interval_after, interval_of, holds, Holds, Makes, node_count, HasForestShape}
 use Rattle.pm_forest.specs.Fronts.{IsFront, IsThere, IsActive, ancestor_after, ancestor_of, every, below}
 use Rattle.pm_forest.proofs.Nodes.{within-true, within-from, holds-s_from_t, holds-s_from_u, holds-u_from_s, not_both, interval-kept, has_maker}
 use Rattle.pm_forest.proofs.OwnerLaws.{sum-cons}
+use Rattle.pm_forest.proofs.RootTables.{width_count}
 
 -- The base front, the full front, and the records below a number, of which the last one has active children.
 
@@ -64,11 +64,8 @@ root_of-from (w ∷ ws) start (suc v) x l e =
     let g = from_root-le ws (start + w) v in
     rw (le-ltb x (start + w) (omega arith)) (ap suc (root_of-from ws (start + w) v x (omega arith) e))
 
-width_count : (h : Hierarchy) → length (widths h) ≡ length h.roots
-width_count h = length-map h.roots (λ r. r.width)
-
 root-lt : (h : Hierarchy) (x : ℕ) → x < leaf_count h → root_of (widths h) 0 x < length h.roots
-root-lt h x l = let r = root_of-lt (widths h) 0 x (omega arith) (omega arith) in omega (arith, width_count h)
+root-lt h x l = let r = root_of-lt (widths h) 0 x (omega arith) (omega arith) in omega (arith, width_count h.roots)
 
 -- What one record does to the node of a leaf: the node stays, or moves to the child that has the leaf below it.
 pub data Move (h : Hierarchy) (T : ℕ → Bool) (k x : ℕ) : Type 0 where
@@ -165,7 +162,7 @@ module _ (h : Hierarchy) (shape : HasForestShape h) where
   pub ancestor-at : (T : ℕ → Bool) → IsFront h T → (k v x : ℕ) → k ≤ record_count h → v < t_of h k → IsThere h T v → ((i : ℕ) → i < k → T i ≡ true → s_of h i ≢ v) → Holds h v x → ancestor_after h T k x ≡ v
   unfolding ancestor_after holds interval_after
   ancestor-at T front zero v x m l there unsplit e =
-      let q : v < length (widths h) = omega (arith, width_count h) in
+      let q : v < length (widths h) = omega (arith, width_count h.roots) in
       root_of-from (widths h) 0 v x q (rw (interval-kept h 0 (record_count h) v (omega arith) (omega arith)) at e)
   ancestor-at T front (suc k) v x m l there unsplit e =
       elim (cases_lt v (t_of h k)) [

@@ -5,7 +5,8 @@ use Rattle.std.proofs.Math.Path.{fun_ext}
 use Rattle.std.proofs.lemmas.Bool.{cases_eq, cases_lt, cases_order, lt-ltb, le-ltb, eq-eqb, ne_eqb, cond-true, cond-false}
 use Rattle.std.proofs.lemmas.List.{get_or-replicate, get_or_past, length-replicate}
 use Rattle.std.specs.Prelude.{replicate}
-use Rattle.pm_forest.specs.Fronts.{set_of, no_records, below, with, without}
+use Rattle.pm_forest.specs.Fronts.{no_records, below, with, without}
+use Rattle.pm_base.specs.Counts.{set_of}
 
 pub set_of-set : (flags : List Bool) (k : ℕ) → k < length flags → set_of (set flags k true) ≡ with (set_of flags) k
 set_of-set flags k l = fun_ext (λ j.

@@ -1,11 +1,11 @@
 -- What the readers of a whole hierarchy answer.
 use Rattle.std.proofs.Common.{◌≡◌, ◌≢◌, ◌↔◌, ℕ, zero, suc, ◌+◌, ◌-◌, ◌/◌, ◌%◌, ◌<◌, ◌≤◌, List, [], ◌∷◌, length, get_or, All, None, Some, IfSome, inl, inr, refl, sym, ap, ◌∙◌, arith}
 use Rattle.std.proofs.lemmas.Bool.{cases_lt, lt-ltb, le-ltb, lt-leb, le-leb, eq-eqb, ne_eqb, cond-true, cond-false}
-use Rattle.std.proofs.lemmas.List.{length-map, get_or_default}
+use Rattle.std.proofs.lemmas.List.{get_or_default}
 use Rattle.std.proofs.lemmas.Option.{none-some}
 use Rattle.pm_base.proofs.Search.{option_cases}
 use Rattle.pm_forest.specs.declared.parts.Root.{Root}
-use Rattle.pm_forest.specs.Forest.{Hierarchy, Interval, record_at, widths, record_count, node_count, leaf_count, Holds, holds, root_interval, interval_after, interval_of, splitter_of, HasForestShape}
+use Rattle.pm_forest.specs.Forest.{Hierarchy, Interval, record_at, widths, record_count, node_count, leaf_count, Holds, holds, root_interval, interval_after, interval_of, splitter_of}
 use Rattle.pm_forest.specs.Fronts.{every}
 use Rattle.pm_forest.specs.Faces.{first_face, face_count, revealed_by, revealed_after}
 use Rattle.pm_forest.specs.Places.{no_root, place_of_node}
@@ -14,6 +14,7 @@ use Rattle.pm_forest.specs.Tables.{Grown, all_of, grown, IsSingle, leaf_node_of}
 use Rattle.pm_forest.proofs.Nodes.{within-true, within-from, interval-kept, interval_of-t, interval_of-u, has_maker, splitter_of-splits}
 use Rattle.pm_forest.proofs.Ancestors.{ancestor-lt, holds-ancestor_of}
 use Rattle.pm_forest.proofs.FaceNumbers.{revealed-parts, first_face-mono}
+use Rattle.pm_forest.proofs.RootTables.{width_count}
 use Rattle.pm_forest.proofs.LeafNodes.{interval_of-le, leaf_node-unsplit}
 use Rattle.pm_forest.proofs.ShapeLaws.{shape_of_nodes, roots_wide}
 use Rattle.pm_forest.proofs.FaceLimits.{leaf_nodes_of_shape}
@@ -34,9 +35,6 @@ interval_of_ends : (i : Interval) (a b : ℕ) → i.from ≡ a → i.until ≡ b
 interval_of_ends i a b from until = rw (← from, ← until) refl
 
 module _ (h : Hierarchy) (shape : HasShape h) where
-  nodes : HasForestShape h
-  nodes = shape_of_nodes h shape
-
   pub root_is : (v : ℕ) → v < length h.roots → interval_of h v ≡ root_interval (widths h) 0 v
   unfolding interval_after
   root_is v l = interval-kept h 0 (record_count h) v (omega arith) (omega arith)
@@ -46,27 +44,27 @@ module _ (h : Hierarchy) (shape : HasShape h) where
   some_leaves v l =
       elim (cases_lt v (length h.roots)) [
         | inl a ↦
-            let root : v < length (widths h) = omega (arith, length-map h.roots (λ r. r.width)) in
+            let root : v < length (widths h) = omega (arith, width_count h.roots) in
             rw (root_is v a) (root_wide (widths h) 0 v (roots_wide h shape) root)
         | inr a ↦
             let (j, j_lt, makes) = has_maker h v (record_count h) a l in
-            let w = nodes.width j j_lt in
+            let w = (shape_of_nodes h shape).width j j_lt in
             elim makes [
-              | inl is ↦ (rw (is, interval_of-t h nodes j j_lt) (omega arith))
-              | inr is ↦ (rw (is, interval_of-u h nodes j j_lt) (omega arith))
+              | inl is ↦ (rw (is, interval_of-t h (shape_of_nodes h shape) j j_lt) (omega arith))
+              | inr is ↦ (rw (is, interval_of-u h (shape_of_nodes h shape) j j_lt) (omega arith))
             ]
       ]
 
   -- what is under a node is a leaf
   pub under_node : (v x : ℕ) → v < node_count h → Holds h v x → x < leaf_count h
   unfolding holds
-  under_node v x l e = let p = within-true _ x e in omega (arith, interval_of-le h nodes v l)
+  under_node v x l e = let p = within-true _ x e in omega (arith, interval_of-le h (shape_of_nodes h shape) v l)
 
   -- A node that a record splits has two leaves or more.
   split_wide : (v k : ℕ) → splitter_of h v ≡ Some k → (interval_of h v).from + 1 < (interval_of h v).until
   split_wide v k e =
       let p = splitter_of-splits h k v e in
-      let w = nodes.width k p.1 in
+      let w = (shape_of_nodes h shape).width k p.1 in
       rw (← p.0) (omega arith)
 
   -- A node that none splits is the node of its first leaf in the full front, and so has that leaf alone.
@@ -75,7 +73,7 @@ module _ (h : Hierarchy) (shape : HasShape h) where
   one_leaf v l none =
       let x = (interval_of h v).from in
       let under : Holds h v x = within-from (interval_of h v) x (omega arith) (some_leaves v l) in
-      let node = leaf_node-unsplit h nodes v x l none under in
+      let node = leaf_node-unsplit h (shape_of_nodes h shape) v x l none under in
       rw node at (leaf_nodes_of_shape h shape x (under_node v x l under))
 
   -- no record splits a node of one leaf, and no other node stays whole
@@ -94,13 +92,13 @@ module _ (h : Hierarchy) (shape : HasShape h) where
   unfolding holds
   leaf_node-alone x l =
       let single = leaf_nodes_of_shape h shape x l in
-      let p = within-true _ x (holds-ancestor_of h nodes every x l) in
+      let p = within-true _ x (holds-ancestor_of h (shape_of_nodes h shape) every x l) in
       let from : (interval_of h (leaf_node_of h x)).from ≡ x = omega arith in
       let until : (interval_of h (leaf_node_of h x)).until ≡ x + 1 = omega arith in
       interval_of_ends _ x (x + 1) from until
 
   pub leaf_node-lt : (x : ℕ) → x < leaf_count h → leaf_node_of h x < node_count h
-  leaf_node-lt x l = ancestor-lt h nodes every (record_count h) x l
+  leaf_node-lt x l = ancestor-lt h (shape_of_nodes h shape) every (record_count h) x l
 
 -- Faces
 

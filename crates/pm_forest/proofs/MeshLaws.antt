@@ -5,13 +5,14 @@ use Rattle.std.proofs.lemmas.Bool.{cases_Bool, cases_eq, eqb-true, eq-eqb, ne_eq
 use Rattle.std.proofs.lemmas.List.{length-map, get_or-map}
 use Rattle.std.proofs.lemmas.List.FromFn.{length-map-range_with_len, get_or-map-range_with_len}
 use Rattle.std.specs.Option.{unwrap_or}
-use Rattle.pm_base.specs.Sides.{find_below}
+use Rattle.pm_base.specs.Sides.{find_below, no_corners}
 use Rattle.pm_base.specs.Meshes.{IsFace, IsWellFormed}
 use Rattle.pm_base.proofs.Search.{find_below-some, find_below-has, option_cases}
 use Rattle.pm_forest.specs.Forest.{Hierarchy, leaf_count, widths, s_of, t_of, u_of, root_of, holds, Holds}
 use Rattle.pm_forest.specs.Faces.{no_face_corners, faces_of, face_count, corners_of, revealed_by, is_left}
 use Rattle.pm_forest.specs.Rules.{HasShape}
-use Rattle.pm_forest.specs.Meshes.{leaf_place, leaf_input, face_input, leaf_corners, input_corners, leaf_mesh_of, face_of_input, input_place, input_face, input_mesh_of, no_place, no_triple, NumbersEach, HasInputNumbers}
+use Rattle.pm_forest.specs.Meshes.{leaf_place, leaf_input, face_input, leaf_corners, input_corners, leaf_mesh_of, face_of_input, input_place, input_face, input_mesh_of, NumbersEach, HasInputNumbers}
+use Rattle.pm_base.specs.Place.{origin}
 use Rattle.pm_forest.proofs.Nodes.{not_both, holds-s_from_t, holds-s_from_u}
 use Rattle.pm_forest.proofs.FaceNumbers.{revealed-parts}
 use Rattle.pm_forest.proofs.FaceLists.{length-faces_of, corners_of-faces_of}
@@ -188,11 +189,11 @@ module _ (h : Hierarchy) (shape : HasShape h) where
           points = length-map-range_with_len point 0 (leaf_count h);
           faces = length-map-range_with_len face 0 (face_count h);
           vertex = λ x l.
-              get_or-map-range_with_len point 0 (leaf_count h) (leaf_input h x - 1) (leaf_input h x - 1) no_place (vertex-lt x l) (omega arith)
+              get_or-map-range_with_len point 0 (leaf_count h) (leaf_input h x - 1) (leaf_input h x - 1) origin (vertex-lt x l) (omega arith)
               ∙ ap (leaf_place h) (numbered_so-found (leaf_input h) (leaf_count h) x leaves.once l (leaves.some x l));
           face = λ f l.
               let there : face_input h f - 1 < face_count h = (let some = faces.some f l in let most = faces.most f l in omega arith) in
-              get_or-map-range_with_len face 0 (face_count h) (face_input h f - 1) (face_input h f - 1) no_triple there (omega arith)
+              get_or-map-range_with_len face 0 (face_count h) (face_input h f - 1) (face_input h f - 1) no_corners there (omega arith)
               ∙ ap (λ g. input_corners h (corners_of h g)) (numbered_so-found (face_input h) (face_count h) f faces.once l (faces.some f l));
         };
       }

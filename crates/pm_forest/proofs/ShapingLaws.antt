@@ -169,7 +169,8 @@ no_leaves : (c : Counts) → counts_are_bad c ≡ false → c.roots ≡ 0 → c.
 unfolding counts_are_bad
 no_leaves c fit none = grind (arith, nat_tests)
 
-leaves_all : (c : Counts) (roots : List Root) → counts_are_bad c ≡ false → AllFit (root_fault c) [] roots → length roots ≡ c.roots →
+-- the widths of all roots are the leaves
+pub leaves_all : (c : Counts) (roots : List Root) → counts_are_bad c ≡ false → AllFit (root_fault c) [] roots → length roots ≡ c.roots →
     sum (widths_of roots) ≡ c.leaves
 leaves_all c roots fit fits count = elim (cases_lt 0 (length roots)) [
   | inl some ↦ omega (arith, all_wide c [] roots (omega arith) some fits)

@@ -3,10 +3,6 @@ use Rattle.std.specs.Prelude.{◌≡◌, ◌≢◌, ℕ, ◌<◌, ◌==◌, nat_
 use Rattle.std.proofs.Common.{zero, suc}
 use Rattle.pm_forest.specs.Forest.{Hierarchy, widths, record_count, s_of, t_of, u_of, root_of, holds, Makes, maker_of, splitter_of}
 
--- The records whose flags are set.
-abbrev pub set_of : List Bool → ℕ → Bool
-set_of flags k = slice_index_or flags k false
-
 -- A set of records is a front if it has, with each record, the record that made the node that it splits.
 abbrev pub IsFront : Hierarchy → (ℕ → Bool) → Type 0
 IsFront h T = (k j : ℕ) → k < record_count h → T k ≡ true → Makes h j (s_of h k) → T j ≡ true

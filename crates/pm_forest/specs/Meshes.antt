@@ -2,8 +2,8 @@
 use Rattle.std.specs.Prelude.{◌≡◌, ℕ, ◌+◌, ◌-◌, ◌<◌, ◌≤◌, ◌==◌, map, length, pos, slice_index_or}
 use Rattle.std.specs.List.{range_with_len}
 use Rattle.std.specs.Option.{unwrap_or}
-use Rattle.pm_base.specs.Place.{Place}
-use Rattle.pm_base.specs.Sides.{find_below}
+use Rattle.pm_base.specs.Place.{Place, origin}
+use Rattle.pm_base.specs.Sides.{find_below, no_corners}
 use Rattle.pm_base.specs.Meshes.{Mesh}
 use Rattle.pm_base.specs.declared.mesh.Corners.{Corners}
 use Rattle.pm_forest.specs.declared.parts.Face.{Face}
@@ -63,12 +63,6 @@ input_mesh_of h = record {
   faces = map (input_face h) (range_with_len 0 (face_count h));
 }
 
-abbrev pub no_place : Place
-no_place = record { x = pos 0; y = pos 0; z = pos 0 }
-
-abbrev pub no_triple : Corners
-no_triple = record { a = 0; b = 0; c = 0 }
-
 -- Each number from 1 to n is that of one of n things, and of no other.
 pub record NumbersEach (number : ℕ → ℕ) (n : ℕ) : Type 0 where
   pub some : (x : ℕ) → x < n → 0 < number x
@@ -80,8 +74,8 @@ pub record NumbersEach (number : ℕ → ℕ) (n : ℕ) : Type 0 where
 pub record IsInputMesh (h : Hierarchy) (m : Mesh) : Type 0 where
   pub points : length m.points ≡ leaf_count h
   pub faces : length m.faces ≡ face_count h
-  pub vertex : (x : ℕ) → x < leaf_count h → slice_index_or m.points (leaf_input h x - 1) no_place ≡ leaf_place h x
-  pub face : (f : ℕ) → f < face_count h → slice_index_or m.faces (face_input h f - 1) no_triple ≡ input_corners h (corners_of h f)
+  pub vertex : (x : ℕ) → x < leaf_count h → slice_index_or m.points (leaf_input h x - 1) origin ≡ leaf_place h x
+  pub face : (f : ℕ) → f < face_count h → slice_index_or m.faces (face_input h f - 1) no_corners ≡ input_corners h (corners_of h f)
 
 -- The input numbers of leaves and of faces leave none out, and the input mesh has each leaf and face at its own.
 pub record HasInputNumbers (h : Hierarchy) : Type 0 where

@@ -1,19 +1,17 @@
 -- A text in bytes, and the hierarchy that its words spell.
-use Rattle.std.proofs.Common.{◌≡◌, ℕ, zero, suc, ◌+◌, ◌-◌, ◌*◌, ◌≤◌, eqb, ltb, Bool, true, false, cond, ◌&&◌, ◌||◌, not, List, [], ◌∷◌, ◌++◌, Some, None, Result, Ok, Err, length, sum, take, drop, get_or, refl, sym, ◌∙◌, ap, subst, arith, append_assoc, length-append}
+use Rattle.std.proofs.Common.{◌≡◌, ℕ, zero, suc, ◌+◌, ◌-◌, ◌*◌, ◌≤◌, ltb, Bool, true, false, cond, List, [], ◌∷◌, ◌++◌, Some, None, Result, Ok, Err, length, sum, take, drop, get_or, refl, sym, ◌∙◌, ap, subst, arith, append_assoc, length-append}
 use Rattle.std.specs.List.{flat_map}
 use Rattle.std.specs.Cmp.Lexicographic.{same_text}
-use Rattle.std.proofs.lemmas.Bool.{eqb-true, or_parts, eq-eqb, not-false, le-ltb, ne_eqb}
+use Rattle.std.proofs.lemmas.Bool.{not-false, le-ltb, ne_eqb}
 use Rattle.std.proofs.lemmas.List.{take_at, append-nil, append_cancel_left, take-append-drop}
-use Rattle.pm_base.specs.Place.{is_place}
 use Rattle.pm_forest.specs.declared.parts.Counts.{Counts}
 use Rattle.pm_forest.specs.declared.parts.Root.{Root}
 use Rattle.pm_forest.specs.declared.parts.Face.{Face}
 use Rattle.pm_forest.specs.declared.parts.Record.{Record}
 use Rattle.pm_forest.specs.Forest.{Hierarchy, leaf_count, record_count, widths_of}
-use Rattle.pm_forest.specs.Rules.{AllFit, counts_are_bad, counts_of, width_is_bad, root_fault, base_fault, record_fault_after, past_fault, HasShape}
+use Rattle.pm_forest.specs.Rules.{AllFit, counts_are_bad, counts_of, root_fault, base_fault, record_fault_after, past_fault, HasShape}
 use Rattle.pm_forest.proofs.UnitLaws.{passed}
-use Rattle.pm_forest.proofs.OwnerLaws.{sum-cons}
-use Rattle.pm_forest.proofs.ShapingLaws.{widths_push}
+use Rattle.pm_forest.proofs.ShapingLaws.{leaves_all}
 use Rattle.pm_format.specs.declared.fault.FormatError.TheVariants as faults
 use Rattle.pm_format.specs.declared.stop.Stop.{Stop}
 use Rattle.pm_format.specs.Words.{words_of, spelled, AreWords, IsBytes}
@@ -34,34 +32,6 @@ unguarded : {A : Type 0} (b : Bool) (stop : Stop) (r : Result A Stop) (y : A) �
     (b ≡ false) × (r ≡ Ok y)
 unguarded true stop r y is = absurd cc
 unguarded false stop r y is = (refl, is)
-
--- the last root takes what the others leave
-widths_so_far : (c : Counts) (before : List Root) (r : Root) (rs : List Root) →
-    length before + length (r ∷ rs) ≡ c.roots → AllFit (root_fault c) before (r ∷ rs) →
-    sum (widths_of before) + sum (widths_of (r ∷ rs)) ≡ c.leaves
-unfolding root_fault width_is_bad
-widths_so_far c before r [] count all =
-    let taken = sum (widths_of before) in
-    let later = (passed (width_is_bad c taken (length before) r.width) _ _ (passed (not (is_place r.place)) _ _ all.0).1).0 in
-    let limits = eqb r.width 0 || ltb c.leaves (taken + r.width + (c.roots - 1 - length before)) in
-    let ends = eqb (length before + 1) c.roots && not (eqb (taken + r.width) c.leaves) in
-    let last = (or_parts limits ends later).1 in
-    let is_last : eqb (length before + 1) c.roots ≡ true = eq-eqb _ _ (omega arith) in
-    let whole = eqb-true (taken + r.width) c.leaves (not-false _ (rw is_last at last)) in
-    omega (arith, sum-cons r.width [])
-widths_so_far c before r (q ∷ rs) count all =
-    let others = widths_so_far c (before ++ r ∷ []) q rs (omega (arith, length-append before (r ∷ []))) all.1 in
-    omega (arith, widths_push before r, sum-cons r.width (widths_of (q ∷ rs)))
-
-widths_are_leaves : (c : Counts) (rs : List Root) → counts_are_bad c ≡ false → length rs ≡ c.roots →
-    AllFit (root_fault c) [] rs → sum (widths_of rs) ≡ c.leaves
-unfolding counts_are_bad
-widths_are_leaves c [] good count all =
-    let limits = ltb 1048576 c.leaves || ltb 1048576 c.bases || ltb c.leaves c.roots in
-    let rootless = eqb c.roots 0 && not (eqb c.leaves 0) in
-    let parts = or_parts limits rootless (or_parts (limits || rootless) _ good).0 in
-    sym (eqb-true c.leaves 0 (not-false _ (rw (eq-eqb c.roots 0 (sym count)) at parts.1)))
-widths_are_leaves c (r ∷ rs) good count all = omega (arith, widths_so_far c [] r rs (omega (arith, count)) all)
 
 -- The words of all units.
 abbrev unit_words : List Root → List Face → List Record → List ℕ
@@ -106,7 +76,7 @@ forest_takes ws h rest magic fit is =
     let same_bases : bs.more ≡ h.bases = sym bs.all_is ∙ ap (λ (q : Hierarchy). q.bases) is_h in
     let same_records : ns.more ≡ h.records = sym ns.all_is ∙ ap (λ (q : Hierarchy). q.records) is_h in
     let leaves : c.0.leaves ≡ leaf_count h =
-    sym (widths_are_leaves c.0 rs.more good.0 rs.count rs.fits) ∙ ap (λ l. sum (widths_of l)) same_roots in
+    sym (leaves_all c.0 rs.more good.0 rs.fits rs.count) ∙ ap (λ l. sum (widths_of l)) same_roots in
     let root_count : c.0.roots ≡ length h.roots = sym rs.count ∙ ap (λ (l : List Root). length l) same_roots in
     let base_count : c.0.bases ≡ length h.bases = sym bs.count ∙ ap (λ (l : List Face). length l) same_bases in
     let count : c.0.records ≡ record_count h = sym ns.count ∙ ap (λ (l : List Record). length l) same_records in

@@ -6,7 +6,7 @@ use Rattle.std.proofs.lemmas.List.{append-nil}
 use Rattle.std.proofs.lemmas.List.Elements.{filter-append}
 use Rattle.pm_io.specs.Bytes.{GainsPart, GainsThrough}
 use Rattle.pm_io.proofs.PageLaws.{through_both, through_more, through_part}
-use Rattle.pm_front.specs.Shown.{numbers_below}
+use Rattle.pm_base.specs.Counts.{numbers_below}
 use Rattle.pm_front.proofs.Counting.{numbers_parts, passing_next, passing_same}
 
 lines_next : (p : ℕ → Bool) (line : ℕ → List ℕ) (n : ℕ) → p n ≡ true →

@@ -3,7 +3,7 @@ ghost use Rattle.std.specs.Prelude.{true, ◌≡◌, ◌<◌};
 ghost use Rattle.pm_io.specs.Puts.{Puts, PutsThrough};
 ghost use Rattle.pm_forest.specs.Forest.{node_count};
 ghost use Rattle.pm_forest.specs.Faces.{face_count};
-ghost use Rattle.pm_forest.specs.Fronts.{set_of};
+ghost use Rattle.pm_base.specs.Counts.{set_of};
 ghost use Rattle.pm_forest.specs.Kept.{is_kept};
 ghost use Rattle.pm_frame.specs.Frame.{first_line, shown_node, node_lines, shown_face, face_lines, end_line, frame_text};
 

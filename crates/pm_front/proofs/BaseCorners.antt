@@ -22,7 +22,7 @@ use Rattle.pm_forest.proofs.ShapeLaws.{shape_of_nodes, shape_is_forest}
 use Rattle.pm_forest.proofs.Shown.{shown_base, shown_record, shown-parts}
 use Rattle.pm_sides.proofs.RecordSides.{corner_of-record}
 use Rattle.pm_sides.proofs.SplitNodeLaws.{s_below}
-use Rattle.pm_front.specs.Shown.{numbers_below}
+use Rattle.pm_base.specs.Counts.{numbers_below}
 use Rattle.pm_front.specs.Corners.{listed, is_under, is_not_between, rest_of, collapsed_list, collapsed_lists, full_list, full_base_lists, full_lists, base_lists, opened_lists}
 use Rattle.pm_front.specs.Active.{shown_count}
 use Rattle.pm_front.proofs.ListLaws.{has_filter-parts, filter-all, filter-swap, passing_first}

@@ -5,7 +5,8 @@ use Rattle.std.proofs.lemmas.List.{length-replicate}
 use Rattle.pm_base.specs.Sides.{NoSideTwice}
 use Rattle.pm_links.specs.Lists.{Lists}
 use Rattle.pm_forest.specs.Forest.{Hierarchy, node_count, record_count}
-use Rattle.pm_forest.specs.Fronts.{set_of, no_records, IsFront}
+use Rattle.pm_forest.specs.Fronts.{no_records, IsFront}
+use Rattle.pm_base.specs.Counts.{set_of}
 use Rattle.pm_forest.specs.Faces.{face_count}
 use Rattle.pm_forest.specs.Rules.{HasShape}
 use Rattle.pm_forest.proofs.Flags.{set_of-unset}

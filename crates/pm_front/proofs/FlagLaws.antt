@@ -7,12 +7,12 @@ use Rattle.std.proofs.lemmas.List.{length-set, length-replicate}
 use Rattle.pm_links.specs.Lists.{has, first_of, after, list_without, IsOnce}
 use Rattle.pm_links.proofs.Without.{has-without, has-without_same}
 use Rattle.pm_links.specs.declared.links.TheConstants.{LIMIT}
-use Rattle.pm_sets.specs.Sets.{is_in, IsGap, IsFirst}
+use Rattle.pm_sets.specs.Sets.{IsGap, IsFirst}
+use Rattle.pm_base.specs.Counts.{set_of, numbers_below}
 use Rattle.pm_sets.specs.Counted.{members_in}
 use Rattle.pm_sets.proofs.Ranges.{none_passes}
 use Rattle.pm_sets.proofs.FlagLaws.{in_below, no_members, set_other, set_here, more_in, less_in}
 use Rattle.pm_front.specs.Members.{Members, AreSameNumbers, AreMembers, members_of}
-use Rattle.pm_front.specs.Shown.{numbers_below}
 use Rattle.pm_front.proofs.ListLaws.{has_filter-parts, has_filter-from, once-filter, once-range, number-member}
 
 -- ---- in a range
@@ -44,16 +44,16 @@ after_passes p a (suc n) x low high pass =
 
 -- ---- the members of a set
 
-pub has-flagged : (flags : List Bool) (x : ℕ) → has (members_of flags) x ≡ is_in flags x
+pub has-flagged : (flags : List Bool) (x : ℕ) → has (members_of flags) x ≡ set_of flags x
 has-flagged flags x =
-    elim (cases_Bool (is_in flags x)) [
-      | inl there ↦ has_filter-from (is_in flags) (numbers_below (length flags)) x there ((number-member (length flags) x).1 (in_below flags x there)) ∙ sym there
+    elim (cases_Bool (set_of flags x)) [
+      | inl there ↦ has_filter-from (set_of flags) (numbers_below (length flags)) x there ((number-member (length flags) x).1 (in_below flags x there)) ∙ sym there
       | inr clear ↦
-          false_from_ne_true (has (members_of flags) x) (λ t. both_ways _ clear (has_filter-parts (is_in flags) (numbers_below (length flags)) x t).0) ∙ sym clear
+          false_from_ne_true (has (members_of flags) x) (λ t. both_ways _ clear (has_filter-parts (set_of flags) (numbers_below (length flags)) x t).0) ∙ sym clear
     ]
 
 pub once-flagged : (flags : List Bool) → IsOnce (members_of flags)
-once-flagged flags = once-filter (is_in flags) (numbers_below (length flags)) (once-range 0 (length flags))
+once-flagged flags = once-filter (set_of flags) (numbers_below (length flags)) (once-range 0 (length flags))
 
 -- a set with one more, or one less
 module _ (flags : List Bool) (n : ℕ) (n_lt : n < length flags) where
@@ -61,7 +61,7 @@ module _ (flags : List Bool) (n : ℕ) (n_lt : n < length flags) where
   put_in = record {
     same = λ x.
         has-flagged (set flags n true) x ∙ elim (cases_eq n x) [
-          | inl is ↦ ap (is_in (set flags n true)) (sym is) ∙ set_here flags n n_lt true ∙ sym (or_left (eqb n x) (has (members_of flags) x) (eq-eqb n x is))
+          | inl is ↦ ap (set_of (set flags n true)) (sym is) ∙ set_here flags n n_lt true ∙ sym (or_left (eqb n x) (has (members_of flags) x) (eq-eqb n x is))
           | inr other ↦
               set_other flags n n_lt true x (λ is. other (sym is)) ∙ sym (has-flagged flags x) ∙ sym (ap (λ b. b || has (members_of flags) x) (ne_eqb n x other))
         ];
@@ -73,7 +73,7 @@ module _ (flags : List Bool) (n : ℕ) (n_lt : n < length flags) where
     same = λ x.
         has-flagged (set flags n false) x ∙ elim (cases_eq x n) [
           | inl is ↦
-              ap (is_in (set flags n false)) is ∙ set_here flags n n_lt false ∙ sym (has-without_same n (members_of flags))
+              ap (set_of (set flags n false)) is ∙ set_here flags n n_lt false ∙ sym (has-without_same n (members_of flags))
               ∙ ap (has (list_without n (members_of flags))) (sym is)
           | inr other ↦ set_other flags n n_lt false x other ∙ sym (has-flagged flags x) ∙ sym (has-without n (members_of flags) x other)
         ];
@@ -82,7 +82,7 @@ module _ (flags : List Bool) (n : ℕ) (n_lt : n < length flags) where
 
   -- ---- how many they are
 
-  pub members_more : (count : ℕ) → AreMembers flags count → is_in flags n ≡ false → AreMembers (set flags n true) (count + 1)
+  pub members_more : (count : ℕ) → AreMembers flags count → set_of flags n ≡ false → AreMembers (set flags n true) (count + 1)
   members_more count was clear =
       let more = more_in flags n n_lt 0 (length flags) clear (omega arith) (omega (arith, n_lt)) in
       let long = ap (λ m. length (members_in (set flags n true) 0 m)) (length-set flags n true) in
@@ -91,7 +91,7 @@ module _ (flags : List Bool) (n : ℕ) (n_lt : n < length flags) where
         counted = omega (arith, was.counted, more, long);
       }
 
-  pub members_less : (count : ℕ) → AreMembers flags count → is_in flags n ≡ true → AreMembers (set flags n false) (count - 1)
+  pub members_less : (count : ℕ) → AreMembers flags count → set_of flags n ≡ true → AreMembers (set flags n false) (count - 1)
   members_less count was there =
       let less = less_in flags n n_lt 0 (length flags) there (omega arith) (omega (arith, n_lt)) in
       let long = ap (λ m. length (members_in (set flags n false) 0 m)) (length-set flags n false) in
@@ -104,15 +104,15 @@ module _ (flags : List Bool) (n : ℕ) (n_lt : n < length flags) where
 
 pub first_found : (flags : List Bool) (a n : ℕ) → a + n ≡ length flags → (found : Option ℕ) → IfSome found (IsFirst flags a) →
     IfNone found (IsGap flags a (length flags)) → found ≡ first_of (members_in flags a n)
-first_found flags a n all None some none = sym (ap first_of (none_passes (is_in flags) a n (λ y low high. none y low (omega (arith, all, high)))))
+first_found flags a n all None some none = sym (ap first_of (none_passes (set_of flags) a n (λ y low high. none y low (omega (arith, all, high)))))
 first_found flags a n all (Some k) first none =
     let below = in_below flags k first.there in
-    sym (first_passes (is_in flags) a n k first.from (omega (arith, below, all)) first.there first.none)
+    sym (first_passes (set_of flags) a n k first.from (omega (arith, below, all)) first.there first.none)
 
-pub after_member : (flags : List Bool) (n : ℕ) → is_in flags n ≡ true → after n (members_of flags) ≡ members_in flags (n + 1) (length flags - (n + 1))
+pub after_member : (flags : List Bool) (n : ℕ) → set_of flags n ≡ true → after n (members_of flags) ≡ members_in flags (n + 1) (length flags - (n + 1))
 after_member flags n there =
     let left : 0 + length flags - (n + 1) ≡ length flags - (n + 1) = omega arith in
-    after_passes (is_in flags) 0 (length flags) n (omega arith) (omega (arith, in_below flags n there)) there
+    after_passes (set_of flags) 0 (length flags) n (omega arith) (omega (arith, in_below flags n there)) there
     ∙ ap (members_in flags (n + 1)) left
 
 -- ---- none

@@ -8,7 +8,8 @@ use Rattle.pm_forest.specs.Kept.{is_kept, is_shown}
 use Rattle.pm_forest.proofs.OneStep.{with-same}
 use Rattle.pm_forest.proofs.Shown.{kept-shown, shown_record, shown_with, shown_with-parts, shown_without, shown_without-parts}
 use Rattle.pm_beyond.proofs.PlanLists.{same_bools}
-use Rattle.pm_front.specs.Shown.{numbers_below, kept_faces}
+use Rattle.pm_front.specs.Shown.{kept_faces}
+use Rattle.pm_base.specs.Counts.{numbers_below}
 use Rattle.pm_front.specs.Active.{shown_count}
 use Rattle.pm_front.proofs.Counting.{count_next, count_same}
 use Rattle.pm_sides.proofs.RecordSides.{corner_of-record, record-corner_of}

@@ -7,7 +7,8 @@ use Rattle.pm_links.proofs.Members.{has_head, has_tail}
 use Rattle.pm_links.proofs.Without.{without_none, has-without, once-without}
 use Rattle.pm_forest.specs.Forest.{Hierarchy, node_count}
 use Rattle.pm_forest.specs.Fronts.{is_active}
-use Rattle.pm_front.specs.Shown.{numbers_below, active_nodes}
+use Rattle.pm_front.specs.Shown.{active_nodes}
+use Rattle.pm_base.specs.Counts.{numbers_below}
 use Rattle.pm_front.specs.Active.{AreActive}
 use Rattle.pm_front.proofs.ListLaws.{has_filter-parts, has_filter-from, once-filter, once-range, number-member}
 

@@ -3,6 +3,7 @@ use Rattle.std.proofs.Common.{◌≡◌, ◌↔◌, ℕ, zero, suc, ◌+◌, ◌
 use Rattle.std.proofs.lemmas.Bool.{cases_Bool, cases_eq, eq-eqb, ne_eqb, or_parts, and_from, and_parts, both_ways, false_from_ne_true, cond-true, cond-false}
 use Rattle.pm_forest.specs.Forest.{Hierarchy, record_count}
 use Rattle.pm_forest.specs.Fronts.{with, no_records}
+use Rattle.pm_runs.proofs.PlaneCounts.{share-most}
 use Rattle.pm_beyond.specs.Moves.{needs}
 use Rattle.pm_beyond.specs.Targets.{any_below}
 use Rattle.pm_front.specs.Needed.{times_named, named_below, need_count, is_needed, remaining}
@@ -14,10 +15,6 @@ share true true n has = omega arith
 share true false n has = omega arith
 share false true n has = absurd (both_ways false refl (has refl))
 share false false n has = omega arith
-
-share-most : (b : Bool) (n : ℕ) → cond b n 0 ≤ n
-share-most true n = omega arith
-share-most false n = omega arith
 
 module _ (h : Hierarchy) where
   below_more : (T : ℕ → Bool) (k n : ℕ) → named_below h T k (suc n) ≡ cond (T n) (times_named h n k) 0 + named_below h T k n

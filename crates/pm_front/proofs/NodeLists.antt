@@ -8,7 +8,7 @@ use Rattle.pm_forest.specs.Forest.{Hierarchy, node_count}
 use Rattle.pm_forest.specs.Fronts.{ancestor_of, every}
 use Rattle.pm_forest.specs.Faces.{first_face, face_count, from_leaf}
 use Rattle.pm_forest.specs.Kept.{is_shown}
-use Rattle.pm_front.specs.Shown.{numbers_below}
+use Rattle.pm_base.specs.Counts.{numbers_below}
 use Rattle.pm_front.specs.Corners.{listed, by_node, is_under, full_list, full_lists, is_between, AreCorners}
 use Rattle.pm_front.proofs.ListLaws.{has_filter-parts, has_filter-from, once-filter}
 

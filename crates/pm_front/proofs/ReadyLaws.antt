@@ -2,7 +2,8 @@
 use Rattle.std.proofs.Common.{◌≡◌, ℕ, ◌<◌, Bool, true, false, List, length, sym, subst}
 use Rattle.std.proofs.Math.ListN.{set}
 use Rattle.pm_forest.specs.Forest.{Hierarchy}
-use Rattle.pm_forest.specs.Fronts.{set_of, with, without}
+use Rattle.pm_forest.specs.Fronts.{with, without}
+use Rattle.pm_base.specs.Counts.{set_of}
 use Rattle.pm_forest.proofs.Flags.{set_of-set, set_of-clear}
 use Rattle.pm_front.specs.Candidates.{Candidates, AreCandidates}
 use Rattle.pm_front.specs.State.{State, IsSoundFront, IsReadyFront}

@@ -1,6 +1,6 @@
 -- A front of a firm hierarchy shows an oriented manifold.
 use Rattle.std.proofs.Common.{◌≡◌, subst}
-use Rattle.pm_forest.specs.Fronts.{set_of}
+use Rattle.pm_base.specs.Counts.{set_of}
 use Rattle.pm_firm.specs.Firm.{IsSurfaceShown, IsFirm}
 use Rattle.pm_firm.proofs.FirmFronts.{firm_fronts}
 use Rattle.pm_front.specs.State.{State, IsSoundFront}

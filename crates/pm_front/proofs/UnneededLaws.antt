@@ -10,6 +10,7 @@ use Rattle.pm_forest.specs.Fronts.{with, without, no_records}
 use Rattle.pm_forest.specs.Rules.{HasShape}
 use Rattle.pm_beyond.specs.Moves.{IsClosed, needs}
 use Rattle.pm_beyond.proofs.Outer.{needs-true}
+use Rattle.pm_beyond.proofs.PlanSteps.{without-same}
 use Rattle.pm_front.specs.Needed.{times_in, times_named, need_count, is_needed, is_unneeded, AreNeedCounts}
 use Rattle.pm_front.specs.Candidates.{is_named, is_freed, AreAnswers, AreCleared, AreAdded}
 use Rattle.pm_front.proofs.NamedLaws.{times_named-none}
@@ -40,9 +41,6 @@ with-without T k split = fun_ext (λ j.
       | inl is ↦ cond-true (eqb j k) true (without T k j) (eq-eqb j k is) ∙ sym (ap T is ∙ split)
       | inr other ↦ cond-false (eqb j k) true (without T k j) (ne_eqb j k other) ∙ cond-false (eqb j k) false (T j) (ne_eqb j k other)
     ])
-
-pub without-same : (T : ℕ → Bool) (k : ℕ) → without T k k ≡ false
-without-same T k = cond-true (eqb k k) false (T k) (eq-eqb k k refl)
 
 module _ (h : Hierarchy) (shape : HasShape h) where
   module _ (T : ℕ → Bool) (closed : IsClosed h T) (k : ℕ) (l : k < record_count h) where

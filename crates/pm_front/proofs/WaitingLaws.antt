@@ -16,7 +16,7 @@ use Rattle.pm_beyond.proofs.PlanLists.{same_bools}
 use Rattle.pm_beyond.proofs.Outer.{is_at-parts, is_at-from}
 use Rattle.pm_front.specs.Candidates.{AreAnswers, AreCleared, AreAdded}
 use Rattle.pm_front.proofs.NeededLaws.{not_own, unwanted}
-use Rattle.pm_front.proofs.UnneededLaws.{without-same}
+use Rattle.pm_beyond.proofs.PlanSteps.{without-same}
 
 -- Tests
 try_once : (a b : Bool) → ((a && not b) && not b) ≡ (a && not b)

@@ -2,7 +2,7 @@
 -- how often each is needed.
 use Rattle.std.specs.Prelude.{◌≡◌, ℕ, ◌<◌, ◌==◌, Bool, false, not, ◌&&◌, ◌||◌, List, length, replicate, Option, slice_index_or}
 use Rattle.pm_forest.specs.Forest.{Hierarchy, record_count}
-use Rattle.pm_forest.specs.Fronts.{set_of}
+use Rattle.pm_base.specs.Counts.{set_of}
 use Rattle.pm_forest.specs.Moves.{may_try}
 use Rattle.pm_front.specs.Needed.{times_in, is_unneeded, AreNeedCounts}
 

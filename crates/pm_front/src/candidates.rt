@@ -2,7 +2,8 @@
 ghost use Rattle.std.specs.Prelude.{ℕ, ◌≡◌, ◌<◌, ◌≤◌, ◌+◌, ◌^◌, ◌∷◌, [], true, false, length, replicate, slice_index_or, IfOk, IfSome};
 ghost use Rattle.std.specs.List.{All};
 ghost use Rattle.pm_forest.specs.Forest.{node_count, record_count, splitter_of};
-ghost use Rattle.pm_forest.specs.Fronts.{set_of, no_records, with, without};
+ghost use Rattle.pm_forest.specs.Fronts.{no_records, with, without};
+ghost use Rattle.pm_base.specs.Counts.{set_of};
 ghost use Rattle.pm_forest.specs.Moves.{may_try};
 ghost use Rattle.pm_beyond.specs.Moves.{IsClosed, is_at};
 ghost use Rattle.pm_sets.specs.declared.set.TheConstants.{BOUND_LIMIT};

@@ -4,10 +4,7 @@ use Rattle.std.specs.List.{flat_map, range_with_len}
 use Rattle.pm_base.specs.Place.{Place}
 use Rattle.pm_base.specs.declared.mesh.Corners.{Corners}
 use Rattle.pm_base.specs.Meshes.{Mesh}
-
--- The numbers below n, ascending.
-abbrev pub numbers : ℕ → List ℕ
-numbers n = range_with_len 0 n
+use Rattle.pm_base.specs.Counts.{numbers_below}
 
 -- The vertex in row r and column c.
 abbrev pub vertex : ℕ → ℕ → ℕ → ℕ
@@ -33,16 +30,16 @@ cell_faces n r c = lower_face n r c ∷ upper_face n r c ∷ []
 
 -- Points and faces go row by row, and in a row column by column.
 abbrev pub point_row : ℕ → ℕ → List Place
-point_row n r = map (grid_point r) (numbers (n + 1))
+point_row n r = map (grid_point r) (numbers_below (n + 1))
 
 abbrev pub face_row : ℕ → ℕ → List Corners
-face_row n r = flat_map (cell_faces n r) (numbers n)
+face_row n r = flat_map (cell_faces n r) (numbers_below n)
 
 unfoldable pub grid_points : ℕ → List Place
-grid_points n = flat_map (point_row n) (numbers (n + 1))
+grid_points n = flat_map (point_row n) (numbers_below (n + 1))
 
 unfoldable pub grid_faces : ℕ → List Corners
-grid_faces n = flat_map (face_row n) (numbers n)
+grid_faces n = flat_map (face_row n) (numbers_below n)
 
 abbrev pub grid : ℕ → Mesh
 grid n = record { points = grid_points n; faces = grid_faces n }

@@ -1,9 +1,9 @@
 -- Laws for callers: which items a list has, and that none stands twice.
-use Rattle.std.proofs.Common.{◌≡◌, ◌≢◌, ℕ, zero, suc, ◌<◌, ◌≤◌, Some, None, Bool, true, false, ◌||◌, eqb, List, [], ◌∷◌, ◌++◌, length, get_or, sym, refl, ap, ◌∙◌, ⊎_elim, arith}
+use Rattle.std.proofs.Common.{◌≡◌, ◌≢◌, ℕ, zero, suc, ◌<◌, ◌≤◌, Some, None, true, false, ◌||◌, eqb, List, [], ◌∷◌, ◌++◌, length, get_or, sym, refl, ap, ◌∙◌, ⊎_elim, arith}
 use Rattle.std.specs.List.{IsDistinct, AllByRecursion, list_any, Contains}
 use Rattle.std.proofs.lemmas.Map.Steps.{length-le_from_distinct_below}
 use Rattle.std.proofs.lemmas.Option.{none-some, same_Some}
-use Rattle.std.proofs.lemmas.Bool.{or_parts, or_cases, or_left, or_right, eqb-true, eqb-false, eq-eqb, ne_eqb, false≢true}
+use Rattle.std.proofs.lemmas.Bool.{or_parts, or_from, or_cases, or_left, or_right, eqb-true, eqb-false, eq-eqb, ne_eqb, false≢true}
 use Rattle.pm_links.specs.Lists.{has, IsOnce, first_of}
 
 -- ---- one item
@@ -42,12 +42,9 @@ pub once-append : (xs ys : List ℕ) → IsOnce xs → IsOnce ys →
     ((y : ℕ) → has xs y ≡ true → has ys y ≡ false) → IsOnce (xs ++ ys)
 once-append [] ys o p apart = p
 once-append (x ∷ xs) ys o p apart = (
-  has-append xs ys x ∙ neither (has xs x) (has ys x) o.0 (apart x (has_head x xs)),
+  has-append xs ys x ∙ or_from (has xs x) (has ys x) o.0 (apart x (has_head x xs)),
   once-append xs ys o.1 p (λ y h. apart y (has_tail x xs y h)),
 )
-  where
-    neither : (a b : Bool) → a ≡ false → b ≡ false → (a || b) ≡ false
-    neither a b e f = rw (e, f) refl
 
 -- std's word for it
 pub IsDistinct_from_once : (xs : List ℕ) → IsOnce xs → IsDistinct eqb xs

@@ -9,7 +9,8 @@ use Rattle.pm_beyond.specs.Valid.{IsValid}
 use Rattle.pm_beyond.specs.Moves.{IsClosed}
 use Rattle.pm_beyond.proofs.Standing.{closed-front}
 use Rattle.pm_manifold.specs.Measure.{is_border_side, next_border, border_after, is_least_within, begins_loop}
-use Rattle.pm_manifold.specs.Tracing.{IsBorderSideIn, IsInLoop, mark_at, AreMarkedBelow}
+use Rattle.pm_manifold.specs.Tracing.{IsBorderSideIn, IsInLoop, AreMarkedBelow}
+use Rattle.pm_base.specs.Counts.{set_of}
 use Rattle.pm_manifold.proofs.KeptSides.{next_is_border}
 use Rattle.pm_manifold.proofs.NextBorders.{one_before}
 
@@ -136,7 +137,7 @@ module _ (h : Hierarchy) (valid : IsValid h) (T : ℕ → Bool) (closed : IsClos
     ],
   )
 
-  pub marks_same : (n : ℕ) (marks : List Bool) → mark_at marks n ≡ true → AreMarkedBelow h T n marks → AreMarkedBelow h T (n + 1) marks
+  pub marks_same : (n : ℕ) (marks : List Bool) → set_of marks n ≡ true → AreMarkedBelow h T n marks → AreMarkedBelow h T (n + 1) marks
   marks_same n marks there are i = (
     λ t. let (g, l, b, loop) = (are i).0 t in (g, omega arith, b, loop),
     λ (g, l, b, loop). elim (cases_eq g n) [
@@ -145,7 +146,7 @@ module _ (h : Hierarchy) (valid : IsValid h) (T : ℕ → Bool) (closed : IsClos
     ],
   )
 
-  pub marks_more : (n : ℕ) (old new : List Bool) → IsBorderSideIn h T n → ((i : ℕ) → (mark_at new i ≡ true) ↔ ((mark_at old i ≡ true) ⊎ IsInLoop h T n i)) → AreMarkedBelow h T n old → AreMarkedBelow h T (n + 1) new
+  pub marks_more : (n : ℕ) (old new : List Bool) → IsBorderSideIn h T n → ((i : ℕ) → (set_of new i ≡ true) ↔ ((set_of old i ≡ true) ⊎ IsInLoop h T n i)) → AreMarkedBelow h T n old → AreMarkedBelow h T (n + 1) new
   marks_more n old new bn marked are i = (
     λ t. elim ((marked i).0 t) [
       | inl o ↦ (let (g, l, b, loop) = (are i).0 o in (g, omega arith, b, loop))
@@ -157,8 +158,8 @@ module _ (h : Hierarchy) (valid : IsValid h) (T : ℕ → Bool) (closed : IsClos
     ]),
   )
 
-  pub begins_unmarked : (n : ℕ) (marks : List Bool) → IsBorderSideIn h T n → mark_at marks n ≡ false → AreMarkedBelow h T n marks → begins_loop h T n ≡ true
-  begins_unmarked n marks b off are = begins n b (λ g l bg loop. both_ways (mark_at marks n) off ((are n).1 (g, l, bg, loop)))
+  pub begins_unmarked : (n : ℕ) (marks : List Bool) → IsBorderSideIn h T n → set_of marks n ≡ false → AreMarkedBelow h T n marks → begins_loop h T n ≡ true
+  begins_unmarked n marks b off are = begins n b (λ g l bg loop. both_ways (set_of marks n) off ((are n).1 (g, l, bg, loop)))
 
-  pub begins_marked : (n : ℕ) (marks : List Bool) → mark_at marks n ≡ true → AreMarkedBelow h T n marks → begins_loop h T n ≡ false
+  pub begins_marked : (n : ℕ) (marks : List Bool) → set_of marks n ≡ true → AreMarkedBelow h T n marks → begins_loop h T n ≡ false
   begins_marked n marks there are = let (g, l, b, loop) = (are n).0 there in begins_not n g l b loop

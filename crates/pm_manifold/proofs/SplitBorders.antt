@@ -10,8 +10,8 @@ use Rattle.pm_forest.specs.Forest.{Hierarchy, record_at, record_count}
 use Rattle.pm_forest.specs.Fronts.{IsFront, with}
 use Rattle.pm_forest.specs.Faces.{face_count, revealed_by, record_of, inner_of, IsForest}
 use Rattle.pm_forest.specs.Kept.{is_shown}
-use Rattle.pm_forest.proofs.OneStep.{with-cases}
-use Rattle.pm_forest.proofs.Shown.{shown_record, shown_base, shown-parts}
+use Rattle.pm_forest.proofs.OneStep.{with-cases, with-same}
+use Rattle.pm_forest.proofs.Shown.{shown_record, shown_with, shown_base, shown-parts}
 use Rattle.pm_forest.proofs.Sides.{inner-face}
 use Rattle.pm_beyond.specs.Walks.{IsInner, IsOuter, across, Beyond, beyond_of, expected, mate_of}
 use Rattle.pm_beyond.specs.Valid.{IsValid}
@@ -19,15 +19,16 @@ use Rattle.pm_beyond.specs.Moves.{is_at, IsClosed, MaySplit}
 use Rattle.pm_beyond.proofs.Across.{across-outer, across-is_outer, across_back, across-lt, two_outer}
 use Rattle.pm_beyond.proofs.Outer.{is_at-parts, is_at-from}
 use Rattle.pm_beyond.proofs.Reaching.{kept_at_side, Beyond-unique, Beyond-injective}
+use Rattle.pm_beyond.proofs.Found.{beyond-found}
 use Rattle.pm_beyond.proofs.Neighbours.{expected-lt}
 use Rattle.pm_beyond.proofs.Standing.{forest_of, closed-front}
-use Rattle.pm_beyond.proofs.Closed.{four_faces}
+use Rattle.pm_beyond.proofs.Closed.{split-closed, four_faces}
+use Rattle.pm_beyond.proofs.Relinking.{split-new, split-neighbour, split-other}
 use Rattle.pm_firm.specs.Firm.{FacesAreHeld}
 use Rattle.pm_firm.proofs.Held.{held_side, inner_expected}
-use Rattle.pm_firm.proofs.Relinking.{split_closed, shown_with, shown_new, new_beyond, neighbour_beyond, other_beyond}
 use Rattle.pm_manifold.specs.Measure.{is_border_side}
 use Rattle.pm_manifold.proofs.Counted.{both, only, count_matched, count_one, count_none}
-use Rattle.pm_manifold.proofs.BorderSides.{stands, border-parts, border-from}
+use Rattle.pm_manifold.proofs.BorderSides.{border-parts, border-from}
 
 -- the sides at which record k tells of side e, and the inner sides of its faces, as tests
 abbrev tells_of : Hierarchy → ℕ → ℕ → ℕ → Bool
@@ -54,13 +55,7 @@ module _ (h : Hierarchy) (valid : IsValid h) (T : ℕ → Bool) (closed : IsClos
   front = closed-front h T closed
 
   split_front : IsFront h (with T k)
-  split_front = closed-front h (with T k) (split_closed h valid T closed k l may)
-
-  unique_now : (e : ℕ) (r q : Option ℕ) → Beyond h (with T k) e r → Beyond h (with T k) e q → r ≡ q
-  unique_now e r q a b = Beyond-unique h tree valid.no_side_twice split_set e r q a b
-
-  unique_before : (e : ℕ) (r q : Option ℕ) → Beyond h T e r → Beyond h T e q → r ≡ q
-  unique_before e r q a b = Beyond-unique h tree valid.no_side_twice T e r q a b
+  split_front = closed-front h (with T k) (split-closed h valid T closed k l may)
 
   record Teller (e o : ℕ) : Type 0 where
     low : o < 3 * face_count h
@@ -97,9 +92,9 @@ module _ (h : Hierarchy) (valid : IsValid h) (T : ℕ → Bool) (closed : IsClos
   -- only one side of the record tells of a side
   one_teller : (e o p : ℕ) → Teller e o → Teller e p → o ≡ p
   one_teller e o p a b =
-      Beyond-injective h tree valid.no_side_twice split_set o p e a.low b.low (shown_new h valid T closed k l may o a.outer.0) (shown_new h valid T closed k l may p b.outer.0)
-      (subst (Beyond h split_set o) a.tells (new_beyond h valid T closed k l may o a.low a.outer.0))
-      (subst (Beyond h split_set p) b.tells (new_beyond h valid T closed k l may p b.low b.outer.0))
+      Beyond-injective h tree valid.no_side_twice split_set o p e a.low b.low (shown_record h split_set o k a.outer.0 ∙ with-same T k) (shown_record h split_set p k b.outer.0 ∙ with-same T k)
+      (subst (Beyond h split_set o) a.tells (split-new h valid T k closed l may o a.low a.outer.0))
+      (subst (Beyond h split_set p) b.tells (split-new h valid T k closed l may p b.low b.outer.0))
 
   -- A border side of before goes on, or the other outer side of the face that it meets is one now.
   moved_on : ℕ → ℕ
@@ -155,11 +150,11 @@ module _ (h : Hierarchy) (valid : IsValid h) (T : ℕ → Bool) (closed : IsClos
   moves_on e le b =
       let (s, alone) = border-parts h valid T front e le b in
       let own = not_own e s in
-      let s1 = shown_with h valid T closed k l may e s in
+      let s1 = shown_with h T k e s in
       elim (option_cases (teller e)) [
         | inl none ↦
             let is = moved_on-none e none in
-            let far = other_beyond h valid T closed k l may e None le s alone (λ o ol outer x. no_teller e o none (record { low = ol; outer = outer; tells = x })) in
+            let far = split-other h valid T k closed l may e None le s alone (λ o ol outer x. no_teller e o none (record { low = ol; outer = outer; tells = x })) in
             let b1 = border-from h valid split_set split_front e le s1 far in (
               subst (λ i. i < 3 * face_count h) (sym is) le,
               subst (λ i. only border_now (is_inner h k) i ≡ true) (sym is) (and_from (border_now e) (not (is_inner h k e)) b1 (not_inner e (λ inner. own inner.0))),
@@ -174,9 +169,9 @@ module _ (h : Hierarchy) (valid : IsValid h) (T : ℕ → Bool) (closed : IsClos
             let same : j ≡ k = same_Some j k (sym oo.0 ∙ t.outer.0) in
             let rec : record_of h p ≡ Some k = po.0 ∙ ap Some same in
             let four = four_faces h valid T closed k o p e l may t.low t.outer x t.tells in
-            let none = unique_before e (expected h p) None four alone in
-            let far : Beyond h split_set p None = subst (Beyond h split_set p) none (new_beyond h valid T closed k l may p pl rec) in
-            let b1 = border-from h valid split_set split_front p pl (shown_new h valid T closed k l may p rec) far in
+            let none = Beyond-unique h tree valid.no_side_twice T e (expected h p) None four alone in
+            let far : Beyond h split_set p None = subst (Beyond h split_set p) none (split-new h valid T k closed l may p pl rec) in
+            let b1 = border-from h valid split_set split_front p pl (shown_record h split_set p k rec ∙ with-same T k) far in
             let outer_p : p ≢ inner_of h k (face_of p) = λ z. po.1 (z ∙ ap (λ i. inner_of h i (face_of p)) (sym same)) in (
               subst (λ i. i < 3 * face_count h) (sym is) pl,
               subst (λ i. only border_now (is_inner h k) i ≡ true) (sym is) (and_from (border_now p) (not (is_inner h k p)) b1 (not_inner p (λ inner. outer_p inner.1))),
@@ -195,13 +190,13 @@ module _ (h : Hierarchy) (valid : IsValid h) (T : ℕ → Bool) (closed : IsClos
             let is = moved_back-old e own in
             let none : teller e ≡ None = elim (option_cases (teller e)) [
               | inl none ↦ none
-              | inr (o, found) ↦ (let t = teller-parts e o found in absurd (none-some o (unique_now e None (Some o) alone (neighbour_beyond h valid T closed k l may e o t.low t.outer t.tells))))
+              | inr (o, found) ↦ (let t = teller-parts e o found in absurd (none-some o (Beyond-unique h tree valid.no_side_twice split_set e None (Some o) alone (split-neighbour h valid T k closed l may o e t.low t.outer t.tells))))
             ] in
             let before : Beyond h T e None = elim (option_cases (beyond_of h T e)) [
-              | inl none ↦ subst (Beyond h T e) none (stands h valid T front e le s)
+              | inl none ↦ subst (Beyond h T e) none (beyond-found h tree valid.no_side_twice T front e le s)
               | inr (g, some) ↦
-                  let far = other_beyond h valid T closed k l may e (Some g) le s (subst (Beyond h T e) some (stands h valid T front e le s)) (λ o ol outer x. no_teller e o none (record { low = ol; outer = outer; tells = x })) in
-                  absurd (none-some g (unique_now e None (Some g) alone far))
+                  let far = split-other h valid T k closed l may e (Some g) le s (subst (Beyond h T e) some (beyond-found h tree valid.no_side_twice T front e le s)) (λ o ol outer x. no_teller e o none (record { low = ol; outer = outer; tells = x })) in
+                  absurd (none-some g (Beyond-unique h tree valid.no_side_twice split_set e None (Some g) alone far))
             ] in (
               subst (λ i. i < 3 * face_count h) (sym is) le,
               subst (λ i. border_before i ≡ true) (sym is) (border-from h valid T front e le s before),
@@ -210,7 +205,7 @@ module _ (h : Hierarchy) (valid : IsValid h) (T : ℕ → Bool) (closed : IsClos
         | inl own ↦
             let rec = is_at-parts k (record_of h e) own in
             let outer : IsOuter h k e = (rec, λ z. inner_test e parts.1 (rec, z)) in
-            let none = unique_now e (expected h e) None (new_beyond h valid T closed k l may e le rec) alone in
+            let none = Beyond-unique h tree valid.no_side_twice split_set e (expected h e) None (split-new h valid T k closed l may e le rec) alone in
             let (o, x) = across-outer h k e outer in
             let ol = across-lt h e o le x in
             let (j, eo, oo) = across-is_outer h e o x in
@@ -258,7 +253,7 @@ module _ (h : Hierarchy) (valid : IsValid h) (T : ℕ → Bool) (closed : IsClos
       let is = eqb-true e (inner_of h k (face_of e)) q.1 in
       let (s1, alone) = border-parts h valid split_set split_front e le p.0 in
       let fl : face_of e < face_count h = omega arith in
-      (rec, is, sym (inner_expected h k (face_of e) fl rec) ∙ ap (expected h) (sym is) ∙ unique_now e (expected h e) None (new_beyond h valid T closed k l may e le rec) alone)
+      (rec, is, sym (inner_expected h k (face_of e) fl rec) ∙ ap (expected h) (sym is) ∙ Beyond-unique h tree valid.no_side_twice split_set e (expected h e) None (split-new h valid T k closed l may e le rec) alone)
 
   pub two_faces : is_some (record_at h k).left ≡ true → is_some (record_at h k).right ≡ true → count (both (λ e. is_border_side h (with T k) e) (is_inner h k)) (3 * face_count h) ≡ 0
   two_faces a b = count_none (both border_now (is_inner h k)) sides (λ e le. false_from_ne_true (both border_now (is_inner h k) e) (λ t.
@@ -273,8 +268,8 @@ module _ (h : Hierarchy) (valid : IsValid h) (T : ℕ → Bool) (closed : IsClos
       let face = inner-face h k f in
       let il : i < 3 * face_count h = omega arith in
       let rec : record_of h i ≡ Some k = ap (λ g. revealed_by h g) face ∙ own in
-      let far : Beyond h split_set i None = subst (Beyond h split_set i) (inner_expected h k f fl own ∙ one_inner alone f) (new_beyond h valid T closed k l may i il rec) in
-      let b1 = border-from h valid split_set split_front i il (shown_new h valid T closed k l may i rec) far in
+      let far : Beyond h split_set i None = subst (Beyond h split_set i) (inner_expected h k f fl own ∙ one_inner alone f) (split-new h valid T k closed l may i il rec) in
+      let b1 = border-from h valid split_set split_front i il (shown_record h split_set i k rec ∙ with-same T k) far in
       count_one (both border_now (is_inner h k)) sides i il
       (and_from (border_now i) (is_inner h k i) b1 (and_from (is_at k (record_of h i)) (eqb i (inner_of h k (face_of i))) (is_at-from k (record_of h i) rec) (eq-eqb i (inner_of h k (face_of i)) (ap (inner_of h k) (sym face)))))
       (λ e le t.

@@ -19,8 +19,8 @@ use Rattle.pm_beyond.specs.Walks.{beyond_of}
 use Rattle.pm_beyond.specs.Valid.{IsValid}
 use Rattle.pm_beyond.specs.Moves.{IsClosed, MaySplit}
 use Rattle.pm_beyond.proofs.Standing.{forest_of, closed-front}
+use Rattle.pm_beyond.proofs.Closed.{split-closed}
 use Rattle.pm_firm.specs.Firm.{FacesAreHeld}
-use Rattle.pm_firm.proofs.Relinking.{split_closed}
 use Rattle.pm_manifold.specs.Measure.{is_border_side, is_joined_side, nodes_shown, faces_shown, border_sides, joined_sides, edges_shown}
 use Rattle.pm_manifold.proofs.Counted.{both, only, count_parts, count_one, count_two, count_sides}
 use Rattle.pm_manifold.proofs.SplitBorders.{is_inner, outer_borders, two_faces, one_face}
@@ -58,7 +58,7 @@ module _ (h : Hierarchy) (valid : IsValid h) (T : ℕ → Bool) (closed : IsClos
   front = closed-front h T closed
 
   split_front : IsFront h (with T k)
-  split_front = closed-front h (with T k) (split_closed h valid T closed k l may)
+  split_front = closed-front h (with T k) (split-closed h valid T closed k l may)
 
   -- Nodes
 

@@ -8,12 +8,13 @@ use Rattle.pm_forest.specs.Fronts.{IsFront}
 use Rattle.pm_forest.specs.Faces.{face_count}
 use Rattle.pm_beyond.specs.Walks.{StandsBeyond, beyond_of}
 use Rattle.pm_beyond.specs.Valid.{IsValid}
+use Rattle.pm_beyond.proofs.Found.{beyond-found}
 use Rattle.pm_beyond.proofs.Standing.{forest_of, closed-front}
 use Rattle.pm_firm.proofs.ShownNets.{stands-from, beyond-from}
 use Rattle.pm_manifold.specs.Measure.{is_border_side, turn_at, next_border}
 use Rattle.pm_manifold.specs.Laws as law
 use Rattle.pm_manifold.specs.Laws.{TurnsTo, stops, goes}
-use Rattle.pm_manifold.proofs.BorderSides.{stands, stands_as, border-parts}
+use Rattle.pm_manifold.proofs.BorderSides.{stands_as, border-parts}
 use Rattle.pm_manifold.proofs.NextBorders.{Leads, at, then, IsGood, good, keeps, injective, turn-parts, start, leads, after}
 
 module _ (h : Hierarchy) (valid : IsValid h) (T : ℕ → Bool) (front : IsFront h T) where
@@ -25,7 +26,7 @@ module _ (h : Hierarchy) (valid : IsValid h) (T : ℕ → Bool) (front : IsFront
   as_found e g r s = stands_as h valid T front e r g.low g.shown (beyond-from h (forest_of h valid) T front valid.no_side_twice e r g.low g.shown s)
 
   found : (e : ℕ) → IsGoodSide e → (r : Option ℕ) → beyond_of h T e ≡ r → StandsBeyond h T e r
-  found e g r is = subst (StandsBeyond h T e) is (stands-from h (forest_of h valid) T front valid.no_side_twice e (beyond_of h T e) g.low g.shown (stands h valid T front e g.low g.shown))
+  found e g r is = subst (StandsBeyond h T e) is (stands-from h (forest_of h valid) T front valid.no_side_twice e (beyond_of h T e) g.low g.shown (beyond-found h (forest_of h valid) valid.no_side_twice T front e g.low g.shown))
 
   prepend : {a b c : ℕ} → IsGoodSide a → Leads (turn_at h T) a b → TurnsTo h T b c → TurnsTo h T a c
   prepend g at t = t

@@ -1,11 +1,10 @@
 //! Counting nodes, edges, faces and border loops of the mesh shown.
 ghost use Rattle.std.specs.Prelude.{◌≡◌, ◌+◌, ◌*◌, ◌<◌, ◌≤◌, ◌↔◌, ◌⊎◌, ℕ, true, false, length, IfOk};
 ghost use Rattle.pm_base.specs.declared.limits.TheConstants.{MOST_FACES, MOST_NODES, MOST_SIDES};
-ghost use Rattle.pm_base.specs.Counts.{count};
-ghost use Rattle.pm_forest.specs.Fronts.{set_of};
+ghost use Rattle.pm_base.specs.Counts.{count, set_of};
 ghost use Rattle.pm_forest.specs.Faces.{face_count};
 ghost use Rattle.pm_manifold.specs.Measure.{nodes_shown, edges_shown, faces_shown, border_sides, loops_shown};
-ghost use Rattle.pm_manifold.specs.Tracing.{IsBorderSideIn, IsInLoop, mark_at};
+ghost use Rattle.pm_manifold.specs.Tracing.{IsBorderSideIn, IsInLoop};
 
 use crate::OutOfMemory;
 use crate::sides::{is_border, next_border};
@@ -92,7 +91,7 @@ fn count_borders(front: &Front) -> u32
 // No mark is set.
 fn clear(marks: &mut Vec<bool>)
     ensures len { length marks.new.items ≡ length marks.old.items }
-    ensures clear { (i : ℕ) → mark_at marks.new.items i ≡ false }
+    ensures clear { (i : ℕ) → set_of marks.new.items i ≡ false }
 {
     for i in 0..marks.len() {
         marks[i] = false;
@@ -104,8 +103,8 @@ fn mark_loop(marks: &mut Vec<bool>, front: &Front, first: Side)
     requires len { length marks.old.items ≡ 3 * face_count front.now.h }
     requires border { IsBorderSideIn front.now.h (set_of front.now.flags) first.0 }
     ensures len { length marks.new.items ≡ length marks.old.items }
-    ensures marked { (i : ℕ) → (mark_at marks.new.items i ≡ true)
-        ↔ ((mark_at marks.old.items i ≡ true) ⊎ IsInLoop front.now.h (set_of front.now.flags) first.0 i) }
+    ensures marked { (i : ℕ) → (set_of marks.new.items i ≡ true)
+        ↔ ((set_of marks.old.items i ≡ true) ⊎ IsInLoop front.now.h (set_of front.now.flags) first.0 i) }
 {
     front.invariant();
     let mut at = first;

@@ -1,7 +1,8 @@
 //! The elder of a node: the node of the marked front above it.
 ghost use Rattle.std.specs.Prelude.{◌≡◌, ◌<◌, true, length};
 ghost use Rattle.pm_forest.specs.Forest.{node_count, leaf_count, record_count, interval_of};
-ghost use Rattle.pm_forest.specs.Fronts.{set_of, is_active, IsFront, ancestor_of};
+ghost use Rattle.pm_forest.specs.Fronts.{is_active, IsFront, ancestor_of};
+ghost use Rattle.pm_base.specs.Counts.{set_of};
 ghost use Rattle.pm_forest.proofs.Climbing.{IsAbove};
 ghost use Rattle.pm_morph.specs.Elders.{IsPart, elder_of};
 ghost use Rattle.pm_morph.specs.Marks.{AreMarksOf};

@@ -1,7 +1,7 @@
 //! Whether a front is as fine as the marked one.
 ghost use Rattle.std.specs.Prelude.{◌≡◌, length};
 ghost use Rattle.pm_forest.specs.Forest.{record_count};
-ghost use Rattle.pm_forest.specs.Fronts.{set_of};
+ghost use Rattle.pm_base.specs.Counts.{set_of};
 ghost use Rattle.pm_morph.specs.Elders.{unsplit_of};
 
 use pm_front::Front;

@@ -1,7 +1,8 @@
 //! A marked front, and the morph that leads to it.
 ghost use Rattle.std.specs.Prelude.{◌≡◌, ◌<◌, ◌≤◌, IfOk, length};
 ghost use Rattle.pm_forest.specs.Forest.{record_count};
-ghost use Rattle.pm_forest.specs.Fronts.{set_of, no_records};
+ghost use Rattle.pm_forest.specs.Fronts.{no_records};
+ghost use Rattle.pm_base.specs.Counts.{set_of};
 ghost use Rattle.pm_morph.specs.Elders.{unsplit_of};
 ghost use Rattle.pm_morph.specs.Marks.{AreMarksOf, MorphEnds, MorphCounts};
 ghost use Rattle.pm_morph.specs.Texts.{morph_text};

@@ -2,7 +2,8 @@
 ghost use Rattle.std.specs.Prelude.{true, ◌≡◌, ◌<◌, ◌≤◌};
 ghost use Rattle.pm_io.specs.Puts.{Puts, PutsThrough};
 ghost use Rattle.pm_forest.specs.Forest.{node_count};
-ghost use Rattle.pm_forest.specs.Fronts.{set_of, is_active};
+ghost use Rattle.pm_forest.specs.Fronts.{is_active};
+ghost use Rattle.pm_base.specs.Counts.{set_of};
 ghost use Rattle.pm_morph.specs.Elders.{IsPart};
 ghost use Rattle.pm_morph.specs.Marks.{AreMarksOf};
 ghost use Rattle.pm_morph.specs.Texts.{morph_line, first_morph_line, moved_node, moved_lines, morph_text};

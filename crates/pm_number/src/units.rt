@@ -68,7 +68,10 @@ pub fn word(mesh: &Mesh, log: &[Collapse], numbers: &Numbers, side: Option<Side>
     ensures { result ≡ word_of (numbered_side (run_of (mesh_of mesh.now) log.now) side) }
 {
     match side {
-        Some(side) => 3 * numbers.faces[side.0 as usize / 3] + side.0 % 3 + 1,
+        Some(side) => {
+            let face = FaceId(numbers.faces[side.face().0 as usize]);
+            face.side(side.0 % 3).0 + 1
+        }
         None => 0,
     }
 }

@@ -16,7 +16,7 @@ use crate::lists::{list_corner, nothing};
 use crate::nearest::nearer;
 use crate::walk::{after, first};
 use crate::{Hit, OutOfMemory, Ray};
-use pm_base::{FaceId, NodeId};
+use pm_base::{NodeId, Side};
 use pm_bounds::Bounds;
 use pm_forest::Hierarchy;
 use pm_view::Steps;
@@ -89,7 +89,7 @@ impl Picker {
         let mut best = best;
         let mut at = self.last_at(leaf);
         while let Some(e) = at {
-            best = nearer(best, face_hit(h, FaceId(e / 3), ray, steps));
+            best = nearer(best, face_hit(h, Side(e).face(), ray, steps));
             at = self.before(e);
         }
         best

@@ -3,7 +3,7 @@ use Rattle.std.proofs.Common.{◌≡◌, ◌≢◌, ℕ, suc, Bool, true, false,
 use Rattle.std.proofs.lemmas.Bool.{cases_Bool, cases_eq, both_ways, and_from, and_left, not_from_false, not_from_true}
 use Rattle.std.proofs.Math.Bool.{beq}
 use Rattle.pm_forest.specs.Forest.{Hierarchy, record_count, s_of}
-use Rattle.pm_forest.specs.Fronts.{set_of}
+use Rattle.pm_base.specs.Counts.{set_of}
 use Rattle.pm_forest.specs.Rules.{HasShape}
 use Rattle.pm_beyond.specs.Moves.{Needs, IsClosed, needs}
 use Rattle.pm_beyond.specs.Targets.{target_of}
@@ -19,13 +19,7 @@ use Rattle.pm_refine.proofs.DecidingLaws.{stays_is, moves_below}
 use Rattle.pm_refine.proofs.SetLaws.{out-parts, out-other, holds_more, holds_same}
 use Rattle.pm_refine.proofs.FindingLaws.{joined-old, joined-new, joined-cases}
 
--- Two answers that are compared.
-pub same_answer : (x y : Bool) → beq x y ≡ true → x ≡ y
-same_answer true true e = refl
-same_answer true false e = absurd (both_ways _ refl e)
-same_answer false true e = absurd (both_ways _ refl e)
-same_answer false false e = refl
-
+-- two answers that are compared and differ
 pub other_answer : (x y : Bool) → beq x y ≡ false → x ≡ y → ⊥
 other_answer true true e is = both_ways _ e refl
 other_answer true false e is = both_ways _ is refl

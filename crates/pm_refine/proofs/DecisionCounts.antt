@@ -2,11 +2,10 @@
 -- move is made.
 use Rattle.std.proofs.Common.{◌≡◌, ℕ, ◌+◌, ◌≤◌, Bool, true, false, ◌&&◌, ◌||◌, not, List, inl, inr, sym, ap, ◌∙◌, arith}
 use Rattle.std.proofs.lemmas.Bool.{cases_Bool, both_ways, and_parts, and_from, or_left, or_right, or_from, not-true, not_from_false, not_from_true}
-use Rattle.pm_base.specs.Counts.{count, one_if}
+use Rattle.pm_base.specs.Counts.{count, one_if, set_of}
 use Rattle.pm_base.proofs.Counts.{count_more}
 use Rattle.pm_refine.proofs.CountLaws.{count_apart}
 use Rattle.pm_forest.specs.Forest.{Hierarchy, record_count, s_of}
-use Rattle.pm_forest.specs.Fronts.{set_of}
 use Rattle.pm_forest.specs.Rules.{HasShape}
 use Rattle.pm_beyond.specs.Moves.{IsClosed}
 use Rattle.pm_beyond.specs.Targets.{target_of}

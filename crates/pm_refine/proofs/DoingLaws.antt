@@ -4,16 +4,17 @@ use Rattle.std.proofs.lemmas.Bool.{cases_Bool, cases_eq}
 use Rattle.std.proofs.lemmas.List.{take_all}
 use Rattle.pm_sets.specs.Sets.{IsEmptySet, IsFirst, IsLast}
 use Rattle.pm_forest.specs.Forest.{Hierarchy, record_count}
-use Rattle.pm_forest.specs.Fronts.{set_of}
+use Rattle.pm_base.specs.Counts.{set_of}
 use Rattle.pm_beyond.specs.Valid.{IsValid}
 use Rattle.pm_beyond.specs.Moves.{IsClosed}
 use Rattle.pm_beyond.specs.Plans.{Move, Split, Collapse, moved, moved_by, MayMove, AreLegal, ascending, descending, less, plan}
 use Rattle.pm_beyond.proofs.PlanLists.{ascending-zero, ascending-true, ascending-false, descending-zero, descending-true, descending-false, legal-take, same_bools}
+use Rattle.pm_beyond.proofs.PlanSteps.{ascending-same, descending-same}
 use Rattle.pm_beyond.proofs.PlanTheory.{legal}
 use Rattle.pm_front.specs.Corners.{moved_lists, corner_lists_after}
 use Rattle.pm_refine.specs.Holding.{HoldsFrom, HoldsMoves}
 use Rattle.pm_refine.specs.Doing.{splits_of, collapses_of, AreToDo}
-use Rattle.pm_refine.proofs.SetLaws.{set_in}
+use Rattle.pm_sets.proofs.FlagLaws.{in_below}
 
 module _ (make : ℕ → Move) (p : ℕ → Bool) where
   ascending_none : (n : ℕ) → ((j : ℕ) → j < n → p j ≡ false) → ascending make p n ≡ []
@@ -24,27 +25,6 @@ module _ (make : ℕ → Move) (p : ℕ → Bool) where
   descending_none zero none = descending-zero make p
   descending_none (suc n) none = descending-false make p n (none n (omega arith)) ∙ descending_none n (λ j l. none j (omega arith))
 
-module _ (make : ℕ → Move) (p q : ℕ → Bool) where
-  ascending_same : (n : ℕ) → ((j : ℕ) → j < n → p j ≡ q j) → ascending make p n ≡ ascending make q n
-  ascending_same zero same = ascending-zero make p ∙ sym (ascending-zero make q)
-  ascending_same (suc n) same =
-      let rest = ascending_same n (λ j l. same j (omega arith)) in
-      let here = same n (omega arith) in
-      elim (cases_Bool (q n)) [
-        | inl t ↦ ascending-true make p n (here ∙ t) ∙ ap (λ ms. ms ++ make n ∷ []) rest ∙ sym (ascending-true make q n t)
-        | inr f ↦ ascending-false make p n (here ∙ f) ∙ rest ∙ sym (ascending-false make q n f)
-      ]
-
-  descending_same : (n : ℕ) → ((j : ℕ) → j < n → p j ≡ q j) → descending make p n ≡ descending make q n
-  descending_same zero same = descending-zero make p ∙ sym (descending-zero make q)
-  descending_same (suc n) same =
-      let rest = descending_same n (λ j l. same j (omega arith)) in
-      let here = same n (omega arith) in
-      elim (cases_Bool (q n)) [
-        | inl t ↦ descending-true make p n (here ∙ t) ∙ ap (λ ms. make n ∷ ms) rest ∙ sym (descending-true make q n t)
-        | inr f ↦ descending-false make p n (here ∙ f) ∙ rest ∙ sym (descending-false make q n f)
-      ]
-
 -- The other numbers that pass are those that pass another test.
 module _ (make : ℕ → Move) (p q : ℕ → Bool) (k : ℕ) (there : p k ≡ true) (out : q k ≡ false) (same : (j : ℕ) → j ≢ k → p j ≡ q j) where
   ascending_first : (n : ℕ) → k < n → ((j : ℕ) → j < k → p j ≡ false) → ascending make p n ≡ make k ∷ ascending make q n
@@ -53,7 +33,7 @@ module _ (make : ℕ → Move) (p q : ℕ → Bool) (k : ℕ) (there : p k ≡ t
       elim (cases_eq k n) [
         | inl is ↦
             let before = ascending_none make p n (λ j m. none j (omega arith)) in
-            let later : ascending make q n ≡ [] = sym (ascending_same make p q n (λ j m. same j (λ e. absurd (omega arith)))) ∙ before in
+            let later : ascending make q n ≡ [] = sym (ascending-same make p q n (λ j m. same j (λ e. absurd (omega arith)))) ∙ before in
             ascending-true make p n (subst (λ i. p i ≡ true) is there) ∙ ap (λ ms. ms ++ make n ∷ []) before ∙ ap (λ i. make i ∷ []) (sym is)
             ∙ sym (ap (λ ms. make k ∷ ms) (ascending-false make q n (subst (λ i. q i ≡ false) is out) ∙ later))
         | inr other ↦
@@ -70,7 +50,7 @@ module _ (make : ℕ → Move) (p q : ℕ → Bool) (k : ℕ) (there : p k ≡ t
   descending_first (suc n) l none =
       elim (cases_eq k n) [
         | inl is ↦
-            let rest = descending_same make p q n (λ j m. same j (λ e. absurd (omega arith))) in
+            let rest = descending-same make p q n (λ j m. same j (λ e. absurd (omega arith))) in
             descending-true make p n (subst (λ i. p i ≡ true) is there) ∙ ap (λ i. make i ∷ descending make p n) (sym is)
             ∙ ap (λ ms. make k ∷ ms) (rest ∙ sym (descending-false make q n (subst (λ i. q i ≡ false) is out)))
         | inr other ↦
@@ -86,13 +66,13 @@ module _ (m : List Bool) (k : ℕ) where
 
   pub splits_first : IsFirst m 0 k → splits_of m ≡ Split k ∷ splits_of (set m k false)
   splits_first first =
-      let l = set_in m k first.there in
+      let l = in_below m k first.there in
       ascending_first Split (set_of m) (set_of (set m k false)) k first.there (get_or-set_same m k false false l) same_else (length m) l (λ j low. first.none j (omega arith) low)
       ∙ ap (λ n. Split k ∷ ascending Split (set_of (set m k false)) n) (sym (length-set {A = Bool} m k false))
 
   pub collapses_first : IsLast m (length m) k → collapses_of m ≡ Collapse k ∷ collapses_of (set m k false)
   collapses_first last =
-      let l = set_in m k last.there in
+      let l = in_below m k last.there in
       descending_first Collapse (set_of m) (set_of (set m k false)) k last.there (get_or-set_same m k false false l) same_else (length m) l last.none
       ∙ ap (λ n. Collapse k ∷ descending Collapse (set_of (set m k false)) n) (sym (length-set {A = Bool} m k false))
 
@@ -129,9 +109,9 @@ module _ (h : Hierarchy) (S G : ℕ → Bool) (rises falls : List Bool) (m : Hol
   plan_is =
       let n = record_count h in
       let up : ascending Split (less G S) n ≡ splits_of rises =
-      ascending_same Split (less G S) (set_of rises) n (as_held (less G S) rises m.up) ∙ ap (ascending Split (set_of rises)) (sym m.up.len) in
+      ascending-same Split (less G S) (set_of rises) n (as_held (less G S) rises m.up) ∙ ap (ascending Split (set_of rises)) (sym m.up.len) in
       let down : descending Collapse (less S G) n ≡ collapses_of falls =
-      descending_same Collapse (less S G) (set_of falls) n (as_held (less S G) falls m.down) ∙ ap (descending Collapse (set_of falls)) (sym m.down.len) in
+      descending-same Collapse (less S G) (set_of falls) n (as_held (less S G) falls m.down) ∙ ap (descending Collapse (set_of falls)) (sym m.down.len) in
       ap (λ ms. ms ++ descending Collapse (less S G) n) up ∙ ap (λ ms. splits_of rises ++ ms) down
 
   -- Its first moves are the first splits, and then the first collapses with what is left of the budget.

@@ -5,7 +5,8 @@ use Rattle.std.proofs.lemmas.Bool.{cases_lt}
 use Rattle.std.proofs.lemmas.List.{get_or_past}
 use Rattle.pm_sets.specs.Sets.{IsEmptySet}
 use Rattle.pm_forest.specs.Forest.{Hierarchy, record_count}
-use Rattle.pm_forest.specs.Fronts.{set_of, no_records}
+use Rattle.pm_forest.specs.Fronts.{no_records}
+use Rattle.pm_base.specs.Counts.{set_of}
 use Rattle.pm_front.specs.Needed.{need_count, AreNeedCounts}
 use Rattle.pm_front.proofs.NeedCountLaws.{need_count-empty}
 

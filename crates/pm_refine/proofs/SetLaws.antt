@@ -2,15 +2,12 @@
 use Rattle.std.proofs.Common.{◌≡◌, ◌≢◌, ℕ, suc, ◌+◌, ◌<◌, ◌≤◌, eqb, Bool, true, false, not, List, length, replicate, get_or, set, length-set, get_or-set_same, get_or-set_other, inl, inr, refl, sym, subst, ◌∙◌, arith}
 use Rattle.std.proofs.lemmas.Bool.{cases_eq, cases_lt, eq-eqb, eqb-true, and_from, not_from_false, both_ways}
 use Rattle.std.proofs.lemmas.List.{get_or_past, get_or-replicate, length-replicate}
-use Rattle.pm_base.specs.Counts.{count}
+use Rattle.pm_base.specs.Counts.{count, set_of}
 use Rattle.pm_sets.specs.Sets.{IsFirst, IsLast}
-use Rattle.pm_forest.specs.Fronts.{set_of}
 use Rattle.pm_beyond.proofs.PlanLists.{less-parts}
 use Rattle.pm_refine.specs.Holding.{HoldsFrom, HoldsBelow, HoldsMoves}
 use Rattle.pm_refine.proofs.CountLaws.{count_apart, count_some}
-
-pub set_in : (flags : List Bool) (k : ℕ) → set_of flags k ≡ true → k < length flags
-set_in flags k t = elim (cases_lt k (length flags)) [ inl l ↦ l | inr m ↦ absurd (both_ways _ (get_or_past flags k false (omega arith)) t) ]
+use Rattle.pm_sets.proofs.FlagLaws.{in_below}
 
 -- A new set has no record, and new counts are all 0.
 pub all_alike : {A : Type 0} (a : A) (n j : ℕ) → get_or (replicate n a) j a ≡ a
@@ -31,12 +28,12 @@ pub first_least : (m : List Bool) (k : ℕ) → IsFirst m 0 k → (j : ℕ) → 
 first_least m k first j t = elim (cases_lt j k) [ inl l ↦ absurd (both_ways _ (first.none j (omega arith) l) t) | inr l ↦ l ]
 
 pub last_greatest : (m : List Bool) (k : ℕ) → IsLast m (length m) k → (j : ℕ) → set_of m j ≡ true → j ≤ k
-last_greatest m k last j t = elim (cases_lt k j) [ inl l ↦ absurd (both_ways _ (last.none j l (set_in m j t)) t) | inr l ↦ l ]
+last_greatest m k last j t = elim (cases_lt k j) [ inl l ↦ absurd (both_ways _ (last.none j l (in_below m j t)) t) | inr l ↦ l ]
 
 -- A set without one of its records has fewer.
 pub fewer_left : (m : List Bool) (k : ℕ) → set_of m k ≡ true → count (set_of (set m k false)) (length m) < count (set_of m) (length m)
 fewer_left m k t =
-    let l = set_in m k t in
+    let l = in_below m k t in
     let a = count_some (eqb k) k (length m) l (eq-eqb k k refl) in
     let b = count_apart (eqb k) (set_of (set m k false)) (set_of m) (length m) (λ j e. subst (λ i. set_of m i ≡ true) (eqb-true k j e) t) (λ j u. (out-parts m k j l u).1)
     (λ j e u. (out-parts m k j l u).0 (sym (eqb-true k j e))) in
@@ -110,7 +107,7 @@ module _ (n : ℕ) (p : ℕ → Bool) where
 -- The next record that passes a test is the next of the set of those that do.
 module _ (n : ℕ) (p : ℕ → Bool) (m : List Bool) (len : length m ≡ n) (each : (j : ℕ) → j < n → set_of m j ≡ p j) (a k : ℕ) (first : IsFirst m a k) where
   pub next_there : (k < n) × (p k ≡ true)
-  next_there = let l = set_in m k first.there in (omega arith, sym (each k (omega arith)) ∙ first.there)
+  next_there = let l = in_below m k first.there in (omega arith, sym (each k (omega arith)) ∙ first.there)
 
   pub none_skipped : (j : ℕ) → a ≤ j → j < k → p j ≡ false
-  none_skipped j low high = let l = set_in m k first.there in sym (each j (omega arith)) ∙ first.none j low high
+  none_skipped j low high = let l = in_below m k first.there in sym (each j (omega arith)) ∙ first.none j low high

@@ -2,7 +2,7 @@
 -- and what those need that will be split or collapsed.
 use Rattle.std.specs.Prelude.{◌≡◌, ◌≢◌, ℕ, suc, ◌<◌, ◌≤◌, ◌⊎◌, Bool, true, false, List, length}
 use Rattle.pm_forest.specs.Forest.{Hierarchy, record_count, s_of}
-use Rattle.pm_forest.specs.Fronts.{set_of}
+use Rattle.pm_base.specs.Counts.{set_of}
 use Rattle.pm_beyond.specs.Moves.{Needs}
 use Rattle.pm_beyond.specs.Targets.{target_of}
 use Rattle.pm_refine.specs.Holding.{HoldsMoves}

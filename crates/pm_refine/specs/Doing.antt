@@ -1,7 +1,7 @@
 -- The moves of a plan, taken from the sets of their records.
 use Rattle.std.specs.Prelude.{◌≡◌, ℕ, Bool, List, length}
 use Rattle.pm_forest.specs.Forest.{Hierarchy}
-use Rattle.pm_forest.specs.Fronts.{set_of}
+use Rattle.pm_base.specs.Counts.{set_of}
 use Rattle.pm_beyond.specs.Plans.{Move, Split, Collapse, moved_by, AreLegal, ascending, descending}
 use Rattle.pm_front.specs.Corners.{corner_lists_after}
 

@@ -2,7 +2,8 @@
 -- are among those that no split record needs.
 use Rattle.std.specs.Prelude.{◌≡◌, ℕ, ◌<◌, ◌≤◌, ◌&&◌, ◌||◌, ◌⊎◌, Bool, true, not, List, length}
 use Rattle.pm_forest.specs.Forest.{Hierarchy, record_count, s_of, Makes}
-use Rattle.pm_forest.specs.Fronts.{set_of, is_active}
+use Rattle.pm_forest.specs.Fronts.{is_active}
+use Rattle.pm_base.specs.Counts.{set_of}
 use Rattle.pm_forest.specs.Moves.{may_try}
 use Rattle.pm_front.specs.Needed.{is_unneeded}
 
@@ -11,8 +12,8 @@ abbrev pub is_due : Hierarchy → (ℕ → Bool) → (ℕ → Bool) → ℕ → 
 is_due h wanted S j = wanted (s_of h j) && not (S j)
 
 -- Record j waits for a split, and its node is wanted.
-abbrev pub is_wanted_next : Hierarchy → (ℕ → Bool) → (ℕ → Bool) → ℕ → Bool
-is_wanted_next h wanted S j = may_try h S j && wanted (s_of h j)
+abbrev pub is_due_now : Hierarchy → (ℕ → Bool) → (ℕ → Bool) → ℕ → Bool
+is_due_now h wanted S j = may_try h S j && wanted (s_of h j)
 
 -- Record j is split, no split record needs it, and its node isn't wanted.
 abbrev pub is_loose : Hierarchy → (ℕ → Bool) → (ℕ → Bool) → ℕ → Bool

@@ -1,7 +1,7 @@
 -- What the sets of a refiner hold.
 use Rattle.std.specs.Prelude.{◌≡◌, ℕ, ◌<◌, ◌≤◌, ◌||◌, ◌&&◌, Bool, true, List, length}
 use Rattle.pm_forest.specs.Forest.{Hierarchy, splitter_of}
-use Rattle.pm_forest.specs.Fronts.{set_of}
+use Rattle.pm_base.specs.Counts.{set_of}
 use Rattle.pm_beyond.specs.Moves.{is_at}
 use Rattle.pm_beyond.specs.Plans.{less}
 

@@ -1,10 +1,9 @@
 //! Which records are in the target of a view, and which moves lead there, from the last record down:
 //! over those that were found, and what a record needs that a move is made of.
 ghost use Rattle.std.specs.Prelude.{ℕ, ◌≡◌, ◌+◌, ◌<◌, ◌≤◌, ◌&&◌, ◌||◌, not, length, true, false, slice_set};
-ghost use Rattle.pm_base.specs.Counts.{count, one_if};
+ghost use Rattle.pm_base.specs.Counts.{count, one_if, set_of};
 ghost use Rattle.pm_sets.specs.Sets.{IsEmptySet};
 ghost use Rattle.pm_forest.specs.Forest.{record_count, s_of};
-ghost use Rattle.pm_forest.specs.Fronts.{set_of};
 ghost use Rattle.pm_beyond.specs.Moves.{needs};
 ghost use Rattle.pm_beyond.specs.Plans.{differs};
 ghost use Rattle.pm_bounds.specs.Bounds.{AreBoundsOf};

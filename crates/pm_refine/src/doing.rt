@@ -2,7 +2,7 @@
 ghost use Rattle.std.specs.Prelude.{◌≡◌, ◌-◌, length, take};
 ghost use Rattle.pm_sets.specs.Sets.{IsEmptySet};
 ghost use Rattle.pm_forest.specs.Forest.{record_count};
-ghost use Rattle.pm_forest.specs.Fronts.{set_of};
+ghost use Rattle.pm_base.specs.Counts.{set_of};
 ghost use Rattle.pm_beyond.specs.Moves.{IsClosed};
 ghost use Rattle.pm_beyond.specs.Plans.{moved_by, AreLegal};
 ghost use Rattle.pm_front.specs.Corners.{corner_lists_after};

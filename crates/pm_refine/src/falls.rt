@@ -3,7 +3,7 @@ ghost use Rattle.std.specs.Prelude.{ℕ, ◌≡◌, ◌<◌, ◌≤◌, true, fa
 ghost use Rattle.pm_sets.specs.Sets.{IsEmptySet, IsLast};
 ghost use Rattle.pm_sets.specs.declared.set.TheConstants.{BOUND_LIMIT};
 ghost use Rattle.pm_forest.specs.Forest.{record_count};
-ghost use Rattle.pm_forest.specs.Fronts.{set_of};
+ghost use Rattle.pm_base.specs.Counts.{set_of};
 ghost use Rattle.pm_front.specs.Needed.{AreNeedCounts};
 
 use crate::OutOfMemory;

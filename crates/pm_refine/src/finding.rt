@@ -1,16 +1,15 @@
 //! Records that aren't split and whose nodes are wanted are found from those that wait for a split, since a wanted
 //! node has a wanted parent. Records that may go are among those that no split record needs.
 ghost use Rattle.std.specs.Prelude.{◌≡◌, ◌+◌, ◌*◌, ◌<◌, ◌≤◌, ◌||◌, length};
-ghost use Rattle.pm_base.specs.Counts.{count};
+ghost use Rattle.pm_base.specs.Counts.{count, set_of};
 ghost use Rattle.pm_sets.specs.Sets.{IsEmptySet};
 ghost use Rattle.pm_forest.specs.Forest.{record_count, node_count, t_of, u_of};
-ghost use Rattle.pm_forest.specs.Fronts.{set_of};
 ghost use Rattle.pm_forest.specs.Moves.{may_try};
 ghost use Rattle.pm_front.specs.Needed.{is_unneeded};
 ghost use Rattle.pm_bounds.specs.Bounds.{AreBoundsOf};
 ghost use Rattle.pm_view.specs.Wanted.{is_wanted};
 ghost use Rattle.pm_refine.specs.Holding.{Joins, HoldsBelow, leads_to};
-ghost use Rattle.pm_refine.specs.Finding.{is_due, is_wanted_next, is_loose, IsStartOfPlan};
+ghost use Rattle.pm_refine.specs.Finding.{is_due, is_due_now, is_loose, IsStartOfPlan};
 
 use pm_base::NodeId;
 use pm_bounds::Bounds;
@@ -32,7 +31,7 @@ fn see_waiting<L: Ledger>(
     requires rises { length rises.old ≡ record_count front.now.h }
     requires no_rises { IsEmptySet rises.old }
     ensures seen { let h = front.now.h in HoldsBelow (record_count h)
-        (is_wanted_next h (is_wanted h view.now) (set_of front.now.flags)) (record_count h) rises.new }
+        (is_due_now h (is_wanted h view.now) (set_of front.now.flags)) (record_count h) rises.new }
     ensures cost { let h = front.now.h in
         steps.new ≤ steps.old + count (may_try h (set_of front.now.flags)) (record_count h) }
 {

@@ -2,7 +2,7 @@
 ghost use Rattle.std.specs.Prelude.{ℕ, ◌≡◌, ◌<◌, ◌*◌, length, IfSome};
 ghost use Rattle.std.specs.List.{All};
 ghost use Rattle.pm_forest.specs.Forest.{record_count};
-ghost use Rattle.pm_forest.specs.Fronts.{set_of};
+ghost use Rattle.pm_base.specs.Counts.{set_of};
 ghost use Rattle.pm_forest.specs.Faces.{face_count};
 ghost use Rattle.pm_forest.specs.Moves.{side_in};
 ghost use Rattle.pm_beyond.specs.Moves.{is_at, needs};

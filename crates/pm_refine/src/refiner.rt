@@ -1,8 +1,7 @@
 //! Adapting a front to a view.
 ghost use Rattle.std.specs.Prelude.{ℕ, ◌≡◌, ◌+◌, ◌*◌, ◌≤◌, length, take, IfOk};
-ghost use Rattle.pm_base.specs.Counts.{count};
+ghost use Rattle.pm_base.specs.Counts.{count, set_of};
 ghost use Rattle.pm_forest.specs.Forest.{record_count};
-ghost use Rattle.pm_forest.specs.Fronts.{set_of};
 ghost use Rattle.pm_front.specs.Shown.{active_nodes};
 ghost use Rattle.pm_front.specs.Corners.{corner_lists_after};
 ghost use Rattle.pm_beyond.specs.Plans.{moved_by, differs};

@@ -62,16 +62,16 @@ plane_count_at : (m : Mesh) (v : ℕ) → length (planes_at m v) ≡ length (fil
 unfolding planes_at
 plane_count_at m v = length-map (filter (has_corner v) m.faces) (plane_of_face m)
 
-count_le : (live : Bool) (n : ℕ) → cond live n 0 ≤ n
-count_le true n = omega arith
-count_le false n = omega arith
+pub share-most : (b : Bool) (n : ℕ) → cond b n 0 ≤ n
+share-most true n = omega arith
+share-most false n = omega arith
 
 pub first_count : (m : Mesh) → plane_count_of (planes_at m) (surface_of m) ≤ 3 * length m.faces
 first_count m =
     let all = corners_few m.faces (next_vertex (surface_of m)) in
     let each = sum_le (λ v. cond (is_live (surface_of m) v) (length (planes_at m v)) 0) (λ v. length (filter (has_corner v) m.faces)) (next_vertex (surface_of m)) (λ v l.
     let e = plane_count_at m v in
-    let p = count_le (is_live (surface_of m) v) (length (planes_at m v)) in
+    let p = share-most (is_live (surface_of m) v) (length (planes_at m v)) in
     omega arith) in
     omega arith
 

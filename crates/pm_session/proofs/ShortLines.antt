@@ -11,7 +11,8 @@ use Rattle.pm_view.specs.declared.plane.Plane.{Plane}
 use Rattle.pm_view.specs.Views.{View}
 use Rattle.pm_view.specs.declared.fields.ViewKind.{ViewKind}
 use Rattle.pm_view.specs.declared.fields.ViewKind.TheVariants as kinds
-use Rattle.pm_view.specs.Fields.{onto_spaced_field, spaced_fields, negative, signed_of, eye_of, plane_read, first_plane, planes_of, first_sil, view_in, view_of}
+use Rattle.pm_view.specs.Fields.{spaced_fields, negative, signed_of, eye_of, plane_read, first_plane, planes_of, first_sil, view_in, view_of}
+use Rattle.pm_io.specs.Bytes.{onto}
 use Rattle.pm_view.proofs.NumberLaws.{unsigned_small}
 use Rattle.pm_pick.specs.Rays.{Ray}
 use Rattle.pm_pick.specs.Fields.{three_of, ray_in, ray_of}
@@ -103,7 +104,7 @@ abbrev width : List (List ℕ) → ℕ
 width [] = 0
 width (f ∷ fs) = length f + 1 + width fs
 
-onto_width : (b : ℕ) (fs : List (List ℕ)) → width fs + 1 ≤ width (onto_spaced_field b fs)
+onto_width : (b : ℕ) (fs : List (List ℕ)) → width fs + 1 ≤ width (onto b fs)
 onto_width b [] = omega arith
 onto_width b (f ∷ fs) = omega arith
 

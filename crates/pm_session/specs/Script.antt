@@ -30,15 +30,11 @@ use Rattle.pm_session.specs.declared.command.Command.{Command}
 use Rattle.pm_session.specs.declared.command.Command.TheVariants as commands
 use Rattle.pm_session.specs.declared.command.ScriptFault.{ScriptFault}
 use Rattle.pm_session.specs.declared.command.ScriptFault.TheVariants as faults
-
--- Lines are separated by LF. What follows the last LF is a line if it isn't empty.
-abbrev pub onto_line : ℕ → List (List ℕ) → List (List ℕ)
-onto_line b [] = (b ∷ []) ∷ []
-onto_line b (l ∷ ls) = (b ∷ l) ∷ ls
+use Rattle.pm_io.specs.Bytes.{onto}
 
 abbrev pub split_lines : List ℕ → List (List ℕ)
 split_lines [] = []
-split_lines (b ∷ bytes) = if b == 10 then [] ∷ split_lines bytes else onto_line b (split_lines bytes)
+split_lines (b ∷ bytes) = if b == 10 then [] ∷ split_lines bytes else onto b (split_lines bytes)
 
 -- The line is this one letter.
 abbrev pub is_one_letter : ℕ → List ℕ → Bool

@@ -2,7 +2,7 @@
 use Rattle.std.proofs.Common.{◌≡◌, ℕ, ◌+◌, ◌-◌, ◌<◌, ◌≤◌, ◌*◌, ◌/◌, Bool, true, false, get_or, set, replicate, List, length, inl, inr, sym, ap, ◌∙◌, subst, arith}
 use Rattle.std.proofs.lemmas.Bool.{cases_eq}
 use Rattle.std.proofs.lemmas.List.{get_or-set_same, get_or-set_other, get_or-replicate, length-set, length-replicate}
-use Rattle.pm_sets.specs.Sets.{is_in}
+use Rattle.pm_base.specs.Counts.{set_of}
 use Rattle.pm_sets.specs.Counted.{AreBlockCounts, AreCounted, members_in}
 use Rattle.pm_sets.specs.declared.set.TheConstants.{BOUND_LIMIT}
 use Rattle.pm_sets.proofs.FlagLaws.{more_in, less_in, same_out, some_members, few_members, no_members}
@@ -15,7 +15,7 @@ module _ (size : ℕ) (some : 0 < size) (flags : List Bool) (n : ℕ) (n_lt : n 
   pub few_there : get_or counts (n / size) 0 ≤ size
   few_there = omega (arith, was.each (n / size) block_there, few_members flags (size * (n / size)) size)
 
-  pub some_there : is_in flags n ≡ true → 0 < get_or counts (n / size) 0
+  pub some_there : set_of flags n ≡ true → 0 < get_or counts (n / size) 0
   some_there there =
       omega (arith, was.each (n / size) block_there, some_members flags (size * (n / size)) size n (block_low size some n) (block_high size some n) there)
 
@@ -35,18 +35,18 @@ module _ (size : ℕ) (some : 0 < size) (flags : List Bool) (n : ℕ) (n_lt : n 
         ];
   }
 
-  pub counts_more : (v : ℕ) → is_in flags n ≡ false → v ≡ get_or counts (n / size) 0 → AreBlockCounts size (set flags n true) (set counts (n / size) (v + 1))
+  pub counts_more : (v : ℕ) → set_of flags n ≡ false → v ≡ get_or counts (n / size) 0 → AreBlockCounts size (set flags n true) (set counts (n / size) (v + 1))
   counts_more v clear is =
       written true (v + 1) (let more = more_in flags n n_lt (size * (n / size)) size clear (block_low size some n) (block_high size some n) in
       omega (arith, was.each (n / size) block_there, more, is))
 
-  pub counts_less : (v : ℕ) → is_in flags n ≡ true → v ≡ get_or counts (n / size) 0 → AreBlockCounts size (set flags n false) (set counts (n / size) (v - 1))
+  pub counts_less : (v : ℕ) → set_of flags n ≡ true → v ≡ get_or counts (n / size) 0 → AreBlockCounts size (set flags n false) (set counts (n / size) (v - 1))
   counts_less v there is =
       written false (v - 1) (let less = less_in flags n n_lt (size * (n / size)) size there (block_low size some n) (block_high size some n) in
       omega (arith, was.each (n / size) block_there, less, is))
 
 module _ (flags : List Bool) (n : ℕ) (n_lt : n < length flags) (small large : List ℕ) (was : AreCounted flags small large) where
-  pub counted_more : (v w : ℕ) → is_in flags n ≡ false → v ≡ get_or small (n / 64) 0 → w ≡ get_or large (n / 4096) 0 →
+  pub counted_more : (v w : ℕ) → set_of flags n ≡ false → v ≡ get_or small (n / 64) 0 → w ≡ get_or large (n / 4096) 0 →
       AreCounted (set flags n true) (set small (n / 64) (v + 1)) (set large (n / 4096) (w + 1))
   counted_more v w clear is_v is_w = record {
     few = subst (λ m. m ≤ BOUND_LIMIT) (sym (length-set flags n true)) was.few;
@@ -54,7 +54,7 @@ module _ (flags : List Bool) (n : ℕ) (n_lt : n < length flags) (small large : 
     large = counts_more 4096 (omega arith) flags n n_lt large was.large w clear is_w;
   }
 
-  pub counted_less : (v w : ℕ) → is_in flags n ≡ true → v ≡ get_or small (n / 64) 0 → w ≡ get_or large (n / 4096) 0 →
+  pub counted_less : (v w : ℕ) → set_of flags n ≡ true → v ≡ get_or small (n / 64) 0 → w ≡ get_or large (n / 4096) 0 →
       AreCounted (set flags n false) (set small (n / 64) (v - 1)) (set large (n / 4096) (w - 1))
   counted_less v w there is_v is_w = record {
     few = subst (λ m. m ≤ BOUND_LIMIT) (sym (length-set flags n false)) was.few;

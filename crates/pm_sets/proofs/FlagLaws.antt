@@ -2,17 +2,17 @@
 use Rattle.std.proofs.Common.{◌≡◌, ◌≢◌, ℕ, suc, ◌+◌, ◌<◌, ◌≤◌, Bool, true, false, set, replicate, List, [], length, inl, inr, sym, ap, arith}
 use Rattle.std.proofs.lemmas.Bool.{cases_lt, both_ways}
 use Rattle.std.proofs.lemmas.List.{get_or_past, get_or-set_same, get_or-set_other, get_or-replicate, length-replicate}
-use Rattle.pm_sets.specs.Sets.{is_in}
+use Rattle.pm_base.specs.Counts.{set_of}
 use Rattle.pm_sets.specs.Counted.{members_in}
 use Rattle.pm_sets.proofs.Ranges.{none_passes, some_passes, at_most_all, same_pass, one_more}
 
-pub in_below : (flags : List Bool) (x : ℕ) → is_in flags x ≡ true → x < length flags
+pub in_below : (flags : List Bool) (x : ℕ) → set_of flags x ≡ true → x < length flags
 in_below flags x there = elim (cases_lt x (length flags)) [ inl l ↦ l | inr past ↦ absurd (both_ways _ (get_or_past flags x false past) there) ]
 
-pub out_of_bound : (flags : List Bool) (x : ℕ) → length flags ≤ x → is_in flags x ≡ false
+pub out_of_bound : (flags : List Bool) (x : ℕ) → length flags ≤ x → set_of flags x ≡ false
 out_of_bound flags x past = get_or_past flags x false past
 
-pub none_in_empty : (n y : ℕ) → is_in (replicate n false) y ≡ false
+pub none_in_empty : (n y : ℕ) → set_of (replicate n false) y ≡ false
 none_in_empty n y =
     elim (cases_lt y n) [
       | inl l ↦ get_or-replicate n y false false l
@@ -20,27 +20,27 @@ none_in_empty n y =
     ]
 
 pub no_members : (n a m : ℕ) → members_in (replicate n false) a m ≡ []
-no_members n a m = none_passes (is_in (replicate n false)) a m (λ y low high. none_in_empty n y)
+no_members n a m = none_passes (set_of (replicate n false)) a m (λ y low high. none_in_empty n y)
 
-pub some_members : (flags : List Bool) (a m y : ℕ) → a ≤ y → y < a + m → is_in flags y ≡ true → 0 < length (members_in flags a m)
-some_members flags a m = some_passes (is_in flags) a m
+pub some_members : (flags : List Bool) (a m y : ℕ) → a ≤ y → y < a + m → set_of flags y ≡ true → 0 < length (members_in flags a m)
+some_members flags a m = some_passes (set_of flags) a m
 
 pub few_members : (flags : List Bool) (a m : ℕ) → length (members_in flags a m) ≤ m
-few_members flags = at_most_all (is_in flags)
+few_members flags = at_most_all (set_of flags)
 
 -- one flag is written
 module _ (flags : List Bool) (n : ℕ) (n_lt : n < length flags) where
-  pub set_other : (b : Bool) (y : ℕ) → y ≢ n → is_in (set flags n b) y ≡ is_in flags y
+  pub set_other : (b : Bool) (y : ℕ) → y ≢ n → set_of (set flags n b) y ≡ set_of flags y
   set_other b y other = get_or-set_other flags n y b false other
 
-  pub set_here : (b : Bool) → is_in (set flags n b) n ≡ b
+  pub set_here : (b : Bool) → set_of (set flags n b) n ≡ b
   set_here b = get_or-set_same flags n b false n_lt
 
-  pub more_in : (a m : ℕ) → is_in flags n ≡ false → a ≤ n → n < a + m → length (members_in (set flags n true) a m) ≡ suc (length (members_in flags a m))
-  more_in a m clear low high = one_more (is_in flags) (is_in (set flags n true)) a m n low high clear (set_here true) (set_other true)
+  pub more_in : (a m : ℕ) → set_of flags n ≡ false → a ≤ n → n < a + m → length (members_in (set flags n true) a m) ≡ suc (length (members_in flags a m))
+  more_in a m clear low high = one_more (set_of flags) (set_of (set flags n true)) a m n low high clear (set_here true) (set_other true)
 
-  pub less_in : (a m : ℕ) → is_in flags n ≡ true → a ≤ n → n < a + m → length (members_in flags a m) ≡ suc (length (members_in (set flags n false) a m))
-  less_in a m was low high = one_more (is_in (set flags n false)) (is_in flags) a m n low high (set_here false) was (λ y other. sym (set_other false y other))
+  pub less_in : (a m : ℕ) → set_of flags n ≡ true → a ≤ n → n < a + m → length (members_in flags a m) ≡ suc (length (members_in (set flags n false) a m))
+  less_in a m was low high = one_more (set_of (set flags n false)) (set_of flags) a m n low high (set_here false) was (λ y other. sym (set_other false y other))
 
   pub same_out : (b : Bool) (a m : ℕ) → ((y : ℕ) → a ≤ y → y < a + m → y ≢ n) → length (members_in flags a m) ≡ length (members_in (set flags n b) a m)
-  same_out b a m out = ap length (same_pass (is_in flags) (is_in (set flags n b)) a m (λ y low high. sym (set_other b y (out y low high))))
+  same_out b a m out = ap length (same_pass (set_of flags) (set_of (set flags n b)) a m (λ y low high. sym (set_other b y (out y low high))))

@@ -1,7 +1,8 @@
 -- What the searches pass over has no number of the set, and where a count isn't 0 they find one.
 use Rattle.std.proofs.Common.{◌≡◌, ℕ, ◌+◌, ◌<◌, ◌≤◌, ◌*◌, ◌/◌, min, Bool, true, false, get_or, List, length, inl, inr, subst, arith}
 use Rattle.std.proofs.lemmas.Bool.{cases_lt}
-use Rattle.pm_sets.specs.Sets.{is_in, IsEmptySet, IsGap, IsFirst, IsLast}
+use Rattle.pm_sets.specs.Sets.{IsEmptySet, IsGap, IsFirst, IsLast}
+use Rattle.pm_base.specs.Counts.{set_of}
 use Rattle.pm_sets.specs.Counted.{AreBlockCounts, AreCounted}
 use Rattle.pm_sets.proofs.OrderLaws.{gap_join, gap_far, no_member}
 use Rattle.pm_sets.proofs.BlockLaws.{filled_block, empty_blocks, all_blocks}
@@ -14,7 +15,7 @@ module _ (flags : List Bool) (small : List ℕ) (are : AreBlockCounts 64 flags s
       (gap_far flags (64 * block) (min (length flags) (64 * (block + 1))) (64 * block) (64 * block + 64) gap (omega arith) (omega arith))
 
   pub first_here : (end place : ℕ) → end ≡ min (length flags) (64 * (block + 1)) → 64 * block ≤ place → place ≤ end →
-      (place < end → is_in flags place ≡ true) → IsGap flags (64 * block) place → IsFirst flags (64 * block) place
+      (place < end → set_of flags place ≡ true) → IsGap flags (64 * block) place → IsFirst flags (64 * block) place
   first_here end place is low high there gap = record {
     from = low;
     there =
@@ -25,8 +26,8 @@ module _ (flags : List Bool) (small : List ℕ) (are : AreBlockCounts 64 flags s
     none = gap;
   }
 
-  pub last_here : (end place : ℕ) → end ≡ min (length flags) (64 * (block + 1)) → place ≤ end → (place < end → is_in flags place ≡ true) →
-      (place < end → (j : ℕ) → place < j → j < end → is_in flags j ≡ false) → (place ≡ end → IsGap flags (64 * block) end) →
+  pub last_here : (end place : ℕ) → end ≡ min (length flags) (64 * (block + 1)) → place ≤ end → (place < end → set_of flags place ≡ true) →
+      (place < end → (j : ℕ) → place < j → j < end → set_of flags j ≡ false) → (place ≡ end → IsGap flags (64 * block) end) →
       IsLast flags (64 * (block + 1)) place
   last_here end place is high there later none =
       elim (cases_lt place end) [

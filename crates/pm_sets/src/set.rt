@@ -1,6 +1,7 @@
 //! A set of numbers: a flag for each, and how many there are in each block.
 ghost use Rattle.std.specs.Prelude.{◌≡◌, ◌<◌, ◌≤◌, true, false, length, replicate, slice_set, IfOk, IfSome, IfNone};
-ghost use Rattle.pm_sets.specs.Sets.{is_in, IsEmptySet, IsGap, IsFirst, IsLast};
+ghost use Rattle.pm_sets.specs.Sets.{IsEmptySet, IsGap, IsFirst, IsLast};
+ghost use Rattle.pm_base.specs.Counts.{set_of};
 
 use crate::blocks::{BLOCK, LARGE, first_from, last_of};
 use std::alloc::{AllocError, Global};
@@ -66,7 +67,7 @@ impl NumberSet {
     /// Whether a number is in the set. O(1) time.
     pub fn has(&self, number: u32) -> bool
         requires { number < length self.now }
-        ensures { result ≡ is_in self.now number }
+        ensures { result ≡ set_of self.now number }
     {
         self.flags[number as usize]
     }

@@ -3,10 +3,11 @@ use Rattle.std.proofs.Common.{◌≡◌, ℕ, ◌*◌, ◌<◌, Bool, true, fals
 use Rattle.std.proofs.Math.Path.{fun_ext}
 use Rattle.std.proofs.lemmas.List.{get_or-replicate, get_or_past, length-replicate}
 use Rattle.std.proofs.lemmas.Bool.{lt-ltb, le-ltb, cases_lt, both_ways}
-use Rattle.pm_base.specs.Sides.{NoSideTwice}
+use Rattle.pm_base.specs.Sides.{NoSideTwice, beside_side}
 use Rattle.pm_base.proofs.Search.{option_cases}
 use Rattle.pm_forest.specs.Forest.{Hierarchy, record_count}
-use Rattle.pm_forest.specs.Fronts.{set_of, below, every}
+use Rattle.pm_forest.specs.Fronts.{below, every}
+use Rattle.pm_base.specs.Counts.{set_of}
 use Rattle.pm_forest.specs.Faces.{face_count, record_of}
 use Rattle.pm_forest.specs.Kept.{is_shown}
 use Rattle.pm_forest.specs.Rules.{HasShape}
@@ -17,7 +18,7 @@ use Rattle.pm_beyond.specs.Walks.{leaf_net}
 use Rattle.pm_beyond.proofs.Reaching.{reaches-lt, fewer}
 use Rattle.pm_beyond.proofs.Standing.{stops_there}
 use Rattle.pm_beyond.proofs.Twins.{shown_every}
-use Rattle.pm_sides.specs.Stored.{stored, AreStored}
+use Rattle.pm_sides.specs.Stored.{AreStored}
 
 -- With all flags set all records below their number are split.
 pub set_of-all : (n : ℕ) → set_of (replicate n true) ≡ below n
@@ -45,7 +46,7 @@ module _ (h : Hierarchy) (shape : HasShape h) where
         let far = full.shown a l (shown_every h a) in
         record {
           reaches = fewer h every all (λ j e. refl) far.reaches;
-          stops = stops_there h all (stored table a) (λ c is. all-shown c (reaches-lt h (shape_is_forest h shape) once every c far.reaches is));
+          stops = stops_there h all (beside_side table a) (λ c is. all-shown c (reaches-lt h (shape_is_forest h shape) once every c far.reaches is));
         };
     hidden = λ a l d. absurd (both_ways (is_shown h all a) d (all-shown a l));
   }

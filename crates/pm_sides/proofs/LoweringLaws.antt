@@ -5,7 +5,8 @@ use Rattle.std.proofs.lemmas.Bool.{cases_eq, lt-ltb, le-ltb}
 use Rattle.std.proofs.lemmas.List.{length-replicate}
 use Rattle.pm_base.specs.Sides.{face_of, NoSideTwice}
 use Rattle.pm_forest.specs.Forest.{Hierarchy, record_count}
-use Rattle.pm_forest.specs.Fronts.{set_of, below, every, no_records, without, IsFront}
+use Rattle.pm_forest.specs.Fronts.{below, every, no_records, without, IsFront}
+use Rattle.pm_base.specs.Counts.{set_of}
 use Rattle.pm_forest.specs.Faces.{face_count, record_of, inner_of}
 use Rattle.pm_forest.specs.Rules.{HasShape}
 use Rattle.pm_forest.proofs.Ancestors.{below-front}

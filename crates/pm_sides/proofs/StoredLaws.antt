@@ -6,7 +6,7 @@ use Rattle.std.proofs.lemmas.List.{length-set}
 use Rattle.std.proofs.lemmas.Bool.{cases_eq, cases_Bool, both_ways, false_from_ne_true}
 use Rattle.std.proofs.lemmas.Option.{none-some, same_Some}
 use Rattle.pm_base.specs.declared.ids.Side.{Side}
-use Rattle.pm_base.specs.Sides.{NoSideTwice}
+use Rattle.pm_base.specs.Sides.{NoSideTwice, beside_side}
 use Rattle.pm_base.proofs.Search.{option_cases}
 use Rattle.pm_forest.specs.Forest.{Hierarchy, record_count}
 use Rattle.pm_forest.specs.Fronts.{every, with, without}
@@ -21,22 +21,22 @@ use Rattle.pm_beyond.proofs.Across.{across-face, across-is_outer, across-lt}
 use Rattle.pm_beyond.proofs.Reaching.{stops_at, reaches-lt, back, Beyond-unique}
 use Rattle.pm_beyond.proofs.Standing.{forest_of}
 use Rattle.pm_beyond.proofs.Twins.{shown_every}
-use Rattle.pm_sides.specs.Stored.{stored, AreStored}
+use Rattle.pm_sides.specs.Stored.{AreStored}
 use Rattle.pm_forest.proofs.Shown.{shown_with, shown_with-parts, shown_without, shown_without-parts}
 use Rattle.pm_sides.proofs.RecordSides.{record-corner_of}
 use Rattle.pm_beyond.proofs.Relinking.{split-new, split-other, stands-outer, collapse-neighbour, collapse-other}
 
 -- ---- one write
 
-pub stored-set_same : (table : List (Option ℕ)) (a b : ℕ) (o : Option ℕ) → a ≡ b → b < length table → stored (set table b o) a ≡ o
+pub stored-set_same : (table : List (Option ℕ)) (a b : ℕ) (o : Option ℕ) → a ≡ b → b < length table → beside_side (set table b o) a ≡ o
 stored-set_same table a b o is l = ap (λ i. get_or (set table b o) i None) is ∙ get_or-set_same table b o None l
 
-pub stored-set_other : (table : List (Option ℕ)) (a b : ℕ) (o : Option ℕ) → a ≢ b → stored (set table b o) a ≡ stored table a
+pub stored-set_other : (table : List (Option ℕ)) (a b : ℕ) (o : Option ℕ) → a ≢ b → beside_side (set table b o) a ≡ beside_side table a
 stored-set_other table a b o n = get_or-set_other table b a o None n
 
 -- ---- the full front
 
-pub full-stored : (h : Hierarchy) (table : List (Option ℕ)) → length table ≡ 3 * face_count h → ((a : ℕ) → a < 3 * face_count h → stored table a ≡ leaf_twin h a) →
+pub full-stored : (h : Hierarchy) (table : List (Option ℕ)) → length table ≡ 3 * face_count h → ((a : ℕ) → a < 3 * face_count h → beside_side table a ≡ leaf_twin h a) →
     ((a : ℕ) → a < 3 * face_count h → Beyond h every a (leaf_twin h a)) → AreStored h every table
 full-stored h table len twins full = record {
   sides = len;
@@ -49,12 +49,12 @@ full-stored h table len twins full = record {
 -- The sides of record k below n have been gone through. W is the set with k.
 pub record SplitLinks (h : Hierarchy) (T : ℕ → Bool) (k n : ℕ) (old now : List (Option ℕ)) : Type 0 where
   pub sides : length now ≡ 3 * face_count h
-  pub own : (e : ℕ) → e < 3 * face_count h → record_of h e ≡ Some k → stored now e ≡ expected h e
-  pub hidden : (a : ℕ) → a < 3 * face_count h → is_shown h (with T k) a ≡ false → stored now a ≡ expected h a
+  pub own : (e : ℕ) → e < 3 * face_count h → record_of h e ≡ Some k → beside_side now e ≡ expected h e
+  pub hidden : (a : ℕ) → a < 3 * face_count h → is_shown h (with T k) a ≡ false → beside_side now a ≡ expected h a
   pub shown :
       (a : ℕ) → a < 3 * face_count h → is_shown h T a ≡ true
-      → Beyond h (with T k) a (stored now a)
-      ⊎ ((stored now a ≡ stored old a) × ((e : ℕ) → e < n → e < 3 * face_count h → IsOuter h k e → expected h e ≢ Some a))
+      → Beyond h (with T k) a (beside_side now a)
+      ⊎ ((beside_side now a ≡ beside_side old a) × ((e : ℕ) → e < n → e < 3 * face_count h → IsOuter h k e → expected h e ≢ Some a))
 
 module _ (h : Hierarchy) (valid : IsValid h) (T : ℕ → Bool) (closed : IsClosed h T) (k : ℕ) (k_lt : k < record_count h) (may : MaySplit h T k) (old : List (Option ℕ)) (was : AreStored h T old) where
   abbrev W : ℕ → Bool
@@ -72,7 +72,7 @@ module _ (h : Hierarchy) (valid : IsValid h) (T : ℕ → Bool) (closed : IsClos
   }
 
   -- a side beside which nothing is told
-  pub split-none : (n : ℕ) (now : List (Option ℕ)) → SplitLinks h T k n old now → n < 3 * face_count h → record_of h n ≡ Some k → stored now n ≡ None → SplitLinks h T k (n + 1) old now
+  pub split-none : (n : ℕ) (now : List (Option ℕ)) → SplitLinks h T k n old now → n < 3 * face_count h → record_of h n ≡ Some k → beside_side now n ≡ None → SplitLinks h T k (n + 1) old now
   split-none n now links l own none = record {
     sides = links.sides;
     own = links.own;
@@ -90,11 +90,11 @@ module _ (h : Hierarchy) (valid : IsValid h) (T : ℕ → Bool) (closed : IsClos
   }
 
   -- a side beside which side b is told
-  pub split-lt : (n b : ℕ) (now : List (Option ℕ)) → SplitLinks h T k n old now → n < 3 * face_count h → record_of h n ≡ Some k → stored now n ≡ Some b → b < 3 * face_count h
+  pub split-lt : (n b : ℕ) (now : List (Option ℕ)) → SplitLinks h T k n old now → n < 3 * face_count h → record_of h n ≡ Some k → beside_side now n ≡ Some b → b < 3 * face_count h
   split-lt n b now links l own is =
       reaches-lt h (forest_of h valid) valid.no_side_twice W b (split-new h valid T k closed k_lt may n l own).reaches (sym (links.own n l own) ∙ is)
 
-  pub split-some : (n b : ℕ) (now : List (Option ℕ)) → SplitLinks h T k n old now → n < 3 * face_count h → record_of h n ≡ Some k → stored now n ≡ Some b →
+  pub split-some : (n b : ℕ) (now : List (Option ℕ)) → SplitLinks h T k n old now → n < 3 * face_count h → record_of h n ≡ Some k → beside_side now n ≡ Some b →
       SplitLinks h T k (n + 1) old (set now b (Some n))
   split-some n b now links l own is =
       let tree = forest_of h valid in
@@ -119,7 +119,7 @@ module _ (h : Hierarchy) (valid : IsValid h) (T : ℕ → Bool) (closed : IsClos
           | inr other ↦ stored-set_other now a b (Some n) other ∙ links.hidden a a_lt d
         ];
         shown = λ a a_lt s. elim (cases_eq a b) [
-          | inl at ↦ inl (subst (λ i. Beyond h W i (stored (set now b (Some n)) a)) (sym at) (subst (Beyond h W b) (sym (stored-set_same now a b (Some n) at b_in)) beyond_b))
+          | inl at ↦ inl (subst (λ i. Beyond h W i (beside_side (set now b (Some n)) a)) (sym at) (subst (Beyond h W b) (sym (stored-set_same now a b (Some n) at b_in)) beyond_b))
           | inr other ↦
               let same = stored-set_other now a b (Some n) other in
               elim (links.shown a a_lt s) [
@@ -144,7 +144,7 @@ module _ (h : Hierarchy) (valid : IsValid h) (T : ℕ → Bool) (closed : IsClos
         | inl right ↦ right
         | inr kept ↦
             subst (Beyond h W a) (sym kept.0)
-            (split-other h valid T k closed k_lt may a (stored old a) l before (was.shown a l before) (λ e e_lt outer.
+            (split-other h valid T k closed k_lt may a (beside_side old a) l before (was.shown a l before) (λ e e_lt outer.
             kept.1 e (let p = record-corner_of h k e e_lt outer.0 in omega (arith, p.1)) e_lt outer))
       ]
     ];
@@ -161,12 +161,12 @@ outer-side h k n o own over =
 
 pub record CollapseLinks (h : Hierarchy) (T : ℕ → Bool) (k n : ℕ) (old now : List (Option ℕ)) : Type 0 where
   pub sides : length now ≡ 3 * face_count h
-  pub own : (e : ℕ) → e < 3 * face_count h → record_of h e ≡ Some k → stored now e ≡ expected h e
-  pub hidden : (a : ℕ) → a < 3 * face_count h → is_shown h T a ≡ false → stored now a ≡ expected h a
+  pub own : (e : ℕ) → e < 3 * face_count h → record_of h e ≡ Some k → beside_side now e ≡ expected h e
+  pub hidden : (a : ℕ) → a < 3 * face_count h → is_shown h T a ≡ false → beside_side now a ≡ expected h a
   pub shown :
       (a : ℕ) → a < 3 * face_count h → is_shown h (without T k) a ≡ true
-      → Beyond h (without T k) a (stored now a)
-      ⊎ ((stored now a ≡ stored old a) × ((e : ℕ) → e < n → e < 3 * face_count h → IsOuter h k e → expected h e ≢ Some a))
+      → Beyond h (without T k) a (beside_side now a)
+      ⊎ ((beside_side now a ≡ beside_side old a) × ((e : ℕ) → e < n → e < 3 * face_count h → IsOuter h k e → expected h e ≢ Some a))
 
 module _ (h : Hierarchy) (tree : IsForest h) (once : NoSideTwice (leaf_net h)) (T : ℕ → Bool) (k : ℕ) (k_lt : k < record_count h) (split : T k ≡ true)
     (standing : (e : ℕ) → e < 3 * face_count h → record_of h e ≡ Some k → Beyond h T e (expected h e))
@@ -180,7 +180,7 @@ module _ (h : Hierarchy) (tree : IsForest h) (once : NoSideTwice (leaf_net h)) (
   pub collapse-begins : CollapseLinks h T k (3 * first_face h k) old old
   collapse-begins = record {
     sides = was.sides;
-    own = λ e l own. Beyond-unique h tree once T e (stored old e) (expected h e) (was.shown e l (shown_k e own)) (standing e l own);
+    own = λ e l own. Beyond-unique h tree once T e (beside_side old e) (expected h e) (was.shown e l (shown_k e own)) (standing e l own);
     hidden = was.hidden;
     shown = λ a l s. inr (refl, λ e low m outer. absurd (let p = record-corner_of h k e m outer.0 in omega (arith, p.0)));
   }
@@ -203,12 +203,12 @@ module _ (h : Hierarchy) (tree : IsForest h) (once : NoSideTwice (leaf_net h)) (
     ];
   }
 
-  pub collapse-lt : (n b : ℕ) (now : List (Option ℕ)) → CollapseLinks h T k n old now → n < 3 * face_count h → record_of h n ≡ Some k → stored now n ≡ Some b → b < 3 * face_count h
+  pub collapse-lt : (n b : ℕ) (now : List (Option ℕ)) → CollapseLinks h T k n old now → n < 3 * face_count h → record_of h n ≡ Some k → beside_side now n ≡ Some b → b < 3 * face_count h
   collapse-lt n b now links l own is = reaches-lt h tree once T b (standing n l own).reaches (sym (links.own n l own) ∙ is)
 
   -- what is told beside the other outer side is there
   pub collapse-over : (n o : ℕ) (now : List (Option ℕ)) → CollapseLinks h T k n old now → n < 3 * face_count h → record_of h n ≡ Some k → across h n ≡ Some o → (most : ℕ) → 3 * face_count h ≤ most →
-      (r : Option Side) → number_of r ≡ stored now o → IfSome r (λ s. s.0 < most)
+      (r : Option Side) → number_of r ≡ beside_side now o → IfSome r (λ s. s.0 < most)
   collapse-over n o now links l own over most few None is = tt
   collapse-over n o now links l own over most few (Some s) is =
       let o_own = ap (λ f. revealed_by h f) (across-face h n o over) ∙ own in
@@ -217,7 +217,7 @@ module _ (h : Hierarchy) (tree : IsForest h) (once : NoSideTwice (leaf_net h)) (
       omega arith
 
   -- an outer side beside which side b is told: then what is told beside the other outer side stands beyond b
-  pub collapse-some : (n b o : ℕ) (now : List (Option ℕ)) → CollapseLinks h T k n old now → n < 3 * face_count h → IsOuter h k n → across h n ≡ Some o → stored now n ≡ Some b →
+  pub collapse-some : (n b o : ℕ) (now : List (Option ℕ)) → CollapseLinks h T k n old now → n < 3 * face_count h → IsOuter h k n → across h n ≡ Some o → beside_side now n ≡ Some b →
       CollapseLinks h T k (n + 1) old (set now b (get_or now o None))
   collapse-some n b o now links l outer over is =
       let value = get_or now o None in
@@ -231,7 +231,7 @@ module _ (h : Hierarchy) (tree : IsForest h) (once : NoSideTwice (leaf_net h)) (
       let o_own : record_of h o ≡ Some k = ap (λ f. revealed_by h f) (across-face h n o over) ∙ outer.0 in
       let beyond_b : Beyond h T b (Some n) = record { reaches = back h tree once T b l (standing n l outer.0).reaches told; stops = shown_k n outer.0 } in
       let after : Beyond h V b (expected h o) = collapse-neighbour h tree once T k standing older b n o b_lt l beyond_b outer.0 over in
-      let put : (a : ℕ) → a ≡ b → stored (set now b value) a ≡ expected h o = λ a at. stored-set_same now a b value at b_in ∙ links.own o o_lt o_own in
+      let put : (a : ℕ) → a ≡ b → beside_side (set now b value) a ≡ expected h o = λ a at. stored-set_same now a b value at b_in ∙ links.own o o_lt o_own in
       record {
         sides = length-set now b value ∙ links.sides;
         own = λ e e_lt e_own. elim (cases_eq e b) [
@@ -243,7 +243,7 @@ module _ (h : Hierarchy) (tree : IsForest h) (once : NoSideTwice (leaf_net h)) (
           | inr other ↦ stored-set_other now a b value other ∙ links.hidden a a_lt d
         ];
         shown = λ a a_lt s. elim (cases_eq a b) [
-          | inl at ↦ inl (subst (λ i. Beyond h V i (stored (set now b value) a)) (sym at) (subst (Beyond h V b) (sym (put a at)) after))
+          | inl at ↦ inl (subst (λ i. Beyond h V i (beside_side (set now b value) a)) (sym at) (subst (Beyond h V b) (sym (put a at)) after))
           | inr other ↦
               let same = stored-set_other now a b value other in
               elim (links.shown a a_lt s) [
@@ -267,7 +267,7 @@ module _ (h : Hierarchy) (tree : IsForest h) (once : NoSideTwice (leaf_net h)) (
       | inr kept ↦
           let before = shown_without-parts h T k a s in
           subst (Beyond h V a) (sym kept.0)
-          (collapse-other h tree once T k standing older a (stored old a) (was.shown a l before.1) (λ c is own.
+          (collapse-other h tree once T k standing older a (beside_side old a) (was.shown a l before.1) (λ c is own.
           let far = subst (Beyond h T a) is (was.shown a l before.1) in
           let c_lt = reaches-lt h tree once T c far.reaches refl in
           let outer = stands-outer h tree once T k standing older a c l c_lt before.1 before.0 far own in

@@ -2,7 +2,8 @@
 use Rattle.std.specs.Prelude.{◌≡◌, ℕ, ◌<◌, ◌≤◌, Bool, List, Option, length}
 use Rattle.pm_base.specs.Sides.{NoSideTwice}
 use Rattle.pm_forest.specs.Forest.{Hierarchy, record_count}
-use Rattle.pm_forest.specs.Fronts.{set_of, below}
+use Rattle.pm_forest.specs.Fronts.{below}
+use Rattle.pm_base.specs.Counts.{set_of}
 use Rattle.pm_forest.specs.Rules.{HasShape}
 use Rattle.pm_beyond.specs.Walks.{leaf_net}
 use Rattle.pm_beyond.specs.Valid.{IsAsTold}

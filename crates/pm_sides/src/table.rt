@@ -1,15 +1,16 @@
 //! What stands beyond each side, in a table of four bytes a side. A move changes it beside the recorded neighbours.
 ghost use Rattle.std.specs.Prelude.{◌≡◌, ◌+◌, ◌*◌, ◌<◌, ℕ, true, length, slice_set, IfSome, Some};
 ghost use Rattle.pm_base.specs.declared.limits.TheConstants.{MOST_SIDES};
-ghost use Rattle.pm_base.specs.Sides.{NoSideTwice};
+ghost use Rattle.pm_base.specs.Sides.{NoSideTwice, beside_side};
 ghost use Rattle.pm_twins.specs.Table.{IsTableOf};
 ghost use Rattle.pm_forest.specs.Forest.{leaf_count, record_count};
-ghost use Rattle.pm_forest.specs.Fronts.{set_of, every, with, without};
+ghost use Rattle.pm_forest.specs.Fronts.{every, with, without};
+ghost use Rattle.pm_base.specs.Counts.{set_of};
 ghost use Rattle.pm_forest.specs.Faces.{face_count, record_of};
 ghost use Rattle.pm_beyond.specs.Walks.{leaf_net, Beyond, expected, number_of};
 ghost use Rattle.pm_beyond.specs.Valid.{IsValid};
 ghost use Rattle.pm_beyond.specs.Moves.{IsClosed, MaySplit};
-ghost use Rattle.pm_sides.specs.Stored.{stored, AreStored};
+ghost use Rattle.pm_sides.specs.Stored.{AreStored};
 
 use crate::indexed::IndexedHierarchy;
 use pm_base::{Side, SideMap};
@@ -48,7 +49,7 @@ impl SideTable {
     #[tactic(auto, using(crate::proofs::ReadLaws::number_is))]
     pub fn beyond(&self, side: Side) -> Option<Side>
         requires { side.0 < length self.now }
-        ensures { number_of result ≡ stored self.now side.0 }
+        ensures { number_of result ≡ beside_side self.now side.0 }
     {
         self.sides.get(side)
     }
@@ -60,7 +61,7 @@ impl SideTable {
         requires small { IfSome other (λ s. s.0 < MOST_SIDES) }
         ensures { self.new ≡ slice_set self.old side.0 (number_of other) }
     {
-        self.sides.put(side, other);
+        self.sides.set(side, other);
     }
 
     /// What stands beyond the sides once record `k` is split: beside each of its faces' sides is stored what stands beyond it

@@ -2,7 +2,8 @@
 ghost use Rattle.std.specs.Prelude.{◌≡◌, ◌+◌, ◌<◌, ◌*◌, IsTrue, ◌↔◌, Some, true};
 ghost use Rattle.pm_base.specs.Sides.{NoSideTwice};
 ghost use Rattle.pm_forest.specs.Forest.{record_count};
-ghost use Rattle.pm_forest.specs.Fronts.{set_of, IsFront};
+ghost use Rattle.pm_forest.specs.Fronts.{IsFront};
+ghost use Rattle.pm_base.specs.Counts.{set_of};
 ghost use Rattle.pm_forest.specs.Faces.{face_count, record_of};
 ghost use Rattle.pm_beyond.specs.Walks.{leaf_net, expected, beyond_of};
 ghost use Rattle.pm_beyond.specs.Moves.{same_side};

@@ -2,6 +2,7 @@
 use Rattle.std.proofs.Common.{◌≡◌, ℕ, zero, suc, ◌+◌, ◌*◌, ◌<◌, ltb, Bool, true, false, cond, List, [], ◌∷◌, ◌++◌, map, Option, Some, None, ◌⊎◌, inl, inr, refl, sym, ap, ◌∙◌, subst, arith}
 use Rattle.std.specs.List.{flat_map}
 use Rattle.std.proofs.lemmas.Bool.{cases_Bool, and_parts, and_from, ltb-true, lt-ltb}
+use Rattle.std.proofs.lemmas.List.{map-append}
 use Rattle.std.proofs.lemmas.Option.{none-some}
 use Rattle.std.proofs.lemmas.List.Folds.{flat_map-map}
 use Rattle.pm_base.specs.Sides.{face_of, next}
@@ -59,10 +60,6 @@ module _ (h : Hierarchy) (valid : IsValid h) (T : ℕ → Bool) (closed : IsClos
 pub fronts_carry : FrontsCarryEnds
 fronts_carry h valid T closed e g some = walk.ends h (forest_of h valid) T e g (stands h valid T closed e g some).reaches
 
-map_more : {X Y : Type 0} (f : X → Y) (xs ys : List X) → map f (xs ++ ys) ≡ map f xs ++ map f ys
-map_more f [] ys = refl
-map_more f (x ∷ xs) ys = ap (λ ts. f x ∷ ts) (map_more f xs ys)
-
 all_decoded : (beyond : ℕ → Option ℕ) (node : ℕ → ℕ) → CarriesEnds beyond node → (n m : ℕ) (free : ℕ → Bool) (f : ℕ)
     → flat_map (λ s. decoded false (listed_nodes node s)) (strips_from beyond n m free f) ≡ map (corners_from node) (flat_map (λ s. s) (strips_from beyond n m free f))
 all_decoded beyond node ends n zero free f = refl
@@ -74,7 +71,7 @@ all_decoded beyond node ends n (suc m) free f =
           let here = strip_decoded beyond node ends n free f in
           let later = strips_from beyond n m (left_by free s) (suc f) in
           rw is (ap (λ ts. ts ++ flat_map (λ t. decoded false (listed_nodes node t)) later) here
-          ∙ ap (λ ts. map (corners_from node) s ++ ts) rest ∙ sym (map_more (corners_from node) s (flat_map (λ t. t) later)))
+          ∙ ap (λ ts. map (corners_from node) s ++ ts) rest ∙ sym (map-append (corners_from node) s (flat_map (λ t. t) later)))
       | inr is ↦ (rw is (all_decoded beyond node ends n m free (suc f)))
     ]
 

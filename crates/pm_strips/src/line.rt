@@ -1,12 +1,12 @@
 //! The pieces of a strip's line, and the last line.
 ghost use Rattle.std.specs.Prelude.{◌≡◌, ◌+◌, ◌≤◌, true, ◌++◌, length};
 ghost use Rattle.pm_base.specs.Sides.{face_of};
-ghost use Rattle.pm_forest.specs.Fronts.{set_of};
+ghost use Rattle.pm_base.specs.Counts.{set_of};
 ghost use Rattle.pm_strips.specs.Shown.{is_there, node_of_corner, node_text, count_line};
 ghost use Rattle.pm_strips.specs.Texts.{first_text};
 
 use crate::sides::next;
-use pm_base::{FaceId, Side};
+use pm_base::Side;
 use pm_front::Front;
 use pm_io::Line;
 
@@ -18,7 +18,7 @@ pub(crate) fn add_node(line: &mut Line, front: &Front, corner: Side)
     ensures text { line.new ≡ line.old ++ node_text (node_of_corner front.now.h (set_of front.now.flags) corner.0) }
     ensures short { length line.new ≤ length line.old + 11 }
 {
-    let node = front.corner(FaceId(corner.0 / 3), corner.0 % 3);
+    let node = front.corner(corner.face(), corner.0 % 3);
     line.add(b" ");
     line.add_number(node.0);
 }

@@ -1,7 +1,7 @@
 //! The sides of the faces that a front shows, and which of these faces are free.
 ghost use Rattle.std.specs.Prelude.{◌≡◌, ◌*◌, ◌+◌, ◌<◌, true, IfSome, is_some, length};
 ghost use Rattle.pm_base.specs.Sides.{next as next_of, face_of};
-ghost use Rattle.pm_forest.specs.Fronts.{set_of};
+ghost use Rattle.pm_base.specs.Counts.{set_of};
 ghost use Rattle.pm_forest.specs.Faces.{face_count};
 ghost use Rattle.pm_beyond.specs.Walks.{number_of};
 ghost use Rattle.pm_strips.specs.Strips.{exit_of as exit_of_in, free_beyond as free_beyond_in, leads_on as leads_on_in, first_side as first_side_in};

@@ -3,7 +3,7 @@ ghost use Rattle.std.specs.Prelude.{◌≡◌, true, length, map, codes, OnOk};
 ghost use Rattle.std.specs.List.{flat_map};
 ghost use Rattle.pm_io.specs.Puts.{PutsThrough};
 ghost use Rattle.pm_base.specs.Sides.{face_of};
-ghost use Rattle.pm_forest.specs.Fronts.{set_of};
+ghost use Rattle.pm_base.specs.Counts.{set_of};
 ghost use Rattle.pm_forest.specs.Faces.{face_count};
 ghost use Rattle.pm_strips.specs.Strips.{entered, strip_from, left_by};
 ghost use Rattle.pm_strips.specs.Shown.{is_there, beyond_in, node_of_corner, node_text};
@@ -72,7 +72,7 @@ fn put_entered<K: Sink>(
         let Some(side) = free_beyond(free, front, exit) else {
             return Ok(());
         };
-        free[side.0 as usize / 3] = false;
+        free[side.face().0 as usize] = false;
         let second = next(front, side);
         let third = next(front, second);
         put_node(front, third, page, out)?;

@@ -118,6 +118,6 @@ pub(crate) fn pair_arriving(
     for place in rows.starts[vertex as usize]..until {
         let arriving = Side(rows.sides[place as usize]).prev();
         let twin = stamped(stamps, origins, vertex, from(faces, arriving));
-        twins.put(arriving, twin);
+        twins.set(arriving, twin);
     }
 }

@@ -5,7 +5,8 @@ use Rattle.std.specs.List.{list_all}
 use Rattle.std.proofs.lemmas.Bool.{cases_Bool, and_parts, and_from}
 use Rattle.pm_view.specs.Views.{is_plane}
 use Rattle.pm_view.specs.declared.plane.Plane.{Plane}
-use Rattle.pm_view.specs.Fields.{onto_spaced_field, spaced_fields, fields_after, first_plane, planes_of}
+use Rattle.pm_view.specs.Fields.{spaced_fields, fields_after, first_plane, planes_of}
+use Rattle.pm_io.specs.Bytes.{onto}
 
 -- A field ends before the first space.
 pub fields_cut : (text : List ℕ) (i : ℕ) → i < length text → ((k : ℕ) → k < i → eqb (get_or text k 0) 32 ≡ false) → eqb (get_or text i 0) 32 ≡ true
@@ -14,14 +15,14 @@ fields_cut [] i lt word here = absurd (omega arith)
 fields_cut (b ∷ text) zero lt word here = rw here refl
 fields_cut (b ∷ text) (suc i) lt word here =
     let first : eqb b 32 ≡ false = word 0 (omega arith) in
-    rw first (ap (onto_spaced_field b) (fields_cut text i (omega arith) (λ k below. word (suc k) (omega arith)) here))
+    rw first (ap (onto b) (fields_cut text i (omega arith) (λ k below. word (suc k) (omega arith)) here))
 
 -- A text without spaces is one field.
 pub fields_uncut : (text : List ℕ) → ((k : ℕ) → k < length text → eqb (get_or text k 0) 32 ≡ false) → spaced_fields text ≡ text ∷ []
 fields_uncut [] word = refl
 fields_uncut (b ∷ text) word =
     let first : eqb b 32 ≡ false = word 0 (omega arith) in
-    rw first (ap (onto_spaced_field b) (fields_uncut text (λ k below. word (suc k) (omega arith))))
+    rw first (ap (onto b) (fields_uncut text (λ k below. word (suc k) (omega arith))))
 
 -- Nothing comes after all of a text.
 no_more : (rest : List ℕ) → length rest ≡ 0 → fields_after rest ≡ []

@@ -8,16 +8,12 @@ use Rattle.pm_view.specs.declared.plane.Plane.{Plane}
 use Rattle.pm_view.specs.declared.fields.ViewKind.{ViewKind}
 use Rattle.pm_view.specs.declared.fields.ViewKind.TheVariants as kinds
 use Rattle.pm_view.specs.Views.{View}
-
--- A byte put before the first field.
-abbrev pub onto_spaced_field : ℕ → List (List ℕ) → List (List ℕ)
-onto_spaced_field b [] = (b ∷ []) ∷ []
-onto_spaced_field b (f ∷ fs) = (b ∷ f) ∷ fs
+use Rattle.pm_io.specs.Bytes.{onto}
 
 -- The text cut at each space: n spaces make n + 1 fields, and some of them may be empty.
 abbrev pub spaced_fields : List ℕ → List (List ℕ)
 spaced_fields [] = [] ∷ []
-spaced_fields (b ∷ bs) = if b == 32 then [] ∷ spaced_fields bs else onto_spaced_field b (spaced_fields bs)
+spaced_fields (b ∷ bs) = if b == 32 then [] ∷ spaced_fields bs else onto b (spaced_fields bs)
 
 -- A number below 0, by what follows its sign: it isn't `-0`.
 abbrev pub negative : ℕ → Option ℤ

@@ -9,7 +9,8 @@ use Rattle.prepare.specs.declared.fault.RunFail.{RunFail}
 use Rattle.prepare.specs.declared.fault.RunFail.TheVariants as fails
 use Rattle.prepare.specs.declared.words.Asked.{Asked}
 use Rattle.prepare.specs.Outcome.{Done, IsPreparedText}
-use Rattle.prepare.specs.Ending.{Written, HasPreparedFault, PlaceUnreached, IsPreparedInPart, FailsBy, Finished, SaidText, prepare_fail_line, prepare_fault_line, prepare_status_of}
+use Rattle.prepare.specs.Ending.{Written, HasPreparedFault, PlaceUnreached, IsPreparedInPart, FailsBy, Finished, prepare_fail_line, prepare_fault_line, prepare_status_of}
+use Rattle.pm_io.specs.Puts.{Said}
 
 -- A text that was made was written, or a part of it.
 
@@ -25,7 +26,7 @@ text_cut size (Some bytes) old new done outcome part = record { done = done; out
 pub one_asked : (asks : Option Asked) (a b : Asked) → asks ≡ Some a → asks ≡ Some b → a ≡ b
 one_asked asks a b is are = cc
 
-pub said_done : (mine other : Asked) (left old new err_old err_new : Option (List ℕ)) (before now : ℕ) (notes lent : List ℕ) → mine ≡ other → IfSome left (λ bytes. Written mine.size bytes notes old new) → lent ≡ notes → SaidText err_old err_new before now lent
+pub said_done : (mine other : Asked) (left old new err_old err_new : Option (List ℕ)) (before now : ℕ) (notes lent : List ℕ) → mine ≡ other → IfSome left (λ bytes. Written mine.size bytes notes old new) → lent ≡ notes → Said err_old err_new before now lent
     → IfSome left (λ bytes. Finished other.size bytes old new err_old err_new before now)
 said_done mine other None old new err_old err_new before now notes lent same written is said = tt
 said_done mine other (Some bytes) old new err_old err_new before now notes lent same written is said =
@@ -33,7 +34,7 @@ said_done mine other (Some bytes) old new err_old err_new before now notes lent 
       done = written.done;
       outcome = written.outcome;
       gained = written.gained;
-      said = subst (λ (l : List ℕ). SaidText err_old err_new before now l) (is ∙ written.notes_are) said;
+      said = subst (λ (l : List ℕ). Said err_old err_new before now l) (is ∙ written.notes_are) said;
     })
 
 -- How the program ended early, by its status.
@@ -41,8 +42,8 @@ module _ (mine other : Asked) (left now : Option (List ℕ)) (in_old in_new : �
   abbrev pub By : RunFail → Type 0
   By fail = FailsBy mine.size fail left now in_old in_new old new out_old out_new
 
-  pub fault_of : (fail : RunFail) (err_old err_new : Option (List ℕ)) (before after : ℕ) → mine ≡ other → prepare_status_of fail ≡ 1 → By fail → SaidText err_old err_new before after (prepare_fail_line fail)
-      → (f : Fault) × IfSome left (λ bytes. HasPreparedFault other.size bytes f) × SaidText err_old err_new before after (prepare_fault_line f)
+  pub fault_of : (fail : RunFail) (err_old err_new : Option (List ℕ)) (before after : ℕ) → mine ≡ other → prepare_status_of fail ≡ 1 → By fail → Said err_old err_new before after (prepare_fail_line fail)
+      → (f : Fault) × IfSome left (λ bytes. HasPreparedFault other.size bytes f) × Said err_old err_new before after (prepare_fault_line f)
   unfolding prepare_fail_line
   fault_of (fails.Input (input.Faulty f)) err_old err_new before after same is by said = (f, subst (λ (a : Asked). IfSome left (λ bytes. HasPreparedFault a.size bytes f)) same by.0.0, said)
   fault_of (fails.Input input.Read) err_old err_new before after same is by said = absurd (omega arith)
@@ -108,5 +109,5 @@ line_of_memory (fails.Input input.Read) is = absurd (omega arith)
 line_of_memory (fails.Input input.OutOfMemory) is = refl
 line_of_memory fails.Write is = absurd (omega arith)
 
-pub said_line : (fail : RunFail) (line : List ℕ) (err_old err_new : Option (List ℕ)) (before now : ℕ) → prepare_fail_line fail ≡ line → SaidText err_old err_new before now (prepare_fail_line fail) → SaidText err_old err_new before now line
-said_line fail line err_old err_new before now is said = subst (λ (l : List ℕ). SaidText err_old err_new before now l) is said
+pub said_line : (fail : RunFail) (line : List ℕ) (err_old err_new : Option (List ℕ)) (before now : ℕ) → prepare_fail_line fail ≡ line → Said err_old err_new before now (prepare_fail_line fail) → Said err_old err_new before now line
+said_line fail line err_old err_new before now is said = subst (λ (l : List ℕ). Said err_old err_new before now l) is said

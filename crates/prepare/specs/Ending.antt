@@ -11,6 +11,7 @@ use Rattle.prepare.specs.declared.fault.InputFail.TheVariants as input
 use Rattle.prepare.specs.declared.fault.RunFail.{RunFail}
 use Rattle.prepare.specs.declared.fault.RunFail.TheVariants as fails
 use Rattle.prepare.specs.Outcome.{Done, IsPreparedText}
+use Rattle.pm_io.specs.Puts.{Said, Stayed}
 
 -- The sink gained the text of what was done, and beside it these notes are to be said.
 pub record Written (size : Option ℕ) (bytes notes : List ℕ) (old new : Option (List ℕ)) : Type 0 where
@@ -42,20 +43,12 @@ StopsPreparing size (input.Faulty f) left now in_old in_new = IfSome left (λ by
 StopsPreparing size input.Read left now in_old in_new = PlaceUnreached size left now × Rose in_old in_new
 StopsPreparing size input.OutOfMemory left now in_old in_new = Unit {0}
 
--- The error sink gained the text, or a part of it where it failed.
-abbrev pub SaidText : Option (List ℕ) → Option (List ℕ) → ℕ → ℕ → List ℕ → Type 0
-SaidText old new before now text = Gains old new text ⊎ (GainsPart old new text × Rose before now)
-
 -- The sink gained the text of what was done, and the error sink what is said of it.
 pub record Finished (size : Option ℕ) (bytes : List ℕ) (old new err_old err_new : Option (List ℕ)) (err_before err_now : ℕ) : Type 0 where
   pub done : Done
   pub outcome : IsPreparedText size bytes (Ok done) None
   pub gained : Gains old new done.text
-  pub said : SaidText err_old err_new err_before err_now done.notes
-
--- A device is as it was.
-abbrev pub DeviceStayed : Option (List ℕ) → Option (List ℕ) → ℕ → ℕ → Type 0
-DeviceStayed old new before now = (new ≡ old) × (now ≡ before)
+  pub said : Said err_old err_new err_before err_now done.notes
 
 -- The line of a fault.
 unfoldable pub prepare_fault_line : Fault → List ℕ
@@ -76,5 +69,5 @@ prepare_status_of fails.Write = 4
 
 -- How the program ends early: only a failed write finds the output changed.
 abbrev pub FailsBy : Option ℕ → RunFail → Option (List ℕ) → Option (List ℕ) → ℕ → ℕ → Option (List ℕ) → Option (List ℕ) → ℕ → ℕ → Type 0
-FailsBy size (fails.Input e) left now in_old in_new old new out_old out_new = StopsPreparing size e left now in_old in_new × DeviceStayed old new out_old out_new
+FailsBy size (fails.Input e) left now in_old in_new old new out_old out_new = StopsPreparing size e left now in_old in_new × Stayed old new out_old out_new
 FailsBy size fails.Write left now in_old in_new old new out_old out_new = IfSome left (λ bytes. IsPreparedInPart size bytes old new) × Rose out_old out_new

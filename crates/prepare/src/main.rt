@@ -2,7 +2,8 @@
 #![tactic(auto)]
 
 ghost use Rattle.std.specs.Prelude.{◌≡◌, ◌≢◌, codes};
-ghost use Rattle.prepare.specs.Ending.{SaidText, DeviceStayed};
+ghost use Rattle.pm_io.specs.Puts.{Stayed};
+ghost use Rattle.pm_io.specs.Puts.{Said};
 
 mod fault;
 mod make;
@@ -24,8 +25,8 @@ use std::process::ExitCode;
 // The status where the words can't be gathered: for want of memory, of which nothing is said, or since one isn't UTF-8
 // and so no number.
 fn refuse_words<E: Sink>(err: &mut E, kind: ErrorKind) -> u8
-    ensures memory { kind ≡ ErrorKind.OutOfMemory → (result ≡ 5) × DeviceStayed (E.got err.old) (E.got err.new) (E.faults err.old) (E.faults err.new) }
-    ensures other { kind ≢ ErrorKind.OutOfMemory → (result ≡ 2) × SaidText (E.got err.old) (E.got err.new) (E.faults err.old) (E.faults err.new) (codes "prepare: words not understood\n") }
+    ensures memory { kind ≡ ErrorKind.OutOfMemory → (result ≡ 5) × Stayed (E.got err.old) (E.got err.new) (E.faults err.old) (E.faults err.new) }
+    ensures other { kind ≢ ErrorKind.OutOfMemory → (result ≡ 2) × Said (E.got err.old) (E.got err.new) (E.faults err.old) (E.faults err.new) (codes "prepare: words not understood\n") }
 {
     if kind == ErrorKind::OutOfMemory {
         return 5;

@@ -4,14 +4,14 @@ ghost use Rattle.std.specs.String.{string_bytes};
 ghost use Rattle.pm_base.specs.Meshes.{IsWellFormed, mesh_of};
 ghost use Rattle.pm_io.specs.Bytes.{AtEnd};
 ghost use Rattle.pm_io.specs.Causes.{Rose};
-ghost use Rattle.pm_io.specs.Puts.{Puts};
+ghost use Rattle.pm_io.specs.Puts.{Puts, Said, Stayed};
 ghost use Rattle.obj_prepare.specs.Placing.{IsSize};
 ghost use Rattle.prepare.specs.declared.words.Asked.{Asked};
 ghost use Rattle.prepare.specs.declared.fault.Fault.{Fault};
 ghost use Rattle.prepare.specs.Words.{asked_size_of};
 ghost use Rattle.prepare.specs.Laws.{GainsFitText};
 ghost use Rattle.prepare.specs.Making.{done_of};
-ghost use Rattle.prepare.specs.Ending.{Written, HasPreparedFault, PlaceUnreached, IsPreparedInPart, FailsBy, Finished, SaidText, DeviceStayed, prepare_fault_line};
+ghost use Rattle.prepare.specs.Ending.{Written, HasPreparedFault, PlaceUnreached, IsPreparedInPart, FailsBy, Finished, prepare_fault_line};
 
 use crate::fault::RunFail;
 use crate::make::{Made, make};
@@ -74,7 +74,7 @@ pub fn run<S: Source, K: Sink, E: Sink>(
     // Other words are refused, and only they; then nothing is read or put.
     ensures refused { asked_size_of (map string_bytes words.now) ≡ None → result ≡ 2 }
     ensures known { result ≡ 2 → asked_size_of (map string_bytes words.now) ≡ None }
-    ensures untouched { result ≡ 2 → DeviceStayed (S.left input.old) (S.left input.new) (S.faults input.old) (S.faults input.new) × DeviceStayed (K.got out.old) (K.got out.new) (K.faults out.old) (K.faults out.new) }
+    ensures untouched { result ≡ 2 → Stayed (S.left input.old) (S.left input.new) (S.faults input.old) (S.faults input.new) × Stayed (K.got out.old) (K.got out.new) (K.faults out.old) (K.faults out.new) }
     // A mesh was made of the text, exactly its text was put, and what was done is said.
     ensures whole { (asked : Asked) → asked_size_of (map string_bytes words.now) ≡ Some asked → result ≡ 0 → IfSome (S.left input.old) (λ bytes. Finished asked.size bytes (K.got out.old) (K.got out.new) (E.got err.old) (E.got err.new) (E.faults err.old) (E.faults err.new)) }
     // What was put is read as an oriented manifold, and prepared again it comes back.
@@ -82,7 +82,7 @@ pub fn run<S: Source, K: Sink, E: Sink>(
     ensures whole_counts { result ≡ 0 → (S.faults input.new ≡ S.faults input.old) × (K.faults out.new ≡ K.faults out.old) }
     ensures read_whole { result ≡ 0 → AtEnd (S.left input.new) }
     // The text has a fault, which is said, and nothing was put.
-    ensures faulty { (asked : Asked) → asked_size_of (map string_bytes words.now) ≡ Some asked → result ≡ 1 → (f : Fault) × IfSome (S.left input.old) (λ bytes. HasPreparedFault asked.size bytes f) × SaidText (E.got err.old) (E.got err.new) (E.faults err.old) (E.faults err.new) (prepare_fault_line f) }
+    ensures faulty { (asked : Asked) → asked_size_of (map string_bytes words.now) ≡ Some asked → result ≡ 1 → (f : Fault) × IfSome (S.left input.old) (λ bytes. HasPreparedFault asked.size bytes f) × Said (E.got err.old) (E.got err.new) (E.faults err.old) (E.faults err.new) (prepare_fault_line f) }
     ensures faulty_counts { result ≡ 1 → (S.faults input.new ≡ S.faults input.old) × (K.faults out.new ≡ K.faults out.old) }
     // A read failed before the bytes that decide the outcome were all taken.
     ensures read { result ≡ 3 → Rose (S.faults input.old) (S.faults input.new) }
@@ -90,10 +90,10 @@ pub fn run<S: Source, K: Sink, E: Sink>(
     // A write failed, and a proper prefix of the text was put; in all other cases but status 0 nothing was.
     ensures write { (asked : Asked) → asked_size_of (map string_bytes words.now) ≡ Some asked → result ≡ 4 → Rose (K.faults out.old) (K.faults out.new) × IfSome (S.left input.old) (λ bytes. IsPreparedInPart asked.size bytes (K.got out.old) (K.got out.new)) }
     ensures nothing_put { (result ≡ 1) ⊎ ((result ≡ 3) ⊎ (result ≡ 5)) → K.got out.new ≡ K.got out.old }
-    ensures said_words { result ≡ 2 → SaidText (E.got err.old) (E.got err.new) (E.faults err.old) (E.faults err.new) (codes "prepare: words not understood\n") }
-    ensures said_read { result ≡ 3 → SaidText (E.got err.old) (E.got err.new) (E.faults err.old) (E.faults err.new) (codes "prepare: read fault\n") }
-    ensures said_write { result ≡ 4 → SaidText (E.got err.old) (E.got err.new) (E.faults err.old) (E.faults err.new) (codes "prepare: write fault\n") }
-    ensures said_memory { result ≡ 5 → SaidText (E.got err.old) (E.got err.new) (E.faults err.old) (E.faults err.new) (codes "prepare: out of memory\n") }
+    ensures said_words { result ≡ 2 → Said (E.got err.old) (E.got err.new) (E.faults err.old) (E.faults err.new) (codes "prepare: words not understood\n") }
+    ensures said_read { result ≡ 3 → Said (E.got err.old) (E.got err.new) (E.faults err.old) (E.faults err.new) (codes "prepare: read fault\n") }
+    ensures said_write { result ≡ 4 → Said (E.got err.old) (E.got err.new) (E.faults err.old) (E.faults err.new) (codes "prepare: write fault\n") }
+    ensures said_memory { result ≡ 5 → Said (E.got err.old) (E.got err.new) (E.faults err.old) (E.faults err.new) (codes "prepare: out of memory\n") }
     // Where no device failed and the words are understood, the work is done, or the input has a fault, or memory is wanted.
     ensures complete { (asked : Asked) → asked_size_of (map string_bytes words.now) ≡ Some asked → S.faults input.new ≡ S.faults input.old → K.faults out.new ≡ K.faults out.old
         → S.faults input.old < 2 ^ 64 - 1 → K.faults out.old < 2 ^ 64 - 1 → (result ≡ 0) ⊎ ((result ≡ 1) ⊎ (result ≡ 5)) }

@@ -9,7 +9,8 @@ use Rattle.vdpm.specs.declared.words.Asked.{Asked}
 use Rattle.vdpm.specs.Ran.{Ran}
 use Rattle.vdpm.specs.FaultLine.{fail_line, fault_line}
 use Rattle.vdpm.specs.Outcome.{IsOutcome, OneOutcome, Replied, CutShort}
-use Rattle.vdpm.specs.Ending.{ReadFails, Ends, Counts, Answers, Said, status_of}
+use Rattle.vdpm.specs.Ending.{ReadFails, Ends, Counts, Answers, status_of}
+use Rattle.pm_io.specs.Puts.{Said}
 
 -- The words ask for one thing.
 pub one_asked : (asks : Option Asked) (a b : Asked) → asks ≡ Some a → asks ≡ Some b → a ≡ b

@@ -13,7 +13,7 @@ use Rattle.obj_read.proofs.FormedLaws.{meaning_formed}
 use Rattle.vdpm.specs.declared.fault.Fault.{Fault}
 use Rattle.vdpm.specs.declared.fault.Fault.TheVariants as faults
 use Rattle.vdpm.specs.Input.{Unreached, IsFaulty}
-use Rattle.vdpm.specs.Surface.{IsFaultOfSurface, side_twice, no_fan, IsSurfaceRead, bad_line, no_manifold, manifold}
+use Rattle.vdpm.specs.Surface.{IsMeshFault, side_twice, no_fan, IsSurfaceRead, bad_line, no_manifold, manifold}
 
 pub first_repeating_one : (m : Net) (f g : ℕ) → IsFirstRepeating m f → IsFirstRepeating m g → f ≡ g
 first_repeating_one m f g is are =
@@ -29,13 +29,13 @@ first_broken_one m v w is are =
       | inr l ↦ elim (cases_lt w v) [ inl k ↦ absurd (are.broken.no_fan (is.fans_below w k)) | inr k ↦ omega arith ]
     ]
 
-one_surface_fault : (m : Mesh) → IsWellFormed m → {f g : Fault} → IsFaultOfSurface (net_of m.faces) f → IsFaultOfSurface (net_of m.faces) g → f ≡ g
+one_surface_fault : (m : Mesh) → IsWellFormed m → {f g : Fault} → IsMeshFault (net_of m.faces) f → IsMeshFault (net_of m.faces) g → f ≡ g
 one_surface_fault m formed (side_twice f is) (side_twice g are) = ap (λ (k : ℕ). faults.EdgeTwice (k + 1)) (first_repeating_one (net_of m.faces) f g is are)
 one_surface_fault m formed (side_twice f is) (no_fan v once are) = absurd (repeats_none m formed once f is)
 one_surface_fault m formed (no_fan v once is) (side_twice g are) = absurd (repeats_none m formed once g are)
 one_surface_fault m formed (no_fan v once is) (no_fan w other are) = ap (λ (k : ℕ). faults.NotFan (k + 1)) (first_broken_one (net_of m.faces) v w is are)
 
-fault_or_manifold : (m : Mesh) → IsWellFormed m → {f : Fault} → IsFaultOfSurface (net_of m.faces) f → IsOrientedManifold (net_of m.faces) → ⊥
+fault_or_manifold : (m : Mesh) → IsWellFormed m → {f : Fault} → IsMeshFault (net_of m.faces) f → IsOrientedManifold (net_of m.faces) → ⊥
 fault_or_manifold m formed (side_twice f is) whole = repeats_none m formed whole.no_side_twice f is
 fault_or_manifold m formed (no_fan v once is) whole = is.broken.no_fan (whole.fans v is.broken.used)
 
@@ -54,14 +54,14 @@ module _ (digits : ℕ) where
   one_surface bytes (no_manifold m f is fault) (bad_line r are) = absurd (cc)
   one_surface bytes (no_manifold m f is fault) (no_manifold n g are other) = (
     ap (λ (x : Fault). Err x)
-        (one_surface_fault m (meaning_formed digits bytes m is) fault (subst (λ (x : Mesh). IsFaultOfSurface (net_of x.faces) g) (one_mesh bytes m n is are) other)),
+        (one_surface_fault m (meaning_formed digits bytes m is) fault (subst (λ (x : Mesh). IsMeshFault (net_of x.faces) g) (one_mesh bytes m n is are) other)),
     refl,
   )
   one_surface bytes (no_manifold m f is fault) (manifold n are whole) =
       absurd (fault_or_manifold m (meaning_formed digits bytes m is) fault (subst (λ (x : Mesh). IsOrientedManifold (net_of x.faces)) (one_mesh bytes m n is are) whole))
   one_surface bytes (manifold m is whole) (bad_line r are) = absurd (cc)
   one_surface bytes (manifold m is whole) (no_manifold n f are fault) =
-      absurd (fault_or_manifold m (meaning_formed digits bytes m is) (subst (λ (x : Mesh). IsFaultOfSurface (net_of x.faces) f) (one_mesh bytes m n is are) fault) whole)
+      absurd (fault_or_manifold m (meaning_formed digits bytes m is) (subst (λ (x : Mesh). IsMeshFault (net_of x.faces) f) (one_mesh bytes m n is are) fault) whole)
   one_surface bytes (manifold m is whole) (manifold n are other) = (ap (λ (x : Mesh). Ok x) (sym (one_mesh bytes m n is are)), refl)
 
   -- What follows where the source tells its bytes.
@@ -91,7 +91,7 @@ module _ (digits : ℕ) where
       before None is = tt
       before (Some bytes) is = surface_before bytes (length fails.taken) is
 
-  pub mesh_refuses : (left : Option (List ℕ)) (m : Mesh) (f : Fault) → IfSome left (λ bytes. meaning_of digits bytes ≡ Ok m) → IsFaultOfSurface (net_of m.faces) f → IfSome left (λ bytes. IsFaulty (IsSurfaceRead digits) bytes f)
+  pub mesh_refuses : (left : Option (List ℕ)) (m : Mesh) (f : Fault) → IfSome left (λ bytes. meaning_of digits bytes ≡ Ok m) → IsMeshFault (net_of m.faces) f → IfSome left (λ bytes. IsFaulty (IsSurfaceRead digits) bytes f)
   mesh_refuses None m f is fault = tt
   mesh_refuses (Some bytes) m f is fault = record { place = None; is = no_manifold m f is fault }
 

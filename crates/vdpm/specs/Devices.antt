@@ -9,7 +9,8 @@ use Rattle.vdpm.specs.declared.fault.Fault.{Fault}
 use Rattle.vdpm.specs.Words.{asked_of}
 use Rattle.vdpm.specs.Outcome.{Replied, GivesBack, CutShort}
 use Rattle.vdpm.specs.Frames.{ShowsSurfaces}
-use Rattle.vdpm.specs.Ending.{Said, Stayed}
+use Rattle.pm_io.specs.Puts.{Stayed}
+use Rattle.pm_io.specs.Puts.{Said}
 
 -- These words ask for this.
 abbrev pub Asks : List (String Global) → Asked → Type 0

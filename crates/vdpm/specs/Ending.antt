@@ -90,14 +90,6 @@ status_of fails.OutOfMemory = 5
 abbrev pub BlamesNoInput : ℕ → Type 0
 BlamesNoInput status = (status ≢ 1) × (status ≢ 3)
 
--- The error sink gained the line, or a part of it where it failed.
-abbrev pub Said : Option (List ℕ) → Option (List ℕ) → ℕ → ℕ → List ℕ → Type 0
-Said old new before now line = Gains old new line ⊎ (GainsPart old new line × Rose before now)
-
--- A device is as it was.
-abbrev pub Stayed : Option (List ℕ) → Option (List ℕ) → ℕ → ℕ → Type 0
-Stayed old new before now = (new ≡ old) × (now ≡ before)
-
 -- The status of an outcome.
 abbrev pub Answers : Option Fault → ℕ → Type 0
 Answers None status = status ≡ 0

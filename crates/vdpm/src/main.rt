@@ -2,7 +2,8 @@
 #![tactic(auto)]
 
 ghost use Rattle.std.specs.Prelude.{◌≡◌, ◌≢◌, codes};
-ghost use Rattle.vdpm.specs.Ending.{Said, Stayed};
+ghost use Rattle.pm_io.specs.Puts.{Stayed};
+ghost use Rattle.pm_io.specs.Puts.{Said};
 
 mod build;
 #[cfg(test)]

@@ -1,5 +1,5 @@
 use Rattle.std.proofs.Common.{length, ◌≡◌, ◌<◌, ◌∙◌, subst, arith, get_or}
-use Rattle.obj_scan.specs.Polygons.{no_point}
+use Rattle.pm_base.specs.Place.{origin}
 use Rattle.obj_scan.proofs.PolygonLaws.{HasLeast, point_at, read_any, before_is, least_here, least_stays, least_is}
 use Rattle.obj_scan.proofs.polygons.before_least.Goals as goal
 use Rattle.obj_scan.proofs.polygons.before_least.Goals.{then-is_before, else-is_before}
@@ -11,8 +11,8 @@ loop-i-preserved c =
     let i = c.loop-i.i in
     let n = c.loop-i.least in
     let under : n < length corners = omega (arith, c.loop-i.invariant.within, c.loop-i-test.true) in
-    let first : c.index-points-c.result ≡ point_at points corners i = c.index-points-c.is ∙ read_any points (get_or corners i 0) c.index-points-c.result no_point (c.requires i 0 c.loop-i-test.true) in
-    let second : c.index-points-corners.result ≡ point_at points corners n = c.index-points-corners.is ∙ read_any points (get_or corners n 0) c.index-points-corners.result no_point (c.requires n 0 under) in
+    let first : c.index-points-c.result ≡ point_at points corners i = c.index-points-c.is ∙ read_any points (get_or corners i 0) c.index-points-c.result origin (c.requires i 0 c.loop-i-test.true) in
+    let second : c.index-points-corners.result ≡ point_at points corners n = c.index-points-corners.is ∙ read_any points (get_or corners n 0) c.index-points-corners.result origin (c.requires n 0 under) in
     elim c.if-is_before.branch [
       | then-is_before w ↦ rw w.least-is (least_here points corners i n c.loop-i.invariant (before_is c.index-points-c.result c.index-points-corners.result (point_at points corners i) (point_at points corners n) c.is_before.result _ first second c.is_before.ensures w.if-is_before.true))
       | else-is_before w ↦ rw w.least-is (least_stays points corners i n c.loop-i.invariant (before_is c.index-points-c.result c.index-points-corners.result (point_at points corners i) (point_at points corners n) c.is_before.result _ first second c.is_before.ensures w.if-is_before.false))

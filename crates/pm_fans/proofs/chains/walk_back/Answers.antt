@@ -1,7 +1,7 @@
 use Rattle.std.proofs.Common.{◌≡◌, ◌<◌, ℕ, Some, None, List, Option, length, slice_set, sym, ap, ◌∙◌, subst, arith}
 use Rattle.std.specs.Option.{option_map}
 use Rattle.pm_base.specs.declared.ids.Side.{Side}
-use Rattle.pm_fans.specs.Heads.{twin_in_table}
+use Rattle.pm_base.specs.Sides.{beside_side}
 use Rattle.pm_fans.proofs.ChainLaws.{bare_count, bare-set}
 use Rattle.pm_fans.proofs.ClosedWalks.{WalksBack, back_more}
 use Rattle.pm_fans.proofs.chains.walk_back.Goals as goal
@@ -20,8 +20,8 @@ loop-twin-smaller c =
     let w = c.loop-twin.invariant in
     let heads : List (Option ℕ) = c.loop-twin.heads in
     let low : c.loop-twin.side.0 < length heads = subst (λ n. c.loop-twin.side.0 < n) (sym w.long) w.in_range in
-    let bare : twin_in_table heads c.loop-twin.side.0 ≡ None = sym c.get.ensures ∙ ap number c.in-None-Some.is-0 in
-    subst (λ (hs : List (Option ℕ)). bare_count hs < bare_count heads) (sym c.put.ensures)
+    let bare : beside_side heads c.loop-twin.side.0 ≡ None = sym c.get.ensures ∙ ap number c.in-None-Some.is-0 in
+    subst (λ (hs : List (Option ℕ)). bare_count hs < bare_count heads) (sym c.set.ensures)
     (bare-set heads c.loop-twin.side.0 c.args.least.0 low bare)
 
 pub loop-twin-preserved : goal.loop-twin-preserved
@@ -31,8 +31,8 @@ loop-twin-preserved c =
     let old : List (Option ℕ) = c.args.heads.now in
     let heads : List (Option ℕ) = c.loop-twin.heads in
     let least = c.args.least.0 in
-    let bare : twin_in_table heads c.loop-twin.side.0 ≡ None = sym c.get.ensures ∙ ap number c.in-None-Some.is-0 in
-    let pair : twin_in_table glued c.loop-twin.side.0 ≡ Some c.in-None-Some.twin.0 = sym c.get-in-loop-twin.ensures ∙ ap number c.in-None-Some.is-1 in
-    subst (λ (hs : List (Option ℕ)). WalksBack glued old hs least c.next-side.result.0) (sym c.put.ensures)
+    let bare : beside_side heads c.loop-twin.side.0 ≡ None = sym c.get.ensures ∙ ap number c.in-None-Some.is-0 in
+    let pair : beside_side glued c.loop-twin.side.0 ≡ Some c.in-None-Some.twin.0 = sym c.get-in-loop-twin.ensures ∙ ap number c.in-None-Some.is-1 in
+    subst (λ (hs : List (Option ℕ)). WalksBack glued old hs least c.next-side.result.0) (sym c.set.ensures)
     (subst (WalksBack glued old (slice_set heads c.loop-twin.side.0 (Some least)) least) (sym c.next-side.ensures.value)
     (back_more glued old heads least c.loop-twin.side.0 c.in-None-Some.twin.0 c.requires.paired c.requires.earlier w bare pair))

@@ -1,8 +1,7 @@
 use Rattle.std.proofs.Common.{◌≡◌, ◌<◌, ◌∙◌, ℕ, Some, List, Option, length, slice_set, sym, ap, subst, arith}
 use Rattle.std.specs.Option.{option_map}
 use Rattle.pm_base.specs.declared.ids.Side.{Side}
-use Rattle.pm_base.specs.Sides.{prev}
-use Rattle.pm_fans.specs.Heads.{twin_in_table}
+use Rattle.pm_base.specs.Sides.{prev, beside_side}
 use Rattle.pm_fans.proofs.ChainLaws.{bare_count, bare-set, prev_in}
 use Rattle.pm_fans.proofs.OpenWalks.{WalksOn, on_begins, on_more}
 use Rattle.pm_fans.proofs.chains.walk_on.Goals as goal
@@ -13,14 +12,14 @@ number r = option_map (λ s. s.0) r
 pub loop-reached-init : goal.loop-reached-init
 loop-reached-init c = on_begins c.args.glued.now c.args.heads.now c.args.first.0 c.requires.headed c.requires.in_range c.requires.not_glued c.requires.new c.requires.paired
 
-pub put-requires-clause-there : goal.put-requires-clause-there
-put-requires-clause-there c =
+pub set-requires-clause-there : goal.set-requires-clause-there
+set-requires-clause-there c =
     let w = c.loop-reached.invariant in
     let f = w.free c.in-Some.side.0 (ap number c.in-Some.is) in
     omega (arith, w.long, f.in_range)
 
-pub put-requires-clause-small : goal.put-requires-clause-small
-put-requires-clause-small c = omega (arith, c.requires.in_range, c.requires.paired.sides, c.requires.paired.short)
+pub set-requires-clause-small : goal.set-requires-clause-small
+set-requires-clause-small c = omega (arith, c.requires.in_range, c.requires.paired.sides, c.requires.paired.short)
 
 pub prev-requires : goal.prev-requires
 prev-requires c =
@@ -37,7 +36,7 @@ loop-reached-smaller c =
     let w = c.loop-reached.invariant in
     let heads : List (Option ℕ) = c.loop-reached.heads in
     let f = w.free c.in-Some.side.0 (ap number c.in-Some.is) in
-    subst (λ (hs : List (Option ℕ)). bare_count hs < bare_count heads) (sym c.put.ensures)
+    subst (λ (hs : List (Option ℕ)). bare_count hs < bare_count heads) (sym c.set.ensures)
     (bare-set heads c.in-Some.side.0 c.args.first.0 (subst (λ n. c.in-Some.side.0 < n) (sym w.long) f.in_range) f.bare)
 
 pub loop-reached-preserved : goal.loop-reached-preserved
@@ -47,7 +46,7 @@ loop-reached-preserved c =
     let heads : List (Option ℕ) = c.loop-reached.heads in
     let first = c.args.first.0 in
     let w : WalksOn glued old heads first (Some c.in-Some.side.0) = subst (WalksOn glued old heads first) (ap number c.in-Some.is) c.loop-reached.invariant in
-    let next : number c.get-reached.result ≡ twin_in_table glued (prev c.in-Some.side.0) = c.get-reached.ensures ∙ ap (twin_in_table glued) c.prev.ensures.value in
-    subst (λ (hs : List (Option ℕ)). WalksOn glued old hs first (number c.get-reached.result)) (sym c.put.ensures)
+    let next : number c.get-reached.result ≡ beside_side glued (prev c.in-Some.side.0) = c.get-reached.ensures ∙ ap (beside_side glued) c.prev.ensures.value in
+    subst (λ (hs : List (Option ℕ)). WalksOn glued old hs first (number c.get-reached.result)) (sym c.set.ensures)
     (subst (WalksOn glued old (slice_set heads c.in-Some.side.0 (Some first)) first) (sym next)
     (on_more glued old heads first c.in-Some.side.0 c.requires.paired c.requires.not_glued w))

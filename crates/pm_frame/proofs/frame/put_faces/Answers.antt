@@ -1,7 +1,7 @@
 use Rattle.std.proofs.Common.{◌<◌, sym, ap, ◌∙◌, arith}
 use Rattle.std.proofs.lemmas.Result.{err_from_is_err_and}
 use Rattle.pm_forest.specs.Faces.{face_count}
-use Rattle.pm_forest.specs.Fronts.{set_of}
+use Rattle.pm_base.specs.Counts.{set_of}
 use Rattle.pm_forest.specs.Kept.{is_kept}
 use Rattle.pm_frame.specs.Frame.{shown_face}
 use Rattle.pm_io.proofs.PutLaws.{through_failed}

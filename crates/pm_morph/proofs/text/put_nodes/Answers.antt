@@ -1,7 +1,8 @@
 use Rattle.std.proofs.Common.{◌<◌, sym, ap, ◌∙◌, arith}
 use Rattle.std.proofs.lemmas.Result.{err_from_is_err_and}
 use Rattle.pm_forest.specs.Forest.{node_count}
-use Rattle.pm_forest.specs.Fronts.{is_active, set_of}
+use Rattle.pm_forest.specs.Fronts.{is_active}
+use Rattle.pm_base.specs.Counts.{set_of}
 use Rattle.pm_io.proofs.PutLaws.{through_failed}
 use Rattle.pm_frame.proofs.Lines.{line_next, line_cut, line_same}
 use Rattle.pm_morph.specs.Texts.{moved_node}

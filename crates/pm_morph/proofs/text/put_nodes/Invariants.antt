@@ -1,8 +1,8 @@
 use Rattle.std.proofs.Common.{◌≡◌, filter}
 use Rattle.std.specs.List.{flat_map}
 use Rattle.pm_io.specs.Bytes.{GainsThrough}
-use Rattle.pm_forest.specs.Fronts.{is_active, set_of}
-use Rattle.pm_front.specs.Shown.{numbers_below}
+use Rattle.pm_forest.specs.Fronts.{is_active}
+use Rattle.pm_base.specs.Counts.{set_of, numbers_below}
 use Rattle.pm_morph.specs.Texts.{moved_node}
 use Rattle.pm_morph.proofs.text.put_nodes.Given as goal
 

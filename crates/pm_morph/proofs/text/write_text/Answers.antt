@@ -1,7 +1,7 @@
 use Rattle.std.proofs.Common.{◌++◌}
 use Rattle.std.proofs.lemmas.Result.{err_from_is_err_and}
 use Rattle.pm_io.proofs.PutLaws.{through_then, through_stops, flush_then, flush_stops}
-use Rattle.pm_forest.specs.Fronts.{set_of}
+use Rattle.pm_base.specs.Counts.{set_of}
 use Rattle.pm_frame.specs.Frame.{face_lines, end_line}
 use Rattle.pm_morph.specs.Texts.{first_morph_line, moved_lines, morph_text}
 use Rattle.pm_morph.proofs.text.write_text.Goals as goal

@@ -1,6 +1,6 @@
 use Rattle.std.proofs.Common.{◌-◌, ℕ, Bool, length, take, sym, ap, subst, ◌∙◌}
 use Rattle.pm_forest.specs.Forest.{Hierarchy}
-use Rattle.pm_forest.specs.Fronts.{set_of}
+use Rattle.pm_base.specs.Counts.{set_of}
 use Rattle.pm_beyond.specs.Plans.{moved_by, AreLegal}
 use Rattle.pm_beyond.proofs.PlanLists.{moved_by-append}
 use Rattle.pm_front.specs.Corners.{corner_lists_after}

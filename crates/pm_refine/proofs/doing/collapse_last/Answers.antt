@@ -1,6 +1,6 @@
 use Rattle.std.proofs.Common.{◌≡◌, ◌-◌, ◌<◌, false, Bool, List, length, length-set, set, take, inr, sym, ap, subst, ◌∙◌}
 use Rattle.pm_forest.specs.Forest.{Hierarchy}
-use Rattle.pm_forest.specs.Fronts.{set_of}
+use Rattle.pm_base.specs.Counts.{set_of}
 use Rattle.pm_beyond.specs.Moves.{MayCollapse}
 use Rattle.pm_beyond.specs.Plans.{Collapse, moved_by}
 use Rattle.pm_front.specs.Corners.{collapsed_lists, corner_lists_after}

@@ -1,6 +1,6 @@
 use Rattle.std.proofs.Common.{◌≡◌, ◌-◌, ◌<◌, false, Bool, List, length, length-set, set, take, inr, sym, ap, subst, ◌∙◌, arith}
 use Rattle.pm_forest.specs.Forest.{Hierarchy}
-use Rattle.pm_forest.specs.Fronts.{set_of}
+use Rattle.pm_base.specs.Counts.{set_of}
 use Rattle.pm_beyond.specs.Moves.{MaySplit}
 use Rattle.pm_beyond.specs.Plans.{Split, moved_by}
 use Rattle.pm_front.specs.Corners.{split_lists, corner_lists_after}

@@ -1,5 +1,5 @@
 use Rattle.std.proofs.Common.{◌≡◌, ◌-◌, length, take}
-use Rattle.pm_forest.specs.Fronts.{set_of}
+use Rattle.pm_base.specs.Counts.{set_of}
 use Rattle.pm_beyond.specs.Plans.{moved_by}
 use Rattle.pm_front.specs.Corners.{corner_lists_after}
 use Rattle.pm_refine.specs.Doing.{splits_of, AreToDo}

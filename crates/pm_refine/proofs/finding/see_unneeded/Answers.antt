@@ -1,15 +1,15 @@
 use Rattle.std.proofs.Common.{◌≡◌, ◌+◌, suc, not, Bool, List, sym, ap, subst, ◌∙◌, arith}
 use Rattle.std.proofs.lemmas.Bool.{and_from, and_left, and_right, not_from_false, not_from_true}
-use Rattle.pm_base.specs.Counts.{count}
+use Rattle.pm_base.specs.Counts.{count, set_of}
 use Rattle.pm_base.proofs.Counts.{count-true}
 use Rattle.pm_forest.specs.Forest.{Hierarchy, record_count, s_of}
-use Rattle.pm_forest.specs.Fronts.{set_of}
 use Rattle.pm_front.specs.Needed.{is_unneeded}
 use Rattle.pm_view.specs.Wanted.{is_wanted}
 use Rattle.pm_refine.specs.Holding.{HoldsBelow}
 use Rattle.pm_refine.specs.Finding.{is_loose}
 use Rattle.pm_refine.proofs.CountLaws.{count_up}
-use Rattle.pm_refine.proofs.SetLaws.{set_in, holds_up, holds_next, holds_past, next_there, none_skipped}
+use Rattle.pm_sets.proofs.FlagLaws.{in_below}
+use Rattle.pm_refine.proofs.SetLaws.{holds_up, holds_next, holds_past, next_there, none_skipped}
 use Rattle.pm_refine.proofs.FindingLaws.{records_few}
 use Rattle.pm_refine.proofs.finding.see_unneeded.Goals as goal
 use Rattle.pm_refine.proofs.finding.see_unneeded.Goals.{then-not-wants, else-not-wants}
@@ -17,7 +17,7 @@ use Rattle.pm_refine.proofs.finding.see_unneeded.Goals.{then-not-wants, else-not
 pub overflow_add-from : goal.overflow_add-from
 overflow_add-from g c =
     let few = records_few c.args.front.now.h c.invariant.ensures.valid.shape in
-    let low = set_in c.unneeded.result.now c.in-Some.k c.in-Some.ensures.some.there in
+    let low = in_below c.unneeded.result.now c.in-Some.k c.in-Some.ensures.some.there in
     let len = c.unneeded.ensures.len in
     omega arith
 

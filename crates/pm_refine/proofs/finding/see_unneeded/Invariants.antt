@@ -1,7 +1,6 @@
 use Rattle.std.proofs.Common.{◌+◌, ◌-◌, ◌≤◌}
-use Rattle.pm_base.specs.Counts.{count}
+use Rattle.pm_base.specs.Counts.{count, set_of}
 use Rattle.pm_forest.specs.Forest.{record_count}
-use Rattle.pm_forest.specs.Fronts.{set_of}
 use Rattle.pm_front.specs.Needed.{is_unneeded}
 use Rattle.pm_view.specs.Wanted.{is_wanted}
 use Rattle.pm_refine.specs.Holding.{HoldsBelow}

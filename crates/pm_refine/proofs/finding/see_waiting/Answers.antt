@@ -1,15 +1,15 @@
 use Rattle.std.proofs.Common.{◌≡◌, ◌+◌, suc, Bool, List, sym, ap, subst, ◌∙◌, arith}
 use Rattle.std.proofs.lemmas.Bool.{and_from, and_left, and_right}
-use Rattle.pm_base.specs.Counts.{count}
+use Rattle.pm_base.specs.Counts.{count, set_of}
 use Rattle.pm_base.proofs.Counts.{count-true}
 use Rattle.pm_forest.specs.Forest.{Hierarchy, record_count, s_of}
-use Rattle.pm_forest.specs.Fronts.{set_of}
 use Rattle.pm_forest.specs.Moves.{may_try}
 use Rattle.pm_view.specs.Wanted.{is_wanted}
 use Rattle.pm_refine.specs.Holding.{HoldsBelow}
-use Rattle.pm_refine.specs.Finding.{is_wanted_next}
+use Rattle.pm_refine.specs.Finding.{is_due_now}
 use Rattle.pm_refine.proofs.CountLaws.{count_up}
-use Rattle.pm_refine.proofs.SetLaws.{set_in, holds_up, holds_next, holds_past, next_there, none_skipped}
+use Rattle.pm_sets.proofs.FlagLaws.{in_below}
+use Rattle.pm_refine.proofs.SetLaws.{holds_up, holds_next, holds_past, next_there, none_skipped}
 use Rattle.pm_refine.proofs.FindingLaws.{records_few}
 use Rattle.pm_refine.proofs.finding.see_waiting.Goals as goal
 use Rattle.pm_refine.proofs.finding.see_waiting.Goals.{then-wants, else-wants}
@@ -17,7 +17,7 @@ use Rattle.pm_refine.proofs.finding.see_waiting.Goals.{then-wants, else-wants}
 pub overflow_add-from : goal.overflow_add-from
 overflow_add-from g c =
     let few = records_few c.args.front.now.h c.invariant.ensures.valid.shape in
-    let low = set_in c.waiting.result.now c.in-Some.k c.in-Some.ensures.some.there in
+    let low = in_below c.waiting.result.now c.in-Some.k c.in-Some.ensures.some.there in
     let len = c.waiting.ensures.len in
     omega arith
 
@@ -31,7 +31,7 @@ loop-k-preserved g c =
     let k = c.in-Some.k in
     let flags = c.loop-k.rises in
     let test = may_try h S in
-    let found = is_wanted_next h wanted S in
+    let found = is_due_now h wanted S in
     let first = c.in-Some.ensures.some in
     let next = next_there n test c.waiting.result.now c.waiting.ensures.len c.waiting.ensures.each c.loop-k.from k first in
     let none = none_skipped n test c.waiting.result.now c.waiting.ensures.len c.waiting.ensures.each c.loop-k.from k first in

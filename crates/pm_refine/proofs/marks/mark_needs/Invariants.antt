@@ -1,6 +1,6 @@
 use Rattle.std.proofs.Common.{◌≡◌, ◌||◌, length, take}
 use Rattle.pm_forest.specs.Forest.{s_of, maker_of}
-use Rattle.pm_forest.specs.Fronts.{set_of}
+use Rattle.pm_base.specs.Counts.{set_of}
 use Rattle.pm_forest.specs.Moves.{sides_in}
 use Rattle.pm_beyond.specs.Moves.{is_at}
 use Rattle.pm_refine.specs.Holding.{Joins}

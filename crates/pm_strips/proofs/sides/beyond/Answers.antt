@@ -1,4 +1,4 @@
-use Rattle.pm_forest.specs.Fronts.{set_of}
+use Rattle.pm_base.specs.Counts.{set_of}
 use Rattle.pm_beyond.specs.Walks.{number_of}
 use Rattle.pm_front.specs.State.{IsSoundFront}
 use Rattle.pm_strips.proofs.SideLaws.{beyond_is, far_there}

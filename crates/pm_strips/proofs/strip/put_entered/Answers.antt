@@ -2,7 +2,7 @@ use Rattle.std.proofs.Common.{◌<◌, ◌≤◌, false, length, sym, ap, ◌∙
 use Rattle.std.proofs.lemmas.Result.{err_from_is_err_and}
 use Rattle.pm_base.specs.Sides.{face_of, next}
 use Rattle.pm_io.proofs.PutLaws.{through_done, through_failed}
-use Rattle.pm_forest.specs.Fronts.{set_of}
+use Rattle.pm_base.specs.Counts.{set_of}
 use Rattle.pm_forest.specs.Faces.{face_count}
 use Rattle.pm_forest.proofs.Flags.{set_of-clear}
 use Rattle.pm_strips.specs.Shown.{beyond_in, node_of_corner, node_text}
@@ -49,13 +49,13 @@ loop-turn-preserved g c =
     let low : c.loop-turn._turn < face_count h = omega (arith, c.loop-turn-test.true, c.len-turn-end.ensures, c.requires.len) in
     let some = beyond_some (beyond_in h T) c.deref.result.now c.loop-turn.free.items c.loop-turn.exit.0 c.free_beyond.result c.in-Some.side c.deref.ensures.value c.free_beyond.ensures.value c.in-Some.is in
     let third = c.next-third.ensures.value ∙ ap next c.next-second.ensures.value in
-    let face : face_of c.in-Some.side.0 < length c.loop-turn.free.items = omega (arith, (there-parts h T (face_of c.in-Some.side.0) c.in-Some.ensures.there).0, c.loop-turn.invariant.len, c.requires.len) in
+    let face : c.face.result.0 < length c.loop-turn.free.items = omega (arith, c.face.ensures, (there-parts h T (face_of c.in-Some.side.0) c.in-Some.ensures.there).0, c.loop-turn.invariant.len, c.requires.len) in
     record {
-      so_far = rw (set_of-clear c.loop-turn.free.items (face_of c.in-Some.side.0) face, c.exit_of-exit.ensures.value)
+      so_far = rw (set_of-clear c.loop-turn.free.items c.face.result.0 face, c.face.ensures, c.exit_of-exit.ensures.value)
           (entering_more (beyond_in h T) (node_of_corner h T) (face_count h) c.loop-turn._turn (set_of c.args.free.now.items) c.args.first_exit.0 (set_of c.loop-turn.free.items) c.loop-turn.is_odd c.loop-turn.exit.0
           c.in-Some.side.0 _ _ _ _ _ _ low some c.loop-turn.invariant.so_far
           (through_as _ _ _ _ _ _ (ap (λ v. node_text (node_of_corner h T v)) (sym third)) c.in_ok-put_node.ensures.ok));
       there = c.exit_of-exit.ensures.there;
-      len = length-set c.loop-turn.free.items (face_of c.in-Some.side.0) false ∙ c.loop-turn.invariant.len;
+      len = length-set c.loop-turn.free.items c.face.result.0 false ∙ c.loop-turn.invariant.len;
       count = c.in_ok-put_node.ensures.cause.same ∙ c.loop-turn.invariant.count;
     }

@@ -1,6 +1,6 @@
 use Rattle.std.proofs.Common.{◌≡◌, true, length}
 use Rattle.pm_base.specs.Sides.{face_of}
-use Rattle.pm_forest.specs.Fronts.{set_of}
+use Rattle.pm_base.specs.Counts.{set_of}
 use Rattle.pm_forest.specs.Faces.{face_count}
 use Rattle.pm_strips.specs.Shown.{is_there, beyond_in, node_of_corner}
 use Rattle.pm_strips.proofs.Entering.{IsEntering}

@@ -2,7 +2,7 @@ use Rattle.pm_base.specs.Sides.{next}
 use Rattle.std.proofs.Common.{◌<◌, Bool, List, true, false, length, slice_set, refl, sym, ap, ◌∙◌, arith}
 use Rattle.std.proofs.lemmas.Result.{err_from_is_err_and}
 use Rattle.pm_io.proofs.PutLaws.{through_then, through_stops, through_same}
-use Rattle.pm_forest.specs.Fronts.{set_of}
+use Rattle.pm_base.specs.Counts.{set_of}
 use Rattle.pm_forest.specs.Faces.{face_count}
 use Rattle.pm_forest.proofs.Flags.{set_of-clear}
 use Rattle.pm_strips.specs.Strips.{entered, first_side}

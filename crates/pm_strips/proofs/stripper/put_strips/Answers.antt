@@ -2,7 +2,7 @@ use Rattle.std.proofs.Common.{◌≡◌, ◌<◌, ◌≤◌, ℕ, Bool, true, fa
 use Rattle.std.specs.List.{flat_map}
 use Rattle.std.proofs.lemmas.Result.{err_from_is_err_and}
 use Rattle.pm_io.proofs.PutLaws.{through_done, through_failed}
-use Rattle.pm_forest.specs.Fronts.{set_of}
+use Rattle.pm_base.specs.Counts.{set_of}
 use Rattle.pm_forest.specs.Faces.{face_count}
 use Rattle.pm_strips.specs.Strips.{listed_nodes}
 use Rattle.pm_strips.specs.Shown.{beyond_in, node_of_corner, strip_line}

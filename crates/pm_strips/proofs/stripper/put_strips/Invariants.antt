@@ -1,5 +1,5 @@
 use Rattle.std.proofs.Common.{◌≡◌, length}
-use Rattle.pm_forest.specs.Fronts.{set_of}
+use Rattle.pm_base.specs.Counts.{set_of}
 use Rattle.pm_forest.specs.Faces.{face_count}
 use Rattle.pm_strips.specs.Shown.{beyond_in, node_of_corner}
 use Rattle.pm_strips.proofs.Stripping.{IsStripping}

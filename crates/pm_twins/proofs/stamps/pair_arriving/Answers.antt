@@ -58,16 +58,16 @@ from-requires c =
     let i : IsPairing m v (c.index.result.now ∷ left) c.loop-place.twins = pairing_side m v place until c.index.result.now sides c.loop-place.twins low side_is c.loop-place.invariant in
     subst (λ (k : ℕ). k < side_count m) (sym c.prev-arriving.ensures.value) (pairing_prev m v c.index.result.now left c.loop-place.twins i)
 
-pub put-requires-clause-small : goal.put-requires-clause-small
-put-requires-clause-small c =
+pub set-requires-clause-small : goal.set-requires-clause-small
+set-requires-clause-small c =
     let m : Net = net_of c.args.faces.now in
     let v = c.args.vertex in
     let stamps : List (Option Side) = c.args.stamps.now in
     let known = c.stamped-twin.ensures ∙ origin-leaving m v c.from.result stamps c.args.origins.now c.requires.origins in
     found-low m v c.from.result MOST_SIDES stamps c.stamped-twin.result c.requires.stamps (omega (arith, c.requires.whole.short)) known
 
-pub put-requires-clause-there : goal.put-requires-clause-there
-put-requires-clause-there c =
+pub set-requires-clause-there : goal.set-requires-clause-there
+set-requires-clause-there c =
     let m : Net = net_of c.args.faces.now in
     let v = c.args.vertex in
     let starts : List ℕ = c.args.rows.now.starts.items in
@@ -104,7 +104,7 @@ loop-place-preserved c =
     let stamps : List (Option Side) = c.args.stamps.now in
     let twins = c.loop-place.twins in
     let looked = c.stamped-twin.ensures ∙ origin-leaving m v c.from.result stamps c.args.origins.now c.requires.origins ∙ ap (λ (u : ℕ). leaving m v (slice_index_or stamps u None)) c.from.ensures in
-    subst (IsPairing m v left) (sym c.put.ensures)
+    subst (IsPairing m v left) (sym c.set.ensures)
     (pairing_more m v c.index.result.now c.prev-arriving.result.0 left stamps twins c.stamped-twin.result i c.requires.stamps c.requires.all c.prev-arriving.ensures.value looked)
 
 pub returns : goal.returns

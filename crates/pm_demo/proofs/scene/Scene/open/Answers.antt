@@ -1,6 +1,6 @@
 use Rattle.std.proofs.Common.{◌∙◌, ap, subst}
 use Rattle.pm_forest.specs.Forest.{Hierarchy, record_count}
-use Rattle.pm_forest.specs.Fronts.{set_of}
+use Rattle.pm_base.specs.Counts.{set_of}
 use Rattle.pm_forest.proofs.Flags.{set_of-unset}
 use Rattle.pm_bounds.specs.Bounds.{AreBoundsOf}
 use Rattle.pm_demo.proofs.scene.Scene.open.Goals as goal

@@ -1,12 +1,14 @@
 use Rattle.std.proofs.Common.{sym, subst}
 use Rattle.pm_forest.specs.Forest.{splitter_of}
-use Rattle.pm_forest.specs.Fronts.{set_of, without}
+use Rattle.pm_forest.specs.Fronts.{without}
+use Rattle.pm_base.specs.Counts.{set_of}
 use Rattle.pm_forest.specs.Moves.{may_try}
 use Rattle.pm_beyond.specs.Moves.{is_at}
 use Rattle.pm_front.specs.Needed.{is_unneeded, AreNeedCounts}
 use Rattle.pm_front.specs.Candidates.{AreAnswers, AreCleared, AreCandidates}
 use Rattle.pm_front.proofs.WaitingLaws.{waiting-without}
-use Rattle.pm_front.proofs.UnneededLaws.{with-without, without-same, unneeded-without}
+use Rattle.pm_beyond.proofs.PlanSteps.{without-same}
+use Rattle.pm_front.proofs.UnneededLaws.{with-without, unneeded-without}
 use Rattle.pm_front.proofs.CountedLaws.{names_counted, counts_without}
 use Rattle.pm_front.proofs.candidates.Candidates.collapse.Goals as goal
 

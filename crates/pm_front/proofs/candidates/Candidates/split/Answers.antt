@@ -1,6 +1,7 @@
 use Rattle.std.proofs.Common.{sym, subst}
 use Rattle.pm_forest.specs.Forest.{splitter_of}
-use Rattle.pm_forest.specs.Fronts.{set_of, with}
+use Rattle.pm_forest.specs.Fronts.{with}
+use Rattle.pm_base.specs.Counts.{set_of}
 use Rattle.pm_forest.specs.Moves.{may_try}
 use Rattle.pm_beyond.specs.Moves.{is_at}
 use Rattle.pm_front.specs.Needed.{is_unneeded}

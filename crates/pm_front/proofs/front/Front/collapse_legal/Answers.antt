@@ -1,6 +1,7 @@
 use Rattle.std.proofs.Common.{◌<◌, Bool, List, length, arith, subst, sym, ap, ◌∙◌}
 use Rattle.pm_forest.specs.Forest.{Hierarchy, record_count}
-use Rattle.pm_forest.specs.Fronts.{set_of, without}
+use Rattle.pm_forest.specs.Fronts.{without}
+use Rattle.pm_base.specs.Counts.{set_of}
 use Rattle.pm_forest.proofs.Flags.{set_of-clear}
 use Rattle.pm_beyond.specs.Moves.{IsClosed, MayCollapse}
 use Rattle.pm_firm.specs.Firm.{IsFirm}

@@ -1,6 +1,6 @@
 use Rattle.std.proofs.Common.{◌<◌, ap, sym, ◌∙◌, subst}
 use Rattle.pm_forest.specs.Forest.{record_count}
-use Rattle.pm_forest.specs.Fronts.{set_of}
+use Rattle.pm_base.specs.Counts.{set_of}
 use Rattle.pm_front.specs.State.{State}
 use Rattle.pm_front.specs.Needed.{need_count}
 use Rattle.pm_front.proofs.NeedCountLaws.{unneeded-count, need_count-unneeded}

@@ -1,4 +1,4 @@
-use Rattle.pm_forest.specs.Fronts.{set_of}
+use Rattle.pm_base.specs.Counts.{set_of}
 use Rattle.pm_front.proofs.CountedLaws.{names_counted, counts_without}
 use Rattle.pm_front.proofs.need_counts.NeedCounts.take_away.Goals as goal
 

@@ -1,5 +1,5 @@
 use Rattle.std.proofs.Common.{◌∙◌, length, ap}
-use Rattle.pm_forest.specs.Fronts.{set_of}
+use Rattle.pm_base.specs.Counts.{set_of}
 use Rattle.pm_front.specs.Shown.{active_nodes}
 use Rattle.pm_front.specs.State.{State}
 use Rattle.pm_front.proofs.MemberLaws.{active-many}

@@ -1,5 +1,5 @@
 use Rattle.std.proofs.Common.{◌∙◌, length, ap}
-use Rattle.pm_forest.specs.Fronts.{set_of}
+use Rattle.pm_base.specs.Counts.{set_of}
 use Rattle.pm_forest.proofs.ShapeLaws.{shape_is_forest}
 use Rattle.pm_front.specs.Shown.{kept_faces}
 use Rattle.pm_front.specs.State.{State}

@@ -1,6 +1,5 @@
 use Rattle.std.proofs.Common.{false, Bool, List, length, length-set, set, ap, arith}
-use Rattle.pm_base.specs.Counts.{count}
-use Rattle.pm_forest.specs.Fronts.{set_of}
+use Rattle.pm_base.specs.Counts.{count, set_of}
 use Rattle.pm_refine.proofs.SetLaws.{fewer_left}
 use Rattle.pm_refine.proofs.falls.Falls.clear.Goals as goal
 

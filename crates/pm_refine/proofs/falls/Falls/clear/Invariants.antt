@@ -1,6 +1,5 @@
 use Rattle.std.proofs.Common.{◌≡◌, length}
-use Rattle.pm_base.specs.Counts.{count}
-use Rattle.pm_forest.specs.Fronts.{set_of}
+use Rattle.pm_base.specs.Counts.{count, set_of}
 use Rattle.pm_front.specs.Needed.{AreNeedCounts}
 use Rattle.pm_refine.proofs.falls.Falls.clear.Given as goal
 

@@ -1,6 +1,6 @@
 use Rattle.std.proofs.Common.{◌≡◌, length, sym, ap, subst, ◌∙◌, arith}
 use Rattle.pm_forest.specs.Forest.{record_count}
-use Rattle.pm_forest.specs.Fronts.{set_of}
+use Rattle.pm_base.specs.Counts.{set_of}
 use Rattle.pm_beyond.proofs.PlanLists.{length-plan}
 use Rattle.pm_beyond.proofs.Standing.{closed-front}
 use Rattle.pm_beyond.proofs.TargetLaws.{target-least}

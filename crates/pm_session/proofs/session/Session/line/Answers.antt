@@ -1,5 +1,5 @@
 use Rattle.std.proofs.Common.{List, Bool, arith, refl, sym, ap, ◌∙◌}
-use Rattle.pm_forest.specs.Fronts.{set_of}
+use Rattle.pm_base.specs.Counts.{set_of}
 use Rattle.pm_session.proofs.Deeds.{deed_quit, deed_measure, deed_strip, deed_bad, deed_show, deed_split, deed_collapse, deed_look, deed_pick, deed_no_split, deed_no_collapse, replied, ended, bad, named_none}
 use Rattle.pm_session.proofs.MorphLaws.{deed_mark, deed_morph, deed_no_fraction}
 use Rattle.pm_session.specs.Session.{sets_of}

@@ -1,6 +1,7 @@
 use Rattle.std.proofs.Common.{◌≡◌, ◌-◌, ◌*◌, ◌<◌, ℕ, Bool, true, List, Some, sym, ap, subst}
 use Rattle.std.proofs.lemmas.Bool.{both_ways}
-use Rattle.pm_forest.specs.Fronts.{set_of, IsFront, without}
+use Rattle.pm_forest.specs.Fronts.{IsFront, without}
+use Rattle.pm_base.specs.Counts.{set_of}
 use Rattle.pm_forest.specs.Faces.{face_count, record_of}
 use Rattle.pm_beyond.specs.Walks.{Beyond, expected}
 use Rattle.pm_beyond.specs.Valid.{IsAsTold}

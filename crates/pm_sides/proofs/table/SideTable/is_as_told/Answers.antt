@@ -1,5 +1,5 @@
 use Rattle.std.proofs.Common.{rules, ◌≡◌, sym, ap, ◌∙◌}
-use Rattle.pm_forest.specs.Fronts.{set_of}
+use Rattle.pm_base.specs.Counts.{set_of}
 use Rattle.pm_forest.proofs.Shown.{shown_record}
 use Rattle.pm_beyond.specs.Walks.{number_of, beyond_of}
 use Rattle.pm_beyond.specs.Moves.{same_side}

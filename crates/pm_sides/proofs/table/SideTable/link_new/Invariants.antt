@@ -1,4 +1,4 @@
-use Rattle.pm_forest.specs.Fronts.{set_of}
+use Rattle.pm_base.specs.Counts.{set_of}
 use Rattle.pm_sides.proofs.StoredLaws.{SplitLinks}
 use Rattle.pm_sides.proofs.table.SideTable.link_new.Given as goal
 

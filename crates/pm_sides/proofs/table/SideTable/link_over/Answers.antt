@@ -2,7 +2,7 @@ use Rattle.std.proofs.Common.{◌≡◌, ◌+◌, ◌*◌, ◌∙◌, Some, sym,
 use Rattle.std.proofs.Math.ListN.{set}
 use Rattle.std.proofs.lemmas.Option.{none-some}
 use Rattle.pm_base.specs.declared.limits.TheConstants.{MOST_SIDES}
-use Rattle.pm_forest.specs.Fronts.{set_of}
+use Rattle.pm_base.specs.Counts.{set_of}
 use Rattle.pm_forest.proofs.FaceLimits.{face_count-most}
 use Rattle.pm_forest.proofs.ShapeLaws.{shape_is_forest}
 use Rattle.pm_beyond.specs.Walks.{number_of, across}

@@ -1,6 +1,6 @@
 use Rattle.std.proofs.Common.{◌<◌, ◌≤◌, ◌*◌, ℕ, subst, sym, refl, ◌∙◌, arith}
 use Rattle.std.proofs.lemmas.Bool.{both_ways}
-use Rattle.pm_forest.specs.Fronts.{set_of}
+use Rattle.pm_base.specs.Counts.{set_of}
 use Rattle.pm_sides.proofs.RecordSides.{corner_of-record}
 use Rattle.pm_sides.proofs.ToldLaws.{told_all, untold}
 use Rattle.pm_sides.proofs.table.SideTable.tells_all.Goals as goal

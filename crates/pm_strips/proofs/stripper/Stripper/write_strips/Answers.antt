@@ -2,7 +2,7 @@ use Rattle.std.proofs.Common.{◌++◌, List, ℕ, ap}
 use Rattle.std.specs.List.{flat_map}
 use Rattle.std.proofs.lemmas.Result.{err_from_is_err_and}
 use Rattle.pm_io.proofs.PutLaws.{through_then, through_stops, flush_then, flush_stops, puts_same}
-use Rattle.pm_forest.specs.Fronts.{set_of}
+use Rattle.pm_base.specs.Counts.{set_of}
 use Rattle.pm_strips.specs.Shown.{strip_lists_of, strip_line, count_line, strips_text}
 use Rattle.pm_strips.proofs.stripper.Stripper.write_strips.Goals as goal
 
