@@ -3,9 +3,9 @@
     python3 benches/measure.py [PROGRAM] [small|all]
 
 PROGRAM is crates/vdpm/out/vdpm unless another is named; `./vdpm check < examples/octahedron.vdpm` builds it.
-Seconds are processor time, the least of three runs; memory is the peak, and a peak below some 25 MB is that of this
-script itself, from which the program is started. Machines differ and are shared: compare
-the figures of one run with one another, and the last column between sizes, where linear work stays level.
+Seconds are processor time, the least of three runs; memory is the peak, and a peak below some 15 MB is that of this
+script itself, from which the program is started. Machines differ and are shared: compare the figures of one run with
+one another, and the last column between sizes, where linear work stays level.
 """
 import os
 import subprocess
@@ -49,28 +49,54 @@ def row(name, program, words, source, target, faces):
     print("| %s | %d | %.3f | %.0f | %.2f |%s" % (name, faces, seconds, memory, 1e6 * seconds / faces, note), flush=True)
 
 
-def with_script(folder, name, stream, script):
-    path = folder / name
-    path.write_bytes(stream.read_bytes() + script.encode())
+def written(path, content):
+    """Writes what `content()` gives, in a process of its own: a program's peak is never below that of its parent."""
+    process = os.fork()
+    if process == 0:
+        path.write_bytes(content())
+        os._exit(0)
+    _, status = os.waitpid(process, 0)
+    if status != 0:
+        sys.exit("%s could not be written" % path)
     return path
+
+
+def count_of_faces(obj):
+    with open(obj) as lines:
+        return sum(line.startswith("f ") for line in lines)
+
+
+def moves(records, back):
+    lines = ["s %d\n" % k for k in range(records)]
+    if back:
+        lines += ["c %d\n" % k for k in reversed(range(records))]
+    return "".join(lines)
+
+
+def row_of_script(name, program, words, folder, stream, script, faces):
+    source = written(folder / "script", lambda: stream.read_bytes() + script().encode())
+    row(name, program, words, source, folder / "out", faces)
 
 
 def rows_of(program, folder, kind, size):
     obj, stream, out = folder / "mesh.obj", folder / "mesh.vdpm", folder / "out"
-    obj.write_text(meshes.text(kind, size))
-    faces = obj.read_text().count("f ")
+    written(obj, lambda: meshes.text(kind, size).encode())
+    faces = count_of_faces(obj)
     label = "%s %d" % (kind, size)
     row(label + ": canon", program, ["canon"], obj, out, faces)
     row(label + ": build", program, ["build"], obj, stream, faces)
     row(label + ": check", program, ["check"], stream, out, faces)
     row(label + ": expand", program, ["expand"], stream, out, faces)
     row(label + ": open", program, ["view", "0"], stream, out, faces)
-    records = int(subprocess.run([program, "check"], stdin=open(stream, "rb"), capture_output=True).stdout.split()[7])
-    splits = "".join("s %d\n" % k for k in range(records))
-    both = splits + "".join("c %d\n" % k for k in reversed(range(records)))
-    row(label + ": all splits and collapses", program, ["view", "0"], with_script(folder, "moves", stream, both), out, faces)
-    row(label + ": 20 views", program, ["view", "4294967295"], with_script(folder, "views", stream, VIEWS), out, faces)
-    row(label + ": 10 full frames", program, ["view", "0"], with_script(folder, "frames", stream, splits + "w\n" * 10), out, faces)
+    told = subprocess.run([program, "check"], stdin=open(stream, "rb"), capture_output=True).stdout
+    records = int(told.split()[7])
+    scripts = [
+        ("all splits and collapses", "0", lambda: moves(records, True)),
+        ("20 views", "4294967295", lambda: VIEWS),
+        ("10 full frames", "0", lambda: moves(records, False) + "w\n" * 10),
+    ]
+    for name, budget, script in scripts:
+        row_of_script("%s: %s" % (label, name), program, ["view", budget], folder, stream, script, faces)
 
 
 def main():
