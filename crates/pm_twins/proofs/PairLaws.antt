@@ -3,7 +3,6 @@ use Rattle.std.proofs.Common.{◌≡◌, ◌≢◌, ℕ, ◌+◌, ◌-◌, ◌<�
 use Rattle.std.proofs.Math.ListN.{set}
 use Rattle.std.proofs.lemmas.Bool.{cases_eq, eqb-true, or_cases, false≢true}
 use Rattle.std.proofs.lemmas.List.{get_or-set_same, get_or-set_other, length-set}
-use Rattle.std.proofs.lemmas.Option.{none-some}
 use Rattle.std.specs.Option.{IfSome, option_map}
 use Rattle.pm_base.specs.declared.ids.Side.{Side}
 use Rattle.pm_base.specs.Sides.{Net, side_count, next, prev, to, NoSideTwice, twin_of}
@@ -14,28 +13,19 @@ use Rattle.pm_links.specs.Lists.{has}
 use Rattle.pm_links.proofs.Members.{has_head, has_tail}
 use Rattle.pm_twins.specs.Table.{AreTwinsOf}
 use Rattle.pm_twins.specs.SideRows.{IsWhole, row, start_at, row_at, AreRows}
-use Rattle.pm_twins.specs.Stamping.{leaving, AreStamps, AreAllStamped, IsSideBetween, ArePaired}
+use Rattle.pm_twins.specs.declared.stamps.Stamp.{Stamp}
+use Rattle.pm_twins.specs.Stamping.{stamped, AreAllStamped, IsSideBetween, ArePaired}
 use Rattle.pm_twins.proofs.Whole.{to_within}
 use Rattle.pm_twins.proofs.RowLaws.{row_next, row_ends}
-use Rattle.pm_twins.proofs.StampLaws.{leaving-some, leaving-here}
 
 -- Where all sides that leave v are stamped, a look at the stamps finds the one that runs to q.
-found : (m : Net) (v q : ℕ) (stamps : List (Option Side)) (r : Option Side) → AreStamps m (v + 1) stamps → AreAllStamped m v stamps → r ≡ leaving m v (slice_index_or stamps q None) → IsSideBetween m v q (option_map (λ s. s.0) r)
-found m v q stamps None are all is = λ e l from ends.
-    let (s, there, at) = all e l from in
-    none-some s (is ∙ leaving-here m v s (slice_index_or stamps q None) (ap (λ (u : ℕ). slice_index_or stamps u None) (sym ends) ∙ there) at)
-found m v q stamps (Some s) are all is =
-    let (there, at) = leaving-some m v s (slice_index_or stamps q None) (sym is) in
-    let (l, low, ends) = are.each q s there in
-    (l, at, ends)
+found : (m : Net) (v q : ℕ) (stamps : List Stamp) (r : Option Side) → AreAllStamped m v stamps → r ≡ stamped stamps v q → IsSideBetween m v q (option_map (λ s. s.0) r)
+found m v q stamps r all is = subst (λ (r : Option Side). IsSideBetween m v q (option_map (λ s. s.0) r)) (sym is) (all q)
 
 -- What it finds is one of the mesh's sides.
-pub found-low : (m : Net) (v q most : ℕ) (stamps : List (Option Side)) (r : Option Side) → AreStamps m (v + 1) stamps → side_count m ≤ most → r ≡ leaving m v (slice_index_or stamps q None) → IfSome r (λ s. s.0 < most)
-found-low m v q most stamps None are few is = tt
-found-low m v q most stamps (Some s) are few is =
-    let (there, at) = leaving-some m v s (slice_index_or stamps q None) (sym is) in
-    let (l, low, ends) = are.each q s there in
-    omega (arith, l, few)
+pub found-low : (m : Net) (v q most : ℕ) (stamps : List Stamp) (r : Option Side) → AreAllStamped m v stamps → side_count m ≤ most → r ≡ stamped stamps v q → IfSome r (λ s. s.0 < most)
+found-low m v q most stamps None all few is = tt
+found-low m v q most stamps (Some s) all few is = let (l, from, ends) = found m v q stamps (Some s) all is in omega (arith, l, few)
 
 -- Of the sides that leave v these are still to be gone through; the sides before the others are paired.
 pub record IsPairing (m : Net) (v : ℕ) (left : List ℕ) (twins : List (Option ℕ)) : Type 0 where
@@ -67,7 +57,7 @@ pub pairing_prev : (m : Net) (v x : ℕ) (left : List ℕ) (twins : List (Option
 pairing_prev m v x left twins i = prev-lt m x (i.leave x (has_head x left)).0
 
 -- One more side is paired.
-module _ (m : Net) (v x p : ℕ) (left : List ℕ) (stamps : List (Option Side)) (twins : List (Option ℕ)) (r : Option Side) (i : IsPairing m v (x ∷ left) twins) (are : AreStamps m (v + 1) stamps) (all : AreAllStamped m v stamps) (is : p ≡ prev x) (looked : r ≡ leaving m v (slice_index_or stamps (m.from p) None)) where
+module _ (m : Net) (v x p : ℕ) (left : List ℕ) (stamps : List Stamp) (twins : List (Option ℕ)) (r : Option Side) (i : IsPairing m v (x ∷ left) twins) (all : AreAllStamped m v stamps) (is : p ≡ prev x) (looked : r ≡ stamped stamps v (m.from p)) where
   here_x : (x < side_count m) × (m.from x ≡ v)
   here_x = i.leave x (has_head x left)
 
@@ -81,7 +71,7 @@ module _ (m : Net) (v x p : ℕ) (left : List ℕ) (stamps : List (Option Side))
   twin = option_map (λ s. s.0) r
 
   at_p : IsSideBetween m v (m.from p) (slice_index_or (set twins p twin) p None)
-  at_p = subst (IsSideBetween m v (m.from p)) (sym (get_or-set_same twins p twin None p_low)) (found m v (m.from p) stamps r are all looked)
+  at_p = subst (IsSideBetween m v (m.from p)) (sym (get_or-set_same twins p twin None p_low)) (found m v (m.from p) stamps r all looked)
 
   other_slot : (u : ℕ) → u ≢ p → slice_index_or twins u None ≡ slice_index_or (set twins p twin) u None
   other_slot u ne = sym (get_or-set_other twins p u twin None ne)

@@ -1,23 +1,27 @@
 -- Stamps: at some vertices a side that runs there. They are good for the sides that leave one vertex at a time.
 use Rattle.std.specs.Prelude.{◌≡◌, ℕ, ◌<◌, ◌≤◌, ◌==◌, cond, min, max, Option, None, Some, List, length, slice_index_or}
-use Rattle.std.specs.Option.{IfSome}
+use Rattle.std.specs.Option.{IfSome, option_map}
 use Rattle.pm_base.specs.declared.ids.Side.{Side}
 use Rattle.pm_base.specs.Sides.{Net, side_count, to}
 use Rattle.pm_twins.specs.declared.stamps.Ordered.{Ordered}
+use Rattle.pm_twins.specs.declared.stamps.Stamp.{Stamp}
+use Rattle.pm_twins.specs.declared.stamps.TheConstants.{NOWHERE}
 
--- What is stamped, where it leaves vertex v.
-abbrev pub leaving : Net → ℕ → Option Side → Option Side
-leaving m v None = None
-leaving m v (Some e) = cond (m.from e.0 == v) (Some e) None
+-- What a vertex has before a side is stamped there.
+abbrev pub no_stamp : Stamp
+no_stamp = record { side = record { 0 = 0 }; origin = NOWHERE }
 
--- What is stamped, where its origin is vertex v.
-abbrev pub stamp_from : ℕ → ℕ → Option Side → Option Side
-stamp_from origin v None = None
-stamp_from origin v (Some e) = cond (origin == v) (Some e) None
+-- The stamped side, where it runs from vertex v.
+abbrev pub side_from : ℕ → Stamp → Option Side
+side_from v stamp = cond (stamp.origin == v) (Some stamp.side) None
 
--- Each stamp's origin is the vertex that its side leaves.
-abbrev pub AreOrigins : Net → List (Option Side) → List ℕ → Type 0
-AreOrigins m stamps origins = (w : ℕ) (e : Side) → slice_index_or stamps w None ≡ Some e → slice_index_or origins w 0 ≡ m.from e.0
+-- The side from vertex v that is stamped at vertex w, if there is one.
+abbrev pub stamped : List Stamp → ℕ → ℕ → Option Side
+stamped stamps v w = side_from v (slice_index_or stamps w no_stamp)
+
+-- No side from vertex n or a later one is stamped.
+abbrev pub NoneStampedFrom : ℕ → List Stamp → Type 0
+NoneStampedFrom n stamps = (v w : ℕ) → n ≤ v → v < NOWHERE → stamped stamps v w ≡ None
 
 -- Of two sides the one with the lesser number, and the one with the greater.
 abbrev pub lesser : Side → Side → Side
@@ -37,14 +41,6 @@ lesser_of None b = b
 lesser_of (Some a) None = Some a
 lesser_of (Some a) (Some b) = Some (lesser a b)
 
--- Each stamp is a side that leaves one of the first n vertices, and stands at the vertex to which it runs.
-pub record AreStamps (m : Net) (n : ℕ) (stamps : List (Option Side)) : Type 0 where
-  pub each : (w : ℕ) (e : Side) → slice_index_or stamps w None ≡ Some e → (e.0 < side_count m) × (m.from e.0 < n) × (to m e.0 ≡ w)
-
--- Where a side that leaves v runs to, such a side is stamped.
-abbrev pub AreAllStamped : Net → ℕ → List (Option Side) → Type 0
-AreAllStamped m v stamps = (e : ℕ) → e < side_count m → m.from e ≡ v → (s : Side) × (slice_index_or stamps (to m e) None ≡ Some s) × (m.from s.0 ≡ v)
-
 -- A side before side e has the same two vertices in the same order.
 abbrev pub IsRepeat : Net → ℕ → Type 0
 IsRepeat m e = (g : ℕ) × (g < e) × (m.from g ≡ m.from e) × (to m g ≡ to m e)
@@ -63,6 +59,10 @@ pub record IsLeastRepeat (m : Net) (n : ℕ) (repeat : Option Side) : Type 0 whe
 abbrev pub IsSideBetween : Net → ℕ → ℕ → Option ℕ → Type 0
 IsSideBetween m p q None = (e : ℕ) → e < side_count m → m.from e ≡ p → to m e ≡ q → ⊥
 IsSideBetween m p q (Some e) = (e < side_count m) × (m.from e ≡ p) × (to m e ≡ q)
+
+-- At each vertex to which a side runs from vertex v such a side is stamped, and at no other one.
+abbrev pub AreAllStamped : Net → ℕ → List Stamp → Type 0
+AreAllStamped m v stamps = (w : ℕ) → IsSideBetween m v w (option_map (λ s. s.0) (stamped stamps v w))
 
 -- The table has a side that runs back for each that runs to one of the first n vertices.
 pub record ArePaired (m : Net) (n : ℕ) (twins : List (Option ℕ)) : Type 0 where

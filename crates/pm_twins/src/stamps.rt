@@ -1,14 +1,37 @@
 //! While a vertex is gone through, each side that leaves it is stamped at the vertex to which it runs. The
 //! twin of a side that arrives is then the stamp at the vertex from which it comes. A stamp that an earlier
 //! vertex left behind is told by its origin, where its side runs from, so the stamps are never wiped.
-ghost use Rattle.std.specs.Prelude.{◌≡◌, ◌+◌, ◌*◌, ◌<◌, ◌≤◌, ℕ, None, Some, length, slice_index_or};
-ghost use Rattle.pm_base.specs.Sides.{net_of, side_count};
-ghost use Rattle.pm_twins.specs.SideRows.{AreRows, IsWhole, row};
-ghost use Rattle.pm_twins.specs.Stamping.{stamp_from, in_order as ordered, lesser_of, AreStamps, AreOrigins, AreAllStamped, IsLeastRepeat, ArePaired};
+ghost use Rattle.std.specs.Prelude.{◌≡◌, ◌+◌, ◌<◌, length, replicate, IfOk};
+ghost use Rattle.pm_base.specs.Sides.{net_of};
+ghost use Rattle.pm_twins.specs.SideRows.{AreRows, IsWhole};
+ghost use Rattle.pm_twins.specs.Stamping.{no_stamp, stamped as stamped_of, in_order as ordered, lesser_of, NoneStampedFrom, AreAllStamped, IsLeastRepeat, ArePaired};
 
+use crate::OutOfMemory;
 use crate::side_rows::SideRows;
 use crate::sides::{from, to};
 use pm_base::{Corners, Side, SideMap};
+use std::alloc::Global;
+
+// The origin where no side is stamped yet. No vertex has this number, since it is past `MOST_VERTICES`.
+const NOWHERE: u32 = u32::MAX;
+
+/// A side, and beside it the vertex from which it runs, so that one look finds both.
+#[derive(Clone, Copy)]
+pub(crate) struct Stamp {
+    side: Side,
+    origin: u32,
+}
+
+/// No side stamped at each vertex. The length is a parameter, so that no proof unfolds the list.
+pub(crate) fn no_stamps(alloc: Global, vertices: usize) -> Result<Vec<Stamp>, OutOfMemory>
+    ensures { IfOk result (λ stamps. stamps.items ≡ replicate vertices no_stamp) }
+{
+    let none = Stamp {
+        side: Side(0),
+        origin: NOWHERE,
+    };
+    vec![in alloc; none; vertices]
+}
 
 // Two sides that run between the same vertices, or one alone.
 #[derive(Clone, Copy)]
@@ -45,14 +68,13 @@ fn lesser(a: Option<Side>, b: Option<Side>) -> Option<Side>
 }
 
 // The stamped side from `vertex` to `end`, if there is one.
-fn stamped(stamps: &[Option<Side>], origins: &[u32], vertex: u32, end: u32) -> Option<Side>
-    requires in_range { end < length stamps.now }
-    requires origins { length origins.now ≡ length stamps.now }
-    ensures { result ≡ stamp_from (slice_index_or origins.now end 0) vertex (slice_index_or stamps.now end None) }
+fn stamped(stamps: &[Stamp], vertex: u32, end: u32) -> Option<Side>
+    requires { end < length stamps.now }
+    ensures { result ≡ stamped_of stamps.now vertex end }
 {
-    let side = stamps[end as usize]?;
-    if origins[end as usize] == vertex {
-        Some(side)
+    let stamp = stamps[end as usize];
+    if stamp.origin == vertex {
+        Some(stamp.side)
     } else {
         None
     }
@@ -64,21 +86,16 @@ pub(crate) fn stamp_leaving(
     faces: &[Corners],
     rows: &SideRows,
     vertex: u32,
-    stamps: &mut Vec<Option<Side>>,
-    origins: &mut Vec<u32>,
+    stamps: &mut Vec<Stamp>,
     repeat: Option<Side>,
 ) -> Option<Side>
     requires whole { IsWhole (net_of faces.now) (length stamps.old.items) }
     requires rows { AreRows (net_of faces.now) (length stamps.old.items) rows.now.starts.items rows.now.sides.items }
     requires in_range { vertex < length stamps.old.items }
-    requires stamps { AreStamps (net_of faces.now) vertex stamps.old.items }
-    requires origins_len { length origins.old.items ≡ length stamps.old.items }
-    requires origins { AreOrigins (net_of faces.now) stamps.old.items origins.old.items }
+    requires none { NoneStampedFrom vertex stamps.old.items }
     requires repeat { IsLeastRepeat (net_of faces.now) vertex repeat }
     ensures len { length stamps.new.items ≡ length stamps.old.items }
-    ensures stamps { AreStamps (net_of faces.now) (vertex + 1) stamps.new.items }
-    ensures origins_len { length origins.new.items ≡ length stamps.old.items }
-    ensures origins { AreOrigins (net_of faces.now) stamps.new.items origins.new.items }
+    ensures none { NoneStampedFrom (vertex + 1) stamps.new.items }
     ensures all { AreAllStamped (net_of faces.now) vertex stamps.new.items }
     ensures repeat { IsLeastRepeat (net_of faces.now) (vertex + 1) result }
 {
@@ -87,9 +104,11 @@ pub(crate) fn stamp_leaving(
     for place in rows.starts[vertex as usize]..until {
         let side = Side(rows.sides[place as usize]);
         let end = to(faces, side);
-        let sides = in_order(stamped(stamps, origins, vertex, end), side);
-        stamps[end as usize] = Some(sides.first);
-        origins[end as usize] = vertex;
+        let sides = in_order(stamped(stamps, vertex, end), side);
+        stamps[end as usize] = Stamp {
+            side: sides.first,
+            origin: vertex,
+        };
         least = lesser(least, sides.later);
     }
     least
@@ -100,16 +119,12 @@ pub(crate) fn pair_arriving(
     faces: &[Corners],
     rows: &SideRows,
     vertex: u32,
-    stamps: &[Option<Side>],
-    origins: &[u32],
+    stamps: &[Stamp],
     twins: &mut SideMap,
 )
     requires whole { IsWhole (net_of faces.now) (length stamps.now) }
     requires rows { AreRows (net_of faces.now) (length stamps.now) rows.now.starts.items rows.now.sides.items }
     requires in_range { vertex < length stamps.now }
-    requires stamps { AreStamps (net_of faces.now) (vertex + 1) stamps.now }
-    requires origins_len { length origins.now ≡ length stamps.now }
-    requires origins { AreOrigins (net_of faces.now) stamps.now origins.now }
     requires all { AreAllStamped (net_of faces.now) vertex stamps.now }
     requires paired { ArePaired (net_of faces.now) vertex twins.old }
     ensures paired { ArePaired (net_of faces.now) (vertex + 1) twins.new }
@@ -117,7 +132,7 @@ pub(crate) fn pair_arriving(
     let until = rows.starts[vertex as usize + 1];
     for place in rows.starts[vertex as usize]..until {
         let arriving = Side(rows.sides[place as usize]).prev();
-        let twin = stamped(stamps, origins, vertex, from(faces, arriving));
+        let twin = stamped(stamps, vertex, from(faces, arriving));
         twins.set(arriving, twin);
     }
 }

@@ -1,7 +1,7 @@
 //! The sides of a mesh are put into rows, each at the vertex from which it runs, and then the vertices are
 //! gone through. Of the sides that leave one, two that run to the same vertex are one side twice; and a side
 //! that arrives there has the one that runs back as its twin.
-ghost use Rattle.std.specs.Prelude.{◌≡◌, ◌<◌, ℕ, ◌↔◌, None, length, replicate, IfOk, IfErr, OnOk, MatchOption, IsTrue};
+ghost use Rattle.std.specs.Prelude.{◌≡◌, ◌<◌, ℕ, ◌↔◌, length, IfOk, IfErr, OnOk, MatchOption, IsTrue};
 ghost use Rattle.std.specs.Option.{option_map};
 ghost use Rattle.pm_base.specs.Meshes.{mesh_of, IsWellFormed};
 ghost use Rattle.pm_base.specs.Sides.{Net, net_of, side_count, NoSideTwice, IsTwin, HasNoTwin, IsBorder};
@@ -10,9 +10,9 @@ ghost use Rattle.pm_twins.specs.Faults.{IsTwinsFault};
 ghost use Rattle.pm_twins.specs.SideRows.{AreRows, IsWhole};
 
 use crate::OutOfMemory;
-use crate::side_rows::{SideRows, row_sides, zeros};
+use crate::side_rows::{SideRows, row_sides};
 use crate::sides::{from, to};
-use crate::stamps::{pair_arriving, stamp_leaving};
+use crate::stamps::{no_stamps, pair_arriving, stamp_leaving};
 use pm_base::{Corners, FaceId, Mesh, Side, SideMap};
 use std::alloc::Global;
 use std::marker::Model;
@@ -119,25 +119,15 @@ fn pair_sides(
     let Ok(mut stamps) = no_stamps(alloc, vertices) else {
         return Err(TwinsFail::OutOfMemory);
     };
-    let Ok(mut origins) = zeros(alloc, vertices) else {
-        return Err(TwinsFail::OutOfMemory);
-    };
     let mut repeat = None;
     for vertex in 0..vertices as u32 {
-        repeat = stamp_leaving(faces, rows, vertex, &mut stamps, &mut origins, repeat);
-        pair_arriving(faces, rows, vertex, &stamps, &origins, &mut twins);
+        repeat = stamp_leaving(faces, rows, vertex, &mut stamps, repeat);
+        pair_arriving(faces, rows, vertex, &stamps, &mut twins);
     }
     match repeat {
         Some(side) => Err(TwinsFail::EdgeTwice(side.face())),
         None => Ok(twins),
     }
-}
-
-// No stamp for each vertex. The length is a parameter, so that no proof unfolds the list.
-fn no_stamps(alloc: Global, vertices: usize) -> Result<Vec<Option<Side>>, OutOfMemory>
-    ensures { IfOk result (λ stamps. stamps.items ≡ replicate vertices None) }
-{
-    vec![in alloc; None; vertices]
 }
 
 // A flag for each vertex: whether it is on the border.

@@ -1,12 +1,11 @@
-use Rattle.std.proofs.Common.{◌<◌, ◌∙◌, ◌≡◌, ◌+◌, ◌-◌, ℕ, None, Option, List, ◌∷◌, length, slice_index_or, sym, ap, subst, arith}
+use Rattle.std.proofs.Common.{◌<◌, ◌∙◌, ◌≡◌, ◌+◌, ◌-◌, ℕ, List, ◌∷◌, length, sym, ap, subst, arith}
 use Rattle.std.proofs.lemmas.List.{get_or_default}
-use Rattle.pm_base.specs.declared.ids.Side.{Side}
 use Rattle.pm_base.specs.declared.limits.TheConstants.{MOST_SIDES}
 use Rattle.pm_base.specs.Sides.{Net, net_of, side_count}
 use Rattle.pm_links.proofs.Members.{has_head}
 use Rattle.pm_twins.specs.SideRows.{row, start_at}
-use Rattle.pm_twins.specs.Stamping.{leaving}
-use Rattle.pm_twins.proofs.StampLaws.{origin-leaving}
+use Rattle.pm_twins.specs.declared.stamps.Stamp.{Stamp}
+use Rattle.pm_twins.specs.Stamping.{stamped}
 use Rattle.pm_twins.proofs.PairLaws.{found-low, IsPairing, pairing_begins, pairing_side, pairing_ends, pairing_prev, pairing_more, paired_more}
 use Rattle.pm_twins.proofs.stamps.pair_arriving.Goals as goal
 
@@ -62,9 +61,7 @@ pub set-requires-clause-small : goal.set-requires-clause-small
 set-requires-clause-small c =
     let m : Net = net_of c.args.faces.now in
     let v = c.args.vertex in
-    let stamps : List (Option Side) = c.args.stamps.now in
-    let known = c.stamped-twin.ensures ∙ origin-leaving m v c.from.result stamps c.args.origins.now c.requires.origins in
-    found-low m v c.from.result MOST_SIDES stamps c.stamped-twin.result c.requires.stamps (omega (arith, c.requires.whole.short)) known
+    found-low m v c.from.result MOST_SIDES c.args.stamps.now c.stamped-twin.result c.requires.all (omega (arith, c.requires.whole.short)) c.stamped-twin.ensures
 
 pub set-requires-clause-there : goal.set-requires-clause-there
 set-requires-clause-there c =
@@ -101,11 +98,11 @@ loop-place-preserved c =
     let side_is : c.index.result.now ≡ start_at sides place = c.index.ensures ∙ get_or_default sides place c.index.result.now 0 there in
     let left : List ℕ = row sides (place + 1) (until - (place + 1)) in
     let i : IsPairing m v (c.index.result.now ∷ left) c.loop-place.twins = pairing_side m v place until c.index.result.now sides c.loop-place.twins low side_is c.loop-place.invariant in
-    let stamps : List (Option Side) = c.args.stamps.now in
+    let stamps : List Stamp = c.args.stamps.now in
     let twins = c.loop-place.twins in
-    let looked = c.stamped-twin.ensures ∙ origin-leaving m v c.from.result stamps c.args.origins.now c.requires.origins ∙ ap (λ (u : ℕ). leaving m v (slice_index_or stamps u None)) c.from.ensures in
+    let looked = c.stamped-twin.ensures ∙ ap (stamped stamps v) c.from.ensures in
     subst (IsPairing m v left) (sym c.set.ensures)
-    (pairing_more m v c.index.result.now c.prev-arriving.result.0 left stamps twins c.stamped-twin.result i c.requires.stamps c.requires.all c.prev-arriving.ensures.value looked)
+    (pairing_more m v c.index.result.now c.prev-arriving.result.0 left stamps twins c.stamped-twin.result i c.requires.all c.prev-arriving.ensures.value looked)
 
 pub returns : goal.returns
 returns c =

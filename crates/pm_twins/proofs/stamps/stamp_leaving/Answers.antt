@@ -1,14 +1,15 @@
-use Rattle.std.proofs.Common.{◌<◌, ◌∙◌, ◌≡◌, ◌+◌, ◌-◌, ℕ, Some, None, Option, List, ◌∷◌, length, slice_index_or, refl, sym, ap, subst, arith}
+use Rattle.std.proofs.Common.{◌<◌, ◌∙◌, ◌≡◌, ◌+◌, ◌-◌, ℕ, Option, List, ◌∷◌, length, refl, sym, ap, subst, arith}
 use Rattle.std.proofs.Math.ListN.{set}
 use Rattle.pm_base.specs.declared.ids.Side.{Side}
 use Rattle.pm_base.specs.Sides.{Net, net_of}
 use Rattle.pm_links.proofs.Members.{has_head}
 use Rattle.std.proofs.lemmas.List.{length-set, get_or_default}
 use Rattle.pm_twins.specs.declared.stamps.Ordered.{Ordered}
+use Rattle.pm_twins.specs.declared.stamps.Stamp.{Stamp}
 use Rattle.pm_twins.specs.SideRows.{row, start_at}
-use Rattle.pm_twins.specs.Stamping.{stamp_from, lesser_of}
+use Rattle.pm_twins.specs.Stamping.{stamped, lesser_of}
 use Rattle.pm_twins.proofs.Whole.{to_within}
-use Rattle.pm_twins.proofs.StampLaws.{IsStamping, stamping_begins, stamping_side, stamping_ends, stamping_more, stamping_leaves, origin-leaving, origins_more, stamps_more, all_stamped, least_more}
+use Rattle.pm_twins.proofs.StampLaws.{IsStamping, stamping_begins, stamping_side, stamping_ends, stamping_more, all_stamped, least_more}
 use Rattle.pm_twins.proofs.stamps.stamp_leaving.Goals as goal
 
 pub loop-place-init : goal.loop-place-init
@@ -22,9 +23,7 @@ loop-place-init c =
     let from_is : c.index-place.result.now ≡ start_at starts v = c.index-place.ensures ∙ get_or_default starts v c.index-place.result.now 0 (omega (arith, r.bounds, c.requires.in_range)) in
     record {
       len = refl;
-      origins_len = c.requires.origins_len;
-      origins = c.requires.origins;
-      stamping = rw (from_is, until_is) (stamping_begins m (length c.args.stamps.now.items) v starts sides c.args.stamps.now.items c.args.repeat r c.requires.in_range c.requires.stamps c.requires.repeat);
+      stamping = rw (from_is, until_is) (stamping_begins m (length c.args.stamps.now.items) v starts sides c.args.stamps.now.items c.args.repeat r c.requires.in_range (omega (arith, c.requires.in_range, c.requires.whole.few)) c.requires.none c.requires.repeat);
     }
 
 pub to-end-requires-clause-in_range : goal.to-end-requires-clause-in_range
@@ -68,29 +67,20 @@ loop-place-preserved c =
     let least = c.loop-place.least in
     let end = to_within m (length c.args.stamps.now.items) c.requires.whole number (i.leave number (has_head number left)).0 in
     let w_low : w < length stamps = omega (arith, c.to-end.ensures, end, c.loop-place.invariant.len) in
-    let origins : List ℕ = c.loop-place.origins.items in
-    let looked = c.stamped.ensures
-    ∙ ap (λ (table : List (Option Side)). stamp_from (slice_index_or c.deref-in-loop-place.result.now w 0) v (slice_index_or table w None)) c.deref.ensures.value
-    ∙ ap (λ (table : List ℕ). stamp_from (slice_index_or table w 0) v (slice_index_or stamps w None)) c.deref-in-loop-place.ensures.value in
-    let known = looked ∙ origin-leaving m v w stamps origins c.loop-place.invariant.origins in
-    let leaves = stamping_leaves m v x w left stamps least c.stamped.result i c.to-end.ensures known in
-    let first_leaves = ap (λ (o : Ordered). m.from o.first.0) c.in_order-sides.ensures ∙ leaves in
+    let known = c.stamped.ensures ∙ ap (λ (table : List Stamp). stamped table v w) c.deref.ensures.value in
     let done = stamping_more m v x w left stamps least c.stamped.result i c.to-end.ensures w_low known in
     record {
-      len = length-set stamps w (Some c.in_order-sides.result.first) ∙ c.loop-place.invariant.len;
-      origins_len = length-set origins w v ∙ c.loop-place.invariant.origins_len;
-      origins = origins_more m v c.in_order-sides.result.first w stamps origins c.loop-place.invariant.origins w_low (omega (arith, w_low, c.loop-place.invariant.len, c.loop-place.invariant.origins_len)) first_leaves;
-      stamping = subst (λ (r : Option Side). IsStamping m v left (set stamps w (Some c.in_order-sides.result.first)) r) (sym c.lesser-least.ensures)
-          (subst (λ (o : Ordered). IsStamping m v left (set stamps w (Some o.first)) (lesser_of least o.later)) (sym c.in_order-sides.ensures) done);
+      len = length-set stamps w (record { side = c.in_order-sides.result.first; origin = v }) ∙ c.loop-place.invariant.len;
+      stamping = subst (λ (r : Option Side). IsStamping m v left (set stamps w (record { side = c.in_order-sides.result.first; origin = v })) r) (sym c.lesser-least.ensures)
+          (subst (λ (o : Ordered). IsStamping m v left (set stamps w (record { side = o.first; origin = v })) (lesser_of least o.later)) (sym c.in_order-sides.ensures) done);
     }
 
-pub returns-clause-stamps : goal.returns-clause-stamps
-returns-clause-stamps c =
+pub returns-clause-none : goal.returns-clause-none
+returns-clause-none c =
     let m : Net = net_of c.args.faces.now in
     let stamps = c.loop-place.stamps.items in
     let least = c.loop-place.least in
-    stamps_more m c.args.vertex stamps least
-    (stamping_ends m c.args.vertex c.loop-place.place c.index-until.result.now c.args.rows.now.sides.items stamps least (omega (arith, c.loop-place-test.false, c.loop-place.auto.place-end)) c.loop-place.invariant.stamping)
+    (stamping_ends m c.args.vertex c.loop-place.place c.index-until.result.now c.args.rows.now.sides.items stamps least (omega (arith, c.loop-place-test.false, c.loop-place.auto.place-end)) c.loop-place.invariant.stamping).none
 
 pub returns-clause-all : goal.returns-clause-all
 returns-clause-all c =

@@ -1,4 +1,4 @@
-use Rattle.std.proofs.Common.{◌≡◌, ◌∙◌, ℕ, Some, None, Option, List, slice_index_or, ap, sym, subst, arith}
+use Rattle.std.proofs.Common.{◌≡◌, ℕ, Some, None, Option, sym, subst, arith}
 use Rattle.pm_base.specs.declared.ids.Side.{Side}
 use Rattle.pm_base.specs.Sides.{Net, net_of, NoSideTwice}
 use Rattle.pm_twins.specs.Faults.{IsFirstRepeating}
@@ -6,11 +6,6 @@ use Rattle.pm_twins.specs.Stamping.{IsLeastRepeat, ArePaired}
 use Rattle.pm_twins.proofs.PairLaws.{paired_all}
 use Rattle.pm_twins.proofs.RepeatLaws.{none_twice, first_repeating}
 use Rattle.pm_twins.proofs.twins.pair_sides.Goals as goal
-
-pub pair_arriving-requires-clause-origins : goal.pair_arriving-requires-clause-origins
-pair_arriving-requires-clause-origins c = λ w e is.
-    ap (λ (origins : List ℕ). slice_index_or origins w 0) c.deref-in-loop-vertex.ensures.value
-    ∙ c.stamp_leaving-repeat.ensures.origins w e (ap (λ (stamps : List (Option Side)). slice_index_or stamps w None) (sym c.deref.ensures.value) ∙ is)
 
 pub returns-in-Some-clause-edge_twice : goal.returns-in-Some-clause-edge_twice
 returns-in-Some-clause-edge_twice c =
