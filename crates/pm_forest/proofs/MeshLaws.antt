@@ -138,8 +138,8 @@ module _ (h : Hierarchy) (shape : HasShape h) where
       }
 
   -- two leaves are two vertices of the input
-  vertex-lt : (x : ℕ) → x < leaf_count h → leaf_input h x - 1 < leaf_count h
-  vertex-lt x l = let some = some_input h shape x l in let most = input_most h shape x l in omega arith
+  pub vertex_below : (x : ℕ) → x < leaf_count h → leaf_input h x - 1 < leaf_count h
+  vertex_below x l = let some = some_input h shape x l in let most = input_most h shape x l in omega arith
 
   vertex-once : (x y : ℕ) → x < leaf_count h → y < leaf_count h → x ≢ y → leaf_input h x - 1 ≢ leaf_input h y - 1
   vertex-once x y l m differ e =
@@ -152,9 +152,9 @@ module _ (h : Hierarchy) (shape : HasShape h) where
       let inside = corners_in f l in
       let apart = corners_apart f l in
       record {
-        a = vertex-lt _ inside.0;
-        b = vertex-lt _ inside.1;
-        c = vertex-lt _ inside.2;
+        a = vertex_below _ inside.0;
+        b = vertex_below _ inside.1;
+        c = vertex_below _ inside.2;
         ab = vertex-once _ _ inside.0 inside.1 apart.0;
         bc = vertex-once _ _ inside.1 inside.2 apart.1;
         ca = vertex-once _ _ inside.2 inside.0 apart.2;
@@ -189,7 +189,7 @@ module _ (h : Hierarchy) (shape : HasShape h) where
           points = length-map-range_with_len point 0 (leaf_count h);
           faces = length-map-range_with_len face 0 (face_count h);
           vertex = λ x l.
-              get_or-map-range_with_len point 0 (leaf_count h) (leaf_input h x - 1) (leaf_input h x - 1) origin (vertex-lt x l) (omega arith)
+              get_or-map-range_with_len point 0 (leaf_count h) (leaf_input h x - 1) (leaf_input h x - 1) origin (vertex_below x l) (omega arith)
               ∙ ap (leaf_place h) (numbered_so-found (leaf_input h) (leaf_count h) x leaves.once l (leaves.some x l));
           face = λ f l.
               let there : face_input h f - 1 < face_count h = (let some = faces.some f l in let most = faces.most f l in omega arith) in

@@ -1,5 +1,5 @@
 //! The meshes that a hierarchy holds, taken out whole.
-ghost use Rattle.std.specs.Prelude.{◌≡◌, ℕ, ◌≤◌, ◌<◌, length, map, IfOk, slice_index_or};
+ghost use Rattle.std.specs.Prelude.{◌≡◌, ℕ, ◌-◌, ◌≤◌, ◌<◌, length, map, IfOk, slice_index_or};
 ghost use Rattle.std.specs.List.{range_with_len};
 ghost use Rattle.pm_base.specs.Meshes.{mesh_of, IsWellFormed};
 ghost use Rattle.pm_forest.specs.Forest.{leaf_count, node_count};
@@ -21,7 +21,7 @@ ghost use Rattle.pm_forest.specs.Meshes.{
 
 use crate::growing::no_nodes;
 use crate::{Face, Hierarchy, OutOfMemory};
-use pm_base::{Corners, FaceId, Mesh, NodeId, Points, Triples};
+use pm_base::{Corners, FaceId, Items, Mesh, NodeId, Points, Triples};
 use std::alloc::Global;
 
 // The number of a node among the input's vertices, from 1; 0 for a node of more than one leaf.
@@ -42,12 +42,11 @@ fn node_input(h: &Hierarchy, node: NodeId) -> u32
 }
 
 // The number of a leaf among the input's vertices, from 1.
-#[tactic(auto, using(crate::proofs::InputLaws::some_input, crate::proofs::InputLaws::input_most))]
+#[tactic(auto, using(crate::proofs::InputLaws::some_input))]
 fn leaf_input(h: &Hierarchy, leaf: u32) -> u32
     requires { leaf < leaf_count h.now }
     ensures value { result ≡ leaf_input h.now leaf }
     ensures some { 0 < result }
-    ensures most { result ≤ leaf_count h.now }
 {
     h.invariant();
     node_input(h, h.leaf_node(leaf))
@@ -90,15 +89,42 @@ fn leaf_faces(h: &Hierarchy, alloc: Global) -> Result<Triples, OutOfMemory>
     Ok(faces)
 }
 
+// The input vertex of each leaf. Faces ask for each leaf about six times and in no order; without this table each
+// question would read the leaf's node and then a record.
+fn vertices_by_leaf(h: &Hierarchy, alloc: Global) -> Result<Items<u32>, OutOfMemory>
+    ensures { IfOk result
+        (λ vertices. vertices.items ≡ map (λ x. leaf_input h.now x - 1) (range_with_len 0 (leaf_count h.now))) }
+{
+    let mut vertices = Items::new(alloc);
+    vertices.reserve(h.leaves() as usize)?;
+    for leaf in 0..h.leaves() {
+        vertices.push_within_room(leaf_input(h, leaf) - 1);
+    }
+    Ok(vertices)
+}
+
+// The input vertex of a leaf, out of the table of all.
+fn vertex_of(h: &Hierarchy, vertices: &[u32], leaf: u32) -> u32
+    requires leaf { leaf < leaf_count h.now }
+    requires table { vertices.now ≡ map (λ x. leaf_input h.now x - 1) (range_with_len 0 (leaf_count h.now)) }
+    ensures value { result ≡ leaf_input h.now leaf - 1 }
+    ensures below { result < leaf_count h.now }
+{
+    h.invariant();
+    vertices[leaf as usize]
+}
+
 // The leaf of each input vertex.
-fn leaves_by_input(h: &Hierarchy, alloc: Global) -> Result<Vec<u32>, OutOfMemory>
+fn leaves_by_input(h: &Hierarchy, vertices: &[u32], alloc: Global) -> Result<Vec<u32>, OutOfMemory>
+    requires { vertices.now ≡ map (λ x. leaf_input h.now x - 1) (range_with_len 0 (leaf_count h.now)) }
     ensures len { IfOk result (λ leaves. length leaves.items ≡ leaf_count h.now) }
     ensures each { IfOk result
         (λ leaves. (i : ℕ) → i < leaf_count h.now → slice_index_or leaves.items i 0 ≡ leaf_of_input h.now i) }
 {
+    h.invariant();
     let mut leaves = no_nodes(alloc, h.leaves() as usize)?;
     for leaf in 0..h.leaves() {
-        leaves[leaf_input(h, leaf) as usize - 1] = leaf;
+        leaves[vertex_of(h, vertices, leaf) as usize] = leaf;
     }
     Ok(leaves)
 }
@@ -117,10 +143,11 @@ fn faces_by_input(h: &Hierarchy, alloc: Global) -> Result<Vec<u32>, OutOfMemory>
 }
 
 // The places of the input's vertices.
-fn input_points(h: &Hierarchy, alloc: Global) -> Result<Points, OutOfMemory>
+fn input_points(h: &Hierarchy, vertices: &[u32], alloc: Global) -> Result<Points, OutOfMemory>
+    requires { vertices.now ≡ map (λ x. leaf_input h.now x - 1) (range_with_len 0 (leaf_count h.now)) }
     ensures { IfOk result (λ points. points.items ≡ map (input_place h.now) (range_with_len 0 (leaf_count h.now))) }
 {
-    let leaves = leaves_by_input(h, alloc)?;
+    let leaves = leaves_by_input(h, vertices, alloc)?;
     let mut points = Points::new(alloc);
     points.reserve(leaves.len())?;
     for i in 0..leaves.len() {
@@ -131,28 +158,30 @@ fn input_points(h: &Hierarchy, alloc: Global) -> Result<Points, OutOfMemory>
 
 // The corners of a face, by the input's vertices.
 #[tactic(auto, using(crate::proofs::MeshLaws::corners_in))]
-fn input_corners(h: &Hierarchy, f: u32) -> Corners
-    requires { f < face_count h.now }
+fn input_corners(h: &Hierarchy, vertices: &[u32], f: u32) -> Corners
+    requires face { f < face_count h.now }
+    requires table { vertices.now ≡ map (λ x. leaf_input h.now x - 1) (range_with_len 0 (leaf_count h.now)) }
     ensures { result ≡ input_corners h.now (corners_of h.now f) }
 {
     h.invariant();
     let face = h.face_at(FaceId(f));
     Corners {
-        a: leaf_input(h, face.a) - 1,
-        b: leaf_input(h, face.b) - 1,
-        c: leaf_input(h, face.c) - 1,
+        a: vertex_of(h, vertices, face.a),
+        b: vertex_of(h, vertices, face.b),
+        c: vertex_of(h, vertices, face.c),
     }
 }
 
 // The corners of the input's faces.
-fn input_faces(h: &Hierarchy, alloc: Global) -> Result<Triples, OutOfMemory>
+fn input_faces(h: &Hierarchy, vertices: &[u32], alloc: Global) -> Result<Triples, OutOfMemory>
+    requires { vertices.now ≡ map (λ x. leaf_input h.now x - 1) (range_with_len 0 (leaf_count h.now)) }
     ensures { IfOk result (λ faces. faces.items ≡ map (input_face h.now) (range_with_len 0 (face_count h.now))) }
 {
     let numbers = faces_by_input(h, alloc)?;
     let mut faces = Triples::new(alloc);
     faces.reserve(numbers.len())?;
     for i in 0..numbers.len() {
-        faces.push_within_room(input_corners(h, numbers[i]));
+        faces.push_within_room(input_corners(h, vertices, numbers[i]));
     }
     Ok(faces)
 }
@@ -178,8 +207,9 @@ impl Hierarchy {
         ensures formed { IsWellFormed (input_mesh_of self.now) }
     {
         self.invariant();
-        let points = input_points(self, alloc)?;
-        let faces = input_faces(self, alloc)?;
+        let vertices = vertices_by_leaf(self, alloc)?;
+        let points = input_points(self, vertices.as_slice(), alloc)?;
+        let faces = input_faces(self, vertices.as_slice(), alloc)?;
         Ok(Mesh { points, faces })
     }
 }

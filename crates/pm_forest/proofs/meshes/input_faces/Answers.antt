@@ -6,8 +6,8 @@ use Rattle.pm_forest.specs.Meshes.{face_input, input_corners, input_face}
 use Rattle.pm_forest.proofs.MeshLaws.{numbered_so-lt}
 use Rattle.pm_forest.proofs.meshes.input_faces.Goals as goal
 
-pub input_corners-requires : goal.input_corners-requires
-input_corners-requires c =
+pub input_corners-requires-clause-face : goal.input_corners-requires-clause-face
+input_corners-requires-clause-face c =
     let h = c.args.h.now in
     let i = c.loop-i.i in
     let l : i < face_count h = omega (arith, c.in_ok-numbers.ensures.len) in
