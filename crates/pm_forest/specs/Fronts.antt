@@ -1,5 +1,5 @@
 -- Fronts of a forest: active nodes and ancestors (Hoppe 1997). A set of records is a test on record numbers.
-use Rattle.std.specs.Prelude.{◌≡◌, ◌≢◌, ℕ, ◌<◌, ◌==◌, nat_lt, Bool, true, false, cond, not, ◌&&◌, List, Option, Some, None, slice_index_or, length, ◌⊎◌}
+use Rattle.std.specs.Prelude.{◌≡◌, ◌≢◌, ℕ, ◌<◌, ◌==◌, nat_lt, Bool, true, false, cond, not, ◌&&◌, Option, Some, None, length, ◌⊎◌}
 use Rattle.std.proofs.Common.{zero, suc}
 use Rattle.pm_forest.specs.Forest.{Hierarchy, widths, record_count, s_of, t_of, u_of, root_of, holds, Makes, maker_of, splitter_of}
 

@@ -1,5 +1,5 @@
 -- The meshes of a hierarchy: the one of its leaves, and the same with the numbers of the input (Hoppe 1996).
-use Rattle.std.specs.Prelude.{◌≡◌, ℕ, ◌+◌, ◌-◌, ◌<◌, ◌≤◌, ◌==◌, map, length, pos, slice_index_or}
+use Rattle.std.specs.Prelude.{◌≡◌, ℕ, ◌+◌, ◌-◌, ◌<◌, ◌≤◌, ◌==◌, map, length, slice_index_or}
 use Rattle.std.specs.List.{range_with_len}
 use Rattle.std.specs.Option.{unwrap_or}
 use Rattle.pm_base.specs.Place.{Place, origin}
