@@ -3,6 +3,7 @@ ghost use Rattle.std.specs.Prelude.{◌≡◌, ◌<◌, ◌≤◌, IfNone, IfOk,
 
 use super::heap::{drop_item, place_item};
 use super::key::Key;
+use super::parts::Parting;
 use super::places::identity;
 use super::slot::Slot;
 use std::alloc::{AllocError, Global};
@@ -20,15 +21,19 @@ const _: () = prove!(ITEM_LIMIT == 4_194_304);
 /// A map from the items `0..n` to keys, with the least entry at hand.
 ///
 /// Contracts see a list with an optional key for each item.
+///
+/// Only entries of small cost, the near ones, stand in a heap. When the last of them is gone, a pass over all keys brings
+/// some of the others near; that is so at most some 750 times in a queue's life.
 #[derive(Drop)]
 pub struct Queue {
-    // The item at each place. Those that have a key stand in the first places.
+    // The item at each place. Those that have a key stand in the first places, and of them the near ones come first.
     heap: Vec<u32>,
     // The place of each item.
     place: Vec<u32>,
     // The key of the item at each of the first places, beside the keys that it is compared with.
     // The list has room for the key of each item, which is touched only as keys come.
     keys: Vec<Slot>,
+    parting: Parting,
 }
 
 impl Model for Queue {
@@ -40,7 +45,7 @@ impl Model for Queue {
 
     ghost view = { λ q. entries q.keys.items q.place.items };
 
-    ghost invariant = { λ q. IsIndexedHeap q.keys.items (vec_capacity q.keys) q.heap.items q.place.items };
+    ghost invariant = { λ q. IsIndexedHeap q.keys.items (vec_capacity q.keys) q.heap.items q.place.items q.parting };
 }
 
 impl Queue {
@@ -56,16 +61,28 @@ impl Queue {
         let heap = identity(alloc, n)?;
         let place = identity(alloc, n)?;
         let keys = Vec::with_capacity(alloc, n as usize)?;
-        Ok(Queue { heap, place, keys })
+        let parting = Parting { near: 0, bound: 0 };
+        Ok(Queue {
+            heap,
+            place,
+            keys,
+            parting,
+        })
     }
 
-    /// Gives `item` the key, in place of any that it has. O(log n) time.
+    /// Gives `item` the key, in place of any that it has. O(log n) time, but for the passes that the type tells of.
     pub fn set(&mut self, item: u32, key: Key)
         requires in_range { item < length self.old }
         ensures replaced { self.new ≡ slice_set self.old item (Some key) }
     {
-        let slot = Slot::of(key);
-        place_item(&mut self.heap, &mut self.place, &mut self.keys, item, slot);
+        place_item(
+            &mut self.heap,
+            &mut self.place,
+            &mut self.keys,
+            &mut self.parting,
+            item,
+            key,
+        );
     }
 
     /// Whether `item` has a key. O(1) time.
@@ -76,7 +93,7 @@ impl Queue {
         (self.place[item as usize] as usize) < self.keys.len()
     }
 
-    /// Takes the key of `item` away, and says whether it had one. O(log n) time.
+    /// Takes the key of `item` away, and says whether it had one. Its time is that of `set`.
     pub fn remove(&mut self, item: u32) -> bool
         requires in_range { item < length self.old }
         ensures had { result ≡ is_some (key_at self.old item) }
@@ -84,7 +101,13 @@ impl Queue {
         ensures unchanged { result ≡ false → self.new ≡ self.old }
     {
         let had = self.has(item);
-        drop_item(&mut self.heap, &mut self.place, &mut self.keys, item);
+        drop_item(
+            &mut self.heap,
+            &mut self.place,
+            &mut self.keys,
+            &mut self.parting,
+            item,
+        );
         had
     }
 
@@ -99,7 +122,7 @@ impl Queue {
         Some((self.heap[0], self.keys[0].key()))
     }
 
-    /// The same answer as `least`, and the item loses its key. O(log n) time.
+    /// The same answer as `least`, and the item loses its key. Its time is that of `set`.
     pub fn take_least(&mut self) -> Option<(u32, Key)>
         ensures some { IfSome result (IsLeast self.old) }
         ensures taken { IfSome result (λ entry. self.new ≡ slice_set self.old entry.0 None) }

@@ -51,12 +51,19 @@ impl Slot {
         }
     }
 
+    /// The cost of the key.
+    pub(crate) fn cost(&self) -> u128
+        ensures { result ≡ self.now.cost }
+    {
+        u128::from(self.high) * WORD + u128::from(self.low)
+    }
+
     /// The key of the slot.
     pub(crate) fn key(&self) -> Key
         ensures { result ≡ self.now }
     {
         Key {
-            cost: u128::from(self.high) * WORD + u128::from(self.low),
+            cost: self.cost(),
             a: self.a,
             b: self.b,
         }

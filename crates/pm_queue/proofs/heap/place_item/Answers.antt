@@ -1,95 +1,78 @@
-use Rattle.std.proofs.Common.{◌≡◌, ℕ, ◌+◌, ◌<◌, ◌≤◌, [], ◌∷◌, ◌++◌, length, get_or, ltb, arith, sym, ap, ◌∙◌, length-set, length-append}
-use Rattle.std.specs.Vec.{with_item}
+use Rattle.std.proofs.Common.{◌≡◌, ◌<◌, ◌≤◌, ◌||◌, eqb, length, get_or, arith, sym, refl, ap, ◌∙◌, length-set}
+use Rattle.std.specs.Vec.{with_items}
+use Rattle.std.proofs.lemmas.Bool.{ltb-false, eq-eqb}
 use Rattle.std.proofs.lemmas.List.{with_items_is}
-use Rattle.pm_queue.specs.Places.{IsSwapped}
-use Rattle.pm_queue.proofs.Members.{insert_members, member_stays}
-use Rattle.pm_queue.proofs.NewKey.{set_but, insert_but}
-use Rattle.pm_queue.proofs.PlacedKeys.{keyed_set, keyed_new}
+use Rattle.pm_queue.proofs.Members.{not_true}
+use Rattle.pm_queue.proofs.PartLaws.{parted_aside, parted_key}
 use Rattle.pm_queue.proofs.heap.place_item.Goals as goal
 
-pub restore-requires : goal.restore-requires
-restore-requires g c =
-    let (w, (keyed, (replaced, (keys_limit, (room, (item_in, heap)))))) = c.requires in
-    let keys = c.args.keys.now.items in
-    let kl : c.len-len.result ≡ length keys = c.len-len.ensures ∙ c.args.keys.now.ok.0 in
-    let now = c.deref_mut.ensures.value in
-    let now_len : length c.deref_mut.result.now ≡ length keys = ap length now ∙ length-set keys _ c.args.slot in
-    let at_in = w.place_in c.args.item item_in in (
-      rw (replaced, length-set) w,
-      (
-        rw (replaced, now)
-            (keyed_set g.item_keys.before keys c.args.heap.now c.args.place.now c.args.item c.args.slot w keyed item_in
-            (omega (arith, kl, c.if-from-len.true))),
-        (
-          omega (arith, now_len, keyed.keys_len, keys_limit),
-          (
-            omega (arith, now_len, kl, c.if-from-len.true),
-            rw (replaced, now_len)
-                (set_but (length g.item_keys.before) g.item_keys.before c.args.heap.now c.args.place.now (length keys) c.args.item
-                c.args.slot w keyed.keys_len (omega (arith, kl, c.if-from-len.true)) heap),
-          ),
-        ),
-      ),
-    )
-
-pub returns-then-from-len-clause-members : goal.returns-then-from-len-clause-members
-returns-then-from-len-clause-members g c = λ i lt.
+pub sort_in-parting-requires : goal.sort_in-parting-requires
+sort_in-parting-requires g c =
+    let (w, (keyed, (replaced, (keys_limit, (room, (item_in, (near_in, (heap, parted)))))))) = c.requires in
     let keys = c.args.keys.now in
-    let at : ℕ = get_or c.args.place.now c.args.item 0 in
-    let e = c.restore.ensures in
-    let now_len : length c.deref_mut.result.now ≡ length keys.items =
-    ap length c.deref_mut.ensures.value ∙ length-set keys.items at c.args.slot in
-    let new_len = e.keys_len ∙ now_len in
-    let keys_is = with_items_is (with_item keys at c.args.slot) c.restore.new.keys (new_len ∙ sym keys.ok.0) in
-    rw (keys_is, new_len)
-    ((rw now_len at e.members i lt)
-    ∙ member_stays c.args.place.now (length keys.items) c.args.item i
-    (omega (arith, c.len-len.ensures, keys.ok.0, c.if-from-len.true)))
-
-pub sift_up-requires : goal.sift_up-requires
-sift_up-requires g c =
-    let (w, (keyed, (replaced, (keys_limit, (room, (item_in, heap)))))) = c.requires in
-    let keys = c.args.keys.now.items in
-    let at : ℕ = get_or c.args.place.now c.args.item 0 in
-    let at_in = w.place_in c.args.item item_in in
-    let kl : c.len-len.result ≡ length keys = c.len-len.ensures ∙ c.args.keys.now.ok.0 in
-    let out : length keys ≤ at = omega (arith, kl, c.if-from-len.false) in
-    let e = c.exchange_items.ensures in
-    let places = rw w.heap_len at e.places in
-    let swapped : IsSwapped c.args.heap.now c.exchange_items.new.heap at (length keys) = rw kl at e.heap in
-    let pushed = rw (c.push.ensures.succeeds (omega (arith, room, at_in, c.len-len.ensures, c.if-from-len.false))) at c.push.ensures.items in
-    let now : c.deref_mut-2.result.now ≡ keys ++ c.args.slot ∷ [] = c.deref_mut-2.ensures.value ∙ pushed in
-    let now_len : length c.deref_mut-2.result.now ≡ length keys + 1 = ap length now ∙ length-append keys (c.args.slot ∷ []) in (
-      rw (replaced, length-set) places,
+    let e = c.set_aside-near.ensures in
+    let d = c.put_key.ensures in
+    let aside = c.set_aside-near.new.place in
+    let near = c.set_aside-near.result in
+    let len = e.keys_len ∙ ap length c.deref_mut.ensures.value in
+    let keys_is = with_items_is keys c.set_aside-near.new.keys (len ∙ sym keys.ok.0) in
+    let now = c.deref_mut-2.ensures.value in
+    let low : c.args.item < length c.args.place.now = omega (arith, w.place_len) in
+    let absent = e.near c.args.item low ∙ not_true (eqb c.args.item c.args.item) _ (eq-eqb c.args.item c.args.item refl) in
+    let out : near ≤ get_or aside c.args.item 0 = ltb-false _ _ absent in
+    let more = rw (keys_is, len) at d.more in
+    let first = d.first near (rw (keys_is, len) (omega (arith, e.near_in, near_in))) out in (
+      rw (replaced, length-set) d.places,
       (
-        rw (replaced, now)
-            (keyed_new g.item_keys.before keys c.args.heap.now c.exchange_items.new.heap c.args.place.now c.args.item c.args.slot
-            w keyed item_in out swapped places.heap_len),
+        rw now d.keyed,
         (
-          omega (arith, now_len, kl),
-          rw (replaced, now_len, kl)
-              (insert_but (length g.item_keys.before) g.item_keys.before c.args.heap.now c.exchange_items.new.heap c.args.place.now
-              (length keys) c.args.item c.args.slot w out at_in swapped heap),
+          rw (replaced, length-set) keys_limit,
+          (
+            rw now (omega (arith, e.near_in, near_in, more)),
+            (
+              rw (replaced, length-set) item_in,
+              (
+                ltb-false _ _ (first c.args.item (omega (arith, e.places.place_len)) ∙ absent),
+                (
+                  rw now d.member,
+                  (
+                    d.heap near (rw (keys_is, len) (omega (arith, e.near_in, near_in))) out e.heap,
+                    rw (now, replaced) (parted_key g.item_keys.before aside c.put_key.new.place
+                        (omega (arith, e.places.place_len, d.places.place_len)) (record { near = near; bound = c.args.parting.now.bound })
+                        (length keys.items) _ c.args.item c.args.key
+                        (parted_aside g.item_keys.before c.args.place.now aside (omega (arith, e.places.place_len, w.place_len))
+                        c.args.parting.now (length keys.items) near c.args.item parted (e.members (length keys.items) near_in) e.near)
+                        first (rw (keys_is, len) at d.members)),
+                  ),
+                ),
+              ),
+            ),
+          ),
         ),
       ),
     )
 
 pub returns-clause-members : goal.returns-clause-members
 returns-clause-members g c = λ i lt.
-    let (w, (keyed, (replaced, (keys_limit, (room, (item_in, heap)))))) = c.requires in
+    let (w, (keyed, (replaced, (keys_limit, (room, (item_in, (near_in, rest))))))) = c.requires in
     let keys = c.args.keys.now in
-    let at : ℕ = get_or c.args.place.now c.args.item 0 in
-    let at_in = w.place_in c.args.item item_in in
-    let kl : c.len-len.result ≡ length keys.items = c.len-len.ensures ∙ keys.ok.0 in
-    let e = c.exchange_items.ensures in
-    let pushed = rw (c.push.ensures.succeeds (omega (arith, room, at_in, c.len-len.ensures, c.if-from-len.false))) at c.push.ensures.items in
-    let push_len : length c.push.new.self.items ≡ length keys.items + 1 = ap length pushed ∙ length-append keys.items (c.args.slot ∷ []) in
-    let now_len : length c.deref_mut-2.result.now ≡ length keys.items + 1 = ap length c.deref_mut-2.ensures.value ∙ push_len in
-    let new_len = c.sift_up.ensures.keys_len ∙ now_len in
-    let keys_is = with_items_is c.push.new.self c.sift_up.new.keys (new_len ∙ sym (c.push.new.self.ok.0 ∙ push_len)) in
-    let in_items : i < length g.item_keys.before = omega (arith, w.place_len) in
-    rw (keys_is, new_len)
-    ((rw now_len at c.sift_up.ensures.members i (omega (arith, w.heap_len, e.places.place_len)))
-    ∙ ap (λ x. ltb x (length keys.items + 1)) (rw kl at e.place i (omega (arith, w.heap_len)))
-    ∙ insert_members (length g.item_keys.before) c.args.heap.now c.args.place.now (length keys.items) c.args.item i w
-    item_in in_items (omega (arith, kl, c.if-from-len.false)))
+    let e = c.set_aside-near.ensures in
+    let d = c.put_key.ensures in
+    let s = c.sort_in-parting.ensures in
+    let replaced_len = ap length replaced ∙ length-set g.item_keys.before c.args.item c.args.key in
+    let r = c.regroup.ensures in
+    let len = e.keys_len ∙ ap length c.deref_mut.ensures.value in
+    let keys_is = with_items_is keys c.set_aside-near.new.keys (len ∙ sym keys.ok.0) in
+    let now = c.deref_mut-2.ensures.value in
+    let put = c.put_key.new.keys in
+    let sorted = c.sort_in-parting.new.keys in
+    let sorted_len : length sorted ≡ length put.items = s.keys_len ∙ ap length now in
+    let sorted_is = with_items_is put sorted (sorted_len ∙ sym put.ok.0) in
+    let now_again = c.deref_mut-3.ensures.value ∙ sorted_is in
+    let new_len : length c.regroup.new.keys ≡ length put.items = r.keys_len ∙ ap length now_again ∙ sorted_len in
+    let new_is = with_items_is (with_items put sorted) c.regroup.new.keys (new_len ∙ sym put.ok.0) in
+    rw (new_is, new_len)
+    ((rw (now_again, sorted_len) at r.members i (omega (arith, w.place_len, s.places.place_len, replaced_len)))
+    ∙ (rw now at s.members i (omega (arith, w.place_len, d.places.place_len)))
+    ∙ (rw (keys_is, len) at d.members i (omega (arith, w.place_len, e.places.place_len)))
+    ∙ ap (λ b. eqb i c.args.item || b) (e.members (length keys.items) near_in i lt))

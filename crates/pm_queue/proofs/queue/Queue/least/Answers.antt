@@ -23,4 +23,5 @@ returns-clause-some c =
     let key_is = c.key.ensures ∙ get_or_read inside.keys.items 0 _ pos c.index-2.ensures (item_key_of [] 0) in
     rw (← c.self.view_is, item_is, key_is)
     (least_at_root (keys_of inside.keys.items inside.place.items) inside.keys.items inside.heap.items inside.place.items
-    i.inverse (keyed_of inside.keys.items inside.heap.items inside.place.items i.inverse i.within) i.ordered i.within pos)
+    inside.parting i.inverse (keyed_of inside.keys.items inside.heap.items inside.place.items i.inverse i.within) i.ordered
+    i.parted (i.some_near pos) i.near_in i.within)
