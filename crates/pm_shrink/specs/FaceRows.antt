@@ -12,12 +12,12 @@ across_in r i = slice_index_or r.across i None
 abbrev pub no_row : Row
 no_row = record { corners = None; across = [] }
 
-abbrev pub row_at : List Row → ℕ → Row
-row_at rows f = slice_index_or rows f no_row
+abbrev pub face_row : List Row → ℕ → Row
+face_row rows f = slice_index_or rows f no_row
 
-abbrev pub corners_of : List Row → List (Option Corners)
-corners_of rows = map (λ (r : Row). r.corners) rows
+abbrev pub row_corners : List Row → List (Option Corners)
+row_corners rows = map (λ (r : Row). r.corners) rows
 
 -- What stands across each side of the faces.
 unfoldable pub across_of : List Row → List (Option ℕ)
-across_of rows = map (λ e. across_in (row_at rows (face_of e)) (e % 3)) (range_with_len 0 (3 * length rows))
+across_of rows = map (λ e. across_in (face_row rows (face_of e)) (e % 3)) (range_with_len 0 (3 * length rows))

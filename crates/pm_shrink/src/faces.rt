@@ -59,11 +59,11 @@ pub(crate) struct FaceTable {
 
 impl Model for FaceTable {
     ghost use Rattle.pm_shrink.specs.Tables.{Faces};
-    ghost use Rattle.pm_shrink.specs.FaceRows.{corners_of, across_of};
+    ghost use Rattle.pm_shrink.specs.FaceRows.{row_corners, across_of};
 
     ghost Value = { Faces };
 
-    ghost view = { λ t. record { faces = corners_of t.rows.items; across = across_of t.rows.items } };
+    ghost view = { λ t. record { faces = row_corners t.rows.items; across = across_of t.rows.items } };
 }
 
 impl FaceTable {
