@@ -3,8 +3,8 @@
 use Rattle.std.proofs.Common.{◌≡◌, ◌≢◌, ℕ, ◌<◌, Some, Bool, true, false, not, eqb, List, [], ◌∷◌, ◌++◌, length, reverse, sym, refl, ap, ◌∙◌, subst, ◌⊎◌, ⊎_elim, append_assoc, arith}
 use Rattle.std.specs.List.{filter}
 use Rattle.std.proofs.lemmas.Grind.{reverse_onto}
-use Rattle.std.proofs.lemmas.Bool.{eqb-true, eqb-false, cases_Bool}
-use Rattle.pm_links.specs.Lists.{Lists, list_of, has, first_of, IsOnce, IsSound, list_without, with_first, without_item}
+use Rattle.std.proofs.lemmas.Bool.{eqb-true, eqb-false, eq-eqb, cases_Bool}
+use Rattle.pm_links.specs.Lists.{Lists, list_of, has, first_of, after, IsOnce, IsSound, list_without, with_first, without_item}
 use Rattle.pm_links.specs.Dealt.{dealt}
 use Rattle.pm_links.proofs.Members.{has_head, first_is}
 use Rattle.pm_links.proofs.Without.{without_first}
@@ -84,8 +84,12 @@ dealt_step p v w from left right to x h xs lf rf rl c vf move =
     (cases_Bool (eqb h left))))
     (cases_Bool (eqb h from))
 
+after_first : (x : ℕ) (xs : List ℕ) → after x (x ∷ xs) ≡ xs
+after_first x xs = rw (eq-eqb x x refl) refl
+
 -- what one turn of the loop keeps
-pub record DealsOne (p : ℕ → Bool) (v w : Lists) (from left right : ℕ) : Type 0 where
+pub record DealsOne (p : ℕ → Bool) (v w : Lists) (from left right x : ℕ) : Type 0 where
+  pub rest : list_of w from ≡ after x (list_of v from)
   pub shorter : length (list_of w from) < length (list_of v from)
   pub items : w.items ≡ v.items
   pub heads : length w.lists ≡ length v.lists
@@ -95,7 +99,7 @@ pub dealt_turn : (p : ℕ → Bool) (v m w : Lists) (from left right to x : ℕ)
     left ≢ from → right ≢ from → right ≢ left →
     left < length v.lists → right < length v.lists →
     (to ≡ left) × (p x ≡ true) ⊎ (to ≡ right) × (p x ≡ false) → first_of (list_of v from) ≡ Some x →
-    m ≡ without_item v x → w ≡ with_first m to x → DealsOne p v w from left right
+    m ≡ without_item v x → w ≡ with_first m to x → DealsOne p v w from left right x
 dealt_turn p v m w from left right to x s lf rf rl ll rlow c first me we =
     let at = first_is (list_of v from) x first in
     let ne : to ≢ from = λ k. ⊎_elim (λ d. lf (sym d.0 ∙ k)) (λ d. rf (sym d.0 ∙ k)) c in
@@ -103,6 +107,7 @@ dealt_turn p v m w from left right to x s lf rf rl ll rlow c first me we =
     (λ d. subst (λ (k : ℕ). k < length v.lists) (sym d.0) rlow) c in
     let move = moves_first v m w from to x at.0 s at.1 ne low me we in
     record {
+      rest = move.taken ∙ sym (ap (after x) at.1 ∙ after_first x at.0);
       shorter = omega (arith, ap length move.taken, ap length at.1);
       items = move.items;
       heads = move.heads;
