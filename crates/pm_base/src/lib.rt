@@ -8,6 +8,7 @@ mod limits;
 mod log;
 mod mesh;
 mod normal;
+mod optional;
 mod point;
 mod side_map;
 
@@ -18,5 +19,6 @@ pub use limits::{GREATEST_COORDINATE, MOST_FACES, MOST_NODES, MOST_SIDES, MOST_V
 pub use log::{Collapse, Gone, Log};
 pub use mesh::{Corners, Mesh, Triples};
 pub use normal::{Normal, cross, dot};
+pub use optional::OptionalNumber;
 pub use point::{Point, Points};
 pub use side_map::{OptionalSide, SideMap};

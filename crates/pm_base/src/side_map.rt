@@ -3,28 +3,24 @@ ghost use Rattle.std.specs.Prelude.{◌≡◌, ◌<◌, ◌≤◌, None, length,
 ghost use Rattle.std.specs.Option.{option_map};
 ghost use Rattle.pm_base.specs.declared.limits.TheConstants.{MOST_SIDES};
 
-use crate::{OutOfMemory, Side};
+use crate::{OptionalNumber, OutOfMemory, Side};
 use std::alloc::Global;
 use std::marker::Model;
-
-// Stands in a place for no side. No side has this number, since it is past `MOST_SIDES`.
-const NONE: u32 = u32::MAX;
 
 /// A side or none in four bytes, where an `Option<Side>` takes eight. Contracts see the number of the side, or none.
 #[derive(Clone, Copy)]
 pub struct OptionalSide {
-    number: u32,
+    number: OptionalNumber,
 }
 
 impl Model for OptionalSide {
-    ghost use Rattle.std.specs.Prelude.{ℕ, Option, None, Some, cond, ◌==◌, unwrap_or};
-    ghost use Rattle.pm_base.specs.declared.side_map.TheConstants.{NONE};
+    ghost use Rattle.std.specs.Prelude.{ℕ, Option};
 
     ghost Value = { Option ℕ };
 
-    ghost view = { λ s. cond (s.number == NONE) None (Some s.number) };
+    ghost view = { λ s. s.number };
 
-    ghost inverse = { λ o. record { number = unwrap_or o NONE } };
+    ghost inverse = { λ o. record { number = o } };
 }
 
 impl OptionalSide {
@@ -33,9 +29,8 @@ impl OptionalSide {
         requires { IfSome side (λ s. s.0 < MOST_SIDES) }
         ensures { result ≡ option_map (λ s. s.0) side }
     {
-        match side {
-            None => OptionalSide { number: NONE },
-            Some(side) => OptionalSide { number: side.0 },
+        OptionalSide {
+            number: OptionalNumber::of(side.map(|s| s.0)),
         }
     }
 
@@ -43,11 +38,7 @@ impl OptionalSide {
     pub fn side(&self) -> Option<Side>
         ensures { option_map (λ s. s.0) result ≡ self.now }
     {
-        if self.number == NONE {
-            None
-        } else {
-            Some(Side(self.number))
-        }
+        self.number.get().map(Side)
     }
 }
 

@@ -135,16 +135,15 @@ module _ {p : Parts} (s : IsGrowing p) where
 
   -- a record more, whose faces are still to come: first its child t is noted, and then u
   pub record_added : (r : Record) → TakesRecord (seen p) r →
-      (intervals_t intervals_u : List (ℕ × ℕ)) (leaf_nodes_t leaf_nodes_u : List ℕ) (node number : ℕ) (at : ℕ × ℕ) →
-      at ≡ get_or p.intervals r.s at → node ≡ node_count (seen p).h → number ≡ length p.records.items →
+      (intervals_t intervals_u : List (ℕ × ℕ)) (leaf_nodes_t leaf_nodes_u : List ℕ) (node : ℕ) (mark : Option ℕ) (at : ℕ × ℕ) →
+      at ≡ get_or p.intervals r.s at → node ≡ node_count (seen p).h → mark ≡ Some (length p.records.items) →
       intervals_t ≡ set p.intervals node (at.0, at.0 + r.width) →
       leaf_nodes_t ≡ noted p.leaf_nodes node at.0 (at.0 + r.width) →
       intervals_u ≡ set intervals_t (node + 1) (at.0 + r.width, at.1) →
       leaf_nodes_u ≡ noted leaf_nodes_t (node + 1) (at.0 + r.width) at.1 →
-      IsGrowing (record p { coming = Some r; intervals = intervals_u; splitters = set p.splitters r.s (Some number); leaf_nodes = leaf_nodes_u })
-  record_added r takes intervals_t intervals_u leaf_nodes_t leaf_nodes_u node number at read node_is number_is t_interval t_leaf u_interval u_leaf =
+      IsGrowing (record p { coming = Some r; intervals = intervals_u; splitters = set p.splitters r.s mark; leaf_nodes = leaf_nodes_u })
+  record_added r takes intervals_t intervals_u leaf_nodes_t leaf_nodes_u node mark at read node_is mark_is t_interval t_leaf u_interval u_leaf =
       let h = (seen p).h in
-      let mark : Option ℕ = Some number in
       let leaves = split_leaves r takes at read in
       let none : one_if (is_some p.coming) ≡ 0 = ap (λ x. one_if (is_some x)) takes.settled in
       let shape : HasForestShape h = rw takes.settled at s.shape in
@@ -185,7 +184,7 @@ module _ {p : Parts} (s : IsGrowing p) where
         revealed_room = s.revealed_room;
         shape = HasForestShape-with_record h r shape takes.node takes.unsplit takes.first takes.rest;
         tables =
-            rw (u_interval, t_interval, u_leaf, t_leaf, leaves.0, leaves.1, node_is, number_is)
+            rw (u_interval, t_interval, u_leaf, t_leaf, leaves.0, leaves.1, node_is, mark_is)
             (tables-with_record h r splits takes.faces (omega arith) (omega arith) tables);
       }
 

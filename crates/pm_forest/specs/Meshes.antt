@@ -1,5 +1,5 @@
 -- The meshes of a hierarchy: the one of its leaves, and the same with the numbers of the input (Hoppe 1996).
-use Rattle.std.specs.Prelude.{◌≡◌, ℕ, ◌+◌, ◌-◌, ◌<◌, ◌≤◌, ◌==◌, map, length, slice_index_or}
+use Rattle.std.specs.Prelude.{◌≡◌, ℕ, ◌+◌, ◌-◌, ◌<◌, ◌≤◌, ◌==◌, List, map, length, slice_index_or}
 use Rattle.std.specs.List.{range_with_len}
 use Rattle.std.specs.Option.{unwrap_or}
 use Rattle.pm_base.specs.Place.{Place, origin}
@@ -23,6 +23,10 @@ input_of_node h v = slice_index_or (node_inputs h) v 0
 
 abbrev pub leaf_input : Hierarchy → ℕ → ℕ
 leaf_input h x = input_of_node h (leaf_node_of h x)
+
+-- The input vertex of each leaf, from 0.
+abbrev pub AreInputVertices : Hierarchy → List ℕ → Type 0
+AreInputVertices h vertices = vertices ≡ map (λ x. leaf_input h x - 1) (range_with_len 0 (leaf_count h))
 
 -- The number of face f among the input's faces, from 1.
 abbrev pub face_input : Hierarchy → ℕ → ℕ

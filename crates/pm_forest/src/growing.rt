@@ -8,7 +8,7 @@ ghost use Rattle.pm_forest.specs.Rules.{counts_are_bad, with_record};
 ghost use Rattle.pm_forest.specs.Tables.{Grown, grown, WithoutFaces, with_new_face};
 
 use crate::{Counts, Face, FaceList, NewFace, OutOfMemory, Record, Records, Root, Roots};
-use pm_base::{Items, MOST_FACES};
+use pm_base::{Items, MOST_FACES, OptionalNumber};
 use std::alloc::Global;
 use std::marker::Model;
 
@@ -23,10 +23,10 @@ pub struct Growing {
     pub(crate) coming: Option<Record>,
     pub(crate) owners: Items<u32>,
     pub(crate) intervals: Vec<(u32, u32)>,
-    pub(crate) splitters: Vec<Option<u32>>,
+    pub(crate) splitters: Vec<OptionalNumber>,
     pub(crate) leaf_nodes: Vec<u32>,
     pub(crate) faces: FaceList,
-    pub(crate) revealed: Items<Option<u32>>,
+    pub(crate) revealed: Items<OptionalNumber>,
 }
 
 impl Model for Growing {
@@ -58,10 +58,10 @@ fn no_intervals(alloc: Global, most: usize) -> Result<Vec<(u32, u32)>, OutOfMemo
     vec![in alloc; (0, 0); most]
 }
 
-fn no_splitters(alloc: Global, most: usize) -> Result<Vec<Option<u32>>, OutOfMemory>
+fn no_splitters(alloc: Global, most: usize) -> Result<Vec<OptionalNumber>, OutOfMemory>
     ensures { IfOk result (λ v. v.items ≡ replicate most None) }
 {
-    vec![in alloc; None; most]
+    vec![in alloc; OptionalNumber::of(None); most]
 }
 
 pub fn no_nodes(alloc: Global, most: usize) -> Result<Vec<u32>, OutOfMemory>
@@ -170,7 +170,7 @@ impl Growing {
         ensures { self.new ≡ record self.old { h = record self.old.h { bases = self.old.h.bases ++ face ∷ [] } } }
     {
         self.faces.push_within_room(face);
-        self.revealed.push_within_room(None);
+        self.revealed.push_within_room(OptionalNumber::of(None));
         self.bases.push_within_room(face);
     }
 
@@ -199,7 +199,7 @@ impl Growing {
             cut,
             until,
         );
-        self.splitters[split.s as usize] = Some(number);
+        self.splitters[split.s as usize] = OptionalNumber::of(Some(number));
         self.coming = Some(split);
     }
 
@@ -213,7 +213,8 @@ impl Growing {
     {
         let number = self.records.len() as u32;
         self.faces.push_within_room(face.face);
-        self.revealed.push_within_room(Some(number));
+        self.revealed
+            .push_within_room(OptionalNumber::of(Some(number)));
         set_face(&mut self.coming, left, face);
     }
 

@@ -8,6 +8,7 @@ ghost use Rattle.pm_forest.specs.Meshes.{
   leaf_place,
   input_of_node,
   leaf_input,
+  AreInputVertices,
   face_input,
   leaf_corners,
   input_corners,
@@ -92,8 +93,7 @@ fn leaf_faces(h: &Hierarchy, alloc: Global) -> Result<Triples, OutOfMemory>
 // The input vertex of each leaf. Faces ask for each leaf about six times and in no order; without this table each
 // question would read the leaf's node and then a record.
 fn vertices_by_leaf(h: &Hierarchy, alloc: Global) -> Result<Items<u32>, OutOfMemory>
-    ensures { IfOk result
-        (λ vertices. vertices.items ≡ map (λ x. leaf_input h.now x - 1) (range_with_len 0 (leaf_count h.now))) }
+    ensures { IfOk result (λ vertices. AreInputVertices h.now vertices.items) }
 {
     let mut vertices = Items::new(alloc);
     vertices.reserve(h.leaves() as usize)?;
@@ -106,7 +106,7 @@ fn vertices_by_leaf(h: &Hierarchy, alloc: Global) -> Result<Items<u32>, OutOfMem
 // The input vertex of a leaf, out of the table of all.
 fn vertex_of(h: &Hierarchy, vertices: &[u32], leaf: u32) -> u32
     requires leaf { leaf < leaf_count h.now }
-    requires table { vertices.now ≡ map (λ x. leaf_input h.now x - 1) (range_with_len 0 (leaf_count h.now)) }
+    requires table { AreInputVertices h.now vertices.now }
     ensures value { result ≡ leaf_input h.now leaf - 1 }
     ensures below { result < leaf_count h.now }
 {
@@ -116,7 +116,7 @@ fn vertex_of(h: &Hierarchy, vertices: &[u32], leaf: u32) -> u32
 
 // The leaf of each input vertex.
 fn leaves_by_input(h: &Hierarchy, vertices: &[u32], alloc: Global) -> Result<Vec<u32>, OutOfMemory>
-    requires { vertices.now ≡ map (λ x. leaf_input h.now x - 1) (range_with_len 0 (leaf_count h.now)) }
+    requires { AreInputVertices h.now vertices.now }
     ensures len { IfOk result (λ leaves. length leaves.items ≡ leaf_count h.now) }
     ensures each { IfOk result
         (λ leaves. (i : ℕ) → i < leaf_count h.now → slice_index_or leaves.items i 0 ≡ leaf_of_input h.now i) }
@@ -144,7 +144,7 @@ fn faces_by_input(h: &Hierarchy, alloc: Global) -> Result<Vec<u32>, OutOfMemory>
 
 // The places of the input's vertices.
 fn input_points(h: &Hierarchy, vertices: &[u32], alloc: Global) -> Result<Points, OutOfMemory>
-    requires { vertices.now ≡ map (λ x. leaf_input h.now x - 1) (range_with_len 0 (leaf_count h.now)) }
+    requires { AreInputVertices h.now vertices.now }
     ensures { IfOk result (λ points. points.items ≡ map (input_place h.now) (range_with_len 0 (leaf_count h.now))) }
 {
     let leaves = leaves_by_input(h, vertices, alloc)?;
@@ -160,7 +160,7 @@ fn input_points(h: &Hierarchy, vertices: &[u32], alloc: Global) -> Result<Points
 #[tactic(auto, using(crate::proofs::MeshLaws::corners_in))]
 fn input_corners(h: &Hierarchy, vertices: &[u32], f: u32) -> Corners
     requires face { f < face_count h.now }
-    requires table { vertices.now ≡ map (λ x. leaf_input h.now x - 1) (range_with_len 0 (leaf_count h.now)) }
+    requires table { AreInputVertices h.now vertices.now }
     ensures { result ≡ input_corners h.now (corners_of h.now f) }
 {
     h.invariant();
@@ -174,7 +174,7 @@ fn input_corners(h: &Hierarchy, vertices: &[u32], f: u32) -> Corners
 
 // The corners of the input's faces.
 fn input_faces(h: &Hierarchy, vertices: &[u32], alloc: Global) -> Result<Triples, OutOfMemory>
-    requires { vertices.now ≡ map (λ x. leaf_input h.now x - 1) (range_with_len 0 (leaf_count h.now)) }
+    requires { AreInputVertices h.now vertices.now }
     ensures { IfOk result (λ faces. faces.items ≡ map (input_face h.now) (range_with_len 0 (face_count h.now))) }
 {
     let numbers = faces_by_input(h, alloc)?;

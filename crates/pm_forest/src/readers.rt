@@ -97,7 +97,7 @@ impl Growing {
         requires { node < node_count (grown self.now) }
         ensures { result ≡ splitter_of (grown self.now) node }
     {
-        self.splitters[node as usize]
+        self.splitters[node as usize].get()
     }
 
     /// The node of a leaf, once it has one of its own.
@@ -122,6 +122,6 @@ impl Growing {
         requires { f < face_count (grown self.now) }
         ensures { result ≡ revealed_by (grown self.now) f }
     {
-        *self.revealed.get(f as usize)
+        self.revealed.get(f as usize).get()
     }
 }

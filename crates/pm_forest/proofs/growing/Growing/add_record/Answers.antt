@@ -1,4 +1,4 @@
-use Rattle.std.proofs.Common.{◌≡◌, ◌+◌, ◌*◌, ◌∙◌, ap, length, sym, subst, arith}
+use Rattle.std.proofs.Common.{◌≡◌, ◌+◌, ◌*◌, ◌∙◌, Some, ap, length, sym, subst, arith}
 use Rattle.pm_forest.proofs.LeafNodes.{length-noted}
 use Rattle.pm_forest.proofs.GrowingLaws.{TakesRecord}
 use Rattle.pm_forest.proofs.GrowthLaws.{split_leaves_fit, record_added}
@@ -57,5 +57,5 @@ invariant_of-self c =
     let node : c.len.result + 2 * c.len-number.result ≡ length c.self.inside.roots.items + 2 * length c.self.inside.records.items =
     omega (arith, c.len.ensures, c.len-number.ensures) in
     record_added c.self.invariant c.args.split seen _ _ _ _ _ _
-    c.index.result.now c.index.ensures node c.len-number.ensures
+    c.index.result.now c.index.ensures node (c.of.ensures ∙ ap Some c.len-number.ensures)
     c.note_node.ensures.intervals c.note_node.ensures.leaf_nodes c.note_node-2.ensures.intervals c.note_node-2.ensures.leaf_nodes
