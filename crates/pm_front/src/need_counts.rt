@@ -12,6 +12,7 @@ ghost use Rattle.pm_front.specs.Needed.{revealer_of, times_in, times_named, AreR
 use crate::OutOfMemory;
 use pm_base::{NodeId, Side};
 use pm_forest::Hierarchy;
+use pm_sets::NumberSet;
 use std::alloc::Global;
 use std::marker::Model;
 
@@ -120,7 +121,7 @@ impl NeedCounts {
     }
 
     /// Counts what record `k` needs, which comes to the set. O(1).
-    pub fn add(&mut self, h: &Hierarchy, _set: &[bool], k: u32)
+    pub fn add(&mut self, h: &Hierarchy, _set: &NumberSet, k: u32)
         requires record { k < record_count h.now }
         requires absent { set_of _set.now k ≡ false }
         requires counts { AreNeedCounts h.now (set_of _set.now) self.old }
@@ -131,7 +132,7 @@ impl NeedCounts {
     }
 
     /// No longer counts what record `k` needs, which has left the set. O(1).
-    pub fn take_away(&mut self, h: &Hierarchy, _set: &[bool], k: u32)
+    pub fn take_away(&mut self, h: &Hierarchy, _set: &NumberSet, k: u32)
         requires record { k < record_count h.now }
         requires absent { set_of _set.now k ≡ false }
         requires counts { AreNeedCounts h.now (with (set_of _set.now) k) self.old }

@@ -52,7 +52,7 @@ impl Falls {
         ensures put { self.new.records ≡ slice_set self.old.records k true }
         ensures counts { AreNeedCounts h.now (set_of self.new.records) self.new.needs }
     {
-        self.needs.add(h, self.records.flags(), k);
+        self.needs.add(h, &self.records, k);
         self.records.insert(k);
     }
 
@@ -67,7 +67,7 @@ impl Falls {
         ensures counts { AreNeedCounts h.now (set_of self.new.records) self.new.needs }
     {
         let k = self.records.take_last()?;
-        self.needs.take_away(h, self.records.flags(), k);
+        self.needs.take_away(h, &self.records, k);
         Some(k)
     }
 

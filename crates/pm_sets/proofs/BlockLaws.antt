@@ -1,43 +1,104 @@
--- Which block a number stands in, and what the counts of blocks say of the flags.
-use Rattle.std.proofs.Common.{◌≡◌, ℕ, ◌+◌, ◌<◌, ◌≤◌, ◌*◌, ◌/◌, Bool, false, get_or, List, length, ap, arith}
-use Rattle.std.proofs.lemmas.Bool.{false_from_ne_true}
-use Rattle.std.proofs.Math.Nat.{mul-div-le, lt-mul-div-succ, div-eq_of_lt-le, le-div_iff_mul-le, div-lt_iff_lt-mul}
-use Rattle.pm_sets.specs.Sets.{IsGap}
+-- What the flag of a block of 64 numbers says of its numbers, and what a write of one number does to it.
+use Rattle.std.proofs.Common.{◌≡◌, ◌≢◌, ℕ, ◌+◌, ◌*◌, ◌/◌, ◌<◌, ◌≤◌, ◌↔◌, Bool, true, false, List, length, set, inl, inr, Option, None, Some, refl, sym, subst, ◌∙◌, arith}
+use Rattle.std.proofs.lemmas.Bool.{cases_lt, cases_eq, both_ways}
+use Rattle.std.proofs.lemmas.List.{length-set}
+use Rattle.std.specs.Option.{is_some, IfSome, IfNone}
 use Rattle.pm_base.specs.Counts.{set_of}
-use Rattle.pm_sets.specs.Counted.{AreBlockCounts}
-use Rattle.pm_sets.proofs.Ranges.{none_passes}
-use Rattle.pm_sets.proofs.FlagLaws.{some_members}
+use Rattle.pm_sets.specs.Sets.{IsEmptySet, IsGap, IsFirst, IsLast}
+use Rattle.pm_sets.specs.Bits.{AreBlocks}
+use Rattle.pm_sets.proofs.FlagLaws.{out_of_bound, set_here, set_other}
+use Rattle.pm_sets.proofs.OrderLaws.{gap_join, first_after, last_before, no_member}
 
-module _ (size : ℕ) (some : 0 < size) where
-  pub block_low : (n : ℕ) → size * (n / size) ≤ n
-  block_low n = mul-div-le n size
+module _ (numbers blocks : List Bool) (are : AreBlocks numbers blocks) where
+  clear_block : (b : ℕ) → set_of blocks b ≡ false → IsGap numbers (64 * b) (64 * b + 64)
+  clear_block b clear j low high =
+      elim (cases_lt b (length blocks)) [
+        | inl l ↦ (are.each b l).0 clear j low high
+        | inr past ↦ out_of_bound numbers j (omega (arith, are.long, past, low))
+      ]
 
-  pub block_high : (n : ℕ) → n < size * (n / size) + size
-  block_high n = let l = lt-mul-div-succ n some in omega (arith, l)
+  -- blocks without numbers are a gap of numbers
+  clear_blocks : (a b : ℕ) → IsGap blocks a b → IsGap numbers (64 * a) (64 * b)
+  clear_blocks a b gap j low high =
+      clear_block (j / 64) (gap (j / 64) (omega (arith, low)) (omega (arith, high))) j (omega arith) (omega arith)
 
-  pub block_is : (n b : ℕ) → size * b ≤ n → n < size * b + size → n / size ≡ b
-  block_is n b low high = div-eq_of_lt-le size (omega (arith, low)) (omega (arith, high))
+  gap_to_end : (a : ℕ) → IsGap blocks a (length blocks) → IsGap numbers (64 * a) (length numbers)
+  gap_to_end a gap j low high = clear_blocks a (length blocks) gap j low (omega (arith, are.long, high))
 
-  pub block_below : (n m : ℕ) → n < m → n / size < m / size + 1
-  block_below n m l = (div-lt_iff_lt-mul some).1 (let h = block_high m in omega (arith, l, h))
+  -- no number in the rest of its block, and none in the blocks after it
+  pub none_after : (at : ℕ) → IsGap numbers at (64 * (at / 64) + 64) → IsGap blocks (at / 64 + 1) (length blocks) → IsGap numbers at (length numbers)
+  none_after at here later =
+      gap_join numbers at (64 * (at / 64) + 64) (length numbers) here (λ j low high. gap_to_end (at / 64 + 1) later j (omega (arith, low)) high)
 
-  module _ (flags : List Bool) (counts : List ℕ) (are : AreBlockCounts size flags counts) where
-    empty_block : (b : ℕ) → b < length counts → get_or counts b 0 ≡ 0 → (y : ℕ) → size * b ≤ y → y < size * b + size → set_of flags y ≡ false
-    empty_block b l none y low high =
-        false_from_ne_true (set_of flags y) (λ there. absurd (omega (arith, are.each b l, none, some_members flags (size * b) size y low high there)))
+  pub first_in_blocks : (at block k : ℕ) → IsGap numbers at (64 * (at / 64) + 64) → IsFirst blocks (at / 64 + 1) block → IsFirst numbers (64 * block) k
+      → IsFirst numbers at k
+  first_in_blocks at block k here far first =
+      let between : IsGap numbers (64 * (at / 64) + 64) (64 * block) = λ j low high. clear_blocks (at / 64 + 1) block far.none j (omega (arith, low)) high in
+      first_after numbers at (64 * block) k (omega (arith, far.from)) (gap_join numbers at _ _ here between) first
 
-    pub filled_block : (b : ℕ) → b < length counts → 0 < get_or counts b 0 → IsGap flags (size * b) (size * b + size) → ⊥
-    filled_block b l many none =
-        let all = ap length (none_passes (set_of flags) (size * b) size none) in
-        omega (arith, are.each b l, many, all)
+  pub none_at_all : IsEmptySet blocks → IsEmptySet numbers
+  none_at_all none = no_member numbers (gap_to_end 0 (λ j low high. none j))
 
-    pub empty_blocks : (b e : ℕ) → e ≤ length counts → ((i : ℕ) → b ≤ i → i < e → get_or counts i 0 ≡ 0) → IsGap flags (size * b) (size * e)
-    empty_blocks b e most none y low high =
-        let i = y / size in
-        let from : b ≤ i = (le-div_iff_mul-le some).1 (omega (arith, low)) in
-        let below : i < e = (div-lt_iff_lt-mul some).1 (omega (arith, high)) in
-        empty_block i (omega (arith, below, most)) (none i from below) y (block_low y) (block_high y)
+  pub last_in_blocks : (block k : ℕ) → IsLast blocks (length blocks) block → IsLast numbers (64 * block + 64) k → IsLast numbers (length numbers) k
+  last_in_blocks block k far last =
+      let after : IsGap blocks (block + 1) (length blocks) = λ b low high. far.none b (omega (arith, low)) high in
+      last_before numbers (64 * block + 64) k last (λ j low high. gap_to_end (block + 1) after j (omega (arith, low)) high)
 
-    -- the blocks reach past the bound
-    pub all_blocks : length flags < size * length counts
-    all_blocks = let h = block_high (length flags) in let is = ap (λ m. size * m) are.blocks in omega (arith, h, is)
+  -- a number is written, and the flag of its block alone
+  module _ (n : ℕ) (n_lt : n < length numbers) (value : Bool) where
+    abbrev after : List Bool
+    after = set numbers n value
+
+    abbrev IsGapOf : ℕ → Type 0
+    IsGapOf b = IsGap after (64 * b) (64 * b + 64)
+
+    other_block : (b : ℕ) → b ≢ n / 64 → b < length blocks → (set_of blocks b ≡ false) ↔ IsGapOf b
+    other_block b other low =
+        let same : (j : ℕ) → 64 * b ≤ j → j < 64 * b + 64 → set_of after j ≡ set_of numbers j =
+        λ j from below. set_other numbers n n_lt value j (λ is. other (omega (arith, from, below, is))) in (
+          λ clear j from below. same j from below ∙ clear_block b clear j from below,
+          λ gap. (are.each b low).1 (λ j from below. sym (same j from below) ∙ gap j from below),
+        )
+
+    written : (flags : List Bool) → length flags ≡ length blocks → ((b : ℕ) → b ≢ n / 64 → set_of flags b ≡ set_of blocks b)
+        → (set_of flags (n / 64) ≡ false) ↔ IsGapOf (n / 64) → AreBlocks after flags
+    written flags long others here = record {
+      few = omega (arith, are.few, length-set numbers n value);
+      long = omega (arith, are.long, long, length-set numbers n value);
+      each = λ b low.
+          elim (cases_eq b (n / 64)) [
+            | inl is ↦ subst (λ b. (set_of flags b ≡ false) ↔ IsGapOf b) (sym is) here
+            | inr other ↦ subst (λ flag. (flag ≡ false) ↔ IsGapOf b) (sym (others b other)) (other_block b other (omega (arith, low, long)))
+          ];
+    }
+
+    flag_written : (flag : Bool) → (flag ≡ false) ↔ IsGapOf (n / 64) → AreBlocks after (set blocks (n / 64) flag)
+    flag_written flag here =
+        let there : n / 64 < length blocks = omega (arith, are.long, n_lt) in
+        written (set blocks (n / 64) flag) (length-set blocks (n / 64) flag) (set_other blocks (n / 64) there flag)
+        (subst (λ b. (b ≡ false) ↔ IsGapOf (n / 64)) (sym (set_here blocks (n / 64) there flag)) here)
+
+  module _ (n : ℕ) (n_lt : n < length numbers) where
+    pub put_in : AreBlocks (set numbers n true) (set blocks (n / 64) true)
+    put_in = flag_written n n_lt true true (
+      λ clear. absurd (both_ways _ clear refl),
+      λ gap. absurd (both_ways _ (gap n (omega arith) (omega arith)) (set_here numbers n n_lt true)),
+    )
+
+    -- a number is taken out, and its block has none left
+    pub taken_last : (found : Option ℕ) → is_some found ≡ false → IfNone found (IsGap (set numbers n false) (64 * (n / 64)) (64 * (n / 64) + 64))
+        → AreBlocks (set numbers n false) (set blocks (n / 64) false)
+    taken_last None none gap = flag_written n n_lt false false (λ clear. gap, λ same. refl)
+    taken_last (Some k) none gap = absurd (both_ways _ none refl)
+
+    -- a number is taken out, and its block still has one
+    pub taken_out : (found : Option ℕ) → is_some found ≡ true → IfSome found (IsLast (set numbers n false) (64 * (n / 64) + 64))
+        → IfSome found (λ k. 64 * (n / 64) ≤ k) → AreBlocks (set numbers n false) blocks
+    taken_out None some last from = absurd (both_ways _ refl some)
+    taken_out (Some k) some last from =
+        let apart : k ≢ n = λ is. both_ways _ (subst (λ j. set_of (set numbers n false) j ≡ false) (sym is) (set_here numbers n n_lt false)) last.there in
+        let was : set_of numbers k ≡ true = sym (set_other numbers n n_lt false k apart) ∙ last.there in
+        written n n_lt false blocks refl (λ b other. refl) (
+          λ clear. absurd (both_ways _ (clear_block (n / 64) clear k from last.below) was),
+          λ gap. absurd (both_ways _ (gap k from last.below) last.there),
+        )

@@ -1,10 +1,10 @@
 -- A list of flags after one is set or taken away, and how many numbers of a range it then has.
-use Rattle.std.proofs.Common.{◌≡◌, ◌≢◌, ℕ, suc, ◌+◌, ◌<◌, ◌≤◌, Bool, true, false, set, replicate, List, [], length, inl, inr, sym, ap, arith}
+use Rattle.std.proofs.Common.{◌≡◌, ◌≢◌, ℕ, suc, ◌+◌, ◌<◌, ◌≤◌, Bool, true, false, set, replicate, List, [], length, inl, inr, sym, arith}
 use Rattle.std.proofs.lemmas.Bool.{cases_lt, both_ways}
 use Rattle.std.proofs.lemmas.List.{get_or_past, get_or-set_same, get_or-set_other, get_or-replicate, length-replicate}
 use Rattle.pm_base.specs.Counts.{set_of}
 use Rattle.pm_sets.specs.Counted.{members_in}
-use Rattle.pm_sets.proofs.Ranges.{none_passes, some_passes, at_most_all, same_pass, one_more}
+use Rattle.pm_sets.proofs.Ranges.{none_passes, at_most_all, one_more}
 
 pub in_below : (flags : List Bool) (x : ℕ) → set_of flags x ≡ true → x < length flags
 in_below flags x there = elim (cases_lt x (length flags)) [ inl l ↦ l | inr past ↦ absurd (both_ways _ (get_or_past flags x false past) there) ]
@@ -22,9 +22,6 @@ none_in_empty n y =
 pub no_members : (n a m : ℕ) → members_in (replicate n false) a m ≡ []
 no_members n a m = none_passes (set_of (replicate n false)) a m (λ y low high. none_in_empty n y)
 
-pub some_members : (flags : List Bool) (a m y : ℕ) → a ≤ y → y < a + m → set_of flags y ≡ true → 0 < length (members_in flags a m)
-some_members flags a m = some_passes (set_of flags) a m
-
 pub few_members : (flags : List Bool) (a m : ℕ) → length (members_in flags a m) ≤ m
 few_members flags = at_most_all (set_of flags)
 
@@ -41,6 +38,3 @@ module _ (flags : List Bool) (n : ℕ) (n_lt : n < length flags) where
 
   pub less_in : (a m : ℕ) → set_of flags n ≡ true → a ≤ n → n < a + m → length (members_in flags a m) ≡ suc (length (members_in (set flags n false) a m))
   less_in a m was low high = one_more (set_of (set flags n false)) (set_of flags) a m n low high (set_here false) was (λ y other. sym (set_other false y other))
-
-  pub same_out : (b : Bool) (a m : ℕ) → ((y : ℕ) → a ≤ y → y < a + m → y ≢ n) → length (members_in flags a m) ≡ length (members_in (set flags n b) a m)
-  same_out b a m out = ap length (same_pass (set_of flags) (set_of (set flags n b)) a m (λ y low high. sym (set_other b y (out y low high))))

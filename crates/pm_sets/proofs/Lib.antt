@@ -2,7 +2,7 @@
 pub mod Ranges
 pub mod FlagLaws
 pub mod OrderLaws
--- the counts of blocks, and searches past blocks that have none
+-- the bits of a word, flags that stand in words, and blocks of flags
+mod WordLaws
+mod BitLaws
 mod BlockLaws
-mod CountLaws
-mod Searches

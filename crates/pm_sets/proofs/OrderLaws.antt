@@ -1,5 +1,5 @@
 -- Gaps, and the first and the last number of a set: they are joined and carried on, and there is one alone.
-use Rattle.std.proofs.Common.{◌≡◌, ℕ, ◌≤◌, min, Bool, List, length, inl, inr, arith}
+use Rattle.std.proofs.Common.{◌≡◌, ℕ, ◌≤◌, Bool, List, length, inl, inr, arith}
 use Rattle.std.proofs.lemmas.Bool.{cases_lt, both_ways}
 use Rattle.pm_sets.specs.Sets.{IsEmptySet, IsGap, IsFirst, IsLast}
 use Rattle.pm_sets.proofs.FlagLaws.{in_below, out_of_bound}
@@ -7,14 +7,6 @@ use Rattle.pm_sets.proofs.FlagLaws.{in_below, out_of_bound}
 module _ (flags : List Bool) where
   pub gap_join : (a b c : ℕ) → IsGap flags a b → IsGap flags b c → IsGap flags a c
   gap_join a b c one two j low high = elim (cases_lt j b) [ inl l ↦ one j low l | inr past ↦ two j past high ]
-
-  -- a gap up to the bound goes on past it
-  pub gap_far : (a b c d : ℕ) → IsGap flags a b → a ≤ c → min (length flags) d ≤ b → IsGap flags c d
-  gap_far a b c d gap order far j low high =
-      elim (cases_lt j (length flags)) [
-        | inl l ↦ gap j (omega (arith, order, low)) (omega (arith, far, l, high))
-        | inr past ↦ out_of_bound flags j past
-      ]
 
   pub no_member : IsGap flags 0 (length flags) → IsEmptySet flags
   no_member gap j = elim (cases_lt j (length flags)) [ inl l ↦ gap j (omega arith) l | inr past ↦ out_of_bound flags j past ]

@@ -8,18 +8,6 @@ none_passes p a zero none = refl
 none_passes p a (suc n) none =
     rw (none a (omega arith) (omega arith)) (none_passes p (a + 1) n (λ y low high. none y (omega arith) (omega arith)))
 
-pub some_passes : (p : ℕ → Bool) (a n x : ℕ) → a ≤ x → x < a + n → p x ≡ true → 0 < length (filter p (range_with_len a n))
-some_passes p a zero x low high pass = absurd (omega arith)
-some_passes p a (suc n) x low high pass =
-    elim (cases_Bool (p a)) [
-      | inl t ↦ rw t (omega arith)
-      | inr f ↦
-          elim (cases_eq a x) [
-            | inl is ↦ (let here : p a ≡ true = ap p is ∙ pass in rw here (omega arith))
-            | inr other ↦ rw f (some_passes p (a + 1) n x (omega arith) (omega arith) pass)
-          ]
-    ]
-
 pub at_most_all : (p : ℕ → Bool) (a n : ℕ) → length (filter p (range_with_len a n)) ≤ n
 at_most_all p a zero = omega arith
 at_most_all p a (suc n) =

@@ -1,5 +1,5 @@
 -- Sets of numbers below a bound: a flag for each number.
-use Rattle.std.specs.Prelude.{◌≡◌, ℕ, ◌<◌, ◌≤◌, Bool, true, false, List, slice_index_or}
+use Rattle.std.specs.Prelude.{◌≡◌, ℕ, ◌<◌, ◌≤◌, Bool, true, false, List}
 use Rattle.pm_base.specs.Counts.{set_of}
 
 -- No number is.

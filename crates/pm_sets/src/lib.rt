@@ -1,8 +1,8 @@
 //! Sets of numbers below a bound, which give their numbers in order.
 #![tactic(auto)]
 
-mod blocks;
-mod scans;
+mod bits;
 mod set;
+mod words;
 
 pub use set::{BOUND_LIMIT, NumberSet, OutOfMemory};

@@ -1,9 +1,10 @@
-//! A set of numbers: a flag for each, and how many there are in each block.
+//! A set of numbers: a bit for each, and a bit for each 64 of them.
 ghost use Rattle.std.specs.Prelude.{◌≡◌, ◌<◌, ◌≤◌, true, false, length, replicate, slice_set, IfOk, IfSome, IfNone};
 ghost use Rattle.pm_sets.specs.Sets.{IsEmptySet, IsGap, IsFirst, IsLast};
 ghost use Rattle.pm_base.specs.Counts.{set_of};
 
-use crate::blocks::{BLOCK, LARGE, first_from, last_of};
+use crate::bits::Bits;
+use crate::words::WORD;
 use std::alloc::{AllocError, Global};
 use std::marker::Model;
 
@@ -18,27 +19,25 @@ const _: () = prove!(BOUND_LIMIT == 4_194_304);
 
 /// A set of numbers below a bound. Contracts see a flag for each number below the bound.
 ///
-/// A search passes over 64 or 4,096 numbers at once where none of them is in the set: it looks at 128 flags and 128 counts at
-/// most, and at one count for each 4,096 numbers that it passes over.
+/// It takes a bit for each number, and one for each block of 64 numbers, which is set where one of them is in the set. A
+/// search looks at two words of bits of numbers, and at one word of bits of blocks for each 4,096 numbers that it passes over.
 #[derive(Drop)]
 pub struct NumberSet {
     // Set where the number is in the set.
-    flags: Vec<bool>,
-    // How many numbers of each small block are.
-    small: Vec<u32>,
-    // How many of each large block.
-    large: Vec<u32>,
+    numbers: Bits,
+    // Set where a number of the block is.
+    blocks: Bits,
 }
 
 impl Model for NumberSet {
     ghost use Rattle.std.specs.Prelude.{Bool, List};
-    ghost use Rattle.pm_sets.specs.Counted.{AreCounted};
+    ghost use Rattle.pm_sets.specs.Bits.{AreBlocks};
 
     ghost Value = { List Bool };
 
-    ghost view = { λ s. s.flags.items };
+    ghost view = { λ s. s.numbers };
 
-    ghost invariant = { λ s. AreCounted s.flags.items s.small.items s.large.items };
+    ghost invariant = { λ s. AreBlocks s.numbers s.blocks };
 }
 
 impl NumberSet {
@@ -47,21 +46,9 @@ impl NumberSet {
         requires { bound ≤ BOUND_LIMIT }
         ensures { IfOk result (λ s. s ≡ replicate bound false) }
     {
-        let flags = vec![in alloc; false; bound as usize]?;
-        let small = vec![in alloc; 0; bound as usize / BLOCK + 1]?;
-        let large = vec![in alloc; 0; bound as usize / LARGE + 1]?;
-        Ok(NumberSet {
-            flags,
-            small,
-            large,
-        })
-    }
-
-    /// A flag for each number below the bound: whether it is in the set.
-    pub fn flags(&self) -> &[bool]
-        ensures { result.now ≡ self.now }
-    {
-        &self.flags
+        let numbers = Bits::new(alloc, bound)?;
+        let blocks = Bits::new(alloc, bound / WORD + 1)?;
+        Ok(NumberSet { numbers, blocks })
     }
 
     /// Whether a number is in the set. O(1) time.
@@ -69,7 +56,7 @@ impl NumberSet {
         requires { number < length self.now }
         ensures { result ≡ set_of self.now number }
     {
-        self.flags[number as usize]
+        self.numbers.has(number)
     }
 
     /// Puts a number in, if it isn't there. O(1) time.
@@ -77,11 +64,8 @@ impl NumberSet {
         requires { number < length self.old }
         ensures { self.new ≡ slice_set self.old number true }
     {
-        if !self.has(number) {
-            self.flags[number as usize] = true;
-            self.small[number as usize / BLOCK] += 1;
-            self.large[number as usize / LARGE] += 1;
-        }
+        self.numbers.insert(number);
+        self.blocks.insert(number / WORD);
     }
 
     /// Takes a number out, if it is there. O(1) time.
@@ -89,10 +73,10 @@ impl NumberSet {
         requires { number < length self.old }
         ensures { self.new ≡ slice_set self.old number false }
     {
-        if self.has(number) {
-            self.flags[number as usize] = false;
-            self.small[number as usize / BLOCK] -= 1;
-            self.large[number as usize / LARGE] -= 1;
+        self.numbers.remove(number);
+        let block = number / WORD;
+        if self.numbers.last_in_word(block).is_none() {
+            self.blocks.remove(block);
         }
     }
 
@@ -102,7 +86,11 @@ impl NumberSet {
         ensures some { IfSome result (IsFirst self.now at) }
         ensures none { IfNone result (IsGap self.now at (length self.now)) }
     {
-        first_from(&self.flags, &self.small, &self.large, at as usize)
+        if let Some(number) = self.numbers.first_in_word(at) {
+            return Some(number);
+        }
+        let block = self.blocks.first_from(at / WORD + 1)?;
+        self.numbers.first_in_word(WORD * block)
     }
 
     /// The last number of the set.
@@ -110,7 +98,8 @@ impl NumberSet {
         ensures some { IfSome result (IsLast self.now (length self.now)) }
         ensures none { IfNone result (IsEmptySet self.now) }
     {
-        last_of(&self.flags, &self.small, &self.large)
+        let block = self.blocks.last()?;
+        self.numbers.last_in_word(block)
     }
 
     /// The first number of the set, which is taken out.
