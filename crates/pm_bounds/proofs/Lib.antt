@@ -8,4 +8,5 @@ pub mod GrownLaws
 pub mod FacesUnder
 pub mod ListLaws
 pub mod Covering
+pub mod SplitBalls
 pub mod NodeTables

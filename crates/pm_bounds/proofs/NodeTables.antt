@@ -13,11 +13,12 @@ use Rattle.pm_bounds.specs.declared.balls.Ball.{Ball}
 use Rattle.pm_bounds.specs.declared.leaves.LeafBounds.{LeafBounds}
 use Rattle.pm_bounds.specs.declared.normal_box.NormalBox.{NormalBox}
 use Rattle.pm_bounds.specs.Boxes.{join, IsSmallBox}
-use Rattle.pm_bounds.specs.Bounds.{AreBoundsOf, leaf_radius, error_of, radius_of, box_under}
+use Rattle.pm_bounds.specs.Bounds.{AreBoundsOf, bare_at, leaf_radius, error_of, radius_of, box_under}
 use Rattle.pm_bounds.specs.Leaves.{bare_leaf_at, AreSeen}
-use Rattle.pm_bounds.specs.Tables.{bare_at, bound_lists_of, places_of, errors_of, radii_of, ArePlaces, AreBare, AreAtMost, AreSmallBoxes, AreOfLeaves, IsBounds, grown_at}
+use Rattle.pm_bounds.specs.Tables.{bound_lists_of, places_of, errors_of, radii_of, ArePlaces, AreBare, AreAtMost, AreSmallBoxes, AreOfLeaves, IsBounds, grown_at}
 use Rattle.pm_bounds.proofs.GrownLaws.{IsGrown, AreJoined, grown_start, grown_step, joined_start, joined_step}
 use Rattle.pm_bounds.proofs.Nodes.{few_nodes, split_node, leaf_node-apart, has_leaf}
+use Rattle.pm_bounds.proofs.SplitBalls.{AreCopied, copied_start, copied_step, copied_reads}
 use Rattle.pm_bounds.proofs.TableLaws.{kept}
 
 -- a ball that is read, and what is known of it
@@ -122,7 +123,7 @@ given_more h shape leaves seen n l old new old_boxes new_boxes was len places er
     }
 
 -- all leaves
-pub given_all : (h : Hierarchy) → HasShape h → (n : ℕ) (balls : List Ball) (boxes : List (Option NormalBox)) → n ≡ leaf_count h → AreGiven h n balls boxes → AreOfLeaves h (bound_lists_of balls boxes)
+pub given_all : (h : Hierarchy) → HasShape h → (n : ℕ) (balls : List Ball) (boxes : List (Option NormalBox)) → n ≡ leaf_count h → AreGiven h n balls boxes → AreOfLeaves h balls boxes
 given_all h shape n balls boxes all was = record {
   places = was.places;
   errors = was.errors;
@@ -135,18 +136,19 @@ given_all h shape n balls boxes all was = record {
 }
 
 -- The tables once the records from k on have been gone through.
-pub record AreGrown (h : Hierarchy) (first balls : List Ball) (table : List (Option NormalBox)) (k : ℕ) : Type 0 where
+pub record AreGrown (h : Hierarchy) (first balls : List Ball) (table : List (Option NormalBox)) (splits : List Ball) (k : ℕ) : Type 0 where
   pub len : length balls ≡ node_count h
   pub places : ArePlaces h (places_of balls)
   pub errors : IsGrown h (errors_of first) (errors_of balls) k
   pub radii : IsGrown h (radii_of first) (radii_of balls) k
   pub boxes : AreJoined h table k
+  pub copied : AreCopied h balls splits k
 
-module _ (h : Hierarchy) (shape : HasShape h) (first : List Ball) (first_boxes : List (Option NormalBox)) (own : AreOfLeaves h (bound_lists_of first first_boxes)) where
+module _ (h : Hierarchy) (shape : HasShape h) (first : List Ball) (first_boxes : List (Option NormalBox)) (own : AreOfLeaves h first first_boxes) where
   -- before any record
-  pub table_start : length first ≡ node_count h → length first_boxes ≡ node_count h → AreAtMost 113509 (radii_of first) → AreSmallBoxes first_boxes →
-      AreGrown h first first first_boxes (record_count h)
-  table_start len boxes_len small small_boxes =
+  pub table_start : (splits : List Ball) → length first ≡ node_count h → length first_boxes ≡ node_count h → length splits ≡ record_count h →
+      AreAtMost 113509 (radii_of first) → AreSmallBoxes first_boxes → AreGrown h first first first_boxes splits (record_count h)
+  table_start splits len boxes_len splits_len small small_boxes =
       let errors : length (errors_of first) ≡ node_count h = length-map first (λ (b : Ball). b.error) ∙ len in
       let radii : length (radii_of first) ≡ node_count h = length-map first (λ (b : Ball). b.radius) ∙ len in
       record {
@@ -155,16 +157,17 @@ module _ (h : Hierarchy) (shape : HasShape h) (first : List Ball) (first_boxes :
         errors = grown_start h shape (errors_of first) errors (λ v l. (let is = own.errors v l in omega arith));
         radii = grown_start h shape (radii_of first) radii (λ v l. small v (omega arith));
         boxes = joined_start h shape first_boxes boxes_len own.boxes small_boxes;
+        copied = copied_start h first splits splits_len;
       }
 
   -- one record more
-  pub table_step : (old : List Ball) (old_boxes new_boxes : List (Option NormalBox)) (k : ℕ) (b : Ball) → k < record_count h → AreGrown h first old old_boxes (suc k) →
+  pub table_step : (old : List Ball) (old_boxes new_boxes : List (Option NormalBox)) (old_splits : List Ball) (k : ℕ) (b : Ball) → k < record_count h → AreGrown h first old old_boxes old_splits (suc k) →
       b.place ≡ place_of_node h (s_of h k) →
       b.error ≡ grown_at h (errors_of old) k → b.error ≤ 113509 * (1 + (record_count h - suc k)) + 113509 →
       b.radius ≡ grown_at h (radii_of old) k → b.radius ≤ 113509 * (1 + (record_count h - suc k)) + 113509 →
       new_boxes ≡ set old_boxes (s_of h k) (join (get_or old_boxes (t_of h k) None) (get_or old_boxes (u_of h k) None)) →
-      AreGrown h first (set old (s_of h k) b) new_boxes k
-  table_step old old_boxes new_boxes k b l was place error small_error radius small_radius boxes =
+      AreGrown h first (set old (s_of h k) b) new_boxes (set old_splits k b) k
+  table_step old old_boxes new_boxes old_splits k b l was place error small_error radius small_radius boxes =
       let node = split_node h shape k l in
       let len = was.len in
       record {
@@ -176,29 +179,60 @@ module _ (h : Hierarchy) (shape : HasShape h) (first : List Ball) (first_boxes :
             (grown_step h shape (radii_of first) (radii_of old) k b.radius l was.radii radius small_radius);
         boxes = subst (λ (t : List (Option NormalBox)). AreJoined h t k) (sym boxes)
             (joined_step h shape old_boxes k (join (get_or old_boxes (t_of h k) None) (get_or old_boxes (u_of h k) None)) l was.boxes refl);
+        copied = copied_step h shape old old_splits len k b l was.copied;
       }
 
   -- all records
-  pub table_bounds : (balls : List Ball) (boxes : List (Option NormalBox)) → AreGrown h first balls boxes 0 → AreBoundsOf h (bound_lists_of balls boxes)
-  unfolding error_of radius_of
-  table_bounds balls boxes was = record {
-    nodes = was.errors.len;
-    places = was.places;
-    errors = λ v l. was.errors.each (λ v. 0) (λ v m none. own.errors v m) v l (λ j e. omega arith);
-    radii = λ v l. was.radii.each (leaf_radius h) own.radii v l (λ j e. omega arith);
-    boxes = λ v l. was.boxes.each v l (λ j e. omega arith);
-  }
+  module _ (balls : List Ball) (boxes : List (Option NormalBox)) (splits : List Ball) (was : AreGrown h first balls boxes splits 0) where
+    final_errors : (v : ℕ) → v < node_count h → get_or (errors_of balls) v 0 ≡ error_of h v
+    unfolding error_of
+    final_errors v l = was.errors.each (λ v. 0) (λ v m none. own.errors v m) v l (λ j e. omega arith)
 
-  pub table_small : (balls : List Ball) (boxes : List (Option NormalBox)) → AreGrown h first balls boxes 0 → IsBounds (bound_lists_of balls boxes)
-  table_small balls boxes was =
-      let few = few_nodes h shape in
-      let errors = was.errors.len in
-      let radii = was.radii.len in
-      let joined = was.boxes.len in
-      record {
-        as_many_radii = radii ∙ sym errors;
-        as_many_boxes = joined ∙ sym errors;
-        small_errors = λ v l. (let s = was.errors.small v (omega arith) in omega arith);
-        small_radii = λ v l. (let s = was.radii.small v (omega arith) in omega arith);
-        small_boxes = λ v l. was.boxes.small v (omega arith);
-      }
+    final_radii : (v : ℕ) → v < node_count h → get_or (radii_of balls) v 0 ≡ radius_of h v
+    unfolding radius_of
+    final_radii v l = was.radii.each (leaf_radius h) own.radii v l (λ j e. omega arith)
+
+    split_reads : {A : Type 0} (f : Ball → A) (d : A) (k : ℕ) → k < record_count h → f (get_or splits k (bare_at origin)) ≡ get_or (map f balls) (s_of h k) d
+    split_reads f d k l = copied_reads h shape balls splits was.len f d was.copied k l
+
+    pub table_bounds : AreBoundsOf h (bound_lists_of balls boxes splits)
+    table_bounds = record {
+      nodes = was.errors.len;
+      records = was.copied.len;
+      places = was.places;
+      errors = final_errors;
+      radii = final_radii;
+      boxes = λ v l. was.boxes.each v l (λ j e. omega arith);
+      splits = λ k l.
+          let node = split_node h shape k l in
+          record {
+            place = split_reads (λ (b : Ball). b.place) origin k l ∙ was.places (s_of h k) node;
+            error = split_reads (λ (b : Ball). b.error) 0 k l ∙ final_errors (s_of h k) node;
+            radius = split_reads (λ (b : Ball). b.radius) 0 k l ∙ final_radii (s_of h k) node;
+          };
+    }
+
+    pub table_small : IsBounds (bound_lists_of balls boxes splits)
+    table_small =
+        let few = few_nodes h shape in
+        let errors = was.errors.len in
+        let radii = was.radii.len in
+        let joined = was.boxes.len in
+        let copied = was.copied.len in
+        record {
+          as_many_radii = radii ∙ sym errors;
+          as_many_boxes = joined ∙ sym errors;
+          small_errors = λ v l. (let s = was.errors.small v (omega arith) in omega arith);
+          small_radii = λ v l. (let s = was.radii.small v (omega arith) in omega arith);
+          small_boxes = λ v l. was.boxes.small v (omega arith);
+          small_split_errors = λ k l.
+              let m : k < record_count h = omega arith in
+              let s = was.errors.small (s_of h k) (split_node h shape k m) in
+              let is = split_reads (λ (b : Ball). b.error) 0 k m in
+              omega arith;
+          small_split_radii = λ k l.
+              let m : k < record_count h = omega arith in
+              let s = was.radii.small (s_of h k) (split_node h shape k m) in
+              let is = split_reads (λ (b : Ball). b.radius) 0 k m in
+              omega arith;
+        }

@@ -8,8 +8,8 @@ use Rattle.pm_forest.specs.declared.parts.Face.{Face}
 use Rattle.pm_forest.specs.Forest.{Hierarchy, record_count, node_count, s_of, t_of, u_of, holds, splitter_of}
 use Rattle.pm_forest.specs.Faces.{faces_of}
 use Rattle.pm_forest.specs.Places.{place_of_node}
-use Rattle.pm_forest.specs.Tables.{leaf_node_of}
 use Rattle.pm_forest.specs.Meshes.{leaf_place}
+use Rattle.pm_bounds.specs.declared.balls.Ball.{Ball}
 use Rattle.pm_bounds.specs.declared.normal_box.NormalBox.{NormalBox}
 use Rattle.pm_bounds.specs.Boxes.{box_of, zero_box}
 
@@ -94,17 +94,31 @@ box_round p r = record {
 abbrev pub point_box_of : Hierarchy → ℕ → PointBox
 point_box_of h v = box_round (place_of_node h v) (radius_of h v)
 
--- The bounds of all nodes of a hierarchy, with their places, each list by node.
+-- A ball at a place, of which no more is known yet.
+abbrev pub bare_at : Place → Ball
+bare_at p = record { place = p; error = 0; radius = 0 }
+
+-- This is the ball of node v.
+pub record IsBallOf (h : Hierarchy) (v : ℕ) (b : Ball) : Type 0 where
+  pub place : b.place ≡ place_of_node h v
+  pub error : b.error ≡ error_of h v
+  pub radius : b.radius ≡ radius_of h v
+
+-- The bounds of all nodes of a hierarchy, with their places, each list by node; and by record the balls of the nodes that
+-- the records split.
 pub record Bounds : Type 0 where
   pub places : List Place
   pub errors : List ℕ
   pub radii : List ℕ
   pub boxes : List (Option NormalBox)
+  pub splits : List Ball
 
 -- These are the bounds of h.
 pub record AreBoundsOf (h : Hierarchy) (b : Bounds) : Type 0 where
   pub nodes : length b.errors ≡ node_count h
+  pub records : length b.splits ≡ record_count h
   pub places : (v : ℕ) → v < node_count h → slice_index_or b.places v origin ≡ place_of_node h v
   pub errors : (v : ℕ) → v < node_count h → slice_index_or b.errors v 0 ≡ error_of h v
   pub radii : (v : ℕ) → v < node_count h → slice_index_or b.radii v 0 ≡ radius_of h v
   pub boxes : (v : ℕ) → v < node_count h → slice_index_or b.boxes v None ≡ box_under h v
+  pub splits : (k : ℕ) → k < record_count h → IsBallOf h (s_of h k) (slice_index_or b.splits k (bare_at origin))

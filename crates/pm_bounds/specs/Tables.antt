@@ -6,9 +6,9 @@ use Rattle.pm_forest.specs.Places.{place_of_node}
 use Rattle.pm_bounds.specs.declared.balls.Ball.{Ball}
 use Rattle.pm_bounds.specs.declared.normal_box.NormalBox.{NormalBox}
 use Rattle.pm_bounds.specs.Boxes.{IsSmallBox}
-use Rattle.pm_bounds.specs.Bounds.{Bounds, leaf_radius, over_children, box_under}
+use Rattle.pm_bounds.specs.Bounds.{Bounds, bare_at, leaf_radius, over_children, box_under}
 
--- A list of each kind from the balls and the boxes of all nodes.
+-- A list of each kind from the balls and the boxes of all nodes, and the balls by record.
 abbrev pub places_of : List Ball → List Place
 places_of balls = map (λ (b : Ball). b.place) balls
 
@@ -18,8 +18,8 @@ errors_of balls = map (λ (b : Ball). b.error) balls
 abbrev pub radii_of : List Ball → List ℕ
 radii_of balls = map (λ (b : Ball). b.radius) balls
 
-abbrev pub bound_lists_of : List Ball → List (Option NormalBox) → Bounds
-bound_lists_of balls boxes = record { places = places_of balls; errors = errors_of balls; radii = radii_of balls; boxes = boxes }
+abbrev pub bound_lists_of : List Ball → List (Option NormalBox) → List Ball → Bounds
+bound_lists_of balls boxes splits = record { places = places_of balls; errors = errors_of balls; radii = radii_of balls; boxes = boxes; splits = splits }
 
 -- One of each kind for each node, and none is large.
 pub record IsBounds (b : Bounds) : Type 0 where
@@ -28,16 +28,14 @@ pub record IsBounds (b : Bounds) : Type 0 where
   pub small_errors : (v : ℕ) → v < length b.errors → slice_index_or b.errors v 0 < 2 ^ 38
   pub small_radii : (v : ℕ) → v < length b.errors → slice_index_or b.radii v 0 < 2 ^ 38
   pub small_boxes : (v : ℕ) → v < length b.errors → IfSome (slice_index_or b.boxes v None) IsSmallBox
+  pub small_split_errors : (k : ℕ) → k < length b.splits → (slice_index_or b.splits k (bare_at origin)).error < 2 ^ 38
+  pub small_split_radii : (k : ℕ) → k < length b.splits → (slice_index_or b.splits k (bare_at origin)).radius < 2 ^ 38
 
 -- The places of all nodes.
 abbrev pub ArePlaces : Hierarchy → List Place → Type 0
 ArePlaces h places = (v : ℕ) → v < node_count h → slice_index_or places v origin ≡ place_of_node h v
 
--- A ball at a place, of which no more is known yet.
-abbrev pub bare_at : Place → Ball
-bare_at p = record { place = p; error = 0; radius = 0 }
-
--- Such balls at the places of the first n nodes.
+-- Balls at the places of the first n nodes, of which no more is known yet.
 pub record AreBare (h : Hierarchy) (n : ℕ) (balls : List Ball) : Type 0 where
   pub len : length balls ≡ n
   pub each : (v : ℕ) → v < n → slice_index_or balls v (bare_at origin) ≡ bare_at (place_of_node h v)
@@ -50,11 +48,11 @@ abbrev pub AreSmallBoxes : List (Option NormalBox) → Type 0
 AreSmallBoxes boxes = (v : ℕ) → v < length boxes → IfSome (slice_index_or boxes v None) IsSmallBox
 
 -- The places, no error yet, and of the nodes that no record splits the radii and boxes.
-pub record AreOfLeaves (h : Hierarchy) (b : Bounds) : Type 0 where
-  pub places : ArePlaces h b.places
-  pub errors : (v : ℕ) → v < node_count h → slice_index_or b.errors v 0 ≡ 0
-  pub radii : (v : ℕ) → v < node_count h → splitter_of h v ≡ None → slice_index_or b.radii v 0 ≡ leaf_radius h v
-  pub boxes : (v : ℕ) → v < node_count h → splitter_of h v ≡ None → slice_index_or b.boxes v None ≡ box_under h v
+pub record AreOfLeaves (h : Hierarchy) (balls : List Ball) (table : List (Option NormalBox)) : Type 0 where
+  pub places : ArePlaces h (places_of balls)
+  pub errors : (v : ℕ) → v < node_count h → slice_index_or (errors_of balls) v 0 ≡ 0
+  pub radii : (v : ℕ) → v < node_count h → splitter_of h v ≡ None → slice_index_or (radii_of balls) v 0 ≡ leaf_radius h v
+  pub boxes : (v : ℕ) → v < node_count h → splitter_of h v ≡ None → slice_index_or table v None ≡ box_under h v
 
 -- The number of the node that record k splits, by those of its children in a table.
 abbrev pub grown_at : Hierarchy → List ℕ → ℕ → ℕ

@@ -9,7 +9,7 @@ use pm_base::{NodeId, Point};
 use pm_forest::Hierarchy;
 use std::alloc::Global;
 
-/// The place of a node, its error and its radius, 32 bytes: all that a view asks of most nodes.
+/// The place of a node, its error and its radius, 24 bytes: all that a view asks of most nodes.
 #[derive(Clone, Copy, Debug, PartialEq, Eq)]
 pub struct Ball {
     pub place: Point,
@@ -41,4 +41,18 @@ pub(crate) fn bare_balls(alloc: Global, h: &Hierarchy) -> Result<Vec<Ball>, OutO
         })?;
     }
     Ok(balls)
+}
+
+/// As many balls as there are records, at the middle of space, to be written over. The length is a parameter, so that no
+/// proof unfolds the list.
+pub(crate) fn bare_split_balls(alloc: Global, records: usize) -> Result<Vec<Ball>, OutOfMemory>
+    ensures { IfOk result (λ balls. length balls.items ≡ records) }
+{
+    let place = Point::new(0, 0, 0).unwrap();
+    let ball = Ball {
+        place,
+        error: 0,
+        radius: 0,
+    };
+    vec![in alloc; ball; records]
 }

@@ -96,21 +96,29 @@ fn join_children(h: &Hierarchy, boxes: &mut Vec<Option<NormalBox>>, k: u32)
     boxes[s.0 as usize] = joined;
 }
 
-/// Gives all nodes their bounds, where those that no record splits have theirs.
-pub fn grow(h: &Hierarchy, balls: &mut Vec<Ball>, boxes: &mut Vec<Option<NormalBox>>)
+/// Gives all nodes their bounds, where those that no record splits have theirs, and each record the ball of the node that it
+/// splits.
+pub fn grow(
+    h: &Hierarchy,
+    balls: &mut Vec<Ball>,
+    boxes: &mut Vec<Option<NormalBox>>,
+    split_balls: &mut Vec<Ball>,
+)
     requires balls_len { length balls.old.items ≡ node_count h.now }
     requires boxes_len { length boxes.old.items ≡ node_count h.now }
-    requires leaves { AreOfLeaves h.now (bound_lists_of balls.old.items boxes.old.items) }
+    requires splits_len { length split_balls.old.items ≡ record_count h.now }
+    requires leaves { AreOfLeaves h.now balls.old.items boxes.old.items }
     requires small_radii { AreAtMost 113509 (radii_of balls.old.items) }
     requires small_boxes { AreSmallBoxes boxes.old.items }
-    ensures are { AreBoundsOf h.now (bound_lists_of balls.new.items boxes.new.items) }
-    ensures small { IsBounds (bound_lists_of balls.new.items boxes.new.items) }
+    ensures are { AreBoundsOf h.now (bound_lists_of balls.new.items boxes.new.items split_balls.new.items) }
+    ensures small { IsBounds (bound_lists_of balls.new.items boxes.new.items split_balls.new.items) }
 {
     h.invariant();
     for k in (0..h.records()).rev() {
         let (s, ..) = nodes_of(h, k);
-        let ball = from_children(h, balls, k);
-        balls[s.0 as usize] = ball;
+        let ball = &from_children(h, balls, k);
+        balls[s.0 as usize] = *ball;
+        split_balls[k as usize] = *ball;
         join_children(h, boxes, k);
     }
 }

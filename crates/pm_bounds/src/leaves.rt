@@ -9,7 +9,6 @@ ghost use Rattle.pm_forest.specs.Meshes.{leaf_place};
 ghost use Rattle.pm_bounds.specs.Boxes.{box_at, IsSmallBox};
 ghost use Rattle.pm_bounds.specs.Leaves.{bare_leaf_at, widened, widened_by, is_leaf_corner, AreBareLeaves, AreSmallLeaves, AreSeen};
 ghost use Rattle.pm_bounds.specs.Tables.{
-  bound_lists_of,
   places_of,
   errors_of,
   radii_of,
@@ -142,7 +141,7 @@ fn give_nodes(
     requires missing { boxes.old.items ≡ replicate (node_count h.now) None }
     ensures balls_len { length balls.new.items ≡ node_count h.now }
     ensures boxes_len { length boxes.new.items ≡ node_count h.now }
-    ensures are { AreOfLeaves h.now (bound_lists_of balls.new.items boxes.new.items) }
+    ensures are { AreOfLeaves h.now balls.new.items boxes.new.items }
     ensures small_radii { AreAtMost 113509 (radii_of balls.new.items) }
     ensures small_boxes { AreSmallBoxes boxes.new.items }
 {
@@ -168,7 +167,7 @@ pub fn bound_leaves(
     requires missing { boxes.old.items ≡ replicate (node_count h.now) None }
     ensures balls_len { length balls.new.items ≡ node_count h.now }
     ensures boxes_len { length boxes.new.items ≡ node_count h.now }
-    ensures are { AreOfLeaves h.now (bound_lists_of balls.new.items boxes.new.items) }
+    ensures are { AreOfLeaves h.now balls.new.items boxes.new.items }
     ensures small_radii { AreAtMost 113509 (radii_of balls.new.items) }
     ensures small_boxes { AreSmallBoxes boxes.new.items }
 {

@@ -21,7 +21,7 @@ use pm_bounds::Bounds;
 use pm_forest::Hierarchy;
 use pm_front::Front;
 use pm_sets::NumberSet;
-use pm_view::{Steps, View, wants};
+use pm_view::{Steps, View, wants_split};
 use std::sync::ledger::Ledger;
 
 // Whether a split record needs record `k` that won't be collapsed: the split records name it more often than those of
@@ -68,7 +68,8 @@ fn stays<L: Ledger>(
     if is_still_needed(front, falls, k) {
         return true;
     }
-    wants(front.hierarchy(), bounds, front.split_node(k), view, steps)
+    let node = front.split_node(k);
+    wants_split(front.hierarchy(), bounds, k, node, view, steps)
 }
 
 // A record that goes is put in the one set; one that will be split is put in the other, and what it

@@ -16,7 +16,7 @@ use pm_bounds::Bounds;
 use pm_forest::Hierarchy;
 use pm_front::Front;
 use pm_sets::NumberSet;
-use pm_view::{Steps, View, wants};
+use pm_view::{Steps, View, wants_split};
 use std::sync::ledger::Ledger;
 
 // Puts each record in the set that waits for a split and whose node is wanted.
@@ -38,7 +38,8 @@ fn see_waiting<L: Ledger>(
     front.invariant();
     let mut from = 0;
     while let Some(k) = front.waiting().first_from(from) {
-        if wants(front.hierarchy(), bounds, front.split_node(k), view, steps) {
+        let node = front.split_node(k);
+        if wants_split(front.hierarchy(), bounds, k, node, view, steps) {
             rises.insert(k);
         }
         from = k + 1;
@@ -64,7 +65,8 @@ fn see_unneeded<L: Ledger>(
     front.invariant();
     let mut from = 0;
     while let Some(k) = front.unneeded().first_from(from) {
-        if !wants(front.hierarchy(), bounds, front.split_node(k), view, steps) {
+        let node = front.split_node(k);
+        if !wants_split(front.hierarchy(), bounds, k, node, view, steps) {
             work.insert(k);
         }
         from = k + 1;
@@ -90,7 +92,7 @@ fn look<L: Ledger>(
     ensures cost { steps.new ≤ steps.old + 1 }
 {
     if let Some(k) = h.splitter(node) {
-        if wants(h, bounds, node, view, steps) {
+        if wants_split(h, bounds, k, node, view, steps) {
             rises.insert(k);
         }
     }

@@ -22,4 +22,4 @@ pub use plane::Plane;
 pub use steps::Steps;
 pub use theory::wanted_nodes_are_sound;
 pub use view::View;
-pub use wanted::wants;
+pub use wanted::{wants, wants_split};

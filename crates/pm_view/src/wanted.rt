@@ -1,25 +1,36 @@
 //! Whether a view wants a node refined.
-ghost use Rattle.std.specs.Prelude.{◌≡◌, ℕ, ◌+◌, ◌<◌, ◌⊎◌, true, false};
+ghost use Rattle.std.specs.Prelude.{◌≡◌, ℕ, ◌+◌, ◌<◌, ◌^◌, ◌⊎◌, true, false};
 ghost use Rattle.pm_forest.specs.Forest.{node_count, record_count, s_of, Makes};
-ghost use Rattle.pm_bounds.specs.Bounds.{AreBoundsOf};
+ghost use Rattle.pm_bounds.specs.Bounds.{AreBoundsOf, IsBallOf};
 ghost use Rattle.pm_view.specs.Wanted.{is_wanted};
 ghost use Rattle.pm_view.specs.Laws.{IsBehind, IsTurnedAway, IsTiny};
 
 use crate::{Steps, View};
 use pm_base::NodeId;
-use pm_bounds::Bounds;
+use pm_bounds::{Ball, Bounds};
 use pm_forest::Hierarchy;
 use std::sync::ledger::Ledger;
 
-// The three tests of a node. The box of its normals is read last and only where it is asked for: most nodes are too small,
-// and the box lies apart from the ball.
+// The three tests of a node, which has this ball, as one step. The box of its normals is read last and only where it is asked
+// for: most nodes are too small, and the box lies apart from the ball.
 #[tactic(auto, unfolding(crate::specs::Wanted::is_large), using(crate::proofs::Passing::asked_in_turn))]
-fn passes(h: &Hierarchy, bounds: &Bounds, node: NodeId, view: &View) -> bool
+fn passes<L: Ledger>(
+    h: &Hierarchy,
+    bounds: &Bounds,
+    node: NodeId,
+    ball: &Ball,
+    view: &View,
+    steps: &mut Steps<L>,
+) -> bool
     requires bounds { AreBoundsOf h.now bounds.now }
     requires node { node.0 < node_count h.now }
-    ensures { result ≡ is_wanted h.now view.now node.0 }
+    requires ball { IsBallOf h.now node.0 ball.now }
+    requires small_error { ball.now.error < 2 ^ 38 }
+    requires small_radius { ball.now.radius < 2 ^ 38 }
+    ensures value { result ≡ is_wanted h.now view.now node.0 }
+    ensures cost { steps.new ≡ steps.old + 1 }
 {
-    let ball = bounds.ball(node);
+    steps.tick();
     let is_large = view.looks_large(ball.place, ball.error, ball.radius);
     (is_large || view.outline_looks_large(ball.place, ball.error, ball.radius))
         && !view.is_behind(ball.place, ball.radius)
@@ -43,7 +54,27 @@ pub fn wants<L: Ledger>(
     ensures parent { result ≡ true → (k : ℕ) → k < record_count h.now → Makes h.now k node.0 → is_wanted h.now view.now (s_of h.now k) ≡ true }
     ensures reason { result ≡ false → IsBehind h.now view.now node.0 ⊎ (IsTurnedAway h.now view.now node.0 ⊎ IsTiny h.now view.now node.0) }
 {
-    steps.tick();
     h.invariant();
-    passes(h, bounds, node, view)
+    passes(h, bounds, node, &bounds.ball(node), view, steps)
+}
+
+/// Whether the view wants a node refined that record `k` splits: as `wants` says, but the ball is found by the record. The
+/// balls of records lie in their order, so that a walk over records reads neighbours. It counts one step, and takes no
+/// memory.
+pub fn wants_split<L: Ledger>(
+    h: &Hierarchy,
+    bounds: &Bounds,
+    k: u32,
+    node: NodeId,
+    view: &View,
+    steps: &mut Steps<L>,
+) -> bool
+    requires bounds { AreBoundsOf h.now bounds.now }
+    requires record { k < record_count h.now }
+    requires node { node.0 ≡ s_of h.now k }
+    ensures value { result ≡ is_wanted h.now view.now (s_of h.now k) }
+    ensures cost { steps.new ≡ steps.old + 1 }
+{
+    h.invariant();
+    passes(h, bounds, node, &bounds.split_ball(k), view, steps)
 }

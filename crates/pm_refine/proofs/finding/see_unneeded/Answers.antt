@@ -12,7 +12,7 @@ use Rattle.pm_sets.proofs.FlagLaws.{in_below}
 use Rattle.pm_refine.proofs.SetLaws.{holds_up, holds_next, holds_past, next_there, none_skipped}
 use Rattle.pm_refine.proofs.FindingLaws.{records_few}
 use Rattle.pm_refine.proofs.finding.see_unneeded.Goals as goal
-use Rattle.pm_refine.proofs.finding.see_unneeded.Goals.{then-not-wants, else-not-wants}
+use Rattle.pm_refine.proofs.finding.see_unneeded.Goals.{then-not-wants_split, else-not-wants_split}
 
 pub overflow_add-from : goal.overflow_add-from
 overflow_add-from g c =
@@ -36,24 +36,24 @@ loop-k-preserved g c =
     let next = next_there n test c.unneeded.result.now c.unneeded.ensures.len c.unneeded.ensures.each c.loop-k.from k first in
     let none = none_skipped n test c.unneeded.result.now c.unneeded.ensures.len c.unneeded.ensures.each c.loop-k.from k first in
     let up = holds_up n found c.loop-k.from k flags first.from c.loop-k.invariant.loose (λ j low high. and_left (test j) (not (wanted (s_of h j))) (none j low high)) in
-    let answer : c.wants.result ≡ wanted (s_of h k) = c.wants.ensures.value ∙ ap (λ (x : Hierarchy). is_wanted x view c.split_node.result.0) c.hierarchy.ensures ∙ ap wanted c.split_node.ensures.value in
+    let answer : c.wants_split.result ≡ wanted (s_of h k) = c.wants_split.ensures.value ∙ ap (λ (x : Hierarchy). is_wanted x view (s_of x k)) c.hierarchy.ensures in
     let ahead = first.from in
     let low = next.0 in
     let more = count_up test c.loop-k.from k ahead in
     let one = count-true test k next.1 in
     let after : k + 1 ≡ suc k = omega arith in
     let at = ap (count test) after in
-    let cost = c.wants.ensures.cost in
+    let cost = c.wants_split.ensures.cost in
     let before = c.loop-k.invariant.cost in
     record {
       most = omega arith;
-      loose = elim c.if-not-wants.branch [
-        | then-not-wants w ↦
+      loose = elim c.if-not-wants_split.branch [
+        | then-not-wants_split w ↦
             subst (λ (m : List Bool). HoldsBelow n found (k + 1) m) (sym (w.work-is ∙ w.insert.ensures))
-            (holds_next n found k flags low up (and_from (test k) (not (wanted (s_of h k))) next.1 (not_from_false (wanted (s_of h k)) (sym answer ∙ w.if-not-wants.true))))
-        | else-not-wants w ↦
+            (holds_next n found k flags low up (and_from (test k) (not (wanted (s_of h k))) next.1 (not_from_false (wanted (s_of h k)) (sym answer ∙ w.if-not-wants_split.true))))
+        | else-not-wants_split w ↦
             subst (λ (m : List Bool). HoldsBelow n found (k + 1) m) (sym w.work-is)
-            (holds_past n found k flags up (and_right (test k) (not (wanted (s_of h k))) (not_from_true (wanted (s_of h k)) (sym answer ∙ w.if-not-wants.false))))
+            (holds_past n found k flags up (and_right (test k) (not (wanted (s_of h k))) (not_from_true (wanted (s_of h k)) (sym answer ∙ w.if-not-wants_split.false))))
       ];
       cost = omega arith;
     }

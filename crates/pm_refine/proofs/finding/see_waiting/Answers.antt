@@ -12,7 +12,7 @@ use Rattle.pm_sets.proofs.FlagLaws.{in_below}
 use Rattle.pm_refine.proofs.SetLaws.{holds_up, holds_next, holds_past, next_there, none_skipped}
 use Rattle.pm_refine.proofs.FindingLaws.{records_few}
 use Rattle.pm_refine.proofs.finding.see_waiting.Goals as goal
-use Rattle.pm_refine.proofs.finding.see_waiting.Goals.{then-wants, else-wants}
+use Rattle.pm_refine.proofs.finding.see_waiting.Goals.{then-wants_split, else-wants_split}
 
 pub overflow_add-from : goal.overflow_add-from
 overflow_add-from g c =
@@ -36,24 +36,24 @@ loop-k-preserved g c =
     let next = next_there n test c.waiting.result.now c.waiting.ensures.len c.waiting.ensures.each c.loop-k.from k first in
     let none = none_skipped n test c.waiting.result.now c.waiting.ensures.len c.waiting.ensures.each c.loop-k.from k first in
     let up = holds_up n found c.loop-k.from k flags first.from c.loop-k.invariant.seen (λ j low high. and_left (test j) (wanted (s_of h j)) (none j low high)) in
-    let answer : c.wants.result ≡ wanted (s_of h k) = c.wants.ensures.value ∙ ap (λ (x : Hierarchy). is_wanted x view c.split_node.result.0) c.hierarchy.ensures ∙ ap wanted c.split_node.ensures.value in
+    let answer : c.wants_split.result ≡ wanted (s_of h k) = c.wants_split.ensures.value ∙ ap (λ (x : Hierarchy). is_wanted x view (s_of x k)) c.hierarchy.ensures in
     let ahead = first.from in
     let low = next.0 in
     let more = count_up test c.loop-k.from k ahead in
     let one = count-true test k next.1 in
     let after : k + 1 ≡ suc k = omega arith in
     let at = ap (count test) after in
-    let cost = c.wants.ensures.cost in
+    let cost = c.wants_split.ensures.cost in
     let before = c.loop-k.invariant.cost in
     record {
       most = omega arith;
-      seen = elim c.if-wants.branch [
-        | then-wants w ↦
+      seen = elim c.if-wants_split.branch [
+        | then-wants_split w ↦
             subst (λ (m : List Bool). HoldsBelow n found (k + 1) m) (sym (w.rises-is ∙ w.insert.ensures))
-            (holds_next n found k flags low up (and_from (test k) (wanted (s_of h k)) next.1 (sym answer ∙ w.if-wants.true)))
-        | else-wants w ↦
+            (holds_next n found k flags low up (and_from (test k) (wanted (s_of h k)) next.1 (sym answer ∙ w.if-wants_split.true)))
+        | else-wants_split w ↦
             subst (λ (m : List Bool). HoldsBelow n found (k + 1) m) (sym w.rises-is)
-            (holds_past n found k flags up (and_right (test k) (wanted (s_of h k)) (sym answer ∙ w.if-wants.false)))
+            (holds_past n found k flags up (and_right (test k) (wanted (s_of h k)) (sym answer ∙ w.if-wants_split.false)))
       ];
       cost = omega arith;
     }
