@@ -14,3 +14,5 @@ mod Moved
 mod Started
 mod Walks
 mod Readers
+-- what two walks copy to a room
+mod Copying

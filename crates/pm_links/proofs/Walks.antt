@@ -53,6 +53,14 @@ module _ {n m : ℕ} {next prev owner : List ℕ} {ls : List (List ℕ)} (a : Is
       walk-linked next prev n n (n + h) (get_or ls h []) (n + h)
       (few_below n (get_or ls h []) (a.once h hm) low) (omega arith) low (a.linked h hm)
 
+  -- a walk that knows only the node of the head comes to its end too
+  pub walk_ring : (h : ℕ) → h < m → walk_items next (n + h) (n + h) (get_or next (n + h) 0) ≡ get_or ls h []
+  walk_ring h hm =
+      let low : (x : ℕ) → has (get_or ls h []) x ≡ true → x < n + h =
+      λ x i. let lt : x < n = a.in_range h x hm i in omega arith in
+      walk-linked next prev (n + h) (n + h) (n + h) (get_or ls h []) (n + h)
+      (few_below (n + h) (get_or ls h []) (a.once h hm) low) (omega arith) low (a.linked h hm)
+
   pub walks : lists_of n m next ≡ ls
   unfolding lists_of
   walks =

@@ -1,5 +1,5 @@
 -- What callers see of a `Links`: how many items there are, and the list of each head.
-use Rattle.std.specs.Prelude.{◌≡◌, ℕ, ◌<◌, ◌≤◌, Bool, true, false, not, ◌||◌, nat_eq, Option, Some, None, if◌then◌else◌, List, [], ◌∷◌, ◌++◌, length, filter, map, replicate, slice_index_or, slice_set}
+use Rattle.std.specs.Prelude.{◌≡◌, ℕ, ◌<◌, ◌≤◌, Bool, true, false, not, ◌||◌, nat_eq, Option, Some, None, if◌then◌else◌, List, [], ◌∷◌, ◌++◌, length, filter, map, replicate, slice_index_or, slice_set, take, drop}
 use Rattle.pm_links.specs.declared.links.TheConstants.{LIMIT}
 
 pub record Lists : Type 0 where
@@ -38,6 +38,14 @@ after x (y ∷ ys) = if nat_eq y x then ys else after x ys
 abbrev pub rest_of_walk : Option ℕ → List ℕ → List ℕ
 rest_of_walk None xs = []
 rest_of_walk (Some x) xs = x ∷ after x xs
+
+-- what stands in a room in the places before `front` and in those from `back` on
+abbrev pub gathered : List ℕ → ℕ → ℕ → List ℕ
+gathered room front back = take front room ++ drop back room
+
+-- the list begins with these
+abbrev pub AreFirst : List ℕ → List ℕ → Type 0
+AreFirst begin xs = begin ≡ take (length begin) xs
 
 -- the table with v at each of the items xs
 abbrev pub set_all : List ℕ → List ℕ → ℕ → List ℕ

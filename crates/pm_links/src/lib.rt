@@ -7,3 +7,4 @@ mod rings;
 
 pub use items::Items;
 pub use links::{LIMIT, Links, OutOfMemory};
+pub use rings::Ends;

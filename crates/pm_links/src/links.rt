@@ -1,8 +1,8 @@
 //! Linked lists in one arena.
-ghost use Rattle.std.specs.Prelude.{◌≡◌, ℕ, ◌+◌, ◌<◌, ◌≤◌, ◌≢◌, length, slice_index, true, IfOk, ◌↔◌};
-ghost use Rattle.pm_links.specs.Lists.{list_of, has, after, first_of, IsHeld, IsFree, IsSound, empty_lists, with_first, with_moved, without_item};
+ghost use Rattle.std.specs.Prelude.{◌≡◌, ℕ, ◌+◌, ◌*◌, ◌<◌, ◌≤◌, ◌≢◌, length, slice_index, true, IfOk, ◌↔◌};
+ghost use Rattle.pm_links.specs.Lists.{list_of, has, after, first_of, IsHeld, IsFree, IsSound, empty_lists, with_first, with_moved, without_item, gathered, AreFirst};
 
-use super::rings::{cut_out, insert_after, move_ring, relabel};
+use super::rings::{Ends, copy_ends, cut_out, insert_after, move_ring, relabel};
 use std::alloc::{AllocError, Global};
 use std::marker::Model;
 
@@ -126,6 +126,25 @@ impl Links {
     {
         let node = self.next[item as usize];
         if node < self.items { Some(node) } else { None }
+    }
+
+    /// Copies the first items of the list of `head`, in order, to the places of `room` before `front` and
+    /// then to those from `back` on. They are all, where there is room for them, and else at least half as
+    /// many as there is room for. Two walks go from the two ends of the list, so that two reads are under
+    /// way at a time. Each item is one step at most.
+    pub fn gather(&self, head: u32, room: &mut [u32]) -> Ends
+        requires { head < length self.now.lists }
+        ensures len { length room.new ≡ length room.old }
+        ensures front { result.front ≤ result.back }
+        ensures back { result.back ≤ length room.new }
+        ensures first { AreFirst (gathered room.new result.front result.back) (list_of self.now head) }
+        ensures all { length (list_of self.now head) ≤ length room.old
+            → gathered room.new result.front result.back ≡ list_of self.now head }
+        ensures more { length room.old < length (list_of self.now head)
+            → length room.old ≤ 2 * result.front }
+        ensures sound { IsSound self.now }
+    {
+        copy_ends(&self.next, &self.prev, self.items + head, room)
     }
 
     /// The head in whose list `item` is, and `None` exactly where it is in no list. O(1).

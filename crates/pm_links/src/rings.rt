@@ -1,7 +1,7 @@
 //! Rings of nodes, from which lists are made.
-ghost use Rattle.std.specs.Prelude.{◌≡◌, ℕ, ◌+◌, ◌<◌, ◌≤◌, length, slice_index, slice_set};
-ghost use Rattle.pm_links.specs.Arena.{walk_items};
-ghost use Rattle.pm_links.specs.Lists.{set_all};
+ghost use Rattle.std.specs.Prelude.{◌≡◌, ℕ, ◌+◌, ◌*◌, ◌<◌, ◌≤◌, true, false, List, length, slice_index, slice_set};
+ghost use Rattle.pm_links.specs.Arena.{IsLinked, walk_items};
+ghost use Rattle.pm_links.specs.Lists.{AreFirst, IsOnce, gathered, has, set_all};
 
 // Circular lists with links both ways and a node for each head (Knuth 1968). A ring is never empty, so
 // no step asks whether an item is the first or the last of its list.
@@ -65,6 +65,60 @@ pub fn move_ring(next: &mut [u32], prev: &mut [u32], from: u32, to: u32)
     link(next, prev, to, first);
     link(next, prev, last, after);
     link(next, prev, from, from);
+}
+
+/// Which places of a room the items of a list take: those before `front`, and those from `back` on.
+#[derive(Clone, Copy, Debug, PartialEq, Eq)]
+pub struct Ends {
+    pub front: usize,
+    pub back: usize,
+}
+
+// Copies the items of a ring to both ends of a room, with a walk from either end of the list.
+pub fn copy_ends(next: &[u32], prev: &[u32], node: u32, room: &mut [u32]) -> Ends
+    ghost items: { List ℕ }
+    requires same_len { length prev.now ≡ length next.now }
+    requires node_in { node < length next.now }
+    requires linked { IsLinked next.now prev.now node items node }
+    requires once { IsOnce items }
+    requires node_out { has items node ≡ false }
+    requires items_in { (x : ℕ) → has items x ≡ true → x < length next.now }
+    ensures len { length room.new ≡ length room.old }
+    ensures front { result.front ≤ result.back }
+    ensures back { result.back ≤ length room.new }
+    ensures first { AreFirst (gathered room.new result.front result.back) items }
+    ensures all { length items ≤ length room.old
+        → gathered room.new result.front result.back ≡ items }
+    ensures more { length room.old < length items → length room.old ≤ 2 * result.front }
+{
+    let mut front = 0;
+    let mut back = room.len();
+    // The last item copied by either walk; the two meet where one comes next to the other.
+    let mut first = node;
+    let mut last = node;
+    while front < back {
+        let item = next[first as usize];
+        if item == last {
+            return Ends { front, back };
+        }
+        room[front] = item;
+        front += 1;
+        first = item;
+        if front < back {
+            let item = prev[last as usize];
+            if item == first {
+                return Ends { front, back };
+            }
+            back -= 1;
+            room[back] = item;
+            last = item;
+        }
+    }
+    if next[first as usize] != last {
+        // Items are left over for want of room, and so only those of the front are the list's first.
+        back = room.len();
+    }
+    Ends { front, back }
 }
 
 // Makes `head` the owner of each item from node `start` on, up to the node of a head.
