@@ -32,7 +32,7 @@ start_after m s start made quadrics = record {
 step_after : (m : Mesh) (log : List Collapse) (c : Collapse) (s r : Shrinking) → IsAfter m log s → IsStep (surface_after m log) c →
     r.surface ≡ collapsed s.surface c.t c.u c.place →
     quadric_at r (next_vertex s.surface) ≡ plus_sums (quadric_at s c.t) (quadric_at s c.u) →
-    ((v : ℕ) → v ≢ next_vertex s.surface → quadric_at r v ≡ quadric_at s v) → IsAfter m (log ++ c ∷ []) r
+    ((v : ℕ) → is_live r.surface v ≡ true → v ≢ next_vertex s.surface → quadric_at r v ≡ quadric_at s v) → IsAfter m (log ++ c ∷ []) r
 step_after m log c s r after step made sum others =
     let now : Surface = surface_after m log in
     let sound = run-sound m after.start log after.run in
@@ -55,7 +55,7 @@ step_after m log c s r after step made sum others =
                 let n_u : v ≢ c.u = λ is. both_ways _ (ap (is_live (collapsed now c.t c.u c.place)) is ∙ second_dead now sound c step) there in
                 let n_s : v ≢ next_vertex now = λ is. ne (is ∙ sym (ap next_vertex after.surface)) in
                 let before : is_live now v ≡ true = sym (old_live now c.t c.u c.place v n_s n_t n_u) ∙ there in
-                others v ne ∙ after.quadrics v (was v before) ∙ ap sums_of (sym (planes_after-other m log c v (λ is. ne (is ∙ sym new))))
+                others v live ne ∙ after.quadrics v (was v before) ∙ ap sums_of (sym (planes_after-other m log c v (λ is. ne (is ∙ sym new))))
           ];
     }
 
@@ -63,7 +63,7 @@ step_after m log c s r after step made sum others =
 pub collapse_after : (m : Mesh) (log : List Collapse) (s r : Shrinking) (a b : ℕ) (place : Place) (c : Collapse) → IsAfter m log s → a < b →
     IsLegalPair s.surface a b place → c ≡ entry_of s.surface a b place → r.surface ≡ collapsed s.surface a b place →
     quadric_at r (next_vertex s.surface) ≡ plus_sums (quadric_at s a) (quadric_at s b) →
-    ((v : ℕ) → v ≢ next_vertex s.surface → quadric_at r v ≡ quadric_at s v) → IsAfter m (log ++ c ∷ []) r
+    ((v : ℕ) → is_live r.surface v ≡ true → v ≢ next_vertex s.surface → quadric_at r v ≡ quadric_at s v) → IsAfter m (log ++ c ∷ []) r
 collapse_after m log s r a b place c after order legal entry made sum others =
     let now : Surface = surface_after m log in
     let d : Collapse = entry_of now a b place in

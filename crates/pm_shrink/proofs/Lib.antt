@@ -2,6 +2,7 @@ pub mod AllFaces
 pub mod PlaceTables
 mod PlaneTotals
 mod FaceTables
+mod SlotTables
 mod CornerTables
 mod Started
 mod FanLaws
@@ -13,5 +14,6 @@ pub mod GoneLaws
 mod MergedCorners
 mod MergedFaces
 mod MergedTables
+mod MergedQuadrics
 mod MergedShrink
 mod FollowingLaws

@@ -1,29 +1,23 @@
--- The other tables after a collapse: what stands across each side, the places, and the quadrics.
-use Rattle.std.proofs.Common.{◌≡◌, ◌≢◌, ℕ, suc, ◌+◌, ◌<◌, ◌≤◌, true, false, cond, List, [], ◌∷◌, ◌++◌, length, get_or, set, take, Option, Some, None, ◌⊎◌, inl, inr, refl, sym, ap, ◌∙◌, subst, arith, get_or-set_other, get_or-set_same}
-use Rattle.std.specs.Prelude.{option_map, is_some}
+-- The other tables after a collapse: what stands across each side, and the places.
+use Rattle.std.proofs.Common.{◌≡◌, ℕ, ◌+◌, ◌<◌, ◌≤◌, List, [], ◌∷◌, ◌++◌, length, get_or, set, take, Option, Some, None, ◌⊎◌, inl, inr, refl, sym, ap, ◌∙◌, subst, arith, get_or-set_other, get_or-set_same}
+use Rattle.std.specs.Prelude.{option_map}
 use Rattle.std.proofs.lemmas.List.{length-set, take_more_set}
 use Rattle.std.proofs.Math.Seq.{take-set-lt}
-use Rattle.std.proofs.lemmas.Bool.{cases_eq, cond-true, cond-false}
+use Rattle.std.proofs.lemmas.Bool.{cases_eq}
 use Rattle.std.proofs.lemmas.Option.{same_Some, none-some}
 use Rattle.pm_base.specs.Place.{Place}
 use Rattle.pm_base.specs.declared.ids.Side.{Side}
 use Rattle.pm_base.specs.declared.log.Gone.{Gone}
 use Rattle.pm_base.specs.Sides.{Net, next, prev, Stands, NoSideTwice, twin_of}
 use Rattle.pm_base.proofs.Search.{option_cases}
-use Rattle.pm_quadric.specs.declared.quadric.TheConstants.{MOST_PLANES}
-use Rattle.pm_quadric.specs.Sums.{Sums, plus_sums, zero_sums}
-use Rattle.pm_runs.specs.Counts.{sum_below}
-use Rattle.pm_runs.specs.Surfaces.{Surface, next_vertex, is_live, net_of_surface, IsSurface, collapsed, merged_places}
+use Rattle.pm_runs.specs.Surfaces.{Surface, net_of_surface, IsSurface, collapsed, merged_places}
 use Rattle.pm_runs.specs.Pairs.{Runs, Links, IsLegalPair}
 use Rattle.pm_runs.specs.Steps.{side_from_to, side_id, gone_at, gone_of}
 use Rattle.pm_runs.specs.Merged.{IsProper}
 use Rattle.pm_runs.specs.Collapses.{RelinksTwins}
 use Rattle.pm_runs.proofs.Found.{found-runs, runs-found}
-use Rattle.pm_runs.proofs.Live.{new_live, old_live, gone_first, gone_second}
 use Rattle.pm_runs.proofs.Present.{option_eq?}
 use Rattle.pm_runs.proofs.StepLaws.{steps_keep_surfaces}
-use Rattle.pm_runs.proofs.Totals.{sum_two, two_within}
-use Rattle.pm_shrink.specs.Shrinking.{planes_counted}
 use Rattle.pm_shrink.specs.Writes.{with_across, relinked, side_number}
 
 -- ---- what stands across
@@ -152,41 +146,3 @@ places-fresh places next a b v place la lb le fresh =
     get_or-set_other (set (set places a None) b None) next v (Some place) None (λ is. absurd (omega (arith, is)))
     ∙ get_or-set_other (set places a None) b v None None (λ is. absurd (omega (arith, is)))
     ∙ get_or-set_other places a v None None (λ is. absurd (omega (arith, is))) ∙ fresh
-
--- ---- quadrics
-
-module _ (s : Surface) (a b : ℕ) (place : Place) (quadrics : List Sums) (live_a : is_live s a ≡ true) (live_b : is_live s b ≡ true) (la : a < next_vertex s) (lb : b < next_vertex s) (differ : a ≢ b) where
-  counted-live : (v : ℕ) → is_live s v ≡ true → planes_counted s quadrics v ≡ (get_or quadrics v zero_sums).count
-  counted-live v live = cond-true _ _ _ live
-
-  -- The two quadrics together count no more planes than all.
-  pub pair-few : sum_below (planes_counted s quadrics) (next_vertex s) ≤ MOST_PLANES → (get_or quadrics a zero_sums).count + (get_or quadrics b zero_sums).count ≤ MOST_PLANES
-  pair-few most = omega (arith, counted-live a live_a, counted-live b live_b, two_within (planes_counted s quadrics) (next_vertex s) a b la lb differ)
-
-  abbrev new_quadrics : List Sums
-  new_quadrics = set quadrics (next_vertex s) (plus_sums (get_or quadrics a zero_sums) (get_or quadrics b zero_sums))
-
-  abbrev t : Surface
-  t = collapsed s a b place
-
-  counted-dead : (v : ℕ) → is_live t v ≡ false → planes_counted t new_quadrics v ≡ 0
-  counted-dead v dead = cond-false _ _ _ dead
-
-  -- And all count as many as before.
-  pub planes-merged : next_vertex s < length quadrics → sum_below (planes_counted t new_quadrics) (next_vertex s + 1) ≡ sum_below (planes_counted s quadrics) (next_vertex s)
-  planes-merged low =
-      let f : ℕ → ℕ = planes_counted s quadrics in
-      let g : ℕ → ℕ = planes_counted t new_quadrics in
-      let both : Sums = plus_sums (get_or quadrics a zero_sums) (get_or quadrics b zero_sums) in
-      let at_new : g (next_vertex s) ≡ f a + f b = cond-true _ _ _ (new_live s a b place) ∙ ap (λ (q : Sums). q.count) (get_or-set_same quadrics (next_vertex s) both zero_sums low) ∙ sum_of (counted-live a live_a) (counted-live b live_b) in
-      let others : (v : ℕ) → v < next_vertex s → v ≢ a → v ≢ b → g v ≡ f v = λ v l na nb. (
-      let off : v ≢ next_vertex s = λ is. absurd (omega (arith, is)) in
-      ap (λ x. cond x (get_or new_quadrics v zero_sums).count 0) (old_live s a b place v off na nb)
-      ∙ ap (λ (q : Sums). cond (is_live s v) q.count 0) (get_or-set_other quadrics (next_vertex s) v both zero_sums off)) in
-      let rest = sum_two f g (next_vertex s) a b la lb differ (counted-dead a (ap is_some (gone_first s a b place la))) (counted-dead b (ap is_some (gone_second s a b place lb))) others in
-      let next : next_vertex s + 1 ≡ suc (next_vertex s) = omega arith in
-      let top : sum_below g (next_vertex s + 1) ≡ g (next_vertex s) + sum_below g (next_vertex s) = ap (sum_below g) next in
-      omega (arith, at_new, rest, top)
-    where
-      sum_of : {x y u v : ℕ} → x ≡ u → y ≡ v → u + v ≡ x + y
-      sum_of p q = omega (arith, p, q)

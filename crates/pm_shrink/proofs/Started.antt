@@ -1,5 +1,5 @@
 -- What a `Shrink` holds before the first collapse.
-use Rattle.std.proofs.Common.{◌≡◌, ℕ, ◌-◌, ◌*◌, ◌<◌, ◌≤◌, cond, List, [], ◌∷◌, ◌++◌, length, map, take, get_or, Option, Some, None, inl, inr, refl, sym, ap, ◌∙◌, subst, arith}
+use Rattle.std.proofs.Common.{◌≡◌, ℕ, ◌-◌, ◌*◌, ◌<◌, ◌≤◌, true, cond, List, [], ◌∷◌, ◌++◌, length, map, take, get_or, Option, Some, None, inl, inr, refl, sym, ap, ◌∙◌, subst, arith}
 use Rattle.std.specs.Prelude.{is_some, IfSome}
 use Rattle.std.specs.List.{count_by}
 use Rattle.std.proofs.Math.ListN.{replicate}
@@ -25,11 +25,12 @@ use Rattle.pm_runs.specs.Surfaces.{Surface, surface_of, net_of_surface, is_live}
 use Rattle.pm_runs.specs.Planes.{planes_at}
 use Rattle.pm_runs.proofs.Collapsed.{input-alike}
 use Rattle.pm_runs.specs.Counts.{live_count_of}
-use Rattle.pm_runs.proofs.Live.{input-sound}
+use Rattle.pm_runs.proofs.Live.{live_below, input-sound}
 use Rattle.pm_runs.proofs.Living.{first_live_count}
 use Rattle.pm_runs.proofs.Manifolds.{manifold-same}
 use Rattle.pm_runs.proofs.Proper.{input-proper}
 use Rattle.pm_shrink.specs.Shrinking.{IsKept, planes_counted}
+use Rattle.pm_shrink.specs.Slots.{HaveOwnSlots}
 use Rattle.pm_shrink.specs.Tables.{surface_with, IsAcross, IsShrink}
 use Rattle.pm_shrink.proofs.AllFaces.{net_there}
 use Rattle.pm_shrink.proofs.CornerTables.{AreListed}
@@ -111,13 +112,19 @@ module _ (m : Mesh) (formed : IsWellFormed m) (manifold : IsOrientedManifold (ne
         omega (arith, same, first_count m, formed.faces);
   }
 
-  pub started : (places : List (Option Place)) (twins : Table) (quadrics : List Sums) (corners : Lists) → places ≡ roomy_places m →
+  own_there : (slots : List ℕ) → ((v : ℕ) → v < length m.points → get_or slots v 0 ≡ v) → HaveOwnSlots (surface_of m) slots
+  own_there slots each v w live_v live_w same =
+      let n = length-map m.points Some in
+      let at : (x : ℕ) → is_live (surface_of m) x ≡ true → get_or slots x 0 ≡ x = λ x live. each x (let l = live_below (surface_of m) x live in omega arith) in
+      sym (at v live_v) ∙ same ∙ at w live_w
+
+  pub started : (places : List (Option Place)) (twins : Table) (quadrics : List Sums) (slots : List ℕ) (corners : Lists) → places ≡ roomy_places m →
       IsTableOf (net_of m.faces) (length m.points) twins →
-      length quadrics ≡ 2 * length m.points → ((v : ℕ) → v < length m.points → get_or quadrics v zero_sums ≡ sums_of (planes_at m v)) →
+      length slots ≡ 2 * length m.points → ((v : ℕ) → v < length m.points → get_or slots v 0 ≡ v) → ((v : ℕ) → v < length m.points → get_or quadrics v zero_sums ≡ sums_of (planes_at m v)) →
       corners.items ≡ 3 * length m.faces → length corners.lists ≡ 2 * length m.points → IsSound corners → AreListed (map Some m.faces) (3 * length m.faces) corners →
-      IsShrink (map Some m.faces) places (length m.points) (length m.faces) quadrics twins.twins corners
-  started places twins quadrics corners places_are table len each items heads sound listed =
-      let P : List (Option Place) → Type 0 = λ (k : List (Option Place)). IsShrink (map Some m.faces) k (length m.points) (length m.faces) quadrics twins.twins corners in
+      IsShrink (map Some m.faces) places (length m.points) (length m.faces) quadrics slots twins.twins corners
+  started places twins quadrics slots corners places_are table len slots_are each items heads sound listed =
+      let P : List (Option Place) → Type 0 = λ (k : List (Option Place)). IsShrink (map Some m.faces) k (length m.points) (length m.faces) quadrics slots twins.twins corners in
       let all : length (map Some m.faces) ≡ length m.faces = length-map m.faces Some in
       let room : length (roomy_places m) ≡ 2 * length m.points = (
       let later : List (Option Place) = replicate (2 * length m.points - length m.points) None in
@@ -133,7 +140,8 @@ module _ (m : Mesh) (formed : IsWellFormed m) (manifold : IsOrientedManifold (ne
           most = omega (arith, formed.points);
           fresh = fresh_places m;
         };
-        quadrics_len = omega arith;
+        slots_len = omega arith;
+        own_slots = subst (λ (s : Surface). HaveOwnSlots s slots) (sym (surface_there m)) (own_there slots slots_are);
         items = omega arith;
         heads = omega arith;
       })

@@ -1,5 +1,6 @@
 pub mod CornerNumbers
 pub mod Shrinking
+pub mod Slots
 pub mod Tables
 pub mod FaceRows
 pub mod Walks

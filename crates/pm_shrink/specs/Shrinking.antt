@@ -11,7 +11,8 @@ use Rattle.pm_runs.specs.Counts.{sum_below}
 use Rattle.pm_runs.specs.Merged.{IsProper}
 
 -- The surface; by vertex number the quadric; and by vertex number the corners of its faces, in an order of the type's own.
--- Past the next vertex the two lists say nothing.
+-- Past the next vertex the two lists say nothing, and the list of quadrics says nothing of a merged vertex either: the one
+-- that was made of it has its room.
 pub record Shrinking : Type 0 where
   pub surface : Surface
   pub quadrics : List Sums

@@ -11,7 +11,7 @@ ghost use Rattle.pm_shrink.specs.Shrinking.{net_at, quadric_at};
 ghost use Rattle.pm_shrink.specs.Following.{IsAfter};
 
 use crate::Shrink;
-use crate::tables::{count_gone, drop_face, merge_corners, merge_places, merge_quadrics};
+use crate::tables::{count_gone, drop_face, merge_corners, merge_places};
 use pm_base::{Collapse, Gone, Point};
 
 impl Shrink {
@@ -27,7 +27,7 @@ impl Shrink {
         ensures entry { result ≡ entry_of self.old.surface a b place }
         ensures quadric { quadric_at self.new (next_vertex self.old.surface)
             ≡ plus_sums (quadric_at self.old a) (quadric_at self.old b) }
-        ensures quadrics { (v : ℕ) → v ≢ next_vertex self.old.surface
+        ensures quadrics { (v : ℕ) → is_live_in self.new.surface v ≡ true → v ≢ next_vertex self.old.surface
             → quadric_at self.new v ≡ quadric_at self.old v }
         ensures after { (m : Mesh) (log : List Entry) → IsAfter m log self.old
             → IsAfter m (log ++ result ∷ []) self.new }
@@ -41,7 +41,7 @@ impl Shrink {
         merge_corners(&mut self.faces, &mut self.corners, a, s);
         merge_corners(&mut self.faces, &mut self.corners, b, s);
         merge_places(&mut self.places, a, b, s, place);
-        merge_quadrics(&mut self.quadrics, a, b, s);
+        self.quadrics.merge(a, b, s);
         self.next = s + 1;
         self.left -= count_gone(left, right);
         Collapse {

@@ -7,6 +7,7 @@ mod corners;
 mod faces;
 mod fan;
 mod legal;
+mod quadrics;
 mod readers;
 mod setup;
 mod shrink;

@@ -54,7 +54,7 @@ impl Shrink {
         requires { is_live_in self.now.surface v ≡ true }
         ensures { result.now ≡ quadric_at self.now v }
     {
-        &self.quadrics[v as usize]
+        self.quadrics.get(v)
     }
 
     /// The first corner of the list of a live vertex, and none exactly where no face that is still there has the vertex.

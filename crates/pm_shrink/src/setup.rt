@@ -1,25 +1,24 @@
 //! The surface before the first collapse.
-ghost use Rattle.std.specs.Prelude.{◌≡◌, ◌+◌, ◌-◌, ◌*◌, ◌<◌, ◌≤◌, ◌≢◌, ◌++◌, ◌↔◌, ℕ, [], ◌∷◌, Some, None, true, cond, is_some, length, map, replicate, slice_index_or, slice_set, IfOk};
+ghost use Rattle.std.specs.Prelude.{◌≡◌, ◌+◌, ◌-◌, ◌*◌, ◌<◌, ◌≤◌, ◌++◌, ◌↔◌, ℕ, [], Some, None, true, is_some, length, map, replicate, slice_index_or, IfOk};
 ghost use Rattle.pm_base.specs.declared.limits.TheConstants.{MOST_FACES, MOST_NODES};
-ghost use Rattle.pm_base.specs.Meshes.{mesh_of, IsFace, IsWellFormed};
+ghost use Rattle.pm_base.specs.Meshes.{mesh_of, IsWellFormed};
 ghost use Rattle.pm_base.specs.Sides.{face_of, net_of};
 ghost use Rattle.pm_base.specs.Fans.{IsOrientedManifold};
 ghost use Rattle.pm_links.specs.Lists.{list_of, has, IsSound};
-ghost use Rattle.pm_quadric.specs.declared.quadric.TheConstants.{MOST_PLANES};
-ghost use Rattle.pm_quadric.specs.Sums.{plus_sums, sums_of, zero_sums};
+ghost use Rattle.pm_quadric.specs.Sums.{sums_of};
 ghost use Rattle.pm_runs.specs.Surfaces.{surface_of};
-ghost use Rattle.pm_runs.specs.Planes.{planes_at, plane_of_face, has_corner};
+ghost use Rattle.pm_runs.specs.Planes.{planes_at};
 ghost use Rattle.pm_twins.specs.Table.{IsTableOf};
 ghost use Rattle.pm_shrink.specs.Shrinking.{quadric_at};
-ghost use Rattle.pm_shrink.specs.Tables.{side_from, mesh_with};
+ghost use Rattle.pm_shrink.specs.Tables.{side_from};
 ghost use Rattle.pm_shrink.specs.Following.{IsAfter};
 
 use crate::Shrink;
 use crate::faces::FaceTable;
+use crate::quadrics::QuadricTable;
 use crate::shrink::OutOfMemory;
-use pm_base::{Corners, Mesh, Point, Side};
+use pm_base::{Mesh, Point, Side};
 use pm_links::Links;
-use pm_quadric::Quadric;
 use pm_twins::Twins;
 use std::alloc::Global;
 
@@ -40,7 +39,7 @@ impl Shrink {
         let room = 2 * points.len();
         let faces = FaceTable::new(alloc, triples, twins.into_sides())?;
         let places = places_with_room(alloc, points, room)?;
-        let quadrics = face_quadrics(alloc, points, triples, room)?;
+        let quadrics = QuadricTable::new(alloc, points, triples, room)?;
         let corners = corner_lists(alloc, &faces, room)?;
         Ok(Shrink {
             faces,
@@ -93,56 +92,4 @@ fn corner_lists(alloc: Global, faces: &FaceTable, room: usize) -> Result<Links, 
         lists.push_front(faces.from(Side(number)), number);
     }
     Ok(lists)
-}
-
-// The quadric of each point, and of no plane for each vertex that can come later.
-fn face_quadrics(
-    alloc: Global,
-    points: &[Point],
-    faces: &[Corners],
-    room: usize,
-) -> Result<Vec<Quadric>, OutOfMemory>
-    requires formed { IsWellFormed (mesh_with points.now faces.now) }
-    requires room { length points.now ≤ room }
-    ensures len { IfOk result (λ quadrics. length quadrics.items ≡ room) }
-    ensures each { IfOk result (λ quadrics. (v : ℕ) → v < room → slice_index_or quadrics.items v zero_sums
-        ≡ sums_of (planes_at (mesh_with points.now faces.now) v)) }
-{
-    let mut quadrics = vec![in alloc; Quadric::zero(); room]?;
-    for face in 0..faces.len() {
-        add_face(&mut quadrics, points, &faces[face]);
-    }
-    Ok(quadrics)
-}
-
-// Adds the plane of a face to the quadrics of its corners.
-fn add_face(quadrics: &mut Vec<Quadric>, points: &[Point], face: &Corners)
-    requires face { IsFace (length points.now) face.now }
-    requires room { length points.now ≤ length quadrics.old.items }
-    requires few { (v : ℕ) → (slice_index_or quadrics.old.items v zero_sums).count < MOST_PLANES }
-    ensures len { length quadrics.new.items ≡ length quadrics.old.items }
-    ensures each { (v : ℕ) → slice_index_or quadrics.new.items v zero_sums
-        ≡ cond (has_corner v face.now)
-        (plus_sums (slice_index_or quadrics.old.items v zero_sums)
-        (sums_of (plane_of_face (mesh_with points.now []) face.now ∷ [])))
-        (slice_index_or quadrics.old.items v zero_sums) }
-{
-    let quadric = Quadric::of_face(
-        points[face.a as usize],
-        points[face.b as usize],
-        points[face.c as usize],
-    );
-    add(quadrics, face.a, &quadric);
-    add(quadrics, face.b, &quadric);
-    add(quadrics, face.c, &quadric);
-}
-
-fn add(quadrics: &mut Vec<Quadric>, v: u32, quadric: &Quadric)
-    requires within { v < length quadrics.old.items }
-    requires few { (slice_index_or quadrics.old.items v zero_sums).count + quadric.now.count ≤ MOST_PLANES }
-    ensures { quadrics.new.items
-        ≡ slice_set quadrics.old.items v (plus_sums (slice_index_or quadrics.old.items v zero_sums) quadric.now) }
-{
-    let sum = quadrics[v as usize].plus(quadric);
-    quadrics[v as usize] = sum;
 }

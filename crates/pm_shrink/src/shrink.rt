@@ -1,8 +1,8 @@
 //! A surface that shrinks, collapse by collapse.
 use crate::faces::FaceTable;
+use crate::quadrics::QuadricTable;
 use pm_base::Point;
 use pm_links::Links;
-use pm_quadric::Quadric;
 use std::alloc::AllocError;
 use std::marker::Model;
 
@@ -13,7 +13,7 @@ pub type OutOfMemory = AllocError;
 /// by vertex number the quadrics and the lists of corners.
 ///
 /// Vertices are named by numbers, and each collapse makes the next one. Only `new` takes memory, some 60 bytes a face and
-/// 400 a point: there is room for as many later vertices as there are points, since each collapse takes two away for one.
+/// 220 a point: there is room for as many later vertices as there are points, since each collapse takes two away for one.
 #[derive(Drop)]
 pub struct Shrink {
     // Each face, and what stands across its sides; of the sides of a dropped face that says nothing.
@@ -22,7 +22,7 @@ pub struct Shrink {
     pub(crate) corners: Links,
     // The place of each live vertex; none where it was merged into another, or isn't made yet.
     pub(crate) places: Vec<Option<Point>>,
-    pub(crate) quadrics: Vec<Quadric>,
+    pub(crate) quadrics: QuadricTable,
     // The number of the next vertex.
     pub(crate) next: u32,
     // How many faces are there.
@@ -35,8 +35,8 @@ impl Model for Shrink {
 
     ghost Value = { Shrinking };
 
-    ghost view = { λ s. shrinking_with s.faces.faces s.places.items s.next s.quadrics.items s.corners };
+    ghost view = { λ s. shrinking_with s.faces.faces s.places.items s.next s.quadrics.quadrics s.corners };
 
-    ghost invariant = { λ s. IsShrink s.faces.faces s.places.items s.next s.left s.quadrics.items
-        s.faces.across s.corners };
+    ghost invariant = { λ s. IsShrink s.faces.faces s.places.items s.next s.left s.quadrics.quadrics
+        s.quadrics.slots s.faces.across s.corners };
 }

@@ -1,16 +1,13 @@
 //! What a collapse writes to the tables: free functions, each over the tables that it changes.
-ghost use Rattle.std.specs.Prelude.{◌≡◌, ◌≢◌, ◌+◌, ◌*◌, ◌<◌, ◌≤◌, ℕ, None, Some, length, slice_index_or, slice_set, is_some, IfSome};
+ghost use Rattle.std.specs.Prelude.{◌≡◌, ◌≢◌, ◌+◌, ◌*◌, ◌<◌, ◌≤◌, ℕ, None, Some, length, slice_set, is_some, IfSome};
 ghost use Rattle.pm_base.specs.declared.limits.TheConstants.{MOST_FACES, MOST_NODES, MOST_SIDES};
 ghost use Rattle.pm_base.specs.Counts.{one_if};
 ghost use Rattle.pm_links.specs.Lists.{list_of, with_moved, IsHeld, IsSound};
-ghost use Rattle.pm_quadric.specs.declared.quadric.TheConstants.{MOST_PLANES};
-ghost use Rattle.pm_quadric.specs.Sums.{plus_sums, zero_sums};
 ghost use Rattle.pm_shrink.specs.Writes.{with_corners, without_face, without_corners, unlisted, with_across, relinked};
 
 use crate::faces::FaceTable;
 use pm_base::{FaceId, Gone, Point, Side};
 use pm_links::Links;
-use pm_quadric::Quadric;
 
 // Puts the vertex `to` at each corner in the list of `from`.
 fn rename(faces: &mut FaceTable, corners: &Links, from: u32, to: u32)
@@ -108,18 +105,4 @@ pub(crate) fn merge_places(places: &mut Vec<Option<Point>>, a: u32, b: u32, s: u
     places[a as usize] = None;
     places[b as usize] = None;
     places[s as usize] = Some(place);
-}
-
-/// Gives the vertex s the quadrics of a and b together.
-pub(crate) fn merge_quadrics(quadrics: &mut Vec<Quadric>, a: u32, b: u32, s: u32)
-    requires a_in { a < length quadrics.old.items }
-    requires b_in { b < length quadrics.old.items }
-    requires s_in { s < length quadrics.old.items }
-    requires few { (slice_index_or quadrics.old.items a zero_sums).count
-        + (slice_index_or quadrics.old.items b zero_sums).count ≤ MOST_PLANES }
-    ensures { quadrics.new.items ≡ slice_set quadrics.old.items s
-        (plus_sums (slice_index_or quadrics.old.items a zero_sums) (slice_index_or quadrics.old.items b zero_sums)) }
-{
-    let sum = quadrics[a as usize].plus(&quadrics[b as usize]);
-    quadrics[s as usize] = sum;
 }

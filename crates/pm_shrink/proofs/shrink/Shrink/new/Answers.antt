@@ -43,8 +43,8 @@ invariant_of-result c =
     let quadrics = rw (c.as_slice-points.ensures, c.as_slice-triples.ensures) at (c.in_ok-quadrics.ensures {u = tt}) in
     let corners = rw (faces, length-map m.faces Some, c.as_slice-points.ensures) at (c.in_ok-corners.ensures {u = tt}) in
     rw (faces, across, c.as_slice-points.ensures, c.as_slice-triples.ensures)
-    (started m c.requires.formed c.requires.manifold c.in_ok-places.places.items c.args.twins c.in_ok-quadrics.quadrics.items c.in_ok-corners.corners
-    places c.requires.twins quadrics.len (λ v l. quadrics.each v (omega arith))
+    (started m c.requires.formed c.requires.manifold c.in_ok-places.places.items c.args.twins c.in_ok-quadrics.quadrics.quadrics c.in_ok-quadrics.quadrics.slots c.in_ok-corners.corners
+    places c.requires.twins quadrics.len quadrics.slots quadrics.quadrics
     corners.items corners.heads corners.sound corners.each)
 
 pub returns-clause-quadrics : goal.returns-clause-quadrics
@@ -56,6 +56,6 @@ returns-clause-after c =
     let start : IsStartOfRun m = record { formed = c.requires.formed; manifold = c.requires.manifold } in
     let faces : c.in_ok-faces.faces.faces ≡ map Some m.faces = (c.in_ok-faces.ensures {u = tt}).faces ∙ ap (map Some) c.as_slice-triples.ensures in
     let places : c.in_ok-places.places.items ≡ roomy_places m = rw c.as_slice-points.ensures at c.in_ok-places.ensures in
-    let new : Shrinking = shrinking_with c.in_ok-faces.faces.faces c.in_ok-places.places.items (length c.as_slice-points.result.now) c.in_ok-quadrics.quadrics.items c.in_ok-corners.corners in
+    let new : Shrinking = shrinking_with c.in_ok-faces.faces.faces c.in_ok-places.places.items (length c.as_slice-points.result.now) c.in_ok-quadrics.quadrics.quadrics c.in_ok-corners.corners in
     let made : new.surface ≡ surface_of m = rw (faces, places, c.as_slice-points.ensures) (surface_there m) in
     start_after m new start made (returns-clause-quadrics c)

@@ -8,22 +8,22 @@ use Rattle.pm_quadric.proofs.QuadricLaws.{count_is}
 use Rattle.pm_runs.specs.Planes.{planes_at}
 use Rattle.pm_shrink.specs.Tables.{mesh_with}
 use Rattle.pm_shrink.proofs.PlaneTotals.{quadric-more, planes-short}
-use Rattle.pm_shrink.proofs.setup.face_quadrics.Goals as goal
+use Rattle.pm_shrink.proofs.quadrics.face_quadrics.Goals as goal
 
 pub loop-face-init : goal.loop-face-init
 unfolding planes_at
 loop-face-init c =
-    let all : c.in_ok-quadrics.quadrics.items ≡ replicate c.args.room zero_sums = c.in_ok-quadrics.ensures.items_if_clones_equal (λ y same. same) ∙ ap (replicate c.args.room) c.zero.ensures in
+    let all : c.in_ok-quadrics.quadrics.items ≡ replicate (length c.args.points.now) zero_sums = c.in_ok-quadrics.ensures.items_if_clones_equal (λ y same. same) ∙ ap (replicate (length c.args.points.now)) c.zero.ensures in
     record {
-      len = ap length all ∙ length-replicate c.args.room zero_sums;
-      each = λ v l. ap (λ (qs : List Sums). get_or qs v zero_sums) all ∙ get_or-replicate c.args.room v zero_sums zero_sums l;
+      len = ap length all ∙ length-replicate (length c.args.points.now) zero_sums;
+      each = λ v l. ap (λ (qs : List Sums). get_or qs v zero_sums) all ∙ get_or-replicate (length c.args.points.now) v zero_sums zero_sums l;
     }
 
 pub add_face-requires-clause-few : goal.add_face-requires-clause-few
 add_face-requires-clause-few c v =
     let i = c.loop-face.invariant in
     let qs : List Sums = c.loop-face.quadrics.items in
-    elim (cases_lt v c.args.room) [
+    elim (cases_lt v (length c.args.points.now)) [
       | inl l ↦
           let taken = take c.loop-face.face c.args.faces.now in
           let count = count_is (get_or qs v zero_sums) (planes_at (mesh_with c.args.points.now taken) v) (i.each v l) in

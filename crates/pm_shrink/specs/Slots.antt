@@ -1,0 +1,14 @@
+-- How slots hold the quadrics of vertices.
+use Rattle.std.specs.Prelude.{◌≡◌, ℕ, true, List, map, slice_index_or}
+use Rattle.pm_quadric.specs.Sums.{Sums, zero_sums}
+use Rattle.pm_runs.specs.Surfaces.{Surface, is_live}
+
+-- By vertex number the quadric in its slot.
+unfoldable pub by_vertex : List ℕ → List Sums → List Sums
+by_vertex slots quadrics = map (λ k. slice_index_or quadrics k zero_sums) slots
+
+-- No two live vertices have the same slot.
+abbrev pub HaveOwnSlots : Surface → List ℕ → Type 0
+HaveOwnSlots s slots =
+    (v w : ℕ) → is_live s v ≡ true → is_live s w ≡ true →
+    slice_index_or slots v 0 ≡ slice_index_or slots w 0 → v ≡ w
