@@ -1,10 +1,9 @@
 -- Flags that are cleared or set by names, name after name.
-use Rattle.std.proofs.Common.{◌≡◌, ℕ, ◌+◌, ◌<◌, ◌≤◌, eqb, Bool, ◌&&◌, ◌||◌, List, [], ◌∷◌, length, Option, None, inl, inr, refl, sym, ◌∙◌, arith}
+use Rattle.std.proofs.Common.{◌≡◌, ℕ, ◌+◌, eqb, Bool, ◌&&◌, List, [], inl, inr, refl, sym, ◌∙◌, arith}
 use Rattle.std.proofs.Math.Bool.{or-false}
 use Rattle.std.proofs.lemmas.Bool.{cases_eq, eq-eqb, ne_eqb, and_from, and_left, and_right}
 use Rattle.pm_base.specs.Counts.{set_of}
-use Rattle.pm_front.specs.Needed.{times_in, AreRaised}
-use Rattle.pm_front.specs.Candidates.{is_named, is_freed, AreCleared, AreAdded}
+use Rattle.pm_front.specs.Candidates.{is_freed, AreAdded}
 
 -- A sum is zero where both parts are.
 pub sum_zero : (a b : ℕ) → eqb (a + b) 0 ≡ (eqb a 0 && eqb b 0)

@@ -1,5 +1,6 @@
 -- Records that a set needs, how often its records name them, and what remains of a set once some records are gone.
-use Rattle.std.specs.Prelude.{◌≡◌, ℕ, zero, suc, ◌+◌, ◌<◌, Bool, cond, ◌&&◌, not, List, ◌∷◌, map, filter, length, Option, None, Some, slice_index_or}
+use Rattle.std.specs.Prelude.{◌≡◌, ℕ, zero, suc, ◌+◌, ◌<◌, Bool, cond, ◌&&◌, not, List, ◌∷◌, map, filter, length, Option, None, Some, [], IfSome, slice_index_or}
+use Rattle.std.specs.List.{All}
 use Rattle.pm_base.specs.declared.ids.Side.{Side}
 use Rattle.pm_forest.specs.Forest.{Hierarchy, record_at, record_count, s_of, maker_of}
 use Rattle.pm_forest.specs.Faces.{record_of}
@@ -32,6 +33,17 @@ times_in k names = length (filter (is_at k) names)
 -- How often record j names record k.
 abbrev pub times_named : Hierarchy → ℕ → ℕ → ℕ
 times_named h j k = times_in k (named_by h j)
+
+-- These are the names of what record k needs, in some order, each below the number of records. None stands where nothing
+-- is named.
+pub record AreNamesOf (h : Hierarchy) (k : ℕ) (names : List (Option ℕ)) : Type 0 where
+  pub there : All (λ name. IfSome name (λ j. j < record_count h)) names
+  pub times : (j : ℕ) → times_in j names ≡ times_named h k j
+
+-- A row for each record: the names of what it needs.
+pub record AreNames (h : Hierarchy) (rows : List (List (Option ℕ))) : Type 0 where
+  pub len : length rows ≡ record_count h
+  pub each : (k : ℕ) → k < record_count h → AreNamesOf h k (slice_index_or rows k [])
 
 -- How often those of the first n records that are in T name record k.
 unfoldable pub named_below : Hierarchy → (ℕ → Bool) → ℕ → ℕ → ℕ

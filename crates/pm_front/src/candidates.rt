@@ -7,11 +7,11 @@ ghost use Rattle.pm_base.specs.Counts.{set_of};
 ghost use Rattle.pm_forest.specs.Moves.{may_try};
 ghost use Rattle.pm_beyond.specs.Moves.{IsClosed, is_at};
 ghost use Rattle.pm_sets.specs.declared.set.TheConstants.{BOUND_LIMIT};
-ghost use Rattle.pm_front.specs.Needed.{times_in, AreRaised};
+ghost use Rattle.pm_front.specs.Needed.{times_in, AreNamesOf, AreRaised};
 ghost use Rattle.pm_front.specs.Candidates.{no_candidates, is_named, is_freed, AreAnswers, AreCleared, AreAdded, AreCandidates};
 
 use crate::OutOfMemory;
-use crate::need_counts::{NeedCounts, names_of};
+use crate::need_counts::NeedCounts;
 use pm_base::NodeId;
 use pm_forest::Hierarchy;
 use pm_sets::NumberSet;
@@ -148,16 +148,17 @@ impl Candidates {
         add_roots(&mut self.waiting, h);
     }
 
-    /// Those after record `k` was split. The flags are those before. O(1).
-    pub(crate) fn split(&mut self, h: &Hierarchy, _set: &[bool], k: u32)
+    /// Those after record `k`, which needs what these names tell, was split. The flags are those before. O(1).
+    pub(crate) fn split(&mut self, h: &Hierarchy, names: &[Option<u32>], _set: &[bool], k: u32)
         requires record { k < record_count h.now }
+        requires names { AreNamesOf h.now k names.now }
         requires unsplit { set_of _set.now k ≡ false }
         requires closed { IsClosed h.now (set_of _set.now) }
         requires candidates { AreCandidates h.now (set_of _set.now) self.old }
         ensures { AreCandidates h.now (with (set_of _set.now) k) self.new }
     {
         h.invariant();
-        need_all(&mut self.needs, &mut self.unneeded, &names_of(h, k));
+        need_all(&mut self.needs, &mut self.unneeded, names);
         self.unneeded.insert(k);
         let (t, u) = h.children(k);
         add_splitter(&mut self.waiting, h, t);
@@ -165,16 +166,17 @@ impl Candidates {
         self.waiting.remove(k);
     }
 
-    /// Those after record `k` was collapsed. The flags are those before. O(1).
-    pub(crate) fn collapse(&mut self, h: &Hierarchy, _set: &[bool], k: u32)
+    /// Those after record `k`, which needs what these names tell, was collapsed. The flags are those before. O(1).
+    pub(crate) fn collapse(&mut self, h: &Hierarchy, names: &[Option<u32>], _set: &[bool], k: u32)
         requires record { k < record_count h.now }
+        requires names { AreNamesOf h.now k names.now }
         requires is_split { set_of _set.now k ≡ true }
         requires closed { IsClosed h.now (set_of _set.now) }
         requires candidates { AreCandidates h.now (set_of _set.now) self.old }
         ensures { AreCandidates h.now (without (set_of _set.now) k) self.new }
     {
         h.invariant();
-        free_all(&mut self.needs, &mut self.unneeded, &names_of(h, k));
+        free_all(&mut self.needs, &mut self.unneeded, names);
         self.unneeded.remove(k);
         let (t, u) = h.children(k);
         clear_splitter(&mut self.waiting, h, t);

@@ -1,16 +1,13 @@
 //! For each record how often the records of a set name it among what they need, so that whether one of them needs it is
 //! answered by one look.
-ghost use Rattle.std.specs.Prelude.{ℕ, ◌≡◌, ◌<◌, ◌≤◌, ◌+◌, ◌*◌, ◌^◌, false, [], ◌∷◌, length, replicate, slice_index_or, IfOk, IfSome};
+ghost use Rattle.std.specs.Prelude.{ℕ, ◌≡◌, ◌<◌, ◌≤◌, ◌+◌, ◌^◌, false, [], ◌∷◌, length, replicate, slice_index_or, IfOk, IfSome};
 ghost use Rattle.std.specs.List.{All};
 ghost use Rattle.pm_forest.specs.Forest.{record_count};
 ghost use Rattle.pm_forest.specs.Fronts.{with};
 ghost use Rattle.pm_base.specs.Counts.{set_of};
-ghost use Rattle.pm_forest.specs.Faces.{face_count};
-ghost use Rattle.pm_forest.specs.Moves.{side_in};
-ghost use Rattle.pm_front.specs.Needed.{revealer_of, times_in, times_named, AreRaised, AreNeedCounts};
+ghost use Rattle.pm_front.specs.Needed.{times_in, AreNamesOf, AreRaised, AreNeedCounts};
 
 use crate::OutOfMemory;
-use pm_base::{NodeId, Side};
 use pm_forest::Hierarchy;
 use pm_sets::NumberSet;
 use std::alloc::Global;
@@ -29,34 +26,6 @@ impl Model for NeedCounts {
     ghost Value = { List ℕ };
 
     ghost view = { λ n. n.counts.items };
-}
-
-// Which record reveals the face of a recorded neighbour.
-fn revealer(h: &Hierarchy, side: Option<Side>) -> Option<u32>
-    requires { All (λ e. e < 3 * face_count h.now) (side_in side) }
-    ensures value { result ≡ revealer_of h.now side }
-    ensures there { IfSome result (λ j. j < record_count h.now) }
-{
-    h.revealed_by(side?.face())
-}
-
-/// What record `k` needs, once for each reason; `None` where no neighbour is recorded, and where no record made a node
-/// or revealed a face.
-pub(crate) fn names_of(h: &Hierarchy, k: u32) -> [Option<u32>; 5]
-    requires { k < record_count h.now }
-    ensures there { All (λ name. IfSome name (λ j. j < record_count h.now)) result }
-    ensures times { (j : ℕ) → times_in j result ≡ times_named h.now k j }
-{
-    h.invariant();
-    let change = h.record_at(k);
-    let sides = change.neighbours();
-    [
-        h.maker(NodeId(change.s)),
-        revealer(h, sides[0]),
-        revealer(h, sides[1]),
-        revealer(h, sides[2]),
-        revealer(h, sides[3]),
-    ]
 }
 
 // Counts each of these names once more.
@@ -120,24 +89,26 @@ impl NeedCounts {
         }
     }
 
-    /// Counts what record `k` needs, which comes to the set. O(1).
-    pub fn add(&mut self, h: &Hierarchy, _set: &NumberSet, k: u32)
+    /// Counts the names of what record `k` needs, which comes to the set. O(1).
+    pub fn add(&mut self, h: &Hierarchy, names: &[Option<u32>], _set: &NumberSet, k: u32)
         requires record { k < record_count h.now }
+        requires names { AreNamesOf h.now k names.now }
         requires absent { set_of _set.now k ≡ false }
         requires counts { AreNeedCounts h.now (set_of _set.now) self.old }
         ensures { AreNeedCounts h.now (with (set_of _set.now) k) self.new }
     {
         h.invariant();
-        raise_all(self, &names_of(h, k));
+        raise_all(self, names);
     }
 
-    /// No longer counts what record `k` needs, which has left the set. O(1).
-    pub fn take_away(&mut self, h: &Hierarchy, _set: &NumberSet, k: u32)
-        requires record { k < record_count h.now }
-        requires absent { set_of _set.now k ≡ false }
-        requires counts { AreNeedCounts h.now (with (set_of _set.now) k) self.old }
-        ensures { AreNeedCounts h.now (set_of _set.now) self.new }
+    /// No longer counts the names of what record `k` needs, which has left the set. O(1).
+    pub fn take_away(&mut self, _h: &Hierarchy, names: &[Option<u32>], _set: &NumberSet, _k: u32)
+        requires record { _k < record_count _h.now }
+        requires names { AreNamesOf _h.now _k names.now }
+        requires absent { set_of _set.now _k ≡ false }
+        requires counts { AreNeedCounts _h.now (with (set_of _set.now) _k) self.old }
+        ensures { AreNeedCounts _h.now (set_of _set.now) self.new }
     {
-        lower_all(self, &names_of(h, k));
+        lower_all(self, names);
     }
 }

@@ -1,4 +1,3 @@
-pub mod Marks
 pub mod Adapting
 pub mod Holding
 pub mod Finding

@@ -11,12 +11,12 @@ ghost use Rattle.pm_view.specs.Wanted.{is_wanted};
 ghost use Rattle.pm_refine.specs.Holding.{Joins, HoldsMoves};
 ghost use Rattle.pm_refine.specs.Finding.{IsStartOfPlan};
 ghost use Rattle.pm_refine.specs.Deciding.{AreDecided, IsNext};
-ghost use Rattle.pm_front.specs.Needed.{is_needed, is_unneeded, remaining, AreNeedCounts};
+ghost use Rattle.pm_front.specs.Needed.{is_needed, is_unneeded, remaining, AreNamesOf, AreNeedCounts};
 ghost use Rattle.pm_refine.specs.Adapting.{view_target};
 
 use crate::falls::Falls;
-use crate::marks::mark_needs;
-use crate::needs::push_needs;
+use crate::marks::mark_all;
+use crate::needs::push_all;
 use pm_bounds::Bounds;
 use pm_forest::Hierarchy;
 use pm_front::Front;
@@ -73,16 +73,18 @@ fn stays<L: Ledger>(
 }
 
 // A record that goes is put in the one set; one that will be split is put in the other, and what it
-// needs is marked.
+// needs, which these names tell, is marked.
 fn note(
     h: &Hierarchy,
     marks: &mut Vec<bool>,
     rises: &mut NumberSet,
     falls: &mut Falls,
+    names: &[Option<u32>],
     k: u32,
     is_split: bool,
 )
     requires record { k < record_count h.now }
+    requires names { AreNamesOf h.now k names.now }
     requires marks { length marks.old.items ≡ record_count h.now }
     requires rises { length rises.old ≡ record_count h.now }
     requires falls { length falls.old.records ≡ record_count h.now }
@@ -96,10 +98,10 @@ fn note(
         × (rises.new ≡ slice_set rises.old k true) × (falls.new.records ≡ falls.old.records) }
 {
     if is_split {
-        falls.insert(h, k);
+        falls.insert(h, names, k);
     } else {
         rises.insert(k);
-        mark_needs(h, marks, k);
+        mark_all(marks, names);
     }
 }
 
@@ -134,8 +136,9 @@ fn decide<L: Ledger>(
     if stays == is_split {
         return false;
     }
-    push_needs(h, work, k);
-    note(h, marks, rises, falls, k, is_split);
+    let names = front.named_by(k);
+    push_all(work, &names);
+    note(h, marks, rises, falls, &names, k, is_split);
     true
 }
 

@@ -55,7 +55,7 @@ fn collapse_last(front: &mut Front, falls: &mut Falls, budget: u32)
 {
     let mut left = budget;
     while left > 0 {
-        let Some(k) = falls.take_last(front.hierarchy()) else {
+        let Some(k) = falls.take_last(front) else {
             return;
         };
         front.collapse_legal(k);
@@ -99,7 +99,7 @@ pub(crate) fn advance(
     let left = split_first(front, rises, budget);
     collapse_last(front, falls, left);
     clear(rises);
-    falls.clear(front.hierarchy());
+    falls.clear(front);
 }
 
 /// What is told of this many moves.

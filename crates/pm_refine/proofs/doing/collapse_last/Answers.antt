@@ -51,7 +51,7 @@ loop-left-preserved c =
     record {
       hierarchy = c.collapse_legal.ensures.hierarchy ∙ c.loop-left.invariant.hierarchy;
       len = ap (λ (m : List Bool). length m) taken ∙ length-set {A = Bool} falls k false ∙ c.loop-left.invariant.len;
-      counts = subst (λ (x : Hierarchy). AreNeedCounts x (set_of c.take_last.new.self.records) c.take_last.new.self.needs) (c.hierarchy.ensures ∙ c.loop-left.invariant.hierarchy) c.take_last.ensures.counts;
+      counts = subst (λ (x : Hierarchy). AreNeedCounts x (set_of c.take_last.new.self.records) c.take_last.new.self.needs) c.loop-left.invariant.hierarchy c.take_last.ensures.counts;
       to_do = subst (λ (m : List Bool). AreToDo h (set_of c.collapse_legal.new.self.flags) (moved_by S all) now after (take (c.loop-left.left - 1) (collapses_of m))) (sym taken)
           (one_made h T (moved_by S all) before after (collapses_of falls) c.loop-left.left (Collapse k) (collapses_of (set falls k false)) (set_of c.collapse_legal.new.self.flags) now some first
           c.collapse_legal.ensures.done lists c.loop-left.invariant.to_do);

@@ -9,8 +9,19 @@ use Rattle.pm_front.specs.Candidates.{AreCandidates}
 use Rattle.pm_front.specs.State.{State}
 use Rattle.pm_front.proofs.Surfaces.{shows_surface}
 use Rattle.pm_front.proofs.FrontLaws.{sound-same, collapse_told, collapse_sound}
-use Rattle.pm_front.proofs.ReadyLaws.{as_read, ready-same, collapse_ready}
+use Rattle.pm_front.proofs.ReadyLaws.{as_read, ready-same, collapse_ready, row_named}
 use Rattle.pm_front.proofs.front.Front.collapse_legal.Goals as goal
+
+pub of-names-requires : goal.of-names-requires
+of-names-requires c =
+    let l = subst (λ (s : State). c.args.k < record_count s.h) (sym c.self.view_is) c.requires.record in
+    omega (arith, l, c.self.invariant.names.len)
+
+pub collapse-requires-clause-names : goal.collapse-requires-clause-names
+collapse-requires-clause-names c =
+    let s = c.self.inside.refinement in
+    let l = subst (λ (s : State). c.args.k < record_count s.h) (sym c.self.view_is) c.requires.record in
+    row_named s.h _ c.self.inside.names c.self.invariant.names c.hierarchy.ensures c.args.k l _ c.of-names.ensures
 
 pub collapse-requires-clause-closed : goal.collapse-requires-clause-closed
 collapse-requires-clause-closed c =
@@ -33,8 +44,8 @@ invariant_of-self c =
     let sound = c.self.invariant.sound in
     let at : k < length s.flags = omega (arith, l, sound.flag_len) in
     let are = as_read (λ (h : Hierarchy) (flags : List Bool). AreCandidates h (without (set_of flags) k) c.collapse.new.self) _ _ _ _ c.hierarchy.ensures c.flags.ensures c.collapse.ensures in
-    ready-same c.collapse-2.new.self s.h _ c.collapse.new.self c.collapse-2.ensures.h c.collapse-2.ensures.flags
-    (collapse_ready s.h s.flags k at c.collapse.new.self (collapse_sound s.h s.flags sound k l may) are)
+    ready-same c.collapse-2.new.self s.h _ c.collapse.new.self c.self.inside.names c.collapse-2.ensures.h c.collapse-2.ensures.flags
+    (collapse_ready s.h s.flags k at c.collapse.new.self c.self.inside.names c.self.invariant.names (collapse_sound s.h s.flags sound k l may) are)
 
 pub returns-clause-surface : goal.returns-clause-surface
 returns-clause-surface c firm =

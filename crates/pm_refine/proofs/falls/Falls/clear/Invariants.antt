@@ -6,7 +6,7 @@ use Rattle.pm_refine.proofs.falls.Falls.clear.Given as goal
 abbrev pub invariant-loop-k : goal.invariant-loop-k
 invariant-loop-k l = record {
   len : length l.self.records ≡ length l.fn.self.records;
-  counts : AreNeedCounts l.h (set_of l.self.records) l.self.needs;
+  counts : AreNeedCounts l.front.h (set_of l.self.records) l.self.needs;
 }
 
 abbrev pub decreases-loop-k : goal.decreases-loop-k

@@ -1,10 +1,13 @@
-use Rattle.std.proofs.Common.{◌≡◌, ◌<◌, length, sym, ap, ◌∙◌, subst, arith}
+use Rattle.std.proofs.Common.{◌≡◌, ℕ, ◌<◌, ◌∷◌, [], length, Option, sym, ap, ◌∙◌, subst, arith}
+use Rattle.std.specs.Prelude.{IfSome}
 use Rattle.pm_forest.specs.declared.parts.Record.{Record}
-use Rattle.pm_forest.specs.Forest.{node_count, maker_of}
+use Rattle.pm_forest.specs.Forest.{node_count, record_count, maker_of}
 use Rattle.pm_forest.specs.Moves.{neighbours_of}
+use Rattle.pm_front.specs.Needed.{times_in, times_named}
 use Rattle.pm_sides.proofs.SplitNodeLaws.{s_is, s_below}
 use Rattle.pm_front.proofs.NamedLaws.{neighbour_there, names_times}
-use Rattle.pm_front.proofs.need_counts.names_of.Goals as goal
+use Rattle.pm_front.proofs.NameRows.{all_five}
+use Rattle.pm_front.proofs.names.names_of.Goals as goal
 
 pub maker-requires : goal.maker-requires
 maker-requires c =
@@ -28,11 +31,18 @@ pub revealer-requires-4 : goal.revealer-requires-4
 revealer-requires-4 c =
     neighbour_there c.args.h.now c.args.k 3 c.neighbours-sides.result c.invariant.ensures c.requires (c.neighbours-sides.ensures.list ∙ ap neighbours_of c.record_at-change.ensures) (omega arith)
 
-pub returns-clause-times : goal.returns-clause-times
-returns-clause-times c j =
+pub returns : goal.returns
+returns c =
     let h = c.args.h.now in
     let sides = c.neighbours-sides.result in
     let four : length sides ≡ 4 = omega arith in
     let made = c.maker.ensures.value ∙ ap (maker_of h) (ap (λ (r : Record). r.s) c.record_at-change.ensures ∙ s_is h c.args.k) in
+    let times : (j : ℕ) → times_in j (c.maker.result ∷ c.revealer.result ∷ c.revealer-2.result ∷ c.revealer-3.result ∷ c.revealer-4.result ∷ []) ≡ times_named h c.args.k j = λ j.
     let names = names_times h c.args.k j sides four (c.neighbours-sides.ensures.list ∙ ap neighbours_of c.record_at-change.ensures) in
-    (rw (made, c.revealer.ensures.value, c.revealer-2.ensures.value, c.revealer-3.ensures.value, c.revealer-4.ensures.value) names)
+    (rw (made, c.revealer.ensures.value, c.revealer-2.ensures.value, c.revealer-3.ensures.value, c.revealer-4.ensures.value) names) in
+    let P : Option ℕ → Type 0 = λ name. IfSome name (λ j. j < record_count h) in
+    record {
+      there = all_five P c.maker.result c.revealer.result c.revealer-2.result c.revealer-3.result c.revealer-4.result c.maker.ensures.below c.revealer.ensures.there c.revealer-2.ensures.there
+          c.revealer-3.ensures.there c.revealer-4.ensures.there;
+      times = times;
+    }
