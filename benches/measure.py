@@ -17,8 +17,8 @@ from pathlib import Path
 import meshes
 
 HERE = Path(__file__).resolve().parent
-SMALL = [("grid", 32), ("grid", 100), ("sphere", 71), ("cylinder", 500), ("cone", 500)]
-ALL = SMALL + [("grid", 316), ("sphere", 224), ("grid", 700), ("cylinder", 4000), ("cone", 4000)]
+SMALL = [("grid", 32), ("grid", 100), ("ramp", 100), ("sphere", 71), ("cylinder", 500), ("cone", 500)]
+ALL = SMALL + [("grid", 316), ("ramp", 316), ("sphere", 224), ("grid", 700), ("cylinder", 4000), ("cone", 4000)]
 VIEWS = "".join("v %d %d 40000 1000 %d\n" % (3000 * i - 30000, 2000 * i - 20000, 40 + i % 7) for i in range(20))
 
 

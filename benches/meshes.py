@@ -2,7 +2,7 @@
 
     python3 meshes.py KIND SIZE > mesh.obj
 
-KIND is grid, sphere, cylinder or cone; SIZE is the number of cells or segments along one way.
+KIND is grid, ramp, sphere, cylinder or cone; SIZE is the number of cells or segments along one way.
 """
 import sys
 from math import cos, pi, sin
@@ -22,6 +22,21 @@ def grid(n):
             a = r * (n + 1) + c
             faces += [(a, a + 1, a + n + 2), (a, a + n + 2, a + n + 1)]
     return points, faces
+
+
+def ramp(n):
+    """A square of n by n cells whose roughness grows from 1 to some 30,000 from one side to the other.
+
+    The costs of its pairs spread over many powers of two, so a queue that parts near keys from far ones moves the
+    bound between them often: where it moves too little at a time, the time grows with the square of the faces.
+    """
+    points, faces = grid(n)
+
+    def rough(x, y, z):
+        share = (x + 30000) / 60000
+        return round((z % 41 - 20) / 20 * 2 ** (15 * share) * 0.9)
+
+    return [(x, y, rough(x, y, z)) for x, y, z in points], faces
 
 
 def sphere(n):
@@ -72,7 +87,7 @@ def cone(n):
     return points, faces
 
 
-KINDS = {"grid": grid, "sphere": sphere, "cylinder": cylinder, "cone": cone}
+KINDS = {"grid": grid, "ramp": ramp, "sphere": sphere, "cylinder": cylinder, "cone": cone}
 
 
 def text(kind, size):

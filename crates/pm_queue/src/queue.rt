@@ -23,7 +23,7 @@ const _: () = prove!(ITEM_LIMIT == 4_194_304);
 /// Contracts see a list with an optional key for each item.
 ///
 /// Only entries of small cost, the near ones, stand in a heap. When the last of them is gone, a pass over all keys brings
-/// some of the others near; that is so at most some 750 times in a queue's life.
+/// some of the others near, and moves the bound between near and far up by an eighth at least.
 #[derive(Drop)]
 pub struct Queue {
     // The item at each place. Those that have a key stand in the first places, and of them the near ones come first.
