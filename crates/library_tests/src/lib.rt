@@ -1,39 +1,30 @@
-//! Tests of the libraries of text, meshes and the builder, a module for each crate.
+//! Tests of libraries by public calls alone, a module for each crate. What the programs answer is told by the cases of
+//! tests/, so that these have only what no output shows.
 #![tactic(auto)]
 
 #[cfg(test)]
 mod base;
 #[cfg(test)]
-mod fans;
+mod bounds;
 #[cfg(test)]
 mod forest;
 #[cfg(test)]
-mod format;
+mod fronts;
 #[cfg(test)]
 mod grid;
 #[cfg(test)]
 mod io;
 #[cfg(test)]
-mod lines;
-#[cfg(test)]
 mod links;
-#[cfg(test)]
-mod prepare;
 #[cfg(test)]
 mod quadric;
 #[cfg(test)]
 mod queue;
 #[cfg(test)]
-mod read;
-#[cfg(test)]
-mod scan;
-#[cfg(test)]
 mod sets;
 #[cfg(test)]
 mod shrink;
 #[cfg(test)]
-mod simplify;
-#[cfg(test)]
 mod twins;
 #[cfg(test)]
-mod write;
+mod view;

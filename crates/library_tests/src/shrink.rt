@@ -69,30 +69,3 @@ fn first_collapse_of_the_octahedron(rt: HostRuntime) -> Result<(), Fail> {
     }
     Ok(())
 }
-
-// Whether each pair of the first vertices is refused at the place of its smaller end.
-fn are_all_refused(shrink: &mut Shrink, places: &[Spot]) -> Result<bool, Fail>
-    requires { length places.now ≤ MOST_VERTICES }
-{
-    for b in 0..places.len() {
-        for a in 0..b {
-            let place = point(places[a])?;
-            if try_collapse(shrink, a as u32, b as u32, place)?.is_some() {
-                return Ok(false);
-            }
-        }
-    }
-    Ok(true)
-}
-
-#[test]
-fn a_tetrahedron_and_a_triangle_are_left(rt: HostRuntime) -> Result<(), Fail> {
-    let corners = [(0, 0, 0), (10, 0, 0), (0, 10, 0), (0, 0, 10)];
-    let sides = [(0, 2, 1), (0, 1, 3), (1, 2, 3), (0, 3, 2)];
-    let mut tetrahedron = shrink_of(rt.alloc(), &corners, &sides)?;
-    assert!(rt; are_all_refused(&mut tetrahedron, &corners)?);
-    let points = [(0, 0, 0), (10, 0, 0), (0, 10, 0), (5, 5, 5)];
-    let mut triangle = shrink_of(rt.alloc(), &points, &[(0, 1, 2)])?;
-    assert!(rt; are_all_refused(&mut triangle, &points)?);
-    Ok(())
-}

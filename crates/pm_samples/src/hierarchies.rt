@@ -25,19 +25,6 @@ pub fn octahedron(alloc: Global) -> Result<Hierarchy, Fail> {
     shaped(alloc, [6, 4, 4, 2], &units)
 }
 
-/// A square of two faces that look upwards, one vertex of which was merged into another.
-pub fn square(alloc: Global) -> Result<Hierarchy, Fail> {
-    let units = [
-        Unit::Root([0, 10, 0], 1, 3),
-        Unit::Root([10, 10, 0], 1, 4),
-        Unit::Root([0, 0, 0], 2, 0),
-        Unit::Base(face(2, 1, 0, 2)),
-        Unit::Head(head(2, ([0, 0, 0], 1), ([10, 0, 0], 2), 1)),
-        Unit::Face(face(2, 3, 1, 1), 0, 1),
-    ];
-    shaped(alloc, [4, 3, 1, 1], &units)
-}
-
 /// Three roots and a split that brings in the only face, at which no neighbour is recorded.
 pub fn lone_face(alloc: Global) -> Result<Hierarchy, Fail> {
     let units = [
@@ -48,20 +35,4 @@ pub fn lone_face(alloc: Global) -> Result<Hierarchy, Fail> {
         Unit::Face(face(2, 3, 0, 1), 0, 0),
     ];
     shaped(alloc, [4, 3, 0, 1], &units)
-}
-
-/// A valid hierarchy that isn't firm: its record's face leaves two chains of faces at node 1.
-pub fn loosened(alloc: Global) -> Result<Hierarchy, Fail> {
-    let units = [
-        Unit::Root([0, 0, 0], 2, 0),
-        Unit::Root([1, 0, 0], 1, 1),
-        Unit::Root([0, 1, 0], 1, 2),
-        Unit::Root([-1, 0, 0], 1, 3),
-        Unit::Base(face(1, 2, 3, 1)),
-        Unit::Base(face(0, 3, 4, 2)),
-        Unit::Base(face(0, 4, 2, 3)),
-        Unit::Head(head(0, ([0, 0, 0], 4), ([0, 0, 0], 5), 1)),
-        Unit::Face(face(0, 1, 3, 4), 3, 4),
-    ];
-    shaped(alloc, [5, 4, 3, 1], &units)
 }
