@@ -1,0 +1,169 @@
+"""Proves and builds programs by `rt`, on as many processors as there are.
+
+`rt run` alone proves the libraries below a program one after another. `rt all check` proves as many
+crates side by side as it is told, each once those below it are done, and keeps them, so that
+`rt run` then has only the program itself to look at again, to compile and to link. (`rt ci` works
+side by side too, but tries each must-fail edit and each test on the way, which takes several times
+as long, and of its own run it leaves no record of what a program was built from.)
+"""
+import contextlib
+import fcntl
+import os
+import queue
+import re
+import shutil
+import subprocess
+import sys
+import threading
+import time
+from pathlib import Path
+from typing import IO, Dict, Iterator, List, Optional, Sequence, TextIO
+
+from .kit import find_kit
+from .progress import Sections, crates_at_work, open_goals, since
+from .record import path_of, write_record
+from .sources import (PROGRAMS, PROVED, Program, crate_rows, crates_below, sum_of_file,
+                      sum_of_sources)
+from .stopped import Stopped
+
+# The memory that a check may take, in kilobytes, and the seconds without news after which some is given.
+EACH, QUIET = 3_000_000, 60
+# An empty input has an empty answer, so these end with 0 exactly where all was proved and built.
+TRIAL_WORDS: Dict[str, List[str]] = {"vdpm": ["--", "canon"], "prepare": []}
+FAILED = re.compile(r"(\w+): failed")
+
+
+def say(line: str) -> None:
+    print(f"prove: {line}", file=sys.stderr, flush=True)
+
+
+def lanes() -> int:
+    """How many checks to run side by side: as many as there are processors, and memory for."""
+    found = re.search(r"MemAvailable:\s+(\d+)", Path("/proc/meminfo").read_text())
+    memory = int(found[1]) if found else EACH
+    return max(1, min(len(os.sched_getaffinity(0)), memory // EACH))
+
+
+@contextlib.contextmanager
+def opened_log(top: Path) -> Iterator[TextIO]:
+    """The log, once no other proof writes it."""
+    try:
+        log = open(top / "build.log", "a", encoding="utf-8")
+    except OSError as error:
+        raise Stopped(f"{top}/build.log can't be written ({error.strerror})") from error
+    with log:
+        try:
+            fcntl.flock(log, fcntl.LOCK_EX | fcntl.LOCK_NB)
+        except BlockingIOError:
+            say("another ./prove works here; waiting for it")
+            fcntl.flock(log, fcntl.LOCK_EX)
+        log.truncate(0)
+        yield log
+
+
+def lines_of(stream: IO[str]) -> Iterator[Optional[str]]:
+    """The stream's lines, and None where none came for a while."""
+    waiting: "queue.Queue[Optional[str]]" = queue.Queue()
+
+    def read() -> None:
+        for line in stream:
+            waiting.put(line)
+        waiting.put(None)
+
+    reader = threading.Thread(target=read, daemon=True)
+    reader.start()
+    while True:
+        try:
+            line = waiting.get(timeout=QUIET)
+        except queue.Empty:
+            yield None
+            continue
+        if line is None:
+            return
+        yield line.rstrip("\n")
+
+
+def ran(words: List[str], folder: Path, log: TextIO) -> Iterator[Optional[str]]:
+    """The lines that a command of `rt` prints, each put in the log too."""
+    with subprocess.Popen(words, cwd=folder, stdin=subprocess.DEVNULL, stdout=subprocess.PIPE,
+                          stderr=subprocess.STDOUT, text=True, errors="replace") as process:
+        try:
+            for line in lines_of(process.stdout):
+                if line is not None:
+                    print(line, file=log, flush=True)
+                yield line
+        finally:
+            if process.poll() is None:
+                process.terminate()
+
+
+def told(crate: str, lines: Sequence[str]) -> None:
+    """Says where a crate's proof is open."""
+    say(f"crate {crate} is not proved:")
+    for line in open_goals(lines) or lines[-3:]:
+        print(f"    crates/{crate}: {line}", file=sys.stderr, flush=True)
+
+
+def prove_crates(top: Path, folder: Path, crates: Sequence[str], log: TextIO) -> List[str]:
+    """Proves the crates at or below `folder` and all that they stand on; returns those that failed."""
+    begun, done, section, failed = time.monotonic(), 0, Sections(), []
+    say(f"{len(crates)} crates, {lanes()} side by side; the whole output goes to build.log")
+    kept: Dict[str, List[str]] = {}
+    for line in ran(["rt", "all", "check", "--jobs", str(lanes())], folder, log):
+        if line is None:
+            at_work = ", ".join(crates_at_work(top)) or "a first look at the sources"
+            say(f"{done} of {len(crates)} crates done, {since(begun)} so far; at work: {at_work}")
+        elif section.is_heading(line) and section.name in crates:
+            done += 1
+            kept[section.name] = section.lines
+            say(f"{done} of {len(crates)} crates done, {since(begun)} so far: {section.name}")
+        elif FAILED.match(line) and section.name == "summary":
+            failed.append(FAILED.match(line)[1])
+    for crate in failed:
+        told(crate, kept.get(crate, []))
+    if not done:
+        raise Stopped("rt stopped before any proof:\n" + "\n".join(f"  {it}" for it in section.lines[-8:]))
+    return failed
+
+
+def is_stamped(program: Program) -> bool:
+    """Whether `rt` itself has noted that it proved and built the program that stands there."""
+    try:
+        stamp = program.proved.with_name(f"{program.name}.stamp").read_text(encoding="utf-8")
+        return stamp.endswith(sum_of_file(program.proved))
+    except OSError:
+        return False
+
+
+def build_program(program: Program, log: TextIO) -> bool:
+    """Compiles and links a program whose crates are proved, and writes its record."""
+    say(f"building {program.name}")
+    sources = sum_of_sources(program, PROVED)
+    with contextlib.suppress(FileNotFoundError):
+        path_of(program.proved).unlink()
+    lines = [line for line in ran(["rt", "run", *TRIAL_WORDS[program.name]], program.folder, log) if line]
+    if not is_stamped(program):
+        told(program.name, lines)
+        return False
+    seen = time.time_ns()
+    if sum_of_sources(program, PROVED) != sources:
+        say(f"the sources of {program.name} changed meanwhile: start ./prove again")
+        return False
+    write_record(program, program.proved, True, find_kit(), sources, seen)
+    say(f"{program.name} is proved and built: crates/{program.name}/out/{program.name}")
+    return True
+
+
+def prove(top: Path, names: Sequence[str]) -> bool:
+    """Proves and builds these programs, or all, and returns whether that was done."""
+    find_kit()
+    rows = crate_rows(top)
+    programs = [Program(top, name) for name in names or PROGRAMS]
+    # At the top of the repository rt takes each crate, in a program's folder what is below it.
+    folder = programs[0].folder if len(programs) == 1 else top
+    crates = crates_below(rows, programs[0].name) if len(programs) == 1 else list(rows)
+    with opened_log(top) as log:
+        failed = prove_crates(top, folder, crates, log)
+        done = [not {*failed} & {*crates_below(rows, it.name)} and build_program(it, log)
+                for it in programs]
+    return all(done)

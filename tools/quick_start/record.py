@@ -1,0 +1,103 @@
+"""What is known of a program that was built: a file NAME.record beside it, of lines `KEY VALUE`.
+
+The record's own time is when the sources were last seen to have the sum that it tells. A program
+whose sum is the record's, and below whose sources nothing is newer than the record, is the one of
+these sources; `start.sh` looks at no more. Where something is newer, `is_current` reads it all.
+"""
+import os
+import subprocess
+import time
+from dataclasses import dataclass
+from pathlib import Path
+from typing import Dict, Optional, Sequence
+
+from .kit import Kit
+from .sources import CODE, PROVED, Program, places_read, sum_of_file, sum_of_sources
+
+# A file's time may lag that much behind the clock, in nanoseconds.
+LAG = 100_000_000
+
+
+@dataclass(frozen=True)
+class Record:
+    """Says by which kit and of which sources a program was built, and whether it was proved."""
+
+    program: str
+    proved: bool
+    commit: str
+    kit: str
+    built: str
+    sources: str
+    sum: str
+
+
+def path_of(built: Path) -> Path:
+    return built.with_name(f"{built.name}.record")
+
+
+def read_record(built: Path) -> Optional[Record]:
+    """The record beside a program, if there is one that tells all."""
+    try:
+        lines = path_of(built).read_text(encoding="utf-8").splitlines()
+    except (OSError, ValueError):
+        return None
+    said: Dict[str, str] = dict(line.partition(" ")[::2] for line in lines)
+    keys = ("program", "commit", "kit", "built", "sources", "sum")
+    if not all(key in said for key in (*keys, "proved")):
+        return None
+    return Record(proved=said["proved"] == "yes", **{key: said[key] for key in keys})
+
+
+def commit_of(top: Path) -> str:
+    """The commit that is checked out, and whether the sources differ from it."""
+
+    def git(*words: str) -> str:
+        quiet = {"stdin": subprocess.DEVNULL, "stderr": subprocess.DEVNULL}
+        return subprocess.run(["git", *words], cwd=top, stdout=subprocess.PIPE, text=True,
+                              check=True, **quiet).stdout.strip()
+
+    try:
+        head = git("rev-parse", "--short=12", "HEAD")
+        changed = git("status", "--porcelain", "--", "crates.txt", "crates")
+    except (OSError, subprocess.CalledProcessError):
+        return "unknown"
+    return f"{head} with changes" if changed else head
+
+
+def text_of(record: Record, places: Sequence[str]) -> str:
+    """The record as text, with the places that `start.sh` looks through."""
+    said = {**record.__dict__, "proved": "yes" if record.proved else "no"}
+    rows = [f"{key} {value}" for key, value in said.items()] + [f"from {place}" for place in places]
+    return "".join(row + "\n" for row in rows)
+
+
+def write_record(program: Program, built: Path, proved: bool, kit: Kit, sources: str, seen: int) -> None:
+    """Writes the record of a program just built, as one step. `seen` is the time, in nanoseconds,
+    at which the sources were seen to have the sum `sources`."""
+    now = time.strftime("%Y-%m-%d %H:%M:%S UTC", time.gmtime())
+    record = Record(program.name, proved, commit_of(program.top), kit.version, now, sources,
+                    sum_of_file(built))
+    half = path_of(built).with_name(f".{built.name}.record.{os.getpid()}")
+    half.write_text(text_of(record, places_read(program)), encoding="utf-8")
+    as_seen(half, seen)
+    os.replace(half, path_of(built))
+
+
+def as_seen(path: Path, seen: int) -> None:
+    os.utime(path, ns=(seen - LAG, seen - LAG))
+
+
+def is_current(program: Program, built: Path) -> bool:
+    """Whether a program is the one of the sources as they are, by their sums. If so its record gets
+    the time of this look, so that the next start need not read them."""
+    record, seen = read_record(built), time.time_ns()
+    if record is None or not os.access(built, os.X_OK) or record.sum != sum_of_file(built):
+        return False
+    if record.sources != sum_of_sources(program, PROVED if record.proved else CODE):
+        return False
+    try:
+        as_seen(path_of(built), seen)
+    except OSError:
+        # (a folder that can't be written to: the next start looks again)
+        pass
+    return True

@@ -1,0 +1,45 @@
+"""What is known of the programs that stand in this repository."""
+from pathlib import Path
+from typing import Iterator
+
+from .kit import find_kit
+from .record import Record, read_record
+from .sources import CODE, PROGRAMS, PROVED, Program, sum_of_file, sum_of_sources
+from .stopped import Stopped
+
+
+def kit_now() -> str:
+    try:
+        return find_kit().version
+    except Stopped:
+        return "no kit on the path"
+
+
+def standing(program: Program, built: Path, record: Record) -> str:
+    """How a program stands to the sources as they are."""
+    if not built.is_file() or record.sum != sum_of_file(built):
+        return "is another file than was built, so it isn't run"
+    if record.sources != sum_of_sources(program, PROVED if record.proved else CODE):
+        return "of other sources than these, so it isn't run"
+    return "of these sources"
+
+
+def told_of(program: Program, built: Path, kit: str) -> Iterator[str]:
+    """The lines on one program that was built."""
+    record, place = read_record(built), built.relative_to(program.top)
+    if record is None:
+        yield f"{place}: nothing is known of it" if built.exists() else f"{place}: not built"
+        return
+    how = "proved" if record.proved else "not proved, run-time checks on"
+    yield f"{place}: {how}; {standing(program, built, record)}"
+    other = "" if record.kit == kit else f" (now: {kit})"
+    yield f"    built {record.built} at commit {record.commit} by {record.kit}{other}"
+    yield f"    sha256 {record.sum}"
+
+
+def status_lines(top: Path) -> Iterator[str]:
+    kit = kit_now()
+    for name in PROGRAMS:
+        program = Program(top, name)
+        for built in (program.proved, program.unproved):
+            yield from told_of(program, built, kit)

@@ -1,0 +1,112 @@
+"""Builds a program without a proof, with the checks of the run time left in.
+
+An overflow, an index or a cast out of range, or anything else that a proof would have shown not to
+happen, stops such a program by a trap: it never goes on wrongly.
+"""
+import contextlib
+import fcntl
+import os
+import shutil
+import subprocess
+import sys
+import tempfile
+import time
+from pathlib import Path
+from typing import Iterator, List
+
+from .kit import Kit, find_kit, stop_where_it_lacks
+from .module import module_of
+from .record import is_current, path_of, write_record
+from .sources import CODE, Program, sum_of_sources
+from .stopped import Stopped
+
+TARGET = "x86_64-unknown-linux-gnu"
+# What rattle itself gives clang for a program, but for the level: -O1 is built soonest, and what it
+# builds is about as fast.
+FLAGS = f"""--target={TARGET} -march=x86-64-v2 -mllvm -no-trap-after-noreturn -ffunction-sections
+ -fdata-sections -mllvm -trap-unreachable -mllvm -no-x86-call-frame-opt
+ -mllvm -disable-machine-licm -mllvm -disable-postra-machine-licm
+ -mllvm -sink-common-insts=false --no-default-config -no-canonical-prefixes
+ -fno-crash-diagnostics -fPIE -O1 -w""".split()
+TRIES = 3
+
+
+def say(program: Program, line: str) -> None:
+    print(f"{program.name}: {line}", file=sys.stderr, flush=True)
+
+
+@contextlib.contextmanager
+def alone(program: Program) -> Iterator[None]:
+    """Waits until no other build of the program runs, and keeps others out until this one ends."""
+    folder = program.unproved.parent
+    try:
+        folder.mkdir(exist_ok=True)
+        lock = open(folder / f"{program.name}.lock", "w", encoding="utf-8")
+    except OSError as error:
+        raise Stopped(f"nothing can be written to {folder} ({error.strerror})") from error
+    with lock:
+        try:
+            fcntl.flock(lock, fcntl.LOCK_EX | fcntl.LOCK_NB)
+        except BlockingIOError:
+            say(program, "it is being built already; waiting for that")
+            fcntl.flock(lock, fcntl.LOCK_EX)
+        yield
+
+
+def drop_leftovers(program: Program) -> None:
+    """Removes the folders of builds that were killed. None is under way while the lock is held."""
+    for folder in program.unproved.parent.glob(f".{program.name}-*"):
+        shutil.rmtree(folder, ignore_errors=True)
+
+
+def run_tool(words: List[str]) -> None:
+    done = subprocess.run(words, stdin=subprocess.DEVNULL, stdout=subprocess.PIPE,
+                          stderr=subprocess.STDOUT, text=True, errors="replace", check=False)
+    if done.returncode:
+        lines = done.stdout.strip().splitlines() or [f"status {done.returncode}"]
+        raise Stopped(f"{words[0]} failed: {lines[-1]}")
+
+
+def compiled(kit: Kit, module: Path, room: Path) -> Path:
+    """The module compiled and linked. The sanitizer's pass isn't asked for, so the module's marks
+    for it stay without effect; nothing is taken out of it."""
+    code, made = room / "program.o", room / "program"
+    run_tool([str(kit.clang), *FLAGS, "-c", "-x", "ir", str(module), "-o", str(code)])
+    link = [str(kit.folder / "bin/rattle-link"), "--target", TARGET]
+    link += ["--toolchain", str(kit.folder / "toolchain"), "-o", str(made), str(code)]
+    run_tool(link + [str(archive) for archive in kit.archives])
+    return made
+
+
+def build_once(program: Program, kit: Kit) -> bool:
+    """Builds in a folder beside the target, renames, and tells whether no source changed meanwhile."""
+    sources = sum_of_sources(program, CODE)
+    with tempfile.TemporaryDirectory(prefix=f".{program.name}-", dir=program.unproved.parent) as it:
+        made = compiled(kit, module_of(program, kit, Path(it)), Path(it))
+        seen = time.time_ns()
+        if sum_of_sources(program, CODE) != sources:
+            return False
+        # (without a record the old program isn't run, so no moment has a wrong pair)
+        with contextlib.suppress(FileNotFoundError):
+            path_of(program.unproved).unlink()
+        os.replace(made, program.unproved)
+    write_record(program, program.unproved, False, kit, sources, seen)
+    return True
+
+
+def build(program: Program) -> None:
+    """Makes `unproved/NAME` the program of the sources as they are, unless it is that already."""
+    kit = find_kit()
+    stop_where_it_lacks(kit)
+    with alone(program):
+        if is_current(program, program.unproved):
+            return
+        drop_leftovers(program)
+        again = " anew" if program.unproved.exists() else ""
+        say(program, f"building{again} from the sources, without a proof: about a minute")
+        try:
+            if not any(build_once(program, kit) for _ in range(TRIES)):
+                raise Stopped("the sources changed while it was built: start it again")
+        except OSError as error:
+            place = error.filename or program.unproved.parent
+            raise Stopped(f"it can't be built in {place} ({error.strerror})") from error
