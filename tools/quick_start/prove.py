@@ -20,17 +20,18 @@ from pathlib import Path
 from typing import IO, Dict, Iterator, List, Optional, Sequence, TextIO
 
 from .kit import find_kit
-from .progress import Sections, crates_at_work, open_goals, since
+from .progress import Watch, open_crate
 from .record import path_of, write_record
 from .sources import (PROGRAMS, PROVED, Program, crate_rows, crates_below, sum_of_file,
                       sum_of_sources)
 from .stopped import Stopped
 
-# The memory that a check may take, in kilobytes, and the seconds without news after which some is given.
-EACH, QUIET = 3_000_000, 60
+# The memory that a check may take, in kilobytes.
+EACH = 3_000_000
+# How often, in seconds, it is looked whether there is news to give.
+TICK = 2
 # An empty input has an empty answer, so these end with 0 exactly where all was proved and built.
 TRIAL_WORDS: Dict[str, List[str]] = {"vdpm": ["--", "canon"], "prepare": []}
-FAILED = re.compile(r"(\w+): failed")
 
 
 def say(line: str) -> None:
@@ -62,7 +63,7 @@ def opened_log(top: Path) -> Iterator[TextIO]:
 
 
 def lines_of(stream: IO[str]) -> Iterator[Optional[str]]:
-    """The stream's lines, and None where none came for a while."""
+    """The stream's lines, and None where none came for a moment."""
     waiting: "queue.Queue[Optional[str]]" = queue.Queue()
 
     def read() -> None:
@@ -74,7 +75,7 @@ def lines_of(stream: IO[str]) -> Iterator[Optional[str]]:
     reader.start()
     while True:
         try:
-            line = waiting.get(timeout=QUIET)
+            line = waiting.get(timeout=TICK)
         except queue.Empty:
             yield None
             continue
@@ -97,33 +98,26 @@ def ran(words: List[str], folder: Path, log: TextIO) -> Iterator[Optional[str]]:
                 process.terminate()
 
 
-def told(crate: str, lines: Sequence[str]) -> None:
-    """Says where a crate's proof is open."""
-    say(f"crate {crate} is not proved:")
-    for line in open_goals(lines) or lines[-3:]:
-        print(f"    crates/{crate}: {line}", file=sys.stderr, flush=True)
-
-
-def prove_crates(top: Path, folder: Path, crates: Sequence[str], log: TextIO) -> List[str]:
-    """Proves the crates at or below `folder` and all that they stand on; returns those that failed."""
-    begun, done, section, failed = time.monotonic(), 0, Sections(), []
+def prove_crates(programs: Sequence[Program], log: TextIO) -> List[str]:
+    """Proves the crates of these programs, and returns those that failed. It ends early where none
+    of the programs can be proved any more."""
+    top, rows = programs[0].top, crate_rows(programs[0].top)
+    below = [crates_below(rows, program.name) for program in programs]
+    # At the top of the repository rt takes each crate, in a program's folder what is below it.
+    folder, crates = (programs[0].folder, below[0]) if len(programs) == 1 else (top, list(rows))
     say(f"{len(crates)} crates, {lanes()} side by side; the whole output goes to build.log")
-    kept: Dict[str, List[str]] = {}
+    watch = Watch(crates, say)
     for line in ran(["rt", "all", "check", "--jobs", str(lanes())], folder, log):
         if line is None:
-            at_work = ", ".join(crates_at_work(top)) or "a first look at the sources"
-            say(f"{done} of {len(crates)} crates done, {since(begun)} so far; at work: {at_work}")
-        elif section.is_heading(line) and section.name in crates:
-            done += 1
-            kept[section.name] = section.lines
-            say(f"{done} of {len(crates)} crates done, {since(begun)} so far: {section.name}")
-        elif FAILED.match(line) and section.name == "summary":
-            failed.append(FAILED.match(line)[1])
-    for crate in failed:
-        told(crate, kept.get(crate, []))
-    if not done:
-        raise Stopped("rt stopped before any proof:\n" + "\n".join(f"  {it}" for it in section.lines[-8:]))
-    return failed
+            watch.wait(top)
+        else:
+            watch.take(line)
+        if all({*watch.failed} & {*crates} for crates in below):
+            return watch.failed
+    if not watch.done:
+        lines = "\n".join(f"    {line}" for line in watch.lines[-8:])
+        raise Stopped(f"rt stopped before any proof:\n{lines}")
+    return watch.failed
 
 
 def is_stamped(program: Program) -> bool:
@@ -143,7 +137,7 @@ def build_program(program: Program, log: TextIO) -> bool:
         path_of(program.proved).unlink()
     lines = [line for line in ran(["rt", "run", *TRIAL_WORDS[program.name]], program.folder, log) if line]
     if not is_stamped(program):
-        told(program.name, lines)
+        say("\n".join(open_crate(program.name, lines)))
         return False
     seen = time.time_ns()
     if sum_of_sources(program, PROVED) != sources:
@@ -158,12 +152,9 @@ def prove(top: Path, names: Sequence[str]) -> bool:
     """Proves and builds these programs, or all, and returns whether that was done."""
     find_kit()
     rows = crate_rows(top)
-    programs = [Program(top, name) for name in names or PROGRAMS]
-    # At the top of the repository rt takes each crate, in a program's folder what is below it.
-    folder = programs[0].folder if len(programs) == 1 else top
-    crates = crates_below(rows, programs[0].name) if len(programs) == 1 else list(rows)
+    programs = [Program(top, name) for name in dict.fromkeys(names or PROGRAMS)]
     with opened_log(top) as log:
-        failed = prove_crates(top, folder, crates, log)
-        done = [not {*failed} & {*crates_below(rows, it.name)} and build_program(it, log)
+        failed = {*prove_crates(programs, log)}
+        done = [not failed & {*crates_below(rows, it.name)} and build_program(it, log)
                 for it in programs]
     return all(done)
