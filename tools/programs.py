@@ -1,8 +1,8 @@
 """Builds and proves the programs of this repository. ./vdpm, ./prepare and ./prove call it.
 
-    python3 tools/programs.py build NAME      prints the file to run as NAME, built where it has to be
-    python3 tools/programs.py prove [NAME..]  proves and builds the programs, all where none is named
-    python3 tools/programs.py status          prints what is known of those that stand
+    python3 tools/programs.py build NAME       prints the file to run as NAME; it may build it first
+    python3 tools/programs.py prove [NAME..]   proves and builds these programs, or all
+    python3 tools/programs.py status           prints what is known of those that stand
 
 Ends with status 1 where a proof is open, 2 where the words aren't understood, and 70 where there is
 nothing to run: no kit, no place to write to, sources that don't compile.
@@ -24,8 +24,8 @@ TOP = Path(__file__).resolve().parent.parent
 
 
 def runnable(program: Program) -> Path:
-    """The file to run: the proved one of these sources, or else an unproved one, or else one that is
-    proved now, where the kit gives no way to an unproved one."""
+    """The file to run: the proved one of these sources, or else an unproved one, or, where the kit
+    gives no way to that, one that is proved now."""
     for built in (program.proved, program.unproved):
         if is_current(program, built):
             return built

@@ -156,7 +156,8 @@ class NotBuilt(OverTestKit):
 
     def test_no_kit_and_a_kit_that_lacks_a_tool(self) -> None:
         ran = self.repository.run("vdpm", path="/usr/bin:/bin")
-        if shutil.which("rt", path="/usr/bin:/bin") is None and shutil.which("python3", path="/usr/bin:/bin"):
+        found = [shutil.which(name, path="/usr/bin:/bin") for name in ("rt", "python3")]
+        if found[0] is None and found[1] is not None:
             self.assert_not_built(ran, "vdpm: the command rt of the Rattle kit isn't on the path")
             self.assertEqual(len(ran.stderr.splitlines()), 1)
         (self.repository.kit / "bin/rattle-link").unlink()
@@ -173,7 +174,7 @@ class NotBuilt(OverTestKit):
     def test_a_kit_that_works_otherwise_proves(self) -> None:
         self.repository.change("crates/vdpm/src/main.rt", "# OTHERWISE\n")
         ran = self.repository.run("vdpm")
-        self.assertIn("vdpm: this kit builds nothing without a proof, so ./prove vdpm begins", ran.stderr)
+        self.assertIn("this kit builds nothing without a proof, so ./prove vdpm begins", ran.stderr)
         self.assertNotIn(NOTICE, ran.stderr)
         self.assertEqual(ran.returncode, 3)
 

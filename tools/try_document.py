@@ -5,13 +5,20 @@ A command is a line `    $ COMMAND` of an indented block; the lines after it in 
 next command, are what it has to print, on both streams together. Commands run one after the other
 at the top of the repository, by bash. A line `    ...` stands for any further lines. Ends with
 status 1 where something else was printed.
+
+The programs say at each run that they aren't proved yet, where they aren't. Exactly that line is
+left out of what is compared, as are the lines that tell of building, and the end tells of it.
 """
+import re
 import subprocess
 import sys
 from pathlib import Path
 
 TOP = Path(__file__).resolve().parent.parent
 MARGIN = "    "
+# What ./vdpm and ./prepare say of a program that isn't proved, beside what the program says.
+BUILDING = re.compile(r"(vdpm|prepare): (building( anew)? from the sources|it is being built already)")
+NOTICE = re.compile(r"(vdpm|prepare): not proved on this machine yet, run-time checks are on; .*")
 
 
 def commands(lines):
@@ -29,6 +36,13 @@ def commands(lines):
     return found
 
 
+def own_lines(printed):
+    """The lines without those on how a program was built, and how many tell that it isn't proved."""
+    notices = [line for line in printed if NOTICE.fullmatch(line)]
+    own = [line for line in printed if line not in notices and not BUILDING.match(line)]
+    return own, len(notices)
+
+
 def is_as_told(printed, told):
     if told and told[-1] == "...":
         told = told[:-1]
@@ -37,17 +51,20 @@ def is_as_told(printed, told):
 
 
 def main():
-    wrong = count = 0
+    wrong = count = unproved = 0
     for name in sys.argv[1:]:
         for number, command, told in commands(Path(name).read_text(encoding="utf-8").splitlines()):
             both = {"stdout": subprocess.PIPE, "stderr": subprocess.STDOUT}
             done = subprocess.run(["bash", "-c", command], cwd=TOP, text=True, check=False, **both)
-            printed = done.stdout.splitlines()
+            printed, notices = own_lines(done.stdout.splitlines())
+            unproved += notices
             count += 1
             if not is_as_told(printed, told):
                 wrong += 1
                 print(f"{name}:{number}: $ {command}", "told:", *told, "printed:", *printed[:20], sep="\n  ")
     print(f"{count - wrong} commands print what is told, {wrong} don't")
+    if unproved:
+        print(f"{unproved} of the programs that they ran aren't proved on this machine yet")
     sys.exit(1 if wrong or not count else 0)
 
 

@@ -1,4 +1,4 @@
-"""What a person can follow of a proof: which crates are done, which are at work, and what is open."""
+"""What a person can follow of a proof: the crates that are done and at work, and what is open."""
 import re
 import time
 from pathlib import Path
@@ -34,7 +34,8 @@ def crates_at_work(top: Path) -> List[str]:
     for process in Path("/proc").glob("[0-9]*"):
         try:
             folder = (process / "cwd").resolve(strict=True)
-            if (process / "comm").read_text().strip() == "rattle" and folder.parent == top / "crates":
+            is_rattle = (process / "comm").read_text() == "rattle\n"
+            if is_rattle and folder.parent == top / "crates":
                 found.add(folder.name)
         except OSError:
             # (another's process, or one that has ended)
@@ -43,7 +44,7 @@ def crates_at_work(top: Path) -> List[str]:
 
 
 def open_crate(crate: str, lines: Sequence[str]) -> List[str]:
-    """What is said of a crate that isn't proved: where it is open, or else how its output ends."""
+    """What is said of a crate that isn't proved: where it is open, or how its output ends."""
     found = open_goals(lines) or [line[:WIDTH] for line in lines[-3:]]
     return [f"crate {crate} is not proved:", *(f"    crates/{crate}: {line}" for line in found)]
 
@@ -86,10 +87,11 @@ class Watch:
 
     def so_far(self) -> str:
         minutes, seconds = divmod(int(time.monotonic() - self.begun), 60)
-        return f"{self.done} of {len(self.crates)} crates done, {minutes}:{seconds:02} minutes so far"
+        done = f"{self.done} of {len(self.crates)} crates done"
+        return f"{done}, {minutes}:{seconds:02} minutes so far"
 
     def wait(self, top: Path) -> None:
-        """Nothing came for a moment: the last part is whole, and now and then there is news to give."""
+        """Nothing came for a moment, so the last part is whole. Now and then says what is at work."""
         self.end_part()
         if time.monotonic() - self.news > QUIET:
             self.news = time.monotonic()

@@ -135,7 +135,8 @@ def build_program(program: Program, log: TextIO) -> bool:
     sources = sum_of_sources(program, PROVED)
     with contextlib.suppress(FileNotFoundError):
         path_of(program.proved).unlink()
-    lines = [line for line in ran(["rt", "run", *TRIAL_WORDS[program.name]], program.folder, log) if line]
+    words = ["rt", "run", *TRIAL_WORDS[program.name]]
+    lines = [line for line in ran(words, program.folder, log) if line]
     if not is_stamped(program):
         say("\n".join(open_crate(program.name, lines)))
         return False

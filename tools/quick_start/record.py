@@ -71,7 +71,8 @@ def text_of(record: Record, places: Sequence[str]) -> str:
     return "".join(row + "\n" for row in rows)
 
 
-def write_record(program: Program, built: Path, proved: bool, kit: Kit, sources: str, seen: int) -> None:
+def write_record(program: Program, built: Path, proved: bool, kit: Kit, sources: str,
+                 seen: int) -> None:
     """Writes the record of a program just built, as one step. `seen` is the time, in nanoseconds,
     at which the sources were seen to have the sum `sources`."""
     now = time.strftime("%Y-%m-%d %H:%M:%S UTC", time.gmtime())

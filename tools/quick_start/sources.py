@@ -1,4 +1,4 @@
-"""What a program is made from: the crates that crates.txt puts below it, and a sum of their files."""
+"""What a program is made from: the crates below it by crates.txt, and a sum of their files."""
 import hashlib
 import os
 from dataclasses import dataclass
@@ -65,7 +65,7 @@ def sum_of_file(path: Path) -> str:
 
 
 def sum_of_sources(program: Program, parts: Sequence[str]) -> str:
-    """A sum of the crates below the program: their rows, and the files in these folders of theirs."""
+    """A sum of the crates below the program: their rows, and the files in these folders."""
     rows = crate_rows(program.top)
     total = hashlib.sha256()
     for crate in sorted(crates_below(rows, program.name)):

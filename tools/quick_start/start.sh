@@ -18,14 +18,16 @@ is_fresh() {
             from) places+=("$rest") ;;
         esac
     done <"$1.record"
-    [ "${#places[@]}" -gt 0 ] && [ "$(sha256sum <"$1")" = "$sum  -" ] && [ -z "$(newer "$1.record" "${places[@]}")" ]
+    [ "${#places[@]}" -gt 0 ] && [ "$(sha256sum <"$1")" = "$sum  -" ] &&
+        [ -z "$(newer "$1.record" "${places[@]}")" ]
 }
 
 # The first that is newer than the file $1, of the other places but the out/ of their crates.
 newer() {
     local record=$1
     shift
-    (cd "$top" && find "$@" -path 'crates/*/out' ! -path 'crates/*/*/out' -prune -o -cnewer "$record" -print -quit) 2>&1
+    (cd "$top" && find "$@" -path 'crates/*/out' ! -path 'crates/*/*/out' -prune \
+        -o -cnewer "$record" -print -quit) 2>&1
 }
 
 proved="$top/crates/$name/out/$name"

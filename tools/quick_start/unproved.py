@@ -79,7 +79,7 @@ def compiled(kit: Kit, module: Path, room: Path) -> Path:
 
 
 def build_once(program: Program, kit: Kit) -> bool:
-    """Builds in a folder beside the target, renames, and tells whether no source changed meanwhile."""
+    """Builds in a folder beside the target, renames, and tells whether no source changed since."""
     sources = sum_of_sources(program, CODE)
     with tempfile.TemporaryDirectory(prefix=f".{program.name}-", dir=program.unproved.parent) as it:
         made = compiled(kit, module_of(program, kit, Path(it)), Path(it))
