@@ -1,5 +1,9 @@
-"""Tries how ./vdpm, ./prepare and ./prove build and choose what they run: python3
-tools/test_quick_start.py, over a kit of tests; with --real over the kit on the path, in minutes."""
+"""Tries how ./vdpm, ./prepare and ./prove build and choose what they run, over a kit of tests.
+
+    python3 tools/test_quick_start.py [--real]
+
+With --real the kit on the path is tried too, which takes some minutes.
+"""
 import os
 import shutil
 import signal
@@ -9,7 +13,7 @@ import tempfile
 import time
 import unittest
 from pathlib import Path
-from typing import Dict, List, Optional
+from typing import Dict, Optional
 
 from fake_kit import make_kit, write
 
@@ -240,4 +244,7 @@ class Proved(OverTestKit):
 
 
 if __name__ == "__main__":
+    if "--real" in sys.argv:
+        sys.argv.remove("--real")
+        from real_quick_start import OverRealKit  # noqa: F401
     unittest.main()

@@ -17,7 +17,7 @@ from pathlib import Path
 TOP = Path(__file__).resolve().parent.parent
 MARGIN = "    "
 # What ./vdpm and ./prepare say of a program that isn't proved, beside what the program says.
-BUILDING = re.compile(r"(vdpm|prepare): (building( anew)? from the sources|it is being built already)")
+BUILDING = re.compile(r"(vdpm|prepare): (building( anew)? from|it is being built already)")
 NOTICE = re.compile(r"(vdpm|prepare): not proved on this machine yet, run-time checks are on; .*")
 
 
@@ -37,7 +37,7 @@ def commands(lines):
 
 
 def own_lines(printed):
-    """The lines without those on how a program was built, and how many tell that it isn't proved."""
+    """The lines without those on how a program was built, and how many of these were notices."""
     notices = [line for line in printed if NOTICE.fullmatch(line)]
     own = [line for line in printed if line not in notices and not BUILDING.match(line)]
     return own, len(notices)

@@ -50,7 +50,7 @@ def open_crate(crate: str, lines: Sequence[str]) -> List[str]:
 
 
 class Watch:
-    """Follows the output of `rt all check`, in which each crate's part comes whole once it is done."""
+    """Follows what `rt all check` prints, in which each crate's part comes whole, at its end."""
 
     def __init__(self, crates: Sequence[str], say: Callable[[str], None]) -> None:
         self.crates, self.say = crates, say
@@ -91,7 +91,7 @@ class Watch:
         return f"{done}, {minutes}:{seconds:02} minutes so far"
 
     def wait(self, top: Path) -> None:
-        """Nothing came for a moment, so the last part is whole. Now and then says what is at work."""
+        """Nothing came for a moment, so the last part is whole. Now and then tells what goes on."""
         self.end_part()
         if time.monotonic() - self.news > QUIET:
             self.news = time.monotonic()
