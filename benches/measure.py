@@ -2,7 +2,7 @@
 
     python3 benches/measure.py [PROGRAM] [small|all]
 
-PROGRAM is crates/vdpm/out/vdpm unless another is named; `./vdpm check < examples/octahedron.vdpm` builds it.
+PROGRAM is crates/vdpm/out/vdpm, which `./prove vdpm` builds, unless another is named.
 Seconds are processor time, the least of three runs; memory is the peak, and a peak below some 15 MB is that of this
 script itself, from which the program is started. Machines differ and are shared: compare the figures of one run with
 one another, and the last column between sizes, where linear work stays level.

@@ -1,7 +1,7 @@
 """Builds a program without a proof, with the checks of the run time left in.
 
-An overflow, an index or a cast out of range, or anything else that a proof would have shown not to
-happen, stops such a program by a trap: it never goes on wrongly.
+An overflow, an index out of range, a cast that loses bits, a zero divisor, a wrong alignment or a
+place that can't be reached stops such a program by a trap. Contracts aren't looked at.
 """
 import contextlib
 import fcntl
