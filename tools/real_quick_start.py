@@ -1,4 +1,4 @@
-"""What test_quick_start.py tries with --real: a clone of this commit, built by the kit on the path."""
+"""What test_quick_start.py tries with --real: a clone of this commit, and the kit on the path."""
 import os
 import shutil
 import subprocess

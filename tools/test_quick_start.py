@@ -41,10 +41,10 @@ class Repository:
     def environment(self, path: Optional[str] = None) -> Dict[str, str]:
         return {**os.environ, "PATH": path or f"{self.kit}/bin:{os.environ['PATH']}"}
 
-    def start(self, *words: str, **how) -> subprocess.Popen:
+    def start(self, *words: str) -> subprocess.Popen:
         pipes = {"stdin": subprocess.DEVNULL, "stdout": subprocess.PIPE, "stderr": subprocess.PIPE}
-        return subprocess.Popen([self.top / words[0], *words[1:]], text=True, start_new_session=True,
-                                env=self.environment(), **{**pipes, **how})
+        return subprocess.Popen([self.top / words[0], *words[1:]], text=True,
+                                start_new_session=True, env=self.environment(), **pipes)
 
     def run(self, *words: str, given: str = "", path: Optional[str] = None):
         return subprocess.run([self.top / words[0], *words[1:]], input=given, text=True,
@@ -226,6 +226,12 @@ class Proved(OverTestKit):
         self.assertIn("crate vdpm is not proved", ran.stderr)
         self.assertIn("crates/vdpm: src/main.rt:1:2: it is not proved that one is two", ran.stderr)
         self.assert_unproved(self.repository.run("vdpm"))
+
+    def test_sources_that_do_not_compile_are_named(self) -> None:
+        self.repository.change("crates/vdpm/src/main.rt", "# REFUSED\n")
+        ran = self.repository.run("prove", "vdpm")
+        self.assertEqual(ran.returncode, 70)
+        self.assertIn("src/main.rt:1:3: error[odd]: a word is odd", ran.stderr)
 
     def test_status_tells_what_stands(self) -> None:
         self.prove("prepare")

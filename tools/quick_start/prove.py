@@ -11,7 +11,6 @@ import fcntl
 import os
 import queue
 import re
-import shutil
 import subprocess
 import sys
 import threading
@@ -20,7 +19,7 @@ from pathlib import Path
 from typing import IO, Dict, Iterator, List, Optional, Sequence, TextIO
 
 from .kit import find_kit
-from .progress import Watch, open_crate
+from .progress import Watch, open_crate, open_goals
 from .record import path_of, write_record
 from .sources import (PROGRAMS, PROVED, Program, crate_rows, crates_below, sum_of_file,
                       sum_of_sources)
@@ -115,8 +114,8 @@ def prove_crates(programs: Sequence[Program], log: TextIO) -> List[str]:
         if all({*watch.failed} & {*crates} for crates in below):
             return watch.failed
     if not watch.done:
-        lines = "\n".join(f"    {line}" for line in watch.lines[-8:])
-        raise Stopped(f"rt stopped before any proof:\n{lines}")
+        lines = open_goals(watch.lines) or watch.lines[-3:]
+        raise Stopped("\n    ".join(["rt stopped before any proof:", *lines]))
     return watch.failed
 
 
