@@ -219,6 +219,16 @@ class Proved(OverTestKit):
         write(self.repository.top / "crates/vdpm/out/vdpm", "#!/bin/sh\necho other\n")
         self.assert_unproved(self.repository.run("vdpm"))
 
+    def test_an_older_program_never_passes_for_one_that_was_not_built(self) -> None:
+        self.prove("vdpm")
+        self.repository.change("crates/vdpm/src/main.rt", "# UNBUILT\n")
+        self.assertEqual(self.repository.run("prove", "vdpm").returncode, 1)
+        self.assert_unproved(self.repository.run("vdpm"))
+
+    def test_nothing_is_proved_twice(self) -> None:
+        self.prove("vdpm")
+        self.assertIn("vdpm is proved already", self.repository.run("prove", "vdpm").stderr)
+
     def test_an_open_goal_is_named(self) -> None:
         self.repository.change("crates/vdpm/src/main.rt", "# OPEN\n")
         ran = self.repository.run("prove", "vdpm")

@@ -18,9 +18,9 @@ import time
 from pathlib import Path
 from typing import IO, Dict, Iterator, List, Optional, Sequence, TextIO
 
-from .kit import find_kit
+from .kit import Kit, find_kit
 from .progress import Watch, open_crate, open_goals
-from .record import path_of, write_record
+from .record import is_current, path_of, read_record, write_record
 from .sources import (PROGRAMS, PROVED, Program, crate_rows, crates_below, sum_of_file,
                       sum_of_sources)
 from .stopped import Stopped
@@ -119,21 +119,26 @@ def prove_crates(programs: Sequence[Program], log: TextIO) -> List[str]:
     return watch.failed
 
 
+def stamp_of(program: Program) -> Path:
+    """Where `rt` notes the program that it proved and built."""
+    return program.proved.with_name(f"{program.name}.stamp")
+
+
 def is_stamped(program: Program) -> bool:
-    """Whether `rt` itself has noted that it proved and built the program that stands there."""
     try:
-        stamp = program.proved.with_name(f"{program.name}.stamp").read_text(encoding="utf-8")
-        return stamp.endswith(sum_of_file(program.proved))
+        return stamp_of(program).read_text(encoding="utf-8").endswith(sum_of_file(program.proved))
     except OSError:
         return False
 
 
-def build_program(program: Program, log: TextIO) -> bool:
+def build_program(program: Program, kit: Kit, log: TextIO) -> bool:
     """Compiles and links a program whose crates are proved, and writes its record."""
     say(f"building {program.name}")
     sources = sum_of_sources(program, PROVED)
-    with contextlib.suppress(FileNotFoundError):
-        path_of(program.proved).unlink()
+    # (where rt fails, an older program with its notes is not to pass for this one)
+    for note in (path_of(program.proved), stamp_of(program)):
+        with contextlib.suppress(FileNotFoundError):
+            note.unlink()
     words = ["rt", "run", *TRIAL_WORDS[program.name]]
     lines = [line for line in ran(words, program.folder, log) if line]
     if not is_stamped(program):
@@ -143,18 +148,29 @@ def build_program(program: Program, log: TextIO) -> bool:
     if sum_of_sources(program, PROVED) != sources:
         say(f"the sources of {program.name} changed meanwhile: start ./prove again")
         return False
-    write_record(program, program.proved, True, find_kit(), sources, seen)
+    write_record(program, program.proved, True, kit, sources, seen)
     say(f"{program.name} is proved and built: crates/{program.name}/out/{program.name}")
     return True
 
 
+def is_done(program: Program, kit: Kit) -> bool:
+    """Whether the program is proved already, of the sources as they are and by this kit."""
+    record = read_record(program.proved)
+    done = bool(record) and record.kit == kit.version and is_current(program, program.proved)
+    if done:
+        say(f"{program.name} is proved already, of these sources: ./prove --status tells more")
+    return done
+
+
 def prove(top: Path, names: Sequence[str]) -> bool:
     """Proves and builds these programs, or all, and returns whether that was done."""
-    find_kit()
-    rows = crate_rows(top)
-    programs = [Program(top, name) for name in dict.fromkeys(names or PROGRAMS)]
+    kit, rows = find_kit(), crate_rows(top)
     with opened_log(top) as log:
+        named = [Program(top, name) for name in dict.fromkeys(names or PROGRAMS)]
+        programs = [program for program in named if not is_done(program, kit)]
+        if not programs:
+            return True
         failed = {*prove_crates(programs, log)}
-        done = [not failed & {*crates_below(rows, it.name)} and build_program(it, log)
+        done = [not failed & {*crates_below(rows, it.name)} and build_program(it, kit, log)
                 for it in programs]
     return all(done)
