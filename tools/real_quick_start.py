@@ -78,6 +78,6 @@ class OverRealKit(unittest.TestCase):
     def test_an_open_goal_is_named(self) -> None:
         self.change(*TAKER)
         [(status, _, told)] = self.timed("prove", "vdpm")
-        self.assertEqual(status, 1)
+        self.assertEqual(status, 1, told)
         self.assertIn("crate pm_io is not proved", told)
         self.assertIn("src/taker.rt:", told)
