@@ -194,10 +194,15 @@ class Proved(OverTestKit):
         for name in ("vdpm", "prepare"):
             self.assertEqual(self.repository.run(name).stderr, "told\n")
 
+    def test_it_stays_where_the_gate_empties_what_rt_made(self) -> None:
+        self.prove("vdpm")
+        shutil.rmtree(self.repository.top / "crates/vdpm/out")
+        self.assertEqual(self.repository.run("vdpm").stderr, "told\n")
+
     def test_progress_is_told(self) -> None:
         said = self.repository.run("prove").stderr
         self.assertIn("prove: 2 of 3 crates done", said)
-        self.assertIn("prove: vdpm is proved and built: crates/vdpm/out/vdpm", said)
+        self.assertIn("prove: vdpm is proved and built: proved/vdpm", said)
 
     def test_a_changed_source_or_definition_is_not_proved(self) -> None:
         for place in ("crates/low/src/lib.rt", "crates/low/specs/Low.antt"):
@@ -216,7 +221,7 @@ class Proved(OverTestKit):
 
     def test_another_program_in_its_place_is_not_run(self) -> None:
         self.prove("vdpm")
-        write(self.repository.top / "crates/vdpm/out/vdpm", "#!/bin/sh\necho other\n")
+        write(self.repository.top / "proved/vdpm", "#!/bin/sh\necho other\n")
         self.assert_unproved(self.repository.run("vdpm"))
 
     def test_an_older_program_never_passes_for_one_that_was_not_built(self) -> None:
@@ -243,13 +248,19 @@ class Proved(OverTestKit):
         self.assertEqual(ran.returncode, 70)
         self.assertIn("src/main.rt:1:3: error[odd]: a word is odd", ran.stderr)
 
+    def test_a_proof_that_is_stopped_from_outside_says_so(self) -> None:
+        self.repository.change("crates/vdpm/src/main.rt", "# STOPPED\n")
+        ran = self.repository.run("prove", "vdpm")
+        self.assertEqual(ran.returncode, 70)
+        self.assertIn("rt was stopped by signal 15", ran.stderr)
+
     def test_status_tells_what_stands(self) -> None:
         self.prove("prepare")
         self.repository.run("vdpm")
         said = self.repository.run("prove", "--status").stdout
-        self.assertIn("crates/vdpm/out/vdpm: not built\n", said)
+        self.assertIn("proved/vdpm: not built\n", said)
         self.assertIn("unproved/vdpm: not proved, run-time checks on; of these sources\n", said)
-        self.assertIn("crates/prepare/out/prepare: proved; of these sources\n", said)
+        self.assertIn("proved/prepare: proved; of these sources\n", said)
         self.assertIn("by a kit of tests 1\n", said)
         self.repository.change("crates/prepare/src/main.rt", "# more\n")
         self.assertIn("prepare: proved; of other sources than these, so it isn't run",

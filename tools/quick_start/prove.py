@@ -11,6 +11,7 @@ import fcntl
 import os
 import queue
 import re
+import shutil
 import subprocess
 import sys
 import threading
@@ -92,9 +93,12 @@ def ran(words: List[str], folder: Path, log: TextIO) -> Iterator[Optional[str]]:
                 if line is not None:
                     print(line, file=log, flush=True)
                 yield line
-        finally:
-            if process.poll() is None:
-                process.terminate()
+        except BaseException:
+            # (nobody waits for the rest)
+            process.terminate()
+            raise
+    if process.returncode < 0:
+        raise Stopped(f"rt was stopped by signal {-process.returncode}: start ./prove again")
 
 
 def prove_crates(programs: Sequence[Program], log: TextIO) -> List[str]:
@@ -119,26 +123,41 @@ def prove_crates(programs: Sequence[Program], log: TextIO) -> List[str]:
     return watch.failed
 
 
+def made_by_rt(program: Program) -> Path:
+    """Where `rt run` leaves a program. `rt ci` takes all away there, so it doesn't stay."""
+    return program.folder / "out" / program.name
+
+
 def stamp_of(program: Program) -> Path:
-    """Where `rt` notes the program that it proved and built."""
-    return program.proved.with_name(f"{program.name}.stamp")
+    """Where `rt run` notes the program that it proved and built."""
+    return made_by_rt(program).with_suffix(".stamp")
 
 
 def is_stamped(program: Program) -> bool:
     try:
-        return stamp_of(program).read_text(encoding="utf-8").endswith(sum_of_file(program.proved))
+        stamp = stamp_of(program).read_text(encoding="utf-8")
+        return stamp.endswith(sum_of_file(made_by_rt(program)))
     except OSError:
         return False
+
+
+def put_in_place(program: Program) -> None:
+    """Copies what `rt run` made to where it stays, as one step. Its record comes last."""
+    half = program.proved.with_name(f".{program.name}.{os.getpid()}")
+    program.proved.parent.mkdir(exist_ok=True)
+    shutil.copy(made_by_rt(program), half)
+    with contextlib.suppress(FileNotFoundError):
+        path_of(program.proved).unlink()
+    os.replace(half, program.proved)
 
 
 def build_program(program: Program, kit: Kit, log: TextIO) -> bool:
     """Compiles and links a program whose crates are proved, and writes its record."""
     say(f"building {program.name}")
     sources = sum_of_sources(program, PROVED)
-    # (where rt fails, an older program with its notes is not to pass for this one)
-    for note in (path_of(program.proved), stamp_of(program)):
-        with contextlib.suppress(FileNotFoundError):
-            note.unlink()
+    # (where rt fails, an older program is not to pass for this one)
+    with contextlib.suppress(FileNotFoundError):
+        stamp_of(program).unlink()
     words = ["rt", "run", *TRIAL_WORDS[program.name]]
     lines = [line for line in ran(words, program.folder, log) if line]
     if not is_stamped(program):
@@ -148,8 +167,9 @@ def build_program(program: Program, kit: Kit, log: TextIO) -> bool:
     if sum_of_sources(program, PROVED) != sources:
         say(f"the sources of {program.name} changed meanwhile: start ./prove again")
         return False
+    put_in_place(program)
     write_record(program, program.proved, True, kit, sources, seen)
-    say(f"{program.name} is proved and built: crates/{program.name}/out/{program.name}")
+    say(f"{program.name} is proved and built: proved/{program.name}")
     return True
 
 

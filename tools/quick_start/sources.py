@@ -26,7 +26,7 @@ class Program:
 
     @property
     def proved(self) -> Path:
-        return self.folder / "out" / self.name
+        return self.top / "proved" / self.name
 
     @property
     def unproved(self) -> Path:

@@ -30,7 +30,7 @@ newer() {
         -o -cnewer "$record" -print -quit) 2>&1
 }
 
-proved="$top/crates/$name/out/$name"
+proved="$top/proved/$name"
 program=$proved
 if ! is_fresh "$proved"; then
     program="$top/unproved/$name"
