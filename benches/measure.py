@@ -2,7 +2,7 @@
 
     python3 benches/measure.py [PROGRAM] [small|all]
 
-PROGRAM is crates/vdpm/out/vdpm, which `./prove vdpm` builds, unless another is named.
+PROGRAM is proved/vdpm, which `./prove vdpm` makes, unless another is named.
 Seconds are processor time, the least of three runs; memory is the peak, and a peak below some 15 MB is that of this
 script itself, from which the program is started. Machines differ and are shared: compare the figures of one run with
 one another, and the last column between sizes, where linear work stays level.
@@ -103,7 +103,7 @@ def main():
     words = sys.argv[1:]
     sizes = ALL if "all" in words else SMALL
     named = [w for w in words if w not in ("small", "all")]
-    program = named[0] if named else str(HERE.parent / "crates" / "vdpm" / "out" / "vdpm")
+    program = named[0] if named else str(HERE.parent / "proved" / "vdpm")
     print("| work | faces | seconds | MB | microseconds a face |\n|---|---|---|---|---|")
     with tempfile.TemporaryDirectory() as folder:
         for kind, size in sizes:

@@ -19,6 +19,7 @@ from fake_kit import make_kit, write
 
 TOP = Path(__file__).resolve().parent.parent
 NOTICE = "not proved on this machine yet, run-time checks are on; ./prove proves it"
+Ended = subprocess.CompletedProcess
 SCRIPT = "#!/bin/sh\ncat\necho told >&2\nexit 3\n"
 
 
@@ -46,7 +47,7 @@ class Repository:
         return subprocess.Popen([self.top / words[0], *words[1:]], text=True,
                                 start_new_session=True, env=self.environment(), **pipes)
 
-    def run(self, *words: str, given: str = "", path: Optional[str] = None):
+    def run(self, *words: str, given: str = "", path: Optional[str] = None) -> Ended:
         return subprocess.run([self.top / words[0], *words[1:]], input=given, text=True,
                               capture_output=True, env=self.environment(path), check=False)
 
@@ -64,11 +65,11 @@ class OverTestKit(unittest.TestCase):
         self.addCleanup(room.cleanup)
         self.repository = Repository(Path(room.name))
 
-    def assert_unproved(self, ran, name: str = "vdpm") -> None:
+    def assert_unproved(self, ran: Ended, name: str = "vdpm") -> None:
         self.assertTrue(ran.stderr.endswith(f"{name}: {NOTICE}\ntold\n"), ran.stderr)
         self.assertEqual(ran.returncode, 3)
 
-    def assert_not_built(self, ran, *words: str) -> None:
+    def assert_not_built(self, ran: Ended, *words: str) -> None:
         self.assertEqual((ran.returncode, ran.stdout), (70, ""), ran.stderr)
         for word in words:
             self.assertIn(word, ran.stderr)

@@ -13,6 +13,7 @@ import re
 import subprocess
 import sys
 from pathlib import Path
+from typing import List, Tuple
 
 TOP = Path(__file__).resolve().parent.parent
 MARGIN = "    "
@@ -36,7 +37,7 @@ def commands(lines):
     return found
 
 
-def own_lines(printed):
+def own_lines(printed: List[str]) -> Tuple[List[str], int]:
     """The lines without those on how a program was built, and how many of these were notices."""
     notices = [line for line in printed if NOTICE.fullmatch(line)]
     own = [line for line in printed if line not in notices and not BUILDING.match(line)]
