@@ -64,6 +64,9 @@ def main() -> int:
     except Stopped as why:
         print(f"{speaker}: {why}", file=sys.stderr)
         return NOT_BUILT
+    except OSError as error:
+        print(f"{speaker}: {error.filename or 'a file'}: {error.strerror}", file=sys.stderr)
+        return NOT_BUILT
     except KeyboardInterrupt:
         return 128 + signal.SIGINT
 

@@ -267,6 +267,12 @@ class Proved(OverTestKit):
         self.assertIn("prepare: proved; of other sources than these, so it isn't run",
                       self.repository.run("prove", "--status").stdout)
 
+    def test_no_place_for_what_was_proved(self) -> None:
+        write(self.repository.top / "proved", "a file in the folder's place")
+        ran = self.repository.run("prove", "vdpm")
+        self.assertEqual(ran.returncode, 70)
+        self.assertNotIn("Traceback", ran.stderr)
+
     def test_words_that_are_not_understood(self) -> None:
         self.assertEqual(self.repository.run("prove", "other").returncode, 2)
 

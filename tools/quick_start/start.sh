@@ -30,6 +30,12 @@ newer() {
         -o -cnewer "$record" -print -quit) 2>&1
 }
 
+# Ends with the status $1, or with 70 where that would be one of the program's own.
+stop() {
+    [ "$1" -gt 5 ] && exit "$1"
+    exit 70
+}
+
 proved="$top/proved/$name"
 program=$proved
 if ! is_fresh "$proved"; then
@@ -39,7 +45,7 @@ if ! is_fresh "$proved"; then
             echo "$name: python3 isn't on the path, so nothing can be built" >&2
             exit 70
         fi
-        program=$(python3 "$top/tools/programs.py" build "$name" </dev/null) || exit
+        program=$(python3 "$top/tools/programs.py" build "$name" </dev/null) || stop $?
     fi
 fi
 if [ "$program" != "$proved" ]; then
