@@ -1,0 +1,23 @@
+"""How a command ends, and the faults of its input."""
+from typing import NamedTuple
+
+
+class Fault(Exception):
+    """The input has a fault of this number; `place` is its place word and value, if it has them."""
+
+    def __init__(self, number: int, place: str = "") -> None:
+        super().__init__(f"{number} {place}".rstrip())
+        self.number = number
+        self.place = place
+
+
+class Answer(NamedTuple):
+    """Exit status, standard output, and standard error."""
+
+    status: int
+    output: bytes
+    error: str
+
+
+def failed(fault: Fault, output: bytes = b"") -> Answer:
+    return Answer(1, output, f"vdpm: fault {fault}\n")

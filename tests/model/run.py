@@ -1,0 +1,187 @@
+"""The run of the builder: the least legal pair is collapsed, again and again. All pairs are looked
+at anew each time."""
+from typing import Dict, List, NamedTuple, Optional, Set, Tuple
+
+from .mesh import (
+    Corners,
+    Faces,
+    Mesh,
+    Point,
+    cross,
+    dot,
+    ends,
+    face_of,
+    following,
+    minus,
+    normal,
+    numbered,
+    sides,
+    twins,
+)
+
+Plane = Tuple[Point, int]  # n and d of the plane n . p + d = 0
+
+
+class Gone(NamedTuple):
+    """A dropped face, and what stood across its first and its second outer side just before."""
+
+    face: int
+    first: Optional[int]
+    second: Optional[int]
+
+
+class Collapse(NamedTuple):
+    """The vertices t and u became vertex s. `left` is the dropped face in which u follows t, and
+    `right` the one in which t follows u."""
+
+    t: int
+    u: int
+    s: int
+    place: Point
+    left: Optional[Gone]
+    right: Optional[Gone]
+
+
+class Surface(NamedTuple):
+    """A mesh that is being simplified: the faces that are left, and the places and planes of the
+    vertices that are left. A new vertex has the number `next_vertex`."""
+
+    faces: Faces
+    places: Dict[int, Point]
+    planes: Dict[int, List[Plane]]
+    next_vertex: int
+
+
+def plane_of(points: List[Point], face: Corners) -> Plane:
+    a, b, c = [points[corner] for corner in face]
+    n = normal(a, b, c)
+    return n, -dot(n, a)
+
+
+def surface_of(mesh: Mesh) -> Surface:
+    """Each vertex begins with the planes of its faces."""
+    planes = {
+        vertex: [plane_of(mesh.points, face) for face in mesh.faces if vertex in face]
+        for vertex in range(len(mesh.points))
+    }
+    places = dict(enumerate(mesh.points))
+    return Surface(numbered(mesh.faces), places, planes, len(mesh.points))
+
+
+def squares(planes: List[Plane], place: Point) -> int:
+    """The sum of the squared values of the planes at a place."""
+    return sum((dot(n, place) + d) ** 2 for n, d in planes)
+
+
+def best_place(surface: Surface, a: int, b: int) -> Tuple[int, Point]:
+    """The cost and the place of a pair: the first of both places and their midpoint, rounded down,
+    at which the planes of both have the least sum of squares."""
+    p, q = surface.places[a], surface.places[b]
+    middle = ((p[0] + q[0]) // 2, (p[1] + q[1]) // 2, (p[2] + q[2]) // 2)
+    planes = surface.planes[a] + surface.planes[b]
+    costs = [(squares(planes, place), i, place) for i, place in enumerate((p, q, middle))]
+    cost, _, place = min(costs)
+    return cost, place
+
+
+def holding(faces: Faces, *vertices: int) -> List[Corners]:
+    """The faces that have all these corners."""
+    return [face for face in faces.values() if all(vertex in face for vertex in vertices)]
+
+
+def neighbours(faces: Faces, vertex: int) -> Set[int]:
+    return {corner for face in holding(faces, vertex) for corner in face} - {vertex}
+
+
+def border_sides(faces: Faces) -> Set[int]:
+    return set(sides(faces)) - set(twins(faces))
+
+
+def is_on_border(faces: Faces, vertex: int) -> bool:
+    return any(vertex in ends(faces, side) for side in border_sides(faces))
+
+
+def turns_over(surface: Surface, face: Corners, moved: int, place: Point) -> bool:
+    """The face's normal has a product below 0 with the one it has once the corner is moved."""
+    old = [surface.places[corner] for corner in face]
+    new = [place if corner == moved else surface.places[corner] for corner in face]
+    return dot(normal(*old), normal(*new)) < 0
+
+
+def is_held_apart(faces: Faces, a: int, b: int) -> bool:
+    """The pair has no triangle in common that would be folded up: of two faces at it the third
+    corners share no triangle with each end; one face alone has a neighbour beside it."""
+    thirds = {corner for face in holding(faces, a, b) for corner in face} - {a, b}
+    if len(holding(faces, a, b)) == 2:
+        return not (holding(faces, a, *thirds) and holding(faces, b, *thirds))
+    [number] = [f for f, face in faces.items() if a in face and b in face]
+    own = {3 * number, 3 * number + 1, 3 * number + 2}
+    others = {side for side in own if set(ends(faces, side)) != {a, b}}
+    return not others <= border_sides(faces)
+
+
+def is_legal(surface: Surface, a: int, b: int, place: Point) -> bool:
+    """The pair may be collapsed to the place."""
+    faces = surface.faces
+    both = holding(faces, a, b)
+    thirds = {corner for face in both for corner in face} - {a, b}
+    if not both or neighbours(faces, a) & neighbours(faces, b) != thirds:
+        return False
+    if len(both) > 1 and is_on_border(faces, a) and is_on_border(faces, b):
+        return False
+    ones = [(face, a) for face in holding(faces, a) if b not in face]
+    ones += [(face, b) for face in holding(faces, b) if a not in face]
+    return is_held_apart(faces, a, b) and not any(
+        turns_over(surface, face, moved, place) for face, moved in ones
+    )
+
+
+def pairs_of(faces: Faces) -> List[Tuple[int, int]]:
+    """The pairs of vertices that some face holds, the lesser first."""
+    found = {tuple(sorted(ends(faces, side))) for side in sides(faces)}
+    return sorted((a, b) for a, b in found)
+
+
+def least_pair(surface: Surface) -> Optional[Tuple[int, int, Point]]:
+    """Of the legal pairs the one with the least cost, and of equal costs the least numbers."""
+    costs = []
+    for a, b in pairs_of(surface.faces):
+        cost, place = best_place(surface, a, b)
+        costs.append((cost, a, b, place))
+    legal = (pair for _, *pair in sorted(costs) if is_legal(surface, *pair))
+    return next(legal, None)
+
+
+def gone(faces: Faces, t: int, u: int) -> Optional[Gone]:
+    """The face with a side from t to u, which a collapse drops."""
+    across = twins(faces)
+    for side in sides(faces):
+        if ends(faces, side) == (t, u):
+            first = following(side)
+            return Gone(face_of(side), across.get(first), across.get(following(first)))
+    return None
+
+
+def collapsed(surface: Surface, t: int, u: int, place: Point) -> Tuple[Surface, Collapse]:
+    """Both vertices become the next one, and faces with two equal corners are dropped."""
+    s = surface.next_vertex
+    entry = Collapse(t, u, s, place, gone(surface.faces, t, u), gone(surface.faces, u, t))
+    renamed = {f: tuple(s if c in (t, u) else c for c in face) for f, face in surface.faces.items()}
+    faces = {f: (a, b, c) for f, (a, b, c) in renamed.items() if len({a, b, c}) == 3}
+    places = {v: p for v, p in surface.places.items() if v not in (t, u)}
+    planes = {v: list(ps) for v, ps in surface.planes.items() if v not in (t, u)}
+    places[s], planes[s] = place, surface.planes[t] + surface.planes[u]
+    return Surface(faces, places, planes, s + 1), entry
+
+
+def run_to(mesh: Mesh, target: int) -> List[Collapse]:
+    """The log of the run: while more faces than the target are left and a pair is legal, the least
+    one is collapsed."""
+    surface, log = surface_of(mesh), []
+    while len(surface.faces) > target:
+        pair = least_pair(surface)
+        if pair is None:
+            break
+        surface, entry = collapsed(surface, *pair)
+        log.append(entry)
+    return log
