@@ -1,8 +1,9 @@
-"""A model of `vdpm`: what each command answers, by the definitions in their plainest form.
+"""A model of `vdpm` and `prepare`: what they answer, by the definitions in their plainest form.
 
 It is over lists and numbers, and looks at everything anew each time. So it is slow: meshes of some
 hundred faces are for it. It shares no code with the program, and both are compared by
-tests/random_cases.py. `python3 tests/model WORDS.. < input` answers as `./vdpm WORDS..` should.
+tests/random_cases.py. `python3 tests/model vdpm WORDS.. < input` answers as `./vdpm WORDS..` should,
+and so it is with `prepare`.
 
     mesh       points, faces, sides, twins, fans, the canonical text
     obj        what an OBJ text means
@@ -14,9 +15,19 @@ tests/random_cases.py. `python3 tests/model WORDS.. < input` answers as `./vdpm 
     shown      frames, geomorphs, measures, strips
     pick       rays
     script     the lines of a script
-    commands   words and answers
+    commands   words and answers of `vdpm`
+    scan       what any OBJ text spells
+    prepare    the oriented manifold that is made of it, and what is said of the work
 """
-from .commands import answer
+from typing import List
+
+from . import commands, prepare
 from .faults import Answer
+
+
+def answer(program: str, words: List[str], data: bytes) -> Answer:
+    """What `vdpm` or `prepare` answers to words and input."""
+    return {"vdpm": commands.answer, "prepare": prepare.answer}[program](words, data)
+
 
 __all__ = ["Answer", "answer"]

@@ -1,4 +1,4 @@
-"""Answers as `vdpm` should: python3 tests/model WORDS.. < input"""
+"""Answers as a program should: python3 tests/model vdpm WORDS.. < input, or prepare for vdpm."""
 import sys
 from pathlib import Path
 
@@ -8,8 +8,9 @@ from model import answer  # noqa: E402
 
 
 def main() -> int:
-    reads = sys.argv[1:2] != ["demo"]
-    status, output, error = answer(sys.argv[1:], sys.stdin.buffer.read() if reads else b"")
+    program, *words = sys.argv[1:]
+    data = b"" if words[:1] == ["demo"] else sys.stdin.buffer.read()
+    status, output, error = answer(program, words, data)
     sys.stdout.buffer.write(output)
     sys.stderr.write(error)
     return status

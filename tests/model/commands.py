@@ -2,7 +2,7 @@
 import re
 from typing import List, Optional
 
-from .faults import Answer, Fault, failed
+from .faults import Answer, Fault, failed, not_understood
 from .front import Shown, judge_hierarchy
 from .hierarchy import Hierarchy, hierarchy_of_run, input_mesh
 from .mesh import Corners, Mesh, Point, canonical_text
@@ -15,10 +15,9 @@ from .views import View, after, plan, target_of
 TRAILING = 29
 GREATEST_WORD = 2**32 - 1
 LARGEST_GRID = 256
-NOT_UNDERSTOOD = Answer(2, b"", "vdpm: words not understood\n")
 
 
-def number_word(word: str, least: int = 0, most: int = GREATEST_WORD) -> Optional[int]:
+def number_of_word(word: str, least: int = 0, most: int = GREATEST_WORD) -> Optional[int]:
     """A decimal number in a range without leading zeros."""
     if not re.fullmatch("0|[1-9][0-9]*", word) or not least <= int(word) <= most:
         return None
@@ -64,7 +63,7 @@ def view(data: bytes, budget: int) -> Answer:
     stream = valid_stream(data)
     served = serve(stream.hierarchy, budget, stream.rest)
     replies = served.replies.encode()
-    return Answer(0, replies, "") if served.fault is None else failed(served.fault, replies)
+    return Answer(0, replies, "") if served.fault is None else failed("vdpm", served.fault, replies)
 
 
 def grid_point(row: int, column: int) -> Point:
@@ -118,7 +117,7 @@ def asked(words: List[str], data: bytes) -> Optional[Answer]:
         return check(data)
     *front, last = words or [""]
     if front in (["view"], ["demo"]):
-        number = number_word(last, *((1, LARGEST_GRID) if front == ["demo"] else ()))
+        number = number_of_word(last, *((1, LARGEST_GRID) if front == ["demo"] else ()))
         if number is None:
             return None
         return view(data, number) if front == ["view"] else demo(number)
@@ -129,11 +128,11 @@ def asked_of_text(words: List[str], data: bytes) -> Optional[Answer]:
     """The same for `canon` and `build` with their numbers."""
     digits: Optional[int] = 0
     if words[-2:-1] == ["--digits"]:
-        digits = number_word(words[-1], 0, 4)
+        digits = number_of_word(words[-1], 0, 4)
         words = words[:-2]
         if words == ["build"]:
             return None
-    target = number_word(words[1]) if len(words) == 2 else 0
+    target = number_of_word(words[1]) if len(words) == 2 else 0
     if digits is None or target is None:
         return None
     if words == ["canon"]:
@@ -146,6 +145,6 @@ def asked_of_text(words: List[str], data: bytes) -> Optional[Answer]:
 def answer(words: List[str], data: bytes) -> Answer:
     """The answer of a command, or that its words aren't understood."""
     try:
-        return asked(words, data) or NOT_UNDERSTOOD
+        return asked(words, data) or not_understood("vdpm")
     except Fault as fault:
-        return failed(fault)
+        return failed("vdpm", fault)

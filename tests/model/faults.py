@@ -19,5 +19,9 @@ class Answer(NamedTuple):
     error: str
 
 
-def failed(fault: Fault, output: bytes = b"") -> Answer:
-    return Answer(1, output, f"vdpm: fault {fault}\n")
+def failed(program: str, fault: Fault, output: bytes = b"") -> Answer:
+    return Answer(1, output, f"{program}: fault {fault}\n")
+
+
+def not_understood(program: str) -> Answer:
+    return Answer(2, b"", f"{program}: words not understood\n")

@@ -1,7 +1,7 @@
 """What an OBJ text means: its mesh, or its first fault. Texts of more than 2^30 bytes aren't
 modelled."""
 import re
-from typing import List, Union
+from typing import List
 
 from .faults import Fault
 from .mesh import (
@@ -74,14 +74,23 @@ def read_face(fields: List[bytes], mesh: Mesh) -> Corners:
     return a, b, c
 
 
+def content_of(line: bytes) -> bytes:
+    """What is read of a line: no CR at its end, and nothing from its first `#` on."""
+    return (line[:-1] if line.endswith(b"\r") else line).split(b"#")[0]
+
+
+def fields_of(text: bytes) -> List[bytes]:
+    """What stands between blanks."""
+    return [field for field in re.split(rb"[ \t]+", text) if field]
+
+
 def take_line(line: bytes, mesh: Mesh, digits: int) -> None:
     """Adds to the mesh what a line gives."""
     if len(line) > MOST_LINE_BYTES:
         raise Fault(TOO_LONG)
-    content = (line[:-1] if line.endswith(b"\r") else line).split(b"#")[0]
-    if content.endswith(b"\\"):
+    if content_of(line).endswith(b"\\"):
         raise Fault(CONTINUED)
-    fields = [field for field in re.split(rb"[ \t]+", content) if field]
+    fields = fields_of(content_of(line))
     if fields[:1] == [b"v"]:
         mesh.points.append(read_point(fields[1:], mesh, digits))
     elif fields[:1] == [b"f"]:
@@ -102,7 +111,7 @@ def mesh_of_text(text: bytes, digits: int) -> Mesh:
 def surface_of_text(text: bytes, digits: int) -> Mesh:
     """The oriented manifold of a text. A repeated side is told before a vertex without a fan."""
     mesh = mesh_of_text(text, digits)
-    face: Union[int, None] = first_repeating(mesh.faces)
+    face = first_repeating(mesh.faces)
     if face is not None:
         raise Fault(EDGE_TWICE, f"face {face + 1}")
     vertex = first_broken(mesh.faces)

@@ -1,0 +1,178 @@
+"""What `prepare` makes of a text: points brought onto the grid, an oriented manifold, and notes."""
+from collections import Counter
+from fractions import Fraction
+from typing import Dict, List, NamedTuple, Optional, Tuple
+
+from .commands import number_of_word
+from .faults import Answer, Fault, failed, not_understood
+from .mesh import (
+    GREATEST_COORDINATE,
+    Corners,
+    Faces,
+    Mesh,
+    Point,
+    canonical_text,
+    coordinate_text,
+    ends,
+    following,
+    numbered,
+    sides,
+)
+from .scan import UNITS, Soup, nearest, soup_of_text
+
+
+class Fit(NamedTuple):
+    """How points are scaled: the box's least and greatest coordinates, and the size."""
+
+    low: Point
+    high: Point
+    size: int
+
+    def extent(self) -> int:
+        return max(high - low for low, high in zip(self.low, self.high))
+
+    def place(self, point: Point) -> Point:
+        """The longest axis goes from -size to size, the middle of each axis to 0."""
+        if self.extent() == 0:
+            return (0, 0, 0)
+        offs = [2 * c - low - high for c, low, high in zip(point, self.low, self.high)]
+        x, y, z = [nearest(Fraction(self.size * off, self.extent())) for off in offs]
+        return x, y, z
+
+    def way_back(self) -> str:
+        """How places lead back to coordinates: the extent, twice the size, the middle of each axis."""
+        middles = [coordinate_text(5 * (low + high), 19) for low, high in zip(self.low, self.high)]
+        scale = f"{coordinate_text(self.extent(), 18)} / {2 * self.size}"
+        return f"coordinate = {scale} * place + ({' '.join(middles)})\n"
+
+
+def stands(point: Point) -> bool:
+    """Each coordinate is a whole number in range."""
+    return all(c % UNITS == 0 and abs(c) <= GREATEST_COORDINATE * UNITS for c in point)
+
+
+def fit_of(points: List[Point], size: Optional[int]) -> Optional[Fit]:
+    """None where no size is given and all points may stand as they are."""
+    if not points or (size is None and all(map(stands, points))):
+        return None
+    x, y, z = zip(*points)
+    low, high = (min(x), min(y), min(z)), (max(x), max(y), max(z))
+    return Fit(low, high, GREATEST_COORDINATE if size is None else size)
+
+
+def place_of(fit: Optional[Fit], point: Point) -> Point:
+    x, y, z = point
+    return (x // UNITS, y // UNITS, z // UNITS) if fit is None else fit.place(point)
+
+
+def joined(places: Dict[int, Point]) -> Dict[int, int]:
+    """The vertex that stands for each: the first at the same place."""
+    return {v: min(u for u in places if places[u] == places[v]) for v in places}
+
+
+def kept(faces: List[Corners]) -> List[Corners]:
+    """The faces that stay: those with three different corners that no earlier one has."""
+    stay: List[Corners] = []
+    for face in faces:
+        if len(set(face)) == 3 and all(set(face) != set(other) for other in stay):
+            stay.append(face)
+    return stay
+
+
+def runs(faces: Faces) -> "Counter[Tuple[int, int]]":
+    """How many sides run from one vertex to another."""
+    return Counter(ends(faces, side) for side in sides(faces))
+
+
+def cut_sides(faces: Faces) -> List[int]:
+    """The sides along which, or against which, several sides run."""
+    counts = runs(faces)
+    own = [(side, ends(faces, side)) for side in sides(faces)]
+    return [side for side, (p, q) in own if counts[p, q] > 1 or counts[q, p] > 1]
+
+
+def glued(faces: Faces) -> Dict[int, int]:
+    """Beside each side the one that runs against it, where it isn't cut and there is one."""
+    cut = set(cut_sides(faces))
+    by_ends = {ends(faces, side): side for side in sides(faces) if side not in cut}
+    pairs = {side: by_ends.get((q, p)) for (p, q), side in by_ends.items()}
+    return {side: other for side, other in pairs.items() if other is not None}
+
+
+def round_from(across: Dict[int, int], side: int) -> List[int]:
+    """From a side on the sides that run from the same vertex, from face to face over glued sides."""
+    found = [side]
+    while True:
+        after = across.get(following(following(found[-1])))
+        if after is None or after == side:
+            return found
+        found.append(after)
+
+
+def split(faces: Faces) -> List[List[int]]:
+    """The sides that run from each new vertex. New vertices go by the old one, then open fans before
+    closed ones, then by the first side, which is the least of a closed fan."""
+    across = glued(faces)
+    fans = [round_from(across, side) for side in sides(faces) if side not in across]
+    for side in sides(faces):
+        if all(side not in fan for fan in fans):
+            fans.append(round_from(across, side))
+    return sorted(fans, key=lambda fan: (ends(faces, fan[0])[0], fan[0] in across, fan[0]))
+
+
+class Prepared(NamedTuple):
+    mesh: Mesh
+    fit: Optional[Fit]
+    notes: List[Tuple[str, int]]
+
+
+def prepared(soup: Soup, size: Optional[int]) -> Prepared:
+    named = sorted({corner for face in soup.faces for corner in face})
+    fit = fit_of([soup.points[v] for v in named], size)
+    places = {v: place_of(fit, soup.points[v]) for v in named}
+    names = joined(places)
+    renamed = [(names[a], names[b], names[c]) for a, b, c in soup.faces]
+    stay = kept(renamed)
+    faces = numbered(stay)
+    fans = split(faces)
+    new = {side: vertex for vertex, fan in enumerate(fans) for side in fan}
+    points = [places[ends(faces, fan[0])[0]] for fan in fans]
+    corners = [(new[3 * face], new[3 * face + 1], new[3 * face + 2]) for face in faces]
+    flat = sum(len(set(face)) < 3 for face in renamed)
+    notes = [
+        ("polygons cut", len(soup.polygons)),
+        ("vertices joined", sum(names[v] != v for v in named)),
+        ("faces that became edges", flat),
+        ("faces that stand twice", len(renamed) - flat - len(stay)),
+        ("sides cut open", len(cut_sides(faces))),
+        ("vertices split off", len(fans) - len({v for face in stay for v in face})),
+        ("vertices that no face has", len(soup.points) - len(named)),
+    ]
+    return Prepared(Mesh(points, corners), fit, notes)
+
+
+def head_line(made: Prepared) -> str:
+    if not made.mesh.faces:
+        return "# no faces\n"
+    return "# coordinates as they stood\n" if made.fit is None else "# " + made.fit.way_back()
+
+
+def notes_text(made: Prepared) -> str:
+    """A line for each kind of change that was made, and how places lead back."""
+    lines = [f"prepare: {what} {count}\n" for what, count in made.notes if count]
+    if not made.mesh.faces:
+        lines.append("prepare: no faces\n")
+    elif made.fit is not None:
+        lines.append("prepare: " + made.fit.way_back())
+    return "".join(lines)
+
+
+def answer(words: List[str], data: bytes) -> Answer:
+    size = number_of_word(words[0], 1, GREATEST_COORDINATE) if len(words) == 1 else None
+    if words and size is None:
+        return not_understood("prepare")
+    try:
+        made = prepared(soup_of_text(data), size)
+    except Fault as fault:
+        return failed("prepare", fault)
+    return Answer(0, head_line(made).encode() + canonical_text(made.mesh, 0), notes_text(made))

@@ -1,0 +1,106 @@
+"""What any OBJ text spells for `prepare`: points, triangles, and how many polygons were cut.
+
+Numbers may have decimals and exponents, faces any number of corners, and a line that ends in a
+backslash is continued by the next. Points count units of 10^-18.
+"""
+import re
+from fractions import Fraction
+from typing import List, NamedTuple
+
+from .faults import Fault
+from .mesh import MOST_FACES, MOST_VERTICES, Corners, Point
+from .obj import (
+    BAD_NUMBER,
+    CONTINUED,
+    MOST_LINE_BYTES,
+    OUT_OF_RANGE,
+    TOO_FEW_FIELDS,
+    TOO_LONG,
+    TOO_MANY,
+    content_of,
+    fields_of,
+    lines_of,
+    vertex_named,
+)
+
+GREATEST_EXPONENT = 999
+UNITS = 10**18
+GREATEST_UNITS = 10**32
+
+
+class Soup(NamedTuple):
+    points: List[Point]
+    faces: List[Corners]
+    polygons: List[int]  # how many corners each face had that had more than three
+
+
+def nearest(value: Fraction) -> int:
+    """The nearest whole number, halves away from 0."""
+    size = int(abs(value) + Fraction(1, 2))
+    return -size if value < 0 else size
+
+
+def decimal(field: bytes) -> int:
+    """The units of 10^-18 that a field spells."""
+    form = re.fullmatch(rb"([+-]?)([0-9]*)(?:\.([0-9]*))?(?:[eE]([+-]?)([0-9]+))?", field)
+    if form is None or not (form[2] or form[3]):
+        raise Fault(BAD_NUMBER)
+    exponent, decimals = int(form[5] or b"0"), form[3] or b""
+    if exponent > GREATEST_EXPONENT:
+        raise Fault(OUT_OF_RANGE)
+    shift = (-exponent if form[4] == b"-" else exponent) - len(decimals)
+    units = nearest(Fraction(int(form[2] + decimals)) * Fraction(10) ** shift * UNITS)
+    if units > GREATEST_UNITS:
+        raise Fault(OUT_OF_RANGE)
+    return -units if form[1] == b"-" else units
+
+
+def triangles(points: List[Point], corners: List[int]) -> List[Corners]:
+    """The triangles of the first corner and each two neighbours after it. A polygon of more than
+    three corners begins at the first whose point is least by x, then y, then z."""
+    if len(corners) > 3:
+        least = min(range(len(corners)), key=lambda i: points[corners[i]])
+        corners = corners[least:] + corners[:least]
+    return [(corners[0], p, q) for p, q in zip(corners[1:], corners[2:])]
+
+
+def take(soup: Soup, text: bytes) -> None:
+    """Adds what a line gives, which stands here with those that it continues."""
+    word, *fields = fields_of(text) or [b""]
+    if word in (b"v", b"f") and len(fields) < 3:
+        raise Fault(TOO_FEW_FIELDS)
+    if word == b"v":
+        x, y, z = [decimal(field) for field in fields[:3]]
+        if len(soup.points) == MOST_VERTICES:
+            raise Fault(TOO_MANY)
+        soup.points.append((x, y, z))
+    elif word == b"f":
+        corners = [vertex_named(field, len(soup.points)) for field in fields]
+        if len(soup.faces) + len(corners) - 2 > MOST_FACES:
+            raise Fault(TOO_MANY)
+        soup.faces.extend(triangles(soup.points, corners))
+        if len(corners) > 3:
+            soup.polygons.append(len(corners))
+
+
+def soup_of_text(text: bytes) -> Soup:
+    """The points and triangles of a text, or the first fault of its first line with one. Of lines
+    that go together the first is named."""
+    soup, begun, first = Soup([], [], []), b"", 1
+    for number, line in enumerate(lines_of(text), 1):
+        if len(line) > MOST_LINE_BYTES:
+            raise Fault(TOO_LONG, f"line {number}")
+        begun += content_of(line)
+        if len(begun) > MOST_LINE_BYTES:
+            raise Fault(TOO_LONG, f"line {first}")
+        if content_of(line).endswith(b"\\"):
+            begun = begun[:-1] + b" "
+            continue
+        try:
+            take(soup, begun)
+        except Fault as fault:
+            raise Fault(fault.number, f"line {first}") from None
+        begun, first = b"", number + 1
+    if first <= len(lines_of(text)):
+        raise Fault(CONTINUED, f"line {first}")
+    return soup

@@ -1,0 +1,230 @@
+"""Compares `vdpm` and `prepare` with the model on random cases.
+
+    python3 tests/random_cases.py SEED COUNT [--vdpm PATH] [--prepare PATH] [--processes N]
+    python3 tests/random_cases.py --again FILE
+
+A case is a program, its words and its input; number I of a seed is always the same one. What the
+program answers (status, output and error) has to be what the model does. The first case that
+differs is printed, as a text that `--again` takes. The last line is `N passed, M failed`, and the
+status is 0 exactly where none failed and N isn't 0.
+"""
+import argparse
+import base64
+import json
+import multiprocessing
+import subprocess
+import sys
+from functools import partial
+from pathlib import Path
+from random import Random
+from typing import Callable, Dict, List, NamedTuple, Optional, Tuple
+
+from model import Answer, answer
+from random_inputs import damaged_stream, damaged_text, random_digits, random_script
+from random_inputs import random_stream, random_text
+from random_meshes import random_mesh
+from random_soups import random_soup, soup_text
+
+TOP = Path(__file__).resolve().parent.parent
+NOTICE = "not proved on this machine yet, run-time checks are on; ./prove proves it"
+SECONDS = 60
+
+
+class Case(NamedTuple):
+    program: str
+    words: List[str]
+    data: bytes
+
+    def text(self) -> str:
+        data = base64.b64encode(self.data).decode()
+        return json.dumps({"program": self.program, "words": self.words, "input": data})
+
+    def command(self) -> str:
+        return " ".join(["./" + self.program, *self.words])
+
+
+class Outcome(NamedTuple):
+    case: Case
+    wanted: Answer
+    got: Answer
+
+
+def canon_case(rng: Random) -> Case:
+    digits = random_digits(rng)
+    words = ["canon"] if digits == 0 and rng.random() < 0.8 else ["canon", "--digits", str(digits)]
+    return Case("vdpm", words, random_text(rng, random_mesh(rng), digits))
+
+
+def build_case(rng: Random) -> Case:
+    digits, mesh = random_digits(rng), random_mesh(rng)
+    target = rng.choice([0, 0, 1, rng.randint(0, 60), 4_294_967_295])
+    words = ["build", str(target), "--digits", str(digits)]
+    if digits == 0:
+        words = rng.choice([words, words[:2]] + ([["build"]] if target == 0 else []))
+    return Case("vdpm", words, random_text(rng, mesh, digits))
+
+
+def stream_case(rng: Random) -> Case:
+    _, stream = random_stream(rng, random_mesh(rng))
+    for _ in range(rng.choice([0, 1, 1, 1, 2])):
+        stream = damaged_stream(rng, stream) if len(stream) > 8 else stream
+    return Case("vdpm", [rng.choice(["expand", "check", "check"])], stream)
+
+
+def view_case(rng: Random) -> Case:
+    """Few scripts follow a damaged stream; the damage may leave it valid."""
+    h, stream = random_stream(rng, random_mesh(rng))
+    if rng.random() < 0.15:
+        stream = damaged_stream(rng, stream)
+    budget = rng.choice([0, 1, 2, 5, len(h.records), len(h.records), 4_294_967_295])
+    return Case("vdpm", ["view", str(budget)], stream + random_script(rng, h))
+
+
+def demo_case(rng: Random) -> Case:
+    return Case("vdpm", ["demo", str(rng.choice([1, 2, 2, 3, 3, 4, 5, 6]))], b"")
+
+
+def words_case(rng: Random) -> Case:
+    """Words of the forms in any order, most of which aren't understood. No large demo is asked."""
+    known = ["canon", "build", "expand", "check", "view", "--digits", "0", "4", "5", "01", "-1", ""]
+    known += ["4294967296", "prepare", "demo 3", "--help", "32768"]
+    words = [rng.choice(known) for _ in range(rng.randint(0, 4))]
+    words = rng.choice([words, ["demo", rng.choice(["0", "257", "01", "x"])], ["view", "01"]])
+    return Case(rng.choice(["vdpm", "vdpm", "prepare"]), words, b"v 0 0 0\n")
+
+
+def size_words(rng: Random) -> List[str]:
+    sizes = ["1", "2", "100", "32767", str(rng.randint(1, 32_767))]
+    return [rng.choice(sizes)] if rng.random() < 0.5 else []
+
+
+def prepare_case(rng: Random) -> Case:
+    text = soup_text(rng, random_soup(rng))
+    if rng.random() < 0.1:
+        text = damaged_text(rng, text)
+    return Case("prepare", size_words(rng), text)
+
+
+def prepared_case(rng: Random) -> Case:
+    """What `prepare` wrote goes through `prepare` again, or through `canon` or `build`."""
+    text = answer("prepare", size_words(rng), soup_text(rng, random_soup(rng))).output
+    program, *words = rng.choice([["prepare"], ["prepare"], ["vdpm", "canon"], ["vdpm", "build"]])
+    return Case(program, words, text)
+
+
+KINDS: List[Tuple[Callable[[Random], Case], int]] = [
+    (canon_case, 10),
+    (build_case, 16),
+    (stream_case, 18),
+    (view_case, 32),
+    (demo_case, 1),
+    (words_case, 3),
+    (prepare_case, 14),
+    (prepared_case, 6),
+]
+
+
+def random_case(seed: int, number: int) -> Case:
+    rng = Random(f"{seed} {number}")
+    kinds, weights = zip(*KINDS)
+    [kind] = rng.choices(kinds, weights)
+    return kind(rng)
+
+
+def without_notice(program: str, error: str) -> str:
+    """The error lines but for the one that says that the program isn't proved yet."""
+    lines = error.splitlines(keepends=True)
+    return "".join(line for line in lines if line.rstrip("\n") != f"{program}: {NOTICE}")
+
+
+def ran(path: str, case: Case) -> Answer:
+    """What the program answers. A program that doesn't end in time has status -1."""
+    try:
+        done = subprocess.run(
+            [path, *case.words], input=case.data, capture_output=True, timeout=SECONDS
+        )
+    except subprocess.TimeoutExpired:
+        return Answer(-1, b"", f"no end within {SECONDS} seconds\n")
+    error = done.stderr.decode(errors="replace")
+    return Answer(done.returncode, done.stdout, without_notice(case.program, error))
+
+
+def compared(paths: Dict[str, str], case: Case) -> Outcome:
+    got = ran(paths[case.program], case)
+    return Outcome(case, answer(case.program, case.words, case.data), got)
+
+
+def outcome_of(paths: Dict[str, str], seed: int, number: int) -> Optional[Outcome]:
+    """The outcome of a case that differs, or None."""
+    outcome = compared(paths, random_case(seed, number))
+    return None if outcome.wanted == outcome.got else outcome
+
+
+def first_difference(wanted: bytes, got: bytes) -> str:
+    pairs = enumerate(zip(wanted, got))
+    at = next((i for i, (a, b) in pairs if a != b), min(len(wanted), len(got)))
+    begin = max(0, at - 30)
+    return f"byte {at}: wanted {wanted[begin:at + 50]!r}\n    got {got[begin:at + 50]!r}"
+
+
+def told(outcome: Outcome) -> str:
+    """What differs, as comments, and then the case."""
+    wanted, got = outcome.wanted, outcome.got
+    lines = [f"# {outcome.case.command()}: what differs from the model"]
+    if wanted.status != got.status:
+        lines.append(f"# status: wanted {wanted.status}, got {got.status}")
+    if wanted.error != got.error:
+        lines.append(f"# error: wanted {wanted.error!r}, got {got.error!r}")
+    if wanted.output != got.output:
+        difference = first_difference(wanted.output, got.output)
+        lines += ["# output, " + line.strip() for line in difference.split("\n")]
+    return "\n".join(lines + [outcome.case.text()])
+
+
+def read_case(path: str) -> Case:
+    """The case of a file as `told` writes it; the lines before it are comments."""
+    text = Path(path).read_text()
+    fields = json.loads("".join(line for line in text.splitlines() if not line.startswith("#")))
+    return Case(fields["program"], fields["words"], base64.b64decode(fields["input"]))
+
+
+def again(paths: Dict[str, str], path: str) -> int:
+    outcome = compared(paths, read_case(path))
+    differs = outcome.wanted != outcome.got
+    if differs:
+        print(told(outcome))
+    print(f"{int(not differs)} passed, {int(differs)} failed")
+    return int(differs)
+
+
+def all_cases(paths: Dict[str, str], seed: int, count: int, processes: int) -> int:
+    failed: List[Outcome] = []
+    with multiprocessing.Pool(processes) as pool:
+        for outcome in pool.imap(partial(outcome_of, paths, seed), range(count), chunksize=8):
+            if outcome is not None:
+                failed.append(outcome)
+                if len(failed) == 1:
+                    print(told(outcome), flush=True)
+    print(f"{count - len(failed)} passed, {len(failed)} failed")
+    return int(bool(failed) or count == 0)
+
+
+def main() -> int:
+    parser = argparse.ArgumentParser(description="compares the programs with the model")
+    parser.add_argument("seed", type=int, nargs="?")
+    parser.add_argument("count", type=int, nargs="?")
+    parser.add_argument("--vdpm", default=str(TOP / "vdpm"), help="the program, ./vdpm by default")
+    parser.add_argument("--prepare", default=str(TOP / "prepare"), help="./prepare by default")
+    parser.add_argument("--processes", type=int, help="as many as there are processors by default")
+    parser.add_argument("--again", metavar="FILE", help="runs the case of this file alone")
+    asked = parser.parse_args()
+    paths = {"vdpm": asked.vdpm, "prepare": asked.prepare}
+    if asked.again:
+        return again(paths, asked.again)
+    if asked.seed is None or asked.count is None or asked.count < 0:
+        parser.error("SEED and COUNT are wanted, or --again FILE")
+    return all_cases(paths, asked.seed, asked.count, asked.processes)
+
+
+if __name__ == "__main__":
+    sys.exit(main())
