@@ -36,7 +36,8 @@ def spelled(rng: Random, units: int, digits: int) -> str:
     """A coordinate, not always in its canonical form."""
     text = coordinate_text(units, digits)
     if rng.random() < 0.3:
-        text = text.rstrip("0").rstrip(".") if "." in text else text + rng.choice([".", ".0", ".00"])
+        is_decimal = "." in text
+        text = text.rstrip("0").rstrip(".") if is_decimal else text + rng.choice([".", ".0", ".00"])
     if rng.random() < 0.1 and not text.startswith("-"):
         text = "+" + text
     if rng.random() < 0.1:
@@ -94,7 +95,7 @@ def random_run(rng: Random, mesh: Mesh) -> List[Collapse]:
     """Legal collapses in any order, each to its own place, so records hang together otherwise than
     those of a builder."""
     surface, log = surface_of(mesh), []
-    for _ in range(rng.randint(0, 30)):
+    for _ in range(rng.choice([0, 3, 10, 30, 30, 100])):
         pairs = pairs_of(surface.faces)
         for a, b in rng.sample(pairs, min(len(pairs), 6)):
             place = best_place(surface, a, b)[1]
@@ -113,18 +114,19 @@ def random_hierarchy(rng: Random, mesh: Mesh) -> Hierarchy:
 
 def damaged_stream(rng: Random, stream: bytes) -> bytes:
     """A stream with some words changed, two words swapped, cut off, or with bytes behind it."""
-    kind = rng.choice(["word", "word", "word", "near", "near", "swap", "cut", "more", "byte"])
+    kind = rng.choice(["word"] * 4 + ["near"] * 3 + ["header", "swap", "cut", "more", "byte"])
     changed, words = bytearray(stream), len(stream) // 4
-    at = 4 * rng.randrange(1, words)
+    at = 4 * rng.randrange(1, min(words, 7) if kind == "header" else words)
     [old] = struct.unpack_from("<I", stream, at)
-    if kind == "word":
+    if kind in ("word", "header"):
         new = rng.choice([0, 1, 2, 3, rng.randrange(40), 32_768, 2**20 + 1, 2**31, 2**32 - 1])
         struct.pack_into("<I", changed, at, new)
     elif kind == "near":
         struct.pack_into("<I", changed, at, (old + rng.choice([-3, -2, -1, 1, 2, 3])) % 2**32)
     elif kind == "swap":
         other = 4 * rng.randrange(1, words)
-        changed[at : at + 4], changed[other : other + 4] = stream[other : other + 4], stream[at : at + 4]
+        changed[at : at + 4] = stream[other : other + 4]
+        changed[other : other + 4] = stream[at : at + 4]
     elif kind == "cut":
         return stream[: rng.randint(0, len(stream))]
     elif kind == "more":
@@ -180,7 +182,7 @@ def ray_line(rng: Random, h: Hierarchy) -> str:
 
 def script_line(rng: Random, h: Hierarchy) -> str:
     count = len(h.records)
-    kind = rng.choice("ssssccccvvvvwmtkggppp")
+    kind = rng.choice("sssssccccccvvvvwmtkggppp")
     if kind in "sc" and count:
         return f"{kind} {rng.randrange(count)}"
     if kind == "v":
@@ -195,12 +197,15 @@ def script_line(rng: Random, h: Hierarchy) -> str:
 
 def random_script(rng: Random, h: Hierarchy) -> bytes:
     """Lines of all kinds; many scripts begin with all records split, some have a bad line."""
-    lines = []
-    if rng.random() < 0.4:
-        lines += [f"s {k}" for k in range(len(h.records))]
+    every = range(len(h.records))
+    lines = [f"s {k}" for k in every] if rng.random() < 0.4 else []
+    if lines and rng.random() < 0.3:
+        some = rng.sample(every, min(len(every), 8))
+        lines += ["k"] + [f"c {k}" for k in sorted(some, reverse=rng.random() < 0.7)] + ["g 1 2"]
     for _ in range(rng.randint(1, 14)):
         lines.append(script_line(rng, h))
     lines += rng.choice([[], ["w"], ["w", "m", "t"], ["q"], ["w", "q", "not read"]])
     if rng.random() < 0.15:
-        lines.insert(rng.randint(0, len(lines)), rng.choice(BAD_SCRIPT_LINES + [f"s {len(h.records)}"]))
+        bad = rng.choice(BAD_SCRIPT_LINES + [f"s {len(h.records)}"])
+        lines.insert(rng.randint(0, len(lines)), bad)
     return "\n".join(lines).encode() + (b"\n" if rng.random() < 0.85 else b"")

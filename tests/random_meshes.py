@@ -66,6 +66,17 @@ def refined(faces: Faces) -> Faces:
     return finer
 
 
+def large_surface(rng: Random) -> Faces:
+    """One of some hundred faces."""
+    kinds: List[Callable[[], Faces]] = [
+        lambda: patch(rng.randint(5, 9), rng.randint(5, 9)),
+        lambda: torus(rng.randint(5, 8), rng.randint(5, 8)),
+        lambda: refined(refined(double_cone(rng.randint(3, 5)))),
+        lambda: chain(rng.randint(30, 90)),
+    ]
+    return rng.choice(kinds)()
+
+
 def base_surface(rng: Random) -> Faces:
     kinds: List[Callable[[], Faces]] = [
         lambda: patch(rng.randint(1, 4), rng.randint(1, 4)),
@@ -119,8 +130,8 @@ def with_center(rng: Random, faces: Faces, count: int) -> Faces:
 
 def surface(rng: Random) -> Faces:
     """Up to three base surfaces side by side, changed at random."""
-    faces: Faces = []
-    for _ in range(rng.choice([1, 1, 1, 1, 2, 3])):
+    faces = large_surface(rng) if rng.random() < 0.08 else []
+    for _ in range(rng.choice([1, 1, 1, 1, 2, 3]) if not faces else 0):
         first = 1 + max((corner for face in faces for corner in face), default=-1)
         faces += [(a + first, b + first, c + first) for a, b, c in base_surface(rng)]
     if rng.random() < 0.5:
@@ -150,7 +161,8 @@ def points_for(rng: Random, count: int) -> List[Point]:
         if kind == "line":
             return step * i, 0, 0
         if kind == "edge":
-            return rng.choice((-most, most)), rng.choice((-most, 0, most)), rng.choice((-most, most))
+            x, y, z = [rng.choice((-most, 0, most)) for _ in range(3)]
+            return x, y, z
         return rng.randint(-most, most), rng.randint(-most, most), rng.randint(-most, most)
 
     return [point(i) for i in range(count)]
@@ -169,7 +181,7 @@ def shuffled(rng: Random, points: List[Point], faces: Faces) -> Mesh:
 
 
 def random_mesh(rng: Random) -> Mesh:
-    """A mesh of up to some 60 faces, some of whose vertices may have no face."""
+    """A mesh of some 60 faces at most, seldom of some hundred; some vertices may have no face."""
     faces = surface(rng)
     used = 1 + max((corner for face in faces for corner in face), default=-1)
     points = points_for(rng, used + rng.choice([0, 0, 0, 1, 3]))

@@ -11,8 +11,9 @@ Soup = Tuple[List[Point], List[List[int]]]  # points, and faces of three corners
 
 SKIPPED = ["", "# no line", "vn 0 0 1", "s off", "g a \\", "b", "#\\", "vt 1 \\", "o x # \\"]
 BAD_LINES = [
-    "v 1 2", "f 1 2", "v 1e 0 0", "v e5 0 0", "v 1e1000 0 0", "v 0 0 1e15", "v 1e-1000 0 0", "f 1 2 0",
-    "f 1 2 9999", "f 1 2 3 x", "v 1 2 3 \\", "v 1..0 0 0", "v 1e5.0 0 0", "v 1 \\", "f 1 2 +3",
+    "v 1 2", "f 1 2", "v 1e 0 0", "v e5 0 0", "v 1e1000 0 0", "v 0 0 1e15", "v 1e-1000 0 0",
+    "f 1 2 0", "f 1 2 9999", "f 1 2 3 x", "v 1 2 3 \\", "v 1..0 0 0", "v 1e5.0 0 0", "v 1 \\",
+    "f 1 2 +3",
     "v 100000000000000 0 0", "v 100000000000000.1 0 0", "v 1e+999 0 0", "v 0e-999 .5e1 1.e-2",
     "v 1 2 \\\n3", "f 1 \\\r\n 2 3 # end", "f 1 \\\n\\\n2", "v 0.5 0.5 0.5", "v 7e-19 5e-19 -5e-19",
 ]  # fmt: skip
@@ -89,7 +90,8 @@ def number_text(rng: Random, value: int, style: str) -> str:
         return f"{value}.{rng.randrange(10**rng.randint(1, 20))}"
     if style == "small":
         return f"{value / 1000:.6f}"
-    return rng.choice([f"{value:e}", f"{value}E{rng.randint(-9, 5)}", f"{value}e-0{rng.randint(0, 3)}"])
+    exponent = rng.choice([f"E{rng.randint(-9, 5)}", f"e-0{rng.randint(0, 3)}", f"e+{value % 4}"])
+    return rng.choice([f"{value:e}", f"{value}{exponent}"])
 
 
 def soup_text(rng: Random, soup: Soup) -> bytes:

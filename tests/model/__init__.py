@@ -1,9 +1,9 @@
 """A model of `vdpm` and `prepare`: what they answer, by the definitions in their plainest form.
 
-It is over lists and numbers, and looks at everything anew each time. So it is slow: meshes of some
-hundred faces are for it. It shares no code with the program, and both are compared by
-tests/random_cases.py. `python3 tests/model vdpm WORDS.. < input` answers as `./vdpm WORDS..` should,
-and so it is with `prepare`.
+It is over lists and numbers, and looks at everything anew each time. So it is slow, and for meshes
+of a few hundred faces. It shares no code with the programs; tests/random_cases.py compares them
+with it. `python3 tests/model vdpm WORDS.. < input` answers as `./vdpm WORDS..` should, and so it is
+with `prepare`.
 
     mesh       points, faces, sides, twins, fans, the canonical text
     obj        what an OBJ text means

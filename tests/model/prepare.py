@@ -40,7 +40,7 @@ class Fit(NamedTuple):
         return x, y, z
 
     def way_back(self) -> str:
-        """How places lead back to coordinates: the extent, twice the size, the middle of each axis."""
+        """How places lead back: by the extent, twice the size and the middle of each axis."""
         middles = [coordinate_text(5 * (low + high), 19) for low, high in zip(self.low, self.high)]
         scale = f"{coordinate_text(self.extent(), 18)} / {2 * self.size}"
         return f"coordinate = {scale} * place + ({' '.join(middles)})\n"
@@ -100,7 +100,7 @@ def glued(faces: Faces) -> Dict[int, int]:
 
 
 def round_from(across: Dict[int, int], side: int) -> List[int]:
-    """From a side on the sides that run from the same vertex, from face to face over glued sides."""
+    """The sides that run from the same vertex, from face to face over glued sides."""
     found = [side]
     while True:
         after = across.get(following(following(found[-1])))
@@ -110,8 +110,8 @@ def round_from(across: Dict[int, int], side: int) -> List[int]:
 
 
 def split(faces: Faces) -> List[List[int]]:
-    """The sides that run from each new vertex. New vertices go by the old one, then open fans before
-    closed ones, then by the first side, which is the least of a closed fan."""
+    """The sides that run from each new vertex. New vertices go by the old one, then open fans
+    before closed ones, then by the first side, which is the least of a closed fan."""
     across = glued(faces)
     fans = [round_from(across, side) for side in sides(faces) if side not in across]
     for side in sides(faces):

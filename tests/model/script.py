@@ -24,11 +24,6 @@ GREATEST_PARTS = 65_535
 MOST_PLANES = 6
 
 
-class State(NamedTuple):
-    split: Set[int]
-    marked: Set[int]
-
-
 class Served(NamedTuple):
     """The replies, and the fault that ended the script, if one did."""
 
