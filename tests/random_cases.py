@@ -20,7 +20,7 @@ from random import Random
 from typing import Callable, Dict, List, NamedTuple, Optional, Tuple
 
 from model import Answer, answer
-from random_inputs import damaged_stream, damaged_text, random_digits, random_script
+from random_inputs import bad_stream, damaged_text, random_digits, random_script
 from random_inputs import random_stream, random_text
 from random_meshes import random_mesh
 from random_soups import random_soup, soup_text
@@ -65,9 +65,9 @@ def build_case(rng: Random) -> Case:
 
 
 def stream_case(rng: Random) -> Case:
-    _, stream = random_stream(rng, random_mesh(rng))
-    for _ in range(rng.choice([0, 1, 1, 1, 2])):
-        stream = damaged_stream(rng, stream) if len(stream) > 8 else stream
+    h, stream = random_stream(rng, random_mesh(rng))
+    if rng.random() < 0.85:
+        stream = bad_stream(rng, h, stream)
     return Case("vdpm", [rng.choice(["expand", "check", "check"])], stream)
 
 
@@ -75,7 +75,7 @@ def view_case(rng: Random) -> Case:
     """Few scripts follow a damaged stream; the damage may leave it valid."""
     h, stream = random_stream(rng, random_mesh(rng))
     if rng.random() < 0.15:
-        stream = damaged_stream(rng, stream)
+        stream = bad_stream(rng, h, stream)
     budget = rng.choice([0, 1, 2, 5, len(h.records), len(h.records), 4_294_967_295])
     return Case("vdpm", ["view", str(budget)], stream + random_script(rng, h))
 

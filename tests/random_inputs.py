@@ -1,9 +1,10 @@
 """Random inputs for tests: OBJ texts plain and damaged, streams plain and damaged, and scripts."""
 import struct
+from copy import copy
 from random import Random
 from typing import List, Tuple
 
-from model.hierarchy import Hierarchy, hierarchy_of_run
+from model.hierarchy import Hierarchy, NewFace, hierarchy_of_run
 from model.mesh import Mesh, canonical_text, coordinate_text
 from model.run import Collapse, best_place, collapsed, is_legal, pairs_of, run_to, surface_of
 from model.stream import stream_text
@@ -136,9 +137,66 @@ def damaged_stream(rng: Random, stream: bytes) -> bytes:
     return bytes(changed)
 
 
+def bent_face(rng: Random, face: NewFace, faces: int) -> NewFace:
+    """A new face with another neighbour, turned corners, or another number."""
+    kind = rng.choice(["first", "second", "third", "turned", "mirrored", "input"])
+    side = rng.choice([None, rng.randrange(3 * faces + 2), 3 * faces - rng.randrange(12)])
+    a, b, c = face.corners
+    if kind == "first":
+        return face._replace(first=side)
+    if kind == "second":
+        return face._replace(second=side)
+    if kind == "third":
+        return face._replace(first=face.second, second=face.first)
+    if kind == "input":
+        return face._replace(input=faces + rng.randint(0, 2))
+    return face._replace(corners=(b, c, a) if kind == "turned" else (c, b, a))
+
+
+def bent(rng: Random, h: Hierarchy) -> Hierarchy:
+    """The hierarchy with a record that has other faces or tells of other neighbours."""
+    other, k = copy(h), rng.randrange(len(h.records))
+    record, kind = h.records[k], rng.choice(["left", "right", "swapped", "width", "s"])
+    if kind == "swapped":
+        record = record._replace(left=record.right, right=record.left)
+    elif kind == "s":
+        record = record._replace(s=rng.randrange(len(h.nodes)))
+    elif kind == "width":
+        record = record._replace(width=record.width + rng.choice([-1, 1]))
+    elif kind == "left" and record.left is not None:
+        record = record._replace(left=bent_face(rng, record.left, len(h.faces)))
+    elif record.right is not None:
+        record = record._replace(right=bent_face(rng, record.right, len(h.faces)))
+    other.records = h.records[:k] + [record] + h.records[k + 1 :]
+    return other
+
+
+def random_counts(rng: Random, stream: bytes) -> bytes:
+    """A stream with other counts, of which the records are often right."""
+    at = 8 if stream[4] == 1 else 12
+    leaves, roots, bases, records = struct.unpack_from("<4I", stream, at)
+    leaves, roots = rng.choice([leaves, 0, 2**20, 2**20 + 1]), rng.choice([roots, 0, 1, leaves])
+    bases = rng.choice([bases, 0, 2**20, 2**20 + 1])
+    records = rng.choice([records, max(0, leaves - roots), max(0, leaves - roots)])
+    return stream[:at] + struct.pack("<4I", leaves, roots, bases, records) + stream[at + 16 :]
+
+
 def random_stream(rng: Random, mesh: Mesh) -> Tuple[Hierarchy, bytes]:
     h = random_hierarchy(rng, mesh)
     return h, stream_text(h, random_digits(rng))
+
+
+def bad_stream(rng: Random, h: Hierarchy, stream: bytes) -> bytes:
+    """A stream that is damaged in some way, which may leave it valid."""
+    kind = rng.choice(["bent", "damaged", "damaged", "damaged", "twice", "counts"])
+    if len(stream) <= 28:
+        return stream
+    if kind == "bent" and h.records:
+        return stream_text(bent(rng, h), random_digits(rng))
+    if kind == "counts" and rng.random() < 0.3:
+        return random_counts(rng, stream)
+    stream = damaged_stream(rng, stream)
+    return damaged_stream(rng, stream) if kind == "twice" and len(stream) > 8 else stream
 
 
 def plane_fields(rng: Random, reach: int) -> List[int]:

@@ -115,12 +115,12 @@ def asked(words: List[str], data: bytes) -> Optional[Answer]:
         return expand(data)
     if words == ["check"]:
         return check(data)
-    *front, last = words or [""]
-    if front in (["view"], ["demo"]):
-        number = number_of_word(last, *((1, LARGEST_GRID) if front == ["demo"] else ()))
-        if number is None:
-            return None
-        return view(data, number) if front == ["view"] else demo(number)
+    if len(words) == 2 and words[0] == "view":
+        budget = number_of_word(words[1])
+        return None if budget is None else view(data, budget)
+    if len(words) == 2 and words[0] == "demo":
+        size = number_of_word(words[1], 1, LARGEST_GRID)
+        return None if size is None else demo(size)
     return asked_of_text(words, data)
 
 

@@ -24,24 +24,22 @@ def active_nodes(h: Hierarchy, split: Front) -> List[int]:
 def ancestor(h: Hierarchy, split: Front, node: int) -> int:
     """The active node that is met on the way up from a leaf's node."""
     while not is_active(h, split, node):
-        node = h.records[h.nodes[node].maker].s
+        node = h.parent(node)
     return node
 
 
 class Shown:
-    """A front with the ancestor of each leaf."""
+    """The mesh that a front shows: the active nodes, and all faces with the ancestors of their
+    corners, of which those with three different ones are kept."""
 
     def __init__(self, h: Hierarchy, split: Front) -> None:
-        self.hierarchy = h
-        self.split = split
         self.nodes = active_nodes(h, split)
-        self.ancestors = [ancestor(h, split, leaf) for leaf in h.leaf_nodes()]
-        self.faces = {f: tuple(self.ancestors[c] for c in h.faces[f]) for f in range(len(h.faces))}
+        above = [ancestor(h, split, leaf) for leaf in h.leaf_nodes()]
+        self.faces = {f: (above[a], above[b], above[c]) for f, (a, b, c) in enumerate(h.faces)}
         self.kept = [f for f, corners in self.faces.items() if len(set(corners)) == 3]
         self.twins = h.leaf_twins()
 
     def is_kept(self, face: int) -> bool:
-        """The face's corners have three ancestors."""
         return face in self.kept
 
     def ends(self, side: int) -> Tuple[int, int]:
@@ -113,8 +111,10 @@ def collapse_reply(h: Hierarchy, split: Front, k: int) -> str:
         return "not active"
     shown = Shown(h, split)
     for side, neighbour in told(h, k):
-        if shown.beyond(side) != neighbour:
-            return f"blocked {face_of(shown.beyond(side))}"
+        other = shown.beyond(side)
+        if other != neighbour:
+            assert other is not None, "in a valid hierarchy a face stands beyond"
+            return f"blocked {face_of(other)}"
     return "ok"
 
 

@@ -104,6 +104,12 @@ class Hierarchy:
         """The nodes t and u of record k."""
         return [len(self.roots) + 2 * k, len(self.roots) + 2 * k + 1]
 
+    def parent(self, node: int) -> int:
+        """The node that was split to make this one, which isn't a root."""
+        maker = self.nodes[node].maker
+        assert maker is not None, "a root is above all"
+        return self.records[maker].s
+
     def faces_of(self, k: int) -> List[int]:
         """The numbers of the faces that record k brings in, the left one first."""
         return [face for face, revealer in enumerate(self.revealers) if revealer == k]
@@ -180,8 +186,8 @@ class Numbering:
     def face(self, gone: Optional[Gone]) -> Optional[NewFace]:
         if gone is None:
             return None
-        sides = self.side(gone.first), self.side(gone.second)
-        return NewFace(self.corners(gone.face), gone.face + 1, *sides)
+        first, second = self.side(gone.first), self.side(gone.second)
+        return NewFace(self.corners(gone.face), gone.face + 1, first, second)
 
 
 def hierarchy_of_run(mesh: Mesh, log: List[Collapse]) -> Hierarchy:

@@ -101,9 +101,9 @@ def is_on_border(faces: Faces, vertex: int) -> bool:
 
 def turns_over(surface: Surface, face: Corners, moved: int, place: Point) -> bool:
     """The face's normal has a product below 0 with the one it has once the corner is moved."""
-    old = [surface.places[corner] for corner in face]
-    new = [place if corner == moved else surface.places[corner] for corner in face]
-    return dot(normal(*old), normal(*new)) < 0
+    a, b, c = [surface.places[corner] for corner in face]
+    p, q, r = [place if corner == moved else surface.places[corner] for corner in face]
+    return dot(normal(a, b, c), normal(p, q, r)) < 0
 
 
 def is_held_apart(faces: Faces, a: int, b: int) -> bool:
@@ -136,8 +136,8 @@ def is_legal(surface: Surface, a: int, b: int, place: Point) -> bool:
 
 def pairs_of(faces: Faces) -> List[Tuple[int, int]]:
     """The pairs of vertices that some face holds, the lesser first."""
-    found = {tuple(sorted(ends(faces, side))) for side in sides(faces)}
-    return sorted((a, b) for a, b in found)
+    found = [ends(faces, side) for side in sides(faces)]
+    return sorted({(min(pair), max(pair)) for pair in found})
 
 
 def least_pair(surface: Surface) -> Optional[Tuple[int, int, Point]]:
@@ -146,8 +146,10 @@ def least_pair(surface: Surface) -> Optional[Tuple[int, int, Point]]:
     for a, b in pairs_of(surface.faces):
         cost, place = best_place(surface, a, b)
         costs.append((cost, a, b, place))
-    legal = (pair for _, *pair in sorted(costs) if is_legal(surface, *pair))
-    return next(legal, None)
+    for _, a, b, place in sorted(costs):
+        if is_legal(surface, a, b, place):
+            return a, b, place
+    return None
 
 
 def gone(faces: Faces, t: int, u: int) -> Optional[Gone]:
@@ -164,7 +166,7 @@ def collapsed(surface: Surface, t: int, u: int, place: Point) -> Tuple[Surface, 
     """Both vertices become the next one, and faces with two equal corners are dropped."""
     s = surface.next_vertex
     entry = Collapse(t, u, s, place, gone(surface.faces, t, u), gone(surface.faces, u, t))
-    renamed = {f: tuple(s if c in (t, u) else c for c in face) for f, face in surface.faces.items()}
+    renamed = {f: [s if c in (t, u) else c for c in face] for f, face in surface.faces.items()}
     faces = {f: (a, b, c) for f, (a, b, c) in renamed.items() if len({a, b, c}) == 3}
     places = {v: p for v, p in surface.places.items() if v not in (t, u)}
     planes = {v: list(ps) for v, ps in surface.planes.items() if v not in (t, u)}

@@ -5,7 +5,7 @@ from typing import List, NamedTuple, Optional, Tuple
 
 from .faults import Fault
 from .hierarchy import BaseFace, Child, Hierarchy, NewFace, Record, Root
-from .mesh import GREATEST_COORDINATE, MOST_FACES, MOST_VERTICES, Point
+from .mesh import GREATEST_COORDINATE, MOST_FACES, MOST_VERTICES, Corners, Point
 
 MAGIC = b"VDPM"
 BAD_MAGIC, BAD_VERSION, TRUNCATED, BAD_COUNT, BAD_ROOT = 20, 21, 22, 23, 24
@@ -15,6 +15,10 @@ MOST_DIGITS = 4
 
 def side_word(side: Optional[int]) -> int:
     return 0 if side is None else side + 1
+
+
+def side_of_word(word: int) -> Optional[int]:
+    return word - 1 if word else None
 
 
 def record_words(record: Record) -> List[int]:
@@ -148,8 +152,7 @@ class Reader:
         if not fits or max(first, second) > 3 * before or is_many:
             raise Fault(BAD_RECORD, f"record {k}")
         self.face_input(number)
-        beyond = [word - 1 if word else None for word in (first, second)]
-        return NewFace((a, b, c), number, *beyond)
+        return NewFace((a, b, c), number, side_of_word(first), side_of_word(second))
 
     def read_all(self) -> None:
         self.read_header()
@@ -178,7 +181,7 @@ def kind_of(h: Hierarchy, record: Record, leaf: int) -> str:
     return "outside" if leaf < h.nodes[len(h.roots) - 1].after else "nowhere"
 
 
-def is_face_between(h: Hierarchy, record: Record, corners: Tuple[int, ...], is_left: bool) -> bool:
+def is_face_between(h: Hierarchy, record: Record, corners: Corners, is_left: bool) -> bool:
     """One corner is under t, one under u and one outside s: in the left face u follows t, in the
     right face t follows u."""
     kinds = [kind_of(h, record, leaf) for leaf in corners]

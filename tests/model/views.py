@@ -21,11 +21,11 @@ class Bounds(NamedTuple):
     high: Point
 
 
-def faces_under(h: Hierarchy, node: int) -> List[Tuple[Point, ...]]:
+def faces_under(h: Hierarchy, node: int) -> List[Tuple[Point, Point, Point]]:
     """The places of the corners of each input face that has a corner under the node."""
     points = h.leaf_points()
     held = [face for face in h.faces if any(h.nodes[node].holds(leaf) for leaf in face)]
-    return [tuple(points[leaf] for leaf in face) for face in held]
+    return [(points[a], points[b], points[c]) for a, b, c in held]
 
 
 def grown(h: Hierarchy, node: int, at_leaf: List[int]) -> int:

@@ -1,0 +1,36 @@
+"""Tries the model of `prepare` on worked values: python3 tests/test_model_of_prepare.py"""
+import unittest
+
+from model import answer
+from worked import OCTAHEDRON, SQUARE, TETRAHEDRON, THREE
+
+
+class Preparing(unittest.TestCase):
+    def test_what_fits_comes_back(self) -> None:
+        for text in (OCTAHEDRON, SQUARE, TETRAHEDRON):
+            wanted = (0, b"# coordinates as they stood\n" + text, "")
+            self.assertEqual(answer("prepare", [], text), wanted)
+
+    def test_a_polygon_is_cut_and_scaled_by_its_box(self) -> None:
+        text = b"v 0 0 0\nv 2.5 0 0\nv 2.5 2.5 0\nv 0 2.5 0\nf 3 4 1 2\n"
+        head = "coordinate = 2.500000000000000000 / 20 * place + (1.2500000000000000000 "
+        head += "1.2500000000000000000 0.0000000000000000000)\n"
+        mesh = "v -10 -10 0\nv 10 -10 0\nv 10 10 0\nv -10 10 0\nf 1 2 3\nf 1 3 4\n"
+        notes = f"prepare: polygons cut 1\nprepare: {head}"
+        self.assertEqual(answer("prepare", ["10"], text), (0, f"# {head}{mesh}".encode(), notes))
+
+    def test_two_faces_turned_against_each_other_are_cut_apart(self) -> None:
+        text = (THREE + "v 0 -10 0\nf 1 2 3\nf 1 2 4\n").encode()
+        done = answer("prepare", [], text)
+        self.assertIn(b"f 1 3 5\nf 2 4 6\n", done.output)
+        self.assertEqual(done.error, "prepare: sides cut open 2\nprepare: vertices split off 2\n")
+
+    def test_of_lines_that_go_together_the_first_is_named(self) -> None:
+        done = answer("prepare", [], b"v 0 0 0\nv 1 \\\n2 \\\nx\n")
+        self.assertEqual(done, (1, b"", "prepare: fault 4 line 2\n"))
+        done = answer("prepare", [], b"v 0 0 0\nv 1 \\\n2 \\\n")
+        self.assertEqual(done, (1, b"", "prepare: fault 2 line 2\n"))
+
+
+if __name__ == "__main__":
+    unittest.main()
