@@ -219,6 +219,9 @@ def main() -> int:
     parser.add_argument("--again", metavar="FILE", help="runs the case of this file alone")
     asked = parser.parse_args()
     paths = {"vdpm": asked.vdpm, "prepare": asked.prepare}
+    for path in paths.values():
+        if not Path(path).is_file():
+            parser.error(f"no program stands at {path}")
     if asked.again:
         return again(paths, asked.again)
     if asked.seed is None or asked.count is None or asked.count < 0:

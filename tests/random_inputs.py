@@ -138,8 +138,8 @@ def damaged_stream(rng: Random, stream: bytes) -> bytes:
 
 
 def bent_face(rng: Random, face: NewFace, faces: int) -> NewFace:
-    """A new face with another neighbour, turned corners, or another number."""
-    kind = rng.choice(["first", "second", "third", "turned", "mirrored", "input"])
+    """A new face with another neighbour, turned corners, another corner, or another number."""
+    kind = rng.choice(["first", "second", "third", "turned", "mirrored", "moved", "input"])
     side = rng.choice([None, rng.randrange(3 * faces + 2), 3 * faces - rng.randrange(12)])
     a, b, c = face.corners
     if kind == "first":
@@ -150,6 +150,8 @@ def bent_face(rng: Random, face: NewFace, faces: int) -> NewFace:
         return face._replace(first=face.second, second=face.first)
     if kind == "input":
         return face._replace(input=faces + rng.randint(0, 2))
+    if kind == "moved":
+        return face._replace(corners=(a, b, rng.randrange(faces)), first=None, second=None)
     return face._replace(corners=(b, c, a) if kind == "turned" else (c, b, a))
 
 
@@ -210,14 +212,14 @@ def view_line(rng: Random, h: Hierarchy) -> str:
     places = [node.place for node in h.nodes] or [(0, 0, 0)]
     reach = 1 + max(abs(c) for place in places for c in place)
     around = rng.choice([1, reach // 4 + 1, reach, 4 * reach, 100 * reach, 16_000_000])
-    eye = [
-        max(-16_777_215, min(16_777_215, c + rng.randint(-around, around)))
-        for c in rng.choice(places)
-    ]
+    off = [rng.randint(-around, around) for _ in range(3)]
+    if rng.random() < 0.3:
+        off[:2] = 0, 0  # from above or below: a sheet has no outline then
+    eye = [max(-16_777_215, min(16_777_215, c + d)) for c, d in zip(rng.choice(places), off)]
     focal, tol = rng.choice([0, 1, 100, 1000, 65_535]), rng.choice([0, 1, 5, 20, 100, 65_535])
     fields = eye + [focal, tol]
     if rng.random() < 0.4:
-        fields.append(rng.randint(0, tol))
+        fields.append(rng.choice([0, tol // 20, rng.randint(0, tol)]))
     word = "v" if len(fields) == 5 else "vs"
     for _ in range(rng.choice([0, 0, 0, 1, 1, 2, 6])):
         fields += plane_fields(rng, reach)
@@ -260,7 +262,7 @@ def random_script(rng: Random, h: Hierarchy) -> bytes:
     if lines and rng.random() < 0.3:
         some = rng.sample(every, min(len(every), 8))
         lines += ["k"] + [f"c {k}" for k in sorted(some, reverse=rng.random() < 0.7)] + ["g 1 2"]
-    for _ in range(rng.randint(1, 14)):
+    for _ in range(60 if rng.random() < 0.03 else rng.randint(1, 14)):
         lines.append(script_line(rng, h))
     lines += rng.choice([[], ["w"], ["w", "m", "t"], ["q"], ["w", "q", "not read"]])
     if rng.random() < 0.15:

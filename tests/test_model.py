@@ -154,6 +154,17 @@ class Streams(unittest.TestCase):
         self.assertEqual(refused("check", b"X" + OCTAHEDRON_STREAM[1:]), "20")
         self.assertEqual(refused("check", OCTAHEDRON_STREAM + b"w"), "29")
 
+    def test_the_inner_sides_of_a_record_have_to_meet(self) -> None:
+        """The face of record 1 joins those of record 0, or lies elsewhere."""
+        roots = (0, 0, 0, 3, 0, 9, 0, 0, 1, 4, 0, 9, 0, 1, 5, 0, 0, 9, 1, 6)
+        first = (0, 2, 1, 0, 0, 0, 2, 0, 0, 3, 3, 0, 2, 3, 1, 0, 0, 2, 1, 4, 2, 0, 0)
+        head = (4, 1, 3, 0, 0, 1, 4, 0, 0, 2, 1)
+        joined = stream_of(1, 6, 4, 0, 2, *roots, *first, *head, 0, 1, 2, 3, 4, 1)
+        counts = b"leaves 6 roots 4 base 0 records 2 faces 3\n"
+        self.assertEqual(output("check", joined), counts)
+        apart = stream_of(1, 6, 4, 0, 2, *roots, *first, *head, 0, 1, 5, 3, 0, 0)
+        self.assertEqual(refused("check", apart), "28 record 0")
+
     def test_counts_are_judged_before_what_follows(self) -> None:
         many = stream_of(1, 1_048_576, 1, 1_048_576, 1_048_575)
         self.assertEqual(refused("check", many), "22 byte 24")
@@ -278,14 +289,9 @@ class Told(unittest.TestCase):
         self.assertIn("v 8 5 0 0", lines)
 
     def test_a_ray_hits_the_nearest_face(self) -> None:
-        cases = [
-            ("p 1000 10 20 -1 0 0", "hit 6 9300000 10000"),
-            ("p 1000 0 10 -1 0 0", "hit 0 9100000 10000"),
-            ("p 1000 500 0 -1 0 0", "miss"),
-            ("p 1000 10 20 1 0 0", "miss"),
-        ]
-        for line, reply in cases:
-            self.assertEqual(replies(OCTAHEDRON_STREAM, [line]), [reply])
+        script = ["p 1000 10 20 -1 0 0", "p 1000 0 10 -1 0 0", "p 1000 500 0 -1 0 0"]
+        lines = ["hit 6 9300000 10000", "hit 0 9100000 10000", "miss", "miss"]
+        self.assertEqual(replies(OCTAHEDRON_STREAM, script + ["p 1000 10 20 1 0 0"]), lines)
 
 
 if __name__ == "__main__":
