@@ -1,12 +1,12 @@
 """Compares `vdpm` and `prepare` with the model on random cases.
 
     python3 tests/random_cases.py SEED COUNT [--vdpm PATH] [--prepare PATH] [--processes N]
-    python3 tests/random_cases.py --again FILE
+    python3 tests/random_cases.py --again FILE [--write INPUT]
 
 A case is a program, its words and its input; number I of a seed is always the same one. What the
 program answers (status, output and error) has to be what the model does. The first case that
-differs is printed, as a text that `--again` takes. The last line is `N passed, M failed`, and the
-status is 0 exactly where none failed and N isn't 0.
+differs is printed, as a text that `--again` takes; `--write` unpacks its input. The last line is
+`N passed, M failed`, and the status is 0 exactly where none failed and N isn't 0.
 """
 import argparse
 import base64
@@ -182,14 +182,17 @@ def told(outcome: Outcome) -> str:
 
 
 def read_case(path: str) -> Case:
-    """The case of a file as `told` writes it; the lines before it are comments."""
-    text = Path(path).read_text()
-    fields = json.loads("".join(line for line in text.splitlines() if not line.startswith("#")))
+    """The case of a file as this script prints it, with or without the lines round it."""
+    lines = Path(path).read_text().splitlines()
+    fields = json.loads(next(line for line in lines if line.startswith("{")))
     return Case(fields["program"], fields["words"], base64.b64decode(fields["input"]))
 
 
-def again(paths: Dict[str, str], path: str) -> int:
-    outcome = compared(paths, read_case(path))
+def again(paths: Dict[str, str], path: str, input_path: Optional[str]) -> int:
+    case = read_case(path)
+    if input_path is not None:
+        Path(input_path).write_bytes(case.data)
+    outcome = compared(paths, case)
     differs = outcome.wanted != outcome.got
     if differs:
         print(told(outcome))
@@ -217,13 +220,14 @@ def main() -> int:
     parser.add_argument("--prepare", default=str(TOP / "prepare"), help="./prepare by default")
     parser.add_argument("--processes", type=int, help="as many as there are processors by default")
     parser.add_argument("--again", metavar="FILE", help="runs the case of this file alone")
+    parser.add_argument("--write", metavar="FILE", help="with --again: puts the case's input there")
     asked = parser.parse_args()
     paths = {"vdpm": asked.vdpm, "prepare": asked.prepare}
     for path in paths.values():
         if not Path(path).is_file():
             parser.error(f"no program stands at {path}")
     if asked.again:
-        return again(paths, asked.again)
+        return again(paths, asked.again, asked.write)
     if asked.seed is None or asked.count is None or asked.count < 0:
         parser.error("SEED and COUNT are wanted, or --again FILE")
     return all_cases(paths, asked.seed, asked.count, asked.processes)
