@@ -11,6 +11,7 @@ from typing import Dict, List
 TOP = Path(__file__).resolve().parent.parent
 # Words with which a program reads its whole standard input.
 READING = {"vdpm": ["canon"], "prepare": []}
+TRIANGLE = b"v 0 0 0\nv 1 0 0\nv 0 1 0\nf 1 2 3\n"
 
 
 class Programs:
@@ -23,7 +24,7 @@ class Programs:
         """Lets each program be built, and names from then on what a script ends in by `exec`."""
         for name, path in self.paths.items():
             words = [str(path), *READING.get(name, [])]
-            subprocess.run(words, stdin=subprocess.DEVNULL, stdout=subprocess.DEVNULL, check=False)
+            subprocess.run(words, input=TRIANGLE, stdout=subprocess.DEVNULL, check=False)
             self.paths[name] = program_behind(path, words)
 
 

@@ -95,7 +95,7 @@ def failure(case: Case, programs: Programs) -> Optional[str]:
     """What is told of a case that failed."""
     try:
         sends, output = told(case, programs)
-        ended = run(case, programs.paths[case.program], sends)
+        ended = run(case, str(programs.paths[case.program]), sends)
     except (builders.BuildFault, ValueError, KeyError, OSError, subprocess.SubprocessError) as fault:
         found = [f"not run: {fault!r}"]
     else:
