@@ -65,7 +65,7 @@ def little_endian(words: "array.array[int]") -> bytes:
 
 
 def stream_of(words: Iterable[int]) -> bytes:
-    """The stream text of these words after its first four bytes; negative ones in two's complement."""
+    """The stream text of these words after its first four bytes, in two's complement."""
     return b"VDPM" + little_endian(array.array("I", (word % 2**32 for word in words)))
 
 
@@ -135,7 +135,7 @@ def grid_faces(side: int) -> Iterator[Point]:
 
 
 def grid(given: str) -> bytes:
-    """The grid that `demo N` makes, as an OBJ text: its heights repeat after 97 rows and columns."""
+    """The grid that `demo N` makes, as an OBJ text. Its heights repeat after 97 rows."""
     side = int(given)
     points = (
         (100 * c, 100 * r, (7 * c * c + 11 * c * r + 13 * r * r) % 97)
@@ -218,9 +218,9 @@ def with_crlf(data: bytes, given: str) -> bytes:
 
 
 BUILDERS: Dict[str, Callable[[str], Union[bytes, Data]]] = {
-    "lines": lines, "text": text, "repeat": repeat, "byte": byte, "comments": comments, "file": file, "header": header,
-    "splits": splits, "collapses": collapses, "grid": grid, "flat_grid": flat_grid, "cone": cone,
-    "book": book, "chain": chain,
+    "lines": lines, "text": text, "repeat": repeat, "byte": byte, "comments": comments,
+    "file": file, "header": header, "splits": splits, "collapses": collapses, "grid": grid,
+    "flat_grid": flat_grid, "cone": cone, "book": book, "chain": chain,
 }  # fmt: skip
 FILTERS: Dict[str, Callable[[bytes, str], bytes]] = {
     "set": set_word, "byte": set_byte, "cut": cut, "crlf": with_crlf,

@@ -141,18 +141,25 @@ def words_of(words: Sequence[str]) -> List[str]:
     return [builders.unescaped(word).decode("utf-8", "surrogateescape") for word in words]
 
 
+def number_of(once: Dict[str, str], key: str) -> Optional[int]:
+    return int(once[key]) if key in once else None
+
+
 def check_keys(lines: Sequence[Line]) -> None:
+    seen = set()
     for line in lines:
         if line.key not in ONCE + STEPS + ("err", "device", "|"):
             raise CaseFault(line.place, f"`{line.key}` is no key")
-        if line.key in ONCE and sum(line.key == other.key for other in lines) > 1:
+        if line.key in ONCE and line.key in seen:
             raise CaseFault(line.place, f"`{line.key}` stands twice")
+        seen.add(line.key)
 
 
 def case_of(block: Block, row: Dict[str, str], named: Dict[str, bytes]) -> Case:
     check_keys(block.lines)
     lines = [filled(line, row) for line in block.lines if line.key not in ("rows", "|")]
     once = {line.key: line.value for line in lines if line.key in ONCE}
+    errors = [builders.unescaped(line.value) + b"\n" for line in lines if line.key == "err"]
     if "run" not in once:
         raise CaseFault(block.head.place, "a case has a line `run PROGRAM WORD..`")
     program, *words = shlex.split(once["run"])
@@ -168,30 +175,36 @@ def case_of(block: Block, row: Dict[str, str], named: Dict[str, bytes]) -> Case:
         named=named,
         live="live" in once,
         output_sum=told[0] if told else None,
-        errors=b"".join(builders.unescaped(line.value) + b"\n" for line in lines if line.key == "err"),
+        errors=b"".join(errors),
         status=int(once.get("status", "0")),
         devices=dict(device_of(line) for line in lines if line.key == "device"),
-        pieces=int(once["pieces"]) if "pieces" in once else None,
-        memory=int(once["memory"]) if "memory" in once else None,
+        pieces=number_of(once, "pieces"),
+        memory=number_of(once, "memory"),
         seconds=float(once.get("seconds", "60")),
     )
+
+
+def all_named(blocks: Sequence[Block]) -> Dict[str, bytes]:
+    """The texts and streams that have a name."""
+    named: Dict[str, bytes] = {}
+    for block in blocks:
+        name = block.head.value.strip()
+        if block.head.key != "case":
+            if name in named:
+                raise CaseFault(block.head.place, f"{name} stands twice")
+            named[name] = named_bytes(block)
+    return named
 
 
 def read_cases(paths: Sequence[Path]) -> List[Case]:
     """All cases of these files, in their order. No two have one name."""
     blocks = [block for path in paths for block in blocks_of(path)]
-    named: Dict[str, bytes] = {}
-    for block in blocks:
-        if block.head.key != "case":
-            named[block.head.value.strip()] = named_bytes(block)
-    cases: List[Case] = []
+    named = all_named(blocks)
+    heads = [block for block in blocks if block.head.key == "case"]
+    cases = [case_of(block, row, named) for block in heads for row in rows_of(block)]
     names = set()
-    for block in blocks:
-        if block.head.key == "case":
-            for row in rows_of(block):
-                case = case_of(block, row, named)
-                if case.name in names:
-                    raise CaseFault(case.place, f"{case.name} stands twice")
-                names.add(case.name)
-                cases.append(case)
+    for case in cases:
+        if case.name in names:
+            raise CaseFault(case.place, f"{case.name} stands twice")
+        names.add(case.name)
     return cases

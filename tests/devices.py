@@ -11,7 +11,7 @@ import struct
 import subprocess
 import tempfile
 import termios
-from typing import BinaryIO, Dict, List, NamedTuple, Optional, Tuple, Union
+from typing import BinaryIO, Dict, List, Optional, Tuple, Union
 
 import builders
 from case_files import Case
@@ -24,6 +24,7 @@ REDIRECTIONS = {
     ("stderr", "closed"): "2>&-",
     ("stderr", "full"): "2>/dev/full",
 }
+STREAMS = ("stdin", "stdout", "stderr")
 # The unit of bash's limit of a file's size.
 FILE_UNIT = 1024
 END_OF_TERMINAL = b"\x04"
@@ -48,40 +49,29 @@ def command(case: Case, program: str) -> List[str]:
     room = number_of(case, "stdout", "room")
     if room is not None:
         steps.append(f"trap '' XFSZ; ulimit -f {units_for(room)}")
-    wanted = [REDIRECTIONS.get((name, kind_of(case, name)), "") for name in ("stdin", "stdout", "stderr")]
+    wanted = [REDIRECTIONS.get((stream, kind_of(case, stream)), "") for stream in STREAMS]
     if not steps and not any(wanted):
         return own
-    return ["bash", "-c", " && ".join([*steps, 'exec "$@" ' + " ".join(wanted)]), "bash", *own]
+    script = " && ".join([*steps, 'exec "$@" ' + " ".join(wanted)])
+    return ["bash", "-c", script, "bash", *own]
 
 
 def units_for(room: int) -> int:
     return room // FILE_UNIT + 1
 
 
-class Ends(NamedTuple):
-    """The ends of a running program's streams that are ours; none where a stream has no such end."""
-
-    process: "subprocess.Popen[bytes]"
-    writing: Optional[int]
-    reading: Optional[int]
-    errors: Optional[int]
-    # What is written to end the input; where it is none, the input is ended by closing.
-    farewell: Optional[bytes]
-    # Whether the input is a connection, which may have bytes that haven't arrived.
-    connected: bool
-    # The file that the output goes to, from this byte on, where it is no pipe.
-    output: Optional[BinaryIO]
-    start: int
-
-
 class Streams:
-    """Opens the streams of a case, and starts its program over them."""
+    """The streams of a case, and the ends of them that are ours: none where a stream is no pipe."""
 
     def __init__(self, case: Case) -> None:
         self.case = case
         self.given: Dict[str, Union[int, BinaryIO]] = {}
         self.writing: Optional[int] = None
+        self.reading: Optional[int] = None
+        self.errors: Optional[int] = None
+        # What is written to end the input; where it is none, the input is ended by closing.
         self.farewell: Optional[bytes] = None
+        # The file that the output goes to, and from which byte on, where it is no pipe.
         self.output: Optional[BinaryIO] = None
         self.start = 0
 
@@ -100,43 +90,70 @@ class Streams:
             self.given["stdin"], self.writing = os.pipe()
             self.farewell = b"" if kind == "open" else None
 
-    def open_output(self) -> Optional[int]:
-        """Answers our end of the pipe."""
+    def open_output(self) -> None:
         kind = kind_of(self.case, "stdout")
         room = number_of(self.case, "stdout", "room")
         if kind in ("closed", "full"):
             self.given["stdout"] = subprocess.DEVNULL
-            return None
-        if room is not None:
+        elif room is not None:
             self.output = tempfile.TemporaryFile()
             self.start = FILE_UNIT * units_for(room) - room
             self.output.seek(self.start)
             self.given["stdout"] = self.output
-            return None
-        reading, self.given["stdout"] = os.pipe()
+        else:
+            self.reading, self.given["stdout"] = os.pipe()
         if kind == "gone":
-            os.close(reading)
-            return None
-        return reading
+            self.stop_reading()
 
-    def open_errors(self) -> Optional[int]:
+    def open_errors(self) -> None:
         if kind_of(self.case, "stderr") in ("closed", "full"):
             self.given["stderr"] = subprocess.DEVNULL
-            return None
-        reading, self.given["stderr"] = os.pipe()
-        return reading
+        else:
+            self.errors, self.given["stderr"] = os.pipe()
 
-    def begin(self, program: str, whole: builders.Data) -> Ends:
+    def begin(self, program: str, whole: builders.Data) -> "subprocess.Popen[bytes]":
+        """Opens the streams and starts the program; `whole` is all that it is to read."""
         self.open_input(whole)
-        reading, errors = self.open_output(), self.open_errors()
-        process = subprocess.Popen(command(self.case, program), **self.given)  # type: ignore[call-overload]
+        self.open_output()
+        self.open_errors()
+        words = command(self.case, program)
+        process = subprocess.Popen(words, **self.given)  # type: ignore[call-overload]
         for given in self.given.values():
             if isinstance(given, int) and given >= 0:
                 os.close(given)
         if self.writing is not None:
             os.set_blocking(self.writing, False)
-        connected = kind_of(self.case, "stdin") == "reset"
-        return Ends(process, self.writing, reading, errors, self.farewell, connected, self.output, self.start)
+        return process
+
+    def all_arrived(self) -> bool:
+        """Whether what was written came to the other end; a pipe has no way between."""
+        if self.writing is None or kind_of(self.case, "stdin") != "reset":
+            return True
+        answer = fcntl.ioctl(self.writing, termios.TIOCOUTQ, b"\0" * 4)
+        return struct.unpack("i", answer) == (0,)
+
+    def stop_writing(self) -> None:
+        if self.writing is not None:
+            os.close(self.writing)
+        self.writing = None
+
+    def stop_reading(self) -> None:
+        if self.reading is not None:
+            os.close(self.reading)
+        self.reading = None
+
+    def stop_errors(self) -> None:
+        if self.errors is not None:
+            os.close(self.errors)
+        self.errors = None
+
+    def output_of_file(self) -> bytes:
+        """What the program wrote to a file; nothing where its output is no file."""
+        if self.output is None:
+            return b""
+        with self.output as file:
+            file.seek(self.start)
+            return file.read()
 
 
 def file_of(whole: builders.Data) -> BinaryIO:
@@ -148,7 +165,7 @@ def file_of(whole: builders.Data) -> BinaryIO:
 
 
 def connection() -> Tuple[int, int]:
-    """The reading and the writing end of a connection that is reset when its writing end is closed."""
+    """The reading and the writing end of a connection, which is reset when the latter is closed."""
     with socket.socket() as server:
         server.bind(("127.0.0.1", 0))
         server.listen(1)
@@ -156,12 +173,6 @@ def connection() -> Tuple[int, int]:
         reading, _ = server.accept()
     writing.setsockopt(socket.SOL_SOCKET, socket.SO_LINGER, struct.pack("ii", 1, 0))
     return reading.detach(), writing.detach()
-
-
-def underway(writing: int) -> int:
-    """How many bytes of a connection its other end hasn't got yet."""
-    answer = fcntl.ioctl(writing, termios.TIOCOUTQ, b"\0" * 4)
-    return int(struct.unpack("i", answer)[0])
 
 
 def quiet_terminal() -> Tuple[int, int]:

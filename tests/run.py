@@ -22,19 +22,21 @@ from running import Ended, Send, run
 
 OUT_OF_MEMORY = 5
 SHOWN = 300
+# What comes of a case that can't be run: a builder, program or device that isn't there.
+NOT_RUN = (builders.BuildFault, ValueError, KeyError, OSError, subprocess.SubprocessError)
 
 
-def passed_through(case: Case, words: str, sends: Sequence[Send], programs: Programs) -> Send:
+def passed_through(case: Case, line: str, sends: Sequence[Send], programs: Programs) -> Send:
     """What a program makes of the input so far, to be read in its place."""
-    program, *rest = shlex.split(words)
+    program, *rest = shlex.split(line)
     given = b"".join(builders.flat(send.data) for send in sends)
-    path = str(programs.paths[program])
-    done = subprocess.run([path, *words_of(rest)], input=given, capture_output=True, timeout=case.seconds, check=True)
+    words = [str(programs.paths[program]), *words_of(rest)]
+    done = subprocess.run(words, input=given, capture_output=True, timeout=case.seconds, check=True)
     return Send([(done.stdout, 1)], 0)
 
 
 def told(case: Case, programs: Programs) -> Tuple[List[Send], bytes]:
-    """What a case's program reads, each part with how much output has to come before; and its output."""
+    """What a case's program reads, and what it has to write."""
     sends: List[Send] = []
     output = b""
     for step in case.steps:
@@ -96,7 +98,7 @@ def failure(case: Case, programs: Programs) -> Optional[str]:
     try:
         sends, output = told(case, programs)
         ended = run(case, str(programs.paths[case.program]), sends)
-    except (builders.BuildFault, ValueError, KeyError, OSError, subprocess.SubprocessError) as fault:
+    except NOT_RUN as fault:
         found = [f"not run: {fault!r}"]
     else:
         found = [] if has_no_memory(case, ended) else differences(case, output, ended)
@@ -113,10 +115,10 @@ def asked(arguments: argparse.Namespace) -> List[Case]:
 
 def parsed() -> argparse.Namespace:
     parser = argparse.ArgumentParser(description=__doc__.split("\n\n")[0])
-    parser.add_argument("files", nargs="*", type=Path, help="files of cases; all of tests/cases where none is named")
-    parser.add_argument("--only", default="", metavar="TEXT", help="cases whose file or name has TEXT")
-    parser.add_argument("--list", action="store_true", help="tell the cases' names, and run none")
-    parser.add_argument("--jobs", type=int, default=os.cpu_count() or 1, metavar="N", help="how many run at once")
+    parser.add_argument("files", nargs="*", type=Path, help="files of cases; else tests/cases")
+    parser.add_argument("--only", default="", metavar="TEXT", help="cases whose name has TEXT")
+    parser.add_argument("--list", action="store_true", help="tell the names, and run nothing")
+    parser.add_argument("--jobs", type=int, default=os.cpu_count() or 1, help="runs at a time")
     for name in ("vdpm", "prepare"):
         parser.add_argument(f"--{name}", type=Path, default=TOP / name, metavar="PATH")
     return parser.parse_args()
