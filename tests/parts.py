@@ -1,0 +1,189 @@
+"""Runs all tests of this repository, or the parts that are named: ./test [PART..]
+
+    proofs      every proof, wrong body, test and program, by `rt ci`
+    rows        the cases of tests/cases, by tests/run.py
+    tools       the tests of the tools and of these tests: tools/test_*.py and tests/test_*.py
+    random      random cases, compared with a plain model, by tests/random_cases.py
+    documents   the commands that README.md and docs/ print, by tools/try_document.py
+
+Each part tells how many passed and failed. What can't be run here is said aloud. The last line is
+`N passed, M failed` over all parts, and the status is 0 exactly where something passed and nothing
+failed. After `proofs` the other parts run the programs that were proved there.
+"""
+import re
+import resource
+import shutil
+import subprocess
+import sys
+import tempfile
+import time
+from pathlib import Path
+from typing import Callable, Dict, List, NamedTuple, Optional, Tuple
+
+TOP = Path(__file__).resolve().parent.parent
+PROGRAMS = ("vdpm", "prepare")
+DOCUMENTS = ("README.md", "docs/GUIDE.md", "docs/COMMANDS.md")
+SEED, RANDOM_CASES = "1", "300"
+
+
+class Count(NamedTuple):
+    """How many passed and failed, and what was left out."""
+
+    passed: int
+    failed: int
+    left_out: Tuple[str, ...] = ()
+
+    def plus(self, other: "Count") -> "Count":
+        left_out = self.left_out + other.left_out
+        return Count(self.passed + other.passed, self.failed + other.failed, left_out)
+
+
+NONE = Count(0, 0)
+FAILURE = Count(0, 1)
+
+
+class Run(NamedTuple):
+    """What came of a command."""
+
+    status: int
+    text: str
+
+
+def ran(words: List[str]) -> Run:
+    """Runs a command at the top, shows what it says and answers it."""
+    said: List[str] = []
+    quiet, pipe, both = subprocess.DEVNULL, subprocess.PIPE, subprocess.STDOUT
+    how = {"cwd": TOP, "text": True, "errors": "replace"}
+    with subprocess.Popen(words, stdin=quiet, stdout=pipe, stderr=both, **how) as process:
+        for line in process.stdout:
+            print(line, end="", flush=True)
+            said.append(line)
+    return Run(process.returncode, "".join(said))
+
+
+def counted(run: Run, form: str) -> Count:
+    """The numbers of the last line of this form, where the status agrees with them."""
+    found = re.findall(form, run.text, re.MULTILINE)
+    if not found:
+        return FAILURE
+    passed, failed = (int(number) for number in found[-1])
+    return Count(passed, failed if failed or run.status == 0 else 1)
+
+
+LAST_LINE = r"^(\d+) passed, (\d+) failed$"
+
+
+def proofs(given: Dict[str, Path]) -> Count:
+    if shutil.which("rt") is None:
+        print("rt isn't on the path, so nothing is proved")
+        return FAILURE
+    count = counted(ran(["rt", "ci"]), LAST_LINE)
+    built = {name: TOP / "crates" / name / "out" / name for name in PROGRAMS}
+    if not count.failed and all(path.is_file() for path in built.values()):
+        given.update(built)
+    return count
+
+
+def paths(given: Dict[str, Path]) -> List[str]:
+    return [word for name, path in given.items() for word in (f"--{name}", str(path))]
+
+
+def rows(given: Dict[str, Path]) -> Count:
+    return counted(ran([sys.executable, "tests/run.py", *paths(given)]), LAST_LINE)
+
+
+def tools(given: Dict[str, Path]) -> Count:
+    count = NONE
+    for folder in ("tools", "tests"):
+        for file in sorted((TOP / folder).glob("test_*.py")):
+            count = count.plus(unit_tests(file))
+    return count
+
+
+def unit_tests(file: Path) -> Count:
+    """The numbers that unittest tells of a file, and why it left tests out."""
+    run = ran([sys.executable, str(file), "-v"])
+    found = re.search(r"^Ran (\d+) tests?", run.text, re.MULTILINE)
+    if not found:
+        return FAILURE
+    numbers = re.findall(r"(failures|errors|skipped)=(\d+)", run.text)
+    told = {word: int(number) for word, number in numbers}
+    failed = told.get("failures", 0) + told.get("errors", 0)
+    reasons = re.findall(r"skipped ['\"](.*)['\"]", run.text)
+    left_out = tuple(f"{file.name}: {reason}" for reason in dict.fromkeys(reasons))
+    if not failed and run.status:
+        failed = 1
+    return Count(max(0, int(found[1]) - failed - told.get("skipped", 0)), failed, left_out)
+
+
+def random(given: Dict[str, Path]) -> Count:
+    if not (TOP / "tests/random_cases.py").is_file():
+        return Count(0, 0, ("tests/random_cases.py isn't there",))
+    words = [sys.executable, "tests/random_cases.py", SEED, RANDOM_CASES, *paths(given)]
+    return counted(ran(words), LAST_LINE)
+
+
+def documents(given: Dict[str, Path]) -> Count:
+    """Tries the documents, with the programs' own paths in the commands where they were proved."""
+    with tempfile.TemporaryDirectory(prefix="documents-") as room:
+        named = [with_paths(TOP / name, Path(room), given) for name in DOCUMENTS]
+        run = ran([sys.executable, "tools/try_document.py", *map(str, named)])
+    return counted(run, r"^(\d+) commands print what is told, (\d+) don't$")
+
+
+def with_paths(document: Path, room: Path, given: Dict[str, Path]) -> Path:
+    """The document, or a copy whose commands name the given programs."""
+    if not given:
+        return document
+    lines = document.read_text(encoding="utf-8").splitlines(keepends=True)
+    copy = room / document.name
+    copy.write_text("".join(with_path(line, given) for line in lines), encoding="utf-8")
+    return copy
+
+
+def with_path(line: str, given: Dict[str, Path]) -> str:
+    if not line.startswith("    $ "):
+        return line
+    for name, path in given.items():
+        line = re.sub(rf"(?<![\w/.])\./{name}\b", str(path), line)
+    return line
+
+
+PARTS: Dict[str, Callable[[Dict[str, Path]], Count]] = {
+    "proofs": proofs, "rows": rows, "tools": tools, "random": random, "documents": documents,
+}  # fmt: skip
+
+
+def processor_seconds() -> float:
+    used = resource.getrusage(resource.RUSAGE_CHILDREN)
+    return used.ru_utime + used.ru_stime
+
+
+def part(name: str, given: Dict[str, Path]) -> Count:
+    print(f"== {name}", flush=True)
+    began, used = time.monotonic(), processor_seconds()
+    count = PARTS[name](given)
+    for what in count.left_out:
+        print(f"LEFT OUT of {name}: {what}")
+    seconds, processor = time.monotonic() - began, processor_seconds() - used
+    told = f"{count.passed} passed, {count.failed} failed"
+    print(f"{name}: {told} ({seconds:.0f} seconds, {processor:.0f} of processor time)", flush=True)
+    return count
+
+
+def main(names: List[str]) -> int:
+    unknown: Optional[str] = next((name for name in names if name not in PARTS), None)
+    if unknown is not None:
+        print(f"test: `{unknown}` is no part\n\n{__doc__}", file=sys.stderr)
+        return 2
+    given: Dict[str, Path] = {}
+    count = NONE
+    for name in PARTS:
+        if not names or name in names:
+            count = count.plus(part(name, given))
+    print(f"{count.passed} passed, {count.failed} failed")
+    return 0 if count.passed and not count.failed else 1
+
+
+if __name__ == "__main__":
+    sys.exit(main(sys.argv[1:]))
