@@ -1,17 +1,22 @@
 -- Laws of a text that reaches a sink through a page: its parts one after the other, and line by line, where each item of
 -- a list gives its line.
-use Rattle.std.proofs.Common.{◌≡◌, ℕ, ◌+◌, ◌<◌, ◌≤◌, List, [], ◌∷◌, ◌++◌, Option, length, get_or, take, drop, sym, ◌∙◌, ap, subst, append_assoc}
+use Rattle.std.proofs.Common.{◌≡◌, ℕ, ◌+◌, ◌%◌, ◌<◌, ◌≤◌, List, [], ◌∷◌, ◌++◌, Option, length, get_or, take, drop, refl, sym, ◌∙◌, ap, subst, append_assoc, arith, length-append}
 use Rattle.std.specs.List.{flat_map}
 use Rattle.std.proofs.lemmas.Grind.{flat_map-append}
 use Rattle.std.proofs.lemmas.List.{append-nil, take_more, take_all, take-append-drop}
-use Rattle.pm_io.specs.Bytes.{Gains, GainsPart, GainsThrough}
+use Rattle.pm_io.specs.Bytes.{Gains, GainsPart, GainsThrough, ArePages}
 use Rattle.pm_io.proofs.Known.{gains_none, gains_both, part_more, part_after}
+
+-- Pages and pages again are pages.
+pages_both : (a b : List ℕ) → ArePages a → ArePages b → ArePages (a ++ b)
+pages_both a b first second = omega (arith, length-append a b, first, second)
 
 -- No text.
 pub through_none : (old : Option (List ℕ)) (held : List ℕ) → GainsThrough old old held held []
 through_none old held = record {
   done = [];
   whole = append-nil held;
+  pages = refl;
   gained = gains_none old;
 }
 
@@ -22,6 +27,7 @@ through_both old mid new p q r a b first second = record {
   whole =
       sym (append_assoc p a b) ∙ ap (λ (l : List ℕ). l ++ b) first.whole ∙ append_assoc first.done q b
       ∙ ap (λ (l : List ℕ). first.done ++ l) second.whole ∙ sym (append_assoc first.done second.done r);
+  pages = pages_both first.done second.done first.pages second.pages;
   gained = gains_both old mid new first.done second.done first.gained second.gained;
 }
 
@@ -48,12 +54,13 @@ through_page_part old mid new p q a first part =
 
 -- The page was filled by the front of a piece and put, then more pages of it; the last of it is held.
 pub pages_put : (old mid new : Option (List ℕ)) (held piece front rest pages last : List ℕ) → piece ≡ front ++ rest → rest ≡ pages ++ last
-    → Gains old mid (held ++ front) → Gains mid new pages → GainsThrough old new held last piece
-pages_put old mid new held piece front rest pages last cut again first second = record {
+    → length (held ++ front) ≡ 4096 → ArePages pages → Gains old mid (held ++ front) → Gains mid new pages → GainsThrough old new held last piece
+pages_put old mid new held piece front rest pages last cut again full are first second = record {
   done = (held ++ front) ++ pages;
   whole =
       ap (λ (l : List ℕ). held ++ l) cut ∙ sym (append_assoc held front rest)
       ∙ ap (λ (l : List ℕ). (held ++ front) ++ l) again ∙ sym (append_assoc (held ++ front) pages last);
+  pages = pages_both (held ++ front) pages (ap (λ n. n % 4096) full) are;
   gained = gains_both old mid new (held ++ front) pages first second;
 }
 

@@ -1,7 +1,7 @@
 -- Laws of putting a text: one part after the other, through a page, and how that ends.
 use Rattle.std.proofs.Common.{◌≡◌, ℕ, List, [], ◌++◌, Result, Ok, Err, subst, arith}
 use Rattle.std.proofs.lemmas.Result.{on_ok_weaker, on_err_weaker}
-use Rattle.pm_io.specs.Bytes.{Gains, GainsPart, GainsThrough}
+use Rattle.pm_io.specs.Bytes.{GainsPart, GainsThrough}
 use Rattle.pm_io.specs.Causes.{HasCause}
 use Rattle.pm_io.specs.Puts.{Puts, PutsThrough}
 use Rattle.pm_io.specs.declared.device.Sink as sink

@@ -10,7 +10,7 @@ pub record Puts {K T E : Type 0} (k : sink.Ghosts K) (before now : K) (text : Li
   pub err : OnErr result (GainsPart (k.got before) (k.got now) text)
   pub cause : HasCause (k.faults before) (k.faults now) result
 
--- The same through a page, which held and holds these bytes: the sink gained what it held and the text but for what it holds.
+-- The same through a page, which held and holds these bytes: the sink gained what it held and the text but for what it holds, in whole pages.
 pub record PutsThrough {K T E : Type 0} (k : sink.Ghosts K) (before now : K) (held holds text : List ℕ) (result : Result T E) : Type 0 where
   pub ok : OnOk result (GainsThrough (k.got before) (k.got now) held holds text)
   pub err : OnErr result (GainsPart (k.got before) (k.got now) (held ++ text))

@@ -1,6 +1,6 @@
-use Rattle.std.proofs.Common.{◌++◌, refl, sym, ◌∙◌, ap, subst, append_assoc}
+use Rattle.std.proofs.Common.{◌≡◌, ◌++◌, length, refl, sym, ◌∙◌, ap, subst, append_assoc, arith, length-append}
 use Rattle.std.proofs.lemmas.Result.{err_from_is_err_and}
-use Rattle.pm_io.specs.Bytes.{Gains, GainsPart, GainsThrough}
+use Rattle.pm_io.specs.Bytes.{ArePages, Gains, GainsPart, GainsThrough}
 use Rattle.pm_io.proofs.Known.{part_more}
 use Rattle.pm_io.proofs.PageLaws.{pages_put, pages_part}
 use Rattle.pm_io.proofs.PutLaws.{through_done, through_failed}
@@ -31,8 +31,10 @@ returns-clause-puts g c =
     let got = g.K.Sink.got c.args.out.now in
     let turned = g.K.Sink.got c.flush.new.out in
     let last = c.split_at-2.result.1.now in
+    let full : length (c.args.self.now ++ c.split_at.result.0.now) ≡ 4096 = omega (arith, length-append c.args.self.now c.split_at.result.0.now, c.split_at.ensures.front_len, c.remaining_capacity-room.ensures, ap length c.self.view_is) in
+    let pages : ArePages c.split_at-2.result.0.now = omega (arith, c.split_at-2.ensures.front_len) in
     let holds = c.hold-3.ensures ∙ ap (λ l. l ++ last) c.in_ok-flush.ensures.empty in
     let gained = subst (λ l. GainsThrough got (g.K.Sink.got c.put_all.new.out) c.args.self.now l c.args.piece.now) (sym holds)
-    (pages_put got turned _ c.args.self.now _ _ _ _ last c.split_at.ensures.by_index.0 c.split_at-2.ensures.by_index.0
+    (pages_put got turned _ c.args.self.now _ _ _ _ last c.split_at.ensures.by_index.0 c.split_at-2.ensures.by_index.0 full pages
     (subst (λ l. Gains got turned l) c.hold-2.ensures c.in_ok-flush.ensures.puts.ok) c.in_ok-put_all.ensures.ok) in
     through_done g.K.Sink c.args.out.now _ _ _ _ _ gained (c.in_ok-put_all.ensures.cause.same ∙ c.in_ok-flush.ensures.puts.cause.same)
