@@ -7,6 +7,8 @@ mod base;
 #[cfg(test)]
 mod bounds;
 #[cfg(test)]
+mod devices;
+#[cfg(test)]
 mod forest;
 #[cfg(test)]
 mod fronts;
