@@ -1,6 +1,6 @@
 //! Where bytes come from and where they go. Each device counts its failures, so that a caller that is generic over it can
 //! answer "it failed" only where the count says so.
-ghost use Rattle.std.specs.Prelude.{◌≡◌, ◌<◌, ◌≤◌, List, ℕ, Option, length, take, IfOk, OnErr};
+ghost use Rattle.std.specs.Prelude.{◌≡◌, ◌<◌, ◌≤◌, List, ℕ, Bool, false, Option, length, take, IfOk, OnErr};
 ghost use Rattle.pm_io.specs.Bytes.{Loses, Gains, AtEnd};
 ghost use Rattle.pm_io.specs.Causes.{HasCause};
 
@@ -24,12 +24,20 @@ pub trait Source {
     /// How often the source has failed. The count never falls.
     ghost faults: { Self → ℕ };
 
-    /// Takes the next bytes into the front of the buffer and answers how many: 0 exactly where nothing is left.
+    /// Whether the source has ended: it answered that nothing is left, and isn't asked again. One to which another call does
+    /// no harm may say that it never ends; who takes any source can't count on that.
+    ghost ended: { Self → Bool } = { λ _. false };
+
+    /// Takes the next bytes into the front of the buffer and answers how many: 0 exactly where nothing is left. Only after
+    /// that answer the source may have ended.
     fn take(&mut self, buf: &mut [u8]) -> Result<usize, Failed>
-        requires { 0 < length buf.old }
+        requires room { 0 < length buf.old }
+        requires open { ended self.old ≡ false }
         ensures bound { IfOk result (λ n. n ≤ length buf.new) }
         ensures bytes { IfOk result (λ n. Loses (left self.old) (left self.new) (take n buf.new)) }
         ensures end { IfOk result (λ n. n ≡ 0 → AtEnd (left self.old)) }
+        ensures open { IfOk result (λ n. 0 < n → ended self.new ≡ false) }
+        ensures open_after_err { OnErr result (ended self.new ≡ false) }
         ensures err { OnErr result (left self.new ≡ left self.old) }
         ensures cause { HasCause (faults self.old) (faults self.new) result };
 }
