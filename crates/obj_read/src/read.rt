@@ -1,5 +1,5 @@
 //! Reading a mesh from a source of bytes.
-ghost use Rattle.std.specs.Prelude.{◌≡◌, ◌≤◌, Ok, IfOk, IfErr, OnOk, IfSome};
+ghost use Rattle.std.specs.Prelude.{◌≡◌, ◌≤◌, false, Ok, IfOk, IfErr, OnOk, IfSome};
 ghost use Rattle.pm_base.specs.Meshes.{IsWellFormed, mesh_of};
 ghost use Rattle.pm_io.specs.Bytes.{AtEnd};
 ghost use Rattle.pm_io.specs.Causes.{HasCause};
@@ -22,7 +22,8 @@ use std::alloc::Global;
 ///
 /// Each byte is looked at a constant number of times. Memory is taken for the window, for one line, and for the mesh.
 pub fn read_obj<S: Source>(alloc: Global, digits: u32, source: &mut S) -> Result<Mesh, ObjFail>
-    requires { digits ≤ 4 }
+    requires few { digits ≤ 4 }
+    requires not_ended { S.ended source.old ≡ false }
     ensures ok { IfOk result (λ m. IfSome (S.left source.old) (λ bytes. meaning_of digits bytes ≡ Ok (mesh_of m))) }
     ensures mesh { IfOk result (λ m. IsWellFormed (mesh_of m)) }
     ensures end { OnOk result (AtEnd (S.left source.new)) }

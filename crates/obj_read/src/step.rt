@@ -76,10 +76,12 @@ pub fn step<S: Source>(
 ) -> Result<bool, ObjFail>
     requires few { digits ≤ 4 }
     requires ready { IsReadyToRead lines.old (mesh_of mesh.old) progress.old }
+    requires not_ended { S.ended source.old ≡ false }
     ensures ready { OnOk result (IsReadyToRead lines.new (mesh_of mesh.new) progress.new) }
     ensures reads_on { (whole : Option (List ℕ)) → IsReading digits whole taker.old (S.left source.old) progress.old (mesh_of mesh.old) lines.old
         → OnOk result (IsReading digits whole taker.new (S.left source.new) progress.new (mesh_of mesh.new) lines.new) }
     ensures more { IfOk result (λ more. more ≡ true → progress.old.taken < progress.new.taken) }
+    ensures not_ended { IfOk result (λ more. more ≡ true → S.ended source.new ≡ false) }
     ensures end { IfOk result (λ more. more ≡ false → AtEnd (prepend_known taker.new (S.left source.new))) }
     ensures err { IfErr result (λ e. (whole : Option (List ℕ))
         → IsReading digits whole taker.old (S.left source.old) progress.old (mesh_of mesh.old) lines.old → Explains digits e whole (S.left source.new)) }

@@ -1,5 +1,5 @@
 //! Reads a text to its end.
-ghost use Rattle.std.specs.Prelude.{◌≡◌, Ok, IfOk, IfErr, OnOk, IfSome};
+ghost use Rattle.std.specs.Prelude.{◌≡◌, false, Ok, IfOk, IfErr, OnOk, IfSome};
 ghost use Rattle.pm_io.specs.Bytes.{AtEnd};
 ghost use Rattle.pm_io.specs.Causes.{HasCause};
 ghost use Rattle.obj_read.specs.Fails.{of_source};
@@ -33,6 +33,7 @@ pub struct Scan {
 /// Each byte, and each corner, is looked at a constant number of times. Memory is taken for the window, for one line, for
 /// lines that are continued, for the corners of one face, and for what is read.
 pub fn scan_obj<S: Source>(alloc: Global, source: &mut S) -> Result<Scan, ObjFail>
+    requires { S.ended source.old ≡ false }
     ensures ok { IfOk result (λ s. IfSome (S.left source.old) (λ bytes. scan_meaning_of bytes ≡ Ok (scanned_of s))) }
     ensures within { IfOk result (λ s. IsWithinLimits (scanned_of s)) }
     ensures end { OnOk result (AtEnd (S.left source.new)) }

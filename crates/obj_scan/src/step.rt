@@ -26,10 +26,12 @@ pub fn step<S: Source>(
     progress: &mut Progress,
 ) -> Result<bool, ObjFail>
     requires ready { IsReadyToScan lines.old (held_of scanner.old) progress.old }
+    requires not_ended { S.ended source.old ≡ false }
     ensures ready { OnOk result (IsReadyToScan lines.new (held_of scanner.new) progress.new) }
     ensures reads_on { (whole : Option (List ℕ)) → IsScanningText whole taker.old (S.left source.old) progress.old (held_of scanner.old) lines.old
         → OnOk result (IsScanningText whole taker.new (S.left source.new) progress.new (held_of scanner.new) lines.new) }
     ensures more { IfOk result (λ more. more ≡ true → progress.old.taken < progress.new.taken) }
+    ensures not_ended { IfOk result (λ more. more ≡ true → S.ended source.new ≡ false) }
     ensures end { IfOk result (λ more. more ≡ false → AtEnd (prepend_known taker.new (S.left source.new))) }
     ensures err { IfErr result (λ e. (whole : Option (List ℕ))
         → IsScanningText whole taker.old (S.left source.old) progress.old (held_of scanner.old) lines.old → ExplainsScan e whole (S.left source.new)) }

@@ -32,12 +32,12 @@ pub trait Source {
     /// that answer the source may have ended.
     fn take(&mut self, buf: &mut [u8]) -> Result<usize, Failed>
         requires room { 0 < length buf.old }
-        requires open { ended self.old ≡ false }
+        requires not_ended { ended self.old ≡ false }
         ensures bound { IfOk result (λ n. n ≤ length buf.new) }
         ensures bytes { IfOk result (λ n. Loses (left self.old) (left self.new) (take n buf.new)) }
         ensures end { IfOk result (λ n. n ≡ 0 → AtEnd (left self.old)) }
-        ensures open { IfOk result (λ n. 0 < n → ended self.new ≡ false) }
-        ensures open_after_err { OnErr result (ended self.new ≡ false) }
+        ensures not_ended { IfOk result (λ n. 0 < n → ended self.new ≡ false) }
+        ensures err_not_ended { OnErr result (ended self.new ≡ false) }
         ensures err { OnErr result (left self.new ≡ left self.old) }
         ensures cause { HasCause (faults self.old) (faults self.new) result };
 }

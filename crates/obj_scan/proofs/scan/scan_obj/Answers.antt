@@ -8,6 +8,7 @@ pub loop-fail-init : goal.loop-fail-init
 loop-fail-init g c = record {
   ready = start_ready c.in-Ok-new.lines (held_of c.new-scanner.result) c.in-Ok-new.ensures c.new-scanner.ensures;
   reading = start_stands _ c.in-Ok.taker c.in-Ok-new.lines (held_of c.new-scanner.result) c.in-Ok.ensures c.in-Ok-new.ensures c.new-scanner.ensures;
+  not_ended = c.requires;
   count = refl;
 }
 
