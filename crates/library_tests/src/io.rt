@@ -1,22 +1,35 @@
 //! Tests of pm_io.
+ghost use Rattle.std.specs.Prelude.{◌≡◌, false, IfSome};
+
 use pm_io::{MemSink, MemSource, Sink, Source, StdSink, StdSource, SureSource, Taker, put_all};
+
+// Copies a piece of what a source gives to a sink, and answers how many bytes. None where the source has ended or a device
+// failed.
+fn copy_piece<S: Source, K: Sink>(taker: &mut Taker, source: &mut S, sink: &mut K) -> Option<usize>
+    requires { S.ended source.old ≡ false }
+    ensures { IfSome result (λ _. S.ended source.new ≡ false) }
+{
+    let n = match taker.piece(source) {
+        Ok([]) | Err(_) => return None,
+        Ok(piece) => match put_all(sink, piece) {
+            Ok(()) => piece.len(),
+            Err(_) => return None,
+        },
+    };
+    taker.eat(n);
+    Some(n)
+}
 
 // Copies what a source gives to a sink through a window, until the source ends or a device fails. Answers how many
 // bytes were taken from the window.
-fn copied<S: Source, K: Sink>(taker: &mut Taker, source: &mut S, sink: &mut K) -> usize {
+fn copied<S: Source, K: Sink>(taker: &mut Taker, source: &mut S, sink: &mut K) -> usize
+    requires { S.ended source.old ≡ false }
+{
     let mut total = 0usize;
     for _turn in 0..64 {
-        let n = match taker.piece(source) {
-            Ok(piece) => match put_all(sink, piece) {
-                Ok(()) => piece.len(),
-                Err(_) => return total,
-            },
-            Err(_) => return total,
-        };
-        if n == 0 {
+        let Some(n) = copy_piece(taker, source, sink) else {
             return total;
-        }
-        taker.eat(n);
+        };
         total = total.saturating_add(n);
     }
     total
