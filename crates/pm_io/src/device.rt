@@ -24,8 +24,8 @@ pub trait Source {
     /// How often the source has failed. The count never falls.
     ghost faults: { Self → ℕ };
 
-    /// Whether the source has ended: it answered that nothing is left, and isn't asked again. One to which another call does
-    /// no harm may say that it never ends; who takes any source can't count on that.
+    /// Whether the source has ended: it answered that nothing is left, and isn't to be asked again. A source needn't keep
+    /// that: it may say that it never ends. Who takes any source can't count on it.
     ghost ended: { Self → Bool } = { λ _. false };
 
     /// Takes the next bytes into the front of the buffer and answers how many: 0 exactly where nothing is left. Only after
