@@ -1,5 +1,5 @@
 //! A mesh that is an oriented manifold, made of any OBJ text.
-ghost use Rattle.std.specs.Prelude.{◌≡◌, None, Ok, IfOk, IfErr, IfSome, OnOk};
+ghost use Rattle.std.specs.Prelude.{◌≡◌, false, None, Ok, IfOk, IfErr, IfSome, OnOk};
 ghost use Rattle.pm_base.specs.Meshes.{IsWellFormed, mesh_of};
 ghost use Rattle.pm_io.specs.Bytes.{AtEnd};
 ghost use Rattle.obj_scan.specs.Fails.{scanned_of};
@@ -57,7 +57,8 @@ fn make_of(alloc: Global, size: Option<u32>, scan: &Scan) -> Result<Made, InputF
 /// Reads an OBJ text to its end, and makes a mesh of it. A line with a fault is refused as soon as the byte that shows the
 /// fault has come.
 pub fn make<S: Source>(alloc: Global, size: Option<u32>, input: &mut S) -> Result<Made, InputFail>
-    requires { IsSize size }
+    requires size { IsSize size }
+    requires not_ended { S.ended input.old ≡ false }
     ensures made { IfOk result (λ m. IfSome (S.left input.old) (λ bytes. IsPreparedText size bytes (Ok (done_of m)) None)) }
     ensures formed { IfOk result (λ m. IsWellFormed (mesh_of m.mesh)) }
     ensures end { OnOk result (AtEnd (S.left input.new)) }

@@ -1,5 +1,5 @@
 //! The program over any source and sinks.
-ghost use Rattle.std.specs.Prelude.{◌≡◌, ◌⊎◌, ◌≤◌, ◌<◌, ◌-◌, ◌^◌, map, ℕ, None, Some, IfOk, IfErr, IfSome, OnOk, codes};
+ghost use Rattle.std.specs.Prelude.{◌≡◌, ◌⊎◌, ◌≤◌, ◌<◌, ◌-◌, ◌^◌, map, ℕ, false, None, Some, IfOk, IfErr, IfSome, OnOk, codes};
 ghost use Rattle.std.specs.String.{string_bytes};
 ghost use Rattle.pm_base.specs.Meshes.{IsWellFormed, mesh_of};
 ghost use Rattle.pm_io.specs.Bytes.{AtEnd};
@@ -40,7 +40,8 @@ fn obey<S: Source, K: Sink>(
     input: &mut S,
     out: &mut K,
 ) -> Result<Vec<u8>, RunFail>
-    requires { IsSize size }
+    requires size { IsSize size }
+    requires not_ended { S.ended input.old ≡ false }
     ensures written { IfOk result (λ notes. IfSome (S.left input.old) (λ bytes. Written size bytes notes.items (K.got out.old) (K.got out.new))) }
     ensures counts { OnOk result ((S.faults input.new ≡ S.faults input.old) × (K.faults out.new ≡ K.faults out.old)) }
     ensures end { OnOk result (AtEnd (S.left input.new)) }
@@ -70,6 +71,8 @@ pub fn run<S: Source, K: Sink, E: Sink>(
     out: &mut K,
     err: &mut E,
 ) -> u8
+    // The input hasn't ended; once it has, it isn't asked again.
+    requires { S.ended input.old ≡ false }
     ensures statuses { result ≤ 5 }
     // Other words are refused, and only they; then nothing is read or put.
     ensures refused { asked_size_of (map string_bytes words.now) ≡ None → result ≡ 2 }
