@@ -1,5 +1,5 @@
 //! `build`: an OBJ text's mesh is simplified, and the hierarchy of the run is written as a stream.
-ghost use Rattle.std.specs.Prelude.{◌≡◌, ◌≤◌, None, Ok, IfOk, IfErr, IfSome, OnOk};
+ghost use Rattle.std.specs.Prelude.{◌≡◌, ◌≤◌, false, None, Ok, IfOk, IfErr, IfSome, OnOk};
 ghost use Rattle.pm_io.specs.Bytes.{AtEnd};
 ghost use Rattle.pm_forest.specs.Meshes.{input_mesh_of};
 ghost use Rattle.pm_firm.specs.Firm.{IsFirm};
@@ -39,7 +39,8 @@ fn build_hierarchy<S: Source>(
     digits: u32,
     input: &mut S,
 ) -> Result<Hierarchy, InputFail>
-    requires { digits ≤ 4 }
+    requires few { digits ≤ 4 }
+    requires not_ended { S.ended input.old ≡ false }
     ensures built { IfOk result (λ h. IfSome (S.left input.old)
         (λ bytes. IsBuilt target digits bytes (Ok h) None)) }
     ensures mesh { IfOk result (λ h. IfSome (S.left input.old)
@@ -63,7 +64,8 @@ pub fn build<S: Source, K: Sink>(
     input: &mut S,
     out: &mut K,
 ) -> Result<(), CommandFail>
-    requires { digits ≤ 4 }
+    requires few { digits ≤ 4 }
+    requires not_ended { S.ended input.old ≡ false }
     ensures ends { Ends (Asked.Build target digits) result
         (S.left input.old) (S.left input.new) (K.got out.old) (K.got out.new) }
     ensures gives_back { OnOk result (LeadsBack S.Source K.Sink target digits input.old out.old out.new) }

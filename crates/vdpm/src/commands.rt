@@ -1,5 +1,5 @@
 //! What each command does with its devices. All memory is taken before the first byte of output.
-ghost use Rattle.std.specs.Prelude.{◌≡◌, ◌≤◌, OnOk, IfErr};
+ghost use Rattle.std.specs.Prelude.{◌≡◌, ◌≤◌, false, OnOk, IfErr};
 ghost use Rattle.pm_io.specs.Bytes.{AtEnd};
 ghost use Rattle.vdpm.specs.Ending.{Ends, Counts, ReadToEnd, FewMore};
 
@@ -22,7 +22,8 @@ pub fn canon<S: Source, K: Sink>(
     input: &mut S,
     out: &mut K,
 ) -> Result<(), CommandFail>
-    requires { digits ≤ 4 }
+    requires few { digits ≤ 4 }
+    requires not_ended { S.ended input.old ≡ false }
     ensures ends { Ends (Asked.Canon digits) result
         (S.left input.old) (S.left input.new) (K.got out.old) (K.got out.new) }
     ensures counts { Counts result (S.faults input.old) (S.faults input.new) (K.faults out.old) (K.faults out.new) }
@@ -40,6 +41,7 @@ pub fn expand<S: Source, K: Sink>(
     input: &mut S,
     out: &mut K,
 ) -> Result<(), CommandFail>
+    requires { S.ended input.old ≡ false }
     ensures ends { Ends Asked.Expand result
         (S.left input.old) (S.left input.new) (K.got out.old) (K.got out.new) }
     ensures counts { Counts result (S.faults input.old) (S.faults input.new) (K.faults out.old) (K.faults out.new) }
@@ -57,6 +59,7 @@ pub fn check<S: Source, K: Sink>(
     input: &mut S,
     out: &mut K,
 ) -> Result<(), CommandFail>
+    requires { S.ended input.old ≡ false }
     ensures ends { Ends Asked.Check result
         (S.left input.old) (S.left input.new) (K.got out.old) (K.got out.new) }
     ensures counts { Counts result (S.faults input.old) (S.faults input.new) (K.faults out.old) (K.faults out.new) }
@@ -77,6 +80,7 @@ pub fn view<S: Source, K: Sink>(
     input: &mut S,
     out: &mut K,
 ) -> Result<(), CommandFail>
+    requires { S.ended input.old ≡ false }
     ensures ends { Ends (Asked.View budget) result
         (S.left input.old) (S.left input.new) (K.got out.old) (K.got out.new) }
     ensures counts { Counts result (S.faults input.old) (S.faults input.new) (K.faults out.old) (K.faults out.new) }

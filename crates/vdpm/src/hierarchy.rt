@@ -1,5 +1,5 @@
 //! The hierarchy of a stream text.
-ghost use Rattle.std.specs.Prelude.{◌≡◌, ◌≤◌, [], None, Ok, IfOk, IfErr, IfSome, OnOk};
+ghost use Rattle.std.specs.Prelude.{◌≡◌, ◌≤◌, [], false, None, Ok, IfOk, IfErr, IfSome, OnOk};
 ghost use Rattle.pm_io.specs.Bytes.{AtEnd};
 ghost use Rattle.vdpm.specs.Input.{Stops};
 ghost use Rattle.vdpm.specs.Beginning.{IsHierarchyText};
@@ -13,6 +13,7 @@ use std::alloc::Global;
 /// Reads the stream text of a valid hierarchy, and looks that no byte follows it. A fault is answered once the bytes that
 /// decide it were taken.
 pub fn read_hierarchy<S: Source>(alloc: Global, input: &mut S) -> Result<Stream, InputFail>
+    requires { S.ended input.old ≡ false }
     ensures read { IfOk result (λ s. IfSome (S.left input.old) (λ bytes. IsHierarchyText bytes (Ok (record { digits = s.digits; h = s.h; rest = [] })) None)) }
     ensures few { IfOk result (λ s. s.digits ≤ 4) }
     ensures end { OnOk result (AtEnd (S.left input.new)) }

@@ -1,5 +1,5 @@
 //! The program over any source and sinks.
-ghost use Rattle.std.specs.Prelude.{◌≡◌, ◌⊎◌, ◌≤◌, ◌<◌, ◌-◌, ◌^◌, map, ℕ, List, None, Some, IfErr, OnOk, codes};
+ghost use Rattle.std.specs.Prelude.{◌≡◌, ◌⊎◌, ◌≤◌, ◌<◌, ◌-◌, ◌^◌, map, ℕ, List, false, None, Some, IfErr, OnOk, codes};
 ghost use Rattle.std.specs.String.{string_bytes};
 ghost use Rattle.pm_io.specs.Causes.{Rose};
 ghost use Rattle.vdpm.specs.declared.fault.Fault.{Fault};
@@ -30,6 +30,7 @@ fn obey<S: Source, K: Sink>(
 ) -> Result<(), CommandFail>
     requires few { digits_asked asked ≤ 4 }
     requires size { HasSize asked }
+    requires not_ended { S.ended input.old ≡ false }
     ensures ends { Ends asked result (S.left input.old) (S.left input.new) (K.got out.old) (K.got out.new) }
     ensures counts { Counts result (S.faults input.old) (S.faults input.new) (K.faults out.old) (K.faults out.new) }
     ensures read_whole { OnOk result (ReadToEnd asked (S.left input.old) (S.left input.new)) }
@@ -70,6 +71,8 @@ pub fn run<S: Source, K: Sink, E: Sink>(
     out: &mut K,
     err: &mut E,
 ) -> u8
+    // The input hasn't ended; once it has, it isn't asked again.
+    requires { S.ended input.old ≡ false }
     ensures statuses { result ≤ 5 }
     // Other words are refused, and only they; then nothing is read or put.
     ensures refused { asked_of (map string_bytes words.now) ≡ None → result ≡ 2 }

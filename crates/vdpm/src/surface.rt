@@ -1,5 +1,5 @@
 //! The mesh of an OBJ text, where it is an oriented manifold.
-ghost use Rattle.std.specs.Prelude.{◌≡◌, ◌≤◌, None, Ok, IfOk, IfErr, IfSome, OnOk};
+ghost use Rattle.std.specs.Prelude.{◌≡◌, ◌≤◌, false, None, Ok, IfOk, IfErr, IfSome, OnOk};
 ghost use Rattle.pm_runs.specs.Runs.{IsStartOfRun};
 ghost use Rattle.pm_io.specs.Bytes.{AtEnd};
 ghost use Rattle.vdpm.specs.Input.{Stops};
@@ -18,7 +18,8 @@ pub fn read_surface<S: Source>(
     digits: u32,
     input: &mut S,
 ) -> Result<Surface, InputFail>
-    requires { digits ≤ 4 }
+    requires few { digits ≤ 4 }
+    requires not_ended { S.ended input.old ≡ false }
     ensures surface { IfOk result (λ m. IfSome (S.left input.old) (λ bytes. IsSurfaceRead digits bytes (Ok m) None)) }
     ensures start { IfOk result IsStartOfRun }
     ensures end { OnOk result (AtEnd (S.left input.new)) }

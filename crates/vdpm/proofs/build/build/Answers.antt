@@ -25,10 +25,10 @@ returns-clause-ends g c =
 
 pub returns-clause-gives_back : goal.returns-clause-gives_back
 returns-clause-gives_back g c =
-    gives_back c.args.digits c.args.target _ _ _ c.in_ok-h.h c.requires c.in_ok-h.ensures.built c.in_ok-h.ensures.mesh c.in_ok-h.ensures.firm.valid c.in_ok-encode.ensures.ok
+    gives_back c.args.digits c.args.target _ _ _ c.in_ok-h.h c.requires.few c.in_ok-h.ensures.built c.in_ok-h.ensures.mesh c.in_ok-h.ensures.firm.valid c.in_ok-encode.ensures.ok
 
 pub returns-clause-surfaces : goal.returns-clause-surfaces
-returns-clause-surfaces g c = shows_surfaces c.args.target c.args.digits _ _ _ c.in_ok-h.h c.in_ok-h.ensures.built c.requires c.in_ok-h.ensures.firm c.in_ok-encode.ensures.ok
+returns-clause-surfaces g c = shows_surfaces c.args.target c.args.digits _ _ _ c.in_ok-h.h c.in_ok-h.ensures.built c.requires.few c.in_ok-h.ensures.firm c.in_ok-encode.ensures.ok
 
 pub returns-in_err-encode-clause-ends : goal.returns-in_err-encode-clause-ends
 returns-in_err-encode-clause-ends g c =
