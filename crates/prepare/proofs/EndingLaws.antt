@@ -56,6 +56,12 @@ module _ (mine other : Asked) (left now : Option (List ℕ)) (in_old in_new : �
   counts_of (fails.Input input.OutOfMemory) is by = absurd (omega arith)
   counts_of fails.Write is by = absurd (omega arith)
 
+  pub memory_counts_of : (fail : RunFail) → prepare_status_of fail ≡ 5 → By fail → (in_new ≡ in_old) × (out_new ≡ out_old)
+  memory_counts_of (fails.Input (input.Faulty f)) is by = absurd (omega arith)
+  memory_counts_of (fails.Input input.Read) is by = absurd (omega arith)
+  memory_counts_of (fails.Input input.OutOfMemory) is by = (by.0, by.1.1)
+  memory_counts_of fails.Write is by = absurd (omega arith)
+
   pub rose_of : (fail : RunFail) → prepare_status_of fail ≡ 3 → By fail → Rose in_old in_new
   rose_of (fails.Input (input.Faulty f)) is by = absurd (omega arith)
   rose_of (fails.Input input.Read) is by = by.0.1

@@ -91,7 +91,7 @@ module _ (size : Option ℕ) where
   make_stops None now s (input.Faulty faults.TooMany) in_old in_new is same fail = (tt, same)
   make_stops (Some bytes) now s (input.Faulty faults.TooMany) in_old in_new is same fail = (record { place = None; outcome = too_many s is fail }, same)
   make_stops left now s input.Read in_old in_new is same fail = absurd fail
-  make_stops left now s input.OutOfMemory in_old in_new is same fail = tt
+  make_stops left now s input.OutOfMemory in_old in_new is same fail = same
 
   pub make_stands : (left : Option (List ℕ)) (s : Scanned) (done : Done) → IfSome left (λ bytes. scan_meaning_of bytes ≡ Ok s) → MakesPrepared size s done → IfSome left (λ bytes. IsPreparedText size bytes (Ok done) None)
   make_stands None s done is makes = tt

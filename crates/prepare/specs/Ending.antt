@@ -37,11 +37,12 @@ pub record IsPreparedInPart (size : Option ℕ) (bytes : List ℕ) (old new : Op
   pub outcome : IsPreparedText size bytes (Ok done) None
   pub part : GainsPart old new done.text
 
--- Why nothing could be made of what the source had left: `left` at first and `now` then, and what its count did.
+-- Why nothing could be made of what the source had left: `left` at first and `now` then, and what its count did. Only a
+-- failed read is counted.
 abbrev pub StopsPreparing : Option ℕ → InputFail → Option (List ℕ) → Option (List ℕ) → ℕ → ℕ → Type 0
 StopsPreparing size (input.Faulty f) left now in_old in_new = IfSome left (λ bytes. HasPreparedFault size bytes f) × (in_new ≡ in_old)
 StopsPreparing size input.Read left now in_old in_new = PlaceUnreached size left now × Rose in_old in_new
-StopsPreparing size input.OutOfMemory left now in_old in_new = Unit {0}
+StopsPreparing size input.OutOfMemory left now in_old in_new = in_new ≡ in_old
 
 -- The sink gained the text of what was done, and the error sink what is said of it.
 pub record Finished (size : Option ℕ) (bytes : List ℕ) (old new err_old err_new : Option (List ℕ)) (err_before err_now : ℕ) : Type 0 where

@@ -92,6 +92,8 @@ pub fn run<S: Source, K: Sink, E: Sink>(
     ensures unreached { (asked : Asked) → asked_size_of (map string_bytes words.now) ≡ Some asked → result ≡ 3 → PlaceUnreached asked.size (S.left input.old) (S.left input.new) }
     // A write failed, and a proper prefix of the text was put; in all other cases but status 0 nothing was.
     ensures write { (asked : Asked) → asked_size_of (map string_bytes words.now) ≡ Some asked → result ≡ 4 → Rose (K.faults out.old) (K.faults out.new) × IfSome (S.left input.old) (λ bytes. IsPreparedInPart asked.size bytes (K.got out.old) (K.got out.new)) }
+    // Memory was wanted, and no device failed: so status 5 and a count that rose exclude each other.
+    ensures memory_counts { result ≡ 5 → (S.faults input.new ≡ S.faults input.old) × (K.faults out.new ≡ K.faults out.old) }
     ensures nothing_put { (result ≡ 1) ⊎ ((result ≡ 3) ⊎ (result ≡ 5)) → K.got out.new ≡ K.got out.old }
     ensures said_words { result ≡ 2 → Said (E.got err.old) (E.got err.new) (E.faults err.old) (E.faults err.new) (codes "prepare: words not understood\n") }
     ensures said_read { result ≡ 3 → Said (E.got err.old) (E.got err.new) (E.faults err.old) (E.faults err.new) (codes "prepare: read fault\n") }

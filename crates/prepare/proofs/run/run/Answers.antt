@@ -1,7 +1,7 @@
 use Rattle.std.proofs.Common.{Option, IfSome, sym, ◌∙◌, subst}
 use Rattle.obj_prepare.specs.Placing.{IsSize}
 use Rattle.prepare.specs.declared.words.Asked.{Asked}
-use Rattle.prepare.proofs.EndingLaws.{one_asked, said_done, fault_of, counts_of, rose_of, read_of, cut_of, nothing_of, completes, line_of_read, line_of_write, line_of_memory, said_line}
+use Rattle.prepare.proofs.EndingLaws.{one_asked, said_done, fault_of, counts_of, memory_counts_of, rose_of, read_of, cut_of, nothing_of, completes, line_of_read, line_of_write, line_of_memory, said_line}
 use Rattle.prepare.proofs.FitLaws.{gained_fits}
 use Rattle.prepare.proofs.run.run.Goals as goal
 
@@ -19,6 +19,9 @@ returns-in-Err-clause-faulty g c = λ other asks is.
 
 pub returns-in-Err-clause-faulty_counts : goal.returns-in-Err-clause-faulty_counts
 returns-in-Err-clause-faulty_counts g c = λ is. counts_of c.in-Some.asked c.in-Some.asked _ _ _ _ _ _ _ _ c.in-Err.fail (sym c.tell.ensures.status ∙ is) c.in-Err.ensures.err
+
+pub returns-in-Err-clause-memory_counts : goal.returns-in-Err-clause-memory_counts
+returns-in-Err-clause-memory_counts g c = λ is. memory_counts_of c.in-Some.asked c.in-Some.asked _ _ _ _ _ _ _ _ c.in-Err.fail (sym c.tell.ensures.status ∙ is) c.in-Err.ensures.err
 
 pub returns-in-Err-clause-read : goal.returns-in-Err-clause-read
 returns-in-Err-clause-read g c = λ is. rose_of c.in-Some.asked c.in-Some.asked _ _ _ _ _ _ _ _ c.in-Err.fail (sym c.tell.ensures.status ∙ is) c.in-Err.ensures.err
