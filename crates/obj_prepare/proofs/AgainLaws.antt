@@ -213,6 +213,13 @@ module _ (places : List Place) (faces : List Corners) (m : Mesh) (within : All (
       let in_firsts : v < length firsts = omega (arith, length-map p.old first, low) in
       sym (first_new v low).same ∙ ap (place_in_list m.points) (sym (firsts_at v low)) ∙ sym (get_or-map (place_in_list m.points) firsts v 0 origin in_firsts))
 
+  -- Each new vertex stands at the place of one that a face names.
+  pub place_from : (v : ℕ) → v < length m.points → (u : ℕ) × (u < length places) × (is_some_corner faces u ≡ true) × (place_in_list m.points v ≡ place_in_list places u)
+  place_from v l =
+      let low : v < length p.old = omega (arith, points_long, l) in
+      let named = (old_own v low).named in
+      (get_or p.old v 0, named_low (length places) faces (get_or p.old v 0) within named, named, place_new v low)
+
   pub prepared_again : IsPrepared m.points m.faces m
   prepared_again = record {
     names = firsts;

@@ -7,6 +7,7 @@ pub mod NamedLaws
 pub mod PlacingLaws
 pub mod JoiningLaws
 pub mod PieceLaws
+pub mod BackLaws
 pub mod AgainLaws
 pub mod OnePrepared
 pub mod FitMeshes

@@ -1,5 +1,5 @@
--- The laws of preparing placed vertices and triangles, each as a statement.
-use Rattle.std.specs.Prelude.{◌≡◌, ◌≢◌, ℕ, ◌<◌, List, length}
+-- The laws of placing vertices, and of preparing placed vertices and triangles, each as a statement.
+use Rattle.std.specs.Prelude.{◌≡◌, ◌≢◌, ℕ, ◌<◌, true, List, length, Option}
 use Rattle.std.specs.List.{All}
 use Rattle.pm_base.specs.declared.mesh.Corners.{Corners}
 use Rattle.pm_base.specs.Place.{Place}
@@ -8,9 +8,21 @@ use Rattle.pm_base.specs.Sides.{net_of}
 use Rattle.pm_base.specs.Fans.{IsUsed, IsOrientedManifold}
 use Rattle.pm_fans.specs.Splits.{AllStand}
 use Rattle.obj_prepare.specs.declared.notes.Notes.{Notes}
-use Rattle.obj_prepare.specs.Named.{AreVerticesBelow, IsWithinMesh}
+use Rattle.obj_prepare.specs.Numbers.{nearest, IsNearest}
+use Rattle.obj_prepare.specs.Named.{is_some_corner, AreVerticesBelow, IsWithinMesh}
+use Rattle.obj_prepare.specs.Placing.{IsSize, fit_of, prepared_places_of}
+use Rattle.obj_prepare.specs.Back.{LeadsBack}
 use Rattle.obj_prepare.specs.Joining.{place_in_list}
 use Rattle.obj_prepare.specs.Prepared.{IsPrepared, IsPreparedWith}
+
+-- The nearest whole number is what its name says.
+abbrev pub NearestIsNearest : Type 0
+NearestIsNearest = (n d : ℕ) → 0 < d → IsNearest n d (nearest n d)
+
+-- The place of each vertex that a triangle names leads back to the point that was read.
+abbrev pub PlacesLeadBack : Type 0
+PlacesLeadBack = (size : Option ℕ) (points : List Place) (faces : List Corners) (v : ℕ) → IsSize size → v < length points → is_some_corner faces v ≡ true
+    → LeadsBack (fit_of size points faces) (place_in_list (prepared_places_of size points faces) v) (place_in_list points v)
 
 -- One mesh is prepared of placed vertices and triangles.
 abbrev pub PreparedAreOne : Type 0

@@ -9,4 +9,5 @@ pub mod Firsts
 pub mod Prepared
 pub mod Pieces
 pub mod PrepareFails
+pub mod Back
 pub mod Laws

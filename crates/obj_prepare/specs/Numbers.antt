@@ -1,5 +1,5 @@
 -- Numbers with decimals and an exponent, rounded to whole numbers of units. A unit is 10^-18. Byte 69 is `E`, and 101 is `e`.
-use Rattle.std.specs.Prelude.{ℕ, ◌+◌, ◌-◌, ◌*◌, ◌/◌, ◌^◌, List, ◌++◌, Bool, not, ◌==◌, ◌&&◌, ◌||◌, nat_lt, length, drop, ℤ, Result, Ok, Err, if◌then◌else◌}
+use Rattle.std.specs.Prelude.{◌≡◌, ℕ, ◌+◌, ◌-◌, ◌*◌, ◌/◌, ◌^◌, ◌≤◌, pos, ◌-ℤ◌, unsigned_abs, List, ◌++◌, Bool, not, ◌==◌, ◌&&◌, ◌||◌, nat_lt, length, drop, ℤ, Result, Ok, Err, if◌then◌else◌}
 use Rattle.pm_io.specs.Digits.{are_digits, value}
 use Rattle.obj_lines.specs.Text.{until}
 use Rattle.obj_read.specs.declared.fault.ObjFault.{ObjFault}
@@ -9,6 +9,15 @@ use Rattle.obj_read.specs.Coordinates.{is_negative, without_sign, whole_part, de
 -- The whole number nearest to n / d, halves up: half a divisor more, and then what is over is left.
 unfoldable pub nearest : ℕ → ℕ → ℕ
 nearest n d = (2 * n + d) / (2 * d)
+
+-- How far a whole number is from n / d, in parts of 1 / d.
+abbrev pub parts_off : ℕ → ℕ → ℕ → ℕ
+parts_off n d r = unsigned_abs (pos (d * r) -ℤ pos n)
+
+-- No whole number is nearer to n / d, and of two that are as near this is the greater.
+pub record IsNearest (n d r : ℕ) : Type 0 where
+  pub least : (k : ℕ) → parts_off n d r ≤ parts_off n d k
+  pub halves_up : (k : ℕ) → parts_off n d k ≡ parts_off n d r → k ≤ r
 
 -- Of a number without its sign: what stands before the exponent; the exponent with its letter; and without it.
 unfoldable pub mantissa : List ℕ → List ℕ

@@ -1,5 +1,5 @@
 -- Where points come to stand on the grid.
-use Rattle.std.specs.Prelude.{◌≡◌, ℕ, ◌≤◌, Bool, true, List, [], ◌∷◌, length, Option, None, Some, IfSome, pos, if◌then◌else◌}
+use Rattle.std.specs.Prelude.{◌≡◌, ℕ, ◌≤◌, Bool, true, List, [], ◌∷◌, length, Option, None, Some, IfSome, if◌then◌else◌}
 use Rattle.std.specs.List.{list_all}
 use Rattle.pm_base.specs.declared.limits.TheConstants.{GREATEST_COORDINATE}
 use Rattle.pm_base.specs.declared.mesh.Corners.{Corners}
