@@ -15,7 +15,8 @@ use Rattle.obj_prepare.specs.Boxes.{extent}
 use Rattle.obj_prepare.specs.declared.extents.PointBox.{PointBox}
 use Rattle.obj_prepare.specs.declared.placing.Fit.{Fit}
 use Rattle.obj_prepare.specs.declared.placing.Fit.TheVariants as fits
-use Rattle.prepare.specs.Texts.{middle, scale_text, middle_text, way_back, fit_line, fit_head_line}
+use Rattle.obj_prepare.specs.Back.{middle, middle_of, way_back_of}
+use Rattle.prepare.specs.Texts.{scale_text, middle_text, way_text, fit_line, fit_head_line}
 use Rattle.prepare.proofs.GridLaws.{IsMeasured}
 
 -- No LF, and at most so many bytes.
@@ -64,7 +65,7 @@ module _ (size : ℕ) (b : PointBox) (few : size ≤ 32767) (low : AreExact b.lo
       let (d, f, g) = high in
       omega (arith, ints, a, c, e, d, f, g)
 
-  scale_short : IsShort 88 (scale_text size b)
+  scale_short : IsShort 88 (scale_text (way_back_of size b))
   unfolding scale_text
   scale_short =
       let e = coordinate_short 17 (pos (extent b)) (omega (arith, extent_few)) in
@@ -76,7 +77,7 @@ module _ (size : ℕ) (b : PointBox) (few : size ≤ 32767) (low : AreExact b.lo
   axis_short : (x y : ℤ) → unsigned_abs x ≤ 10 ^ 32 → unsigned_abs y ≤ 10 ^ 32 → IsShort 41 (coordinate_text 19 (middle x y))
   axis_short x y a c = coordinate_short 18 (middle x y) (omega (arith, ints, a, c))
 
-  middle_short : IsShort 125 (middle_text b)
+  middle_short : IsShort 125 (middle_text (middle_of b))
   unfolding middle_text
   middle_short =
       let (a, c, e) = low in
@@ -92,10 +93,10 @@ pub record IsComment (text : List ℕ) : Type 0 where
   pub text_is : text ≡ (35 ∷ line) ++ 10 ∷ []
 
 fit_comment : (fit : Fit) → IsMeasured fit → IsComment (fit_line fit)
-unfolding way_back
+unfolding way_text
 fit_comment fits.Standing measured = record { line = codes " coordinates as they stood"; line_is = refl; short = omega arith; text_is = refl }
 fit_comment (fits.Scaled size b) (few, low, high) =
-    let back : List ℕ = scale_text size b ++ middle_text b in
+    let back : List ℕ = scale_text (way_back_of size b) ++ middle_text (middle_of b) in
     let end : IsShort 1 (codes ")") = record { clean = refl; short = omega arith } in
     let space : IsShort 1 (codes " ") = record { clean = refl; short = omega arith } in
     let s = both 1 214 (codes " ") (back ++ codes ")") space (both 213 1 back (codes ")") (both 88 125 _ _ (scale_short size b few low high) (middle_short size b few low high)) end) in

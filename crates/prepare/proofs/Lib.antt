@@ -10,4 +10,5 @@ pub mod StandingLaws
 pub mod RestoredLaws
 pub mod NothingLaws
 pub mod AgainLaws
+pub mod BackLaws
 pub mod FitLaws

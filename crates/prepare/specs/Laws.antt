@@ -1,5 +1,6 @@
 -- The laws of outcomes, each as a statement. Byte 10 is LF, and 35 is `#`.
-use Rattle.std.specs.Prelude.{◌≡◌, ℕ, List, ◌∷◌, ◌++◌, Option, None, Result, Ok}
+use Rattle.std.specs.Prelude.{◌≡◌, ℕ, ◌<◌, true, List, ◌∷◌, ◌++◌, length, codes, Option, None, Result, Ok}
+use Rattle.pm_base.specs.Place.{Place}
 use Rattle.pm_base.specs.Meshes.{Mesh, IsWellFormed}
 use Rattle.pm_base.specs.Sides.{net_of}
 use Rattle.pm_base.specs.Fans.{IsOrientedManifold}
@@ -7,13 +8,18 @@ use Rattle.pm_base.specs.Canonical.{canonical_text}
 use Rattle.obj_lines.specs.Text.{until}
 use Rattle.pm_io.specs.Bytes.{Gains}
 use Rattle.obj_read.specs.Meaning.{meaning_of}
+use Rattle.obj_scan.specs.Judged.{Scanned}
+use Rattle.obj_scan.specs.Meaning.{scan_meaning_of}
 use Rattle.obj_prepare.specs.declared.notes.Notes.{Notes}
 use Rattle.obj_prepare.specs.declared.placing.Fit.TheVariants as fits
-use Rattle.obj_prepare.specs.Placing.{IsSize}
+use Rattle.obj_prepare.specs.Named.{is_some_corner}
+use Rattle.obj_prepare.specs.Placing.{IsSize, prepared_places_of}
+use Rattle.obj_prepare.specs.Joining.{place_in_list}
+use Rattle.obj_prepare.specs.Back.{WayBack, LeadsNear, StandsAt}
 use Rattle.obj_prepare.specs.Prepared.{IsPreparedWith}
 use Rattle.obj_prepare.specs.Laws.{AreFit}
 use Rattle.prepare.specs.declared.fault.Fault.{Fault}
-use Rattle.prepare.specs.Texts.{output_text, notes_text, last_note}
+use Rattle.prepare.specs.Texts.{way_text, output_text, notes_text, last_note}
 use Rattle.prepare.specs.Outcome.{Done, IsPreparedText}
 
 -- A text has one outcome, and one place that decides it.
@@ -33,6 +39,24 @@ pub record IsFitText (text : List ℕ) : Type 0 where
 -- What is written is such a text.
 abbrev pub TextsAreRead : Type 0
 TextsAreRead = (size : Option ℕ) (bytes : List ℕ) (done : Done) (place : Option ℕ) → IsSize size → IsPreparedText size bytes (Ok done) place → IsFitText done.text
+
+-- A first line of a text, and a place on the grid, lead back to this point in units of 10^-18.
+pub data LineLeadsBack (line : List ℕ) (place p : Place) : Type 0 where
+  as_it_stood : line ≡ codes "# coordinates as they stood\n" → StandsAt place p → LineLeadsBack line place p
+  near : (way : WayBack) → line ≡ codes "# " ++ way_text way → LeadsNear way place p → LineLeadsBack line place p
+
+-- The text is a first line and the canonical text of a mesh. The line leads back from the place of each vertex that a
+-- triangle names to the point that was read, and each vertex of the mesh stands at the place of one of them.
+pub record TextLeadsBack (s : Scanned) (places : List Place) (text : List ℕ) (m : Mesh) : Type 0 where
+  pub line : List ℕ
+  pub text_is : text ≡ line ++ canonical_text 0 m
+  pub back : (v : ℕ) → v < length s.points → is_some_corner s.faces v ≡ true → LineLeadsBack line (place_in_list places v) (place_in_list s.points v)
+  pub from : (w : ℕ) → w < length m.points → (v : ℕ) × (v < length s.points) × (is_some_corner s.faces v ≡ true) × (place_in_list m.points w ≡ place_in_list places v)
+
+-- What is written, where it has faces, leads back to the points of the text.
+abbrev pub TextsLeadBack : Type 0
+TextsLeadBack = (size : Option ℕ) (bytes : List ℕ) (s : Scanned) (done : Done) (place : Option ℕ) (m : Mesh) → IsSize size → scan_meaning_of bytes ≡ Ok s → IsPreparedText size bytes (Ok done) place → meaning_of 0 done.text ≡ Ok m → 0 < length m.faces
+    → TextLeadsBack s (prepared_places_of size s.points s.faces) done.text m
 
 -- The text of a mesh, prepared without a size, comes back after a comment. Vertices that were split off stand at one place,
 -- so they are joined, and as many are split off again, maybe along sides that are cut open. Nothing else is done.

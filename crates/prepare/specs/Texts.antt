@@ -1,34 +1,30 @@
 -- What is written of a mesh that was made, and what is said of it.
-use Rattle.std.specs.Prelude.{ℕ, ◌*◌, ◌==◌, ℤ, pos, ◌+ℤ◌, ◌*ℤ◌, List, ◌++◌, length, codes, if◌then◌else◌}
+use Rattle.std.specs.Prelude.{ℕ, ◌==◌, pos, List, ◌++◌, length, codes, if◌then◌else◌}
 use Rattle.std.specs.Fmt.{decimal}
 use Rattle.pm_base.specs.declared.mesh.Corners.{Corners}
+use Rattle.pm_base.specs.Place.{Place}
 use Rattle.pm_base.specs.Meshes.{Mesh}
 use Rattle.pm_base.specs.Canonical.{coordinate_text, canonical_text}
-use Rattle.obj_prepare.specs.declared.extents.PointBox.{PointBox}
 use Rattle.obj_prepare.specs.declared.notes.Notes.{Notes}
 use Rattle.obj_prepare.specs.declared.placing.Fit.{Fit}
 use Rattle.obj_prepare.specs.declared.placing.Fit.TheVariants as fits
-use Rattle.obj_prepare.specs.Boxes.{extent}
+use Rattle.obj_prepare.specs.Back.{WayBack, way_back_of}
 
--- The middle of an axis with these ends, in units of 10^-19: half of 10^-18 is 5 of them.
-abbrev pub middle : ℤ → ℤ → ℤ
-middle low high = pos 5 *ℤ (low +ℤ high)
+-- The extent of a box, and the steps that it is divided into.
+unfoldable pub scale_text : WayBack → List ℕ
+scale_text way = codes "coordinate = " ++ coordinate_text 18 (pos way.extent) ++ codes " / " ++ decimal way.steps ++ codes " * place + ("
 
--- The extent of a box, and twice the size.
-unfoldable pub scale_text : ℕ → PointBox → List ℕ
-scale_text size b = codes "coordinate = " ++ coordinate_text 18 (pos (extent b)) ++ codes " / " ++ decimal (2 * size) ++ codes " * place + ("
-
--- The middle of each axis.
-unfoldable pub middle_text : PointBox → List ℕ
-middle_text b = coordinate_text 19 (middle b.low.x b.high.x) ++ codes " " ++ coordinate_text 19 (middle b.low.y b.high.y) ++ codes " " ++ coordinate_text 19 (middle b.low.z b.high.z)
+-- A middle, axis by axis.
+unfoldable pub middle_text : Place → List ℕ
+middle_text m = coordinate_text 19 m.x ++ codes " " ++ coordinate_text 19 m.y ++ codes " " ++ coordinate_text 19 m.z
 
 -- `coordinate = E / D * place + (X Y Z)`: how places lead back to coordinates.
-unfoldable pub way_back : ℕ → PointBox → List ℕ
-way_back size b = scale_text size b ++ middle_text b ++ codes ")\n"
+unfoldable pub way_text : WayBack → List ℕ
+way_text way = scale_text way ++ middle_text way.middle ++ codes ")\n"
 
 abbrev pub fit_line : Fit → List ℕ
 fit_line fits.Standing = codes "# coordinates as they stood\n"
-fit_line (fits.Scaled size b) = codes "# " ++ way_back size b
+fit_line (fits.Scaled size b) = codes "# " ++ way_text (way_back_of size b)
 
 -- The first line of the output.
 unfoldable pub fit_head_line : Fit → List Corners → List ℕ
@@ -44,7 +40,7 @@ note_line what n = if n == 0 then codes "" else codes "prepare: " ++ what ++ cod
 
 abbrev pub fit_note : Fit → List ℕ
 fit_note fits.Standing = codes ""
-fit_note (fits.Scaled size b) = codes "prepare: " ++ way_back size b
+fit_note (fits.Scaled size b) = codes "prepare: " ++ way_text (way_back_of size b)
 
 -- The last line that is said, if any.
 unfoldable pub last_note : Fit → List Corners → List ℕ

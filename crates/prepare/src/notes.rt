@@ -1,7 +1,8 @@
 //! The line that tells how places lead back, and what is said of the work.
 ghost use Rattle.std.specs.Prelude.{◌≡◌, ◌≤◌, ◌^◌, ◌*◌, ◌++◌, OnOk, IfOk, pos, ◌+ℤ◌, ◌*ℤ◌, unsigned_abs};
 ghost use Rattle.pm_base.specs.Canonical.{coordinate_text};
-ghost use Rattle.prepare.specs.Texts.{middle, scale_text, middle_text, way_back, fit_head_line, note_line, last_note, face_notes, vertex_notes, notes_text};
+ghost use Rattle.obj_prepare.specs.Back.{middle, middle_of, way_back_of};
+ghost use Rattle.prepare.specs.Texts.{scale_text, middle_text, way_text, fit_head_line, note_line, last_note, face_notes, vertex_notes, notes_text};
 
 use crate::text::{add_coordinate, add_length, add_number};
 use obj_prepare::{Fit, Notes, PointBox, extent};
@@ -39,7 +40,7 @@ fn middle(low: i128, high: i128) -> i128
 // Adds the extent of a box, and twice the size.
 #[tactic(auto, unfolding(crate::specs::Texts::scale_text))]
 fn add_scale(text: &mut Vec<u8>, size: u32, b: &PointBox) -> Result<(), AllocError>
-    ensures { OnOk result (text.new.items ≡ text.old.items ++ scale_text size b.now) }
+    ensures { OnOk result (text.new.items ≡ text.old.items ++ scale_text (way_back_of size b.now)) }
 {
     text.extend_from_slice(b"coordinate = ")?;
     add_length(text, extent(b))?;
@@ -79,7 +80,7 @@ fn add_z(text: &mut Vec<u8>, b: &PointBox) -> Result<(), AllocError>
 
 #[tactic(auto, unfolding(crate::specs::Texts::middle_text))]
 fn add_middle(text: &mut Vec<u8>, b: &PointBox) -> Result<(), AllocError>
-    ensures { OnOk result (text.new.items ≡ text.old.items ++ middle_text b.now) }
+    ensures { OnOk result (text.new.items ≡ text.old.items ++ middle_text (middle_of b.now)) }
 {
     add_x(text, b)?;
     text.extend_from_slice(b" ")?;
@@ -90,9 +91,9 @@ fn add_middle(text: &mut Vec<u8>, b: &PointBox) -> Result<(), AllocError>
 }
 
 // Adds how places lead back to coordinates.
-#[tactic(auto, unfolding(crate::specs::Texts::way_back))]
+#[tactic(auto, unfolding(crate::specs::Texts::way_text))]
 fn add_way_back(text: &mut Vec<u8>, size: u32, b: &PointBox) -> Result<(), AllocError>
-    ensures { OnOk result (text.new.items ≡ text.old.items ++ way_back size b.now) }
+    ensures { OnOk result (text.new.items ≡ text.old.items ++ way_text (way_back_of size b.now)) }
 {
     add_scale(text, size, b)?;
     add_middle(text, b)?;

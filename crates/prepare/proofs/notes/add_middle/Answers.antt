@@ -1,6 +1,7 @@
 use Rattle.std.specs.Prelude.{codes}
 use Rattle.pm_base.specs.Canonical.{coordinate_text}
-use Rattle.prepare.specs.Texts.{middle, middle_text}
+use Rattle.obj_prepare.specs.Back.{middle}
+use Rattle.prepare.specs.Texts.{middle_text}
 use Rattle.prepare.proofs.TextLaws.{added_five}
 use Rattle.prepare.proofs.notes.add_middle.Goals as goal
 
