@@ -1,5 +1,10 @@
 -- The words of a command line.
-use Rattle.std.specs.Prelude.{ℕ, ◌==◌, List, [], ◌∷◌, Option, Some, None, if◌then◌else◌}
+use Rattle.std.specs.Prelude.{ℕ, ◌==◌, List, [], ◌∷◌, map, drop, String, Option, Some, None, Result, Ok, Err, if◌then◌else◌}
+use Rattle.std.specs.String.{string_bytes}
+use Rattle.std.specs.Vec.Iter.{into_iter_items}
+use Rattle.std.specs.declared.alloc.Global.{Global}
+use Rattle.std.specs.declared.vec.IntoIter.{IntoIter}
+use Rattle.std.specs.declared.io.Error.{Error}
 use Rattle.pm_base.specs.declared.limits.TheConstants.{GREATEST_COORDINATE}
 use Rattle.pm_io.specs.Digits.{unsigned_of}
 use Rattle.prepare.specs.declared.words.Asked.{Asked}
@@ -14,3 +19,8 @@ abbrev pub asked_size_of : List (List ℕ) → Option Asked
 asked_size_of [] = Some (record { size = None })
 asked_size_of (size ∷ []) = with_size (unsigned_of GREATEST_COORDINATE size)
 asked_size_of _ = None
+
+-- The same of the arguments of a program, of which the first is its name. None are understood where they can't be gathered.
+abbrev pub asked_of : Result (IntoIter (String Global) Global) Error → Option Asked
+asked_of (Ok args) = asked_size_of (map string_bytes (drop 1 (into_iter_items args)))
+asked_of (Err e) = None

@@ -1,6 +1,5 @@
 //! The program over any source and sinks.
-ghost use Rattle.std.specs.Prelude.{◌≡◌, ◌⊎◌, ◌≤◌, ◌<◌, ◌-◌, ◌^◌, map, ℕ, false, None, Some, IfOk, IfErr, IfSome, OnOk, codes};
-ghost use Rattle.std.specs.String.{string_bytes};
+ghost use Rattle.std.specs.Prelude.{◌≡◌, ◌≢◌, ◌⊎◌, ◌≤◌, ◌<◌, ◌-◌, ◌^◌, ℕ, false, None, Some, IfOk, IfErr, IfSome, OnOk, codes};
 ghost use Rattle.pm_base.specs.Meshes.{IsWellFormed, mesh_of};
 ghost use Rattle.pm_io.specs.Bytes.{AtEnd};
 ghost use Rattle.pm_io.specs.Causes.{Rose};
@@ -8,7 +7,8 @@ ghost use Rattle.pm_io.specs.Puts.{Puts, Said, Stayed};
 ghost use Rattle.obj_prepare.specs.Placing.{IsSize};
 ghost use Rattle.prepare.specs.declared.words.Asked.{Asked};
 ghost use Rattle.prepare.specs.declared.fault.Fault.{Fault};
-ghost use Rattle.prepare.specs.Words.{asked_size_of};
+ghost use Rattle.std.specs.IoError.{error_kind};
+ghost use Rattle.prepare.specs.Words.{asked_of};
 ghost use Rattle.prepare.specs.Laws.{GainsFitText};
 ghost use Rattle.prepare.specs.Making.{done_of};
 ghost use Rattle.prepare.specs.Ending.{Written, HasPreparedFault, PlaceUnreached, IsPreparedInPart, FailsBy, Finished, prepare_fault_line};
@@ -20,6 +20,8 @@ use crate::words::read_words;
 use obj_write::write_obj;
 use pm_io::{Sink, Source, WriteFault, put_all};
 use std::alloc::Global;
+use std::env::Args;
+use std::io::{self, ErrorKind};
 
 // Writes what was made.
 fn write<K: Sink>(made: &Made, out: &mut K) -> Result<(), WriteFault>
@@ -57,16 +59,32 @@ fn obey<S: Source, K: Sink>(
     }
 }
 
+// The status where the words can't be gathered: for want of memory, of which nothing is said, or since one isn't UTF-8
+// and so no number.
+fn refuse_words<E: Sink>(err: &mut E, kind: ErrorKind) -> u8
+    ensures memory { kind ≡ ErrorKind.OutOfMemory → result ≡ 5 }
+    ensures other { kind ≢ ErrorKind.OutOfMemory → result ≡ 2 }
+    ensures unsaid { result ≡ 5 → Stayed (E.got err.old) (E.got err.new) (E.faults err.old) (E.faults err.new) }
+    ensures said { result ≡ 2 → Said (E.got err.old) (E.got err.new) (E.faults err.old) (E.faults err.new) (codes "prepare: words not understood\n") }
+{
+    if kind == ErrorKind::OutOfMemory {
+        return 5;
+    }
+    say(err, b"prepare: words not understood\n");
+    2
+}
+
 /// Makes a mesh of any OBJ text that is an oriented manifold of points on the grid, and answers the exit status.
 ///
-/// Without words, points that fit the grid stand as they are, and others are scaled by their box; with one word, a size from
-/// 1 to 32,767, the longest axis of the box goes from -size to size. `out` gains a line that tells how places lead back to
+/// `args` are the program's name and the words after it, or why they couldn't be gathered. Without words, points that fit the
+/// grid stand as they are, and others are scaled by their box; with one word, a size from 1 to 32,767, the longest axis of
+/// the box goes from -size to size. `out` gains a line that tells how places lead back to
 /// coordinates, and then the canonical text of the mesh; `err` gains a line for each kind of change. Status 0: all was done.
 /// 1: the input has a fault. 2: the words aren't understood. 3: a read failed before the bytes that decide the outcome were
 /// taken. 4: a write to `out` failed. 5: memory was wanted, before the first byte of output.
 pub fn run<S: Source, K: Sink, E: Sink>(
     alloc: Global,
-    words: &[String],
+    args: io::Result<Args>,
     input: &mut S,
     out: &mut K,
     err: &mut E,
@@ -75,35 +93,44 @@ pub fn run<S: Source, K: Sink, E: Sink>(
     requires { S.ended input.old ≡ false }
     ensures statuses { result ≤ 5 }
     // Other words are refused, and only they; then nothing is read or put.
-    ensures refused { asked_size_of (map string_bytes words.now) ≡ None → result ≡ 2 }
-    ensures known { result ≡ 2 → asked_size_of (map string_bytes words.now) ≡ None }
+    ensures refused { IfOk args (λ _. asked_of args ≡ None → result ≡ 2) }
+    ensures known { result ≡ 2 → asked_of args ≡ None }
     ensures untouched { result ≡ 2 → Stayed (S.left input.old) (S.left input.new) (S.faults input.old) (S.faults input.new) × Stayed (K.got out.old) (K.got out.new) (K.faults out.old) (K.faults out.new) }
+    // Words that can't be gathered are refused too, but for want of memory, of which nothing is said; and nothing is read.
+    ensures ungathered { IfErr args (λ e. error_kind e ≢ ErrorKind.OutOfMemory → result ≡ 2) }
+    ensures no_memory { IfErr args (λ e. error_kind e ≡ ErrorKind.OutOfMemory → result ≡ 5) }
+    ensures unread { IfErr args (λ _. Stayed (S.left input.old) (S.left input.new) (S.faults input.old) (S.faults input.new)) }
+    ensures unsaid { IfErr args (λ _. result ≡ 5 → Stayed (E.got err.old) (E.got err.new) (E.faults err.old) (E.faults err.new)) }
     // A mesh was made of the text, exactly its text was put, and what was done is said.
-    ensures whole { (asked : Asked) → asked_size_of (map string_bytes words.now) ≡ Some asked → result ≡ 0 → IfSome (S.left input.old) (λ bytes. Finished asked.size bytes (K.got out.old) (K.got out.new) (E.got err.old) (E.got err.new) (E.faults err.old) (E.faults err.new)) }
+    ensures whole { (asked : Asked) → asked_of args ≡ Some asked → result ≡ 0 → IfSome (S.left input.old) (λ bytes. Finished asked.size bytes (K.got out.old) (K.got out.new) (E.got err.old) (E.got err.new) (E.faults err.old) (E.faults err.new)) }
     // What was put is read as an oriented manifold, and prepared again it comes back.
     ensures fit_text { result ≡ 0 → IfSome (S.left input.old) (λ bytes. GainsFitText (K.got out.old) (K.got out.new)) }
     ensures whole_counts { result ≡ 0 → (S.faults input.new ≡ S.faults input.old) × (K.faults out.new ≡ K.faults out.old) }
     ensures read_whole { result ≡ 0 → AtEnd (S.left input.new) }
     // The text has a fault, which is said, and nothing was put.
-    ensures faulty { (asked : Asked) → asked_size_of (map string_bytes words.now) ≡ Some asked → result ≡ 1 → (f : Fault) × IfSome (S.left input.old) (λ bytes. HasPreparedFault asked.size bytes f) × Said (E.got err.old) (E.got err.new) (E.faults err.old) (E.faults err.new) (prepare_fault_line f) }
+    ensures faulty { (asked : Asked) → asked_of args ≡ Some asked → result ≡ 1 → (f : Fault) × IfSome (S.left input.old) (λ bytes. HasPreparedFault asked.size bytes f) × Said (E.got err.old) (E.got err.new) (E.faults err.old) (E.faults err.new) (prepare_fault_line f) }
     ensures faulty_counts { result ≡ 1 → (S.faults input.new ≡ S.faults input.old) × (K.faults out.new ≡ K.faults out.old) }
     // A read failed before the bytes that decide the outcome were all taken.
     ensures read { result ≡ 3 → Rose (S.faults input.old) (S.faults input.new) }
-    ensures unreached { (asked : Asked) → asked_size_of (map string_bytes words.now) ≡ Some asked → result ≡ 3 → PlaceUnreached asked.size (S.left input.old) (S.left input.new) }
+    ensures unreached { (asked : Asked) → asked_of args ≡ Some asked → result ≡ 3 → PlaceUnreached asked.size (S.left input.old) (S.left input.new) }
     // A write failed, and a proper prefix of the text was put; in all other cases but status 0 nothing was.
-    ensures write { (asked : Asked) → asked_size_of (map string_bytes words.now) ≡ Some asked → result ≡ 4 → Rose (K.faults out.old) (K.faults out.new) × IfSome (S.left input.old) (λ bytes. IsPreparedInPart asked.size bytes (K.got out.old) (K.got out.new)) }
+    ensures write { (asked : Asked) → asked_of args ≡ Some asked → result ≡ 4 → Rose (K.faults out.old) (K.faults out.new) × IfSome (S.left input.old) (λ bytes. IsPreparedInPart asked.size bytes (K.got out.old) (K.got out.new)) }
     // Memory was wanted, and no device failed: so status 5 and a count that rose exclude each other.
     ensures memory_counts { result ≡ 5 → (S.faults input.new ≡ S.faults input.old) × (K.faults out.new ≡ K.faults out.old) }
     ensures nothing_put { (result ≡ 1) ⊎ ((result ≡ 3) ⊎ (result ≡ 5)) → K.got out.new ≡ K.got out.old }
     ensures said_words { result ≡ 2 → Said (E.got err.old) (E.got err.new) (E.faults err.old) (E.faults err.new) (codes "prepare: words not understood\n") }
     ensures said_read { result ≡ 3 → Said (E.got err.old) (E.got err.new) (E.faults err.old) (E.faults err.new) (codes "prepare: read fault\n") }
     ensures said_write { result ≡ 4 → Said (E.got err.old) (E.got err.new) (E.faults err.old) (E.faults err.new) (codes "prepare: write fault\n") }
-    ensures said_memory { result ≡ 5 → Said (E.got err.old) (E.got err.new) (E.faults err.old) (E.faults err.new) (codes "prepare: out of memory\n") }
+    ensures said_memory { IfOk args (λ _. result ≡ 5 → Said (E.got err.old) (E.got err.new) (E.faults err.old) (E.faults err.new) (codes "prepare: out of memory\n")) }
     // Where no device failed and the words are understood, the work is done, or the input has a fault, or memory is wanted.
-    ensures complete { (asked : Asked) → asked_size_of (map string_bytes words.now) ≡ Some asked → S.faults input.new ≡ S.faults input.old → K.faults out.new ≡ K.faults out.old
+    ensures complete { (asked : Asked) → asked_of args ≡ Some asked → S.faults input.new ≡ S.faults input.old → K.faults out.new ≡ K.faults out.old
         → S.faults input.old < 2 ^ 64 - 1 → K.faults out.old < 2 ^ 64 - 1 → (result ≡ 0) ⊎ ((result ≡ 1) ⊎ (result ≡ 5)) }
 {
-    let Some(asked) = read_words(words) else {
+    let args = match args {
+        Ok(args) => args,
+        Err(error) => return refuse_words(err, error.kind()),
+    };
+    let Some(asked) = read_words(args) else {
         say(err, b"prepare: words not understood\n");
         return 2;
     };

@@ -2,6 +2,7 @@
 use crate::run::run;
 use pm_io::{MemSink, MemSource};
 use std::alloc::{AllocError, Global};
+use std::env::Args;
 use std::process::Abort;
 use std::test::Fail;
 
@@ -14,12 +15,14 @@ type Row = (
     &'static [u8],
 );
 
-fn command(alloc: Global, words: &[&str]) -> Result<Vec<String>, AllocError> {
+// The program's name and these words.
+fn command(alloc: Global, words: &[&str]) -> Result<Args, AllocError> {
     let mut all = Vec::new(alloc);
+    all.push(String::from_str(alloc, "prepare")?)?;
     for word in words {
         all.push(String::from_str(alloc, word)?)?;
     }
-    Ok(all)
+    Ok(all.into_iter())
 }
 
 // Runs the program with a source and a sink that fail at these calls.
@@ -35,7 +38,7 @@ fn check<A: Abort>(
     let mut source = MemSource::new(alloc, input, 4096, reads)?;
     let mut sink = MemSink::new(alloc, 1000, 1000, writes)?;
     let mut errors = MemSink::new(alloc, 1000, 1000, &[])?;
-    let status = run(alloc, &words, &mut source, &mut sink, &mut errors);
+    let status = run(alloc, Ok(words), &mut source, &mut sink, &mut errors);
     assert_eq!(rt; status, wanted);
     assert_eq!(rt; sink.bytes(), out);
     assert_eq!(rt; errors.bytes(), err);
