@@ -23,14 +23,14 @@ use Rattle.pm_forest.proofs.Shown.{shown_base, shown_record, shown-parts}
 use Rattle.pm_sides.proofs.RecordSides.{corner_of-record}
 use Rattle.pm_sides.proofs.SplitNodeLaws.{s_below}
 use Rattle.pm_base.specs.Counts.{numbers_below}
-use Rattle.pm_front.specs.Corners.{listed, is_under, is_not_between, rest_of, collapsed_list, collapsed_lists, full_list, full_base_lists, full_lists, base_lists, opened_lists}
+use Rattle.pm_front.specs.Corners.{listed, is_under, is_not_between, rest_of, collapsed_list, collapsed_lists, full_list, full_base_lists, full_lists, base_lists}
 use Rattle.pm_front.specs.Active.{shown_count}
 use Rattle.pm_front.proofs.ListLaws.{has_filter-parts, filter-all, filter-swap, passing_first}
 use Rattle.pm_front.proofs.NodeLists.{is_corner_of, corner_of-parts, listed-by_node, listed-past, length-by_node}
 use Rattle.pm_front.proofs.CollapsedCorners.{collapsed-s, collapsed-child, collapsed-other}
 use Rattle.pm_front.proofs.MoveLaws.{empty-s, collapse-gathered}
 use Rattle.pm_front.proofs.CornerTables.{Filling, children-differ}
-use Rattle.pm_front.proofs.OpenedLists.{opened-full, opened-next, opened-base, opened-corners, base-right}
+use Rattle.pm_front.proofs.OpenedLists.{opened_lists, opened-full, opened-next, opened-base, opened-corners, base-right}
 
 -- ---- the corners of base faces
 

@@ -11,7 +11,7 @@ use Rattle.pm_forest.proofs.Nodes.{holds-s_from_t, holds-s_from_u, holds-u_from_
 use Rattle.pm_forest.proofs.Ancestors.{ancestor-lt, active-ancestor, holds-ancestor_of, ancestor_of-unique}
 use Rattle.pm_forest.proofs.OneStep.{collapse-under, collapse-elsewhere}
 use Rattle.pm_forest.proofs.Shown.{shown_without, shown_without-parts}
-use Rattle.pm_front.specs.Corners.{listed, rest_of, collapsed_list, collapsed_lists, lowered_lists, AreCorners}
+use Rattle.pm_front.specs.Corners.{listed, rest_of, collapsed_list, collapsed_lists, AreCorners}
 use Rattle.pm_front.proofs.ListLaws.{has_filter-parts, has_filter-from, once-filter}
 use Rattle.pm_front.proofs.NodeLists.{is_corner_of, length-by_node, each_by_node, once_by_node, corner_of-parts, corner_of-from}
 use Rattle.pm_sides.proofs.RecordSides.{corner_of-record, record-corner_of}
@@ -142,13 +142,3 @@ module _ (h : Hierarchy) (tree : IsForest h) (T : ℕ → Bool) (front : IsFront
       each = each_by_node h (collapsed_list h k ls) After (λ v e l. (collapsed-forth v e, collapsed-back v e)) (λ v e p. ancestor-low (without T k) v e p.0 p.2);
       once = once_by_node h (collapsed_list h k ls) (λ v l. collapsed-once v);
     }
-
--- the collapses of the opening
-
-pub lowered-zero : (h : Hierarchy) (n : ℕ) (ls : List (List ℕ)) → n ≡ 0 → lowered_lists h n ls ≡ ls
-unfolding lowered_lists
-lowered-zero h n ls is = ap (λ m. lowered_lists h m ls) is
-
-pub lowered-last : (h : Hierarchy) (n : ℕ) (ls : List (List ℕ)) → 0 < n → lowered_lists h (n - 1) (collapsed_lists h (n - 1) ls) ≡ lowered_lists h n ls
-unfolding lowered_lists
-lowered-last h n ls pos = let at : suc (n - 1) ≡ n = omega arith in ap (λ m. lowered_lists h m ls) at

@@ -8,18 +8,22 @@ use Rattle.pm_forest.specs.Rules.{HasShape}
 use Rattle.pm_forest.proofs.Ancestors.{below-front, last_child-active}
 use Rattle.pm_forest.proofs.Flags.{without-below}
 use Rattle.pm_forest.proofs.ShapeLaws.{shape_of_nodes, shape_is_forest}
-use Rattle.pm_front.specs.Corners.{full_lists, collapsed_lists, lowered_lists, base_lists, opened_after, opened_lists, AreCorners}
-use Rattle.pm_sides.specs.Lowering.{Lowered}
-use Rattle.pm_front.specs.State.{Opened, opened_of}
+use Rattle.pm_front.specs.Corners.{full_lists, collapsed_lists, lowered_lists, base_lists, AreCorners}
 use Rattle.pm_front.proofs.CollapsedCorners.{collapsed-corners}
 use Rattle.pm_front.proofs.FullLaws.{all-corners}
+
+-- The lists while a hierarchy is being opened, once its last d records are collapsed.
+unfoldable pub opened_after : Hierarchy → ℕ → List (List ℕ)
+opened_after h zero = full_lists h
+opened_after h (suc d) = collapsed_lists h (record_count h - suc d) (opened_after h d)
+
+-- And while the first `left` are still split.
+abbrev pub opened_lists : Hierarchy → ℕ → List (List ℕ)
+opened_lists h left = opened_after h (record_count h - left)
 
 pub opened-full : (h : Hierarchy) → opened_lists h (record_count h) ≡ full_lists h
 unfolding opened_after
 opened-full h = let none : record_count h - record_count h ≡ 0 = omega arith in ap (opened_after h) none
-
-pub opened-begins : (o : Lowered) (h : Hierarchy) → o ≡ record { h = h; left = record_count h } → opened_of o ≡ record { h = h; left = record_count h; corners = full_lists h }
-opened-begins o h is = ap opened_of is ∙ ap (λ (ls : List (List ℕ)). let seen : Opened = record { h = h; left = record_count h; corners = ls } in seen) (opened-full h)
 
 -- one record fewer is split
 pub opened-next : (h : Hierarchy) (n : ℕ) → n < record_count h → opened_lists h n ≡ collapsed_lists h n (opened_lists h (suc n))
@@ -28,14 +32,6 @@ opened-next h n l =
     let done : record_count h - n ≡ suc (record_count h - suc n) = omega arith in
     let last : record_count h - suc (record_count h - suc n) ≡ n = omega arith in
     ap (opened_after h) done ∙ ap (λ k. collapsed_lists h k (opened_lists h (suc n))) last
-
-pub opened-lower : (o w : Lowered) → 0 < o.left → o.left ≤ record_count o.h → w ≡ record { h = o.h; left = o.left - 1 } →
-    opened_of w ≡ record { h = o.h; left = o.left - 1; corners = collapsed_lists o.h (o.left - 1) (opened_lists o.h o.left) }
-opened-lower o w some most is =
-    let last : suc (o.left - 1) ≡ o.left = omega arith in
-    ap opened_of is
-    ∙ ap (λ (ls : List (List ℕ)). let seen : Opened = record { h = o.h; left = o.left - 1; corners = ls } in seen)
-    (opened-next o.h (o.left - 1) (omega arith) ∙ ap (λ n. collapsed_lists o.h (o.left - 1) (opened_lists o.h n)) last)
 
 -- the collapses that are still to come lead to the base front
 opened-lowered : (h : Hierarchy) (n : ℕ) → n ≤ record_count h → lowered_lists h n (opened_lists h n) ≡ opened_lists h 0
