@@ -80,7 +80,7 @@ module _ (digits : ℕ) where
   build_refused target (input.Faulty f) None now in_old in_new stops = (tt, stops.1)
   build_refused target (input.Faulty f) (Some bytes) now in_old in_new stops = (record { place = stops.0.place; is = no_surface f stops.0.place stops.0.is }, stops.1)
   build_refused target input.Read left now in_old in_new stops = (build_unreached target left now stops.0, stops.1)
-  build_refused target input.OutOfMemory left now in_old in_new stops = tt
+  build_refused target input.OutOfMemory left now in_old in_new stops = stops
 
   pub build_stands : (target : ℕ) (left : Option (List ℕ)) (m : Mesh) (h : Hierarchy) → IfSome left (λ bytes. IsSurfaceRead digits bytes (Ok m) None) → IsSimplified m target h → IfSome left (λ bytes. IsBuilt target digits bytes (Ok h) None)
   build_stands target None m h is run = tt

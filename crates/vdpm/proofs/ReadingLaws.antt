@@ -115,7 +115,7 @@ stream_stops left whole mid now e in_old in_new same reads cause = go e (subst (
   where
     go : (e : StreamFail) → Reads left mid now (Err e) → HasCause in_old in_new (of_stream_source {T = Stream} (Err e)) → Stops IsValidBeginning (stream_fail e) left now in_old in_new
     go streams.Read reads cause = (valid_unreached left now reads, cause.failed)
-    go (streams.Fault format.OutOfMemory) reads cause = tt
+    go (streams.Fault format.OutOfMemory) reads cause = cause.same
     go (streams.Fault format.BadMagic) reads cause = (bad_stream left format.BadMagic (λ e. absurd cc) reads, cause.same)
     go (streams.Fault (format.BadVersion v)) reads cause = (bad_stream left (format.BadVersion v) (λ e. absurd cc) reads, cause.same)
     go (streams.Fault (format.BadDigits d)) reads cause = (bad_stream left (format.BadDigits d) (λ e. absurd cc) reads, cause.same)
@@ -150,12 +150,12 @@ load_refuses bytes rest d h (loads.EdgeTwice f) now in_old in_new b fault same =
 load_refuses bytes rest d h (loads.BadNeighbour k) now in_old in_new b fault same =
     let o : Beginning = record { digits = d; h = h; rest = rest } in
     (record { place = Some (length (stream d h)); is = invalid o (faults.BadNeighbour k) (Some (length (stream d h))) (opened bytes rest d h b) (wrong_neighbour k fault.0 fault.1) }, same)
-load_refuses bytes rest d h loads.OutOfMemory now in_old in_new b fault same = tt
+load_refuses bytes rest d h loads.OutOfMemory now in_old in_new b fault same = same
 
 pub load_stops : (left mid now : Option (List ℕ)) (d : ℕ) (h : Hierarchy) (e : LoadFail) (in_old in_new : ℕ) → Begun left mid d h → IsLoadFault h e → in_new ≡ in_old → Stops IsValidBeginning (load_fail e) left now in_old in_new
 load_stops None mid now d h (loads.EdgeTwice f) in_old in_new b fault same = (tt, same)
 load_stops None mid now d h (loads.BadNeighbour k) in_old in_new b fault same = (tt, same)
-load_stops None mid now d h loads.OutOfMemory in_old in_new b fault same = tt
+load_stops None mid now d h loads.OutOfMemory in_old in_new b fault same = same
 load_stops (Some bytes) None now d h e in_old in_new b fault same = absurd (cc b.took)
 load_stops (Some bytes) (Some rest) now d h e in_old in_new b fault same = load_refuses bytes rest d h e now in_old in_new b fault same
 
@@ -181,7 +181,7 @@ pub text_stops : (e : InputFail) (left now : Option (List ℕ)) (in_old in_new :
 text_stops (input.Faulty f) None now in_old in_new stops = (tt, stops.1)
 text_stops (input.Faulty f) (Some bytes) now in_old in_new stops = (record { place = stops.0.place; is = no_hierarchy f stops.0.place stops.0.is }, stops.1)
 text_stops input.Read left now in_old in_new stops = (text_unreached left now stops.0, stops.1)
-text_stops input.OutOfMemory left now in_old in_new stops = tt
+text_stops input.OutOfMemory left now in_old in_new stops = stops
 
 -- What the bytes after the text make of it.
 

@@ -78,7 +78,7 @@ Counts (Ok done) in_old in_new out_old out_new = (in_new ≡ in_old) × (out_new
 Counts (Err (fails.Faulty f)) in_old in_new out_old out_new = (in_new ≡ in_old) × (out_new ≡ out_old)
 Counts (Err fails.Write) in_old in_new out_old out_new = Rose out_old out_new
 Counts (Err fails.Read) in_old in_new out_old out_new = Rose in_old in_new
-Counts (Err fails.OutOfMemory) in_old in_new out_old out_new = Unit {0}
+Counts (Err fails.OutOfMemory) in_old in_new out_old out_new = (in_new ≡ in_old) × (out_new ≡ out_old)
 
 abbrev pub status_of : CommandFail → ℕ
 status_of (fails.Faulty f) = 1

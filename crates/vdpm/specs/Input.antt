@@ -26,8 +26,9 @@ pub record IsFaulty {X : Type 0} (IsRead : List ℕ → Result X Fault → Optio
   pub place : Option ℕ
   pub is : IsRead bytes (Err f) place
 
--- The bytes that were left are refused for the fault; or a read failed before the place that decides what they give.
+-- The bytes that were left are refused for the fault; or a read failed before the place that decides what they give; or
+-- memory was wanted. Only a read that failed is counted.
 abbrev pub Stops : {X : Type 0} → (List ℕ → Result X Fault → Option ℕ → Type 0) → InputFail → Option (List ℕ) → Option (List ℕ) → ℕ → ℕ → Type 0
 Stops IsRead (input.Faulty f) left now in_old in_new = IfSome left (λ bytes. IsFaulty IsRead bytes f) × (in_new ≡ in_old)
 Stops IsRead input.Read left now in_old in_new = Unreached IsRead left now × Rose in_old in_new
-Stops IsRead input.OutOfMemory left now in_old in_new = Unit {0}
+Stops IsRead input.OutOfMemory left now in_old in_new = in_new ≡ in_old

@@ -114,8 +114,10 @@ pub fn run<S: Source, K: Sink, E: Sink>(
     // In a script, it was the reply to a line that wasn't put whole, and few bytes were taken past that line.
     ensures few_more { (budget : ℕ) → Asks words.now (Asked.View budget) → result ≡ 4
         → FewMore budget (S.left input.old) (S.left input.new) (K.got out.old) (K.got out.new) }
-    // Memory was wanted, and nothing was put.
+    // Memory was wanted, and nothing was put; no device failed.
     ensures memory { result ≡ 5 → K.got out.new ≡ K.got out.old }
+    ensures memory_counts { result ≡ 5
+        → (S.faults input.new ≡ S.faults input.old) × (K.faults out.new ≡ K.faults out.old) }
     ensures said_words { result ≡ 2 → Tells E.Sink err.old err.new (codes "vdpm: words not understood\n") }
     ensures said_read { result ≡ 3 → Tells E.Sink err.old err.new (codes "vdpm: read fault\n") }
     ensures said_write { result ≡ 4 → Tells E.Sink err.old err.new (codes "vdpm: write fault\n") }

@@ -40,7 +40,7 @@ returns-in_err-mesh-clause-ends g c =
 pub returns-in_err-mesh-clause-counts : goal.returns-in_err-mesh-clause-counts
 returns-in_err-mesh-clause-counts g c =
     let p = err_from_is_err_and c.from_residual-in_err-mesh.result c.from_residual-in_err-mesh.ensures.1 in
-    rw (p.1, p.2) tt
+    rw (p.1, p.2) (c.in_ok-stream.ensures.count, refl)
 
 pub returns-in_err-write_obj-clause-counts : goal.returns-in_err-write_obj-clause-counts
 returns-in_err-write_obj-clause-counts g c =
