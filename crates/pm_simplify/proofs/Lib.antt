@@ -13,3 +13,7 @@ pub mod ObstacleLaws
 pub mod BorderStays
 pub mod Waiting
 pub mod Freeing
+pub mod Decisions
+pub mod LegalPairs
+pub mod LeastPairs
+pub mod SomeRuns
