@@ -11,7 +11,7 @@ import struct
 import subprocess
 import tempfile
 import termios
-from typing import BinaryIO, Dict, List, Optional, Tuple, Union
+from typing import IO, Dict, List, Optional, Tuple, Union
 
 import builders
 from case_files import Case
@@ -65,14 +65,14 @@ class Streams:
 
     def __init__(self, case: Case) -> None:
         self.case = case
-        self.given: Dict[str, Union[int, BinaryIO]] = {}
+        self.given: Dict[str, Union[int, IO[bytes]]] = {}
         self.writing: Optional[int] = None
         self.reading: Optional[int] = None
         self.errors: Optional[int] = None
         # What is written to end the input; where it is none, the input is ended by closing.
         self.farewell: Optional[bytes] = None
         # The file that the output goes to, and from which byte on, where it is no pipe.
-        self.output: Optional[BinaryIO] = None
+        self.output: Optional[IO[bytes]] = None
         self.start = 0
 
     def open_input(self, whole: builders.Data) -> None:
@@ -96,10 +96,10 @@ class Streams:
         if kind in ("closed", "full"):
             self.given["stdout"] = subprocess.DEVNULL
         elif room is not None:
-            self.output = tempfile.TemporaryFile()
+            file = tempfile.TemporaryFile()
             self.start = FILE_UNIT * units_for(room) - room
-            self.output.seek(self.start)
-            self.given["stdout"] = self.output
+            file.seek(self.start)
+            self.output = self.given["stdout"] = file
         else:
             self.reading, self.given["stdout"] = os.pipe()
         if kind == "gone":
@@ -116,9 +116,10 @@ class Streams:
         self.open_input(whole)
         self.open_output()
         self.open_errors()
+        ends = [self.given[stream] for stream in STREAMS]
         words = command(self.case, program)
-        process = subprocess.Popen(words, **self.given)  # type: ignore[call-overload]
-        for given in self.given.values():
+        process = subprocess.Popen(words, stdin=ends[0], stdout=ends[1], stderr=ends[2])
+        for given in ends:
             if isinstance(given, int) and given >= 0:
                 os.close(given)
         if self.writing is not None:
@@ -156,7 +157,7 @@ class Streams:
             return file.read()
 
 
-def file_of(whole: builders.Data) -> BinaryIO:
+def file_of(whole: builders.Data) -> IO[bytes]:
     file = tempfile.TemporaryFile()
     for block in builders.blocks(whole, 65536):
         file.write(block)

@@ -53,11 +53,11 @@ def ran(words: List[str]) -> Run:
     """Runs a command at the top, shows what it says and answers it."""
     said: List[str] = []
     quiet, pipe, both = subprocess.DEVNULL, subprocess.PIPE, subprocess.STDOUT
-    how = {"cwd": TOP, "text": True, "errors": "replace"}
-    with subprocess.Popen(words, stdin=quiet, stdout=pipe, stderr=both, **how) as process:
+    with subprocess.Popen(words, cwd=TOP, stdin=quiet, stdout=pipe, stderr=both) as process:
+        assert process.stdout is not None
         for line in process.stdout:
-            print(line, end="", flush=True)
-            said.append(line)
+            said.append(line.decode(errors="replace"))
+            print(said[-1], end="", flush=True)
     return Run(process.returncode, "".join(said))
 
 
@@ -145,7 +145,7 @@ def with_path(line: str, given: Dict[str, Path]) -> str:
     if not line.startswith("    $ "):
         return line
     for name, path in given.items():
-        line = re.sub(rf"(?<![\w/.])\./{name}\b", str(path), line)
+        line = re.sub(rf"(?<![\w/.])\./{name}(?![\w-])", str(path), line)
     return line
 
 

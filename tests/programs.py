@@ -10,8 +10,14 @@ from typing import Dict, List
 
 TOP = Path(__file__).resolve().parent.parent
 # Words with which a program reads its whole standard input.
-READING = {"vdpm": ["canon"], "prepare": []}
+READING: Dict[str, List[str]] = {"vdpm": ["canon"], "prepare": []}
+# The statuses that a program may end with.
+STATUSES = range(6)
 TRIANGLE = b"v 0 0 0\nv 1 0 0\nv 0 1 0\nf 1 2 3\n"
+
+
+class NoProgram(Exception):
+    """Why there is no program to run cases on."""
 
 
 class Programs:
@@ -21,10 +27,18 @@ class Programs:
         self.paths = {name: path.resolve() for name, path in paths.items()}
 
     def settle(self) -> None:
-        """Lets each program be built, and names from then on what a script ends in by `exec`."""
+        """Lets each program be built, and names from then on what a script ends in by `exec`.
+
+        Raises NoProgram where there is nothing to run.
+        """
         for name, path in self.paths.items():
             words = [str(path), *READING.get(name, [])]
-            subprocess.run(words, input=TRIANGLE, stdout=subprocess.DEVNULL, check=False)
+            try:
+                done = subprocess.run(words, input=TRIANGLE, stdout=subprocess.DEVNULL, check=False)
+            except OSError as fault:
+                raise NoProgram(f"{path} can't be run: {fault.strerror}") from fault
+            if done.returncode not in STATUSES:
+                raise NoProgram(f"{path} ended with status {done.returncode}")
             self.paths[name] = program_behind(path, words)
 
 

@@ -17,7 +17,7 @@ from typing import List, Optional, Sequence, Tuple
 import builders
 from builders import Data
 from case_files import CASES, Case, CaseFault, read_cases, words_of
-from programs import TOP, Programs
+from programs import TOP, NoProgram, Programs
 from running import Ended, Send, run
 
 OUT_OF_MEMORY = 5
@@ -108,6 +108,17 @@ def failure(case: Case, programs: Programs) -> Optional[str]:
     return "\n  ".join([f"FAILED {case.name} ({case.place}): {words}", *found])
 
 
+def failures(cases: Sequence[Case], programs: Programs, jobs: int) -> int:
+    """Runs the cases side by side, tells of those that failed, and answers how many did."""
+    failed = 0
+    with ThreadPoolExecutor(jobs) as pool:
+        for text in pool.map(lambda case: failure(case, programs), cases):
+            if text is not None:
+                failed += 1
+                print(text, flush=True)
+    return failed
+
+
 def asked(arguments: argparse.Namespace) -> List[Case]:
     cases = read_cases(arguments.files or sorted(CASES.glob("*.cases")))
     return [case for case in cases if arguments.only in f"{case.place} {case.name}"]
@@ -135,13 +146,13 @@ def main() -> int:
         print("\n".join(case.name for case in cases))
         return 0
     programs = Programs({"vdpm": arguments.vdpm, "prepare": arguments.prepare})
-    programs.settle()
-    failed = 0
-    with ThreadPoolExecutor(arguments.jobs) as pool:
-        for text in pool.map(lambda case: failure(case, programs), cases):
-            if text is not None:
-                failed += 1
-                print(text, flush=True)
+    try:
+        programs.settle()
+    except NoProgram as fault:
+        print(f"{fault}, so no case was run")
+        failed = len(cases)
+    else:
+        failed = failures(cases, programs, arguments.jobs)
     print(f"{len(cases) - failed} passed, {failed} failed")
     return 0 if cases and not failed else 1
 

@@ -233,8 +233,9 @@ class Whole(Runner):
     def run_all(self, program: str, *lines: str) -> "subprocess.CompletedProcess[str]":
         path = str(self.program(program))
         words = ["run.py", str(self.cases(list(lines))), "--vdpm", path, "--prepare", path]
-        how = {"cwd": TESTS, "capture_output": True, "text": True, "check": False}
-        return subprocess.run([sys.executable, *words], **how)
+        words.insert(0, sys.executable)
+        pipe = subprocess.PIPE
+        return subprocess.run(words, cwd=TESTS, stdout=pipe, stderr=pipe, text=True, check=False)
 
     def test_the_status_is_0_where_all_passed(self) -> None:
         done = self.run_all("cat >/dev/null", "case one", "run vdpm", "case two", "run vdpm")
@@ -246,6 +247,12 @@ class Whole(Runner):
         self.assertEqual(done.returncode, 1)
         self.assertIn("FAILED two (some.cases:3): vdpm x\n", done.stdout)
         self.assertEqual(done.stdout.splitlines()[-1], "1 passed, 1 failed")
+
+    def test_the_status_is_1_where_there_is_no_program(self) -> None:
+        done = self.run_all("echo vdpm: no kit >&2; exit 70", "case one", "run vdpm")
+        self.assertEqual(done.returncode, 1)
+        self.assertIn("ended with status 70, so no case was run\n", done.stdout)
+        self.assertEqual(done.stdout.splitlines()[-1], "0 passed, 1 failed")
 
     def test_the_status_is_1_where_no_case_ran(self) -> None:
         done = self.run_all("cat >/dev/null", "text one", "| x")

@@ -1,0 +1,92 @@
+"""Tries how ./test counts what its parts tell: python3 tests/test_parts.py"""
+import contextlib
+import io
+import tempfile
+import unittest
+from pathlib import Path
+from typing import List, Tuple
+from unittest import mock
+
+import parts
+from parts import Count, Run
+
+
+class Counting(unittest.TestCase):
+    def test_the_last_line_counts(self) -> None:
+        rows = [
+            (Run(0, "1 passed, 9 failed\nx\n7 passed, 0 failed\n"), Count(7, 0)),
+            (Run(1, "7 passed, 2 failed\n"), Count(7, 2)),
+            (Run(1, "7 passed, 0 failed\n"), Count(7, 1)),
+            (Run(0, "7 passed, 2 failed\n"), Count(7, 2)),
+            (Run(0, "7 passed, 0 failed (pm_io alone: not the gate)\n"), parts.FAILURE),
+            (Run(0, ""), parts.FAILURE),
+        ]
+        for run, wanted in rows:
+            self.assertEqual(parts.counted(run, parts.LAST_LINE), wanted, run)
+
+    def test_unit_tests_are_counted(self) -> None:
+        rows = [
+            (Run(0, "Ran 5 tests in 1s\n\nOK\n"), Count(5, 0)),
+            (Run(1, "Ran 5 tests in 1s\n\nFAILED (failures=1, errors=2)\n"), Count(2, 3)),
+            (Run(1, "Ran 1 test in 1s\n\nOK\n"), Count(0, 1)),
+            (Run(1, "ImportError: x\n"), parts.FAILURE),
+            (Run(-9, "Ran 2 tests in 1s\n\nOK\n"), Count(1, 1)),
+        ]
+        for run, wanted in rows:
+            with mock.patch.object(parts, "ran", return_value=run):
+                self.assertEqual(parts.unit_tests(Path("test_x.py")), wanted, run)
+
+    def test_what_is_left_out_is_told_once(self) -> None:
+        text = "test_a (__main__.A) ... skipped 'no Chromium'\n" * 2
+        run = Run(0, f"{text}Ran 5 tests in 1s\n\nOK (skipped=2)\n")
+        with mock.patch.object(parts, "ran", return_value=run):
+            count = parts.unit_tests(Path("test_x.py"))
+        self.assertEqual(count, Count(3, 0, ("test_x.py: no Chromium",)))
+
+
+class Documents(unittest.TestCase):
+    def test_commands_name_the_programs_that_were_proved(self) -> None:
+        given = {"vdpm": Path("/p/vdpm"), "prepare": Path("/p/prepare")}
+        rows = [
+            ("    $ ./vdpm canon | ./prepare 3 > x\n", "    $ /p/vdpm canon | /p/prepare 3 > x\n"),
+            ("    $ ../vdpm; ./vdpm-old; cat tour/./vdpm\n", None),
+            ("`./vdpm canon` says whether it fits\n", None),
+            ("    ./vdpm view 5\n", None),
+        ]
+        for line, wanted in rows:
+            self.assertEqual(parts.with_path(line, given), wanted or line)
+
+    def test_documents_stay_where_nothing_was_proved(self) -> None:
+        with tempfile.TemporaryDirectory() as room:
+            path = Path(room) / "x.md"
+            self.assertEqual(parts.with_paths(path, Path(room), {}), path)
+
+
+class Whole(unittest.TestCase):
+    def ended(self, counts: List[Count], names: List[str]) -> Tuple[int, str]:
+        """The status and the last line where the parts tell these counts."""
+        made = {str(i): (lambda given, count=count: count) for i, count in enumerate(counts)}
+        said = io.StringIO()
+        with mock.patch.object(parts, "PARTS", made), contextlib.redirect_stdout(said):
+            status = parts.main(names)
+        return status, said.getvalue().splitlines()[-1]
+
+    def test_the_parts_are_summed(self) -> None:
+        counts = [Count(3, 0), Count(0, 0, ("no Chromium",)), Count(4, 0)]
+        self.assertEqual(self.ended(counts, []), (0, "7 passed, 0 failed"))
+        self.assertEqual(self.ended(counts, ["2"]), (0, "4 passed, 0 failed"))
+
+    def test_it_goes_on_after_a_failing_part(self) -> None:
+        counts = [Count(0, 1), Count(4, 0)]
+        self.assertEqual(self.ended(counts, []), (1, "4 passed, 1 failed"))
+
+    def test_nothing_at_all_is_no_success(self) -> None:
+        self.assertEqual(self.ended([Count(0, 0)], []), (1, "0 passed, 0 failed"))
+
+    def test_a_word_that_is_no_part_is_refused(self) -> None:
+        with contextlib.redirect_stderr(io.StringIO()):
+            self.assertEqual(parts.main(["nothing"]), 2)
+
+
+if __name__ == "__main__":
+    unittest.main()
