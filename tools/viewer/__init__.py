@@ -1,0 +1,15 @@
+"""The window: a small server that shows a mesh in the browser, refined for where its camera looks.
+
+`./viewer` at the top of the repository starts it. One module has one part of the way:
+
+    main        the words of the command line
+    model       from a file, stream or OBJ, to a stream that is ready to be looked at
+    colours     the colours of an OBJ file's vertices
+    manual      the cures that docs/COMMANDS.md has for faults
+    program     the child `vdpm view` over pipes
+    server      the page, and what it asks for
+    websocket   the server's end of the line over which scripts come
+    hierarchy   reads a stream, for films
+    film        a page that needs no server
+    page/       what runs in the browser
+"""

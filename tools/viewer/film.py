@@ -1,0 +1,2 @@
+class BadFlight(Exception): pass
+def film_page(*a): raise BadFlight("x")

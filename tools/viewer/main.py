@@ -1,0 +1,124 @@
+"""Shows a mesh in a window of the browser: what is refined follows the camera.
+
+    ./viewer MODEL [--open] [--budget N] [--program PATH] [--port P]
+    ./viewer --film FLIGHT MODEL [--budget N] [--program PATH] > film.html
+
+MODEL is a stream of `vdpm build`, or an OBJ file, which is built first and taken through `prepare` where it isn't
+fit. The page's address is printed, and --open opens it; Ctrl-C ends all. With --film the script FLIGHT is played, and
+its frames are written as one page that needs no server. Needs Python 3.8 and a browser with WebGL 2, and no network.
+
+Ends with status 1 where the model can't be had, or the program can't be started or ends early.
+"""
+import argparse
+import signal
+import sys
+import threading
+import webbrowser
+from pathlib import Path
+from types import FrameType
+from typing import List, Optional
+
+from .film import BadFlight, film_page
+from .model import Model, Programs, model_of, tell
+from .program import ALL_MOVES, ProgramEnded
+from .server import Server, is_budget
+from .session import Session
+
+TOP = Path(__file__).resolve().parent.parent.parent
+
+
+def budget_of(text: str) -> int:
+    if not is_budget(text):
+        raise argparse.ArgumentTypeError(f"{text} isn't a number from 0 to {ALL_MOVES}")
+    return int(text)
+
+
+def arguments(words: Optional[List[str]] = None) -> argparse.Namespace:
+    parser = argparse.ArgumentParser(
+        prog="viewer", description="Shows a mesh in the browser, refined for where the camera looks."
+    )
+    parser.add_argument("model", type=Path, help="a stream of `vdpm build`, or an OBJ file")
+    parser.add_argument("--open", action="store_true", help="open the page in the browser")
+    parser.add_argument("--budget", type=budget_of, default=ALL_MOVES, help="splits and collapses a view may make")
+    parser.add_argument("--program", type=Path, default=TOP / "vdpm", help="vdpm, if not this repository's")
+    parser.add_argument("--port", type=int, default=0, help="a free one is taken where none is given")
+    parser.add_argument("--film", type=Path, metavar="FLIGHT", help="write a page of the frames of this script")
+    return parser.parse_args(words)
+
+
+def programs_of(vdpm: Path) -> Programs:
+    """vdpm, and the prepare that lies beside it or else at the top of the repository."""
+    beside = vdpm.resolve().parent / "prepare"
+    return Programs(vdpm.resolve(), beside if beside.is_file() else TOP / "prepare")
+
+
+def loaded(asked: argparse.Namespace) -> Model:
+    try:
+        model = model_of(asked.model, programs_of(asked.program))
+    except OSError as fault:
+        sys.exit(f"viewer: {asked.model} can't be read: {fault.strerror}")
+    except ProgramEnded as fault:
+        sys.exit(f"viewer: {asked.model}: {fault}")
+    tell(f"{asked.model}: {model.counts}")
+    return model
+
+
+def write_film(asked: argparse.Namespace) -> None:
+    if sys.stdout.isatty():
+        sys.exit("viewer: the film goes to standard output: add > film.html")
+    try:
+        flight = asked.film.read_bytes()
+    except OSError as fault:
+        sys.exit(f"viewer: {asked.film} can't be read: {fault.strerror}")
+    model = loaded(asked)
+    try:
+        page = film_page(asked.program.resolve(), model, flight, asked.budget)
+    except (ProgramEnded, BadFlight) as fault:
+        sys.exit(f"viewer: {asked.film}: {fault}")
+    sys.stdout.write(page)
+    tell(f"{len(page):,} bytes")
+
+
+def served(asked: argparse.Namespace) -> Server:
+    model = loaded(asked)
+    try:
+        session = Session(asked.program.resolve(), model, asked.budget)
+    except ProgramEnded as fault:
+        sys.exit(f"viewer: {asked.model}: {fault}")
+    try:
+        return Server(session, asked.port)
+    except (OSError, OverflowError) as fault:
+        session.close()
+        sys.exit(f"viewer: port {asked.port} can't be had: {fault}")
+
+
+def _stop(number: int, frame: Optional[FrameType]) -> None:
+    raise KeyboardInterrupt
+
+
+def serve(server: Server, opened: bool) -> None:
+    """Serves until Ctrl-C, the end of the terminal or a request to end; then ends the program too."""
+    for name in ("SIGHUP", "SIGTERM"):
+        if hasattr(signal, name):
+            signal.signal(getattr(signal, name), _stop)
+    try:
+        print(f"viewer: {server.address} (Ctrl-C ends)", flush=True)
+        if opened:
+            threading.Thread(target=webbrowser.open, args=(server.address,), daemon=True).start()
+        server.serve_forever()
+    except KeyboardInterrupt:
+        pass
+    finally:
+        server.server_close()
+        server.session.close()
+
+
+def main() -> None:
+    asked = arguments()
+    try:
+        if asked.film:
+            write_film(asked)
+        else:
+            serve(served(asked), asked.open)
+    except KeyboardInterrupt:
+        sys.exit(130)

@@ -1,0 +1,203 @@
+"""From a file to a stream that is ready to be looked at.
+
+A file that begins with the bytes `VDPM` is a stream, and `vdpm check` judges it. Any other is taken for an OBJ text:
+`vdpm canon` judges it with the least number of decimals that it allows; where that refuses it, `prepare` makes it fit;
+then `vdpm build` makes the stream. Each step is told on standard error, with the seconds where it takes some.
+"""
+import re
+import subprocess
+import sys
+import threading
+import time
+from pathlib import Path
+from typing import List, NamedTuple, Optional, Sequence, Tuple
+
+from . import colours, manual
+from .program import UNPROVED, ProgramEnded, end_of
+
+MAGIC = b"VDPM"
+SECONDS_BETWEEN_NEWS = 5
+MOST_DIGITS = 4
+# A fault that another number of decimals may cure: a nonzero digit past the first D.
+TOO_MANY_DECIMALS = "fault 5 "
+_SCALED = re.compile(rb"# coordinate = (\S+) / (\d+) \* place \+ \((\S+) (\S+) (\S+)\)")
+Place = Tuple[float, float, float]
+
+
+class Programs(NamedTuple):
+    """The two programs of this project."""
+
+    vdpm: Path
+    prepare: Path
+
+
+class Scale(NamedTuple):
+    """How the places of a prepared mesh lead back to the coordinates of its file."""
+
+    unit: float
+    middle: Place
+
+
+class Model(NamedTuple):
+    """A stream, and what is known of where it came from."""
+
+    name: str
+    stream: bytes
+    counts: str  # the line of `vdpm check`
+    proved: bool
+    prepared: bool = False
+    scale: Optional[Scale] = None
+    colours: Optional[bytes] = None  # of the vertices of the mesh that was built from, three bytes each
+
+    @property
+    def records(self) -> int:
+        return int(self.counts.split()[7])
+
+    @property
+    def faces(self) -> int:
+        return int(self.counts.split()[9])
+
+
+class Done(NamedTuple):
+    """What a program that has ended put, and its lines on standard error but for notices."""
+
+    status: int
+    out: bytes
+    said: List[str]
+    proved: bool
+
+
+def tell(text: str) -> None:
+    print(f"viewer: {text}", file=sys.stderr, flush=True)
+
+
+def is_notice(line: str) -> bool:
+    """Whether a line of `./vdpm` or `./prepare` is about building the program, and not from the program."""
+    return " fault " not in line and (line.startswith(UNPROVED) or "building" in line)
+
+
+def run(path: Path, words: Sequence[str], text: bytes, doing: str) -> Done:
+    """Runs a program to its end, and tells meanwhile how long it has been doing what it does. Its notices are passed
+    on as they come: a program that isn't built yet may take long."""
+    try:
+        child = subprocess.Popen(
+            [str(path), *words], stdin=subprocess.PIPE, stdout=subprocess.PIPE, stderr=subprocess.PIPE
+        )
+    except OSError as fault:
+        raise ProgramEnded(f"{path} can't be started: {fault.strerror}") from fault
+    said: List[str] = []
+    out: List[bytes] = []
+    assert child.stdin is not None and child.stdout is not None and child.stderr is not None
+    readers = [
+        threading.Thread(target=_listen, args=(child.stderr, said), daemon=True),
+        threading.Thread(target=lambda: out.append(child.stdout.read()), daemon=True),  # type: ignore[union-attr]
+        threading.Thread(target=_feed, args=(child.stdin, text), daemon=True),
+    ]
+    for reader in readers:
+        reader.start()
+    status = _wait(child, doing)
+    for reader in readers:
+        reader.join()
+    child.stdout.close()
+    child.stderr.close()
+    proved = not any(line.startswith(UNPROVED) for line in said)
+    return Done(status, b"".join(out), [line for line in said if not is_notice(line)], proved)
+
+
+def _feed(end, text: bytes) -> None:  # type: ignore[no-untyped-def]
+    try:
+        end.write(text)
+        end.close()
+    except BrokenPipeError:  # it ended before it had read all, and says why
+        pass
+
+
+def _listen(end, said: List[str]) -> None:  # type: ignore[no-untyped-def]
+    for line in end:
+        text = line.decode("utf-8", "replace").rstrip("\n")
+        said.append(text)
+        if is_notice(text):
+            print(text, file=sys.stderr, flush=True)
+
+
+def _wait(child: "subprocess.Popen[bytes]", doing: str) -> int:
+    begun = time.monotonic()
+    try:
+        while True:
+            try:
+                return child.wait(timeout=SECONDS_BETWEEN_NEWS)
+            except subprocess.TimeoutExpired:
+                tell(f"{doing}: {time.monotonic() - begun:.0f} s")
+    except BaseException:  # an interrupt ends the child too
+        child.kill()
+        child.wait()
+        raise
+
+
+def needed(done: Done, heading: str) -> Done:
+    """The same, where it ended well; else why it didn't."""
+    if done.status != 0:
+        raise end_of(done.said[-1] if done.said else "", done.status, heading)
+    return done
+
+
+def model_of(path: Path, programs: Programs) -> Model:
+    """The model of a file; ProgramEnded where it can't be had, and OSError where it can't be read."""
+    text = path.read_bytes()
+    if text.startswith(MAGIC):
+        checked = needed(run(programs.vdpm, ["check"], text, "checking"), manual.STREAM)
+        return Model(path.name, text, checked.out.decode("ascii").strip(), checked.proved)
+    return _built(path.name, text, programs)
+
+
+def _built(name: str, text: bytes, programs: Programs) -> Model:
+    mesh, digits, prepared = _fitting(text, programs)
+    faces = mesh.count(b"\nf ") + mesh.startswith(b"f ")
+    if faces == 0:
+        raise ProgramEnded(f"{name} has no faces, so there is nothing to look at")
+    tell(f"building a hierarchy of {faces:,} faces")
+    begun = time.monotonic()
+    words = ["build", "0"] + (["--digits", str(digits)] if digits else [])
+    stream = needed(run(programs.vdpm, words, mesh, "building"), manual.OBJ).out
+    checked = needed(run(programs.vdpm, ["check"], stream, "checking"), manual.STREAM)
+    tell(f"built in {time.monotonic() - begun:.1f} s")
+    counts = checked.out.decode("ascii").strip()
+    scale = scale_of(mesh) if prepared else None
+    return Model(name, stream, counts, checked.proved, prepared, scale, _colours(text, mesh, prepared, scale))
+
+
+def _fitting(text: bytes, programs: Programs) -> Tuple[bytes, int, bool]:
+    """A text that `build` takes, with how many decimals, and whether it had to be prepared."""
+    for digits in range(MOST_DIGITS + 1):
+        words = ["canon"] + (["--digits", str(digits)] if digits else [])
+        done = run(programs.vdpm, words, text, "reading")
+        if done.status == 0:
+            return text, digits, False
+        if done.status != 1 or not done.said or TOO_MANY_DECIMALS not in done.said[-1]:
+            break
+    if done.status != 1:
+        raise end_of(done.said[-1] if done.said else "", done.status, manual.OBJ)
+    tell(f"it isn't fit as it stands ({done.said[-1]}), so prepare makes it fit")
+    ready = needed(run(programs.prepare, [], text, "preparing"), manual.PREPARE)
+    for line in ready.said:
+        print(line, file=sys.stderr)
+    return ready.out, 0, True
+
+
+def scale_of(mesh: bytes) -> Optional[Scale]:
+    """How a prepared mesh leads back, by its first line; None where its coordinates are the file's own."""
+    found = _SCALED.match(mesh)
+    if found is None:
+        return None
+    extent, parts, x, y, z = (float(number) for number in found.groups())
+    return Scale(extent / parts, (x, y, z))
+
+
+def _colours(text: bytes, mesh: bytes, prepared: bool, scale: Optional[Scale]) -> Optional[bytes]:
+    vertices = colours.coloured_vertices(text)
+    if vertices is None:
+        return None
+    if not prepared:
+        return colours.packed(vertices)
+    unit, middle = (scale.unit, scale.middle) if scale else (1.0, (0.0, 0.0, 0.0))
+    return colours.packed_by_place(vertices, mesh, unit, middle)

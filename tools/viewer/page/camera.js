@@ -1,0 +1,93 @@
+// Where one looks from, and the script lines that tell it to the program (docs/FORMATS.md).
+import { cross, dot, plus, scaled, unit } from "./matrices.js";
+
+const LARGEST_NORMAL = 32767;   // of the A, B and C of a plane, and of a ray's way
+const LARGEST_PLACE = 16777215; // of an eye
+const LARGEST_PIXELS = 65535;   // of a focal length and a tolerance
+const FINEST = 16;              // parts of a pixel that a tolerance is told in
+const OPENING = (45 * Math.PI) / 180;
+const STEEPEST = 1.55;          // radians of pitch: just short of straight down
+
+export const focalOf = (height) => Math.round(height / 2 / Math.tan(OPENING / 2));
+
+const whole = (p) => p.map((c) => Math.round(c) || 0); // no -0, which a line can't have
+const within = (p) => p.map((c) => Math.max(-LARGEST_PLACE, Math.min(LARGEST_PLACE, c)));
+
+export class Camera {
+  // Looks at `target` from `distance` away. `yaw` turns round the axis that is up, "z" or "y";
+  // `pitch` goes up from the ground.
+  constructor({ target, distance, yaw, pitch, upright = "z" }) {
+    Object.assign(this, { target: [...target], distance, yaw, pitch, upright });
+  }
+
+  copy() { return new Camera(this); }
+
+  axes() {
+    const { yaw, pitch } = this;
+    const turned = ([x, y, z]) => (this.upright === "y" ? [x, z, -y] : [x, y, z]);
+    const back = turned([
+      Math.cos(pitch) * Math.sin(yaw), -Math.cos(pitch) * Math.cos(yaw), Math.sin(pitch),
+    ]);
+    const right = turned([Math.cos(yaw), Math.sin(yaw), 0]);
+    return { right, up: cross(back, right), back };
+  }
+
+  eye() { return plus(this.target, this.distance, this.axes().back); }
+
+  turn(yaw, pitch) {
+    this.yaw += yaw;
+    this.pitch = Math.max(-STEEPEST, Math.min(STEEPEST, this.pitch + pitch));
+  }
+
+  // Moves what is looked at in the picture's plane, by pixels there.
+  move(x, y, focal) {
+    const { right, up } = this.axes(), size = this.distance / focal;
+    this.target = within(plus(plus(this.target, -x * size, right), y * size, up));
+  }
+
+  nearer(factor, least, most) {
+    this.distance = Math.max(least, Math.min(most, this.distance * factor));
+  }
+}
+
+// A camera from which a box of the mesh is seen whole, from the side and a little from above; from
+// higher where it is flat as a terrain.
+export function homeOf({ low, high }, upright) {
+  const target = low.map((c, axis) => (c + high[axis]) / 2);
+  const sizes = low.map((c, axis) => high[axis] - c);
+  const radius = Math.hypot(...sizes) / 2 || 1;
+  const tall = upright === "y" ? sizes[1] : sizes[2];
+  const broad = Math.max(sizes[0], upright === "y" ? sizes[2] : sizes[1]);
+  const pitch = tall < 0.4 * broad ? 0.5 : 0.35;
+  return { camera: new Camera({ target, distance: 2.4 * radius, yaw: 0.5, pitch, upright }), radius };
+}
+
+// The left, the right, the lower and the upper side of a picture that is `margin` times as wide and
+// as high. Their inner sides are the positive ones.
+function planes({ right, up, back }, eye, { focal, width, height }, margin) {
+  const sides = [[right, (margin * width) / 2], [up, (margin * height) / 2]];
+  return sides.flatMap(([side, reach]) => [1, -1].flatMap((sign) => {
+    const inward = plus(scaled(sign * focal, side), -reach, back);
+    const normal = whole(scaled(LARGEST_NORMAL, unit(inward)));
+    return [...normal, -dot(normal, eye) || 0];
+  }));
+}
+
+// The view of a picture. Focal length and tolerances are told in parts of a pixel, since a view
+// depends on their ratios alone.
+export function viewLine(camera, picture, tolerance, outline = tolerance, margin = 1) {
+  const eye = within(whole(camera.eye()));
+  const parts = Math.min(FINEST, Math.floor(LARGEST_PIXELS / Math.max(picture.focal, tolerance)));
+  const pixels = [picture.focal, tolerance, outline].map((n) => Math.round(n * parts));
+  const asked = outline < tolerance ? ["vs", ...eye, ...pixels] : ["v", ...eye, ...pixels.slice(0, 2)];
+  return [...asked, ...planes(camera.axes(), eye, picture, margin)].join(" ");
+}
+
+// The ray through a pixel, counted from the picture's middle to the right and upwards.
+export function rayThrough(camera, focal, x, y) {
+  const { right, up, back } = camera.axes();
+  const from = within(whole(camera.eye()));
+  const towards = plus(plus(scaled(x, right), y, up), -focal, back);
+  const way = whole(scaled(LARGEST_NORMAL, unit(towards)));
+  return { from, way, line: `p ${from.join(" ")} ${way.join(" ")}` };
+}

@@ -1,0 +1,56 @@
+// The line to the server: what comes answers what was sent, in order.
+
+export const GONE = "The server doesn't answer any more: ./viewer has ended. Start it again, and open the address that it prints.";
+
+// What ended a view: the reason, and what to do about it where the manual knows.
+export class Fault extends Error {
+  constructor(reason, cure = "") {
+    super(reason);
+    this.cure = cure;
+  }
+}
+
+export class Connection {
+  constructor() {
+    this.waiting = [];
+    this.cameAt = 0;
+    this.socket = new WebSocket(new URL("talk", location.href.replace(/^http/, "ws")));
+    this.socket.binaryType = "arraybuffer";
+    this.socket.onmessage = ({ data }) => this.come(data);
+    this.socket.onclose = () => this.waiting.splice(0).forEach(({ reject }) => reject(new Fault(GONE)));
+    this.open = new Promise((resolve, reject) => {
+      this.socket.onopen = resolve;
+      this.socket.onerror = () => reject(new Fault(GONE));
+    });
+  }
+
+  // The bytes of the answer, and the milliseconds that it took.
+  ask(script) {
+    return new Promise((resolve, reject) => {
+      if (this.socket.readyState !== WebSocket.OPEN) throw new Fault(GONE);
+      this.waiting.push({ resolve, reject, begun: performance.now() });
+      this.socket.send(script);
+    });
+  }
+
+  come(data) {
+    const { resolve, reject, begun } = this.waiting.shift();
+    const came = performance.now();
+    // The time until the answer before came belongs to that one.
+    const milliseconds = came - Math.max(begun, this.cameAt);
+    this.cameAt = came;
+    if (typeof data === "string") {
+      const { reason, cure } = JSON.parse(data);
+      reject(new Fault(reason, cure));
+    } else {
+      resolve({ data, milliseconds });
+    }
+  }
+}
+
+// What stands at an address of the server.
+export async function fetched(path) {
+  const answer = await fetch(path).catch(() => { throw new Fault(GONE); });
+  if (!answer.ok) throw new Fault(await answer.text());
+  return answer;
+}

@@ -1,0 +1,100 @@
+// Mouse, wheel, touch and keys move a camera.
+const TURN = 0.005;       // radians a pixel
+const KEY_TURN = 0.05;    // radians a press
+const KEY_MOVE = 30;      // pixels a press
+const KEY_NEARER = 0.92;  // of the distance a press
+const WHEEL = 0.0015;     // of the distance's logarithm a pixel
+const LINE = 30;          // pixels of a wheel that counts in lines
+const STILL = 4;          // pixels that a click may move
+
+const ARROWS = { ArrowLeft: [1, 0], ArrowRight: [-1, 0], ArrowUp: [0, 1], ArrowDown: [0, -1] };
+
+// What hands do. `hands` has `camera()`, `focal()`, `nearest()`, `farthest()`, `moved()`,
+// `picked(x, y)`, and by letter the actions of `keys`.
+export class Controls {
+  constructor(canvas, hands) {
+    Object.assign(this, { canvas, hands, fingers: new Map(), way: 0, button: 0 });
+    const on = (name, act, options) => canvas.addEventListener(name, (event) => act.call(this, event), options);
+    on("pointerdown", this.press);
+    on("pointermove", this.drag);
+    on("pointerup", this.release);
+    on("pointercancel", this.release);
+    on("contextmenu", (event) => event.preventDefault());
+    on("wheel", this.wheel, { passive: false });
+    addEventListener("keydown", (event) => this.key(event));
+  }
+
+  turn(x, y) {
+    this.hands.camera().turn(-x, y);
+    this.hands.moved();
+  }
+
+  move(x, y) {
+    this.hands.camera().move(x * devicePixelRatio, y * devicePixelRatio, this.hands.focal());
+    this.hands.moved();
+  }
+
+  nearer(factor) {
+    this.hands.camera().nearer(factor, this.hands.nearest(), this.hands.farthest());
+    this.hands.moved();
+  }
+
+  press(event) {
+    this.canvas.setPointerCapture(event.pointerId);
+    this.canvas.focus();
+    this.fingers.set(event.pointerId, { x: event.clientX, y: event.clientY });
+    this.way = this.fingers.size > 1 ? Infinity : 0;
+    this.button = event.button;
+  }
+
+  drag(event) {
+    const finger = this.fingers.get(event.pointerId);
+    if (finger === undefined) return;
+    const before = this.spread();
+    const x = event.clientX - finger.x, y = event.clientY - finger.y;
+    Object.assign(finger, { x: event.clientX, y: event.clientY });
+    this.way += Math.abs(x) + Math.abs(y);
+    const after = this.spread();
+    if (after !== null) {
+      this.move(after.x - before.x, after.y - before.y);
+      this.nearer(before.size / after.size);
+    } else if (this.button !== 0 || event.shiftKey) {
+      this.move(x, y);
+    } else {
+      this.turn(x * TURN, y * TURN);
+    }
+  }
+
+  // Where the middle of two fingers is, and how far they are apart; null of any other number.
+  spread() {
+    if (this.fingers.size !== 2) return null;
+    const [p, q] = [...this.fingers.values()];
+    return { x: (p.x + q.x) / 2, y: (p.y + q.y) / 2, size: Math.hypot(p.x - q.x, p.y - q.y) || 1 };
+  }
+
+  release(event) {
+    if (!this.fingers.delete(event.pointerId)) return;
+    const isClick = event.type === "pointerup" && this.way < STILL && this.button === 0;
+    if (isClick) this.hands.picked(event.clientX, event.clientY);
+  }
+
+  wheel(event) {
+    event.preventDefault();
+    const pixels = event.deltaY * (event.deltaMode === WheelEvent.DOM_DELTA_LINE ? LINE : 1);
+    this.nearer(Math.exp(Math.max(-200, Math.min(200, pixels)) * WHEEL));
+  }
+
+  key(event) {
+    if (event.ctrlKey || event.metaKey || event.altKey) return;
+    const arrow = ARROWS[event.key], isSlider = event.target.type === "range" || event.target.tagName === "SELECT";
+    const act = this.hands.keys[event.key.toLowerCase()];
+    if (arrow && !isSlider) {
+      if (event.shiftKey) this.move(arrow[0] * KEY_MOVE, arrow[1] * KEY_MOVE);
+      else this.turn(arrow[0] * KEY_TURN, arrow[1] * KEY_TURN);
+    } else if (event.key === "+" || event.key === "=") this.nearer(KEY_NEARER);
+    else if (event.key === "-") this.nearer(1 / KEY_NEARER);
+    else if (act && !event.repeat) act();
+    else return;
+    event.preventDefault();
+  }
+}

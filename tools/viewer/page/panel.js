@@ -1,0 +1,102 @@
+// The settings at the right and the counters at the left.
+const part = (name) => document.getElementById(name);
+const counted = (n) => n.toLocaleString("en");
+const pixels = (n) => `${n < 10 ? Number(n.toFixed(2)) : Math.round(n)} px`;
+const milliseconds = (n) => (n < 10 ? n.toFixed(1) : n.toFixed(0));
+export const ALL_MOVES = 4294967295;
+
+// What the settings say now. Tolerances go in steps of a quarter of a doubling.
+export function settings() {
+  const tolerance = 2 ** (part("tolerance").valueAsNumber / 4);
+  const budget = part("budget").valueAsNumber;
+  const isOn = (name) => part(name).checked;
+  return {
+    tolerance,
+    outline: tolerance / 2 ** (part("outline").valueAsNumber / 2),
+    draft: 2 ** (part("draft").valueAsNumber / 4),
+    budget: budget === Number(part("budget").max) ? ALL_MOVES : 2 ** budget,
+    colour: document.querySelector("input[name=colour]:checked").value,
+    upright: isOn("upright") ? "y" : "z",
+    smooth: isOn("smooth"), edges: isOn("edges"), glide: isOn("glide"), freeze: isOn("freeze"),
+    round: isOn("round"), beside: isOn("beside"),
+  };
+}
+
+export function saySettings(now) {
+  part("tolerance-said").textContent = pixels(now.tolerance);
+  part("outline-said").textContent = now.outline < now.tolerance ? pixels(now.outline) : "the same";
+  part("draft-said").textContent = now.draft > 1 ? pixels(now.tolerance * now.draft) : "the same";
+  part("budget-said").textContent = now.budget === ALL_MOVES ? "all" : counted(now.budget);
+}
+
+// What is known of the model before anything is drawn.
+export function sayModel({ name, proved, prepared, coloured, budget }) {
+  part("name").textContent = name;
+  document.title = name;
+  const notices = [proved ? "" : "not proved on this machine", prepared ? "made fit by prepare" : ""];
+  part("notice").textContent = notices.filter(Boolean).join(" · ");
+  part("notice").hidden = proved && !prepared;
+  document.querySelector("input[value=own]").disabled = !coloured;
+  if (coloured) choose("own");
+  if (budget !== ALL_MOVES) part("budget").value = Math.round(Math.log2(Math.max(1, budget)));
+}
+
+// Calls `changed` with the name of a setting that was changed by hand.
+export function watchPanel(changed) {
+  part("panel").addEventListener("input", (event) => changed(event.target.id || event.target.name));
+  part("panel").addEventListener("submit", (event) => event.preventDefault());
+}
+
+export const press = (name) => part(name).click();
+export const onClick = (name, act) => part(name).addEventListener("click", act);
+export const choose = (colour) => document.querySelector(`input[value=${colour}]`).click();
+
+export function toggle() {
+  part("panel").hidden = !part("panel").hidden;
+  part("unhide").hidden = !part("panel").hidden;
+}
+
+// What is shown, what it took, and how often it changes.
+export function sayCounters({ shown, all, moves, left, times, put, draw, pictures, fronts, mark }) {
+  const { nodesCome, nodesGone, facesCome, facesGone } = shown.changes;
+  part("faces-said").textContent = counted(shown.faceCount);
+  part("all-said").textContent = `of ${counted(all)} faces`;
+  const rows = [
+    ["nodes", counted(shown.nodeCount)],
+    ["moves", left > 0 ? `${counted(moves)}, ${counted(left)} left` : counted(moves)],
+    ["nodes that changed", `+${counted(nodesCome)}  −${counted(nodesGone)}`],
+    ["faces that changed", `+${counted(facesCome)}  −${counted(facesGone)}`],
+    ["view, frame", `${milliseconds(times.view)}, ${milliseconds(times.frameText)} ms`],
+    ["transfer", `${milliseconds(times.transfer)} ms, ${counted(Math.round(times.bytes / 1024))} kB`],
+    ["read, arrays", `${milliseconds(times.read)}, ${milliseconds(times.arrays)} ms`],
+    ["put, draw", `${milliseconds(put)}, ${milliseconds(draw)} ms`],
+    ["frames a second", pictures > 2 ? `${pictures}, ${fronts} fronts` : "at rest"],
+  ];
+  part("rows").replaceChildren(...rows.map((cells) => {
+    const row = document.createElement("tr");
+    row.append(...cells.map((cell) => Object.assign(document.createElement("td"), { textContent: cell })));
+    return row;
+  }));
+  part("mark").textContent = mark;
+  part("mark").hidden = mark === "";
+}
+
+// The captions of the two halves; none where there is one picture.
+export function sayHalves(captions) {
+  part("halves").hidden = captions === null;
+  if (captions !== null) [part("left-half").textContent, part("right-half").textContent] = captions;
+}
+
+export function sayPicked(text) {
+  part("picked").hidden = text === null;
+  part("picked").textContent = text ?? "";
+}
+
+// Tells something for a moment.
+let told = 0;
+export function tell(text) {
+  part("told").textContent = text;
+  part("told").hidden = false;
+  clearTimeout(told);
+  told = setTimeout(() => { part("told").hidden = true; }, 2500);
+}

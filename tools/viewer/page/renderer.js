@@ -1,0 +1,203 @@
+// Draws the frames that the graphics processor has, from any camera, and the pyramid of a frozen one.
+import { WIDTH, rows } from "./layout.js";
+import { clipMatrix, plus, unit } from "./matrices.js";
+import {
+  LINES_FRAGMENT, LINES_VERTEX, MESH_FRAGMENT, MESH_VERTEX, SKY_FRAGMENT, SKY_VERTEX,
+} from "./shaders.js";
+
+export class NoGraphics extends Error {}
+
+export const COLOURS = { stone: 0, depth: 1, wire: 2, own: 3 };
+export const NO_FACE = 0xffffffff; // no face has this number
+const MARK = [1, 0.71, 0.33], HIT = [1, 0.3, 0.1, 1];
+const EDGES = 0.62; // how dark edges are
+const NOTHING_GLIDES = -1;
+
+// What the page is drawn on: the sky, and the faces and edges where edges alone are drawn.
+export const THEMES = {
+  dark: { low: [0.225, 0.265, 0.315], high: [0.075, 0.095, 0.125], paper: [0.085, 0.11, 0.14], ink: [0.62, 0.82, 1] },
+  light: { low: [0.87, 0.885, 0.9], high: [0.965, 0.972, 0.98], paper: [0.93, 0.94, 0.95], ink: [0.1, 0.24, 0.4] },
+};
+
+export class Renderer {
+  constructor(canvas) {
+    const gl = canvas.getContext("webgl2", { antialias: true, alpha: false, powerPreference: "high-performance" });
+    if (gl === null) throw new NoGraphics("This browser gives no WebGL 2, which draws the picture.");
+    Object.assign(this, { gl, canvas, meshes: new Map() });
+    this.mesh = linked(gl, MESH_VERTEX, MESH_FRAGMENT);
+    this.lines = linked(gl, LINES_VERTEX, LINES_FRAGMENT);
+    this.sky = linked(gl, SKY_VERTEX, SKY_FRAGMENT);
+    this.empty = gl.createVertexArray();
+    this.line = { array: gl.createVertexArray(), buffer: gl.createBuffer() };
+    gl.bindVertexArray(this.line.array);
+    gl.bindBuffer(gl.ARRAY_BUFFER, this.line.buffer);
+    gl.enableVertexAttribArray(0);
+    gl.vertexAttribPointer(0, 3, gl.FLOAT, false, 0, 0);
+  }
+
+  // Takes a frame as frames.js makes it, under a name.
+  show(name, frame) {
+    if (!this.meshes.has(name)) this.meshes.set(name, new Mesh(this.gl));
+    this.meshes.get(name).show(frame);
+  }
+
+  has(name) { return this.meshes.has(name); }
+
+  // The pictures of a scene: `parts` are meshes by name, each with where its picture begins, in
+  // pixels of the canvas, and how wide it is.
+  draw({ camera, picture, parts, look }) {
+    const { gl, canvas } = this;
+    const far = look.reach + camera.distance, near = Math.max(0.5, far / 65536, camera.distance / 500);
+    const axes = camera.axes(), eye = camera.eye(), toClip = clipMatrix(axes, picture, near, 2 * far);
+    gl.enable(gl.SCISSOR_TEST);
+    for (const { name, left, width } of parts) {
+      gl.viewport(left, 0, width, canvas.height);
+      gl.scissor(left, 0, width, canvas.height);
+      this.drawSky(look.theme);
+      if (this.meshes.has(name)) this.drawMesh(this.meshes.get(name), axes, eye, toClip, look);
+      if (look.frozen) this.drawPyramid(look.frozen, eye, toClip);
+      gl.disable(gl.DEPTH_TEST);
+      if (look.hit) this.paint(gl.POINTS, [look.hit], eye, toClip, HIT);
+    }
+    gl.disable(gl.SCISSOR_TEST);
+  }
+
+  drawSky({ low, high }) {
+    const { gl, sky: { program, at } } = this;
+    gl.clear(gl.DEPTH_BUFFER_BIT);
+    gl.disable(gl.DEPTH_TEST);
+    gl.bindVertexArray(this.empty);
+    gl.useProgram(program);
+    gl.uniform3fv(at.low, low);
+    gl.uniform3fv(at.high, high);
+    gl.drawArrays(gl.TRIANGLES, 0, 3);
+    gl.enable(gl.DEPTH_TEST);
+  }
+
+  drawMesh(mesh, axes, eye, toClip, look) {
+    const { gl, mesh: { program, at } } = this;
+    gl.useProgram(program);
+    mesh.bind(at);
+    gl.uniformMatrix4fv(at.toClip, false, toClip);
+    gl.uniform3fv(at.eye, eye);
+    gl.uniform3fv(at.light, unit(plus(plus(axes.back, 0.9, axes.up), -1.3, axes.right)));
+    gl.uniform3fv(at.paper, look.theme.paper);
+    gl.uniform3fv(at.ink, look.theme.ink);
+    gl.uniform1f(at.now, mesh.glides ? look.now : NOTHING_GLIDES);
+    gl.uniform1f(at.deepest, look.deepest);
+    gl.uniform1ui(at.picked, look.picked);
+    gl.uniform1i(at.colour, COLOURS[look.colour]);
+    gl.uniform1i(at.smoothly, look.smooth ? 1 : 0);
+    gl.uniform1f(at.edges, look.edges ? EDGES : 0);
+    gl.drawArrays(gl.TRIANGLES, 0, 3 * mesh.faceCount);
+  }
+
+  // The sides of what a frozen camera sees, from its eye on.
+  drawPyramid({ camera, picture }, eye, toClip) {
+    const { gl } = this, { right, up, back } = camera.axes(), from = camera.eye();
+    const depth = camera.distance * 1.15, size = depth / picture.focal / 2;
+    const middle = plus(from, -depth, back);
+    const corner = (x, y) => plus(plus(middle, x * size * picture.width, right), y * size * picture.height, up);
+    const ends = [corner(-1, -1), corner(1, -1), corner(1, 1), corner(-1, 1)];
+    const next = (i) => ends[(i + 1) % 4];
+    gl.enable(gl.BLEND);
+    gl.blendFunc(gl.ONE, gl.ONE_MINUS_SRC_ALPHA);
+    gl.depthMask(false);
+    this.paint(gl.TRIANGLES, ends.flatMap((end, i) => [from, end, next(i)]), eye, toClip, [...MARK, 0.09]);
+    gl.depthMask(true);
+    this.paint(gl.LINES, ends.flatMap((end, i) => [from, end, end, next(i)]), eye, toClip, [...MARK, 0.95]);
+    gl.disable(gl.BLEND);
+    this.paint(gl.POINTS, [from], eye, toClip, [...MARK, 1]);
+  }
+
+  paint(kind, points, eye, toClip, paint) {
+    const { gl, lines: { program, at }, line } = this;
+    gl.useProgram(program);
+    gl.bindVertexArray(line.array);
+    gl.bindBuffer(gl.ARRAY_BUFFER, line.buffer);
+    gl.bufferData(gl.ARRAY_BUFFER, new Float32Array(points.flat()), gl.STREAM_DRAW);
+    gl.uniformMatrix4fv(at.toClip, false, toClip);
+    gl.uniform3fv(at.eye, eye);
+    gl.uniform4fv(at.paint, paint);
+    gl.drawArrays(kind, 0, points.length);
+    gl.bindVertexArray(this.empty);
+  }
+
+  // Waits until all is drawn, for measuring.
+  finish() {
+    this.gl.readPixels(0, 0, 1, 1, this.gl.RGBA, this.gl.UNSIGNED_BYTE, new Uint8Array(4));
+  }
+}
+
+// The arrays of one frame as textures.
+class Mesh {
+  constructor(gl) {
+    this.gl = gl;
+    this.faceCount = 0;
+    this.glides = false;
+    this.textures = {
+      places: new Texture(gl, gl.RGBA16I, gl.RGBA_INTEGER, gl.SHORT),
+      normals: new Texture(gl, gl.RGBA16I, gl.RGBA_INTEGER, gl.SHORT),
+      corners: new Texture(gl, gl.RGBA32UI, gl.RGBA_INTEGER, gl.UNSIGNED_INT),
+      colours: new Texture(gl, gl.RGBA8, gl.RGBA, gl.UNSIGNED_BYTE),
+      starts: new Texture(gl, gl.RGBA32F, gl.RGBA, gl.FLOAT),
+    };
+  }
+
+  show({ nodeCount, faceCount, arrays }) {
+    for (const [name, array] of Object.entries(arrays)) {
+      this.textures[name].put(array, rows(name === "corners" ? faceCount : nodeCount));
+    }
+    this.faceCount = faceCount;
+    this.glides = arrays.starts !== undefined;
+  }
+
+  bind(at) {
+    Object.entries(this.textures).forEach(([name, { texture }], place) => {
+      this.gl.activeTexture(this.gl.TEXTURE0 + place);
+      this.gl.bindTexture(this.gl.TEXTURE_2D, texture);
+      this.gl.uniform1i(at[name], place);
+    });
+  }
+}
+
+// A texture whose rows are replaced from the first on, and which grows.
+class Texture {
+  constructor(gl, inside, format, type) {
+    Object.assign(this, { gl, inside, format, type, room: 0, texture: gl.createTexture() });
+    gl.bindTexture(gl.TEXTURE_2D, this.texture);
+    for (const name of [gl.TEXTURE_MIN_FILTER, gl.TEXTURE_MAG_FILTER]) gl.texParameteri(gl.TEXTURE_2D, name, gl.NEAREST);
+    for (const name of [gl.TEXTURE_WRAP_S, gl.TEXTURE_WRAP_T]) gl.texParameteri(gl.TEXTURE_2D, name, gl.CLAMP_TO_EDGE);
+    this.grow(1);
+  }
+
+  grow(room) {
+    const { gl } = this;
+    this.room = room;
+    gl.texImage2D(gl.TEXTURE_2D, 0, this.inside, WIDTH, room, 0, this.format, this.type, null);
+  }
+
+  put(data, count) {
+    const { gl } = this;
+    gl.bindTexture(gl.TEXTURE_2D, this.texture);
+    if (count > this.room) this.grow(Math.max(count, 2 * this.room));
+    gl.texSubImage2D(gl.TEXTURE_2D, 0, 0, 0, WIDTH, count, this.format, this.type, data);
+  }
+}
+
+function linked(gl, vertexText, fragmentText) {
+  const program = gl.createProgram();
+  for (const [kind, text] of [[gl.VERTEX_SHADER, vertexText], [gl.FRAGMENT_SHADER, fragmentText]]) {
+    const shader = gl.createShader(kind);
+    gl.shaderSource(shader, text);
+    gl.compileShader(shader);
+    gl.attachShader(program, shader);
+    if (!gl.getShaderParameter(shader, gl.COMPILE_STATUS)) throw new NoGraphics(gl.getShaderInfoLog(shader));
+  }
+  gl.bindAttribLocation(program, 0, "place");
+  gl.linkProgram(program);
+  if (!gl.getProgramParameter(program, gl.LINK_STATUS)) throw new NoGraphics(gl.getProgramInfoLog(program));
+  const count = gl.getProgramParameter(program, gl.ACTIVE_UNIFORMS);
+  const names = [...Array(count).keys()].map((i) => gl.getActiveUniform(program, i).name);
+  return { program, at: Object.fromEntries(names.map((name) => [name, gl.getUniformLocation(program, name)])) };
+}

@@ -1,0 +1,52 @@
+// Asks the program for the view of the camera, as often as answers come and never more: one script
+// is on its way while the replies to the one before are read.
+import { viewLine } from "./camera.js";
+
+const REST = 160;    // milliseconds without a move until the camera counts as at rest
+const MARGIN = 1.15; // of the picture's width and height that is refined while the camera moves
+
+export class Views {
+  // `framed` is called with each answer, and `failed` with what went wrong.
+  constructor(work, ahead, { framed, failed }) {
+    Object.assign(this, { work, ahead, framed, failed });
+    Object.assign(this, { sent: 0, asked: null, left: 0, movedAt: -Infinity });
+  }
+
+  get isIdle() { return this.sent === 0; }
+
+  moved() { this.movedAt = performance.now(); }
+
+  isAtRest(now) { return now - this.movedAt > REST; }
+
+  // The program was started anew, and knows of nothing that was asked before.
+  forget() {
+    this.asked = null;
+    this.left = 0;
+  }
+
+  // The line of a view. While the camera moves, what is just outside the picture is refined too,
+  // since it will be inside when it is drawn.
+  line(camera, picture, set, now) {
+    const rests = this.isAtRest(now), draft = rests ? 1 : set.draft;
+    return viewLine(camera, picture, set.tolerance * draft, set.outline * draft, rests ? 1 : MARGIN);
+  }
+
+  // Asks if the view is another than the last one, or if that one's budget was spent before its end.
+  async ask(camera, picture, set, now) {
+    if (this.sent >= this.ahead) return;
+    const line = this.line(camera, picture, set, now);
+    if (line === this.asked && (this.left === 0 || this.sent > 0)) return;
+    this.asked = line;
+    this.sent++;
+    try {
+      const answer = await this.work.ask({ task: "ask", script: `${line}\nw\n`, glides: set.glide });
+      const [word, moves, left] = answer.replies[0];
+      this.left = word === "spent" ? Number(left) : 0;
+      this.framed({ ...answer, moves: Number(moves) });
+    } catch (fault) {
+      this.failed(fault);
+    } finally {
+      this.sent--;
+    }
+  }
+}

@@ -1,0 +1,212 @@
+"""The child `vdpm view BUDGET` over pipes: scripts go in, the texts of replies come out.
+
+The program reads the stream, then does each script line as soon as its LF has come, and writes one reply for it.
+So whoever writes some lines knows how many replies come, and where the last one ends.
+"""
+import os
+import re
+import subprocess
+import tempfile
+import threading
+import time
+from pathlib import Path
+from typing import IO, List, NamedTuple, Optional, Sequence
+
+from . import manual
+
+try:
+    import fcntl
+except ImportError:  # not on every system; pipes keep their size there
+    fcntl = None  # type: ignore[assignment]
+
+ALL_MOVES = (1 << 32) - 1
+UNPROVED = "vdpm: not proved on this machine"
+PIPE_BYTES = 1 << 20
+PIECE = 1 << 20
+LINES_AT_ONCE = 64
+
+_COUNT = r"(?:0|[1-9][0-9]{0,12})"
+_SIGNED = rf"(?:{_COUNT}|-[1-9][0-9]{{0,12}})"
+_PLANES = rf"(?:(?: {_SIGNED}){{4}}){{0,6}}"
+# The lines that a page may send: those that look and change nothing else (docs/FORMATS.md). The program judges the
+# numbers themselves; a wrong one ends it with fault 30, and the page says so.
+_LINE = re.compile(rf"v(?: {_SIGNED}){{5}}{_PLANES}|vs(?: {_SIGNED}){{6}}{_PLANES}|p(?: {_SIGNED}){{6}}|[wm]")
+
+
+class ProgramEnded(Exception):
+    """The program has ended or couldn't be started: why, in its own words where it had any, and what to do."""
+
+    def __init__(self, reason: str, cure: str = "") -> None:
+        super().__init__(f"{reason}: {cure}" if cure else reason)
+        self.reason, self.cure = reason, cure
+
+
+class BadScript(Exception):
+    """A script that isn't sent on; the text names the line."""
+
+
+class Answer(NamedTuple):
+    """The replies to a script, and where the time went, in milliseconds."""
+
+    text: bytes
+    first: float  # until the first reply began: of a view mostly its moves
+    rest: float  # until all was read: mostly the text of a frame
+
+
+def script_lines(text: str) -> List[str]:
+    """The lines of a script that may be sent on."""
+    lines = text.split("\n")
+    if lines.pop() != "" or not lines:
+        raise BadScript("a script has lines, each ended by LF")
+    if len(lines) > LINES_AT_ONCE:
+        raise BadScript(f"more than {LINES_AT_ONCE} lines at once")
+    for number, line in enumerate(lines, 1):
+        if _LINE.fullmatch(line) is None:
+            raise BadScript(f"line {number} is none that a page may send: {line[:60]}")
+    return lines
+
+
+def said_last(text: bytes) -> str:
+    """The last line of standard error, but for the notice that the program isn't proved."""
+    lines = text.decode("utf-8", "replace").strip().splitlines()
+    return next((line for line in reversed(lines) if not line.startswith(UNPROVED)), "")
+
+
+def end_of(said: str, status: int, heading: str) -> ProgramEnded:
+    """How a program ended, by its last line and its status."""
+    if said:
+        return ProgramEnded(f"the program ended with status {status}: {said}", manual.cure_of(said, heading, status))
+    if status < 0:
+        return ProgramEnded(f"the program was ended by signal {-status}")
+    return ProgramEnded(f"the program ended with status {status} and said nothing")
+
+
+def replies_to(path: Path, stream: bytes, script: bytes, budget: int = ALL_MOVES) -> bytes:
+    """All replies to a whole script, by a program of its own."""
+    try:
+        done = subprocess.run(
+            [str(path), "view", str(budget)], input=stream + script, capture_output=True, check=False
+        )
+    except OSError as fault:
+        raise ProgramEnded(f"{path} can't be started: {fault.strerror}") from fault
+    if done.returncode != 0:
+        raise end_of(said_last(done.stderr), done.returncode, manual.SCRIPT)
+    return done.stdout
+
+
+class _Awaited:
+    """Finds the ends of replies in bytes that come piece by piece. Each reply is a line, but for a frame, which
+    goes on to its line `end`."""
+
+    def __init__(self, lines: Sequence[str]) -> None:
+        self.marks = [b"\nend\n" if line == "w" else b"\n" for line in lines]
+        self.done = 0
+        self.searched = 0
+
+    def all_in(self, text: bytearray) -> bool:
+        while self.done < len(self.marks):
+            mark = self.marks[self.done]
+            found = text.find(mark, self.searched)
+            if found < 0:
+                # The next piece may bring the rest of a mark that has begun.
+                self.searched = max(self.searched, len(text) - len(mark) + 1)
+                return False
+            self.done += 1
+            self.searched = found + len(mark)
+        return True
+
+
+class Program:
+    """One running `vdpm view`. Its calls may come from several threads; they are done one by one."""
+
+    def __init__(self, path: Path, stream: bytes, budget: int) -> None:
+        self._lock = threading.Lock()
+        self._closed = False
+        self._said: IO[bytes] = tempfile.TemporaryFile()
+        try:
+            self._child = subprocess.Popen(
+                [str(path), "view", str(budget)],
+                stdin=subprocess.PIPE, stdout=subprocess.PIPE, stderr=self._said, bufsize=0,
+            )
+        except OSError as fault:
+            self._said.close()
+            raise ProgramEnded(f"{path} can't be started: {fault.strerror}") from fault
+        assert self._child.stdin is not None and self._child.stdout is not None
+        self._in, self._out = self._child.stdin.fileno(), self._child.stdout.fileno()
+        _widen(self._in)
+        _widen(self._out)
+        begun = time.perf_counter()
+        try:
+            # The stream has no reply of its own: that to `m` shows that it was taken.
+            self._asked(stream + b"m\n", ["m"])
+        except ProgramEnded:
+            self.close()
+            raise
+        self.opening = 1000 * (time.perf_counter() - begun)
+
+    @property
+    def number(self) -> int:
+        """The child's number at the system."""
+        return self._child.pid
+
+    def ask(self, text: str) -> Answer:
+        """The replies to the lines of a script."""
+        lines = script_lines(text)
+        with self._lock:
+            if self._closed:
+                raise ProgramEnded("the program was started anew")
+            return self._asked(text.encode("ascii"), lines)
+
+    def _asked(self, text: bytes, lines: Sequence[str]) -> Answer:
+        awaited, got = _Awaited(lines), bytearray()
+        begun = first = time.perf_counter()
+        try:
+            _write(self._in, text)
+        except OSError:
+            raise self._ended() from None
+        while not awaited.all_in(got):
+            piece = os.read(self._out, PIECE)
+            if not piece:
+                raise self._ended()
+            if not got:
+                first = time.perf_counter()
+            got += piece
+        end = time.perf_counter()
+        return Answer(bytes(got), 1000 * (first - begun), 1000 * (end - first))
+
+    def _ended(self) -> ProgramEnded:
+        status = self._child.wait()
+        self._said.seek(0)
+        return end_of(said_last(self._said.read()), status, manual.SCRIPT)
+
+    def close(self) -> None:
+        """Ends the program: it reads the end of its input, and has no more to do."""
+        with self._lock:
+            if self._closed:
+                return
+            self._closed = True
+            assert self._child.stdin is not None and self._child.stdout is not None
+            self._child.stdin.close()
+            self._child.stdout.close()
+            try:
+                self._child.wait(timeout=5)
+            except subprocess.TimeoutExpired:
+                self._child.kill()
+                self._child.wait()
+            self._said.close()
+
+
+def _widen(end: int) -> None:
+    """Lets a pipe hold a whole frame, where the system allows it, so that the program needn't wait."""
+    size: Optional[int] = getattr(fcntl, "F_SETPIPE_SZ", None)
+    if size is not None:
+        try:
+            fcntl.fcntl(end, size, PIPE_BYTES)
+        except OSError:
+            pass
+
+
+def _write(end: int, text: bytes) -> None:
+    rest = memoryview(text)
+    while rest:
+        rest = rest[os.write(end, rest):]

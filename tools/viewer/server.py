@@ -1,0 +1,208 @@
+"""The server of the window: one page, what it asks for, and the line over which its scripts come.
+
+It listens on 127.0.0.1 alone. A request whose Host isn't this address is refused, so that no foreign name that leads
+here gets an answer; so is a path that doesn't begin with the token, which only the printed address tells. A script or
+a start has to come from the page itself, which its Origin shows. No file is read from disk but those listed here.
+
+Scripts come by a WebSocket, a message each. The replies go back as bytes, after two numbers of 32 bits that tell the
+program's time, since the page reads them several times faster than Python could; what went wrong goes back as a text.
+"""
+import hmac
+import json
+import secrets
+import struct
+from http.server import BaseHTTPRequestHandler, ThreadingHTTPServer
+from pathlib import Path
+from typing import Callable, Dict, Optional, Tuple
+
+from .program import ALL_MOVES, BadScript, ProgramEnded
+from .session import Session
+from .websocket import WebSocket, accepted
+
+PAGE = Path(__file__).resolve().parent / "page"
+_KINDS = {"html": "text/html", "css": "text/css", "js": "text/javascript"}
+FILES = (
+    "index.html", "style.css", "camera.js", "connection.js", "controls.js", "faults.js", "frames.js", "hierarchy.js",
+    "keeping.js", "layout.js", "main.js", "matrices.js", "panel.js", "renderer.js", "replies.js", "shaders.js",
+    "views.js", "work.js", "worker.js",
+)
+LONGEST_BODY = 1 << 10
+BYTES = "application/octet-stream"
+JSON = "application/json"
+TEXT = "text/plain; charset=utf-8"
+SAFETY = {
+    "Cache-Control": "no-store",
+    "Cross-Origin-Resource-Policy": "same-origin",
+    "Referrer-Policy": "no-referrer",
+    "X-Content-Type-Options": "nosniff",
+}
+
+
+def is_budget(text: str) -> bool:
+    return text.isascii() and text.isdigit() and int(text) <= ALL_MOVES
+
+
+class Server(ThreadingHTTPServer):
+    daemon_threads = True
+
+    def __init__(self, session: Session, port: int = 0) -> None:
+        super().__init__(("127.0.0.1", port), Handler)
+        self.session = session
+        self.token = secrets.token_urlsafe(16)
+        self.hosts = {f"{name}:{self.server_port}" for name in ("127.0.0.1", "localhost")}
+
+    @property
+    def policy(self) -> str:
+        """What the page may load: nothing but what is here."""
+        lines = " ".join(f"ws://{host}" for host in sorted(self.hosts))
+        return (
+            f"default-src 'self'; connect-src 'self' {lines}; img-src 'self' blob: data:; "
+            "base-uri 'none'; form-action 'none'; frame-ancestors 'none'"
+        )
+
+    @property
+    def address(self) -> str:
+        return f"http://127.0.0.1:{self.server_port}/{self.token}/"
+
+
+class Handler(BaseHTTPRequestHandler):
+    server: Server
+    protocol_version = "HTTP/1.1"
+    server_version, sys_version = "viewer", ""
+    disable_nagle_algorithm = True
+    wbufsize = 1 << 16
+
+    def do_GET(self) -> None:
+        path = self._path()
+        if path is None:
+            return
+        if path == "talk":
+            self._talk()
+            return
+        name = path or "index.html"
+        if name in FILES:
+            kind = f"{_KINDS[name.rpartition('.')[2]]}; charset=utf-8"
+            self._send(200, kind, (PAGE / name).read_bytes())
+            return
+        found = self._contents().get(path)
+        if found is None:
+            self._refuse(404, "there is no such page")
+            return
+        try:
+            kind, content = found
+            self._send(200, kind, content())
+        except ProgramEnded as fault:
+            self._refuse(502, str(fault))
+
+    def _contents(self) -> Dict[str, Tuple[str, Callable[[], bytes]]]:
+        """What the page asks for beside its files."""
+        session = self.server.session
+        return {
+            "about": (JSON, lambda: json.dumps(session.about()).encode()),
+            "stream": (BYTES, lambda: session.model.stream),
+            "colours": (BYTES, lambda: session.model.colours or b""),
+            "input": (TEXT, session.input_frame),
+            "flight": (TEXT, lambda: session.flight().encode()),
+        }
+
+    def do_POST(self) -> None:
+        body = self._body()
+        if body is None:
+            return
+        path = self._path()
+        if path is None or not self._is_from_page():
+            return
+        if path != "start":
+            self._refuse(404, "there is no such page")
+        elif not is_budget(body):
+            self._refuse(400, f"a budget is a number from 0 to {ALL_MOVES}")
+        else:
+            self._start(int(body))
+
+    def _start(self, budget: int) -> None:
+        session = self.server.session
+        try:
+            session.start(budget)
+        except ProgramEnded as fault:
+            self._refuse(502, str(fault))
+            return
+        self._send(200, JSON, json.dumps(session.about()).encode())
+
+    def _talk(self) -> None:
+        """Answers scripts until the page is left."""
+        if not self._is_from_page():
+            return
+        key = self.headers.get("Sec-WebSocket-Key")
+        if key is None:
+            self._refuse(400, "this is for a WebSocket")
+            return
+        self.send_response(101)
+        upgrade = {"Upgrade": "websocket", "Connection": "Upgrade", "Sec-WebSocket-Accept": accepted(key)}
+        for name, value in upgrade.items():
+            self.send_header(name, value)
+        self.end_headers()
+        self.close_connection = True
+        line = WebSocket(self.rfile, self.wfile)
+        try:
+            self.wfile.flush()
+            script = line.receive()
+            while script is not None:
+                self._answer(line, script)
+                script = line.receive()
+        except (ConnectionError, struct.error):  # the page was left, and nobody waits for this
+            pass
+
+    def _answer(self, line: WebSocket, script: str) -> None:
+        try:
+            answer = self.server.session.ask(script)
+        except BadScript as fault:
+            line.send_text(json.dumps({"reason": str(fault), "cure": ""}))
+        except ProgramEnded as fault:
+            line.send_text(json.dumps({"reason": fault.reason, "cure": fault.cure}))
+        else:
+            line.send_bytes(struct.pack("<2f", answer.first, answer.rest), answer.text)
+
+    def _body(self) -> Optional[str]:
+        """The body; None where it was refused."""
+        length = self.headers.get("Content-Length", "")
+        if not length.isascii() or not length.isdigit() or int(length) > LONGEST_BODY:
+            self.close_connection = True
+            self._refuse(413, f"a body has its length told and at most {LONGEST_BODY} bytes")
+            return None
+        return self.rfile.read(int(length)).decode("latin-1")
+
+    def _path(self) -> Optional[str]:
+        """The path after the token; None where the request was refused."""
+        if self.headers.get("Host", "") not in self.server.hosts:
+            self._refuse(403, "this window answers to its own address alone")
+            return None
+        token, slash, path = self.path.split("?")[0][1:].partition("/")
+        if not slash or not hmac.compare_digest(token.encode(), self.server.token.encode()):
+            self._refuse(403, "the address has to be the whole one that ./viewer printed")
+            return None
+        return path
+
+    def _is_from_page(self) -> bool:
+        """Whether the request came from this page; it was refused where it didn't."""
+        if self.headers.get("Origin", "") in {f"http://{host}" for host in self.server.hosts}:
+            return True
+        self._refuse(403, "scripts are taken from the window's page alone")
+        return False
+
+    def _refuse(self, status: int, reason: str) -> None:
+        self._send(status, TEXT, reason.encode())
+
+    def _send(self, status: int, kind: str, body: bytes) -> None:
+        self.send_response(status)
+        told = {"Content-Type": kind, "Content-Length": str(len(body)), "Content-Security-Policy": self.server.policy}
+        for name, value in {**told, **SAFETY}.items():
+            self.send_header(name, value)
+        try:
+            self.end_headers()
+            self.wfile.write(body)
+            self.wfile.flush()
+        except ConnectionError:  # the page was left, and nobody waits for this
+            self.close_connection = True
+
+    def log_message(self, format: str, *words: object) -> None:
+        """Says nothing: a view is asked for many times a second."""
