@@ -1,5 +1,5 @@
-"""Drives a headless Chromium over its DevTools protocol, by the standard library alone: for the tests of the window
-and for measurements of it.
+"""Drives a headless Chromium over its DevTools protocol, by the standard library alone: for the
+tests of the window and for measurements of it.
 
     page = Browser()
     page.go("http://127.0.0.1:8000/")
@@ -21,12 +21,15 @@ from urllib.parse import urlparse
 from urllib.request import urlopen
 
 NAMES = ("chromium-headless-shell", "chromium", "chromium-browser", "google-chrome")
-# Drawing is done by software, so that no graphics processor is needed. The browser sees pages of this machine alone,
+# Drawing is done by software, so that no graphics processor is needed. The browser sees pages of
+# this machine alone,
 # so it may run as root, as it does in a container.
 FLAGS = (
-    "--headless", "--use-gl=angle", "--use-angle=swiftshader", "--enable-unsafe-swiftshader", "--hide-scrollbars",
-    "--no-first-run", "--disable-background-networking", "--disable-dev-shm-usage", "--no-sandbox",
+    "--headless", "--use-gl=angle", "--use-angle=swiftshader", "--enable-unsafe-swiftshader",
+    "--hide-scrollbars", "--no-first-run", "--disable-background-networking",
+    "--disable-dev-shm-usage", "--no-sandbox",
 )
+COMPLAINTS = ("Runtime.exceptionThrown", "Runtime.consoleAPICalled", "Log.entryAdded")
 # A machine that does much else is slow; nothing waits this long where all is well.
 PATIENCE = 60.0
 LOOK_AGAIN = 0.02
@@ -34,7 +37,7 @@ LOOK_AGAIN = 0.02
 
 def found() -> Optional[str]:
     """A Chromium of this machine."""
-    return next((path for path in map(shutil.which, NAMES) if path is not None), None)
+    return next((path for path in (shutil.which(name) for name in NAMES) if path), None)
 
 
 class Line:
@@ -46,8 +49,12 @@ class Line:
         self.end = socket.create_connection((at.hostname, at.port or 80), timeout=PATIENCE)
         key = base64.b64encode(os.urandom(16)).decode()
         head = [
-            f"GET {at.path} HTTP/1.1", f"Host: {at.netloc}", "Upgrade: websocket", "Connection: Upgrade",
-            f"Sec-WebSocket-Key: {key}", "Sec-WebSocket-Version: 13",
+            f"GET {at.path} HTTP/1.1",
+            f"Host: {at.netloc}",
+            "Upgrade: websocket",
+            "Connection: Upgrade",
+            f"Sec-WebSocket-Key: {key}",
+            "Sec-WebSocket-Version: 13",
         ]
         head += [f"Origin: {origin}"] if origin is not None else []
         self.end.sendall("\r\n".join([*head, "", ""]).encode())
@@ -103,8 +110,8 @@ class Browser:
             raise RuntimeError("no Chromium was found")
         self.folder = Path(tempfile.mkdtemp(prefix="viewer-browser-"))
         words = [path, *FLAGS, f"--user-data-dir={self.folder}", f"--window-size={width},{height}"]
-        quiet = {"stdout": subprocess.DEVNULL, "stderr": subprocess.DEVNULL}
-        self.child = subprocess.Popen([*words, "--remote-debugging-port=0", "about:blank"], **quiet)
+        words += ["--remote-debugging-port=0", "about:blank"]
+        self.child = subprocess.Popen(words, stdout=subprocess.DEVNULL, stderr=subprocess.DEVNULL)
         self.number = 0
         self.told: List[Dict[str, Any]] = []
         self.line = Line(self._page())
@@ -123,7 +130,8 @@ class Browser:
             time.sleep(LOOK_AGAIN)
         port = told.read_text().split("\n")[0]
         with urlopen(f"http://127.0.0.1:{port}/json/list", timeout=PATIENCE) as answer:
-            return str(next(page["webSocketDebuggerUrl"] for page in json.load(answer) if page["type"] == "page"))
+            pages = [page for page in json.load(answer) if page["type"] == "page"]
+        return str(pages[0]["webSocketDebuggerUrl"])
 
     def call(self, method: str, **words: Any) -> Dict[str, Any]:
         """The result of a command of the protocol."""
@@ -136,7 +144,7 @@ class Browser:
                     raise RuntimeError(f"{method}: {message['error']}")
                 result: Dict[str, Any] = message["result"]
                 return result
-            if message.get("method") in ("Runtime.exceptionThrown", "Runtime.consoleAPICalled", "Log.entryAdded"):
+            if message.get("method") in COMPLAINTS:
                 self.told.append(message)
 
     def run(self, text: str) -> Any:
@@ -150,7 +158,8 @@ class Browser:
         self.call("Page.navigate", url=address)
 
     def resize(self, width: int, height: int) -> None:
-        self.call("Emulation.setDeviceMetricsOverride", width=width, height=height, deviceScaleFactor=1, mobile=False)
+        size = {"width": width, "height": height}
+        self.call("Emulation.setDeviceMetricsOverride", **size, deviceScaleFactor=1, mobile=False)
 
     def until(self, text: str, seconds: float = PATIENCE) -> None:
         """Waits until an expression is true."""
@@ -167,7 +176,8 @@ class Browser:
         return [json.dumps(message["params"])[:600] for message in wrong]
 
     def picture(self, path: Path) -> None:
-        path.write_bytes(base64.b64decode(self.call("Page.captureScreenshot", format="png")["data"]))
+        shot = self.call("Page.captureScreenshot", format="png")
+        path.write_bytes(base64.b64decode(shot["data"]))
 
     def downloaded(self, name: str) -> bytes:
         """A file that the page gave to the browser, which is then removed."""
@@ -183,7 +193,8 @@ class Browser:
 
     def scheme(self, name: str) -> None:
         """The screen is `dark` or `light`."""
-        self.call("Emulation.setEmulatedMedia", features=[{"name": "prefers-color-scheme", "value": name}])
+        feature = {"name": "prefers-color-scheme", "value": name}
+        self.call("Emulation.setEmulatedMedia", features=[feature])
 
     # Hands.
 

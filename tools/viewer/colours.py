@@ -1,8 +1,8 @@
-"""The colours of an OBJ file's vertices: lines `v X Y Z R G B`, with parts from 0 to 1 as MeshLab writes them, or
-from 0 to 255. The programs read past them, so they are looked up here.
+"""The colours of an OBJ file's vertices: lines `v X Y Z R G B`, with parts from 0 to 1 as MeshLab
+writes them, or from 0 to 255. The programs read past them, so they are looked up here.
 
-Where the file went through `prepare`, its vertices are joined, scaled and numbered anew; there a vertex has the mean
-of those of the file that were scaled to its place.
+Where the file went through `prepare`, its vertices are joined, scaled and numbered anew; there a
+vertex has the mean of those of the file that were scaled to its place.
 """
 from typing import Dict, List, NamedTuple, Optional, Tuple
 
@@ -56,12 +56,14 @@ def packed(vertices: List[Vertex]) -> bytes:
     scale = _scale(vertices)
     parts = bytearray()
     for vertex in vertices:
-        parts += bytes(_byte(scale * part) for part in vertex.colour) if vertex.colour else bytes(PLAIN)
+        colour = [scale * part for part in vertex.colour] if vertex.colour else PLAIN
+        parts += bytes(_byte(part) for part in colour)
     return bytes(parts)
 
 
 def packed_by_place(vertices: List[Vertex], mesh: bytes, unit: float, middle: Point) -> bytes:
-    """Three bytes for each vertex of a prepared mesh, of which a coordinate is `unit` times the place plus `middle`."""
+    """Three bytes for each vertex of a prepared mesh, of which a coordinate is `unit` times the
+    place plus `middle`."""
     scale = _scale(vertices)
     sums: Dict[Tuple[int, ...], List[float]] = {}
     for place, colour in vertices:
@@ -80,8 +82,8 @@ def packed_by_place(vertices: List[Vertex], mesh: bytes, unit: float, middle: Po
 
 
 def _nearby(sums: Dict[Tuple[int, ...], List[float]], at: Tuple[int, ...]) -> Optional[List[float]]:
-    """What was summed up at a place, or beside it: a coordinate in the middle of two places may be rounded to either,
-    since numbers here have fewer digits than those of `prepare`."""
+    """What was summed up at a place, or beside it: a coordinate in the middle of two places may be
+    rounded to either, since numbers here have fewer digits than those of `prepare`."""
     steps = (0, 1, -1)
     around = ((at[0] + i, at[1] + j, at[2] + k) for i in steps for j in steps for k in steps)
     return next((sums[place] for place in around if place in sums), None)

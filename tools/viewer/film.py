@@ -1,15 +1,18 @@
 """A page that needs no server: the frames of a flight in compact form, with what plays them.
 
-The frames are written as what changes from one to the next. Numbers take one byte for each seven bits, those that may
-be negative after their sign is put at the end; all is packed by zlib and written in base64:
+The frames are written as what changes from one to the next. Numbers take one byte for each seven
+bits, those that may be negative after their sign is put at the end; all is packed by zlib and
+written in base64:
 
-    the length of the head, and the head as JSON: name, digits, how many faces the input has, whether there are
-        colours, the greatest depth, and for each frame its view and the step of its geomorph
-    how many points; for each, what x, y and z are more than the last point's, its depth, and its colour if there are
-        colours. A point is a node at a place: in geomorphs a node has a place for each step
-    for each frame: how many nodes it has; how many faces went, and each as what it is more than the last; how many
-        came or have other corners now, and for each what it is more than the last, and then what its first corner is
-        more than the last face's, and its second and third more than the first
+    the length of the head, and the head as JSON: name, how many faces the input has, whether there
+        are colours, the greatest depth, and for each frame its view and the step of its geomorph
+    how many points; for each, what x, y and z are more than the last point's, its depth, and its
+        colour if there are colours. A point is a node at a place: in geomorphs a node has a place
+        for each step
+    for each frame: how many nodes it has; how many faces went, and each as what it is more than
+        the last; how many came or have other corners now, and for each what it is more than the
+        last, and then what its first corner is more than the last face's, and its second and third
+        more than the first
 """
 import base64
 import json
@@ -58,8 +61,8 @@ class Numbers:
 
 def shots(script: str, replies: str) -> Iterator[Shot]:
     """The frames of the replies to a script, each with its view."""
-    texts = (line for line in replies.splitlines())
-    heads = [line for line in replies.splitlines() if line.startswith(("frame ", "morph ", "not finer "))]
+    words = ("frame ", "morph ", "not finer ")
+    heads = [line for line in replies.splitlines() if line.startswith(words)]
     asked: List[str] = []
     view = ""
     for line in script.splitlines():
@@ -70,19 +73,18 @@ def shots(script: str, replies: str) -> Iterator[Shot]:
         if line == "w" or line.startswith("g "):
             asked.append(view)
     views = [view for view, head in zip(asked, heads) if not head.startswith("not finer ")]
-    for frame, view in zip(read_frames(texts), views):
+    for frame, view in zip(read_frames(replies.splitlines()), views):
         yield Shot(frame, view)
 
 
-def flat_points(taken: List[Shot]) -> List[Point]:
-    """All points of all frames, by their nodes."""
-    found = {
-        (node, *place) for shot in taken for node, place in zip(shot.frame.nodes, shot.frame.points)
-    }
-    return sorted(found)
+def points_in(frame: Frame) -> List[Point]:
+    """The points of a frame in its order."""
+    return [(node, x, y, z) for node, (x, y, z) in zip(frame.nodes, frame.points)]
 
 
-def put_points(numbers: Numbers, points: List[Point], depths: bytes, colours: Optional[List[Colour]]) -> None:
+def put_points(
+    numbers: Numbers, points: List[Point], depths: bytes, colours: Optional[List[Colour]]
+) -> None:
     numbers.put(len(points))
     last = (0, 0, 0)
     for node, *place in points:
@@ -94,7 +96,9 @@ def put_points(numbers: Numbers, points: List[Point], depths: bytes, colours: Op
         last = (place[0], place[1], place[2])
 
 
-def put_frame(numbers: Numbers, nodes: int, before: Dict[int, Corners], now: Dict[int, Corners]) -> None:
+def put_frame(
+    numbers: Numbers, nodes: int, before: Dict[int, Corners], now: Dict[int, Corners]
+) -> None:
     """What changes from the faces of before to those of now."""
     numbers.put(nodes)
     gone = sorted(face for face in before if face not in now)
@@ -116,17 +120,21 @@ def put_frame(numbers: Numbers, nodes: int, before: Dict[int, Corners], now: Dic
 
 def faces_of(frame: Frame, slots: Dict[Point, int]) -> Dict[int, Corners]:
     """The faces of a frame with their corners as numbers of points."""
-    own = [slots[(node, *place)] for node, place in zip(frame.nodes, frame.points)]
+    own = [slots[point] for point in points_in(frame)]
     return {face: (own[a], own[b], own[c]) for face, (a, b, c) in zip(frame.numbers, frame.faces)}
 
 
 def packed(model: Model, taken: List[Shot]) -> bytes:
     nodes = nodes_of(model.stream)
     colours = mean_colours(nodes, model.colours)
-    points = flat_points(taken)
+    points = sorted({point for shot in taken for point in points_in(shot.frame)})
     head = {
-        "name": model.name, "faces": model.faces, "coloured": colours is not None, "deepest": max(1, *nodes.depths),
-        "views": [shot.view for shot in taken], "steps": [shot.frame.step for shot in taken],
+        "name": model.name,
+        "faces": model.faces,
+        "coloured": colours is not None,
+        "deepest": max(1, *nodes.depths),
+        "views": [shot.view for shot in taken],
+        "steps": [shot.frame.step for shot in taken],
     }
     numbers = Numbers()
     text = json.dumps(head).encode("ascii")

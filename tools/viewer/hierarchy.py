@@ -1,5 +1,5 @@
-"""Reads of a stream text (docs/FORMATS.md) what a film tells of its nodes: how deep each lies, and the mean colour of
-the vertices that it stands for. `vdpm check` has judged the bytes before."""
+"""Reads of a stream text (docs/FORMATS.md) what a film tells of its nodes: how deep each lies, and
+the mean colour of the vertices that it stands for. `vdpm check` has judged the bytes before."""
 import struct
 from array import array
 from typing import List, NamedTuple, Optional, Tuple
@@ -13,8 +13,8 @@ Colour = Tuple[int, int, int]
 
 
 class Nodes(NamedTuple):
-    """All nodes of a hierarchy: the parent of each, its depth, and the vertex of the input that it is, from 1; 0
-    where it stands for several."""
+    """All nodes of a hierarchy: the parent of each, its depth, and the vertex of the input that it
+    is, from 1; 0 where it stands for several."""
 
     parents: "array[int]"
     depths: "array[int]"
@@ -43,7 +43,8 @@ def nodes_of(stream: bytes) -> Nodes:
 
 
 def mean_colours(nodes: Nodes, colours: Optional[bytes]) -> Optional[List[Colour]]:
-    """The mean colour of the vertices that each node stands for. Children have greater numbers than parents."""
+    """The mean colour of the vertices that each node stands for. Children have greater numbers than
+    parents."""
     if colours is None:
         return None
     sums = [[0, 0, 0, 0] for _ in nodes.parents]

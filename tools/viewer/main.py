@@ -3,9 +3,10 @@
     ./viewer MODEL [--open] [--budget N] [--program PATH] [--port P]
     ./viewer --film FLIGHT MODEL [--budget N] [--program PATH] > film.html
 
-MODEL is a stream of `vdpm build`, or an OBJ file, which is built first and taken through `prepare` where it isn't
-fit. The page's address is printed, and --open opens it; Ctrl-C ends all. With --film the script FLIGHT is played, and
-its frames are written as one page that needs no server. Needs Python 3.8 and a browser with WebGL 2, and no network.
+MODEL is a stream of `vdpm build`, or an OBJ file, which is built first and taken through `prepare`
+where it isn't fit. The page's address is printed, and --open opens it; Ctrl-C ends all. With --film
+the script FLIGHT is played, and its frames are written as one page that needs no server. Needs
+Python 3.8 and a browser with WebGL 2, and no network.
 
 Ends with status 1 where the model can't be had, or the program can't be started or ends early.
 """
@@ -35,14 +36,16 @@ def budget_of(text: str) -> int:
 
 def arguments(words: Optional[List[str]] = None) -> argparse.Namespace:
     parser = argparse.ArgumentParser(
-        prog="viewer", description="Shows a mesh in the browser, refined for where the camera looks."
+        prog="viewer",
+        description="Shows a mesh in the browser, refined for where the camera looks.",
     )
-    parser.add_argument("model", type=Path, help="a stream of `vdpm build`, or an OBJ file")
-    parser.add_argument("--open", action="store_true", help="open the page in the browser")
-    parser.add_argument("--budget", type=budget_of, default=ALL_MOVES, help="splits and collapses a view may make")
-    parser.add_argument("--program", type=Path, default=TOP / "vdpm", help="vdpm, if not this repository's")
-    parser.add_argument("--port", type=int, default=0, help="a free one is taken where none is given")
-    parser.add_argument("--film", type=Path, metavar="FLIGHT", help="write a page of the frames of this script")
+    add = parser.add_argument
+    add("model", type=Path, help="a stream of `vdpm build`, or an OBJ file")
+    add("--open", action="store_true", help="open the page in the browser")
+    add("--budget", type=budget_of, default=ALL_MOVES, help="splits and collapses a view may make")
+    add("--program", type=Path, default=TOP / "vdpm", help="vdpm, if not this repository's")
+    add("--port", type=int, default=0, help="a free one is taken where none is given")
+    add("--film", type=Path, metavar="FLIGHT", help="write a page that plays this script")
     return parser.parse_args(words)
 
 
@@ -97,7 +100,8 @@ def _stop(number: int, frame: Optional[FrameType]) -> None:
 
 
 def serve(server: Server, opened: bool) -> None:
-    """Serves until Ctrl-C, the end of the terminal or a request to end; then ends the program too."""
+    """Serves until Ctrl-C, the end of the terminal or a request to end; then ends the program
+    too."""
     for name in ("SIGHUP", "SIGTERM"):
         if hasattr(signal, name):
             signal.signal(getattr(signal, name), _stop)

@@ -1,8 +1,9 @@
 """From a file to a stream that is ready to be looked at.
 
-A file that begins with the bytes `VDPM` is a stream, and `vdpm check` judges it. Any other is taken for an OBJ text:
-`vdpm canon` judges it with the least number of decimals that it allows; where that refuses it, `prepare` makes it fit;
-then `vdpm build` makes the stream. Each step is told on standard error, with the seconds where it takes some.
+A file that begins with the bytes `VDPM` is a stream, and `vdpm check` judges it. Any other is taken
+for an OBJ text: `vdpm canon` judges it with the least number of decimals that it allows; where that
+refuses it, `prepare` makes it fit; then `vdpm build` makes the stream. Each step is told on
+standard error, with the seconds where it takes some.
 """
 import re
 import subprocess
@@ -10,7 +11,8 @@ import sys
 import threading
 import time
 from pathlib import Path
-from typing import List, NamedTuple, Optional, Sequence, Tuple
+from subprocess import PIPE
+from typing import IO, List, NamedTuple, Optional, Sequence, Set, Tuple
 
 from . import colours, manual
 from .program import UNPROVED, ProgramEnded, end_of
@@ -20,6 +22,7 @@ SECONDS_BETWEEN_NEWS = 5
 MOST_DIGITS = 4
 # A fault that another number of decimals may cure: a nonzero digit past the first D.
 TOO_MANY_DECIMALS = "fault 5 "
+_passed_on: Set[str] = set()  # notices, which each run of a program gives again
 _SCALED = re.compile(rb"# coordinate = (\S+) / (\d+) \* place \+ \((\S+) (\S+) (\S+)\)")
 Place = Tuple[float, float, float]
 
@@ -47,7 +50,7 @@ class Model(NamedTuple):
     proved: bool
     prepared: bool = False
     scale: Optional[Scale] = None
-    colours: Optional[bytes] = None  # of the vertices of the mesh that was built from, three bytes each
+    colours: Optional[bytes] = None  # of the built mesh's vertices, three bytes each
 
     @property
     def records(self) -> int:
@@ -72,52 +75,56 @@ def tell(text: str) -> None:
 
 
 def is_notice(line: str) -> bool:
-    """Whether a line of `./vdpm` or `./prepare` is about building the program, and not from the program."""
+    """Whether a line of `./vdpm` or `./prepare` is about building the program, and not from the
+    program."""
     return " fault " not in line and (line.startswith(UNPROVED) or "building" in line)
 
 
 def run(path: Path, words: Sequence[str], text: bytes, doing: str) -> Done:
-    """Runs a program to its end, and tells meanwhile how long it has been doing what it does. Its notices are passed
-    on as they come: a program that isn't built yet may take long."""
+    """Runs a program to its end, and tells meanwhile how long it has been doing what it does. Its
+    notices are passed on as they come: a program that isn't built yet may take long."""
     try:
-        child = subprocess.Popen(
-            [str(path), *words], stdin=subprocess.PIPE, stdout=subprocess.PIPE, stderr=subprocess.PIPE
-        )
+        child = subprocess.Popen([str(path), *words], stdin=PIPE, stdout=PIPE, stderr=PIPE)
     except OSError as fault:
         raise ProgramEnded(f"{path} can't be started: {fault.strerror}") from fault
     said: List[str] = []
     out: List[bytes] = []
     assert child.stdin is not None and child.stdout is not None and child.stderr is not None
-    readers = [
+    hands = [
         threading.Thread(target=_listen, args=(child.stderr, said), daemon=True),
-        threading.Thread(target=lambda: out.append(child.stdout.read()), daemon=True),  # type: ignore[union-attr]
+        threading.Thread(target=_collect, args=(child.stdout, out), daemon=True),
         threading.Thread(target=_feed, args=(child.stdin, text), daemon=True),
     ]
-    for reader in readers:
-        reader.start()
+    for hand in hands:
+        hand.start()
     status = _wait(child, doing)
-    for reader in readers:
-        reader.join()
-    child.stdout.close()
-    child.stderr.close()
+    for hand in hands:
+        hand.join()
     proved = not any(line.startswith(UNPROVED) for line in said)
     return Done(status, b"".join(out), [line for line in said if not is_notice(line)], proved)
 
 
-def _feed(end, text: bytes) -> None:  # type: ignore[no-untyped-def]
+def _feed(end: IO[bytes], text: bytes) -> None:
     try:
-        end.write(text)
-        end.close()
+        with end:
+            end.write(text)
     except BrokenPipeError:  # it ended before it had read all, and says why
         pass
 
 
-def _listen(end, said: List[str]) -> None:  # type: ignore[no-untyped-def]
-    for line in end:
-        text = line.decode("utf-8", "replace").rstrip("\n")
-        said.append(text)
-        if is_notice(text):
-            print(text, file=sys.stderr, flush=True)
+def _collect(end: IO[bytes], out: List[bytes]) -> None:
+    with end:
+        out.append(end.read())
+
+
+def _listen(end: IO[bytes], said: List[str]) -> None:
+    with end:
+        for line in end:
+            text = line.decode("utf-8", "replace").rstrip("\n")
+            said.append(text)
+            if is_notice(text) and text not in _passed_on:
+                _passed_on.add(text)
+                print(text, file=sys.stderr, flush=True)
 
 
 def _wait(child: "subprocess.Popen[bytes]", doing: str) -> int:
@@ -142,7 +149,8 @@ def needed(done: Done, heading: str) -> Done:
 
 
 def model_of(path: Path, programs: Programs) -> Model:
-    """The model of a file; ProgramEnded where it can't be had, and OSError where it can't be read."""
+    """The model of a file; ProgramEnded where it can't be had, and OSError where it can't be
+    read."""
     text = path.read_bytes()
     if text.startswith(MAGIC):
         checked = needed(run(programs.vdpm, ["check"], text, "checking"), manual.STREAM)
@@ -163,7 +171,8 @@ def _built(name: str, text: bytes, programs: Programs) -> Model:
     tell(f"built in {time.monotonic() - begun:.1f} s")
     counts = checked.out.decode("ascii").strip()
     scale = scale_of(mesh) if prepared else None
-    return Model(name, stream, counts, checked.proved, prepared, scale, _colours(text, mesh, prepared, scale))
+    found = _colours(text, mesh, prepared, scale)
+    return Model(name, stream, counts, checked.proved, prepared, scale, found)
 
 
 def _fitting(text: bytes, programs: Programs) -> Tuple[bytes, int, bool]:
@@ -185,7 +194,8 @@ def _fitting(text: bytes, programs: Programs) -> Tuple[bytes, int, bool]:
 
 
 def scale_of(mesh: bytes) -> Optional[Scale]:
-    """How a prepared mesh leads back, by its first line; None where its coordinates are the file's own."""
+    """How a prepared mesh leads back, by its first line; None where its coordinates are the file's
+    own."""
     found = _SCALED.match(mesh)
     if found is None:
         return None

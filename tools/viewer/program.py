@@ -1,7 +1,7 @@
 """The child `vdpm view BUDGET` over pipes: scripts go in, the texts of replies come out.
 
-The program reads the stream, then does each script line as soon as its LF has come, and writes one reply for it.
-So whoever writes some lines knows how many replies come, and where the last one ends.
+The program reads the stream, then does each script line as soon as its LF has come, and writes one
+reply for it. So whoever writes some lines knows how many replies come, and where the last one ends.
 """
 import os
 import re
@@ -28,13 +28,17 @@ LINES_AT_ONCE = 64
 _COUNT = r"(?:0|[1-9][0-9]{0,12})"
 _SIGNED = rf"(?:{_COUNT}|-[1-9][0-9]{{0,12}})"
 _PLANES = rf"(?:(?: {_SIGNED}){{4}}){{0,6}}"
-# The lines that a page may send: those that look and change nothing else (docs/FORMATS.md). The program judges the
+# The lines that a page may send: those that look and change nothing else (docs/FORMATS.md). The
+# program judges the
 # numbers themselves; a wrong one ends it with fault 30, and the page says so.
-_LINE = re.compile(rf"v(?: {_SIGNED}){{5}}{_PLANES}|vs(?: {_SIGNED}){{6}}{_PLANES}|p(?: {_SIGNED}){{6}}|[wm]")
+_LINE = re.compile(
+    rf"v(?: {_SIGNED}){{5}}{_PLANES}|vs(?: {_SIGNED}){{6}}{_PLANES}|p(?: {_SIGNED}){{6}}|[wm]"
+)
 
 
 class ProgramEnded(Exception):
-    """The program has ended or couldn't be started: why, in its own words where it had any, and what to do."""
+    """The program has ended or couldn't be started: why, in its own words where it had any, and
+    what to do."""
 
     def __init__(self, reason: str, cure: str = "") -> None:
         super().__init__(f"{reason}: {cure}" if cure else reason)
@@ -75,7 +79,8 @@ def said_last(text: bytes) -> str:
 def end_of(said: str, status: int, heading: str) -> ProgramEnded:
     """How a program ended, by its last line and its status."""
     if said:
-        return ProgramEnded(f"the program ended with status {status}: {said}", manual.cure_of(said, heading, status))
+        cure = manual.cure_of(said, heading, status)
+        return ProgramEnded(f"the program ended with status {status}: {said}", cure)
     if status < 0:
         return ProgramEnded(f"the program was ended by signal {-status}")
     return ProgramEnded(f"the program ended with status {status} and said nothing")
@@ -84,9 +89,8 @@ def end_of(said: str, status: int, heading: str) -> ProgramEnded:
 def replies_to(path: Path, stream: bytes, script: bytes, budget: int = ALL_MOVES) -> bytes:
     """All replies to a whole script, by a program of its own."""
     try:
-        done = subprocess.run(
-            [str(path), "view", str(budget)], input=stream + script, capture_output=True, check=False
-        )
+        words = [str(path), "view", str(budget)]
+        done = subprocess.run(words, input=stream + script, capture_output=True, check=False)
     except OSError as fault:
         raise ProgramEnded(f"{path} can't be started: {fault.strerror}") from fault
     if done.returncode != 0:
@@ -95,8 +99,8 @@ def replies_to(path: Path, stream: bytes, script: bytes, budget: int = ALL_MOVES
 
 
 class _Awaited:
-    """Finds the ends of replies in bytes that come piece by piece. Each reply is a line, but for a frame, which
-    goes on to its line `end`."""
+    """Finds the ends of replies in bytes that come piece by piece. Each reply is a line, but for a
+    frame, which goes on to its line `end`."""
 
     def __init__(self, lines: Sequence[str]) -> None:
         self.marks = [b"\nend\n" if line == "w" else b"\n" for line in lines]
@@ -117,7 +121,8 @@ class _Awaited:
 
 
 class Program:
-    """One running `vdpm view`. Its calls may come from several threads; they are done one by one."""
+    """One running `vdpm view`. Its calls may come from several threads; they are done one by
+    one."""
 
     def __init__(self, path: Path, stream: bytes, budget: int) -> None:
         self._lock = threading.Lock()
@@ -197,7 +202,8 @@ class Program:
 
 
 def _widen(end: int) -> None:
-    """Lets a pipe hold a whole frame, where the system allows it, so that the program needn't wait."""
+    """Lets a pipe hold a whole frame, where the system allows it, so that the program needn't
+    wait."""
     size: Optional[int] = getattr(fcntl, "F_SETPIPE_SZ", None)
     if size is not None:
         try:

@@ -1,11 +1,13 @@
 """The server of the window: one page, what it asks for, and the line over which its scripts come.
 
-It listens on 127.0.0.1 alone. A request whose Host isn't this address is refused, so that no foreign name that leads
-here gets an answer; so is a path that doesn't begin with the token, which only the printed address tells. A script or
-a start has to come from the page itself, which its Origin shows. No file is read from disk but those listed here.
+It listens on 127.0.0.1 alone. A request whose Host isn't this address is refused, so that no
+foreign name that leads here gets an answer; so is a path that doesn't begin with the token, which
+only the printed address tells. A script or a start has to come from the page itself, which its
+Origin shows. No file is read from disk but those listed here.
 
-Scripts come by a WebSocket, a message each. The replies go back as bytes, after two numbers of 32 bits that tell the
-program's time, since the page reads them several times faster than Python could; what went wrong goes back as a text.
+Scripts come by a WebSocket, a message each. The replies go back as bytes, after two numbers of 32
+bits that tell the program's time, since the page reads them several times faster than Python could;
+what went wrong goes back as a text.
 """
 import hmac
 import json
@@ -22,9 +24,10 @@ from .websocket import WebSocket, accepted
 PAGE = Path(__file__).resolve().parent / "page"
 _KINDS = {"html": "text/html", "css": "text/css", "js": "text/javascript"}
 FILES = (
-    "index.html", "style.css", "camera.js", "connection.js", "controls.js", "faults.js", "frames.js", "hierarchy.js",
-    "keeping.js", "layout.js", "main.js", "matrices.js", "panel.js", "renderer.js", "replies.js", "shaders.js",
-    "views.js", "work.js", "worker.js",
+    "index.html", "style.css", "camera.js", "connection.js", "controls.js", "faults.js",
+    "frames.js", "hierarchy.js", "keeping.js", "layout.js", "main.js", "matrices.js", "obj.js",
+    "panel.js", "picking.js", "renderer.js", "replies.js", "shaders.js", "views.js", "work.js",
+    "worker.js",
 )
 LONGEST_BODY = 1 << 10
 BYTES = "application/octet-stream"
@@ -137,9 +140,9 @@ class Handler(BaseHTTPRequestHandler):
             self._refuse(400, "this is for a WebSocket")
             return
         self.send_response(101)
-        upgrade = {"Upgrade": "websocket", "Connection": "Upgrade", "Sec-WebSocket-Accept": accepted(key)}
-        for name, value in upgrade.items():
-            self.send_header(name, value)
+        self.send_header("Upgrade", "websocket")
+        self.send_header("Connection", "Upgrade")
+        self.send_header("Sec-WebSocket-Accept", accepted(key))
         self.end_headers()
         self.close_connection = True
         line = WebSocket(self.rfile, self.wfile)
@@ -194,8 +197,9 @@ class Handler(BaseHTTPRequestHandler):
 
     def _send(self, status: int, kind: str, body: bytes) -> None:
         self.send_response(status)
-        told = {"Content-Type": kind, "Content-Length": str(len(body)), "Content-Security-Policy": self.server.policy}
-        for name, value in {**told, **SAFETY}.items():
+        told = {"Content-Type": kind, "Content-Length": str(len(body))}
+        policy = {"Content-Security-Policy": self.server.policy}
+        for name, value in {**told, **policy, **SAFETY}.items():
             self.send_header(name, value)
         try:
             self.end_headers()

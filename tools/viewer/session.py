@@ -22,8 +22,13 @@ class Session:
         model, program = self.model, self._program
         scale = {"unit": model.scale.unit, "middle": model.scale.middle} if model.scale else None
         return {
-            "name": model.name, "counts": model.counts, "budget": self.budget, "proved": model.proved,
-            "prepared": model.prepared, "scale": scale, "coloured": model.colours is not None,
+            "name": model.name,
+            "counts": model.counts,
+            "budget": self.budget,
+            "proved": model.proved,
+            "prepared": model.prepared,
+            "scale": scale,
+            "coloured": model.colours is not None,
             "opening": program.opening if program else None,
         }
 
@@ -41,12 +46,14 @@ class Session:
         return answer
 
     def flight(self) -> str:
-        """All lines since the program was started: played with the same budget, `vdpm view` replies the same."""
+        """All lines since the program was started: played with the same budget, `vdpm view` replies
+        the same."""
         with self._lock:
             return "".join(self._flight)
 
     def input_frame(self) -> bytes:
-        """The frame text of the input: the front with every record split, by a program of its own."""
+        """The frame text of the input: the front with every record split, by a program of its
+        own."""
         if self._input is None:
             splits = "".join(f"s {record}\n" for record in range(self.model.records))
             replies = replies_to(self.path, self.model.stream, f"{splits}w\n".encode("ascii"), 0)

@@ -1,5 +1,5 @@
-"""The server's end of a WebSocket (RFC 6455), as far as the window needs it: texts come, texts and bytes go. A
-message costs a tenth of what a request by `fetch` costs."""
+"""The server's end of a WebSocket (RFC 6455), as far as the window needs it: texts come, texts and
+bytes go. A message costs a tenth of what a request by `fetch` costs."""
 import base64
 import hashlib
 import struct

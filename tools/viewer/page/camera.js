@@ -50,16 +50,21 @@ export class Camera {
   }
 }
 
+// How much farther away one has to be for a picture that is higher than it is wide.
+export const farther = ({ width, height }) => Math.max(1, height / width);
+
 // A camera from which a box of the mesh is seen whole, from the side and a little from above; from
 // higher where it is flat as a terrain.
-export function homeOf({ low, high }, upright) {
+export function homeOf({ low, high }, upright, picture) {
   const target = low.map((c, axis) => (c + high[axis]) / 2);
   const sizes = low.map((c, axis) => high[axis] - c);
   const radius = Math.hypot(...sizes) / 2 || 1;
   const tall = upright === "y" ? sizes[1] : sizes[2];
   const broad = Math.max(sizes[0], upright === "y" ? sizes[2] : sizes[1]);
   const pitch = tall < 0.4 * broad ? 0.5 : 0.35;
-  return { camera: new Camera({ target, distance: 2.4 * radius, yaw: 0.5, pitch, upright }), radius };
+  const distance = 2.4 * radius * farther(picture);
+  const camera = new Camera({ target, distance, yaw: 0.5, pitch, upright });
+  return { camera, radius };
 }
 
 // The left, the right, the lower and the upper side of a picture that is `margin` times as wide and
@@ -79,8 +84,9 @@ export function viewLine(camera, picture, tolerance, outline = tolerance, margin
   const eye = within(whole(camera.eye()));
   const parts = Math.min(FINEST, Math.floor(LARGEST_PIXELS / Math.max(picture.focal, tolerance)));
   const pixels = [picture.focal, tolerance, outline].map((n) => Math.round(n * parts));
-  const asked = outline < tolerance ? ["vs", ...eye, ...pixels] : ["v", ...eye, ...pixels.slice(0, 2)];
-  return [...asked, ...planes(camera.axes(), eye, picture, margin)].join(" ");
+  const [word, count] = outline < tolerance ? ["vs", 3] : ["v", 2];
+  const sides = planes(camera.axes(), eye, picture, margin);
+  return [word, ...eye, ...pixels.slice(0, count), ...sides].join(" ");
 }
 
 // The ray through a pixel, counted from the picture's middle to the right and upwards.

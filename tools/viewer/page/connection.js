@@ -1,6 +1,7 @@
 // The line to the server: what comes answers what was sent, in order.
 
-export const GONE = "The server doesn't answer any more: ./viewer has ended. Start it again, and open the address that it prints.";
+export const GONE = "The server doesn't answer any more, so ./viewer has ended. "
+  + "Start it again, and open the address that it prints.";
 
 // What ended a view: the reason, and what to do about it where the manual knows.
 export class Fault extends Error {
@@ -17,11 +18,15 @@ export class Connection {
     this.socket = new WebSocket(new URL("talk", location.href.replace(/^http/, "ws")));
     this.socket.binaryType = "arraybuffer";
     this.socket.onmessage = ({ data }) => this.come(data);
-    this.socket.onclose = () => this.waiting.splice(0).forEach(({ reject }) => reject(new Fault(GONE)));
+    this.socket.onclose = () => this.giveUp();
     this.open = new Promise((resolve, reject) => {
       this.socket.onopen = resolve;
       this.socket.onerror = () => reject(new Fault(GONE));
     });
+  }
+
+  giveUp() {
+    for (const { reject } of this.waiting.splice(0)) reject(new Fault(GONE));
   }
 
   // The bytes of the answer, and the milliseconds that it took.

@@ -14,7 +14,9 @@ const ARROWS = { ArrowLeft: [1, 0], ArrowRight: [-1, 0], ArrowUp: [0, 1], ArrowD
 export class Controls {
   constructor(canvas, hands) {
     Object.assign(this, { canvas, hands, fingers: new Map(), way: 0, button: 0 });
-    const on = (name, act, options) => canvas.addEventListener(name, (event) => act.call(this, event), options);
+    const on = (name, act, options) => {
+      canvas.addEventListener(name, (event) => act.call(this, event), options);
+    };
     on("pointerdown", this.press);
     on("pointermove", this.drag);
     on("pointerup", this.release);
@@ -86,9 +88,9 @@ export class Controls {
 
   key(event) {
     if (event.ctrlKey || event.metaKey || event.altKey) return;
-    const arrow = ARROWS[event.key], isSlider = event.target.type === "range" || event.target.tagName === "SELECT";
-    const act = this.hands.keys[event.key.toLowerCase()];
-    if (arrow && !isSlider) {
+    const arrow = ARROWS[event.key], act = this.hands.keys[event.key.toLowerCase()];
+    const takesArrows = event.target.matches?.("input[type=range], input[type=radio], select");
+    if (arrow && !takesArrows) {
       if (event.shiftKey) this.move(arrow[0] * KEY_MOVE, arrow[1] * KEY_MOVE);
       else this.turn(arrow[0] * KEY_TURN, arrow[1] * KEY_TURN);
     } else if (event.key === "+" || event.key === "=") this.nearer(KEY_NEARER);

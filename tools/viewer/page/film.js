@@ -4,7 +4,7 @@ import { Controls } from "./controls.js";
 import { showFault } from "./faults.js";
 import { cameraOf, lookOf } from "./flight.js";
 import { Reel, unpacked } from "./reel.js";
-import { NO_FACE, Renderer, THEMES } from "./renderer.js";
+import { NO_FACE, Renderer, watchTheme } from "./renderer.js";
 
 const part = (name) => document.getElementById(name);
 const isOn = (name) => part(name).checked;
@@ -12,20 +12,21 @@ const counted = (n) => n.toLocaleString("en");
 
 class Film {
   constructor(canvas, reel) {
-    Object.assign(this, { canvas, reel, renderer: new Renderer(canvas), plays: true, dirty: true, passed: 0 });
-    Object.assign(this, homeOf(reel, "z")); // camera, radius
+    const { camera, radius } = homeOf(reel, "z", this.picture());
+    Object.assign(this, { canvas, reel, camera, radius, middle: camera.target });
+    this.renderer = new Renderer(canvas);
+    this.plays = true;
+    this.passed = 0; // of a frame, since the last one
     part("at").max = reel.length - 1;
     part("name").textContent = reel.head.name;
     document.title = `${reel.head.name}: a film`;
     part("colour").querySelector("[value=own]").disabled = !reel.head.coloured;
     if (reel.head.coloured) part("colour").value = "own";
-    const { views } = reel.head, middle = this.camera.target;
-    this.looks = views.map((view) => (view === "" ? null : lookOf(view, middle)));
-    // While a camera moves its views reach a little beyond the picture: the narrowest is the picture.
+    this.looks = reel.head.views.map((view) => (view === "" ? null : lookOf(view, this.middle)));
+    // While a camera moves its views reach a little beyond the picture, so the narrowest is it.
     this.opening = Math.max(0, ...this.looks.map((look) => look?.opening ?? 0));
-    this.middle = middle;
     this.takeHands();
-    this.takeTheme();
+    watchTheme((theme) => Object.assign(this, { theme, dirty: true }));
     this.show(0);
     requestAnimationFrame((now) => this.tick(now));
   }
@@ -51,13 +52,6 @@ class Film {
       this.dirty = true;
     });
     addEventListener("resize", () => { this.dirty = true; });
-  }
-
-  takeTheme() {
-    const light = matchMedia("(prefers-color-scheme: light)");
-    const take = () => Object.assign(this, { theme: light.matches ? THEMES.light : THEMES.dark, dirty: true });
-    light.addEventListener("change", take);
-    take();
   }
 
   // The camera that hands move: it leaves the flight where it is.
@@ -87,8 +81,8 @@ class Film {
     part("at").value = at;
     part("faces-said").textContent = counted(this.reel.faces.size);
     part("all-said").textContent = `of ${counted(this.reel.head.faces)} faces`;
-    const step = this.reel.head.steps[at], glides = step ? `, ${step[0]}/${step[1]} of the way` : "";
-    part("frame-said").textContent = `frame ${at + 1} of ${this.reel.length}${glides}`;
+    const step = this.reel.head.steps[at], glide = step ? `, ${step[0]}/${step[1]} of the way` : "";
+    part("frame-said").textContent = `frame ${at + 1} of ${this.reel.length}${glide}`;
     if (isOn("follow")) this.follow(at);
     this.dirty = true;
   }
@@ -123,14 +117,26 @@ class Film {
   }
 
   draw() {
-    const picture = this.picture(), { width, height } = picture;
-    if (this.canvas.width !== width || this.canvas.height !== height) Object.assign(this.canvas, { width, height });
+    const picture = this.picture(), { width, height } = picture, { canvas } = this;
+    if (canvas.width !== width || canvas.height !== height) {
+      Object.assign(canvas, { width, height });
+    }
     this.dirty = false;
     this.renderer.draw({
-      camera: this.camera, picture, parts: [{ name: "front", left: 0, width }],
+      camera: this.camera,
+      picture,
+      parts: [{ name: "front", left: 0, width }],
       look: {
-        colour: part("colour").value, smooth: isOn("smooth"), edges: isOn("edges"), theme: this.theme, now: 0,
-        frozen: null, hit: null, picked: NO_FACE, reach: 2 * this.radius, deepest: this.reel.head.deepest,
+        colour: part("colour").value,
+        smooth: isOn("smooth"),
+        edges: isOn("edges"),
+        theme: this.theme,
+        now: 0,
+        frozen: null,
+        hit: null,
+        picked: NO_FACE,
+        reach: 2 * this.radius,
+        deepest: this.reel.head.deepest,
       },
     });
   }

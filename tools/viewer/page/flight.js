@@ -1,5 +1,5 @@
-// The camera of a view line. Its planes are the sides of a picture, as camera.js and tools/flight.py
-// write them; a view without such planes is taken to look at the mesh's middle.
+// The camera of a view line. Its planes are the sides of a picture, as camera.js writes them and
+// tools/flight.py; a view without such planes is taken to look at the mesh's middle.
 import { Camera, focalOf } from "./camera.js";
 import { dot, plus, scaled, unit } from "./matrices.js";
 
@@ -16,7 +16,8 @@ export function lookOf(line, middle) {
     const forward = unit(plus(left, 1, right)), across = unit(plus(left, -1, right));
     if (dot(forward, unit(plus(lower, 1, upper))) > ALIKE) {
       const up = unit(plus(lower, -1, upper)), opening = dot(lower, up) / dot(lower, forward) / 2;
-      return { eye, back: scaled(-1, forward), upright: Math.abs(across[2]) < FLAT ? "z" : "y", opening };
+      const upright = Math.abs(across[2]) < FLAT ? "z" : "y";
+      return { eye, back: scaled(-1, forward), upright, opening };
     }
   }
   return { eye, back: unit(plus(eye, -1, middle)), upright: "z", opening: focalOf(1000) / 1000 };

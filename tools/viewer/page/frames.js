@@ -4,8 +4,13 @@ import { NO_PARENT } from "./hierarchy.js";
 import { GLIDE, WIDTH, rows } from "./layout.js";
 
 const KINDS = {
-  places: Int16Array, normals: Int16Array, corners: Uint32Array, colours: Uint8Array, starts: Float32Array,
+  places: Int16Array,
+  normals: Int16Array,
+  corners: Uint32Array,
+  colours: Uint8Array,
+  starts: Float32Array,
 };
+const MOST_FREE = 3; // arrays of a kind that wait to be used again
 
 // Arrays that the page has put into textures come back and are used again, since new ones for each
 // frame would have to be collected as garbage many times a second.
@@ -18,11 +23,17 @@ class Pool {
   }
 
   takeBack(arrays) {
-    for (const [kind, array] of Object.entries(arrays)) if (this.free[kind].length < 3) this.free[kind].push(array);
+    for (const [kind, array] of Object.entries(arrays)) {
+      if (this.free[kind].length < MOST_FREE) this.free[kind].push(array);
+    }
   }
 }
 
-export const eased = (part) => part * part * (3 - 2 * part);
+// How far of its way a glide is after a part of its time: the same as in shaders.js.
+function eased(part) {
+  const time = Math.max(0, Math.min(1, part));
+  return time * time * (3 - 2 * time);
+}
 
 export class FrameMaker {
   constructor(hierarchy, colours) {
@@ -40,7 +51,7 @@ export class FrameMaker {
   // The next frame of the front. With `now`, in seconds, nodes that come glide from where their
   // elders are seen then.
   front({ nodes, faces }, now) {
-    if (now !== null && this.starts === null) this.starts = new Float32Array(4 * this.slots.length).fill(-GLIDE);
+    if (now !== null) this.starts ??= new Float32Array(4 * this.slots.length).fill(-GLIDE);
     const before = this.round++;
     const nodesKept = this.stampNodes(nodes, before, now);
     const { facesKept, facesTurned } = this.stampFaces(faces, before);
@@ -57,7 +68,8 @@ export class FrameMaker {
 
   // A frame that is shown beside the front: it counts for no change.
   beside({ nodes, faces }) {
-    return { nodeCount: nodes.length / 4, faceCount: faces.length / 4, arrays: this.arrays(nodes, faces) };
+    const arrays = this.arrays(nodes, faces);
+    return { nodeCount: nodes.length / 4, faceCount: faces.length / 4, arrays };
   }
 
   // How many nodes the frame before had too.
@@ -78,12 +90,10 @@ export class FrameMaker {
     let facesKept = 0, facesTurned = 0;
     for (let i = 0; i < faces.length; i += 4) {
       const face = faces[i], at = 3 * face, stood = kept[face] === before;
-      if (stood && corners[at] === faces[i + 1] && corners[at + 1] === faces[i + 2] && corners[at + 2] === faces[i + 3]) {
-        facesKept++;
-      } else {
-        if (stood) facesTurned++;
-        corners[at] = faces[i + 1]; corners[at + 1] = faces[i + 2]; corners[at + 2] = faces[i + 3];
-      }
+      const [a, b, c] = [faces[i + 1], faces[i + 2], faces[i + 3]];
+      if (stood && corners[at] === a && corners[at + 1] === b && corners[at + 2] === c) facesKept++;
+      else if (stood) facesTurned++;
+      corners[at] = a; corners[at + 1] = b; corners[at + 2] = c;
       kept[face] = before + 1;
     }
     return { facesKept, facesTurned };
@@ -95,13 +105,16 @@ export class FrameMaker {
     const { places, parents } = this.hierarchy, { starts } = this;
     let elder = parents[node];
     while (elder !== NO_PARENT && this.shown[elder] !== before) elder = parents[elder];
-    const from = elder === NO_PARENT ? node : elder;
-    const part = elder === NO_PARENT ? 1 : eased(Math.min(1, Math.max(0, (now - starts[4 * from + 3]) / GLIDE)));
-    for (let axis = 0; axis < 3; axis++) {
-      const start = starts[4 * from + axis], own = places[3 * from + axis];
-      starts[4 * node + axis] = part === 1 ? own : start + (own - start) * part;
+    if (elder === NO_PARENT) {
+      starts[4 * node + 3] = -GLIDE;
+      return;
     }
-    starts[4 * node + 3] = elder === NO_PARENT ? -GLIDE : now;
+    const part = eased((now - starts[4 * elder + 3]) / GLIDE);
+    for (let axis = 0; axis < 3; axis++) {
+      const start = starts[4 * elder + axis], own = places[3 * elder + axis];
+      starts[4 * node + axis] = start + (own - start) * part;
+    }
+    starts[4 * node + 3] = now;
   }
 
   startsOf(nodes) {
@@ -114,20 +127,37 @@ export class FrameMaker {
   }
 
   arrays(nodes, faces) {
-    const { slots, hierarchy: { depths }, pool } = this, nodeCount = nodes.length / 4, faceCount = faces.length / 4;
-    const places = pool.take("places", nodeCount), corners = pool.take("corners", faceCount);
+    const nodeCount = nodes.length / 4, faceCount = faces.length / 4;
+    const places = this.placesOf(nodes), corners = this.cornersOf(faces);
+    if (this.sums.length < 4 * nodeCount) this.sums = new Float32Array(8 * nodeCount);
+    const normals = this.pool.take("normals", nodeCount);
+    putNormals({ places, nodeCount, corners, faceCount }, this.sums, normals);
+    const arrays = { places, corners, normals };
+    return this.colours === null ? arrays : { ...arrays, colours: this.coloursOf(nodes) };
+  }
+
+  // The place of each node, and its depth.
+  placesOf(nodes) {
+    const { slots, hierarchy: { depths } } = this;
+    const places = this.pool.take("places", nodes.length / 4);
     for (let i = 0; i < nodes.length; i += 4) {
       slots[nodes[i]] = i >> 2;
       places[i] = nodes[i + 1]; places[i + 1] = nodes[i + 2]; places[i + 2] = nodes[i + 3];
       places[i + 3] = depths[nodes[i]];
     }
+    return places;
+  }
+
+  // The corners of each face by where they stand in the frame, and its number.
+  cornersOf(faces) {
+    const { slots } = this, corners = this.pool.take("corners", faces.length / 4);
     for (let i = 0; i < faces.length; i += 4) {
-      corners[i] = slots[faces[i + 1]]; corners[i + 1] = slots[faces[i + 2]]; corners[i + 2] = slots[faces[i + 3]];
+      corners[i] = slots[faces[i + 1]];
+      corners[i + 1] = slots[faces[i + 2]];
+      corners[i + 2] = slots[faces[i + 3]];
       corners[i + 3] = faces[i];
     }
-    if (this.sums.length < 4 * nodeCount) this.sums = new Float32Array(8 * nodeCount);
-    const normals = normalsOf(places, nodeCount, corners, faceCount, this.sums, pool.take("normals", nodeCount));
-    return this.colours === null ? { places, corners, normals } : { places, corners, normals, colours: this.coloursOf(nodes) };
+    return corners;
   }
 
   coloursOf(nodes) {
@@ -141,12 +171,13 @@ export class FrameMaker {
 
 // For smooth shading: the sum of the normals of the faces at each node, each as long as its face is
 // large, brought to one length. `sums` is room for it.
-export function normalsOf(places, nodeCount, corners, faceCount, sums, normals) {
+export function putNormals({ places, nodeCount, corners, faceCount }, sums, normals) {
   sums.fill(0, 0, 4 * nodeCount);
   for (let i = 0; i < 4 * faceCount; i += 4) {
     const a = 4 * corners[i], b = 4 * corners[i + 1], c = 4 * corners[i + 2];
-    const px = places[b] - places[a], py = places[b + 1] - places[a + 1], pz = places[b + 2] - places[a + 2];
-    const qx = places[c] - places[a], qy = places[c + 1] - places[a + 1], qz = places[c + 2] - places[a + 2];
+    const ax = places[a], ay = places[a + 1], az = places[a + 2];
+    const px = places[b] - ax, py = places[b + 1] - ay, pz = places[b + 2] - az;
+    const qx = places[c] - ax, qy = places[c + 1] - ay, qz = places[c + 2] - az;
     const x = py * qz - pz * qy, y = pz * qx - px * qz, z = px * qy - py * qx;
     sums[a] += x; sums[a + 1] += y; sums[a + 2] += z;
     sums[b] += x; sums[b + 1] += y; sums[b + 2] += z;
@@ -157,5 +188,4 @@ export function normalsOf(places, nodeCount, corners, faceCount, sums, normals) 
     const size = 32767 / (Math.sqrt(x * x + y * y + z * z) || 1);
     normals[i] = x * size; normals[i + 1] = y * size; normals[i + 2] = z * size;
   }
-  return normals;
 }

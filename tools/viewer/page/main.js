@@ -1,18 +1,20 @@
 // The page: asks for the view of the camera, again and again, and draws what came last.
-import { focalOf, homeOf, rayThrough } from "./camera.js";
+import { farther, focalOf, homeOf } from "./camera.js";
 import { GONE } from "./connection.js";
 import { Controls } from "./controls.js";
 import { showFault } from "./faults.js";
-import { copy, download, textFile } from "./keeping.js";
+import { copy, saveFlight, saveMesh, savePicture } from "./keeping.js";
 import { GLIDE } from "./layout.js";
-import { plus } from "./matrices.js";
 import * as panel from "./panel.js";
-import { NO_FACE, Renderer, THEMES } from "./renderer.js";
+import { met, sentence } from "./picking.js";
+import { NO_FACE, Renderer, watchTheme } from "./renderer.js";
 import { Views } from "./views.js";
 import { Work } from "./work.js";
 
 const CIRCLE = 0.25;        // radians a second of the slow circle
 const BUDGET_SETTLES = 400; // milliseconds until a budget that is being changed is taken
+const SAY_AGAIN = 100;      // milliseconds between two sayings of the counters
+const GLIDES_ON = 50;       // milliseconds that are drawn after a glide's end, so that its end is
 
 // Words of the address, for slow machines, tests and measurements: drawn pixels for each of the
 // screen, scripts on their way at once, and whether drawing is waited for.
@@ -21,12 +23,24 @@ const sharpness = Number(words.get("sharpness")) || 1;
 const ahead = Number(words.get("ahead")) || 2;
 const measures = words.has("measure");
 
+const INPUT_SAID = { unasked: "", asked: "the input is on its way", shown: "the input" };
+
 class Window {
   constructor(canvas) {
-    Object.assign(this, { canvas, renderer: new Renderer(canvas), set: panel.settings(), theme: null });
-    Object.assign(this, { frozen: null, hit: null, picked: NO_FACE, dirty: true, glidesUntil: 0 });
-    Object.assign(this, { ended: false, starting: false, budgetAt: null, inputState: "unasked" });
-    Object.assign(this, { shown: null, draws: [], fronts: [], put: 0, drawn: 0, saidAt: 0, log: [] });
+    this.canvas = canvas;
+    this.renderer = new Renderer(canvas);
+    this.set = panel.settings();
+    this.frozen = null;          // the camera whose front is kept, with its picture
+    this.hit = null;             // what a click met
+    this.dirty = true;           // whether what is drawn isn't what is known
+    this.glidesUntil = 0;
+    this.ended = false;
+    this.starting = false;
+    this.budgetAt = null;        // when a budget that was changed is taken
+    this.inputState = "unasked";
+    this.shown = null;           // the counts and times of the front
+    this.times = { put: 0, draw: 0, said: 0, draws: [], fronts: [] };
+    this.log = [];               // all times, where they are measured
     this.work = new Work("worker.js");
     const heard = { framed: (answer) => this.framed(answer), failed: (fault) => this.fail(fault) };
     this.views = new Views(this.work, ahead, heard);
@@ -34,7 +48,8 @@ class Window {
 
   async open() {
     try {
-      const { about, hierarchy } = await this.work.ask({ task: "open", pageOrigin: performance.timeOrigin });
+      const pageOrigin = performance.timeOrigin;
+      const { about, hierarchy } = await this.work.ask({ task: "open", pageOrigin });
       Object.assign(this, { about, hierarchy, budget: about.budget });
     } catch (fault) {
       this.fail(fault);
@@ -42,17 +57,15 @@ class Window {
     }
     panel.sayModel(this.about);
     this.set = panel.settings();
-    Object.assign(this, homeOf(this.hierarchy, this.set.upright)); // camera, radius
+    const { camera, radius } = homeOf(this.hierarchy, this.set.upright, this.picture());
+    Object.assign(this, { camera, radius });
     this.takeHands();
-    this.takeTheme();
+    watchTheme((theme) => Object.assign(this, { theme, dirty: true }));
     panel.saySettings(this.set);
     requestAnimationFrame((now) => this.tick(now));
   }
 
   takeHands() {
-    const switches = { f: "freeze", e: "edges", s: "smooth", g: "glide", o: "round", b: "beside", y: "upright" };
-    const colours = { 1: "stone", 2: "depth", 3: "own", 4: "wire" };
-    const act = (keys, does) => Object.entries(keys).map(([key, name]) => [key, () => does(name)]);
     this.controls = new Controls(this.canvas, {
       camera: () => this.camera,
       focal: () => this.picture().focal,
@@ -61,33 +74,29 @@ class Window {
       moved: () => this.moved(),
       picked: (x, y) => this.pick(x, y),
       keys: {
-        ...Object.fromEntries([...act(switches, panel.press), ...act(colours, panel.choose)]),
-        r: () => this.home(), p: () => this.savePicture(), h: () => panel.toggle(),
+        ...panel.KEYS, r: () => this.home(), p: () => this.savePicture(), h: () => panel.toggle(),
       },
     });
     panel.watchPanel((name) => this.settingChanged(name));
-    const buttons = {
-      "save-flight": () => this.saveFlight(), "save-picture": () => this.savePicture(),
-      "copy-view": () => this.copyView(), "save-mesh": () => this.saveMesh(),
-      home: () => this.home(), hide: () => panel.toggle(), unhide: () => panel.toggle(),
-    };
-    for (const [name, does] of Object.entries(buttons)) panel.onClick(name, does);
+    panel.watchButtons({
+      "save-flight": () => this.saveFlight(),
+      "save-picture": () => this.savePicture(),
+      "save-mesh": () => saveMesh(this.work),
+      "copy-view": () => this.copyView(),
+      home: () => this.home(),
+      hide: () => panel.toggle(),
+      unhide: () => panel.toggle(),
+    });
     addEventListener("resize", () => { this.dirty = true; });
   }
 
-  // The screen is dark or light, and may change.
-  takeTheme() {
-    const light = matchMedia("(prefers-color-scheme: light)");
-    const take = () => Object.assign(this, { theme: light.matches ? THEMES.light : THEMES.dark, dirty: true });
-    light.addEventListener("change", take);
-    take();
-  }
-
   settingChanged(name) {
+    const before = farther(this.picture());
     this.set = panel.settings();
+    this.camera.distance *= farther(this.picture()) / before;
     this.dirty = true;
     panel.saySettings(this.set);
-    if (name === "freeze") this.frozen = this.set.freeze ? { camera: this.camera.copy(), picture: this.picture() } : null;
+    if (name === "freeze") this.frozen = this.set.freeze ? this.seen() : null;
     if (name === "budget") this.budgetAt = performance.now() + BUDGET_SETTLES;
     if (name === "upright") this.home();
     if (name === "beside" && this.set.beside) this.showInput();
@@ -99,7 +108,7 @@ class Window {
   }
 
   home() {
-    this.camera = homeOf(this.hierarchy, this.set.upright).camera;
+    this.camera = homeOf(this.hierarchy, this.set.upright, this.picture()).camera;
     this.moved();
   }
 
@@ -112,62 +121,92 @@ class Window {
       this.camera.turn((passed / 1000) * CIRCLE, 0);
       this.moved();
     }
-    const mayAsk = !this.ended && !this.starting;
-    if (this.budgetAt !== null && now > this.budgetAt) {
-      if (mayAsk && this.views.isIdle) this.restart();
-    } else if (mayAsk) {
-      const from = this.frozen ?? { camera: this.camera, picture: this.picture() };
-      this.views.ask(from.camera, from.picture, this.set, now);
-    }
+    if (!this.ended && !this.starting) this.goOn(now);
     if (this.dirty || now < this.glidesUntil) this.draw(now);
-    if (now - this.saidAt > 100 && this.shown !== null) this.say(now);
+    if (now - this.times.said > SAY_AGAIN && this.shown !== null) this.say(now);
     requestAnimationFrame((next) => this.tick(next));
   }
 
+  // Asks for a view, or takes a new budget as soon as no view is on its way.
+  goOn(now) {
+    const { camera, picture } = this.frozen ?? this.seen();
+    const isNew = this.budgetAt !== null && now > this.budgetAt;
+    if (!isNew) this.views.ask(camera, picture, this.set, now);
+    else if (this.views.isIdle) this.restart();
+  }
+
   draw(now) {
-    const picture = this.picture(), width = this.fit(picture);
-    const half = this.set.beside ? [{ name: "input", left: this.canvas.width - width, width }] : [];
+    const { picture } = this.seen(), width = this.fit(picture);
+    const input = { name: "input", left: width, width };
     this.dirty = false;
     const begun = performance.now();
     this.renderer.draw({
-      camera: this.camera, picture, parts: [{ name: "front", left: 0, width }, ...half],
+      camera: this.camera,
+      picture,
+      parts: [{ name: "front", left: 0, width }, ...(this.set.beside ? [input] : [])],
       look: {
-        ...this.set, theme: this.theme, now: performance.now() / 1000, frozen: this.frozen,
-        reach: 2 * this.radius, deepest: this.hierarchy.deepest, picked: this.picked, hit: this.hit,
+        ...this.set,
+        theme: this.theme,
+        now: performance.now() / 1000,
+        frozen: this.frozen,
+        reach: 2 * this.radius,
+        deepest: this.hierarchy.deepest,
+        picked: this.hit?.face ?? NO_FACE,
+        hit: this.hit?.place,
       },
     });
     if (measures) this.renderer.finish();
-    this.drawn = performance.now() - begun;
-    this.draws.push(now);
-    if (measures) this.log.push({ draw: this.drawn });
+    this.times.draw = performance.now() - begun;
+    this.times.draws.push(now);
+    if (measures) this.log.push({ draw: this.times.draw });
   }
 
-  // Views are asked for the pixels of the screen, however many are drawn.
+  // The camera and its picture. Views are asked for the pixels of the screen, however many of them
+  // are drawn.
+  seen() { return { camera: this.camera.copy(), picture: this.picture() }; }
+
   picture() {
-    const width = Math.max(1, Math.round((innerWidth * devicePixelRatio) / (this.set.beside ? 2 : 1)));
+    const half = this.set.beside ? 2 : 1;
+    const width = Math.max(1, Math.round((innerWidth * devicePixelRatio) / half));
     const height = Math.max(1, Math.round(innerHeight * devicePixelRatio));
     return { width, height, focal: focalOf(height) };
   }
 
   // Makes the canvas as large as its pictures, and gives the width of one.
   fit(picture) {
-    const drawn = (pixels) => Math.max(1, Math.round(pixels * sharpness));
-    const one = drawn(picture.width), width = one * (this.set.beside ? 2 : 1), height = drawn(picture.height);
-    if (this.canvas.width !== width || this.canvas.height !== height) Object.assign(this.canvas, { width, height });
+    const [one, height] = [picture.width, picture.height].map((n) => Math.ceil(n * sharpness));
+    const width = this.set.beside ? 2 * one : one, { canvas } = this;
+    if (canvas.width !== width || canvas.height !== height) {
+      Object.assign(canvas, { width, height });
+    }
     return one;
   }
 
   say(now) {
-    this.saidAt = now;
-    for (const times of [this.draws, this.fronts]) while (times[0] < now - 1000) times.shift();
-    const mark = this.set.freeze ? "refinement frozen: fly round it" : now < this.glidesUntil ? "gliding" : "";
-    const { shown, hierarchy, put, drawn, draws, fronts } = this;
+    const { shown, times, set } = this;
+    times.said = now;
+    for (const ago of [times.draws, times.fronts]) while (ago[0] < now - 1000) ago.shift();
+    const glides = now < this.glidesUntil ? "gliding" : "";
     panel.sayCounters({
-      shown, all: hierarchy.faces, moves: shown.moves, left: this.views.left, times: shown.times,
-      put, draw: drawn, pictures: draws.length, fronts: fronts.length, mark,
+      shown,
+      all: this.hierarchy.faces,
+      left: this.views.left,
+      put: times.put,
+      draw: times.draw,
+      pictures: times.draws.length,
+      fronts: times.fronts.length,
+      mark: set.freeze ? "refinement frozen: fly round it" : glides,
     });
-    const input = { unasked: "", asked: "the input comes ..", shown: "the input" }[this.inputState];
-    panel.sayHalves(this.set.beside ? ["what is shown", input] : null);
+    panel.sayHalves(set.beside ? ["what is shown", INPUT_SAID[this.inputState]] : null);
+  }
+
+  // Whether all is shown as it is asked for, so that nothing changes until a hand moves.
+  get isSettled() {
+    const now = performance.now(), { views } = this;
+    if (this.shown === null || this.dirty || now < this.glidesUntil) return false;
+    if (this.starting || this.budgetAt !== null || !views.isIdle || views.left > 0) return false;
+    const { camera, picture } = this.frozen ?? this.seen();
+    return views.isAtRest(now) && views.asked === views.line(camera, picture, this.set, now);
   }
 
   // --- what comes from the program
@@ -176,12 +215,14 @@ class Window {
     const begun = performance.now();
     this.renderer.show("front", frame);
     if (measures) this.renderer.finish();
-    this.put = performance.now() - begun;
+    this.times.put = performance.now() - begun;
     const { nodeCount, faceCount, changes, arrays } = frame;
-    if (arrays.starts && changes.nodesCome > 0) this.glidesUntil = begun + 1000 * GLIDE + 50;
-    Object.assign(this, { shown: { nodeCount, faceCount, changes, moves, times }, dirty: true });
-    this.fronts.push(begun);
-    if (measures) this.log.push({ put: this.put, nodeCount, faceCount, moves, ...changes, ...times });
+    const comes = arrays.starts && changes.nodesCome > 0;
+    if (comes) this.glidesUntil = begun + 1000 * GLIDE + GLIDES_ON;
+    this.shown = { nodeCount, faceCount, changes, moves, times };
+    this.dirty = true;
+    this.times.fronts.push(begun);
+    if (measures) this.log.push({ put: this.times.put, ...this.shown });
     this.work.giveBack(arrays);
   }
 
@@ -208,7 +249,7 @@ class Window {
   // mesh.
   async restart() {
     Object.assign(this, { budgetAt: null, starting: true });
-    const budget = this.set.budget;
+    const { budget } = this.set;
     try {
       const answer = await fetch("start", { method: "POST", body: String(budget) });
       if (!answer.ok) throw new Error(await answer.text());
@@ -224,56 +265,37 @@ class Window {
 
   async pick(clientX, clientY) {
     if (this.ended || this.starting) return;
-    const picture = this.picture(), x = (clientX * devicePixelRatio) % picture.width;
-    const y = picture.height / 2 - clientY * devicePixelRatio;
-    const { from, way, line } = rayThrough(this.camera, picture.focal, x - picture.width / 2, y);
+    const { width, height, focal } = this.picture();
+    const x = ((clientX * devicePixelRatio) % width) - width / 2;
+    const y = height / 2 - clientY * devicePixelRatio;
     try {
-      const { replies: [reply] } = await this.work.ask({ task: "ask", script: `${line}\n`, glides: false });
-      this.sayHit(reply, from, way);
+      this.hit = await met(this.work, this.camera, focal, x, y);
     } catch (fault) {
       this.fail(fault);
     }
+    panel.sayPicked(this.hit && sentence(this.hit, this.about, this.hierarchy));
+    this.dirty = true;
   }
 
-  sayHit([word, face, s, q, input], from, way) {
-    const place = word === "hit" ? plus(from, Number(s) / Number(q), way) : null;
-    const mesh = this.about.prepared ? "the prepared mesh" : "the input";
-    panel.sayPicked(place && `Face ${input} of ${mesh} (${face} in the stream), at ${this.told(place)}`);
-    Object.assign(this, { picked: place ? Number(face) : NO_FACE, hit: place, dirty: true });
-  }
-
-  // A place in the coordinates of the file that was built from.
-  told(place) {
-    const { scale } = this.about, { digits } = this.hierarchy;
-    if (scale === null) return place.map((c) => (c / 10 ** digits).toFixed(digits)).join("  ");
-    return place.map((c, axis) => Number((scale.unit * c + scale.middle[axis]).toPrecision(6))).join("  ");
-  }
-
-  async saveFlight() {
-    const answer = await fetch("flight");
-    const budget = this.budget === panel.ALL_MOVES ? "" : `-budget-${this.budget}`;
-    download(`flight${budget}.script`, textFile(await answer.text()));
-    panel.tell(`Plays with: vdpm view ${this.budget}`);
+  saveFlight() {
+    saveFlight(this.budget === panel.ALL_MOVES ? "" : `-budget-${this.budget}`);
+    panel.tell(`The script that vdpm view ${this.budget} plays`);
   }
 
   savePicture() {
     this.draw(performance.now()); // what was drawn is there until this task ends
-    this.canvas.toBlob((blob) => download("picture.png", blob), "image/png");
+    savePicture(this.canvas);
   }
 
   async copyView() {
     await copy(`${this.views.asked}\n`);
     panel.tell("The view's line is on the clipboard");
   }
-
-  async saveMesh() {
-    const { text } = await this.work.ask({ task: "obj" });
-    download("mesh.obj", textFile(text));
-  }
 }
 
 function boot() {
   const canvas = document.getElementById("picture");
+  const reload = () => location.reload();
   try {
     globalThis.viewer = new Window(canvas); // there for tests and the browser's console
   } catch (fault) {
@@ -281,7 +303,8 @@ function boot() {
     return;
   }
   canvas.addEventListener("webglcontextlost", () => {
-    showFault({ title: "The graphics processor gave up", reason: "Load the page again.", again: () => location.reload() });
+    const title = "The graphics processor gave up", reason = "Load the page again.";
+    showFault({ title, reason, again: reload });
   });
   globalThis.viewer.open();
 }

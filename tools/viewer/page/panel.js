@@ -3,6 +3,7 @@ const part = (name) => document.getElementById(name);
 const counted = (n) => n.toLocaleString("en");
 const pixels = (n) => `${n < 10 ? Number(n.toFixed(2)) : Math.round(n)} px`;
 const milliseconds = (n) => (n < 10 ? n.toFixed(1) : n.toFixed(0));
+const kilobytes = (n) => `${counted(Math.round(n / 1024))} kB`;
 export const ALL_MOVES = 4294967295;
 
 // What the settings say now. Tolerances go in steps of a quarter of a doubling.
@@ -33,11 +34,12 @@ export function saySettings(now) {
 export function sayModel({ name, proved, prepared, coloured, budget }) {
   part("name").textContent = name;
   document.title = name;
-  const notices = [proved ? "" : "not proved on this machine", prepared ? "made fit by prepare" : ""];
-  part("notice").textContent = notices.filter(Boolean).join(" · ");
-  part("notice").hidden = proved && !prepared;
+  const notices = proved ? [] : ["not proved on this machine"];
+  if (prepared) notices.push("made fit by prepare");
+  part("notice").textContent = notices.join(" · ");
+  part("notice").hidden = notices.length === 0;
   document.querySelector("input[value=own]").disabled = !coloured;
-  if (coloured) choose("own");
+  if (coloured) choose("own")();
   if (budget !== ALL_MOVES) part("budget").value = Math.round(Math.log2(Math.max(1, budget)));
 }
 
@@ -47,9 +49,20 @@ export function watchPanel(changed) {
   part("panel").addEventListener("submit", (event) => event.preventDefault());
 }
 
-export const press = (name) => part(name).click();
-export const onClick = (name, act) => part(name).addEventListener("click", act);
-export const choose = (colour) => document.querySelector(`input[value=${colour}]`).click();
+// What each button does, by its name.
+export function watchButtons(acts) {
+  for (const [name, act] of Object.entries(acts)) part(name).addEventListener("click", act);
+}
+
+const press = (name) => () => part(name).click();
+const choose = (colour) => () => document.querySelector(`input[value=${colour}]`).click();
+
+// The keys of switches and colours.
+export const KEYS = {
+  f: press("freeze"), e: press("edges"), s: press("smooth"), g: press("glide"), o: press("round"),
+  b: press("beside"), y: press("upright"),
+  1: choose("stone"), 2: choose("depth"), 3: choose("own"), 4: choose("wire"),
+};
 
 export function toggle() {
   part("panel").hidden = !part("panel").hidden;
@@ -57,8 +70,8 @@ export function toggle() {
 }
 
 // What is shown, what it took, and how often it changes.
-export function sayCounters({ shown, all, moves, left, times, put, draw, pictures, fronts, mark }) {
-  const { nodesCome, nodesGone, facesCome, facesGone } = shown.changes;
+export function sayCounters({ shown, all, left, put, draw, pictures, fronts, mark }) {
+  const { moves, times, changes: { nodesCome, nodesGone, facesCome, facesGone } } = shown;
   part("faces-said").textContent = counted(shown.faceCount);
   part("all-said").textContent = `of ${counted(all)} faces`;
   const rows = [
@@ -67,18 +80,21 @@ export function sayCounters({ shown, all, moves, left, times, put, draw, picture
     ["nodes that changed", `+${counted(nodesCome)}  −${counted(nodesGone)}`],
     ["faces that changed", `+${counted(facesCome)}  −${counted(facesGone)}`],
     ["view, frame", `${milliseconds(times.view)}, ${milliseconds(times.frameText)} ms`],
-    ["transfer", `${milliseconds(times.transfer)} ms, ${counted(Math.round(times.bytes / 1024))} kB`],
+    ["transfer", `${milliseconds(times.transfer)} ms, ${kilobytes(times.bytes)}`],
     ["read, arrays", `${milliseconds(times.read)}, ${milliseconds(times.arrays)} ms`],
     ["put, draw", `${milliseconds(put)}, ${milliseconds(draw)} ms`],
     ["frames a second", pictures > 2 ? `${pictures}, ${fronts} fronts` : "at rest"],
   ];
-  part("rows").replaceChildren(...rows.map((cells) => {
-    const row = document.createElement("tr");
-    row.append(...cells.map((cell) => Object.assign(document.createElement("td"), { textContent: cell })));
-    return row;
-  }));
+  const row = (cells) => made("tr", cells.map((cell) => made("td", [cell])));
+  part("rows").replaceChildren(...rows.map(row));
   part("mark").textContent = mark;
   part("mark").hidden = mark === "";
+}
+
+function made(kind, inside) {
+  const element = document.createElement(kind);
+  element.append(...inside);
+  return element;
 }
 
 // The captions of the two halves; none where there is one picture.

@@ -1,5 +1,5 @@
 // Unpacks the frames of a film (tools/viewer/film.py has the form), and has one of them at a time.
-import { normalsOf } from "./frames.js";
+import { putNormals } from "./frames.js";
 import { WIDTH, rows } from "./layout.js";
 
 class Numbers {
@@ -64,7 +64,7 @@ export class Reel {
         this.high[axis] = Math.max(this.high[axis], last[axis]);
       }
       this.places[4 * point + 3] = numbers.next();
-      for (let part = 0; coloured && part < 3; part++) this.colours[4 * point + part] = numbers.next();
+      if (coloured) this.colours.set([numbers.next(), numbers.next(), numbers.next()], 4 * point);
     }
   }
 
@@ -103,9 +103,10 @@ export class Reel {
     for (const [face, [a, b, c]] of this.faces) {
       corners[at++] = a; corners[at++] = b; corners[at++] = c; corners[at++] = face;
     }
-    const sums = new Float32Array(4 * this.pointCount), room = textureOf(Int16Array, this.pointCount);
-    const normals = normalsOf(this.places, this.pointCount, corners, faceCount, sums, room);
-    const arrays = { places: this.places, corners, normals, ...(this.colours && { colours: this.colours }) };
-    return { nodeCount: this.pointCount, faceCount, arrays };
+    const { places, colours, pointCount: nodeCount } = this;
+    const sums = new Float32Array(4 * nodeCount), normals = textureOf(Int16Array, nodeCount);
+    putNormals({ places, nodeCount, corners, faceCount }, sums, normals);
+    const arrays = { places, corners, normals, ...(colours && { colours }) };
+    return { nodeCount, faceCount, arrays };
   }
 }

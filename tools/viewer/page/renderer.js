@@ -1,4 +1,5 @@
-// Draws the frames that the graphics processor has, from any camera, and the pyramid of a frozen one.
+// Draws the frames that the graphics processor has, from any camera, and the pyramid of a frozen
+// one.
 import { WIDTH, rows } from "./layout.js";
 import { clipMatrix, plus, unit } from "./matrices.js";
 import {
@@ -14,15 +15,27 @@ const EDGES = 0.62; // how dark edges are
 const NOTHING_GLIDES = -1;
 
 // What the page is drawn on: the sky, and the faces and edges where edges alone are drawn.
-export const THEMES = {
-  dark: { low: [0.225, 0.265, 0.315], high: [0.075, 0.095, 0.125], paper: [0.085, 0.11, 0.14], ink: [0.62, 0.82, 1] },
-  light: { low: [0.87, 0.885, 0.9], high: [0.965, 0.972, 0.98], paper: [0.93, 0.94, 0.95], ink: [0.1, 0.24, 0.4] },
+const DARK = {
+  low: [0.225, 0.265, 0.315], high: [0.075, 0.095, 0.125],
+  paper: [0.085, 0.11, 0.14], ink: [0.62, 0.82, 1],
 };
+const LIGHT = {
+  low: [0.87, 0.885, 0.9], high: [0.965, 0.972, 0.98],
+  paper: [0.93, 0.94, 0.95], ink: [0.1, 0.24, 0.4],
+};
+
+// Calls `take` with the theme of the screen, which is dark or light, now and when it changes.
+export function watchTheme(take) {
+  const light = matchMedia("(prefers-color-scheme: light)");
+  light.addEventListener("change", () => take(light.matches ? LIGHT : DARK));
+  take(light.matches ? LIGHT : DARK);
+}
 
 export class Renderer {
   constructor(canvas) {
-    const gl = canvas.getContext("webgl2", { antialias: true, alpha: false, powerPreference: "high-performance" });
-    if (gl === null) throw new NoGraphics("This browser gives no WebGL 2, which draws the picture.");
+    const wanted = { antialias: true, alpha: false, powerPreference: "high-performance" };
+    const gl = canvas.getContext("webgl2", wanted);
+    if (gl === null) throw new NoGraphics("This browser gives no WebGL 2, which draws pictures.");
     Object.assign(this, { gl, canvas, meshes: new Map() });
     this.mesh = linked(gl, MESH_VERTEX, MESH_FRAGMENT);
     this.lines = linked(gl, LINES_VERTEX, LINES_FRAGMENT);
@@ -47,8 +60,10 @@ export class Renderer {
   // pixels of the canvas, and how wide it is.
   draw({ camera, picture, parts, look }) {
     const { gl, canvas } = this;
-    const far = look.reach + camera.distance, near = Math.max(0.5, far / 65536, camera.distance / 500);
-    const axes = camera.axes(), eye = camera.eye(), toClip = clipMatrix(axes, picture, near, 2 * far);
+    const far = look.reach + camera.distance;
+    const near = Math.max(0.5, far / 65536, camera.distance / 500);
+    const axes = camera.axes(), eye = camera.eye();
+    const toClip = clipMatrix(axes, picture, near, 2 * far);
     gl.enable(gl.SCISSOR_TEST);
     for (const { name, left, width } of parts) {
       gl.viewport(left, 0, width, canvas.height);
@@ -95,17 +110,19 @@ export class Renderer {
   // The sides of what a frozen camera sees, from its eye on.
   drawPyramid({ camera, picture }, eye, toClip) {
     const { gl } = this, { right, up, back } = camera.axes(), from = camera.eye();
-    const depth = camera.distance * 1.15, size = depth / picture.focal / 2;
-    const middle = plus(from, -depth, back);
-    const corner = (x, y) => plus(plus(middle, x * size * picture.width, right), y * size * picture.height, up);
+    const depth = camera.distance * 1.15, middle = plus(from, -depth, back);
+    const [x, y] = [picture.width, picture.height].map((n) => (n * depth) / picture.focal / 2);
+    const corner = (i, j) => plus(plus(middle, i * x, right), j * y, up);
     const ends = [corner(-1, -1), corner(1, -1), corner(1, 1), corner(-1, 1)];
     const next = (i) => ends[(i + 1) % 4];
+    const sides = ends.flatMap((end, i) => [from, end, next(i)]);
+    const edges = ends.flatMap((end, i) => [from, end, end, next(i)]);
     gl.enable(gl.BLEND);
     gl.blendFunc(gl.ONE, gl.ONE_MINUS_SRC_ALPHA);
     gl.depthMask(false);
-    this.paint(gl.TRIANGLES, ends.flatMap((end, i) => [from, end, next(i)]), eye, toClip, [...MARK, 0.09]);
+    this.paint(gl.TRIANGLES, sides, eye, toClip, [...MARK, 0.09]);
     gl.depthMask(true);
-    this.paint(gl.LINES, ends.flatMap((end, i) => [from, end, end, next(i)]), eye, toClip, [...MARK, 0.95]);
+    this.paint(gl.LINES, edges, eye, toClip, [...MARK, 0.95]);
     gl.disable(gl.BLEND);
     this.paint(gl.POINTS, [from], eye, toClip, [...MARK, 1]);
   }
@@ -166,8 +183,8 @@ class Texture {
   constructor(gl, inside, format, type) {
     Object.assign(this, { gl, inside, format, type, room: 0, texture: gl.createTexture() });
     gl.bindTexture(gl.TEXTURE_2D, this.texture);
-    for (const name of [gl.TEXTURE_MIN_FILTER, gl.TEXTURE_MAG_FILTER]) gl.texParameteri(gl.TEXTURE_2D, name, gl.NEAREST);
-    for (const name of [gl.TEXTURE_WRAP_S, gl.TEXTURE_WRAP_T]) gl.texParameteri(gl.TEXTURE_2D, name, gl.CLAMP_TO_EDGE);
+    gl.texParameteri(gl.TEXTURE_2D, gl.TEXTURE_MIN_FILTER, gl.NEAREST);
+    gl.texParameteri(gl.TEXTURE_2D, gl.TEXTURE_MAG_FILTER, gl.NEAREST);
     this.grow(1);
   }
 
@@ -185,19 +202,28 @@ class Texture {
   }
 }
 
+function compiled(gl, kind, text) {
+  const shader = gl.createShader(kind);
+  gl.shaderSource(shader, text);
+  gl.compileShader(shader);
+  if (gl.getShaderParameter(shader, gl.COMPILE_STATUS)) return shader;
+  throw new NoGraphics(gl.getShaderInfoLog(shader));
+}
+
+// A program, and where its uniforms are, by their names.
 function linked(gl, vertexText, fragmentText) {
   const program = gl.createProgram();
-  for (const [kind, text] of [[gl.VERTEX_SHADER, vertexText], [gl.FRAGMENT_SHADER, fragmentText]]) {
-    const shader = gl.createShader(kind);
-    gl.shaderSource(shader, text);
-    gl.compileShader(shader);
-    gl.attachShader(program, shader);
-    if (!gl.getShaderParameter(shader, gl.COMPILE_STATUS)) throw new NoGraphics(gl.getShaderInfoLog(shader));
-  }
+  gl.attachShader(program, compiled(gl, gl.VERTEX_SHADER, vertexText));
+  gl.attachShader(program, compiled(gl, gl.FRAGMENT_SHADER, fragmentText));
   gl.bindAttribLocation(program, 0, "place");
   gl.linkProgram(program);
-  if (!gl.getProgramParameter(program, gl.LINK_STATUS)) throw new NoGraphics(gl.getProgramInfoLog(program));
-  const count = gl.getProgramParameter(program, gl.ACTIVE_UNIFORMS);
-  const names = [...Array(count).keys()].map((i) => gl.getActiveUniform(program, i).name);
-  return { program, at: Object.fromEntries(names.map((name) => [name, gl.getUniformLocation(program, name)])) };
+  if (!gl.getProgramParameter(program, gl.LINK_STATUS)) {
+    throw new NoGraphics(gl.getProgramInfoLog(program));
+  }
+  const at = {}, count = gl.getProgramParameter(program, gl.ACTIVE_UNIFORMS);
+  for (let i = 0; i < count; i++) {
+    const { name } = gl.getActiveUniform(program, i);
+    at[name] = gl.getUniformLocation(program, name);
+  }
+  return { program, at };
 }

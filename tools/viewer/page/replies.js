@@ -13,7 +13,8 @@ export class Replies {
   next() {
     if (this.at >= this.bytes.length) return null;
     const words = this.line().split(" ");
-    return words[0] === "frame" ? { words, ...this.frame(Number(words[1]), Number(words[2])) } : { words };
+    if (words[0] !== "frame") return { words };
+    return { words, ...this.frame(Number(words[1]), Number(words[2])) };
   }
 
   line() {

@@ -1,5 +1,6 @@
 // The programs of the graphics processor. A mesh has no vertex buffers: vertex i is corner i % 3 of
-// face i / 3, and both faces and places are looked up in textures, so a frame is put there as it came.
+// face i / 3, and both faces and places are looked up in textures, so a frame is put there as it
+// came.
 import { GLIDE, WIDTH } from "./layout.js";
 
 export const MESH_VERTEX = `#version 300 es
@@ -55,7 +56,8 @@ export const MESH_FRAGMENT = `#version 300 es
   }
   // From dark violet over blue and green to yellow.
   vec3 ramp(float t) {
-    vec3 low = between(vec3(.20, .10, .45), vec3(.16, .42, .66), vec3(.13, .64, .60), min(1.0, 2.0 * t));
+    vec3 violet = vec3(.20, .10, .45), blue = vec3(.16, .42, .66), teal = vec3(.13, .64, .60);
+    vec3 low = between(violet, blue, teal, min(1.0, 2.0 * t));
     return between(low, vec3(.30, .74, .50), vec3(1.0, .88, .30), t);
   }
   // How near the fragment is to an edge. Where triangles are a few pixels large, edges fade away.

@@ -27,11 +27,12 @@ export class Views {
   // The line of a view. While the camera moves, what is just outside the picture is refined too,
   // since it will be inside when it is drawn.
   line(camera, picture, set, now) {
-    const rests = this.isAtRest(now), draft = rests ? 1 : set.draft;
-    return viewLine(camera, picture, set.tolerance * draft, set.outline * draft, rests ? 1 : MARGIN);
+    const [draft, margin] = this.isAtRest(now) ? [1, 1] : [set.draft, MARGIN];
+    return viewLine(camera, picture, set.tolerance * draft, set.outline * draft, margin);
   }
 
-  // Asks if the view is another than the last one, or if that one's budget was spent before its end.
+  // Asks if the view is another than the last one, or if that one's budget was spent before its
+  // end.
   async ask(camera, picture, set, now) {
     if (this.sent >= this.ahead) return;
     const line = this.line(camera, picture, set, now);
@@ -39,7 +40,8 @@ export class Views {
     this.asked = line;
     this.sent++;
     try {
-      const answer = await this.work.ask({ task: "ask", script: `${line}\nw\n`, glides: set.glide });
+      const script = `${line}\nw\n`;
+      const answer = await this.work.ask({ task: "ask", script, glides: set.glide });
       const [word, moves, left] = answer.replies[0];
       this.left = word === "spent" ? Number(left) : 0;
       this.framed({ ...answer, moves: Number(moves) });

@@ -5,7 +5,7 @@ export class Work {
     this.number = 0;
     this.worker = new Worker(name, { type: "module" });
     this.worker.onmessage = ({ data }) => this.come(data);
-    this.worker.onerror = (event) => this.fail(event.message || "the page's worker can't be started");
+    this.worker.onerror = ({ message }) => this.fail(message || "the page's worker can't start");
   }
 
   // What the task gives; where it doesn't, a promise that fails with { reason, cure }.

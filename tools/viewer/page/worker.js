@@ -1,28 +1,30 @@
 // Talks with the server and makes of each frame what the page puts into textures. A message has a
-// task and a number; the answer has the same number, and what the task gives or its fault. While the
-// replies to one script are read, the next may be on its way.
+// task and a number; the answer has the same number, and what the task gives or its fault. While
+// the replies to one script are read, the next may be on its way.
 import { Connection, fetched } from "./connection.js";
 import { FrameMaker } from "./frames.js";
 import { meanColours, readHierarchy } from "./hierarchy.js";
-import { objText } from "./keeping.js";
+import { objText } from "./obj.js";
 import { readReplies } from "./replies.js";
 
 const TIMES = 8; // bytes of the program's two times before the replies
 
-let connection = null, hierarchy = null, maker = null, shown = null, origin = 0;
+let connection = null, hierarchy = null, maker = null;
+let shown = null; // the numbers of the front's frame
+let origin = 0;   // when the page's clock began
 
 const tasks = {
   // The model: what is told of it, and what of the hierarchy the page needs.
   async open({ pageOrigin }) {
     origin = pageOrigin;
     connection = new Connection();
-    const [about, stream] = await Promise.all([fetched("about"), fetched("stream"), connection.open]);
-    const told = await about.json();
-    hierarchy = readHierarchy(await stream.arrayBuffer());
-    const colours = told.coloured ? new Uint8Array(await (await fetched("colours")).arrayBuffer()) : null;
-    maker = new FrameMaker(hierarchy, colours && meanColours(hierarchy, colours));
+    await connection.open;
+    const about = await (await fetched("about")).json();
+    hierarchy = readHierarchy(await (await fetched("stream")).arrayBuffer());
+    const colours = about.coloured ? meanColours(hierarchy, await bytesOf("colours")) : null;
+    maker = new FrameMaker(hierarchy, colours);
     const { digits, faces, deepest, low, high } = hierarchy;
-    return { about: told, hierarchy: { digits, faces, deepest, low, high } };
+    return { about, hierarchy: { digits, faces, deepest, low, high } };
   },
 
   // The replies to a script, and its frame if it asks for one.
@@ -38,24 +40,27 @@ const tasks = {
       view, frameText, transfer: milliseconds - view - frameText,
       read: read - came, arrays: performance.now() - read, bytes: data.byteLength,
     };
-    return { replies: replies.map((words) => withInput(words)), frame, times };
+    return { replies: replies.map(withInput), frame, times };
   },
 
   // The input itself, to be drawn beside the front.
   async input() {
-    const bytes = new Uint8Array(await (await fetched("input")).arrayBuffer());
-    return { frame: maker.beside(readReplies(bytes).mesh) };
+    return { frame: maker.beside(readReplies(await bytesOf("input")).mesh) };
   },
 
   // The mesh shown, as an OBJ text.
   async obj() { return { text: objText(shown, hierarchy.digits) }; },
 };
 
-// Seconds of the page's clock, which a worker's clock began later than.
+// Seconds of the page's clock: a worker's own began later.
 const seconds = () => (performance.timeOrigin + performance.now() - origin) / 1000;
 
+const bytesOf = async (path) => new Uint8Array(await (await fetched(path)).arrayBuffer());
+
 // The reply to a ray, with the face's number in the input put behind.
-const withInput = (words) => (words[0] === "hit" ? [...words, hierarchy.faceInputs[Number(words[1])]] : words);
+function withInput(words) {
+  return words[0] === "hit" ? [...words, hierarchy.faceInputs[Number(words[1])]] : words;
+}
 
 onmessage = async ({ data }) => {
   if (data.spent) {

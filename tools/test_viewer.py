@@ -1,0 +1,32 @@
+"""Tries the window: python3 tools/test_viewer.py [PROGRAM] [NAME ..]
+
+PROGRAM is the vdpm to use, with its prepare beside it; this repository's if none is given. What
+needs a browser is left out where no Chromium is found, and that is said. NAMEs choose tests, as
+those of `python3 -m unittest` do: `looking.Looking`, say.
+"""
+import os
+import sys
+import unittest
+from pathlib import Path
+
+from browser import NAMES, found
+
+TOOLS = Path(__file__).resolve().parent
+SUBJECTS = ("programs", "models", "serving", "films", "looking")
+
+
+def main() -> None:
+    words = sys.argv[1:]
+    if words and Path(words[0]).is_file():
+        os.environ["VIEWER_TESTS_PROGRAM"] = str(Path(words.pop(0)).resolve())
+    sys.path.insert(0, str(TOOLS))
+    names = [f"viewer_tests.{name}" for name in words or SUBJECTS]
+    suite = unittest.defaultTestLoader.loadTestsFromNames(names)
+    result = unittest.TextTestRunner(buffer=True).run(suite)
+    if not found():
+        print(f"LEFT OUT: all tests in a browser, since none of these is here: {', '.join(NAMES)}")
+    sys.exit(0 if result.wasSuccessful() else 1)
+
+
+if __name__ == "__main__":
+    main()

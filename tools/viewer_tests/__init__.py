@@ -1,0 +1,1 @@
+"""The tests of the window, by subject; tools/test_viewer.py runs them."""

@@ -1,0 +1,55 @@
+"""What the tests of the window share: the program, models, and a server that ends with its test."""
+import os
+import tempfile
+import threading
+import unittest
+from functools import lru_cache
+from pathlib import Path
+
+from viewer.main import programs_of
+from viewer.model import Model, model_of
+from viewer.program import ALL_MOVES
+from viewer.server import Server
+from viewer.session import Session
+
+TOP = Path(__file__).resolve().parent.parent.parent
+EXAMPLES = TOP / "examples"
+STREAM = EXAMPLES / "octahedron.vdpm"
+
+
+def program() -> Path:
+    """The vdpm that is tried: tools/test_viewer.py names another one so."""
+    return Path(os.environ.get("VIEWER_TESTS_PROGRAM", TOP / "vdpm")).resolve()
+
+
+@lru_cache(maxsize=None)
+def model(name: str) -> Model:
+    """The model of an example."""
+    return model_of(EXAMPLES / name, programs_of(program()))
+
+
+class Case(unittest.TestCase):
+    """A test with a folder of its own."""
+
+    def folder(self) -> Path:
+        made = tempfile.TemporaryDirectory()
+        self.addCleanup(made.cleanup)
+        return Path(made.name)
+
+    def written(self, name: str, data: bytes, runs: bool = False) -> Path:
+        path = self.folder() / name
+        path.write_bytes(data)
+        path.chmod(0o755 if runs else 0o644)
+        return path
+
+    def served(self, looked_at: Model, budget: int = ALL_MOVES) -> Server:
+        server = Server(Session(program(), looked_at, budget))
+        threading.Thread(target=server.serve_forever, args=(0.02,), daemon=True).start()
+        self.addCleanup(end, server)
+        return server
+
+
+def end(server: Server) -> None:
+    server.shutdown()
+    server.server_close()
+    server.session.close()

@@ -1,0 +1,80 @@
+"""Films: the frames of a script with their views, and modules as one script."""
+import subprocess
+import sys
+from typing import List
+
+from viewer.bundle import CantBundle, bundled, in_order, wrapped
+from viewer.film import PAGE, BadFlight, Numbers, film_page, shots
+from viewer.program import ALL_MOVES, ProgramEnded, replies_to
+
+from .common import EXAMPLES, STREAM, TOP, Case, model, program
+
+NEAR, FAR = "v 0 -900 300 1000 0", "v 0 -900 300 1000 60000"
+
+
+def taken(script: str) -> "List[tuple[str, int]]":
+    replies = replies_to(program(), STREAM.read_bytes(), script.encode()).decode()
+    return [(shot.view, len(shot.frame.faces)) for shot in shots(script, replies)]
+
+
+class Shots(Case):
+    def test_each_frame_has_the_view_before_it(self) -> None:
+        script = f"w\nm\n{NEAR}\nw\nt\n{FAR}\np 0 0 0 0 0 1\nw\nq\nw\n"
+        self.assertEqual(taken(script), [("", 4), (NEAR, 8), (FAR, 4)])
+
+    def test_a_geomorph_that_is_refused_is_no_frame(self) -> None:
+        script = f"{FAR}\nk\n{NEAR}\ng 0 2\ng 1 2\nk\n{FAR}\ng 1 2\nw\n"
+        self.assertEqual(taken(script), [(NEAR, 8), (NEAR, 8), (FAR, 4)])
+
+    def test_a_flight_without_frames_is_told(self) -> None:
+        octahedron = model("octahedron.vdpm")
+        with self.assertRaisesRegex(BadFlight, "no line of it asks for a frame"):
+            film_page(program(), octahedron, b"m\n", ALL_MOVES)
+        with self.assertRaisesRegex(ProgramEnded, "fault 30 line 1"):
+            film_page(program(), octahedron, b"v 1 2\n", ALL_MOVES)
+
+
+class Packing(Case):
+    def test_numbers_take_seven_bits_a_byte(self) -> None:
+        numbers = Numbers()
+        for number in (0, 127, 128, 300):
+            numbers.put(number)
+        for number in (0, -1, 1, -64, 64):
+            numbers.put_signed(number)
+        self.assertEqual(numbers.bytes, bytes([0, 127, 128, 1, 172, 2, 0, 1, 2, 127, 128, 1]))
+
+    def test_a_film_is_one_page_that_loads_nothing(self) -> None:
+        flight = (EXAMPLES / "octahedron_glide.script").read_bytes()
+        page = film_page(program(), model("octahedron.vdpm"), flight, ALL_MOVES)
+        for word in ("http:", "https:", "src=", "@import", "import(", "fetch(", "WebSocket"):
+            self.assertNotIn(word, page)
+        self.assertEqual(page.count("<script"), 2)
+        self.assertLess(len(page), 60000)
+
+    def test_the_command_writes_it(self) -> None:
+        words = [sys.executable, str(TOP / "viewer"), "--program", str(program()), "--film"]
+        words += [str(EXAMPLES / "octahedron_glide.script"), str(STREAM)]
+        done = subprocess.run(words, capture_output=True, text=True, check=False)
+        self.assertEqual(done.returncode, 0, done.stderr)
+        self.assertTrue(done.stdout.startswith("<!doctype html>"))
+
+
+class Bundling(Case):
+    def test_modules_stand_after_those_that_they_need(self) -> None:
+        order = in_order(PAGE, "film")
+        self.assertEqual(order[-1], "film")
+        self.assertLess(order.index("matrices"), order.index("camera"))
+        self.assertLess(order.index("layout"), order.index("shaders"))
+        self.assertEqual(len(order), len(set(order)))
+        self.assertNotIn("\nimport ", bundled(PAGE, "film"))
+
+    def test_a_module_gives_what_it_exports(self) -> None:
+        text = 'import { a } from "./one.js";\nimport * as two from "./two.js";\n'
+        text += "export const b = a;\nexport class C {}\nconst d = 1;\n"
+        self.assertEqual(wrapped("three", text), (
+            "const threeModule = (() => {\nconst { a } = oneModule;\nconst two = twoModule;\n"
+            "const b = a;\nclass C {}\nconst d = 1;\nreturn { b, C };\n})();\n"
+        ))
+        for other in ("export default 1;\n", 'import one from "./one.js";\n', "export { a };\n"):
+            with self.assertRaises(CantBundle):
+                wrapped("four", other)

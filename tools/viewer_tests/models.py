@@ -1,0 +1,110 @@
+"""From a file to a model: streams, OBJ files, those that have to be prepared, and colours."""
+import subprocess
+import sys
+from pathlib import Path
+
+from viewer.colours import PLAIN, coloured_vertices, packed
+from viewer.hierarchy import mean_colours, nodes_of
+from viewer.main import programs_of
+from viewer.model import Model, Programs, model_of, scale_of
+from viewer.program import ProgramEnded
+
+from .common import EXAMPLES, STREAM, TOP, Case, model, program
+
+SQUARE = b"v 0 0 0 1 0 0\nv 90 0 0 0 1 0\nv 90 90 0 0 0 1\nv 0 90 0 1 1 1\nf 1 2 3\nf 1 3 4\n"
+
+
+def looked_at(path: Path) -> Model:
+    return model_of(path, programs_of(program()))
+
+
+class Files(Case):
+    def test_a_stream_is_taken_as_it_is(self) -> None:
+        octahedron = model("octahedron.vdpm")
+        self.assertEqual(octahedron.stream, STREAM.read_bytes())
+        self.assertEqual((octahedron.records, octahedron.faces, octahedron.prepared), (2, 8, False))
+
+    def test_an_obj_is_built_with_the_decimals_that_it_has(self) -> None:
+        self.assertEqual(model("octahedron.obj").faces, 8)
+        asteroid = model("asteroid.obj")
+        self.assertEqual((asteroid.faces, asteroid.prepared), (6480, False))
+        self.assertEqual(asteroid.stream[4:12], bytes([2, 0, 0, 0, 1, 0, 0, 0]))
+
+    def test_an_obj_that_is_not_fit_is_prepared(self) -> None:
+        ring = model("ring_scan.obj")
+        self.assertEqual((ring.faces, ring.prepared), (576, True))
+        assert ring.scale is not None
+        self.assertAlmostEqual(ring.scale.unit, 1.2 / 65534)
+
+    def test_a_mesh_that_stays_as_it_stood_has_no_scale(self) -> None:
+        self.assertIsNone(scale_of(b"# coordinates as they stood\nv 1 2 3\n"))
+
+    def test_faults_are_told_with_place_and_cure(self) -> None:
+        stream = STREAM.read_bytes()
+        cases = [
+            (stream[:100], "fault 22 byte 100", "copy the file again"),
+            (stream + b"w\n", "fault 29", "The stream"),
+            (b"v 0 0 0\nv 1 0 0\nv 0 1 0\nf 1 2 9\n", "prepare: fault 7 line 4", "isn't read yet"),
+        ]
+        for data, reason, cure in cases:
+            with self.assertRaises(ProgramEnded) as caught:
+                looked_at(self.written("model", data))
+            self.assertIn(reason, caught.exception.reason)
+            self.assertIn(cure, caught.exception.cure)
+
+    def test_nothing_to_look_at_is_told(self) -> None:
+        with self.assertRaisesRegex(ProgramEnded, "no faces"):
+            looked_at(self.written("picture.png", b"\x89PNG\r\n"))
+
+    def test_a_program_that_is_not_proved_says_so(self) -> None:
+        notice = "vdpm: not proved on this machine yet, run-time checks are on; ./prove proves it"
+        text = f"#!/bin/sh\necho '{notice}' >&2\nexec '{program()}' \"$@\"\n"
+        fake = self.written("vdpm", text.encode(), runs=True)
+        self.assertFalse(model_of(STREAM, Programs(fake, fake)).proved)
+        with self.assertRaises(ProgramEnded) as caught:
+            model_of(self.written("short", STREAM.read_bytes()[:50]), Programs(fake, fake))
+        self.assertIn("fault 22", caught.exception.reason)
+
+    def test_the_command_says_what_is_wrong(self) -> None:
+        words = [sys.executable, str(TOP / "viewer"), "--program", str(program()), "nowhere.obj"]
+        done = subprocess.run(words, capture_output=True, text=True, check=False)
+        self.assertEqual((done.returncode, done.stdout), (1, ""))
+        self.assertIn("viewer: nowhere.obj can't be read: No such file", done.stderr)
+
+
+class Colours(Case):
+    def test_lines_with_six_numbers_have_colours(self) -> None:
+        found = coloured_vertices(SQUARE)
+        assert found is not None
+        self.assertEqual(packed(found), bytes([255, 0, 0, 0, 255, 0, 0, 0, 255, 255, 255, 255]))
+        mixed = coloured_vertices(b"v 1 2 3 # 4 5 6\nv 0 0 0 200 100 0\n")
+        assert mixed is not None
+        self.assertEqual(packed(mixed), bytes([*PLAIN, 200, 100, 0]))
+        self.assertIsNone(coloured_vertices(b"v 1 2 3\nv 1 2 3 1\nvn 1 2 3 4 5 6\n"))
+
+    def test_a_built_mesh_has_them_by_number(self) -> None:
+        square = looked_at(self.written("square.obj", SQUARE))
+        assert square.colours is not None
+        self.assertEqual(square.colours[:3], bytes([255, 0, 0]))
+
+    def test_a_prepared_mesh_has_them_by_place(self) -> None:
+        # The same square in other units, with a vertex that no face names and one twice.
+        text = SQUARE.replace(b"90", b"9.123456789").replace(b"f 1 3 4", b"f 5 3 4")
+        text = text.replace(b"f 1 2 3", b"v 0 0 0 0.5 0.5 0.5\nv 5 5 5 0 0 0\nf 1 2 3")
+        square = looked_at(self.written("square.obj", text))
+        self.assertTrue(square.prepared)
+        wanted = bytes([191, 64, 64, 0, 255, 0, 0, 0, 255, 255, 255, 255])
+        self.assertEqual(square.colours, wanted)
+
+    def test_a_node_has_the_mean_of_its_vertices(self) -> None:
+        square = looked_at(self.written("square.obj", SQUARE))
+        nodes = nodes_of(square.stream)
+        means = mean_colours(nodes, square.colours)
+        assert means is not None and square.colours is not None
+        for node, vertex in enumerate(nodes.vertices):
+            if vertex:
+                self.assertEqual(bytes(means[node]), square.colours[3 * vertex - 3:3 * vertex])
+        octahedron = nodes_of((EXAMPLES / "octahedron.vdpm").read_bytes())
+        grey = mean_colours(octahedron, bytes([10, 20, 30] * 6))
+        self.assertEqual(set(grey or []), {(10, 20, 30)})
+        self.assertEqual(max(octahedron.depths), 1)

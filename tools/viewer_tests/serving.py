@@ -1,0 +1,156 @@
+"""What the server gives, and to whom."""
+import http.client
+import json
+import os
+import signal
+import subprocess
+import sys
+import time
+from pathlib import Path
+from typing import Dict, List, Optional, Tuple
+
+from browser import PATIENCE, Line
+from viewer.program import replies_to
+from viewer.server import FILES, PAGE
+
+from .common import STREAM, TOP, Case, model, program
+
+# What plays a film is in the same folder, and isn't served.
+OF_FILMS = {"film.html", "film.js", "flight.js", "reel.js"}
+
+
+class Serving(Case):
+    def setUp(self) -> None:
+        self.server = self.served(model("octahedron.vdpm"))
+        self.host = f"127.0.0.1:{self.server.server_port}"
+        self.root = f"/{self.server.token}/"
+
+    def asked(
+        self, path: str, body: Optional[str] = None, **headers: Optional[str]
+    ) -> Tuple[int, bytes]:
+        sent: Dict[str, Optional[str]] = {"Host": self.host, "Origin": f"http://{self.host}", **headers}
+        line = http.client.HTTPConnection("127.0.0.1", self.server.server_port, timeout=PATIENCE)
+        method = "GET" if body is None else "POST"
+        line.request(method, path, body, {name: value for name, value in sent.items() if value})
+        answer = line.getresponse()
+        text = answer.read()
+        line.close()
+        return answer.status, text
+
+    def line(self, origin: Optional[str] = None, root: Optional[str] = None) -> Line:
+        at = f"ws://{self.host}{self.root if root is None else root}talk"
+        line = Line(at, f"http://{self.host}" if origin is None else origin)
+        self.addCleanup(line.close)
+        return line
+
+    def test_it_listens_here_alone(self) -> None:
+        self.assertEqual(self.server.server_address[0], "127.0.0.1")
+
+    def test_each_file_of_the_page_is_served_and_no_other(self) -> None:
+        self.assertEqual({path.name for path in PAGE.iterdir()}, set(FILES) | OF_FILMS)
+        for name in FILES:
+            self.assertEqual(self.asked(self.root + name), (200, (PAGE / name).read_bytes()))
+        for path in ("../viewer.py", "main.py", "%2e%2e/main.py", "/etc/passwd", "film.js", "page/"):
+            self.assertEqual(self.asked(self.root + path)[0], 404, path)
+
+    def test_other_hosts_are_refused(self) -> None:
+        port = self.server.server_port
+        for host in ("evil.example", f"evil.example:{port}", "127.0.0.1", "127.0.0.1:1"):
+            for path, body in (("", None), ("stream", None), ("talk", None), ("start", "1")):
+                self.assertEqual(self.asked(self.root + path, body, Host=host)[0], 403, host)
+
+    def test_a_missing_or_wrong_token_is_refused(self) -> None:
+        wrong = "x" * len(self.server.token)
+        for root in ("/", f"/{wrong}/", f"/{self.server.token[:-1]}/", f"/{self.server.token}", "//"):
+            for path, body in (("", None), ("stream", None), ("main.js", None), ("start", "1")):
+                self.assertEqual(self.asked(root + path, body)[0], 403, root + path)
+        with self.assertRaises(ConnectionRefusedError):
+            self.line(root=f"/{wrong}/")
+
+    def test_tokens_differ(self) -> None:
+        self.assertNotEqual(self.served(model("octahedron.vdpm")).token, self.server.token)
+
+    def test_scripts_of_other_pages_are_refused(self) -> None:
+        for origin in ("http://evil.example", "null", ""):
+            self.assertEqual(self.asked(f"{self.root}talk", Origin=origin)[0], 403, origin)
+            self.assertEqual(self.asked(f"{self.root}start", "1", Origin=origin)[0], 403, origin)
+            with self.assertRaises(ConnectionRefusedError):
+                self.line(origin=origin)
+
+    def said(self, line: Line, script: str) -> bytes:
+        line.send(script)
+        return line.receive()
+
+    def test_scripts_are_answered_in_order(self) -> None:
+        line = self.line()
+        scripts = ["m\n", "w\n", "m\nw\n"]
+        for script in scripts:
+            line.send(script)
+        begins = [line.receive()[8:].split()[0] for _ in scripts]
+        self.assertEqual(begins, [b"shape", b"frame", b"shape"])
+        self.assertIn(b"line 1 is none that a page may send", self.said(line, "q\n"))
+        self.assertEqual(self.said(line, "m\n")[8:].split()[0], b"shape")
+        flight = self.asked(f"{self.root}flight")
+        self.assertEqual(flight, (200, "".join([*scripts, "m\n"]).encode()))
+
+    def test_what_is_no_message_ends_the_line(self) -> None:
+        line = self.line()
+        line.end.sendall(bytes([0x81, 2]) + b"m\n")  # without a mask
+        self.assertEqual(line.bytes.read(), b"")
+        self.assertEqual(self.asked(f"{self.root}talk")[0], 400)
+        self.assertEqual(self.asked(f"{self.root}start", "1" * 70000)[0], 413)
+
+    def test_the_stream_and_the_input_are_there(self) -> None:
+        self.assertEqual(self.asked(f"{self.root}stream"), (200, STREAM.read_bytes()))
+        told = replies_to(program(), STREAM.read_bytes(), b"s 0\ns 1\nw\n")
+        self.assertEqual(self.asked(f"{self.root}input"), (200, told[told.index(b"frame"):]))
+        about = json.loads(self.asked(f"{self.root}about")[1])
+        self.assertEqual((about["name"], about["coloured"]), ("octahedron.vdpm", False))
+
+    def test_a_program_that_ended_is_told_and_can_be_started_again(self) -> None:
+        line = self.line()
+        self.assertIn(b"fault 30", self.said(line, "v 0 0 0 70000 1\n"))
+        self.assertIn(b"fault 30", self.said(line, "w\n"))
+        self.assertEqual(self.asked(f"{self.root}start", "-1")[0], 400)
+        status, text = self.asked(f"{self.root}start", "1")
+        self.assertEqual((status, json.loads(text)["budget"]), (200, 1))
+        self.assertEqual(self.said(line, "v 0 -9 0 1000 0\n")[8:], b"spent 1 1\n")
+
+
+class Ending(Case):
+    """`./viewer` itself, and the program under it."""
+
+    def started(self) -> "subprocess.Popen[str]":
+        words = [sys.executable, str(TOP / "viewer"), str(STREAM), "--program", str(program())]
+        window = subprocess.Popen(words, stdout=subprocess.PIPE, stderr=subprocess.DEVNULL, text=True)
+        self.addCleanup(window.wait)
+        self.addCleanup(window.kill)
+        assert window.stdout is not None
+        self.addCleanup(window.stdout.close)
+        self.assertRegex(window.stdout.readline(), r"^viewer: http://127\.0\.0\.1:\d+/\S{16,}/ ")
+        return window
+
+    def children(self, number: int) -> List[Path]:
+        """The processes that a process started (Linux)."""
+        tasks = Path(f"/proc/{number}/task").glob("*/children")
+        return [Path(f"/proc/{child}") for task in tasks for child in task.read_text().split()]
+
+    def test_each_way_to_end_it_ends_the_program(self) -> None:
+        for number in (signal.SIGHUP, signal.SIGTERM, signal.SIGINT, signal.SIGKILL):
+            window = self.started()
+            children = self.children(window.pid)
+            self.assertEqual(len(children), 1)
+            os.kill(window.pid, number)
+            window.wait(PATIENCE)
+            end = time.monotonic() + PATIENCE
+            while any(is_running(child) for child in children):
+                self.assertLess(time.monotonic(), end, f"{number}: the program goes on")
+                time.sleep(0.01)
+
+
+def is_running(process: Path) -> bool:
+    """Whether a process is there and isn't a mere rest that waits to be asked for its status."""
+    try:
+        return ") Z " not in (process / "stat").read_text()
+    except OSError:
+        return False
