@@ -12,7 +12,9 @@ from pathlib import Path
 from browser import NAMES, found
 
 TOOLS = Path(__file__).resolve().parent
-SUBJECTS = ("programs", "models", "serving", "films", "looking")
+SUBJECTS = (
+    "programs", "models", "serving", "films", "looking", "settings", "keeping", "playing",
+)
 
 
 def main() -> None:

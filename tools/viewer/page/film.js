@@ -16,7 +16,9 @@ class Film {
     Object.assign(this, { canvas, reel, camera, radius, middle: camera.target });
     this.renderer = new Renderer(canvas);
     this.plays = true;
-    this.passed = 0; // of a frame, since the last one
+    this.passed = 0;      // of a frame, since the last one
+    this.wakes = false;   // whether a picture is going to be made
+    this.tickedAt = 0;
     part("at").max = reel.length - 1;
     part("name").textContent = reel.head.name;
     document.title = `${reel.head.name}: a film`;
@@ -26,8 +28,17 @@ class Film {
     // While a camera moves its views reach a little beyond the picture, so the narrowest is it.
     this.opening = Math.max(0, ...this.looks.map((look) => look?.opening ?? 0));
     this.takeHands();
-    watchTheme((theme) => Object.assign(this, { theme, dirty: true }));
+    watchTheme((theme) => {
+      this.theme = theme;
+      this.wake();
+    });
     this.show(0);
+  }
+
+  // A picture is drawn when something changes or the film plays, and none else.
+  wake() {
+    if (this.wakes) return;
+    this.wakes = true;
     requestAnimationFrame((now) => this.tick(now));
   }
 
@@ -37,7 +48,7 @@ class Film {
       focal: () => this.picture().focal,
       nearest: () => Math.max(2, this.radius / 400),
       farthest: () => 30 * this.radius,
-      moved: () => { this.dirty = true; },
+      moved: () => this.wake(),
       picked: () => {},
       keys: { " ": () => this.playOrPause() },
     });
@@ -49,9 +60,9 @@ class Film {
     part("bar").addEventListener("submit", (event) => event.preventDefault());
     part("bar").addEventListener("change", () => {
       if (isOn("follow")) this.follow(this.reel.at);
-      this.dirty = true;
+      this.wake();
     });
-    addEventListener("resize", () => { this.dirty = true; });
+    addEventListener("resize", () => this.wake());
   }
 
   // The camera that hands move: it leaves the flight where it is.
@@ -68,6 +79,7 @@ class Film {
     if (this.reel.at === this.reel.length - 1) this.show(0);
     Object.assign(this, { plays: true, passed: 0 });
     part("play").textContent = "Pause";
+    this.wake();
   }
 
   pause() {
@@ -84,22 +96,21 @@ class Film {
     const step = this.reel.head.steps[at], glide = step ? `, ${step[0]}/${step[1]} of the way` : "";
     part("frame-said").textContent = `frame ${at + 1} of ${this.reel.length}${glide}`;
     if (isOn("follow")) this.follow(at);
-    this.dirty = true;
+    this.wake();
   }
 
   // Takes the camera from where a frame's view looks.
   follow(at) {
     const look = this.looks[at];
     if (look !== null) this.camera = cameraOf(look, this.middle, this.radius);
-    this.dirty = true;
   }
 
   tick(now) {
-    const passed = Math.min(0.1, (now - (this.before ?? now)) / 1000);
-    this.before = now;
+    const passed = Math.min(0.1, (now - this.tickedAt) / 1000);
+    Object.assign(this, { tickedAt: now, wakes: false });
     if (this.plays) this.play(passed);
-    if (this.dirty) this.draw();
-    requestAnimationFrame((next) => this.tick(next));
+    this.draw();
+    if (this.plays) this.wake();
   }
 
   play(passed) {
@@ -121,7 +132,6 @@ class Film {
     if (canvas.width !== width || canvas.height !== height) {
       Object.assign(canvas, { width, height });
     }
-    this.dirty = false;
     this.renderer.draw({
       camera: this.camera,
       picture,

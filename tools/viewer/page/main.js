@@ -33,6 +33,8 @@ class Window {
     this.frozen = null;          // the camera whose front is kept, with its picture
     this.hit = null;             // what a click met
     this.dirty = true;           // whether what is drawn isn't what is known
+    this.wakes = false;          // whether a picture is going to be made
+    this.tickedAt = 0;
     this.glidesUntil = 0;
     this.ended = false;
     this.starting = false;
@@ -60,8 +62,20 @@ class Window {
     const { camera, radius } = homeOf(this.hierarchy, this.set.upright, this.picture());
     Object.assign(this, { camera, radius });
     this.takeHands();
-    watchTheme((theme) => Object.assign(this, { theme, dirty: true }));
+    watchTheme((theme) => this.change({ theme }));
     panel.saySettings(this.set);
+  }
+
+  // Takes what is known now, which has to be drawn.
+  change(known) {
+    Object.assign(this, known, { dirty: true });
+    this.wake();
+  }
+
+  // Pictures are made while something happens, and none at rest.
+  wake() {
+    if (this.wakes) return;
+    this.wakes = true;
     requestAnimationFrame((now) => this.tick(now));
   }
 
@@ -87,24 +101,24 @@ class Window {
       hide: () => panel.toggle(),
       unhide: () => panel.toggle(),
     });
-    addEventListener("resize", () => { this.dirty = true; });
+    addEventListener("resize", () => this.change({}));
   }
 
   settingChanged(name) {
     const before = farther(this.picture());
     this.set = panel.settings();
     this.camera.distance *= farther(this.picture()) / before;
-    this.dirty = true;
     panel.saySettings(this.set);
     if (name === "freeze") this.frozen = this.set.freeze ? this.seen() : null;
     if (name === "budget") this.budgetAt = performance.now() + BUDGET_SETTLES;
     if (name === "upright") this.home();
     if (name === "beside" && this.set.beside) this.showInput();
+    this.change({});
   }
 
   moved() {
-    this.dirty = true;
     if (this.frozen === null) this.views.moved();
+    this.change({});
   }
 
   home() {
@@ -115,8 +129,8 @@ class Window {
   // --- one picture
 
   tick(now) {
-    const passed = Math.min(100, now - (this.before ?? now));
-    this.before = now;
+    const passed = Math.min(100, now - this.tickedAt);
+    Object.assign(this, { tickedAt: now, wakes: false });
     if (this.set.round) {
       this.camera.turn((passed / 1000) * CIRCLE, 0);
       this.moved();
@@ -124,7 +138,8 @@ class Window {
     if (!this.ended && !this.starting) this.goOn(now);
     if (this.dirty || now < this.glidesUntil) this.draw(now);
     if (now - this.times.said > SAY_AGAIN && this.shown !== null) this.say(now);
-    requestAnimationFrame((next) => this.tick(next));
+    // Counters go on for a second, until all that they count is past.
+    if (!this.ended && !this.isSettled || this.times.draws.length > 0) this.wake();
   }
 
   // Asks for a view, or takes a new budget as soon as no view is on its way.
@@ -204,7 +219,8 @@ class Window {
   get isSettled() {
     const now = performance.now(), { views } = this;
     if (this.shown === null || this.dirty || now < this.glidesUntil) return false;
-    if (this.starting || this.budgetAt !== null || !views.isIdle || views.left > 0) return false;
+    if (this.starting || this.budgetAt !== null || this.set.round) return false;
+    if (!views.isIdle || views.left > 0) return false;
     const { camera, picture } = this.frozen ?? this.seen();
     return views.isAtRest(now) && views.asked === views.line(camera, picture, this.set, now);
   }
@@ -219,8 +235,7 @@ class Window {
     const { nodeCount, faceCount, changes, arrays } = frame;
     const comes = arrays.starts && changes.nodesCome > 0;
     if (comes) this.glidesUntil = begun + 1000 * GLIDE + GLIDES_ON;
-    this.shown = { nodeCount, faceCount, changes, moves, times };
-    this.dirty = true;
+    this.change({ shown: { nodeCount, faceCount, changes, moves, times } });
     this.times.fronts.push(begun);
     if (measures) this.log.push({ put: this.times.put, ...this.shown });
     this.work.giveBack(arrays);
@@ -232,7 +247,7 @@ class Window {
     try {
       const { frame } = await this.work.ask({ task: "input" });
       this.renderer.show("input", frame);
-      Object.assign(this, { inputState: "shown", dirty: true });
+      this.change({ inputState: "shown" });
     } catch (fault) {
       this.inputState = "unasked";
       this.fail(fault);
@@ -254,11 +269,11 @@ class Window {
       const answer = await fetch("start", { method: "POST", body: String(budget) });
       if (!answer.ok) throw new Error(await answer.text());
       this.views.forget();
-      Object.assign(this, { ended: false, budget, dirty: true });
+      Object.assign(this, { ended: false, budget });
     } catch (fault) {
       this.fail({ reason: fault instanceof TypeError ? GONE : fault.message, cure: "" });
     }
-    this.starting = false;
+    this.change({ starting: false });
   }
 
   // --- what is under a click, and what is kept
@@ -274,7 +289,7 @@ class Window {
       this.fail(fault);
     }
     panel.sayPicked(this.hit && sentence(this.hit, this.about, this.hierarchy));
-    this.dirty = true;
+    this.change({});
   }
 
   saveFlight() {

@@ -70,10 +70,9 @@ export function toggle() {
 }
 
 // What is shown, what it took, and how often it changes.
+let said = "";
 export function sayCounters({ shown, all, left, put, draw, pictures, fronts, mark }) {
   const { moves, times, changes: { nodesCome, nodesGone, facesCome, facesGone } } = shown;
-  part("faces-said").textContent = counted(shown.faceCount);
-  part("all-said").textContent = `of ${counted(all)} faces`;
   const rows = [
     ["nodes", counted(shown.nodeCount)],
     ["moves", left > 0 ? `${counted(moves)}, ${counted(left)} left` : counted(moves)],
@@ -85,6 +84,11 @@ export function sayCounters({ shown, all, left, put, draw, pictures, fronts, mar
     ["put, draw", `${milliseconds(put)}, ${milliseconds(draw)} ms`],
     ["frames a second", pictures > 2 ? `${pictures}, ${fronts} fronts` : "at rest"],
   ];
+  const now = JSON.stringify([shown.faceCount, rows, mark]);
+  if (now === said) return; // so that nothing is laid out and painted again
+  said = now;
+  part("faces-said").textContent = counted(shown.faceCount);
+  part("all-said").textContent = `of ${counted(all)} faces`;
   const row = (cells) => made("tr", cells.map((cell) => made("td", [cell])));
   part("rows").replaceChildren(...rows.map(row));
   part("mark").textContent = mark;
@@ -99,6 +103,7 @@ function made(kind, inside) {
 
 // The captions of the two halves; none where there is one picture.
 export function sayHalves(captions) {
+  if (captions === null && part("halves").hidden) return;
   part("halves").hidden = captions === null;
   if (captions !== null) [part("left-half").textContent, part("right-half").textContent] = captions;
 }

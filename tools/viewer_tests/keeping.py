@@ -1,0 +1,98 @@
+"""What is under a click, and what is kept: flights, pictures, lines and meshes."""
+import subprocess
+from typing import Dict, List
+
+from frames import read_frames
+from frames_to_obj import obj_lines
+from viewer.program import replies_to
+
+from .common import model, program
+from .pages import Page
+
+
+class Keeping(Page):
+    def test_a_click_tells_the_face_of_the_p_line(self) -> None:
+        self.page.click(390, 250)
+        self.page.until("!document.getElementById('picked').hidden")
+        line = self.value("fetch('flight').then((a) => a.text())").splitlines()[-1]
+        self.assertTrue(line.startswith("p "))
+        looked_at = model("asteroid.obj")
+        splits = "".join(f"s {record}\n" for record in range(looked_at.records))
+        script = f"{line}\n{splits}w\n".encode()
+        replies = replies_to(program(), looked_at.stream, script).decode()
+        _, face, s, q = replies.split("\n", 1)[0].split()
+        said = self.text("picked")
+        self.assertRegex(said, rf"^Face \d+ of the input \({face} in the stream\), at ")
+        [full] = read_frames(replies.splitlines())
+        shown = full.faces[full.numbers.index(int(face))]
+        self.assertEqual(
+            turned([full.points[corner] for corner in shown]), input_face(int(said.split()[1]))
+        )
+        way = [int(n) for n in line.split()[1:]]
+        place = [(way[i] + int(s) / int(q) * way[i + 3]) / 10 for i in range(3)]
+        told = [float(n) for n in said.split(" at ")[1].split()]
+        for ours, theirs in zip(told, place):
+            self.assertAlmostEqual(ours, theirs, delta=0.051)
+
+    def test_a_saved_flight_gives_the_same_replies(self) -> None:
+        self.page.drag((400, 300), (500, 320))
+        self.settle()
+        self.page.key("+")
+        self.settle()
+        self.value("document.getElementById('save-flight').click()")
+        script = self.page.downloaded("flight.script")
+        replies = replies_to(program(), model("asteroid.obj").stream, script)
+        self.assertEqual(replies, b"".join(answer.text for answer in self.answers))
+        self.assertGreater(len(self.answers), 2)
+
+    def test_the_picture_is_a_png(self) -> None:
+        self.value("document.getElementById('save-picture').click()")
+        self.assertEqual(self.page.downloaded("picture.png")[:8], b"\x89PNG\r\n\x1a\n")
+
+    def test_the_mesh_is_the_obj_of_the_frame(self) -> None:
+        self.value("document.getElementById('save-mesh').click()")
+        text = self.page.downloaded("mesh.obj").decode()
+        lines = list(obj_lines(self.last_frame(), digits=1))
+        self.assertEqual(text.splitlines(), lines)
+        canon = [str(program()), "canon", "--digits", "1"]
+        done = subprocess.run(canon, input=text.encode(), capture_output=True, check=False)
+        self.assertEqual(done.stdout.decode(), text)
+
+    def test_the_line_of_the_view_is_copied(self) -> None:
+        self.value("globalThis.copied = []; navigator.clipboard.writeText = async (t) => copied.push(t); 0")
+        self.value("document.getElementById('copy-view').click()")
+        self.page.until("copied.length === 1")
+        self.assertEqual(self.value("copied[0]"), f"{self.asked()}\n")
+        view = f"{self.asked()}\nm\n".encode()
+        told = replies_to(program(), model("asteroid.obj").stream, view).decode()
+        self.assertEqual(int(told.split()[4 + 1]), self.faces())
+
+    def test_the_settings_can_be_hidden(self) -> None:
+        hidden = "[panel, unhide].map((name) => name.hidden)"
+        self.assertEqual(self.value(hidden), [False, True])
+        self.page.key("h")
+        self.assertEqual(self.value(hidden), [True, False])
+        self.value("unhide.click()")
+        self.assertEqual(self.value(hidden), [False, True])
+
+
+def turned(corners: "List[tuple[int, ...]]") -> "List[tuple[int, ...]]":
+    """Corners from the least one on."""
+    least = corners.index(min(corners))
+    return corners[least:] + corners[:least]
+
+
+def input_face(number: int) -> "List[tuple[int, ...]]":
+    """The places of the corners of a face of the input, counted from 1."""
+    done = subprocess.run(
+        [str(program()), "expand"], input=model("asteroid.obj").stream, capture_output=True, check=True
+    )
+    points: List["tuple[int, ...]"] = []
+    faces: Dict[int, List[int]] = {}
+    for line in done.stdout.decode().splitlines():
+        word, *fields = line.split()
+        if word == "v":
+            points.append(tuple(round(10 * float(field)) for field in fields))
+        else:
+            faces[len(faces) + 1] = [int(field) for field in fields]
+    return turned([points[vertex - 1] for vertex in faces[number]])

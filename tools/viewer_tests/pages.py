@@ -1,0 +1,75 @@
+"""A page in a real browser, for the tests that look at it."""
+import atexit
+import unittest
+from functools import lru_cache
+from typing import Any, List
+
+from browser import Browser, found
+from frames import Frame, read_frames
+from viewer.model import Model
+from viewer.program import Answer
+
+from .common import Case, model
+
+WIDTH, HEIGHT = 760, 480
+
+
+@lru_cache(maxsize=None)
+def browser() -> Browser:
+    """One browser for all tests: each loads a page of its own."""
+    started = Browser(WIDTH, HEIGHT)
+    atexit.register(started.close)
+    return started
+
+
+@unittest.skipUnless(found(), "no Chromium")
+class Page(Case):
+    """A page that looks at the asteroid, and what it got of the program."""
+
+    settled = "globalThis.viewer && viewer.isSettled"
+
+    def setUp(self) -> None:
+        self.page = browser()
+        self.page.scheme("dark")
+        self.look_at(model("asteroid.obj"))
+
+    def look_at(self, looked_at: Model) -> None:
+        self.server = self.served(looked_at)
+        self.answers: List[Answer] = []
+        ask = self.server.session.ask
+
+        def noted(script: str) -> Answer:
+            self.answers.append(ask(script))
+            return self.answers[-1]
+
+        self.server.session.ask = noted  # type: ignore[method-assign]
+        self.page.told.clear()
+        self.page.go(f"{self.server.address}?sharpness=0.2")  # it is drawn by software here
+        self.page.until(self.settled)
+
+    def value(self, text: str) -> Any:
+        return self.page.run(text)
+
+    def text(self, name: str) -> str:
+        return str(self.value(f"document.getElementById('{name}').textContent"))
+
+    def faces(self) -> int:
+        return int(self.value("viewer.shown.faceCount"))
+
+    def asked(self) -> str:
+        return str(self.value("viewer.views.asked"))
+
+    def settle(self) -> None:
+        self.page.until(self.settled)
+
+    def slide(self, name: str, to: int) -> None:
+        self.value(
+            f"(() => {{ const s = document.getElementById('{name}'); s.value = {to};"
+            " s.dispatchEvent(new Event('input', { bubbles: true })); })()"
+        )
+
+    def last_frame(self) -> Frame:
+        """The frame that was asked for last."""
+        text = next(a.text for a in reversed(self.answers) if b"frame " in a.text)
+        frame: Frame = list(read_frames(text.decode().splitlines()))[-1]
+        return frame

@@ -1,0 +1,115 @@
+"""Films in a real browser, opened from a file; and models whose colours or places the page tells."""
+from pathlib import Path
+from typing import List
+
+from frames import read_frames
+from viewer.film import film_page
+from viewer.main import programs_of
+from viewer.model import Model, model_of
+from viewer.program import ALL_MOVES, replies_to
+
+from .common import EXAMPLES, TOP, model, program
+from .models import SQUARE
+from .pages import Page
+
+FLIGHT = TOP / "examples" / "asteroid_fronts.script"
+
+
+class Films(Page):
+    """A film needs no server, so there is none but in the tests of models below."""
+
+    def look_at(self, looked_at: Model) -> None:
+        self.page.told.clear()
+
+    def play(self, looked_at: Model, flight: bytes) -> List[int]:
+        """Opens the film of a flight, and gives how many faces the replies' frames have."""
+        page = film_page(program(), looked_at, flight, ALL_MOVES)
+        path = self.written("film.html", page.encode())
+        self.page.go(path.as_uri())
+        self.page.until("location.protocol === 'file:' && globalThis.film")
+        replies = replies_to(program(), looked_at.stream, flight).decode()
+        return [len(frame.faces) for frame in read_frames(replies.splitlines())]
+
+    def test_a_film_plays_pauses_and_turns(self) -> None:
+        counts = self.play(model("asteroid.obj"), flight())
+        self.page.until("film.plays === false")
+        self.assertEqual(self.value("film.reel.at"), len(counts) - 1)
+        self.assertEqual(self.text("faces-said"), f"{counts[-1]:,}")
+        shown = self.value("film.reel.changes.map((_, at) => { film.show(at); return film.reel.faces.size; })")
+        self.assertEqual(shown, counts)
+        self.value("film.show(0)")
+        self.page.key(" ")
+        self.page.until("film.reel.at > 0")
+        before = self.value("film.camera.yaw")
+        self.page.drag((400, 300), (460, 300))
+        self.assertFalse(self.value("follow.checked"))
+        self.assertAlmostEqual(self.value("film.camera.yaw"), before - 0.3)
+        self.assertEqual(self.page.errors(), [])
+
+    def test_the_camera_of_a_flight_is_found_in_its_planes(self) -> None:
+        self.play(model("asteroid.obj"), flight())
+        self.value("film.pause(), film.show(0)")
+        eye = [int(n) for n in flight().split()[1:4]]
+        for ours, theirs in zip(self.value("film.camera.eye()"), eye):
+            self.assertAlmostEqual(ours, theirs, delta=1)
+        self.assertTrue(self.value("film.opening > 0"))
+
+    def test_a_geomorph_moves_its_points(self) -> None:
+        glide = (EXAMPLES / "asteroid_glide.script").read_bytes()
+        counts = self.play(model("asteroid.obj"), glide)
+        self.page.until("film.plays === false")
+        self.assertEqual(self.value("film.reel.head.steps"), [[0, 2], [1, 2], [2, 2]])
+        self.assertEqual(self.value("film.reel.nodeCount"), 474)
+        self.assertEqual(self.text("frame-said"), "frame 3 of 3, 2/2 of the way")
+        self.assertEqual(len(counts), 3)
+
+    def test_a_film_is_drawn_in_the_input_s_colours(self) -> None:
+        square = model_of(self.written("square.obj", SQUARE), programs_of(program()))
+        self.play(square, b"v 45 45 300 300 0\nw\n")
+        self.assertEqual(self.value("colour.value"), "own")
+        colours = self.value("[0, 4, 8, 12].map((i) => [...film.reel.colours.subarray(i, i + 3)])")
+        wanted = [[0, 0, 255], [0, 255, 0], [255, 0, 0], [255, 255, 255]]
+        self.assertEqual(sorted(colours), wanted)
+
+
+def flight() -> bytes:
+    return Path(FLIGHT).read_bytes()
+
+
+class Models(Page):
+    """Pages of other models than the asteroid."""
+
+    def setUp(self) -> None:
+        pass
+
+    def open(self, path: Path) -> None:
+        super().setUp()
+        self.look_at(model_of(path, programs_of(program())))
+
+    def test_colours_of_the_input_are_shown(self) -> None:
+        super().setUp()
+        square = model_of(self.written("square.obj", SQUARE), programs_of(program()))
+        self.look_at(square)
+        self.assertEqual(self.value("viewer.set.colour"), "own")
+        pixel = self.value(
+            "(() => { const { gl } = viewer.renderer; viewer.draw(performance.now());"
+            " const all = new Uint8Array(4 * viewer.canvas.width * viewer.canvas.height);"
+            " gl.readPixels(0, 0, viewer.canvas.width, viewer.canvas.height, gl.RGBA, gl.UNSIGNED_BYTE, all);"
+            " let most = [0, 0, 0];"
+            " for (let i = 0; i < all.length; i += 4) for (let p = 0; p < 3; p++)"
+            "   most[p] = Math.max(most[p], all[i + p] - Math.max(all[i + (p + 1) % 3], all[i + (p + 2) % 3]));"
+            " return most; })()"
+        )
+        for part in pixel:  # somewhere each of red, green and blue is the most by far
+            self.assertGreater(part, 60)
+
+    def test_a_prepared_mesh_tells_places_of_its_file(self) -> None:
+        super().setUp()
+        self.look_at(model("ring_scan.obj"))
+        self.assertEqual(self.text("notice"), "made fit by prepare")
+        self.page.click(300, 270)
+        self.page.until("!document.getElementById('picked').hidden")
+        said = self.text("picked")
+        self.assertIn("of the prepared mesh", said)
+        for part in said.split(" at ")[1].split():
+            self.assertLess(abs(float(part)), 0.61)  # the ring is 1.2 metres wide
