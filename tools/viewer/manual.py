@@ -1,5 +1,5 @@
-"""What docs/COMMANDS.md, the manual, says of faults and statuses: its tables are the one place where
-meanings and cures stand."""
+"""What docs/COMMANDS.md, the manual, says of faults and statuses: its tables are the one place
+where meanings and cures stand."""
 import re
 from pathlib import Path
 from typing import Dict, List, Optional

@@ -26,8 +26,8 @@ _KINDS = {"html": "text/html", "css": "text/css", "js": "text/javascript"}
 FILES = (
     "index.html", "style.css", "camera.js", "connection.js", "controls.js", "faults.js",
     "frames.js", "hierarchy.js", "keeping.js", "layout.js", "main.js", "matrices.js", "obj.js",
-    "panel.js", "picking.js", "renderer.js", "replies.js", "shaders.js", "views.js", "work.js",
-    "worker.js",
+    "panel.js", "picking.js", "renderer.js", "replies.js", "scene.js", "shaders.js", "views.js",
+    "work.js", "worker.js",
 )
 LONGEST_BODY = 1 << 10
 BYTES = "application/octet-stream"

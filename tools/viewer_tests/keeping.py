@@ -59,7 +59,10 @@ class Keeping(Page):
         self.assertEqual(done.stdout.decode(), text)
 
     def test_the_line_of_the_view_is_copied(self) -> None:
-        self.value("globalThis.copied = []; navigator.clipboard.writeText = async (t) => copied.push(t); 0")
+        self.value(
+            "globalThis.copied = [];"
+            " navigator.clipboard.writeText = async (text) => { copied.push(text); }; 0"
+        )
         self.value("document.getElementById('copy-view').click()")
         self.page.until("copied.length === 1")
         self.assertEqual(self.value("copied[0]"), f"{self.asked()}\n")
@@ -84,9 +87,8 @@ def turned(corners: "List[tuple[int, ...]]") -> "List[tuple[int, ...]]":
 
 def input_face(number: int) -> "List[tuple[int, ...]]":
     """The places of the corners of a face of the input, counted from 1."""
-    done = subprocess.run(
-        [str(program()), "expand"], input=model("asteroid.obj").stream, capture_output=True, check=True
-    )
+    words, stream = [str(program()), "expand"], model("asteroid.obj").stream
+    done = subprocess.run(words, input=stream, capture_output=True, check=True)
     points: List["tuple[int, ...]"] = []
     faces: Dict[int, List[int]] = {}
     for line in done.stdout.decode().splitlines():

@@ -8,7 +8,7 @@ from .pages import HEIGHT, WIDTH, Page
 
 # How much of a picture isn't the sky: its tones are blue, and those of stone aren't.
 WARM = """((left, width) => {
-  const { renderer } = viewer, { gl } = renderer, height = gl.drawingBufferHeight;
+  const { gl } = viewer.scene.renderer, height = gl.drawingBufferHeight;
   viewer.draw(performance.now());
   const pixels = new Uint8Array(4 * width * height);
   gl.readPixels(left, 0, width, height, gl.RGBA, gl.UNSIGNED_BYTE, pixels);
@@ -20,12 +20,13 @@ WARM = """((left, width) => {
 
 class Drawing(Page):
     def test_the_mesh_is_drawn_and_its_counts_are_the_replies(self) -> None:
-        warm = self.value(f"{WARM}(0, viewer.canvas.width)")
+        warm = self.value(f"{WARM}(0, viewer.scene.canvas.width)")
         self.assertGreater(warm, 0.1)
         self.assertLess(warm, 0.8)
         frame = self.last_frame()
         self.assertEqual(self.faces(), len(frame.faces))
-        self.page.until(f"document.getElementById('faces-said').textContent === '{len(frame.faces):,}'")
+        said = "document.getElementById('faces-said').textContent"
+        self.page.until(f"{said} === '{len(frame.faces):,}'")
         self.assertEqual(self.text("all-said"), "of 6,480 faces")
         self.assertIn(f"nodes{len(frame.nodes):,}moves{len(frame.nodes) - 4:,}", self.text("rows"))
         self.assertEqual(self.page.errors(), [])
@@ -45,13 +46,13 @@ class Drawing(Page):
             self.assertEqual(numbers[8 + 4 * place], -eye)
 
     def test_colours_and_shading_change_the_picture(self) -> None:
-        seen = {self.value("viewer.draw(performance.now()), viewer.canvas.toDataURL()")}
+        seen = {self.value("viewer.draw(performance.now()), viewer.scene.canvas.toDataURL()")}
         for key in ("s", "e", "2", "4"):
             self.page.key(key)
-            seen.add(self.value("viewer.draw(performance.now()), viewer.canvas.toDataURL()"))
+            seen.add(self.value("viewer.draw(performance.now()), viewer.scene.canvas.toDataURL()"))
         self.page.scheme("light")
         self.page.until("viewer.theme.low[0] > 0.5")
-        seen.add(self.value("viewer.draw(performance.now()), viewer.canvas.toDataURL()"))
+        seen.add(self.value("viewer.draw(performance.now()), viewer.scene.canvas.toDataURL()"))
         self.page.scheme("dark")
         self.assertEqual(len(seen), 6)
 
@@ -59,9 +60,9 @@ class Drawing(Page):
         self.page.key("b")
         self.page.until("viewer.inputState === 'shown'")
         self.settle()
-        half = "viewer.canvas.width / 2"
+        half = "viewer.scene.canvas.width / 2"
         self.assertGreater(self.value(f"{WARM}({half}, {half})"), 0.1)
-        self.assertEqual(self.value("viewer.renderer.meshes.get('input').faceCount"), 6480)
+        self.assertEqual(self.value("viewer.scene.renderer.meshes.get('input').faceCount"), 6480)
         self.assertEqual(self.value("viewer.picture().width"), WIDTH / 2)
         self.page.until("document.getElementById('right-half').textContent === 'the input'")
 

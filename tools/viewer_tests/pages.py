@@ -42,7 +42,7 @@ class Page(Case):
             self.answers.append(ask(script))
             return self.answers[-1]
 
-        self.server.session.ask = noted  # type: ignore[method-assign]
+        setattr(self.server.session, "ask", noted)
         self.page.told.clear()
         self.page.go(f"{self.server.address}?sharpness=0.2")  # it is drawn by software here
         self.page.until(self.settled)

@@ -1,4 +1,5 @@
-"""Films in a real browser, opened from a file; and models whose colours or places the page tells."""
+"""Films in a real browser, opened from a file; and models whose colours or places the page
+tells."""
 from pathlib import Path
 from typing import List
 
@@ -12,6 +13,20 @@ from .common import EXAMPLES, TOP, model, program
 from .models import SQUARE
 from .pages import Page
 
+# By how much red, green and blue are at most above the other two in a pixel of the picture.
+MOST_COLOURFUL = """(() => {
+  viewer.draw(performance.now());
+  const { gl } = viewer.scene.renderer, { width, height } = gl.canvas, most = [0, 0, 0];
+  const all = new Uint8Array(4 * width * height);
+  gl.readPixels(0, 0, width, height, gl.RGBA, gl.UNSIGNED_BYTE, all);
+  for (let i = 0; i < all.length; i += 4) {
+    for (let part = 0; part < 3; part++) {
+      const others = Math.max(all[i + (part + 1) % 3], all[i + (part + 2) % 3]);
+      most[part] = Math.max(most[part], all[i + part] - others);
+    }
+  }
+  return most;
+})()"""
 FLIGHT = TOP / "examples" / "asteroid_fronts.script"
 
 
@@ -35,7 +50,9 @@ class Films(Page):
         self.page.until("film.plays === false")
         self.assertEqual(self.value("film.reel.at"), len(counts) - 1)
         self.assertEqual(self.text("faces-said"), f"{counts[-1]:,}")
-        shown = self.value("film.reel.changes.map((_, at) => { film.show(at); return film.reel.faces.size; })")
+        shown = self.value(
+            "film.reel.changes.map((_, at) => { film.show(at); return film.reel.faces.size; })"
+        )
         self.assertEqual(shown, counts)
         self.value("film.show(0)")
         self.page.key(" ")
@@ -91,15 +108,7 @@ class Models(Page):
         square = model_of(self.written("square.obj", SQUARE), programs_of(program()))
         self.look_at(square)
         self.assertEqual(self.value("viewer.set.colour"), "own")
-        pixel = self.value(
-            "(() => { const { gl } = viewer.renderer; viewer.draw(performance.now());"
-            " const all = new Uint8Array(4 * viewer.canvas.width * viewer.canvas.height);"
-            " gl.readPixels(0, 0, viewer.canvas.width, viewer.canvas.height, gl.RGBA, gl.UNSIGNED_BYTE, all);"
-            " let most = [0, 0, 0];"
-            " for (let i = 0; i < all.length; i += 4) for (let p = 0; p < 3; p++)"
-            "   most[p] = Math.max(most[p], all[i + p] - Math.max(all[i + (p + 1) % 3], all[i + (p + 2) % 3]));"
-            " return most; })()"
-        )
+        pixel = self.value(MOST_COLOURFUL)
         for part in pixel:  # somewhere each of red, green and blue is the most by far
             self.assertGreater(part, 60)
 

@@ -78,8 +78,10 @@ class Starting(Case):
 class Cures(Case):
     def test_the_manual_has_a_cure_for_each_fault(self) -> None:
         faults = {
-            manual.OBJ: range(1, 13), manual.STREAM: [20, 21, 22, 23, 24, 25, 26, 27, 28, 29, 33, 11],
-            manual.SCRIPT: [30, 31, 32], manual.PREPARE: [1, 2, 9],
+            manual.OBJ: range(1, 13),
+            manual.STREAM: [11, *range(20, 30), 33],
+            manual.SCRIPT: [30, 31, 32],
+            manual.PREPARE: [1, 2, 3, 4, 6, 7, 9],
         }
         for heading, numbers in faults.items():
             for number in numbers:

@@ -28,7 +28,8 @@ class Serving(Case):
     def asked(
         self, path: str, body: Optional[str] = None, **headers: Optional[str]
     ) -> Tuple[int, bytes]:
-        sent: Dict[str, Optional[str]] = {"Host": self.host, "Origin": f"http://{self.host}", **headers}
+        own = {"Host": self.host, "Origin": f"http://{self.host}"}
+        sent: Dict[str, Optional[str]] = {**own, **headers}
         line = http.client.HTTPConnection("127.0.0.1", self.server.server_port, timeout=PATIENCE)
         method = "GET" if body is None else "POST"
         line.request(method, path, body, {name: value for name, value in sent.items() if value})
@@ -50,7 +51,8 @@ class Serving(Case):
         self.assertEqual({path.name for path in PAGE.iterdir()}, set(FILES) | OF_FILMS)
         for name in FILES:
             self.assertEqual(self.asked(self.root + name), (200, (PAGE / name).read_bytes()))
-        for path in ("../viewer.py", "main.py", "%2e%2e/main.py", "/etc/passwd", "film.js", "page/"):
+        others = ("../main.py", "main.py", "%2e%2e/main.py", "/etc/passwd", "film.js", "page/")
+        for path in others:
             self.assertEqual(self.asked(self.root + path)[0], 404, path)
 
     def test_other_hosts_are_refused(self) -> None:
@@ -60,8 +62,9 @@ class Serving(Case):
                 self.assertEqual(self.asked(self.root + path, body, Host=host)[0], 403, host)
 
     def test_a_missing_or_wrong_token_is_refused(self) -> None:
-        wrong = "x" * len(self.server.token)
-        for root in ("/", f"/{wrong}/", f"/{self.server.token[:-1]}/", f"/{self.server.token}", "//"):
+        token = self.server.token
+        wrong = "x" * len(token)
+        for root in ("/", "//", f"/{wrong}/", f"/{token[:-1]}/", f"/{token}"):
             for path, body in (("", None), ("stream", None), ("main.js", None), ("start", "1")):
                 self.assertEqual(self.asked(root + path, body)[0], 403, root + path)
         with self.assertRaises(ConnectionRefusedError):
@@ -122,7 +125,9 @@ class Ending(Case):
 
     def started(self) -> "subprocess.Popen[str]":
         words = [sys.executable, str(TOP / "viewer"), str(STREAM), "--program", str(program())]
-        window = subprocess.Popen(words, stdout=subprocess.PIPE, stderr=subprocess.DEVNULL, text=True)
+        window = subprocess.Popen(
+            words, stdout=subprocess.PIPE, stderr=subprocess.DEVNULL, text=True
+        )
         self.addCleanup(window.wait)
         self.addCleanup(window.kill)
         assert window.stdout is not None

@@ -15,8 +15,8 @@ class Detail(Page):
         self.settle()
         coarse, line = self.last_frame(), self.asked()
         self.value(
-            "globalThis.taken = null; const show = viewer.renderer.show;"
-            " viewer.renderer.show = function (name, frame) {"
+            "globalThis.taken = null; const show = viewer.scene.renderer.show;"
+            " viewer.scene.renderer.show = function (name, frame) {"
             "   globalThis.taken = [...frame.arrays.starts.subarray(0, 4 * frame.nodeCount)];"
             "   show.call(this, name, frame); }; 0"
         )
@@ -81,13 +81,16 @@ class Failing(Page):
         self.assertEqual(self.faces(), faces)
 
     def test_a_fault_line_is_shown_with_its_cure(self) -> None:
-        self.value("viewer.work.ask({ task: 'ask', script: 'v 0 0 0 70000 1\\n' }).catch((f) => viewer.fail(f)); 0")
+        script = "v 0 0 0 70000 1\\n"
+        self.value(
+            f"viewer.work.ask({{ task: 'ask', script: '{script}' }}).catch((f) => viewer.fail(f)); 0"
+        )
         self.page.until("!document.getElementById('fault').hidden")
         self.assertIn("vdpm: fault 30 line", self.text("fault-reason"))
         self.assertIn("one space between fields", self.text("fault-cure"))
 
     def test_a_server_that_is_gone_is_told(self) -> None:
-        self.value("viewer.work.worker.terminate(); globalThis.fetch = () => Promise.reject(new TypeError()); 0")
+        self.value("globalThis.fetch = () => Promise.reject(new TypeError()); 0")
         self.value("viewer.restart()")
         self.page.until("!document.getElementById('fault').hidden")
         self.assertIn("./viewer has ended", self.text("fault-reason"))

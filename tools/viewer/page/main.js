@@ -1,5 +1,5 @@
 // The page: asks for the view of the camera, again and again, and draws what came last.
-import { farther, focalOf, homeOf } from "./camera.js";
+import { farther, homeOf } from "./camera.js";
 import { GONE } from "./connection.js";
 import { Controls } from "./controls.js";
 import { showFault } from "./faults.js";
@@ -7,7 +7,8 @@ import { copy, saveFlight, saveMesh, savePicture } from "./keeping.js";
 import { GLIDE } from "./layout.js";
 import * as panel from "./panel.js";
 import { met, sentence } from "./picking.js";
-import { NO_FACE, Renderer, watchTheme } from "./renderer.js";
+import { NO_FACE, watchTheme } from "./renderer.js";
+import { Scene } from "./scene.js";
 import { Views } from "./views.js";
 import { Work } from "./work.js";
 
@@ -27,8 +28,7 @@ const INPUT_SAID = { unasked: "", asked: "the input is on its way", shown: "the 
 
 class Window {
   constructor(canvas) {
-    this.canvas = canvas;
-    this.renderer = new Renderer(canvas);
+    this.scene = new Scene(canvas, sharpness);
     this.set = panel.settings();
     this.frozen = null;          // the camera whose front is kept, with its picture
     this.hit = null;             // what a click met
@@ -80,7 +80,7 @@ class Window {
   }
 
   takeHands() {
-    this.controls = new Controls(this.canvas, {
+    this.controls = new Controls(this.scene.canvas, {
       camera: () => this.camera,
       focal: () => this.picture().focal,
       nearest: () => Math.max(2, this.radius / 400),
@@ -151,51 +151,28 @@ class Window {
   }
 
   draw(now) {
-    const { picture } = this.seen(), width = this.fit(picture);
-    const input = { name: "input", left: width, width };
     this.dirty = false;
     const begun = performance.now();
-    this.renderer.draw({
-      camera: this.camera,
-      picture,
-      parts: [{ name: "front", left: 0, width }, ...(this.set.beside ? [input] : [])],
-      look: {
-        ...this.set,
-        theme: this.theme,
-        now: performance.now() / 1000,
-        frozen: this.frozen,
-        reach: 2 * this.radius,
-        deepest: this.hierarchy.deepest,
-        picked: this.hit?.face ?? NO_FACE,
-        hit: this.hit?.place,
-      },
+    this.scene.draw(this.camera, {
+      ...this.set,
+      theme: this.theme,
+      now: begun / 1000,
+      frozen: this.frozen,
+      reach: 2 * this.radius,
+      deepest: this.hierarchy.deepest,
+      picked: this.hit?.face ?? NO_FACE,
+      hit: this.hit?.place,
     });
-    if (measures) this.renderer.finish();
+    if (measures) this.scene.renderer.finish();
     this.times.draw = performance.now() - begun;
     this.times.draws.push(now);
     if (measures) this.log.push({ draw: this.times.draw });
   }
 
-  // The camera and its picture. Views are asked for the pixels of the screen, however many of them
-  // are drawn.
+  picture() { return this.scene.picture(this.set.beside); }
+
+  // The camera as it is now, and its picture.
   seen() { return { camera: this.camera.copy(), picture: this.picture() }; }
-
-  picture() {
-    const half = this.set.beside ? 2 : 1;
-    const width = Math.max(1, Math.round((innerWidth * devicePixelRatio) / half));
-    const height = Math.max(1, Math.round(innerHeight * devicePixelRatio));
-    return { width, height, focal: focalOf(height) };
-  }
-
-  // Makes the canvas as large as its pictures, and gives the width of one.
-  fit(picture) {
-    const [one, height] = [picture.width, picture.height].map((n) => Math.ceil(n * sharpness));
-    const width = this.set.beside ? 2 * one : one, { canvas } = this;
-    if (canvas.width !== width || canvas.height !== height) {
-      Object.assign(canvas, { width, height });
-    }
-    return one;
-  }
 
   say(now) {
     const { shown, times, set } = this;
@@ -229,8 +206,8 @@ class Window {
 
   framed({ frame, times, moves }) {
     const begun = performance.now();
-    this.renderer.show("front", frame);
-    if (measures) this.renderer.finish();
+    this.scene.renderer.show("front", frame);
+    if (measures) this.scene.renderer.finish();
     this.times.put = performance.now() - begun;
     const { nodeCount, faceCount, changes, arrays } = frame;
     const comes = arrays.starts && changes.nodesCome > 0;
@@ -246,7 +223,7 @@ class Window {
     this.inputState = "asked";
     try {
       const { frame } = await this.work.ask({ task: "input" });
-      this.renderer.show("input", frame);
+      this.scene.renderer.show("input", frame);
       this.change({ inputState: "shown" });
     } catch (fault) {
       this.inputState = "unasked";
@@ -299,7 +276,7 @@ class Window {
 
   savePicture() {
     this.draw(performance.now()); // what was drawn is there until this task ends
-    savePicture(this.canvas);
+    savePicture(this.scene.canvas);
   }
 
   async copyView() {

@@ -1,0 +1,37 @@
+// The canvas, as large as the screen wants it, and the pictures on it: the front, and the input
+// beside it where that is asked for.
+import { focalOf } from "./camera.js";
+import { Renderer } from "./renderer.js";
+
+export class Scene {
+  // `sharpness` is how many pixels are drawn for each of the screen.
+  constructor(canvas, sharpness) {
+    Object.assign(this, { canvas, sharpness, renderer: new Renderer(canvas) });
+  }
+
+  // One picture in pixels of the screen. Views are asked for these, however many are drawn.
+  picture(beside) {
+    const half = beside ? 2 : 1;
+    const width = Math.max(1, Math.round((innerWidth * devicePixelRatio) / half));
+    const height = Math.max(1, Math.round(innerHeight * devicePixelRatio));
+    return { width, height, focal: focalOf(height) };
+  }
+
+  draw(camera, look) {
+    const picture = this.picture(look.beside), width = this.fit(picture, look.beside);
+    const parts = [{ name: "front", left: 0, width }];
+    if (look.beside) parts.push({ name: "input", left: width, width });
+    this.renderer.draw({ camera, picture, parts, look });
+  }
+
+  // Makes the canvas as large as its pictures, and gives the width of one.
+  fit(picture, beside) {
+    const { canvas, sharpness } = this;
+    const [one, height] = [picture.width, picture.height].map((n) => Math.ceil(n * sharpness));
+    const width = beside ? 2 * one : one;
+    if (canvas.width !== width || canvas.height !== height) {
+      Object.assign(canvas, { width, height });
+    }
+    return one;
+  }
+}
