@@ -81,10 +81,8 @@ class Failing(Page):
         self.assertEqual(self.faces(), faces)
 
     def test_a_fault_line_is_shown_with_its_cure(self) -> None:
-        script = "v 0 0 0 70000 1\\n"
-        self.value(
-            f"viewer.work.ask({{ task: 'ask', script: '{script}' }}).catch((f) => viewer.fail(f)); 0"
-        )
+        task = "{ task: 'ask', script: 'v 0 0 0 70000 1\\n' }"
+        self.value(f"viewer.work.ask({task}).catch((fault) => viewer.fail(fault)); 0")
         self.page.until("!document.getElementById('fault').hidden")
         self.assertIn("vdpm: fault 30 line", self.text("fault-reason"))
         self.assertIn("one space between fields", self.text("fault-cure"))

@@ -24,8 +24,6 @@ const sharpness = Number(words.get("sharpness")) || 1;
 const ahead = Number(words.get("ahead")) || 2;
 const measures = words.has("measure");
 
-const INPUT_SAID = { unasked: "", asked: "the input is on its way", shown: "the input" };
-
 class Window {
   constructor(canvas) {
     this.scene = new Scene(canvas, sharpness);
@@ -34,7 +32,6 @@ class Window {
     this.hit = null;             // what a click met
     this.dirty = true;           // whether what is drawn isn't what is known
     this.wakes = false;          // whether a picture is going to be made
-    this.tickedAt = 0;
     this.glidesUntil = 0;
     this.ended = false;
     this.starting = false;
@@ -129,7 +126,7 @@ class Window {
   // --- one picture
 
   tick(now) {
-    const passed = Math.min(100, now - this.tickedAt);
+    const passed = Math.min(100, now - (this.tickedAt ?? now));
     Object.assign(this, { tickedAt: now, wakes: false });
     if (this.set.round) {
       this.camera.turn((passed / 1000) * CIRCLE, 0);
@@ -189,7 +186,7 @@ class Window {
       fronts: times.fronts.length,
       mark: set.freeze ? "refinement frozen: fly round it" : glides,
     });
-    panel.sayHalves(set.beside ? ["what is shown", INPUT_SAID[this.inputState]] : null);
+    panel.sayHalves(set.beside, this.inputState);
   }
 
   // Whether all is shown as it is asked for, so that nothing changes until a hand moves.
@@ -233,7 +230,7 @@ class Window {
 
   fail({ reason, cure }) {
     this.ended = true;
-    const again = reason === GONE ? () => location.reload() : () => this.restart();
+    const again = () => (reason === GONE ? location.reload() : this.restart());
     showFault({ title: "The view has ended", reason, cure, again });
   }
 
@@ -286,8 +283,7 @@ class Window {
 }
 
 function boot() {
-  const canvas = document.getElementById("picture");
-  const reload = () => location.reload();
+  const canvas = document.getElementById("picture"), again = () => location.reload();
   try {
     globalThis.viewer = new Window(canvas); // there for tests and the browser's console
   } catch (fault) {
@@ -295,8 +291,7 @@ function boot() {
     return;
   }
   canvas.addEventListener("webglcontextlost", () => {
-    const title = "The graphics processor gave up", reason = "Load the page again.";
-    showFault({ title, reason, again: reload });
+    showFault({ title: "The graphics processor gave up", reason: "Load the page again.", again });
   });
   globalThis.viewer.open();
 }

@@ -101,11 +101,11 @@ function made(kind, inside) {
   return element;
 }
 
-// The captions of the two halves; none where there is one picture.
-export function sayHalves(captions) {
-  if (captions === null && part("halves").hidden) return;
-  part("halves").hidden = captions === null;
-  if (captions !== null) [part("left-half").textContent, part("right-half").textContent] = captions;
+// The captions of the two halves, where there are two.
+const INPUT_SAID = { unasked: "", asked: "the input is on its way", shown: "the input" };
+export function sayHalves(beside, inputState) {
+  part("halves").hidden = !beside;
+  part("right-half").textContent = INPUT_SAID[inputState];
 }
 
 export function sayPicked(text) {

@@ -1,0 +1,143 @@
+"""Flies over a model in a headless browser, and prints where the time of each view goes:
+
+    python3 benches/measure_viewer.py MODEL [--program PATH] [--tolerances 32 16 8] [--steps 100]
+
+MODEL is a stream, as `python3 benches/terrain.py 316 > terrain.obj` and `vdpm build` make one. The
+flight is the same for each tolerance: STEPS places along a smooth way, a view and its frame at
+each, one after the other. A cell has the median and the 95th percentile in milliseconds:
+
+    view         until the program's reply to the view begins
+    frame        the frame's text, until the server has it
+    transfer     from the server to the page's worker
+    read         the text into numbers
+    arrays       the numbers into what goes into textures, and what changed
+    put          textures, as far as the page waits for them
+    sum          from the camera to a front that can be drawn
+
+Then, per tolerance, how many fronts come in a second while the page flies round in a circle, two
+scripts on their way as always. Nothing is drawn: that is the graphics processor's work, and a
+headless browser draws by software.
+"""
+import argparse
+import sys
+import threading
+import time
+from pathlib import Path
+from typing import Any, Dict, List
+
+TOP = Path(__file__).resolve().parent.parent
+sys.path.insert(0, str(TOP / "tools"))
+
+from browser import Browser  # noqa: E402
+from viewer.main import programs_of  # noqa: E402
+from viewer.model import model_of  # noqa: E402
+from viewer.server import Server  # noqa: E402
+from viewer.session import Session  # noqa: E402
+
+PARTS = ("view", "frameText", "transfer", "read", "arrays", "put")
+SECONDS_ROUND = 6
+READY = "globalThis.viewer && viewer.isSettled"
+UNDRAWN = "viewer.scene.renderer.draw = () => {}; viewer.scene.renderer.finish = () => {}; 0"
+# A flight over the middle of the model, looking down on it, in some places one after the other.
+FLY = """(async (steps, tolerance) => {
+  Object.assign(viewer.set, { tolerance, outline: tolerance, glide: true });
+  const home = viewer.camera.copy(), r = viewer.radius, { views } = viewer;
+  const until = (line) => new Promise((done) => {
+    const look = () => (views.asked === line && views.isIdle ? done() : setTimeout(look));
+    look();
+  });
+  viewer.log = [];
+  for (let step = 0; step <= steps; step++) {
+    const t = step / steps, camera = home.copy(), [x, y, z] = home.target;
+    camera.target = [x + r * (0.7 * t - 0.45), y + r * (0.5 * t - 0.25), z + 0.1 * r];
+    Object.assign(camera, { distance: 0.55 * r, yaw: 0.8 * t - 0.4, pitch: 0.42 });
+    views.movedAt = -Infinity;
+    viewer.change({ camera });
+    await until(views.line(camera, viewer.picture(), viewer.set, performance.now()));
+  }
+  viewer.change({ camera: home });
+  return viewer.log.filter((entry) => "put" in entry);
+})"""
+CIRCLE = """((tolerance) => {
+  Object.assign(viewer.set, { tolerance, outline: tolerance, round: true });
+  Object.assign(viewer.camera, { distance: 0.6 * viewer.radius, pitch: 0.4 });
+  viewer.moved();
+})"""
+
+
+def at(values: List[float], part: float) -> float:
+    ordered = sorted(values)
+    return ordered[min(len(ordered) - 1, int(part * len(ordered)))]
+
+
+def told(values: List[float]) -> str:
+    return f"{at(values, 0.5):.1f} / {at(values, 0.95):.1f}"
+
+
+def times_of(front: Dict[str, Any]) -> Dict[str, float]:
+    """The parts of one front, and their sum."""
+    parts = {part: front["put"] if part == "put" else front["times"][part] for part in PARTS}
+    return {**parts, "sum": sum(parts.values())}
+
+
+def flight_row(browser: Browser, tolerance: float, steps: int) -> str:
+    fronts = browser.run(f"{FLY}({steps}, {tolerance})")[1:]
+    times = [times_of(front) for front in fronts]
+    faces = at([front["faceCount"] for front in fronts], 0.5)
+    kilobytes = at([front["times"]["bytes"] for front in fronts], 0.5) / 1024
+    moves = at([front["moves"] for front in fronts], 0.5)
+    cells = [told([one[part] for one in times]) for part in (*PARTS, "sum")]
+    return f"| {tolerance:g} | {faces:,.0f} | {moves:.0f} | {kilobytes:,.0f} | {' | '.join(cells)} |"
+
+
+def fronts_a_second(browser: Browser, tolerance: float) -> float:
+    browser.run(f"{CIRCLE}({tolerance})")
+    time.sleep(2)
+    browser.run("viewer.log = []; 0")
+    time.sleep(SECONDS_ROUND)
+    count = browser.run("viewer.log.filter((entry) => 'put' in entry).length")
+    browser.run("viewer.set.round = false; 0")
+    return float(count) / SECONDS_ROUND
+
+
+def arguments() -> argparse.Namespace:
+    parser = argparse.ArgumentParser(description="Measures the views of the window.")
+    parser.add_argument("model", type=Path)
+    parser.add_argument("--program", type=Path, default=TOP / "vdpm")
+    parser.add_argument("--tolerances", type=float, nargs="*", default=[32, 16, 8])
+    parser.add_argument("--steps", type=int, default=100)
+    return parser.parse_args()
+
+
+def measure(browser: Browser, asked: argparse.Namespace) -> None:
+    browser.until(READY)
+    browser.run(UNDRAWN)
+    print("| px | faces | moves | kB | view | frame | transfer | read | arrays | put | sum |")
+    print("|" + "---|" * 11)
+    for tolerance in asked.tolerances:
+        print(flight_row(browser, tolerance, asked.steps), flush=True)
+    for tolerance in asked.tolerances:
+        rate = fronts_a_second(browser, tolerance)
+        faces = browser.run("viewer.shown.faceCount")
+        print(f"{tolerance:g} px, {faces:,} faces: {rate:.0f} fronts a second", flush=True)
+    for complaint in browser.errors():
+        print(complaint, file=sys.stderr)
+
+
+def main() -> None:
+    asked = arguments()
+    model = model_of(asked.model, programs_of(asked.program))
+    server = Server(Session(asked.program.resolve(), model))
+    threading.Thread(target=server.serve_forever, daemon=True).start()
+    browser = Browser(1280, 800)
+    try:
+        browser.go(f"{server.address}?measure&sharpness=0.05")
+        measure(browser, asked)
+    finally:
+        browser.close()
+        server.shutdown()
+        server.session.close()
+
+
+if __name__ == "__main__":
+    main()

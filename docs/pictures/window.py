@@ -1,0 +1,71 @@
+"""Takes the pictures of the window: python3 docs/pictures/window.py [PROGRAM]
+
+PROGRAM is ./vdpm unless another is named. Needs a Chromium, and pngquant, which leaves the pictures
+few colours so that they are small.
+"""
+import subprocess
+import sys
+import threading
+from pathlib import Path
+
+TOP = Path(__file__).resolve().parent.parent.parent
+sys.path.insert(0, str(TOP / "tools"))
+
+from browser import Browser  # noqa: E402
+from viewer.main import programs_of  # noqa: E402
+from viewer.model import model_of  # noqa: E402
+from viewer.server import Server  # noqa: E402
+from viewer.session import Session  # noqa: E402
+
+SETTLED = "globalThis.viewer && viewer.isSettled"
+# Near the great crater, and then frozen and seen from the side.
+LOOK = """(() => {
+  const { camera } = viewer;
+  camera.target = [900, -1100, 250];
+  Object.assign(camera, { distance: 2900, yaw: 0.1, pitch: 0.4 });
+  tolerance.value = 16;
+  tolerance.dispatchEvent(new Event("input", { bubbles: true }));
+  viewer.moved();
+})()"""
+ASIDE = """(() => {
+  freeze.click();
+  depth.click();
+  const { camera } = viewer;
+  camera.target = [0, -500, 100];
+  Object.assign(camera, { distance: 7400, yaw: -0.9, pitch: 0.55 });
+  viewer.moved();
+})()"""
+
+
+def take(page: Browser, name: str) -> None:
+    page.until(SETTLED)
+    # The counters say `at rest` a second after the last change.
+    page.until("document.getElementById('rows').textContent.includes('at rest')")
+    path = TOP / "docs" / "pictures" / name
+    page.picture(path)
+    subprocess.run(["pngquant", "--force", "--output", path, "96", path], check=True)
+
+
+def main() -> None:
+    program = Path(sys.argv[1] if sys.argv[1:] else TOP / "vdpm").resolve()
+    model = model_of(TOP / "examples" / "asteroid.obj", programs_of(program))
+    server = Server(Session(program, model))
+    threading.Thread(target=server.serve_forever, daemon=True).start()
+    page = Browser(1120, 660)
+    try:
+        page.scheme("dark")
+        page.go(server.address)
+        page.until(SETTLED)
+        page.run("globalThis.depth = document.querySelector('input[value=depth]'); 0")
+        page.run(LOOK)
+        take(page, "window.png")
+        page.run(ASIDE)
+        take(page, "window-frozen.png")
+    finally:
+        page.close()
+        server.shutdown()
+        server.session.close()
+
+
+if __name__ == "__main__":
+    main()
