@@ -22,7 +22,7 @@ def main() -> None:
     if words and Path(words[0]).is_file():
         os.environ["VIEWER_TESTS_PROGRAM"] = str(Path(words.pop(0)).resolve())
     sys.path.insert(0, str(TOOLS))
-    names = [f"viewer_tests.{name}" for name in words or SUBJECTS]
+    names = [f"viewer.tests.{name}" for name in words or SUBJECTS]
     suite = unittest.defaultTestLoader.loadTestsFromNames(names)
     result = unittest.TextTestRunner(buffer=True).run(suite)
     if not found():

@@ -7,9 +7,12 @@
     colours     the colours of an OBJ file's vertices
     manual      the cures that docs/COMMANDS.md has for faults
     program     the child `vdpm view` over pipes
+    session     a model and its program, which may be started anew
     server      the page, and what it asks for
     websocket   the server's end of the line over which scripts come
     hierarchy   reads a stream, for films
     film        a page that needs no server
+    bundle      modules of the page as one script, for films
     page/       what runs in the browser
+    tests/      the tests; tools/test_viewer.py runs them
 """

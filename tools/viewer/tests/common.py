@@ -12,7 +12,7 @@ from viewer.program import ALL_MOVES
 from viewer.server import Server
 from viewer.session import Session
 
-TOP = Path(__file__).resolve().parent.parent.parent
+TOP = Path(__file__).resolve().parents[3]
 EXAMPLES = TOP / "examples"
 STREAM = EXAMPLES / "octahedron.vdpm"
 
