@@ -13,7 +13,7 @@ SKIPPED = ["", "# no line", "vn 0 0 1", "s off", "g a \\", "b", "#\\", "vt 1 \\"
 BAD_LINES = [
     "v 1 2", "f 1 2", "v 1e 0 0", "v e5 0 0", "v 1e1000 0 0", "v 0 0 1e15", "v 1e-1000 0 0",
     "f 1 2 0", "f 1 2 9999", "f 1 2 3 x", "v 1 2 3 \\", "v 1..0 0 0", "v 1e5.0 0 0", "v 1 \\",
-    "f 1 2 +3",
+    "f 1 2 +3", "v 1 2\\\n3", "f 1\\\n2 3\\\n",
     "v 100000000000000 0 0", "v 100000000000000.1 0 0", "v 1e+999 0 0", "v 0e-999 .5e1 1.e-2",
     "v 1 2 \\\n3", "f 1 \\\r\n 2 3 # end", "f 1 \\\n\\\n2", "v 0.5 0.5 0.5", "v 7e-19 5e-19 -5e-19",
 ]  # fmt: skip
@@ -88,6 +88,8 @@ def number_text(rng: Random, value: int, style: str) -> str:
         return str(value)
     if style == "decimals":
         return f"{value}.{rng.randrange(10**rng.randint(1, 20))}"
+    if style == "tiny":
+        return f"{value}e-18"
     if style == "small":
         return f"{value / 1000:.6f}"
     exponent = rng.choice([f"E{rng.randint(-9, 5)}", f"e-0{rng.randint(0, 3)}", f"e+{value % 4}"])
@@ -97,7 +99,7 @@ def number_text(rng: Random, value: int, style: str) -> str:
 def soup_text(rng: Random, soup: Soup) -> bytes:
     """The text of a soup, with lines that are skipped and lines that are continued."""
     points, faces = soup
-    style = rng.choice(["whole", "whole", "decimals", "small", "exponents"])
+    style = rng.choice(["whole", "whole", "decimals", "small", "tiny", "exponents"])
     gap = rng.choice([" ", " ", "\t", " \\\n", "  "])
     lines = [gap.join(["v"] + [number_text(rng, c, style) for c in point]) for point in points]
     count = len(points)
