@@ -145,13 +145,6 @@ def grid(given: str) -> bytes:
     return obj_text(points, grid_faces(side))
 
 
-def flat_grid(given: str) -> bytes:
-    """A grid of cells of side 1 in one plane."""
-    side = int(given)
-    points = ((c, r, 0) for r in range(side + 1) for c in range(side + 1))
-    return obj_text(points, grid_faces(side))
-
-
 def cone(given: str) -> bytes:
     """A tip with so many faces round it, open or closed: COUNT `open` or COUNT `closed`."""
     count, form = given.split()
@@ -194,6 +187,16 @@ def chain(given: str) -> bytes:
     return stream_of(head) + little_endian(words)
 
 
+def square_of(given: str) -> bytes:
+    """The square's stream with so many base faces, all with the same corners."""
+    many = int(given)
+    roots = [1, 4, 3, many, 1, 0, 10, 0, 1, 3, 10, 10, 0, 1, 4, 0, 0, 0, 2, 0]
+    bases = array.array("I", [2, 1, 0, 0]) * many
+    bases[3::4] = array.array("I", range(1, many + 1))
+    record = array.array("I", [2, 1, 0, 0, 0, 1, 10, 0, 0, 2, 1, 2, 3, 1, many + 1, 0, 1])
+    return stream_of(roots) + little_endian(bases) + little_endian(record)
+
+
 def set_word(data: bytes, given: str) -> bytes:
     """The bytes with another 32-bit word at this place: BYTE WORD."""
     place, word = (int(number) for number in given.split())
@@ -220,7 +223,7 @@ def with_crlf(data: bytes, given: str) -> bytes:
 BUILDERS: Dict[str, Callable[[str], Union[bytes, Data]]] = {
     "lines": lines, "text": text, "repeat": repeat, "byte": byte, "comments": comments,
     "file": file, "header": header, "splits": splits, "collapses": collapses, "grid": grid,
-    "flat_grid": flat_grid, "cone": cone, "book": book, "chain": chain,
+    "cone": cone, "book": book, "chain": chain, "square_of": square_of,
 }  # fmt: skip
 FILTERS: Dict[str, Callable[[bytes, str], bytes]] = {
     "set": set_word, "byte": set_byte, "cut": cut, "crlf": with_crlf,

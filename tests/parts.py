@@ -10,6 +10,7 @@ Each part tells how many passed and failed. What can't be run here is said aloud
 `N passed, M failed` over all parts, and the status is 0 exactly where something passed and nothing
 failed. After `proofs` the other parts run the programs that were proved there.
 """
+import os
 import re
 import resource
 import shutil
@@ -49,11 +50,14 @@ class Run(NamedTuple):
     text: str
 
 
-def ran(words: List[str]) -> Run:
-    """Runs a command at the top, shows what it says and answers it."""
+def ran(words: List[str], **settings: str) -> Run:
+    """Runs a command at the top, with these settings, shows what it says and answers it."""
     said: List[str] = []
     quiet, pipe, both = subprocess.DEVNULL, subprocess.PIPE, subprocess.STDOUT
-    with subprocess.Popen(words, cwd=TOP, stdin=quiet, stdout=pipe, stderr=both) as process:
+    env = {**os.environ, **settings}
+    with subprocess.Popen(
+        words, cwd=TOP, env=env, stdin=quiet, stdout=pipe, stderr=both
+    ) as process:
         assert process.stdout is not None
         for line in process.stdout:
             said.append(line.decode(errors="replace"))
@@ -73,14 +77,15 @@ def counted(run: Run, form: str) -> Count:
 LAST_LINE = r"^(\d+) passed, (\d+) failed$"
 
 
-def proofs(given: Dict[str, Path]) -> Count:
+def proofs(given: Dict[str, Path], room: Path) -> Count:
+    """The gate of the kit; the programs that it leaves are copied into the room."""
     if shutil.which("rt") is None:
         print("rt isn't on the path, so nothing is proved")
         return FAILURE
     count = counted(ran(["rt", "ci"]), LAST_LINE)
     built = {name: TOP / "crates" / name / "out" / name for name in PROGRAMS}
     if not count.failed and all(path.is_file() for path in built.values()):
-        given.update(built)
+        given.update({name: Path(shutil.copy(path, room)) for name, path in built.items()})
     return count
 
 
@@ -88,46 +93,49 @@ def paths(given: Dict[str, Path]) -> List[str]:
     return [word for name, path in given.items() for word in (f"--{name}", str(path))]
 
 
-def rows(given: Dict[str, Path]) -> Count:
+def rows(given: Dict[str, Path], room: Path) -> Count:
     return counted(ran([sys.executable, "tests/run.py", *paths(given)]), LAST_LINE)
 
 
-def tools(given: Dict[str, Path]) -> Count:
+def tools(given: Dict[str, Path], room: Path) -> Count:
     count = NONE
     for folder in ("tools", "tests"):
         for file in sorted((TOP / folder).glob("test_*.py")):
-            count = count.plus(unit_tests(file))
+            count = count.plus(unit_tests(file, given))
     return count
 
 
-def unit_tests(file: Path) -> Count:
-    """The numbers that unittest tells of a file, and why it left tests out."""
-    run = ran([sys.executable, str(file), "-v"])
+def unit_tests(file: Path, given: Dict[str, Path]) -> Count:
+    """The numbers that unittest tells of a file, and what it left out."""
+    # (the tests of the window ask for their program so; its prepare stands beside it)
+    settings = {"VIEWER_TESTS_PROGRAM": str(given["vdpm"])} if given else {}
+    run = ran([sys.executable, str(file)], **settings)
     found = re.search(r"^Ran (\d+) tests?", run.text, re.MULTILINE)
     if not found:
         return FAILURE
     numbers = re.findall(r"(failures|errors|skipped)=(\d+)", run.text)
     told = {word: int(number) for word, number in numbers}
-    failed = told.get("failures", 0) + told.get("errors", 0)
-    reasons = re.findall(r"skipped ['\"](.*)['\"]", run.text)
-    left_out = tuple(f"{file.name}: {reason}" for reason in dict.fromkeys(reasons))
+    failed, skipped = told.get("failures", 0) + told.get("errors", 0), told.get("skipped", 0)
     if not failed and run.status:
         failed = 1
-    return Count(max(0, int(found[1]) - failed - told.get("skipped", 0)), failed, left_out)
+    reasons = re.findall(r"^LEFT OUT: (.*)", run.text, re.MULTILINE)
+    if skipped and not reasons:
+        reasons = [f"{skipped} tests"]
+    left_out = tuple(f"{file.name}: {reason}" for reason in reasons)
+    return Count(max(0, int(found[1]) - failed - skipped), failed, left_out)
 
 
-def random(given: Dict[str, Path]) -> Count:
+def random(given: Dict[str, Path], room: Path) -> Count:
     if not (TOP / "tests/random_cases.py").is_file():
         return Count(0, 0, ("tests/random_cases.py isn't there",))
     words = [sys.executable, "tests/random_cases.py", SEED, RANDOM_CASES, *paths(given)]
     return counted(ran(words), LAST_LINE)
 
 
-def documents(given: Dict[str, Path]) -> Count:
+def documents(given: Dict[str, Path], room: Path) -> Count:
     """Tries the documents, with the programs' own paths in the commands where they were proved."""
-    with tempfile.TemporaryDirectory(prefix="documents-") as room:
-        named = [with_paths(TOP / name, Path(room), given) for name in DOCUMENTS]
-        run = ran([sys.executable, "tools/try_document.py", *map(str, named)])
+    named = [with_paths(TOP / name, room, given) for name in DOCUMENTS]
+    run = ran([sys.executable, "tools/try_document.py", *map(str, named)])
     return counted(run, r"^(\d+) commands print what is told, (\d+) don't$")
 
 
@@ -149,7 +157,9 @@ def with_path(line: str, given: Dict[str, Path]) -> str:
     return line
 
 
-PARTS: Dict[str, Callable[[Dict[str, Path]], Count]] = {
+# What a part does with the programs that were proved, by name, and a folder for its files.
+Part = Callable[[Dict[str, Path], Path], Count]
+PARTS: Dict[str, Part] = {
     "proofs": proofs, "rows": rows, "tools": tools, "random": random, "documents": documents,
 }  # fmt: skip
 
@@ -159,10 +169,10 @@ def processor_seconds() -> float:
     return used.ru_utime + used.ru_stime
 
 
-def part(name: str, given: Dict[str, Path]) -> Count:
+def part(name: str, given: Dict[str, Path], room: Path) -> Count:
     print(f"== {name}", flush=True)
     began, used = time.monotonic(), processor_seconds()
-    count = PARTS[name](given)
+    count = PARTS[name](given, room)
     for what in count.left_out:
         print(f"LEFT OUT of {name}: {what}")
     seconds, processor = time.monotonic() - began, processor_seconds() - used
@@ -178,9 +188,10 @@ def main(names: List[str]) -> int:
         return 2
     given: Dict[str, Path] = {}
     count = NONE
-    for name in PARTS:
-        if not names or name in names:
-            count = count.plus(part(name, given))
+    with tempfile.TemporaryDirectory(prefix="test-") as room:
+        for name in PARTS:
+            if not names or name in names:
+                count = count.plus(part(name, given, Path(room)))
     print(f"{count.passed} passed, {count.failed} failed")
     return 0 if count.passed and not count.failed else 1
 

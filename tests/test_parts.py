@@ -34,14 +34,16 @@ class Counting(unittest.TestCase):
         ]
         for run, wanted in rows:
             with mock.patch.object(parts, "ran", return_value=run):
-                self.assertEqual(parts.unit_tests(Path("test_x.py")), wanted, run)
+                self.assertEqual(parts.unit_tests(Path("test_x.py"), {}), wanted, run)
 
-    def test_what_is_left_out_is_told_once(self) -> None:
-        text = "test_a (__main__.A) ... skipped 'no Chromium'\n" * 2
-        run = Run(0, f"{text}Ran 5 tests in 1s\n\nOK (skipped=2)\n")
-        with mock.patch.object(parts, "ran", return_value=run):
-            count = parts.unit_tests(Path("test_x.py"))
-        self.assertEqual(count, Count(3, 0, ("test_x.py: no Chromium",)))
+    def test_what_is_left_out_is_told(self) -> None:
+        text = "Ran 5 tests in 1s\n\nOK (skipped=2)\n"
+        with_reason = f"{text}LEFT OUT: no Chromium\n"
+        rows = [(text, "test_x.py: 2 tests"), (with_reason, "test_x.py: no Chromium")]
+        for said, reason in rows:
+            with mock.patch.object(parts, "ran", return_value=Run(0, said)):
+                count = parts.unit_tests(Path("test_x.py"), {})
+            self.assertEqual(count, Count(3, 0, (reason,)))
 
 
 class Documents(unittest.TestCase):
@@ -65,7 +67,7 @@ class Documents(unittest.TestCase):
 class Whole(unittest.TestCase):
     def ended(self, counts: List[Count], names: List[str]) -> Tuple[int, str]:
         """The status and the last line where the parts tell these counts."""
-        made = {str(i): (lambda given, count=count: count) for i, count in enumerate(counts)}
+        made = {str(i): (lambda *_, count=count: count) for i, count in enumerate(counts)}
         said = io.StringIO()
         with mock.patch.object(parts, "PARTS", made), contextlib.redirect_stdout(said):
             status = parts.main(names)
