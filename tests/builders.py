@@ -97,6 +97,13 @@ def comments(given: str) -> Data:
     return [(b"#" * (size - 1) + b"\n", count)]
 
 
+def views(given: str) -> Data:
+    """So many script lines of 256 bytes with their LF, each a view of six planes."""
+    eye, plane = b"v -16777215 -16777215 -16777215 65535 65535", b" -32767 -32767 -32767 "
+    line = eye + 5 * (plane + b"-4398046511104") + plane + b"-398046511\n"
+    return [(line, int(given))]
+
+
 def file(given: str) -> bytes:
     """A file of the repository."""
     return (TOP / given).read_bytes()
@@ -222,8 +229,8 @@ def with_crlf(data: bytes, given: str) -> bytes:
 
 BUILDERS: Dict[str, Callable[[str], Union[bytes, Data]]] = {
     "lines": lines, "text": text, "repeat": repeat, "byte": byte, "comments": comments,
-    "file": file, "header": header, "splits": splits, "collapses": collapses, "grid": grid,
-    "cone": cone, "book": book, "chain": chain, "square_of": square_of,
+    "views": views, "file": file, "header": header, "splits": splits, "collapses": collapses,
+    "grid": grid, "cone": cone, "book": book, "chain": chain, "square_of": square_of,
 }  # fmt: skip
 FILTERS: Dict[str, Callable[[bytes, str], bytes]] = {
     "set": set_word, "byte": set_byte, "cut": cut, "crlf": with_crlf,
