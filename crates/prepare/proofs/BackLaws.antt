@@ -23,12 +23,14 @@ use Rattle.prepare.specs.Texts.{fit_line, fit_head_line}
 use Rattle.prepare.specs.Outcome.{Done, MakesPrepared, IsPreparedText, bad_line, too_many, made}
 use Rattle.prepare.specs.Laws.{LineLeadsBack, as_it_stood, near, TextLeadsBack, TextsLeadBack}
 use Rattle.prepare.proofs.ScannedLaws.{meaning_sound}
+use Rattle.prepare.proofs.GridLaws.{IsMeasured, fit_of_measured}
+use Rattle.prepare.proofs.NumeralLaws.{tells_way}
 use Rattle.prepare.proofs.ReadLaws.{mesh_is_read}
 
 -- The line of points that were brought onto the grid so.
-line_leads : (fit : Fit) (place p : Place) → LeadsBack fit place p → LineLeadsBack (fit_line fit) place p
-line_leads fits.Standing place p leads = as_it_stood refl leads
-line_leads (fits.Scaled size b) place p leads = near (way_back_of size b) refl leads
+line_leads : (fit : Fit) (place p : Place) → IsMeasured fit → LeadsBack fit place p → LineLeadsBack (fit_line fit) place p
+line_leads fits.Standing place p measured leads = as_it_stood refl leads
+line_leads (fits.Scaled size b) place p (few, low, high) leads = near (way_back_of size b) (tells_way size b few low high) leads
 
 -- Where there are faces this is the first line.
 head_is : (fit : Fit) (faces : List Corners) → 0 < length faces → fit_head_line fit faces ≡ fit_line fit
@@ -40,13 +42,14 @@ made_leads_back : (size : Option ℕ) (bytes : List ℕ) (s : Scanned) (done : D
 made_leads_back size bytes s done is means k some =
     let fit : Fit = fit_of size s.points s.faces in
     let places = prepared_places_of size s.points s.faces in
-    let corners = (meaning_sound bytes s means).scanning.within.corners in
+    let sound = meaning_sound bytes s means in
+    let measured = fit_of_measured size s.points s.faces is sound.exact in
     let long : length places ≡ length s.points = length-places_of size s.points s.faces in
-    let own = subst (λ (n : ℕ). All (AreVerticesBelow n) s.faces) (sym long) corners in
+    let own = subst (λ (n : ℕ). All (AreVerticesBelow n) s.faces) (sym long) sound.scanning.within.corners in
     record {
       line = fit_line fit;
       text_is = k.text_is ∙ ap (λ (head : List ℕ). head ++ canonical_text 0 k.mesh) (head_is fit k.mesh.faces some);
-      back = λ v l named. line_leads fit (place_in_list places v) (place_in_list s.points v) (places_lead_back size s.points s.faces v is l named);
+      back = λ v l named. line_leads fit (place_in_list places v) (place_in_list s.points v) measured (places_lead_back size s.points s.faces v is l named);
       from = λ w l. let (v, low, named, same) = place_from places s.faces k.mesh own k.prepared.0 w l in (v, subst (λ (n : ℕ). v < n) long low, named, same);
     }
 

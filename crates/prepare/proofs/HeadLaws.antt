@@ -58,7 +58,7 @@ coordinate_short d z few =
 
 -- The box of exact points has short texts.
 module _ (size : ℕ) (b : PointBox) (few : size ≤ 32767) (low : AreExact b.low) (high : AreExact b.high) where
-  extent_few : extent b ≤ 200000000000000000000000000000000
+  pub extent_few : extent b ≤ 200000000000000000000000000000000
   unfolding extent
   extent_few =
       let (a, c, e) = low in

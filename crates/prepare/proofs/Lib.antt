@@ -10,5 +10,6 @@ pub mod StandingLaws
 pub mod RestoredLaws
 pub mod NothingLaws
 pub mod AgainLaws
+pub mod NumeralLaws
 pub mod BackLaws
 pub mod FitLaws

@@ -1,5 +1,5 @@
 -- The laws of outcomes, each as a statement. Byte 10 is LF, and 35 is `#`.
-use Rattle.std.specs.Prelude.{◌≡◌, ℕ, ◌<◌, true, List, ◌∷◌, ◌++◌, length, codes, Option, None, Result, Ok}
+use Rattle.std.specs.Prelude.{◌≡◌, ℕ, ◌<◌, ℤ, pos, true, List, ◌∷◌, ◌++◌, length, drop, codes, Option, None, Result, Ok}
 use Rattle.pm_base.specs.Place.{Place}
 use Rattle.pm_base.specs.Meshes.{Mesh, IsWellFormed}
 use Rattle.pm_base.specs.Sides.{net_of}
@@ -7,6 +7,7 @@ use Rattle.pm_base.specs.Fans.{IsOrientedManifold}
 use Rattle.pm_base.specs.Canonical.{canonical_text}
 use Rattle.obj_lines.specs.Text.{until}
 use Rattle.pm_io.specs.Bytes.{Gains}
+use Rattle.obj_read.specs.Coordinates.{is_negative, without_sign, decimals, is_number, are_zeros, magnitude, with_sign}
 use Rattle.obj_read.specs.Meaning.{meaning_of}
 use Rattle.obj_scan.specs.Judged.{Scanned}
 use Rattle.obj_scan.specs.Meaning.{scan_meaning_of}
@@ -19,7 +20,7 @@ use Rattle.obj_prepare.specs.Back.{WayBack, LeadsNear, StandsAt}
 use Rattle.obj_prepare.specs.Prepared.{IsPreparedWith}
 use Rattle.obj_prepare.specs.Laws.{AreFit}
 use Rattle.prepare.specs.declared.fault.Fault.{Fault}
-use Rattle.prepare.specs.Texts.{way_text, output_text, notes_text, last_note}
+use Rattle.prepare.specs.Texts.{output_text, notes_text, last_note}
 use Rattle.prepare.specs.Outcome.{Done, IsPreparedText}
 
 -- A text has one outcome, and one place that decides it.
@@ -40,10 +41,30 @@ pub record IsFitText (text : List ℕ) : Type 0 where
 abbrev pub TextsAreRead : Type 0
 TextsAreRead = (size : Option ℕ) (bytes : List ℕ) (done : Done) (place : Option ℕ) → IsSize size → IsPreparedText size bytes (Ok done) place → IsFitText done.text
 
+-- A numeral, and the number that it spells in units of 10 to the power -digits. It has no more decimals but for zeros.
+pub record Spells (digits : ℕ) (text : List ℕ) (n : ℤ) : Type 0 where
+  pub form : is_number (without_sign text) ≡ true
+  pub zeros : are_zeros (drop digits (decimals (without_sign text))) ≡ true
+  pub worth : with_sign (is_negative text) (magnitude digits (without_sign text)) ≡ n
+
+-- The line `# coordinate = E / D * place + (X Y Z)` spells these numbers.
+pub record TellsWayBack (line : List ℕ) (way : WayBack) : Type 0 where
+  pub extent : List ℕ
+  pub steps : List ℕ
+  pub x : List ℕ
+  pub y : List ℕ
+  pub z : List ℕ
+  pub line_is : line ≡ codes "# coordinate = " ++ extent ++ codes " / " ++ steps ++ codes " * place + (" ++ (x ++ codes " " ++ y ++ codes " " ++ z) ++ codes ")\n"
+  pub extent_is : Spells 18 extent (pos way.extent)
+  pub steps_are : Spells 0 steps (pos way.steps)
+  pub x_is : Spells 19 x way.middle.x
+  pub y_is : Spells 19 y way.middle.y
+  pub z_is : Spells 19 z way.middle.z
+
 -- A first line of a text, and a place on the grid, lead back to this point in units of 10^-18.
 pub data LineLeadsBack (line : List ℕ) (place p : Place) : Type 0 where
   as_it_stood : line ≡ codes "# coordinates as they stood\n" → StandsAt place p → LineLeadsBack line place p
-  near : (way : WayBack) → line ≡ codes "# " ++ way_text way → LeadsNear way place p → LineLeadsBack line place p
+  near : (way : WayBack) → TellsWayBack line way → LeadsNear way place p → LineLeadsBack line place p
 
 -- The text is a first line and the canonical text of a mesh. The line leads back from the place of each vertex that a
 -- triangle names to the point that was read, and each vertex of the mesh stands at the place of one of them.
