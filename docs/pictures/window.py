@@ -58,9 +58,9 @@ def main() -> None:
         page.until(SETTLED)
         page.run("globalThis.depth = document.querySelector('input[value=depth]'); 0")
         page.run(LOOK)
-        take(page, "window.png")
+        take(page, "window-near.png")
         page.run(ASIDE)
-        take(page, "window-frozen.png")
+        take(page, "window.png")
     finally:
         page.close()
         server.shutdown()

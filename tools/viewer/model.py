@@ -77,7 +77,7 @@ def tell(text: str) -> None:
 def is_notice(line: str) -> bool:
     """Whether a line of `./vdpm` or `./prepare` is about building the program, and not from the
     program."""
-    return " fault " not in line and (line.startswith(UNPROVED) or "building" in line)
+    return " fault " not in line and (UNPROVED in line or "building" in line)
 
 
 def run(path: Path, words: Sequence[str], text: bytes, doing: str) -> Done:
@@ -100,7 +100,7 @@ def run(path: Path, words: Sequence[str], text: bytes, doing: str) -> Done:
     status = _wait(child, doing)
     for hand in hands:
         hand.join()
-    proved = not any(line.startswith(UNPROVED) for line in said)
+    proved = not any(UNPROVED in line for line in said)
     return Done(status, b"".join(out), [line for line in said if not is_notice(line)], proved)
 
 
@@ -139,6 +139,11 @@ def _wait(child: "subprocess.Popen[bytes]", doing: str) -> int:
         child.kill()
         child.wait()
         raise
+
+
+def is_refusal(done: Done) -> bool:
+    """Whether a program refused a text for a fault, and didn't end for another reason."""
+    return done.status == 1 and bool(done.said) and " fault " in done.said[-1]
 
 
 def needed(done: Done, heading: str) -> Done:
@@ -182,9 +187,9 @@ def _fitting(text: bytes, programs: Programs) -> Tuple[bytes, int, bool]:
         done = run(programs.vdpm, words, text, "reading")
         if done.status == 0:
             return text, digits, False
-        if done.status != 1 or not done.said or TOO_MANY_DECIMALS not in done.said[-1]:
+        if not is_refusal(done) or TOO_MANY_DECIMALS not in done.said[-1]:
             break
-    if done.status != 1:
+    if not is_refusal(done):
         raise end_of(done.said[-1] if done.said else "", done.status, manual.OBJ)
     tell(f"it isn't fit as it stands ({done.said[-1]}), so prepare makes it fit")
     ready = needed(run(programs.prepare, [], text, "preparing"), manual.PREPARE)

@@ -20,7 +20,8 @@ except ImportError:  # not on every system; pipes keep their size there
     fcntl = None  # type: ignore[assignment]
 
 ALL_MOVES = (1 << 32) - 1
-UNPROVED = "vdpm: not proved on this machine"
+# What a notice says that comes where the program was built without its proof.
+UNPROVED = ": not proved on this machine"
 PIPE_BYTES = 1 << 20
 PIECE = 1 << 20
 LINES_AT_ONCE = 64
@@ -73,7 +74,7 @@ def script_lines(text: str) -> List[str]:
 def said_last(text: bytes) -> str:
     """The last line of standard error, but for the notice that the program isn't proved."""
     lines = text.decode("utf-8", "replace").strip().splitlines()
-    return next((line for line in reversed(lines) if not line.startswith(UNPROVED)), "")
+    return next((line for line in reversed(lines) if UNPROVED not in line), "")
 
 
 def end_of(said: str, status: int, heading: str) -> ProgramEnded:

@@ -105,7 +105,7 @@ class Handler(BaseHTTPRequestHandler):
             "stream": (BYTES, lambda: session.model.stream),
             "colours": (BYTES, lambda: session.model.colours or b""),
             "input": (TEXT, session.input_frame),
-            "flight": (TEXT, lambda: session.flight().encode()),
+            "flight": (TEXT, session.flight),
         }
 
     def do_POST(self) -> None:

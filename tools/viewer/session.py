@@ -1,7 +1,7 @@
 """What is looked at, and the program that looks, which may be started anew."""
 import threading
 from pathlib import Path
-from typing import Dict, List, Optional
+from typing import Dict, Optional
 
 from .model import Model
 from .program import ALL_MOVES, Answer, Program, ProgramEnded, replies_to
@@ -14,7 +14,7 @@ class Session:
         self.path, self.model, self.budget = path, model, budget
         self._lock = threading.Lock()
         self._program: Optional[Program] = Program(path, model.stream, budget)
-        self._flight: List[str] = []
+        self._flight = bytearray()
         self._input: Optional[bytes] = None
 
     def about(self) -> Dict[str, object]:
@@ -42,14 +42,14 @@ class Session:
         """The replies to a script, which is then a part of the flight."""
         answer = self.program().ask(script)
         with self._lock:
-            self._flight.append(script)
+            self._flight += script.encode("ascii")
         return answer
 
-    def flight(self) -> str:
+    def flight(self) -> bytes:
         """All lines since the program was started: played with the same budget, `vdpm view` replies
         the same."""
         with self._lock:
-            return "".join(self._flight)
+            return bytes(self._flight)
 
     def input_frame(self) -> bytes:
         """The frame text of the input: the front with every record split, by a program of its
@@ -68,7 +68,7 @@ class Session:
                 self._program = None
             self._program = Program(self.path, self.model.stream, budget)
             self.budget = budget
-            self._flight = []
+            self._flight = bytearray()
 
     def close(self) -> None:
         with self._lock:

@@ -89,8 +89,8 @@ export class Controls {
   key(event) {
     if (event.ctrlKey || event.metaKey || event.altKey) return;
     const arrow = ARROWS[event.key], act = this.hands.keys[event.key.toLowerCase()];
-    const takesArrows = event.target.matches?.("input[type=range], input[type=radio], select");
-    if (arrow && !takesArrows) {
+    if ((arrow || event.key === " ") && event.target.matches?.("input, button, select")) return;
+    if (arrow) {
       if (event.shiftKey) this.move(arrow[0] * KEY_MOVE, arrow[1] * KEY_MOVE);
       else this.turn(arrow[0] * KEY_TURN, arrow[1] * KEY_TURN);
     } else if (event.key === "+" || event.key === "=") this.nearer(KEY_NEARER);

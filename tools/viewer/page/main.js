@@ -24,7 +24,7 @@ const sharpness = Number(words.get("sharpness")) || 1;
 const ahead = Number(words.get("ahead")) || 2;
 const measures = words.has("measure");
 
-class Window {
+class Viewer {
   constructor(canvas) {
     this.scene = new Scene(canvas, sharpness);
     this.set = panel.settings();
@@ -230,7 +230,8 @@ class Window {
 
   fail({ reason, cure }) {
     this.ended = true;
-    const again = () => (reason === GONE ? location.reload() : this.restart());
+    const isLost = reason === GONE || this.about === undefined;
+    const again = () => (isLost ? location.reload() : this.restart());
     showFault({ title: "The view has ended", reason, cure, again });
   }
 
@@ -285,7 +286,7 @@ class Window {
 function boot() {
   const canvas = document.getElementById("picture"), again = () => location.reload();
   try {
-    globalThis.viewer = new Window(canvas); // there for tests and the browser's console
+    globalThis.viewer = new Viewer(canvas); // there for tests and the browser's console
   } catch (fault) {
     showFault({ title: "Nothing can be drawn", reason: fault.message });
     return;

@@ -6,16 +6,19 @@ const milliseconds = (n) => (n < 10 ? n.toFixed(1) : n.toFixed(0));
 const kilobytes = (n) => `${counted(Math.round(n / 1024))} kB`;
 export const ALL_MOVES = 4294967295;
 
+// A budget of the command line, which the slider may be unable to show; null once it was moved.
+const told = { budget: null };
+const budgetOf = (slider) => (slider.value === slider.max ? ALL_MOVES : 2 ** slider.value);
+
 // What the settings say now. Tolerances go in steps of a quarter of a doubling.
 export function settings() {
   const tolerance = 2 ** (part("tolerance").valueAsNumber / 4);
-  const budget = part("budget").valueAsNumber;
   const isOn = (name) => part(name).checked;
   return {
     tolerance,
     outline: tolerance / 2 ** (part("outline").valueAsNumber / 2),
     draft: 2 ** (part("draft").valueAsNumber / 4),
-    budget: budget === Number(part("budget").max) ? ALL_MOVES : 2 ** budget,
+    budget: told.budget ?? budgetOf(part("budget")),
     colour: document.querySelector("input[name=colour]:checked").value,
     upright: isOn("upright") ? "y" : "z",
     smooth: isOn("smooth"), edges: isOn("edges"), glide: isOn("glide"), freeze: isOn("freeze"),
@@ -40,12 +43,16 @@ export function sayModel({ name, proved, prepared, coloured, budget }) {
   part("notice").hidden = notices.length === 0;
   document.querySelector("input[value=own]").disabled = !coloured;
   if (coloured) choose("own")();
-  if (budget !== ALL_MOVES) part("budget").value = Math.round(Math.log2(Math.max(1, budget)));
+  told.budget = budget;
+  part("budget").value = Math.round(Math.log2(Math.max(1, budget)));
 }
 
 // Calls `changed` with the name of a setting that was changed by hand.
 export function watchPanel(changed) {
-  part("panel").addEventListener("input", (event) => changed(event.target.id || event.target.name));
+  part("panel").addEventListener("input", ({ target }) => {
+    if (target.id === "budget") told.budget = null;
+    changed(target.id || target.name);
+  });
   part("panel").addEventListener("submit", (event) => event.preventDefault());
 }
 
@@ -114,10 +121,10 @@ export function sayPicked(text) {
 }
 
 // Tells something for a moment.
-let told = 0;
+let untold = 0;
 export function tell(text) {
   part("told").textContent = text;
   part("told").hidden = false;
-  clearTimeout(told);
-  told = setTimeout(() => { part("told").hidden = true; }, 2500);
+  clearTimeout(untold);
+  untold = setTimeout(() => { part("told").hidden = true; }, 2500);
 }

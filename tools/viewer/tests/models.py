@@ -65,6 +65,12 @@ class Files(Case):
             model_of(self.written("short", STREAM.read_bytes()[:50]), Programs(fake, fake))
         self.assertIn("fault 22", caught.exception.reason)
 
+    def test_a_program_that_cannot_be_built_is_not_taken_for_a_refusal(self) -> None:
+        text = b"#!/bin/sh\necho 'vdpm: not built, so nothing was run' >&2\nexit 1\n"
+        fake = self.written("vdpm", text, runs=True)
+        with self.assertRaisesRegex(ProgramEnded, "status 1: vdpm: not built, so nothing was run"):
+            model_of(EXAMPLES / "octahedron.obj", Programs(fake, fake))
+
     def test_the_command_says_what_is_wrong(self) -> None:
         words = [sys.executable, str(TOP / "viewer"), "--program", str(program()), "nowhere.obj"]
         done = subprocess.run(words, capture_output=True, text=True, check=False)

@@ -7,7 +7,7 @@ from typing import Any, List
 from browser import Browser, found
 from frames import Frame, read_frames
 from viewer.model import Model
-from viewer.program import Answer
+from viewer.program import ALL_MOVES, Answer
 
 from .common import Case, model
 
@@ -33,8 +33,8 @@ class Page(Case):
         self.page.scheme("dark")
         self.look_at(model("asteroid.obj"))
 
-    def look_at(self, looked_at: Model) -> None:
-        self.server = self.served(looked_at)
+    def look_at(self, looked_at: Model, budget: int = ALL_MOVES) -> None:
+        self.server = self.served(looked_at, budget)
         self.answers: List[Answer] = []
         ask = self.server.session.ask
 

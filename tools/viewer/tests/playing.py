@@ -1,6 +1,5 @@
 """Films in a real browser, opened from a file; and models whose colours or places the page
 tells."""
-from pathlib import Path
 from typing import List
 
 from frames import read_frames
@@ -11,7 +10,7 @@ from viewer.program import ALL_MOVES, replies_to
 
 from .common import EXAMPLES, TOP, model, program
 from .models import SQUARE
-from .pages import Page
+from .pages import Page, browser
 
 # By how much red, green and blue are at most above the other two in a pixel of the picture.
 MOST_COLOURFUL = """(() => {
@@ -33,7 +32,7 @@ FLIGHT = TOP / "examples" / "asteroid_fronts.script"
 class Films(Page):
     """A film needs no server, so there is none but in the tests of models below."""
 
-    def look_at(self, looked_at: Model) -> None:
+    def look_at(self, looked_at: Model, budget: int = ALL_MOVES) -> None:
         self.page.told.clear()
 
     def play(self, looked_at: Model, flight: bytes) -> List[int]:
@@ -90,21 +89,17 @@ class Films(Page):
 
 
 def flight() -> bytes:
-    return Path(FLIGHT).read_bytes()
+    return FLIGHT.read_bytes()
 
 
 class Models(Page):
     """Pages of other models than the asteroid."""
 
     def setUp(self) -> None:
-        pass
-
-    def open(self, path: Path) -> None:
-        super().setUp()
-        self.look_at(model_of(path, programs_of(program())))
+        self.page = browser()
+        self.page.scheme("dark")
 
     def test_colours_of_the_input_are_shown(self) -> None:
-        super().setUp()
         square = model_of(self.written("square.obj", SQUARE), programs_of(program()))
         self.look_at(square)
         self.assertEqual(self.value("viewer.set.colour"), "own")
@@ -113,7 +108,6 @@ class Models(Page):
             self.assertGreater(part, 60)
 
     def test_a_prepared_mesh_tells_places_of_its_file(self) -> None:
-        super().setUp()
         self.look_at(model("ring_scan.obj"))
         self.assertEqual(self.text("notice"), "made fit by prepare")
         self.page.click(300, 270)
@@ -122,3 +116,18 @@ class Models(Page):
         self.assertIn("of the prepared mesh", said)
         for part in said.split(" at ")[1].split():
             self.assertLess(abs(float(part)), 0.61)  # the ring is 1.2 metres wide
+
+    def test_what_is_not_proved_is_said(self) -> None:
+        self.look_at(model("octahedron.vdpm")._replace(proved=False))
+        self.assertEqual(self.text("notice"), "not proved on this machine")
+        self.look_at(model("octahedron.vdpm")._replace(proved=True))
+        self.assertTrue(self.value("notice.hidden"))
+
+    def test_a_budget_of_the_command_line_is_kept_to_the_number(self) -> None:
+        self.look_at(model("asteroid.obj"), 700)
+        self.assertEqual(self.text("budget-said"), "700")
+        self.assertEqual(self.answers[0].text.split(b" ")[:2], [b"spent", b"700"])
+        self.value("document.getElementById('save-flight').click()")
+        script = self.page.downloaded("flight-budget-700.script")
+        replies = replies_to(program(), model("asteroid.obj").stream, script, 700)
+        self.assertEqual(replies, b"".join(answer.text for answer in self.answers))
