@@ -97,7 +97,7 @@ pub fn run<S: Source, K: Sink, E: Sink>(
     ensures known { result ≡ 2 → asked_of args ≡ None }
     ensures untouched { result ≡ 2 → Stayed (S.left input.old) (S.left input.new) (S.faults input.old) (S.faults input.new) × Stayed (K.got out.old) (K.got out.new) (K.faults out.old) (K.faults out.new) }
     // Words that can't be gathered are refused too, but for want of memory, of which nothing is said; and nothing is read.
-    ensures ungathered { IfErr args (λ e. error_kind e ≢ ErrorKind.OutOfMemory → result ≡ 2) }
+    ensures not_text { IfErr args (λ e. error_kind e ≢ ErrorKind.OutOfMemory → result ≡ 2) }
     ensures no_memory { IfErr args (λ e. error_kind e ≡ ErrorKind.OutOfMemory → result ≡ 5) }
     ensures unread { IfErr args (λ _. Stayed (S.left input.old) (S.left input.new) (S.faults input.old) (S.faults input.new)) }
     ensures unsaid { IfErr args (λ _. result ≡ 5 → Stayed (E.got err.old) (E.got err.new) (E.faults err.old) (E.faults err.new)) }
