@@ -7,8 +7,6 @@ mod notes;
 mod outcomes;
 mod run;
 mod say;
-#[cfg(test)]
-mod tests;
 mod text;
 mod words;
 
