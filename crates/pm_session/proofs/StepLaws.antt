@@ -252,22 +252,53 @@ partial_ready line piece line' p room n state partial gathers le ready room_is =
       numbered = ready.numbered;
     }
 
--- After a line that was whole, something was taken of the window.
-pub whole_window : (piece window window' line text : List ℕ) (room n : ℕ) (state : LineState) (r : Result Bool ServeFail) → window ≡ piece → window' ≡ drop n window → state ≡ states.Whole → Gathers line piece room state n text → n ≤ length piece → length piece ≤ 4096
-    → (r ≡ Err fails.Read → ⊥) → WindowAfter r window'
-whole_window piece window window' line text room n state r same eaten ends gathers le most other =
-    let g = subst (λ q. Gathers line piece room q n text) ends gathers in
-    let u = g.1.rest_of_line in
-    let lens : n ≡ length u + 1 = sym (length-take-le n piece le) ∙ ap (λ (l : List ℕ). length l) g.1.cut ∙ length-append u (10 ∷ []) in
-    go r other (ap (λ (l : List ℕ). length l) (eaten ∙ ap (λ (l : List ℕ). drop n l) same) ∙ length-drop n piece) (omega (arith, lens))
-  where
-    go : (r : Result Bool ServeFail) → (r ≡ Err fails.Read → ⊥) → length window' ≡ length piece - n → 0 < n → WindowAfter r window'
-    go (Ok more) other len lens = tt
-    go (Err (fails.BadLine k)) other len lens = tt
-    go (Err (fails.NoRecord k)) other len lens = tt
-    go (Err fails.ScriptTooLong) other len lens = tt
-    go (Err fails.Read) other len lens = absurd (other refl)
-    go (Err fails.Write) other len lens = omega (arith, len, lens, most)
+-- What the window holds where no read failed.
+few_left : (r : Result Bool ServeFail) (window : List ℕ) → (r ≡ Err fails.Read → ⊥) → length window ≤ 4095 → WindowAfter r window
+few_left (Ok more) window other few = few
+few_left (Err (fails.BadLine k)) window other few = few
+few_left (Err (fails.NoRecord k)) window other few = few
+few_left (Err fails.ScriptTooLong) window other few = few
+few_left (Err fails.Read) window other few = absurd (other refl)
+few_left (Err fails.Write) window other few = few
+
+-- Where something was taken of the piece, less than a whole window is left of it.
+module _ (piece window window' : List ℕ) (n : ℕ) (same : window ≡ piece) (eaten : window' ≡ drop n window) (most : length piece ≤ 4096) where
+  window_length : length window' ≡ length piece - n
+  window_length = ap (λ (l : List ℕ). length l) (eaten ∙ ap (λ (l : List ℕ). drop n l) same) ∙ length-drop n piece
+
+  some_taken : 0 < n → length window' ≤ 4095
+  some_taken some = omega (arith, window_length, most, some)
+
+  module _ (line text : List ℕ) (room : ℕ) (state : LineState) (gathers : Gathers line piece room state n text) where
+    pub partial_window : state ≡ states.Partial → length window' ≤ 4095
+    partial_window is =
+        let g = subst (λ q. Gathers line piece room q n text) is gathers in
+        some_taken g.0
+
+    pub past_window : state ≡ states.Past → length window' ≤ 4095
+    past_window is =
+        let g = subst (λ q. Gathers line piece room q n text) is gathers in
+        some_taken (omega (arith, g.2))
+
+    pub long_window : (p : Progress) → state ≡ states.TooLong → IsReady line p → length window' ≤ 4095
+    long_window p is ready =
+        let g = subst (λ q. Gathers line piece room q n text) is gathers in
+        some_taken (omega (arith, g.2, ready.short))
+
+    -- At the end of the input nothing is left.
+    pub end_window : state ≡ states.NoMore → length window' ≤ 4095
+    end_window is =
+        let g = subst (λ q. Gathers line piece room q n text) is gathers in
+        omega (arith, window_length, ap (λ (l : List ℕ). length l) g.0)
+
+    pub last_window : (r : Result Bool ServeFail) → state ≡ states.NoMore → (r ≡ Err fails.Read → ⊥) → WindowAfter r window'
+    last_window r is other = few_left r window' other (end_window is)
+
+    pub whole_window : (r : Result Bool ServeFail) → state ≡ states.Whole → n ≤ length piece → (r ≡ Err fails.Read → ⊥) → WindowAfter r window'
+    whole_window r is le other =
+        let g = subst (λ q. Gathers line piece room q n text) is gathers in
+        let lens : n ≡ length g.1.rest_of_line + 1 = sym (length-take-le n piece le) ∙ ap (λ (l : List ℕ). length l) g.1.cut ∙ length-append g.1.rest_of_line (10 ∷ []) in
+        few_left r window' other (some_taken (omega (arith, lens)))
 
 pub after_no_read : (done : Result Next LineFail) (p p' : Progress) (line line' : List ℕ) (r : Result Bool ServeFail) → AfterLine done p line p' line' r → r ≡ Err fails.Read → ⊥
 after_no_read (Ok nexts.More) p p' line line' r after is = absurd (cc (after.0, is))
@@ -275,6 +306,12 @@ after_no_read (Ok nexts.Quit) p p' line line' r after is = absurd (cc (after, is
 after_no_read (Err line_fails.BadLine) p p' line line' r after is = absurd (cc (after, is))
 after_no_read (Err line_fails.NoRecord) p p' line line' r after is = absurd (cc (after, is))
 after_no_read (Err line_fails.Write) p p' line line' r after is = absurd (cc (after, is))
+
+pub last_no_read : (done : Result Next LineFail) (n : ℕ) (r : Result Bool ServeFail) → AfterLast done n r → r ≡ Err fails.Read → ⊥
+last_no_read (Ok next) n r after is = absurd (cc (after, is))
+last_no_read (Err line_fails.BadLine) n r after is = absurd (cc (after, is))
+last_no_read (Err line_fails.NoRecord) n r after is = absurd (cc (after, is))
+last_no_read (Err line_fails.Write) n r after is = absurd (cc (after, is))
 
 -- One step more of a whole serving.
 pub serve_step : (h h' : Hierarchy) (b b' : ℕ) (T : Sets) (whole now now' got_old mid got : Option (List ℕ)) (s s' : At) (line line' : List ℕ) (r : Result Bool ServeFail) → h' ≡ h → b' ≡ b
