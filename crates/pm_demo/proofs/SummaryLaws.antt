@@ -8,11 +8,12 @@ use Rattle.pm_grid.specs.Laws.{GridsAreCounted}
 use Rattle.pm_grid.proofs.GridMeshes.{grids_are_manifolds, grids_are_well_formed}
 use Rattle.pm_runs.specs.Runs.{IsStartOfRun, IsRunTo}
 use Rattle.pm_runs.proofs.LeastRuns.{one_run}
+use Rattle.pm_simplify.proofs.SomeRuns.{some_run}
 use Rattle.pm_number.specs.Numbering.{hierarchy_of_run}
 use Rattle.pm_forest.specs.Forest.{Hierarchy}
 use Rattle.pm_view.specs.Views.{View}
 use Rattle.pm_refine.specs.Adapting.{view_target}
-use Rattle.pm_demo.specs.Summary.{IsOfGrid, grid_line, view_line, sizes_text, views_text, IsSummary, OneSummary}
+use Rattle.pm_demo.specs.Summary.{IsOfGrid, grid_line, view_line, sizes_text, views_text, IsSummary, OneSummary, SomeSummary}
 
 -- A mesh that is a grid may be simplified.
 pub grid_start : (n : ℕ) (m : Mesh) → 1 ≤ n → n ≤ 256 → m ≡ grid n → IsStartOfRun m
@@ -39,6 +40,12 @@ one_summary n a b is are =
 
 pub summary_is : (n : ℕ) (h : Hierarchy) → IsOfGrid n h → IsSummary n (sizes_text n h ++ views_text n h)
 summary_is n h of_grid = record { h = h; of_grid = of_grid; text_is = refl }
+
+pub some_summary : SomeSummary
+some_summary n some most =
+    let run = some_run (grid n) (grid_start n (grid n) some most refl) 0 in
+    let h = hierarchy_of_run (grid n) run.0 in
+    (sizes_text n h ++ views_text n h, summary_is n h (record { log = run.0; run = run.1; made = refl }))
 
 -- The numbers of a grid are those of its first line.
 pub grid_line_is : GridsAreCounted → (n : ℕ) → grid_line n ((n + 1) * (n + 1)) (n * (n * 2)) ≡ grid_line n (length (grid n).points) (length (grid n).faces)

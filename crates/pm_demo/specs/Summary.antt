@@ -1,5 +1,5 @@
 -- The summary of a grid: how large it and its hierarchy are, and what three views show.
-use Rattle.std.specs.Prelude.{◌≡◌, ℕ, Bool, List, ◌++◌, length, codes}
+use Rattle.std.specs.Prelude.{◌≡◌, ℕ, ◌≤◌, Bool, List, ◌++◌, length, codes}
 use Rattle.std.specs.Fmt.{decimal}
 use Rattle.pm_base.specs.declared.log.Collapse.{Collapse}
 use Rattle.pm_grid.specs.Grid.{grid}
@@ -61,6 +61,10 @@ pub record IsSummary (n : ℕ) (text : List ℕ) : Type 0 where
   pub of_grid : IsOfGrid n h
   pub text_is : text ≡ sizes_text n h ++ views_text n h
 
--- A grid has one summary.
+-- Each grid has a summary,
+abbrev pub SomeSummary : Type 0
+SomeSummary = (n : ℕ) → 1 ≤ n → n ≤ 256 → (text : List ℕ) × IsSummary n text
+
+-- and only one.
 abbrev pub OneSummary : Type 0
 OneSummary = (n : ℕ) (a b : List ℕ) → IsSummary n a → IsSummary n b → a ≡ b
