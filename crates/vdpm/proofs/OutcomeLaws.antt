@@ -1,7 +1,10 @@
 -- An outcome is the only one of its bytes, and how a command ends.
 use Rattle.std.proofs.Common.{◌≡◌, ℕ, ◌<◌, List, [], length, Option, Some, None, Result, Ok, Err, IfSome, OnOk, refl, sym, ◌∙◌, ap, subst}
+use Rattle.pm_base.specs.Canonical.{canonical_text}
+use Rattle.pm_forest.specs.Meshes.{input_mesh_of}
+use Rattle.pm_format.specs.Stream.{stream}
 use Rattle.pm_io.specs.Bytes.{Gains, GainsPart, AtEnd}
-use Rattle.pm_io.proofs.Known.{gains_none}
+use Rattle.pm_io.proofs.Known.{gains_none, loses_none}
 use Rattle.vdpm.specs.declared.fault.Fault.{Fault}
 use Rattle.vdpm.specs.declared.fault.InputFail.{InputFail}
 use Rattle.vdpm.specs.declared.fault.InputFail.TheVariants as input
@@ -11,9 +14,12 @@ use Rattle.vdpm.specs.declared.words.Asked.{Asked}
 use Rattle.vdpm.specs.declared.words.Asked.TheVariants as asked
 use Rattle.vdpm.specs.Input.{fail_of, Unreached, IsFaulty, Stops}
 use Rattle.pm_demo.proofs.SummaryLaws.{one_summary}
-use Rattle.vdpm.specs.Ran.{Ran, refused, unread}
-use Rattle.vdpm.specs.Outcome.{IsOutcome, done_with, Follows, OneOutcome, Replied, CutShort}
-use Rattle.vdpm.specs.Ending.{PutBy, ReadFails, ReadToEnd, Ends, Counts}
+use Rattle.vdpm.specs.Ran.{Ran, refused, whole_output, unread}
+use Rattle.vdpm.specs.Surface.{IsSurfaceRead}
+use Rattle.vdpm.specs.Build.{IsBuilt}
+use Rattle.vdpm.specs.Beginning.{IsHierarchyText}
+use Rattle.vdpm.specs.Outcome.{IsOutcome, done_with, Follows, counts_line, OneOutcome, Replied, CutShort}
+use Rattle.vdpm.specs.Ending.{PutBy, ReadFails, ReadToEnd, TakesTo, ReadToPlace, Ends, Counts}
 use Rattle.vdpm.proofs.SurfaceLaws.{one_surface}
 use Rattle.vdpm.proofs.BuildLaws.{one_build}
 use Rattle.vdpm.proofs.BeginningLaws.{one_valid, one_hierarchy}
@@ -99,6 +105,48 @@ to_end asks (Some bytes) now end = λ all outcome none. end
 pub ok_to_end : (asks : Asked) (left now : Option (List ℕ)) (r : Result (Unit {0}) CommandFail) → OnOk r (AtEnd now) → OnOk r (ReadToEnd asks left now)
 ok_to_end asks left now (Ok done) end = to_end asks left now end
 ok_to_end asks left now (Err e) end = tt
+
+-- Where the end of the input decides what a command writes of what it reads, no byte decides a whole outcome.
+
+whole_nowhere : {X : Type 0} (IsRead : Result X Fault → Option ℕ → Type 0) (does : X → Ran) (all : Ran) → ((x : X) → (does x).place ≡ None) → Follows IsRead does all → all.fault ≡ None → all.place ≡ None
+whole_nowhere {X = X} IsRead does all at_end f whole = ap (λ (a : Ran). a.place) f.done ∙ go f.read f.place (sym (ap (λ (a : Ran). a.fault) f.done) ∙ whole)
+  where
+    go : (r : Result X Fault) (place : Option ℕ) → (done_with does r place).fault ≡ None → (done_with does r place).place ≡ None
+    go (Ok x) place whole = at_end x
+    go (Err e) place whole = absurd (cc whole)
+
+-- So the input was read to the place of a whole outcome, as it has none.
+replied_to_place : (asks : Asked) (left now old new : Option (List ℕ)) → ((bytes : List ℕ) (all : Ran) → IsOutcome asks bytes all → all.fault ≡ None → all.place ≡ None) → IfSome left (λ bytes. Replied asks bytes None old new) → ReadToPlace asks left now
+replied_to_place asks None now old new nowhere replied = tt
+replied_to_place asks (Some bytes) now old new nowhere replied = λ all is.
+    let same : replied.all ≡ all = one_outcome asks bytes replied.all all replied.outcome is in
+    let none : all.place ≡ None = nowhere bytes all is (sym (ap (λ (a : Ran). a.fault) same) ∙ replied.fault_is) in
+    subst (λ (p : Option ℕ). IfSome p (λ n. TakesTo n (Some bytes) now)) (sym none) tt
+
+module _ {X : Type 0} (asks : Asked) (IsRead : List ℕ → Result X Fault → Option ℕ → Type 0) (does : X → Ran) (at_end : (x : X) → (does x).place ≡ None) (given : (bytes : List ℕ) (all : Ran) → IsOutcome asks bytes all → Follows (IsRead bytes) does all) where
+  pub ended_to_place : (r : Result (Unit {0}) CommandFail) (left now old new : Option (List ℕ)) → Ends asks r left now old new → OnOk r (ReadToPlace asks left now)
+  ended_to_place (Ok done) left now old new ends = replied_to_place asks left now old new (λ bytes all is whole. whole_nowhere (IsRead bytes) does all at_end (given bytes all is) whole) ends
+  ended_to_place (Err e) left now old new ends = tt
+
+pub canon_to_place : (digits : ℕ) (r : Result (Unit {0}) CommandFail) (left now old new : Option (List ℕ)) → Ends (asked.Canon digits) r left now old new → OnOk r (ReadToPlace (asked.Canon digits) left now)
+canon_to_place digits = ended_to_place (asked.Canon digits) (IsSurfaceRead digits) (λ m. whole_output (canonical_text digits m)) (λ x. refl) (λ bytes all is. is)
+
+pub build_to_place : (target digits : ℕ) (r : Result (Unit {0}) CommandFail) (left now old new : Option (List ℕ)) → Ends (asked.Build target digits) r left now old new → OnOk r (ReadToPlace (asked.Build target digits) left now)
+build_to_place target digits = ended_to_place (asked.Build target digits) (IsBuilt target digits) (λ h. whole_output (stream digits h)) (λ x. refl) (λ bytes all is. is)
+
+pub expand_to_place : (r : Result (Unit {0}) CommandFail) (left now old new : Option (List ℕ)) → Ends asked.Expand r left now old new → OnOk r (ReadToPlace asked.Expand left now)
+expand_to_place = ended_to_place asked.Expand IsHierarchyText (λ o. whole_output (canonical_text o.digits (input_mesh_of o.h))) (λ x. refl) (λ bytes all is. is)
+
+pub check_to_place : (r : Result (Unit {0}) CommandFail) (left now old new : Option (List ℕ)) → Ends asked.Check r left now old new → OnOk r (ReadToPlace asked.Check left now)
+check_to_place = ended_to_place asked.Check IsHierarchyText (λ o. whole_output (counts_line o.h)) (λ x. refl) (λ bytes all is. is)
+
+-- `demo` reads nothing.
+pub demo_to_place : (n : ℕ) (r : Result (Unit {0}) CommandFail) (left : Option (List ℕ)) → OnOk r (ReadToPlace (asked.Demo n) left left)
+demo_to_place n (Err e) left = tt
+demo_to_place n (Ok done) None = tt
+demo_to_place n (Ok done) (Some bytes) = λ all is.
+    let taken : TakesTo 0 (Some bytes) (Some bytes) = record { taken = []; took = loses_none (Some bytes); reached = omega arith; few = omega arith } in
+    subst (λ (a : Ran). IfSome a.place (λ place. TakesTo place (Some bytes) (Some bytes))) (sym is.done) taken
 
 -- Reading its input isn't writing.
 pub no_write : (e : InputFail) → fail_of e ≡ fails.Write → ⊥

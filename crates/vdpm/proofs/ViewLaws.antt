@@ -28,7 +28,7 @@ use Rattle.vdpm.specs.Input.{fail_of, IsFaulty, Stops}
 use Rattle.vdpm.specs.Ran.{Ran, line_fault, of_script, serve_fail}
 use Rattle.vdpm.specs.Beginning.{Beginning, IsValidBeginning, valid, stream_fail, load_fail}
 use Rattle.vdpm.specs.Outcome.{IsOutcome, done_with, Replied, CutShort}
-use Rattle.vdpm.specs.Ending.{in_stream, in_script, ReadFails, ReadToEnd, FewMore, Ends, Counts}
+use Rattle.vdpm.specs.Ending.{in_stream, in_script, ReadFails, ReadToEnd, TakesTo, ReadToPlace, FewMore, Ends, Counts}
 use Rattle.vdpm.proofs.BeginningLaws.{valid_place}
 use Rattle.vdpm.proofs.ReadingLaws.{Begun, took_text, opened, valid_unread}
 use Rattle.vdpm.proofs.OutcomeLaws.{one_outcome, follows_refused, ends_refused}
@@ -154,6 +154,27 @@ script_to_end b d h (Some bytes) (Some rest) now got_old got_new window after be
     let nowhere : p.place ≡ None = no_place (length (stream d h)) p.place (ap (λ (a : Ran). a.place) same ∙ none) in
     left_at_end window now (subst (λ (place : Option ℕ). ReachesPlace (Some rest) (prepend_known window now) place) nowhere ended.reaches)
 
+-- The script has ended at a place, and the window holds few bytes.
+script_to_place : (b d : ℕ) (h : Hierarchy) (left mid now got_old got_new : Option (List ℕ)) (window : List ℕ) (after : Sets) → Begun left mid d h → IsValid h → length window ≤ 4095
+    → Ended h b at_first mid (prepend_known window now) got_old got_new None after → ReadToPlace (asked.View b) left now
+script_to_place b d h None mid now got_old got_new window after begun good few ended = tt
+script_to_place b d h (Some bytes) None now got_old got_new window after begun good few ended = absurd (cc begun.took)
+script_to_place b d h (Some bytes) (Some rest) now got_old got_new window after begun good few ended = λ all is.
+    subst (λ (a : Ran). IfSome a.place (λ n. TakesTo n (Some bytes) now)) (one_outcome (asked.View b) bytes (of_script (length (stream d h)) (played h b at_first rest)) all (view_outcome b d h bytes rest begun good) is)
+    (on (played h b at_first rest).place ended.reaches)
+  where
+    on : (place : Option ℕ) → ReachesPlace (Some rest) (prepend_known window now) place → IfSome (option_map (λ n. length (stream d h) + n) place) (λ n. TakesTo n (Some bytes) now)
+    on None reaches = tt
+    on (Some n) reaches =
+        let script = reaches.0 in
+        let len : length (stream d h ++ (script ++ window)) ≡ length (stream d h) + (n + length window) = omega (arith, length-append (stream d h) (script ++ window), length-append script window, reaches.2) in
+        record {
+          taken = stream d h ++ (script ++ window);
+          took = loses_both (Some bytes) (Some rest) now (stream d h) (script ++ window) (took_text (Some bytes) (Some rest) d h begun) (loses_both (Some rest) (prepend_known window now) now script window reaches.1 refl);
+          reached = omega (arith, len);
+          few = omega (arith, len, few);
+        }
+
 -- A write failed.
 script_cut : (b d : ℕ) (h : Hierarchy) (left mid now got_old got_new : Option (List ℕ)) (after : Sets) → Begun left mid d h → IsValid h → PutPart h b at_first mid now got_old got_new after → IfSome left (λ bytes. CutShort (asked.View b) bytes got_old got_new)
 script_cut b d h None mid now got_old got_new after begun good p = tt
@@ -196,6 +217,9 @@ module _ (b b' d : ℕ) (h h' : Hierarchy) (T : Sets) (left mid now got_old got_
 
   pub view_to_end : Serves h' b' T mid (prepend_known window now) got_old got_new (Ok tt) after → ReadToEnd (asked.View b) left now
   view_to_end serves = script_to_end b d h left mid now got_old got_new window after begun good (shown h h' b b' T mid (prepend_known window now) got_old got_new (Ok tt) after same_h same_b base serves)
+
+  pub view_to_place : Serves h' b' T mid (prepend_known window now) got_old got_new (Ok tt) after → length window ≤ 4095 → ReadToPlace (asked.View b) left now
+  view_to_place serves few = script_to_place b d h left mid now got_old got_new window after begun good few (shown h h' b b' T mid (prepend_known window now) got_old got_new (Ok tt) after same_h same_b base serves)
 
   pub view_served : (e : ServeFail) → Serves h' b' T mid (prepend_known window now) got_old got_new (Err e) after → WindowAfter {X = Unit {0}} (Err e) window → Ends (asked.View b) (Err (serve_fail e)) left now got_old got_new
   view_served e serves is = go e (shown h h' b b' T mid (prepend_known window now) got_old got_new (Err e) after same_h same_b base serves) is

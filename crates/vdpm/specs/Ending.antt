@@ -1,5 +1,5 @@
 -- How a command ends, and when each status comes.
-use Rattle.std.specs.Prelude.{◌≡◌, ◌≢◌, ◌⊎◌, ℕ, ◌<◌, ◌≤◌, List, [], ◌∷◌, ◌++◌, length, Option, Some, None, IfSome, Result, Ok, Err}
+use Rattle.std.specs.Prelude.{◌≡◌, ◌≢◌, ◌⊎◌, ℕ, ◌+◌, ◌<◌, ◌≤◌, List, [], ◌∷◌, ◌++◌, length, Option, Some, None, IfSome, Result, Ok, Err}
 use Rattle.pm_io.specs.Bytes.{Loses, Gains, GainsPart, AtEnd}
 use Rattle.pm_io.specs.Causes.{Rose}
 use Rattle.obj_lines.specs.Text.{until, lines}
@@ -47,6 +47,17 @@ pub record ReadFails (asks : Asked) (left now old new : Option (List ℕ)) : Typ
 -- Where the end of the input decides the outcome, the input was read to its end.
 abbrev pub ReadToEnd : Asked → Option (List ℕ) → Option (List ℕ) → Type 0
 ReadToEnd asks left now = IfSome left (λ bytes. (all : Ran) → IsOutcome asks bytes all → all.place ≡ None → AtEnd now)
+
+-- The bytes up to this place were taken, and fewer than 4,096 past it.
+pub record TakesTo (place : ℕ) (left now : Option (List ℕ)) : Type 0 where
+  pub taken : List ℕ
+  pub took : Loses left now taken
+  pub reached : place ≤ length taken
+  pub few : length taken < place + 4096
+
+-- Where a byte of the input decides the outcome, the input was read to that byte and few bytes past it.
+abbrev pub ReadToPlace : Asked → Option (List ℕ) → Option (List ℕ) → Type 0
+ReadToPlace asks left now = IfSome left (λ bytes. (all : Ran) → IsOutcome asks bytes all → IfSome all.place (λ place. TakesTo place left now))
 
 -- A write of `view` failed at the reply to this line, and few bytes were taken past the line.
 pub record FewMore (budget : ℕ) (left now old new : Option (List ℕ)) : Type 0 where

@@ -1,7 +1,7 @@
 //! What each command does with its devices. All memory is taken before the first byte of output.
 ghost use Rattle.std.specs.Prelude.{◌≡◌, ◌≤◌, false, OnOk, IfErr};
 ghost use Rattle.pm_io.specs.Bytes.{AtEnd};
-ghost use Rattle.vdpm.specs.Ending.{Ends, Counts, ReadToEnd, FewMore};
+ghost use Rattle.vdpm.specs.Ending.{Ends, Counts, ReadToEnd, ReadToPlace, FewMore};
 
 use crate::fault::CommandFail;
 use crate::hierarchy::read_hierarchy;
@@ -85,6 +85,7 @@ pub fn view<S: Source, K: Sink>(
         (S.left input.old) (S.left input.new) (K.got out.old) (K.got out.new) }
     ensures counts { Counts result (S.faults input.old) (S.faults input.new) (K.faults out.old) (K.faults out.new) }
     ensures read_whole { OnOk result (ReadToEnd (Asked.View budget) (S.left input.old) (S.left input.new)) }
+    ensures read_to_place { OnOk result (ReadToPlace (Asked.View budget) (S.left input.old) (S.left input.new)) }
     ensures few_more { IfErr result (λ e. e ≡ CommandFail.Write
         → FewMore budget (S.left input.old) (S.left input.new) (K.got out.old) (K.got out.new)) }
 {

@@ -7,7 +7,7 @@ ghost use Rattle.vdpm.specs.Words.{asked_of, digits_asked, HasSize};
 ghost use Rattle.vdpm.specs.FaultLine.{fault_line};
 ghost use Rattle.vdpm.specs.Ran.{Ran};
 ghost use Rattle.vdpm.specs.Outcome.{IsOutcome};
-ghost use Rattle.vdpm.specs.Ending.{Ends, Counts, ReadFails, ReadToEnd, FewMore, BlamesNoInput, status_of, Answers};
+ghost use Rattle.vdpm.specs.Ending.{Ends, Counts, ReadFails, ReadToEnd, ReadToPlace, FewMore, BlamesNoInput, status_of, Answers};
 ghost use Rattle.vdpm.specs.Devices.{Asks, Unread, Unput, Tells, Replies, LeadsBack, FramesAreSurfaces, Breaks};
 
 use crate::build::build;
@@ -21,7 +21,7 @@ use pm_io::{Sink, Source};
 use std::alloc::Global;
 
 // Does what was asked for.
-#[tactic(auto, using(crate::proofs::OutcomeLaws::ok_to_end))]
+#[tactic(auto, using(crate::proofs::OutcomeLaws::ok_to_end, crate::proofs::OutcomeLaws::canon_to_place, crate::proofs::OutcomeLaws::build_to_place, crate::proofs::OutcomeLaws::expand_to_place, crate::proofs::OutcomeLaws::check_to_place, crate::proofs::OutcomeLaws::demo_to_place))]
 fn obey<S: Source, K: Sink>(
     alloc: Global,
     asked: Asked,
@@ -34,6 +34,7 @@ fn obey<S: Source, K: Sink>(
     ensures ends { Ends asked result (S.left input.old) (S.left input.new) (K.got out.old) (K.got out.new) }
     ensures counts { Counts result (S.faults input.old) (S.faults input.new) (K.faults out.old) (K.faults out.new) }
     ensures read_whole { OnOk result (ReadToEnd asked (S.left input.old) (S.left input.new)) }
+    ensures read_to_place { OnOk result (ReadToPlace asked (S.left input.old) (S.left input.new)) }
     ensures gives_back { (target digits : ℕ) → asked ≡ Asked.Build target digits
         → OnOk result (LeadsBack S.Source K.Sink target digits input.old out.old out.new) }
     ensures surfaces { (target digits : ℕ) → asked ≡ Asked.Build target digits
@@ -89,9 +90,11 @@ pub fn run<S: Source, K: Sink, E: Sink>(
         → FramesAreSurfaces S.Source K.Sink target digits input.old out.old out.new }
     ensures whole_counts { result ≡ 0
         → (S.faults input.new ≡ S.faults input.old) × (K.faults out.new ≡ K.faults out.old) }
-    // The input was read to its end, or to the `q` of a script.
+    // The input was read to its end, or to the `q` of a script and few bytes past that line.
     ensures read_whole { (asked : Asked) → Asks words.now asked → result ≡ 0
         → ReadToEnd asked (S.left input.old) (S.left input.new) }
+    ensures read_to_place { (asked : Asked) → Asks words.now asked → result ≡ 0
+        → ReadToPlace asked (S.left input.old) (S.left input.new) }
     // `demo` reads nothing.
     ensures unread { (n : ℕ) → Asks words.now (Asked.Demo n)
         → Unread S.Source input.old input.new × BlamesNoInput result }

@@ -6,7 +6,7 @@ use Rattle.pm_session.specs.Session.{sets_of}
 use Rattle.vdpm.specs.Beginning.{IsValidBeginning, stream_fail, load_fail}
 use Rattle.vdpm.proofs.ReadingLaws.{begun, stream_stops, load_stops}
 use Rattle.vdpm.proofs.OutcomeLaws.{counts_stopped, no_write}
-use Rattle.vdpm.proofs.ViewLaws.{view_stream, view_load, view_done, view_to_end, view_served, view_few, view_counts}
+use Rattle.vdpm.proofs.ViewLaws.{view_stream, view_load, view_done, view_to_end, view_to_place, view_served, view_few, view_counts}
 use Rattle.vdpm.proofs.commands.view.Goals as goal
 
 pub returns-in_err-h-clause-ends : goal.returns-in_err-h-clause-ends
@@ -80,6 +80,19 @@ returns-clause-read_whole g c =
     let s = c.in_ok-session.session in
     let text = begun left (prepend_known c.in_ok-taker.taker left) mid later c.in_ok-h.field-0 same c.in_ok-h.ensures.reads in
     view_to_end c.args.budget s.budget d h s.h (sets_of s) left mid now (g.K.Sink.got c.args.out.now) (g.K.Sink.got c.serve.new.out) c.serve.new.taker (sets_of c.serve.new.self) text c.in_ok-session.ensures.valid c.in_ok-session.ensures.shown.0 c.in_ok-session.ensures.shown.1 c.in_ok-session.ensures.shown.2 c.in_ok-serve.ensures.serves
+
+pub returns-clause-read_to_place : goal.returns-clause-read_to_place
+returns-clause-read_to_place g c =
+    let left = g.S.Source.left c.args.input.now in
+    let later = g.S.Source.left c.read_stream.new.source in
+    let same : prepend_known c.in_ok-taker.taker left ≡ left = ap (λ l. prepend_known l left) c.in_ok-taker.ensures ∙ sym (loses_none left) in
+    let now = g.S.Source.left c.serve.new.source in
+    let mid = prepend_known c.read_stream.new.taker later in
+    let d = c.in_ok-h.field-0.digits in
+    let h = c.in_ok-h.field-0.h in
+    let s = c.in_ok-session.session in
+    let text = begun left (prepend_known c.in_ok-taker.taker left) mid later c.in_ok-h.field-0 same c.in_ok-h.ensures.reads in
+    view_to_place c.args.budget s.budget d h s.h (sets_of s) left mid now (g.K.Sink.got c.args.out.now) (g.K.Sink.got c.serve.new.out) c.serve.new.taker (sets_of c.serve.new.self) text c.in_ok-session.ensures.valid c.in_ok-session.ensures.shown.0 c.in_ok-session.ensures.shown.1 c.in_ok-session.ensures.shown.2 c.in_ok-serve.ensures.serves c.in_ok-serve.ensures.window
 
 pub returns-in_err-serve-clause-ends : goal.returns-in_err-serve-clause-ends
 returns-in_err-serve-clause-ends g c =

@@ -1,7 +1,7 @@
 use Rattle.std.proofs.Common.{None, Err, IfSome, inl, sym, ◌∙◌, subst, arith}
 use Rattle.vdpm.specs.declared.words.Asked.TheVariants as asked
 use Rattle.vdpm.specs.Outcome.{IsOutcome, Replied}
-use Rattle.vdpm.specs.Ending.{ReadToEnd, Ends}
+use Rattle.vdpm.specs.Ending.{ReadToEnd, ReadToPlace, Ends}
 use Rattle.vdpm.proofs.EndingLaws.{one_asked, said_fault, read_of, cut_of, write_of, said_line, line_of_read, line_of_write, line_of_memory, completes_whole, completes}
 use Rattle.vdpm.proofs.run.run.Goals as goal
 
@@ -21,6 +21,10 @@ returns-in-Ok-clause-unread g c = λ n asks. ((c.in-Ok.ensures.unread n (one_ask
 pub returns-in-Ok-clause-read_whole : goal.returns-in-Ok-clause-read_whole
 returns-in-Ok-clause-read_whole g c = λ other asks is.
     subst (λ a. ReadToEnd a (g.S.Source.left c.args.input.now) (g.S.Source.left c.obey.new.input)) (one_asked _ _ other (sym c.read_words.ensures.asked ∙ c.in-Some.is) asks) c.in-Ok.ensures.read_whole
+
+pub returns-in-Ok-clause-read_to_place : goal.returns-in-Ok-clause-read_to_place
+returns-in-Ok-clause-read_to_place g c = λ other asks is.
+    subst (λ a. ReadToPlace a (g.S.Source.left c.args.input.now) (g.S.Source.left c.obey.new.input)) (one_asked _ _ other (sym c.read_words.ensures.asked ∙ c.in-Some.is) asks) c.in-Ok.ensures.read_to_place
 
 pub returns-in-Ok-clause-complete : goal.returns-in-Ok-clause-complete
 returns-in-Ok-clause-complete g c = λ other bytes all asks left outcome in_same out_same in_few out_few.
