@@ -1,7 +1,10 @@
 -- What is said of an ending, over the words asked and over devices as they were and as they are.
-use Rattle.std.specs.Prelude.{◌≡◌, ℕ, List, String, Option, Some, IfSome, map}
+use Rattle.std.specs.Prelude.{◌≡◌, ℕ, List, String, Option, Some, IfSome, Result, Ok, Err, map, drop}
 use Rattle.std.specs.String.{string_bytes}
 use Rattle.std.specs.declared.alloc.Global.{Global}
+use Rattle.std.specs.declared.io.Error.{Error}
+use Rattle.std.specs.declared.vec.IntoIter.{IntoIter}
+use Rattle.std.specs.Vec.Iter.{into_iter_items}
 use Rattle.pm_io.specs.declared.device.Source as source
 use Rattle.pm_io.specs.declared.device.Sink as sink
 use Rattle.vdpm.specs.declared.words.Asked.{Asked}
@@ -15,6 +18,11 @@ use Rattle.pm_io.specs.Puts.{Said}
 -- These words ask for this.
 abbrev pub Asks : List (String Global) → Asked → Type 0
 Asks words asked = asked_of (map string_bytes words) ≡ Some asked
+
+-- The arguments were gathered, and the words after the first of them, which is the program's name, ask for this.
+abbrev pub ArgsAsk : Result (IntoIter (String Global) Global) Error → Asked → Type 0
+ArgsAsk (Ok args) asked = Asks (drop 1 (into_iter_items args)) asked
+ArgsAsk (Err error) asked = ⊥
 
 -- Nothing was read.
 abbrev pub Unread : {S : Type 0} → source.Ghosts S → S → S → Type 0

@@ -1,0 +1,102 @@
+//! The program over its arguments, the first of which is its name.
+ghost use Rattle.std.specs.Prelude.{◌≡◌, ◌≢◌, ◌⊎◌, ◌≤◌, ◌<◌, ◌-◌, ◌^◌, ℕ, List, None, Some, IfOk, IfErr, codes, drop};
+ghost use Rattle.std.specs.IoError.{error_kind};
+ghost use Rattle.std.specs.Vec.Iter.{into_iter_items};
+ghost use Rattle.pm_io.specs.Causes.{Rose};
+ghost use Rattle.vdpm.specs.declared.fault.Fault.{Fault};
+ghost use Rattle.vdpm.specs.declared.words.Asked.{Asked};
+ghost use Rattle.vdpm.specs.FaultLine.{fault_line};
+ghost use Rattle.vdpm.specs.Ran.{Ran};
+ghost use Rattle.vdpm.specs.Outcome.{IsOutcome};
+ghost use Rattle.vdpm.specs.Ending.{ReadFails, ReadToEnd, ReadToPlace, Answers};
+ghost use Rattle.vdpm.specs.Devices.{ArgsAsk, Unread, Unput, Tells, Replies, Breaks};
+
+use crate::run::run;
+use crate::say::say;
+use pm_io::{Sink, Source};
+use std::alloc::{AllocError, Global};
+use std::env::Args;
+use std::io;
+use std::io::ErrorKind;
+
+// The words after the program's name, in order.
+fn words_after_name(alloc: Global, mut args: Args) -> Result<Vec<String>, AllocError>
+    ensures { IfOk result (λ words. words.items ≡ drop 1 (into_iter_items args)) }
+{
+    let _name = args.next();
+    let mut words = Vec::new(alloc);
+    for word in args {
+        words.push(word)?;
+    }
+    Ok(words)
+}
+
+// The status where the words can't be gathered: for want of memory, of which nothing is said, or since one isn't UTF-8
+// and so none of the forms.
+fn refuse_words<E: Sink>(err: &mut E, kind: ErrorKind) -> u8
+    ensures memory { kind ≡ ErrorKind.OutOfMemory → (result ≡ 5) × Unput E.Sink err.old err.new }
+    ensures either { ((result ≡ 5) × Unput E.Sink err.old err.new) ⊎ ((result ≡ 2) × Tells E.Sink err.old err.new (codes "vdpm: words not understood\n")) }
+    ensures other { kind ≢ ErrorKind.OutOfMemory → (result ≡ 2) × Tells E.Sink err.old err.new (codes "vdpm: words not understood\n") }
+{
+    if kind == ErrorKind::OutOfMemory {
+        return 5;
+    }
+    say(err, b"vdpm: words not understood\n");
+    2
+}
+
+/// Does what the words after the program's name ask for, as `run` does, and answers the exit status. Where the words can't be
+/// gathered nothing is read or put: 2 where one isn't UTF-8, and 5 where memory was wanted.
+pub fn answer<S: Source, K: Sink, E: Sink>(
+    alloc: Global,
+    args: io::Result<Args>,
+    input: &mut S,
+    out: &mut K,
+    err: &mut E,
+) -> u8
+    ensures statuses { result ≤ 5 }
+    // Words that ask for nothing are refused, and only they; then nothing is read or put.
+    ensures refused { ((asked : Asked) → ArgsAsk args asked → ⊥) → (result ≡ 2) ⊎ (result ≡ 5) }
+    ensures known { result ≡ 2 → (asked : Asked) → ArgsAsk args asked → ⊥ }
+    ensures untouched { result ≡ 2 → Unread S.Source input.old input.new × Unput K.Sink out.old out.new }
+    ensures said_words { result ≡ 2 → Tells E.Sink err.old err.new (codes "vdpm: words not understood\n") }
+    // Words that can't be gathered: 5 where memory was wanted, and 2 where one isn't UTF-8.
+    ensures no_memory { IfErr args (λ e. error_kind e ≡ ErrorKind.OutOfMemory → result ≡ 5) }
+    ensures not_text { IfErr args (λ e. error_kind e ≢ ErrorKind.OutOfMemory → result ≡ 2) }
+    // The outcome of what was asked for is whole, and exactly its text was put.
+    ensures whole { (asked : Asked) → ArgsAsk args asked → result ≡ 0
+        → Replies S.Source K.Sink asked None input.old out.old out.new }
+    ensures read_whole { (asked : Asked) → ArgsAsk args asked → result ≡ 0
+        → ReadToEnd asked (S.left input.old) (S.left input.new) }
+    ensures read_to_place { (asked : Asked) → ArgsAsk args asked → result ≡ 0
+        → ReadToPlace asked (S.left input.old) (S.left input.new) }
+    // The outcome has a fault, which is said, and exactly the text before it was put.
+    ensures faulty { (asked : Asked) → ArgsAsk args asked → result ≡ 1 → (f : Fault)
+        × Replies S.Source K.Sink asked (Some f) input.old out.old out.new
+        × Tells E.Sink err.old err.new (fault_line f) }
+    // A read failed before the bytes that decide the outcome were all taken.
+    ensures unreached { (asked : Asked) → ArgsAsk args asked → result ≡ 3
+        → Rose (S.faults input.old) (S.faults input.new)
+        × ReadFails asked (S.left input.old) (S.left input.new) (K.got out.old) (K.got out.new) }
+    // A write failed, and a proper prefix of the text was put.
+    ensures write { (asked : Asked) → ArgsAsk args asked → result ≡ 4
+        → Rose (K.faults out.old) (K.faults out.new)
+        × Breaks S.Source K.Sink asked input.old out.old out.new }
+    // Memory was wanted, and nothing was put; no device failed.
+    ensures memory { result ≡ 5 → (S.faults input.new ≡ S.faults input.old) × Unput K.Sink out.old out.new }
+    // Where no device failed, a whole outcome gives 0 and a fault gives 1, unless memory is wanted.
+    ensures complete { (asked : Asked) (bytes : List ℕ) (all : Ran) → ArgsAsk args asked
+        → S.left input.old ≡ Some bytes → IsOutcome asked bytes all
+        → S.faults input.new ≡ S.faults input.old → K.faults out.new ≡ K.faults out.old
+        → S.faults input.old < 2 ^ 64 - 1 → K.faults out.old < 2 ^ 64 - 1
+        → Answers all.fault result ⊎ (result ≡ 5) }
+{
+    let args = match args {
+        Ok(args) => args,
+        Err(error) => return refuse_words(err, error.kind()),
+    };
+    match words_after_name(alloc, args) {
+        Ok(words) => run(alloc, &words, input, out, err),
+        Err(_) => 5,
+    }
+}
