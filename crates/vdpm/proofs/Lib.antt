@@ -6,4 +6,6 @@ pub mod FrameLaws
 pub mod OutcomeLaws
 pub mod DemoLaws
 pub mod EndingLaws
+pub mod JudgedLaws
+pub mod SomeOutcomes
 pub mod ViewLaws

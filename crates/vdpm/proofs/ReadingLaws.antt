@@ -84,7 +84,7 @@ truncated_is bytes n is = go (magic_is_bad bytes) (forest_at (words_of bytes)) i
     go false (Err (kinds.Digits d)) e = absurd cc
     go false (Err (kinds.Fault f)) e = absurd (shape_no f e)
 
-bad_text : (bytes : List ℕ) (e : FormatError) (cut : Bool) → is_truncated (Some e) ≡ cut → stream_fault bytes ≡ Some e → IsFaulty IsValidBeginning bytes (faults.Stream e)
+pub bad_text : (bytes : List ℕ) (e : FormatError) (cut : Bool) → is_truncated (Some e) ≡ cut → stream_fault bytes ≡ Some e → IsFaulty IsValidBeginning bytes (faults.Stream e)
 bad_text bytes e false told is =
     let (n, at) = there_is_a_place bytes (ap is_truncated is ∙ told) in
     record { place = Some n; is = no_stream (faults.Stream e) (Some n) (bad_unit e n is at) }

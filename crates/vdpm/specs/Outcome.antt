@@ -9,10 +9,12 @@ use Rattle.pm_base.specs.Canonical.{canonical_text}
 use Rattle.pm_session.specs.Script.{at_first}
 use Rattle.pm_session.specs.Serving.{played}
 use Rattle.pm_format.specs.Stream.{stream}
+use Rattle.pm_format.specs.Words.{IsBytes}
 use Rattle.pm_demo.specs.Summary.{IsSummary}
 use Rattle.vdpm.specs.declared.words.Asked.{Asked}
 use Rattle.vdpm.specs.declared.words.Asked.TheVariants as asked
 use Rattle.vdpm.specs.declared.fault.Fault.{Fault}
+use Rattle.vdpm.specs.Words.{HasSize}
 use Rattle.vdpm.specs.Surface.{IsSurfaceRead}
 use Rattle.vdpm.specs.Build.{IsBuilt}
 use Rattle.vdpm.specs.Beginning.{IsValidBeginning, IsHierarchyText}
@@ -54,7 +56,11 @@ IsOutcome asked.Check bytes all = Follows (IsHierarchyText bytes) (λ o. whole_o
 IsOutcome (asked.View budget) bytes all = Follows (IsValidBeginning bytes) (λ o. of_script (length (stream o.digits o.h)) (played o.h budget at_first o.rest)) all
 IsOutcome (asked.Demo n) bytes all = Summarizes n all
 
--- An input has one outcome: one text, one fault or none, and one place.
+-- Whatever is asked for, and whatever bytes the input has, there is an outcome.
+abbrev pub SomeOutcome : Type 0
+SomeOutcome = (asks : Asked) → HasSize asks → (bytes : List ℕ) → IsBytes bytes → (all : Ran) × IsOutcome asks bytes all
+
+-- And an input has no other: one text, one fault or none, and one place.
 abbrev pub OneOutcome : Type 0
 OneOutcome = (asks : Asked) (bytes : List ℕ) (one other : Ran) → IsOutcome asks bytes one → IsOutcome asks bytes other → one ≡ other
 
