@@ -6,7 +6,7 @@ use Rattle.std.proofs.lemmas.List.{append-nil}
 use Rattle.std.proofs.lemmas.List.Folds.{flat_map-map}
 use Rattle.pm_base.specs.Sides.{face_of, next}
 use Rattle.pm_io.specs.Bytes.{GainsPart, GainsThrough}
-use Rattle.pm_io.proofs.PageLaws.{through_both, through_more, through_part}
+use Rattle.pm_io.proofs.PageLaws.{through_none, through_both, through_more, through_part}
 use Rattle.pm_forest.specs.Fronts.{without}
 use Rattle.pm_strips.specs.Strips.{free_beyond, exit_of, enter_by, entered, first_side, strip_from, left_by}
 use Rattle.pm_strips.specs.Shown.{node_text, strip_line}
@@ -26,6 +26,18 @@ pub record IsEntering (beyond : ℕ → Option ℕ) (node : ℕ → ℕ) (n turn
   pub whole : entered beyond n first true first_exit ≡ done ++ entered beyond (n - turn) free is_odd exit
   pub left : free ≡ left_by first done
   pub text : GainsThrough old new held holds (entered_text node done)
+
+-- Before the first turn.
+pub entering_none : (beyond : ℕ → Option ℕ) (node : ℕ → ℕ) (n : ℕ) (free : ℕ → Bool) (exit : ℕ) (old : Option (List ℕ)) (held : List ℕ)
+    → IsEntering beyond node n 0 free exit free true exit old old held held
+entering_none beyond node n free exit old held =
+    let z : n - 0 ≡ n = omega arith in
+    record {
+      done = [];
+      whole = ap (λ m. entered beyond m free true exit) (sym z);
+      left = refl;
+      text = through_none old held;
+    }
 
 -- The next turn enters a triangle,
 enters : (beyond : ℕ → Option ℕ) (n turn : ℕ) (free : ℕ → Bool) (is_odd : Bool) (exit g : ℕ) → turn < n → free_beyond beyond free exit ≡ Some g

@@ -1,4 +1,4 @@
-use Rattle.std.proofs.Common.{◌<◌, ◌≤◌, false, length, sym, ap, ◌∙◌, arith, length-set}
+use Rattle.std.proofs.Common.{◌<◌, ◌≤◌, false, length, refl, sym, ap, ◌∙◌, arith, length-set}
 use Rattle.std.proofs.lemmas.Result.{err_from_is_err_and}
 use Rattle.pm_base.specs.Sides.{face_of, next}
 use Rattle.pm_io.proofs.PutLaws.{through_done, through_failed}
@@ -8,7 +8,7 @@ use Rattle.pm_forest.proofs.Flags.{set_of-clear}
 use Rattle.pm_strips.specs.Shown.{beyond_in, node_of_corner, node_text}
 use Rattle.pm_strips.proofs.ShownLaws.{there-parts}
 use Rattle.pm_strips.proofs.SideLaws.{beyond_none, beyond_some}
-use Rattle.pm_strips.proofs.Entering.{part_as, through_as, entering_more, entering_cut, entering_ends, entering_past}
+use Rattle.pm_strips.proofs.Entering.{part_as, through_as, entering_none, entering_more, entering_cut, entering_ends, entering_past}
 use Rattle.pm_strips.proofs.strip.put_entered.Goals as goal
 
 pub returns-in_default-clause-puts : goal.returns-in_default-clause-puts
@@ -41,6 +41,17 @@ returns-in_err-put_node-clause-puts g c =
     c.in-Some.side.0 _ _ _ _ _ low some c.loop-turn.invariant.so_far
     (part_as _ _ _ _ _ (ap (λ v. node_text (node_of_corner h T v)) (sym third)) c.in_err-put_node.ensures.err) in
     rw (p.1, p.2) (through_failed g.K.Sink c.args.out.now c.loop-turn.out _ _ _ _ _ part c.loop-turn.invariant.count c.in_err-put_node.ensures.cause)
+
+pub loop-turn-init : goal.loop-turn-init
+loop-turn-init g c =
+    let h = c.args.front.now.h in
+    let T = set_of c.args.front.now.flags in
+    record {
+      so_far = entering_none (beyond_in h T) (node_of_corner h T) (face_count h) (set_of c.args.free.now.items) c.args.first_exit.0 (g.K.Sink.got c.args.out.now) c.args.page.now;
+      there = c.requires.there;
+      len = refl;
+      count = refl;
+    }
 
 pub loop-turn-preserved : goal.loop-turn-preserved
 loop-turn-preserved g c =
