@@ -7,7 +7,8 @@ from typing import List, Tuple
 from model.hierarchy import Hierarchy, NewFace, hierarchy_of_run
 from model.mesh import Mesh, canonical_text, coordinate_text
 from model.run import Collapse, best_place, collapsed, is_legal, pairs_of, run_to, surface_of
-from model.stream import stream_text
+from model.stream import read_stream, stream_text
+from worked import JOINED_SLIT, OPEN_SLIT, TWO_FANS
 
 BAD_LINES = [
     "v 1 2", "v", "f 1 2", "f", "f 1 2 3 4", "v 1e0 0 0", "v . 0 0", "v 1.25 0 0", "v +-1 0 0",
@@ -139,10 +140,10 @@ def damaged_stream(rng: Random, stream: bytes) -> bytes:
     return bytes(changed)
 
 
-def bent_face(rng: Random, face: NewFace, faces: int) -> NewFace:
+def bent_face(rng: Random, face: NewFace, before: int, faces: int) -> NewFace:
     """A new face with another neighbour, turned corners, another corner, or another number."""
     kind = rng.choice(["first", "second", "third", "turned", "mirrored", "moved", "input"])
-    side = rng.choice([None, rng.randrange(3 * faces + 2), 3 * faces - rng.randrange(12)])
+    side = rng.choice([None, rng.randrange(3 * faces + 2), max(0, 3 * before + rng.randint(-3, 5))])
     a, b, c = face.corners
     if kind == "first":
         return face._replace(first=side)
@@ -161,6 +162,7 @@ def bent(rng: Random, h: Hierarchy) -> Hierarchy:
     """The hierarchy with a record that has other faces or tells of other neighbours."""
     other, k = copy(h), rng.randrange(len(h.records))
     record, kind = h.records[k], rng.choice(["left", "right", "swapped", "width", "s"])
+    before, faces = h.faces_of(k)[0], len(h.faces)
     if kind == "swapped":
         record = record._replace(left=record.right, right=record.left)
     elif kind == "s":
@@ -168,9 +170,9 @@ def bent(rng: Random, h: Hierarchy) -> Hierarchy:
     elif kind == "width":
         record = record._replace(width=record.width + rng.choice([-1, 1]))
     elif kind == "left" and record.left is not None:
-        record = record._replace(left=bent_face(rng, record.left, len(h.faces)))
+        record = record._replace(left=bent_face(rng, record.left, before, faces))
     elif record.right is not None:
-        record = record._replace(right=bent_face(rng, record.right, len(h.faces)))
+        record = record._replace(right=bent_face(rng, record.right, before, faces))
     other.records = h.records[:k] + [record] + h.records[k + 1 :]
     return other
 
@@ -186,6 +188,10 @@ def random_counts(rng: Random, stream: bytes) -> bytes:
 
 
 def random_stream(rng: Random, mesh: Mesh) -> Tuple[Hierarchy, bytes]:
+    """The stream of a mesh, or seldom one that no builder writes."""
+    if rng.random() < 0.03:
+        stream = rng.choice([JOINED_SLIT, OPEN_SLIT, TWO_FANS])
+        return read_stream(stream).hierarchy, stream
     h = random_hierarchy(rng, mesh)
     return h, stream_text(h, random_digits(rng))
 

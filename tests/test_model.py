@@ -10,15 +10,18 @@ from model.views import all_bounds
 from worked import (
     BASE_FRAME,
     FULL_FRAME,
+    JOINED_SLIT,
     MIDDLE_FRAME,
     OCTAHEDRON,
     OCTAHEDRON_STREAM,
+    OPEN_SLIT,
     SQUARE,
     SQUARE_BASE,
     SQUARE_FULL,
     SQUARE_STREAM,
     TETRAHEDRON,
     THREE,
+    TWO_FANS,
     chain_hierarchy,
     octahedron,
     output,
@@ -155,15 +158,9 @@ class Streams(unittest.TestCase):
         self.assertEqual(refused("check", OCTAHEDRON_STREAM + b"w"), "29")
 
     def test_the_inner_sides_of_a_record_have_to_meet(self) -> None:
-        """The face of record 1 joins those of record 0, or lies elsewhere."""
-        roots = (0, 0, 0, 3, 0, 9, 0, 0, 1, 4, 0, 9, 0, 1, 5, 0, 0, 9, 1, 6)
-        first = (0, 2, 1, 0, 0, 0, 2, 0, 0, 3, 3, 0, 2, 3, 1, 0, 0, 2, 1, 4, 2, 0, 0)
-        head = (4, 1, 3, 0, 0, 1, 4, 0, 0, 2, 1)
-        joined = stream_of(1, 6, 4, 0, 2, *roots, *first, *head, 0, 1, 2, 3, 4, 1)
         counts = b"leaves 6 roots 4 base 0 records 2 faces 3\n"
-        self.assertEqual(output("check", joined), counts)
-        apart = stream_of(1, 6, 4, 0, 2, *roots, *first, *head, 0, 1, 5, 3, 0, 0)
-        self.assertEqual(refused("check", apart), "28 record 0")
+        self.assertEqual(output("check", JOINED_SLIT), counts)
+        self.assertEqual(refused("check", OPEN_SLIT), "28 record 0")
 
     def test_counts_are_judged_before_what_follows(self) -> None:
         many = stream_of(1, 1_048_576, 1, 1_048_576, 1_048_575)
@@ -255,15 +252,8 @@ class Told(unittest.TestCase):
         self.assertEqual(replies(SQUARE_STREAM, ["m", "s 0", "m"]), lines)
 
     def test_a_valid_front_may_show_two_fans_at_a_node(self) -> None:
-        stream = stream_of(
-            *(1, 5, 4, 3, 1),
-            *(0, 0, 0, 2, 0, 1, 0, 0, 1, 1, 0, 1, 0, 1, 2, -1, 0, 0, 1, 3),
-            *(1, 2, 3, 1, 0, 3, 4, 2, 0, 4, 2, 3),
-            *(0, 1, 0, 0, 0, 4, 0, 0, 0, 5, 1),
-            *(0, 1, 3, 4, 3, 4),
-        )
         lines = ["shape 4 7 3 loops 1 euler 0", "ok", "shape 5 9 4 loops 1 euler 0"]
-        self.assertEqual(replies(stream, ["m", "s 0", "m"]), lines)
+        self.assertEqual(replies(TWO_FANS, ["m", "s 0", "m"]), lines)
 
     def test_strips_turn_by_the_number_of_the_triangle(self) -> None:
         self.assertEqual(replies(OCTAHEDRON_STREAM, ["t"]), ["t 0 2 3 1 0 2", "strips 1"])

@@ -109,6 +109,25 @@ SQUARE_STREAM = stream_of(
     *(2, 1, 0, 0, 0, 1, 10, 0, 0, 2, 1),
     *(2, 3, 1, 1, 0, 1),
 )
+# Record 0 has two faces whose inner sides run between other leaves. The face of record 1 joins
+# these sides, or lies elsewhere.
+SLIT = (
+    *(1, 6, 4, 0, 2),
+    *(0, 0, 0, 3, 0, 9, 0, 0, 1, 4, 0, 9, 0, 1, 5, 0, 0, 9, 1, 6),
+    *(0, 2, 1, 0, 0, 0, 2, 0, 0, 3, 3),
+    *(0, 2, 3, 1, 0, 0, 2, 1, 4, 2, 0, 0),
+    *(4, 1, 3, 0, 0, 1, 4, 0, 0, 2, 1),
+)
+JOINED_SLIT = stream_of(*SLIT, 0, 1, 2, 3, 4, 1)
+OPEN_SLIT = stream_of(*SLIT, 0, 1, 5, 3, 0, 0)
+# A valid hierarchy whose record parts two faces that lie side by side in the base front.
+TWO_FANS = stream_of(
+    *(1, 5, 4, 3, 1),
+    *(0, 0, 0, 2, 0, 1, 0, 0, 1, 1, 0, 1, 0, 1, 2, -1, 0, 0, 1, 3),
+    *(1, 2, 3, 1, 0, 3, 4, 2, 0, 4, 2, 3),
+    *(0, 1, 0, 0, 0, 4, 0, 0, 0, 5, 1),
+    *(0, 1, 3, 4, 3, 4),
+)
 
 
 def with_word(stream: bytes, at: int, word: int) -> bytes:
