@@ -4,6 +4,7 @@ const counted = (n) => n.toLocaleString("en");
 const pixels = (n) => `${n < 10 ? Number(n.toFixed(2)) : Math.round(n)} px`;
 const milliseconds = (n) => (n < 10 ? n.toFixed(1) : n.toFixed(0));
 const kilobytes = (n) => `${counted(Math.round(n / 1024))} kB`;
+const NARROW = 560; // pixels, below which the settings would hide the picture
 export const ALL_MOVES = 4294967295;
 
 // A budget of the command line, which the slider may be unable to show; null once it was moved.
@@ -43,6 +44,7 @@ export function sayModel({ name, proved, prepared, coloured, budget }) {
   part("notice").hidden = notices.length === 0;
   document.querySelector("input[value=own]").disabled = !coloured;
   if (coloured) choose("own")();
+  if (innerWidth < NARROW && !part("panel").hidden) toggle();
   told.budget = budget;
   part("budget").value = Math.round(Math.log2(Math.max(1, budget)));
 }
