@@ -106,3 +106,11 @@ pub record GainsFitText (old new : Option (List ℕ)) : Type 0 where
   pub gained : Gains old new text
   pub fit : IsFitText text
   pub comes_back : ComesBack text fit.mesh
+
+-- A sink gained a text of a mesh which, where it has faces, leads back to the points that these bytes spell.
+pub record GainsWayBack (size : Option ℕ) (bytes : List ℕ) (old new : Option (List ℕ)) : Type 0 where
+  pub text : List ℕ
+  pub mesh : Mesh
+  pub gained : Gains old new text
+  pub read : meaning_of 0 text ≡ Ok mesh
+  pub leads : (s : Scanned) → scan_meaning_of bytes ≡ Ok s → 0 < length mesh.faces → TextLeadsBack s (prepared_places_of size s.points s.faces) text mesh

@@ -3,7 +3,7 @@ use Rattle.obj_prepare.specs.Placing.{IsSize}
 use Rattle.prepare.specs.declared.words.Asked.{Asked}
 use Rattle.prepare.specs.Words.{asked_of}
 use Rattle.prepare.proofs.EndingLaws.{one_asked, said_done, fault_of, counts_of, memory_counts_of, rose_of, read_of, cut_of, nothing_of, completes, line_of_read, line_of_write, line_of_memory, said_line}
-use Rattle.prepare.proofs.FitLaws.{gained_fits}
+use Rattle.prepare.proofs.FitLaws.{gained_fits, gained_leads}
 use Rattle.prepare.proofs.run.run.Goals as goal
 
 pub returns-in-Ok-obey-clause-whole : goal.returns-in-Ok-obey-clause-whole
@@ -13,6 +13,11 @@ returns-in-Ok-obey-clause-whole g c = λ other asks is.
 pub returns-in-Ok-obey-clause-fit_text : goal.returns-in-Ok-obey-clause-fit_text
 returns-in-Ok-obey-clause-fit_text g c = λ is.
     gained_fits c.in-Some.asked.size _ c.in-Ok-obey.notes.items _ _ (subst (λ (a : Option Asked). IfSome a (λ x. IsSize x.size)) c.in-Some.is c.read_words.ensures.size) c.in-Ok-obey.ensures.written
+
+pub returns-in-Ok-obey-clause-leads_back : goal.returns-in-Ok-obey-clause-leads_back
+returns-in-Ok-obey-clause-leads_back g c = λ other asks is.
+    gained_leads c.in-Some.asked other _ c.in-Ok-obey.notes.items _ _ (one_asked _ _ other (sym c.read_words.ensures.asked ∙ c.in-Some.is) (sym (ap asked_of c.in-Ok.is) ∙ asks))
+    (subst (λ (a : Option Asked). IfSome a (λ x. IsSize x.size)) c.in-Some.is c.read_words.ensures.size) c.in-Ok-obey.ensures.written
 
 pub returns-in-Err-obey-clause-faulty : goal.returns-in-Err-obey-clause-faulty
 returns-in-Err-obey-clause-faulty g c = λ other asks is.
