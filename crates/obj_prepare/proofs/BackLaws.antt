@@ -19,6 +19,7 @@ use Rattle.obj_prepare.specs.Named.{is_some_corner, chosen, named_in}
 use Rattle.obj_prepare.specs.Joining.{place_in_list}
 use Rattle.obj_prepare.specs.Placing.{fit_for, Suits, placed, places_by, fit_of, prepared_places_of, IsSize}
 use Rattle.obj_prepare.specs.Back.{middle, way_back_of, LeadsNear, StandsAt, LeadsBack}
+use Rattle.obj_prepare.proofs.BoxLaws.{extent_most}
 use Rattle.obj_prepare.proofs.NearestLaws.{nearest_is_near}
 use Rattle.obj_prepare.proofs.NamedLaws.{length-named_in, named_at}
 use Rattle.obj_prepare.proofs.PlacingLaws.{fit_suits, chosen_has}
@@ -69,10 +70,6 @@ axis_near size e n low high some = signed_near size e n low high (lt_z (off_midd
 axis_flat : (size e : ℕ) (n low high : ℤ) → e ≡ 0 → low ≤ℤ n → n ≤ℤ high → unsigned_abs (high -ℤ low) ≤ e → 2 * unsigned_abs (off_by size e n low high (pos 0)) ≤ 10 * e
 axis_flat size e n low high none from to long =
     above size e 0 0 n low high (omega arith) (omega arith) (omega (arith, ints, none, from, to, long))
-
-extent_most : (b : PointBox) → (unsigned_abs (b.high.x -ℤ b.low.x) ≤ extent b) × (unsigned_abs (b.high.y -ℤ b.low.y) ≤ extent b) × (unsigned_abs (b.high.z -ℤ b.low.z) ≤ extent b)
-unfolding extent
-extent_most b = (omega arith, omega arith, omega arith)
 
 scaled_leads : (size : ℕ) (b : PointBox) (p : Place) (flat : Bool) → (extent b == 0) ≡ flat → 0 < size → IsInBox b p → LeadsNear (way_back_of size b) (scaled size b p) p
 unfolding scaled

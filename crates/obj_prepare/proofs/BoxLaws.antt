@@ -13,6 +13,11 @@ use Rattle.obj_prepare.specs.Exact.{lower, upper}
 pub off_within : (n low high : ℤ) → low ≤ℤ n → n ≤ℤ high → unsigned_abs (off_middle n low high) ≤ unsigned_abs (high -ℤ low)
 off_within n low high a b = omega (arith, ints)
 
+-- No axis is longer than the longest one.
+pub extent_most : (b : PointBox) → (unsigned_abs (b.high.x -ℤ b.low.x) ≤ extent b) × (unsigned_abs (b.high.y -ℤ b.low.y) ≤ extent b) × (unsigned_abs (b.high.z -ℤ b.low.z) ≤ extent b)
+unfolding extent
+extent_most b = (omega arith, omega arith, omega arith)
+
 least_first : (p : Place) (qs : List Place) → ((least_of_places p qs).x ≤ℤ p.x) × ((least_of_places p qs).y ≤ℤ p.y) × ((least_of_places p qs).z ≤ℤ p.z)
 least_first p [] = (omega (arith, ints), omega (arith, ints), omega (arith, ints))
 least_first p (q ∷ qs) =

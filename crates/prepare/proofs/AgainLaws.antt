@@ -73,7 +73,7 @@ makes_itself m notes formed manifold placed used prepared =
 corners_of : (n : ℕ) (faces : List Corners) → All (IsFace n) faces → All (AreVerticesBelow n) faces
 corners_of n faces all = λ i d l. let f = all i d l in record { a = f.a; b = f.b; c = f.c }
 
-one_mesh : (found : Result Mesh Refused) (m n : Mesh) → found ≡ Ok m → found ≡ Ok n → m ≡ n
+pub one_mesh : (found : Result Mesh Refused) (m n : Mesh) → found ≡ Ok m → found ≡ Ok n → m ≡ n
 one_mesh found m n is are = cc
 
 made_comes_back : (size : Option ℕ) (bytes : List ℕ) (s : Scanned) (done : Done) → IsSize size → scan_meaning_of bytes ≡ Ok s → (k : MakesPrepared size s done) → meaning_of 0 done.text ≡ Ok k.mesh → ComesBack done.text k.mesh

@@ -6,7 +6,7 @@ use Rattle.pm_base.specs.declared.mesh.Corners.{Corners}
 use Rattle.pm_base.specs.Place.{Place}
 use Rattle.pm_base.specs.Meshes.{Mesh}
 use Rattle.pm_base.specs.Canonical.{canonical_text}
-use Rattle.obj_read.specs.Meaning.{Refused, meaning_of}
+use Rattle.obj_read.specs.Meaning.{meaning_of}
 use Rattle.obj_scan.specs.Judged.{Scanned}
 use Rattle.obj_scan.specs.Meaning.{scan_meaning_of}
 use Rattle.obj_prepare.specs.declared.placing.Fit.{Fit}
@@ -25,6 +25,8 @@ use Rattle.prepare.specs.Laws.{LineLeadsBack, as_it_stood, near, TextLeadsBack, 
 use Rattle.prepare.proofs.ScannedLaws.{meaning_sound}
 use Rattle.prepare.proofs.GridLaws.{IsMeasured, fit_of_measured}
 use Rattle.prepare.proofs.NumeralLaws.{tells_way}
+use Rattle.prepare.proofs.OutcomeLaws.{one_scanned}
+use Rattle.prepare.proofs.AgainLaws.{one_mesh}
 use Rattle.prepare.proofs.ReadLaws.{mesh_is_read}
 
 -- The line of points that were brought onto the grid so.
@@ -52,12 +54,6 @@ made_leads_back size bytes s done is means k some =
       back = λ v l named. line_leads fit (place_in_list places v) (place_in_list s.points v) measured (places_lead_back size s.points s.faces v is l named);
       from = λ w l. let (v, low, named, same) = place_from places s.faces k.mesh own k.prepared.0 w l in (v, subst (λ (n : ℕ). v < n) long low, named, same);
     }
-
-one_scanned : (found : Result Scanned Refused) (s t : Scanned) → found ≡ Ok s → found ≡ Ok t → s ≡ t
-one_scanned found s t is are = cc
-
-one_mesh : (found : Result Mesh Refused) (m n : Mesh) → found ≡ Ok m → found ≡ Ok n → m ≡ n
-one_mesh found m n is are = cc
 
 outcome_leads_back : (size : Option ℕ) (bytes : List ℕ) (r : Result Done Fault) (place : Option ℕ) → IsSize size → IsPreparedText size bytes r place
     → IfOk r (λ done. (s : Scanned) (m : Mesh) → scan_meaning_of bytes ≡ Ok s → meaning_of 0 done.text ≡ Ok m → 0 < length m.faces → TextLeadsBack s (prepared_places_of size s.points s.faces) done.text m)

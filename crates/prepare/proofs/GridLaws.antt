@@ -1,6 +1,6 @@
 -- Points that are brought onto the grid stand on it, and the box by which they are is no larger than they are.
 use Rattle.std.proofs.Common.{◌≡◌, ℕ, zero, suc, ◌*◌, ◌/◌, ◌%◌, ◌^◌, ◌<◌, ◌≤◌, Bool, true, false, ◌&&◌, ◌==◌, nat_le, inl, inr, refl, sym, length, subst, Option, Some, None, List, [], ◌∷◌, map, get_or, ℤ, pos, arith}
-use Rattle.std.specs.Prelude.{unsigned_abs, ◌-ℤ◌}
+use Rattle.std.specs.Prelude.{unsigned_abs}
 use Rattle.std.specs.Int.Signed.{lt_z}
 use Rattle.std.specs.List.{All, list_all}
 use Rattle.std.proofs.lemmas.Bool.{cases_Bool, cond-true, cond-false, and_parts, leb-true}
@@ -21,7 +21,7 @@ use Rattle.obj_prepare.specs.Whole.{is_whole_coordinate, whole_part_of, stands_o
 use Rattle.obj_prepare.specs.Named.{chosen, named_in}
 use Rattle.obj_prepare.specs.Placing.{fit_for, Suits, placed, places_by, fit_of, prepared_places_of, IsSize}
 use Rattle.obj_prepare.specs.Joining.{place_in_list}
-use Rattle.obj_prepare.proofs.BoxLaws.{off_within}
+use Rattle.obj_prepare.proofs.BoxLaws.{off_within, extent_most}
 use Rattle.obj_prepare.proofs.NearestLaws.{nearest_within}
 use Rattle.obj_prepare.proofs.PlacingLaws.{fit_suits}
 
@@ -29,11 +29,6 @@ along_within : (size extent : ℕ) (off : ℤ) → 0 < extent → unsigned_abs o
 unfolding along
 along_within size extent off some within =
     omega (arith, with_sign_abs (lt_z off (pos 0)) (nearest (size * unsigned_abs off) extent), nearest_within size extent (unsigned_abs off) some within)
-
--- No axis is longer than the longest one.
-extent_most : (b : PointBox) → (unsigned_abs (b.high.x -ℤ b.low.x) ≤ extent b) × (unsigned_abs (b.high.y -ℤ b.low.y) ≤ extent b) × (unsigned_abs (b.high.z -ℤ b.low.z) ≤ extent b)
-unfolding extent
-extent_most b = (omega arith, omega arith, omega arith)
 
 scaled_case : (size : ℕ) (b : PointBox) (p : Place) (flat : Bool) → (extent b == 0) ≡ flat → size ≤ 32767 → IsInBox b p → IsPlace (scaled size b p)
 unfolding scaled

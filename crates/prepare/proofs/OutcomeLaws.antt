@@ -17,7 +17,7 @@ use Rattle.prepare.specs.Outcome.{Done, MakesPrepared, IsPreparedText, bad_line,
 one_refused : (found : Result Scanned Refused) (r q : Refused) → found ≡ Err r → found ≡ Err q → r ≡ q
 one_refused found r q is are = cc
 
-one_scanned : (found : Result Scanned Refused) (s t : Scanned) → found ≡ Ok s → found ≡ Ok t → s ≡ t
+pub one_scanned : (found : Result Scanned Refused) (s t : Scanned) → found ≡ Ok s → found ≡ Ok t → s ≡ t
 one_scanned found s t is are = cc
 
 not_both : (found : Result Scanned Refused) (r : Refused) (s : Scanned) → found ≡ Err r → found ≡ Ok s → ⊥
