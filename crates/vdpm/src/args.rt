@@ -1,5 +1,5 @@
 //! The program over its arguments, the first of which is its name.
-ghost use Rattle.std.specs.Prelude.{◌≡◌, ◌≢◌, ◌⊎◌, ◌≤◌, ◌<◌, ◌-◌, ◌^◌, ℕ, List, None, Some, IfOk, IfErr, codes, drop};
+ghost use Rattle.std.specs.Prelude.{◌≡◌, ◌≢◌, ◌⊎◌, ◌≤◌, ◌<◌, ◌-◌, ◌^◌, ℕ, false, List, None, Some, IfOk, IfErr, codes, drop};
 ghost use Rattle.std.specs.IoError.{error_kind};
 ghost use Rattle.std.specs.Vec.Iter.{into_iter_items};
 ghost use Rattle.pm_io.specs.Causes.{Rose};
@@ -54,6 +54,8 @@ pub fn answer<S: Source, K: Sink, E: Sink>(
     out: &mut K,
     err: &mut E,
 ) -> u8
+    // The input hasn't ended; once it has, it isn't asked again.
+    requires { S.ended input.old ≡ false }
     ensures statuses { result ≤ 5 }
     // Words that ask for nothing are refused, and only they; then nothing is read or put.
     ensures refused { ((asked : Asked) → ArgsAsk args asked → ⊥) → (result ≡ 2) ⊎ (result ≡ 5) }

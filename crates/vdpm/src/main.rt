@@ -3,29 +3,15 @@
 
 mod args;
 mod build;
-#[cfg(test)]
-mod build_tests;
 mod commands;
-#[cfg(test)]
-mod device_tests;
-#[cfg(test)]
-mod digits_tests;
 mod fault;
 mod hierarchy;
 mod line;
-#[cfg(test)]
-mod morph_tests;
 mod outcomes;
 mod run;
 mod say;
-#[cfg(test)]
-mod stream_tests;
 mod summary;
 mod surface;
-#[cfg(test)]
-mod tests;
-#[cfg(test)]
-mod view_tests;
 mod words;
 
 use args::answer;
