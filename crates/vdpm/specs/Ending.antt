@@ -1,5 +1,6 @@
 -- How a command ends, and when each status comes.
 use Rattle.std.specs.Prelude.{◌≡◌, ◌≢◌, ◌⊎◌, ℕ, ◌+◌, ◌<◌, ◌≤◌, List, [], ◌∷◌, ◌++◌, length, Option, Some, None, IfSome, Result, Ok, Err}
+use Rattle.std.specs.Io.KnownBytes.{prepend_known}
 use Rattle.pm_io.specs.Bytes.{Loses, Gains, GainsPart, AtEnd}
 use Rattle.pm_io.specs.Causes.{Rose}
 use Rattle.obj_lines.specs.Text.{until, lines}
@@ -59,7 +60,8 @@ pub record TakesTo (place : ℕ) (left now : Option (List ℕ)) : Type 0 where
 abbrev pub ReadToPlace : Asked → Option (List ℕ) → Option (List ℕ) → Type 0
 ReadToPlace asks left now = IfSome left (λ bytes. (all : Ran) → IsOutcome asks bytes all → IfSome all.place (λ place. TakesTo place left now))
 
--- A write of `view` failed at the reply to this line, and few bytes were taken past the line.
+-- A write of `view` failed at the reply to this line, which stands after whole lines and was taken to its LF, or to the
+-- end of the input, and few bytes were taken past the line.
 pub record FewMore (budget : ℕ) (left now old new : Option (List ℕ)) : Type 0 where
   pub digits : ℕ
   pub h : Hierarchy
@@ -69,7 +71,9 @@ pub record FewMore (budget : ℕ) (left now old new : Option (List ℕ)) : Type 
   pub told : digits ≤ 4
   pub good : IsValid h
   pub took : Loses left now (stream digits h ++ ((front ++ line) ++ window))
+  pub ends : AreLines front
   pub one : lines line ≡ line ∷ []
+  pub to_its_end : AreLines line ⊎ AtEnd (prepend_known window now)
   pub few : length window ≤ 4095
   pub part : GainsPart old new (played h budget at_first (front ++ line)).text
   pub before : length (played h budget at_first front).text ≤ length part.done
