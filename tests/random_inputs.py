@@ -142,14 +142,16 @@ def damaged_stream(rng: Random, stream: bytes) -> bytes:
 
 def bent_face(rng: Random, face: NewFace, before: int, faces: int) -> NewFace:
     """A new face with another neighbour, turned corners, another corner, or another number."""
-    kind = rng.choice(["first", "second", "third", "turned", "mirrored", "moved", "input"])
-    side = rng.choice([None, rng.randrange(3 * faces + 2), max(0, 3 * before + rng.randint(-3, 5))])
+    kinds = ["first", "first", "second", "second", "swapped", "turned", "mirrored", "moved", "input"]
+    kind = rng.choice(kinds)
+    near = [max(0, 3 * before + rng.randint(-3, 5)) for _ in range(3)]
+    side = rng.choice([None, rng.randrange(3 * faces + 2), *near])
     a, b, c = face.corners
     if kind == "first":
         return face._replace(first=side)
     if kind == "second":
         return face._replace(second=side)
-    if kind == "third":
+    if kind == "swapped":
         return face._replace(first=face.second, second=face.first)
     if kind == "input":
         return face._replace(input=faces + rng.randint(0, 2))
@@ -198,7 +200,7 @@ def random_stream(rng: Random, mesh: Mesh) -> Tuple[Hierarchy, bytes]:
 
 def bad_stream(rng: Random, h: Hierarchy, stream: bytes) -> bytes:
     """A stream that is damaged in some way, which may leave it valid."""
-    kind = rng.choice(["bent", "damaged", "damaged", "damaged", "twice", "counts"])
+    kind = rng.choice(["bent", "bent", "bent", "damaged", "damaged", "damaged", "twice", "counts"])
     if len(stream) <= 28:
         return stream
     if kind == "bent" and h.records:
