@@ -142,8 +142,8 @@ def damaged_stream(rng: Random, stream: bytes) -> bytes:
 
 def bent_face(rng: Random, face: NewFace, before: int, faces: int) -> NewFace:
     """A new face with another neighbour, turned corners, another corner, or another number."""
-    kinds = ["first", "first", "second", "second", "swapped", "turned", "mirrored", "moved", "input"]
-    kind = rng.choice(kinds)
+    kinds = ["first", "first", "second", "second", "swapped", "turned", "mirrored", "moved"]
+    kind = rng.choice(kinds + ["input"])
     near = [max(0, 3 * before + rng.randint(-3, 5)) for _ in range(3)]
     side = rng.choice([None, rng.randrange(3 * faces + 2), *near])
     a, b, c = face.corners
