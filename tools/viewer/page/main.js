@@ -136,7 +136,7 @@ class Viewer {
     if (this.dirty || now < this.glidesUntil) this.draw(now);
     if (now - this.times.said > SAY_AGAIN && this.shown !== null) this.say(now);
     // Counters go on for a second, until all that they count is past.
-    if (!this.ended && !this.isSettled || this.times.draws.length > 0) this.wake();
+    if ((!this.ended && !this.isSettled) || this.times.draws.length > 0) this.wake();
   }
 
   // Asks for a view, or takes a new budget as soon as no view is on its way.
