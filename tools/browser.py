@@ -31,7 +31,7 @@ FLAGS = (
 )
 COMPLAINTS = ("Runtime.exceptionThrown", "Runtime.consoleAPICalled", "Log.entryAdded")
 # A machine that does much else is slow; nothing waits this long where all is well.
-PATIENCE = 60.0
+PATIENCE = 120.0
 LOOK_AGAIN = 0.02
 
 

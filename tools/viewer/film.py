@@ -8,7 +8,7 @@ written in base64:
         are colours, the greatest depth, and for each frame its view and the step of its geomorph
     how many points; for each, what x, y and z are more than the last point's, its depth, and its
         colour if there are colours. A point is a node at a place: in geomorphs a node has a place
-        for each step
+        for each step. Points stand in the order in which frames have them first
     for each frame: how many nodes it has; how many faces went, and each as what it is more than
         the last; how many came or have other corners now, and for each what it is more than the
         last, and then what its first corner is more than the last face's, and its second and third
@@ -16,16 +16,17 @@ written in base64:
 """
 import base64
 import json
+import time
 import zlib
 from pathlib import Path
-from typing import Dict, Iterator, List, NamedTuple, Optional, Tuple
+from typing import Dict, Iterable, Iterator, List, NamedTuple, Optional, Tuple
 
 from frames import Frame, read_frames
 
 from .bundle import bundled
 from .hierarchy import Colour, mean_colours, nodes_of
-from .model import Model
-from .program import replies_to
+from .model import SECONDS_BETWEEN_NEWS, Model, tell
+from .program import reply_lines
 
 PAGE = Path(__file__).resolve().parent / "page"
 Point = Tuple[int, int, int, int]  # the node and its place
@@ -59,41 +60,45 @@ class Numbers:
         self.put(2 * number if number >= 0 else -2 * number - 1)
 
 
-def shots(script: str, replies: str) -> Iterator[Shot]:
-    """The frames of the replies to a script, each with its view."""
-    words = ("frame ", "morph ", "not finer ")
-    heads = [line for line in replies.splitlines() if line.startswith(words)]
-    asked: List[str] = []
+def asked_views(script: str) -> Iterator[str]:
+    """For each line that asks for a frame or a geomorph, the line of the last view."""
     view = ""
     for line in script.splitlines():
         if line == "q":
-            break
+            return
         if line.startswith("v"):
             view = line
-        if line == "w" or line.startswith("g "):
-            asked.append(view)
-    views = [view for view, head in zip(asked, heads) if not head.startswith("not finer ")]
-    for frame, view in zip(read_frames(replies.splitlines()), views):
+        elif line == "w" or line.startswith("g "):
+            yield view
+
+
+def shots(script: str, replies: Iterable[str]) -> Iterator[Shot]:
+    """The frames of the replies to a script, each with its view. A geomorph may be refused."""
+    views = asked_views(script)
+    view = ""
+
+    def watched() -> Iterator[str]:
+        nonlocal view
+        for line in replies:
+            if line.startswith(("frame ", "morph ", "not finer ")):
+                view = next(views)
+            yield line
+
+    for frame in read_frames(watched()):
         yield Shot(frame, view)
 
 
-def points_in(frame: Frame) -> List[Point]:
-    """The points of a frame in its order."""
-    return [(node, x, y, z) for node, (x, y, z) in zip(frame.nodes, frame.points)]
-
-
 def put_points(
-    numbers: Numbers, points: List[Point], depths: bytes, colours: Optional[List[Colour]]
+    numbers: Numbers, points: Iterable[Point], depths: bytes, colours: Optional[List[Colour]]
 ) -> None:
-    numbers.put(len(points))
     last = (0, 0, 0)
-    for node, *place in points:
-        for now, before in zip(place, last):
+    for node, x, y, z in points:
+        for now, before in zip((x, y, z), last):
             numbers.put_signed(now - before)
         numbers.put(depths[node])
         for part in colours[node] if colours else ():
             numbers.put(part)
-        last = (place[0], place[1], place[2])
+        last = (x, y, z)
 
 
 def put_frame(
@@ -118,36 +123,58 @@ def put_frame(
         last, corner = face, a
 
 
-def faces_of(frame: Frame, slots: Dict[Point, int]) -> Dict[int, Corners]:
-    """The faces of a frame with their corners as numbers of points."""
-    own = [slots[point] for point in points_in(frame)]
-    return {face: (own[a], own[b], own[c]) for face, (a, b, c) in zip(frame.numbers, frame.faces)}
+class Reel:
+    """Frames one after the other, each as what changes from the one before."""
+
+    def __init__(self) -> None:
+        self.slots: Dict[Point, int] = {}  # all points by where they stand, in the order they came
+        self.faces: Dict[int, Corners] = {}
+        self.views: List[str] = []
+        self.steps: List[Optional[Tuple[int, int]]] = []
+        self.changes = Numbers()
+
+    def add(self, shot: Shot) -> None:
+        frame = shot.frame
+        points = ((node, x, y, z) for node, (x, y, z) in zip(frame.nodes, frame.points))
+        own = [self.slots.setdefault(point, len(self.slots)) for point in points]
+        corners = ((own[a], own[b], own[c]) for a, b, c in frame.faces)
+        faces = dict(zip(frame.numbers, corners))
+        put_frame(self.changes, len(frame.nodes), self.faces, faces)
+        self.faces = faces
+        self.views.append(shot.view)
+        self.steps.append(frame.step)
 
 
-def packed(model: Model, taken: List[Shot]) -> bytes:
+def packed(model: Model, reel: Reel) -> bytes:
     nodes = nodes_of(model.stream)
     colours = mean_colours(nodes, model.colours)
-    points = sorted({point for shot in taken for point in points_in(shot.frame)})
     head = {
         "name": model.name,
         "faces": model.faces,
         "coloured": colours is not None,
-        "deepest": max(1, *nodes.depths),
-        "views": [shot.view for shot in taken],
-        "steps": [shot.frame.step for shot in taken],
+        "deepest": max(1, max(nodes.depths, default=1)),
+        "views": reel.views,
+        "steps": reel.steps,
     }
-    numbers = Numbers()
     text = json.dumps(head).encode("ascii")
+    numbers = Numbers()
     numbers.put(len(text))
     numbers.bytes += text
-    put_points(numbers, points, bytes(nodes.depths), colours)
-    slots = {point: number for number, point in enumerate(points)}
-    before: Dict[int, Corners] = {}
-    for shot in taken:
-        now = faces_of(shot.frame, slots)
-        put_frame(numbers, len(shot.frame.nodes), before, now)
-        before = now
-    return zlib.compress(bytes(numbers.bytes), 9)
+    numbers.put(len(reel.slots))
+    put_points(numbers, reel.slots, bytes(nodes.depths), colours)
+    return zlib.compress(bytes(numbers.bytes + reel.changes.bytes), 9)
+
+
+def played(path: Path, model: Model, script: str, budget: int) -> Reel:
+    """The frames of a script, told from time to time while they are made."""
+    reel = Reel()
+    told = time.monotonic()
+    for shot in shots(script, reply_lines(path, model.stream, script.encode("ascii"), budget)):
+        reel.add(shot)
+        if time.monotonic() - told > SECONDS_BETWEEN_NEWS:
+            told = time.monotonic()
+            tell(f"{len(reel.views)} frames so far")
+    return reel
 
 
 def film_page(path: Path, model: Model, flight: bytes, budget: int) -> str:
@@ -156,15 +183,14 @@ def film_page(path: Path, model: Model, flight: bytes, budget: int) -> str:
         script = flight.decode("ascii")
     except UnicodeDecodeError:
         raise BadFlight("it isn't a script of `vdpm view`") from None
-    replies = replies_to(path, model.stream, flight, budget).decode("ascii")
-    taken = list(shots(script, replies))
-    if not taken:
+    reel = played(path, model, script, budget)
+    if not reel.views:
         raise BadFlight("no line of it asks for a frame, as `w` does")
     page = (PAGE / "film.html").read_text(encoding="utf-8")
     parts = {
         "/*STYLE*/": (PAGE / "style.css").read_text(encoding="utf-8"),
         "/*SCRIPT*/": bundled(PAGE, "film"),
-        "FRAMES": base64.b64encode(packed(model, taken)).decode("ascii"),
+        "FRAMES": base64.b64encode(packed(model, reel)).decode("ascii"),
     }
     for mark, text in parts.items():
         page = page.replace(mark, text, 1)

@@ -15,7 +15,7 @@ from subprocess import PIPE
 from typing import IO, List, NamedTuple, Optional, Sequence, Set, Tuple
 
 from . import colours, manual
-from .program import UNPROVED, ProgramEnded, end_of
+from .program import UNPROVED, ProgramEnded, end_of, feed
 
 MAGIC = b"VDPM"
 SECONDS_BETWEEN_NEWS = 5
@@ -90,26 +90,18 @@ def run(path: Path, words: Sequence[str], text: bytes, doing: str) -> Done:
     said: List[str] = []
     out: List[bytes] = []
     assert child.stdin is not None and child.stdout is not None and child.stderr is not None
-    hands = [
+    threads = [
         threading.Thread(target=_listen, args=(child.stderr, said), daemon=True),
         threading.Thread(target=_collect, args=(child.stdout, out), daemon=True),
-        threading.Thread(target=_feed, args=(child.stdin, text), daemon=True),
+        threading.Thread(target=feed, args=(child.stdin, text), daemon=True),
     ]
-    for hand in hands:
-        hand.start()
+    for thread in threads:
+        thread.start()
     status = _wait(child, doing)
-    for hand in hands:
-        hand.join()
+    for thread in threads:
+        thread.join()
     proved = not any(UNPROVED in line for line in said)
     return Done(status, b"".join(out), [line for line in said if not is_notice(line)], proved)
-
-
-def _feed(end: IO[bytes], text: bytes) -> None:
-    try:
-        with end:
-            end.write(text)
-    except BrokenPipeError:  # it ended before it had read all, and says why
-        pass
 
 
 def _collect(end: IO[bytes], out: List[bytes]) -> None:

@@ -10,7 +10,8 @@ import tempfile
 import threading
 import time
 from pathlib import Path
-from typing import IO, List, NamedTuple, Optional, Sequence
+from subprocess import PIPE
+from typing import IO, Iterator, List, NamedTuple, Optional, Sequence
 
 from . import manual
 
@@ -99,6 +100,36 @@ def replies_to(path: Path, stream: bytes, script: bytes, budget: int = ALL_MOVES
     return done.stdout
 
 
+def reply_lines(path: Path, stream: bytes, script: bytes, budget: int) -> Iterator[str]:
+    """The same, line by line as they come, however many there are."""
+    words = [str(path), "view", str(budget)]
+    with tempfile.TemporaryFile() as said:
+        try:
+            child = subprocess.Popen(words, stdin=PIPE, stdout=PIPE, stderr=said)
+        except OSError as fault:
+            raise ProgramEnded(f"{path} can't be started: {fault.strerror}") from fault
+        assert child.stdin is not None and child.stdout is not None
+        threading.Thread(target=feed, args=(child.stdin, stream + script), daemon=True).start()
+        try:
+            with child.stdout:
+                for line in child.stdout:
+                    yield line.decode("ascii").rstrip("\n")
+        finally:
+            status = child.wait()
+        if status != 0:
+            said.seek(0)
+            raise end_of(said_last(said.read()), status, manual.SCRIPT)
+
+
+def feed(end: IO[bytes], text: bytes) -> None:
+    """Writes a text to a program's input, and ends it."""
+    try:
+        with end:
+            end.write(text)
+    except BrokenPipeError:  # it ended before it had read all, and says why
+        pass
+
+
 class _Awaited:
     """Finds the ends of replies in bytes that come piece by piece. Each reply is a line, but for a
     frame, which goes on to its line `end`."""
@@ -132,7 +163,7 @@ class Program:
         try:
             self._child = subprocess.Popen(
                 [str(path), "view", str(budget)],
-                stdin=subprocess.PIPE, stdout=subprocess.PIPE, stderr=self._said, bufsize=0,
+                stdin=PIPE, stdout=PIPE, stderr=self._said, bufsize=0,
             )
         except OSError as fault:
             self._said.close()

@@ -14,7 +14,7 @@ NEAR, FAR = "v 0 -900 300 1000 0", "v 0 -900 300 1000 60000"
 
 def taken(script: str) -> "List[tuple[str, int]]":
     replies = replies_to(program(), STREAM.read_bytes(), script.encode()).decode()
-    return [(shot.view, len(shot.frame.faces)) for shot in shots(script, replies)]
+    return [(shot.view, len(shot.frame.faces)) for shot in shots(script, replies.splitlines())]
 
 
 class Shots(Case):
