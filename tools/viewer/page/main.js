@@ -251,8 +251,6 @@ class Viewer {
     this.change({ starting: false });
   }
 
-  // --- what is under a click, and what is kept
-
   async pick(clientX, clientY) {
     if (this.ended || this.starting) return;
     const { width, height, focal } = this.picture();
