@@ -32,7 +32,7 @@ from browser import Browser  # noqa: E402
 from viewer.main import programs_of  # noqa: E402
 from viewer.model import model_of  # noqa: E402
 from viewer.server import Server  # noqa: E402
-from viewer.session import Session  # noqa: E402
+from viewer.showing import Showing  # noqa: E402
 
 PARTS = ("view", "frameText", "transfer", "read", "arrays", "put")
 SECONDS_ROUND = 6
@@ -127,7 +127,7 @@ def measure(browser: Browser, asked: argparse.Namespace) -> None:
 def main() -> None:
     asked = arguments()
     model = model_of(asked.model, programs_of(asked.program))
-    server = Server(Session(asked.program.resolve(), model))
+    server = Server(Showing(asked.program.resolve(), model))
     threading.Thread(target=server.serve_forever, daemon=True).start()
     browser = Browser(1280, 800)
     try:
@@ -136,7 +136,7 @@ def main() -> None:
     finally:
         browser.close()
         server.shutdown()
-        server.session.close()
+        server.showing.close()
 
 
 if __name__ == "__main__":

@@ -15,7 +15,7 @@ from browser import Browser  # noqa: E402
 from viewer.main import programs_of  # noqa: E402
 from viewer.model import model_of  # noqa: E402
 from viewer.server import Server  # noqa: E402
-from viewer.session import Session  # noqa: E402
+from viewer.showing import Showing  # noqa: E402
 
 SETTLED = "globalThis.viewer && viewer.isSettled"
 # Near the great crater, and then frozen and seen from the side.
@@ -49,7 +49,7 @@ def take(page: Browser, name: str) -> None:
 def main() -> None:
     program = Path(sys.argv[1] if sys.argv[1:] else TOP / "vdpm").resolve()
     model = model_of(TOP / "examples" / "asteroid.obj", programs_of(program))
-    server = Server(Session(program, model))
+    server = Server(Showing(program, model))
     threading.Thread(target=server.serve_forever, daemon=True).start()
     page = Browser(1120, 660)
     try:
@@ -64,7 +64,7 @@ def main() -> None:
     finally:
         page.close()
         server.shutdown()
-        server.session.close()
+        server.showing.close()
 
 
 if __name__ == "__main__":

@@ -23,7 +23,7 @@ from .film import BadFlight, film_page
 from .model import Model, Programs, model_of, tell
 from .program import ALL_MOVES, ProgramEnded
 from .server import Server, is_budget
-from .session import Session
+from .showing import Showing
 
 TOP = Path(__file__).resolve().parent.parent.parent
 
@@ -85,13 +85,13 @@ def write_film(asked: argparse.Namespace) -> None:
 def served(asked: argparse.Namespace) -> Server:
     model = loaded(asked)
     try:
-        session = Session(asked.program.resolve(), model, asked.budget)
+        showing = Showing(asked.program.resolve(), model, asked.budget)
     except ProgramEnded as fault:
         sys.exit(f"viewer: {asked.model}: {fault}")
     try:
-        return Server(session, asked.port)
+        return Server(showing, asked.port)
     except (OSError, OverflowError) as fault:
-        session.close()
+        showing.close()
         sys.exit(f"viewer: port {asked.port} can't be had: {fault}")
 
 
@@ -114,7 +114,7 @@ def serve(server: Server, opened: bool) -> None:
         pass
     finally:
         server.server_close()
-        server.session.close()
+        server.showing.close()
 
 
 def main() -> None:

@@ -18,7 +18,7 @@ from pathlib import Path
 from typing import Callable, Dict, Optional, Tuple
 
 from .program import ALL_MOVES, BadScript, ProgramEnded
-from .session import Session
+from .showing import Showing
 from .websocket import WebSocket, accepted
 
 PAGE = Path(__file__).resolve().parent / "page"
@@ -48,9 +48,9 @@ def is_budget(text: str) -> bool:
 class Server(ThreadingHTTPServer):
     daemon_threads = True
 
-    def __init__(self, session: Session, port: int = 0) -> None:
+    def __init__(self, showing: Showing, port: int = 0) -> None:
         super().__init__(("127.0.0.1", port), Handler)
-        self.session = session
+        self.showing = showing
         self.token = secrets.token_urlsafe(16)
         self.hosts = {f"{name}:{self.server_port}" for name in ("127.0.0.1", "localhost")}
 
@@ -99,13 +99,13 @@ class Handler(BaseHTTPRequestHandler):
 
     def _contents(self) -> Dict[str, Tuple[str, Callable[[], bytes]]]:
         """What the page asks for beside its files."""
-        session = self.server.session
+        showing = self.server.showing
         return {
-            "about": (JSON, lambda: json.dumps(session.about()).encode()),
-            "stream": (BYTES, lambda: session.model.stream),
-            "colours": (BYTES, lambda: session.model.colours or b""),
-            "input": (TEXT, session.input_frame),
-            "flight": (TEXT, session.flight),
+            "about": (JSON, lambda: json.dumps(showing.about()).encode()),
+            "stream": (BYTES, lambda: showing.model.stream),
+            "colours": (BYTES, lambda: showing.model.colours or b""),
+            "input": (TEXT, showing.input_frame),
+            "flight": (TEXT, showing.flight),
         }
 
     def do_POST(self) -> None:
@@ -123,13 +123,13 @@ class Handler(BaseHTTPRequestHandler):
             self._start(int(body))
 
     def _start(self, budget: int) -> None:
-        session = self.server.session
+        showing = self.server.showing
         try:
-            session.start(budget)
+            showing.start(budget)
         except ProgramEnded as fault:
             self._refuse(502, str(fault))
             return
-        self._send(200, JSON, json.dumps(session.about()).encode())
+        self._send(200, JSON, json.dumps(showing.about()).encode())
 
     def _talk(self) -> None:
         """Answers scripts until the page is left."""
@@ -157,7 +157,7 @@ class Handler(BaseHTTPRequestHandler):
 
     def _answer(self, line: WebSocket, script: str) -> None:
         try:
-            answer = self.server.session.ask(script)
+            answer = self.server.showing.ask(script)
         except BadScript as fault:
             line.send_text(json.dumps({"reason": str(fault), "cure": ""}))
         except ProgramEnded as fault:

@@ -10,7 +10,7 @@ from viewer.main import programs_of
 from viewer.model import Model, model_of
 from viewer.program import ALL_MOVES
 from viewer.server import Server
-from viewer.session import Session
+from viewer.showing import Showing
 
 TOP = Path(__file__).resolve().parents[3]
 EXAMPLES = TOP / "examples"
@@ -43,7 +43,7 @@ class Case(unittest.TestCase):
         return path
 
     def served(self, looked_at: Model, budget: int = ALL_MOVES) -> Server:
-        server = Server(Session(program(), looked_at, budget))
+        server = Server(Showing(program(), looked_at, budget))
         threading.Thread(target=server.serve_forever, args=(0.02,), daemon=True).start()
         self.addCleanup(end, server)
         return server
@@ -52,4 +52,4 @@ class Case(unittest.TestCase):
 def end(server: Server) -> None:
     server.shutdown()
     server.server_close()
-    server.session.close()
+    server.showing.close()

@@ -36,13 +36,13 @@ class Page(Case):
     def look_at(self, looked_at: Model, budget: int = ALL_MOVES) -> None:
         self.server = self.served(looked_at, budget)
         self.answers: List[Answer] = []
-        ask = self.server.session.ask
+        ask = self.server.showing.ask
 
         def noted(script: str) -> Answer:
             self.answers.append(ask(script))
             return self.answers[-1]
 
-        setattr(self.server.session, "ask", noted)
+        setattr(self.server.showing, "ask", noted)
         self.page.told.clear()
         self.page.go(f"{self.server.address}?sharpness=0.2")  # it is drawn by software here
         self.page.until(self.settled)

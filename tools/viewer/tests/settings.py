@@ -71,7 +71,7 @@ class Detail(Page):
 class Failing(Page):
     def test_a_killed_program_shows_its_message_and_starts_again(self) -> None:
         faces = self.faces()
-        os.kill(self.server.session.program().number, signal.SIGKILL)
+        os.kill(self.server.showing.program().number, signal.SIGKILL)
         self.page.key("ArrowLeft")
         self.page.until("!document.getElementById('fault').hidden")
         self.assertIn("ended by signal 9", self.text("fault-reason"))

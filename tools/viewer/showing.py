@@ -7,7 +7,7 @@ from .model import Model
 from .program import ALL_MOVES, Answer, Program, ProgramEnded, replies_to
 
 
-class Session:
+class Showing:
     """A model and its program. Calls may come from several threads."""
 
     def __init__(self, path: Path, model: Model, budget: int = ALL_MOVES) -> None:
