@@ -1,4 +1,4 @@
--- A text that is prepared again comes back, and so does that of a mesh that needs nothing.
+-- A text that is prepared again comes back.
 use Rattle.std.proofs.Common.{◌≡◌, ℕ, ◌<◌, List, length, Option, None, Result, Ok, IfOk, refl, sym, ap, ◌∙◌, subst, arith}
 use Rattle.std.proofs.lemmas.List.{length-map}
 use Rattle.std.specs.List.{All}
@@ -7,11 +7,8 @@ use Rattle.pm_base.specs.declared.mesh.Corners.{Corners}
 use Rattle.pm_base.specs.Meshes.{Mesh, IsFace, IsWellFormed}
 use Rattle.pm_base.specs.Sides.{net_of}
 use Rattle.pm_base.specs.Fans.{IsUsed, IsOrientedManifold}
-use Rattle.pm_base.proofs.NetLaws.{mesh_side}
 use Rattle.pm_fans.specs.Cuts.{cut_count}
 use Rattle.obj_read.specs.Meaning.{Refused, meaning_of}
-use Rattle.obj_read.proofs.FormedLaws.{meaning_formed}
-use Rattle.obj_read.proofs.PlacedLaws.{meaning_placed}
 use Rattle.obj_scan.specs.Judged.{Scanned}
 use Rattle.obj_scan.specs.Meaning.{scan_meaning_of}
 use Rattle.obj_scan.specs.Laws.{scanned_mesh}
@@ -19,22 +16,20 @@ use Rattle.obj_scan.proofs.ReadLaws.{read_scanned}
 use Rattle.obj_prepare.specs.declared.notes.Notes.{Notes}
 use Rattle.obj_prepare.specs.declared.placing.Fit.{Fit}
 use Rattle.obj_prepare.specs.declared.placing.Fit.TheVariants as fits
-use Rattle.obj_prepare.specs.Named.{AreVerticesBelow, IsWithinMesh}
+use Rattle.obj_prepare.specs.Named.{AreVerticesBelow}
 use Rattle.obj_prepare.specs.Joining.{place_in_list}
 use Rattle.obj_prepare.specs.Placing.{IsSize, prepared_places_of}
 use Rattle.obj_prepare.specs.Prepared.{staying, joined_count, flat_count, double_count, unnamed_count, split_count, IsPrepared, IsPreparedWith}
 use Rattle.obj_prepare.proofs.AgainLaws.{prepared_again}
-use Rattle.obj_prepare.proofs.FitMeshes.{fit_meshes_stay}
 use Rattle.obj_prepare.proofs.PlacingLaws.{length-places_of}
 use Rattle.prepare.specs.declared.fault.Fault.{Fault}
 use Rattle.prepare.specs.Texts.{output_text, notes_text}
 use Rattle.prepare.specs.Outcome.{Done, MakesPrepared, IsPreparedText, bad_line, too_many, made}
-use Rattle.prepare.specs.Laws.{ComesBack, TextsComeBack, FitTextsStay}
+use Rattle.prepare.specs.Laws.{ComesBack, TextsComeBack}
 use Rattle.prepare.proofs.ScannedLaws.{meaning_sound}
 use Rattle.prepare.proofs.ReadLaws.{made_on_grid, mesh_is_read}
 use Rattle.prepare.proofs.StandingLaws.{standing_fit, standing_places}
 use Rattle.prepare.proofs.RestoredLaws.{none_flat, none_double, none_unnamed, split_as_joined}
-use Rattle.prepare.proofs.NothingLaws.{nothing_done, nothing_told, nothing_said}
 
 -- The numbers of what was done to make a mesh.
 numbers : (m : Mesh) → IsPrepared m.points m.faces m → Notes
@@ -109,13 +104,3 @@ outcome_comes_back size bytes found place is (made s done means k) = λ m read.
 
 pub texts_come_back : TextsComeBack
 texts_come_back size bytes done place m is outcome read = outcome_comes_back size bytes (Ok done) place is outcome m read
-
-pub fit_texts_stay : FitTextsStay
-fit_texts_stay bytes m read manifold fit =
-    let formed = meaning_formed 0 bytes m read in
-    let corners = corners_of (length m.points) m.faces formed.corners in
-    let within : IsWithinMesh (length m.points) m.faces = record { vertices_few = formed.points; faces_few = formed.faces; corners = corners } in
-    let p : IsPrepared m.points m.faces m = fit_meshes_stay m.points m.faces within (λ e l. (mesh_side m formed e l).0) manifold fit in
-    let itself = makes_itself m nothing_done formed manifold (meaning_placed 0 bytes m read) fit.used (p, nothing_told m corners manifold fit p) in
-    subst (λ (notes : List ℕ). IsPreparedText None bytes (Ok (record { text = output_text fits.Standing m; notes = notes })) None) (nothing_said m.faces)
-    (made (scanned_mesh m) (standing_done m nothing_done) (read_scanned bytes m read) itself)

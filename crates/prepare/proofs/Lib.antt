@@ -10,6 +10,7 @@ pub mod StandingLaws
 pub mod RestoredLaws
 pub mod NothingLaws
 pub mod AgainLaws
+pub mod StayLaws
 pub mod NumeralLaws
 pub mod BackLaws
 pub mod FitLaws

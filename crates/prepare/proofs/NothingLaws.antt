@@ -1,7 +1,9 @@
 -- Where nothing needs to be done, nothing is told: all numbers are 0.
-use Rattle.std.proofs.Common.{◌≡◌, ℕ, zero, suc, ◌<◌, ◌≤◌, Bool, true, false, not, ◌&&◌, ◌==◌, nat_lt, inl, inr, refl, sym, ap, ◌∙◌, List, [], ◌∷◌, length, get_or, arith}
+use Rattle.std.proofs.Common.{◌≡◌, ℕ, zero, suc, ◌<◌, ◌≤◌, Bool, true, false, not, ◌&&◌, ◌==◌, nat_lt, inl, inr, refl, sym, ap, ◌∙◌, List, [], ◌∷◌, ◌++◌, length, get_or, arith}
+use Rattle.std.specs.Prelude.{codes}
 use Rattle.std.specs.List.{All}
 use Rattle.std.proofs.lemmas.Bool.{cases_eq, cases_Bool, and_parts, eq-eqb, eqb-true, le-ltb, or_from, true≢false}
+use Rattle.std.proofs.lemmas.List.{append-nil}
 use Rattle.std.proofs.lemmas.List.Elements.{All-head, All-tail}
 use Rattle.pm_base.specs.declared.mesh.Corners.{Corners}
 use Rattle.pm_base.specs.Meshes.{Mesh}
@@ -13,7 +15,7 @@ use Rattle.pm_base.proofs.TwinLaws.{stands-true}
 use Rattle.pm_fans.specs.Cuts.{side_runs, is_cut, cut_count}
 use Rattle.pm_fans.proofs.CutLaws.{count_none}
 use Rattle.obj_prepare.specs.declared.notes.Notes.{Notes}
-use Rattle.obj_prepare.specs.declared.placing.Fit.TheVariants as fits
+use Rattle.obj_prepare.specs.declared.placing.Fit.{Fit}
 use Rattle.obj_prepare.specs.Named.{AreVerticesBelow}
 use Rattle.obj_prepare.specs.Joining.{renamed, joined_faces}
 use Rattle.obj_prepare.specs.Prepared.{staying, IsPrepared, joined_count, AreNotes}
@@ -89,6 +91,10 @@ module _ (m : Mesh) (corners : All (AreVerticesBelow (length m.points)) m.faces)
     unnamed = sym (none_unnamed m fit.used p);
   }
 
-pub nothing_said : (faces : List Corners) → notes_text 0 nothing_done fits.Standing faces ≡ last_note fits.Standing faces
+four_ends : (line : List ℕ) → line ++ [] ++ [] ++ [] ++ [] ≡ line
+four_ends line = append-nil (line ++ [] ++ [] ++ []) ∙ append-nil (line ++ [] ++ []) ∙ append-nil (line ++ []) ∙ append-nil line
+
+-- Only polygons that were cut are told.
+pub nothing_said : (polygons : ℕ) (fit : Fit) (faces : List Corners) → notes_text polygons nothing_done fit faces ≡ note_line (codes "polygons cut") polygons ++ last_note fit faces
 unfolding notes_text face_notes vertex_notes note_line
-nothing_said faces = refl
+nothing_said polygons fit faces = ap (λ (line : List ℕ). line ++ last_note fit faces) (four_ends (note_line (codes "polygons cut") polygons))

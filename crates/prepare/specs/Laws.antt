@@ -7,6 +7,8 @@ use Rattle.pm_base.specs.Fans.{IsOrientedManifold}
 use Rattle.pm_base.specs.Canonical.{canonical_text}
 use Rattle.obj_lines.specs.Text.{until}
 use Rattle.pm_io.specs.Bytes.{Gains}
+use Rattle.pm_io.specs.Puts.{Said}
+use Rattle.pm_fans.specs.Splits.{AllStand}
 use Rattle.obj_read.specs.Coordinates.{is_negative, without_sign, decimals, is_number, are_zeros, magnitude, with_sign}
 use Rattle.obj_read.specs.Meaning.{meaning_of}
 use Rattle.obj_scan.specs.Judged.{Scanned}
@@ -14,13 +16,13 @@ use Rattle.obj_scan.specs.Meaning.{scan_meaning_of}
 use Rattle.obj_prepare.specs.declared.notes.Notes.{Notes}
 use Rattle.obj_prepare.specs.declared.placing.Fit.TheVariants as fits
 use Rattle.obj_prepare.specs.Named.{is_some_corner}
-use Rattle.obj_prepare.specs.Placing.{IsSize, prepared_places_of}
+use Rattle.obj_prepare.specs.Placing.{IsSize, fit_of, prepared_places_of}
 use Rattle.obj_prepare.specs.Joining.{place_in_list}
 use Rattle.obj_prepare.specs.Back.{WayBack, LeadsNear, StandsAt}
 use Rattle.obj_prepare.specs.Prepared.{IsPreparedWith}
 use Rattle.obj_prepare.specs.Laws.{AreFit}
 use Rattle.prepare.specs.declared.fault.Fault.{Fault}
-use Rattle.prepare.specs.Texts.{output_text, notes_text, last_note}
+use Rattle.prepare.specs.Texts.{output_text, note_line, notes_text, last_note}
 use Rattle.prepare.specs.Outcome.{Done, IsPreparedText}
 
 -- A text has one outcome, and one place that decides it.
@@ -99,6 +101,29 @@ TextsComeBack = (size : Option ℕ) (bytes : List ℕ) (done : Done) (place : Op
 abbrev pub FitTextsStay : Type 0
 FitTextsStay = (bytes : List ℕ) (m : Mesh) → meaning_of 0 bytes ≡ Ok m → IsOrientedManifold (net_of m.faces) → AreFit m.points m.faces
     → IsPreparedText None bytes (Ok (record { text = output_text fits.Standing m; notes = last_note fits.Standing m.faces })) None
+
+-- A text that needs nothing: each triangle has three different corners, the triangles are an oriented manifold, each point is
+-- used, and no two come to stand at one place of the grid.
+pub record NeedsNothing (size : Option ℕ) (s : Scanned) : Type 0 where
+  pub stand : AllStand (net_of s.faces)
+  pub manifold : IsOrientedManifold (net_of s.faces)
+  pub fit : AreFit (prepared_places_of size s.points s.faces) s.faces
+
+-- The output and the notes of these triangles over the places of these points: polygons that were cut, and the last line.
+abbrev pub as_it_is : Option ℕ → Scanned → Done
+as_it_is size s = record {
+  text = output_text (fit_of size s.points s.faces) (record { points = prepared_places_of size s.points s.faces; faces = s.faces });
+  notes = note_line (codes "polygons cut") s.polygons ++ last_note (fit_of size s.points s.faces) s.faces;
+}
+
+-- A text that needs nothing comes back as it is, for each size and for none.
+abbrev pub FitScansStay : Type 0
+FitScansStay = (size : Option ℕ) (bytes : List ℕ) (s : Scanned) → scan_meaning_of bytes ≡ Ok s → NeedsNothing size s → IsPreparedText size bytes (Ok (as_it_is size s)) None
+
+-- Where the bytes spell such a text, it was put as it is, and no more than that was said.
+abbrev pub StaysAsItIs : Option ℕ → List ℕ → Option (List ℕ) → Option (List ℕ) → Option (List ℕ) → Option (List ℕ) → ℕ → ℕ → Type 0
+StaysAsItIs size bytes old new err_old err_new err_before err_now = (s : Scanned) → scan_meaning_of bytes ≡ Ok s → NeedsNothing size s
+    → Gains old new (as_it_is size s).text × Said err_old err_new err_before err_now (as_it_is size s).notes
 
 -- A sink gained the text of an oriented manifold, which is read as that mesh and comes back.
 pub record GainsFitText (old new : Option (List ℕ)) : Type 0 where

@@ -9,7 +9,7 @@ ghost use Rattle.prepare.specs.declared.words.Asked.{Asked};
 ghost use Rattle.prepare.specs.declared.fault.Fault.{Fault};
 ghost use Rattle.std.specs.IoError.{error_kind};
 ghost use Rattle.prepare.specs.Words.{asked_of};
-ghost use Rattle.prepare.specs.Laws.{GainsFitText, GainsWayBack};
+ghost use Rattle.prepare.specs.Laws.{GainsFitText, GainsWayBack, StaysAsItIs};
 ghost use Rattle.prepare.specs.Making.{done_of};
 ghost use Rattle.prepare.specs.Ending.{Written, HasPreparedFault, PlaceUnreached, IsPreparedInPart, FailsBy, Finished, prepare_fault_line};
 
@@ -108,6 +108,10 @@ pub fn run<S: Source, K: Sink, E: Sink>(
     // Its first line leads from places to within half a step of the points that were read.
     ensures leads_back { (asked : Asked) → asked_of args ≡ Some asked → result ≡ 0
         → IfSome (S.left input.old) (λ bytes. GainsWayBack asked.size bytes (K.got out.old) (K.got out.new)) }
+    // Triangles that need nothing were put as they are, over the places of their points. Only polygons that were cut are said,
+    // and how places lead back or that there are no faces.
+    ensures stays { (asked : Asked) → asked_of args ≡ Some asked → result ≡ 0
+        → IfSome (S.left input.old) (λ bytes. StaysAsItIs asked.size bytes (K.got out.old) (K.got out.new) (E.got err.old) (E.got err.new) (E.faults err.old) (E.faults err.new)) }
     ensures whole_counts { result ≡ 0 → (S.faults input.new ≡ S.faults input.old) × (K.faults out.new ≡ K.faults out.old) }
     ensures read_whole { result ≡ 0 → AtEnd (S.left input.new) }
     // The text has a fault, which is said, and nothing was put.

@@ -4,6 +4,7 @@ use Rattle.prepare.specs.declared.words.Asked.{Asked}
 use Rattle.prepare.specs.Words.{asked_of}
 use Rattle.prepare.proofs.EndingLaws.{one_asked, said_done, fault_of, counts_of, memory_counts_of, rose_of, read_of, cut_of, nothing_of, completes, line_of_read, line_of_write, line_of_memory, said_line}
 use Rattle.prepare.proofs.FitLaws.{gained_fits, gained_leads}
+use Rattle.prepare.proofs.StayLaws.{left_stays}
 use Rattle.prepare.proofs.run.run.Goals as goal
 
 pub returns-in-Ok-obey-clause-whole : goal.returns-in-Ok-obey-clause-whole
@@ -18,6 +19,11 @@ pub returns-in-Ok-obey-clause-leads_back : goal.returns-in-Ok-obey-clause-leads_
 returns-in-Ok-obey-clause-leads_back g c = λ other asks is.
     gained_leads c.in-Some.asked other _ c.in-Ok-obey.notes.items _ _ (one_asked _ _ other (sym c.read_words.ensures.asked ∙ c.in-Some.is) (sym (ap asked_of c.in-Ok.is) ∙ asks))
     (subst (λ (a : Option Asked). IfSome a (λ x. IsSize x.size)) c.in-Some.is c.read_words.ensures.size) c.in-Ok-obey.ensures.written
+
+pub returns-in-Ok-obey-clause-stays : goal.returns-in-Ok-obey-clause-stays
+returns-in-Ok-obey-clause-stays g c = λ other asks is.
+    left_stays other.size _ _ _ _ _ _ _
+    (said_done c.in-Some.asked other _ _ _ _ _ _ _ c.in-Ok-obey.notes.items c.deref.result.now (one_asked _ _ other (sym c.read_words.ensures.asked ∙ c.in-Some.is) (sym (ap asked_of c.in-Ok.is) ∙ asks)) c.in-Ok-obey.ensures.written c.deref.ensures.value c.say-in-Ok-obey.ensures)
 
 pub returns-in-Err-obey-clause-faulty : goal.returns-in-Err-obey-clause-faulty
 returns-in-Err-obey-clause-faulty g c = λ other asks is.
