@@ -6,6 +6,7 @@ pub mod FrameLaws
 pub mod OutcomeLaws
 pub mod DemoLaws
 pub mod EndingLaws
+pub mod ArgsLaws
 pub mod JudgedLaws
 pub mod SomeOutcomes
 pub mod ViewLaws

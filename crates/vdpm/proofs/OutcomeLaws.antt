@@ -1,5 +1,5 @@
 -- An outcome is the only one of its bytes, and how a command ends.
-use Rattle.std.proofs.Common.{◌≡◌, ℕ, ◌<◌, List, [], length, Option, Some, None, Result, Ok, Err, IfSome, OnOk, refl, sym, ◌∙◌, ap, subst}
+use Rattle.std.proofs.Common.{◌≡◌, ℕ, ◌<◌, List, [], length, Option, Some, None, Result, Ok, Err, IfSome, OnOk, refl, sym, ◌∙◌, ap, subst, arith}
 use Rattle.pm_base.specs.Canonical.{canonical_text}
 use Rattle.pm_forest.specs.Meshes.{input_mesh_of}
 use Rattle.pm_format.specs.Stream.{stream}
