@@ -8,8 +8,8 @@ ghost use Rattle.vdpm.specs.declared.words.Asked.{Asked};
 ghost use Rattle.vdpm.specs.FaultLine.{fault_line};
 ghost use Rattle.vdpm.specs.Ran.{Ran};
 ghost use Rattle.vdpm.specs.Outcome.{IsOutcome};
-ghost use Rattle.vdpm.specs.Ending.{ReadFails, ReadToEnd, ReadToPlace, Answers};
-ghost use Rattle.vdpm.specs.Devices.{ArgsAsk, Unread, Unput, Tells, Replies, Breaks};
+ghost use Rattle.vdpm.specs.Ending.{ReadFails, ReadToEnd, ReadToPlace, FewMore, Answers};
+ghost use Rattle.vdpm.specs.Devices.{ArgsAsk, Unread, Unput, Tells, Replies, LeadsBack, FramesAreSurfaces, Breaks};
 
 use crate::run::run;
 use crate::say::say;
@@ -68,6 +68,11 @@ pub fn answer<S: Source, K: Sink, E: Sink>(
     // The outcome of what was asked for is whole, and exactly its text was put.
     ensures whole { (asked : Asked) → ArgsAsk args asked → result ≡ 0
         → Replies S.Source K.Sink asked None input.old out.old out.new }
+    // The stream of a build expands to the mesh of the OBJ text, and each frame that `view` writes of it shows a surface.
+    ensures expands { (target digits : ℕ) → ArgsAsk args (Asked.Build target digits) → result ≡ 0
+        → LeadsBack S.Source K.Sink target digits input.old out.old out.new }
+    ensures surfaces { (target digits : ℕ) → ArgsAsk args (Asked.Build target digits) → result ≡ 0
+        → FramesAreSurfaces S.Source K.Sink target digits input.old out.old out.new }
     ensures read_whole { (asked : Asked) → ArgsAsk args asked → result ≡ 0
         → ReadToEnd asked (S.left input.old) (S.left input.new) }
     ensures read_to_place { (asked : Asked) → ArgsAsk args asked → result ≡ 0
@@ -84,6 +89,8 @@ pub fn answer<S: Source, K: Sink, E: Sink>(
     ensures write { (asked : Asked) → ArgsAsk args asked → result ≡ 4
         → Rose (K.faults out.old) (K.faults out.new)
         × Breaks S.Source K.Sink asked input.old out.old out.new }
+    ensures few_more { (budget : ℕ) → ArgsAsk args (Asked.View budget) → result ≡ 4
+        → FewMore budget (S.left input.old) (S.left input.new) (K.got out.old) (K.got out.new) }
     // Memory was wanted, and nothing was put; no device failed.
     ensures memory { result ≡ 5 → (S.faults input.new ≡ S.faults input.old) × Unput K.Sink out.old out.new }
     // Where no device failed, a whole outcome gives 0 and a fault gives 1, unless memory is wanted.

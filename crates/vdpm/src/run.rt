@@ -21,7 +21,7 @@ use pm_io::{Sink, Source};
 use std::alloc::Global;
 
 // Does what was asked for.
-#[tactic(auto, using(crate::proofs::OutcomeLaws::ok_to_end, crate::proofs::OutcomeLaws::canon_to_place, crate::proofs::OutcomeLaws::build_to_place, crate::proofs::OutcomeLaws::expand_to_place, crate::proofs::OutcomeLaws::check_to_place, crate::proofs::OutcomeLaws::demo_to_place))]
+#[tactic(auto, using(crate::proofs::OutcomeLaws::ok_to_end))]
 fn obey<S: Source, K: Sink>(
     alloc: Global,
     asked: Asked,
