@@ -26,8 +26,7 @@ def main() -> None:
     suite = unittest.defaultTestLoader.loadTestsFromNames(names)
     result = unittest.TextTestRunner(buffer=True).run(suite)
     if result.skipped:
-        names = (test.id().split(".")[2:4] for test, _ in result.skipped)
-        classes = sorted({".".join(name) for name in names})
+        classes = sorted({".".join(test.id().split(".")[2:4]) for test, _ in result.skipped})
         print(f"LEFT OUT: {len(result.skipped)} tests in a browser: {', '.join(classes)}")
         print(f"None of these is here: {', '.join(NAMES)}")
     sys.exit(0 if result.wasSuccessful() else 1)

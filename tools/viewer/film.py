@@ -130,7 +130,7 @@ class Reel:
         self.slots: Dict[Point, int] = {}  # all points by where they stand, in the order they came
         self.faces: Dict[int, Corners] = {}
         self.views: List[str] = []
-        self.steps: List[Optional[Tuple[int, int]]] = []
+        self.steps: List[Optional[Tuple[int, ...]]] = []  # A and B of a geomorph's A/B
         self.changes = Numbers()
 
     def add(self, shot: Shot) -> None:
