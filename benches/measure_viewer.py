@@ -87,7 +87,8 @@ def flight_row(browser: Browser, tolerance: float, steps: int) -> str:
     kilobytes = at([front["times"]["bytes"] for front in fronts], 0.5) / 1024
     moves = at([front["moves"] for front in fronts], 0.5)
     cells = [told([one[part] for one in times]) for part in (*PARTS, "sum")]
-    return f"| {tolerance:g} | {faces:,.0f} | {moves:.0f} | {kilobytes:,.0f} | {' | '.join(cells)} |"
+    counts = [f"{tolerance:g}", f"{faces:,.0f}", f"{moves:.0f}", f"{kilobytes:,.0f}"]
+    return f"| {' | '.join(counts + cells)} |"
 
 
 def fronts_a_second(browser: Browser, tolerance: float) -> float:
