@@ -1,17 +1,16 @@
 -- Each well-formed mesh is an oriented manifold, or has a first face that repeats a side, or else a first vertex whose
 -- faces are no fan.
-use Rattle.std.proofs.Common.{◌≡◌, ◌≢◌, ℕ, zero, suc, ◌+◌, ◌*◌, ◌<◌, ◌≤◌, None, length, ◌⊎◌, ◌↔◌, inl, inr, refl, sym, ap, ◌∙◌, subst, arith}
+use Rattle.std.proofs.Common.{◌≡◌, ℕ, zero, suc, ◌+◌, ◌*◌, ◌<◌, None, length, ◌⊎◌, ◌↔◌, inl, inr, refl, sym, ap, ◌∙◌, subst, arith}
 use Rattle.std.proofs.lemmas.Bool.{cases_eq, cases_lt}
 use Rattle.std.proofs.lemmas.Option.{none-some}
 use Rattle.pm_base.specs.Meshes.{Mesh, IsWellFormed}
-use Rattle.pm_base.specs.Sides.{Net, net_of, side_count, face_of, next, prev, to, third, Stands, NoSideTwice, twin_of, around}
-use Rattle.pm_base.specs.Fans.{IsPairAt, IsUsed, IsFan, IsOrientedManifold}
+use Rattle.pm_base.specs.Sides.{Net, net_of, face_of, to, Stands, NoSideTwice, twin_of}
+use Rattle.pm_base.specs.Fans.{IsUsed, IsFan, IsOrientedManifold}
 use Rattle.pm_base.proofs.NetLaws.{mesh_side}
 use Rattle.pm_base.proofs.Search.{Decided, search_below, option_cases}
 use Rattle.pm_base.proofs.Sides.{face_cases}
 use Rattle.pm_base.proofs.FanWalks.{walk_ends}
-use Rattle.pm_base.proofs.Walks.{IsTrail, Stops, Returns}
-use Rattle.pm_twins.specs.Faults.{RepeatsASide, IsFirstRepeating, IsBroken, IsFirstBroken}
+use Rattle.pm_twins.specs.Faults.{RepeatsASide, IsFirstRepeating, IsFirstBroken}
 use Rattle.pm_twins.specs.Walks.{degree, IsStart}
 use Rattle.pm_twins.proofs.Decision.{stops_decides, returns_decides}
 use Rattle.pm_simplify.proofs.Decisions.{both?, never?, less?}

@@ -1,5 +1,5 @@
 -- Each input has an outcome.
-use Rattle.std.proofs.Common.{◌≡◌, ℕ, ◌+◌, List, [], ◌∷◌, length, Option, Some, None, Result, Ok, Err, IfOk, inl, inr, refl, sym, ◌∙◌}
+use Rattle.std.proofs.Common.{◌≡◌, ℕ, ◌+◌, List, [], ◌∷◌, length, Option, Some, None, Result, Ok, Err, IfOk, inl, inr, refl}
 use Rattle.pm_base.specs.Meshes.{Mesh}
 use Rattle.pm_base.specs.Canonical.{canonical_text}
 use Rattle.pm_base.specs.Sides.{net_of}
@@ -26,13 +26,12 @@ use Rattle.obj_read.specs.Meaning.{Refused, meaning_of}
 use Rattle.obj_read.proofs.FormedLaws.{meaning_formed}
 use Rattle.vdpm.specs.declared.fault.Fault.{Fault}
 use Rattle.vdpm.specs.declared.fault.Fault.TheVariants as faults
-use Rattle.vdpm.specs.declared.words.Asked.{Asked}
 use Rattle.vdpm.specs.declared.words.Asked.TheVariants as asked
 use Rattle.vdpm.specs.Surface.{IsSurfaceRead, bad_line, no_manifold, manifold}
 use Rattle.vdpm.specs.Build.{IsBuilt, no_surface, simplified}
 use Rattle.vdpm.specs.Beginning.{Beginning, IsBeginning, begins, leaf_side_twice, wrong_neighbour, IsValidBeginning, invalid, valid, IsHierarchyText, no_hierarchy, bytes_after, whole_text}
 use Rattle.vdpm.specs.Ran.{Ran, whole_output, unread, of_script}
-use Rattle.vdpm.specs.Outcome.{IsOutcome, done_with, Follows, counts_line, SomeOutcome}
+use Rattle.vdpm.specs.Outcome.{done_with, Follows, counts_line, SomeOutcome}
 use Rattle.vdpm.proofs.JudgedLaws.{once_or_repeats, judged}
 use Rattle.vdpm.proofs.ReadingLaws.{bad_text}
 
