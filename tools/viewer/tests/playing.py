@@ -109,7 +109,8 @@ class Models(Page):
 
     def test_a_prepared_mesh_tells_places_of_its_file(self) -> None:
         self.look_at(model("ring_scan.obj"))
-        self.assertEqual(self.text("notice"), "made fit by prepare")
+        # (a program that isn't proved says so before it)
+        self.assertIn("made fit by prepare", self.text("notice"))
         self.page.click(300, 270)
         self.page.until("!document.getElementById('picked').hidden")
         said = self.text("picked")
