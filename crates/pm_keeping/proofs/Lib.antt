@@ -1,0 +1,3 @@
+pub mod OneRun
+pub mod Building
+pub mod KeepingNone
