@@ -1,12 +1,17 @@
 -- The run to a number of faces that keeps some vertices. Each step takes the pair of least cost
 -- among those that have no kept vertex. Where none is kept it is the run to a number of faces.
 use Rattle.std.specs.Prelude.{◌≡◌, ℕ, ◌<◌, ◌≤◌, Bool, true, false, ◌⊎◌, List, [], ◌∷◌, ◌++◌}
+use Rattle.std.specs.Prelude.{slice_index_or}
 use Rattle.pm_base.specs.declared.log.Collapse.{Collapse}
 use Rattle.pm_base.specs.Meshes.{Mesh}
 use Rattle.pm_queue.specs.Keys.{is_before}
 use Rattle.pm_runs.specs.Surfaces.{face_count_of}
 use Rattle.pm_runs.specs.Steps.{entry_of}
 use Rattle.pm_runs.specs.Runs.{surface_after, place_of_pair, key_of_pair, IsCandidate}
+
+-- The vertices that a list of flags keeps. Those past the list aren't kept.
+unfoldable pub kept_in : List Bool → ℕ → Bool
+kept_in flags v = slice_index_or flags v false
 
 -- No vertex is kept.
 abbrev pub none_kept : ℕ → Bool

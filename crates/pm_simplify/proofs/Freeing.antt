@@ -1,6 +1,6 @@
 -- Items that are taken out of the lists in which they wait.
 use Rattle.std.specs.Prelude.{is_some}
-use Rattle.std.proofs.Common.{◌≡◌, ◌↔◌, ℕ, ◌<◌, true, false, Option, Some, None, List, [], length, inl, inr, refl, sym, ap, ◌∙◌, subst, arith}
+use Rattle.std.proofs.Common.{◌≡◌, ◌↔◌, ℕ, ◌<◌, Bool, true, false, Option, Some, None, List, [], length, inl, inr, refl, sym, ap, ◌∙◌, subst, arith}
 use Rattle.std.proofs.lemmas.Bool.{cases_eq, false≢true}
 use Rattle.pm_base.specs.declared.log.Collapse.{Collapse}
 use Rattle.pm_base.specs.Meshes.{Mesh}
@@ -15,9 +15,9 @@ use Rattle.pm_simplify.specs.Choices.{net_after, IsRightAt, IsRight, StaysRight}
 use Rattle.pm_simplify.proofs.Waiting.{held_kept}
 
 -- An item is taken out, and its edge weighed if it is still one.
-pub released : (m : Mesh) (log : List Collapse) (old new : Entries) (was now : Lists) (i : ℕ) → IsRight m log old was → now ≡ without_item was i → StaysRight m log old new →
-    (Stands (net_after m log) i → IsRightAt m log new (item_of (net_after m log) i)) → IsRight m log new now
-released m log old new was now i right is stays weighed =
+pub released : (kept : ℕ → Bool) (m : Mesh) (log : List Collapse) (old new : Entries) (was now : Lists) (i : ℕ) → IsRight kept m log old was → now ≡ without_item was i → StaysRight m log old new →
+    (Stands (net_after m log) i → IsRightAt m log new (item_of (net_after m log) i)) → IsRight kept m log new now
+released kept m log old new was now i right is stays weighed =
     let out = after_unlink was now i is in
     record {
       keys = λ e. (stays e).0 (right.keys e);
@@ -27,7 +27,7 @@ released m log old new was now i right is stays weighed =
             | inr ne ↦
                 elim (right.edges e st item) [
                   | inl r ↦ inl ((stays e).1 r)
-                  | inr h ↦ inr (held_kept m log was now e (λ f listed. has-unlink out f e ne ∙ listed) h)
+                  | inr h ↦ inr (held_kept kept m log was now e (λ f listed. has-unlink out f e ne ∙ listed) h)
                 ]
           ];
     }

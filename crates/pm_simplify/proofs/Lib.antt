@@ -1,5 +1,7 @@
 pub mod ItemLaws
 pub mod PairLaws
+pub mod Judging
+pub mod KeepingNone
 pub mod Weighing
 pub mod Choosing
 pub mod Walking

@@ -1,5 +1,5 @@
 //! Pairs that wait for a face come back to the queue before a corner of the face is merged.
-ghost use Rattle.std.specs.Prelude.{◌≡◌, ◌*◌, ◌<◌, ℕ, List, [], length, true};
+ghost use Rattle.std.specs.Prelude.{Bool, ◌≡◌, ◌*◌, ◌<◌, ℕ, List, [], length, true};
 ghost use Rattle.pm_base.specs.declared.log.Collapse.{Collapse};
 ghost use Rattle.pm_base.specs.Meshes.{Mesh};
 ghost use Rattle.pm_base.specs.Sides.{face_of, side_count, Stands};
@@ -22,8 +22,8 @@ fn release(shrink: &Shrink, queue: &mut Queue, waiting: &mut Links, item: u32)
     requires room { length queue.old ≡ side_count (net_at shrink.now) }
     ensures room { length queue.new ≡ length queue.old }
     ensures lists { waiting.new ≡ without_item waiting.old item }
-    ensures right { (m : Mesh) (log : List Collapse) → IsAfter m log shrink.now → IsRight m log queue.old waiting.old
-        → IsRight m log queue.new waiting.new }
+    ensures right { (kept : ℕ → Bool) (m : Mesh) (log : List Collapse) → IsAfter m log shrink.now → IsRight kept m log queue.old waiting.old
+        → IsRight kept m log queue.new waiting.new }
 {
     waiting.unlink(item);
     if shrink.is_there(Side(item)) {
@@ -41,8 +41,8 @@ fn free(shrink: &Shrink, queue: &mut Queue, waiting: &mut Links, face: u32)
     ensures heads { length waiting.new.lists ≡ length waiting.old.lists }
     ensures empty { list_of waiting.new face ≡ [] }
     ensures others { (f : ℕ) → list_of waiting.old f ≡ [] → list_of waiting.new f ≡ [] }
-    ensures right { (m : Mesh) (log : List Collapse) → IsAfter m log shrink.now → IsRight m log queue.old waiting.old
-        → IsRight m log queue.new waiting.new }
+    ensures right { (kept : ℕ → Bool) (m : Mesh) (log : List Collapse) → IsAfter m log shrink.now → IsRight kept m log queue.old waiting.old
+        → IsRight kept m log queue.new waiting.new }
 {
     while let Some(item) = waiting.first(face) {
         release(shrink, queue, waiting, item);
@@ -61,8 +61,8 @@ pub(crate) fn free_around(shrink: &Shrink, queue: &mut Queue, waiting: &mut Link
     ensures empty { (e : ℕ) → Stands (net_at shrink.now) e → (net_at shrink.now).from e ≡ v
         → list_of waiting.new (face_of e) ≡ [] }
     ensures others { (f : ℕ) → list_of waiting.old f ≡ [] → list_of waiting.new f ≡ [] }
-    ensures right { (m : Mesh) (log : List Collapse) → IsAfter m log shrink.now → IsRight m log queue.old waiting.old
-        → IsRight m log queue.new waiting.new }
+    ensures right { (kept : ℕ → Bool) (m : Mesh) (log : List Collapse) → IsAfter m log shrink.now → IsRight kept m log queue.old waiting.old
+        → IsRight kept m log queue.new waiting.new }
 {
     shrink.invariant();
     let mut at = shrink.first_corner(v);

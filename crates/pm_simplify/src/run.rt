@@ -4,6 +4,8 @@ ghost use Rattle.pm_base.specs.Meshes.{mesh_of, IsWellFormed};
 ghost use Rattle.pm_base.specs.Sides.{net_of};
 ghost use Rattle.pm_base.specs.Fans.{IsOrientedManifold};
 ghost use Rattle.pm_runs.specs.Runs.{IsRunTo};
+ghost use Rattle.pm_keeping.specs.Keeping.{IsRunKeeping};
+ghost use Rattle.pm_keeping.specs.Keeping.{kept_in};
 ghost use Rattle.pm_simplify.specs.Faults.{IsSimplifyFault};
 
 use crate::choose::least_pair;
@@ -56,12 +58,26 @@ pub fn simplify(alloc: Global, mesh: &Mesh, target_faces: u32) -> Result<Log, Si
 }
 
 /// The same of a surface, which is used up: one who needs its mesh afterwards copies that before.
+#[tactic(auto, using(crate::proofs::KeepingNone::none_run))]
 pub fn simplify_surface(
     alloc: Global,
     surface: Surface,
     target_faces: u32,
 ) -> Result<Log, OutOfMemory>
     ensures run { IfOk result (λ log. IsRunTo surface target_faces log.items) }
+{
+    simplify_keeping(alloc, surface, &[], target_faces)
+}
+
+/// The same, but no pair is collapsed of which a vertex is kept. Vertices whose flags are set are kept, and those past the
+/// list of flags aren't.
+pub fn simplify_keeping(
+    alloc: Global,
+    surface: Surface,
+    kept: &[bool],
+    target_faces: u32,
+) -> Result<Log, OutOfMemory>
+    ensures run { IfOk result (λ log. IsRunKeeping (kept_in kept.now) surface target_faces log.items) }
 {
     let (mesh, twins) = surface.into_parts();
     let points = mesh.points.len();
@@ -73,7 +89,7 @@ pub fn simplify_surface(
     let mut queue = filled(alloc, &shrink, 3 * faces)?;
     let mut waiting = Links::new(alloc, 3 * faces, faces)?;
     while shrink.face_count() > target_faces {
-        let Some(pair) = least_pair(&shrink, &mut queue, &mut waiting) else {
+        let Some(pair) = least_pair(&shrink, kept, &mut queue, &mut waiting) else {
             break;
         };
         log.push_within_room(collapse(&mut shrink, &mut queue, &mut waiting, pair));

@@ -1,5 +1,5 @@
 //! One collapse, with what is known of each edge kept right.
-ghost use Rattle.std.specs.Prelude.{◌≡◌, ◌*◌, ◌++◌, ◌∷◌, [], ℕ, List, length};
+ghost use Rattle.std.specs.Prelude.{Bool, ◌≡◌, ◌*◌, ◌++◌, ◌∷◌, [], ℕ, List, length};
 ghost use Rattle.pm_base.specs.declared.log.Collapse.{Collapse as Entry};
 ghost use Rattle.pm_base.specs.Meshes.{Mesh};
 ghost use Rattle.pm_base.specs.Sides.{side_count};
@@ -39,8 +39,8 @@ pub(crate) fn collapse(
     ensures entry { (m : Mesh) (log : List Entry) → IsAfter m log shrink.old
         → result ≡ entry_of (surface_after m log) pair.a pair.b (place_of_pair m log pair.a pair.b) }
     ensures after { (m : Mesh) (log : List Entry) → IsAfter m log shrink.old → IsAfter m (log ++ result ∷ []) shrink.new }
-    ensures right { (m : Mesh) (log : List Entry) → IsAfter m log shrink.old → IsRight m log queue.old waiting.old
-        → IsRight m (log ++ result ∷ []) queue.new waiting.new }
+    ensures right { (kept : ℕ → Bool) (m : Mesh) (log : List Entry) → IsAfter m log shrink.old → IsRight kept m log queue.old waiting.old
+        → IsRight kept m (log ++ result ∷ []) queue.new waiting.new }
 {
     shrink.invariant();
     free_around(shrink, queue, waiting, pair.a);
