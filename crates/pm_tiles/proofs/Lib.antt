@@ -1,0 +1,10 @@
+pub mod FixedLeaves
+pub mod FixedBorders
+pub mod Seams
+pub mod InputSides
+pub mod RenamedBorders
+pub mod InputBorders
+pub mod SparedLeaves
+pub mod SparedBorders
+pub mod KeptBorders
+pub mod Flags

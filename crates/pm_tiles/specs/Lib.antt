@@ -1,0 +1,4 @@
+pub mod Fixed
+pub mod Borders
+pub mod Laws
+pub mod RunLaws
