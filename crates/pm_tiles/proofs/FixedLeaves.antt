@@ -17,8 +17,10 @@ module _ (h : Hierarchy) (tree : IsForest h) (x : ℕ) (fixed : IsFixed h x) whe
       let i = interval_of h (s_of h k) in
       let w = tree.forest.width k l in
       let last = i.from + (record_at h k).width in
-      let one : i.from ≡ x = fixed i.from (subst (λ v. Holds h v i.from) is (within-from i i.from (omega arith) (omega arith))) in
-      let two : i.from + (record_at h k).width ≡ x = fixed last (subst (λ v. Holds h v last) is (within-from i last (omega arith) (omega arith))) in
+      let under : (y : ℕ) → Holds h (s_of h k) y → y ≡ x =
+      λ y in_s. fixed y (subst (λ v. Holds h v y) is in_s) in
+      let one = under i.from (within-from i i.from (omega arith) (omega arith)) in
+      let two = under last (within-from i last (omega arith) (omega arith)) in
       absurd (omega arith)
 
   root_stays : (T : ℕ → Bool) (k : ℕ) → k ≤ record_count h → ancestor_after h T k x ≡ root_over h x
@@ -35,8 +37,10 @@ module _ (h : Hierarchy) (tree : IsForest h) (x : ℕ) (fixed : IsFixed h x) whe
   pub is_root : (T : ℕ → Bool) → ancestor_of h T x ≡ root_over h x
   is_root T = root_stays T (record_count h) (omega arith)
 
-  pub only : (T : ℕ → Bool) (y : ℕ) → y < leaf_count h → ancestor_of h T y ≡ ancestor_of h T x → y ≡ x
-  only T y ly is = fixed y (subst (λ v. Holds h v y) (is ∙ is_root T) (holds-ancestor_of h tree.forest T y ly))
+  pub only :
+      (T : ℕ → Bool) (y : ℕ) → y < leaf_count h → ancestor_of h T y ≡ ancestor_of h T x → y ≡ x
+  only T y ly is =
+      fixed y (subst (λ v. Holds h v y) (is ∙ is_root T) (holds-ancestor_of h tree.forest T y ly))
 
 pub leaves_stay : law.FixedLeavesStay
 leaves_stay h tree T x lx fixed = (is_root h tree x fixed T, only h tree x fixed T)

@@ -21,7 +21,8 @@ pub record AreSet (n : Net) (vertices count : ℕ) (flags : List Bool) : Type 0 
 
 pub one_more :
     (n : Net) (vertices count : ℕ) (flags : List Bool) (b : Bool) → AreSet n vertices count flags →
-    count < vertices → IsTrue b ↔ IsBorder n count → AreSet n vertices (count + 1) (set flags count b)
+    count < vertices → IsTrue b ↔ IsBorder n count →
+    AreSet n vertices (count + 1) (set flags count b)
 one_more n vertices count flags b are l says =
     let len = are.len in
     let here : slice_index_or (set flags count b) count false ≡ b =

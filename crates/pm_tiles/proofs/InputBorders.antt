@@ -1,22 +1,19 @@
 -- A front of a firm hierarchy with a fixed border shows the border of the input mesh.
-use Rattle.std.proofs.Common.{◌≡◌, ℕ, ◌*◌, ◌-◌, ◌<◌, Bool, refl, sym, ap, ◌∙◌, subst}
-use Rattle.pm_base.specs.Place.{Place, origin}
-use Rattle.pm_base.specs.Meshes.{Mesh}
+use Rattle.std.proofs.Common.{◌≡◌, ℕ, ◌*◌, ◌-◌, ◌<◌, Bool, sym, ap, ◌∙◌, subst}
 use Rattle.pm_base.specs.Sides.{Net, next, to, net_of, IsBorderSide}
 use Rattle.pm_base.proofs.Sides.{next-lt}
 use Rattle.pm_forest.specs.Forest.{Hierarchy, leaf_count}
 use Rattle.pm_forest.specs.Fronts.{ancestor_of, every}
-use Rattle.pm_forest.specs.Faces.{from_leaf, to_leaf, face_count, IsForest}
+use Rattle.pm_forest.specs.Faces.{from_leaf, to_leaf, IsForest}
 use Rattle.pm_forest.specs.Places.{place_of_node}
-use Rattle.pm_forest.specs.Meshes.{leaf_input, leaf_place, face_of_input, leaf_of_input}
+use Rattle.pm_forest.specs.Meshes.{leaf_input, face_of_input, leaf_of_input}
 use Rattle.pm_forest.specs.Meshes.{input_mesh_of, HasInputNumbers}
 use Rattle.pm_forest.proofs.MeshLaws.{has_input_numbers}
 use Rattle.pm_beyond.specs.Walks.{leaf_net}
 use Rattle.pm_beyond.specs.Moves.{IsClosed}
 use Rattle.pm_beyond.proofs.Standing.{forest_of}
-use Rattle.pm_firm.specs.Firm.{shown_net, IsFirm}
+use Rattle.pm_firm.specs.Firm.{IsFirm}
 use Rattle.pm_number.specs.Stages.{side_by, Renames}
-use Rattle.pm_number.proofs.Renamed.{at_to}
 use Rattle.pm_tiles.specs.Fixed.{IsFixed, HasFixedEnds, HasFixedBorder}
 use Rattle.pm_tiles.specs.Borders.{place_in, ShowsBorder}
 use Rattle.pm_tiles.specs.Laws as law
@@ -49,35 +46,43 @@ module _ (h : Hierarchy) (firm : IsFirm h) (fixed : HasFixedBorder h) (T : ℕ �
       ap (place_of_node h) (is_root h tree x here T ∙ sym (is_root h tree x here every))
       ∙ sym (ap (place_in (input_mesh_of h)) is ∙ numbers.mesh.vertex x l)
 
+  moved : (e : ℕ) → IsBorderSide input e → IsBorderSide (leaf_net h) (side e)
+  moved e border = border-moved input (leaf_net h) side _ names e border
+
   -- The leaf at each end of a side of the input's border is fixed.
   ends : (e : ℕ) → IsBorderSide input e → HasFixedEnds h (side e)
-  ends e border = fixed (side e) (border-moved input (leaf_net h) side _ names e border)
+  ends e border = fixed (side e) (moved e border)
 
-  pub shows :
-      IsClosed h T → ShowsBorder h T (input_mesh_of h)
-  shows closed = record {
-    side = side;
-    stands = λ e border.
-        (borders_stay h firm fixed T closed (side e)).1 (border-moved input (leaf_net h) side _ names e border);
-    all = λ g border.
-        let leaf = (borders_stay h firm fixed T closed g).0 border in
-        let (e, l, is) = names.back g leaf.stands.is_side in
-        (e, border-before input (leaf_net h) side _ names e l (subst (IsBorderSide (leaf_net h)) (sym is) leaf), is);
-    once = λ e g first second same. side-once h tree numbers e g first.stands.is_side second.stands.is_side same;
-    begins = λ e border.
-        let l = border.stands.is_side in
-        shown-place (from_leaf h (side e)) (input.from e) (tree.faces.leaves (side e) (names.is_side e l))
-        (ends e border).from (from_input h tree numbers e l);
-    ends = λ e border.
-        let l = border.stands.is_side in
-        let m = next-lt input.faces e l in
-        let turn = names.turns e l in
-        let is : to input e ≡ leaf_input h (to_leaf h (side e)) - 1 =
-        from_input h tree numbers (next e) m ∙ ap (λ f. leaf_input h (from_leaf h f) - 1) turn in
-        shown-place (to_leaf h (side e)) (to input e)
-        (subst (λ f. from_leaf h f < leaf_count h) turn (tree.faces.leaves (side (next e)) (names.is_side (next e) m)))
-        (ends e border).to is;
-  }
+  leaf_at : (e : ℕ) → e < 3 * input.faces → from_leaf h (side e) < leaf_count h
+  leaf_at e l = tree.faces.leaves (side e) (names.is_side e l)
+
+  pub shows : IsClosed h T → ShowsBorder h T (input_mesh_of h)
+  shows closed =
+      let stay = borders_stay h firm fixed T closed in
+      record {
+        side = side;
+        stands = λ e border. (stay (side e)).1 (moved e border);
+        all = λ g border.
+            let here = (stay g).0 border in
+            let (e, l, is) = names.back g here.stands.is_side in
+            let there = subst (IsBorderSide (leaf_net h)) (sym is) here in
+            (e, border-before input (leaf_net h) side _ names e l there, is);
+        once = λ e g first second same.
+            side-once h tree numbers e g first.stands.is_side second.stands.is_side same;
+        begins = λ e border.
+            let l = border.stands.is_side in
+            shown-place (from_leaf h (side e)) (input.from e) (leaf_at e l) (ends e border).from
+            (from_input h tree numbers e l);
+        ends = λ e border.
+            let l = border.stands.is_side in
+            let m = next-lt input.faces e l in
+            let turn = names.turns e l in
+            let low = subst (λ f. from_leaf h f < leaf_count h) turn (leaf_at (next e) m) in
+            let is : to input e ≡ leaf_input h (to_leaf h (side e)) - 1 =
+            from_input h tree numbers (next e) m
+            ∙ ap (λ f. leaf_input h (from_leaf h f) - 1) turn in
+            shown-place (to_leaf h (side e)) (to input e) low (ends e border).to is;
+      }
 
 pub borders_are_shown : law.FixedBordersAreShown
 borders_are_shown h firm fixed T closed = shows h firm fixed T closed

@@ -24,7 +24,10 @@ corner-input h k i =
     elim (cases_Bool (i == 0)) [
       | inl first ↦ rw first refl
       | inr other ↦
-          elim (cases_Bool (i == 1)) [ inl second ↦ rw (other, second) refl | inr third ↦ rw (other, third) refl ]
+          elim (cases_Bool (i == 1)) [
+            | inl second ↦ rw (other, second) refl
+            | inr third ↦ rw (other, third) refl
+          ]
     ]
 
 module _ (h : Hierarchy) (tree : IsForest h) (numbers : HasInputNumbers h) where
@@ -46,19 +49,24 @@ module _ (h : Hierarchy) (tree : IsForest h) (numbers : HasInputNumbers h) where
       side-lt (face_of_input h) e (face_count h)
       (numbered_so-lt (face_input h) (face_count h) (face_of e) (face e l))
 
+  face-back : (f : ℕ) → f < face_count h → face_of_input h (face_input h f - 1) ≡ f
+  face-back f l =
+      let some = numbers.faces.some f l in
+      numbered_so-found (face_input h) (face_count h) f numbers.faces.once l some
+
   -- Face i of the input has the number i + 1.
   face-number : (i : ℕ) → i < face_count h → face_input h (face_of_input h i) ≡ i + 1
   face-number i l =
       let (f, low, is) = numbers.faces.each i l in
       let place : face_input h f - 1 ≡ i = omega arith in
-      let found =
-      numbered_so-found (face_input h) (face_count h) f numbers.faces.once low (numbers.faces.some f low) in
-      ap (face_input h) (ap (face_of_input h) (sym place) ∙ found) ∙ is
+      ap (face_input h) (ap (face_of_input h) (sym place) ∙ face-back f low) ∙ is
 
   face-input-once :
-      (i j : ℕ) → i < face_count h → j < face_count h → face_of_input h i ≡ face_of_input h j → i ≡ j
+      (i j : ℕ) → i < face_count h → j < face_count h → face_of_input h i ≡ face_of_input h j →
+      i ≡ j
   face-input-once i j l m same =
-      let both : i + 1 ≡ j + 1 = sym (face-number i l) ∙ ap (face_input h) same ∙ face-number j m in
+      let first = face-number i l in
+      let both : i + 1 ≡ j + 1 = sym first ∙ ap (face_input h) same ∙ face-number j m in
       omega arith
 
   -- A side of the input runs from the input vertex of the leaf that its side runs from.
@@ -68,15 +76,17 @@ module _ (h : Hierarchy) (tree : IsForest h) (numbers : HasInputNumbers h) where
   from_input e l =
       let f = face_of e in
       let g = face_of_input h f in
+      let low = face e l in
       let there =
-      get_or-map-range_with_len (input_face h) 0 (face_count h) f f no_corners (face e l) (omega arith) in
+      get_or-map-range_with_len (input_face h) 0 (face_count h) f f no_corners low (omega arith) in
       let turn : side e % 3 ≡ e % 3 = omega arith in
       ap (λ c. corner_in c (e % 3)) there ∙ corner-input h (corners_of h g) (e % 3)
       ∙ rw (side-face (face_of_input h) e, turn) refl
 
   leaf-back : (x : ℕ) → x < leaf_count h → leaf (leaf_input h x - 1) ≡ x
   leaf-back x l =
-      numbered_so-found (leaf_input h) (leaf_count h) x numbers.leaves.once l (numbers.leaves.some x l)
+      let some = numbers.leaves.some x l in
+      numbered_so-found (leaf_input h) (leaf_count h) x numbers.leaves.once l some
 
   leaves : (e : ℕ) → e < 3 * input.faces → from_leaf h (side e) < leaf_count h
   leaves e l = tree.faces.leaves (side e) (is_side e l)
@@ -91,8 +101,7 @@ module _ (h : Hierarchy) (tree : IsForest h) (numbers : HasInputNumbers h) where
       let count = numbers.mesh.faces in
       let some = numbers.faces.some f low in
       let most = numbers.faces.most f low in
-      let found =
-      numbered_so-found (face_input h) (face_count h) f numbers.faces.once low some in
+      let found = face-back f low in
       (3 * (face_input h f - 1) + e % 3, omega arith, side-back (face_of_input h) e _ found)
 
   one : (v w : ℕ) → BeginsSide input v → BeginsSide input w → leaf v ≡ leaf w → v ≡ w

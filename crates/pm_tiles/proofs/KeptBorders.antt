@@ -1,5 +1,5 @@
--- A run that keeps the border's vertices gives a hierarchy with a fixed border, which shows the border.
-use Rattle.std.proofs.Common.{ℕ, Bool, subst}
+-- A run that keeps the border's vertices gives a hierarchy with a fixed border, which it shows.
+use Rattle.std.proofs.Common.{subst}
 use Rattle.pm_base.specs.Meshes.{Mesh}
 use Rattle.pm_number.specs.Numbering.{hierarchy_of_run}
 use Rattle.pm_number.proofs.FirmRuns.{are_firm}

@@ -51,7 +51,8 @@ module _ (m : Mesh) (start : IsStartOfRun m) (log : List Collapse) (run : IsRun 
       Renames (net_of_run_after r 0) (shown_net h (below (length log)))
       (λ x. side_by (face_number r) x) (node_number r)
   names =
-      stage r h (node_number r) (leaf_number r) (face_number r) merges numbers 0 (length log) (omega arith)
+      stage r h (node_number r) (leaf_number r) (face_number r) merges numbers 0 (length log)
+      (omega arith)
 
   -- The leaves at both ends of a side of the mesh.
   from_is : (x : ℕ) → x < 3 * length m.faces → from_leaf h (side x) ≡ leaf_number r (net.from x)
@@ -98,7 +99,8 @@ module _ (m : Mesh) (start : IsStartOfRun m) (log : List Collapse) (run : IsRun 
       law.SparesBorder m log → (e : ℕ) → IsBorderSide (leaf_net h) e → HasFixedEnds h e
   side_fixed spares e border =
       let (g, l, is) = names.back e border.stands.is_side in
-      let here : IsBorderSide (leaf_net h) (side g) = subst (IsBorderSide (leaf_net h)) (sym is) border in
+      let here : IsBorderSide (leaf_net h) (side g) =
+      subst (IsBorderSide (leaf_net h)) (sym is) border in
       subst (HasFixedEnds h) is (ends_fixed spares g l (on_border g l here))
 
 pub borders_fixed : law.SparedBordersAreFixed

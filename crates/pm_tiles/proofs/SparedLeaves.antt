@@ -57,7 +57,9 @@ module _ (m : Mesh) (start : IsStartOfRun m) (log : List Collapse) (run : IsRun 
 
     -- Its node is active in the base front and in the full one.
     at_base : IsActive h (below 0) node
-    at_base = live-active r told (length log) 0 (omega arith) v (there v (length log) l spared (omega arith))
+    at_base =
+        live-active r told (length log) 0 (omega arith) v
+        (there v (length log) l spared (omega arith))
 
     at_full : IsActive h (below (length log)) node
     at_full = live-active r told 0 (length log) (omega arith) v (there v 0 l spared (omega arith))
@@ -73,13 +75,15 @@ module _ (m : Mesh) (start : IsStartOfRun m) (log : List Collapse) (run : IsRun 
     unfolding ancestor_after
     root_is =
         ancestor-at h num.forest (below 0) (below-front h num.forest 0) 0 node leaf (omega arith)
-        (let a = is_root in omega arith) (inl is_root) (λ i il. absurd (omega arith)) (num.held v l)
+        (let a = is_root in omega arith) (inl is_root) (λ i il. absurd (omega arith))
+        (num.held v l)
 
     under_lt : (y : ℕ) → Holds h node y → y < leaf_count h
     unfolding holds
     under_lt y under =
         let p = within-true _ y under in
-        omega (arith, interval_of-le h num.forest node (there-lt h num.forest (below 0) node at_base.0))
+        let node-lt = there-lt h num.forest (below 0) node at_base.0 in
+        omega (arith, interval_of-le h num.forest node node-lt)
 
     -- A leaf under the root that it is has the same node in the full front.
     pub vertex_fixed : IsFixed h leaf
@@ -92,7 +96,8 @@ module _ (m : Mesh) (start : IsStartOfRun m) (log : List Collapse) (run : IsRun 
         let one : ancestor_of h full y ≡ node =
         ancestor_of-unique h num.forest full front node y at_full under in
         let two : ancestor_of h full (leaf_number r x) ≡ node_number r x =
-        leaf-node r h (node_number r) (leaf_number r) (face_number r) told num x (length log) refl lx in
+        leaf-node r h (node_number r) (leaf_number r) (face_number r) told num x (length log)
+        refl lx in
         let same : node_number r x ≡ node = sym two ∙ ap (ancestor_of h full) is ∙ one in
         let x_is : x ≡ v = num.node_once x v (omega arith) (omega arith) same in
         sym is ∙ ap (leaf_number r) x_is

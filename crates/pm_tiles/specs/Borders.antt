@@ -1,5 +1,5 @@
--- What it means that two meshes have the same border, that a front shows a mesh's border, and that the
--- vertices on a border are kept.
+-- What it means that two meshes have the same border, that a front shows a mesh's border, and that
+-- the vertices on a border are kept.
 use Rattle.std.specs.Prelude.{◌≡◌, ℕ, Bool, true, slice_index_or}
 use Rattle.pm_base.specs.Place.{Place, origin}
 use Rattle.pm_base.specs.Meshes.{Mesh}
@@ -8,8 +8,9 @@ use Rattle.pm_forest.specs.Forest.{Hierarchy}
 use Rattle.pm_forest.specs.Places.{place_of_node}
 use Rattle.pm_firm.specs.Firm.{shown_net}
 
--- The border sides of two meshes stand for each other, one for one, and those that do run between the
--- same two places. `at` and `there` tell the places of the vertices of the first and of the second.
+-- The border sides of two meshes stand for each other, one for one, and two that do run between
+-- the same two places. `at` tells where the vertices of the first mesh are, `there` those of the
+-- second.
 pub record IsSameBorder (m n : Net) (at there : ℕ → Place) : Type 0 where
   pub side : ℕ → ℕ
   pub stands : (e : ℕ) → IsBorderSide m e → IsBorderSide n (side e)
@@ -22,8 +23,8 @@ pub record IsSameBorder (m n : Net) (at there : ℕ → Place) : Type 0 where
 abbrev pub place_in : Mesh → ℕ → Place
 place_in m v = slice_index_or m.points v origin
 
--- What the front of these records shows has the border of the mesh: its sides, each between the places
--- that it has in the mesh, and no other.
+-- What the front of these records shows has the border of the mesh: its sides, each between the
+-- places that it has in the mesh, and no other.
 abbrev pub ShowsBorder : Hierarchy → (ℕ → Bool) → Mesh → Type 0
 ShowsBorder h T m = IsSameBorder (net_of m.faces) (shown_net h T) (place_in m) (place_of_node h)
 

@@ -12,7 +12,7 @@ use Rattle.pm_firm.specs.Firm.{shown_net, IsFirm}
 use Rattle.pm_tiles.specs.Fixed.{root_over, IsFixed, HasFixedBorder, place_in_front, IsSeam}
 use Rattle.pm_tiles.specs.Borders.{ShowsBorder}
 
--- Whatever is split, the ancestor of a fixed leaf is its root, and no other leaf has that ancestor.
+-- Whatever is split, a fixed leaf's ancestor is its root, and no other leaf has that ancestor.
 abbrev pub FixedLeavesStay : Type 0
 FixedLeavesStay =
     (h : Hierarchy) → IsForest h → (T : ℕ → Bool) → (x : ℕ) → x < leaf_count h → IsFixed h x →
@@ -38,8 +38,8 @@ FixedBordersAreShown =
     (h : Hierarchy) → IsFirm h → HasFixedBorder h → (T : ℕ → Bool) → IsClosed h T →
     ShowsBorder h T (input_mesh_of h)
 
--- Two hierarchies show a seam in each pair of fronts: both sides stand on the borders, and run between
--- the same two places.
+-- Two hierarchies show a seam in each pair of fronts: both sides stand on the borders, and run
+-- between the same two places.
 pub record Meet (g h : Hierarchy) (S T : ℕ → Bool) (e f : ℕ) : Type 0 where
   pub first : IsBorderSide (shown_net g S) e
   pub second : IsBorderSide (shown_net h T) f

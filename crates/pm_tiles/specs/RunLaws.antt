@@ -1,5 +1,5 @@
--- What the hierarchy of a run has for the vertices that no collapse takes, each law as a statement.
-use Rattle.std.specs.Prelude.{◌≡◌, ℕ, ◌<◌, Bool, true, List, length}
+-- What the hierarchy of a run has for vertices that no collapse takes, each law as a statement.
+use Rattle.std.specs.Prelude.{ℕ, ◌<◌, Bool, List, length}
 use Rattle.pm_base.specs.Meshes.{Mesh}
 use Rattle.pm_base.specs.Sides.{net_of, IsBorder}
 use Rattle.pm_base.specs.declared.log.Collapse.{Collapse}
@@ -34,10 +34,11 @@ SparedBordersAreFixed =
 abbrev pub KeptBordersAreFixed : Type 0
 KeptBordersAreFixed =
     (kept : ℕ → Bool) (m : Mesh) → IsStartOfRun m → KeepsBorder kept m → (target : ℕ) →
-    (log : List Collapse) → IsRunKeeping kept m target log → HasFixedBorder (hierarchy_of_run m log)
+    (log : List Collapse) → IsRunKeeping kept m target log →
+    HasFixedBorder (hierarchy_of_run m log)
 
--- So every closed front of the hierarchy of a run that keeps the border's vertices shows the border of
--- the mesh that the run began with: its sides, each between the places of its vertices, and no other.
+-- So every closed front of the hierarchy of a run that keeps the vertices on the border shows the
+-- border of the mesh that the run began with: its sides, each between the same places, no other.
 abbrev pub KeptBordersAreShown : Type 0
 KeptBordersAreShown =
     (kept : ℕ → Bool) (m : Mesh) → IsStartOfRun m → KeepsBorder kept m → (target : ℕ) →

@@ -9,9 +9,9 @@ use crate::OutOfMemory;
 use pm_twins::Surface;
 use std::alloc::Global;
 
-/// A flag for each vertex of a surface, which is set exactly where the vertex is on the border. A run that
-/// keeps the vertices of these flags shows the border as it is in every front of its hierarchy. O(V) for V
-/// vertices.
+/// A flag for each vertex of a surface, set exactly where the vertex is on the border. Where a run
+/// keeps the vertices of these flags, every closed front of its hierarchy shows the border as it
+/// is. O(V) for V vertices.
 pub fn border_flags(alloc: Global, surface: &Surface) -> Result<Vec<bool>, OutOfMemory>
     ensures border { IfOk result (λ flags.
         IsBorderOf (net_of surface.now.faces) (length surface.now.points) flags.items) }

@@ -1,5 +1,5 @@
-//! Tiles that meet along their borders whatever each of them shows: the vertices on a border, which a run
-//! may keep, and the laws of leaves that every front shows.
+//! Tiles that meet along their borders whatever each shows: the vertices on a border, which
+//! a run may keep, and the laws of leaves that every front shows.
 #![tactic(auto)]
 
 mod border;

@@ -13,8 +13,8 @@ ghost use Rattle.pm_tiles.specs.RunLaws.{
   KeptBordersAreShown,
 };
 
-/// States the laws of fixed leaves and fixed borders: every front shows them as they are. It does nothing,
-/// and callers cite its clauses.
+/// States the laws of fixed leaves and fixed borders: every front shows them as they are. It does
+/// nothing, and callers cite its clauses.
 pub fn fixed_borders_are_sound()
     ensures leaves { FixedLeavesStay }
     ensures sides { FixedSidesStay }
@@ -23,8 +23,8 @@ pub fn fixed_borders_are_sound()
     ensures tiles { TilesMeet }
 {}
 
-/// States what the hierarchy of a run has for the vertices that no collapse takes, and for a border whose
-/// vertices the run keeps. It does nothing, and callers cite its clauses.
+/// States what the hierarchy of a run has for the vertices that no collapse takes, and for a
+/// border whose vertices the run keeps. It does nothing, and callers cite its clauses.
 pub fn spared_vertices_are_sound()
     ensures vertices { SparedVerticesAreFixed }
     ensures borders { SparedBordersAreFixed }
