@@ -15,19 +15,26 @@ use Rattle.pm_simplify.specs.Choices.{net_after, IsRightAt, IsRight, StaysRight}
 use Rattle.pm_simplify.proofs.Waiting.{held_kept}
 
 -- An item is taken out, and its edge weighed if it is still one.
-pub released : (kept : ℕ → Bool) (m : Mesh) (log : List Collapse) (old new : Entries) (was now : Lists) (i : ℕ) → IsRight kept m log old was → now ≡ without_item was i → StaysRight m log old new →
-    (Stands (net_after m log) i → IsRightAt m log new (item_of (net_after m log) i)) → IsRight kept m log new now
+pub released :
+    (kept : ℕ → Bool) (m : Mesh) (log : List Collapse) (old new : Entries) (was now : Lists) (i : ℕ) →
+    IsRight kept m log old was → now ≡ without_item was i → StaysRight kept m log old new →
+    (Stands (net_after m log) i → IsRightAt kept m log new (item_of (net_after m log) i)) →
+    IsRight kept m log new now
 released kept m log old new was now i right is stays weighed =
+    let n = net_after m log in
     let out = after_unlink was now i is in
     record {
       keys = λ e. (stays e).0 (right.keys e);
       edges = λ e st item.
           elim (cases_eq e i) [
-            | inl same ↦ inl (subst (IsRightAt m log new) (ap (item_of (net_after m log)) (sym same) ∙ item) (weighed (subst (Stands (net_after m log)) same st)))
+            | inl same ↦
+                inl (subst (IsRightAt kept m log new) (ap (item_of n) (sym same) ∙ item)
+                (weighed (subst (Stands n) same st)))
             | inr ne ↦
                 elim (right.edges e st item) [
                   | inl r ↦ inl ((stays e).1 r)
-                  | inr h ↦ inr (held_kept kept m log was now e (λ f listed. has-unlink out f e ne ∙ listed) h)
+                  | inr h ↦
+                      inr (held_kept m log was now e (λ f listed. has-unlink out f e ne ∙ listed) h)
                 ]
           ];
     }

@@ -1,6 +1,5 @@
 pub mod ItemLaws
 pub mod PairLaws
-pub mod Judging
 pub mod KeepingNone
 pub mod Weighing
 pub mod Choosing

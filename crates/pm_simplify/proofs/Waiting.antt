@@ -1,6 +1,6 @@
 -- A pair that is held back isn't legal, and stays held back while its ends and the face that it waits for are spared.
-use Rattle.std.proofs.Common.{◌≡◌, ℕ, arith, Bool, true, List, [], ◌∷◌, ◌++◌, ◌⊎◌, inl, inr, refl, sym, ap, ◌∙◌, subst}
-use Rattle.std.proofs.lemmas.Bool.{false≢true, both_ways}
+use Rattle.std.proofs.Common.{◌≡◌, ℕ, arith, true, List, [], ◌∷◌, ◌++◌, ◌⊎◌, inl, inr, refl, sym, ap, ◌∙◌, subst}
+use Rattle.std.proofs.lemmas.Bool.{false≢true}
 use Rattle.pm_base.specs.Place.{Place}
 use Rattle.pm_base.specs.declared.log.Collapse.{Collapse}
 use Rattle.pm_base.specs.Meshes.{Mesh}
@@ -11,8 +11,7 @@ use Rattle.pm_runs.specs.Surfaces.{Surface, net_of_surface, IsSurface, collapsed
 use Rattle.pm_runs.specs.Pairs.{Links, IsLegalPair}
 use Rattle.pm_runs.specs.Merged.{IsProper, IsLinkable}
 use Rattle.pm_runs.specs.Nearby.{IsOther}
-use Rattle.pm_runs.specs.Runs.{IsStartOfRun, IsRun, IsStep, surface_after, place_of_pair}
-use Rattle.pm_keeping.specs.Keeping.{IsFreeCandidate}
+use Rattle.pm_runs.specs.Runs.{IsStartOfRun, IsRun, IsStep, surface_after, place_of_pair, IsCandidate}
 use Rattle.pm_runs.proofs.Live.{live_below, corner_live}
 use Rattle.pm_runs.proofs.StepLaws.{linkable_is_legal}
 use Rattle.pm_runs.proofs.Logs.{run-sound, run-proper, surface_after-more}
@@ -106,22 +105,18 @@ module _ (s : Surface) (sound : IsSurface s) (proper : IsProper (net_of_surface 
   links_stay e l = elim l [ inl r ↦ inl (stays s sound proper t u at legal e a b x y r) | inr r ↦ inr (stays s sound proper t u at legal e b a y x r) ]
 
 -- What is held back may not be collapsed.
-pub held_not : (kept : ℕ → Bool) (m : Mesh) (log : List Collapse) → IsStartOfRun m → IsRun m log → (lists : Lists) (e c d : ℕ) → IsHeldBack kept m log lists e → Links (net_after m log) e c d → IsFreeCandidate kept m log c d → ⊥
-held_not kept m log start run lists e c d h l x =
-    let (ca, db) = same_ends (net_after m log) e c d h.a h.b l h.pair.links x.candidate.ordered h.pair.ordered in
-    let fit : IsFreeCandidate kept m log h.a h.b = subst (λ v. IsFreeCandidate kept m log h.a v) db (subst (λ v. IsFreeCandidate kept m log v d) ca x) in
+pub held_not : (m : Mesh) (log : List Collapse) → IsStartOfRun m → IsRun m log → (lists : Lists) (e c d : ℕ) → IsHeldBack m log lists e → Links (net_after m log) e c d → IsCandidate m log c d → ⊥
+held_not m log start run lists e c d h l x =
+    let (ca, db) = same_ends (net_after m log) e c d h.a h.b l h.pair.links x.ordered h.pair.ordered in
+    let fit : IsCandidate m log h.a h.b = subst (λ v. IsCandidate m log h.a v) db (subst (λ v. IsCandidate m log v d) ca x) in
     elim h.why [
-      | inl (x, w) ↦ not_hindered (surface_after m log) h.a h.b (place_of_pair m log h.a h.b) fit.candidate.legal x w.hinders
-      | inr rest ↦
-          elim rest [
-            | inl w ↦ not_barred (surface_after m log) h.a h.b (place_of_pair m log h.a h.b) fit.candidate.legal (run-proper m start log run).once w
-            | inr pair ↦ elim pair [ inl is ↦ both_ways (kept h.a) fit.first is | inr is ↦ both_ways (kept h.b) fit.second is ]
-          ]
+      | inl (x, w) ↦ not_hindered (surface_after m log) h.a h.b (place_of_pair m log h.a h.b) fit.legal x w.hinders
+      | inr w ↦ not_barred (surface_after m log) h.a h.b (place_of_pair m log h.a h.b) fit.legal (run-proper m start log run).once w
     ]
 
 -- What is held back stays so while its item stays where it waits.
-pub held_kept : (kept : ℕ → Bool) (m : Mesh) (log : List Collapse) (old new : Lists) (e : ℕ) → ((f : ℕ) → has (list_of old f) e ≡ true → has (list_of new f) e ≡ true) → IsHeldBack kept m log old e → IsHeldBack kept m log new e
-held_kept kept m log old new e stays h = record {
+pub held_kept : (m : Mesh) (log : List Collapse) (old new : Lists) (e : ℕ) → ((f : ℕ) → has (list_of old f) e ≡ true → has (list_of new f) e ≡ true) → IsHeldBack m log old e → IsHeldBack m log new e
+held_kept m log old new e stays h = record {
   a = h.a;
   b = h.b;
   pair = h.pair;
@@ -132,11 +127,11 @@ held_kept kept m log old new e stays h = record {
 }
 
 -- What is held back stays so after a collapse that spares its ends and the face that it waits for.
-pub held_stays : (kept : ℕ → Bool) (m : Mesh) (log : List Collapse) (c : Collapse) → IsStartOfRun m → IsRun m log → IsStep (surface_after m log) c → (old new : Lists) (e : ℕ) → (h : IsHeldBack kept m log old e) →
+pub held_stays : (m : Mesh) (log : List Collapse) (c : Collapse) → IsStartOfRun m → IsRun m log → IsStep (surface_after m log) c → (old new : Lists) (e : ℕ) → (h : IsHeldBack m log old e) →
     IsOther (surface_after m log) c.t c.u h.a → IsOther (surface_after m log) c.t c.u h.b →
     ((x : ℕ) → has (list_of old (face_of x)) e ≡ true → Stands (net_after m log) x → IsFaceSpared (surface_after m log) c.t c.u x × (has (list_of new (face_of x)) e ≡ true)) →
-    IsHeldBack kept m (log ++ c ∷ []) new e
-held_stays kept m log c start run step old new e h x y spares =
+    IsHeldBack m (log ++ c ∷ []) new e
+held_stays m log c start run step old new e h x y spares =
     let s : Surface = surface_after m log in
     let sound = run-sound m start log run in
     let proper = run-proper m start log run in
@@ -160,11 +155,7 @@ held_stays kept m log c start run step old new e h x y spares =
                 hinders = subst (λ p. Hinders (surface_after m (log ++ c ∷ [])) h.a h.b p k) place (subst (λ (r : Surface). Hinders r h.a h.b (place_of_pair m log h.a h.b) k) then after);
               },
             )
-        | inr rest ↦
-            inr (elim rest [
-              | inl w ↦ inl (subst (λ (r : Surface). IsBarred (net_of_surface r) h.a h.b) then (barred_stays s sound proper c.t c.u c.place step.legal h.a h.b x y w))
-              | inr pair ↦ inr pair
-            ])
+        | inr w ↦ inr (subst (λ (r : Surface). IsBarred (net_of_surface r) h.a h.b) then (barred_stays s sound proper c.t c.u c.place step.legal h.a h.b x y w))
       ];
     }
 

@@ -1,5 +1,5 @@
 -- Walks over the corners at a vertex.
-use Rattle.std.specs.Prelude.{◌≡◌, ℕ, true, Option, None, IfSome, List, ◌⊎◌}
+use Rattle.std.specs.Prelude.{◌≡◌, ℕ, Bool, true, Option, None, IfSome, List, ◌⊎◌}
 use Rattle.std.specs.Option.{option_map}
 use Rattle.pm_base.specs.declared.ids.Side.{Side}
 use Rattle.pm_base.specs.declared.log.Collapse.{Collapse}
@@ -20,6 +20,8 @@ pub record IsWalk (fan : List ℕ) (Done : ℕ → Type 0) (at : Option Side) : 
   pub seen : (e : ℕ) → has fan e ≡ true → (has (still at fan) e ≡ true) ⊎ Done e
 
 -- Of the two sides at a corner the first is right, and so is the second where nothing stands across it.
-pub record IsRightBeside (m : Mesh) (log : List Collapse) (entries : Entries) (e : ℕ) : Type 0 where
-  pub out : IsRightAt m log entries (item_of (net_after m log) e)
-  pub back : twin_of (net_after m log) (prev e) ≡ None → IsRightAt m log entries (item_of (net_after m log) (prev e))
+pub record IsRightBeside
+    (kept : ℕ → Bool) (m : Mesh) (log : List Collapse) (entries : Entries) (e : ℕ) : Type 0 where
+  pub out : IsRightAt kept m log entries (item_of (net_after m log) e)
+  pub back : twin_of (net_after m log) (prev e) ≡ None →
+      IsRightAt kept m log entries (item_of (net_after m log) (prev e))

@@ -69,15 +69,17 @@ pub fn simplify_surface(
     simplify_keeping(alloc, surface, &[], target_faces)
 }
 
-/// The same, but no pair is collapsed of which a vertex is kept. Vertices whose flags are set are kept, and those past the
-/// list of flags aren't.
+/// The same, but no pair with a kept vertex is collapsed. Vertices whose flags are set are kept, and
+/// those past the list of flags aren't, so a merged vertex never is. Pairs with a kept vertex are not
+/// weighed.
 pub fn simplify_keeping(
     alloc: Global,
     surface: Surface,
     kept: &[bool],
     target_faces: u32,
 ) -> Result<Log, OutOfMemory>
-    ensures run { IfOk result (λ log. IsRunKeeping (kept_in kept.now) surface target_faces log.items) }
+    ensures run { IfOk result (λ log.
+        IsRunKeeping (kept_in kept.now) surface target_faces log.items) }
 {
     let (mesh, twins) = surface.into_parts();
     let points = mesh.points.len();
@@ -86,13 +88,13 @@ pub fn simplify_keeping(
     // Each collapse takes a vertex away, and the last one stays.
     log.reserve(points.saturating_sub(1))?;
     let mut shrink = Shrink::new(alloc, mesh, twins)?;
-    let mut queue = filled(alloc, &shrink, 3 * faces)?;
+    let mut queue = filled(alloc, &shrink, kept, 3 * faces)?;
     let mut waiting = Links::new(alloc, 3 * faces, faces)?;
     while shrink.face_count() > target_faces {
-        let Some(pair) = least_pair(&shrink, kept, &mut queue, &mut waiting) else {
+        let Some(pair) = least_pair(&shrink, &mut queue, &mut waiting) else {
             break;
         };
-        log.push_within_room(collapse(&mut shrink, &mut queue, &mut waiting, pair));
+        log.push_within_room(collapse(&mut shrink, kept, &mut queue, &mut waiting, pair));
     }
     Ok(log)
 }

@@ -1,11 +1,12 @@
 //! One collapse, with what is known of each edge kept right.
-ghost use Rattle.std.specs.Prelude.{Bool, ◌≡◌, ◌*◌, ◌++◌, ◌∷◌, [], ℕ, List, length};
+ghost use Rattle.std.specs.Prelude.{◌≡◌, ◌*◌, ◌++◌, ◌∷◌, [], ℕ, List, length};
 ghost use Rattle.pm_base.specs.declared.log.Collapse.{Collapse as Entry};
 ghost use Rattle.pm_base.specs.Meshes.{Mesh};
 ghost use Rattle.pm_base.specs.Sides.{side_count};
 ghost use Rattle.pm_runs.specs.Steps.{entry_of};
 ghost use Rattle.pm_runs.specs.Runs.{surface_after, place_of_pair, IsCandidate};
 ghost use Rattle.pm_shrink.specs.Shrinking.{net_at};
+ghost use Rattle.pm_keeping.specs.Keeping.{kept_in};
 ghost use Rattle.pm_shrink.specs.Following.{IsAfter};
 ghost use Rattle.pm_simplify.specs.Choices.{IsRight};
 
@@ -22,6 +23,7 @@ use pm_shrink::Shrink;
 /// edges of the dropped faces leave it, and those at the new vertex get new keys.
 pub(crate) fn collapse(
     shrink: &mut Shrink,
+    kept: &[bool],
     queue: &mut Queue,
     waiting: &mut Links,
     pair: Choice,
@@ -39,15 +41,16 @@ pub(crate) fn collapse(
     ensures entry { (m : Mesh) (log : List Entry) → IsAfter m log shrink.old
         → result ≡ entry_of (surface_after m log) pair.a pair.b (place_of_pair m log pair.a pair.b) }
     ensures after { (m : Mesh) (log : List Entry) → IsAfter m log shrink.old → IsAfter m (log ++ result ∷ []) shrink.new }
-    ensures right { (kept : ℕ → Bool) (m : Mesh) (log : List Entry) → IsAfter m log shrink.old → IsRight kept m log queue.old waiting.old
-        → IsRight kept m (log ++ result ∷ []) queue.new waiting.new }
+    ensures right { (m : Mesh) (log : List Entry) → IsAfter m log shrink.old
+        → IsRight (kept_in kept.now) m log queue.old waiting.old
+        → IsRight (kept_in kept.now) m (log ++ result ∷ []) queue.new waiting.new }
 {
     shrink.invariant();
-    free_around(shrink, queue, waiting, pair.a);
-    free_around(shrink, queue, waiting, pair.b);
+    free_around(shrink, kept, queue, waiting, pair.a);
+    free_around(shrink, kept, queue, waiting, pair.b);
     let entry = shrink.collapse(pair.a, pair.b, pair.place);
     forget(queue, entry.left);
     forget(queue, entry.right);
-    renew_around(shrink, queue, entry.s);
+    renew_around(shrink, kept, queue, entry.s);
     entry
 }

@@ -2,6 +2,7 @@ use Rattle.std.proofs.Common.{◌∙◌, not, ap, subst}
 use Rattle.pm_base.specs.Sides.{prev, twin_of}
 use Rattle.pm_runs.specs.Surfaces.{Surface, net_of_surface}
 use Rattle.pm_shrink.specs.Shrinking.{net_at}
+use Rattle.pm_keeping.specs.Keeping.{kept_in}
 use Rattle.pm_simplify.specs.Items.{item_of}
 use Rattle.pm_simplify.specs.Choices.{net_after, IsRightAt}
 use Rattle.pm_simplify.proofs.Weighing.{renews_right, renews_trans}
@@ -14,13 +15,13 @@ returns-then-is_none-clause-right c = λ m log after.
     let mid = c.renew.new.queue in
     let last = c.renew-then-is_none.new.queue in
     record {
-      out = renews_right m log mid last (c.renew-then-is_none.ensures.renews m log after) (item_of n c.args.corner.0) (c.renew.ensures.right m log after);
-      back = λ none. subst (λ e. IsRightAt m log last (item_of n e)) c.prev-before.ensures.value (c.renew-then-is_none.ensures.right m log after);
+      out = renews_right (kept_in c.args.kept.now) m log mid last (c.renew-then-is_none.ensures.renews m log after) (item_of n c.args.corner.0) (c.renew.ensures.right m log after);
+      back = λ none. subst (λ e. IsRightAt (kept_in c.args.kept.now) m log last (item_of n e)) c.prev-before.ensures.value (c.renew-then-is_none.ensures.right m log after);
     }
 
 pub returns-then-is_none-clause-renews : goal.returns-then-is_none-clause-renews
 returns-then-is_none-clause-renews c = λ m log after.
-    renews_trans m log c.args.queue.now c.renew.new.queue c.renew-then-is_none.new.queue (c.renew.ensures.renews m log after) (c.renew-then-is_none.ensures.renews m log after)
+    renews_trans (kept_in c.args.kept.now) m log c.args.queue.now c.renew.new.queue c.renew-then-is_none.new.queue (c.renew.ensures.renews m log after) (c.renew-then-is_none.ensures.renews m log after)
 
 pub returns-else-is_none-clause-right : goal.returns-else-is_none-clause-right
 returns-else-is_none-clause-right c = λ m log after.

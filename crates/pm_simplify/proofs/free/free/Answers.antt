@@ -5,7 +5,7 @@ use Rattle.pm_simplify.proofs.Freeing.{first_has, shorter, stays_empty}
 use Rattle.pm_simplify.proofs.free.free.Goals as goal
 
 pub loop-item-init : goal.loop-item-init
-loop-item-init c = record { room = refl; items = refl; heads = refl; others = λ f none. none; right = λ kept m log after right. right }
+loop-item-init c = record { room = refl; items = refl; heads = refl; others = λ f none. none; right = λ m log after right. right }
 
 pub release-requires-clause-within : goal.release-requires-clause-within
 release-requires-clause-within c =
@@ -31,7 +31,7 @@ loop-item-preserved c =
       items = out.items ∙ i.items;
       heads = out.heads ∙ i.heads;
       others = λ f none. stays_empty c.loop-item.waiting c.release.new.waiting c.args.face c.in-Some.item c.first.ensures.sound (sym c.first.ensures.value ∙ c.in-Some.is) c.release.ensures.lists f (i.others f none);
-      right = λ kept m log after right. c.release.ensures.right kept m log after (i.right kept m log after right);
+      right = λ m log after right. c.release.ensures.right m log after (i.right m log after right);
     }
 
 pub returns-clause-empty : goal.returns-clause-empty

@@ -14,7 +14,7 @@ loop-at-init c = record {
   heads = refl;
   walk = walk_begins (fan_at c.args.shrink.now c.args.v) (λ e. list_of c.args.waiting.now (face_of e) ≡ []) c.first_corner-at.result c.first_corner-at.ensures.value;
   others = λ f none. none;
-  right = λ kept m log after right. right;
+  right = λ m log after right. right;
 }
 
 pub free-requires-clause-face_in : goal.free-requires-clause-face_in
@@ -46,7 +46,7 @@ loop-at-preserved c =
           (λ e. list_of c.loop-at.waiting (face_of e) ≡ []) (λ e. list_of c.free.new.waiting (face_of e) ≡ []) walk
           (λ e. c.free.ensures.others (face_of e)) (subst (λ f. list_of c.free.new.waiting f ≡ []) c.face.ensures c.free.ensures.empty);
       others = λ f none. c.free.ensures.others f (i.others f none);
-      right = λ kept m log after right. c.free.ensures.right kept m log after (i.right kept m log after right);
+      right = λ m log after right. c.free.ensures.right m log after (i.right m log after right);
     }
 
 pub returns-clause-empty : goal.returns-clause-empty

@@ -6,6 +6,7 @@ use Rattle.pm_queue.specs.Entries.{Entries}
 use Rattle.pm_runs.specs.Pairs.{IsLegalPair}
 use Rattle.pm_shrink.specs.Shrinking.{net_at}
 use Rattle.pm_shrink.proofs.GoneLaws.{gone_first_in, gone_second_in}
+use Rattle.pm_keeping.specs.Keeping.{kept_in}
 use Rattle.pm_simplify.specs.Choices.{Renews}
 use Rattle.pm_simplify.specs.Forgetting.{forgotten}
 use Rattle.pm_simplify.proofs.ForgetLaws.{gone_small, gone_within}
@@ -65,7 +66,7 @@ forget-requires-2-clause-second c =
     subst (λ (x : Entry). IfSome x.right (λ g. IfSome g.second (λ s. s.0 < length c.forget.new.queue))) (sym c.collapse-entry.ensures.entry) (gone_second_in n c.args.pair.b c.args.pair.a (length c.forget.new.queue) room)
 
 pub returns-clause-right : goal.returns-clause-right
-returns-clause-right c = λ kept m log after right.
+returns-clause-right c = λ m log after right.
     let (m0, log0, after0, x) = c.requires.candidate in
     let s = c.args.shrink.now in
     let place = c.args.pair.place in
@@ -73,9 +74,9 @@ returns-clause-right c = λ kept m log after right.
     let e = c.collapse-entry.ensures in
     let entry = c.collapse-entry.result in
     let then = e.after m log after in
-    let freed = c.free_around-2.ensures.right kept m log after (c.free_around.ensures.right kept m log after right) in
+    let freed = c.free_around-2.ensures.right m log after (c.free_around.ensures.right m log after right) in
     let keys : c.forget-2.new.queue ≡ forgotten (forgotten c.free_around-2.new.queue entry.left) entry.right = c.forget-2.ensures.keys ∙ ap (λ (q : Entries). forgotten q entry.right) c.forget.ensures.keys in
-    right_collapse m log s c.args.pair.a c.args.pair.b place after x.ordered legal (c.requires.place m log after) entry e.entry kept
+    right_collapse m log s c.args.pair.a c.args.pair.b place after x.ordered legal (c.requires.place m log after) entry e.entry (kept_in c.args.kept.now)
     c.free_around-2.new.queue c.renew_around.new.queue c.free_around-2.new.waiting freed
     (λ k st from. c.free_around-2.ensures.others (face_of k) (c.free_around.ensures.empty k st from)) c.free_around-2.ensures.empty
-    (subst (λ (q : Entries). Renews m (log ++ entry ∷ []) q c.renew_around.new.queue) keys (c.renew_around.ensures.renews m _ then)) (c.renew_around.ensures.right m _ then)
+    (subst (λ (q : Entries). Renews (kept_in c.args.kept.now) m (log ++ entry ∷ []) q c.renew_around.new.queue) keys (c.renew_around.ensures.renews m _ then)) (c.renew_around.ensures.right m _ then)
