@@ -1,0 +1,9 @@
+pub mod Copies
+pub mod Renaming
+pub mod Sums
+pub mod Borders
+pub mod Chains
+pub mod Shared
+pub mod Gluing
+pub mod Alike
+pub mod Lists
