@@ -1,0 +1,4 @@
+pub mod Tiles
+pub mod Worlds
+pub mod RunMeshes
+pub mod Cuts
