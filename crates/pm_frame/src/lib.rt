@@ -5,4 +5,4 @@ mod frame;
 mod line;
 
 pub use frame::{put_faces, put_last, write_frame};
-pub use line::put_node;
+pub use line::{put_face, put_node};

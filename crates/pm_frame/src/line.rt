@@ -35,9 +35,9 @@ pub fn put_node(line: &mut Line, node: u32, p: &Point)
     line.add(b"\n");
 }
 
-/// The line of a kept face.
+/// The line of a kept face, with the nodes at its corners. It takes no memory.
 #[tactic(auto, unfolding(crate::specs::Frame::shown_face_line))]
-pub(crate) fn put_face(line: &mut Line, face: u32, a: u32, b: u32, c: u32)
+pub fn put_face(line: &mut Line, face: u32, a: u32, b: u32, c: u32)
     ensures { line.new ≡ shown_face_line face a b c }
 {
     line.clear();

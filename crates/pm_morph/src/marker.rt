@@ -99,6 +99,13 @@ impl Marker {
         copy_flags(front, &mut self.marks);
     }
 
+    /// The marks, one for each record.
+    pub fn marks(&self) -> &[bool]
+        ensures { result.now ≡ self.now }
+    {
+        &self.marks
+    }
+
     /// Whether record `k` is marked.
     pub fn is_marked(&self, k: u32) -> bool
         requires { k < length self.now }

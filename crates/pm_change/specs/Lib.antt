@@ -1,0 +1,6 @@
+pub mod Shown
+pub mod Changes
+pub mod Applying
+pub mod Texts
+pub mod Room
+pub mod Laws
