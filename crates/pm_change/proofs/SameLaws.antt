@@ -235,14 +235,13 @@ corners_shown h shape G f e =
 pub new_listed : laws.NewCornersAreListed
 new_listed h shape S G ls corners e l =
     let v = ancestor_of h G (from_leaf h e) in
-    let leaf = (shape_of_faces h shape).leaves e l in
-    (
+    let leaf = (shape_of_faces h shape).leaves e l in (
       λ p.
-      let (shown, new) = and_parts (is_shown h G e) (is_at_new h S G e) p in
-      (v, and_from (is_active h G v) (not (is_active h S v)) (here_active h shape S G (from_leaf h e) leaf) new, (corners.each v e).1 (l, shown, refl)),
+          let (shown, new) = and_parts (is_shown h G e) (is_at_new h S G e) p in
+          (v, and_from (is_active h G v) (not (is_active h S v)) (here_active h shape S G (from_leaf h e) leaf) new, (corners.each v e).1 (l, shown, refl)),
       λ p.
-      let (w, new, in_) = p in
-      let (below, shown, is) = (corners.each w e).0 in_ in
-      let (active, fresh) = and_parts (is_active h G w) (not (is_active h S w)) new in
-      and_from (is_shown h G e) (is_at_new h S G e) shown (subst (λ u. not (is_active h S u) ≡ true) (sym is) fresh)
+          let (w, new, in_) = p in
+          let (below, shown, is) = (corners.each w e).0 in_ in
+          let (active, fresh) = and_parts (is_active h G w) (not (is_active h S w)) new in
+          and_from (is_shown h G e) (is_at_new h S G e) shown (subst (λ u. not (is_active h S u) ≡ true) (sym is) fresh),
     )

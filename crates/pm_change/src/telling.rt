@@ -9,8 +9,8 @@ ghost use Rattle.pm_frame.specs.Frame.{shown_node, shown_face};
 ghost use Rattle.pm_morph.specs.Marks.{AreMarksOf};
 ghost use Rattle.pm_change.specs.Texts.{first_change_line, gone_face_lines, gone_node_lines, new_node_lines, put_face_lines, change_text};
 
-use crate::line::{put_gone_face, put_gone_node, put_head};
 use crate::before::{is_gone_face, is_gone_node, is_new_node, is_put};
+use crate::line::{put_gone_face, put_gone_node, put_head};
 use pm_base::{FaceId, NodeId};
 use pm_frame::{put_face, put_last, put_node};
 use pm_front::Front;
