@@ -21,14 +21,15 @@ use Rattle.pm_forest.proofs.Shown.{shown_same}
 use Rattle.pm_beyond.specs.Plans.{less, differs}
 use Rattle.pm_beyond.proofs.PlanLists.{same_bools}
 use Rattle.pm_morph.specs.Laws.{ShownFace, shown_face_at}
+use Rattle.pm_front.proofs.Counting.{length-passing}
 use Rattle.pm_change.specs.Shown.{shown_node_at, shown_nodes}
 use Rattle.pm_change.specs.Changes.{Change, change_of, gone_nodes, new_nodes, gone_faces, put_faces, is_new_node, is_put, is_at_new, has_new_corner}
 use Rattle.pm_change.specs.Applying.{IsIn}
 use Rattle.pm_change.specs.Laws as laws
-use Rattle.pm_change.specs.Laws.{IsNear, child, parent, nothing, new_corners}
+use Rattle.pm_change.specs.Laws.{IsNear, child, parent, nothing, is_new_corner, new_corners}
 use Rattle.pm_change.proofs.ApplyLaws.{map-fail}
 use Rattle.pm_change.proofs.CornerLaws.{active_stays, moved_corner_new, put_moved}
-use Rattle.pm_change.proofs.Counting.{length-passing, length-map, count_none}
+use Rattle.pm_change.proofs.Counting.{length-map, count_none}
 use Rattle.pm_change.proofs.LeastLaws.{in_passing, from_passing}
 use Rattle.pm_change.proofs.Sizes.{nodes_few, faces_few}
 
@@ -158,11 +159,10 @@ near h shape S G v l = (near_from h shape S G v l, from_near h shape S G v l)
 
 -- How many faces are put
 module _ (h : Hierarchy) (shape : HasShape h) (S G : ℕ → Bool) (before : IsFront h S) (now : IsFront h G) where
-  at_new : ℕ → Bool
-  at_new e = is_shown h G e && is_at_new h S G e
+  abbrev at_new : ℕ → Bool
+  at_new e = is_new_corner h S G e
 
-  put_corner : (f : ℕ) → f < face_count h → is_put h S G f ≡ true → (at_new (3 * f) ≡ true) ⊎ ((at_new (3 * f + 1) ≡ true) ⊎ (at_new (3 * f + 2) ≡ true))
-  unfolding at_new
+  pub put_corner : (f : ℕ) → f < face_count h → is_put h S G f ≡ true → (is_new_corner h S G (3 * f) ≡ true) ⊎ ((is_new_corner h S G (3 * f + 1) ≡ true) ⊎ (is_new_corner h S G (3 * f + 2) ≡ true))
   put_corner f l e =
       let is : is_kept h G f && has_new_corner h S G f ≡ true = sym (put_moved h S G f ∙ ap (λ b. is_kept h G f && b) (moved_corner_new h shape S G before f l)) ∙ e in
       let (y, z) = and_parts (is_kept h G f) (has_new_corner h S G f) is in
@@ -177,8 +177,8 @@ module _ (h : Hierarchy) (shape : HasShape h) (S G : ℕ → Bool) (before : IsF
         ])
       ]
 
-  count_up : (p : ℕ → Bool) (n : ℕ) → count p n ≤ count p (suc n)
-  count_up p n = elim (cases_Bool (p n)) [ inl t ↦ (let c = count-true p n t in omega arith) | inr t ↦ (let c = count-false p n t in omega arith) ]
+  count_next : (p : ℕ → Bool) (n : ℕ) → count p n ≤ count p (suc n)
+  count_next p n = elim (cases_Bool (p n)) [ inl t ↦ (let c = count-true p n t in omega arith) | inr t ↦ (let c = count-false p n t in omega arith) ]
 
   puts_counted : (n : ℕ) → n ≤ face_count h → count (is_put h S G) n ≤ count at_new (3 * n)
   puts_counted zero l = let a = count-zero (is_put h S G) in omega arith
@@ -187,9 +187,9 @@ module _ (h : Hierarchy) (shape : HasShape h) (S G : ℕ → Bool) (before : IsF
       let e : 3 * suc n ≡ suc (suc (suc (3 * n))) = omega arith in
       let one : 3 * n + 1 ≡ suc (3 * n) = omega arith in
       let two : 3 * n + 2 ≡ suc (suc (3 * n)) = omega arith in
-      let x = count_up at_new (3 * n) in
-      let y = count_up at_new (suc (3 * n)) in
-      let z = count_up at_new (suc (suc (3 * n))) in
+      let x = count_next at_new (3 * n) in
+      let y = count_next at_new (suc (3 * n)) in
+      let z = count_next at_new (suc (suc (3 * n))) in
       rw e (elim (cases_Bool (is_put h S G n)) [
         | inl t ↦
             let c = count-true (is_put h S G) n t in
@@ -205,7 +205,6 @@ module _ (h : Hierarchy) (shape : HasShape h) (S G : ℕ → Bool) (before : IsF
       ])
 
   few : length (put_faces h S G) ≤ length (new_corners h S G)
-  unfolding at_new
   few =
       let a = length-map (shown_face_at h G) (filter (is_put h S G) (numbers_below (face_count h))) ∙ length-passing (is_put h S G) (face_count h) in
       let b : length (new_corners h S G) ≡ count at_new (3 * face_count h) = length-passing at_new (3 * face_count h) in

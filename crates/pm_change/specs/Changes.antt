@@ -13,8 +13,11 @@ abbrev pub is_gone : (ℕ → Bool) → (ℕ → Bool) → ℕ → Bool
 is_gone before now i = before i && not (now i)
 
 -- The nodes that were active and aren't.
+abbrev pub is_gone_node : Hierarchy → (ℕ → Bool) → (ℕ → Bool) → ℕ → Bool
+is_gone_node h S G v = is_gone (is_active h S) (is_active h G) v
+
 abbrev pub gone_nodes : Hierarchy → (ℕ → Bool) → (ℕ → Bool) → List ℕ
-gone_nodes h S G = filter (is_gone (is_active h S) (is_active h G)) (numbers_below (node_count h))
+gone_nodes h S G = filter (is_gone_node h S G) (numbers_below (node_count h))
 
 -- The nodes that are active and weren't, with their places.
 abbrev pub is_new_node : Hierarchy → (ℕ → Bool) → (ℕ → Bool) → ℕ → Bool
@@ -24,8 +27,11 @@ abbrev pub new_nodes : Hierarchy → (ℕ → Bool) → (ℕ → Bool) → List 
 new_nodes h S G = map (shown_node_at h) (filter (is_new_node h S G) (numbers_below (node_count h)))
 
 -- The faces that were kept and aren't.
+abbrev pub is_gone_face : Hierarchy → (ℕ → Bool) → (ℕ → Bool) → ℕ → Bool
+is_gone_face h S G f = is_gone (is_kept h S) (is_kept h G) f
+
 abbrev pub gone_faces : Hierarchy → (ℕ → Bool) → (ℕ → Bool) → List ℕ
-gone_faces h S G = filter (is_gone (is_kept h S) (is_kept h G)) (numbers_below (face_count h))
+gone_faces h S G = filter (is_gone_face h S G) (numbers_below (face_count h))
 
 -- Corner e is at another node than before.
 abbrev pub has_moved : Hierarchy → (ℕ → Bool) → (ℕ → Bool) → ℕ → Bool

@@ -48,12 +48,9 @@ abbrev pub ChangesAreLeast : Type 0
 ChangesAreLeast =
     (h : Hierarchy) (S G : ℕ → Bool) (other : Change) → changed other (mesh_of h S) ≡ mesh_of h G → IsWithin (change_of h S G) other
 
--- Nothing changes from a front to itself.
+-- Nothing changes.
 abbrev pub nothing : Change
 nothing = record { gone_faces = []; gone_nodes = []; new_nodes = []; put_faces = [] }
-
-abbrev pub NothingChangesToItself : Type 0
-NothingChangesToItself = (h : Hierarchy) (S : ℕ → Bool) → change_of h S S ≡ nothing
 
 -- At most three nodes and two faces come and go for each record that is in one of the two and not in the other.
 abbrev pub NodeChangesAreFew : Type 0
@@ -76,8 +73,11 @@ NothingExactlyWhereSame =
     → (change_of h S G ≡ nothing) ↔ ((k : ℕ) → k < record_count h → S k ≡ G k)
 
 -- The corners of kept faces that are at new nodes: those in the corner lists of the new nodes.
+abbrev pub is_new_corner : Hierarchy → (ℕ → Bool) → (ℕ → Bool) → ℕ → Bool
+is_new_corner h S G e = is_shown h G e && is_at_new h S G e
+
 abbrev pub new_corners : Hierarchy → (ℕ → Bool) → (ℕ → Bool) → List ℕ
-new_corners h S G = filter (λ e. is_shown h G e && is_at_new h S G e) (numbers_below (3 * face_count h))
+new_corners h S G = filter (is_new_corner h S G) (numbers_below (3 * face_count h))
 
 -- No more faces are put than there are such corners.
 abbrev pub PutsAreFew : Type 0
@@ -115,4 +115,4 @@ ChangesLeadToFrames =
 abbrev pub NewCornersAreListed : Type 0
 NewCornersAreListed =
     (h : Hierarchy) → HasShape h → (S G : ℕ → Bool) → (ls : List (List ℕ)) → AreCorners h G ls → (e : ℕ) → e < 3 * face_count h
-    → (is_shown h G e && is_at_new h S G e ≡ true) ↔ ((v : ℕ) × (is_new_node h S G v ≡ true) × (has (listed ls v) e ≡ true))
+    → (is_new_corner h S G e ≡ true) ↔ ((v : ℕ) × (is_new_node h S G v ≡ true) × (has (listed ls v) e ≡ true))

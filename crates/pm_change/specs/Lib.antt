@@ -4,3 +4,6 @@ pub mod Applying
 pub mod Texts
 pub mod Room
 pub mod Laws
+pub mod Parts
+pub mod Gathering
+pub mod Costs

@@ -1,11 +1,11 @@
-//! The tests of what is gone, new or put, by the marks of the front before and by the front.
-ghost use Rattle.std.specs.Prelude.{◌≡◌, ◌+◌, ◌*◌, ◌<◌, true, length};
+//! What was active or kept in the marked front, and whether a node or a face is gone or new.
+ghost use Rattle.std.specs.Prelude.{◌≡◌, ◌<◌, length};
 ghost use Rattle.pm_base.specs.Counts.{set_of};
 ghost use Rattle.pm_forest.specs.Forest.{node_count, record_count, maker_of, splitter_of};
-ghost use Rattle.pm_forest.specs.Fronts.{IsFront, is_active as active_in, made_in, split_in};
+ghost use Rattle.pm_forest.specs.Fronts.{is_active as active_in, made_in, split_in};
 ghost use Rattle.pm_forest.specs.Faces.{face_count, revealed_by as revealer_of};
 ghost use Rattle.pm_forest.specs.Kept.{is_kept as kept_in};
-ghost use Rattle.pm_change.specs.Changes.{is_gone, is_new_node, is_put as put_in, is_at_new as at_new_in, has_new_corner as new_corner_in};
+ghost use Rattle.pm_change.specs.Changes.{is_gone_face, is_gone_node, is_new_node};
 ghost use Rattle.pm_morph.specs.Marks.{AreMarksOf};
 
 use pm_base::{FaceId, NodeId};
@@ -36,9 +36,9 @@ fn was_split(h: &Hierarchy, marks: &[bool], node: NodeId) -> bool
     }
 }
 
-/// Whether a node was active.
+// Whether a node was active.
 #[tactic(auto, unfolding(pm_forest::specs::Fronts::is_active))]
-pub(crate) fn was_active(h: &Hierarchy, marks: &[bool], node: NodeId) -> bool
+fn was_active(h: &Hierarchy, marks: &[bool], node: NodeId) -> bool
     requires node { node.0 < node_count h.now }
     requires marks { length marks.now ≡ record_count h.now }
     ensures { result ≡ active_in h.now (set_of marks.now) node.0 }
@@ -58,9 +58,9 @@ fn was_revealed(h: &Hierarchy, marks: &[bool], face: FaceId) -> bool
     }
 }
 
-/// Whether a face was kept.
+// Whether a face was kept.
 #[tactic(auto, using(pm_forest::proofs::ViewLaws::kept_flag, crate::proofs::TestLaws::marked_front))]
-pub(crate) fn was_kept(h: &Hierarchy, marks: &[bool], face: FaceId) -> bool
+fn was_kept(h: &Hierarchy, marks: &[bool], face: FaceId) -> bool
     requires face { face.0 < face_count h.now }
     requires told { AreMarksOf h.now marks.now }
     ensures { result ≡ kept_in h.now (set_of marks.now) face.0 }
@@ -73,8 +73,8 @@ pub(crate) fn was_kept(h: &Hierarchy, marks: &[bool], face: FaceId) -> bool
 pub(crate) fn is_gone_face(front: &Front, marks: &[bool], face: FaceId) -> bool
     requires face { face.0 < face_count front.now.h }
     requires told { AreMarksOf front.now.h marks.now }
-    ensures { let h = front.now.h in
-        result ≡ is_gone (kept_in h (set_of marks.now)) (kept_in h (set_of front.now.flags)) face.0 }
+    ensures { let S = set_of marks.now in let G = set_of front.now.flags in
+        result ≡ is_gone_face front.now.h S G face.0 }
 {
     was_kept(front.hierarchy(), marks, face) && !front.is_kept(face)
 }
@@ -83,8 +83,8 @@ pub(crate) fn is_gone_face(front: &Front, marks: &[bool], face: FaceId) -> bool
 pub(crate) fn is_gone_node(front: &Front, marks: &[bool], node: NodeId) -> bool
     requires node { node.0 < node_count front.now.h }
     requires told { AreMarksOf front.now.h marks.now }
-    ensures { let h = front.now.h in
-        result ≡ is_gone (active_in h (set_of marks.now)) (active_in h (set_of front.now.flags)) node.0 }
+    ensures { let S = set_of marks.now in let G = set_of front.now.flags in
+        result ≡ is_gone_node front.now.h S G node.0 }
 {
     was_active(front.hierarchy(), marks, node) && !front.is_active(node)
 }
@@ -93,44 +93,8 @@ pub(crate) fn is_gone_node(front: &Front, marks: &[bool], node: NodeId) -> bool
 pub(crate) fn is_new_node(front: &Front, marks: &[bool], node: NodeId) -> bool
     requires node { node.0 < node_count front.now.h }
     requires told { AreMarksOf front.now.h marks.now }
-    ensures { result ≡ is_new_node front.now.h (set_of marks.now) (set_of front.now.flags) node.0 }
+    ensures { let S = set_of marks.now in let G = set_of front.now.flags in
+        result ≡ is_new_node front.now.h S G node.0 }
 {
     front.is_active(node) && !was_active(front.hierarchy(), marks, node)
-}
-
-// Whether corner `i` of a kept face is at a node that wasn't active.
-#[tactic(auto, using(crate::proofs::TestLaws::corner_node))]
-fn is_at_new(front: &Front, marks: &[bool], face: FaceId, i: u32) -> bool
-    requires face { face.0 < face_count front.now.h }
-    requires kept { kept_in front.now.h (set_of front.now.flags) face.0 ≡ true }
-    requires corner { i < 3 }
-    requires told { AreMarksOf front.now.h marks.now }
-    ensures { result ≡ at_new_in front.now.h (set_of marks.now) (set_of front.now.flags) (3 * face.0 + i) }
-{
-    front.invariant();
-    !was_active(front.hierarchy(), marks, front.corner(face, i))
-}
-
-// Whether a kept face has a corner at such a node.
-fn has_new_corner(front: &Front, marks: &[bool], face: FaceId) -> bool
-    requires face { face.0 < face_count front.now.h }
-    requires kept { kept_in front.now.h (set_of front.now.flags) face.0 ≡ true }
-    requires told { AreMarksOf front.now.h marks.now }
-    ensures { result ≡ new_corner_in front.now.h (set_of marks.now) (set_of front.now.flags) face.0 }
-{
-    let a = is_at_new(front, marks, face, 0);
-    let b = is_at_new(front, marks, face, 1);
-    let c = is_at_new(front, marks, face, 2);
-    a || (b || c)
-}
-
-/// Whether a face is kept and wasn't, or was with another corner.
-#[tactic(auto, using(crate::proofs::TestLaws::put_is))]
-pub(crate) fn is_put(front: &Front, marks: &[bool], face: FaceId) -> bool
-    requires face { face.0 < face_count front.now.h }
-    requires told { AreMarksOf front.now.h marks.now }
-    ensures { result ≡ put_in front.now.h (set_of marks.now) (set_of front.now.flags) face.0 }
-{
-    front.invariant();
-    front.is_kept(face) && has_new_corner(front, marks, face)
 }

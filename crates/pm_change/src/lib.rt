@@ -3,7 +3,12 @@
 
 mod before;
 mod changer;
+mod corners;
+mod faces;
+mod gathering;
 mod line;
+mod parts;
+mod sets;
 mod telling;
 mod theory;
 
