@@ -1,11 +1,13 @@
 pub mod PolygonLaws
 pub mod IndexLaws
 pub mod ScanLaws
+pub mod ReturnLaws
 pub mod JudgeLaws
 pub mod PlaceLaws
 pub mod StandLaws
 pub mod StepLaws
 pub mod FinishLaws
 pub mod NumberLaws
+pub mod FormLaws
 pub mod FoundLaws
 pub mod ReadLaws

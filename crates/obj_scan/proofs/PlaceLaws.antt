@@ -1,24 +1,28 @@
 -- Where the byte stands that shows the first fault of a text.
 use Rattle.std.proofs.Common.{◌≡◌, ℕ, ◌+◌, ◌<◌, ◌≤◌, Bool, true, false, ◌==◌, List, [], ◌∷◌, ◌++◌, length, nat_lt, Option, Some, None, Result, Ok, Err, IfSome, IfOk, if◌then◌else◌, refl, sym, ap, subst, arith, length-append}
-use Rattle.obj_lines.specs.Text.{until, lines, content, is_continued}
+use Rattle.obj_lines.specs.Text.{until, lines, is_continued}
 use Rattle.obj_lines.proofs.TextLaws.{until_front, First, first_line}
 use Rattle.obj_read.specs.declared.fault.ObjFault.{ObjFault}
-use Rattle.obj_read.specs.Fails.{FaultNotReached}
-use Rattle.obj_read.specs.Meaning.{Refused, place, is_past, is_long}
+use Rattle.obj_read.specs.Meaning.{place, is_past, is_long}
+use Rattle.obj_scan.specs.declared.fault.ScanFault.{ScanFault}
+use Rattle.obj_scan.specs.Forms.{line_content, form_fault}
+use Rattle.obj_scan.specs.Refusals.{Refused, FaultNotReached}
 use Rattle.obj_read.proofs.PlaceLaws.{place_after}
 use Rattle.obj_scan.specs.Judged.{Found, scanned_line}
-use Rattle.obj_scan.specs.Meaning.{ScannedSoFar, joined_text, and_continued, and_scanned_line, then_found, judged_length, line_judged, then_scanned_lines, at_end, scan_meaning_from}
+use Rattle.obj_scan.specs.Meaning.{ScannedSoFar, joined_text, and_continued, and_scanned_line, then_found, or_refused, judged_length, line_judged, then_scanned_lines, at_end, scan_meaning_from}
 
-place_case : (P : Refused → Type 0) (a b c : Bool) (x y z : Refused) → P x → P y → P z → IfSome (if a then Some x else if b then Some y else if c then Some z else None) P
-place_case P true b c x y z px py pz = px
-place_case P false true c x y z px py pz = py
-place_case P false false true x y z px py pz = pz
-place_case P false false false x y z px py pz = tt
+place_case : (s : ScannedSoFar) (line : List ℕ) (P : Refused → Type 0) (a b c : Bool) (form : Option ScanFault) (x y z : Refused) → P x → P y → ((fault : ScanFault) → P (record { fault = fault; line = s.number; place = place s.bytes line })) → P z
+    → IfSome (if a then Some x else if b then Some y else or_refused form s line (if c then Some z else None)) P
+place_case s line P true b c form x y z px py pf pz = px
+place_case s line P false true c form x y z px py pf pz = py
+place_case s line P false false c (Some f) x y z px py pf pz = pf f
+place_case s line P false false true None x y z px py pf pz = pz
+place_case s line P false false false None x y z px py pf pz = tt
 
 -- A fault of a line's length has the line's place.
 length_place : (s : ScannedSoFar) (line : List ℕ) → IfSome (judged_length s line) (λ r. r.place ≡ place s.bytes line)
 unfolding judged_length
-length_place s line = place_case (λ r. r.place ≡ place s.bytes line) (is_past s.bytes (length line)) (is_long line) (nat_lt 65536 (length (joined_text s line))) _ _ _ refl refl refl
+length_place s line = place_case s line (λ r. r.place ≡ place s.bytes line) (is_past s.bytes (length line)) (is_long line) (nat_lt 65536 (length (joined_text s line))) (form_fault s.number (until 10 line)) _ _ _ refl refl (λ f. refl) refl
 
 bytes_case : (s : ScannedSoFar) (line : List ℕ) (ends : Bool) (r : Result Found ObjFault) → IfOk (if ends then Ok (and_continued s line) else then_found r s line) (λ t. t.bytes ≡ s.bytes + length line)
 unfolding and_continued and_scanned_line
@@ -29,7 +33,7 @@ bytes_case s line false (Err e) = tt
 -- After a line so many bytes more are read.
 judged_bytes : (s : ScannedSoFar) (line : List ℕ) → IfOk (line_judged s line) (λ t. t.bytes ≡ s.bytes + length line)
 unfolding line_judged
-judged_bytes s line = bytes_case s line (is_continued (content (until 10 line))) (scanned_line (length s.scanned.points) (length s.scanned.faces) (joined_text s line))
+judged_bytes s line = bytes_case s line (is_continued (line_content s.number (until 10 line))) (scanned_line (length s.scanned.points) (length s.scanned.faces) (joined_text s line))
 
 line_case : (s : ScannedSoFar) (line : List ℕ) (more : List (List ℕ)) (n : ℕ) (o : Option Refused) (r : Result ScannedSoFar ObjFault) → IfSome o (λ x. x.place ≡ place s.bytes line)
     → IfOk r (λ t. t.bytes ≡ s.bytes + length line) → n ≤ 1073741824 → n ≤ s.bytes + 65536 → (length (until 10 line) < length line → n < s.bytes + length line) → n ≤ s.bytes + length line

@@ -3,13 +3,13 @@ use Rattle.std.proofs.Common.{◌≡◌, ℕ, ◌+◌, ◌≤◌, List, [], ◌�
 use Rattle.std.specs.Io.KnownBytes.{prepend_known}
 use Rattle.std.proofs.lemmas.List.{take-append-drop}
 use Rattle.pm_io.proofs.Known.{loses_both, loses_none}
-use Rattle.obj_lines.specs.Text.{until, lines, content}
+use Rattle.obj_lines.specs.Text.{until, lines}
 use Rattle.obj_lines.proofs.TextLaws.{lines_whole}
 use Rattle.obj_lines.proofs.CutLaws.{before_end}
-use Rattle.obj_read.specs.declared.fault.ObjFault.{ObjFault}
-use Rattle.obj_read.specs.Fails.{IsRefusal, FaultNotReached}
+use Rattle.obj_scan.specs.declared.fault.ScanFault.{ScanFault}
+use Rattle.obj_scan.specs.Refusals.{IsRefusal, FaultNotReached}
 use Rattle.obj_scan.specs.Meaning.{ScannedSoFar, scan_meaning_from, scan_meaning_of, nothing_scanned}
-use Rattle.obj_scan.specs.Reading.{HeldLines, ScanStandsAt, after_lines, taken}
+use Rattle.obj_scan.specs.Reading.{HeldLines, ScanStandsAt, after_lines, line_taken}
 use Rattle.obj_scan.specs.Fails.{ScanFailsBefore}
 use Rattle.obj_scan.proofs.JudgeLaws.{held_in, later, then_taken, judged_line}
 use Rattle.obj_scan.proofs.PlaceLaws.{not_reached}
@@ -56,7 +56,7 @@ and_whole s text h =
     ap (λ (k : ℕ). after_lines k (s.number + 1) h) n
 
 whole_on : (s : ScannedSoFar) (line text a : List ℕ) (h : HeldLines) → until 10 text ≡ text → line ++ a ≡ text ++ 10 ∷ [] → length text ≤ 65536
-    → s.bytes + length text + 1 ≤ 1073741824 → taken (held_in s) (content text) ≡ Ok h
+    → s.bytes + length text + 1 ≤ 1073741824 → line_taken s.number (held_in s) text ≡ Ok h
     → (rest : List ℕ) → scan_meaning_from s (lines (line ++ (a ++ rest))) ≡ scan_meaning_from (line_later s text h) (lines rest)
 whole_on s line text a h clean is short within takes rest =
     let cut : line ++ (a ++ rest) ≡ text ++ 10 ∷ rest = sym (append_assoc line a rest) ∙ ap (λ (l : List ℕ). l ++ rest) is ∙ append_assoc text (10 ∷ []) rest in
@@ -68,7 +68,7 @@ whole_on s line text a h clean is short within takes rest =
 -- The line is whole.
 pub stands_whole : (whole left : Option (List ℕ)) (piece : List ℕ) (n : ℕ) (s : ScannedSoFar) (line text : List ℕ) (h : HeldLines)
     → ScanStandsAt whole (prepend_known piece left) s line → until 10 text ≡ text → line ++ take n piece ≡ text ++ 10 ∷ [] → length text ≤ 65536 → s.bytes + length text + 1 ≤ 1073741824
-    → taken (held_in s) (content text) ≡ Ok h → ScanStandsAt whole (prepend_known (drop n piece) left) (line_later s text h) []
+    → line_taken s.number (held_in s) text ≡ Ok h → ScanStandsAt whole (prepend_known (drop n piece) left) (line_later s text h) []
 stands_whole whole left piece n s line text h stands clean is short within takes =
     let e = ap length is in
     stands_on whole left piece (take n piece) (drop n piece) s (line_later s text h) line [] stands (sym (take-append-drop n piece))
@@ -76,7 +76,7 @@ stands_whole whole left piece n s line text h stands clean is short within takes
     (omega (arith, e, length-append line (take n piece), length-append text (10 ∷ [])))
 
 -- What the rest of the text is refused for is what the whole is refused for.
-pub explains_fault : (whole left : Option (List ℕ)) (piece : List ℕ) (s : ScannedSoFar) (line : List ℕ) (fault : ObjFault) (n : ℕ) → ScanStandsAt whole (prepend_known piece left) s line
+pub explains_fault : (whole left : Option (List ℕ)) (piece : List ℕ) (s : ScannedSoFar) (line : List ℕ) (fault : ScanFault) (n : ℕ) → ScanStandsAt whole (prepend_known piece left) s line
     → ((rest : List ℕ) → IsRefusal fault n (scan_meaning_from s (lines (line ++ (piece ++ rest))))) → IfSome whole (λ bytes. IsRefusal fault n (scan_meaning_of bytes))
 explains_fault None left piece s line fault n stands refused = tt
 explains_fault (Some bytes) None piece s line fault n stands refused = let e = stands.same in cc

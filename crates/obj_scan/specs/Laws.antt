@@ -1,12 +1,13 @@
 -- The laws of texts that `obj_read`, which reads the OBJ profile, takes too. A unit is 10^-18, and byte 35 is `#`.
-use Rattle.std.specs.Prelude.{ℕ, ◌≡◌, ◌<◌, ◌^◌, ◌*ℤ◌, ℤ, pos, List, ◌∷◌, ◌++◌, length, map, Ok}
-use Rattle.std.specs.List.{All}
+use Rattle.std.specs.Prelude.{ℕ, ◌≡◌, ◌<◌, ◌^◌, ◌*ℤ◌, ℤ, pos, Bool, true, false, not, List, ◌∷◌, ◌++◌, length, map, Ok}
+use Rattle.std.specs.List.{All, list_all}
 use Rattle.obj_lines.specs.declared.limits.TheConstants.{MOST_LINE_BYTES}
 use Rattle.pm_base.specs.Place.{Place, IsPlace}
 use Rattle.pm_base.specs.Meshes.{Mesh, IsWellFormed}
 use Rattle.pm_base.specs.Canonical.{canonical_text}
-use Rattle.obj_lines.specs.Text.{until}
+use Rattle.obj_lines.specs.Text.{until, lines}
 use Rattle.obj_read.specs.Meaning.{meaning_of as mesh_meaning}
+use Rattle.obj_scan.specs.Forms.{has_lone_return, is_marked, is_wide}
 use Rattle.obj_scan.specs.Judged.{Scanned}
 use Rattle.obj_scan.specs.Meaning.{scan_meaning_of}
 
@@ -22,11 +23,17 @@ scaled_up p = record { x = in_units p.x; y = in_units p.y; z = in_units p.z }
 abbrev pub scanned_mesh : Mesh → Scanned
 scanned_mesh m = record { points = map scaled_up m.points; faces = m.faces; polygons = 0 }
 
--- A text that is read as a mesh, with whole numbers for coordinates, is scanned as that mesh.
-abbrev pub ReadIsScanned : Type 0
-ReadIsScanned = (bytes : List ℕ) (m : Mesh) → mesh_meaning 0 bytes ≡ Ok m → scan_meaning_of bytes ≡ Ok (scanned_mesh m)
+-- No line of a text has a CR that doesn't end it, and no byte order mark stands before the first.
+pub record IsFormed (bytes : List ℕ) : Type 0 where
+  pub ended : list_all (λ line. not (has_lone_return (until 10 line))) (lines bytes) ≡ true
+  pub unmarked : is_marked bytes ≡ false
+  pub narrow : is_wide bytes ≡ false
 
--- So is the canonical text of a mesh after a comment.
+-- A text so formed that is read as a mesh, with whole numbers for coordinates, is scanned as that mesh.
+abbrev pub ReadIsScanned : Type 0
+ReadIsScanned = (bytes : List ℕ) (m : Mesh) → IsFormed bytes → mesh_meaning 0 bytes ≡ Ok m → scan_meaning_of bytes ≡ Ok (scanned_mesh m)
+
+-- So is the canonical text of a mesh after a comment without a CR.
 abbrev pub CommentedIsScanned : Type 0
-CommentedIsScanned = (line : List ℕ) (m : Mesh) → until 10 line ≡ line → length line < MOST_LINE_BYTES → IsWellFormed m → All IsPlace m.points
+CommentedIsScanned = (line : List ℕ) (m : Mesh) → until 10 line ≡ line → until 13 line ≡ line → length line < MOST_LINE_BYTES → IsWellFormed m → All IsPlace m.points
     → scan_meaning_of ((35 ∷ line) ++ 10 ∷ canonical_text 0 m) ≡ Ok (scanned_mesh m)

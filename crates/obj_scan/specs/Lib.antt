@@ -1,3 +1,5 @@
+pub mod Forms
+pub mod Refusals
 pub mod Polygons
 pub mod Judged
 pub mod Meaning

@@ -1,5 +1,5 @@
 -- How far the reading of a source has come.
-use Rattle.std.specs.Prelude.{ℕ, ◌+◌, ◌-◌, ◌≡◌, ◌<◌, ◌≤◌, List, [], ◌∷◌, ◌++◌, true, nat_lt, length, take, Option, Result, Ok, Err, if◌then◌else◌}
+use Rattle.std.specs.Prelude.{ℕ, ◌+◌, ◌-◌, ◌≡◌, ◌<◌, ◌≤◌, List, [], ◌∷◌, ◌++◌, true, nat_lt, length, take, Option, Some, None, Result, Ok, Err, if◌then◌else◌}
 use Rattle.std.specs.Io.KnownBytes.{prepend_known}
 use Rattle.std.specs.Option.{option_map}
 use Rattle.obj_lines.specs.declared.limits.TheConstants.{MOST_LINE_BYTES, MOST_TEXT_BYTES}
@@ -9,7 +9,11 @@ use Rattle.obj_lines.specs.Feeding.{Feeding, is_going, open_line}
 use Rattle.obj_read.specs.declared.fault.ObjFault.{ObjFault}
 use Rattle.obj_read.specs.declared.fault.ObjFault.TheVariants as faults
 use Rattle.obj_read.specs.declared.step.Progress.{Progress}
+use Rattle.obj_scan.specs.declared.fault.ScanFault.{ScanFault}
+use Rattle.obj_scan.specs.declared.fault.ScanFault.TheVariants as scan_faults
 use Rattle.obj_scan.specs.declared.scanner.Scanner.{Scanner}
+use Rattle.obj_scan.specs.Forms.{line_content, form_fault}
+use Rattle.obj_scan.specs.Refusals.{LineFault}
 use Rattle.obj_scan.specs.Judged.{Scanned, Found, scanned_line, with_scanned}
 use Rattle.obj_scan.specs.Meaning.{ScannedSoFar, scan_meaning_from, scan_meaning_of, IsWithinLimits}
 use Rattle.obj_scan.specs.Fails.{scanned_of}
@@ -47,6 +51,20 @@ taken h text =
     if nat_lt MOST_LINE_BYTES (length (h.begun ++ text)) then Err faults.LineTooLong
     else if is_continued text then Ok (record { continued = h.continued + 1; begun = take (length (h.begun ++ text) - 1) (h.begun ++ text) ++ 32 ∷ []; scanned = h.scanned })
     else ended (scanned_after h.scanned (h.begun ++ text))
+
+-- A fault of what is read is the first line's of those that go together.
+abbrev pub named : ℕ → Result HeldLines ObjFault → Result HeldLines LineFault
+named line (Ok h) = Ok h
+named line (Err e) = Err (record { fault = scan_faults.Line e; line = line })
+
+-- A line whose form is right gives what is read of it.
+abbrev pub if_formed : Option ScanFault → ℕ → Result HeldLines LineFault → Result HeldLines LineFault
+if_formed (Some fault) number taken = Err (record { fault = fault; line = number })
+if_formed None number taken = taken
+
+-- The line with this number, which stands here without its LF: what is held after it, or its first fault.
+unfoldable pub line_taken : ℕ → HeldLines → List ℕ → Result HeldLines LineFault
+line_taken number h text = if_formed (form_fault number text) number (named (number - h.continued) (taken h (line_content number text)))
 
 -- So many bytes, and this is the number of the next line.
 abbrev pub after_lines : ℕ → ℕ → HeldLines → ScannedSoFar

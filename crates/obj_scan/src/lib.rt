@@ -2,13 +2,17 @@
 //! continued lines.
 #![tactic(auto)]
 
+mod fault;
 mod fields;
+mod form;
+mod line;
 mod polygons;
 mod scan;
 mod scanner;
 mod step;
 mod theory;
 
+pub use fault::{ScanFail, ScanFault};
 pub use scan::{Scan, scan_obj};
 pub use theory::scans_are_sound;
 

@@ -2,15 +2,17 @@
 ghost use Rattle.std.specs.Prelude.{◌≡◌, false, Ok, IfOk, IfErr, OnOk, IfSome};
 ghost use Rattle.pm_io.specs.Bytes.{AtEnd};
 ghost use Rattle.pm_io.specs.Causes.{HasCause};
-ghost use Rattle.obj_read.specs.Fails.{of_source};
 ghost use Rattle.obj_scan.specs.Fails.{ExplainsScan, scanned_of};
 ghost use Rattle.obj_scan.specs.Meaning.{scan_meaning_of, IsWithinLimits};
+ghost use Rattle.obj_scan.specs.Refusals.{of_source};
 
+use crate::fault::ScanFail;
+use crate::form::Returns;
 use crate::scanner::Scanner;
 use crate::step::{finish, step};
 use obj_lines::Lines;
 use obj_prepare::ExactPoint;
-use obj_read::{ObjFail, Progress};
+use obj_read::Progress;
 use pm_base::Corners;
 use pm_io::{Source, Taker};
 use std::alloc::Global;
@@ -25,6 +27,9 @@ pub struct Scan {
 
 /// Reads a source to its end, and answers the points and triangles that its bytes spell.
 ///
+/// A byte order mark at the first byte is passed over; a text that begins as one of 16 bits a letter is refused, and so is a
+/// line with a CR that doesn't end it.
+///
 /// Lines that begin with neither `v` nor `f` are skipped, and one that ends in a backslash is continued by the next. A
 /// coordinate is the nearest whole number of 10^-18. A polygon is cut into triangles, begun at the corner whose point is
 /// least. All bytes that are held are judged before more are asked for, so a fault is answered as soon as the byte that
@@ -32,7 +37,7 @@ pub struct Scan {
 ///
 /// Each byte, and each corner, is looked at a constant number of times. Memory is taken for the window, for one line, for
 /// lines that are continued, for the corners of one face, and for what is read.
-pub fn scan_obj<S: Source>(alloc: Global, source: &mut S) -> Result<Scan, ObjFail>
+pub fn scan_obj<S: Source>(alloc: Global, source: &mut S) -> Result<Scan, ScanFail>
     requires { S.ended source.old ≡ false }
     ensures ok { IfOk result (λ s. IfSome (S.left source.old) (λ bytes. scan_meaning_of bytes ≡ Ok (scanned_of s))) }
     ensures within { IfOk result (λ s. IsWithinLimits (scanned_of s)) }
@@ -41,21 +46,29 @@ pub fn scan_obj<S: Source>(alloc: Global, source: &mut S) -> Result<Scan, ObjFai
     ensures cause { HasCause (S.faults source.old) (S.faults source.new) (of_source result) }
 {
     let Ok(mut taker) = Taker::new(alloc) else {
-        return Err(ObjFail::OutOfMemory);
+        return Err(ScanFail::OutOfMemory);
     };
     let Ok(mut lines) = Lines::new(alloc) else {
-        return Err(ObjFail::OutOfMemory);
+        return Err(ScanFail::OutOfMemory);
     };
     let mut scanner = Scanner::new(alloc);
+    let mut returns = Returns::Without;
     let mut progress = Progress {
         taken: 0,
         start: 0,
         number: 1,
     };
     loop {
-        match step(source, &mut taker, &mut lines, &mut scanner, &mut progress) {
+        match step(
+            source,
+            &mut taker,
+            &mut lines,
+            &mut scanner,
+            &mut returns,
+            &mut progress,
+        ) {
             Err(fail) => return Err(fail),
-            Ok(false) => return finish(scanner, lines, progress),
+            Ok(false) => return finish(scanner, lines, returns, progress),
             Ok(true) => {}
         }
     }

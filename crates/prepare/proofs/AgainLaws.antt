@@ -24,10 +24,10 @@ use Rattle.obj_prepare.proofs.AgainLaws.{prepared_again}
 use Rattle.obj_prepare.proofs.PlacingLaws.{length-places_of}
 use Rattle.prepare.specs.declared.fault.Fault.{Fault}
 use Rattle.prepare.specs.Texts.{output_text, notes_text}
-use Rattle.prepare.specs.Outcome.{Done, MakesPrepared, IsPreparedText, bad_line, too_many, made}
+use Rattle.prepare.specs.Outcome.{Done, MakesPrepared, IsPreparedText, bad_line, too_many, no_face, made}
 use Rattle.prepare.specs.Laws.{ComesBack, TextsComeBack}
 use Rattle.prepare.proofs.ScannedLaws.{meaning_sound}
-use Rattle.prepare.proofs.ReadLaws.{made_on_grid, mesh_is_read}
+use Rattle.prepare.proofs.ReadLaws.{made_on_grid, mesh_is_read, made_formed}
 use Rattle.prepare.proofs.StandingLaws.{standing_fit, standing_places}
 use Rattle.prepare.proofs.RestoredLaws.{none_flat, none_double, none_unnamed, split_as_joined}
 
@@ -48,12 +48,12 @@ numbered m p = (p, record { joined = refl; flat = refl; double = refl; cut = ref
 
 -- What is written and said where a mesh is made of itself.
 abbrev standing_done : Mesh → Notes → Done
-standing_done m notes = record { text = output_text fits.Standing m; notes = notes_text 0 notes fits.Standing m.faces }
+standing_done m notes = record { text = output_text fits.Standing m; notes = notes_text 0 notes fits.Standing }
 
 -- A mesh on the grid all of whose vertices are used is made of its own points in units.
-makes_itself : (m : Mesh) (notes : Notes) → IsWellFormed m → IsOrientedManifold (net_of m.faces) → All IsPlace m.points → ((v : ℕ) → v < length m.points → IsUsed (net_of m.faces) v)
+makes_itself : (m : Mesh) (notes : Notes) → IsWellFormed m → IsOrientedManifold (net_of m.faces) → 0 < length m.faces → All IsPlace m.points → ((v : ℕ) → v < length m.points → IsUsed (net_of m.faces) v)
     → IsPreparedWith m.points m.faces m notes → MakesPrepared None (scanned_mesh m) (standing_done m notes)
-makes_itself m notes formed manifold placed used prepared =
+makes_itself m notes formed manifold some placed used prepared =
     let fit = standing_fit m.points m.faces placed in
     record {
       mesh = m;
@@ -61,8 +61,9 @@ makes_itself m notes formed manifold placed used prepared =
       prepared = subst (λ ps. IsPreparedWith ps m.faces m notes) (sym (standing_places m.points m.faces placed used)) prepared;
       formed = formed;
       manifold = manifold;
+      some = some;
       text_is = ap (λ (f : Fit). output_text f m) (sym fit);
-      notes_are = ap (λ (f : Fit). notes_text 0 notes f m.faces) (sym fit);
+      notes_are = ap (notes_text 0 notes) (sym fit);
     }
 
 corners_of : (n : ℕ) (faces : List Corners) → All (IsFace n) faces → All (AreVerticesBelow n) faces
@@ -90,14 +91,15 @@ made_comes_back size bytes s done is means k read =
       flat = none_flat m used again;
       double = none_double m used again;
       unnamed = none_unnamed m used again;
-      outcome = made (scanned_mesh m) (standing_done m (numbers m again)) (read_scanned done.text m read)
-          (makes_itself m (numbers m again) k.formed k.manifold (made_on_grid size s done is k) used told);
+      outcome = made (scanned_mesh m) (standing_done m (numbers m again)) (read_scanned done.text m (made_formed size bytes s done is means k) read)
+          (makes_itself m (numbers m again) k.formed k.manifold k.some (made_on_grid size s done is k) used told);
     }
 
 outcome_comes_back : (size : Option ℕ) (bytes : List ℕ) (r : Result Done Fault) (place : Option ℕ) → IsSize size → IsPreparedText size bytes r place
     → IfOk r (λ done. (m : Mesh) → meaning_of 0 done.text ≡ Ok m → ComesBack done.text m)
 outcome_comes_back size bytes found place is (bad_line r means) = tt
 outcome_comes_back size bytes found place is (too_many s means many) = tt
+outcome_comes_back size bytes found place is (no_face s means none) = tt
 outcome_comes_back size bytes found place is (made s done means k) = λ m read.
     let own = mesh_is_read size bytes s done is means k in
     subst (ComesBack done.text) (one_mesh (meaning_of 0 done.text) k.mesh m own read) (made_comes_back size bytes s done is means k own)

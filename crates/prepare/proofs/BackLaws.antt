@@ -1,7 +1,6 @@
 -- The first line of what is written leads back to the points of the text.
 use Rattle.std.proofs.Common.{◌≡◌, ℕ, ◌<◌, List, ◌++◌, length, Option, Result, Ok, IfOk, refl, sym, ap, ◌∙◌, subst, arith}
 use Rattle.std.specs.List.{All}
-use Rattle.std.proofs.lemmas.Bool.{cond-false, ne_eqb}
 use Rattle.pm_base.specs.declared.mesh.Corners.{Corners}
 use Rattle.pm_base.specs.Place.{Place}
 use Rattle.pm_base.specs.Meshes.{Mesh}
@@ -19,8 +18,8 @@ use Rattle.obj_prepare.proofs.AgainLaws.{place_from}
 use Rattle.obj_prepare.proofs.BackLaws.{places_lead_back}
 use Rattle.obj_prepare.proofs.PlacingLaws.{length-places_of}
 use Rattle.prepare.specs.declared.fault.Fault.{Fault}
-use Rattle.prepare.specs.Texts.{fit_line, fit_head_line}
-use Rattle.prepare.specs.Outcome.{Done, MakesPrepared, IsPreparedText, bad_line, too_many, made}
+use Rattle.prepare.specs.Texts.{head_line}
+use Rattle.prepare.specs.Outcome.{Done, MakesPrepared, IsPreparedText, bad_line, too_many, no_face, made}
 use Rattle.prepare.specs.Laws.{LineLeadsBack, as_it_stood, near, TextLeadsBack, TextsLeadBack}
 use Rattle.prepare.proofs.ScannedLaws.{meaning_sound}
 use Rattle.prepare.proofs.GridLaws.{IsMeasured, fit_of_measured}
@@ -30,18 +29,13 @@ use Rattle.prepare.proofs.AgainLaws.{one_mesh}
 use Rattle.prepare.proofs.ReadLaws.{mesh_is_read}
 
 -- The line of points that were brought onto the grid so.
-line_leads : (fit : Fit) (place p : Place) → IsMeasured fit → LeadsBack fit place p → LineLeadsBack (fit_line fit) place p
+line_leads : (fit : Fit) (place p : Place) → IsMeasured fit → LeadsBack fit place p → LineLeadsBack (head_line fit) place p
 line_leads fits.Standing place p measured leads = as_it_stood refl leads
 line_leads (fits.Scaled size b) place p (few, low, high) leads = near (way_back_of size b) (tells_way size b few low high) leads
 
--- Where there are faces this is the first line.
-head_is : (fit : Fit) (faces : List Corners) → 0 < length faces → fit_head_line fit faces ≡ fit_line fit
-unfolding fit_head_line
-head_is fit faces some = cond-false _ _ _ (ne_eqb (length faces) 0 (λ none. absurd (omega (arith, some, none))))
-
-made_leads_back : (size : Option ℕ) (bytes : List ℕ) (s : Scanned) (done : Done) → IsSize size → scan_meaning_of bytes ≡ Ok s → (k : MakesPrepared size s done) → 0 < length k.mesh.faces
+made_leads_back : (size : Option ℕ) (bytes : List ℕ) (s : Scanned) (done : Done) → IsSize size → scan_meaning_of bytes ≡ Ok s → (k : MakesPrepared size s done)
     → TextLeadsBack s (prepared_places_of size s.points s.faces) done.text k.mesh
-made_leads_back size bytes s done is means k some =
+made_leads_back size bytes s done is means k =
     let fit : Fit = fit_of size s.points s.faces in
     let places = prepared_places_of size s.points s.faces in
     let sound = meaning_sound bytes s means in
@@ -49,8 +43,8 @@ made_leads_back size bytes s done is means k some =
     let long : length places ≡ length s.points = length-places_of size s.points s.faces in
     let own = subst (λ (n : ℕ). All (AreVerticesBelow n) s.faces) (sym long) sound.scanning.within.corners in
     record {
-      line = fit_line fit;
-      text_is = k.text_is ∙ ap (λ (head : List ℕ). head ++ canonical_text 0 k.mesh) (head_is fit k.mesh.faces some);
+      line = head_line fit;
+      text_is = k.text_is;
       back = λ v l named. line_leads fit (place_in_list places v) (place_in_list s.points v) measured (places_lead_back size s.points s.faces v is l named);
       from = λ w l. let (v, low, named, same) = place_from places s.faces k.mesh own k.prepared.0 w l in (v, subst (λ (n : ℕ). v < n) long low, named, same);
     }
@@ -59,12 +53,12 @@ outcome_leads_back : (size : Option ℕ) (bytes : List ℕ) (r : Result Done Fau
     → IfOk r (λ done. (s : Scanned) (m : Mesh) → scan_meaning_of bytes ≡ Ok s → meaning_of 0 done.text ≡ Ok m → 0 < length m.faces → TextLeadsBack s (prepared_places_of size s.points s.faces) done.text m)
 outcome_leads_back size bytes found place is (bad_line r means) = tt
 outcome_leads_back size bytes found place is (too_many s means many) = tt
+outcome_leads_back size bytes found place is (no_face s means none) = tt
 outcome_leads_back size bytes found place is (made t done means k) = λ s m spells read some.
     let own = one_mesh (meaning_of 0 done.text) k.mesh m (mesh_is_read size bytes t done is means k) read in
     let same = one_scanned (scan_meaning_of bytes) t s means spells in
-    let made_some : 0 < length k.mesh.faces = subst (λ (n : Mesh). 0 < length n.faces) (sym own) some in
     subst (λ (u : Scanned). TextLeadsBack u (prepared_places_of size u.points u.faces) done.text m) same
-    (subst (TextLeadsBack t (prepared_places_of size t.points t.faces) done.text) own (made_leads_back size bytes t done is means k made_some))
+    (subst (TextLeadsBack t (prepared_places_of size t.points t.faces) done.text) own (made_leads_back size bytes t done is means k))
 
 pub texts_lead_back : TextsLeadBack
 texts_lead_back size bytes s done place m is spells outcome read some = outcome_leads_back size bytes (Ok done) place is outcome s m spells read some

@@ -1,29 +1,28 @@
 -- What a text gives is what its mesh is made of.
-use Rattle.std.proofs.Common.{◌≡◌, ℕ, ◌<◌, List, ◌++◌, length, Option, Some, None, IfSome, Result, Ok, Err, refl, ◌∙◌, ap, subst}
+use Rattle.std.proofs.Common.{◌≡◌, ℕ, ◌<◌, List, ◌++◌, length, Option, Some, None, IfSome, Result, Ok, Err, refl, sym, ◌∙◌, ap, subst}
 use Rattle.pm_base.specs.declared.mesh.Corners.{Corners}
 use Rattle.pm_base.specs.Place.{Place}
 use Rattle.pm_base.specs.Meshes.{Mesh, IsWellFormed}
 use Rattle.pm_base.specs.Sides.{net_of}
 use Rattle.pm_base.specs.Fans.{IsOrientedManifold}
 use Rattle.pm_base.specs.Canonical.{canonical_text}
-use Rattle.obj_read.specs.declared.fault.ObjFault.{ObjFault}
-use Rattle.obj_read.specs.Meaning.{Refused}
+use Rattle.obj_scan.specs.declared.fault.ScanFault.{ScanFault}
+use Rattle.obj_scan.specs.Refusals.{Refused, IsRefusal, FaultNotReached}
 use Rattle.obj_scan.specs.Judged.{Scanned}
 use Rattle.obj_scan.specs.Meaning.{scan_meaning_of, IsWithinLimits}
 use Rattle.obj_scan.specs.Fails.{ScanFailsBefore}
-use Rattle.obj_read.specs.Fails.{IsRefusal, FaultNotReached}
 use Rattle.obj_prepare.specs.declared.notes.Notes.{Notes}
 use Rattle.obj_prepare.specs.declared.placing.Fit.{Fit}
 use Rattle.obj_prepare.specs.Placing.{fit_of, prepared_places_of}
-use Rattle.obj_prepare.specs.Prepared.{IsPreparedWith}
+use Rattle.obj_prepare.specs.Prepared.{IsPrepared, IsPreparedWith}
 use Rattle.obj_prepare.proofs.PlacingLaws.{length-places_of}
-use Rattle.prepare.specs.Texts.{fit_head_line, notes_text}
+use Rattle.prepare.specs.Texts.{head_line, notes_text}
 use Rattle.obj_prepare.specs.Named.{IsWithinMesh as IsNamedWithin}
 use Rattle.prepare.specs.declared.fault.Fault.{Fault}
 use Rattle.prepare.specs.declared.fault.Fault.TheVariants as faults
 use Rattle.prepare.specs.declared.fault.InputFail.{InputFail}
 use Rattle.prepare.specs.declared.fault.InputFail.TheVariants as input
-use Rattle.prepare.specs.Outcome.{Done, MakesPrepared, IsPreparedText, bad_line, too_many, made}
+use Rattle.prepare.specs.Outcome.{Done, MakesPrepared, IsPreparedText, LeavesNoFace, bad_line, too_many, no_face, made}
 use Rattle.prepare.specs.Making.{IsMakeFail}
 use Rattle.prepare.specs.Ending.{HasPreparedFault, PlaceUnreached, StopsPreparing}
 
@@ -44,9 +43,9 @@ placed_within size s points faces places lent again within points_are faces_are 
 
 pub makes_done : (size : Option ℕ) (s : Scanned) (points : List Place) (faces : List Corners) (fit : Fit) (places lent : List Place) (again : List Corners) (m : Mesh) (notes : Notes) (shown : List Corners) (head said : List ℕ)
     → points ≡ s.points → faces ≡ s.faces → fit ≡ fit_of size points faces → places ≡ prepared_places_of size points faces → lent ≡ places → again ≡ s.faces
-    → IsPreparedWith lent again m notes → IsWellFormed m → IsOrientedManifold (net_of m.faces) → shown ≡ m.faces → head ≡ fit_head_line fit shown → said ≡ notes_text s.polygons notes fit shown
+    → IsPreparedWith lent again m notes → IsWellFormed m → IsOrientedManifold (net_of m.faces) → shown ≡ m.faces → 0 < length shown → head ≡ head_line fit → said ≡ notes_text s.polygons notes fit
     → MakesPrepared size s (record { text = head ++ canonical_text 0 m; notes = said })
-makes_done size s points faces fit places lent again m notes shown head said points_are faces_are fit_is placed lent_is same prepared formed manifold shown_is head_is said_is =
+makes_done size s points faces fit places lent again m notes shown head said points_are faces_are fit_is placed lent_is same prepared formed manifold shown_is some head_is said_is =
     let fit_same : fit ≡ fit_of size s.points s.faces = fit_is ∙ ap (λ ps. fit_of size ps faces) points_are ∙ ap (λ fs. fit_of size s.points fs) faces_are in
     let places_same : lent ≡ prepared_places_of size s.points s.faces = lent_is ∙ placed ∙ ap (λ ps. prepared_places_of size ps faces) points_are ∙ ap (λ fs. prepared_places_of size s.points fs) faces_are in
     record {
@@ -55,20 +54,32 @@ makes_done size s points faces fit places lent again m notes shown head said poi
       prepared = subst (λ fs. IsPreparedWith (prepared_places_of size s.points s.faces) fs m notes) same (subst (λ ps. IsPreparedWith ps again m notes) places_same prepared);
       formed = formed;
       manifold = manifold;
-      text_is = ap (λ h. h ++ canonical_text 0 m) (head_is ∙ ap (λ f. fit_head_line f shown) fit_same ∙ ap (fit_head_line (fit_of size s.points s.faces)) shown_is);
-      notes_are = said_is ∙ ap (λ f. notes_text s.polygons notes f shown) fit_same ∙ ap (notes_text s.polygons notes (fit_of size s.points s.faces)) shown_is;
+      some = subst (λ (fs : List Corners). 0 < length fs) shown_is some;
+      text_is = ap (λ h. h ++ canonical_text 0 m) (head_is ∙ ap head_line fit_same);
+      notes_are = said_is ∙ ap (notes_text s.polygons notes) fit_same;
+    }
+
+pub leaves_none : (size : Option ℕ) (s : Scanned) (points : List Place) (faces : List Corners) (places lent : List Place) (again : List Corners) (m : Mesh) (shown : List Corners)
+    → points ≡ s.points → faces ≡ s.faces → places ≡ prepared_places_of size points faces → lent ≡ places → again ≡ s.faces → IsPrepared lent again m → shown ≡ m.faces → length shown ≡ 0
+    → LeavesNoFace (prepared_places_of size s.points s.faces) s.faces
+leaves_none size s points faces places lent again m shown points_are faces_are placed lent_is same prepared shown_is none =
+    let places_same : lent ≡ prepared_places_of size s.points s.faces = lent_is ∙ placed ∙ ap (λ ps. prepared_places_of size ps faces) points_are ∙ ap (λ fs. prepared_places_of size s.points fs) faces_are in
+    record {
+      mesh = m;
+      prepared = subst (λ fs. IsPrepared (prepared_places_of size s.points s.faces) fs m) same (subst (λ ps. IsPrepared ps again m) places_same prepared);
+      none = ap length (sym shown_is) ∙ none;
     }
 
 -- What follows where the source tells its bytes.
 module _ (size : Option ℕ) where
-  refuses_line : (bytes : List ℕ) (fault : ObjFault) (line : ℕ) (r : Result Scanned Refused) → scan_meaning_of bytes ≡ r → IsRefusal fault line r → HasPreparedFault size bytes (faults.Obj fault line)
+  refuses_line : (bytes : List ℕ) (fault : ScanFault) (line : ℕ) (r : Result Scanned Refused) → scan_meaning_of bytes ≡ r → IsRefusal fault line r → HasPreparedFault size bytes (faults.Line fault line)
   refuses_line bytes fault line (Ok s) is refusal = absurd refusal
   refuses_line bytes fault line (Err r) is refusal = record {
     place = r.place;
-    outcome = subst (λ (f : Fault). IsPreparedText size bytes (Err f) r.place) (ap (λ (e : ObjFault). faults.Obj e r.line) refusal.0 ∙ ap (λ (n : ℕ). faults.Obj fault n) refusal.1) (bad_line r is);
+    outcome = subst (λ (f : Fault). IsPreparedText size bytes (Err f) r.place) (ap (λ (e : ScanFault). faults.Line e r.line) refusal.0 ∙ ap (λ (n : ℕ). faults.Line fault n) refusal.1) (bad_line r is);
   }
 
-  pub line_refuses : (left : Option (List ℕ)) (fault : ObjFault) (line : ℕ) → IfSome left (λ bytes. IsRefusal fault line (scan_meaning_of bytes)) → IfSome left (λ bytes. HasPreparedFault size bytes (faults.Obj fault line))
+  pub line_refuses : (left : Option (List ℕ)) (fault : ScanFault) (line : ℕ) → IfSome left (λ bytes. IsRefusal fault line (scan_meaning_of bytes)) → IfSome left (λ bytes. HasPreparedFault size bytes (faults.Line fault line))
   line_refuses None fault line is = tt
   line_refuses (Some bytes) fault line is = refuses_line bytes fault line (scan_meaning_of bytes) refl is
 
@@ -76,6 +87,7 @@ module _ (size : Option ℕ) where
   text_before : (bytes : List ℕ) (taken : ℕ) → FaultNotReached taken (scan_meaning_of bytes) → (r : Result Done Fault) (place : Option ℕ) → IsPreparedText size bytes r place → IfSome place (λ n. taken < n)
   text_before bytes taken before found place (bad_line r is) = subst (λ (m : Result Scanned Refused). FaultNotReached taken m) is before
   text_before bytes taken before found place (too_many s is many) = tt
+  text_before bytes taken before found place (no_face s is none) = tt
   text_before bytes taken before found place (made s done is makes) = tt
 
   pub text_unreached : (left now : Option (List ℕ)) → ScanFailsBefore left now → PlaceUnreached size left now
@@ -87,9 +99,11 @@ module _ (size : Option ℕ) where
       before (Some bytes) is = text_before bytes (length fails.taken) is
 
   pub make_stops : (left now : Option (List ℕ)) (s : Scanned) (e : InputFail) (in_old in_new : ℕ) → IfSome left (λ bytes. scan_meaning_of bytes ≡ Ok s) → in_new ≡ in_old → IsMakeFail size s e → StopsPreparing size e left now in_old in_new
-  make_stops left now s (input.Faulty (faults.Obj e n)) in_old in_new is same fail = absurd fail
+  make_stops left now s (input.Faulty (faults.Line e n)) in_old in_new is same fail = absurd fail
   make_stops None now s (input.Faulty faults.TooMany) in_old in_new is same fail = (tt, same)
   make_stops (Some bytes) now s (input.Faulty faults.TooMany) in_old in_new is same fail = (record { place = None; outcome = too_many s is fail }, same)
+  make_stops None now s (input.Faulty faults.NoFaces) in_old in_new is same fail = (tt, same)
+  make_stops (Some bytes) now s (input.Faulty faults.NoFaces) in_old in_new is same fail = (record { place = None; outcome = no_face s is fail }, same)
   make_stops left now s input.Read in_old in_new is same fail = absurd fail
   make_stops left now s input.OutOfMemory in_old in_new is same fail = same
 

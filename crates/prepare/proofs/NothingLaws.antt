@@ -95,6 +95,6 @@ four_ends : (line : List ℕ) → line ++ [] ++ [] ++ [] ++ [] ≡ line
 four_ends line = append-nil (line ++ [] ++ [] ++ []) ∙ append-nil (line ++ [] ++ []) ∙ append-nil (line ++ []) ∙ append-nil line
 
 -- Only polygons that were cut are told.
-pub nothing_said : (polygons : ℕ) (fit : Fit) (faces : List Corners) → notes_text polygons nothing_done fit faces ≡ note_line (codes "polygons cut") polygons ++ last_note fit faces
+pub nothing_said : (polygons : ℕ) (fit : Fit) → notes_text polygons nothing_done fit ≡ note_line (codes "polygons cut") polygons ++ last_note fit
 unfolding notes_text face_notes vertex_notes note_line
-nothing_said polygons fit faces = ap (λ (line : List ℕ). line ++ last_note fit faces) (four_ends (note_line (codes "polygons cut") polygons))
+nothing_said polygons fit = ap (λ (line : List ℕ). line ++ last_note fit) (four_ends (note_line (codes "polygons cut") polygons))

@@ -7,9 +7,11 @@ use Rattle.obj_read.specs.Meaning.{meaning_of}
 use Rattle.obj_read.proofs.CommentLaws.{commented_is_read}
 use Rattle.obj_scan.specs.Judged.{Scanned}
 use Rattle.obj_scan.specs.Meaning.{scan_meaning_of}
+use Rattle.obj_scan.specs.Laws.{IsFormed}
+use Rattle.obj_scan.proofs.FormLaws.{commented_formed}
 use Rattle.obj_prepare.specs.Placing.{IsSize, fit_of, prepared_places_of}
 use Rattle.prepare.specs.declared.fault.Fault.{Fault}
-use Rattle.prepare.specs.Outcome.{Done, MakesPrepared, IsPreparedText, bad_line, too_many, made}
+use Rattle.prepare.specs.Outcome.{Done, MakesPrepared, IsPreparedText, bad_line, too_many, no_face, made}
 use Rattle.prepare.specs.Laws.{IsFitText, TextsAreRead}
 use Rattle.prepare.proofs.ScannedLaws.{meaning_sound}
 use Rattle.prepare.proofs.GridLaws.{places_on_grid, taken_on_grid, fit_of_measured}
@@ -25,13 +27,14 @@ made_on_grid size s done is m =
 made_is_read : (size : Option ℕ) (bytes : List ℕ) (s : Scanned) (done : Done) → IsSize size → scan_meaning_of bytes ≡ Ok s → MakesPrepared size s done → IsFitText done.text
 made_is_read size bytes s done is means m =
     let fit = fit_of size s.points s.faces in
-    let head = head_comment fit m.mesh.faces (fit_of_measured size s.points s.faces is (meaning_sound bytes s means).exact) in
+    let head = head_comment fit (fit_of_measured size s.points s.faces is (meaning_sound bytes s means).exact) in
     let text = canonical_text 0 m.mesh in
     let text_is : done.text ≡ (35 ∷ head.line) ++ 10 ∷ text = m.text_is ∙ ap (λ (h : List ℕ). h ++ text) head.text_is ∙ append_assoc (35 ∷ head.line) (10 ∷ []) text in
     record {
       mesh = m.mesh;
       line = head.line;
       line_is = head.line_is;
+      plain = head.plain;
       text_is = text_is;
       formed = m.formed;
       manifold = m.manifold;
@@ -42,9 +45,17 @@ pub mesh_is_read : (size : Option ℕ) (bytes : List ℕ) (s : Scanned) (done : 
 unfolding made_is_read
 mesh_is_read size bytes s done is means m = (made_is_read size bytes s done is means m).read
 
+-- Its lines are well formed.
+pub made_formed : (size : Option ℕ) (bytes : List ℕ) (s : Scanned) (done : Done) → IsSize size → scan_meaning_of bytes ≡ Ok s → (m : MakesPrepared size s done) → IsFormed done.text
+unfolding made_is_read
+made_formed size bytes s done is means m =
+    let read = made_is_read size bytes s done is means m in
+    subst IsFormed (sym read.text_is) (commented_formed read.line m.mesh read.plain m.formed (made_on_grid size s done is m))
+
 outcome_is_read : (size : Option ℕ) (bytes : List ℕ) (r : Result Done Fault) (place : Option ℕ) → IsSize size → IsPreparedText size bytes r place → IfOk r (λ done. IsFitText done.text)
 outcome_is_read size bytes found place is (bad_line r means) = tt
 outcome_is_read size bytes found place is (too_many s means many) = tt
+outcome_is_read size bytes found place is (no_face s means none) = tt
 outcome_is_read size bytes found place is (made s done means makes) = made_is_read size bytes s done is means makes
 
 pub texts_are_read : TextsAreRead

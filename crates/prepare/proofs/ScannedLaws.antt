@@ -5,13 +5,14 @@ use Rattle.std.specs.List.{All}
 use Rattle.std.proofs.lemmas.Bool.{ltb-false, or_parts}
 use Rattle.std.proofs.lemmas.Bool.Decides.{nat_tests}
 use Rattle.std.proofs.lemmas.List.Elements.{All-nil, All-cons, All-push}
-use Rattle.obj_lines.specs.Text.{until, content, lines, is_continued}
+use Rattle.obj_lines.specs.Text.{until, lines, is_continued}
 use Rattle.obj_read.specs.declared.fault.ObjFault.{ObjFault}
 use Rattle.obj_read.specs.declared.fault.ObjFault.TheVariants as faults
 use Rattle.obj_read.specs.Fields.{fields}
 use Rattle.obj_read.specs.Coordinates.{with_sign, without_sign, is_negative}
 use Rattle.obj_read.specs.Indices.{index_text}
-use Rattle.obj_read.specs.Meaning.{Refused}
+use Rattle.obj_scan.specs.Forms.{line_content}
+use Rattle.obj_scan.specs.Refusals.{Refused}
 use Rattle.obj_read.proofs.FormedLaws.{Gives, given, then_gives, unless, either, index_within, not_full}
 use Rattle.obj_read.proofs.DecimalLaws.{with_sign_abs}
 use Rattle.obj_prepare.specs.Exact.{AreExact}
@@ -109,7 +110,7 @@ then_found_sound (Err e) s line suits sound = record { so = tt }
 judged_sound : (s : ScannedSoFar) (line : List ℕ) → AfterSound s → Gives AfterSound (line_judged s line)
 unfolding line_judged and_continued
 judged_sound s line sound =
-    either AfterSound (is_continued (content (until 10 line))) _ _ (given AfterSound (and_continued s line) sound)
+    either AfterSound (is_continued (line_content s.number (until 10 line))) _ _ (given AfterSound (and_continued s line) sound)
     (then_found_sound (scanned_line (length s.scanned.points) (length s.scanned.faces) (joined_text s line)) s line (line_suits _ _ (joined_text s line)) sound)
 
 then_lines_sound : (r : Option Refused) (next : Result ScannedSoFar ObjFault) (s : ScannedSoFar) (line : List ℕ) (more : ScannedSoFar → Result Scanned Refused) → Gives AfterSound next

@@ -61,8 +61,9 @@ stays_made size bytes s means needs =
       prepared = (p, nothing_told m within.corners needs.manifold needs.fit p);
       formed = itself_formed places s.faces within p;
       manifold = needs.manifold;
+      some = needs.some;
       text_is = refl;
-      notes_are = sym (nothing_said s.polygons (fit_of size s.points s.faces) s.faces);
+      notes_are = sym (nothing_said s.polygons (fit_of size s.points s.faces));
     }
 
 pub fit_scans_stay : FitScansStay
@@ -70,24 +71,25 @@ fit_scans_stay size bytes s means needs = made s (as_it_is size s) means (stays_
 
 -- A mesh on the grid all of whose vertices are used stands as it is.
 stands_as_it_is : (m : Mesh) → All IsPlace m.points → ((v : ℕ) → v < length m.points → IsUsed (net_of m.faces) v)
-    → as_it_is None (scanned_mesh m) ≡ record { text = output_text fits.Standing m; notes = last_note fits.Standing m.faces }
+    → as_it_is None (scanned_mesh m) ≡ record { text = output_text fits.Standing m; notes = last_note fits.Standing }
 unfolding note_line
 stands_as_it_is m placed used =
     let fit = standing_fit m.points m.faces placed in
     let places = standing_places m.points m.faces placed used in
-    λ i. record { text = output_text (fit i) (record { points = places i; faces = m.faces }); notes = last_note (fit i) m.faces }
+    λ i. record { text = output_text (fit i) (record { points = places i; faces = m.faces }); notes = last_note (fit i) }
 
 pub fit_texts_stay : FitTextsStay
-fit_texts_stay bytes m read manifold fit =
+fit_texts_stay bytes m formed_so read some manifold fit =
     let formed = meaning_formed 0 bytes m read in
     let placed = meaning_placed 0 bytes m read in
     let places = standing_places m.points m.faces placed fit.used in
     let needs : NeedsNothing None (scanned_mesh m) = record {
+      some = some;
       stand = λ e l. (mesh_side m formed e l).0;
       manifold = manifold;
       fit = subst (λ (ps : List Place). AreFit ps m.faces) (sym places) fit;
     } in
-    subst (λ (d : Done). IsPreparedText None bytes (Ok d) None) (stands_as_it_is m placed fit.used) (fit_scans_stay None bytes (scanned_mesh m) (read_scanned bytes m read) needs)
+    subst (λ (d : Done). IsPreparedText None bytes (Ok d) None) (stands_as_it_is m placed fit.used) (fit_scans_stay None bytes (scanned_mesh m) (read_scanned bytes m formed_so read) needs)
 
 one_done : (r : Result Done Fault) (a b : Done) → r ≡ Ok a → r ≡ Ok b → a ≡ b
 one_done r a b is are = cc

@@ -3,7 +3,7 @@ use Rattle.std.specs.Prelude.{◌≡◌, ℕ, ◌<◌, List, ◌++◌, length, O
 use Rattle.std.specs.Fmt.{decimal}
 use Rattle.pm_io.specs.Bytes.{Loses, Gains, GainsPart}
 use Rattle.pm_io.specs.Causes.{Rose}
-use Rattle.obj_read.specs.Numbers.{fault_number}
+use Rattle.obj_scan.specs.Refusals.{fault_number}
 use Rattle.prepare.specs.declared.fault.Fault.{Fault}
 use Rattle.prepare.specs.declared.fault.Fault.TheVariants as faults
 use Rattle.prepare.specs.declared.fault.InputFail.{InputFail}
@@ -53,8 +53,9 @@ pub record Finished (size : Option ℕ) (bytes : List ℕ) (old new err_old err_
 
 -- The line of a fault.
 unfoldable pub prepare_fault_line : Fault → List ℕ
-prepare_fault_line (faults.Obj e n) = codes "prepare: fault " ++ decimal (fault_number e) ++ codes " line " ++ decimal n ++ codes "\n"
+prepare_fault_line (faults.Line e n) = codes "prepare: fault " ++ decimal (fault_number e) ++ codes " line " ++ decimal n ++ codes "\n"
 prepare_fault_line faults.TooMany = codes "prepare: fault 9\n"
+prepare_fault_line faults.NoFaces = codes "prepare: fault 12\n"
 
 unfoldable pub prepare_fail_line : RunFail → List ℕ
 prepare_fail_line (fails.Input (input.Faulty f)) = prepare_fault_line f

@@ -1,4 +1,4 @@
--- The laws of outcomes, each as a statement. Byte 10 is LF, and 35 is `#`.
+-- The laws of outcomes, each as a statement. Byte 10 is LF, 13 is CR, and 35 is `#`.
 use Rattle.std.specs.Prelude.{◌≡◌, ℕ, ◌<◌, ℤ, pos, true, List, ◌∷◌, ◌++◌, length, drop, codes, Option, None, Result, Ok}
 use Rattle.pm_base.specs.Place.{Place}
 use Rattle.pm_base.specs.Meshes.{Mesh, IsWellFormed}
@@ -13,6 +13,7 @@ use Rattle.obj_read.specs.Coordinates.{is_negative, without_sign, decimals, is_n
 use Rattle.obj_read.specs.Meaning.{meaning_of}
 use Rattle.obj_scan.specs.Judged.{Scanned}
 use Rattle.obj_scan.specs.Meaning.{scan_meaning_of}
+use Rattle.obj_scan.specs.Laws.{IsFormed}
 use Rattle.obj_prepare.specs.declared.notes.Notes.{Notes}
 use Rattle.obj_prepare.specs.declared.placing.Fit.TheVariants as fits
 use Rattle.obj_prepare.specs.Named.{is_some_corner}
@@ -34,6 +35,7 @@ pub record IsFitText (text : List ℕ) : Type 0 where
   pub mesh : Mesh
   pub line : List ℕ
   pub line_is : until 10 line ≡ line
+  pub plain : until 13 line ≡ line
   pub text_is : text ≡ (35 ∷ line) ++ 10 ∷ canonical_text 0 mesh
   pub formed : IsWellFormed mesh
   pub manifold : IsOrientedManifold (net_of mesh.faces)
@@ -90,21 +92,22 @@ pub record ComesBack (text : List ℕ) (m : Mesh) : Type 0 where
   pub flat : notes.flat ≡ 0
   pub double : notes.double ≡ 0
   pub unnamed : notes.unnamed ≡ 0
-  pub outcome : IsPreparedText None text (Ok (record { text = output_text fits.Standing m; notes = notes_text 0 notes fits.Standing m.faces })) None
+  pub outcome : IsPreparedText None text (Ok (record { text = output_text fits.Standing m; notes = notes_text 0 notes fits.Standing })) None
 
 -- What is written comes back so, whatever the size was.
 abbrev pub TextsComeBack : Type 0
 TextsComeBack = (size : Option ℕ) (bytes : List ℕ) (done : Done) (place : Option ℕ) (m : Mesh) → IsSize size → IsPreparedText size bytes (Ok done) place → meaning_of 0 done.text ≡ Ok m → ComesBack done.text m
 
--- The text of an oriented manifold whose vertices are used and stand apart comes back with nothing said of it, but where it
--- has no faces.
+-- The text of an oriented manifold with faces whose vertices are used and stand apart comes back with nothing said of it, where
+-- its lines are well formed.
 abbrev pub FitTextsStay : Type 0
-FitTextsStay = (bytes : List ℕ) (m : Mesh) → meaning_of 0 bytes ≡ Ok m → IsOrientedManifold (net_of m.faces) → AreFit m.points m.faces
-    → IsPreparedText None bytes (Ok (record { text = output_text fits.Standing m; notes = last_note fits.Standing m.faces })) None
+FitTextsStay = (bytes : List ℕ) (m : Mesh) → IsFormed bytes → meaning_of 0 bytes ≡ Ok m → 0 < length m.faces → IsOrientedManifold (net_of m.faces) → AreFit m.points m.faces
+    → IsPreparedText None bytes (Ok (record { text = output_text fits.Standing m; notes = last_note fits.Standing })) None
 
--- A text that needs nothing: each triangle has three different corners, the triangles are an oriented manifold, each point is
+-- A text that needs nothing: it has triangles, each of which has three different corners, the triangles are an oriented manifold, each point is
 -- used, and no two come to stand at one place of the grid.
 pub record NeedsNothing (size : Option ℕ) (s : Scanned) : Type 0 where
+  pub some : 0 < length s.faces
   pub stand : AllStand (net_of s.faces)
   pub manifold : IsOrientedManifold (net_of s.faces)
   pub fit : AreFit (prepared_places_of size s.points s.faces) s.faces
@@ -113,7 +116,7 @@ pub record NeedsNothing (size : Option ℕ) (s : Scanned) : Type 0 where
 abbrev pub as_it_is : Option ℕ → Scanned → Done
 as_it_is size s = record {
   text = output_text (fit_of size s.points s.faces) (record { points = prepared_places_of size s.points s.faces; faces = s.faces });
-  notes = note_line (codes "polygons cut") s.polygons ++ last_note (fit_of size s.points s.faces) s.faces;
+  notes = note_line (codes "polygons cut") s.polygons ++ last_note (fit_of size s.points s.faces);
 }
 
 -- A text that needs nothing comes back as it is, for each size and for none.

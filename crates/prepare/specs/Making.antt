@@ -9,15 +9,16 @@ use Rattle.prepare.specs.declared.fault.Fault.TheVariants as faults
 use Rattle.prepare.specs.declared.fault.InputFail.{InputFail}
 use Rattle.prepare.specs.declared.fault.InputFail.TheVariants as input
 use Rattle.prepare.specs.declared.make.Made.{Made}
-use Rattle.prepare.specs.Outcome.{Done}
+use Rattle.prepare.specs.Outcome.{Done, LeavesNoFace}
 
 -- The texts that are written and said of it.
 abbrev pub done_of : Made → Done
 done_of m = record { text = m.head.items ++ canonical_text 0 (mesh_of m.mesh); notes = m.notes.items }
 
--- Of points and triangles no mesh is made where too many vertices come out, or memory is wanting.
+-- Of points and triangles no mesh is made where too many vertices come out or no face, or memory is wanting.
 abbrev pub IsMakeFail : Option ℕ → Scanned → InputFail → Type 0
-IsMakeFail size s (input.Faulty (faults.Obj e n)) = ⊥
+IsMakeFail size s (input.Faulty (faults.Line e n)) = ⊥
 IsMakeFail size s (input.Faulty faults.TooMany) = HasTooMany (prepared_places_of size s.points s.faces) s.faces
+IsMakeFail size s (input.Faulty faults.NoFaces) = LeavesNoFace (prepared_places_of size s.points s.faces) s.faces
 IsMakeFail size s input.Read = ⊥
 IsMakeFail size s input.OutOfMemory = Unit {0}

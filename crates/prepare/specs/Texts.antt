@@ -1,7 +1,6 @@
 -- What is written of a mesh that was made, and what is said of it.
-use Rattle.std.specs.Prelude.{ℕ, ◌==◌, pos, List, ◌++◌, length, codes, if◌then◌else◌}
+use Rattle.std.specs.Prelude.{ℕ, ◌==◌, pos, List, ◌++◌, codes, if◌then◌else◌}
 use Rattle.std.specs.Fmt.{decimal}
-use Rattle.pm_base.specs.declared.mesh.Corners.{Corners}
 use Rattle.pm_base.specs.Place.{Place}
 use Rattle.pm_base.specs.Meshes.{Mesh}
 use Rattle.pm_base.specs.Canonical.{coordinate_text, canonical_text}
@@ -22,29 +21,23 @@ middle_text m = coordinate_text 19 m.x ++ codes " " ++ coordinate_text 19 m.y ++
 unfoldable pub way_text : WayBack → List ℕ
 way_text way = scale_text way ++ middle_text way.middle ++ codes ")\n"
 
-abbrev pub fit_line : Fit → List ℕ
-fit_line fits.Standing = codes "# coordinates as they stood\n"
-fit_line (fits.Scaled size b) = codes "# " ++ way_text (way_back_of size b)
-
 -- The first line of the output.
-unfoldable pub fit_head_line : Fit → List Corners → List ℕ
-fit_head_line fit faces = if length faces == 0 then codes "# no faces\n" else fit_line fit
+abbrev pub head_line : Fit → List ℕ
+head_line fits.Standing = codes "# coordinates as they stood\n"
+head_line (fits.Scaled size b) = codes "# " ++ way_text (way_back_of size b)
 
 -- The output: the line that tells how places lead back, and the canonical text of the mesh.
 abbrev pub output_text : Fit → Mesh → List ℕ
-output_text fit m = fit_head_line fit m.faces ++ canonical_text 0 m
+output_text fit m = head_line fit ++ canonical_text 0 m
 
 -- `prepare: WHAT N`, where N isn't 0.
 unfoldable pub note_line : List ℕ → ℕ → List ℕ
 note_line what n = if n == 0 then codes "" else codes "prepare: " ++ what ++ codes " " ++ decimal n ++ codes "\n"
 
-abbrev pub fit_note : Fit → List ℕ
-fit_note fits.Standing = codes ""
-fit_note (fits.Scaled size b) = codes "prepare: " ++ way_text (way_back_of size b)
-
 -- The last line that is said, if any.
-unfoldable pub last_note : Fit → List Corners → List ℕ
-last_note fit faces = if length faces == 0 then codes "prepare: no faces\n" else fit_note fit
+abbrev pub last_note : Fit → List ℕ
+last_note fits.Standing = codes ""
+last_note (fits.Scaled size b) = codes "prepare: " ++ way_text (way_back_of size b)
 
 -- What is said of the faces and places of the input, and of what was cut and left out.
 unfoldable pub face_notes : ℕ → Notes → List ℕ
@@ -56,5 +49,5 @@ unfoldable pub vertex_notes : Notes → List ℕ
 vertex_notes notes = note_line (codes "sides cut open") notes.cut ++ note_line (codes "vertices split off") notes.split ++ note_line (codes "vertices that no face has") notes.unnamed
 
 -- What is said of the work: a line for each kind of change that was made, and how places lead back.
-unfoldable pub notes_text : ℕ → Notes → Fit → List Corners → List ℕ
-notes_text polygons notes fit faces = face_notes polygons notes ++ vertex_notes notes ++ last_note fit faces
+unfoldable pub notes_text : ℕ → Notes → Fit → List ℕ
+notes_text polygons notes fit = face_notes polygons notes ++ vertex_notes notes ++ last_note fit

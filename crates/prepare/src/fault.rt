@@ -1,13 +1,15 @@
 //! Why the program ends before its work is whole.
-use obj_read::ObjFault;
+use obj_scan::ScanFault;
 
 /// A fault of the input.
 #[derive(Clone, Copy, Debug, PartialEq, Eq)]
 pub enum Fault {
     /// This line, counted from 1, has this fault.
-    Obj(ObjFault, u32),
+    Line(ScanFault, u32),
     /// More vertices come out than a mesh may have.
     TooMany,
+    /// No face comes out.
+    NoFaces,
 }
 
 /// Why nothing was made of the input.

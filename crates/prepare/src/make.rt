@@ -12,8 +12,7 @@ ghost use Rattle.prepare.specs.Ending.{StopsPreparing};
 use crate::fault::{Fault, InputFail};
 use crate::notes::{head_line, notes_text};
 use obj_prepare::{PrepareFail, place_points, prepare};
-use obj_read::ObjFail;
-use obj_scan::{Scan, scan_obj};
+use obj_scan::{Scan, ScanFail, scan_obj};
 use pm_base::Mesh;
 use pm_io::Source;
 use std::alloc::Global;
@@ -43,11 +42,13 @@ fn make_of(alloc: Global, size: Option<u32>, scan: &Scan) -> Result<Made, InputF
         Err(PrepareFail::TooMany) => return Err(InputFail::Faulty(Fault::TooMany)),
         Err(PrepareFail::OutOfMemory) => return Err(InputFail::OutOfMemory),
     };
-    let faces = prepared.mesh.faces.as_slice();
-    let Ok(head) = head_line(alloc, &placing.fit, faces) else {
+    if prepared.mesh.faces.as_slice().is_empty() {
+        return Err(InputFail::Faulty(Fault::NoFaces));
+    }
+    let Ok(head) = head_line(alloc, &placing.fit) else {
         return Err(InputFail::OutOfMemory);
     };
-    let Ok(notes) = notes_text(alloc, scan.polygons, &prepared.notes, &placing.fit, faces) else {
+    let Ok(notes) = notes_text(alloc, scan.polygons, &prepared.notes, &placing.fit) else {
         return Err(InputFail::OutOfMemory);
     };
     let mesh = prepared.mesh;
@@ -67,11 +68,11 @@ pub fn make<S: Source>(alloc: Global, size: Option<u32>, input: &mut S) -> Resul
 {
     let scan = match scan_obj(alloc, input) {
         Ok(scan) => scan,
-        Err(ObjFail::Fault { fault, line }) => {
-            return Err(InputFail::Faulty(Fault::Obj(fault, line)));
+        Err(ScanFail::Fault { fault, line }) => {
+            return Err(InputFail::Faulty(Fault::Line(fault, line)));
         }
-        Err(ObjFail::Read) => return Err(InputFail::Read),
-        Err(ObjFail::OutOfMemory) => return Err(InputFail::OutOfMemory),
+        Err(ScanFail::Read) => return Err(InputFail::Read),
+        Err(ScanFail::OutOfMemory) => return Err(InputFail::OutOfMemory),
     };
     match make_of(alloc, size, &scan) {
         Ok(made) => Ok(made),

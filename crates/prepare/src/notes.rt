@@ -2,11 +2,10 @@
 ghost use Rattle.std.specs.Prelude.{◌≡◌, ◌≤◌, ◌^◌, ◌*◌, ◌++◌, OnOk, IfOk, pos, ◌+ℤ◌, ◌*ℤ◌, unsigned_abs};
 ghost use Rattle.pm_base.specs.Canonical.{coordinate_text};
 ghost use Rattle.obj_prepare.specs.Back.{middle, middle_of, way_back_of};
-ghost use Rattle.prepare.specs.Texts.{scale_text, middle_text, way_text, fit_head_line, note_line, last_note, face_notes, vertex_notes, notes_text};
+ghost use Rattle.prepare.specs.Texts.{scale_text, middle_text, way_text, head_line as head_line_of, note_line, last_note, face_notes, vertex_notes, notes_text};
 
 use crate::text::{add_coordinate, add_length, add_number};
 use obj_prepare::{Fit, Notes, PointBox, extent};
-use pm_base::Corners;
 use std::alloc::{AllocError, Global};
 
 // The sum of the ends of an axis.
@@ -101,15 +100,10 @@ fn add_way_back(text: &mut Vec<u8>, size: u32, b: &PointBox) -> Result<(), Alloc
 }
 
 /// The first line of the output.
-#[tactic(auto, unfolding(crate::specs::Texts::fit_head_line))]
-pub fn head_line(alloc: Global, fit: &Fit, faces: &[Corners]) -> Result<Vec<u8>, AllocError>
-    ensures { IfOk result (λ text. text.items ≡ fit_head_line fit.now faces.now) }
+pub fn head_line(alloc: Global, fit: &Fit) -> Result<Vec<u8>, AllocError>
+    ensures { IfOk result (λ text. text.items ≡ head_line_of fit.now) }
 {
     let mut text = Vec::new(alloc);
-    if faces.is_empty() {
-        text.extend_from_slice(b"# no faces\n")?;
-        return Ok(text);
-    }
     match fit {
         Fit::Standing => text.extend_from_slice(b"# coordinates as they stood\n")?,
         Fit::Scaled(size, b) => {
@@ -136,13 +130,9 @@ fn add_note(text: &mut Vec<u8>, what: &[u8], n: u32) -> Result<(), AllocError>
 }
 
 // Adds the last line, if any.
-#[tactic(auto, unfolding(crate::specs::Texts::last_note))]
-fn add_last(text: &mut Vec<u8>, fit: &Fit, faces: &[Corners]) -> Result<(), AllocError>
-    ensures { OnOk result (text.new.items ≡ text.old.items ++ last_note fit.now faces.now) }
+fn add_last(text: &mut Vec<u8>, fit: &Fit) -> Result<(), AllocError>
+    ensures { OnOk result (text.new.items ≡ text.old.items ++ last_note fit.now) }
 {
-    if faces.is_empty() {
-        return text.extend_from_slice(b"prepare: no faces\n");
-    }
     match fit {
         Fit::Standing => Ok(()),
         Fit::Scaled(size, b) => {
@@ -182,13 +172,12 @@ pub fn notes_text(
     polygons: u32,
     notes: &Notes,
     fit: &Fit,
-    faces: &[Corners],
 ) -> Result<Vec<u8>, AllocError>
-    ensures { IfOk result (λ text. text.items ≡ notes_text polygons notes.now fit.now faces.now) }
+    ensures { IfOk result (λ text. text.items ≡ notes_text polygons notes.now fit.now) }
 {
     let mut text = Vec::new(alloc);
     add_face_notes(&mut text, polygons, notes)?;
     add_vertex_notes(&mut text, notes)?;
-    add_last(&mut text, fit, faces)?;
+    add_last(&mut text, fit)?;
     Ok(text)
 }

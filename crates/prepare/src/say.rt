@@ -20,7 +20,7 @@ fn put_fault(line: &mut Line, fault: Fault)
 {
     line.clear();
     match fault {
-        Fault::Obj(fault, number) => {
+        Fault::Line(fault, number) => {
             line.add(b"prepare: fault ");
             line.add_number(fault.number());
             line.add(b" line ");
@@ -28,6 +28,7 @@ fn put_fault(line: &mut Line, fault: Fault)
             line.add(b"\n");
         }
         Fault::TooMany => line.add(b"prepare: fault 9\n"),
+        Fault::NoFaces => line.add(b"prepare: fault 12\n"),
     }
 }
 

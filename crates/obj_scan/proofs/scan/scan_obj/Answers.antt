@@ -1,13 +1,14 @@
 use Rattle.std.proofs.Common.{refl}
 use Rattle.obj_read.proofs.FinishLaws.{if_ok, if_err, on_ok, left_at_end}
 use Rattle.obj_scan.specs.Reading.{held_of}
-use Rattle.obj_scan.proofs.FinishLaws.{start_ready, start_stands, ended_ok, ended_err}
+use Rattle.obj_scan.proofs.FinishLaws.{start_ready, start_stands, start_returns, ended_ok, ended_err}
 use Rattle.obj_scan.proofs.scan.scan_obj.Goals as goal
 
 pub loop-fail-init : goal.loop-fail-init
 loop-fail-init g c = record {
   ready = start_ready c.in-Ok-new.lines (held_of c.new-scanner.result) c.in-Ok-new.ensures c.new-scanner.ensures;
   reading = start_stands _ c.in-Ok.taker c.in-Ok-new.lines (held_of c.new-scanner.result) c.in-Ok.ensures c.in-Ok-new.ensures c.new-scanner.ensures;
+  returns = start_returns c.in-Ok-new.lines c.in-Ok-new.ensures;
   not_ended = c.requires;
   count = refl;
 }

@@ -9,6 +9,6 @@ prepare-requires c = placed_within c.args.size (scanned_of c.args.scan.now) c.de
 pub returns-clause-made : goal.returns-clause-made
 returns-clause-made c =
     makes_done c.args.size (scanned_of c.args.scan.now) c.deref.result.now c.deref-2.result.now c.in-Ok.placing.fit c.in-Ok.placing.places.items c.deref-3.result.now c.deref-4.result.now
-    (mesh_of c.in-Ok-prepare.prepared.mesh) c.in-Ok-prepare.prepared.notes c.as_slice-faces.result.now c.in-Ok-head_line.head.items c.in-Ok-notes_text.notes.items
+    (mesh_of c.in-Ok-prepare.prepared.mesh) c.in-Ok-prepare.prepared.notes c.as_slice.result.now c.in-Ok-head_line.head.items c.in-Ok-notes_text.notes.items
     c.deref.ensures.value c.deref-2.ensures.value c.in-Ok.ensures.fit c.in-Ok.ensures.places c.deref-3.ensures.value c.deref-4.ensures.value
-    c.in-Ok-prepare.ensures.ok c.in-Ok-prepare.ensures.formed c.in-Ok-prepare.ensures.manifold c.as_slice-faces.ensures c.in-Ok-head_line.ensures c.in-Ok-notes_text.ensures
+    c.in-Ok-prepare.ensures.ok c.in-Ok-prepare.ensures.formed c.in-Ok-prepare.ensures.manifold c.as_slice.ensures (omega (arith, c.is_empty.ensures)) c.in-Ok-head_line.ensures c.in-Ok-notes_text.ensures
