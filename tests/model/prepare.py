@@ -21,6 +21,9 @@ from .mesh import (
 from .scan import UNITS, Soup, nearest, soup_of_text
 
 
+NO_FACES = 12
+
+
 class Fit(NamedTuple):
     """How points are scaled: the box's least and greatest coordinates, and the size."""
 
@@ -152,17 +155,13 @@ def prepared(soup: Soup, size: Optional[int]) -> Prepared:
 
 
 def head_line(made: Prepared) -> str:
-    if not made.mesh.faces:
-        return "# no faces\n"
     return "# coordinates as they stood\n" if made.fit is None else "# " + made.fit.way_back()
 
 
 def notes_text(made: Prepared) -> str:
     """A line for each kind of change that was made, and how places lead back."""
     lines = [f"prepare: {what} {count}\n" for what, count in made.notes if count]
-    if not made.mesh.faces:
-        lines.append("prepare: no faces\n")
-    elif made.fit is not None:
+    if made.fit is not None:
         lines.append("prepare: " + made.fit.way_back())
     return "".join(lines)
 
@@ -173,6 +172,8 @@ def answer(words: List[str], data: bytes) -> Answer:
         return not_understood("prepare")
     try:
         made = prepared(soup_of_text(data), size)
+        if not made.mesh.faces:
+            raise Fault(NO_FACES)
     except Fault as fault:
         return failed("prepare", fault)
     return Answer(0, head_line(made).encode() + canonical_text(made.mesh, 0), notes_text(made))

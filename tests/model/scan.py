@@ -1,7 +1,8 @@
 """What any OBJ text spells for `prepare`: points, triangles, and how many polygons were cut.
 
 Numbers may have decimals and exponents, faces any number of corners, and a line that ends in a
-backslash is continued by the next. Points count units of 10^-18.
+backslash is continued by the next. A byte order mark before the first line is passed over. Points
+count units of 10^-18.
 """
 import re
 from fractions import Fraction
@@ -22,6 +23,9 @@ from .obj import (
     lines_of,
     vertex_named,
 )
+
+SIXTEEN_BITS, LONE_RETURN = 10, 11
+BYTE_ORDER_MARK = b"\xef\xbb\xbf"
 
 GREATEST_EXPONENT = 999
 UNITS = 10**18
@@ -83,6 +87,17 @@ def take(soup: Soup, text: bytes) -> None:
             soup.polygons.append(len(corners))
 
 
+def read_of(number: int, line: bytes) -> bytes:
+    """What is read of the line with this number, where its form is right."""
+    content = content_of(line)
+    if number == 1 and content[:2] in (b"\xff\xfe", b"\xfe\xff"):
+        raise Fault(SIXTEEN_BITS, f"line {number}")
+    if b"\r" in line[:-1]:
+        raise Fault(LONE_RETURN, f"line {number}")
+    marked = number == 1 and content.startswith(BYTE_ORDER_MARK)
+    return content[len(BYTE_ORDER_MARK) :] if marked else content
+
+
 def soup_of_text(text: bytes) -> Soup:
     """The points and triangles of a text, or the first fault of its first line with one. Of lines
     that go together the first is named."""
@@ -90,10 +105,11 @@ def soup_of_text(text: bytes) -> Soup:
     for number, line in enumerate(lines_of(text), 1):
         if len(line) > MOST_LINE_BYTES:
             raise Fault(TOO_LONG, f"line {number}")
-        begun += content_of(line)
+        content = read_of(number, line)
+        begun += content
         if len(begun) > MOST_LINE_BYTES:
             raise Fault(TOO_LONG, f"line {first}")
-        if content_of(line).endswith(b"\\"):
+        if content.endswith(b"\\"):
             begun = begun[:-1] + b" "
             continue
         try:

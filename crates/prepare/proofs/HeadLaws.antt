@@ -112,4 +112,3 @@ head_comment (fits.Scaled size b) (few, low, high) =
       short = omega (arith, s.short);
       text_is = ap (λ (t : List ℕ). 35 ∷ 32 ∷ t) (sym (append_assoc back (41 ∷ []) (10 ∷ [])));
     }
-

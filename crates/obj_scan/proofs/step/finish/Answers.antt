@@ -26,7 +26,7 @@ pub returns-clause-ok : goal.returns-clause-ok
 returns-clause-ok c =
     let within : c.args.progress.start + length (open_line c.args.lines) ≤ 1073741824 = omega (arith, c.requires.ready.at, c.requires.ready.room) in
     let same = last_ok (scanned_so_far c.args.progress (held_of c.args.scanner)) _ _ _ (held_of c.take_whole.new.scanner)
-    (record { at = c.finish.ensures.state; which = c.in-Whole.is; finished = c.finish.ensures.value; clean = c.requires.ready.clean; short = c.requires.ready.short; within = within})
+    (record { at = c.finish.ensures.state; which = c.in-Whole.is; finished = c.finish.ensures.value; clean = c.requires.ready.clean; short = c.requires.ready.short; within = within })
     c.in_ok-take_whole-in-Whole.ensures.ok in
     if_ok c.end-in-Whole.result _ _ (λ s is. same ∙ is (c.args.progress.start + length (open_line c.args.lines))) c.end-in-Whole.ensures.ok
 
@@ -34,7 +34,7 @@ pub returns-clause-err : goal.returns-clause-err
 returns-clause-err c =
     let within : c.args.progress.start + length (open_line c.args.lines) ≤ 1073741824 = omega (arith, c.requires.ready.at, c.requires.ready.room) in
     let same = last_ok (scanned_so_far c.args.progress (held_of c.args.scanner)) _ _ _ (held_of c.take_whole.new.scanner)
-    (record { at = c.finish.ensures.state; which = c.in-Whole.is; finished = c.finish.ensures.value; clean = c.requires.ready.clean; short = c.requires.ready.short; within = within})
+    (record { at = c.finish.ensures.state; which = c.in-Whole.is; finished = c.finish.ensures.value; clean = c.requires.ready.clean; short = c.requires.ready.short; within = within })
     c.in_ok-take_whole-in-Whole.ensures.ok in
     if_err c.end-in-Whole.result _ _ (λ e is. refused_same e _ _ same (is (c.args.progress.start + length (open_line c.args.lines)))) c.end-in-Whole.ensures.err
 
@@ -43,5 +43,5 @@ returns-in_err-take_whole-in-Whole-clause-err c =
     let p = err_from_is_err_and c.from_residual.result c.from_residual.ensures.1 in
     let within : c.args.progress.start + length (open_line c.args.lines) ≤ 1073741824 = omega (arith, c.requires.ready.at, c.requires.ready.room) in
     rw (p.1, p.2) (last_err (scanned_so_far c.args.progress (held_of c.args.scanner)) _ _ _ _
-    (record { at = c.finish.ensures.state; which = c.in-Whole.is; finished = c.finish.ensures.value; clean = c.requires.ready.clean; short = c.requires.ready.short; within = within})
+    (record { at = c.finish.ensures.state; which = c.in-Whole.is; finished = c.finish.ensures.value; clean = c.requires.ready.clean; short = c.requires.ready.short; within = within })
     c.in_err-take_whole-in-Whole.ensures.fault)
