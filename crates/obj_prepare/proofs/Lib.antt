@@ -12,3 +12,6 @@ pub mod AgainLaws
 pub mod OnePrepared
 pub mod FitMeshes
 pub mod CountLaws
+pub mod KeptCounts
+pub mod AccountLaws
+pub mod ThreeLaws

@@ -14,7 +14,7 @@ use Rattle.pm_fans.proofs.OneSplit.{splits_are_one}
 use Rattle.obj_prepare.specs.declared.notes.Notes.{Notes}
 use Rattle.obj_prepare.specs.Named.{is_some_corner}
 use Rattle.obj_prepare.specs.Joining.{place_in_list, IsFirstAt, AreJoined, joined_faces}
-use Rattle.obj_prepare.specs.Prepared.{staying, IsPrepared, joined_count, flat_count, double_count, split_count, IsPreparedWith}
+use Rattle.obj_prepare.specs.Prepared.{staying, IsPrepared, joined_count, flat_count, double_count, split_count, gone_count, IsPreparedWith}
 
 module _ (places : List Place) (faces : List Corners) where
   -- Of two first vertices at a place neither is before the other.
@@ -66,4 +66,5 @@ notes_are_one places faces m n notes others (p, a) (q, b) =
     let cut = a.cut ∙ ap (λ names. cut_count (net_of (staying names faces))) s.names ∙ sym b.cut in
     let split = a.split ∙ ap (λ names. split_count names faces p.old) s.names ∙ ap (split_count q.names faces) s.old ∙ sym b.split in
     let unnamed = a.unnamed ∙ sym b.unnamed in
-    λ i. record { joined = joined i; flat = flat i; double = double i; cut = cut i; split = split i; unnamed = unnamed i }
+    let gone = a.gone ∙ ap (λ names. gone_count names faces) s.names ∙ sym b.gone in
+    λ i. record { joined = joined i; flat = flat i; double = double i; cut = cut i; split = split i; unnamed = unnamed i; gone = gone i }

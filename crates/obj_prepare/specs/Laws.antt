@@ -1,5 +1,5 @@
 -- The laws of placing vertices, and of preparing placed vertices and triangles, each as a statement.
-use Rattle.std.specs.Prelude.{◌≡◌, ◌≢◌, ℕ, ◌<◌, true, List, length, Option}
+use Rattle.std.specs.Prelude.{◌≡◌, ◌≢◌, ℕ, ◌+◌, ◌-◌, ◌<◌, ◌≤◌, true, List, length, Option}
 use Rattle.std.specs.List.{All}
 use Rattle.pm_base.specs.declared.mesh.Corners.{Corners}
 use Rattle.pm_base.specs.Place.{Place}
@@ -31,6 +31,18 @@ PreparedAreOne = (places : List Place) (faces : List Corners) (m n : Mesh) → I
 -- What was done is told by one list of numbers.
 abbrev pub NotesAreOne : Type 0
 NotesAreOne = (places : List Place) (faces : List Corners) (m n : Mesh) (notes others : Notes) → IsPreparedWith places faces m notes → IsPreparedWith places faces n others → notes ≡ others
+
+-- Each triangle became an edge, has the corners of an earlier one, or came out. Each vertex has no face, was joined to an
+-- earlier one, has lost its faces, or came out; of what came out so many were split off.
+pub record DoAccountsClose (vertices triangles : ℕ) (m : Mesh) (notes : Notes) : Type 0 where
+  pub triangles_are : notes.flat + notes.double + length m.faces ≡ triangles
+  pub split_few : notes.split ≤ length m.points
+  pub vertices_are : notes.unnamed + notes.joined + notes.gone + (length m.points - notes.split) ≡ vertices
+
+-- So the numbers of what was done account for each vertex and triangle.
+abbrev pub AccountsClose : Type 0
+AccountsClose = (places : List Place) (faces : List Corners) (m : Mesh) (notes : Notes) → All (AreVerticesBelow (length places)) faces → IsPreparedWith places faces m notes
+    → DoAccountsClose (length places) (length faces) m notes
 
 -- Each vertex is used, and no two stand at one place.
 pub record AreFit (places : List Place) (faces : List Corners) : Type 0 where

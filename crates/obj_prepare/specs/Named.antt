@@ -1,14 +1,18 @@
--- The vertices that a face names.
-use Rattle.std.specs.Prelude.{ℕ, zero, suc, ◌<◌, ◌≤◌, Bool, true, false, List, [], ◌∷◌, ◌++◌, length}
-use Rattle.std.specs.List.{All, list_any}
+-- The vertices that a face names, and the faces that name three.
+use Rattle.std.specs.Prelude.{ℕ, zero, suc, ◌<◌, ◌≤◌, Bool, true, false, not, List, [], ◌∷◌, ◌++◌, length}
+use Rattle.std.specs.List.{All, list_any, filter}
 use Rattle.pm_base.specs.declared.limits.TheConstants.{MOST_FACES, MOST_VERTICES}
 use Rattle.pm_base.specs.declared.mesh.Corners.{Corners}
 use Rattle.pm_base.specs.Place.{Place}
-use Rattle.pm_fans.specs.Kept.{is_corner}
+use Rattle.pm_fans.specs.Kept.{is_corner, is_flat}
 
 -- Some face has this corner. Faces of which two corners are one count too.
 abbrev pub is_some_corner : List Corners → ℕ → Bool
 is_some_corner faces v = list_any (λ f. is_corner f v) faces
+
+-- The faces that name three different vertices.
+abbrev pub of_three : List Corners → List Corners
+of_three faces = filter (λ f. not (is_flat f)) faces
 
 -- Of the vertices below n, each one's flag.
 abbrev pub named_in : List Corners → ℕ → List Bool

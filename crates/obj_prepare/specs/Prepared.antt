@@ -42,6 +42,10 @@ double_count names faces = length faces - flat_count names faces - length (stayi
 unfoldable pub unnamed_count : ℕ → List Corners → ℕ
 unnamed_count vertices faces = count (λ v. not (is_some_corner faces v)) vertices
 
+-- How many vertices that stand for themselves had faces of which none stays.
+unfoldable pub gone_count : List ℕ → List Corners → ℕ
+gone_count names faces = count (λ v. is_some_corner faces v && (slice_index_or names v 0 == v) && not (is_some_corner (staying names faces) v)) (length names)
+
 -- How many more vertices there are than the faces that stay had.
 unfoldable pub split_count : List ℕ → List Corners → List ℕ → ℕ
 split_count names faces old = length old - count (is_some_corner (staying names faces)) (length names)
@@ -54,6 +58,7 @@ pub record AreNotes (places : List Place) (faces : List Corners) (names old : Li
   pub cut : notes.cut ≡ cut_count (net_of (staying names faces))
   pub split : notes.split ≡ split_count names faces old
   pub unnamed : notes.unnamed ≡ unnamed_count (length places) faces
+  pub gone : notes.gone ≡ gone_count names faces
 
 -- The mesh and the numbers of what was done.
 abbrev pub IsPreparedWith : List Place → List Corners → Mesh → Notes → Type 0

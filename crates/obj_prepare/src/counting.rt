@@ -1,9 +1,9 @@
 //! Counting what was done.
-ghost use Rattle.std.specs.Prelude.{◌≡◌, ◌≤◌, length};
+ghost use Rattle.std.specs.Prelude.{◌≡◌, ◌≤◌, ◌&&◌, not, length};
 ghost use Rattle.std.specs.List.{filter};
 ghost use Rattle.pm_base.specs.declared.limits.TheConstants.{MOST_FACES, MOST_VERTICES};
 ghost use Rattle.pm_fans.specs.Kept.{is_flat as is_flat_of};
-ghost use Rattle.obj_prepare.specs.Pieces.{set_below, joined_below};
+ghost use Rattle.obj_prepare.specs.Pieces.{set_below, joined_below, gone_below};
 
 use pm_base::Corners;
 use pm_fans::is_flat;
@@ -33,6 +33,30 @@ pub(crate) fn count_joined(flags: &[bool], names: &[u32]) -> u32
     let mut n = 0;
     for v in 0..names.len() {
         if flags[v] && names[v] as usize != v {
+            n += 1;
+        }
+    }
+    n
+}
+
+// Whether a vertex that was named and stands for itself isn't named any more.
+fn is_gone(before: bool, itself: bool, after: bool) -> bool
+    ensures { result ≡ (before && itself && not after) }
+{
+    before && itself && !after
+}
+
+/// How many vertices whose flag was set and that stand for themselves have none after.
+#[tactic(auto, using(crate::proofs::CountLaws::none_gone, crate::proofs::CountLaws::gone_next, crate::proofs::CountLaws::there_next))]
+pub(crate) fn count_gone(before: &[bool], names: &[u32], after: &[bool]) -> u32
+    requires few { length names.now ≤ MOST_VERTICES }
+    requires both { length before.now ≡ length names.now }
+    requires as_many { length after.now ≡ length names.now }
+    ensures { result ≡ gone_below before.now names.now after.now (length names.now) }
+{
+    let mut n = 0;
+    for v in 0..names.len() {
+        if is_gone(before[v], names[v] as usize == v, after[v]) {
             n += 1;
         }
     }

@@ -14,6 +14,7 @@ mod preparing;
 mod scale;
 mod standing;
 mod theory;
+mod three;
 
 pub use decimal::decimal_coordinate;
 pub use exact::ExactPoint;
@@ -24,6 +25,7 @@ pub use preparing::{PrepareFail, Prepared, prepare};
 pub use scale::{along, nearest};
 pub use standing::{stands, whole};
 pub use theory::prepared_are_sound;
+pub use three::of_three;
 
 /// The answer for want of memory.
 pub type OutOfMemory = std::alloc::AllocError;

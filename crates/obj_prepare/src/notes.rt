@@ -14,4 +14,6 @@ pub struct Notes {
     pub split: u32,
     /// Vertices that no triangle names.
     pub unnamed: u32,
+    /// Vertices that stand for themselves, and of whose triangles none stayed.
+    pub gone: u32,
 }

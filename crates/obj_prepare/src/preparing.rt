@@ -11,7 +11,7 @@ ghost use Rattle.obj_prepare.specs.PrepareFails.{IsPrepareFail};
 ghost use Rattle.obj_prepare.specs.Pieces.{ArePieces};
 
 use crate::OutOfMemory;
-use crate::counting::{count_flat, count_joined, count_set};
+use crate::counting::{count_flat, count_gone, count_joined, count_set};
 use crate::joining::{joined, joined_faces};
 use crate::named::named;
 use crate::notes::Notes;
@@ -84,6 +84,7 @@ fn count_up(
         cut: cut_sides(alloc, &p.stay)?,
         split: (p.split.old.len() as u32).saturating_sub(count_set(&after)),
         unnamed: (places.len() as u32).saturating_sub(count_set(&before)),
+        gone: count_gone(&before, &p.names, &after),
     })
 }
 
