@@ -15,3 +15,5 @@ pub mod CountLaws
 pub mod KeptCounts
 pub mod AccountLaws
 pub mod ThreeLaws
+pub mod LongestLaws
+pub mod WithinLaws

@@ -1,5 +1,5 @@
 -- How places on the grid lead back to coordinates in units of 10^-18.
-use Rattle.std.specs.Prelude.{◌≡◌, ℕ, ◌*◌, ◌^◌, ◌<◌, ◌≤◌, ℤ, pos, ◌+ℤ◌, ◌-ℤ◌, ◌*ℤ◌, unsigned_abs}
+use Rattle.std.specs.Prelude.{◌≡◌, ℕ, ◌+◌, ◌-◌, ◌*◌, ◌/◌, ◌^◌, ◌<◌, ◌≤◌, ℤ, pos, ◌+ℤ◌, ◌-ℤ◌, ◌*ℤ◌, unsigned_abs}
 use Rattle.pm_base.specs.Place.{Place}
 use Rattle.obj_prepare.specs.declared.extents.PointBox.{PointBox}
 use Rattle.obj_prepare.specs.declared.placing.Fit.{Fit}
@@ -39,11 +39,30 @@ pub record LeadsNear (way : WayBack) (place p : Place) : Type 0 where
   pub y : IsHalfAStepOff way way.middle.y place.y p.y
   pub z : IsHalfAStepOff way way.middle.z place.z p.z
 
+-- Half a step, rounded up to a whole number of units of 10^-18.
+abbrev pub within_of : WayBack → ℕ
+within_of way = (way.extent + 2 * way.steps - 1) / (2 * way.steps)
+
+-- Along an axis a place leads back to at most d units from the coordinate n.
+abbrev pub IsWithinUnits : WayBack → ℕ → ℤ → ℤ → ℤ → Type 0
+IsWithinUnits way d middle place n = unsigned_abs (given_back way middle place -ℤ (pos (10 * way.steps) *ℤ n)) ≤ 10 * way.steps * d
+
+-- On each axis it does.
+pub record LeadsWithin (way : WayBack) (d : ℕ) (place p : Place) : Type 0 where
+  pub x : IsWithinUnits way d way.middle.x place.x p.x
+  pub y : IsWithinUnits way d way.middle.y place.y p.y
+  pub z : IsWithinUnits way d way.middle.z place.z p.z
+
 -- The point is the place itself, in units.
 pub record StandsAt (place p : Place) : Type 0 where
   pub x : p.x ≡ pos (10 ^ 18) *ℤ place.x
   pub y : p.y ≡ pos (10 ^ 18) *ℤ place.y
   pub z : p.z ≡ pos (10 ^ 18) *ℤ place.z
+
+-- A place leads back to within half a step, rounded up, of its point, or is the point.
+abbrev pub StandsWithin : Fit → Place → Place → Type 0
+StandsWithin fits.Standing place p = StandsAt place p
+StandsWithin (fits.Scaled size b) place p = LeadsWithin (way_back_of size b) (within_of (way_back_of size b)) place p
 
 -- A place leads back to its point.
 abbrev pub LeadsBack : Fit → Place → Place → Type 0

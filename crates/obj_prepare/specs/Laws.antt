@@ -11,7 +11,7 @@ use Rattle.obj_prepare.specs.declared.notes.Notes.{Notes}
 use Rattle.obj_prepare.specs.Numbers.{nearest, IsNearest}
 use Rattle.obj_prepare.specs.Named.{is_some_corner, AreVerticesBelow, IsWithinMesh}
 use Rattle.obj_prepare.specs.Placing.{IsSize, fit_of, prepared_places_of}
-use Rattle.obj_prepare.specs.Back.{LeadsBack}
+use Rattle.obj_prepare.specs.Back.{LeadsBack, StandsWithin}
 use Rattle.obj_prepare.specs.Joining.{place_in_list}
 use Rattle.obj_prepare.specs.Prepared.{IsPrepared, IsPreparedWith}
 
@@ -23,6 +23,11 @@ NearestIsNearest = (n d : ℕ) → 0 < d → IsNearest n d (nearest n d)
 abbrev pub PlacesLeadBack : Type 0
 PlacesLeadBack = (size : Option ℕ) (points : List Place) (faces : List Corners) (v : ℕ) → IsSize size → v < length points → is_some_corner faces v ≡ true
     → LeadsBack (fit_of size points faces) (place_in_list (prepared_places_of size points faces) v) (place_in_list points v)
+
+-- So it does to within half a step, rounded up to units.
+abbrev pub PlacesAreWithin : Type 0
+PlacesAreWithin = (size : Option ℕ) (points : List Place) (faces : List Corners) (v : ℕ) → IsSize size → v < length points → is_some_corner faces v ≡ true
+    → StandsWithin (fit_of size points faces) (place_in_list (prepared_places_of size points faces) v) (place_in_list points v)
 
 -- One mesh is prepared of placed vertices and triangles.
 abbrev pub PreparedAreOne : Type 0

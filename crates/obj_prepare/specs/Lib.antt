@@ -5,6 +5,7 @@ pub mod Whole
 pub mod Named
 pub mod Placing
 pub mod Joining
+pub mod Longest
 pub mod Firsts
 pub mod Prepared
 pub mod Pieces

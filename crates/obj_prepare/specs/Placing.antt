@@ -45,6 +45,11 @@ fit_of size points faces = fit_for size (chosen (named_in faces (length points))
 abbrev pub prepared_places_of : Option ℕ → List Place → List Corners → List Place
 prepared_places_of size points faces = places_by (fit_of size points faces) (named_in faces (length points)) points
 
+-- Points are scaled to such a size, if at all.
+abbrev pub IsSized : Fit → Type 0
+IsSized fits.Standing = Unit {0}
+IsSized (fits.Scaled size b) = (1 ≤ size) × (size ≤ GREATEST_COORDINATE)
+
 -- A size is from 1 to the greatest coordinate.
 abbrev pub IsSize : Option ℕ → Type 0
 IsSize size = IfSome size (λ n. (1 ≤ n) × (n ≤ GREATEST_COORDINATE))

@@ -27,8 +27,8 @@ pub fn box_of(first: &ExactPoint, rest: &[ExactPoint]) -> PointBox
     PointBox { low, high }
 }
 
-// The way from one end of an axis to the other.
-fn way(low: i128, high: i128) -> u128
+/// The way from one end of an axis to the other.
+pub(crate) fn way(low: i128, high: i128) -> u128
     requires low { unsigned_abs low ≤ 10 ^ 32 }
     requires high { unsigned_abs high ≤ 10 ^ 32 }
     ensures value { result ≡ unsigned_abs (high -ℤ low) }

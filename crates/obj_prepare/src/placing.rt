@@ -4,7 +4,7 @@ ghost use Rattle.std.specs.List.{All, list_all};
 ghost use Rattle.obj_prepare.specs.Boxes.{box_of_points};
 ghost use Rattle.obj_prepare.specs.Exact.{lower, upper};
 ghost use Rattle.obj_prepare.specs.Named.{IsWithinMesh, chosen};
-ghost use Rattle.obj_prepare.specs.Placing.{IsSize, Suits, frame_of, fit_for, fit_of, placed, places_by, prepared_places_of};
+ghost use Rattle.obj_prepare.specs.Placing.{IsSize, IsSized, Suits, frame_of, fit_for, fit_of, placed, places_by, prepared_places_of};
 ghost use Rattle.obj_prepare.specs.Whole.{stands_on_grid};
 
 use crate::extents::{PointBox, point, scaled};
@@ -43,6 +43,7 @@ pub fn place_points(
     requires within { IsWithinMesh (length points.now) faces.now }
     ensures fit { IfOk result (λ p. p.fit ≡ fit_of size points.now faces.now) }
     ensures places { IfOk result (λ p. p.places.items ≡ prepared_places_of size points.now faces.now) }
+    ensures sized { IfOk result (λ p. IsSized p.fit) }
 {
     let named = named(alloc, points.len(), faces)?;
     let fit = fit_for(size, &named, points);
@@ -52,8 +53,10 @@ pub fn place_points(
 
 // How the points whose flag is set are brought onto the grid.
 fn fit_for(size: Option<u32>, named: &[bool], points: &[ExactPoint]) -> Fit
-    requires { length named.now ≡ length points.now }
-    ensures { result ≡ fit_for size (chosen named.now points.now) }
+    requires flags { length named.now ≡ length points.now }
+    requires size { IsSize size }
+    ensures value { result ≡ fit_for size (chosen named.now points.now) }
+    ensures sized { IsSized result }
 {
     let Some(frame) = frame_of(named, points) else {
         return Fit::Standing;

@@ -1,5 +1,5 @@
 //! The laws of preparing.
-ghost use Rattle.obj_prepare.specs.Laws.{NearestIsNearest, PlacesLeadBack, PreparedAreOne, NotesAreOne, AccountsClose, FitMeshesStay, PreparedStays};
+ghost use Rattle.obj_prepare.specs.Laws.{NearestIsNearest, PlacesLeadBack, PlacesAreWithin, PreparedAreOne, NotesAreOne, AccountsClose, FitMeshesStay, PreparedStays};
 
 /// The laws of what is placed and prepared, which takes no step: rounding gives the nearest whole number; places lead back to
 /// the points that were read; and of placed vertices and triangles one mesh is made, which stays, and for each of them is
@@ -7,6 +7,7 @@ ghost use Rattle.obj_prepare.specs.Laws.{NearestIsNearest, PlacesLeadBack, Prepa
 pub fn prepared_are_sound()
     ensures nearest { NearestIsNearest }
     ensures back { PlacesLeadBack }
+    ensures within { PlacesAreWithin }
     ensures one { PreparedAreOne }
     ensures notes { NotesAreOne }
     ensures accounts { AccountsClose }
