@@ -9,6 +9,7 @@ from random_meshes import random_mesh
 
 Soup = Tuple[List[Point], List[List[int]]]  # points, and faces of three corners or more
 
+MARKS = [b"\xef\xbb\xbf"] * 4 + [b"\xff\xfe", b"\xfe\xff", b"\xef\xbb", b"\xef\xbb\xbf "]
 SKIPPED = ["", "# no line", "vn 0 0 1", "s off", "g a \\", "b", "#\\", "vt 1 \\", "o x # \\"]
 BAD_LINES = [
     "v 1 2", "f 1 2", "v 1e 0 0", "v e5 0 0", "v 1e1000 0 0", "v 0 0 1e15", "v 1e-1000 0 0",
@@ -96,6 +97,16 @@ def number_text(rng: Random, value: int, style: str) -> str:
     return rng.choice([f"{value:e}", f"{value}{exponent}"])
 
 
+def formed(rng: Random, text: bytes) -> bytes:
+    """The text with a byte order mark or with a CR somewhere, or as it is."""
+    if rng.random() < 0.1:
+        text = rng.choice(MARKS) + text
+    if rng.random() < 0.05:
+        at = rng.randint(0, len(text))
+        text = text[:at] + b"\r" + text[at:]
+    return text
+
+
 def soup_text(rng: Random, soup: Soup) -> bytes:
     """The text of a soup, with lines that are skipped and lines that are continued."""
     points, faces = soup
@@ -109,4 +120,4 @@ def soup_text(rng: Random, soup: Soup) -> bytes:
     if rng.random() < 0.2:
         lines.insert(rng.randint(0, len(lines)), rng.choice(BAD_LINES))
     end = rng.choice(["\n", "\n", "\r\n"])
-    return (end.join(lines) + rng.choice([end, end, ""])).encode()
+    return formed(rng, (end.join(lines) + rng.choice([end, end, ""])).encode())

@@ -16,14 +16,17 @@ class Preparing(unittest.TestCase):
         head = "coordinate = 2.500000000000000000 / 20 * place + (1.2500000000000000000 "
         head += "1.2500000000000000000 0.0000000000000000000)\n"
         mesh = "v -10 -10 0\nv 10 -10 0\nv 10 10 0\nv -10 10 0\nf 1 2 3\nf 1 3 4\n"
-        notes = f"prepare: polygons cut 1\nprepare: {head}"
+        near = "places are within 0.062500000000000000 of the coordinates\n"
+        notes = f"prepare: polygons cut 1\nprepare: {head}prepare: {near}"
         self.assertEqual(answer("prepare", ["10"], text), (0, f"# {head}{mesh}".encode(), notes))
 
     def test_two_faces_turned_against_each_other_are_cut_apart(self) -> None:
         text = (THREE + "v 0 -10 0\nf 1 2 3\nf 1 2 4\n").encode()
         done = answer("prepare", [], text)
         self.assertIn(b"f 1 3 5\nf 2 4 6\n", done.output)
-        self.assertEqual(done.error, "prepare: sides cut open 2\nprepare: vertices split off 2\n")
+        account = "prepare: vertices 4 in, 6 out; triangles 2 in, 2 out\n"
+        cut = "prepare: sides cut open 2\nprepare: vertices split off 2\n"
+        self.assertEqual(done.error, account + cut)
 
     def test_of_lines_that_go_together_the_first_is_named(self) -> None:
         done = answer("prepare", [], b"v 0 0 0\nv 1 \\\n2 \\\nx\n")

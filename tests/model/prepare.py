@@ -48,6 +48,19 @@ class Fit(NamedTuple):
         scale = f"{coordinate_text(self.extent(), 18)} / {2 * self.size}"
         return f"coordinate = {scale} * place + ({' '.join(middles)})\n"
 
+    def near(self) -> str:
+        """Half a step, rounded up to units: how near places are to the coordinates."""
+        units = -(-self.extent() // (4 * self.size))
+        return f"places are within {coordinate_text(units, 18)} of the coordinates\n"
+
+    def longest(self, points: Dict[int, Point]) -> str:
+        """The longest axis, and the first vertices at its ends."""
+        ways = [high - low for low, high in zip(self.low, self.high)]
+        k = ways.index(self.extent())
+        low = next(v for v in sorted(points) if points[v][k] == self.low[k])
+        high = next(v for v in sorted(points) if points[v][k] == self.high[k])
+        return f"the longest axis, {'xyz'[k]}, goes from vertex {low + 1} to vertex {high + 1}\n"
+
 
 def stands(point: Point) -> bool:
     """Each coordinate is a whole number in range."""
@@ -123,18 +136,38 @@ def split(faces: Faces) -> List[List[int]]:
     return sorted(fans, key=lambda fan: (ends(faces, fan[0])[0], fan[0] in across, fan[0]))
 
 
+class Account(NamedTuple):
+    """How many vertices and triangles there were, and how many came out."""
+
+    vertices_in: int
+    vertices_out: int
+    triangles_in: int
+    triangles_out: int
+
+    def line(self) -> str:
+        """Nothing where as many came out as there were."""
+        vertices = f"vertices {self.vertices_in} in, {self.vertices_out} out"
+        triangles = f"triangles {self.triangles_in} in, {self.triangles_out} out"
+        same = self.vertices_in == self.vertices_out and self.triangles_in == self.triangles_out
+        return "" if same else f"prepare: {vertices}; {triangles}\n"
+
+
 class Prepared(NamedTuple):
     mesh: Mesh
     fit: Optional[Fit]
+    account: Account
     notes: List[Tuple[str, int]]
+    warning: str
 
 
 def prepared(soup: Soup, size: Optional[int]) -> Prepared:
-    named = sorted({corner for face in soup.faces for corner in face})
+    """Faces that name a vertex twice count for nothing."""
+    three = [face for face in soup.faces if len(set(face)) == 3]
+    named = sorted({corner for face in three for corner in face})
     fit = fit_of([soup.points[v] for v in named], size)
     places = {v: place_of(fit, soup.points[v]) for v in named}
     names = joined(places)
-    renamed = [(names[a], names[b], names[c]) for a, b, c in soup.faces]
+    renamed = [(names[a], names[b], names[c]) for a, b, c in three]
     stay = kept(renamed)
     faces = numbered(stay)
     fans = split(faces)
@@ -142,16 +175,24 @@ def prepared(soup: Soup, size: Optional[int]) -> Prepared:
     points = [places[ends(faces, fan[0])[0]] for fan in fans]
     corners = [(new[3 * face], new[3 * face + 1], new[3 * face + 2]) for face in faces]
     flat = sum(len(set(face)) < 3 for face in renamed)
+    used = {v for face in stay for v in face}
     notes = [
         ("polygons cut", len(soup.polygons)),
         ("vertices joined", sum(names[v] != v for v in named)),
+        ("faces that name a vertex twice", len(soup.faces) - len(three)),
         ("faces that became edges", flat),
         ("faces that stand twice", len(renamed) - flat - len(stay)),
         ("sides cut open", len(cut_sides(faces))),
-        ("vertices split off", len(fans) - len({v for face in stay for v in face})),
+        ("vertices split off", len(fans) - len(used)),
         ("vertices that no face has", len(soup.points) - len(named)),
+        ("vertices whose faces all went", len({names[v] for v in named} - used)),
     ]
-    return Prepared(Mesh(points, corners), fit, notes)
+    account = Account(len(soup.points), len(points), len(soup.faces), len(corners))
+    warning = ""
+    if fit is not None and 10 * flat >= len(three):
+        warning = "a tenth of the triangles or more became edges: "
+        warning += fit.longest({v: soup.points[v] for v in named})
+    return Prepared(Mesh(points, corners), fit, account, notes, warning)
 
 
 def head_line(made: Prepared) -> str:
@@ -159,10 +200,13 @@ def head_line(made: Prepared) -> str:
 
 
 def notes_text(made: Prepared) -> str:
-    """A line for each kind of change that was made, and how places lead back."""
-    lines = [f"prepare: {what} {count}\n" for what, count in made.notes if count]
+    """How much came out, a line for each kind of change, how places lead back, and a warning."""
+    lines = [made.account.line()]
+    lines += [f"prepare: {what} {count}\n" for what, count in made.notes if count]
     if made.fit is not None:
-        lines.append("prepare: " + made.fit.way_back())
+        lines += ["prepare: " + line for line in (made.fit.way_back(), made.fit.near())]
+    if made.warning:
+        lines.append("prepare: " + made.warning)
     return "".join(lines)
 
 

@@ -192,18 +192,24 @@ module _ (places : List Place) (faces : List Corners) (m : Mesh) (below : All (A
       let a = p.joined.each w low named in
       let own : is_some_corner faces v ≡ true = subst (λ u. is_some_corner faces u ≡ true) at a.named in
       let b = p.joined.each v (named_low (length places) faces v below own) own in
-      let here : place_in_list places v ≡ place_in_list places w = ap (place_in_list places) (sym at) ∙ a.same in
-      (own, elim (cases_order (get_or p.names v 0) v) [
-        | inl same ↦ same
-        | inr k ↦ elim k [ inl less ↦ absurd (a.least (get_or p.names v 0) (omega (arith, less, at)) b.named (b.same ∙ here)) | inr more ↦ absurd (b.least v more own refl) ]
-      ])
+      let here : place_in_list places v ≡ place_in_list places w = ap (place_in_list places) (sym at) ∙ a.same in (
+        own,
+        elim (cases_order (get_or p.names v 0) v) [
+          | inl same ↦ same
+          | inr k ↦ elim k [ inl less ↦ absurd (a.least (get_or p.names v 0) (omega (arith, less, at)) b.named (b.same ∙ here)) | inr more ↦ absurd (b.least v more own refl) ]
+        ],
+      )
 
   stay_few : count (is_some_corner stay) (length p.names) ≤ length p.old
   stay_few =
       let n = length p.names in
-      omega (arith, count_has p.old n, count_more (is_some_corner stay) (has p.old) n (λ v l is.
-      let b = begins stay v is in
-      has_at p.old ((net_of m.faces).from b.side) v (p.split.within b.side b.low) (p.split.back b.side b.low ∙ b.at)))
+      omega (
+        arith,
+        count_has p.old n,
+        count_more (is_some_corner stay) (has p.old) n (λ v l is.
+            let b = begins stay v is in
+            has_at p.old ((net_of m.faces).from b.side) v (p.split.within b.side b.low) (p.split.back b.side b.low ∙ b.at)),
+      )
 
   abbrev is_own : ℕ → Bool
   is_own v = get_or p.names v 0 == v

@@ -1,5 +1,5 @@
 -- A text that is prepared again comes back.
-use Rattle.std.proofs.Common.{◌≡◌, ℕ, ◌<◌, List, length, Option, None, Result, Ok, IfOk, refl, sym, ap, ◌∙◌, subst, arith}
+use Rattle.std.proofs.Common.{◌≡◌, ℕ, ◌<◌, List, length, map, Option, None, Result, Ok, IfOk, refl, sym, ap, ◌∙◌, subst, arith}
 use Rattle.std.proofs.lemmas.List.{length-map}
 use Rattle.std.specs.List.{All}
 use Rattle.pm_base.specs.Place.{IsPlace}
@@ -11,20 +11,21 @@ use Rattle.pm_fans.specs.Cuts.{cut_count}
 use Rattle.obj_read.specs.Meaning.{Refused, meaning_of}
 use Rattle.obj_scan.specs.Judged.{Scanned}
 use Rattle.obj_scan.specs.Meaning.{scan_meaning_of}
-use Rattle.obj_scan.specs.Laws.{scanned_mesh}
+use Rattle.obj_scan.specs.Laws.{scanned_mesh, scaled_up}
 use Rattle.obj_scan.proofs.ReadLaws.{read_scanned}
 use Rattle.obj_prepare.specs.declared.notes.Notes.{Notes}
 use Rattle.obj_prepare.specs.declared.placing.Fit.{Fit}
 use Rattle.obj_prepare.specs.declared.placing.Fit.TheVariants as fits
-use Rattle.obj_prepare.specs.Named.{AreVerticesBelow}
+use Rattle.obj_prepare.specs.Named.{AreVerticesBelow, of_three}
 use Rattle.obj_prepare.specs.Joining.{place_in_list}
-use Rattle.obj_prepare.specs.Placing.{IsSize, prepared_places_of}
-use Rattle.obj_prepare.specs.Prepared.{staying, joined_count, flat_count, double_count, unnamed_count, split_count, IsPrepared, IsPreparedWith}
+use Rattle.obj_prepare.specs.Placing.{IsSize, fit_of, prepared_places_of}
+use Rattle.obj_prepare.specs.Prepared.{staying, joined_count, flat_count, double_count, unnamed_count, split_count, gone_count, IsPrepared, IsPreparedWith}
 use Rattle.obj_prepare.proofs.AgainLaws.{prepared_again}
 use Rattle.obj_prepare.proofs.PlacingLaws.{length-places_of}
+use Rattle.obj_prepare.proofs.ThreeLaws.{three_all, three_of_mesh}
 use Rattle.prepare.specs.declared.fault.Fault.{Fault}
 use Rattle.prepare.specs.Texts.{output_text, notes_text}
-use Rattle.prepare.specs.Outcome.{Done, MakesPrepared, IsPreparedText, bad_line, too_many, no_face, made}
+use Rattle.prepare.specs.Outcome.{Done, MakesPrepared, fit_in, places_in, counts_of, warning_for, IsPreparedText, bad_line, too_many, no_face, made}
 use Rattle.prepare.specs.Laws.{ComesBack, TextsComeBack}
 use Rattle.prepare.proofs.ScannedLaws.{meaning_sound}
 use Rattle.prepare.proofs.ReadLaws.{made_on_grid, mesh_is_read, made_formed}
@@ -40,30 +41,34 @@ numbers m p = record {
   cut = cut_count (net_of (staying p.names m.faces));
   split = split_count p.names m.faces p.old;
   unnamed = unnamed_count (length m.points) m.faces;
+  gone = gone_count p.names m.faces;
 }
 
 numbered : (m : Mesh) (p : IsPrepared m.points m.faces m) → IsPreparedWith m.points m.faces m (numbers m p)
 unfolding numbers
-numbered m p = (p, record { joined = refl; flat = refl; double = refl; cut = refl; split = refl; unnamed = refl })
+numbered m p = (p, record { joined = refl; flat = refl; double = refl; cut = refl; split = refl; unnamed = refl; gone = refl })
 
 -- What is written and said where a mesh is made of itself.
 abbrev standing_done : Mesh → Notes → Done
-standing_done m notes = record { text = output_text fits.Standing m; notes = notes_text 0 notes fits.Standing }
+standing_done m notes = record { text = output_text fits.Standing m; notes = notes_text (counts_of (scanned_mesh m) m) notes fits.Standing None }
 
 -- A mesh on the grid all of whose vertices are used is made of its own points in units.
 makes_itself : (m : Mesh) (notes : Notes) → IsWellFormed m → IsOrientedManifold (net_of m.faces) → 0 < length m.faces → All IsPlace m.points → ((v : ℕ) → v < length m.points → IsUsed (net_of m.faces) v)
     → IsPreparedWith m.points m.faces m notes → MakesPrepared None (scanned_mesh m) (standing_done m notes)
 makes_itself m notes formed manifold some placed used prepared =
-    let fit = standing_fit m.points m.faces placed in
+    let points = map scaled_up m.points in
+    let three : of_three m.faces ≡ m.faces = three_of_mesh (length m.points) m.faces formed.corners in
+    let fit : fit_in None (scanned_mesh m) ≡ fits.Standing = ap (fit_of None points) three ∙ standing_fit m.points m.faces placed in
     record {
       mesh = m;
       notes = notes;
-      prepared = subst (λ ps. IsPreparedWith ps m.faces m notes) (sym (standing_places m.points m.faces placed used)) prepared;
+      prepared = subst (λ (fs : List Corners). IsPreparedWith (prepared_places_of None points fs) fs m notes) (sym three)
+          (subst (λ ps. IsPreparedWith ps m.faces m notes) (sym (standing_places m.points m.faces placed used)) prepared);
       formed = formed;
       manifold = manifold;
       some = some;
       text_is = ap (λ (f : Fit). output_text f m) (sym fit);
-      notes_are = ap (notes_text 0 notes) (sym fit);
+      notes_are = ap (λ (f : Fit). notes_text (counts_of (scanned_mesh m) m) notes f (warning_for f points (of_three m.faces) notes.flat)) (sym fit);
     }
 
 corners_of : (n : ℕ) (faces : List Corners) → All (IsFace n) faces → All (AreVerticesBelow n) faces
@@ -77,10 +82,11 @@ unfolding numbers
 made_comes_back size bytes s done is means k read =
     let m = k.mesh in
     let p = k.prepared.0 in
-    let places = prepared_places_of size s.points s.faces in
-    let corners = (meaning_sound bytes s means).scanning.within.corners in
-    let long : length s.points ≡ length places = sym (length-places_of size s.points s.faces) in
-    let again = prepared_again places s.faces m (subst (λ n. All (AreVerticesBelow n) s.faces) long corners) p in
+    let places = places_in size s in
+    let three = of_three s.faces in
+    let corners = three_all (AreVerticesBelow (length s.points)) s.faces (meaning_sound bytes s means).scanning.within.corners in
+    let long : length s.points ≡ length places = sym (length-places_of size s.points three) in
+    let again = prepared_again places three m (subst (λ n. All (AreVerticesBelow n) three) long corners) p in
     let count : length m.points ≡ length p.old = ap length p.stand ∙ length-map p.old (place_in_list places) in
     let used : (v : ℕ) → v < length m.points → IsUsed (net_of m.faces) v = λ v l. p.split.used v (omega (arith, count, l)) in
     let told = numbered m again in

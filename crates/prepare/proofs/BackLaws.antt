@@ -10,16 +10,17 @@ use Rattle.obj_scan.specs.Judged.{Scanned}
 use Rattle.obj_scan.specs.Meaning.{scan_meaning_of}
 use Rattle.obj_prepare.specs.declared.placing.Fit.{Fit}
 use Rattle.obj_prepare.specs.declared.placing.Fit.TheVariants as fits
-use Rattle.obj_prepare.specs.Named.{AreVerticesBelow}
+use Rattle.obj_prepare.specs.Named.{AreVerticesBelow, of_three}
 use Rattle.obj_prepare.specs.Joining.{place_in_list}
-use Rattle.obj_prepare.specs.Placing.{IsSize, fit_of, prepared_places_of}
+use Rattle.obj_prepare.specs.Placing.{IsSize}
 use Rattle.obj_prepare.specs.Back.{way_back_of, LeadsBack}
 use Rattle.obj_prepare.proofs.AgainLaws.{place_from}
 use Rattle.obj_prepare.proofs.BackLaws.{places_lead_back}
 use Rattle.obj_prepare.proofs.PlacingLaws.{length-places_of}
+use Rattle.obj_prepare.proofs.ThreeLaws.{three_all}
 use Rattle.prepare.specs.declared.fault.Fault.{Fault}
 use Rattle.prepare.specs.Texts.{head_line}
-use Rattle.prepare.specs.Outcome.{Done, MakesPrepared, IsPreparedText, bad_line, too_many, no_face, made}
+use Rattle.prepare.specs.Outcome.{Done, MakesPrepared, fit_in, places_in, IsPreparedText, bad_line, too_many, no_face, made}
 use Rattle.prepare.specs.Laws.{LineLeadsBack, as_it_stood, near, TextLeadsBack, TextsLeadBack}
 use Rattle.prepare.proofs.ScannedLaws.{meaning_sound}
 use Rattle.prepare.proofs.GridLaws.{IsMeasured, fit_of_measured}
@@ -34,31 +35,32 @@ line_leads fits.Standing place p measured leads = as_it_stood refl leads
 line_leads (fits.Scaled size b) place p (few, low, high) leads = near (way_back_of size b) (tells_way size b few low high) leads
 
 made_leads_back : (size : Option ℕ) (bytes : List ℕ) (s : Scanned) (done : Done) → IsSize size → scan_meaning_of bytes ≡ Ok s → (k : MakesPrepared size s done)
-    → TextLeadsBack s (prepared_places_of size s.points s.faces) done.text k.mesh
+    → TextLeadsBack s (places_in size s) done.text k.mesh
 made_leads_back size bytes s done is means k =
-    let fit : Fit = fit_of size s.points s.faces in
-    let places = prepared_places_of size s.points s.faces in
+    let fit : Fit = fit_in size s in
+    let places = places_in size s in
+    let three = of_three s.faces in
     let sound = meaning_sound bytes s means in
-    let measured = fit_of_measured size s.points s.faces is sound.exact in
-    let long : length places ≡ length s.points = length-places_of size s.points s.faces in
-    let own = subst (λ (n : ℕ). All (AreVerticesBelow n) s.faces) (sym long) sound.scanning.within.corners in
+    let measured = fit_of_measured size s.points three is sound.exact in
+    let long : length places ≡ length s.points = length-places_of size s.points three in
+    let own = subst (λ (n : ℕ). All (AreVerticesBelow n) three) (sym long) (three_all (AreVerticesBelow (length s.points)) s.faces sound.scanning.within.corners) in
     record {
       line = head_line fit;
       text_is = k.text_is;
-      back = λ v l named. line_leads fit (place_in_list places v) (place_in_list s.points v) measured (places_lead_back size s.points s.faces v is l named);
-      from = λ w l. let (v, low, named, same) = place_from places s.faces k.mesh own k.prepared.0 w l in (v, subst (λ (n : ℕ). v < n) long low, named, same);
+      back = λ v l named. line_leads fit (place_in_list places v) (place_in_list s.points v) measured (places_lead_back size s.points three v is l named);
+      from = λ w l. let (v, low, named, same) = place_from places three k.mesh own k.prepared.0 w l in (v, subst (λ (n : ℕ). v < n) long low, named, same);
     }
 
 outcome_leads_back : (size : Option ℕ) (bytes : List ℕ) (r : Result Done Fault) (place : Option ℕ) → IsSize size → IsPreparedText size bytes r place
-    → IfOk r (λ done. (s : Scanned) (m : Mesh) → scan_meaning_of bytes ≡ Ok s → meaning_of 0 done.text ≡ Ok m → 0 < length m.faces → TextLeadsBack s (prepared_places_of size s.points s.faces) done.text m)
+    → IfOk r (λ done. (s : Scanned) (m : Mesh) → scan_meaning_of bytes ≡ Ok s → meaning_of 0 done.text ≡ Ok m → 0 < length m.faces → TextLeadsBack s (places_in size s) done.text m)
 outcome_leads_back size bytes found place is (bad_line r means) = tt
 outcome_leads_back size bytes found place is (too_many s means many) = tt
 outcome_leads_back size bytes found place is (no_face s means none) = tt
 outcome_leads_back size bytes found place is (made t done means k) = λ s m spells read some.
     let own = one_mesh (meaning_of 0 done.text) k.mesh m (mesh_is_read size bytes t done is means k) read in
     let same = one_scanned (scan_meaning_of bytes) t s means spells in
-    subst (λ (u : Scanned). TextLeadsBack u (prepared_places_of size u.points u.faces) done.text m) same
-    (subst (TextLeadsBack t (prepared_places_of size t.points t.faces) done.text) own (made_leads_back size bytes t done is means k))
+    subst (λ (u : Scanned). TextLeadsBack u (places_in size u) done.text m) same
+    (subst (TextLeadsBack t (places_in size t) done.text) own (made_leads_back size bytes t done is means k))
 
 pub texts_lead_back : TextsLeadBack
 texts_lead_back size bytes s done place m is spells outcome read some = outcome_leads_back size bytes (Ok done) place is outcome s m spells read some

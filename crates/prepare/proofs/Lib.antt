@@ -11,6 +11,7 @@ pub mod RestoredLaws
 pub mod NothingLaws
 pub mod AgainLaws
 pub mod StayLaws
+pub mod AccountLaws
 pub mod NumeralLaws
 pub mod BackLaws
 pub mod FitLaws

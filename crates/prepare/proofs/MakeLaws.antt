@@ -1,5 +1,5 @@
 -- What a text gives is what its mesh is made of.
-use Rattle.std.proofs.Common.{◌≡◌, ℕ, ◌<◌, List, ◌++◌, length, Option, Some, None, IfSome, Result, Ok, Err, refl, sym, ◌∙◌, ap, subst}
+use Rattle.std.proofs.Common.{◌≡◌, ℕ, ◌<◌, List, ◌++◌, length, Option, Some, None, IfSome, Result, Ok, Err, refl, ◌∙◌, ap, subst}
 use Rattle.pm_base.specs.declared.mesh.Corners.{Corners}
 use Rattle.pm_base.specs.Place.{Place}
 use Rattle.pm_base.specs.Meshes.{Mesh, IsWellFormed}
@@ -14,61 +14,62 @@ use Rattle.obj_scan.specs.Fails.{ScanFailsBefore}
 use Rattle.obj_prepare.specs.declared.notes.Notes.{Notes}
 use Rattle.obj_prepare.specs.declared.placing.Fit.{Fit}
 use Rattle.obj_prepare.specs.Placing.{fit_of, prepared_places_of}
-use Rattle.obj_prepare.specs.Prepared.{IsPrepared, IsPreparedWith}
+use Rattle.obj_prepare.specs.Prepared.{IsPreparedWith}
 use Rattle.obj_prepare.proofs.PlacingLaws.{length-places_of}
 use Rattle.prepare.specs.Texts.{head_line, notes_text}
-use Rattle.obj_prepare.specs.Named.{IsWithinMesh as IsNamedWithin}
+use Rattle.obj_prepare.specs.Named.{IsWithinMesh as IsNamedWithin, of_three}
+use Rattle.obj_prepare.proofs.ThreeLaws.{three_within}
+use Rattle.obj_prepare.specs.declared.longest.LongestAxis.{LongestAxis}
+use Rattle.prepare.specs.declared.counts.Counts.{Counts}
 use Rattle.prepare.specs.declared.fault.Fault.{Fault}
 use Rattle.prepare.specs.declared.fault.Fault.TheVariants as faults
 use Rattle.prepare.specs.declared.fault.InputFail.{InputFail}
 use Rattle.prepare.specs.declared.fault.InputFail.TheVariants as input
-use Rattle.prepare.specs.Outcome.{Done, MakesPrepared, IsPreparedText, LeavesNoFace, bad_line, too_many, no_face, made}
+use Rattle.prepare.specs.Outcome.{Done, MakesPrepared, fit_in, places_in, counts_of, warning_for, warning_in, IsPreparedText, LeavesNoFace, bad_line, too_many, no_face, made}
 use Rattle.prepare.specs.Making.{IsMakeFail}
 use Rattle.prepare.specs.Ending.{HasPreparedFault, PlaceUnreached, StopsPreparing}
 
-pub named_within : (s : Scanned) → IsWithinLimits s → IsNamedWithin (length s.points) s.faces
-named_within s within = record {
+named_within : (s : Scanned) → IsWithinLimits s → IsNamedWithin (length s.points) (of_three s.faces)
+named_within s within = three_within (length s.points) s.faces (record {
   vertices_few = within.points;
   faces_few = within.faces;
   corners = within.corners;
-}
+})
+
+pub lent_within : (s : Scanned) (points : List Place) (faces : List Corners) → IsWithinLimits s → points ≡ s.points → faces ≡ of_three s.faces → IsNamedWithin (length points) faces
+lent_within s points faces within points_are faces_are = rw (points_are, faces_are) (named_within s within)
 
 -- Lists that were lent are the same lists.
 
-pub placed_within : (size : Option ℕ) (s : Scanned) (points : List Place) (faces : List Corners) (places lent : List Place) (again : List Corners) → IsWithinLimits s → points ≡ s.points → faces ≡ s.faces → places ≡ prepared_places_of size points faces → lent ≡ places → again ≡ s.faces
+pub placed_within : (size : Option ℕ) (s : Scanned) (points : List Place) (faces : List Corners) (places lent : List Place) (again : List Corners) → IsWithinLimits s → points ≡ s.points → faces ≡ of_three s.faces → places ≡ prepared_places_of size points faces → lent ≡ places → again ≡ of_three s.faces
     → IsNamedWithin (length lent) again
 placed_within size s points faces places lent again within points_are faces_are placed lent_is same =
     let count : length lent ≡ length s.points = ap length (lent_is ∙ placed) ∙ length-places_of size points faces ∙ ap length points_are in
     rw (count, same) (named_within s within)
 
-pub makes_done : (size : Option ℕ) (s : Scanned) (points : List Place) (faces : List Corners) (fit : Fit) (places lent : List Place) (again : List Corners) (m : Mesh) (notes : Notes) (shown : List Corners) (head said : List ℕ)
-    → points ≡ s.points → faces ≡ s.faces → fit ≡ fit_of size points faces → places ≡ prepared_places_of size points faces → lent ≡ places → again ≡ s.faces
-    → IsPreparedWith lent again m notes → IsWellFormed m → IsOrientedManifold (net_of m.faces) → shown ≡ m.faces → 0 < length shown → head ≡ head_line fit → said ≡ notes_text s.polygons notes fit
+pub makes_done : (size : Option ℕ) (s : Scanned) (points : List Place) (faces : List Corners) (fit : Fit) (places lent : List Place) (again : List Corners) (m : Mesh) (notes : Notes) (shown : List Corners) (counts : Counts) (warning : Option LongestAxis) (head said : List ℕ)
+    → points ≡ s.points → faces ≡ of_three s.faces → fit ≡ fit_of size points faces → places ≡ prepared_places_of size points faces → lent ≡ places → again ≡ of_three s.faces
+    → IsPreparedWith lent again m notes → IsWellFormed m → IsOrientedManifold (net_of m.faces) → shown ≡ m.faces → 0 < length shown → counts ≡ counts_of s m → warning ≡ warning_in size s notes → head ≡ head_line fit → said ≡ notes_text counts notes fit warning
     → MakesPrepared size s (record { text = head ++ canonical_text 0 m; notes = said })
-makes_done size s points faces fit places lent again m notes shown head said points_are faces_are fit_is placed lent_is same prepared formed manifold shown_is some head_is said_is =
-    let fit_same : fit ≡ fit_of size s.points s.faces = fit_is ∙ ap (λ ps. fit_of size ps faces) points_are ∙ ap (λ fs. fit_of size s.points fs) faces_are in
-    let places_same : lent ≡ prepared_places_of size s.points s.faces = lent_is ∙ placed ∙ ap (λ ps. prepared_places_of size ps faces) points_are ∙ ap (λ fs. prepared_places_of size s.points fs) faces_are in
+makes_done size s points faces fit places lent again m notes shown counts warning head said points_are faces_are fit_is placed lent_is same prepared formed manifold shown_is some counts_are warning_is head_is said_is =
+    let fit_same : fit ≡ fit_in size s = fit_is ∙ ap (λ ps. fit_of size ps faces) points_are ∙ ap (λ fs. fit_of size s.points fs) faces_are in
+    let places_same : lent ≡ places_in size s = lent_is ∙ placed ∙ ap (λ ps. prepared_places_of size ps faces) points_are ∙ ap (λ fs. prepared_places_of size s.points fs) faces_are in
     record {
       mesh = m;
       notes = notes;
-      prepared = subst (λ fs. IsPreparedWith (prepared_places_of size s.points s.faces) fs m notes) same (subst (λ ps. IsPreparedWith ps again m notes) places_same prepared);
+      prepared = subst (λ fs. IsPreparedWith (places_in size s) fs m notes) same (subst (λ ps. IsPreparedWith ps again m notes) places_same prepared);
       formed = formed;
       manifold = manifold;
       some = subst (λ (fs : List Corners). 0 < length fs) shown_is some;
       text_is = ap (λ h. h ++ canonical_text 0 m) (head_is ∙ ap head_line fit_same);
-      notes_are = said_is ∙ ap (notes_text s.polygons notes) fit_same;
+      notes_are = said_is ∙ ap (λ c. notes_text c notes fit warning) counts_are ∙ ap (λ f. notes_text (counts_of s m) notes f warning) fit_same ∙ ap (notes_text (counts_of s m) notes (fit_in size s)) warning_is;
     }
 
-pub leaves_none : (size : Option ℕ) (s : Scanned) (points : List Place) (faces : List Corners) (places lent : List Place) (again : List Corners) (m : Mesh) (shown : List Corners)
-    → points ≡ s.points → faces ≡ s.faces → places ≡ prepared_places_of size points faces → lent ≡ places → again ≡ s.faces → IsPrepared lent again m → shown ≡ m.faces → length shown ≡ 0
-    → LeavesNoFace (prepared_places_of size s.points s.faces) s.faces
-leaves_none size s points faces places lent again m shown points_are faces_are placed lent_is same prepared shown_is none =
-    let places_same : lent ≡ prepared_places_of size s.points s.faces = lent_is ∙ placed ∙ ap (λ ps. prepared_places_of size ps faces) points_are ∙ ap (λ fs. prepared_places_of size s.points fs) faces_are in
-    record {
-      mesh = m;
-      prepared = subst (λ fs. IsPrepared (prepared_places_of size s.points s.faces) fs m) same (subst (λ ps. IsPrepared ps again m) places_same prepared);
-      none = ap length (sym shown_is) ∙ none;
-    }
+pub warned : (size : Option ℕ) (s : Scanned) (points lent : List Place) (faces again : List Corners) (fit : Fit) (notes : Notes) (warning : Option LongestAxis)
+    → points ≡ s.points → faces ≡ of_three s.faces → fit ≡ fit_of size points faces → lent ≡ s.points → again ≡ of_three s.faces → warning ≡ warning_for fit lent again notes.flat → warning ≡ warning_in size s notes
+warned size s points lent faces again fit notes warning points_are faces_are fit_is lent_are again_are is =
+    let fit_same : fit ≡ fit_in size s = fit_is ∙ ap (λ ps. fit_of size ps faces) points_are ∙ ap (fit_of size s.points) faces_are in
+    is ∙ ap (λ f. warning_for f lent again notes.flat) fit_same ∙ ap (λ ps. warning_for (fit_in size s) ps again notes.flat) lent_are ∙ ap (λ fs. warning_for (fit_in size s) s.points fs notes.flat) again_are
 
 -- What follows where the source tells its bytes.
 module _ (size : Option ℕ) where

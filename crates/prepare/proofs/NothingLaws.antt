@@ -1,5 +1,5 @@
 -- Where nothing needs to be done, nothing is told: all numbers are 0.
-use Rattle.std.proofs.Common.{◌≡◌, ℕ, zero, suc, ◌<◌, ◌≤◌, Bool, true, false, not, ◌&&◌, ◌==◌, nat_lt, inl, inr, refl, sym, ap, ◌∙◌, List, [], ◌∷◌, ◌++◌, length, get_or, arith}
+use Rattle.std.proofs.Common.{◌≡◌, ℕ, zero, suc, ◌<◌, ◌≤◌, Bool, true, false, not, ◌&&◌, ◌==◌, ◌*◌, None, nat_lt, nat_le, inl, inr, refl, sym, ap, ◌∙◌, List, [], ◌∷◌, ◌++◌, length, get_or, arith}
 use Rattle.std.specs.Prelude.{codes}
 use Rattle.std.specs.List.{All}
 use Rattle.std.proofs.lemmas.Bool.{cases_eq, cases_Bool, and_parts, eq-eqb, eqb-true, le-ltb, or_from, true≢false}
@@ -16,13 +16,18 @@ use Rattle.pm_fans.specs.Cuts.{side_runs, is_cut, cut_count}
 use Rattle.pm_fans.proofs.CutLaws.{count_none}
 use Rattle.obj_prepare.specs.declared.notes.Notes.{Notes}
 use Rattle.obj_prepare.specs.declared.placing.Fit.{Fit}
+use Rattle.obj_prepare.specs.declared.placing.Fit.TheVariants as fits
+use Rattle.prepare.specs.Outcome.{warning_for}
+use Rattle.pm_base.specs.Place.{Place}
+use Rattle.std.proofs.lemmas.Bool.Decides.{nat_tests}
 use Rattle.obj_prepare.specs.Named.{AreVerticesBelow}
 use Rattle.obj_prepare.specs.Joining.{renamed, joined_faces}
 use Rattle.obj_prepare.specs.Prepared.{staying, IsPrepared, joined_count, AreNotes}
 use Rattle.obj_prepare.specs.Laws.{AreFit}
 use Rattle.obj_prepare.proofs.PieceLaws.{named_low}
-use Rattle.prepare.specs.Texts.{note_line, face_notes, vertex_notes, last_note, notes_text}
-use Rattle.prepare.proofs.RestoredLaws.{all_stay, none_flat, none_double, none_unnamed, all_named, split_as_joined}
+use Rattle.prepare.specs.declared.counts.Counts.{Counts}
+use Rattle.prepare.specs.Texts.{account_line, warning_line, note_line, face_notes, vertex_notes, last_note, notes_text}
+use Rattle.prepare.proofs.RestoredLaws.{all_stay, none_flat, none_double, none_unnamed, none_gone, all_named, split_as_joined}
 
 -- Of numbers that pass no two are different.
 count_lone : (p : ℕ → Bool) (n : ℕ) → ((i j : ℕ) → p i ≡ true → p j ≡ true → i ≡ j) → count p n ≤ 1
@@ -49,7 +54,7 @@ none_cut m is = count_none (is_cut m) (side_count m) (λ e l t. true≢false (sy
 
 -- No number is told of what was done.
 abbrev pub nothing_done : Notes
-nothing_done = record { joined = 0; flat = 0; double = 0; cut = 0; split = 0; unnamed = 0 }
+nothing_done = record { joined = 0; flat = 0; double = 0; cut = 0; split = 0; unnamed = 0; gone = 0 }
 
 module _ (m : Mesh) (corners : All (AreVerticesBelow (length m.points)) m.faces) (manifold : IsOrientedManifold (net_of m.faces)) (fit : AreFit m.points m.faces) (p : IsPrepared m.points m.faces m) where
   own_name : (v : ℕ) → v < length m.points → get_or p.names v 0 ≡ v
@@ -89,12 +94,27 @@ module _ (m : Mesh) (corners : All (AreVerticesBelow (length m.points)) m.faces)
     cut = sym (ap (λ (fs : List Corners). cut_count (net_of fs)) stay_same ∙ none_cut (net_of m.faces) manifold);
     split = sym (split_as_joined m fit.used p corners ∙ none_joined);
     unnamed = sym (none_unnamed m fit.used p);
+    gone = sym (none_gone m fit.used p);
   }
 
-four_ends : (line : List ℕ) → line ++ [] ++ [] ++ [] ++ [] ≡ line
-four_ends line = append-nil (line ++ [] ++ [] ++ []) ∙ append-nil (line ++ [] ++ []) ∙ append-nil (line ++ []) ∙ append-nil line
+five_ends : (line : List ℕ) → line ++ [] ++ [] ++ [] ++ [] ++ [] ≡ line
+five_ends line = append-nil (line ++ [] ++ [] ++ [] ++ []) ∙ append-nil (line ++ [] ++ [] ++ []) ∙ append-nil (line ++ [] ++ []) ∙ append-nil (line ++ []) ∙ append-nil line
+
+-- Where as much came out as there was, that isn't told.
+pub no_account : (c : Counts) → c.vertices_in ≡ c.vertices_out → c.triangles_in ≡ c.triangles_out → account_line c ≡ []
+unfolding account_line
+no_account c vertices triangles = rw (eq-eqb c.vertices_in c.vertices_out vertices, eq-eqb c.triangles_in c.triangles_out triangles) refl
 
 -- Only polygons that were cut are told.
-pub nothing_said : (polygons : ℕ) (fit : Fit) → notes_text polygons nothing_done fit ≡ note_line (codes "polygons cut") polygons ++ last_note fit
-unfolding notes_text face_notes vertex_notes note_line
-nothing_said polygons fit = ap (λ (line : List ℕ). line ++ last_note fit) (four_ends (note_line (codes "polygons cut") polygons))
+pub nothing_said : (c : Counts) (fit : Fit) → account_line c ≡ [] → c.twice ≡ 0 → notes_text c nothing_done fit None ≡ note_line (codes "polygons cut") c.polygons ++ last_note fit
+unfolding notes_text face_notes vertex_notes note_line warning_line
+nothing_said c fit same none =
+    let line = note_line (codes "polygons cut") c.polygons in
+    rw (same, none) (append-nil ((line ++ [] ++ [] ++ [] ++ [] ++ []) ++ last_note fit) ∙ ap (λ (l : List ℕ). l ++ last_note fit) (five_ends line))
+
+-- Where no triangle became an edge nothing is warned of.
+pub no_warning : (fit : Fit) (points : List Place) (triangles : List Corners) → 0 < length triangles → warning_for fit points triangles 0 ≡ None
+no_warning fits.Standing points triangles some = refl
+no_warning (fits.Scaled size b) points triangles some =
+    let few : nat_le (length triangles) (10 * 0) ≡ false = grind (arith, nat_tests, some) in
+    rw few refl

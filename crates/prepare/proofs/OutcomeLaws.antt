@@ -10,13 +10,13 @@ use Rattle.obj_scan.specs.Judged.{Scanned}
 use Rattle.obj_scan.specs.Meaning.{scan_meaning_of}
 use Rattle.obj_prepare.specs.declared.notes.Notes.{Notes}
 use Rattle.obj_prepare.specs.declared.placing.Fit.{Fit}
-use Rattle.obj_prepare.specs.Placing.{fit_of, prepared_places_of}
+use Rattle.obj_prepare.specs.Named.{of_three}
 use Rattle.obj_prepare.specs.Prepared.{HasTooMany}
 use Rattle.obj_prepare.proofs.OnePrepared.{prepared_are_one, notes_are_one}
 use Rattle.prepare.specs.declared.fault.Fault.{Fault}
 use Rattle.prepare.specs.declared.fault.Fault.TheVariants as faults
 use Rattle.prepare.specs.Texts.{output_text, notes_text}
-use Rattle.prepare.specs.Outcome.{Done, MakesPrepared, IsPreparedText, LeavesNoFace, bad_line, too_many, no_face, made}
+use Rattle.prepare.specs.Outcome.{Done, MakesPrepared, fit_in, places_in, counts_of, warning_in, IsPreparedText, LeavesNoFace, bad_line, too_many, no_face, made}
 
 one_refused : (found : Result Scanned Refused) (r q : Refused) → found ≡ Err r → found ≡ Err q → r ≡ q
 one_refused found r q is are = cc
@@ -30,23 +30,23 @@ not_both found r s is are = cc
 -- The texts tell of one mesh and of one list of numbers.
 one_made : (size : Option ℕ) (s : Scanned) (done other : Done) → MakesPrepared size s done → MakesPrepared size s other → done ≡ other
 one_made size s done other a b =
-    let fit : Fit = fit_of size s.points s.faces in
-    let mesh = prepared_are_one (prepared_places_of size s.points s.faces) s.faces a.mesh b.mesh a.prepared.0 b.prepared.0 in
-    let notes = notes_are_one (prepared_places_of size s.points s.faces) s.faces a.mesh b.mesh a.notes b.notes a.prepared b.prepared in
+    let fit : Fit = fit_in size s in
+    let mesh = prepared_are_one (places_in size s) (of_three s.faces) a.mesh b.mesh a.prepared.0 b.prepared.0 in
+    let notes = notes_are_one (places_in size s) (of_three s.faces) a.mesh b.mesh a.notes b.notes a.prepared b.prepared in
     let text = a.text_is ∙ ap (output_text fit) mesh ∙ sym b.text_is in
-    let said = a.notes_are ∙ ap (λ (n : Notes). notes_text s.polygons n fit) notes ∙ sym b.notes_are in
+    let said = a.notes_are ∙ ap (λ (n : Notes). notes_text (counts_of s a.mesh) n fit (warning_in size s n)) notes ∙ ap (λ (m : Mesh). notes_text (counts_of s m) b.notes fit (warning_in size s b.notes)) mesh ∙ sym b.notes_are in
     λ i. record { text = text i; notes = said i }
 
 -- A mesh that is made doesn't have too many vertices.
-not_too_many : (size : Option ℕ) (s : Scanned) (done : Done) → HasTooMany (prepared_places_of size s.points s.faces) s.faces → MakesPrepared size s done → ⊥
+not_too_many : (size : Option ℕ) (s : Scanned) (done : Done) → HasTooMany (places_in size s) (of_three s.faces) → MakesPrepared size s done → ⊥
 not_too_many size s done over makes =
-    let mesh = prepared_are_one (prepared_places_of size s.points s.faces) s.faces over.mesh makes.mesh over.prepared makes.prepared.0 in
+    let mesh = prepared_are_one (places_in size s) (of_three s.faces) over.mesh makes.mesh over.prepared makes.prepared.0 in
     absurd (omega (arith, over.many, makes.formed.points, ap (λ (m : Mesh). length m.points) mesh))
 
 -- A mesh that is made has faces.
-not_without : (size : Option ℕ) (s : Scanned) (done : Done) → LeavesNoFace (prepared_places_of size s.points s.faces) s.faces → MakesPrepared size s done → ⊥
+not_without : (size : Option ℕ) (s : Scanned) (done : Done) → LeavesNoFace (places_in size s) (of_three s.faces) → MakesPrepared size s done → ⊥
 not_without size s done leaves makes =
-    let mesh = prepared_are_one (prepared_places_of size s.points s.faces) s.faces leaves.mesh makes.mesh leaves.prepared makes.prepared.0 in
+    let mesh = prepared_are_one (places_in size s) (of_three s.faces) leaves.mesh makes.mesh leaves.prepared makes.prepared.0 in
     absurd (omega (arith, leaves.none, makes.some, ap (λ (m : Mesh). length m.faces) mesh))
 
 -- Too many vertices have faces.
@@ -59,17 +59,17 @@ not_over places faces over leaves =
     absurd (omega (arith, t.is_side, leaves.none, ap (λ (m : Mesh). length m.faces) mesh))
 
 module _ (size : Option ℕ) (bytes : List ℕ) where
-  over_or_made : (s t : Scanned) (done : Done) → scan_meaning_of bytes ≡ Ok s → scan_meaning_of bytes ≡ Ok t → HasTooMany (prepared_places_of size s.points s.faces) s.faces → MakesPrepared size t done → ⊥
+  over_or_made : (s t : Scanned) (done : Done) → scan_meaning_of bytes ≡ Ok s → scan_meaning_of bytes ≡ Ok t → HasTooMany (places_in size s) (of_three s.faces) → MakesPrepared size t done → ⊥
   over_or_made s t done is are over makes = not_too_many size s done over (subst (λ (u : Scanned). MakesPrepared size u done) (one_scanned (scan_meaning_of bytes) t s are is) makes)
 
-  none_or_made : (s t : Scanned) (done : Done) → scan_meaning_of bytes ≡ Ok s → scan_meaning_of bytes ≡ Ok t → LeavesNoFace (prepared_places_of size s.points s.faces) s.faces → MakesPrepared size t done → ⊥
+  none_or_made : (s t : Scanned) (done : Done) → scan_meaning_of bytes ≡ Ok s → scan_meaning_of bytes ≡ Ok t → LeavesNoFace (places_in size s) (of_three s.faces) → MakesPrepared size t done → ⊥
   none_or_made s t done is are leaves makes = not_without size s done leaves (subst (λ (u : Scanned). MakesPrepared size u done) (one_scanned (scan_meaning_of bytes) t s are is) makes)
 
-  over_or_none : (s t : Scanned) → scan_meaning_of bytes ≡ Ok s → scan_meaning_of bytes ≡ Ok t → HasTooMany (prepared_places_of size s.points s.faces) s.faces
-      → LeavesNoFace (prepared_places_of size t.points t.faces) t.faces → ⊥
+  over_or_none : (s t : Scanned) → scan_meaning_of bytes ≡ Ok s → scan_meaning_of bytes ≡ Ok t → HasTooMany (places_in size s) (of_three s.faces)
+      → LeavesNoFace (places_in size t) (of_three t.faces) → ⊥
   over_or_none s t is are over leaves =
-      not_over (prepared_places_of size s.points s.faces) s.faces over
-      (subst (λ (u : Scanned). LeavesNoFace (prepared_places_of size u.points u.faces) u.faces) (one_scanned (scan_meaning_of bytes) t s are is) leaves)
+      not_over (places_in size s) (of_three s.faces) over
+      (subst (λ (u : Scanned). LeavesNoFace (places_in size u) (of_three u.faces)) (one_scanned (scan_meaning_of bytes) t s are is) leaves)
 
   abbrev refusal : Refused → Result Done Fault
   refusal r = Err (faults.Line r.fault r.line)

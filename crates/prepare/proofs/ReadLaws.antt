@@ -9,9 +9,10 @@ use Rattle.obj_scan.specs.Judged.{Scanned}
 use Rattle.obj_scan.specs.Meaning.{scan_meaning_of}
 use Rattle.obj_scan.specs.Laws.{IsFormed}
 use Rattle.obj_scan.proofs.FormLaws.{commented_formed}
-use Rattle.obj_prepare.specs.Placing.{IsSize, fit_of, prepared_places_of}
+use Rattle.obj_prepare.specs.Named.{of_three}
+use Rattle.obj_prepare.specs.Placing.{IsSize}
 use Rattle.prepare.specs.declared.fault.Fault.{Fault}
-use Rattle.prepare.specs.Outcome.{Done, MakesPrepared, IsPreparedText, bad_line, too_many, no_face, made}
+use Rattle.prepare.specs.Outcome.{Done, MakesPrepared, fit_in, places_in, IsPreparedText, bad_line, too_many, no_face, made}
 use Rattle.prepare.specs.Laws.{IsFitText, TextsAreRead}
 use Rattle.prepare.proofs.ScannedLaws.{meaning_sound}
 use Rattle.prepare.proofs.GridLaws.{places_on_grid, taken_on_grid, fit_of_measured}
@@ -20,14 +21,14 @@ use Rattle.prepare.proofs.HeadLaws.{head_comment}
 -- The points of a mesh that was made are on the grid.
 pub made_on_grid : (size : Option ℕ) (s : Scanned) (done : Done) → IsSize size → (m : MakesPrepared size s done) → All IsPlace m.mesh.points
 made_on_grid size s done is m =
-    let places = prepared_places_of size s.points s.faces in
+    let places = places_in size s in
     let p = m.prepared.0 in
-    subst (All IsPlace) (sym p.stand) (taken_on_grid places p.old (places_on_grid size s.points s.faces is))
+    subst (All IsPlace) (sym p.stand) (taken_on_grid places p.old (places_on_grid size s.points (of_three s.faces) is))
 
 made_is_read : (size : Option ℕ) (bytes : List ℕ) (s : Scanned) (done : Done) → IsSize size → scan_meaning_of bytes ≡ Ok s → MakesPrepared size s done → IsFitText done.text
 made_is_read size bytes s done is means m =
-    let fit = fit_of size s.points s.faces in
-    let head = head_comment fit (fit_of_measured size s.points s.faces is (meaning_sound bytes s means).exact) in
+    let fit = fit_in size s in
+    let head = head_comment fit (fit_of_measured size s.points (of_three s.faces) is (meaning_sound bytes s means).exact) in
     let text = canonical_text 0 m.mesh in
     let text_is : done.text ≡ (35 ∷ head.line) ++ 10 ∷ text = m.text_is ∙ ap (λ (h : List ℕ). h ++ text) head.text_is ∙ append_assoc (35 ∷ head.line) (10 ∷ []) text in
     record {

@@ -14,35 +14,10 @@ use Rattle.pm_fans.specs.Kept.{is_flat, is_corner, is_kept_after, kept_after, ke
 use Rattle.pm_fans.proofs.CutLaws.{count_none}
 use Rattle.obj_prepare.specs.Named.{is_some_corner, AreVerticesBelow}
 use Rattle.obj_prepare.specs.Joining.{place_in_list, renamed, joined_faces}
-use Rattle.obj_prepare.specs.Prepared.{staying, IsPrepared, joined_count, flat_count, double_count, unnamed_count, split_count}
+use Rattle.obj_prepare.specs.Prepared.{staying, IsPrepared, joined_count, flat_count, double_count, unnamed_count, split_count, gone_count}
 use Rattle.obj_prepare.proofs.CountLaws.{count_both}
+use Rattle.obj_prepare.proofs.KeptCounts.{kept_and_flat}
 use Rattle.prepare.proofs.StandingLaws.{used_named}
-
--- A face that became an edge doesn't stay.
-kept_not_flat : (before : List Corners) (f : Corners) → is_kept_after before f ≡ true → is_flat f ≡ false
-unfolding is_kept_after
-kept_not_flat before f is =
-    elim (cases_Bool (is_flat f)) [
-      | inl t ↦ absurd (true≢false (sym (and_parts (not (is_flat f)) _ is).0 ∙ ap not t))
-      | inr n ↦ n
-    ]
-
-kept_and_flat : (before fs : List Corners) → length (kept_after before fs) + length (filter is_flat fs) ≤ length before + length fs
-kept_and_flat before [] = omega arith
-kept_and_flat before (f ∷ fs) =
-    let long = length-append before (f ∷ []) in
-    elim (cases_Bool (is_kept_after before f)) [
-      | inl k ↦
-          let a = ap length (cond-true (is_kept_after before f) (kept_after (before ++ f ∷ []) fs) (kept_after before fs) k) in
-          let b = ap length (cond-false (is_flat f) (f ∷ filter is_flat fs) (filter is_flat fs) (kept_not_flat before f k)) in
-          omega (arith, a, b, long, kept_and_flat (before ++ f ∷ []) fs)
-      | inr n ↦
-          let a = ap length (cond-false (is_kept_after before f) (kept_after (before ++ f ∷ []) fs) (kept_after before fs) n) in
-          elim (cases_Bool (is_flat f)) [
-            | inl t ↦ (let b = ap length (cond-true (is_flat f) (f ∷ filter is_flat fs) (filter is_flat fs) t) in omega (arith, a, b, kept_and_flat before fs))
-            | inr g ↦ (let b = ap length (cond-false (is_flat f) (f ∷ filter is_flat fs) (filter is_flat fs) g) in omega (arith, a, b, kept_and_flat before fs))
-          ]
-    ]
 
 -- Where as many stay, all do.
 all_kept : (before fs : List Corners) → length (kept_after before fs) ≡ length before + length fs → kept_after before fs ≡ before ++ fs
@@ -134,6 +109,17 @@ module _ (m : Mesh) (used : (v : ℕ) → v < length m.points → IsUsed (net_of
   pub none_unnamed : unnamed_count (length m.points) m.faces ≡ 0
   unfolding unnamed_count
   none_unnamed = count_none _ (length m.points) (λ v l t. true≢false (sym t ∙ ap not (all_named v l)))
+
+  pub none_gone : gone_count p.names m.faces ≡ 0
+  unfolding gone_count
+  none_gone =
+      count_none _ (length p.names) (λ v l t.
+      let low : v < length m.points = omega (arith, l, p.joined.all) in
+      let parts = and_parts (is_some_corner m.faces v && (name p.names v == v)) (not (is_some_corner (staying p.names m.faces) v)) t in
+      let own = and_parts (is_some_corner m.faces v) (name p.names v == v) parts.0 in
+      let there : is_some_corner (staying p.names m.faces) v ≡ true =
+      ap (λ (fs : List Corners). is_some_corner fs v) all_stay ∙ subst (λ u. is_some_corner joined u ≡ true) (eqb-true _ _ own.1) (joined_named p.names m.faces v own.0) in
+      true≢false (sym parts.1 ∙ ap not there))
 
   -- One that stands for another stands for itself.
   own_name : (v w : ℕ) → v < length m.points → w < length m.points → name p.names w ≡ v → name p.names v ≡ v

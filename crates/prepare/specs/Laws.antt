@@ -1,5 +1,5 @@
 -- The laws of outcomes, each as a statement. Byte 10 is LF, 13 is CR, and 35 is `#`.
-use Rattle.std.specs.Prelude.{◌≡◌, ℕ, ◌<◌, ℤ, pos, true, List, ◌∷◌, ◌++◌, length, drop, codes, Option, None, Result, Ok}
+use Rattle.std.specs.Prelude.{◌≡◌, ℕ, ◌+◌, ◌-◌, ◌<◌, ◌≤◌, ℤ, pos, true, List, ◌∷◌, ◌++◌, length, drop, codes, Option, None, Result, Ok}
 use Rattle.pm_base.specs.Place.{Place}
 use Rattle.pm_base.specs.Meshes.{Mesh, IsWellFormed}
 use Rattle.pm_base.specs.Sides.{net_of}
@@ -13,18 +13,18 @@ use Rattle.obj_read.specs.Coordinates.{is_negative, without_sign, decimals, is_n
 use Rattle.obj_read.specs.Meaning.{meaning_of}
 use Rattle.obj_scan.specs.Judged.{Scanned}
 use Rattle.obj_scan.specs.Meaning.{scan_meaning_of}
-use Rattle.obj_scan.specs.Laws.{IsFormed}
+use Rattle.obj_scan.specs.Laws.{IsFormed, scanned_mesh}
 use Rattle.obj_prepare.specs.declared.notes.Notes.{Notes}
 use Rattle.obj_prepare.specs.declared.placing.Fit.TheVariants as fits
-use Rattle.obj_prepare.specs.Named.{is_some_corner}
-use Rattle.obj_prepare.specs.Placing.{IsSize, fit_of, prepared_places_of}
+use Rattle.obj_prepare.specs.Named.{is_some_corner, of_three}
+use Rattle.obj_prepare.specs.Placing.{IsSize}
 use Rattle.obj_prepare.specs.Joining.{place_in_list}
 use Rattle.obj_prepare.specs.Back.{WayBack, LeadsNear, StandsAt}
 use Rattle.obj_prepare.specs.Prepared.{IsPreparedWith}
 use Rattle.obj_prepare.specs.Laws.{AreFit}
 use Rattle.prepare.specs.declared.fault.Fault.{Fault}
 use Rattle.prepare.specs.Texts.{output_text, note_line, notes_text, last_note}
-use Rattle.prepare.specs.Outcome.{Done, IsPreparedText}
+use Rattle.prepare.specs.Outcome.{Done, MakesPrepared, IsPreparedText, fit_in, places_in, counts_of}
 
 -- A text has one outcome, and one place that decides it.
 abbrev pub OnePreparedText : Type 0
@@ -71,17 +71,28 @@ pub data LineLeadsBack (line : List ℕ) (place p : Place) : Type 0 where
   near : (way : WayBack) → TellsWayBack line way → LeadsNear way place p → LineLeadsBack line place p
 
 -- The text is a first line and the canonical text of a mesh. The line leads back from the place of each vertex that a
--- triangle names to the point that was read, and each vertex of the mesh stands at the place of one of them.
+-- triangle of three different vertices names to the point that was read, and each vertex of the mesh stands at the place of one of them.
 pub record TextLeadsBack (s : Scanned) (places : List Place) (text : List ℕ) (m : Mesh) : Type 0 where
   pub line : List ℕ
   pub text_is : text ≡ line ++ canonical_text 0 m
-  pub back : (v : ℕ) → v < length s.points → is_some_corner s.faces v ≡ true → LineLeadsBack line (place_in_list places v) (place_in_list s.points v)
-  pub from : (w : ℕ) → w < length m.points → (v : ℕ) × (v < length s.points) × (is_some_corner s.faces v ≡ true) × (place_in_list m.points w ≡ place_in_list places v)
+  pub back : (v : ℕ) → v < length s.points → is_some_corner (of_three s.faces) v ≡ true → LineLeadsBack line (place_in_list places v) (place_in_list s.points v)
+  pub from : (w : ℕ) → w < length m.points → (v : ℕ) × (v < length s.points) × (is_some_corner (of_three s.faces) v ≡ true) × (place_in_list m.points w ≡ place_in_list places v)
 
 -- What is written, where it has faces, leads back to the points of the text.
 abbrev pub TextsLeadBack : Type 0
 TextsLeadBack = (size : Option ℕ) (bytes : List ℕ) (s : Scanned) (done : Done) (place : Option ℕ) (m : Mesh) → IsSize size → scan_meaning_of bytes ≡ Ok s → IsPreparedText size bytes (Ok done) place → meaning_of 0 done.text ≡ Ok m → 0 < length m.faces
-    → TextLeadsBack s (prepared_places_of size s.points s.faces) done.text m
+    → TextLeadsBack s (places_in size s) done.text m
+
+-- Each triangle of a text names a vertex twice, became an edge, has the corners of an earlier one, or came out. Each vertex
+-- has no face of three vertices, was joined to an earlier one, has lost its faces, or came out; so many were split off.
+pub record IsAccounted (s : Scanned) (m : Mesh) (notes : Notes) : Type 0 where
+  pub triangles : (counts_of s m).twice + notes.flat + notes.double + length m.faces ≡ length s.faces
+  pub split_few : notes.split ≤ length m.points
+  pub vertices : notes.unnamed + notes.joined + notes.gone + (length m.points - notes.split) ≡ length s.points
+
+-- So the numbers that are said of a mesh account for each vertex and triangle of its text.
+abbrev pub TextsAreAccounted : Type 0
+TextsAreAccounted = (size : Option ℕ) (bytes : List ℕ) (s : Scanned) (done : Done) → scan_meaning_of bytes ≡ Ok s → (k : MakesPrepared size s done) → IsAccounted s k.mesh k.notes
 
 -- The text of a mesh, prepared without a size, comes back after a comment. Vertices that were split off stand at one place,
 -- so they are joined, and as many are split off again, maybe along sides that are cut open. Nothing else is done.
@@ -92,7 +103,7 @@ pub record ComesBack (text : List ℕ) (m : Mesh) : Type 0 where
   pub flat : notes.flat ≡ 0
   pub double : notes.double ≡ 0
   pub unnamed : notes.unnamed ≡ 0
-  pub outcome : IsPreparedText None text (Ok (record { text = output_text fits.Standing m; notes = notes_text 0 notes fits.Standing })) None
+  pub outcome : IsPreparedText None text (Ok (record { text = output_text fits.Standing m; notes = notes_text (counts_of (scanned_mesh m) m) notes fits.Standing None })) None
 
 -- What is written comes back so, whatever the size was.
 abbrev pub TextsComeBack : Type 0
@@ -110,13 +121,13 @@ pub record NeedsNothing (size : Option ℕ) (s : Scanned) : Type 0 where
   pub some : 0 < length s.faces
   pub stand : AllStand (net_of s.faces)
   pub manifold : IsOrientedManifold (net_of s.faces)
-  pub fit : AreFit (prepared_places_of size s.points s.faces) s.faces
+  pub fit : AreFit (places_in size s) s.faces
 
 -- The output and the notes of these triangles over the places of these points: polygons that were cut, and the last line.
 abbrev pub as_it_is : Option ℕ → Scanned → Done
 as_it_is size s = record {
-  text = output_text (fit_of size s.points s.faces) (record { points = prepared_places_of size s.points s.faces; faces = s.faces });
-  notes = note_line (codes "polygons cut") s.polygons ++ last_note (fit_of size s.points s.faces);
+  text = output_text (fit_in size s) (record { points = places_in size s; faces = s.faces });
+  notes = note_line (codes "polygons cut") s.polygons ++ last_note (fit_in size s);
 }
 
 -- A text that needs nothing comes back as it is, for each size and for none.
@@ -141,4 +152,4 @@ pub record GainsWayBack (size : Option ℕ) (bytes : List ℕ) (old new : Option
   pub mesh : Mesh
   pub gained : Gains old new text
   pub read : meaning_of 0 text ≡ Ok mesh
-  pub leads : (s : Scanned) → scan_meaning_of bytes ≡ Ok s → 0 < length mesh.faces → TextLeadsBack s (prepared_places_of size s.points s.faces) text mesh
+  pub leads : (s : Scanned) → scan_meaning_of bytes ≡ Ok s → 0 < length mesh.faces → TextLeadsBack s (places_in size s) text mesh

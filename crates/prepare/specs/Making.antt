@@ -3,13 +3,13 @@ use Rattle.std.specs.Prelude.{ℕ, ◌++◌, Option}
 use Rattle.pm_base.specs.Meshes.{mesh_of}
 use Rattle.pm_base.specs.Canonical.{canonical_text}
 use Rattle.obj_scan.specs.Judged.{Scanned}
-use Rattle.obj_prepare.specs.Placing.{prepared_places_of}
+use Rattle.obj_prepare.specs.Named.{of_three}
 use Rattle.obj_prepare.specs.Prepared.{HasTooMany}
 use Rattle.prepare.specs.declared.fault.Fault.TheVariants as faults
 use Rattle.prepare.specs.declared.fault.InputFail.{InputFail}
 use Rattle.prepare.specs.declared.fault.InputFail.TheVariants as input
 use Rattle.prepare.specs.declared.make.Made.{Made}
-use Rattle.prepare.specs.Outcome.{Done, LeavesNoFace}
+use Rattle.prepare.specs.Outcome.{Done, LeavesNoFace, places_in}
 
 -- The texts that are written and said of it.
 abbrev pub done_of : Made → Done
@@ -18,7 +18,7 @@ done_of m = record { text = m.head.items ++ canonical_text 0 (mesh_of m.mesh); n
 -- Of points and triangles no mesh is made where too many vertices come out or no face, or memory is wanting.
 abbrev pub IsMakeFail : Option ℕ → Scanned → InputFail → Type 0
 IsMakeFail size s (input.Faulty (faults.Line e n)) = ⊥
-IsMakeFail size s (input.Faulty faults.TooMany) = HasTooMany (prepared_places_of size s.points s.faces) s.faces
-IsMakeFail size s (input.Faulty faults.NoFaces) = LeavesNoFace (prepared_places_of size s.points s.faces) s.faces
+IsMakeFail size s (input.Faulty faults.TooMany) = HasTooMany (places_in size s) (of_three s.faces)
+IsMakeFail size s (input.Faulty faults.NoFaces) = LeavesNoFace (places_in size s) (of_three s.faces)
 IsMakeFail size s input.Read = ⊥
 IsMakeFail size s input.OutOfMemory = Unit {0}

@@ -1,5 +1,5 @@
 -- What comes of an OBJ text.
-use Rattle.std.specs.Prelude.{◌≡◌, ℕ, ◌<◌, List, length, Option, None, Result, Ok, Err}
+use Rattle.std.specs.Prelude.{◌≡◌, ℕ, ◌-◌, ◌*◌, ◌<◌, nat_le, List, length, Option, Some, None, Result, Ok, Err, if◌then◌else◌}
 use Rattle.pm_base.specs.declared.mesh.Corners.{Corners}
 use Rattle.pm_base.specs.Place.{Place}
 use Rattle.pm_base.specs.Meshes.{Mesh, IsWellFormed}
@@ -9,8 +9,14 @@ use Rattle.obj_scan.specs.Refusals.{Refused}
 use Rattle.obj_scan.specs.Judged.{Scanned}
 use Rattle.obj_scan.specs.Meaning.{scan_meaning_of}
 use Rattle.obj_prepare.specs.declared.notes.Notes.{Notes}
+use Rattle.obj_prepare.specs.declared.placing.Fit.{Fit}
+use Rattle.obj_prepare.specs.declared.placing.Fit.TheVariants as fits
+use Rattle.obj_prepare.specs.declared.longest.LongestAxis.{LongestAxis}
+use Rattle.obj_prepare.specs.Longest.{longest_axis}
+use Rattle.obj_prepare.specs.Named.{of_three}
 use Rattle.obj_prepare.specs.Placing.{fit_of, prepared_places_of}
 use Rattle.obj_prepare.specs.Prepared.{IsPrepared, IsPreparedWith, HasTooMany}
+use Rattle.prepare.specs.declared.counts.Counts.{Counts}
 use Rattle.prepare.specs.declared.fault.Fault.{Fault}
 use Rattle.prepare.specs.declared.fault.Fault.TheVariants as faults
 use Rattle.prepare.specs.Texts.{output_text, notes_text}
@@ -20,17 +26,44 @@ pub record Done : Type 0 where
   pub text : List ℕ
   pub notes : List ℕ
 
+-- How the points are brought onto the grid that triangles of three different vertices name, and all places. Faces that name
+-- a vertex twice count for nothing.
+abbrev pub fit_in : Option ℕ → Scanned → Fit
+fit_in size s = fit_of size s.points (of_three s.faces)
+
+abbrev pub places_in : Option ℕ → Scanned → List Place
+places_in size s = prepared_places_of size s.points (of_three s.faces)
+
+-- How many vertices and triangles there were, and came out; how many polygons were cut; and how many faces name a vertex twice.
+abbrev pub counts_of : Scanned → Mesh → Counts
+counts_of s m = record {
+  vertices_in = length s.points;
+  vertices_out = length m.points;
+  triangles_in = length s.faces;
+  triangles_out = length m.faces;
+  polygons = s.polygons;
+  twice = length s.faces - length (of_three s.faces);
+}
+
+-- The longest axis of the box, where points are scaled by it and a tenth of the triangles or more became edges.
+abbrev pub warning_for : Fit → List Place → List Corners → ℕ → Option LongestAxis
+warning_for fits.Standing points triangles edges = None
+warning_for (fits.Scaled size b) points triangles edges = if nat_le (length triangles) (10 * edges) then Some (longest_axis b points triangles) else None
+
+abbrev pub warning_in : Option ℕ → Scanned → Notes → Option LongestAxis
+warning_in size s notes = warning_for (fit_in size s) s.points (of_three s.faces) notes.flat
+
 -- What is done with the points and triangles of a text: points are brought onto the grid, triangles become an oriented
 -- manifold of these points, and the texts tell of that.
 pub record MakesPrepared (size : Option ℕ) (s : Scanned) (done : Done) : Type 0 where
   pub mesh : Mesh
   pub notes : Notes
-  pub prepared : IsPreparedWith (prepared_places_of size s.points s.faces) s.faces mesh notes
+  pub prepared : IsPreparedWith (places_in size s) (of_three s.faces) mesh notes
   pub formed : IsWellFormed mesh
   pub manifold : IsOrientedManifold (net_of mesh.faces)
   pub some : 0 < length mesh.faces
-  pub text_is : done.text ≡ output_text (fit_of size s.points s.faces) mesh
-  pub notes_are : done.notes ≡ notes_text s.polygons notes (fit_of size s.points s.faces)
+  pub text_is : done.text ≡ output_text (fit_in size s) mesh
+  pub notes_are : done.notes ≡ notes_text (counts_of s mesh) notes (fit_in size s) (warning_in size s notes)
 
 -- No face comes out.
 pub record LeavesNoFace (places : List Place) (faces : List Corners) : Type 0 where
@@ -42,6 +75,6 @@ pub record LeavesNoFace (places : List Place) (faces : List Corners) : Type 0 wh
 -- many bytes decide that, where it isn't the end of the text.
 pub data IsPreparedText (size : Option ℕ) (bytes : List ℕ) : Result Done Fault → Option ℕ → Type 0 where
   bad_line : (r : Refused) → scan_meaning_of bytes ≡ Err r → IsPreparedText size bytes (Err (faults.Line r.fault r.line)) r.place
-  too_many : (s : Scanned) → scan_meaning_of bytes ≡ Ok s → HasTooMany (prepared_places_of size s.points s.faces) s.faces → IsPreparedText size bytes (Err faults.TooMany) None
-  no_face : (s : Scanned) → scan_meaning_of bytes ≡ Ok s → LeavesNoFace (prepared_places_of size s.points s.faces) s.faces → IsPreparedText size bytes (Err faults.NoFaces) None
+  too_many : (s : Scanned) → scan_meaning_of bytes ≡ Ok s → HasTooMany (places_in size s) (of_three s.faces) → IsPreparedText size bytes (Err faults.TooMany) None
+  no_face : (s : Scanned) → scan_meaning_of bytes ≡ Ok s → LeavesNoFace (places_in size s) (of_three s.faces) → IsPreparedText size bytes (Err faults.NoFaces) None
   made : (s : Scanned) (done : Done) → scan_meaning_of bytes ≡ Ok s → MakesPrepared size s done → IsPreparedText size bytes (Ok done) None

@@ -1,6 +1,8 @@
 //! `prepare` makes any OBJ text fit to become an oriented manifold: `run` over the standard streams.
 #![tactic(auto)]
 
+mod account;
+mod counts;
 mod fault;
 mod make;
 mod notes;
@@ -8,6 +10,7 @@ mod outcomes;
 mod run;
 mod say;
 mod text;
+mod warning;
 mod words;
 
 use pm_io::{StdSink, StdSource};

@@ -1,21 +1,25 @@
 //! A mesh that is an oriented manifold, made of any OBJ text.
-ghost use Rattle.std.specs.Prelude.{◌≡◌, false, None, Ok, IfOk, IfErr, IfSome, OnOk};
+ghost use Rattle.std.specs.Prelude.{◌≡◌, length, false, None, Ok, IfOk, IfErr, IfSome, OnOk};
 ghost use Rattle.pm_base.specs.Meshes.{IsWellFormed, mesh_of};
 ghost use Rattle.pm_io.specs.Bytes.{AtEnd};
 ghost use Rattle.obj_scan.specs.Fails.{scanned_of};
 ghost use Rattle.obj_scan.specs.Meaning.{IsWithinLimits};
 ghost use Rattle.obj_prepare.specs.Placing.{IsSize};
-ghost use Rattle.prepare.specs.Outcome.{MakesPrepared, IsPreparedText};
+ghost use Rattle.obj_prepare.specs.Named.{IsWithinMesh};
+ghost use Rattle.prepare.specs.Outcome.{MakesPrepared, IsPreparedText, warning_for};
 ghost use Rattle.prepare.specs.Making.{done_of, IsMakeFail};
 ghost use Rattle.prepare.specs.Ending.{StopsPreparing};
 
+use crate::counts::counts_of;
 use crate::fault::{Fault, InputFail};
 use crate::notes::{head_line, notes_text};
-use obj_prepare::{PrepareFail, place_points, prepare};
+use obj_prepare::{
+    ExactPoint, Fit, LongestAxis, PrepareFail, longest_axis, of_three, place_points, prepare,
+};
 use obj_scan::{Scan, ScanFail, scan_obj};
-use pm_base::Mesh;
+use pm_base::{Corners, Mesh};
 use pm_io::Source;
-use std::alloc::Global;
+use std::alloc::{AllocError, Global};
 
 /// A mesh, the line that is written before it, and what is said of it.
 #[derive(Drop)]
@@ -25,8 +29,31 @@ pub struct Made {
     pub notes: Vec<u8>,
 }
 
+// The longest axis of the box, where points were scaled by it and a tenth of the triangles or more
+// became edges.
+fn warning_for(
+    alloc: Global,
+    fit: &Fit,
+    points: &[ExactPoint],
+    triangles: &[Corners],
+    edges: u32,
+) -> Result<Option<LongestAxis>, AllocError>
+    requires { IsWithinMesh (length points.now) triangles.now }
+    ensures { IfOk result (λ w. w ≡ warning_for fit.now points.now triangles.now edges) }
+{
+    match fit {
+        Fit::Standing => Ok(None),
+        Fit::Scaled(_, b) => {
+            if triangles.len() > 10 * edges as usize {
+                return Ok(None);
+            }
+            let longest = longest_axis(alloc, b, points, triangles)?;
+            Ok(Some(longest))
+        }
+    }
+}
+
 // What is made of points and triangles.
-#[tactic(auto, using(crate::proofs::MakeLaws::named_within))]
 fn make_of(alloc: Global, size: Option<u32>, scan: &Scan) -> Result<Made, InputFail>
     requires size { IsSize size }
     requires within { IsWithinLimits (scanned_of scan.now) }
@@ -34,10 +61,13 @@ fn make_of(alloc: Global, size: Option<u32>, scan: &Scan) -> Result<Made, InputF
     ensures formed { IfOk result (λ m. IsWellFormed (mesh_of m.mesh)) }
     ensures err { IfErr result (IsMakeFail size (scanned_of scan.now)) }
 {
-    let Ok(placing) = place_points(alloc, size, &scan.points, &scan.faces) else {
+    let Ok(three) = of_three(alloc, &scan.faces) else {
         return Err(InputFail::OutOfMemory);
     };
-    let prepared = match prepare(alloc, &placing.places, &scan.faces) {
+    let Ok(placing) = place_points(alloc, size, &scan.points, &three) else {
+        return Err(InputFail::OutOfMemory);
+    };
+    let prepared = match prepare(alloc, &placing.places, &three) {
         Ok(prepared) => prepared,
         Err(PrepareFail::TooMany) => return Err(InputFail::Faulty(Fault::TooMany)),
         Err(PrepareFail::OutOfMemory) => return Err(InputFail::OutOfMemory),
@@ -45,10 +75,15 @@ fn make_of(alloc: Global, size: Option<u32>, scan: &Scan) -> Result<Made, InputF
     if prepared.mesh.faces.as_slice().is_empty() {
         return Err(InputFail::Faulty(Fault::NoFaces));
     }
+    let counts = counts_of(scan, &three, &prepared.mesh);
+    let edges = prepared.notes.flat;
+    let Ok(warning) = warning_for(alloc, &placing.fit, &scan.points, &three, edges) else {
+        return Err(InputFail::OutOfMemory);
+    };
     let Ok(head) = head_line(alloc, &placing.fit) else {
         return Err(InputFail::OutOfMemory);
     };
-    let Ok(notes) = notes_text(alloc, scan.polygons, &prepared.notes, &placing.fit) else {
+    let Ok(notes) = notes_text(alloc, counts, &prepared.notes, &placing.fit, warning) else {
         return Err(InputFail::OutOfMemory);
     };
     let mesh = prepared.mesh;

@@ -1,11 +1,16 @@
 //! The line that tells how places lead back, and what is said of the work.
-ghost use Rattle.std.specs.Prelude.{◌≡◌, ◌≤◌, ◌^◌, ◌*◌, ◌++◌, OnOk, IfOk, pos, ◌+ℤ◌, ◌*ℤ◌, unsigned_abs};
+ghost use Rattle.std.specs.Prelude.{◌≡◌, ◌<◌, ◌≤◌, ◌+◌, ◌-◌, ◌/◌, ◌^◌, ◌*◌, ◌++◌, OnOk, IfOk, codes, pos, ◌+ℤ◌, ◌*ℤ◌, unsigned_abs};
 ghost use Rattle.pm_base.specs.Canonical.{coordinate_text};
+ghost use Rattle.pm_base.specs.declared.limits.TheConstants.{GREATEST_COORDINATE};
 ghost use Rattle.obj_prepare.specs.Back.{middle, middle_of, way_back_of};
-ghost use Rattle.prepare.specs.Texts.{scale_text, middle_text, way_text, head_line as head_line_of, note_line, last_note, face_notes, vertex_notes, notes_text};
+ghost use Rattle.obj_prepare.specs.Placing.{IsSized};
+ghost use Rattle.prepare.specs.Texts.{scale_text, middle_text, way_text, head_line as head_line_of, note_line, last_note, within_text, face_notes, vertex_notes, notes_text};
 
+use crate::account::add_account;
+use crate::counts::Counts;
 use crate::text::{add_coordinate, add_length, add_number};
-use obj_prepare::{Fit, Notes, PointBox, extent};
+use crate::warning::add_warning;
+use obj_prepare::{Fit, LongestAxis, Notes, PointBox, extent};
 use std::alloc::{AllocError, Global};
 
 // The sum of the ends of an axis.
@@ -129,26 +134,62 @@ fn add_note(text: &mut Vec<u8>, what: &[u8], n: u32) -> Result<(), AllocError>
     text.extend_from_slice(b"\n")
 }
 
-// Adds the last line, if any.
+// Half a step, rounded up: a number is divided into so many parts.
+#[tactic(auto, using(crate::proofs::TextLaws::few_parts))]
+fn rounded_up(n: u128, parts: u64) -> u128
+    requires some { 0 < parts }
+    requires few { parts ≤ 131068 }
+    requires most { n ≤ 2 * 10 ^ 32 }
+    ensures value { result ≡ (n + parts - 1) / parts }
+    ensures most { result ≤ 3 * 10 ^ 32 }
+{
+    (n + u128::from(parts) - 1) / u128::from(parts)
+}
+
+// Adds how near places are to the coordinates.
+#[tactic(auto, unfolding(crate::specs::Texts::within_text))]
+fn add_within(text: &mut Vec<u8>, size: u32, b: &PointBox) -> Result<(), AllocError>
+    requires some { 0 < size }
+    requires few { size ≤ GREATEST_COORDINATE }
+    ensures { OnOk result (text.new.items ≡ text.old.items ++ within_text (way_back_of size b.now)) }
+{
+    text.extend_from_slice(b"prepare: places are within ")?;
+    add_length(text, rounded_up(extent(b), 4 * u64::from(size)))?;
+    text.extend_from_slice(b" of the coordinates\n")?;
+    Ok(())
+}
+
+// Adds how places that were scaled lead back, and how near.
+fn add_scaled(text: &mut Vec<u8>, size: u32, b: &PointBox) -> Result<(), AllocError>
+    requires some { 0 < size }
+    requires few { size ≤ GREATEST_COORDINATE }
+    ensures { OnOk result (text.new.items ≡ text.old.items ++ (codes "prepare: " ++ way_text (way_back_of size b.now) ++ within_text (way_back_of size b.now))) }
+{
+    text.extend_from_slice(b"prepare: ")?;
+    add_way_back(text, size, b)?;
+    add_within(text, size, b)?;
+    Ok(())
+}
+
+// Adds how places lead back, where they were scaled.
 fn add_last(text: &mut Vec<u8>, fit: &Fit) -> Result<(), AllocError>
+    requires { IsSized fit.now }
     ensures { OnOk result (text.new.items ≡ text.old.items ++ last_note fit.now) }
 {
     match fit {
         Fit::Standing => Ok(()),
-        Fit::Scaled(size, b) => {
-            text.extend_from_slice(b"prepare: ")?;
-            add_way_back(text, *size, b)
-        }
+        Fit::Scaled(size, b) => add_scaled(text, *size, b),
     }
 }
 
 // Adds what is said of the faces and places of the input.
 #[tactic(auto, unfolding(crate::specs::Texts::face_notes))]
-fn add_face_notes(text: &mut Vec<u8>, polygons: u32, notes: &Notes) -> Result<(), AllocError>
-    ensures { OnOk result (text.new.items ≡ text.old.items ++ face_notes polygons notes.now) }
+fn add_face_notes(text: &mut Vec<u8>, counts: Counts, notes: &Notes) -> Result<(), AllocError>
+    ensures { OnOk result (text.new.items ≡ text.old.items ++ face_notes counts notes.now) }
 {
-    add_note(text, b"polygons cut", polygons)?;
+    add_note(text, b"polygons cut", counts.polygons)?;
     add_note(text, b"vertices joined", notes.joined)?;
+    add_note(text, b"faces that name a vertex twice", counts.twice)?;
     add_note(text, b"faces that became edges", notes.flat)?;
     add_note(text, b"faces that stand twice", notes.double)?;
     Ok(())
@@ -162,22 +203,42 @@ fn add_vertex_notes(text: &mut Vec<u8>, notes: &Notes) -> Result<(), AllocError>
     add_note(text, b"sides cut open", notes.cut)?;
     add_note(text, b"vertices split off", notes.split)?;
     add_note(text, b"vertices that no face has", notes.unnamed)?;
+    add_note(text, b"vertices whose faces all went", notes.gone)?;
     Ok(())
 }
 
-/// What is said of the work: a line for each kind of change that was made, and how places lead back.
-#[tactic(auto, unfolding(crate::specs::Texts::notes_text))]
-pub fn notes_text(
-    alloc: Global,
-    polygons: u32,
+// Adds all that is said.
+fn add_notes(
+    text: &mut Vec<u8>,
+    counts: Counts,
     notes: &Notes,
     fit: &Fit,
+    warning: Option<LongestAxis>,
+) -> Result<(), AllocError>
+    requires { IsSized fit.now }
+    ensures { OnOk result (text.new.items ≡ text.old.items ++ notes_text counts notes.now fit.now warning) }
+{
+    add_account(text, counts)?;
+    add_face_notes(text, counts, notes)?;
+    add_vertex_notes(text, notes)?;
+    add_last(text, fit)?;
+    add_warning(text, warning)?;
+    Ok(())
+}
+
+/// What is said of the work: how much came out, a line for each kind of change that was made, how places lead back, and
+/// the warning.
+pub fn notes_text(
+    alloc: Global,
+    counts: Counts,
+    notes: &Notes,
+    fit: &Fit,
+    warning: Option<LongestAxis>,
 ) -> Result<Vec<u8>, AllocError>
-    ensures { IfOk result (λ text. text.items ≡ notes_text polygons notes.now fit.now) }
+    requires { IsSized fit.now }
+    ensures { IfOk result (λ text. text.items ≡ notes_text counts notes.now fit.now warning) }
 {
     let mut text = Vec::new(alloc);
-    add_face_notes(&mut text, polygons, notes)?;
-    add_vertex_notes(&mut text, notes)?;
-    add_last(&mut text, fit)?;
+    add_notes(&mut text, counts, notes, fit, warning)?;
     Ok(text)
 }

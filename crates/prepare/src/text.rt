@@ -71,7 +71,7 @@ fn add_parts(
 /// Adds a length in units of 10^-18.
 #[tactic(auto, unfolding(pm_base::specs::Canonical::coordinate_text))]
 pub fn add_length(text: &mut Vec<u8>, n: u128) -> Result<(), AllocError>
-    requires { n ≤ 2 * 10 ^ 32 }
+    requires { n ≤ 3 * 10 ^ 32 }
     ensures { OnOk result (text.new.items ≡ text.old.items ++ coordinate_text 18 (pos n)) }
 {
     let whole = (n / u128::from(SCALE_18)) as u64;

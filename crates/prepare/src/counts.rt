@@ -1,0 +1,43 @@
+//! How much a text had, and how much came out.
+ghost use Rattle.std.specs.Prelude.{◌≡◌, ◌≤◌, length};
+ghost use Rattle.pm_base.specs.declared.limits.TheConstants.{MOST_FACES, MOST_VERTICES};
+ghost use Rattle.pm_base.specs.Meshes.{mesh_of};
+ghost use Rattle.obj_prepare.specs.Named.{of_three};
+ghost use Rattle.obj_scan.specs.Fails.{scanned_of};
+ghost use Rattle.obj_scan.specs.Meaning.{IsWithinLimits};
+ghost use Rattle.prepare.specs.Outcome.{counts_of};
+
+use obj_scan::Scan;
+use pm_base::{Corners, Mesh};
+
+/// How many vertices and triangles a text had, and how many came out of it.
+#[derive(Clone, Copy, Debug, PartialEq, Eq)]
+pub struct Counts {
+    pub vertices_in: u32,
+    pub vertices_out: u32,
+    pub triangles_in: u32,
+    pub triangles_out: u32,
+    /// Faces of more than three corners.
+    pub polygons: u32,
+    /// Triangles that name a vertex twice.
+    pub twice: u32,
+}
+
+/// The counts of a text, of whose triangles these name three vertices, and of the mesh that came out.
+pub fn counts_of(scan: &Scan, three: &[Corners], mesh: &Mesh) -> Counts
+    requires within { IsWithinLimits (scanned_of scan.now) }
+    requires three { three.now ≡ of_three scan.now.faces.items }
+    requires few { length three.now ≤ MOST_FACES }
+    requires vertices { length mesh.now.points.items ≤ MOST_VERTICES }
+    requires faces { length mesh.now.faces.items ≤ MOST_FACES }
+    ensures { result ≡ counts_of (scanned_of scan.now) (mesh_of mesh.now) }
+{
+    Counts {
+        vertices_in: scan.points.len() as u32,
+        vertices_out: mesh.points.len() as u32,
+        triangles_in: scan.faces.len() as u32,
+        triangles_out: mesh.faces.len() as u32,
+        polygons: scan.polygons,
+        twice: (scan.faces.len() as u32).saturating_sub(three.len() as u32),
+    }
+}
