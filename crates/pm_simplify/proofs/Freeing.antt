@@ -1,11 +1,13 @@
 -- Items that are taken out of the lists in which they wait.
 use Rattle.std.specs.Prelude.{is_some}
-use Rattle.std.proofs.Common.{◌≡◌, ◌↔◌, ℕ, ◌<◌, Bool, true, false, Option, Some, None, List, [], length, inl, inr, refl, sym, ap, ◌∙◌, subst, arith}
+use Rattle.std.proofs.Common.{◌≡◌, ◌↔◌, ℕ, ◌<◌, Bool, true, false, Option, Some, None, List, []}
+use Rattle.std.proofs.Common.{length, inl, inr, refl, sym, ap, ◌∙◌, subst, arith}
 use Rattle.std.proofs.lemmas.Bool.{cases_eq, false≢true}
 use Rattle.pm_base.specs.declared.log.Collapse.{Collapse}
 use Rattle.pm_base.specs.Meshes.{Mesh}
 use Rattle.pm_base.specs.Sides.{Stands}
-use Rattle.pm_links.specs.Lists.{Lists, list_of, has, first_of, list_without, without_item, IsOnce, IsHeld, IsFree, IsSound}
+use Rattle.pm_links.specs.Lists.{Lists, list_of, has, first_of, list_without, without_item}
+use Rattle.pm_links.specs.Lists.{IsOnce, IsHeld, IsFree, IsSound}
 use Rattle.pm_links.proofs.Members.{has_head, first_is}
 use Rattle.pm_links.proofs.Without.{without_first}
 use Rattle.pm_links.proofs.Calls.{after_unlink, has-unlink, free_from_none}
@@ -16,8 +18,8 @@ use Rattle.pm_simplify.proofs.Waiting.{held_kept}
 
 -- An item is taken out, and its edge weighed if it is still one.
 pub released :
-    (kept : ℕ → Bool) (m : Mesh) (log : List Collapse) (old new : Entries) (was now : Lists) (i : ℕ) →
-    IsRight kept m log old was → now ≡ without_item was i → StaysRight kept m log old new →
+    (kept : ℕ → Bool) (m : Mesh) (log : List Collapse) (old new : Entries) (was now : Lists) →
+    (i : ℕ) → IsRight kept m log old was → now ≡ without_item was i → StaysRight kept m log old new →
     (Stands (net_after m log) i → IsRightAt kept m log new (item_of (net_after m log) i)) →
     IsRight kept m log new now
 released kept m log old new was now i right is stays weighed =
@@ -34,7 +36,8 @@ released kept m log old new was now i right is stays weighed =
                 elim (right.edges e st item) [
                   | inl r ↦ inl ((stays e).1 r)
                   | inr h ↦
-                      inr (held_kept m log was now e (λ f listed. has-unlink out f e ne ∙ listed) h)
+                      inr (held_kept m log was now e
+                      (λ f listed. has-unlink out f e ne ∙ listed) h)
                 ]
           ];
     }

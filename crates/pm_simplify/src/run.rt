@@ -69,9 +69,9 @@ pub fn simplify_surface(
     simplify_keeping(alloc, surface, &[], target_faces)
 }
 
-/// The same, but no pair with a kept vertex is collapsed. Vertices whose flags are set are kept, and
-/// those past the list of flags aren't, so a merged vertex never is. Pairs with a kept vertex are not
-/// weighed.
+/// The same, but no pair with a kept vertex is collapsed, nor weighed. Vertices whose flags are set
+/// are kept, and those past the list of flags aren't, so with a flag for each vertex of the surface
+/// no merged vertex is.
 pub fn simplify_keeping(
     alloc: Global,
     surface: Surface,
