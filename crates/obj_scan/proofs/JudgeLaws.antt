@@ -12,7 +12,7 @@ use Rattle.obj_scan.specs.declared.fault.ScanFault.TheVariants as faults
 use Rattle.obj_scan.specs.Forms.{line_content, form_fault}
 use Rattle.obj_scan.specs.Refusals.{Refused, LineFault, IsRefusal}
 use Rattle.obj_scan.specs.Judged.{Scanned, Found, scanned_line}
-use Rattle.obj_scan.specs.Meaning.{ScannedSoFar, joined_text, first_number, and_continued, and_scanned_line, judged_length, line_judged, then_scanned_lines, scan_meaning_from}
+use Rattle.obj_scan.specs.Meaning.{ScannedSoFar, joined_text, and_continued, and_scanned_line, judged_length, line_judged, then_scanned_lines, scan_meaning_from}
 use Rattle.obj_scan.specs.Reading.{HeldLines, after_lines, scanned_after, taken, line_taken}
 
 -- What the lines before hold, and what is so after one line more.

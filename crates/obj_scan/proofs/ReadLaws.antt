@@ -11,10 +11,9 @@ use Rattle.obj_read.specs.Fits.{with_found as with_read}
 use Rattle.obj_read.specs.Meaning.{SoFar as ReadSoFar, Refused as ReadRefused, is_past, is_long, read_alone as read_judged, and_line as and_read, then_lines as then_read, meaning_from as read_from, meaning_of as read_meaning}
 use Rattle.obj_read.proofs.CommentLaws.{commented_is_read}
 use Rattle.obj_scan.specs.Refusals.{Refused}
-use Rattle.obj_scan.specs.Forms.{line_content, form_fault}
 use Rattle.obj_scan.specs.Judged.{Scanned}
 use Rattle.obj_scan.specs.Meaning.{ScannedSoFar, joined_text, judged_length, line_judged, and_scanned_line, scan_meaning_from, scan_meaning_of}
-use Rattle.obj_scan.specs.Laws.{scanned_mesh, IsFormed, ReadIsScanned, CommentedIsScanned}
+use Rattle.obj_scan.specs.Laws.{scanned_mesh, ReadIsScanned, CommentedIsScanned}
 use Rattle.obj_scan.proofs.FormLaws.{IsPlain, ArePlain, formed_plain, commented_formed}
 use Rattle.obj_scan.proofs.FoundLaws.{line_is_found, scanned_with}
 
