@@ -1,8 +1,7 @@
 -- The numbers of what was done account for each vertex and triangle.
-use Rattle.std.proofs.Common.{◌≡◌, ℕ, zero, suc, ◌+◌, ◌-◌, ◌*◌, ◌/◌, ◌<◌, ◌≤◌, Bool, true, false, not, ◌&&◌, ◌||◌, ◌==◌, inl, inr, refl, sym, ap, ◌∙◌, subst, List, [], ◌∷◌, ◌++◌, length, get_or, arith}
-use Rattle.std.specs.Prelude.{slice_index_or}
-use Rattle.std.specs.List.{All, list_any, filter}
-use Rattle.std.proofs.lemmas.Bool.{cases_Bool, cases_order, and_from, and_parts, or_cases, or_left, or_right, or_parts, eq-eqb, eqb-true, false≢true, true≢false}
+use Rattle.std.proofs.Common.{◌≡◌, ℕ, zero, suc, ◌+◌, ◌*◌, ◌<◌, ◌≤◌, Bool, true, false, not, ◌&&◌, ◌||◌, ◌==◌, inl, inr, refl, sym, ap, ◌∙◌, subst, List, [], ◌∷◌, length, get_or, arith}
+use Rattle.std.specs.List.{All, list_any}
+use Rattle.std.proofs.lemmas.Bool.{cases_Bool, cases_order, and_from, or_cases, or_left, or_right, or_parts, eq-eqb, eqb-true, false≢true, true≢false}
 use Rattle.std.proofs.lemmas.List.{length-map}
 use Rattle.std.proofs.lemmas.List.Elements.{All-nil, All-cons, All-head, All-tail}
 use Rattle.pm_base.specs.declared.mesh.Corners.{Corners}
@@ -12,11 +11,10 @@ use Rattle.pm_base.specs.Sides.{net_of, side_count}
 use Rattle.pm_base.specs.Counts.{count}
 use Rattle.pm_base.proofs.Counts.{count-true, count-false, count-zero, count_same, count_more}
 use Rattle.pm_base.proofs.NetLaws.{face_at, first_side, second_side, third_side}
-use Rattle.pm_fans.specs.Kept.{is_flat, is_corner, is_kept_after, kept_after, kept_of}
-use Rattle.pm_fans.specs.Orders.{IsSplitMesh}
+use Rattle.pm_fans.specs.Kept.{is_corner, kept_after, kept_of}
 use Rattle.obj_prepare.specs.declared.notes.Notes.{Notes}
 use Rattle.obj_prepare.specs.Named.{is_some_corner, AreVerticesBelow}
-use Rattle.obj_prepare.specs.Joining.{place_in_list, IsFirstAt, AreJoined, renamed, joined_faces}
+use Rattle.obj_prepare.specs.Joining.{place_in_list, renamed, joined_faces}
 use Rattle.obj_prepare.specs.Prepared.{staying, IsPrepared, AreNotes, joined_count, flat_count, double_count, unnamed_count, split_count, gone_count}
 use Rattle.obj_prepare.specs.Laws.{DoAccountsClose, AccountsClose}
 use Rattle.obj_prepare.proofs.CountLaws.{count_both}

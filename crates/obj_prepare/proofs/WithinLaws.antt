@@ -1,11 +1,10 @@
 -- Places lead back to within half a step, rounded up.
-use Rattle.std.proofs.Common.{◌≡◌, ℕ, ◌+◌, ◌-◌, ◌*◌, ◌/◌, ◌%◌, ◌<◌, ◌≤◌, ℤ, arith}
-use Rattle.std.specs.Prelude.{unsigned_abs}
+use Rattle.std.proofs.Common.{ℕ, ◌+◌, ◌-◌, ◌*◌, ◌/◌, ◌%◌, ◌<◌, ◌≤◌, arith}
 use Rattle.std.proofs.Math.Nat.{div-add-mod, mod-lt}
 use Rattle.pm_base.specs.Place.{Place}
 use Rattle.obj_prepare.specs.declared.placing.Fit.{Fit}
 use Rattle.obj_prepare.specs.declared.placing.Fit.TheVariants as fits
-use Rattle.obj_prepare.specs.Back.{WayBack, within_of, given_back, IsHalfAStepOff, LeadsNear, IsWithinUnits, LeadsWithin, StandsWithin, LeadsBack, way_back_of}
+use Rattle.obj_prepare.specs.Back.{WayBack, within_of, LeadsNear, LeadsWithin, StandsWithin, LeadsBack, way_back_of}
 use Rattle.obj_prepare.specs.Laws.{PlacesAreWithin}
 use Rattle.obj_prepare.proofs.BackLaws.{places_lead_back}
 
