@@ -20,16 +20,20 @@ unfolding is_active splitter_of s_of place_of_node
 split_new = refl
 
 split_no_face : gone_faces octahedron (below 0) (below 1) ≡ []
-unfolding is_kept ancestor_after holds interval_after s_of from_leaf corners_of is_left revealed_after first_face
+unfolding is_kept ancestor_after holds interval_after s_of from_leaf corners_of is_left
+    revealed_after first_face
 split_no_face = refl
 
 -- All faces but face 3 are put: each has a corner that was at node 3.
-split_put : put_faces octahedron (below 0) (below 1) ≡ map (shown_face_at octahedron (below 1)) (0 ∷ 1 ∷ 2 ∷ 4 ∷ 5 ∷ [])
-unfolding is_put is_kept ancestor_after holds interval_after s_of from_leaf corners_of is_left revealed_after first_face
+split_put : put_faces octahedron (below 0) (below 1)
+    ≡ map (shown_face_at octahedron (below 1)) (0 ∷ 1 ∷ 2 ∷ 4 ∷ 5 ∷ [])
+unfolding is_put is_kept ancestor_after holds interval_after s_of from_leaf corners_of is_left
+    revealed_after first_face
 split_put = refl
 
 back_gone : gone_faces octahedron (below 2) (below 0) ≡ 4 ∷ 5 ∷ 6 ∷ 7 ∷ []
-unfolding is_kept ancestor_after holds interval_after s_of from_leaf corners_of is_left revealed_after first_face
+unfolding is_kept ancestor_after holds interval_after s_of from_leaf corners_of is_left
+    revealed_after first_face
 back_gone = refl
 
 back_new : map node_number (new_nodes octahedron (below 2) (below 0)) ≡ 2 ∷ 3 ∷ []

@@ -1,12 +1,12 @@
 -- The numbers of a part are few, and each can be told.
-use Rattle.std.proofs.Common.{◌≡◌, ℕ, ◌+◌, ◌*◌, ◌<◌, ◌≤◌, Bool, true, List, length, sym, ◌∙◌, arith}
+use Rattle.std.proofs.Common.{◌≡◌, ℕ, ◌<◌, ◌≤◌, Bool, true, List, sym, ◌∙◌, arith}
 use Rattle.pm_base.specs.Counts.{set_of}
 use Rattle.pm_sets.proofs.FlagLaws.{in_below}
-use Rattle.pm_forest.specs.Forest.{Hierarchy, node_count, record_count, leaf_count}
+use Rattle.pm_forest.specs.Forest.{Hierarchy, node_count, record_count}
 use Rattle.pm_forest.specs.Faces.{face_count}
 use Rattle.pm_forest.specs.Rules.{HasShape}
 use Rattle.pm_forest.proofs.FaceLimits.{first_face-most}
-use Rattle.pm_forest.proofs.ShapeLaws.{leaf_count-le, record_count-roots, root_count-le}
+use Rattle.pm_forest.proofs.ShapeLaws.{leaf_count-le, record_count-roots}
 use Rattle.pm_change.specs.declared.parts.Part.{Part}
 use Rattle.pm_change.specs.declared.parts.Part.TheVariants as parts
 use Rattle.pm_change.specs.Parts.{is_of_part, bound_of_part, CanTell}
@@ -33,7 +33,8 @@ module _ (h : Hierarchy) where
     below : (passes : ℕ → Bool) (bound : ℕ) → AreJust passes bound flags → n < bound
     below passes bound just = let low = in_below flags n there in omega (arith, just.len)
 
-    pub can_tell : (part : Part) → AreJust (is_of_part h S G part) (bound_of_part h part) flags → CanTell h G part n
+    pub can_tell : (part : Part) → AreJust (is_of_part h S G part) (bound_of_part h part) flags
+        → CanTell h G part n
     can_tell parts.GoneFaces just = tt
     can_tell parts.GoneNodes just = tt
     can_tell parts.NewNodes just = below (is_of_part h S G parts.NewNodes) (node_count h) just

@@ -1,4 +1,4 @@
--- The text of a change, and the frame that a client comes to.
+-- The text of a change, and the frame that a viewer comes to.
 use Rattle.std.proofs.Common.{◌≡◌, ℕ, Bool, List, [], ◌∷◌, ◌++◌, map, filter, refl, sym, ap, ◌∙◌}
 use Rattle.std.specs.List.{flat_map}
 use Rattle.pm_base.specs.Counts.{numbers_below}
@@ -14,17 +14,22 @@ use Rattle.pm_change.specs.Laws as laws
 use Rattle.pm_change.proofs.Counting.{length-map}
 use Rattle.pm_change.proofs.ChangeLaws.{there}
 
-flat_map-map : {A : Type 0} (line : A → List ℕ) (f : ℕ → A) (l : List ℕ) → flat_map line (map f l) ≡ flat_map (λ i. line (f i)) l
+flat_map-map : {A : Type 0} (line : A → List ℕ) (f : ℕ → A) (l : List ℕ)
+    → flat_map line (map f l) ≡ flat_map (λ i. line (f i)) l
 flat_map-map line f [] = refl
 flat_map-map line f (x ∷ xs) = ap (λ (rest : List ℕ). line (f x) ++ rest) (flat_map-map line f xs)
 
 pub texts : laws.TextsTellChanges
 unfolding change_text
 texts h S G =
-    let nodes = flat_map-map line_of_node (shown_node_at h) (filter (is_new_node h S G) (numbers_below (node_count h))) in
-    let faces = flat_map-map line_of_face (shown_face_at h G) (filter (is_put h S G) (numbers_below (face_count h))) in
-    ap (λ (l : List ℕ). first_change_line h G ++ gone_face_lines h S G ++ gone_node_lines h S G ++ l ++ put_face_lines h S G ++ end_line) (sym nodes)
-    ∙ ap (λ (l : List ℕ). first_change_line h G ++ gone_face_lines h S G ++ gone_node_lines h S G ++ flat_map line_of_node (new_nodes h S G) ++ l ++ end_line) (sym faces)
+    let nodes = flat_map-map line_of_node (shown_node_at h)
+    (filter (is_new_node h S G) (numbers_below (node_count h))) in
+    let faces = flat_map-map line_of_face (shown_face_at h G)
+    (filter (is_put h S G) (numbers_below (face_count h))) in
+    ap (λ (l : List ℕ). first_change_line h G ++ gone_face_lines h S G ++ gone_node_lines h S G ++
+    l ++ put_face_lines h S G ++ end_line) (sym nodes)
+    ∙ ap (λ (l : List ℕ). first_change_line h G ++ gone_face_lines h S G ++ gone_node_lines h S G
+    ++ flat_map line_of_node (new_nodes h S G) ++ l ++ end_line) (sym faces)
 
 frame_is : (h : Hierarchy) (G : ℕ → Bool) → text_of (laws.mesh_of h G) ≡ frame_text h G
 unfolding frame_text

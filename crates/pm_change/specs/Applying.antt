@@ -1,4 +1,4 @@
--- What a client does with a change: it removes by number and puts by number.
+-- What a viewer does with a change: it removes by number and puts by number.
 use Rattle.std.specs.Prelude.{◌≡◌, ℕ, ◌==◌, nat_lt, cond, List, [], ◌∷◌, ◌⊎◌}
 use Rattle.pm_morph.specs.Laws.{ShownFace}
 use Rattle.pm_change.specs.Shown.{ShownNode, node_number, face_number}
@@ -14,10 +14,12 @@ abbrev pub removed : {A : Type 0} → (A → ℕ) → ℕ → List A → List A
 removed number n [] = []
 removed number n (e ∷ es) = cond (number e == n) es (e ∷ removed number n es)
 
--- An entry stands in place of the one of its number, or else before the first one of a greater number.
+-- An entry stands in place of the one of its number, or before the first of a greater number.
 abbrev pub put : {A : Type 0} → (A → ℕ) → A → List A → List A
 put number x [] = x ∷ []
-put number x (e ∷ es) = cond (number e == number x) (x ∷ es) (cond (nat_lt (number x) (number e)) (x ∷ e ∷ es) (e ∷ put number x es))
+put number x (e ∷ es) =
+    cond (number e == number x) (x ∷ es)
+    (cond (nat_lt (number x) (number e)) (x ∷ e ∷ es) (e ∷ put number x es))
 
 abbrev pub removed_all : {A : Type 0} → (A → ℕ) → List ℕ → List A → List A
 removed_all number [] es = es
@@ -30,10 +32,13 @@ put_all number (x ∷ xs) es = put_all number xs (put number x es)
 abbrev pub applied : {A : Type 0} → (A → ℕ) → List ℕ → List A → List A → List A
 applied number gone puts es = put_all number puts (removed_all number gone es)
 
--- A mesh as a client has it, and what a change makes of it.
+-- A mesh as a viewer has it, and what a change makes of it.
 pub record Mesh : Type 0 where
   pub nodes : List ShownNode
   pub faces : List ShownFace
 
 abbrev pub changed : Change → Mesh → Mesh
-changed c m = record { nodes = applied node_number c.gone_nodes c.new_nodes m.nodes; faces = applied face_number c.gone_faces c.put_faces m.faces }
+changed c m = record {
+  nodes = applied node_number c.gone_nodes c.new_nodes m.nodes;
+  faces = applied face_number c.gone_faces c.put_faces m.faces;
+}

@@ -38,9 +38,10 @@ abbrev pub has_moved : Hierarchy → (ℕ → Bool) → (ℕ → Bool) → ℕ �
 has_moved h S G e = not (ancestor_of h S (from_leaf h e) == ancestor_of h G (from_leaf h e))
 
 abbrev pub has_moved_corner : Hierarchy → (ℕ → Bool) → (ℕ → Bool) → ℕ → Bool
-has_moved_corner h S G f = has_moved h S G (3 * f) || (has_moved h S G (3 * f + 1) || has_moved h S G (3 * f + 2))
+has_moved_corner h S G f =
+    has_moved h S G (3 * f) || (has_moved h S G (3 * f + 1) || has_moved h S G (3 * f + 2))
 
--- The faces that are kept and weren't, or were with another corner, with the nodes at their corners now.
+-- The faces that are kept and weren't, or were with another corner; with their corners now.
 unfoldable pub is_put : Hierarchy → (ℕ → Bool) → (ℕ → Bool) → ℕ → Bool
 is_put h S G f = is_kept h G f && (not (is_kept h S f) || has_moved_corner h S G f)
 
@@ -52,7 +53,8 @@ abbrev pub is_at_new : Hierarchy → (ℕ → Bool) → (ℕ → Bool) → ℕ �
 is_at_new h S G e = not (is_active h S (ancestor_of h G (from_leaf h e)))
 
 abbrev pub has_new_corner : Hierarchy → (ℕ → Bool) → (ℕ → Bool) → ℕ → Bool
-has_new_corner h S G f = is_at_new h S G (3 * f) || (is_at_new h S G (3 * f + 1) || is_at_new h S G (3 * f + 2))
+has_new_corner h S G f =
+    is_at_new h S G (3 * f) || (is_at_new h S G (3 * f + 1) || is_at_new h S G (3 * f + 2))
 
 -- The change, in the order in which it is told.
 pub record Change : Type 0 where
@@ -62,4 +64,9 @@ pub record Change : Type 0 where
   pub put_faces : List ShownFace
 
 abbrev pub change_of : Hierarchy → (ℕ → Bool) → (ℕ → Bool) → Change
-change_of h S G = record { gone_faces = gone_faces h S G; gone_nodes = gone_nodes h S G; new_nodes = new_nodes h S G; put_faces = put_faces h S G }
+change_of h S G = record {
+  gone_faces = gone_faces h S G;
+  gone_nodes = gone_nodes h S G;
+  new_nodes = new_nodes h S G;
+  put_faces = put_faces h S G;
+}

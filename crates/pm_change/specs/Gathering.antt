@@ -16,7 +16,8 @@ abbrev pub size_of : List Bool → ℕ
 size_of flags = length (numbers_in flags)
 
 abbrev pub sizes_of : ChangeSets → ℕ
-sizes_of s = size_of s.gone_faces + size_of s.gone_nodes + size_of s.new_nodes + size_of s.put_faces
+sizes_of s =
+    size_of s.gone_faces + size_of s.gone_nodes + size_of s.new_nodes + size_of s.put_faces
 
 -- Numbers came to a set, and each of them passes a test.
 pub record Gathers (passes : ℕ → Bool) (old new : List Bool) : Type 0 where

@@ -23,7 +23,8 @@ mesh_of h T = record { nodes = shown_nodes h T; faces = shown_faces h T }
 
 -- The change makes of what S shows what G shows.
 abbrev pub ChangesLeadThere : Type 0
-ChangesLeadThere = (h : Hierarchy) (S G : ℕ → Bool) → changed (change_of h S G) (mesh_of h S) ≡ mesh_of h G
+ChangesLeadThere =
+    (h : Hierarchy) (S G : ℕ → Bool) → changed (change_of h S G) (mesh_of h S) ≡ mesh_of h G
 
 -- A corner is at the same node before and now exactly where its node of now was active before.
 abbrev pub CornersMoveToNewNodes : Type 0
@@ -46,16 +47,20 @@ pub record IsWithin (least other : Change) : Type 0 where
 
 abbrev pub ChangesAreLeast : Type 0
 ChangesAreLeast =
-    (h : Hierarchy) (S G : ℕ → Bool) (other : Change) → changed other (mesh_of h S) ≡ mesh_of h G → IsWithin (change_of h S G) other
+    (h : Hierarchy) (S G : ℕ → Bool) (other : Change) → changed other (mesh_of h S) ≡ mesh_of h G
+    → IsWithin (change_of h S G) other
 
 -- Nothing changes.
 abbrev pub nothing : Change
 nothing = record { gone_faces = []; gone_nodes = []; new_nodes = []; put_faces = [] }
 
--- At most three nodes and two faces come and go for each record that is in one of the two and not in the other.
+-- At most three nodes and two faces come and go for each record that is in one of the two sets and
+-- not in the other.
 abbrev pub NodeChangesAreFew : Type 0
 NodeChangesAreFew =
-    (h : Hierarchy) (S G : ℕ → Bool) → length (gone_nodes h S G) + length (new_nodes h S G) ≤ 3 * count (differs S G) (record_count h)
+    (h : Hierarchy) (S G : ℕ → Bool)
+    → length (gone_nodes h S G) + length (new_nodes h S G)
+    ≤ 3 * count (differs S G) (record_count h)
 
 -- The faces that are kept and weren't.
 abbrev pub new_faces : Hierarchy → (ℕ → Bool) → (ℕ → Bool) → List ℕ
@@ -64,7 +69,8 @@ new_faces h S G = filter (is_gone (is_kept h G) (is_kept h S)) (numbers_below (f
 abbrev pub FaceChangesAreFew : Type 0
 FaceChangesAreFew =
     (h : Hierarchy) → HasShape h → (S G : ℕ → Bool) → IsFront h S → IsFront h G
-    → length (gone_faces h S G) + length (new_faces h S G) ≤ 2 * count (differs S G) (record_count h)
+    → length (gone_faces h S G) + length (new_faces h S G)
+    ≤ 2 * count (differs S G) (record_count h)
 
 -- Nothing changes exactly where the same records are split.
 abbrev pub NothingExactlyWhereSame : Type 0
@@ -85,8 +91,8 @@ PutsAreFew =
     (h : Hierarchy) → HasShape h → (S G : ℕ → Bool) → IsFront h S → IsFront h G
     → length (put_faces h S G) ≤ length (new_corners h S G)
 
--- Where the new nodes are found: they are the active children of records that were split since, and the active nodes of
--- those that were collapsed.
+-- Where the new nodes are found: they are the active children of records that were split since,
+-- and the active nodes of those that were collapsed.
 pub data IsNear (h : Hierarchy) (S G : ℕ → Bool) (v : ℕ) : Type 0 where
   child : (k : ℕ) → k < record_count h → less G S k ≡ true → Makes h k v → IsNear h S G v
   parent : (k : ℕ) → k < record_count h → less S G k ≡ true → s_of h k ≡ v → IsNear h S G v
@@ -100,19 +106,27 @@ NewNodesAreNear =
 abbrev pub CornersAreShown : Type 0
 CornersAreShown =
     (h : Hierarchy) → HasShape h → (G : ℕ → Bool) → (f : ShownFace) → IsIn f (shown_faces h G)
-    → IsIn (shown_node_at h f.a) (shown_nodes h G) × IsIn (shown_node_at h f.b) (shown_nodes h G) × IsIn (shown_node_at h f.c) (shown_nodes h G)
+    → IsIn (shown_node_at h f.a) (shown_nodes h G)
+    × IsIn (shown_node_at h f.b) (shown_nodes h G)
+    × IsIn (shown_node_at h f.c) (shown_nodes h G)
 
--- The text of a change is that of its lists, and what a client makes of the mesh that S shows has the frame text of G.
+-- The text of a change is that of its lists, and what a viewer makes of the mesh that S shows has
+-- the frame text of G.
 abbrev pub TextsTellChanges : Type 0
 TextsTellChanges =
-    (h : Hierarchy) (S G : ℕ → Bool) → change_text h S G ≡ text_of_change (length (active_nodes h G)) (length (kept_faces h G)) (change_of h S G)
+    (h : Hierarchy) (S G : ℕ → Bool)
+    → change_text h S G
+    ≡ text_of_change (length (active_nodes h G)) (length (kept_faces h G)) (change_of h S G)
 
 abbrev pub ChangesLeadToFrames : Type 0
 ChangesLeadToFrames =
-    (h : Hierarchy) (S G : ℕ → Bool) → text_of (changed (change_of h S G) (mesh_of h S)) ≡ frame_text h G
+    (h : Hierarchy) (S G : ℕ → Bool)
+    → text_of (changed (change_of h S G) (mesh_of h S)) ≡ frame_text h G
 
 -- The corners of kept faces at new nodes are those in the corner lists of the new nodes.
 abbrev pub NewCornersAreListed : Type 0
 NewCornersAreListed =
-    (h : Hierarchy) → HasShape h → (S G : ℕ → Bool) → (ls : List (List ℕ)) → AreCorners h G ls → (e : ℕ) → e < 3 * face_count h
-    → (is_new_corner h S G e ≡ true) ↔ ((v : ℕ) × (is_new_node h S G v ≡ true) × (has (listed ls v) e ≡ true))
+    (h : Hierarchy) → HasShape h → (S G : ℕ → Bool) → (ls : List (List ℕ)) → AreCorners h G ls
+    → (e : ℕ) → e < 3 * face_count h
+    → (is_new_corner h S G e ≡ true)
+    ↔ ((v : ℕ) × (is_new_node h S G v ≡ true) × (has (listed ls v) e ≡ true))

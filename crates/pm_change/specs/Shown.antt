@@ -1,4 +1,5 @@
--- The nodes that a front shows, with their places, as a list that ascends by number. The faces are pm_morph's `shown_faces`.
+-- The nodes that a front shows, with their places, as a list that ascends by number. The faces are
+-- pm_morph's `shown_faces`.
 use Rattle.std.specs.Prelude.{ℕ, Bool, List, map}
 use Rattle.pm_base.specs.Place.{Place}
 use Rattle.pm_forest.specs.Forest.{Hierarchy}

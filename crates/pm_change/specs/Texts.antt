@@ -1,4 +1,4 @@
--- The text of a change, and the frame text of a mesh that a client has.
+-- The text of a change, and the frame text of a mesh that a viewer has.
 use Rattle.std.specs.Prelude.{ℕ, Bool, List, ◌++◌, length, filter, codes}
 use Rattle.std.specs.List.{flat_map}
 use Rattle.std.specs.Fmt.{decimal}
@@ -14,7 +14,8 @@ use Rattle.pm_change.specs.Applying.{Mesh}
 
 -- `change V F`
 unfoldable pub change_line : ℕ → ℕ → List ℕ
-change_line vertices faces = codes "change " ++ decimal vertices ++ codes " " ++ decimal faces ++ codes "\n"
+change_line vertices faces = codes "change " ++ decimal vertices ++ codes " " ++ decimal faces ++
+    codes "\n"
 
 -- `-f FACE`
 unfoldable pub gone_face_line : ℕ → List ℕ
@@ -41,19 +42,28 @@ abbrev pub gone_node_lines : Hierarchy → (ℕ → Bool) → (ℕ → Bool) →
 gone_node_lines h S G = flat_map gone_node_line (gone_nodes h S G)
 
 abbrev pub new_node_lines : Hierarchy → (ℕ → Bool) → (ℕ → Bool) → List ℕ
-new_node_lines h S G = flat_map (shown_node h) (filter (is_new_node h S G) (numbers_below (node_count h)))
+new_node_lines h S G =
+    flat_map (shown_node h) (filter (is_new_node h S G) (numbers_below (node_count h)))
 
 abbrev pub put_face_lines : Hierarchy → (ℕ → Bool) → (ℕ → Bool) → List ℕ
-put_face_lines h S G = flat_map (shown_face h G) (filter (is_put h S G) (numbers_below (face_count h)))
+put_face_lines h S G =
+    flat_map (shown_face h G) (filter (is_put h S G) (numbers_below (face_count h)))
 
 -- The text of the change from the front of S to that of G.
 unfoldable pub change_text : Hierarchy → (ℕ → Bool) → (ℕ → Bool) → List ℕ
-change_text h S G = first_change_line h G ++ gone_face_lines h S G ++ gone_node_lines h S G ++ new_node_lines h S G ++ put_face_lines h S G ++ end_line
+change_text h S G =
+    first_change_line h G ++ gone_face_lines h S G ++ gone_node_lines h S G ++ new_node_lines h S G
+    ++ put_face_lines h S G ++ end_line
 
 -- The lines of a change.
 abbrev pub text_of_change : ℕ → ℕ → Change → List ℕ
-text_of_change vertices faces c = change_line vertices faces ++ flat_map gone_face_line c.gone_faces ++ flat_map gone_node_line c.gone_nodes ++ flat_map line_of_node c.new_nodes ++ flat_map line_of_face c.put_faces ++ end_line
+text_of_change vertices faces c =
+    change_line vertices faces ++ flat_map gone_face_line c.gone_faces
+    ++ flat_map gone_node_line c.gone_nodes ++ flat_map line_of_node c.new_nodes
+    ++ flat_map line_of_face c.put_faces ++ end_line
 
 -- The frame text of a mesh.
 abbrev pub text_of : Mesh → List ℕ
-text_of m = head_line (length m.nodes) (length m.faces) ++ flat_map line_of_node m.nodes ++ flat_map line_of_face m.faces ++ end_line
+text_of m =
+    head_line (length m.nodes) (length m.faces) ++ flat_map line_of_node m.nodes
+    ++ flat_map line_of_face m.faces ++ end_line

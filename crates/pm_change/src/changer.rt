@@ -18,8 +18,8 @@ use std::alloc::Global;
 use std::marker::{Brand, Model};
 use std::sync::ledger::{Blank, Ledger};
 
-/// Writes the changes between fronts of one hierarchy. It has sets for the nodes and the faces of a
-/// change, and contracts see for how many there is room.
+/// Writes the changes between fronts of one hierarchy. It has sets for the nodes and the faces of
+/// a change, and contracts see for how many there is room.
 #[derive(Drop)]
 pub struct Changer {
     sets: ChangeSets,
@@ -32,7 +32,10 @@ impl Model for Changer {
 
     ghost Value = { Room };
 
-    ghost view = { λ c. record { nodes = length c.sets.new_nodes; faces = length c.sets.put_faces } };
+    ghost view = { λ c. record {
+      nodes = length c.sets.new_nodes;
+      faces = length c.sets.put_faces;
+    } };
 
     ghost invariant = { λ c. AreReady c.sets };
 }
@@ -59,8 +62,8 @@ fn write_uncounted<K: Sink, L: Ledger>(
 }
 
 impl Changer {
-    /// A changer for the fronts of a hierarchy. All memory is taken here: two bits for each node and
-    /// two for each face, and a 64th of that.
+    /// A changer for the fronts of a hierarchy. All memory is taken here: two bits for each node
+    /// and two for each face, and a 64th of that.
     pub fn new(alloc: Global, h: &Hierarchy) -> Result<Changer, OutOfMemory>
         ensures { IfOk result (λ c. c ≡ room_of h.now) }
     {
@@ -68,12 +71,12 @@ impl Changer {
         Ok(Changer { sets })
     }
 
-    /// Writes what changed since the marked front: the faces and the nodes that are gone, the nodes
-    /// that are new, with their places, and the faces that are new or have another corner, with the
-    /// nodes at their corners; each ascending by number. Who removes and puts these by number makes
-    /// the frame of this front of the one of the marked front. The front is one of the changer's
-    /// hierarchy. It takes no memory. After a fault the sink has gained a part of the text from its
-    /// front, and not the whole. A later call starts anew.
+    /// Writes what changed since the marked front: the faces and the nodes that are gone, the
+    /// nodes that are new, with their places, and the faces that are new or have another corner,
+    /// with the nodes at their corners; each ascending by number. Who removes and puts these by
+    /// number makes the frame of this front of the one of the marked front. The front is one of
+    /// the changer's hierarchy. It takes no memory. After a fault the sink has gained a part of
+    /// the text from its front, and not the whole. A later call starts anew.
     ///
     /// The text is put in pages of 4,096 bytes, of which the last may be shorter: when the call
     /// returns, nothing is held back. What it costs is said at `write_counted`.

@@ -152,8 +152,8 @@ fn differs(front: &Front, marks: &[bool], k: u32) -> bool
     marks[k as usize] != front.is_split(k)
 }
 
-/// Gathers the faces and the nodes that are gone, and the nodes that are new: only a record that is
-/// split in one of the two fronts and not in the other makes or splits such a node, and reveals
+/// Gathers the faces and the nodes that are gone, and the nodes that are new: only a record that
+/// is split in one of the two fronts and not in the other makes or splits such a node, and reveals
 /// such a face.
 pub(crate) fn gather_gone_and_new<L: Ledger>(
     front: &Front,

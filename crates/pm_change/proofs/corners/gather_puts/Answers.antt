@@ -1,4 +1,4 @@
-use Rattle.std.proofs.Common.{◌≡◌, ◌+◌, ◌*◌, ◌<◌, ◌≤◌, ℕ, Bool, List, true, false, length, filter, inl, inr, sym, ap, ◌∙◌, subst, arith}
+use Rattle.std.proofs.Common.{◌≡◌, true, filter, inl, inr, sym, ◌∙◌, subst, arith}
 use Rattle.std.proofs.lemmas.Bool.{cases_lt, cases_eq, both_ways}
 use Rattle.pm_base.specs.Counts.{set_of, numbers_below}
 use Rattle.pm_base.specs.Sides.{face_of}
@@ -45,8 +45,10 @@ loop-node-preserved g c =
     let len = c.requires.new.len in
     let new = sym (c.requires.new.each node (omega arith)) ∙ first.there in
     let put_len = c.see_corners.ensures.put.len ∙ i.got.len ∙ c.requires.len in
-    let puts = gathers_more (is_face_in (listed ls node)) (is_put h S G) c.loop-node.put c.see_corners.new.put
-    (λ f there y. let l = in_below c.see_corners.new.put f there in listed_put h shape S G before now ls e.corners node f new (omega arith) y) c.see_corners.ensures.put in
+    let puts = gathers_more (is_face_in (listed ls node)) (is_put h S G) c.loop-node.put
+    c.see_corners.new.put
+    (λ f there y. let l = in_below c.see_corners.new.put f there in listed_put h shape S G before
+    now ls e.corners node f new (omega arith) y) c.see_corners.ensures.put in
     let more = count_past (is_new_node h S G) from node ahead new in
     let up = corners_up h shape S G before now ls e.corners from node ahead in
     let next = corners_more h shape S G before now ls e.corners node new in
@@ -55,12 +57,14 @@ loop-node-preserved g c =
     let cost = i.cost in
     record {
       within = omega arith;
-      got = gathered_on (is_put h S G) c.args.put.now c.loop-node.put c.see_corners.new.put i.got puts;
+      got = gathered_on (is_put h S G) c.args.put.now c.loop-node.put c.see_corners.new.put i.got
+          puts;
       seen = λ v j l fresh held. elim (cases_lt v from) [
         | inl a ↦ puts.stay (face_of j) (i.seen v j a fresh held)
         | inr a ↦ elim (cases_eq v node) [
           | inl is ↦ c.see_corners.ensures.seen j (subst (λ w. has (listed ls w) j ≡ true) is held)
-          | inr ne ↦ absurd (both_ways (is_new_node h S G v) (sym (c.requires.new.each v (omega arith)) ∙ first.none v a (omega arith)) fresh)
+          | inr ne ↦ absurd (both_ways (is_new_node h S G v)
+              (sym (c.requires.new.each v (omega arith)) ∙ first.none v a (omega arith)) fresh)
         ]
       ];
       cost = omega arith;
@@ -74,11 +78,14 @@ returns-clause-put g c =
     let e = c.invariant.ensures in
     let i = c.loop-node.invariant in
     let len = c.requires.new.len in
-    just_those (is_put h S G) c.args.put.now c.loop-node.put (face_count h) c.requires.empty c.requires.len i.got
-    (put_found h e.valid.shape S G (closed-front h S c.requires.told.closed) (closed-front h G e.closed) c.args.front.now.corners e.corners c.loop-node.put
+    just_those (is_put h S G) c.args.put.now c.loop-node.put (face_count h) c.requires.empty
+    c.requires.len i.got
+    (put_found h e.valid.shape S G (closed-front h S c.requires.told.closed)
+    (closed-front h G e.closed) c.args.front.now.corners e.corners c.loop-node.put
     (λ v j l fresh held. elim (cases_lt v c.loop-node.from) [
       | inl a ↦ i.seen v j a fresh held
-      | inr a ↦ absurd (both_ways (is_new_node h S G v) (sym (c.requires.new.each v l) ∙ c.in_default.ensures.none v a (omega arith)) fresh)
+      | inr a ↦ absurd (both_ways (is_new_node h S G v) (sym (c.requires.new.each v l)
+          ∙ c.in_default.ensures.none v a (omega arith)) fresh)
     ]))
 
 pub returns-clause-cost : goal.returns-clause-cost
@@ -92,6 +99,9 @@ returns-clause-cost g c =
     let len = c.requires.new.len in
     let cost = i.cost in
     let up = count_up (is_new_node h S G) c.loop-node.from (node_count h) (omega arith) in
-    let all = length-map (shown_node_at h) (filter (is_new_node h S G) (numbers_below (node_count h))) ∙ length-passing (is_new_node h S G) (node_count h) in
-    let corners = corners_all h e.valid.shape S G (closed-front h S c.requires.told.closed) (closed-front h G e.closed) c.args.front.now.corners e.corners c.loop-node.from in
+    let all = length-map (shown_node_at h)
+    (filter (is_new_node h S G) (numbers_below (node_count h)))
+    ∙ length-passing (is_new_node h S G) (node_count h) in
+    let corners = corners_all h e.valid.shape S G (closed-front h S c.requires.told.closed)
+    (closed-front h G e.closed) c.args.front.now.corners e.corners c.loop-node.from in
     omega arith

@@ -13,10 +13,13 @@ abbrev pub invariant-loop-node : goal.invariant-loop-node
 invariant-loop-node g l = record {
   within : l.from ≤ length l.new;
   got : Gathers (is_put l.front.h (set_of l._marks) (set_of l.front.flags)) l.fn.put l.put;
-  seen : (v e : ℕ) → v < l.from → is_new_node l.front.h (set_of l._marks) (set_of l.front.flags) v ≡ true
+  seen : (v e : ℕ) → v < l.from → is_new_node l.front.h (set_of l._marks) (set_of l.front.flags) v
+      ≡ true
       → has (listed l.front.corners v) e ≡ true → set_of l.put (face_of e) ≡ true;
-  cost : l.steps ≤ l.fn.steps + count (is_new_node l.front.h (set_of l._marks) (set_of l.front.flags)) l.from
-      + count (corner_before l.front.h (set_of l._marks) (set_of l.front.flags) l.from) (3 * face_count l.front.h);
+  cost : l.steps ≤ l.fn.steps + count
+      (is_new_node l.front.h (set_of l._marks) (set_of l.front.flags)) l.from
+      + count (corner_before l.front.h (set_of l._marks) (set_of l.front.flags) l.from)
+      (3 * face_count l.front.h);
 }
 
 abbrev pub decreases-loop-node : goal.decreases-loop-node

@@ -1,12 +1,9 @@
-use Rattle.std.proofs.Common.{◌≡◌, ◌+◌, ◌*◌, ◌<◌, ◌≤◌, ℕ, Bool, List, Option, Some, true, set, length, sym, ap, ◌∙◌, subst, arith}
+use Rattle.std.proofs.Common.{◌≡◌, ◌<◌, ℕ, Bool, List, Option, true, set, length, sym, ap, ◌∙◌, subst, arith}
 use Rattle.pm_base.specs.declared.ids.Side.{Side}
 use Rattle.pm_base.specs.Counts.{set_of}
 use Rattle.pm_base.specs.Sides.{face_of}
-use Rattle.pm_links.specs.Lists.{has, first_of, after}
+use Rattle.pm_links.specs.Lists.{first_of, after}
 use Rattle.pm_sets.proofs.FlagLaws.{set_here}
-use Rattle.pm_forest.specs.Forest.{Hierarchy}
-use Rattle.pm_forest.specs.Fronts.{ancestor_of}
-use Rattle.pm_forest.specs.Faces.{face_count, from_leaf}
 use Rattle.pm_beyond.proofs.Standing.{closed-front}
 use Rattle.pm_front.specs.Corners.{listed}
 use Rattle.pm_change.specs.Gathering.{Gathers, is_face_in}
@@ -21,8 +18,10 @@ next_corner-at-requires-clause-kept g c =
     let G = set_of c.args.front.now.flags in
     let e = c.invariant.ensures in
     let l = listed c.args.front.now.corners c.args.node.0 in
-    let walk = subst (λ (o : Option Side). IsWalk l (λ e. set_of c.loop-at.put (face_of e) ≡ true) o) c.in-Some.is c.loop-at.invariant.walk in
-    corner_kept h e.valid.shape G (closed-front h G e.closed) c.args.front.now.corners e.corners c.args.node.0 c.in-Some.corner.0 walk.held
+    let walk = subst (λ (o : Option Side). IsWalk l (λ e. set_of c.loop-at.put (face_of e) ≡ true)
+    o) c.in-Some.is c.loop-at.invariant.walk in
+    corner_kept h e.valid.shape G (closed-front h G e.closed) c.args.front.now.corners e.corners
+    c.args.node.0 c.in-Some.corner.0 walk.held
 
 pub loop-at-smaller : goal.loop-at-smaller
 loop-at-smaller g c =
@@ -34,11 +33,15 @@ loop-at-smaller g c =
     let corner = c.in-Some.corner in
     let l = listed ls v in
     let Done : ℕ → Type 0 = λ e. set_of c.loop-at.put (face_of e) ≡ true in
-    let walk = subst (λ (o : Option Side). IsWalk l Done o) c.in-Some.is c.loop-at.invariant.walk in
-    let at = corner_at h e.valid.shape G (closed-front h G e.closed) ls e.corners v corner.0 walk.held in
+    let walk = subst (λ (o : Option Side). IsWalk l Done o) c.in-Some.is
+    c.loop-at.invariant.walk in
+    let at = corner_at h e.valid.shape G (closed-front h G e.closed) ls e.corners v corner.0
+    walk.held in
     let next = c.next_corner-at.ensures ∙ ap (λ w. first_of (after corner.0 (listed ls w))) at in
-    let less = walk_shorter l Done corner c.next_corner-at.result (e.corners.once v) walk.held next in
-    subst (λ (o : Option Side). length (still c.next_corner-at.result l) < length (still o l)) (sym c.in-Some.is) (omega arith)
+    let less = walk_shorter l Done corner c.next_corner-at.result (e.corners.once v) walk.held
+    next in
+    subst (λ (o : Option Side). length (still c.next_corner-at.result l) < length (still o l))
+    (sym c.in-Some.is) (omega arith)
 
 pub loop-at-preserved : goal.loop-at-preserved
 loop-at-preserved g c =
@@ -66,12 +69,17 @@ loop-at-preserved g c =
     let room = c.requires.len in
     let low : face < length c.loop-at.put = omega arith in
     let put : c.insert.new.self ≡ set c.loop-at.put face true = c.insert.ensures in
-    let one = subst (λ (m : List Bool). Gathers (is_face_in l) c.loop-at.put m) (sym put) (gathered_one (is_face_in l) c.loop-at.put face low (put_face_in l corner.0 face held is)) in
-    let done : Then corner.0 = subst (λ (m : List Bool). set_of m (face_of corner.0) ≡ true) (sym put) (subst (λ j. set_of (set c.loop-at.put face true) j ≡ true) is (set_here c.loop-at.put face low true)) in
+    let one = subst (λ (m : List Bool). Gathers (is_face_in l) c.loop-at.put m) (sym put)
+    (gathered_one (is_face_in l) c.loop-at.put face low (put_face_in l corner.0 face held is))
+    in
+    let done : Then corner.0 = subst (λ (m : List Bool). set_of m (face_of corner.0) ≡ true)
+    (sym put) (subst (λ j. set_of (set c.loop-at.put face true) j ≡ true) is
+    (set_here c.loop-at.put face low true)) in
     let tick = c.tick.ensures in
     let cost = i.cost in
     record {
       got = gathered_on (is_face_in l) c.args.put.now c.loop-at.put c.insert.new.self i.got one;
-      walk = walk_goes l Done Then corner c.next_corner-at.result (e.corners.once v) walk next (λ j d. one.stay (face_of j) d) done;
+      walk = walk_goes l Done Then corner c.next_corner-at.result (e.corners.once v) walk next
+          (λ j d. one.stay (face_of j) d) done;
       cost = omega arith;
     }

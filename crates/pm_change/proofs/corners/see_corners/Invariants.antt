@@ -1,4 +1,4 @@
-use Rattle.std.proofs.Common.{◌≡◌, ◌≤◌, ◌+◌, ℕ, true, length}
+use Rattle.std.proofs.Common.{◌≡◌, ◌≤◌, ◌+◌, true, length}
 use Rattle.pm_base.specs.Counts.{set_of}
 use Rattle.pm_base.specs.Sides.{face_of}
 use Rattle.pm_front.specs.Corners.{listed}

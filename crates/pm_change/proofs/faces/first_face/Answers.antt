@@ -1,7 +1,7 @@
-use Rattle.std.proofs.Common.{◌≡◌, ◌+◌, ◌-◌, ◌/◌, ◌<◌, ◌≤◌, true, false, sym, ◌∙◌, arith}
+use Rattle.std.proofs.Common.{◌+◌, ◌-◌, ◌/◌, sym, ◌∙◌, arith}
 use Rattle.std.proofs.lemmas.Bool.{ltb-true, ltb-false}
 use Rattle.pm_forest.specs.Forest.{record_count}
-use Rattle.pm_forest.specs.Faces.{first_face, face_count}
+use Rattle.pm_forest.specs.Faces.{first_face}
 use Rattle.pm_forest.proofs.FaceNumbers.{first_face-mono}
 use Rattle.pm_change.proofs.FaceLaws.{first_low, first_high, halves}
 use Rattle.pm_change.proofs.PartLaws.{faces_most}
@@ -17,7 +17,12 @@ loop-low-init g c =
     let up = first_face-mono h k (record_count h) (omega arith) in
     let most = faces_most h c.invariant.ensures in
     record {
-      from = omega (arith, c.saturating_sub-low.ensures, c.faces.ensures.value, c.records.ensures.value);
+      from = omega (
+        arith,
+        c.saturating_sub-low.ensures,
+        c.faces.ensures.value,
+        c.records.ensures.value,
+      );
       until = omega (arith, c.min-high.ensures, c.faces-2.ensures.value, c.bases.ensures.value);
       there = omega (arith, c.min-high.ensures, c.faces-2.ensures.value);
       halved = (21, omega (arith, c.min-high.ensures, c.faces-2.ensures.value), omega arith);
@@ -30,7 +35,8 @@ loop-low-preserved-then-comes_before g c =
     let (n, few, steps) = i.halved in
     let less = c.loop-low-test.true in
     let (m, is, low, high) = halves n c.loop-low.low c.loop-low.high less few in
-    let before = ltb-true (c.loop-low.low + (c.loop-low.high - c.loop-low.low) / 2) (first_face h c.args.k) (sym c.comes_before.ensures ∙ c.if-comes_before.true) in
+    let before = ltb-true (c.loop-low.low + (c.loop-low.high - c.loop-low.low) / 2)
+    (first_face h c.args.k) (sym c.comes_before.ensures ∙ c.if-comes_before.true) in
     let tick = c.tick.ensures in
     record {
       from = omega arith;
@@ -46,7 +52,8 @@ loop-low-preserved g c =
     let (n, few, steps) = i.halved in
     let less = c.loop-low-test.true in
     let (m, is, low, high) = halves n c.loop-low.low c.loop-low.high less few in
-    let after = ltb-false (c.loop-low.low + (c.loop-low.high - c.loop-low.low) / 2) (first_face h c.args.k) (sym c.comes_before.ensures ∙ c.if-comes_before.false) in
+    let after = ltb-false (c.loop-low.low + (c.loop-low.high - c.loop-low.low) / 2)
+    (first_face h c.args.k) (sym c.comes_before.ensures ∙ c.if-comes_before.false) in
     let tick = c.tick.ensures in
     let there = i.there in
     record {

@@ -1,4 +1,4 @@
-use Rattle.std.proofs.Common.{◌≡◌, ◌+◌, ◌*◌, ◌<◌, ◌≤◌, suc, ℕ, true, false, inl, inr, sym, ap, ◌∙◌, subst, arith}
+use Rattle.std.proofs.Common.{◌≡◌, ◌+◌, suc, true, false, inl, inr, sym, ap, ◌∙◌, subst, arith}
 use Rattle.std.proofs.lemmas.Bool.{cases_lt, both_ways}
 use Rattle.pm_base.specs.Counts.{set_of, count}
 use Rattle.pm_base.proofs.Counts.{count-true, count-false}
@@ -6,7 +6,6 @@ use Rattle.pm_forest.specs.Forest.{record_count}
 use Rattle.pm_beyond.specs.Plans.{differs}
 use Rattle.pm_beyond.proofs.Standing.{closed-front}
 use Rattle.pm_change.specs.Gathering.{HaveSeen}
-use Rattle.pm_change.specs.declared.sets.ChangeSets.{ChangeSets}
 use Rattle.pm_change.proofs.FoundLaws.{all_seen, seen_on, gathered_all}
 use Rattle.pm_change.proofs.gathering.gather_gone_and_new.Goals.{then-differs, else-differs}
 use Rattle.pm_change.proofs.gathering.gather_gone_and_new.Goals as goal
@@ -33,7 +32,9 @@ loop-k-preserved g c =
             got = gathered_all h S G c.args.sets.now c.loop-k.sets w.see_record.new.sets i.got got;
             seen = λ j l d. elim (cases_lt j k) [
               | inl a ↦ seen_on h S G j c.loop-k.sets w.see_record.new.sets got (i.seen j a d)
-              | inr a ↦ (let is : j ≡ k = omega arith in subst (λ m. HaveSeen h S G m w.see_record.new.sets) (sym is) w.see_record.ensures.seen)
+              | inr a ↦ (let is : j ≡ k = omega arith in
+                  subst (λ m. HaveSeen h S G m w.see_record.new.sets) (sym is)
+                  w.see_record.ensures.seen)
             ];
             cost = omega arith;
           })
@@ -45,7 +46,8 @@ loop-k-preserved g c =
             got = i.got;
             seen = λ j l d. elim (cases_lt j k) [
               | inl a ↦ i.seen j a d
-              | inr a ↦ (let is : j ≡ k = omega arith in absurd (both_ways (differs S G k) here (subst (λ m. differs S G m ≡ true) is d)))
+              | inr a ↦ (let is : j ≡ k = omega arith in absurd
+                  (both_ways (differs S G k) here (subst (λ m. differs S G m ≡ true) is d)))
             ];
             cost = omega arith;
           })
@@ -60,7 +62,9 @@ returns-clause-gone_faces g c =
     let i = c.loop-k.invariant in
     let end = c.loop-k-test.false in
     let all = c.records-k-end.ensures.value ∙ ap record_count c.hierarchy.ensures in
-    (all_seen h e.valid.shape S G (closed-front h S c.requires.told.closed) (closed-front h G e.closed) c.args.sets.now c.loop-k.sets c.requires.room c.requires.empty i.got (λ k l d. i.seen k (omega arith) d)).0
+    (all_seen h e.valid.shape S G (closed-front h S c.requires.told.closed)
+    (closed-front h G e.closed) c.args.sets.now c.loop-k.sets c.requires.room c.requires.empty
+    i.got (λ k l d. i.seen k (omega arith) d)).0
 
 pub returns-clause-gone_nodes : goal.returns-clause-gone_nodes
 returns-clause-gone_nodes g c =
@@ -71,7 +75,9 @@ returns-clause-gone_nodes g c =
     let i = c.loop-k.invariant in
     let end = c.loop-k-test.false in
     let all = c.records-k-end.ensures.value ∙ ap record_count c.hierarchy.ensures in
-    (all_seen h e.valid.shape S G (closed-front h S c.requires.told.closed) (closed-front h G e.closed) c.args.sets.now c.loop-k.sets c.requires.room c.requires.empty i.got (λ k l d. i.seen k (omega arith) d)).1
+    (all_seen h e.valid.shape S G (closed-front h S c.requires.told.closed)
+    (closed-front h G e.closed) c.args.sets.now c.loop-k.sets c.requires.room c.requires.empty
+    i.got (λ k l d. i.seen k (omega arith) d)).1
 
 pub returns-clause-new_nodes : goal.returns-clause-new_nodes
 returns-clause-new_nodes g c =
@@ -82,4 +88,6 @@ returns-clause-new_nodes g c =
     let i = c.loop-k.invariant in
     let end = c.loop-k-test.false in
     let all = c.records-k-end.ensures.value ∙ ap record_count c.hierarchy.ensures in
-    (all_seen h e.valid.shape S G (closed-front h S c.requires.told.closed) (closed-front h G e.closed) c.args.sets.now c.loop-k.sets c.requires.room c.requires.empty i.got (λ k l d. i.seen k (omega arith) d)).2
+    (all_seen h e.valid.shape S G (closed-front h S c.requires.told.closed)
+    (closed-front h G e.closed) c.args.sets.now c.loop-k.sets c.requires.room c.requires.empty
+    i.got (λ k l d. i.seen k (omega arith) d)).2

@@ -10,5 +10,6 @@ invariant-loop-k g l = record {
   got : HaveGathered l.front.h (set_of l.marks) (set_of l.front.flags) l.fn.sets l.sets;
   seen : (j : ℕ) → j < l.k → differs (set_of l.marks) (set_of l.front.flags) j ≡ true
       → HaveSeen l.front.h (set_of l.marks) (set_of l.front.flags) j l.sets;
-  cost : l.steps ≤ l.fn.steps + l.k + 26 * count (differs (set_of l.marks) (set_of l.front.flags)) l.k;
+  cost : l.steps ≤ l.fn.steps + l.k + 26 * count (differs (set_of l.marks) (set_of l.front.flags))
+      l.k;
 }

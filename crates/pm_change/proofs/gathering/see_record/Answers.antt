@@ -12,7 +12,8 @@ returns-else-not-is_split-clause-seen g c =
     let e = c.invariant.ensures in
     let split : G c.args.k ≡ true = sym c.is_split.ensures ∙ c.if-not-is_split.false in
     record {
-      gone_faces = no_face_gone h e.valid.shape S G (closed-front h S c.requires.told.closed) (closed-front h G e.closed) c.args.k c.args.sets.now.gone_faces split;
+      gone_faces = no_face_gone h e.valid.shape S G (closed-front h S c.requires.told.closed)
+          (closed-front h G e.closed) c.args.k c.args.sets.now.gone_faces split;
       gone_nodes = c.see_nodes.ensures.gone_seen;
       new_nodes = c.see_nodes.ensures.new_seen;
     }

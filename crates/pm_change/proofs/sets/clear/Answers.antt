@@ -1,4 +1,4 @@
-use Rattle.std.proofs.Common.{◌≡◌, ◌+◌, ◌<◌, ◌≤◌, Bool, List, suc, false, set, length, length-set, ap, ◌∙◌, arith}
+use Rattle.std.proofs.Common.{Bool, List, false, length, length-set, ap, ◌∙◌, arith}
 use Rattle.pm_change.specs.Gathering.{size_of}
 use Rattle.pm_change.proofs.TellLaws.{size_left}
 use Rattle.pm_change.proofs.sets.clear.Goals as goal
@@ -16,6 +16,8 @@ loop-number-preserved g c =
     let tick = c.tick.ensures in
     let cost = c.loop-number.invariant.cost in
     record {
-      len = ap (λ (m : List Bool). length m) c.in-Some.ensures.taken ∙ length-set {A = Bool} c.loop-number.set c.in-Some._number false ∙ c.loop-number.invariant.len;
+      len = ap (λ (m : List Bool). length m) c.in-Some.ensures.taken
+          ∙ length-set {A = Bool} c.loop-number.set c.in-Some._number false
+          ∙ c.loop-number.invariant.len;
       cost = omega arith;
     }

@@ -1,9 +1,9 @@
-use Rattle.std.proofs.Common.{◌≡◌, ◌+◌, ◌<◌, ◌≤◌, ◌++◌, List, ℕ, filter, length, sym, ap, ◌∙◌, subst, arith}
+use Rattle.std.proofs.Common.{◌+◌, ◌++◌, List, ℕ, length, sym, ◌∙◌, subst, arith}
 use Rattle.std.specs.List.{flat_map}
 use Rattle.std.proofs.lemmas.Result.{err_from_is_err_and}
 use Rattle.pm_io.specs.Bytes.{GainsThrough, GainsPart}
 use Rattle.pm_io.proofs.PutLaws.{through_failed, through_done}
-use Rattle.pm_base.specs.Counts.{set_of, numbers_below}
+use Rattle.pm_base.specs.Counts.{set_of}
 use Rattle.pm_sets.proofs.FlagLaws.{in_below}
 use Rattle.pm_frame.proofs.Lines.{line_next, line_cut}
 use Rattle.pm_change.specs.Parts.{is_of_part, bound_of_part, part_line}
@@ -19,7 +19,8 @@ overflow_add-from g c =
 
 pub put_line-requires : goal.put_line-requires
 put_line-requires g c =
-    can_tell c.args.front.now.h (set_of c.args._marks.now) (set_of c.args.front.now.flags) c.args.numbers.now c.in-Some.number c.in-Some.ensures.some.there c.args.part c.requires
+    can_tell c.args.front.now.h (set_of c.args._marks.now) (set_of c.args.front.now.flags)
+    c.args.numbers.now c.in-Some.number c.in-Some.ensures.some.there c.args.part c.requires
 
 pub returns-in_err-add-clause-puts : goal.returns-in_err-add-clause-puts
 returns-in_err-add-clause-puts g c =
@@ -32,10 +33,19 @@ returns-in_err-add-clause-puts g c =
     let n = c.in-Some.number in
     let first = c.in-Some.ensures.some in
     let gap = passing_gap (set_of flags) c.loop-number.from n first.from first.none in
-    let so_far = subst (λ (xs : List ℕ). GainsThrough (g.K.Sink.got c.args.out.now) (g.K.Sink.got c.loop-number.out) c.args.page.now c.loop-number.page (flat_map line xs)) (sym gap) c.loop-number.invariant.text in
-    let part = line_cut (set_of flags) line n (length flags) _ _ _ _ _ _ (in_below flags n first.there) first.there (◌∙◌ {c = line n} c.as_slice.ensures c.put_line.ensures) so_far c.in_err-add.ensures.puts.err in
-    let whole = subst (λ (xs : List ℕ). GainsPart (g.K.Sink.got c.args.out.now) (g.K.Sink.got c.add.new.out) (c.args.page.now ++ flat_map line xs)) (just_numbers (is_of_part h S G c.args.part) (bound_of_part h c.args.part) flags c.requires) part in
-    rw (p.1, p.2) (through_failed g.K.Sink c.args.out.now c.loop-number.out _ _ _ _ _ whole c.loop-number.invariant.calm c.in_err-add.ensures.puts.cause)
+    let so_far = subst (λ (xs : List ℕ). GainsThrough (g.K.Sink.got c.args.out.now)
+    (g.K.Sink.got c.loop-number.out) c.args.page.now c.loop-number.page (flat_map line xs))
+    (sym gap) c.loop-number.invariant.text in
+    let part = line_cut (set_of flags) line n (length flags) _ _ _ _ _ _
+    (in_below flags n first.there) first.there
+    (◌∙◌ {c = line n} c.as_slice.ensures c.put_line.ensures) so_far
+    c.in_err-add.ensures.puts.err in
+    let whole = subst (λ (xs : List ℕ). GainsPart (g.K.Sink.got c.args.out.now)
+    (g.K.Sink.got c.add.new.out) (c.args.page.now ++ flat_map line xs))
+    (just_numbers (is_of_part h S G c.args.part) (bound_of_part h c.args.part) flags
+    c.requires) part in
+    rw (p.1, p.2) (through_failed g.K.Sink c.args.out.now c.loop-number.out _ _ _ _ _ whole
+    c.loop-number.invariant.calm c.in_err-add.ensures.puts.cause)
 
 pub returns-in_err-add-clause-cost : goal.returns-in_err-add-clause-cost
 returns-in_err-add-clause-cost g c =
@@ -43,7 +53,8 @@ returns-in_err-add-clause-cost g c =
     let n = c.in-Some.number in
     let first = c.in-Some.ensures.some in
     let low = in_below flags n first.there in
-    let past = passing_past (set_of flags) c.loop-number.from n first.from first.none first.there in
+    let past = passing_past (set_of flags) c.loop-number.from n first.from first.none
+    first.there in
     let up = passing_up (set_of flags) (n + 1) (length flags) (omega arith) in
     let tick = c.tick.ensures in
     let cost = c.loop-number.invariant.cost in
@@ -57,13 +68,18 @@ loop-number-preserved g c =
     let first = c.in-Some.ensures.some in
     let low = in_below flags n first.there in
     let gap = passing_gap (set_of flags) c.loop-number.from n first.from first.none in
-    let past = passing_past (set_of flags) c.loop-number.from n first.from first.none first.there in
-    let so_far = subst (λ (xs : List ℕ). GainsThrough (g.K.Sink.got c.args.out.now) (g.K.Sink.got c.loop-number.out) c.args.page.now c.loop-number.page (flat_map line xs)) (sym gap) c.loop-number.invariant.text in
+    let past = passing_past (set_of flags) c.loop-number.from n first.from first.none
+    first.there in
+    let so_far = subst (λ (xs : List ℕ). GainsThrough (g.K.Sink.got c.args.out.now)
+    (g.K.Sink.got c.loop-number.out) c.args.page.now c.loop-number.page (flat_map line xs))
+    (sym gap) c.loop-number.invariant.text in
     let tick = c.tick.ensures in
     let cost = c.loop-number.invariant.cost in
     record {
       within = omega arith;
-      text = line_next (set_of flags) line n _ _ _ _ _ _ _ first.there (◌∙◌ {c = line n} c.as_slice.ensures c.put_line.ensures) so_far c.in_ok-add.ensures.puts.ok;
+      text = line_next (set_of flags) line n _ _ _ _ _ _ _ first.there
+          (◌∙◌ {c = line n} c.as_slice.ensures c.put_line.ensures) so_far
+          c.in_ok-add.ensures.puts.ok;
       calm = c.in_ok-add.ensures.puts.cause.same ∙ c.loop-number.invariant.calm;
       cost = omega arith;
     }
@@ -76,14 +92,20 @@ returns-clause-puts g c =
     let flags = c.args.numbers.now in
     let line = part_line h G c.args.part in
     let i = c.loop-number.invariant in
-    let gap = passing_gap (set_of flags) c.loop-number.from (length flags) i.within c.in_default.ensures.none in
-    let same = sym gap ∙ just_numbers (is_of_part h S G c.args.part) (bound_of_part h c.args.part) flags c.requires in
-    let whole = subst (λ (xs : List ℕ). GainsThrough (g.K.Sink.got c.args.out.now) (g.K.Sink.got c.loop-number.out) c.args.page.now c.loop-number.page (flat_map line xs)) same i.text in
-    through_done g.K.Sink c.args.out.now c.loop-number.out c.args.page.now c.loop-number.page _ _ whole i.calm
+    let gap = passing_gap (set_of flags) c.loop-number.from (length flags) i.within
+    c.in_default.ensures.none in
+    let same = sym gap ∙ just_numbers (is_of_part h S G c.args.part) (bound_of_part h c.args.part)
+    flags c.requires in
+    let whole = subst (λ (xs : List ℕ). GainsThrough (g.K.Sink.got c.args.out.now)
+    (g.K.Sink.got c.loop-number.out) c.args.page.now c.loop-number.page (flat_map line xs))
+    same i.text in
+    through_done g.K.Sink c.args.out.now c.loop-number.out c.args.page.now c.loop-number.page _ _
+    whole i.calm
 
 pub returns-clause-cost : goal.returns-clause-cost
 returns-clause-cost g c =
     let i = c.loop-number.invariant in
-    let up = passing_up (set_of c.args.numbers.now) c.loop-number.from (length c.args.numbers.now) i.within in
+    let up = passing_up (set_of c.args.numbers.now) c.loop-number.from (length c.args.numbers.now)
+    i.within in
     let cost = i.cost in
     omega arith

@@ -9,7 +9,8 @@ abbrev pub invariant-loop-number : goal.invariant-loop-number
 invariant-loop-number g l = record {
   within : l.from ≤ length l.numbers;
   text : GainsThrough (g.K.Sink.got l.fn.out) (g.K.Sink.got l.out) l.fn.page l.page
-      (flat_map (part_line l.front.h (set_of l.front.flags) l.part) (filter (set_of l.numbers) (numbers_below l.from)));
+      (flat_map (part_line l.front.h (set_of l.front.flags) l.part)
+      (filter (set_of l.numbers) (numbers_below l.from)));
   calm : g.K.Sink.faults l.out ≡ g.K.Sink.faults l.fn.out;
   cost : l.steps ≤ l.fn.steps + length (filter (set_of l.numbers) (numbers_below l.from));
 }

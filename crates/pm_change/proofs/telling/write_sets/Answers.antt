@@ -13,96 +13,159 @@ returns-in_err-put_first-clause-puts g c =
     let h = c.args.front.now.h in
     let S = set_of c.args.marks.now in
     let G = set_of c.args.front.now.flags in
-    let two = through_stops g.K.Sink _ _ _ _ (first_change_line h G) (gone_face_lines h S G) _ c.in_err-put_first.ensures in
-    let three = through_stops g.K.Sink _ _ _ _ (first_change_line h G ++ gone_face_lines h S G) (gone_node_lines h S G) _ two in
-    let four = through_stops g.K.Sink _ _ _ _ (first_change_line h G ++ gone_face_lines h S G ++ gone_node_lines h S G) (new_node_lines h S G) _ three in
-    let five = through_stops g.K.Sink _ _ _ _ (first_change_line h G ++ gone_face_lines h S G ++ gone_node_lines h S G ++ new_node_lines h S G) (put_face_lines h S G) _ four in
-    let six = through_stops g.K.Sink _ _ _ _ (first_change_line h G ++ gone_face_lines h S G ++ gone_node_lines h S G ++ new_node_lines h S G ++ put_face_lines h S G) end_line _ five in
+    let two = through_stops g.K.Sink _ _ _ _ (first_change_line h G) (gone_face_lines h S G) _
+    c.in_err-put_first.ensures in
+    let three = through_stops g.K.Sink _ _ _ _ (first_change_line h G ++ gone_face_lines h S G)
+    (gone_node_lines h S G) _ two in
+    let four = through_stops g.K.Sink _ _ _ _
+    (first_change_line h G ++ gone_face_lines h S G ++ gone_node_lines h S G)
+    (new_node_lines h S G) _ three in
+    let five = through_stops g.K.Sink _ _ _ _
+    (first_change_line h G ++ gone_face_lines h S G ++ gone_node_lines h S G ++ new_node_lines
+    h S G) (put_face_lines h S G) _ four in
+    let six = through_stops g.K.Sink _ _ _ _
+    (first_change_line h G ++ gone_face_lines h S G ++ gone_node_lines h S G ++ new_node_lines
+    h S G ++ put_face_lines h S G) end_line _ five in
     rw (p.1, p.2) (flush_stops g.K.Sink _ _ _ _ _ _ c.new-page.ensures six)
 
 pub returns-in_err-put_part-clause-puts : goal.returns-in_err-put_part-clause-puts
 unfolding change_text
 returns-in_err-put_part-clause-puts g c =
-    let p = err_from_is_err_and c.from_residual-in_err-put_part.result c.from_residual-in_err-put_part.ensures.1 in
+    let p = err_from_is_err_and c.from_residual-in_err-put_part.result
+    c.from_residual-in_err-put_part.ensures.1 in
     let h = c.args.front.now.h in
     let S = set_of c.args.marks.now in
     let G = set_of c.args.front.now.flags in
-    let two = through_then g.K.Sink _ _ _ _ _ _ (first_change_line h G) (gone_face_lines h S G) _ _ c.in_ok-put_first.ensures c.in_err-put_part.ensures.puts in
-    let three = through_stops g.K.Sink _ _ _ _ (first_change_line h G ++ gone_face_lines h S G) (gone_node_lines h S G) _ two in
-    let four = through_stops g.K.Sink _ _ _ _ (first_change_line h G ++ gone_face_lines h S G ++ gone_node_lines h S G) (new_node_lines h S G) _ three in
-    let five = through_stops g.K.Sink _ _ _ _ (first_change_line h G ++ gone_face_lines h S G ++ gone_node_lines h S G ++ new_node_lines h S G) (put_face_lines h S G) _ four in
-    let six = through_stops g.K.Sink _ _ _ _ (first_change_line h G ++ gone_face_lines h S G ++ gone_node_lines h S G ++ new_node_lines h S G ++ put_face_lines h S G) end_line _ five in
+    let two = through_then g.K.Sink _ _ _ _ _ _ (first_change_line h G) (gone_face_lines h S G) _ _
+    c.in_ok-put_first.ensures c.in_err-put_part.ensures.puts in
+    let three = through_stops g.K.Sink _ _ _ _ (first_change_line h G ++ gone_face_lines h S G)
+    (gone_node_lines h S G) _ two in
+    let four = through_stops g.K.Sink _ _ _ _
+    (first_change_line h G ++ gone_face_lines h S G ++ gone_node_lines h S G)
+    (new_node_lines h S G) _ three in
+    let five = through_stops g.K.Sink _ _ _ _
+    (first_change_line h G ++ gone_face_lines h S G ++ gone_node_lines h S G ++ new_node_lines
+    h S G) (put_face_lines h S G) _ four in
+    let six = through_stops g.K.Sink _ _ _ _
+    (first_change_line h G ++ gone_face_lines h S G ++ gone_node_lines h S G ++ new_node_lines
+    h S G ++ put_face_lines h S G) end_line _ five in
     rw (p.1, p.2) (flush_stops g.K.Sink _ _ _ _ _ _ c.new-page.ensures six)
 
 pub returns-in_err-put_part-2-clause-puts : goal.returns-in_err-put_part-2-clause-puts
 unfolding change_text
 returns-in_err-put_part-2-clause-puts g c =
-    let p = err_from_is_err_and c.from_residual-in_err-put_part-2.result c.from_residual-in_err-put_part-2.ensures.1 in
+    let p = err_from_is_err_and c.from_residual-in_err-put_part-2.result
+    c.from_residual-in_err-put_part-2.ensures.1 in
     let h = c.args.front.now.h in
     let S = set_of c.args.marks.now in
     let G = set_of c.args.front.now.flags in
-    let two = through_then g.K.Sink _ _ _ _ _ _ (first_change_line h G) (gone_face_lines h S G) _ _ c.in_ok-put_first.ensures c.in_ok-put_part.ensures.puts in
-    let three = through_then g.K.Sink _ _ _ _ _ _ (first_change_line h G ++ gone_face_lines h S G) (gone_node_lines h S G) _ _ two c.in_err-put_part-2.ensures.puts in
-    let four = through_stops g.K.Sink _ _ _ _ (first_change_line h G ++ gone_face_lines h S G ++ gone_node_lines h S G) (new_node_lines h S G) _ three in
-    let five = through_stops g.K.Sink _ _ _ _ (first_change_line h G ++ gone_face_lines h S G ++ gone_node_lines h S G ++ new_node_lines h S G) (put_face_lines h S G) _ four in
-    let six = through_stops g.K.Sink _ _ _ _ (first_change_line h G ++ gone_face_lines h S G ++ gone_node_lines h S G ++ new_node_lines h S G ++ put_face_lines h S G) end_line _ five in
+    let two = through_then g.K.Sink _ _ _ _ _ _ (first_change_line h G) (gone_face_lines h S G) _ _
+    c.in_ok-put_first.ensures c.in_ok-put_part.ensures.puts in
+    let three = through_then g.K.Sink _ _ _ _ _ _ (first_change_line h G ++ gone_face_lines h S G)
+    (gone_node_lines h S G) _ _ two c.in_err-put_part-2.ensures.puts in
+    let four = through_stops g.K.Sink _ _ _ _
+    (first_change_line h G ++ gone_face_lines h S G ++ gone_node_lines h S G)
+    (new_node_lines h S G) _ three in
+    let five = through_stops g.K.Sink _ _ _ _
+    (first_change_line h G ++ gone_face_lines h S G ++ gone_node_lines h S G ++ new_node_lines
+    h S G) (put_face_lines h S G) _ four in
+    let six = through_stops g.K.Sink _ _ _ _
+    (first_change_line h G ++ gone_face_lines h S G ++ gone_node_lines h S G ++ new_node_lines
+    h S G ++ put_face_lines h S G) end_line _ five in
     rw (p.1, p.2) (flush_stops g.K.Sink _ _ _ _ _ _ c.new-page.ensures six)
 
 pub returns-in_err-put_part-3-clause-puts : goal.returns-in_err-put_part-3-clause-puts
 unfolding change_text
 returns-in_err-put_part-3-clause-puts g c =
-    let p = err_from_is_err_and c.from_residual-in_err-put_part-3.result c.from_residual-in_err-put_part-3.ensures.1 in
+    let p = err_from_is_err_and c.from_residual-in_err-put_part-3.result
+    c.from_residual-in_err-put_part-3.ensures.1 in
     let h = c.args.front.now.h in
     let S = set_of c.args.marks.now in
     let G = set_of c.args.front.now.flags in
-    let two = through_then g.K.Sink _ _ _ _ _ _ (first_change_line h G) (gone_face_lines h S G) _ _ c.in_ok-put_first.ensures c.in_ok-put_part.ensures.puts in
-    let three = through_then g.K.Sink _ _ _ _ _ _ (first_change_line h G ++ gone_face_lines h S G) (gone_node_lines h S G) _ _ two c.in_ok-put_part-2.ensures.puts in
-    let four = through_then g.K.Sink _ _ _ _ _ _ (first_change_line h G ++ gone_face_lines h S G ++ gone_node_lines h S G) (new_node_lines h S G) _ _ three c.in_err-put_part-3.ensures.puts in
-    let five = through_stops g.K.Sink _ _ _ _ (first_change_line h G ++ gone_face_lines h S G ++ gone_node_lines h S G ++ new_node_lines h S G) (put_face_lines h S G) _ four in
-    let six = through_stops g.K.Sink _ _ _ _ (first_change_line h G ++ gone_face_lines h S G ++ gone_node_lines h S G ++ new_node_lines h S G ++ put_face_lines h S G) end_line _ five in
+    let two = through_then g.K.Sink _ _ _ _ _ _ (first_change_line h G) (gone_face_lines h S G) _ _
+    c.in_ok-put_first.ensures c.in_ok-put_part.ensures.puts in
+    let three = through_then g.K.Sink _ _ _ _ _ _ (first_change_line h G ++ gone_face_lines h S G)
+    (gone_node_lines h S G) _ _ two c.in_ok-put_part-2.ensures.puts in
+    let four = through_then g.K.Sink _ _ _ _ _ _
+    (first_change_line h G ++ gone_face_lines h S G ++ gone_node_lines h S G)
+    (new_node_lines h S G) _ _ three c.in_err-put_part-3.ensures.puts in
+    let five = through_stops g.K.Sink _ _ _ _
+    (first_change_line h G ++ gone_face_lines h S G ++ gone_node_lines h S G ++ new_node_lines
+    h S G) (put_face_lines h S G) _ four in
+    let six = through_stops g.K.Sink _ _ _ _
+    (first_change_line h G ++ gone_face_lines h S G ++ gone_node_lines h S G ++ new_node_lines
+    h S G ++ put_face_lines h S G) end_line _ five in
     rw (p.1, p.2) (flush_stops g.K.Sink _ _ _ _ _ _ c.new-page.ensures six)
 
 pub returns-in_err-put_part-4-clause-puts : goal.returns-in_err-put_part-4-clause-puts
 unfolding change_text
 returns-in_err-put_part-4-clause-puts g c =
-    let p = err_from_is_err_and c.from_residual-in_err-put_part-4.result c.from_residual-in_err-put_part-4.ensures.1 in
+    let p = err_from_is_err_and c.from_residual-in_err-put_part-4.result
+    c.from_residual-in_err-put_part-4.ensures.1 in
     let h = c.args.front.now.h in
     let S = set_of c.args.marks.now in
     let G = set_of c.args.front.now.flags in
-    let two = through_then g.K.Sink _ _ _ _ _ _ (first_change_line h G) (gone_face_lines h S G) _ _ c.in_ok-put_first.ensures c.in_ok-put_part.ensures.puts in
-    let three = through_then g.K.Sink _ _ _ _ _ _ (first_change_line h G ++ gone_face_lines h S G) (gone_node_lines h S G) _ _ two c.in_ok-put_part-2.ensures.puts in
-    let four = through_then g.K.Sink _ _ _ _ _ _ (first_change_line h G ++ gone_face_lines h S G ++ gone_node_lines h S G) (new_node_lines h S G) _ _ three c.in_ok-put_part-3.ensures.puts in
-    let five = through_then g.K.Sink _ _ _ _ _ _ (first_change_line h G ++ gone_face_lines h S G ++ gone_node_lines h S G ++ new_node_lines h S G) (put_face_lines h S G) _ _ four c.in_err-put_part-4.ensures.puts in
-    let six = through_stops g.K.Sink _ _ _ _ (first_change_line h G ++ gone_face_lines h S G ++ gone_node_lines h S G ++ new_node_lines h S G ++ put_face_lines h S G) end_line _ five in
+    let two = through_then g.K.Sink _ _ _ _ _ _ (first_change_line h G) (gone_face_lines h S G) _ _
+    c.in_ok-put_first.ensures c.in_ok-put_part.ensures.puts in
+    let three = through_then g.K.Sink _ _ _ _ _ _ (first_change_line h G ++ gone_face_lines h S G)
+    (gone_node_lines h S G) _ _ two c.in_ok-put_part-2.ensures.puts in
+    let four = through_then g.K.Sink _ _ _ _ _ _
+    (first_change_line h G ++ gone_face_lines h S G ++ gone_node_lines h S G)
+    (new_node_lines h S G) _ _ three c.in_ok-put_part-3.ensures.puts in
+    let five = through_then g.K.Sink _ _ _ _ _ _
+    (first_change_line h G ++ gone_face_lines h S G ++ gone_node_lines h S G ++ new_node_lines
+    h S G) (put_face_lines h S G) _ _ four c.in_err-put_part-4.ensures.puts in
+    let six = through_stops g.K.Sink _ _ _ _
+    (first_change_line h G ++ gone_face_lines h S G ++ gone_node_lines h S G ++ new_node_lines
+    h S G ++ put_face_lines h S G) end_line _ five in
     rw (p.1, p.2) (flush_stops g.K.Sink _ _ _ _ _ _ c.new-page.ensures six)
 
 pub returns-in_err-put_last-clause-puts : goal.returns-in_err-put_last-clause-puts
 unfolding change_text
 returns-in_err-put_last-clause-puts g c =
-    let p = err_from_is_err_and c.from_residual-in_err-put_last.result c.from_residual-in_err-put_last.ensures.1 in
+    let p = err_from_is_err_and c.from_residual-in_err-put_last.result
+    c.from_residual-in_err-put_last.ensures.1 in
     let h = c.args.front.now.h in
     let S = set_of c.args.marks.now in
     let G = set_of c.args.front.now.flags in
-    let two = through_then g.K.Sink _ _ _ _ _ _ (first_change_line h G) (gone_face_lines h S G) _ _ c.in_ok-put_first.ensures c.in_ok-put_part.ensures.puts in
-    let three = through_then g.K.Sink _ _ _ _ _ _ (first_change_line h G ++ gone_face_lines h S G) (gone_node_lines h S G) _ _ two c.in_ok-put_part-2.ensures.puts in
-    let four = through_then g.K.Sink _ _ _ _ _ _ (first_change_line h G ++ gone_face_lines h S G ++ gone_node_lines h S G) (new_node_lines h S G) _ _ three c.in_ok-put_part-3.ensures.puts in
-    let five = through_then g.K.Sink _ _ _ _ _ _ (first_change_line h G ++ gone_face_lines h S G ++ gone_node_lines h S G ++ new_node_lines h S G) (put_face_lines h S G) _ _ four c.in_ok-put_part-4.ensures.puts in
-    let six = through_then g.K.Sink _ _ _ _ _ _ (first_change_line h G ++ gone_face_lines h S G ++ gone_node_lines h S G ++ new_node_lines h S G ++ put_face_lines h S G) end_line _ _ five c.in_err-put_last.ensures in
+    let two = through_then g.K.Sink _ _ _ _ _ _ (first_change_line h G) (gone_face_lines h S G) _ _
+    c.in_ok-put_first.ensures c.in_ok-put_part.ensures.puts in
+    let three = through_then g.K.Sink _ _ _ _ _ _ (first_change_line h G ++ gone_face_lines h S G)
+    (gone_node_lines h S G) _ _ two c.in_ok-put_part-2.ensures.puts in
+    let four = through_then g.K.Sink _ _ _ _ _ _
+    (first_change_line h G ++ gone_face_lines h S G ++ gone_node_lines h S G)
+    (new_node_lines h S G) _ _ three c.in_ok-put_part-3.ensures.puts in
+    let five = through_then g.K.Sink _ _ _ _ _ _
+    (first_change_line h G ++ gone_face_lines h S G ++ gone_node_lines h S G ++ new_node_lines
+    h S G) (put_face_lines h S G) _ _ four c.in_ok-put_part-4.ensures.puts in
+    let six = through_then g.K.Sink _ _ _ _ _ _
+    (first_change_line h G ++ gone_face_lines h S G ++ gone_node_lines h S G ++ new_node_lines
+    h S G ++ put_face_lines h S G) end_line _ _ five c.in_err-put_last.ensures in
     rw (p.1, p.2) (flush_stops g.K.Sink _ _ _ _ _ _ c.new-page.ensures six)
 
 pub returns-in_err-flush-clause-puts : goal.returns-in_err-flush-clause-puts
 unfolding change_text
 returns-in_err-flush-clause-puts g c =
-    let p = err_from_is_err_and c.from_residual-in_err-flush.result c.from_residual-in_err-flush.ensures.1 in
+    let p = err_from_is_err_and c.from_residual-in_err-flush.result
+    c.from_residual-in_err-flush.ensures.1 in
     let h = c.args.front.now.h in
     let S = set_of c.args.marks.now in
     let G = set_of c.args.front.now.flags in
-    let two = through_then g.K.Sink _ _ _ _ _ _ (first_change_line h G) (gone_face_lines h S G) _ _ c.in_ok-put_first.ensures c.in_ok-put_part.ensures.puts in
-    let three = through_then g.K.Sink _ _ _ _ _ _ (first_change_line h G ++ gone_face_lines h S G) (gone_node_lines h S G) _ _ two c.in_ok-put_part-2.ensures.puts in
-    let four = through_then g.K.Sink _ _ _ _ _ _ (first_change_line h G ++ gone_face_lines h S G ++ gone_node_lines h S G) (new_node_lines h S G) _ _ three c.in_ok-put_part-3.ensures.puts in
-    let five = through_then g.K.Sink _ _ _ _ _ _ (first_change_line h G ++ gone_face_lines h S G ++ gone_node_lines h S G ++ new_node_lines h S G) (put_face_lines h S G) _ _ four c.in_ok-put_part-4.ensures.puts in
-    let six = through_then g.K.Sink _ _ _ _ _ _ (first_change_line h G ++ gone_face_lines h S G ++ gone_node_lines h S G ++ new_node_lines h S G ++ put_face_lines h S G) end_line _ _ five c.in_ok-put_last.ensures in
-    rw (p.1, p.2) (flush_then g.K.Sink _ _ _ _ _ _ _ _ c.new-page.ensures six c.in_err-flush.ensures.puts)
+    let two = through_then g.K.Sink _ _ _ _ _ _ (first_change_line h G) (gone_face_lines h S G) _ _
+    c.in_ok-put_first.ensures c.in_ok-put_part.ensures.puts in
+    let three = through_then g.K.Sink _ _ _ _ _ _ (first_change_line h G ++ gone_face_lines h S G)
+    (gone_node_lines h S G) _ _ two c.in_ok-put_part-2.ensures.puts in
+    let four = through_then g.K.Sink _ _ _ _ _ _
+    (first_change_line h G ++ gone_face_lines h S G ++ gone_node_lines h S G)
+    (new_node_lines h S G) _ _ three c.in_ok-put_part-3.ensures.puts in
+    let five = through_then g.K.Sink _ _ _ _ _ _
+    (first_change_line h G ++ gone_face_lines h S G ++ gone_node_lines h S G ++ new_node_lines
+    h S G) (put_face_lines h S G) _ _ four c.in_ok-put_part-4.ensures.puts in
+    let six = through_then g.K.Sink _ _ _ _ _ _
+    (first_change_line h G ++ gone_face_lines h S G ++ gone_node_lines h S G ++ new_node_lines
+    h S G ++ put_face_lines h S G) end_line _ _ five c.in_ok-put_last.ensures in
+    rw (p.1, p.2) (flush_then g.K.Sink _ _ _ _ _ _ _ _ c.new-page.ensures six
+    c.in_err-flush.ensures.puts)
 
 pub returns-clause-puts : goal.returns-clause-puts
 unfolding change_text
@@ -110,9 +173,17 @@ returns-clause-puts g c =
     let h = c.args.front.now.h in
     let S = set_of c.args.marks.now in
     let G = set_of c.args.front.now.flags in
-    let two = through_then g.K.Sink _ _ _ _ _ _ (first_change_line h G) (gone_face_lines h S G) _ _ c.in_ok-put_first.ensures c.in_ok-put_part.ensures.puts in
-    let three = through_then g.K.Sink _ _ _ _ _ _ (first_change_line h G ++ gone_face_lines h S G) (gone_node_lines h S G) _ _ two c.in_ok-put_part-2.ensures.puts in
-    let four = through_then g.K.Sink _ _ _ _ _ _ (first_change_line h G ++ gone_face_lines h S G ++ gone_node_lines h S G) (new_node_lines h S G) _ _ three c.in_ok-put_part-3.ensures.puts in
-    let five = through_then g.K.Sink _ _ _ _ _ _ (first_change_line h G ++ gone_face_lines h S G ++ gone_node_lines h S G ++ new_node_lines h S G) (put_face_lines h S G) _ _ four c.in_ok-put_part-4.ensures.puts in
-    let six = through_then g.K.Sink _ _ _ _ _ _ (first_change_line h G ++ gone_face_lines h S G ++ gone_node_lines h S G ++ new_node_lines h S G ++ put_face_lines h S G) end_line _ _ five c.in_ok-put_last.ensures in
+    let two = through_then g.K.Sink _ _ _ _ _ _ (first_change_line h G) (gone_face_lines h S G) _ _
+    c.in_ok-put_first.ensures c.in_ok-put_part.ensures.puts in
+    let three = through_then g.K.Sink _ _ _ _ _ _ (first_change_line h G ++ gone_face_lines h S G)
+    (gone_node_lines h S G) _ _ two c.in_ok-put_part-2.ensures.puts in
+    let four = through_then g.K.Sink _ _ _ _ _ _
+    (first_change_line h G ++ gone_face_lines h S G ++ gone_node_lines h S G)
+    (new_node_lines h S G) _ _ three c.in_ok-put_part-3.ensures.puts in
+    let five = through_then g.K.Sink _ _ _ _ _ _
+    (first_change_line h G ++ gone_face_lines h S G ++ gone_node_lines h S G ++ new_node_lines
+    h S G) (put_face_lines h S G) _ _ four c.in_ok-put_part-4.ensures.puts in
+    let six = through_then g.K.Sink _ _ _ _ _ _
+    (first_change_line h G ++ gone_face_lines h S G ++ gone_node_lines h S G ++ new_node_lines
+    h S G ++ put_face_lines h S G) end_line _ _ five c.in_ok-put_last.ensures in
     flush_then g.K.Sink _ _ _ _ _ _ _ _ c.new-page.ensures six c.in_ok-flush.ensures.puts

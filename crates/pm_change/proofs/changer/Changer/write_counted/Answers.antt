@@ -9,5 +9,7 @@ returns-clause-cost g c =
     let S = set_of c.args.marks.now in
     let G = set_of c.args.front.now.flags in
     let e = c.invariant.ensures in
-    steps_few h e.valid.shape S G (closed-front h S c.requires.marks.closed) (closed-front h G e.closed) c.gather.new.self c.gather.ensures.sets
-    c.args.steps.now c.gather.new.steps c.write_sets-told.new.steps c.clear.new.steps c.gather.ensures.cost c.write_sets-told.ensures.cost c.clear.ensures.cost
+    steps_few h e.valid.shape S G (closed-front h S c.requires.marks.closed)
+    (closed-front h G e.closed) c.gather.new.self c.gather.ensures.sets
+    c.args.steps.now c.gather.new.steps c.write_sets-told.new.steps c.clear.new.steps
+    c.gather.ensures.cost c.write_sets-told.ensures.cost c.clear.ensures.cost
