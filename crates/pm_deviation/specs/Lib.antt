@@ -1,0 +1,5 @@
+pub mod Spreads
+pub mod Normals
+pub mod Borders
+pub mod Deviations
+pub mod Laws

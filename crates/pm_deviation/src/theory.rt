@@ -1,0 +1,21 @@
+//! The laws of deviations.
+ghost use Rattle.pm_deviation.specs.Laws.{
+  DeviationsAreBelowErrors,
+  DeviationsGrow,
+  PlanesAreNear,
+  TrianglesStayNear,
+  LinesMeetNear,
+  BordersAreErrors,
+};
+
+/// States the laws of deviations, which hold for every hierarchy of the right shape: that they grow from the leaves up and
+/// stay below errors, and how near to the faces under a node they say that its place is. It does nothing, and callers cite its
+/// clauses.
+pub fn deviations_are_sound()
+    ensures below { DeviationsAreBelowErrors }
+    ensures grow { DeviationsGrow }
+    ensures planes { PlanesAreNear }
+    ensures triangles { TrianglesStayNear }
+    ensures lines { LinesMeetNear }
+    ensures borders { BordersAreErrors }
+{}
