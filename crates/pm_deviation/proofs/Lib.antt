@@ -1,0 +1,11 @@
+pub mod StepLaws
+pub mod SpreadLaws
+pub mod Products
+pub mod PlaneValues
+pub mod PartLaws
+pub mod BorderLaws
+pub mod Children
+pub mod CosineLaws
+pub mod GrowingLaws
+pub mod NearLaws
+pub mod LineLaws

@@ -1,5 +1,5 @@
 -- The laws of deviations, for a hierarchy of the right shape.
-use Rattle.std.specs.Prelude.{◌≡◌, ℕ, ◌+◌, ◌*◌, ◌^◌, ◌<◌, ◌≤◌, ◌⊎◌, max, ℤ, pos, ◌+ℤ◌, ◌*ℤ◌, unsigned_abs}
+use Rattle.std.specs.Prelude.{◌≡◌, ℕ, ◌+◌, ◌*◌, ◌<◌, ◌≤◌, ◌⊎◌, max, ℤ, pos, ◌+ℤ◌, ◌*ℤ◌, unsigned_abs}
 use Rattle.std.specs.List.{Contains}
 use Rattle.pm_base.specs.Place.{Place}
 use Rattle.pm_base.specs.Geometry.{dot_of, norm2_of, square_of}
@@ -25,11 +25,10 @@ value_of h f p = dot_of (normal_of h f) (way p (leaf_place h f.a))
 abbrev pub IsWithin : ℤ → ℕ → ℕ → Type 0
 IsWithin value n d = square_of (unsigned_abs value) ≤ square_of d * n
 
--- A deviation is at most the error, which is below 2 ^ 38.
+-- A deviation is at most the error.
 pub record IsBelowError (h : Hierarchy) (v : ℕ) : Type 0 where
   pub planes : plane_deviation_of h v ≤ error_of h v
   pub deviation : deviation_of h v ≤ error_of h v
-  pub small : error_of h v < 2 ^ 38
 
 abbrev pub DeviationsAreBelowErrors : Type 0
 DeviationsAreBelowErrors = (h : Hierarchy) → HasShape h → (v : ℕ) → v < node_count h → IsBelowError h v

@@ -1,0 +1,169 @@
+-- Deviations are at most errors, and grow from a child to its parent.
+use Rattle.std.proofs.Common.{◌≡◌, ℕ, ◌+◌, ◌*◌, ◌<◌, ◌≤◌, max, min, eqb, Bool, true, false, cond, ◌||◌, None, Some, inl, inr, refl, sym, ap, ◌∙◌, subst, arith}
+use Rattle.std.proofs.Math.Nat.{le_refl}
+use Rattle.std.proofs.lemmas.Bool.{cases_Bool, cases_eq, cond-true, cond-false, or_left, or_right, or_cases, or_parts, eq-eqb, eqb-true, ne_eqb, both_ways}
+use Rattle.std.specs.Int.{div_ceil}
+use Rattle.pm_base.specs.Sides.{IsBorder}
+use Rattle.pm_forest.specs.Forest.{Hierarchy, record_count, node_count, s_of, t_of, u_of, Holds, Makes, splitter_of}
+use Rattle.pm_forest.specs.Rules.{HasShape}
+use Rattle.pm_forest.proofs.ShapeLaws.{shape_of_nodes}
+use Rattle.pm_beyond.specs.Walks.{leaf_net}
+use Rattle.pm_bounds.specs.Bounds.{error_of}
+use Rattle.pm_bounds.specs.Laws.{Grows as GrowsUp}
+use Rattle.pm_base.proofs.Search.{option_cases}
+use Rattle.pm_forest.proofs.Nodes.{splitter_of-splits}
+use Rattle.pm_bounds.proofs.GrownLaws.{grown_at_leaf}
+use Rattle.pm_bounds.proofs.Covering.{up_from_leaves, errors_grow, child_number}
+use Rattle.pm_deviation.specs.Borders.{is_at_border}
+use Rattle.pm_deviation.specs.Normals.{cosine_of}
+use Rattle.pm_deviation.specs.Deviations.{step_of, over_steps, from_steps, plane_deviation_of, deviation_of}
+use Rattle.pm_deviation.specs.Laws.{IsBelowError, Grows}
+use Rattle.pm_deviation.proofs.BorderLaws.{border-split, at_border-leaf}
+use Rattle.pm_deviation.proofs.CosineLaws.{cosine_falls}
+use Rattle.pm_deviation.proofs.PartLaws.{ceil_grows}
+use Rattle.pm_deviation.proofs.StepLaws.{planes_at_leaf, planes_at_split}
+
+le_by : (a b c : ℕ) → a ≤ b → b ≤ c → a ≤ c
+le_by a b c p q = omega arith
+
+min_le : (a b c d : ℕ) → a ≤ c → b ≤ d → min a b ≤ min c d
+min_le a b c d p q = omega arith
+
+min_first : (a b : ℕ) → min a b ≤ a
+min_first a b = omega arith
+
+module _ (h : Hierarchy) (shape : HasShape h) where
+  -- The plane deviation of a node that is split.
+  pub planes_at_border : (k : ℕ) → k < record_count h → is_at_border h (s_of h k) ≡ true → plane_deviation_of h (s_of h k) ≡ error_of h (s_of h k)
+  planes_at_border k l at = planes_at_split h (shape_of_nodes h shape) k l ∙ cond-true (is_at_border h (s_of h k)) (error_of h (s_of h k)) (over_steps h (plane_deviation_of h) k) at
+
+  pub planes_inside : (k : ℕ) → k < record_count h → is_at_border h (s_of h k) ≡ false → plane_deviation_of h (s_of h k) ≡ over_steps h (plane_deviation_of h) k
+  planes_inside k l at = planes_at_split h (shape_of_nodes h shape) k l ∙ cond-false (is_at_border h (s_of h k)) (error_of h (s_of h k)) (over_steps h (plane_deviation_of h) k) at
+
+  -- a step is no longer than the way
+  stepped : (d e s t a b way_t way_u : ℕ) → d ≡ max (a + min way_t s) (b + min way_u t) → a + way_t ≤ e → b + way_u ≤ e → d ≤ e
+  stepped d e s t a b way_t way_u is p q = omega arith
+
+  pub planes_below : (v : ℕ) → v < node_count h → plane_deviation_of h v ≤ error_of h v
+  planes_below v l =
+      up_from_leaves h shape (λ w. plane_deviation_of h w ≤ error_of h w)
+      (λ w m none. (let zero_planes = planes_at_leaf h (shape_of_nodes h shape) w none in omega arith))
+      (λ k m t u. elim (cases_Bool (is_at_border h (s_of h k))) [
+        | inl at ↦ (let is = planes_at_border k m at in omega arith)
+        | inr at ↦
+            let is = planes_inside k m at in
+            let up = errors_grow h shape in
+            let by_t = child_number h shape (λ w. 0) (error_of h) up k (t_of h k) m (inl refl) in
+            let by_u = child_number h shape (λ w. 0) (error_of h) up k (u_of h k) m (inr refl) in
+            stepped _ _ _ _ _ _ _ _ is (omega arith) (omega arith)
+      ])
+      v l
+
+  -- The deviation of a node.
+  abbrev pub is_error : ℕ → Bool
+  is_error v = is_at_border h v || eqb (cosine_of h v) 0
+
+  abbrev pub tilted : ℕ → ℕ
+  tilted v = min (error_of h v) (div_ceil (16384 * plane_deviation_of h v) (cosine_of h v))
+
+  pub error_there : (v : ℕ) → is_error v ≡ true → deviation_of h v ≡ error_of h v
+  unfolding deviation_of
+  error_there v e = cond-true (is_error v) (error_of h v) (tilted v) e
+
+  pub tilted_there : (v : ℕ) → is_error v ≡ false → deviation_of h v ≡ tilted v
+  unfolding deviation_of
+  tilted_there v e = cond-false (is_error v) (error_of h v) (tilted v) e
+
+  pub deviation_below : (v : ℕ) → deviation_of h v ≤ error_of h v
+  deviation_below v = elim (cases_Bool (is_error v)) [
+    | inl e ↦ (let is = error_there v e in omega arith)
+    | inr e ↦ (let is = tilted_there v e in omega (arith, min_first (error_of h v) (div_ceil (16384 * plane_deviation_of h v) (cosine_of h v))))
+  ]
+
+  pub below_errors : (v : ℕ) → v < node_count h → IsBelowError h v
+  below_errors v l = record { planes = planes_below v l; deviation = deviation_below v }
+
+  -- From a child to its parent.
+  module _ (k v : ℕ) (l : k < record_count h) (makes : Makes h k v) where
+    child_node : v < node_count h
+    child_node = elim makes [ inl is ↦ omega arith | inr is ↦ omega arith ]
+
+    error_up : error_of h v ≤ error_of h (s_of h k)
+    error_up = (let up = child_number h shape (λ w. 0) (error_of h) (errors_grow h shape) k v l makes in omega arith)
+
+    border_up : is_at_border h v ≡ true → is_at_border h (s_of h k) ≡ true
+    border_up at =
+        border-split h shape k l ∙ elim makes [
+          | inl is ↦ or_left (is_at_border h (t_of h k)) (is_at_border h (u_of h k)) (subst (λ w. is_at_border h w ≡ true) is at)
+          | inr is ↦ or_right (is_at_border h (t_of h k)) (is_at_border h (u_of h k)) (subst (λ w. is_at_border h w ≡ true) is at)
+        ]
+
+    by_step : (d s t a b : ℕ) → d ≡ max (a + s) (b + t) → (a ≤ d) × (b ≤ d)
+    by_step d s t a b is = (omega arith, omega arith)
+
+    pub planes_up : plane_deviation_of h v ≤ plane_deviation_of h (s_of h k)
+    planes_up = elim (cases_Bool (is_at_border h (s_of h k))) [
+      | inl at ↦
+          let is = planes_at_border k l at in
+          let below = planes_below v child_node in
+          let up = error_up in
+          omega arith
+      | inr at ↦
+          let both = by_step _ _ _ _ _ (planes_inside k l at) in
+          elim makes [
+            | inl is ↦ subst (λ w. plane_deviation_of h w ≤ plane_deviation_of h (s_of h k)) (sym is) both.0
+            | inr is ↦ subst (λ w. plane_deviation_of h w ≤ plane_deviation_of h (s_of h k)) (sym is) both.1
+          ]
+    ]
+
+    some_cosine : (c d : ℕ) → eqb d 0 ≡ false → d ≤ c → (0 < d) × (eqb c 0 ≡ false)
+    some_cosine c d e p =
+        let some : 0 < d = elim (cases_eq d 0) [ inl is ↦ absurd (both_ways (eqb d 0) e (eq-eqb d 0 is)) | inr differs ↦ omega (arith, differs) ] in
+        (some, ne_eqb c 0 (λ is. absurd (omega arith)))
+
+    tilted_up : is_error (s_of h k) ≡ false → deviation_of h v ≤ deviation_of h (s_of h k)
+    tilted_up e =
+        let parts = or_parts (is_at_border h (s_of h k)) (eqb (cosine_of h (s_of h k)) 0) e in
+        let falls = cosine_falls h shape k l v makes in
+        let some = some_cosine (cosine_of h v) (cosine_of h (s_of h k)) parts.1 falls in
+        let inside : is_at_border h v ≡ false = elim (cases_Bool (is_at_border h v)) [
+          | inl at ↦ absurd (both_ways (is_at_border h (s_of h k)) parts.0 (border_up at))
+          | inr at ↦ at
+        ] in
+        let own : is_error v ≡ false = ap (λ b. b || eqb (cosine_of h v) 0) inside ∙ some.1 in
+        let ceil = ceil_grows (16384 * plane_deviation_of h v) (16384 * plane_deviation_of h (s_of h k)) (cosine_of h v) (cosine_of h (s_of h k))
+            (let up = planes_up in omega arith) falls some.0 in
+        subst (λ d. d ≤ deviation_of h (s_of h k)) (sym (tilted_there v own))
+        (subst (λ d. tilted v ≤ d) (sym (tilted_there (s_of h k) e))
+          (min_le (error_of h v) (div_ceil (16384 * plane_deviation_of h v) (cosine_of h v)) (error_of h (s_of h k)) (div_ceil (16384 * plane_deviation_of h (s_of h k)) (cosine_of h (s_of h k))) error_up ceil))
+
+    pub deviation_up : deviation_of h v ≤ deviation_of h (s_of h k)
+    deviation_up = elim (cases_Bool (is_error (s_of h k))) [
+      | inl e ↦
+          let is = error_there (s_of h k) e in
+          let below = deviation_below v in
+          let up = error_up in
+          omega arith
+      | inr e ↦ tilted_up e
+    ]
+
+    pub grow : Grows h v (s_of h k)
+    grow = record { planes = planes_up; deviation = deviation_up; cosine = cosine_falls h shape k l v makes }
+
+  -- At the border both are the error.
+  own_error : (v : ℕ) → splitter_of h v ≡ None → error_of h v ≡ 0
+  unfolding error_of
+  own_error v none = grown_at_leaf h (shape_of_nodes h shape) (λ w. 0) v none
+
+  planes_error : (v : ℕ) → v < node_count h → is_at_border h v ≡ true → plane_deviation_of h v ≡ error_of h v
+  planes_error v l at = elim (option_cases (splitter_of h v)) [
+    | inl none ↦ planes_at_leaf h (shape_of_nodes h shape) v none ∙ sym (own_error v none)
+    | inr (k, e) ↦
+        let p = splitter_of-splits h k v e in
+        subst (λ w. plane_deviation_of h w ≡ error_of h w) p.0 (planes_at_border k p.1 (subst (λ w. is_at_border h w ≡ true) (sym p.0) at))
+  ]
+
+  pub border_errors : (v x : ℕ) → v < node_count h → IsBorder (leaf_net h) x → Holds h v x → (plane_deviation_of h v ≡ error_of h v) × (deviation_of h v ≡ error_of h v)
+  border_errors v x l border held =
+      let at = at_border-leaf h shape v x border held in
+      (planes_error v l at, error_there v (or_left (is_at_border h v) (eqb (cosine_of h v) 0) at))

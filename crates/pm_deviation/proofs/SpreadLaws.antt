@@ -1,0 +1,180 @@
+-- Spreads joined in any order, and any number of times, are one spread, and it has each of them in it.
+use Rattle.std.proofs.Common.{◌≡◌, ℕ, zero, suc, ◌<◌, ◌≤◌, Bool, true, false, ◌||◌, List, [], ◌∷◌, ◌++◌, length, get_or, map, Option, None, Some, IfSome, inl, inr, refl, sym, ap, ◌∙◌, arith}
+use Rattle.std.specs.Prelude.{ℤ, ◌≤ℤ◌, unsigned_abs}
+use Rattle.std.specs.Int.{int_min, int_max}
+use Rattle.std.specs.List.{filter}
+use Rattle.std.proofs.lemmas.Int.{clamps}
+use Rattle.std.proofs.lemmas.Bool.{cases_Bool}
+use borrow.Author.Differences.{ints}
+use Rattle.pm_bounds.proofs.ListLaws.{same_z, ≤ℤ_by}
+use Rattle.pm_deviation.specs.declared.spread.Spread.{Spread}
+use Rattle.pm_deviation.specs.Spreads.{joined, join, joined_all}
+
+-- one number
+
+min_comm : (x y : ℤ) → int_min x y ≡ int_min y x
+min_comm x y = omega (arith, ints, clamps)
+
+max_comm : (x y : ℤ) → int_max x y ≡ int_max y x
+max_comm x y = omega (arith, ints, clamps)
+
+min_assoc : (x y z : ℤ) → int_min (int_min x y) z ≡ int_min x (int_min y z)
+min_assoc x y z = omega (arith, ints, clamps)
+
+max_assoc : (x y z : ℤ) → int_max (int_max x y) z ≡ int_max x (int_max y z)
+max_assoc x y z = omega (arith, ints, clamps)
+
+min_same : (x : ℤ) → int_min x x ≡ x
+min_same x = omega (arith, ints, clamps)
+
+max_same : (x : ℤ) → int_max x x ≡ x
+max_same x = omega (arith, ints, clamps)
+
+min_below_left : (x y : ℤ) → int_min x y ≤ℤ x
+min_below_left x y = omega (arith, ints, clamps)
+
+min_below_right : (x y : ℤ) → int_min x y ≤ℤ y
+min_below_right x y = omega (arith, ints, clamps)
+
+max_above_left : (x y : ℤ) → x ≤ℤ int_max x y
+max_above_left x y = omega (arith, ints, clamps)
+
+max_above_right : (x y : ℤ) → y ≤ℤ int_max x y
+max_above_right x y = omega (arith, ints, clamps)
+
+min_small : (x y : ℤ) (m : ℕ) → unsigned_abs x ≤ m → unsigned_abs y ≤ m → unsigned_abs (int_min x y) ≤ m
+min_small x y m p q = omega (arith, ints, clamps)
+
+max_small : (x y : ℤ) (m : ℕ) → unsigned_abs x ≤ m → unsigned_abs y ≤ m → unsigned_abs (int_max x y) ≤ m
+max_small x y m p q = omega (arith, ints, clamps)
+
+-- No number of a spread is farther from 0 than m.
+abbrev pub IsSpreadWithin : ℕ → Spread → Type 0
+IsSpreadWithin m s = (unsigned_abs s.low ≤ m) × (unsigned_abs s.high ≤ m)
+
+-- Spread a has spread b in it.
+abbrev pub IsOver : Spread → Spread → Type 0
+IsOver a b = (a.low ≤ℤ b.low) × (b.high ≤ℤ a.high)
+
+pub over_same : (a : Spread) → IsOver a a
+over_same a = (same_z a.low, same_z a.high)
+
+pub over_by : (a b c : Spread) → IsOver a b → IsOver b c → IsOver a c
+over_by a b c p q = (≤ℤ_by a.low b.low c.low p.0 q.0, ≤ℤ_by c.high b.high a.high q.1 p.1)
+
+pub over_left : (a b : Spread) → IsOver (joined a b) a
+over_left a b = (min_below_left a.low b.low, max_above_left a.high b.high)
+
+pub over_right : (a b : Spread) → IsOver (joined a b) b
+over_right a b = (min_below_right a.low b.low, max_above_right a.high b.high)
+
+-- two spreads
+
+joined-comm : (a b : Spread) → joined a b ≡ joined b a
+joined-comm a b = rw (min_comm a.low b.low, max_comm a.high b.high) refl
+
+joined-assoc : (a b c : Spread) → joined (joined a b) c ≡ joined a (joined b c)
+joined-assoc a b c = rw (min_assoc a.low b.low c.low, max_assoc a.high b.high c.high) refl
+
+joined-same : (a : Spread) → joined a a ≡ a
+joined-same a = rw (min_same a.low, max_same a.high) refl
+
+-- the same where one may be missing
+
+pub join-comm : (a b : Option Spread) → join a b ≡ join b a
+join-comm None None = refl
+join-comm None (Some b) = refl
+join-comm (Some a) None = refl
+join-comm (Some a) (Some b) = ap Some (joined-comm a b)
+
+pub join-assoc : (a b c : Option Spread) → join (join a b) c ≡ join a (join b c)
+join-assoc None b c = refl
+join-assoc (Some a) None c = refl
+join-assoc (Some a) (Some b) None = refl
+join-assoc (Some a) (Some b) (Some c) = ap Some (joined-assoc a b c)
+
+join-same : (a : Option Spread) → join a a ≡ a
+join-same None = refl
+join-same (Some a) = ap Some (joined-same a)
+
+pub join-none : (a : Option Spread) → join a None ≡ a
+join-none None = refl
+join-none (Some a) = refl
+
+-- taking a spread in twice is taking it in once
+pub join-twice : (a b : Option Spread) → join (join a b) b ≡ join a b
+join-twice a b = join-assoc a b b ∙ ap (join a) (join-same b)
+
+-- There is a spread, and it has another in it.
+abbrev pub IsSomeOver : Option Spread → Spread → Type 0
+IsSomeOver o s = (a : Spread) × (o ≡ Some a) × IsOver a s
+
+pub some_left : (a : Spread) (b : Option Spread) → IsSomeOver (join (Some a) b) a
+some_left a None = (a, refl, over_same a)
+some_left a (Some b) = (joined a b, refl, over_left a b)
+
+pub some_right : (a : Option Spread) (s : Spread) (b : Option Spread) → IsSomeOver b s → IsSomeOver (join a b) s
+some_right None s b over = over
+some_right (Some a) s b (c, is, over) = (joined a c, ap (join (Some a)) is, over_by (joined a c) c s (over_right a c) over)
+
+-- lists
+
+pub joined_all-more : (ss : List (Option Spread)) (s : Option Spread) → joined_all (ss ++ s ∷ []) ≡ join (joined_all ss) s
+joined_all-more [] s = join-none s
+joined_all-more (t ∷ ss) s = ap (join t) (joined_all-more ss s) ∙ sym (join-assoc t (joined_all ss) s)
+
+both : (n a b : Option Spread) → join n (join a b) ≡ join (join n a) (join n b)
+both n a b =
+    let turn : join a (join n b) ≡ join n (join a b) = sym (join-assoc a n b) ∙ ap (λ t. join t b) (join-comm a n) ∙ join-assoc n a b in
+    sym (join-assoc n a (join n b) ∙ ap (join n) turn ∙ sym (join-assoc n n (join a b)) ∙ ap (λ t. join t (join a b)) (join-same n))
+
+right : (n a b : Option Spread) → join n (join a b) ≡ join a (join n b)
+right n a b = sym (join-assoc n a b) ∙ ap (λ t. join t b) (join-comm n a) ∙ join-assoc a n b
+
+module _ {X : Type 0} (f : X → Option Spread) (p q : X → Bool) where
+  -- what passes one of two tests, or both
+  pub joined_all-either : (xs : List X) →
+      joined_all (map f (filter (λ x. p x || q x) xs)) ≡ join (joined_all (map f (filter p xs))) (joined_all (map f (filter q xs)))
+  joined_all-either [] = refl
+  joined_all-either (x ∷ xs) =
+      let rest = joined_all-either xs in
+      let n = f x in
+      let a = joined_all (map f (filter p xs)) in
+      let b = joined_all (map f (filter q xs)) in
+      elim (cases_Bool (p x)) [
+        | inl e ↦ elim (cases_Bool (q x)) [
+          | inl g ↦ (rw (e, g) (ap (join n) rest ∙ both n a b))
+          | inr g ↦ (rw (e, g) (ap (join n) rest ∙ sym (join-assoc n a b)))
+        ]
+        | inr e ↦ elim (cases_Bool (q x)) [
+          | inl g ↦ (rw (e, g) (ap (join n) rest ∙ right n a b))
+          | inr g ↦ (rw (e, g) rest)
+        ]
+      ]
+
+module _ {X : Type 0} (f : X → Option Spread) (p : X → Bool) where
+  -- each spread of what passes is in that of all
+  pub spread_above : (xs : List X) (i : ℕ) (d : X) (s : Spread) → i < length xs → p (get_or xs i d) ≡ true → f (get_or xs i d) ≡ Some s →
+      IsSomeOver (joined_all (map f (filter p xs))) s
+  spread_above [] i d s l e is = absurd (omega arith)
+  spread_above (x ∷ xs) zero d s l e is = rw (e, is) (some_left s (joined_all (map f (filter p xs))))
+  spread_above (x ∷ xs) (suc i) d s l e is =
+      let rest = spread_above xs i d s (omega arith) e is in
+      elim (cases_Bool (p x)) [
+        | inl t ↦ (rw t (some_right (f x) s (joined_all (map f (filter p xs))) rest))
+        | inr t ↦ (rw t rest)
+      ]
+
+-- what holds of each, and of two joined where it holds of both, holds of all joined
+pub join-holds : (P : Spread → Type 0) → ((a b : Spread) → P a → P b → P (joined a b)) → (a b : Option Spread) → IfSome a P → IfSome b P → IfSome (join a b) P
+join-holds P both None b p q = q
+join-holds P both (Some a) None p q = p
+join-holds P both (Some a) (Some b) p q = both a b p q
+
+pub joined_all-holds : {X : Type 0} (P : Spread → Type 0) → ((a b : Spread) → P a → P b → P (joined a b)) → (f : X → Option Spread) → ((x : X) → IfSome (f x) P) →
+    (xs : List X) → IfSome (joined_all (map f xs)) P
+joined_all-holds P both f each [] = tt
+joined_all-holds P both f each (x ∷ xs) = join-holds P both (f x) (joined_all (map f xs)) (each x) (joined_all-holds P both f each xs)
+
+pub joined-small : (m : ℕ) (a b : Spread) → IsSpreadWithin m a → IsSpreadWithin m b → IsSpreadWithin m (joined a b)
+joined-small m a b p q = (min_small a.low b.low m p.0 q.0, max_small a.high b.high m p.1 q.1)

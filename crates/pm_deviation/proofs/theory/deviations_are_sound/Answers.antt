@@ -1,0 +1,14 @@
+use Rattle.pm_deviation.proofs.GrowingLaws.{below_errors, grow, border_errors}
+use Rattle.pm_deviation.proofs.NearLaws.{planes_near, triangle_near}
+use Rattle.pm_deviation.proofs.LineLaws.{lines_near}
+use Rattle.pm_deviation.proofs.theory.deviations_are_sound.Goals as goal
+
+pub returns : goal.returns
+returns c = record {
+  below = below_errors;
+  grow = grow;
+  planes = λ h shape v e l side held. planes_near h shape e side v l held;
+  triangles = λ h shape f u v w i j k show. triangle_near h shape f show.face u v w i j k show;
+  lines = lines_near;
+  borders = border_errors;
+}
