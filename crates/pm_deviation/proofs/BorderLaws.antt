@@ -1,17 +1,23 @@
 -- Nodes at the border: what passes up, and what the leaf mesh tells.
-use Rattle.std.proofs.Common.{◌≡◌, ℕ, ◌+◌, ◌*◌, ◌<◌, Bool, true, false, ◌||◌, ◌&&◌, List, [], ◌∷◌, length, get_or, Option, None, inl, inr, refl, sym, ap, ◌∙◌, subst, arith}
+use Rattle.std.proofs.Common.{◌≡◌, ℕ, ◌+◌, ◌*◌, ◌<◌, Bool, true, false, ◌||◌, ◌&&◌, List, [], ◌∷◌, length, get_or, Option, None, ◌↔◌, inl, inr, refl, sym, ap, ◌∙◌, subst, arith}
 use Rattle.std.specs.List.{list_any, range_with_len}
 use Rattle.std.specs.Option.{is_none}
-use Rattle.std.proofs.lemmas.Bool.{and_from, or_left, or_right}
-use Rattle.std.proofs.lemmas.List.Folds.{list_any_at}
+use Rattle.std.proofs.lemmas.Bool.{cases_Bool, and_from, and_parts, or_left, or_right, or_cases, false_from_ne_true, both_ways}
+use Rattle.std.proofs.lemmas.List.Folds.{list_any_at, Any-from_list_any}
 use Rattle.std.proofs.lemmas.List.FromFn.{get_or-range_with_len, length-range_with_len}
 use Rattle.pm_base.specs.Sides.{IsBorder}
-use Rattle.pm_base.proofs.TwinLaws.{none-twin}
-use Rattle.pm_forest.specs.Forest.{Hierarchy, record_count, s_of, t_of, u_of, holds, Holds}
+use Rattle.pm_base.proofs.TwinLaws.{none-twin, twin-none}
+use Rattle.pm_base.proofs.Search.{none_from}
+use Rattle.pm_forest.specs.Forest.{Hierarchy, Interval, record_count, leaf_count, s_of, t_of, u_of, interval_of, holds, Holds}
 use Rattle.pm_forest.specs.Faces.{face_count, from_leaf, to_leaf}
 use Rattle.pm_forest.specs.Rules.{HasShape}
+use Rattle.pm_forest.specs.Tables.{leaf_node_of}
+use Rattle.pm_forest.proofs.HierarchyLaws.{leaf_node-alone}
+use Rattle.pm_forest.proofs.Nodes.{within-true, within-from}
+use Rattle.pm_forest.proofs.ShapeLaws.{shape_is_forest}
 use Rattle.pm_beyond.specs.Walks.{leaf_net, leaf_twin}
 use Rattle.pm_deviation.proofs.Children.{children_hold}
+use Rattle.pm_beyond.proofs.Twins.{side-stands}
 use Rattle.pm_deviation.specs.Borders.{is_border_side_under, is_at_border}
 
 crossed : (a b c d : Bool) → ((a || b) || (c || d)) ≡ ((a || c) || (b || d))
@@ -64,4 +70,45 @@ module _ (h : Hierarchy) (shape : HasShape h) where
       elim ends [
         | inl from ↦ at_border-by v e side.stands.is_side none (or_left (holds h v (from_leaf h e)) (holds h v (to_leaf h e)) (subst (λ (y : ℕ). Holds h v y) (sym from) held))
         | inr to ↦ at_border-by v e side.stands.is_side none (or_right (holds h v (from_leaf h e)) (holds h v (to_leaf h e)) (subst (λ (y : ℕ). Holds h v y) (sym to) held))
+      ]
+
+  -- and back, for the node of the leaf alone
+  alone_is : (x y : ℕ) → x < leaf_count h → Holds h (leaf_node_of h x) y → y ≡ x
+  unfolding holds
+  alone_is x y below held =
+      let alone = leaf_node-alone h shape x below in
+      let i = within-true (interval_of h (leaf_node_of h x)) y held in
+      omega (arith, i, ap (λ (j : Interval). j.from) alone, ap (λ (j : Interval). j.until) alone)
+
+  own_held : (x : ℕ) → x < leaf_count h → Holds h (leaf_node_of h x) x
+  unfolding holds
+  own_held x below =
+      let alone = leaf_node-alone h shape x below in
+      within-from (interval_of h (leaf_node_of h x)) x (omega (arith, ap (λ (j : Interval). j.from) alone)) (omega (arith, ap (λ (j : Interval). j.until) alone))
+
+  by_side : (x e : ℕ) → x < leaf_count h → e < 3 * face_count h → is_border_side_under h (leaf_node_of h x) e ≡ true → IsBorder (leaf_net h) x
+  by_side x e below l is =
+      let v = leaf_node_of h x in
+      let parts = and_parts (is_none (leaf_twin h e)) (holds h v (from_leaf h e) || holds h v (to_leaf h e)) is in
+      (e, record { stands = side-stands h (shape_is_forest h shape) e l; alone = twin-none (leaf_net h) e (none_from (leaf_twin h e) parts.0) },
+        elim (or_cases (holds h v (from_leaf h e)) (holds h v (to_leaf h e)) parts.1) [
+          | inl from ↦ inl (alone_is x (from_leaf h e) below from)
+          | inr to ↦ inr (alone_is x (to_leaf h e) below to)
+        ])
+
+  border_found : (x : ℕ) → x < leaf_count h → is_at_border h (leaf_node_of h x) ≡ true → IsBorder (leaf_net h) x
+  unfolding is_at_border
+  border_found x below at =
+      let sides = range_with_len 0 (3 * face_count h) in
+      let (i, e, l, is_e, is) = Any-from_list_any (is_border_side_under h (leaf_node_of h x)) sides at in
+      let count = length-range_with_len 0 (3 * face_count h) in
+      let side : e ≡ i = sym is_e ∙ get_or-range_with_len 0 (3 * face_count h) i e (omega (arith, count)) ∙ first i in
+      by_side x e below (omega (arith, count, side)) is
+
+  -- so a flag that says whether a leaf is on the border says it of its node
+  pub border_flag : (x : ℕ) (b : Bool) → x < leaf_count h → (b ≡ true) ↔ IsBorder (leaf_net h) x → b ≡ is_at_border h (leaf_node_of h x)
+  border_flag x b below both =
+      elim (cases_Bool (is_at_border h (leaf_node_of h x))) [
+        | inl at ↦ both.1 (border_found x below at) ∙ sym at
+        | inr not_at ↦ false_from_ne_true b (λ e. both_ways (is_at_border h (leaf_node_of h x)) not_at (at_border-leaf (leaf_node_of h x) x (both.0 e) (own_held x below))) ∙ sym not_at
       ]

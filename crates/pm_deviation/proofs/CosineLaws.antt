@@ -3,7 +3,7 @@ use Rattle.std.proofs.Common.{◌≡◌, ℕ, zero, suc, ◌+◌, ◌*◌, ◌/�
 use Rattle.std.proofs.Math.Nat.{le_refl, div-mul-le_self, div-zero}
 use Rattle.std.specs.Prelude.{ℤ, pos, negsuc, neg_ℤ, ◌*ℤ◌, ◌≤ℤ◌, unsigned_abs}
 use Rattle.std.specs.Int.{int_min, int_max}
-use Rattle.std.specs.Option.{option_map, option_map_or}
+use Rattle.std.specs.Option.{option_map}
 use Rattle.std.proofs.lemmas.Int.{clamps, unsigned_abs-mul}
 use Rattle.std.proofs.lemmas.Nat.{mul-le, le-div, div_below}
 use Rattle.std.proofs.lemmas.Bool.{cases_Bool, cases_lt, cond-true, cond-false}
@@ -22,7 +22,7 @@ use Rattle.pm_deviation.specs.declared.axes.TheConstants.{AXES}
 use Rattle.pm_deviation.specs.declared.spread.Spread.{Spread}
 use Rattle.pm_deviation.specs.declared.unit_box.UnitBox.{UnitBox}
 use Rattle.pm_deviation.specs.Spreads.{joined, join, along}
-use Rattle.pm_deviation.specs.Normals.{direction_of, unit_box, part_along, spread_of, above_zero, length_of, least_cosine, cosine_along, cosine_of}
+use Rattle.pm_deviation.specs.Normals.{direction_of, unit_box, part_along, spread_of, above_zero, length_of, least_cosine, cosine_by, cosine_along, cosine_of}
 use Rattle.pm_deviation.proofs.Products.{IsScaledIn, scaled_along}
 use Rattle.pm_deviation.proofs.PartLaws.{times_neg, between, parts_of, parts_scaled, high_length, unit_box_cases}
 use Rattle.pm_deviation.proofs.SpreadLaws.{IsOver, over_same, over_left, over_right, joined_all-holds}
@@ -119,7 +119,7 @@ quotient_grows : (m n k : ℕ) → m ≤ n → m / k ≤ n / k
 quotient_grows m n zero h = rw (div-zero m, div-zero n) (le_refl zero)
 quotient_grows m n (suc k) h = le-div (m / suc k) n (suc k) (omega arith) (omega (arith, div-mul-le_self m (suc k)))
 
-quotient_most : (m k : ℕ) → m ≤ k → 16384 * m / k ≤ 16384
+pub quotient_most : (m k : ℕ) → m ≤ k → 16384 * m / k ≤ 16384
 quotient_most m zero h = rw (div-zero (16384 * m)) (omega arith)
 quotient_most m (suc k) h = (let l = div_below (16384 * m) (suc k) 16385 (omega arith) (omega arith) in omega arith)
 
@@ -128,9 +128,6 @@ least_falls u a b o = quotient_grows (16384 * one_side a) (16384 * one_side b) (
 
 least_most : (u : Axis) (s : Spread) → IsWithinAxis u s → least_cosine u s ≤ 16384
 least_most u s h = quotient_most (one_side s) (length_of u) h
-
-abbrev pub cosine_by : Axis → Option Spread → ℕ
-cosine_by u o = option_map_or (least_cosine u) o 16384
 
 falls_left : (u : Axis) (a b : Option Spread) → IfSome (join a b) (IsWithinAxis u) → cosine_by u (join a b) ≤ cosine_by u a
 falls_left u None None h = le_refl 16384

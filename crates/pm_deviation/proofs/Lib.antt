@@ -9,3 +9,10 @@ pub mod CosineLaws
 pub mod GrowingLaws
 pub mod NearLaws
 pub mod LineLaws
+pub mod RootLaws
+pub mod NodeTables
+pub mod FaceTables
+pub mod AxisLaws
+pub mod SameNet
+pub mod LeafMesh
+pub mod CosineTables

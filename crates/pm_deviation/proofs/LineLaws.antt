@@ -4,7 +4,6 @@ use Rattle.std.proofs.Math.Nat.{le_refl, le_of_mul-le-mul_left, div-mul-le_self,
 use Rattle.std.specs.Prelude.{ℤ, pos, neg_ℤ, ◌+ℤ◌, ◌*ℤ◌, unsigned_abs}
 use Rattle.std.specs.Int.{div_ceil}
 use Rattle.std.specs.List.{Contains}
-use Rattle.std.specs.Option.{option_map_or}
 use Rattle.std.proofs.lemmas.Int.{unsigned_abs-mul}
 use Rattle.std.proofs.lemmas.Nat.{mul-le}
 use Rattle.std.proofs.lemmas.Bool.{cases_Bool, cases_lt, cases_eq, or_parts, eq-eqb, both_ways}
@@ -23,10 +22,10 @@ use Rattle.pm_deviation.specs.declared.axes.TheConstants.{AXES}
 use Rattle.pm_deviation.specs.declared.spread.Spread.{Spread}
 use Rattle.pm_deviation.specs.Spreads.{along}
 use Rattle.pm_deviation.specs.Borders.{is_at_border}
-use Rattle.pm_deviation.specs.Normals.{direction_of, spread_of, above_zero, length_of, least_cosine, cosine_along, cosine_of}
+use Rattle.pm_deviation.specs.Normals.{direction_of, spread_of, above_zero, length_of, least_cosine, cosine_by, cosine_along, cosine_of}
 use Rattle.pm_deviation.specs.Deviations.{plane_deviation_of, deviation_of}
 use Rattle.pm_deviation.specs.Laws.{value_of, IsWithin, MeetsWithin}
-use Rattle.pm_deviation.proofs.CosineLaws.{one_side, side_falls, low_side, high_side, cosine_by}
+use Rattle.pm_deviation.proofs.CosineLaws.{one_side, side_falls, low_side, high_side}
 use Rattle.pm_deviation.proofs.GrowingLaws.{is_error, error_there, tilted_there}
 use Rattle.pm_deviation.proofs.NearLaws.{spread_covers, planes_near}
 use Rattle.pm_deviation.proofs.PartLaws.{parts_of, parts_scaled, high_length, ceil_enough}

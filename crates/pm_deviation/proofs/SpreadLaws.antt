@@ -9,6 +9,7 @@ use borrow.Author.Differences.{ints}
 use Rattle.pm_bounds.proofs.ListLaws.{same_z, ≤ℤ_by}
 use Rattle.pm_deviation.specs.declared.spread.Spread.{Spread}
 use Rattle.pm_deviation.specs.Spreads.{joined, join, joined_all}
+use Rattle.pm_deviation.specs.Tables.{IsSpreadWithin}
 
 -- one number
 
@@ -42,15 +43,11 @@ max_above_left x y = omega (arith, ints, clamps)
 max_above_right : (x y : ℤ) → y ≤ℤ int_max x y
 max_above_right x y = omega (arith, ints, clamps)
 
-min_small : (x y : ℤ) (m : ℕ) → unsigned_abs x ≤ m → unsigned_abs y ≤ m → unsigned_abs (int_min x y) ≤ m
+pub min_small : (x y : ℤ) (m : ℕ) → unsigned_abs x ≤ m → unsigned_abs y ≤ m → unsigned_abs (int_min x y) ≤ m
 min_small x y m p q = omega (arith, ints, clamps)
 
-max_small : (x y : ℤ) (m : ℕ) → unsigned_abs x ≤ m → unsigned_abs y ≤ m → unsigned_abs (int_max x y) ≤ m
+pub max_small : (x y : ℤ) (m : ℕ) → unsigned_abs x ≤ m → unsigned_abs y ≤ m → unsigned_abs (int_max x y) ≤ m
 max_small x y m p q = omega (arith, ints, clamps)
-
--- No number of a spread is farther from 0 than m.
-abbrev pub IsSpreadWithin : ℕ → Spread → Type 0
-IsSpreadWithin m s = (unsigned_abs s.low ≤ m) × (unsigned_abs s.high ≤ m)
 
 -- Spread a has spread b in it.
 abbrev pub IsOver : Spread → Spread → Type 0

@@ -2,4 +2,5 @@ pub mod Spreads
 pub mod Normals
 pub mod Borders
 pub mod Deviations
+pub mod Tables
 pub mod Laws

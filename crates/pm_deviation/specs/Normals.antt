@@ -73,8 +73,12 @@ length_of u = root_up (268435456 * norm2_of (direction_of u))
 abbrev pub least_cosine : Axis → Spread → ℕ
 least_cosine u s = 16384 * max (above_zero s.low) (above_zero (neg_ℤ s.high)) / length_of u
 
+-- The same where no normal is there: 16,384.
+abbrev pub cosine_by : Axis → Option Spread → ℕ
+cosine_by u spread = option_map_or (least_cosine u) spread 16384
+
 abbrev pub cosine_along : Hierarchy → ℕ → Axis → ℕ
-cosine_along h v u = option_map_or (least_cosine u) (spread_of h u v) 16384
+cosine_along h v u = cosine_by u (spread_of h u v)
 
 -- The least cosine of the normals under node v with the axis that they look along most alike.
 unfoldable pub cosine_of : Hierarchy → ℕ → ℕ

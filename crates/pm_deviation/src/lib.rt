@@ -2,8 +2,14 @@
 #![tactic(auto)]
 
 mod axes;
+mod axis_spreads;
+mod border;
+mod cosines;
 mod deviations;
+mod face_boxes;
 mod measures;
+mod nodes;
+mod roots;
 mod spread;
 mod theory;
 mod unit_box;

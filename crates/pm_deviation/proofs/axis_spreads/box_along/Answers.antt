@@ -1,0 +1,39 @@
+use Rattle.std.proofs.Common.{◌≡◌, ◌≤◌, ◌∙◌, refl, sym, subst, rules, FitsSigned, w32, w64}
+use Rattle.std.specs.Prelude.{ℤ, unsigned_abs}
+use Rattle.std.proofs.lemmas.Int.{to_z-of_z}
+use Rattle.pm_deviation.specs.Spreads.{along}
+use Rattle.pm_deviation.specs.Normals.{direction_of}
+use Rattle.pm_deviation.proofs.AxisLaws.{along_small}
+use Rattle.pm_deviation.proofs.axis_spreads.box_along.Goals as goal
+
+pub narrow-requires : goal.narrow-requires
+narrow-requires c =
+    let fx : FitsSigned w64 c.from.result = search rules in
+    let fy : FitsSigned w64 c.from-2.result = search rules in
+    let fz : FitsSigned w64 c.from-3.result = search rules in
+    let ax : FitsSigned w32 c.args.axis.x = search rules in
+    let ay : FitsSigned w32 c.args.axis.y = search rules in
+    let az : FitsSigned w32 c.args.axis.z = search rules in
+    let ex = simp to_z-of_z at c.from.ensures in
+    let ey = simp to_z-of_z at c.from-2.ensures in
+    let ez = simp to_z-of_z at c.from-3.ensures in
+    let fits : FitsSigned w64 c.along-low.result.0 = search rules in
+    let low = simp to_z-of_z at c.along-low.ensures.low in
+    let is : c.along-low.result.0 ≡ (along c.args.parts.now (direction_of c.args.axis)).low = low ∙ (rw (ex, ey, ez) refl) in
+    subst (λ (z : ℤ). unsigned_abs z ≤ 49152) (sym (to_z-of_z w64 c.along-low.result.0 fits ∙ is)) (along_small c.args.parts.now c.args.axis c.requires.small c.requires.axis).0
+
+pub narrow-requires-2 : goal.narrow-requires-2
+narrow-requires-2 c =
+    let fx : FitsSigned w64 c.from.result = search rules in
+    let fy : FitsSigned w64 c.from-2.result = search rules in
+    let fz : FitsSigned w64 c.from-3.result = search rules in
+    let ax : FitsSigned w32 c.args.axis.x = search rules in
+    let ay : FitsSigned w32 c.args.axis.y = search rules in
+    let az : FitsSigned w32 c.args.axis.z = search rules in
+    let ex = simp to_z-of_z at c.from.ensures in
+    let ey = simp to_z-of_z at c.from-2.ensures in
+    let ez = simp to_z-of_z at c.from-3.ensures in
+    let fits : FitsSigned w64 c.along-low.result.1 = search rules in
+    let high = simp to_z-of_z at c.along-low.ensures.high in
+    let is : c.along-low.result.1 ≡ (along c.args.parts.now (direction_of c.args.axis)).high = high ∙ (rw (ex, ey, ez) refl) in
+    subst (λ (z : ℤ). unsigned_abs z ≤ 49152) (sym (to_z-of_z w64 c.along-low.result.1 fits ∙ is)) (along_small c.args.parts.now c.args.axis c.requires.small c.requires.axis).1
