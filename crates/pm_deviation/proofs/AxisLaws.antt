@@ -1,7 +1,9 @@
 -- Axes: their numbers, their lengths, and how small parts along them are.
-use Rattle.std.proofs.Common.{◌≡◌, ℕ, zero, suc, ◌+◌, ◌*◌, ◌<◌, ◌≤◌, Bool, true, false, ◌-◌, ◌&&◌, List, [], ◌∷◌, length, get_or, inl, inr, refl, sym, ap, ◌∙◌, subst, arith}
-use Rattle.std.specs.Prelude.{ℤ, pos, ◌+ℤ◌, ◌*ℤ◌, nat_le, unsigned_abs}
+use Rattle.std.proofs.Common.{◌≡◌, ℕ, zero, suc, ◌+◌, ◌*◌, ◌/◌, ◌<◌, ◌≤◌, Bool, true, false, ◌-◌, ◌&&◌, List, [], ◌∷◌, length, get_or, inl, inr, refl, sym, ap, ◌∙◌, subst, arith}
+use Rattle.std.specs.Prelude.{ℤ, pos, negsuc, neg_ℤ, unwrap_or, Option, None, Some, IfSome, ◌+ℤ◌, ◌*ℤ◌, nat_le, unsigned_abs}
+use Rattle.std.specs.Int.{div_ceil}
 use Rattle.std.specs.List.{list_all}
+use Rattle.std.specs.Option.{option_map}
 use Rattle.std.proofs.lemmas.Bool.{and_parts, leb-true, cases_lt}
 use Rattle.std.proofs.lemmas.Nat.{mul-le}
 use borrow.Author.Differences.{ints}
@@ -9,14 +11,19 @@ use Rattle.pm_base.specs.Geometry.{Direction, norm2_of}
 use Rattle.pm_base.specs.Rounded.{root_up}
 use Rattle.pm_base.proofs.Range.{abs_product}
 use Rattle.pm_base.proofs.Root.{root_up_only}
+use Rattle.pm_forest.specs.declared.parts.Face.{Face}
+use Rattle.pm_forest.specs.Forest.{Hierarchy}
+use Rattle.pm_bounds.specs.Bounds.{normal_of, faces_under}
 use Rattle.pm_deviation.specs.declared.axes.Axis.{Axis}
 use Rattle.pm_deviation.specs.declared.axes.TheConstants.{AXES}
 use Rattle.pm_deviation.specs.declared.spread.Spread.{Spread}
 use Rattle.pm_deviation.specs.declared.unit_box.UnitBox.{UnitBox}
-use Rattle.pm_deviation.specs.Spreads.{times, along}
-use Rattle.pm_deviation.specs.Normals.{direction_of, length_of}
+use Rattle.pm_deviation.specs.Spreads.{times, along, mirrored, no_spread}
+use Rattle.pm_deviation.specs.Normals.{root_down, share, part_of, direction_of, part_along, spread_of, x_axis, y_axis, z_axis, unit_box_of, length_of}
 use Rattle.pm_deviation.specs.Tables.{IsSpreadWithin, IsPart, IsSum, IsUnitBox, is_axis}
-use Rattle.pm_deviation.proofs.SpreadLaws.{min_small, max_small}
+use Rattle.pm_deviation.proofs.SpreadLaws.{min_small, max_small, joined-small, joined_all-holds}
+use Rattle.pm_deviation.proofs.CosineLaws.{quotient_most}
+use Rattle.pm_deviation.proofs.PartLaws.{ceil_least, root_down_is, root_down-some, roots_order, parts_of, unit_box_cases}
 
 -- The numbers of an axis.
 pub record IsAxis (u : Axis) : Type 0 where
@@ -84,3 +91,68 @@ along_small b u small axis =
     let y = times_small b.y u.y 16384 small.1 is.y in
     let z = times_small b.z u.z 16384 small.2 is.z in
     (sum_small (times b.x u.x).low (times b.y u.y).low (times b.z u.z).low x.0 y.0 z.0, sum_small (times b.x u.x).high (times b.y u.y).high (times b.z u.z).high x.1 y.1 z.1)
+
+-- Parts of any normal are no longer than it.
+share_small : (n s t : ℕ) → 0 < s → n ≤ s → s ≤ t → (16384 * n / t ≤ 16384) × (div_ceil (16384 * n) s ≤ 16384)
+share_small n s t some part order = (quotient_most n t (omega arith), ceil_least (16384 * n) s 16384 some (omega arith))
+
+neg_small : (z : ℤ) (m : ℕ) → unsigned_abs z ≤ m → unsigned_abs (neg_ℤ z) ≤ m
+neg_small z m h = omega (arith, ints)
+
+mirrored_small : (s : Spread) (m : ℕ) → IsSpreadWithin m s → IsSpreadWithin m (mirrored s)
+mirrored_small s m small = (neg_small s.high m small.1, neg_small s.low m small.0)
+
+pos_small : (n m : ℕ) → n ≤ m → unsigned_abs (pos n) ≤ m
+pos_small n m h = omega arith
+
+part_small : (k : ℤ) (n : ℕ) → 0 < n → unsigned_abs k ≤ root_down n → IsPart (part_of k n)
+unfolding part_of
+part_small (pos k) n some below =
+    let both = share_small k (root_down n) (root_up n) (root_down-some n some) below (roots_order n) in
+    (pos_small (16384 * k / root_up n) 16384 both.0, pos_small (div_ceil (16384 * k) (root_down n)) 16384 both.1)
+part_small (negsuc k) n some below =
+    let both = share_small (k + 1) (root_down n) (root_up n) (root_down-some n some) (omega (arith, below)) (roots_order n) in
+    mirrored_small (share (k + 1) (root_down n) (root_up n)) 16384
+    (pos_small (16384 * (k + 1) / root_up n) 16384 both.0, pos_small (div_ceil (16384 * (k + 1)) (root_down n)) 16384 both.1)
+
+first_square : (a b c : ℕ) → a * a ≤ a * a + b * b + c * c
+first_square a b c = omega arith
+
+second_square : (a b c : ℕ) → b * b ≤ a * a + b * b + c * c
+second_square a b c = omega arith
+
+third_square : (a b c : ℕ) → c * c ≤ a * a + b * b + c * c
+third_square a b c = omega arith
+
+parts_small : (n : Direction) → 0 < norm2_of n → IsUnitBox (parts_of n)
+parts_small n some =
+    let most = (root_down_is (norm2_of n)).most in
+    (part_small n.x (norm2_of n) some (most (unsigned_abs n.x) (first_square (unsigned_abs n.x) (unsigned_abs n.y) (unsigned_abs n.z))),
+      part_small n.y (norm2_of n) some (most (unsigned_abs n.y) (second_square (unsigned_abs n.x) (unsigned_abs n.y) (unsigned_abs n.z))),
+      part_small n.z (norm2_of n) some (most (unsigned_abs n.z) (third_square (unsigned_abs n.x) (unsigned_abs n.y) (unsigned_abs n.z))))
+
+part_along_small : (h : Hierarchy) (u : Axis) (f : Face) → is_axis u ≡ true → IfSome (part_along h u f) IsSum
+part_along_small h u f axis =
+    let n = normal_of h f in
+    let small = λ (o : Option UnitBox). IfSome (option_map (λ b. along b (direction_of u)) o) IsSum in
+    elim (unit_box_cases n) [
+      | inl none ↦ subst small (sym none) tt
+      | inr (is, some) ↦ subst small (sym is) (along_small (parts_of n) u (parts_small n some) axis)
+    ]
+
+pub spread_small : (h : Hierarchy) (u : Axis) (v : ℕ) → is_axis u ≡ true → IfSome (spread_of h u v) IsSum
+unfolding spread_of
+spread_small h u v axis = joined_all-holds IsSum (joined-small 49152) (part_along h u) (λ f. part_along_small h u f axis) (faces_under h v)
+
+none_small : IsSum no_spread
+none_small = (omega arith, omega arith)
+
+under_small : (u : Axis) (o : Option Spread) → IfSome o IsSum → IsSum (unwrap_or o no_spread)
+under_small u None small = none_small
+under_small u (Some s) small = small
+
+pub box_small : (h : Hierarchy) (v : ℕ) → IsSum (unit_box_of h v).x × IsSum (unit_box_of h v).y × IsSum (unit_box_of h v).z
+box_small h v =
+    (under_small x_axis (spread_of h x_axis v) (spread_small h x_axis v refl),
+      under_small y_axis (spread_of h y_axis v) (spread_small h y_axis v refl),
+      under_small z_axis (spread_of h z_axis v) (spread_small h z_axis v refl))

@@ -80,6 +80,12 @@ module _ (h : Hierarchy) (shape : HasShape h) where
     | inr e ↦ (let is = tilted_there v e in omega (arith, min_first (error_of h v) (div_ceil (16384 * plane_deviation_of h v) (cosine_of h v))))
   ]
 
+  -- The same from numbers that are the node's.
+  pub deviation_by : (v error planes cosine result : ℕ) (flag : Bool) → result ≡ cond (flag || eqb cosine 0) error (min error (div_ceil (16384 * planes) cosine)) →
+      error ≡ error_of h v → planes ≡ plane_deviation_of h v → cosine ≡ cosine_of h v → flag ≡ is_at_border h v → result ≡ deviation_of h v
+  unfolding deviation_of
+  deviation_by v error planes cosine result flag is error_is planes_are cosine_is flag_is = is ∙ (rw (error_is, planes_are, cosine_is, flag_is) refl)
+
   pub below_errors : (v : ℕ) → v < node_count h → IsBelowError h v
   below_errors v l = record { planes = planes_below v l; deviation = deviation_below v }
 

@@ -8,7 +8,7 @@ use Rattle.pm_deviation.specs.declared.axes.Axis.{Axis}
 use Rattle.pm_deviation.specs.declared.spread.Spread.{Spread}
 use Rattle.pm_deviation.specs.declared.unit_box.UnitBox.{UnitBox}
 use Rattle.pm_deviation.specs.Borders.{is_at_border}
-use Rattle.pm_deviation.specs.Normals.{direction_of, unit_box, spread_of, cosine_of}
+use Rattle.pm_deviation.specs.Normals.{direction_of, unit_box, spread_of, cosine_of, x_axis, y_axis, z_axis}
 use Rattle.pm_deviation.specs.Deviations.{plane_deviation_of}
 
 -- A table has the value of each node, and d stands for what it doesn't have.
@@ -28,6 +28,12 @@ AreSpreads h u table = AreOfNodes h None (spread_of h u) table
 
 abbrev pub AreOwnSpreads : Hierarchy → Axis → List (Option Spread) → Type 0
 AreOwnSpreads h u table = (v : ℕ) → v < node_count h → splitter_of h v ≡ None → slice_index_or table v None ≡ spread_of h u v
+
+-- The spreads along the three axes of space.
+pub record AreSpaceSpreads (h : Hierarchy) (x y z : List (Option Spread)) : Type 0 where
+  pub along_x : AreSpreads h x_axis x
+  pub along_y : AreSpreads h y_axis y
+  pub along_z : AreSpreads h z_axis z
 
 abbrev pub AreCosines : Hierarchy → List ℕ → Type 0
 AreCosines h table = AreOfNodes h 0 (cosine_of h) table

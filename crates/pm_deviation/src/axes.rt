@@ -1,4 +1,6 @@
 //! The axes along which the normals under a node are looked at.
+ghost use Rattle.std.specs.Prelude.{◌≡◌, ◌<◌, true, length, slice_index_or};
+ghost use Rattle.pm_deviation.specs.Tables.{is_axis};
 
 /// An axis, whose numbers are -1, 0 and 1, not all 0.
 #[derive(Clone, Copy, Debug, PartialEq, Eq)]
@@ -25,3 +27,12 @@ pub const AXES: [Axis; 13] = [
     Axis { x: 1, y: -1, z: 1 },
     Axis { x: 1, y: -1, z: -1 },
 ];
+
+/// Axis `i` of `AXES`.
+pub(crate) fn axis_at(i: usize) -> Axis
+    requires { i < length AXES }
+    ensures value { result ≡ slice_index_or AXES i result }
+    ensures axis { is_axis result ≡ true }
+{
+    AXES[i]
+}

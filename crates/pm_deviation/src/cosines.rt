@@ -6,7 +6,7 @@ ghost use Rattle.pm_deviation.specs.Normals.{above_zero, length_of, least_cosine
 ghost use Rattle.pm_deviation.specs.Tables.{IsSum, is_axis, AreFaceBoxes, AreSpreads, AreCosines};
 
 use crate::OutOfMemory;
-use crate::axes::{AXES, Axis};
+use crate::axes::{AXES, Axis, axis_at};
 use crate::axis_spreads::axis_spreads;
 use crate::spread::Spread;
 use crate::unit_box::UnitBox;
@@ -85,8 +85,8 @@ pub(crate) fn cosines(alloc: Global, h: &Hierarchy, boxes: &[Option<UnitBox>]) -
     ensures { IfOk result (λ table. AreCosines h.now table.items) }
 {
     let mut cosines = zeros(alloc, h.nodes() as usize)?;
-    for i in 0..13 {
-        let axis = AXES[i];
+    for i in 0..AXES.len() {
+        let axis = axis_at(i);
         let spreads = axis_spreads(alloc, h, boxes, axis)?;
         raise(h, &mut cosines, &spreads, axis);
     }

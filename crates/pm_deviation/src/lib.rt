@@ -9,8 +9,11 @@ mod deviations;
 mod face_boxes;
 mod measures;
 mod nodes;
+mod planes;
 mod roots;
+mod space_spreads;
 mod spread;
+mod steps;
 mod theory;
 mod unit_box;
 
