@@ -1,5 +1,5 @@
 -- Axes: their numbers, their lengths, and how small parts along them are.
-use Rattle.std.proofs.Common.{◌≡◌, ℕ, zero, suc, ◌+◌, ◌*◌, ◌/◌, ◌<◌, ◌≤◌, Bool, true, false, ◌-◌, ◌&&◌, List, [], ◌∷◌, length, get_or, inl, inr, refl, sym, ap, ◌∙◌, subst, arith}
+use Rattle.std.proofs.Common.{◌≡◌, ℕ, zero, suc, ◌+◌, ◌*◌, ◌/◌, ◌<◌, ◌≤◌, Bool, true, ◌-◌, ◌&&◌, List, [], ◌∷◌, length, get_or, inl, inr, refl, sym, ap, ◌∙◌, subst, arith}
 use Rattle.std.specs.Prelude.{ℤ, pos, negsuc, neg_ℤ, unwrap_or, Option, None, Some, IfSome, ◌+ℤ◌, ◌*ℤ◌, nat_le, unsigned_abs}
 use Rattle.std.specs.Int.{div_ceil}
 use Rattle.std.specs.List.{list_all}
@@ -126,10 +126,11 @@ third_square a b c = omega arith
 
 parts_small : (n : Direction) → 0 < norm2_of n → IsUnitBox (parts_of n)
 parts_small n some =
-    let most = (root_down_is (norm2_of n)).most in
-    (part_small n.x (norm2_of n) some (most (unsigned_abs n.x) (first_square (unsigned_abs n.x) (unsigned_abs n.y) (unsigned_abs n.z))),
+    let most = (root_down_is (norm2_of n)).most in (
+      part_small n.x (norm2_of n) some (most (unsigned_abs n.x) (first_square (unsigned_abs n.x) (unsigned_abs n.y) (unsigned_abs n.z))),
       part_small n.y (norm2_of n) some (most (unsigned_abs n.y) (second_square (unsigned_abs n.x) (unsigned_abs n.y) (unsigned_abs n.z))),
-      part_small n.z (norm2_of n) some (most (unsigned_abs n.z) (third_square (unsigned_abs n.x) (unsigned_abs n.y) (unsigned_abs n.z))))
+      part_small n.z (norm2_of n) some (most (unsigned_abs n.z) (third_square (unsigned_abs n.x) (unsigned_abs n.y) (unsigned_abs n.z))),
+    )
 
 part_along_small : (h : Hierarchy) (u : Axis) (f : Face) → is_axis u ≡ true → IfSome (part_along h u f) IsSum
 part_along_small h u f axis =
@@ -152,7 +153,8 @@ under_small u None small = none_small
 under_small u (Some s) small = small
 
 pub box_small : (h : Hierarchy) (v : ℕ) → IsSum (unit_box_of h v).x × IsSum (unit_box_of h v).y × IsSum (unit_box_of h v).z
-box_small h v =
-    (under_small x_axis (spread_of h x_axis v) (spread_small h x_axis v refl),
-      under_small y_axis (spread_of h y_axis v) (spread_small h y_axis v refl),
-      under_small z_axis (spread_of h z_axis v) (spread_small h z_axis v refl))
+box_small h v = (
+  under_small x_axis (spread_of h x_axis v) (spread_small h x_axis v refl),
+  under_small y_axis (spread_of h y_axis v) (spread_small h y_axis v refl),
+  under_small z_axis (spread_of h z_axis v) (spread_small h z_axis v refl),
+)

@@ -1,5 +1,5 @@
 -- Nodes at the border: what passes up, and what the leaf mesh tells.
-use Rattle.std.proofs.Common.{◌≡◌, ℕ, ◌+◌, ◌*◌, ◌<◌, Bool, true, false, ◌||◌, ◌&&◌, List, [], ◌∷◌, length, get_or, Option, None, ◌↔◌, inl, inr, refl, sym, ap, ◌∙◌, subst, arith}
+use Rattle.std.proofs.Common.{◌≡◌, ℕ, ◌+◌, ◌*◌, ◌<◌, Bool, true, false, ◌||◌, ◌&&◌, List, [], ◌∷◌, length, get_or, None, ◌↔◌, inl, inr, refl, sym, ap, ◌∙◌, subst, arith}
 use Rattle.std.specs.List.{list_any, range_with_len}
 use Rattle.std.specs.Option.{is_none}
 use Rattle.std.proofs.lemmas.Bool.{cases_Bool, and_from, and_parts, or_left, or_right, or_cases, false_from_ne_true, both_ways}
@@ -89,12 +89,14 @@ module _ (h : Hierarchy) (shape : HasShape h) where
   by_side : (x e : ℕ) → x < leaf_count h → e < 3 * face_count h → is_border_side_under h (leaf_node_of h x) e ≡ true → IsBorder (leaf_net h) x
   by_side x e below l is =
       let v = leaf_node_of h x in
-      let parts = and_parts (is_none (leaf_twin h e)) (holds h v (from_leaf h e) || holds h v (to_leaf h e)) is in
-      (e, record { stands = side-stands h (shape_is_forest h shape) e l; alone = twin-none (leaf_net h) e (none_from (leaf_twin h e) parts.0) },
+      let parts = and_parts (is_none (leaf_twin h e)) (holds h v (from_leaf h e) || holds h v (to_leaf h e)) is in (
+        e,
+        record { stands = side-stands h (shape_is_forest h shape) e l; alone = twin-none (leaf_net h) e (none_from (leaf_twin h e) parts.0) },
         elim (or_cases (holds h v (from_leaf h e)) (holds h v (to_leaf h e)) parts.1) [
           | inl from ↦ inl (alone_is x (from_leaf h e) below from)
           | inr to ↦ inr (alone_is x (to_leaf h e) below to)
-        ])
+        ],
+      )
 
   border_found : (x : ℕ) → x < leaf_count h → is_at_border h (leaf_node_of h x) ≡ true → IsBorder (leaf_net h) x
   unfolding is_at_border

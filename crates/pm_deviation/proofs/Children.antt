@@ -1,5 +1,5 @@
 -- What is under a node that is split is under its children.
-use Rattle.std.proofs.Common.{◌≡◌, ℕ, ◌<◌, Bool, true, false, ◌||◌, ◌⊎◌, inl, inr, refl, ap, ◌∙◌}
+use Rattle.std.proofs.Common.{◌≡◌, ℕ, ◌<◌, false, ◌||◌, ◌⊎◌, inl, inr, refl, ap, ◌∙◌}
 use Rattle.std.proofs.lemmas.Bool.{cases_Bool, false_from_ne_true, both_ways}
 use Rattle.std.specs.Prelude.{map}
 use Rattle.pm_forest.specs.Forest.{Hierarchy, record_count, s_of, t_of, u_of, holds, Holds}

@@ -1,12 +1,10 @@
 -- The cosines of nodes: at most 16,384, and falling from a child to its parent.
-use Rattle.std.proofs.Common.{◌≡◌, ℕ, zero, suc, ◌+◌, ◌*◌, ◌/◌, ◌<◌, ◌≤◌, max, true, false, List, [], ◌∷◌, map, Option, None, Some, IfSome, inl, inr, refl, sym, ap, ◌∙◌, subst, arith}
+use Rattle.std.proofs.Common.{◌≡◌, ℕ, zero, suc, ◌+◌, ◌*◌, ◌/◌, ◌<◌, ◌≤◌, max, List, [], ◌∷◌, map, Option, None, Some, IfSome, inl, inr, sym, subst, arith}
 use Rattle.std.proofs.Math.Nat.{le_refl, div-mul-le_self, div-zero}
 use Rattle.std.specs.Prelude.{ℤ, pos, negsuc, neg_ℤ, ◌*ℤ◌, ◌≤ℤ◌, unsigned_abs}
-use Rattle.std.specs.Int.{int_min, int_max}
 use Rattle.std.specs.Option.{option_map}
-use Rattle.std.proofs.lemmas.Int.{clamps, unsigned_abs-mul}
 use Rattle.std.proofs.lemmas.Nat.{mul-le, le-div, div_below}
-use Rattle.std.proofs.lemmas.Bool.{cases_Bool, cases_lt, cond-true, cond-false}
+use Rattle.std.proofs.lemmas.Bool.{cases_lt}
 use borrow.Author.Differences.{ints}
 use Rattle.pm_base.specs.Geometry.{Direction, dot_of, norm2_of}
 use Rattle.pm_base.specs.Rounded.{root_up}
@@ -22,10 +20,10 @@ use Rattle.pm_deviation.specs.declared.axes.TheConstants.{AXES}
 use Rattle.pm_deviation.specs.declared.spread.Spread.{Spread}
 use Rattle.pm_deviation.specs.declared.unit_box.UnitBox.{UnitBox}
 use Rattle.pm_deviation.specs.Spreads.{joined, join, along}
-use Rattle.pm_deviation.specs.Normals.{direction_of, unit_box, part_along, spread_of, above_zero, length_of, least_cosine, cosine_by, cosine_along, cosine_of}
-use Rattle.pm_deviation.proofs.Products.{IsScaledIn, scaled_along}
+use Rattle.pm_deviation.specs.Normals.{direction_of, part_along, spread_of, above_zero, length_of, least_cosine, cosine_by, cosine_along, cosine_of}
+use Rattle.pm_deviation.proofs.Products.{scaled_along}
 use Rattle.pm_deviation.proofs.PartLaws.{times_neg, between, parts_of, parts_scaled, high_length, unit_box_cases}
-use Rattle.pm_deviation.proofs.SpreadLaws.{IsOver, over_same, over_left, over_right, joined_all-holds}
+use Rattle.pm_deviation.proofs.SpreadLaws.{IsOver, over_left, over_right, joined_all-holds}
 use Rattle.pm_deviation.proofs.Children.{spread-split}
 
 -- How much of a spread lies on one side of 0

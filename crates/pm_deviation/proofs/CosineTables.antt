@@ -1,13 +1,12 @@
 -- The table of cosines while axes are gone through.
-use Rattle.std.proofs.Common.{◌≡◌, ℕ, ◌+◌, ◌<◌, ◌≤◌, max, List, [], ◌∷◌, ◌++◌, length, map, take, get_or, set, length-set, Option, IfSome, inl, inr, refl, sym, ap, ◌∙◌, subst, arith}
-use Rattle.std.proofs.Math.Seq.{take-length}
+use Rattle.std.proofs.Common.{◌≡◌, ℕ, ◌+◌, ◌<◌, ◌≤◌, max, List, [], ◌∷◌, ◌++◌, length, map, take, get_or, set, length-set, inl, inr, refl, sym, ap, ◌∙◌, subst, arith}
 use Rattle.std.proofs.lemmas.Bool.{cases_eq}
 use Rattle.std.proofs.lemmas.List.{map-append, take_more, get_or-set_same, get_or-set_other}
 use Rattle.pm_forest.specs.Forest.{Hierarchy, node_count}
 use Rattle.pm_bounds.specs.Bounds.{greatest}
 use Rattle.pm_deviation.specs.declared.axes.Axis.{Axis}
 use Rattle.pm_deviation.specs.declared.axes.TheConstants.{AXES}
-use Rattle.pm_deviation.specs.Normals.{cosine_along, cosine_of, x_axis}
+use Rattle.pm_deviation.specs.Normals.{cosine_along, cosine_of}
 use Rattle.pm_deviation.specs.Tables.{AreCosines}
 
 -- The cosine of a node by the first n axes.

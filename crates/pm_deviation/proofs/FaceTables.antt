@@ -1,5 +1,5 @@
 -- The table of faces, and of leaves while faces are gone through.
-use Rattle.std.proofs.Common.{◌≡◌, ℕ, ◌+◌, ◌<◌, eqb, Bool, cond, ◌||◌, List, [], ◌∷◌, ◌++◌, length, map, take, get_or, set, Option, None, IfSome, inl, inr, refl, sym, ap, subst, ◌∙◌, arith}
+use Rattle.std.proofs.Common.{◌≡◌, ℕ, ◌+◌, ◌<◌, eqb, Bool, cond, List, [], ◌∷◌, ◌++◌, length, map, take, get_or, set, Option, None, IfSome, inl, inr, refl, sym, ap, subst, ◌∙◌, arith}
 use Rattle.std.specs.List.{filter}
 use Rattle.std.proofs.Math.Seq.{take-length}
 use Rattle.std.proofs.lemmas.Bool.{cases_Bool, cases_eq, cond-true, cond-false, eq-eqb, ne_eqb}
@@ -30,8 +30,8 @@ pub boxes_more : (h : Hierarchy) (n : ℕ) (old new : List (Option UnitBox)) (x 
 boxes_more h n old new x was is value small =
     let P = λ (f : ℕ) (b : Option UnitBox). (b ≡ unit_box (normal_of h (corners_of h f))) × IfSome b IsUnitBox in
     let all : (f : ℕ) → f < n + 1 → P f (get_or new f None) =
-        subst (λ (l : List (Option UnitBox)). (f : ℕ) → f < n + 1 → P f (get_or l f None)) (sym is)
-        (pushed None P n old x was.faces (λ f l. (was.each f l, was.small f l)) (value, small)) in
+    subst (λ (l : List (Option UnitBox)). (f : ℕ) → f < n + 1 → P f (get_or l f None)) (sym is)
+    (pushed None P n old x was.faces (λ f l. (was.each f l, was.small f l)) (value, small)) in
     record {
       faces = ap length is ∙ length-append old (x ∷ []) ∙ ap (λ (k : ℕ). k + 1) was.faces;
       each = λ f l. (all f l).0;
@@ -114,7 +114,7 @@ module _ (h : Hierarchy) (shape : HasShape h) where
       let nb = leaf_node-lt h shape f.b b in
       let nc = leaf_node-lt h shape f.c c in
       let all = three None (λ w x. join x part) (λ w x. join-twice x part) t t1 t2 t3 (leaf_node_of h f.a) (leaf_node_of h f.b) (leaf_node_of h f.c)
-          (omega arith) (omega arith) (omega arith) e1 e2 e3 v in
+      (omega arith) (omega arith) (omega arith) e1 e2 e3 v in
       all ∙ (rw (same_leaf l f.a m a, same_leaf l f.b m b, same_leaf l f.c m c) refl)
 
   module _ (u : Axis) where

@@ -1,7 +1,6 @@
 -- Deviations are at most errors, and grow from a child to its parent.
-use Rattle.std.proofs.Common.{◌≡◌, ℕ, ◌+◌, ◌*◌, ◌<◌, ◌≤◌, max, min, eqb, Bool, true, false, cond, ◌||◌, None, Some, inl, inr, refl, sym, ap, ◌∙◌, subst, arith}
-use Rattle.std.proofs.Math.Nat.{le_refl}
-use Rattle.std.proofs.lemmas.Bool.{cases_Bool, cases_eq, cond-true, cond-false, or_left, or_right, or_cases, or_parts, eq-eqb, eqb-true, ne_eqb, both_ways}
+use Rattle.std.proofs.Common.{◌≡◌, ℕ, ◌+◌, ◌*◌, ◌<◌, ◌≤◌, max, min, eqb, Bool, true, false, cond, ◌||◌, None, inl, inr, refl, sym, ap, ◌∙◌, subst, arith}
+use Rattle.std.proofs.lemmas.Bool.{cases_Bool, cases_eq, cond-true, cond-false, or_left, or_right, or_parts, eq-eqb, ne_eqb, both_ways}
 use Rattle.std.specs.Int.{div_ceil}
 use Rattle.pm_base.specs.Sides.{IsBorder}
 use Rattle.pm_forest.specs.Forest.{Hierarchy, record_count, node_count, s_of, t_of, u_of, Holds, Makes, splitter_of}
@@ -9,14 +8,13 @@ use Rattle.pm_forest.specs.Rules.{HasShape}
 use Rattle.pm_forest.proofs.ShapeLaws.{shape_of_nodes}
 use Rattle.pm_beyond.specs.Walks.{leaf_net}
 use Rattle.pm_bounds.specs.Bounds.{error_of}
-use Rattle.pm_bounds.specs.Laws.{Grows as GrowsUp}
 use Rattle.pm_base.proofs.Search.{option_cases}
 use Rattle.pm_forest.proofs.Nodes.{splitter_of-splits}
 use Rattle.pm_bounds.proofs.GrownLaws.{grown_at_leaf}
 use Rattle.pm_bounds.proofs.Covering.{up_from_leaves, errors_grow, child_number}
 use Rattle.pm_deviation.specs.Borders.{is_at_border}
 use Rattle.pm_deviation.specs.Normals.{cosine_of}
-use Rattle.pm_deviation.specs.Deviations.{step_of, over_steps, from_steps, plane_deviation_of, deviation_of}
+use Rattle.pm_deviation.specs.Deviations.{over_steps, plane_deviation_of, deviation_of}
 use Rattle.pm_deviation.specs.Laws.{IsBelowError, Grows}
 use Rattle.pm_deviation.proofs.BorderLaws.{border-split, at_border-leaf}
 use Rattle.pm_deviation.proofs.CosineLaws.{cosine_falls}
@@ -138,10 +136,10 @@ module _ (h : Hierarchy) (shape : HasShape h) where
         ] in
         let own : is_error v ≡ false = ap (λ b. b || eqb (cosine_of h v) 0) inside ∙ some.1 in
         let ceil = ceil_grows (16384 * plane_deviation_of h v) (16384 * plane_deviation_of h (s_of h k)) (cosine_of h v) (cosine_of h (s_of h k))
-            (let up = planes_up in omega arith) falls some.0 in
+        (let up = planes_up in omega arith) falls some.0 in
         subst (λ d. d ≤ deviation_of h (s_of h k)) (sym (tilted_there v own))
         (subst (λ d. tilted v ≤ d) (sym (tilted_there (s_of h k) e))
-          (min_le (error_of h v) (div_ceil (16384 * plane_deviation_of h v) (cosine_of h v)) (error_of h (s_of h k)) (div_ceil (16384 * plane_deviation_of h (s_of h k)) (cosine_of h (s_of h k))) error_up ceil))
+        (min_le (error_of h v) (div_ceil (16384 * plane_deviation_of h v) (cosine_of h v)) (error_of h (s_of h k)) (div_ceil (16384 * plane_deviation_of h (s_of h k)) (cosine_of h (s_of h k))) error_up ceil))
 
     pub deviation_up : deviation_of h v ≤ deviation_of h (s_of h k)
     deviation_up = elim (cases_Bool (is_error (s_of h k))) [

@@ -1,6 +1,6 @@
 -- How far the line from a node's place along an axis goes before it meets the plane of a face.
-use Rattle.std.proofs.Common.{◌≡◌, ℕ, zero, suc, ◌+◌, ◌*◌, ◌/◌, ◌<◌, ◌≤◌, max, min, eqb, true, false, List, [], ◌∷◌, length, map, get_or, Option, None, Some, ◌⊎◌, inl, inr, refl, sym, ap, ◌∙◌, subst, arith}
-use Rattle.std.proofs.Math.Nat.{le_refl, le_of_mul-le-mul_left, div-mul-le_self, div-zero, zero-div}
+use Rattle.std.proofs.Common.{◌≡◌, ℕ, zero, suc, ◌*◌, ◌/◌, ◌<◌, ◌≤◌, max, min, eqb, false, List, [], ◌∷◌, map, ◌⊎◌, inl, inr, refl, sym, ap, ◌∙◌, subst, arith}
+use Rattle.std.proofs.Math.Nat.{le_refl, le_of_mul-le-mul_left, div-mul-le_self, div-zero}
 use Rattle.std.specs.Prelude.{ℤ, pos, neg_ℤ, ◌+ℤ◌, ◌*ℤ◌, unsigned_abs}
 use Rattle.std.specs.Int.{div_ceil}
 use Rattle.std.specs.List.{Contains}
@@ -8,23 +8,22 @@ use Rattle.std.proofs.lemmas.Int.{unsigned_abs-mul}
 use Rattle.std.proofs.lemmas.Nat.{mul-le}
 use Rattle.std.proofs.lemmas.Bool.{cases_Bool, cases_lt, cases_eq, or_parts, eq-eqb, both_ways}
 use borrow.Author.Differences.{ints}
-use Rattle.pm_base.specs.Geometry.{Direction, dot_of, norm2_of}
+use Rattle.pm_base.specs.Geometry.{dot_of, norm2_of}
 use Rattle.pm_base.specs.Rounded.{root_up}
 use Rattle.pm_base.specs.Sides.{face_of}
 use Rattle.pm_base.proofs.Root.{root_up_is}
-use Rattle.pm_forest.specs.Forest.{Hierarchy, node_count, Holds}
-use Rattle.pm_forest.specs.Faces.{face_count, corners_of, from_leaf}
+use Rattle.pm_forest.specs.Forest.{Hierarchy, node_count}
+use Rattle.pm_forest.specs.Faces.{corners_of}
 use Rattle.pm_forest.specs.Places.{place_of_node}
 use Rattle.pm_forest.specs.Rules.{HasShape}
 use Rattle.pm_bounds.specs.Bounds.{normal_of, error_of, greatest}
 use Rattle.pm_deviation.specs.declared.axes.Axis.{Axis}
 use Rattle.pm_deviation.specs.declared.axes.TheConstants.{AXES}
-use Rattle.pm_deviation.specs.declared.spread.Spread.{Spread}
 use Rattle.pm_deviation.specs.Spreads.{along}
 use Rattle.pm_deviation.specs.Borders.{is_at_border}
-use Rattle.pm_deviation.specs.Normals.{direction_of, spread_of, above_zero, length_of, least_cosine, cosine_by, cosine_along, cosine_of}
+use Rattle.pm_deviation.specs.Normals.{direction_of, above_zero, length_of, least_cosine, cosine_by, cosine_along, cosine_of}
 use Rattle.pm_deviation.specs.Deviations.{plane_deviation_of, deviation_of}
-use Rattle.pm_deviation.specs.Laws.{value_of, IsWithin, MeetsWithin}
+use Rattle.pm_deviation.specs.Laws.{value_of, MeetsWithin}
 use Rattle.pm_deviation.proofs.CosineLaws.{one_side, side_falls, low_side, high_side}
 use Rattle.pm_deviation.proofs.GrowingLaws.{is_error, error_there, tilted_there}
 use Rattle.pm_deviation.proofs.NearLaws.{spread_covers, planes_near}
@@ -61,15 +60,15 @@ tilts_bound : (s w k v d c f n u : ℕ) → 0 < k → 0 < c → s * k ≡ w * v 
 tilts_bound s w k v d c f n u k0 c0 e p q r =
     le_of_mul-le-mul_left {m = s * s * u} {n = (w * f) * (w * f)} {k = k * k * (c * c)}
     (subst (λ (t : ℕ). t ≤ k * k * (c * c) * ((w * f) * (w * f))) (sym (gathered s k u c))
-      (subst (λ (t : ℕ). t ≤ k * k * (c * c) * ((w * f) * (w * f))) (sym (met s w k v u c e))
-        (le_by _ _ _ (nearer w v d n u c p) (le_by _ _ _ (tilted w d k c n u q) (wide w d k c f r)))))
+    (subst (λ (t : ℕ). t ≤ k * k * (c * c) * ((w * f) * (w * f))) (sym (met s w k v u c e))
+    (le_by _ _ _ (nearer w v d n u c p) (le_by _ _ _ (tilted w d k c n u q) (wide w d k c f r)))))
     (positive k c k0 c0)
 
 -- c l is at most 16,384 p, and r p at most 16,384 k: the cosine of the axis with the normal is at least c parts
 steep : (c l p r k n u : ℕ) → c * l ≤ 16384 * p → r * p ≤ 16384 * k → n ≤ r * r → 268435456 * u ≤ l * l → c * c * (n * u) ≤ (16384 * k) * (16384 * k)
 steep c l p r k n u a b far long =
     let one : (r * (c * l)) * (r * (c * l)) ≤ (268435456 * k) * (268435456 * k) =
-        (let half : r * (c * l) ≤ 268435456 * k = omega (arith, mul-le r (c * l) r (16384 * p) (le_refl r) a) in mul-le (r * (c * l)) (r * (c * l)) (268435456 * k) (268435456 * k) half half) in
+    (let half : r * (c * l) ≤ 268435456 * k = omega (arith, mul-le r (c * l) r (16384 * p) (le_refl r) a) in mul-le (r * (c * l)) (r * (c * l)) (268435456 * k) (268435456 * k) half half) in
     let two : (c * c) * (n * (268435456 * u)) ≤ (c * c) * ((r * r) * (l * l)) = mul-le (c * c) (n * (268435456 * u)) (c * c) ((r * r) * (l * l)) (le_refl (c * c)) (mul-le n (268435456 * u) (r * r) (l * l) far long) in
     omega (arith, one, two)
 

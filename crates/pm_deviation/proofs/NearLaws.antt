@@ -1,18 +1,16 @@
 -- The planes of the faces under a node are within its plane deviation.
-use Rattle.std.proofs.Common.{◌≡◌, ℕ, ◌+◌, ◌*◌, ◌<◌, ◌≤◌, max, min, true, false, get_or, Option, None, Some, ◌⊎◌, inl, inr, refl, sym, ap, ◌∙◌, subst, arith}
+use Rattle.std.proofs.Common.{◌≡◌, ℕ, ◌+◌, ◌*◌, ◌<◌, ◌≤◌, max, min, true, get_or, Option, Some, inl, inr, sym, ap, ◌∙◌, subst, arith}
 use Rattle.std.specs.Prelude.{ℤ, pos, ◌+ℤ◌, ◌-ℤ◌, ◌*ℤ◌, unsigned_abs}
-use Rattle.std.specs.Int.{div_ceil}
 use Rattle.std.specs.Option.{option_map, unwrap_or}
 use Rattle.std.proofs.lemmas.Bool.{cases_Bool, cases_lt, cases_eq}
-use borrow.Author.Differences.{ints}
 use Rattle.pm_base.specs.Place.{Place}
-use Rattle.pm_base.specs.Geometry.{Direction, dot_of, norm2_of, dist2_of, cross_of}
+use Rattle.pm_base.specs.Geometry.{Direction, dot_of, norm2_of, cross_of}
 use Rattle.pm_base.specs.Rounded.{distance_of}
 use Rattle.pm_base.specs.Sides.{face_of}
 use Rattle.pm_base.proofs.Lengths.{dot_le}
 use Rattle.pm_base.proofs.Ring.{diff-of, diff_same, add-diff, mul-diff, neg-diff, pos_is_diff}
 use Rattle.pm_forest.specs.declared.parts.Face.{Face}
-use Rattle.pm_forest.specs.Forest.{Hierarchy, record_count, node_count, s_of, t_of, u_of, Holds, splitter_of}
+use Rattle.pm_forest.specs.Forest.{Hierarchy, node_count, s_of, t_of, u_of, Holds}
 use Rattle.pm_forest.specs.Faces.{faces_of, face_count, corners_of, from_leaf, no_face_corners}
 use Rattle.pm_forest.specs.Places.{place_of_node}
 use Rattle.pm_forest.specs.Rules.{HasShape}
@@ -27,19 +25,17 @@ use Rattle.pm_bounds.proofs.Covering.{near, up_from_leaves, leaves_covered}
 use Rattle.pm_bounds.proofs.Nodes.{split_node}
 use Rattle.pm_deviation.specs.declared.axes.Axis.{Axis}
 use Rattle.pm_deviation.specs.declared.spread.Spread.{Spread}
-use Rattle.pm_deviation.specs.declared.unit_box.UnitBox.{UnitBox}
 use Rattle.pm_deviation.specs.Spreads.{along, no_spread}
-use Rattle.pm_deviation.specs.Normals.{root_down, direction_of, unit_box, part_along, spread_of, spread_under, x_axis, y_axis, z_axis, unit_box_of}
+use Rattle.pm_deviation.specs.Normals.{root_down, direction_of, unit_box, part_along, spread_of, x_axis, y_axis, z_axis, unit_box_of}
 use Rattle.pm_deviation.specs.Borders.{is_at_border}
-use Rattle.pm_deviation.specs.Deviations.{way, most_along, step_of, over_steps, plane_deviation_of}
+use Rattle.pm_deviation.specs.Deviations.{way, most_along, step_of, plane_deviation_of}
 use Rattle.pm_deviation.specs.Laws.{value_of, IsWithin, Show}
 use Rattle.pm_deviation.proofs.Children.{child_of_leaf}
 use Rattle.pm_deviation.proofs.GrowingLaws.{planes_at_border, planes_inside}
 use Rattle.pm_deviation.proofs.PartLaws.{parts_of, parts_scaled, low_length, root_down_is, ceil_enough, unit_box_some}
 use Rattle.pm_deviation.proofs.PlaneValues.{within_more, moves_add, within_way, within_box, triangles_near}
 use Rattle.pm_deviation.proofs.Products.{IsScaledIn, IsScaledInBox, scaled_along, scaled_over}
-use Rattle.pm_deviation.proofs.SpreadLaws.{IsOver, IsSomeOver, spread_above}
-use Rattle.pm_deviation.proofs.StepLaws.{planes_at_leaf}
+use Rattle.pm_deviation.proofs.SpreadLaws.{IsSomeOver, spread_above}
 
 -- A face's corners lie in its plane.
 
@@ -104,7 +100,7 @@ axis_scaled : (n : Direction) (l : ℕ) (u : Axis) (o : Option Spread) (k : ℤ)
 axis_scaled n l u o k is i (a, some, over) =
     subst (λ (p : Option Spread). IsScaledIn k l (unwrap_or p no_spread)) (sym some)
     (scaled_over k l a (along (parts_of n) (direction_of u)) over.0 over.1
-      (subst (λ (z : ℤ). IsScaledIn z l (along (parts_of n) (direction_of u))) is (scaled_along n (direction_of u) l (parts_of n) i)))
+    (subst (λ (z : ℤ). IsScaledIn z l (along (parts_of n) (direction_of u))) is (scaled_along n (direction_of u) l (parts_of n) i)))
 
 within_min : (v : ℤ) (n a b : ℕ) → IsWithin v n a → IsWithin v n b → IsWithin v n (min a b)
 within_min v n a b p q = elim (cases_lt a b) [
@@ -141,7 +137,7 @@ module _ (h : Hierarchy) (shape : HasShape h) (e : ℕ) (side : e < 3 * face_cou
       let p : has_corner_under h v (get_or (faces_of h) f no_face_corners) ≡ true = subst (λ (g : Face). has_corner_under h v g ≡ true) (sym there.0) (under_from h v e held) in
       let own : unit_box normal ≡ Some (parts_of normal) = unit_box_some normal some in
       let part : part_along h u (get_or (faces_of h) f no_face_corners) ≡ Some (along (parts_of normal) (direction_of u)) =
-          subst (λ (g : Face). part_along h u g ≡ Some (along (parts_of normal) (direction_of u))) (sym there.0) (ap (option_map (λ b. along b (direction_of u))) own) in
+      subst (λ (g : Face). part_along h u g ≡ Some (along (parts_of normal) (direction_of u))) (sym there.0) (ap (option_map (λ b. along b (direction_of u))) own) in
       spread_above (part_along h u) (has_corner_under h v) (faces_of h) f no_face_corners (along (parts_of normal) (direction_of u)) there.1 p part
 
   in_box : (v : ℕ) → Holds h v (from_leaf h e) → 0 < square → IsScaledInBox normal (root_down square) (unit_box_of h v)

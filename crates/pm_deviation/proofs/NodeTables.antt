@@ -1,10 +1,10 @@
 -- Tables by node that are found from the leaves up, and lists that grow by one item.
-use Rattle.std.proofs.Common.{◌≡◌, ℕ, suc, ◌+◌, ◌*◌, ◌<◌, ◌≤◌, List, [], ◌∷◌, ◌++◌, length, get_or, set, length-set, inl, inr, refl, sym, ap, subst, ◌∙◌, arith}
-use Rattle.std.specs.Prelude.{None, Some}
+use Rattle.std.proofs.Common.{◌≡◌, ℕ, suc, ◌+◌, ◌<◌, ◌≤◌, List, [], ◌∷◌, ◌++◌, length, get_or, set, length-set, inl, inr, sym, ap, subst, ◌∙◌, arith}
+use Rattle.std.specs.Prelude.{None}
 use Rattle.std.proofs.lemmas.Bool.{cases_eq}
 use Rattle.std.proofs.lemmas.List.{get_or-set_same, get_or-set_other, get_or_push, get_or_append_left}
 use Rattle.pm_base.proofs.Search.{option_cases}
-use Rattle.pm_forest.specs.Forest.{Hierarchy, record_count, node_count, leaf_count, s_of, t_of, u_of, splitter_of}
+use Rattle.pm_forest.specs.Forest.{Hierarchy, record_count, node_count, leaf_count, s_of, t_of, splitter_of}
 use Rattle.pm_forest.specs.Rules.{HasShape}
 use Rattle.pm_forest.specs.Tables.{leaf_node_of}
 use Rattle.pm_forest.proofs.HierarchyLaws.{leaf_node-lt}

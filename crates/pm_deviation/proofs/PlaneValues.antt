@@ -1,5 +1,5 @@
 -- Values of planes that are small beside the normal: sums, multiples, and the values after a move.
-use Rattle.std.proofs.Common.{◌≡◌, ℕ, ◌+◌, ◌*◌, ◌<◌, ◌≤◌, inl, inr, refl, sym, subst, arith}
+use Rattle.std.proofs.Common.{◌≡◌, ℕ, ◌+◌, ◌*◌, ◌<◌, ◌≤◌, inl, inr, sym, subst, arith}
 use Rattle.std.proofs.Math.Nat.{le_refl}
 use Rattle.std.specs.Prelude.{ℤ, pos, ◌+ℤ◌, ◌-ℤ◌, ◌*ℤ◌, ◌≤ℤ◌, unsigned_abs}
 use Rattle.std.proofs.lemmas.Nat.{mul-le}
@@ -15,7 +15,7 @@ use Rattle.pm_deviation.specs.declared.unit_box.UnitBox.{UnitBox}
 use Rattle.pm_deviation.specs.Spreads.{along}
 use Rattle.pm_deviation.specs.Deviations.{way}
 use Rattle.pm_deviation.specs.Laws.{IsWithin}
-use Rattle.pm_deviation.proofs.Products.{IsScaledIn, IsScaledInBox, scaled_along}
+use Rattle.pm_deviation.proofs.Products.{IsScaledInBox, scaled_along}
 
 -- a b is at most d e n, where a a is at most d d n and b b at most e e n
 products : (a b d e n : ℕ) → a * a ≤ d * d * n → b * b ≤ e * e * n → (a * b) * (a * b) ≤ (d * e * n) * (d * e * n)
@@ -70,8 +70,8 @@ pub triangles_near : (u v w : ℤ) (n d i j k : ℕ) → IsWithin u n d → IsWi
 triangles_near u v w n d i j k p q r =
     subst (λ (t : ℕ). IsWithin (pos i *ℤ u +ℤ pos j *ℤ v +ℤ pos k *ℤ w) n t) (thrice i j k d)
     (values_add (pos i *ℤ u +ℤ pos j *ℤ v) (pos k *ℤ w) n (i * d + j * d) (k * d)
-      (values_add (pos i *ℤ u) (pos j *ℤ v) n (i * d) (j * d) (values_times i u n d p) (values_times j v n d q))
-      (values_times k w n d r))
+    (values_add (pos i *ℤ u) (pos j *ℤ v) n (i * d) (j * d) (values_times i u n d p) (values_times j v n d q))
+    (values_times k w n d r))
 
 -- No product of a normal with a move is longer than the move.
 once : (v m n e : ℕ) → v * v ≤ n * m → m ≤ e * e → v * v ≤ e * e * n
@@ -99,7 +99,7 @@ ended : (v : ℤ) (l e n : ℕ) (t : ℤ) → unsigned_abs (pos 16384 *ℤ v) �
 ended v l e n t p q r =
     small (unsigned_abs v) l e n
     (divided (unsigned_abs v) l (unsigned_abs t) e
-      (subst (λ (z : ℕ). z ≤ l * unsigned_abs t) (unsigned_abs-mul (pos 16384) v) (subst (λ (z : ℕ). unsigned_abs (pos 16384 *ℤ v) ≤ z) (unsigned_abs-mul (pos l) t) p)) q) r
+    (subst (λ (z : ℕ). z ≤ l * unsigned_abs t) (unsigned_abs-mul (pos 16384) v) (subst (λ (z : ℕ). unsigned_abs (pos 16384 *ℤ v) ≤ z) (unsigned_abs-mul (pos l) t) p)) q) r
 
 from_lt : (a b : ℕ) → a < b → a ≤ b
 from_lt a b h = omega arith

@@ -1,8 +1,6 @@
 -- What the code finds of roots and parts.
-use Rattle.std.proofs.Common.{◌≡◌, ℕ, zero, suc, ◌+◌, ◌*◌, ◌/◌, ◌^◌, ◌<◌, ◌≤◌, eqb, true, false, None, Some, inl, inr, refl, sym, ap, ◌∙◌, subst, arith, w32, to_z}
-use Rattle.std.proofs.Math.Nat.{le_refl}
+use Rattle.std.proofs.Common.{◌≡◌, ℕ, suc, ◌+◌, ◌*◌, ◌<◌, ◌≤◌, eqb, true, false, None, Some, inl, inr, refl, sym, ap, ◌∙◌, subst, arith, w32, to_z}
 use Rattle.std.specs.Prelude.{ℤ, pos, negsuc, int_lt, unsigned_abs}
-use Rattle.std.specs.Int.{div_ceil}
 use Rattle.std.proofs.lemmas.Nat.{mul-le}
 use Rattle.std.proofs.lemmas.Bool.{cases_lt, cond-true, eq-eqb}
 use borrow.Author.Differences.{ints}
@@ -11,7 +9,6 @@ use Rattle.pm_base.specs.Rounded.{root_up}
 use Rattle.pm_base.proofs.Root.{root_up_only}
 use Rattle.pm_base.proofs.Squares.{root_le}
 use Rattle.pm_deviation.specs.declared.spread.Spread.{Spread}
-use Rattle.pm_deviation.specs.declared.unit_box.UnitBox.{UnitBox}
 use Rattle.pm_deviation.specs.Spreads.{mirrored}
 use Rattle.pm_deviation.specs.Normals.{root_down, share, part_of, unit_box}
 use Rattle.pm_deviation.proofs.PartLaws.{root_down_is, parts_of, unit_box_some}

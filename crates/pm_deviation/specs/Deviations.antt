@@ -1,6 +1,6 @@
 -- The deviation of nodes: how far a node's place may be from the planes of the faces under it, and from these faces along
 -- an axis that meets them. On flat ground it is small where the error isn't.
-use Rattle.std.specs.Prelude.{◌≡◌, ℕ, zero, suc, ◌+◌, ◌*◌, ◌<◌, ◌==◌, ◌||◌, if◌then◌else◌, min, max, List, length, Bool, Option, None, Some, IfSome, is_some, pos, ◌-ℤ◌, unsigned_abs, slice_index_or, unwrap_or, ◌^◌, []}
+use Rattle.std.specs.Prelude.{◌≡◌, ℕ, zero, suc, ◌+◌, ◌*◌, ◌<◌, ◌==◌, ◌||◌, if◌then◌else◌, min, max, List, length, Bool, Option, None, Some, IfSome, is_some, ◌-ℤ◌, unsigned_abs, slice_index_or, unwrap_or, ◌^◌, []}
 use Rattle.std.specs.Int.{div_ceil}
 use Rattle.pm_base.specs.Place.{Place}
 use Rattle.pm_base.specs.Geometry.{Direction}

@@ -62,8 +62,8 @@ abbrev pub TrianglesStayNear : Type 0
 TrianglesStayNear =
     (h : Hierarchy) → HasShape h → (f u v w i j k : ℕ) → Show h f u v w
     → let value = λ (node : ℕ). value_of h (corners_of h f) (place_of_node h node) in
-      let most = max (max (plane_deviation_of h u) (plane_deviation_of h v)) (plane_deviation_of h w) in
-      IsWithin (pos i *ℤ value u +ℤ pos j *ℤ value v +ℤ pos k *ℤ value w) (norm2_of (normal_of h (corners_of h f))) ((i + j + k) * most)
+    let most = max (max (plane_deviation_of h u) (plane_deviation_of h v)) (plane_deviation_of h w) in
+    IsWithin (pos i *ℤ value u +ℤ pos j *ℤ value v +ℤ pos k *ℤ value w) (norm2_of (normal_of h (corners_of h f))) ((i + j + k) * most)
 
 -- The line from the node's place along an axis meets the plane of each face that has a corner under the node, if at all, at
 -- most this far away: s / w of the axis away is a place where the plane's value is 0.
@@ -71,7 +71,7 @@ abbrev pub MeetsWithin : Hierarchy → ℕ → Axis → ℕ → Type 0
 MeetsWithin h v u d =
     (e w : ℕ) (s : ℤ) → e < 3 * face_count h → Holds h v (from_leaf h e)
     → let f = corners_of h (face_of e) in
-      pos w *ℤ value_of h f (place_of_node h v) +ℤ s *ℤ dot_of (normal_of h f) (direction_of u) ≡ pos 0
+    pos w *ℤ value_of h f (place_of_node h v) +ℤ s *ℤ dot_of (normal_of h f) (direction_of u) ≡ pos 0
     → 0 < norm2_of (normal_of h f)
     → square_of (unsigned_abs s) * norm2_of (direction_of u) ≤ square_of (w * d)
 

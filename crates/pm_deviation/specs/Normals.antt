@@ -1,6 +1,6 @@
 -- Which way the faces under a node look: their normals in parts of 1 / 16,384 of their own lengths. No root is exact, so
 -- each part is known by a whole number that isn't above it and one that isn't below it.
-use Rattle.std.specs.Prelude.{ℕ, ◌+◌, ◌-◌, ◌*◌, ◌/◌, ◌==◌, nat_le, if◌then◌else◌, max, List, map, Option, None, Some, ℤ, pos, negsuc, neg_ℤ, unwrap_or}
+use Rattle.std.specs.Prelude.{ℕ, ◌+◌, ◌-◌, ◌*◌, ◌/◌, ◌==◌, nat_le, if◌then◌else◌, max, map, Option, None, Some, ℤ, pos, negsuc, neg_ℤ, unwrap_or}
 use Rattle.std.specs.Int.{div_ceil}
 use Rattle.std.specs.Option.{option_map, option_map_or}
 use Rattle.pm_base.specs.Geometry.{Direction, norm2_of}

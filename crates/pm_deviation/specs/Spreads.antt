@@ -1,5 +1,5 @@
 -- Spreads: the whole numbers from one to another, and boxes of them on the three axes.
-use Rattle.std.specs.Prelude.{ℕ, List, [], ◌∷◌, Option, None, Some, ℤ, pos, ◌+ℤ◌, ◌*ℤ◌, neg_ℤ}
+use Rattle.std.specs.Prelude.{List, [], ◌∷◌, Option, None, Some, ℤ, pos, ◌+ℤ◌, ◌*ℤ◌, neg_ℤ}
 use Rattle.std.specs.Int.{int_min, int_max}
 use Rattle.pm_base.specs.Geometry.{Direction}
 use Rattle.pm_deviation.specs.declared.spread.Spread.{Spread}

@@ -1,8 +1,8 @@
 -- What the tables keep while deviations are found.
-use Rattle.std.specs.Prelude.{◌≡◌, ℕ, ◌*◌, ◌<◌, ◌≤◌, nat_le, Bool, true, false, ◌&&◌, None, List, length, Option, IfSome, unsigned_abs, slice_index_or}
+use Rattle.std.specs.Prelude.{◌≡◌, ℕ, ◌<◌, ◌≤◌, nat_le, Bool, false, ◌&&◌, None, List, length, Option, IfSome, unsigned_abs, slice_index_or}
 use Rattle.pm_base.specs.Geometry.{norm2_of}
 use Rattle.pm_forest.specs.Forest.{Hierarchy, node_count, splitter_of}
-use Rattle.pm_forest.specs.Faces.{face_count, corners_of}
+use Rattle.pm_forest.specs.Faces.{corners_of}
 use Rattle.pm_bounds.specs.Bounds.{normal_of}
 use Rattle.pm_deviation.specs.declared.axes.Axis.{Axis}
 use Rattle.pm_deviation.specs.declared.spread.Spread.{Spread}

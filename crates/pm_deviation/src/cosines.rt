@@ -80,7 +80,11 @@ fn zeros(alloc: Global, nodes: usize) -> Result<Vec<u32>, OutOfMemory>
 
 /// For each node the least cosine, in 16,384ths, of the axis that the faces under it look along most alike with their
 /// normals: 4 bytes a node, and 12 more while an axis is gone through.
-pub(crate) fn cosines(alloc: Global, h: &Hierarchy, boxes: &[Option<UnitBox>]) -> Result<Vec<u32>, OutOfMemory>
+pub(crate) fn cosines(
+    alloc: Global,
+    h: &Hierarchy,
+    boxes: &[Option<UnitBox>],
+) -> Result<Vec<u32>, OutOfMemory>
     requires { AreFaceBoxes h.now (face_count h.now) boxes.now }
     ensures { IfOk result (λ table. AreCosines h.now table.items) }
 {

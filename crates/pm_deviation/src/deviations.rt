@@ -72,11 +72,20 @@ fn node_deviation(h: &Hierarchy, bounds: &Bounds, found: &Found, node: NodeId) -
     h.invariant();
     let at = node.0 as usize;
     let error = bounds.error(node);
-    deviation(error, found.planes[at], found.cosines[at], found.borders[at])
+    deviation(
+        error,
+        found.planes[at],
+        found.cosines[at],
+        found.borders[at],
+    )
 }
 
 /// The deviation of each node.
-pub(crate) fn deviations(alloc: Global, h: &Hierarchy, bounds: &Bounds) -> Result<Vec<u64>, OutOfMemory>
+pub(crate) fn deviations(
+    alloc: Global,
+    h: &Hierarchy,
+    bounds: &Bounds,
+) -> Result<Vec<u64>, OutOfMemory>
     requires bounds { AreBoundsOf h.now bounds.now }
     requires once { NoSideTwice (leaf_net h.now) }
     ensures are { IfOk result (λ ds. AreDeviationsOf h.now ds.items) }

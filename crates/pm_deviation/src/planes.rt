@@ -58,7 +58,13 @@ fn from_steps(
 }
 
 // Gives all nodes their plane deviations. Those that no record splits have none.
-fn grow(h: &Hierarchy, bounds: &Bounds, borders: &[bool], spreads: &SpaceSpreads, table: &mut Vec<u64>)
+fn grow(
+    h: &Hierarchy,
+    bounds: &Bounds,
+    borders: &[bool],
+    spreads: &SpaceSpreads,
+    table: &mut Vec<u64>,
+)
     requires bounds { AreBoundsOf h.now bounds.now }
     requires borders { AreBorders h.now borders.now }
     requires spreads { AreSpaceSpreads h.now spreads.now.x.items spreads.now.y.items spreads.now.z.items }

@@ -24,7 +24,11 @@ pub struct SpaceSpreads {
 
 impl SpaceSpreads {
     /// Those of the faces with these normals.
-    pub(crate) fn of(alloc: Global, h: &Hierarchy, boxes: &[Option<UnitBox>]) -> Result<SpaceSpreads, OutOfMemory>
+    pub(crate) fn of(
+        alloc: Global,
+        h: &Hierarchy,
+        boxes: &[Option<UnitBox>],
+    ) -> Result<SpaceSpreads, OutOfMemory>
         requires { AreFaceBoxes h.now (face_count h.now) boxes.now }
         ensures { IfOk result (λ s. AreSpaceSpreads h.now s.x.items s.y.items s.z.items) }
     {

@@ -1,6 +1,5 @@
-use Rattle.std.proofs.Common.{◌≡◌, ℕ, suc, ◌+◌, ◌<◌, ◌-◌, None, get_or, set, length, length-set, refl, ap, ◌∙◌, subst, sym, arith}
-use Rattle.pm_forest.specs.Forest.{record_count, node_count, s_of, t_of, u_of, record_at}
-use Rattle.pm_bounds.proofs.Nodes.{split_node}
+use Rattle.std.proofs.Common.{◌≡◌, suc, ◌<◌, ◌-◌, None, get_or, set, length-set, ap, ◌∙◌, subst, sym, arith}
+use Rattle.pm_forest.specs.Forest.{record_count, t_of, u_of}
 use Rattle.pm_deviation.specs.Normals.{spread_of}
 use Rattle.pm_deviation.specs.Spreads.{join}
 use Rattle.pm_deviation.proofs.Children.{spread-split}
@@ -34,7 +33,7 @@ loop-k-preserved c =
           let t = found_child h c.invariant.ensures None value old k (t_of h k) below (omega arith) nodes.t_node found in
           let v = found_child h c.invariant.ensures None value old k (u_of h k) below (omega arith) nodes.u_node found in
           let joined : x ≡ join (get_or old (t_of h k) None) (get_or old (u_of h k) None) =
-              c.joined_children-spread.ensures ∙ ap (λ l. join (get_or l (t_of h k) None) (get_or l (u_of h k) None)) c.deref.ensures.value in
+          c.joined_children-spread.ensures ∙ ap (λ l. join (get_or l (t_of h k) None) (get_or l (u_of h k) None)) c.deref.ensures.value in
           subst (λ s. AreFoundFrom h None value (set old s x) k) (sym nodes.s)
           (found_step h c.invariant.ensures None value old k x below found (joined ∙ (rw (t, v) (sym (spread-split h c.invariant.ensures u k below)))));
     }

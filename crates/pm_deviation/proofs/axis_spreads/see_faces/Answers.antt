@@ -1,10 +1,8 @@
-use Rattle.std.proofs.Common.{◌≡◌, ℕ, ◌<◌, None, get_or, replicate, length, ap, ◌∙◌, subst, sym, arith}
-use Rattle.std.specs.Prelude.{Option}
+use Rattle.std.proofs.Common.{◌≡◌, ◌<◌, None, get_or, length, ap, ◌∙◌, arith}
 use Rattle.std.specs.Option.{option_map}
 use Rattle.std.proofs.lemmas.List.{get_or-replicate, length-replicate}
 use Rattle.pm_forest.specs.Forest.{node_count}
 use Rattle.pm_forest.specs.Faces.{face_count}
-use Rattle.pm_deviation.specs.declared.spread.Spread.{Spread}
 use Rattle.pm_deviation.specs.Spreads.{along}
 use Rattle.pm_deviation.specs.Normals.{direction_of}
 use Rattle.pm_deviation.proofs.FaceTables.{seen_none, seen_more, seen_all}

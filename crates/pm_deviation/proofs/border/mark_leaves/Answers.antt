@@ -19,7 +19,7 @@ loop-leaf-preserved c =
     let was = c.loop-leaf.invariant in
     let below : leaf < leaf_count h = omega (arith, c.loop-leaf-test.true, c.leaves-leaf-end.ensures.value) in
     let is : flag ≡ is_at_border h (leaf_node_of h leaf) =
-        border_flag h c.invariant.ensures leaf flag below (c.is_border.ensures.border (leaf_net h) (leaf_count h) c.requires.twins) in
+    border_flag h c.invariant.ensures leaf flag below (c.is_border.ensures.border (leaf_net h) (leaf_count h) c.requires.twins) in
     record {
       len = length-set flags c.leaf_node-node.result.0 flag ∙ was.len;
       given = subst (λ (w : ℕ). (x : ℕ) → x < leaf + 1 → get_or (set flags w flag) (leaf_node_of h x) false ≡ is_at_border h (leaf_node_of h x)) (sym c.leaf_node-node.ensures.value)

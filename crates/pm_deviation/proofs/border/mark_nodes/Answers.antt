@@ -1,5 +1,5 @@
-use Rattle.std.proofs.Common.{◌≡◌, ℕ, suc, ◌+◌, ◌<◌, ◌-◌, ◌||◌, false, get_or, set, refl, ap, ◌∙◌, subst, sym, arith}
-use Rattle.pm_forest.specs.Forest.{record_count, node_count, t_of, u_of}
+use Rattle.std.proofs.Common.{◌≡◌, suc, ◌<◌, ◌-◌, ◌||◌, false, get_or, set, ap, ◌∙◌, subst, sym, arith}
+use Rattle.pm_forest.specs.Forest.{record_count, t_of, u_of}
 use Rattle.pm_deviation.specs.Borders.{is_at_border}
 use Rattle.pm_deviation.proofs.BorderLaws.{border-split}
 use Rattle.pm_deviation.proofs.NodeTables.{AreFoundFrom, found_start, found_child, found_step, found_all}
@@ -26,7 +26,7 @@ loop-k-preserved c =
     let t = found_child h shape false value old k (t_of h k) below (omega arith) nodes.t_node was in
     let u = found_child h shape false value old k (u_of h k) below (omega arith) nodes.u_node was in
     let either : x ≡ (get_or old (t_of h k) false || get_or old (u_of h k) false) =
-        c.is_child_at_border-flag.ensures ∙ ap (λ l. get_or l (t_of h k) false || get_or l (u_of h k) false) c.deref.ensures.value in
+    c.is_child_at_border-flag.ensures ∙ ap (λ l. get_or l (t_of h k) false || get_or l (u_of h k) false) c.deref.ensures.value in
     subst (λ s. AreFoundFrom h false value (set old s x) k) (sym nodes.s)
     (found_step h shape false value old k x below was (either ∙ (rw (t, u) (sym (border-split h shape k below)))))
 

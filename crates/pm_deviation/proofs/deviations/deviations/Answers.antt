@@ -16,8 +16,8 @@ loop-node-preserved c =
     let P = λ (v y : ℕ). (y ≡ deviation_of h v) × (y < 2 ^ 38) in
     let items : c.push.new.self.items ≡ old ++ x ∷ [] = search rules in
     let all : (v : ℕ) → v < n + 1 → P v (get_or c.push.new.self.items v 0) =
-        subst (λ l. (v : ℕ) → v < n + 1 → P v (get_or l v 0)) (sym items)
-        (pushed 0 P n old x was.len (λ v l. (was.each v l, was.small v l)) (c.node_deviation.ensures.value, c.node_deviation.ensures.small)) in
+    subst (λ l. (v : ℕ) → v < n + 1 → P v (get_or l v 0)) (sym items)
+    (pushed 0 P n old x was.len (λ v l. (was.each v l, was.small v l)) (c.node_deviation.ensures.value, c.node_deviation.ensures.small)) in
     record {
       len = ap length items ∙ length-append old (x ∷ []) ∙ ap (λ (k : ℕ). k + 1) was.len;
       each = λ v l. (all v l).0;

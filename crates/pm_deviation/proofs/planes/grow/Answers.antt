@@ -1,4 +1,4 @@
-use Rattle.std.proofs.Common.{◌≡◌, ℕ, suc, ◌+◌, ◌<◌, ◌-◌, ◌^◌, get_or, set, length, length-set, replicate, if◌then◌else◌, refl, ap, ◌∙◌, subst, sym, arith}
+use Rattle.std.proofs.Common.{◌≡◌, ℕ, suc, ◌<◌, ◌-◌, ◌^◌, get_or, set, length, length-set, if◌then◌else◌, refl, ap, ◌∙◌, subst, sym, arith}
 use Rattle.std.proofs.lemmas.List.{get_or-replicate, length-replicate}
 use Rattle.pm_forest.specs.Forest.{record_count, node_count, s_of, t_of, u_of}
 use Rattle.pm_forest.proofs.ShapeLaws.{shape_of_nodes}
@@ -6,7 +6,7 @@ use Rattle.pm_bounds.specs.Bounds.{error_of}
 use Rattle.pm_bounds.proofs.Nodes.{split_node}
 use Rattle.pm_bounds.proofs.TableLaws.{kept}
 use Rattle.pm_deviation.specs.Borders.{is_at_border}
-use Rattle.pm_deviation.specs.Deviations.{step_of, over_steps, plane_deviation_of}
+use Rattle.pm_deviation.specs.Deviations.{over_steps, plane_deviation_of}
 use Rattle.pm_deviation.proofs.GrowingLaws.{planes_below}
 use Rattle.pm_deviation.proofs.NodeTables.{AreFoundFrom, found_start, found_child, found_step, found_all}
 use Rattle.pm_deviation.proofs.StepLaws.{planes_at_leaf, planes_at_split}
@@ -22,7 +22,7 @@ loop-k-init c =
     record {
       found = subst (AreFoundFrom h 0 (plane_deviation_of h) first) (sym c.records-k.ensures.value)
           (found_start h shape 0 (plane_deviation_of h) first (ap length zeros ∙ length-replicate (node_count h) 0)
-            (λ v l none. zero_at v l ∙ sym (planes_at_leaf h (shape_of_nodes h shape) v none)));
+          (λ v l none. zero_at v l ∙ sym (planes_at_leaf h (shape_of_nodes h shape) v none)));
       small = λ v l. (let is = zero_at v l in omega arith);
     }
 
@@ -43,10 +43,10 @@ loop-k-preserved c =
     let u = found_child h shape 0 value old k (u_of h k) below (omega arith) nodes.u_node was in
     let over : over_steps h (λ v. get_or old v 0) k ≡ over_steps h value k = rw (t, u) refl in
     let is : x ≡ value (s_of h k) =
-        c.from_steps-number.ensures.value
-        ∙ ap (λ l. if is_at_border h (s_of h k) then error_of h (s_of h k) else over_steps h (λ v. get_or l v 0) k) c.deref.ensures.value
-        ∙ ap (λ n. if is_at_border h (s_of h k) then error_of h (s_of h k) else n) over
-        ∙ sym (planes_at_split h (shape_of_nodes h shape) k below) in
+    c.from_steps-number.ensures.value
+    ∙ ap (λ l. if is_at_border h (s_of h k) then error_of h (s_of h k) else over_steps h (λ v. get_or l v 0) k) c.deref.ensures.value
+    ∙ ap (λ n. if is_at_border h (s_of h k) then error_of h (s_of h k) else n) over
+    ∙ sym (planes_at_split h (shape_of_nodes h shape) k below) in
     let node = split_node h shape k below in
     let less = planes_below h shape (s_of h k) node in
     let x_small : x < 2 ^ 38 = omega (arith, is, less, c.from_steps-number.ensures.small) in

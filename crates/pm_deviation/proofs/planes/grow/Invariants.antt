@@ -1,4 +1,4 @@
-use Rattle.std.proofs.Common.{◌≡◌, ℕ, ◌<◌, ◌^◌, get_or}
+use Rattle.std.proofs.Common.{ℕ, ◌<◌, ◌^◌, get_or}
 use Rattle.pm_forest.specs.Forest.{node_count}
 use Rattle.pm_deviation.specs.Deviations.{plane_deviation_of}
 use Rattle.pm_deviation.proofs.NodeTables.{AreFoundFrom}
