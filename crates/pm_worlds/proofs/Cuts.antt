@@ -1,9 +1,10 @@
 -- The hierarchies of the pieces of a cut mesh are a world, whose leaf meshes are the pieces'
 -- meshes with other numbers.
-use Rattle.std.proofs.Common.{ℕ, ◌<◌, Bool, List, [], ◌∷◌, length, get_or, map, sym, ap, ◌∙◌}
+use Rattle.std.proofs.Common.{ℕ, suc, ◌<◌, Bool, List, [], ◌∷◌, length, get_or, map, sym, ap, ◌∙◌}
 use Rattle.std.proofs.Common.{subst, arith}
 use Rattle.std.specs.List.{All}
-use Rattle.std.proofs.lemmas.List.Elements.{All-nil, All-cons, All-map}
+use Rattle.std.proofs.lemmas.List.Elements.{All-nil, All-cons, All-head, All-tail, All-map}
+use Rattle.std.proofs.lemmas.List.Kept.{AllPairs-cons}
 use Rattle.pm_base.specs.Sides.{Net, net_of, NoSideTwice, IsBorder}
 use Rattle.pm_base.specs.Fans.{IsPairAt, IsUsed, IsOrientedManifold}
 use Rattle.pm_forest.specs.Forest.{node_count}
@@ -100,9 +101,19 @@ module _ (p : Piece) (piece : IsPiece p) where
         root = border_root r h node leaf face told num fixed c.corner on_border ∙ c.node;
       }
 
-pieces : (ps : List Piece) → AreCut ps → All IsPiece ps
-pieces [] cut = All-nil IsPiece
-pieces (p ∷ ps) (piece, meet, cut) = All-cons IsPiece p ps piece (pieces ps cut)
+-- The first piece of a cut mesh, and the others.
+module _ (p : Piece) (ps : List Piece) (cut : AreCut (p ∷ ps)) where
+  first_piece : IsPiece p
+  first_piece = All-head IsPiece p ps cut.pieces
+
+  first_shares : All (ShareCorners p) ps
+  first_shares k d l = cut.share 0 (suc k) d (omega arith) (omega arith)
+
+  other_pieces : AreCut ps
+  other_pieces = record {
+    pieces = All-tail IsPiece p ps cut.pieces;
+    share = λ i j d l k. cut.share (suc i) (suc j) d (omega arith) (omega arith);
+  }
 
 -- The mesh of each piece is in the mesh that was cut.
 abbrev IsIn : Net → Net → Type 0
@@ -159,21 +170,30 @@ meet_rest whole manifold p ps piece others share within once k d l =
 cut_world :
     (whole : Net) → IsOrientedManifold whole → (ps : List Piece) → AreCut ps →
     IsIn (cut_mesh ps) whole → NoSideTwice (cut_mesh ps) → IsWorld (map tile_of ps)
-cut_world whole manifold [] cut within once = tt
-cut_world whole manifold (p ∷ ps) (piece, share, cut) within once =
+cut_world whole manifold [] cut within once =
+    record { tiles = All-nil IsTile; meet = λ i j d l k. absurd (omega arith) }
+cut_world whole manifold (p ∷ ps) cut within once =
     let both = sums (piece_mesh p) (cut_mesh ps) in
-    let meets = meet_rest whole manifold p ps piece (pieces ps cut) share within once in
+    let piece = first_piece p ps cut in
+    let left = other_pieces p ps cut in
+    let meets = meet_rest whole manifold p ps piece left.pieces (first_shares p ps cut) within once in
     let others =
-    cut_world whole manifold ps cut (λ v x y f. within v x y (both.right v x y f))
-    (both.once_right once) in
-    (is_tile p piece, All-map (MeetOnBorders (tile_of p)) tile_of ps meets, others)
+        cut_world whole manifold ps left (λ v x y f. within v x y (both.right v x y f))
+        (both.once_right once) in
+    let all = All-map (MeetOnBorders (tile_of p)) tile_of ps meets in
+    record {
+      tiles = All-cons IsTile (tile_of p) (map tile_of ps) (is_tile p piece) others.tiles;
+      meet = AllPairs-cons MeetOnBorders (tile_of p) (map tile_of ps) all others.meet;
+    }
 
 cut_alike : (ps : List Piece) → AreCut ps → AreAlike (cut_mesh ps) (leaf_world (map tile_of ps))
 cut_alike [] cut = itself no_faces
-cut_alike (p ∷ ps) (piece, meet, cut) =
+cut_alike (p ∷ ps) cut =
+    let rest = cut_alike ps (other_pieces p ps cut) in
+    let here = piece_alike p (first_piece p ps cut) in
     then _ _ _
-    (beside_first (cut_mesh ps) (piece_mesh p) (leaf_tile (tile_of p)) (piece_alike p piece))
-    (beside (leaf_tile (tile_of p)) (cut_mesh ps) (leaf_world (map tile_of ps)) (cut_alike ps cut))
+    (beside_first (cut_mesh ps) (piece_mesh p) (leaf_tile (tile_of p)) here)
+    (beside (leaf_tile (tile_of p)) (cut_mesh ps) (leaf_world (map tile_of ps)) rest)
 
 cut_becomes :
     (ps : List Piece) → AreCut ps → (T : ℕ → ℕ → Bool) → AreClosed (map tile_of ps) T →

@@ -2,3 +2,4 @@ pub mod Tiles
 pub mod Worlds
 pub mod RunMeshes
 pub mod Cuts
+pub mod Names

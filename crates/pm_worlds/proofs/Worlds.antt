@@ -38,20 +38,34 @@ shown_node t tile T closed x (e, s, at) =
 unused : (v : ℕ) → IsUsed no_faces v → ⊥
 unused v (e, s, at) = let l = s.is_side in absurd (omega arith)
 
+-- The first tile of a world, and the others.
+module _ (t : Tile) (ts : List Tile) (world : IsWorld (t ∷ ts)) where
+  first_tile : IsTile t
+  first_tile = All-head IsTile t ts world.tiles
+
+  first_meets : All (MeetOnBorders t) ts
+  first_meets k d l = world.meet 0 (suc k) d (omega arith) (omega arith)
+
+  other_tiles : IsWorld ts
+  other_tiles = record {
+    tiles = All-tail IsTile t ts world.tiles;
+    meet = λ i j d l k. world.meet (suc i) (suc j) d (omega arith) (omega arith);
+  }
+
 -- The other tiles touch a tile on its border.
 meets_world :
     (t : Tile) (ts : List Tile) → All (MeetOnBorders t) ts → IsWorld ts →
     (T : ℕ → ℕ → Bool) → AreClosed ts T →
     TouchesOnBorder (shown_world ts T) t
 meets_world t [] apart world T closed v l used = absurd (unused (t.vertex v) used)
-meets_world t (u ∷ us) apart (tile, others, world) T (closed, rest) v l used =
+meets_world t (u ∷ us) apart world T (closed, rest) v l used =
     elim (used_in (shown_tile u (T 0)) (shown_world us (λ i. T (suc i))) (t.vertex v) used) [
       | inl here ↦
-          let (w, k, is) = shown_node u tile (T 0) closed (t.vertex v) here in
+          let (w, k, is) = shown_node u (first_tile u us world) (T 0) closed (t.vertex v) here in
           (All-head (MeetOnBorders t) u us apart v w l k (sym is)).0
       | inr there ↦
           let others = All-tail (MeetOnBorders t) u us apart in
-          meets_world t us others world (λ i. T (suc i)) rest v l there
+          meets_world t us others (other_tiles u us world) (λ i. T (suc i)) rest v l there
     ]
 
 touches_both :
@@ -113,13 +127,16 @@ all_over :
     (S T : ℕ → ℕ → Bool) → AreClosed ts S → AreClosed ts T →
     Becomes (together done (shown_world ts S)) (together done (shown_world ts T))
 all_over done [] world touches S T from until = alike_becomes _ _ (itself (together done no_faces))
-all_over done (t ∷ ts) (tile, meet, world) touches S T (first, from) (second, until) =
+all_over done (t ∷ ts) world touches S T (first, from) (second, until) =
+    let tile = first_tile t ts world in
+    let meet = first_meets t ts world in
+    let left = other_tiles t ts world in
     let old = shown_tile t (S 0) in
     let new = shown_tile t (T 0) in
     let rest = shown_world ts (λ i. S (suc i)) in
     let others = shown_world ts (λ i. T (suc i)) in
     let here = All-head (TouchesOnBorder done) t ts touches in
-    let there = meets_world t ts meet world (λ i. S (suc i)) from in
+    let there = meets_world t ts meet left (λ i. S (suc i)) from in
     let beside = touches_both done rest t here there in
     let back = then _ _ _ (pulled_out new done rest) (from_left done new rest) in
     let others_touch = All-tail (TouchesOnBorder done) t ts touches in
@@ -127,7 +144,7 @@ all_over done (t ∷ ts) (tile, meet, world) touches S T (first, from) (second, 
     and_then _ _ _ (alike_becomes _ _ (pulled_out done old rest))
     (and_then _ _ _ (gone_over t tile (S 0) (T 0) first second (together done rest) beside)
     (and_then _ _ _ (alike_becomes _ _ back)
-    (and_then _ _ _ (all_over (together done new) ts world all_touch _ _ from until)
+    (and_then _ _ _ (all_over (together done new) ts left all_touch _ _ from until)
     (alike_becomes _ _ (from_right done new others)))))
 
 untouched : (ts : List Tile) → All (TouchesOnBorder no_faces) ts

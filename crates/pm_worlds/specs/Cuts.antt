@@ -1,7 +1,7 @@
 -- Meshes cut in pieces. A run from each piece leaves the piece's border alone, and its hierarchy is
 -- a tile.
 use Rattle.std.specs.Prelude.{◌≡◌, ℕ, ◌<◌, List, [], ◌∷◌}
-use Rattle.std.specs.List.{All}
+use Rattle.std.specs.List.{All, AllPairs}
 use Rattle.pm_base.specs.Meshes.{Mesh}
 use Rattle.pm_base.specs.Sides.{Net, net_of}
 use Rattle.pm_base.specs.Fans.{IsUsed}
@@ -65,6 +65,6 @@ ShareCorners p q =
     p.vertex v ≡ q.vertex w → IsCornerNode p v × IsCornerNode q w
 
 -- Each is a piece, and they share no other vertices than those of the cut mesh.
-abbrev pub AreCut : List Piece → Type 0
-AreCut [] = Unit {0}
-AreCut (p ∷ ps) = IsPiece p × All (ShareCorners p) ps × AreCut ps
+pub record AreCut (ps : List Piece) : Type 0 where
+  pub pieces : All IsPiece ps
+  pub share : AllPairs ShareCorners ps

@@ -1,8 +1,10 @@
 -- The laws of worlds, each as a statement.
 use Rattle.std.specs.Prelude.{ℕ, Bool, List, map}
+use Rattle.std.specs.List.{All, AllZip}
 use Rattle.pm_base.specs.Fans.{IsOrientedManifold}
 use Rattle.pm_seams.specs.Joined.{HaveSameBorder}
 use Rattle.pm_worlds.specs.Cuts.{Piece, tile_of, cut_mesh, AreCut}
+use Rattle.pm_worlds.specs.Names.{IsPieceAtCorners, HasSameCorners}
 use Rattle.pm_worlds.specs.Worlds.{Tile, IsWorld, leaf_world, shown_world, AreClosed}
 
 -- Where the leaf meshes of a world are together an oriented manifold, so is what its tiles show,
@@ -39,3 +41,10 @@ CutMeshesKeepBorders =
     (ps : List Piece) → AreCut ps → IsOrientedManifold (cut_mesh ps) →
     let ts = map tile_of ps in
     (T : ℕ → ℕ → Bool) → AreClosed ts T → HaveSameBorder (cut_mesh ps) (shown_world ts T)
+
+-- For any runs that leave the borders of their pieces alone the other nodes can be named. So only
+-- the vertices of the cut mesh have to be told.
+abbrev pub NodesCanBeNamed : Type 0
+NodesCanBeNamed =
+    (most : ℕ) (ps : List Piece) → All (IsPieceAtCorners most) ps →
+    (qs : List Piece) × AreCut qs × AllZip HasSameCorners ps qs

@@ -1,3 +1,4 @@
 pub mod Worlds
 pub mod Cuts
+pub mod Names
 pub mod Laws

@@ -1,6 +1,6 @@
 -- Worlds: tiles that share the vertices of their borders, and what they show together.
 use Rattle.std.specs.Prelude.{◌≡◌, ℕ, suc, ◌<◌, Bool, List, [], ◌∷◌}
-use Rattle.std.specs.List.{All}
+use Rattle.std.specs.List.{All, AllPairs}
 use Rattle.pm_base.specs.Sides.{Net, IsBorder}
 use Rattle.pm_forest.specs.Forest.{Hierarchy, node_count}
 use Rattle.pm_forest.specs.Tables.{leaf_node_of}
@@ -36,9 +36,9 @@ MeetOnBorders s t =
     s.vertex v ≡ t.vertex w → IsBorderNode s.hierarchy v × IsBorderNode t.hierarchy w
 
 -- Each is a tile, and any two meet on their borders alone.
-abbrev pub IsWorld : List Tile → Type 0
-IsWorld [] = Unit {0}
-IsWorld (t ∷ ts) = IsTile t × All (MeetOnBorders t) ts × IsWorld ts
+pub record IsWorld (ts : List Tile) : Type 0 where
+  pub tiles : All IsTile ts
+  pub meet : AllPairs MeetOnBorders ts
 
 -- The leaf mesh of a tile, and the mesh that the tile shows where the records of T are split, each
 -- with the world's vertices.

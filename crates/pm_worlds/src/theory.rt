@@ -5,6 +5,7 @@ ghost use Rattle.pm_worlds.specs.Laws.{
   WorldsStaySurfaces,
   CutMeshesAreShown,
   CutMeshesKeepBorders,
+  NodesCanBeNamed,
 };
 
 /// States the laws of worlds. It does nothing, and callers cite its clauses.
@@ -19,4 +20,5 @@ pub fn worlds_are_sound()
 pub fn cut_meshes_are_sound()
     ensures surfaces { CutMeshesAreShown }
     ensures borders { CutMeshesKeepBorders }
+    ensures names { NodesCanBeNamed }
 {}
