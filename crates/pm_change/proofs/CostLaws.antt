@@ -15,7 +15,7 @@ use Rattle.pm_change.specs.Gathering.{AreSetsOf, sizes_of}
 use Rattle.pm_change.specs.declared.sets.ChangeSets.{ChangeSets}
 use Rattle.pm_change.proofs.Counting.{length-map}
 use Rattle.pm_change.proofs.Sizes.{nodes_few, faces_few}
-use Rattle.pm_change.proofs.SameLaws.{puts_few}
+use Rattle.pm_change.proofs.NewLaws.{puts_few}
 use Rattle.pm_change.proofs.TellLaws.{just_size}
 
 module _ (h : Hierarchy) (shape : HasShape h) (S G : ℕ → Bool) (before : IsFront h S)

@@ -21,7 +21,7 @@ use Rattle.pm_change.specs.Laws.{is_new_corner, new_corners}
 use Rattle.pm_change.specs.Gathering.{is_face_in}
 use Rattle.pm_change.proofs.ChangeLaws.{puts}
 use Rattle.pm_change.proofs.Counting.{count_apart}
-use Rattle.pm_change.proofs.SameLaws.{put_corner, new_listed}
+use Rattle.pm_change.proofs.NewLaws.{put_corner, new_listed}
 use Rattle.pm_change.proofs.TellLaws.{count_up}
 use Rattle.pm_change.proofs.TestLaws.{corner_node}
 
