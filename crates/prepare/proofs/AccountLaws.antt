@@ -1,5 +1,5 @@
 -- The numbers that are said of a mesh account for each vertex and triangle of its text.
-use Rattle.std.proofs.Common.{◌≡◌, ℕ, List, length, sym, ap, subst, arith}
+use Rattle.std.proofs.Common.{◌≡◌, length, sym, subst, arith}
 use Rattle.std.specs.List.{All}
 use Rattle.obj_prepare.specs.Named.{AreVerticesBelow, of_three}
 use Rattle.obj_prepare.proofs.AccountLaws.{accounts_close}

@@ -25,7 +25,7 @@ use Rattle.prepare.specs.declared.fault.Fault.{Fault}
 use Rattle.prepare.specs.declared.fault.Fault.TheVariants as faults
 use Rattle.prepare.specs.declared.fault.InputFail.{InputFail}
 use Rattle.prepare.specs.declared.fault.InputFail.TheVariants as input
-use Rattle.prepare.specs.Outcome.{Done, MakesPrepared, fit_in, places_in, counts_of, warning_for, warning_in, IsPreparedText, LeavesNoFace, bad_line, too_many, no_face, made}
+use Rattle.prepare.specs.Outcome.{Done, MakesPrepared, fit_in, places_in, counts_of, warning_for, warning_in, IsPreparedText, bad_line, too_many, no_face, made}
 use Rattle.prepare.specs.Making.{IsMakeFail}
 use Rattle.prepare.specs.Ending.{HasPreparedFault, PlaceUnreached, StopsPreparing}
 
