@@ -81,6 +81,12 @@ def place_of(fit: Optional[Fit], point: Point) -> Point:
     return (x // UNITS, y // UNITS, z // UNITS) if fit is None else fit.place(point)
 
 
+def is_thin(a: Point, b: Point, c: Point) -> bool:
+    """The three points are on a line: the parallelogram over them has no area on any axis."""
+    (ux, uy, uz), (vx, vy, vz) = [tuple(q - p for p, q in zip(a, end)) for end in (b, c)]
+    return uy * vz == uz * vy and uz * vx == ux * vz and ux * vy == uy * vx
+
+
 def joined(places: Dict[int, Point]) -> Dict[int, int]:
     """The vertex that stands for each: the first at the same place."""
     return {v: min(u for u in places if places[u] == places[v]) for v in places}
@@ -186,6 +192,7 @@ def prepared(soup: Soup, size: Optional[int]) -> Prepared:
         ("vertices split off", len(fans) - len(used)),
         ("vertices that no face has", len(soup.points) - len(named)),
         ("vertices whose faces all went", len({names[v] for v in named} - used)),
+        ("faces without area", sum(is_thin(points[a], points[b], points[c]) for a, b, c in corners)),
     ]
     account = Account(len(soup.points), len(points), len(soup.faces), len(corners))
     warning = ""

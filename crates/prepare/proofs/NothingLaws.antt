@@ -105,12 +105,13 @@ pub no_account : (c : Counts) → c.vertices_in ≡ c.vertices_out → c.triangl
 unfolding account_line
 no_account c vertices triangles = rw (eq-eqb c.vertices_in c.vertices_out vertices, eq-eqb c.triangles_in c.triangles_out triangles) refl
 
--- Only polygons that were cut are told.
-pub nothing_said : (c : Counts) (fit : Fit) → account_line c ≡ [] → c.twice ≡ 0 → notes_text c nothing_done fit None ≡ note_line (codes "polygons cut") c.polygons ++ last_note fit
+-- Only polygons that were cut and faces without area are told.
+pub nothing_said : (c : Counts) (fit : Fit) → account_line c ≡ [] → c.twice ≡ 0 → notes_text c nothing_done fit None ≡ note_line (codes "polygons cut") c.polygons ++ note_line (codes "faces without area") c.thin ++ last_note fit
 unfolding notes_text face_notes vertex_notes note_line warning_line
 nothing_said c fit same none =
     let line = note_line (codes "polygons cut") c.polygons in
-    rw (same, none) (append-nil ((line ++ [] ++ [] ++ [] ++ [] ++ []) ++ last_note fit) ∙ ap (λ (l : List ℕ). l ++ last_note fit) (five_ends line))
+    let thin = note_line (codes "faces without area") c.thin in
+    rw (same, none) (append-nil (((line ++ [] ++ [] ++ [] ++ [] ++ []) ++ thin) ++ last_note fit) ∙ ap (λ (l : List ℕ). (l ++ thin) ++ last_note fit) (five_ends line))
 
 -- Where no triangle became an edge nothing is warned of.
 pub no_warning : (fit : Fit) (points : List Place) (triangles : List Corners) → 0 < length triangles → warning_for fit points triangles 0 ≡ None

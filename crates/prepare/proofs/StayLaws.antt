@@ -1,5 +1,5 @@
 -- A text that needs nothing comes back as it is.
-use Rattle.std.proofs.Common.{◌≡◌, ℕ, ◌-◌, ◌<◌, List, length, map, Option, None, Some, IfSome, Result, Ok, refl, sym, ap, ◌∙◌, subst, arith}
+use Rattle.std.proofs.Common.{◌≡◌, ℕ, ◌-◌, ◌<◌, List, ◌++◌, length, map, Option, None, Some, IfSome, Result, Ok, refl, sym, ap, ◌∙◌, subst, arith}
 use Rattle.std.specs.List.{All}
 use Rattle.std.proofs.lemmas.List.{length-map}
 use Rattle.pm_base.specs.Place.{Place, IsPlace}
@@ -28,6 +28,8 @@ use Rattle.obj_prepare.proofs.PieceLaws.{split_formed}
 use Rattle.obj_prepare.proofs.PlacingLaws.{length-places_of}
 use Rattle.obj_prepare.proofs.ThreeLaws.{three_of_manifold, three_of_mesh}
 use Rattle.prepare.specs.declared.fault.Fault.{Fault}
+use Rattle.std.specs.Prelude.{codes}
+use Rattle.prepare.specs.Thin.{thin_count}
 use Rattle.prepare.specs.Texts.{output_text, note_line, last_note, notes_text}
 use Rattle.prepare.specs.Outcome.{Done, MakesPrepared, fit_in, places_in, counts_of, IsPreparedText, made}
 use Rattle.prepare.specs.Ending.{Finished}
@@ -76,13 +78,13 @@ fit_scans_stay size bytes s means needs = made s (as_it_is size s) means (stays_
 
 -- A mesh on the grid all of whose vertices are used stands as it is.
 stands_as_it_is : (m : Mesh) → of_three m.faces ≡ m.faces → All IsPlace m.points → ((v : ℕ) → v < length m.points → IsUsed (net_of m.faces) v)
-    → as_it_is None (scanned_mesh m) ≡ record { text = output_text fits.Standing m; notes = last_note fits.Standing }
+    → as_it_is None (scanned_mesh m) ≡ record { text = output_text fits.Standing m; notes = note_line (codes "faces without area") (thin_count m.points m.faces) ++ last_note fits.Standing }
 unfolding note_line
 stands_as_it_is m three placed used =
     let points = map scaled_up m.points in
     let fit = ap (fit_of None points) three ∙ standing_fit m.points m.faces placed in
     let places = ap (prepared_places_of None points) three ∙ standing_places m.points m.faces placed used in
-    λ i. record { text = output_text (fit i) (record { points = places i; faces = m.faces }); notes = last_note (fit i) }
+    λ i. record { text = output_text (fit i) (record { points = places i; faces = m.faces }); notes = note_line (codes "faces without area") (thin_count (places i) m.faces) ++ last_note (fit i) }
 
 pub fit_texts_stay : FitTextsStay
 fit_texts_stay bytes m formed_so read some manifold fit =

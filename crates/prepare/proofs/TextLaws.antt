@@ -39,7 +39,7 @@ added_four t0 t1 t2 t3 t4 a b c d one two three four = added_two t0 t3 t4 ((a ++
 pub added_five : (t0 t1 t2 t3 t4 t5 a b c d e : List ℕ) → t1 ≡ t0 ++ a → t2 ≡ t1 ++ b → t3 ≡ t2 ++ c → t4 ≡ t3 ++ d → t5 ≡ t4 ++ e → t5 ≡ t0 ++ ((((a ++ b) ++ c) ++ d) ++ e)
 added_five t0 t1 t2 t3 t4 t5 a b c d e one two three four five = added_two t0 t4 t5 (((a ++ b) ++ c) ++ d) e (added_four t0 t1 t2 t3 t4 a b c d one two three four) five
 
-added_six : (t0 t1 t2 t3 t4 t5 t6 a b c d e f : List ℕ) → t1 ≡ t0 ++ a → t2 ≡ t1 ++ b → t3 ≡ t2 ++ c → t4 ≡ t3 ++ d → t5 ≡ t4 ++ e → t6 ≡ t5 ++ f → t6 ≡ t0 ++ (((((a ++ b) ++ c) ++ d) ++ e) ++ f)
+pub added_six : (t0 t1 t2 t3 t4 t5 t6 a b c d e f : List ℕ) → t1 ≡ t0 ++ a → t2 ≡ t1 ++ b → t3 ≡ t2 ++ c → t4 ≡ t3 ++ d → t5 ≡ t4 ++ e → t6 ≡ t5 ++ f → t6 ≡ t0 ++ (((((a ++ b) ++ c) ++ d) ++ e) ++ f)
 added_six t0 t1 t2 t3 t4 t5 t6 a b c d e f one two three four five six =
     added_two t0 t5 t6 ((((a ++ b) ++ c) ++ d) ++ e) f (added_five t0 t1 t2 t3 t4 t5 a b c d e one two three four five) six
 

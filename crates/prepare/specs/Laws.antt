@@ -23,6 +23,7 @@ use Rattle.obj_prepare.specs.Back.{WayBack, LeadsNear, StandsAt}
 use Rattle.obj_prepare.specs.Prepared.{IsPreparedWith}
 use Rattle.obj_prepare.specs.Laws.{AreFit}
 use Rattle.prepare.specs.declared.fault.Fault.{Fault}
+use Rattle.prepare.specs.Thin.{thin_count}
 use Rattle.prepare.specs.Texts.{output_text, note_line, notes_text, last_note}
 use Rattle.prepare.specs.Outcome.{Done, MakesPrepared, IsPreparedText, fit_in, places_in, counts_of}
 
@@ -109,11 +110,11 @@ pub record ComesBack (text : List ℕ) (m : Mesh) : Type 0 where
 abbrev pub TextsComeBack : Type 0
 TextsComeBack = (size : Option ℕ) (bytes : List ℕ) (done : Done) (place : Option ℕ) (m : Mesh) → IsSize size → IsPreparedText size bytes (Ok done) place → meaning_of 0 done.text ≡ Ok m → ComesBack done.text m
 
--- The text of an oriented manifold with faces whose vertices are used and stand apart comes back with nothing said of it, where
--- its lines are well formed.
+-- The text of an oriented manifold with faces whose vertices are used and stand apart comes back with nothing said of it but
+-- faces without area, where its lines are well formed.
 abbrev pub FitTextsStay : Type 0
 FitTextsStay = (bytes : List ℕ) (m : Mesh) → IsFormed bytes → meaning_of 0 bytes ≡ Ok m → 0 < length m.faces → IsOrientedManifold (net_of m.faces) → AreFit m.points m.faces
-    → IsPreparedText None bytes (Ok (record { text = output_text fits.Standing m; notes = last_note fits.Standing })) None
+    → IsPreparedText None bytes (Ok (record { text = output_text fits.Standing m; notes = note_line (codes "faces without area") (thin_count m.points m.faces) ++ last_note fits.Standing })) None
 
 -- A text that needs nothing: it has triangles, each of which has three different corners, the triangles are an oriented manifold, each point is
 -- used, and no two come to stand at one place of the grid.
@@ -123,11 +124,12 @@ pub record NeedsNothing (size : Option ℕ) (s : Scanned) : Type 0 where
   pub manifold : IsOrientedManifold (net_of s.faces)
   pub fit : AreFit (places_in size s) s.faces
 
--- The output and the notes of these triangles over the places of these points: polygons that were cut, and the last line.
+-- The output and the notes of these triangles over the places of these points: polygons that were cut, faces without area,
+-- and how places lead back.
 abbrev pub as_it_is : Option ℕ → Scanned → Done
 as_it_is size s = record {
   text = output_text (fit_in size s) (record { points = places_in size s; faces = s.faces });
-  notes = note_line (codes "polygons cut") s.polygons ++ last_note (fit_in size s);
+  notes = note_line (codes "polygons cut") s.polygons ++ note_line (codes "faces without area") (thin_count (places_in size s) s.faces) ++ last_note (fit_in size s);
 }
 
 -- A text that needs nothing comes back as it is, for each size and for none.

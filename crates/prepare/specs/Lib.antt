@@ -1,4 +1,5 @@
 pub mod Words
+pub mod Thin
 pub mod Texts
 pub mod Outcome
 pub mod Making

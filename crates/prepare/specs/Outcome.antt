@@ -19,6 +19,7 @@ use Rattle.obj_prepare.specs.Prepared.{IsPrepared, IsPreparedWith, HasTooMany}
 use Rattle.prepare.specs.declared.counts.Counts.{Counts}
 use Rattle.prepare.specs.declared.fault.Fault.{Fault}
 use Rattle.prepare.specs.declared.fault.Fault.TheVariants as faults
+use Rattle.prepare.specs.Thin.{thin_count}
 use Rattle.prepare.specs.Texts.{output_text, notes_text}
 
 -- The text that is written, and the one that is said beside it.
@@ -34,7 +35,8 @@ fit_in size s = fit_of size s.points (of_three s.faces)
 abbrev pub places_in : Option ℕ → Scanned → List Place
 places_in size s = prepared_places_of size s.points (of_three s.faces)
 
--- How many vertices and triangles there were, and came out; how many polygons were cut; and how many faces name a vertex twice.
+-- How many vertices and triangles there were, and came out; how many polygons were cut; how many faces name a vertex twice;
+-- and how many came out without area.
 abbrev pub counts_of : Scanned → Mesh → Counts
 counts_of s m = record {
   vertices_in = length s.points;
@@ -43,6 +45,7 @@ counts_of s m = record {
   triangles_out = length m.faces;
   polygons = s.polygons;
   twice = length s.faces - length (of_three s.faces);
+  thin = thin_count m.points m.faces;
 }
 
 -- The longest axis of the box, where points are scaled by it and a tenth of the triangles or more became edges.

@@ -90,4 +90,5 @@ warning_line (Some l) = codes "prepare: a tenth of the triangles or more became 
 -- What is said of the work: how much came out, a line for each kind of change that was made, how places lead back, and the
 -- warning, if any.
 unfoldable pub notes_text : Counts → Notes → Fit → Option LongestAxis → List ℕ
-notes_text c notes fit warning = account_line c ++ face_notes c notes ++ vertex_notes notes ++ last_note fit ++ warning_line warning
+notes_text c notes fit warning =
+    account_line c ++ face_notes c notes ++ vertex_notes notes ++ note_line (codes "faces without area") c.thin ++ last_note fit ++ warning_line warning

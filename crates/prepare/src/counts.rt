@@ -1,12 +1,13 @@
 //! How much a text had, and how much came out.
 ghost use Rattle.std.specs.Prelude.{◌≡◌, ◌≤◌, length};
-ghost use Rattle.pm_base.specs.declared.limits.TheConstants.{MOST_FACES, MOST_VERTICES};
-ghost use Rattle.pm_base.specs.Meshes.{mesh_of};
+ghost use Rattle.pm_base.specs.declared.limits.TheConstants.{MOST_FACES};
+ghost use Rattle.pm_base.specs.Meshes.{IsWellFormed, mesh_of};
 ghost use Rattle.obj_prepare.specs.Named.{of_three};
 ghost use Rattle.obj_scan.specs.Fails.{scanned_of};
 ghost use Rattle.obj_scan.specs.Meaning.{IsWithinLimits};
 ghost use Rattle.prepare.specs.Outcome.{counts_of};
 
+use crate::thin::count_thin;
 use obj_scan::Scan;
 use pm_base::{Corners, Mesh};
 
@@ -21,6 +22,8 @@ pub struct Counts {
     pub polygons: u32,
     /// Triangles that name a vertex twice.
     pub twice: u32,
+    /// Faces that came out without area.
+    pub thin: u32,
 }
 
 /// The counts of a text, of whose triangles these name three vertices, and of the mesh that came out.
@@ -28,8 +31,7 @@ pub fn counts_of(scan: &Scan, three: &[Corners], mesh: &Mesh) -> Counts
     requires within { IsWithinLimits (scanned_of scan.now) }
     requires three { three.now ≡ of_three scan.now.faces.items }
     requires few { length three.now ≤ MOST_FACES }
-    requires vertices { length mesh.now.points.items ≤ MOST_VERTICES }
-    requires faces { length mesh.now.faces.items ≤ MOST_FACES }
+    requires formed { IsWellFormed (mesh_of mesh.now) }
     ensures { result ≡ counts_of (scanned_of scan.now) (mesh_of mesh.now) }
 {
     Counts {
@@ -39,5 +41,6 @@ pub fn counts_of(scan: &Scan, three: &[Corners], mesh: &Mesh) -> Counts
         triangles_out: mesh.faces.len() as u32,
         polygons: scan.polygons,
         twice: (scan.faces.len() as u32).saturating_sub(three.len() as u32),
+        thin: count_thin(mesh.points.as_slice(), mesh.faces.as_slice()),
     }
 }

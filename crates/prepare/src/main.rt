@@ -10,6 +10,7 @@ mod outcomes;
 mod run;
 mod say;
 mod text;
+mod thin;
 mod warning;
 mod words;
 

@@ -221,6 +221,7 @@ fn add_notes(
     add_account(text, counts)?;
     add_face_notes(text, counts, notes)?;
     add_vertex_notes(text, notes)?;
+    add_note(text, b"faces without area", counts.thin)?;
     add_last(text, fit)?;
     add_warning(text, warning)?;
     Ok(())
