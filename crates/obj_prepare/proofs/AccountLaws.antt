@@ -26,37 +26,116 @@ and_false true = refl
 and_false false = refl
 
 -- Those that pass, parted by another test.
-count_parted : (p q : ℕ → Bool) (n : ℕ) → count (λ v. p v && q v) n + count (λ v. p v && not (q v)) n ≡ count p n
-count_parted p q zero = omega (arith, count-zero p, count-zero (λ v. p v && q v), count-zero (λ v. p v && not (q v)))
+count_parted : (p q : ℕ → Bool) (n : ℕ)
+    → count (λ v. p v && q v) n + count (λ v. p v && not (q v)) n ≡ count p n
+count_parted p q zero = omega (
+  arith,
+  count-zero p,
+  count-zero (λ v. p v && q v),
+  count-zero (λ v. p v && not (q v)),
+)
 count_parted p q (suc n) =
     let rest = count_parted p q n in
     elim (cases_Bool (p n)) [
       | inl t ↦
           elim (cases_Bool (q n)) [
-            | inl u ↦ omega (arith, rest, count-true p n t, count-true (λ v. p v && q v) n (and_from _ _ t u), count-false (λ v. p v && not (q v)) n (rw (t, u) refl))
-            | inr f ↦ omega (arith, rest, count-true p n t, count-false (λ v. p v && q v) n (rw (t, f) refl), count-true (λ v. p v && not (q v)) n (rw (t, f) refl))
+            | inl u ↦ omega (
+              arith,
+              rest,
+              count-true p n t,
+              count-true (λ v. p v && q v) n (and_from _ _ t u),
+              count-false (λ v. p v && not (q v)) n (rw (t, u) refl),
+            )
+            | inr f ↦ omega (
+              arith,
+              rest,
+              count-true p n t,
+              count-false (λ v. p v && q v) n (rw (t, f) refl),
+              count-true (λ v. p v && not (q v)) n (rw (t, f) refl),
+            )
           ]
-      | inr f ↦ omega (arith, rest, count-false p n f, count-false (λ v. p v && q v) n (rw f refl), count-false (λ v. p v && not (q v)) n (rw f refl))
+      | inr f ↦ omega (
+        arith,
+        rest,
+        count-false p n f,
+        count-false (λ v. p v && q v) n (rw f refl),
+        count-false (λ v. p v && not (q v)) n (rw f refl),
+      )
     ]
 
 -- No more numbers pass than a list has elements, where each of them is one.
 
-count_either : (p q r : ℕ → Bool) (n : ℕ) → ((v : ℕ) → v < n → p v ≡ true → (q v || r v) ≡ true) → count p n ≤ count q n + count r n
+count_either : (p q r : ℕ → Bool) (n : ℕ) → ((v : ℕ) → v < n → p v ≡ true → (q v || r v) ≡ true)
+    → count p n ≤ count q n + count r n
 count_either p q r zero each = omega (arith, count-zero p)
 count_either p q r (suc n) each =
     let rest = count_either p q r n (λ v l. each v (omega (arith, l))) in
     elim (cases_Bool (p n)) [
       | inr f ↦
           elim (cases_Bool (q n)) [
-            | inl t ↦ elim (cases_Bool (r n)) [ inl u ↦ omega (arith, rest, count-false p n f, count-true q n t, count-true r n u) | inr u ↦ omega (arith, rest, count-false p n f, count-true q n t, count-false r n u) ]
-            | inr t ↦ elim (cases_Bool (r n)) [ inl u ↦ omega (arith, rest, count-false p n f, count-false q n t, count-true r n u) | inr u ↦ omega (arith, rest, count-false p n f, count-false q n t, count-false r n u) ]
+            | inl t ↦ elim
+                (cases_Bool (r n)) [
+                  | inl u ↦ omega (
+                    arith,
+                    rest,
+                    count-false p n f,
+                    count-true q n t,
+                    count-true r n u,
+                  )
+                  | inr u ↦ omega (
+                    arith,
+                    rest,
+                    count-false p n f,
+                    count-true q n t,
+                    count-false r n u,
+                  )
+                ]
+            | inr t ↦ elim
+                (cases_Bool (r n)) [
+                  | inl u ↦ omega (
+                    arith,
+                    rest,
+                    count-false p n f,
+                    count-false q n t,
+                    count-true r n u,
+                  )
+                  | inr u ↦ omega (
+                    arith,
+                    rest,
+                    count-false p n f,
+                    count-false q n t,
+                    count-false r n u,
+                  )
+                ]
           ]
       | inl s ↦
           elim (cases_Bool (q n)) [
-            | inl t ↦ elim (cases_Bool (r n)) [ inl u ↦ omega (arith, rest, count-true p n s, count-true q n t, count-true r n u) | inr u ↦ omega (arith, rest, count-true p n s, count-true q n t, count-false r n u) ]
+            | inl t ↦ elim
+                (cases_Bool (r n)) [
+                  | inl u ↦ omega (
+                    arith,
+                    rest,
+                    count-true p n s,
+                    count-true q n t,
+                    count-true r n u,
+                  )
+                  | inr u ↦ omega (
+                    arith,
+                    rest,
+                    count-true p n s,
+                    count-true q n t,
+                    count-false r n u,
+                  )
+                ]
             | inr t ↦
                 elim (cases_Bool (r n)) [
-                  | inl u ↦ omega (arith, rest, count-true p n s, count-false q n t, count-true r n u)
+                  | inl u ↦ omega (
+                    arith,
+                    rest,
+                    count-true p n s,
+                    count-false q n t,
+                    count-true r n u,
+                  )
                   | inr u ↦ absurd (true≢false (sym (each n (omega arith) s) ∙ rw (t, u) refl))
                 ]
           ]
@@ -67,14 +146,22 @@ count_none_of x zero most = count-zero (λ v. x == v)
 count_none_of x (suc n) most =
     elim (cases_Bool (x == n)) [
       | inl t ↦ absurd (omega (arith, most, eqb-true x n t))
-      | inr f ↦ omega (arith, count-false (λ v. x == v) n f, count_none_of x n (omega (arith, most)))
+      | inr f ↦ omega (
+        arith,
+        count-false (λ v. x == v) n f,
+        count_none_of x n (omega (arith, most)),
+      )
     ]
 
 count_of_one : (x n : ℕ) → count (λ v. x == v) n ≤ 1
 count_of_one x zero = omega (arith, count-zero (λ v. x == v))
 count_of_one x (suc n) =
     elim (cases_Bool (x == n)) [
-      | inl t ↦ omega (arith, count-true (λ v. x == v) n t, count_none_of x n (omega (arith, eqb-true x n t)))
+      | inl t ↦ omega (
+        arith,
+        count-true (λ v. x == v) n t,
+        count_none_of x n (omega (arith, eqb-true x n t)),
+      )
       | inr f ↦ omega (arith, count-false (λ v. x == v) n f, count_of_one x n)
     ]
 
@@ -89,7 +176,12 @@ none_has (suc n) = omega (arith, count-false (has []) n refl, none_has n)
 count_has : (xs : List ℕ) (n : ℕ) → count (has xs) n ≤ length xs
 unfolding has
 count_has [] n = omega (arith, none_has n)
-count_has (x ∷ xs) n = omega (arith, count_either (has (x ∷ xs)) (λ v. x == v) (has xs) n (λ v l is. is), count_of_one x n, count_has xs n)
+count_has (x ∷ xs) n = omega (
+  arith,
+  count_either (has (x ∷ xs)) (λ v. x == v) (has xs) n (λ v l is. is),
+  count_of_one x n,
+  count_has xs n,
+)
 
 has_at : (xs : List ℕ) (w v : ℕ) → w < length xs → get_or xs w 0 ≡ v → has xs v ≡ true
 unfolding has
@@ -103,19 +195,36 @@ record Begins (fs : List Corners) (v : ℕ) : Type 0 where
   low : side < side_count (net_of fs)
   at : (net_of fs).from side ≡ v
 
-corner_side : (fs : List Corners) (i v : ℕ) → i < length fs → is_corner (face_at fs i) v ≡ true → Begins fs v
+corner_side : (fs : List Corners) (i v : ℕ) → i < length fs → is_corner (face_at fs i) v ≡ true
+    → Begins fs v
 corner_side fs i v l is =
     let f = face_at fs i in
     elim (or_cases (f.a == v || f.b == v) (f.c == v) is) [
       | inl ab ↦
           elim (or_cases (f.a == v) (f.b == v) ab) [
-            | inl a ↦ record { side = 3 * i; low = omega (arith, l); at = (first_side fs i).0 ∙ eqb-true f.a v a }
-            | inr b ↦ record { side = 3 * i + 1; low = omega (arith, l); at = (second_side fs i).0 ∙ eqb-true f.b v b }
+            | inl a ↦ record {
+              side = 3 * i;
+              low = omega (arith, l);
+              at = (first_side fs i).0
+                  ∙ eqb-true f.a v a;
+            }
+            | inr b ↦ record {
+              side = 3 * i + 1;
+              low = omega (arith, l);
+              at = (second_side fs i).0
+                  ∙ eqb-true f.b v b;
+            }
           ]
-      | inr c ↦ record { side = 3 * i + 2; low = omega (arith, l); at = (third_side fs i).0 ∙ eqb-true f.c v c }
+      | inr c ↦ record {
+        side = 3 * i + 2;
+        low = omega (arith, l);
+        at = (third_side fs i).0
+            ∙ eqb-true f.c v c;
+      }
     ]
 
-found_face : (fs : List Corners) (v : ℕ) → is_some_corner fs v ≡ true → (i : ℕ) × (i < length fs) × (is_corner (face_at fs i) v ≡ true)
+found_face : (fs : List Corners) (v : ℕ) → is_some_corner fs v ≡ true
+    → (i : ℕ) × (i < length fs) × (is_corner (face_at fs i) v ≡ true)
 found_face [] v is = absurd (false≢true is)
 found_face (f ∷ fs) v is =
     elim (or_cases (is_corner f v) (is_some_corner fs v) is) [
@@ -128,25 +237,30 @@ begins fs v is = let (i, l, at) = found_face fs v is in corner_side fs i v l at
 
 -- What stays of faces has corners of them.
 
-none_all : (fs : List Corners) (v : ℕ) → is_some_corner fs v ≡ false → All (λ (f : Corners). is_corner f v ≡ false) fs
+none_all : (fs : List Corners) (v : ℕ) → is_some_corner fs v ≡ false
+    → All (λ (f : Corners). is_corner f v ≡ false) fs
 none_all [] v none = All-nil (λ (f : Corners). is_corner f v ≡ false)
 none_all (f ∷ fs) v none =
     let parts = or_parts (is_corner f v) (is_some_corner fs v) none in
     All-cons (λ (f : Corners). is_corner f v ≡ false) f fs parts.0 (none_all fs v parts.1)
 
-all_none : (fs : List Corners) (v : ℕ) → All (λ (f : Corners). is_corner f v ≡ false) fs → is_some_corner fs v ≡ false
+all_none : (fs : List Corners) (v : ℕ) → All (λ (f : Corners). is_corner f v ≡ false) fs
+    → is_some_corner fs v ≡ false
 all_none [] v all = refl
 all_none (f ∷ fs) v all =
     let P : Corners → Type 0 = λ g. is_corner g v ≡ false in
     rw (All-head P f fs all, all_none fs v (All-tail P f fs all)) refl
 
-kept_corner : (fs : List Corners) (v : ℕ) → is_some_corner (kept_after [] fs) v ≡ true → is_some_corner fs v ≡ true
+kept_corner : (fs : List Corners) (v : ℕ) → is_some_corner (kept_after [] fs) v ≡ true
+    → is_some_corner fs v ≡ true
 kept_corner fs v is =
     elim (cases_Bool (is_some_corner fs v)) [
       | inl t ↦ t
       | inr f ↦
           let P : Corners → Type 0 = λ g. is_corner g v ≡ false in
-          absurd (true≢false (sym is ∙ all_none (kept_after [] fs) v (kept_after_all P [] fs (All-nil P) (none_all fs v f))))
+          absurd (true≢false (sym is
+          ∙ all_none (kept_after [] fs) v
+          (kept_after_all P [] fs (All-nil P) (none_all fs v f))))
     ]
 
 module _ (names : List ℕ) where
@@ -157,44 +271,73 @@ module _ (names : List ℕ) where
   abbrev IsNameOf : List Corners → ℕ → Type 0
   IsNameOf fs v = (w : ℕ) × (is_some_corner fs w ≡ true) × (name w ≡ v)
 
-  corner_from : (f : Corners) (fs : List Corners) (v : ℕ) → is_corner (renamed names f) v ≡ true → IsNameOf (f ∷ fs) v
+  corner_from : (f : Corners) (fs : List Corners) (v : ℕ) → is_corner (renamed names f) v ≡ true
+      → IsNameOf (f ∷ fs) v
   corner_from f fs v is =
-      let here : (w : ℕ) → is_corner f w ≡ true → is_some_corner (f ∷ fs) w ≡ true = λ w c. or_left (is_corner f w) (is_some_corner fs w) c in
+      let here : (w : ℕ) → is_corner f w ≡ true
+      → is_some_corner (f ∷ fs) w
+      ≡ true = λ w c. or_left (is_corner f w) (is_some_corner fs w) c in
       elim (or_cases (name f.a == v || name f.b == v) (name f.c == v) is) [
         | inl ab ↦
             elim (or_cases (name f.a == v) (name f.b == v) ab) [
-              | inl a ↦ (f.a, here f.a (or_left (f.a == f.a || f.b == f.a) (f.c == f.a) (or_left (f.a == f.a) (f.b == f.a) (eq-eqb f.a f.a refl))), eqb-true _ _ a)
-              | inr b ↦ (f.b, here f.b (or_left (f.a == f.b || f.b == f.b) (f.c == f.b) (or_right (f.a == f.b) (f.b == f.b) (eq-eqb f.b f.b refl))), eqb-true _ _ b)
+              | inl a ↦ (
+                f.a,
+                here f.a (or_left (f.a == f.a || f.b == f.a) (f.c == f.a)
+                    (or_left (f.a == f.a) (f.b == f.a) (eq-eqb f.a f.a refl))),
+                eqb-true _ _ a,
+              )
+              | inr b ↦ (
+                f.b,
+                here f.b (or_left (f.a == f.b || f.b == f.b) (f.c == f.b)
+                    (or_right (f.a == f.b) (f.b == f.b) (eq-eqb f.b f.b refl))),
+                eqb-true _ _ b,
+              )
             ]
-        | inr c ↦ (f.c, here f.c (or_right (f.a == f.c || f.b == f.c) (f.c == f.c) (eq-eqb f.c f.c refl)), eqb-true _ _ c)
+        | inr c ↦ (
+          f.c,
+          here f.c (or_right (f.a == f.c || f.b == f.c) (f.c == f.c) (eq-eqb f.c f.c refl)),
+          eqb-true _ _ c,
+        )
       ]
 
-  joined_from : (fs : List Corners) (v : ℕ) → is_some_corner (joined_faces names fs) v ≡ true → IsNameOf fs v
+  joined_from : (fs : List Corners) (v : ℕ) → is_some_corner (joined_faces names fs) v ≡ true
+      → IsNameOf fs v
   joined_from [] v is = absurd (false≢true is)
   joined_from (f ∷ fs) v is =
-      elim (or_cases (is_corner (renamed names f) v) (is_some_corner (joined_faces names fs) v) is) [
+      elim (or_cases (is_corner (renamed names f) v)
+      (is_some_corner (joined_faces names fs) v) is) [
         | inl c ↦ corner_from f fs v c
-        | inr more ↦ (let (w, named, at) = joined_from fs v more in (w, or_right (is_corner f w) (is_some_corner fs w) named, at))
+        | inr more ↦ (let (w, named, at) = joined_from fs v more in
+            (w, or_right (is_corner f w) (is_some_corner fs w) named, at))
       ]
 
-module _ (places : List Place) (faces : List Corners) (m : Mesh) (below : All (AreVerticesBelow (length places)) faces) (p : IsPrepared places faces m) where
+module _ (places : List Place) (faces : List Corners) (m : Mesh)
+    (below : All (AreVerticesBelow (length places)) faces) (p : IsPrepared places faces m) where
   abbrev stay : List Corners
   stay = staying p.names faces
 
   -- A vertex of what stays is one that a face names, and stands for itself.
-  stay_is : (v : ℕ) → is_some_corner stay v ≡ true → (is_some_corner faces v ≡ true) × (get_or p.names v 0 ≡ v)
+  stay_is : (v : ℕ) → is_some_corner stay v ≡ true
+      → (is_some_corner faces v ≡ true) × (get_or p.names v 0 ≡ v)
   unfolding kept_of
   stay_is v is =
-      let (w, named, at) = joined_from p.names faces v (kept_corner (joined_faces p.names faces) v is) in
+      let (w, named, at) = joined_from p.names faces v
+      (kept_corner (joined_faces p.names faces) v is) in
       let low = named_low (length places) faces w below named in
       let a = p.joined.each w low named in
-      let own : is_some_corner faces v ≡ true = subst (λ u. is_some_corner faces u ≡ true) at a.named in
+      let own : is_some_corner faces v
+      ≡ true = subst (λ u. is_some_corner faces u ≡ true) at a.named in
       let b = p.joined.each v (named_low (length places) faces v below own) own in
-      let here : place_in_list places v ≡ place_in_list places w = ap (place_in_list places) (sym at) ∙ a.same in (
+      let here : place_in_list places v ≡ place_in_list places w = ap (place_in_list places)
+      (sym at) ∙ a.same in (
         own,
         elim (cases_order (get_or p.names v 0) v) [
           | inl same ↦ same
-          | inr k ↦ elim k [ inl less ↦ absurd (a.least (get_or p.names v 0) (omega (arith, less, at)) b.named (b.same ∙ here)) | inr more ↦ absurd (b.least v more own refl) ]
+          | inr k ↦ elim k [
+            | inl less ↦ absurd
+                (a.least (get_or p.names v 0) (omega (arith, less, at)) b.named (b.same ∙ here))
+            | inr more ↦ absurd (b.least v more own refl)
+          ]
         ],
       )
 
@@ -206,22 +349,27 @@ module _ (places : List Place) (faces : List Corners) (m : Mesh) (below : All (A
         count_has p.old n,
         count_more (is_some_corner stay) (has p.old) n (λ v l is.
             let b = begins stay v is in
-            has_at p.old ((net_of m.faces).from b.side) v (p.split.within b.side b.low) (p.split.back b.side b.low ∙ b.at)),
+            has_at p.old ((net_of m.faces).from b.side) v (p.split.within b.side b.low)
+            (p.split.back b.side b.low ∙ b.at)),
       )
 
   abbrev is_own : ℕ → Bool
   is_own v = get_or p.names v 0 == v
 
   -- Those that stand for themselves and have a face that stays are those that have one.
-  own_stay : count (λ v. (is_some_corner faces v && is_own v) && is_some_corner stay v) (length p.names) ≡ count (is_some_corner stay) (length p.names)
+  own_stay : count (λ v. (is_some_corner faces v && is_own v) && is_some_corner stay v)
+      (length p.names) ≡ count (is_some_corner stay) (length p.names)
   own_stay =
-      count_same (λ v. (is_some_corner faces v && is_own v) && is_some_corner stay v) (is_some_corner stay) (length p.names) (λ v l.
+      count_same (λ v. (is_some_corner faces v && is_own v) && is_some_corner stay v)
+      (is_some_corner stay) (length p.names) (λ v l.
       elim (cases_Bool (is_some_corner stay v)) [
-        | inl t ↦ (let (named, own) = stay_is v t in and_from _ _ (and_from _ _ named (eq-eqb _ _ own)) t ∙ sym t)
+        | inl t ↦ (let (named, own) = stay_is v t in and_from _ _
+            (and_from _ _ named (eq-eqb _ _ own)) t ∙ sym t)
         | inr f ↦ rw f (and_false (is_some_corner faces v && is_own v))
       ])
 
-  pub close : (notes : Notes) → AreNotes places faces p.names p.old notes → DoAccountsClose (length places) (length faces) m notes
+  pub close : (notes : Notes) → AreNotes places faces p.names p.old notes
+      → DoAccountsClose (length places) (length faces) m notes
   unfolding flat_count double_count kept_of joined_count unnamed_count gone_count split_count
   close notes a =
       let n = length p.names in
@@ -232,11 +380,26 @@ module _ (places : List Place) (faces : List Corners) (m : Mesh) (below : All (A
       let own = count_parted (is_some_corner faces) is_own n in
       let there = count_parted (λ v. is_some_corner faces v && is_own v) (is_some_corner stay) n in
       let all = ap (count (λ v. not (is_some_corner faces v))) p.joined.all in
-      let out : length m.points ≡ length p.old = ap length p.stand ∙ length-map p.old (place_in_list places) in
+      let out : length m.points ≡ length p.old = ap length p.stand
+      ∙ length-map p.old (place_in_list places) in
       record {
         triangles_are = omega (arith, a.flat, a.double, kept, joined_long, stay_long);
         split_few = omega (arith, a.split, out);
-        vertices_are = omega (arith, a.unnamed, a.joined, a.gone, a.split, named, own, there, own_stay, stay_few, all, out, p.joined.all);
+        vertices_are = omega (
+          arith,
+          a.unnamed,
+          a.joined,
+          a.gone,
+          a.split,
+          named,
+          own,
+          there,
+          own_stay,
+          stay_few,
+          all,
+          out,
+          p.joined.all,
+        );
       }
 
 pub accounts_close : AccountsClose

@@ -52,19 +52,28 @@ unfolding joined_below
 itself_next flags names v n is f =
     passed (λ v. slice_index_or flags v false && not (slice_index_or names v 0 == v)) v n is (elim (cases_Bool (slice_index_or flags v false)) [ inl t ↦ rw (t, f) refl | inr u ↦ rw u refl ])
 
-pub none_gone : (before : List Bool) (names : List ℕ) (after : List Bool) → 0 ≡ gone_below before names after 0
+pub none_gone : (before : List Bool) (names : List ℕ) (after : List Bool)
+    → 0 ≡ gone_below before names after 0
 unfolding gone_below
-none_gone before names after = sym (count-zero (λ v. slice_index_or before v false && (slice_index_or names v 0 == v) && not (slice_index_or after v false)))
+none_gone before names after = sym
+    (count-zero (λ v. slice_index_or before v false && (slice_index_or names v 0 == v)
+    && not (slice_index_or after v false)))
 
-pub gone_next : (before : List Bool) (names : List ℕ) (after : List Bool) (v n : ℕ) → n ≡ gone_below before names after v
-    → (slice_index_or before v false && (slice_index_or names v 0 == v) && not (slice_index_or after v false)) ≡ true → n + 1 ≡ gone_below before names after (v + 1)
+pub gone_next : (before : List Bool) (names : List ℕ) (after : List Bool) (v n : ℕ)
+    → n ≡ gone_below before names after v
+    → (slice_index_or before v false && (slice_index_or names v 0 == v)
+    && not (slice_index_or after v false)) ≡ true → n + 1 ≡ gone_below before names after (v + 1)
 unfolding gone_below
-gone_next before names after v n is t = counted (λ v. slice_index_or before v false && (slice_index_or names v 0 == v) && not (slice_index_or after v false)) v n is t
+gone_next before names after v n is t = counted (λ v. slice_index_or before v false
+    && (slice_index_or names v 0 == v) && not (slice_index_or after v false)) v n is t
 
-pub there_next : (before : List Bool) (names : List ℕ) (after : List Bool) (v n : ℕ) → n ≡ gone_below before names after v
-    → (slice_index_or before v false && (slice_index_or names v 0 == v) && not (slice_index_or after v false)) ≡ false → n ≡ gone_below before names after (v + 1)
+pub there_next : (before : List Bool) (names : List ℕ) (after : List Bool) (v n : ℕ)
+    → n ≡ gone_below before names after v
+    → (slice_index_or before v false && (slice_index_or names v 0 == v)
+    && not (slice_index_or after v false)) ≡ false → n ≡ gone_below before names after (v + 1)
 unfolding gone_below
-there_next before names after v n is f = passed (λ v. slice_index_or before v false && (slice_index_or names v 0 == v) && not (slice_index_or after v false)) v n is f
+there_next before names after v n is f = passed (λ v. slice_index_or before v false
+    && (slice_index_or names v 0 == v) && not (slice_index_or after v false)) v n is f
 
 -- Those that pass, and those that don't.
 pub count_both : (p : ℕ → Bool) (n : ℕ) → count p n + count (λ v. not (p v)) n ≡ n
@@ -117,18 +126,29 @@ unfolding unnamed_count
 counted_unnamed faces flags lent vertices set n are same set_is is = omega (arith, is, counted_set faces flags lent vertices set are same set_is, count_both (is_some_corner faces) vertices)
 
 gone_named : (fs stay : List Corners) (names : List ℕ) (n : ℕ)
-    → gone_below (named_in fs n) names (named_in stay n) n ≡ count (λ v. is_some_corner fs v && (slice_index_or names v 0 == v) && not (is_some_corner stay v)) n
+    → gone_below (named_in fs n) names (named_in stay n) n
+    ≡ count (λ v. is_some_corner fs v && (slice_index_or names v 0 == v)
+    && not (is_some_corner stay v)) n
 unfolding gone_below
 gone_named fs stay names n =
-    count_same (λ v. slice_index_or (named_in fs n) v false && (slice_index_or names v 0 == v) && not (slice_index_or (named_in stay n) v false))
+    count_same (λ v. slice_index_or (named_in fs n) v false && (slice_index_or names v 0 == v)
+    && not (slice_index_or (named_in stay n) v false))
     (λ v. is_some_corner fs v && (slice_index_or names v 0 == v) && not (is_some_corner stay v)) n
     (λ i l. rw (named_at fs n i l, named_at stay n i l) refl)
 
-pub counted_gone : (faces stay : List Corners) (names again : List ℕ) (before lent after lent_after : List Bool) (vertices n : ℕ) → length names ≡ vertices → stay ≡ staying names faces
-    → before ≡ named_in faces vertices → after ≡ named_in stay vertices → lent ≡ before → again ≡ names → lent_after ≡ after → n ≡ gone_below lent again lent_after (length again) → n ≡ gone_count names faces
+pub counted_gone : (faces stay : List Corners) (names again : List ℕ)
+    (before lent after lent_after : List Bool) (vertices n : ℕ) → length names ≡ vertices
+    → stay ≡ staying names faces
+    → before ≡ named_in faces vertices → after ≡ named_in stay vertices → lent ≡ before
+    → again ≡ names → lent_after ≡ after → n ≡ gone_below lent again lent_after (length again)
+    → n ≡ gone_count names faces
 unfolding gone_count
-counted_gone faces stay names again before lent after lent_after vertices n len stay_is are later same same_names same_after is =
+counted_gone faces stay names again before lent after lent_after vertices n len stay_is are later
+    same same_names same_after is =
     is ∙ ap (λ ns. gone_below lent ns lent_after (length ns)) same_names
-    ∙ ap (λ bs. gone_below bs names lent_after (length names)) (same ∙ are ∙ ap (named_in faces) (sym len))
-    ∙ ap (λ bs. gone_below (named_in faces (length names)) names bs (length names)) (same_after ∙ later ∙ ap (λ (fs : List Corners). named_in fs vertices) stay_is ∙ ap (named_in (staying names faces)) (sym len))
+    ∙ ap (λ bs. gone_below bs names lent_after (length names)) (same ∙ are
+    ∙ ap (named_in faces) (sym len))
+    ∙ ap (λ bs. gone_below (named_in faces (length names)) names bs (length names)) (same_after
+    ∙ later ∙ ap (λ (fs : List Corners). named_in fs vertices) stay_is
+    ∙ ap (named_in (staying names faces)) (sym len))
     ∙ gone_named faces (staying names faces) names (length names)

@@ -10,22 +10,42 @@ module _ (axis : Axis) (n : ℤ) (flags : List Bool) (ps : List Place) (i : ℕ)
   rest : ℕ
   rest = first_at axis n (drop (i + 1) flags) (drop (i + 1) ps)
 
-  cut : (p : Place) → length flags ≡ length ps → i < length ps → p ≡ get_or ps i p → first_at axis n (drop i flags) (drop i ps) ≡ first_at axis n (get_or flags i false ∷ drop (i + 1) flags) (p ∷ drop (i + 1) ps)
+  cut : (p : Place) → length flags ≡ length ps → i < length ps → p ≡ get_or ps i p
+      → first_at axis n (drop i flags) (drop i ps)
+      ≡ first_at axis n (get_or flags i false ∷ drop (i + 1) flags) (p ∷ drop (i + 1) ps)
   cut p same l read =
       ap (λ bs. first_at axis n bs (drop i ps)) (drop_more flags i false (omega (arith, same, l)))
-      ∙ ap (first_at axis n (get_or flags i false ∷ drop (i + 1) flags)) (drop_more ps i p l ∙ ap (λ q. q ∷ drop (i + 1) ps) (sym read))
+      ∙ ap (first_at axis n (get_or flags i false ∷ drop (i + 1) flags)) (drop_more ps i p l
+      ∙ ap (λ q. q ∷ drop (i + 1) ps) (sym read))
 
-  pub first_here : (p : Place) → length flags ≡ length ps → i < length ps → p ≡ get_or ps i p → is_at axis n (get_or flags i false) p ≡ true
-      → first_at axis n flags ps ≡ i + first_at axis n (drop i flags) (drop i ps) → i ≡ first_at axis n flags ps
+  pub first_here : (p : Place) → length flags ≡ length ps → i < length ps → p ≡ get_or ps i p
+      → is_at axis n (get_or flags i false) p ≡ true
+      → first_at axis n flags ps ≡ i + first_at axis n (drop i flags) (drop i ps)
+      → i ≡ first_at axis n flags ps
   unfolding rest
-  first_here p same l read here is = omega (arith, is, cut p same l read ∙ cond-true (is_at axis n (get_or flags i false) p) 0 (1 + rest) here)
+  first_here p same l read here is = omega (
+    arith,
+    is,
+    cut p same l read
+        ∙ cond-true (is_at axis n (get_or flags i false) p) 0 (1 + rest) here,
+  )
 
-  pub first_past : (p : Place) → length flags ≡ length ps → i < length ps → p ≡ get_or ps i p → is_at axis n (get_or flags i false) p ≡ false
-      → first_at axis n flags ps ≡ i + first_at axis n (drop i flags) (drop i ps) → first_at axis n flags ps ≡ i + 1 + first_at axis n (drop (i + 1) flags) (drop (i + 1) ps)
+  pub first_past : (p : Place) → length flags ≡ length ps → i < length ps → p ≡ get_or ps i p
+      → is_at axis n (get_or flags i false) p ≡ false
+      → first_at axis n flags ps ≡ i + first_at axis n (drop i flags) (drop i ps)
+      → first_at axis n flags ps ≡ i + 1 + first_at axis n (drop (i + 1) flags) (drop (i + 1) ps)
   unfolding rest
-  first_past p same l read out is = omega (arith, is, cut p same l read ∙ cond-false (is_at axis n (get_or flags i false) p) 0 (1 + rest) out)
+  first_past p same l read out is = omega (
+    arith,
+    is,
+    cut p same l read
+        ∙ cond-false (is_at axis n (get_or flags i false) p) 0 (1 + rest) out,
+  )
 
-  pub first_none : length flags ≡ length ps → length ps ≤ i → i ≤ length ps → first_at axis n flags ps ≡ i + first_at axis n (drop i flags) (drop i ps) → length ps ≡ first_at axis n flags ps
+  pub first_none : length flags ≡ length ps → length ps ≤ i → i ≤ length ps
+      → first_at axis n flags ps ≡ i + first_at axis n (drop i flags) (drop i ps)
+      → length ps ≡ first_at axis n flags ps
   first_none same l most is =
-      let none : first_at axis n (drop i flags) (drop i ps) ≡ 0 = rw (drop_all i flags (omega (arith, same, l))) refl in
+      let none : first_at axis n (drop i flags) (drop i ps)
+      ≡ 0 = rw (drop_all i flags (omega (arith, same, l))) refl in
       omega (arith, is, none, l, most)

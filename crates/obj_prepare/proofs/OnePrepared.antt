@@ -67,4 +67,12 @@ notes_are_one places faces m n notes others (p, a) (q, b) =
     let split = a.split ∙ ap (λ names. split_count names faces p.old) s.names ∙ ap (split_count q.names faces) s.old ∙ sym b.split in
     let unnamed = a.unnamed ∙ sym b.unnamed in
     let gone = a.gone ∙ ap (λ names. gone_count names faces) s.names ∙ sym b.gone in
-    λ i. record { joined = joined i; flat = flat i; double = double i; cut = cut i; split = split i; unnamed = unnamed i; gone = gone i }
+    λ i. record {
+      joined = joined i;
+      flat = flat i;
+      double = double i;
+      cut = cut i;
+      split = split i;
+      unnamed = unnamed i;
+      gone = gone i;
+    }

@@ -17,8 +17,16 @@ pub three_few : (fs : List Corners) → length (of_three fs) ≤ length fs
 three_few [] = omega arith
 three_few (f ∷ fs) =
     elim (cases_Bool (not (is_flat f))) [
-      | inl t ↦ omega (arith, ap length (cond-true (not (is_flat f)) (f ∷ of_three fs) (of_three fs) t), three_few fs)
-      | inr n ↦ omega (arith, ap length (cond-false (not (is_flat f)) (f ∷ of_three fs) (of_three fs) n), three_few fs)
+      | inl t ↦ omega (
+        arith,
+        ap length (cond-true (not (is_flat f)) (f ∷ of_three fs) (of_three fs) t),
+        three_few fs,
+      )
+      | inr n ↦ omega (
+        arith,
+        ap length (cond-false (not (is_flat f)) (f ∷ of_three fs) (of_three fs) n),
+        three_few fs,
+      )
     ]
 
 pub three_all : (P : Corners → Type 0) (fs : List Corners) → All P fs → All P (of_three fs)
@@ -43,18 +51,29 @@ none_twice : (fs : List Corners) → length (filter is_flat fs) ≡ 0 → of_thr
 none_twice [] none = refl
 none_twice (f ∷ fs) none =
     elim (cases_Bool (is_flat f)) [
-      | inl t ↦ absurd (omega (arith, none, ap length (cond-true (is_flat f) (f ∷ filter is_flat fs) (filter is_flat fs) t)))
+      | inl t ↦ absurd
+          (omega (
+            arith,
+            none,
+            ap length (cond-true (is_flat f) (f ∷ filter is_flat fs) (filter is_flat fs) t),
+          ))
       | inr n ↦
-          let rest = none_twice fs (ap length (sym (cond-false (is_flat f) (f ∷ filter is_flat fs) (filter is_flat fs) n)) ∙ none) in
+          let rest = none_twice fs
+          (ap length
+          (sym (cond-false (is_flat f) (f ∷ filter is_flat fs) (filter is_flat fs) n))
+          ∙ none) in
           rw n (ap (λ (l : List Corners). f ∷ l) rest)
     ]
 
-pub three_of_manifold : (fs : List Corners) → AllStand (net_of fs) → IsOrientedManifold (net_of fs) → of_three fs ≡ fs
+pub three_of_manifold : (fs : List Corners) → AllStand (net_of fs)
+    → IsOrientedManifold (net_of fs) → of_three fs ≡ fs
 unfolding kept_of
-three_of_manifold fs stand is = none_twice fs (omega (arith, kept_and_flat [] fs, ap length (manifolds_stay fs stand is)))
+three_of_manifold fs stand is = none_twice fs
+    (omega (arith, kept_and_flat [] fs, ap length (manifolds_stay fs stand is)))
 
 pub three_of_mesh : (n : ℕ) (fs : List Corners) → All (IsFace n) fs → of_three fs ≡ fs
 three_of_mesh n [] all = refl
 three_of_mesh n (f ∷ fs) all =
     let face = All-head (IsFace n) f fs all in
-    rw (ne_eqb f.a f.b face.ab, ne_eqb f.b f.c face.bc, ne_eqb f.c f.a face.ca) (ap (λ (l : List Corners). f ∷ l) (three_of_mesh n fs (All-tail (IsFace n) f fs all)))
+    rw (ne_eqb f.a f.b face.ab, ne_eqb f.b f.c face.bc, ne_eqb f.c f.a face.ca)
+    (ap (λ (l : List Corners). f ∷ l) (three_of_mesh n fs (All-tail (IsFace n) f fs all)))

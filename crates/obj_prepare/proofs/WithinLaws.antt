@@ -15,10 +15,12 @@ rounded_up extent parts some =
     let left : n % parts < parts = mod-lt n some in
     omega (arith, div-add-mod n parts, left, some)
 
-half_within : (far steps extent d : ℕ) → 2 * far ≤ 10 * extent → extent ≤ 2 * steps * d → far ≤ 10 * steps * d
+half_within : (far steps extent d : ℕ) → 2 * far ≤ 10 * extent → extent ≤ 2 * steps * d
+    → far ≤ 10 * steps * d
 half_within far steps extent d near most = omega (arith, near, most)
 
-near_within : (way : WayBack) (place p : Place) → LeadsNear way place p → LeadsWithin way (within_of way) place p
+near_within : (way : WayBack) (place p : Place) → LeadsNear way place p
+    → LeadsWithin way (within_of way) place p
 near_within way place p near =
     let most = rounded_up way.extent (2 * way.steps) (omega (arith, near.some)) in
     record {
@@ -32,4 +34,5 @@ back_within fits.Standing place p stands = stands
 back_within (fits.Scaled size b) place p near = near_within (way_back_of size b) place p near
 
 pub places_are_within : PlacesAreWithin
-places_are_within size points faces v is l named = back_within _ _ _ (places_lead_back size points faces v is l named)
+places_are_within size points faces v is l named = back_within _ _ _
+    (places_lead_back size points faces v is l named)

@@ -45,7 +45,8 @@ within_of way = (way.extent + 2 * way.steps - 1) / (2 * way.steps)
 
 -- Along an axis a place leads back to at most d units from the coordinate n.
 abbrev pub IsWithinUnits : WayBack → ℕ → ℤ → ℤ → ℤ → Type 0
-IsWithinUnits way d middle place n = unsigned_abs (given_back way middle place -ℤ (pos (10 * way.steps) *ℤ n)) ≤ 10 * way.steps * d
+IsWithinUnits way d middle place n = unsigned_abs
+    (given_back way middle place -ℤ (pos (10 * way.steps) *ℤ n)) ≤ 10 * way.steps * d
 
 -- On each axis it does.
 pub record LeadsWithin (way : WayBack) (d : ℕ) (place p : Place) : Type 0 where
@@ -62,7 +63,8 @@ pub record StandsAt (place p : Place) : Type 0 where
 -- A place leads back to within half a step, rounded up, of its point, or is the point.
 abbrev pub StandsWithin : Fit → Place → Place → Type 0
 StandsWithin fits.Standing place p = StandsAt place p
-StandsWithin (fits.Scaled size b) place p = LeadsWithin (way_back_of size b) (within_of (way_back_of size b)) place p
+StandsWithin (fits.Scaled size b) place p = LeadsWithin (way_back_of size b)
+    (within_of (way_back_of size b)) place p
 
 -- A place leads back to its point.
 abbrev pub LeadsBack : Fit → Place → Place → Type 0

@@ -26,8 +26,10 @@ PlacesLeadBack = (size : Option ℕ) (points : List Place) (faces : List Corners
 
 -- So it does to within half a step, rounded up to units.
 abbrev pub PlacesAreWithin : Type 0
-PlacesAreWithin = (size : Option ℕ) (points : List Place) (faces : List Corners) (v : ℕ) → IsSize size → v < length points → is_some_corner faces v ≡ true
-    → StandsWithin (fit_of size points faces) (place_in_list (prepared_places_of size points faces) v) (place_in_list points v)
+PlacesAreWithin = (size : Option ℕ) (points : List Place) (faces : List Corners) (v : ℕ)
+    → IsSize size → v < length points → is_some_corner faces v ≡ true
+    → StandsWithin (fit_of size points faces)
+    (place_in_list (prepared_places_of size points faces) v) (place_in_list points v)
 
 -- One mesh is prepared of placed vertices and triangles.
 abbrev pub PreparedAreOne : Type 0
@@ -37,16 +39,19 @@ PreparedAreOne = (places : List Place) (faces : List Corners) (m n : Mesh) → I
 abbrev pub NotesAreOne : Type 0
 NotesAreOne = (places : List Place) (faces : List Corners) (m n : Mesh) (notes others : Notes) → IsPreparedWith places faces m notes → IsPreparedWith places faces n others → notes ≡ others
 
--- Each triangle became an edge, has the corners of an earlier one, or came out. Each vertex has no face, was joined to an
+-- Each triangle became an edge, has the corners of an earlier one, or came out. Each vertex has no
+-- face, was joined to an
 -- earlier one, has lost its faces, or came out; of what came out so many were split off.
 pub record DoAccountsClose (vertices triangles : ℕ) (m : Mesh) (notes : Notes) : Type 0 where
   pub triangles_are : notes.flat + notes.double + length m.faces ≡ triangles
   pub split_few : notes.split ≤ length m.points
-  pub vertices_are : notes.unnamed + notes.joined + notes.gone + (length m.points - notes.split) ≡ vertices
+  pub vertices_are : notes.unnamed + notes.joined + notes.gone + (length m.points - notes.split)
+      ≡ vertices
 
 -- So the numbers of what was done account for each vertex and triangle.
 abbrev pub AccountsClose : Type 0
-AccountsClose = (places : List Place) (faces : List Corners) (m : Mesh) (notes : Notes) → All (AreVerticesBelow (length places)) faces → IsPreparedWith places faces m notes
+AccountsClose = (places : List Place) (faces : List Corners) (m : Mesh) (notes : Notes)
+    → All (AreVerticesBelow (length places)) faces → IsPreparedWith places faces m notes
     → DoAccountsClose (length places) (length faces) m notes
 
 -- Each vertex is used, and no two stand at one place.

@@ -15,13 +15,15 @@ pub record ArePieces (places : List Place) (faces : List Corners) (names : List 
   pub stay_is : stay ≡ staying names faces
   pub split_is : IsSplitMesh (net_of stay) split old
 
--- How many of the first n flags are set, how many vertices among them have another one that stands for them, and how many
+-- How many of the first n flags are set, how many vertices among them have another one that stands
+-- for them, and how many
 -- of the others have no flag after.
 unfoldable pub set_below : List Bool → ℕ → ℕ
 set_below flags n = count (λ v. slice_index_or flags v false) n
 
 unfoldable pub gone_below : List Bool → List ℕ → List Bool → ℕ → ℕ
-gone_below before names after n = count (λ v. slice_index_or before v false && (slice_index_or names v 0 == v) && not (slice_index_or after v false)) n
+gone_below before names after n = count (λ v. slice_index_or before v false
+    && (slice_index_or names v 0 == v) && not (slice_index_or after v false)) n
 
 unfoldable pub joined_below : List Bool → List ℕ → ℕ → ℕ
 joined_below flags names n = count (λ v. slice_index_or flags v false && not (slice_index_or names v 0 == v)) n

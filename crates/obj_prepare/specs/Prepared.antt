@@ -44,7 +44,8 @@ unnamed_count vertices faces = count (λ v. not (is_some_corner faces v)) vertic
 
 -- How many vertices that stand for themselves had faces of which none stays.
 unfoldable pub gone_count : List ℕ → List Corners → ℕ
-gone_count names faces = count (λ v. is_some_corner faces v && (slice_index_or names v 0 == v) && not (is_some_corner (staying names faces) v)) (length names)
+gone_count names faces = count (λ v. is_some_corner faces v && (slice_index_or names v 0 == v)
+    && not (is_some_corner (staying names faces) v)) (length names)
 
 -- How many more vertices there are than the faces that stay had.
 unfoldable pub split_count : List ℕ → List Corners → List ℕ → ℕ

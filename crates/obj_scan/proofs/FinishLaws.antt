@@ -69,14 +69,18 @@ pub ended_ok : (all now : Option (List ℕ)) (s : ScannedSoFar) (line : List ℕ
 ended_ok None now s line m stands end is = tt
 ended_ok (Some bytes) now s line m stands end is = rest_is (Some bytes) now s line stands end ∙ is
 
-pub ended_err : (all now left : Option (List ℕ)) (s : ScannedSoFar) (line : List ℕ) (fail : ScanFail) → ScanStandsAt all now s line → AtEnd now → IsRefused fail (scan_meaning_from s (lines line)) → ExplainsScan fail all left
+pub ended_err : (all now left : Option (List ℕ)) (s : ScannedSoFar) (line : List ℕ)
+    (fail : ScanFail) → ScanStandsAt all now s line → AtEnd now
+    → IsRefused fail (scan_meaning_from s (lines line)) → ExplainsScan fail all left
 ended_err all now left s line fails.Read stands end is = absurd is
 ended_err all now left s line fails.OutOfMemory stands end is = tt
 ended_err None now left s line (fails.Fault e n) stands end is = tt
 ended_err (Some bytes) now left s line (fails.Fault e n) stands end is = subst (IsRefusal e n) (sym (rest_is (Some bytes) now s line stands end)) is
 
 -- The last line's text is what was open.
-pub last_returns : (f f' : Feeding) (state : LineState) (r : Returns) → state ≡ end_state (open_line f) → (state ≡ states.Whole) ⊎ (state ≡ states.Continued) → f' ≡ finished f
+pub last_returns : (f f' : Feeding) (state : LineState) (r : Returns)
+    → state ≡ end_state (open_line f) → (state ≡ states.Whole) ⊎ (state ≡ states.Continued)
+    → f' ≡ finished f
     → r ≡ returns_of (open_line f) → r ≡ returns_of f'.text
 last_returns f f' state r at which is before =
     let e = end_some f (is_last (open_line f) state at which) in
@@ -96,27 +100,35 @@ pub record IsLast (s : ScannedSoFar) (f f' : Feeding) (state : LineState) : Type
   pub short : length (open_line f) ≤ 65536
   pub within : s.bytes + length (open_line f) ≤ 1073741824
 
-judged_last : (s : ScannedSoFar) (f f' : Feeding) (state : LineState) (r : Result HeldLines LineFault) → IsLast s f f' state → line_taken s.number (held_in s) f'.text ≡ r
+judged_last : (s : ScannedSoFar) (f f' : Feeding) (state : LineState)
+    (r : Result HeldLines LineFault) → IsLast s f f' state
+    → line_taken s.number (held_in s) f'.text ≡ r
     → scan_meaning_from s (lines (open_line f)) ≡ then_taken r s (open_line f) (λ t. at_end t)
 judged_last s f f' state r is takes =
     let e = end_some f (is_last (open_line f) state is.at is.which) in
     let h : f'.text ≡ open_line f = ap (λ (x : Feeding). x.text) is.finished ∙ e.text in
     ap (λ (l : List (List ℕ)). scan_meaning_from s l) (lines_last (open_line f) is.clean e.some)
     ∙ judged_line s (open_line f) (open_line f) (λ t. scan_meaning_from t []) is.clean is.short is.within
-    ∙ ap (λ x. then_taken x s (open_line f) (λ t. at_end t)) (ap (line_taken s.number (held_in s)) (sym h) ∙ takes)
+    ∙ ap (λ x. then_taken x s (open_line f) (λ t. at_end t))
+    (ap (line_taken s.number (held_in s)) (sym h) ∙ takes)
 
 -- The last line has no fault: what is so at the end comes after it.
-pub last_ok : (s : ScannedSoFar) (f f' : Feeding) (state : LineState) (h : HeldLines) → IsLast s f f' state → line_taken s.number (held_in s) f'.text ≡ Ok h
+pub last_ok : (s : ScannedSoFar) (f f' : Feeding) (state : LineState) (h : HeldLines)
+    → IsLast s f f' state → line_taken s.number (held_in s) f'.text ≡ Ok h
     → scan_meaning_from s (lines (open_line f)) ≡ at_end (after_lines (s.bytes + length (open_line f)) (s.number + 1) h)
 last_ok s f f' state h is takes = judged_last s f f' state (Ok h) is takes
 
 -- The last line has a fault.
-pub last_err : (s : ScannedSoFar) (f f' : Feeding) (state : LineState) (fail : ScanFail) → IsLast s f f' state
-    → IsTextFault fail (line_taken s.number (held_in s) f'.text) → IsRefused fail (scan_meaning_from s (lines (open_line f)))
+pub last_err : (s : ScannedSoFar) (f f' : Feeding) (state : LineState) (fail : ScanFail)
+    → IsLast s f f' state
+    → IsTextFault fail (line_taken s.number (held_in s) f'.text)
+    → IsRefused fail (scan_meaning_from s (lines (open_line f)))
 last_err s f f' state fails.Read is fault = absurd fault
 last_err s f f' state fails.OutOfMemory is fault = tt
-last_err s f f' state (fails.Fault e n) is found = subst (IsRefusal e n) (sym (judged_last s f f' state (Err (record { fault = e; line = n })) is found)) (refl, refl)
+last_err s f f' state (fails.Fault e n) is found = subst (IsRefusal e n)
+    (sym (judged_last s f f' state (Err (record { fault = e; line = n })) is found)) (refl, refl)
 
 -- What an end says, of a meaning that is the same.
-pub refused_same : (fail : ScanFail) (r q : Result Scanned Refused) → r ≡ q → IsRefused fail q → IsRefused fail r
+pub refused_same : (fail : ScanFail) (r q : Result Scanned Refused) → r ≡ q → IsRefused fail q
+    → IsRefused fail r
 refused_same fail r q same is = subst (IsRefused fail) (sym same) is

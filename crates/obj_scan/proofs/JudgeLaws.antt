@@ -22,26 +22,43 @@ held_in s = record { continued = s.continued; begun = s.begun; scanned = s.scann
 abbrev pub later : ScannedSoFar → List ℕ → HeldLines → ScannedSoFar
 later s line h = after_lines (s.bytes + length line) (s.number + 1) h
 
-abbrev pub then_taken : Result HeldLines LineFault → ScannedSoFar → List ℕ → (ScannedSoFar → Result Scanned Refused) → Result Scanned Refused
+abbrev pub then_taken : Result HeldLines LineFault → ScannedSoFar → List ℕ
+    → (ScannedSoFar → Result Scanned Refused) → Result Scanned Refused
 then_taken (Ok h) s line more = more (later s line h)
-then_taken (Err e) s line more = Err (record { fault = e.fault; line = e.line; place = place s.bytes line })
+then_taken (Err e) s line more = Err
+    (record { fault = e.fault; line = e.line; place = place s.bytes line })
 
-judged_case : (s : ScannedSoFar) (text line : List ℕ) (more : ScannedSoFar → Result Scanned Refused) (form : Option ScanFault) (long ends : Bool) (r : Result Found ObjFault) → until 10 line ≡ text
-    → nat_lt 1073741824 (s.bytes + min (length line) 65537) ≡ false → nat_lt 65536 (length text) ≡ false → form_fault s.number text ≡ form → nat_lt 65536 (length (s.begun ++ line_content s.number text)) ≡ long
-    → is_continued (line_content s.number text) ≡ ends → scanned_line (length s.scanned.points) (length s.scanned.faces) (s.begun ++ line_content s.number text) ≡ r
-    → then_scanned_lines (judged_length s line) (line_judged s line) s line more ≡ then_taken (line_taken s.number (held_in s) text) s line more
-unfolding judged_length line_judged joined_text and_continued and_scanned_line taken scanned_after line_taken
-judged_case s text line more (Some f) long ends r is past short form at goes found = rw (is, past, short, form) refl
-judged_case s text line more None true ends r is past short form long goes found = rw (is, past, short, form, long) refl
-judged_case s text line more None false true r is past short form long goes found = rw (is, past, short, form, long, goes) refl
-judged_case s text line more None false false (Ok f) is past short form long goes found = rw (is, past, short, form, long, goes, found) refl
-judged_case s text line more None false false (Err e) is past short form long goes found = rw (is, past, short, form, long, goes, found) refl
+judged_case : (s : ScannedSoFar) (text line : List ℕ) (more : ScannedSoFar
+    → Result Scanned Refused) (form : Option ScanFault) (long ends : Bool)
+    (r : Result Found ObjFault) → until 10 line ≡ text
+    → nat_lt 1073741824 (s.bytes + min (length line) 65537) ≡ false
+    → nat_lt 65536 (length text) ≡ false → form_fault s.number text ≡ form
+    → nat_lt 65536 (length (s.begun ++ line_content s.number text)) ≡ long
+    → is_continued (line_content s.number text) ≡ ends
+    → scanned_line (length s.scanned.points) (length s.scanned.faces)
+    (s.begun ++ line_content s.number text) ≡ r
+    → then_scanned_lines (judged_length s line) (line_judged s line) s line more
+    ≡ then_taken (line_taken s.number (held_in s) text) s line more
+unfolding judged_length line_judged joined_text and_continued and_scanned_line taken scanned_after
+    line_taken
+judged_case s text line more (Some f) long ends r is past short form at goes found = rw
+    (is, past, short, form) refl
+judged_case s text line more None true ends r is past short form long goes found = rw
+    (is, past, short, form, long) refl
+judged_case s text line more None false true r is past short form long goes found = rw
+    (is, past, short, form, long, goes) refl
+judged_case s text line more None false false (Ok f) is past short form long goes found = rw
+    (is, past, short, form, long, goes, found) refl
+judged_case s text line more None false false (Err e) is past short form long goes found = rw
+    (is, past, short, form, long, goes, found) refl
 
 -- A line that is neither too long nor past the end of the text is judged by what is read of it.
 pub judged_line : (s : ScannedSoFar) (text line : List ℕ) (more : ScannedSoFar → Result Scanned Refused) → until 10 line ≡ text → length text ≤ 65536 → s.bytes + length line ≤ 1073741824
-    → then_scanned_lines (judged_length s line) (line_judged s line) s line more ≡ then_taken (line_taken s.number (held_in s) text) s line more
+    → then_scanned_lines (judged_length s line) (line_judged s line) s line more
+    ≡ then_taken (line_taken s.number (held_in s) text) s line more
 judged_line s text line more is short within =
-    judged_case s text line more _ _ _ _ is (le-ltb _ _ (omega (arith, within))) (le-ltb _ _ short) refl refl refl refl
+    judged_case s text line more _ _ _ _ is (le-ltb _ _ (omega (arith, within)))
+    (le-ltb _ _ short) refl refl refl refl
 
 -- A line has a fault whatever follows its front.
 refused_first : (s : ScannedSoFar) (text rest : List ℕ) (f : First text rest) (r : Refused) → judged_length s (text ++ f.line) ≡ Some r → IsRefusal r.fault r.line (scan_meaning_from s (lines (text ++ rest)))
@@ -51,11 +68,14 @@ refused_first s text rest f r is =
     subst (IsRefusal r.fault r.line) (sym all) (refl, refl)
 
 -- A whole line has a fault.
-pub refused_whole : (s : ScannedSoFar) (text rest : List ℕ) (e : LineFault) → until 10 text ≡ text → length text ≤ 65536 → s.bytes + length text + 1 ≤ 1073741824
-    → line_taken s.number (held_in s) text ≡ Err e → IsRefusal e.fault e.line (scan_meaning_from s (lines (text ++ 10 ∷ rest)))
+pub refused_whole : (s : ScannedSoFar) (text rest : List ℕ) (e : LineFault) → until 10 text ≡ text
+    → length text ≤ 65536 → s.bytes + length text + 1 ≤ 1073741824
+    → line_taken s.number (held_in s) text ≡ Err e
+    → IsRefusal e.fault e.line (scan_meaning_from s (lines (text ++ 10 ∷ rest)))
 refused_whole s text rest e clean short within is =
     let line = text ++ 10 ∷ [] in
-    let all : scan_meaning_from s (lines (text ++ 10 ∷ rest)) ≡ Err (record { fault = e.fault; line = e.line; place = place s.bytes line }) =
+    let all : scan_meaning_from s (lines (text ++ 10 ∷ rest))
+    ≡ Err (record { fault = e.fault; line = e.line; place = place s.bytes line }) =
     ap (λ (l : List (List ℕ)). scan_meaning_from s l) (lines_whole text rest clean)
     ∙ judged_line s text line (λ t. scan_meaning_from t (lines rest)) (before_end text clean) short (omega (arith, within, length-append text (10 ∷ [])))
     ∙ ap (λ r. then_taken r s line (λ t. scan_meaning_from t (lines rest))) is in
@@ -63,7 +83,8 @@ refused_whole s text rest e clean short within is =
 
 -- A line is too long.
 pub refused_long : (s : ScannedSoFar) (front rest : List ℕ) → until 10 front ≡ front → 65536 < length front → s.bytes + 65537 ≤ 1073741824
-    → IsRefusal (faults.Line line_faults.LineTooLong) s.number (scan_meaning_from s (lines (front ++ rest)))
+    → IsRefusal (faults.Line line_faults.LineTooLong) s.number
+    (scan_meaning_from s (lines (front ++ rest)))
 unfolding judged_length
 refused_long s front rest clean long within =
     let f = first_line front rest clean (omega (arith, length-append front rest)) in
@@ -72,14 +93,25 @@ refused_long s front rest clean long within =
     let n : 65536 < length (until 10 line) =
     subst (λ (l : List ℕ). 65536 < length l) (sym (until_front 10 front f.line clean)) (omega (arith, length-append front (until 10 f.line))) in
     let over : nat_lt 65536 (length (until 10 line)) ≡ true = lt-ltb _ _ n in
-    refused_first s front rest f (record { fault = faults.Line line_faults.LineTooLong; line = s.number; place = place s.bytes line }) (rw (past, over) refl)
+    refused_first s front rest f
+    (record {
+      fault = faults.Line line_faults.LineTooLong;
+      line = s.number;
+      place = place s.bytes line;
+    }) (rw (past, over) refl)
 
 -- A byte comes after the last one that a text may have.
 pub refused_past : (s : ScannedSoFar) (line rest : List ℕ) → until 10 line ≡ line → length line ≤ 65536 → s.bytes + length line ≡ 1073741824 → 0 < length rest
-    → IsRefusal (faults.Line line_faults.TooMany) s.number (scan_meaning_from s (lines (line ++ rest)))
+    → IsRefusal (faults.Line line_faults.TooMany) s.number
+    (scan_meaning_from s (lines (line ++ rest)))
 unfolding judged_length
 refused_past s line rest clean short at some =
     let f = first_line line rest clean (omega (arith, length-append line rest)) in
     let k : 0 < length f.line = f.longer some in
     let past : nat_lt 1073741824 (s.bytes + min (length (line ++ f.line)) 65537) ≡ true = lt-ltb _ _ (omega (arith, length-append line f.line)) in
-    refused_first s line rest f (record { fault = faults.Line line_faults.TooMany; line = s.number; place = place s.bytes (line ++ f.line) }) (rw past refl)
+    refused_first s line rest f
+    (record {
+      fault = faults.Line line_faults.TooMany;
+      line = s.number;
+      place = place s.bytes (line ++ f.line);
+    }) (rw past refl)

@@ -11,8 +11,12 @@ use Rattle.obj_read.proofs.PlaceLaws.{place_after}
 use Rattle.obj_scan.specs.Judged.{Found, scanned_line}
 use Rattle.obj_scan.specs.Meaning.{ScannedSoFar, joined_text, and_continued, and_scanned_line, then_found, or_refused, judged_length, line_judged, then_scanned_lines, at_end, scan_meaning_from}
 
-place_case : (s : ScannedSoFar) (line : List ℕ) (P : Refused → Type 0) (a b c : Bool) (form : Option ScanFault) (x y z : Refused) → P x → P y → ((fault : ScanFault) → P (record { fault = fault; line = s.number; place = place s.bytes line })) → P z
-    → IfSome (if a then Some x else if b then Some y else or_refused form s line (if c then Some z else None)) P
+place_case : (s : ScannedSoFar) (line : List ℕ) (P : Refused → Type 0) (a b c : Bool)
+    (form : Option ScanFault) (x y z : Refused) → P x → P y
+    → ((fault : ScanFault)
+    → P (record { fault = fault; line = s.number; place = place s.bytes line })) → P z
+    → IfSome (if a then Some x else if b then Some y else or_refused form s line
+    (if c then Some z else None)) P
 place_case s line P true b c form x y z px py pf pz = px
 place_case s line P false true c form x y z px py pf pz = py
 place_case s line P false false c (Some f) x y z px py pf pz = pf f
@@ -22,7 +26,9 @@ place_case s line P false false false None x y z px py pf pz = tt
 -- A fault of a line's length has the line's place.
 length_place : (s : ScannedSoFar) (line : List ℕ) → IfSome (judged_length s line) (λ r. r.place ≡ place s.bytes line)
 unfolding judged_length
-length_place s line = place_case s line (λ r. r.place ≡ place s.bytes line) (is_past s.bytes (length line)) (is_long line) (nat_lt 65536 (length (joined_text s line))) (form_fault s.number (until 10 line)) _ _ _ refl refl (λ f. refl) refl
+length_place s line = place_case s line (λ r. r.place ≡ place s.bytes line)
+    (is_past s.bytes (length line)) (is_long line) (nat_lt 65536 (length (joined_text s line)))
+    (form_fault s.number (until 10 line)) _ _ _ refl refl (λ f. refl) refl
 
 bytes_case : (s : ScannedSoFar) (line : List ℕ) (ends : Bool) (r : Result Found ObjFault) → IfOk (if ends then Ok (and_continued s line) else then_found r s line) (λ t. t.bytes ≡ s.bytes + length line)
 unfolding and_continued and_scanned_line
@@ -33,7 +39,8 @@ bytes_case s line false (Err e) = tt
 -- After a line so many bytes more are read.
 judged_bytes : (s : ScannedSoFar) (line : List ℕ) → IfOk (line_judged s line) (λ t. t.bytes ≡ s.bytes + length line)
 unfolding line_judged
-judged_bytes s line = bytes_case s line (is_continued (line_content s.number (until 10 line))) (scanned_line (length s.scanned.points) (length s.scanned.faces) (joined_text s line))
+judged_bytes s line = bytes_case s line (is_continued (line_content s.number (until 10 line)))
+    (scanned_line (length s.scanned.points) (length s.scanned.faces) (joined_text s line))
 
 line_case : (s : ScannedSoFar) (line : List ℕ) (more : List (List ℕ)) (n : ℕ) (o : Option Refused) (r : Result ScannedSoFar ObjFault) → IfSome o (λ x. x.place ≡ place s.bytes line)
     → IfOk r (λ t. t.bytes ≡ s.bytes + length line) → n ≤ 1073741824 → n ≤ s.bytes + 65536 → (length (until 10 line) < length line → n < s.bytes + length line) → n ≤ s.bytes + length line

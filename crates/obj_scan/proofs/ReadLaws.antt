@@ -43,7 +43,8 @@ record IsScanned (bytes number : ℕ) (m : Mesh) (line : List ℕ) (f : ReadFoun
   within : judged_length (scan_after bytes number m) line ≡ None
   gives : line_judged (scan_after bytes number m) line ≡ Ok (scan_after (bytes + length line) (number + 1) (with_read m f))
 
-line_case : (bytes number : ℕ) (m : Mesh) (line : List ℕ) (f : ReadFound) (past long : Bool) → IsPlain number line → is_past bytes (length line) ≡ past → is_long line ≡ long
+line_case : (bytes number : ℕ) (m : Mesh) (line : List ℕ) (f : ReadFound) (past long : Bool)
+    → IsPlain number line → is_past bytes (length line) ≡ past → is_long line ≡ long
     → read_judged (read_after bytes number m) line ≡ Ok f → IsScanned bytes number m line f
 unfolding read_judged judged_length line_judged joined_text and_scanned_line
 line_case bytes number m line f true long plain a b is = let e = rw a at is in cc
@@ -54,15 +55,29 @@ line_case bytes number m line f false false plain a b is =
     let short : nat_lt 65536 (length text) ≡ false = le-ltb _ _ (omega (arith, length_content (until 10 line), ltb-false _ _ b)) in
     record {
       within = rw (a, b, plain.formed, plain.read, short) refl;
-      gives = rw (plain.read, found.ended, length-map m.points _, found.gives) (ap (λ s. Ok (record { bytes = bytes + length line; number = number + 1; continued = 0; begun = []; scanned = s })) (scanned_with m f));
+      gives = rw (plain.read, found.ended, length-map m.points _, found.gives)
+          (ap (λ s. Ok
+          (record {
+            bytes = bytes + length line;
+            number = number + 1;
+            continued = 0;
+            begun = [];
+            scanned = s;
+          })) (scanned_with m f));
     }
 
-line_is_scanned : (bytes number : ℕ) (m : Mesh) (line : List ℕ) (f : ReadFound) → IsPlain number line → read_judged (read_after bytes number m) line ≡ Ok f → IsScanned bytes number m line f
-line_is_scanned bytes number m line f plain is = line_case bytes number m line f _ _ plain refl refl is
+line_is_scanned : (bytes number : ℕ) (m : Mesh) (line : List ℕ) (f : ReadFound)
+    → IsPlain number line → read_judged (read_after bytes number m) line ≡ Ok f
+    → IsScanned bytes number m line f
+line_is_scanned bytes number m line f plain is = line_case bytes number m line f _ _ plain refl
+    refl is
 
 -- The same of a line and those after it.
-then_scanned : (bytes number : ℕ) (m n : Mesh) (line : List ℕ) (more : List (List ℕ)) (r : Result ReadFound ObjFault) → IsPlain number line → read_judged (read_after bytes number m) line ≡ r
-    → ((b : ℕ) (k : Mesh) → read_from (read_after b (number + 1) k) more ≡ Ok n → scan_meaning_from (scan_after b (number + 1) k) more ≡ Ok (scanned_mesh n))
+then_scanned : (bytes number : ℕ) (m n : Mesh) (line : List ℕ) (more : List (List ℕ))
+    (r : Result ReadFound ObjFault) → IsPlain number line
+    → read_judged (read_after bytes number m) line ≡ r
+    → ((b : ℕ) (k : Mesh) → read_from (read_after b (number + 1) k) more ≡ Ok n
+    → scan_meaning_from (scan_after b (number + 1) k) more ≡ Ok (scanned_mesh n))
     → then_read r (read_after bytes number m) line (λ t. read_from t more) ≡ Ok n → scan_meaning_from (scan_after bytes number m) (line ∷ more) ≡ Ok (scanned_mesh n)
 unfolding and_read
 then_scanned bytes number m n line more (Ok f) plain judges later is =
@@ -70,17 +85,24 @@ then_scanned bytes number m n line more (Ok f) plain judges later is =
     rw (scan.within, scan.gives) (later (bytes + length line) (with_read m f) is)
 then_scanned bytes number m n line more (Err e) plain judges later is = cc
 
-scanned_of_read : (m n : Mesh) → ◌≡◌ {A = Result Mesh ReadRefused} (Ok m) (Ok n) → ◌≡◌ {A = Result Scanned Refused} (Ok (scanned_mesh m)) (Ok (scanned_mesh n))
+scanned_of_read : (m n : Mesh) → ◌≡◌ {A = Result Mesh ReadRefused} (Ok m) (Ok n)
+    → ◌≡◌ {A = Result Scanned Refused} (Ok (scanned_mesh m)) (Ok (scanned_mesh n))
 scanned_of_read m n is = cc
 
-lines_are_scanned : (bytes number : ℕ) (m n : Mesh) (ls : List (List ℕ)) → ArePlain number ls → read_from (read_after bytes number m) ls ≡ Ok n → scan_meaning_from (scan_after bytes number m) ls ≡ Ok (scanned_mesh n)
+lines_are_scanned : (bytes number : ℕ) (m n : Mesh) (ls : List (List ℕ)) → ArePlain number ls
+    → read_from (read_after bytes number m) ls ≡ Ok n
+    → scan_meaning_from (scan_after bytes number m) ls ≡ Ok (scanned_mesh n)
 lines_are_scanned bytes number m n [] plain is = scanned_of_read m n is
 lines_are_scanned bytes number m n (line ∷ more) plain is =
-    then_scanned bytes number m n line more _ plain.0 refl (λ b k spells. lines_are_scanned b (number + 1) k n more plain.1 spells) is
+    then_scanned bytes number m n line more _ plain.0 refl
+    (λ b k spells. lines_are_scanned b (number + 1) k n more plain.1 spells) is
 
 pub read_scanned : ReadIsScanned
 unfolding read_meaning scan_meaning_of
-read_scanned bytes m formed is = lines_are_scanned 0 1 (record { points = []; faces = [] }) m (lines bytes) (formed_plain bytes formed) is
+read_scanned bytes m formed is = lines_are_scanned 0 1 (record { points = []; faces = [] }) m
+    (lines bytes) (formed_plain bytes formed) is
 
 pub canonical_scanned : CommentedIsScanned
-canonical_scanned line m clean plain short formed places = read_scanned _ m (commented_formed line m plain formed places) (commented_is_read 0 line m clean short (omega arith) formed places)
+canonical_scanned line m clean plain short formed places = read_scanned _ m
+    (commented_formed line m plain formed places)
+    (commented_is_read 0 line m clean short (omega arith) formed places)

@@ -68,7 +68,8 @@ whole_on s line text a h clean is short within takes rest =
 -- The line is whole.
 pub stands_whole : (whole left : Option (List ℕ)) (piece : List ℕ) (n : ℕ) (s : ScannedSoFar) (line text : List ℕ) (h : HeldLines)
     → ScanStandsAt whole (prepend_known piece left) s line → until 10 text ≡ text → line ++ take n piece ≡ text ++ 10 ∷ [] → length text ≤ 65536 → s.bytes + length text + 1 ≤ 1073741824
-    → line_taken s.number (held_in s) text ≡ Ok h → ScanStandsAt whole (prepend_known (drop n piece) left) (line_later s text h) []
+    → line_taken s.number (held_in s) text ≡ Ok h
+    → ScanStandsAt whole (prepend_known (drop n piece) left) (line_later s text h) []
 stands_whole whole left piece n s line text h stands clean is short within takes =
     let e = ap length is in
     stands_on whole left piece (take n piece) (drop n piece) s (line_later s text h) line [] stands (sym (take-append-drop n piece))
@@ -76,7 +77,9 @@ stands_whole whole left piece n s line text h stands clean is short within takes
     (omega (arith, e, length-append line (take n piece), length-append text (10 ∷ [])))
 
 -- What the rest of the text is refused for is what the whole is refused for.
-pub explains_fault : (whole left : Option (List ℕ)) (piece : List ℕ) (s : ScannedSoFar) (line : List ℕ) (fault : ScanFault) (n : ℕ) → ScanStandsAt whole (prepend_known piece left) s line
+pub explains_fault : (whole left : Option (List ℕ)) (piece : List ℕ) (s : ScannedSoFar)
+    (line : List ℕ) (fault : ScanFault) (n : ℕ)
+    → ScanStandsAt whole (prepend_known piece left) s line
     → ((rest : List ℕ) → IsRefusal fault n (scan_meaning_from s (lines (line ++ (piece ++ rest))))) → IfSome whole (λ bytes. IsRefusal fault n (scan_meaning_of bytes))
 explains_fault None left piece s line fault n stands refused = tt
 explains_fault (Some bytes) None piece s line fault n stands refused = let e = stands.same in cc

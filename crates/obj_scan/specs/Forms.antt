@@ -1,4 +1,5 @@
--- The form of a text: how its lines end, and how it begins. Byte 13 is CR; 239, 187 and 191 are EF BB BF; 254 and 255
+-- The form of a text: how its lines end, and how it begins. Byte 13 is CR; 239, 187 and 191 are EF
+-- BB BF; 254 and 255
 -- are FE and FF.
 use Rattle.std.specs.Prelude.{ℕ, List, [], ◌∷◌, Bool, true, false, ◌==◌, ◌&&◌, ◌||◌, nat_lt, length, drop, slice_index_or, Option, Some, None, if◌then◌else◌}
 use Rattle.obj_lines.specs.Text.{content}
@@ -33,7 +34,8 @@ is_inside returns.Inside = true
 
 -- A text begins with EF BB BF, the byte order mark of UTF-8.
 unfoldable pub is_marked : List ℕ → Bool
-is_marked text = nat_lt 2 (length text) && slice_index_or text 0 0 == 239 && slice_index_or text 1 0 == 187 && slice_index_or text 2 0 == 191
+is_marked text = nat_lt 2 (length text) && slice_index_or text 0 0 == 239
+    && slice_index_or text 1 0 == 187 && slice_index_or text 2 0 == 191
 
 unfoldable pub without_mark : List ℕ → List ℕ
 without_mark text = if is_marked text then drop 3 text else text
@@ -42,9 +44,12 @@ without_mark text = if is_marked text then drop 3 text else text
 unfoldable pub is_wide : List ℕ → Bool
 is_wide text =
     nat_lt 1 (length text)
-    && (slice_index_or text 0 0 == 255 && slice_index_or text 1 0 == 254 || slice_index_or text 0 0 == 254 && slice_index_or text 1 0 == 255)
+    && (slice_index_or text 0 0 == 255
+    && slice_index_or text 1 0 == 254 || slice_index_or text 0 0 == 254
+    && slice_index_or text 1 0 == 255)
 
--- What is read of the line with this number, which stands here without its LF. A byte order mark before the first is passed
+-- What is read of the line with this number, which stands here without its LF. A byte order mark
+-- before the first is passed
 -- over.
 unfoldable pub line_content : ℕ → List ℕ → List ℕ
 line_content number text = if number == 1 then without_mark (content text) else content text

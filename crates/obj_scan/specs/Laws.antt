@@ -29,11 +29,14 @@ pub record IsFormed (bytes : List ℕ) : Type 0 where
   pub unmarked : is_marked bytes ≡ false
   pub narrow : is_wide bytes ≡ false
 
--- A text so formed that is read as a mesh, with whole numbers for coordinates, is scanned as that mesh.
+-- A text so formed that is read as a mesh, with whole numbers for coordinates, is scanned as that
+-- mesh.
 abbrev pub ReadIsScanned : Type 0
-ReadIsScanned = (bytes : List ℕ) (m : Mesh) → IsFormed bytes → mesh_meaning 0 bytes ≡ Ok m → scan_meaning_of bytes ≡ Ok (scanned_mesh m)
+ReadIsScanned = (bytes : List ℕ) (m : Mesh) → IsFormed bytes → mesh_meaning 0 bytes ≡ Ok m
+    → scan_meaning_of bytes ≡ Ok (scanned_mesh m)
 
 -- So is the canonical text of a mesh after a comment without a CR.
 abbrev pub CommentedIsScanned : Type 0
-CommentedIsScanned = (line : List ℕ) (m : Mesh) → until 10 line ≡ line → until 13 line ≡ line → length line < MOST_LINE_BYTES → IsWellFormed m → All IsPlace m.points
+CommentedIsScanned = (line : List ℕ) (m : Mesh) → until 10 line ≡ line → until 13 line ≡ line
+    → length line < MOST_LINE_BYTES → IsWellFormed m → All IsPlace m.points
     → scan_meaning_of ((35 ∷ line) ++ 10 ∷ canonical_text 0 m) ≡ Ok (scanned_mesh m)

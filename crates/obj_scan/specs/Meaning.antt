@@ -48,17 +48,34 @@ and_scanned_line s line f = record { bytes = s.bytes + length line; number = s.n
 
 -- The first of two reasons to refuse a line: what is wrong with its form, and the other.
 abbrev pub or_refused : Option ScanFault → ScannedSoFar → List ℕ → Option Refused → Option Refused
-or_refused (Some fault) s line other = Some (record { fault = fault; line = s.number; place = place s.bytes line })
+or_refused (Some fault) s line other = Some
+    (record { fault = fault; line = s.number; place = place s.bytes line })
 or_refused None s line other = other
 
--- A line has too many bytes before it or in it, something is wrong with its form, or it has too many bytes with those
+-- A line has too many bytes before it or in it, something is wrong with its form, or it has too
+-- many bytes with those
 -- that it continues.
 unfoldable pub judged_length : ScannedSoFar → List ℕ → Option Refused
 judged_length s line =
-    if is_past s.bytes (length line) then Some (record { fault = faults.Line line_faults.TooMany; line = s.number; place = place s.bytes line })
-    else if is_long line then Some (record { fault = faults.Line line_faults.LineTooLong; line = s.number; place = place s.bytes line })
+    if is_past s.bytes (length line) then Some
+    (record {
+      fault = faults.Line line_faults.TooMany;
+      line = s.number;
+      place = place s.bytes line;
+    })
+    else if is_long line then Some
+    (record {
+      fault = faults.Line line_faults.LineTooLong;
+      line = s.number;
+      place = place s.bytes line;
+    })
     else or_refused (form_fault s.number (until 10 line)) s line
-    (if nat_lt MOST_LINE_BYTES (length (joined_text s line)) then Some (record { fault = faults.Line line_faults.LineTooLong; line = first_number s; place = place s.bytes line }) else None)
+    (if nat_lt MOST_LINE_BYTES (length (joined_text s line)) then Some
+    (record {
+      fault = faults.Line line_faults.LineTooLong;
+      line = first_number s;
+      place = place s.bytes line;
+    }) else None)
 
 abbrev pub then_found : Result Found ObjFault → ScannedSoFar → List ℕ → Result ScannedSoFar ObjFault
 then_found (Ok f) s line = Ok (and_scanned_line s line f)
@@ -74,11 +91,13 @@ line_judged s line =
 abbrev pub then_scanned_lines : Option Refused → Result ScannedSoFar ObjFault → ScannedSoFar → List ℕ → (ScannedSoFar → Result Scanned Refused) → Result Scanned Refused
 then_scanned_lines (Some r) next s line more = Err r
 then_scanned_lines None (Ok t) s line more = more t
-then_scanned_lines None (Err e) s line more = Err (record { fault = faults.Line e; line = first_number s; place = place s.bytes line })
+then_scanned_lines None (Err e) s line more = Err
+    (record { fault = faults.Line e; line = first_number s; place = place s.bytes line })
 
 -- At the end no line waits for the next one.
 abbrev pub at_end : ScannedSoFar → Result Scanned Refused
-at_end s = if s.continued == 0 then Ok s.scanned else Err (record { fault = faults.Line line_faults.Continuation; line = first_number s; place = None })
+at_end s = if s.continued == 0 then Ok s.scanned else Err
+    (record { fault = faults.Line line_faults.Continuation; line = first_number s; place = None })
 
 abbrev pub scan_meaning_from : ScannedSoFar → List (List ℕ) → Result Scanned Refused
 scan_meaning_from s [] = at_end s

@@ -58,13 +58,16 @@ named line (Ok h) = Ok h
 named line (Err e) = Err (record { fault = scan_faults.Line e; line = line })
 
 -- A line whose form is right gives what is read of it.
-abbrev pub if_formed : Option ScanFault → ℕ → Result HeldLines LineFault → Result HeldLines LineFault
+abbrev pub if_formed : Option ScanFault → ℕ → Result HeldLines LineFault
+    → Result HeldLines LineFault
 if_formed (Some fault) number taken = Err (record { fault = fault; line = number })
 if_formed None number taken = taken
 
--- The line with this number, which stands here without its LF: what is held after it, or its first fault.
+-- The line with this number, which stands here without its LF: what is held after it, or its first
+-- fault.
 unfoldable pub line_taken : ℕ → HeldLines → List ℕ → Result HeldLines LineFault
-line_taken number h text = if_formed (form_fault number text) number (named (number - h.continued) (taken h (line_content number text)))
+line_taken number h text = if_formed (form_fault number text) number
+    (named (number - h.continued) (taken h (line_content number text)))
 
 -- So many bytes, and this is the number of the next line.
 abbrev pub after_lines : ℕ → ℕ → HeldLines → ScannedSoFar

@@ -19,14 +19,16 @@ of_line (line_fails.Fault fault line) = fails.Fault (faults.Line fault) line
 of_line line_fails.Read = fails.Read
 of_line line_fails.OutOfMemory = fails.OutOfMemory
 
--- The first line with a fault, that line's first fault, and the number from 1 of the byte that shows it, unless that is
+-- The first line with a fault, that line's first fault, and the number from 1 of the byte that
+-- shows it, unless that is
 -- the end of input.
 pub record Refused : Type 0 where
   pub fault : ScanFault
   pub line : ℕ
   pub place : Option ℕ
 
--- A fault, and the number of the line that has it: of lines that go together the first, where what is read has it.
+-- A fault, and the number of the line that has it: of lines that go together the first, where what
+-- is read has it.
 pub record LineFault : Type 0 where
   pub fault : ScanFault
   pub line : ℕ
@@ -42,12 +44,14 @@ abbrev pub IsRefusal : {T : Type 0} → ScanFault → ℕ → Result T Refused �
 IsRefusal fault line (Ok m) = ⊥
 IsRefusal fault line (Err r) = (r.fault ≡ fault) × (r.line ≡ line)
 
--- So many bytes don't reach the place of the first fault, if there is one. The end of input is not reached by bytes.
+-- So many bytes don't reach the place of the first fault, if there is one. The end of input is not
+-- reached by bytes.
 abbrev pub FaultNotReached : {T : Type 0} → ℕ → Result T Refused → Type 0
 FaultNotReached taken (Ok m) = Unit {0}
 FaultNotReached taken (Err r) = IfSome r.place (λ place. taken < place)
 
--- The failure is the first fault. Text that was read whole fails in no other way, but for want of memory.
+-- The failure is the first fault. Text that was read whole fails in no other way, but for want of
+-- memory.
 abbrev pub IsRefused : {T : Type 0} → ScanFail → Result T Refused → Type 0
 IsRefused (fails.Fault fault line) meaning = IsRefusal fault line meaning
 IsRefused fails.Read meaning = ⊥

@@ -27,7 +27,8 @@ pub struct Scan {
 
 /// Reads a source to its end, and answers the points and triangles that its bytes spell.
 ///
-/// A byte order mark at the first byte is passed over; a text that begins as one of 16 bits a letter is refused, and so is a
+/// A byte order mark at the first byte is passed over; a text that begins as one of 16 bits a
+/// letter is refused, and so is a
 /// line with a CR that doesn't end it.
 ///
 /// Lines that begin with neither `v` nor `f` are skipped, and one that ends in a backslash is continued by the next. A

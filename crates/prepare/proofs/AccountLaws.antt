@@ -12,9 +12,12 @@ use Rattle.prepare.proofs.ScannedLaws.{meaning_sound}
 pub texts_are_accounted : TextsAreAccounted
 texts_are_accounted size bytes s done means k =
     let three = of_three s.faces in
-    let long : length (places_in size s) ≡ length s.points = length-places_of size s.points three in
-    let corners = three_all (AreVerticesBelow (length s.points)) s.faces (meaning_sound bytes s means).scanning.within.corners in
-    let close = accounts_close (places_in size s) three k.mesh k.notes (subst (λ n. All (AreVerticesBelow n) three) (sym long) corners) k.prepared in
+    let long : length (places_in size s)
+    ≡ length s.points = length-places_of size s.points three in
+    let corners = three_all (AreVerticesBelow (length s.points)) s.faces
+    (meaning_sound bytes s means).scanning.within.corners in
+    let close = accounts_close (places_in size s) three k.mesh k.notes
+    (subst (λ n. All (AreVerticesBelow n) three) (sym long) corners) k.prepared in
     record {
       triangles = omega (arith, close.triangles_are, three_few s.faces);
       split_few = close.split_few;

@@ -46,29 +46,52 @@ numbers m p = record {
 
 numbered : (m : Mesh) (p : IsPrepared m.points m.faces m) → IsPreparedWith m.points m.faces m (numbers m p)
 unfolding numbers
-numbered m p = (p, record { joined = refl; flat = refl; double = refl; cut = refl; split = refl; unnamed = refl; gone = refl })
+numbered m p = (
+  p,
+  record {
+    joined = refl;
+    flat = refl;
+    double = refl;
+    cut = refl;
+    split = refl;
+    unnamed = refl;
+    gone = refl;
+  },
+)
 
 -- What is written and said where a mesh is made of itself.
 abbrev standing_done : Mesh → Notes → Done
-standing_done m notes = record { text = output_text fits.Standing m; notes = notes_text (counts_of (scanned_mesh m) m) notes fits.Standing None }
+standing_done m notes = record {
+  text = output_text fits.Standing m;
+  notes = notes_text (counts_of (scanned_mesh m) m) notes fits.Standing None;
+}
 
 -- A mesh on the grid all of whose vertices are used is made of its own points in units.
-makes_itself : (m : Mesh) (notes : Notes) → IsWellFormed m → IsOrientedManifold (net_of m.faces) → 0 < length m.faces → All IsPlace m.points → ((v : ℕ) → v < length m.points → IsUsed (net_of m.faces) v)
+makes_itself : (m : Mesh) (notes : Notes) → IsWellFormed m → IsOrientedManifold (net_of m.faces)
+    → 0 < length m.faces → All IsPlace m.points
+    → ((v : ℕ) → v < length m.points → IsUsed (net_of m.faces) v)
     → IsPreparedWith m.points m.faces m notes → MakesPrepared None (scanned_mesh m) (standing_done m notes)
 makes_itself m notes formed manifold some placed used prepared =
     let points = map scaled_up m.points in
-    let three : of_three m.faces ≡ m.faces = three_of_mesh (length m.points) m.faces formed.corners in
-    let fit : fit_in None (scanned_mesh m) ≡ fits.Standing = ap (fit_of None points) three ∙ standing_fit m.points m.faces placed in
+    let three : of_three m.faces
+    ≡ m.faces = three_of_mesh (length m.points) m.faces formed.corners in
+    let fit : fit_in None (scanned_mesh m) ≡ fits.Standing = ap (fit_of None points) three
+    ∙ standing_fit m.points m.faces placed in
     record {
       mesh = m;
       notes = notes;
-      prepared = subst (λ (fs : List Corners). IsPreparedWith (prepared_places_of None points fs) fs m notes) (sym three)
-          (subst (λ ps. IsPreparedWith ps m.faces m notes) (sym (standing_places m.points m.faces placed used)) prepared);
+      prepared = subst
+          (λ (fs : List Corners). IsPreparedWith (prepared_places_of None points fs) fs m notes)
+          (sym three)
+          (subst (λ ps. IsPreparedWith ps m.faces m notes)
+          (sym (standing_places m.points m.faces placed used)) prepared);
       formed = formed;
       manifold = manifold;
       some = some;
       text_is = ap (λ (f : Fit). output_text f m) (sym fit);
-      notes_are = ap (λ (f : Fit). notes_text (counts_of (scanned_mesh m) m) notes f (warning_for f points (of_three m.faces) notes.flat)) (sym fit);
+      notes_are = ap
+          (λ (f : Fit). notes_text (counts_of (scanned_mesh m) m) notes f
+          (warning_for f points (of_three m.faces) notes.flat)) (sym fit);
     }
 
 corners_of : (n : ℕ) (faces : List Corners) → All (IsFace n) faces → All (AreVerticesBelow n) faces
@@ -84,9 +107,11 @@ made_comes_back size bytes s done is means k read =
     let p = k.prepared.0 in
     let places = places_in size s in
     let three = of_three s.faces in
-    let corners = three_all (AreVerticesBelow (length s.points)) s.faces (meaning_sound bytes s means).scanning.within.corners in
+    let corners = three_all (AreVerticesBelow (length s.points)) s.faces
+    (meaning_sound bytes s means).scanning.within.corners in
     let long : length s.points ≡ length places = sym (length-places_of size s.points three) in
-    let again = prepared_again places three m (subst (λ n. All (AreVerticesBelow n) three) long corners) p in
+    let again = prepared_again places three m
+    (subst (λ n. All (AreVerticesBelow n) three) long corners) p in
     let count : length m.points ≡ length p.old = ap length p.stand ∙ length-map p.old (place_in_list places) in
     let used : (v : ℕ) → v < length m.points → IsUsed (net_of m.faces) v = λ v l. p.split.used v (omega (arith, count, l)) in
     let told = numbered m again in
@@ -97,8 +122,10 @@ made_comes_back size bytes s done is means k read =
       flat = none_flat m used again;
       double = none_double m used again;
       unnamed = none_unnamed m used again;
-      outcome = made (scanned_mesh m) (standing_done m (numbers m again)) (read_scanned done.text m (made_formed size bytes s done is means k) read)
-          (makes_itself m (numbers m again) k.formed k.manifold k.some (made_on_grid size s done is k) used told);
+      outcome = made (scanned_mesh m) (standing_done m (numbers m again))
+          (read_scanned done.text m (made_formed size bytes s done is means k) read)
+          (makes_itself m (numbers m again) k.formed k.manifold k.some
+          (made_on_grid size s done is k) used told);
     }
 
 outcome_comes_back : (size : Option ℕ) (bytes : List ℕ) (r : Result Done Fault) (place : Option ℕ) → IsSize size → IsPreparedText size bytes r place

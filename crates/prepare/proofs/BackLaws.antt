@@ -28,11 +28,13 @@ use Rattle.prepare.proofs.AgainLaws.{one_mesh}
 use Rattle.prepare.proofs.ReadLaws.{mesh_is_read}
 
 -- The line of points that were brought onto the grid so.
-line_leads : (fit : Fit) (place p : Place) → IsMeasured fit → LeadsBack fit place p → LineLeadsBack (head_line fit) place p
+line_leads : (fit : Fit) (place p : Place) → IsMeasured fit → LeadsBack fit place p
+    → LineLeadsBack (head_line fit) place p
 line_leads fits.Standing place p measured leads = as_it_stood refl leads
 line_leads (fits.Scaled size b) place p (few, low, high) leads = near (way_back_of size b) (tells_way size b few low high) leads
 
-made_leads_back : (size : Option ℕ) (bytes : List ℕ) (s : Scanned) (done : Done) → IsSize size → scan_meaning_of bytes ≡ Ok s → (k : MakesPrepared size s done)
+made_leads_back : (size : Option ℕ) (bytes : List ℕ) (s : Scanned) (done : Done) → IsSize size
+    → scan_meaning_of bytes ≡ Ok s → (k : MakesPrepared size s done)
     → TextLeadsBack s (places_in size s) done.text k.mesh
 made_leads_back size bytes s done is means k =
     let fit : Fit = fit_in size s in
@@ -41,16 +43,21 @@ made_leads_back size bytes s done is means k =
     let sound = meaning_sound bytes s means in
     let measured = fit_of_measured size s.points three is sound.exact in
     let long : length places ≡ length s.points = length-places_of size s.points three in
-    let own = subst (λ (n : ℕ). All (AreVerticesBelow n) three) (sym long) (three_all (AreVerticesBelow (length s.points)) s.faces sound.scanning.within.corners) in
+    let own = subst (λ (n : ℕ). All (AreVerticesBelow n) three) (sym long)
+    (three_all (AreVerticesBelow (length s.points)) s.faces sound.scanning.within.corners) in
     record {
       line = head_line fit;
       text_is = k.text_is;
-      back = λ v l named. line_leads fit (place_in_list places v) (place_in_list s.points v) measured (places_lead_back size s.points three v is l named);
-      from = λ w l. let (v, low, named, same) = place_from places three k.mesh own k.prepared.0 w l in (v, subst (λ (n : ℕ). v < n) long low, named, same);
+      back = λ v l named. line_leads fit (place_in_list places v)
+          (place_in_list s.points v) measured (places_lead_back size s.points three v is l named);
+      from = λ w l. let (v, low, named, same) = place_from places three k.mesh own k.prepared.0 w
+          l in (v, subst (λ (n : ℕ). v < n) long low, named, same);
     }
 
 outcome_leads_back : (size : Option ℕ) (bytes : List ℕ) (r : Result Done Fault) (place : Option ℕ) → IsSize size → IsPreparedText size bytes r place
-    → IfOk r (λ done. (s : Scanned) (m : Mesh) → scan_meaning_of bytes ≡ Ok s → meaning_of 0 done.text ≡ Ok m → 0 < length m.faces → TextLeadsBack s (places_in size s) done.text m)
+    → IfOk r (λ done. (s : Scanned) (m : Mesh) → scan_meaning_of bytes ≡ Ok s
+    → meaning_of 0 done.text ≡ Ok m → 0 < length m.faces
+    → TextLeadsBack s (places_in size s) done.text m)
 outcome_leads_back size bytes found place is (bad_line r means) = tt
 outcome_leads_back size bytes found place is (too_many s means many) = tt
 outcome_leads_back size bytes found place is (no_face s means none) = tt
@@ -58,7 +65,8 @@ outcome_leads_back size bytes found place is (made t done means k) = λ s m spel
     let own = one_mesh (meaning_of 0 done.text) k.mesh m (mesh_is_read size bytes t done is means k) read in
     let same = one_scanned (scan_meaning_of bytes) t s means spells in
     subst (λ (u : Scanned). TextLeadsBack u (places_in size u) done.text m) same
-    (subst (TextLeadsBack t (places_in size t) done.text) own (made_leads_back size bytes t done is means k))
+    (subst (TextLeadsBack t (places_in size t) done.text) own
+    (made_leads_back size bytes t done is means k))
 
 pub texts_lead_back : TextsLeadBack
 texts_lead_back size bytes s done place m is spells outcome read some = outcome_leads_back size bytes (Ok done) place is outcome s m spells read some

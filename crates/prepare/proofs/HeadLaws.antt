@@ -55,7 +55,11 @@ coordinate_short d z few =
     let unit : ℕ = 10 ^ suc d in
     let n : ℕ = unsigned_abs z in
     let sign = both 1 20 (minus_if (int_lt z (pos 0))) (decimal (n / unit)) (minus_short (int_lt z (pos 0))) (decimal_short (n / unit) few) in
-    let point : IsShort 1 (codes ".") = record { clean = refl; plain = refl; short = omega arith } in
+    let point : IsShort 1 (codes ".") = record {
+      clean = refl;
+      plain = refl;
+      short = omega arith;
+    } in
     rw (ne_eqb (suc d) 0 (λ e. omega (arith, e)))
     (both 22 (suc d) _ (last_digits (suc d) (n % unit)) (both 21 1 _ (codes ".") sign point) (last_digits_short (suc d) (n % unit)))
 
@@ -72,9 +76,21 @@ module _ (size : ℕ) (b : PointBox) (few : size ≤ 32767) (low : AreExact b.lo
   unfolding scale_text
   scale_short =
       let e = coordinate_short 17 (pos (extent b)) (omega (arith, extent_few)) in
-      let first : IsShort 13 (codes "coordinate = ") = record { clean = refl; plain = refl; short = omega arith } in
-      let over : IsShort 3 (codes " / ") = record { clean = refl; plain = refl; short = omega arith } in
-      let last : IsShort 12 (codes " * place + (") = record { clean = refl; plain = refl; short = omega arith } in
+      let first : IsShort 13 (codes "coordinate = ") = record {
+        clean = refl;
+        plain = refl;
+        short = omega arith;
+      } in
+      let over : IsShort 3 (codes " / ") = record {
+        clean = refl;
+        plain = refl;
+        short = omega arith;
+      } in
+      let last : IsShort 12 (codes " * place + (") = record {
+        clean = refl;
+        plain = refl;
+        short = omega arith;
+      } in
       both 76 12 _ _ (both 56 20 _ _ (both 53 3 _ _ (both 13 40 _ _ first e) over) (decimal_short (2 * size) (omega (arith, few)))) last
 
   axis_short : (x y : ℤ) → unsigned_abs x ≤ 10 ^ 32 → unsigned_abs y ≤ 10 ^ 32 → IsShort 41 (coordinate_text 19 (middle x y))
@@ -85,7 +101,11 @@ module _ (size : ℕ) (b : PointBox) (few : size ≤ 32767) (low : AreExact b.lo
   middle_short =
       let (a, c, e) = low in
       let (d, f, g) = high in
-      let space : IsShort 1 (codes " ") = record { clean = refl; plain = refl; short = omega arith } in
+      let space : IsShort 1 (codes " ") = record {
+        clean = refl;
+        plain = refl;
+        short = omega arith;
+      } in
       both 84 41 _ _ (both 83 1 _ _ (both 42 41 _ _ (both 41 1 _ _ (axis_short b.low.x b.high.x a d) space) (axis_short b.low.y b.high.y c f)) space) (axis_short b.low.z b.high.z e g)
 
 -- A comment, with its LF.
@@ -98,11 +118,21 @@ pub record IsComment (text : List ℕ) : Type 0 where
 
 pub head_comment : (fit : Fit) → IsMeasured fit → IsComment (head_line fit)
 unfolding way_text
-head_comment fits.Standing measured = record { line = codes " coordinates as they stood"; line_is = refl; plain = refl; short = omega arith; text_is = refl }
+head_comment fits.Standing measured = record {
+  line = codes " coordinates as they stood";
+  line_is = refl;
+  plain = refl;
+  short = omega arith;
+  text_is = refl;
+}
 head_comment (fits.Scaled size b) (few, low, high) =
     let back : List ℕ = scale_text (way_back_of size b) ++ middle_text (middle_of b) in
     let end : IsShort 1 (codes ")") = record { clean = refl; plain = refl; short = omega arith } in
-    let space : IsShort 1 (codes " ") = record { clean = refl; plain = refl; short = omega arith } in
+    let space : IsShort 1 (codes " ") = record {
+      clean = refl;
+      plain = refl;
+      short = omega arith;
+    } in
     let s = both 1 214 (codes " ") (back ++ codes ")") space (both 213 1 back (codes ")") (both 88 125 _ _ (scale_short size b few low high) (middle_short size b few low high)) end) in
     record {
       line = codes " " ++ (back ++ codes ")");

@@ -29,58 +29,91 @@ use Rattle.prepare.specs.Outcome.{Done, MakesPrepared, fit_in, places_in, counts
 use Rattle.prepare.specs.Making.{IsMakeFail}
 use Rattle.prepare.specs.Ending.{HasPreparedFault, PlaceUnreached, StopsPreparing}
 
-named_within : (s : Scanned) → IsWithinLimits s → IsNamedWithin (length s.points) (of_three s.faces)
+named_within : (s : Scanned) → IsWithinLimits s
+    → IsNamedWithin (length s.points) (of_three s.faces)
 named_within s within = three_within (length s.points) s.faces (record {
   vertices_few = within.points;
   faces_few = within.faces;
   corners = within.corners;
 })
 
-pub lent_within : (s : Scanned) (points : List Place) (faces : List Corners) → IsWithinLimits s → points ≡ s.points → faces ≡ of_three s.faces → IsNamedWithin (length points) faces
-lent_within s points faces within points_are faces_are = rw (points_are, faces_are) (named_within s within)
+pub lent_within : (s : Scanned) (points : List Place) (faces : List Corners) → IsWithinLimits s
+    → points ≡ s.points → faces ≡ of_three s.faces → IsNamedWithin (length points) faces
+lent_within s points faces within points_are faces_are = rw (points_are, faces_are)
+    (named_within s within)
 
 -- Lists that were lent are the same lists.
 
-pub placed_within : (size : Option ℕ) (s : Scanned) (points : List Place) (faces : List Corners) (places lent : List Place) (again : List Corners) → IsWithinLimits s → points ≡ s.points → faces ≡ of_three s.faces → places ≡ prepared_places_of size points faces → lent ≡ places → again ≡ of_three s.faces
+pub placed_within : (size : Option ℕ) (s : Scanned) (points : List Place) (faces : List Corners)
+    (places lent : List Place) (again : List Corners) → IsWithinLimits s → points ≡ s.points
+    → faces ≡ of_three s.faces → places ≡ prepared_places_of size points faces → lent ≡ places
+    → again ≡ of_three s.faces
     → IsNamedWithin (length lent) again
 placed_within size s points faces places lent again within points_are faces_are placed lent_is same =
     let count : length lent ≡ length s.points = ap length (lent_is ∙ placed) ∙ length-places_of size points faces ∙ ap length points_are in
     rw (count, same) (named_within s within)
 
-pub makes_done : (size : Option ℕ) (s : Scanned) (points : List Place) (faces : List Corners) (fit : Fit) (places lent : List Place) (again : List Corners) (m : Mesh) (notes : Notes) (shown : List Corners) (counts : Counts) (warning : Option LongestAxis) (head said : List ℕ)
-    → points ≡ s.points → faces ≡ of_three s.faces → fit ≡ fit_of size points faces → places ≡ prepared_places_of size points faces → lent ≡ places → again ≡ of_three s.faces
-    → IsPreparedWith lent again m notes → IsWellFormed m → IsOrientedManifold (net_of m.faces) → shown ≡ m.faces → 0 < length shown → counts ≡ counts_of s m → warning ≡ warning_in size s notes → head ≡ head_line fit → said ≡ notes_text counts notes fit warning
+pub makes_done : (size : Option ℕ) (s : Scanned) (points : List Place) (faces : List Corners)
+    (fit : Fit) (places lent : List Place) (again : List Corners) (m : Mesh) (notes : Notes)
+    (shown : List Corners) (counts : Counts) (warning : Option LongestAxis) (head said : List ℕ)
+    → points ≡ s.points → faces ≡ of_three s.faces → fit ≡ fit_of size points faces
+    → places ≡ prepared_places_of size points faces → lent ≡ places → again ≡ of_three s.faces
+    → IsPreparedWith lent again m notes → IsWellFormed m → IsOrientedManifold (net_of m.faces)
+    → shown ≡ m.faces → 0 < length shown → counts ≡ counts_of s m
+    → warning ≡ warning_in size s notes → head ≡ head_line fit
+    → said ≡ notes_text counts notes fit warning
     → MakesPrepared size s (record { text = head ++ canonical_text 0 m; notes = said })
-makes_done size s points faces fit places lent again m notes shown counts warning head said points_are faces_are fit_is placed lent_is same prepared formed manifold shown_is some counts_are warning_is head_is said_is =
-    let fit_same : fit ≡ fit_in size s = fit_is ∙ ap (λ ps. fit_of size ps faces) points_are ∙ ap (λ fs. fit_of size s.points fs) faces_are in
-    let places_same : lent ≡ places_in size s = lent_is ∙ placed ∙ ap (λ ps. prepared_places_of size ps faces) points_are ∙ ap (λ fs. prepared_places_of size s.points fs) faces_are in
+makes_done size s points faces fit places lent again m notes shown counts warning head said
+    points_are faces_are fit_is placed lent_is same prepared formed manifold shown_is some
+    counts_are warning_is head_is said_is =
+    let fit_same : fit ≡ fit_in size s = fit_is ∙ ap (λ ps. fit_of size ps faces) points_are
+    ∙ ap (λ fs. fit_of size s.points fs) faces_are in
+    let places_same : lent ≡ places_in size s = lent_is ∙ placed
+    ∙ ap (λ ps. prepared_places_of size ps faces) points_are
+    ∙ ap (λ fs. prepared_places_of size s.points fs) faces_are in
     record {
       mesh = m;
       notes = notes;
-      prepared = subst (λ fs. IsPreparedWith (places_in size s) fs m notes) same (subst (λ ps. IsPreparedWith ps again m notes) places_same prepared);
+      prepared = subst (λ fs. IsPreparedWith (places_in size s) fs m notes) same
+          (subst (λ ps. IsPreparedWith ps again m notes) places_same prepared);
       formed = formed;
       manifold = manifold;
       some = subst (λ (fs : List Corners). 0 < length fs) shown_is some;
       text_is = ap (λ h. h ++ canonical_text 0 m) (head_is ∙ ap head_line fit_same);
-      notes_are = said_is ∙ ap (λ c. notes_text c notes fit warning) counts_are ∙ ap (λ f. notes_text (counts_of s m) notes f warning) fit_same ∙ ap (notes_text (counts_of s m) notes (fit_in size s)) warning_is;
+      notes_are = said_is ∙ ap (λ c. notes_text c notes fit warning) counts_are
+          ∙ ap (λ f. notes_text (counts_of s m) notes f warning) fit_same
+          ∙ ap (notes_text (counts_of s m) notes (fit_in size s)) warning_is;
     }
 
-pub warned : (size : Option ℕ) (s : Scanned) (points lent : List Place) (faces again : List Corners) (fit : Fit) (notes : Notes) (warning : Option LongestAxis)
-    → points ≡ s.points → faces ≡ of_three s.faces → fit ≡ fit_of size points faces → lent ≡ s.points → again ≡ of_three s.faces → warning ≡ warning_for fit lent again notes.flat → warning ≡ warning_in size s notes
-warned size s points lent faces again fit notes warning points_are faces_are fit_is lent_are again_are is =
-    let fit_same : fit ≡ fit_in size s = fit_is ∙ ap (λ ps. fit_of size ps faces) points_are ∙ ap (fit_of size s.points) faces_are in
-    is ∙ ap (λ f. warning_for f lent again notes.flat) fit_same ∙ ap (λ ps. warning_for (fit_in size s) ps again notes.flat) lent_are ∙ ap (λ fs. warning_for (fit_in size s) s.points fs notes.flat) again_are
+pub warned : (size : Option ℕ) (s : Scanned) (points lent : List Place)
+    (faces again : List Corners) (fit : Fit) (notes : Notes) (warning : Option LongestAxis)
+    → points ≡ s.points → faces ≡ of_three s.faces → fit ≡ fit_of size points faces
+    → lent ≡ s.points → again ≡ of_three s.faces → warning ≡ warning_for fit lent again notes.flat
+    → warning ≡ warning_in size s notes
+warned size s points lent faces again fit notes warning points_are faces_are fit_is lent_are
+    again_are is =
+    let fit_same : fit ≡ fit_in size s = fit_is ∙ ap (λ ps. fit_of size ps faces) points_are
+    ∙ ap (fit_of size s.points) faces_are in
+    is ∙ ap (λ f. warning_for f lent again notes.flat) fit_same
+    ∙ ap (λ ps. warning_for (fit_in size s) ps again notes.flat) lent_are
+    ∙ ap (λ fs. warning_for (fit_in size s) s.points fs notes.flat) again_are
 
 -- What follows where the source tells its bytes.
 module _ (size : Option ℕ) where
-  refuses_line : (bytes : List ℕ) (fault : ScanFault) (line : ℕ) (r : Result Scanned Refused) → scan_meaning_of bytes ≡ r → IsRefusal fault line r → HasPreparedFault size bytes (faults.Line fault line)
+  refuses_line : (bytes : List ℕ) (fault : ScanFault) (line : ℕ) (r : Result Scanned Refused)
+      → scan_meaning_of bytes ≡ r → IsRefusal fault line r
+      → HasPreparedFault size bytes (faults.Line fault line)
   refuses_line bytes fault line (Ok s) is refusal = absurd refusal
   refuses_line bytes fault line (Err r) is refusal = record {
     place = r.place;
-    outcome = subst (λ (f : Fault). IsPreparedText size bytes (Err f) r.place) (ap (λ (e : ScanFault). faults.Line e r.line) refusal.0 ∙ ap (λ (n : ℕ). faults.Line fault n) refusal.1) (bad_line r is);
+    outcome = subst (λ (f : Fault). IsPreparedText size bytes (Err f) r.place)
+        (ap (λ (e : ScanFault). faults.Line e r.line) refusal.0
+        ∙ ap (λ (n : ℕ). faults.Line fault n) refusal.1) (bad_line r is);
   }
 
-  pub line_refuses : (left : Option (List ℕ)) (fault : ScanFault) (line : ℕ) → IfSome left (λ bytes. IsRefusal fault line (scan_meaning_of bytes)) → IfSome left (λ bytes. HasPreparedFault size bytes (faults.Line fault line))
+  pub line_refuses : (left : Option (List ℕ)) (fault : ScanFault) (line : ℕ)
+      → IfSome left (λ bytes. IsRefusal fault line (scan_meaning_of bytes))
+      → IfSome left (λ bytes. HasPreparedFault size bytes (faults.Line fault line))
   line_refuses None fault line is = tt
   line_refuses (Some bytes) fault line is = refuses_line bytes fault line (scan_meaning_of bytes) refl is
 
@@ -104,7 +137,8 @@ module _ (size : Option ℕ) where
   make_stops None now s (input.Faulty faults.TooMany) in_old in_new is same fail = (tt, same)
   make_stops (Some bytes) now s (input.Faulty faults.TooMany) in_old in_new is same fail = (record { place = None; outcome = too_many s is fail }, same)
   make_stops None now s (input.Faulty faults.NoFaces) in_old in_new is same fail = (tt, same)
-  make_stops (Some bytes) now s (input.Faulty faults.NoFaces) in_old in_new is same fail = (record { place = None; outcome = no_face s is fail }, same)
+  make_stops (Some bytes) now s (input.Faulty faults.NoFaces) in_old in_new is same
+      fail = (record { place = None; outcome = no_face s is fail }, same)
   make_stops left now s input.Read in_old in_new is same fail = absurd fail
   make_stops left now s input.OutOfMemory in_old in_new is same fail = same
 

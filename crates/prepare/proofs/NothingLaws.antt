@@ -54,7 +54,15 @@ none_cut m is = count_none (is_cut m) (side_count m) (λ e l t. true≢false (sy
 
 -- No number is told of what was done.
 abbrev pub nothing_done : Notes
-nothing_done = record { joined = 0; flat = 0; double = 0; cut = 0; split = 0; unnamed = 0; gone = 0 }
+nothing_done = record {
+  joined = 0;
+  flat = 0;
+  double = 0;
+  cut = 0;
+  split = 0;
+  unnamed = 0;
+  gone = 0;
+}
 
 module _ (m : Mesh) (corners : All (AreVerticesBelow (length m.points)) m.faces) (manifold : IsOrientedManifold (net_of m.faces)) (fit : AreFit m.points m.faces) (p : IsPrepared m.points m.faces m) where
   own_name : (v : ℕ) → v < length m.points → get_or p.names v 0 ≡ v
@@ -98,23 +106,32 @@ module _ (m : Mesh) (corners : All (AreVerticesBelow (length m.points)) m.faces)
   }
 
 five_ends : (line : List ℕ) → line ++ [] ++ [] ++ [] ++ [] ++ [] ≡ line
-five_ends line = append-nil (line ++ [] ++ [] ++ [] ++ []) ∙ append-nil (line ++ [] ++ [] ++ []) ∙ append-nil (line ++ [] ++ []) ∙ append-nil (line ++ []) ∙ append-nil line
+five_ends line = append-nil (line ++ [] ++ [] ++ [] ++ []) ∙ append-nil (line ++ [] ++ [] ++ [])
+    ∙ append-nil (line ++ [] ++ []) ∙ append-nil (line ++ []) ∙ append-nil line
 
 -- Where as much came out as there was, that isn't told.
-pub no_account : (c : Counts) → c.vertices_in ≡ c.vertices_out → c.triangles_in ≡ c.triangles_out → account_line c ≡ []
+pub no_account : (c : Counts) → c.vertices_in ≡ c.vertices_out → c.triangles_in ≡ c.triangles_out
+    → account_line c ≡ []
 unfolding account_line
-no_account c vertices triangles = rw (eq-eqb c.vertices_in c.vertices_out vertices, eq-eqb c.triangles_in c.triangles_out triangles) refl
+no_account c vertices triangles = rw (
+  eq-eqb c.vertices_in c.vertices_out vertices,
+  eq-eqb c.triangles_in c.triangles_out triangles,
+) refl
 
 -- Only polygons that were cut and faces without area are told.
-pub nothing_said : (c : Counts) (fit : Fit) → account_line c ≡ [] → c.twice ≡ 0 → notes_text c nothing_done fit None ≡ note_line (codes "polygons cut") c.polygons ++ note_line (codes "faces without area") c.thin ++ last_note fit
+pub nothing_said : (c : Counts) (fit : Fit) → account_line c ≡ [] → c.twice ≡ 0
+    → notes_text c nothing_done fit None ≡ note_line (codes "polygons cut") c.polygons
+    ++ note_line (codes "faces without area") c.thin ++ last_note fit
 unfolding notes_text face_notes vertex_notes note_line warning_line
 nothing_said c fit same none =
     let line = note_line (codes "polygons cut") c.polygons in
     let thin = note_line (codes "faces without area") c.thin in
-    rw (same, none) (append-nil (((line ++ [] ++ [] ++ [] ++ [] ++ []) ++ thin) ++ last_note fit) ∙ ap (λ (l : List ℕ). (l ++ thin) ++ last_note fit) (five_ends line))
+    rw (same, none) (append-nil (((line ++ [] ++ [] ++ [] ++ [] ++ []) ++ thin) ++ last_note fit)
+    ∙ ap (λ (l : List ℕ). (l ++ thin) ++ last_note fit) (five_ends line))
 
 -- Where no triangle became an edge nothing is warned of.
-pub no_warning : (fit : Fit) (points : List Place) (triangles : List Corners) → 0 < length triangles → warning_for fit points triangles 0 ≡ None
+pub no_warning : (fit : Fit) (points : List Place) (triangles : List Corners)
+    → 0 < length triangles → warning_for fit points triangles 0 ≡ None
 no_warning fits.Standing points triangles some = refl
 no_warning (fits.Scaled size b) points triangles some =
     let few : nat_le (length triangles) (10 * 0) ≡ false = grind (arith, nat_tests, some) in

@@ -23,12 +23,15 @@ pub made_on_grid : (size : Option ℕ) (s : Scanned) (done : Done) → IsSize si
 made_on_grid size s done is m =
     let places = places_in size s in
     let p = m.prepared.0 in
-    subst (All IsPlace) (sym p.stand) (taken_on_grid places p.old (places_on_grid size s.points (of_three s.faces) is))
+    subst (All IsPlace) (sym p.stand)
+    (taken_on_grid places p.old (places_on_grid size s.points (of_three s.faces) is))
 
 made_is_read : (size : Option ℕ) (bytes : List ℕ) (s : Scanned) (done : Done) → IsSize size → scan_meaning_of bytes ≡ Ok s → MakesPrepared size s done → IsFitText done.text
 made_is_read size bytes s done is means m =
     let fit = fit_in size s in
-    let head = head_comment fit (fit_of_measured size s.points (of_three s.faces) is (meaning_sound bytes s means).exact) in
+    let head = head_comment fit
+    (fit_of_measured size s.points (of_three s.faces) is (meaning_sound bytes s means).exact)
+    in
     let text = canonical_text 0 m.mesh in
     let text_is : done.text ≡ (35 ∷ head.line) ++ 10 ∷ text = m.text_is ∙ ap (λ (h : List ℕ). h ++ text) head.text_is ∙ append_assoc (35 ∷ head.line) (10 ∷ []) text in
     record {
@@ -47,11 +50,13 @@ unfolding made_is_read
 mesh_is_read size bytes s done is means m = (made_is_read size bytes s done is means m).read
 
 -- Its lines are well formed.
-pub made_formed : (size : Option ℕ) (bytes : List ℕ) (s : Scanned) (done : Done) → IsSize size → scan_meaning_of bytes ≡ Ok s → (m : MakesPrepared size s done) → IsFormed done.text
+pub made_formed : (size : Option ℕ) (bytes : List ℕ) (s : Scanned) (done : Done) → IsSize size
+    → scan_meaning_of bytes ≡ Ok s → (m : MakesPrepared size s done) → IsFormed done.text
 unfolding made_is_read
 made_formed size bytes s done is means m =
     let read = made_is_read size bytes s done is means m in
-    subst IsFormed (sym read.text_is) (commented_formed read.line m.mesh read.plain m.formed (made_on_grid size s done is m))
+    subst IsFormed (sym read.text_is)
+    (commented_formed read.line m.mesh read.plain m.formed (made_on_grid size s done is m))
 
 outcome_is_read : (size : Option ℕ) (bytes : List ℕ) (r : Result Done Fault) (place : Option ℕ) → IsSize size → IsPreparedText size bytes r place → IfOk r (λ done. IsFitText done.text)
 outcome_is_read size bytes found place is (bad_line r means) = tt

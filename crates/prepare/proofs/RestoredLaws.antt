@@ -115,10 +115,13 @@ module _ (m : Mesh) (used : (v : ℕ) → v < length m.points → IsUsed (net_of
   none_gone =
       count_none _ (length p.names) (λ v l t.
       let low : v < length m.points = omega (arith, l, p.joined.all) in
-      let parts = and_parts (is_some_corner m.faces v && (name p.names v == v)) (not (is_some_corner (staying p.names m.faces) v)) t in
+      let parts = and_parts (is_some_corner m.faces v && (name p.names v == v))
+      (not (is_some_corner (staying p.names m.faces) v)) t in
       let own = and_parts (is_some_corner m.faces v) (name p.names v == v) parts.0 in
       let there : is_some_corner (staying p.names m.faces) v ≡ true =
-      ap (λ (fs : List Corners). is_some_corner fs v) all_stay ∙ subst (λ u. is_some_corner joined u ≡ true) (eqb-true _ _ own.1) (joined_named p.names m.faces v own.0) in
+      ap (λ (fs : List Corners). is_some_corner fs v) all_stay
+      ∙ subst (λ u. is_some_corner joined u ≡ true) (eqb-true _ _ own.1)
+      (joined_named p.names m.faces v own.0) in
       true≢false (sym parts.1 ∙ ap not there))
 
   -- One that stands for another stands for itself.

@@ -110,7 +110,8 @@ then_found_sound (Err e) s line suits sound = record { so = tt }
 judged_sound : (s : ScannedSoFar) (line : List ℕ) → AfterSound s → Gives AfterSound (line_judged s line)
 unfolding line_judged and_continued
 judged_sound s line sound =
-    either AfterSound (is_continued (line_content s.number (until 10 line))) _ _ (given AfterSound (and_continued s line) sound)
+    either AfterSound (is_continued (line_content s.number (until 10 line))) _ _
+    (given AfterSound (and_continued s line) sound)
     (then_found_sound (scanned_line (length s.scanned.points) (length s.scanned.faces) (joined_text s line)) s line (line_suits _ _ (joined_text s line)) sound)
 
 then_lines_sound : (r : Option Refused) (next : Result ScannedSoFar ObjFault) (s : ScannedSoFar) (line : List ℕ) (more : ScannedSoFar → Result Scanned Refused) → Gives AfterSound next

@@ -47,10 +47,17 @@ itself_formed places faces within p =
     split_formed (net_of (staying p.names faces)) faces p.old places (omega (arith, stay, within.faces_few)) (kept_are_fit (joined_faces p.names faces)).0 p.split long (omega (arith, long, within.vertices_few))
 
 -- The triangles of a text over the places of its points.
-placed_within : (size : Option ℕ) (bytes : List ℕ) (s : Scanned) → scan_meaning_of bytes ≡ Ok s → IsWithinMesh (length (places_in size s)) s.faces
+placed_within : (size : Option ℕ) (bytes : List ℕ) (s : Scanned) → scan_meaning_of bytes ≡ Ok s
+    → IsWithinMesh (length (places_in size s)) s.faces
 placed_within size bytes s means =
     let within = (meaning_sound bytes s means).scanning.within in
-    subst (λ (n : ℕ). IsWithinMesh n s.faces) (sym (length-places_of size s.points (of_three s.faces))) (record { vertices_few = within.points; faces_few = within.faces; corners = within.corners })
+    subst (λ (n : ℕ). IsWithinMesh n s.faces)
+    (sym (length-places_of size s.points (of_three s.faces)))
+    (record {
+      vertices_few = within.points;
+      faces_few = within.faces;
+      corners = within.corners;
+    })
 
 stays_made : (size : Option ℕ) (bytes : List ℕ) (s : Scanned) → scan_meaning_of bytes ≡ Ok s → NeedsNothing size s → MakesPrepared size s (as_it_is size s)
 stays_made size bytes s means needs =
@@ -58,47 +65,69 @@ stays_made size bytes s means needs =
     let m : Mesh = record { points = places; faces = s.faces } in
     let within = placed_within size bytes s means in
     let p : IsPrepared places s.faces m = fit_meshes_stay places s.faces within needs.stand needs.manifold needs.fit in
-    let three : of_three s.faces ≡ s.faces = three_of_manifold s.faces needs.stand needs.manifold in
-    let vertices : length s.points ≡ length places = sym (length-places_of size s.points (of_three s.faces)) in
+    let three : of_three s.faces
+    ≡ s.faces = three_of_manifold s.faces needs.stand needs.manifold in
+    let vertices : length s.points
+    ≡ length places = sym (length-places_of size s.points (of_three s.faces)) in
     let twice : length s.faces - length (of_three s.faces) ≡ 0 = omega (arith, ap length three) in
     record {
       mesh = m;
       notes = nothing_done;
-      prepared = subst (λ (fs : List Corners). IsPreparedWith places fs m nothing_done) (sym three) (p, nothing_told m within.corners needs.manifold needs.fit p);
+      prepared = subst (λ (fs : List Corners). IsPreparedWith places fs m nothing_done)
+          (sym three) (p, nothing_told m within.corners needs.manifold needs.fit p);
       formed = itself_formed places s.faces within p;
       manifold = needs.manifold;
       some = needs.some;
       text_is = refl;
-      notes_are = sym (ap (notes_text (counts_of s m) nothing_done (fit_in size s)) (no_warning (fit_in size s) s.points (of_three s.faces) (subst (λ (fs : List Corners). 0 < length fs) (sym three) needs.some))
-          ∙ nothing_said (counts_of s m) (fit_in size s) (no_account (counts_of s m) vertices refl) twice);
+      notes_are = sym
+          (ap (notes_text (counts_of s m) nothing_done (fit_in size s))
+          (no_warning (fit_in size s) s.points (of_three s.faces)
+          (subst (λ (fs : List Corners). 0 < length fs) (sym three) needs.some))
+          ∙ nothing_said (counts_of s m) (fit_in size s)
+          (no_account (counts_of s m) vertices refl) twice);
     }
 
 pub fit_scans_stay : FitScansStay
 fit_scans_stay size bytes s means needs = made s (as_it_is size s) means (stays_made size bytes s means needs)
 
 -- A mesh on the grid all of whose vertices are used stands as it is.
-stands_as_it_is : (m : Mesh) → of_three m.faces ≡ m.faces → All IsPlace m.points → ((v : ℕ) → v < length m.points → IsUsed (net_of m.faces) v)
-    → as_it_is None (scanned_mesh m) ≡ record { text = output_text fits.Standing m; notes = note_line (codes "faces without area") (thin_count m.points m.faces) ++ last_note fits.Standing }
+stands_as_it_is : (m : Mesh) → of_three m.faces ≡ m.faces → All IsPlace m.points
+    → ((v : ℕ) → v < length m.points → IsUsed (net_of m.faces) v)
+    → as_it_is None (scanned_mesh m)
+    ≡ record {
+      text = output_text fits.Standing m;
+      notes = note_line (codes "faces without area") (thin_count m.points m.faces)
+          ++ last_note fits.Standing;
+    }
 unfolding note_line
 stands_as_it_is m three placed used =
     let points = map scaled_up m.points in
     let fit = ap (fit_of None points) three ∙ standing_fit m.points m.faces placed in
-    let places = ap (prepared_places_of None points) three ∙ standing_places m.points m.faces placed used in
-    λ i. record { text = output_text (fit i) (record { points = places i; faces = m.faces }); notes = note_line (codes "faces without area") (thin_count (places i) m.faces) ++ last_note (fit i) }
+    let places = ap (prepared_places_of None points) three
+    ∙ standing_places m.points m.faces placed used in
+    λ i. record {
+      text = output_text (fit i) (record { points = places i; faces = m.faces });
+      notes = note_line (codes "faces without area") (thin_count (places i) m.faces)
+          ++ last_note (fit i);
+    }
 
 pub fit_texts_stay : FitTextsStay
 fit_texts_stay bytes m formed_so read some manifold fit =
     let formed = meaning_formed 0 bytes m read in
     let placed = meaning_placed 0 bytes m read in
-    let three : of_three m.faces ≡ m.faces = three_of_mesh (length m.points) m.faces formed.corners in
-    let places = ap (prepared_places_of None (map scaled_up m.points)) three ∙ standing_places m.points m.faces placed fit.used in
+    let three : of_three m.faces
+    ≡ m.faces = three_of_mesh (length m.points) m.faces formed.corners in
+    let places = ap (prepared_places_of None (map scaled_up m.points)) three
+    ∙ standing_places m.points m.faces placed fit.used in
     let needs : NeedsNothing None (scanned_mesh m) = record {
       some = some;
       stand = λ e l. (mesh_side m formed e l).0;
       manifold = manifold;
       fit = subst (λ (ps : List Place). AreFit ps m.faces) (sym places) fit;
     } in
-    subst (λ (d : Done). IsPreparedText None bytes (Ok d) None) (stands_as_it_is m three placed fit.used) (fit_scans_stay None bytes (scanned_mesh m) (read_scanned bytes m formed_so read) needs)
+    subst (λ (d : Done). IsPreparedText None bytes (Ok d) None)
+    (stands_as_it_is m three placed fit.used)
+    (fit_scans_stay None bytes (scanned_mesh m) (read_scanned bytes m formed_so read) needs)
 
 one_done : (r : Result Done Fault) (a b : Done) → r ≡ Ok a → r ≡ Ok b → a ≡ b
 one_done r a b is are = cc

@@ -39,15 +39,21 @@ added_four t0 t1 t2 t3 t4 a b c d one two three four = added_two t0 t3 t4 ((a ++
 pub added_five : (t0 t1 t2 t3 t4 t5 a b c d e : List ℕ) → t1 ≡ t0 ++ a → t2 ≡ t1 ++ b → t3 ≡ t2 ++ c → t4 ≡ t3 ++ d → t5 ≡ t4 ++ e → t5 ≡ t0 ++ ((((a ++ b) ++ c) ++ d) ++ e)
 added_five t0 t1 t2 t3 t4 t5 a b c d e one two three four five = added_two t0 t4 t5 (((a ++ b) ++ c) ++ d) e (added_four t0 t1 t2 t3 t4 a b c d one two three four) five
 
-pub added_six : (t0 t1 t2 t3 t4 t5 t6 a b c d e f : List ℕ) → t1 ≡ t0 ++ a → t2 ≡ t1 ++ b → t3 ≡ t2 ++ c → t4 ≡ t3 ++ d → t5 ≡ t4 ++ e → t6 ≡ t5 ++ f → t6 ≡ t0 ++ (((((a ++ b) ++ c) ++ d) ++ e) ++ f)
+pub added_six : (t0 t1 t2 t3 t4 t5 t6 a b c d e f : List ℕ) → t1 ≡ t0 ++ a → t2 ≡ t1 ++ b
+    → t3 ≡ t2 ++ c → t4 ≡ t3 ++ d → t5 ≡ t4 ++ e → t6 ≡ t5 ++ f
+    → t6 ≡ t0 ++ (((((a ++ b) ++ c) ++ d) ++ e) ++ f)
 added_six t0 t1 t2 t3 t4 t5 t6 a b c d e f one two three four five six =
-    added_two t0 t5 t6 ((((a ++ b) ++ c) ++ d) ++ e) f (added_five t0 t1 t2 t3 t4 t5 a b c d e one two three four five) six
+    added_two t0 t5 t6 ((((a ++ b) ++ c) ++ d) ++ e) f
+    (added_five t0 t1 t2 t3 t4 t5 a b c d e one two three four five) six
 
-pub added_seven : (t0 t1 t2 t3 t4 t5 t6 t7 a b c d e f g : List ℕ) → t1 ≡ t0 ++ a → t2 ≡ t1 ++ b → t3 ≡ t2 ++ c → t4 ≡ t3 ++ d → t5 ≡ t4 ++ e → t6 ≡ t5 ++ f → t7 ≡ t6 ++ g
+pub added_seven : (t0 t1 t2 t3 t4 t5 t6 t7 a b c d e f g : List ℕ) → t1 ≡ t0 ++ a → t2 ≡ t1 ++ b
+    → t3 ≡ t2 ++ c → t4 ≡ t3 ++ d → t5 ≡ t4 ++ e → t6 ≡ t5 ++ f → t7 ≡ t6 ++ g
     → t7 ≡ t0 ++ ((((((a ++ b) ++ c) ++ d) ++ e) ++ f) ++ g)
 added_seven t0 t1 t2 t3 t4 t5 t6 t7 a b c d e f g one two three four five six seven =
-    added_two t0 t6 t7 (((((a ++ b) ++ c) ++ d) ++ e) ++ f) g (added_six t0 t1 t2 t3 t4 t5 t6 a b c d e f one two three four five six) seven
+    added_two t0 t6 t7 (((((a ++ b) ++ c) ++ d) ++ e) ++ f) g
+    (added_six t0 t1 t2 t3 t4 t5 t6 a b c d e f one two three four five six) seven
 
 -- A part of a number isn't greater than it.
-pub few_parts : (n parts : ℕ) → n ≤ 2 * 10 ^ 32 → parts ≤ 131068 → (n + parts - 1) / parts ≤ 3 * 10 ^ 32
+pub few_parts : (n parts : ℕ) → n ≤ 2 * 10 ^ 32 → parts ≤ 131068
+    → (n + parts - 1) / parts ≤ 3 * 10 ^ 32
 few_parts n parts most few = omega (arith, div-le_self (n + parts - 1) parts, most, few)

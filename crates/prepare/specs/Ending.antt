@@ -53,7 +53,8 @@ pub record Finished (size : Option ℕ) (bytes : List ℕ) (old new err_old err_
 
 -- The line of a fault.
 unfoldable pub prepare_fault_line : Fault → List ℕ
-prepare_fault_line (faults.Line e n) = codes "prepare: fault " ++ decimal (fault_number e) ++ codes " line " ++ decimal n ++ codes "\n"
+prepare_fault_line (faults.Line e n) = codes "prepare: fault " ++ decimal (fault_number e)
+    ++ codes " line " ++ decimal n ++ codes "\n"
 prepare_fault_line faults.TooMany = codes "prepare: fault 9\n"
 prepare_fault_line faults.NoFaces = codes "prepare: fault 12\n"
 

@@ -72,28 +72,37 @@ pub data LineLeadsBack (line : List ℕ) (place p : Place) : Type 0 where
   near : (way : WayBack) → TellsWayBack line way → LeadsNear way place p → LineLeadsBack line place p
 
 -- The text is a first line and the canonical text of a mesh. The line leads back from the place of each vertex that a
--- triangle of three different vertices names to the point that was read, and each vertex of the mesh stands at the place of one of them.
+-- triangle of three different vertices names to the point that was read, and each vertex of the
+-- mesh stands at the place of one of them.
 pub record TextLeadsBack (s : Scanned) (places : List Place) (text : List ℕ) (m : Mesh) : Type 0 where
   pub line : List ℕ
   pub text_is : text ≡ line ++ canonical_text 0 m
-  pub back : (v : ℕ) → v < length s.points → is_some_corner (of_three s.faces) v ≡ true → LineLeadsBack line (place_in_list places v) (place_in_list s.points v)
-  pub from : (w : ℕ) → w < length m.points → (v : ℕ) × (v < length s.points) × (is_some_corner (of_three s.faces) v ≡ true) × (place_in_list m.points w ≡ place_in_list places v)
+  pub back : (v : ℕ) → v < length s.points → is_some_corner (of_three s.faces) v ≡ true
+      → LineLeadsBack line (place_in_list places v) (place_in_list s.points v)
+  pub from : (w : ℕ) → w < length m.points
+      → (v : ℕ) × (v < length s.points) × (is_some_corner (of_three s.faces) v ≡ true)
+      × (place_in_list m.points w ≡ place_in_list places v)
 
 -- What is written, where it has faces, leads back to the points of the text.
 abbrev pub TextsLeadBack : Type 0
 TextsLeadBack = (size : Option ℕ) (bytes : List ℕ) (s : Scanned) (done : Done) (place : Option ℕ) (m : Mesh) → IsSize size → scan_meaning_of bytes ≡ Ok s → IsPreparedText size bytes (Ok done) place → meaning_of 0 done.text ≡ Ok m → 0 < length m.faces
     → TextLeadsBack s (places_in size s) done.text m
 
--- Each triangle of a text names a vertex twice, became an edge, has the corners of an earlier one, or came out. Each vertex
--- has no face of three vertices, was joined to an earlier one, has lost its faces, or came out; so many were split off.
+-- Each triangle of a text names a vertex twice, became an edge, has the corners of an earlier one,
+-- or came out. Each vertex
+-- has no face of three vertices, was joined to an earlier one, has lost its faces, or came out; so
+-- many were split off.
 pub record IsAccounted (s : Scanned) (m : Mesh) (notes : Notes) : Type 0 where
-  pub triangles : (counts_of s m).twice + notes.flat + notes.double + length m.faces ≡ length s.faces
+  pub triangles : (counts_of s m).twice + notes.flat + notes.double + length m.faces
+      ≡ length s.faces
   pub split_few : notes.split ≤ length m.points
-  pub vertices : notes.unnamed + notes.joined + notes.gone + (length m.points - notes.split) ≡ length s.points
+  pub vertices : notes.unnamed + notes.joined + notes.gone + (length m.points - notes.split)
+      ≡ length s.points
 
 -- So the numbers that are said of a mesh account for each vertex and triangle of its text.
 abbrev pub TextsAreAccounted : Type 0
-TextsAreAccounted = (size : Option ℕ) (bytes : List ℕ) (s : Scanned) (done : Done) → scan_meaning_of bytes ≡ Ok s → (k : MakesPrepared size s done) → IsAccounted s k.mesh k.notes
+TextsAreAccounted = (size : Option ℕ) (bytes : List ℕ) (s : Scanned) (done : Done)
+    → scan_meaning_of bytes ≡ Ok s → (k : MakesPrepared size s done) → IsAccounted s k.mesh k.notes
 
 -- The text of a mesh, prepared without a size, comes back after a comment. Vertices that were split off stand at one place,
 -- so they are joined, and as many are split off again, maybe along sides that are cut open. Nothing else is done.
@@ -104,19 +113,31 @@ pub record ComesBack (text : List ℕ) (m : Mesh) : Type 0 where
   pub flat : notes.flat ≡ 0
   pub double : notes.double ≡ 0
   pub unnamed : notes.unnamed ≡ 0
-  pub outcome : IsPreparedText None text (Ok (record { text = output_text fits.Standing m; notes = notes_text (counts_of (scanned_mesh m) m) notes fits.Standing None })) None
+  pub outcome : IsPreparedText None text
+      (Ok (record {
+        text = output_text fits.Standing m;
+        notes = notes_text (counts_of (scanned_mesh m) m) notes fits.Standing None;
+      })) None
 
 -- What is written comes back so, whatever the size was.
 abbrev pub TextsComeBack : Type 0
 TextsComeBack = (size : Option ℕ) (bytes : List ℕ) (done : Done) (place : Option ℕ) (m : Mesh) → IsSize size → IsPreparedText size bytes (Ok done) place → meaning_of 0 done.text ≡ Ok m → ComesBack done.text m
 
--- The text of an oriented manifold with faces whose vertices are used and stand apart comes back with nothing said of it but
+-- The text of an oriented manifold with faces whose vertices are used and stand apart comes back
+-- with nothing said of it but
 -- faces without area, where its lines are well formed.
 abbrev pub FitTextsStay : Type 0
-FitTextsStay = (bytes : List ℕ) (m : Mesh) → IsFormed bytes → meaning_of 0 bytes ≡ Ok m → 0 < length m.faces → IsOrientedManifold (net_of m.faces) → AreFit m.points m.faces
-    → IsPreparedText None bytes (Ok (record { text = output_text fits.Standing m; notes = note_line (codes "faces without area") (thin_count m.points m.faces) ++ last_note fits.Standing })) None
+FitTextsStay = (bytes : List ℕ) (m : Mesh) → IsFormed bytes → meaning_of 0 bytes ≡ Ok m
+    → 0 < length m.faces → IsOrientedManifold (net_of m.faces) → AreFit m.points m.faces
+    → IsPreparedText None bytes
+    (Ok (record {
+      text = output_text fits.Standing m;
+      notes = note_line (codes "faces without area") (thin_count m.points m.faces)
+          ++ last_note fits.Standing;
+    })) None
 
--- A text that needs nothing: it has triangles, each of which has three different corners, the triangles are an oriented manifold, each point is
+-- A text that needs nothing: it has triangles, each of which has three different corners, the
+-- triangles are an oriented manifold, each point is
 -- used, and no two come to stand at one place of the grid.
 pub record NeedsNothing (size : Option ℕ) (s : Scanned) : Type 0 where
   pub some : 0 < length s.faces
@@ -124,12 +145,15 @@ pub record NeedsNothing (size : Option ℕ) (s : Scanned) : Type 0 where
   pub manifold : IsOrientedManifold (net_of s.faces)
   pub fit : AreFit (places_in size s) s.faces
 
--- The output and the notes of these triangles over the places of these points: polygons that were cut, faces without area,
+-- The output and the notes of these triangles over the places of these points: polygons that were
+-- cut, faces without area,
 -- and how places lead back.
 abbrev pub as_it_is : Option ℕ → Scanned → Done
 as_it_is size s = record {
   text = output_text (fit_in size s) (record { points = places_in size s; faces = s.faces });
-  notes = note_line (codes "polygons cut") s.polygons ++ note_line (codes "faces without area") (thin_count (places_in size s) s.faces) ++ last_note (fit_in size s);
+  notes = note_line (codes "polygons cut") s.polygons
+      ++ note_line (codes "faces without area") (thin_count (places_in size s) s.faces)
+      ++ last_note (fit_in size s);
 }
 
 -- A text that needs nothing comes back as it is, for each size and for none.
@@ -154,4 +178,5 @@ pub record GainsWayBack (size : Option ℕ) (bytes : List ℕ) (old new : Option
   pub mesh : Mesh
   pub gained : Gains old new text
   pub read : meaning_of 0 text ≡ Ok mesh
-  pub leads : (s : Scanned) → scan_meaning_of bytes ≡ Ok s → 0 < length mesh.faces → TextLeadsBack s (places_in size s) text mesh
+  pub leads : (s : Scanned) → scan_meaning_of bytes ≡ Ok s → 0 < length mesh.faces
+      → TextLeadsBack s (places_in size s) text mesh

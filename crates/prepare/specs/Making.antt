@@ -15,10 +15,12 @@ use Rattle.prepare.specs.Outcome.{Done, LeavesNoFace, places_in}
 abbrev pub done_of : Made → Done
 done_of m = record { text = m.head.items ++ canonical_text 0 (mesh_of m.mesh); notes = m.notes.items }
 
--- Of points and triangles no mesh is made where too many vertices come out or no face, or memory is wanting.
+-- Of points and triangles no mesh is made where too many vertices come out or no face, or memory
+-- is wanting.
 abbrev pub IsMakeFail : Option ℕ → Scanned → InputFail → Type 0
 IsMakeFail size s (input.Faulty (faults.Line e n)) = ⊥
 IsMakeFail size s (input.Faulty faults.TooMany) = HasTooMany (places_in size s) (of_three s.faces)
-IsMakeFail size s (input.Faulty faults.NoFaces) = LeavesNoFace (places_in size s) (of_three s.faces)
+IsMakeFail size s (input.Faulty faults.NoFaces) = LeavesNoFace (places_in size s)
+    (of_three s.faces)
 IsMakeFail size s input.Read = ⊥
 IsMakeFail size s input.OutOfMemory = Unit {0}

@@ -27,7 +27,8 @@ pub record Done : Type 0 where
   pub text : List ℕ
   pub notes : List ℕ
 
--- How the points are brought onto the grid that triangles of three different vertices name, and all places. Faces that name
+-- How the points are brought onto the grid that triangles of three different vertices name, and
+-- all places. Faces that name
 -- a vertex twice count for nothing.
 abbrev pub fit_in : Option ℕ → Scanned → Fit
 fit_in size s = fit_of size s.points (of_three s.faces)
@@ -35,7 +36,8 @@ fit_in size s = fit_of size s.points (of_three s.faces)
 abbrev pub places_in : Option ℕ → Scanned → List Place
 places_in size s = prepared_places_of size s.points (of_three s.faces)
 
--- How many vertices and triangles there were, and came out; how many polygons were cut; how many faces name a vertex twice;
+-- How many vertices and triangles there were, and came out; how many polygons were cut; how many
+-- faces name a vertex twice;
 -- and how many came out without area.
 abbrev pub counts_of : Scanned → Mesh → Counts
 counts_of s m = record {
@@ -48,10 +50,12 @@ counts_of s m = record {
   thin = thin_count m.points m.faces;
 }
 
--- The longest axis of the box, where points are scaled by it and a tenth of the triangles or more became edges.
+-- The longest axis of the box, where points are scaled by it and a tenth of the triangles or more
+-- became edges.
 abbrev pub warning_for : Fit → List Place → List Corners → ℕ → Option LongestAxis
 warning_for fits.Standing points triangles edges = None
-warning_for (fits.Scaled size b) points triangles edges = if nat_le (length triangles) (10 * edges) then Some (longest_axis b points triangles) else None
+warning_for (fits.Scaled size b) points triangles edges = if nat_le (length triangles)
+    (10 * edges) then Some (longest_axis b points triangles) else None
 
 abbrev pub warning_in : Option ℕ → Scanned → Notes → Option LongestAxis
 warning_in size s notes = warning_for (fit_in size s) s.points (of_three s.faces) notes.flat
@@ -66,7 +70,8 @@ pub record MakesPrepared (size : Option ℕ) (s : Scanned) (done : Done) : Type 
   pub manifold : IsOrientedManifold (net_of mesh.faces)
   pub some : 0 < length mesh.faces
   pub text_is : done.text ≡ output_text (fit_in size s) mesh
-  pub notes_are : done.notes ≡ notes_text (counts_of s mesh) notes (fit_in size s) (warning_in size s notes)
+  pub notes_are : done.notes ≡ notes_text (counts_of s mesh) notes (fit_in size s)
+      (warning_in size s notes)
 
 -- No face comes out.
 pub record LeavesNoFace (places : List Place) (faces : List Corners) : Type 0 where
@@ -74,10 +79,16 @@ pub record LeavesNoFace (places : List Place) (faces : List Corners) : Type 0 wh
   pub prepared : IsPrepared places faces mesh
   pub none : length mesh.faces ≡ 0
 
--- The text has a line with a fault, or more vertices come of it than a mesh may have, or no face, or a mesh is made of it; and how
+-- The text has a line with a fault, or more vertices come of it than a mesh may have, or no face,
+-- or a mesh is made of it; and how
 -- many bytes decide that, where it isn't the end of the text.
 pub data IsPreparedText (size : Option ℕ) (bytes : List ℕ) : Result Done Fault → Option ℕ → Type 0 where
-  bad_line : (r : Refused) → scan_meaning_of bytes ≡ Err r → IsPreparedText size bytes (Err (faults.Line r.fault r.line)) r.place
-  too_many : (s : Scanned) → scan_meaning_of bytes ≡ Ok s → HasTooMany (places_in size s) (of_three s.faces) → IsPreparedText size bytes (Err faults.TooMany) None
-  no_face : (s : Scanned) → scan_meaning_of bytes ≡ Ok s → LeavesNoFace (places_in size s) (of_three s.faces) → IsPreparedText size bytes (Err faults.NoFaces) None
+  bad_line : (r : Refused) → scan_meaning_of bytes ≡ Err r
+      → IsPreparedText size bytes (Err (faults.Line r.fault r.line)) r.place
+  too_many : (s : Scanned) → scan_meaning_of bytes ≡ Ok s
+      → HasTooMany (places_in size s) (of_three s.faces)
+      → IsPreparedText size bytes (Err faults.TooMany) None
+  no_face : (s : Scanned) → scan_meaning_of bytes ≡ Ok s
+      → LeavesNoFace (places_in size s) (of_three s.faces)
+      → IsPreparedText size bytes (Err faults.NoFaces) None
   made : (s : Scanned) (done : Done) → scan_meaning_of bytes ≡ Ok s → MakesPrepared size s done → IsPreparedText size bytes (Ok done) None

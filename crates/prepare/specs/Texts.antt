@@ -40,12 +40,14 @@ note_line what n = if n == 0 then codes "" else codes "prepare: " ++ what ++ cod
 
 -- How near places are to the coordinates.
 unfoldable pub within_text : WayBack → List ℕ
-within_text way = codes "prepare: places are within " ++ coordinate_text 18 (pos (within_of way)) ++ codes " of the coordinates\n"
+within_text way = codes "prepare: places are within " ++ coordinate_text 18 (pos (within_of way))
+    ++ codes " of the coordinates\n"
 
 -- How places lead back, where they were scaled.
 abbrev pub last_note : Fit → List ℕ
 last_note fits.Standing = codes ""
-last_note (fits.Scaled size b) = codes "prepare: " ++ way_text (way_back_of size b) ++ within_text (way_back_of size b)
+last_note (fits.Scaled size b) = codes "prepare: " ++ way_text (way_back_of size b)
+    ++ within_text (way_back_of size b)
 
 -- `WHAT N in, M out`
 unfoldable pub in_out_text : List ℕ → ℕ → ℕ → List ℕ
@@ -53,7 +55,8 @@ in_out_text what n m = what ++ decimal n ++ codes " in, " ++ decimal m ++ codes 
 
 -- How many vertices and triangles there were and came out.
 unfoldable pub account_text : Counts → List ℕ
-account_text c = in_out_text (codes "prepare: vertices ") c.vertices_in c.vertices_out ++ in_out_text (codes "; triangles ") c.triangles_in c.triangles_out ++ codes "\n"
+account_text c = in_out_text (codes "prepare: vertices ") c.vertices_in c.vertices_out
+    ++ in_out_text (codes "; triangles ") c.triangles_in c.triangles_out ++ codes "\n"
 
 -- The same, where as many didn't come out.
 unfoldable pub account_line : Counts → List ℕ
@@ -64,8 +67,11 @@ account_line c =
 -- What is said of the faces and places of the input, and of what was cut and left out.
 unfoldable pub face_notes : Counts → Notes → List ℕ
 face_notes c notes =
-    note_line (codes "polygons cut") c.polygons ++ note_line (codes "vertices joined") notes.joined ++ note_line (codes "faces that name a vertex twice") c.twice
-    ++ note_line (codes "faces that became edges") notes.flat ++ note_line (codes "faces that stand twice") notes.double
+    note_line (codes "polygons cut") c.polygons
+    ++ note_line (codes "vertices joined") notes.joined
+    ++ note_line (codes "faces that name a vertex twice") c.twice
+    ++ note_line (codes "faces that became edges") notes.flat
+    ++ note_line (codes "faces that stand twice") notes.double
 
 unfoldable pub vertex_notes : Notes → List ℕ
 vertex_notes notes = note_line (codes "sides cut open") notes.cut ++ note_line (codes "vertices split off") notes.split ++ note_line (codes "vertices that no face has") notes.unnamed
@@ -80,15 +86,19 @@ axis_letter axes.Z = 122
 -- Which axis is the longest, and from where to where it goes. Vertices are counted from 1.
 unfoldable pub longest_text : LongestAxis → List ℕ
 longest_text l =
-    codes "the longest axis, " ++ axis_letter l.axis ∷ [] ++ codes ", goes from vertex " ++ decimal (l.low + 1) ++ codes " to vertex " ++ decimal (l.high + 1) ++ codes "\n"
+    codes "the longest axis, " ++ axis_letter l.axis ∷ [] ++ codes ", goes from vertex "
+    ++ decimal (l.low + 1) ++ codes " to vertex " ++ decimal (l.high + 1) ++ codes "\n"
 
 -- That many triangles became edges, and what the box stretches between.
 unfoldable pub warning_line : Option LongestAxis → List ℕ
 warning_line None = codes ""
-warning_line (Some l) = codes "prepare: a tenth of the triangles or more became edges: " ++ longest_text l
+warning_line (Some l) = codes "prepare: a tenth of the triangles or more became edges: "
+    ++ longest_text l
 
--- What is said of the work: how much came out, a line for each kind of change that was made, how places lead back, and the
+-- What is said of the work: how much came out, a line for each kind of change that was made, how
+-- places lead back, and the
 -- warning, if any.
 unfoldable pub notes_text : Counts → Notes → Fit → Option LongestAxis → List ℕ
 notes_text c notes fit warning =
-    account_line c ++ face_notes c notes ++ vertex_notes notes ++ note_line (codes "faces without area") c.thin ++ last_note fit ++ warning_line warning
+    account_line c ++ face_notes c notes ++ vertex_notes notes
+    ++ note_line (codes "faces without area") c.thin ++ last_note fit ++ warning_line warning

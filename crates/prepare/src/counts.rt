@@ -26,7 +26,8 @@ pub struct Counts {
     pub thin: u32,
 }
 
-/// The counts of a text, of whose triangles these name three vertices, and of the mesh that came out.
+/// The counts of a text, of whose triangles these name three vertices, and of the mesh that came
+/// out.
 pub fn counts_of(scan: &Scan, three: &[Corners], mesh: &Mesh) -> Counts
     requires within { IsWithinLimits (scanned_of scan.now) }
     requires three { three.now ≡ of_three scan.now.faces.items }

@@ -227,7 +227,8 @@ fn add_notes(
     Ok(())
 }
 
-/// What is said of the work: how much came out, a line for each kind of change that was made, how places lead back, and
+/// What is said of the work: how much came out, a line for each kind of change that was made, how
+/// places lead back, and
 /// the warning.
 pub fn notes_text(
     alloc: Global,

@@ -28,13 +28,17 @@ count_set-requires-2 c =
 
 pub count_gone-requires-clause-both : goal.count_gone-requires-clause-both
 count_gone-requires-clause-both c =
-    let flags = ap length (c.deref-8.ensures.value ∙ c.in_ok-before.ensures) ∙ length-named_in c.args.faces.now (length c.args.places.now) in
-    flags ∙ sym (ap length c.deref-9.ensures.value ∙ pieces_names c.requires.within c.requires.pieces)
+    let flags = ap length (c.deref-8.ensures.value ∙ c.in_ok-before.ensures)
+    ∙ length-named_in c.args.faces.now (length c.args.places.now) in
+    flags ∙ sym (ap length c.deref-9.ensures.value
+    ∙ pieces_names c.requires.within c.requires.pieces)
 
 pub count_gone-requires-clause-as_many : goal.count_gone-requires-clause-as_many
 count_gone-requires-clause-as_many c =
-    let flags = ap length (c.deref-10.ensures.value ∙ c.in_ok-after.ensures) ∙ length-named_in c.deref.result.now (length c.args.places.now) in
-    flags ∙ sym (ap length c.deref-9.ensures.value ∙ pieces_names c.requires.within c.requires.pieces)
+    let flags = ap length (c.deref-10.ensures.value ∙ c.in_ok-after.ensures)
+    ∙ length-named_in c.deref.result.now (length c.args.places.now) in
+    flags ∙ sym (ap length c.deref-9.ensures.value
+    ∙ pieces_names c.requires.within c.requires.pieces)
 
 pub cut_sides-requires : goal.cut_sides-requires
 cut_sides-requires c = rw c.deref-5.ensures.value (pieces_cuttable c.requires.within c.requires.pieces)
@@ -52,5 +56,7 @@ returns c =
       cut = counted_cut _ _ _ _ _ p.stay_is c.deref-5.ensures.value c.in_ok-cut_sides.ensures;
       split = counted_split _ _ _ _ _ _ _ _ _ len p.stay_is after c.deref-6.ensures.value c.count_set.ensures (omega (arith, c.len-2.ensures, c.saturating_sub-3.ensures));
       unnamed = counted_unnamed _ _ _ _ _ _ c.in_ok-before.ensures c.deref-7.ensures.value c.count_set-2.ensures (omega (arith, c.saturating_sub-4.ensures));
-      gone = counted_gone _ _ _ _ _ _ _ _ _ _ len p.stay_is c.in_ok-before.ensures after c.deref-8.ensures.value c.deref-9.ensures.value c.deref-10.ensures.value c.count_gone.ensures;
+      gone = counted_gone _ _ _ _ _ _ _ _ _ _ len p.stay_is c.in_ok-before.ensures after
+          c.deref-8.ensures.value c.deref-9.ensures.value c.deref-10.ensures.value
+          c.count_gone.ensures;
     }

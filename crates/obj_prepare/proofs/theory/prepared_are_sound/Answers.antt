@@ -8,4 +8,13 @@ use Rattle.obj_prepare.proofs.OnePrepared.{prepared_are_one, notes_are_one}
 use Rattle.obj_prepare.proofs.theory.prepared_are_sound.Goals as goal
 
 pub returns : goal.returns
-returns c = record { nearest = nearest_is_nearest; back = places_lead_back; within = places_are_within; one = prepared_are_one; notes = notes_are_one; accounts = accounts_close; fit = fit_meshes_stay; again = prepared_again }
+returns c = record {
+  nearest = nearest_is_nearest;
+  back = places_lead_back;
+  within = places_are_within;
+  one = prepared_are_one;
+  notes = notes_are_one;
+  accounts = accounts_close;
+  fit = fit_meshes_stay;
+  again = prepared_again;
+}

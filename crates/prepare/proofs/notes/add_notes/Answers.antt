@@ -6,7 +6,12 @@ use Rattle.prepare.proofs.notes.add_notes.Goals as goal
 pub returns : goal.returns
 unfolding notes_text
 returns c =
-    added_six c.args.text.now.items c.add_account.new.text.items c.add_face_notes.new.text.items c.add_vertex_notes.new.text.items c.add_note.new.text.items c.add_last.new.text.items c.add_warning.new.text.items
-    (account_line c.args.counts) (face_notes c.args.counts c.args.notes.now) (vertex_notes c.args.notes.now) (note_line (codes "faces without area") c.args.counts.thin) (last_note c.args.fit.now)
+    added_six c.args.text.now.items c.add_account.new.text.items c.add_face_notes.new.text.items
+    c.add_vertex_notes.new.text.items c.add_note.new.text.items c.add_last.new.text.items
+    c.add_warning.new.text.items
+    (account_line c.args.counts) (face_notes c.args.counts c.args.notes.now)
+    (vertex_notes c.args.notes.now)
+    (note_line (codes "faces without area") c.args.counts.thin) (last_note c.args.fit.now)
     (warning_line c.args.warning)
-    c.in_ok-add_account.ensures c.in_ok-add_face_notes.ensures c.in_ok-add_vertex_notes.ensures c.in_ok-add_note.ensures c.in_ok-add_last.ensures c.in_ok-add_warning.ensures
+    c.in_ok-add_account.ensures c.in_ok-add_face_notes.ensures c.in_ok-add_vertex_notes.ensures
+    c.in_ok-add_note.ensures c.in_ok-add_last.ensures c.in_ok-add_warning.ensures

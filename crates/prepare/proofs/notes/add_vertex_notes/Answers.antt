@@ -4,4 +4,5 @@ use Rattle.prepare.proofs.notes.add_vertex_notes.Goals as goal
 
 pub returns : goal.returns
 unfolding vertex_notes
-returns c = added_four _ _ _ _ _ _ _ _ _ c.in_ok-add_note.ensures c.in_ok-add_note-2.ensures c.in_ok-add_note-3.ensures c.in_ok-add_note-4.ensures
+returns c = added_four _ _ _ _ _ _ _ _ _ c.in_ok-add_note.ensures c.in_ok-add_note-2.ensures
+    c.in_ok-add_note-3.ensures c.in_ok-add_note-4.ensures

@@ -7,4 +7,12 @@ use Rattle.prepare.proofs.StayLaws.{fit_scans_stay, fit_texts_stay}
 use Rattle.prepare.proofs.outcomes.outcomes_are_sound.Goals as goal
 
 pub returns : goal.returns
-returns c = record { one = one_outcome; read = texts_are_read; back = texts_lead_back; accounts = texts_are_accounted; again = texts_come_back; stays = fit_scans_stay; fit = fit_texts_stay }
+returns c = record {
+  one = one_outcome;
+  read = texts_are_read;
+  back = texts_lead_back;
+  accounts = texts_are_accounted;
+  again = texts_come_back;
+  stays = fit_scans_stay;
+  fit = fit_texts_stay;
+}
