@@ -176,10 +176,11 @@ cut_world whole manifold (p ∷ ps) cut within once =
     let both = sums (piece_mesh p) (cut_mesh ps) in
     let piece = first_piece p ps cut in
     let left = other_pieces p ps cut in
-    let meets = meet_rest whole manifold p ps piece left.pieces (first_shares p ps cut) within once in
+    let share = first_shares p ps cut in
+    let meets = meet_rest whole manifold p ps piece left.pieces share within once in
     let others =
-        cut_world whole manifold ps left (λ v x y f. within v x y (both.right v x y f))
-        (both.once_right once) in
+    cut_world whole manifold ps left (λ v x y f. within v x y (both.right v x y f))
+    (both.once_right once) in
     let all = All-map (MeetOnBorders (tile_of p)) tile_of ps meets in
     record {
       tiles = All-cons IsTile (tile_of p) (map tile_of ps) (is_tile p piece) others.tiles;

@@ -7,12 +7,16 @@ use Rattle.std.proofs.lemmas.Bool.{cases_eq}
 use Rattle.std.proofs.lemmas.List.Elements.{All-nil, All-cons, All-head, All-tail}
 use Rattle.std.proofs.lemmas.List.Kept.{AllPairs-cons}
 use Rattle.pm_base.specs.Sides.{side_count, Stands, net_of}
-use Rattle.pm_base.specs.Fans.{IsUsed}
 use Rattle.pm_base.proofs.Search.{Decided, search_below}
 use Rattle.pm_base.proofs.TwinLaws.{stands?}
+use Rattle.pm_base.proofs.NetLaws.{mesh_side}
 use Rattle.pm_forest.specs.Forest.{node_count}
+use Rattle.pm_seams.specs.Joined.{no_faces}
+use Rattle.pm_seams.proofs.Copies.{IsCopied}
+use Rattle.pm_seams.proofs.Alike.{AreAlike, alike_surfaces, copies_alike, then, beside}
+use Rattle.pm_seams.proofs.Alike.{beside_first, itself}
 use Rattle.pm_worlds.specs.Cuts.{Piece, hierarchy_in, node_in, IsPiece, IsCornerNode, ShareCorners}
-use Rattle.pm_worlds.specs.Cuts.{AreCut}
+use Rattle.pm_worlds.specs.Cuts.{piece_mesh, cut_mesh, AreCut}
 use Rattle.pm_worlds.specs.Names.{IsPieceAtCorners, HasSameCorners}
 use Rattle.pm_worlds.specs.Laws as law
 
@@ -72,7 +76,7 @@ module _ (most from : ℕ) (p : Piece) (piece : IsPieceAtCorners most p) (high :
   same_corner : (v w : ℕ) → IsCornerNode p v → IsCornerNode p w → p.vertex v ≡ p.vertex w → v ≡ w
   same_corner v w c d is =
       let corners = piece.distinct c.corner d.corner c.used d.used
-          (ap p.vertex c.node ∙ is ∙ sym (ap p.vertex d.node)) in
+      (ap p.vertex c.node ∙ is ∙ sym (ap p.vertex d.node)) in
       sym c.node ∙ ap (node_in p) corners ∙ d.node
 
   distinct : (v w : ℕ) → (named from p).vertex v ≡ (named from p).vertex w → v ≡ w
@@ -112,42 +116,58 @@ module _ (most from : ℕ) (p : Piece) (piece : IsPieceAtCorners most p) (high :
     corners = λ v used. at_corner (node_in p v) (record { corner = v; used = used; node = refl });
   }
 
+-- Each side of the mesh runs between corners, so its ends have the same numbers.
+named_alike :
+    (most from : ℕ) (p : Piece) → IsPieceAtCorners most p → most ≤ from →
+    AreAlike (piece_mesh p) (piece_mesh (named from p))
+named_alike most from p piece high =
+    let net = net_of p.mesh.faces in
+    let copied : IsCopied (piece_mesh p) (piece_mesh (named from p)) (λ x. x) (λ e. e) = record {
+      is_side = λ e l. l;
+      turns = λ e l. refl;
+      named = λ e l.
+          let s = (mesh_side p.mesh piece.start.formed e l).0 in
+          at_corner most from p piece high (node_in p (net.from e))
+          (record { corner = net.from e; used = (e, s, refl); node = refl });
+    } in
+    copies_alike _ _ (λ e. e) copied (λ e l. (e, l, refl))
+
 abbrev of_named : (from : ℕ) (p : Piece) (v : ℕ) → IsCornerNode p v → IsCornerNode (named from p) v
 of_named from p v c = record { corner = c.corner; used = c.used; node = c.node }
 
 -- Two pieces, the other nodes of the second numbered after those of the first.
 module _
-  (most from after : ℕ) (p q : Piece)
-  (first : IsPieceAtCorners most p) (second : IsPieceAtCorners most q)
-  (high : most ≤ from) (later : from + node_count (hierarchy_in p) ≤ after)
+    (most from after : ℕ) (p q : Piece)
+    (first : IsPieceAtCorners most p) (second : IsPieceAtCorners most q)
+    (high : most ≤ from) (later : from + node_count (hierarchy_in p) ≤ after)
   where
-  above : most ≤ after
-  above = omega arith
+    above : most ≤ after
+    above = omega arith
 
-  shared : ShareCorners (named from p) (named after q)
-  shared v w lv lw is =
-      elim (corner? p v) [
-        | inl c ↦
-            let here = at_corner most from p first high v c in
-            let low = corner_below most from p first high v c in
-            elim (corner? q w) [
-              | inl d ↦ (of_named from p v c, of_named after q w d)
-              | inr never ↦
-                  let there = elsewhere most after q second above w never in
-                  absurd (omega arith)
-            ]
-        | inr none ↦
-            let here = elsewhere most from p first high v none in
-            elim (corner? q w) [
-              | inl d ↦
-                  let there = at_corner most after q second above w d in
-                  let low = corner_below most after q second above w d in
-                  absurd (omega arith)
-              | inr never ↦
-                  let there = elsewhere most after q second above w never in
-                  absurd (omega arith)
-            ]
-      ]
+    shared : ShareCorners (named from p) (named after q)
+    shared v w lv lw is =
+        elim (corner? p v) [
+          | inl c ↦
+              let here = at_corner most from p first high v c in
+              let low = corner_below most from p first high v c in
+              elim (corner? q w) [
+                | inl d ↦ (of_named from p v c, of_named after q w d)
+                | inr never ↦
+                    let there = elsewhere most after q second above w never in
+                    absurd (omega arith)
+              ]
+          | inr none ↦
+              let here = elsewhere most from p first high v none in
+              elim (corner? q w) [
+                | inl d ↦
+                    let there = at_corner most after q second above w d in
+                    let low = corner_below most after q second above w d in
+                    absurd (omega arith)
+                | inr never ↦
+                    let there = elsewhere most after q second above w never in
+                    absurd (omega arith)
+              ]
+        ]
 
 all_named : ℕ → List Piece → List Piece
 all_named from [] = []
@@ -198,6 +218,25 @@ module _ (most : ℕ) where
       let after = from + node_count (hierarchy_in p) in
       (same_corners most from p piece high, all_same after (omega arith) ps others)
 
+  all_alike :
+      (from : ℕ) → most ≤ from → (ps : List Piece) → All (IsPieceAtCorners most) ps →
+      AreAlike (cut_mesh ps) (cut_mesh (all_named from ps))
+  unfolding all_named
+  all_alike from high [] all = itself no_faces
+  all_alike from high (p ∷ ps) all =
+      let piece = All-head (IsPieceAtCorners most) p ps all in
+      let others = All-tail (IsPieceAtCorners most) p ps all in
+      let after = from + node_count (hierarchy_in p) in
+      let here = named_alike most from p piece high in
+      let there = all_alike after (omega arith) ps others in
+      then _ _ _ (beside_first (cut_mesh ps) (piece_mesh p) (piece_mesh (named from p)) here)
+      (beside (piece_mesh (named from p)) (cut_mesh ps) (cut_mesh (all_named after ps)) there)
+
 pub nodes_named : law.NodesCanBeNamed
 nodes_named most ps all =
-    (all_named most ps, are_cut most most (omega arith) ps all, all_same most most (omega arith) ps all)
+    let alike = all_alike most most (omega arith) ps all in (
+      all_named most ps,
+      are_cut most most (omega arith) ps all,
+      all_same most most (omega arith) ps all,
+      alike_surfaces _ _ alike,
+    )

@@ -47,4 +47,5 @@ CutMeshesKeepBorders =
 abbrev pub NodesCanBeNamed : Type 0
 NodesCanBeNamed =
     (most : ℕ) (ps : List Piece) → All (IsPieceAtCorners most) ps →
-    (qs : List Piece) × AreCut qs × AllZip HasSameCorners ps qs
+    (qs : List Piece) × AreCut qs × AllZip HasSameCorners ps qs ×
+    (IsOrientedManifold (cut_mesh ps) → IsOrientedManifold (cut_mesh qs))
