@@ -1,0 +1,4 @@
+pub mod Turning
+pub mod TurnLaws
+pub mod Unions
+pub mod UnionLaws

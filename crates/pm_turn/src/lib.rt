@@ -1,0 +1,13 @@
+//! Faces turned round so that neighbours agree: the patches that faces make over the edges that two of
+//! them share, and of each patch the faces that are turned.
+#![tactic(auto)]
+
+mod patches;
+mod sides;
+mod theory;
+
+use std::alloc::AllocError;
+pub use theory::{turns_are_sound, unions_are_sound};
+
+/// The answer for want of memory.
+pub type OutOfMemory = AllocError;

@@ -1,0 +1,36 @@
+//! The laws of turning faces round, and of joining faces that are neighbours.
+ghost use Rattle.pm_turn.specs.TurnLaws.{
+  TurnedFacesBecomeManifolds,
+  EachIsTurnedOrNot,
+  TurnedFacesStay,
+  TurnsAreOne,
+  AgreeingFacesStay,
+  ManifoldsAreNotTurned,
+  TurnedMatesAreGlued,
+  GluedStaysGlued,
+  TurnedFacesAreTurnedOnce,
+  TracedTablesTurn,
+};
+ghost use Rattle.pm_turn.specs.UnionLaws.{EldersGrow, EldersBegin, MatelessSidesPass, EldersAreTraced};
+
+/// The laws of turning faces round, which takes no step.
+pub fn turns_are_sound()
+    ensures manifold { TurnedFacesBecomeManifolds }
+    ensures each { EachIsTurnedOrNot }
+    ensures stay { TurnedFacesStay }
+    ensures one { TurnsAreOne }
+    ensures agreeing { AgreeingFacesStay }
+    ensures untouched { ManifoldsAreNotTurned }
+    ensures glued { TurnedMatesAreGlued }
+    ensures still { GluedStaysGlued }
+    ensures once { TurnedFacesAreTurnedOnce }
+    ensures traced { TracedTablesTurn }
+{}
+
+/// The laws of joining mates pair by pair, which takes no step.
+pub fn unions_are_sound()
+    ensures grow { EldersGrow }
+    ensures begin { EldersBegin }
+    ensures pass { MatelessSidesPass }
+    ensures traced { EldersAreTraced }
+{}
