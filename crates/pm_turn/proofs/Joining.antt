@@ -52,10 +52,10 @@ closes_true : (d : Bool) → flipped_if d (flipped_if true d) ≡ true
 closes_true true = refl
 closes_true false = refl
 
-put_same : {A : Type 0} (f : ℕ → A) (i j : ℕ) (v : A) → j ≡ i → put f i v j ≡ v
+pub put_same : {A : Type 0} (f : ℕ → A) (i j : ℕ) (v : A) → j ≡ i → put f i v j ≡ v
 put_same f i j v is = cond-true _ _ _ (eq-eqb _ _ is)
 
-put_other : {A : Type 0} (f : ℕ → A) (i j : ℕ) (v : A) → j ≢ i → put f i v j ≡ f j
+pub put_other : {A : Type 0} (f : ℕ → A) (i j : ℕ) (v : A) → j ≢ i → put f i v j ≡ f j
 put_other f i j v ne = cond-false _ _ _ (ne_eqb _ _ ne)
 
 -- The way up is one.

@@ -1,3 +1,4 @@
+pub mod EdgeLaws
 pub mod KeptFit
 pub mod TurnedFaces
 pub mod TurnedSides
@@ -6,3 +7,6 @@ pub mod Traced
 pub mod Joining
 pub mod Tables
 pub mod JoinLaws
+pub mod Shortening
+pub mod Flags
+pub mod TurnMore

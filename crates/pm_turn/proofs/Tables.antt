@@ -5,7 +5,7 @@ use Rattle.std.proofs.lemmas.Grind.{get_or-set_at}
 use Rattle.std.proofs.lemmas.List.{get_or-set_other}
 use Rattle.pm_turn.specs.Unions.{Elders, Up, put, under, marked, elders_of}
 
-set_put : {A : Type 0} (xs : List A) (i : ℕ) (v d : A) → i < length xs → (x : ℕ) → slice_index_or (set xs i v) x d ≡ put (λ y. slice_index_or xs y d) i v x
+pub set_put : {A : Type 0} (xs : List A) (i : ℕ) (v d : A) → i < length xs → (x : ℕ) → slice_index_or (set xs i v) x d ≡ put (λ y. slice_index_or xs y d) i v x
 set_put xs i v d l x =
     elim (cases_eq x i) [
       | inl is ↦ get_or-set_at xs i x v d is l ∙ sym (cond-true _ _ _ (eq-eqb _ _ is))

@@ -1,3 +1,4 @@
+pub mod Edges
 pub mod Turning
 pub mod TurnLaws
 pub mod Unions

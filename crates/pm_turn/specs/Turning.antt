@@ -82,5 +82,8 @@ pub record AreTraced (m : Net) (root : ℕ → ℕ) (parity odd : ℕ → Bool) 
   pub straight : (e k : ℕ) → AreMates m e k → odd (root (face_of e)) ≡ false → parity (face_of k) ≡ flipped_if (clash m e k) (parity (face_of e))
 
 -- The flag of a face: its parity, but in a patch with an odd closed way.
+abbrev pub flag_with : Bool → Bool → Bool
+flag_with odd parity = if odd then false else parity
+
 abbrev pub traced_flag : (ℕ → ℕ) → (ℕ → Bool) → (ℕ → Bool) → ℕ → Bool
-traced_flag root parity odd f = if odd (root f) then false else parity f
+traced_flag root parity odd f = flag_with (odd (root f)) (parity f)

@@ -2,7 +2,7 @@
 -- is its own elder stands for its patch.
 use Rattle.std.specs.Prelude.{◌≡◌, ◌≢◌, ℕ, ◌<◌, ◌≤◌, ◌==◌, Bool, true, false, not, ◌||◌, if◌then◌else◌, List, length, slice_index_or, Option, MatchOption}
 use Rattle.pm_base.specs.Sides.{Net, face_of, side_count, beside_side}
-use Rattle.pm_turn.specs.Turning.{AreMates, clash, flipped_if, Way}
+use Rattle.pm_turn.specs.Turning.{AreMates, clash, flipped_if, flag_with, Way}
 
 -- What each face has: its elder, whether the way to that is odd, and of a face that stands for a patch whether an odd closed way
 -- was found in it.
@@ -61,3 +61,19 @@ pub record AreTables (faces : ℕ) (elders : List ℕ) (parities odd : List Bool
 pub record AreMated (m : Net) (mates : List (Option ℕ)) : Type 0 where
   pub sides : length mates ≡ side_count m
   pub each : (e : ℕ) → e < side_count m → MatchOption (beside_side mates e) ((k : ℕ) → AreMates m e k → ⊥) (λ k. AreMates m e k)
+
+-- The ways up were shortened: each face has the root and the parity that it had.
+pub record AreShorter (s t : Elders) : Type 0 where
+  pub ups : (x r : ℕ) (p : Bool) → Up s x r p → Up t x r p
+  pub back : (x r : ℕ) (p : Bool) → Up t x r p → Up s x r p
+  pub low : ((x : ℕ) → s.elder x ≤ x) → (x : ℕ) → t.elder x ≤ x
+  pub apart : (x : ℕ) → s.elder x ≢ x → t.elder x ≢ x
+  pub odd : (x : ℕ) → t.odd x ≡ s.odd x
+  pub stay : (m : Net) (n : ℕ) → AreElders m n s → AreElders m n t
+
+-- The flag of a face is told by the way up from it.
+pub record IsFlagged (t : Elders) (f : ℕ) (flag : Bool) : Type 0 where
+  pub root : ℕ
+  pub parity : Bool
+  pub way : Up t f root parity
+  pub is : flag ≡ flag_with (t.odd root) parity

@@ -2,12 +2,16 @@
 //! them share, and of each patch the faces that are turned.
 #![tactic(auto)]
 
+mod edges;
 mod patches;
 mod sides;
 mod theory;
+mod turning;
 
+pub use edges::side_mates;
 use std::alloc::AllocError;
 pub use theory::{turns_are_sound, unions_are_sound};
+pub use turning::{turned, turns};
 
 /// The answer for want of memory.
 pub type OutOfMemory = AllocError;

@@ -1,0 +1,314 @@
+-- The sides of an edge are told by its two vertices, and where it has two they are mates.
+use Rattle.std.proofs.Common.{◌≡◌, ◌≢◌, ℕ, ◌+◌, ◌*◌, ◌/◌, ◌<◌, ◌≤◌, true, false, ◌⊎◌, inl, inr, refl, sym, ap, ◌∙◌, subst, Option, Some, None, List, [], length, slice_index_or, arith}
+use Rattle.std.specs.Prelude.{◌==◌, nat_lt, if◌then◌else◌}
+use Rattle.std.specs.Option.{IfSome, MatchOption, option_map}
+use Rattle.std.specs.Ordering.{nat_cmp}
+use Rattle.std.specs.BTreeMap.{BTreeMap, get, is_at, Updates}
+use Rattle.std.specs.Map.{lookup}
+use Rattle.std.proofs.lemmas.Bool.{cases_eq, cases_lt, cond-true, cond-false, eq-eqb, ne_eqb, lt-ltb, le-ltb}
+use Rattle.std.proofs.lemmas.Nat.{div-mul-add}
+use Rattle.std.proofs.Math.ListN.{set, replicate}
+use Rattle.std.proofs.lemmas.List.{get_or-set_same, get_or-set_other, length-set, length-replicate}
+use Rattle.pm_base.specs.declared.ids.Side.{Side}
+use Rattle.pm_base.specs.Sides.{Net, side_count, next, to, beside_side}
+use Rattle.pm_base.proofs.Sides.{next-lt}
+use Rattle.pm_fans.specs.Splits.{IsCuttable}
+use Rattle.pm_fans.proofs.KeyLaws.{equal_is}
+use Rattle.pm_turn.specs.declared.edges.Edge.{Edge}
+use Rattle.pm_turn.specs.Turning.{JoinsSame, AreMates}
+use Rattle.pm_turn.specs.Unions.{AreMated}
+use Rattle.pm_turn.specs.Edges.{edge_key, edge_key_at, IsOnly, AreTwo, AreMore, IsEdge, AreEdges, edge_with, mate_in}
+use Rattle.pm_turn.proofs.TurnedSides.{SameEnds}
+
+-- Two ends in ascending order are known from their key.
+parts_are : (p q r s : ℕ) → q < 4294967296 → s < 4294967296
+    → p * 4294967296 + q ≡ r * 4294967296 + s → (p ≡ r) × (q ≡ s)
+parts_are p q r s ql sl e =
+    let b : ℕ = 4294967296 in
+    let one : p ≡ r = sym (div-mul-add p b q ql) ∙ ap (λ n. n / b) e ∙ div-mul-add r b s sl in
+    let ones : p * b ≡ r * b = ap (λ n. n * b) one in
+    (one, omega (arith, ones, e))
+
+key_up : (p q : ℕ) → p < q → edge_key p q ≡ p * 4294967296 + q
+key_up p q l = cond-true _ _ _ (lt-ltb p q l)
+
+key_down : (p q : ℕ) → q ≤ p → edge_key p q ≡ q * 4294967296 + p
+key_down p q l = cond-false _ _ _ (le-ltb p q l)
+
+-- Sides that join the same two vertices have one key, and sides of one key join the same two.
+key_back : (p q : ℕ) → edge_key p q ≡ edge_key q p
+key_back p q =
+    elim (cases_lt p q) [
+      | inl l ↦ key_up p q l ∙ sym (key_down q p (omega (arith, l)))
+      | inr l ↦
+          elim (cases_eq q p) [
+            | inl is ↦ ap (λ i. edge_key p i) is ∙ ap (λ i. edge_key i p) (sym is)
+            | inr ne ↦ key_down p q l ∙ sym (key_up q p (omega (arith, l, ne)))
+          ]
+    ]
+
+same_key : (p q r s : ℕ) → SameEnds p q r s → edge_key p q ≡ edge_key r s
+same_key p q r s (inl (a, b)) = ap (λ i. edge_key i q) a ∙ ap (edge_key r) b
+same_key p q r s (inr (a, b)) = ap (λ i. edge_key i q) a ∙ ap (edge_key s) b ∙ key_back s r
+
+key_ends : (p q r s : ℕ) → p < 4294967296 → q < 4294967296 → r < 4294967296 → s < 4294967296
+    → edge_key p q ≡ edge_key r s → SameEnds p q r s
+key_ends p q r s pl ql rl sl e =
+    elim (cases_lt p q) [
+      | inl a ↦
+          elim (cases_lt r s) [
+            | inl b ↦ inl (parts_are p q r s ql sl (sym (key_up p q a) ∙ e ∙ key_up r s b))
+            | inr b ↦ inr (parts_are p q s r ql rl (sym (key_up p q a) ∙ e ∙ key_down r s b))
+          ]
+      | inr a ↦
+          elim (cases_lt r s) [
+            | inl b ↦
+                let (c, d) = parts_are q p r s pl sl (sym (key_down p q a) ∙ e ∙ key_up r s b) in
+                inr (d, c)
+            | inr b ↦
+                let (c, d) = parts_are q p s r pl rl (sym (key_down p q a) ∙ e ∙ key_down r s b) in
+                inl (d, c)
+          ]
+    ]
+
+-- Before any side none has a key.
+pub none_noted : (m : Net) (map : BTreeMap ℕ Edge) → map.entries ≡ [] → AreEdges m 0 map
+none_noted m map is k =
+    subst (IsEdge m 0 k) (sym (ap (lookup (is_at (nat_cmp k))) is)) (λ e l. absurd (omega arith))
+
+more_on : (m : Net) (n k : ℕ) → AreMore m n k → AreMore m (n + 1) k
+more_on m n k s =
+    let one = s.one_in in
+    let two = s.two_in in
+    let three = s.three_in in
+    record {
+      one = s.one;
+      two = s.two;
+      three = s.three;
+      one_in = omega (arith, one);
+      two_in = omega (arith, two);
+      three_in = omega (arith, three);
+      one_two = s.one_two;
+      one_three = s.one_three;
+      two_three = s.two_three;
+      one_has = s.one_has;
+      two_has = s.two_has;
+      three_has = s.three_has;
+    }
+
+-- One more side with another key.
+noted_other : (m : Net) (n k : ℕ) (r : Option Edge) → edge_key_at m n ≢ k → IsEdge m n k r → IsEdge m (n + 1) k r
+noted_other m n k None ne h = λ e l.
+    elim (cases_eq e n) [
+      | inl same ↦ (λ is. ne (ap (edge_key_at m) (sym same) ∙ is))
+      | inr other ↦ h e (omega (arith, l, other))
+    ]
+noted_other m n k (Some (Edge.One v)) ne h =
+    let low = h.in_range in
+    record {
+      in_range = omega (arith, low);
+      has = h.has;
+      alone = λ e l is.
+          elim (cases_eq e n) [
+            | inl same ↦ absurd (ne (ap (edge_key_at m) (sym same) ∙ is))
+            | inr other ↦ h.alone e (omega (arith, l, other)) is
+          ];
+    }
+noted_other m n k (Some (Edge.Two v w)) ne h =
+    let one = h.one_in in
+    let other = h.other_in in
+    record {
+      one_in = omega (arith, one);
+      other_in = omega (arith, other);
+      differ = h.differ;
+      one_has = h.one_has;
+      other_has = h.other_has;
+      alone = λ e l is.
+          elim (cases_eq e n) [
+            | inl same ↦ absurd (ne (ap (edge_key_at m) (sym same) ∙ is))
+            | inr ahead ↦ h.alone e (omega (arith, l, ahead)) is
+          ];
+    }
+noted_other m n k (Some Edge.More) ne h = more_on m n k h
+
+-- One more side with this key.
+noted_same : (m : Net) (n k : ℕ) (r : Option Edge) (e : Side) → e.0 ≡ n → edge_key_at m n ≡ k → IsEdge m n k r
+    → IsEdge m (n + 1) k (Some (edge_with r e))
+noted_same m n k None e at is none = record {
+  in_range = omega (arith, at);
+  has = ap (edge_key_at m) at ∙ is;
+  alone = λ g l h.
+      elim (cases_eq g n) [
+        | inl same ↦ same ∙ sym at
+        | inr other ↦ absurd (none g (omega (arith, l, other)) h)
+      ];
+}
+noted_same m n k (Some (Edge.One v)) e at is h =
+    let low = h.in_range in
+    record {
+      one_in = omega (arith, low);
+      other_in = omega (arith, at);
+      differ = λ i. absurd (omega (arith, low, at, i));
+      one_has = h.has;
+      other_has = ap (edge_key_at m) at ∙ is;
+      alone = λ g l has.
+          elim (cases_eq g n) [
+            | inl same ↦ inr (same ∙ sym at)
+            | inr other ↦ inl (h.alone g (omega (arith, l, other)) has)
+          ];
+    }
+noted_same m n k (Some (Edge.Two v w)) e at is h =
+    let one = h.one_in in
+    let two = h.other_in in
+    record {
+      one = v.0;
+      two = w.0;
+      three = n;
+      one_in = omega (arith, one);
+      two_in = omega (arith, two);
+      three_in = omega arith;
+      one_two = h.differ;
+      one_three = λ i. absurd (omega (arith, one, i));
+      two_three = λ i. absurd (omega (arith, two, i));
+      one_has = h.one_has;
+      two_has = h.other_has;
+      three_has = is;
+    }
+noted_same m n k (Some Edge.More) e at is h = more_on m n k h
+
+pub one_noted : (m : Net) (s t : BTreeMap ℕ Edge) (e : Side) (key : ℕ) (r : Option Edge) (now : Edge) → AreEdges m e.0 s
+    → key ≡ edge_key_at m e.0 → r ≡ get nat_cmp s key → now ≡ edge_with r e → Updates nat_cmp s t key (Some now)
+    → AreEdges m (e.0 + 1) t
+one_noted m s t e key r now noted is at new u k =
+    elim (cases_eq key k) [
+      | inl same ↦
+          let here : get nat_cmp t k ≡ Some now = u.0 k ∙ cond-true _ _ _ (equal_is key k ∙ eq-eqb _ _ same) in
+          let before : IsEdge m e.0 k r = subst (IsEdge m e.0 k) (sym (at ∙ ap (get nat_cmp s) same)) (noted k) in
+          let after : IsEdge m (e.0 + 1) k (Some (edge_with r e)) = noted_same m e.0 k r e refl (sym is ∙ same) before in
+          subst (IsEdge m (e.0 + 1) k) (ap Some (sym new) ∙ sym here) after
+      | inr ne ↦
+          let here : get nat_cmp t k ≡ get nat_cmp s k = u.0 k ∙ cond-false _ _ _ (equal_is key k ∙ ne_eqb _ _ ne) in
+          subst (IsEdge m (e.0 + 1) k) (sym here) (noted_other m e.0 k (get nat_cmp s k) (λ i. ne (is ∙ i)) (noted k))
+    ]
+
+module _ (m : Net) (ok : IsCuttable m) where
+  to_low : (e : ℕ) → e < side_count m → to m e < 4294967296
+  to_low e l = ok.low (next e) (next-lt m.faces e l)
+
+  joins : (e g : ℕ) → e < side_count m → g < side_count m → edge_key_at m g ≡ edge_key_at m e → JoinsSame m e g
+  joins e g el gl is = record {
+    stands = ok.stand g gl;
+    ends = key_ends (m.from g) (to m g) (m.from e) (to m e) (ok.low g gl) (to_low g gl) (ok.low e el) (to_low e el) is;
+  }
+
+  has_key : (e g : ℕ) → JoinsSame m e g → edge_key_at m g ≡ edge_key_at m e
+  has_key e g j = same_key (m.from g) (to m g) (m.from e) (to m e) j.ends
+
+  are_mates : (e k : ℕ) → e < side_count m → AreTwo m (side_count m) (edge_key_at m e) e k → AreMates m e k
+  are_mates e k l t = record {
+    stands = ok.stand e l;
+    differ = t.differ;
+    same = joins e k l t.other_in t.other_has;
+    alone = λ g j. t.alone g j.stands.is_side (has_key e g j);
+  }
+
+  swapped : (n k v w : ℕ) → AreTwo m n k v w → AreTwo m n k w v
+  swapped n k v w t = record {
+    one_in = t.other_in;
+    other_in = t.one_in;
+    differ = λ is. t.differ (sym is);
+    one_has = t.other_has;
+    other_has = t.one_has;
+    alone = λ e l is. elim (t.alone e l is) [ inl a ↦ inr a | inr a ↦ inl a ];
+  }
+
+  three_apart : (e k : ℕ) → AreMates m e k → AreMore m (side_count m) (edge_key_at m e) → ⊥
+  three_apart e k a t =
+      let el = a.stands.is_side in
+      let one = a.alone t.one (joins e t.one el t.one_in t.one_has) in
+      let two = a.alone t.two (joins e t.two el t.two_in t.two_has) in
+      let three = a.alone t.three (joins e t.three el t.three_in t.three_has) in
+      elim one [
+        | inl i ↦
+            elim two [
+              | inl j ↦ t.one_two (i ∙ sym j)
+              | inr j ↦ elim three [ inl h ↦ t.one_three (i ∙ sym h) | inr h ↦ t.two_three (j ∙ sym h) ]
+            ]
+        | inr i ↦
+            elim two [
+              | inr j ↦ t.one_two (i ∙ sym j)
+              | inl j ↦ elim three [ inr h ↦ t.one_three (i ∙ sym h) | inl h ↦ t.two_three (j ∙ sym h) ]
+            ]
+      ]
+
+  mate_is : (e : Side) (r : Option Edge) → e.0 < side_count m → IsEdge m (side_count m) (edge_key_at m e.0) r
+      → MatchOption (mate_in r e) ((k : ℕ) → AreMates m e.0 k → ⊥) (λ k. AreMates m e.0 k.0)
+  mate_is e None l none = absurd (none e.0 l refl)
+  mate_is e (Some (Edge.One v)) l only = λ k a.
+      let here = only.alone e.0 l refl in
+      let there = only.alone k a.same.stands.is_side (has_key e.0 k a.same) in
+      a.differ (here ∙ sym there)
+  mate_is e (Some (Edge.Two v w)) l two =
+      elim (cases_eq v.0 e.0) [
+        | inl is ↦
+            subst (λ (x : Side). AreMates m e.0 x.0) (sym (cond-true _ _ _ (eq-eqb _ _ is)))
+            (are_mates e.0 w.0 l (subst (λ i. AreTwo m (side_count m) (edge_key_at m e.0) i w.0) is two))
+        | inr ne ↦
+            let at : w.0 ≡ e.0 = elim (two.alone e.0 l refl) [ inl is ↦ absurd (ne (sym is)) | inr is ↦ sym is ] in
+            let turned = swapped (side_count m) (edge_key_at m e.0) v.0 w.0 two in
+            subst (λ (x : Side). AreMates m e.0 x.0) (sym (cond-false _ _ _ (ne_eqb _ _ ne)))
+            (are_mates e.0 v.0 l (subst (λ i. AreTwo m (side_count m) (edge_key_at m e.0) i v.0) at turned))
+      ]
+  mate_is e (Some Edge.More) l more = λ k a. three_apart e.0 k a more
+
+  pub mate_found : (e : Side) (map : BTreeMap ℕ Edge) (key : ℕ) (r : Option Edge) (found : Option Side)
+      → e.0 < side_count m → AreEdges m (side_count m) map → key ≡ edge_key_at m e.0 → r ≡ get nat_cmp map key
+      → found ≡ mate_in r e → MatchOption found ((k : ℕ) → AreMates m e.0 k → ⊥) (λ k. AreMates m e.0 k.0)
+  mate_found e map key r found l noted is at answer =
+      let edge : IsEdge m (side_count m) (edge_key_at m e.0) r = subst (IsEdge m (side_count m) (edge_key_at m e.0)) (sym (at ∙ ap (get nat_cmp map) is)) (noted (edge_key_at m e.0)) in
+      subst (λ (o : Option Side). MatchOption o ((k : ℕ) → AreMates m e.0 k → ⊥) (λ k. AreMates m e.0 k.0)) (sym answer) (mate_is e r l edge)
+
+-- The table of all sides has the mate of each of the first n.
+pub record AreMatedTo (m : Net) (n : ℕ) (mates : List (Option ℕ)) : Type 0 where
+  pub sides : length mates ≡ side_count m
+  pub each : (e : ℕ) → e < n → MatchOption (beside_side mates e) ((k : ℕ) → AreMates m e k → ⊥) (λ k. AreMates m e k)
+
+pub none_mated : (m : Net) (mates : List (Option ℕ)) → mates ≡ replicate (side_count m) None → AreMatedTo m 0 mates
+none_mated m mates is = record {
+  sides = ap length is ∙ length-replicate (side_count m) None;
+  each = λ e l. absurd (omega (arith, l));
+}
+
+told : (m : Net) (e : ℕ) (r : Option Side) → MatchOption r ((k : ℕ) → AreMates m e k → ⊥) (λ k. AreMates m e k.0)
+    → MatchOption (option_map (λ s. s.0) r) ((k : ℕ) → AreMates m e k → ⊥) (λ k. AreMates m e k)
+told m e None none = none
+told m e (Some s) mate = mate
+
+-- One more is put in.
+pub mated_more : (m : Net) (n : ℕ) (xs ys : List (Option ℕ)) (r : Option Side) → n < side_count m → AreMatedTo m n xs
+    → ys ≡ set xs n (option_map (λ s. s.0) r) → MatchOption r ((k : ℕ) → AreMates m n k → ⊥) (λ k. AreMates m n k.0)
+    → AreMatedTo m (n + 1) ys
+mated_more m n xs ys r low h is now =
+    let new : Option ℕ = option_map (λ s. s.0) r in
+    record {
+      sides = ap length is ∙ length-set xs n new ∙ h.sides;
+      each = λ e l.
+          elim (cases_eq e n) [
+            | inl same ↦
+                let at : slice_index_or ys e None ≡ new = ap (λ zs. slice_index_or zs e None) is ∙ ap (λ i. slice_index_or (set xs n new) i None) same ∙ get_or-set_same xs n new None (omega (arith, low, h.sides)) in
+                subst (λ o. MatchOption o ((k : ℕ) → AreMates m e k → ⊥) (λ k. AreMates m e k)) (sym at)
+                (subst (λ i. MatchOption new ((k : ℕ) → AreMates m i k → ⊥) (λ k. AreMates m i k)) (sym same) (told m n r now))
+            | inr other ↦
+                let at : slice_index_or ys e None ≡ slice_index_or xs e None = ap (λ zs. slice_index_or zs e None) is ∙ get_or-set_other xs n e new None other in
+                subst (λ o. MatchOption o ((k : ℕ) → AreMates m e k → ⊥) (λ k. AreMates m e k)) (sym at) (h.each e (omega (arith, l, other)))
+          ];
+    }
+
+pub all_mated : (m : Net) (n : ℕ) (mates : List (Option ℕ)) → n ≡ side_count m → AreMatedTo m n mates → AreMated m mates
+all_mated m n mates all h = record { sides = h.sides; each = λ e l. h.each e (omega (arith, all, l)) }
+
+-- A mate has a number that sides have.
+pub mate_low : (m : Net) (e most : ℕ) (r : Option Side) → side_count m ≤ most
+    → MatchOption r ((k : ℕ) → AreMates m e k → ⊥) (λ k. AreMates m e k.0) → IfSome r (λ s. s.0 < most)
+mate_low m e most None few none = tt
+mate_low m e most (Some s) few mate = let low = mate.same.stands.is_side in omega (arith, low, few)
