@@ -14,7 +14,7 @@ ghost use Rattle.pm_demo.specs.Summary.{IsOfGrid, view_line};
 use crate::OutOfMemory;
 use crate::lines::put_settled;
 use pm_beyond::plans_are_sound;
-use pm_bounds::Bounds;
+use pm_deviation::Measures;
 use pm_forest::Hierarchy;
 use pm_front::Front;
 use pm_grid::{grid, grids_are_sound};
@@ -24,7 +24,7 @@ use pm_number::from_log;
 use pm_refine::{Adapted, Refiner};
 use pm_simplify::simplify_surface;
 use pm_twins::Surface;
-use pm_view::{Steps, View};
+use pm_view::{Measure, Steps, View};
 use std::alloc::{AllocError, Global};
 use std::marker::{Brand, Model};
 use std::sync::ledger::{Blank, Ledger};
@@ -33,7 +33,7 @@ use std::sync::ledger::{Blank, Ledger};
 #[derive(Drop)]
 pub struct Scene {
     front: Front,
-    bounds: Bounds,
+    measures: Measures,
     refiner: Refiner,
 }
 
@@ -44,7 +44,7 @@ impl Model for Scene {
 
     ghost view = { λ s. record { h = s.front.h; flags = s.front.flags } };
 
-    ghost invariant = { λ s. AreSceneTools s.front.h s.bounds s.refiner };
+    ghost invariant = { λ s. AreSceneTools s.front.h s.measures s.refiner };
 }
 
 // The hierarchy of a grid that is simplified as far as pairs may be collapsed.
@@ -64,28 +64,30 @@ fn simplified_grid(alloc: Global, n: u32) -> Result<Hierarchy, OutOfMemory>
     from_log(alloc, &mesh, &log)
 }
 
-// Adapts a front to a view, with a budget of the number of records, and answers how many moves
-// that took.
+// Adapts a front to a view by errors, with a budget of the number of records, and answers how many
+// moves that took.
+#[tactic(auto, using(pm_view::proofs::Serving::serves_errors))]
 fn settle<L: Ledger>(
     refiner: &mut Refiner,
     front: &mut Front,
-    bounds: &Bounds,
+    measures: &Measures,
     view: &View,
     blank: Blank,
 ) -> u32
-    requires tools { AreSceneTools front.old.h bounds.now refiner.old }
+    requires tools { AreSceneTools front.old.h measures.now refiner.old }
+    requires by_error { view.now.measure ≡ Measure.Error }
     requires name { blank.name ≡ L.name }
     requires parts { blank.parts ≡ L.parts }
     requires some { 0 < L.parts }
     ensures moves { result ≡ length (view_plan front.old.h (set_of front.old.flags) view.now) }
     ensures after { set_of front.new.flags ≡ view_target front.old.h view.now }
     ensures hierarchy { front.new.h ≡ front.old.h }
-    ensures tools { AreSceneTools front.new.h bounds.now refiner.new }
+    ensures tools { AreSceneTools front.new.h measures.now refiner.new }
 {
     plans_are_sound();
     let budget = front.hierarchy().records();
     let mut steps: Steps<L> = Steps::new(blank);
-    match refiner.adapt(front, bounds, view, budget, &mut steps) {
+    match refiner.adapt(front, measures, view, budget, &mut steps) {
         Adapted::Settled { moves } => moves,
         // A plan has at most as many moves as there are records.
         Adapted::Spent { .. } => unreachable!(),
@@ -108,11 +110,11 @@ impl Scene {
             Err(LoadFail::EdgeTwice(_)) => unreachable!(),
             Err(LoadFail::BadNeighbour(_)) => unreachable!(),
         };
-        let bounds = Bounds::of(alloc, front.hierarchy())?;
+        let measures = Measures::of(alloc, front.hierarchy())?;
         let refiner = Refiner::new(alloc, front.hierarchy())?;
         Ok(Scene {
             front,
-            bounds,
+            measures,
             refiner,
         })
     }
@@ -126,6 +128,7 @@ impl Scene {
 
     // Adapts the front to a view, and answers how many moves that took.
     fn look(&mut self, view: &View) -> u32
+        requires by_error { view.now.measure ≡ Measure.Error }
         ensures moves { result ≡ length (view_plan self.old.h (set_of self.old.flags) view.now) }
         ensures after { set_of self.new.flags ≡ view_target self.old.h view.now }
         ensures hierarchy { self.new.h ≡ self.old.h }
@@ -133,15 +136,16 @@ impl Scene {
         settle::<Brand>(
             &mut self.refiner,
             &mut self.front,
-            &self.bounds,
+            &self.measures,
             view,
             Blank::new(1),
         )
     }
 
-    /// Adapts the front to a view with the number i, and puts the line of that.
+    /// Adapts the front to a view by errors with the number i, and puts the line of that.
     #[tactic(auto, unfolding(crate::specs::Summary::view_line))]
     pub fn show<K: Sink>(&mut self, i: u32, view: &View, out: &mut K) -> Result<(), WriteFault>
+        requires by_error { view.now.measure ≡ Measure.Error }
         ensures after { set_of self.new.flags ≡ view_target self.old.h view.now }
         ensures hierarchy { self.new.h ≡ self.old.h }
         ensures puts { let text = view_line self.old.h (set_of self.old.flags) i view.now in

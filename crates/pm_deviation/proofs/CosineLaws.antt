@@ -124,7 +124,7 @@ quotient_most m (suc k) h = (let l = div_below (16384 * m) (suc k) 16385 (omega 
 least_falls : (u : Axis) (a b : Spread) → IsOver a b → least_cosine u a ≤ least_cosine u b
 least_falls u a b o = quotient_grows (16384 * one_side a) (16384 * one_side b) (length_of u) (mul-le 16384 (one_side a) 16384 (one_side b) (le_refl 16384) (side_falls a b o))
 
-least_most : (u : Axis) (s : Spread) → IsWithinAxis u s → least_cosine u s ≤ 16384
+pub least_most : (u : Axis) (s : Spread) → IsWithinAxis u s → least_cosine u s ≤ 16384
 least_most u s h = quotient_most (one_side s) (length_of u) h
 
 falls_left : (u : Axis) (a b : Option Spread) → IfSome (join a b) (IsWithinAxis u) → cosine_by u (join a b) ≤ cosine_by u a

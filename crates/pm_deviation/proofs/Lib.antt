@@ -16,3 +16,4 @@ pub mod AxisLaws
 pub mod SameNet
 pub mod LeafMesh
 pub mod CosineTables
+pub mod OrderLaws

@@ -9,3 +9,4 @@ pub mod DecidingLaws
 pub mod DecidedLaws
 pub mod DecisionCounts
 pub mod DoingLaws
+pub mod Showing

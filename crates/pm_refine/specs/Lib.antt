@@ -1,4 +1,5 @@
 pub mod Adapting
+pub mod Showing
 pub mod Holding
 pub mod Finding
 pub mod Deciding

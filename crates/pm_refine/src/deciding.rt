@@ -6,8 +6,7 @@ ghost use Rattle.pm_sets.specs.Sets.{IsEmptySet};
 ghost use Rattle.pm_forest.specs.Forest.{record_count, s_of};
 ghost use Rattle.pm_beyond.specs.Moves.{needs};
 ghost use Rattle.pm_beyond.specs.Plans.{differs};
-ghost use Rattle.pm_bounds.specs.Bounds.{AreBoundsOf};
-ghost use Rattle.pm_view.specs.Wanted.{is_wanted};
+ghost use Rattle.pm_view.specs.Wanted.{Serves, is_wanted};
 ghost use Rattle.pm_refine.specs.Holding.{Joins, HoldsMoves};
 ghost use Rattle.pm_refine.specs.Finding.{IsStartOfPlan};
 ghost use Rattle.pm_refine.specs.Deciding.{AreDecided, IsNext};
@@ -17,7 +16,7 @@ ghost use Rattle.pm_refine.specs.Adapting.{view_target};
 use crate::falls::Falls;
 use crate::marks::mark_all;
 use crate::needs::push_all;
-use pm_bounds::Bounds;
+use pm_deviation::Measures;
 use pm_forest::Hierarchy;
 use pm_front::Front;
 use pm_sets::NumberSet;
@@ -40,14 +39,14 @@ fn is_still_needed(front: &Front, falls: &Falls, k: u32) -> bool
 // has to be tested.
 fn stays<L: Ledger>(
     front: &Front,
-    bounds: &Bounds,
+    measures: &Measures,
     view: &View,
     marks: &[bool],
     falls: &Falls,
     k: u32,
     steps: &mut Steps<L>,
 ) -> bool
-    requires bounds { AreBoundsOf front.now.h bounds.now }
+    requires measures { Serves front.now.h view.now measures.now }
     requires record { k < record_count front.now.h }
     requires marks { length marks.now ≡ record_count front.now.h }
     requires split { (j : ℕ) → set_of falls.now.records j ≡ true → set_of front.now.flags j ≡ true }
@@ -69,7 +68,7 @@ fn stays<L: Ledger>(
         return true;
     }
     let node = front.split_node(k);
-    wants_split(front.hierarchy(), bounds, k, node, view, steps)
+    wants_split(front.hierarchy(), measures, k, node, view, steps)
 }
 
 // A record that goes is put in the one set; one that will be split is put in the other, and what it
@@ -108,7 +107,7 @@ fn note(
 // Decides a record, where all greater ones are decided, and says whether a move is made of it.
 fn decide<L: Ledger>(
     front: &Front,
-    bounds: &Bounds,
+    measures: &Measures,
     view: &View,
     k: u32,
     marks: &mut Vec<bool>,
@@ -117,7 +116,7 @@ fn decide<L: Ledger>(
     falls: &mut Falls,
     steps: &mut Steps<L>,
 ) -> bool
-    requires bounds { AreBoundsOf front.now.h bounds.now }
+    requires measures { Serves front.now.h view.now measures.now }
     requires next { IsNext front.now.h (is_wanted front.now.h view.now) (set_of front.now.flags) k
         marks.old.items work.old rises.old falls.old.records }
     requires counts { AreNeedCounts front.now.h (set_of falls.old.records) falls.old.needs }
@@ -131,7 +130,7 @@ fn decide<L: Ledger>(
     front.invariant();
     let h = front.hierarchy();
     let is_split = front.is_split(k);
-    let stays = stays(front, bounds, view, marks, falls, k, steps);
+    let stays = stays(front, measures, view, marks, falls, k, steps);
     marks[k as usize] = false;
     if stays == is_split {
         return false;
@@ -146,7 +145,7 @@ fn decide<L: Ledger>(
 /// `falls`, and answers how many they are. It empties the set `work`.
 pub(crate) fn decide_all<L: Ledger>(
     front: &Front,
-    bounds: &Bounds,
+    measures: &Measures,
     view: &View,
     marks: &mut Vec<bool>,
     work: &mut NumberSet,
@@ -154,7 +153,7 @@ pub(crate) fn decide_all<L: Ledger>(
     falls: &mut Falls,
     steps: &mut Steps<L>,
 ) -> u32
-    requires bounds { AreBoundsOf front.now.h bounds.now }
+    requires measures { Serves front.now.h view.now measures.now }
     requires start { IsStartOfPlan front.now.h (is_wanted front.now.h view.now) (set_of front.now.flags)
         work.old }
     requires marks { length marks.old.items ≡ record_count front.now.h }
@@ -181,7 +180,7 @@ pub(crate) fn decide_all<L: Ledger>(
     let mut moves_found = 0;
     let mut bound = front.hierarchy().records();
     while let Some(k) = work.take_last() {
-        if decide(front, bounds, view, k, marks, work, rises, falls, steps) {
+        if decide(front, measures, view, k, marks, work, rises, falls, steps) {
             moves_found += 1;
         }
         bound = k;

@@ -6,13 +6,12 @@ ghost use Rattle.pm_sets.specs.Sets.{IsEmptySet};
 ghost use Rattle.pm_forest.specs.Forest.{record_count, node_count, t_of, u_of};
 ghost use Rattle.pm_forest.specs.Moves.{may_try};
 ghost use Rattle.pm_front.specs.Needed.{is_unneeded};
-ghost use Rattle.pm_bounds.specs.Bounds.{AreBoundsOf};
-ghost use Rattle.pm_view.specs.Wanted.{is_wanted};
+ghost use Rattle.pm_view.specs.Wanted.{Serves, is_wanted};
 ghost use Rattle.pm_refine.specs.Holding.{Joins, HoldsBelow, leads_to};
 ghost use Rattle.pm_refine.specs.Finding.{is_due, is_due_now, is_loose, IsStartOfPlan};
 
 use pm_base::NodeId;
-use pm_bounds::Bounds;
+use pm_deviation::Measures;
 use pm_forest::Hierarchy;
 use pm_front::Front;
 use pm_sets::NumberSet;
@@ -22,12 +21,12 @@ use std::sync::ledger::Ledger;
 // Puts each record in the set that waits for a split and whose node is wanted.
 fn see_waiting<L: Ledger>(
     front: &Front,
-    bounds: &Bounds,
+    measures: &Measures,
     view: &View,
     rises: &mut NumberSet,
     steps: &mut Steps<L>,
 )
-    requires bounds { AreBoundsOf front.now.h bounds.now }
+    requires measures { Serves front.now.h view.now measures.now }
     requires rises { length rises.old ≡ record_count front.now.h }
     requires no_rises { IsEmptySet rises.old }
     ensures seen { let h = front.now.h in HoldsBelow (record_count h)
@@ -39,7 +38,7 @@ fn see_waiting<L: Ledger>(
     let mut from = 0;
     while let Some(k) = front.waiting().first_from(from) {
         let node = front.split_node(k);
-        if wants_split(front.hierarchy(), bounds, k, node, view, steps) {
+        if wants_split(front.hierarchy(), measures, k, node, view, steps) {
             rises.insert(k);
         }
         from = k + 1;
@@ -49,12 +48,12 @@ fn see_waiting<L: Ledger>(
 // Puts each record in the set that no split record needs and whose node isn't wanted.
 fn see_unneeded<L: Ledger>(
     front: &Front,
-    bounds: &Bounds,
+    measures: &Measures,
     view: &View,
     work: &mut NumberSet,
     steps: &mut Steps<L>,
 )
-    requires bounds { AreBoundsOf front.now.h bounds.now }
+    requires measures { Serves front.now.h view.now measures.now }
     requires work { length work.old ≡ record_count front.now.h }
     requires no_work { IsEmptySet work.old }
     ensures loose { let h = front.now.h in HoldsBelow (record_count h)
@@ -66,7 +65,7 @@ fn see_unneeded<L: Ledger>(
     let mut from = 0;
     while let Some(k) = front.unneeded().first_from(from) {
         let node = front.split_node(k);
-        if !wants_split(front.hierarchy(), bounds, k, node, view, steps) {
+        if !wants_split(front.hierarchy(), measures, k, node, view, steps) {
             work.insert(k);
         }
         from = k + 1;
@@ -77,13 +76,13 @@ fn see_unneeded<L: Ledger>(
 // over without a test.
 fn look<L: Ledger>(
     h: &Hierarchy,
-    bounds: &Bounds,
+    measures: &Measures,
     view: &View,
     node: NodeId,
     rises: &mut NumberSet,
     steps: &mut Steps<L>,
 )
-    requires bounds { AreBoundsOf h.now bounds.now }
+    requires measures { Serves h.now view.now measures.now }
     requires node { node.0 < node_count h.now }
     requires rises { length rises.old ≡ record_count h.now }
     ensures len { length rises.new ≡ length rises.old }
@@ -92,7 +91,7 @@ fn look<L: Ledger>(
     ensures cost { steps.new ≤ steps.old + 1 }
 {
     if let Some(k) = h.splitter(node) {
-        if wants_split(h, bounds, k, node, view, steps) {
+        if wants_split(h, measures, k, node, view, steps) {
             rises.insert(k);
         }
     }
@@ -101,13 +100,13 @@ fn look<L: Ledger>(
 // Looks at both children of a record.
 fn look_below<L: Ledger>(
     h: &Hierarchy,
-    bounds: &Bounds,
+    measures: &Measures,
     view: &View,
     k: u32,
     rises: &mut NumberSet,
     steps: &mut Steps<L>,
 )
-    requires bounds { AreBoundsOf h.now bounds.now }
+    requires measures { Serves h.now view.now measures.now }
     requires record { k < record_count h.now }
     requires rises { length rises.old ≡ record_count h.now }
     ensures len { length rises.new ≡ length rises.old }
@@ -117,8 +116,8 @@ fn look_below<L: Ledger>(
     ensures cost { steps.new ≤ steps.old + 2 }
 {
     let (t, u) = h.children(k);
-    look(h, bounds, view, t, rises, steps);
-    look(h, bounds, view, u, rises, steps);
+    look(h, measures, view, t, rises, steps);
+    look(h, measures, view, u, rises, steps);
 }
 
 /// Finds the records that aren't split and whose nodes are wanted, and the records that may go, and puts
@@ -126,13 +125,13 @@ fn look_below<L: Ledger>(
 /// that no split record needs once, and each child of what it finds once at most.
 pub(crate) fn find<L: Ledger>(
     front: &Front,
-    bounds: &Bounds,
+    measures: &Measures,
     view: &View,
     rises: &mut NumberSet,
     work: &mut NumberSet,
     steps: &mut Steps<L>,
 )
-    requires bounds { AreBoundsOf front.now.h bounds.now }
+    requires measures { Serves front.now.h view.now measures.now }
     requires rises { length rises.old ≡ record_count front.now.h }
     requires work { length work.old ≡ record_count front.now.h }
     requires no_rises { IsEmptySet rises.old }
@@ -146,12 +145,12 @@ pub(crate) fn find<L: Ledger>(
         + 2 * count (is_due h (is_wanted h view.now) S) (record_count h) }
 {
     front.invariant();
-    see_waiting(front, bounds, view, rises, steps);
-    see_unneeded(front, bounds, view, work, steps);
+    see_waiting(front, measures, view, rises, steps);
+    see_unneeded(front, measures, view, work, steps);
     let mut next = 0;
     while let Some(k) = rises.take_first() {
         work.insert(k);
-        look_below(front.hierarchy(), bounds, view, k, rises, steps);
+        look_below(front.hierarchy(), measures, view, k, rises, steps);
         next = k + 1;
     }
 }

@@ -8,8 +8,10 @@ mod finding;
 mod marks;
 mod needs;
 mod refiner;
+mod theory;
 
 pub use refiner::{Adapted, Refiner};
+pub use theory::deviation_views_are_sound;
 
 /// The answer for want of memory.
 pub type OutOfMemory = std::alloc::AllocError;

@@ -5,7 +5,7 @@ ghost use Rattle.pm_forest.specs.Forest.{record_count};
 ghost use Rattle.pm_front.specs.Shown.{active_nodes};
 ghost use Rattle.pm_front.specs.Corners.{corner_lists_after};
 ghost use Rattle.pm_beyond.specs.Plans.{moved_by, differs};
-ghost use Rattle.pm_bounds.specs.Bounds.{AreBoundsOf};
+ghost use Rattle.pm_view.specs.Wanted.{Serves};
 ghost use Rattle.pm_refine.specs.Adapting.{view_target, view_plan, adapted_of};
 ghost use Rattle.pm_refine.specs.declared.refiner.Adapted.TheVariants as answers;
 
@@ -14,7 +14,7 @@ use crate::deciding::decide_all;
 use crate::doing::{adapted, advance};
 use crate::falls::Falls;
 use crate::finding::find;
-use pm_bounds::Bounds;
+use pm_deviation::Measures;
 use pm_forest::Hierarchy;
 use pm_front::Front;
 use pm_sets::NumberSet;
@@ -84,13 +84,13 @@ impl Refiner {
     pub fn adapt<L: Ledger>(
         &mut self,
         front: &mut Front,
-        bounds: &Bounds,
+        measures: &Measures,
         view: &View,
         budget: u32,
         steps: &mut Steps<L>,
     ) -> Adapted
         requires records { self.old ≡ record_count front.old.h }
-        requires bounds { AreBoundsOf front.old.h bounds.now }
+        requires measures { Serves front.old.h view.now measures.now }
         ensures refiner { self.new ≡ self.old }
         ensures hierarchy { front.new.h ≡ front.old.h }
         ensures moved { set_of front.new.flags
@@ -105,10 +105,17 @@ impl Refiner {
             + 2 * length (active_nodes front.old.h S) + 4 * length (view_plan front.old.h S view.now) }
     {
         front.invariant();
-        find(front, bounds, view, &mut self.rises, &mut self.work, steps);
+        find(
+            front,
+            measures,
+            view,
+            &mut self.rises,
+            &mut self.work,
+            steps,
+        );
         let moves = decide_all(
             front,
-            bounds,
+            measures,
             view,
             &mut self.marks,
             &mut self.work,

@@ -8,3 +8,4 @@ pub mod NodeLaws
 pub mod ViewLaws
 pub mod FieldLaws
 pub mod NumberLaws
+pub mod Serving

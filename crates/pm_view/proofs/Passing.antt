@@ -6,9 +6,11 @@ use Rattle.std.proofs.lemmas.Nat.{mul-le}
 use Rattle.std.proofs.lemmas.Bool.{cases_lt, and_parts, and_from, and_cases, or_cases, or_parts, or_left, or_right, not-true, not-false, not_from_false, both_ways, lt-ltb, ltb-true, ltb-false, false_from_ne_true, false≢true}
 use Rattle.pm_base.specs.Place.{Place}
 use Rattle.pm_base.specs.Geometry.{Direction, dot_of, dist2_of, norm2_of}
+use Rattle.pm_view.specs.declared.measure.Measure.{Measure}
+use Rattle.pm_view.specs.declared.measure.Measure.TheVariants as measures
 use Rattle.pm_view.specs.declared.plane.Plane.{Plane}
 use Rattle.pm_view.specs.Views.{View}
-use Rattle.pm_view.specs.Wanted.{Bounded, value_at, normal_in, is_outside, is_outside_any, least_facing, greatest_facing, may_turn_away, looks_large, is_large, passes}
+use Rattle.pm_view.specs.Wanted.{Bounded, value_at, normal_in, is_outside, is_outside_any, least_facing, greatest_facing, may_turn_away, size_of, looks_larger, looks_large, is_large, passes}
 use Rattle.pm_view.specs.Laws.{way}
 use Rattle.pm_view.proofs.Premises.{IsChild, IsCorner, IsBehindOne, FacesAway, FacesTo, LooksWithin, LooksTiny}
 use borrow.Author.Differences.{ints}
@@ -82,24 +84,39 @@ facing_passes s b eye h e = is_at_most (least_facing b eye) (pos 0) (≤ℤ_by (
 lt_by : (a b c : ℕ) → a < b → b ≤ c → a < c
 lt_by a b c p q = omega arith
 
-le_by : (a b c : ℕ) → a ≤ b → b ≤ c → a ≤ c
+pub le_by : (a b c : ℕ) → a ≤ b → b ≤ c → a ≤ c
 le_by a b c p q = omega arith
 
--- (e f + t r + t d) is at most (e' f + t r'), with e + d at most e' and r + d at most r'
-grown : (e r d f t e' r' : ℕ) → e + d ≤ e' → r + d ≤ r' → t * d + (e * f + t * r) ≤ e' * f + t * r'
-grown e r d f t e' r' p q = omega (arith, mul-le e f e' f (omega arith) (le_refl f), mul-le t (r + d) t r' (le_refl t) q)
+-- (e f + t r + t d) is at most (e' f + t r'), with e at most e' and r + d at most r'
+grown : (e r d f t e' r' : ℕ) → e ≤ e' → r + d ≤ r' → t * d + (e * f + t * r) ≤ e' * f + t * r'
+grown e r d f t e' r' p q = omega (arith, mul-le e f e' f p (le_refl f), mul-le t (r + d) t r' (le_refl t) q)
+
+at_most_more : (a d b : ℕ) → a + d ≤ b → a ≤ b
+at_most_more a d b h = omega arith
+
+-- by whichever number a node is judged, its parent's is no less
+size_grows : (child parent : Bounded) (m : Measure) → IsChild child parent → size_of m child ≤ size_of m parent
+size_grows s b measures.Error h = at_most_more s.error h.d b.error h.error
+size_grows s b measures.Deviation h = h.deviation
 
 near_times : (t n d : ℕ) → n ≤ d * d → t * t * n ≤ (t * d) * (t * d)
 near_times t n d h = omega (arith, mul-le (t * t) n (t * t) (d * d) (le_refl (t * t)) h)
 
-pub looks_large_passes : (child parent : Bounded) (v : View) (tol : ℕ) → IsChild child parent → looks_large child v tol ≡ true → looks_large parent v tol ≡ true
-unfolding looks_large
-looks_large_passes s b v tol h e =
-    let l = ltb-true (tol * tol * dist2_of s.place v.eye) ((s.error * v.focal + tol * s.radius) * (s.error * v.focal + tol * s.radius)) e in
-    let w = scaled b.place s.place v.eye tol (tol * h.d) (s.error * v.focal + tol * s.radius) (near_times tol (dist2_of b.place s.place) h.d h.near) l in
-    let g = grown s.error s.radius h.d v.focal tol b.error b.radius h.error h.radius in
-    lt-ltb (tol * tol * dist2_of b.place v.eye) ((b.error * v.focal + tol * b.radius) * (b.error * v.focal + tol * b.radius))
+-- a size in the child's ball, and one that is no less in the parent's
+sizes_pass : (child parent : Bounded) (v : View) (tol m n : ℕ) → IsChild child parent → m ≤ n
+    → looks_larger m child.place child.radius v tol ≡ true → looks_larger n parent.place parent.radius v tol ≡ true
+unfolding looks_larger
+sizes_pass s b v tol m n h le e =
+    let l = ltb-true (tol * tol * dist2_of s.place v.eye) ((m * v.focal + tol * s.radius) * (m * v.focal + tol * s.radius)) e in
+    let near = near_times tol (dist2_of b.place s.place) h.d h.near in
+    let w = scaled b.place s.place v.eye tol (tol * h.d) (m * v.focal + tol * s.radius) near l in
+    let g = grown m s.radius h.d v.focal tol n b.radius le h.radius in
+    lt-ltb (tol * tol * dist2_of b.place v.eye) ((n * v.focal + tol * b.radius) * (n * v.focal + tol * b.radius))
     (lt_by _ _ _ w (mul-le _ _ _ _ g g))
+
+pub looks_large_passes : (child parent : Bounded) (v : View) (tol : ℕ) → IsChild child parent → looks_large child v tol ≡ true → looks_large parent v tol ≡ true
+looks_large_passes s b v tol h e =
+    sizes_pass s b v tol (size_of v.measure s) (size_of v.measure b) h (size_grows s b v.measure h) e
 
 pub turning_passes : (child parent : Bounded) (eye : Place) → IsChild child parent → may_turn_away child eye ≡ true → may_turn_away parent eye ≡ true
 turning_passes s b eye h e = is_at_most (pos 0) (greatest_facing b eye) (≤ℤ_by (pos 0) (greatest_facing s eye) (greatest_facing b eye) (at_most (pos 0) (greatest_facing s eye) e) (turning_child s b eye h))
@@ -116,7 +133,7 @@ large_passes s b v h e =
     ]
 
 -- f f n is at most e e f f
-focal_times : (f n e : ℕ) → n ≤ e * e → f * f * n ≤ (e * f) * (e * f)
+pub focal_times : (f n e : ℕ) → n ≤ e * e → f * f * n ≤ (e * f) * (e * f)
 focal_times f n e h = omega (arith, mul-le (f * f) n (f * f) (e * e) (le_refl (f * f)) h)
 
 turned : (f t r e : ℕ) → (t * r + e * f) * (t * r + e * f) ≡ (e * f + t * r) * (e * f + t * r)
@@ -125,14 +142,21 @@ turned f t r e = omega arith
 clash : (a b c : ℕ) → a < b → b ≡ c → c ≤ a → ⊥
 clash a b c p q r = omega arith
 
-pub within : (b : Bounded) (v : View) (tol : ℕ) → looks_large b v tol ≡ false → LooksWithin b v tol
-unfolding looks_large
-within b v tol e x n q near k =
-    let l = ltb-false (tol * tol * dist2_of b.place v.eye) ((b.error * v.focal + tol * b.radius) * (b.error * v.focal + tol * b.radius)) e in
-    elim (cases_lt (tol * tol * dist2_of q v.eye) ((b.error * v.focal) * (b.error * v.focal))) [
-      | inl h ↦ absurd (clash _ _ _ (scaled b.place q v.eye tol (tol * b.radius) (b.error * v.focal) (near_times tol (dist2_of b.place q) b.radius k.near) h) (turned v.focal tol b.radius b.error) l)
-      | inr h ↦ le_by _ _ _ (focal_times v.focal (dist2_of b.place x) b.error near) h
+-- a size that looks no larger than a tolerance, seen by way of a place within the radius
+size_within : (size : ℕ) (b : Bounded) (v : View) (tol : ℕ) → looks_larger size b.place b.radius v tol ≡ false
+    → (q : Place) → dist2_of b.place q ≤ b.radius * b.radius
+    → (size * v.focal) * (size * v.focal) ≤ tol * tol * dist2_of q v.eye
+unfolding looks_larger
+size_within size b v tol e q near =
+    let l = ltb-false (tol * tol * dist2_of b.place v.eye) ((size * v.focal + tol * b.radius) * (size * v.focal + tol * b.radius)) e in
+    let near = near_times tol (dist2_of b.place q) b.radius near in
+    elim (cases_lt (tol * tol * dist2_of q v.eye) ((size * v.focal) * (size * v.focal))) [
+      | inl h ↦ absurd (clash _ _ _ (scaled b.place q v.eye tol (tol * b.radius) (size * v.focal) near h) (turned v.focal tol b.radius size) l)
+      | inr h ↦ h
     ]
+
+pub within : (b : Bounded) (v : View) (tol : ℕ) → looks_large b v tol ≡ false → LooksWithin b v tol
+within b v tol e n q k = size_within (size_of v.measure b) b v tol e q k.near
 
 <ℤ_from : (x y z : ℤ) → x ≤ℤ y → y <ℤ z → x <ℤ z
 <ℤ_from x y z p q = omega (arith, ints)

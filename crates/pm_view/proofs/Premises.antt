@@ -7,15 +7,16 @@ use Rattle.pm_base.specs.Geometry.{Direction, dot_of, dist2_of}
 use Rattle.pm_bounds.specs.Laws.{IsIn, IsNested}
 use Rattle.pm_view.specs.declared.plane.Plane.{Plane}
 use Rattle.pm_view.specs.Views.{View}
-use Rattle.pm_view.specs.Wanted.{Bounded, value_at, least_product, greatest_product}
+use Rattle.pm_view.specs.Wanted.{Bounded, size_of, value_at, least_product, greatest_product}
 use Rattle.pm_view.specs.Laws.{way}
 
--- Some d is at least the distance of a child and its parent, and error and radius grow by it; the child's box lies in the
--- parent's.
+-- Some d is at least the distance of a child and its parent, and error and radius grow by it; deviations don't fall, and
+-- the child's box lies in the parent's.
 pub record IsChild (child parent : Bounded) : Type 0 where
   pub d : ℕ
   pub near : dist2_of parent.place child.place ≤ d * d
   pub error : child.error + d ≤ parent.error
+  pub deviation : child.deviation ≤ parent.deviation
   pub radius : child.radius + d ≤ parent.radius
   pub nested : IsNested child.box parent.box
 
@@ -34,8 +35,11 @@ FacesAway b eye = (n : Direction) (q : Place) → IsCorner b n q → pos 0 <ℤ 
 abbrev pub FacesTo : Bounded → Place → Type 0
 FacesTo b eye = (n : Direction) (q : Place) → IsCorner b n q → dot_of n (way q eye) <ℤ pos 0
 
+-- The size by which the view judges the node looks no larger than a tolerance by way of any corner.
 abbrev pub LooksWithin : Bounded → View → ℕ → Type 0
-LooksWithin b v tol = (x : Place) (n : Direction) (q : Place) → dist2_of b.place x ≤ b.error * b.error → IsCorner b n q → v.focal * v.focal * dist2_of b.place x ≤ tol * tol * dist2_of q v.eye
+LooksWithin b v tol =
+    (n : Direction) (q : Place) → IsCorner b n q
+    → (size_of v.measure b * v.focal) * (size_of v.measure b * v.focal) ≤ tol * tol * dist2_of q v.eye
 
 abbrev pub LooksTiny : Bounded → View → Type 0
 LooksTiny b v = LooksWithin b v v.tol × (LooksWithin b v v.sil ⊎ FacesTo b v.eye)

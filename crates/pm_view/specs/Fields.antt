@@ -7,6 +7,7 @@ use Rattle.pm_view.specs.declared.limits.TheConstants.{GREATEST_EYE_COORDINATE, 
 use Rattle.pm_view.specs.declared.plane.Plane.{Plane}
 use Rattle.pm_view.specs.declared.fields.ViewKind.{ViewKind}
 use Rattle.pm_view.specs.declared.fields.ViewKind.TheVariants as kinds
+use Rattle.pm_view.specs.declared.measure.Measure.TheVariants as measures
 use Rattle.pm_view.specs.Views.{View}
 use Rattle.pm_io.specs.Bytes.{onto}
 
@@ -54,11 +55,11 @@ first_sil kinds.Plain tol rest = Some (tol, rest)
 first_sil kinds.Outline tol [] = None
 first_sil kinds.Outline tol (sil ∷ rest) = option_map (λ s. (s, rest)) (unsigned_of tol sil)
 
--- The view that fields spell: the eye, the focal length, the tolerance, the one for outlines where the view has outlines,
--- and at most six planes.
+-- The view by errors that fields spell: the eye, the focal length, the tolerance, the one for outlines where the view has
+-- outlines, and at most six planes.
 unfoldable pub view_in : ViewKind → List (List ℕ) → Option View
 view_in kind (x ∷ y ∷ z ∷ focal ∷ tol ∷ rest) =
-    option_and_then (λ eye. option_and_then (λ f. option_and_then (λ t. option_and_then (λ s. option_map (λ planes. record { eye = eye; focal = f; tol = t; sil = s.0; planes = planes })
+    option_and_then (λ eye. option_and_then (λ f. option_and_then (λ t. option_and_then (λ s. option_map (λ planes. record { measure = measures.Error; eye = eye; focal = f; tol = t; sil = s.0; planes = planes })
     (planes_of 6 s.1)) (first_sil kind t rest)) (unsigned_of GREATEST_TOLERANCE tol)) (unsigned_of GREATEST_FOCAL_LENGTH focal)) (eye_of x y z)
 view_in kind _ = None
 

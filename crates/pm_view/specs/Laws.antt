@@ -1,8 +1,8 @@
 -- The laws of wanted nodes, for a hierarchy of the right shape.
-use Rattle.std.specs.Prelude.{◌≡◌, ℕ, ◌*◌, ◌<◌, ◌≤◌, ◌⊎◌, true, false, not, ◌&&◌, int_le, pos, ◌-ℤ◌, ◌<ℤ◌}
+use Rattle.std.specs.Prelude.{◌≡◌, ℕ, ◌*◌, ◌<◌, ◌≤◌, ◌⊎◌, true, false, not, ◌&&◌, int_le, pos, ◌-ℤ◌, ◌<ℤ◌, unsigned_abs}
 use Rattle.std.specs.List.{Contains}
 use Rattle.pm_base.specs.Place.{Place}
-use Rattle.pm_base.specs.Geometry.{Direction, dot_of, dist2_of}
+use Rattle.pm_base.specs.Geometry.{Direction, dot_of, dist2_of, norm2_of, square_of}
 use Rattle.pm_base.specs.Sides.{face_of}
 use Rattle.pm_forest.specs.Forest.{Hierarchy, record_count, node_count, s_of, Holds, Makes}
 use Rattle.pm_forest.specs.Faces.{face_count, corners_of, from_leaf}
@@ -10,6 +10,9 @@ use Rattle.pm_forest.specs.Places.{place_of_node}
 use Rattle.pm_forest.specs.Rules.{HasShape}
 use Rattle.pm_forest.specs.Meshes.{leaf_place}
 use Rattle.pm_bounds.specs.Bounds.{normal_of}
+use Rattle.pm_deviation.specs.Laws.{value_of}
+use Rattle.pm_view.specs.declared.measure.Measure.{Measure}
+use Rattle.pm_view.specs.declared.measure.Measure.TheVariants as measures
 use Rattle.pm_view.specs.declared.plane.Plane.{Plane}
 use Rattle.pm_view.specs.Views.{View}
 use Rattle.pm_view.specs.Wanted.{value_at, bounded, is_outside_any, least_facing, looks_large, is_wanted}
@@ -46,10 +49,26 @@ IsWithinTolerance h view tol v =
     (x e : ℕ) → Holds h v x → IsCornerNear h v e
     → view.focal * view.focal * dist2_of (place_of_node h v) (leaf_place h x) ≤ tol * tol * dist2_of (leaf_place h (from_leaf h e)) view.eye
 
--- No leaf under the node looks farther than the tolerance; and none looks farther than the tolerance for outlines either, or
--- no outline runs through the node.
+-- The node's place is no farther than a tolerance from the plane of any of their faces, as it looks from the eye by way of
+-- any of these corners. The plane's value is the distance times the length of its normal.
+abbrev pub IsNearPlanes : Hierarchy → View → ℕ → ℕ → Type 0
+IsNearPlanes h view tol v =
+    (e : ℕ) → IsCornerNear h v e
+    → let f = corners_of h (face_of e) in
+    view.focal * view.focal * square_of (unsigned_abs (value_of h f (place_of_node h v)))
+    ≤ tol * tol * dist2_of (leaf_place h (from_leaf h e)) view.eye * norm2_of (normal_of h f)
+
+-- By the measure of a view: no leaf under the node is farther from its place than a tolerance, or the place is no farther
+-- from the planes of the faces there.
+abbrev pub IsWithin : Measure → Hierarchy → View → ℕ → ℕ → Type 0
+IsWithin measures.Error h view tol v = IsWithinTolerance h view tol v
+IsWithin measures.Deviation h view tol v = IsNearPlanes h view tol v
+
+-- The node looks no larger than the tolerance; and no larger than the tolerance for outlines either, or no outline runs
+-- through it.
 abbrev pub IsTiny : Hierarchy → View → ℕ → Type 0
-IsTiny h view v = IsWithinTolerance h view view.tol v × (IsWithinTolerance h view view.sil v ⊎ IsTurnedTo h view v)
+IsTiny h view v =
+    IsWithin view.measure h view view.tol v × (IsWithin view.measure h view view.sil v ⊎ IsTurnedTo h view v)
 
 -- A view that wants a node wants the node that was split to make it.
 abbrev pub WantingPassesUp : Type 0

@@ -3,11 +3,14 @@ use Rattle.std.specs.Prelude.{◌≡◌, ℕ, ◌≤◌, nat_le, Bool, true, ◌
 use Rattle.std.specs.List.{list_all}
 use Rattle.pm_base.specs.Place.{Place}
 use Rattle.pm_view.specs.declared.limits.TheConstants.{GREATEST_EYE_COORDINATE, GREATEST_FOCAL_LENGTH, GREATEST_NORMAL_COMPONENT, GREATEST_OFFSET, GREATEST_TOLERANCE}
+use Rattle.pm_view.specs.declared.measure.Measure.{Measure}
+use Rattle.pm_view.specs.declared.measure.Measure.TheVariants as measures
 use Rattle.pm_view.specs.declared.plane.Plane.{Plane}
 
--- The eye, its focal length, its tolerance and its tolerance for outlines, and its planes in order. The eye may stand outside
--- the range of points.
+-- By which number of a node it judges, the eye, its focal length, its tolerance and its tolerance for outlines, and its
+-- planes in order. The eye may stand outside the range of points.
 pub record View : Type 0 where
+  pub measure : Measure
   pub eye : Place
   pub focal : ℕ
   pub tol : ℕ
@@ -42,3 +45,7 @@ pub record IsView (v : View) : Type 0 where
   pub sil : v.sil ≤ v.tol
   pub planes : list_all is_plane v.planes ≡ true
   pub few : length v.planes ≤ 6
+
+-- The same view, which judges by deviations.
+abbrev pub by_deviation : View → View
+by_deviation v = record { measure = measures.Deviation; eye = v.eye; focal = v.focal; tol = v.tol; sil = v.sil; planes = v.planes }

@@ -1,5 +1,5 @@
 -- The three tests by which a view wants a node (Hoppe 1997), in whole numbers.
-use Rattle.std.specs.Prelude.{ℕ, ◌+◌, ◌*◌, Bool, ◌&&◌, ◌||◌, not, nat_lt, List, ℤ, pos, ◌+ℤ◌, ◌-ℤ◌, ◌*ℤ◌, int_lt, int_le, unsigned_abs}
+use Rattle.std.specs.Prelude.{◌≡◌, true, ℕ, ◌+◌, ◌*◌, Bool, ◌&&◌, ◌||◌, not, nat_lt, List, ℤ, pos, ◌+ℤ◌, ◌-ℤ◌, ◌*ℤ◌, int_lt, int_le, unsigned_abs}
 use Rattle.std.specs.Int.{int_min, int_max}
 use Rattle.std.specs.List.{list_any}
 use Rattle.pm_base.specs.Place.{Place}
@@ -8,6 +8,9 @@ use Rattle.pm_forest.specs.Forest.{Hierarchy}
 use Rattle.pm_forest.specs.Places.{place_of_node}
 use Rattle.pm_bounds.specs.declared.normal_box.NormalBox.{NormalBox}
 use Rattle.pm_bounds.specs.Bounds.{error_of, radius_of, normal_box_of, box_round}
+use Rattle.pm_deviation.specs.Deviations.{deviation_of, Measures, AreMeasuresOf, has_deviations}
+use Rattle.pm_view.specs.declared.measure.Measure.{Measure}
+use Rattle.pm_view.specs.declared.measure.Measure.TheVariants as measures
 use Rattle.pm_view.specs.declared.plane.Plane.{Plane}
 use Rattle.pm_view.specs.Views.{View}
 
@@ -15,11 +18,23 @@ use Rattle.pm_view.specs.Views.{View}
 pub record Bounded : Type 0 where
   pub place : Place
   pub error : ℕ
+  pub deviation : ℕ
   pub radius : ℕ
   pub box : NormalBox
 
 abbrev pub bounded : Hierarchy → ℕ → Bounded
-bounded h v = record { place = place_of_node h v; error = error_of h v; radius = radius_of h v; box = normal_box_of h v }
+bounded h v = record {
+  place = place_of_node h v;
+  error = error_of h v;
+  deviation = deviation_of h v;
+  radius = radius_of h v;
+  box = normal_box_of h v;
+}
+
+-- The number of a node by which a view judges it.
+abbrev pub size_of : Measure → Bounded → ℕ
+size_of measures.Error b = b.error
+size_of measures.Deviation b = b.deviation
 
 -- The value of a plane at a place, and its normal, which isn't made unit.
 abbrev pub value_at : Plane → Place → ℤ
@@ -62,17 +77,20 @@ greatest_facing b eye =
     +ℤ greatest_product b.box.low.y b.box.high.y (points.low.y -ℤ eye.y) (points.high.y -ℤ eye.y)
     +ℤ greatest_product b.box.low.z b.box.high.z (points.low.z -ℤ eye.z) (points.high.z -ℤ eye.z)
 
--- The node's error looks larger than a tolerance: (e focal + tol r) squared is above tol tol D, where D is the squared
--- distance from the eye.
-unfoldable pub looks_large : Bounded → View → ℕ → Bool
-looks_large b v tol = nat_lt (tol * tol * dist2_of b.place v.eye) (square_of (b.error * v.focal + tol * b.radius))
+-- A size at a place, in a ball of radius r, looks larger than a tolerance: (size focal + tol r) squared is above tol tol D,
+-- where D is the squared distance from the eye.
+unfoldable pub looks_larger : ℕ → Place → ℕ → View → ℕ → Bool
+looks_larger size p r v tol = nat_lt (tol * tol * dist2_of p v.eye) (square_of (size * v.focal + tol * r))
+
+-- The node's error, or its deviation where the view judges by that, looks larger than a tolerance.
+abbrev pub looks_large : Bounded → View → ℕ → Bool
+looks_large b v tol = looks_larger (size_of v.measure b) b.place b.radius v tol
 
 -- Not every face under the node need be turned to the eye.
 abbrev pub may_turn_away : Bounded → Place → Bool
 may_turn_away b eye = int_le (pos 0) (greatest_facing b eye)
 
--- The node's error looks larger than the tolerance; or the node may lie on the outline, and its error looks larger than the
--- tolerance for outlines.
+-- The node looks larger than the tolerance; or it may lie on the outline, and looks larger than the tolerance for outlines.
 unfoldable pub is_large : Bounded → View → Bool
 is_large b v = looks_large b v v.tol || (may_turn_away b v.eye && looks_large b v v.sil)
 
@@ -82,3 +100,8 @@ passes b v = not (is_outside_any v.planes b.place b.radius) && int_le (least_fac
 -- The view wants node v of h.
 abbrev pub is_wanted : Hierarchy → View → ℕ → Bool
 is_wanted h view v = passes (bounded h v) view
+
+-- These measures of h serve the view: where it judges by deviations, they are there.
+pub record Serves (h : Hierarchy) (view : View) (m : Measures) : Type 0 where
+  pub are : AreMeasuresOf h m
+  pub enough : view.measure ≡ measures.Deviation → has_deviations m ≡ true

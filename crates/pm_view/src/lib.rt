@@ -4,6 +4,7 @@
 mod facing;
 mod fields;
 mod limits;
+mod measure;
 mod number;
 mod plane;
 mod size;
@@ -17,6 +18,7 @@ pub use limits::{
     GREATEST_EYE_COORDINATE, GREATEST_FOCAL_LENGTH, GREATEST_NORMAL_COMPONENT, GREATEST_OFFSET,
     GREATEST_TOLERANCE,
 };
+pub use measure::Measure;
 pub use number::read_small;
 pub use plane::Plane;
 pub use steps::Steps;

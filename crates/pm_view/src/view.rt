@@ -5,10 +5,9 @@ ghost use Rattle.pm_base.specs.Geometry.{dist2_of};
 ghost use Rattle.pm_bounds.specs.Boxes.{IsSmallBox};
 ghost use Rattle.pm_bounds.specs.declared.normal_box.NormalBox.{NormalBox};
 ghost use Rattle.pm_view.specs.declared.limits.TheConstants.{GREATEST_EYE_COORDINATE, GREATEST_FOCAL_LENGTH, GREATEST_TOLERANCE};
-ghost use Rattle.pm_view.specs.Views.{is_eye, is_plane, are_tolerances, is_view};
-ghost use Rattle.pm_view.specs.Wanted.{Bounded, is_outside_any, least_facing, greatest_facing, may_turn_away, looks_large};
+ghost use Rattle.pm_view.specs.Views.{is_eye, is_plane, are_tolerances, is_view, by_deviation};
+ghost use Rattle.pm_view.specs.Wanted.{Bounded, is_outside_any, least_facing, greatest_facing, may_turn_away, looks_larger};
 
-use crate::Plane;
 use crate::facing::{add_three, greatest_on_axis, least_on_axis};
 use crate::limits::{
     GREATEST_EYE_COORDINATE, GREATEST_FOCAL_LENGTH, GREATEST_NORMAL_COMPONENT, GREATEST_OFFSET,
@@ -16,16 +15,18 @@ use crate::limits::{
 };
 use crate::plane::is_outside_any;
 use crate::size::{is_large, squared_gap};
+use crate::{Measure, Plane};
 use arrayvec::ArrayVec;
 use pm_base::Point;
 use pm_bounds::NormalBox;
 use std::marker::Model;
 
-/// What is looked at: from where, how finely, and in front of which planes. The numbers are in range, which the type
+/// What is looked at: by which number of a node, from where, how finely, and in front of which planes. The numbers are in range, which the type
 /// keeps: the eye's are at most 16,777,215 away from 0, focal length and tolerance at most 65,535, the tolerance for outlines
 /// at most the tolerance, the numbers a, b and c of a plane at most 32,767 away from 0, and d at most 4,398,046,511,104.
 #[derive(Drop)]
 pub struct View {
+    measure: Measure,
     ex: i32,
     ey: i32,
     ez: i32,
@@ -40,9 +41,9 @@ impl Model for View {
 
     ghost Value = { View };
 
-    ghost view = { λ v. record { eye = record { x = v.ex; y = v.ey; z = v.ez }; focal = v.focal; tol = v.tol; sil = v.sil; planes = v.planes.items } };
+    ghost view = { λ v. record { measure = v.measure; eye = record { x = v.ex; y = v.ey; z = v.ez }; focal = v.focal; tol = v.tol; sil = v.sil; planes = v.planes.items } };
 
-    ghost invariant = { λ v. IsView (record { eye = record { x = v.ex; y = v.ey; z = v.ez }; focal = v.focal; tol = v.tol; sil = v.sil; planes = v.planes.items }) };
+    ghost invariant = { λ v. IsView (record { measure = v.measure; eye = record { x = v.ex; y = v.ey; z = v.ez }; focal = v.focal; tol = v.tol; sil = v.sil; planes = v.planes.items }) };
 }
 
 fn is_within(n: i32, most: u32) -> bool
@@ -81,14 +82,14 @@ fn are_tolerances(tol: u32, sil: u32) -> bool
 }
 
 fn are_in_range(ex: i32, ey: i32, ez: i32, focal: u32, tol: u32, sil: u32, planes: &[Plane]) -> bool
-    ensures { result ≡ is_view (record { eye = record { x = ex; y = ey; z = ez }; focal = focal; tol = tol; sil = sil; planes = planes.now }) }
+    ensures { result ≡ is_view (record { measure = Measure.Error; eye = record { x = ex; y = ey; z = ez }; focal = focal; tol = tol; sil = sil; planes = planes.now }) }
 {
     let is_fine = is_eye(ex, ey, ez) && focal <= GREATEST_FOCAL_LENGTH && are_tolerances(tol, sil);
     is_fine && are_planes(planes)
 }
 
 impl View {
-    /// The view of these numbers; none exactly where one of them is out of range or `sil` is above `tol`. It takes no memory.
+    /// The view by errors of these numbers; none exactly where one of them is out of range or `sil` is above `tol`. It takes no memory.
     pub fn new(
         ex: i32,
         ey: i32,
@@ -98,12 +99,13 @@ impl View {
         sil: u32,
         planes: ArrayVec<Plane, 6>,
     ) -> Option<View>
-        ensures some { IfSome result (λ v. v ≡ record { eye = record { x = ex; y = ey; z = ez }; focal = focal; tol = tol; sil = sil; planes = planes.items }) }
-        ensures in_range { OnSome result (is_view (record { eye = record { x = ex; y = ey; z = ez }; focal = focal; tol = tol; sil = sil; planes = planes.items }) ≡ true) }
-        ensures none { IfNone result (is_view (record { eye = record { x = ex; y = ey; z = ez }; focal = focal; tol = tol; sil = sil; planes = planes.items }) ≡ false) }
+        ensures some { IfSome result (λ v. v ≡ record { measure = Measure.Error; eye = record { x = ex; y = ey; z = ez }; focal = focal; tol = tol; sil = sil; planes = planes.items }) }
+        ensures in_range { OnSome result (is_view (record { measure = Measure.Error; eye = record { x = ex; y = ey; z = ez }; focal = focal; tol = tol; sil = sil; planes = planes.items }) ≡ true) }
+        ensures none { IfNone result (is_view (record { measure = Measure.Error; eye = record { x = ex; y = ey; z = ez }; focal = focal; tol = tol; sil = sil; planes = planes.items }) ≡ false) }
     {
         if are_in_range(ex, ey, ez, focal, tol, sil, planes.as_slice()) {
             Some(View {
+                measure: Measure::Error,
                 ex,
                 ey,
                 ez,
@@ -117,7 +119,7 @@ impl View {
         }
     }
 
-    // The view of numbers that are in range.
+    // The view by errors of numbers that are in range.
     pub(crate) fn within_range(
         eye: (i32, i32, i32),
         focal: u32,
@@ -132,10 +134,11 @@ impl View {
         requires tol { tol ≤ GREATEST_TOLERANCE }
         requires sil { sil ≤ tol }
         requires planes { list_all is_plane planes.items ≡ true }
-        ensures { result ≡ record { eye = record { x = eye.0; y = eye.1; z = eye.2 }; focal = focal; tol = tol; sil = sil; planes = planes.items } }
+        ensures { result ≡ record { measure = Measure.Error; eye = record { x = eye.0; y = eye.1; z = eye.2 }; focal = focal; tol = tol; sil = sil; planes = planes.items } }
     {
         let (ex, ey, ez) = eye;
         View {
+            measure: Measure::Error,
             ex,
             ey,
             ez,
@@ -158,7 +161,7 @@ impl View {
     fn least_facing(&self, place: Point, radius: u64, normals: NormalBox) -> i128
         requires radius_small { radius ≤ 2 ^ 38 }
         requires box_small { IsSmallBox normals }
-        ensures { (error : ℕ) → result ≡ least_facing (record { place = place; error = error; radius = radius; box = normals }) self.now.eye }
+        ensures { (error deviation : ℕ) → result ≡ least_facing (record { place = place; error = error; deviation = deviation; radius = radius; box = normals }) self.now.eye }
     {
         let (low, high) = (normals.low, normals.high);
         let x = least_on_axis(low.x, high.x, place.x(), radius, self.ex);
@@ -171,7 +174,7 @@ impl View {
     fn may_face(&self, place: Point, radius: u64, normals: NormalBox) -> bool
         requires radius_small { radius ≤ 2 ^ 38 }
         requires box_small { IsSmallBox normals }
-        ensures { (error : ℕ) → result ≡ int_le (least_facing (record { place = place; error = error; radius = radius; box = normals }) self.now.eye) (pos 0) }
+        ensures { (error deviation : ℕ) → result ≡ int_le (least_facing (record { place = place; error = error; deviation = deviation; radius = radius; box = normals }) self.now.eye) (pos 0) }
     {
         self.least_facing(place, radius, normals) <= 0
     }
@@ -180,7 +183,7 @@ impl View {
     fn greatest_facing(&self, place: Point, radius: u64, normals: NormalBox) -> i128
         requires radius_small { radius ≤ 2 ^ 38 }
         requires box_small { IsSmallBox normals }
-        ensures { (error : ℕ) → result ≡ greatest_facing (record { place = place; error = error; radius = radius; box = normals }) self.now.eye }
+        ensures { (error deviation : ℕ) → result ≡ greatest_facing (record { place = place; error = error; deviation = deviation; radius = radius; box = normals }) self.now.eye }
     {
         let (low, high) = (normals.low, normals.high);
         let x = greatest_on_axis(low.x, high.x, place.x(), radius, self.ex);
@@ -193,7 +196,7 @@ impl View {
     fn may_turn_away(&self, place: Point, radius: u64, normals: NormalBox) -> bool
         requires radius_small { radius ≤ 2 ^ 38 }
         requires box_small { IsSmallBox normals }
-        ensures { (error : ℕ) → result ≡ may_turn_away (record { place = place; error = error; radius = radius; box = normals }) self.now.eye }
+        ensures { (error deviation : ℕ) → result ≡ may_turn_away (record { place = place; error = error; deviation = deviation; radius = radius; box = normals }) self.now.eye }
     {
         self.greatest_facing(place, radius, normals) >= 0
     }
@@ -209,7 +212,7 @@ impl View {
     ) -> bool
         requires radius_small { radius ≤ 2 ^ 38 }
         requires box_small { IsSmallBox normals }
-        ensures { (error : ℕ) → let b : Bounded = record { place = place; error = error; radius = radius; box = normals } in
+        ensures { (error deviation : ℕ) → let b : Bounded = record { place = place; error = error; deviation = deviation; radius = radius; box = normals } in
             result ≡ (int_le (least_facing b self.now.eye) (pos 0) && (is_large || may_turn_away b self.now.eye)) }
     {
         self.may_face(place, radius, normals)
@@ -226,32 +229,55 @@ impl View {
             + squared_gap(place.z(), self.ez)
     }
 
-    // Whether the error of a node looks larger than a tolerance.
-    #[tactic(auto, unfolding(crate::specs::Wanted::looks_large))]
-    fn looks_larger_than(&self, tol: u32, place: Point, error: u64, radius: u64) -> bool
+    // Whether a size in a ball looks larger than a tolerance.
+    #[tactic(auto, unfolding(crate::specs::Wanted::looks_larger))]
+    fn looks_larger_than(&self, tol: u32, place: Point, size: u64, radius: u64) -> bool
         requires tol_small { tol ≤ GREATEST_TOLERANCE }
-        requires error_small { error ≤ 2 ^ 38 }
+        requires size_small { size ≤ 2 ^ 38 }
         requires radius_small { radius ≤ 2 ^ 38 }
-        ensures { (box : NormalBox) → result ≡ looks_large (record { place = place; error = error; radius = radius; box = box }) self.now tol }
+        ensures { result ≡ looks_larger size place radius self.now tol }
     {
-        is_large(error, radius, self.focal, tol, self.squared_distance(place))
+        is_large(size, radius, self.focal, tol, self.squared_distance(place))
     }
 
-    // Whether the error of a node looks larger than the tolerance.
-    pub(crate) fn looks_large(&self, place: Point, error: u64, radius: u64) -> bool
-        requires error_small { error ≤ 2 ^ 38 }
+    // Whether the size of a node looks larger than the tolerance.
+    pub(crate) fn looks_large(&self, place: Point, size: u64, radius: u64) -> bool
+        requires size_small { size ≤ 2 ^ 38 }
         requires radius_small { radius ≤ 2 ^ 38 }
-        ensures { (box : NormalBox) → result ≡ looks_large (record { place = place; error = error; radius = radius; box = box }) self.now self.now.tol }
+        ensures { result ≡ looks_larger size place radius self.now self.now.tol }
     {
-        self.looks_larger_than(self.tol, place, error, radius)
+        self.looks_larger_than(self.tol, place, size, radius)
     }
 
-    // Whether the error of a node looks larger than the tolerance for outlines.
-    pub(crate) fn outline_looks_large(&self, place: Point, error: u64, radius: u64) -> bool
-        requires error_small { error ≤ 2 ^ 38 }
+    // Whether the size of a node looks larger than the tolerance for outlines.
+    pub(crate) fn outline_looks_large(&self, place: Point, size: u64, radius: u64) -> bool
+        requires size_small { size ≤ 2 ^ 38 }
         requires radius_small { radius ≤ 2 ^ 38 }
-        ensures { (box : NormalBox) → result ≡ looks_large (record { place = place; error = error; radius = radius; box = box }) self.now self.now.sil }
+        ensures { result ≡ looks_larger size place radius self.now self.now.sil }
     {
-        self.looks_larger_than(self.sil, place, error, radius)
+        self.looks_larger_than(self.sil, place, size, radius)
+    }
+
+    /// By which number of a node the view judges it.
+    pub fn measure(&self) -> Measure
+        ensures { result ≡ self.now.measure }
+    {
+        self.measure
+    }
+
+    /// The same view, which judges nodes by their deviations.
+    pub fn by_deviation(self) -> View
+        ensures { result ≡ by_deviation self }
+    {
+        View {
+            measure: Measure::Deviation,
+            ex: self.ex,
+            ey: self.ey,
+            ez: self.ez,
+            focal: self.focal,
+            tol: self.tol,
+            sil: self.sil,
+            planes: self.planes,
+        }
     }
 }

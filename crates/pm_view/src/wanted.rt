@@ -1,28 +1,44 @@
 //! Whether a view wants a node refined.
 ghost use Rattle.std.specs.Prelude.{◌≡◌, ℕ, ◌+◌, ◌<◌, ◌^◌, ◌⊎◌, true, false};
 ghost use Rattle.pm_forest.specs.Forest.{node_count, record_count, s_of, Makes};
-ghost use Rattle.pm_bounds.specs.Bounds.{AreBoundsOf, IsBallOf};
-ghost use Rattle.pm_view.specs.Wanted.{is_wanted};
+ghost use Rattle.pm_bounds.specs.Bounds.{IsBallOf};
+ghost use Rattle.pm_view.specs.Wanted.{Serves, bounded, size_of, is_wanted};
 ghost use Rattle.pm_view.specs.Laws.{IsBehind, IsTurnedAway, IsTiny};
 
-use crate::{Steps, View};
+use crate::{Measure, Steps, View};
 use pm_base::NodeId;
-use pm_bounds::{Ball, Bounds};
+use pm_bounds::Ball;
+use pm_deviation::Measures;
 use pm_forest::Hierarchy;
 use std::sync::ledger::Ledger;
+
+// The number of a node by which the view judges it.
+fn size_of(h: &Hierarchy, measures: &Measures, node: NodeId, ball: &Ball, view: &View) -> u64
+    requires measures { Serves h.now view.now measures.now }
+    requires node { node.0 < node_count h.now }
+    requires ball { IsBallOf h.now node.0 ball.now }
+    requires small_error { ball.now.error < 2 ^ 38 }
+    ensures value { result ≡ size_of view.now.measure (bounded h.now node.0) }
+    ensures small { result < 2 ^ 38 }
+{
+    match view.measure() {
+        Measure::Error => ball.error,
+        Measure::Deviation => measures.deviation(node),
+    }
+}
 
 // The three tests of a node, which has this ball, as one step. The box of its normals is read last and only where it is asked
 // for: most nodes are too small, and the box lies apart from the ball.
 #[tactic(auto, unfolding(crate::specs::Wanted::is_large), using(crate::proofs::Passing::asked_in_turn))]
 fn passes<L: Ledger>(
     h: &Hierarchy,
-    bounds: &Bounds,
+    measures: &Measures,
     node: NodeId,
     ball: &Ball,
     view: &View,
     steps: &mut Steps<L>,
 ) -> bool
-    requires bounds { AreBoundsOf h.now bounds.now }
+    requires measures { Serves h.now view.now measures.now }
     requires node { node.0 < node_count h.now }
     requires ball { IsBallOf h.now node.0 ball.now }
     requires small_error { ball.now.error < 2 ^ 38 }
@@ -31,23 +47,30 @@ fn passes<L: Ledger>(
     ensures cost { steps.new ≡ steps.old + 1 }
 {
     steps.tick();
-    let is_large = view.looks_large(ball.place, ball.error, ball.radius);
-    (is_large || view.outline_looks_large(ball.place, ball.error, ball.radius))
+    let size = size_of(h, measures, node, ball, view);
+    let is_large = view.looks_large(ball.place, size, ball.radius);
+    (is_large || view.outline_looks_large(ball.place, size, ball.radius))
         && !view.is_behind(ball.place, ball.radius)
-        && view.may_show(ball.place, ball.radius, bounds.normals(node), is_large)
+        && view.may_show(
+            ball.place,
+            ball.radius,
+            measures.bounds().normals(node),
+            is_large,
+        )
 }
 
 /// Whether the view wants the node refined: no plane of the view has the node's whole ball behind it, a face under the node
-/// may be turned to the eye, and the node's error looks larger than the tolerance, or than the tolerance for outlines where a
-/// face under the node may be turned away too. It counts one step, and takes no memory.
+/// may be turned to the eye, and the node's error, or its deviation where the view judges by that, looks larger than the
+/// tolerance, or than the tolerance for outlines where a face under the node may be turned away too. It counts one step, and
+/// takes no memory.
 pub fn wants<L: Ledger>(
     h: &Hierarchy,
-    bounds: &Bounds,
+    measures: &Measures,
     node: NodeId,
     view: &View,
     steps: &mut Steps<L>,
 ) -> bool
-    requires bounds { AreBoundsOf h.now bounds.now }
+    requires measures { Serves h.now view.now measures.now }
     requires node { node.0 < node_count h.now }
     ensures value { result ≡ is_wanted h.now view.now node.0 }
     ensures cost { steps.new ≡ steps.old + 1 }
@@ -55,7 +78,14 @@ pub fn wants<L: Ledger>(
     ensures reason { result ≡ false → IsBehind h.now view.now node.0 ⊎ (IsTurnedAway h.now view.now node.0 ⊎ IsTiny h.now view.now node.0) }
 {
     h.invariant();
-    passes(h, bounds, node, &bounds.ball(node), view, steps)
+    passes(
+        h,
+        measures,
+        node,
+        &measures.bounds().ball(node),
+        view,
+        steps,
+    )
 }
 
 /// Whether the view wants a node refined that record `k` splits: as `wants` says, but the ball is found by the record. The
@@ -63,18 +93,25 @@ pub fn wants<L: Ledger>(
 /// memory.
 pub fn wants_split<L: Ledger>(
     h: &Hierarchy,
-    bounds: &Bounds,
+    measures: &Measures,
     k: u32,
     node: NodeId,
     view: &View,
     steps: &mut Steps<L>,
 ) -> bool
-    requires bounds { AreBoundsOf h.now bounds.now }
+    requires measures { Serves h.now view.now measures.now }
     requires record { k < record_count h.now }
     requires node { node.0 ≡ s_of h.now k }
     ensures value { result ≡ is_wanted h.now view.now (s_of h.now k) }
     ensures cost { steps.new ≡ steps.old + 1 }
 {
     h.invariant();
-    passes(h, bounds, node, &bounds.split_ball(k), view, steps)
+    passes(
+        h,
+        measures,
+        node,
+        &measures.bounds().split_ball(k),
+        view,
+        steps,
+    )
 }

@@ -1,5 +1,6 @@
 use Rattle.std.proofs.Common.{w32, to_z, of_z, List, subst, sym, ◌∙◌}
 use Rattle.pm_view.specs.declared.plane.Plane.{Plane}
+use Rattle.pm_view.specs.declared.measure.Measure.TheVariants as measures
 use Rattle.pm_view.specs.Views.{View, IsView}
 use Rattle.pm_view.proofs.ViewLaws.{tested}
 use Rattle.pm_view.proofs.view.View.new.Goals as goal
@@ -7,6 +8,7 @@ use Rattle.pm_view.proofs.view.View.new.Goals as goal
 pub invariant_of-result : goal.invariant_of-result
 invariant_of-result c =
     let with : List Plane → View = λ planes. record {
+      measure = measures.Error;
       eye = record { x = to_z w32 (of_z w32 c.args.ex); y = to_z w32 (of_z w32 c.args.ey); z = to_z w32 (of_z w32 c.args.ez) };
       focal = c.args.focal;
       tol = c.args.tol;
