@@ -8,7 +8,7 @@ use Rattle.std.proofs.lemmas.Option.{none-some}
 use Rattle.pm_base.specs.Place.{Place}
 use Rattle.pm_io.specs.Digits.{value, is_unsigned, are_digits, unsigned_of}
 use Rattle.pm_view.specs.declared.plane.Plane.{Plane}
-use Rattle.pm_view.specs.Views.{View}
+use Rattle.pm_view.specs.Views.{View, by_deviation}
 use Rattle.pm_view.specs.declared.fields.ViewKind.{ViewKind}
 use Rattle.pm_view.specs.declared.fields.ViewKind.TheVariants as kinds
 use Rattle.pm_view.specs.Fields.{spaced_fields, negative, signed_of, eye_of, plane_read, first_plane, planes_of, first_sil, view_in, view_of}
@@ -18,26 +18,10 @@ use Rattle.pm_pick.specs.Rays.{Ray}
 use Rattle.pm_pick.specs.Fields.{three_of, ray_in, ray_of}
 use Rattle.pm_session.specs.declared.command.Command.{Command}
 use Rattle.pm_session.specs.declared.command.Command.TheVariants as commands
-use Rattle.pm_session.specs.Script.{begins_with, begins_with_both, split_of, collapse_of, look_of, pick_by, two_in, two_of, morph_by, record_in, fields_command, command_of}
-
--- Options
-
-record Came {A B : Type 0} (f : A → Option B) (o : Option A) (y : B) : Type 0 where
-  from : A
-  is : o ≡ Some from
-  to : f from ≡ Some y
-
-came : {A B : Type 0} (f : A → Option B) (o : Option A) (y : B) → option_and_then f o ≡ Some y → Came f o y
-came f None y is = absurd cc
-came f (Some x) y is = record { from = x; is = refl; to = is }
-
-record Mapped {A B : Type 0} (f : A → B) (o : Option A) (y : B) : Type 0 where
-  from : A
-  is : o ≡ Some from
-
-mapped : {A B : Type 0} (f : A → B) (o : Option A) (y : B) → option_map f o ≡ Some y → Mapped f o y
-mapped f None y is = absurd cc
-mapped f (Some x) y is = record { from = x; is = refl }
+use Rattle.pm_session.specs.declared.grammar.Grammar.{Grammar}
+use Rattle.pm_session.specs.declared.grammar.Grammar.TheVariants as grammars
+use Rattle.pm_session.proofs.OptionLaws.{came, mapped}
+use Rattle.pm_session.specs.Script.{begins_with, begins_with_both, begins_with_three, split_of, collapse_of, look_of, pick_by, two_in, two_of, budget_by, morph_by, number_in, fields_command, view_command, live_command, command_of}
 
 -- Numbers
 
@@ -243,18 +227,28 @@ either_bad : (test : Bool) (a b : Command) → a ≡ commands.Bad → b ≡ comm
 either_bad true a b first second = first
 either_bad false a b first second = second
 
-split_bad : (line : List ℕ) → 1024 < length line → (number : Option ℕ) → record_in line ≡ number → split_of number ≡ commands.Bad
+split_bad : (line : List ℕ) → 1024 < length line → (number : Option ℕ) → number_in line ≡ number → split_of number ≡ commands.Bad
 split_bad line long None is = refl
 split_bad line long (Some k) is = absurd (omega (arith, long, length-drop 2 line, unsigned_few 4294967295 k (drop 2 line) (omega arith) is))
 
-collapse_bad : (line : List ℕ) → 1024 < length line → (number : Option ℕ) → record_in line ≡ number → collapse_of number ≡ commands.Bad
+collapse_bad : (line : List ℕ) → 1024 < length line → (number : Option ℕ) → number_in line ≡ number → collapse_of number ≡ commands.Bad
 collapse_bad line long None is = refl
 collapse_bad line long (Some k) is = absurd (omega (arith, long, length-drop 2 line, unsigned_few 4294967295 k (drop 2 line) (omega arith) is))
 
+budget_bad : (line : List ℕ) → 1024 < length line → (number : Option ℕ) → number_in line ≡ number → budget_by number ≡ commands.Bad
+budget_bad line long None is = refl
+budget_bad line long (Some k) is = absurd (omega (arith, long, length-drop 2 line, unsigned_few 4294967295 k (drop 2 line) (omega arith) is))
+
 -- The fields begin after a few bytes, the line's word and its space.
-look_bad : (kind : ViewKind) (n : ℕ) (line : List ℕ) → n ≤ 3 → 1024 < length line → (view : Option View) → view_of kind (drop n line) ≡ view → look_of view ≡ commands.Bad
+look_bad : (kind : ViewKind) (n : ℕ) (line : List ℕ) → n ≤ 4 → 1024 < length line → (view : Option View) → view_of kind (drop n line) ≡ view → look_of view ≡ commands.Bad
 look_bad kind n line le long None is = refl
 look_bad kind n line le long (Some view) is =
+    absurd (omega (arith, le, long, length-drop n line, fields_width (drop n line), view_few kind (spaced_fields (drop n line)) view is))
+
+look_by_deviation_bad : (kind : ViewKind) (n : ℕ) (line : List ℕ) → n ≤ 4 → 1024 < length line → (view : Option View) → view_of kind (drop n line) ≡ view
+    → look_of (option_map by_deviation view) ≡ commands.Bad
+look_by_deviation_bad kind n line le long None is = refl
+look_by_deviation_bad kind n line le long (Some view) is =
     absurd (omega (arith, le, long, length-drop n line, fields_width (drop n line), view_few kind (spaced_fields (drop n line)) view is))
 
 pick_bad : (line : List ℕ) → 1024 < length line → (ray : Option Ray) → ray_of (drop 2 line) ≡ ray → pick_by ray ≡ commands.Bad
@@ -265,9 +259,9 @@ morph_bad : (line : List ℕ) → 1024 < length line → (two : Option (ℕ × �
 morph_bad line long None is = refl
 morph_bad line long (Some two) is = absurd (omega (arith, long, length-drop 2 line, fields_width (drop 2 line), two_few (spaced_fields (drop 2 line)) two is))
 
-pub long_is_bad : (line : List ℕ) → 1024 < length line → command_of line ≡ commands.Bad
-unfolding command_of fields_command
-long_is_bad line long =
+view_bad : (line : List ℕ) → 1024 < length line → view_command line ≡ commands.Bad
+unfolding view_command fields_command
+view_bad line long =
     let one : eqb (length line) 1 ≡ false = ne_eqb _ _ (λ e. omega (arith, e, long)) in
     rw one (either_bad (begins_with 115 line) _ _ (split_bad line long _ refl)
     (either_bad (begins_with 99 line) _ _ (collapse_bad line long _ refl)
@@ -275,3 +269,15 @@ long_is_bad line long =
     (either_bad (begins_with_both 118 115 line) _ _ (look_bad kinds.Outline 3 line (omega arith) long _ refl)
     (either_bad (begins_with 112 line) _ _ (pick_bad line long _ refl)
     (either_bad (begins_with 103 line) _ _ (morph_bad line long _ refl) refl))))))
+
+live_bad : (line : List ℕ) → 1024 < length line → live_command line ≡ commands.Bad
+unfolding live_command
+live_bad line long =
+    let one : eqb (length line) 1 ≡ false = ne_eqb _ _ (λ e. omega (arith, e, long)) in
+    rw one (either_bad (begins_with 98 line) _ _ (budget_bad line long _ refl)
+    (either_bad (begins_with_both 118 100 line) _ _ (look_by_deviation_bad kinds.Plain 3 line (omega arith) long _ refl)
+    (either_bad (begins_with_three 118 100 115 line) _ _ (look_by_deviation_bad kinds.Outline 4 line (omega arith) long _ refl) (view_bad line long))))
+
+pub long_is_bad : (grammar : Grammar) (line : List ℕ) → 1024 < length line → command_of grammar line ≡ commands.Bad
+long_is_bad grammars.View line long = view_bad line long
+long_is_bad grammars.Live line long = live_bad line long

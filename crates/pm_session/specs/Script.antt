@@ -1,6 +1,6 @@
--- The script machine: what a line, and what a list of lines, does from a state: which records are split, and which are
--- marked.
-use Rattle.std.specs.Prelude.{ℕ, ◌+◌, pos, ◌+ℤ◌, ◌-ℤ◌, ◌==◌, ◌&&◌, nat_lt, nat_le, Bool, is_none, List, [], ◌∷◌, ◌++◌, length, drop, take, slice_index_or, Option, Some, None, if◌then◌else◌, cond, codes}
+-- The script machine: what a line, and what a list of lines, does from a state: which records are split, which are
+-- marked, and the budget of moves a view.
+use Rattle.std.specs.Prelude.{ℕ, ◌+◌, pos, ◌+ℤ◌, ◌-ℤ◌, ◌==◌, ◌&&◌, nat_lt, nat_le, Bool, true, false, is_none, List, [], ◌∷◌, ◌++◌, length, drop, take, slice_index_or, Option, Some, None, if◌then◌else◌, cond, codes}
 use Rattle.std.specs.Option.{option_map, option_and_then}
 use Rattle.std.specs.Fmt.{decimal, signed_decimal}
 use Rattle.pm_io.specs.Digits.{unsigned_of}
@@ -14,8 +14,11 @@ use Rattle.pm_frame.specs.Frame.{frame_text}
 use Rattle.pm_morph.specs.declared.limits.TheConstants.{MOST_PARTS}
 use Rattle.pm_morph.specs.Elders.{unsplit_of}
 use Rattle.pm_morph.specs.Texts.{morph_text}
-use Rattle.pm_view.specs.Views.{View}
+use Rattle.pm_change.specs.Texts.{change_text}
+use Rattle.pm_view.specs.Views.{View, by_deviation}
 use Rattle.pm_view.specs.declared.fields.ViewKind.TheVariants as kinds
+use Rattle.pm_view.specs.declared.measure.Measure.{Measure}
+use Rattle.pm_view.specs.declared.measure.Measure.TheVariants as measures
 use Rattle.pm_view.specs.Fields.{spaced_fields, view_of}
 use Rattle.pm_refine.specs.declared.refiner.Adapted.{Adapted}
 use Rattle.pm_refine.specs.declared.refiner.Adapted.TheVariants as adapted
@@ -26,8 +29,11 @@ use Rattle.pm_pick.specs.declared.hits.Hit.{Hit}
 use Rattle.pm_pick.specs.Rays.{Ray}
 use Rattle.pm_pick.specs.Fields.{ray_of}
 use Rattle.pm_pick.specs.Picks.{pick_of}
+use Rattle.pm_session.specs.Level.{level_reply}
 use Rattle.pm_session.specs.declared.command.Command.{Command}
 use Rattle.pm_session.specs.declared.command.Command.TheVariants as commands
+use Rattle.pm_session.specs.declared.grammar.Grammar.{Grammar}
+use Rattle.pm_session.specs.declared.grammar.Grammar.TheVariants as grammars
 use Rattle.pm_session.specs.declared.command.ScriptFault.{ScriptFault}
 use Rattle.pm_session.specs.declared.command.ScriptFault.TheVariants as faults
 use Rattle.pm_io.specs.Bytes.{onto}
@@ -48,6 +54,12 @@ begins_with letter line = nat_le 2 (length line) && slice_index_or line 0 0 == l
 abbrev pub begins_with_both : ℕ → ℕ → List ℕ → Bool
 begins_with_both first second line =
     nat_le 3 (length line) && slice_index_or line 0 0 == first && slice_index_or line 1 0 == second && slice_index_or line 2 0 == 32
+
+-- The line begins with these three letters and a space.
+abbrev pub begins_with_three : ℕ → ℕ → ℕ → List ℕ → Bool
+begins_with_three first second third line =
+    nat_le 4 (length line) && slice_index_or line 0 0 == first && slice_index_or line 1 0 == second
+    && slice_index_or line 2 0 == third && slice_index_or line 3 0 == 32
 
 abbrev pub split_of : Option ℕ → Command
 split_of None = commands.Bad
@@ -73,36 +85,62 @@ two_in _ = None
 abbrev pub two_of : List ℕ → Option (ℕ × ℕ)
 two_of text = two_in (spaced_fields text)
 
+abbrev pub budget_by : Option ℕ → Command
+budget_by None = commands.Bad
+budget_by (Some moves) = commands.Budget moves
+
 abbrev pub morph_by : Option (ℕ × ℕ) → Command
 morph_by None = commands.Bad
 morph_by (Some part) = commands.Morph part.0 part.1
 
 -- What stands after the letter and its space, as an unsigned number of 32 bits.
-abbrev pub record_in : List ℕ → Option ℕ
-record_in line = unsigned_of 4294967295 (drop 2 line)
+abbrev pub number_in : List ℕ → Option ℕ
+number_in line = unsigned_of 4294967295 (drop 2 line)
 
 -- A line with fields: `s K`, `c K` or `g A B` with one space between fields, and K, A and B unsigned numbers of 32 bits; `v`,
 -- a space and the fields of a plain view; `vs`, a space and those of a view with outlines; or `p`, a space and the fields of
 -- a ray.
 unfoldable pub fields_command : List ℕ → Command
 fields_command line =
-    if begins_with 115 line then split_of (record_in line)
-    else if begins_with 99 line then collapse_of (record_in line)
+    if begins_with 115 line then split_of (number_in line)
+    else if begins_with 99 line then collapse_of (number_in line)
     else if begins_with 118 line then look_of (view_of kinds.Plain (drop 2 line))
     else if begins_with_both 118 115 line then look_of (view_of kinds.Outline (drop 3 line))
     else if begins_with 112 line then pick_by (ray_of (drop 2 line))
     else if begins_with 103 line then morph_by (two_of (drop 2 line))
     else commands.Bad
 
--- `w`, `m`, `t`, `k`, `q`, or a line with fields.
-unfoldable pub command_of : List ℕ → Command
-command_of line =
+-- A line of `view`: `w`, `m`, `t`, `k`, `q`, or a line with fields.
+unfoldable pub view_command : List ℕ → Command
+view_command line =
     if is_one_letter 119 line then commands.Show
     else if is_one_letter 109 line then commands.Measure
     else if is_one_letter 116 line then commands.Strip
     else if is_one_letter 113 line then commands.Quit
     else if is_one_letter 107 line then commands.Mark
     else fields_command line
+
+-- A line of `live`: `d`, `l`, `b N` with N an unsigned number of 32 bits, `vd` and `vds` with the fields of `v` and `vs`, or
+-- a line of `view`.
+unfoldable pub live_command : List ℕ → Command
+live_command line =
+    if is_one_letter 100 line then commands.Change
+    else if is_one_letter 108 line then commands.Level
+    else if begins_with 98 line then budget_by (number_in line)
+    else if begins_with_both 118 100 line then look_of (option_map by_deviation (view_of kinds.Plain (drop 3 line)))
+    else if begins_with_three 118 100 115 line then look_of (option_map by_deviation (view_of kinds.Outline (drop 4 line)))
+    else view_command line
+
+-- What a line asks for.
+abbrev pub command_of : Grammar → List ℕ → Command
+command_of grammars.View line = view_command line
+command_of grammars.Live line = live_command line
+
+-- Whether such a script has views by this measure.
+abbrev pub has_measure : Grammar → Measure → Bool
+has_measure grammars.View measures.Error = true
+has_measure grammars.View measures.Deviation = false
+has_measure grammars.Live measure = true
 
 -- The reply to a move.
 unfoldable pub reply_to : Option MoveFault → List ℕ
@@ -144,13 +182,15 @@ adapted_to h budget T view = adapted_of budget (length (view_plan h T view))
 unfoldable pub after_view : Hierarchy → ℕ → (ℕ → Bool) → View → ℕ → Bool
 after_view h budget T view = moved_by T (take budget (view_plan h T view))
 
--- The state: which records are split, and which are marked. At first none is.
-pub record Sets : Type 0 where
+-- The state: which records are split, which are marked, and the budget of moves a view. At first no record is split and
+-- none is marked.
+pub record State : Type 0 where
   pub split : ℕ → Bool
   pub marked : ℕ → Bool
+  pub budget : ℕ
 
-abbrev pub at_first : Sets
-at_first = record { split = no_records; marked = no_records }
+abbrev pub at_first : ℕ → State
+at_first budget = record { split = no_records; marked = no_records; budget = budget }
 
 -- A/B is a fraction of the way: B is from 1 to MOST_PARTS, and A at most B.
 unfoldable pub is_fraction : ℕ → ℕ → Bool
@@ -170,30 +210,39 @@ morph_reply h T S a b = morph_or_refusal (unsplit_of h T S) (morph_text h T S a 
 
 -- What a line does: it has a reply and leads to a state, or it ends the script, or it has a fault.
 pub data Deed : Type 0 where
-  Replies : List ℕ → Sets → Deed
+  Replies : List ℕ → State → Deed
   Ends : Deed
   IsBad : Deed
   NamesNoRecord : Deed
 
--- Other records are split then, and the same are marked.
-abbrev pub now_split : Sets → (ℕ → Bool) → Sets
-now_split s T = record { split = T; marked = s.marked }
+-- Other records are split then; those that are split are marked; or there is another budget.
+abbrev pub now_split : State → (ℕ → Bool) → State
+now_split s T = record { split = T; marked = s.marked; budget = s.budget }
 
-abbrev pub deed_of : Hierarchy → ℕ → Sets → Command → Deed
-deed_of h budget s commands.Show = Replies (frame_text h s.split) s
-deed_of h budget s commands.Measure = Replies (shape_reply h s.split) s
-deed_of h budget s commands.Strip = Replies (strips_text h s.split) s
-deed_of h budget s commands.Quit = Ends
-deed_of h budget s commands.Bad = IsBad
-deed_of h budget s (commands.Split k) = if nat_lt k (record_count h) then Replies (reply_to (split_fault h s.split k)) (now_split s (after_split h s.split k)) else NamesNoRecord
-deed_of h budget s (commands.Collapse k) = if nat_lt k (record_count h) then Replies (reply_to (collapse_fault h s.split k)) (now_split s (after_collapse h s.split k)) else NamesNoRecord
-deed_of h budget s (commands.Look view) = Replies (view_reply (adapted_to h budget s.split view)) (now_split s (after_view h budget s.split view))
-deed_of h budget s (commands.Pick ray) = Replies (pick_reply (pick_of h ray)) s
-deed_of h budget s commands.Mark = Replies (reply_to None) (record { split = s.split; marked = s.split })
-deed_of h budget s (commands.Morph a b) = if is_fraction a b then Replies (morph_reply h s.marked s.split a b) s else IsBad
+abbrev pub now_marked : State → State
+now_marked s = record { split = s.split; marked = s.split; budget = s.budget }
 
-unfoldable pub line_deed : Hierarchy → ℕ → Sets → List ℕ → Deed
-line_deed h budget s line = deed_of h budget s (command_of line)
+abbrev pub with_budget : State → ℕ → State
+with_budget s moves = record { split = s.split; marked = s.marked; budget = moves }
+
+abbrev pub deed_of : Hierarchy → State → Command → Deed
+deed_of h s commands.Show = Replies (frame_text h s.split) s
+deed_of h s commands.Measure = Replies (shape_reply h s.split) s
+deed_of h s commands.Strip = Replies (strips_text h s.split) s
+deed_of h s commands.Quit = Ends
+deed_of h s commands.Bad = IsBad
+deed_of h s (commands.Split k) = if nat_lt k (record_count h) then Replies (reply_to (split_fault h s.split k)) (now_split s (after_split h s.split k)) else NamesNoRecord
+deed_of h s (commands.Collapse k) = if nat_lt k (record_count h) then Replies (reply_to (collapse_fault h s.split k)) (now_split s (after_collapse h s.split k)) else NamesNoRecord
+deed_of h s (commands.Look view) = Replies (view_reply (adapted_to h s.budget s.split view)) (now_split s (after_view h s.budget s.split view))
+deed_of h s (commands.Pick ray) = Replies (pick_reply (pick_of h ray)) s
+deed_of h s commands.Mark = Replies (reply_to None) (now_marked s)
+deed_of h s (commands.Morph a b) = if is_fraction a b then Replies (morph_reply h s.marked s.split a b) s else IsBad
+deed_of h s (commands.Budget moves) = Replies (reply_to None) (with_budget s moves)
+deed_of h s commands.Level = Replies (level_reply h s.split) s
+deed_of h s commands.Change = Replies (change_text h s.marked s.split) (now_marked s)
+
+unfoldable pub line_deed : Hierarchy → Grammar → State → List ℕ → Deed
+line_deed h grammar s line = deed_of h s (command_of grammar line)
 
 -- The replies, and the fault that ends them, if one does.
 pub record ScriptRun : Type 0 where
@@ -204,14 +253,14 @@ abbrev pub replying : List ℕ → ScriptRun → ScriptRun
 replying reply later = record { text = reply ++ later.text; fault = later.fault }
 
 -- What a line with the number n does, where `later` is what the lines after it do from a state.
-abbrev pub done_by : ℕ → Deed → (Sets → ScriptRun) → ScriptRun
+abbrev pub done_by : ℕ → Deed → (State → ScriptRun) → ScriptRun
 done_by n (Replies reply s) later = replying reply (later s)
 done_by n Ends later = record { text = []; fault = None }
 done_by n IsBad later = record { text = []; fault = Some (faults.BadLine n) }
 done_by n NamesNoRecord later = record { text = []; fault = Some (faults.NoRecord n) }
 
--- What the lines do from state s with a budget of moves for each view, the first of which has the number n: `q` ends the script, and so does the first line
--- that is none of the forms or names no record.
-unfoldable pub ran : Hierarchy → ℕ → Sets → ℕ → List (List ℕ) → ScriptRun
-ran h budget s n [] = record { text = []; fault = None }
-ran h budget s n (line ∷ lines) = done_by n (line_deed h budget s line) (λ later. ran h budget later (n + 1) lines)
+-- What the lines of a script do from state s, the first of which has the number n: `q` ends the script, and so does the
+-- first line that is none of the forms of its grammar or names no record.
+unfoldable pub ran : Hierarchy → Grammar → State → ℕ → List (List ℕ) → ScriptRun
+ran h grammar s n [] = record { text = []; fault = None }
+ran h grammar s n (line ∷ lines) = done_by n (line_deed h grammar s line) (λ later. ran h grammar later (n + 1) lines)

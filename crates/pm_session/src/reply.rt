@@ -1,17 +1,18 @@
 //! The replies to moves, views, measures and picks.
 ghost use Rattle.std.specs.Prelude.{◌≡◌, ◌≤◌, pos, ◌+ℤ◌, ◌-ℤ◌};
+ghost use Rattle.pm_io.specs.Puts.{Puts};
 ghost use Rattle.pm_base.specs.declared.limits.TheConstants.{MOST_FACES, MOST_NODES, MOST_SIDES};
 ghost use Rattle.pm_session.specs.Script.{reply_to, view_reply, shape_line, pick_reply};
 
 use pm_beyond::MoveFault;
-use pm_io::Line;
+use pm_io::{Line, Sink, WriteFault, put_all};
 use pm_manifold::Measure;
 use pm_pick::Hit;
 use pm_refine::Adapted;
 
-/// The line that replies to a move.
+// The line that replies to a move.
 #[tactic(auto, unfolding(crate::specs::Script::reply_to))]
-pub(crate) fn put_reply(line: &mut Line, fault: Option<MoveFault>)
+fn put_reply(line: &mut Line, fault: Option<MoveFault>)
     ensures { line.new ≡ reply_to fault }
 {
     line.clear();
@@ -26,9 +27,18 @@ pub(crate) fn put_reply(line: &mut Line, fault: Option<MoveFault>)
     }
 }
 
-/// The line that replies to a view.
+/// Puts the reply to a move.
+pub(crate) fn put_answer<K: Sink>(fault: Option<MoveFault>, out: &mut K) -> Result<(), WriteFault>
+    ensures { Puts K.Sink out.old out.new (reply_to fault) result }
+{
+    let mut line = Line::new();
+    put_reply(&mut line, fault);
+    put_all(out, line.as_slice())
+}
+
+// The line that replies to a view.
 #[tactic(auto, unfolding(crate::specs::Script::view_reply))]
-pub(crate) fn put_view_reply(line: &mut Line, adapted: Adapted)
+fn put_view_reply(line: &mut Line, adapted: Adapted)
     ensures { line.new ≡ view_reply adapted }
 {
     line.clear();
@@ -46,6 +56,15 @@ pub(crate) fn put_view_reply(line: &mut Line, adapted: Adapted)
             line.add(b"\n");
         }
     }
+}
+
+/// Puts the reply to a view.
+pub(crate) fn put_adapted<K: Sink>(adapted: Adapted, out: &mut K) -> Result<(), WriteFault>
+    ensures { Puts K.Sink out.old out.new (view_reply adapted) result }
+{
+    let mut line = Line::new();
+    put_view_reply(&mut line, adapted);
+    put_all(out, line.as_slice())
 }
 
 // The Euler number.

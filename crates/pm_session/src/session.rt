@@ -9,27 +9,33 @@ ghost use Rattle.pm_beyond.specs.Valid.{IsValid};
 ghost use Rattle.pm_beyond.specs.Moves.{split_fault, collapse_fault};
 ghost use Rattle.pm_load.specs.Faults.{IsLoadFault};
 ghost use Rattle.pm_frame.specs.Frame.{frame_text};
+ghost use Rattle.pm_change.specs.Texts.{change_text};
 ghost use Rattle.pm_pick.specs.Picks.{pick_of};
 ghost use Rattle.pm_strips.specs.Shown.{strips_text};
 ghost use Rattle.pm_session.specs.Script.{
-  reply_to,
+  command_of,
   line_deed,
   at_first,
   after_split,
   after_collapse,
-  view_reply,
   adapted_to,
   after_view,
   shape_reply,
+  has_measure,
   is_fraction,
   morph_reply,
 };
-ghost use Rattle.pm_session.specs.Session.{LineEnds, LineCounts, sets_of};
+ghost use Rattle.pm_view.specs.Views.{View as Seen};
+ghost use Rattle.pm_session.specs.Level.{level_reply};
+ghost use Rattle.pm_session.specs.Session.{LineEnds, LineCounts, state_of};
 
 use crate::command::{Command, command_of};
+use crate::ending::{LineFail, Next, after_reply};
+use crate::grammar::Grammar;
+use crate::level::put_level;
 use crate::morphing::{is_fraction, put_morph};
 use crate::picking::put_pick;
-use crate::reply::{put_reply, put_shape, put_view_reply};
+use crate::reply::{put_adapted, put_answer, put_shape};
 use crate::tools::Tools;
 use pm_beyond::MoveFault;
 use pm_forest::Hierarchy;
@@ -44,25 +50,11 @@ use pm_view::View;
 use std::alloc::Global;
 use std::marker::Model;
 
-/// What comes after a line: the next one, or the end of the script.
-#[derive(Clone, Copy, Debug, PartialEq, Eq)]
-pub enum Next {
-    More,
-    Quit,
-}
-
-/// Why a line isn't done whole: it is none of the forms, it names no record, or its reply couldn't be put.
-#[derive(Clone, Copy, Debug, PartialEq, Eq)]
-pub enum LineFail {
-    BadLine,
-    NoRecord,
-    Write,
-}
-
-/// A hierarchy that is being shown. Contracts see it, which of its records are split and which are marked, and the budget of
-/// moves a view.
+/// A hierarchy that is being shown. Contracts see it, which lines a script may have, which records are split and which are
+/// marked, and the budget of moves a view.
 #[derive(Drop)]
 pub struct Session {
+    grammar: Grammar,
     front: Front,
     tools: Tools,
     marker: Marker,
@@ -74,58 +66,36 @@ impl Model for Session {
 
     ghost Value = { Shown };
 
-    ghost view = { λ s. record { h = s.front.h; flags = s.front.flags; marks = s.marker; budget = s.budget } };
+    ghost view = { λ s. record { h = s.front.h; grammar = s.grammar; flags = s.front.flags; marks = s.marker; budget = s.budget } };
 
-    ghost invariant = { λ s. IsFitting s.front.h s.tools s.marker };
-}
-
-// Puts the reply to a view.
-fn put_adapted<K: Sink>(adapted: Adapted, out: &mut K) -> Result<(), WriteFault>
-    ensures { Puts K.Sink out.old out.new (view_reply adapted) result }
-{
-    let mut line = Line::new();
-    put_view_reply(&mut line, adapted);
-    put_all(out, line.as_slice())
-}
-
-// Puts the reply to a move.
-fn put_answer<K: Sink>(fault: Option<MoveFault>, out: &mut K) -> Result<(), WriteFault>
-    ensures { Puts K.Sink out.old out.new (reply_to fault) result }
-{
-    let mut line = Line::new();
-    put_reply(&mut line, fault);
-    put_all(out, line.as_slice())
-}
-
-// How the line of a reply ends.
-fn after_reply(put: Result<(), WriteFault>) -> Result<Next, LineFail>
-    ensures ok { OnOk put (result ≡ Ok Next.More) }
-    ensures err { OnErr put (result ≡ Err LineFail.Write) }
-{
-    match put {
-        Ok(()) => Ok(Next::More),
-        Err(_) => Err(LineFail::Write),
-    }
+    ghost invariant = { λ s. IsFitting s.front.h s.grammar s.tools s.marker };
 }
 
 impl Session {
     /// A session that shows the base front of a valid hierarchy. It is refused as `open_front` says. All the memory that
     /// a script can want is taken here.
     #[tactic(auto, using(pm_forest::proofs::Flags::none_set))]
-    pub fn start(alloc: Global, h: Hierarchy, budget: u32) -> Result<Session, LoadFail>
-        ensures shown { IfOk result (λ s. (s.h ≡ h) × (s.budget ≡ budget) × (sets_of s ≡ at_first)) }
+    pub fn start(
+        alloc: Global,
+        h: Hierarchy,
+        grammar: Grammar,
+        budget: u32,
+    ) -> Result<Session, LoadFail>
+        ensures shown { IfOk result (λ s. (s.h ≡ h) × (s.grammar ≡ grammar) × (state_of s ≡ at_first budget)) }
         ensures valid { OnOk result (IsValid h) }
         ensures fault { IfErr result (IsLoadFault h) }
         ensures refused { IfErr result (λ e. e ≢ LoadFail.OutOfMemory → IsValid h → ⊥) }
     {
         let front = open_front(alloc, h)?;
-        let Ok(tools) = Tools::new(alloc, front.hierarchy()) else {
+        front.invariant();
+        let Ok(tools) = Tools::new(alloc, front.hierarchy(), grammar) else {
             return Err(LoadFail::OutOfMemory);
         };
         let Ok(marker) = Marker::new(alloc, front.hierarchy()) else {
             return Err(LoadFail::OutOfMemory);
         };
         Ok(Session {
+            grammar,
             front,
             tools,
             marker,
@@ -138,6 +108,15 @@ impl Session {
         ensures { Puts K.Sink out.old out.new (frame_text self.now.h (set_of self.now.flags)) result }
     {
         write_frame(&self.front, out)
+    }
+
+    // What a line asks for.
+    fn command(&self, text: &[u8]) -> Command
+        ensures value { result ≡ command_of self.now.grammar text.now }
+        ensures views { (view : Seen) → result ≡ Command.Look view → has_measure self.now.grammar view.measure ≡ true }
+        ensures levels { result ≡ Command.Level → self.now.grammar ≡ Grammar.Live }
+    {
+        command_of(self.grammar, text)
     }
 
     // How many records there are.
@@ -153,7 +132,7 @@ impl Session {
         requires { k < record_count self.old.h }
         ensures answer { result ≡ split_fault self.old.h (set_of self.old.flags) k }
         ensures after { set_of self.new.flags ≡ after_split self.old.h (set_of self.old.flags) k }
-        ensures same { (self.new.h ≡ self.old.h) × (self.new.budget ≡ self.old.budget) × (self.new.marks ≡ self.old.marks) }
+        ensures same { (self.new.h ≡ self.old.h) × (self.new.grammar ≡ self.old.grammar) × (self.new.marks ≡ self.old.marks) × (self.new.budget ≡ self.old.budget) }
     {
         match self.front.split(k) {
             Ok(()) => None,
@@ -167,7 +146,7 @@ impl Session {
         requires { k < record_count self.old.h }
         ensures answer { result ≡ collapse_fault self.old.h (set_of self.old.flags) k }
         ensures after { set_of self.new.flags ≡ after_collapse self.old.h (set_of self.old.flags) k }
-        ensures same { (self.new.h ≡ self.old.h) × (self.new.budget ≡ self.old.budget) × (self.new.marks ≡ self.old.marks) }
+        ensures same { (self.new.h ≡ self.old.h) × (self.new.grammar ≡ self.old.grammar) × (self.new.marks ≡ self.old.marks) × (self.new.budget ≡ self.old.budget) }
     {
         match self.front.collapse(k) {
             Ok(()) => None,
@@ -175,11 +154,13 @@ impl Session {
         }
     }
 
-    // Adapts the front to a view.
+    // Adapts the front to a view by a measure that the script may have.
+    #[tactic(auto, using(crate::proofs::MeasureLaws::has_enough))]
     fn look(&mut self, view: &View) -> Adapted
+        requires { has_measure self.old.grammar view.now.measure ≡ true }
         ensures answer { result ≡ adapted_to self.old.h self.old.budget (set_of self.old.flags) view.now }
         ensures after { set_of self.new.flags ≡ after_view self.old.h self.old.budget (set_of self.old.flags) view.now }
-        ensures same { (self.new.h ≡ self.old.h) × (self.new.budget ≡ self.old.budget) × (self.new.marks ≡ self.old.marks) }
+        ensures same { (self.new.h ≡ self.old.h) × (self.new.grammar ≡ self.old.grammar) × (self.new.marks ≡ self.old.marks) × (self.new.budget ≡ self.old.budget) }
     {
         self.tools.adapt(&mut self.front, view, self.budget)
     }
@@ -203,6 +184,17 @@ impl Session {
         put_all(out, line.as_slice())
     }
 
+    // Writes the level of detail, in a script of `live`.
+    fn level<K: Sink>(&self, out: &mut K) -> Result<(), WriteFault>
+        requires { self.now.grammar ≡ Grammar.Live }
+        ensures { Puts K.Sink out.old out.new (level_reply self.now.h (set_of self.now.flags)) result }
+    {
+        let level = self.tools.level(&self.front);
+        let mut line = Line::new();
+        put_level(&mut line, level);
+        put_all(out, line.as_slice())
+    }
+
     // Writes the strips.
     fn strip<K: Sink>(&mut self, out: &mut K) -> Result<(), WriteFault>
         ensures puts { Puts K.Sink out.old out.new (strips_text self.old.h (set_of self.old.flags)) result }
@@ -214,9 +206,31 @@ impl Session {
     // Marks the split records.
     fn mark(&mut self)
         ensures marked { set_of self.new.marks ≡ set_of self.old.flags }
-        ensures same { (self.new.h ≡ self.old.h) × (self.new.budget ≡ self.old.budget) × (self.new.flags ≡ self.old.flags) }
+        ensures same { (self.new.h ≡ self.old.h) × (self.new.grammar ≡ self.old.grammar) × (self.new.flags ≡ self.old.flags) × (self.new.budget ≡ self.old.budget) }
     {
         self.marker.mark(&self.front);
+    }
+
+    // Writes what changed since the marked front, and marks the front as it stands.
+    fn change<K: Sink>(&mut self, out: &mut K) -> Result<(), WriteFault>
+        ensures puts { let text = change_text self.old.h (set_of self.old.marks) (set_of self.old.flags) in
+            Puts K.Sink out.old out.new text result }
+        ensures marked { set_of self.new.marks ≡ set_of self.old.flags }
+        ensures same { (self.new.h ≡ self.old.h) × (self.new.grammar ≡ self.old.grammar) × (self.new.flags ≡ self.old.flags) × (self.new.budget ≡ self.old.budget) }
+    {
+        let told = self
+            .tools
+            .write_change(&self.front, self.marker.marks(), out);
+        self.mark();
+        told
+    }
+
+    // Sets the budget of moves a view.
+    fn set_budget(&mut self, moves: u32)
+        ensures budget { self.new.budget ≡ moves }
+        ensures same { (self.new.h ≡ self.old.h) × (self.new.grammar ≡ self.old.grammar) × (self.new.flags ≡ self.old.flags) × (self.new.marks ≡ self.old.marks) }
+    {
+        self.budget = moves;
     }
 
     // Writes the geomorph at a/b of the way from the marked front, or which marked record isn't split.
@@ -238,18 +252,24 @@ impl Session {
     /// written then. Write comes only where the sink failed: the line's move stands, and the sink gained a part of the
     /// reply from its front, and not the whole. It takes no memory.
     pub fn line<K: Sink>(&mut self, text: &[u8], out: &mut K) -> Result<Next, LineFail>
-        ensures ends { let s = sets_of self.old in
-            LineEnds (line_deed self.old.h self.old.budget s text.now) result s (sets_of self.new) (K.got out.old) (K.got out.new) }
+        ensures ends { let s = state_of self.old in
+            LineEnds (line_deed self.old.h self.old.grammar s text.now) result s (state_of self.new) (K.got out.old) (K.got out.new) }
         ensures counts { LineCounts result (K.faults out.old) (K.faults out.new) }
-        ensures same { (self.new.h ≡ self.old.h) × (self.new.budget ≡ self.old.budget) }
+        ensures same { (self.new.h ≡ self.old.h) × (self.new.grammar ≡ self.old.grammar) }
         ensures refused { IfErr result (λ e. (e ≡ LineFail.Write → ⊥) → self.new ≡ self.old) }
     {
-        match command_of(text) {
+        match self.command(text) {
             Command::Quit => Ok(Next::Quit),
             Command::Bad => Err(LineFail::BadLine),
             Command::Show => after_reply(self.show(out)),
             Command::Measure => after_reply(self.measure(out)),
             Command::Strip => after_reply(self.strip(out)),
+            Command::Level => after_reply(self.level(out)),
+            Command::Change => after_reply(self.change(out)),
+            Command::Budget(moves) => {
+                self.set_budget(moves);
+                after_reply(put_answer(None, out))
+            }
             Command::Look(view) => after_reply(put_adapted(self.look(&view), out)),
             Command::Mark => {
                 self.mark();

@@ -1,18 +1,29 @@
 //! What a session works with beside its front.
-ghost use Rattle.std.specs.Prelude.{◌≡◌, ◌<◌, ◌≤◌, IfOk};
+ghost use Rattle.std.specs.Prelude.{◌≡◌, ◌<◌, ◌≤◌, true, length, IfOk};
 ghost use Rattle.pm_base.specs.declared.limits.TheConstants.{MOST_FACES, MOST_NODES, MOST_SIDES};
 ghost use Rattle.pm_io.specs.Puts.{Puts};
 ghost use Rattle.pm_forest.specs.Forest.{record_count};
 ghost use Rattle.pm_base.specs.Counts.{set_of};
-ghost use Rattle.pm_bounds.specs.Bounds.{AreBoundsOf};
+ghost use Rattle.pm_front.specs.Shown.{active_nodes, kept_faces};
+ghost use Rattle.pm_base.specs.Sides.{NoSideTwice};
+ghost use Rattle.pm_beyond.specs.Walks.{leaf_net};
+ghost use Rattle.pm_deviation.specs.Deviations.{AreMeasuresOf, has_deviations};
+ghost use Rattle.pm_view.specs.declared.measure.Measure.TheVariants as judges;
+ghost use Rattle.pm_view.specs.Wanted.{Serves};
 ghost use Rattle.pm_manifold.specs.Measure.{nodes_shown, edges_shown, faces_shown, loops_shown};
 ghost use Rattle.pm_pick.specs.Picks.{pick_of};
 ghost use Rattle.pm_strips.specs.Shown.{strips_text};
+ghost use Rattle.pm_morph.specs.Marks.{AreMarksOf};
+ghost use Rattle.pm_change.specs.Texts.{change_text};
 ghost use Rattle.pm_session.specs.Script.{adapted_to, after_view};
-ghost use Rattle.pm_session.specs.Session.{AreToolsOf};
+ghost use Rattle.pm_session.specs.Level.{split_count, greatest_error, greatest_deviation};
+ghost use Rattle.pm_session.specs.Session.{AreToolsOf, HasItsMeasures};
 
+use crate::grammar::Grammar;
+use crate::level::{Level, level_of};
 use crate::picking::pick_face;
-use pm_bounds::Bounds;
+use pm_change::Changer;
+use pm_deviation::Measures;
 use pm_forest::Hierarchy;
 use pm_front::Front;
 use pm_io::{Sink, WriteFault};
@@ -25,15 +36,16 @@ use std::alloc::{AllocError, Global};
 use std::marker::{Brand, Model};
 use std::sync::ledger::{Blank, Ledger};
 
-/// The tools of a session: the bounds of the nodes, and what adapts fronts to views, measures the mesh that a front shows,
-/// picks faces, and writes strips. `new` takes all the memory that they want.
+/// The tools of a session: the measures of the nodes, and what adapts fronts to views, measures the mesh that a front shows,
+/// picks faces, and writes strips and changes. `new` takes all the memory that they want.
 #[derive(Drop)]
 pub(crate) struct Tools {
-    bounds: Bounds,
+    measures: Measures,
     refiner: Refiner,
     tracer: Tracer,
     picker: Picker,
     stripper: Stripper,
+    changer: Changer,
 }
 
 impl Model for Tools {
@@ -41,7 +53,19 @@ impl Model for Tools {
 
     ghost Value = { Toolbox };
 
-    ghost view = { λ t. record { bounds = t.bounds; room = t.refiner; marks = t.tracer; lists = t.picker; flags = t.stripper } };
+    ghost view = { λ t. record { measures = t.measures; room = t.refiner; marks = t.tracer; lists = t.picker; flags = t.stripper; sets = t.changer } };
+}
+
+// What views of a script of this grammar are judged by: a script of `view` has none by deviation.
+fn measures_for(alloc: Global, h: &Hierarchy, grammar: Grammar) -> Result<Measures, AllocError>
+    requires { NoSideTwice (leaf_net h.now) }
+    ensures are { IfOk result (AreMeasuresOf h.now) }
+    ensures serve { IfOk result (HasItsMeasures grammar) }
+{
+    match grammar {
+        Grammar::View => Measures::of(alloc, h),
+        Grammar::Live => Measures::with_deviations(alloc, h),
+    }
 }
 
 // Adapts a front to a view, where nobody counts the steps.
@@ -49,12 +73,12 @@ impl Model for Tools {
 fn adapt<L: Ledger>(
     refiner: &mut Refiner,
     front: &mut Front,
-    bounds: &Bounds,
+    measures: &Measures,
     view: &View,
     budget: u32,
     blank: Blank,
 ) -> Adapted
-    requires bounds { AreBoundsOf front.old.h bounds.now }
+    requires measures { Serves front.old.h view.now measures.now }
     requires room { refiner.old ≡ record_count front.old.h }
     requires name { blank.name ≡ L.name }
     requires parts { blank.parts ≡ L.parts }
@@ -65,31 +89,36 @@ fn adapt<L: Ledger>(
     ensures same { refiner.new ≡ refiner.old }
 {
     let mut steps: Steps<L> = Steps::new(blank);
-    refiner.adapt(front, bounds, view, budget, &mut steps)
+    refiner.adapt(front, measures, view, budget, &mut steps)
 }
 
 impl Tools {
-    /// The tools for a hierarchy.
-    pub(crate) fn new(alloc: Global, h: &Hierarchy) -> Result<Tools, AllocError>
-        ensures { IfOk result (AreToolsOf h.now) }
+    /// The tools for a hierarchy and a script of this grammar.
+    pub(crate) fn new(alloc: Global, h: &Hierarchy, grammar: Grammar) -> Result<Tools, AllocError>
+        requires { NoSideTwice (leaf_net h.now) }
+        ensures are { IfOk result (AreToolsOf h.now) }
+        ensures serve { IfOk result (λ tools. HasItsMeasures grammar tools.measures) }
     {
-        let bounds = Bounds::of(alloc, h)?;
+        let measures = measures_for(alloc, h, grammar)?;
         let refiner = Refiner::new(alloc, h)?;
         let tracer = Tracer::new(alloc, h)?;
         let picker = Picker::new(alloc, h)?;
         let stripper = Stripper::new(alloc, h)?;
+        let changer = Changer::new(alloc, h)?;
         Ok(Tools {
-            bounds,
+            measures,
             refiner,
             tracer,
             picker,
             stripper,
+            changer,
         })
     }
 
     /// Adapts a front to a view, in at most `budget` moves.
     pub(crate) fn adapt(&mut self, front: &mut Front, view: &View, budget: u32) -> Adapted
-        requires { AreToolsOf front.old.h self.old }
+        requires tools { AreToolsOf front.old.h self.old }
+        requires enough { view.now.measure ≡ judges.Deviation → has_deviations self.old.measures ≡ true }
         ensures answer { result ≡ adapted_to front.old.h budget (set_of front.old.flags) view.now }
         ensures after { set_of front.new.flags ≡ after_view front.old.h budget (set_of front.old.flags) view.now }
         ensures hierarchy { front.new.h ≡ front.old.h }
@@ -98,7 +127,7 @@ impl Tools {
         adapt::<Brand>(
             &mut self.refiner,
             front,
-            &self.bounds,
+            &self.measures,
             view,
             budget,
             Blank::new(1),
@@ -110,7 +139,7 @@ impl Tools {
         requires { AreToolsOf h.now self.now }
         ensures { result ≡ pick_of h.now ray.now }
     {
-        pick_face::<Brand>(&self.picker, h, &self.bounds, ray, Blank::new(1))
+        pick_face::<Brand>(&self.picker, h, self.measures.bounds(), ray, Blank::new(1))
     }
 
     /// The nodes, edges, faces and border loops of the mesh that a front shows.
@@ -125,6 +154,20 @@ impl Tools {
     {
         self.tracer.measure(front)
     }
+
+    /// The level of detail that a front shows.
+    pub(crate) fn level(&self, front: &Front) -> Level
+        requires tools { AreToolsOf front.now.h self.now }
+        requires there { has_deviations self.now.measures ≡ true }
+        ensures nodes { result.nodes ≡ length (active_nodes front.now.h (set_of front.now.flags)) }
+        ensures faces { result.faces ≡ length (kept_faces front.now.h (set_of front.now.flags)) }
+        ensures split { result.split ≡ split_count front.now.h (set_of front.now.flags) }
+        ensures error { result.error ≡ greatest_error front.now.h (set_of front.now.flags) }
+        ensures deviation { result.deviation ≡ greatest_deviation front.now.h (set_of front.now.flags) }
+    {
+        level_of(front, &self.measures)
+    }
+
     /// Writes the mesh that a front shows as triangle strips.
     pub(crate) fn write_strips<K: Sink>(
         &mut self,
@@ -136,5 +179,21 @@ impl Tools {
         ensures same { self.new ≡ self.old }
     {
         self.stripper.write_strips(front, out)
+    }
+
+    /// Writes what changed since a marked front.
+    pub(crate) fn write_change<K: Sink>(
+        &mut self,
+        front: &Front,
+        marks: &[bool],
+        out: &mut K,
+    ) -> Result<(), WriteFault>
+        requires tools { AreToolsOf front.now.h self.old }
+        requires marks { AreMarksOf front.now.h marks.now }
+        ensures puts { let text = change_text front.now.h (set_of marks.now) (set_of front.now.flags) in
+            Puts K.Sink out.old out.new text result }
+        ensures same { self.new ≡ self.old }
+    {
+        self.changer.write(front, marks, out)
     }
 }

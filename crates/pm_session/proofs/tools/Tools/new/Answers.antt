@@ -1,10 +1,11 @@
 use Rattle.pm_session.proofs.tools.Tools.new.Goals as goal
 
-pub returns : goal.returns
-returns c = record {
-  are_its_bounds = c.in_ok-bounds.ensures;
+pub returns-clause-are : goal.returns-clause-are
+returns-clause-are c = record {
+  are_its_measures = c.in_ok-measures.ensures.are;
   room_fits = c.in_ok-refiner.ensures;
   marks_fit = c.in_ok-tracer.ensures;
   are_its_lists = c.in_ok-picker.ensures;
   flags_fit = c.in_ok-stripper.ensures;
+  sets_fit = c.in_ok-changer.ensures;
 }

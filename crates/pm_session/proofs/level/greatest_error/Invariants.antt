@@ -1,0 +1,10 @@
+use Rattle.std.proofs.Common.{◌≡◌, map, filter}
+use Rattle.pm_base.specs.Counts.{set_of, numbers_below}
+use Rattle.pm_forest.specs.Fronts.{is_active}
+use Rattle.pm_bounds.specs.Bounds.{greatest, error_of}
+use Rattle.pm_session.proofs.level.greatest_error.Given as goal
+
+abbrev pub invariant-loop-node : goal.invariant-loop-node
+invariant-loop-node l = record {
+  most : l.most ≡ greatest (map (error_of l.front.h) (filter (is_active l.front.h (set_of l.front.flags)) (numbers_below l.node)));
+}
