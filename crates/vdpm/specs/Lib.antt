@@ -1,11 +1,3 @@
 pub mod Words
-pub mod Ran
-pub mod Input
-pub mod Surface
-pub mod Build
-pub mod Beginning
+pub mod Asking
 pub mod FaultLine
-pub mod Outcome
-pub mod Frames
-pub mod Ending
-pub mod Devices

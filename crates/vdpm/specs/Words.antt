@@ -1,9 +1,9 @@
 -- The words of a command line.
-use Rattle.std.specs.Prelude.{ℕ, ◌≤◌, nat_eq, nat_le, ◌&&◌, List, [], ◌∷◌, Option, Some, None, if◌then◌else◌, codes}
+use Rattle.std.specs.Prelude.{ℕ, nat_eq, nat_le, ◌&&◌, List, [], ◌∷◌, Option, Some, None, if◌then◌else◌, codes}
 use Rattle.std.specs.Cmp.Lexicographic.{pointwise}
 use Rattle.pm_io.specs.Digits.{unsigned_of}
-use Rattle.vdpm.specs.declared.words.Asked.{Asked}
-use Rattle.vdpm.specs.declared.words.Asked.TheVariants as asked
+use Rattle.pm_commands.specs.declared.asked.Asked.{Asked}
+use Rattle.pm_commands.specs.declared.asked.Asked.TheVariants as asked
 
 -- What a word asks for that stands alone.
 unfoldable pub alone : List ℕ → Option Asked
@@ -20,6 +20,7 @@ with_number word None = None
 with_number word (Some n) =
     if pointwise nat_eq word (codes "build") then Some (asked.Build n 0)
     else if pointwise nat_eq word (codes "view") then Some (asked.View n)
+    else if pointwise nat_eq word (codes "live") then Some (asked.Live n)
     else if pointwise nat_eq word (codes "demo") && nat_le 1 n && nat_le n 256 then Some (asked.Demo n)
     else None
 
@@ -36,7 +37,7 @@ build_with word (Some target) flag (Some digits) =
     if pointwise nat_eq word (codes "build") && pointwise nat_eq flag (codes "--digits") then Some (asked.Build target digits) else None
 
 -- What the words ask for: `canon`, `canon --digits D`, `build`, `build N`, `build N --digits D`, `expand`, `check`,
--- `view B` or `demo N`, with N and B unsigned numbers of 32 bits, that of `demo` from 1 to 256, and D from 0 to 4. Other words
+-- `view B`, `live B` or `demo N`, with N and B unsigned numbers of 32 bits, that of `demo` from 1 to 256, and D from 0 to 4. Other words
 -- ask for nothing.
 unfoldable pub asked_of : List (List ℕ) → Option Asked
 asked_of (word ∷ []) = alone word
@@ -44,17 +45,3 @@ asked_of (word ∷ number ∷ []) = with_number word (unsigned_of 4294967295 num
 asked_of (word ∷ flag ∷ digits ∷ []) = canon_with word flag (unsigned_of 4 digits)
 asked_of (word ∷ number ∷ flag ∷ digits ∷ []) = build_with word (unsigned_of 4294967295 number) flag (unsigned_of 4 digits)
 asked_of _ = None
-
--- How many decimals the coordinates of the text have that is read.
-abbrev pub digits_asked : Asked → ℕ
-digits_asked (asked.Canon digits) = digits
-digits_asked (asked.Build target digits) = digits
-digits_asked asked.Expand = 0
-digits_asked asked.Check = 0
-digits_asked (asked.View budget) = 0
-digits_asked (asked.Demo n) = 0
-
--- The grid of `demo` has from 1 to 256 cells a side.
-abbrev pub HasSize : Asked → Type 0
-HasSize (asked.Demo n) = (1 ≤ n) × (n ≤ 256)
-HasSize asks = Unit {0}

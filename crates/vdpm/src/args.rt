@@ -1,35 +1,23 @@
 //! The program over its arguments, the first of which is its name.
-ghost use Rattle.std.specs.Prelude.{◌≡◌, ◌≢◌, ◌⊎◌, ◌≤◌, ◌<◌, ◌-◌, ◌^◌, ℕ, false, List, None, Some, IfOk, IfErr, codes, drop};
+ghost use Rattle.std.specs.Prelude.{◌≡◌, ◌≢◌, ◌⊎◌, ◌≤◌, ◌<◌, ◌-◌, ◌^◌, ℕ, false, List, None, Some, IfErr, codes};
 ghost use Rattle.std.specs.IoError.{error_kind};
-ghost use Rattle.std.specs.Vec.Iter.{into_iter_items};
 ghost use Rattle.pm_io.specs.Causes.{Rose};
-ghost use Rattle.vdpm.specs.declared.fault.Fault.{Fault};
-ghost use Rattle.vdpm.specs.declared.words.Asked.{Asked};
+ghost use Rattle.pm_commands.specs.declared.fault.Fault.{Fault};
+ghost use Rattle.pm_commands.specs.declared.asked.Asked.{Asked};
+ghost use Rattle.pm_commands.specs.Ran.{Ran};
+ghost use Rattle.pm_commands.specs.Outcome.{IsOutcome};
+ghost use Rattle.pm_commands.specs.Ending.{ReadFails, ReadToEnd, ReadToPlace, FewMore, FewMoreLive, Answers};
+ghost use Rattle.pm_commands.specs.Devices.{Unread, Unput, Tells, Replies, LeadsBack, FramesAreSurfaces, Breaks};
+ghost use Rattle.vdpm.specs.Asking.{ArgsAsk};
 ghost use Rattle.vdpm.specs.FaultLine.{fault_line};
-ghost use Rattle.vdpm.specs.Ran.{Ran};
-ghost use Rattle.vdpm.specs.Outcome.{IsOutcome};
-ghost use Rattle.vdpm.specs.Ending.{ReadFails, ReadToEnd, ReadToPlace, FewMore, Answers};
-ghost use Rattle.vdpm.specs.Devices.{ArgsAsk, Unread, Unput, Tells, Replies, LeadsBack, FramesAreSurfaces, Breaks};
 
 use crate::run::run;
-use crate::say::say;
+use pm_commands::{Asked, say, words_after_name};
 use pm_io::{Sink, Source};
-use std::alloc::{AllocError, Global};
+use std::alloc::Global;
 use std::env::Args;
 use std::io;
 use std::io::ErrorKind;
-
-// The words after the program's name, in order.
-fn words_after_name(alloc: Global, mut args: Args) -> Result<Vec<String>, AllocError>
-    ensures { IfOk result (λ words. words.items ≡ drop 1 (into_iter_items args)) }
-{
-    let _name = args.next();
-    let mut words = Vec::new(alloc);
-    for word in args {
-        words.push(word)?;
-    }
-    Ok(words)
-}
 
 // The status where the words can't be gathered: for want of memory, of which nothing is said, or since one isn't UTF-8
 // and so none of the forms.
@@ -91,6 +79,8 @@ pub fn answer<S: Source, K: Sink, E: Sink>(
         × Breaks S.Source K.Sink asked input.old out.old out.new }
     ensures few_more { (budget : ℕ) → ArgsAsk args (Asked.View budget) → result ≡ 4
         → FewMore budget (S.left input.old) (S.left input.new) (K.got out.old) (K.got out.new) }
+    ensures few_more_live { (budget : ℕ) → ArgsAsk args (Asked.Live budget) → result ≡ 4
+        → FewMoreLive budget (S.left input.old) (S.left input.new) (K.got out.old) (K.got out.new) }
     // Memory was wanted, and nothing was put; no device failed.
     ensures memory { result ≡ 5 → (S.faults input.new ≡ S.faults input.old) × Unput K.Sink out.old out.new }
     // Where no device failed, a whole outcome gives 0 and a fault gives 1, unless memory is wanted.

@@ -2,16 +2,7 @@
 #![tactic(auto)]
 
 mod args;
-mod build;
-mod commands;
-mod fault;
-mod hierarchy;
-mod line;
-mod outcomes;
 mod run;
-mod say;
-mod summary;
-mod surface;
 mod words;
 
 use args::answer;

@@ -1,58 +1,20 @@
 //! The program over any source and sinks.
-ghost use Rattle.std.specs.Prelude.{◌≡◌, ◌⊎◌, ◌≤◌, ◌<◌, ◌-◌, ◌^◌, map, ℕ, List, false, None, Some, IfErr, OnOk, codes};
+ghost use Rattle.std.specs.Prelude.{◌≡◌, ◌⊎◌, ◌≤◌, ◌<◌, ◌-◌, ◌^◌, map, ℕ, List, false, None, Some, codes};
 ghost use Rattle.std.specs.String.{string_bytes};
 ghost use Rattle.pm_io.specs.Causes.{Rose};
-ghost use Rattle.vdpm.specs.declared.fault.Fault.{Fault};
-ghost use Rattle.vdpm.specs.Words.{asked_of, digits_asked, HasSize};
+ghost use Rattle.pm_commands.specs.declared.fault.Fault.{Fault};
+ghost use Rattle.pm_commands.specs.Ran.{Ran};
+ghost use Rattle.pm_commands.specs.Outcome.{IsOutcome};
+ghost use Rattle.pm_commands.specs.Ending.{ReadFails, ReadToEnd, ReadToPlace, FewMore, FewMoreLive, BlamesNoInput, Answers};
+ghost use Rattle.pm_commands.specs.Devices.{Unread, Unput, Tells, Replies, LeadsBack, FramesAreSurfaces, Breaks};
+ghost use Rattle.vdpm.specs.Words.{asked_of};
+ghost use Rattle.vdpm.specs.Asking.{Asks};
 ghost use Rattle.vdpm.specs.FaultLine.{fault_line};
-ghost use Rattle.vdpm.specs.Ran.{Ran};
-ghost use Rattle.vdpm.specs.Outcome.{IsOutcome};
-ghost use Rattle.vdpm.specs.Ending.{Ends, Counts, ReadFails, ReadToEnd, ReadToPlace, FewMore, BlamesNoInput, status_of, Answers};
-ghost use Rattle.vdpm.specs.Devices.{Asks, Unread, Unput, Tells, Replies, LeadsBack, FramesAreSurfaces, Breaks};
 
-use crate::build::build;
-use crate::commands::{canon, check, expand, view};
-use crate::fault::CommandFail;
-use crate::outcomes::outcomes_are_sound;
-use crate::say::{say, tell};
-use crate::summary::summarize;
-use crate::words::{Asked, read_words};
+use crate::words::read_words;
+use pm_commands::{Asked, obey, outcomes_are_sound, say, tell};
 use pm_io::{Sink, Source};
 use std::alloc::Global;
-
-// Does what was asked for.
-#[tactic(auto, using(crate::proofs::OutcomeLaws::ok_to_end))]
-fn obey<S: Source, K: Sink>(
-    alloc: Global,
-    asked: Asked,
-    input: &mut S,
-    out: &mut K,
-) -> Result<(), CommandFail>
-    requires few { digits_asked asked ≤ 4 }
-    requires size { HasSize asked }
-    requires not_ended { S.ended input.old ≡ false }
-    ensures ends { Ends asked result (S.left input.old) (S.left input.new) (K.got out.old) (K.got out.new) }
-    ensures counts { Counts result (S.faults input.old) (S.faults input.new) (K.faults out.old) (K.faults out.new) }
-    ensures read_whole { OnOk result (ReadToEnd asked (S.left input.old) (S.left input.new)) }
-    ensures read_to_place { OnOk result (ReadToPlace asked (S.left input.old) (S.left input.new)) }
-    ensures gives_back { (target digits : ℕ) → asked ≡ Asked.Build target digits
-        → OnOk result (LeadsBack S.Source K.Sink target digits input.old out.old out.new) }
-    ensures surfaces { (target digits : ℕ) → asked ≡ Asked.Build target digits
-        → OnOk result (FramesAreSurfaces S.Source K.Sink target digits input.old out.old out.new) }
-    ensures unread { (n : ℕ) → asked ≡ Asked.Demo n
-        → Unread S.Source input.old input.new × IfErr result (λ e. BlamesNoInput (status_of e)) }
-    ensures few_more { (budget : ℕ) → asked ≡ Asked.View budget → IfErr result (λ e. e ≡ CommandFail.Write
-        → FewMore budget (S.left input.old) (S.left input.new) (K.got out.old) (K.got out.new)) }
-{
-    match asked {
-        Asked::Canon(digits) => canon(alloc, digits, input, out),
-        Asked::Build(target, digits) => build(alloc, target, digits, input, out),
-        Asked::Expand => expand(alloc, input, out),
-        Asked::Check => check(alloc, input, out),
-        Asked::View(budget) => view(alloc, budget, input, out),
-        Asked::Demo(n) => summarize(alloc, n, out),
-    }
-}
 
 /// Does what the words after the program's name ask for, and answers the exit status.
 ///
@@ -60,11 +22,11 @@ fn obey<S: Source, K: Sink>(
 /// stream text of its mesh simplified to N faces; `build` is `build 0`. With `--digits D` after it each of them reads and
 /// writes coordinates with D decimals, and else with none. `expand` reads a stream text and writes the canonical text of
 /// the mesh that it was made from, with as many decimals as it tells; `check` writes how large it is. `view B` reads a stream
-/// text and the script that follows it, and writes the replies, each before it asks for more input. `demo N` reads nothing,
-/// and writes a summary of the grid of N times N cells. What ended a command early is said on `err`. Status 0: all was done.
-/// 1: the input has a fault, and the replies before it were put. 2: the words are none of the forms. 3: a read failed before
-/// the bytes that decide the outcome were taken. 4: a write to `out` failed. 5: memory was wanted, before the first byte of
-/// output.
+/// text and the script that follows it, and writes the replies, each before it asks for more input; `live B` does so with
+/// more lines in the script. `demo N` reads nothing, and writes a summary of the grid of N times N cells. What ended a
+/// command early is said on `err`. Status 0: all was done. 1: the input has a fault, and the replies before it were put. 2:
+/// the words are none of the forms. 3: a read failed before the bytes that decide the outcome were taken. 4: a write to
+/// `out` failed. 5: memory was wanted, before the first byte of output.
 pub fn run<S: Source, K: Sink, E: Sink>(
     alloc: Global,
     words: &[String],
@@ -105,8 +67,8 @@ pub fn run<S: Source, K: Sink, E: Sink>(
         × Tells E.Sink err.old err.new (fault_line f) }
     ensures faulty_counts { result ≡ 1
         → (S.faults input.new ≡ S.faults input.old) × (K.faults out.new ≡ K.faults out.old) }
-    // A read failed before the bytes that decide the outcome were all taken. What `view` put then are the replies to the
-    // script lines whose LF was taken; the others put nothing.
+    // A read failed before the bytes that decide the outcome were all taken. What `view` or `live` put then are the replies to
+    // the script lines whose LF was taken; the others put nothing.
     ensures read { result ≡ 3 → Rose (S.faults input.old) (S.faults input.new) }
     ensures unreached { (asked : Asked) → Asks words.now asked → result ≡ 3
         → ReadFails asked (S.left input.old) (S.left input.new) (K.got out.old) (K.got out.new) }
@@ -117,6 +79,8 @@ pub fn run<S: Source, K: Sink, E: Sink>(
     // In a script, it was the reply to a line that wasn't put whole, and few bytes were taken past that line.
     ensures few_more { (budget : ℕ) → Asks words.now (Asked.View budget) → result ≡ 4
         → FewMore budget (S.left input.old) (S.left input.new) (K.got out.old) (K.got out.new) }
+    ensures few_more_live { (budget : ℕ) → Asks words.now (Asked.Live budget) → result ≡ 4
+        → FewMoreLive budget (S.left input.old) (S.left input.new) (K.got out.old) (K.got out.new) }
     // Memory was wanted, and nothing was put; no device failed.
     ensures memory { result ≡ 5 → K.got out.new ≡ K.got out.old }
     ensures memory_counts { result ≡ 5
@@ -139,6 +103,6 @@ pub fn run<S: Source, K: Sink, E: Sink>(
     };
     match obey(alloc, asked, input, out) {
         Ok(()) => 0,
-        Err(fail) => tell(err, fail),
+        Err(fail) => tell(err, "vdpm", fail),
     }
 }

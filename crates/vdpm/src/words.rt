@@ -1,27 +1,11 @@
 //! The words of the command line.
 ghost use Rattle.std.specs.Prelude.{◌≡◌, ◌≤◌, map, IfSome};
 ghost use Rattle.std.specs.String.{string_bytes};
-ghost use Rattle.vdpm.specs.Words.{alone, asked_of, digits_asked, HasSize};
+ghost use Rattle.pm_commands.specs.Asked.{digits_asked, HasSize};
+ghost use Rattle.vdpm.specs.Words.{alone, asked_of};
 
+use pm_commands::Asked;
 use pm_io::read_unsigned;
-
-/// What the words ask for.
-#[derive(Clone, Copy, Debug, PartialEq, Eq)]
-pub enum Asked {
-    /// `canon` and `canon --digits D`: the canonical text of an OBJ text, with so many decimals; with none by `canon` alone.
-    Canon(u32),
-    /// `build`, `build N` and `build N --digits D`: the stream of an OBJ text's mesh, simplified to this number of faces, with
-    /// so many decimals; to none and with none by `build` alone.
-    Build(u32, u32),
-    /// `expand`: the canonical text of the mesh that a stream was made from.
-    Expand,
-    /// `check`: how large a stream's hierarchy is.
-    Check,
-    /// `view B`: a stream and its script, with this budget of moves a view.
-    View(u32),
-    /// `demo N`: the summary of the grid of N times N cells, N from 1 to 256.
-    Demo(u32),
-}
 
 // What a word asks for that stands alone.
 #[tactic(auto, unfolding(crate::specs::Words::alone))]
@@ -55,6 +39,7 @@ pub fn read_words(words: &[String]) -> Option<Asked>
         [word, number] => match read_unsigned(number.as_bytes(), u32::MAX) {
             Some(target) if word.as_str() == "build" => Some(Asked::Build(target, 0)),
             Some(budget) if word.as_str() == "view" => Some(Asked::View(budget)),
+            Some(budget) if word.as_str() == "live" => Some(Asked::Live(budget)),
             Some(n) if word.as_str() == "demo" && 1 <= n && n <= 256 => Some(Asked::Demo(n)),
             _ => None,
         },

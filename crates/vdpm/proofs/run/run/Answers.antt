@@ -1,8 +1,9 @@
 use Rattle.std.proofs.Common.{None, Err, IfSome, inl, sym, ◌∙◌, subst, arith}
-use Rattle.vdpm.specs.declared.words.Asked.TheVariants as asked
-use Rattle.vdpm.specs.Outcome.{IsOutcome, Replied}
-use Rattle.vdpm.specs.Ending.{ReadToEnd, ReadToPlace, Ends}
-use Rattle.vdpm.proofs.EndingLaws.{one_asked, said_fault, read_of, cut_of, write_of, said_line, line_of_read, line_of_write, line_of_memory, completes_whole, completes}
+use Rattle.std.specs.Prelude.{codes}
+use Rattle.pm_commands.specs.declared.asked.Asked.TheVariants as asked
+use Rattle.pm_commands.specs.Outcome.{IsOutcome, Replied}
+use Rattle.pm_commands.specs.Ending.{ReadToEnd, ReadToPlace, Ends}
+use Rattle.pm_commands.proofs.EndingLaws.{one_asked, said_fault, read_of, cut_of, write_of, said_line, text_of_read, text_of_write, text_of_memory, completes_whole, completes}
 use Rattle.vdpm.proofs.run.run.Goals as goal
 
 pub returns-in-Ok-clause-whole : goal.returns-in-Ok-clause-whole
@@ -32,7 +33,7 @@ returns-in-Ok-clause-complete g c = λ other bytes all asks left outcome in_same
 
 pub returns-in-Err-clause-faulty : goal.returns-in-Err-clause-faulty
 returns-in-Err-clause-faulty g c = λ other asks is.
-    said_fault other c.in-Err.fail _ _ _ _ _ _ _ _ (sym c.tell.ensures.status ∙ is) (subst (λ a. Ends a (Err c.in-Err.fail) (g.S.Source.left c.args.input.now) (g.S.Source.left c.obey.new.input) (g.K.Sink.got c.args.out.now) (g.K.Sink.got c.obey.new.out)) (one_asked _ _ other (sym c.read_words.ensures.asked ∙ c.in-Some.is) asks) c.in-Err.ensures.ends) c.tell.ensures.said
+    said_fault (codes "vdpm: ") other c.in-Err.fail _ _ _ _ _ _ _ _ (sym c.tell.ensures.status ∙ is) (subst (λ a. Ends a (Err c.in-Err.fail) (g.S.Source.left c.args.input.now) (g.S.Source.left c.obey.new.input) (g.K.Sink.got c.args.out.now) (g.K.Sink.got c.obey.new.out)) (one_asked _ _ other (sym c.read_words.ensures.asked ∙ c.in-Some.is) asks) c.in-Err.ensures.ends) c.tell.ensures.said
 
 pub returns-in-Err-clause-unread : goal.returns-in-Err-clause-unread
 returns-in-Err-clause-unread g c = λ n asks.
@@ -51,14 +52,18 @@ pub returns-in-Err-clause-few_more : goal.returns-in-Err-clause-few_more
 returns-in-Err-clause-few_more g c = λ budget asks is.
     c.in-Err.ensures.few_more budget (one_asked _ _ (asked.View budget) (sym c.read_words.ensures.asked ∙ c.in-Some.is) asks) (write_of c.in-Err.fail (sym c.tell.ensures.status ∙ is))
 
+pub returns-in-Err-clause-few_more_live : goal.returns-in-Err-clause-few_more_live
+returns-in-Err-clause-few_more_live g c = λ budget asks is.
+    c.in-Err.ensures.few_more_live budget (one_asked _ _ (asked.Live budget) (sym c.read_words.ensures.asked ∙ c.in-Some.is) asks) (write_of c.in-Err.fail (sym c.tell.ensures.status ∙ is))
+
 pub returns-in-Err-clause-said_read : goal.returns-in-Err-clause-said_read
-returns-in-Err-clause-said_read g c = λ is. said_line c.in-Err.fail _ _ _ _ _ (line_of_read c.in-Err.fail (sym c.tell.ensures.status ∙ is)) c.tell.ensures.said
+returns-in-Err-clause-said_read g c = λ is. said_line (codes "vdpm: ") c.in-Err.fail _ _ _ _ _ (text_of_read c.in-Err.fail (sym c.tell.ensures.status ∙ is)) c.tell.ensures.said
 
 pub returns-in-Err-clause-said_write : goal.returns-in-Err-clause-said_write
-returns-in-Err-clause-said_write g c = λ is. said_line c.in-Err.fail _ _ _ _ _ (line_of_write c.in-Err.fail (sym c.tell.ensures.status ∙ is)) c.tell.ensures.said
+returns-in-Err-clause-said_write g c = λ is. said_line (codes "vdpm: ") c.in-Err.fail _ _ _ _ _ (text_of_write c.in-Err.fail (sym c.tell.ensures.status ∙ is)) c.tell.ensures.said
 
 pub returns-in-Err-clause-said_memory : goal.returns-in-Err-clause-said_memory
-returns-in-Err-clause-said_memory g c = λ is. said_line c.in-Err.fail _ _ _ _ _ (line_of_memory c.in-Err.fail (sym c.tell.ensures.status ∙ is)) c.tell.ensures.said
+returns-in-Err-clause-said_memory g c = λ is. said_line (codes "vdpm: ") c.in-Err.fail _ _ _ _ _ (text_of_memory c.in-Err.fail (sym c.tell.ensures.status ∙ is)) c.tell.ensures.said
 
 pub returns-in-Err-clause-complete : goal.returns-in-Err-clause-complete
 returns-in-Err-clause-complete g c = λ other bytes all asks left outcome in_same out_same in_few out_few.

@@ -1,0 +1,123 @@
+-- The flags of a border keep exactly its vertices, and a border that was kept is shown by every frame.
+use Rattle.std.proofs.Common.{◌≡◌, ℕ, ◌≤◌, Bool, true, false, List, length, slice_index_or, Option, Some, None, IfSome}
+use Rattle.std.proofs.Common.{Result, Ok, Err, IfOk, inl, inr, refl, sym, ◌∙◌, ap, subst, arith}
+use Rattle.std.proofs.lemmas.Bool.{cases_lt, both_ways}
+use Rattle.std.proofs.lemmas.List.{get_or_past}
+use Rattle.pm_base.specs.declared.log.Collapse.{Collapse}
+use Rattle.pm_base.specs.Meshes.{Mesh, IsWellFormed}
+use Rattle.pm_base.specs.Sides.{net_of}
+use Rattle.pm_io.specs.Bytes.{Gains}
+use Rattle.pm_twins.specs.Table.{IsBorderOf}
+use Rattle.pm_forest.specs.Forest.{Hierarchy}
+use Rattle.pm_forest.specs.Rules.{HasShape}
+use Rattle.pm_beyond.specs.Moves.{IsClosed}
+use Rattle.pm_firm.specs.Firm.{IsFirm}
+use Rattle.pm_runs.specs.Runs.{IsStartOfRun}
+use Rattle.pm_keeping.specs.Keeping.{kept_in, IsRunKeeping}
+use Rattle.pm_number.specs.Numbering.{hierarchy_of_run}
+use Rattle.pm_session.specs.Script.{at_first}
+use Rattle.pm_session.specs.Serving.{played}
+use Rattle.pm_format.specs.Stream.{stream}
+use Rattle.pm_tiles.specs.Borders.{ShowsBorder, KeepsBorder}
+use Rattle.pm_tiles.proofs.Flags.{keeps_border}
+use Rattle.pm_tiles.proofs.KeptBorders.{kept_shown}
+use Rattle.pm_commands.specs.declared.asked.Border.TheVariants as borders
+use Rattle.pm_commands.specs.declared.fault.Fault.{Fault}
+use Rattle.pm_commands.specs.Surface.{IsSurfaceRead}
+use Rattle.pm_commands.specs.Build.{IsMadeOf, no_surface, made}
+use Rattle.pm_commands.specs.Simplified.{IsKeptBorder, IsSimplifiedInside, IsSimplifiedWith, IsSimplifiedText}
+use Rattle.pm_commands.specs.Frames.{ShowsSurfacesOf}
+use Rattle.pm_commands.specs.Borders.{FramesShowBorder}
+use Rattle.pm_commands.proofs.BuildLaws.{one_made}
+use Rattle.pm_commands.proofs.SimplifiedLaws.{one_simplified_with}
+use Rattle.pm_commands.proofs.SomeOutcomes.{surface_starts}
+use Rattle.pm_commands.proofs.FrameLaws.{scripts_closed, none_closed, shows_surfaces}
+
+-- A flag is set of border vertices alone, since those past the list aren't kept.
+flags_keep :
+    (m : Mesh) (flags : List Bool) → IsWellFormed m →
+    IsBorderOf (net_of m.faces) (length m.points) flags → IsKeptBorder m (kept_in flags)
+unfolding kept_in
+flags_keep m flags formed is v = (
+  λ set.
+      elim (cases_lt v (length m.points)) [
+        | inl l ↦ (is.each v l).0 set
+        | inr past ↦
+            let unset : slice_index_or flags v false ≡ false =
+            get_or_past flags v false (omega (arith, past, is.vertices)) in
+            absurd (both_ways _ unset set)
+      ],
+  λ on. keeps_border m flags formed is v on,
+)
+
+-- The hierarchy of the run that keeps these flags.
+pub inside_of :
+    {E : Type 0} (n m : Mesh) (slice flags : List Bool) (target : ℕ) (log : List Collapse) (r : Result Hierarchy E) →
+    n ≡ m → IsWellFormed m → slice ≡ flags → IsBorderOf (net_of m.faces) (length m.points) flags →
+    IsRunKeeping (kept_in slice) m target log → IfOk r (λ h. h ≡ hierarchy_of_run n log) →
+    IfOk r (IsSimplifiedInside m target)
+inside_of n m slice flags target log (Ok h) same formed all border run is = record {
+  kept = kept_in slice;
+  border =
+      flags_keep m slice formed
+      (subst (λ (l : List Bool). IsBorderOf (net_of m.faces) (length m.points) l) (sym all) border);
+  log = log;
+  run = run;
+  made = is ∙ ap (λ (k : Mesh). hierarchy_of_run k log) same;
+}
+inside_of n m slice flags target log (Err e) same formed all border run is = tt
+
+inside_shows :
+    (m : Mesh) → IsStartOfRun m → (target : ℕ) (h : Hierarchy) → IsSimplifiedInside m target h → IsFirm h →
+    (T : ℕ → Bool) → IsClosed h T → ShowsBorder h T m
+inside_shows m start target h is firm T closed =
+    let shape : HasShape (hierarchy_of_run m is.log) = subst HasShape is.made firm.valid.shape in
+    let same : IsClosed (hierarchy_of_run m is.log) T = subst (λ (g : Hierarchy). IsClosed g T) is.made closed in
+    let keeps : KeepsBorder is.kept m = λ v on. (is.border v).1 on in
+    subst (λ (g : Hierarchy). ShowsBorder g T m) (sym is.made)
+    (kept_shown is.kept m start keeps target is.log is.run shape T same)
+
+-- A hierarchy that is made of a text is made of its mesh.
+made_of :
+    (Makes : Mesh → Hierarchy → Type 0) (digits : ℕ) (bytes : List ℕ) (h : Hierarchy)
+    (r : Result Hierarchy Fault) (place : Option ℕ) → r ≡ Ok h → place ≡ None →
+    IsMadeOf Makes digits bytes r place → (m : Mesh) × IsSurfaceRead digits bytes (Ok m) None × Makes m h
+made_of Makes digits bytes h r place is nowhere (no_surface f i read) = absurd (cc)
+made_of Makes digits bytes h r place is nowhere (made m g i read makes) =
+    let same : g ≡ h = cc in (
+      m,
+      subst (λ (p : Option ℕ). IsSurfaceRead digits bytes (Ok m) p) nowhere read,
+      subst (λ (x : Hierarchy). Makes m x) same makes,
+    )
+
+border_shown :
+    (target digits : ℕ) (bytes : List ℕ) (old new : Option (List ℕ)) (h : Hierarchy) →
+    IsSimplifiedText borders.Kept target digits bytes (Ok h) None → IsFirm h →
+    ShowsSurfacesOf (IsSimplifiedText borders.Kept target digits) digits bytes old new →
+    FramesShowBorder target digits bytes old new
+border_shown target digits bytes old new h is firm shown =
+    let both : Ok h ≡ Ok shown.h =
+    (one_made (λ m h. IsSimplifiedWith borders.Kept m target h) digits
+    (λ m h g. one_simplified_with borders.Kept m target h g) bytes is shown.built).0 in
+    let same : h ≡ shown.h = cc in
+    let whole : IsFirm shown.h = subst IsFirm same firm in
+    let (m, read, makes) = made_of (λ m h. IsSimplifiedWith borders.Kept m target h) digits bytes shown.h (Ok shown.h) None refl refl shown.built in
+    let start : IsStartOfRun m = surface_starts digits bytes (Ok m) None read in
+    record {
+      shown = shown;
+      m = m;
+      read = read;
+      frames = λ grammar budget front.
+          inside_shows m start target shown.h makes whole (played shown.h grammar (at_first budget) front).state.split
+          (scripts_closed shown.h whole.valid grammar (at_first budget) (none_closed shown.h) front).0;
+      fronts = λ T closed. inside_shows m start target shown.h makes whole T closed;
+    }
+
+pub shows_border :
+    (target digits : ℕ) (left old new : Option (List ℕ)) (h : Hierarchy) →
+    IfSome left (λ bytes. IsSimplifiedText borders.Kept target digits bytes (Ok h) None) → digits ≤ 4 →
+    IsFirm h → Gains old new (stream digits h) → IfSome left (λ bytes. FramesShowBorder target digits bytes old new)
+shows_border target digits None old new h is few firm gained = tt
+shows_border target digits (Some bytes) old new h is few firm gained =
+    border_shown target digits bytes old new h is firm
+    (shows_surfaces (IsSimplifiedText borders.Kept target digits) digits (Some bytes) old new h is few firm gained)

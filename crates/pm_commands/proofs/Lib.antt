@@ -1,0 +1,17 @@
+pub mod SurfaceLaws
+pub mod BeginningLaws
+pub mod ReadingLaws
+pub mod BuildLaws
+pub mod SomeKeepingRuns
+pub mod SimplifiedLaws
+pub mod FrameLaws
+pub mod OutcomeLaws
+pub mod DemoLaws
+pub mod EndingLaws
+pub mod JudgedLaws
+pub mod SomeOutcomes
+pub mod StartLaws
+pub mod ViewLaws
+pub mod LiveLaws
+pub mod BorderLaws
+pub mod ArgsLaws

@@ -1,0 +1,38 @@
+-- What is said of an ending, over devices as they were and as they are.
+use Rattle.std.specs.Prelude.{ℕ, List, Option, IfSome}
+use Rattle.pm_io.specs.declared.device.Source as source
+use Rattle.pm_io.specs.declared.device.Sink as sink
+use Rattle.pm_commands.specs.declared.asked.Asked.{Asked}
+use Rattle.pm_commands.specs.declared.fault.Fault.{Fault}
+use Rattle.pm_commands.specs.Outcome.{Replied, GivesBack, CutShort}
+use Rattle.pm_commands.specs.Frames.{ShowsSurfaces}
+use Rattle.pm_io.specs.Puts.{Stayed}
+use Rattle.pm_io.specs.Puts.{Said}
+
+-- Nothing was read.
+abbrev pub Unread : {S : Type 0} → source.Ghosts S → S → S → Type 0
+Unread s before now = Stayed (s.left before) (s.left now) (s.faults before) (s.faults now)
+
+-- Nothing was put.
+abbrev pub Unput : {K : Type 0} → sink.Ghosts K → K → K → Type 0
+Unput k before now = Stayed (k.got before) (k.got now) (k.faults before) (k.faults now)
+
+-- The error sink gained the line, or a part of it where it failed.
+abbrev pub Tells : {E : Type 0} → sink.Ghosts E → E → E → List ℕ → Type 0
+Tells e before now line = Said (e.got before) (e.got now) (e.faults before) (e.faults now) line
+
+-- The outcome of what the source had left has this fault, or none, and exactly its text was put.
+abbrev pub Replies : {S K : Type 0} → source.Ghosts S → sink.Ghosts K → Asked → Option Fault → S → K → K → Type 0
+Replies s k asked fault input before now = IfSome (s.left input) (λ bytes. Replied asked bytes fault (k.got before) (k.got now))
+
+-- What was put of a build leads back to the mesh.
+abbrev pub LeadsBack : {S K : Type 0} → source.Ghosts S → sink.Ghosts K → ℕ → ℕ → S → K → K → Type 0
+LeadsBack s k target digits input before now = IfSome (s.left input) (λ bytes. GivesBack target digits bytes (k.got before) (k.got now))
+
+-- Each frame of what was put of a build shows an oriented manifold.
+abbrev pub FramesAreSurfaces : {S K : Type 0} → source.Ghosts S → sink.Ghosts K → ℕ → ℕ → S → K → K → Type 0
+FramesAreSurfaces s k target digits input before now = IfSome (s.left input) (λ bytes. ShowsSurfaces target digits bytes (k.got before) (k.got now))
+
+-- A proper prefix of the outcome's text was put.
+abbrev pub Breaks : {S K : Type 0} → source.Ghosts S → sink.Ghosts K → Asked → S → K → K → Type 0
+Breaks s k asked input before now = IfSome (s.left input) (λ bytes. CutShort asked bytes (k.got before) (k.got now))

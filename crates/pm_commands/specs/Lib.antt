@@ -1,0 +1,15 @@
+pub mod Asked
+pub mod Asking
+pub mod Ran
+pub mod Input
+pub mod Surface
+pub mod Build
+pub mod Simplified
+pub mod Started
+pub mod Beginning
+pub mod FaultText
+pub mod Outcome
+pub mod Frames
+pub mod Borders
+pub mod Ending
+pub mod Devices
