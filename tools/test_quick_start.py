@@ -1,4 +1,4 @@
-"""Tries how ./vdpm, ./prepare and ./prove build and choose what they run, over a kit of tests.
+"""Tries how the programs and ./prove build and choose what they run, over a kit of tests.
 
     python3 tools/test_quick_start.py [--real]
 
@@ -16,6 +16,7 @@ from pathlib import Path
 from typing import Dict, Optional
 
 from fake_kit import make_kit, write
+from quick_start.sources import PROGRAMS
 
 TOP = Path(__file__).resolve().parent.parent
 NOTICE = "not proved on this machine yet, run-time checks are on; ./prove proves it"
@@ -29,12 +30,12 @@ class Repository:
     def __init__(self, folder: Path) -> None:
         self.top = folder / "a repository"
         shutil.copytree(TOP / "tools/quick_start", self.top / "tools/quick_start")
-        for name in ("tools/programs.py", "vdpm", "prepare", "prove"):
+        for name in ("tools/programs.py", *PROGRAMS, "prove"):
             shutil.copy2(TOP / name, self.top / name)
-        write(self.top / "crates.txt", "low:\nvdpm: low\nprepare:\n")
+        write(self.top / "crates.txt", "low:\nvdpm: low\nprepare:\nsimplify: low\n")
         write(self.top / "crates/low/src/lib.rt", "low\n")
         write(self.top / "crates/low/specs/Low.antt", "low\n")
-        for name in ("vdpm", "prepare"):
+        for name in PROGRAMS:
             write(self.top / f"crates/{name}/src/main.rt", SCRIPT)
         self.kit = make_kit(folder / "kit")
         self.builds = self.kit / "bin/builds"
@@ -192,7 +193,7 @@ class Proved(OverTestKit):
     def test_what_was_proved_is_run_without_a_word(self) -> None:
         self.repository.run("vdpm")
         self.prove()
-        for name in ("vdpm", "prepare"):
+        for name in PROGRAMS:
             self.assertEqual(self.repository.run(name).stderr, "told\n")
 
     def test_it_stays_where_the_gate_empties_what_rt_made(self) -> None:
@@ -202,7 +203,7 @@ class Proved(OverTestKit):
 
     def test_progress_is_told(self) -> None:
         said = self.repository.run("prove").stderr
-        self.assertIn("prove: 2 of 3 crates done", said)
+        self.assertIn("prove: 2 of 4 crates done", said)
         self.assertIn("prove: vdpm is proved and built: proved/vdpm", said)
 
     def test_a_changed_source_or_definition_is_not_proved(self) -> None:

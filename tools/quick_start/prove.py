@@ -31,7 +31,11 @@ EACH = 3_000_000
 # How often, in seconds, it is looked whether there is news to give.
 TICK = 2
 # An empty input has an empty answer, so these end with 0 exactly where all was proved and built.
-TRIAL_WORDS: Dict[str, List[str]] = {"vdpm": ["--", "canon"], "prepare": []}
+TRIAL_WORDS: Dict[str, List[str]] = {
+    "vdpm": ["--", "canon"],
+    "prepare": [],
+    "simplify": [],
+}
 
 
 def say(line: str) -> None:

@@ -10,7 +10,7 @@ from .stopped import Stopped
 # The program depends on the first alone; that it is proved, on all.
 CODE = ("src",)
 PROVED = ("src", "specs", "proofs")
-PROGRAMS = ("vdpm", "prepare")
+PROGRAMS = ("vdpm", "prepare", "simplify")
 
 
 @dataclass(frozen=True)
