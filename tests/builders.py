@@ -152,6 +152,29 @@ def grid(given: str) -> bytes:
     return obj_text(points, grid_faces(side))
 
 
+def cube(given: str) -> bytes:
+    """A cube whose six sides are flat grids of so many times so many cells, two faces a cell."""
+    side = int(given)
+    numbers: Dict[Point, int] = {}
+    faces = []
+    for axis in range(3):
+        for end in (0, side):
+            corners = []
+            for row in range(side + 1):
+                for column in range(side + 1):
+                    place = [row, column]
+                    place.insert(axis, end)
+                    x, y, z = (100 * number for number in place)
+                    corners.append(numbers.setdefault((x, y, z), len(numbers)))
+            # The sides at 0 and those at the other end are turned the other way, as every second
+            # axis is.
+            turned = (end == 0) == (axis != 1)
+            for a, b, c in grid_faces(side):
+                one, two = (c, b) if turned else (b, c)
+                faces.append((corners[a], corners[one], corners[two]))
+    return obj_text(numbers, faces)
+
+
 def cone(given: str) -> bytes:
     """A tip with so many faces round it, open or closed: COUNT `open` or COUNT `closed`."""
     count, form = given.split()
@@ -230,7 +253,7 @@ def with_crlf(data: bytes, given: str) -> bytes:
 BUILDERS: Dict[str, Callable[[str], Union[bytes, Data]]] = {
     "lines": lines, "text": text, "repeat": repeat, "byte": byte, "comments": comments,
     "views": views, "file": file, "header": header, "splits": splits, "collapses": collapses,
-    "grid": grid, "cone": cone, "book": book, "chain": chain, "square_of": square_of,
+    "grid": grid, "cube": cube, "cone": cone, "book": book, "chain": chain, "square_of": square_of,
 }  # fmt: skip
 FILTERS: Dict[str, Callable[[bytes, str], bytes]] = {
     "set": set_word, "byte": set_byte, "cut": cut, "crlf": with_crlf,

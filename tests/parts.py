@@ -22,8 +22,8 @@ from pathlib import Path
 from typing import Callable, Dict, List, NamedTuple, Optional, Tuple
 
 TOP = Path(__file__).resolve().parent.parent
-PROGRAMS = ("vdpm", "prepare")
-DOCUMENTS = ("README.md", "docs/GUIDE.md", "docs/COMMANDS.md")
+PROGRAMS = ("vdpm", "prepare", "simplify")
+DOCUMENTS = ("README.md", "docs/GUIDE.md", "docs/COMMANDS.md", "docs/WORLDS.md")
 SEED, RANDOM_CASES = "1", "300"
 
 
@@ -135,7 +135,9 @@ def random(given: Dict[str, Path], room: Path) -> Count:
 def documents(given: Dict[str, Path], room: Path) -> Count:
     """Tries the documents, with the programs' own paths in the commands where they were proved."""
     named = [with_paths(TOP / name, room, given) for name in DOCUMENTS]
-    run = ran([sys.executable, "tools/try_document.py", *map(str, named)])
+    # (scripts that they call ask for their programs so)
+    settings = {name.upper(): str(path) for name, path in given.items()}
+    run = ran([sys.executable, "tools/try_document.py", *map(str, named)], **settings)
     return counted(run, r"^(\d+) commands print what is told, (\d+) don't$")
 
 

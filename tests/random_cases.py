@@ -1,6 +1,7 @@
-"""Compares `vdpm` and `prepare` with the model on random cases.
+"""Compares `vdpm`, `prepare` and `simplify` with the model on random cases.
 
-    python3 tests/random_cases.py SEED COUNT [--vdpm PATH] [--prepare PATH] [--processes N]
+    python3 tests/random_cases.py SEED COUNT [--vdpm PATH] [--prepare PATH] [--simplify PATH]
+                                  [--processes N]
     python3 tests/random_cases.py --again FILE [--write INPUT]
 
 A case is a program, its words and its input; number I of a seed is always the same one. What the
@@ -64,6 +65,16 @@ def build_case(rng: Random) -> Case:
     return Case("vdpm", words, random_text(rng, mesh, digits))
 
 
+def simplify_case(rng: Random) -> Case:
+    """Mostly with the border kept, since without that it is what `build` does."""
+    digits, mesh = random_digits(rng), random_mesh(rng)
+    target = rng.choice([0, 0, 1, rng.randint(0, 60), 4_294_967_295])
+    words = [] if target == 0 and rng.random() < 0.5 else [str(target)]
+    words += [] if digits == 0 and rng.random() < 0.5 else ["--digits", str(digits)]
+    words += ["--keep-border"] if rng.random() < 0.8 else []
+    return Case("simplify", words, random_text(rng, mesh, digits))
+
+
 def stream_case(rng: Random) -> Case:
     h, stream = random_stream(rng, random_mesh(rng))
     if rng.random() < 0.85:
@@ -80,17 +91,25 @@ def view_case(rng: Random) -> Case:
     return Case("vdpm", ["view", str(budget)], stream + random_script(rng, h))
 
 
+def live_case(rng: Random) -> Case:
+    """A script of `live`, or one of `view`, which does the same in `live`."""
+    h, stream = random_stream(rng, random_mesh(rng))
+    budget = rng.choice([0, 1, 2, len(h.records), len(h.records), 4_294_967_295])
+    script = random_script(rng, h, is_live=rng.random() < 0.85)
+    return Case("vdpm", ["live", str(budget)], stream + script)
+
+
 def demo_case(rng: Random) -> Case:
     return Case("vdpm", ["demo", str(rng.choice([1, 2, 2, 3, 3, 4, 5, 6]))], b"")
 
 
 def words_case(rng: Random) -> Case:
     """Words of the forms in any order, most of which aren't understood. No large demo is asked."""
-    known = ["canon", "build", "expand", "check", "view", "--digits", "0", "4", "5", "01", "-1", ""]
-    known += ["4294967296", "prepare", "demo 3", "--help", "32768"]
+    known = ["canon", "build", "expand", "check", "view", "live", "--digits", "0", "4", "5", "01"]
+    known += ["-1", "", "4294967296", "prepare", "demo 3", "--help", "32768", "--keep-border"]
     words = [rng.choice(known) for _ in range(rng.randint(0, 4))]
     words = rng.choice([words, ["demo", rng.choice(["0", "257", "01", "x"])], ["view", "01"]])
-    return Case(rng.choice(["vdpm", "vdpm", "prepare"]), words, b"v 0 0 0\n")
+    return Case(rng.choice(["vdpm", "vdpm", "prepare", "simplify"]), words, b"v 0 0 0\n")
 
 
 def size_words(rng: Random) -> List[str]:
@@ -114,9 +133,11 @@ def prepared_case(rng: Random) -> Case:
 
 KINDS: List[Tuple[Callable[[Random], Case], int]] = [
     (canon_case, 10),
-    (build_case, 16),
-    (stream_case, 18),
-    (view_case, 32),
+    (build_case, 14),
+    (simplify_case, 8),
+    (stream_case, 16),
+    (view_case, 22),
+    (live_case, 14),
     (demo_case, 1),
     (words_case, 3),
     (prepare_case, 14),
@@ -218,11 +239,12 @@ def main() -> int:
     parser.add_argument("count", type=int, nargs="?")
     parser.add_argument("--vdpm", default=str(TOP / "vdpm"), help="the program, ./vdpm by default")
     parser.add_argument("--prepare", default=str(TOP / "prepare"), help="./prepare by default")
+    parser.add_argument("--simplify", default=str(TOP / "simplify"), help="./simplify by default")
     parser.add_argument("--processes", type=int, help="as many as there are processors by default")
     parser.add_argument("--again", metavar="FILE", help="runs the case of this file alone")
     parser.add_argument("--write", metavar="FILE", help="with --again: puts the case's input there")
     asked = parser.parse_args()
-    paths = {"vdpm": asked.vdpm, "prepare": asked.prepare}
+    paths = {"vdpm": asked.vdpm, "prepare": asked.prepare, "simplify": asked.simplify}
     for path in paths.values():
         if not Path(path).is_file():
             parser.error(f"no program stands at {path}")

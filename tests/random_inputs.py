@@ -250,6 +250,13 @@ def ray_line(rng: Random, h: Hierarchy) -> str:
     return " ".join(["p", *map(str, clamped + way)])
 
 
+def live_line(rng: Random, h: Hierarchy) -> str:
+    """A line that `live` has and `view` hasn't."""
+    budget = rng.choice([0, 1, 2, 5, len(h.records), 4_294_967_295])
+    by_deviation = view_line(rng, h).replace("v", "vd", 1)
+    return rng.choice(["d", "d", "l", f"b {budget}", by_deviation, by_deviation])
+
+
 def script_line(rng: Random, h: Hierarchy) -> str:
     count = len(h.records)
     kind = rng.choice("sssssccccccvvvvwmtkggppp")
@@ -265,15 +272,17 @@ def script_line(rng: Random, h: Hierarchy) -> str:
     return kind if kind in "wmtk" else "m"
 
 
-def random_script(rng: Random, h: Hierarchy) -> bytes:
-    """Lines of all kinds; many scripts begin with all records split, some have a bad line."""
+def random_script(rng: Random, h: Hierarchy, is_live: bool = False) -> bytes:
+    """Lines of all kinds; many scripts begin with all records split, some have a bad line. Of the
+    lines of `live` alone a script has many where it is one, and else hardly any."""
     every = range(len(h.records))
     lines = [f"s {k}" for k in every] if rng.random() < 0.4 else []
     if lines and rng.random() < 0.3:
         some = rng.sample(every, min(len(every), 8))
         lines += ["k"] + [f"c {k}" for k in sorted(some, reverse=rng.random() < 0.7)] + ["g 1 2"]
     for _ in range(60 if rng.random() < 0.03 else rng.randint(1, 14)):
-        lines.append(script_line(rng, h))
+        has_live_line = rng.random() < (0.35 if is_live else 0.004)
+        lines.append((live_line if has_live_line else script_line)(rng, h))
     lines += rng.choice([[], ["w"], ["w", "m", "t"], ["q"], ["w", "q", "not read"]])
     if rng.random() < 0.15:
         bad = rng.choice(BAD_SCRIPT_LINES + [f"s {len(h.records)}"])

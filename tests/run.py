@@ -1,8 +1,9 @@
-"""Runs the program cases of tests/cases over `vdpm` and `prepare`: python3 tests/run.py
+"""Runs the program cases of tests/cases over the three programs: python3 tests/run.py
 
 Each case that fails is told with what had to come and what came. The last line is
-`N passed, M failed`, and the status is 0 exactly where cases ran and none failed. `./vdpm` and
-`./prepare` are run where no other program is named; tests/README.md tells the form of the cases.
+`N passed, M failed`, and the status is 0 exactly where cases ran and none failed. `./vdpm`,
+`./prepare` and `./simplify` are run where no other program is named; tests/README.md tells the form
+of the cases.
 """
 import argparse
 import hashlib
@@ -17,7 +18,7 @@ from typing import List, Optional, Sequence, Tuple
 import builders
 from builders import Data
 from case_files import CASES, Case, CaseFault, read_cases, words_of
-from programs import TOP, NoProgram, Programs
+from programs import READING, TOP, NoProgram, Programs
 from running import Ended, Send, run
 
 OUT_OF_MEMORY = 5
@@ -119,8 +120,18 @@ def failures(cases: Sequence[Case], programs: Programs, jobs: int) -> int:
     return failed
 
 
+def with_live(case: Case) -> List[Case]:
+    """The case; and where it is a whole run of `view`, the same of `live`, which does what `view`
+    does with a script that has no fault."""
+    if case.program != "vdpm" or case.words[:1] != ["view"] or case.status != 0:
+        return [case]
+    words = ["live", *case.words[1:]]
+    return [case, case._replace(name=f"{case.name} as live", words=words)]
+
+
 def asked(arguments: argparse.Namespace) -> List[Case]:
-    cases = read_cases(arguments.files or sorted(CASES.glob("*.cases")))
+    written = read_cases(arguments.files or sorted(CASES.glob("*.cases")))
+    cases = [case for one in written for case in with_live(one)]
     return [case for case in cases if arguments.only in f"{case.place} {case.name}"]
 
 
@@ -130,7 +141,7 @@ def parsed() -> argparse.Namespace:
     parser.add_argument("--only", default="", metavar="TEXT", help="cases whose name has TEXT")
     parser.add_argument("--list", action="store_true", help="tell the names, and run nothing")
     parser.add_argument("--jobs", type=int, default=os.cpu_count() or 1, help="runs at a time")
-    for name in ("vdpm", "prepare"):
+    for name in READING:
         parser.add_argument(f"--{name}", type=Path, default=TOP / name, metavar="PATH")
     return parser.parse_args()
 
@@ -145,7 +156,7 @@ def main() -> int:
     if arguments.list:
         print("\n".join(case.name for case in cases))
         return 0
-    programs = Programs({"vdpm": arguments.vdpm, "prepare": arguments.prepare})
+    programs = Programs({name: getattr(arguments, name) for name in READING})
     try:
         programs.settle()
     except NoProgram as fault:

@@ -1,12 +1,18 @@
 """Tries the model on worked values: python3 tests/test_model.py"""
+import sys
 import unittest
+from pathlib import Path
+from random import Random
+from typing import List
 
 from model import answer
+from model.bounds import all_bounds
 from model.hierarchy import hierarchy_of_run
 from model.mesh import Mesh, distance_up
-from model.run import best_place, run_to, squares, surface_of
+from model.run import best_place, border_of, run_to, squares, surface_of
 from model.stream import stream_text
-from model.views import all_bounds
+from random_inputs import random_stream, script_line
+from random_meshes import random_mesh
 from worked import (
     BASE_FRAME,
     FULL_FRAME,
@@ -30,6 +36,16 @@ from worked import (
     stream_of,
     with_word,
 )
+
+
+sys.path.insert(0, str(Path(__file__).resolve().parent.parent / "tools"))
+
+from follow import followed  # noqa: E402
+
+
+def meshes(stream: bytes, script: List[str]) -> List[str]:
+    """The mesh that a follower has after each frame and change, as frames."""
+    return ["".join(mesh.lines()) for mesh in followed(replies(stream, script, 6, "live"))]
 
 
 class Texts(unittest.TestCase):
@@ -105,6 +121,14 @@ class Building(unittest.TestCase):
         self.assertEqual([(entry.t, entry.u) for entry in log], pairs)
         self.assertEqual([entry.right is None for entry in log], [True, True] + 4 * [False])
         self.assertEqual([entry.left is None for entry in log], 3 * [False] + 3 * [True])
+
+    def test_a_kept_border_leaves_the_pairs_inside(self) -> None:
+        points = [(c, r, 0) for r in range(3) for c in range(4)]
+        cells = [(4 * r + c, 4 * (r + 1) + c) for r in range(2) for c in range(3)]
+        mesh = Mesh(points, [f for a, b in cells for f in ((a, a + 1, b + 1), (a, b + 1, b))])
+        border = border_of(mesh)
+        self.assertEqual(border, set(range(12)) - {5, 6})
+        self.assertEqual([(entry.t, entry.u) for entry in run_to(mesh, 0, border)], [(5, 6)])
 
     def test_a_tetrahedron_and_a_triangle_have_no_legal_pair(self) -> None:
         counts = b"leaves 4 roots 4 base 4 records 0 faces 4\n"
@@ -282,6 +306,45 @@ class Told(unittest.TestCase):
         script = ["p 1000 10 20 -1 0 0", "p 1000 0 10 -1 0 0", "p 1000 500 0 -1 0 0"]
         lines = ["hit 6 9300000 10000", "hit 0 9100000 10000", "miss", "miss"]
         self.assertEqual(replies(OCTAHEDRON_STREAM, script + ["p 1000 10 20 1 0 0"]), lines)
+
+
+class Live(unittest.TestCase):
+    def test_a_change_has_what_came_and_went(self) -> None:
+        lines = ["ok", "change 5 6", "-v 3", "v 4 -100 0 0", "v 5 0 0 100", "f 0 0 2 5"]
+        lines += ["f 1 4 2 1", "f 2 0 4 1", "f 4 2 4 5", "f 5 4 0 5", "end", "change 5 6", "end"]
+        self.assertEqual(replies(OCTAHEDRON_STREAM, ["s 0", "d", "d"], command="live"), lines)
+
+    def test_a_change_begins_at_the_mark(self) -> None:
+        lines = ["ok", "ok", "change 5 6", "end", "ok", "change 4 4", "-f 4", "-f 5", "-v 4"]
+        lines += ["-v 5", "v 3 -50 0 50", "f 0 0 2 3", "f 1 3 2 1", "f 2 0 3 1", "end"]
+        script = ["s 0", "k", "d", "c 0", "d"]
+        self.assertEqual(replies(OCTAHEDRON_STREAM, script, command="live"), lines)
+
+    def test_a_level_has_the_greatest_numbers_shown(self) -> None:
+        lines = ["level 4 4 0 71 71", "ok", "level 5 6 1 71 71", "ok", "level 6 8 2 0 0"]
+        script = ["l", "s 0", "l", "s 1", "l"]
+        self.assertEqual(replies(OCTAHEDRON_STREAM, script, command="live"), lines)
+
+    def test_a_budget_is_set_for_later_views(self) -> None:
+        near = "v 1000 0 0 100 9"
+        lines = ["spent 0 2", "ok", "spent 1 1", "settled 1"]
+        script = [near, "b 1", near, near]
+        self.assertEqual(replies(OCTAHEDRON_STREAM, script, 0, "live"), lines)
+
+    def test_a_mesh_that_follows_the_changes_is_that_of_the_frame(self) -> None:
+        for seed in range(12):
+            rng = Random(f"follow {seed}")
+            h, stream = random_stream(rng, random_mesh(rng))
+            lines = [line for line in (script_line(rng, h) for _ in range(10)) if line != "w"]
+            told = [text for line in lines for text in (line, "d")]
+            shown = [text for line in lines for text in (line, "w")]
+            self.assertEqual(meshes(stream, ["w", *told]), meshes(stream, ["w", *shown]))
+
+    def test_view_has_none_of_these_lines(self) -> None:
+        for line in (b"d", b"l", b"b 1"):
+            self.assertEqual(refused("view 2", OCTAHEDRON_STREAM + line), "30 line 1")
+        for line in (b"d ", b"b", b"b -1", b"b 01", b"l 0"):
+            self.assertEqual(refused("live 2", OCTAHEDRON_STREAM + line), "30 line 1")
 
 
 if __name__ == "__main__":

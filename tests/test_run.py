@@ -8,8 +8,8 @@ from typing import List, Optional
 
 import builders
 from case_files import CaseFault, read_cases
-from programs import Programs, without_notice
-from run import failure
+from programs import READING, Programs, without_notice
+from run import failure, with_live
 
 TESTS = Path(__file__).resolve().parent
 NOTICE = "vdpm: not proved on this machine yet, run-time checks are on; ./prove proves it"
@@ -179,6 +179,12 @@ class Reading(Runner):
         cases = read_cases([self.cases(["case one", "rows n 9..11", "run vdpm {n}"])])
         self.assertEqual([case.words for case in cases], [["9"], ["10"], ["11"]])
 
+    def test_a_whole_run_of_view_is_one_of_live_too(self) -> None:
+        lines = ["case one", "run vdpm view 5", "", "case two", "run vdpm view 5", "status 1"]
+        cases = [twin for case in read_cases([self.cases(lines)]) for twin in with_live(case)]
+        self.assertEqual([case.name for case in cases], ["one", "one as live", "two"])
+        self.assertEqual(cases[1].words, ["live", "5"])
+
     def test_faults_of_a_file_are_named(self) -> None:
         self.refused("some.cases:2: `ran` is no key", "case one", "ran vdpm")
         self.refused("some.cases:3: `run` stands twice", "case one", "run vdpm", "run vdpm")
@@ -232,7 +238,8 @@ class Builders(unittest.TestCase):
 class Whole(Runner):
     def run_all(self, program: str, *lines: str) -> "subprocess.CompletedProcess[str]":
         path = str(self.program(program))
-        words = ["run.py", str(self.cases(list(lines))), "--vdpm", path, "--prepare", path]
+        named = [word for name in READING for word in (f"--{name}", path)]
+        words = ["run.py", str(self.cases(list(lines))), *named]
         words.insert(0, sys.executable)
         pipe = subprocess.PIPE
         return subprocess.run(words, cwd=TESTS, stdout=pipe, stderr=pipe, text=True, check=False)

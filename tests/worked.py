@@ -147,9 +147,11 @@ def refused(words: str, data: bytes) -> str:
     return done.error[len("vdpm: fault ") : -1]
 
 
-def replies(stream: bytes, script: Sequence[str], budget: int = 5) -> List[str]:
-    """The replies to a script, a frame as one."""
-    text = output(f"view {budget}", stream + "\n".join(script).encode())
+def replies(
+    stream: bytes, script: Sequence[str], budget: int = 5, command: str = "view"
+) -> List[str]:
+    """The lines of the replies to a script."""
+    text = output(f"{command} {budget}", stream + "\n".join(script).encode())
     return text.decode().splitlines()
 
 

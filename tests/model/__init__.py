@@ -1,9 +1,9 @@
-"""A model of `vdpm` and `prepare`: what they answer, by the definitions in their plainest form.
+"""A model of the programs: what they answer, by the definitions in their plainest form.
 
 It is over lists and numbers, and looks at everything anew each time. So it is slow, and for meshes
 of a few hundred faces. It shares no code with the programs; tests/random_cases.py compares them
 with it. `python3 tests/model vdpm WORDS.. < input` answers as `./vdpm WORDS..` should, and so it is
-with `prepare`.
+with `prepare` and `simplify`.
 
     mesh       points, faces, sides, twins, fans, the canonical text
     obj        what an OBJ text means
@@ -11,11 +11,13 @@ with `prepare`.
     hierarchy  roots, records, nodes; the hierarchy of a run
     stream     the stream text and its faults
     front      split records, kept faces, what stands beyond a side, legal moves
-    views      bounds, wanted nodes, targets, plans
-    shown      frames, geomorphs, measures, strips
+    bounds     errors, radii and boxes of normals of nodes
+    deviation  how far nodes may be from the faces under them
+    views      wanted nodes, targets, plans
+    shown      frames, geomorphs, changes, levels of detail, measures, strips
     pick       rays
     script     the lines of a script
-    commands   words and answers of `vdpm`
+    commands   words and answers of `vdpm` and `simplify`
     scan       what any OBJ text spells
     prepare    the oriented manifold that is made of it, and what is said of the work
 """
@@ -26,8 +28,13 @@ from .faults import Answer
 
 
 def answer(program: str, words: List[str], data: bytes) -> Answer:
-    """What `vdpm` or `prepare` answers to words and input."""
-    return {"vdpm": commands.answer, "prepare": prepare.answer}[program](words, data)
+    """What a program answers to words and input."""
+    programs = {
+        "vdpm": commands.answer,
+        "prepare": prepare.answer,
+        "simplify": commands.simplify_answer,
+    }
+    return programs[program](words, data)
 
 
 __all__ = ["Answer", "answer"]

@@ -1,4 +1,4 @@
-"""Answers as a program should: python3 tests/model vdpm WORDS.. < input, or prepare for vdpm."""
+"""Answers as a program should: python3 tests/model PROGRAM WORDS.. < input."""
 import sys
 from pathlib import Path
 

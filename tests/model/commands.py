@@ -1,20 +1,21 @@
-"""What each command of `vdpm` answers, by its words and its input."""
+"""What each command of `vdpm` answers, and `simplify`, by its words and its input."""
 import re
-from typing import List, Optional
+from typing import List, Optional, Type
 
 from .faults import Answer, Fault, failed, not_understood
 from .front import Shown, judge_hierarchy
 from .hierarchy import Hierarchy, hierarchy_of_run, input_mesh
 from .mesh import Corners, Mesh, Point, canonical_text
 from .obj import surface_of_text
-from .run import run_to
-from .script import serve
+from .run import border_of, run_to
+from .script import LiveSession, Session, serve
 from .stream import Stream, read_stream, stream_text
 from .views import View, after, plan, target_of
 
 TRAILING = 29
 GREATEST_WORD = 2**32 - 1
 LARGEST_GRID = 256
+SESSIONS = {"view": Session, "live": LiveSession}
 
 
 def number_of_word(word: str, least: int = 0, most: int = GREATEST_WORD) -> Optional[int]:
@@ -59,9 +60,9 @@ def check(data: bytes) -> Answer:
     return Answer(0, f"{line} faces {len(h.faces)}\n".encode(), "")
 
 
-def view(data: bytes, budget: int) -> Answer:
+def view(data: bytes, budget: int, kind: Type[Session]) -> Answer:
     stream = valid_stream(data)
-    served = serve(stream.hierarchy, budget, stream.rest)
+    served = serve(kind(stream.hierarchy, budget), stream.rest)
     replies = served.replies.encode()
     return Answer(0, replies, "") if served.fault is None else failed("vdpm", served.fault, replies)
 
@@ -115,9 +116,9 @@ def asked(words: List[str], data: bytes) -> Optional[Answer]:
         return expand(data)
     if words == ["check"]:
         return check(data)
-    if len(words) == 2 and words[0] == "view":
+    if len(words) == 2 and words[0] in SESSIONS:
         budget = number_of_word(words[1])
-        return None if budget is None else view(data, budget)
+        return None if budget is None else view(data, budget, SESSIONS[words[0]])
     if len(words) == 2 and words[0] == "demo":
         size = number_of_word(words[1], 1, LARGEST_GRID)
         return None if size is None else demo(size)
@@ -148,3 +149,31 @@ def answer(words: List[str], data: bytes) -> Answer:
         return asked(words, data) or not_understood("vdpm")
     except Fault as fault:
         return failed("vdpm", fault)
+
+
+def simplify(text: bytes, target: int, digits: int, keeps_border: bool) -> Answer:
+    mesh = surface_of_text(text, digits)
+    log = run_to(mesh, target, border_of(mesh) if keeps_border else set())
+    return Answer(0, stream_text(hierarchy_of_run(mesh, log), digits), "")
+
+
+def simplify_asked(words: List[str], data: bytes) -> Optional[Answer]:
+    """The answer where the words are of the form `[N] [--digits D] [--keep-border]`."""
+    keeps_border = words[-1:] == ["--keep-border"]
+    words = words[:-1] if keeps_border else words
+    digits: Optional[int] = 0
+    if words[-2:-1] == ["--digits"]:
+        digits = number_of_word(words[-1], 0, 4)
+        words = words[:-2]
+    target = number_of_word(words[0]) if words else 0
+    if len(words) > 1 or target is None or digits is None:
+        return None
+    return simplify(data, target, digits, keeps_border)
+
+
+def simplify_answer(words: List[str], data: bytes) -> Answer:
+    """The answer of `simplify`, or that its words aren't understood."""
+    try:
+        return simplify_asked(words, data) or not_understood("simplify")
+    except Fault as fault:
+        return failed("simplify", fault)

@@ -1,6 +1,6 @@
-"""The run of the builder: the least legal pair is collapsed, again and again. All pairs are looked
-at anew each time."""
-from typing import Dict, List, NamedTuple, Optional, Set, Tuple
+"""The run of the builder: the least legal pair is collapsed, again and again, of those that have no
+kept vertex. All pairs are looked at anew each time."""
+from typing import Collection, Dict, List, NamedTuple, Optional, Set, Tuple
 
 from .mesh import (
     Corners,
@@ -140,10 +140,13 @@ def pairs_of(faces: Faces) -> List[Tuple[int, int]]:
     return sorted({(min(pair), max(pair)) for pair in found})
 
 
-def least_pair(surface: Surface) -> Optional[Tuple[int, int, Point]]:
-    """Of the legal pairs the one with the least cost, and of equal costs the least numbers."""
+def least_pair(surface: Surface, kept: Collection[int]) -> Optional[Tuple[int, int, Point]]:
+    """Of the legal pairs without a kept vertex the one with the least cost, and of equal costs the
+    least numbers."""
     costs = []
     for a, b in pairs_of(surface.faces):
+        if a in kept or b in kept:
+            continue
         cost, place = best_place(surface, a, b)
         costs.append((cost, a, b, place))
     for _, a, b, place in sorted(costs):
@@ -174,12 +177,18 @@ def collapsed(surface: Surface, t: int, u: int, place: Point) -> Tuple[Surface, 
     return Surface(faces, places, planes, s + 1), entry
 
 
-def run_to(mesh: Mesh, target: int) -> List[Collapse]:
-    """The log of the run: while more faces than the target are left and a pair is legal, the least
-    one is collapsed."""
+def border_of(mesh: Mesh) -> Set[int]:
+    """The vertices on the border."""
+    faces = numbered(mesh.faces)
+    return {vertex for side in border_sides(faces) for vertex in ends(faces, side)}
+
+
+def run_to(mesh: Mesh, target: int, kept: Collection[int] = ()) -> List[Collapse]:
+    """The log of the run: while more faces than the target are left and a pair without a kept
+    vertex is legal, the least one is collapsed."""
     surface, log = surface_of(mesh), []
     while len(surface.faces) > target:
-        pair = least_pair(surface)
+        pair = least_pair(surface, kept)
         if pair is None:
             break
         surface, entry = collapsed(surface, *pair)

@@ -1,5 +1,5 @@
-"""The script of `view`: what each line asks for, and its reply. Scripts of more than 2^30 bytes
-aren't modelled."""
+"""The scripts of `view` and `live`: what each line asks for, and its reply. Scripts of more than
+2^30 bytes aren't modelled."""
 import re
 from typing import List, NamedTuple, Optional, Set, Tuple
 
@@ -9,13 +9,13 @@ from .hierarchy import Hierarchy
 from .mesh import Point
 from .obj import lines_of
 from .pick import Ray, pick_text
-from .shown import frame_text, morph_text, shape_text, strips_text
+from .shown import change_text, frame_text, level_text, morph_text, shape_text, strips_text
 from .views import View, after, plan, target_of
 
 BAD_LINE, NO_RECORD = 30, 31
 
 MOST_LINE_BYTES = 1_024
-GREATEST_RECORD = 2**32 - 1
+GREATEST_NUMBER = 2**32 - 1
 GREATEST_EYE_COORDINATE = 16_777_215
 GREATEST_FOCAL = 65_535
 GREATEST_NORMAL = 32_767
@@ -29,6 +29,13 @@ class Served(NamedTuple):
 
     replies: str
     fault: Optional[Fault]
+
+
+def words_of(text: bytes) -> List[bytes]:
+    """The words of a line, with one space between them."""
+    if len(text) > MOST_LINE_BYTES:
+        raise Fault(BAD_LINE)
+    return text.split(b" ")
 
 
 def unsigned(field: bytes, most: int) -> int:
@@ -80,10 +87,14 @@ def ray_read(fields: List[bytes]) -> Ray:
     return ray
 
 
-def record_read(h: Hierarchy, fields: List[bytes]) -> int:
+def number_read(fields: List[bytes]) -> int:
     if len(fields) != 1:
         raise Fault(BAD_LINE)
-    k = unsigned(fields[0], GREATEST_RECORD)
+    return unsigned(fields[0], GREATEST_NUMBER)
+
+
+def record_read(h: Hierarchy, fields: List[bytes]) -> int:
+    k = number_read(fields)
     if k >= len(h.records):
         raise Fault(NO_RECORD)
     return k
@@ -100,7 +111,7 @@ def morph_read(fields: List[bytes]) -> Tuple[int, int]:
 
 
 class Session:
-    """A front with its marks. `reply` does one line."""
+    """A front with its marks, for a script of `view`. `reply` does one line."""
 
     def __init__(self, h: Hierarchy, budget: int) -> None:
         self.hierarchy = h
@@ -110,9 +121,7 @@ class Session:
 
     def reply(self, text: bytes) -> str:
         """The reply to a line that isn't `q`."""
-        if len(text) > MOST_LINE_BYTES:
-            raise Fault(BAD_LINE)
-        word, *fields = text.split(b" ")
+        word, *fields = words_of(text)
         if word in (b"s", b"c"):
             return self.move(word, record_read(self.hierarchy, fields))
         if word in (b"v", b"vs"):
@@ -146,9 +155,28 @@ class Session:
         return f"spent {self.budget} {len(moves) - self.budget}\n"
 
 
-def serve(h: Hierarchy, budget: int, script: bytes) -> Served:
+class LiveSession(Session):
+    """The same for a script of `live`, which has lines more."""
+
+    def reply(self, text: bytes) -> str:
+        word, *fields = words_of(text)
+        if word == b"b":
+            self.budget = number_read(fields)
+            return "ok\n"
+        if word in (b"vd", b"vds"):
+            return self.adapt(view_read(fields, word == b"vds")._replace(is_by_deviation=True))
+        if text == b"l":
+            return level_text(self.hierarchy, self.split)
+        if text == b"d":
+            change = change_text(self.hierarchy, self.marked, self.split)
+            self.marked = set(self.split)
+            return change
+        return super().reply(text)
+
+
+def serve(session: Session, script: bytes) -> Served:
     """The replies to the lines up to `q`, a fault or the end."""
-    session, replies = Session(h, budget), ""
+    replies = ""
     for number, text in enumerate(lines_of(script), 1):
         if text == b"q":
             break

@@ -1,6 +1,9 @@
-"""What is told of the mesh that a front shows: frames, geomorphs, measures and strips."""
+"""What is told of the mesh that a front shows: frames, geomorphs, changes, levels of detail,
+measures and strips."""
 from typing import List, Optional, Tuple
 
+from .bounds import error_of
+from .deviation import deviation_of
 from .front import Front, Shown, ancestor
 from .hierarchy import Hierarchy
 from .mesh import Point, face_of, following
@@ -40,6 +43,30 @@ def morph_text(h: Hierarchy, split: Front, marked: Front, a: int, b: int) -> str
     elders = [h.nodes[ancestor(h, marked, node)] for node in shown.nodes]
     places = [between(elder.place, node.place, a, b) for elder, node in zip(elders, nodes)]
     return line("morph", len(shown.nodes), len(shown.kept), a, b) + mesh_lines(shown, places)
+
+
+def change_text(h: Hierarchy, marked: Front, split: Front) -> str:
+    """What changes from the marked front: the faces and nodes that are gone, the nodes that are new
+    and the faces that are new or have another corner."""
+    before, now = Shown(h, marked), Shown(h, split)
+    told = {face: before.faces[face] for face in before.kept}
+    gone_faces = [line("-f", face) for face in before.kept if face not in now.kept]
+    gone_nodes = [line("-v", node) for node in before.nodes if node not in now.nodes]
+    new = [node for node in now.nodes if node not in before.nodes]
+    nodes = [line("v", node, *h.nodes[node].place) for node in new]
+    put = [face for face in now.kept if told.get(face) != now.faces[face]]
+    faces = [line("f", face, *now.faces[face]) for face in put]
+    first = line("change", len(now.nodes), len(now.kept))
+    return "".join([first, *gone_faces, *gone_nodes, *nodes, *faces, line("end")])
+
+
+def level_text(h: Hierarchy, split: Front) -> str:
+    """How many nodes and faces are shown, how many records are split, and the greatest error and
+    the greatest deviation of a node that is shown."""
+    shown = Shown(h, split)
+    error = max((error_of(h, node) for node in shown.nodes), default=0)
+    deviation = max((deviation_of(h, node) for node in shown.nodes), default=0)
+    return line("level", len(shown.nodes), len(shown.kept), len(split), error, deviation)
 
 
 def next_border(shown: Shown, side: int) -> int:
