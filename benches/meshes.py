@@ -2,7 +2,8 @@
 
     python3 meshes.py KIND SIZE > mesh.obj
 
-KIND is grid, ramp, sphere, cylinder or cone; SIZE is the number of cells or segments along one way.
+KIND is grid, ramp, sphere, cylinder, cone, block or towers; SIZE is the number of cells or segments
+along one way.
 """
 import sys
 from math import cos, pi, sin
@@ -87,7 +88,55 @@ def cone(n):
     return points, faces
 
 
-KINDS = {"grid": grid, "ramp": ramp, "sphere": sphere, "cylinder": cylinder, "cone": cone}
+def block(n):
+    """A closed part with flat sides: a cube of n by n cells a side, with a boss on its top."""
+    step = 40000 // n
+    number, points, faces = {}, [], []
+
+    def at(*cell):
+        if cell not in number:
+            number[cell] = len(points)
+            x, y, z = (i * step - step * n // 2 for i in cell)
+            on_boss = z > 0 and cell[2] == n and all(n <= 3 * i <= 2 * n for i in cell[:2])
+            points.append((x, y, z + 6000 if on_boss else z))
+        return number[cell]
+
+    def side(place):
+        for i in range(n):
+            for j in range(n):
+                a, b, c, d = (at(*place(*cell)) for cell in ((i, j), (i + 1, j), (i + 1, j + 1), (i, j + 1)))
+                faces.extend([(a, b, c), (a, c, d)])
+
+    side(lambda i, j: (i, j, n))
+    side(lambda i, j: (j, i, 0))
+    side(lambda i, j: (i, 0, j))
+    side(lambda i, j: (j, n, i))
+    side(lambda i, j: (n, i, j))
+    side(lambda i, j: (0, j, i))
+    return points, faces
+
+
+def towers(n):
+    """Rolling ground of n by n cells with thin towers on it, one cell wide, and a border."""
+    points, faces = grid(n)
+
+    def raised(k, x, y, z):
+        row, column = divmod(k, n + 1)
+        is_tower = all(0 < i < n - 1 and i % (n // 4) in (n // 8, n // 8 + 1) for i in (row, column))
+        return x, y, z + 12000 if is_tower else z
+
+    return [raised(k, *p) for k, p in enumerate(points)], faces
+
+
+KINDS = {
+    "grid": grid,
+    "ramp": ramp,
+    "sphere": sphere,
+    "cylinder": cylinder,
+    "cone": cone,
+    "block": block,
+    "towers": towers,
+}
 
 
 def text(kind, size):
