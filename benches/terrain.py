@@ -1,6 +1,7 @@
-"""Writes a terrain as an OBJ text of whole numbers, for measurements of views:
+"""Writes a terrain as an OBJ text of whole numbers, for measurements, or as a height field:
 
     python3 benches/terrain.py CELLS [sea] > terrain.obj
+    python3 benches/terrain.py CELLS [sea] grid > terrain.asc
 
 CELLS cells a side, two faces a cell (316 makes 199,712 faces and 707 makes 999,698), round the
 origin, with z up. Heights are smooth noise in octaves, each half as broad as the last and rougher
@@ -67,8 +68,19 @@ def lines(cells: int, sea: bool) -> Iterator[str]:
             yield f"f {here} {there + 1} {there}"
 
 
+def grid_lines(cells: int, sea: bool) -> Iterator[str]:
+    """The same terrain as an ESRI ASCII grid, of which the first row is the northernmost."""
+    noise, lowest = Noise(SEED), 0.0 if sea else -EXTENT
+    yield f"ncols {cells + 1}\nnrows {cells + 1}\nxllcenter 0\nyllcenter 0"
+    yield f"cellsize {EXTENT / cells:g}\nNODATA_value -99999"
+    for row in range(cells, -1, -1):
+        heights = (height(noise, column / cells, row / cells) for column in range(cells + 1))
+        yield " ".join(f"{max(lowest, z):.1f}" for z in heights)
+
+
 def main(words: List[str]) -> None:
-    for line in lines(int(words[0]), words[1:] == ["sea"]):
+    write = grid_lines if "grid" in words else lines
+    for line in write(int(words[0]), "sea" in words):
         print(line)
 
 

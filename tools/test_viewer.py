@@ -13,8 +13,9 @@ from browser import NAMES
 
 TOOLS = Path(__file__).resolve().parent
 SUBJECTS = (
-    "programs", "models", "serving", "films", "looking", "settings", "keeping", "playing",
+    "programs", "models", "serving", "films", "looking", "settings", "keeping", "playing", "worlds",
 )
+NO_BROWSER = "no Chromium"
 
 
 def main() -> None:
@@ -25,10 +26,12 @@ def main() -> None:
     names = [f"viewer.tests.{name}" for name in words or SUBJECTS]
     suite = unittest.defaultTestLoader.loadTestsFromNames(names)
     result = unittest.TextTestRunner(buffer=True).run(suite)
-    if result.skipped:
-        classes = sorted({".".join(test.id().split(".")[2:4]) for test, _ in result.skipped})
-        print(f"LEFT OUT: {len(result.skipped)} tests in a browser: {', '.join(classes)}")
-        print(f"None of these is here: {', '.join(NAMES)}")
+    for reason in sorted({why for _, why in result.skipped}):
+        tests = [test.id() for test, why in result.skipped if why == reason]
+        classes = sorted({".".join(name.split(".")[2:4]) for name in tests})
+        print(f"LEFT OUT: {len(tests)} tests, {reason}: {', '.join(classes)}")
+        if reason == NO_BROWSER:
+            print(f"None of these is here: {', '.join(NAMES)}")
     sys.exit(0 if result.wasSuccessful() else 1)
 
 

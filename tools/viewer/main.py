@@ -1,12 +1,13 @@
 """Shows a mesh in a window of the browser: what is refined follows the camera.
 
-    ./viewer MODEL [--open] [--budget N] [--program PATH] [--port P]
+    ./viewer MODEL [--open] [--budget N] [--memory MB] [--program PATH] [--port P]
     ./viewer --film FLIGHT MODEL [--budget N] [--program PATH] > film.html
 
-MODEL is a stream of `vdpm build`, or an OBJ file, which is built first and taken through `prepare`
-where it isn't fit. The page's address is printed, and --open opens it; Ctrl-C ends all. With --film
-the script FLIGHT is played, and its frames are written as one page that needs no server. Needs
-Python 3.8 and a browser with WebGL 2, and no network.
+MODEL is a stream of `vdpm build`; or an OBJ file, which is built first and taken through `prepare`
+where it isn't fit; or the world.json of a world of tiles (docs/WORLDS.md). The page's
+address is printed, and --open opens it; Ctrl-C ends all. With --film the script FLIGHT is played,
+and its frames are written as one page that needs no server. Needs Python 3.8 and a browser with
+WebGL 2, and no network.
 
 Ends with status 1 where the model can't be had, or the program can't be started or ends early.
 """
@@ -17,14 +18,17 @@ import threading
 import webbrowser
 from pathlib import Path
 from types import FrameType
-from typing import List, Optional
+from typing import List, Optional, Union
 
 from .film import BadFlight, film_page
 from .model import Model, Programs, model_of, tell
 from .program import ALL_MOVES, ProgramEnded
 from .server import Server, is_budget
 from .showing import Showing
+from .world import WorldServer, WorldShowing, showing_of
 
+MEMORY = 1000  # megabytes
+WORLD = "world.json"
 TOP = Path(__file__).resolve().parent.parent.parent
 
 
@@ -40,10 +44,11 @@ def arguments(words: Optional[List[str]] = None) -> argparse.Namespace:
         description="Shows a mesh in the browser, refined for where the camera looks.",
     )
     add = parser.add_argument
-    add("model", type=Path, help="a stream of `vdpm build`, or an OBJ file")
+    add("model", type=Path, help="a stream of `vdpm build`, an OBJ file, or a world.json")
     add("--open", action="store_true", help="open the page in the browser")
     add("--budget", type=budget_of, default=ALL_MOVES, help="splits and collapses a view may make")
     add("--program", type=Path, default=TOP / "vdpm", help="vdpm, if not this repository's")
+    add("--memory", type=int, default=MEMORY, help="megabytes that a world's open tiles may take")
     add("--port", type=int, default=0, help="a free one is taken where none is given")
     add("--film", type=Path, metavar="FLIGHT", help="write a page that plays this script")
     return parser.parse_args(words)
@@ -67,6 +72,8 @@ def loaded(asked: argparse.Namespace) -> Model:
 
 
 def write_film(asked: argparse.Namespace) -> None:
+    if asked.model.name == WORLD:
+        sys.exit("viewer: a film is made of one model, and not of a world")
     if sys.stdout.isatty():
         sys.exit("viewer: the film goes to standard output: add > film.html")
     try:
@@ -82,13 +89,21 @@ def write_film(asked: argparse.Namespace) -> None:
     tell(f"{len(page):,} bytes")
 
 
-def served(asked: argparse.Namespace) -> Server:
-    model = loaded(asked)
+def showing_for(asked: argparse.Namespace) -> Union[Showing, WorldShowing]:
+    program = asked.program.resolve()
+    if asked.model.name == WORLD:
+        return showing_of(program, asked.model, asked.memory * 1_000_000)
+    return Showing(program, loaded(asked), asked.budget)
+
+
+def served(asked: argparse.Namespace) -> Union[Server, WorldServer]:
     try:
-        showing = Showing(asked.program.resolve(), model, asked.budget)
+        showing = showing_for(asked)
     except ProgramEnded as fault:
         sys.exit(f"viewer: {asked.model}: {fault}")
     try:
+        if isinstance(showing, WorldShowing):
+            return WorldServer(showing, asked.port)
         return Server(showing, asked.port)
     except (OSError, OverflowError) as fault:
         showing.close()
@@ -99,7 +114,7 @@ def _stop(number: int, frame: Optional[FrameType]) -> None:
     raise KeyboardInterrupt
 
 
-def serve(server: Server, opened: bool) -> None:
+def serve(server: Union[Server, WorldServer], opened: bool) -> None:
     """Serves until Ctrl-C, the end of the terminal or a request to end; then ends the program
     too."""
     for name in ("SIGHUP", "SIGTERM"):

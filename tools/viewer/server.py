@@ -15,20 +15,21 @@ import secrets
 import struct
 from http.server import BaseHTTPRequestHandler, ThreadingHTTPServer
 from pathlib import Path
-from typing import Callable, Dict, Optional, Tuple
+from typing import Callable, Dict, Optional, Tuple, Type
 
-from .program import ALL_MOVES, BadScript, ProgramEnded
+from .program import ALL_MOVES, Answer, BadScript, ProgramEnded
 from .showing import Showing
 from .websocket import WebSocket, accepted
 
 PAGE = Path(__file__).resolve().parent / "page"
-_KINDS = {"html": "text/html", "css": "text/css", "js": "text/javascript"}
+_KINDS = {".html": "text/html", ".css": "text/css", ".js": "text/javascript"}
 FILES = (
     "index.html", "style.css", "camera.js", "connection.js", "controls.js", "faults.js",
     "frames.js", "hierarchy.js", "keeping.js", "layout.js", "main.js", "matrices.js", "obj.js",
     "panel.js", "picking.js", "renderer.js", "replies.js", "scene.js", "shaders.js", "views.js",
     "work.js", "worker.js",
 )
+Content = Tuple[str, Callable[[], bytes]]  # its kind, and what gives it
 LONGEST_BODY = 1 << 10
 BYTES = "application/octet-stream"
 JSON = "application/json"
@@ -45,12 +46,13 @@ def is_budget(text: str) -> bool:
     return text.isascii() and text.isdigit() and int(text) <= ALL_MOVES
 
 
-class Server(ThreadingHTTPServer):
+class Address(ThreadingHTTPServer):
+    """An address of this machine alone, which only who knows its token can use."""
+
     daemon_threads = True
 
-    def __init__(self, showing: Showing, port: int = 0) -> None:
-        super().__init__(("127.0.0.1", port), Handler)
-        self.showing = showing
+    def __init__(self, port: int, handler: Type["Page"]) -> None:
+        super().__init__(("127.0.0.1", port), handler)
         self.token = secrets.token_urlsafe(16)
         self.hosts = {f"{name}:{self.server_port}" for name in ("127.0.0.1", "localhost")}
 
@@ -68,8 +70,11 @@ class Server(ThreadingHTTPServer):
         return f"http://127.0.0.1:{self.server_port}/{self.token}/"
 
 
-class Handler(BaseHTTPRequestHandler):
-    server: Server
+class Page(BaseHTTPRequestHandler):
+    """Serves the files of a page and what it asks for, and answers its scripts."""
+
+    server: Address
+    files: Dict[str, Path]  # by the names that the page has for them; "" is the page itself
     protocol_version = "HTTP/1.1"
     server_version, sys_version = "viewer", ""
     disable_nagle_algorithm = True
@@ -82,12 +87,11 @@ class Handler(BaseHTTPRequestHandler):
         if path == "talk":
             self._talk()
             return
-        name = path or "index.html"
-        if name in FILES:
-            kind = f"{_KINDS[name.rpartition('.')[2]]}; charset=utf-8"
-            self._send(200, kind, (PAGE / name).read_bytes())
+        file = self.files.get(path)
+        if file is not None:
+            self._send(200, f"{_KINDS[file.suffix]}; charset=utf-8", file.read_bytes())
             return
-        found = self._contents().get(path)
+        found = self.content(path)
         if found is None:
             self._refuse(404, "there is no such page")
             return
@@ -97,16 +101,17 @@ class Handler(BaseHTTPRequestHandler):
         except ProgramEnded as fault:
             self._refuse(502, str(fault))
 
-    def _contents(self) -> Dict[str, Tuple[str, Callable[[], bytes]]]:
+    def content(self, path: str) -> Optional[Content]:
         """What the page asks for beside its files."""
-        showing = self.server.showing
-        return {
-            "about": (JSON, lambda: json.dumps(showing.about()).encode()),
-            "stream": (BYTES, lambda: showing.model.stream),
-            "colours": (BYTES, lambda: showing.model.colours or b""),
-            "input": (TEXT, showing.input_frame),
-            "flight": (TEXT, showing.flight),
-        }
+        raise NotImplementedError
+
+    def answer(self, script: str) -> Answer:
+        """The replies to a script."""
+        raise NotImplementedError
+
+    def started(self, budget: int) -> Optional[bytes]:
+        """What a start with a budget answers; None where the page has no such thing."""
+        return None
 
     def do_POST(self) -> None:
         body = self._body()
@@ -123,13 +128,15 @@ class Handler(BaseHTTPRequestHandler):
             self._start(int(body))
 
     def _start(self, budget: int) -> None:
-        showing = self.server.showing
         try:
-            showing.start(budget)
+            about = self.started(budget)
         except ProgramEnded as fault:
             self._refuse(502, str(fault))
             return
-        self._send(200, JSON, json.dumps(showing.about()).encode())
+        if about is None:
+            self._refuse(404, "there is no such page")
+        else:
+            self._send(200, JSON, about)
 
     def _talk(self) -> None:
         """Answers scripts until the page is left."""
@@ -157,7 +164,7 @@ class Handler(BaseHTTPRequestHandler):
 
     def _answer(self, line: WebSocket, script: str) -> None:
         try:
-            answer = self.server.showing.ask(script)
+            answer = self.answer(script)
         except BadScript as fault:
             line.send_text(json.dumps({"reason": str(fault), "cure": ""}))
         except ProgramEnded as fault:
@@ -210,3 +217,34 @@ class Handler(BaseHTTPRequestHandler):
 
     def log_message(self, format: str, *words: object) -> None:
         """Says nothing: a view is asked for many times a second."""
+
+
+class Server(Address):
+    """The window of one model."""
+
+    def __init__(self, showing: Showing, port: int = 0) -> None:
+        super().__init__(port, Handler)
+        self.showing = showing
+
+
+class Handler(Page):
+    server: Server
+    files = {**{name: PAGE / name for name in FILES}, "": PAGE / "index.html"}
+
+    def content(self, path: str) -> Optional[Content]:
+        showing = self.server.showing
+        contents: Dict[str, Content] = {
+            "about": (JSON, lambda: json.dumps(showing.about()).encode()),
+            "stream": (BYTES, lambda: showing.model.stream),
+            "colours": (BYTES, lambda: showing.model.colours or b""),
+            "input": (TEXT, showing.input_frame),
+            "flight": (TEXT, showing.flight),
+        }
+        return contents.get(path)
+
+    def answer(self, script: str) -> Answer:
+        return self.server.showing.ask(script)
+
+    def started(self, budget: int) -> Optional[bytes]:
+        self.server.showing.start(budget)
+        return json.dumps(self.server.showing.about()).encode()

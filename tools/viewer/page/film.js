@@ -135,7 +135,7 @@ class Film {
     this.renderer.draw({
       camera: this.camera,
       picture,
-      parts: [{ name: "front", left: 0, width }],
+      parts: [{ names: ["front"], left: 0, width }],
       look: {
         colour: part("colour").value,
         smooth: isOn("smooth"),

@@ -48,15 +48,20 @@ export class Renderer {
     gl.vertexAttribPointer(0, 3, gl.FLOAT, false, 0, 0);
   }
 
-  // Takes a frame as frames.js makes it, under a name.
-  show(name, frame) {
+  // Takes a frame as frames.js makes it, under a name. The mesh's zero stands at `offset`.
+  show(name, frame, offset = [0, 0, 0]) {
     if (!this.meshes.has(name)) this.meshes.set(name, new Mesh(this.gl));
-    this.meshes.get(name).show(frame);
+    this.meshes.get(name).show(frame, offset);
+  }
+
+  drop(name) {
+    this.meshes.get(name)?.free();
+    this.meshes.delete(name);
   }
 
   has(name) { return this.meshes.has(name); }
 
-  // The pictures of a scene: `parts` are meshes by name, each with where its picture begins, in
+  // The pictures of a scene: `parts` are names of meshes, with where their picture begins, in
   // pixels of the canvas, and how wide it is.
   draw({ camera, picture, parts, look }) {
     const { gl, canvas } = this;
@@ -65,11 +70,13 @@ export class Renderer {
     const axes = camera.axes(), eye = camera.eye();
     const toClip = clipMatrix(axes, picture, near, 2 * far);
     gl.enable(gl.SCISSOR_TEST);
-    for (const { name, left, width } of parts) {
+    for (const { names, left, width } of parts) {
       gl.viewport(left, 0, width, canvas.height);
       gl.scissor(left, 0, width, canvas.height);
       this.drawSky(look.theme);
-      if (this.meshes.has(name)) this.drawMesh(this.meshes.get(name), axes, eye, toClip, look);
+      for (const mesh of names.flatMap((name) => this.meshes.get(name) ?? [])) {
+        this.drawMesh(mesh, axes, plus(eye, -1, mesh.offset), toClip, look);
+      }
       if (look.frozen) this.drawPyramid(look.frozen, eye, toClip);
       gl.disable(gl.DEPTH_TEST);
       if (look.hit) this.paint(gl.POINTS, [look.hit], eye, toClip, HIT);
@@ -152,6 +159,7 @@ class Mesh {
     this.gl = gl;
     this.faceCount = 0;
     this.glides = false;
+    this.offset = [0, 0, 0];
     this.textures = {
       places: new Texture(gl, gl.RGBA16I, gl.RGBA_INTEGER, gl.SHORT),
       normals: new Texture(gl, gl.RGBA16I, gl.RGBA_INTEGER, gl.SHORT),
@@ -161,7 +169,12 @@ class Mesh {
     };
   }
 
-  show({ nodeCount, faceCount, arrays }) {
+  free() {
+    for (const { texture } of Object.values(this.textures)) this.gl.deleteTexture(texture);
+  }
+
+  show({ nodeCount, faceCount, arrays }, offset) {
+    this.offset = offset;
     for (const [name, array] of Object.entries(arrays)) {
       this.textures[name].put(array, rows(name === "corners" ? faceCount : nodeCount));
     }

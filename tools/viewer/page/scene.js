@@ -19,8 +19,8 @@ export class Scene {
 
   draw(camera, look) {
     const picture = this.picture(look.beside), width = this.fit(picture, look.beside);
-    const parts = [{ name: "front", left: 0, width }];
-    if (look.beside) parts.push({ name: "input", left: width, width });
+    const parts = [{ names: ["front"], left: 0, width }];
+    if (look.beside) parts.push({ names: ["input"], left: width, width });
     this.renderer.draw({ camera, picture, parts, look });
   }
 

@@ -1,0 +1,160 @@
+"""The window of a world: what is open and shown, and that nothing is missing or shown twice."""
+import http.client
+import json
+import random
+import threading
+import unittest
+from typing import Any, Dict, List
+
+from browser import PATIENCE, Line, found
+from viewer.program import BadScript
+from viewer.world import WORLD_PAGE, WorldHandler, WorldServer, showing_of
+from worlds.form import World
+from worlds.tests.common import (
+    VDPM, WithWorld, build, grid_text, needs_simplify, random_field,
+)
+
+from .pages import browser
+
+ALL = 10**9
+SETTLED = "globalThis.viewer && viewer.isSettled"
+# What is drawn covers the world once: no tile is drawn with a child or a parent of it.
+DRAWN = """(() => {
+  const { drawn, forest } = viewer.tiles;
+  const leaves = (name) => {
+    const { children } = forest.byName.get(name);
+    return children.length === 0 ? [name] : children.flatMap(leaves);
+  };
+  return drawn.flatMap(leaves).sort();
+})()"""
+
+
+@needs_simplify
+class WithWindow(WithWorld):
+    def setUp(self) -> None:
+        super().setUp()
+        field = random_field(random.Random(11), 17, 17)
+        self.world: World = self.cut(self.file("field.asc", grid_text(field, 40)), 64)
+        build(self.world, 100)
+
+    def served(self, memory: int = ALL) -> WorldServer:
+        server = WorldServer(showing_of(VDPM.resolve(), self.world.folder / "world.json", memory))
+        threading.Thread(target=server.serve_forever, args=(0.02,), daemon=True).start()
+        self.addCleanup(server.showing.close)
+        self.addCleanup(server.server_close)
+        self.addCleanup(server.shutdown)
+        return server
+
+
+class Serving(WithWindow):
+    def asked(self, server: WorldServer, path: str) -> "http.client.HTTPResponse":
+        line = http.client.HTTPConnection("127.0.0.1", server.server_port, timeout=PATIENCE)
+        self.addCleanup(line.close)
+        line.request("GET", f"/{server.token}/{path}")
+        return line.getresponse()
+
+    def test_the_page_and_each_tile_are_served_and_no_more(self) -> None:
+        server = self.served()
+        for name, file in WorldHandler.files.items():
+            self.assertEqual(self.asked(server, name).read(), file.read_bytes())
+        self.assertEqual(
+            {path.name for path in WORLD_PAGE.iterdir()},
+            {file.name for file in WorldHandler.files.values() if file.parent == WORLD_PAGE},
+        )
+        about: Dict[str, Any] = json.loads(self.asked(server, "about").read())
+        self.assertEqual({told["name"] for told in about["tiles"]}, set(self.world.tiles))
+        tile = self.world.tiles["t000"]
+        stream = self.asked(server, f"stream/{tile.name}").read()
+        self.assertEqual(stream, self.world.stream(tile).read_bytes())
+        self.assertTrue(self.asked(server, "base/t000").read().startswith(b"frame "))
+        for path in ("stream/nobody", "stream/", "start/t000", "index.html", "main.py"):
+            self.assertEqual(self.asked(server, path).status, 404, path)
+
+    def test_programs_are_ended_where_memory_is_short(self) -> None:
+        names = [tile.name for tile in self.world.level(0)]
+        one = self.served().showing.about()["tiles"]
+        assert isinstance(one, list)
+        memory = {told["name"]: told["memory"] for told in one}
+        showing = self.served(memory[names[0]] + memory[names[1]]).showing
+        opened: List[List[str]] = []
+        for name in (names[0], names[1], names[0], names[2]):
+            self.assertIn(b"end\n", showing.ask(name, "w\n").text)
+            opened.append(showing.open)
+        self.assertEqual(opened[-1], [names[0], names[2]])
+        self.assertLessEqual(showing.held, showing.memory)
+
+    def test_a_script_names_its_tile(self) -> None:
+        server = self.served()
+        host = f"127.0.0.1:{server.server_port}"
+        line = Line(f"ws://{host}/{server.token}/talk", f"http://{host}")
+        self.addCleanup(line.close)
+        for script, said in (("w\n", "names a tile"), ("tile nobody\nw\n", "no tile nobody")):
+            line.send(script)
+            self.assertIn(said, json.loads(line.receive())["reason"])
+        line.send("tile t000\nm\n")
+        self.assertIn(b"shape ", line.receive())
+        with self.assertRaises(BadScript):
+            server.showing.ask("t000", "q\n")
+
+
+@unittest.skipUnless(found(), "no Chromium")
+class Looking(WithWindow):
+    def opened(self, memory: int = ALL) -> WorldServer:
+        server = self.served(memory)
+        self.page = browser()
+        self.page.go(server.address)
+        self.page.until(SETTLED)
+        return server
+
+    def look(self, distance: int, tolerance: int) -> None:
+        """From so far away, with a tolerance by the slider's number."""
+        self.page.run(
+            f"viewer.camera.distance = {distance}; tolerance.value = {tolerance};"
+            "tolerance.dispatchEvent(new Event('input', { bubbles: true }));"
+            "viewer.tick(performance.now()); 0"
+        )
+        self.page.until(SETTLED)
+
+    def names(self, which: str) -> List[str]:
+        found: List[str] = self.page.run(f"viewer.tiles.{which}")
+        return sorted(found)
+
+    def test_near_tiles_are_open_and_far_ones_are_parents(self) -> None:
+        server = self.opened()
+        leaves = [tile.name for tile in self.world.level(0)]
+        for distance, tolerance in ((900, 0), (10**6, 28), (300, 8), (5000, 20)):
+            self.look(distance, tolerance)
+            self.assertEqual(self.page.run(DRAWN), sorted(leaves))
+            self.assertEqual(self.names("drawn"), self.names("wanted.open"))
+            self.assertLessEqual(set(self.names("drawn")), set(server.showing.open))
+        self.look(10**6, 28)
+        self.assertEqual(self.names("drawn"), ["t"])
+        self.look(300, -4)
+        self.assertEqual(self.names("drawn"), sorted(leaves))
+        self.assertEqual(self.page.errors(), [])
+
+    def test_with_little_memory_parents_stay_and_the_rest_is_closed(self) -> None:
+        memory = 290 * 100
+        server = self.opened(memory)
+        self.look(300, -4)
+        self.assertLessEqual(server.showing.held, memory)
+        self.assertEqual(self.names("drawn"), ["t"])
+        server.showing.memory = 0
+        self.page.go(server.address)
+        self.page.until(SETTLED)
+        self.assertEqual((self.names("wanted.open"), self.names("drawn")), ([], ["t"]))
+        self.assertEqual(self.page.errors(), [])
+
+    def test_faces_and_counts_are_those_of_the_frames(self) -> None:
+        self.opened()
+        self.look(900, 4)
+        counts = self.page.run("viewer.tiles.counts")
+        drawn = "[...viewer.renderer.meshes.values()].reduce((sum, m) => sum + m.faceCount, 0)"
+        self.assertEqual(counts["faces"], self.page.run(drawn))
+        said = "document.getElementById('faces-said').textContent"
+        self.page.until(f"{said} === '{counts['faces']:,}'")
+        seen = {self.page.run("viewer.draw(), viewer.canvas.toDataURL()")}
+        for key in ("2", "3", "e", "4"):
+            self.page.key(key)
+            seen.add(self.page.run("viewer.draw(), viewer.canvas.toDataURL()"))
+        self.assertEqual(len(seen), 5)

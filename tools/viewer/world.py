@@ -1,0 +1,171 @@
+"""The window of a world of tiles (docs/WORLDS.md): a program for each tile that is open, within a
+bound on their memory, and the server of their page."""
+import json
+import threading
+from collections import OrderedDict
+from functools import partial
+from pathlib import Path
+from typing import Dict, List, Optional
+
+from worlds.form import Tile, World, WorldFault, box_of, read_world
+from worlds.parents import error_of, told_path
+
+from . import manual
+from .model import needed, run, tell
+from .program import ALL_MOVES, Answer, BadScript, Program, ProgramEnded, replies_to
+from .server import BYTES, FILES, JSON, PAGE, TEXT, Address, Content
+from .server import Page as ServedPage
+
+WORLD_PAGE = Path(__file__).resolve().parent / "world_page"
+OWN_FILES = ("tiles.js", "tiling.js", "world.html", "world.js", "world_worker.js")
+# Measured: an open stream of 199,712 faces takes 57 MB, and one of 980,000 takes 272.
+MEMORY_A_FACE = 290
+_HEAD = "tile "
+
+
+class WorldShowing:
+    """A world and the programs of its open tiles. Calls may come from several threads."""
+
+    def __init__(self, path: Path, world: World, memory: int) -> None:
+        self.path, self.world, self.memory = path, world, memory
+        self.tiles = usable(world)
+        self.proved = self._is_proved()
+        self._lock = threading.Lock()
+        self._open: "OrderedDict[str, Program]" = OrderedDict()  # the last one asked is last
+
+    def _is_proved(self) -> bool:
+        """Looks at one tile, which lets the program be built."""
+        tile = next(iter(self.tiles.values()))
+        stream = self.world.stream(tile).read_bytes()
+        return needed(run(self.path, ["check"], stream, "checking"), manual.STREAM).proved
+
+    def about(self) -> Dict[str, object]:
+        """What the page tells of the world, and chooses tiles by."""
+        low, _ = box_of([tile.low for tile in self.tiles.values()])
+        _, high = box_of([tile.high for tile in self.tiles.values()])
+        return {
+            "name": self.world.folder.resolve().name, "unit": self.world.unit, "low": low,
+            "high": high, "memory": self.memory, "proved": self.proved,
+            "faces": sum(tile.faces for tile in self.world.level(0)),
+            "tiles": [self._told(tile) for tile in self.tiles.values()],
+        }
+
+    def _told(self, tile: Tile) -> Dict[str, object]:
+        children: List[str] = [name for name in tile.children if name in self.tiles]
+        return {
+            "name": tile.name, "level": tile.level, "offset": tile.offset, "low": tile.low,
+            "high": tile.high, "children": children, "error": error_of(self.world, tile),
+            "memory": self._memory(tile),
+        }
+
+    def _memory(self, tile: Tile) -> int:
+        return MEMORY_A_FACE * faces_of(self.world, tile)
+
+    def stream(self, tile: Tile) -> bytes:
+        return self.world.stream(tile).read_bytes()
+
+    def base(self, tile: Tile) -> bytes:
+        """The frame of a closed tile, by a program that ends at once."""
+        return replies_to(self.path, self.stream(tile), b"w\n")
+
+    def ask(self, name: str, script: str) -> Answer:
+        tile = self.tiles.get(name)
+        if tile is None:
+            raise BadScript(f"there is no tile {name}")
+        with self._lock:
+            return self._program(tile).ask(script)
+
+    def _program(self, tile: Tile) -> Program:
+        """The tile's program, which is opened where it isn't. Those that weren't asked for longest
+        are ended before, until all fit into the memory."""
+        if tile.name not in self._open:
+            self._make_room(self._memory(tile))
+            self._open[tile.name] = Program(self.path, self.stream(tile), ALL_MOVES)
+        self._open.move_to_end(tile.name)
+        return self._open[tile.name]
+
+    def _make_room(self, memory: int) -> None:
+        while self._open and self.held + memory > self.memory:
+            _, program = self._open.popitem(last=False)
+            program.close()
+
+    @property
+    def held(self) -> int:
+        """What the open programs take."""
+        return sum(self._memory(self.tiles[name]) for name in self._open)
+
+    @property
+    def open(self) -> List[str]:
+        return list(self._open)
+
+    def close(self) -> None:
+        with self._lock:
+            for program in self._open.values():
+                program.close()
+            self._open.clear()
+
+
+def faces_of(world: World, tile: Tile) -> int:
+    """How many faces a tile's full mesh has."""
+    if tile.level == 0:
+        return tile.faces
+    return int(json.loads(told_path(world, tile).read_text(encoding="ascii"))["faces"])
+
+
+def usable(world: World) -> Dict[str, Tile]:
+    """The tiles that can be shown: all of level 0, which have to be there, and the parents that
+    were made."""
+    found: Dict[str, Tile] = {}
+    for tile in world.tiles.values():
+        if world.stream(tile).is_file():
+            found[tile.name] = tile
+        elif tile.level == 0:
+            raise WorldFault(f"{world.stream(tile)} isn't there: build the world's tiles first")
+    return found
+
+
+class WorldServer(Address):
+    """The window of a world."""
+
+    def __init__(self, showing: WorldShowing, port: int = 0) -> None:
+        super().__init__(port, WorldHandler)
+        self.showing = showing
+
+
+class WorldHandler(ServedPage):
+    server: WorldServer
+    files = {
+        **{name: PAGE / name for name in FILES if name != "index.html"},
+        **{name: WORLD_PAGE / name for name in OWN_FILES},
+        "": WORLD_PAGE / "world.html",
+    }
+
+    def content(self, path: str) -> Optional[Content]:
+        showing = self.server.showing
+        if path == "about":
+            return JSON, lambda: json.dumps(showing.about()).encode()
+        what, _, name = path.partition("/")
+        tile = showing.tiles.get(name)
+        if tile is None:
+            return None
+        if what == "stream":
+            return BYTES, partial(showing.stream, tile)
+        return (TEXT, partial(showing.base, tile)) if what == "base" else None
+
+    def answer(self, script: str) -> Answer:
+        head, _, rest = script.partition("\n")
+        if not head.startswith(_HEAD):
+            raise BadScript("the first line names a tile")
+        return self.server.showing.ask(head[len(_HEAD):], rest)
+
+
+def showing_of(path: Path, file: Path, memory: int) -> WorldShowing:
+    """The world of a world.json; ProgramEnded where it can't be shown."""
+    try:
+        world = read_world(file)
+        showing = WorldShowing(path, world, memory)
+    except (WorldFault, OSError) as fault:
+        raise ProgramEnded(str(fault)) from fault
+    parents = len(showing.tiles) - len(world.level(0))
+    tell(f"{file}: {len(world.level(0))} tiles, {parents} parents")
+    return showing

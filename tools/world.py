@@ -1,0 +1,112 @@
+#!/usr/bin/env python3
+"""Cuts a large mesh into tiles that meet without a crack (docs/WORLDS.md).
+
+    world.py cut INPUT WORLD [--faces N] [--unit U] [--spacing S] [--rise H]
+    world.py list WORLD LEVEL            prints the paths of a level's tiles, without ending
+    world.py parent WORLD NAME [--faces N] [--program PATH]
+    world.py check WORLD [--jobs J] [--program PATH]
+
+INPUT is a height field (an ESRI ASCII grid `.asc`, a binary PGM `.pgm`) or an OBJ file; WORLD is a
+folder, or its world.json. `./simplify --keep-border` makes a stream of each tile in between. Needs
+nothing but Python 3.8.
+
+Ends with status 1 where an input has a fault or the tiles don't meet, and says which.
+"""
+import argparse
+import sys
+from math import inf
+from pathlib import Path
+from typing import List, Optional
+
+from worlds.checking import check_world
+from worlds.form import World, WorldFault, read_world
+from worlds.making import Asked, make_world
+from worlds.parents import make_parent
+
+TOP = Path(__file__).resolve().parent.parent
+FACES = 100_000
+
+
+def say(text: str) -> None:
+    print(f"world: {text}", file=sys.stderr, flush=True)
+
+
+def positive(text: str) -> float:
+    number = float(text)
+    if not 0 < number < inf:
+        raise argparse.ArgumentTypeError(f"{text} isn't above 0")
+    return number
+
+
+def arguments(words: Optional[List[str]] = None) -> argparse.Namespace:
+    parser = argparse.ArgumentParser(prog="world.py", description="Worlds of tiles that meet.")
+    verbs = parser.add_subparsers(dest="verb", required=True)
+    cut = verbs.add_parser("cut", help="cut a height field or an OBJ file into tiles")
+    cut.add_argument("input", type=Path, help="a .asc grid, a binary .pgm, or an OBJ file")
+    cut.add_argument("world", type=Path, help="the folder that is made")
+    cut.add_argument("--unit", type=positive, default=0.0, help="a unit, in the input's measure")
+    cut.add_argument("--spacing", type=positive, default=1.0, help="between the points of a .pgm")
+    cut.add_argument("--rise", type=positive, default=1.0, help="of a step of grey of a .pgm")
+    listed = verbs.add_parser("list", help="print the paths of a level's tiles")
+    listed.add_argument("world", type=Path)
+    listed.add_argument("level", type=int)
+    parent = verbs.add_parser("parent", help="make the mesh of a parent of its children's fronts")
+    parent.add_argument("world", type=Path)
+    parent.add_argument("name")
+    check = verbs.add_parser("check", help="ask whether all tiles are valid and meet")
+    check.add_argument("world", type=Path)
+    check.add_argument("--jobs", type=int, default=1, help="processes side by side")
+    for verb in (cut, parent):
+        verb.add_argument("--faces", type=int, default=FACES, help="at most, a tile or a parent")
+    for verb in (parent, check):
+        verb.add_argument("--program", type=Path, default=TOP / "vdpm", help="another vdpm")
+    return parser.parse_args(words)
+
+
+def told(world: World) -> str:
+    tiles = world.level(0)
+    parents = len(world.tiles) - len(tiles)
+    faces, border = (sum(getattr(tile, n) for tile in tiles) for n in ("faces", "border"))
+    return (
+        f"{len(tiles)} tiles of {faces} faces, border sides {border}, outline {world.outline},"
+        f" parents {parents}, unit {world.unit:g}"
+    )
+
+
+def call(asked: argparse.Namespace) -> None:
+    if asked.verb == "cut":
+        words = Asked(
+            asked.input, asked.world, asked.faces, asked.unit, asked.spacing, asked.rise
+        )
+        print(told(make_world(words, say)))
+        return
+    world = read_world(asked.world)
+    if asked.verb == "list":
+        for tile in world.level(asked.level):
+            print(world.mesh(tile).with_suffix(""))
+    elif asked.verb == "parent":
+        if asked.name not in world.tiles:
+            raise WorldFault(f"the world has no tile {asked.name}")
+        made = make_parent(asked.program, world, world.tiles[asked.name], asked.faces)
+        print(f"{asked.name}: {made.faces} faces, error {made.error}")
+    else:
+        done = check_world(asked.program, world, asked.jobs)
+        for one in done:
+            print(f"{one.name}: {one.counts}, border sides {len(one.sides)}")
+        print(f"{len(done)} streams: each valid, each border fixed, each seam equal")
+
+
+def main() -> int:
+    try:
+        call(arguments())
+    except WorldFault as fault:
+        say(str(fault))
+        return 1
+    except OSError as fault:
+        say(f"{fault.filename or 'a file'}: {fault.strerror}")
+        return 1
+    return 0
+
+
+if __name__ == "__main__":
+    sys.exit(main())

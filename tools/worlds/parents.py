@@ -1,0 +1,109 @@
+"""Makes a parent: one coarse mesh of its children's fronts, for views from far away.
+
+Each child is shown as coarse as one tolerance allows, so that all of them together have at most so
+many faces; the fronts are put together, with one vertex a place. The border of what comes out is
+that of the children, so a parent that keeps it meets every tile beside it.
+"""
+import json
+from pathlib import Path
+from typing import List, NamedTuple, Set, Tuple
+
+from .form import Corners, Place, Tile, World, WorldFault
+from .fronts import frame_of, needed, places_in_world, splits
+from .making import write_mesh
+from .mending import Mended, mended
+from .streams import Stream, closed, errors_of, face_count, read_stream
+
+
+class Child(NamedTuple):
+    tile: Tile
+    stream: Stream
+    errors: List[int]
+
+    def front(self, tolerance: int) -> Set[int]:
+        """The records of all nodes with a greater error, and what they need."""
+        records = enumerate(self.stream.records)
+        wanted = {k for k, record in records if self.errors[record.node] > tolerance}
+        return closed(self.stream, wanted)
+
+
+class Made(NamedTuple):
+    """What was made of a parent. No vertex of the input is farther than `error` units from the
+    vertex that stands for it."""
+
+    vertices: int
+    faces: int
+    error: int
+
+
+def read_child(world: World, name: str) -> Child:
+    tile = world.tiles[name]
+    stream = read_stream(needed(world.stream(tile)))
+    return Child(tile, stream, errors_of(stream))
+
+
+def faces_at(children: List[Child], tolerance: int) -> int:
+    return sum(face_count(child.stream, child.front(tolerance)) for child in children)
+
+
+def least_tolerance(children: List[Child], most: int) -> int:
+    """A tolerance with at most so many faces, where one less has more; the greatest error where
+    kept borders leave more even then."""
+    low, high = -1, max((max(child.errors, default=0) for child in children), default=0)
+    while high - low > 1:
+        tolerance = (low + high) // 2
+        if faces_at(children, tolerance) <= most:
+            high = tolerance
+        else:
+            low = tolerance
+    return high
+
+
+def together(parts: List[Tuple[List[Place], List[Corners]]]) -> Mended:
+    """Meshes in places of the world as one."""
+    places: List[Place] = []
+    faces: List[Corners] = []
+    for own, corners in parts:
+        start = len(places)
+        places += own
+        faces += [(a + start, b + start, c + start) for a, b, c in corners]
+    return mended(places, faces)
+
+
+def told_path(world: World, tile: Tile) -> Path:
+    return world.path(tile, "json")
+
+
+def error_of(world: World, tile: Tile) -> int:
+    """How far a tile's full mesh may be from the input; 0 for one that was cut from it."""
+    if tile.level == 0:
+        return 0
+    try:
+        return int(json.loads(told_path(world, tile).read_text(encoding="ascii"))["error"])
+    except (OSError, ValueError, KeyError) as fault:
+        raise WorldFault(f"{told_path(world, tile)} isn't there: make the parent anew") from fault
+
+
+def _shown(
+    vdpm: Path, world: World, child: Child, tolerance: int
+) -> Tuple[List[Place], List[Corners]]:
+    """What a child shows at a tolerance, in places of the world."""
+    front = child.front(tolerance)
+    frame = frame_of(vdpm, world, child.tile, splits(front))
+    if len(frame.faces) != face_count(child.stream, front):
+        raise WorldFault(f"{child.tile.name}: a split of its front was refused: check the world")
+    return places_in_world(frame, child.tile.offset), frame.faces
+
+
+def make_parent(vdpm: Path, world: World, tile: Tile, most: int) -> Made:
+    """Writes the parent's OBJ file, and its counts and error beside it."""
+    if tile.level == 0:
+        raise WorldFault(f"{tile.name} was cut from the input and has no children")
+    children = [read_child(world, name) for name in tile.children]
+    tolerance = least_tolerance(children, most)
+    mesh = together([_shown(vdpm, world, child, tolerance) for child in children]).mesh
+    error = tolerance + max(error_of(world, child.tile) for child in children)
+    made = Made(len(mesh.places), len(mesh.faces), error)
+    write_mesh(world.mesh(tile), mesh, tile.offset)
+    told_path(world, tile).write_text(json.dumps(made._asdict()) + "\n", encoding="ascii")
+    return made
