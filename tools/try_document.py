@@ -17,9 +17,10 @@ from typing import List, Tuple
 
 TOP = Path(__file__).resolve().parent.parent
 MARGIN = "    "
-# What ./vdpm and ./prepare say of a program that isn't proved, beside what the program says.
-BUILDING = re.compile(r"(vdpm|prepare): (building( anew)? from|it is being built already)")
-NOTICE = re.compile(r"(vdpm|prepare): not proved on this machine yet, run-time checks are on; .*")
+# What the scripts of the programs say of one that isn't proved, beside what the program says.
+PROGRAM = "(vdpm|prepare|simplify)"
+BUILDING = re.compile(PROGRAM + ": (building( anew)? from|it is being built already)")
+NOTICE = re.compile(PROGRAM + ": not proved on this machine yet, run-time checks are on; .*")
 
 
 def commands(lines):
