@@ -24,5 +24,7 @@ draw examples/asteroid_glide.script glide --from 0 -10 3
 python3 tools/flight.py --at 0 0 0 --tolerance 16 --width 640 --height 480 \
     < examples/asteroid.eyes > "$work/flight.script"
 draw "$work/flight.script" flight --at 0 0 0 --height 480 --eyes "$work/flight.script"
-# These need a Chromium.
+python3 docs/pictures/split.py
+python3 docs/pictures/crates.py
+# This needs a Chromium.
 python3 docs/pictures/window.py "$vdpm"
