@@ -1,0 +1,4 @@
+pub mod Policies
+pub mod PolicyRuns
+pub mod Bounds
+pub mod Laws
