@@ -1,0 +1,7 @@
+use Rattle.std.proofs.Common.{◌∙◌, ap}
+use Rattle.pm_quadric.specs.Sums.{Sums}
+use Rattle.pm_quadric.proofs.QuadricLaws.{count_is}
+use Rattle.pm_fine.proofs.fine_quadric.FineQuadric.planes.Goals as goal
+
+pub returns-clause-lists : goal.returns-clause-lists
+returns-clause-lists c fs e = ap (λ (s : Sums). s.count) c.self.view_is ∙ count_is c.args.self.now fs e

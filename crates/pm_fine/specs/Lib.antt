@@ -1,0 +1,5 @@
+pub mod Rounded
+pub mod Normals
+pub mod FinePlanes
+pub mod FineSums
+pub mod FinePlaces

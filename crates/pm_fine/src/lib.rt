@@ -1,0 +1,20 @@
+//! Planes whose normals have a chosen length, their exact quadrics, and the place of a pair by them, all in whole numbers.
+#![tactic(auto)]
+
+mod area;
+mod border;
+mod fine_quadric;
+mod limits;
+mod normal;
+mod place;
+mod plane;
+mod rounding;
+mod terms;
+
+pub use area::area_normal;
+pub use border::border_normal;
+pub use fine_quadric::{FineQuadric, MOST_FINE_PLANES};
+pub use limits::fine_values_fit;
+pub use normal::FineNormal;
+pub use place::least_place;
+pub use plane::FinePlane;
