@@ -16,6 +16,7 @@ written in base64:
 """
 import base64
 import json
+import re
 import time
 import zlib
 from pathlib import Path
@@ -26,7 +27,7 @@ from frames import Frame, read_frames
 from .bundle import bundled
 from .hierarchy import Colour, mean_colours, nodes_of
 from .model import SECONDS_BETWEEN_NEWS, Model, tell
-from .program import reply_lines
+from .program import ProgramEnded, reply_lines
 
 PAGE = Path(__file__).resolve().parent / "page"
 Point = Tuple[int, int, int, int]  # the node and its place
@@ -58,6 +59,35 @@ class Numbers:
 
     def put_signed(self, number: int) -> None:
         self.put(2 * number if number >= 0 else -2 * number - 1)
+
+
+class Played(NamedTuple):
+    """A script as it is played for a film, and for each of its lines the number of the line that it
+    came from, counted from 1."""
+
+    script: str
+    numbers: List[int]
+
+
+def with_frames(script: str) -> Played:
+    """A script that asks for a whole frame where the other asks for a change. `d` marks the front
+    too, as `k` does."""
+    lines, numbers = [], []
+    for number, line in enumerate(script.splitlines(keepends=True), 1):
+        for played in ("w\n", "k\n") if line.rstrip("\n") == "d" else (line,):
+            lines.append(played)
+            numbers.append(number)
+    return Played("".join(lines), numbers)
+
+
+def told_of(fault: ProgramEnded, numbers: List[int]) -> ProgramEnded:
+    """The same, with the line of the script that was given."""
+
+    def given(found: "re.Match[str]") -> str:
+        number = int(found[1])
+        return f"line {numbers[number - 1] if number <= len(numbers) else number}"
+
+    return ProgramEnded(re.sub(r"\bline (\d+)", given, fault.reason), fault.cure)
 
 
 def asked_views(script: str) -> Iterator[str]:
@@ -167,13 +197,17 @@ def packed(model: Model, reel: Reel) -> bytes:
 
 def played(path: Path, model: Model, script: str, budget: int) -> Reel:
     """The frames of a script, told from time to time while they are made."""
-    reel = Reel()
+    reel, asked = Reel(), with_frames(script)
+    replies = reply_lines(path, model.stream, asked.script.encode("ascii"), budget, "live")
     told = time.monotonic()
-    for shot in shots(script, reply_lines(path, model.stream, script.encode("ascii"), budget)):
-        reel.add(shot)
-        if time.monotonic() - told > SECONDS_BETWEEN_NEWS:
-            told = time.monotonic()
-            tell(f"{len(reel.views)} frames so far")
+    try:
+        for shot in shots(asked.script, replies):
+            reel.add(shot)
+            if time.monotonic() - told > SECONDS_BETWEEN_NEWS:
+                told = time.monotonic()
+                tell(f"{len(reel.views)} frames so far")
+    except ProgramEnded as fault:
+        raise told_of(fault, asked.numbers) from fault
     return reel
 
 
@@ -182,10 +216,10 @@ def film_page(path: Path, model: Model, flight: bytes, budget: int) -> str:
     try:
         script = flight.decode("ascii")
     except UnicodeDecodeError:
-        raise BadFlight("it isn't a script of `vdpm view`") from None
+        raise BadFlight("it isn't a script of `vdpm live` or `vdpm view`") from None
     reel = played(path, model, script, budget)
     if not reel.views:
-        raise BadFlight("no line of it asks for a frame, as `w` does")
+        raise BadFlight("no line of it asks for a frame, as `w` and `d` do")
     page = (PAGE / "film.html").read_text(encoding="utf-8")
     parts = {
         "/*STYLE*/": (PAGE / "style.css").read_text(encoding="utf-8"),

@@ -1,8 +1,13 @@
-"""The child `vdpm view BUDGET` over pipes: scripts go in, the texts of replies come out.
+"""The child `vdpm live BUDGET` over pipes: scripts go in, the texts of replies come out.
 
 The program reads the stream, then does each script line as soon as its LF has come, and writes one
 reply for it. So whoever writes some lines knows how many replies come, and where the last one ends.
+
+A reply to `d` tells what changed since the marked front. Who follows it has to have the mesh of
+that front and no other, so each marking has a number, which no other one of any program has, and
+an answer tells which front was marked before it and which is now.
 """
+import itertools
 import os
 import re
 import subprocess
@@ -30,12 +35,18 @@ LINES_AT_ONCE = 64
 _COUNT = r"(?:0|[1-9][0-9]{0,12})"
 _SIGNED = rf"(?:{_COUNT}|-[1-9][0-9]{{0,12}})"
 _PLANES = rf"(?:(?: {_SIGNED}){{4}}){{0,6}}"
-# The lines that a page may send: those that look and change nothing else (docs/FORMATS.md). The
-# program judges the
-# numbers themselves; a wrong one ends it with fault 30, and the page says so.
+# The lines that a page may send: those that look, and those that tell or set how one looks
+# (docs/FORMATS.md). The program judges the numbers themselves; a wrong one ends it with fault 30,
+# and the page says so.
 _LINE = re.compile(
-    rf"v(?: {_SIGNED}){{5}}{_PLANES}|vs(?: {_SIGNED}){{6}}{_PLANES}|p(?: {_SIGNED}){{6}}|[wm]"
+    rf"vd?(?: {_SIGNED}){{5}}{_PLANES}|vd?s(?: {_SIGNED}){{6}}{_PLANES}|p(?: {_SIGNED}){{6}}"
+    rf"|b {_COUNT}|[wmdkl]"
 )
+# Lines of which `vdpm view` knows nothing, by how they begin.
+LIVE_WORDS = frozenset(("d", "l", "b", "vd", "vds"))
+_MARKING = ("d", "k")  # lines after which the front is marked
+_GOING_ON = ("d", "w")  # lines whose reply goes on to a line `end`
+_marks = itertools.count(1)
 
 
 class ProgramEnded(Exception):
@@ -56,7 +67,14 @@ class Answer(NamedTuple):
 
     text: bytes
     first: float  # until the first reply began: of a view mostly its moves
-    rest: float  # until all was read: mostly the text of a frame
+    rest: float  # until all was read: mostly the text of a frame or of what changed
+    before: int = 0  # the marked front when the script came
+    after: int = 0  # the marked front now
+
+
+def is_live(script: str) -> bool:
+    """Whether a script has lines that `vdpm live` alone knows."""
+    return any(line.split(" ", 1)[0] in LIVE_WORDS for line in script.splitlines())
 
 
 def script_lines(text: str) -> List[str]:
@@ -88,10 +106,12 @@ def end_of(said: str, status: int, heading: str) -> ProgramEnded:
     return ProgramEnded(f"the program ended with status {status} and said nothing")
 
 
-def replies_to(path: Path, stream: bytes, script: bytes, budget: int = ALL_MOVES) -> bytes:
+def replies_to(
+    path: Path, stream: bytes, script: bytes, budget: int = ALL_MOVES, command: str = "view"
+) -> bytes:
     """All replies to a whole script, by a program of its own."""
     try:
-        words = [str(path), "view", str(budget)]
+        words = [str(path), command, str(budget)]
         done = subprocess.run(words, input=stream + script, capture_output=True, check=False)
     except OSError as fault:
         raise ProgramEnded(f"{path} can't be started: {fault.strerror}") from fault
@@ -100,9 +120,11 @@ def replies_to(path: Path, stream: bytes, script: bytes, budget: int = ALL_MOVES
     return done.stdout
 
 
-def reply_lines(path: Path, stream: bytes, script: bytes, budget: int) -> Iterator[str]:
+def reply_lines(
+    path: Path, stream: bytes, script: bytes, budget: int, command: str
+) -> Iterator[str]:
     """The same, line by line as they come, however many there are."""
-    words = [str(path), "view", str(budget)]
+    words = [str(path), command, str(budget)]
     with tempfile.TemporaryFile() as said:
         try:
             child = subprocess.Popen(words, stdin=PIPE, stdout=PIPE, stderr=said)
@@ -132,10 +154,10 @@ def feed(end: IO[bytes], text: bytes) -> None:
 
 class _Awaited:
     """Finds the ends of replies in bytes that come piece by piece. Each reply is a line, but for a
-    frame, which goes on to its line `end`."""
+    frame and a change, which go on to their line `end`."""
 
     def __init__(self, lines: Sequence[str]) -> None:
-        self.marks = [b"\nend\n" if line == "w" else b"\n" for line in lines]
+        self.marks = [b"\nend\n" if line in _GOING_ON else b"\n" for line in lines]
         self.done = 0
         self.searched = 0
 
@@ -153,7 +175,7 @@ class _Awaited:
 
 
 class Program:
-    """One running `vdpm view`. Its calls may come from several threads; they are done one by
+    """One running `vdpm live`. Its calls may come from several threads; they are done one by
     one."""
 
     def __init__(self, path: Path, stream: bytes, budget: int) -> None:
@@ -162,7 +184,7 @@ class Program:
         self._said: IO[bytes] = tempfile.TemporaryFile()
         try:
             self._child = subprocess.Popen(
-                [str(path), "view", str(budget)],
+                [str(path), "live", str(budget)],
                 stdin=PIPE, stdout=PIPE, stderr=self._said, bufsize=0,
             )
         except OSError as fault:
@@ -172,6 +194,7 @@ class Program:
         self._in, self._out = self._child.stdin.fileno(), self._child.stdout.fileno()
         _widen(self._in)
         _widen(self._out)
+        self._mark = next(_marks)
         begun = time.perf_counter()
         try:
             # The stream has no reply of its own: that to `m` shows that it was taken.
@@ -208,8 +231,12 @@ class Program:
             if not got:
                 first = time.perf_counter()
             got += piece
-        end = time.perf_counter()
-        return Answer(bytes(got), 1000 * (first - begun), 1000 * (end - first))
+        end, before = time.perf_counter(), self._mark
+        if any(line in _MARKING for line in lines):
+            self._mark = next(_marks)
+        return Answer(
+            bytes(got), 1000 * (first - begun), 1000 * (end - first), before, self._mark
+        )
 
     def _ended(self) -> ProgramEnded:
         status = self._child.wait()

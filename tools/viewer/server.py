@@ -5,9 +5,9 @@ foreign name that leads here gets an answer; so is a path that doesn't begin wit
 only the printed address tells. A script or a start has to come from the page itself, which its
 Origin shows. No file is read from disk but those listed here.
 
-Scripts come by a WebSocket, a message each. The replies go back as bytes, after two numbers of 32
-bits that tell the program's time, since the page reads them several times faster than Python could;
-what went wrong goes back as a text.
+Scripts come by a WebSocket, a message each. The replies go back as bytes, since the page reads them
+several times faster than Python could, after four numbers of 32 bits: the program's two times, and
+which front was marked before the script and which is now. What went wrong goes back as a text.
 """
 import hmac
 import json
@@ -25,9 +25,9 @@ PAGE = Path(__file__).resolve().parent / "page"
 _KINDS = {".html": "text/html", ".css": "text/css", ".js": "text/javascript"}
 FILES = (
     "index.html", "style.css", "camera.js", "connection.js", "controls.js", "faults.js",
-    "frames.js", "hierarchy.js", "keeping.js", "layout.js", "main.js", "matrices.js", "obj.js",
-    "panel.js", "picking.js", "renderer.js", "replies.js", "scene.js", "shaders.js", "views.js",
-    "work.js", "worker.js",
+    "follower.js", "hierarchy.js", "keeping.js", "layout.js", "main.js", "matrices.js", "mesh.js",
+    "normals.js", "obj.js", "panel.js", "picking.js", "renderer.js", "replies.js", "scene.js",
+    "session.js", "shaders.js", "slots.js", "textures.js", "views.js", "work.js", "worker.js",
 )
 Content = Tuple[str, Callable[[], bytes]]  # its kind, and what gives it
 LONGEST_BODY = 1 << 10
@@ -78,7 +78,7 @@ class Page(BaseHTTPRequestHandler):
     protocol_version = "HTTP/1.1"
     server_version, sys_version = "viewer", ""
     disable_nagle_algorithm = True
-    wbufsize = 1 << 16
+    wbufsize = 0  # what a page that was left doesn't take is dropped, and not tried again
 
     def do_GET(self) -> None:
         path = self._path()
@@ -154,7 +154,6 @@ class Page(BaseHTTPRequestHandler):
         self.close_connection = True
         line = WebSocket(self.rfile, self.wfile)
         try:
-            self.wfile.flush()
             script = line.receive()
             while script is not None:
                 self._answer(line, script)
@@ -170,7 +169,8 @@ class Page(BaseHTTPRequestHandler):
         except ProgramEnded as fault:
             line.send_text(json.dumps({"reason": fault.reason, "cure": fault.cure}))
         else:
-            line.send_bytes(struct.pack("<2f", answer.first, answer.rest), answer.text)
+            times, marks = (answer.first, answer.rest), (answer.before, answer.after)
+            line.send_bytes(struct.pack("<2f2I", *times, *marks), answer.text)
 
     def _body(self) -> Optional[str]:
         """The body; None where it was refused."""
@@ -211,7 +211,6 @@ class Page(BaseHTTPRequestHandler):
         try:
             self.end_headers()
             self.wfile.write(body)
-            self.wfile.flush()
         except ConnectionError:  # the page was left, and nobody waits for this
             self.close_connection = True
 

@@ -15,6 +15,7 @@ class Showing:
         self._lock = threading.Lock()
         self._program: Optional[Program] = Program(path, model.stream, budget)
         self._flight = bytearray()
+        self._started_with = budget
         self._input: Optional[bytes] = None
 
     def about(self) -> Dict[str, object]:
@@ -25,6 +26,7 @@ class Showing:
             "name": model.name,
             "counts": model.counts,
             "budget": self.budget,
+            "startedWith": self._started_with,
             "proved": model.proved,
             "prepared": model.prepared,
             "scale": scale,
@@ -40,14 +42,19 @@ class Showing:
 
     def ask(self, script: str) -> Answer:
         """The replies to a script, which is then a part of the flight."""
-        answer = self.program().ask(script)
         with self._lock:
+            if self._program is None:
+                raise ProgramEnded("the program isn't running")
+            answer = self._program.ask(script)
             self._flight += script.encode("ascii")
+            for line in script.splitlines():
+                if line.startswith("b "):
+                    self.budget = int(line[2:])
         return answer
 
     def flight(self) -> bytes:
-        """All lines since the program was started: played with the same budget, `vdpm view` replies
-        the same."""
+        """All lines since the program was started: played with the budget that it was started with,
+        `vdpm live` replies the same; and so does `vdpm view` where it knows all the lines."""
         with self._lock:
             return bytes(self._flight)
 
@@ -67,7 +74,7 @@ class Showing:
                 self._program.close()
                 self._program = None
             self._program = Program(self.path, self.model.stream, budget)
-            self.budget = budget
+            self.budget = self._started_with = budget
             self._flight = bytearray()
 
     def close(self) -> None:

@@ -26,7 +26,8 @@ def head_of(kind: int, size: int) -> bytes:
 
 
 class WebSocket:
-    """An open line. Where the other end doesn't keep to the rules, it counts as closed."""
+    """An open line. Where the other end doesn't keep to the rules, it counts as closed. The writer
+    has to keep nothing back, so that nothing is left to be written once the line has failed."""
 
     def __init__(self, reader: BinaryIO, writer: BinaryIO) -> None:
         self._reader, self._writer = reader, writer
@@ -64,11 +65,10 @@ class WebSocket:
     def send_text(self, text: str) -> None:
         self._send(_TEXT, text.encode())
 
-    def send_bytes(self, *parts: bytes) -> None:
-        self._send(_BYTES, *parts)
+    def send_bytes(self, head: bytes, text: bytes) -> None:
+        """Sends two parts as one message; the second may be long, and isn't copied."""
+        self._writer.write(head_of(_BYTES, len(head) + len(text)) + head)
+        self._writer.write(text)
 
-    def _send(self, kind: int, *parts: bytes) -> None:
-        self._writer.write(head_of(kind, sum(map(len, parts))))
-        for part in parts:
-            self._writer.write(part)
-        self._writer.flush()
+    def _send(self, kind: int, text: bytes) -> None:
+        self._writer.write(head_of(kind, len(text)) + text)

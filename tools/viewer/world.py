@@ -18,8 +18,9 @@ from .server import Page as ServedPage
 
 WORLD_PAGE = Path(__file__).resolve().parent / "world_page"
 OWN_FILES = ("tiles.js", "tiling.js", "world.html", "world.js", "world_worker.js")
-# Measured: an open stream of 199,712 faces takes 57 MB, and one of 980,000 takes 272.
-MEMORY_A_FACE = 290
+# Measured: an open stream of 199,712 faces takes 57 MB of `vdpm view`, and one of 980,000 takes 272.
+# `vdpm live` has a number of 8 bytes more for each node, and there are as many nodes as faces.
+MEMORY_A_FACE = 300
 _HEAD = "tile "
 
 

@@ -78,13 +78,14 @@ function planes({ right, up, back }, eye, { focal, width, height }, margin) {
   }));
 }
 
-// The view of a picture. Focal length and tolerances are told in parts of a pixel, since a view
-// depends on their ratios alone.
-export function viewLine(camera, picture, tolerance, outline = tolerance, margin = 1) {
+// The view of a picture, `judged` by "distance" or by "deviation". Focal length and tolerances are
+// told in parts of a pixel, since a view depends on their ratios alone.
+export function viewLine(camera, picture, { tolerance, outline = tolerance, judged, margin = 1 }) {
   const eye = within(whole(camera.eye()));
   const parts = Math.min(FINEST, Math.floor(LARGEST_PIXELS / Math.max(picture.focal, tolerance)));
   const pixels = [picture.focal, tolerance, outline].map((n) => Math.round(n * parts));
-  const [word, count] = outline < tolerance ? ["vs", 3] : ["v", 2];
+  const [outlined, count] = outline < tolerance ? ["s", 3] : ["", 2];
+  const word = `v${judged === "deviation" ? "d" : ""}${outlined}`;
   const sides = planes(camera.axes(), eye, picture, margin);
   return [word, ...eye, ...pixels.slice(0, count), ...sides].join(" ");
 }

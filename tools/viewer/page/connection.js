@@ -1,5 +1,7 @@
 // The line to the server: what comes answers what was sent, in order.
 
+const HEAD = 16; // bytes before the replies: two times, and two numbers of marked fronts
+
 export const GONE = "The server doesn't answer any more, so ./viewer has ended. "
   + "Start it again, and open the address that it prints.";
 
@@ -29,7 +31,8 @@ export class Connection {
     for (const { reject } of this.waiting.splice(0)) reject(new Fault(GONE));
   }
 
-  // The bytes of the answer, and the milliseconds that it took.
+  // The bytes of the replies, the milliseconds of each part of the way, and the numbers of the
+  // fronts that were marked before the script and after it.
   ask(script) {
     return new Promise((resolve, reject) => {
       if (this.socket.readyState !== WebSocket.OPEN) throw new Fault(GONE);
@@ -48,7 +51,9 @@ export class Connection {
       const { reason, cure } = JSON.parse(data);
       reject(new Fault(reason, cure));
     } else {
-      resolve({ data, milliseconds });
+      const [view, text] = new Float32Array(data, 0, 2), [before, after] = new Uint32Array(data, 8, 2);
+      const times = { view, text, transfer: milliseconds - view - text };
+      resolve({ data: new Uint8Array(data, HEAD), times, before, after });
     }
   }
 }

@@ -10,7 +10,7 @@ const FLAT = 0.01;   // how little of an axis points up where it counts as level
 // length for a picture of height 1.
 export function lookOf(line, middle) {
   const [word, ...numbers] = line.split(" "), values = numbers.map(Number);
-  const eye = values.slice(0, 3), planes = values.slice(word === "vs" ? 6 : 5);
+  const eye = values.slice(0, 3), planes = values.slice(word.endsWith("s") ? 6 : 5);
   const [left, right, lower, upper] = [0, 4, 8, 12].map((at) => planes.slice(at, at + 3));
   if (planes.length >= 16) {
     const forward = unit(plus(left, 1, right)), across = unit(plus(left, -1, right));

@@ -14,10 +14,17 @@ function download(name, blob) {
 
 const textFile = (text) => new Blob([text], { type: "text/plain" });
 
-// All lines since the program was started. `ending` tells the budget that they have to be played
-// with where it isn't all moves.
-export async function saveFlight(ending) {
-  download(`flight${ending}.script`, textFile(await (await fetched("flight")).text()));
+// Lines that `vdpm live` plays and `vdpm view` doesn't.
+const LIVE = /^(?:d|l|b \d+|vds? .*)$/m;
+
+// All lines since the program was started. The file's name tells which command plays them, and with
+// which budget where it isn't all moves; both come back.
+export async function saveFlight(budget, allMoves) {
+  const text = await (await fetched("flight")).text();
+  const command = LIVE.test(text) ? "live" : "view";
+  const ending = budget === allMoves ? "" : `-budget-${budget}`;
+  download(`flight-${command}${ending}.script`, textFile(text));
+  return `vdpm ${command} ${budget}`;
 }
 
 export function savePicture(canvas) {

@@ -9,6 +9,7 @@ import * as panel from "./panel.js";
 import { met, sentence } from "./picking.js";
 import { NO_FACE, watchTheme } from "./renderer.js";
 import { Scene } from "./scene.js";
+import { Session } from "./session.js";
 import { Views } from "./views.js";
 import { Work } from "./work.js";
 
@@ -33,23 +34,25 @@ class Viewer {
     this.dirty = true;           // whether what is drawn isn't what is known
     this.wakes = false;          // whether a picture is going to be made
     this.glidesUntil = 0;
-    this.ended = false;
-    this.starting = false;
     this.budgetAt = null;        // when a budget that was changed is taken
+    this.fronts = 0;             // how many were shown
     this.inputState = "unasked";
     this.shown = null;           // the counts and times of the front
     this.times = { put: 0, draw: 0, said: 0, draws: [], fronts: [] };
     this.log = [];               // all times, where they are measured
     this.work = new Work("worker.js");
-    const heard = { framed: (answer) => this.framed(answer), failed: (fault) => this.fail(fault) };
-    this.views = new Views(this.work, ahead, heard);
+    const failed = (fault) => this.fail(fault);
+    this.views = new Views(this.work, ahead, { framed: (answer) => this.framed(answer), failed });
+    this.session = new Session(this.work, { told: (level) => this.sayLevel(level), failed });
   }
 
   async open() {
     try {
       const pageOrigin = performance.timeOrigin;
       const { about, hierarchy } = await this.work.ask({ task: "open", pageOrigin });
-      Object.assign(this, { about, hierarchy, budget: about.budget });
+      const { budget, startedWith } = about;
+      Object.assign(this, { about, hierarchy });
+      Object.assign(this.session, { budget, startedWith });
     } catch (fault) {
       this.fail(fault);
       return;
@@ -132,19 +135,18 @@ class Viewer {
       this.camera.turn((passed / 1000) * CIRCLE, 0);
       this.moved();
     }
-    if (!this.ended && !this.starting) this.goOn(now);
+    if (this.session.isRunning) this.goOn(now);
+    if (this.isDone) this.session.askLevel(this.fronts);
     if (this.dirty || now < this.glidesUntil) this.draw(now);
     if (now - this.times.said > SAY_AGAIN && this.shown !== null) this.say(now);
     // Counters go on for a second, until all that they count is past.
-    if ((!this.ended && !this.isSettled) || this.times.draws.length > 0) this.wake();
+    if ((!this.session.ended && !this.isSettled) || this.times.draws.length > 0) this.wake();
   }
 
-  // Asks for a view, or takes a new budget as soon as no view is on its way.
   goOn(now) {
     const { camera, picture } = this.frozen ?? this.seen();
-    const isNew = this.budgetAt !== null && now > this.budgetAt;
-    if (!isNew) this.views.ask(camera, picture, this.set, now);
-    else if (this.views.isIdle) this.restart();
+    if (this.budgetAt !== null && now > this.budgetAt) this.takeBudget();
+    this.views.ask(camera, picture, this.set, now);
   }
 
   draw(now) {
@@ -189,38 +191,43 @@ class Viewer {
     panel.sayHalves(set.beside, this.inputState);
   }
 
-  // Whether all is shown as it is asked for, so that nothing changes until a hand moves.
-  get isSettled() {
+  // Whether the front is the one that is asked for, so that it stays until a hand moves.
+  get isDone() {
     const now = performance.now(), { views } = this;
-    if (this.shown === null || this.dirty || now < this.glidesUntil) return false;
-    if (this.starting || this.budgetAt !== null || this.set.round) return false;
-    if (!views.isIdle || views.left > 0) return false;
+    if (this.shown === null || !this.session.isRunning || this.budgetAt !== null) return false;
+    if (this.set.round || !views.isIdle || views.goesOn) return false;
     const { camera, picture } = this.frozen ?? this.seen();
     return views.isAtRest(now) && views.asked === views.line(camera, picture, this.set, now);
   }
 
+  // Whether all that is asked for is shown and told.
+  get isSettled() {
+    const { session: { knownOf, budget }, fronts, set } = this;
+    if (!this.isDone || this.dirty || performance.now() < this.glidesUntil) return false;
+    return knownOf === fronts && budget === set.budget;
+  }
+
   // --- what comes from the program
 
-  framed({ frame, times, moves }) {
+  framed({ patch, times, moves }) {
     const begun = performance.now();
-    this.scene.renderer.show("front", frame);
+    this.fronts++;
+    this.scene.renderer.change("front", patch);
     if (measures) this.scene.renderer.finish();
     this.times.put = performance.now() - begun;
-    const { nodeCount, faceCount, changes, arrays } = frame;
-    const comes = arrays.starts && changes.nodesCome > 0;
-    if (comes) this.glidesUntil = begun + 1000 * GLIDE + GLIDES_ON;
+    const { nodeCount, faceCount, changes } = patch;
+    if (this.set.glide && changes.nodesCome > 0) this.glidesUntil = begun + 1000 * GLIDE + GLIDES_ON;
     this.change({ shown: { nodeCount, faceCount, changes, moves, times } });
     this.times.fronts.push(begun);
     if (measures) this.log.push({ put: this.times.put, ...this.shown });
-    this.work.giveBack(arrays);
   }
 
   async showInput() {
     if (this.inputState !== "unasked") return;
     this.inputState = "asked";
     try {
-      const { frame } = await this.work.ask({ task: "input" });
-      this.scene.renderer.show("input", frame);
+      const { patch } = await this.work.ask({ task: "input" });
+      this.scene.renderer.change("input", patch);
       this.change({ inputState: "shown" });
     } catch (fault) {
       this.inputState = "unasked";
@@ -228,31 +235,35 @@ class Viewer {
     }
   }
 
+  sayLevel(level) {
+    panel.sayLevel(level, this.about, this.hierarchy);
+    this.wake();
+  }
+
   fail({ reason, cure }) {
-    this.ended = true;
+    this.session.ended = true;
     const isLost = reason === GONE || this.about === undefined;
     const again = () => (isLost ? location.reload() : this.restart());
     showFault({ title: "The view has ended", reason, cure, again });
   }
 
-  // The program's budget is a word of its command line, so another one starts it anew, at the base
-  // mesh.
+  // Another budget is a line of the script, and the front is kept.
+  async takeBudget() {
+    this.budgetAt = null;
+    await this.session.takeBudget(this.set.budget);
+    this.views.tryAgain();
+    this.wake();
+  }
+
   async restart() {
-    Object.assign(this, { budgetAt: null, starting: true });
-    const { budget } = this.set;
-    try {
-      const answer = await fetch("start", { method: "POST", body: String(budget) });
-      if (!answer.ok) throw new Error(await answer.text());
-      this.views.forget();
-      Object.assign(this, { ended: false, budget });
-    } catch (fault) {
-      this.fail({ reason: fault instanceof TypeError ? GONE : fault.message, cure: "" });
-    }
-    this.change({ starting: false });
+    this.budgetAt = null;
+    await this.session.start(this.set.budget);
+    this.views.forget();
+    this.change({});
   }
 
   async pick(clientX, clientY) {
-    if (this.ended || this.starting) return;
+    if (!this.session.isRunning) return;
     const { width, height, focal } = this.picture();
     const x = ((clientX * devicePixelRatio) % width) - width / 2;
     const y = height / 2 - clientY * devicePixelRatio;
@@ -265,9 +276,9 @@ class Viewer {
     this.change({});
   }
 
-  saveFlight() {
-    saveFlight(this.budget === panel.ALL_MOVES ? "" : `-budget-${this.budget}`);
-    panel.tell(`The script that vdpm view ${this.budget} plays`);
+  async saveFlight() {
+    const command = await saveFlight(this.session.startedWith, panel.ALL_MOVES);
+    panel.tell(`The script that ${command} plays`);
   }
 
   savePicture() {

@@ -9,6 +9,7 @@ export const ALL_MOVES = 4294967295;
 
 // A budget of the command line, which the slider may be unable to show; null once it was moved.
 const told = { budget: null };
+const chosen = (name) => document.querySelector(`input[name=${name}]:checked`).value;
 const budgetOf = (slider) => (slider.value === slider.max ? ALL_MOVES : 2 ** slider.value);
 
 // What the settings say now. Tolerances go in steps of a quarter of a doubling.
@@ -19,15 +20,25 @@ export function settings() {
     tolerance,
     outline: tolerance / 2 ** (part("outline").valueAsNumber / 2),
     draft: 2 ** (part("draft").valueAsNumber / 4),
+    judged: chosen("judged"),
     budget: told.budget ?? budgetOf(part("budget")),
-    colour: document.querySelector("input[name=colour]:checked").value,
+    colour: chosen("colour"),
     upright: isOn("upright") ? "y" : "z",
     smooth: isOn("smooth"), edges: isOn("edges"), glide: isOn("glide"), freeze: isOn("freeze"),
     round: isOn("round"), beside: isOn("beside"),
   };
 }
 
+// What a tolerance is a tolerance of.
+const JUDGED_SAID = {
+  deviation: "How far what is shown may look from the planes of the input's faces: flat ground "
+    + "stays coarse.",
+  distance: "How far each vertex of the input may look from the node that stands for it, on flat "
+    + "ground too.",
+};
+
 export function saySettings(now) {
+  part("judged-said").textContent = JUDGED_SAID[now.judged];
   part("tolerance-said").textContent = pixels(now.tolerance);
   part("outline-said").textContent = now.outline < now.tolerance ? pixels(now.outline) : "the same";
   part("draft-said").textContent = now.draft > 1 ? pixels(now.tolerance * now.draft) : "the same";
@@ -64,12 +75,15 @@ export function watchButtons(acts) {
 }
 
 const press = (name) => () => part(name).click();
-const choose = (colour) => () => document.querySelector(`input[value=${colour}]`).click();
+const choose = (value) => () => document.querySelector(`input[value=${value}]`).click();
+const other = (name) => () => {
+  document.querySelector(`input[name=${name}]:not(:checked)`).click();
+};
 
 // The keys of switches and colours.
 export const KEYS = {
   f: press("freeze"), e: press("edges"), s: press("smooth"), g: press("glide"), o: press("round"),
-  b: press("beside"), y: press("upright"),
+  b: press("beside"), y: press("upright"), d: other("judged"),
   1: choose("stone"), 2: choose("depth"), 3: choose("own"), 4: choose("wire"),
 };
 
@@ -87,9 +101,9 @@ export function sayCounters({ shown, all, left, put, draw, pictures, fronts, mar
     ["moves", left > 0 ? `${counted(moves)}, ${counted(left)} left` : counted(moves)],
     ["nodes that changed", `+${counted(nodesCome)}  −${counted(nodesGone)}`],
     ["faces that changed", `+${counted(facesCome)}  −${counted(facesGone)}`],
-    ["view, frame", `${milliseconds(times.view)}, ${milliseconds(times.frameText)} ms`],
+    ["view, change", `${milliseconds(times.view)}, ${milliseconds(times.text)} ms`],
     ["transfer", `${milliseconds(times.transfer)} ms, ${kilobytes(times.bytes)}`],
-    ["read, arrays", `${milliseconds(times.read)}, ${milliseconds(times.arrays)} ms`],
+    ["read, taken", `${milliseconds(times.read)}, ${milliseconds(times.take)} ms`],
     ["put, draw", `${milliseconds(put)}, ${milliseconds(draw)} ms`],
     ["frames a second", pictures > 2 ? `${pictures}, ${fronts} fronts` : "at rest"],
   ];
@@ -98,10 +112,22 @@ export function sayCounters({ shown, all, left, put, draw, pictures, fronts, mar
   said = now;
   part("faces-said").textContent = counted(shown.faceCount);
   part("all-said").textContent = `of ${counted(all)} faces`;
-  const row = (cells) => made("tr", cells.map((cell) => made("td", [cell])));
-  part("rows").replaceChildren(...rows.map(row));
+  part("rows").replaceChildren(...rows.map(rowOf));
   part("mark").textContent = mark;
   part("mark").hidden = mark === "";
+}
+
+// What the program tells of the front, in lengths of the file that was built from.
+export function sayLevel([nodes, faces, split, error, deviation], { scale }, { digits }) {
+  const length = (units) => Number((scale ? scale.unit * units : units / 10 ** digits).toPrecision(4));
+  const rows = [
+    ["nodes", counted(nodes)],
+    ["faces", counted(faces)],
+    ["records split", counted(split)],
+    ["greatest error", `${length(error)}`],
+    ["greatest deviation", `${length(deviation)}`],
+  ];
+  part("level").replaceChildren(...rows.map(rowOf));
 }
 
 function made(kind, inside) {
@@ -109,6 +135,8 @@ function made(kind, inside) {
   element.append(...inside);
   return element;
 }
+
+const rowOf = (cells) => made("tr", cells.map((cell) => made("td", [cell])));
 
 // The captions of the two halves, where there are two.
 const INPUT_SAID = { unasked: "", asked: "the input is on its way", shown: "the input" };

@@ -6,7 +6,7 @@ import { plus } from "./matrices.js";
 // stream; null where it meets nothing. Places of the picture count from its middle, upwards.
 export async function met(work, camera, focal, x, y) {
   const { from, way, line } = rayThrough(camera, focal, x, y);
-  const { replies } = await work.ask({ task: "ask", script: `${line}\n`, glides: false });
+  const { replies } = await work.ask({ task: "ask", script: `${line}\n` });
   const [word, face, s, q, input] = replies[0];
   if (word !== "hit") return null;
   return { face: Number(face), input, place: plus(from, Number(s) / Number(q), way) };

@@ -1,6 +1,6 @@
 // Unpacks the frames of a film (tools/viewer/film.py has the form), and has one of them at a time.
-import { putNormals } from "./frames.js";
 import { WIDTH, rows } from "./layout.js";
+import { putNormals } from "./normals.js";
 
 class Numbers {
   constructor(bytes) {
@@ -104,8 +104,8 @@ export class Reel {
       corners[at++] = a; corners[at++] = b; corners[at++] = c; corners[at++] = face;
     }
     const { places, colours, pointCount: nodeCount } = this;
-    const sums = new Float32Array(4 * nodeCount), normals = textureOf(Int16Array, nodeCount);
-    putNormals({ places, nodeCount, corners, faceCount }, sums, normals);
+    const normals = textureOf(Int16Array, nodeCount);
+    putNormals({ places, nodeCount, corners, faceCount }, normals);
     const arrays = { places, corners, normals, ...(colours && { colours }) };
     return { nodeCount, faceCount, arrays };
   }

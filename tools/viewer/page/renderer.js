@@ -1,10 +1,11 @@
 // Draws the frames that the graphics processor has, from any camera, and the pyramid of a frozen
 // one.
-import { WIDTH, rows } from "./layout.js";
+import { rows } from "./layout.js";
 import { clipMatrix, plus, unit } from "./matrices.js";
 import {
   LINES_FRAGMENT, LINES_VERTEX, MESH_FRAGMENT, MESH_VERTEX, SKY_FRAGMENT, SKY_VERTEX,
 } from "./shaders.js";
+import { Texture } from "./textures.js";
 
 export class NoGraphics extends Error {}
 
@@ -48,10 +49,15 @@ export class Renderer {
     gl.vertexAttribPointer(0, 3, gl.FLOAT, false, 0, 0);
   }
 
-  // Takes a frame as frames.js makes it, under a name. The mesh's zero stands at `offset`.
-  show(name, frame, offset = [0, 0, 0]) {
+  // Takes a whole frame, with the arrays of its textures, under a name.
+  show(name, frame) { this.named(name).show(frame); }
+
+  // Takes what becomes another, as mesh.js tells it. The mesh's zero stands at `offset`.
+  change(name, patch, offset = [0, 0, 0]) { this.named(name).change(patch, offset); }
+
+  named(name) {
     if (!this.meshes.has(name)) this.meshes.set(name, new Mesh(this.gl));
-    this.meshes.get(name).show(frame, offset);
+    return this.meshes.get(name);
   }
 
   drop(name) {
@@ -153,19 +159,20 @@ export class Renderer {
   }
 }
 
-// The arrays of one frame as textures.
+// The places and faces of one mesh as textures.
 class Mesh {
   constructor(gl) {
     this.gl = gl;
     this.faceCount = 0;
     this.glides = false;
     this.offset = [0, 0, 0];
+    const { RGBA_INTEGER: whole, RGBA: parts } = gl;
     this.textures = {
-      places: new Texture(gl, gl.RGBA16I, gl.RGBA_INTEGER, gl.SHORT),
-      normals: new Texture(gl, gl.RGBA16I, gl.RGBA_INTEGER, gl.SHORT),
-      corners: new Texture(gl, gl.RGBA32UI, gl.RGBA_INTEGER, gl.UNSIGNED_INT),
-      colours: new Texture(gl, gl.RGBA8, gl.RGBA, gl.UNSIGNED_BYTE),
-      starts: new Texture(gl, gl.RGBA32F, gl.RGBA, gl.FLOAT),
+      places: new Texture(gl, Int16Array, gl.RGBA16I, whole, gl.SHORT),
+      normals: new Texture(gl, Int16Array, gl.RGBA16I, whole, gl.SHORT),
+      corners: new Texture(gl, Uint32Array, gl.RGBA32UI, whole, gl.UNSIGNED_INT),
+      colours: new Texture(gl, Uint8Array, gl.RGBA8, parts, gl.UNSIGNED_BYTE),
+      starts: new Texture(gl, Float32Array, gl.RGBA32F, parts, gl.FLOAT),
     };
   }
 
@@ -173,13 +180,18 @@ class Mesh {
     for (const { texture } of Object.values(this.textures)) this.gl.deleteTexture(texture);
   }
 
-  show({ nodeCount, faceCount, arrays }, offset) {
-    this.offset = offset;
+  show({ nodeCount, faceCount, arrays }) {
     for (const [name, array] of Object.entries(arrays)) {
       this.textures[name].put(array, rows(name === "corners" ? faceCount : nodeCount));
     }
     this.faceCount = faceCount;
-    this.glides = arrays.starts !== undefined;
+  }
+
+  change({ faceCount, nodes, faces }, offset) {
+    for (const { slots, ...cells } of [nodes, faces]) {
+      for (const [name, values] of Object.entries(cells)) this.textures[name].change(slots, values);
+    }
+    Object.assign(this, { faceCount, offset, glides: true });
   }
 
   bind(at) {
@@ -188,30 +200,6 @@ class Mesh {
       this.gl.bindTexture(this.gl.TEXTURE_2D, texture);
       this.gl.uniform1i(at[name], place);
     });
-  }
-}
-
-// A texture whose rows are replaced from the first on, and which grows.
-class Texture {
-  constructor(gl, inside, format, type) {
-    Object.assign(this, { gl, inside, format, type, room: 0, texture: gl.createTexture() });
-    gl.bindTexture(gl.TEXTURE_2D, this.texture);
-    gl.texParameteri(gl.TEXTURE_2D, gl.TEXTURE_MIN_FILTER, gl.NEAREST);
-    gl.texParameteri(gl.TEXTURE_2D, gl.TEXTURE_MAG_FILTER, gl.NEAREST);
-    this.grow(1);
-  }
-
-  grow(room) {
-    const { gl } = this;
-    this.room = room;
-    gl.texImage2D(gl.TEXTURE_2D, 0, this.inside, WIDTH, room, 0, this.format, this.type, null);
-  }
-
-  put(data, count) {
-    const { gl } = this;
-    gl.bindTexture(gl.TEXTURE_2D, this.texture);
-    if (count > this.room) this.grow(Math.max(count, 2 * this.room));
-    gl.texSubImage2D(gl.TEXTURE_2D, 0, 0, 0, WIDTH, count, this.format, this.type, data);
   }
 }
 

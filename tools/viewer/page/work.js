@@ -17,11 +17,6 @@ export class Work {
     });
   }
 
-  // Arrays that aren't needed here any more.
-  giveBack(spent) {
-    this.worker.postMessage({ spent }, Object.values(spent).map((array) => array.buffer));
-  }
-
   come({ number, answer, fault }) {
     const { resolve, reject } = this.waiting.get(number);
     this.waiting.delete(number);

@@ -1,17 +1,15 @@
-// Talks with the server and makes of each frame what the page puts into textures. A message has a
-// task and a number; the answer has the same number, and what the task gives or its fault. While
-// the replies to one script are read, the next may be on its way.
+// Talks with the server and keeps the mesh that is shown, by what changes. A message has a task and
+// a number; the answer has the same number, and what the task gives or its fault. While the replies
+// to one script are read, the next may be on its way.
 import { Connection, fetched } from "./connection.js";
-import { FrameMaker } from "./frames.js";
+import { Follower } from "./follower.js";
 import { meanColours, readHierarchy } from "./hierarchy.js";
+import { KeptMesh, handedOver } from "./mesh.js";
 import { objText } from "./obj.js";
 import { readReplies } from "./replies.js";
 
-const TIMES = 8; // bytes of the program's two times before the replies
-
-let connection = null, hierarchy = null, maker = null;
-let shown = null; // the numbers of the front's frame
-let origin = 0;   // when the page's clock began
+let connection = null, hierarchy = null, colours = null, follower = null;
+let origin = 0; // when the page's clock began
 
 const tasks = {
   // The model: what is told of it, and what of the hierarchy the page needs.
@@ -21,39 +19,49 @@ const tasks = {
     await connection.open;
     const about = await (await fetched("about")).json();
     hierarchy = readHierarchy(await (await fetched("stream")).arrayBuffer());
-    const colours = about.coloured ? meanColours(hierarchy, await bytesOf("colours")) : null;
-    maker = new FrameMaker(hierarchy, colours);
+    colours = about.coloured ? meanColours(hierarchy, await bytesOf("colours")) : null;
+    follower = new Follower(new KeptMesh(hierarchy, colours), talk);
     const { digits, faces, deepest, low, high } = hierarchy;
     return { about, hierarchy: { digits, faces, deepest, low, high } };
   },
 
-  // The replies to a script, and its frame if it asks for one.
-  async ask({ script, glides }) {
-    const { data, milliseconds } = await connection.ask(script);
-    const [view, frameText] = new Float32Array(data, 0, 2);
-    const came = performance.now();
-    const { replies, mesh } = readReplies(new Uint8Array(data, TIMES));
-    const read = performance.now();
-    const frame = mesh && maker.front(mesh, glides ? seconds() : null);
-    shown = mesh ?? shown;
-    const times = {
-      view, frameText, transfer: milliseconds - view - frameText,
-      read: read - came, arrays: performance.now() - read, bytes: data.byteLength,
-    };
-    return { replies: replies.map(withInput), frame, times };
+  // The reply to a view, and what becomes another of what is shown.
+  async view({ line, glides }) {
+    const { replies, patch, times, cameAt } = await follower.view(line, () => clock(glides));
+    return { replies, patch, times: { ...times, take: performance.now() - cameAt - times.read } };
+  },
+
+  // The replies to a script that leaves the front as it is.
+  async ask({ script }) {
+    const { replies } = await talk(script);
+    return { replies: replies.map(withInput) };
   },
 
   // The input itself, to be drawn beside the front.
   async input() {
-    return { frame: maker.beside(readReplies(await bytesOf("input")).mesh) };
+    const mesh = new KeptMesh(hierarchy, colours);
+    return { patch: mesh.take(mesh.changeTo(readReplies(await bytesOf("input")).frame), null) };
   },
 
   // The mesh shown, as an OBJ text.
-  async obj() { return { text: objText(shown, hierarchy.digits) }; },
+  async obj() {
+    const { frame } = await talk("w\n");
+    return { text: objText(frame, hierarchy.digits) };
+  },
 };
 
-// Seconds of the page's clock: a worker's own began later.
-const seconds = () => (performance.timeOrigin + performance.now() - origin) / 1000;
+// The answer to a script, and where the time went, in milliseconds.
+async function talk(script) {
+  const { times: { view, text, transfer }, data, ...answer } = await connection.ask(script);
+  const cameAt = performance.now(), found = readReplies(data);
+  const read = performance.now() - cameAt;
+  return { ...answer, ...found, cameAt, times: { view, text, transfer, read, bytes: data.length } };
+}
+
+// Seconds of the page's clock, since a worker's own began later; null where nothing glides.
+function clock(glides) {
+  return glides ? (performance.timeOrigin + performance.now() - origin) / 1000 : null;
+}
 
 const bytesOf = async (path) => new Uint8Array(await (await fetched(path)).arrayBuffer());
 
@@ -63,15 +71,10 @@ function withInput(words) {
 }
 
 onmessage = async ({ data }) => {
-  if (data.spent) {
-    maker.pool.takeBack(data.spent);
-    return;
-  }
   const { task, number, ...asked } = data;
   try {
     const answer = await tasks[task](asked);
-    const arrays = Object.values(answer.frame?.arrays ?? {});
-    postMessage({ number, answer }, arrays.map((array) => array.buffer));
+    postMessage({ number, answer }, handedOver(answer.patch));
   } catch (fault) {
     postMessage({ number, fault: { reason: fault.message, cure: fault.cure ?? "" } });
   }

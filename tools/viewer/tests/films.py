@@ -4,7 +4,7 @@ import sys
 from typing import List
 
 from viewer.bundle import CantBundle, bundled, in_order, wrapped
-from viewer.film import PAGE, BadFlight, Numbers, film_page, shots
+from viewer.film import PAGE, BadFlight, Numbers, film_page, played, shots, with_frames
 from viewer.program import ALL_MOVES, ProgramEnded, replies_to
 
 from .common import EXAMPLES, STREAM, TOP, Case, model, program
@@ -32,6 +32,23 @@ class Shots(Case):
             film_page(program(), octahedron, b"m\n", ALL_MOVES)
         with self.assertRaisesRegex(ProgramEnded, "fault 30 line 1"):
             film_page(program(), octahedron, b"v 1 2\n", ALL_MOVES)
+
+
+class Live(Case):
+    def test_a_whole_frame_is_asked_for_in_place_of_a_change(self) -> None:
+        played = with_frames("w\nd\nl\nd")
+        self.assertEqual(played.script, "w\nw\nk\nl\nw\nk\n")
+        self.assertEqual(played.numbers, [1, 2, 2, 3, 4, 4])
+
+    def test_frames_stand_where_changes_did_and_marks_are_kept(self) -> None:
+        script = f"{FAR}\nd\n{NEAR}\ng 1 2\nd\nb 1\n{FAR.replace('v ', 'vd ')}\nd\n"
+        reel = played(program(), model("octahedron.vdpm"), script, ALL_MOVES)
+        self.assertEqual(reel.steps, [None, (1, 2), None, None])
+        self.assertEqual(reel.views, [FAR, NEAR, NEAR, FAR.replace("v ", "vd ")])
+
+    def test_a_fault_names_the_line_that_was_given(self) -> None:
+        with self.assertRaisesRegex(ProgramEnded, "fault 30 line 3"):
+            film_page(program(), model("octahedron.vdpm"), b"d\nd\nv 1 2\n", ALL_MOVES)
 
 
 class Packing(Case):

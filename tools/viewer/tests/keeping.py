@@ -14,8 +14,8 @@ class Keeping(Page):
     def test_a_click_tells_the_face_of_the_p_line(self) -> None:
         self.page.click(390, 250)
         self.page.until("!document.getElementById('picked').hidden")
-        line = self.value("fetch('flight').then((a) => a.text())").splitlines()[-1]
-        self.assertTrue(line.startswith("p "))
+        lines = self.value("fetch('flight').then((a) => a.text())").splitlines()
+        line = next(line for line in reversed(lines) if line.startswith("p "))
         looked_at = model("asteroid.obj")
         splits = "".join(f"s {record}\n" for record in range(looked_at.records))
         script = f"{line}\n{splits}w\n".encode()
@@ -39,11 +39,26 @@ class Keeping(Page):
         self.settle()
         self.page.key("+")
         self.settle()
+        self.slide("budget", 9)
+        self.settle()
         self.value("document.getElementById('save-flight').click()")
-        script = self.page.downloaded("flight.script")
-        replies = replies_to(program(), model("asteroid.obj").stream, script)
+        script = self.page.downloaded("flight-live.script")
+        replies = replies_to(program(), model("asteroid.obj").stream, script, command="live")
         self.assertEqual(replies, b"".join(answer.text for answer in self.answers))
-        self.assertGreater(len(self.answers), 2)
+        for line in (b"\nd\n", b"\nl\n", b"\nb 512\n", b"vd "):
+            self.assertIn(line, b"\n" + script)
+
+    def test_a_flight_of_view_s_lines_says_so_and_plays_with_both(self) -> None:
+        script = f"{self.asked().replace('vd ', 'v ')}\nw\nk\nm\n".encode()
+        setattr(self.server.showing, "flight", lambda: script)
+        self.value("document.getElementById('save-flight').click()")
+        self.assertEqual(self.page.downloaded("flight-view.script"), script)
+        self.page.until("told.textContent === 'The script that vdpm view 4294967295 plays'")
+        stream = model("asteroid.obj").stream
+        by_view, by_live = (
+            replies_to(program(), stream, script, command=command) for command in ("view", "live")
+        )
+        self.assertEqual(by_view, by_live)
 
     def test_the_picture_is_a_png(self) -> None:
         self.value("document.getElementById('save-picture').click()")
@@ -52,7 +67,7 @@ class Keeping(Page):
     def test_the_mesh_is_the_obj_of_the_frame(self) -> None:
         self.value("document.getElementById('save-mesh').click()")
         text = self.page.downloaded("mesh.obj").decode()
-        lines = list(obj_lines(self.last_frame(), digits=1))
+        lines = list(obj_lines(self.whole(), digits=1))
         self.assertEqual(text.splitlines(), lines)
         canon = [str(program()), "canon", "--digits", "1"]
         done = subprocess.run(canon, input=text.encode(), capture_output=True, check=False)
@@ -67,7 +82,7 @@ class Keeping(Page):
         self.page.until("copied.length === 1")
         self.assertEqual(self.value("copied[0]"), f"{self.asked()}\n")
         view = f"{self.asked()}\nm\n".encode()
-        told = replies_to(program(), model("asteroid.obj").stream, view).decode()
+        told = replies_to(program(), model("asteroid.obj").stream, view, command="live").decode()
         self.assertEqual(int(told.split()[4 + 1]), self.faces())
 
     def test_the_settings_can_be_hidden(self) -> None:

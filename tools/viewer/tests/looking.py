@@ -23,7 +23,7 @@ class Drawing(Page):
         warm = self.value(f"{WARM}(0, viewer.scene.canvas.width)")
         self.assertGreater(warm, 0.1)
         self.assertLess(warm, 0.8)
-        frame = self.last_frame()
+        frame = self.whole()
         self.assertEqual(self.faces(), len(frame.faces))
         said = "document.getElementById('faces-said').textContent"
         self.page.until(f"{said} === '{len(frame.faces):,}'")
@@ -37,7 +37,7 @@ class Drawing(Page):
         focal = self.value("viewer.picture().focal")
         target = self.value("viewer.camera.target")
         asked = argparse.Namespace(at=target, up=(0, 0, 1), focal=focal, width=WIDTH, height=HEIGHT)
-        self.assertEqual((word, len(numbers), numbers[3] / numbers[4]), ("v", 21, focal / 8))
+        self.assertEqual((word, len(numbers), numbers[3] / numbers[4]), ("vd", 21, focal / 8))
         for place, (a, b, c, _) in enumerate(planes(numbers[:3], asked)):
             normal = numbers[5 + 4 * place:8 + 4 * place]
             for ours, theirs in zip(normal, (a, b, c)):  # there the eye is rounded before it looks
@@ -92,7 +92,7 @@ class Moving(Page):
             act()
             self.settle()
             self.assertNotEqual(self.asked(), before)
-        self.assertEqual(self.faces(), len(self.last_frame().faces))
+        self.assertEqual(self.faces(), len(self.whole().faces))
 
     def test_fingers_turn_and_spread(self) -> None:
         yaw, distance = "viewer.camera.yaw", "viewer.camera.distance"

@@ -68,8 +68,12 @@ class Page(Case):
             " s.dispatchEvent(new Event('input', { bubbles: true })); })()"
         )
 
-    def last_frame(self) -> Frame:
-        """The frame that was asked for last."""
-        text = next(a.text for a in reversed(self.answers) if b"frame " in a.text)
-        frame: Frame = list(read_frames(text.decode().splitlines()))[-1]
+    def whole(self) -> Frame:
+        """The front as the program shows it now."""
+        text = self.server.showing.ask("w\n").text.decode()
+        [frame] = read_frames(text.splitlines())
         return frame
+
+    def choose(self, value: str) -> None:
+        """Presses one of several choices."""
+        self.value(f"document.querySelector('input[value={value}]').click()")

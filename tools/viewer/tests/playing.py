@@ -125,10 +125,10 @@ class Models(Page):
         self.assertTrue(self.value("notice.hidden"))
 
     def test_a_budget_of_the_command_line_is_kept_to_the_number(self) -> None:
-        self.look_at(model("asteroid.obj"), 700)
-        self.assertEqual(self.text("budget-said"), "700")
-        self.assertEqual(self.answers[0].text.split(b" ")[:2], [b"spent", b"700"])
+        self.look_at(model("asteroid.obj"), 500)
+        self.assertEqual(self.text("budget-said"), "500")
+        self.assertEqual(self.answers[0].text.split(b" ")[:2], [b"spent", b"500"])
         self.value("document.getElementById('save-flight').click()")
-        script = self.page.downloaded("flight-budget-700.script")
-        replies = replies_to(program(), model("asteroid.obj").stream, script, 700)
+        script = self.page.downloaded("flight-live-budget-500.script")
+        replies = replies_to(program(), model("asteroid.obj").stream, script, 500, "live")
         self.assertEqual(replies, b"".join(answer.text for answer in self.answers))

@@ -15,11 +15,13 @@ VIEW = "v 0 -900 300 1000 4 32433 4553 -1016 6531000"
 
 class Scripts(Case):
     def test_lines_that_a_page_may_send(self) -> None:
-        for line in (VIEW, "v 0 0 0 0 0", "vs 1 -2 3 4 5 6", "w", "m", "p 0 0 0 0 0 -1"):
+        views = (VIEW, "v 0 0 0 0 0", "vs 1 -2 3 4 5 6", "vd 0 0 0 0 0", "vds 1 -2 3 4 5 6")
+        for line in (*views, "w", "m", "p 0 0 0 0 0 -1", "d", "k", "l", "b 0", "b 4294967295"):
             self.assertEqual(script_lines(line + "\n"), [line])
 
     def test_lines_that_it_may_not(self) -> None:
-        bad = ["q\n", "s 0\n", "c 0\n", "k\n", "t\n", "g 0 1\n", "w", "", "\n", "w \n", "w\r\n"]
+        bad = ["q\n", "s 0\n", "c 0\n", "t\n", "g 0 1\n", "w", "", "\n", "w \n", "w\r\n", "d 1\n"]
+        bad += ["b\n", "b -1\n", "b 01\n", "l 0\n", "vsd 1 -2 3 4 5 6\n", "vds 1 -2 3 4 5\n"]
         bad += ["v 1 2 3 4\n", "v 0 0 0 0 01\n", "p 0 0 0 0 0 -0\n", "v ١ 0 0 0 0\n", "w\n" * 65]
         for text in bad:
             with self.assertRaises(BadScript, msg=repr(text)):
@@ -36,6 +38,26 @@ class Running(Case):
         words = [line.split()[0] for line in text.splitlines() if line[0] not in "v"]
         kept = [word for word in words if word != "f"]
         self.assertEqual(kept, ["settled", "shape", "frame", "end", "hit", "shape"])
+
+    def test_lines_of_a_live_session_have_theirs(self) -> None:
+        text = self.program.ask(f"b 1\n{VIEW}\nd\nl\nd\nk\nm\n").text.decode()
+        lines = [line for line in text.splitlines() if not line.startswith(("v ", "f ", "-"))]
+        words = ["ok", "spent 1 1", "change 5 6", "end", "level 5 6 1", "change 5 6", "end", "ok"]
+        for line, begins in zip(lines, words):
+            self.assertTrue(line.startswith(begins), line)
+        self.assertEqual(len(lines), len(words) + 1)
+
+    def test_each_marked_front_has_a_number_of_its_own(self) -> None:
+        other = Program(program(), STREAM.read_bytes(), 9)
+        self.addCleanup(other.close)
+        marks = []
+        for one, script in ((self.program, "m\n"), (self.program, "w\nk\n"), (self.program, "d\n")):
+            answer, aside = one.ask(script), other.ask("d\n")
+            marks += [answer.before, answer.after, aside.after]
+        first, after_m, _, before_k, after_k, _, before_d, after_d, _ = marks
+        self.assertEqual((first, before_k, before_d), (after_m, after_m, after_k))
+        kept = [first, after_k, after_d, *marks[2::3]]
+        self.assertEqual(len(set(kept)), len(kept))
 
     def test_calls_from_several_threads_are_done_one_by_one(self) -> None:
         texts: List[bytes] = []

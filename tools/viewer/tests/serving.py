@@ -1,20 +1,25 @@
 """What the server gives, and to whom."""
 import http.client
+import io
 import json
 import os
 import signal
+import struct
 import subprocess
 import sys
+import threading
 import time
+from contextlib import redirect_stderr
 from pathlib import Path
 from typing import Dict, List, Optional, Tuple
 
 from browser import PATIENCE, Line
-from viewer.program import replies_to
+from viewer.program import ALL_MOVES, Answer, replies_to
 from viewer.server import FILES, PAGE
 
 from .common import STREAM, TOP, Case, model, program
 
+HEAD = 16  # bytes of numbers before the replies
 # What plays a film is in the same folder, and isn't served.
 OF_FILMS = {"film.html", "film.js", "flight.js", "reel.js"}
 
@@ -89,10 +94,10 @@ class Serving(Case):
         scripts = ["m\n", "w\n", "m\nw\n"]
         for script in scripts:
             line.send(script)
-        begins = [line.receive()[8:].split()[0] for _ in scripts]
+        begins = [line.receive()[HEAD:].split()[0] for _ in scripts]
         self.assertEqual(begins, [b"shape", b"frame", b"shape"])
         self.assertIn(b"line 1 is none that a page may send", self.said(line, "q\n"))
-        self.assertEqual(self.said(line, "m\n")[8:].split()[0], b"shape")
+        self.assertEqual(self.said(line, "m\n")[HEAD:].split()[0], b"shape")
         flight = self.asked(f"{self.root}flight")
         self.assertEqual(flight, (200, "".join([*scripts, "m\n"]).encode()))
 
@@ -102,6 +107,21 @@ class Serving(Case):
         self.assertEqual(line.bytes.read(), b"")
         self.assertEqual(self.asked(f"{self.root}talk")[0], 400)
         self.assertEqual(self.asked(f"{self.root}start", "1" * 70000)[0], 413)
+
+    def test_a_page_that_is_left_amid_an_answer_is_let_go(self) -> None:
+        # More than the pipes between hold, so that the server still writes when the page goes.
+        long = Answer(b"-" * 50_000_000, 0.0, 0.0)
+        setattr(self.server.showing, "ask", lambda script: long)
+        said, gone = io.StringIO(), threading.Event()
+        done = self.server.shutdown_request
+        setattr(self.server, "shutdown_request", lambda end: (done(end), gone.set()))
+        with redirect_stderr(said):
+            line = Line(f"ws://{self.host}{self.root}talk", f"http://{self.host}")
+            line.send("w\n")
+            self.assertEqual(len(line.bytes.read(1000)), 1000)
+            line.close()
+            self.assertTrue(gone.wait(PATIENCE))
+        self.assertEqual(said.getvalue(), "")
 
     def test_the_stream_and_the_input_are_there(self) -> None:
         self.assertEqual(self.asked(f"{self.root}stream"), (200, STREAM.read_bytes()))
@@ -117,7 +137,20 @@ class Serving(Case):
         self.assertEqual(self.asked(f"{self.root}start", "-1")[0], 400)
         status, text = self.asked(f"{self.root}start", "1")
         self.assertEqual((status, json.loads(text)["budget"]), (200, 1))
-        self.assertEqual(self.said(line, "v 0 -9 0 1000 0\n")[8:], b"spent 1 1\n")
+        self.assertEqual(self.said(line, "v 0 -9 0 1000 0\n")[HEAD:], b"spent 1 1\n")
+
+    def test_a_budget_that_was_changed_is_told(self) -> None:
+        line = self.line()
+        self.assertEqual(self.said(line, "b 1\nv 0 -9 0 1000 0\n")[HEAD:], b"ok\nspent 1 1\n")
+        about = json.loads(self.asked(f"{self.root}about")[1])
+        self.assertEqual((about["budget"], about["startedWith"]), (1, ALL_MOVES))
+
+    def test_answers_tell_which_front_was_marked(self) -> None:
+        line = self.line()
+        heads = [self.said(line, script)[8:HEAD] for script in ("w\n", "w\nk\n", "d\n")]
+        (one, same), (before, kept), (marked, last) = (struct.unpack("<2I", h) for h in heads)
+        self.assertEqual((same, before, marked), (one, one, kept))
+        self.assertNotEqual(last, kept)
 
 
 class Ending(Case):

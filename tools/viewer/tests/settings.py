@@ -13,27 +13,32 @@ class Detail(Page):
     def test_a_finer_tolerance_glides_to_more_faces(self) -> None:
         self.slide("tolerance", 22)
         self.settle()
-        coarse, line = self.last_frame(), self.asked()
+        coarse, line = self.whole(), self.asked()
         self.value(
-            "globalThis.taken = null; const show = viewer.scene.renderer.show;"
-            " viewer.scene.renderer.show = function (name, frame) {"
-            "   globalThis.taken = [...frame.arrays.starts.subarray(0, 4 * frame.nodeCount)];"
-            "   show.call(this, name, frame); }; 0"
+            "globalThis.taken = null; const { change } = viewer.scene.renderer;"
+            " viewer.scene.renderer.change = function (name, patch) {"
+            "   const { places, starts } = patch.nodes;"
+            "   globalThis.taken = [[...places], [...starts]];"
+            "   change.call(this, name, patch); }; 0"
         )
         self.slide("tolerance", 12)
         self.page.until("taken !== null")
-        starts = self.value("taken")
+        places, starts = self.value("taken")
         self.settle()
-        fine = self.last_frame()
+        fine = self.whole()
         self.assertGreater(len(fine.faces), len(coarse.faces))
         script = f"{line}\nk\n{self.asked()}\ng 0 1\n".encode()
-        replies = replies_to(program(), model("asteroid.obj").stream, script).decode()
+        stream = model("asteroid.obj").stream
+        replies = replies_to(program(), stream, script, command="live").decode()
         elders = list(read_frames(replies.splitlines()))[-1]
         self.assertEqual(elders.nodes, fine.nodes)
+        began = {
+            tuple(places[at:at + 3]): tuple(starts[at:at + 3]) for at in range(0, len(places), 4)
+        }
         old = set(coarse.nodes)
-        for place, (node, elder) in enumerate(zip(elders.nodes, elders.points)):
+        for node, point, elder in zip(fine.nodes, fine.points, elders.points):
             if node not in old:  # the others stay where they are
-                self.assertEqual(tuple(starts[4 * place:4 * place + 3]), elder)
+                self.assertEqual(began[point], elder)
 
     def test_outlines_may_be_finer(self) -> None:
         self.slide("tolerance", 22)
@@ -41,8 +46,34 @@ class Detail(Page):
         before = self.faces()
         self.slide("outline", 6)
         self.settle()
-        self.assertTrue(self.asked().startswith("vs "))
+        self.assertTrue(self.asked().startswith("vds "))
         self.assertGreater(self.faces(), before)
+
+    def test_the_tolerance_is_of_deviations_or_of_distances(self) -> None:
+        few = self.faces()
+        self.assertTrue(self.asked().startswith("vd "))
+        self.assertIn("flat ground stays coarse", self.text("judged-said"))
+        self.choose("distance")
+        self.settle()
+        self.assertTrue(self.asked().startswith("v "))
+        self.assertIn("on flat ground too", self.text("judged-said"))
+        self.assertGreater(self.faces(), 1.3 * few)
+        told = replies_to(program(), model("asteroid.obj").stream, f"{self.asked()}\nm\n".encode())
+        self.assertEqual(int(told.split()[5]), self.faces())
+        self.page.key("d")
+        self.settle()
+        self.assertEqual((self.asked().split()[0], self.faces()), ("vd", few))
+
+    def test_the_level_of_detail_is_told_of_the_front_at_rest(self) -> None:
+        for tolerance in (22, 10):
+            self.slide("tolerance", tolerance)
+            self.settle()
+            words = self.server.showing.ask("l\n").text.decode().split()
+            nodes, faces, split, error, deviation = (int(word) for word in words[1:])
+            said = f"nodes{nodes:,}faces{faces:,}records split{split:,}"
+            said += f"greatest error{error / 10:g}greatest deviation{deviation / 10:g}"
+            self.assertEqual(self.text("level"), said)
+            self.assertEqual(faces, self.faces())
 
     def test_a_frozen_refinement_stays(self) -> None:
         self.page.key("f")
@@ -57,15 +88,32 @@ class Detail(Page):
         self.settle()
         self.assertNotEqual(self.asked(), asked)
 
-    def test_a_budget_is_spent_view_by_view(self) -> None:
-        whole = self.faces()
+    def test_a_budget_is_taken_with_the_front_kept_and_spent_view_by_view(self) -> None:
+        number, faces = self.server.showing.program().number, self.faces()
         self.slide("budget", 7)
-        self.page.until("viewer.budget === 128 && viewer.views.left > 0")
+        self.page.until("viewer.session.budget === 128 && viewer.isSettled")
+        self.assertEqual(self.faces(), faces)
+        del self.answers[:]
+        self.slide("tolerance", 6)
         self.settle()
-        self.assertEqual(self.faces(), whole)
-        words = [a.text.split(b" ", 1)[0] for a in self.answers]
-        self.assertEqual(words[-1], b"settled")
-        self.assertEqual(set(words[-5:-1]), {b"spent"})
+        words = [a.text.split(b" ", 2)[:2] for a in self.answers if b"change " in a.text]
+        self.assertEqual(words[-1][0], b"settled")
+        self.assertEqual({tuple(view) for view in words[:-1]}, {(b"spent", b"128")})
+        self.assertGreater(len(words), 3)
+        line = f"{self.asked()}\nm\n".encode()
+        told = replies_to(program(), model("asteroid.obj").stream, line, command="live")
+        self.assertEqual(int(told.split()[5]), self.faces())
+        self.assertEqual(self.server.showing.program().number, number)
+
+    def test_no_moves_lead_nowhere_until_there_are_some(self) -> None:
+        self.look_at(model("asteroid.obj"), 0)
+        self.assertEqual(self.faces(), 4)
+        count = len(self.answers)
+        self.page.run("new Promise((done) => setTimeout(done, 200))")
+        self.assertEqual(len(self.answers), count)
+        self.slide("budget", 20)
+        self.page.until("viewer.session.budget === 4294967295 && viewer.isSettled")
+        self.assertGreater(self.faces(), 1000)
 
 
 class Failing(Page):
@@ -89,6 +137,6 @@ class Failing(Page):
 
     def test_a_server_that_is_gone_is_told(self) -> None:
         self.value("globalThis.fetch = () => Promise.reject(new TypeError()); 0")
-        self.value("viewer.restart()")
+        self.value("viewer.restart(), 0")
         self.page.until("!document.getElementById('fault').hidden")
         self.assertIn("./viewer has ended", self.text("fault-reason"))

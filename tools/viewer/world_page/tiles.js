@@ -6,7 +6,7 @@ import { chosen, forest } from "./tiling.js";
 const BASE = "base"; // what a closed tile shows
 
 export class Tiles {
-  // `heard` has `framed(tile, answer)`, `dropped(name)` and `failed(fault)`.
+  // `heard` has `framed(tile, patch)`, `dropped(name)` and `failed(fault)`.
   constructor(told, work, heard) {
     Object.assign(this, { forest: forest(told), work, heard });
     Object.assign(this, { states: new Map(), wanted: null, drawn: [], waiting: 0, seen: "" });
@@ -14,7 +14,7 @@ export class Tiles {
 
   // Chooses tiles for a camera, and asks for what isn't there yet.
   look(camera, picture, set, memory) {
-    const { focal } = picture, { tolerance } = set, eye = camera.eye();
+    const { focal } = picture, { tolerance, judged } = set, eye = camera.eye();
     const seen = JSON.stringify([eye, focal, tolerance]);
     if (seen !== this.seen) this.wanted = chosen(this.forest, eye, { focal, tolerance, memory });
     this.seen = seen;
@@ -22,7 +22,7 @@ export class Tiles {
     for (const name of this.wanted.open) {
       const own = camera.copy();
       own.target = plus(camera.target, -1, this.tile(name).offset);
-      this.ask(name, viewLine(own, picture, tolerance), set);
+      this.ask(name, viewLine(own, picture, { tolerance, judged }), set);
     }
     this.settle();
   }
@@ -40,11 +40,11 @@ export class Tiles {
     Object.assign(state, { asked: line, busy: true });
     this.waiting++;
     try {
-      const task = line === BASE ? { task: "base" } : { task: "ask", script: `${line}\nw\n` };
-      const answer = await this.work.ask({ ...task, name, glides: glide });
-      state.counts = { faces: answer.frame.faceCount, nodes: answer.frame.nodeCount };
+      const task = line === BASE ? { task: "base" } : { task: "view", line };
+      const { patch } = await this.work.ask({ ...task, name, glides: glide });
+      state.counts = { faces: patch.faceCount, nodes: patch.nodeCount };
       state.shown = line;
-      this.heard.framed(this.tile(name), answer);
+      this.heard.framed(this.tile(name), patch);
     } catch (fault) {
       this.heard.failed(fault);
     } finally {

@@ -14,13 +14,15 @@ const DEEPEST = 40;    // splits below a root, at which a node's colour is the l
 const part = (name) => document.getElementById(name);
 const counted = (n) => n.toLocaleString("en");
 const megabytes = (n) => `${counted(Math.round(n / 1e6))} MB`;
+const chosen = (name) => document.querySelector(`input[name=${name}]:checked`).value;
 const press = (name) => () => part(name).click();
 
 function settings() {
   const isOn = (name) => part(name).checked;
   return {
     tolerance: 2 ** (part("tolerance").valueAsNumber / STEPS),
-    colour: document.querySelector("input[name=colour]:checked").value,
+    judged: chosen("judged"),
+    colour: chosen("colour"),
     upright: isOn("upright") ? "y" : "z",
     smooth: isOn("smooth"), edges: isOn("edges"), glide: isOn("glide"), freeze: isOn("freeze"),
   };
@@ -42,7 +44,7 @@ class WorldViewer {
       return;
     }
     const heard = {
-      framed: (tile, answer) => this.framed(tile, answer),
+      framed: (tile, patch) => this.framed(tile, patch),
       dropped: (name) => this.renderer.drop(name),
       failed: (fault) => this.fail(fault),
     };
@@ -123,9 +125,9 @@ class WorldViewer {
     });
   }
 
-  framed(tile, { frame }) {
-    this.renderer.show(tile.name, frame, tile.offset);
-    if (frame.changes?.nodesCome) this.glidesUntil = performance.now() + 1000 * GLIDE + 50;
+  framed(tile, patch) {
+    this.renderer.change(tile.name, patch, tile.offset);
+    if (patch.changes.nodesCome > 0) this.glidesUntil = performance.now() + 1000 * GLIDE + 50;
     this.dirty = true;
   }
 

@@ -1,18 +1,18 @@
-// Talks with the server of a world, and makes of each tile's frames what the page puts into
-// textures. A message has a task and a number; the answer has the same number.
+// Talks with the server of a world, and keeps the mesh of each tile that is shown. A message has a
+// task and a number; the answer has the same number.
 import { Connection, fetched } from "./connection.js";
-import { FrameMaker } from "./frames.js";
-import { readHierarchy } from "./hierarchy.js";
+import { Follower } from "./follower.js";
+import { NO_PARENT, readHierarchy } from "./hierarchy.js";
+import { KeptMesh, handedOver } from "./mesh.js";
 import { readReplies } from "./replies.js";
 
-const TIMES = 8; // bytes of the program's two times before the replies
 const TINTS = [
   [222, 184, 135], [143, 188, 143], [135, 160, 206], [205, 140, 149], [189, 183, 107],
   [160, 140, 200], [120, 180, 190], [210, 160, 100],
 ];
 
 let connection = null, origin = 0;
-const makers = new Map(); // of open tiles, by name
+const followers = new Map(); // of open tiles, by name
 
 // The same colour for all nodes of a tile, so that one sees which is which.
 function tint(name, count) {
@@ -22,13 +22,18 @@ function tint(name, count) {
   return colours;
 }
 
-async function makerOf(name) {
-  if (!makers.has(name)) {
-    const stream = await (await fetched(`stream/${name}`)).arrayBuffer();
-    const hierarchy = readHierarchy(stream);
-    makers.set(name, new FrameMaker(hierarchy, tint(name, hierarchy.parents.length)));
+async function followerOf(name) {
+  if (!followers.has(name)) {
+    const hierarchy = readHierarchy(await (await fetched(`stream/${name}`)).arrayBuffer());
+    const mesh = new KeptMesh(hierarchy, tint(name, hierarchy.parents.length));
+    followers.set(name, new Follower(mesh, (script) => talk(name, script)));
   }
-  return makers.get(name);
+  return followers.get(name);
+}
+
+async function talk(name, script) {
+  const { data, ...answer } = await connection.ask(`tile ${name}\n${script}`);
+  return { ...answer, ...readReplies(data) };
 }
 
 const tasks = {
@@ -40,39 +45,47 @@ const tasks = {
     return (await fetched("about")).json();
   },
 
-  // The front of an open tile.
-  async ask({ name, script, glides }) {
-    const maker = await makerOf(name);
-    const { data, milliseconds } = await connection.ask(`tile ${name}\n${script}`);
-    const { mesh } = readReplies(new Uint8Array(data, TIMES));
-    return { frame: maker.front(mesh, glides ? seconds() : null), milliseconds };
+  // What a view changes of an open tile.
+  async view({ name, line, glides }) {
+    const follower = await followerOf(name);
+    const { patch } = await follower.view(line, () => clock(glides));
+    return { patch };
   },
 
   // What a closed tile shows: a tile without a program, whose nodes are roots.
   async base({ name }) {
-    makers.delete(name);
+    followers.delete(name);
     const text = new Uint8Array(await (await fetched(`base/${name}`)).arrayBuffer());
-    const { mesh } = readReplies(text), count = mesh.nodes.length / 4;
-    const plain = { parents: new Int32Array(count), depths: new Uint8Array(count), faces: 0 };
-    return { frame: new FrameMaker(plain, tint(name, count)).beside(mesh), milliseconds: 0 };
+    const { frame } = readReplies(text), mesh = new KeptMesh(...baseOf(name, frame));
+    return { patch: mesh.take(mesh.changeTo(frame), null) };
   },
 
   async forget({ name }) {
-    makers.delete(name);
+    followers.delete(name);
     return {};
   },
 };
 
-// Seconds of the page's clock: a worker's own began later.
-const seconds = () => (performance.timeOrigin + performance.now() - origin) / 1000;
+// Seconds of the page's clock, since a worker's own began later; null where nothing glides.
+function clock(glides) {
+  return glides ? (performance.timeOrigin + performance.now() - origin) / 1000 : null;
+}
+
+// The hierarchy of a base mesh, which has no records, and its colours.
+function baseOf(name, { nodes, faces }) {
+  const count = nodes.length / 4, places = new Int16Array(3 * count);
+  for (let node = 0; node < count; node++) {
+    places.set(nodes.subarray(4 * node + 1, 4 * node + 4), 3 * node);
+  }
+  const parents = new Int32Array(count).fill(NO_PARENT), depths = new Uint8Array(count);
+  return [{ parents, depths, places, faces: faces.length / 4 }, tint(name, count)];
+}
 
 onmessage = async ({ data }) => {
-  if (data.spent) return;
   const { task, number, ...asked } = data;
   try {
     const answer = await tasks[task](asked);
-    const arrays = Object.values(answer.frame?.arrays ?? {});
-    postMessage({ number, answer }, arrays.map((array) => array.buffer));
+    postMessage({ number, answer }, handedOver(answer.patch));
   } catch (fault) {
     postMessage({ number, fault: { reason: fault.message, cure: fault.cure ?? "" } });
   }

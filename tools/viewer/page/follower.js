@@ -1,0 +1,43 @@
+// Keeps a mesh in step with the program: each view tells what it changes, and a whole frame comes
+// first, and wherever a change doesn't lead from the mesh that is kept: where the program was
+// started anew, or another page has marked a front meanwhile.
+import { OutOfStep } from "./mesh.js";
+
+const WHOLE = "w\nk\n", CHANGE = "d\n";
+
+export class Follower {
+  // `talk` gives the answer to a script. `mark` is the number of the front whose mesh is kept.
+  constructor(mesh, talk) {
+    Object.assign(this, { mesh, talk, mark: null, isAsked: false, wholes: 0 });
+  }
+
+  // The answer to a view, and what it changes in textures. `clock` gives the seconds for glides, or
+  // null. Several views may be on their way.
+  async view(line, clock) {
+    const script = `${line}\n${this.isAsked ? CHANGE : WHOLE}`;
+    this.isAsked = true; // the whole frame comes before the replies to what is sent from here on
+    try {
+      const answer = await this.talk(script);
+      const patch = this.taken(answer, clock) ?? this.taken(await this.talk(WHOLE), clock);
+      return { ...answer, patch };
+    } catch (fault) {
+      this.isAsked = false;
+      throw fault;
+    }
+  }
+
+  // Takes a frame or a change; null where the change doesn't lead from the mesh that is kept.
+  taken({ frame, change, before, after }, clock) {
+    if (!frame && before !== this.mark) return null;
+    if (frame) this.wholes++;
+    try {
+      const patch = this.mesh.take(frame ? this.mesh.changeTo(frame) : change, clock());
+      this.mark = after;
+      return patch;
+    } catch (fault) {
+      if (!(fault instanceof OutOfStep) || frame) throw fault;
+      this.mesh.clear();
+      return null;
+    }
+  }
+}

@@ -1,0 +1,164 @@
+"""The mesh that is kept by what changes: what is drawn is what the program shows."""
+import os
+import signal
+from typing import Dict, List, Tuple
+
+from frames import Frame
+from viewer.program import Answer
+
+from .common import model
+from .pages import Page
+
+# The faces of the textures by number: the places of their corners, and their nodes' normals.
+DRAWN = """(() => {
+  const { textures: { places, normals, corners }, faceCount } =
+    viewer.scene.renderer.meshes.get("front");
+  const faces = [];
+  for (let i = 0; i < 4 * faceCount; i += 4) {
+    const nodes = [...corners.data.subarray(i, i + 3)];
+    const numbers = ({ data }) => nodes.flatMap((n) => [...data.subarray(4 * n, 4 * n + 3)]);
+    faces.push([corners.data[i + 3], numbers(places), numbers(normals)]);
+  }
+  return faces;
+})()"""
+# Looks from one place after the other, without waiting for what is asked meanwhile.
+FLY = """(async (steps, milliseconds) => {
+  const home = viewer.camera.copy();
+  for (let step = 0; step < steps; step++) {
+    viewer.camera.turn(0.13, step % 3 === 0 ? 0.2 : -0.1);
+    viewer.camera.distance = home.distance * [1, 0.4, 0.9, 0.25][step % 4];
+    viewer.moved();
+    await new Promise((done) => setTimeout(done, milliseconds));
+  }
+})"""
+LONGEST = 32767
+
+
+def normals_of(frame: Frame) -> "Dict[int, Tuple[float, ...]]":
+    """The sums of the normals of the faces at each place in the frame's list, at one length."""
+    sums = {place: [0, 0, 0] for place in range(len(frame.points))}
+    for face in frame.faces:
+        a, b, c = (frame.points[corner] for corner in face)
+        p, q = ([y - x for x, y in zip(a, end)] for end in (b, c))
+        normal = [p[i - 2] * q[i - 1] - p[i - 1] * q[i - 2] for i in range(3)]
+        for corner in face:
+            sums[corner] = [s + n for s, n in zip(sums[corner], normal)]
+    units = {}
+    for place, total in sums.items():
+        size = sum(part * part for part in total) ** 0.5 or 1
+        units[place] = tuple(LONGEST * part / size for part in total)
+    return units
+
+
+class Following(Page):
+    def check(self, wholes: int) -> None:
+        """What is drawn is the front, and whole frames came so often."""
+        self.settle()
+        count = sum(a.text.count(b"frame ") for a in self.answers)
+        self.assertEqual(count, wholes)
+        frame = self.whole()
+        del self.answers[-1]
+        normals = normals_of(frame)
+        wanted = {
+            number: [c for corner in face for c in frame.points[corner]]
+            for number, face in zip(frame.numbers, frame.faces)
+        }
+        drawn = self.value(DRAWN)
+        self.assertEqual({number: places for number, places, _ in drawn}, wanted)
+        self.assertEqual(len(drawn), len(wanted))
+        faces = dict(zip(frame.numbers, frame.faces))
+        for number, _, shaded in drawn:
+            units = [part for corner in faces[number] for part in normals[corner]]
+            for ours, theirs in zip(shaded, units):
+                self.assertLessEqual(abs(ours - theirs), 1)
+
+    def fly(self, steps: int = 12, milliseconds: int = 30) -> None:
+        self.value(f"{FLY}({steps}, {milliseconds})")
+
+    def test_after_flights_budgets_picks_and_freezing(self) -> None:
+        self.check(1)
+        self.fly()
+        self.check(1)
+        self.slide("budget", 6)
+        self.fly(6)
+        self.slide("tolerance", 16)
+        self.page.click(390, 250)
+        self.fly(6)
+        self.slide("budget", 20)
+        self.check(1)
+        self.page.key("f")
+        self.fly(3)
+        self.choose("distance")
+        self.check(1)
+        self.page.key("f")
+        self.slide("outline", 4)
+        self.check(1)
+        self.page.key("r")
+        self.check(1)
+        self.assertGreater(sum(b"change " in a.text for a in self.answers), 12)
+        self.assertEqual(self.page.errors(), [])
+
+    def test_from_the_finest_to_the_base_mesh_and_back(self) -> None:
+        self.choose("distance")
+        self.slide("tolerance", -4)
+        self.check(1)
+        finest = self.faces()
+        self.value("viewer.camera.distance = 30 * viewer.radius, viewer.moved(), 0")
+        self.slide("tolerance", 28)
+        self.check(1)
+        self.assertLess(self.faces(), 40)
+        self.page.key("r")
+        self.slide("tolerance", -4)
+        self.check(1)
+        self.assertEqual(self.faces(), finest)
+        self.assertGreater(finest, 4000)
+
+    def test_a_front_that_another_page_marked_is_found_out(self) -> None:
+        self.server.showing.ask("vd 0 0 90000 1000 9\nd\n")
+        self.fly(4)
+        self.check(2)
+        self.server.showing.ask("k\n")
+        self.page.key("ArrowLeft")
+        self.check(3)
+
+    def test_a_page_that_is_loaded_again_begins_with_a_whole_frame(self) -> None:
+        self.fly(3)
+        self.settle()
+        self.page.go(f"{self.server.address}?sharpness=0.2&again")
+        self.page.until(f"location.search.endsWith('again') && {self.settled}")
+        self.check(2)
+
+    def test_a_change_that_does_not_fit_is_made_good(self) -> None:
+        ask = self.server.showing.ask
+        for wholes, word in enumerate((b"-f ", b"-v ", b"v ", b"f "), 2):
+
+            def spoilt(script: str) -> Answer:
+                answer = ask(script)
+                lines = answer.text.splitlines(keepends=True)
+                found = [place for place, line in enumerate(lines) if line.startswith(word)]
+                if script.endswith("d\n") and found:
+                    del lines[found[0]]
+                    setattr(self.server.showing, "ask", ask)
+                return answer._replace(text=b"".join(lines))
+
+            setattr(self.server.showing, "ask", spoilt)
+            self.slide("tolerance", 8 + 6 * (wholes % 2))
+            self.fly(2)
+            self.check(wholes)
+
+    def test_a_line_that_is_refused_leaves_nothing_out_of_step(self) -> None:
+        refused = "viewer.work.ask({ task: 'view', line: 'q', glides: false })"
+        self.value(f"{refused}.catch(({{ reason }}) => reason)")
+        self.fly(3)
+        self.check(2)
+
+    def test_a_program_that_was_killed_and_started_again(self) -> None:
+        self.fly(3)
+        self.settle()
+        os.kill(self.server.showing.program().number, signal.SIGKILL)
+        self.page.key("ArrowLeft")
+        self.page.until("!document.getElementById('fault').hidden")
+        self.value("document.getElementById('again').click()")
+        self.check(2)
+        self.fly(3)
+        self.check(2)
