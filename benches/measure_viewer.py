@@ -1,16 +1,22 @@
 """Flies over a model in a headless browser, and prints where the time of each view goes:
 
-    python3 benches/measure_viewer.py MODEL [--program PATH] [--tolerances 32 16 8] [--steps 100]
+    python3 benches/measure_viewer.py MODEL.. [--program PATH] [--by deviation|distance]
+        [--tolerances 32 16 8] [--steps 100]
 
-MODEL is a stream, as `python3 benches/terrain.py 316 > terrain.obj` and `vdpm build` make one. The
-flight is the same for each tolerance: STEPS places along a smooth way, a view and its frame at
-each, one after the other. A cell has the median and the 95th percentile in milliseconds:
+MODEL is a stream, as `python3 benches/terrain.py 316 > terrain.obj` and `vdpm build` make one; or a
+number of cells a side, and then that terrain is made and built first:
+
+    python3 benches/measure_viewer.py 316 707
+
+measures over 200,000 faces and over a million. The flight is the same for each tolerance: STEPS
+places along a smooth way, a view and what it changes at each, one after the other. A cell has the
+median and the 95th percentile in milliseconds:
 
     view         until the program's reply to the view begins
-    frame        the frame's text, until the server has it
+    change       the text of what changed, until the server has it
     transfer     from the server to the page's worker
     read         the text into numbers
-    arrays       the numbers into what goes into textures, and what changed
+    take         the numbers into the mesh that is kept, and what becomes another in textures
     put          textures, as far as the page waits for them
     sum          from the camera to a front that can be drawn
 
@@ -19,7 +25,9 @@ scripts on their way as always. Nothing is drawn: that is the graphics processor
 headless browser draws by software.
 """
 import argparse
+import subprocess
 import sys
+import tempfile
 import threading
 import time
 from pathlib import Path
@@ -34,13 +42,13 @@ from viewer.model import model_of  # noqa: E402
 from viewer.server import Server  # noqa: E402
 from viewer.showing import Showing  # noqa: E402
 
-PARTS = ("view", "frameText", "transfer", "read", "arrays", "put")
+PARTS = ("view", "text", "transfer", "read", "take", "put")
 SECONDS_ROUND = 6
 READY = "globalThis.viewer && viewer.isSettled"
 UNDRAWN = "viewer.scene.renderer.draw = () => {}; viewer.scene.renderer.finish = () => {}; 0"
 # A flight over the middle of the model, looking down on it, in some places one after the other.
-FLY = """(async (steps, tolerance) => {
-  Object.assign(viewer.set, { tolerance, outline: tolerance, glide: true });
+FLY = """(async (steps, tolerance, judged) => {
+  Object.assign(viewer.set, { tolerance, outline: tolerance, judged, glide: true });
   const home = viewer.camera.copy(), r = viewer.radius, { views } = viewer;
   const until = (line) => new Promise((done) => {
     const look = () => (views.asked === line && views.isIdle ? done() : setTimeout(look));
@@ -58,8 +66,8 @@ FLY = """(async (steps, tolerance) => {
   viewer.change({ camera: home });
   return viewer.log.filter((entry) => "put" in entry);
 })"""
-CIRCLE = """((tolerance) => {
-  Object.assign(viewer.set, { tolerance, outline: tolerance, round: true });
+CIRCLE = """((tolerance, judged) => {
+  Object.assign(viewer.set, { tolerance, outline: tolerance, judged, round: true });
   Object.assign(viewer.camera, { distance: 0.6 * viewer.radius, pitch: 0.4 });
   viewer.moved();
 })"""
@@ -80,8 +88,8 @@ def times_of(front: Dict[str, Any]) -> Dict[str, float]:
     return {**parts, "sum": sum(parts.values())}
 
 
-def flight_row(browser: Browser, tolerance: float, steps: int) -> str:
-    fronts = browser.run(f"{FLY}({steps}, {tolerance})")[1:]
+def flight_row(browser: Browser, tolerance: float, asked: argparse.Namespace) -> str:
+    fronts = browser.run(f"{FLY}({asked.steps}, {tolerance}, '{asked.by}')")[1:]
     times = [times_of(front) for front in fronts]
     faces = at([front["faceCount"] for front in fronts], 0.5)
     kilobytes = at([front["times"]["bytes"] for front in fronts], 0.5) / 1024
@@ -91,8 +99,8 @@ def flight_row(browser: Browser, tolerance: float, steps: int) -> str:
     return f"| {' | '.join(counts + cells)} |"
 
 
-def fronts_a_second(browser: Browser, tolerance: float) -> float:
-    browser.run(f"{CIRCLE}({tolerance})")
+def fronts_a_second(browser: Browser, tolerance: float, judged: str) -> float:
+    browser.run(f"{CIRCLE}({tolerance}, '{judged}')")
     time.sleep(2)
     browser.run("viewer.log = []; 0")
     time.sleep(SECONDS_ROUND)
@@ -103,8 +111,9 @@ def fronts_a_second(browser: Browser, tolerance: float) -> float:
 
 def arguments() -> argparse.Namespace:
     parser = argparse.ArgumentParser(description="Measures the views of the window.")
-    parser.add_argument("model", type=Path)
+    parser.add_argument("models", nargs="+", metavar="MODEL")
     parser.add_argument("--program", type=Path, default=TOP / "vdpm")
+    parser.add_argument("--by", choices=["deviation", "distance"], default="deviation")
     parser.add_argument("--tolerances", type=float, nargs="*", default=[32, 16, 8])
     parser.add_argument("--steps", type=int, default=100)
     return parser.parse_args()
@@ -113,21 +122,22 @@ def arguments() -> argparse.Namespace:
 def measure(browser: Browser, asked: argparse.Namespace) -> None:
     browser.until(READY)
     browser.run(UNDRAWN)
-    print("| px | faces | moves | kB | view | frame | transfer | read | arrays | put | sum |")
+    print("| px | faces | moves | kB | view | change | transfer | read | take | put | sum |")
     print("|" + "---|" * 11)
     for tolerance in asked.tolerances:
-        print(flight_row(browser, tolerance, asked.steps), flush=True)
+        print(flight_row(browser, tolerance, asked), flush=True)
     for tolerance in asked.tolerances:
-        rate = fronts_a_second(browser, tolerance)
+        rate = fronts_a_second(browser, tolerance, asked.by)
         faces = browser.run("viewer.shown.faceCount")
         print(f"{tolerance:g} px, {faces:,} faces: {rate:.0f} fronts a second", flush=True)
     for complaint in browser.errors():
         print(complaint, file=sys.stderr)
 
 
-def main() -> None:
-    asked = arguments()
-    model = model_of(asked.model, programs_of(asked.program))
+def measure_model(path: Path, asked: argparse.Namespace) -> None:
+    """Serves a model to a browser of its own."""
+    model = model_of(path, programs_of(asked.program))
+    print(f"\n{model.name}, {model.faces:,} faces, by {asked.by}\n")
     server = Server(Showing(asked.program.resolve(), model))
     threading.Thread(target=server.serve_forever, daemon=True).start()
     browser = Browser(1280, 800)
@@ -137,7 +147,25 @@ def main() -> None:
     finally:
         browser.close()
         server.shutdown()
+        server.server_close()
         server.showing.close()
+
+
+def terrain(cells: str, folder: Path) -> Path:
+    """The file of a terrain, for a number of cells a side."""
+    path = folder / f"terrain-{cells}.obj"
+    with path.open("w", encoding="ascii") as out:
+        command = [sys.executable, str(TOP / "benches/terrain.py"), cells]
+        subprocess.run(command, stdout=out, check=True)
+    return path
+
+
+def main() -> None:
+    asked = arguments()
+    with tempfile.TemporaryDirectory() as folder:
+        for model in asked.models:
+            path = terrain(model, Path(folder)) if model.isdecimal() else Path(model)
+            measure_model(path, asked)
 
 
 if __name__ == "__main__":

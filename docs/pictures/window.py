@@ -23,7 +23,7 @@ LOOK = """(() => {
   const { camera } = viewer;
   camera.target = [900, -1100, 250];
   Object.assign(camera, { distance: 2900, yaw: 0.1, pitch: 0.4 });
-  tolerance.value = 16;
+  tolerance.value = 10;
   tolerance.dispatchEvent(new Event("input", { bubbles: true }));
   viewer.moved();
 })()"""
@@ -51,7 +51,7 @@ def main() -> None:
     model = model_of(TOP / "examples" / "asteroid.obj", programs_of(program))
     server = Server(Showing(program, model))
     threading.Thread(target=server.serve_forever, daemon=True).start()
-    page = Browser(1120, 660)
+    page = Browser(1120, 780)
     try:
         page.scheme("dark")
         page.go(server.address)

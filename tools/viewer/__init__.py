@@ -6,7 +6,7 @@
     model       from a file, stream or OBJ, to a stream that is ready to be looked at
     colours     the colours of an OBJ file's vertices
     manual      the cures that docs/COMMANDS.md has for faults
-    program     the child `vdpm view` over pipes
+    program     the child `vdpm live` over pipes
     showing     a model and its program, which may be started anew
     server      the page, and what it asks for
     websocket   the server's end of the line over which scripts come

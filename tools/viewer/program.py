@@ -42,8 +42,6 @@ _LINE = re.compile(
     rf"vd?(?: {_SIGNED}){{5}}{_PLANES}|vd?s(?: {_SIGNED}){{6}}{_PLANES}|p(?: {_SIGNED}){{6}}"
     rf"|b {_COUNT}|[wmdkl]"
 )
-# Lines of which `vdpm view` knows nothing, by how they begin.
-LIVE_WORDS = frozenset(("d", "l", "b", "vd", "vds"))
 _MARKING = ("d", "k")  # lines after which the front is marked
 _GOING_ON = ("d", "w")  # lines whose reply goes on to a line `end`
 _marks = itertools.count(1)
@@ -70,11 +68,6 @@ class Answer(NamedTuple):
     rest: float  # until all was read: mostly the text of a frame or of what changed
     before: int = 0  # the marked front when the script came
     after: int = 0  # the marked front now
-
-
-def is_live(script: str) -> bool:
-    """Whether a script has lines that `vdpm live` alone knows."""
-    return any(line.split(" ", 1)[0] in LIVE_WORDS for line in script.splitlines())
 
 
 def script_lines(text: str) -> List[str]:

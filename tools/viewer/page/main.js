@@ -43,7 +43,8 @@ class Viewer {
     this.work = new Work("worker.js");
     const failed = (fault) => this.fail(fault);
     this.views = new Views(this.work, ahead, { framed: (answer) => this.framed(answer), failed });
-    this.session = new Session(this.work, { told: (level) => this.sayLevel(level), failed });
+    const told = (level) => panel.sayLevel(level, this.about, this.hierarchy);
+    this.session = new Session(this.work, { told, failed });
   }
 
   async open() {
@@ -174,20 +175,14 @@ class Viewer {
   seen() { return { camera: this.camera.copy(), picture: this.picture() }; }
 
   say(now) {
-    const { shown, times, set } = this;
+    const { shown, times, set, hierarchy: { faces: all }, views: { left } } = this;
+    const { put, draw, draws, fronts } = times;
     times.said = now;
-    for (const ago of [times.draws, times.fronts]) while (ago[0] < now - 1000) ago.shift();
+    for (const ago of [draws, fronts]) while (ago[0] < now - 1000) ago.shift();
     const glides = now < this.glidesUntil ? "gliding" : "";
-    panel.sayCounters({
-      shown,
-      all: this.hierarchy.faces,
-      left: this.views.left,
-      put: times.put,
-      draw: times.draw,
-      pictures: times.draws.length,
-      fronts: times.fronts.length,
-      mark: set.freeze ? "refinement frozen: fly round it" : glides,
-    });
+    const mark = set.freeze ? "refinement frozen: fly round it" : glides;
+    const rates = { pictures: draws.length, fronts: fronts.length };
+    panel.sayCounters({ shown, all, left, put, draw, ...rates, mark });
     panel.sayHalves(set.beside, this.inputState);
   }
 
@@ -233,11 +228,6 @@ class Viewer {
       this.inputState = "unasked";
       this.fail(fault);
     }
-  }
-
-  sayLevel(level) {
-    panel.sayLevel(level, this.about, this.hierarchy);
-    this.wake();
   }
 
   fail({ reason, cure }) {

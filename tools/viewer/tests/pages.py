@@ -33,7 +33,9 @@ class Page(Case):
         self.page.scheme("dark")
         self.look_at(model("asteroid.obj"))
 
-    def look_at(self, looked_at: Model, budget: int = ALL_MOVES) -> None:
+    def look_at(self, looked_at: Model, budget: int = ALL_MOVES, drawn: float = 0.2) -> None:
+        """Loads the page of a model; so many pixels are drawn for each, as it is done by software
+        here."""
         self.server = self.served(looked_at, budget)
         self.answers: List[Answer] = []
         ask = self.server.showing.ask
@@ -44,7 +46,7 @@ class Page(Case):
 
         setattr(self.server.showing, "ask", noted)
         self.page.told.clear()
-        self.page.go(f"{self.server.address}?sharpness=0.2")  # it is drawn by software here
+        self.page.go(f"{self.server.address}?sharpness={drawn}")
         self.page.until(self.settled)
 
     def value(self, text: str) -> Any:

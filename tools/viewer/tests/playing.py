@@ -32,7 +32,7 @@ FLIGHT = TOP / "examples" / "asteroid_fronts.script"
 class Films(Page):
     """A film needs no server, so there is none but in the tests of models below."""
 
-    def look_at(self, looked_at: Model, budget: int = ALL_MOVES) -> None:
+    def look_at(self, looked_at: Model, budget: int = ALL_MOVES, drawn: float = 0.2) -> None:
         self.page.told.clear()
 
     def play(self, looked_at: Model, flight: bytes) -> List[int]:

@@ -11,11 +11,11 @@ import threading
 import time
 from contextlib import redirect_stderr
 from pathlib import Path
-from typing import Dict, List, Optional, Tuple
+from typing import Any, Dict, List, Optional, Tuple
 
 from browser import PATIENCE, Line
 from viewer.program import ALL_MOVES, Answer, replies_to
-from viewer.server import FILES, PAGE
+from viewer.server import FILES, PAGE, Server
 
 from .common import STREAM, TOP, Case, model, program
 
@@ -108,19 +108,32 @@ class Serving(Case):
         self.assertEqual(self.asked(f"{self.root}talk")[0], 400)
         self.assertEqual(self.asked(f"{self.root}start", "1" * 70000)[0], 413)
 
-    def test_a_page_that_is_left_amid_an_answer_is_let_go(self) -> None:
-        # More than the pipes between hold, so that the server still writes when the page goes.
-        long = Answer(b"-" * 50_000_000, 0.0, 0.0)
-        setattr(self.server.showing, "ask", lambda script: long)
-        said, gone = io.StringIO(), threading.Event()
-        done = self.server.shutdown_request
-        setattr(self.server, "shutdown_request", lambda end: (done(end), gone.set()))
-        with redirect_stderr(said):
-            line = Line(f"ws://{self.host}{self.root}talk", f"http://{self.host}")
+    def test_a_page_that_is_left_before_its_answer_is_let_go(self) -> None:
+        came, left, ended = threading.Event(), threading.Event(), threading.Event()
+        answers = iter((b"-" * 100, b"-" * 5_000_000))
+
+        def slow(script: str) -> Answer:
+            answer = next(answers)
+            if len(answer) > 100:
+                came.set()
+                left.wait(PATIENCE)
+            return Answer(answer, 0.0, 0.0)
+
+        def shut(request: Any) -> None:
+            Server.shutdown_request(self.server, request)
+            ended.set()
+
+        setattr(self.server.showing, "ask", slow)
+        setattr(self.server, "shutdown_request", shut)
+        with redirect_stderr(io.StringIO()) as said:
+            line = self.line()
             line.send("w\n")
-            self.assertEqual(len(line.bytes.read(1000)), 1000)
-            line.close()
-            self.assertTrue(gone.wait(PATIENCE))
+            line.send("w\n")
+            self.assertTrue(came.wait(PATIENCE))
+            line.close()  # with an answer unread, so that the other end is told at once
+            left.set()
+            self.assertTrue(ended.wait(PATIENCE))
+            time.sleep(0.1)
         self.assertEqual(said.getvalue(), "")
 
     def test_the_stream_and_the_input_are_there(self) -> None:

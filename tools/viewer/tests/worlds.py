@@ -7,6 +7,7 @@ import unittest
 from typing import Any, Dict, List
 
 from browser import PATIENCE, Line, found
+from frames import read_frames
 from viewer.program import BadScript
 from viewer.world import WORLD_PAGE, WorldHandler, WorldServer, showing_of
 from worlds.form import World
@@ -27,6 +28,15 @@ DRAWN = """(() => {
   };
   return drawn.flatMap(leaves).sort();
 })()"""
+
+# The faces of a mesh's textures by number, with the places of their corners.
+FACES = """({ faceCount, textures: { places, corners } }) => {
+  const faces = [], at = (n) => [...places.data.subarray(4 * n, 4 * n + 3)];
+  for (let i = 0; i < 4 * faceCount; i += 4) {
+    faces.push([corners.data[i + 3], [0, 1, 2].flatMap((j) => at(corners.data[i + j]))]);
+  }
+  return faces;
+}"""
 
 
 @needs_simplify
@@ -132,6 +142,27 @@ class Looking(WithWindow):
         self.look(300, -4)
         self.assertEqual(self.names("drawn"), sorted(leaves))
         self.assertEqual(self.page.errors(), [])
+
+    def test_what_is_drawn_of_a_tile_is_what_its_program_shows(self) -> None:
+        server = self.opened()
+        for distance, tolerance in ((900, 0), (300, 8), (500, -4), (900, 4)):
+            self.look(distance, tolerance)
+        for name in self.names("drawn"):
+            text = server.showing.ask(name, "w\n").text.decode()
+            [frame] = read_frames(text.splitlines())
+            wanted = {
+                number: [c for corner in face for c in frame.points[corner]]
+                for number, face in zip(frame.numbers, frame.faces)
+            }
+            mesh = f"viewer.renderer.meshes.get('{name}')"
+            self.assertEqual(dict(self.page.run(f"({FACES})({mesh})")), wanted)
+        # A tile whose program was ended and opened again begins with a whole frame.
+        server.showing.close()
+        self.look(700, 2)
+        self.assertEqual(self.page.errors(), [])
+        counts = self.page.run("viewer.tiles.counts")
+        asked = [server.showing.ask(name, "m\n").text.split() for name in self.names("drawn")]
+        self.assertEqual(sum(int(words[3]) for words in asked), counts["faces"])
 
     def test_with_little_memory_parents_stay_and_the_rest_is_closed(self) -> None:
         memory = 290 * 100
