@@ -100,12 +100,13 @@ def flight_row(browser: Browser, tolerance: float, asked: argparse.Namespace) ->
 
 
 def fronts_a_second(browser: Browser, tolerance: float, judged: str) -> float:
-    browser.run(f"{CIRCLE}({tolerance}, '{judged}')")
-    time.sleep(2)
+    browser.run(f"globalThis.before = viewer.fronts; {CIRCLE}({tolerance}, '{judged}')")
+    browser.until("viewer.fronts > before + 10")  # the way to the circle isn't a step of it
     browser.run("viewer.log = []; 0")
     time.sleep(SECONDS_ROUND)
     count = browser.run("viewer.log.filter((entry) => 'put' in entry).length")
     browser.run("viewer.set.round = false; 0")
+    browser.until("viewer.views.isIdle")
     return float(count) / SECONDS_ROUND
 
 

@@ -72,7 +72,8 @@ class Played(NamedTuple):
 def with_frames(script: str) -> Played:
     """A script that asks for a whole frame where the other asks for a change. `d` marks the front
     too, as `k` does."""
-    lines, numbers = [], []
+    lines: List[str] = []
+    numbers: List[int] = []
     for number, line in enumerate(script.splitlines(keepends=True), 1):
         for played in ("w\n", "k\n") if line.rstrip("\n") == "d" else (line,):
             lines.append(played)

@@ -90,6 +90,15 @@ export class KeptMesh {
     };
   }
 
+  // The mesh as a frame has it.
+  frame() {
+    const { corners, hierarchy: { places } } = this, rising = (a, b) => a - b;
+    const lineOf = (number, three) => [number, ...three.subarray(3 * number, 3 * number + 3)];
+    const lines = (shown, three) =>
+      Int32Array.from([...shown].sort(rising).flatMap((number) => lineOf(number, three)));
+    return { nodes: lines(this.nodes, places), faces: lines(this.faces, corners) };
+  }
+
   // Whether a face is there with these corners.
   stands(faces, i) {
     const { corners } = this, at = 3 * faces[i];
@@ -111,25 +120,24 @@ export class KeptMesh {
   }
 
   putFace(faces, i) {
-    const face = faces[i], at = 3 * face;
+    const { corners } = this, face = faces[i], at = 3 * face;
+    for (let corner = 1; corner <= 3; corner++) check(this.nodes.has(faces[i + corner]));
     if (!this.faces.has(face)) this.faces.add(face);
-    for (let corner = 0; corner < 3; corner++) {
-      check(this.nodes.has(faces[i + 1 + corner]));
-      this.corners[at + corner] = faces[i + 1 + corner];
-    }
+    corners[at] = faces[i + 1]; corners[at + 1] = faces[i + 2]; corners[at + 2] = faces[i + 3];
     this.shade(face, 1);
     this.touched.faces.add(this.faces.of[face]);
   }
 
   // Counts a face for its nodes and adds its normal to their sums, or takes both off.
   shade(face, sign) {
-    const { corners, normal, sums, hierarchy: { places } } = this, at = 3 * face;
-    putNormal(places, 3 * corners[at], 3 * corners[at + 1], 3 * corners[at + 2], normal);
-    for (let corner = at; corner < at + 3; corner++) {
-      addNormal(sums, 3 * corners[corner], normal, sign);
-      this.uses[corners[corner]] += sign;
-      this.touched.nodes.add(corners[corner]);
-    }
+    const { corners, normal, sums, uses, touched: { nodes }, hierarchy: { places } } = this;
+    const at = 3 * face, a = corners[at], b = corners[at + 1], c = corners[at + 2];
+    putNormal(places, 3 * a, 3 * b, 3 * c, normal);
+    addNormal(sums, 3 * a, normal, sign);
+    addNormal(sums, 3 * b, normal, sign);
+    addNormal(sums, 3 * c, normal, sign);
+    uses[a] += sign; uses[b] += sign; uses[c] += sign;
+    nodes.add(a); nodes.add(b); nodes.add(c);
   }
 
   // A node that comes starts where its elder, the ancestor that was shown before, is seen now. One
@@ -152,46 +160,54 @@ export class KeptMesh {
 
   // Cells of textures that become others, four numbers each.
   patch() {
-    const nodes = this.touched.nodes.numbers.filter((node) => this.nodes.has(node));
-    const slots = this.touched.faces.numbers.filter((slot) => slot < this.faces.size);
-    for (const touched of Object.values(this.touched)) touched.clear();
+    const { nodes, faces, touched, colours } = this;
+    const shown = touched.nodes.numbers.filter((node) => nodes.has(node));
+    const slots = touched.faces.numbers.filter((slot) => slot < faces.size);
+    touched.nodes.clear();
+    touched.faces.clear();
+    const cells = this.cells(shown);
+    if (colours !== null) cells.colours = this.coloursOf(shown);
     return {
-      nodeCount: this.nodes.size, faceCount: this.faces.size,
-      nodes: { slots: Int32Array.from(nodes, (node) => this.nodes.of[node]), ...this.cells(nodes) },
+      nodeCount: nodes.size, faceCount: faces.size,
+      nodes: { slots: Int32Array.from(shown.map((node) => nodes.of[node])), ...cells },
       faces: { slots: Int32Array.from(slots), corners: this.cornersAt(slots) },
     };
   }
 
+  // Places with depths, normals, and where and when glides began.
   cells(nodes) {
-    const { colours, starts, sums, hierarchy: { places, depths } } = this;
-    const cells = {
-      places: new Int16Array(4 * nodes.length),
-      normals: new Int16Array(4 * nodes.length),
-      starts: new Float32Array(4 * nodes.length),
-      ...(colours && { colours: new Uint8Array(4 * nodes.length) }),
-    };
-    nodes.forEach((node, i) => {
-      for (let axis = 0; axis < 3; axis++) cells.places[4 * i + axis] = places[3 * node + axis];
-      cells.places[4 * i + 3] = depths[node];
-      putUnit(sums, 3 * node, cells.normals, 4 * i);
-      for (let part = 0; part < 4; part++) {
-        cells.starts[4 * i + part] = starts[4 * node + part];
-        if (colours) cells.colours[4 * i + part] = colours[4 * node + part];
-      }
-    });
-    return cells;
+    const { sums, starts: from, hierarchy: { places: own, depths } } = this, size = 4 * nodes.length;
+    const places = new Int16Array(size), normals = new Int16Array(size);
+    const starts = new Float32Array(size);
+    for (let i = 0, at = 0; at < size; i++, at += 4) {
+      const node = nodes[i], place = 3 * node, start = 4 * node;
+      places[at] = own[place]; places[at + 1] = own[place + 1]; places[at + 2] = own[place + 2];
+      places[at + 3] = depths[node];
+      putUnit(sums, place, normals, at);
+      starts[at] = from[start]; starts[at + 1] = from[start + 1];
+      starts[at + 2] = from[start + 2]; starts[at + 3] = from[start + 3];
+    }
+    return { places, normals, starts };
+  }
+
+  coloursOf(nodes) {
+    const colours = new Uint8Array(4 * nodes.length);
+    for (let i = 0; i < nodes.length; i++) {
+      for (let part = 0; part < 4; part++) colours[4 * i + part] = this.colours[4 * nodes[i] + part];
+    }
+    return colours;
   }
 
   // The corners of the faces that stand there, by where their nodes stand, and the faces' numbers.
   cornersAt(slots) {
-    const cells = new Uint32Array(4 * slots.length);
-    slots.forEach((slot, i) => {
-      const face = this.faces.at[slot];
-      for (let part = 0; part < 3; part++) {
-        cells[4 * i + part] = this.nodes.of[this.corners[3 * face + part]];
-      }
-      cells[4 * i + 3] = face;
-    });
+    const { corners, faces, nodes: { of } } = this, cells = new Uint32Array(4 * slots.length);
+    for (let i = 0, to = 0; i < slots.length; i++, to += 4) {
+      const face = faces.at[slots[i]], from = 3 * face;
+      cells[to] = of[corners[from]];
+      cells[to + 1] = of[corners[from + 1]];
+      cells[to + 2] = of[corners[from + 2]];
+      cells[to + 3] = face;
+    }
     return cells;
   }
 }

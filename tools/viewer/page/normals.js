@@ -14,7 +14,9 @@ export function putNormal(places, a, b, c, normal) {
 }
 
 export function addNormal(sums, at, normal, sign) {
-  for (let axis = 0; axis < 3; axis++) sums[at + axis] += sign * normal[axis];
+  sums[at] += sign * normal[0];
+  sums[at + 1] += sign * normal[1];
+  sums[at + 2] += sign * normal[2];
 }
 
 // A sum, brought to one length.

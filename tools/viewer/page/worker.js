@@ -44,10 +44,7 @@ const tasks = {
   },
 
   // The mesh shown, as an OBJ text.
-  async obj() {
-    const { frame } = await talk("w\n");
-    return { text: objText(frame, hierarchy.digits) };
-  },
+  async obj() { return { text: objText(follower.mesh.frame(), hierarchy.digits) }; },
 };
 
 // The answer to a script, and where the time went, in milliseconds.

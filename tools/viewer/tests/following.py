@@ -51,11 +51,13 @@ def normals_of(frame: Frame) -> "Dict[int, Tuple[float, ...]]":
 
 
 class Following(Page):
-    def check(self, wholes: int) -> None:
-        """What is drawn is the front, and whole frames came so often."""
+    def check(self, wholes: int, most: int = 0) -> int:
+        """What is drawn is the front, and whole frames came so often, or up to `most` times; how
+        often is given."""
         self.settle()
         count = sum(a.text.count(b"frame ") for a in self.answers)
-        self.assertEqual(count, wholes)
+        self.assertGreaterEqual(count, wholes)
+        self.assertLessEqual(count, max(wholes, most))
         frame = self.whole()
         del self.answers[-1]
         normals = normals_of(frame)
@@ -71,6 +73,7 @@ class Following(Page):
             units = [part for corner in faces[number] for part in normals[corner]]
             for ours, theirs in zip(shaded, units):
                 self.assertLessEqual(abs(ours - theirs), 1)
+        return count
 
     def fly(self, steps: int = 12, milliseconds: int = 30) -> None:
         self.value(f"{FLY}({steps}, {milliseconds})")
@@ -113,13 +116,16 @@ class Following(Page):
         self.assertEqual(self.faces(), finest)
         self.assertGreater(finest, 4000)
 
+    # Two views may be on their way when the mesh is found to be out of step, and a whole frame then
+    # comes for each.
+
     def test_a_front_that_another_page_marked_is_found_out(self) -> None:
         self.server.showing.ask("vd 0 0 90000 1000 9\nd\n")
         self.fly(4)
-        self.check(2)
+        wholes = self.check(2, 3)
         self.server.showing.ask("k\n")
         self.page.key("ArrowLeft")
-        self.check(3)
+        self.check(wholes + 1, wholes + 2)
 
     def test_a_page_that_is_loaded_again_begins_with_a_whole_frame(self) -> None:
         self.fly(3)
@@ -129,8 +135,8 @@ class Following(Page):
         self.check(2)
 
     def test_a_change_that_does_not_fit_is_made_good(self) -> None:
-        ask = self.server.showing.ask
-        for wholes, word in enumerate((b"-f ", b"-v ", b"v ", b"f "), 2):
+        ask, wholes = self.server.showing.ask, 1
+        for tolerance, word in ((14, b"-f "), (8, b"-v "), (14, b"v "), (8, b"f ")):
 
             def spoilt(script: str) -> Answer:
                 answer = ask(script)
@@ -142,9 +148,9 @@ class Following(Page):
                 return answer._replace(text=b"".join(lines))
 
             setattr(self.server.showing, "ask", spoilt)
-            self.slide("tolerance", 8 + 6 * (wholes % 2))
+            self.slide("tolerance", tolerance)
             self.fly(2)
-            self.check(wholes)
+            wholes = self.check(wholes + 1, wholes + 2)
 
     def test_a_line_that_is_refused_leaves_nothing_out_of_step(self) -> None:
         refused = "viewer.work.ask({ task: 'view', line: 'q', glides: false })"

@@ -1,5 +1,6 @@
 """Films in a real browser, opened from a file; and models whose colours or places the page
 tells."""
+import re
 from typing import List
 
 from frames import read_frames
@@ -26,6 +27,8 @@ MOST_COLOURFUL = """(() => {
   }
   return most;
 })()"""
+# How many faces each frame of a film has.
+SIZES = "film.reel.changes.map((_, at) => { film.show(at); return film.reel.faces.size; })"
 FLIGHT = TOP / "examples" / "asteroid_fronts.script"
 
 
@@ -35,12 +38,14 @@ class Films(Page):
     def look_at(self, looked_at: Model, budget: int = ALL_MOVES, drawn: float = 0.2) -> None:
         self.page.told.clear()
 
-    def play(self, looked_at: Model, flight: bytes) -> List[int]:
-        """Opens the film of a flight, and gives how many faces the replies' frames have."""
-        page = film_page(program(), looked_at, flight, ALL_MOVES)
+    def open(self, page: str) -> None:
         path = self.written("film.html", page.encode())
         self.page.go(path.as_uri())
-        self.page.until("location.protocol === 'file:' && globalThis.film")
+        self.page.until(f"location.href === '{path.as_uri()}' && globalThis.film")
+
+    def play(self, looked_at: Model, flight: bytes) -> List[int]:
+        """Opens the film of a flight, and gives how many faces the replies' frames have."""
+        self.open(film_page(program(), looked_at, flight, ALL_MOVES))
         replies = replies_to(program(), looked_at.stream, flight).decode()
         return [len(frame.faces) for frame in read_frames(replies.splitlines())]
 
@@ -49,10 +54,7 @@ class Films(Page):
         self.page.until("film.plays === false")
         self.assertEqual(self.value("film.reel.at"), len(counts) - 1)
         self.assertEqual(self.text("faces-said"), f"{counts[-1]:,}")
-        shown = self.value(
-            "film.reel.changes.map((_, at) => { film.show(at); return film.reel.faces.size; })"
-        )
-        self.assertEqual(shown, counts)
+        self.assertEqual(self.value(SIZES), counts)
         self.value("film.show(0)")
         self.page.key(" ")
         self.page.until("film.reel.at > 0")
@@ -62,13 +64,24 @@ class Films(Page):
         self.assertAlmostEqual(self.value("film.camera.yaw"), before - 0.3)
         self.assertEqual(self.page.errors(), [])
 
+    def test_a_flight_by_changes_plays_too(self) -> None:
+        script = flight().replace(b"v ", b"vd ").replace(b"w\n", b"d\nl\n")
+        looked_at = model("asteroid.obj")
+        self.open(film_page(program(), looked_at, script, ALL_MOVES))
+        replies = replies_to(program(), looked_at.stream, script, command="live").decode()
+        lines = (line.split() for line in replies.splitlines())
+        counts = [int(words[2]) for words in lines if words[0] == "change"]
+        self.assertEqual(self.value(SIZES), counts)
+
     def test_the_camera_of_a_flight_is_found_in_its_planes(self) -> None:
-        self.play(model("asteroid.obj"), flight())
-        self.value("film.pause(), film.show(0)")
-        eye = [int(n) for n in flight().split()[1:4]]
-        for ours, theirs in zip(self.value("film.camera.eye()"), eye):
-            self.assertAlmostEqual(ours, theirs, delta=1)
-        self.assertTrue(self.value("film.opening > 0"))
+        outlined = re.sub(rb"^v ((?:\S+ ){4})(\S+)", rb"vds \1\2 \2", flight(), flags=re.M)
+        for script in (flight(), outlined):
+            self.open(film_page(program(), model("asteroid.obj"), script, ALL_MOVES))
+            self.value("film.pause(), film.show(0)")
+            eye = [int(n) for n in flight().split()[1:4]]
+            for ours, theirs in zip(self.value("film.camera.eye()"), eye):
+                self.assertAlmostEqual(ours, theirs, delta=1)
+            self.assertTrue(self.value("film.opening > 0"))
 
     def test_a_geomorph_moves_its_points(self) -> None:
         glide = (EXAMPLES / "asteroid_glide.script").read_bytes()
