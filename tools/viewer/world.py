@@ -18,8 +18,8 @@ from .server import Page as ServedPage
 
 WORLD_PAGE = Path(__file__).resolve().parent / "world_page"
 OWN_FILES = ("tiles.js", "tiling.js", "world.html", "world.js", "world_worker.js")
-# Measured: an open stream of 199,712 faces takes 57 MB of `vdpm view`, and one of 980,000 takes 272.
-# `vdpm live` has a number of 8 bytes more for each node, and there are as many nodes as faces.
+# Measured: `vdpm view` takes 57 MB for a stream of 199,712 faces, and 272 for one of 980,000.
+# `vdpm live` takes 8 bytes more for each node, and there are about as many nodes as faces.
 MEMORY_A_FACE = 300
 _HEAD = "tile "
 

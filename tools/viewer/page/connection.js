@@ -51,7 +51,8 @@ export class Connection {
       const { reason, cure } = JSON.parse(data);
       reject(new Fault(reason, cure));
     } else {
-      const [view, text] = new Float32Array(data, 0, 2), [before, after] = new Uint32Array(data, 8, 2);
+      const [view, text] = new Float32Array(data, 0, 2);
+      const [before, after] = new Uint32Array(data, 8, 2);
       const times = { view, text, transfer: milliseconds - view - text };
       resolve({ data: new Uint8Array(data, HEAD), times, before, after });
     }

@@ -51,9 +51,8 @@ class Viewer {
     try {
       const pageOrigin = performance.timeOrigin;
       const { about, hierarchy } = await this.work.ask({ task: "open", pageOrigin });
-      const { budget, startedWith } = about;
       Object.assign(this, { about, hierarchy });
-      Object.assign(this.session, { budget, startedWith });
+      this.session.began(about);
     } catch (fault) {
       this.fail(fault);
       return;
@@ -211,7 +210,8 @@ class Viewer {
     if (measures) this.scene.renderer.finish();
     this.times.put = performance.now() - begun;
     const { nodeCount, faceCount, changes } = patch;
-    if (this.set.glide && changes.nodesCome > 0) this.glidesUntil = begun + 1000 * GLIDE + GLIDES_ON;
+    const glides = this.set.glide && changes.nodesCome > 0;
+    if (glides) this.glidesUntil = begun + 1000 * GLIDE + GLIDES_ON;
     this.change({ shown: { nodeCount, faceCount, changes, moves, times } });
     this.times.fronts.push(begun);
     if (measures) this.log.push({ put: this.times.put, ...this.shown });

@@ -54,7 +54,9 @@ export class KeptMesh {
     for (let i = 0; i < nodes.length; i += 4) this.begin(nodes[i], now);
     for (const face of facesGone) this.removeFace(face);
     // The old normals of faces that turn are taken off while all their nodes are there.
-    for (let i = 0; i < faces.length; i += 4) if (this.faces.has(faces[i])) this.shade(faces[i], -1);
+    for (let i = 0; i < faces.length; i += 4) {
+      if (this.faces.has(faces[i])) this.shade(faces[i], -1);
+    }
     for (const node of nodesGone) {
       check(this.nodes.has(node));
       this.nodes.remove(node);
@@ -72,7 +74,8 @@ export class KeptMesh {
 
   // The change that leads to the mesh of a frame.
   changeTo({ nodes, faces }) {
-    const seenNodes = new Marked(this.nodes.of.length), seenFaces = new Marked(this.faces.of.length);
+    const seenNodes = new Marked(this.nodes.of.length);
+    const seenFaces = new Marked(this.faces.of.length);
     const nodesCome = [], facesCome = [];
     for (let i = 0; i < nodes.length; i += 4) {
       seenNodes.add(nodes[i]);
@@ -176,7 +179,8 @@ export class KeptMesh {
 
   // Places with depths, normals, and where and when glides began.
   cells(nodes) {
-    const { sums, starts: from, hierarchy: { places: own, depths } } = this, size = 4 * nodes.length;
+    const { sums, starts: from, hierarchy: { places: own, depths } } = this;
+    const size = 4 * nodes.length;
     const places = new Int16Array(size), normals = new Int16Array(size);
     const starts = new Float32Array(size);
     for (let i = 0, at = 0; at < size; i++, at += 4) {
@@ -192,9 +196,9 @@ export class KeptMesh {
 
   coloursOf(nodes) {
     const colours = new Uint8Array(4 * nodes.length);
-    for (let i = 0; i < nodes.length; i++) {
-      for (let part = 0; part < 4; part++) colours[4 * i + part] = this.colours[4 * nodes[i] + part];
-    }
+    nodes.forEach((node, i) => {
+      for (let part = 0; part < 4; part++) colours[4 * i + part] = this.colours[4 * node + part];
+    });
     return colours;
   }
 

@@ -1,6 +1,6 @@
-// Normals for smooth shading. A node's is the sum of those of its faces, each as long as its face is
-// large. Places are whole numbers, so sums of 64 bits are exact, and what was added can be taken off
-// again.
+// Normals for smooth shading. A node's is the sum of those of its faces, each as long as its face
+// is large. Places are whole numbers, so sums of 64 bits are exact, and what was added can be taken
+// off again.
 const LONGEST = 32767;
 
 // The normal of the face whose corners' places stand at a, b and c.

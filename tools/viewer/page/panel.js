@@ -1,4 +1,6 @@
 // The settings at the right and the counters at the left.
+import { coordinate } from "./obj.js";
+
 const part = (name) => document.getElementById(name);
 const counted = (n) => n.toLocaleString("en");
 const pixels = (n) => `${n < 10 ? Number(n.toFixed(2)) : Math.round(n)} px`;
@@ -119,13 +121,14 @@ export function sayCounters({ shown, all, left, put, draw, pictures, fronts, mar
 
 // What the program tells of the front, in lengths of the file that was built from.
 export function sayLevel([nodes, faces, split, error, deviation], { scale }, { digits }) {
-  const length = (units) => Number((scale ? scale.unit * units : units / 10 ** digits).toPrecision(4));
+  const length = (units) =>
+    (scale ? Number((scale.unit * units).toPrecision(6)) : coordinate(units, digits));
   const rows = [
     ["nodes", counted(nodes)],
     ["faces", counted(faces)],
     ["records split", counted(split)],
-    ["greatest error", `${length(error)}`],
-    ["greatest deviation", `${length(deviation)}`],
+    ["greatest error", length(error)],
+    ["greatest deviation", length(deviation)],
   ];
   part("level").replaceChildren(...rows.map(rowOf));
 }

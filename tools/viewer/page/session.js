@@ -14,6 +14,11 @@ export class Session {
     this.knownOf = 0;        // the front whose level of detail came last
   }
 
+  // The program runs with these budgets.
+  began({ budget, startedWith }) {
+    Object.assign(this, { budget, startedWith, ended: false });
+  }
+
   get isRunning() { return !this.starts && !this.ended; }
 
   // What a script that leaves the front as it is replies; null where the program has ended.
@@ -49,7 +54,7 @@ export class Session {
     try {
       const answer = await fetch("start", { method: "POST", body: String(budget) });
       if (!answer.ok) throw new Error(await answer.text());
-      Object.assign(this, { budget, startedWith: budget, ended: false });
+      this.began({ budget, startedWith: budget });
     } catch (fault) {
       this.failed({ reason: fault instanceof TypeError ? GONE : fault.message, cure: "" });
     }

@@ -1,5 +1,5 @@
-// Asks the program for the view of the camera, as often as answers come and never more: one is on its
-// way while the replies to the one before are read.
+// Asks the program for the view of the camera, as often as answers come and never more: one is on
+// its way while the replies to the one before are read.
 import { viewLine } from "./camera.js";
 
 const REST = 160;    // milliseconds without a move until the camera counts as at rest

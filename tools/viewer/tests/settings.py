@@ -71,7 +71,7 @@ class Detail(Page):
             words = self.server.showing.ask("l\n").text.decode().split()
             nodes, faces, split, error, deviation = (int(word) for word in words[1:])
             said = f"nodes{nodes:,}faces{faces:,}records split{split:,}"
-            said += f"greatest error{error / 10:g}greatest deviation{deviation / 10:g}"
+            said += f"greatest error{error / 10:.1f}greatest deviation{deviation / 10:.1f}"
             self.assertEqual(self.text("level"), said)
             self.assertEqual(faces, self.faces())
 
