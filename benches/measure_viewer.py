@@ -1,6 +1,6 @@
 """Flies over a model in a headless browser, and prints where the time of each view goes:
 
-    python3 benches/measure_viewer.py MODEL.. [--program PATH] [--by deviation|distance]
+    python3 benches/measure_viewer.py MODEL.. [--program PATH] [--by deviation distance]
         [--tolerances 32 16 8] [--steps 100]
 
 MODEL is a stream, as `python3 benches/terrain.py 316 > terrain.obj` and `vdpm build` make one; or a
@@ -43,9 +43,14 @@ from viewer.server import Server  # noqa: E402
 from viewer.showing import Showing  # noqa: E402
 
 PARTS = ("view", "text", "transfer", "read", "take", "put")
+JUDGED = ("deviation", "distance")
 SECONDS_ROUND = 6
 READY = "globalThis.viewer && viewer.isSettled"
-UNDRAWN = "viewer.scene.renderer.draw = () => {}; viewer.scene.renderer.finish = () => {}; 0"
+# Nothing is drawn, and no level of detail is asked for, as none is while a camera moves.
+BARE = (
+    "viewer.scene.renderer.draw = () => {}; viewer.scene.renderer.finish = () => {};"
+    " viewer.session.askLevel = () => {}; 0"
+)
 # A flight over the middle of the model, looking down on it, in some places one after the other.
 FLY = """(async (steps, tolerance, judged) => {
   Object.assign(viewer.set, { tolerance, outline: tolerance, judged, glide: true });
@@ -88,8 +93,8 @@ def times_of(front: Dict[str, Any]) -> Dict[str, float]:
     return {**parts, "sum": sum(parts.values())}
 
 
-def flight_row(browser: Browser, tolerance: float, asked: argparse.Namespace) -> str:
-    fronts = browser.run(f"{FLY}({asked.steps}, {tolerance}, '{asked.by}')")[1:]
+def flight_row(browser: Browser, tolerance: float, steps: int, judged: str) -> str:
+    fronts = browser.run(f"{FLY}({steps}, {tolerance}, '{judged}')")[1:]
     times = [times_of(front) for front in fronts]
     faces = at([front["faceCount"] for front in fronts], 0.5)
     kilobytes = at([front["times"]["bytes"] for front in fronts], 0.5) / 1024
@@ -114,37 +119,39 @@ def arguments() -> argparse.Namespace:
     parser = argparse.ArgumentParser(description="Measures the views of the window.")
     parser.add_argument("models", nargs="+", metavar="MODEL")
     parser.add_argument("--program", type=Path, default=TOP / "vdpm")
-    parser.add_argument("--by", choices=["deviation", "distance"], default="deviation")
+    parser.add_argument("--by", nargs="+", choices=JUDGED, default=JUDGED)
     parser.add_argument("--tolerances", type=float, nargs="*", default=[32, 16, 8])
     parser.add_argument("--steps", type=int, default=100)
     return parser.parse_args()
 
 
-def measure(browser: Browser, asked: argparse.Namespace) -> None:
-    browser.until(READY)
-    browser.run(UNDRAWN)
+def measure(browser: Browser, asked: argparse.Namespace, judged: str) -> None:
+    print(f"\nby {judged}\n")
     print("| px | faces | moves | kB | view | change | transfer | read | take | put | sum |")
     print("|" + "---|" * 11)
     for tolerance in asked.tolerances:
-        print(flight_row(browser, tolerance, asked), flush=True)
+        print(flight_row(browser, tolerance, asked.steps, judged), flush=True)
     for tolerance in asked.tolerances:
-        rate = fronts_a_second(browser, tolerance, asked.by)
+        rate = fronts_a_second(browser, tolerance, judged)
         faces = browser.run("viewer.shown.faceCount")
         print(f"{tolerance:g} px, {faces:,} faces: {rate:.0f} fronts a second", flush=True)
-    for complaint in browser.errors():
-        print(complaint, file=sys.stderr)
 
 
 def measure_model(path: Path, asked: argparse.Namespace) -> None:
     """Serves a model to a browser of its own."""
     model = model_of(path, programs_of(asked.program))
-    print(f"\n{model.name}, {model.faces:,} faces, by {asked.by}\n")
+    print(f"\n{model.name}, {model.faces:,} faces")
     server = Server(Showing(asked.program.resolve(), model))
     threading.Thread(target=server.serve_forever, daemon=True).start()
     browser = Browser(1280, 800)
     try:
         browser.go(f"{server.address}?measure&sharpness=0.05")
-        measure(browser, asked)
+        browser.until(READY)
+        browser.run(BARE)
+        for judged in asked.by:
+            measure(browser, asked, judged)
+        for complaint in browser.errors():
+            print(complaint, file=sys.stderr)
     finally:
         browser.close()
         server.shutdown()

@@ -8,7 +8,7 @@ const WHOLE = "w\nk\n", CHANGE = "d\n";
 export class Follower {
   // `talk` gives the answer to a script. `mark` is the number of the front whose mesh is kept.
   constructor(mesh, talk) {
-    Object.assign(this, { mesh, talk, mark: null, isAsked: false, wholes: 0 });
+    Object.assign(this, { mesh, talk, mark: null, isAsked: false });
   }
 
   // The answer to a view, and what it changes in textures. `clock` gives the seconds for glides, or
@@ -29,7 +29,6 @@ export class Follower {
   // Takes a frame or a change; null where the change doesn't lead from the mesh that is kept.
   taken({ frame, change, before, after }, clock) {
     if (!frame && before !== this.mark) return null;
-    if (frame) this.wholes++;
     try {
       const patch = this.mesh.take(frame ? this.mesh.changeTo(frame) : change, clock());
       this.mark = after;
