@@ -14,12 +14,14 @@ export class Follower {
   // The answer to a view, and what it changes in textures. `clock` gives the seconds for glides, or
   // null. Several views may be on their way.
   async view(line, clock) {
-    const script = `${line}\n${this.isAsked ? CHANGE : WHOLE}`;
+    const ending = this.isAsked ? CHANGE : WHOLE;
     this.isAsked = true; // the whole frame comes before the replies to what is sent from here on
     try {
-      const answer = await this.talk(script);
-      const patch = this.taken(answer, clock) ?? this.taken(await this.talk(WHOLE), clock);
-      return { ...answer, patch };
+      const answer = await this.talk(`${line}\n${ending}`), patch = this.taken(answer, clock);
+      if (patch !== null) return { ...answer, patch };
+      // The view is asked for again, since another page may have asked for others meanwhile.
+      const whole = await this.talk(`${line}\n${WHOLE}`);
+      return { ...whole, patch: this.taken(whole, clock) };
     } catch (fault) {
       this.isAsked = false;
       throw fault;

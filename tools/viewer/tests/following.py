@@ -4,9 +4,9 @@ import signal
 from typing import Dict, List, Tuple
 
 from frames import Frame
-from viewer.program import Answer
+from viewer.program import Answer, replies_to
 
-from .common import model
+from .common import model, program
 from .pages import Page
 
 # The faces of the textures by number: the places of their corners, and their nodes' normals.
@@ -126,6 +126,21 @@ class Following(Page):
         self.server.showing.ask("k\n")
         self.page.key("ArrowLeft")
         self.check(wholes + 1, wholes + 2)
+
+    def test_what_another_page_looks_at_is_not_shown(self) -> None:
+        ask = self.server.showing.ask
+
+        def disturbed(script: str) -> Answer:
+            ask("v 0 0 90000 1000 900\nd\n")
+            return ask(script)
+
+        setattr(self.server.showing, "ask", disturbed)
+        self.fly(4)
+        self.settle()
+        line = f"{self.asked()}\nm\n".encode()
+        told = replies_to(program(), model("asteroid.obj").stream, line, command="live")
+        self.assertEqual(int(told.split()[5]), self.faces())
+        self.assertEqual(len(self.value(DRAWN)), self.faces())
 
     def test_a_page_that_is_loaded_again_begins_with_a_whole_frame(self) -> None:
         self.fly(3)
