@@ -1,0 +1,66 @@
+//! The kept faces and their corners.
+ghost use Rattle.std.specs.Prelude.{◌≡◌, ◌+◌, ◌*◌, ◌≤◌, ◌<◌, ◌∷◌, [], ◌++◌, true, length, take};
+ghost use Rattle.pm_base.specs.Counts.{set_of};
+ghost use Rattle.pm_forest.specs.Faces.{face_count};
+ghost use Rattle.pm_forest.specs.Kept.{is_kept};
+ghost use Rattle.pm_front.specs.Shown.{kept_faces};
+ghost use Rattle.pm_arrays.specs.Arrays.{face_nodes, face_positions, node_array, position_array, ArePositions};
+
+use crate::store::{store, store_three};
+use pm_base::FaceId;
+use pm_front::Front;
+
+// The nodes at the corners of a kept face.
+fn corners_of(front: &Front, face: u32) -> [u32; 3]
+    requires there { face < face_count front.now.h }
+    requires kept { is_kept front.now.h (set_of front.now.flags) face ≡ true }
+    ensures { result ≡ face_nodes front.now.h (set_of front.now.flags) face }
+{
+    let face = FaceId(face);
+    let a = front.corner(face, 0);
+    let b = front.corner(face, 1);
+    let c = front.corner(face, 2);
+    [a.0, b.0, c.0]
+}
+
+// Where the nodes at the corners of a face stand.
+fn positions_at(front: &Front, positions: &[u32], _face: u32, nodes: [u32; 3]) -> [u32; 3]
+    requires positions { ArePositions front.now.h (set_of front.now.flags) positions.now }
+    requires there { _face < face_count front.now.h }
+    requires nodes { nodes ≡ face_nodes front.now.h (set_of front.now.flags) _face }
+    ensures { result ≡ face_positions front.now.h (set_of front.now.flags) _face }
+{
+    front.hierarchy().invariant();
+    let [a, b, c] = nodes;
+    [positions[a as usize], positions[b as usize], positions[c as usize]]
+}
+
+/// Writes the numbers of the kept faces into `faces`, ascending, and their corners, three for each face in its corner
+/// order: into `nodes` as nodes, and into `corners` by the positions of `positions`, which `write_nodes` has told of this
+/// front. The arrays have just that room. It costs a pass over all faces, and takes no memory.
+pub fn write_faces(
+    front: &Front,
+    positions: &[u32],
+    faces: &mut [u32],
+    corners: &mut [u32],
+    nodes: &mut [u32],
+)
+    requires positions { ArePositions front.now.h (set_of front.now.flags) positions.now }
+    requires faces_fit { length faces.old ≡ length (kept_faces front.now.h (set_of front.now.flags)) }
+    requires corners_fit { length corners.old ≡ 3 * length (kept_faces front.now.h (set_of front.now.flags)) }
+    requires nodes_fit { length nodes.old ≡ 3 * length (kept_faces front.now.h (set_of front.now.flags)) }
+    ensures faces { faces.new ≡ kept_faces front.now.h (set_of front.now.flags) }
+    ensures corners { corners.new ≡ position_array front.now.h (set_of front.now.flags) }
+    ensures nodes { nodes.new ≡ node_array front.now.h (set_of front.now.flags) }
+{
+    let mut count = 0usize;
+    for face in 0..front.hierarchy().faces() {
+        if front.is_kept(FaceId(face)) {
+            let at = corners_of(front, face);
+            store(faces, count, face);
+            store_three(nodes, count, at);
+            store_three(corners, count, positions_at(front, positions, face, at));
+            count += 1;
+        }
+    }
+}
