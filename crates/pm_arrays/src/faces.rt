@@ -32,7 +32,11 @@ fn positions_at(front: &Front, positions: &[u32], _face: u32, nodes: [u32; 3]) -
 {
     front.hierarchy().invariant();
     let [a, b, c] = nodes;
-    [positions[a as usize], positions[b as usize], positions[c as usize]]
+    [
+        positions[a as usize],
+        positions[b as usize],
+        positions[c as usize],
+    ]
 }
 
 /// Writes the numbers of the kept faces into `faces`, ascending, and their corners, three for each face in its corner
