@@ -33,6 +33,10 @@ module _ (m : Net) (v : ℕ) (xs : List ℕ) (are : AreCornersAt m v xs) where
   pub all_within : All (λ e. e < side_count m) xs
   all_within = λ k d l. (all_stand k d l).is_side
 
+-- No face holds a vertex twice.
+pub not_own_neighbour : (m : Net) (v : ℕ) → Joined m v v → ⊥
+not_own_neighbour m v j = elim j [ inl (e, r) ↦ r.stands.first (r.begins ∙ sym r.ends) | inr (e, r) ↦ r.stands.first (r.begins ∙ sym r.ends) ]
+
 -- A walk: what is left to see decides.
 
 module _ (p : ℕ → Bool) (all xs : List ℕ) (x : ℕ) (rest : List ℕ) (left : list_any p all ≡ list_any p xs) (steps : xs ≡ x ∷ rest) where
@@ -126,7 +130,7 @@ module _ (m : Net) (v : ℕ) (xs : List ℕ) (are : AreCornersAt m v xs) where
         ]),
   )
 
-border-test : (m : Net) (e : ℕ) → Stands m e → is_none (twin_of m e) ≡ true → IsBorderSide m e
+pub border-test : (m : Net) (e : ℕ) → Stands m e → is_none (twin_of m e) ≡ true → IsBorderSide m e
 border-test m e st t = record { stands = st; alone = twin-none m e (none_from (twin_of m e) t) }
 
 test-border : (m : Net) (e : ℕ) → IsBorderSide m e → is_none (twin_of m e) ≡ true

@@ -8,6 +8,7 @@ mod Started
 mod FanLaws
 pub mod ObstacleLaws
 mod BesideLaws
+mod BorderLaws
 mod ReaderLaws
 mod WriteLaws
 pub mod GoneLaws

@@ -32,6 +32,25 @@ impl Shrink {
         ensures after { (m : Mesh) (log : List Entry) → IsAfter m log self.old
             → IsAfter m (log ++ result ∷ []) self.new }
     {
+        let entry = self.merge(a, b, place);
+        self.note_merged(a, b, entry.left, entry.right);
+        entry
+    }
+
+    // The same, but that no border side is noted.
+    fn merge(&mut self, a: u32, b: u32, place: Point) -> Collapse
+        requires ordered { a < b }
+        requires legal { IsLegalPair self.old.surface a b place }
+        ensures manifold { IsOrientedManifold (net_at self.new) }
+        ensures surface { self.new.surface ≡ collapsed self.old.surface a b place }
+        ensures entry { result ≡ entry_of self.old.surface a b place }
+        ensures quadric { quadric_at self.new (next_vertex self.old.surface)
+            ≡ plus_sums (quadric_at self.old a) (quadric_at self.old b) }
+        ensures quadrics { (v : ℕ) → is_live_in self.new.surface v ≡ true → v ≢ next_vertex self.old.surface
+            → quadric_at self.new v ≡ quadric_at self.old v }
+        ensures after { (m : Mesh) (log : List Entry) → IsAfter m log self.old
+            → IsAfter m (log ++ result ∷ []) self.new }
+    {
         self.invariant();
         let left = self.gone(a, b);
         let right = self.gone(b, a);
@@ -56,7 +75,8 @@ impl Shrink {
 
     // The face in which p is followed by q, with what stands across its two other sides.
     fn gone(&self, p: u32, q: u32) -> Option<Gone>
-        requires { is_live_in self.now.surface p ≡ true }
+        requires p_live { is_live_in self.now.surface p ≡ true }
+        requires q_live { is_live_in self.now.surface q ≡ true }
         ensures { result ≡ gone_of (net_at self.now) p q }
     {
         self.invariant();

@@ -75,16 +75,22 @@ impl Shrink {
         self.is_border_side(corner) || self.is_border_side(corner.prev())
     }
 
-    // The side from p to q, if a face has one.
+    // The side from p to q, if a face has one. The corners at both are walked at once, so that the fewer ones decide.
     pub(crate) fn side_to(&self, p: u32, q: u32) -> Option<Side>
-        requires { is_live_in self.now.surface p ≡ true }
+        requires p_live { is_live_in self.now.surface p ≡ true }
+        requires q_live { is_live_in self.now.surface q ≡ true }
         ensures { option_map (λ s. s.0) result ≡ side_from_to (net_at self.now) p q }
     {
         self.invariant();
-        for number in self.corners_at(p) {
-            let corner = Side(number);
-            if self.to(corner) == q {
-                return Some(corner);
+        let mut at_p = self.corners_at(p);
+        let mut at_q = self.corners_at(q);
+        while let (Some(from_p), Some(from_q)) = (at_p.next(), at_q.next()) {
+            let (corner_p, corner_q) = (Side(from_p), Side(from_q));
+            if self.to(corner_p) == q {
+                return Some(corner_p);
+            }
+            if self.third(corner_q) == p {
+                return Some(corner_q.prev());
             }
         }
         None

@@ -70,6 +70,10 @@ impl Shrink {
         requires w_live { is_live_in self.now.surface w ≡ true }
         ensures { IsTrue result ↔ IsStray (net_at self.now) a b w }
     {
+        // One of the faces at a may hold b itself, which no walk over its corners finds beside it.
+        if b == w {
+            return false;
+        }
         self.is_joined(b, w) && !self.is_third(a, b, w)
     }
 
@@ -112,7 +116,8 @@ impl Shrink {
 
     // Whether some face has a side from p to q.
     fn has_side(&self, p: u32, q: u32) -> bool
-        requires { is_live_in self.now.surface p ≡ true }
+        requires p_live { is_live_in self.now.surface p ≡ true }
+        requires q_live { is_live_in self.now.surface q ≡ true }
         ensures { IsTrue result ↔ HasSide (net_at self.now) p q }
     {
         self.side_to(p, q).is_some()
@@ -138,7 +143,8 @@ impl Shrink {
 
     // Whether a face has a side from p to q, and nothing stands across any of its sides.
     pub(crate) fn is_alone_along(&self, p: u32, q: u32) -> bool
-        requires { is_live_in self.now.surface p ≡ true }
+        requires p_live { is_live_in self.now.surface p ≡ true }
+        requires q_live { is_live_in self.now.surface q ≡ true }
         ensures { IsTrue result ↔ IsAloneAlong (net_at self.now) p q }
     {
         self.invariant();

@@ -2,6 +2,7 @@
 #![tactic(auto)]
 
 mod beside;
+mod border;
 mod collapse;
 mod corners;
 mod faces;
@@ -9,6 +10,7 @@ mod fan;
 mod legal;
 mod quadrics;
 mod readers;
+mod rims;
 mod setup;
 mod shrink;
 mod tables;

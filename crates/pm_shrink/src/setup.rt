@@ -16,6 +16,7 @@ ghost use Rattle.pm_shrink.specs.Following.{IsAfter};
 use crate::Shrink;
 use crate::faces::FaceTable;
 use crate::quadrics::QuadricTable;
+use crate::rims::RimTable;
 use crate::shrink::OutOfMemory;
 use pm_base::{Mesh, Point, Side};
 use pm_links::Links;
@@ -34,6 +35,21 @@ impl Shrink {
             → quadric_at s v ≡ sums_of (planes_at (mesh_of mesh) v)) }
         ensures after { IfOk result (IsAfter (mesh_of mesh) []) }
     {
+        let mut shrink = Shrink::filled(alloc, mesh, twins)?;
+        shrink.note_all();
+        Ok(shrink)
+    }
+
+    // The same, but that no border side is noted.
+    fn filled(alloc: Global, mesh: Mesh, twins: Twins) -> Result<Shrink, OutOfMemory>
+        requires formed { IsWellFormed (mesh_of mesh) }
+        requires manifold { IsOrientedManifold (net_of mesh.faces.items) }
+        requires twins { IsTableOf (net_of mesh.faces.items) (length mesh.points.items) twins }
+        ensures surface { IfOk result (λ s. s.surface ≡ surface_of (mesh_of mesh)) }
+        ensures quadrics { IfOk result (λ s. (v : ℕ) → v < length mesh.points.items
+            → quadric_at s v ≡ sums_of (planes_at (mesh_of mesh) v)) }
+        ensures after { IfOk result (IsAfter (mesh_of mesh) []) }
+    {
         let triples = mesh.faces.as_slice();
         let points = mesh.points.as_slice();
         let room = 2 * points.len();
@@ -41,11 +57,13 @@ impl Shrink {
         let places = places_with_room(alloc, points, room)?;
         let quadrics = QuadricTable::new(alloc, points, triples, room)?;
         let corners = corner_lists(alloc, &faces, room)?;
+        let rims = RimTable::new(alloc, room)?;
         Ok(Shrink {
             faces,
             corners,
             places,
             quadrics,
+            rims,
             next: points.len() as u32,
             left: triples.len() as u32,
         })

@@ -1,6 +1,7 @@
 //! A surface that shrinks, collapse by collapse.
 use crate::faces::FaceTable;
 use crate::quadrics::QuadricTable;
+use crate::rims::RimTable;
 use pm_base::Point;
 use pm_links::Links;
 use std::alloc::AllocError;
@@ -23,6 +24,8 @@ pub struct Shrink {
     // The place of each live vertex; none where it was merged into another, or isn't made yet.
     pub(crate) places: Vec<Option<Point>>,
     pub(crate) quadrics: QuadricTable,
+    // A border side from each vertex, where one was noted that is still one.
+    pub(crate) rims: RimTable,
     // The number of the next vertex.
     pub(crate) next: u32,
     // How many faces are there.

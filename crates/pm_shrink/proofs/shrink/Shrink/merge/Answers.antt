@@ -21,17 +21,27 @@ use Rattle.pm_shrink.proofs.MergedTables.{length-relinked}
 use Rattle.pm_shrink.proofs.MergedQuadrics.{AreMerged}
 use Rattle.pm_shrink.proofs.MergedShrink.{IsWritten, first_low, second_low, next_low, left-count, few, done-quadrics, done-surface, done-shrink}
 use Rattle.pm_shrink.proofs.FollowingLaws.{collapse_after}
-use Rattle.pm_shrink.proofs.shrink.Shrink.collapse.Goals as goal
+use Rattle.pm_shrink.proofs.shrink.Shrink.merge.Goals as goal
 
-pub gone-left-requires : goal.gone-left-requires
-gone-left-requires c =
+pub gone-left-requires-clause-p_live : goal.gone-left-requires-clause-p_live
+gone-left-requires-clause-p_live c =
     let live = joined_live c.args.self.now.surface c.invariant.ensures.kept.surface c.args.a c.args.b c.requires.legal.joined in
     live.0
 
-pub gone-right-requires : goal.gone-right-requires
-gone-right-requires c =
+pub gone-left-requires-clause-q_live : goal.gone-left-requires-clause-q_live
+gone-left-requires-clause-q_live c =
     let live = joined_live c.args.self.now.surface c.invariant.ensures.kept.surface c.args.a c.args.b c.requires.legal.joined in
     live.1
+
+pub gone-right-requires-clause-p_live : goal.gone-right-requires-clause-p_live
+gone-right-requires-clause-p_live c =
+    let live = joined_live c.args.self.now.surface c.invariant.ensures.kept.surface c.args.a c.args.b c.requires.legal.joined in
+    live.1
+
+pub gone-right-requires-clause-q_live : goal.gone-right-requires-clause-q_live
+gone-right-requires-clause-q_live c =
+    let live = joined_live c.args.self.now.surface c.invariant.ensures.kept.surface c.args.a c.args.b c.requires.legal.joined in
+    live.0
 
 pub drop_face-requires-clause-face : goal.drop_face-requires-clause-face
 drop_face-requires-clause-face c =

@@ -11,7 +11,7 @@ use Rattle.pm_shrink.specs.Shrinking.{Shrinking}
 use Rattle.pm_shrink.specs.Tables.{side_from, shrinking_with}
 use Rattle.pm_shrink.proofs.FollowingLaws.{start_after}
 use Rattle.pm_shrink.proofs.Started.{twins_low, side_there, roomy_places, surface_there, started}
-use Rattle.pm_shrink.proofs.shrink.Shrink.new.Goals as goal
+use Rattle.pm_shrink.proofs.shrink.Shrink.filled.Goals as goal
 
 pub new-requires-clause-small : goal.new-requires-clause-small
 new-requires-clause-small c =
