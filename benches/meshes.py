@@ -2,8 +2,8 @@
 
     python3 meshes.py KIND SIZE > mesh.obj
 
-KIND is grid, ramp, sphere, cylinder, cone, block or towers; SIZE is the number of cells or segments
-along one way.
+KIND is grid, ramp, sphere, cylinder, cone, block, towers or a fan (see FANS); SIZE is the number of
+cells or segments along one way.
 """
 import sys
 from math import cos, pi, sin
@@ -88,6 +88,74 @@ def cone(n):
     return points, faces
 
 
+def rough(points, most):
+    """The points, each moved by at most so much along each axis."""
+
+    def moved(k, value):
+        return value + (k * k * 37 + k * 101) % (2 * most + 1) - most
+
+    return [(moved(3 * k, x), moved(3 * k + 1, y), moved(3 * k + 2, z)) for k, (x, y, z) in enumerate(points)]
+
+
+def fan(tip, rim):
+    """Faces round a tip, with the rim for a border."""
+    n = len(rim)
+    return [tip] + rim, [(0, 1 + i, 1 + (i + 1) % n) for i in range(n)]
+
+
+def open_cone(n):
+    """A cone of n faces without a bottom: the rim is a border."""
+    return fan((0, 0, 10000), circle(n, 0))
+
+
+def rough_cone(n):
+    """The same with a rough rim."""
+    return fan((0, 0, 10000), rough(circle(n, 0), 300))
+
+
+def disc(n):
+    """A flat fan of n faces, whose rim is a border."""
+    return fan((0, 0, 0), circle(n, 0))
+
+
+def rough_disc(n):
+    """The same with a rough rim, so that it isn't flat."""
+    return fan((0, 0, 0), rough(circle(n, 0), 30))
+
+
+def half_cone(n):
+    """An open cone cut in two: its tip is on the border, too."""
+    rim = [(round(20000 * cos(pi * i / n)), round(20000 * sin(pi * i / n)), 0) for i in range(n + 1)]
+    return [(0, 0, 10000)] + rim, [(0, 1 + i, 2 + i) for i in range(n)]
+
+
+def double_cone(n):
+    """A closed double cone of n faces."""
+    return cone(n // 2)
+
+
+def hubs(n):
+    """A square with a border, of four by four cells that are fans: some n faces in all."""
+    m = n // 64
+    step, number, points, faces = 15000 // m, {}, [], []
+
+    def at(x, y):
+        if (x, y) not in number:
+            number[(x, y)] = len(points)
+            points.append((x, y, (x * 7 + y * 13) % 31))
+        return number[(x, y)]
+
+    side = m * step
+    for left in range(-2 * side, 2 * side, side):
+        for low in range(-2 * side, 2 * side, side):
+            steps = range(0, side, step)
+            ring = [at(left + d, low) for d in steps] + [at(left + side, low + d) for d in steps]
+            ring += [at(left + side - d, low + side) for d in steps] + [at(left, low + side - d) for d in steps]
+            middle = at(left + side // 2 + 1, low + side // 2 + 1)
+            faces += [(middle, ring[i], ring[(i + 1) % len(ring)]) for i in range(len(ring))]
+    return points, faces
+
+
 def block(n):
     """A closed part with flat sides: a cube of n by n cells a side, with a boss on its top."""
     step = 40000 // n
@@ -128,7 +196,19 @@ def towers(n):
     return [raised(k, *p) for k, p in enumerate(points)], faces
 
 
+# Fans of many faces round one vertex. SIZE is the number of faces.
+FANS = {
+    "open_cone": open_cone,
+    "rough_cone": rough_cone,
+    "half_cone": half_cone,
+    "double_cone": double_cone,
+    "disc": disc,
+    "rough_disc": rough_disc,
+    "hubs": hubs,
+}
+
 KINDS = {
+    **FANS,
     "grid": grid,
     "ramp": ramp,
     "sphere": sphere,
