@@ -1,5 +1,5 @@
 //! Border sides by the vertex that they run from.
-ghost use Rattle.std.specs.Prelude.{◌≡◌, ◌<◌, IfOk, IfSome, length};
+ghost use Rattle.std.specs.Prelude.{◌<◌};
 ghost use Rattle.pm_base.specs.declared.limits.TheConstants.{MOST_SIDES};
 
 use crate::shrink::OutOfMemory;
