@@ -10,3 +10,5 @@ pub mod JoinLaws
 pub mod Shortening
 pub mod Flags
 pub mod TurnMore
+pub mod SameTurns
+pub mod TurnsThere

@@ -3,3 +3,4 @@ pub mod Turning
 pub mod TurnLaws
 pub mod Unions
 pub mod UnionLaws
+pub mod AnyLaws

@@ -2,12 +2,14 @@
 //! them share, and of each patch the faces that are turned.
 #![tactic(auto)]
 
+mod any;
 mod edges;
 mod patches;
 mod sides;
 mod theory;
 mod turning;
 
+pub use any::any_turns_are_sound;
 pub use edges::side_mates;
 use std::alloc::AllocError;
 pub use theory::{turns_are_sound, unions_are_sound};
