@@ -20,13 +20,18 @@ class Preparing(unittest.TestCase):
         notes = f"prepare: polygons cut 1\nprepare: {head}prepare: {near}"
         self.assertEqual(answer("prepare", ["10"], text), (0, f"# {head}{mesh}".encode(), notes))
 
-    def test_two_faces_turned_against_each_other_are_cut_apart(self) -> None:
+    def test_of_two_faces_turned_against_each_other_the_second_is_turned(self) -> None:
         text = (THREE + "v 0 -10 0\nf 1 2 3\nf 1 2 4\n").encode()
         done = answer("prepare", [], text)
-        self.assertIn(b"f 1 3 5\nf 2 4 6\n", done.output)
-        account = "prepare: vertices 4 in, 6 out; triangles 2 in, 2 out\n"
-        cut = "prepare: sides cut open 2\nprepare: vertices split off 2\n"
-        self.assertEqual(done.error, account + cut)
+        self.assertIn(b"f 1 2 3\nf 1 4 2\n", done.output)
+        self.assertEqual(done.error, "prepare: faces turned 1\n")
+
+    def test_of_a_moebius_strip_no_face_is_turned(self) -> None:
+        points = "v 0 0 0\nv 10 0 0\nv 20 0 0\nv 30 0 0\nv 40 0 10\n"
+        faces = "f 1 2 3\nf 2 4 3\nf 3 4 5\nf 4 1 5\nf 5 1 2\n"
+        done = answer("prepare", [], (points + faces).encode())
+        self.assertNotIn("turned", done.error)
+        self.assertIn("prepare: sides cut open 2\n", done.error)
 
     def test_of_lines_that_go_together_the_first_is_named(self) -> None:
         done = answer("prepare", [], b"v 0 0 0\nv 1 \\\n2 \\\nx\n")

@@ -1,7 +1,7 @@
 """What `prepare` makes of a text: points brought onto the grid, an oriented manifold, and notes."""
-from collections import Counter
+from collections import Counter, defaultdict
 from fractions import Fraction
-from typing import Dict, List, NamedTuple, Optional, Tuple
+from typing import Dict, FrozenSet, List, NamedTuple, Optional, Tuple
 
 from .commands import number_of_word
 from .faults import Answer, Fault, failed, not_understood
@@ -101,6 +101,49 @@ def kept(faces: List[Corners]) -> List[Corners]:
     return stay
 
 
+def neighbours(faces: List[Corners]) -> Dict[int, List[Tuple[int, bool]]]:
+    """Beside each face those with which it alone shares an edge, and whether both run the same way
+    along it."""
+    at: Dict[FrozenSet[int], List[Tuple[int, int]]] = defaultdict(list)
+    for face, (a, b, c) in enumerate(faces):
+        for p, q in ((a, b), (b, c), (c, a)):
+            at[frozenset((p, q))].append((face, p))
+    beside: Dict[int, List[Tuple[int, bool]]] = {face: [] for face in range(len(faces))}
+    for both in at.values():
+        if len(both) == 2:
+            (one, p), (other, q) = both
+            beside[one].append((other, p == q))
+            beside[other].append((one, p == q))
+    return beside
+
+
+def turned_flags(faces: List[Corners]) -> List[bool]:
+    """Which faces are turned round so that neighbours agree: a flood from the least face of each
+    patch, which stays. Of a patch of which that can't be had none is."""
+    beside = neighbours(faces)
+    parity: Dict[int, bool] = {}
+    flags = [False] * len(faces)
+    for first in range(len(faces)):
+        if first in parity:
+            continue
+        parity[first] = False
+        patch = [first]
+        for face in patch:
+            for other, clash in beside[face]:
+                if other not in parity:
+                    parity[other] = parity[face] != clash
+                    patch.append(other)
+        if all(parity[g] == (parity[f] != clash) for f in patch for g, clash in beside[f]):
+            for face in patch:
+                flags[face] = parity[face]
+    return flags
+
+
+def turned(faces: List[Corners], flags: List[bool]) -> List[Corners]:
+    """The flagged faces the other way round; their first corner stays."""
+    return [(a, c, b) if flag else (a, b, c) for (a, b, c), flag in zip(faces, flags)]
+
+
 def runs(faces: Faces) -> "Counter[Tuple[int, int]]":
     """How many sides run from one vertex to another."""
     return Counter(ends(faces, side) for side in sides(faces))
@@ -175,7 +218,8 @@ def prepared(soup: Soup, size: Optional[int]) -> Prepared:
     names = joined(places)
     renamed = [(names[a], names[b], names[c]) for a, b, c in three]
     stay = kept(renamed)
-    faces = numbered(stay)
+    flags = turned_flags(stay)
+    faces = numbered(turned(stay, flags))
     fans = split(faces)
     new = {side: vertex for vertex, fan in enumerate(fans) for side in fan}
     points = [places[ends(faces, fan[0])[0]] for fan in fans]
@@ -188,6 +232,7 @@ def prepared(soup: Soup, size: Optional[int]) -> Prepared:
         ("faces that name a vertex twice", len(soup.faces) - len(three)),
         ("faces that became edges", flat),
         ("faces that stand twice", len(renamed) - flat - len(stay)),
+        ("faces turned", sum(flags)),
         ("sides cut open", len(cut_sides(faces))),
         ("vertices split off", len(fans) - len(used)),
         ("vertices that no face has", len(soup.points) - len(named)),

@@ -12,6 +12,8 @@ use Rattle.pm_base.specs.Counts.{count}
 use Rattle.pm_base.proofs.Counts.{count-true, count-false, count-zero, count_same, count_more}
 use Rattle.pm_base.proofs.NetLaws.{face_at, first_side, second_side, third_side}
 use Rattle.pm_fans.specs.Kept.{is_corner, kept_after, kept_of}
+use Rattle.pm_turn.specs.Turning.{turned_by}
+use Rattle.pm_turn.proofs.TurnedFaces.{turned_length}
 use Rattle.obj_prepare.specs.declared.notes.Notes.{Notes}
 use Rattle.obj_prepare.specs.Named.{is_some_corner, AreVerticesBelow}
 use Rattle.obj_prepare.specs.Joining.{place_in_list, renamed, joined_faces}
@@ -20,6 +22,7 @@ use Rattle.obj_prepare.specs.Laws.{DoAccountsClose, AccountsClose}
 use Rattle.obj_prepare.proofs.CountLaws.{count_both}
 use Rattle.obj_prepare.proofs.KeptCounts.{kept_and_flat}
 use Rattle.obj_prepare.proofs.PieceLaws.{named_low, kept_after_all}
+use Rattle.obj_prepare.proofs.TurnedLaws.{some_corner_turned}
 
 and_false : (b : Bool) → (b && false) ≡ false
 and_false true = refl
@@ -348,7 +351,7 @@ module _ (places : List Place) (faces : List Corners) (m : Mesh)
         arith,
         count_has p.old n,
         count_more (is_some_corner stay) (has p.old) n (λ v l is.
-            let b = begins stay v is in
+            let b = begins (turned_by p.flags stay) v (some_corner_turned p.flags stay v ∙ is) in
             has_at p.old ((net_of m.faces).from b.side) v (p.split.within b.side b.low)
             (p.split.back b.side b.low ∙ b.at)),
       )
@@ -368,14 +371,14 @@ module _ (places : List Place) (faces : List Corners) (m : Mesh)
         | inr f ↦ rw f (and_false (is_some_corner faces v && is_own v))
       ])
 
-  pub close : (notes : Notes) → AreNotes places faces p.names p.old notes
+  pub close : (notes : Notes) → AreNotes places faces p.names p.flags p.old notes
       → DoAccountsClose (length places) (length faces) m notes
   unfolding flat_count double_count kept_of joined_count unnamed_count gone_count split_count
   close notes a =
       let n = length p.names in
       let joined_long = length-map faces (renamed p.names) in
       let kept = kept_and_flat [] (joined_faces p.names faces) in
-      let stay_long = p.split.split.faces in
+      let stay_long = p.split.split.faces ∙ turned_length p.flags stay in
       let named = count_both (is_some_corner faces) n in
       let own = count_parted (is_some_corner faces) is_own n in
       let there = count_parted (λ v. is_some_corner faces v && is_own v) (is_some_corner stay) n in

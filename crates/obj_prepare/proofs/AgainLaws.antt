@@ -1,6 +1,6 @@
 -- Preparing again changes nothing: each new vertex goes to the first one of its old vertex, which changes no side's twins,
 -- and the order stays.
-use Rattle.std.proofs.Common.{◌≡◌, ◌≢◌, ℕ, zero, suc, ◌+◌, ◌*◌, ◌/◌, ◌%◌, ◌<◌, ◌==◌, cond, true, List, [], ◌∷◌, length, get_or, map, inl, inr, refl, sym, ap, ◌∙◌, subst, arith}
+use Rattle.std.proofs.Common.{◌≡◌, ◌≢◌, ℕ, zero, suc, ◌+◌, ◌*◌, ◌/◌, ◌%◌, ◌<◌, ◌==◌, cond, true, List, [], ◌∷◌, length, get_or, map, inl, inr, refl, sym, ap, ◌∙◌, subst, Bool, arith}
 use Rattle.std.specs.List.{All}
 use Rattle.std.proofs.lemmas.Bool.{cases_eq, cases_order, cond-true, cond-false, eq-eqb, ne_eqb, true≢false}
 use Rattle.std.proofs.lemmas.List.{length-map, get_or-map, ext_get_or}
@@ -11,14 +11,21 @@ use Rattle.pm_base.specs.Meshes.{Mesh}
 use Rattle.pm_base.specs.Sides.{Net, net_of, side_count, no_corners}
 use Rattle.pm_base.proofs.NetLaws.{face_at, first_side, second_side, third_side}
 use Rattle.pm_fans.specs.Kept.{kept_of}
+use Rattle.pm_fans.specs.Splits.{AllStand}
 use Rattle.pm_fans.specs.Orders.{IsSplitMesh}
 use Rattle.pm_fans.proofs.KeptLaws.{kept_are_fit}
-use Rattle.pm_fans.proofs.KeptAgain.{kept_again, renumbered, kept_renumbered}
+use Rattle.pm_fans.proofs.KeptAgain.{renumbered, kept_renumbered}
 use Rattle.pm_fans.proofs.SameEnds.{from_renumbered, same_ends, new_rise, split_there}
+use Rattle.pm_turn.specs.Turning.{turned_by, AreTurns}
+use Rattle.pm_turn.proofs.TurnedFaces.{turned_faces_stay}
+use Rattle.pm_turn.proofs.TurnedAgain.{turned_faces_are_turned_once}
+use Rattle.pm_turn.proofs.SameTurns.{turns_before}
+use Rattle.pm_turn.proofs.TurnsThere.{turns_are_there}
 use Rattle.obj_prepare.specs.Named.{is_some_corner, AreVerticesBelow}
 use Rattle.obj_prepare.specs.Joining.{place_in_list, IsFirstAt, AreJoined, renamed, joined_faces}
-use Rattle.obj_prepare.specs.Prepared.{staying, IsPrepared}
+use Rattle.obj_prepare.specs.Prepared.{staying, turned_count, IsPrepared}
 use Rattle.obj_prepare.proofs.PieceLaws.{named_low, corners_named, kept_after_all, corner_in_has}
+use Rattle.obj_prepare.proofs.TurnedLaws.{turned_all, turned_stand, turned_renumbered, none_turned}
 
 -- Where a number stands first in a list. Others get numbers of their own, past the list's end, so no two get one.
 abbrev first_in : List ℕ → ℕ → ℕ
@@ -110,25 +117,34 @@ module _ (places : List Place) (faces : List Corners) where
     unfolding kept_of
     kept_own = kept_after_all AreOwn [] (joined_faces names faces) (All-nil AreOwn) all_own
 
-    side_own : (e : ℕ) → e < side_count (net_of (staying names faces)) → IsOwn ((net_of (staying names faces)).from e)
-    side_own e l =
-        let are = All-get_or AreOwn (staying names faces) (e / 3) no_corners (omega arith) kept_own in
-        corner_in_has IsOwn (face_at (staying names faces) (e / 3)) (e % 3) are.a are.b are.c
+    side_own : (flags : List Bool) (e : ℕ)
+        → e < side_count (net_of (turned_by flags (staying names faces)))
+        → IsOwn ((net_of (turned_by flags (staying names faces))).from e)
+    side_own flags e l =
+        let fs = turned_by flags (staying names faces) in
+        let own = turned_all AreOwn (λ f are. record { a = are.a; b = are.c; c = are.b }) flags
+        (staying names faces) kept_own in
+        let are = All-get_or AreOwn fs (e / 3) no_corners (omega arith) own in
+        corner_in_has IsOwn (face_at fs (e / 3)) (e % 3) are.a are.b are.c
 
 module _ (places : List Place) (faces : List Corners) (m : Mesh) (within : All (AreVerticesBelow (length places)) faces) (p : IsPrepared places faces m) where
-  abbrev kept : List Corners
-  kept = staying p.names faces
+  -- The faces that stay, as turned.
+  abbrev turned : List Corners
+  turned = turned_by p.flags (staying p.names faces)
+
+  turned_fit : AllStand (net_of turned)
+  turned_fit = turned_stand p.flags (joined_faces p.names faces)
 
   abbrev new : Net
   new = net_of m.faces
 
-  old_side : (v : ℕ) → v < length p.old → (e : ℕ) × (e < side_count (net_of kept)) × (new.from e ≡ v)
+  old_side : (v : ℕ) → v < length p.old → (e : ℕ) × (e < side_count (net_of turned)) × (new.from e ≡ v)
   old_side v l = let (e, t, at) = p.split.used v l in (e, subst (λ k. e < 3 * k) p.split.split.faces t.is_side, at)
 
   old_own : (v : ℕ) → v < length p.old → IsOwn places faces (get_or p.old v 0)
   old_own v l =
       let (e, low, at) = old_side v l in
-      subst (IsOwn places faces) (sym (p.split.back e low) ∙ ap (λ i. get_or p.old i 0) at) (side_own places faces p.names within p.joined e low)
+      subst (IsOwn places faces) (sym (p.split.back e low) ∙ ap (λ i. get_or p.old i 0) at) (side_own places faces p.names within p.joined p.flags e low)
 
   -- The first new vertex of an old one, and of each new vertex the first one of its old one.
   abbrev first : ℕ → ℕ
@@ -171,41 +187,41 @@ module _ (places : List Place) (faces : List Corners) (m : Mesh) (within : All (
     others = λ v l out. absurd (true≢false (sym (all_named v (omega (arith, points_long, l))) ∙ out));
   }
 
-  -- The faces of the mesh over its joined vertices are the kept faces under other numbers.
-  side_again : (e : ℕ) → e < side_count (net_of kept) → get_or firsts (new.from e) 0 ≡ first ((net_of kept).from e)
+  -- The faces of the mesh over its joined vertices are the turned faces under other numbers.
+  side_again : (e : ℕ) → e < side_count (net_of turned) → get_or firsts (new.from e) 0 ≡ first ((net_of turned).from e)
   side_again e l = firsts_at (new.from e) (p.split.within e l) ∙ ap first (p.split.back e l)
 
-  face_again : (i : ℕ) → i < length kept → renamed firsts (face_at m.faces i) ≡ renumbered first (face_at kept i)
+  face_again : (i : ℕ) → i < length turned → renamed firsts (face_at m.faces i) ≡ renumbered first (face_at turned i)
   face_again i l =
-      let a = ap (λ v. get_or firsts v 0) (sym (first_side m.faces i).0) ∙ side_again (3 * i) (omega arith) ∙ ap first (first_side kept i).0 in
-      let b = ap (λ v. get_or firsts v 0) (sym (second_side m.faces i).0) ∙ side_again (3 * i + 1) (omega arith) ∙ ap first (second_side kept i).0 in
-      let c = ap (λ v. get_or firsts v 0) (sym (third_side m.faces i).0) ∙ side_again (3 * i + 2) (omega arith) ∙ ap first (third_side kept i).0 in
+      let a = ap (λ v. get_or firsts v 0) (sym (first_side m.faces i).0) ∙ side_again (3 * i) (omega arith) ∙ ap first (first_side turned i).0 in
+      let b = ap (λ v. get_or firsts v 0) (sym (second_side m.faces i).0) ∙ side_again (3 * i + 1) (omega arith) ∙ ap first (second_side turned i).0 in
+      let c = ap (λ v. get_or firsts v 0) (sym (third_side m.faces i).0) ∙ side_again (3 * i + 2) (omega arith) ∙ ap first (third_side turned i).0 in
       rw (a, b, c) refl
 
-  faces_again : joined_faces firsts m.faces ≡ map (renumbered first) kept
-  faces_again = ext_get_or no_corners (joined_faces firsts m.faces) (map (renumbered first) kept) (length-map m.faces (renamed firsts) ∙ p.split.split.faces ∙ sym (length-map kept (renumbered first))) (λ i l.
+  faces_again : joined_faces firsts m.faces ≡ map (renumbered first) turned
+  faces_again = ext_get_or no_corners (joined_faces firsts m.faces) (map (renumbered first) turned) (length-map m.faces (renamed firsts) ∙ p.split.split.faces ∙ sym (length-map turned (renumbered first))) (λ i l.
       let low : i < length m.faces = omega (arith, length-map m.faces (renamed firsts), l) in
-      let in_kept : i < length kept = omega (arith, p.split.split.faces, low) in
-      get_or-map (renamed firsts) m.faces i no_corners no_corners low ∙ face_again i in_kept ∙ sym (get_or-map (renumbered first) kept i no_corners no_corners in_kept))
+      let in_turned : i < length turned = omega (arith, p.split.split.faces, low) in
+      get_or-map (renamed firsts) m.faces i no_corners no_corners low ∙ face_again i in_turned ∙ sym (get_or-map (renumbered first) turned i no_corners no_corners in_turned))
 
-  kept_same : staying firsts m.faces ≡ map (renumbered first) kept
+  kept_same : staying firsts m.faces ≡ map (renumbered first) turned
   kept_same =
-      ap kept_of faces_again ∙ kept_renumbered first (firsts_apart p.old) kept ∙ ap (map (renumbered first)) (kept_again (joined_faces p.names faces))
+      ap kept_of faces_again ∙ kept_renumbered first (firsts_apart p.old) turned ∙ ap (map (renumbered first)) (turned_faces_stay p.flags (joined_faces p.names faces))
 
-  first_old : (e : ℕ) → e < side_count (net_of kept) → (first ((net_of kept).from e) < length p.old) × (get_or p.old (first ((net_of kept).from e)) 0 ≡ (net_of kept).from e)
-  first_old e l = first_found p.old (new.from e) ((net_of kept).from e) (p.split.within e l) (p.split.back e l)
+  first_old : (e : ℕ) → e < side_count (net_of turned) → (first ((net_of turned).from e) < length p.old) × (get_or p.old (first ((net_of turned).from e)) 0 ≡ (net_of turned).from e)
+  first_old e l = first_found p.old (new.from e) ((net_of turned).from e) (p.split.within e l) (p.split.back e l)
 
-  rises : (e g : ℕ) → e < side_count (net_of kept) → g < side_count (net_of kept) → (net_of kept).from e < (net_of kept).from g → (net_of (map (renumbered first) kept)).from e < (net_of (map (renumbered first) kept)).from g
+  rises : (e g : ℕ) → e < side_count (net_of turned) → g < side_count (net_of turned) → (net_of turned).from e < (net_of turned).from g → (net_of (map (renumbered first) turned)).from e < (net_of (map (renumbered first) turned)).from g
   rises e g el gl less =
       let (low_e, is_e) = first_old e el in
       let (low_g, is_g) = first_old g gl in
-      let up = new_rise (net_of kept) m.faces p.old (kept_are_fit (joined_faces p.names faces)).0 p.split _ _ low_e low_g (omega (arith, is_e, is_g, less)) in
-      omega (arith, up, from_renumbered first kept e el, from_renumbered first kept g gl)
+      let up = new_rise (net_of turned) m.faces p.old turned_fit p.split _ _ low_e low_g (omega (arith, is_e, is_g, less)) in
+      omega (arith, up, from_renumbered first turned e el, from_renumbered first turned g gl)
 
-  split_again : IsSplitMesh (net_of (map (renumbered first) kept)) m.faces firsts
+  split_again : IsSplitMesh (net_of (map (renumbered first) turned)) m.faces firsts
   split_again =
-      split_there (net_of kept) m.faces p.old (kept_are_fit (joined_faces p.names faces)).0 p.split (net_of (map (renumbered first) kept)) (same_ends first (firsts_apart p.old) kept) rises firsts (length-map p.old first)
-      (λ e l. side_again e l ∙ sym (from_renumbered first kept e l))
+      split_there (net_of turned) m.faces p.old turned_fit p.split (net_of (map (renumbered first) turned)) (same_ends first (firsts_apart p.old) turned) rises firsts (length-map p.old first)
+      (λ e l. side_again e l ∙ sym (from_renumbered first turned e l))
 
   stand_again : m.points ≡ map (place_in_list m.points) firsts
   stand_again = ext_get_or origin m.points (map (place_in_list m.points) firsts) (points_long ∙ sym (length-map p.old first) ∙ sym (length-map firsts (place_in_list m.points))) (λ v l.
@@ -220,11 +236,40 @@ module _ (places : List Place) (faces : List Corners) (m : Mesh) (within : All (
       let named = (old_own v low).named in
       (get_or p.old v 0, named_low (length places) faces (get_or p.old v 0) within named, named, place_new v low)
 
+  -- Of these faces none is turned.
+  again : (flags : List Bool) × AreTurns (net_of (map (renumbered first) turned)) flags
+  again = turns_are_there (net_of (map (renumbered first) turned))
+
+  turns_of_turned : AreTurns (net_of turned) again.0
+  turns_of_turned =
+      turns_before (net_of turned) (net_of (map (renumbered first) turned))
+      (same_ends first (firsts_apart p.old) turned) again.0 again.1
+
+  turned_same : turned_by again.0 (map (renumbered first) turned) ≡ map (renumbered first) turned
+  turned_same =
+      turned_renumbered first again.0 turned
+      ∙ ap (map (renumbered first))
+      (turned_faces_are_turned_once (joined_faces p.names faces) p.flags again.0
+      p.turns.agreeing turns_of_turned)
+
   pub prepared_again : IsPrepared m.points m.faces m
   prepared_again = record {
     names = firsts;
     joined = joined_again;
+    flags = again.0;
+    turns = subst (λ (fs : List Corners). AreTurns (net_of fs) again.0) (sym kept_same) again.1;
     old = firsts;
-    split = subst (λ (fs : List Corners). IsSplitMesh (net_of fs) m.faces firsts) (sym kept_same) split_again;
+    split = subst
+        (λ (fs : List Corners). IsSplitMesh (net_of (turned_by again.0 fs)) m.faces firsts)
+        (sym kept_same)
+        (subst (λ (fs : List Corners). IsSplitMesh (net_of fs) m.faces firsts) (sym turned_same)
+        split_again);
     stand = stand_again;
   }
+
+  pub none_turned_again : turned_count prepared_again.flags ≡ 0
+  unfolding prepared_again
+  none_turned_again =
+      none_turned again.0 (map (renumbered first) turned) again.1.agreeing.long
+      (subst (λ (fs : List Corners). AllStand (net_of fs)) kept_same
+      (kept_are_fit (joined_faces firsts m.faces)).0) turned_same

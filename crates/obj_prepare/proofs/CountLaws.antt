@@ -9,10 +9,11 @@ use Rattle.pm_base.specs.Counts.{count}
 use Rattle.pm_base.proofs.Counts.{count-true, count-false, count-zero, count_same}
 use Rattle.pm_fans.specs.Kept.{is_flat}
 use Rattle.pm_fans.specs.Cuts.{cut_count}
+use Rattle.pm_turn.specs.Turning.{turned_by}
 use Rattle.obj_prepare.specs.Named.{is_some_corner, named_in}
 use Rattle.obj_prepare.specs.Joining.{joined_faces}
 use Rattle.obj_prepare.proofs.NamedLaws.{length-named_in, named_at}
-use Rattle.obj_prepare.specs.Prepared.{staying, joined_count, flat_count, double_count, unnamed_count, split_count, gone_count}
+use Rattle.obj_prepare.specs.Prepared.{staying, joined_count, flat_count, double_count, turned_count, unnamed_count, split_count, gone_count}
 use Rattle.obj_prepare.specs.Pieces.{set_below, joined_below, gone_below}
 
 -- One more number is counted, or not.
@@ -109,8 +110,13 @@ pub counted_double : (faces stay : List Corners) (names : List ℕ) (flat n : �
 unfolding double_count
 counted_double faces stay names flat n flat_is stay_is is = is ∙ ap (λ f. length faces - f - length stay) flat_is ∙ ap (λ (fs : List Corners). length faces - flat_count names faces - length fs) stay_is
 
-pub counted_cut : (faces stay again : List Corners) (names : List ℕ) (n : ℕ) → stay ≡ staying names faces → again ≡ stay → n ≡ cut_count (net_of again) → n ≡ cut_count (net_of (staying names faces))
-counted_cut faces stay again names n stay_is same is = is ∙ ap (λ (fs : List Corners). cut_count (net_of fs)) (same ∙ stay_is)
+pub counted_turned : (flags lent : List Bool) (n : ℕ) → lent ≡ flags → n ≡ set_below lent (length lent) → n ≡ turned_count flags
+unfolding turned_count set_below
+counted_turned flags lent n same is = is ∙ ap turned_count same
+
+pub counted_cut : (faces stay turned again : List Corners) (names : List ℕ) (flags : List Bool) (n : ℕ) → stay ≡ staying names faces → turned ≡ turned_by flags stay → again ≡ turned → n ≡ cut_count (net_of again)
+    → n ≡ cut_count (net_of (turned_by flags (staying names faces)))
+counted_cut faces stay turned again names flags n stay_is turned_is same is = is ∙ ap (λ (fs : List Corners). cut_count (net_of fs)) (same ∙ turned_is ∙ ap (turned_by flags) stay_is)
 
 -- How many flags are set of the vertices that a face names.
 counted_set : (fs : List Corners) (flags lent : List Bool) (vertices n : ℕ) → flags ≡ named_in fs vertices → lent ≡ flags → n ≡ set_below lent (length lent) → n ≡ count (is_some_corner fs) vertices

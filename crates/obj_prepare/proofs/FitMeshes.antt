@@ -15,6 +15,9 @@ use Rattle.pm_fans.specs.Kept.{kept_of}
 use Rattle.pm_fans.proofs.Turned.{side_turned}
 use Rattle.pm_fans.proofs.Staying.{manifolds_stay}
 use Rattle.pm_fans.proofs.OwnSplit.{manifolds_are_their_own_split}
+use Rattle.pm_turn.specs.Turning.{turned_by, AreTurns}
+use Rattle.pm_turn.proofs.TurnedFaces.{manifolds_are_not_turned}
+use Rattle.pm_turn.proofs.TurnsThere.{turns_are_there}
 use Rattle.obj_prepare.specs.Named.{AreVerticesBelow, IsWithinMesh}
 use Rattle.obj_prepare.specs.Joining.{place_in_list, AreJoined, renamed, joined_faces}
 use Rattle.obj_prepare.specs.Prepared.{IsPrepared}
@@ -75,12 +78,18 @@ begins_low n fs all e l =
 pub fit_meshes_stay : (places : List Place) (faces : List Corners) → IsWithinMesh (length places) faces → AllStand (net_of faces) → IsOrientedManifold (net_of faces) → AreFit places faces → IsPrepared places faces (record { points = places; faces = faces })
 fit_meshes_stay places faces within stand is fit =
     let n : ℕ = length places in
-    let stay : kept_of (joined_faces (own n) faces) ≡ faces = ap kept_of (own_faces n faces within.corners) ∙ manifolds_stay faces stand is in
+    let same : kept_of (joined_faces (own n) faces) ≡ faces = ap kept_of (own_faces n faces within.corners) ∙ manifolds_stay faces stand is in
+    let (flags, turns) = turns_are_there (net_of faces) in
+    let untouched : turned_by flags faces ≡ faces = manifolds_are_not_turned faces flags stand is turns in
     let split = manifolds_are_their_own_split faces n is (begins_low n faces within.corners) fit.used in
+    let split_turned : IsSplitMesh (net_of (turned_by flags faces)) faces (own n) =
+    subst (λ (fs : List Corners). IsSplitMesh (net_of fs) faces (own n)) (sym untouched) split in
     record {
       names = own n;
       joined = own_joined places faces fit;
+      flags = flags;
+      turns = subst (λ (fs : List Corners). AreTurns (net_of fs) flags) (sym same) turns;
       old = own n;
-      split = subst (λ (fs : List Corners). IsSplitMesh (net_of fs) faces (own n)) (sym stay) split;
+      split = subst (λ (fs : List Corners). IsSplitMesh (net_of (turned_by flags fs)) faces (own n)) (sym same) split_turned;
       stand = sym (own_places places);
     }

@@ -1,5 +1,5 @@
 -- Two meshes that are prepared of one input are the same, and so are the numbers of what was done.
-use Rattle.std.proofs.Common.{◌≡◌, ℕ, ◌<◌, inl, inr, sym, ap, ◌∙◌, subst, List, length, map}
+use Rattle.std.proofs.Common.{◌≡◌, ℕ, ◌<◌, inl, inr, sym, ap, ◌∙◌, subst, Bool, List, length, map}
 use Rattle.std.specs.Prelude.{slice_index_or}
 use Rattle.std.proofs.lemmas.Bool.{cases_Bool, cases_order}
 use Rattle.std.proofs.lemmas.Grind.{same_number_lists}
@@ -9,12 +9,14 @@ use Rattle.pm_base.specs.Meshes.{Mesh}
 use Rattle.pm_base.specs.Sides.{net_of}
 use Rattle.pm_fans.specs.Orders.{IsSplitMesh}
 use Rattle.pm_fans.specs.Cuts.{cut_count}
-use Rattle.pm_fans.proofs.KeptLaws.{kept_are_fit}
 use Rattle.pm_fans.proofs.OneSplit.{splits_are_one}
+use Rattle.pm_turn.specs.Turning.{turned_by, AreTurns}
+use Rattle.pm_turn.proofs.TurnedFaces.{turns_are_one}
 use Rattle.obj_prepare.specs.declared.notes.Notes.{Notes}
 use Rattle.obj_prepare.specs.Named.{is_some_corner}
 use Rattle.obj_prepare.specs.Joining.{place_in_list, IsFirstAt, AreJoined, joined_faces}
-use Rattle.obj_prepare.specs.Prepared.{staying, IsPrepared, joined_count, flat_count, double_count, split_count, gone_count, IsPreparedWith}
+use Rattle.obj_prepare.specs.Prepared.{staying, IsPrepared, joined_count, flat_count, double_count, turned_count, split_count, gone_count, IsPreparedWith}
+use Rattle.obj_prepare.proofs.TurnedLaws.{turned_stand}
 
 module _ (places : List Place) (faces : List Corners) where
   -- Of two first vertices at a place neither is before the other.
@@ -39,15 +41,21 @@ module _ (places : List Place) (faces : List Corners) where
 -- The lists of which one mesh is made are those of which another one is.
 record AreSame {places : List Place} {faces : List Corners} {m n : Mesh} (p : IsPrepared places faces m) (q : IsPrepared places faces n) : Type 0 where
   names : p.names ≡ q.names
+  flags : p.flags ≡ q.flags
   faces_same : m.faces ≡ n.faces
   old : p.old ≡ q.old
 
 are_same : (places : List Place) (faces : List Corners) (m n : Mesh) (p : IsPrepared places faces m) (q : IsPrepared places faces n) → AreSame p q
 are_same places faces m n p q =
     let same = names_are_one places faces p.names q.names p.joined q.joined in
-    let split : IsSplitMesh (net_of (staying p.names faces)) n.faces q.old = subst (λ (names : List ℕ). IsSplitMesh (net_of (staying names faces)) n.faces q.old) (sym same) q.split in
-    let (fs, old) = splits_are_one (net_of (staying p.names faces)) m.faces n.faces p.old q.old (kept_are_fit (joined_faces p.names faces)).0 p.split split in
-    record { names = same; faces_same = fs; old = old }
+    let turns : AreTurns (net_of (staying p.names faces)) q.flags = subst (λ (names : List ℕ). AreTurns (net_of (staying names faces)) q.flags) (sym same) q.turns in
+    let flags = turns_are_one (net_of (staying p.names faces)) p.flags q.flags p.turns turns in
+    let named : IsSplitMesh (net_of (turned_by q.flags (staying p.names faces))) n.faces q.old =
+    subst (λ (names : List ℕ). IsSplitMesh (net_of (turned_by q.flags (staying names faces))) n.faces q.old) (sym same) q.split in
+    let split : IsSplitMesh (net_of (turned_by p.flags (staying p.names faces))) n.faces q.old =
+    subst (λ (bs : List Bool). IsSplitMesh (net_of (turned_by bs (staying p.names faces))) n.faces q.old) (sym flags) named in
+    let (fs, old) = splits_are_one (net_of (turned_by p.flags (staying p.names faces))) m.faces n.faces p.old q.old (turned_stand p.flags (joined_faces p.names faces)) p.split split in
+    record { names = same; flags = flags; faces_same = fs; old = old }
 
 pub prepared_are_one : (places : List Place) (faces : List Corners) (m n : Mesh) → IsPrepared places faces m → IsPrepared places faces n → m ≡ n
 prepared_are_one places faces m n p q =
@@ -63,7 +71,9 @@ notes_are_one places faces m n notes others (p, a) (q, b) =
     let joined = a.joined ∙ ap (λ names. joined_count names faces) s.names ∙ sym b.joined in
     let flat = a.flat ∙ ap (λ names. flat_count names faces) s.names ∙ sym b.flat in
     let double = a.double ∙ ap (λ names. double_count names faces) s.names ∙ sym b.double in
-    let cut = a.cut ∙ ap (λ names. cut_count (net_of (staying names faces))) s.names ∙ sym b.cut in
+    let turned = a.turned ∙ ap turned_count s.flags ∙ sym b.turned in
+    let cut = a.cut ∙ ap (λ names. cut_count (net_of (turned_by p.flags (staying names faces)))) s.names
+    ∙ ap (λ (bs : List Bool). cut_count (net_of (turned_by bs (staying q.names faces)))) s.flags ∙ sym b.cut in
     let split = a.split ∙ ap (λ names. split_count names faces p.old) s.names ∙ ap (split_count q.names faces) s.old ∙ sym b.split in
     let unnamed = a.unnamed ∙ sym b.unnamed in
     let gone = a.gone ∙ ap (λ names. gone_count names faces) s.names ∙ sym b.gone in
@@ -71,6 +81,7 @@ notes_are_one places faces m n notes others (p, a) (q, b) =
       joined = joined i;
       flat = flat i;
       double = double i;
+      turned = turned i;
       cut = cut i;
       split = split i;
       unnamed = unnamed i;

@@ -8,6 +8,8 @@ pub struct Notes {
     pub flat: u32,
     /// Triangles whose three corners are those of an earlier one.
     pub double: u32,
+    /// Triangles that were turned round.
+    pub turned: u32,
     /// Sides along which the surface was cut open.
     pub cut: u32,
     /// New vertices, beyond those that the triangles had which stayed.

@@ -8,6 +8,7 @@ use Rattle.pm_base.specs.Meshes.{Mesh, IsFace, IsWellFormed}
 use Rattle.pm_base.specs.Sides.{net_of}
 use Rattle.pm_base.specs.Fans.{IsUsed, IsOrientedManifold}
 use Rattle.pm_fans.specs.Cuts.{cut_count}
+use Rattle.pm_turn.specs.Turning.{turned_by}
 use Rattle.obj_read.specs.Meaning.{Refused, meaning_of}
 use Rattle.obj_scan.specs.Judged.{Scanned}
 use Rattle.obj_scan.specs.Meaning.{scan_meaning_of}
@@ -19,8 +20,8 @@ use Rattle.obj_prepare.specs.declared.placing.Fit.TheVariants as fits
 use Rattle.obj_prepare.specs.Named.{AreVerticesBelow, of_three}
 use Rattle.obj_prepare.specs.Joining.{place_in_list}
 use Rattle.obj_prepare.specs.Placing.{IsSize, fit_of, prepared_places_of}
-use Rattle.obj_prepare.specs.Prepared.{staying, joined_count, flat_count, double_count, unnamed_count, split_count, gone_count, IsPrepared, IsPreparedWith}
-use Rattle.obj_prepare.proofs.AgainLaws.{prepared_again}
+use Rattle.obj_prepare.specs.Prepared.{staying, joined_count, flat_count, double_count, turned_count, unnamed_count, split_count, gone_count, IsPrepared, IsPreparedWith}
+use Rattle.obj_prepare.proofs.AgainLaws.{prepared_again, none_turned_again}
 use Rattle.obj_prepare.proofs.PlacingLaws.{length-places_of}
 use Rattle.obj_prepare.proofs.ThreeLaws.{three_all, three_of_mesh}
 use Rattle.prepare.specs.declared.fault.Fault.{Fault}
@@ -38,7 +39,8 @@ numbers m p = record {
   joined = joined_count p.names m.faces;
   flat = flat_count p.names m.faces;
   double = double_count p.names m.faces;
-  cut = cut_count (net_of (staying p.names m.faces));
+  turned = turned_count p.flags;
+  cut = cut_count (net_of (turned_by p.flags (staying p.names m.faces)));
   split = split_count p.names m.faces p.old;
   unnamed = unnamed_count (length m.points) m.faces;
   gone = gone_count p.names m.faces;
@@ -52,6 +54,7 @@ numbered m p = (
     joined = refl;
     flat = refl;
     double = refl;
+    turned = refl;
     cut = refl;
     split = refl;
     unnamed = refl;
@@ -110,8 +113,8 @@ made_comes_back size bytes s done is means k read =
     let corners = three_all (AreVerticesBelow (length s.points)) s.faces
     (meaning_sound bytes s means).scanning.within.corners in
     let long : length s.points ≡ length places = sym (length-places_of size s.points three) in
-    let again = prepared_again places three m
-    (subst (λ n. All (AreVerticesBelow n) three) long corners) p in
+    let low = subst (λ n. All (AreVerticesBelow n) three) long corners in
+    let again = prepared_again places three m low p in
     let count : length m.points ≡ length p.old = ap length p.stand ∙ length-map p.old (place_in_list places) in
     let used : (v : ℕ) → v < length m.points → IsUsed (net_of m.faces) v = λ v l. p.split.used v (omega (arith, count, l)) in
     let told = numbered m again in
@@ -121,6 +124,7 @@ made_comes_back size bytes s done is means k read =
       split = split_as_joined m used again (corners_of (length m.points) m.faces k.formed.corners);
       flat = none_flat m used again;
       double = none_double m used again;
+      turned = none_turned_again places three m low p;
       unnamed = none_unnamed m used again;
       outcome = made (scanned_mesh m) (standing_done m (numbers m again))
           (read_scanned done.text m (made_formed size bytes s done is means k) read)

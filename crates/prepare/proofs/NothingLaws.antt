@@ -1,5 +1,5 @@
 -- Where nothing needs to be done, nothing is told: all numbers are 0.
-use Rattle.std.proofs.Common.{◌≡◌, ℕ, zero, suc, ◌<◌, ◌≤◌, Bool, true, false, not, ◌&&◌, ◌==◌, ◌*◌, None, nat_lt, nat_le, inl, inr, refl, sym, ap, ◌∙◌, List, [], ◌∷◌, ◌++◌, length, get_or, arith}
+use Rattle.std.proofs.Common.{◌≡◌, ℕ, zero, suc, ◌<◌, ◌≤◌, Bool, true, false, not, ◌&&◌, ◌==◌, ◌*◌, None, nat_lt, nat_le, inl, inr, refl, sym, ap, ◌∙◌, subst, List, [], ◌∷◌, ◌++◌, length, get_or, arith}
 use Rattle.std.specs.Prelude.{codes}
 use Rattle.std.specs.List.{All}
 use Rattle.std.proofs.lemmas.Bool.{cases_eq, cases_Bool, and_parts, eq-eqb, eqb-true, le-ltb, or_from, true≢false}
@@ -13,7 +13,11 @@ use Rattle.pm_base.specs.Counts.{count}
 use Rattle.pm_base.proofs.Counts.{count-true, count-false, count-zero}
 use Rattle.pm_base.proofs.TwinLaws.{stands-true}
 use Rattle.pm_fans.specs.Cuts.{side_runs, is_cut, cut_count}
+use Rattle.pm_fans.specs.Splits.{AllStand}
 use Rattle.pm_fans.proofs.CutLaws.{count_none}
+use Rattle.pm_fans.proofs.KeptLaws.{kept_are_fit}
+use Rattle.pm_turn.specs.Turning.{turned_by, AreTurns}
+use Rattle.pm_turn.proofs.TurnedFaces.{manifolds_are_not_turned}
 use Rattle.obj_prepare.specs.declared.notes.Notes.{Notes}
 use Rattle.obj_prepare.specs.declared.placing.Fit.{Fit}
 use Rattle.obj_prepare.specs.declared.placing.Fit.TheVariants as fits
@@ -25,6 +29,7 @@ use Rattle.obj_prepare.specs.Joining.{renamed, joined_faces}
 use Rattle.obj_prepare.specs.Prepared.{staying, IsPrepared, joined_count, AreNotes}
 use Rattle.obj_prepare.specs.Laws.{AreFit}
 use Rattle.obj_prepare.proofs.PieceLaws.{named_low}
+use Rattle.obj_prepare.proofs.TurnedLaws.{none_turned}
 use Rattle.prepare.specs.declared.counts.Counts.{Counts}
 use Rattle.prepare.specs.Texts.{account_line, warning_line, note_line, face_notes, vertex_notes, last_note, notes_text}
 use Rattle.prepare.proofs.RestoredLaws.{all_stay, none_flat, none_double, none_unnamed, none_gone, all_named, split_as_joined}
@@ -58,6 +63,7 @@ nothing_done = record {
   joined = 0;
   flat = 0;
   double = 0;
+  turned = 0;
   cut = 0;
   split = 0;
   unnamed = 0;
@@ -94,20 +100,33 @@ module _ (m : Mesh) (corners : All (AreVerticesBelow (length m.points)) m.faces)
       let low : v < length m.points = omega (arith, l, p.joined.all) in
       true≢false (sym (and_parts _ _ t).1 ∙ ap not (eq-eqb _ _ (own_name v low))))
 
-  pub nothing_told : AreNotes m.points m.faces p.names p.old nothing_done
+  all_stand : AllStand (net_of m.faces)
+  all_stand = subst (λ (fs : List Corners). AllStand (net_of fs)) stay_same (kept_are_fit (joined_faces p.names m.faces)).0
+
+  -- None is turned.
+  turned_same : turned_by p.flags m.faces ≡ m.faces
+  turned_same =
+      manifolds_are_not_turned m.faces p.flags all_stand manifold
+      (subst (λ (fs : List Corners). AreTurns (net_of fs) p.flags) stay_same p.turns)
+
+  stay_turned : turned_by p.flags (staying p.names m.faces) ≡ m.faces
+  stay_turned = ap (turned_by p.flags) stay_same ∙ turned_same
+
+  pub nothing_told : AreNotes m.points m.faces p.names p.flags p.old nothing_done
   nothing_told = record {
     joined = sym none_joined;
     flat = sym (none_flat m fit.used p);
     double = sym (none_double m fit.used p);
-    cut = sym (ap (λ (fs : List Corners). cut_count (net_of fs)) stay_same ∙ none_cut (net_of m.faces) manifold);
+    turned = sym (none_turned p.flags m.faces (p.turns.agreeing.long ∙ ap length stay_same) all_stand turned_same);
+    cut = sym (ap (λ (fs : List Corners). cut_count (net_of fs)) stay_turned ∙ none_cut (net_of m.faces) manifold);
     split = sym (split_as_joined m fit.used p corners ∙ none_joined);
     unnamed = sym (none_unnamed m fit.used p);
     gone = sym (none_gone m fit.used p);
   }
 
-five_ends : (line : List ℕ) → line ++ [] ++ [] ++ [] ++ [] ++ [] ≡ line
-five_ends line = append-nil (line ++ [] ++ [] ++ [] ++ []) ∙ append-nil (line ++ [] ++ [] ++ [])
-    ∙ append-nil (line ++ [] ++ []) ∙ append-nil (line ++ []) ∙ append-nil line
+six_ends : (line : List ℕ) → line ++ [] ++ [] ++ [] ++ [] ++ [] ++ [] ≡ line
+six_ends line = append-nil (line ++ [] ++ [] ++ [] ++ [] ++ []) ∙ append-nil (line ++ [] ++ [] ++ [] ++ [])
+    ∙ append-nil (line ++ [] ++ [] ++ []) ∙ append-nil (line ++ [] ++ []) ∙ append-nil (line ++ []) ∙ append-nil line
 
 -- Where as much came out as there was, that isn't told.
 pub no_account : (c : Counts) → c.vertices_in ≡ c.vertices_out → c.triangles_in ≡ c.triangles_out
@@ -126,8 +145,8 @@ unfolding notes_text face_notes vertex_notes note_line warning_line
 nothing_said c fit same none =
     let line = note_line (codes "polygons cut") c.polygons in
     let thin = note_line (codes "faces without area") c.thin in
-    rw (same, none) (append-nil (((line ++ [] ++ [] ++ [] ++ [] ++ []) ++ thin) ++ last_note fit)
-    ∙ ap (λ (l : List ℕ). (l ++ thin) ++ last_note fit) (five_ends line))
+    rw (same, none) (append-nil (((line ++ [] ++ [] ++ [] ++ [] ++ [] ++ []) ++ thin) ++ last_note fit)
+    ∙ ap (λ (l : List ℕ). (l ++ thin) ++ last_note fit) (six_ends line))
 
 -- Where no triangle became an edge nothing is warned of.
 pub no_warning : (fit : Fit) (points : List Place) (triangles : List Corners)

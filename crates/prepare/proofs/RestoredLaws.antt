@@ -15,6 +15,7 @@ use Rattle.pm_fans.proofs.CutLaws.{count_none}
 use Rattle.obj_prepare.specs.Named.{is_some_corner, AreVerticesBelow}
 use Rattle.obj_prepare.specs.Joining.{place_in_list, renamed, joined_faces}
 use Rattle.obj_prepare.specs.Prepared.{staying, IsPrepared, joined_count, flat_count, double_count, unnamed_count, split_count, gone_count}
+use Rattle.pm_turn.proofs.TurnedFaces.{turned_length}
 use Rattle.obj_prepare.proofs.CountLaws.{count_both}
 use Rattle.obj_prepare.proofs.KeptCounts.{kept_and_flat}
 use Rattle.prepare.proofs.StandingLaws.{used_named}
@@ -89,7 +90,7 @@ module _ (m : Mesh) (used : (v : ℕ) → v < length m.points → IsUsed (net_of
   joined_long = length-map m.faces (renamed p.names)
 
   stay_long : length (staying p.names m.faces) ≡ length m.faces
-  stay_long = sym p.split.split.faces
+  stay_long = sym (p.split.split.faces ∙ turned_length p.flags (staying p.names m.faces))
 
   pub all_stay : staying p.names m.faces ≡ joined
   unfolding kept_of

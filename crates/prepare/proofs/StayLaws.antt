@@ -8,7 +8,7 @@ use Rattle.pm_base.specs.Meshes.{Mesh, IsWellFormed}
 use Rattle.pm_base.specs.Sides.{net_of}
 use Rattle.pm_base.specs.Fans.{IsUsed}
 use Rattle.pm_base.proofs.NetLaws.{mesh_side}
-use Rattle.pm_fans.proofs.KeptLaws.{kept_are_fit}
+use Rattle.pm_turn.specs.Turning.{turned_by}
 use Rattle.pm_io.specs.Bytes.{Gains}
 use Rattle.pm_io.specs.Puts.{Said}
 use Rattle.obj_read.proofs.FormedLaws.{meaning_formed}
@@ -27,6 +27,7 @@ use Rattle.obj_prepare.proofs.FitMeshes.{fit_meshes_stay}
 use Rattle.obj_prepare.proofs.PieceLaws.{split_formed}
 use Rattle.obj_prepare.proofs.PlacingLaws.{length-places_of}
 use Rattle.obj_prepare.proofs.ThreeLaws.{three_of_manifold, three_of_mesh}
+use Rattle.obj_prepare.proofs.TurnedLaws.{turned_stand}
 use Rattle.prepare.specs.declared.fault.Fault.{Fault}
 use Rattle.std.specs.Prelude.{codes}
 use Rattle.prepare.specs.Thin.{thin_count}
@@ -43,8 +44,9 @@ use Rattle.prepare.proofs.OutcomeLaws.{one_outcome}
 itself_formed : (places : List Place) (faces : List Corners) → IsWithinMesh (length places) faces → IsPrepared places faces (record { points = places; faces = faces }) → IsWellFormed (record { points = places; faces = faces })
 itself_formed places faces within p =
     let long : length places ≡ length p.old = ap length p.stand ∙ length-map p.old (place_in_list places) in
-    let stay : length faces ≡ length (staying p.names faces) = p.split.split.faces in
-    split_formed (net_of (staying p.names faces)) faces p.old places (omega (arith, stay, within.faces_few)) (kept_are_fit (joined_faces p.names faces)).0 p.split long (omega (arith, long, within.vertices_few))
+    let turned : List Corners = turned_by p.flags (staying p.names faces) in
+    let stay : length faces ≡ length turned = p.split.split.faces in
+    split_formed (net_of turned) faces p.old places (omega (arith, stay, within.faces_few)) (turned_stand p.flags (joined_faces p.names faces)) p.split long (omega (arith, long, within.vertices_few))
 
 -- The triangles of a text over the places of its points.
 placed_within : (size : Option ℕ) (bytes : List ℕ) (s : Scanned) → scan_meaning_of bytes ≡ Ok s

@@ -105,13 +105,15 @@ TextsAreAccounted = (size : Option ℕ) (bytes : List ℕ) (s : Scanned) (done :
     → scan_meaning_of bytes ≡ Ok s → (k : MakesPrepared size s done) → IsAccounted s k.mesh k.notes
 
 -- The text of a mesh, prepared without a size, comes back after a comment. Vertices that were split off stand at one place,
--- so they are joined, and as many are split off again, maybe along sides that are cut open. Nothing else is done.
+-- so they are joined, and as many are split off again, maybe along sides that are cut open.
+-- Nothing else is done: no face is turned again.
 pub record ComesBack (text : List ℕ) (m : Mesh) : Type 0 where
   pub notes : Notes
   pub told : IsPreparedWith m.points m.faces m notes
   pub split : notes.split ≡ notes.joined
   pub flat : notes.flat ≡ 0
   pub double : notes.double ≡ 0
+  pub turned : notes.turned ≡ 0
   pub unnamed : notes.unnamed ≡ 0
   pub outcome : IsPreparedText None text
       (Ok (record {

@@ -72,6 +72,7 @@ face_notes c notes =
     ++ note_line (codes "faces that name a vertex twice") c.twice
     ++ note_line (codes "faces that became edges") notes.flat
     ++ note_line (codes "faces that stand twice") notes.double
+    ++ note_line (codes "faces turned") notes.turned
 
 unfoldable pub vertex_notes : Notes → List ℕ
 vertex_notes notes = note_line (codes "sides cut open") notes.cut ++ note_line (codes "vertices split off") notes.split ++ note_line (codes "vertices that no face has") notes.unnamed

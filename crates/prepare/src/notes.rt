@@ -192,6 +192,7 @@ fn add_face_notes(text: &mut Vec<u8>, counts: Counts, notes: &Notes) -> Result<(
     add_note(text, b"faces that name a vertex twice", counts.twice)?;
     add_note(text, b"faces that became edges", notes.flat)?;
     add_note(text, b"faces that stand twice", notes.double)?;
+    add_note(text, b"faces turned", notes.turned)?;
     Ok(())
 }
 
