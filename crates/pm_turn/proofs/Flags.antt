@@ -29,7 +29,7 @@ none_flagged t flags none = record {
 }
 
 -- The way up leads down in number.
-low_root : (t : Elders) → ((x : ℕ) → t.elder x ≤ x) → (x r : ℕ) (p : Bool) → Up t x r p → r ≤ x
+pub low_root : (t : Elders) → ((x : ℕ) → t.elder x ≤ x) → (x r : ℕ) (p : Bool) → Up t x r p → r ≤ x
 low_root t low x r p (top a) = omega arith
 low_root t low x r p (up {p = i} k v) = let a = low_root t low (t.elder x) r i v in let b = low x in omega (arith, a, b)
 

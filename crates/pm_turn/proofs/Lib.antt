@@ -12,3 +12,9 @@ pub mod Flags
 pub mod TurnMore
 pub mod SameTurns
 pub mod TurnsThere
+pub mod Totals
+pub mod Choosing
+pub mod Summing
+pub mod OneChoice
+pub mod Renumbered
+pub mod ChosenAgain

@@ -86,7 +86,7 @@ module _ (flags : List Bool) (fs : List Corners) (stand : AllStand (net_of fs)) 
         | inr r ↦ inr (sym (flag_moved e) ∙ r.set, sym r.to_is ∙ ap (to n) (moved_back flags fs e))
       ]
 
-  clash_moved : (e k : ℕ) → AreMates n e k → clash m (moved flags e) (moved flags k) ≡ flipped_if (flag_of flags (face_of e)) (flipped_if (flag_of flags (face_of k)) (clash n e k))
+  pub clash_moved : (e k : ℕ) → AreMates n e k → clash m (moved flags e) (moved flags k) ≡ flipped_if (flag_of flags (face_of e)) (flipped_if (flag_of flags (face_of k)) (clash n e k))
   clash_moved e k a =
       let (both, second, first) = tests (n.from e) (to n e) (n.from k) (to n k) a.stands.first a.same.ends in
       let fold = λ (u v c : Bool) (p : flag_of flags (face_of e) ≡ u) (q : flag_of flags (face_of k) ≡ v) (h : c ≡ flipped_if u (flipped_if v (clash n e k))). h ∙ ap (λ (b : Bool). flipped_if b (flipped_if v (clash n e k))) (sym p) ∙ ap (λ (b : Bool). flipped_if (flag_of flags (face_of e)) (flipped_if b (clash n e k))) (sym q) in
@@ -103,7 +103,7 @@ module _ (flags : List Bool) (fs : List Corners) (stand : AllStand (net_of fs)) 
             ]
       ]
 
-  mates_before : (e k : ℕ) → AreMates n e k → AreMates m (moved flags e) (moved flags k)
+  pub mates_before : (e k : ℕ) → AreMates n e k → AreMates m (moved flags e) (moved flags k)
   mates_before e k a = record {
     stands = was_there e a.stands;
     differ = λ is. a.differ (sym (moved_back flags fs e) ∙ ap (moved flags) is ∙ moved_back flags fs k);
@@ -143,21 +143,21 @@ not_same true x e = refl
 not_same false true e = sym e
 not_same false false e = e
 
-module _ (fs : List Corners) (flags again : List Bool) (t : AgreeOnceTurned (net_of (kept_of fs)) flags) (s : AreTurns (net_of (turned_by flags (kept_of fs))) again) where
-  abbrev m2 : Net
+module _ (fs : List Corners) (flags : List Bool) (t : AgreeOnceTurned (net_of (kept_of fs)) flags) where
+  abbrev pub m2 : Net
   m2 = net_of (kept_of fs)
 
-  abbrev n2 : Net
+  abbrev pub n2 : Net
   n2 = net_of (turned_by flags (kept_of fs))
 
-  stand_m : AllStand m2
+  pub stand_m : AllStand m2
   stand_m = (kept_are_fit fs).0
 
-  stand_n : AllStand n2
+  pub stand_n : AllStand n2
   stand_n = stand_turned fs flags t
 
   -- An odd closed way stays odd.
-  odd_on : (f : ℕ) → Way m2 f f true → Way n2 f f true
+  pub odd_on : (f : ℕ) → Way m2 f f true → Way n2 f f true
   odd_on f w =
       let back : turned_by flags (turned_by flags (kept_of fs)) ≡ kept_of fs = turned_twice flags (kept_of fs) in
       let stand' = subst (λ (l : List Corners). AllStand (net_of l)) (sym back) stand_m in
@@ -165,18 +165,19 @@ module _ (fs : List Corners) (flags again : List Bool) (t : AgreeOnceTurned (net
       let (q, v, is) = way_before flags (turned_by flags (kept_of fs)) stand_n stand' f f true w' in
       subst (λ (b : Bool). Way n2 f f b) (not_same q (flag_of flags f) (sym is)) v
 
+module _ (fs : List Corners) (flags again : List Bool) (t : AgreeOnceTurned (net_of (kept_of fs)) flags) (s : AreTurns (net_of (turned_by flags (kept_of fs))) again) where
   none_again : (f : ℕ) → f < length (turned_by flags (kept_of fs)) → flag_of again f ≡ false
   none_again f l =
       elim (cases_Bool (s.agreeing.twisted f)) [
         | inl set ↦ (s.agreeing.odd f l set).1
         | inr un ↦
             elim (cases_Bool (t.twisted f)) [
-              | inl set ↦ absurd (not_both n2 again s.agreeing f un (odd_on f (t.odd f (subst (λ i. f < i) (turned_length flags (kept_of fs)) l) set).0))
+              | inl set ↦ absurd (not_both (net_of (turned_by flags (kept_of fs))) again s.agreeing f un (odd_on fs flags t f (t.odd f (subst (λ i. f < i) (turned_length flags (kept_of fs)) l) set).0))
               | inr un2 ↦
                   let w = s.way f l in
-                  let (q, v, is) = way_before flags (kept_of fs) stand_m stand_n f (s.least f) (s.parity f) w in
-                  let flag = (along m2 flags t f (s.least f) q v un2).1 in
-                  parity_is n2 again s f (s.parity f) l un w ∙ same_even (s.parity f) (flag_of flags (s.least f)) (is ∙ sym flag)
+                  let (q, v, is) = way_before flags (kept_of fs) (stand_m fs flags t) (stand_n fs flags t) f (s.least f) (s.parity f) w in
+                  let flag = (along (net_of (kept_of fs)) flags t f (s.least f) q v un2).1 in
+                  parity_is (net_of (turned_by flags (kept_of fs))) again s f (s.parity f) l un w ∙ same_even (s.parity f) (flag_of flags (s.least f)) (is ∙ sym flag)
             ]
       ]
 

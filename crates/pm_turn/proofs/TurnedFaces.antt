@@ -159,7 +159,7 @@ none_turned (flag ∷ flags) (f ∷ fs) h =
 pub agreeing_faces_stay : (fs : List Corners) (flags : List Bool) → AllAgree (net_of fs) → AreTurns (net_of fs) flags → turned_by flags fs ≡ fs
 agreeing_faces_stay fs flags all t = none_turned flags fs (none_set (net_of fs) flags t all)
 
-once_agree : (m : Net) → NoSideTwice m → AllAgree m
+pub once_agree : (m : Net) → NoSideTwice m → AllAgree m
 once_agree m once e k a =
     elim (cases_Bool (clash m e k)) [
       | inr un ↦ un
@@ -175,7 +175,7 @@ pub manifolds_are_not_turned : (fs : List Corners) (flags : List Bool) → AllSt
 manifolds_are_not_turned fs flags stand is t = agreeing_faces_stay fs flags (once_agree (net_of fs) is.no_side_twice) t
 
 -- One list of flags.
-same_flags : (xs ys : List Bool) → length xs ≡ length ys → ((i : ℕ) → i < length xs → flag_of xs i ≡ flag_of ys i) → xs ≡ ys
+pub same_flags : (xs ys : List Bool) → length xs ≡ length ys → ((i : ℕ) → i < length xs → flag_of xs i ≡ flag_of ys i) → xs ≡ ys
 same_flags [] [] n h = refl
 same_flags [] (y ∷ ys) n h = absurd (omega (arith, n))
 same_flags (x ∷ xs) [] n h = absurd (omega (arith, n))

@@ -4,3 +4,6 @@ pub mod TurnLaws
 pub mod Unions
 pub mod UnionLaws
 pub mod AnyLaws
+pub mod Choice
+pub mod Sums
+pub mod ChoiceLaws

@@ -3,6 +3,7 @@
 #![tactic(auto)]
 
 mod any;
+mod choice;
 mod edges;
 mod patches;
 mod sides;
@@ -10,9 +11,10 @@ mod theory;
 mod turning;
 
 pub use any::any_turns_are_sound;
+pub use choice::chosen_turns;
 pub use edges::side_mates;
 use std::alloc::AllocError;
-pub use theory::{turns_are_sound, unions_are_sound};
+pub use theory::{chosen_turns_are_sound, turns_are_sound, unions_are_sound};
 pub use turning::{turned, turns};
 
 /// The answer for want of memory.

@@ -11,6 +11,16 @@ ghost use Rattle.pm_turn.specs.TurnLaws.{
   TurnedFacesAreTurnedOnce,
   TracedTablesTurn,
 };
+ghost use Rattle.pm_turn.specs.ChoiceLaws.{
+  ChosenTurnsAreOne,
+  AgreeingFacesAreKept,
+  ManifoldsAreKept,
+  ChosenFacesAreTurnedOnce,
+  FewestAreTurned,
+  ChosenTurnsAreRenumbered,
+  TurnsAreRenumbered,
+  UnitTetrahedronFacesOut,
+};
 ghost use Rattle.pm_turn.specs.UnionLaws.{EldersGrow, EldersBegin, MatelessSidesPass, EldersAreTraced};
 
 /// The laws of turning faces round, which takes no step.
@@ -25,6 +35,19 @@ pub fn turns_are_sound()
     ensures still { GluedStaysGlued }
     ensures once { TurnedFacesAreTurnedOnce }
     ensures traced { TracedTablesTurn }
+{}
+
+/// The laws of the choice between the two ways round of a patch, which takes no step. What
+/// `turns_are_sound` says of any flags by which neighbours agree holds of the chosen ones.
+pub fn chosen_turns_are_sound()
+    ensures one { ChosenTurnsAreOne }
+    ensures agreeing { AgreeingFacesAreKept }
+    ensures untouched { ManifoldsAreKept }
+    ensures once { ChosenFacesAreTurnedOnce }
+    ensures fewest { FewestAreTurned }
+    ensures renumbered { ChosenTurnsAreRenumbered }
+    ensures turns_renumbered { TurnsAreRenumbered }
+    ensures unit { UnitTetrahedronFacesOut }
 {}
 
 /// The laws of joining mates pair by pair, which takes no step.

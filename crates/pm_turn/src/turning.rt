@@ -53,8 +53,8 @@ fn turned_if(turn: bool, face: Corners) -> Corners
     face
 }
 
-// Each face in a patch of its own.
-fn own_patches(alloc: Global, faces: u32) -> Result<Patches, OutOfMemory>
+/// Each face in a patch of its own.
+pub(crate) fn own_patches(alloc: Global, faces: u32) -> Result<Patches, OutOfMemory>
     ensures tables { IfOk result (λ p. AreTables faces p.elders.items p.parities.items p.odd.items) }
     ensures begun { IfOk result (λ p. (m : Net) → m.faces ≡ faces
         → AreElders m 0 (elders_of p.elders.items p.parities.items p.odd.items)) }
