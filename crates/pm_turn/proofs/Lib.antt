@@ -18,3 +18,4 @@ pub mod Summing
 pub mod OneChoice
 pub mod Renumbered
 pub mod ChosenAgain
+pub mod Telling

@@ -7,3 +7,4 @@ pub mod AnyLaws
 pub mod Choice
 pub mod Sums
 pub mod ChoiceLaws
+pub mod Told

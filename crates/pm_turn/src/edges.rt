@@ -56,7 +56,11 @@ fn note_edges(alloc: Global, faces: &[Corners]) -> Result<BTreeMap<u64, Edge>, O
 }
 
 // Notes one more side.
-fn note(edges: &mut BTreeMap<u64, Edge>, faces: &[Corners], side: Side) -> Result<(), OutOfMemory>
+pub(crate) fn note(
+    edges: &mut BTreeMap<u64, Edge>,
+    faces: &[Corners],
+    side: Side,
+) -> Result<(), OutOfMemory>
     requires short { length faces.now ≤ MOST_FACES }
     requires in_range { side.0 < 3 * length faces.now }
     requires noted { AreEdges (net_of faces.now) side.0 edges.old }
@@ -95,6 +99,15 @@ fn with_side(edge: Option<Edge>, side: Side) -> Edge
         Some(Edge::One(first)) => Edge::Two(first, side),
         Some(_) => Edge::More,
     }
+}
+
+/// What is noted of a side's edge.
+pub(crate) fn edge_of(edges: &BTreeMap<u64, Edge>, faces: &[Corners], side: Side) -> Option<Edge>
+    requires short { length faces.now ≤ MOST_FACES }
+    requires in_range { side.0 < 3 * length faces.now }
+    ensures { result ≡ get nat_cmp edges.now (edge_key_at (net_of faces.now) side.0) }
+{
+    edge_at(edges, ends(from(faces, side), to(faces, side)))
 }
 
 // The other side of an edge of two.

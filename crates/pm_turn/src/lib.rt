@@ -4,6 +4,7 @@
 
 mod any;
 mod choice;
+mod counts;
 mod edges;
 mod patches;
 mod sides;
@@ -12,6 +13,7 @@ mod turning;
 
 pub use any::any_turns_are_sound;
 pub use choice::chosen_turns;
+pub use counts::{TurnReport, report_turns};
 pub use edges::side_mates;
 use std::alloc::AllocError;
 pub use theory::{chosen_turns_are_sound, turns_are_sound, unions_are_sound};
