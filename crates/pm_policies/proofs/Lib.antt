@@ -5,4 +5,4 @@ pub mod Keys
 pub mod OneRun
 pub mod Building
 pub mod SomeRuns
-pub mod PapersKeeping
+pub mod PlainKeeping

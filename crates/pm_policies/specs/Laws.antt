@@ -9,7 +9,7 @@ use Rattle.pm_runs.specs.Counts.{plane_count_of, IsSpared}
 use Rattle.pm_runs.specs.Nearby.{IsOther, IsFar}
 use Rattle.pm_keeping.specs.Keeping.{IsRunKeeping}
 use Rattle.pm_policies.specs.Policies.{Policy, taken_after, brought_after, planes_by}
-use Rattle.pm_policies.specs.Policies.{pair_planes_by, place_by, key_by, papers_keeping, papers}
+use Rattle.pm_policies.specs.Policies.{pair_planes_by, place_by, key_by, plain_keeping, plain}
 use Rattle.pm_policies.specs.PolicyRuns.{IsCandidateBy, IsLeastPairBy, IsStepBy, HasNoCandidateBy}
 use Rattle.pm_policies.specs.PolicyRuns.{IsEndBy, IsRunBy, IsBegunBy}
 use Rattle.pm_policies.specs.Bounds.{BringsAtMost, TakesAtMost, TakesByFaces}
@@ -124,13 +124,13 @@ SomeRunByAPolicy =
     (target : ℕ) → (log : List Collapse) × IsRunBy p m target log
 
 -- The run to a number of faces is that of one policy.
-abbrev pub PapersRunIsTheRun : Type 0
-PapersRunIsTheRun =
+abbrev pub PlainRunIsTheRun : Type 0
+PlainRunIsTheRun =
     (m : Mesh) (target : ℕ) (log : List Collapse) →
-    IsRunBy papers m target log ↔ IsRunTo m target log
+    IsRunBy plain m target log ↔ IsRunTo m target log
 
 -- So is the one that keeps some vertices.
-abbrev pub PapersKeepingIsKeeping : Type 0
-PapersKeepingIsKeeping =
+abbrev pub PlainKeepingIsKeeping : Type 0
+PlainKeepingIsKeeping =
     (kept : ℕ → Bool) (m : Mesh) (target : ℕ) (log : List Collapse) →
-    IsRunBy (papers_keeping kept) m target log ↔ IsRunKeeping kept m target log
+    IsRunBy (plain_keeping kept) m target log ↔ IsRunKeeping kept m target log

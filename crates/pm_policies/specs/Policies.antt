@@ -65,8 +65,8 @@ key_by p m log a b = record {
 
 -- The policy of the run to a number of faces that keeps these vertices: planes are brought and none
 -- is taken, and the place is an end or the midpoint (after Garland and Heckbert 1997).
-abbrev pub papers_keeping : (ℕ → Bool) → Policy
-papers_keeping kept = record {
+abbrev pub plain_keeping : (ℕ → Bool) → Policy
+plain_keeping kept = record {
   brought = planes_at;
   taken = λ s v. [];
   place = λ planes a b. least_place (squares_of planes) a b;
@@ -74,5 +74,5 @@ papers_keeping kept = record {
 }
 
 -- That of the run to a number of faces, which keeps none.
-abbrev pub papers : Policy
-papers = papers_keeping none_kept
+abbrev pub plain : Policy
+plain = plain_keeping none_kept

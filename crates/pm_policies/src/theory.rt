@@ -9,8 +9,8 @@ ghost use Rattle.pm_policies.specs.Laws.{
   OneRunByAPolicy,
   RunsByAreBuilt,
   SomeRunByAPolicy,
-  PapersRunIsTheRun,
-  PapersKeepingIsKeeping,
+  PlainRunIsTheRun,
+  PlainKeepingIsKeeping,
 };
 
 /// States the laws of runs by a policy. What a vertex stands for never changes, so the key of a
@@ -27,6 +27,6 @@ pub fn policies_are_sound()
     ensures one { OneRunByAPolicy }
     ensures built { RunsByAreBuilt }
     ensures some { SomeRunByAPolicy }
-    ensures papers { PapersRunIsTheRun }
-    ensures keeping { PapersKeepingIsKeeping }
+    ensures plain { PlainRunIsTheRun }
+    ensures keeping { PlainKeepingIsKeeping }
 {}

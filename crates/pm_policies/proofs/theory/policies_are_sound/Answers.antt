@@ -5,7 +5,7 @@ use Rattle.pm_policies.proofs.Keys as keys
 use Rattle.pm_policies.proofs.OneRun as runs
 use Rattle.pm_policies.proofs.Building as building
 use Rattle.pm_policies.proofs.SomeRuns as some_runs
-use Rattle.pm_policies.proofs.PapersKeeping as same
+use Rattle.pm_policies.proofs.PlainKeeping as same
 use Rattle.pm_policies.proofs.theory.policies_are_sound.Goals as goal
 
 pub returns : goal.returns
@@ -19,6 +19,6 @@ returns c = record {
   one = runs.one_run_by_a_policy;
   built = building.runs_by_are_built;
   some = some_runs.some_run_by_a_policy;
-  papers = same.papers_run_is_the_run;
-  keeping = same.papers_keeping_is_keeping;
+  plain = same.plain_run_is_the_run;
+  keeping = same.plain_keeping_is_keeping;
 }

@@ -18,14 +18,14 @@ use Rattle.pm_keeping.specs.Keeping.{none_kept, IsFreeCandidate, IsLeastFreePair
 use Rattle.pm_keeping.specs.Keeping.{AreStepsKeeping, IsRunKeeping}
 use Rattle.pm_keeping.proofs.KeepingNone.{keeping_none_is_the_run}
 use Rattle.pm_policies.specs.Policies.{Policy, taken_next, taken_from, taken_after, brought_after}
-use Rattle.pm_policies.specs.Policies.{planes_by, pair_planes_by, place_by, key_by, papers_keeping}
+use Rattle.pm_policies.specs.Policies.{planes_by, pair_planes_by, place_by, key_by, plain_keeping}
 use Rattle.pm_policies.specs.PolicyRuns.{IsCandidateBy, IsLeastPairBy, IsStepBy}
 use Rattle.pm_policies.specs.PolicyRuns.{AreStepsBy, IsRunBy}
 use Rattle.pm_policies.specs.Laws as law
 
 module _ (kept : ℕ → Bool) where
   abbrev policy : Policy
-  policy = papers_keeping kept
+  policy = plain_keeping kept
 
   none_taken :
       (s : Surface) (planes : ℕ → List Plane) → ((v : ℕ) → planes v ≡ []) →
@@ -155,13 +155,13 @@ module _ (kept : ℕ → Bool) where
           ]
       steps_from past (c ∷ cs) x = (step_from past c x.0, steps_from (past ++ c ∷ []) cs x.1)
 
-pub papers_keeping_is_keeping : law.PapersKeepingIsKeeping
+pub plain_keeping_is_keeping : law.PlainKeepingIsKeeping
 unfolding IsRunBy IsRunKeeping
-papers_keeping_is_keeping kept m target log =
+plain_keeping_is_keeping kept m target log =
     (steps_to kept m target [] log, steps_from kept m target [] log)
 
-pub papers_run_is_the_run : law.PapersRunIsTheRun
-papers_run_is_the_run m target log =
-    let keeping = papers_keeping_is_keeping none_kept m target log in
+pub plain_run_is_the_run : law.PlainRunIsTheRun
+plain_run_is_the_run m target log =
+    let keeping = plain_keeping_is_keeping none_kept m target log in
     let none = keeping_none_is_the_run m target log in
     (λ x. none.0 (keeping.0 x), λ x. keeping.1 (none.1 x))
