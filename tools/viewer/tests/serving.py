@@ -172,7 +172,9 @@ class Ending(Case):
     def started(self) -> "subprocess.Popen[str]":
         words = [sys.executable, str(TOP / "viewer"), str(STREAM), "--program", str(program())]
         window = subprocess.Popen(
-            words, stdout=subprocess.PIPE, stderr=subprocess.DEVNULL, text=True
+            words, stdout=subprocess.PIPE, stderr=subprocess.DEVNULL, text=True,
+            # Under nohup a signal is passed over that the terminal's end sends.
+            preexec_fn=lambda: signal.signal(signal.SIGHUP, signal.SIG_DFL),
         )
         self.addCleanup(window.wait)
         self.addCleanup(window.kill)
