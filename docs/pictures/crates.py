@@ -26,7 +26,7 @@ WAYS: List[Way] = [
     ]),
     ("prepare", "#4f7f3a", "any OBJ text", [
         ("obj_lines", "lines"), ("obj_scan", "triangles"), ("obj_prepare", "places"),
-        ("pm_fans", "surface"), ("obj_write", "OBJ text"),
+        ("pm_turn", "turned faces"), ("pm_fans", "surface"), ("obj_write", "OBJ text"),
     ]),
 ]
 
