@@ -1,8 +1,6 @@
 pub mod AllFaces
 pub mod PlaceTables
-mod PlaneTotals
 mod FaceTables
-mod SlotTables
 mod CornerTables
 mod Started
 mod FanLaws
@@ -15,6 +13,5 @@ pub mod GoneLaws
 mod MergedCorners
 mod MergedFaces
 mod MergedTables
-mod MergedQuadrics
 mod MergedShrink
 mod FollowingLaws

@@ -7,7 +7,6 @@ use Rattle.pm_base.specs.Place.{Place}
 use Rattle.pm_base.specs.declared.mesh.Corners.{Corners}
 use Rattle.pm_base.specs.Sides.{Net, face_of}
 use Rattle.pm_links.specs.Lists.{Lists, list_of, with_moved, IsSound}
-use Rattle.pm_quadric.specs.Sums.{Sums, zero_sums}
 use Rattle.pm_runs.specs.Counts.{live_count_of}
 use Rattle.pm_runs.specs.Surfaces.{Surface, next_vertex, is_live, net_of_surface, face_count_of, collapsed}
 use Rattle.pm_runs.specs.Pairs.{IsLegalPair}
@@ -19,17 +18,15 @@ use Rattle.pm_runs.proofs.Living.{joined_live, live_fewer}
 use Rattle.pm_runs.proofs.Present.{is_some-map}
 use Rattle.pm_runs.proofs.StepLaws.{steps_keep_surfaces, legal_steps_keep_manifolds}
 use Rattle.pm_shrink.specs.Shrinking.{AreCornersAt, IsKept}
-use Rattle.pm_shrink.specs.Slots.{HaveOwnSlots}
 use Rattle.pm_shrink.specs.Tables.{surface_with, IsAcross, IsShrink}
 use Rattle.pm_shrink.specs.Writes.{with_corners, without_face, unlisted, relinked}
 use Rattle.pm_shrink.proofs.MergedCorners.{last_fan, last_heads, last_items, second_list}
 use Rattle.pm_shrink.proofs.MergedFaces.{faces-merged}
 use Rattle.pm_shrink.proofs.MergedTables.{length-relinked, across-merged, places-merged, places-fresh}
-use Rattle.pm_shrink.proofs.MergedQuadrics.{AreMerged, pair-few, quadrics-kept, slots-own, planes-merged}
 
 -- What the calls of `collapse` say that they wrote, with k the number of the new vertex.
-pub record IsWritten (s : Surface) (a b k : ℕ) (place : Place) (places : List (Option Place)) (quadrics : List Sums) (slots : List ℕ) (across : List (Option ℕ)) (corners : Lists)
-    (faces_now : List (Option Corners)) (places_now : List (Option Place)) (quadrics_now : List Sums) (slots_now : List ℕ) (across_now : List (Option ℕ)) (mid one corners_now : Lists) : Type 0 where
+pub record IsWritten (s : Surface) (a b k : ℕ) (place : Place) (places : List (Option Place)) (across : List (Option ℕ)) (corners : Lists)
+    (faces_now : List (Option Corners)) (places_now : List (Option Place)) (across_now : List (Option ℕ)) (mid one corners_now : Lists) : Type 0 where
   pub lists : (h : ℕ) → list_of mid h ≡ unlisted (gone_of (net_of_surface s) b a) (unlisted (gone_of (net_of_surface s) a b) (list_of corners h))
   pub items : mid.items ≡ corners.items
   pub heads : length mid.lists ≡ length corners.lists
@@ -38,10 +35,9 @@ pub record IsWritten (s : Surface) (a b k : ℕ) (place : Place) (places : List 
   pub sound : IsSound corners_now
   pub faces : faces_now ≡ with_corners (with_corners (without_face (without_face s.faces (gone_of (net_of_surface s) a b)) (gone_of (net_of_surface s) b a)) (list_of mid a) k) (list_of one b) k
   pub placed : places_now ≡ set (set (set places a None) b None) k (Some place)
-  pub summed : AreMerged slots quadrics a b k slots_now quadrics_now
   pub relinks : across_now ≡ relinked (relinked across (gone_of (net_of_surface s) a b)) (gone_of (net_of_surface s) b a)
 
-module _ (faces : List (Option Corners)) (places : List (Option Place)) (next left : ℕ) (quadrics : List Sums) (slots : List ℕ) (across : List (Option ℕ)) (corners : Lists) (inv : IsShrink faces places next left quadrics slots across corners)
+module _ (faces : List (Option Corners)) (places : List (Option Place)) (next left : ℕ) (across : List (Option ℕ)) (corners : Lists) (inv : IsShrink faces places next left across corners)
     (a b : ℕ) (place : Place) (order : a < b) (legal : IsLegalPair (surface_with faces places next) a b place) where
   abbrev s : Surface
   s = surface_with faces places next
@@ -76,25 +72,14 @@ module _ (faces : List (Option Corners)) (places : List (Option Place)) (next le
       let count = inv.roomy.count in
       omega (arith, ap one_if (gone-count a b), ap one_if (gone-count b a))
 
-  pub few : (get_or quadrics a zero_sums).count + (get_or quadrics b zero_sums).count ≤ 3145728
-  few = pair-few s a b place quadrics both_live.0 both_live.1 (live_below s a both_live.0) (live_below s b both_live.1) (λ is. absurd (omega (arith, is))) inv.kept.planes
-
   made : length (take next places) ≡ next
   made = inv.roomy.made
 
   differ : a ≢ b
   differ is = absurd (omega (arith, is))
 
-  merged : (slots_now : List ℕ) (quadrics_now : List Sums) → AreMerged slots quadrics a b next slots_now quadrics_now → AreMerged slots quadrics a b (next_vertex s) slots_now quadrics_now
-  merged slots_now quadrics_now are = subst (λ (k : ℕ). AreMerged slots quadrics a b k slots_now quadrics_now) (sym made) are
-
-  pub done-quadrics : (slots_now : List ℕ) (quadrics_now : List Sums) → AreMerged slots quadrics a b next slots_now quadrics_now →
-      (v : ℕ) → is_live (collapsed s a b place) v ≡ true → v ≢ next_vertex s → get_or quadrics_now v zero_sums ≡ get_or quadrics v zero_sums
-  done-quadrics slots_now quadrics_now are =
-      quadrics-kept s a b place quadrics both_live.0 both_live.1 (live_below s a both_live.0) (live_below s b both_live.1) differ slots inv.own_slots slots_now quadrics_now (merged slots_now quadrics_now are)
-
-  module _ (faces_now : List (Option Corners)) (places_now : List (Option Place)) (quadrics_now : List Sums) (slots_now : List ℕ) (across_now : List (Option ℕ)) (mid one corners_now : Lists)
-      (w : IsWritten s a b next place places quadrics slots across corners faces_now places_now quadrics_now slots_now across_now mid one corners_now) where
+  module _ (faces_now : List (Option Corners)) (places_now : List (Option Place)) (across_now : List (Option ℕ)) (mid one corners_now : Lists)
+      (w : IsWritten s a b next place places across corners faces_now places_now across_now mid one corners_now) where
     a_in : a < length mid.lists
     a_in = (let h = w.heads in let i = inv.heads in let l = first_low in let k = next_low in omega arith)
 
@@ -138,11 +123,6 @@ module _ (faces : List (Option Corners)) (places : List (Option Place)) (next le
     t : Surface
     t = collapsed s a b place
 
-    own_slots : HaveOwnSlots (collapsed s a b place) slots_now
-    own_slots =
-        let low : next_vertex s < length slots = (let l = inv.slots_len in let k = next_low in let e = made in omega arith) in
-        slots-own s a b place quadrics both_live.0 both_live.1 (live_below s a both_live.0) (live_below s b both_live.1) differ slots inv.own_slots slots_now quadrics_now (merged slots_now quadrics_now w.summed) low
-
     length-faces : length faces_now ≡ length faces
     length-faces = ap length done-faces ∙ length-map faces (next_face a b (next_vertex s))
 
@@ -152,7 +132,7 @@ module _ (faces : List (Option Corners)) (places : List (Option Place)) (next le
     length-across : length across_now ≡ length across
     length-across = ap length w.relinks ∙ length-relinked (relinked across (gone_of m a b)) (gone_of m b a) ∙ length-relinked across (gone_of m a b)
 
-    new_kept : IsKept (record { surface = collapsed s a b place; quadrics = quadrics_now; corners = corners_now.lists })
+    new_kept : IsKept (record { surface = collapsed s a b place; corners = corners_now.lists })
     new_kept =
         let step = steps_keep_surfaces s inv.kept.surface inv.kept.proper a b place legal in
         let short = inv.kept.short in
@@ -166,11 +146,6 @@ module _ (faces : List (Option Corners)) (places : List (Option Place)) (next le
           proper = step.proper;
           manifold = legal_steps_keep_manifolds s inv.kept.surface inv.kept.manifold a b place legal;
           corners = λ v. last_fan s inv.kept.surface inv.kept.proper a b place legal corners mid fan w.lists one corners_now a_in b_in s_in a_not b_not differ first_moved second_moved w.sound v;
-          planes =
-              let live = both_live in
-              let same = planes-merged s a b place quadrics live.0 live.1 (live_below s a live.0) (live_below s b live.1) differ slots inv.own_slots slots_now quadrics_now (merged slots_now quadrics_now w.summed) in
-              let most = inv.kept.planes in
-              rw after (omega arith);
         }
 
     new_across : IsAcross (collapsed s a b place) across_now
@@ -183,7 +158,7 @@ module _ (faces : List (Option Corners)) (places : List (Option Place)) (next le
     }
 
     pub done-shrink : (left_now : ℕ) → left_now + (one_if (is_some (gone_of m a b)) + one_if (is_some (gone_of m b a))) ≡ left →
-        IsShrink faces_now places_now (next + 1) left_now quadrics_now slots_now across_now corners_now
+        IsShrink faces_now places_now (next + 1) left_now across_now corners_now
     done-shrink left_now count =
         let counted = left-count in
         let same : left_now ≡ face_count_of (collapsed s a b place) = omega arith in
@@ -192,7 +167,7 @@ module _ (faces : List (Option Corners)) (places : List (Option Place)) (next le
         let one_less = live_less in
         let counted_now : live_count_of (surface_with faces_now places_now (next + 1)) ≡ live_count_of (collapsed s a b place) = ap live_count_of done-surface in
         record {
-          kept = subst (λ (x : Surface). IsKept (record { surface = x; quadrics = quadrics_now; corners = corners_now.lists })) (sym done-surface) new_kept;
+          kept = subst (λ (x : Surface). IsKept (record { surface = x; corners = corners_now.lists })) (sym done-surface) new_kept;
           twins = subst (λ (x : Surface). IsAcross x across_now) (sym done-surface) new_across;
           roomy = record {
             count = same ∙ ap face_count_of (sym done-surface);
@@ -201,8 +176,6 @@ module _ (faces : List (Option Corners)) (places : List (Option Place)) (next le
             most = (let k = inv.roomy.most in omega (arith, length-places));
             fresh = λ v l. ap (λ k. get_or k v None) w.placed ∙ places-fresh places next a b v place first_low second_low l (inv.roomy.fresh v (omega arith));
           };
-          slots_len = ap length w.summed.slotted ∙ length-set slots next (get_or slots a 0) ∙ inv.slots_len ∙ sym length-places;
-          own_slots = subst (λ (x : Surface). HaveOwnSlots x slots_now) (sym done-surface) own_slots;
           items = last_items s inv.kept.surface inv.kept.proper a b place legal corners mid fan w.lists one corners_now a_in b_in s_in a_not b_not differ first_moved second_moved ∙ w.items ∙ inv.items ∙ ap (λ k. 3 * k) (sym length-faces);
           heads = last_heads s inv.kept.surface inv.kept.proper a b place legal corners mid fan w.lists one corners_now a_in b_in s_in a_not b_not differ first_moved second_moved ∙ w.heads ∙ inv.heads ∙ sym length-places;
         }

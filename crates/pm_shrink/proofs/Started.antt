@@ -19,23 +19,17 @@ use Rattle.pm_base.proofs.Search.{option_cases}
 use Rattle.pm_base.proofs.TwinLaws.{twin-is}
 use Rattle.pm_links.specs.Lists.{Lists, IsSound}
 use Rattle.pm_twins.specs.Table.{Table, AreTwinsOf, IsTableOf}
-use Rattle.pm_quadric.specs.Sums.{Sums, sums_of, zero_sums}
-use Rattle.pm_quadric.proofs.QuadricLaws.{count_is}
-use Rattle.pm_runs.specs.Surfaces.{Surface, surface_of, net_of_surface, is_live}
-use Rattle.pm_runs.specs.Planes.{planes_at}
+use Rattle.pm_runs.specs.Surfaces.{Surface, surface_of, net_of_surface}
 use Rattle.pm_runs.proofs.Collapsed.{input-alike}
 use Rattle.pm_runs.specs.Counts.{live_count_of}
-use Rattle.pm_runs.proofs.Live.{live_below, input-sound}
+use Rattle.pm_runs.proofs.Live.{input-sound}
 use Rattle.pm_runs.proofs.Living.{first_live_count}
 use Rattle.pm_runs.proofs.Manifolds.{manifold-same}
 use Rattle.pm_runs.proofs.Proper.{input-proper}
-use Rattle.pm_shrink.specs.Shrinking.{IsKept, planes_counted}
-use Rattle.pm_shrink.specs.Slots.{HaveOwnSlots}
+use Rattle.pm_shrink.specs.Shrinking.{IsKept}
 use Rattle.pm_shrink.specs.Tables.{surface_with, IsAcross, IsShrink}
 use Rattle.pm_shrink.proofs.AllFaces.{net_there}
 use Rattle.pm_shrink.proofs.CornerTables.{AreListed}
-use Rattle.pm_runs.proofs.PlaneCounts.{first_count}
-use Rattle.pm_runs.proofs.Totals.{sum_same}
 
 all_counted : (fs : List Corners) → count_by is_some (map Some fs) ≡ length fs
 all_counted [] = refl
@@ -89,10 +83,9 @@ module _ (m : Mesh) (formed : IsWellFormed m) (manifold : IsOrientedManifold (ne
   net : Net
   net = net_of_surface (surface_of m)
 
-  kept_there : (quadrics : List Sums) (corners : Lists) → ((v : ℕ) → v < length m.points → get_or quadrics v zero_sums ≡ sums_of (planes_at m v)) →
-      IsSound corners → AreListed (map Some m.faces) (3 * length m.faces) corners →
-      IsKept (record { surface = surface_of m; quadrics = quadrics; corners = corners.lists })
-  kept_there quadrics corners each sound listed = record {
+  kept_there : (corners : Lists) → IsSound corners → AreListed (map Some m.faces) (3 * length m.faces) corners →
+      IsKept (record { surface = surface_of m; corners = corners.lists })
+  kept_there corners sound listed = record {
     short = omega (arith, length-map m.faces Some, formed.faces);
     room = omega (arith, length-map m.points Some, all_counted m.faces, formed.faces, formed.points);
     surface = input-sound m formed;
@@ -105,33 +98,21 @@ module _ (m : Mesh) (formed : IsWellFormed m) (manifold : IsOrientedManifold (ne
       );
       once = sound.once v;
     };
-    planes =
-        let n : ℕ = length (map Some m.points) in
-        let same = sum_same (λ v. cond (is_live (surface_of m) v) (length (planes_at m v)) 0) (planes_counted (surface_of m) quadrics) n
-        (λ v l. ap (λ (k : ℕ). cond (is_live (surface_of m) v) k 0) (count_is (get_or quadrics v zero_sums) (planes_at m v) (each v (omega (arith, length-map m.points Some))))) in
-        omega (arith, same, first_count m, formed.faces);
   }
 
-  own_there : (slots : List ℕ) → ((v : ℕ) → v < length m.points → get_or slots v 0 ≡ v) → HaveOwnSlots (surface_of m) slots
-  own_there slots each v w live_v live_w same =
-      let n = length-map m.points Some in
-      let at : (x : ℕ) → is_live (surface_of m) x ≡ true → get_or slots x 0 ≡ x = λ x live. each x (let l = live_below (surface_of m) x live in omega arith) in
-      sym (at v live_v) ∙ same ∙ at w live_w
-
-  pub started : (places : List (Option Place)) (twins : Table) (quadrics : List Sums) (slots : List ℕ) (corners : Lists) → places ≡ roomy_places m →
+  pub started : (places : List (Option Place)) (twins : Table) (corners : Lists) → places ≡ roomy_places m →
       IsTableOf (net_of m.faces) (length m.points) twins →
-      length slots ≡ 2 * length m.points → ((v : ℕ) → v < length m.points → get_or slots v 0 ≡ v) → ((v : ℕ) → v < length m.points → get_or quadrics v zero_sums ≡ sums_of (planes_at m v)) →
       corners.items ≡ 3 * length m.faces → length corners.lists ≡ 2 * length m.points → IsSound corners → AreListed (map Some m.faces) (3 * length m.faces) corners →
-      IsShrink (map Some m.faces) places (length m.points) (length m.faces) quadrics slots twins.twins corners
-  started places twins quadrics slots corners places_are table len slots_are each items heads sound listed =
-      let P : List (Option Place) → Type 0 = λ (k : List (Option Place)). IsShrink (map Some m.faces) k (length m.points) (length m.faces) quadrics slots twins.twins corners in
+      IsShrink (map Some m.faces) places (length m.points) (length m.faces) twins.twins corners
+  started places twins corners places_are table items heads sound listed =
+      let P : List (Option Place) → Type 0 = λ (k : List (Option Place)). IsShrink (map Some m.faces) k (length m.points) (length m.faces) twins.twins corners in
       let all : length (map Some m.faces) ≡ length m.faces = length-map m.faces Some in
       let room : length (roomy_places m) ≡ 2 * length m.points = (
       let later : List (Option Place) = replicate (2 * length m.points - length m.points) None in
       let later_len : length later ≡ 2 * length m.points - length m.points = length-replicate (2 * length m.points - length m.points) None in
       omega (arith, length-append (map Some m.points) later, length-map m.points Some, later_len)) in
       subst P (sym places_are) (record {
-        kept = subst (λ (s : Surface). IsKept (record { surface = s; quadrics = quadrics; corners = corners.lists })) (sym (surface_there m)) (kept_there quadrics corners each sound listed);
+        kept = subst (λ (s : Surface). IsKept (record { surface = s; corners = corners.lists })) (sym (surface_there m)) (kept_there corners sound listed);
         twins = subst (λ (s : Surface). IsAcross s twins.twins) (sym (surface_there m)) (let t = subst (λ (n : Net). AreTwins n twins.twins) (sym (net_there m)) (twins_there (net_of m.faces) twins.twins table.twins) in record { sides = t.sides; each = t.each });
         roomy = record {
           count = sym (all_counted m.faces);
@@ -140,8 +121,6 @@ module _ (m : Mesh) (formed : IsWellFormed m) (manifold : IsOrientedManifold (ne
           most = omega (arith, formed.points);
           fresh = fresh_places m;
         };
-        slots_len = omega arith;
-        own_slots = subst (λ (s : Surface). HaveOwnSlots s slots) (sym (surface_there m)) (own_there slots slots_are);
         items = omega arith;
         heads = omega arith;
       })

@@ -1,6 +1,5 @@
 pub mod CornerNumbers
 pub mod Shrinking
-pub mod Slots
 pub mod Tables
 pub mod FaceRows
 pub mod Walks

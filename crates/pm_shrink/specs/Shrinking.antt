@@ -1,30 +1,21 @@
 -- The mesh that is being simplified, as contracts see it.
-use Rattle.std.specs.Prelude.{◌≡◌, ℕ, ◌+◌, ◌≤◌, true, cond, List, [], length, slice_index_or, ◌↔◌}
+use Rattle.std.specs.Prelude.{◌≡◌, ℕ, ◌+◌, ◌≤◌, true, List, [], length, slice_index_or, ◌↔◌}
 use Rattle.pm_base.specs.declared.limits.TheConstants.{MOST_FACES, MOST_NODES}
 use Rattle.pm_base.specs.Sides.{Net, Stands}
 use Rattle.pm_base.specs.Fans.{IsOrientedManifold}
 use Rattle.pm_links.specs.Lists.{has, IsOnce}
-use Rattle.pm_quadric.specs.declared.quadric.TheConstants.{MOST_PLANES}
-use Rattle.pm_quadric.specs.Sums.{Sums, zero_sums}
-use Rattle.pm_runs.specs.Surfaces.{Surface, next_vertex, is_live, net_of_surface, face_count_of, IsSurface}
-use Rattle.pm_runs.specs.Counts.{sum_below}
+use Rattle.pm_runs.specs.Surfaces.{Surface, next_vertex, net_of_surface, face_count_of, IsSurface}
 use Rattle.pm_runs.specs.Merged.{IsProper}
 
--- The surface; by vertex number the quadric; and by vertex number the corners of its faces, in an order of the type's own.
--- Past the next vertex the two lists say nothing, and the list of quadrics says nothing of a merged vertex either: the one
--- that was made of it has its room.
+-- The surface; and by vertex number the corners of its faces, in an order of the type's own. Past
+-- the next vertex the list says nothing.
 pub record Shrinking : Type 0 where
   pub surface : Surface
-  pub quadrics : List Sums
   pub corners : List (List ℕ)
 
 -- The sides of the faces that are there.
 abbrev pub net_at : Shrinking → Net
 net_at s = net_of_surface s.surface
-
--- The quadric of a live vertex.
-abbrev pub quadric_at : Shrinking → ℕ → Sums
-quadric_at s v = slice_index_or s.quadrics v zero_sums
 
 -- The corners at a vertex.
 abbrev pub fan_at : Shrinking → ℕ → List ℕ
@@ -35,10 +26,6 @@ pub record AreCornersAt (m : Net) (v : ℕ) (corners : List ℕ) : Type 0 where
   pub each : (e : ℕ) → (has corners e ≡ true) ↔ (Stands m e × (m.from e ≡ v))
   pub once : IsOnce corners
 
--- How many planes the quadric of a live vertex counts; none where the vertex was merged.
-abbrev pub planes_counted : Surface → List Sums → ℕ → ℕ
-planes_counted s quadrics v = cond (is_live s v) (slice_index_or quadrics v zero_sums).count 0
-
 -- What holds of every `Shrink`.
 pub record IsKept (s : Shrinking) : Type 0 where
   pub short : length s.surface.faces ≤ MOST_FACES
@@ -47,4 +34,3 @@ pub record IsKept (s : Shrinking) : Type 0 where
   pub proper : IsProper (net_at s)
   pub manifold : IsOrientedManifold (net_at s)
   pub corners : (v : ℕ) → AreCornersAt (net_at s) v (fan_at s v)
-  pub planes : sum_below (planes_counted s.surface s.quadrics) (next_vertex s.surface) ≤ MOST_PLANES

@@ -6,21 +6,14 @@ use Rattle.pm_base.specs.declared.mesh.Corners.{Corners}
 use Rattle.pm_base.specs.Meshes.{Mesh}
 use Rattle.pm_base.specs.Sides.{Stands, twin_of, face_of, corner_in, no_corners}
 use Rattle.pm_links.specs.Lists.{Lists}
-use Rattle.pm_quadric.specs.Sums.{Sums}
 use Rattle.pm_runs.specs.Surfaces.{Surface, net_of_surface, face_count_of}
 use Rattle.pm_runs.specs.Counts.{live_count_of}
 use Rattle.pm_shrink.specs.Shrinking.{Shrinking, IsKept}
-use Rattle.pm_shrink.specs.Slots.{HaveOwnSlots}
 
 -- The faces by number, each with its corners or none where it was dropped; and by number of a side what stands across it.
 pub record Faces : Type 0 where
   pub faces : List (Option Corners)
   pub across : List (Option ℕ)
-
--- By vertex number the slot, and the quadric that stands there.
-pub record Quadrics : Type 0 where
-  pub slots : List ℕ
-  pub quadrics : List Sums
 
 -- The vertex from which a side runs, as in the surface of these faces.
 abbrev pub side_from : List (Option Corners) → ℕ → ℕ
@@ -33,10 +26,9 @@ mesh_with points faces = record { points = points; faces = faces }
 abbrev pub surface_with : List (Option Corners) → List (Option Place) → ℕ → Surface
 surface_with faces places next = record { faces = faces; places = take next places }
 
-abbrev pub shrinking_with : List (Option Corners) → List (Option Place) → ℕ → List Sums → Lists → Shrinking
-shrinking_with faces places next quadrics corners = record {
+abbrev pub shrinking_with : List (Option Corners) → List (Option Place) → ℕ → Lists → Shrinking
+shrinking_with faces places next corners = record {
   surface = surface_with faces places next;
-  quadrics = quadrics;
   corners = corners.lists;
 }
 
@@ -54,12 +46,10 @@ pub record IsRoomy (s : Surface) (places : List (Option Place)) (next left : ℕ
   pub fresh : (v : ℕ) → next ≤ v → slice_index_or places v None ≡ None
 
 -- What the type keeps.
-pub record IsShrink (faces : List (Option Corners)) (places : List (Option Place)) (next left : ℕ) (quadrics : List Sums)
-    (slots : List ℕ) (across : List (Option ℕ)) (corners : Lists) : Type 0 where
-  pub kept : IsKept (shrinking_with faces places next quadrics corners)
+pub record IsShrink (faces : List (Option Corners)) (places : List (Option Place)) (next left : ℕ)
+    (across : List (Option ℕ)) (corners : Lists) : Type 0 where
+  pub kept : IsKept (shrinking_with faces places next corners)
   pub twins : IsAcross (surface_with faces places next) across
   pub roomy : IsRoomy (surface_with faces places next) places next left
-  pub slots_len : length slots ≡ length places
-  pub own_slots : HaveOwnSlots (surface_with faces places next) slots
   pub items : corners.items ≡ 3 * length faces
   pub heads : length corners.lists ≡ length places

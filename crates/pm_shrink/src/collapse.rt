@@ -3,11 +3,10 @@ ghost use Rattle.std.specs.Prelude.{◌≡◌, ◌≢◌, ◌<◌, ℕ, true, Li
 ghost use Rattle.pm_base.specs.Fans.{IsOrientedManifold};
 ghost use Rattle.pm_base.specs.declared.log.Collapse.{Collapse as Entry};
 ghost use Rattle.pm_base.specs.Meshes.{Mesh};
-ghost use Rattle.pm_quadric.specs.Sums.{plus_sums};
-ghost use Rattle.pm_runs.specs.Surfaces.{next_vertex, is_live as is_live_in, collapsed};
+ghost use Rattle.pm_runs.specs.Surfaces.{is_live as is_live_in, collapsed};
 ghost use Rattle.pm_runs.specs.Pairs.{IsLegalPair};
 ghost use Rattle.pm_runs.specs.Steps.{gone_of, entry_of};
-ghost use Rattle.pm_shrink.specs.Shrinking.{net_at, quadric_at};
+ghost use Rattle.pm_shrink.specs.Shrinking.{net_at};
 ghost use Rattle.pm_shrink.specs.Following.{IsAfter};
 
 use crate::Shrink;
@@ -17,18 +16,13 @@ use pm_base::{Collapse, Gone, Point};
 impl Shrink {
     /// Collapses a pair that is legal at the place: both ends become the next vertex, there, and the faces that hold both
     /// are dropped. Only the faces at the two ends are touched. The answer is the log's entry, with what stood across the
-    /// other sides of the dropped faces. The quadric of each live vertex goes on to stand for the planes of all input
-    /// vertices merged in it.
+    /// other sides of the dropped faces.
     pub fn collapse(&mut self, a: u32, b: u32, place: Point) -> Collapse
         requires ordered { a < b }
         requires legal { IsLegalPair self.old.surface a b place }
         ensures manifold { IsOrientedManifold (net_at self.new) }
         ensures surface { self.new.surface ≡ collapsed self.old.surface a b place }
         ensures entry { result ≡ entry_of self.old.surface a b place }
-        ensures quadric { quadric_at self.new (next_vertex self.old.surface)
-            ≡ plus_sums (quadric_at self.old a) (quadric_at self.old b) }
-        ensures quadrics { (v : ℕ) → is_live_in self.new.surface v ≡ true → v ≢ next_vertex self.old.surface
-            → quadric_at self.new v ≡ quadric_at self.old v }
         ensures after { (m : Mesh) (log : List Entry) → IsAfter m log self.old
             → IsAfter m (log ++ result ∷ []) self.new }
     {
@@ -44,10 +38,6 @@ impl Shrink {
         ensures manifold { IsOrientedManifold (net_at self.new) }
         ensures surface { self.new.surface ≡ collapsed self.old.surface a b place }
         ensures entry { result ≡ entry_of self.old.surface a b place }
-        ensures quadric { quadric_at self.new (next_vertex self.old.surface)
-            ≡ plus_sums (quadric_at self.old a) (quadric_at self.old b) }
-        ensures quadrics { (v : ℕ) → is_live_in self.new.surface v ≡ true → v ≢ next_vertex self.old.surface
-            → quadric_at self.new v ≡ quadric_at self.old v }
         ensures after { (m : Mesh) (log : List Entry) → IsAfter m log self.old
             → IsAfter m (log ++ result ∷ []) self.new }
     {
@@ -60,7 +50,6 @@ impl Shrink {
         merge_corners(&mut self.faces, &mut self.corners, a, s);
         merge_corners(&mut self.faces, &mut self.corners, b, s);
         merge_places(&mut self.places, a, b, s, place);
-        self.quadrics.merge(a, b, s);
         self.next = s + 1;
         self.left -= count_gone(left, right);
         Collapse {

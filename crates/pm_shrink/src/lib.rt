@@ -8,7 +8,6 @@ mod corners;
 mod faces;
 mod fan;
 mod legal;
-mod quadrics;
 mod readers;
 mod rims;
 mod setup;

@@ -5,11 +5,10 @@ ghost use Rattle.pm_base.specs.declared.limits.TheConstants.{MOST_SIDES};
 ghost use Rattle.pm_base.specs.Sides.{side_count, Stands, twin_of};
 ghost use Rattle.pm_links.specs.Lists.{first_of, after};
 ghost use Rattle.pm_runs.specs.Surfaces.{next_vertex as next_vertex_of, is_live as is_live_in, place_at, face_count_of};
-ghost use Rattle.pm_shrink.specs.Shrinking.{net_at, quadric_at, fan_at, IsKept};
+ghost use Rattle.pm_shrink.specs.Shrinking.{net_at, fan_at, IsKept};
 
 use crate::Shrink;
 use pm_base::{Point, Side};
-use pm_quadric::Quadric;
 
 impl Shrink {
     /// What the type keeps, as a law: the call takes no step.
@@ -47,14 +46,6 @@ impl Shrink {
         ensures { result ≡ place_at self.now.surface v }
     {
         self.places[v as usize].unwrap()
-    }
-
-    /// The quadric of a live vertex.
-    pub fn quadric(&self, v: u32) -> &Quadric
-        requires { is_live_in self.now.surface v ≡ true }
-        ensures { result.now ≡ quadric_at self.now v }
-    {
-        self.quadrics.get(v)
     }
 
     /// The first corner of the list of a live vertex, and none exactly where no face that is still there has the vertex.

@@ -5,17 +5,13 @@ ghost use Rattle.pm_base.specs.Meshes.{mesh_of, IsWellFormed};
 ghost use Rattle.pm_base.specs.Sides.{face_of, net_of};
 ghost use Rattle.pm_base.specs.Fans.{IsOrientedManifold};
 ghost use Rattle.pm_links.specs.Lists.{list_of, has, IsSound};
-ghost use Rattle.pm_quadric.specs.Sums.{sums_of};
 ghost use Rattle.pm_runs.specs.Surfaces.{surface_of};
-ghost use Rattle.pm_runs.specs.Planes.{planes_at};
 ghost use Rattle.pm_twins.specs.Table.{IsTableOf};
-ghost use Rattle.pm_shrink.specs.Shrinking.{quadric_at};
 ghost use Rattle.pm_shrink.specs.Tables.{side_from};
 ghost use Rattle.pm_shrink.specs.Following.{IsAfter};
 
 use crate::Shrink;
 use crate::faces::FaceTable;
-use crate::quadrics::QuadricTable;
 use crate::rims::RimTable;
 use crate::shrink::OutOfMemory;
 use pm_base::{Mesh, Point, Side};
@@ -31,8 +27,6 @@ impl Shrink {
         requires manifold { IsOrientedManifold (net_of mesh.faces.items) }
         requires twins { IsTableOf (net_of mesh.faces.items) (length mesh.points.items) twins }
         ensures surface { IfOk result (λ s. s.surface ≡ surface_of (mesh_of mesh)) }
-        ensures quadrics { IfOk result (λ s. (v : ℕ) → v < length mesh.points.items
-            → quadric_at s v ≡ sums_of (planes_at (mesh_of mesh) v)) }
         ensures after { IfOk result (IsAfter (mesh_of mesh) []) }
     {
         let mut shrink = Shrink::filled(alloc, mesh, twins)?;
@@ -46,8 +40,6 @@ impl Shrink {
         requires manifold { IsOrientedManifold (net_of mesh.faces.items) }
         requires twins { IsTableOf (net_of mesh.faces.items) (length mesh.points.items) twins }
         ensures surface { IfOk result (λ s. s.surface ≡ surface_of (mesh_of mesh)) }
-        ensures quadrics { IfOk result (λ s. (v : ℕ) → v < length mesh.points.items
-            → quadric_at s v ≡ sums_of (planes_at (mesh_of mesh) v)) }
         ensures after { IfOk result (IsAfter (mesh_of mesh) []) }
     {
         let triples = mesh.faces.as_slice();
@@ -55,14 +47,12 @@ impl Shrink {
         let room = 2 * points.len();
         let faces = FaceTable::new(alloc, triples, twins.into_sides())?;
         let places = places_with_room(alloc, points, room)?;
-        let quadrics = QuadricTable::new(alloc, points, triples, room)?;
         let corners = corner_lists(alloc, &faces, room)?;
         let rims = RimTable::new(alloc, room)?;
         Ok(Shrink {
             faces,
             corners,
             places,
-            quadrics,
             rims,
             next: points.len() as u32,
             left: triples.len() as u32,

@@ -1,6 +1,5 @@
 //! A surface that shrinks, collapse by collapse.
 use crate::faces::FaceTable;
-use crate::quadrics::QuadricTable;
 use crate::rims::RimTable;
 use pm_base::Point;
 use pm_links::Links;
@@ -10,8 +9,8 @@ use std::marker::Model;
 /// The answer for want of memory.
 pub type OutOfMemory = AllocError;
 
-/// A mesh that is being simplified. Contracts see the faces that are still there, the places of the live vertices, and
-/// by vertex number the quadrics and the lists of corners.
+/// A mesh that is being simplified. Contracts see the faces that are still there, the places of the
+/// live vertices, and by vertex number the lists of corners.
 ///
 /// Vertices are named by numbers, and each collapse makes the next one. Only `new` takes memory, some 60 bytes a face and
 /// 230 a point: there is room for as many later vertices as there are points, since each collapse takes two away for one.
@@ -23,7 +22,6 @@ pub struct Shrink {
     pub(crate) corners: Links,
     // The place of each live vertex; none where it was merged into another, or isn't made yet.
     pub(crate) places: Vec<Option<Point>>,
-    pub(crate) quadrics: QuadricTable,
     // A border side from each vertex, where one was noted that is still one.
     pub(crate) rims: RimTable,
     // The number of the next vertex.
@@ -38,8 +36,8 @@ impl Model for Shrink {
 
     ghost Value = { Shrinking };
 
-    ghost view = { λ s. shrinking_with s.faces.faces s.places.items s.next s.quadrics.quadrics s.corners };
+    ghost view = { λ s. shrinking_with s.faces.faces s.places.items s.next s.corners };
 
-    ghost invariant = { λ s. IsShrink s.faces.faces s.places.items s.next s.left s.quadrics.quadrics
-        s.quadrics.slots s.faces.across s.corners };
+    ghost invariant = { λ s. IsShrink s.faces.faces s.places.items s.next s.left
+        s.faces.across s.corners };
 }

@@ -1,4 +1,4 @@
-use Rattle.std.proofs.Common.{rules, ◌≡◌, ◌∙◌, ◌*◌, ◌<◌, ℕ, true, List, Option, Some, None, length, get_or, map, ap, sym, subst, arith}
+use Rattle.std.proofs.Common.{◌≡◌, ◌∙◌, ◌*◌, ◌<◌, ℕ, true, List, Option, Some, None, length, get_or, map, ap, sym, subst, arith}
 use Rattle.std.specs.Prelude.{is_some, IfSome}
 use Rattle.std.proofs.lemmas.List.{length-map, get_or-map}
 use Rattle.pm_base.specs.declared.limits.TheConstants.{MOST_SIDES}
@@ -40,15 +40,11 @@ invariant_of-result c =
     let faces : c.in_ok-faces.faces.faces ≡ map Some m.faces = (c.in_ok-faces.ensures {u = tt}).faces ∙ ap (map Some) c.as_slice-triples.ensures in
     let across : c.in_ok-faces.faces.across ≡ c.args.twins.twins = (c.in_ok-faces.ensures {u = tt}).across ∙ c.into_sides.ensures in
     let places : c.in_ok-places.places.items ≡ roomy_places m = rw c.as_slice-points.ensures at c.in_ok-places.ensures in
-    let quadrics = rw (c.as_slice-points.ensures, c.as_slice-triples.ensures) at (c.in_ok-quadrics.ensures {u = tt}) in
     let corners = rw (faces, length-map m.faces Some, c.as_slice-points.ensures) at (c.in_ok-corners.ensures {u = tt}) in
     rw (faces, across, c.as_slice-points.ensures, c.as_slice-triples.ensures)
-    (started m c.requires.formed c.requires.manifold c.in_ok-places.places.items c.args.twins c.in_ok-quadrics.quadrics.quadrics c.in_ok-quadrics.quadrics.slots c.in_ok-corners.corners
-    places c.requires.twins quadrics.len quadrics.slots quadrics.quadrics
+    (started m c.requires.formed c.requires.manifold c.in_ok-places.places.items c.args.twins c.in_ok-corners.corners
+    places c.requires.twins
     corners.items corners.heads corners.sound corners.each)
-
-pub returns-clause-quadrics : goal.returns-clause-quadrics
-returns-clause-quadrics c = search rules
 
 pub returns-clause-after : goal.returns-clause-after
 returns-clause-after c =
@@ -56,6 +52,6 @@ returns-clause-after c =
     let start : IsStartOfRun m = record { formed = c.requires.formed; manifold = c.requires.manifold } in
     let faces : c.in_ok-faces.faces.faces ≡ map Some m.faces = (c.in_ok-faces.ensures {u = tt}).faces ∙ ap (map Some) c.as_slice-triples.ensures in
     let places : c.in_ok-places.places.items ≡ roomy_places m = rw c.as_slice-points.ensures at c.in_ok-places.ensures in
-    let new : Shrinking = shrinking_with c.in_ok-faces.faces.faces c.in_ok-places.places.items (length c.as_slice-points.result.now) c.in_ok-quadrics.quadrics.quadrics c.in_ok-corners.corners in
+    let new : Shrinking = shrinking_with c.in_ok-faces.faces.faces c.in_ok-places.places.items (length c.as_slice-points.result.now) c.in_ok-corners.corners in
     let made : new.surface ≡ surface_of m = rw (faces, places, c.as_slice-points.ensures) (surface_there m) in
-    start_after m new start made (returns-clause-quadrics c)
+    start_after m new start made

@@ -6,7 +6,6 @@ use Rattle.pm_base.specs.declared.log.Collapse.{Collapse}
 use Rattle.pm_base.specs.Sides.{Net}
 use Rattle.pm_links.proofs.Calls.{after_move}
 use Rattle.pm_links.specs.Lists.{Lists, list_of, has}
-use Rattle.pm_quadric.specs.Sums.{zero_sums}
 use Rattle.pm_runs.specs.Surfaces.{Surface, next_vertex, is_live, net_of_surface, collapsed}
 use Rattle.pm_runs.specs.Pairs.{IsLegalPair}
 use Rattle.pm_runs.specs.Steps.{gone_of}
@@ -18,8 +17,7 @@ use Rattle.pm_shrink.proofs.GoneLaws.{gone_face_in, gone_first_in, gone_second_i
 use Rattle.pm_shrink.proofs.WriteLaws.{length-with_corners}
 use Rattle.pm_shrink.proofs.MergedFaces.{length-without_face}
 use Rattle.pm_shrink.proofs.MergedTables.{length-relinked}
-use Rattle.pm_shrink.proofs.MergedQuadrics.{AreMerged}
-use Rattle.pm_shrink.proofs.MergedShrink.{IsWritten, first_low, second_low, next_low, left-count, few, done-quadrics, done-surface, done-shrink}
+use Rattle.pm_shrink.proofs.MergedShrink.{IsWritten, first_low, second_low, next_low, left-count, done-surface, done-shrink}
 use Rattle.pm_shrink.proofs.FollowingLaws.{collapse_after}
 use Rattle.pm_shrink.proofs.shrink.Shrink.merge.Goals as goal
 
@@ -119,33 +117,33 @@ drop_face-requires-2-clause-held c =
 pub merge_corners-requires-clause-from_in : goal.merge_corners-requires-clause-from_in
 merge_corners-requires-clause-from_in c =
     let legal : IsLegalPair (surface_with c.self.inside.faces.faces c.self.inside.places.items c.self.inside.next) c.args.a c.args.b c.args.place = rw (← c.self.view_is) at c.requires.legal in
-    let l = first_low c.self.inside.faces.faces c.self.inside.places.items c.self.inside.next c.self.inside.left c.self.inside.quadrics.quadrics c.self.inside.quadrics.slots c.self.inside.faces.across c.self.inside.corners c.self.invariant c.args.a c.args.b c.args.place c.requires.ordered legal in
-    let r = second_low c.self.inside.faces.faces c.self.inside.places.items c.self.inside.next c.self.inside.left c.self.inside.quadrics.quadrics c.self.inside.quadrics.slots c.self.inside.faces.across c.self.inside.corners c.self.invariant c.args.a c.args.b c.args.place c.requires.ordered legal in
-    let n = next_low c.self.inside.faces.faces c.self.inside.places.items c.self.inside.next c.self.inside.left c.self.inside.quadrics.quadrics c.self.inside.quadrics.slots c.self.inside.faces.across c.self.inside.corners c.self.invariant c.args.a c.args.b c.args.place c.requires.ordered legal in
+    let l = first_low c.self.inside.faces.faces c.self.inside.places.items c.self.inside.next c.self.inside.left c.self.inside.faces.across c.self.inside.corners c.self.invariant c.args.a c.args.b c.args.place c.requires.ordered legal in
+    let r = second_low c.self.inside.faces.faces c.self.inside.places.items c.self.inside.next c.self.inside.left c.self.inside.faces.across c.self.inside.corners c.self.invariant c.args.a c.args.b c.args.place c.requires.ordered legal in
+    let n = next_low c.self.inside.faces.faces c.self.inside.places.items c.self.inside.next c.self.inside.left c.self.inside.faces.across c.self.inside.corners c.self.invariant c.args.a c.args.b c.args.place c.requires.ordered legal in
     let h = c.drop_face-2.ensures.heads ∙ c.drop_face.ensures.heads ∙ c.self.invariant.heads in
     omega arith
 
 pub merge_corners-requires-clause-to_in : goal.merge_corners-requires-clause-to_in
 merge_corners-requires-clause-to_in c =
     let legal : IsLegalPair (surface_with c.self.inside.faces.faces c.self.inside.places.items c.self.inside.next) c.args.a c.args.b c.args.place = rw (← c.self.view_is) at c.requires.legal in
-    let l = first_low c.self.inside.faces.faces c.self.inside.places.items c.self.inside.next c.self.inside.left c.self.inside.quadrics.quadrics c.self.inside.quadrics.slots c.self.inside.faces.across c.self.inside.corners c.self.invariant c.args.a c.args.b c.args.place c.requires.ordered legal in
-    let r = second_low c.self.inside.faces.faces c.self.inside.places.items c.self.inside.next c.self.inside.left c.self.inside.quadrics.quadrics c.self.inside.quadrics.slots c.self.inside.faces.across c.self.inside.corners c.self.invariant c.args.a c.args.b c.args.place c.requires.ordered legal in
-    let n = next_low c.self.inside.faces.faces c.self.inside.places.items c.self.inside.next c.self.inside.left c.self.inside.quadrics.quadrics c.self.inside.quadrics.slots c.self.inside.faces.across c.self.inside.corners c.self.invariant c.args.a c.args.b c.args.place c.requires.ordered legal in
+    let l = first_low c.self.inside.faces.faces c.self.inside.places.items c.self.inside.next c.self.inside.left c.self.inside.faces.across c.self.inside.corners c.self.invariant c.args.a c.args.b c.args.place c.requires.ordered legal in
+    let r = second_low c.self.inside.faces.faces c.self.inside.places.items c.self.inside.next c.self.inside.left c.self.inside.faces.across c.self.inside.corners c.self.invariant c.args.a c.args.b c.args.place c.requires.ordered legal in
+    let n = next_low c.self.inside.faces.faces c.self.inside.places.items c.self.inside.next c.self.inside.left c.self.inside.faces.across c.self.inside.corners c.self.invariant c.args.a c.args.b c.args.place c.requires.ordered legal in
     let h = c.drop_face-2.ensures.heads ∙ c.drop_face.ensures.heads ∙ c.self.invariant.heads in
     omega arith
 
 pub merge_corners-requires-clause-differ : goal.merge_corners-requires-clause-differ
 merge_corners-requires-clause-differ c =
     let legal : IsLegalPair (surface_with c.self.inside.faces.faces c.self.inside.places.items c.self.inside.next) c.args.a c.args.b c.args.place = rw (← c.self.view_is) at c.requires.legal in
-    let l = first_low c.self.inside.faces.faces c.self.inside.places.items c.self.inside.next c.self.inside.left c.self.inside.quadrics.quadrics c.self.inside.quadrics.slots c.self.inside.faces.across c.self.inside.corners c.self.invariant c.args.a c.args.b c.args.place c.requires.ordered legal in
-    let r = second_low c.self.inside.faces.faces c.self.inside.places.items c.self.inside.next c.self.inside.left c.self.inside.quadrics.quadrics c.self.inside.quadrics.slots c.self.inside.faces.across c.self.inside.corners c.self.invariant c.args.a c.args.b c.args.place c.requires.ordered legal in
-    let n = next_low c.self.inside.faces.faces c.self.inside.places.items c.self.inside.next c.self.inside.left c.self.inside.quadrics.quadrics c.self.inside.quadrics.slots c.self.inside.faces.across c.self.inside.corners c.self.invariant c.args.a c.args.b c.args.place c.requires.ordered legal in
+    let l = first_low c.self.inside.faces.faces c.self.inside.places.items c.self.inside.next c.self.inside.left c.self.inside.faces.across c.self.inside.corners c.self.invariant c.args.a c.args.b c.args.place c.requires.ordered legal in
+    let r = second_low c.self.inside.faces.faces c.self.inside.places.items c.self.inside.next c.self.inside.left c.self.inside.faces.across c.self.inside.corners c.self.invariant c.args.a c.args.b c.args.place c.requires.ordered legal in
+    let n = next_low c.self.inside.faces.faces c.self.inside.places.items c.self.inside.next c.self.inside.left c.self.inside.faces.across c.self.inside.corners c.self.invariant c.args.a c.args.b c.args.place c.requires.ordered legal in
     λ is. absurd (omega (arith, is))
 
 pub merge_corners-requires-clause-small : goal.merge_corners-requires-clause-small
 merge_corners-requires-clause-small c =
     let legal : IsLegalPair (surface_with c.self.inside.faces.faces c.self.inside.places.items c.self.inside.next) c.args.a c.args.b c.args.place = rw (← c.self.view_is) at c.requires.legal in
-    let n = next_low c.self.inside.faces.faces c.self.inside.places.items c.self.inside.next c.self.inside.left c.self.inside.quadrics.quadrics c.self.inside.quadrics.slots c.self.inside.faces.across c.self.inside.corners c.self.invariant c.args.a c.args.b c.args.place c.requires.ordered legal in
+    let n = next_low c.self.inside.faces.faces c.self.inside.places.items c.self.inside.next c.self.inside.left c.self.inside.faces.across c.self.inside.corners c.self.invariant c.args.a c.args.b c.args.place c.requires.ordered legal in
     let most = c.self.invariant.roomy.most in
     omega arith
 
@@ -158,9 +156,9 @@ merge_corners-requires-clause-corners c =
 pub merge_corners-requires-2-clause-from_in : goal.merge_corners-requires-2-clause-from_in
 merge_corners-requires-2-clause-from_in c =
     let legal : IsLegalPair (surface_with c.self.inside.faces.faces c.self.inside.places.items c.self.inside.next) c.args.a c.args.b c.args.place = rw (← c.self.view_is) at c.requires.legal in
-    let l = first_low c.self.inside.faces.faces c.self.inside.places.items c.self.inside.next c.self.inside.left c.self.inside.quadrics.quadrics c.self.inside.quadrics.slots c.self.inside.faces.across c.self.inside.corners c.self.invariant c.args.a c.args.b c.args.place c.requires.ordered legal in
-    let r = second_low c.self.inside.faces.faces c.self.inside.places.items c.self.inside.next c.self.inside.left c.self.inside.quadrics.quadrics c.self.inside.quadrics.slots c.self.inside.faces.across c.self.inside.corners c.self.invariant c.args.a c.args.b c.args.place c.requires.ordered legal in
-    let n = next_low c.self.inside.faces.faces c.self.inside.places.items c.self.inside.next c.self.inside.left c.self.inside.quadrics.quadrics c.self.inside.quadrics.slots c.self.inside.faces.across c.self.inside.corners c.self.invariant c.args.a c.args.b c.args.place c.requires.ordered legal in
+    let l = first_low c.self.inside.faces.faces c.self.inside.places.items c.self.inside.next c.self.inside.left c.self.inside.faces.across c.self.inside.corners c.self.invariant c.args.a c.args.b c.args.place c.requires.ordered legal in
+    let r = second_low c.self.inside.faces.faces c.self.inside.places.items c.self.inside.next c.self.inside.left c.self.inside.faces.across c.self.inside.corners c.self.invariant c.args.a c.args.b c.args.place c.requires.ordered legal in
+    let n = next_low c.self.inside.faces.faces c.self.inside.places.items c.self.inside.next c.self.inside.left c.self.inside.faces.across c.self.inside.corners c.self.invariant c.args.a c.args.b c.args.place c.requires.ordered legal in
     let h = c.drop_face-2.ensures.heads ∙ c.drop_face.ensures.heads ∙ c.self.invariant.heads in
     let mid : Lists = c.drop_face-2.new.corners in
     let moved = after_move mid c.merge_corners.new.corners c.args.a c.self.inside.next (omega arith) (omega arith) (λ is. absurd (omega (arith, is))) c.merge_corners.ensures.corners in
@@ -170,9 +168,9 @@ merge_corners-requires-2-clause-from_in c =
 pub merge_corners-requires-2-clause-to_in : goal.merge_corners-requires-2-clause-to_in
 merge_corners-requires-2-clause-to_in c =
     let legal : IsLegalPair (surface_with c.self.inside.faces.faces c.self.inside.places.items c.self.inside.next) c.args.a c.args.b c.args.place = rw (← c.self.view_is) at c.requires.legal in
-    let l = first_low c.self.inside.faces.faces c.self.inside.places.items c.self.inside.next c.self.inside.left c.self.inside.quadrics.quadrics c.self.inside.quadrics.slots c.self.inside.faces.across c.self.inside.corners c.self.invariant c.args.a c.args.b c.args.place c.requires.ordered legal in
-    let r = second_low c.self.inside.faces.faces c.self.inside.places.items c.self.inside.next c.self.inside.left c.self.inside.quadrics.quadrics c.self.inside.quadrics.slots c.self.inside.faces.across c.self.inside.corners c.self.invariant c.args.a c.args.b c.args.place c.requires.ordered legal in
-    let n = next_low c.self.inside.faces.faces c.self.inside.places.items c.self.inside.next c.self.inside.left c.self.inside.quadrics.quadrics c.self.inside.quadrics.slots c.self.inside.faces.across c.self.inside.corners c.self.invariant c.args.a c.args.b c.args.place c.requires.ordered legal in
+    let l = first_low c.self.inside.faces.faces c.self.inside.places.items c.self.inside.next c.self.inside.left c.self.inside.faces.across c.self.inside.corners c.self.invariant c.args.a c.args.b c.args.place c.requires.ordered legal in
+    let r = second_low c.self.inside.faces.faces c.self.inside.places.items c.self.inside.next c.self.inside.left c.self.inside.faces.across c.self.inside.corners c.self.invariant c.args.a c.args.b c.args.place c.requires.ordered legal in
+    let n = next_low c.self.inside.faces.faces c.self.inside.places.items c.self.inside.next c.self.inside.left c.self.inside.faces.across c.self.inside.corners c.self.invariant c.args.a c.args.b c.args.place c.requires.ordered legal in
     let h = c.drop_face-2.ensures.heads ∙ c.drop_face.ensures.heads ∙ c.self.invariant.heads in
     let mid : Lists = c.drop_face-2.new.corners in
     let moved = after_move mid c.merge_corners.new.corners c.args.a c.self.inside.next (omega arith) (omega arith) (λ is. absurd (omega (arith, is))) c.merge_corners.ensures.corners in
@@ -182,24 +180,24 @@ merge_corners-requires-2-clause-to_in c =
 pub merge_corners-requires-2-clause-differ : goal.merge_corners-requires-2-clause-differ
 merge_corners-requires-2-clause-differ c =
     let legal : IsLegalPair (surface_with c.self.inside.faces.faces c.self.inside.places.items c.self.inside.next) c.args.a c.args.b c.args.place = rw (← c.self.view_is) at c.requires.legal in
-    let l = first_low c.self.inside.faces.faces c.self.inside.places.items c.self.inside.next c.self.inside.left c.self.inside.quadrics.quadrics c.self.inside.quadrics.slots c.self.inside.faces.across c.self.inside.corners c.self.invariant c.args.a c.args.b c.args.place c.requires.ordered legal in
-    let r = second_low c.self.inside.faces.faces c.self.inside.places.items c.self.inside.next c.self.inside.left c.self.inside.quadrics.quadrics c.self.inside.quadrics.slots c.self.inside.faces.across c.self.inside.corners c.self.invariant c.args.a c.args.b c.args.place c.requires.ordered legal in
-    let n = next_low c.self.inside.faces.faces c.self.inside.places.items c.self.inside.next c.self.inside.left c.self.inside.quadrics.quadrics c.self.inside.quadrics.slots c.self.inside.faces.across c.self.inside.corners c.self.invariant c.args.a c.args.b c.args.place c.requires.ordered legal in
+    let l = first_low c.self.inside.faces.faces c.self.inside.places.items c.self.inside.next c.self.inside.left c.self.inside.faces.across c.self.inside.corners c.self.invariant c.args.a c.args.b c.args.place c.requires.ordered legal in
+    let r = second_low c.self.inside.faces.faces c.self.inside.places.items c.self.inside.next c.self.inside.left c.self.inside.faces.across c.self.inside.corners c.self.invariant c.args.a c.args.b c.args.place c.requires.ordered legal in
+    let n = next_low c.self.inside.faces.faces c.self.inside.places.items c.self.inside.next c.self.inside.left c.self.inside.faces.across c.self.inside.corners c.self.invariant c.args.a c.args.b c.args.place c.requires.ordered legal in
     λ is. absurd (omega (arith, is))
 
 pub merge_corners-requires-2-clause-small : goal.merge_corners-requires-2-clause-small
 merge_corners-requires-2-clause-small c =
     let legal : IsLegalPair (surface_with c.self.inside.faces.faces c.self.inside.places.items c.self.inside.next) c.args.a c.args.b c.args.place = rw (← c.self.view_is) at c.requires.legal in
-    let n = next_low c.self.inside.faces.faces c.self.inside.places.items c.self.inside.next c.self.inside.left c.self.inside.quadrics.quadrics c.self.inside.quadrics.slots c.self.inside.faces.across c.self.inside.corners c.self.invariant c.args.a c.args.b c.args.place c.requires.ordered legal in
+    let n = next_low c.self.inside.faces.faces c.self.inside.places.items c.self.inside.next c.self.inside.left c.self.inside.faces.across c.self.inside.corners c.self.invariant c.args.a c.args.b c.args.place c.requires.ordered legal in
     let most = c.self.invariant.roomy.most in
     omega arith
 
 pub merge_corners-requires-2-clause-corners : goal.merge_corners-requires-2-clause-corners
 merge_corners-requires-2-clause-corners c =
     let legal : IsLegalPair (surface_with c.self.inside.faces.faces c.self.inside.places.items c.self.inside.next) c.args.a c.args.b c.args.place = rw (← c.self.view_is) at c.requires.legal in
-    let l = first_low c.self.inside.faces.faces c.self.inside.places.items c.self.inside.next c.self.inside.left c.self.inside.quadrics.quadrics c.self.inside.quadrics.slots c.self.inside.faces.across c.self.inside.corners c.self.invariant c.args.a c.args.b c.args.place c.requires.ordered legal in
-    let r = second_low c.self.inside.faces.faces c.self.inside.places.items c.self.inside.next c.self.inside.left c.self.inside.quadrics.quadrics c.self.inside.quadrics.slots c.self.inside.faces.across c.self.inside.corners c.self.invariant c.args.a c.args.b c.args.place c.requires.ordered legal in
-    let n = next_low c.self.inside.faces.faces c.self.inside.places.items c.self.inside.next c.self.inside.left c.self.inside.quadrics.quadrics c.self.inside.quadrics.slots c.self.inside.faces.across c.self.inside.corners c.self.invariant c.args.a c.args.b c.args.place c.requires.ordered legal in
+    let l = first_low c.self.inside.faces.faces c.self.inside.places.items c.self.inside.next c.self.inside.left c.self.inside.faces.across c.self.inside.corners c.self.invariant c.args.a c.args.b c.args.place c.requires.ordered legal in
+    let r = second_low c.self.inside.faces.faces c.self.inside.places.items c.self.inside.next c.self.inside.left c.self.inside.faces.across c.self.inside.corners c.self.invariant c.args.a c.args.b c.args.place c.requires.ordered legal in
+    let n = next_low c.self.inside.faces.faces c.self.inside.places.items c.self.inside.next c.self.inside.left c.self.inside.faces.across c.self.inside.corners c.self.invariant c.args.a c.args.b c.args.place c.requires.ordered legal in
     let h = c.drop_face-2.ensures.heads ∙ c.drop_face.ensures.heads ∙ c.self.invariant.heads in
     let mid : Lists = c.drop_face-2.new.corners in
     let moved = after_move mid c.merge_corners.new.corners c.args.a c.self.inside.next (omega arith) (omega arith) (λ is. absurd (omega (arith, is))) c.merge_corners.ensures.corners in
@@ -213,65 +211,33 @@ merge_corners-requires-2-clause-corners c =
 pub merge_places-requires-clause-a_in : goal.merge_places-requires-clause-a_in
 merge_places-requires-clause-a_in c =
     let legal : IsLegalPair (surface_with c.self.inside.faces.faces c.self.inside.places.items c.self.inside.next) c.args.a c.args.b c.args.place = rw (← c.self.view_is) at c.requires.legal in
-    let l = first_low c.self.inside.faces.faces c.self.inside.places.items c.self.inside.next c.self.inside.left c.self.inside.quadrics.quadrics c.self.inside.quadrics.slots c.self.inside.faces.across c.self.inside.corners c.self.invariant c.args.a c.args.b c.args.place c.requires.ordered legal in
-    let r = second_low c.self.inside.faces.faces c.self.inside.places.items c.self.inside.next c.self.inside.left c.self.inside.quadrics.quadrics c.self.inside.quadrics.slots c.self.inside.faces.across c.self.inside.corners c.self.invariant c.args.a c.args.b c.args.place c.requires.ordered legal in
-    let n = next_low c.self.inside.faces.faces c.self.inside.places.items c.self.inside.next c.self.inside.left c.self.inside.quadrics.quadrics c.self.inside.quadrics.slots c.self.inside.faces.across c.self.inside.corners c.self.invariant c.args.a c.args.b c.args.place c.requires.ordered legal in
-    omega arith
-
-pub merge-requires-clause-a_in : goal.merge-requires-clause-a_in
-merge-requires-clause-a_in c =
-    let legal : IsLegalPair (surface_with c.self.inside.faces.faces c.self.inside.places.items c.self.inside.next) c.args.a c.args.b c.args.place = rw (← c.self.view_is) at c.requires.legal in
-    let l = first_low c.self.inside.faces.faces c.self.inside.places.items c.self.inside.next c.self.inside.left c.self.inside.quadrics.quadrics c.self.inside.quadrics.slots c.self.inside.faces.across c.self.inside.corners c.self.invariant c.args.a c.args.b c.args.place c.requires.ordered legal in
-    let r = second_low c.self.inside.faces.faces c.self.inside.places.items c.self.inside.next c.self.inside.left c.self.inside.quadrics.quadrics c.self.inside.quadrics.slots c.self.inside.faces.across c.self.inside.corners c.self.invariant c.args.a c.args.b c.args.place c.requires.ordered legal in
-    let n = next_low c.self.inside.faces.faces c.self.inside.places.items c.self.inside.next c.self.inside.left c.self.inside.quadrics.quadrics c.self.inside.quadrics.slots c.self.inside.faces.across c.self.inside.corners c.self.invariant c.args.a c.args.b c.args.place c.requires.ordered legal in
-    let q = c.self.invariant.slots_len in
+    let l = first_low c.self.inside.faces.faces c.self.inside.places.items c.self.inside.next c.self.inside.left c.self.inside.faces.across c.self.inside.corners c.self.invariant c.args.a c.args.b c.args.place c.requires.ordered legal in
+    let r = second_low c.self.inside.faces.faces c.self.inside.places.items c.self.inside.next c.self.inside.left c.self.inside.faces.across c.self.inside.corners c.self.invariant c.args.a c.args.b c.args.place c.requires.ordered legal in
+    let n = next_low c.self.inside.faces.faces c.self.inside.places.items c.self.inside.next c.self.inside.left c.self.inside.faces.across c.self.inside.corners c.self.invariant c.args.a c.args.b c.args.place c.requires.ordered legal in
     omega arith
 
 pub merge_places-requires-clause-b_in : goal.merge_places-requires-clause-b_in
 merge_places-requires-clause-b_in c =
     let legal : IsLegalPair (surface_with c.self.inside.faces.faces c.self.inside.places.items c.self.inside.next) c.args.a c.args.b c.args.place = rw (← c.self.view_is) at c.requires.legal in
-    let l = first_low c.self.inside.faces.faces c.self.inside.places.items c.self.inside.next c.self.inside.left c.self.inside.quadrics.quadrics c.self.inside.quadrics.slots c.self.inside.faces.across c.self.inside.corners c.self.invariant c.args.a c.args.b c.args.place c.requires.ordered legal in
-    let r = second_low c.self.inside.faces.faces c.self.inside.places.items c.self.inside.next c.self.inside.left c.self.inside.quadrics.quadrics c.self.inside.quadrics.slots c.self.inside.faces.across c.self.inside.corners c.self.invariant c.args.a c.args.b c.args.place c.requires.ordered legal in
-    let n = next_low c.self.inside.faces.faces c.self.inside.places.items c.self.inside.next c.self.inside.left c.self.inside.quadrics.quadrics c.self.inside.quadrics.slots c.self.inside.faces.across c.self.inside.corners c.self.invariant c.args.a c.args.b c.args.place c.requires.ordered legal in
-    omega arith
-
-pub merge-requires-clause-b_in : goal.merge-requires-clause-b_in
-merge-requires-clause-b_in c =
-    let legal : IsLegalPair (surface_with c.self.inside.faces.faces c.self.inside.places.items c.self.inside.next) c.args.a c.args.b c.args.place = rw (← c.self.view_is) at c.requires.legal in
-    let l = first_low c.self.inside.faces.faces c.self.inside.places.items c.self.inside.next c.self.inside.left c.self.inside.quadrics.quadrics c.self.inside.quadrics.slots c.self.inside.faces.across c.self.inside.corners c.self.invariant c.args.a c.args.b c.args.place c.requires.ordered legal in
-    let r = second_low c.self.inside.faces.faces c.self.inside.places.items c.self.inside.next c.self.inside.left c.self.inside.quadrics.quadrics c.self.inside.quadrics.slots c.self.inside.faces.across c.self.inside.corners c.self.invariant c.args.a c.args.b c.args.place c.requires.ordered legal in
-    let n = next_low c.self.inside.faces.faces c.self.inside.places.items c.self.inside.next c.self.inside.left c.self.inside.quadrics.quadrics c.self.inside.quadrics.slots c.self.inside.faces.across c.self.inside.corners c.self.invariant c.args.a c.args.b c.args.place c.requires.ordered legal in
-    let q = c.self.invariant.slots_len in
+    let l = first_low c.self.inside.faces.faces c.self.inside.places.items c.self.inside.next c.self.inside.left c.self.inside.faces.across c.self.inside.corners c.self.invariant c.args.a c.args.b c.args.place c.requires.ordered legal in
+    let r = second_low c.self.inside.faces.faces c.self.inside.places.items c.self.inside.next c.self.inside.left c.self.inside.faces.across c.self.inside.corners c.self.invariant c.args.a c.args.b c.args.place c.requires.ordered legal in
+    let n = next_low c.self.inside.faces.faces c.self.inside.places.items c.self.inside.next c.self.inside.left c.self.inside.faces.across c.self.inside.corners c.self.invariant c.args.a c.args.b c.args.place c.requires.ordered legal in
     omega arith
 
 pub merge_places-requires-clause-s_in : goal.merge_places-requires-clause-s_in
 merge_places-requires-clause-s_in c =
     let legal : IsLegalPair (surface_with c.self.inside.faces.faces c.self.inside.places.items c.self.inside.next) c.args.a c.args.b c.args.place = rw (← c.self.view_is) at c.requires.legal in
-    let l = first_low c.self.inside.faces.faces c.self.inside.places.items c.self.inside.next c.self.inside.left c.self.inside.quadrics.quadrics c.self.inside.quadrics.slots c.self.inside.faces.across c.self.inside.corners c.self.invariant c.args.a c.args.b c.args.place c.requires.ordered legal in
-    let r = second_low c.self.inside.faces.faces c.self.inside.places.items c.self.inside.next c.self.inside.left c.self.inside.quadrics.quadrics c.self.inside.quadrics.slots c.self.inside.faces.across c.self.inside.corners c.self.invariant c.args.a c.args.b c.args.place c.requires.ordered legal in
-    let n = next_low c.self.inside.faces.faces c.self.inside.places.items c.self.inside.next c.self.inside.left c.self.inside.quadrics.quadrics c.self.inside.quadrics.slots c.self.inside.faces.across c.self.inside.corners c.self.invariant c.args.a c.args.b c.args.place c.requires.ordered legal in
+    let l = first_low c.self.inside.faces.faces c.self.inside.places.items c.self.inside.next c.self.inside.left c.self.inside.faces.across c.self.inside.corners c.self.invariant c.args.a c.args.b c.args.place c.requires.ordered legal in
+    let r = second_low c.self.inside.faces.faces c.self.inside.places.items c.self.inside.next c.self.inside.left c.self.inside.faces.across c.self.inside.corners c.self.invariant c.args.a c.args.b c.args.place c.requires.ordered legal in
+    let n = next_low c.self.inside.faces.faces c.self.inside.places.items c.self.inside.next c.self.inside.left c.self.inside.faces.across c.self.inside.corners c.self.invariant c.args.a c.args.b c.args.place c.requires.ordered legal in
     omega arith
-
-pub merge-requires-clause-s_in : goal.merge-requires-clause-s_in
-merge-requires-clause-s_in c =
-    let legal : IsLegalPair (surface_with c.self.inside.faces.faces c.self.inside.places.items c.self.inside.next) c.args.a c.args.b c.args.place = rw (← c.self.view_is) at c.requires.legal in
-    let l = first_low c.self.inside.faces.faces c.self.inside.places.items c.self.inside.next c.self.inside.left c.self.inside.quadrics.quadrics c.self.inside.quadrics.slots c.self.inside.faces.across c.self.inside.corners c.self.invariant c.args.a c.args.b c.args.place c.requires.ordered legal in
-    let r = second_low c.self.inside.faces.faces c.self.inside.places.items c.self.inside.next c.self.inside.left c.self.inside.quadrics.quadrics c.self.inside.quadrics.slots c.self.inside.faces.across c.self.inside.corners c.self.invariant c.args.a c.args.b c.args.place c.requires.ordered legal in
-    let n = next_low c.self.inside.faces.faces c.self.inside.places.items c.self.inside.next c.self.inside.left c.self.inside.quadrics.quadrics c.self.inside.quadrics.slots c.self.inside.faces.across c.self.inside.corners c.self.invariant c.args.a c.args.b c.args.place c.requires.ordered legal in
-    let q = c.self.invariant.slots_len in
-    omega arith
-
-pub merge-requires-clause-few : goal.merge-requires-clause-few
-merge-requires-clause-few c =
-    let legal : IsLegalPair (surface_with c.self.inside.faces.faces c.self.inside.places.items c.self.inside.next) c.args.a c.args.b c.args.place = rw (← c.self.view_is) at c.requires.legal in
-    few c.self.inside.faces.faces c.self.inside.places.items c.self.inside.next c.self.inside.left c.self.inside.quadrics.quadrics c.self.inside.quadrics.slots c.self.inside.faces.across c.self.inside.corners c.self.invariant c.args.a c.args.b c.args.place c.requires.ordered legal
 
 pub overflow_sub-self : goal.overflow_sub-self
 overflow_sub-self c =
     let legal : IsLegalPair (surface_with c.self.inside.faces.faces c.self.inside.places.items c.self.inside.next) c.args.a c.args.b c.args.place = rw (← c.self.view_is) at c.requires.legal in
     let left : c.gone-left.result ≡ gone_of (net_of_surface (surface_with c.self.inside.faces.faces c.self.inside.places.items c.self.inside.next)) c.args.a c.args.b = rw (← c.self.view_is) at c.gone-left.ensures in
     let right : c.gone-right.result ≡ gone_of (net_of_surface (surface_with c.self.inside.faces.faces c.self.inside.places.items c.self.inside.next)) c.args.b c.args.a = rw (← c.self.view_is) at c.gone-right.ensures in
-    let all = left-count c.self.inside.faces.faces c.self.inside.places.items c.self.inside.next c.self.inside.left c.self.inside.quadrics.quadrics c.self.inside.quadrics.slots c.self.inside.faces.across c.self.inside.corners c.self.invariant c.args.a c.args.b c.args.place c.requires.ordered legal in
+    let all = left-count c.self.inside.faces.faces c.self.inside.places.items c.self.inside.next c.self.inside.left c.self.inside.faces.across c.self.inside.corners c.self.invariant c.args.a c.args.b c.args.place c.requires.ordered legal in
     let x = ap (λ (o : Option Gone). one_if (is_some o)) left in
     let y = ap (λ (o : Option Gone). one_if (is_some o)) right in
     let z = c.count_gone.ensures in
@@ -282,8 +248,8 @@ invariant_of-self c =
     let legal : IsLegalPair (surface_with c.self.inside.faces.faces c.self.inside.places.items c.self.inside.next) c.args.a c.args.b c.args.place = rw (← c.self.view_is) at c.requires.legal in
     let left : c.gone-left.result ≡ gone_of (net_of_surface (surface_with c.self.inside.faces.faces c.self.inside.places.items c.self.inside.next)) c.args.a c.args.b = rw (← c.self.view_is) at c.gone-left.ensures in
     let right : c.gone-right.result ≡ gone_of (net_of_surface (surface_with c.self.inside.faces.faces c.self.inside.places.items c.self.inside.next)) c.args.b c.args.a = rw (← c.self.view_is) at c.gone-right.ensures in
-    let w : IsWritten (surface_with c.self.inside.faces.faces c.self.inside.places.items c.self.inside.next) c.args.a c.args.b c.self.inside.next c.args.place c.self.inside.places.items c.self.inside.quadrics.quadrics c.self.inside.quadrics.slots c.self.inside.faces.across c.self.inside.corners
-    c.merge_corners-2.new.faces.faces c.merge_places.new.places.items c.merge.new.self.quadrics c.merge.new.self.slots c.merge_corners-2.new.faces.across c.drop_face-2.new.corners c.merge_corners.new.corners c.merge_corners-2.new.corners = record {
+    let w : IsWritten (surface_with c.self.inside.faces.faces c.self.inside.places.items c.self.inside.next) c.args.a c.args.b c.self.inside.next c.args.place c.self.inside.places.items c.self.inside.faces.across c.self.inside.corners
+    c.merge_corners-2.new.faces.faces c.merge_places.new.places.items c.merge_corners-2.new.faces.across c.drop_face-2.new.corners c.merge_corners.new.corners c.merge_corners-2.new.corners = record {
       lists = λ h. rw (left, right) at (c.drop_face-2.ensures.lists h ∙ ap (unlisted c.gone-right.result) (c.drop_face.ensures.lists h));
       items = c.drop_face-2.ensures.items ∙ c.drop_face.ensures.items;
       heads = c.drop_face-2.ensures.heads ∙ c.drop_face.ensures.heads;
@@ -292,22 +258,21 @@ invariant_of-self c =
       sound = c.merge_corners-2.ensures.sound;
       faces = rw (left, right) at (rw (c.merge_corners.ensures.faces, c.drop_face-2.ensures.faces, c.drop_face.ensures.faces) at c.merge_corners-2.ensures.faces);
       placed = c.merge_places.ensures;
-      summed = record { slotted = c.merge.ensures.slots; sum = c.merge.ensures.sum; others = c.merge.ensures.others };
       relinks = rw (left, right) at (rw (c.merge_corners.ensures.across, c.drop_face-2.ensures.across, c.drop_face.ensures.across) at c.merge_corners-2.ensures.across);
     } in
-    let all = left-count c.self.inside.faces.faces c.self.inside.places.items c.self.inside.next c.self.inside.left c.self.inside.quadrics.quadrics c.self.inside.quadrics.slots c.self.inside.faces.across c.self.inside.corners c.self.invariant c.args.a c.args.b c.args.place c.requires.ordered legal in
+    let all = left-count c.self.inside.faces.faces c.self.inside.places.items c.self.inside.next c.self.inside.left c.self.inside.faces.across c.self.inside.corners c.self.invariant c.args.a c.args.b c.args.place c.requires.ordered legal in
     let x = ap (λ (o : Option Gone). one_if (is_some o)) left in
     let y = ap (λ (o : Option Gone). one_if (is_some o)) right in
     let z = c.count_gone.ensures in
-    done-shrink c.self.inside.faces.faces c.self.inside.places.items c.self.inside.next c.self.inside.left c.self.inside.quadrics.quadrics c.self.inside.quadrics.slots c.self.inside.faces.across c.self.inside.corners c.self.invariant c.args.a c.args.b c.args.place c.requires.ordered legal c.merge_corners-2.new.faces.faces c.merge_places.new.places.items c.merge.new.self.quadrics c.merge.new.self.slots c.merge_corners-2.new.faces.across c.drop_face-2.new.corners c.merge_corners.new.corners c.merge_corners-2.new.corners w (c.self.inside.left - c.count_gone.result) (omega arith)
+    done-shrink c.self.inside.faces.faces c.self.inside.places.items c.self.inside.next c.self.inside.left c.self.inside.faces.across c.self.inside.corners c.self.invariant c.args.a c.args.b c.args.place c.requires.ordered legal c.merge_corners-2.new.faces.faces c.merge_places.new.places.items c.merge_corners-2.new.faces.across c.drop_face-2.new.corners c.merge_corners.new.corners c.merge_corners-2.new.corners w (c.self.inside.left - c.count_gone.result) (omega arith)
 
 pub returns-clause-surface : goal.returns-clause-surface
 returns-clause-surface c =
     let legal : IsLegalPair (surface_with c.self.inside.faces.faces c.self.inside.places.items c.self.inside.next) c.args.a c.args.b c.args.place = rw (← c.self.view_is) at c.requires.legal in
     let left : c.gone-left.result ≡ gone_of (net_of_surface (surface_with c.self.inside.faces.faces c.self.inside.places.items c.self.inside.next)) c.args.a c.args.b = rw (← c.self.view_is) at c.gone-left.ensures in
     let right : c.gone-right.result ≡ gone_of (net_of_surface (surface_with c.self.inside.faces.faces c.self.inside.places.items c.self.inside.next)) c.args.b c.args.a = rw (← c.self.view_is) at c.gone-right.ensures in
-    let w : IsWritten (surface_with c.self.inside.faces.faces c.self.inside.places.items c.self.inside.next) c.args.a c.args.b c.self.inside.next c.args.place c.self.inside.places.items c.self.inside.quadrics.quadrics c.self.inside.quadrics.slots c.self.inside.faces.across c.self.inside.corners
-    c.merge_corners-2.new.faces.faces c.merge_places.new.places.items c.merge.new.self.quadrics c.merge.new.self.slots c.merge_corners-2.new.faces.across c.drop_face-2.new.corners c.merge_corners.new.corners c.merge_corners-2.new.corners = record {
+    let w : IsWritten (surface_with c.self.inside.faces.faces c.self.inside.places.items c.self.inside.next) c.args.a c.args.b c.self.inside.next c.args.place c.self.inside.places.items c.self.inside.faces.across c.self.inside.corners
+    c.merge_corners-2.new.faces.faces c.merge_places.new.places.items c.merge_corners-2.new.faces.across c.drop_face-2.new.corners c.merge_corners.new.corners c.merge_corners-2.new.corners = record {
       lists = λ h. rw (left, right) at (c.drop_face-2.ensures.lists h ∙ ap (unlisted c.gone-right.result) (c.drop_face.ensures.lists h));
       items = c.drop_face-2.ensures.items ∙ c.drop_face.ensures.items;
       heads = c.drop_face-2.ensures.heads ∙ c.drop_face.ensures.heads;
@@ -316,35 +281,19 @@ returns-clause-surface c =
       sound = c.merge_corners-2.ensures.sound;
       faces = rw (left, right) at (rw (c.merge_corners.ensures.faces, c.drop_face-2.ensures.faces, c.drop_face.ensures.faces) at c.merge_corners-2.ensures.faces);
       placed = c.merge_places.ensures;
-      summed = record { slotted = c.merge.ensures.slots; sum = c.merge.ensures.sum; others = c.merge.ensures.others };
       relinks = rw (left, right) at (rw (c.merge_corners.ensures.across, c.drop_face-2.ensures.across, c.drop_face.ensures.across) at c.merge_corners-2.ensures.across);
     } in
-    done-surface c.self.inside.faces.faces c.self.inside.places.items c.self.inside.next c.self.inside.left c.self.inside.quadrics.quadrics c.self.inside.quadrics.slots c.self.inside.faces.across c.self.inside.corners c.self.invariant c.args.a c.args.b c.args.place c.requires.ordered legal c.merge_corners-2.new.faces.faces c.merge_places.new.places.items c.merge.new.self.quadrics c.merge.new.self.slots c.merge_corners-2.new.faces.across c.drop_face-2.new.corners c.merge_corners.new.corners c.merge_corners-2.new.corners w ∙ ap (λ (v : Shrinking). collapsed v.surface c.args.a c.args.b c.args.place) c.self.view_is
+    done-surface c.self.inside.faces.faces c.self.inside.places.items c.self.inside.next c.self.inside.left c.self.inside.faces.across c.self.inside.corners c.self.invariant c.args.a c.args.b c.args.place c.requires.ordered legal c.merge_corners-2.new.faces.faces c.merge_places.new.places.items c.merge_corners-2.new.faces.across c.drop_face-2.new.corners c.merge_corners.new.corners c.merge_corners-2.new.corners w ∙ ap (λ (v : Shrinking). collapsed v.surface c.args.a c.args.b c.args.place) c.self.view_is
 
 pub returns-clause-manifold : goal.returns-clause-manifold
 returns-clause-manifold c = (invariant_of-self c).kept.manifold
 
-pub returns-clause-quadric : goal.returns-clause-quadric
-returns-clause-quadric c =
-    let made = c.self.invariant.roomy.made in
-    rw (← c.self.view_is) (ap (λ (i : ℕ). get_or c.merge.new.self.quadrics i zero_sums) made ∙ c.merge.ensures.sum)
-
 pub returns-clause-entry : goal.returns-clause-entry
 returns-clause-entry c = search rules
 
-pub returns-clause-quadrics : goal.returns-clause-quadrics
-returns-clause-quadrics c = λ v live off.
-    let legal : IsLegalPair (surface_with c.self.inside.faces.faces c.self.inside.places.items c.self.inside.next) c.args.a c.args.b c.args.place = rw (← c.self.view_is) at c.requires.legal in
-    let after = returns-clause-surface c ∙ sym (ap (λ (x : Shrinking). collapsed x.surface c.args.a c.args.b c.args.place) c.self.view_is) in
-    let are : AreMerged c.self.inside.quadrics.slots c.self.inside.quadrics.quadrics c.args.a c.args.b c.self.inside.next c.merge.new.self.slots c.merge.new.self.quadrics
-    = record { slotted = c.merge.ensures.slots; sum = c.merge.ensures.sum; others = c.merge.ensures.others } in
-    done-quadrics c.self.inside.faces.faces c.self.inside.places.items c.self.inside.next c.self.inside.left c.self.inside.quadrics.quadrics c.self.inside.quadrics.slots c.self.inside.faces.across c.self.inside.corners c.self.invariant c.args.a c.args.b c.args.place c.requires.ordered legal
-    c.merge.new.self.slots c.merge.new.self.quadrics are v (sym (ap (λ (x : Surface). is_live x v) after) ∙ live) (λ is. off (is ∙ ap (λ (x : Shrinking). next_vertex x.surface) c.self.view_is))
-    ∙ ap (λ (x : Shrinking). get_or x.quadrics v zero_sums) c.self.view_is
-
 pub returns-clause-after : goal.returns-clause-after
 returns-clause-after c = λ m log after.
-    let new : Shrinking = shrinking_with c.merge_corners-2.new.faces.faces c.merge_places.new.places.items (c.self.inside.next + 1) c.merge.new.self.quadrics c.merge_corners-2.new.corners in
+    let new : Shrinking = shrinking_with c.merge_corners-2.new.faces.faces c.merge_places.new.places.items (c.self.inside.next + 1) c.merge_corners-2.new.corners in
     let entry : Collapse = record { t = c.args.a; u = c.args.b; s = c.self.inside.next; place = c.args.place; left = c.gone-left.result; right = c.gone-right.result } in
     collapse_after m log c.args.self.now new c.args.a c.args.b c.args.place entry after c.requires.ordered c.requires.legal
-    (returns-clause-entry c) (returns-clause-surface c) (returns-clause-quadric c) (returns-clause-quadrics c)
+    (returns-clause-entry c) (returns-clause-surface c)
