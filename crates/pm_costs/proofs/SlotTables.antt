@@ -3,7 +3,7 @@ use Rattle.std.proofs.Common.{◌≡◌, ◌≢◌, ℕ, ◌<◌, ◌≤◌, Lis
 use Rattle.std.proofs.lemmas.List.{length-set, length-map, get_or-map, get_or_past}
 use Rattle.std.proofs.lemmas.Bool.{cases_lt}
 use Rattle.pm_quadric.specs.Sums.{Sums, zero_sums}
-use Rattle.pm_shrink.specs.Slots.{by_vertex}
+use Rattle.pm_costs.specs.Slots.{by_vertex}
 
 pub by_vertex-at : (slots : List ℕ) (quadrics : List Sums) (v : ℕ) → v < length slots → get_or (by_vertex slots quadrics) v zero_sums ≡ get_or quadrics (get_or slots v 0) zero_sums
 unfolding by_vertex

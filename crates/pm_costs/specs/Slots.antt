@@ -3,6 +3,15 @@ use Rattle.std.specs.Prelude.{◌≡◌, ℕ, true, List, map, slice_index_or}
 use Rattle.pm_quadric.specs.Sums.{Sums, zero_sums}
 use Rattle.pm_runs.specs.Surfaces.{Surface, is_live}
 
+-- By vertex number the slot, and the quadric that stands there.
+pub record Quadrics : Type 0 where
+  pub slots : List ℕ
+  pub quadrics : List Sums
+
+-- The quadric of a vertex.
+abbrev pub quadric_at : Quadrics → ℕ → Sums
+quadric_at t v = slice_index_or t.quadrics v zero_sums
+
 -- By vertex number the quadric in its slot.
 unfoldable pub by_vertex : List ℕ → List Sums → List Sums
 by_vertex slots quadrics = map (λ k. slice_index_or quadrics k zero_sums) slots

@@ -2,7 +2,7 @@ use Rattle.std.proofs.Common.{◌≡◌, ◌<◌, ℕ, length, take, slice_index
 use Rattle.pm_quadric.specs.Sums.{sums_of, zero_sums}
 use Rattle.pm_runs.specs.Planes.{planes_at}
 use Rattle.pm_shrink.specs.Tables.{mesh_with}
-use Rattle.pm_shrink.proofs.quadrics.face_quadrics.Given as goal
+use Rattle.pm_costs.proofs.quadrics.face_quadrics.Given as goal
 
 abbrev pub invariant-loop-face : goal.invariant-loop-face
 invariant-loop-face l = record {

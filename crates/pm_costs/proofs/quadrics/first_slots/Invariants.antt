@@ -1,6 +1,6 @@
 use Rattle.std.proofs.Common.{◌≡◌, ◌<◌, ℕ, length, slice_index_or}
 use Rattle.std.specs.List.{All}
-use Rattle.pm_shrink.proofs.quadrics.first_slots.Given as goal
+use Rattle.pm_costs.proofs.quadrics.first_slots.Given as goal
 
 abbrev pub invariant-loop-v : goal.invariant-loop-v
 invariant-loop-v l = record {

@@ -2,9 +2,9 @@ use Rattle.std.proofs.Common.{◌≡◌, ◌∙◌, ℕ, ◌<◌, List, length, 
 use Rattle.std.proofs.lemmas.List.{get_or_read}
 use Rattle.std.proofs.lemmas.List.Elements.{All-get_or}
 use Rattle.pm_quadric.specs.Sums.{Sums, zero_sums}
-use Rattle.pm_shrink.specs.Tables.{Quadrics}
-use Rattle.pm_shrink.proofs.SlotTables.{by_vertex-at}
-use Rattle.pm_shrink.proofs.quadrics.QuadricTable.get.Goals as goal
+use Rattle.pm_costs.specs.Slots.{Quadrics}
+use Rattle.pm_costs.proofs.SlotTables.{by_vertex-at}
+use Rattle.pm_costs.proofs.quadrics.QuadricTable.get.Goals as goal
 
 pub returns : goal.returns
 returns c =

@@ -2,9 +2,9 @@ use Rattle.std.proofs.Common.{◌≡◌, ◌∙◌, ℕ, ◌<◌, List, length, 
 use Rattle.std.proofs.lemmas.List.{get_or_read}
 use Rattle.std.proofs.lemmas.List.Elements.{All-get_or}
 use Rattle.pm_quadric.specs.Sums.{Sums, plus_sums, zero_sums}
-use Rattle.pm_shrink.specs.Tables.{Quadrics}
-use Rattle.pm_shrink.proofs.SlotTables.{by_vertex-new, by_vertex-other}
-use Rattle.pm_shrink.proofs.quadrics.QuadricTable.merge.Goals as goal
+use Rattle.pm_costs.specs.Slots.{Quadrics}
+use Rattle.pm_costs.proofs.SlotTables.{by_vertex-new, by_vertex-other}
+use Rattle.pm_costs.proofs.quadrics.QuadricTable.merge.Goals as goal
 
 pub returns-clause-sum : goal.returns-clause-sum
 returns-clause-sum c =

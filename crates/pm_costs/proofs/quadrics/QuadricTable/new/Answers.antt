@@ -1,11 +1,8 @@
-use Rattle.std.proofs.Common.{◌∙◌, ℕ, List, get_or, ap, arith}
-use Rattle.pm_quadric.specs.Sums.{Sums, zero_sums}
-use Rattle.pm_shrink.proofs.SlotTables.{by_vertex-at}
-use Rattle.pm_shrink.proofs.quadrics.QuadricTable.new.Goals as goal
+use Rattle.pm_base.specs.Meshes.{mesh_of}
+use Rattle.pm_costs.proofs.PlainLaws.{made_first}
+use Rattle.pm_costs.proofs.quadrics.QuadricTable.new.Goals as goal
 
-pub returns-clause-quadrics : goal.returns-clause-quadrics
-returns-clause-quadrics c = λ v l.
-    let slots : List ℕ = c.in_ok-slots.slots.items in
-    let quadrics : List Sums = c.in_ok-quadrics.quadrics.items in
-    by_vertex-at slots quadrics v (omega (arith, l, c.requires.least, c.in_ok-slots.ensures.len))
-    ∙ ap (λ (k : ℕ). get_or quadrics k zero_sums) (c.in_ok-slots.ensures.each v l) ∙ c.in_ok-quadrics.ensures.each v l
+pub returns : goal.returns
+returns c =
+    let made = rw (c.as_slice-points.ensures, c.as_slice.ensures) at c.with_room.ensures in
+    made_first (mesh_of c.args.mesh.now) c.with_room.result made.len made.slots made.quadrics

@@ -1,0 +1,4 @@
+mod PlaneTotals
+mod SlotTables
+mod MergedQuadrics
+mod PlainLaws
