@@ -12,17 +12,18 @@ use Rattle.pm_links.proofs.Members.{has_head, first_is}
 use Rattle.pm_links.proofs.Without.{without_first}
 use Rattle.pm_links.proofs.Calls.{after_unlink, has-unlink, free_from_none}
 use Rattle.pm_queue.specs.Entries.{Entries}
+use Rattle.pm_policies.specs.Policies.{Policy}
 use Rattle.pm_simplify.specs.Items.{item_of}
 use Rattle.pm_simplify.specs.Choices.{net_after, IsRightAt, IsRight, StaysRight}
 use Rattle.pm_simplify.proofs.Waiting.{held_kept}
 
 -- An item is taken out, and its edge weighed if it is still one.
 pub released :
-    (kept : ℕ → Bool) (m : Mesh) (log : List Collapse) (old new : Entries) (was now : Lists) →
-    (i : ℕ) → IsRight kept m log old was → now ≡ without_item was i → StaysRight kept m log old new →
-    (Stands (net_after m log) i → IsRightAt kept m log new (item_of (net_after m log) i)) →
-    IsRight kept m log new now
-released kept m log old new was now i right is stays weighed =
+    (p : Policy) (m : Mesh) (log : List Collapse) (old new : Entries) (was now : Lists) →
+    (i : ℕ) → IsRight p m log old was → now ≡ without_item was i → StaysRight p m log old new →
+    (Stands (net_after m log) i → IsRightAt p m log new (item_of (net_after m log) i)) →
+    IsRight p m log new now
+released p m log old new was now i right is stays weighed =
     let n = net_after m log in
     let out = after_unlink was now i is in
     record {
@@ -30,13 +31,13 @@ released kept m log old new was now i right is stays weighed =
       edges = λ e st item.
           elim (cases_eq e i) [
             | inl same ↦
-                inl (subst (IsRightAt kept m log new) (ap (item_of n) (sym same) ∙ item)
+                inl (subst (IsRightAt p m log new) (ap (item_of n) (sym same) ∙ item)
                 (weighed (subst (Stands n) same st)))
             | inr ne ↦
                 elim (right.edges e st item) [
                   | inl r ↦ inl ((stays e).1 r)
                   | inr h ↦
-                      inr (held_kept m log was now e
+                      inr (held_kept p m log was now e
                       (λ f listed. has-unlink out f e ne ∙ listed) h)
                 ]
           ];

@@ -18,3 +18,4 @@ pub mod Decisions
 pub mod LegalPairs
 pub mod LeastPairs
 pub mod SomeRuns
+pub mod PlainRuns

@@ -11,11 +11,13 @@ use Rattle.pm_runs.specs.Surfaces.{Surface, net_of_surface, IsSurface, collapsed
 use Rattle.pm_runs.specs.Pairs.{Links, IsLegalPair}
 use Rattle.pm_runs.specs.Merged.{IsProper, IsLinkable}
 use Rattle.pm_runs.specs.Nearby.{IsOther}
-use Rattle.pm_runs.specs.Runs.{IsStartOfRun, IsRun, IsStep, surface_after, place_of_pair, IsCandidate}
+use Rattle.pm_runs.specs.Runs.{IsStartOfRun, IsRun, IsStep, surface_after}
 use Rattle.pm_runs.proofs.Live.{live_below, corner_live}
 use Rattle.pm_runs.proofs.StepLaws.{linkable_is_legal}
 use Rattle.pm_runs.proofs.Logs.{run-sound, run-proper, surface_after-more}
-use Rattle.pm_runs.proofs.RunsProved.{keys_are_kept}
+use Rattle.pm_policies.specs.Policies.{Policy, place_by}
+use Rattle.pm_policies.specs.PolicyRuns.{IsCandidateBy}
+use Rattle.pm_policies.proofs.Keys.{keys_are_kept_by}
 use Rattle.pm_shrink.specs.Obstacles.{Strays, TellsTriangle, Hinders, IsBarred}
 use Rattle.pm_simplify.specs.Choices.{net_after, IsHeldBack}
 use Rattle.pm_simplify.specs.SparedFaces.{IsFaceSpared}
@@ -105,18 +107,18 @@ module _ (s : Surface) (sound : IsSurface s) (proper : IsProper (net_of_surface 
   links_stay e l = elim l [ inl r ↦ inl (stays s sound proper t u at legal e a b x y r) | inr r ↦ inr (stays s sound proper t u at legal e b a y x r) ]
 
 -- What is held back may not be collapsed.
-pub held_not : (m : Mesh) (log : List Collapse) → IsStartOfRun m → IsRun m log → (lists : Lists) (e c d : ℕ) → IsHeldBack m log lists e → Links (net_after m log) e c d → IsCandidate m log c d → ⊥
-held_not m log start run lists e c d h l x =
+pub held_not : (p : Policy) (m : Mesh) (log : List Collapse) → IsStartOfRun m → IsRun m log → (lists : Lists) (e c d : ℕ) → IsHeldBack p m log lists e → Links (net_after m log) e c d → IsCandidateBy p m log c d → ⊥
+held_not p m log start run lists e c d h l x =
     let (ca, db) = same_ends (net_after m log) e c d h.a h.b l h.pair.links x.ordered h.pair.ordered in
-    let fit : IsCandidate m log h.a h.b = subst (λ v. IsCandidate m log h.a v) db (subst (λ v. IsCandidate m log v d) ca x) in
+    let fit : IsCandidateBy p m log h.a h.b = subst (λ v. IsCandidateBy p m log h.a v) db (subst (λ v. IsCandidateBy p m log v d) ca x) in
     elim h.why [
-      | inl (x, w) ↦ not_hindered (surface_after m log) h.a h.b (place_of_pair m log h.a h.b) fit.legal x w.hinders
-      | inr w ↦ not_barred (surface_after m log) h.a h.b (place_of_pair m log h.a h.b) fit.legal (run-proper m start log run).once w
+      | inl (x, w) ↦ not_hindered (surface_after m log) h.a h.b (place_by p m log h.a h.b) fit.legal x w.hinders
+      | inr w ↦ not_barred (surface_after m log) h.a h.b (place_by p m log h.a h.b) fit.legal (run-proper m start log run).once w
     ]
 
 -- What is held back stays so while its item stays where it waits.
-pub held_kept : (m : Mesh) (log : List Collapse) (old new : Lists) (e : ℕ) → ((f : ℕ) → has (list_of old f) e ≡ true → has (list_of new f) e ≡ true) → IsHeldBack m log old e → IsHeldBack m log new e
-held_kept m log old new e stays h = record {
+pub held_kept : (p : Policy) (m : Mesh) (log : List Collapse) (old new : Lists) (e : ℕ) → ((f : ℕ) → has (list_of old f) e ≡ true → has (list_of new f) e ≡ true) → IsHeldBack p m log old e → IsHeldBack p m log new e
+held_kept p m log old new e stays h = record {
   a = h.a;
   b = h.b;
   pair = h.pair;
@@ -127,16 +129,16 @@ held_kept m log old new e stays h = record {
 }
 
 -- What is held back stays so after a collapse that spares its ends and the face that it waits for.
-pub held_stays : (m : Mesh) (log : List Collapse) (c : Collapse) → IsStartOfRun m → IsRun m log → IsStep (surface_after m log) c → (old new : Lists) (e : ℕ) → (h : IsHeldBack m log old e) →
+pub held_stays : (p : Policy) (m : Mesh) (log : List Collapse) (c : Collapse) → IsStartOfRun m → IsRun m log → IsStep (surface_after m log) c → (old new : Lists) (e : ℕ) → (h : IsHeldBack p m log old e) →
     IsOther (surface_after m log) c.t c.u h.a → IsOther (surface_after m log) c.t c.u h.b →
     ((x : ℕ) → has (list_of old (face_of x)) e ≡ true → Stands (net_after m log) x → IsFaceSpared (surface_after m log) c.t c.u x × (has (list_of new (face_of x)) e ≡ true)) →
-    IsHeldBack m (log ++ c ∷ []) new e
-held_stays m log c start run step old new e h x y spares =
+    IsHeldBack p m (log ++ c ∷ []) new e
+held_stays p m log c start run step old new e h x y spares =
     let s : Surface = surface_after m log in
     let sound = run-sound m start log run in
     let proper = run-proper m start log run in
     let then : collapsed s c.t c.u c.place ≡ surface_after m (log ++ c ∷ []) = sym (surface_after-more m log c) in
-    let place : place_of_pair m log h.a h.b ≡ place_of_pair m (log ++ c ∷ []) h.a h.b = sym (keys_are_kept m log c step h.a h.b x y).0 in
+    let place : place_by p m log h.a h.b ≡ place_by p m (log ++ c ∷ []) h.a h.b = sym (keys_are_kept_by p m log c step h.a h.b x y).0 in
     record {
       a = h.a;
       b = h.b;
@@ -147,12 +149,12 @@ held_stays m log c start run step old new e h x y spares =
       why = elim h.why [
         | inl (k, w) ↦
             let (spared, listed) = spares k w.listed w.hinders.stands in
-            let after = hinders_stays s sound proper c.t c.u c.place step.legal h.a h.b x y k (place_of_pair m log h.a h.b) spared w.hinders in
+            let after = hinders_stays s sound proper c.t c.u c.place step.legal h.a h.b x y k (place_by p m log h.a h.b) spared w.hinders in
             inl (
               k,
               record {
                 listed = listed;
-                hinders = subst (λ p. Hinders (surface_after m (log ++ c ∷ [])) h.a h.b p k) place (subst (λ (r : Surface). Hinders r h.a h.b (place_of_pair m log h.a h.b) k) then after);
+                hinders = subst (λ q. Hinders (surface_after m (log ++ c ∷ [])) h.a h.b q k) place (subst (λ (r : Surface). Hinders r h.a h.b (place_by p m log h.a h.b) k) then after);
               },
             )
         | inr w ↦ inr (subst (λ (r : Surface). IsBarred (net_of_surface r) h.a h.b) then (barred_stays s sound proper c.t c.u c.place step.legal h.a h.b x y w))

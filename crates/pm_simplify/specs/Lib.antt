@@ -1,4 +1,5 @@
 pub mod Items
+pub mod OnRuns
 pub mod Choices
 pub mod Walks
 pub mod Faults

@@ -1,5 +1,5 @@
 -- Walks over the corners at a vertex.
-use Rattle.std.specs.Prelude.{◌≡◌, ℕ, Bool, true, Option, None, IfSome, List, ◌⊎◌}
+use Rattle.std.specs.Prelude.{◌≡◌, ℕ, true, Option, None, IfSome, List, ◌⊎◌}
 use Rattle.std.specs.Option.{option_map}
 use Rattle.pm_base.specs.declared.ids.Side.{Side}
 use Rattle.pm_base.specs.declared.log.Collapse.{Collapse}
@@ -7,6 +7,7 @@ use Rattle.pm_base.specs.Meshes.{Mesh}
 use Rattle.pm_base.specs.Sides.{prev, twin_of}
 use Rattle.pm_links.specs.Lists.{has, rest_of_walk}
 use Rattle.pm_queue.specs.Entries.{Entries}
+use Rattle.pm_policies.specs.Policies.{Policy}
 use Rattle.pm_simplify.specs.Items.{item_of}
 use Rattle.pm_simplify.specs.Choices.{net_after, IsRightAt}
 
@@ -21,7 +22,7 @@ pub record IsWalk (fan : List ℕ) (Done : ℕ → Type 0) (at : Option Side) : 
 
 -- Of the two sides at a corner the first is right, and so is the second where nothing stands across it.
 pub record IsRightBeside
-    (kept : ℕ → Bool) (m : Mesh) (log : List Collapse) (entries : Entries) (e : ℕ) : Type 0 where
-  pub out : IsRightAt kept m log entries (item_of (net_after m log) e)
+    (p : Policy) (m : Mesh) (log : List Collapse) (entries : Entries) (e : ℕ) : Type 0 where
+  pub out : IsRightAt p m log entries (item_of (net_after m log) e)
   pub back : twin_of (net_after m log) (prev e) ≡ None →
-      IsRightAt kept m log entries (item_of (net_after m log) (prev e))
+      IsRightAt p m log entries (item_of (net_after m log) (prev e))

@@ -6,35 +6,53 @@ ghost use Rattle.pm_base.specs.Sides.{face_of, side_count, Stands};
 ghost use Rattle.pm_links.specs.Lists.{list_of, without_item, IsHeld};
 ghost use Rattle.pm_runs.specs.Surfaces.{is_live as is_live_in};
 ghost use Rattle.pm_shrink.specs.Shrinking.{net_at};
-ghost use Rattle.pm_keeping.specs.Keeping.{kept_in};
-ghost use Rattle.pm_shrink.specs.Following.{IsAfter};
+ghost use Rattle.pm_policies.specs.Policies.{Policy};
+ghost use Rattle.pm_simplify.specs.OnRuns.{IsOnRun, IsOnSomeRun};
 ghost use Rattle.pm_simplify.specs.Choices.{IsRight};
 
 use crate::weigh::weigh;
 use pm_base::Side;
+use pm_costs::Costs;
 use pm_links::Links;
 use pm_queue::Queue;
 use pm_shrink::Shrink;
 
 // Takes an item out of its list, and gives its edge its key where it still names one.
-fn release(shrink: &Shrink, kept: &[bool], queue: &mut Queue, waiting: &mut Links, item: u32)
+fn release<C: Costs>(
+    shrink: &Shrink,
+    costs: &C,
+    kept: &[bool],
+    queue: &mut Queue,
+    waiting: &mut Links,
+    item: u32,
+)
+    requires known { IsOnSomeRun shrink.now (C.goes_by costs.now) kept.now }
     requires within { item < side_count (net_at shrink.now) }
     requires held { IsHeld waiting.old item }
     requires room { length queue.old ≡ side_count (net_at shrink.now) }
     ensures room { length queue.new ≡ length queue.old }
     ensures lists { waiting.new ≡ without_item waiting.old item }
-    ensures right { (m : Mesh) (log : List Collapse) → IsAfter m log shrink.now
-        → IsRight (kept_in kept.now) m log queue.old waiting.old
-        → IsRight (kept_in kept.now) m log queue.new waiting.new }
+    ensures right { (p : Policy) (m : Mesh) (log : List Collapse)
+        → IsOnRun shrink.now (C.goes_by costs.now) kept.now p m log
+        → IsRight p m log queue.old waiting.old
+        → IsRight p m log queue.new waiting.new }
 {
     waiting.unlink(item);
     if shrink.is_there(Side(item)) {
-        weigh(shrink, kept, queue, Side(item));
+        weigh(shrink, costs, kept, queue, Side(item));
     }
 }
 
 // Weighs the pairs that wait for a face, so that none does.
-fn free(shrink: &Shrink, kept: &[bool], queue: &mut Queue, waiting: &mut Links, face: u32)
+fn free<C: Costs>(
+    shrink: &Shrink,
+    costs: &C,
+    kept: &[bool],
+    queue: &mut Queue,
+    waiting: &mut Links,
+    face: u32,
+)
+    requires known { IsOnSomeRun shrink.now (C.goes_by costs.now) kept.now }
     requires face_in { face < length waiting.old.lists }
     requires room { length queue.old ≡ side_count (net_at shrink.now) }
     requires items { waiting.old.items ≡ side_count (net_at shrink.now) }
@@ -43,23 +61,26 @@ fn free(shrink: &Shrink, kept: &[bool], queue: &mut Queue, waiting: &mut Links, 
     ensures heads { length waiting.new.lists ≡ length waiting.old.lists }
     ensures empty { list_of waiting.new face ≡ [] }
     ensures others { (f : ℕ) → list_of waiting.old f ≡ [] → list_of waiting.new f ≡ [] }
-    ensures right { (m : Mesh) (log : List Collapse) → IsAfter m log shrink.now
-        → IsRight (kept_in kept.now) m log queue.old waiting.old
-        → IsRight (kept_in kept.now) m log queue.new waiting.new }
+    ensures right { (p : Policy) (m : Mesh) (log : List Collapse)
+        → IsOnRun shrink.now (C.goes_by costs.now) kept.now p m log
+        → IsRight p m log queue.old waiting.old
+        → IsRight p m log queue.new waiting.new }
 {
     while let Some(item) = waiting.first(face) {
-        release(shrink, kept, queue, waiting, item);
+        release(shrink, costs, kept, queue, waiting, item);
     }
 }
 
 /// Weighs the pairs that wait for a face at a live vertex, so that none does.
-pub(crate) fn free_around(
+pub(crate) fn free_around<C: Costs>(
     shrink: &Shrink,
+    costs: &C,
     kept: &[bool],
     queue: &mut Queue,
     waiting: &mut Links,
     v: u32,
 )
+    requires known { IsOnSomeRun shrink.now (C.goes_by costs.now) kept.now }
     requires live { is_live_in shrink.now.surface v ≡ true }
     requires room { length queue.old ≡ side_count (net_at shrink.now) }
     requires items { waiting.old.items ≡ side_count (net_at shrink.now) }
@@ -70,14 +91,15 @@ pub(crate) fn free_around(
     ensures empty { (e : ℕ) → Stands (net_at shrink.now) e → (net_at shrink.now).from e ≡ v
         → list_of waiting.new (face_of e) ≡ [] }
     ensures others { (f : ℕ) → list_of waiting.old f ≡ [] → list_of waiting.new f ≡ [] }
-    ensures right { (m : Mesh) (log : List Collapse) → IsAfter m log shrink.now
-        → IsRight (kept_in kept.now) m log queue.old waiting.old
-        → IsRight (kept_in kept.now) m log queue.new waiting.new }
+    ensures right { (p : Policy) (m : Mesh) (log : List Collapse)
+        → IsOnRun shrink.now (C.goes_by costs.now) kept.now p m log
+        → IsRight p m log queue.old waiting.old
+        → IsRight p m log queue.new waiting.new }
 {
     shrink.invariant();
     let mut at = shrink.first_corner(v);
     while let Some(corner) = at {
-        free(shrink, kept, queue, waiting, corner.face().0);
+        free(shrink, costs, kept, queue, waiting, corner.face().0);
         at = shrink.next_corner(corner);
     }
 }

@@ -1,17 +1,19 @@
 //! The run of collapses from a mesh to so many faces.
-ghost use Rattle.std.specs.Prelude.{OnOk, IfOk, IfErr};
+ghost use Rattle.std.specs.Prelude.{◌≡◌, [], OnOk, IfOk, IfErr};
 ghost use Rattle.pm_base.specs.Meshes.{mesh_of, IsWellFormed};
 ghost use Rattle.pm_base.specs.Sides.{net_of};
 ghost use Rattle.pm_base.specs.Fans.{IsOrientedManifold};
 ghost use Rattle.pm_runs.specs.Runs.{IsRunTo};
-ghost use Rattle.pm_keeping.specs.Keeping.{IsRunKeeping};
-ghost use Rattle.pm_keeping.specs.Keeping.{kept_in};
+ghost use Rattle.pm_keeping.specs.Keeping.{kept_in, IsRunKeeping};
+ghost use Rattle.pm_policies.specs.Policies.{Policy};
+ghost use Rattle.pm_policies.specs.PolicyRuns.{IsRunBy};
 ghost use Rattle.pm_simplify.specs.Faults.{IsSimplifyFault};
 
 use crate::choose::least_pair;
 use crate::step::collapse;
 use crate::weigh::filled;
 use pm_base::{FaceId, Log, Mesh};
+use pm_costs::{Costs, QuadricTable};
 use pm_links::Links;
 use pm_shrink::Shrink;
 use pm_twins::{Surface, SurfaceFail};
@@ -81,6 +83,23 @@ pub fn simplify_keeping(
     ensures run { IfOk result (λ log.
         IsRunKeeping (kept_in kept.now) surface target_faces log.items) }
 {
+    let costs = QuadricTable::new(alloc, surface.mesh())?;
+    simplify_by(alloc, surface, costs, kept, target_faces)
+}
+
+/// The same by any policy: that of the costs, which are those of the surface before the first
+/// collapse, and of the flags.
+pub fn simplify_by<C: Costs + Drop>(
+    alloc: Global,
+    surface: Surface,
+    mut costs: C,
+    kept: &[bool],
+    target_faces: u32,
+) -> Result<Log, OutOfMemory>
+    requires known { (p : Policy) × C.goes_by costs p surface [] × (p.kept ≡ kept_in kept.now) }
+    ensures run { IfOk result (λ log. (p : Policy) → C.goes_by costs p surface []
+        → p.kept ≡ kept_in kept.now → IsRunBy p surface target_faces log.items) }
+{
     let (mesh, twins) = surface.into_parts();
     let points = mesh.points.len();
     let faces = mesh.faces.len() as u32;
@@ -88,13 +107,20 @@ pub fn simplify_keeping(
     // Each collapse takes a vertex away, and the last one stays.
     log.reserve(points.saturating_sub(1))?;
     let mut shrink = Shrink::new(alloc, mesh, twins)?;
-    let mut queue = filled(alloc, &shrink, kept, 3 * faces)?;
+    let mut queue = filled(alloc, &shrink, &costs, kept, 3 * faces)?;
     let mut waiting = Links::new(alloc, 3 * faces, faces)?;
     while shrink.face_count() > target_faces {
-        let Some(pair) = least_pair(&shrink, &mut queue, &mut waiting) else {
+        let Some(pair) = least_pair(&shrink, &costs, &mut queue, &mut waiting) else {
             break;
         };
-        log.push_within_room(collapse(&mut shrink, kept, &mut queue, &mut waiting, pair));
+        log.push_within_room(collapse(
+            &mut shrink,
+            &mut costs,
+            kept,
+            &mut queue,
+            &mut waiting,
+            pair,
+        ));
     }
     Ok(log)
 }

@@ -5,10 +5,10 @@ use Rattle.pm_simplify.proofs.Freeing.{first_has, shorter, stays_empty}
 use Rattle.pm_simplify.proofs.free.free.Goals as goal
 
 pub loop-item-init : goal.loop-item-init
-loop-item-init c = record { room = refl; items = refl; heads = refl; others = λ f none. none; right = λ m log after right. right }
+loop-item-init g c = record { room = refl; items = refl; heads = refl; others = λ f none. none; right = λ p m log on right. right }
 
 pub release-requires-clause-within : goal.release-requires-clause-within
-release-requires-clause-within c =
+release-requires-clause-within g c =
     let i = c.loop-item.invariant in
     let has = first_has c.loop-item.waiting c.args.face c.in-Some.item (sym c.first.ensures.value ∙ c.in-Some.is) in
     let low = c.first.ensures.sound.in_range c.args.face c.in-Some.item has in
@@ -17,13 +17,13 @@ release-requires-clause-within c =
     omega arith
 
 pub release-requires-clause-held : goal.release-requires-clause-held
-release-requires-clause-held c = (c.args.face, first_has c.loop-item.waiting c.args.face c.in-Some.item (sym c.first.ensures.value ∙ c.in-Some.is))
+release-requires-clause-held g c = (c.args.face, first_has c.loop-item.waiting c.args.face c.in-Some.item (sym c.first.ensures.value ∙ c.in-Some.is))
 
 pub loop-item-smaller : goal.loop-item-smaller
-loop-item-smaller c = shorter c.loop-item.waiting c.release.new.waiting c.args.face c.in-Some.item c.first.ensures.sound (sym c.first.ensures.value ∙ c.in-Some.is) c.release.ensures.lists
+loop-item-smaller g c = shorter c.loop-item.waiting c.release.new.waiting c.args.face c.in-Some.item c.first.ensures.sound (sym c.first.ensures.value ∙ c.in-Some.is) c.release.ensures.lists
 
 pub loop-item-preserved : goal.loop-item-preserved
-loop-item-preserved c =
+loop-item-preserved g c =
     let i = c.loop-item.invariant in
     let out = after_unlink c.loop-item.waiting c.release.new.waiting c.in-Some.item c.release.ensures.lists in
     record {
@@ -31,8 +31,8 @@ loop-item-preserved c =
       items = out.items ∙ i.items;
       heads = out.heads ∙ i.heads;
       others = λ f none. stays_empty c.loop-item.waiting c.release.new.waiting c.args.face c.in-Some.item c.first.ensures.sound (sym c.first.ensures.value ∙ c.in-Some.is) c.release.ensures.lists f (i.others f none);
-      right = λ m log after right. c.release.ensures.right m log after (i.right m log after right);
+      right = λ p m log on right. c.release.ensures.right p m log on (i.right p m log on right);
     }
 
 pub returns-clause-empty : goal.returns-clause-empty
-returns-clause-empty c = nil_from_first _ (sym c.first.ensures.value ∙ c.in_default.is)
+returns-clause-empty g c = nil_from_first _ (sym c.first.ensures.value ∙ c.in_default.is)
