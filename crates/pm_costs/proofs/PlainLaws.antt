@@ -1,20 +1,17 @@
--- The table of quadrics goes by a plain policy: at the start, and over one collapse more. By it the
--- pair's place and cost are those of the policy.
+-- The table of quadrics goes by a plain policy: at the start, and over one collapse more.
 use Rattle.std.proofs.Common.{◌≡◌, ◌≢◌, ℕ, suc, ◌+◌, ◌*◌, ◌<◌, ◌≤◌, Bool, Some, true, List, [], ◌∷◌}
 use Rattle.std.proofs.Common.{◌++◌, length, length-append, get_or, inl, inr, refl, sym, ap, ◌∙◌}
 use Rattle.std.proofs.Common.{subst, arith}
 use Rattle.std.specs.Prelude.{Result, Ok, Err, IfOk}
 use Rattle.std.proofs.lemmas.Bool.{cases_eq}
 use Rattle.std.proofs.lemmas.List.{length-map, length-set}
-use Rattle.pm_base.specs.Place.{Place}
 use Rattle.pm_base.specs.declared.log.Collapse.{Collapse}
 use Rattle.pm_base.specs.Meshes.{Mesh}
 use Rattle.pm_quadric.specs.declared.quadric.TheConstants.{MOST_PLANES}
-use Rattle.pm_quadric.specs.Planes.{Plane, squares_of}
-use Rattle.pm_quadric.specs.Sums.{Sums, plus_sums, sums_of, StandsFor}
-use Rattle.pm_quadric.specs.Candidates.{least_place}
+use Rattle.pm_quadric.specs.Planes.{Plane}
+use Rattle.pm_quadric.specs.Sums.{sums_of, StandsFor}
 use Rattle.pm_quadric.proofs.QuadricLaws.{count_is, sums_joined}
-use Rattle.pm_runs.specs.Surfaces.{Surface, next_vertex, is_live, place_at, surface_of, collapsed}
+use Rattle.pm_runs.specs.Surfaces.{Surface, next_vertex, is_live, surface_of, collapsed}
 use Rattle.pm_runs.specs.Planes.{planes_at}
 use Rattle.pm_runs.specs.Counts.{live_count_of}
 use Rattle.pm_runs.specs.Runs.{IsStartOfRun, surface_after, IsStep, IsRun}
@@ -22,7 +19,7 @@ use Rattle.pm_runs.proofs.Live.{live_below, next-after}
 use Rattle.pm_runs.proofs.Living.{joined_live, live_fewer, first_live_count}
 use Rattle.pm_runs.proofs.Logs.{surface_after-nil, surface_after-more, run-parts, run-sound, step-new}
 use Rattle.pm_policies.specs.Policies.{Policy, taken_after, brought_after, planes_by}
-use Rattle.pm_policies.specs.Policies.{pair_planes_by, place_by, key_by, plain_keeping}
+use Rattle.pm_policies.specs.Policies.{plain_keeping}
 use Rattle.pm_policies.specs.Bounds.{BringsAtMost, TakesAtMost}
 use Rattle.pm_policies.specs.Laws.{AreFew}
 use Rattle.pm_policies.proofs.PlanesTaken.{planes_are_taken}
@@ -120,16 +117,7 @@ module _
   live_here : (v : ℕ) → is_live s.surface v ≡ true → is_live (surface_after m log) v ≡ true
   live_here v = subst (λ (z : Surface). is_live z v ≡ true) after.surface
 
-  pub slot_in : (v : ℕ) → is_live s.surface v ≡ true → v < length t.slots
-  slot_in v live =
-      let low = live_below (surface_after m log) v (live_here v live) in
-      let room = goes.room in
-      omega arith
-
   module _ (a b : ℕ) (la : is_live s.surface a ≡ true) (lb : is_live s.surface b ≡ true) where
-    abbrev all : List Plane
-    all = pair_planes_by p m log a b
-
     pub pair_fits : a < b → (quadric_at t a).count + (quadric_at t b).count ≤ MOST_PLANES
     pair_fits order =
         let few = (few_planes p goes.policy m after.start log after.run).pair a b order
@@ -139,27 +127,6 @@ module _
         let both = length-append (planes_by p m log a) (planes_by p m log b) in
         let faces = after.start.formed.faces in
         omega arith
-
-    -- By what `best_place` says of the sum of both quadrics.
-    module _
-        (q : Sums) (is : q ≡ plus_sums (quadric_at t a) (quadric_at t b)) (place : Place) (cost : ℕ)
-        (least : (fs : List Plane) → StandsFor q fs →
-        place ≡ least_place (squares_of fs) (place_at s.surface a) (place_at s.surface b))
-        (value : (fs : List Plane) → StandsFor q fs → cost ≡ squares_of fs place) where
-      stands : StandsFor q all
-      stands =
-          is ∙ sums_joined (quadric_at t a) (quadric_at t b) (planes_by p m log a)
-          (planes_by p m log b) (goes.each a (live_here a la)) (goes.each b (live_here b lb))
-
-      pub place_is : place ≡ place_by p m log a b
-      place_is =
-          let now : Surface = surface_after m log in
-          least all stands
-          ∙ ap (λ (z : Surface). least_place (squares_of all) (place_at z a) (place_at z b)) after.surface
-          ∙ sym (ap (λ (r : Policy). r.place all (place_at now a) (place_at now b)) goes.policy)
-
-      pub cost_is : cost ≡ (key_by p m log a b).cost
-      cost_is = value all stands ∙ ap (squares_of all) place_is
 
 -- Over one collapse.
 module _
@@ -244,6 +211,10 @@ module _
           each = λ v there.
               each v (subst (λ (z : Surface). is_live z v ≡ true) later there);
           own = subst (λ (z : Surface). HaveOwnSlots z r.slots) (sym later) own;
-          room = omega (arith, ap next_vertex later, ap live_count_of later,
-          next-after now c.t c.u c.place);
+          room = omega (
+            arith,
+            ap next_vertex later,
+            ap live_count_of later,
+            next-after now c.t c.u c.place,
+          );
         }

@@ -14,7 +14,7 @@ use Rattle.pm_quadric.specs.Planes.{Plane}
 use Rattle.pm_quadric.specs.Sums.{Sums, plus_sums, sums_of}
 use Rattle.pm_quadric.proofs.QuadricLaws.{sums_joined}
 use Rattle.pm_runs.specs.Planes.{planes_at, plane_of_face, has_corner}
-use Rattle.pm_shrink.specs.Tables.{mesh_with}
+use Rattle.pm_costs.specs.Slots.{mesh_with}
 
 -- The planes of one face at a vertex.
 abbrev one_plane : List Place → Corners → ℕ → List Plane

@@ -1,5 +1,8 @@
 -- How slots hold the quadrics of vertices.
 use Rattle.std.specs.Prelude.{◌≡◌, ℕ, true, List, map, slice_index_or}
+use Rattle.pm_base.specs.Place.{Place}
+use Rattle.pm_base.specs.declared.mesh.Corners.{Corners}
+use Rattle.pm_base.specs.Meshes.{Mesh}
 use Rattle.pm_quadric.specs.Sums.{Sums, zero_sums}
 use Rattle.pm_runs.specs.Surfaces.{Surface, is_live}
 
@@ -21,3 +24,7 @@ abbrev pub HaveOwnSlots : Surface → List ℕ → Type 0
 HaveOwnSlots s slots =
     (v w : ℕ) → is_live s v ≡ true → is_live s w ≡ true →
     slice_index_or slots v 0 ≡ slice_index_or slots w 0 → v ≡ w
+
+-- The mesh of these points and faces.
+abbrev pub mesh_with : List Place → List Corners → Mesh
+mesh_with points faces = record { points = points; faces = faces }

@@ -6,8 +6,7 @@ ghost use Rattle.pm_quadric.specs.declared.quadric.TheConstants.{MOST_PLANES};
 ghost use Rattle.pm_quadric.specs.Sums.{plus_sums, sums_of, zero_sums};
 ghost use Rattle.pm_runs.specs.Planes.{planes_at, plane_of_face, has_corner};
 ghost use Rattle.pm_policies.specs.Policies.{plain_keeping};
-ghost use Rattle.pm_shrink.specs.Tables.{mesh_with};
-ghost use Rattle.pm_costs.specs.Slots.{quadric_at};
+ghost use Rattle.pm_costs.specs.Slots.{mesh_with, quadric_at};
 ghost use Rattle.pm_costs.specs.Plain.{GoesByPlain};
 
 use crate::Costs;

@@ -3,7 +3,6 @@ use Rattle.std.specs.Prelude.{◌≡◌, ℕ, ◌+◌, ◌*◌, ◌≤◌, ◌%�
 use Rattle.pm_base.specs.declared.limits.TheConstants.{MOST_NODES}
 use Rattle.pm_base.specs.Place.{Place}
 use Rattle.pm_base.specs.declared.mesh.Corners.{Corners}
-use Rattle.pm_base.specs.Meshes.{Mesh}
 use Rattle.pm_base.specs.Sides.{Stands, twin_of, face_of, corner_in, no_corners}
 use Rattle.pm_links.specs.Lists.{Lists}
 use Rattle.pm_runs.specs.Surfaces.{Surface, net_of_surface, face_count_of}
@@ -18,9 +17,6 @@ pub record Faces : Type 0 where
 -- The vertex from which a side runs, as in the surface of these faces.
 abbrev pub side_from : List (Option Corners) → ℕ → ℕ
 side_from faces e = corner_in (unwrap_or (slice_index_or faces (face_of e) None) no_corners) (e % 3)
-
-abbrev pub mesh_with : List Place → List Corners → Mesh
-mesh_with points faces = record { points = points; faces = faces }
 
 -- The surface with the first so many of the places.
 abbrev pub surface_with : List (Option Corners) → List (Option Place) → ℕ → Surface

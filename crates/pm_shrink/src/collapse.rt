@@ -1,5 +1,5 @@
 //! The collapse of a pair.
-ghost use Rattle.std.specs.Prelude.{◌≡◌, ◌≢◌, ◌<◌, ℕ, true, List, [], ◌∷◌, ◌++◌};
+ghost use Rattle.std.specs.Prelude.{◌≡◌, ◌<◌, true, List, [], ◌∷◌, ◌++◌};
 ghost use Rattle.pm_base.specs.Fans.{IsOrientedManifold};
 ghost use Rattle.pm_base.specs.declared.log.Collapse.{Collapse as Entry};
 ghost use Rattle.pm_base.specs.Meshes.{Mesh};

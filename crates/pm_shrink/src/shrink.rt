@@ -13,7 +13,7 @@ pub type OutOfMemory = AllocError;
 /// live vertices, and by vertex number the lists of corners.
 ///
 /// Vertices are named by numbers, and each collapse makes the next one. Only `new` takes memory, some 60 bytes a face and
-/// 230 a point: there is room for as many later vertices as there are points, since each collapse takes two away for one.
+/// 50 a point: there is room for as many later vertices as there are points, since each collapse takes two away for one.
 #[derive(Drop)]
 pub struct Shrink {
     // Each face, and what stands across its sides; of the sides of a dropped face that says nothing.

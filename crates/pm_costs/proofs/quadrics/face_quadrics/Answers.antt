@@ -6,7 +6,7 @@ use Rattle.pm_base.specs.Sides.{no_corners}
 use Rattle.pm_quadric.specs.Sums.{Sums, zero_sums}
 use Rattle.pm_quadric.proofs.QuadricLaws.{count_is}
 use Rattle.pm_runs.specs.Planes.{planes_at}
-use Rattle.pm_shrink.specs.Tables.{mesh_with}
+use Rattle.pm_costs.specs.Slots.{mesh_with}
 use Rattle.pm_costs.proofs.PlaneTotals.{quadric-more, planes-short}
 use Rattle.pm_costs.proofs.quadrics.face_quadrics.Goals as goal
 

@@ -1,7 +1,7 @@
 use Rattle.std.proofs.Common.{◌≡◌, ◌<◌, ℕ, length, take, slice_index_or}
 use Rattle.pm_quadric.specs.Sums.{sums_of, zero_sums}
 use Rattle.pm_runs.specs.Planes.{planes_at}
-use Rattle.pm_shrink.specs.Tables.{mesh_with}
+use Rattle.pm_costs.specs.Slots.{mesh_with}
 use Rattle.pm_costs.proofs.quadrics.face_quadrics.Given as goal
 
 abbrev pub invariant-loop-face : goal.invariant-loop-face

@@ -1,5 +1,3 @@
-use Rattle.std.proofs.Common.{ℕ, ◌++◌, ◌∷◌, []}
-use Rattle.pm_costs.specs.Slots.{Quadrics}
 use Rattle.pm_costs.proofs.PlainLaws.{merged_in, merged_fits, goes_more}
 use Rattle.pm_costs.proofs.quadrics.QuadricTableCosts.merged.Goals as goal
 

@@ -1,4 +1,4 @@
-use Rattle.std.proofs.Common.{rules, ◌≡◌, ◌∙◌, ℕ, ◌+◌, ◌-◌, ◌<◌, length, get_or, Option, refl, sym, ap, subst, arith}
+use Rattle.std.proofs.Common.{rules, ◌≡◌, ◌∙◌, ℕ, ◌+◌, ◌-◌, ◌<◌, length, Option, refl, sym, ap, subst, arith}
 use Rattle.std.specs.Prelude.{is_some, IfSome}
 use Rattle.pm_base.specs.Counts.{one_if}
 use Rattle.pm_base.specs.declared.log.Gone.{Gone}
@@ -6,7 +6,7 @@ use Rattle.pm_base.specs.declared.log.Collapse.{Collapse}
 use Rattle.pm_base.specs.Sides.{Net}
 use Rattle.pm_links.proofs.Calls.{after_move}
 use Rattle.pm_links.specs.Lists.{Lists, list_of, has}
-use Rattle.pm_runs.specs.Surfaces.{Surface, next_vertex, is_live, net_of_surface, collapsed}
+use Rattle.pm_runs.specs.Surfaces.{net_of_surface, collapsed}
 use Rattle.pm_runs.specs.Pairs.{IsLegalPair}
 use Rattle.pm_runs.specs.Steps.{gone_of}
 use Rattle.pm_runs.proofs.Living.{joined_live}
