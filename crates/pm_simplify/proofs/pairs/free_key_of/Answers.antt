@@ -1,4 +1,4 @@
-use Rattle.std.proofs.Common.{◌≡◌, ◌∙◌, ℕ, ◌||◌, Bool, sym, ap}
+use Rattle.std.proofs.Common.{◌∙◌, ℕ, ◌||◌, Bool, sym, ap}
 use Rattle.pm_simplify.proofs.PairLaws.{none_due, barred_due, key_due}
 use Rattle.pm_simplify.proofs.pairs.free_key_of.Goals as goal
 

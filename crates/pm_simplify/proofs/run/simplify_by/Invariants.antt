@@ -3,8 +3,6 @@ use Rattle.pm_base.specs.Sides.{side_count}
 use Rattle.pm_keeping.specs.Keeping.{kept_in}
 use Rattle.pm_policies.specs.Policies.{Policy}
 use Rattle.pm_shrink.specs.Shrinking.{net_at}
-use Rattle.pm_shrink.specs.Following.{IsAfter}
-use Rattle.pm_simplify.specs.OnRuns.{IsOnRun}
 use Rattle.pm_simplify.proofs.Running.{IsUnderWay}
 use Rattle.pm_simplify.proofs.run.simplify_by.Given as goal
 

@@ -90,8 +90,7 @@ pub renew_around-requires-clause-known : goal.renew_around-requires-clause-known
 renew_around-requires-clause-known g c =
     let (p, m, log, on, x) = c.requires.candidate in
     let then = c.collapse-entry.ensures.after m log on.after in
-    let more : List Entry = log ++ c.collapse-entry.result ∷ [] in
-    (
+    let more : List Entry = log ++ c.collapse-entry.result ∷ [] in (
       p,
       m,
       more,
