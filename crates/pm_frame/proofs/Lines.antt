@@ -1,5 +1,5 @@
 -- The lines of the numbers below n that pass a test, one number on.
-use Rattle.std.proofs.Common.{◌≡◌, ℕ, ◌+◌, ◌-◌, ◌<◌, Bool, true, false, List, [], ◌∷◌, ◌++◌, Option, filter, sym, ap, ◌∙◌, subst, arith}
+use Rattle.std.proofs.Common.{◌≡◌, ℕ, ◌+◌, ◌-◌, ◌<◌, ◌≤◌, Bool, true, List, [], ◌∷◌, ◌++◌, Option, filter, sym, ap, ◌∙◌, subst, arith}
 use Rattle.std.specs.List.{flat_map, range_with_len}
 use Rattle.std.proofs.lemmas.Grind.{flat_map-append}
 use Rattle.std.proofs.lemmas.List.{append-nil}
@@ -7,7 +7,8 @@ use Rattle.std.proofs.lemmas.List.Elements.{filter-append}
 use Rattle.pm_io.specs.Bytes.{GainsPart, GainsThrough}
 use Rattle.pm_io.proofs.PageLaws.{through_both, through_more, through_part}
 use Rattle.pm_base.specs.Counts.{numbers_below}
-use Rattle.pm_front.proofs.Counting.{numbers_parts, passing_next, passing_same}
+use Rattle.pm_front.specs.Shown.{NonePasses}
+use Rattle.pm_front.proofs.Counting.{numbers_parts, passing_next, passing_gap}
 
 lines_next : (p : ℕ → Bool) (line : ℕ → List ℕ) (n : ℕ) → p n ≡ true →
     flat_map line (filter p (numbers_below (n + 1))) ≡ flat_map line (filter p (numbers_below n)) ++ line n
@@ -38,8 +39,8 @@ line_cut p line n m piece old mid new first held l pass is so_far part =
     let this = through_part old mid new first held _ (line n) so_far (subst (λ (l : List ℕ). GainsPart mid new (held ++ l)) is part) in
     subst (λ (l : List ℕ). GainsPart old new (first ++ l)) (sym whole) (through_more old new first _ later this)
 
--- a number that doesn't pass has no line.
-pub line_same : (p : ℕ → Bool) (line : ℕ → List ℕ) (n : ℕ) (old new : Option (List ℕ)) (first held : List ℕ) → p n ≡ false →
-    GainsThrough old new first held (flat_map line (filter p (numbers_below n))) → GainsThrough old new first held (flat_map line (filter p (numbers_below (n + 1))))
-line_same p line n old new first held fail so_far =
-    subst (λ (l : List ℕ). GainsThrough old new first held (flat_map line l)) (sym (passing_same p n fail)) so_far
+-- numbers that don't pass have no line.
+pub line_gap : (p : ℕ → Bool) (line : ℕ → List ℕ) (a b : ℕ) (old new : Option (List ℕ)) (first held : List ℕ) → a ≤ b → NonePasses p a b →
+    GainsThrough old new first held (flat_map line (filter p (numbers_below a))) → GainsThrough old new first held (flat_map line (filter p (numbers_below b)))
+line_gap p line a b old new first held ordered none so_far =
+    subst (λ (l : List ℕ). GainsThrough old new first held (flat_map line l)) (sym (passing_gap p a b ordered none)) so_far

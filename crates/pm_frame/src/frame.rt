@@ -35,12 +35,13 @@ fn put_nodes<K: Sink>(front: &Front, page: &mut Page, out: &mut K) -> Result<(),
     ensures { let text = node_lines front.now.h (set_of front.now.flags) in
         PutsThrough K.Sink out.old out.new page.old page.new text result }
 {
+    front.invariant();
     let mut line = Line::new();
-    for node in 0..front.hierarchy().nodes() {
-        if front.is_active(NodeId(node)) {
-            put_active(front, &mut line, NodeId(node));
-            page.add(line.as_slice(), out)?;
-        }
+    let mut from = 0;
+    while let Some(node) = front.active_from(from) {
+        put_active(front, &mut line, node);
+        page.add(line.as_slice(), out)?;
+        from = node.0 + 1;
     }
     Ok(())
 }
@@ -57,18 +58,20 @@ fn put_shown(front: &Front, line: &mut Line, face: FaceId)
     put_face(line, face.0, a.0, b.0, c.0);
 }
 
-/// Adds a line for each kept face, with the ancestors of its corners, ascending by number. It takes no memory. After a
-/// fault the sink has gained a part of what the page held and the lines.
+/// Adds a line for each kept face, with the ancestors of its corners, ascending by number: O(1) time for each, and for each
+/// 4,096 faces of the hierarchy. It takes no memory. After a fault the sink has gained a part of what the page held and the
+/// lines.
 pub fn put_faces<K: Sink>(front: &Front, page: &mut Page, out: &mut K) -> Result<(), WriteFault>
     ensures { let text = face_lines front.now.h (set_of front.now.flags) in
         PutsThrough K.Sink out.old out.new page.old page.new text result }
 {
+    front.invariant();
     let mut line = Line::new();
-    for face in 0..front.hierarchy().faces() {
-        if front.is_kept(FaceId(face)) {
-            put_shown(front, &mut line, FaceId(face));
-            page.add(line.as_slice(), out)?;
-        }
+    let mut from = 0;
+    while let Some(face) = front.kept_from(from) {
+        put_shown(front, &mut line, face);
+        page.add(line.as_slice(), out)?;
+        from = face.0 + 1;
     }
     Ok(())
 }
@@ -82,9 +85,9 @@ pub fn put_last<K: Sink>(page: &mut Page, out: &mut K) -> Result<(), WriteFault>
     page.add(line.as_slice(), out)
 }
 
-/// Writes the frame text: the active nodes and the kept faces, ascending by number. A frame costs two passes over all
-/// nodes and faces, and a climb from each corner of a kept face to its ancestor. It takes no memory. After a fault the
-/// sink has gained a part of the text from its front, and not the whole.
+/// Writes the frame text: the active nodes and the kept faces, ascending by number. A frame costs O(1) time for each of
+/// these, and for each 4,096 nodes and faces of the hierarchy. It takes no memory. After a fault the sink has gained a part
+/// of the text from its front, and not the whole.
 ///
 /// The text is put in pages of 4,096 bytes, of which the last may be shorter: when the call returns, nothing is held back.
 #[tactic(auto, unfolding(crate::specs::Frame::frame_text))]

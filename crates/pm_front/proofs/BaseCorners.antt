@@ -5,7 +5,6 @@ use Rattle.std.specs.List.{filter, range_with_len}
 use Rattle.std.proofs.lemmas.Bool.{cases_eq, cases_lt, lt-ltb, false≢true, false_from_ne_true, not_from_false}
 use Rattle.std.proofs.lemmas.List.{ext_get_or, get_or-replicate, length-replicate}
 use Rattle.std.proofs.lemmas.List.Elements.{filter-append}
-use Rattle.std.proofs.lemmas.List.FromFn.{length-range_with_len}
 use Rattle.pm_base.specs.Sides.{face_of}
 use Rattle.pm_links.specs.Lists.{Lists, list_of, has, empty_lists, with_moved}
 use Rattle.pm_links.proofs.Calls.{after_move}
@@ -24,7 +23,9 @@ use Rattle.pm_sides.proofs.RecordSides.{corner_of-record}
 use Rattle.pm_sides.proofs.SplitNodeLaws.{s_below}
 use Rattle.pm_base.specs.Counts.{numbers_below}
 use Rattle.pm_front.specs.Corners.{listed, is_under, is_not_between, rest_of, collapsed_list, collapsed_lists, full_list, full_base_lists, full_lists, base_lists}
-use Rattle.pm_front.specs.Active.{shown_count}
+use Rattle.pm_front.specs.Active.{AreShown}
+use Rattle.pm_front.specs.Members.{AreSameNumbers}
+use Rattle.pm_front.proofs.RangeLaws.{first_ones}
 use Rattle.pm_front.proofs.ListLaws.{has_filter-parts, filter-all, filter-swap, passing_first}
 use Rattle.pm_front.proofs.NodeLists.{is_corner_of, corner_of-parts, listed-by_node, listed-past, length-by_node}
 use Rattle.pm_front.proofs.CollapsedCorners.{collapsed-s, collapsed-child, collapsed-other}
@@ -67,11 +68,18 @@ base-numbers h =
     let few = bases-few h in
     passing_first (is_base h) (3 * length h.bases) (3 * face_count h) (omega arith) (base-early h) (base-late h)
 
--- so many faces are kept
-pub base-kept : (h : Hierarchy) → shown_count h no_records ≡ length h.bases
-base-kept h =
-    ap length (passing_first (λ f. is_base h (3 * f)) (length h.bases) (face_count h) (bases-few h) (λ f l. base-early h (3 * f) (omega arith)) (λ f l late. base-late h (3 * f) (omega arith) (omega arith)))
-    ∙ length-range_with_len 0 (length h.bases)
+-- these faces are kept
+pub base-kept : (h : Hierarchy) (xs new : List ℕ) → xs ≡ [] → AreSameNumbers new (range_with_len 0 (length h.bases - 0) ++ xs) → AreShown h no_records new
+base-kept h xs new none are = record {
+  each = λ f. (
+    λ t. (let l = (first_ones (length h.bases) xs new none are f).0 t in (omega (arith, bases-few h), base-early h (3 * f) (omega arith))),
+    λ (l, base). elim (cases_lt f (length h.bases)) [
+      | inl early ↦ (first_ones (length h.bases) xs new none are f).1 early
+      | inr late ↦ absurd (false≢true (sym (base-late h (3 * f) (omega arith) (omega arith)) ∙ base))
+    ],
+  );
+  once = are.once;
+}
 
 -- ---- in the lists of the full front
 

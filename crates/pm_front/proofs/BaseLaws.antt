@@ -12,11 +12,10 @@ use Rattle.pm_forest.specs.Rules.{HasShape}
 use Rattle.pm_forest.proofs.Flags.{set_of-unset}
 use Rattle.pm_beyond.specs.Walks.{leaf_net}
 use Rattle.pm_sides.specs.Stored.{AreStored}
-use Rattle.pm_front.specs.Active.{AreActive, shown_count}
+use Rattle.pm_front.specs.Active.{AreActive, AreShown}
 use Rattle.pm_front.specs.Corners.{base_lists, AreCorners}
 use Rattle.pm_front.specs.Members.{Members}
 use Rattle.pm_front.specs.State.{IsRefinement}
-use Rattle.pm_front.proofs.BaseCorners.{base-kept}
 use Rattle.pm_front.proofs.OpenedLists.{base-right}
 
 base-front : (h : Hierarchy) → IsFront h no_records
@@ -27,10 +26,10 @@ module _ (h : Hierarchy) (flags : List Bool) (none : flags ≡ replicate (record
   unset = ap set_of none ∙ set_of-unset (record_count h)
 
   -- All of it at once.
-  pub base-refined : HasShape h → NoSideTwice (leaf_net h) → (corners : Lists) (active : Members) (kept : ℕ) (table : List (Option ℕ)) →
+  pub base-refined : HasShape h → NoSideTwice (leaf_net h) → (corners : Lists) (active kept : Members) (table : List (Option ℕ)) →
       corners.items ≡ 3 * face_count h → corners.lists ≡ base_lists h → active.bound ≡ node_count h → AreActive h no_records active.list →
-      kept ≡ length h.bases → AreStored h no_records table → IsRefinement h flags corners active kept table
-  base-refined shape once corners active kept table items lists bound nodes faces beyond = record {
+      kept.bound ≡ face_count h → AreShown h no_records kept.list → AreStored h no_records table → IsRefinement h flags corners active kept table
+  base-refined shape once corners active kept table items lists bound nodes kept_bound faces beyond = record {
     shape = shape;
     once = once;
     flag_len = ap length none ∙ length-replicate (record_count h) false;
@@ -39,6 +38,7 @@ module _ (h : Hierarchy) (flags : List Bool) (none : flags ≡ replicate (record
     corner_lists = subst (λ (T : ℕ → Bool). AreCorners h T corners.lists) (sym unset) (subst (AreCorners h no_records) (sym lists) (base-right h shape));
     active_bound = bound;
     active_list = subst (λ (T : ℕ → Bool). AreActive h T active.list) (sym unset) nodes;
-    kept_total = faces ∙ sym (ap (shown_count h) unset ∙ base-kept h);
+    kept_bound = kept_bound;
+    kept_list = subst (λ (T : ℕ → Bool). AreShown h T kept.list) (sym unset) faces;
     beyond = subst (λ (T : ℕ → Bool). AreStored h T table) (sym unset) beyond;
   }

@@ -13,6 +13,7 @@ use Rattle.pm_sets.specs.Counted.{members_in}
 use Rattle.pm_sets.proofs.Ranges.{none_passes}
 use Rattle.pm_sets.proofs.FlagLaws.{in_below, no_members, set_other, set_here, more_in, less_in}
 use Rattle.pm_front.specs.Members.{Members, AreSameNumbers, AreMembers, members_of}
+use Rattle.pm_front.specs.Shown.{NonePasses, IsLeastFrom}
 use Rattle.pm_front.proofs.ListLaws.{has_filter-parts, has_filter-from, once-filter, once-range, number-member}
 
 -- ---- in a range
@@ -108,6 +109,22 @@ first_found flags a n all None some none = sym (ap first_of (none_passes (set_of
 first_found flags a n all (Some k) first none =
     let below = in_below flags k first.there in
     sym (first_passes (set_of flags) a n k first.from (omega (arith, below, all)) first.there first.none)
+
+pub least_found : (flags : List Bool) (a : ℕ) (found : Option ℕ) → IfSome found (IsFirst flags a) → IfSome found (IsLeastFrom (has (members_of flags)) a)
+least_found flags a None found = tt
+least_found flags a (Some k) found = record {
+  from = found.from;
+  passes = has-flagged flags k ∙ found.there;
+  none = λ x low high. has-flagged flags x ∙ found.none x low high;
+}
+
+pub none_found : (flags : List Bool) (a b : ℕ) (found : Option ℕ) → IfNone found (IsGap flags a b) → IfNone found (NonePasses (has (members_of flags)) a b)
+none_found flags a b None none = λ x low high. has-flagged flags x ∙ none x low high
+none_found flags a b (Some k) none = tt
+
+pub found_below : (flags : List Bool) (a : ℕ) (found : Option ℕ) → IfSome found (IsFirst flags a) → IfSome found (λ k. k < length flags)
+found_below flags a None found = tt
+found_below flags a (Some k) found = in_below flags k found.there
 
 pub after_member : (flags : List Bool) (n : ℕ) → set_of flags n ≡ true → after n (members_of flags) ≡ members_in flags (n + 1) (length flags - (n + 1))
 after_member flags n there =

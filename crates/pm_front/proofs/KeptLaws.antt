@@ -1,6 +1,8 @@
--- How many faces are shown, in the full front and after a legal move. In a front these are the kept ones.
-use Rattle.std.proofs.Common.{◌≡◌, ℕ, zero, suc, ◌+◌, ◌-◌, ◌*◌, ◌<◌, ◌≤◌, Bool, true, false, Some, length, filter, inl, inr, sym, ap, ◌∙◌, arith}
-use Rattle.std.proofs.lemmas.Bool.{cases_Bool, cases_lt, false_from_ne_true}
+-- The list of kept faces after a legal move, and which faces it has.
+use Rattle.std.proofs.Common.{◌≡◌, ℕ, ◌+◌, ◌-◌, ◌*◌, ◌<◌, ◌≤◌, Bool, true, false, Some, List, ◌++◌, length, filter, inl, inr, sym, ◌∙◌, arith}
+use Rattle.std.specs.List.{range_with_len}
+use Rattle.std.proofs.lemmas.Bool.{both_ways, false_from_ne_true}
+use Rattle.pm_links.specs.Lists.{has}
 use Rattle.pm_forest.specs.Forest.{Hierarchy, record_count}
 use Rattle.pm_forest.specs.Fronts.{IsFront, with, without as less}
 use Rattle.pm_forest.specs.Faces.{first_face, face_count, record_of, IsForest}
@@ -8,65 +10,14 @@ use Rattle.pm_forest.specs.Kept.{is_kept, is_shown}
 use Rattle.pm_forest.proofs.OneStep.{with-same}
 use Rattle.pm_forest.proofs.Shown.{kept-shown, shown_record, shown_with, shown_with-parts, shown_without, shown_without-parts}
 use Rattle.pm_beyond.proofs.PlanLists.{same_bools}
-use Rattle.pm_front.specs.Shown.{kept_faces}
-use Rattle.pm_base.specs.Counts.{numbers_below}
-use Rattle.pm_front.specs.Active.{shown_count}
-use Rattle.pm_front.proofs.Counting.{count_next, count_same}
+use Rattle.pm_front.specs.Active.{AreShown}
+use Rattle.pm_front.specs.Corners.{is_not_between}
+use Rattle.pm_front.specs.Members.{AreSameNumbers}
+use Rattle.pm_front.specs.Shown.{kept_faces, NonePasses, IsLeastFrom}
+use Rattle.pm_front.proofs.Counting.{least_same, none_same}
+use Rattle.pm_front.proofs.MemberLaws.{as_many}
+use Rattle.pm_front.proofs.RangeLaws.{put_parts, put_new, put_old, out_parts, out_from}
 use Rattle.pm_sides.proofs.RecordSides.{corner_of-record, record-corner_of}
-
--- ---- how many numbers pass a test
-
-pub count-few : (p : ℕ → Bool) (n : ℕ) → length (filter p (numbers_below n)) ≤ n
-count-few p zero = omega arith
-count-few p (suc n) =
-    let next_is : n + 1 ≡ suc n = omega arith in
-    let at = ap (λ m. length (filter p (numbers_below m))) next_is in
-    let rest = count-few p n in
-    elim (cases_Bool (p n)) [
-      | inl pass ↦ (let next = count_next p n pass in omega (arith, at, next, rest))
-      | inr fail ↦ (let next = count_same p n fail in omega (arith, at, next, rest))
-    ]
-
--- Where the numbers from `from` to before `until` pass test q and not test p, and all others below n pass both or neither.
-module _ (p q : ℕ → Bool) (n from until : ℕ) (ordered : from ≤ until)
-    (old : (x : ℕ) → x < n → from ≤ x → x < until → p x ≡ false)
-    (new : (x : ℕ) → x < n → from ≤ x → x < until → q x ≡ true)
-    (same : (x : ℕ) → x < n → (from ≤ x → x < until → ⊥) → q x ≡ p x) where
-  pub count-more : (m : ℕ) → m ≤ n → length (filter q (numbers_below m)) ≡ length (filter p (numbers_below m)) + ((m - from) - (m - until))
-  count-more zero l = omega arith
-  count-more (suc m) l =
-      let rest = count-more m (omega arith) in
-      let next_is : m + 1 ≡ suc m = omega arith in
-      let q_at = ap (λ i. length (filter q (numbers_below i))) next_is in
-      let p_at = ap (λ i. length (filter p (numbers_below i))) next_is in
-      elim (cases_lt m from) [
-        | inl low ↦ both m (omega arith) rest q_at p_at (same m (omega arith) (λ a b. omega arith)) (omega arith)
-        | inr high ↦ elim (cases_lt m until) [
-          | inl inside ↦
-              let more = count_next q m (new m (omega arith) high inside) in
-              let less = count_same p m (old m (omega arith) high inside) in
-              omega (arith, rest, q_at, p_at, more, less)
-          | inr past ↦ both m (omega arith) rest q_at p_at (same m (omega arith) (λ a b. omega arith)) (omega arith)
-        ]
-      ]
-    where
-      both :
-          (m : ℕ) → m < n → length (filter q (numbers_below m)) ≡ length (filter p (numbers_below m)) + ((m - from) - (m - until))
-          → length (filter q (numbers_below (m + 1))) ≡ length (filter q (numbers_below (suc m)))
-          → length (filter p (numbers_below (m + 1))) ≡ length (filter p (numbers_below (suc m)))
-          → q m ≡ p m → (suc m - from) - (suc m - until) ≡ (m - from) - (m - until)
-          → length (filter q (numbers_below (suc m))) ≡ length (filter p (numbers_below (suc m))) + ((suc m - from) - (suc m - until))
-      both m l rest q_at p_at is gap =
-          elim (cases_Bool (p m)) [
-            | inl pass ↦
-                let a = count_next q m (is ∙ pass) in
-                let b = count_next p m pass in
-                omega (arith, rest, q_at, p_at, a, b, gap)
-            | inr fail ↦
-                let a = count_same q m (is ∙ fail) in
-                let b = count_same p m fail in
-                omega (arith, rest, q_at, p_at, a, b, gap)
-          ]
 
 -- ---- the faces of a record
 
@@ -76,46 +27,68 @@ own_face h k f l low high = let p = corner_of-record h k (3 * f) l (omega arith)
 face_own : (h : Hierarchy) (k f : ℕ) → f < face_count h → record_of h (3 * f) ≡ Some k → (first_face h k ≤ f) × (f < first_face h (k + 1))
 face_own h k f l own = let p = record-corner_of h k (3 * f) (omega arith) own in (omega (arith, p.0), omega (arith, p.1))
 
-pub shown-few : (h : Hierarchy) (T : ℕ → Bool) → shown_count h T ≤ face_count h
-shown-few h T = count-few (λ f. is_shown h T (3 * f)) (face_count h)
+module _ (h : Hierarchy) (T : ℕ → Bool) (k : ℕ) (k_lt : k < record_count h) (from until : ℕ) (from_is : from ≡ first_face h k) (until_is : until ≡ first_face h (k + 1)) (xs : List ℕ) (right : AreShown h T xs) where
+  own : (f : ℕ) → from ≤ f → f < until → (f < face_count h) × (record_of h (3 * f) ≡ Some k)
+  own f low high = own_face h k f k_lt (omega arith) (omega arith)
 
-module _ (h : Hierarchy) (T : ℕ → Bool) (k : ℕ) (k_lt : k < record_count h) (from until : ℕ) (from_is : from ≡ first_face h k) (until_is : until ≡ first_face h (k + 1)) (ordered : from ≤ until) (within : until ≤ face_count h) where
-  gap : (face_count h - from) - (face_count h - until) ≡ until - from
-  gap = omega arith
+  outside : (f : ℕ) → (record_of h (3 * f) ≡ Some k → ⊥) → from ≤ f → f < until → ⊥
+  outside f other low high = other (own f low high).1
 
-  pub split-shown : T k ≡ false → shown_count h (with T k) ≡ shown_count h T + (until - from)
-  split-shown unsplit =
-      let own = λ (f : ℕ) (low : from ≤ f) (high : f < until). (own_face h k f k_lt (omega arith) (omega arith)).1 in
-      count-more (λ f. is_shown h T (3 * f)) (λ f. is_shown h (with T k) (3 * f)) (face_count h) from until ordered
-      (λ f l low high. shown_record h T (3 * f) k (own f low high) ∙ unsplit)
-      (λ f l low high. shown_record h (with T k) (3 * f) k (own f low high) ∙ with-same T k)
-      (λ f l other. same_bools (is_shown h (with T k) (3 * f)) (is_shown h T (3 * f))
-      (λ t. elim (shown_with-parts h T k (3 * f) t) [
-        | inl r ↦ (let p = face_own h k f l r in absurd (other (omega (arith, p.0)) (omega (arith, p.1))))
-        | inr old ↦ old
-      ])
-      (shown_with h T k (3 * f)))
-      (face_count h) (omega arith)
-      ∙ ap (λ n. shown_count h T + n) gap
+  -- just before a move
+  pub own_absent : T k ≡ false → (f : ℕ) → from ≤ f → f < until → has xs f ≡ false
+  own_absent unsplit f low high =
+      false_from_ne_true (has xs f) (λ t. both_ways (T k) unsplit (sym (shown_record h T (3 * f) k (own f low high).1) ∙ ((right.each f).0 t).1))
 
-  pub collapse-shown : T k ≡ true → shown_count h T ≡ shown_count h (less T k) + (until - from)
-  collapse-shown split =
-      let own = λ (f : ℕ) (low : from ≤ f) (high : f < until). (own_face h k f k_lt (omega arith) (omega arith)).1 in
-      count-more (λ f. is_shown h (less T k) (3 * f)) (λ f. is_shown h T (3 * f)) (face_count h) from until ordered
-      (λ f l low high. false_from_ne_true (is_shown h (less T k) (3 * f)) (λ t. (shown_without-parts h T k (3 * f) t).0 (own f low high)))
-      (λ f l low high. shown_record h T (3 * f) k (own f low high) ∙ split)
-      (λ f l other. same_bools (is_shown h T (3 * f)) (is_shown h (less T k) (3 * f))
-      (shown_without h T k (3 * f) (λ r. (let p = face_own h k f l r in other (omega (arith, p.0)) (omega (arith, p.1)))))
-      (λ t. (shown_without-parts h T k (3 * f) t).1))
-      (face_count h) (omega arith)
-      ∙ ap (λ n. shown_count h (less T k) + n) gap
+  pub own_there : T k ≡ true → (f : ℕ) → from ≤ f → f < until → has xs f ≡ true
+  own_there split f low high = let p = own f low high in (right.each f).1 (p.0, shown_record h T (3 * f) k p.1 ∙ split)
 
-none_below : (x : ℕ) → x < 0 → ⊥
-none_below x l = omega arith
+  -- and after it
+  pub split-shown : (new : List ℕ) → AreSameNumbers new (range_with_len from (until - from) ++ xs) → AreShown h (with T k) new
+  split-shown new are = record {
+    each = λ f. (
+      λ t. elim (put_parts from until xs new are f t) [
+        | inl r ↦ (let p = own f r.0 r.1 in (p.0, shown_record h (with T k) (3 * f) k p.1 ∙ with-same T k))
+        | inr old ↦ (let p = (right.each f).0 old in (p.0, shown_with h T k (3 * f) p.1))
+      ],
+      λ (l, shown). elim (shown_with-parts h T k (3 * f) shown) [
+        | inl mine ↦ (let p = face_own h k f l mine in put_new from until xs new are f (omega (arith, p.0)) (omega (arith, p.1)))
+        | inr old ↦ put_old from until xs new are f ((right.each f).1 (l, old))
+      ],
+    );
+    once = are.once;
+  }
 
-pub shown-kept : (h : Hierarchy) → IsForest h → (T : ℕ → Bool) → IsFront h T → shown_count h T ≡ length (kept_faces h T)
-shown-kept h tree T front =
-    count-more (is_kept h T) (λ f. is_shown h T (3 * f)) (face_count h) 0 0 (omega arith)
-    (λ f l low high. absurd (none_below f high)) (λ f l low high. absurd (none_below f high)) (λ f l other. sym (kept-shown h tree T front f l))
-    (face_count h) (omega arith)
-    ∙ (let none : (face_count h - 0) - (face_count h - 0) ≡ 0 = omega arith in omega (arith, none))
+  pub collapse-shown : (new : List ℕ) → AreSameNumbers new (filter (is_not_between from until) xs) → AreShown h (less T k) new
+  collapse-shown new are = record {
+    each = λ f. (
+      λ t.
+          let p = out_parts from until xs new are f t in
+          let q = (right.each f).0 p.1 in
+          (q.0, shown_without h T k (3 * f) (λ mine. let r = face_own h k f q.0 mine in p.0 (omega (arith, r.0)) (omega (arith, r.1))) q.1),
+      λ (l, shown).
+          let p = shown_without-parts h T k (3 * f) shown in
+          out_from from until xs new are f (outside f p.0) ((right.each f).1 (l, p.1)),
+    );
+    once = are.once;
+  }
+
+-- ---- which faces are in the list of a front
+
+module _ (h : Hierarchy) (tree : IsForest h) (T : ℕ → Bool) (front : IsFront h T) (xs : List ℕ) (right : AreShown h T xs) where
+  pub listed_kept : (f : ℕ) → f < face_count h → has xs f ≡ is_kept h T f
+  listed_kept f l =
+      same_bools (has xs f) (is_shown h T (3 * f)) (λ t. ((right.each f).0 t).1) (λ shown. (right.each f).1 (l, shown))
+      ∙ sym (kept-shown h tree T front f l)
+
+  pub kept-many : length xs ≡ length (kept_faces h T)
+  kept-many = as_many (is_kept h T) (face_count h) xs right.once (λ f. (
+    λ t. (let p = (right.each f).0 t in (p.0, kept-shown h tree T front f p.0 ∙ p.1)),
+    λ (l, kept). (right.each f).1 (l, sym (kept-shown h tree T front f l) ∙ kept),
+  ))
+
+  -- the least of them from a on
+  pub least_kept : (a bound : ℕ) → bound ≡ face_count h → (f : ℕ) → f < bound → IsLeastFrom (has xs) a f → IsLeastFrom (is_kept h T) a f
+  least_kept a bound all f l = least_same (has xs) (is_kept h T) (face_count h) a f listed_kept (omega (arith, all, l))
+
+  pub none_kept : (a bound : ℕ) → bound ≡ face_count h → NonePasses (has xs) a bound → NonePasses (is_kept h T) a (face_count h)
+  none_kept a bound all none = none_same (has xs) (is_kept h T) (face_count h) a listed_kept (λ f low high. none f low (omega (arith, all, high)))

@@ -1,8 +1,11 @@
 //! Different numbers below a bound, which can be walked in ascending order, and how many they are.
-ghost use Rattle.std.specs.Prelude.{◌≡◌, ◌<◌, ◌≤◌, ◌∷◌, [], true, false, length, IfOk};
-ghost use Rattle.pm_links.specs.Lists.{has, list_without, first_of, after};
+ghost use Rattle.std.specs.Prelude.{◌≡◌, ℕ, ◌-◌, ◌<◌, ◌≤◌, ◌∷◌, ◌++◌, [], true, false, filter, length, IfOk, IfSome, IfNone};
+ghost use Rattle.std.specs.List.{range_with_len};
+ghost use Rattle.pm_links.specs.Lists.{has, list_without, first_of, after, IsOnce};
 ghost use Rattle.pm_links.specs.declared.links.TheConstants.{LIMIT};
+ghost use Rattle.pm_front.specs.Corners.{is_not_between};
 ghost use Rattle.pm_front.specs.Members.{AreSameNumbers};
+ghost use Rattle.pm_front.specs.Shown.{NonePasses, IsLeastFrom};
 
 use crate::OutOfMemory;
 use pm_sets::NumberSet;
@@ -87,5 +90,42 @@ impl Members {
         ensures { result ≡ first_of (after number self.now.list) }
     {
         self.numbers.first_from(number + 1)
+    }
+
+    /// The least one that is at least `from`, if there is one.
+    pub(crate) fn first_from(&self, from: u32) -> Option<u32>
+        requires { from ≤ self.now.bound }
+        ensures some { IfSome result (IsLeastFrom (has self.now.list) from) }
+        ensures below { IfSome result (λ k. k < self.now.bound) }
+        ensures none { IfNone result (NonePasses (has self.now.list) from self.now.bound) }
+    {
+        self.numbers.first_from(from)
+    }
+}
+
+/// Puts the numbers from `from` to before `until` in.
+pub(crate) fn put_in(members: &mut Members, from: u32, until: u32)
+    requires ordered { from ≤ until }
+    requires below { until ≤ members.old.bound }
+    requires absent { (x : ℕ) → from ≤ x → x < until → has members.old.list x ≡ false }
+    requires once { IsOnce members.old.list }
+    ensures bound { members.new.bound ≡ members.old.bound }
+    ensures list { AreSameNumbers members.new.list (range_with_len from (until - from) ++ members.old.list) }
+{
+    for number in from..until {
+        members.insert(number);
+    }
+}
+
+/// Takes the numbers from `from` to before `until` out.
+pub(crate) fn take_out(members: &mut Members, from: u32, until: u32)
+    requires ordered { from ≤ until }
+    requires there { (x : ℕ) → from ≤ x → x < until → has members.old.list x ≡ true }
+    requires once { IsOnce members.old.list }
+    ensures bound { members.new.bound ≡ members.old.bound }
+    ensures list { AreSameNumbers members.new.list (filter (is_not_between from until) members.old.list) }
+{
+    for number in from..until {
+        members.remove(number);
     }
 }

@@ -83,12 +83,13 @@ fn put_nodes<K: Sink>(
     ensures { let text = moved_lines front.now.h (set_of marks.now) (set_of front.now.flags) a b in
         PutsThrough K.Sink out.old out.new page.old page.new text result }
 {
+    front.invariant();
     let mut line = Line::new();
-    for node in 0..front.hierarchy().nodes() {
-        if front.is_active(NodeId(node)) {
-            put_moved(front, marks, a, b, &mut line, NodeId(node));
-            page.add(line.as_slice(), out)?;
-        }
+    let mut from = 0;
+    while let Some(node) = front.active_from(from) {
+        put_moved(front, marks, a, b, &mut line, node);
+        page.add(line.as_slice(), out)?;
+        from = node.0 + 1;
     }
     Ok(())
 }

@@ -1,40 +1,55 @@
-use Rattle.std.proofs.Common.{◌<◌, sym, ap, ◌∙◌, arith}
+use Rattle.std.proofs.Common.{◌∙◌, arith}
 use Rattle.std.proofs.lemmas.Result.{err_from_is_err_and}
 use Rattle.pm_forest.specs.Forest.{node_count}
-use Rattle.pm_forest.specs.Fronts.{is_active}
 use Rattle.pm_base.specs.Counts.{set_of}
-use Rattle.pm_io.proofs.PutLaws.{through_failed}
-use Rattle.pm_frame.proofs.Lines.{line_next, line_cut, line_same}
+use Rattle.pm_forest.proofs.ShapeLaws.{leaf_count-le, record_count-roots}
+use Rattle.pm_forest.specs.Fronts.{is_active}
 use Rattle.pm_morph.specs.Texts.{moved_node}
-use Rattle.pm_morph.proofs.text.put_nodes.Goals.{then-is_active+in_ok-add, else-is_active}
+use Rattle.pm_io.proofs.PutLaws.{through_failed, through_done}
+use Rattle.pm_frame.proofs.Lines.{line_next, line_cut, line_gap}
 use Rattle.pm_morph.proofs.text.put_nodes.Goals as goal
+
+pub overflow_add-from : goal.overflow_add-from
+overflow_add-from g c =
+    let h = c.args.front.now.h in
+    let few = leaf_count-le h c.invariant.ensures.valid.shape in
+    let all = record_count-roots h c.invariant.ensures.valid.shape in
+    omega (arith, c.in-Some.ensures.below, few, all)
+
+pub put_moved-requires-clause-active : goal.put_moved-requires-clause-active
+put_moved-requires-clause-active g c = c.in-Some.ensures.some.passes
 
 pub returns-in_err-add : goal.returns-in_err-add
 returns-in_err-add g c =
     let p = err_from_is_err_and c.from_residual.result c.from_residual.ensures.1 in
     let h = c.args.front.now.h in
-    let T = set_of c.args.marks.now in
-    let S = set_of c.args.front.now.flags in
-    let below : c.loop-node.node < node_count h = omega (arith, ap node_count c.hierarchy.ensures) in
-    let pass = sym c.is_active.ensures ∙ c.if-is_active.true in
-    let line = ◌∙◌ {c = moved_node h T c.args.a c.args.b c.loop-node.node} c.as_slice.ensures c.put_moved.ensures in
-    let part = line_cut (is_active h S) (moved_node h T c.args.a c.args.b) c.loop-node.node (node_count h) _ _ _ _ _ _ below pass line c.loop-node.invariant.text c.in_err-add.ensures.puts.err in
+    let shown = is_active h (set_of c.args.front.now.flags) in
+    let line = moved_node h (set_of c.args.marks.now) c.args.a c.args.b in
+    let n = c.in-Some.node.0 in
+    let least = c.in-Some.ensures.some in
+    let so_far = line_gap shown line c.loop-node.from n _ _ _ _ least.from least.none c.loop-node.invariant.text in
+    let part = line_cut shown line n (node_count h) _ _ _ _ _ _ c.in-Some.ensures.below least.passes (◌∙◌ {c = line n} c.as_slice.ensures c.put_moved.ensures) so_far c.in_err-add.ensures.puts.err in
     rw (p.1, p.2) (through_failed g.K.Sink c.args.out.now c.loop-node.out _ _ _ _ _ part c.loop-node.invariant.count c.in_err-add.ensures.puts.cause)
 
 pub loop-node-preserved : goal.loop-node-preserved
 loop-node-preserved g c =
     let h = c.args.front.now.h in
-    let T = set_of c.args.marks.now in
-    let S = set_of c.args.front.now.flags in
-    elim c.if-is_active.branch [
-      | then-is_active+in_ok-add w ↦
-          rw (w.out-is, w.page-is) (record {
-            text = line_next (is_active h S) (moved_node h T c.args.a c.args.b) c.loop-node.node _ _ _ _ _ _ _ (sym c.is_active.ensures ∙ w.if-is_active.true) (◌∙◌ {c = moved_node h T c.args.a c.args.b c.loop-node.node} w.as_slice.ensures w.put_moved.ensures) c.loop-node.invariant.text w.in_ok-add.ensures.puts.ok;
-            count = w.in_ok-add.ensures.puts.cause.same ∙ c.loop-node.invariant.count;
-          })
-      | else-is_active w ↦
-          rw (w.out-is, w.page-is) (record {
-            text = line_same (is_active h S) (moved_node h T c.args.a c.args.b) c.loop-node.node _ _ _ _ (sym c.is_active.ensures ∙ w.if-is_active.false) c.loop-node.invariant.text;
-            count = c.loop-node.invariant.count;
-          })
-    ]
+    let shown = is_active h (set_of c.args.front.now.flags) in
+    let line = moved_node h (set_of c.args.marks.now) c.args.a c.args.b in
+    let n = c.in-Some.node.0 in
+    let least = c.in-Some.ensures.some in
+    let so_far = line_gap shown line c.loop-node.from n _ _ _ _ least.from least.none c.loop-node.invariant.text in
+    record {
+      within = omega (arith, c.in-Some.ensures.below);
+      text = line_next shown line n _ _ _ _ _ _ _ least.passes (◌∙◌ {c = line n} c.as_slice.ensures c.put_moved.ensures) so_far c.in_ok-add.ensures.puts.ok;
+      count = c.in_ok-add.ensures.puts.cause.same ∙ c.loop-node.invariant.count;
+    }
+
+pub returns : goal.returns
+returns g c =
+    let h = c.args.front.now.h in
+    let shown = is_active h (set_of c.args.front.now.flags) in
+    let line = moved_node h (set_of c.args.marks.now) c.args.a c.args.b in
+    let i = c.loop-node.invariant in
+    through_done g.K.Sink c.args.out.now c.loop-node.out c.args.page.now c.loop-node.page _ _
+    (line_gap shown line c.loop-node.from (node_count h) _ _ _ _ i.within c.in_default.ensures.none i.text) i.count
