@@ -32,12 +32,7 @@ pub(crate) fn split_kept(indexed: &IndexedHierarchy, split: &[bool], faces: &mut
 }
 
 /// The kept faces once record `k` is collapsed: its own no longer.
-pub(crate) fn collapse_kept(
-    indexed: &IndexedHierarchy,
-    split: &[bool],
-    faces: &mut Members,
-    k: u32,
-)
+pub(crate) fn collapse_kept(indexed: &IndexedHierarchy, split: &[bool], faces: &mut Members, k: u32)
     requires record { k < record_count indexed.now }
     requires is_split { set_of split.now k ≡ true }
     requires bound { faces.old.bound ≡ face_count indexed.now }
