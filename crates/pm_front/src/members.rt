@@ -110,7 +110,8 @@ pub(crate) fn put_in(members: &mut Members, from: u32, until: u32)
     requires absent { (x : ℕ) → from ≤ x → x < until → has members.old.list x ≡ false }
     requires once { IsOnce members.old.list }
     ensures bound { members.new.bound ≡ members.old.bound }
-    ensures list { AreSameNumbers members.new.list (range_with_len from (until - from) ++ members.old.list) }
+    ensures list { AreSameNumbers members.new.list
+        (range_with_len from (until - from) ++ members.old.list) }
 {
     for number in from..until {
         members.insert(number);
@@ -123,7 +124,8 @@ pub(crate) fn take_out(members: &mut Members, from: u32, until: u32)
     requires there { (x : ℕ) → from ≤ x → x < until → has members.old.list x ≡ true }
     requires once { IsOnce members.old.list }
     ensures bound { members.new.bound ≡ members.old.bound }
-    ensures list { AreSameNumbers members.new.list (filter (is_not_between from until) members.old.list) }
+    ensures list { AreSameNumbers members.new.list
+        (filter (is_not_between from until) members.old.list) }
 {
     for number in from..until {
         members.remove(number);

@@ -120,8 +120,8 @@ impl Marker {
     ///
     /// NotFiner names the least marked record that isn't split, exactly where there is one, and nothing is written then.
     /// Write comes only where the sink failed: it gained a part of the text from its front, and not the whole. The marks
-    /// stay. It takes no memory; it costs what a frame does, a climb from each active node to its elder, and a step for
-    /// each record.
+    /// stay. It takes no memory; it costs what a frame does, a climb from each active node to its
+    /// elder, and a step for each record.
     pub fn write_morph<K: Sink>(
         &mut self,
         front: &Front,
