@@ -1,5 +1,5 @@
 -- After a legal collapse the corner lists have just the corners of kept faces at each active node, each once.
-use Rattle.std.proofs.Common.{◌≡◌, ◌≢◌, ℕ, suc, ◌-◌, ◌*◌, ◌<◌, Bool, true, not, ◌||◌, eqb, List, [], ◌++◌, Some, inl, inr, refl, sym, ap, ◌∙◌, subst, arith}
+use Rattle.std.proofs.Common.{◌≡◌, ◌≢◌, ℕ, ◌*◌, ◌<◌, Bool, true, not, ◌||◌, eqb, List, [], ◌++◌, Some, inl, inr, refl, sym, ap, ◌∙◌, subst, arith}
 use Rattle.std.proofs.lemmas.Bool.{or_cases, or_left, or_right, eqb-true, eq-eqb, ne_eqb, cases_Bool, cases_eq, false≢true, both_ways, false_from_ne_true, not-true, not_from_false, cond-true, cond-false}
 use Rattle.pm_links.specs.Lists.{has, IsOnce}
 use Rattle.pm_links.proofs.Members.{has-append, once-append}

@@ -1,6 +1,5 @@
-use Rattle.std.proofs.Common.{ℕ, ◌≡◌, ◌↔◌, ◌<◌, ◌∙◌, ◌-◌, ◌++◌, true, length, ap, subst}
+use Rattle.std.proofs.Common.{ℕ, ◌-◌, ◌++◌, length, ap, subst}
 use Rattle.std.specs.List.{range_with_len}
-use Rattle.pm_links.specs.Lists.{has}
 use Rattle.pm_front.specs.Members.{Members, AreSameNumbers}
 use Rattle.pm_front.proofs.ActiveLaws.{roots-active}
 use Rattle.pm_front.proofs.RangeLaws.{first_ones}

@@ -1,4 +1,4 @@
-use Rattle.std.proofs.Common.{sym, ap, subst, arith}
+use Rattle.std.proofs.Common.{subst}
 use Rattle.std.specs.Prelude.{IfNone}
 use Rattle.pm_base.specs.Counts.{set_of}
 use Rattle.pm_forest.specs.Faces.{face_count}
