@@ -6,6 +6,7 @@ pub mod BoxLaws
 pub mod NamedLaws
 pub mod PlacingLaws
 pub mod JoiningLaws
+pub mod DifferentLaws
 pub mod TurnedLaws
 pub mod PieceLaws
 pub mod BackLaws

@@ -12,7 +12,7 @@ use Rattle.pm_base.specs.Sides.{Net, net_of, side_count, corner_in, no_corners}
 use Rattle.pm_base.specs.Fans.{IsOrientedManifold}
 use Rattle.pm_base.proofs.Sides.{next_cases}
 use Rattle.pm_base.proofs.NetLaws.{face_at, first_side, second_side, third_side}
-use Rattle.pm_fans.specs.Splits.{AllStand, IsCuttable, IsSplitByFans}
+use Rattle.pm_fans.specs.Splits.{AllStand, IsCuttable}
 use Rattle.pm_turn.specs.Turning.{turned_by, AreTurns}
 use Rattle.pm_turn.proofs.TurnedFaces.{turned_faces_stay, turned_faces_become_manifolds}
 use Rattle.pm_fans.specs.Orders.{IsSplitMesh}

@@ -73,7 +73,8 @@ module _ (flags : List Bool) (ps : List Place) (i : ℕ) (p : Place) (same : len
   rest : {X : Type 0} (F : List Bool → List Place → X) → F (drop i flags) (drop i ps) ≡ F (get_or flags i false ∷ drop (i + 1) flags) (p ∷ drop (i + 1) ps)
   rest F = ap (λ bs. F bs (drop i ps)) (drop_more flags i false (omega (arith, same, l))) ∙ ap (F (get_or flags i false ∷ drop (i + 1) flags)) (drop_more ps i p l ∙ ap (λ q. q ∷ drop (i + 1) ps) (sym read))
 
-  flag_is : {X : Type 0} (F : List Bool → List Place → X) (b : Bool) → get_or flags i false ≡ b → F (drop i flags) (drop i ps) ≡ F (b ∷ drop (i + 1) flags) (p ∷ drop (i + 1) ps)
+  pub flag_is : {X : Type 0} (F : List Bool → List Place → X) (b : Bool) → get_or flags i false ≡ b
+      → F (drop i flags) (drop i ps) ≡ F (b ∷ drop (i + 1) flags) (p ∷ drop (i + 1) ps)
   flag_is F b is = rest F ∙ ap (λ f. F (f ∷ drop (i + 1) flags) (p ∷ drop (i + 1) ps)) is
 
   pub frame_on : (frame : Option PointBox) (b : PointBox) (r : Option PointBox) → get_or flags i false ≡ true
@@ -101,7 +102,9 @@ module _ (flags : List Bool) (ps : List Place) (i : ℕ) (p : Place) (same : len
 
 -- The same where the flag isn't set, whatever the point.
 module _ (flags : List Bool) (ps : List Place) (i : ℕ) (same : length flags ≡ length ps) (l : i < length ps) where
-  off : {X : Type 0} (F : List Bool → List Place → X) → get_or flags i false ≡ false → F (drop i flags) (drop i ps) ≡ F (false ∷ drop (i + 1) flags) (get_or ps i origin ∷ drop (i + 1) ps)
+  pub off : {X : Type 0} (F : List Bool → List Place → X) → get_or flags i false ≡ false
+      → F (drop i flags) (drop i ps) ≡ F (false ∷ drop (i + 1) flags)
+      (get_or ps i origin ∷ drop (i + 1) ps)
   off F is = flag_is flags ps i (get_or ps i origin) same l (get_or_default ps i origin (get_or ps i origin) l) F false is
 
   pub frame_past : (frame r : Option PointBox) → get_or flags i false ≡ false
@@ -121,7 +124,8 @@ module _ (flags : List Bool) (ps : List Place) (i : ℕ) (same : length flags �
 
 -- Where nothing is left.
 module _ (flags : List Bool) (ps : List Place) (i : ℕ) (same : length flags ≡ length ps) (l : length ps ≤ i) where
-  none_left : {X : Type 0} (F : List Bool → List Place → X) → F (drop i flags) (drop i ps) ≡ F [] []
+  pub none_left : {X : Type 0} (F : List Bool → List Place → X)
+      → F (drop i flags) (drop i ps) ≡ F [] []
   none_left F = ap (λ bs. F bs (drop i ps)) (drop_all i flags (omega (arith, same, l))) ∙ ap (F []) (drop_all i ps l)
 
   pub frame_done : (frame r : Option PointBox) → frame_after frame (chosen (drop i flags) (drop i ps)) ≡ r → frame ≡ r

@@ -6,7 +6,7 @@ use Rattle.std.proofs.lemmas.List.Elements.{All-nil, All-cons, All-head, All-tai
 use Rattle.pm_base.specs.declared.mesh.Corners.{Corners}
 use Rattle.pm_base.specs.Sides.{net_of}
 use Rattle.pm_base.proofs.NetLaws.{face_at, second_side}
-use Rattle.pm_fans.specs.Splits.{AllStand, IsCuttable}
+use Rattle.pm_fans.specs.Splits.{AllStand}
 use Rattle.pm_fans.specs.Kept.{is_corner, kept_of}
 use Rattle.pm_fans.proofs.CutLaws.{count_none}
 use Rattle.pm_fans.proofs.KeptAgain.{renumbered}

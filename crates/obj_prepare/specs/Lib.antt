@@ -7,6 +7,7 @@ pub mod Placing
 pub mod Joining
 pub mod Longest
 pub mod Firsts
+pub mod Different
 pub mod Prepared
 pub mod Pieces
 pub mod PrepareFails

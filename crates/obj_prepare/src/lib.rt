@@ -3,6 +3,7 @@
 
 mod counting;
 mod decimal;
+mod different;
 mod digits;
 mod exact;
 mod extents;
@@ -18,6 +19,7 @@ mod theory;
 mod three;
 
 pub use decimal::decimal_coordinate;
+pub use different::rounded_count;
 pub use exact::ExactPoint;
 pub use extents::{PointBox, box_of, extent, scaled};
 pub use longest::{Axis, LongestAxis, longest_axis};
