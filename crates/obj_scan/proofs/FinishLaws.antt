@@ -29,6 +29,7 @@ none_scanning : IsScanning nothing_held.scanned
 none_scanning = record {
   within = record { points = omega arith; faces = omega arith; corners = All-nil (AreVerticesBelow 0) };
   polygons = omega arith;
+  weights = omega arith;
 }
 
 pub start_ready : (f : Feeding) (h : HeldLines) → f ≡ begun → h ≡ nothing_held → IsReadyToScan f h start

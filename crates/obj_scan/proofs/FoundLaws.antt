@@ -15,22 +15,24 @@ use Rattle.obj_read.specs.Indices.{index, index_text}
 use Rattle.obj_read.specs.Judged.{vertex_of, face_read, vertex_line as read_vertex, face_line as read_face, fields_found as read_fields, line_found as read_line}
 use Rattle.obj_read.specs.Fits.{with_found as with_read}
 use Rattle.obj_scan.specs.Polygons.{triangles}
-use Rattle.obj_scan.specs.Judged.{Found, polygon_of, scanned_vertex_line, polygon_line, scanned_fields, scanned_line, with_scanned}
-use Rattle.obj_scan.specs.Laws.{scaled_up, scanned_mesh}
+use Rattle.obj_scan.specs.Judged.{Found, polygon_of, scanned_vertex_line, polygon_line, scanned_fields, scanned_line, with_scanned, has_weight, weights_after}
+use Rattle.obj_scan.specs.Laws.{scaled_up, scanned_mesh, with_weights}
+use Rattle.obj_scan.proofs.BareLaws.{line_weight}
 use Rattle.obj_scan.proofs.NumberLaws.{whole_in_units}
 
--- What `obj_read` finds, as it is found here.
-abbrev pub found_of : ReadFound → Found
-found_of reads.Nothing = Found.nothing
-found_of (reads.Vertex p) = Found.vertex (scaled_up p)
-found_of (reads.Face f) = Found.polygon (f.a ∷ f.b ∷ f.c ∷ [])
+-- What `obj_read` finds, as it is found here, where a weight stands after a vertex or none.
+abbrev pub found_of : Bool → ReadFound → Found
+found_of weighted reads.Nothing = Found.nothing
+found_of weighted (reads.Vertex p) = Found.vertex (scaled_up p) weighted
+found_of weighted (reads.Face f) = Found.polygon (f.a ∷ f.b ∷ f.c ∷ [])
 
-abbrev given : Result ReadFound ObjFault → Result Found ObjFault
-given (Ok f) = Ok (found_of f)
-given (Err e) = Err e
+abbrev given : Bool → Result ReadFound ObjFault → Result Found ObjFault
+given weighted (Ok f) = Ok (found_of weighted f)
+given weighted (Err e) = Err e
 
 vertex_case : (n : ℕ) (a b c : List ℕ) (more : List (List ℕ)) (f : ReadFound) (x y z : Result ℤ ObjFault) (full : Bool) → coordinate 0 a ≡ x → coordinate 0 b ≡ y → coordinate 0 c ≡ z → nat_le 1048576 n ≡ full
-    → vertex_of 0 n a b c ≡ Ok f → scanned_vertex_line n (a ∷ b ∷ c ∷ more) ≡ Ok (found_of f)
+    → vertex_of 0 n a b c ≡ Ok f → scanned_vertex_line n (a ∷ b ∷ c ∷ more) ≡ Ok
+    (found_of (has_weight more) f)
 unfolding vertex_of
 vertex_case n a b c more f (Err e) y z full p q r room is = let k = rw p at is in cc
 vertex_case n a b c more f (Ok x) (Err e) z full p q r room is = let k = rw (p, q) at is in cc
@@ -38,54 +40,70 @@ vertex_case n a b c more f (Ok x) (Ok y) (Err e) full p q r room is = let k = rw
 vertex_case n a b c more f (Ok x) (Ok y) (Ok z) true p q r room is = let k = rw (p, q, r, room) at is in cc
 vertex_case n a b c more f (Ok x) (Ok y) (Ok z) false p q r room is =
     let k = rw (p, q, r, room) at is in
-    rw (whole_in_units a x p, whole_in_units b y q, whole_in_units c z r, room) (ap given k)
+    rw (whole_in_units a x p, whole_in_units b y q, whole_in_units c z r, room)
+    (ap (given (has_weight more)) k)
 
-vertex_found : (n : ℕ) (more : List (List ℕ)) (f : ReadFound) → read_vertex 0 n more ≡ Ok f → scanned_vertex_line n more ≡ Ok (found_of f)
-vertex_found n [] f is = cc
-vertex_found n (a ∷ []) f is = cc
-vertex_found n (a ∷ b ∷ []) f is = cc
-vertex_found n (a ∷ b ∷ c ∷ more) f is = vertex_case n a b c more f _ _ _ _ refl refl refl refl is
+vertex_found : (n : ℕ) (keyword : List ℕ) (more : List (List ℕ)) (f : ReadFound)
+    → read_vertex 0 n more ≡ Ok f → scanned_vertex_line n more ≡ Ok
+    (found_of (line_weight (keyword ∷ more)) f)
+vertex_found n keyword [] f is = cc
+vertex_found n keyword (a ∷ []) f is = cc
+vertex_found n keyword (a ∷ b ∷ []) f is = cc
+vertex_found n keyword (a ∷ b ∷ c ∷ more) f is =
+    vertex_case n a b c more f _ _ _ _ refl refl refl refl is
 
-face_case : (n k : ℕ) (x y z : List ℕ) (f : ReadFound) (a b c : Result ℕ ObjFault) (full : Bool) → index n (index_text x) ≡ a → index n (index_text y) ≡ b → index n (index_text z) ≡ c → nat_le 1048576 k ≡ full
-    → face_read n k x y z ≡ Ok f → polygon_line n k (x ∷ y ∷ z ∷ []) ≡ Ok (found_of f)
+face_case : (weighted : Bool) (n k : ℕ) (x y z : List ℕ) (f : ReadFound) (a b c : Result ℕ ObjFault)
+    (full : Bool) → index n (index_text x) ≡ a → index n (index_text y) ≡ b
+    → index n (index_text z) ≡ c → nat_le 1048576 k ≡ full
+    → face_read n k x y z ≡ Ok f → polygon_line n k (x ∷ y ∷ z ∷ []) ≡ Ok (found_of weighted f)
 unfolding face_read
-face_case n k x y z f (Err e) b c full p q r room is = let h = rw p at is in cc
-face_case n k x y z f (Ok a) (Err e) c full p q r room is = let h = rw (p, q) at is in cc
-face_case n k x y z f (Ok a) (Ok b) (Err e) full p q r room is = let h = rw (p, q, r) at is in cc
-face_case n k x y z f (Ok a) (Ok b) (Ok c) full p q r room is =
+face_case weighted n k x y z f (Err e) b c full p q r room is = let h = rw p at is in cc
+face_case weighted n k x y z f (Ok a) (Err e) c full p q r room is = let h = rw (p, q) at is in cc
+face_case weighted n k x y z f (Ok a) (Ok b) (Err e) full p q r room is =
+    let h = rw (p, q, r) at is in cc
+face_case weighted n k x y z f (Ok a) (Ok b) (Ok c) full p q r room is =
     let h = rw (p, q, r, room) at is in
     rw (p, q, r) (room_case full _ room refl h)
   where
     room_case : (full again : Bool) → nat_le 1048576 k ≡ full → (a == b || b == c || c == a) ≡ again
-        → (if again then Err faults.RepeatedCorner else if full then Err faults.TooMany else Ok (reads.Face (record { a = a; b = b; c = c }))) ≡ Ok f → polygon_of k (a ∷ b ∷ c ∷ []) ≡ Ok (found_of f)
+        → (if again then Err faults.RepeatedCorner else if full then Err faults.TooMany else Ok
+        (reads.Face (record { a = a; b = b; c = c }))) ≡ Ok f
+        → polygon_of k (a ∷ b ∷ c ∷ []) ≡ Ok (found_of weighted f)
     room_case full true room same is = cc
     room_case true false room same is = cc
     room_case false false room same is =
         let some = leb-false _ _ room in
         let within : nat_lt 1048576 (k + 1) ≡ false = le-ltb _ _ (omega (arith, some)) in
-        rw within (ap given is)
+        rw within (ap (given weighted) is)
 
-face_found : (n k : ℕ) (more : List (List ℕ)) (f : ReadFound) → read_face n k more ≡ Ok f → polygon_line n k more ≡ Ok (found_of f)
-face_found n k [] f is = cc
-face_found n k (x ∷ []) f is = cc
-face_found n k (x ∷ y ∷ []) f is = cc
-face_found n k (x ∷ y ∷ z ∷ []) f is = face_case n k x y z f _ _ _ _ refl refl refl refl is
-face_found n k (x ∷ y ∷ z ∷ w ∷ more) f is = cc
+face_found : (weighted : Bool) (n k : ℕ) (more : List (List ℕ)) (f : ReadFound)
+    → read_face n k more ≡ Ok f → polygon_line n k more ≡ Ok (found_of weighted f)
+face_found weighted n k [] f is = cc
+face_found weighted n k (x ∷ []) f is = cc
+face_found weighted n k (x ∷ y ∷ []) f is = cc
+face_found weighted n k (x ∷ y ∷ z ∷ []) f is =
+    face_case weighted n k x y z f _ _ _ _ refl refl refl refl is
+face_found weighted n k (x ∷ y ∷ z ∷ w ∷ more) f is = cc
 
 keyword_case : (n k : ℕ) (keyword : List ℕ) (more : List (List ℕ)) (f : ReadFound) (v t : Bool) → is_letter 118 keyword ≡ v → is_letter 102 keyword ≡ t
-    → read_fields 0 n k (keyword ∷ more) ≡ Ok f → scanned_fields n k (keyword ∷ more) ≡ Ok (found_of f)
-keyword_case n k keyword more f true t a b is = rw a (vertex_found n more f (rw a at is))
-keyword_case n k keyword more f false true a b is = rw (a, b) (face_found n k more f (rw (a, b) at is))
-keyword_case n k keyword more f false false a b is = let e = rw (a, b) at is in rw (a, b) (ap given e)
+    → read_fields 0 n k (keyword ∷ more) ≡ Ok f
+    → scanned_fields n k (keyword ∷ more) ≡ Ok (found_of (line_weight (keyword ∷ more)) f)
+keyword_case n k keyword more f true t a b is = rw a (vertex_found n keyword more f (rw a at is))
+keyword_case n k keyword more f false true a b is =
+    rw (a, b) (face_found (line_weight (keyword ∷ more)) n k more f (rw (a, b) at is))
+keyword_case n k keyword more f false false a b is =
+    let e = rw (a, b) at is in rw (a, b) (ap (given (line_weight (keyword ∷ more))) e)
 
-fields_are_found : (n k : ℕ) (parts : List (List ℕ)) (f : ReadFound) → read_fields 0 n k parts ≡ Ok f → scanned_fields n k parts ≡ Ok (found_of f)
-fields_are_found n k [] f is = ap given is
+fields_are_found : (n k : ℕ) (parts : List (List ℕ)) (f : ReadFound)
+    → read_fields 0 n k parts ≡ Ok f → scanned_fields n k parts ≡ Ok
+    (found_of (line_weight parts) f)
+fields_are_found n k [] f is = ap (given false) is
 fields_are_found n k (keyword ∷ more) f is = keyword_case n k keyword more f _ _ refl refl is
 
 -- A line isn't continued, and what is read of it gives this.
 pub record IsFound (n k : ℕ) (text : List ℕ) (f : ReadFound) : Type 0 where
   pub ended : is_continued text ≡ false
-  pub gives : scanned_line n k text ≡ Ok (found_of f)
+  pub gives : scanned_line n k text ≡ Ok (found_of (line_weight (fields text)) f)
 
 line_case : (n k : ℕ) (text : List ℕ) (f : ReadFound) (ends : Bool) → is_continued text ≡ ends → read_line 0 n k text ≡ Ok f → IsFound n k text f
 unfolding read_line scanned_line
@@ -96,8 +114,23 @@ pub line_is_found : (n k : ℕ) (text : List ℕ) (f : ReadFound) → read_line 
 line_is_found n k text f is = line_case n k text f (is_continued text) refl is
 
 -- It is put into what was scanned so far as it is put into the mesh.
-pub scanned_with : (m : Mesh) (f : ReadFound) → with_scanned (scanned_mesh m) (found_of f) ≡ scanned_mesh (with_read m f)
-unfolding triangles
-scanned_with m reads.Nothing = refl
-scanned_with m (reads.Vertex p) = ap (λ points. record { points = points; faces = m.faces; polygons = 0 }) (sym (map-append scaled_up m.points (p ∷ [])))
-scanned_with m (reads.Face f) = refl
+pub weights_with : Bool → ℕ → ReadFound → ℕ
+weights_with weighted n reads.Nothing = n
+weights_with weighted n (reads.Vertex p) = weights_after n weighted
+weights_with weighted n (reads.Face f) = n
+
+pub scanned_with : (weighted : Bool) (n : ℕ) (m : Mesh) (f : ReadFound)
+    → with_scanned (with_weights n (scanned_mesh m)) (found_of weighted f) ≡ with_weights
+    (weights_with weighted n f) (scanned_mesh (with_read m f))
+unfolding triangles weights_with
+scanned_with weighted n m reads.Nothing = refl
+scanned_with weighted n m (reads.Vertex p) =
+    ap (λ points. record { points = points; faces = m.faces; polygons = 0; weights = weights_after n weighted }) (sym (map-append scaled_up m.points (p ∷ [])))
+scanned_with weighted n m (reads.Face f) = refl
+
+-- Without a weight there are no more.
+pub weights_stay : (n : ℕ) (f : ReadFound) → weights_with false n f ≡ n
+unfolding weights_with
+weights_stay n reads.Nothing = refl
+weights_stay n (reads.Vertex p) = refl
+weights_stay n (reads.Face f) = refl

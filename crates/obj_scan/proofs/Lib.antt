@@ -9,5 +9,6 @@ pub mod StepLaws
 pub mod FinishLaws
 pub mod NumberLaws
 pub mod FormLaws
+pub mod BareLaws
 pub mod FoundLaws
 pub mod ReadLaws

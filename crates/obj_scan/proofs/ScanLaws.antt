@@ -13,7 +13,7 @@ use Rattle.obj_read.specs.declared.fault.ObjFail.{ObjFail}
 use Rattle.obj_read.specs.declared.fault.ObjFail.TheVariants as fails
 use Rattle.obj_read.specs.Fails.{IsLineFault}
 use Rattle.obj_scan.specs.Polygons.{before_least, begun_least, fan, fan_of, triangles}
-use Rattle.obj_scan.specs.Judged.{Scanned, Found, polygons_after, with_scanned}
+use Rattle.obj_scan.specs.Judged.{Scanned, Found, polygons_after, weights_after, with_scanned}
 use Rattle.obj_prepare.specs.Named.{AreVerticesBelow}
 use Rattle.obj_scan.specs.Reading.{IsScanning, given, ended}
 
@@ -70,14 +70,25 @@ corners_case points n corners false is all =
 wider : (n k : ℕ) (fs : List Corners) → n ≤ k → All (AreVerticesBelow n) fs → All (AreVerticesBelow k) fs
 wider n k fs le all = λ i d l. let f = all i d l in record { a = omega (arith, f.a, le); b = omega (arith, f.b, le); c = omega (arith, f.c, le) }
 
-pub vertex_scanning : (s t : Scanned) (p : Place) → IsScanning s → length s.points < 1048576 → t ≡ with_scanned s (Found.vertex p) → IsScanning t
-vertex_scanning s t p scanning room is = rw is (record {
+weights_case : (n k : ℕ) (weighted : Bool) → n ≤ k → weights_after n weighted ≤ k + 1
+weights_case n k true le = omega (arith, le)
+weights_case n k false le = omega (arith, le)
+
+pub vertex_scanning : (s t : Scanned) (p : Place) (weighted : Bool) → IsScanning s
+    → length s.points < 1048576 → t ≡ with_scanned s (Found.vertex p weighted) → IsScanning t
+vertex_scanning s t p weighted scanning room is = rw is (record {
   within = record {
     points = omega (arith, room, length-append s.points (p ∷ []));
     faces = scanning.within.faces;
     corners = wider (length s.points) (length (s.points ++ p ∷ [])) s.faces (omega (arith, length-append s.points (p ∷ []))) scanning.within.corners;
   };
   polygons = scanning.polygons;
+  weights = omega (
+    arith,
+    weights_case s.weights
+        (length s.points) weighted scanning.weights,
+    length-append s.points (p ∷ []),
+  );
 })
 
 -- One polygon more is at most so many triangles more.
@@ -98,20 +109,24 @@ polygon_scanning s t corners scanning within room is =
             (corners_case s.points (length s.points) corners (length corners == 3) refl within);
       };
       polygons = subst (λ k. (if nat_lt 3 (length corners) then s.polygons + 1 else s.polygons) ≤ k) (sym n) (polygons_case s.polygons (length s.faces) corners (nat_lt 3 (length corners)) refl scanning.polygons);
+      weights = scanning.weights;
     })
 
-abbrev scanned_from : List Place → List Corners → ℕ → Scanned
-scanned_from points faces polygons = record { points = points; faces = faces; polygons = polygons }
+abbrev scanned_from : List Place → List Corners → ℕ → ℕ → Scanned
+scanned_from points faces polygons weights =
+    record { points = points; faces = faces; polygons = polygons; weights = weights }
 
 -- The same, from what the parts of the code say.
 pub polygon_scanned : (s : Scanned) (points : List Place) (faces : List Corners) (polygons : ℕ) (corners held : List ℕ) → IsScanning s → All (λ (c : ℕ). c < length s.points) corners
     → length s.faces + (length corners - 2) ≤ 1048576 → points ≡ s.points → faces ≡ s.faces ++ triangles points corners → held ≡ corners → polygons ≡ polygons_after s.polygons held
-    → IsScanning (scanned_from s.points faces polygons)
+    → IsScanning (scanned_from s.points faces polygons s.weights)
 polygon_scanned s points faces polygons corners held scanning within room points_are faces_are held_is polygons_are =
     let all = s.faces ++ triangles s.points corners in
-    polygon_scanning s (scanned_from s.points faces polygons) corners scanning within room
-    (ap (λ f. scanned_from s.points f polygons) (faces_are ∙ ap (λ p. s.faces ++ triangles p corners) points_are)
-    ∙ ap (λ n. scanned_from s.points all n) (polygons_are ∙ ap (polygons_after s.polygons) held_is))
+    polygon_scanning s (scanned_from s.points faces polygons s.weights) corners scanning within room
+    (ap (λ f. scanned_from s.points f polygons s.weights)
+    (faces_are ∙ ap (λ p. s.faces ++ triangles p corners) points_are)
+    ∙ ap (λ n. scanned_from s.points all n s.weights)
+    (polygons_are ∙ ap (polygons_after s.polygons) held_is))
 
 -- A fault of what a text gives is the line's.
 pub given_fault : (s : Scanned) (r : Result Found ObjFault) (fail : ObjFail) (line : ℕ) → IsLineFault fail line r → IsLineFault fail line (given s r)

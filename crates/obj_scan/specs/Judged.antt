@@ -1,5 +1,7 @@
--- A line judged alone: what it gives, or its first fault. Byte 118 is `v`, and 102 is `f`.
-use Rattle.std.specs.Prelude.{ℕ, ◌+◌, ◌-◌, List, [], ◌∷◌, ◌++◌, nat_le, nat_lt, length, Result, Ok, Err, if◌then◌else◌}
+-- A line judged alone: what it gives, or its first fault. Byte 118 is `v`, and 102 is `f`. A unit
+-- is 10^-18.
+use Rattle.std.specs.Prelude.{ℕ, ◌+◌, ◌-◌, ◌^◌, ℤ, pos, Bool, true, false, not, List, [], ◌∷◌, ◌++◌, nat_le, nat_lt, length, Result, Ok, Err, if◌then◌else◌}
+use Rattle.std.specs.Ordering.{int_eq}
 use Rattle.pm_base.specs.declared.limits.TheConstants.{MOST_FACES, MOST_VERTICES}
 use Rattle.pm_base.specs.declared.mesh.Corners.{Corners}
 use Rattle.pm_base.specs.Place.{Place}
@@ -11,23 +13,38 @@ use Rattle.obj_read.specs.Judged.{◌>>=◌}
 use Rattle.obj_prepare.specs.Numbers.{decimal_coordinate}
 use Rattle.obj_scan.specs.Polygons.{triangles}
 
--- What the lines so far gave: points in units of 10^-18, triangles, and how many faces had more than three corners.
+-- What the lines so far gave: points in units of 10^-18, triangles, how many faces had more than
+-- three corners, and how many vertices have a weight.
 pub record Scanned : Type 0 where
   pub points : List Place
   pub faces : List Corners
   pub polygons : ℕ
+  pub weights : ℕ
 
--- What a line gives: nothing, a point, or the vertex numbers of a polygon's corners.
+-- What a line gives: nothing, a point and whether a weight stands after it, or the vertex numbers
+-- of a polygon's corners.
 pub data Found : Type 0 where
   nothing : Found
-  vertex : Place → Found
+  vertex : Place → Bool → Found
   polygon : List ℕ → Found
 
--- The fields after `v`. Those after the third aren't read.
+-- A field with this coordinate is a weight: it is a number, and not 1 to the nearest unit. A number
+-- that is out of range isn't 1.
+abbrev pub is_weight : Result ℤ ObjFault → Bool
+is_weight (Ok w) = not (int_eq w (pos (10 ^ 18)))
+is_weight (Err faults.OutOfRange) = true
+is_weight (Err _) = false
+
+-- One field after the three coordinates, as in `v x y z w`, is a weight. Several are colours.
+unfoldable pub has_weight : List (List ℕ) → Bool
+has_weight (w ∷ []) = is_weight (decimal_coordinate w)
+has_weight _ = false
+
+-- The fields after `v`. Those after the third make no fault.
 abbrev pub scanned_vertex_line : ℕ → List (List ℕ) → Result Found ObjFault
 scanned_vertex_line vertices (a ∷ b ∷ c ∷ more) = decimal_coordinate a >>= λ x. decimal_coordinate b >>= λ y. decimal_coordinate c >>= λ z.
     if nat_le MOST_VERTICES vertices then Err faults.TooMany
-    else Ok (vertex (record { x = x; y = y; z = z }))
+    else Ok (vertex (record { x = x; y = y; z = z }) (has_weight more))
 scanned_vertex_line vertices _ = Err faults.TooFewFields
 
 -- The vertices that these fields name, or the first fault.
@@ -59,8 +76,21 @@ scanned_line vertices faces text = scanned_fields vertices faces (fields text)
 abbrev pub polygons_after : ℕ → List ℕ → ℕ
 polygons_after n corners = if nat_lt 3 (length corners) then n + 1 else n
 
+abbrev pub weights_after : ℕ → Bool → ℕ
+weights_after n weighted = if weighted then n + 1 else n
+
 -- With what a line gives.
 abbrev pub with_scanned : Scanned → Found → Scanned
 with_scanned s nothing = s
-with_scanned s (vertex p) = record { points = s.points ++ p ∷ []; faces = s.faces; polygons = s.polygons }
-with_scanned s (polygon corners) = record { points = s.points; faces = s.faces ++ triangles s.points corners; polygons = polygons_after s.polygons corners }
+with_scanned s (vertex p weighted) = record {
+  points = s.points ++ p ∷ [];
+  faces = s.faces;
+  polygons = s.polygons;
+  weights = weights_after s.weights weighted;
+}
+with_scanned s (polygon corners) = record {
+  points = s.points;
+  faces = s.faces ++ triangles s.points corners;
+  polygons = polygons_after s.polygons corners;
+  weights = s.weights;
+}

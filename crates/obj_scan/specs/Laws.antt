@@ -1,5 +1,5 @@
 -- The laws of texts that `obj_read`, which reads the OBJ profile, takes too. A unit is 10^-18, and byte 35 is `#`.
-use Rattle.std.specs.Prelude.{ℕ, ◌≡◌, ◌<◌, ◌^◌, ◌*ℤ◌, ℤ, pos, true, false, not, List, ◌∷◌, ◌++◌, length, map, Ok}
+use Rattle.std.specs.Prelude.{ℕ, ◌≡◌, ◌<◌, ◌^◌, ◌*ℤ◌, ℤ, pos, true, false, not, List, ◌∷◌, ◌++◌, length, map, Result, Ok, Err}
 use Rattle.std.specs.List.{All, list_all}
 use Rattle.obj_lines.specs.declared.limits.TheConstants.{MOST_LINE_BYTES}
 use Rattle.pm_base.specs.Place.{Place, IsPlace}
@@ -9,6 +9,7 @@ use Rattle.obj_lines.specs.Text.{until, lines}
 use Rattle.obj_read.specs.Meaning.{meaning_of as mesh_meaning}
 use Rattle.obj_scan.specs.Forms.{has_lone_return, is_marked, is_wide}
 use Rattle.obj_scan.specs.Judged.{Scanned}
+use Rattle.obj_scan.specs.Refusals.{Refused}
 use Rattle.obj_scan.specs.Meaning.{scan_meaning_of}
 
 -- A whole number in units.
@@ -19,9 +20,24 @@ in_units n = n *ℤ pos (10 ^ 18)
 abbrev pub scaled_up : Place → Place
 scaled_up p = record { x = in_units p.x; y = in_units p.y; z = in_units p.z }
 
--- A mesh as the lines of its text give it: its points in units, its triangles, and no polygon.
+-- A mesh as the lines of its text give it: its points in units, its triangles, and neither
+-- polygons nor weights.
 abbrev pub scanned_mesh : Mesh → Scanned
-scanned_mesh m = record { points = map scaled_up m.points; faces = m.faces; polygons = 0 }
+scanned_mesh m = record {
+  points = map scaled_up m.points;
+  faces = m.faces;
+  polygons = 0;
+  weights = 0;
+}
+
+-- The same, of so many weights that were passed over.
+abbrev pub with_weights : ℕ → Scanned → Scanned
+with_weights n s = record { points = s.points; faces = s.faces; polygons = s.polygons; weights = n }
+
+-- How many weights a text has.
+abbrev pub weights_in : Result Scanned Refused → ℕ
+weights_in (Ok s) = s.weights
+weights_in (Err r) = 0
 
 -- No line of a text has a CR that doesn't end it, and no byte order mark stands before the first.
 pub record IsFormed (bytes : List ℕ) : Type 0 where
@@ -30,10 +46,11 @@ pub record IsFormed (bytes : List ℕ) : Type 0 where
   pub narrow : is_wide bytes ≡ false
 
 -- A text so formed that is read as a mesh, with whole numbers for coordinates, is scanned as that
--- mesh.
+-- mesh, of whatever weights it has.
 abbrev pub ReadIsScanned : Type 0
 ReadIsScanned = (bytes : List ℕ) (m : Mesh) → IsFormed bytes → mesh_meaning 0 bytes ≡ Ok m
-    → scan_meaning_of bytes ≡ Ok (scanned_mesh m)
+    → scan_meaning_of bytes ≡ Ok (with_weights (weights_in (scan_meaning_of bytes))
+    (scanned_mesh m))
 
 -- So is the canonical text of a mesh after a comment without a CR.
 abbrev pub CommentedIsScanned : Type 0

@@ -105,7 +105,8 @@ scan_meaning_from s (line ∷ more) = then_scanned_lines (judged_length s line) 
 
 -- Before the first line.
 abbrev pub nothing_scanned : ScannedSoFar
-nothing_scanned = record { bytes = 0; number = 1; continued = 0; begun = []; scanned = record { points = []; faces = []; polygons = 0 } }
+nothing_scanned =
+    record { bytes = 0; number = 1; continued = 0; begun = []; scanned = record { points = []; faces = []; polygons = 0; weights = 0 } }
 
 -- The points and triangles of the bytes, or their first line with a fault.
 unfoldable pub scan_meaning_of : List ℕ → Result Scanned Refused

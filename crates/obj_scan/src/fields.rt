@@ -3,16 +3,49 @@ ghost use Rattle.std.specs.Prelude.{ℕ, List, ◌∷◌, ◌≡◌, ◌+◌, �
 ghost use Rattle.std.specs.List.{All};
 ghost use Rattle.obj_read.specs.Fails.{IsLineFault};
 ghost use Rattle.obj_read.specs.Fields.{fields};
-ghost use Rattle.obj_scan.specs.Judged.{Found, scanned_vertex_line, indices, polygon_line};
+ghost use Rattle.obj_prepare.specs.Numbers.{decimal_coordinate as decimal_coordinate_of};
+ghost use Rattle.obj_scan.specs.Judged.{Found, scanned_vertex_line, indices, polygon_line, is_weight, has_weight};
 
 use obj_prepare::{ExactPoint, decimal_coordinate};
 use obj_read::{ObjFail, ObjFault, index, next_field};
 use pm_base::{MOST_FACES, MOST_VERTICES};
 
-// The point with these coordinates. Each of the three is in range, so there is one.
-fn point_of(x: &[u8], y: &[u8], z: &[u8], vertices: u32) -> Result<ExactPoint, ObjFault>
-    ensures ok { IfOk result (λ p. (more : List (List ℕ)) → scanned_vertex_line vertices (x.now ∷ y.now ∷ z.now ∷ more) ≡ Ok (Found.vertex p)) }
-    ensures fault { IfErr result (λ e. (more : List (List ℕ)) → scanned_vertex_line vertices (x.now ∷ y.now ∷ z.now ∷ more) ≡ Err e) }
+// The number 1 in units.
+const ONE: i128 = 1_000_000_000_000_000_000;
+
+/// A point, and whether a weight stands after it.
+#[derive(Clone, Copy, Debug, PartialEq, Eq)]
+pub struct Vertex {
+    pub point: ExactPoint,
+    pub weighted: bool,
+}
+
+// Whether a field is a number that isn't 1.
+fn is_weight(field: &[u8]) -> bool
+    ensures { result ≡ is_weight (decimal_coordinate_of field.now) }
+{
+    match decimal_coordinate(field) {
+        Ok(weight) => weight != ONE,
+        Err(fault) => fault == ObjFault::OutOfRange,
+    }
+}
+
+// Whether one field stands there, and is a weight.
+#[tactic(auto, unfolding(crate::specs::Judged::has_weight))]
+fn has_weight(text: &[u8]) -> bool
+    ensures { result ≡ has_weight (fields text.now) }
+{
+    match next_field(text) {
+        None => false,
+        Some((weight, rest)) => next_field(rest).is_none() && is_weight(weight),
+    }
+}
+
+// The vertex with these coordinates, and what stands after them. Each of the three is in range, so
+// there is a point.
+fn vertex_of(x: &[u8], y: &[u8], z: &[u8], rest: &[u8], vertices: u32) -> Result<Vertex, ObjFault>
+    ensures ok { IfOk result (λ v. scanned_vertex_line vertices (x.now ∷ y.now ∷ z.now ∷ fields rest.now) ≡ Ok (Found.vertex v.point v.weighted)) }
+    ensures fault { IfErr result (λ e. scanned_vertex_line vertices (x.now ∷ y.now ∷ z.now ∷ fields rest.now) ≡ Err e) }
     ensures room { OnOk result (vertices < MOST_VERTICES) }
 {
     let x = decimal_coordinate(x)?;
@@ -22,14 +55,17 @@ fn point_of(x: &[u8], y: &[u8], z: &[u8], vertices: u32) -> Result<ExactPoint, O
         return Err(ObjFault::TooMany);
     }
     match ExactPoint::new(x, y, z) {
-        Some(point) => Ok(point),
+        Some(point) => Ok(Vertex {
+            point,
+            weighted: has_weight(rest),
+        }),
         None => Err(ObjFault::OutOfRange),
     }
 }
 
-/// The point that a vertex spells after so many: three coordinates, and fields that aren't read.
-pub fn vertex_line(vertices: u32, text: &[u8]) -> Result<ExactPoint, ObjFault>
-    ensures ok { IfOk result (λ p. scanned_vertex_line vertices (fields text.now) ≡ Ok (Found.vertex p)) }
+/// What a vertex spells after so many: three coordinates, and fields that make no fault.
+pub fn vertex_line(vertices: u32, text: &[u8]) -> Result<Vertex, ObjFault>
+    ensures ok { IfOk result (λ v. scanned_vertex_line vertices (fields text.now) ≡ Ok (Found.vertex v.point v.weighted)) }
     ensures fault { IfErr result (λ e. scanned_vertex_line vertices (fields text.now) ≡ Err e) }
     ensures room { OnOk result (vertices < MOST_VERTICES) }
 {
@@ -39,10 +75,10 @@ pub fn vertex_line(vertices: u32, text: &[u8]) -> Result<ExactPoint, ObjFault>
     let Some((y, rest)) = next_field(rest) else {
         return Err(ObjFault::TooFewFields);
     };
-    let Some((z, _)) = next_field(rest) else {
+    let Some((z, rest)) = next_field(rest) else {
         return Err(ObjFault::TooFewFields);
     };
-    point_of(x, y, z, vertices)
+    vertex_of(x, y, z, rest, vertices)
 }
 
 // The vertices that the fields name, one after the other.

@@ -17,12 +17,14 @@ use pm_base::Corners;
 use pm_io::{Source, Taker};
 use std::alloc::Global;
 
-/// What a text spells: points in units of 10^-18, triangles, and how many faces had more than three corners.
+/// What a text spells: points in units of 10^-18, triangles, how many faces had more than three
+/// corners, and how many vertices a weight that isn't 1, as in `v x y z w`.
 #[derive(Drop)]
 pub struct Scan {
     pub points: Vec<ExactPoint>,
     pub faces: Vec<Corners>,
     pub polygons: u32,
+    pub weights: u32,
 }
 
 /// Reads a source to its end, and answers the points and triangles that its bytes spell.
@@ -32,8 +34,9 @@ pub struct Scan {
 /// line with a CR that doesn't end it.
 ///
 /// Lines that begin with neither `v` nor `f` are skipped, and one that ends in a backslash is continued by the next. A
-/// coordinate is the nearest whole number of 10^-18. A polygon is cut into triangles, begun at the corner whose point is
-/// least. All bytes that are held are judged before more are asked for, so a fault is answered as soon as the byte that
+/// coordinate is the nearest whole number of 10^-18. Of a vertex the first three are read; where one
+/// number more stands there, which other programs divide by, it is counted if it isn't 1, and passed
+/// over. A polygon is cut into triangles, begun at the corner whose point is least. All bytes that are held are judged before more are asked for, so a fault is answered as soon as the byte that
 /// shows it has come. However the source cuts its bytes, the answer is the same.
 ///
 /// Each byte, and each corner, is looked at a constant number of times. Memory is taken for the window, for one line, for

@@ -1,11 +1,11 @@
 //! The lines of a text, one after the other: what they gave so far, and those that the next one continues.
 ghost use Rattle.std.specs.Prelude.{ℕ, ◌≡◌, ◌+◌, ◌-◌, ◌<◌, ◌≤◌, ◌++◌, ◌∷◌, [], length, true, false, take, Ok, OnOk, IfErr};
-ghost use Rattle.pm_base.specs.declared.limits.TheConstants.{MOST_FACES};
+ghost use Rattle.pm_base.specs.declared.limits.TheConstants.{MOST_FACES, MOST_VERTICES};
 ghost use Rattle.obj_lines.specs.Text.{is_continued};
 ghost use Rattle.obj_read.specs.Fails.{IsLineFault};
 ghost use Rattle.obj_read.specs.Fields.{fields};
 ghost use Rattle.obj_scan.specs.Fails.{scanned_of};
-ghost use Rattle.obj_scan.specs.Judged.{scanned_vertex_line, polygon_line, polygons_after};
+ghost use Rattle.obj_scan.specs.Judged.{scanned_vertex_line, polygon_line, polygons_after, weights_after};
 ghost use Rattle.obj_scan.specs.Reading.{IsScanning, given, scanned_after, held_of, nothing_held, taken};
 
 use crate::OutOfMemory;
@@ -26,6 +26,14 @@ pub struct Scanner {
     pub corners: Vec<u32>,
 }
 
+// How many vertices had a weight, after one more.
+fn weights_after(weights: u32, weighted: bool) -> u32
+    requires { weights < MOST_VERTICES }
+    ensures { result ≡ weights_after weights weighted }
+{
+    if weighted { weights + 1 } else { weights }
+}
+
 // Takes a vertex.
 fn take_vertex(scan: &mut Scan, text: &[u8], line: u32) -> Result<(), ObjFail>
     requires scanning { IsScanning (scanned_of scan.old) }
@@ -35,10 +43,13 @@ fn take_vertex(scan: &mut Scan, text: &[u8], line: u32) -> Result<(), ObjFail>
 {
     match vertex_line(scan.points.len() as u32, text) {
         Err(fault) => Err(ObjFail::Fault { fault, line }),
-        Ok(point) => match scan.points.push(point) {
-            Ok(()) => Ok(()),
-            Err(_) => Err(ObjFail::OutOfMemory),
-        },
+        Ok(vertex) => {
+            scan.weights = weights_after(scan.weights, vertex.weighted);
+            match scan.points.push(vertex.point) {
+                Ok(()) => Ok(()),
+                Err(_) => Err(ObjFail::OutOfMemory),
+            }
+        }
     }
 }
 
@@ -106,6 +117,7 @@ impl Scanner {
                 points: Vec::new(alloc),
                 faces: Vec::new(alloc),
                 polygons: 0,
+                weights: 0,
             },
             continued: 0,
             begun: Vec::new(alloc),
