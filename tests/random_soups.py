@@ -11,6 +11,7 @@ Soup = Tuple[List[Point], List[List[int]]]  # points, and faces of three corners
 
 MARKS = [b"\xef\xbb\xbf"] * 4 + [b"\xff\xfe", b"\xfe\xff", b"\xef\xbb", b"\xef\xbb\xbf "]
 SKIPPED = ["", "# no line", "vn 0 0 1", "s off", "g a \\", "b", "#\\", "vt 1 \\", "o x # \\"]
+AFTER = ["", "", "1", "1.0", "1e0", "2", "0", "-1", ".5", "1e99", "w", "1 2", "1 2 3", "2 #"]
 BAD_LINES = [
     "v 1 2", "f 1 2", "v 1e 0 0", "v e5 0 0", "v 1e1000 0 0", "v 0 0 1e15", "v 1e-1000 0 0",
     "f 1 2 0", "f 1 2 9999", "f 1 2 3 x", "v 1 2 3 \\", "v 1..0 0 0", "v 1e5.0 0 0", "v 1 \\",
@@ -97,6 +98,11 @@ def number_text(rng: Random, value: int, style: str) -> str:
     return rng.choice([f"{value:e}", f"{value}{exponent}"])
 
 
+def weighted(rng: Random, gap: str, line: str) -> str:
+    """A vertex line with fields after its third number, or as it is."""
+    return gap.join([line] + rng.choice(AFTER).split())
+
+
 def formed(rng: Random, text: bytes) -> bytes:
     """The text with a byte order mark or with a CR somewhere, or as it is."""
     if rng.random() < 0.1:
@@ -113,6 +119,7 @@ def soup_text(rng: Random, soup: Soup) -> bytes:
     style = rng.choice(["whole", "whole", "decimals", "small", "tiny", "exponents"])
     gap = rng.choice([" ", " ", "\t", " \\\n", "  "])
     lines = [gap.join(["v"] + [number_text(rng, c, style) for c in point]) for point in points]
+    lines = [weighted(rng, gap, line) for line in lines] if rng.random() < 0.2 else lines
     count = len(points)
     lines += [" ".join(["f"] + [index_spelled(rng, v, count) for v in face]) for face in faces]
     if rng.random() < 0.3:

@@ -33,6 +33,18 @@ class Preparing(unittest.TestCase):
         self.assertNotIn("turned", done.error)
         self.assertIn("prepare: sides cut open 2\n", done.error)
 
+    def test_of_four_numbers_the_last_is_a_weight(self) -> None:
+        faces = "f 1 2 3\n"
+        for fourth, told in (("", 0), (" 1", 0), (" 2", 1), (" 1e99", 1), (" w", 0), (" 2 2", 0)):
+            text = f"v 0 0 0{fourth}\nv 10 0 0\nv 0 10 0\n{faces}".encode()
+            line = f"prepare: weights passed over {told}\n" if told else ""
+            self.assertEqual(answer("prepare", [], text).error, line)
+
+    def test_of_vertices_that_are_joined_some_are_by_rounding(self) -> None:
+        points = "v 0 0 0\nv 10 0 0\nv 0 10 0\nv 10 0 0\nv 10.1 0 0\n"
+        done = answer("prepare", ["10"], (points + "f 1 2 3\nf 1 4 3\nf 1 5 3\n").encode())
+        self.assertIn("prepare: vertices joined 2, 1 of them by rounding\n", done.error)
+
     def test_of_lines_that_go_together_the_first_is_named(self) -> None:
         done = answer("prepare", [], b"v 0 0 0\nv 1 \\\n2 \\\nx\n")
         self.assertEqual(done, (1, b"", "prepare: fault 4 line 2\n"))

@@ -206,6 +206,7 @@ class Prepared(NamedTuple):
     fit: Optional[Fit]
     account: Account
     notes: List[Tuple[str, int]]
+    rounded: int  # how many vertices were joined that stood at different points
     warning: str
 
 
@@ -228,6 +229,7 @@ def prepared(soup: Soup, size: Optional[int]) -> Prepared:
     used = {v for face in stay for v in face}
     notes = [
         ("polygons cut", len(soup.polygons)),
+        ("weights passed over", len(soup.weights)),
         ("vertices joined", sum(names[v] != v for v in named)),
         ("faces that name a vertex twice", len(soup.faces) - len(three)),
         ("faces that became edges", flat),
@@ -244,17 +246,23 @@ def prepared(soup: Soup, size: Optional[int]) -> Prepared:
     if fit is not None and 10 * flat >= len(three):
         warning = "a tenth of the triangles or more became edges: "
         warning += fit.longest({v: soup.points[v] for v in named})
-    return Prepared(Mesh(points, corners), fit, account, notes, warning)
+    rounded = len({soup.points[v] for v in named}) - len(set(places.values()))
+    return Prepared(Mesh(points, corners), fit, account, notes, rounded, warning)
 
 
 def head_line(made: Prepared) -> str:
     return "# coordinates as they stood\n" if made.fit is None else "# " + made.fit.way_back()
 
 
+def note_line(made: Prepared, what: str, count: int) -> str:
+    rounding = f", {made.rounded} of them by rounding" if made.rounded else ""
+    return f"prepare: {what} {count}{rounding if what == 'vertices joined' else ''}\n"
+
+
 def notes_text(made: Prepared) -> str:
     """How much came out, a line for each kind of change, how places lead back, and a warning."""
     lines = [made.account.line()]
-    lines += [f"prepare: {what} {count}\n" for what, count in made.notes if count]
+    lines += [note_line(made, what, count) for what, count in made.notes if count]
     if made.fit is not None:
         lines += ["prepare: " + line for line in (made.fit.way_back(), made.fit.near())]
     if made.warning:

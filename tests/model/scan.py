@@ -1,4 +1,5 @@
-"""What any OBJ text spells for `prepare`: points, triangles, and how many polygons were cut.
+"""What any OBJ text spells for `prepare`: points, triangles, and how many polygons were cut and
+weights passed over.
 
 Numbers may have decimals and exponents, faces any number of corners, and a line that ends in a
 backslash is continued by the next. A byte order mark before the first line is passed over. Points
@@ -36,6 +37,7 @@ class Soup(NamedTuple):
     points: List[Point]
     faces: List[Corners]
     polygons: List[int]  # how many corners each face had that had more than three
+    weights: List[bytes]  # the fourth number of each vertex line of four numbers, where it isn't 1
 
 
 def nearest(value: Fraction) -> int:
@@ -59,6 +61,14 @@ def decimal(field: bytes) -> int:
     return -units if form[1] == b"-" else units
 
 
+def is_weight(field: bytes) -> bool:
+    """The field is a number, and not 1."""
+    try:
+        return decimal(field) != UNITS
+    except Fault as fault:
+        return fault.number == OUT_OF_RANGE
+
+
 def triangles(points: List[Point], corners: List[int]) -> List[Corners]:
     """The triangles of the first corner and each two neighbours after it. A polygon of more than
     three corners begins at the first whose point is least by x, then y, then z."""
@@ -78,6 +88,7 @@ def take(soup: Soup, text: bytes) -> None:
         if len(soup.points) == MOST_VERTICES:
             raise Fault(TOO_MANY)
         soup.points.append((x, y, z))
+        soup.weights.extend(field for field in fields[3:] if len(fields) == 4 and is_weight(field))
     elif word == b"f":
         corners = [vertex_named(field, len(soup.points)) for field in fields]
         if len(soup.faces) + len(corners) - 2 > MOST_FACES:
@@ -101,7 +112,7 @@ def read_of(number: int, line: bytes) -> bytes:
 def soup_of_text(text: bytes) -> Soup:
     """The points and triangles of a text, or the first fault of its first line with one. Of lines
     that go together the first is named."""
-    soup, begun, first = Soup([], [], []), b"", 1
+    soup, begun, first = Soup([], [], [], []), b"", 1
     for number, line in enumerate(lines_of(text), 1):
         if len(line) > MOST_LINE_BYTES:
             raise Fault(TOO_LONG, f"line {number}")

@@ -1,8 +1,8 @@
 -- A text that is prepared again comes back.
-use Rattle.std.proofs.Common.{◌≡◌, ℕ, ◌<◌, List, length, map, Option, None, Result, Ok, IfOk, refl, sym, ap, ◌∙◌, subst, arith}
+use Rattle.std.proofs.Common.{◌≡◌, ℕ, ◌<◌, ◌==◌, Bool, true, false, List, length, map, Option, None, Result, Ok, IfOk, refl, sym, ap, ◌∙◌, subst, arith}
 use Rattle.std.proofs.lemmas.List.{length-map}
 use Rattle.std.specs.List.{All}
-use Rattle.pm_base.specs.Place.{IsPlace}
+use Rattle.pm_base.specs.Place.{Place, IsPlace}
 use Rattle.pm_base.specs.declared.mesh.Corners.{Corners}
 use Rattle.pm_base.specs.Meshes.{Mesh, IsFace, IsWellFormed}
 use Rattle.pm_base.specs.Sides.{net_of}
@@ -13,12 +13,13 @@ use Rattle.obj_read.specs.Meaning.{Refused, meaning_of}
 use Rattle.obj_scan.specs.Judged.{Scanned}
 use Rattle.obj_scan.specs.Meaning.{scan_meaning_of}
 use Rattle.obj_scan.specs.Laws.{scanned_mesh, scaled_up}
-use Rattle.obj_scan.proofs.ReadLaws.{read_scanned}
 use Rattle.obj_prepare.specs.declared.notes.Notes.{Notes}
 use Rattle.obj_prepare.specs.declared.placing.Fit.{Fit}
 use Rattle.obj_prepare.specs.declared.placing.Fit.TheVariants as fits
 use Rattle.obj_prepare.specs.Named.{AreVerticesBelow, of_three}
 use Rattle.obj_prepare.specs.Joining.{place_in_list}
+use Rattle.obj_prepare.specs.Different.{rounded_count}
+use Rattle.obj_prepare.proofs.DifferentLaws.{none_rounded}
 use Rattle.obj_prepare.specs.Placing.{IsSize, fit_of, prepared_places_of}
 use Rattle.obj_prepare.specs.Prepared.{staying, joined_count, flat_count, double_count, turned_count, unnamed_count, split_count, gone_count, IsPrepared, IsPreparedWith}
 use Rattle.obj_prepare.proofs.AgainLaws.{prepared_again, none_turned_again}
@@ -26,10 +27,10 @@ use Rattle.obj_prepare.proofs.PlacingLaws.{length-places_of}
 use Rattle.obj_prepare.proofs.ThreeLaws.{three_all, three_of_mesh}
 use Rattle.prepare.specs.declared.fault.Fault.{Fault}
 use Rattle.prepare.specs.Texts.{output_text, notes_text}
-use Rattle.prepare.specs.Outcome.{Done, MakesPrepared, fit_in, places_in, counts_of, warning_for, IsPreparedText, bad_line, too_many, no_face, made}
+use Rattle.prepare.specs.Outcome.{Done, MakesPrepared, fit_in, places_in, counts_of, warning_for, rounded_for, rounded_in, IsPreparedText, bad_line, too_many, no_face, made}
 use Rattle.prepare.specs.Laws.{ComesBack, TextsComeBack}
 use Rattle.prepare.proofs.ScannedLaws.{meaning_sound}
-use Rattle.prepare.proofs.ReadLaws.{made_on_grid, mesh_is_read, made_formed}
+use Rattle.prepare.proofs.ReadLaws.{made_on_grid, mesh_is_read, made_scanned}
 use Rattle.prepare.proofs.StandingLaws.{standing_fit, standing_places}
 use Rattle.prepare.proofs.RestoredLaws.{none_flat, none_double, none_unnamed, split_as_joined}
 
@@ -66,8 +67,16 @@ numbered m p = (
 abbrev standing_done : Mesh → Notes → Done
 standing_done m notes = record {
   text = output_text fits.Standing m;
-  notes = notes_text (counts_of (scanned_mesh m) m) notes fits.Standing None;
+  notes = notes_text (counts_of (scanned_mesh m) m) notes 0 fits.Standing None;
 }
+
+-- None of its vertices is joined by rounding.
+
+rounded_case : (points places : List Place) (faces : List Corners) (joined : ℕ) (nothing : Bool)
+    → (joined == 0) ≡ nothing
+    → rounded_count points places faces ≡ 0 → rounded_for points places faces joined ≡ 0
+rounded_case points places faces joined true is none = rw is refl
+rounded_case points places faces joined false is none = rw is none
 
 -- A mesh on the grid all of whose vertices are used is made of its own points in units.
 makes_itself : (m : Mesh) (notes : Notes) → IsWellFormed m → IsOrientedManifold (net_of m.faces)
@@ -80,6 +89,13 @@ makes_itself m notes formed manifold some placed used prepared =
     ≡ m.faces = three_of_mesh (length m.points) m.faces formed.corners in
     let fit : fit_in None (scanned_mesh m) ≡ fits.Standing = ap (fit_of None points) three
     ∙ standing_fit m.points m.faces placed in
+    let places : places_in None (scanned_mesh m) ≡ m.points = ap
+    (prepared_places_of None points) three
+    ∙ standing_places m.points m.faces placed used in
+    let rounded : rounded_in None (scanned_mesh m) notes ≡ 0 =
+    ap (λ ps. rounded_for points ps (of_three m.faces) notes.joined) places
+    ∙ rounded_case points m.points (of_three m.faces) notes.joined _ refl
+    (none_rounded scaled_up m.points (of_three m.faces)) in
     record {
       mesh = m;
       notes = notes;
@@ -92,8 +108,11 @@ makes_itself m notes formed manifold some placed used prepared =
       manifold = manifold;
       some = some;
       text_is = ap (λ (f : Fit). output_text f m) (sym fit);
-      notes_are = ap
-          (λ (f : Fit). notes_text (counts_of (scanned_mesh m) m) notes f
+      notes_are = ap (λ r. notes_text (counts_of (scanned_mesh m) m) notes r fits.Standing None)
+          (sym rounded)
+          ∙ ap
+          (λ (f : Fit). notes_text (counts_of (scanned_mesh m) m) notes
+          (rounded_in None (scanned_mesh m) notes) f
           (warning_for f points (of_three m.faces) notes.flat)) (sym fit);
     }
 
@@ -127,7 +146,7 @@ made_comes_back size bytes s done is means k read =
       turned = none_turned_again places three m low p;
       unnamed = none_unnamed m used again;
       outcome = made (scanned_mesh m) (standing_done m (numbers m again))
-          (read_scanned done.text m (made_formed size bytes s done is means k) read)
+          (made_scanned size bytes s done is means k)
           (makes_itself m (numbers m again) k.formed k.manifold k.some
           (made_on_grid size s done is k) used told);
     }

@@ -19,13 +19,11 @@ use Rattle.obj_prepare.proofs.PlacingLaws.{length-places_of}
 use Rattle.prepare.specs.Texts.{head_line, notes_text}
 use Rattle.obj_prepare.specs.Named.{IsWithinMesh as IsNamedWithin, of_three}
 use Rattle.obj_prepare.proofs.ThreeLaws.{three_within}
-use Rattle.obj_prepare.specs.declared.longest.LongestAxis.{LongestAxis}
-use Rattle.prepare.specs.declared.counts.Counts.{Counts}
 use Rattle.prepare.specs.declared.fault.Fault.{Fault}
 use Rattle.prepare.specs.declared.fault.Fault.TheVariants as faults
 use Rattle.prepare.specs.declared.fault.InputFail.{InputFail}
 use Rattle.prepare.specs.declared.fault.InputFail.TheVariants as input
-use Rattle.prepare.specs.Outcome.{Done, MakesPrepared, fit_in, places_in, counts_of, warning_for, warning_in, IsPreparedText, bad_line, too_many, no_face, made}
+use Rattle.prepare.specs.Outcome.{Done, MakesPrepared, fit_in, places_in, counts_of, warning_for, rounded_for, IsPreparedText, bad_line, too_many, no_face, made}
 use Rattle.prepare.specs.Making.{IsMakeFail}
 use Rattle.prepare.specs.Ending.{HasPreparedFault, PlaceUnreached, StopsPreparing}
 
@@ -54,49 +52,39 @@ placed_within size s points faces places lent again within points_are faces_are 
     rw (count, same) (named_within s within)
 
 pub makes_done : (size : Option ℕ) (s : Scanned) (points : List Place) (faces : List Corners)
-    (fit : Fit) (places lent : List Place) (again : List Corners) (m : Mesh) (notes : Notes)
-    (shown : List Corners) (counts : Counts) (warning : Option LongestAxis) (head said : List ℕ)
+    (fit : Fit) (places lent : List Place) (again third : List Corners) (m : Mesh) (notes : Notes)
+    (shown : List Corners) (head said : List ℕ)
     → points ≡ s.points → faces ≡ of_three s.faces → fit ≡ fit_of size points faces
     → places ≡ prepared_places_of size points faces → lent ≡ places → again ≡ of_three s.faces
+    → third ≡ of_three s.faces
     → IsPreparedWith lent again m notes → IsWellFormed m → IsOrientedManifold (net_of m.faces)
-    → shown ≡ m.faces → 0 < length shown → counts ≡ counts_of s m
-    → warning ≡ warning_in size s notes → head ≡ head_line fit
-    → said ≡ notes_text counts notes fit warning
+    → shown ≡ m.faces → 0 < length shown → head ≡ head_line fit
+    → said ≡ notes_text (counts_of s m) notes (rounded_for s.points places third notes.joined) fit
+    (warning_for fit s.points third notes.flat)
     → MakesPrepared size s (record { text = head ++ canonical_text 0 m; notes = said })
-makes_done size s points faces fit places lent again m notes shown counts warning head said
-    points_are faces_are fit_is placed lent_is same prepared formed manifold shown_is some
-    counts_are warning_is head_is said_is =
+makes_done size s points faces fit places lent again third m notes shown head said points_are
+    faces_are fit_is placed lent_is same thirds prepared formed manifold shown_is some head_is said_is =
     let fit_same : fit ≡ fit_in size s = fit_is ∙ ap (λ ps. fit_of size ps faces) points_are
     ∙ ap (λ fs. fit_of size s.points fs) faces_are in
-    let places_same : lent ≡ places_in size s = lent_is ∙ placed
+    let places_same : places ≡ places_in size s = placed
     ∙ ap (λ ps. prepared_places_of size ps faces) points_are
     ∙ ap (λ fs. prepared_places_of size s.points fs) faces_are in
+    let Said : List Place → List Corners → Fit → List ℕ = λ ps fs f.
+    notes_text (counts_of s m) notes (rounded_for s.points ps fs notes.joined) f
+    (warning_for f s.points fs notes.flat) in
     record {
       mesh = m;
       notes = notes;
       prepared = subst (λ fs. IsPreparedWith (places_in size s) fs m notes) same
-          (subst (λ ps. IsPreparedWith ps again m notes) places_same prepared);
+          (subst (λ ps. IsPreparedWith ps again m notes) (lent_is ∙ places_same) prepared);
       formed = formed;
       manifold = manifold;
       some = subst (λ (fs : List Corners). 0 < length fs) shown_is some;
       text_is = ap (λ h. h ++ canonical_text 0 m) (head_is ∙ ap head_line fit_same);
-      notes_are = said_is ∙ ap (λ c. notes_text c notes fit warning) counts_are
-          ∙ ap (λ f. notes_text (counts_of s m) notes f warning) fit_same
-          ∙ ap (notes_text (counts_of s m) notes (fit_in size s)) warning_is;
+      notes_are = said_is ∙ ap (λ ps. Said ps third fit) places_same
+          ∙ ap (λ fs. Said (places_in size s) fs fit) thirds
+          ∙ ap (λ f. Said (places_in size s) (of_three s.faces) f) fit_same;
     }
-
-pub warned : (size : Option ℕ) (s : Scanned) (points lent : List Place)
-    (faces again : List Corners) (fit : Fit) (notes : Notes) (warning : Option LongestAxis)
-    → points ≡ s.points → faces ≡ of_three s.faces → fit ≡ fit_of size points faces
-    → lent ≡ s.points → again ≡ of_three s.faces → warning ≡ warning_for fit lent again notes.flat
-    → warning ≡ warning_in size s notes
-warned size s points lent faces again fit notes warning points_are faces_are fit_is lent_are
-    again_are is =
-    let fit_same : fit ≡ fit_in size s = fit_is ∙ ap (λ ps. fit_of size ps faces) points_are
-    ∙ ap (fit_of size s.points) faces_are in
-    is ∙ ap (λ f. warning_for f lent again notes.flat) fit_same
-    ∙ ap (λ ps. warning_for (fit_in size s) ps again notes.flat) lent_are
-    ∙ ap (λ fs. warning_for (fit_in size s) s.points fs notes.flat) again_are
 
 -- What follows where the source tells its bytes.
 module _ (size : Option ℕ) where

@@ -31,7 +31,7 @@ use Rattle.obj_prepare.specs.Laws.{AreFit}
 use Rattle.obj_prepare.proofs.PieceLaws.{named_low}
 use Rattle.obj_prepare.proofs.TurnedLaws.{none_turned}
 use Rattle.prepare.specs.declared.counts.Counts.{Counts}
-use Rattle.prepare.specs.Texts.{account_line, warning_line, note_line, face_notes, vertex_notes, last_note, notes_text}
+use Rattle.prepare.specs.Texts.{account_line, warning_line, note_line, face_notes, line_notes, joined_line, vertex_notes, last_note, notes_text}
 use Rattle.prepare.proofs.RestoredLaws.{all_stay, none_flat, none_double, none_unnamed, none_gone, all_named, split_as_joined}
 
 -- Of numbers that pass no two are different.
@@ -137,13 +137,15 @@ no_account c vertices triangles = rw (
   eq-eqb c.triangles_in c.triangles_out triangles,
 ) refl
 
--- Only polygons that were cut and faces without area are told.
-pub nothing_said : (c : Counts) (fit : Fit) → account_line c ≡ [] → c.twice ≡ 0
-    → notes_text c nothing_done fit None ≡ note_line (codes "polygons cut") c.polygons
+-- Only polygons that were cut, weights and faces without area are told.
+pub nothing_said : (c : Counts) (rounded : ℕ) (fit : Fit) → account_line c ≡ [] → c.twice ≡ 0
+    → notes_text c nothing_done rounded fit None ≡ note_line (codes "polygons cut") c.polygons
+    ++ note_line (codes "weights passed over") c.weights
     ++ note_line (codes "faces without area") c.thin ++ last_note fit
-unfolding notes_text face_notes vertex_notes note_line warning_line
-nothing_said c fit same none =
-    let line = note_line (codes "polygons cut") c.polygons in
+unfolding notes_text face_notes line_notes joined_line vertex_notes note_line warning_line
+nothing_said c rounded fit same none =
+    let line = note_line (codes "polygons cut") c.polygons
+    ++ note_line (codes "weights passed over") c.weights in
     let thin = note_line (codes "faces without area") c.thin in
     rw (same, none) (append-nil (((line ++ [] ++ [] ++ [] ++ [] ++ [] ++ []) ++ thin) ++ last_note fit)
     ∙ ap (λ (l : List ℕ). (l ++ thin) ++ last_note fit) (six_ends line))

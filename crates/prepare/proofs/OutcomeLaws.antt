@@ -16,7 +16,7 @@ use Rattle.obj_prepare.proofs.OnePrepared.{prepared_are_one, notes_are_one}
 use Rattle.prepare.specs.declared.fault.Fault.{Fault}
 use Rattle.prepare.specs.declared.fault.Fault.TheVariants as faults
 use Rattle.prepare.specs.Texts.{output_text, notes_text}
-use Rattle.prepare.specs.Outcome.{Done, MakesPrepared, fit_in, places_in, counts_of, warning_in, IsPreparedText, LeavesNoFace, bad_line, too_many, no_face, made}
+use Rattle.prepare.specs.Outcome.{Done, MakesPrepared, fit_in, places_in, counts_of, rounded_in, warning_in, IsPreparedText, LeavesNoFace, bad_line, too_many, no_face, made}
 
 one_refused : (found : Result Scanned Refused) (r q : Refused) → found ≡ Err r → found ≡ Err q → r ≡ q
 one_refused found r q is are = cc
@@ -37,8 +37,10 @@ one_made size s done other a b =
     (of_three s.faces) a.mesh b.mesh a.notes b.notes a.prepared b.prepared in
     let text = a.text_is ∙ ap (output_text fit) mesh ∙ sym b.text_is in
     let said = a.notes_are
-    ∙ ap (λ (n : Notes). notes_text (counts_of s a.mesh) n fit (warning_in size s n)) notes
-    ∙ ap (λ (m : Mesh). notes_text (counts_of s m) b.notes fit (warning_in size s b.notes))
+    ∙ ap (λ (n : Notes). notes_text (counts_of s a.mesh) n (rounded_in size s n) fit
+    (warning_in size s n)) notes
+    ∙ ap (λ (m : Mesh). notes_text (counts_of s m) b.notes (rounded_in size s b.notes) fit
+    (warning_in size s b.notes))
     mesh ∙ sym b.notes_are in
     λ i. record { text = text i; notes = said i }
 

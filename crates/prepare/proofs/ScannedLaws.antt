@@ -19,7 +19,7 @@ use Rattle.obj_prepare.specs.Exact.{AreExact}
 use Rattle.obj_prepare.specs.Named.{AreVerticesBelow}
 use Rattle.obj_prepare.specs.Numbers.{units_of_text, exponent, is_decimal, decimal_coordinate}
 use Rattle.obj_scan.specs.Polygons.{triangles}
-use Rattle.obj_scan.specs.Judged.{Scanned, Found, nothing, vertex, polygon, scanned_vertex_line, indices, polygon_of, polygon_line, scanned_fields, scanned_line, polygons_after, with_scanned}
+use Rattle.obj_scan.specs.Judged.{Scanned, Found, nothing, vertex, polygon, scanned_vertex_line, indices, polygon_of, polygon_line, scanned_fields, scanned_line, polygons_after, has_weight, with_scanned}
 use Rattle.obj_scan.specs.Meaning.{ScannedSoFar, nothing_scanned, joined_text, and_continued, and_scanned_line, judged_length, then_found, line_judged, then_scanned_lines, at_end, scan_meaning_from, scan_meaning_of}
 use Rattle.obj_scan.specs.Reading.{IsScanning}
 use Rattle.obj_scan.proofs.ScanLaws.{vertex_scanning, polygon_scanned}
@@ -41,7 +41,7 @@ coordinate_exact field =
 -- After n vertices and k triangles there is room for what a line gives.
 Suits : ℕ → ℕ → Found → Type 0
 Suits n k nothing = Unit {0}
-Suits n k (vertex p) = (n < 1048576) × AreExact p
+Suits n k (vertex p weighted) = (n < 1048576) × AreExact p
 Suits n k (polygon corners) = All (λ (c : ℕ). c < n) corners × (k + (length corners - 2) ≤ 1048576)
 
 vertex_suits : (n k : ℕ) (fs : List (List ℕ)) → Gives (Suits n k) (scanned_vertex_line n fs)
@@ -51,7 +51,7 @@ vertex_suits n k (a ∷ []) = record { so = tt }
 vertex_suits n k (a ∷ b ∷ []) = record { so = tt }
 vertex_suits n k (a ∷ b ∷ c ∷ more) =
     then_gives _ _ _ _ (coordinate_exact a) (λ x exact_x. then_gives _ _ _ _ (coordinate_exact b) (λ y exact_y. then_gives _ _ _ _ (coordinate_exact c) (λ z exact_z.
-    let v = vertex (record { x = x; y = y; z = z }) in
+    let v = vertex (record { x = x; y = y; z = z }) (has_weight more) in
     unless (Suits n k) (nat_le 1048576 n) faults.TooMany (Ok v) (λ room. given (Suits n k) v (not_full n room, (exact_x, exact_y, exact_z))))))
 
 indices_within : (n : ℕ) (fs : List (List ℕ)) → Gives (All (λ (c : ℕ). c < n)) (indices n fs)
@@ -90,9 +90,10 @@ pub record IsSound (s : Scanned) : Type 0 where
 with_found_sound : (s : Scanned) (f : Found) → IsSound s → Suits (length s.points) (length s.faces) f → IsSound (with_scanned s f)
 unfolding Suits
 with_found_sound s nothing sound suits = sound
-with_found_sound s (vertex p) sound suits = record {
+with_found_sound s (vertex p weighted) sound suits = record {
   exact = All-push AreExact s.points p sound.exact suits.1;
-  scanning = vertex_scanning s (with_scanned s (vertex p)) p sound.scanning suits.0 refl;
+  scanning = vertex_scanning s (with_scanned s
+      (vertex p weighted)) p weighted sound.scanning suits.0 refl;
 }
 with_found_sound s (polygon corners) sound suits = record {
   exact = sound.exact;
@@ -129,10 +130,19 @@ meaning_from_sound s [] sound = end_sound s (s.continued == 0) refl sound
 meaning_from_sound s (line ∷ more) sound =
     then_lines_sound (judged_length s line) (line_judged s line) s line (λ t. scan_meaning_from t more) (judged_sound s line sound) (λ t keeps. meaning_from_sound t more keeps)
 
-nothing_sound : IsSound (record { points = []; faces = []; polygons = 0 })
+nothing_sound : IsSound (record { points = []; faces = []; polygons = 0; weights = 0 })
 nothing_sound = record {
   exact = All-nil AreExact;
-  scanning = record { within = record { points = omega arith; faces = omega arith; corners = All-nil (AreVerticesBelow 0) }; polygons = omega arith };
+  scanning = record {
+    within = record {
+      points = omega arith;
+      faces = omega arith;
+      corners = All-nil
+          (AreVerticesBelow 0);
+    };
+    polygons = omega arith;
+    weights = omega arith;
+  };
 }
 
 pub meaning_sound : (bytes : List ℕ) (s : Scanned) → scan_meaning_of bytes ≡ Ok s → IsSound s

@@ -15,7 +15,7 @@ use Rattle.obj_read.proofs.FormedLaws.{meaning_formed}
 use Rattle.obj_read.proofs.PlacedLaws.{meaning_placed}
 use Rattle.obj_scan.specs.Judged.{Scanned}
 use Rattle.obj_scan.specs.Meaning.{scan_meaning_of}
-use Rattle.obj_scan.specs.Laws.{scanned_mesh, scaled_up}
+use Rattle.obj_scan.specs.Laws.{scanned_mesh, with_weights, weights_in, scaled_up}
 use Rattle.obj_scan.proofs.ReadLaws.{read_scanned}
 use Rattle.obj_prepare.specs.declared.placing.Fit.TheVariants as fits
 use Rattle.obj_prepare.specs.Named.{IsWithinMesh, of_three}
@@ -82,10 +82,10 @@ stays_made size bytes s means needs =
       some = needs.some;
       text_is = refl;
       notes_are = sym
-          (ap (notes_text (counts_of s m) nothing_done (fit_in size s))
+          (ap (notes_text (counts_of s m) nothing_done 0 (fit_in size s))
           (no_warning (fit_in size s) s.points (of_three s.faces)
           (subst (λ (fs : List Corners). 0 < length fs) (sym three) needs.some))
-          ∙ nothing_said (counts_of s m) (fit_in size s)
+          ∙ nothing_said (counts_of s m) 0 (fit_in size s)
           (no_account (counts_of s m) vertices refl) twice);
     }
 
@@ -93,23 +93,25 @@ pub fit_scans_stay : FitScansStay
 fit_scans_stay size bytes s means needs = made s (as_it_is size s) means (stays_made size bytes s means needs)
 
 -- A mesh on the grid all of whose vertices are used stands as it is.
-stands_as_it_is : (m : Mesh) → of_three m.faces ≡ m.faces → All IsPlace m.points
+stands_as_it_is : (n : ℕ) (m : Mesh) → of_three m.faces ≡ m.faces → All IsPlace m.points
     → ((v : ℕ) → v < length m.points → IsUsed (net_of m.faces) v)
-    → as_it_is None (scanned_mesh m)
+    → as_it_is None (with_weights n (scanned_mesh m))
     ≡ record {
       text = output_text fits.Standing m;
-      notes = note_line (codes "faces without area") (thin_count m.points m.faces)
+      notes = note_line (codes "weights passed over") n
+          ++ note_line (codes "faces without area") (thin_count m.points m.faces)
           ++ last_note fits.Standing;
     }
 unfolding note_line
-stands_as_it_is m three placed used =
+stands_as_it_is n m three placed used =
     let points = map scaled_up m.points in
     let fit = ap (fit_of None points) three ∙ standing_fit m.points m.faces placed in
     let places = ap (prepared_places_of None points) three
     ∙ standing_places m.points m.faces placed used in
     λ i. record {
       text = output_text (fit i) (record { points = places i; faces = m.faces });
-      notes = note_line (codes "faces without area") (thin_count (places i) m.faces)
+      notes = note_line (codes "weights passed over") n
+          ++ note_line (codes "faces without area") (thin_count (places i) m.faces)
           ++ last_note (fit i);
     }
 
@@ -121,15 +123,17 @@ fit_texts_stay bytes m formed_so read some manifold fit =
     ≡ m.faces = three_of_mesh (length m.points) m.faces formed.corners in
     let places = ap (prepared_places_of None (map scaled_up m.points)) three
     ∙ standing_places m.points m.faces placed fit.used in
-    let needs : NeedsNothing None (scanned_mesh m) = record {
+    let n = weights_in (scan_meaning_of bytes) in
+    let needs : NeedsNothing None (with_weights n (scanned_mesh m)) = record {
       some = some;
       stand = λ e l. (mesh_side m formed e l).0;
       manifold = manifold;
       fit = subst (λ (ps : List Place). AreFit ps m.faces) (sym places) fit;
     } in
     subst (λ (d : Done). IsPreparedText None bytes (Ok d) None)
-    (stands_as_it_is m three placed fit.used)
-    (fit_scans_stay None bytes (scanned_mesh m) (read_scanned bytes m formed_so read) needs)
+    (stands_as_it_is n m three placed fit.used)
+    (fit_scans_stay None bytes (with_weights n (scanned_mesh m))
+    (read_scanned bytes m formed_so read) needs)
 
 one_done : (r : Result Done Fault) (a b : Done) → r ≡ Ok a → r ≡ Ok b → a ≡ b
 one_done r a b is are = cc

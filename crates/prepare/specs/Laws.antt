@@ -13,7 +13,7 @@ use Rattle.obj_read.specs.Coordinates.{is_negative, without_sign, decimals, is_n
 use Rattle.obj_read.specs.Meaning.{meaning_of}
 use Rattle.obj_scan.specs.Judged.{Scanned}
 use Rattle.obj_scan.specs.Meaning.{scan_meaning_of}
-use Rattle.obj_scan.specs.Laws.{IsFormed, scanned_mesh}
+use Rattle.obj_scan.specs.Laws.{IsFormed, scanned_mesh, weights_in}
 use Rattle.obj_prepare.specs.declared.notes.Notes.{Notes}
 use Rattle.obj_prepare.specs.declared.placing.Fit.TheVariants as fits
 use Rattle.obj_prepare.specs.Named.{is_some_corner, of_three}
@@ -106,7 +106,7 @@ TextsAreAccounted = (size : Option ℕ) (bytes : List ℕ) (s : Scanned) (done :
 
 -- The text of a mesh, prepared without a size, comes back after a comment. Vertices that were split off stand at one place,
 -- so they are joined, and as many are split off again, maybe along sides that are cut open.
--- Nothing else is done: no face is turned again.
+-- Nothing else is done: no face is turned again, and none was joined by rounding.
 pub record ComesBack (text : List ℕ) (m : Mesh) : Type 0 where
   pub notes : Notes
   pub told : IsPreparedWith m.points m.faces m notes
@@ -118,7 +118,7 @@ pub record ComesBack (text : List ℕ) (m : Mesh) : Type 0 where
   pub outcome : IsPreparedText None text
       (Ok (record {
         text = output_text fits.Standing m;
-        notes = notes_text (counts_of (scanned_mesh m) m) notes fits.Standing None;
+        notes = notes_text (counts_of (scanned_mesh m) m) notes 0 fits.Standing None;
       })) None
 
 -- What is written comes back so, whatever the size was.
@@ -127,14 +127,15 @@ TextsComeBack = (size : Option ℕ) (bytes : List ℕ) (done : Done) (place : Op
 
 -- The text of an oriented manifold with faces whose vertices are used and stand apart comes back
 -- with nothing said of it but
--- faces without area, where its lines are well formed.
+-- weights that were passed over and faces without area, where its lines are well formed.
 abbrev pub FitTextsStay : Type 0
 FitTextsStay = (bytes : List ℕ) (m : Mesh) → IsFormed bytes → meaning_of 0 bytes ≡ Ok m
     → 0 < length m.faces → IsOrientedManifold (net_of m.faces) → AreFit m.points m.faces
     → IsPreparedText None bytes
     (Ok (record {
       text = output_text fits.Standing m;
-      notes = note_line (codes "faces without area") (thin_count m.points m.faces)
+      notes = note_line (codes "weights passed over") (weights_in (scan_meaning_of bytes))
+          ++ note_line (codes "faces without area") (thin_count m.points m.faces)
           ++ last_note fits.Standing;
     })) None
 
@@ -148,12 +149,12 @@ pub record NeedsNothing (size : Option ℕ) (s : Scanned) : Type 0 where
   pub fit : AreFit (places_in size s) s.faces
 
 -- The output and the notes of these triangles over the places of these points: polygons that were
--- cut, faces without area,
--- and how places lead back.
+-- cut, weights that were passed over, faces without area, and how places lead back.
 abbrev pub as_it_is : Option ℕ → Scanned → Done
 as_it_is size s = record {
   text = output_text (fit_in size s) (record { points = places_in size s; faces = s.faces });
   notes = note_line (codes "polygons cut") s.polygons
+      ++ note_line (codes "weights passed over") s.weights
       ++ note_line (codes "faces without area") (thin_count (places_in size s) s.faces)
       ++ last_note (fit_in size s);
 }

@@ -1,5 +1,5 @@
 -- What comes of an OBJ text.
-use Rattle.std.specs.Prelude.{◌≡◌, ℕ, ◌-◌, ◌*◌, ◌<◌, nat_le, List, length, Option, Some, None, Result, Ok, Err, if◌then◌else◌}
+use Rattle.std.specs.Prelude.{◌≡◌, ℕ, ◌-◌, ◌*◌, ◌<◌, ◌==◌, nat_le, List, length, Option, Some, None, Result, Ok, Err, if◌then◌else◌}
 use Rattle.pm_base.specs.declared.mesh.Corners.{Corners}
 use Rattle.pm_base.specs.Place.{Place}
 use Rattle.pm_base.specs.Meshes.{Mesh, IsWellFormed}
@@ -14,6 +14,7 @@ use Rattle.obj_prepare.specs.declared.placing.Fit.TheVariants as fits
 use Rattle.obj_prepare.specs.declared.longest.LongestAxis.{LongestAxis}
 use Rattle.obj_prepare.specs.Longest.{longest_axis}
 use Rattle.obj_prepare.specs.Named.{of_three}
+use Rattle.obj_prepare.specs.Different.{rounded_count}
 use Rattle.obj_prepare.specs.Placing.{fit_of, prepared_places_of}
 use Rattle.obj_prepare.specs.Prepared.{IsPrepared, IsPreparedWith, HasTooMany}
 use Rattle.prepare.specs.declared.counts.Counts.{Counts}
@@ -37,8 +38,7 @@ abbrev pub places_in : Option ℕ → Scanned → List Place
 places_in size s = prepared_places_of size s.points (of_three s.faces)
 
 -- How many vertices and triangles there were, and came out; how many polygons were cut; how many
--- faces name a vertex twice;
--- and how many came out without area.
+-- weights were passed over; how many faces name a vertex twice; and how many came out without area.
 abbrev pub counts_of : Scanned → Mesh → Counts
 counts_of s m = record {
   vertices_in = length s.points;
@@ -46,6 +46,7 @@ counts_of s m = record {
   triangles_in = length s.faces;
   triangles_out = length m.faces;
   polygons = s.polygons;
+  weights = s.weights;
   twice = length s.faces - length (of_three s.faces);
   thin = thin_count m.points m.faces;
 }
@@ -60,6 +61,14 @@ warning_for (fits.Scaled size b) points triangles edges = if nat_le (length tria
 abbrev pub warning_in : Option ℕ → Scanned → Notes → Option LongestAxis
 warning_in size s notes = warning_for (fit_in size s) s.points (of_three s.faces) notes.flat
 
+-- How many vertices were joined by rounding, where so many were joined.
+abbrev pub rounded_for : List Place → List Place → List Corners → ℕ → ℕ
+rounded_for points places triangles joined = if joined == 0 then 0
+    else rounded_count points places triangles
+
+abbrev pub rounded_in : Option ℕ → Scanned → Notes → ℕ
+rounded_in size s notes = rounded_for s.points (places_in size s) (of_three s.faces) notes.joined
+
 -- What is done with the points and triangles of a text: points are brought onto the grid, triangles become an oriented
 -- manifold of these points, and the texts tell of that.
 pub record MakesPrepared (size : Option ℕ) (s : Scanned) (done : Done) : Type 0 where
@@ -70,8 +79,8 @@ pub record MakesPrepared (size : Option ℕ) (s : Scanned) (done : Done) : Type 
   pub manifold : IsOrientedManifold (net_of mesh.faces)
   pub some : 0 < length mesh.faces
   pub text_is : done.text ≡ output_text (fit_in size s) mesh
-  pub notes_are : done.notes ≡ notes_text (counts_of s mesh) notes (fit_in size s)
-      (warning_in size s notes)
+  pub notes_are : done.notes ≡ notes_text (counts_of s mesh) notes (rounded_in size s notes)
+      (fit_in size s) (warning_in size s notes)
 
 -- No face comes out.
 pub record LeavesNoFace (places : List Place) (faces : List Corners) : Type 0 where

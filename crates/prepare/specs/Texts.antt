@@ -64,11 +64,27 @@ account_line c =
     if c.vertices_in == c.vertices_out && c.triangles_in == c.triangles_out then codes ""
     else account_text c
 
--- What is said of the faces and places of the input, and of what was cut and left out.
-unfoldable pub face_notes : Counts → Notes → List ℕ
-face_notes c notes =
-    note_line (codes "polygons cut") c.polygons
-    ++ note_line (codes "vertices joined") notes.joined
+-- `, N of them by rounding`, where N isn't 0.
+unfoldable pub rounding_text : ℕ → List ℕ
+rounding_text n =
+    if n == 0 then codes "" else codes ", " ++ decimal n ++ codes " of them by rounding"
+
+-- How many vertices were joined, and how many of these by rounding.
+unfoldable pub joined_line : ℕ → ℕ → List ℕ
+joined_line joined rounded =
+    if joined == 0 then codes ""
+    else codes "prepare: vertices joined " ++ decimal joined ++ rounding_text rounded ++ codes "\n"
+
+-- What is said of polygons, and of vertices with a weight.
+unfoldable pub line_notes : Counts → List ℕ
+line_notes c = note_line (codes "polygons cut") c.polygons
+    ++ note_line (codes "weights passed over") c.weights
+
+-- What is said of the faces and places of the input, of which so many were joined by rounding.
+unfoldable pub face_notes : Counts → Notes → ℕ → List ℕ
+face_notes c notes rounded =
+    line_notes c
+    ++ joined_line notes.joined rounded
     ++ note_line (codes "faces that name a vertex twice") c.twice
     ++ note_line (codes "faces that became edges") notes.flat
     ++ note_line (codes "faces that stand twice") notes.double
@@ -99,7 +115,7 @@ warning_line (Some l) = codes "prepare: a tenth of the triangles or more became 
 -- What is said of the work: how much came out, a line for each kind of change that was made, how
 -- places lead back, and the
 -- warning, if any.
-unfoldable pub notes_text : Counts → Notes → Fit → Option LongestAxis → List ℕ
-notes_text c notes fit warning =
-    account_line c ++ face_notes c notes ++ vertex_notes notes
+unfoldable pub notes_text : Counts → Notes → ℕ → Fit → Option LongestAxis → List ℕ
+notes_text c notes rounded fit warning =
+    account_line c ++ face_notes c notes rounded ++ vertex_notes notes
     ++ note_line (codes "faces without area") c.thin ++ last_note fit ++ warning_line warning

@@ -20,6 +20,8 @@ pub struct Counts {
     pub triangles_out: u32,
     /// Faces of more than three corners.
     pub polygons: u32,
+    /// Vertices with a weight that isn't 1.
+    pub weights: u32,
     /// Triangles that name a vertex twice.
     pub twice: u32,
     /// Faces that came out without area.
@@ -41,6 +43,7 @@ pub fn counts_of(scan: &Scan, three: &[Corners], mesh: &Mesh) -> Counts
         triangles_in: scan.faces.len() as u32,
         triangles_out: mesh.faces.len() as u32,
         polygons: scan.polygons,
+        weights: scan.weights,
         twice: (scan.faces.len() as u32).saturating_sub(three.len() as u32),
         thin: count_thin(mesh.points.as_slice(), mesh.faces.as_slice()),
     }

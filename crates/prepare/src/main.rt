@@ -2,6 +2,7 @@
 #![tactic(auto)]
 
 mod account;
+mod changes;
 mod counts;
 mod fault;
 mod make;

@@ -4,9 +4,10 @@ ghost use Rattle.pm_base.specs.Meshes.{IsWellFormed, mesh_of};
 ghost use Rattle.pm_io.specs.Bytes.{AtEnd};
 ghost use Rattle.obj_scan.specs.Fails.{scanned_of};
 ghost use Rattle.obj_scan.specs.Meaning.{IsWithinLimits};
-ghost use Rattle.obj_prepare.specs.Placing.{IsSize};
-ghost use Rattle.obj_prepare.specs.Named.{IsWithinMesh};
-ghost use Rattle.prepare.specs.Outcome.{MakesPrepared, IsPreparedText, warning_for};
+ghost use Rattle.obj_prepare.specs.Placing.{IsSize, IsSized};
+ghost use Rattle.obj_prepare.specs.Named.{IsWithinMesh, of_three as of_three_in};
+ghost use Rattle.prepare.specs.Texts.{notes_text as notes_text_of};
+ghost use Rattle.prepare.specs.Outcome.{MakesPrepared, IsPreparedText, counts_of, warning_for, rounded_for};
 ghost use Rattle.prepare.specs.Making.{done_of, IsMakeFail};
 ghost use Rattle.prepare.specs.Ending.{StopsPreparing};
 
@@ -14,10 +15,11 @@ use crate::counts::counts_of;
 use crate::fault::{Fault, InputFail};
 use crate::notes::{head_line, notes_text};
 use obj_prepare::{
-    ExactPoint, Fit, LongestAxis, PrepareFail, longest_axis, of_three, place_points, prepare,
+    ExactPoint, Fit, LongestAxis, Placing, PrepareFail, Prepared, longest_axis, of_three,
+    place_points, prepare, rounded_count,
 };
 use obj_scan::{Scan, ScanFail, scan_obj};
-use pm_base::{Corners, Mesh};
+use pm_base::{Corners, Mesh, Point};
 use pm_io::Source;
 use std::alloc::{AllocError, Global};
 
@@ -53,6 +55,48 @@ fn warning_for(
     }
 }
 
+// How many vertices were joined by rounding, where so many were joined.
+fn rounded_for(
+    alloc: Global,
+    points: &[ExactPoint],
+    places: &[Point],
+    triangles: &[Corners],
+    joined: u32,
+) -> Result<u32, AllocError>
+    requires within { IsWithinMesh (length points.now) triangles.now }
+    requires placed { length places.now ≡ length points.now }
+    ensures { IfOk result (λ n. n ≡ rounded_for points.now places.now triangles.now joined) }
+{
+    if joined == 0 {
+        return Ok(0);
+    }
+    rounded_count(alloc, points, places, triangles)
+}
+
+// What is said of a mesh that was made of triangles.
+fn notes_of(
+    alloc: Global,
+    scan: &Scan,
+    three: &[Corners],
+    placing: &Placing,
+    prepared: &Prepared,
+) -> Result<Vec<u8>, AllocError>
+    requires within { IsWithinLimits (scanned_of scan.now) }
+    requires three { three.now ≡ of_three_in scan.now.faces.items }
+    requires placed { length placing.now.places.items ≡ length scan.now.points.items }
+    requires sized { IsSized placing.now.fit }
+    requires formed { IsWellFormed (mesh_of prepared.now.mesh) }
+    ensures { IfOk result (λ text. text.items ≡ notes_text_of (counts_of (scanned_of scan.now) (mesh_of prepared.now.mesh)) prepared.now.notes
+        (rounded_for scan.now.points.items placing.now.places.items three.now prepared.now.notes.joined) placing.now.fit
+        (warning_for placing.now.fit scan.now.points.items three.now prepared.now.notes.flat)) }
+{
+    let counts = counts_of(scan, three, &prepared.mesh);
+    let done = prepared.notes;
+    let rounded = rounded_for(alloc, &scan.points, &placing.places, three, done.joined)?;
+    let warning = warning_for(alloc, &placing.fit, &scan.points, three, done.flat)?;
+    notes_text(alloc, counts, &done, rounded, &placing.fit, warning)
+}
+
 // What is made of points and triangles.
 fn make_of(alloc: Global, size: Option<u32>, scan: &Scan) -> Result<Made, InputFail>
     requires size { IsSize size }
@@ -75,15 +119,10 @@ fn make_of(alloc: Global, size: Option<u32>, scan: &Scan) -> Result<Made, InputF
     if prepared.mesh.faces.as_slice().is_empty() {
         return Err(InputFail::Faulty(Fault::NoFaces));
     }
-    let counts = counts_of(scan, &three, &prepared.mesh);
-    let edges = prepared.notes.flat;
-    let Ok(warning) = warning_for(alloc, &placing.fit, &scan.points, &three, edges) else {
+    let Ok(notes) = notes_of(alloc, scan, &three, &placing, &prepared) else {
         return Err(InputFail::OutOfMemory);
     };
     let Ok(head) = head_line(alloc, &placing.fit) else {
-        return Err(InputFail::OutOfMemory);
-    };
-    let Ok(notes) = notes_text(alloc, counts, &prepared.notes, &placing.fit, warning) else {
         return Err(InputFail::OutOfMemory);
     };
     let mesh = prepared.mesh;

@@ -4,9 +4,10 @@ ghost use Rattle.pm_base.specs.Canonical.{coordinate_text};
 ghost use Rattle.pm_base.specs.declared.limits.TheConstants.{GREATEST_COORDINATE};
 ghost use Rattle.obj_prepare.specs.Back.{middle, middle_of, way_back_of};
 ghost use Rattle.obj_prepare.specs.Placing.{IsSized};
-ghost use Rattle.prepare.specs.Texts.{scale_text, middle_text, way_text, head_line as head_line_of, note_line, last_note, within_text, face_notes, vertex_notes, notes_text};
+ghost use Rattle.prepare.specs.Texts.{scale_text, middle_text, way_text, head_line as head_line_of, last_note, within_text, notes_text};
 
 use crate::account::add_account;
+use crate::changes::{add_face_notes, add_note, add_vertex_notes};
 use crate::counts::Counts;
 use crate::text::{add_coordinate, add_length, add_number};
 use crate::warning::add_warning;
@@ -119,21 +120,6 @@ pub fn head_line(alloc: Global, fit: &Fit) -> Result<Vec<u8>, AllocError>
     Ok(text)
 }
 
-// Adds the line of one kind of change, where it was made.
-#[tactic(auto, unfolding(crate::specs::Texts::note_line), using(crate::proofs::TextLaws::nothing_added))]
-fn add_note(text: &mut Vec<u8>, what: &[u8], n: u32) -> Result<(), AllocError>
-    ensures { OnOk result (text.new.items ≡ text.old.items ++ note_line what.now n) }
-{
-    if n == 0 {
-        return Ok(());
-    }
-    text.extend_from_slice(b"prepare: ")?;
-    text.extend_from_slice(what)?;
-    text.extend_from_slice(b" ")?;
-    add_number(text, u64::from(n))?;
-    text.extend_from_slice(b"\n")
-}
-
 // Half a step, rounded up: a number is divided into so many parts.
 #[tactic(auto, using(crate::proofs::TextLaws::few_parts))]
 fn rounded_up(n: u128, parts: u64) -> u128
@@ -182,45 +168,20 @@ fn add_last(text: &mut Vec<u8>, fit: &Fit) -> Result<(), AllocError>
     }
 }
 
-// Adds what is said of the faces and places of the input.
-#[tactic(auto, unfolding(crate::specs::Texts::face_notes))]
-fn add_face_notes(text: &mut Vec<u8>, counts: Counts, notes: &Notes) -> Result<(), AllocError>
-    ensures { OnOk result (text.new.items ≡ text.old.items ++ face_notes counts notes.now) }
-{
-    add_note(text, b"polygons cut", counts.polygons)?;
-    add_note(text, b"vertices joined", notes.joined)?;
-    add_note(text, b"faces that name a vertex twice", counts.twice)?;
-    add_note(text, b"faces that became edges", notes.flat)?;
-    add_note(text, b"faces that stand twice", notes.double)?;
-    add_note(text, b"faces turned", notes.turned)?;
-    Ok(())
-}
-
-// Adds what is said of what was cut and left out.
-#[tactic(auto, unfolding(crate::specs::Texts::vertex_notes))]
-fn add_vertex_notes(text: &mut Vec<u8>, notes: &Notes) -> Result<(), AllocError>
-    ensures { OnOk result (text.new.items ≡ text.old.items ++ vertex_notes notes.now) }
-{
-    add_note(text, b"sides cut open", notes.cut)?;
-    add_note(text, b"vertices split off", notes.split)?;
-    add_note(text, b"vertices that no face has", notes.unnamed)?;
-    add_note(text, b"vertices whose faces all went", notes.gone)?;
-    Ok(())
-}
-
 // Adds all that is said.
 fn add_notes(
     text: &mut Vec<u8>,
     counts: Counts,
     notes: &Notes,
+    rounded: u32,
     fit: &Fit,
     warning: Option<LongestAxis>,
 ) -> Result<(), AllocError>
     requires { IsSized fit.now }
-    ensures { OnOk result (text.new.items ≡ text.old.items ++ notes_text counts notes.now fit.now warning) }
+    ensures { OnOk result (text.new.items ≡ text.old.items ++ notes_text counts notes.now rounded fit.now warning) }
 {
     add_account(text, counts)?;
-    add_face_notes(text, counts, notes)?;
+    add_face_notes(text, counts, notes, rounded)?;
     add_vertex_notes(text, notes)?;
     add_note(text, b"faces without area", counts.thin)?;
     add_last(text, fit)?;
@@ -235,13 +196,14 @@ pub fn notes_text(
     alloc: Global,
     counts: Counts,
     notes: &Notes,
+    rounded: u32,
     fit: &Fit,
     warning: Option<LongestAxis>,
 ) -> Result<Vec<u8>, AllocError>
     requires { IsSized fit.now }
-    ensures { IfOk result (λ text. text.items ≡ notes_text counts notes.now fit.now warning) }
+    ensures { IfOk result (λ text. text.items ≡ notes_text counts notes.now rounded fit.now warning) }
 {
     let mut text = Vec::new(alloc);
-    add_notes(&mut text, counts, notes, fit, warning)?;
+    add_notes(&mut text, counts, notes, rounded, fit, warning)?;
     Ok(text)
 }

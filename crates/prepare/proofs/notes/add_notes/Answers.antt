@@ -9,7 +9,7 @@ returns c =
     added_six c.args.text.now.items c.add_account.new.text.items c.add_face_notes.new.text.items
     c.add_vertex_notes.new.text.items c.add_note.new.text.items c.add_last.new.text.items
     c.add_warning.new.text.items
-    (account_line c.args.counts) (face_notes c.args.counts c.args.notes.now)
+    (account_line c.args.counts) (face_notes c.args.counts c.args.notes.now c.args.rounded)
     (vertex_notes c.args.notes.now)
     (note_line (codes "faces without area") c.args.counts.thin) (last_note c.args.fit.now)
     (warning_line c.args.warning)

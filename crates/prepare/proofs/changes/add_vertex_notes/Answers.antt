@@ -1,6 +1,6 @@
 use Rattle.prepare.specs.Texts.{vertex_notes}
 use Rattle.prepare.proofs.TextLaws.{added_four}
-use Rattle.prepare.proofs.notes.add_vertex_notes.Goals as goal
+use Rattle.prepare.proofs.changes.add_vertex_notes.Goals as goal
 
 pub returns : goal.returns
 unfolding vertex_notes
