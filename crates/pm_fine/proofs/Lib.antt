@@ -2,6 +2,12 @@ pub mod RootLaws
 pub mod SumsBounds
 pub mod FineLaws
 pub mod LeastLaws
+mod Balance
+mod CutLaws
+mod CramerBounds
+mod CramerLaws
+mod FourthPlaces
+mod FourthRows
 mod NearLaws
 mod NormalLaws
 mod Words

@@ -1,5 +1,5 @@
 -- How far from 0 a rounded quotient can be.
-use Rattle.std.proofs.Common.{◌≡◌, ℕ, suc, ◌+◌, ◌*◌, ◌/◌, ◌<◌, ◌≤◌, inl, inr, refl, arith}
+use Rattle.std.proofs.Common.{◌≡◌, ℕ, ◌+◌, ◌*◌, ◌/◌, ◌<◌, ◌≤◌, inl, inr, refl, arith}
 use Rattle.std.specs.Prelude.{ℤ, pos, negsuc, ◌+ℤ◌, ◌*ℤ◌, unsigned_abs}
 use Rattle.std.specs.Int.{int_div_euclid}
 use Rattle.std.proofs.Math.Nat.{mul-div-le}
@@ -9,7 +9,7 @@ use borrow.Author.Differences.{ints, product_is}
 use Rattle.pm_fine.specs.Rounded.{near}
 
 -- a quotient below m
-div_less : (n d m : ℕ) → n < d * m → n / d < m
+pub div_less : (n d m : ℕ) → n < d * m → n / d < m
 div_less n d m l =
     elim (cases_lt (n / d) m) [
       | inl q ↦ q

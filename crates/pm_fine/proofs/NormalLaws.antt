@@ -1,9 +1,9 @@
 -- Normals brought to a length, from their numbers.
-use Rattle.std.proofs.Common.{◌≡◌, ℕ, ◌*◌, ◌+◌, ◌^◌, ◌<◌, ◌≤◌, ◌==◌, true, false, inl, inr, refl, sym, ◌∙◌, ap, arith}
-use Rattle.std.specs.Prelude.{ℤ, pos, ◌-ℤ◌, ◌*ℤ◌, unsigned_abs}
+use Rattle.std.proofs.Common.{◌≡◌, ℕ, ◌*◌, ◌^◌, ◌<◌, ◌==◌, false, inl, inr, refl, sym, ◌∙◌, ap, arith}
+use Rattle.std.specs.Prelude.{ℤ, pos, ◌*ℤ◌}
 use Rattle.std.proofs.lemmas.Bool.{cond-true, cond-false, cases_Bool, eqb-true, eq-eqb}
 use Rattle.pm_base.specs.Place.{Place}
-use Rattle.pm_base.specs.Geometry.{Direction, norm2_of, square_of}
+use Rattle.pm_base.specs.Geometry.{Direction, norm2_of}
 use Rattle.pm_fine.specs.Rounded.{near, root}
 use Rattle.pm_fine.specs.Normals.{no_direction, scaled, root_length, area_normal_of, fine_length, product_of, way_of, border_normal_of}
 

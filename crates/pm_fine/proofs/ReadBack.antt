@@ -1,7 +1,7 @@
 -- The eleven numbers of a new quadric, read back from their bits.
 use Rattle.std.proofs.Common.{◌≡◌, ◌+◌, ◌^◌, w64, FitsSigned, to_z, of_z, refl, ◌∙◌, ap, lit≤}
 use mir.Syntax.{w128}
-use Rattle.std.specs.Prelude.{ℤ, pos, ◌+ℤ◌, ◌*ℤ◌}
+use Rattle.std.specs.Prelude.{ℤ, pos, ◌*ℤ◌}
 use Rattle.std.proofs.lemmas.Int.{to_z-of_z}
 use Rattle.pm_quadric.specs.Planes.{Plane}
 use Rattle.pm_quadric.specs.Sums.{Sums, plus_sums, coefficients}

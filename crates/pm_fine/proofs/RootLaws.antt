@@ -1,5 +1,5 @@
 -- What roots rounded down are, and how a vector's numbers stand to its length.
-use Rattle.std.proofs.Common.{◌≡◌, ℕ, zero, suc, ◌+◌, ◌-◌, ◌*◌, ◌^◌, ◌<◌, ◌≤◌, inl, inr, refl, sym, ap, ◌∙◌, subst, arith, lit≤, lit<}
+use Rattle.std.proofs.Common.{◌≡◌, ℕ, ◌+◌, ◌-◌, ◌*◌, ◌^◌, ◌<◌, ◌≤◌, inl, inr, subst, arith}
 use Rattle.std.proofs.Math.Nat.{le_refl}
 use Rattle.std.specs.Prelude.{ℤ, ◌-ℤ◌, ◌*ℤ◌, unsigned_abs}
 use Rattle.std.proofs.lemmas.Nat.{mul-le}
@@ -8,7 +8,7 @@ use Rattle.std.proofs.lemmas.Bool.{cases_lt}
 use Rattle.pm_base.specs.Geometry.{square_of}
 use Rattle.pm_base.specs.Rounded.{root_up}
 use Rattle.pm_base.proofs.Root.{root_up_is, root_up_only}
-use Rattle.pm_base.proofs.Squares.{root_le, two_products, abs_minus}
+use Rattle.pm_base.proofs.Squares.{two_products, abs_minus}
 use Rattle.pm_fine.specs.Rounded.{root, IsRoot}
 
 root_lt : (x y : ℕ) → x * x < y * y → x < y

@@ -3,3 +3,5 @@ pub mod Normals
 pub mod FinePlanes
 pub mod FineSums
 pub mod FinePlaces
+pub mod Fourth
+pub mod FourthLaws

@@ -1,12 +1,14 @@
 //! Exact quadrics of fine planes: ten sums about the origin, as those of faces' planes, for more planes with smaller numbers.
-ghost use Rattle.std.specs.Prelude.{◌≡◌, ◌<◌, ◌≤◌, ◌+◌, ◌^◌, List, [], ◌∷◌, ◌++◌, length, unsigned_abs};
+ghost use Rattle.std.specs.Prelude.{ℕ, ◌≡◌, ◌<◌, ◌≤◌, ◌+◌, ◌^◌, List, [], ◌∷◌, ◌++◌, length, ◌+ℤ◌, ◌*ℤ◌, unsigned_abs};
 ghost use Rattle.pm_base.specs.Place.{IsPlace};
 ghost use Rattle.pm_quadric.specs.Planes.{Plane, squares_of};
 ghost use Rattle.pm_quadric.specs.Sums.{plus_sums, StandsFor};
 ghost use Rattle.pm_quadric.specs.Expanded.{squares_part, mixed_part, linear_part, polynomial};
 ghost use Rattle.pm_fine.specs.FineSums.{IsFineQuadric, StandsForFine};
+ghost use Rattle.pm_fine.specs.Fourth.{IsMatrixWithin, half, matrix_of, half_gradient};
 
 use crate::FinePlane;
+use crate::matrix::{Matrix, Vector, half};
 use crate::terms::{add_four, add_three, double, linear, pair, quadratic};
 use pm_base::Point;
 use std::marker::Model;
@@ -47,6 +49,22 @@ impl Model for FineQuadric {
     ghost invariant = { λ q. IsFineQuadric (record { xx = q.xx; xy = q.xy; xz = q.xz; x = q.x; yy = q.yy; yz = q.yz; y = q.y; zz = q.zz; z = q.z; one = q.one; count = q.count }) };
 
     ghost inverse = { λ q. record { xx = q.xx; xy = q.xy; xz = q.xz; x = q.x; yy = q.yy; yz = q.yz; y = q.y; zz = q.zz; z = q.z; one = q.one; count = q.count } };
+}
+
+// Half the slope along an axis at a place, from a row of the matrix and the sum of that axis alone.
+fn half_slope(a: i128, b: i128, c: i128, sum: i128, m: Point) -> i128
+    requires a_small { unsigned_abs a ≤ 2 ^ 79 }
+    requires b_small { unsigned_abs b ≤ 2 ^ 79 }
+    requires c_small { unsigned_abs c ≤ 2 ^ 79 }
+    requires sum_small { unsigned_abs sum ≤ 2 ^ 96 }
+    ensures { result ≡ a *ℤ m.x +ℤ b *ℤ m.y +ℤ c *ℤ m.z +ℤ half sum }
+{
+    add_four(
+        linear(a, m.x()),
+        linear(b, m.y()),
+        linear(c, m.z()),
+        half(sum),
+    )
 }
 
 impl FineQuadric {
@@ -194,5 +212,33 @@ impl FineQuadric {
         ensures small { result < 2 ^ 114 }
     {
         self.polynomial_at(p).unsigned_abs()
+    }
+
+    // The matrix of its terms with two coordinates.
+    pub(crate) fn matrix(&self) -> Matrix
+        ensures value { result ≡ matrix_of self.now }
+        ensures small { IsMatrixWithin (2 ^ 79) result }
+        ensures balanced { (m : ℕ) → unsigned_abs result.xx ≤ m → unsigned_abs result.yy ≤ m → unsigned_abs result.zz ≤ m → IsMatrixWithin m result }
+    {
+        Matrix {
+            xx: self.xx,
+            xy: half(self.xy),
+            xz: half(self.xz),
+            yy: self.yy,
+            yz: half(self.yz),
+            zz: self.zz,
+        }
+    }
+
+    // Half the gradient of its value at a place.
+    pub(crate) fn half_gradient(&self, m: Point) -> Vector
+        ensures { result ≡ half_gradient self.now m }
+    {
+        let a = self.matrix();
+        Vector {
+            x: half_slope(a.xx, a.xy, a.xz, self.x, m),
+            y: half_slope(a.xy, a.yy, a.yz, self.y, m),
+            z: half_slope(a.xz, a.yz, a.zz, self.z, m),
+        }
     }
 }

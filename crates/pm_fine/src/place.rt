@@ -6,8 +6,10 @@ ghost use Rattle.pm_quadric.specs.Planes.{Plane, squares_of};
 ghost use Rattle.pm_quadric.specs.Sums.{StandsFor};
 ghost use Rattle.pm_quadric.specs.Candidates.{midpoint};
 ghost use Rattle.pm_fine.specs.FinePlaces.{lesser, others_of, fine_place_of, IsLeastOf};
+ghost use Rattle.pm_fine.specs.Fourth.{best_fine_place_of};
 
 use crate::FineQuadric;
+use crate::fourth::fourth_place;
 use pm_base::Point;
 
 // Half the sum of two coordinates, rounded down.
@@ -68,4 +70,14 @@ pub fn least_place(q: &FineQuadric, t: Point, u: Point, fourth: Option<Point>) -
     ensures small { result.1 < 2 ^ 114 }
 {
     first_least(q, t, u, fourth)
+}
+
+/// The first of t, u, their midpoint and the fourth candidate, if there is one, at which the
+/// quadric's value is least, and that value.
+pub fn best_fine_place(q: &FineQuadric, t: Point, u: Point) -> (Point, u128)
+    ensures place { (fs : List Plane) → StandsFor q.now fs → result.0 ≡ best_fine_place_of fs t u }
+    ensures value { (fs : List Plane) → StandsFor q.now fs → result.1 ≡ squares_of fs result.0 }
+    ensures small { result.1 < 2 ^ 114 }
+{
+    least_place(q, t, u, fourth_place(q, t, u))
 }

@@ -1,5 +1,4 @@
-use Rattle.std.proofs.Common.{◌∙◌, ap, arith}
-use Rattle.pm_fine.specs.Rounded.{root}
+use Rattle.std.proofs.Common.{arith}
 use Rattle.pm_fine.proofs.RootLaws.{twice_small, twice_some, twice_reaches}
 use Rattle.pm_fine.proofs.area.root_length.Goals as goal
 

@@ -1,4 +1,4 @@
-use Rattle.std.proofs.Common.{rules, arith}
+use Rattle.std.proofs.Common.{rules}
 use Rattle.pm_fine.proofs.NearLaws.{near_small}
 use Rattle.pm_fine.proofs.rounding.near.Goals as goal
 
