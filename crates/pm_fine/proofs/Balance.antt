@@ -1,4 +1,5 @@
--- The mixed sums of a list of planes are no greater than those of squares: twice a product is at most the sum of both squares.
+-- The mixed sums of a list of planes are no greater than those of squares: twice a product is at
+-- most the sum of both squares.
 use Rattle.std.proofs.Common.{◌≡◌, ◌+◌, ◌*◌, ◌≤◌, List, [], ◌∷◌, refl, arith}
 use Rattle.std.specs.Prelude.{ℤ, pos, ◌+ℤ◌, ◌*ℤ◌, unsigned_abs}
 use Rattle.std.proofs.lemmas.Int.{unsigned_abs-mul}
@@ -15,14 +16,17 @@ pub record IsBalanced (s : Sums) : Type 0 where
   pub xz : unsigned_abs s.xz ≤ unsigned_abs s.xx + unsigned_abs s.zz
   pub yz : unsigned_abs s.yz ≤ unsigned_abs s.yy + unsigned_abs s.zz
 
-square_more : (a x : ℤ) → x ≡ pos (unsigned_abs x) → unsigned_abs (a *ℤ a +ℤ x) ≡ unsigned_abs a * unsigned_abs a + unsigned_abs x
+square_more : (a x : ℤ) → x ≡ pos (unsigned_abs x)
+    → unsigned_abs (a *ℤ a +ℤ x) ≡ unsigned_abs a * unsigned_abs a + unsigned_abs x
 square_more a x h = rw (square_is a) (omega (arith, ints))
 
 not_below : (a x : ℤ) → x ≡ pos (unsigned_abs x) → a *ℤ a +ℤ x ≡ pos (unsigned_abs (a *ℤ a +ℤ x))
 not_below a x h = rw (square_is a) (omega (arith, ints))
 
-mixed_more : (a b x y z : ℤ) → x ≡ pos (unsigned_abs x) → y ≡ pos (unsigned_abs y) → unsigned_abs z ≤ unsigned_abs x + unsigned_abs y
-    → unsigned_abs (pos 2 *ℤ (a *ℤ b) +ℤ z) ≤ unsigned_abs (a *ℤ a +ℤ x) + unsigned_abs (b *ℤ b +ℤ y)
+mixed_more : (a b x y z : ℤ) → x ≡ pos (unsigned_abs x) → y ≡ pos (unsigned_abs y)
+    → unsigned_abs z ≤ unsigned_abs x + unsigned_abs y
+    → unsigned_abs (pos 2 *ℤ (a *ℤ b) +ℤ z)
+    ≤ unsigned_abs (a *ℤ a +ℤ x) + unsigned_abs (b *ℤ b +ℤ y)
 mixed_more a b x y z p q h =
     omega (
       arith,
@@ -45,5 +49,12 @@ more f s h = record {
 }
 
 pub balanced : (fs : List Plane) → IsBalanced (sums_of fs)
-balanced [] = record { xx = refl; yy = refl; zz = refl; xy = omega arith; xz = omega arith; yz = omega arith }
+balanced [] = record {
+  xx = refl;
+  yy = refl;
+  zz = refl;
+  xy = omega arith;
+  xz = omega arith;
+  yz = omega arith;
+}
 balanced (f ∷ fs) = more f (sums_of fs) (balanced fs)

@@ -18,7 +18,8 @@ regrouped k l m a b c d e f x y z =
     (rw (diff-of f, diff-of x, diff-of y, diff-of z)
     (simp (add-diff, mul-diff) (diff_same _ _ _ _ (omega arith))))
 
--- The products of two different rows are 0, and those of a row with its own cofactors the determinant.
+-- The product of a row and the cofactors of another is 0, and that of a row and its own is the
+-- determinant.
 apart_1 : (b c d e f : ℤ)
     → b *ℤ (d *ℤ f -ℤ e *ℤ e) +ℤ d *ℤ (c *ℤ e -ℤ b *ℤ f) +ℤ e *ℤ (b *ℤ e -ℤ c *ℤ d) ≡ pos 0
 apart_1 b c d e f =
@@ -85,25 +86,34 @@ only_z p x y z =
     rw (diff-of p, diff-of x, diff-of y, diff-of z, pos_is_diff 0)
     (simp (add-diff, mul-diff) (diff_same _ _ _ _ (omega arith)))
 
-x_is : (a : Matrix) (u : Vector) → (times_of (cofactors_of a) (times_of a u)).x ≡ determinant_of a *ℤ u.x
+abbrev solved : Matrix → Vector → Vector
+solved a u = times_of (cofactors_of a) (times_of a u)
+
+x_is : (a : Matrix) (u : Vector) → (solved a u).x ≡ determinant_of a *ℤ u.x
 x_is a u =
     let c : Matrix = cofactors_of a in
+    let one = apart_1 a.xy a.xz a.yy a.yz a.zz in
+    let other = apart_2 a.xy a.xz a.yy a.yz a.zz in
     regrouped c.xx c.xy c.xz a.xx a.xy a.xz a.yy a.yz a.zz u.x u.y u.z
-    ∙ (rw (apart_1 a.xy a.xz a.yy a.yz a.zz, apart_2 a.xy a.xz a.yy a.yz a.zz) (only_x (determinant_of a) u.x u.y u.z))
+    ∙ (rw (one, other) (only_x (determinant_of a) u.x u.y u.z))
 
-y_is : (a : Matrix) (u : Vector) → (times_of (cofactors_of a) (times_of a u)).y ≡ determinant_of a *ℤ u.y
+y_is : (a : Matrix) (u : Vector) → (solved a u).y ≡ determinant_of a *ℤ u.y
 y_is a u =
     let c : Matrix = cofactors_of a in
+    let one = apart_3 a.xx a.xy a.xz a.yz a.zz in
+    let other = apart_4 a.xx a.xy a.xz a.yz a.zz in
+    let own = second a.xx a.xy a.xz a.yy a.yz a.zz in
     regrouped c.xy c.yy c.yz a.xx a.xy a.xz a.yy a.yz a.zz u.x u.y u.z
-    ∙ (rw (apart_3 a.xx a.xy a.xz a.yz a.zz, apart_4 a.xx a.xy a.xz a.yz a.zz, second a.xx a.xy a.xz a.yy a.yz a.zz)
-    (only_y (determinant_of a) u.x u.y u.z))
+    ∙ (rw (one, other, own) (only_y (determinant_of a) u.x u.y u.z))
 
-z_is : (a : Matrix) (u : Vector) → (times_of (cofactors_of a) (times_of a u)).z ≡ determinant_of a *ℤ u.z
+z_is : (a : Matrix) (u : Vector) → (solved a u).z ≡ determinant_of a *ℤ u.z
 z_is a u =
     let c : Matrix = cofactors_of a in
+    let one = apart_5 a.xx a.xy a.xz a.yy a.yz in
+    let other = apart_6 a.xx a.xy a.xz a.yy a.yz in
+    let own = third a.xx a.xy a.xz a.yy a.yz a.zz in
     regrouped c.xz c.yz c.zz a.xx a.xy a.xz a.yy a.yz a.zz u.x u.y u.z
-    ∙ (rw (apart_5 a.xx a.xy a.xz a.yy a.yz, apart_6 a.xx a.xy a.xz a.yy a.yz, third a.xx a.xy a.xz a.yy a.yz a.zz)
-    (only_z (determinant_of a) u.x u.y u.z))
+    ∙ (rw (one, other, own) (only_z (determinant_of a) u.x u.y u.z))
 
 pub cofactors_solve : CofactorsSolve
 cofactors_solve a u = rw (x_is a u, y_is a u, z_is a u) refl

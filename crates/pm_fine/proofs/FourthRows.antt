@@ -6,4 +6,11 @@ use Rattle.pm_fine.specs.FourthLaws.{AreFourthPlaces}
 
 pub fourth_places : AreFourthPlaces
 unfolding fourth_place_of count_leading_zeros
-fourth_places = record { meeting = refl; between = refl; long = refl; along_a_line = refl; near = refl; far = refl }
+fourth_places = record {
+  meeting = refl;
+  between = refl;
+  long = refl;
+  along_a_line = refl;
+  near = refl;
+  far = refl;
+}

@@ -120,14 +120,15 @@ moved_by m n d = record {
 abbrev pub placed : Place → Option Place
 placed p = if is_place p then Some p else None
 
--- m moved by n / d, where no number of that is further from 0 than 4 reach + 1. The divisor keeps
--- its first 42 digits.
+-- No number of n / d is further from 0 than 4 reach + 1, where d is above 0.
+abbrev pub is_near : ℕ → Vector → ℤ → Bool
+is_near reach n d = int_lt (pos 0) d && is_within ((4 * reach + 1) * unsigned_abs d) n
+
+-- m moved by n / d, where that is near. The divisor keeps its first 42 digits.
 abbrev pub quotients_place : Place → ℕ → Vector → ℤ → Option Place
 quotients_place m reach n d =
     let k = digits_above 42 (unsigned_abs d) in
-    if int_lt (pos 0) d && is_within ((4 * reach + 1) * unsigned_abs d) n
-    then placed (moved_by m (short k n) (unsigned_abs d / 2 ^ k))
-    else None
+    if is_near reach n d then placed (moved_by m (short k n) (unsigned_abs d / 2 ^ k)) else None
 
 -- m moved by the x with A x = - g, by Cramer's rule: the product of the cofactors and - g, by the
 -- determinant. None where g has more than 52 digits.

@@ -29,7 +29,8 @@ plane a b c d = record { a = a; b = b; c = c; d = d }
 
 -- The fourth candidate of (0, 0, 0) and (4, 0, 4).
 abbrev pub fourth_by : List Plane → Option Place
-fourth_by fs = fourth_place_of (sums_of fs) (at (pos 0) (pos 0) (pos 0)) (at (pos 4) (pos 0) (pos 4))
+fourth_by fs =
+    fourth_place_of (sums_of fs) (at (pos 0) (pos 0) (pos 0)) (at (pos 4) (pos 0) (pos 4))
 
 -- x = 2, y = -1 and 3 x + z = 9 meet in one point. The number -1 is negsuc 0.
 abbrev pub meeting : List Plane

@@ -218,7 +218,8 @@ impl FineQuadric {
     pub(crate) fn matrix(&self) -> Matrix
         ensures value { result ≡ matrix_of self.now }
         ensures small { IsMatrixWithin (2 ^ 79) result }
-        ensures balanced { (m : ℕ) → unsigned_abs result.xx ≤ m → unsigned_abs result.yy ≤ m → unsigned_abs result.zz ≤ m → IsMatrixWithin m result }
+        ensures balanced { (m : ℕ) → unsigned_abs result.xx ≤ m → unsigned_abs result.yy ≤ m
+            → unsigned_abs result.zz ≤ m → IsMatrixWithin m result }
     {
         Matrix {
             xx: self.xx,

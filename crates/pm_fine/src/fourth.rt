@@ -1,14 +1,15 @@
 //! The fourth candidate for the place of a pair: about where the quadric is least of all places.
 //! Garland and Heckbert (1997) solve for that place. Here numbers are cut to so few digits that 128
 //! bits hold each product, and the place is rounded to the grid.
-ghost use Rattle.std.specs.Prelude.{◌≡◌, true, ◌<◌, ◌≤◌, ◌+◌, ◌*◌, ◌/◌, ◌^◌, ◌+ℤ◌, ◌&&◌, pos, int_lt, unsigned_abs, List};
+ghost use Rattle.std.specs.Prelude.{◌≡◌, true, ◌<◌, ◌≤◌, ◌+◌, ◌*◌, ◌^◌, ◌+ℤ◌, unsigned_abs, List};
 ghost use Rattle.std.specs.Int.{int_shr};
 ghost use Rattle.pm_base.specs.declared.limits.TheConstants.{GREATEST_COORDINATE};
 ghost use Rattle.pm_quadric.specs.Planes.{Plane};
 ghost use Rattle.pm_quadric.specs.Sums.{sums_of, StandsFor};
 ghost use Rattle.pm_fine.specs.Rounded.{near};
+ghost use Rattle.pm_fine.specs.Fourth.{IsMatrixWithin, IsVectorWithin, is_near, apart_of, placed};
+ghost use Rattle.pm_fine.specs.Fourth.{quotients_place, solved_place, fourth_place_of};
 ghost use Rattle.pm_fine.specs.FourthLaws.{CofactorsSolve, FourthIsAPlace, AreFourthPlaces};
-ghost use Rattle.pm_fine.specs.Fourth.{IsMatrixWithin, IsVectorWithin, is_within, apart_of, placed, quotients_place, solved_place, fourth_place_of};
 
 use crate::FineQuadric;
 use crate::matrix::{Matrix, Vector, digits_above, short};
@@ -62,7 +63,7 @@ fn quotient(a: i128, digits: u32, divisor: u64) -> i32
 fn is_near(reach: u32, n: &Vector, det: i128) -> bool
     requires reach { reach ≤ 65534 }
     requires small { unsigned_abs det < 2 ^ 102 }
-    ensures value { result ≡ (int_lt (pos 0) det && is_within ((4 * reach + 1) * unsigned_abs det) n.now) }
+    ensures value { result ≡ is_near reach n.now det }
     ensures some { result ≡ true → 0 < unsigned_abs det }
     ensures bounds { result ≡ true → IsVectorWithin (262137 * unsigned_abs det) n.now }
 {
@@ -103,10 +104,10 @@ fn solved_place(m: Point, reach: u32, a: &Matrix, g: &Vector) -> Option<Point>
     quotients_place(m, reach, &n, det)
 }
 
-/// About where a quadric is least of all places: the fourth candidate for the place of the pair of t
-/// and u. None where the planes are square to no three directions, where the place is further from
-/// the midpoint than four times the ends and one, or outside of the grid, and where the value rises
-/// too steeply at the midpoint.
+/// About where a quadric's value is least of all places: the fourth candidate for the place of the
+/// pair of t and u. There is none where the determinant is not above 0, as that of planes along one
+/// line; where that place is further from the midpoint than four times the ends and one, or no point
+/// of the grid; and where the value is too steep at the midpoint. It takes no loop and no memory.
 pub fn fourth_place(q: &FineQuadric, t: Point, u: Point) -> Option<Point>
     ensures value { result ≡ fourth_place_of q.now t u }
     ensures lists { (fs : List Plane) → StandsFor q.now fs → result ≡ fourth_place_of (sums_of fs) t u }

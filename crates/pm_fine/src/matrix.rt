@@ -1,8 +1,10 @@
 //! Symmetric matrices of three rows and vectors of three numbers, and what Cramer's rule takes of
 //! them.
-ghost use Rattle.std.specs.Prelude.{ℕ, ◌≡◌, true, ◌<◌, ◌≤◌, ◌+◌, ◌-◌, ◌*◌, ◌/◌, ◌^◌, ◌-ℤ◌, ◌+ℤ◌, ◌*ℤ◌, unsigned_abs};
+ghost use Rattle.std.specs.Prelude.{ℕ, ◌≡◌, true, ◌<◌, ◌≤◌, ◌+◌, ◌-◌, ◌*◌, ◌/◌, ◌^◌};
+ghost use Rattle.std.specs.Prelude.{◌-ℤ◌, ◌+ℤ◌, ◌*ℤ◌, unsigned_abs};
 ghost use Rattle.std.specs.Int.{int_shr};
-ghost use Rattle.pm_fine.specs.Fourth.{half, digits_above, matrix_digits, short_matrix, short, cofactors_of, determinant_of, times_of, is_within, reversed};
+ghost use Rattle.pm_fine.specs.Fourth.{half, digits_above, matrix_digits, short_matrix, short};
+ghost use Rattle.pm_fine.specs.Fourth.{cofactors_of, determinant_of, times_of, is_within, reversed};
 ghost use Rattle.pm_fine.specs.Fourth.{IsMatrixWithin, IsVectorWithin};
 
 use crate::terms::add_three;

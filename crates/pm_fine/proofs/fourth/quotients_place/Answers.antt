@@ -1,25 +1,27 @@
-use Rattle.std.proofs.Common.{ℕ, ◌≡◌, true, ◌+◌, ◌*◌, ◌/◌, ◌^◌, w32, to_z, of_z, ap, rules}
-use Rattle.std.specs.Prelude.{pos, int_lt, ◌&&◌, unsigned_abs}
+use Rattle.std.proofs.Common.{ℕ, ◌≡◌, true, ◌/◌, ◌^◌, w32, to_z, of_z, ap, rules}
+use Rattle.std.specs.Prelude.{unsigned_abs}
 use Rattle.std.specs.Int.{int_shr}
 use Rattle.pm_fine.specs.declared.matrix.Vector.{Vector}
 use Rattle.pm_fine.specs.Rounded.{near}
-use Rattle.pm_fine.specs.Fourth.{is_within, digits_above}
+use Rattle.pm_fine.specs.Fourth.{is_near, digits_above}
 use Rattle.pm_fine.proofs.FourthPlaces.{quotients_is}
 use Rattle.pm_fine.proofs.fourth.quotients_place.Goals as goal
 
 pub returns : goal.returns
 returns c =
     let n : Vector = c.args.n.now in
+    let det = c.args.det in
     let k = c.digits_above-digits.result in
     let d = c.unsigned_abs-size.result / 2 ^ k in
     let x = to_z w32 (of_z w32 c.quotient-x.result) in
     let y = to_z w32 (of_z w32 c.quotient-y.result) in
     let z = to_z w32 (of_z w32 c.quotient-z.result) in
-    let test : (int_lt (pos 0) c.args.det && is_within ((4 * c.args.reach + 1) * unsigned_abs c.args.det) n) ≡ true = search rules in
-    let size : c.unsigned_abs-size.result ≡ unsigned_abs c.args.det = search rules in
-    let ek : k ≡ digits_above 42 (unsigned_abs c.args.det) = search rules in
-    let ed : d ≡ unsigned_abs c.args.det / 2 ^ k = ap (λ (v : ℕ). v / 2 ^ k) size in
+    let test : is_near c.args.reach n det ≡ true = search rules in
+    let size : c.unsigned_abs-size.result ≡ unsigned_abs det = search rules in
+    let ek : k ≡ digits_above 42 (unsigned_abs det) = search rules in
+    let ed : d ≡ unsigned_abs det / 2 ^ k = ap (λ (v : ℕ). v / 2 ^ k) size in
     let ex : x ≡ near (int_shr n.x k) d = search rules in
     let ey : y ≡ near (int_shr n.y k) d = search rules in
     let ez : z ≡ near (int_shr n.z k) d = search rules in
-    quotients_is c.args.m c.args.reach n c.args.det k d x y z c.moved.result test ek ed ex ey ez c.moved.ensures
+    quotients_is c.args.m c.args.reach n det k d x y z c.moved.result test ek ed ex ey ez
+    c.moved.ensures

@@ -9,4 +9,5 @@ returns-clause-value c = search rules
 
 pub returns-clause-within : goal.returns-clause-within
 returns-clause-within c m h =
-    subst (λ (a : Matrix). IsMatrixWithin m a) (sym (returns-clause-value c)) (matrix_short c.args.self.now c.args.digits m h)
+    let short_is = matrix_short c.args.self.now c.args.digits m h in
+    subst (λ (a : Matrix). IsMatrixWithin m a) (sym (returns-clause-value c)) short_is
