@@ -8,6 +8,7 @@ mod CramerBounds
 mod CramerLaws
 mod FourthPlaces
 mod FourthRows
+mod LevelLaws
 mod NearLaws
 mod NormalLaws
 mod Words

@@ -1,11 +1,21 @@
--- What the definition of the fourth candidate gives: a law, and rows worked by hand.
-use Rattle.std.specs.Prelude.{◌≡◌, ℤ, pos, negsuc, ◌*ℤ◌, List, [], ◌∷◌, Option, None, Some, IfSome}
+-- What the definition of the fourth candidate gives: laws, and rows worked by hand.
+use Rattle.std.specs.Prelude.{◌≡◌, ◌≤◌, ℤ, pos, negsuc, ◌*ℤ◌, List, [], ◌∷◌, Option, None, Some, IfSome}
 use Rattle.pm_base.specs.Place.{Place, IsPlace}
-use Rattle.pm_quadric.specs.Planes.{Plane}
+use Rattle.pm_quadric.specs.Planes.{Plane, squares_of}
 use Rattle.pm_quadric.specs.Sums.{Sums, sums_of}
 use Rattle.pm_fine.specs.declared.matrix.Matrix.{Matrix}
 use Rattle.pm_fine.specs.declared.matrix.Vector.{Vector}
-use Rattle.pm_fine.specs.Fourth.{times_of, cofactors_of, determinant_of, fourth_place_of}
+use Rattle.pm_fine.specs.Fourth.{half_gradient, times_of, cofactors_of, determinant_of}
+use Rattle.pm_fine.specs.Fourth.{fourth_place_of}
+
+abbrev pub no_vector : Vector
+no_vector = record { x = pos 0; y = pos 0; z = pos 0 }
+
+-- Where its gradient is 0 a value is least of all places.
+abbrev pub LeastWhereLevel : Type 0
+LeastWhereLevel =
+    (fs : List Plane) (p q : Place) → half_gradient (sums_of fs) p ≡ no_vector →
+    squares_of fs p ≤ squares_of fs q
 
 -- k u
 abbrev pub multiplied : ℤ → Vector → Vector

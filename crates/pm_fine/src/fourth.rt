@@ -9,7 +9,7 @@ ghost use Rattle.pm_quadric.specs.Sums.{sums_of, StandsFor};
 ghost use Rattle.pm_fine.specs.Rounded.{near};
 ghost use Rattle.pm_fine.specs.Fourth.{IsMatrixWithin, IsVectorWithin, is_near, apart_of, placed};
 ghost use Rattle.pm_fine.specs.Fourth.{quotients_place, solved_place, fourth_place_of};
-ghost use Rattle.pm_fine.specs.FourthLaws.{CofactorsSolve, FourthIsAPlace, AreFourthPlaces};
+ghost use Rattle.pm_fine.specs.FourthLaws.{LeastWhereLevel, CofactorsSolve, FourthIsAPlace, AreFourthPlaces};
 
 use crate::FineQuadric;
 use crate::matrix::{Matrix, Vector, digits_above, short};
@@ -105,9 +105,9 @@ fn solved_place(m: Point, reach: u32, a: &Matrix, g: &Vector) -> Option<Point>
 }
 
 /// About where a quadric's value is least of all places: the fourth candidate for the place of the
-/// pair of t and u. There is none where the determinant is not above 0, as that of planes along one
-/// line; where that place is further from the midpoint than four times the ends and one, or no point
-/// of the grid; and where the value is too steep at the midpoint. It takes no loop and no memory.
+/// pair of t and u. There is none where the determinant is not above 0, as for planes along one line;
+/// where that place is no point of the grid, or further from the midpoint than four times the ends
+/// and one; and where the value is too steep at the midpoint. It takes no loop and no memory.
 pub fn fourth_place(q: &FineQuadric, t: Point, u: Point) -> Option<Point>
     ensures value { result ≡ fourth_place_of q.now t u }
     ensures lists { (fs : List Plane) → StandsFor q.now fs → result ≡ fourth_place_of (sums_of fs) t u }
@@ -120,9 +120,11 @@ pub fn fourth_place(q: &FineQuadric, t: Point, u: Point) -> Option<Point>
     solved_place(m, reach, &matrix.short(digits), &gradient)
 }
 
-/// What the definition of the fourth candidate gives; it takes no step. The cofactors solve by
-/// Cramer's rule, each fourth candidate is a place, and there are rows worked by hand.
+/// What the definition of the fourth candidate gives; it takes no step. Where the gradient is 0 the
+/// value is least, the cofactors solve by Cramer's rule, each fourth candidate is a place, and there
+/// are rows worked by hand.
 pub fn fourth_places_are_sound()
+    ensures least { LeastWhereLevel }
     ensures rule { CofactorsSolve }
     ensures places { FourthIsAPlace }
     ensures rows { AreFourthPlaces }
