@@ -6,7 +6,8 @@ use Rattle.pm_base.proofs.Range.{abs_product}
 use Rattle.pm_quadric.specs.Sums.{Sums}
 use Rattle.pm_fine.specs.declared.matrix.Matrix.{Matrix}
 use Rattle.pm_fine.specs.FineSums.{IsFineSmall, IsFineQuadric}
-use Rattle.pm_fine.specs.Fourth.{IsMatrixWithin, half, matrix_of, short_matrix}
+use Rattle.pm_fine.specs.Within.{IsMatrixWithin}
+use Rattle.pm_fine.specs.Fourth.{half, matrix_of, short_matrix}
 use Rattle.pm_fine.proofs.Balance.{IsBalanced, balanced}
 use Rattle.pm_fine.proofs.CutLaws.{half_within, short_within}
 

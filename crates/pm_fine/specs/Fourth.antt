@@ -1,8 +1,9 @@
 -- The fourth candidate for the place of a pair: about where a quadric is least of all places, by
 -- Cramer's rule (Garland and Heckbert 1997 solve for that place). Numbers lose last binary digits,
 -- so that each product fits in 128 bits. What is found is compared exactly with the other three
--- candidates, so it need not be exact.
-use Rattle.std.specs.Prelude.{ℕ, ◌≤◌, ◌+◌, ◌-◌, ◌*◌, ◌/◌, ◌^◌, Bool, nat_le, max, ◌&&◌}
+-- candidates, so it need not be exact. With 33 digits of the matrix and 52 of the gradient products
+-- stay below 2 ^ 121, and with 42 of the determinant the last quotients need only 64 bits.
+use Rattle.std.specs.Prelude.{ℕ, ◌+◌, ◌-◌, ◌*◌, ◌/◌, ◌^◌, Bool, nat_le, max, ◌&&◌}
 use Rattle.std.specs.Prelude.{if◌then◌else◌, ℤ, pos, neg_ℤ, ◌+ℤ◌, ◌-ℤ◌, ◌*ℤ◌, int_lt}
 use Rattle.std.specs.Prelude.{unsigned_abs, List, Option, None, Some}
 use Rattle.std.specs.Int.{w128, leading_zeros, int_div_euclid, int_shr}
@@ -70,15 +71,6 @@ abbrev pub matrix_digits : Matrix → ℕ
 matrix_digits a =
     digits_above 33 (max (max (unsigned_abs a.xx) (unsigned_abs a.yy)) (unsigned_abs a.zz))
 
--- No number of a matrix, or of a vector, is further from 0 than m.
-abbrev pub IsMatrixWithin : ℕ → Matrix → Type 0
-IsMatrixWithin m a =
-    (unsigned_abs a.xx ≤ m) × (unsigned_abs a.xy ≤ m) × (unsigned_abs a.xz ≤ m) ×
-    (unsigned_abs a.yy ≤ m) × (unsigned_abs a.yz ≤ m) × (unsigned_abs a.zz ≤ m)
-
-abbrev pub IsVectorWithin : ℕ → Vector → Type 0
-IsVectorWithin m u = (unsigned_abs u.x ≤ m) × (unsigned_abs u.y ≤ m) × (unsigned_abs u.z ≤ m)
-
 -- The cofactors of a symmetric matrix, and its determinant by those of the first row.
 abbrev pub cofactors_of : Matrix → Matrix
 cofactors_of a = record {
@@ -94,6 +86,7 @@ abbrev pub determinant_of : Matrix → ℤ
 determinant_of a =
     let c = cofactors_of a in a.xx *ℤ c.xx +ℤ a.xy *ℤ c.xy +ℤ a.xz *ℤ c.xz
 
+-- No number of a vector is further from 0 than m.
 abbrev pub is_within : ℕ → Vector → Bool
 is_within m u =
     nat_le (unsigned_abs u.x) m && nat_le (unsigned_abs u.y) m && nat_le (unsigned_abs u.z) m

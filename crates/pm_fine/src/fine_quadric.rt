@@ -5,7 +5,8 @@ ghost use Rattle.pm_quadric.specs.Planes.{Plane, squares_of};
 ghost use Rattle.pm_quadric.specs.Sums.{plus_sums, StandsFor};
 ghost use Rattle.pm_quadric.specs.Expanded.{squares_part, mixed_part, linear_part, polynomial};
 ghost use Rattle.pm_fine.specs.FineSums.{IsFineQuadric, StandsForFine};
-ghost use Rattle.pm_fine.specs.Fourth.{IsMatrixWithin, half, matrix_of, half_gradient};
+ghost use Rattle.pm_fine.specs.Within.{IsMatrixWithin};
+ghost use Rattle.pm_fine.specs.Fourth.{half, matrix_of, half_gradient};
 
 use crate::FinePlane;
 use crate::matrix::{Matrix, Vector, half};

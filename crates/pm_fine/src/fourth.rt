@@ -7,7 +7,8 @@ ghost use Rattle.pm_base.specs.declared.limits.TheConstants.{GREATEST_COORDINATE
 ghost use Rattle.pm_quadric.specs.Planes.{Plane};
 ghost use Rattle.pm_quadric.specs.Sums.{sums_of, StandsFor};
 ghost use Rattle.pm_fine.specs.Rounded.{near};
-ghost use Rattle.pm_fine.specs.Fourth.{IsMatrixWithin, IsVectorWithin, is_near, apart_of, placed};
+ghost use Rattle.pm_fine.specs.Within.{IsMatrixWithin, IsVectorWithin};
+ghost use Rattle.pm_fine.specs.Fourth.{is_near, apart_of, placed};
 ghost use Rattle.pm_fine.specs.Fourth.{quotients_place, solved_place, fourth_place_of};
 ghost use Rattle.pm_fine.specs.FourthLaws.{LeastWhereLevel, CofactorsSolve, FourthIsAPlace, AreFourthPlaces};
 

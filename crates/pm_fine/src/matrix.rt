@@ -5,7 +5,7 @@ ghost use Rattle.std.specs.Prelude.{◌-ℤ◌, ◌+ℤ◌, ◌*ℤ◌, unsigned
 ghost use Rattle.std.specs.Int.{int_shr};
 ghost use Rattle.pm_fine.specs.Fourth.{half, digits_above, matrix_digits, short_matrix, short};
 ghost use Rattle.pm_fine.specs.Fourth.{cofactors_of, determinant_of, times_of, is_within, reversed};
-ghost use Rattle.pm_fine.specs.Fourth.{IsMatrixWithin, IsVectorWithin};
+ghost use Rattle.pm_fine.specs.Within.{IsMatrixWithin, IsVectorWithin};
 
 use crate::terms::add_three;
 

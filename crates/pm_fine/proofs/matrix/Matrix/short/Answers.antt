@@ -1,6 +1,6 @@
 use Rattle.std.proofs.Common.{sym, subst, rules}
 use Rattle.pm_fine.specs.declared.matrix.Matrix.{Matrix}
-use Rattle.pm_fine.specs.Fourth.{IsMatrixWithin}
+use Rattle.pm_fine.specs.Within.{IsMatrixWithin}
 use Rattle.pm_fine.proofs.CramerBounds.{matrix_short}
 use Rattle.pm_fine.proofs.matrix.Matrix.short.Goals as goal
 
