@@ -5,7 +5,7 @@ use Rattle.std.proofs.Common.{refl, sym, ap, ◌∙◌}
 use Rattle.std.specs.Prelude.{ℤ, pos, ◌+ℤ◌, int_lt, nat_le, ◌&&◌, cond, unsigned_abs}
 use Rattle.std.specs.Prelude.{Option, None, Some, IfSome, OnSome, IfNone}
 use Rattle.std.specs.Int.{int_shr}
-use Rattle.std.proofs.lemmas.Bool.{cond-true, cond-false, leb-true}
+use Rattle.std.proofs.lemmas.Bool.{cond-true, cond-false, and_parts, leb-true}
 use Rattle.pm_base.specs.declared.limits.TheConstants.{GREATEST_COORDINATE}
 use Rattle.pm_base.specs.Place.{Place, IsPlace, is_place}
 use Rattle.pm_quadric.specs.Sums.{Sums}
@@ -62,23 +62,12 @@ fourth_is s t u m reach k a b g h o em er ea ek eb eg eh eo =
     eo ∙ rw (eh, eg, eb, ek, ea, er, em) refl
 
 -- Each fourth candidate is a place.
-first_of : (a b : Bool) → (a && b) ≡ true → a ≡ true
-first_of true b h = refl
-first_of false b h = h
-
-second_of : (a b : Bool) → (a && b) ≡ true → b ≡ true
-second_of true b h = h
-second_of false true h = refl
-second_of false false h = h
-
 three_are : (a b c m : ℕ) → (nat_le a m && nat_le b m && nat_le c m) ≡ true
     → (a ≤ m) × (b ≤ m) × (c ≤ m)
 three_are a b c m h =
-    let ab = first_of (nat_le a m && nat_le b m) (nat_le c m) h in (
-      leb-true a m (first_of (nat_le a m) (nat_le b m) ab),
-      leb-true b m (second_of (nat_le a m) (nat_le b m) ab),
-      leb-true c m (second_of (nat_le a m && nat_le b m) (nat_le c m) h),
-    )
+    let abc = and_parts (nat_le a m && nat_le b m) (nat_le c m) h in
+    let ab = and_parts (nat_le a m) (nat_le b m) abc.0 in
+    (leb-true a m ab.0, leb-true b m ab.1, leb-true c m abc.1)
 
 place_is : (p : Place) → is_place p ≡ true → IsPlace p
 place_is p h =

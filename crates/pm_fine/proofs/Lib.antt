@@ -6,6 +6,7 @@ mod Balance
 mod CutLaws
 mod CramerBounds
 mod CramerLaws
+mod FoundLaws
 mod FourthPlaces
 mod FourthRows
 mod LevelLaws

@@ -1,12 +1,14 @@
 -- What the definition of the fourth candidate gives: laws, and rows worked by hand.
-use Rattle.std.specs.Prelude.{◌≡◌, ◌≤◌, ℤ, pos, negsuc, ◌*ℤ◌, List, [], ◌∷◌, Option, None, Some, IfSome}
+use Rattle.std.specs.Prelude.{◌≡◌, ◌≤◌, ◌+◌, ◌-◌, ◌*◌, ◌^◌, true, int_lt, unsigned_abs, ℕ, ℤ, pos}
+use Rattle.std.specs.Prelude.{negsuc, ◌-ℤ◌, ◌*ℤ◌, List, [], ◌∷◌, Option, None, Some, IfSome}
 use Rattle.pm_base.specs.Place.{Place, IsPlace}
 use Rattle.pm_quadric.specs.Planes.{Plane, squares_of}
 use Rattle.pm_quadric.specs.Sums.{Sums, sums_of}
+use Rattle.pm_quadric.specs.Candidates.{midpoint}
 use Rattle.pm_fine.specs.declared.matrix.Matrix.{Matrix}
 use Rattle.pm_fine.specs.declared.matrix.Vector.{Vector}
-use Rattle.pm_fine.specs.Fourth.{half_gradient, times_of, cofactors_of, determinant_of}
-use Rattle.pm_fine.specs.Fourth.{fourth_place_of}
+use Rattle.pm_fine.specs.Fourth.{matrix_of, half_gradient, times_of, cofactors_of, determinant_of}
+use Rattle.pm_fine.specs.Fourth.{matrix_digits, digits_above, is_within, reach_of, fourth_place_of}
 
 abbrev pub no_vector : Vector
 no_vector = record { x = pos 0; y = pos 0; z = pos 0 }
@@ -26,6 +28,25 @@ abbrev pub CofactorsSolve : Type 0
 CofactorsSolve =
     (a : Matrix) (u : Vector) →
     times_of (cofactors_of a) (times_of a u) ≡ multiplied (determinant_of a) u
+
+-- The value is least at p, which is near the midpoint m of t and u, as a reach says. The matrix has
+-- one such place, and no number loses a digit.
+pub record IsInSight (s : Sums) (m p : Place) (reach : ℕ) : Type 0 where
+  pub place : IsPlace p
+  pub level : half_gradient s p ≡ no_vector
+  pub one : int_lt (pos 0) (determinant_of (matrix_of s)) ≡ true
+  pub matrix : matrix_digits (matrix_of s) ≡ 0
+  pub gradient : is_within (2 ^ 52 - 1) (half_gradient s m) ≡ true
+  pub determinant : digits_above 42 (unsigned_abs (determinant_of (matrix_of s))) ≡ 0
+  pub x : unsigned_abs (p.x -ℤ m.x) ≤ 4 * reach + 1
+  pub y : unsigned_abs (p.y -ℤ m.y) ≤ 4 * reach + 1
+  pub z : unsigned_abs (p.z -ℤ m.z) ≤ 4 * reach + 1
+
+-- Such a place is the fourth candidate.
+abbrev pub LeastIsFound : Type 0
+LeastIsFound =
+    (s : Sums) (t u p : Place) → let m = midpoint t u in IsInSight s m p (reach_of m t u) →
+    fourth_place_of s t u ≡ Some p
 
 -- Whatever the sums are, a fourth candidate is a place.
 abbrev pub FourthIsAPlace : Type 0

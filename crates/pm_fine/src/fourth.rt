@@ -10,7 +10,8 @@ ghost use Rattle.pm_fine.specs.Rounded.{near};
 ghost use Rattle.pm_fine.specs.Within.{IsMatrixWithin, IsVectorWithin};
 ghost use Rattle.pm_fine.specs.Fourth.{is_near, apart_of, placed};
 ghost use Rattle.pm_fine.specs.Fourth.{quotients_place, solved_place, fourth_place_of};
-ghost use Rattle.pm_fine.specs.FourthLaws.{LeastWhereLevel, CofactorsSolve, FourthIsAPlace, AreFourthPlaces};
+ghost use Rattle.pm_fine.specs.FourthLaws.{LeastWhereLevel, CofactorsSolve, LeastIsFound};
+ghost use Rattle.pm_fine.specs.FourthLaws.{FourthIsAPlace, AreFourthPlaces};
 
 use crate::FineQuadric;
 use crate::matrix::{Matrix, Vector, digits_above, short};
@@ -121,12 +122,14 @@ pub fn fourth_place(q: &FineQuadric, t: Point, u: Point) -> Option<Point>
     solved_place(m, reach, &matrix.short(digits), &gradient)
 }
 
-/// What the definition of the fourth candidate gives; it takes no step. Where the gradient is 0 the
-/// value is least, the cofactors solve by Cramer's rule, each fourth candidate is a place, and there
-/// are rows worked by hand.
+/// What the definition of the fourth candidate gives; it takes no step. Where the gradient is 0 a
+/// value is least of all places; the cofactors solve by Cramer's rule; so such a place is the fourth
+/// candidate, where it is near and no number loses a digit. Each fourth candidate is a place, and
+/// there are rows worked by hand.
 pub fn fourth_places_are_sound()
     ensures least { LeastWhereLevel }
     ensures rule { CofactorsSolve }
+    ensures found { LeastIsFound }
     ensures places { FourthIsAPlace }
     ensures rows { AreFourthPlaces }
 {}
