@@ -1,4 +1,4 @@
--- Where the gradient of a value is 0, it is least: its value at another place is greater by a sum of
+-- Where the gradient of a value is 0, it is least: at another place it is greater by a sum of
 -- squares.
 use Rattle.std.proofs.Common.{◌≡◌, ℕ, ◌+◌, ◌<◌, List, [], ◌∷◌, refl, sym, ap, ◌∙◌, arith}
 use Rattle.std.specs.Prelude.{ℤ, pos, negsuc, ◌+ℤ◌, ◌-ℤ◌, ◌*ℤ◌, unsigned_abs}

@@ -107,9 +107,9 @@ fn solved_place(m: Point, reach: u32, a: &Matrix, g: &Vector) -> Option<Point>
 }
 
 /// About where a quadric's value is least of all places: the fourth candidate for the place of the
-/// pair of t and u. There is none where the determinant is not above 0, as for planes along one line;
-/// where that place is no point of the grid, or further from the midpoint than four times the ends
-/// and one; and where the value is too steep at the midpoint. It takes no loop and no memory.
+/// pair of t and u. There is none where the determinant is not above 0, as for planes along one
+/// line; where that place is no point of the grid, or further from the midpoint than four times the
+/// ends and one; and where the value is too steep at the midpoint. It takes no loop and no memory.
 pub fn fourth_place(q: &FineQuadric, t: Point, u: Point) -> Option<Point>
     ensures value { result ≡ fourth_place_of q.now t u }
     ensures lists { (fs : List Plane) → StandsFor q.now fs → result ≡ fourth_place_of (sums_of fs) t u }
@@ -122,8 +122,8 @@ pub fn fourth_place(q: &FineQuadric, t: Point, u: Point) -> Option<Point>
     solved_place(m, reach, &matrix.short(digits), &gradient)
 }
 
-/// What the definition of the fourth candidate gives; it takes no step. Where the gradient is 0 a
-/// value is least of all places; the cofactors solve by Cramer's rule; so such a place is the fourth
+/// What the definition of the fourth candidate gives; it takes no step. Where the gradient is 0, a
+/// value is least of all places. The cofactors solve by Cramer's rule. So such a place is the fourth
 /// candidate, where it is near and no number loses a digit. Each fourth candidate is a place, and
 /// there are rows worked by hand.
 pub fn fourth_places_are_sound()

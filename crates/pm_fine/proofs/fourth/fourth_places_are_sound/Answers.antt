@@ -6,4 +6,10 @@ use Rattle.pm_fine.proofs.FourthRows.{fourth_places}
 use Rattle.pm_fine.proofs.fourth.fourth_places_are_sound.Goals as goal
 
 pub returns : goal.returns
-returns c = record { least = least_where_level; rule = cofactors_solve; found = least_is_found; places = fourth_is_a_place; rows = fourth_places }
+returns c = record {
+  least = least_where_level;
+  rule = cofactors_solve;
+  found = least_is_found;
+  places = fourth_is_a_place;
+  rows = fourth_places;
+}
