@@ -17,7 +17,8 @@ use Rattle.pm_runs.specs.Counts.{live_count_of}
 use Rattle.pm_runs.specs.Runs.{IsStartOfRun, surface_after, IsStep, IsRun}
 use Rattle.pm_runs.proofs.Live.{live_below, next-after}
 use Rattle.pm_runs.proofs.Living.{joined_live, live_fewer, first_live_count}
-use Rattle.pm_runs.proofs.Logs.{surface_after-nil, surface_after-more, run-parts, run-sound, step-new}
+use Rattle.pm_runs.proofs.Logs.{surface_after-nil, surface_after-more, run-parts, run-sound}
+use Rattle.pm_runs.proofs.Logs.{step-new}
 use Rattle.pm_policies.specs.Policies.{Policy, taken_after, brought_after, planes_by}
 use Rattle.pm_policies.specs.Policies.{plain_keeping}
 use Rattle.pm_policies.specs.Bounds.{BringsAtMost, TakesAtMost}
@@ -53,7 +54,8 @@ module _ (p : Policy) (plain : p ≡ plain_keeping p.kept) where
   first_planes : (m : Mesh) (v : ℕ) → planes_by p m [] v ≡ planes_at m v
   first_planes m v =
       let first = (planes_are_taken p m).0 v in
-      ap (λ (ps : List Plane). ps ++ brought_after p m [] v) (first.taken ∙ takes_none (surface_of m) v)
+      let none = first.taken ∙ takes_none (surface_of m) v in
+      ap (λ (ps : List Plane). ps ++ brought_after p m [] v) none
       ∙ first.brought ∙ brings_all m v
 
   module _

@@ -11,8 +11,8 @@ use Rattle.pm_policies.specs.Policies.{Policy, planes_by, plain_keeping}
 use Rattle.pm_costs.specs.Slots.{Quadrics, quadric_at, HaveOwnSlots}
 
 -- The policy is a plain one, and the quadric of each live vertex, in a slot of its own, stands for
--- the planes that the policy gives it. There is a slot for each vertex that can still be made, since
--- a collapse makes one of two.
+-- the planes that the policy gives it. A slot is left for each vertex that can still be made: a
+-- collapse makes one of two.
 pub record GoesByPlain (t : Quadrics) (p : Policy) (m : Mesh) (log : List Collapse) : Type 0 where
   pub policy : p ≡ plain_keeping p.kept
   pub each : (v : ℕ) → is_live (surface_after m log) v ≡ true →

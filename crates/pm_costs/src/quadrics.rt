@@ -1,6 +1,6 @@
 //! The quadrics of the live vertices, each in a slot of its own.
-ghost use Rattle.std.specs.Prelude.{◌≡◌, ◌+◌, ◌*◌, ◌<◌, ◌≤◌, ◌≢◌, ℕ, Bool, [], ◌∷◌, All, cond, length};
-ghost use Rattle.std.specs.Prelude.{slice_index_or, slice_set, IfOk};
+ghost use Rattle.std.specs.Prelude.{◌≡◌, ◌+◌, ◌*◌, ◌<◌, ◌≤◌, ◌≢◌, ℕ, Bool, [], ◌∷◌, All, cond};
+ghost use Rattle.std.specs.Prelude.{length, slice_index_or, slice_set, IfOk};
 ghost use Rattle.pm_base.specs.Meshes.{mesh_of, IsFace, IsWellFormed};
 ghost use Rattle.pm_quadric.specs.declared.quadric.TheConstants.{MOST_PLANES};
 ghost use Rattle.pm_quadric.specs.Sums.{plus_sums, sums_of, zero_sums};
@@ -19,10 +19,11 @@ use std::marker::Model;
 /// The answer for want of memory.
 pub type OutOfMemory = AllocError;
 
-/// Quadrics by vertex number: the costs of the plain policies. A quadric is large, and each collapse
-/// makes one live vertex of two: so the new vertex takes a slot of theirs, and there are only as
-/// many slots as points. Contracts see two lists: by vertex number the slot, and the quadric that
-/// stands there. A vertex that was merged, or isn't made yet, has a slot too, that of any other.
+/// Quadrics by vertex number: the costs of the plain policies. A quadric is large, and each
+/// collapse makes one live vertex of two: so the new vertex takes a slot of theirs, and there are
+/// only as many slots as points. Contracts see two lists: by vertex number the slot, and the
+/// quadric that stands there. A vertex that was merged, or isn't made yet, has a slot too, that of
+/// any other.
 #[derive(Drop)]
 pub struct QuadricTable {
     // By vertex number.
@@ -68,7 +69,8 @@ impl QuadricTable {
         requires least { length points.now ≤ room }
         requires most { room ≤ 2 * length points.now }
         ensures len { IfOk result (λ t. length t.slots ≡ room) }
-        ensures slots { IfOk result (λ t. (v : ℕ) → v < length points.now → slice_index_or t.slots v 0 ≡ v) }
+        ensures slots { IfOk result (λ t. (v : ℕ) → v < length points.now
+            → slice_index_or t.slots v 0 ≡ v) }
         ensures quadrics { IfOk result (λ t. (v : ℕ) → v < length points.now → quadric_at t v
             ≡ sums_of (planes_at (mesh_with points.now faces.now) v)) }
     {
@@ -92,10 +94,12 @@ impl QuadricTable {
         requires s_in { s < length self.old.slots }
         requires few { (quadric_at self.old a).count
             + (quadric_at self.old b).count ≤ MOST_PLANES }
-        ensures slots { self.new.slots ≡ slice_set self.old.slots s (slice_index_or self.old.slots a 0) }
+        ensures slots { self.new.slots
+            ≡ slice_set self.old.slots s (slice_index_or self.old.slots a 0) }
         ensures sum { quadric_at self.new s
             ≡ plus_sums (quadric_at self.old a) (quadric_at self.old b) }
-        ensures others { (v : ℕ) → v ≢ s → slice_index_or self.old.slots v 0 ≢ slice_index_or self.old.slots a 0
+        ensures others { (v : ℕ) → v ≢ s
+            → slice_index_or self.old.slots v 0 ≢ slice_index_or self.old.slots a 0
             → quadric_at self.new v ≡ quadric_at self.old v }
     {
         let slot = self.slots[a as usize];
@@ -124,7 +128,8 @@ fn first_slots(alloc: Global, points: u32, room: usize) -> Result<Vec<u32>, OutO
     requires least { points ≤ room }
     requires most { room ≤ 2 * points }
     ensures len { IfOk result (λ slots. length slots.items ≡ room) }
-    ensures each { IfOk result (λ slots. (v : ℕ) → v < points → slice_index_or slots.items v 0 ≡ v) }
+    ensures each { IfOk result (λ slots. (v : ℕ) → v < points
+        → slice_index_or slots.items v 0 ≡ v) }
     ensures within { IfOk result (λ slots. All (λ k. k < points) slots.items) }
 {
     let mut slots = vec![in alloc; 0; room]?;
@@ -142,7 +147,8 @@ fn face_quadrics(
 ) -> Result<Vec<Quadric>, OutOfMemory>
     requires formed { IsWellFormed (mesh_with points.now faces.now) }
     ensures len { IfOk result (λ quadrics. length quadrics.items ≡ length points.now) }
-    ensures each { IfOk result (λ quadrics. (v : ℕ) → v < length points.now → slice_index_or quadrics.items v zero_sums
+    ensures each { IfOk result (λ quadrics. (v : ℕ) → v < length points.now
+        → slice_index_or quadrics.items v zero_sums
         ≡ sums_of (planes_at (mesh_with points.now faces.now) v)) }
 {
     let mut quadrics = vec![in alloc; Quadric::zero(); points.len()]?;
@@ -176,9 +182,10 @@ fn add_face(quadrics: &mut Vec<Quadric>, points: &[Point], face: &Corners)
 
 fn add(quadrics: &mut Vec<Quadric>, v: u32, quadric: &Quadric)
     requires within { v < length quadrics.old.items }
-    requires few { (slice_index_or quadrics.old.items v zero_sums).count + quadric.now.count ≤ MOST_PLANES }
-    ensures { quadrics.new.items
-        ≡ slice_set quadrics.old.items v (plus_sums (slice_index_or quadrics.old.items v zero_sums) quadric.now) }
+    requires few { (slice_index_or quadrics.old.items v zero_sums).count + quadric.now.count
+        ≤ MOST_PLANES }
+    ensures { quadrics.new.items ≡ slice_set quadrics.old.items v
+        (plus_sums (slice_index_or quadrics.old.items v zero_sums) quadric.now) }
 {
     let sum = quadrics[v as usize].plus(quadric);
     quadrics[v as usize] = sum;
