@@ -19,7 +19,8 @@ use Rattle.pm_fans.proofs.SameEnds.{from_renumbered, same_ends, new_rise, split_
 use Rattle.pm_turn.specs.Turning.{turned_by, AreTurns}
 use Rattle.pm_turn.proofs.TurnedFaces.{turned_faces_stay}
 use Rattle.pm_turn.proofs.TurnedAgain.{turned_faces_are_turned_once}
-use Rattle.pm_turn.proofs.SameTurns.{turns_before}
+use Rattle.pm_turn.specs.ChoiceLaws.{IsRenumbered}
+use Rattle.pm_turn.proofs.Renumbered.{renumbered_back, turns_are_renumbered}
 use Rattle.pm_turn.proofs.TurnsThere.{turns_are_there}
 use Rattle.obj_prepare.specs.Named.{is_some_corner, AreVerticesBelow}
 use Rattle.obj_prepare.specs.Joining.{place_in_list, IsFirstAt, AreJoined, renamed, joined_faces}
@@ -240,10 +241,16 @@ module _ (places : List Place) (faces : List Corners) (m : Mesh) (within : All (
   again : (flags : List Bool) × AreTurns (net_of (map (renumbered first) turned)) flags
   again = turns_are_there (net_of (map (renumbered first) turned))
 
+  numbers_back : IsRenumbered (net_of (map (renumbered first) turned)) (net_of turned)
+  numbers_back =
+      let ends = same_ends first (firsts_apart p.old) turned in
+      renumbered_back (net_of turned) (net_of (map (renumbered first) turned))
+      (record { faces = ends.faces; there = ends.there; back = ends.back })
+
   turns_of_turned : AreTurns (net_of turned) again.0
   turns_of_turned =
-      turns_before (net_of turned) (net_of (map (renumbered first) turned))
-      (same_ends first (firsts_apart p.old) turned) again.0 again.1
+      turns_are_renumbered (net_of (map (renumbered first) turned)) (net_of turned) again.0
+      numbers_back again.1
 
   turned_same : turned_by again.0 (map (renumbered first) turned) ≡ map (renumbered first) turned
   turned_same =

@@ -1,11 +1,8 @@
 -- Flags chosen by sums over patches.
-use Rattle.std.proofs.Common.{◌≡◌, ◌≢◌, ℕ, ◌+◌, ◌*◌, ◌<◌, ◌≤◌, ◌⊎◌, inl, inr, refl, sym, ap, ◌∙◌, subst, Bool, true, false, not, ◌&&◌, ◌||◌, List, Option, Some, None, length, slice_index_or, arith}
-use Rattle.std.specs.Prelude.{ℤ, pos, neg_ℤ, ◌≤ℤ◌, ◌==◌, nat_lt, int_lt, if◌then◌else◌}
+use Rattle.std.proofs.Common.{◌≡◌, ◌≢◌, ℕ, ◌+◌, ◌*◌, ◌<◌, ◌≤◌, inl, inr, refl, sym, ap, ◌∙◌, subst, Bool, true, false, not, ◌||◌, List, Option, Some, None, length, slice_index_or, arith}
+use Rattle.std.specs.Prelude.{ℤ, pos, neg_ℤ, ◌≤ℤ◌, nat_lt}
 use Rattle.std.specs.Option.{is_none, MatchOption}
-use Rattle.std.specs.Ordering.{int_eq}
-use Rattle.std.proofs.lemmas.Bool.{cases_Bool, cases_eq, cond-true, cond-false, eq-eqb, ne_eqb, le-ltb, ltb-true, ltb-false, true≢false, or_cases, or_left, or_right}
-use Rattle.std.proofs.lemmas.Bool.Decides.{Decides-int_eq}
-use borrow.Author.Differences.{ints}
+use Rattle.std.proofs.lemmas.Bool.{cases_Bool, cases_eq, cond-true, cond-false, ltb-true, ltb-false, true≢false, or_cases, or_left, or_right}
 use Rattle.pm_base.specs.Place.{Place}
 use Rattle.pm_base.specs.Sides.{Net, face_of, side_count, beside_side}
 use Rattle.pm_turn.specs.declared.patches.Root.{Root}
@@ -15,73 +12,8 @@ use Rattle.pm_turn.specs.Unions.{AreMated}
 use Rattle.pm_turn.specs.Choice.{AreLeast, IsOpen, IsClosed, Agrees, HasClash, turned_in, staying_in, IsFewest, volume_at, volume_in, IsOutward, AreChosenTurns}
 use Rattle.pm_turn.specs.Sums.{root_at, parity_at, is_bare, no_sums, AreSums, is_reversed, chosen_flag}
 use Rattle.pm_turn.proofs.Traced.{one_in, other_in, roots_same, root_in, root_root, odd_way}
+use Rattle.pm_turn.proofs.Reversing.{flip_past, stays_without_odd, by_count, at_least_own, not_not, by_volumes}
 use Rattle.pm_turn.proofs.Totals.{patch_same, patch_none, patch_some, patch_total, patch_opposite, determinant_turned}
-
--- Tests.
-flip_past : (b c p : Bool) → flipped_if b (flipped_if c p) ≡ flipped_if c (flipped_if b p)
-flip_past true true p = refl
-flip_past true false p = refl
-flip_past false c p = refl
-
-second_false : (a b c x y : Bool) → b ≡ false → (if a && b && c then x else y) ≡ y
-second_false a true c x y e = absurd (true≢false e)
-second_false true false c x y e = refl
-second_false false false c x y e = refl
-
-first_false : (a b c x y : Bool) → a ≡ false → (if a && b && c then x else y) ≡ y
-first_false true b c x y e = absurd (true≢false e)
-first_false false b c x y e = refl
-
-both_true : (a b c x y : Bool) → a ≡ true → b ≡ true → (if a && b && c then x else y) ≡ (if c then x else y)
-both_true true true c x y e f = refl
-both_true true false c x y e f = absurd (true≢false (sym f))
-both_true false b c x y e f = absurd (true≢false (sym e))
-
--- The choice by sums: no face with odd parity, a side without a mate, and neither.
-stays_without_odd : (s : Sums) → s.odd ≡ 0 → is_reversed s ≡ false
-stays_without_odd s none =
-    let low : nat_lt s.even s.odd ≡ false = le-ltb s.even s.odd (omega (arith, none)) in
-    second_false (s.bare == 0) (not (s.odd == 0)) (not (int_eq s.volume (pos 0))) (int_lt s.volume (pos 0)) (nat_lt s.even s.odd) (ap not (eq-eqb s.odd 0 none)) ∙ low
-
-by_count : (s : Sums) → s.bare ≢ 0 → is_reversed s ≡ nat_lt s.even s.odd
-by_count s bare = first_false (s.bare == 0) (not (s.odd == 0)) (not (int_eq s.volume (pos 0))) (int_lt s.volume (pos 0)) (nat_lt s.even s.odd) (ne_eqb s.bare 0 bare)
-
-abbrev IsTold : ℤ → Bool → Bool → Type 0
-IsTold z y r = ((z ≡ pos 0) × (r ≡ y)) ⊎ (((pos 0 ≤ℤ z) × (z ≢ pos 0) × (r ≡ false)) ⊎ ((pos 0 ≤ℤ neg_ℤ z) × (neg_ℤ z ≢ pos 0) × (r ≡ true)))
-
-negative : (z : ℤ) → int_lt z (pos 0) ≡ true → pos 0 ≤ℤ neg_ℤ z
-negative z e = omega (arith, ints)
-
-positive : (z : ℤ) → int_lt z (pos 0) ≡ false → pos 0 ≤ℤ z
-positive z e = omega (arith, ints)
-
-opposite_apart : (z : ℤ) → z ≢ pos 0 → neg_ℤ z ≢ pos 0
-opposite_apart z ne is = ne (omega (arith, ints, is))
-
-at_least_own : (z : ℤ) → z ≤ℤ z
-at_least_own z = omega (arith, ints)
-
-pub not_not : (b : Bool) → not (not b) ≡ b
-not_not true = refl
-not_not false = refl
-
-by_volume : (z : ℤ) (y r : Bool) → r ≡ (if not (int_eq z (pos 0)) then int_lt z (pos 0) else y) → IsTold z y r
-by_volume z y r e =
-    elim (cases_Bool (int_eq z (pos 0))) [
-      | inl t ↦ inl ((Decides-int_eq z (pos 0)).0 t, e ∙ cond-false _ _ _ (ap not t))
-      | inr f ↦
-          let ne : z ≢ pos 0 = λ is. true≢false (sym ((Decides-int_eq z (pos 0)).1 is) ∙ f) in
-          let told : r ≡ int_lt z (pos 0) = e ∙ cond-true _ _ _ (ap not f) in
-          elim (cases_Bool (int_lt z (pos 0))) [
-            | inl s ↦ inr (inr (negative z s, opposite_apart z ne, told ∙ s))
-            | inr s ↦ inr (inl (positive z s, ne, told ∙ s))
-          ]
-    ]
-
-by_volumes : (s : Sums) → s.bare ≡ 0 → s.odd ≢ 0 → IsTold s.volume (nat_lt s.even s.odd) (is_reversed s)
-by_volumes s bare odd =
-    by_volume s.volume (nat_lt s.even s.odd) (is_reversed s)
-    (both_true (s.bare == 0) (not (s.odd == 0)) (not (int_eq s.volume (pos 0))) (int_lt s.volume (pos 0)) (nat_lt s.even s.odd) (eq-eqb s.bare 0 bare) (ap not (ne_eqb s.odd 0 odd)))
 
 -- A face has a side without a mate.
 bare_side : (mates : List (Option ℕ)) (f e : ℕ) → face_of e ≡ f → beside_side mates e ≡ None → is_bare mates f ≡ true

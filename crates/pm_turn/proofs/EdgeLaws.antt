@@ -1,6 +1,5 @@
 -- The sides of an edge are told by its two vertices, and where it has two they are mates.
-use Rattle.std.proofs.Common.{◌≡◌, ◌≢◌, ℕ, ◌+◌, ◌*◌, ◌/◌, ◌<◌, ◌≤◌, true, false, ◌⊎◌, inl, inr, refl, sym, ap, ◌∙◌, subst, Option, Some, None, List, [], length, slice_index_or, arith}
-use Rattle.std.specs.Prelude.{◌==◌, nat_lt, if◌then◌else◌}
+use Rattle.std.proofs.Common.{◌≡◌, ◌≢◌, ℕ, ◌+◌, ◌*◌, ◌/◌, ◌<◌, ◌≤◌, inl, inr, refl, sym, ap, ◌∙◌, subst, Option, Some, None, List, [], length, slice_index_or, arith}
 use Rattle.std.specs.Option.{IfSome, MatchOption, option_map}
 use Rattle.std.specs.Ordering.{nat_cmp}
 use Rattle.std.specs.BTreeMap.{BTreeMap, get, is_at, Updates}
@@ -17,7 +16,7 @@ use Rattle.pm_fans.proofs.KeyLaws.{equal_is}
 use Rattle.pm_turn.specs.declared.edges.Edge.{Edge}
 use Rattle.pm_turn.specs.Turning.{JoinsSame, AreMates}
 use Rattle.pm_turn.specs.Unions.{AreMated}
-use Rattle.pm_turn.specs.Edges.{edge_key, edge_key_at, IsOnly, AreTwo, AreMore, IsEdge, AreEdges, edge_with, mate_in}
+use Rattle.pm_turn.specs.Edges.{edge_key, edge_key_at, AreTwo, AreMore, IsEdge, AreEdges, edge_with, mate_in}
 use Rattle.pm_turn.proofs.TurnedSides.{SameEnds}
 
 -- Two ends in ascending order are known from their key.
@@ -47,11 +46,11 @@ key_back p q =
           ]
     ]
 
-same_key : (p q r s : ℕ) → SameEnds p q r s → edge_key p q ≡ edge_key r s
+pub same_key : (p q r s : ℕ) → SameEnds p q r s → edge_key p q ≡ edge_key r s
 same_key p q r s (inl (a, b)) = ap (λ i. edge_key i q) a ∙ ap (edge_key r) b
 same_key p q r s (inr (a, b)) = ap (λ i. edge_key i q) a ∙ ap (edge_key s) b ∙ key_back s r
 
-key_ends : (p q r s : ℕ) → p < 4294967296 → q < 4294967296 → r < 4294967296 → s < 4294967296
+pub key_ends : (p q r s : ℕ) → p < 4294967296 → q < 4294967296 → r < 4294967296 → s < 4294967296
     → edge_key p q ≡ edge_key r s → SameEnds p q r s
 key_ends p q r s pl ql rl sl e =
     elim (cases_lt p q) [

@@ -1,12 +1,12 @@
 -- Flags read from the ways up.
-use Rattle.std.proofs.Common.{◌≡◌, ℕ, ◌+◌, ◌<◌, ◌≤◌, inl, inr, refl, sym, ap, ◌∙◌, subst, Bool, true, false, List, [], ◌∷◌, ◌++◌, length, slice_index_or, replicate, arith}
+use Rattle.std.proofs.Common.{◌≡◌, ℕ, ◌+◌, ◌<◌, ◌≤◌, inl, inr, sym, ap, ◌∙◌, subst, Bool, false, List, [], ◌∷◌, ◌++◌, length, slice_index_or, replicate, arith}
 use Rattle.std.proofs.lemmas.Bool.{cases_eq, cases_lt, true≢false}
 use Rattle.std.proofs.lemmas.List.{get_or_append_left, length-append, get_or-replicate, get_or_past}
 use Rattle.std.proofs.Math.Seq.{get_or-append_seam}
-use Rattle.pm_base.specs.Sides.{Net, face_of, side_count}
-use Rattle.pm_turn.specs.Turning.{flag_of, flag_with, Way, stay, AreMates, AreTurns, AreTraced, traced_flag}
+use Rattle.pm_base.specs.Sides.{Net, side_count}
+use Rattle.pm_turn.specs.Turning.{flag_of, flag_with, Way, stay, AreTurns, traced_flag}
 use Rattle.pm_turn.specs.Unions.{Elders, Up, top, up, AreElders, AreShorter, IsFlagged, put, elders_of}
-use Rattle.pm_turn.proofs.Joining.{put_same, put_other, up_below, elders_traced}
+use Rattle.pm_turn.proofs.Joining.{put_same, put_other, elders_traced}
 use Rattle.pm_turn.proofs.Traced.{traced_tables_turn}
 
 -- The first n faces have their flags.

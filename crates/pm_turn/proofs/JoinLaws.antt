@@ -1,5 +1,5 @@
 -- One pair of mates joined, in the tables.
-use Rattle.std.proofs.Common.{◌≡◌, ℕ, ◌+◌, ◌*◌, ◌<◌, ◌≤◌, refl, sym, ap, ◌∙◌, subst, Bool, true, false, not, arith}
+use Rattle.std.proofs.Common.{◌≡◌, ℕ, ◌+◌, ◌<◌, refl, sym, ap, ◌∙◌, subst, Bool, true, false, not, arith}
 use Rattle.pm_base.specs.Sides.{Net, face_of}
 use Rattle.pm_turn.specs.Turning.{AreMates, clash, flipped_if}
 use Rattle.pm_turn.specs.Unions.{Elders, Up, AreElders, under, marked}

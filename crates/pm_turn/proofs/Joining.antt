@@ -1,7 +1,6 @@
 -- Joining mates, pair by pair.
-use Rattle.std.proofs.Common.{◌≡◌, ◌≢◌, ℕ, ◌+◌, ◌*◌, ◌<◌, ◌≤◌, ◌⊎◌, inl, inr, refl, sym, ap, ◌∙◌, subst, Bool, true, false, not, ◌||◌, arith}
-use Rattle.std.specs.Prelude.{◌==◌}
-use Rattle.std.proofs.lemmas.Bool.{cases_Bool, cases_eq, cond-true, cond-false, eq-eqb, ne_eqb, or_parts, or_cases, true≢false}
+use Rattle.std.proofs.Common.{◌≡◌, ◌≢◌, ℕ, ◌+◌, ◌<◌, ◌≤◌, ◌⊎◌, inl, inr, refl, sym, ap, ◌∙◌, subst, Bool, true, false, not, ◌||◌, arith}
+use Rattle.std.proofs.lemmas.Bool.{cases_eq, cond-true, cond-false, eq-eqb, ne_eqb, or_parts, or_cases, true≢false}
 use Rattle.pm_base.specs.Sides.{Net, face_of, side_count}
 use Rattle.pm_turn.specs.Turning.{AreMates, clash, flipped_if, Way, stay, over, AreTraced}
 use Rattle.pm_turn.specs.Unions.{Elders, Up, top, up, AreJoined, AreElders, put, under, marked, all_own}

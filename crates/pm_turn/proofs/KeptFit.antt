@@ -1,17 +1,14 @@
 -- The faces that stay are a list of which all stay.
-use Rattle.std.proofs.Common.{◌≡◌, ℕ, zero, suc, ◌/◌, ◌<◌, ◌⊎◌, inl, inr, refl, sym, ap, ◌∙◌, subst, List, [], ◌∷◌, ◌++◌, length, Bool, true, false, not, ◌&&◌, arith}
+use Rattle.std.proofs.Common.{◌≡◌, ℕ, ◌<◌, ◌⊎◌, inl, inr, sym, ap, ◌∙◌, subst, List, [], ◌∷◌, ◌++◌, length, true, false, not, arith}
 use Rattle.std.specs.List.{list_any}
-use Rattle.std.proofs.lemmas.Bool.{and_cases, not-false, cases_Bool, cases_order, cases_lt, cond-true, cond-false, and_parts, and_from, or_left, or_right, not-true, true≢false}
+use Rattle.std.proofs.lemmas.Bool.{cases_Bool, cases_lt, cond-true, cond-false, and_parts, not-true, true≢false}
 use Rattle.std.proofs.lemmas.List.{get_or_append_left, length-append}
 use Rattle.std.proofs.Math.Seq.{get_or-append_seam}
-use Rattle.std.proofs.lemmas.List.Folds.{list_any_at, list_any-append}
+use Rattle.std.proofs.lemmas.List.Folds.{list_any_at}
 use Rattle.pm_base.specs.declared.mesh.Corners.{Corners}
-use Rattle.pm_base.specs.Sides.{Net, to, net_of, no_corners}
-use Rattle.pm_base.proofs.Sides.{face_cases, corner-first, first-second, second-corner}
+use Rattle.pm_base.specs.Sides.{no_corners}
 use Rattle.pm_base.proofs.NetLaws.{face_at}
-use Rattle.pm_fans.specs.Splits.{AllStand, NoMirroredFaces}
-use Rattle.pm_fans.specs.Kept.{is_flat, is_corner, is_alike, is_kept_after, kept_after, kept_of, IsFitList}
-use Rattle.pm_fans.proofs.Turned.{side_turned, not_flat, turned_differ, corner_a, corner_b, corner_c, mirrors_alike}
+use Rattle.pm_fans.specs.Kept.{is_flat, is_alike, is_kept_after, kept_after, kept_of, IsFitList}
 
 none_fit : IsFitList []
 none_fit = record { flat = λ i l. absurd (omega arith); apart = λ i j l k. absurd (omega arith) }

@@ -10,12 +10,15 @@ pub mod JoinLaws
 pub mod Shortening
 pub mod Flags
 pub mod TurnMore
-pub mod SameTurns
 pub mod TurnsThere
 pub mod Totals
+pub mod Reversing
 pub mod Choosing
+pub mod ChosenThere
 pub mod Summing
 pub mod OneChoice
 pub mod Renumbered
 pub mod ChosenAgain
 pub mod Telling
+pub mod Thirds
+pub mod ToldAlways

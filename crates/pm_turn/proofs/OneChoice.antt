@@ -1,5 +1,5 @@
 -- One list of flags is chosen, and no other turns fewer faces of an open patch.
-use Rattle.std.proofs.Common.{◌≡◌, ◌≢◌, ℕ, ◌<◌, ◌≤◌, ◌⊎◌, inl, inr, refl, sym, ap, ◌∙◌, subst, Bool, true, false, not, ◌&&◌, List, arith}
+use Rattle.std.proofs.Common.{◌≡◌, ℕ, ◌<◌, ◌≤◌, ◌⊎◌, inl, inr, refl, sym, ap, ◌∙◌, subst, Bool, true, false, not, ◌&&◌, List, arith}
 use Rattle.std.specs.Prelude.{ℤ, pos, neg_ℤ, ◌≤ℤ◌, ◌==◌, if◌then◌else◌}
 use Rattle.std.proofs.lemmas.Bool.{cases_Bool, true≢false}
 use borrow.Author.Differences.{ints}
@@ -12,17 +12,18 @@ use Rattle.pm_turn.specs.Choice.{AreLeast, IsOpen, IsClosed, Agrees, HasClash, t
 use Rattle.pm_turn.proofs.TurnedFaces.{along, not_both, same_flags}
 use Rattle.pm_turn.proofs.Traced.{way_back, one_in}
 use Rattle.pm_turn.proofs.Totals.{total_same, patch_same, patch_none, patch_opposite}
-use Rattle.pm_turn.proofs.Choosing.{volume_turned, not_not}
+use Rattle.pm_turn.proofs.Reversing.{not_not}
+use Rattle.pm_turn.proofs.Choosing.{volume_turned}
 
 -- The same by another table of least faces.
 module _ (m : Net) (places : List Place) (a b : ℕ → ℕ) (same : (f : ℕ) → f < m.faces → a f ≡ b f) where
-  open_by : (r : ℕ) → IsOpen m a r → IsOpen m b r
+  pub open_by : (r : ℕ) → IsOpen m a r → IsOpen m b r
   open_by r o = let l : face_of o.side < m.faces = omega (arith, o.in_range) in record { side = o.side; in_range = o.in_range; here = sym (same (face_of o.side) l) ∙ o.here; none = o.none }
 
   clash_by : (r : ℕ) → HasClash m a r → HasClash m b r
   clash_by r h = record { side = h.side; mate = h.mate; mates = h.mates; here = sym (same (face_of h.side) (one_in m h.side h.mate h.mates)) ∙ h.here; clashes = h.clashes }
 
-  agrees_by : (r : ℕ) → Agrees m a r → Agrees m b r
+  pub agrees_by : (r : ℕ) → Agrees m a r → Agrees m b r
   agrees_by r all e k w at = all e k w (same (face_of e) (one_in m e k w) ∙ at)
 
   count_by : (p : ℕ → Bool) (r : ℕ) → count (λ f. (a f == r) && p f) m.faces ≡ count (λ f. (b f == r) && p f) m.faces
@@ -35,11 +36,15 @@ module _ (m : Net) (places : List Place) (a b : ℕ → ℕ) (same : (f : ℕ) �
       let few = h.few in
       record { few = omega (arith, t, s, few); first = λ e. h.first (t ∙ e ∙ sym s) }
 
+  pub volume_by : (turned : ℕ → Bool) (r : ℕ) → volume_in m places a turned r ≡ volume_in m places b turned r
+  volume_by turned r =
+      total_same (λ f. if a f == r then volume_at m places (turned f) f else pos 0)
+      (λ f. if b f == r then volume_at m places (turned f) f else pos 0) m.faces
+      (λ f l. ap (λ i. if i == r then volume_at m places (turned f) f else pos 0) (same f l))
+
   outward_by : (turned : ℕ → Bool) (r : ℕ) → IsOutward m places a turned r → IsOutward m places b turned r
   outward_by turned r h =
-      let v : volume_in m places a turned r ≡ volume_in m places b turned r =
-      total_same (λ f. if a f == r then volume_at m places (turned f) f else pos 0) (λ f. if b f == r then volume_at m places (turned f) f else pos 0) m.faces
-      (λ f l. ap (λ i. if i == r then volume_at m places (turned f) f else pos 0) (same f l)) in
+      let v = volume_by turned r in
       record { volume = subst (λ (z : ℤ). pos 0 ≤ℤ z) v h.volume; flat = λ e. fewest_by turned r (h.flat (v ∙ e)) }
 
 same_or_not : (a b : Bool) → (a ≡ b) ⊎ (b ≡ not a)
@@ -59,7 +64,7 @@ own_not false e = true≢false (sym e)
 least_in : (m : Net) (least : ℕ → ℕ) → AreLeast m least → (f : ℕ) → f < m.faces → least f < m.faces
 least_in m least h f l = let (p, w) = h.way f l in let b = h.low f f false l stay in omega (arith, b, l)
 
-least_same : (m : Net) (a b : ℕ → ℕ) → AreLeast m a → AreLeast m b → (f : ℕ) → f < m.faces → a f ≡ b f
+pub least_same : (m : Net) (a b : ℕ → ℕ) → AreLeast m a → AreLeast m b → (f : ℕ) → f < m.faces → a f ≡ b f
 least_same m a b s t f l =
     let (p, v) = s.way f l in
     let (q, w) = t.way f l in

@@ -1,5 +1,5 @@
 -- Which faces are turned doesn't depend on the vertices' numbers.
-use Rattle.std.proofs.Common.{◌≡◌, ℕ, ◌+◌, ◌*◌, ◌<◌, ◌≤◌, inl, inr, refl, sym, ap, ◌∙◌, subst, Bool, true, false, not, ◌&&◌, List, arith}
+use Rattle.std.proofs.Common.{◌≡◌, ℕ, ◌+◌, ◌*◌, ◌<◌, inl, inr, refl, sym, ap, ◌∙◌, subst, Bool, true, false, not, ◌&&◌, List, arith}
 use Rattle.std.specs.Prelude.{ℤ, pos, ◌≤ℤ◌, ◌==◌, if◌then◌else◌}
 use Rattle.std.proofs.lemmas.Bool.{cases_Bool, eqb-true, eqb-false, eq-eqb, ne_eqb}
 use Rattle.pm_base.specs.Place.{Place}
@@ -11,29 +11,16 @@ use Rattle.pm_turn.specs.Choice.{AreLeast, IsOpen, Agrees, HasClash, turned_in, 
 use Rattle.pm_turn.specs.ChoiceLaws.{IsRenumbered}
 use Rattle.pm_turn.proofs.Totals.{total_same}
 
--- Two nets of which two sides begin at one vertex where they do in the other.
-pub record AreLike (m n : Net) : Type 0 where
-  pub faces : n.faces ≡ m.faces
-  pub on : (e g : ℕ) → e < side_count m → g < side_count m → m.from e ≡ m.from g → n.from e ≡ n.from g
-  pub off : (e g : ℕ) → e < side_count m → g < side_count m → n.from e ≡ n.from g → m.from e ≡ m.from g
-
-pub renumbered_like : (m n : Net) → IsRenumbered m n → AreLike m n
-renumbered_like m n h = record {
-  faces = h.faces;
-  on = λ e g el gl is. h.from e el ∙ ap h.name is ∙ sym (h.from g gl);
-  off = λ e g el gl is. h.apart e g el gl (sym (h.from e el) ∙ is ∙ h.from g gl);
-}
-
-like_back : (m n : Net) → AreLike m n → AreLike n m
-like_back m n h =
+pub renumbered_back : (m n : Net) → IsRenumbered m n → IsRenumbered n m
+renumbered_back m n h =
     let in_m = λ (e : ℕ) (l : e < side_count n). subst (λ i. e < 3 * i) h.faces l in
     record {
       faces = sym h.faces;
-      on = λ e g el gl is. h.off e g (in_m e el) (in_m g gl) is;
-      off = λ e g el gl is. h.on e g (in_m e el) (in_m g gl) is;
+      there = λ e g el gl is. h.back e g (in_m e el) (in_m g gl) is;
+      back = λ e g el gl is. h.there e g (in_m e el) (in_m g gl) is;
     }
 
-module _ (m n : Net) (h : AreLike m n) where
+module _ (m n : Net) (h : IsRenumbered m n) where
   in_n : (e : ℕ) → e < side_count m → e < side_count n
   in_n e l = subst (λ i. e < 3 * i) (sym h.faces) l
 
@@ -44,9 +31,9 @@ module _ (m n : Net) (h : AreLike m n) where
       let c = next-lt m.faces (next e) b in
       record {
         is_side = in_n e a;
-        first = λ is. s.first (h.off e (next e) a b is);
-        second = λ is. s.second (h.off (next e) (prev e) b c is);
-        last = λ is. s.last (h.off (prev e) e c a is);
+        first = λ is. s.first (h.back e (next e) a b is);
+        second = λ is. s.second (h.back (next e) (prev e) b c is);
+        last = λ is. s.last (h.back (prev e) e c a is);
       }
 
   joins_on : (e g : ℕ) → e < side_count m → JoinsSame m e g → JoinsSame n e g
@@ -57,27 +44,27 @@ module _ (m n : Net) (h : AreLike m n) where
       record {
         stands = stands_on g j.stands;
         ends = elim j.ends [
-          | inl (a, b) ↦ inl (h.on g e gl el a, h.on (next g) (next e) gl' el' b)
-          | inr (a, b) ↦ inr (h.on g (next e) gl el' a, h.on (next g) e gl' el b)
+          | inl (a, b) ↦ inl (h.there g e gl el a, h.there (next g) (next e) gl' el' b)
+          | inr (a, b) ↦ inr (h.there g (next e) gl el' a, h.there (next g) e gl' el b)
         ];
       }
 
-mates_on : (m n : Net) → AreLike m n → (e k : ℕ) → AreMates m e k → AreMates n e k
+mates_on : (m n : Net) → IsRenumbered m n → (e k : ℕ) → AreMates m e k → AreMates n e k
 mates_on m n h e k a = record {
   stands = stands_on m n h e a.stands;
   differ = a.differ;
   same = joins_on m n h e k a.stands.is_side a.same;
-  alone = λ g j. a.alone g (joins_on n m (like_back m n h) e g (in_n m n h e a.stands.is_side) j);
+  alone = λ g j. a.alone g (joins_on n m (renumbered_back m n h) e g (in_n m n h e a.stands.is_side) j);
 }
 
-clash_on : (m n : Net) → AreLike m n → (e k : ℕ) → AreMates m e k → clash m e k ≡ clash n e k
+clash_on : (m n : Net) → IsRenumbered m n → (e k : ℕ) → AreMates m e k → clash m e k ≡ clash n e k
 clash_on m n h e k a =
     elim (cases_Bool (clash m e k)) [
-      | inl c ↦ c ∙ sym (eq-eqb _ _ (h.on e k a.stands.is_side a.same.stands.is_side (eqb-true _ _ c)))
-      | inr c ↦ c ∙ sym (ne_eqb _ _ (λ is. eqb-false _ _ c (h.off e k a.stands.is_side a.same.stands.is_side is)))
+      | inl c ↦ c ∙ sym (eq-eqb _ _ (h.there e k a.stands.is_side a.same.stands.is_side (eqb-true _ _ c)))
+      | inr c ↦ c ∙ sym (ne_eqb _ _ (λ is. eqb-false _ _ c (h.back e k a.stands.is_side a.same.stands.is_side is)))
     ]
 
-way_like : (m n : Net) → AreLike m n → (f g : ℕ) (p : Bool) → Way m f g p → Way n f g p
+way_like : (m n : Net) → IsRenumbered m n → (f g : ℕ) (p : Bool) → Way m f g p → Way n f g p
 way_like m n h f g p stay = stay
 way_like m n h f g q (over {e} {k} {p} w a) =
     subst (λ (c : Bool). Way n f (face_of k) (flipped_if c p)) (sym (clash_on m n h e k a)) (over (way_like m n h f (face_of e) p w) (mates_on m n h e k a))
@@ -92,12 +79,12 @@ by_flag : (m : Net) (places : List Place) (b : Bool) (f : ℕ)
 by_flag m places true f = refl
 by_flag m places false f = refl
 
-module _ (m n : Net) (h : AreLike m n) where
+module _ (m n : Net) (h : IsRenumbered m n) where
   in_m : (f : ℕ) → f < n.faces → f < m.faces
   in_m f l = subst (λ i. f < i) h.faces l
 
   mates_off : (e k : ℕ) → AreMates n e k → AreMates m e k
-  mates_off e k a = mates_on n m (like_back m n h) e k a
+  mates_off e k a = mates_on n m (renumbered_back m n h) e k a
 
   agree_like : (flags : List Bool) → AgreeOnceTurned m flags → AgreeOnceTurned n flags
   agree_like flags t = record {
@@ -113,7 +100,7 @@ module _ (m n : Net) (h : AreLike m n) where
   least_like : (least : ℕ → ℕ) → AreLeast m least → AreLeast n least
   least_like least s = record {
     way = λ f l. let (p, w) = s.way f (in_m f l) in (p, way_like m n h f (least f) p w);
-    low = λ f g p l w. s.low f g p (in_m f l) (way_like n m (like_back m n h) f g p w);
+    low = λ f g p l w. s.low f g p (in_m f l) (way_like n m (renumbered_back m n h) f g p w);
   }
 
   turns_like : (flags : List Bool) → AreTurns m flags → AreTurns n flags
@@ -122,7 +109,7 @@ module _ (m n : Net) (h : AreLike m n) where
     least = t.least;
     parity = t.parity;
     way = λ f l. way_like m n h f (t.least f) (t.parity f) (t.way f (in_m f l));
-    low = λ f g p l w. t.low f g p (in_m f l) (way_like n m (like_back m n h) f g p w);
+    low = λ f g p l w. t.low f g p (in_m f l) (way_like n m (renumbered_back m n h) f g p w);
     first = λ f l. t.first f (in_m f l);
   }
 
@@ -190,8 +177,8 @@ module _ (m n : Net) (h : AreLike m n) where
     }
 
 pub turns_are_renumbered : (m n : Net) (flags : List Bool) → IsRenumbered m n → AreTurns m flags → AreTurns n flags
-turns_are_renumbered m n flags h t = turns_like m n (renumbered_like m n h) flags t
+turns_are_renumbered m n flags h t = turns_like m n h flags t
 
 pub chosen_turns_are_renumbered : (m n : Net) (old new : List Place) (flags : List Bool) → IsRenumbered m n
     → ((e : ℕ) → e < side_count m → place_at new (n.from e) ≡ place_at old (m.from e)) → AreChosenTurns m old flags → AreChosenTurns n new flags
-chosen_turns_are_renumbered m n old new flags h places t = chosen_like m n (renumbered_like m n h) old new places flags t
+chosen_turns_are_renumbered m n old new flags h places t = chosen_like m n h old new places flags t

@@ -1,9 +1,9 @@
 -- Ways up are shortened: a face's elder is passed over.
 use Rattle.std.proofs.Common.{◌≡◌, ◌≢◌, ℕ, ◌<◌, ◌≤◌, inl, inr, refl, sym, ap, ◌∙◌, subst, Bool, List, length, false, set, slice_index_or, arith}
 use Rattle.std.proofs.lemmas.Bool.{cases_eq}
-use Rattle.pm_base.specs.Sides.{Net, face_of}
-use Rattle.pm_turn.specs.Turning.{flipped_if, Way, AreMates}
-use Rattle.pm_turn.specs.Unions.{Elders, Up, top, up, AreJoined, AreElders, AreShorter, put, elders_of}
+use Rattle.pm_base.specs.Sides.{face_of}
+use Rattle.pm_turn.specs.Turning.{flipped_if, Way}
+use Rattle.pm_turn.specs.Unions.{Elders, Up, top, up, AreShorter, put, elders_of}
 use Rattle.pm_turn.proofs.TurnedFaces.{flip_flip}
 use Rattle.pm_turn.proofs.Traced.{way_on, flip_none}
 use Rattle.pm_turn.proofs.Joining.{put_same, put_other}

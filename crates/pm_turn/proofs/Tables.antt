@@ -3,7 +3,7 @@ use Rattle.std.proofs.Common.{◌≡◌, ℕ, ◌<◌, inl, inr, sym, subst, ◌
 use Rattle.std.proofs.lemmas.Bool.{cases_eq, cond-true, cond-false, eq-eqb, ne_eqb}
 use Rattle.std.proofs.lemmas.Grind.{get_or-set_at}
 use Rattle.std.proofs.lemmas.List.{get_or-set_other}
-use Rattle.pm_turn.specs.Unions.{Elders, Up, put, under, marked, elders_of}
+use Rattle.pm_turn.specs.Unions.{Up, put, under, marked, elders_of}
 
 pub set_put : {A : Type 0} (xs : List A) (i : ℕ) (v d : A) → i < length xs → (x : ℕ) → slice_index_or (set xs i v) x d ≡ put (λ y. slice_index_or xs y d) i v x
 set_put xs i v d l x =

@@ -1,24 +1,21 @@
 -- What is told of turning.
-use Rattle.std.proofs.Common.{◌≡◌, ◌≢◌, ℕ, zero, suc, ◌<◌, ◌≤◌, ◌⊎◌, inl, inr, refl, sym, ap, ◌∙◌, subst, Bool, true, false, not, ◌&&◌, List, Option, Some, None, slice_index_or, arith}
+use Rattle.std.proofs.Common.{◌≡◌, ℕ, ◌<◌, inl, inr, refl, sym, ap, ◌∙◌, subst, Bool, true, false, not, ◌&&◌, List, Option, slice_index_or, arith}
 use Rattle.std.specs.Prelude.{ℤ, pos, ◌<ℤ◌, ◌==◌, int_lt}
-use Rattle.std.proofs.lemmas.Bool.{cases_Bool, cases_eq, eq-eqb, ne_eqb, eqb-true, true≢false}
+use Rattle.std.proofs.lemmas.Bool.{cases_Bool, eq-eqb, eqb-true, true≢false}
 use borrow.Author.Differences.{ints}
 use Rattle.pm_base.specs.Place.{Place}
 use Rattle.pm_base.specs.Counts.{count}
 use Rattle.pm_base.specs.Sides.{Net, face_of}
-use Rattle.pm_base.proofs.Counts.{count-true, count-false}
 use Rattle.pm_turn.specs.declared.patches.Root.{Root}
 use Rattle.pm_turn.specs.declared.choice.Sums.{Sums}
-use Rattle.pm_turn.specs.declared.edges.Edge.{Edge}
 use Rattle.pm_turn.specs.Turning.{clash, flipped_if, Way, stay, over, AreTraced}
 use Rattle.pm_turn.specs.Unions.{AreMated}
-use Rattle.pm_turn.specs.Edges.{edge_key_at, IsEdge}
 use Rattle.pm_turn.specs.Choice.{volume_at, volume_in}
 use Rattle.pm_turn.specs.Sums.{root_at, parity_at, no_sums, AreSums}
-use Rattle.pm_turn.specs.Told.{IsCount, IsTwisted, IsInsideOut, AreInsideOut, has_two, is_inward}
+use Rattle.pm_turn.specs.Told.{IsCount, IsTwisted, IsInsideOut, AreInsideOut, is_inward}
 use Rattle.pm_turn.proofs.Traced.{one_in, other_in, roots_same, odd_way}
 use Rattle.pm_turn.proofs.TurnedFaces.{flip_flip}
-use Rattle.pm_turn.proofs.Totals.{count_zero, count_some, patch_some, patch_total}
+use Rattle.pm_turn.proofs.Totals.{patch_some, patch_total}
 use Rattle.pm_turn.proofs.OneChoice.{own_not}
 use Rattle.pm_turn.proofs.Choosing.{patches, even_way, all_even, some_bare, none_bare, none_odd}
 
@@ -74,7 +71,7 @@ is_below_zero z h = sym (omega (arith, ints))
 
 module _ (m : Net) (places : List Place) (mates : List (Option ℕ)) (roots : List Root) (odd : ℕ → Bool) (sums : List Sums)
     (t : AreTraced m (root_at roots) (parity_at roots) odd) (am : AreMated m mates) (s : AreSums m places mates roots m.faces sums) where
-  abbrev tests : ℕ → Bool
+  abbrev pub tests : ℕ → Bool
   tests r = is_inward (root_at roots r == r) (odd r) (slice_index_or sums r no_sums)
 
   volume_is : (r : ℕ) → r < m.faces → ((f : ℕ) → f < m.faces → root_at roots f ≡ r → parity_at roots f ≡ false)
@@ -133,115 +130,3 @@ module _ (m : Net) (places : List Place) (mates : List (Option ℕ)) (roots : Li
     patches = patches m places mates roots odd sums t am s;
     count = record { test = tests; yes = told_inward; no = is_told_inward; is = is };
   }
-
--- The third side of an edge.
-count_only : (p : ℕ → Bool) (n v : ℕ) → v < n → p v ≡ true → ((e : ℕ) → e < n → p e ≡ true → e ≡ v) → count p n ≡ 1
-count_only p zero v l t only = absurd (omega (arith, l))
-count_only p (suc n) v l t only =
-    elim (cases_eq v n) [
-      | inl is ↦
-          let none = count_zero p n (λ i il. elim (cases_Bool (p i)) [ inr f ↦ f | inl f ↦ let e = only i (omega (arith, il)) f in absurd (omega (arith, e, is, il)) ]) in
-          let a = count-true p n (subst (λ j. p j ≡ true) is t) in
-          omega (arith, a, none)
-      | inr ne ↦
-          let rest = count_only p n v (omega (arith, l, ne)) t (λ e el f. only e (omega (arith, el)) f) in
-          let un : p n ≡ false = elim (cases_Bool (p n)) [ inr f ↦ f | inl f ↦ let e = only n (omega arith) f in absurd (ne (sym e)) ] in
-          let a = count-false p n un in
-          omega (arith, a, rest)
-    ]
-
-count_both : (p : ℕ → Bool) (n v w : ℕ) → v < n → w < n → v ≢ w → p v ≡ true → p w ≡ true → ((e : ℕ) → e < n → p e ≡ true → (e ≡ v) ⊎ (e ≡ w)) → count p n ≡ 2
-count_both p zero v w vl wl ne tv tw only = absurd (omega (arith, vl))
-count_both p (suc n) v w vl wl ne tv tw only =
-    elim (cases_eq v n) [
-      | inl is ↦
-          let rest = count_only p n w (omega (arith, wl, is, ne)) tw (λ e el f.
-          elim (only e (omega (arith, el)) f) [ inl i ↦ absurd (omega (arith, i, is, el)) | inr i ↦ i ]) in
-          let a = count-true p n (subst (λ j. p j ≡ true) is tv) in
-          omega (arith, a, rest)
-      | inr nv ↦
-          elim (cases_eq w n) [
-            | inl is ↦
-                let rest = count_only p n v (omega (arith, vl, nv)) tv (λ e el f.
-                elim (only e (omega (arith, el)) f) [ inl i ↦ i | inr i ↦ absurd (omega (arith, i, is, el)) ]) in
-                let a = count-true p n (subst (λ j. p j ≡ true) is tw) in
-                omega (arith, a, rest)
-            | inr nw ↦
-                let rest = count_both p n v w (omega (arith, vl, nv)) (omega (arith, wl, nw)) ne tv tw (λ e el f. only e (omega (arith, el)) f) in
-                let un : p n ≡ false =
-                elim (cases_Bool (p n)) [
-                  | inr f ↦ f
-                  | inl f ↦ elim (only n (omega arith) f) [ inl i ↦ absurd (nv (sym i)) | inr i ↦ absurd (nw (sym i)) ]
-                ] in
-                let a = count-false p n un in
-                omega (arith, a, rest)
-          ]
-    ]
-
-count_two : (p : ℕ → Bool) (n v w : ℕ) → v < n → w < n → v ≢ w → p v ≡ true → p w ≡ true → 2 ≤ count p n
-count_two p zero v w vl wl ne tv tw = absurd (omega (arith, vl))
-count_two p (suc n) v w vl wl ne tv tw =
-    elim (cases_eq v n) [
-      | inl is ↦
-          let rest = count_some p n w (omega (arith, wl, is, ne)) tw in
-          let a = count-true p n (subst (λ j. p j ≡ true) is tv) in
-          omega (arith, a, rest)
-      | inr nv ↦
-          elim (cases_eq w n) [
-            | inl is ↦
-                let rest = count_some p n v (omega (arith, vl, nv)) tv in
-                let a = count-true p n (subst (λ j. p j ≡ true) is tw) in
-                omega (arith, a, rest)
-            | inr nw ↦
-                let rest = count_two p n v w (omega (arith, vl, nv)) (omega (arith, wl, nw)) ne tv tw in
-                elim (cases_Bool (p n)) [
-                  | inl f ↦ let a = count-true p n f in omega (arith, a, rest)
-                  | inr f ↦ let a = count-false p n f in omega (arith, a, rest)
-                ]
-          ]
-    ]
-
-count_three : (p : ℕ → Bool) (n u v w : ℕ) → u < n → v < n → w < n → u ≢ v → u ≢ w → v ≢ w → p u ≡ true → p v ≡ true → p w ≡ true → 3 ≤ count p n
-count_three p zero u v w ul vl wl uv uw vw tu tv tw = absurd (omega (arith, vl))
-count_three p (suc n) u v w ul vl wl uv uw vw tu tv tw =
-    elim (cases_eq u n) [
-      | inl is ↦
-          let rest = count_two p n v w (omega (arith, vl, is, uv)) (omega (arith, wl, is, uw)) vw tv tw in
-          let a = count-true p n (subst (λ j. p j ≡ true) is tu) in
-          omega (arith, a, rest)
-      | inr nu ↦
-          elim (cases_eq v n) [
-            | inl is ↦
-                let rest = count_two p n u w (omega (arith, ul, nu)) (omega (arith, wl, is, vw)) uw tu tw in
-                let a = count-true p n (subst (λ j. p j ≡ true) is tv) in
-                omega (arith, a, rest)
-            | inr nv ↦
-                elim (cases_eq w n) [
-                  | inl is ↦
-                      let rest = count_two p n u v (omega (arith, ul, nu)) (omega (arith, vl, nv)) uv tu tv in
-                      let a = count-true p n (subst (λ j. p j ≡ true) is tw) in
-                      omega (arith, a, rest)
-                  | inr nw ↦
-                      let rest = count_three p n u v w (omega (arith, ul, nu)) (omega (arith, vl, nv)) (omega (arith, wl, nw)) uv uw vw tu tv tw in
-                      elim (cases_Bool (p n)) [
-                        | inl f ↦ let a = count-true p n f in omega (arith, a, rest)
-                        | inr f ↦ let a = count-false p n f in omega (arith, a, rest)
-                      ]
-                ]
-          ]
-    ]
-
--- Two sides of lower number have a key exactly where two were noted of it.
-pub third_told : (m : Net) (n k : ℕ) (r : Option Edge) → IsEdge m n k r → has_two r ≡ (count (λ g. edge_key_at m g == k) n == 2)
-third_told m n k None none =
-    let c = count_zero (λ g. edge_key_at m g == k) n (λ i l. ne_eqb _ _ (none i l)) in
-    sym (ne_eqb _ _ (λ e. absurd (omega (arith, c, e))))
-third_told m n k (Some (Edge.One v)) h =
-    let c = count_only (λ g. edge_key_at m g == k) n v.0 h.in_range (eq-eqb _ _ h.has) (λ e l t. h.alone e l (eqb-true _ _ t)) in
-    sym (ne_eqb _ _ (λ e. absurd (omega (arith, c, e))))
-third_told m n k (Some (Edge.Two v w)) h =
-    let c = count_both (λ g. edge_key_at m g == k) n v.0 w.0 h.one_in h.other_in h.differ (eq-eqb _ _ h.one_has) (eq-eqb _ _ h.other_has) (λ e l t. h.alone e l (eqb-true _ _ t)) in
-    sym (eq-eqb _ _ c)
-third_told m n k (Some Edge.More) h =
-    let c = count_three (λ g. edge_key_at m g == k) n h.one h.two h.three h.one_in h.two_in h.three_in h.one_two h.one_three h.two_three (eq-eqb _ _ h.one_has) (eq-eqb _ _ h.two_has) (eq-eqb _ _ h.three_has) in
-    sym (ne_eqb _ _ (λ e. absurd (omega (arith, c, e))))

@@ -6,10 +6,10 @@ use Rattle.pm_base.specs.declared.mesh.Corners.{Corners}
 use Rattle.pm_base.specs.Sides.{Net, face_of, to, net_of, Stands}
 use Rattle.pm_fans.specs.Splits.{AllStand}
 use Rattle.pm_fans.specs.Kept.{kept_of}
-use Rattle.pm_turn.specs.Turning.{turned_face, turned_if, turned_by, flag_of, moved, JoinsSame, AreMates, clash, flipped_if, Way, stay, over, AgreeOnceTurned, AreTurns}
+use Rattle.pm_turn.specs.Turning.{turned_by, flag_of, moved, JoinsSame, AreMates, clash, flipped_if, Way, stay, over, AgreeOnceTurned, AreTurns}
 use Rattle.pm_fans.proofs.KeptLaws.{kept_are_fit}
 use Rattle.pm_turn.proofs.TurnedFaces.{turned_length, none_turned, flip_flip, not_both, along, parity_is}
-use Rattle.pm_turn.proofs.TurnedSides.{SameEnds, ends_back, ends_on, moved_face, moved_back, moved_in, runs_cases, ends_moved, same_before, stand_turned}
+use Rattle.pm_turn.proofs.TurnedSides.{SameEnds, ends_back, ends_on, moved_face, moved_back, moved_in, runs_cases, ends_moved, stand_turned}
 
 -- Turned twice is as before.
 turned_twice : (flags : List Bool) (fs : List Corners) → turned_by flags (turned_by flags fs) ≡ fs

@@ -1,14 +1,14 @@
 -- Turning faces round.
-use Rattle.std.proofs.Common.{◌≡◌, ◌≢◌, ℕ, zero, suc, ◌<◌, ◌≤◌, ◌⊎◌, inl, inr, refl, sym, ap, ◌∙◌, subst, List, [], ◌∷◌, length, Bool, true, false, not, ◌&&◌, ◌||◌, arith}
+use Rattle.std.proofs.Common.{◌≡◌, ℕ, zero, suc, ◌<◌, ◌≤◌, ◌⊎◌, inl, inr, refl, sym, ap, ◌∙◌, subst, List, [], ◌∷◌, length, Bool, true, false, not, ◌&&◌, ◌||◌, arith}
 use Rattle.std.specs.Prelude.{◌==◌}
 use Rattle.std.proofs.lemmas.Bool.{cases_Bool, eqb-true, ne_eqb, or_from, true≢false}
 use Rattle.pm_base.specs.declared.mesh.Corners.{Corners}
-use Rattle.pm_base.specs.Sides.{Net, face_of, net_of, no_corners, NoSideTwice}
+use Rattle.pm_base.specs.Sides.{Net, face_of, net_of, NoSideTwice}
 use Rattle.pm_base.specs.Fans.{IsOrientedManifold}
 use Rattle.pm_base.proofs.NetLaws.{face_at}
 use Rattle.pm_fans.specs.Splits.{AllStand, NoMirroredFaces, IsSplitByFans}
 use Rattle.pm_fans.specs.Kept.{is_flat, is_corner, is_alike, kept_of, IsFitList}
-use Rattle.pm_turn.specs.Turning.{turned_face, turned_if, turned_by, flag_of, AreMates, clash, flipped_if, Way, stay, over, AgreeOnceTurned, AreTurns, AllAgree}
+use Rattle.pm_turn.specs.Turning.{turned_face, turned_if, turned_by, flag_of, clash, flipped_if, Way, stay, over, AgreeOnceTurned, AreTurns, AllAgree}
 use Rattle.pm_fans.proofs.Turned.{not_flat}
 use Rattle.pm_turn.proofs.KeptFit.{kept_list_fit}
 use Rattle.pm_fans.proofs.KeptLaws.{kept_are_fit}

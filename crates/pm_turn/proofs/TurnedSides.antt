@@ -1,15 +1,15 @@
 -- The sides of turned faces, and what is glued.
 use Rattle.std.proofs.Common.{◌≡◌, ◌≢◌, ℕ, ◌+◌, ◌-◌, ◌*◌, ◌/◌, ◌%◌, ◌<◌, ◌⊎◌, inl, inr, refl, sym, ap, ◌∙◌, subst, List, length, Bool, true, false, not, arith}
-use Rattle.std.proofs.lemmas.Bool.{cases_Bool, cases_eq, cond-true, cond-false, eqb-true, eqb-false, eq-eqb, ne_eqb, true≢false}
+use Rattle.std.proofs.lemmas.Bool.{cases_Bool, cases_eq, cond-true, cond-false, eqb-true, eqb-false, ne_eqb, true≢false}
 use Rattle.pm_base.specs.declared.mesh.Corners.{Corners}
-use Rattle.pm_base.specs.Sides.{Net, face_of, next, to, net_of, side_count, corner_in, Stands, IsTwin}
+use Rattle.pm_base.specs.Sides.{Net, face_of, next, to, net_of, corner_in, Stands}
 use Rattle.pm_base.proofs.Sides.{next-lt, face_of-next}
 use Rattle.pm_base.proofs.NetLaws.{face_at, first_side, second_side, third_side}
 use Rattle.pm_fans.specs.Splits.{AllStand, IsGlued}
 use Rattle.pm_fans.specs.Kept.{kept_of}
-use Rattle.pm_turn.specs.Turning.{turned_face, turned_if, turned_by, flag_of, moved, JoinsSame, AreMates, clash, flipped_if, Way, stay, over, AgreeOnceTurned}
+use Rattle.pm_turn.specs.Turning.{turned_face, turned_if, turned_by, flag_of, moved, JoinsSame, AreMates, clash, flipped_if, AgreeOnceTurned}
 use Rattle.pm_fans.proofs.KeptLaws.{kept_are_fit}
-use Rattle.pm_turn.proofs.TurnedFaces.{turned_at, turned_length, turned_faces_stay, flip_flip, not_both}
+use Rattle.pm_turn.proofs.TurnedFaces.{turned_at, turned_length, turned_faces_stay}
 
 -- Two ends are two others, in one order or the other.
 abbrev pub SameEnds : ℕ → ℕ → ℕ → ℕ → Type 0

@@ -4,12 +4,12 @@ use Rattle.std.specs.List.{range_with_len}
 use Rattle.std.proofs.lemmas.Bool.{cases_eq, cases_order}
 use Rattle.std.proofs.lemmas.List.{length-map, get_or-map}
 use Rattle.std.proofs.lemmas.List.FromFn.{length-range_with_len, get_or-range_with_len}
-use Rattle.pm_base.specs.Sides.{Net, face_of, to, side_count, Stands}
+use Rattle.pm_base.specs.Sides.{Net, face_of, to, side_count}
 use Rattle.pm_base.proofs.Search.{Decided, search_below}
 use Rattle.pm_base.proofs.TwinLaws.{stands?}
-use Rattle.pm_turn.specs.Turning.{flag_of, JoinsSame, AreMates, clash, flipped_if, AreTurns, traced_flag}
+use Rattle.pm_turn.specs.Turning.{JoinsSame, AreMates, clash, flipped_if, traced_flag}
 use Rattle.pm_turn.specs.Unions.{Elders, Up, top, up, AreElders, marked, under, all_own}
-use Rattle.pm_turn.specs.AnyLaws.{TurnsAreThere}
+use Rattle.pm_turn.specs.TurnLaws.{TurnsAreThere}
 use Rattle.pm_turn.proofs.Joining.{up_below, begun, none_more, agreeing_more, odd_more, under_first, under_second, elders_traced}
 use Rattle.pm_turn.proofs.Traced.{traced_tables_turn}
 
@@ -57,7 +57,7 @@ module _ (m : Net) (e : ℕ) where
   one_other : (k g : ℕ) → AreMates m e k → IsOther g → g ≡ k
   one_other k g a (j, ne) = elim (a.alone g j) [ inl is ↦ absurd (ne is) | inr is ↦ is ]
 
-  mate? : ((k : ℕ) × AreMates m e k) ⊎ ((k : ℕ) → AreMates m e k → ⊥)
+  pub mate? : ((k : ℕ) × AreMates m e k) ⊎ ((k : ℕ) → AreMates m e k → ⊥)
   mate? =
       elim (stands? m e) [
         | inr out ↦ inr (λ k a. out a.stands)
@@ -91,7 +91,7 @@ module _ (m : Net) (e : ℕ) where
       ]
 
 -- From each face a way leads up.
-abbrev HasUp : Elders → ℕ → Type 0
+abbrev pub HasUp : Elders → ℕ → Type 0
 HasUp t x = (r : ℕ) × (p : Bool) × Up t x r p
 
 up_there : (t : Elders) → ((x : ℕ) → t.elder x ≤ x) → (n x : ℕ) → x < n → HasUp t x
@@ -105,7 +105,7 @@ up_there t below (suc n) x l =
           (r, flipped_if p (t.parity x), up ne w)
     ]
 
-up_of : (t : Elders) → ((x : ℕ) → t.elder x ≤ x) → (x : ℕ) → HasUp t x
+pub up_of : (t : Elders) → ((x : ℕ) → t.elder x ≤ x) → (x : ℕ) → HasUp t x
 up_of t below x = up_there t below (suc x) x (omega arith)
 
 same_or_not : (b c : Bool) → (b ≡ c) ⊎ (b ≡ not c)
@@ -115,7 +115,7 @@ same_or_not false true = inr refl
 same_or_not false false = inl refl
 
 -- The mates of one more side are joined.
-abbrev AreGrown : Net → ℕ → Type 0
+abbrev pub AreGrown : Net → ℕ → Type 0
 AreGrown m n = (t : Elders) × AreElders m n t
 
 joined_at : (m : Net) (n k : ℕ) (t : Elders) → AreElders m n t → AreMates m n k → AreGrown m (n + 1)
@@ -142,7 +142,7 @@ grown m n t s =
       | inr none ↦ (t, none_more m n t s none)
     ]
 
-all_grown : (m : Net) (n : ℕ) → AreGrown m n
+pub all_grown : (m : Net) (n : ℕ) → AreGrown m n
 all_grown m zero = (all_own, begun m)
 all_grown m (suc n) =
     let (t, s) = all_grown m n in

@@ -9,7 +9,11 @@ use Rattle.pm_fans.specs.Kept.{kept_of}
 use Rattle.pm_turn.specs.Turning.{turned_by, flag_of, AgreeOnceTurned, AreTurns, AllAgree}
 use Rattle.pm_turn.specs.Choice.{IsOpen, turned_in, place_at, volume_in, AreChosenTurns}
 
--- One list of flags is chosen.
+-- For any mesh and places flags are chosen.
+abbrev pub ChosenTurnsAreThere : Type 0
+ChosenTurnsAreThere = (m : Net) (places : List Place) → (flags : List Bool) × AreChosenTurns m places flags
+
+-- One list of flags is.
 abbrev pub ChosenTurnsAreOne : Type 0
 ChosenTurnsAreOne = (m : Net) (places : List Place) (one other : List Bool) → AreChosenTurns m places one → AreChosenTurns m places other → one ≡ other
 
@@ -30,12 +34,12 @@ abbrev pub FewestAreTurned : Type 0
 FewestAreTurned = (m : Net) (places : List Place) (flags other : List Bool) (t : AreChosenTurns m places flags) → AgreeOnceTurned m other → (r : ℕ) → IsOpen m t.least r
     → turned_in m t.least (flag_of flags) r ≤ turned_in m t.least (flag_of other) r
 
--- Net n is net m with other numbers for the vertices that its sides name, of which no two get one number.
+-- Net n is net m with other numbers for the vertices: two sides begin at one vertex of n exactly
+-- where they do in m.
 pub record IsRenumbered (m n : Net) : Type 0 where
   pub faces : n.faces ≡ m.faces
-  pub name : ℕ → ℕ
-  pub from : (e : ℕ) → e < side_count m → n.from e ≡ name (m.from e)
-  pub apart : (e g : ℕ) → e < side_count m → g < side_count m → name (m.from e) ≡ name (m.from g) → m.from e ≡ m.from g
+  pub there : (e g : ℕ) → e < side_count m → g < side_count m → m.from e ≡ m.from g → n.from e ≡ n.from g
+  pub back : (e g : ℕ) → e < side_count m → g < side_count m → n.from e ≡ n.from g → m.from e ≡ m.from g
 
 -- Which faces are turned doesn't depend on the vertices' numbers.
 abbrev pub TurnsAreRenumbered : Type 0

@@ -1,8 +1,9 @@
 -- The edges of a mesh: the pairs of vertices that its sides join, in either order, and the sides of each.
-use Rattle.std.specs.Prelude.{◌≡◌, ◌≢◌, ℕ, ◌+◌, ◌*◌, ◌<◌, ◌⊎◌, ◌==◌, nat_lt, Option, None, Some, if◌then◌else◌}
+use Rattle.std.specs.Prelude.{◌≡◌, ◌≢◌, ℕ, ◌+◌, ◌*◌, ◌<◌, ◌⊎◌, ◌==◌, nat_lt, Bool, true, false, Option, None, Some, if◌then◌else◌}
 use Rattle.std.specs.Ordering.{nat_cmp}
 use Rattle.std.specs.BTreeMap.{BTreeMap, get}
 use Rattle.pm_base.specs.declared.ids.Side.{Side}
+use Rattle.pm_base.specs.Counts.{count}
 use Rattle.pm_base.specs.Sides.{Net, to}
 use Rattle.pm_turn.specs.declared.edges.Edge.{Edge}
 use Rattle.pm_turn.specs.declared.edges.TheConstants.{SHIFT}
@@ -67,3 +68,14 @@ mate_in None e = None
 mate_in (Some (Edge.One v)) e = None
 mate_in (Some (Edge.Two v w)) e = Some (if v.0 == e.0 then w else v)
 mate_in (Some Edge.More) e = None
+
+-- Whether two sides were noted of an edge, and no third.
+abbrev pub has_two : Option Edge → Bool
+has_two None = false
+has_two (Some (Edge.One v)) = false
+has_two (Some (Edge.Two v w)) = true
+has_two (Some Edge.More) = false
+
+-- Two of the sides before side e have its key, and no third.
+abbrev pub comes_third : Net → ℕ → Bool
+comes_third m e = count (λ g. edge_key_at m g == edge_key_at m e) e == 2

@@ -3,8 +3,8 @@ pub mod Turning
 pub mod TurnLaws
 pub mod Unions
 pub mod UnionLaws
-pub mod AnyLaws
 pub mod Choice
 pub mod Sums
 pub mod ChoiceLaws
 pub mod Told
+pub mod ToldLaws

@@ -1,14 +1,12 @@
 -- What is told of turning beside the flags: how many faces and patches there are of a kind.
-use Rattle.std.specs.Prelude.{◌≡◌, ℕ, pos, ◌<◌, ◌<ℤ◌, ◌==◌, int_lt, Bool, true, false, not, ◌&&◌, Option, None, Some, List}
+use Rattle.std.specs.Prelude.{◌≡◌, ℕ, pos, ◌<◌, ◌<ℤ◌, ◌==◌, int_lt, Bool, true, false, not, ◌&&◌, ◌||◌, List}
 use Rattle.pm_base.specs.Place.{Place}
 use Rattle.pm_base.specs.Counts.{count}
-use Rattle.pm_base.specs.Sides.{Net, side_count}
-use Rattle.pm_turn.specs.declared.counts.TurnReport.{TurnReport}
+use Rattle.pm_base.specs.Sides.{Net, to, side_count}
+use Rattle.pm_turn.specs.declared.counts.TurnCounts.{TurnCounts}
 use Rattle.pm_turn.specs.declared.choice.Sums.{Sums}
-use Rattle.pm_turn.specs.declared.edges.Edge.{Edge}
 use Rattle.pm_turn.specs.Turning.{flag_of, Way}
-use Rattle.pm_turn.specs.Edges.{edge_key_at}
-use Rattle.pm_turn.specs.Choice.{AreLeast, IsClosed, Agrees, volume_in, AreChosenTurns}
+use Rattle.pm_turn.specs.Choice.{AreLeast, IsClosed, Agrees, volume_in}
 
 -- Of the numbers below n, k have the property.
 pub record IsCount (P : ℕ → Type 0) (n k : ℕ) : Type 0 where
@@ -34,27 +32,24 @@ pub record AreInsideOut (m : Net) (places : List Place) (k : ℕ) : Type 0 where
   pub patches : AreLeast m least
   pub count : IsCount (IsInsideOut m places least) m.faces k
 
--- Side e is the third of its edge: two sides of lower number join the same two vertices, in either order.
+-- Sides e and g join the same two vertices, in either order.
+abbrev pub join_same : Net → ℕ → ℕ → Bool
+join_same m e g = ((m.from g == m.from e) && (to m g == to m e)) || ((m.from g == to m e) && (to m g == m.from e))
+
+-- Side e is the third of its edge: two sides of lower number join the same two vertices.
 abbrev pub is_third : Net → ℕ → Bool
-is_third m e = count (λ g. edge_key_at m g == edge_key_at m e) e == 2
+is_third m e = count (join_same m e) e == 2
 
 -- How many edges have three sides or more: each has one third side.
 abbrev pub crowded_of : Net → ℕ
 crowded_of m = count (is_third m) (side_count m)
 
-pub record IsReport (m : Net) (places : List Place) (t : TurnReport) : Type 0 where
-  pub flags : AreChosenTurns m places t.flags.items
-  pub turned : t.turned ≡ count (flag_of t.flags.items) m.faces
-  pub twisted : IsCount (IsTwisted m) m.faces t.twisted
-  pub crowded : t.crowded ≡ crowded_of m
-  pub inside_out : AreInsideOut m places t.inside_out
-
--- Whether two sides were noted of an edge, and no third.
-abbrev pub has_two : Option Edge → Bool
-has_two None = false
-has_two (Some (Edge.One v)) = false
-has_two (Some (Edge.Two v w)) = true
-has_two (Some Edge.More) = false
+-- What is told of turning, where these flags tell which faces are turned.
+pub record AreTurnCounts (m : Net) (places : List Place) (flags : List Bool) (c : TurnCounts) : Type 0 where
+  pub turned : c.turned ≡ count (flag_of flags) m.faces
+  pub twisted : IsCount (IsTwisted m) m.faces c.twisted
+  pub crowded : c.crowded ≡ crowded_of m
+  pub inside_out : AreInsideOut m places c.inside_out
 
 -- Whether a face that stands for a patch tells, by the patch's sums, that it is closed, agrees as it is, and is inside out.
 abbrev pub is_inward : Bool → Bool → Sums → Bool

@@ -1,11 +1,10 @@
 -- The laws of turning faces round, each as a statement.
-use Rattle.std.specs.Prelude.{◌≡◌, ℕ, ◌<◌, ◌⊎◌, Bool, true, false, List, length, slice_index_or}
-use Rattle.std.specs.List.{list_any}
+use Rattle.std.specs.Prelude.{◌≡◌, ℕ, ◌<◌, ◌⊎◌, Bool, false, List, length, slice_index_or}
 use Rattle.pm_base.specs.declared.mesh.Corners.{Corners}
 use Rattle.pm_base.specs.Sides.{Net, face_of, net_of, no_corners}
 use Rattle.pm_base.specs.Fans.{IsOrientedManifold}
 use Rattle.pm_fans.specs.Splits.{AllStand, IsGlued, IsSplitByFans}
-use Rattle.pm_fans.specs.Kept.{is_flat, is_alike, kept_of}
+use Rattle.pm_fans.specs.Kept.{kept_of}
 use Rattle.pm_turn.specs.Turning.{turned_face, turned_by, flag_of, moved, AreMates, AgreeOnceTurned, AreTurns, AllAgree, AreTraced, traced_flag}
 
 -- Whichever faces are turned: those that stay, turned, and split by fans, are an oriented manifold.
@@ -20,7 +19,11 @@ EachIsTurnedOrNot = (flags : List Bool) (fs : List Corners) → (length (turned_
 abbrev pub TurnedFacesStay : Type 0
 TurnedFacesStay = (flags : List Bool) (fs : List Corners) → kept_of (turned_by flags (kept_of fs)) ≡ turned_by flags (kept_of fs)
 
--- One list of flags tells which faces are turned.
+-- Of any mesh flags tell which faces are turned.
+abbrev pub TurnsAreThere : Type 0
+TurnsAreThere = (m : Net) → (flags : List Bool) × AreTurns m flags
+
+-- One list of flags does.
 abbrev pub TurnsAreOne : Type 0
 TurnsAreOne = (m : Net) (one other : List Bool) → AreTurns m one → AreTurns m other → one ≡ other
 

@@ -1,16 +1,16 @@
 //! Which way round each patch is turned: sums over its faces, and the choice by them.
-ghost use Rattle.std.specs.Prelude.{◌≡◌, ℕ, ◌+◌, ◌*◌, ◌<◌, ◌≤◌, ◌^◌, ◌+ℤ◌, ◌*ℤ◌, length, slice_index_or, slice_set, replicate, unsigned_abs, IfOk, OnOk};
+ghost use Rattle.std.specs.Prelude.{◌≡◌, ℕ, ◌+◌, ◌*◌, ◌<◌, ◌≤◌, ◌^◌, length, slice_index_or, slice_set, replicate, unsigned_abs, IfOk, OnOk};
 ghost use Rattle.pm_base.specs.declared.limits.TheConstants.{MOST_FACES};
 ghost use Rattle.pm_base.specs.Sides.{net_of, side_count};
 ghost use Rattle.pm_fans.specs.Splits.{IsCuttable};
 ghost use Rattle.pm_turn.specs.Turning.{flag_of, AreTraced};
 ghost use Rattle.pm_turn.specs.Unions.{AreElders, AreTables, AreMated, elders_of};
-ghost use Rattle.pm_turn.specs.Choice.{ArePlaced, determinant_of, volume_at, AreChosenTurns};
+ghost use Rattle.pm_turn.specs.Choice.{ArePlaced, volume_at, AreChosenTurns};
+ghost use Rattle.pm_turn.specs.Told.{AreTurnCounts};
 ghost use Rattle.pm_turn.specs.Sums.{
   root_at,
   parity_at,
   is_bare as is_bare_of,
-  face_volume,
   no_sums as no_sums_of,
   with_face as with_face_of,
   AreSums,
@@ -19,10 +19,12 @@ ghost use Rattle.pm_turn.specs.Sums.{
 };
 
 use crate::OutOfMemory;
-use crate::edges::side_mates;
+use crate::counts::{TurnCounts, count_set, inside_out, twisted_faces};
+use crate::edges::{edge_mates, note_edges};
 use crate::patches::{Patches, Root, flipped_if, join_all, root_of};
 use crate::turning::own_patches;
-use pm_base::{Corners, Point, Side, SideMap, cross};
+use crate::volumes::volume_of;
+use pm_base::{Corners, Point, Side, SideMap};
 use std::alloc::Global;
 
 /// What is added up over the faces of a patch: how many have an even way to the face that stands for
@@ -36,26 +38,43 @@ pub(crate) struct Sums {
     pub(crate) volume: i128,
 }
 
-/// For each face whether it is turned round, as `turns` tells, but each patch the better way round. No
-/// face is turned where neighbours agree already. Of a patch with a side that has no mate the fewest
-/// faces are turned; of two equal choices the face of least number stays. A closed patch has a volume
-/// that isn't below 0; without volume it is turned as an open one. Sums are exact.
-/// There is one such list of flags. O(F log F) for F faces.
+/// Which faces are turned, and what can be told of that.
+#[derive(Drop)]
+pub struct Turned {
+    /// For each face whether it is turned round.
+    pub flags: Vec<bool>,
+    pub counts: TurnCounts,
+}
+
+/// For each face whether it is turned round, as `turns` tells, but each patch the better way round, and
+/// what can be told of that. No face is turned where neighbours agree already. Of a patch with a side
+/// that has no mate the fewest faces are turned; of two equal choices the face of least number stays.
+/// A closed patch has a volume that isn't below 0; without volume it is turned as an open one. Sums
+/// are exact. There is one such list of flags. O(F log F) for F faces.
 pub fn chosen_turns(
     alloc: Global,
     faces: &[Corners],
     places: &[Point],
-) -> Result<Vec<bool>, OutOfMemory>
+) -> Result<Turned, OutOfMemory>
     requires cuttable { IsCuttable (net_of faces.now) }
     requires placed { ArePlaced (net_of faces.now) places.now }
-    ensures { IfOk result (λ flags. AreChosenTurns (net_of faces.now) places.now flags.items) }
+    ensures flags { IfOk result (λ t. AreChosenTurns (net_of faces.now) places.now t.flags.items) }
+    ensures counts { IfOk result (λ t. AreTurnCounts (net_of faces.now) places.now t.flags.items t.counts) }
 {
-    let mates = side_mates(alloc, faces)?;
+    let edges = note_edges(alloc, faces)?;
+    let mates = edge_mates(alloc, faces, &edges)?;
     let mut patches = own_patches(alloc, faces.len() as u32)?;
     join_all(&mut patches, faces, &mates);
     let roots = all_roots(alloc, &mut patches, faces)?;
     let sums = patch_sums(alloc, faces, places, &mates, &roots)?;
-    chosen_flags(alloc, faces, places, &mates, &patches.odd, &roots, &sums)
+    let flags = chosen_flags(alloc, faces, places, &mates, &patches.odd, &roots, &sums)?;
+    let counts = TurnCounts {
+        turned: count_set(&flags),
+        twisted: twisted_faces(faces, &patches.odd, &roots),
+        crowded: edges.crowded,
+        inside_out: inside_out(faces, places, &mates, &patches.odd, &roots, &sums),
+    };
+    Ok(Turned { flags, counts })
 }
 
 // The root of each face, once all that are mates are joined.
@@ -129,70 +148,6 @@ fn is_bare(mates: &SideMap, face: u32) -> bool
     mates.get(Side(3 * face)).is_none()
         || mates.get(Side(3 * face + 1)).is_none()
         || mates.get(Side(3 * face + 2)).is_none()
-}
-
-// The product of a coordinate and a number of a normal.
-fn product(a: i32, n: i64) -> i128
-    requires a_small { unsigned_abs a ≤ 32767 }
-    requires n_small { unsigned_abs n ≤ 8589410312 }
-    ensures value { result ≡ a *ℤ n }
-    ensures small { unsigned_abs result ≤ 2 ^ 49 }
-{
-    i128::from(a) * i128::from(n)
-}
-
-// The sum of three such products.
-fn add_three(a: i128, b: i128, c: i128) -> i128
-    requires a_small { unsigned_abs a ≤ 2 ^ 49 }
-    requires b_small { unsigned_abs b ≤ 2 ^ 49 }
-    requires c_small { unsigned_abs c ≤ 2 ^ 49 }
-    ensures value { result ≡ a +ℤ b +ℤ c }
-    ensures small { unsigned_abs result ≤ 2 ^ 51 }
-{
-    a + b + c
-}
-
-// The determinant of three points: the corner a times the face's normal.
-#[tactic(auto, unfolding(crate::specs::Choice::determinant_of))]
-fn determinant(a: Point, b: Point, c: Point) -> i128
-    ensures value { result ≡ determinant_of a b c }
-    ensures small { unsigned_abs result ≤ 2 ^ 51 }
-{
-    let normal = cross(a, b, c);
-    add_three(
-        product(a.x(), normal.x),
-        product(a.y(), normal.y),
-        product(a.z(), normal.z),
-    )
-}
-
-// The determinant of a face's corners, once it is turned if told so.
-fn volume(face: Corners, places: &[Point], turned: bool) -> i128
-    requires a { face.a < length places.now }
-    requires b { face.b < length places.now }
-    requires c { face.c < length places.now }
-    ensures value { result ≡ face_volume places.now turned face }
-    ensures small { unsigned_abs result ≤ 2 ^ 51 }
-{
-    let a = places[face.a as usize];
-    let b = places[face.b as usize];
-    let c = places[face.c as usize];
-    if turned {
-        determinant(a, c, b)
-    } else {
-        determinant(a, b, c)
-    }
-}
-
-// The determinant of face `face`.
-#[tactic(auto, using(crate::proofs::Summing::volume_by_corners))]
-fn volume_of(faces: &[Corners], places: &[Point], face: usize, turned: bool) -> i128
-    requires in_range { face < length faces.now }
-    requires placed { ArePlaced (net_of faces.now) places.now }
-    ensures value { result ≡ volume_at (net_of faces.now) places.now turned face }
-    ensures small { unsigned_abs result ≤ 2 ^ 51 }
-{
-    volume(faces[face], places, turned)
 }
 
 // Adds a face to the sums of its patch.

@@ -2,7 +2,6 @@
 //! them share, and of each patch the faces that are turned.
 #![tactic(auto)]
 
-mod any;
 mod choice;
 mod counts;
 mod edges;
@@ -10,13 +9,15 @@ mod patches;
 mod sides;
 mod theory;
 mod turning;
+mod volumes;
 
-pub use any::any_turns_are_sound;
-pub use choice::chosen_turns;
-pub use counts::{TurnReport, report_turns};
+pub use choice::{Turned, chosen_turns};
+pub use counts::TurnCounts;
 pub use edges::side_mates;
 use std::alloc::AllocError;
-pub use theory::{chosen_turns_are_sound, turns_are_sound, unions_are_sound};
+pub use theory::{
+    chosen_turns_are_sound, turn_counts_are_sound, turns_are_sound, unions_are_sound,
+};
 pub use turning::{turned, turns};
 
 /// The answer for want of memory.

@@ -1,4 +1,4 @@
-use Rattle.std.proofs.Common.{◌≡◌, ℕ, ◌<◌, length, ◌∙◌, subst, arith}
+use Rattle.std.proofs.Common.{◌≡◌, ℕ, length, ◌∙◌, subst, arith}
 use Rattle.pm_base.specs.Sides.{Net, net_of, face_of}
 use Rattle.pm_turn.specs.Unions.{Up, AreElders, elders_of}
 use Rattle.pm_turn.proofs.Joining.{up_below}

@@ -1,4 +1,4 @@
-use Rattle.std.proofs.Common.{◌<◌, arith}
+use Rattle.std.proofs.Common.{arith}
 use Rattle.pm_turn.specs.Unions.{elders_of}
 use Rattle.pm_turn.proofs.JoinLaws.{put_first, put_second, mark_root, pass_on}
 use Rattle.pm_turn.proofs.patches.join_roots.Goals as goal

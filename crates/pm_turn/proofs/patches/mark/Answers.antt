@@ -1,4 +1,4 @@
-use Rattle.std.proofs.Common.{◌≡◌, ◌<◌, sym, subst, length}
+use Rattle.std.proofs.Common.{◌<◌, sym, subst}
 use Rattle.pm_turn.proofs.Tables.{tables_marked}
 use Rattle.pm_turn.proofs.patches.mark.Goals as goal
 

@@ -1,4 +1,4 @@
-use Rattle.std.proofs.Common.{◌≡◌, ◌<◌, sym, subst, ap, ◌∙◌, Bool, false, ◌||◌, length, slice_index_or}
+use Rattle.std.proofs.Common.{◌<◌, sym, subst, ap, ◌∙◌, Bool, false, ◌||◌, slice_index_or}
 use Rattle.std.proofs.lemmas.List.{get_or_read}
 use Rattle.pm_turn.proofs.Tables.{tables_under}
 use Rattle.pm_turn.proofs.patches.put_under.Goals as goal

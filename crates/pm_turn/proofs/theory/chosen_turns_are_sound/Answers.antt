@@ -1,3 +1,4 @@
+use Rattle.pm_turn.proofs.ChosenThere.{chosen_turns_are_there}
 use Rattle.pm_turn.proofs.OneChoice.{chosen_turns_are_one, fewest_are_turned}
 use Rattle.pm_turn.proofs.ChosenAgain.{agreeing_faces_are_kept, manifolds_are_kept, chosen_faces_are_turned_once}
 use Rattle.pm_turn.proofs.Renumbered.{turns_are_renumbered, chosen_turns_are_renumbered}
@@ -6,6 +7,7 @@ use Rattle.pm_turn.proofs.theory.chosen_turns_are_sound.Goals as goal
 
 pub returns : goal.returns
 returns c = record {
+  there = chosen_turns_are_there;
   one = chosen_turns_are_one;
   agreeing = agreeing_faces_are_kept;
   untouched = manifolds_are_kept;

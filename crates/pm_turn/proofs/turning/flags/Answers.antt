@@ -1,4 +1,4 @@
-use Rattle.std.proofs.Common.{◌≡◌, ℕ, ◌<◌, length, subst, arith}
+use Rattle.std.proofs.Common.{◌≡◌, subst, arith}
 use Rattle.pm_base.specs.Sides.{Net, net_of, side_count}
 use Rattle.pm_turn.specs.Unions.{AreTables, elders_of}
 use Rattle.pm_turn.proofs.Flags.{flagged_more, flagged_turn}

@@ -1,4 +1,4 @@
-use Rattle.std.proofs.Common.{ℕ, ◌<◌, Bool, false, length, sym, ap, ◌∙◌, subst}
+use Rattle.std.proofs.Common.{◌<◌, Bool, false, length, sym, ap, ◌∙◌, subst}
 use Rattle.std.proofs.lemmas.List.{get_or_read}
 use Rattle.pm_turn.specs.Turning.{flag_with}
 use Rattle.pm_turn.proofs.turning.is_turned.Goals as goal

@@ -1,4 +1,4 @@
-use Rattle.std.proofs.Common.{◌≤◌, length, arith}
+use Rattle.std.proofs.Common.{arith}
 use Rattle.pm_turn.specs.Turning.{turned_by}
 use Rattle.pm_turn.proofs.TurnMore.{turned_more, turned_all}
 use Rattle.pm_turn.proofs.turning.turned.Goals as goal

@@ -3,13 +3,13 @@ use Rattle.std.proofs.lemmas.List.{length-replicate}
 use Rattle.pm_base.specs.declared.limits.TheConstants.{MOST_SIDES}
 use Rattle.pm_base.specs.Sides.{Net, net_of, side_count}
 use Rattle.pm_turn.proofs.EdgeLaws.{none_mated, mated_more, all_mated, mate_low}
-use Rattle.pm_turn.proofs.edges.side_mates.Goals as goal
+use Rattle.pm_turn.proofs.edges.edge_mates.Goals as goal
 
 pub loop-number-init : goal.loop-number-init
 loop-number-init c = none_mated (net_of c.args.faces.now) c.in_ok-mates.mates c.in_ok-mates.ensures
 
 pub set-requires-clause-small : goal.set-requires-clause-small
-set-requires-clause-small c = mate_low (net_of c.args.faces.now) c.loop-number.number MOST_SIDES c.mate_of.result (omega (arith, c.requires.short)) c.mate_of.ensures
+set-requires-clause-small c = mate_low (net_of c.args.faces.now) c.loop-number.number MOST_SIDES c.mate_of.result (omega (arith, c.requires.cuttable.short)) c.mate_of.ensures
 
 pub loop-number-preserved : goal.loop-number-preserved
 loop-number-preserved c =
