@@ -30,7 +30,8 @@ class Preparing(unittest.TestCase):
         points = "v 0 0 0\nv 10 0 0\nv 20 0 0\nv 30 0 0\nv 40 0 10\n"
         faces = "f 1 2 3\nf 2 4 3\nf 3 4 5\nf 4 1 5\nf 5 1 2\n"
         done = answer("prepare", [], (points + faces).encode())
-        self.assertNotIn("turned", done.error)
+        self.assertNotIn("faces turned", done.error)
+        self.assertIn("prepare: faces in patches that can't be turned 5\n", done.error)
         self.assertIn("prepare: sides cut open 2\n", done.error)
 
     def test_of_four_numbers_the_last_is_a_weight(self) -> None:
@@ -44,6 +45,25 @@ class Preparing(unittest.TestCase):
         points = "v 0 0 0\nv 10 0 0\nv 0 10 0\nv 10 0 0\nv 10.1 0 0\n"
         done = answer("prepare", ["10"], (points + "f 1 2 3\nf 1 4 3\nf 1 5 3\n").encode())
         self.assertIn("prepare: vertices joined 2, 1 of them by rounding\n", done.error)
+
+    def test_of_a_strip_the_fewer_faces_are_turned(self) -> None:
+        points = "v 0 0 0\nv 0 9 0\nv 9 0 0\nv 9 9 0\nv 18 0 0\n"
+        done = answer("prepare", [], (points + "f 1 2 3\nf 2 3 4\nf 3 5 4\n").encode())
+        self.assertIn(b"f 1 3 2\nf 2 3 4\nf 3 5 4\n", done.output)
+        self.assertEqual(done.error, "prepare: faces turned 1\n")
+
+    def test_a_closed_surface_of_which_a_face_is_turned_looks_outward(self) -> None:
+        points = "v 0 0 0\nv 10 0 0\nv 0 10 0\nv 0 0 10\n"
+        done = answer("prepare", [], (points + "f 1 2 3\nf 1 2 4\nf 1 4 3\nf 2 3 4\n").encode())
+        self.assertIn(b"f 1 3 2\nf 1 2 4\nf 1 4 3\nf 2 3 4\n", done.output)
+        self.assertEqual(done.error, "prepare: faces turned 1\n")
+
+    def test_a_closed_surface_that_is_inside_out_is_told(self) -> None:
+        points = "v 0 0 0\nv 10 0 0\nv 0 10 0\nv 0 0 10\n"
+        inward = (points + "f 1 2 3\nf 1 4 2\nf 1 3 4\nf 2 4 3\n").encode()
+        done = answer("prepare", [], inward)
+        self.assertIn(b"f 1 2 3\nf 1 4 2\nf 1 3 4\nf 2 4 3\n", done.output)
+        self.assertEqual(done.error, "prepare: closed surfaces inside out 1\n")
 
     def test_of_lines_that_go_together_the_first_is_named(self) -> None:
         done = answer("prepare", [], b"v 0 0 0\nv 1 \\\n2 \\\nx\n")

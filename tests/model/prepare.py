@@ -1,7 +1,7 @@
 """What `prepare` makes of a text: points brought onto the grid, an oriented manifold, and notes."""
 from collections import Counter, defaultdict
 from fractions import Fraction
-from typing import Dict, FrozenSet, List, NamedTuple, Optional, Tuple
+from typing import Dict, FrozenSet, List, NamedTuple, Optional, Set, Tuple
 
 from .commands import number_of_word
 from .faults import Answer, Fault, failed, not_understood
@@ -101,15 +101,23 @@ def kept(faces: List[Corners]) -> List[Corners]:
     return stay
 
 
-def neighbours(faces: List[Corners]) -> Dict[int, List[Tuple[int, bool]]]:
-    """Beside each face those with which it alone shares an edge, and whether both run the same way
-    along it."""
+Neighbours = Dict[int, List[Tuple[int, bool]]]
+
+
+def sides_of_edges(faces: List[Corners]) -> "Dict[FrozenSet[int], List[Tuple[int, int]]]":
+    """By the two vertices of each edge its faces, and from which vertex each runs along it."""
     at: Dict[FrozenSet[int], List[Tuple[int, int]]] = defaultdict(list)
     for face, (a, b, c) in enumerate(faces):
         for p, q in ((a, b), (b, c), (c, a)):
             at[frozenset((p, q))].append((face, p))
-    beside: Dict[int, List[Tuple[int, bool]]] = {face: [] for face in range(len(faces))}
-    for both in at.values():
+    return at
+
+
+def neighbours(faces: List[Corners]) -> Neighbours:
+    """Beside each face those with which it alone shares an edge, and whether both run the same way
+    along it."""
+    beside: Neighbours = {face: [] for face in range(len(faces))}
+    for both in sides_of_edges(faces).values():
         if len(both) == 2:
             (one, p), (other, q) = both
             beside[one].append((other, p == q))
@@ -117,26 +125,63 @@ def neighbours(faces: List[Corners]) -> Dict[int, List[Tuple[int, bool]]]:
     return beside
 
 
-def turned_flags(faces: List[Corners]) -> List[bool]:
-    """Which faces are turned round so that neighbours agree: a flood from the least face of each
-    patch, which stays. Of a patch of which that can't be had none is."""
+def patch_from(first: int, beside: Neighbours) -> Dict[int, bool]:
+    """The faces that hang together with one, and whether a way to each has an odd number of
+    clashes."""
+    odd = {first: False}
+    patch = [first]
+    for face in patch:
+        for other, clash in beside[face]:
+            if other not in odd:
+                odd[other] = odd[face] != clash
+                patch.append(other)
+    return odd
+
+
+def volume(faces: List[Corners], places: Dict[int, Point]) -> int:
+    """Six times the volume within these faces: above 0 where they look outward."""
+    sum = 0
+    for face in faces:
+        (ax, ay, az), (bx, by, bz), (cx, cy, cz) = [places[v] for v in face]
+        sum += ax * (by * cz - bz * cy) + ay * (bz * cx - bx * cz) + az * (bx * cy - by * cx)
+    return sum
+
+
+class Turning(NamedTuple):
+    """Which faces are turned round; how many lie in patches of which no way round agrees; and how
+    many closed patches that agree as they are look inward."""
+
+    flags: List[bool]
+    twisted: int
+    inside_out: int
+
+
+def turning(faces: List[Corners], places: Dict[int, Point]) -> Turning:
+    """Faces are turned round so that neighbours agree. Of the two ways round of a patch the one
+    that turns fewer faces is taken, of two equal ones that by which the least face stays; of a
+    closed patch in which neighbours clash, and that has a volume, the one that looks outward.
+    Where neighbours can't be made to agree no face is turned."""
     beside = neighbours(faces)
-    parity: Dict[int, bool] = {}
     flags = [False] * len(faces)
+    met: Set[int] = set()
+    twisted = inside_out = 0
     for first in range(len(faces)):
-        if first in parity:
+        if first in met:
             continue
-        parity[first] = False
-        patch = [first]
-        for face in patch:
-            for other, clash in beside[face]:
-                if other not in parity:
-                    parity[other] = parity[face] != clash
-                    patch.append(other)
-        if all(parity[g] == (parity[f] != clash) for f in patch for g, clash in beside[f]):
-            for face in patch:
-                flags[face] = parity[face]
-    return flags
+        odd = patch_from(first, beside)
+        met.update(odd)
+        if any(odd[g] != (odd[f] != clash) for f in odd for g, clash in beside[f]):
+            twisted += len(odd)
+            continue
+        closed = all(len(beside[f]) == 3 for f in odd)
+        within = volume(turned([faces[f] for f in odd], list(odd.values())), places)
+        if not any(odd.values()):
+            inside_out += closed and within < 0
+            continue
+        back = within < 0 if closed and within else 2 * sum(odd.values()) > len(odd)
+        for f in odd:
+            flags[f] = odd[f] != back
+    return Turning(flags, twisted, inside_out)
 
 
 def turned(faces: List[Corners], flags: List[bool]) -> List[Corners]:
@@ -219,8 +264,8 @@ def prepared(soup: Soup, size: Optional[int]) -> Prepared:
     names = joined(places)
     renamed = [(names[a], names[b], names[c]) for a, b, c in three]
     stay = kept(renamed)
-    flags = turned_flags(stay)
-    faces = numbered(turned(stay, flags))
+    turns = turning(stay, places)
+    faces = numbered(turned(stay, turns.flags))
     fans = split(faces)
     new = {side: vertex for vertex, fan in enumerate(fans) for side in fan}
     points = [places[ends(faces, fan[0])[0]] for fan in fans]
@@ -234,7 +279,10 @@ def prepared(soup: Soup, size: Optional[int]) -> Prepared:
         ("faces that name a vertex twice", len(soup.faces) - len(three)),
         ("faces that became edges", flat),
         ("faces that stand twice", len(renamed) - flat - len(stay)),
-        ("faces turned", sum(flags)),
+        ("faces turned", sum(turns.flags)),
+        ("faces in patches that can't be turned", turns.twisted),
+        ("edges of three faces or more", sum(len(at) > 2 for at in sides_of_edges(stay).values())),
+        ("closed surfaces inside out", turns.inside_out),
         ("sides cut open", len(cut_sides(faces))),
         ("vertices split off", len(fans) - len(used)),
         ("vertices that no face has", len(soup.points) - len(named)),
