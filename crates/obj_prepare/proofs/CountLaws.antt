@@ -13,7 +13,7 @@ use Rattle.pm_turn.specs.Turning.{turned_by}
 use Rattle.obj_prepare.specs.Named.{is_some_corner, named_in}
 use Rattle.obj_prepare.specs.Joining.{joined_faces}
 use Rattle.obj_prepare.proofs.NamedLaws.{length-named_in, named_at}
-use Rattle.obj_prepare.specs.Prepared.{staying, joined_count, flat_count, double_count, turned_count, unnamed_count, split_count, gone_count}
+use Rattle.obj_prepare.specs.Prepared.{staying, joined_count, flat_count, double_count, unnamed_count, split_count, gone_count}
 use Rattle.obj_prepare.specs.Pieces.{set_below, joined_below, gone_below}
 
 -- One more number is counted, or not.
@@ -109,10 +109,6 @@ counted_flat faces renamed again names n are same is = is ∙ ap (λ fs. length 
 pub counted_double : (faces stay : List Corners) (names : List ℕ) (flat n : ℕ) → flat ≡ flat_count names faces → stay ≡ staying names faces → n ≡ length faces - flat - length stay → n ≡ double_count names faces
 unfolding double_count
 counted_double faces stay names flat n flat_is stay_is is = is ∙ ap (λ f. length faces - f - length stay) flat_is ∙ ap (λ (fs : List Corners). length faces - flat_count names faces - length fs) stay_is
-
-pub counted_turned : (flags lent : List Bool) (n : ℕ) → lent ≡ flags → n ≡ set_below lent (length lent) → n ≡ turned_count flags
-unfolding turned_count set_below
-counted_turned flags lent n same is = is ∙ ap turned_count same
 
 pub counted_cut : (faces stay turned again : List Corners) (names : List ℕ) (flags : List Bool) (n : ℕ) → stay ≡ staying names faces → turned ≡ turned_by flags stay → again ≡ turned → n ≡ cut_count (net_of again)
     → n ≡ cut_count (net_of (turned_by flags (staying names faces)))

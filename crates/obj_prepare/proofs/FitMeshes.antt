@@ -15,9 +15,10 @@ use Rattle.pm_fans.specs.Kept.{kept_of}
 use Rattle.pm_fans.proofs.Turned.{side_turned}
 use Rattle.pm_fans.proofs.Staying.{manifolds_stay}
 use Rattle.pm_fans.proofs.OwnSplit.{manifolds_are_their_own_split}
-use Rattle.pm_turn.specs.Turning.{turned_by, AreTurns}
-use Rattle.pm_turn.proofs.TurnedFaces.{manifolds_are_not_turned}
-use Rattle.pm_turn.proofs.TurnsThere.{turns_are_there}
+use Rattle.pm_turn.specs.Turning.{turned_by}
+use Rattle.pm_turn.specs.Choice.{AreChosenTurns}
+use Rattle.pm_turn.proofs.ChosenAgain.{manifolds_are_kept}
+use Rattle.pm_turn.proofs.ChosenThere.{chosen_turns_are_there}
 use Rattle.obj_prepare.specs.Named.{AreVerticesBelow, IsWithinMesh}
 use Rattle.obj_prepare.specs.Joining.{place_in_list, AreJoined, renamed, joined_faces}
 use Rattle.obj_prepare.specs.Prepared.{IsPrepared}
@@ -30,7 +31,8 @@ own_name : (n v : ℕ) → v < n → slice_index_or (own n) v 0 ≡ v
 own_name n v l = get_or-range_with_len 0 n v 0 l ∙ omega arith
 
 -- Each vertex stands for itself.
-own_joined : (places : List Place) (faces : List Corners) → AreFit places faces → AreJoined places faces (own (length places))
+own_joined : (places : List Place) (faces : List Corners) → AreFit places faces
+    → AreJoined places faces (own (length places))
 own_joined places faces fit = record {
   all = length-range_with_len 0 (length places);
   each = λ v l named.
@@ -38,7 +40,8 @@ own_joined places faces fit = record {
       record {
         named = rw at named;
         same = ap (place_in_list places) at;
-        least = λ w less also same. fit.apart w v (omega (arith, less, at, l)) l (omega (arith, less, at)) same;
+        least = λ w less also same. fit.apart w v (omega (arith, less, at, l)) l
+            (omega (arith, less, at)) same;
       };
   others = λ v l out. own_name (length places) v l;
 }
@@ -62,12 +65,15 @@ own_places : (places : List Place) → map (place_in_list places) (own (length p
 own_places places =
     let n : ℕ = length places in
     let long : length (own n) ≡ n = length-range_with_len 0 n in
-    ext_get_or origin (map (place_in_list places) (own n)) places (length-map (own n) (place_in_list places) ∙ long) (λ v l.
+    ext_get_or origin (map (place_in_list places) (own n)) places
+    (length-map (own n) (place_in_list places) ∙ long) (λ v l.
     let low : v < n = omega (arith, l, length-map (own n) (place_in_list places), long) in
-    get_or-map (place_in_list places) (own n) v 0 origin (subst (λ k. v < k) (sym long) low) ∙ ap (place_in_list places) (own_name n v low))
+    get_or-map (place_in_list places) (own n) v 0 origin (subst (λ k. v < k) (sym long) low)
+    ∙ ap (place_in_list places) (own_name n v low))
 
 -- A side runs from one of the vertices.
-begins_low : (n : ℕ) (fs : List Corners) → All (AreVerticesBelow n) fs → (e : ℕ) → e < side_count (net_of fs) → (net_of fs).from e < n
+begins_low : (n : ℕ) (fs : List Corners) → All (AreVerticesBelow n) fs → (e : ℕ)
+    → e < side_count (net_of fs) → (net_of fs).from e < n
 begins_low n fs all e l =
     let f = All-get_or (AreVerticesBelow n) fs (e / 3) no_corners (omega arith) all in
     elim (side_turned fs e (e / 3) refl) [
@@ -75,21 +81,29 @@ begins_low n fs all e l =
       | inr u ↦ elim u [ inl t ↦ subst (λ k. k < n) t.b f.b | inr t ↦ subst (λ k. k < n) t.c f.c ]
     ]
 
-pub fit_meshes_stay : (places : List Place) (faces : List Corners) → IsWithinMesh (length places) faces → AllStand (net_of faces) → IsOrientedManifold (net_of faces) → AreFit places faces → IsPrepared places faces (record { points = places; faces = faces })
+pub fit_meshes_stay : (places : List Place) (faces : List Corners)
+    → IsWithinMesh (length places) faces → AllStand (net_of faces)
+    → IsOrientedManifold (net_of faces) → AreFit places faces
+    → IsPrepared places faces (record { points = places; faces = faces })
 fit_meshes_stay places faces within stand is fit =
     let n : ℕ = length places in
-    let same : kept_of (joined_faces (own n) faces) ≡ faces = ap kept_of (own_faces n faces within.corners) ∙ manifolds_stay faces stand is in
-    let (flags, turns) = turns_are_there (net_of faces) in
-    let untouched : turned_by flags faces ≡ faces = manifolds_are_not_turned faces flags stand is turns in
-    let split = manifolds_are_their_own_split faces n is (begins_low n faces within.corners) fit.used in
+    let same : kept_of (joined_faces (own n) faces) ≡ faces =
+    ap kept_of (own_faces n faces within.corners) ∙ manifolds_stay faces stand is in
+    let (flags, turns) = chosen_turns_are_there (net_of faces) places in
+    let untouched : turned_by flags faces ≡ faces =
+    manifolds_are_kept faces places flags stand is turns in
+    let split = manifolds_are_their_own_split faces n is
+    (begins_low n faces within.corners) fit.used in
     let split_turned : IsSplitMesh (net_of (turned_by flags faces)) faces (own n) =
     subst (λ (fs : List Corners). IsSplitMesh (net_of fs) faces (own n)) (sym untouched) split in
     record {
       names = own n;
       joined = own_joined places faces fit;
       flags = flags;
-      turns = subst (λ (fs : List Corners). AreTurns (net_of fs) flags) (sym same) turns;
+      turns = subst (λ (fs : List Corners). AreChosenTurns (net_of fs) places flags)
+          (sym same) turns;
       old = own n;
-      split = subst (λ (fs : List Corners). IsSplitMesh (net_of (turned_by flags fs)) faces (own n)) (sym same) split_turned;
+      split = subst (λ (fs : List Corners). IsSplitMesh (net_of (turned_by flags fs)) faces (own n))
+          (sym same) split_turned;
       stand = sym (own_places places);
     }

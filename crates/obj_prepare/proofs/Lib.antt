@@ -9,7 +9,9 @@ pub mod JoiningLaws
 pub mod DifferentLaws
 pub mod TurnedLaws
 pub mod PieceLaws
+pub mod PiecesMade
 pub mod BackLaws
+pub mod FirstLaws
 pub mod AgainLaws
 pub mod OnePrepared
 pub mod FitMeshes

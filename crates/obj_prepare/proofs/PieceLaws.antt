@@ -1,5 +1,5 @@
--- What is made of placed vertices and triangles is a well-formed oriented manifold.
-use Rattle.std.proofs.Common.{◌≡◌, ◌≢◌, ℕ, zero, suc, ◌+◌, ◌*◌, ◌/◌, ◌%◌, ◌<◌, ◌≤◌, Bool, true, ◌==◌, ◌||◌, List, [], ◌∷◌, ◌++◌, length, map, refl, sym, ◌∙◌, ap, subst, inl, inr, arith}
+-- Faces over joined vertices, those that stay, and those over split vertices.
+use Rattle.std.proofs.Common.{◌≡◌, ◌≢◌, ℕ, zero, suc, ◌+◌, ◌*◌, ◌/◌, ◌%◌, ◌<◌, ◌≤◌, true, ◌==◌, ◌||◌, List, [], ◌∷◌, ◌++◌, length, refl, sym, ◌∙◌, ap, subst, inl, inr, arith}
 use Rattle.std.specs.Prelude.{slice_index_or}
 use Rattle.std.specs.List.{All}
 use Rattle.std.proofs.lemmas.Bool.{cases_Bool, cond-true, cond-false, or_cases, or_left, or_right, eqb-true}
@@ -9,23 +9,15 @@ use Rattle.pm_base.specs.declared.mesh.Corners.{Corners}
 use Rattle.pm_base.specs.Place.{Place}
 use Rattle.pm_base.specs.Meshes.{IsFace, IsWellFormed}
 use Rattle.pm_base.specs.Sides.{Net, net_of, side_count, corner_in, no_corners}
-use Rattle.pm_base.specs.Fans.{IsOrientedManifold}
 use Rattle.pm_base.proofs.Sides.{next_cases}
 use Rattle.pm_base.proofs.NetLaws.{face_at, first_side, second_side, third_side}
 use Rattle.pm_fans.specs.Splits.{AllStand, IsCuttable}
-use Rattle.pm_turn.specs.Turning.{turned_by, AreTurns}
-use Rattle.pm_turn.proofs.TurnedFaces.{turned_faces_stay, turned_faces_become_manifolds}
 use Rattle.pm_fans.specs.Orders.{IsSplitMesh}
 use Rattle.pm_fans.specs.Kept.{is_corner, is_kept_after, kept_after, kept_of}
 use Rattle.pm_fans.specs.Laws.{KeptAreFit}
-use Rattle.pm_fans.proofs.KeptLaws.{kept_are_fit}
 use Rattle.pm_fans.proofs.Turned.{corner_a, corner_b, corner_c}
-use Rattle.obj_prepare.specs.declared.notes.Notes.{Notes}
 use Rattle.obj_prepare.specs.Named.{is_some_corner, AreVerticesBelow, IsWithinMesh}
-use Rattle.obj_prepare.specs.Joining.{place_in_list, AreJoined, renamed, joined_faces}
-use Rattle.obj_prepare.specs.Prepared.{staying, AreNotes, IsPrepared, IsPreparedWith, HasTooMany}
-use Rattle.obj_prepare.specs.Pieces.{ArePieces}
-use Rattle.obj_prepare.proofs.TurnedLaws.{turned_within}
+use Rattle.obj_prepare.specs.Joining.{AreJoined, renamed, joined_faces}
 
 -- A vertex that a face names is one of the vertices.
 
@@ -40,7 +32,8 @@ corner_low n f v are is =
       | inr c ↦ subst (λ k. k < n) (eqb-true _ _ c) are.c
     ]
 
-pub named_low : (n : ℕ) (fs : List Corners) (v : ℕ) → All (AreVerticesBelow n) fs → is_some_corner fs v ≡ true → v < n
+pub named_low : (n : ℕ) (fs : List Corners) (v : ℕ) → All (AreVerticesBelow n) fs
+    → is_some_corner fs v ≡ true → v < n
 named_low n [] v are is = absurd cc
 named_low n (f ∷ fs) v are is =
     elim (cases_Bool (is_corner f v)) [
@@ -76,11 +69,16 @@ corners_named (f ∷ fs) (suc i) l = more_named f (face_at fs i) fs (corners_nam
 
 -- The faces over joined vertices.
 
-joined_low : (places : List Place) (faces : List Corners) (names : List ℕ) → IsWithinMesh (length places) faces → AreJoined places faces names → (v : ℕ) → is_some_corner faces v ≡ true → slice_index_or names v 0 < length places
+joined_low : (places : List Place) (faces : List Corners) (names : List ℕ)
+    → IsWithinMesh (length places) faces → AreJoined places faces names → (v : ℕ)
+    → is_some_corner faces v ≡ true → slice_index_or names v 0 < length places
 joined_low places faces names within are v is =
-    named_low (length places) faces _ within.corners (are.each v (named_low (length places) faces v within.corners is) is).named
+    named_low (length places) faces _ within.corners
+    (are.each v (named_low (length places) faces v within.corners is) is).named
 
-all_renamed : (places : List Place) (faces fs : List Corners) (names : List ℕ) → IsWithinMesh (length places) faces → AreJoined places faces names → All (AreNamed faces) fs → All (AreVerticesBelow (length places)) (joined_faces names fs)
+all_renamed : (places : List Place) (faces fs : List Corners) (names : List ℕ)
+    → IsWithinMesh (length places) faces → AreJoined places faces names → All (AreNamed faces) fs
+    → All (AreVerticesBelow (length places)) (joined_faces names fs)
 all_renamed places faces [] names within are all = All-nil (AreVerticesBelow (length places))
 all_renamed places faces (f ∷ fs) names within are all =
     let here = All-head (AreNamed faces) f fs all in
@@ -89,32 +87,55 @@ all_renamed places faces (f ∷ fs) names within are all =
       b = joined_low places faces names within are f.b here.b;
       c = joined_low places faces names within are f.c here.c;
     } in
-    All-cons (AreVerticesBelow (length places)) (renamed names f) (joined_faces names fs) face (all_renamed places faces fs names within are (All-tail (AreNamed faces) f fs all))
+    All-cons (AreVerticesBelow (length places)) (renamed names f) (joined_faces names fs) face
+    (all_renamed places faces fs names within are (All-tail (AreNamed faces) f fs all))
 
-pub renamed_within : (places : List Place) (faces : List Corners) (names : List ℕ) → IsWithinMesh (length places) faces → AreJoined places faces names → IsWithinMesh (length places) (joined_faces names faces)
+pub renamed_within : (places : List Place) (faces : List Corners) (names : List ℕ)
+    → IsWithinMesh (length places) faces → AreJoined places faces names
+    → IsWithinMesh (length places) (joined_faces names faces)
 renamed_within places faces names within are = record {
   vertices_few = within.vertices_few;
   faces_few = rw (length-map faces (renamed names)) within.faces_few;
-  corners = all_renamed places faces faces names within are (All-from_get_or (AreNamed faces) faces no_corners (λ i l. corners_named faces i l));
+  corners = all_renamed places faces faces names within are
+      (All-from_get_or (AreNamed faces) faces no_corners (λ i l. corners_named faces i l));
 }
 
 -- Faces that stay are among the faces.
 
-pub kept_after_all : (P : Corners → Type 0) (before fs : List Corners) → All P before → All P fs → All P (kept_after before fs)
+pub kept_after_all : (P : Corners → Type 0) (before fs : List Corners) → All P before → All P fs
+    → All P (kept_after before fs)
 kept_after_all P before [] all more = all
 kept_after_all P before (f ∷ fs) all more =
     let rest = All-tail P f fs more in
     elim (cases_Bool (is_kept_after before f)) [
-      | inl t ↦ subst (All P) (sym (cond-true _ _ _ t)) (kept_after_all P (before ++ f ∷ []) fs (All-append P before (f ∷ []) all (All-cons P f [] (All-head P f fs more) (All-nil P))) rest)
+      | inl t ↦ subst (All P) (sym (cond-true _ _ _ t))
+          (kept_after_all P (before ++ f ∷ []) fs
+          (All-append P before (f ∷ []) all (All-cons P f [] (All-head P f fs more) (All-nil P)))
+          rest)
       | inr n ↦ subst (All P) (sym (cond-false _ _ _ n)) (kept_after_all P before fs all rest)
     ]
 
-kept_after_length : (before fs : List Corners) → length (kept_after before fs) ≤ length before + length fs
+kept_after_length : (before fs : List Corners)
+    → length (kept_after before fs) ≤ length before + length fs
 kept_after_length before [] = omega arith
 kept_after_length before (f ∷ fs) =
     elim (cases_Bool (is_kept_after before f)) [
-      | inl t ↦ omega (arith, ap length (cond-true (is_kept_after before f) (kept_after (before ++ f ∷ []) fs) (kept_after before fs) t), kept_after_length (before ++ f ∷ []) fs, length-append before (f ∷ []))
-      | inr n ↦ omega (arith, ap length (cond-false (is_kept_after before f) (kept_after (before ++ f ∷ []) fs) (kept_after before fs) n), kept_after_length before fs)
+      | inl t ↦ omega (
+        arith,
+        ap length
+            (cond-true (is_kept_after before f) (kept_after (before ++ f ∷ []) fs)
+            (kept_after before fs) t),
+        kept_after_length (before ++ f ∷ []) fs,
+        length-append before
+            (f ∷ []),
+      )
+      | inr n ↦ omega (
+        arith,
+        ap length
+            (cond-false (is_kept_after before f) (kept_after (before ++ f ∷ []) fs)
+            (kept_after before fs) n),
+        kept_after_length before fs,
+      )
     ]
 
 pub kept_within : (n : ℕ) (fs : List Corners) → IsWithinMesh n fs → IsWithinMesh n (kept_of fs)
@@ -126,7 +147,8 @@ kept_within n fs within = record {
 }
 
 -- What holds of all three corners holds of each.
-pub corner_in_has : (P : ℕ → Type 0) (f : Corners) (i : ℕ) → P f.a → P f.b → P f.c → P (corner_in f i)
+pub corner_in_has : (P : ℕ → Type 0) (f : Corners) (i : ℕ) → P f.a → P f.b → P f.c
+    → P (corner_in f i)
 corner_in_has P f i a b c =
     elim (cases_Bool (i == 0)) [
       | inl is ↦ subst P (sym (cond-true (i == 0) f.a _ is)) a
@@ -137,12 +159,14 @@ corner_in_has P f i a b c =
           ])
     ]
 
-side_low : (n : ℕ) (fs : List Corners) → IsWithinMesh n fs → (e : ℕ) → e < side_count (net_of fs) → (net_of fs).from e < n
+pub side_low : (n : ℕ) (fs : List Corners) → IsWithinMesh n fs → (e : ℕ) → e < side_count (net_of fs)
+    → (net_of fs).from e < n
 side_low n fs within e l =
     let are = All-get_or (AreVerticesBelow n) fs (e / 3) no_corners (omega arith) within.corners in
     corner_in_has (λ v. v < n) (face_at fs (e / 3)) (e % 3) are.a are.b are.c
 
-pub kept_cuttable : KeptAreFit → (n : ℕ) (fs : List Corners) → IsWithinMesh n fs → IsCuttable (net_of (kept_of fs))
+pub kept_cuttable : KeptAreFit → (n : ℕ) (fs : List Corners) → IsWithinMesh n fs
+    → IsCuttable (net_of (kept_of fs))
 kept_cuttable fit n fs within =
     let stay = kept_within n fs within in
     record {
@@ -153,17 +177,23 @@ kept_cuttable fit n fs within =
 
 -- Split vertices.
 
-pub old_low : (n : ℕ) (fs split : List Corners) (old : List ℕ) → IsWithinMesh n fs → IsSplitMesh (net_of fs) split old → All (λ v. v < n) old
+pub old_low : (n : ℕ) (fs split : List Corners) (old : List ℕ) → IsWithinMesh n fs
+    → IsSplitMesh (net_of fs) split old → All (λ v. v < n) old
 old_low n fs split old within is = All-from_get_or (λ v. v < n) old 0 (λ v l.
     let (e, stands, at) = is.used v l in
     let low : e < side_count (net_of fs) = subst (λ k. e < 3 * k) is.split.faces stands.is_side in
-    subst (λ k. k < n) (sym (is.back e low) ∙ ap (λ k. slice_index_or old k 0) at) (side_low n fs within e low))
+    subst (λ k. k < n) (sym (is.back e low) ∙ ap (λ k. slice_index_or old k 0) at)
+    (side_low n fs within e low))
 
 -- Two corners of a new face that are one were one before.
-apart_new : (m : Net) (split : List Corners) (old : List ℕ) → IsSplitMesh m split old → (e g : ℕ) → e < side_count m → g < side_count m → m.from e ≢ m.from g → (net_of split).from e ≢ (net_of split).from g
-apart_new m split old is e g el gl differ same = differ (sym (is.back e el) ∙ ap (λ k. slice_index_or old k 0) same ∙ is.back g gl)
+apart_new : (m : Net) (split : List Corners) (old : List ℕ) → IsSplitMesh m split old → (e g : ℕ)
+    → e < side_count m → g < side_count m → m.from e ≢ m.from g
+    → (net_of split).from e ≢ (net_of split).from g
+apart_new m split old is e g el gl differ same =
+    differ (sym (is.back e el) ∙ ap (λ k. slice_index_or old k 0) same ∙ is.back g gl)
 
-new_face : (m : Net) (split : List Corners) (old : List ℕ) → AllStand m → IsSplitMesh m split old → (f : ℕ) → f < length split → IsFace (length old) (face_at split f)
+new_face : (m : Net) (split : List Corners) (old : List ℕ) → AllStand m → IsSplitMesh m split old
+    → (f : ℕ) → f < length split → IsFace (length old) (face_at split f)
 new_face m split old stand is f l =
     let n : Net = net_of split in
     let same : length split ≡ m.faces = is.split.faces in
@@ -176,9 +206,12 @@ new_face m split old stand is f l =
     let i = next_cases (3 * f) in
     let j = next_cases (3 * f + 1) in
     let k = next_cases (3 * f + 2) in
-    let ab = apart_new m split old is (3 * f) (3 * f + 1) one two (λ e. (stand (3 * f) one).first (e ∙ ap m.from (omega arith))) in
-    let bc = apart_new m split old is (3 * f + 1) (3 * f + 2) two three (λ e. (stand (3 * f + 1) two).first (e ∙ ap m.from (omega arith))) in
-    let ca = apart_new m split old is (3 * f + 2) (3 * f) three one (λ e. (stand (3 * f + 2) three).first (e ∙ ap m.from (omega arith))) in
+    let ab = apart_new m split old is (3 * f) (3 * f + 1) one two
+    (λ e. (stand (3 * f) one).first (e ∙ ap m.from (omega arith))) in
+    let bc = apart_new m split old is (3 * f + 1) (3 * f + 2) two three
+    (λ e. (stand (3 * f + 1) two).first (e ∙ ap m.from (omega arith))) in
+    let ca = apart_new m split old is (3 * f + 2) (3 * f) three one
+    (λ e. (stand (3 * f + 2) three).first (e ∙ ap m.from (omega arith))) in
     record {
       a = subst (λ v. v < length old) first.0 (is.within (3 * f) one);
       b = subst (λ v. v < length old) second.0 (is.within (3 * f + 1) two);
@@ -188,85 +221,12 @@ new_face m split old stand is f l =
       ca = λ e. ca (last.0 ∙ e ∙ sym first.0);
     }
 
-pub split_formed : (m : Net) (split : List Corners) (old : List ℕ) (points : List Place) → m.faces ≤ 1048576 → AllStand m → IsSplitMesh m split old → length points ≡ length old → length old ≤ 1048576 → IsWellFormed (record { points = points; faces = split })
+pub split_formed : (m : Net) (split : List Corners) (old : List ℕ) (points : List Place)
+    → m.faces ≤ 1048576 → AllStand m → IsSplitMesh m split old → length points ≡ length old
+    → length old ≤ 1048576 → IsWellFormed (record { points = points; faces = split })
 split_formed m split old points short stand is len few = record {
   points = omega (arith, len, few);
   faces = omega (arith, is.split.faces, short);
-  corners = rw len (All-from_get_or (IsFace (length old)) split no_corners (λ f l. new_face m split old stand is f l));
+  corners = rw len (All-from_get_or (IsFace (length old)) split no_corners
+      (λ f l. new_face m split old stand is f l));
 }
-
--- What is known of the pieces.
-
-pub joined_cuttable : (places : List Place) (faces : List Corners) (names again : List ℕ) (renamed renamed_again stay : List Corners) → IsWithinMesh (length places) faces → AreJoined places faces names → again ≡ names → renamed ≡ joined_faces again faces
-    → renamed_again ≡ renamed → stay ≡ kept_of renamed_again → IsCuttable (net_of stay)
-joined_cuttable places faces names again renamed renamed_again stay within are same is same_faces kept =
-    rw (kept, same_faces, is, same) (kept_cuttable kept_are_fit (length places) (joined_faces names faces) (renamed_within places faces names within are))
-
--- Turned faces that stay can be cut.
-turned_cuttable : (n : ℕ) (flags : List Bool) (fs : List Corners) → IsWithinMesh n fs → IsCuttable (net_of (turned_by flags (kept_of fs)))
-turned_cuttable n flags fs within =
-    subst (λ (gs : List Corners). IsCuttable (net_of gs)) (turned_faces_stay flags fs)
-    (kept_cuttable kept_are_fit n (turned_by flags (kept_of fs)) (turned_within n flags (kept_of fs) (kept_within n fs within)))
-
-pub joined_turned_cuttable : (places : List Place) (faces : List Corners) (names again : List ℕ) (renamed renamed_again stay stay_again : List Corners) (flags : List Bool) (turned : List Corners) → IsWithinMesh (length places) faces → AreJoined places faces names
-    → again ≡ names → renamed ≡ joined_faces again faces → renamed_again ≡ renamed → stay ≡ kept_of renamed_again → stay_again ≡ stay → turned ≡ turned_by flags stay_again → IsCuttable (net_of turned)
-joined_turned_cuttable places faces names again renamed renamed_again stay stay_again flags turned within are same is same_faces kept same_stay turned_is =
-    rw (turned_is, same_stay, kept, same_faces, is, same) (turned_cuttable (length places) flags (joined_faces names faces) (renamed_within places faces names within are))
-
-module _ {places : List Place} {faces : List Corners} {names : List ℕ} {renamed stay : List Corners} {flags : List Bool} {turned split : List Corners} {old : List ℕ} (within : IsWithinMesh (length places) faces) (pieces : ArePieces places faces names renamed stay flags turned split old) where
-  pub pieces_names : length names ≡ length places
-  pieces_names = pieces.joined.all
-
-  renamed_low : IsWithinMesh (length places) (joined_faces names faces)
-  renamed_low = renamed_within places faces names within pieces.joined
-
-  pub pieces_stay : IsWithinMesh (length places) stay
-  pieces_stay = subst (IsWithinMesh (length places)) (sym pieces.stay_is) (kept_within (length places) (joined_faces names faces) renamed_low)
-
-  pub pieces_flags : length flags ≤ 1048576
-  pieces_flags = omega (arith, pieces.turns.agreeing.long, pieces_stay.faces_few)
-
-  turned_here : turned ≡ turned_by flags (staying names faces)
-  turned_here = pieces.turned_is ∙ ap (turned_by flags) pieces.stay_is
-
-  pieces_turned : IsWithinMesh (length places) turned
-  pieces_turned = subst (IsWithinMesh (length places)) (sym pieces.turned_is) (turned_within (length places) flags stay pieces_stay)
-
-  pub pieces_cuttable : IsCuttable (net_of turned)
-  pieces_cuttable = subst (λ (fs : List Corners). IsCuttable (net_of fs)) (sym turned_here) (turned_cuttable (length places) flags (joined_faces names faces) renamed_low)
-
-  pub pieces_old : All (λ v. v < length places) old
-  pieces_old = old_low (length places) turned split old pieces_turned pieces.split_is
-
-  split_here : IsSplitMesh (net_of (turned_by flags (staying names faces))) split old
-  split_here = subst (λ (fs : List Corners). IsSplitMesh (net_of fs) split old) turned_here pieces.split_is
-
-  pub pieces_manifold : IsOrientedManifold (net_of split)
-  pieces_manifold = turned_faces_become_manifolds (joined_faces names faces) split flags split_here.split
-
-  pub pieces_formed : (points : List Place) (fs : List Corners) → points ≡ map (place_in_list places) old → fs ≡ split → length old ≤ 1048576 → IsWellFormed (record { points = points; faces = fs })
-  pieces_formed points fs is same few =
-      rw same (split_formed (net_of turned) split old points pieces_cuttable.short pieces_cuttable.stand pieces.split_is (ap length is ∙ length-map old (place_in_list places)) few)
-
-  -- A mesh over these faces was prepared.
-  prepared_of : (points : List Place) (fs : List Corners) → points ≡ map (place_in_list places) old → fs ≡ split → IsPrepared places faces (record { points = points; faces = fs })
-  prepared_of points fs is same = record {
-    names = names;
-    joined = pieces.joined;
-    flags = flags;
-    turns = subst (λ (gs : List Corners). AreTurns (net_of gs) flags) pieces.stay_is pieces.turns;
-    old = old;
-    split = rw same split_here;
-    stand = is;
-  }
-
-  pub pieces_made : (points : List Place) (fs : List Corners) (notes : Notes) → points ≡ map (place_in_list places) old → fs ≡ split → AreNotes places faces names flags old notes → IsPreparedWith places faces (record { points = points; faces = fs }) notes
-  unfolding prepared_of
-  pieces_made points fs notes is same are = (prepared_of points fs is same, are)
-
-  pub pieces_too_many : 1048576 < length old → HasTooMany places faces
-  pieces_too_many many = record {
-    mesh = record { points = map (place_in_list places) old; faces = split };
-    prepared = prepared_of (map (place_in_list places) old) split refl refl;
-    many = omega (arith, length-map old (place_in_list places), many);
-  }

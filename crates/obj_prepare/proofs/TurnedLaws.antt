@@ -1,10 +1,11 @@
 -- Turned faces: their corners, other numbers of these, and that none was turned where all are as
 -- they were.
-use Rattle.std.proofs.Common.{◌≡◌, ℕ, ◌+◌, ◌*◌, ◌<◌, ◌==◌, Bool, true, false, ◌||◌, refl, sym, ap, ◌∙◌, subst, List, [], ◌∷◌, length, map, arith}
+use Rattle.std.proofs.Common.{◌≡◌, ℕ, ◌+◌, ◌*◌, ◌==◌, Bool, true, false, ◌||◌, refl, sym, ap, ◌∙◌, subst, List, [], ◌∷◌, length, map, arith}
 use Rattle.std.specs.List.{All}
 use Rattle.std.proofs.lemmas.List.Elements.{All-nil, All-cons, All-head, All-tail}
 use Rattle.pm_base.specs.declared.mesh.Corners.{Corners}
 use Rattle.pm_base.specs.Sides.{net_of}
+use Rattle.pm_base.specs.Counts.{count}
 use Rattle.pm_base.proofs.NetLaws.{face_at, second_side}
 use Rattle.pm_fans.specs.Splits.{AllStand}
 use Rattle.pm_fans.specs.Kept.{is_corner, kept_of}
@@ -14,7 +15,6 @@ use Rattle.pm_fans.proofs.KeptLaws.{kept_are_fit}
 use Rattle.pm_turn.specs.Turning.{turned_face, turned_if, turned_by, flag_of}
 use Rattle.pm_turn.proofs.TurnedFaces.{turned_at, turned_length, turned_faces_stay}
 use Rattle.obj_prepare.specs.Named.{is_some_corner, AreVerticesBelow, IsWithinMesh}
-use Rattle.obj_prepare.specs.Prepared.{turned_count}
 
 or_swap : (p q r : Bool) → (p || r || q) ≡ (p || q || r)
 or_swap true q r = refl
@@ -76,12 +76,9 @@ turned_renumbered r (false ∷ flags) (f ∷ fs) =
     ap (λ (l : List Corners). renumbered r f ∷ l) (turned_renumbered r flags fs)
 
 -- Where all faces of three corners are as they were, none was turned.
-pub none_turned : (flags : List Bool) (fs : List Corners) → length flags ≡ length fs
-    → AllStand (net_of fs) → turned_by flags fs ≡ fs → turned_count flags ≡ 0
-unfolding turned_count
-none_turned flags fs long stand same =
-    count_none (flag_of flags) (length flags) (λ i l set.
-    let low : i < length fs = subst (λ n. i < n) long l in
+pub none_turned : (flags : List Bool) (fs : List Corners) → AllStand (net_of fs) → turned_by flags fs ≡ fs → count (flag_of flags) (length fs) ≡ 0
+none_turned flags fs stand same =
+    count_none (flag_of flags) (length fs) (λ i low set.
     let is : turned_face (face_at fs i) ≡ face_at fs i =
     sym (turned_at flags fs i low ∙ ap (λ (b : Bool). turned_if b (face_at fs i)) set)
     ∙ ap (λ (gs : List Corners). face_at gs i) same in

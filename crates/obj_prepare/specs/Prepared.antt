@@ -1,6 +1,7 @@
--- What becomes of placed vertices and triangles: vertices at one place are joined; triangles go that became edges, and
--- those whose corners an earlier one has; of those that stay some are turned round, so that
--- neighbours agree; the surface is cut along singular sides, and each vertex split into its fans.
+-- What becomes of placed vertices and triangles: vertices at one place are joined; triangles go that
+-- became edges, and those whose corners an earlier one has; of those that stay some are turned round,
+-- so that neighbours agree, each patch the better way; the surface is cut along singular sides, and
+-- each vertex split into its fans.
 use Rattle.std.specs.Prelude.{◌≡◌, ℕ, ◌-◌, ◌<◌, Bool, not, ◌==◌, ◌&&◌, List, map, length, slice_index_or}
 use Rattle.std.specs.List.{filter}
 use Rattle.pm_base.specs.declared.limits.TheConstants.{MOST_VERTICES}
@@ -12,7 +13,9 @@ use Rattle.pm_base.specs.Counts.{count}
 use Rattle.pm_fans.specs.Kept.{is_flat, kept_of}
 use Rattle.pm_fans.specs.Orders.{IsSplitMesh}
 use Rattle.pm_fans.specs.Cuts.{cut_count}
-use Rattle.pm_turn.specs.Turning.{turned_by, flag_of, AreTurns}
+use Rattle.pm_turn.specs.Turning.{turned_by}
+use Rattle.pm_turn.specs.Choice.{AreChosenTurns}
+use Rattle.pm_turn.specs.Told.{AreTurnCounts}
 use Rattle.obj_prepare.specs.declared.notes.Notes.{Notes}
 use Rattle.obj_prepare.specs.Named.{is_some_corner}
 use Rattle.obj_prepare.specs.Joining.{place_in_list, AreJoined, joined_faces}
@@ -26,7 +29,7 @@ pub record IsPrepared (places : List Place) (faces : List Corners) (m : Mesh) : 
   pub joined : AreJoined places faces names
   -- which of the faces that stay are turned round
   pub flags : List Bool
-  pub turns : AreTurns (net_of (staying names faces)) flags
+  pub turns : AreChosenTurns (net_of (staying names faces)) places flags
   -- the joined vertex of each vertex of m, where it stands
   pub old : List ℕ
   pub split : IsSplitMesh (net_of (turned_by flags (staying names faces))) m.faces old
@@ -43,10 +46,6 @@ flat_count names faces = length (filter is_flat (joined_faces names faces))
 unfoldable pub double_count : List ℕ → List Corners → ℕ
 double_count names faces = length faces - flat_count names faces - length (staying names faces)
 
--- How many faces are turned round.
-unfoldable pub turned_count : List Bool → ℕ
-turned_count flags = count (flag_of flags) (length flags)
-
 -- How many vertices no face names.
 unfoldable pub unnamed_count : ℕ → List Corners → ℕ
 unnamed_count vertices faces = count (λ v. not (is_some_corner faces v)) vertices
@@ -61,11 +60,12 @@ unfoldable pub split_count : List ℕ → List Corners → List ℕ → ℕ
 split_count names faces old = length old - count (is_some_corner (staying names faces)) (length names)
 
 -- What was done, in numbers.
-pub record AreNotes (places : List Place) (faces : List Corners) (names : List ℕ) (flags : List Bool) (old : List ℕ) (notes : Notes) : Type 0 where
+pub record AreNotes (places : List Place) (faces : List Corners) (names : List ℕ)
+    (flags : List Bool) (old : List ℕ) (notes : Notes) : Type 0 where
   pub joined : notes.joined ≡ joined_count names faces
   pub flat : notes.flat ≡ flat_count names faces
   pub double : notes.double ≡ double_count names faces
-  pub turned : notes.turned ≡ turned_count flags
+  pub turns : AreTurnCounts (net_of (staying names faces)) places flags notes.turns
   pub cut : notes.cut ≡ cut_count (net_of (turned_by flags (staying names faces)))
   pub split : notes.split ≡ split_count names faces old
   pub unnamed : notes.unnamed ≡ unnamed_count (length places) faces

@@ -1,4 +1,6 @@
 //! The numbers of what was done to a mesh.
+use pm_turn::TurnCounts;
+
 /// What was done to triangles, in numbers.
 #[derive(Clone, Copy, Debug, PartialEq, Eq)]
 pub struct Notes {
@@ -8,8 +10,8 @@ pub struct Notes {
     pub flat: u32,
     /// Triangles whose three corners are those of an earlier one.
     pub double: u32,
-    /// Triangles that were turned round.
-    pub turned: u32,
+    /// How many triangles were turned round, and what is told of those that weren't.
+    pub turns: TurnCounts,
     /// Sides along which the surface was cut open.
     pub cut: u32,
     /// New vertices, beyond those that the triangles had which stayed.
