@@ -9,6 +9,7 @@ use Rattle.pm_base.specs.Sides.{net_of}
 use Rattle.pm_base.specs.Fans.{IsUsed, IsOrientedManifold}
 use Rattle.pm_fans.specs.Cuts.{cut_count}
 use Rattle.pm_turn.specs.Turning.{turned_by}
+use Rattle.pm_turn.proofs.ToldAlways.{turn_counts_are_there}
 use Rattle.obj_read.specs.Meaning.{Refused, meaning_of}
 use Rattle.obj_scan.specs.Judged.{Scanned}
 use Rattle.obj_scan.specs.Meaning.{scan_meaning_of}
@@ -21,7 +22,7 @@ use Rattle.obj_prepare.specs.Joining.{place_in_list}
 use Rattle.obj_prepare.specs.Different.{rounded_count}
 use Rattle.obj_prepare.proofs.DifferentLaws.{none_rounded}
 use Rattle.obj_prepare.specs.Placing.{IsSize, fit_of, prepared_places_of}
-use Rattle.obj_prepare.specs.Prepared.{staying, joined_count, flat_count, double_count, turned_count, unnamed_count, split_count, gone_count, IsPrepared, IsPreparedWith}
+use Rattle.obj_prepare.specs.Prepared.{staying, joined_count, flat_count, double_count, unnamed_count, split_count, gone_count, IsPrepared, IsPreparedWith}
 use Rattle.obj_prepare.proofs.AgainLaws.{prepared_again, none_turned_again}
 use Rattle.obj_prepare.proofs.PlacingLaws.{length-places_of}
 use Rattle.obj_prepare.proofs.ThreeLaws.{three_all, three_of_mesh}
@@ -40,14 +41,15 @@ numbers m p = record {
   joined = joined_count p.names m.faces;
   flat = flat_count p.names m.faces;
   double = double_count p.names m.faces;
-  turned = turned_count p.flags;
+  turns = (turn_counts_are_there (net_of (staying p.names m.faces)) m.points p.flags).0;
   cut = cut_count (net_of (turned_by p.flags (staying p.names m.faces)));
   split = split_count p.names m.faces p.old;
   unnamed = unnamed_count (length m.points) m.faces;
   gone = gone_count p.names m.faces;
 }
 
-numbered : (m : Mesh) (p : IsPrepared m.points m.faces m) → IsPreparedWith m.points m.faces m (numbers m p)
+numbered : (m : Mesh) (p : IsPrepared m.points m.faces m)
+    → IsPreparedWith m.points m.faces m (numbers m p)
 unfolding numbers
 numbered m p = (
   p,
@@ -55,7 +57,7 @@ numbered m p = (
     joined = refl;
     flat = refl;
     double = refl;
-    turned = refl;
+    turns = (turn_counts_are_there (net_of (staying p.names m.faces)) m.points p.flags).1;
     cut = refl;
     split = refl;
     unnamed = refl;
@@ -82,7 +84,8 @@ rounded_case points places faces joined false is none = rw is none
 makes_itself : (m : Mesh) (notes : Notes) → IsWellFormed m → IsOrientedManifold (net_of m.faces)
     → 0 < length m.faces → All IsPlace m.points
     → ((v : ℕ) → v < length m.points → IsUsed (net_of m.faces) v)
-    → IsPreparedWith m.points m.faces m notes → MakesPrepared None (scanned_mesh m) (standing_done m notes)
+    → IsPreparedWith m.points m.faces m notes
+    → MakesPrepared None (scanned_mesh m) (standing_done m notes)
 makes_itself m notes formed manifold some placed used prepared =
     let points = map scaled_up m.points in
     let three : of_three m.faces
@@ -122,8 +125,10 @@ corners_of n faces all = λ i d l. let f = all i d l in record { a = f.a; b = f.
 pub one_mesh : (found : Result Mesh Refused) (m n : Mesh) → found ≡ Ok m → found ≡ Ok n → m ≡ n
 one_mesh found m n is are = cc
 
-made_comes_back : (size : Option ℕ) (bytes : List ℕ) (s : Scanned) (done : Done) → IsSize size → scan_meaning_of bytes ≡ Ok s → (k : MakesPrepared size s done) → meaning_of 0 done.text ≡ Ok k.mesh → ComesBack done.text k.mesh
-unfolding numbers
+made_comes_back : (size : Option ℕ) (bytes : List ℕ) (s : Scanned) (done : Done) → IsSize size
+    → scan_meaning_of bytes ≡ Ok s → (k : MakesPrepared size s done)
+    → meaning_of 0 done.text ≡ Ok k.mesh → ComesBack done.text k.mesh
+unfolding numbers numbered
 made_comes_back size bytes s done is means k read =
     let m = k.mesh in
     let p = k.prepared.0 in
@@ -134,8 +139,10 @@ made_comes_back size bytes s done is means k read =
     let long : length s.points ≡ length places = sym (length-places_of size s.points three) in
     let low = subst (λ n. All (AreVerticesBelow n) three) long corners in
     let again = prepared_again places three m low p in
-    let count : length m.points ≡ length p.old = ap length p.stand ∙ length-map p.old (place_in_list places) in
-    let used : (v : ℕ) → v < length m.points → IsUsed (net_of m.faces) v = λ v l. p.split.used v (omega (arith, count, l)) in
+    let count : length m.points ≡ length p.old = ap length p.stand
+    ∙ length-map p.old (place_in_list places) in
+    let used : (v : ℕ) → v < length m.points → IsUsed (net_of m.faces) v =
+    λ v l. p.split.used v (omega (arith, count, l)) in
     let told = numbered m again in
     record {
       notes = numbers m again;
@@ -143,7 +150,7 @@ made_comes_back size bytes s done is means k read =
       split = split_as_joined m used again (corners_of (length m.points) m.faces k.formed.corners);
       flat = none_flat m used again;
       double = none_double m used again;
-      turned = none_turned_again places three m low p;
+      turned = none_turned_again places three m low p (numbers m again).turns told.1.turns;
       unnamed = none_unnamed m used again;
       outcome = made (scanned_mesh m) (standing_done m (numbers m again))
           (made_scanned size bytes s done is means k)
@@ -151,14 +158,17 @@ made_comes_back size bytes s done is means k read =
           (made_on_grid size s done is k) used told);
     }
 
-outcome_comes_back : (size : Option ℕ) (bytes : List ℕ) (r : Result Done Fault) (place : Option ℕ) → IsSize size → IsPreparedText size bytes r place
+outcome_comes_back : (size : Option ℕ) (bytes : List ℕ) (r : Result Done Fault) (place : Option ℕ)
+    → IsSize size → IsPreparedText size bytes r place
     → IfOk r (λ done. (m : Mesh) → meaning_of 0 done.text ≡ Ok m → ComesBack done.text m)
 outcome_comes_back size bytes found place is (bad_line r means) = tt
 outcome_comes_back size bytes found place is (too_many s means many) = tt
 outcome_comes_back size bytes found place is (no_face s means none) = tt
 outcome_comes_back size bytes found place is (made s done means k) = λ m read.
     let own = mesh_is_read size bytes s done is means k in
-    subst (ComesBack done.text) (one_mesh (meaning_of 0 done.text) k.mesh m own read) (made_comes_back size bytes s done is means k own)
+    subst (ComesBack done.text) (one_mesh (meaning_of 0 done.text) k.mesh m own read)
+    (made_comes_back size bytes s done is means k own)
 
 pub texts_come_back : TextsComeBack
-texts_come_back size bytes done place m is outcome read = outcome_comes_back size bytes (Ok done) place is outcome m read
+texts_come_back size bytes done place m is outcome read =
+    outcome_comes_back size bytes (Ok done) place is outcome m read

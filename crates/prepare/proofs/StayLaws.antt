@@ -9,6 +9,7 @@ use Rattle.pm_base.specs.Sides.{net_of}
 use Rattle.pm_base.specs.Fans.{IsUsed}
 use Rattle.pm_base.proofs.NetLaws.{mesh_side}
 use Rattle.pm_turn.specs.Turning.{turned_by}
+use Rattle.pm_turn.specs.Told.{AreInsideOut}
 use Rattle.pm_io.specs.Bytes.{Gains}
 use Rattle.pm_io.specs.Puts.{Said}
 use Rattle.obj_read.proofs.FormedLaws.{meaning_formed}
@@ -41,12 +42,17 @@ use Rattle.prepare.proofs.NothingLaws.{nothing_done, nothing_told, nothing_said,
 use Rattle.prepare.proofs.OutcomeLaws.{one_outcome}
 
 -- A mesh that is made of itself is well formed.
-itself_formed : (places : List Place) (faces : List Corners) → IsWithinMesh (length places) faces → IsPrepared places faces (record { points = places; faces = faces }) → IsWellFormed (record { points = places; faces = faces })
+itself_formed : (places : List Place) (faces : List Corners) → IsWithinMesh (length places) faces
+    → IsPrepared places faces (record { points = places; faces = faces })
+    → IsWellFormed (record { points = places; faces = faces })
 itself_formed places faces within p =
-    let long : length places ≡ length p.old = ap length p.stand ∙ length-map p.old (place_in_list places) in
+    let long : length places ≡ length p.old = ap length p.stand
+    ∙ length-map p.old (place_in_list places) in
     let turned : List Corners = turned_by p.flags (staying p.names faces) in
     let stay : length faces ≡ length turned = p.split.split.faces in
-    split_formed (net_of turned) faces p.old places (omega (arith, stay, within.faces_few)) (turned_stand p.flags (joined_faces p.names faces)) p.split long (omega (arith, long, within.vertices_few))
+    split_formed (net_of turned) faces p.old places (omega (arith, stay, within.faces_few))
+    (turned_stand p.flags (joined_faces p.names faces)) p.split long
+    (omega (arith, long, within.vertices_few))
 
 -- The triangles of a text over the places of its points.
 placed_within : (size : Option ℕ) (bytes : List ℕ) (s : Scanned) → scan_meaning_of bytes ≡ Ok s
@@ -61,49 +67,61 @@ placed_within size bytes s means =
       corners = within.corners;
     })
 
-stays_made : (size : Option ℕ) (bytes : List ℕ) (s : Scanned) → scan_meaning_of bytes ≡ Ok s → NeedsNothing size s → MakesPrepared size s (as_it_is size s)
+stays_made : (size : Option ℕ) (bytes : List ℕ) (s : Scanned) → scan_meaning_of bytes ≡ Ok s
+    → NeedsNothing size s → (k : ℕ) × AreInsideOut (net_of s.faces) (places_in size s) k
+    × MakesPrepared size s (as_it_is size s k)
 stays_made size bytes s means needs =
     let places = places_in size s in
     let m : Mesh = record { points = places; faces = s.faces } in
     let within = placed_within size bytes s means in
-    let p : IsPrepared places s.faces m = fit_meshes_stay places s.faces within needs.stand needs.manifold needs.fit in
+    let p : IsPrepared places s.faces m =
+    fit_meshes_stay places s.faces within needs.stand needs.manifold needs.fit in
+    let (k, inward, told) = nothing_told m within.corners needs.manifold needs.fit p in
     let three : of_three s.faces
     ≡ s.faces = three_of_manifold s.faces needs.stand needs.manifold in
     let vertices : length s.points
     ≡ length places = sym (length-places_of size s.points (of_three s.faces)) in
-    let twice : length s.faces - length (of_three s.faces) ≡ 0 = omega (arith, ap length three) in
-    record {
-      mesh = m;
-      notes = nothing_done;
-      prepared = subst (λ (fs : List Corners). IsPreparedWith places fs m nothing_done)
-          (sym three) (p, nothing_told m within.corners needs.manifold needs.fit p);
-      formed = itself_formed places s.faces within p;
-      manifold = needs.manifold;
-      some = needs.some;
-      text_is = refl;
-      notes_are = sym
-          (ap (notes_text (counts_of s m) nothing_done 0 (fit_in size s))
-          (no_warning (fit_in size s) s.points (of_three s.faces)
-          (subst (λ (fs : List Corners). 0 < length fs) (sym three) needs.some))
-          ∙ nothing_said (counts_of s m) 0 (fit_in size s)
-          (no_account (counts_of s m) vertices refl) twice);
-    }
+    let twice : length s.faces - length (of_three s.faces) ≡ 0 = omega (arith, ap length three) in (
+      k,
+      inward,
+      record {
+        mesh = m;
+        notes = nothing_done k;
+        prepared = subst (λ (fs : List Corners). IsPreparedWith places fs m (nothing_done k))
+            (sym three) (p, told);
+        formed = itself_formed places s.faces within p;
+        manifold = needs.manifold;
+        some = needs.some;
+        text_is = refl;
+        notes_are = sym
+            (ap (notes_text (counts_of s m) (nothing_done k) 0 (fit_in size s))
+            (no_warning (fit_in size s) s.points (of_three s.faces)
+            (subst (λ (fs : List Corners). 0 < length fs) (sym three) needs.some))
+            ∙ nothing_said (counts_of s m) 0 k (fit_in size s)
+            (no_account (counts_of s m) vertices refl) twice);
+      },
+    )
 
 pub fit_scans_stay : FitScansStay
-fit_scans_stay size bytes s means needs = made s (as_it_is size s) means (stays_made size bytes s means needs)
+fit_scans_stay size bytes s means needs =
+    let (k, inward, makes) = stays_made size bytes s means needs in
+    (k, inward, made s (as_it_is size s k) means makes)
 
 -- A mesh on the grid all of whose vertices are used stands as it is.
-stands_as_it_is : (n : ℕ) (m : Mesh) → of_three m.faces ≡ m.faces → All IsPlace m.points
+abbrev standing_as_it_is : ℕ → Mesh → ℕ → Done
+standing_as_it_is n m k = record {
+  text = output_text fits.Standing m;
+  notes = note_line (codes "weights passed over") n
+      ++ note_line (codes "closed surfaces inside out") k
+      ++ note_line (codes "faces without area") (thin_count m.points m.faces)
+      ++ last_note fits.Standing;
+}
+
+stands_as_it_is : (n : ℕ) (m : Mesh) (k : ℕ) → of_three m.faces ≡ m.faces → All IsPlace m.points
     → ((v : ℕ) → v < length m.points → IsUsed (net_of m.faces) v)
-    → as_it_is None (with_weights n (scanned_mesh m))
-    ≡ record {
-      text = output_text fits.Standing m;
-      notes = note_line (codes "weights passed over") n
-          ++ note_line (codes "faces without area") (thin_count m.points m.faces)
-          ++ last_note fits.Standing;
-    }
+    → as_it_is None (with_weights n (scanned_mesh m)) k ≡ standing_as_it_is n m k
 unfolding note_line
-stands_as_it_is n m three placed used =
+stands_as_it_is n m k three placed used =
     let points = map scaled_up m.points in
     let fit = ap (fit_of None points) three ∙ standing_fit m.points m.faces placed in
     let places = ap (prepared_places_of None points) three
@@ -111,6 +129,7 @@ stands_as_it_is n m three placed used =
     λ i. record {
       text = output_text (fit i) (record { points = places i; faces = m.faces });
       notes = note_line (codes "weights passed over") n
+          ++ note_line (codes "closed surfaces inside out") k
           ++ note_line (codes "faces without area") (thin_count (places i) m.faces)
           ++ last_note (fit i);
     }
@@ -130,22 +149,36 @@ fit_texts_stay bytes m formed_so read some manifold fit =
       manifold = manifold;
       fit = subst (λ (ps : List Place). AreFit ps m.faces) (sym places) fit;
     } in
-    subst (λ (d : Done). IsPreparedText None bytes (Ok d) None)
-    (stands_as_it_is n m three placed fit.used)
-    (fit_scans_stay None bytes (with_weights n (scanned_mesh m))
-    (read_scanned bytes m formed_so read) needs)
+    let (k, inward, stays) =
+    fit_scans_stay None bytes (with_weights n (scanned_mesh m))
+    (read_scanned bytes m formed_so read) needs in (
+      k,
+      subst (λ (ps : List Place). AreInsideOut (net_of m.faces) ps k) places inward,
+      subst (λ (d : Done). IsPreparedText None bytes (Ok d) None)
+          (stands_as_it_is n m k three placed fit.used) stays,
+    )
 
 one_done : (r : Result Done Fault) (a b : Done) → r ≡ Ok a → r ≡ Ok b → a ≡ b
 one_done r a b is are = cc
 
 -- What was finished of a text that needs nothing.
-finished_stays : (size : Option ℕ) (bytes : List ℕ) (old new err_old err_new : Option (List ℕ)) (before now : ℕ) → Finished size bytes old new err_old err_new before now → StaysAsItIs size bytes old new err_old err_new before now
+finished_stays : (size : Option ℕ) (bytes : List ℕ) (old new err_old err_new : Option (List ℕ))
+    (before now : ℕ) → Finished size bytes old new err_old err_new before now
+    → StaysAsItIs size bytes old new err_old err_new before now
 finished_stays size bytes old new err_old err_new before now f = λ s means needs.
-    let same : Ok f.done ≡ Ok (as_it_is size s) = (one_outcome size bytes (Ok f.done) (Ok (as_it_is size s)) None None f.outcome (fit_scans_stay size bytes s means needs)).0 in
-    let done = one_done (Ok f.done) f.done (as_it_is size s) refl same in
-    (subst (λ (d : Done). Gains old new d.text) done f.gained, subst (λ (d : Done). Said err_old err_new before now d.notes) done f.said)
+    let (k, inward, stays) = fit_scans_stay size bytes s means needs in
+    let same : Ok f.done ≡ Ok (as_it_is size s k) =
+    (one_outcome size bytes (Ok f.done) (Ok (as_it_is size s k)) None None f.outcome stays).0 in
+    let done = one_done (Ok f.done) f.done (as_it_is size s k) refl same in (
+      k,
+      inward,
+      subst (λ (d : Done). Gains old new d.text) done f.gained,
+      subst (λ (d : Done). Said err_old err_new before now d.notes) done f.said,
+    )
 
-pub left_stays : (size : Option ℕ) (left old new err_old err_new : Option (List ℕ)) (before now : ℕ) → IfSome left (λ bytes. Finished size bytes old new err_old err_new before now)
+pub left_stays : (size : Option ℕ) (left old new err_old err_new : Option (List ℕ)) (before now : ℕ)
+    → IfSome left (λ bytes. Finished size bytes old new err_old err_new before now)
     → IfSome left (λ bytes. StaysAsItIs size bytes old new err_old err_new before now)
 left_stays size None old new err_old err_new before now f = tt
-left_stays size (Some bytes) old new err_old err_new before now f = finished_stays size bytes old new err_old err_new before now f
+left_stays size (Some bytes) old new err_old err_new before now f =
+    finished_stays size bytes old new err_old err_new before now f

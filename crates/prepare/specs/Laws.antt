@@ -9,6 +9,7 @@ use Rattle.obj_lines.specs.Text.{until}
 use Rattle.pm_io.specs.Bytes.{Gains}
 use Rattle.pm_io.specs.Puts.{Said}
 use Rattle.pm_fans.specs.Splits.{AllStand}
+use Rattle.pm_turn.specs.Told.{AreInsideOut}
 use Rattle.obj_read.specs.Coordinates.{is_negative, without_sign, decimals, is_number, are_zeros, magnitude, with_sign}
 use Rattle.obj_read.specs.Meaning.{meaning_of}
 use Rattle.obj_scan.specs.Judged.{Scanned}
@@ -29,7 +30,9 @@ use Rattle.prepare.specs.Outcome.{Done, MakesPrepared, IsPreparedText, fit_in, p
 
 -- A text has one outcome, and one place that decides it.
 abbrev pub OnePreparedText : Type 0
-OnePreparedText = (size : Option ℕ) (bytes : List ℕ) (one other : Result Done Fault) (place there : Option ℕ) → IsPreparedText size bytes one place → IsPreparedText size bytes other there → (one ≡ other) × (place ≡ there)
+OnePreparedText = (size : Option ℕ) (bytes : List ℕ) (one other : Result Done Fault)
+    (place there : Option ℕ) → IsPreparedText size bytes one place
+    → IsPreparedText size bytes other there → (one ≡ other) × (place ≡ there)
 
 -- A comment and the canonical text of an oriented manifold, read without decimals as that mesh.
 pub record IsFitText (text : List ℕ) : Type 0 where
@@ -44,9 +47,11 @@ pub record IsFitText (text : List ℕ) : Type 0 where
 
 -- What is written is such a text.
 abbrev pub TextsAreRead : Type 0
-TextsAreRead = (size : Option ℕ) (bytes : List ℕ) (done : Done) (place : Option ℕ) → IsSize size → IsPreparedText size bytes (Ok done) place → IsFitText done.text
+TextsAreRead = (size : Option ℕ) (bytes : List ℕ) (done : Done) (place : Option ℕ) → IsSize size
+    → IsPreparedText size bytes (Ok done) place → IsFitText done.text
 
--- A numeral, and the number that it spells in units of 10 to the power -digits. It has no more decimals but for zeros.
+-- A numeral, and the number that it spells in units of 10 to the power -digits. It has no more
+-- decimals but for zeros.
 pub record Spells (digits : ℕ) (text : List ℕ) (n : ℤ) : Type 0 where
   pub form : is_number (without_sign text) ≡ true
   pub zeros : are_zeros (drop digits (decimals (without_sign text))) ≡ true
@@ -59,7 +64,8 @@ pub record TellsWayBack (line : List ℕ) (way : WayBack) : Type 0 where
   pub x : List ℕ
   pub y : List ℕ
   pub z : List ℕ
-  pub line_is : line ≡ codes "# coordinate = " ++ extent ++ codes " / " ++ steps ++ codes " * place + (" ++ (x ++ codes " " ++ y ++ codes " " ++ z) ++ codes ")\n"
+  pub line_is : line ≡ codes "# coordinate = " ++ extent ++ codes " / " ++ steps
+      ++ codes " * place + (" ++ (x ++ codes " " ++ y ++ codes " " ++ z) ++ codes ")\n"
   pub extent_is : Spells 18 extent (pos way.extent)
   pub steps_are : Spells 0 steps (pos way.steps)
   pub x_is : Spells 19 x way.middle.x
@@ -68,13 +74,16 @@ pub record TellsWayBack (line : List ℕ) (way : WayBack) : Type 0 where
 
 -- A first line of a text, and a place on the grid, lead back to this point in units of 10^-18.
 pub data LineLeadsBack (line : List ℕ) (place p : Place) : Type 0 where
-  as_it_stood : line ≡ codes "# coordinates as they stood\n" → StandsAt place p → LineLeadsBack line place p
-  near : (way : WayBack) → TellsWayBack line way → LeadsNear way place p → LineLeadsBack line place p
+  as_it_stood : line ≡ codes "# coordinates as they stood\n" → StandsAt place p
+      → LineLeadsBack line place p
+  near : (way : WayBack) → TellsWayBack line way → LeadsNear way place p
+      → LineLeadsBack line place p
 
--- The text is a first line and the canonical text of a mesh. The line leads back from the place of each vertex that a
--- triangle of three different vertices names to the point that was read, and each vertex of the
--- mesh stands at the place of one of them.
-pub record TextLeadsBack (s : Scanned) (places : List Place) (text : List ℕ) (m : Mesh) : Type 0 where
+-- The text is a first line and the canonical text of a mesh. The line leads back from the place of
+-- each vertex that a triangle of three different vertices names to the point that was read, and
+-- each vertex of the mesh stands at the place of one of them.
+pub record TextLeadsBack (s : Scanned) (places : List Place) (text : List ℕ)
+    (m : Mesh) : Type 0 where
   pub line : List ℕ
   pub text_is : text ≡ line ++ canonical_text 0 m
   pub back : (v : ℕ) → v < length s.points → is_some_corner (of_three s.faces) v ≡ true
@@ -85,7 +94,9 @@ pub record TextLeadsBack (s : Scanned) (places : List Place) (text : List ℕ) (
 
 -- What is written, where it has faces, leads back to the points of the text.
 abbrev pub TextsLeadBack : Type 0
-TextsLeadBack = (size : Option ℕ) (bytes : List ℕ) (s : Scanned) (done : Done) (place : Option ℕ) (m : Mesh) → IsSize size → scan_meaning_of bytes ≡ Ok s → IsPreparedText size bytes (Ok done) place → meaning_of 0 done.text ≡ Ok m → 0 < length m.faces
+TextsLeadBack = (size : Option ℕ) (bytes : List ℕ) (s : Scanned) (done : Done) (place : Option ℕ)
+    (m : Mesh) → IsSize size → scan_meaning_of bytes ≡ Ok s
+    → IsPreparedText size bytes (Ok done) place → meaning_of 0 done.text ≡ Ok m → 0 < length m.faces
     → TextLeadsBack s (places_in size s) done.text m
 
 -- Each triangle of a text names a vertex twice, became an edge, has the corners of an earlier one,
@@ -104,16 +115,16 @@ abbrev pub TextsAreAccounted : Type 0
 TextsAreAccounted = (size : Option ℕ) (bytes : List ℕ) (s : Scanned) (done : Done)
     → scan_meaning_of bytes ≡ Ok s → (k : MakesPrepared size s done) → IsAccounted s k.mesh k.notes
 
--- The text of a mesh, prepared without a size, comes back after a comment. Vertices that were split off stand at one place,
--- so they are joined, and as many are split off again, maybe along sides that are cut open.
--- Nothing else is done: no face is turned again, and none was joined by rounding.
+-- The text of a mesh, prepared without a size, comes back after a comment. Vertices that were split
+-- off stand at one place, so they are joined, and as many are split off again, maybe along sides
+-- that are cut open. Nothing else is done: no face is turned again, and none was joined by rounding.
 pub record ComesBack (text : List ℕ) (m : Mesh) : Type 0 where
   pub notes : Notes
   pub told : IsPreparedWith m.points m.faces m notes
   pub split : notes.split ≡ notes.joined
   pub flat : notes.flat ≡ 0
   pub double : notes.double ≡ 0
-  pub turned : notes.turned ≡ 0
+  pub turned : notes.turns.turned ≡ 0
   pub unnamed : notes.unnamed ≡ 0
   pub outcome : IsPreparedText None text
       (Ok (record {
@@ -123,18 +134,22 @@ pub record ComesBack (text : List ℕ) (m : Mesh) : Type 0 where
 
 -- What is written comes back so, whatever the size was.
 abbrev pub TextsComeBack : Type 0
-TextsComeBack = (size : Option ℕ) (bytes : List ℕ) (done : Done) (place : Option ℕ) (m : Mesh) → IsSize size → IsPreparedText size bytes (Ok done) place → meaning_of 0 done.text ≡ Ok m → ComesBack done.text m
+TextsComeBack = (size : Option ℕ) (bytes : List ℕ) (done : Done) (place : Option ℕ) (m : Mesh)
+    → IsSize size → IsPreparedText size bytes (Ok done) place → meaning_of 0 done.text ≡ Ok m
+    → ComesBack done.text m
 
 -- The text of an oriented manifold with faces whose vertices are used and stand apart comes back
--- with nothing said of it but
--- weights that were passed over and faces without area, where its lines are well formed.
+-- with nothing said of it but weights that were passed over, closed surfaces inside out and faces
+-- without area, where its lines are well formed.
 abbrev pub FitTextsStay : Type 0
 FitTextsStay = (bytes : List ℕ) (m : Mesh) → IsFormed bytes → meaning_of 0 bytes ≡ Ok m
     → 0 < length m.faces → IsOrientedManifold (net_of m.faces) → AreFit m.points m.faces
-    → IsPreparedText None bytes
+    → (inside_out : ℕ) × AreInsideOut (net_of m.faces) m.points inside_out
+    × IsPreparedText None bytes
     (Ok (record {
       text = output_text fits.Standing m;
       notes = note_line (codes "weights passed over") (weights_in (scan_meaning_of bytes))
+          ++ note_line (codes "closed surfaces inside out") inside_out
           ++ note_line (codes "faces without area") (thin_count m.points m.faces)
           ++ last_note fits.Standing;
     })) None
@@ -149,24 +164,33 @@ pub record NeedsNothing (size : Option ℕ) (s : Scanned) : Type 0 where
   pub fit : AreFit (places_in size s) s.faces
 
 -- The output and the notes of these triangles over the places of these points: polygons that were
--- cut, weights that were passed over, faces without area, and how places lead back.
-abbrev pub as_it_is : Option ℕ → Scanned → Done
-as_it_is size s = record {
+-- cut, weights that were passed over, closed surfaces inside out, faces without area, and how
+-- places lead back.
+abbrev pub as_it_is : Option ℕ → Scanned → ℕ → Done
+as_it_is size s inside_out = record {
   text = output_text (fit_in size s) (record { points = places_in size s; faces = s.faces });
   notes = note_line (codes "polygons cut") s.polygons
       ++ note_line (codes "weights passed over") s.weights
+      ++ note_line (codes "closed surfaces inside out") inside_out
       ++ note_line (codes "faces without area") (thin_count (places_in size s) s.faces)
       ++ last_note (fit_in size s);
 }
 
 -- A text that needs nothing comes back as it is, for each size and for none.
 abbrev pub FitScansStay : Type 0
-FitScansStay = (size : Option ℕ) (bytes : List ℕ) (s : Scanned) → scan_meaning_of bytes ≡ Ok s → NeedsNothing size s → IsPreparedText size bytes (Ok (as_it_is size s)) None
+FitScansStay = (size : Option ℕ) (bytes : List ℕ) (s : Scanned)
+    → scan_meaning_of bytes ≡ Ok s → NeedsNothing size s
+    → (inside_out : ℕ) × AreInsideOut (net_of s.faces) (places_in size s) inside_out
+    × IsPreparedText size bytes (Ok (as_it_is size s inside_out)) None
 
 -- Where the bytes spell such a text, it was put as it is, and no more than that was said.
-abbrev pub StaysAsItIs : Option ℕ → List ℕ → Option (List ℕ) → Option (List ℕ) → Option (List ℕ) → Option (List ℕ) → ℕ → ℕ → Type 0
-StaysAsItIs size bytes old new err_old err_new err_before err_now = (s : Scanned) → scan_meaning_of bytes ≡ Ok s → NeedsNothing size s
-    → Gains old new (as_it_is size s).text × Said err_old err_new err_before err_now (as_it_is size s).notes
+abbrev pub StaysAsItIs : Option ℕ → List ℕ → Option (List ℕ) → Option (List ℕ)
+    → Option (List ℕ) → Option (List ℕ) → ℕ → ℕ → Type 0
+StaysAsItIs size bytes old new err_old err_new err_before err_now = (s : Scanned)
+    → scan_meaning_of bytes ≡ Ok s → NeedsNothing size s
+    → (inside_out : ℕ) × AreInsideOut (net_of s.faces) (places_in size s) inside_out
+    × Gains old new (as_it_is size s inside_out).text
+    × Said err_old err_new err_before err_now (as_it_is size s inside_out).notes
 
 -- A sink gained the text of an oriented manifold, which is read as that mesh and comes back.
 pub record GainsFitText (old new : Option (List ℕ)) : Type 0 where
@@ -175,8 +199,10 @@ pub record GainsFitText (old new : Option (List ℕ)) : Type 0 where
   pub fit : IsFitText text
   pub comes_back : ComesBack text fit.mesh
 
--- A sink gained a text of a mesh which, where it has faces, leads back to the points that these bytes spell.
-pub record GainsWayBack (size : Option ℕ) (bytes : List ℕ) (old new : Option (List ℕ)) : Type 0 where
+-- A sink gained a text of a mesh which, where it has faces, leads back to the points that these
+-- bytes spell.
+pub record GainsWayBack (size : Option ℕ) (bytes : List ℕ)
+    (old new : Option (List ℕ)) : Type 0 where
   pub text : List ℕ
   pub mesh : Mesh
   pub gained : Gains old new text

@@ -4,6 +4,7 @@ use Rattle.std.specs.Fmt.{decimal}
 use Rattle.pm_base.specs.Place.{Place}
 use Rattle.pm_base.specs.Meshes.{Mesh}
 use Rattle.pm_base.specs.Canonical.{coordinate_text, canonical_text}
+use Rattle.pm_turn.specs.declared.counts.TurnCounts.{TurnCounts}
 use Rattle.obj_prepare.specs.declared.notes.Notes.{Notes}
 use Rattle.obj_prepare.specs.declared.placing.Fit.{Fit}
 use Rattle.obj_prepare.specs.declared.placing.Fit.TheVariants as fits
@@ -88,10 +89,21 @@ face_notes c notes rounded =
     ++ note_line (codes "faces that name a vertex twice") c.twice
     ++ note_line (codes "faces that became edges") notes.flat
     ++ note_line (codes "faces that stand twice") notes.double
-    ++ note_line (codes "faces turned") notes.turned
 
+-- What is said of turning.
+unfoldable pub turn_notes : TurnCounts → List ℕ
+turn_notes turns =
+    note_line (codes "faces turned") turns.turned
+    ++ note_line (codes "faces in patches that can't be turned") turns.twisted
+    ++ note_line (codes "edges of three faces or more") turns.crowded
+    ++ note_line (codes "closed surfaces inside out") turns.inside_out
+
+-- What is said of what was cut and left out.
 unfoldable pub vertex_notes : Notes → List ℕ
-vertex_notes notes = note_line (codes "sides cut open") notes.cut ++ note_line (codes "vertices split off") notes.split ++ note_line (codes "vertices that no face has") notes.unnamed
+vertex_notes notes =
+    note_line (codes "sides cut open") notes.cut
+    ++ note_line (codes "vertices split off") notes.split
+    ++ note_line (codes "vertices that no face has") notes.unnamed
     ++ note_line (codes "vertices whose faces all went") notes.gone
 
 -- `x`, `y` or `z`
@@ -113,9 +125,8 @@ warning_line (Some l) = codes "prepare: a tenth of the triangles or more became 
     ++ longest_text l
 
 -- What is said of the work: how much came out, a line for each kind of change that was made, how
--- places lead back, and the
--- warning, if any.
+-- places lead back, and the warning, if any.
 unfoldable pub notes_text : Counts → Notes → ℕ → Fit → Option LongestAxis → List ℕ
 notes_text c notes rounded fit warning =
-    account_line c ++ face_notes c notes rounded ++ vertex_notes notes
+    account_line c ++ face_notes c notes rounded ++ turn_notes notes.turns ++ vertex_notes notes
     ++ note_line (codes "faces without area") c.thin ++ last_note fit ++ warning_line warning

@@ -1,10 +1,11 @@
 //! The lines of what was done to lines, faces and vertices of the input.
 ghost use Rattle.std.specs.Prelude.{◌≡◌, ◌++◌, OnOk};
-ghost use Rattle.prepare.specs.Texts.{note_line, rounding_text, joined_line, line_notes, face_notes, vertex_notes};
+ghost use Rattle.prepare.specs.Texts.{note_line, rounding_text, joined_line, line_notes, face_notes, turn_notes, vertex_notes};
 
 use crate::counts::Counts;
 use crate::text::add_number;
 use obj_prepare::Notes;
+use pm_turn::TurnCounts;
 use std::alloc::AllocError;
 
 /// Adds the line of one kind of change, where it was made.
@@ -76,7 +77,22 @@ pub(crate) fn add_face_notes(
     add_note(text, b"faces that name a vertex twice", counts.twice)?;
     add_note(text, b"faces that became edges", notes.flat)?;
     add_note(text, b"faces that stand twice", notes.double)?;
-    add_note(text, b"faces turned", notes.turned)?;
+    Ok(())
+}
+
+/// Adds what is said of turning.
+#[tactic(auto, unfolding(crate::specs::Texts::turn_notes))]
+pub(crate) fn add_turn_notes(text: &mut Vec<u8>, turns: TurnCounts) -> Result<(), AllocError>
+    ensures { OnOk result (text.new.items ≡ text.old.items ++ turn_notes turns) }
+{
+    add_note(text, b"faces turned", turns.turned)?;
+    add_note(
+        text,
+        b"faces in patches that can't be turned",
+        turns.twisted,
+    )?;
+    add_note(text, b"edges of three faces or more", turns.crowded)?;
+    add_note(text, b"closed surfaces inside out", turns.inside_out)?;
     Ok(())
 }
 

@@ -7,7 +7,7 @@ ghost use Rattle.obj_prepare.specs.Placing.{IsSized};
 ghost use Rattle.prepare.specs.Texts.{scale_text, middle_text, way_text, head_line as head_line_of, last_note, within_text, notes_text};
 
 use crate::account::add_account;
-use crate::changes::{add_face_notes, add_note, add_vertex_notes};
+use crate::changes::{add_face_notes, add_note, add_turn_notes, add_vertex_notes};
 use crate::counts::Counts;
 use crate::text::{add_coordinate, add_length, add_number};
 use crate::warning::add_warning;
@@ -182,6 +182,7 @@ fn add_notes(
 {
     add_account(text, counts)?;
     add_face_notes(text, counts, notes, rounded)?;
+    add_turn_notes(text, notes.turns)?;
     add_vertex_notes(text, notes)?;
     add_note(text, b"faces without area", counts.thin)?;
     add_last(text, fit)?;
@@ -190,8 +191,7 @@ fn add_notes(
 }
 
 /// What is said of the work: how much came out, a line for each kind of change that was made, how
-/// places lead back, and
-/// the warning.
+/// places lead back, and the warning.
 pub fn notes_text(
     alloc: Global,
     counts: Counts,
