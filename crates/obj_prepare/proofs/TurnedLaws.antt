@@ -76,7 +76,8 @@ turned_renumbered r (false ∷ flags) (f ∷ fs) =
     ap (λ (l : List Corners). renumbered r f ∷ l) (turned_renumbered r flags fs)
 
 -- Where all faces of three corners are as they were, none was turned.
-pub none_turned : (flags : List Bool) (fs : List Corners) → AllStand (net_of fs) → turned_by flags fs ≡ fs → count (flag_of flags) (length fs) ≡ 0
+pub none_turned : (flags : List Bool) (fs : List Corners) → AllStand (net_of fs)
+    → turned_by flags fs ≡ fs → count (flag_of flags) (length fs) ≡ 0
 none_turned flags fs stand same =
     count_none (flag_of flags) (length fs) (λ i low set.
     let is : turned_face (face_at fs i) ≡ face_at fs i =

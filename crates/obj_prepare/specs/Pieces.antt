@@ -12,8 +12,8 @@ use Rattle.pm_turn.specs.Told.{AreTurnCounts}
 use Rattle.obj_prepare.specs.Joining.{AreJoined, joined_faces}
 use Rattle.obj_prepare.specs.Prepared.{staying}
 
--- The joined vertices, the faces over them, those that stay, which of these are turned round and what
--- is told of that, all of them as turned, and these with split vertices.
+-- The joined vertices, the faces over them, those that stay, which of these are turned round and
+-- what is told of that, all of them as turned, and these with split vertices.
 pub record ArePieces (places : List Place) (faces : List Corners) (names : List ℕ)
     (renamed stay : List Corners) (flags : List Bool) (counts : TurnCounts)
     (turned split : List Corners) (old : List ℕ) : Type 0 where
@@ -35,4 +35,5 @@ gone_below before names after n = count (λ v. slice_index_or before v false
     && (slice_index_or names v 0 == v) && not (slice_index_or after v false)) n
 
 unfoldable pub joined_below : List Bool → List ℕ → ℕ → ℕ
-joined_below flags names n = count (λ v. slice_index_or flags v false && not (slice_index_or names v 0 == v)) n
+joined_below flags names n =
+    count (λ v. slice_index_or flags v false && not (slice_index_or names v 0 == v)) n

@@ -1,7 +1,7 @@
--- What becomes of placed vertices and triangles: vertices at one place are joined; triangles go that
--- became edges, and those whose corners an earlier one has; of those that stay some are turned round,
--- so that neighbours agree, each patch the better way; the surface is cut along singular sides, and
--- each vertex split into its fans.
+-- What becomes of placed vertices and triangles: vertices at one place are joined; triangles go
+-- that became edges, and those whose corners an earlier one has; of those that stay some are turned
+-- round, so that neighbours agree, each patch the better way; the surface is cut along singular
+-- sides, and each vertex split into its fans.
 use Rattle.std.specs.Prelude.{◌≡◌, ℕ, ◌-◌, ◌<◌, Bool, not, ◌==◌, ◌&&◌, List, map, length, slice_index_or}
 use Rattle.std.specs.List.{filter}
 use Rattle.pm_base.specs.declared.limits.TheConstants.{MOST_VERTICES}
@@ -37,7 +37,8 @@ pub record IsPrepared (places : List Place) (faces : List Corners) (m : Mesh) : 
 
 -- How many vertices that a face names are joined to an earlier one.
 unfoldable pub joined_count : List ℕ → List Corners → ℕ
-joined_count names faces = count (λ v. is_some_corner faces v && not (slice_index_or names v 0 == v)) (length names)
+joined_count names faces =
+    count (λ v. is_some_corner faces v && not (slice_index_or names v 0 == v)) (length names)
 
 -- How many faces became edges, and how many have the corners of an earlier one.
 unfoldable pub flat_count : List ℕ → List Corners → ℕ
@@ -57,7 +58,8 @@ gone_count names faces = count (λ v. is_some_corner faces v && (slice_index_or 
 
 -- How many more vertices there are than the faces that stay had.
 unfoldable pub split_count : List ℕ → List Corners → List ℕ → ℕ
-split_count names faces old = length old - count (is_some_corner (staying names faces)) (length names)
+split_count names faces old =
+    length old - count (is_some_corner (staying names faces)) (length names)
 
 -- What was done, in numbers.
 pub record AreNotes (places : List Place) (faces : List Corners) (names : List ℕ)
@@ -73,7 +75,8 @@ pub record AreNotes (places : List Place) (faces : List Corners) (names : List �
 
 -- The mesh and the numbers of what was done.
 abbrev pub IsPreparedWith : List Place → List Corners → Mesh → Notes → Type 0
-IsPreparedWith places faces m notes = (p : IsPrepared places faces m) × AreNotes places faces p.names p.flags p.old notes
+IsPreparedWith places faces m notes =
+    (p : IsPrepared places faces m) × AreNotes places faces p.names p.flags p.old notes
 
 -- More vertices come out than a mesh may have.
 pub record HasTooMany (places : List Place) (faces : List Corners) : Type 0 where

@@ -36,8 +36,8 @@ pub enum PrepareFail {
     OutOfMemory,
 }
 
-// The joined vertices, the faces over them, those that stay, which of these are turned round and what is
-// told of that, all of them as turned, and these with split vertices.
+// The joined vertices, the faces over them, those that stay, which of these are turned round and
+// what is told of that, all of them as turned, and these with split vertices.
 #[derive(Drop)]
 struct Pieces {
     names: Vec<u32>,
@@ -50,8 +50,9 @@ struct Pieces {
 
 fn cut_up(alloc: Global, places: &[Point], faces: &[Corners]) -> Result<Pieces, OutOfMemory>
     requires { IsWithinMesh (length places.now) faces.now }
-    ensures { IfOk result (λ p. ArePieces places.now faces.now p.names.items p.renamed.items p.stay.items
-        p.turns.flags.items p.turns.counts p.turned.items p.split.faces.items p.split.old.items) }
+    ensures { IfOk result (λ p. ArePieces places.now faces.now p.names.items p.renamed.items
+        p.stay.items p.turns.flags.items p.turns.counts p.turned.items p.split.faces.items
+        p.split.old.items) }
 {
     let names = joined(alloc, places, faces)?;
     let renamed = joined_faces(alloc, &names, faces)?;
@@ -77,12 +78,12 @@ fn count_up(
     p: &Pieces,
 ) -> Result<Notes, OutOfMemory>
     requires within { IsWithinMesh (length places.now) faces.now }
-    requires pieces { ArePieces places.now faces.now p.now.names.items p.now.renamed.items p.now.stay.items
-        p.now.turns.flags.items p.now.turns.counts p.now.turned.items p.now.split.faces.items
-        p.now.split.old.items }
+    requires pieces { ArePieces places.now faces.now p.now.names.items p.now.renamed.items
+        p.now.stay.items p.now.turns.flags.items p.now.turns.counts p.now.turned.items
+        p.now.split.faces.items p.now.split.old.items }
     requires few { length p.now.split.old.items ≤ MOST_VERTICES }
-    ensures { IfOk result (λ notes. AreNotes places.now faces.now p.now.names.items p.now.turns.flags.items
-        p.now.split.old.items notes) }
+    ensures { IfOk result (λ notes. AreNotes places.now faces.now p.now.names.items
+        p.now.turns.flags.items p.now.split.old.items notes) }
 {
     let before = named(alloc, places.len(), faces)?;
     let after = named(alloc, places.len(), &p.stay)?;
@@ -137,10 +138,11 @@ fn mesh_of_split(alloc: Global, places: &[Point], split: &Split) -> Result<Mesh,
 }
 
 /// Makes an oriented manifold of triangles over placed vertices: vertices at one place are joined;
-/// triangles go that became edges, and those whose three corners an earlier one has; of those that stay
-/// some are turned round, so that neighbours go round the same way, each patch the better way, as
-/// `pm_turn::chosen_turns` tells; the surface is cut open along every side that still stands twice or
-/// has two twins, and each vertex is split into what is left of its fans. O(F log F) for F triangles.
+/// triangles go that became edges, and those whose three corners an earlier one has; of those that
+/// stay some are turned round, so that neighbours go round the same way, each patch the better way,
+/// as `pm_turn::chosen_turns` tells; the surface is cut open along every side that still stands
+/// twice or has two twins, and each vertex is split into what is left of its fans. O(F log F) for F
+/// triangles.
 pub fn prepare(alloc: Global, places: &[Point], faces: &[Corners]) -> Result<Prepared, PrepareFail>
     requires { IsWithinMesh (length places.now) faces.now }
     ensures ok { IfOk result (λ p. IsPreparedWith places.now faces.now (mesh_of p.mesh) p.notes) }

@@ -79,7 +79,8 @@ module _ (m : Net) (places : List Place) where
     below : (f : ℕ) → root_at roots f ≤ f
     below f =
         elim (cases_lt f m.faces) [
-          | inl l ↦ up_below m (side_count m) t s f (root_at roots f) (parity_at roots f) (way_up f l)
+          | inl l ↦ up_below m (side_count m) t s f (root_at roots f) (parity_at roots f)
+              (way_up f l)
           | inr k ↦
               let long = listed_long root_of m.faces in
               let past : length roots ≤ f = omega (arith, long, k) in

@@ -16,18 +16,35 @@ use Rattle.pm_turn.proofs.Reversing.{not_not}
 use Rattle.pm_turn.proofs.Choosing.{volume_turned}
 
 -- The same by another table of least faces.
-module _ (m : Net) (places : List Place) (a b : ℕ → ℕ) (same : (f : ℕ) → f < m.faces → a f ≡ b f) where
+module _ (m : Net) (places : List Place) (a b : ℕ → ℕ)
+    (same : (f : ℕ) → f < m.faces → a f ≡ b f) where
   pub open_by : (r : ℕ) → IsOpen m a r → IsOpen m b r
-  open_by r o = let l : face_of o.side < m.faces = omega (arith, o.in_range) in record { side = o.side; in_range = o.in_range; here = sym (same (face_of o.side) l) ∙ o.here; none = o.none }
+  open_by r o = let l : face_of o.side < m.faces = omega (arith, o.in_range) in
+      record {
+        side = o.side;
+        in_range = o.in_range;
+        here = sym (same (face_of o.side) l)
+            ∙ o.here;
+        none = o.none;
+      }
 
   clash_by : (r : ℕ) → HasClash m a r → HasClash m b r
-  clash_by r h = record { side = h.side; mate = h.mate; mates = h.mates; here = sym (same (face_of h.side) (one_in m h.side h.mate h.mates)) ∙ h.here; clashes = h.clashes }
+  clash_by r h = record {
+    side = h.side;
+    mate = h.mate;
+    mates = h.mates;
+    here =
+        sym (same (face_of h.side) (one_in m h.side h.mate h.mates)) ∙ h.here;
+    clashes = h.clashes;
+  }
 
   pub agrees_by : (r : ℕ) → Agrees m a r → Agrees m b r
   agrees_by r all e k w at = all e k w (same (face_of e) (one_in m e k w) ∙ at)
 
-  count_by : (p : ℕ → Bool) (r : ℕ) → count (λ f. (a f == r) && p f) m.faces ≡ count (λ f. (b f == r) && p f) m.faces
-  count_by p r = count_same (λ f. (a f == r) && p f) (λ f. (b f == r) && p f) m.faces (λ f l. ap (λ i. (i == r) && p f) (same f l))
+  count_by : (p : ℕ → Bool) (r : ℕ)
+      → count (λ f. (a f == r) && p f) m.faces ≡ count (λ f. (b f == r) && p f) m.faces
+  count_by p r = count_same (λ f. (a f == r) && p f) (λ f. (b f == r) && p f) m.faces
+      (λ f l. ap (λ i. (i == r) && p f) (same f l))
 
   fewest_by : (turned : ℕ → Bool) (r : ℕ) → IsFewest m a turned r → IsFewest m b turned r
   fewest_by turned r h =
@@ -36,16 +53,22 @@ module _ (m : Net) (places : List Place) (a b : ℕ → ℕ) (same : (f : ℕ) �
       let few = h.few in
       record { few = omega (arith, t, s, few); first = λ e. h.first (t ∙ e ∙ sym s) }
 
-  pub volume_by : (turned : ℕ → Bool) (r : ℕ) → volume_in m places a turned r ≡ volume_in m places b turned r
+  pub volume_by : (turned : ℕ → Bool) (r : ℕ)
+      → volume_in m places a turned r ≡ volume_in m places b turned r
   volume_by turned r =
       total_same (λ f. if a f == r then volume_at m places (turned f) f else pos 0)
       (λ f. if b f == r then volume_at m places (turned f) f else pos 0) m.faces
       (λ f l. ap (λ i. if i == r then volume_at m places (turned f) f else pos 0) (same f l))
 
-  outward_by : (turned : ℕ → Bool) (r : ℕ) → IsOutward m places a turned r → IsOutward m places b turned r
+  outward_by : (turned : ℕ → Bool) (r : ℕ) → IsOutward m places a turned r
+      → IsOutward m places b turned r
   outward_by turned r h =
       let v = volume_by turned r in
-      record { volume = subst (λ (z : ℤ). pos 0 ≤ℤ z) v h.volume; flat = λ e. fewest_by turned r (h.flat (v ∙ e)) }
+      record {
+        volume = subst (λ (z : ℤ). pos 0 ≤ℤ z) v h.volume;
+        flat =
+            λ e. fewest_by turned r (h.flat (v ∙ e));
+      }
 
 same_or_not : (a b : Bool) → (a ≡ b) ⊎ (b ≡ not a)
 same_or_not true true = inl refl
@@ -62,9 +85,11 @@ own_not true e = true≢false e
 own_not false e = true≢false (sym e)
 
 least_in : (m : Net) (least : ℕ → ℕ) → AreLeast m least → (f : ℕ) → f < m.faces → least f < m.faces
-least_in m least h f l = let (p, w) = h.way f l in let b = h.low f f false l stay in omega (arith, b, l)
+least_in m least h f l = let (p, w) = h.way f l in let b = h.low f f false l stay in
+    omega (arith, b, l)
 
-pub least_same : (m : Net) (a b : ℕ → ℕ) → AreLeast m a → AreLeast m b → (f : ℕ) → f < m.faces → a f ≡ b f
+pub least_same : (m : Net) (a b : ℕ → ℕ) → AreLeast m a → AreLeast m b → (f : ℕ) → f < m.faces
+    → a f ≡ b f
 least_same m a b s t f l =
     let (p, v) = s.way f l in
     let (q, w) = t.way f l in
@@ -76,52 +101,71 @@ flat_volumes : (v w : ℤ) → w ≡ neg_ℤ v → pos 0 ≤ℤ v → pos 0 ≤�
 flat_volumes v w e a b = (omega (arith, ints, e, a, b), omega (arith, ints, e, a, b))
 
 -- Two lists of flags that make neighbours agree, in one patch that isn't twisted.
-module _ (m : Net) (least : ℕ → ℕ) (one other : List Bool) (h : AreLeast m least) (s : AgreeOnceTurned m one) (t : AgreeOnceTurned m other) (r : ℕ) (us : s.twisted r ≡ false) (ut : t.twisted r ≡ false) where
-  told : (g : ℕ) → g < m.faces → least g ≡ r → (p : Bool) × (flag_of one g ≡ flipped_if p (flag_of one r)) × (flag_of other g ≡ flipped_if p (flag_of other r))
+module _ (m : Net) (least : ℕ → ℕ) (one other : List Bool) (h : AreLeast m least)
+    (s : AgreeOnceTurned m one) (t : AgreeOnceTurned m other) (r : ℕ) (us : s.twisted r ≡ false)
+    (ut : t.twisted r ≡ false) where
+  told : (g : ℕ) → g < m.faces → least g ≡ r
+      → (p : Bool) × (flag_of one g ≡ flipped_if p (flag_of one r))
+      × (flag_of other g ≡ flipped_if p (flag_of other r))
   told g l at =
       let (p, w) = h.way g l in
       let back = way_back m g r p (subst (λ i. Way m g i p) at w) in
       (p, (along m one s r g p back us).1, (along m other t r g p back ut).1)
 
-  alike : flag_of one r ≡ flag_of other r → (g : ℕ) → g < m.faces → least g ≡ r → flag_of one g ≡ flag_of other g
+  alike : flag_of one r ≡ flag_of other r → (g : ℕ) → g < m.faces → least g ≡ r
+      → flag_of one g ≡ flag_of other g
   alike e g l at = let (p, a, b) = told g l at in a ∙ ap (flipped_if p) e ∙ sym b
 
-  reversed : flag_of other r ≡ not (flag_of one r) → (g : ℕ) → g < m.faces → least g ≡ r → flag_of other g ≡ not (flag_of one g)
-  reversed e g l at = let (p, a, b) = told g l at in b ∙ ap (flipped_if p) e ∙ flip_not p (flag_of one r) ∙ ap not (sym a)
+  reversed : flag_of other r ≡ not (flag_of one r) → (g : ℕ) → g < m.faces → least g ≡ r
+      → flag_of other g ≡ not (flag_of one g)
+  reversed e g l at = let (p, a, b) = told g l at in
+      b ∙ ap (flipped_if p) e ∙ flip_not p (flag_of one r) ∙ ap not (sym a)
 
   module _ (e : flag_of other r ≡ not (flag_of one r)) where
     turned_other : turned_in m least (flag_of other) r ≡ staying_in m least (flag_of one) r
-    turned_other = patch_same least r m.faces (flag_of other) (λ f. not (flag_of one f)) (reversed e)
+    turned_other = patch_same least r m.faces (flag_of other) (λ f. not (flag_of one f))
+        (reversed e)
 
     staying_other : staying_in m least (flag_of other) r ≡ turned_in m least (flag_of one) r
-    staying_other = patch_same least r m.faces (λ f. not (flag_of other f)) (flag_of one) (λ f l at. ap not (reversed e f l at) ∙ not_not (flag_of one f))
+    staying_other = patch_same least r m.faces (λ f. not (flag_of other f)) (flag_of one)
+        (λ f l at. ap not (reversed e f l at) ∙ not_not (flag_of one f))
 
     both_fewest : IsFewest m least (flag_of one) r → IsFewest m least (flag_of other) r → ⊥
     both_fewest a b =
         let few_one = a.few in
         let few_other = b.few in
-        let even : turned_in m least (flag_of one) r ≡ staying_in m least (flag_of one) r = omega (arith, few_one, few_other, turned_other, staying_other) in
-        let even_other : turned_in m least (flag_of other) r ≡ staying_in m least (flag_of other) r = omega (arith, even, turned_other, staying_other) in
+        let even : turned_in m least (flag_of one) r ≡ staying_in m least (flag_of one) r =
+        omega (arith, few_one, few_other, turned_other, staying_other) in
+        let even_other : turned_in m least (flag_of other) r ≡ staying_in m least
+        (flag_of other) r = omega (arith, even, turned_other, staying_other) in
         own_not (flag_of one r) (a.first even ∙ sym (b.first even_other) ∙ e)
 
-    volume_other : (places : List Place) → volume_in m places least (flag_of other) r ≡ neg_ℤ (volume_in m places least (flag_of one) r)
+    volume_other : (places : List Place)
+        → volume_in m places least (flag_of other) r ≡ neg_ℤ
+        (volume_in m places least (flag_of one) r)
     volume_other places =
-        patch_opposite least r m.faces (λ f. volume_at m places (flag_of one f) f) (λ f. volume_at m places (flag_of other f) f)
-        (λ f l at. ap (λ (b : Bool). volume_at m places b f) (reversed e f l at) ∙ volume_turned m places (flag_of one f) f)
+        patch_opposite least r m.faces (λ f. volume_at m places (flag_of one f) f)
+        (λ f. volume_at m places (flag_of other f) f)
+        (λ f l at. ap (λ (b : Bool). volume_at m places b f) (reversed e f l at)
+        ∙ volume_turned m places (flag_of one f) f)
 
-    both_outward : (places : List Place) → IsOutward m places least (flag_of one) r → IsOutward m places least (flag_of other) r → ⊥
+    both_outward : (places : List Place) → IsOutward m places least (flag_of one) r
+        → IsOutward m places least (flag_of other) r → ⊥
     both_outward places a b =
-        let (v, w) = flat_volumes (volume_in m places least (flag_of one) r) (volume_in m places least (flag_of other) r) (volume_other places) a.volume b.volume in
+        let (v, w) = flat_volumes (volume_in m places least (flag_of one) r)
+        (volume_in m places least (flag_of other) r) (volume_other places) a.volume b.volume in
         both_fewest (a.flat v) (b.flat w)
 
-module _ (m : Net) (places : List Place) (one other : List Bool) (s : AreChosenTurns m places one) (t : AreChosenTurns m places other) where
+module _ (m : Net) (places : List Place) (one other : List Bool) (s : AreChosenTurns m places one)
+    (t : AreChosenTurns m places other) where
   same : (f : ℕ) → f < m.faces → t.least f ≡ s.least f
   same f l = least_same m t.least s.least t.patches s.patches f l
 
   back : (f : ℕ) → f < m.faces → s.least f ≡ t.least f
   back f l = sym (same f l)
 
-  module _ (f : ℕ) (l : f < m.faces) (us : s.agreeing.twisted f ≡ false) (ut : t.agreeing.twisted f ≡ false) where
+  module _ (f : ℕ) (l : f < m.faces) (us : s.agreeing.twisted f ≡ false)
+      (ut : t.agreeing.twisted f ≡ false) where
     abbrev r : ℕ
     r = s.least f
 
@@ -135,18 +179,25 @@ module _ (m : Net) (places : List Place) (one other : List Bool) (s : AreChosenT
     never e =
         let closed : IsClosed m s.least r = λ o.
         both_fewest m s.least one other s.patches s.agreeing t.agreeing r us_r ut_r e (s.fewest r o)
-        (fewest_by m places t.least s.least same (flag_of other) r (t.fewest r (open_by m places s.least t.least back r o))) in
-        let closed_t : IsClosed m t.least r = λ o. closed (open_by m places t.least s.least same r o) in
+        (fewest_by m places t.least s.least same (flag_of other) r
+        (t.fewest r (open_by m places s.least t.least back r o))) in
+        let closed_t : IsClosed m t.least r =
+        λ o. closed (open_by m places t.least s.least same r o) in
         let no_clash : HasClash m s.least r → ⊥ = λ h.
-        both_outward m s.least one other s.patches s.agreeing t.agreeing r us_r ut_r e places (s.outward r closed h us_r)
-        (outward_by m places t.least s.least same (flag_of other) r (t.outward r closed_t (clash_by m places s.least t.least back r h) ut_r)) in
+        both_outward m s.least one other s.patches s.agreeing t.agreeing r us_r ut_r e places
+        (s.outward r closed h us_r)
+        (outward_by m places t.least s.least same (flag_of other) r
+        (t.outward r closed_t (clash_by m places s.least t.least back r h) ut_r)) in
         let agree : Agrees m s.least r = λ e k a at.
         elim (cases_Bool (clash m e k)) [
           | inr un ↦ un
-          | inl c ↦ absurd (no_clash (record { side = e; mate = k; mates = a; here = at; clashes = c }))
+          | inl c ↦ absurd (no_clash
+              (record { side = e; mate = k; mates = a; here = at; clashes = c }))
         ] in
-        let agree_t : Agrees m t.least (t.least f) = subst (Agrees m t.least) (back f l) (agrees_by m places s.least t.least back r agree) in
-        own_not (flag_of one f) (s.same f l agree ∙ sym (t.same f l agree_t) ∙ reversed m s.least one other s.patches s.agreeing t.agreeing r us_r ut_r e f l refl)
+        let agree_t : Agrees m t.least (t.least f) =
+        subst (Agrees m t.least) (back f l) (agrees_by m places s.least t.least back r agree) in
+        own_not (flag_of one f) (s.same f l agree ∙ sym (t.same f l agree_t)
+        ∙ reversed m s.least one other s.patches s.agreeing t.agreeing r us_r ut_r e f l refl)
 
     equal : flag_of one f ≡ flag_of other f
     equal =
@@ -171,26 +222,31 @@ module _ (m : Net) (places : List Place) (one other : List Bool) (s : AreChosenT
       ]
 
   pub chosen_turns_are_one : one ≡ other
-  chosen_turns_are_one = same_flags one other (s.agreeing.long ∙ sym t.agreeing.long) (λ i l. flag_same i (subst (λ n. i < n) s.agreeing.long l))
+  chosen_turns_are_one = same_flags one other (s.agreeing.long ∙ sym t.agreeing.long)
+      (λ i l. flag_same i (subst (λ n. i < n) s.agreeing.long l))
 
 -- Twisted is told by odd closed ways, so it is the same all over a patch.
-patch_twisted : (m : Net) (flags : List Bool) (t : AgreeOnceTurned m flags) (f g : ℕ) (p : Bool) → Way m f g p → t.twisted g ≡ true → t.twisted f ≡ true
+patch_twisted : (m : Net) (flags : List Bool) (t : AgreeOnceTurned m flags) (f g : ℕ) (p : Bool)
+    → Way m f g p → t.twisted g ≡ true → t.twisted f ≡ true
 patch_twisted m flags t f g p w set =
     elim (cases_Bool (t.twisted f)) [
       | inl is ↦ is
       | inr un ↦ absurd (true≢false (sym set ∙ (along m flags t f g p w un).0))
     ]
 
-pub fewest_are_turned : (m : Net) (places : List Place) (flags other : List Bool) (t : AreChosenTurns m places flags) → AgreeOnceTurned m other → (r : ℕ) → IsOpen m t.least r
+pub fewest_are_turned : (m : Net) (places : List Place) (flags other : List Bool)
+    (t : AreChosenTurns m places flags) → AgreeOnceTurned m other → (r : ℕ) → IsOpen m t.least r
     → turned_in m t.least (flag_of flags) r ≤ turned_in m t.least (flag_of other) r
 fewest_are_turned m places flags other t s r o =
     let fl : face_of o.side < m.faces = omega (arith, o.in_range) in
-    let rl : r < m.faces = subst (λ i. i < m.faces) o.here (least_in m t.least t.patches (face_of o.side) fl) in
+    let rl : r < m.faces = subst (λ i. i < m.faces) o.here
+    (least_in m t.least t.patches (face_of o.side) fl) in
     elim (cases_Bool (t.agreeing.twisted r)) [
       | inl set ↦
           let none = patch_none t.least r m.faces (flag_of flags) (λ f l at.
           let (p, w) = t.patches.way f l in
-          (t.agreeing.odd f l (patch_twisted m flags t.agreeing f r p (subst (λ i. Way m f i p) at w) set)).1) in
+          (t.agreeing.odd f l (patch_twisted m flags t.agreeing f r p
+          (subst (λ i. Way m f i p) at w) set)).1) in
           omega (arith, none)
       | inr un ↦
           elim (cases_Bool (s.twisted r)) [
@@ -198,10 +254,12 @@ fewest_are_turned m places flags other t s r o =
             | inr us ↦
                 elim (same_or_not (flag_of flags r) (flag_of other r)) [
                   | inl e ↦
-                      let same = patch_same t.least r m.faces (flag_of flags) (flag_of other) (alike m t.least flags other t.patches t.agreeing s r un us e) in
+                      let same = patch_same t.least r m.faces (flag_of flags) (flag_of other)
+                      (alike m t.least flags other t.patches t.agreeing s r un us e) in
                       omega (arith, same)
                   | inr e ↦
-                      let more = turned_other m t.least flags other t.patches t.agreeing s r un us e in
+                      let more = turned_other m t.least flags other t.patches t.agreeing s r un us e
+                      in
                       let few = (t.fewest r o).few in
                       omega (arith, more, few)
                 ]

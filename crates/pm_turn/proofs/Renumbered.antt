@@ -54,20 +54,24 @@ mates_on m n h e k a = record {
   stands = stands_on m n h e a.stands;
   differ = a.differ;
   same = joins_on m n h e k a.stands.is_side a.same;
-  alone = λ g j. a.alone g (joins_on n m (renumbered_back m n h) e g (in_n m n h e a.stands.is_side) j);
+  alone = λ g j. a.alone g (joins_on n m (renumbered_back m n h) e g
+      (in_n m n h e a.stands.is_side) j);
 }
 
 clash_on : (m n : Net) → IsRenumbered m n → (e k : ℕ) → AreMates m e k → clash m e k ≡ clash n e k
 clash_on m n h e k a =
     elim (cases_Bool (clash m e k)) [
-      | inl c ↦ c ∙ sym (eq-eqb _ _ (h.there e k a.stands.is_side a.same.stands.is_side (eqb-true _ _ c)))
-      | inr c ↦ c ∙ sym (ne_eqb _ _ (λ is. eqb-false _ _ c (h.back e k a.stands.is_side a.same.stands.is_side is)))
+      | inl c ↦ c ∙ sym (eq-eqb _ _
+          (h.there e k a.stands.is_side a.same.stands.is_side (eqb-true _ _ c)))
+      | inr c ↦ c ∙ sym (ne_eqb _ _
+          (λ is. eqb-false _ _ c (h.back e k a.stands.is_side a.same.stands.is_side is)))
     ]
 
 way_like : (m n : Net) → IsRenumbered m n → (f g : ℕ) (p : Bool) → Way m f g p → Way n f g p
 way_like m n h f g p stay = stay
 way_like m n h f g q (over {e} {k} {p} w a) =
-    subst (λ (c : Bool). Way n f (face_of k) (flipped_if c p)) (sym (clash_on m n h e k a)) (over (way_like m n h f (face_of e) p w) (mates_on m n h e k a))
+    subst (λ (c : Bool). Way n f (face_of k) (flipped_if c p)) (sym (clash_on m n h e k a))
+    (over (way_like m n h f (face_of e) p w) (mates_on m n h e k a))
 
 -- A face's volume by its three places.
 abbrev three_places : Bool → Place → Place → Place → ℤ
@@ -75,7 +79,8 @@ three_places true a b c = determinant_of a c b
 three_places false a b c = determinant_of a b c
 
 by_flag : (m : Net) (places : List Place) (b : Bool) (f : ℕ)
-    → volume_at m places b f ≡ three_places b (place_at places (m.from (3 * f))) (place_at places (m.from (3 * f + 1))) (place_at places (m.from (3 * f + 2)))
+    → volume_at m places b f ≡ three_places b (place_at places (m.from (3 * f)))
+    (place_at places (m.from (3 * f + 1))) (place_at places (m.from (3 * f + 2)))
 by_flag m places true f = refl
 by_flag m places false f = refl
 
@@ -93,8 +98,11 @@ module _ (m n : Net) (h : IsRenumbered m n) where
     odd = λ f l set. let (w, none) = t.odd f (in_m f l) set in (way_like m n h f f true w, none);
     agree = λ e k a un.
         let b = mates_off e k a in
-        let (un_k, is) = t.agree e k b un in
-        (un_k, is ∙ ap (λ (c : Bool). flipped_if c (flag_of flags (face_of e))) (clash_on m n h e k b));
+        let (un_k, is) = t.agree e k b un in (
+          un_k,
+          is ∙ ap (λ (c : Bool). flipped_if c (flag_of flags (face_of e)))
+              (clash_on m n h e k b),
+        );
   }
 
   least_like : (least : ℕ → ℕ) → AreLeast m least → AreLeast n least
@@ -132,53 +140,75 @@ module _ (m n : Net) (h : IsRenumbered m n) where
   clash_off : (least : ℕ → ℕ) (r : ℕ) → HasClash n least r → HasClash m least r
   clash_off least r c =
       let a = mates_off c.side c.mate c.mates in
-      record { side = c.side; mate = c.mate; mates = a; here = c.here; clashes = clash_on m n h c.side c.mate a ∙ c.clashes }
+      record {
+        side = c.side;
+        mate = c.mate;
+        mates = a;
+        here = c.here;
+        clashes =
+            clash_on m n h c.side c.mate a ∙ c.clashes;
+      }
 
   agrees_off : (least : ℕ → ℕ) (r : ℕ) → Agrees n least r → Agrees m least r
   agrees_off least r all e k a at = clash_on m n h e k a ∙ all e k (mates_on m n h e k a) at
 
-  fewest_like : (least : ℕ → ℕ) (turned : ℕ → Bool) (r : ℕ) → IsFewest m least turned r → IsFewest n least turned r
+  fewest_like : (least : ℕ → ℕ) (turned : ℕ → Bool) (r : ℕ) → IsFewest m least turned r
+      → IsFewest n least turned r
   fewest_like least turned r s =
-      let t : turned_in n least turned r ≡ turned_in m least turned r = ap (count (λ f. (least f == r) && turned f)) h.faces in
-      let u : staying_in n least turned r ≡ staying_in m least turned r = ap (count (λ f. (least f == r) && not (turned f))) h.faces in
+      let t : turned_in n least turned r ≡ turned_in m least turned r =
+      ap (count (λ f. (least f == r) && turned f)) h.faces in
+      let u : staying_in n least turned r ≡ staying_in m least turned r =
+      ap (count (λ f. (least f == r) && not (turned f))) h.faces in
       let few = s.few in
       record { few = omega (arith, t, u, few); first = λ e. s.first (sym t ∙ e ∙ u) }
 
-  module _ (old new : List Place) (places : (e : ℕ) → e < side_count m → place_at new (n.from e) ≡ place_at old (m.from e)) where
-    volume_like : (b : Bool) (f : ℕ) → f < m.faces → volume_at n new b f ≡ volume_at m old b f
-    volume_like b f l =
-        by_flag n new b f
-        ∙ ap (λ (p : Place). three_places b p (place_at new (n.from (3 * f + 1))) (place_at new (n.from (3 * f + 2)))) (places (3 * f) (omega (arith, l)))
-        ∙ ap (λ (p : Place). three_places b (place_at old (m.from (3 * f))) p (place_at new (n.from (3 * f + 2)))) (places (3 * f + 1) (omega (arith, l)))
-        ∙ ap (λ (p : Place). three_places b (place_at old (m.from (3 * f))) (place_at old (m.from (3 * f + 1))) p) (places (3 * f + 2) (omega (arith, l)))
-        ∙ sym (by_flag m old b f)
+  module _ (old new : List Place)
+      (places : (e : ℕ) → e < side_count m → place_at new (n.from e) ≡ place_at old (m.from e))
+    where
+      volume_like : (b : Bool) (f : ℕ) → f < m.faces → volume_at n new b f ≡ volume_at m old b f
+      volume_like b f l =
+          by_flag n new b f
+          ∙ ap (λ (p : Place). three_places b p (place_at new (n.from (3 * f + 1)))
+          (place_at new (n.from (3 * f + 2)))) (places (3 * f) (omega (arith, l)))
+          ∙ ap (λ (p : Place). three_places b (place_at old (m.from (3 * f))) p
+          (place_at new (n.from (3 * f + 2)))) (places (3 * f + 1) (omega (arith, l)))
+          ∙ ap (λ (p : Place). three_places b (place_at old (m.from (3 * f)))
+          (place_at old (m.from (3 * f + 1))) p) (places (3 * f + 2) (omega (arith, l)))
+          ∙ sym (by_flag m old b f)
 
-    total_like : (least : ℕ → ℕ) (turned : ℕ → Bool) (r : ℕ) → volume_in n new least turned r ≡ volume_in m old least turned r
-    total_like least turned r =
-        ap (total (λ f. if least f == r then volume_at n new (turned f) f else pos 0)) h.faces
-        ∙ total_same (λ f. if least f == r then volume_at n new (turned f) f else pos 0) (λ f. if least f == r then volume_at m old (turned f) f else pos 0) m.faces
-        (λ f l. ap (λ (z : ℤ). if least f == r then z else pos 0) (volume_like (turned f) f l))
+      total_like : (least : ℕ → ℕ) (turned : ℕ → Bool) (r : ℕ)
+          → volume_in n new least turned r ≡ volume_in m old least turned r
+      total_like least turned r =
+          ap (total (λ f. if least f == r then volume_at n new (turned f) f else pos 0)) h.faces
+          ∙ total_same (λ f. if least f == r then volume_at n new (turned f) f else pos 0)
+          (λ f. if least f == r then volume_at m old (turned f) f else pos 0) m.faces
+          (λ f l. ap (λ (z : ℤ). if least f == r then z else pos 0) (volume_like (turned f) f l))
 
-    outward_like : (least : ℕ → ℕ) (turned : ℕ → Bool) (r : ℕ) → IsOutward m old least turned r → IsOutward n new least turned r
-    outward_like least turned r s = record {
-      volume = subst (λ (z : ℤ). pos 0 ≤ℤ z) (sym (total_like least turned r)) s.volume;
-      flat = λ e. fewest_like least turned r (s.flat (sym (total_like least turned r) ∙ e));
-    }
+      outward_like : (least : ℕ → ℕ) (turned : ℕ → Bool) (r : ℕ) → IsOutward m old least turned r
+          → IsOutward n new least turned r
+      outward_like least turned r s = record {
+        volume = subst (λ (z : ℤ). pos 0 ≤ℤ z) (sym (total_like least turned r)) s.volume;
+        flat = λ e. fewest_like least turned r (s.flat (sym (total_like least turned r) ∙ e));
+      }
 
-    chosen_like : (flags : List Bool) → AreChosenTurns m old flags → AreChosenTurns n new flags
-    unfolding agree_like
-    chosen_like flags t = record {
-      agreeing = agree_like flags t.agreeing;
-      least = t.least;
-      patches = least_like t.least t.patches;
-      same = λ f l all. t.same f (in_m f l) (agrees_off t.least (t.least f) all);
-      fewest = λ r o. fewest_like t.least (flag_of flags) r (t.fewest r (open_off t.least r o));
-      outward = λ r closed c un. outward_like t.least (flag_of flags) r (t.outward r (λ o. closed (open_on t.least r o)) (clash_off t.least r c) un);
-    }
+      chosen_like : (flags : List Bool) → AreChosenTurns m old flags → AreChosenTurns n new flags
+      unfolding agree_like
+      chosen_like flags t = record {
+        agreeing = agree_like flags t.agreeing;
+        least = t.least;
+        patches = least_like t.least t.patches;
+        same = λ f l all. t.same f (in_m f l) (agrees_off t.least (t.least f) all);
+        fewest = λ r o. fewest_like t.least (flag_of flags) r (t.fewest r (open_off t.least r o));
+        outward = λ r closed c un. outward_like t.least (flag_of flags) r
+            (t.outward r (λ o. closed (open_on t.least r o)) (clash_off t.least r c) un);
+      }
 
-pub turns_are_renumbered : (m n : Net) (flags : List Bool) → IsRenumbered m n → AreTurns m flags → AreTurns n flags
+pub turns_are_renumbered : (m n : Net) (flags : List Bool) → IsRenumbered m n → AreTurns m flags
+    → AreTurns n flags
 turns_are_renumbered m n flags h t = turns_like m n h flags t
 
-pub chosen_turns_are_renumbered : (m n : Net) (old new : List Place) (flags : List Bool) → IsRenumbered m n
-    → ((e : ℕ) → e < side_count m → place_at new (n.from e) ≡ place_at old (m.from e)) → AreChosenTurns m old flags → AreChosenTurns n new flags
+pub chosen_turns_are_renumbered : (m n : Net) (old new : List Place) (flags : List Bool)
+    → IsRenumbered m n
+    → ((e : ℕ) → e < side_count m → place_at new (n.from e) ≡ place_at old (m.from e))
+    → AreChosenTurns m old flags → AreChosenTurns n new flags
 chosen_turns_are_renumbered m n old new flags h places t = chosen_like m n h old new places flags t

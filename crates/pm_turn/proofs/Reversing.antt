@@ -24,7 +24,8 @@ first_false : (a b c x y : Bool) → a ≡ false → (if a && b && c then x else
 first_false true b c x y e = absurd (true≢false e)
 first_false false b c x y e = refl
 
-both_true : (a b c x y : Bool) → a ≡ true → b ≡ true → (if a && b && c then x else y) ≡ (if c then x else y)
+both_true : (a b c x y : Bool) → a ≡ true → b ≡ true
+    → (if a && b && c then x else y) ≡ (if c then x else y)
 both_true true true c x y e f = refl
 both_true true false c x y e f = absurd (true≢false (sym f))
 both_true false b c x y e f = absurd (true≢false (sym e))
@@ -33,13 +34,17 @@ both_true false b c x y e f = absurd (true≢false (sym e))
 pub stays_without_odd : (s : Sums) → s.odd ≡ 0 → is_reversed s ≡ false
 stays_without_odd s none =
     let low : nat_lt s.even s.odd ≡ false = le-ltb s.even s.odd (omega (arith, none)) in
-    second_false (s.bare == 0) (not (s.odd == 0)) (not (int_eq s.volume (pos 0))) (int_lt s.volume (pos 0)) (nat_lt s.even s.odd) (ap not (eq-eqb s.odd 0 none)) ∙ low
+    second_false (s.bare == 0) (not (s.odd == 0)) (not (int_eq s.volume (pos 0)))
+    (int_lt s.volume (pos 0)) (nat_lt s.even s.odd) (ap not (eq-eqb s.odd 0 none)) ∙ low
 
 pub by_count : (s : Sums) → s.bare ≢ 0 → is_reversed s ≡ nat_lt s.even s.odd
-by_count s bare = first_false (s.bare == 0) (not (s.odd == 0)) (not (int_eq s.volume (pos 0))) (int_lt s.volume (pos 0)) (nat_lt s.even s.odd) (ne_eqb s.bare 0 bare)
+by_count s bare = first_false (s.bare == 0) (not (s.odd == 0)) (not (int_eq s.volume (pos 0)))
+    (int_lt s.volume (pos 0)) (nat_lt s.even s.odd) (ne_eqb s.bare 0 bare)
 
 abbrev pub IsTold : ℤ → Bool → Bool → Type 0
-IsTold z y r = ((z ≡ pos 0) × (r ≡ y)) ⊎ (((pos 0 ≤ℤ z) × (z ≢ pos 0) × (r ≡ false)) ⊎ ((pos 0 ≤ℤ neg_ℤ z) × (neg_ℤ z ≢ pos 0) × (r ≡ true)))
+IsTold z y r = ((z ≡ pos 0) × (r ≡ y)) ⊎
+    (((pos 0 ≤ℤ z) × (z ≢ pos 0) × (r ≡ false)) ⊎
+    ((pos 0 ≤ℤ neg_ℤ z) × (neg_ℤ z ≢ pos 0) × (r ≡ true)))
 
 negative : (z : ℤ) → int_lt z (pos 0) ≡ true → pos 0 ≤ℤ neg_ℤ z
 negative z e = omega (arith, ints)
@@ -57,7 +62,8 @@ pub not_not : (b : Bool) → not (not b) ≡ b
 not_not true = refl
 not_not false = refl
 
-by_volume : (z : ℤ) (y r : Bool) → r ≡ (if not (int_eq z (pos 0)) then int_lt z (pos 0) else y) → IsTold z y r
+by_volume : (z : ℤ) (y r : Bool) → r ≡ (if not (int_eq z (pos 0)) then int_lt z (pos 0) else y)
+    → IsTold z y r
 by_volume z y r e =
     elim (cases_Bool (int_eq z (pos 0))) [
       | inl t ↦ inl ((Decides-int_eq z (pos 0)).0 t, e ∙ cond-false _ _ _ (ap not t))
@@ -70,7 +76,10 @@ by_volume z y r e =
           ]
     ]
 
-pub by_volumes : (s : Sums) → s.bare ≡ 0 → s.odd ≢ 0 → IsTold s.volume (nat_lt s.even s.odd) (is_reversed s)
+pub by_volumes : (s : Sums) → s.bare ≡ 0 → s.odd ≢ 0
+    → IsTold s.volume (nat_lt s.even s.odd) (is_reversed s)
 by_volumes s bare odd =
     by_volume s.volume (nat_lt s.even s.odd) (is_reversed s)
-    (both_true (s.bare == 0) (not (s.odd == 0)) (not (int_eq s.volume (pos 0))) (int_lt s.volume (pos 0)) (nat_lt s.even s.odd) (eq-eqb s.bare 0 bare) (ap not (ne_eqb s.odd 0 odd)))
+    (both_true (s.bare == 0) (not (s.odd == 0)) (not (int_eq s.volume (pos 0)))
+    (int_lt s.volume (pos 0)) (nat_lt s.even s.odd) (eq-eqb s.bare 0 bare)
+    (ap not (ne_eqb s.odd 0 odd)))

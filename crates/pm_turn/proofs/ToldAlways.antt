@@ -31,7 +31,8 @@ count_one n k j s t =
           ]
     ]) ∙ sym t.is
 
-module _ (m : Net) (places : List Place) (a b : ℕ → ℕ) (same : (f : ℕ) → f < m.faces → a f ≡ b f) where
+module _ (m : Net) (places : List Place) (a b : ℕ → ℕ)
+    (same : (f : ℕ) → f < m.faces → a f ≡ b f) where
   inward_by : (r : ℕ) → r < m.faces → IsInsideOut m places a r → IsInsideOut m places b r
   inward_by r l h = record {
     own = sym (same r l) ∙ h.own;
@@ -58,7 +59,8 @@ turn_counts_are_one m places flags one other s t =
     let turned = s.turned ∙ sym t.turned in
     let twisted = count_one m.faces one.twisted other.twisted s.twisted t.twisted in
     let crowded = s.crowded ∙ sym t.crowded in
-    let inside_out = inward_one m places one.inside_out other.inside_out s.inside_out t.inside_out in
+    let inside_out = inward_one m places one.inside_out other.inside_out s.inside_out t.inside_out
+    in
     λ i. record {
       turned = turned i;
       twisted = twisted i;
@@ -81,7 +83,8 @@ turn_counts_are_there m places flags =
       },
       record {
         turned = refl;
-        twisted = twisted_counted m (root_at (roots m places t s)) (parity_at (roots m places t s)) t.odd
+        twisted = twisted_counted m (root_at (roots m places t s))
+            (parity_at (roots m places t s)) t.odd
             (traced m places t s) (count told m.faces) refl;
         crowded = refl;
         inside_out = inward_counted m places (mates m places) (roots m places t s) t.odd

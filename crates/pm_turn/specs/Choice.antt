@@ -1,4 +1,5 @@
--- Which way round a patch is turned. Where its neighbours can be made to agree, they can in two ways, each the reverse of the other.
+-- Which way round a patch is turned. Where its neighbours can be made to agree, they can in two
+-- ways, each the reverse of the other.
 use Rattle.std.specs.Prelude.{◌≡◌, ℕ, ℤ, zero, suc, pos, ◌+◌, ◌*◌, ◌<◌, ◌≤◌, ◌+ℤ◌, ◌≤ℤ◌, ◌==◌, Bool, true, false, not, ◌&&◌, List, length, slice_index_or, if◌then◌else◌}
 use Rattle.pm_base.specs.Place.{Place, origin}
 use Rattle.pm_base.specs.Geometry.{dot_of, cross_of}
@@ -43,7 +44,8 @@ turned_in m least turned r = count (λ f. (least f == r) && turned f) m.faces
 abbrev pub staying_in : Net → (ℕ → ℕ) → (ℕ → Bool) → ℕ → ℕ
 staying_in m least turned r = count (λ f. (least f == r) && not (turned f)) m.faces
 
--- No more faces of the patch are turned than stay; where as many are, the face of least number stays.
+-- No more faces of the patch are turned than stay; where as many are, the face of least number
+-- stays.
 pub record IsFewest (m : Net) (least : ℕ → ℕ) (turned : ℕ → Bool) (r : ℕ) : Type 0 where
   pub few : turned_in m least turned r ≤ staying_in m least turned r
   pub first : turned_in m least turned r ≡ staying_in m least turned r → turned r ≡ false
@@ -56,15 +58,19 @@ place_at places v = slice_index_or places v origin
 abbrev pub ArePlaced : Net → List Place → Type 0
 ArePlaced m places = (e : ℕ) → e < side_count m → m.from e < length places
 
--- The determinant of three places, a . ((b - a) x (c - a)): six times the volume between the middle of space and the face, with the
--- face's sign.
+-- The determinant of three places, a . ((b - a) x (c - a)): six times the volume between the middle
+-- of space and the face, with the face's sign.
 unfoldable pub determinant_of : Place → Place → Place → ℤ
 determinant_of a b c = dot_of (record { x = a.x; y = a.y; z = a.z }) (cross_of a b c)
 
 -- That of face f as it stands, and once it is turned.
 abbrev pub volume_at : Net → List Place → Bool → ℕ → ℤ
-volume_at m places true f = determinant_of (place_at places (m.from (3 * f))) (place_at places (m.from (3 * f + 2))) (place_at places (m.from (3 * f + 1)))
-volume_at m places false f = determinant_of (place_at places (m.from (3 * f))) (place_at places (m.from (3 * f + 1))) (place_at places (m.from (3 * f + 2)))
+volume_at m places true f =
+    determinant_of (place_at places (m.from (3 * f))) (place_at places (m.from (3 * f + 2)))
+    (place_at places (m.from (3 * f + 1)))
+volume_at m places false f =
+    determinant_of (place_at places (m.from (3 * f))) (place_at places (m.from (3 * f + 1)))
+    (place_at places (m.from (3 * f + 2)))
 
 -- The sum of the first n.
 unfoldable pub total : (ℕ → ℤ) → ℕ → ℤ
@@ -73,14 +79,17 @@ total g (suc n) = g n +ℤ total g n
 
 -- Six times the signed volume of the patch, of which these faces are turned (the theorem of Gauss).
 abbrev pub volume_in : Net → List Place → (ℕ → ℕ) → (ℕ → Bool) → ℕ → ℤ
-volume_in m places least turned r = total (λ f. if least f == r then volume_at m places (turned f) f else pos 0) m.faces
+volume_in m places least turned r =
+    total (λ f. if least f == r then volume_at m places (turned f) f else pos 0) m.faces
 
 -- The patch isn't inside out; where it has no volume, the fewest of its faces are turned.
-pub record IsOutward (m : Net) (places : List Place) (least : ℕ → ℕ) (turned : ℕ → Bool) (r : ℕ) : Type 0 where
+pub record IsOutward (m : Net) (places : List Place) (least : ℕ → ℕ) (turned : ℕ → Bool)
+    (r : ℕ) : Type 0 where
   pub volume : pos 0 ≤ℤ volume_in m places least turned r
   pub flat : volume_in m places least turned r ≡ pos 0 → IsFewest m least turned r
 
--- The flags by which neighbours agree once the flagged faces are turned, and by which, in each patch,
+-- The flags by which neighbours agree once the flagged faces are turned, and by which, in each
+-- patch,
 -- * no face is turned where neighbours agree already;
 -- * the fewest are, where the patch is open;
 -- * the way round is outward, where it is closed, has a clash, and can be turned at all.
@@ -90,4 +99,5 @@ pub record AreChosenTurns (m : Net) (places : List Place) (flags : List Bool) : 
   pub patches : AreLeast m least
   pub same : (f : ℕ) → f < m.faces → Agrees m least (least f) → flag_of flags f ≡ false
   pub fewest : (r : ℕ) → IsOpen m least r → IsFewest m least (flag_of flags) r
-  pub outward : (r : ℕ) → IsClosed m least r → HasClash m least r → agreeing.twisted r ≡ false → IsOutward m places least (flag_of flags) r
+  pub outward : (r : ℕ) → IsClosed m least r → HasClash m least r → agreeing.twisted r ≡ false
+      → IsOutward m places least (flag_of flags) r

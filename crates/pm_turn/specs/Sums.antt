@@ -29,34 +29,48 @@ pub record AreRooted (t : Elders) (n : ℕ) (roots : List Root) : Type 0 where
 
 -- A side of face f has no mate.
 abbrev pub is_bare : List (Option ℕ) → ℕ → Bool
-is_bare mates f = is_none (beside_side mates (3 * f)) || is_none (beside_side mates (3 * f + 1)) || is_none (beside_side mates (3 * f + 2))
+is_bare mates f =
+    is_none (beside_side mates (3 * f)) || is_none (beside_side mates (3 * f + 1))
+    || is_none (beside_side mates (3 * f + 2))
 
 -- The determinant of a face's corners, once it is turned if told so.
 abbrev pub face_volume : List Place → Bool → Corners → ℤ
-face_volume places true f = determinant_of (place_at places f.a) (place_at places f.c) (place_at places f.b)
-face_volume places false f = determinant_of (place_at places f.a) (place_at places f.b) (place_at places f.c)
+face_volume places true f =
+    determinant_of (place_at places f.a) (place_at places f.c) (place_at places f.b)
+face_volume places false f =
+    determinant_of (place_at places f.a) (place_at places f.b) (place_at places f.c)
 
 abbrev pub no_sums : Sums
 no_sums = record { even = 0; odd = 0; bare = 0; volume = pos 0 }
 
 -- The sums with one more face of the patch.
 abbrev pub with_face : Sums → Bool → Bool → ℤ → Sums
-with_face s parity bare volume = record { even = s.even + one_if (not parity); odd = s.odd + one_if parity; bare = s.bare + one_if bare; volume = s.volume +ℤ volume }
+with_face s parity bare volume = record {
+  even = s.even + one_if (not parity);
+  odd = s.odd + one_if parity;
+  bare = s.bare + one_if bare;
+  volume = s.volume +ℤ volume;
+}
 
 -- The sums over those of the first n faces for whose patch face r stands.
-pub record IsSums (m : Net) (places : List Place) (mates : List (Option ℕ)) (roots : List Root) (n r : ℕ) (s : Sums) : Type 0 where
+pub record IsSums (m : Net) (places : List Place) (mates : List (Option ℕ)) (roots : List Root)
+    (n r : ℕ) (s : Sums) : Type 0 where
   pub even : s.even ≡ count (λ f. (root_at roots f == r) && not (parity_at roots f)) n
   pub odd : s.odd ≡ count (λ f. (root_at roots f == r) && parity_at roots f) n
   pub bare : s.bare ≡ count (λ f. (root_at roots f == r) && is_bare mates f) n
-  pub volume : s.volume ≡ total (λ f. if root_at roots f == r then volume_at m places (parity_at roots f) f else pos 0) n
+  pub volume : s.volume ≡ total
+      (λ f. if root_at roots f == r then volume_at m places (parity_at roots f) f else pos 0) n
 
-pub record AreSums (m : Net) (places : List Place) (mates : List (Option ℕ)) (roots : List Root) (n : ℕ) (sums : List Sums) : Type 0 where
+pub record AreSums (m : Net) (places : List Place) (mates : List (Option ℕ)) (roots : List Root)
+    (n : ℕ) (sums : List Sums) : Type 0 where
   pub long : length sums ≡ m.faces
   pub each : (r : ℕ) → r < m.faces → IsSums m places mates roots n r (slice_index_or sums r no_sums)
 
 -- Whether the way round by parities is to be reversed.
 abbrev pub is_reversed : Sums → Bool
-is_reversed s = if (s.bare == 0) && not (s.odd == 0) && not (int_eq s.volume (pos 0)) then int_lt s.volume (pos 0) else nat_lt s.even s.odd
+is_reversed s =
+    if (s.bare == 0) && not (s.odd == 0) && not (int_eq s.volume (pos 0))
+    then int_lt s.volume (pos 0) else nat_lt s.even s.odd
 
 -- The flag of a face.
 abbrev pub chosen_flag : Bool → Bool → Bool → Bool

@@ -34,7 +34,8 @@ pub record AreInsideOut (m : Net) (places : List Place) (k : ℕ) : Type 0 where
 
 -- Sides e and g join the same two vertices, in either order.
 abbrev pub join_same : Net → ℕ → ℕ → Bool
-join_same m e g = ((m.from g == m.from e) && (to m g == to m e)) || ((m.from g == to m e) && (to m g == m.from e))
+join_same m e g =
+    ((m.from g == m.from e) && (to m g == to m e)) || ((m.from g == to m e) && (to m g == m.from e))
 
 -- Side e is the third of its edge: two sides of lower number join the same two vertices.
 abbrev pub is_third : Net → ℕ → Bool
@@ -45,12 +46,14 @@ abbrev pub crowded_of : Net → ℕ
 crowded_of m = count (is_third m) (side_count m)
 
 -- What is told of turning, where these flags tell which faces are turned.
-pub record AreTurnCounts (m : Net) (places : List Place) (flags : List Bool) (c : TurnCounts) : Type 0 where
+pub record AreTurnCounts (m : Net) (places : List Place) (flags : List Bool)
+    (c : TurnCounts) : Type 0 where
   pub turned : c.turned ≡ count (flag_of flags) m.faces
   pub twisted : IsCount (IsTwisted m) m.faces c.twisted
   pub crowded : c.crowded ≡ crowded_of m
   pub inside_out : AreInsideOut m places c.inside_out
 
--- Whether a face that stands for a patch tells, by the patch's sums, that it is closed, agrees as it is, and is inside out.
+-- Whether a face that stands for a patch tells, by the patch's sums, that it is closed, agrees as
+-- it is, and is inside out.
 abbrev pub is_inward : Bool → Bool → Sums → Bool
 is_inward own odd s = own && not odd && (s.bare == 0) && (s.odd == 0) && int_lt s.volume (pos 0)

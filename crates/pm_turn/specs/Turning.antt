@@ -1,4 +1,5 @@
--- Faces turned round so that neighbours agree. Two faces are neighbours where they share an edge that no third face has.
+-- Faces turned round so that neighbours agree. Two faces are neighbours where they share an edge
+-- that no third face has.
 use Rattle.std.specs.Prelude.{◌≡◌, ◌≢◌, ℕ, ◌+◌, ◌-◌, ◌*◌, ◌%◌, ◌<◌, ◌≤◌, ◌⊎◌, Bool, true, false, not, ◌==◌, List, [], ◌∷◌, length, slice_index_or, if◌then◌else◌}
 use Rattle.pm_base.specs.declared.mesh.Corners.{Corners}
 use Rattle.pm_base.specs.Sides.{Net, face_of, to, Stands}
@@ -22,7 +23,8 @@ flag_of flags f = slice_index_or flags f false
 -- Side k joins the two vertices that side e joins, one way or the other.
 pub record JoinsSame (m : Net) (e k : ℕ) : Type 0 where
   pub stands : Stands m k
-  pub ends : ((m.from k ≡ m.from e) × (to m k ≡ to m e)) ⊎ ((m.from k ≡ to m e) × (to m k ≡ m.from e))
+  pub ends : ((m.from k ≡ m.from e) × (to m k ≡ to m e)) ⊎
+      ((m.from k ≡ to m e) × (to m k ≡ m.from e))
 
 -- Sides e and k alone join their two vertices: the two faces are neighbours there.
 pub record AreMates (m : Net) (e k : ℕ) : Type 0 where
@@ -42,16 +44,20 @@ flipped_if false b = b
 -- From face f from neighbour to neighbour, and whether an odd number of these steps clash.
 pub data Way (m : Net) (f : ℕ) : ℕ → Bool → Type 0 where
   stay : Way m f f false
-  over : {e k : ℕ} {p : Bool} → Way m f (face_of e) p → AreMates m e k → Way m f (face_of k) (flipped_if (clash m e k) p)
+  over : {e k : ℕ} {p : Bool} → Way m f (face_of e) p → AreMates m e k
+      → Way m f (face_of k) (flipped_if (clash m e k) p)
 
--- Neighbours agree once the flagged faces are turned, but in a patch that has an odd closed way, as that of a Moebius strip:
--- of such a patch no face is turned. A patch is all that is reached from a face.
+-- Neighbours agree once the flagged faces are turned, but in a patch that has an odd closed way, as
+-- that of a Moebius strip: of such a patch no face is turned. A patch is all that is reached from a
+-- face.
 pub record AgreeOnceTurned (m : Net) (flags : List Bool) : Type 0 where
   pub long : length flags ≡ m.faces
   -- whether a face's patch has an odd closed way
   pub twisted : ℕ → Bool
   pub odd : (f : ℕ) → f < m.faces → twisted f ≡ true → Way m f f true × (flag_of flags f ≡ false)
-  pub agree : (e k : ℕ) → AreMates m e k → twisted (face_of e) ≡ false → (twisted (face_of k) ≡ false) × (flag_of flags (face_of k) ≡ flipped_if (clash m e k) (flag_of flags (face_of e)))
+  pub agree : (e k : ℕ) → AreMates m e k → twisted (face_of e) ≡ false
+      → (twisted (face_of k) ≡ false)
+      × (flag_of flags (face_of k) ≡ flipped_if (clash m e k) (flag_of flags (face_of e)))
 
 -- The flags of that kind by which each patch's face of least number stays.
 pub record AreTurns (m : Net) (flags : List Bool) : Type 0 where
@@ -71,15 +77,17 @@ AllAgree m = (e k : ℕ) → AreMates m e k → clash m e k ≡ false
 abbrev pub moved : List Bool → ℕ → ℕ
 moved flags e = if flag_of flags (face_of e) then 3 * face_of e + (2 - e % 3) else e
 
--- What tables by face have to say so that flags can be read from them: the least face of a face's patch, the parity of a way to
--- it, and for a patch's least face whether the patch has an odd closed way.
+-- What tables by face have to say so that flags can be read from them: the least face of a face's
+-- patch, the parity of a way to it, and for a patch's least face whether the patch has an odd
+-- closed way.
 pub record AreTraced (m : Net) (root : ℕ → ℕ) (parity odd : ℕ → Bool) : Type 0 where
   pub way : (f : ℕ) → f < m.faces → Way m f (root f) (parity f)
   pub below : (f : ℕ) → root f ≤ f
   pub own : (f : ℕ) → f < m.faces → parity (root f) ≡ false
   pub same : (e k : ℕ) → AreMates m e k → root (face_of e) ≡ root (face_of k)
   pub twisted : (f : ℕ) → f < m.faces → odd (root f) ≡ true → Way m (root f) (root f) true
-  pub straight : (e k : ℕ) → AreMates m e k → odd (root (face_of e)) ≡ false → parity (face_of k) ≡ flipped_if (clash m e k) (parity (face_of e))
+  pub straight : (e k : ℕ) → AreMates m e k → odd (root (face_of e)) ≡ false
+      → parity (face_of k) ≡ flipped_if (clash m e k) (parity (face_of e))
 
 -- The flag of a face: its parity, but in a patch with an odd closed way.
 abbrev pub flag_with : Bool → Bool → Bool

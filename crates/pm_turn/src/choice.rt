@@ -27,8 +27,8 @@ use crate::volumes::volume_of;
 use pm_base::{Corners, Point, Side, SideMap};
 use std::alloc::Global;
 
-/// What is added up over the faces of a patch: how many have an even way to the face that stands for
-/// it, how many an odd one, how many have a side without a mate, and six times the volume, where
+/// What is added up over the faces of a patch: how many have an even way to the face that stands
+/// for it, how many an odd one, how many have a side without a mate, and six times the volume, where
 /// faces with an odd way are turned.
 #[derive(Clone, Copy)]
 pub(crate) struct Sums {
@@ -46,11 +46,11 @@ pub struct Turned {
     pub counts: TurnCounts,
 }
 
-/// For each face whether it is turned round, as `turns` tells, but each patch the better way round, and
-/// what can be told of that. No face is turned where neighbours agree already. Of a patch with a side
-/// that has no mate the fewest faces are turned; of two equal choices the face of least number stays.
-/// A closed patch has a volume that isn't below 0; without volume it is turned as an open one. Sums
-/// are exact. There is one such list of flags. O(F log F) for F faces.
+/// For each face whether it is turned round, as `turns` tells, but each patch the better way round,
+/// and what can be told of that. No face is turned where neighbours agree already. Of a patch with a
+/// side that has no mate the fewest faces are turned; of two equal choices the face of least number
+/// stays. A closed patch has a volume that isn't below 0; without volume it is turned as an open
+/// one. Sums are exact. There is one such list of flags. O(F log F) for F faces.
 pub fn chosen_turns(
     alloc: Global,
     faces: &[Corners],
@@ -59,7 +59,8 @@ pub fn chosen_turns(
     requires cuttable { IsCuttable (net_of faces.now) }
     requires placed { ArePlaced (net_of faces.now) places.now }
     ensures flags { IfOk result (λ t. AreChosenTurns (net_of faces.now) places.now t.flags.items) }
-    ensures counts { IfOk result (λ t. AreTurnCounts (net_of faces.now) places.now t.flags.items t.counts) }
+    ensures counts { IfOk result (λ t. AreTurnCounts (net_of faces.now) places.now t.flags.items
+        t.counts) }
 {
     let edges = note_edges(alloc, faces)?;
     let mates = edge_mates(alloc, faces, &edges)?;

@@ -75,7 +75,8 @@ pub(crate) fn edge_mates(
 #[tactic(auto, using(crate::proofs::EdgeLaws::none_noted, crate::proofs::Summing::none_counted))]
 pub(crate) fn note_edges(alloc: Global, faces: &[Corners]) -> Result<Edges, OutOfMemory>
     requires { IsCuttable (net_of faces.now) }
-    ensures noted { IfOk result (λ e. AreEdges (net_of faces.now) (side_count (net_of faces.now)) e.sides) }
+    ensures noted { IfOk result (λ e. AreEdges (net_of faces.now) (side_count (net_of faces.now))
+        e.sides) }
     ensures crowded { IfOk result (λ e. e.crowded ≡ crowded_of (net_of faces.now)) }
 {
     let mut sides = BTreeMap::new(alloc);

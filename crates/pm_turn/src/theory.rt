@@ -23,7 +23,11 @@ ghost use Rattle.pm_turn.specs.ChoiceLaws.{
   TurnsAreRenumbered,
   UnitTetrahedronFacesOut,
 };
-ghost use Rattle.pm_turn.specs.ToldLaws.{TurnCountsAreThere, TurnCountsAreOne, ManifoldsAreStraight};
+ghost use Rattle.pm_turn.specs.ToldLaws.{
+  TurnCountsAreThere,
+  TurnCountsAreOne,
+  ManifoldsAreStraight,
+};
 ghost use Rattle.pm_turn.specs.UnionLaws.{EldersGrow, EldersBegin, MatelessSidesPass, EldersAreTraced};
 
 /// The laws of turning faces round, which takes no step.

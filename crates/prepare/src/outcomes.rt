@@ -9,12 +9,12 @@ ghost use Rattle.prepare.specs.Laws.{
   FitTextsStay,
 };
 
-/// The laws of outcomes, which takes no step: a text has one outcome for a size or none, and one place
-/// that decides it; what is written is read as the mesh that was made; its first line leads back from
-/// places to the points that were read, within half a step; the numbers that are said account for each
-/// vertex and triangle; it comes back where it is prepared again without a size; what needs nothing
-/// comes back as it is, for each size and for none; and so does the text of a mesh on the grid, with
-/// nothing said of it but closed surfaces inside out and faces without area.
+/// The laws of outcomes, which takes no step: a text has one outcome for a size or none, and one
+/// place that decides it; what is written is read as the mesh that was made; its first line leads
+/// back from places to the points that were read, within half a step; the numbers that are said
+/// account for each vertex and triangle; it comes back where it is prepared again without a size;
+/// what needs nothing comes back as it is, for each size and for none; and so does the text of a
+/// mesh on the grid, with nothing said of it but closed surfaces inside out and faces without area.
 pub fn outcomes_are_sound()
     ensures one { OnePreparedText }
     ensures read { TextsAreRead }

@@ -108,8 +108,9 @@ pub fn run<S: Source, K: Sink, E: Sink>(
     // Its first line leads from places to within half a step of the points that were read.
     ensures leads_back { (asked : Asked) → asked_of args ≡ Some asked → result ≡ 0
         → IfSome (S.left input.old) (λ bytes. GainsWayBack asked.size bytes (K.got out.old) (K.got out.new)) }
-    // Triangles that need nothing were put as they are, over the places of their points. Only polygons
-    // that were cut, closed surfaces inside out and faces without area are said, and how places lead back.
+    // Triangles that need nothing were put as they are, over the places of their points. Only
+    // polygons that were cut, closed surfaces inside out and faces without area are said, and how
+    // places lead back.
     ensures stays { (asked : Asked) → asked_of args ≡ Some asked → result ≡ 0
         → IfSome (S.left input.old) (λ bytes. StaysAsItIs asked.size bytes (K.got out.old) (K.got out.new) (E.got err.old) (E.got err.new) (E.faults err.old) (E.faults err.new)) }
     ensures whole_counts { result ≡ 0 → (S.faults input.new ≡ S.faults input.old) × (K.faults out.new ≡ K.faults out.old) }
