@@ -1,0 +1,73 @@
+-- A cut, by what was found of the fan and of the ears.
+use Rattle.std.proofs.Common.{◌≡◌, true, false, Option, Some, None, List, refl, sym, ap, ◌∙◌, subst}
+use Rattle.std.specs.Prelude.{map}
+use Rattle.std.specs.List.{list_any}
+use Rattle.std.specs.Option.{option_map}
+use Rattle.std.proofs.lemmas.Bool.{cond-true, cond-false}
+use Rattle.std.proofs.lemmas.Option.{none-some}
+use Rattle.pm_base.specs.Place.{Place}
+use Rattle.pm_base.specs.declared.mesh.Corners.{Corners}
+use Rattle.pm_ears.specs.declared.cut.CutKind.TheVariants as kinds
+use Rattle.pm_ears.specs.declared.spots.Spot.{Spot}
+use Rattle.pm_ears.specs.declared.spots.Triangle.{Triangle}
+use Rattle.pm_ears.specs.Planes.{spots_of}
+use Rattle.pm_ears.specs.Cutting.{fan, is_turned_over, Pieces, pieces_by, few_ears, pieces_of, named}
+use Rattle.pm_ears.proofs.Taking.{some_same}
+
+pub by_fan : (spots : List Spot) → list_any is_turned_over (fan spots) ≡ false
+    → pieces_of spots ≡ record { kind = kinds.Fan; triangles = fan spots }
+unfolding pieces_of
+by_fan spots e = cond-false _ _ _ e
+
+pub by_ears : (spots : List Spot) → list_any is_turned_over (fan spots) ≡ true
+    → pieces_of spots ≡ pieces_by (fan spots) (few_ears spots)
+unfolding pieces_of
+by_ears spots e = cond-true _ _ _ e
+
+pub cut_by_fan : (places : List Place) (spots : List Spot) (triangles : List Corners)
+    → spots ≡ spots_of places → list_any is_turned_over (fan spots) ≡ false
+    → triangles ≡ map named (fan spots)
+    → (kinds.Fan ≡ (pieces_of (spots_of places)).kind)
+    × (triangles ≡ map named (pieces_of (spots_of places)).triangles)
+cut_by_fan places spots triangles is e t =
+    subst (λ (ss : List Spot). (kinds.Fan ≡ (pieces_of ss).kind)
+    × (triangles ≡ map named (pieces_of ss).triangles)) is (
+      sym (ap (λ (p : Pieces). p.kind) (by_fan spots e)),
+      t
+          ∙ sym (ap (λ (p : Pieces). map named p.triangles) (by_fan spots e)),
+    )
+
+ears_told : (f : List Triangle) (o : Option (List Triangle)) (triangles : List Corners)
+    → Some triangles ≡ option_map (map named) o
+    → (kinds.Ears ≡ (pieces_by f o).kind) × (triangles ≡ map named (pieces_by f o).triangles)
+ears_told f None triangles e = absurd (none-some triangles (sym e))
+ears_told f (Some ts) triangles e = (refl, some_same triangles (map named ts) e)
+
+no_ears_told : (f : List Triangle) (o : Option (List Triangle)) (triangles : List Corners)
+    → None ≡ option_map (map named) o → triangles ≡ map named f
+    → (kinds.OverlappingFan ≡ (pieces_by f o).kind)
+    × (triangles ≡ map named (pieces_by f o).triangles)
+no_ears_told f None triangles e t = (refl, t)
+no_ears_told f (Some ts) triangles e t = absurd (none-some (map named ts) e)
+
+pub cut_by_ears : (places : List Place) (spots : List Spot) (triangles : List Corners)
+    → spots ≡ spots_of places → list_any is_turned_over (fan spots) ≡ true
+    → Some triangles ≡ option_map (map named) (few_ears spots)
+    → (kinds.Ears ≡ (pieces_of (spots_of places)).kind)
+    × (triangles ≡ map named (pieces_of (spots_of places)).triangles)
+cut_by_ears places spots triangles is e t =
+    subst (λ (ss : List Spot). (kinds.Ears ≡ (pieces_of ss).kind)
+    × (triangles ≡ map named (pieces_of ss).triangles)) is
+    (subst (λ (p : Pieces). (kinds.Ears ≡ p.kind) × (triangles ≡ map named p.triangles))
+    (sym (by_ears spots e)) (ears_told (fan spots) (few_ears spots) triangles t))
+
+pub cut_by_none : (places : List Place) (spots : List Spot) (triangles : List Corners)
+    → spots ≡ spots_of places → list_any is_turned_over (fan spots) ≡ true
+    → None ≡ option_map (map named) (few_ears spots) → triangles ≡ map named (fan spots)
+    → (kinds.OverlappingFan ≡ (pieces_of (spots_of places)).kind)
+    × (triangles ≡ map named (pieces_of (spots_of places)).triangles)
+cut_by_none places spots triangles is e o t =
+    subst (λ (ss : List Spot). (kinds.OverlappingFan ≡ (pieces_of ss).kind)
+    × (triangles ≡ map named (pieces_of ss).triangles)) is
+    (subst (λ (p : Pieces). (kinds.OverlappingFan ≡ p.kind) × (triangles ≡ map named p.triangles))
+    (sym (by_ears spots e)) (no_ears_told (fan spots) (few_ears spots) triangles o t))

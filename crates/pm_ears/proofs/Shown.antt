@@ -1,0 +1,171 @@
+-- The plane on which a polygon is cut shows it largest.
+use Rattle.std.proofs.Common.{◌≡◌, ℕ, ◌+◌, ◌<◌, ◌≤◌, Bool, true, false, inl, inr, List, [], ◌∷◌, refl, sym, ap, ◌∙◌, subst, arith}
+use Rattle.std.specs.Prelude.{ℤ, pos, ◌+ℤ◌, ◌≤ℤ◌, nat_le, ◌&&◌, ◌⊎◌, int_lt, unsigned_abs}
+use Rattle.std.proofs.lemmas.Bool.{cases_Bool, cond-true, cond-false, and_parts, and_cases, leb-true, leb-false}
+use Rattle.std.proofs.lemmas.Int.{ints}
+use Rattle.pm_base.specs.Place.{Place}
+use Rattle.pm_ears.specs.declared.plane.Axis.{Axis}
+use Rattle.pm_ears.specs.declared.plane.Axis.TheVariants as axes
+use Rattle.pm_ears.specs.declared.plane.Plane.{Plane}
+use Rattle.pm_ears.specs.declared.spots.Spot.{Spot}
+use Rattle.pm_ears.specs.Areas.{cross_of, along, last_from, twice_area_within}
+use Rattle.pm_ears.specs.Planes.{across, mirrored_if, spot_of, spots_on, newell, facing, largest_of, plane_of, spots_of}
+use Rattle.pm_ears.specs.Laws.{IsShownLargest}
+
+-- Where the corners stand on a plane, and in its mirror.
+seen : Bool → Axis → ℕ → List Place → List Spot
+seen b axis i places = spots_on (record { across = axis; mirrored = b }) i places
+
+one_seen : Bool → Axis → ℕ → Place → Spot
+one_seen b axis i p = spot_of (record { across = axis; mirrored = b }) i p
+
+mirrored_cross : (p q : Spot)
+    → cross_of (mirrored_if true p) (mirrored_if true q) +ℤ cross_of p q ≡ pos 0
+unfolding cross_of
+mirrored_cross p q = omega (arith, ints)
+
+mirrored_pair : (axis : Axis) (i k : ℕ) (p q : Place)
+    → cross_of (one_seen true axis i p) (one_seen true axis k q) +ℤ cross_of
+    (one_seen false axis i p) (one_seen false axis k q) ≡ pos 0
+unfolding one_seen spot_of
+mirrored_pair axis i k p q = mirrored_cross (across axis i p) (across axis k q)
+
+mirrored_along : (axis : Axis) (i : ℕ) (places : List Place)
+    → along (seen true axis i places) +ℤ along (seen false axis i places) ≡ pos 0
+unfolding seen one_seen
+mirrored_along axis i [] = refl
+mirrored_along axis i (p ∷ []) = refl
+mirrored_along axis i (p ∷ q ∷ more) =
+    let here = mirrored_pair axis i (i + 1) p q in
+    let rest = mirrored_along axis (i + 1) (q ∷ more) in
+    omega (arith, ints, here, rest)
+
+mirrored_last : (axis : Axis) (i : ℕ) (p : Place) (more : List Place)
+    → last_from (one_seen true axis i p) (seen true axis (i + 1) more)
+    ≡ mirrored_if true (last_from (one_seen false axis i p) (seen false axis (i + 1) more))
+unfolding seen one_seen spot_of
+mirrored_last axis i p [] = refl
+mirrored_last axis i p (q ∷ more) = mirrored_last axis (i + 1) q more
+
+mirrored_within : (axis : Axis) (i : ℕ) (places : List Place)
+    → twice_area_within (seen true axis i places) +ℤ twice_area_within (seen false axis i places)
+    ≡ pos 0
+unfolding seen one_seen spot_of
+mirrored_within axis i [] = refl
+mirrored_within axis i (p ∷ more) =
+    let path = mirrored_along axis i (p ∷ more) in
+    let last = last_from (one_seen false axis i p) (seen false axis (i + 1) more) in
+    let closing = mirrored_cross last (across axis i p) in
+    let same = ap (λ (s : Spot). cross_of s (one_seen true axis i p)) (mirrored_last axis i p
+    more) in
+    omega (arith, ints, path, closing, same)
+
+-- An area that is seen upright is as great as the component of the normal.
+record IsSeen (n area : ℤ) : Type 0 where
+  upright : pos 0 ≤ℤ area
+  size : unsigned_abs n ≡ unsigned_abs area
+
+facing_seen : (axis : Axis) (places : List Place)
+    → IsSeen (newell axis places) (twice_area_within
+    (spots_on (facing axis (newell axis places)) 0 places))
+unfolding seen
+facing_seen axis places =
+    elim (cases_Bool (int_lt (newell axis places) (pos 0))) [
+      | inl e ↦
+          let turned = mirrored_within axis 0 places in
+          subst (λ b. IsSeen (newell axis places) (twice_area_within (seen b axis 0 places)))
+          (sym e)
+          (record {
+            upright =
+                omega (arith, ints, turned, e);
+            size = omega (arith, ints, turned, e);
+          })
+      | inr e ↦
+          subst (λ b. IsSeen (newell axis places) (twice_area_within (seen b axis 0 places)))
+          (sym e)
+          (record { upright = omega (arith, ints, e); size = refl })
+    ]
+
+shown_by : (axis : Axis) (places : List Place) → plane_of places ≡ facing axis (newell axis places)
+    → ((other : Axis) → unsigned_abs (newell other places) ≤ unsigned_abs (newell axis places))
+    → IsShownLargest places
+shown_by axis places is most =
+    let s = facing_seen axis places in
+    let area : ℤ = twice_area_within (spots_of places) in
+    let same : twice_area_within (spots_on (facing axis (newell axis places)) 0 places) ≡ area =
+    ap (λ (plane : Plane). twice_area_within (spots_on plane 0 places)) (sym is) in
+    record {
+      upright = subst (λ z. pos 0 ≤ℤ z) same s.upright;
+      largest = λ other. subst (λ n. unsigned_abs (newell other places) ≤ n)
+          (s.size ∙ ap unsigned_abs same) (most other);
+    }
+
+most_of : (places : List Place) (n : ℕ) → unsigned_abs (newell axes.X places) ≤ n
+    → unsigned_abs (newell axes.Y places) ≤ n → unsigned_abs (newell axes.Z places) ≤ n
+    → (other : Axis) → unsigned_abs (newell other places) ≤ n
+most_of places n x y z axes.X = x
+most_of places n x y z axes.Y = y
+most_of places n x y z axes.Z = z
+
+-- One of the three is as great as each.
+lower : (x y z : ℕ) → (nat_le y x && nat_le z x) ≡ false → (x < y) ⊎ (x < z)
+lower x y z e =
+    elim (and_cases (nat_le y x) (nat_le z x) e) [
+      | inl f ↦ inl (leb-false y x f)
+      | inr f ↦
+          inr (leb-false z x f)
+    ]
+
+Picks : ℤ → ℤ → ℤ → Axis → ℤ → Type 0
+Picks x y z axis n =
+    (largest_of x y z ≡ facing axis n) × (unsigned_abs x ≤ unsigned_abs n)
+    × (unsigned_abs y ≤ unsigned_abs n) × (unsigned_abs z ≤ unsigned_abs n)
+
+picks : (x y z : ℤ) → Picks x y z axes.X x ⊎ (Picks x y z axes.Y y ⊎ Picks x y z axes.Z z)
+unfolding Picks largest_of
+picks x y z =
+    let nx = unsigned_abs x in
+    let ny = unsigned_abs y in
+    let nz = unsigned_abs z in
+    elim (cases_Bool (nat_le ny nx && nat_le nz nx)) [
+      | inl e ↦ (let parts =
+          and_parts _ _ e in
+          inl (cond-true _ _ _ e, omega arith, leb-true ny nx parts.0, leb-true nz nx parts.1))
+      | inr e ↦
+          let low = lower nx ny nz e in
+          elim (cases_Bool (nat_le nz ny)) [
+            | inl f ↦ (let zy =
+                leb-true nz ny f in
+                inr (inl (
+                  cond-false _ _ _ e
+                      ∙ cond-true _ _ _ f,
+                  omega (arith, low, zy),
+                  omega arith,
+                  zy,
+                )))
+            | inr f ↦ (let yz =
+                leb-false nz ny f in
+                inr (inr (
+                  cond-false _ _ _ e
+                      ∙ cond-false _ _ _ f,
+                  omega (arith, low, yz),
+                  omega (arith, yz),
+                  omega arith,
+                )))
+          ]
+    ]
+
+pub shown_largest : (places : List Place) → IsShownLargest places
+unfolding Picks
+shown_largest places =
+    elim (picks (newell axes.X places) (newell axes.Y places) (newell axes.Z places)) [
+      | inl h ↦ shown_by axes.X places h.0 (most_of places (unsigned_abs (newell axes.X places)) h.1
+          h.2 h.3)
+      | inr rest ↦
+          elim rest [
+            | inl h ↦ shown_by axes.Y places h.0 (most_of places
+                (unsigned_abs (newell axes.Y places)) h.1 h.2 h.3)
+            | inr h ↦ shown_by axes.Z places h.0 (most_of places
+                (unsigned_abs (newell axes.Z places)) h.1 h.2 h.3)
+          ]
+    ]

@@ -1,0 +1,6 @@
+pub mod Areas
+pub mod Planes
+pub mod Ears
+pub mod Cutting
+pub mod Counted
+pub mod Laws

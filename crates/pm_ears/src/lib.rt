@@ -1,0 +1,19 @@
+//! Polygons cut into triangles by ears, on the plane of the axes that shows them largest.
+#![tactic(auto)]
+
+mod counted;
+mod cut;
+mod ears;
+mod fan;
+mod plane;
+mod spots;
+mod theory;
+
+pub use cut::{Cut, CutKind, MOST_EAR_CORNERS, cut_polygon};
+pub use plane::{Axis, Plane};
+pub use spots::{Spot, Triangle};
+use std::alloc::AllocError;
+pub use theory::ears_are_sound;
+
+/// The answer for want of memory.
+pub type OutOfMemory = AllocError;
