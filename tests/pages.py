@@ -1,0 +1,207 @@
+"""Looks whether the pages of the repository name what is there: python3 tests/pages.py
+
+Of each crate's page, crates/NAME/README.md, and of docs/PROMISES.md for the programs:
+
+- each public function of the crate is named, and each clause of a law (a public function without
+  steps); of `run` of a program each clause, in the section of docs/PROMISES.md with its name;
+- what is written as `function`: `clause`, `clause` is there: the function has these clauses; so is
+  `specs/File`: `word`, and `crate`: `word`;
+- each name in backquotes is a word of some crate's code, definitions or proofs, or a file's name;
+- a page of a crate has at most 8 KB.
+
+Of every page, each link to a file or to a heading of a page leads to one. The last line is
+`N pages are as told, M aren't`, and the status is 0 exactly where there is a page and none fails.
+"""
+import re
+import sys
+from pathlib import Path
+from typing import Dict, Iterator, List, NamedTuple, Set, Tuple
+
+from sources import Crate, Function, crate_of, words_of
+
+TOP = Path(__file__).resolve().parent.parent
+MOST_BYTES = 8192
+PROGRAMS = ("vdpm", "simplify", "prepare")
+# Pages whose backquoted names are of the code, beside those of the crates.
+OF_CODE = ("docs/PROMISES.md", "docs/DEFINITIONS.md", "docs/OVERVIEW.md")
+NAME = r"`[^`\n]+`"
+JOINED = rf"{NAME}(?:(?:,| and|, and) {NAME})*"
+CITED = re.compile(rf"({JOINED}): ({JOINED})")
+TOLD = re.compile(r"`([^`\n]+)`")
+PATH_OF_NAMES = re.compile(r"[A-Za-z_][\w'-]*(?:::[A-Za-z_][\w'-]*)*")
+LINK = re.compile(r"(?<!!)\[[^\]]*\]\(([^)\s]+)\)|!\[[^\]]*\]\(([^)\s]+)\)")
+HEADING = re.compile(r"^#+ (.*)$", re.MULTILINE)
+
+
+class Known(NamedTuple):
+    """What pages may name: the crates, and the words of each."""
+
+    crates: Dict[str, Crate]
+    words: Dict[str, Set[str]]
+
+    def all_words(self) -> Set[str]:
+        return {word for words in self.words.values() for word in words}
+
+
+def known_at(top: Path) -> Known:
+    folders = sorted(path.parent for path in (top / "crates").glob("*/src"))
+    return Known(
+        {folder.name: crate_of(folder) for folder in folders},
+        {folder.name: words_of(folder) for folder in folders},
+    )
+
+
+def plain(text: str) -> str:
+    """The text with each run of blanks and line ends as one blank, without blocks of code."""
+    lines = [line for line in text.splitlines() if not line.startswith("    ")]
+    return re.sub(r"\s+", " ", "\n".join(lines))
+
+
+def not_named(crate: Crate, text: str) -> Iterator[str]:
+    """The public functions, and the clauses of laws, that the page of a crate doesn't name."""
+    told = set(TOLD.findall(text))
+    for function in crate.functions:
+        if not function.is_open:
+            continue
+        if not told & {function.name, function.full_name()}:
+            yield f"`{function.full_name()}` isn't named"
+        for clause in function.clauses if function.is_law else ():
+            if clause not in told:
+                yield f"clause `{clause}` of `{function.name}` isn't named"
+
+
+def meant(name: str, known: Known, own: str) -> List[Function]:
+    """The functions that a name may mean, of the crate whose page it is, or of any."""
+    *before, last = name.split("::")
+    crates = [known.crates[own]] if own in known.crates else list(known.crates.values())
+    if before and before[0] in known.crates:
+        crates, before = [known.crates[before[0]]], before[1:]
+    owner = before[-1] if before else None
+    functions = [f for crate in crates for f in crate.functions if f.name == last]
+    return [f for f in functions if owner is None or f.owner == owner]
+
+
+def wrong_citations(text: str, known: Known, own: str) -> Iterator[str]:
+    for left, right in CITED.findall(text):
+        names, cited = TOLD.findall(left), TOLD.findall(right)
+        found = [(name, meant(name, known, own)) for name in names]
+        if all(functions for _, functions in found):
+            clauses = {c for _, functions in found for f in functions for c in f.clauses}
+            # A name of a function may follow one too: which of them calls it, say.
+            wrong = [c for c in cited if c not in clauses and not meant(c, known, own)]
+            yield from (f"{left} has no clause `{c}`" for c in wrong)
+        elif len(names) == 1 and names[0] in known.words:
+            wrong = [c for c in cited if last_word(c) not in known.words[names[0]]]
+            yield from (f"crate `{names[0]}` has no `{c}`" for c in wrong)
+
+
+def last_word(name: str) -> str:
+    return name.split("::")[-1].split("/")[-1].split(" ")[0]
+
+
+def missing_files(text: str, folder: Path) -> Iterator[str]:
+    for name in TOLD.findall(text):
+        is_spec = re.fullmatch(r"(specs|src|proofs)/[\w./-]+", name)
+        if is_spec and not any(folder.glob(f"{name}*")):
+            yield f"there is no file `{name}`"
+
+
+def unknown_names(text: str, words: Set[str]) -> Iterator[str]:
+    for name in TOLD.findall(text):
+        if PATH_OF_NAMES.fullmatch(name):
+            for part in name.split("::"):
+                if part not in words:
+                    yield f"nothing is called `{part}`"
+
+
+def slugs(text: str) -> Set[str]:
+    """The anchors of a page's headings, as GitHub and GitLab make them."""
+    found: Set[str] = set()
+    for heading in HEADING.findall(text):
+        slug = re.sub(r"[^\w\- ]", "", re.sub(r"[`*]", "", heading).lower()).replace(" ", "-")
+        found.add(slug)
+    return found
+
+
+def wrong_links(page: Path) -> Iterator[str]:
+    text = page.read_text(encoding="utf-8")
+    for target in (link or picture for link, picture in LINK.findall(text)):
+        if re.match(r"[a-z]+:", target):
+            continue
+        path, _, anchor = target.partition("#")
+        file = page.parent / path if path else page
+        if not file.exists():
+            yield f"link to {target}: there is no such file"
+        elif anchor and anchor not in slugs(file.read_text(encoding="utf-8")):
+            yield f"link to {target}: there is no such heading"
+
+
+def section(text: str, name: str) -> str:
+    """The section of a page whose heading has this word in backquotes."""
+    found = re.split(r"(?m)^## ", text)
+    return "\n".join(part for part in found if f"`{name}`" in part.split("\n", 1)[0])
+
+
+def program_not_named(crate: Crate, text: str) -> Iterator[str]:
+    told = set(TOLD.findall(section(text, crate.name)))
+    for function in crate.functions:
+        for clause in function.clauses if function.name == "run" else ():
+            if clause not in told and clause not in ("few", "size", "not_ended"):
+                yield f"clause `{clause}` of `{crate.name}::run` isn't named"
+
+
+def faults_of_crate(folder: Path, known: Known, words: Set[str]) -> List[str]:
+    page = folder / "README.md"
+    if not page.is_file():
+        return [f"there is no page {folder.name}/README.md"]
+    whole = page.read_text(encoding="utf-8")
+    text = plain(whole)
+    found = list(not_named(known.crates[folder.name], text))
+    found += wrong_citations(text, known, folder.name)
+    found += missing_files(text, folder)
+    found += unknown_names(text, words)
+    if len(whole.encode()) > MOST_BYTES:
+        found.append(f"{len(whole.encode())} bytes are more than {MOST_BYTES}")
+    return found + list(wrong_links(page))
+
+
+def faults_of_page(page: Path, name: str, known: Known, words: Set[str]) -> List[str]:
+    found = list(wrong_links(page))
+    text = page.read_text(encoding="utf-8")
+    if name in OF_CODE:
+        found += wrong_citations(plain(text), known, "")
+        found += unknown_names(plain(text), words)
+    if name == "docs/PROMISES.md":
+        for program in (crate for crate in PROGRAMS if crate in known.crates):
+            found += program_not_named(known.crates[program], text)
+    return found
+
+
+def pages_at(top: Path) -> List[str]:
+    """The pages that are no crate's."""
+    found = [*top.glob("*.md"), *top.glob("docs/*.md"), *top.glob("tests/*.md")]
+    return sorted(str(path.relative_to(top)) for path in found)
+
+
+def told_of(top: Path) -> Iterator[Tuple[str, List[str]]]:
+    """Each page with what is wrong in it."""
+    known = known_at(top)
+    words = known.all_words()
+    for name in known.crates:
+        yield f"crates/{name}/README.md", faults_of_crate(top / "crates" / name, known, words)
+    for name in pages_at(top):
+        yield name, faults_of_page(top / name, name, known, words)
+
+
+def main(top: Path = TOP) -> int:
+    right = wrong = 0
+    for page, faults in told_of(top):
+        right, wrong = right + (not faults), wrong + bool(faults)
+        for fault in dict.fromkeys(faults):
+            print(f"{page}: {fault}")
+    print(f"{right} pages are as told, {wrong} aren't")
+    return 0 if right and not wrong else 1
+
+
+if __name__ == "__main__":
+    sys.exit(main())
