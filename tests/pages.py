@@ -1,9 +1,9 @@
 """Looks whether the pages of the repository name what is there: python3 tests/pages.py
 
-Of each crate's page, crates/NAME/README.md, and of docs/PROMISES.md for the programs:
+Of each crate's page, crates/NAME/README.md:
 
 - each public function of the crate is named, and each clause of a law (a public function without
-  steps); of `run` of a program each clause, in the section of docs/PROMISES.md with its name;
+  steps) where the law is named; of a program each clause that `run` ensures;
 - what is written as `function`: `clause`, `clause` is there: the function has these clauses; so is
   `specs/File`: `word`, and `crate`: `word`;
 - each name in backquotes is a word of some crate's code, definitions or proofs, or a file's name;
@@ -21,7 +21,6 @@ from sources import Crate, Function, crate_of, words_of
 
 TOP = Path(__file__).resolve().parent.parent
 MOST_BYTES = 8192
-PROGRAMS = ("vdpm", "simplify", "prepare")
 # Pages whose backquoted names are of the code, beside those of the crates.
 OF_CODE = ("docs/PROMISES.md", "docs/DEFINITIONS.md", "docs/OVERVIEW.md")
 NAME = r"`[^`\n]+`"
@@ -34,40 +33,61 @@ HEADING = re.compile(r"^#+ (.*)$", re.MULTILINE)
 
 
 class Known(NamedTuple):
-    """What pages may name: the crates, and the words of each."""
+    """What pages may name: the crates, the words of each, and these with the files at the top."""
 
     crates: Dict[str, Crate]
     words: Dict[str, Set[str]]
+    every: Set[str]
 
-    def all_words(self) -> Set[str]:
-        return {word for words in self.words.values() for word in words}
 
 
 def known_at(top: Path) -> Known:
     folders = sorted(path.parent for path in (top / "crates").glob("*/src"))
-    return Known(
-        {folder.name: crate_of(folder) for folder in folders},
-        {folder.name: words_of(folder) for folder in folders},
-    )
+    words = {folder.name: words_of(folder) for folder in folders}
+    every = {path.stem for path in top.glob("*")}.union(*words.values())
+    return Known({folder.name: crate_of(folder) for folder in folders}, words, every)
+
+
+def without_code(text: str) -> str:
+    """The text without its indented blocks, which begin after a blank line."""
+    kept: List[str] = []
+    inside, before = False, ""
+    for line in text.splitlines():
+        inside = line.startswith("    ") and (inside or not before.strip())
+        before = line
+        if not inside:
+            kept.append(line)
+    return "\n".join(kept)
 
 
 def plain(text: str) -> str:
-    """The text with each run of blanks and line ends as one blank, without blocks of code."""
-    lines = [line for line in text.splitlines() if not line.startswith("    ")]
-    return re.sub(r"\s+", " ", "\n".join(lines))
+    """The text without blocks of code, with each run of blanks and line ends as one blank."""
+    return re.sub(r"\s+", " ", without_code(text))
+
+
+def blocks(text: str) -> List[str]:
+    """The paragraphs, the rows and the items of lists of a page, each as one line."""
+    parts = re.split(r"\n(?=\s*(?:- |\d+\. |\||#))|\n\s*\n", without_code(text))
+    return [re.sub(r"\s+", " ", part) for part in parts]
 
 
 def not_named(crate: Crate, text: str) -> Iterator[str]:
-    """The public functions, and the clauses of laws, that the page of a crate doesn't name."""
-    told = set(TOLD.findall(text))
+    """The public functions, and the clauses of laws and programs, that a page doesn't name."""
+    told = [set(TOLD.findall(block)) for block in blocks(text)]
+    everywhere = {name for names in told for name in names}
     for function in crate.functions:
+        both = {function.name, function.full_name()}
         if not function.is_open:
             continue
-        if not told & {function.name, function.full_name()}:
+        if not everywhere & both:
             yield f"`{function.full_name()}` isn't named"
-        for clause in function.clauses if function.is_law else ():
-            if clause not in told:
-                yield f"clause `{clause}` of `{function.name}` isn't named"
+        if function.is_law:
+            beside = {name for names in told if names & both for name in names}
+            missing = [clause for clause in function.clauses if clause not in beside]
+            yield from (f"clause `{c}` isn't named beside `{function.name}`" for c in missing)
+        elif function.name == "run":
+            missing = [clause for clause in function.promises if clause not in everywhere]
+            yield from (f"clause `{c}` of `run` isn't named" for c in missing)
 
 
 def meant(name: str, known: Known, own: str) -> List[Function]:
@@ -136,44 +156,27 @@ def wrong_links(page: Path) -> Iterator[str]:
             yield f"link to {target}: there is no such heading"
 
 
-def section(text: str, name: str) -> str:
-    """The section of a page whose heading has this word in backquotes."""
-    found = re.split(r"(?m)^## ", text)
-    return "\n".join(part for part in found if f"`{name}`" in part.split("\n", 1)[0])
-
-
-def program_not_named(crate: Crate, text: str) -> Iterator[str]:
-    told = set(TOLD.findall(section(text, crate.name)))
-    for function in crate.functions:
-        for clause in function.clauses if function.name == "run" else ():
-            if clause not in told and clause not in ("few", "size", "not_ended"):
-                yield f"clause `{clause}` of `{crate.name}::run` isn't named"
-
-
-def faults_of_crate(folder: Path, known: Known, words: Set[str]) -> List[str]:
+def faults_of_crate(folder: Path, known: Known) -> List[str]:
     page = folder / "README.md"
     if not page.is_file():
         return [f"there is no page {folder.name}/README.md"]
     whole = page.read_text(encoding="utf-8")
     text = plain(whole)
-    found = list(not_named(known.crates[folder.name], text))
+    found = list(not_named(known.crates[folder.name], whole))
     found += wrong_citations(text, known, folder.name)
     found += missing_files(text, folder)
-    found += unknown_names(text, words)
+    found += unknown_names(text, known.every)
     if len(whole.encode()) > MOST_BYTES:
         found.append(f"{len(whole.encode())} bytes are more than {MOST_BYTES}")
     return found + list(wrong_links(page))
 
 
-def faults_of_page(page: Path, name: str, known: Known, words: Set[str]) -> List[str]:
+def faults_of_page(page: Path, name: str, known: Known) -> List[str]:
     found = list(wrong_links(page))
     text = page.read_text(encoding="utf-8")
     if name in OF_CODE:
         found += wrong_citations(plain(text), known, "")
-        found += unknown_names(plain(text), words)
-    if name == "docs/PROMISES.md":
-        for program in (crate for crate in PROGRAMS if crate in known.crates):
-            found += program_not_named(known.crates[program], text)
+        found += unknown_names(plain(text), known.every)
     return found
 
 
@@ -186,11 +189,10 @@ def pages_at(top: Path) -> List[str]:
 def told_of(top: Path) -> Iterator[Tuple[str, List[str]]]:
     """Each page with what is wrong in it."""
     known = known_at(top)
-    words = known.all_words()
     for name in known.crates:
-        yield f"crates/{name}/README.md", faults_of_crate(top / "crates" / name, known, words)
+        yield f"crates/{name}/README.md", faults_of_crate(top / "crates" / name, known)
     for name in pages_at(top):
-        yield name, faults_of_page(top / name, name, known, words)
+        yield name, faults_of_page(top / name, name, known)
 
 
 def main(top: Path = TOP) -> int:

@@ -16,12 +16,13 @@ TEXT = re.compile(r'"(?:\\.|[^"\\])*"')
 USE = re.compile(r"^pub use (?:crate::)?(\w+)::(\{[^}]*\}|\w+(?: as \w+)?);", re.MULTILINE)
 BLOCK = re.compile(r"(?m)^(?:(pub )?trait (\w+)|(?:unsafe )?impl(?:<[^>{]*>)? ([^{;]+))")
 FUNCTION = re.compile(r"(pub )?(?:const )?(?:unsafe )?fn (\w+)")
-CLAUSE = re.compile(r"(?:requires|ensures)\s*(\w+)?\s*$")
+CLAUSE = re.compile(r"(requires|ensures)\s*(\w+)?\s*$")
 WORD = re.compile(r"[A-Za-z_][\w'-]*")
 
 
 class Function(NamedTuple):
-    """A function: its type or trait if it has one, and the names of its clauses.
+    """A function: its type or trait if it has one, and the names of its clauses, of which the
+    promises are those that it ensures.
 
     It is open where callers of the crate can name it; one of a trait that is told elsewhere isn't.
     """
@@ -29,6 +30,7 @@ class Function(NamedTuple):
     owner: Optional[str]
     name: str
     clauses: Tuple[str, ...] = ()
+    promises: Tuple[str, ...] = ()
     is_law: bool = False
     is_open: bool = True
 
@@ -77,20 +79,29 @@ def handed_out(lib: str) -> Set[str]:
     return names - {""}
 
 
-def clauses_at(text: str, start: int) -> Tuple[List[str], bool]:
-    """The names of the clauses of a function whose name ends here, and whether it has no steps."""
-    names: List[str] = []
+class Head(NamedTuple):
+    """The clauses of a function, with how each begins and its name, and whether it has no steps."""
+
+    clauses: List[Tuple[str, str]]
+    is_empty: bool
+
+    def names(self, *kinds: str) -> Tuple[str, ...]:
+        return tuple(dict.fromkeys(name for kind, name in self.clauses if name and kind in kinds))
+
+
+def head_at(text: str, start: int) -> Head:
+    """The clauses of the function whose name ends here."""
+    clauses: List[Tuple[str, str]] = []
     place = start
     while True:
         brace, end = text.find("{", place), text.find(";", place)
         if brace < 0 or 0 <= end < brace:
-            return names, False
+            return Head(clauses, False)
         head = CLAUSE.search(text, place, brace)
         closing = end_of_braces(text, brace)
         if head is None:
-            return names, not text[brace + 1 : closing - 1].strip()
-        if head[1]:
-            names.append(head[1])
+            return Head(clauses, not text[brace + 1 : closing - 1].strip())
+        clauses.append((head[1], head[2]))
         place = closing
 
 
@@ -112,14 +123,15 @@ def functions_of(text: str, given: Optional[Set[str]]) -> Iterator[Function]:
     blocks = blocks_of(text)
     for found in FUNCTION.finditer(text):
         inside = next((b for b in blocks if b.start < found.start() < b.end), None)
-        names, is_empty = clauses_at(text, found.end())
+        head = head_at(text, found.end())
         stands_for = inside.owner if inside else found[2]
         is_open = (given is None or stands_for in given) and (
             inside.is_trait or bool(found[1]) if inside else bool(found[1])
         )
         owner = inside.owner if inside else None
-        clauses = tuple(dict.fromkeys(names))
-        yield Function(owner, found[2], clauses, is_open and is_empty, is_open)
+        clauses, promises = head.names("requires", "ensures"), head.names("ensures")
+        is_law = is_open and head.is_empty
+        yield Function(owner, found[2], clauses, promises, is_law, is_open)
 
 
 def crate_of(folder: Path) -> Crate:
