@@ -24,7 +24,9 @@ from typing import Callable, Dict, List, NamedTuple, Optional, Tuple
 
 TOP = Path(__file__).resolve().parent.parent
 PROGRAMS = ("vdpm", "prepare", "simplify")
-DOCUMENTS = ("README.md", "docs/GUIDE.md", "docs/COMMANDS.md", "docs/WORLDS.md")
+DOCUMENTS = (
+    "README.md", "CONTRIBUTING.md", "docs/GUIDE.md", "docs/COMMANDS.md", "docs/WORLDS.md",
+)  # fmt: skip
 SEED, RANDOM_CASES = "1", "300"
 
 
