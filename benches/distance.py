@@ -1,6 +1,7 @@
 """How far what a view shows is from the mesh that it stands for, in pixels, by samples:
 
-    python3 benches/distance.py MESH.obj STREAM --eye X Y Z [--focal F] [--tolerances 1 4 16] [--program PATH]
+    python3 benches/distance.py MESH.obj STREAM --eye X Y Z [--focal F] [--tolerances 1 4 16]
+        [--program PATH]
 
 For each tolerance the stream is opened twice, and looked at by `v` and by `vd`. A row has the
 number of shown faces, and the greatest and the root mean square of the distances: from the corners
@@ -71,8 +72,8 @@ def squared_way(p: Place, triangle: Triangle) -> float:
     d5, d6 = dot(ab, cp), dot(ac, cp)
     if d6 >= 0 and d5 <= d6:
         return dot(cp, cp)
-    return squared_way_within(p, triangle, (d1 * d4 - d3 * d2, d5 * d2 - d1 * d6, d3 * d6 - d5 * d4),
-                              (d1, d2, d3, d4, d5, d6))
+    areas = d1 * d4 - d3 * d2, d5 * d2 - d1 * d6, d3 * d6 - d5 * d4
+    return squared_way_within(p, triangle, areas, (d1, d2, d3, d4, d5, d6))
 
 
 def squared_way_within(

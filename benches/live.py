@@ -1,6 +1,7 @@
 """Plays a smooth flight through a pipe, one view at a time, and prints what each step takes:
 
-    python3 benches/live.py MODEL [--program PATH] [--way orbit|flight] [--by v|vd] [--tolerances 16 4]
+    python3 benches/live.py MODEL [--program PATH] [--way orbit|flight] [--by v|vd]
+        [--tolerances 16 4]
 
 MODEL is a stream. A step is a view and, once its reply is there, the text of what is shown: the
 whole frame (`w`), or what has changed since the step before (`d`). A cell has the median and the

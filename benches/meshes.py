@@ -1,4 +1,4 @@
-"""Meshes for measurements, as OBJ texts with whole-number coordinates. Each is an oriented manifold.
+"""Meshes for measurements, as OBJ texts of whole numbers. Each is an oriented manifold.
 
     python3 meshes.py KIND SIZE > mesh.obj
 
@@ -7,17 +7,23 @@ cells or segments along one way.
 """
 import sys
 from math import cos, pi, sin
+from typing import Callable, Dict, List, Tuple
+
+Point = Tuple[int, int, int]
+Mesh = Tuple[List[Point], List[Point]]  # points, and faces by the numbers of points from 0
 
 
-def grid(n):
+def grid(n: int) -> Mesh:
     """A hilly square of n by n cells, two faces each, with a border."""
     step = max(1, 60000 // n)
 
-    def height(r, c):
-        return round(900 * sin(9 * r / n) * cos(7 * c / n) + (r * r * 31 + c * 17 + r * c * 13) % 41)
+    def point(r: int, c: int) -> Point:
+        grain = (r * r * 31 + c * 17 + r * c * 13) % 41
+        height = round(900 * sin(9 * r / n) * cos(7 * c / n) + grain)
+        return c * step - 30000, r * step - 30000, height
 
-    points = [(c * step - 30000, r * step - 30000, height(r, c)) for r in range(n + 1) for c in range(n + 1)]
-    faces = []
+    points = [point(r, c) for r in range(n + 1) for c in range(n + 1)]
+    faces: List[Point] = []
     for r in range(n):
         for c in range(n):
             a = r * (n + 1) + c
@@ -25,22 +31,23 @@ def grid(n):
     return points, faces
 
 
-def ramp(n):
-    """A square of n by n cells whose roughness grows from 1 to some 30,000 from one side to the other.
+def ramp(n: int) -> Mesh:
+    """A square of n by n cells whose roughness grows from one side to the other, from 1 to 30,000.
 
-    The costs of its pairs spread over many powers of two, so a queue that parts near keys from far ones moves the
-    bound between them often: where it moves too little at a time, the time grows with the square of the faces.
+    The costs of its pairs spread over many powers of two, so a queue that parts near keys from far
+    ones moves the bound between them often: where it moves too little at a time, the time grows
+    with the square of the faces.
     """
     points, faces = grid(n)
 
-    def rough(x, y, z):
+    def rough(x: int, z: int) -> int:
         share = (x + 30000) / 60000
         return round((z % 41 - 20) / 20 * 2 ** (15 * share) * 0.9)
 
-    return [(x, y, rough(x, y, z)) for x, y, z in points], faces
+    return [(x, y, rough(x, z)) for x, y, z in points], faces
 
 
-def sphere(n):
+def sphere(n: int) -> Mesh:
     """A ball of n rings and 2 n segments, uneven by a little, with two poles of 2 n faces."""
     around = 2 * n
     points = [(0, 0, 30000)]
@@ -48,29 +55,32 @@ def sphere(n):
         for j in range(around):
             a, b = pi * i / n, 2 * pi * j / around
             r = 30000 + (i * 37 + j * 101 + i * j * 7) % 97
-            points.append((round(r * sin(a) * cos(b)), round(r * sin(a) * sin(b)), round(r * cos(a))))
+            x, y, z = r * sin(a) * cos(b), r * sin(a) * sin(b), r * cos(a)
+            points.append((round(x), round(y), round(z)))
     points.append((0, 0, -30000))
     last = len(points) - 1
 
-    def at(i, j):
+    def at(i: int, j: int) -> int:
         return 1 + (i - 1) * around + j % around
 
     faces = [(0, at(1, j), at(1, j + 1)) for j in range(around)]
     for i in range(1, n - 1):
         for j in range(around):
-            faces += [(at(i, j), at(i + 1, j), at(i + 1, j + 1)), (at(i, j), at(i + 1, j + 1), at(i, j + 1))]
+            a, b, c, d = at(i, j), at(i + 1, j), at(i + 1, j + 1), at(i, j + 1)
+            faces += [(a, b, c), (a, c, d)]
     faces += [(last, at(n - 1, j + 1), at(n - 1, j)) for j in range(around)]
     return points, faces
 
 
-def circle(n, z):
-    return [(round(20000 * cos(2 * pi * i / n)), round(20000 * sin(2 * pi * i / n)), z) for i in range(n)]
+def circle(n: int, z: int) -> List[Point]:
+    ways = [2 * pi * i / n for i in range(n)]
+    return [(round(20000 * cos(way)), round(20000 * sin(way)), z) for way in ways]
 
 
-def cylinder(n):
+def cylinder(n: int) -> Mesh:
     """A closed cylinder whose two caps are fans of n faces, as modelling programs make them."""
     points = [(0, 0, 10000), (0, 0, -10000)] + circle(n, 10000) + circle(n, -10000)
-    faces = []
+    faces: List[Point] = []
     for i in range(n):
         a, b = 2 + i, 2 + (i + 1) % n
         c, d = a + n, b + n
@@ -78,68 +88,75 @@ def cylinder(n):
     return points, faces
 
 
-def cone(n):
+def cone(n: int) -> Mesh:
     """A double cone: two tips of n faces each."""
     points = [(0, 0, 10000), (0, 0, -10000)] + circle(n, 0)
-    faces = []
+    faces: List[Point] = []
     for i in range(n):
         a, b = 2 + i, 2 + (i + 1) % n
         faces += [(0, a, b), (1, b, a)]
     return points, faces
 
 
-def rough(points, most):
+def rough(points: List[Point], most: int) -> List[Point]:
     """The points, each moved by at most so much along each axis."""
 
-    def moved(k, value):
+    def moved(k: int, value: int) -> int:
         return value + (k * k * 37 + k * 101) % (2 * most + 1) - most
 
-    return [(moved(3 * k, x), moved(3 * k + 1, y), moved(3 * k + 2, z)) for k, (x, y, z) in enumerate(points)]
+    def moved_point(k: int, x: int, y: int, z: int) -> Point:
+        return moved(3 * k, x), moved(3 * k + 1, y), moved(3 * k + 2, z)
+
+    return [moved_point(k, *point) for k, point in enumerate(points)]
 
 
-def fan(tip, rim):
+def fan(tip: Point, rim: List[Point]) -> Mesh:
     """Faces round a tip, with the rim for a border."""
     n = len(rim)
     return [tip] + rim, [(0, 1 + i, 1 + (i + 1) % n) for i in range(n)]
 
 
-def open_cone(n):
+def open_cone(n: int) -> Mesh:
     """A cone of n faces without a bottom: the rim is a border."""
     return fan((0, 0, 10000), circle(n, 0))
 
 
-def rough_cone(n):
+def rough_cone(n: int) -> Mesh:
     """The same with a rough rim."""
     return fan((0, 0, 10000), rough(circle(n, 0), 300))
 
 
-def disc(n):
+def disc(n: int) -> Mesh:
     """A flat fan of n faces, whose rim is a border."""
     return fan((0, 0, 0), circle(n, 0))
 
 
-def rough_disc(n):
+def rough_disc(n: int) -> Mesh:
     """The same with a rough rim, so that it isn't flat."""
     return fan((0, 0, 0), rough(circle(n, 0), 30))
 
 
-def half_cone(n):
+def half_cone(n: int) -> Mesh:
     """An open cone cut in two: its tip is on the border, too."""
-    rim = [(round(20000 * cos(pi * i / n)), round(20000 * sin(pi * i / n)), 0) for i in range(n + 1)]
+    ways = [pi * i / n for i in range(n + 1)]
+    rim = [(round(20000 * cos(way)), round(20000 * sin(way)), 0) for way in ways]
     return [(0, 0, 10000)] + rim, [(0, 1 + i, 2 + i) for i in range(n)]
 
 
-def double_cone(n):
+def double_cone(n: int) -> Mesh:
     """A closed double cone of n faces."""
     return cone(n // 2)
 
 
-def hubs(n):
+def hubs(n: int) -> Mesh:
     """A square with a border, of four by four cells that are fans: some n faces in all."""
     m = n // 64
-    step, number, points, faces = 15000 // m, {}, [], []
+    step = 15000 // m
+    number: Dict[Tuple[int, int], int] = {}
+    points: List[Point] = []
+    faces: List[Point] = []
 
-    def at(x, y):
+    def at(x: int, y: int) -> int:
         if (x, y) not in number:
             number[(x, y)] = len(points)
             points.append((x, y, (x * 7 + y * 13) % 31))
@@ -150,18 +167,21 @@ def hubs(n):
         for low in range(-2 * side, 2 * side, side):
             steps = range(0, side, step)
             ring = [at(left + d, low) for d in steps] + [at(left + side, low + d) for d in steps]
-            ring += [at(left + side - d, low + side) for d in steps] + [at(left, low + side - d) for d in steps]
+            ring += [at(left + side - d, low + side) for d in steps]
+            ring += [at(left, low + side - d) for d in steps]
             middle = at(left + side // 2 + 1, low + side // 2 + 1)
             faces += [(middle, ring[i], ring[(i + 1) % len(ring)]) for i in range(len(ring))]
     return points, faces
 
 
-def block(n):
+def block(n: int) -> Mesh:
     """A closed part with flat sides: a cube of n by n cells a side, with a boss on its top."""
     step = 40000 // n
-    number, points, faces = {}, [], []
+    number: Dict[Tuple[int, ...], int] = {}
+    points: List[Point] = []
+    faces: List[Point] = []
 
-    def at(*cell):
+    def at(*cell: int) -> int:
         if cell not in number:
             number[cell] = len(points)
             x, y, z = (i * step - step * n // 2 for i in cell)
@@ -169,10 +189,11 @@ def block(n):
             points.append((x, y, z + 6000 if on_boss else z))
         return number[cell]
 
-    def side(place):
+    def side(place: Callable[[int, int], Point]) -> None:
         for i in range(n):
             for j in range(n):
-                a, b, c, d = (at(*place(*cell)) for cell in ((i, j), (i + 1, j), (i + 1, j + 1), (i, j + 1)))
+                cells = (i, j), (i + 1, j), (i + 1, j + 1), (i, j + 1)
+                a, b, c, d = (at(*place(*cell)) for cell in cells)
                 faces.extend([(a, b, c), (a, c, d)])
 
     side(lambda i, j: (i, j, n))
@@ -184,20 +205,22 @@ def block(n):
     return points, faces
 
 
-def towers(n):
+def towers(n: int) -> Mesh:
     """Rolling ground of n by n cells with thin towers on it, one cell wide, and a border."""
     points, faces = grid(n)
 
-    def raised(k, x, y, z):
-        row, column = divmod(k, n + 1)
-        is_tower = all(0 < i < n - 1 and i % (n // 4) in (n // 8, n // 8 + 1) for i in (row, column))
+    def is_raised(i: int) -> bool:
+        return 0 < i < n - 1 and i % (n // 4) in (n // 8, n // 8 + 1)
+
+    def raised(k: int, x: int, y: int, z: int) -> Point:
+        is_tower = all(is_raised(i) for i in divmod(k, n + 1))
         return x, y, z + 12000 if is_tower else z
 
     return [raised(k, *p) for k, p in enumerate(points)], faces
 
 
 # Fans of many faces round one vertex. SIZE is the number of faces.
-FANS = {
+FANS: Dict[str, Callable[[int], Mesh]] = {
     "open_cone": open_cone,
     "rough_cone": rough_cone,
     "half_cone": half_cone,
@@ -207,7 +230,7 @@ FANS = {
     "hubs": hubs,
 }
 
-KINDS = {
+KINDS: Dict[str, Callable[[int], Mesh]] = {
     **FANS,
     "grid": grid,
     "ramp": ramp,
@@ -219,9 +242,10 @@ KINDS = {
 }
 
 
-def text(kind, size):
+def text(kind: str, size: int) -> str:
     points, faces = KINDS[kind](size)
-    lines = ["v %d %d %d" % p for p in points] + ["f %d %d %d" % (a + 1, b + 1, c + 1) for a, b, c in faces]
+    lines = [f"v {x} {y} {z}" for x, y, z in points]
+    lines += [f"f {a + 1} {b + 1} {c + 1}" for a, b, c in faces]
     return "\n".join(lines) + "\n"
 
 

@@ -84,7 +84,8 @@ def followed(text: Iterable[str]) -> Iterator[Mesh]:
 
 def main() -> None:
     parser = argparse.ArgumentParser(description="Follows the mesh of a live session.")
-    parser.add_argument("--each", action="store_true", help="write each mesh, and not the last alone")
+    told = "write each mesh, and not the last alone"
+    parser.add_argument("--each", action="store_true", help=told)
     each = parser.parse_args().each
     last: Optional[Mesh] = None
     try:

@@ -11,11 +11,12 @@ Ends with status 1 where the text has a fault or a file can't be written, and sa
 error.
 """
 import argparse
+from typing import Iterator, List
 
-from frames import write_files
+from frames import Frame, write_files
 
 
-def coordinate(units, digits):
+def coordinate(units: int, digits: int) -> str:
     """A number of units as a decimal number, exactly."""
     if digits == 0:
         return str(units)
@@ -23,7 +24,7 @@ def coordinate(units, digits):
     return f"{'-' if units < 0 else ''}{whole}.{rest:0{digits}}"
 
 
-def obj_lines(frame, digits=0, names=False):
+def obj_lines(frame: Frame, digits: int = 0, names: bool = False) -> Iterator[str]:
     """The lines of a frame's OBJ text."""
     for node, point in zip(frame.nodes, frame.points):
         name = f" # node {node}" if names else ""
@@ -33,18 +34,20 @@ def obj_lines(frame, digits=0, names=False):
         yield "f " + " ".join(str(corner + 1) for corner in face) + name
 
 
-def arguments():
-    parser = argparse.ArgumentParser(description="Writes each frame of standard input as an OBJ file.")
+def arguments() -> argparse.Namespace:
+    told = "Writes each frame of standard input as an OBJ file."
+    parser = argparse.ArgumentParser(description=told)
     parser.add_argument("name", help="where to write: NAME-1.obj and so on")
-    parser.add_argument("--digits", type=int, choices=range(5), default=0, help="decimals, as for build")
+    told = "decimals, as for build"
+    parser.add_argument("--digits", type=int, choices=range(5), default=0, help=told)
     parser.add_argument("--names", action="store_true", help="tell nodes and faces in comments")
     return parser.parse_args()
 
 
-def main():
+def main() -> None:
     asked = arguments()
 
-    def texts_of(frames):
+    def texts_of(frames: List[Frame]) -> Iterator[str]:
         for frame in frames:
             yield "".join(line + "\n" for line in obj_lines(frame, asked.digits, asked.names))
 

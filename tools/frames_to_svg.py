@@ -13,14 +13,18 @@ which on standard error.
 """
 import argparse
 from itertools import chain
+from typing import Any, Iterable, Iterator, List, Optional, Sequence, Tuple
 
-from drawing import FarCamera, NearCamera, box, svg
-from frames import FrameFault, write_files
+from drawing import Camera, FarCamera, NearCamera, box, svg
+from frames import Frame, FrameFault, Point, write_files
+
+Eye = Tuple[Point, int]  # a place and a focal length
 
 
-def eyes_of(script):
+def eyes_of(script: Iterable[str]) -> List[Eye]:
     """For each frame that a script asks for, the eye and the focal length of the view before it."""
-    last, eyes = None, []
+    last: Optional[Eye] = None
+    eyes: List[Eye] = []
     for number, line in enumerate(script, 1):
         fields = line.rstrip("\n").split(" ")
         if fields[0] in ("v", "vs"):
@@ -38,18 +42,19 @@ def eyes_of(script):
     return eyes
 
 
-def near_cameras(frames, asked):
+def near_cameras(frames: List[Frame], asked: argparse.Namespace) -> List[NearCamera]:
     with open(asked.eyes, encoding="ascii") as script:
         eyes = eyes_of(script)
     if len(eyes) != len(frames):
-        raise FrameFault(1, f"{len(frames)} frames came, and the script {asked.eyes} asks for {len(eyes)}")
+        came = f"{len(frames)} frames came"
+        raise FrameFault(1, f"{came}, and the script {asked.eyes} asks for {len(eyes)}")
     low, high = box(frames[0].points)
     at = asked.at or [(a + b) / 2 for a, b in zip(low, high)]
     height = asked.height or asked.width * 3 // 4
     return [NearCamera(eye, at, asked.up, focal, asked.width, height) for eye, focal in eyes]
 
 
-def cameras(frames, asked):
+def cameras(frames: List[Frame], asked: argparse.Namespace) -> Sequence[Camera]:
     """One for each frame."""
     if asked.eyes:
         return near_cameras(frames, asked)
@@ -57,15 +62,21 @@ def cameras(frames, asked):
     return [FarCamera(asked.towards, asked.up, every_point, asked.width)] * len(frames)
 
 
-def arguments():
-    parser = argparse.ArgumentParser(description="Draws each frame of standard input as an SVG picture.")
-    place = {"type": float, "nargs": 3, "metavar": ("X", "Y", "Z")}
+def arguments() -> argparse.Namespace:
+    told = "Draws each frame of standard input as an SVG picture."
+    parser = argparse.ArgumentParser(description=told)
+
+    def place(name: str, told: str, **settings: Any) -> None:
+        shape = {"type": float, "nargs": 3, "metavar": ("X", "Y", "Z")}
+        parser.add_argument(name, help=told, **shape, **settings)
+
     parser.add_argument("name", help="where to write: NAME-1.svg and so on")
-    parser.add_argument("--from", dest="towards", default=(1, -2, 1), help="the direction of the eye", **place)
-    parser.add_argument("--eyes", metavar="SCRIPT", help="draw each frame from the eye of its view in this script")
-    parser.add_argument("--at", help="the place that --eyes look at", **place)
-    parser.add_argument("--up", default=(0, 0, 1), help="the direction that is up in the picture", **place)
-    parser.add_argument("--light", default=(-2, -1, 2), help="the direction of the light", **place)
+    place("--from", "the direction of the eye", dest="towards", default=(1, -2, 1))
+    told = "draw each frame from the eye of its view in this script"
+    parser.add_argument("--eyes", metavar="SCRIPT", help=told)
+    place("--at", "the place that --eyes look at")
+    place("--up", "the direction that is up in the picture", default=(0, 0, 1))
+    place("--light", "the direction of the light", default=(-2, -1, 2))
     parser.add_argument("--width", type=int, default=800, help="pixels")
     parser.add_argument("--height", type=int, help="pixels, for --eyes")
     parser.add_argument("--no-edges", action="store_true", help="draw no edges")
@@ -74,10 +85,10 @@ def arguments():
     return parser.parse_args()
 
 
-def main():
+def main() -> None:
     asked = arguments()
 
-    def texts_of(frames):
+    def texts_of(frames: List[Frame]) -> Iterator[str]:
         for frame, camera in zip(frames, cameras(frames, asked)):
             yield svg(frame, camera, asked.light, not asked.no_edges, asked.back, asked.background)
 

@@ -9,11 +9,12 @@ status 1 where something else was printed.
 The programs say at each run that they aren't proved yet, where they aren't. Exactly that line is
 left out of what is compared, as are the lines that tell of building, and the end tells of it.
 """
+import argparse
 import re
 import subprocess
 import sys
 from pathlib import Path
-from typing import List, Tuple
+from typing import Iterable, List, NamedTuple, Tuple
 
 TOP = Path(__file__).resolve().parent.parent
 MARGIN = "    "
@@ -23,16 +24,24 @@ BUILDING = re.compile(PROGRAM + ": (building( anew)? from|it is being built alre
 NOTICE = re.compile(PROGRAM + ": not proved on this machine yet, run-time checks are on; .*")
 
 
-def commands(lines):
-    """The number of the line of each command, the command, and the lines that it has to print."""
-    found, inside = [], False
+class Command(NamedTuple):
+    """A command, the number of its line, and the lines that it has to print."""
+
+    number: int
+    text: str
+    told: List[str]
+
+
+def commands(lines: Iterable[str]) -> List[Command]:
+    found: List[Command] = []
+    inside = False
     for number, line in enumerate(lines, 1):
         line = line.rstrip("\n")
         if line.startswith(MARGIN + "$ "):
-            found.append((number, line[len(MARGIN) + 2 :], []))
+            found.append(Command(number, line[len(MARGIN) + 2 :], []))
             inside = True
         elif inside and line.startswith(MARGIN):
-            found[-1][2].append(line[len(MARGIN) :])
+            found[-1].told.append(line[len(MARGIN) :])
         else:
             inside = False
     return found
@@ -45,30 +54,43 @@ def own_lines(printed: List[str]) -> Tuple[List[str], int]:
     return own, len(notices)
 
 
-def is_as_told(printed, told):
+def is_as_told(printed: List[str], told: List[str]) -> bool:
     if told and told[-1] == "...":
         told = told[:-1]
         printed = printed[: len(told)]
     return printed == told
 
 
-def main():
+def printed_by(command: str) -> Tuple[List[str], int]:
+    """What a command prints on both streams, as `own_lines` tells it."""
+    pipe, both = subprocess.PIPE, subprocess.STDOUT
+    done = subprocess.run(["bash", "-c", command], cwd=TOP, text=True, stdout=pipe, stderr=both)
+    return own_lines(done.stdout.splitlines())
+
+
+def arguments() -> argparse.Namespace:
+    told = "Runs the commands that documents print, and compares what they print."
+    parser = argparse.ArgumentParser(description=told)
+    parser.add_argument("documents", nargs="+", metavar="DOCUMENT", help="as docs/GUIDE.md")
+    return parser.parse_args()
+
+
+def main() -> int:
     wrong = count = unproved = 0
-    for name in sys.argv[1:]:
-        for number, command, told in commands(Path(name).read_text(encoding="utf-8").splitlines()):
-            both = {"stdout": subprocess.PIPE, "stderr": subprocess.STDOUT}
-            done = subprocess.run(["bash", "-c", command], cwd=TOP, text=True, check=False, **both)
-            printed, notices = own_lines(done.stdout.splitlines())
+    for name in arguments().documents:
+        for command in commands(Path(name).read_text(encoding="utf-8").splitlines()):
+            printed, notices = printed_by(command.text)
             unproved += notices
             count += 1
-            if not is_as_told(printed, told):
+            if not is_as_told(printed, command.told):
                 wrong += 1
-                print(f"{name}:{number}: $ {command}", "told:", *told, "printed:", *printed[:20], sep="\n  ")
+                said = ["told:", *command.told, "printed:", *printed[:20]]
+                print(f"{name}:{command.number}: $ {command.text}", *said, sep="\n  ")
     print(f"{count - wrong} commands print what is told, {wrong} don't")
     if unproved:
         print(f"{unproved} of the programs that they ran aren't proved on this machine yet")
-    sys.exit(1 if wrong or not count else 0)
+    return 1 if wrong or not count else 0
 
 
 if __name__ == "__main__":
-    main()
+    sys.exit(main())

@@ -42,13 +42,15 @@ class Drawing:
         points = " ".join(f"{x:.1f},{y:.1f}" for x, y in places)
         dashes = f' stroke-dasharray="{dash}"' if dash else ""
         self.parts.append(
-            f'<polyline points="{points}" fill="none" stroke="{color}" stroke-width="{width}"{dashes}/>'
+            f'<polyline points="{points}" fill="none" stroke="{color}" '
+            f'stroke-width="{width}"{dashes}/>'
         )
         (ax, ay), (bx, by) = places[-2:]
         long = hypot(bx - ax, by - ay)
         x, y = (bx - ax) / long, (by - ay) / long
         head = 3.5 * width
-        wings = [(bx - head * x + s * head / 2 * y, by - head * y - s * head / 2 * x) for s in (1, -1)]
+        wide = head / 2
+        wings = [(bx - head * x + s * wide * y, by - head * y - s * wide * x) for s in (1, -1)]
         corners = " ".join(f"{px:.1f},{py:.1f}" for px, py in [(bx, by), *wings])
         self.parts.append(f'<polygon points="{corners}" fill="{color}"/>')
 

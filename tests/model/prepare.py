@@ -287,7 +287,10 @@ def prepared(soup: Soup, size: Optional[int]) -> Prepared:
         ("vertices split off", len(fans) - len(used)),
         ("vertices that no face has", len(soup.points) - len(named)),
         ("vertices whose faces all went", len({names[v] for v in named} - used)),
-        ("faces without area", sum(is_thin(points[a], points[b], points[c]) for a, b, c in corners)),
+        (
+            "faces without area",
+            sum(is_thin(points[a], points[b], points[c]) for a, b, c in corners),
+        ),
     ]
     account = Account(len(soup.points), len(points), len(soup.faces), len(corners))
     warning = ""
