@@ -91,14 +91,18 @@ def not_named(crate: Crate, text: str) -> Iterator[str]:
 
 
 def meant(name: str, known: Known, own: str) -> List[Function]:
-    """The functions that a name may mean, of the crate whose page it is, or of any."""
+    """The functions that a name may mean: of the crate whose page it is, or else of any."""
     *before, last = name.split("::")
-    crates = [known.crates[own]] if own in known.crates else list(known.crates.values())
+    crates = [known.crates[own]] if own in known.crates else []
     if before and before[0] in known.crates:
         crates, before = [known.crates[before[0]]], before[1:]
     owner = before[-1] if before else None
-    functions = [f for crate in crates for f in crate.functions if f.name == last]
-    return [f for f in functions if owner is None or f.owner == owner]
+    for some in (crates, list(known.crates.values())):
+        functions = [f for crate in some for f in crate.functions if f.name == last]
+        found = [f for f in functions if owner is None or f.owner == owner]
+        if found:
+            return found
+    return []
 
 
 def wrong_citations(text: str, known: Known, own: str) -> Iterator[str]:
