@@ -2,8 +2,9 @@
 their clauses, and all words that stand in code, definitions and proofs.
 
 A function is public where lib.rt hands it out by `pub use`, or is a method of a type or trait that
-lib.rt hands out; of a program, which hands nothing out, where it is a `pub fn`. A law is a public
-function without steps: its body is empty, and its clauses are what it says.
+lib.rt hands out, or is exported to C; of a program, which hands nothing out, where it is a
+`pub fn`. A law is a public function without steps: its body is empty, and its clauses are what it
+says.
 """
 import re
 from pathlib import Path
@@ -15,7 +16,8 @@ NOTE = re.compile(r"(?m)--[^\n]*")
 TEXT = re.compile(r'"(?:\\.|[^"\\])*"')
 USE = re.compile(r"^pub use (?:crate::)?(\w+)::(\{[^}]*\}|\w+(?: as \w+)?);", re.MULTILINE)
 BLOCK = re.compile(r"(?m)^(?:(pub )?trait (\w+)|(?:unsafe )?impl(?:<[^>{]*>)? ([^{;]+))")
-FUNCTION = re.compile(r"(pub )?(?:const )?(?:unsafe )?fn (\w+)")
+# (texts are empty by then)
+FUNCTION = re.compile(r'(pub )?(?:const )?(?:unsafe )?(extern "" )?fn (\w+)')
 CLAUSE = re.compile(r"(requires|ensures)\s*(\w+)?\s*$")
 WORD = re.compile(r"[A-Za-z_][\w'-]*")
 
@@ -124,14 +126,12 @@ def functions_of(text: str, given: Optional[Set[str]]) -> Iterator[Function]:
     for found in FUNCTION.finditer(text):
         inside = next((b for b in blocks if b.start < found.start() < b.end), None)
         head = head_at(text, found.end())
-        stands_for = inside.owner if inside else found[2]
-        is_open = (given is None or stands_for in given) and (
-            inside.is_trait or bool(found[1]) if inside else bool(found[1])
-        )
-        owner = inside.owner if inside else None
+        owner, name = inside.owner if inside else None, found[3]
+        is_given = given is None or (owner or name) in given or bool(found[2])
+        is_open = is_given and (bool(found[1]) or inside is not None and inside.is_trait)
         clauses, promises = head.names("requires", "ensures"), head.names("ensures")
         is_law = is_open and head.is_empty
-        yield Function(owner, found[2], clauses, promises, is_law, is_open)
+        yield Function(owner, name, clauses, promises, is_law, is_open)
 
 
 def crate_of(folder: Path) -> Crate:

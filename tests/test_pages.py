@@ -49,11 +49,12 @@ THEORY = """pub fn shelves_are_sound()
     ensures few { B }
 {}
 pub fn another() ensures far { C } { let x = 1; }
+pub extern "C" fn box_take(handle: u32) -> u32 ensures given { C } { 0 }
 """
 SPEC = "-- The word gone stands here alone.\npub IsFull : Type 0\n"
 PAGE = """# box
 
-Shelves: `Shelf::take` (`take`: `full`, `rest`), `place`.
+Shelves: `Shelf::take` (`take`: `full`, `rest`), `place`; for C `box_take`.
 
 - A law (`shelves_are_sound`: `apart`,
   `few`), by `specs/Shelves`: `IsFull`.
@@ -94,7 +95,7 @@ class Sources(unittest.TestCase):
 
     def test_public_functions_are_those_that_are_handed_out(self) -> None:
         open_ones = {name for name, f in self.functions().items() if f.is_open}
-        self.assertEqual(open_ones, {"Shelf::take", "place", "shelves_are_sound"})
+        self.assertEqual(open_ones, {"Shelf::take", "place", "shelves_are_sound", "box_take"})
 
     def test_clauses_are_read_past_braces_in_texts(self) -> None:
         take = self.functions()["Shelf::take"]
