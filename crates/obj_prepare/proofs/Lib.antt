@@ -12,6 +12,7 @@ pub mod PieceLaws
 pub mod PiecesMade
 pub mod BackLaws
 pub mod FirstLaws
+pub mod OwnVertices
 pub mod AgainLaws
 pub mod OnePrepared
 pub mod FitMeshes
