@@ -1,0 +1,240 @@
+//! The viewer.
+ghost use Rattle.std.specs.Prelude.{◌≡◌, ◌≤◌, ◌<◌, ◌*◌, [], Some, Err, IfOk, IfErr, OnOk, OnErr, length, take};
+ghost use Rattle.pm_base.specs.Counts.{set_of};
+ghost use Rattle.pm_forest.specs.Forest.{node_count, leaf_count, record_count, splitter_of, maker_of};
+ghost use Rattle.pm_forest.specs.Fronts.{ancestor_of};
+ghost use Rattle.pm_forest.specs.Places.{place_of_node};
+ghost use Rattle.pm_front.specs.Shown.{active_nodes, kept_faces};
+ghost use Rattle.pm_arrays.specs.Arrays.{place_array, position_array, node_array};
+ghost use Rattle.pm_session.specs.Session.{LineEnds};
+ghost use Rattle.pm_viewer.specs.Viewing.{live_deed, viewer_state, FrameFits};
+
+use crate::filling::{TooSmall, write_frame};
+use crate::looking::ancestor;
+use crate::reply::{LEAST_ROOM, Reply};
+use pm_base::{NodeId, Point};
+use pm_session::{Grammar, LineFail, Next, Session};
+use std::alloc::{AllocError, Global};
+use std::marker::Model;
+
+// How many bytes a script line has at most.
+const MOST_LINE: usize = 1024;
+
+/// A hierarchy that is being shown, and the reply to the last line. Contracts see its session, how
+/// many decimals the coordinates of its stream have, and the reply.
+#[derive(Drop)]
+pub struct Viewer {
+    session: Box<Session>,
+    digits: u32,
+    reply: Reply,
+    // A number for each node, in which a frame tells where each active node stands.
+    positions: Vec<u32>,
+}
+
+impl Model for Viewer {
+    ghost use Rattle.std.specs.Prelude.{◌≡◌, ◌≢◌, ◌≤◌, length};
+    ghost use Rattle.pm_forest.specs.Forest.{node_count};
+    ghost use Rattle.pm_session.specs.declared.grammar.Grammar.TheVariants as grammars;
+    ghost use Rattle.pm_viewer.specs.Viewing.{Viewed};
+
+    ghost Value = { Viewed };
+
+    ghost view = { λ v. record { shown = v.session.value; digits = v.digits; reply = v.reply.got } };
+
+    ghost invariant = { λ v. (v.session.value.grammar ≡ grammars.Live) × (v.digits ≤ 4) ×
+        (length v.positions.items ≡ node_count v.session.value.h) };
+}
+
+// A number for each node.
+fn positions_of(alloc: Global, session: &Session) -> Result<Vec<u32>, AllocError>
+    ensures { IfOk result (λ v. length v.items ≡ node_count session.now.h) }
+{
+    vec![in alloc; 0u32; session.front().hierarchy().nodes() as usize]
+}
+
+impl Viewer {
+    // A viewer of a session, with an empty reply.
+    pub(crate) fn of(
+        alloc: Global,
+        session: Box<Session>,
+        digits: u32,
+    ) -> Result<Viewer, AllocError>
+        requires live { session.value.grammar ≡ Grammar.Live }
+        requires few { digits ≤ 4 }
+        ensures { IfOk result (λ v. v
+            ≡ record { shown = session.value; digits = digits; reply = [] }) }
+    {
+        let positions = positions_of(alloc, &session)?;
+        let reply = Reply::new(alloc)?;
+        Ok(Viewer {
+            session,
+            digits,
+            reply,
+            positions,
+        })
+    }
+
+    /// Does one line of a script of `live`, which is given without its LF, and keeps the reply.
+    /// BadLine comes exactly where the line is none of the forms, and NoRecord exactly where it
+    /// names a record that isn't there; nothing is changed then, and the reply is empty. Write
+    /// comes only where memory for the reply was wanting: what the line does is done, and of its
+    /// reply the first bytes are kept, LEAST_ROOM or more.
+    pub fn line(&mut self, text: &[u8]) -> Result<Next, LineFail>
+        ensures ends { let s = viewer_state self.old in
+            LineEnds (live_deed self.old.shown.h s text.now) result s (viewer_state self.new)
+            (Some []) (Some self.new.reply) }
+        ensures hierarchy { self.new.shown.h ≡ self.old.shown.h }
+        ensures digits { self.new.digits ≡ self.old.digits }
+        ensures refused { IfErr result (λ e. (e ≡ LineFail.Write → ⊥) → self.new.shown
+            ≡ self.old.shown) }
+        ensures cut { result ≡ Err LineFail.Write → LEAST_ROOM ≤ length self.new.reply }
+    {
+        self.reply.clear();
+        if text.len() > MOST_LINE {
+            return Err(LineFail::BadLine);
+        }
+        let ended = self.session.line(text, &mut self.reply);
+        self.reply.invariant();
+        ended
+    }
+
+    /// The reply to the last line, which stays until the next.
+    pub fn reply(&self) -> &[u8]
+        ensures { result.now ≡ self.now.reply }
+    {
+        self.reply.bytes()
+    }
+
+    /// How many decimals the coordinates have: a place of the hierarchy is a whole number of units
+    /// of 10 to the power of minus this.
+    pub fn digits(&self) -> u32
+        ensures value { result ≡ self.now.digits }
+        ensures few { result ≤ 4 }
+    {
+        self.digits
+    }
+
+    /// How many nodes are active. O(1).
+    pub fn shown_nodes(&self) -> u32
+        ensures { result ≡ length (active_nodes self.now.shown.h (set_of self.now.shown.flags)) }
+    {
+        self.session.front().active_count()
+    }
+
+    /// How many faces are kept. O(1).
+    pub fn shown_faces(&self) -> u32
+        ensures { result ≡ length (kept_faces self.now.shown.h (set_of self.now.shown.flags)) }
+    {
+        self.session.front().kept_count()
+    }
+
+    /// How many records the hierarchy has.
+    pub fn records(&self) -> u32
+        ensures { result ≡ record_count self.now.shown.h }
+    {
+        self.session.front().hierarchy().records()
+    }
+
+    /// How many leaves it has.
+    pub fn leaves(&self) -> u32
+        ensures { result ≡ leaf_count self.now.shown.h }
+    {
+        self.session.front().hierarchy().leaves()
+    }
+
+    /// How many nodes it has in all.
+    pub fn nodes(&self) -> u32
+        ensures { result ≡ node_count self.now.shown.h }
+    {
+        self.session.front().hierarchy().nodes()
+    }
+
+    /// Writes the mesh that is shown to the front of the arrays, in the order of the frame text:
+    /// the numbers of the active nodes into `nodes` and their places into `places`, three
+    /// coordinates for each; the numbers of the kept faces into `faces`, and their corners, three
+    /// for each, into `corners` as positions in `nodes`, counted from 0, and into `corner_nodes` as
+    /// nodes. It is refused exactly where an array has less room, and nothing is written then. It
+    /// costs a pass over all nodes and faces, and takes no memory.
+    pub fn frame(
+        &mut self,
+        nodes: &mut [u32],
+        places: &mut [i32],
+        faces: &mut [u32],
+        corners: &mut [u32],
+        corner_nodes: &mut [u32],
+    ) -> Result<(), TooSmall>
+        ensures fits { OnOk result (FrameFits self.old.shown.h (set_of self.old.shown.flags)
+            (length nodes.old) (length places.old) (length faces.old) (length corners.old)
+            (length corner_nodes.old)) }
+        ensures refused { OnErr result (FrameFits self.old.shown.h (set_of self.old.shown.flags)
+            (length nodes.old) (length places.old) (length faces.old) (length corners.old)
+            (length corner_nodes.old) → ⊥) }
+        ensures nodes { let n = length (active_nodes self.old.shown.h
+            (set_of self.old.shown.flags)) in
+            OnOk result (take n nodes.new ≡ active_nodes self.old.shown.h
+            (set_of self.old.shown.flags)) }
+        ensures places { let n = length (active_nodes self.old.shown.h
+            (set_of self.old.shown.flags)) in
+            OnOk result (take (3 * n) places.new ≡ place_array self.old.shown.h
+            (set_of self.old.shown.flags)) }
+        ensures faces { let n = length (kept_faces self.old.shown.h
+            (set_of self.old.shown.flags)) in
+            OnOk result (take n faces.new ≡ kept_faces self.old.shown.h
+            (set_of self.old.shown.flags)) }
+        ensures corners { let n = length (kept_faces self.old.shown.h
+            (set_of self.old.shown.flags)) in
+            OnOk result (take (3 * n) corners.new ≡ position_array self.old.shown.h
+            (set_of self.old.shown.flags)) }
+        ensures corner_nodes { let n = length (kept_faces self.old.shown.h
+            (set_of self.old.shown.flags)) in
+            OnOk result (take (3 * n) corner_nodes.new ≡ node_array self.old.shown.h
+            (set_of self.old.shown.flags)) }
+        ensures same { self.new ≡ self.old }
+        ensures unwritten { OnErr result ((nodes.new ≡ nodes.old) × (places.new ≡ places.old) ×
+            (faces.new ≡ faces.old)
+            × (corners.new ≡ corners.old) × (corner_nodes.new ≡ corner_nodes.old)) }
+    {
+        write_frame(
+            self.session.front(),
+            &mut self.positions,
+            nodes,
+            places,
+            faces,
+            corners,
+            corner_nodes,
+        )
+    }
+
+    /// The record that splits a node; none exactly for a node of one leaf, which none splits.
+    pub fn splitter(&self, node: u32) -> Option<u32>
+        requires { node < node_count self.now.shown.h }
+        ensures value { result ≡ splitter_of self.now.shown.h node }
+    {
+        self.session.front().hierarchy().splitter(NodeId(node))
+    }
+
+    /// The record that made a node; none exactly for a root.
+    pub fn maker(&self, node: u32) -> Option<u32>
+        requires { node < node_count self.now.shown.h }
+        ensures value { result ≡ maker_of self.now.shown.h node }
+    {
+        self.session.front().hierarchy().maker(NodeId(node))
+    }
+
+    /// The ancestor of a leaf: the one active node that has it below it. It costs a climb from the
+    /// leaf.
+    pub fn ancestor(&self, leaf: u32) -> u32
+        requires { leaf < leaf_count self.now.shown.h }
+        ensures { result ≡ ancestor_of self.now.shown.h (set_of self.now.shown.flags) leaf }
+    {
+        ancestor(self.session.front(), leaf)
+    }
+
+    /// The place of a node.
+    pub fn place(&self, node: u32) -> Point
+        requires { node < node_count self.now.shown.h }
+        ensures { result ≡ place_of_node self.now.shown.h node }
+    {
+        self.session.front().hierarchy().place(NodeId(node))
+    }
+}
