@@ -1,0 +1,81 @@
+-- What crosses to C: what C owes, and what each exported function came to.
+use Rattle.std.specs.Prelude.{◌≡◌, ℕ, ◌≤◌, List, [], length, Option, Some, None, IsSome, Result, Ok, Err}
+use Rattle.pm_base.specs.Counts.{set_of}
+use Rattle.pm_forest.specs.Forest.{node_count, leaf_count, record_count}
+use Rattle.pm_front.specs.Shown.{active_nodes, kept_faces}
+use Rattle.pm_commands.specs.declared.fault.Fault.{Fault}
+use Rattle.pm_commands.specs.Input.{IsFaulty}
+use Rattle.pm_commands.specs.Beginning.{IsHierarchyText}
+use Rattle.pm_session.specs.declared.ending.Next.{Next}
+use Rattle.pm_session.specs.declared.ending.Next.TheVariants as nexts
+use Rattle.pm_session.specs.declared.ending.LineFail.{LineFail}
+use Rattle.pm_session.specs.declared.ending.LineFail.TheVariants as fails
+use Rattle.pm_session.specs.Script.{at_first}
+use Rattle.pm_session.specs.Session.{LineEnds}
+use Rattle.pm_viewer.specs.Viewing.{Viewed, viewer_state, live_deed}
+use Rattle.pm_viewer.specs.Causes.{Tells}
+use Rattle.vdpm_c.specs.declared.tables.Handle.{Handle}
+use Rattle.vdpm_c.specs.declared.tables.Counts.{Counts}
+
+-- A handle that is open has a viewer. C owes it, and each function leaves it so.
+abbrev pub IsSound : Handle → Type 0
+IsSound handle = handle.open ≡ 1 → IsSome handle.slot.value
+
+-- The handle is open, with this viewer.
+abbrev pub Has : Handle → Viewed → Type 0
+Has handle v = (handle.open ≡ 1) × (handle.slot.value ≡ Some v)
+
+-- The status of a line.
+abbrev pub line_status : Result Next LineFail → ℕ
+line_status (Ok nexts.More) = 0
+line_status (Ok nexts.Quit) = 9
+line_status (Err fails.BadLine) = 30
+line_status (Err fails.NoRecord) = 31
+line_status (Err fails.Write) = 5
+
+-- What a line came to: how it ended is told by the status, and the viewer has what it leaves. Where
+-- memory was wanting, the first 64 bytes of the reply are there, or more.
+pub record LineDone (before : Viewed) (line : List ℕ) (status : ℕ) (after : Viewed) : Type 0 where
+  pub result : Result Next LineFail
+  pub told : status ≡ line_status result
+  pub ends : LineEnds (live_deed before.shown.h (viewer_state before) line) result
+      (viewer_state before) (viewer_state after) (Some []) (Some after.reply)
+  pub hierarchy : after.shown.h ≡ before.shown.h
+  pub digits : after.digits ≡ before.digits
+  pub cut : result ≡ Err fails.Write → 64 ≤ length after.reply
+
+-- What an opening came to where all was done: the bytes are the stream text of the viewer's
+-- hierarchy, as `check` reads them, and it shows the base front.
+pub record Opened (bytes : List ℕ) (budget : ℕ) (v : Viewed) : Type 0 where
+  pub text : IsHierarchyText bytes (Ok
+      (record { digits = v.digits; h = v.shown.h; rest = [] })) None
+  pub first : viewer_state v ≡ at_first budget
+  pub reply : v.reply ≡ []
+
+-- The place that is told of a fault, which is 0 where it has none.
+abbrev pub place_told : Option ℕ → ℕ
+place_told None = 0
+place_told (Some place) = place
+
+-- The bytes were refused as `check` refuses them, and the line that it says has this number and
+-- this place.
+pub record Refused (bytes : List ℕ) (status place : ℕ) : Type 0 where
+  pub fault : Fault
+  pub is : IsFaulty IsHierarchyText bytes fault
+  pub told : Option ℕ
+  pub place_is : place ≡ place_told told
+  pub tells : Tells fault status told
+
+-- How large a hierarchy and the mesh that is shown of it are.
+pub record AreCountsOf (v : Viewed) (counts : Counts) : Type 0 where
+  pub shown_nodes : counts.shown_nodes ≡ length (active_nodes v.shown.h (set_of v.shown.flags))
+  pub shown_faces : counts.shown_faces ≡ length (kept_faces v.shown.h (set_of v.shown.flags))
+  pub nodes : counts.nodes ≡ node_count v.shown.h
+  pub leaves : counts.leaves ≡ leaf_count v.shown.h
+  pub records : counts.records ≡ record_count v.shown.h
+  pub digits : counts.digits ≡ v.digits
+
+-- The record that is told, which is 4,294,967,295 where there is none.
+abbrev pub record_told : Option ℕ → ℕ
+record_told None = 4294967295
+record_told (Some k) = k

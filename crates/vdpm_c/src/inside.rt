@@ -1,0 +1,156 @@
+//! What the exported functions do with a viewer.
+ghost use Rattle.std.specs.Prelude.{◌≡◌, ◌≢◌, ◌≤◌, ◌<◌, ℕ, List, length, take};
+ghost use Rattle.pm_base.specs.Counts.{set_of};
+ghost use Rattle.pm_forest.specs.Forest.{node_count, leaf_count, splitter_of, maker_of};
+ghost use Rattle.pm_forest.specs.Fronts.{ancestor_of};
+ghost use Rattle.pm_arrays.specs.Arrays.{coordinates_of};
+ghost use Rattle.pm_viewer.specs.Causes.{IsRefusal};
+ghost use Rattle.vdpm_c.specs.Border.{LineDone, Refused, AreCountsOf, line_status, record_told};
+
+use crate::statuses::{BAD_LINE, DONE, NO_MEMORY, NO_RECORD, NO_ROOM, NO_SUCH, NONE, QUIT};
+use crate::tables::Counts;
+use pm_session::{LineFail, Next};
+use pm_viewer::{OpenFail, Viewer, cause_of};
+
+// The number of a fault, whose place goes out.
+pub(crate) fn refused(fail: OpenFail, place: &mut u64) -> u32
+    ensures told { (bytes : List ℕ) → IsRefusal bytes fail → result ≢ 5
+        → Refused bytes result place.new }
+    ensures apart { result ≢ 5 → 11 ≤ result }
+{
+    let OpenFail::Faulty(fault) = fail else {
+        return NO_MEMORY;
+    };
+    // (a stream has no other faults)
+    let Some(cause) = cause_of(fault) else {
+        return NO_MEMORY;
+    };
+    *place = match cause.place {
+        Some(at) => at,
+        None => 0,
+    };
+    cause.number
+}
+
+// The status of a line.
+fn status_of(ended: Result<Next, LineFail>) -> u32
+    ensures { result ≡ line_status ended }
+{
+    match ended {
+        Ok(Next::More) => DONE,
+        Ok(Next::Quit) => QUIT,
+        Err(LineFail::BadLine) => BAD_LINE,
+        Err(LineFail::NoRecord) => NO_RECORD,
+        Err(LineFail::Write) => NO_MEMORY,
+    }
+}
+
+// Does a line.
+pub(crate) fn line(viewer: &mut Viewer, text: &[u8]) -> u32
+    ensures { LineDone viewer.old text.now result viewer.new }
+{
+    status_of(viewer.line(text))
+}
+
+// Copies the reply.
+pub(crate) fn reply(viewer: &Viewer, out: &mut [u8]) -> u32
+    ensures copied { length viewer.now.reply ≤ length out.old
+        → (result ≡ 0) × (take (length viewer.now.reply) out.new ≡ viewer.now.reply) }
+    ensures no_room { (length viewer.now.reply ≤ length out.old → ⊥) → (result ≡ 7) × (out.new
+        ≡ out.old) }
+{
+    let bytes = viewer.reply();
+    let n = bytes.len();
+    if n > out.len() {
+        return NO_ROOM;
+    }
+    out[..n].copy_from_slice(bytes);
+    DONE
+}
+
+// Counts.
+pub(crate) fn counts(viewer: &Viewer) -> Counts
+    ensures { AreCountsOf viewer.now result }
+{
+    Counts {
+        shown_nodes: viewer.shown_nodes(),
+        shown_faces: viewer.shown_faces(),
+        nodes: viewer.nodes(),
+        leaves: viewer.leaves(),
+        records: viewer.records(),
+        digits: viewer.digits(),
+    }
+}
+
+// The record that splits a node.
+pub(crate) fn splitter(viewer: &Viewer, node: u32, record_number: &mut u32) -> u32
+    ensures told { node < node_count viewer.now.shown.h
+        → (result ≡ 0) × (record_number.new ≡ record_told (splitter_of viewer.now.shown.h node)) }
+    ensures no_such { (node < node_count viewer.now.shown.h → ⊥)
+        → (result ≡ 8) × (record_number.new ≡ record_number.old) }
+{
+    if node >= viewer.nodes() {
+        return NO_SUCH;
+    }
+    *record_number = viewer.splitter(node).unwrap_or(NONE);
+    DONE
+}
+
+// The record that made a node.
+pub(crate) fn maker(viewer: &Viewer, node: u32, record_number: &mut u32) -> u32
+    ensures told { node < node_count viewer.now.shown.h
+        → (result ≡ 0) × (record_number.new ≡ record_told (maker_of viewer.now.shown.h node)) }
+    ensures no_such { (node < node_count viewer.now.shown.h → ⊥)
+        → (result ≡ 8) × (record_number.new ≡ record_number.old) }
+{
+    if node >= viewer.nodes() {
+        return NO_SUCH;
+    }
+    *record_number = viewer.maker(node).unwrap_or(NONE);
+    DONE
+}
+
+// The ancestor of a leaf.
+pub(crate) fn ancestor(viewer: &Viewer, leaf: u32, node: &mut u32) -> u32
+    ensures told { leaf < leaf_count viewer.now.shown.h
+        → (result ≡ 0) × (node.new ≡ ancestor_of viewer.now.shown.h
+        (set_of viewer.now.shown.flags) leaf) }
+    ensures no_such { (leaf < leaf_count viewer.now.shown.h → ⊥) → (result ≡ 8) × (node.new
+        ≡ node.old) }
+{
+    if leaf >= viewer.leaves() {
+        return NO_SUCH;
+    }
+    *node = viewer.ancestor(leaf);
+    DONE
+}
+
+// The coordinates of a node.
+fn coordinates(viewer: &Viewer, node: u32) -> [i32; 3]
+    requires { node < node_count viewer.now.shown.h }
+    ensures { result ≡ coordinates_of viewer.now.shown.h node }
+{
+    let place = viewer.place(node);
+    [place.x(), place.y(), place.z()]
+}
+
+// Writes the place of a node.
+pub(crate) fn place(viewer: &Viewer, node: u32, out: &mut [i32]) -> u32
+    ensures told { node < node_count viewer.now.shown.h → 3 ≤ length out.old
+        → (result ≡ 0) × (take 3 out.new ≡ coordinates_of viewer.now.shown.h node) }
+    ensures no_room { node < node_count viewer.now.shown.h → (3 ≤ length out.old → ⊥)
+        → (result ≡ 7) × (out.new ≡ out.old) }
+    ensures no_such { (node < node_count viewer.now.shown.h → ⊥) → (result ≡ 8) × (out.new
+        ≡ out.old) }
+{
+    if node >= viewer.nodes() {
+        return NO_SUCH;
+    }
+    let coordinates = coordinates(viewer, node);
+    let n = coordinates.len();
+    if n > out.len() {
+        return NO_ROOM;
+    }
+    out[..n].copy_from_slice(&coordinates);
+    DONE
+}

@@ -1,0 +1,126 @@
+/* libvdpm: a view-dependent progressive mesh in a program's own memory.
+ *
+ * A viewer is one hierarchy that is being shown: the bytes that `vdpm build` wrote, a front of
+ * it, and the reply to the last script line. It does what `vdpm live` does (docs/COMMANDS.md,
+ * docs/FORMATS.md), without a process and without text where arrays serve better.
+ * docs/LIBRARY.md tells how to build and use it, and what is proved of it.
+ *
+ * Ownership. A vdpm_viewer is the caller's: a variable or a field, all zero at first
+ * (VDPM_CLOSED). Between vdpm_open and vdpm_close it owns memory of the library, so it is
+ * neither copied nor changed by hand then; that isn't looked at. The library keeps no pointer
+ * that it is given: every array is the caller's, and is read or written during the call alone.
+ * The arrays of a call don't overlap, and no pointer is NULL.
+ *
+ * Threads. A viewer stays on the thread that opened it. Different viewers are independent, each
+ * on any thread. No function is called from a signal handler.
+ *
+ * Memory comes from malloc and goes back to free. Nothing aborts: want of memory is the answer
+ * VDPM_NO_MEMORY.
+ *
+ * Units. Coordinates are whole numbers from -32,767 to 32,767, in units of 10 to the power of
+ * -digits (vdpm_counts). Nodes, faces, leaves and records are counted from 0, as in frames. */
+#ifndef LIBVDPM_H
+#define LIBVDPM_H
+
+#include <stddef.h>
+#include <stdint.h>
+
+#ifdef __cplusplus
+extern "C" {
+#endif
+
+/* What a function answers: VDPM_DONE, or why not. A fault of a stream is answered by its own
+ * number (docs/COMMANDS.md, "The faults of a stream"): 11, 20 to 29 or 33. */
+enum {
+    VDPM_DONE = 0,
+    VDPM_NO_MEMORY = 5,  /* memory was wanting */
+    VDPM_NOT_SO = 6,     /* the viewer isn't open; vdpm_open: it is open already */
+    VDPM_NO_ROOM = 7,    /* an array has less room than is needed; nothing was written */
+    VDPM_NO_SUCH = 8,    /* there is no such node or leaf */
+    VDPM_QUIT = 9,       /* the line was `q`: nothing was done */
+    VDPM_BAD_LINE = 30,  /* the line is none of the forms; nothing was done */
+    VDPM_NO_RECORD = 31  /* the line names a record that isn't there; nothing was done */
+};
+
+/* What is told in place of a record where there is none. */
+#define VDPM_NONE UINT32_C(0xFFFFFFFF)
+
+/* A viewer. Its fields are the library's own. */
+typedef struct vdpm_viewer {
+    void *at;
+    uint32_t open;
+} vdpm_viewer;
+
+/* A viewer that isn't open: vdpm_viewer viewer = VDPM_CLOSED; */
+#define VDPM_CLOSED {0, 0}
+
+/* How large a hierarchy and the mesh that is shown of it are. */
+typedef struct vdpm_sizes {
+    uint32_t shown_nodes; /* active nodes: the vertices of the mesh shown */
+    uint32_t shown_faces; /* its faces */
+    uint32_t nodes;       /* nodes in all */
+    uint32_t leaves;      /* leaves: the vertices of the full mesh */
+    uint32_t records;     /* records: each is a vertex split */
+    uint32_t digits;      /* decimals of a coordinate, 0 to 4 */
+} vdpm_sizes;
+
+/* Opens a viewer on `length` bytes of a stream, which are all of it, and shows its base mesh. A
+ * view makes at most `budget` moves; the line `b N` sets another budget. The bytes are copied as
+ * far as they are needed.
+ * Answers VDPM_DONE; the number of the fault for which `vdpm check` refuses the bytes, with its
+ * place in *place (0 where it has none); VDPM_NO_MEMORY; or VDPM_NOT_SO. The viewer is closed
+ * still where it isn't VDPM_DONE. */
+uint32_t vdpm_open(const uint8_t *stream, size_t length, uint32_t budget, vdpm_viewer *viewer,
+                   uint64_t *place);
+
+/* Does one script line of `vdpm live`, given without its LF, and keeps its reply.
+ * Answers VDPM_DONE, VDPM_QUIT, VDPM_BAD_LINE, VDPM_NO_RECORD, VDPM_NOT_SO, or VDPM_NO_MEMORY:
+ * memory for a reply of more than 64 bytes was wanting. The line is done then too, and the reply
+ * has some of its first bytes; only the mark of `d` has changed by such a line. */
+uint32_t vdpm_line(vdpm_viewer *viewer, const uint8_t *line, size_t length);
+
+/* Tells the length of the reply to the last line, in bytes: 0 before the first, and after a line
+ * that wasn't done. */
+uint32_t vdpm_reply_length(vdpm_viewer *viewer, size_t *length);
+
+/* Copies the reply, with its LFs and without a final zero, to the front of `room` bytes. It
+ * stays until the next line. */
+uint32_t vdpm_reply(vdpm_viewer *viewer, uint8_t *out, size_t room);
+
+/* Tells how large the hierarchy and the mesh shown are, so that the caller can make room for a
+ * frame. */
+uint32_t vdpm_counts(vdpm_viewer *viewer, vdpm_sizes *sizes);
+
+/* Writes the mesh that is shown, in the order of the frame text. With V = shown_nodes and F =
+ * shown_faces:
+ * `nodes`         V numbers: the active nodes, ascending
+ * `places`        3 V numbers: their coordinates x, y, z
+ * `faces`         F numbers: the kept faces, ascending
+ * `corners`       3 F numbers: the corners of each face, as positions in `nodes` (an index buffer)
+ * `corner_nodes`  3 F numbers: the same corners as node numbers
+ * The room is counted in numbers, and may be more. */
+uint32_t vdpm_frame(vdpm_viewer *viewer, uint32_t *nodes, size_t nodes_room, int32_t *places,
+                    size_t places_room, uint32_t *faces, size_t faces_room, uint32_t *corners,
+                    size_t corners_room, uint32_t *corner_nodes, size_t corner_nodes_room);
+
+/* Tells the record that splits a node (the number for the lines `s` and `c`), or VDPM_NONE for a
+ * node of one leaf. */
+uint32_t vdpm_splitter(vdpm_viewer *viewer, uint32_t node, uint32_t *record);
+
+/* Tells the record that made a node, or VDPM_NONE for a root. */
+uint32_t vdpm_maker(vdpm_viewer *viewer, uint32_t node, uint32_t *record);
+
+/* Tells the active node that has a leaf below it. */
+uint32_t vdpm_ancestor(vdpm_viewer *viewer, uint32_t leaf, uint32_t *node);
+
+/* Writes the three coordinates of a node to the front of `room` numbers. */
+uint32_t vdpm_place(vdpm_viewer *viewer, uint32_t node, int32_t *out, size_t room);
+
+/* Closes a viewer and gives its memory back. One that isn't open stays as it is. */
+void vdpm_close(vdpm_viewer *viewer);
+
+#ifdef __cplusplus
+}
+#endif
+
+#endif
