@@ -4,7 +4,8 @@ with --proved, which proves its crates first, proved/libvdpm.a and proved/libvdp
 
     python3 tools/library.py [--proved]
 
-Without a proof the checks of the run time are left in, as in an unproved program (tools/quick_start).
+Without a proof the checks of the run time are left in, as in an unproved program
+(tools/quick_start).
 Needs `rt` on the path, and `cc` and `ar`.
 """
 import re

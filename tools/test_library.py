@@ -1,8 +1,9 @@
 """Tries the library on the script cases of tests/cases: python3 tools/test_library.py
 
-The library that VDPM_LIBRARY names, with its archive beside it, is called from Python and from C; where
-the variable isn't set, one is built without a proof (tools/library.py). Each script of a case is done line by line, and the replies are compared byte for byte with those that the
-case stores; each stream that a case refuses is refused for the same fault.
+The library that VDPM_LIBRARY names, with its archive beside it, is called from Python and from C;
+where the variable isn't set, one is built without a proof (tools/library.py). Each script of a case
+is done line by line, and the replies are compared byte for byte with those that the case stores;
+each stream that a case refuses is refused for the same fault.
 """
 import ctypes
 import hashlib
@@ -79,7 +80,8 @@ class Asked(NamedTuple):
 
 def asked_of(case: Case) -> Optional[Asked]:
     """The case, if it has a stream with a script, whole or with a fault, and no device or limit."""
-    plain = case.program == "vdpm" and case.words[:1] in (["view"], ["live"]) and len(case.words) == 2
+    is_script = case.words[:1] in (["view"], ["live"]) and len(case.words) == 2
+    plain = case.program == "vdpm" and is_script
     if not plain or case.devices or case.memory or case.status not in (0, 1):
         return None
     if any(step.key == "through" for step in case.steps) or not case.words[1].isdigit():
@@ -172,7 +174,8 @@ class Arrays(unittest.TestCase):
         self.assertEqual([nodes[at] for at in corners], corner_nodes)
         rows = [f"frame {len(nodes)} {len(faces)}"]
         rows += ["v {} {} {} {}".format(v, *places[3 * i : 3 * i + 3]) for i, v in enumerate(nodes)]
-        rows += ["f {} {} {} {}".format(f, *corner_nodes[3 * i : 3 * i + 3]) for i, f in enumerate(faces)]
+        triples = [corner_nodes[3 * i : 3 * i + 3] for i in range(len(faces))]
+        rows += ["f {} {} {} {}".format(f, *triple) for f, triple in zip(faces, triples)]
         return "\n".join(rows + ["end", ""])
 
     def test_nodes_know_their_records_and_leaves_their_ancestors(self) -> None:
@@ -184,7 +187,8 @@ class Arrays(unittest.TestCase):
             self.assertEqual(sorted(session.ancestor(x) for x in range(sizes.leaves)), shown)
             self.assertTrue(all(session.splitter(node) is None for node in shown))
             split = [node for node in range(sizes.nodes) if session.splitter(node) is not None]
-            self.assertEqual(sorted(session.splitter(node) for node in split), list(range(sizes.records)))
+            records = sorted(session.splitter(node) for node in split)
+            self.assertEqual(records, list(range(sizes.records)))
             with self.assertRaises(IndexError):
                 session.ancestor(sizes.leaves)
 
