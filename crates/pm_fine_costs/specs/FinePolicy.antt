@@ -1,0 +1,60 @@
+-- The policy of a run for the look of what is left: planes weigh by the area of their faces, planes
+-- that stand on the border hold it, and a vertex takes the planes round it when it is made (after
+-- Garland and Heckbert 1998 and Lindstrom and Turk 1998).
+use Rattle.std.specs.Prelude.{ℕ, ◌==◌, Bool, cond, ◌&&◌, List, [], ◌∷◌, ◌++◌, is_some}
+use Rattle.std.specs.List.{filter, flat_map}
+use Rattle.pm_base.specs.Counts.{numbers_below}
+use Rattle.pm_base.specs.Geometry.{Direction, cross_of}
+use Rattle.pm_base.specs.Sides.{side_count, stands, to, third, prev, twin_of}
+use Rattle.pm_quadric.specs.Planes.{Plane, plane_through}
+use Rattle.pm_runs.specs.Surfaces.{Surface, surface_of, place_at, net_of_surface}
+use Rattle.pm_fine.specs.Normals.{area_normal_of, border_normal_of, doubled}
+use Rattle.pm_fine.specs.Fourth.{best_fine_place_of}
+use Rattle.pm_policies.specs.Policies.{Policy}
+
+-- The normal of the face of a side.
+abbrev pub normal_at : Surface → ℕ → Direction
+normal_at s e =
+    let m = net_of_surface s in
+    cross_of (place_at s (m.from e)) (place_at s (to m e)) (place_at s (third m e))
+
+-- The plane of the face of a corner, through the corner's vertex.
+abbrev pub face_plane : (Direction → Direction) → Surface → ℕ → Plane
+face_plane weigh s e =
+    plane_through (weigh (area_normal_of (normal_at s e))) (place_at s ((net_of_surface s).from e))
+
+-- Where a side has no twin, the plane that stands on it square to its face, through vertex v.
+abbrev pub border_planes : (Direction → Direction) → Surface → ℕ → ℕ → List Plane
+border_planes weigh s v e =
+    let m = net_of_surface s in
+    let n = border_normal_of (place_at s (m.from e)) (place_at s (to m e)) (normal_at s e) in
+    cond (is_some (twin_of m e)) [] (plane_through (weigh n) (place_at s v) ∷ [])
+
+-- The planes at a corner: that of its face, and those on the two sides of the face that meet there.
+abbrev pub corner_planes : (Direction → Direction) → Surface → ℕ → ℕ → List Plane
+corner_planes weigh s v e =
+    face_plane weigh s e ∷ border_planes weigh s v e ++ border_planes weigh s v (prev e)
+
+-- The corners at a vertex, in faces that are there.
+abbrev pub corners_round : Surface → ℕ → List ℕ
+corners_round s v =
+    let m = net_of_surface s in
+    filter (λ e. stands m e && (m.from e == v)) (numbers_below (side_count m))
+
+-- The planes round a vertex.
+unfoldable pub planes_round : (Direction → Direction) → Surface → ℕ → List Plane
+planes_round weigh s v = flat_map (corner_planes weigh s v) (corners_round s v)
+
+abbrev pub as_it_is : Direction → Direction
+as_it_is n = n
+
+-- An input vertex brings the planes round it. A vertex takes those round it when it is made, with
+-- four times their weight; so do the input's. The place is the best of both ends, the midpoint and
+-- the fourth candidate.
+abbrev pub fine_keeping : (ℕ → Bool) → Policy
+fine_keeping kept = record {
+  brought = λ m v. planes_round as_it_is (surface_of m) v;
+  taken = λ s v. planes_round doubled s v;
+  place = λ planes a b. best_fine_place_of planes a b;
+  kept = kept;
+}

@@ -1,0 +1,3 @@
+pub mod FinePolicy
+pub mod CornerPlanes
+pub mod FineCosts
