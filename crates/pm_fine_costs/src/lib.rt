@@ -1,2 +1,14 @@
-//! x
+//! The costs of pairs by a policy for the look of what is left: planes of faces by area, planes that
+//! hold the border, and planes that a vertex takes of the faces round it when it is made. The run by
+//! it.
 #![tactic(auto)]
+
+mod corner;
+mod first;
+mod pair;
+mod round;
+mod run;
+mod table;
+
+pub use run::simplify_fine;
+pub use table::{FineTable, OutOfMemory};
