@@ -3,6 +3,7 @@ use Rattle.std.proofs.Common.{◌≡◌, ℕ, zero, suc, ◌+◌, ◌*◌, ◌/�
 use Rattle.std.proofs.Common.{length, length-append, take, get_or, map, Some, None, Option, inl, inr, refl, sym, ap, ◌∙◌, subst, arith}
 use Rattle.std.specs.List.{filter, flat_map, range_with_len}
 use Rattle.std.specs.Prelude.{unwrap_or}
+use Rattle.std.proofs.Math.Seq.{take-length}
 use Rattle.std.proofs.lemmas.Bool.{cases_Bool, cond-true, cond-false, and_parts, eqb-true, eq-eqb, or_left, or_right, both_ways}
 use Rattle.std.proofs.lemmas.List.{length-map, get_or-map}
 use Rattle.std.proofs.lemmas.List.Elements.{filter-append}
@@ -130,16 +131,23 @@ module _ (s : Surface) (v : ℕ) where
       (q : ℕ → Bool) → ((e : ℕ) → is_round e ≡ true → q (face_of e) ≡ true) →
       length (corners_round s v) ≤ count q (length s.faces)
   round_counted q face =
-      omega (arith, filter_counted is_round (3 * length s.faces),
-      faces_counted is_round q face one_corner (length s.faces))
+      omega (
+        arith,
+        filter_counted is_round (3 * length s.faces),
+        faces_counted is_round q face one_corner (length s.faces),
+      )
 
   -- Three planes a face at most.
   pub round_few : (w : Direction → Direction) → length (planes_round w s v) ≤ 3 * length s.faces
   unfolding planes_round
   round_few w =
       let corners = round_counted (λ f. true) (λ e t. refl) in
-      omega (arith, all_few (corner_planes w s v) (corner_few w s v) (corners_round s v), corners,
-      count_le (λ f. true) (length s.faces))
+      omega (
+        arith,
+        all_few (corner_planes w s v) (corner_few w s v) (corners_round s v),
+        corners,
+        count_le (λ f. true) (length s.faces),
+      )
 
 -- The faces of a list that pass a test.
 filter_taken :
@@ -173,10 +181,6 @@ corner_has k i v is =
           ])
     ]
 
-take_full : {X : Type 0} (xs : List X) → take (length xs) xs ≡ xs
-take_full [] = refl
-take_full (x ∷ xs) = ap (λ k. x ∷ k) (take_full xs)
-
 -- An input vertex has three for each of its faces.
 pub input_few :
     (w : Direction → Direction) (mesh : Mesh) (v : ℕ) →
@@ -195,7 +199,7 @@ input_few w mesh v =
     (and_parts (stands (net_of_surface s) e) (eqb ((net_of_surface s).from e) v) t).1) in
     let corners = round_counted s v q face in
     let all = filter_taken (has_corner v) fs (length fs) (omega arith) in
-    let whole : take (length fs) fs ≡ fs = take_full fs in
+    let whole : take (length fs) fs ≡ fs = take-length fs in
     let same = ap (λ (l : List Corners). length (filter (has_corner v) l)) whole in
     let sides = length-map fs Some in
     let here = ap (count q) sides in

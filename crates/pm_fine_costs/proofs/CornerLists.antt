@@ -37,7 +37,7 @@ range_once : (a n : ℕ) → IsOnce (range_with_len a n)
 range_once a zero = tt
 range_once a (suc n) = (
   false_from_ne_true (has (range_with_len (a + 1) n) a) (λ h. (
-  let l = range_from (a + 1) n a h in absurd (omega arith))),
+      let l = range_from (a + 1) n a h in absurd (omega arith))),
   range_once (a + 1) n,
 )
 

@@ -255,9 +255,9 @@ module _
       others : v ≢ c.s → (is_live now v ≡ true) × (quadrics_at r v ≡ quadrics_at t v)
       others off =
           let ne : v ≢ next_vertex now = λ is. off (is ∙ sym (step-new now c step)) in (
-          was_live now c.t c.u c.place live.0 low_t low_u v there ne,
-          items-kept now c.t c.u c.place live.0 low_t low_u t r q goes.own merged v no_quadrics
-              there ne,
+            was_live now c.t c.u c.place live.0 low_t low_u v there ne,
+            items-kept now c.t c.u c.place live.0 low_t low_u t r q goes.own merged v no_quadrics
+                there ne,
           )
 
       each_brought : StandsFor (quadrics_at r v).brought (brought_after p m more v)

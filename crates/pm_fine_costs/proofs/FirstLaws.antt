@@ -142,9 +142,9 @@ module _ (mesh : Mesh) where
         (items more : List BothQuadrics) (u v : ℕ) (k : Corner) (within : u < length items)
         (at : u ≡ (net_of mesh.faces).from n) (corner : k ≡ corner_of s n)
         (set_is : more ≡ set items u (record {
-        brought = plus_sums (get_or items u no_quadrics).brought (sums_of (planes_with (normals_of k) k.at));
-        taken = plus_sums (get_or items u no_quadrics).taken
-            (sums_of (planes_with (doubled_normals (normals_of k)) k.at));
+          brought = plus_sums (get_or items u no_quadrics).brought (sums_of (planes_with (normals_of k) k.at));
+          taken = plus_sums (get_or items u no_quadrics).taken
+              (sums_of (planes_with (doubled_normals (normals_of k)) k.at));
         })) where
       abbrev added : BothQuadrics
       added = record {

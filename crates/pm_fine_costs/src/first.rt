@@ -59,10 +59,10 @@ fn add_corner(quadrics: &mut Vec<BothQuadrics>, v: u32, corner: &Corner)
     requires brought_few { (slice_index_or quadrics.old.items v no_quadrics).brought.count + 3 ≤ MOST_FINE_PLANES }
     requires taken_few { (slice_index_or quadrics.old.items v no_quadrics).taken.count + 3 ≤ MOST_FINE_PLANES }
     ensures { quadrics.new.items ≡ slice_set quadrics.old.items v (record {
-        brought = plus_sums (slice_index_or quadrics.old.items v no_quadrics).brought
-            (sums_of (planes_with (normals_of corner.now) corner.now.at));
-        taken = plus_sums (slice_index_or quadrics.old.items v no_quadrics).taken
-            (sums_of (planes_with (doubled_normals (normals_of corner.now)) corner.now.at));
+      brought = plus_sums (slice_index_or quadrics.old.items v no_quadrics).brought
+          (sums_of (planes_with (normals_of corner.now) corner.now.at));
+      taken = plus_sums (slice_index_or quadrics.old.items v no_quadrics).taken
+          (sums_of (planes_with (doubled_normals (normals_of corner.now)) corner.now.at));
     }) }
 {
     let normals = CornerNormals::of(corner);
@@ -91,7 +91,11 @@ pub(crate) fn first_quadrics(
     let faces = mesh.faces.as_slice();
     for number in 0..3 * faces.len() as u32 {
         let side = Side(number);
-        add_corner(&mut quadrics, vertex_of(faces, side), &corner_of(surface, side));
+        add_corner(
+            &mut quadrics,
+            vertex_of(faces, side),
+            &corner_of(surface, side),
+        );
     }
     Ok(quadrics)
 }

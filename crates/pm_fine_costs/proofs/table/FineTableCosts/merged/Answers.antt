@@ -27,8 +27,12 @@ plus-brought-requires c =
     ∙ ap (λ (x : Slotted BothQuadrics). quadrics_at x c.args.entry.now.t) c.self.view_is in
     let two = c.get.ensures no_quadrics
     ∙ ap (λ (x : Slotted BothQuadrics). quadrics_at x c.args.entry.now.u) c.self.view_is in
-    omega (arith, fits, ap (λ (q : BothQuadrics). q.brought.count) one,
-    ap (λ (q : BothQuadrics). q.brought.count) two)
+    omega (
+      arith,
+      fits,
+      ap (λ (q : BothQuadrics). q.brought.count) one,
+      ap (λ (q : BothQuadrics). q.brought.count) two,
+    )
 
 pub taken_at-taken-requires : goal.taken_at-taken-requires
 taken_at-taken-requires c =

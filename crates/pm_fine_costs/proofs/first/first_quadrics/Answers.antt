@@ -1,0 +1,96 @@
+use Rattle.std.proofs.Common.{◌≡◌, ◌∙◌, ℕ, ◌*◌, ◌<◌, List, length, sym, ap, subst, arith}
+use Rattle.std.specs.Prelude.{slice_index_or}
+use Rattle.std.proofs.lemmas.List.{length-set}
+use Rattle.pm_base.specs.declared.mesh.Corners.{Corners}
+use Rattle.pm_base.specs.Meshes.{Mesh}
+use Rattle.pm_base.specs.Sides.{net_of}
+use Rattle.pm_base.proofs.NetLaws.{mesh_side}
+use Rattle.pm_quadric.specs.Sums.{StandsFor}
+use Rattle.pm_quadric.specs.Planes.{Plane}
+use Rattle.pm_quadric.specs.Sums.{sums_of}
+use Rattle.pm_fine.specs.Normals.{doubled}
+use Rattle.pm_fine_costs.specs.FinePolicy.{as_it_is}
+use Rattle.pm_fine_costs.specs.FineCosts.{no_quadrics}
+use Rattle.pm_fine_costs.proofs.FirstLaws.{below_all, below_fits, brought_more, taken_more}
+use Rattle.pm_fine_costs.proofs.first.first_quadrics.Goals as goal
+
+pub add_corner-requires-clause-within : goal.add_corner-requires-clause-within
+add_corner-requires-clause-within c =
+    let mesh : Mesh = c.args.surface.now in
+    let faces : c.as_slice-faces.result.now ≡ mesh.faces =
+    c.as_slice-faces.ensures ∙ ap (λ (k : Mesh). k.faces) c.mesh-mesh.ensures in
+    let low : c.loop-number.number < 3 * length mesh.faces = omega (arith, ap length faces) in
+    let at : c.vertex_of.result ≡ (net_of mesh.faces).from c.loop-number.number =
+    c.vertex_of.ensures ∙ ap (λ (k : List Corners). (net_of k).from c.loop-number.number) faces in
+    let side = (mesh_side mesh c.invariant.ensures.formed c.loop-number.number low).1 in
+    omega (arith, at, side, c.loop-number.invariant.len)
+
+pub add_corner-requires-clause-brought_few : goal.add_corner-requires-clause-brought_few
+add_corner-requires-clause-brought_few c =
+    let mesh : Mesh = c.args.surface.now in
+    let faces : c.as_slice-faces.result.now ≡ mesh.faces =
+    c.as_slice-faces.ensures ∙ ap (λ (k : Mesh). k.faces) c.mesh-mesh.ensures in
+    let low : c.loop-number.number < 3 * length mesh.faces = omega (arith, ap length faces) in
+    let at : c.vertex_of.result ≡ (net_of mesh.faces).from c.loop-number.number =
+    c.vertex_of.ensures ∙ ap (λ (k : List Corners). (net_of k).from c.loop-number.number) faces in
+    let side = (mesh_side mesh c.invariant.ensures.formed c.loop-number.number low).1 in
+    let within : c.vertex_of.result < length mesh.points = omega (arith, at, side) in
+    below_fits mesh c.invariant.ensures.formed c.loop-number.number low as_it_is c.vertex_of.result
+    (slice_index_or c.loop-number.quadrics.items c.vertex_of.result no_quadrics).brought
+    (c.loop-number.invariant.brought c.vertex_of.result within)
+
+pub add_corner-requires-clause-taken_few : goal.add_corner-requires-clause-taken_few
+add_corner-requires-clause-taken_few c =
+    let mesh : Mesh = c.args.surface.now in
+    let faces : c.as_slice-faces.result.now ≡ mesh.faces =
+    c.as_slice-faces.ensures ∙ ap (λ (k : Mesh). k.faces) c.mesh-mesh.ensures in
+    let low : c.loop-number.number < 3 * length mesh.faces = omega (arith, ap length faces) in
+    let at : c.vertex_of.result ≡ (net_of mesh.faces).from c.loop-number.number =
+    c.vertex_of.ensures ∙ ap (λ (k : List Corners). (net_of k).from c.loop-number.number) faces in
+    let side = (mesh_side mesh c.invariant.ensures.formed c.loop-number.number low).1 in
+    let within : c.vertex_of.result < length mesh.points = omega (arith, at, side) in
+    below_fits mesh c.invariant.ensures.formed c.loop-number.number low doubled c.vertex_of.result
+    (slice_index_or c.loop-number.quadrics.items c.vertex_of.result no_quadrics).taken
+    (c.loop-number.invariant.taken c.vertex_of.result within)
+
+pub loop-number-preserved : goal.loop-number-preserved
+loop-number-preserved c =
+    let mesh : Mesh = c.args.surface.now in
+    let n : ℕ = c.loop-number.number in
+    let faces : c.as_slice-faces.result.now ≡ mesh.faces =
+    c.as_slice-faces.ensures ∙ ap (λ (k : Mesh). k.faces) c.mesh-mesh.ensures in
+    let low : n < 3 * length mesh.faces = omega (arith, ap length faces) in
+    let at : c.vertex_of.result ≡ (net_of mesh.faces).from n =
+    c.vertex_of.ensures ∙ ap (λ (k : List Corners). (net_of k).from n) faces in
+    let side = (mesh_side mesh c.invariant.ensures.formed n low).1 in
+    let within : c.vertex_of.result < length c.loop-number.quadrics.items =
+    omega (arith, at, side, c.loop-number.invariant.len) in
+    record {
+      len = ap length c.add_corner.ensures ∙ length-set _ _ _ ∙ c.loop-number.invariant.len;
+      brought = λ v l. brought_more mesh c.invariant.ensures.formed n low
+          c.loop-number.quadrics.items c.add_corner.new.quadrics.items c.vertex_of.result v
+          c.corner_of.result within at c.corner_of.ensures c.add_corner.ensures
+          (c.loop-number.invariant.brought v l);
+      taken = λ v l. taken_more mesh c.invariant.ensures.formed n low
+          c.loop-number.quadrics.items c.add_corner.new.quadrics.items c.vertex_of.result v
+          c.corner_of.result within at c.corner_of.ensures c.add_corner.ensures
+          (c.loop-number.invariant.taken v l);
+    }
+
+pub returns-clause-brought : goal.returns-clause-brought
+returns-clause-brought c = λ v l.
+    let mesh : Mesh = c.args.surface.now in
+    let faces : c.as_slice-faces.result.now ≡ mesh.faces =
+    c.as_slice-faces.ensures ∙ ap (λ (k : Mesh). k.faces) c.mesh-mesh.ensures in
+    let all : c.loop-number.number ≡ 3 * length mesh.faces = omega (arith, ap length faces) in
+    c.loop-number.invariant.brought v l
+    ∙ ap sums_of (below_all mesh as_it_is v c.loop-number.number all)
+
+pub returns-clause-taken : goal.returns-clause-taken
+returns-clause-taken c = λ v l.
+    let mesh : Mesh = c.args.surface.now in
+    let faces : c.as_slice-faces.result.now ≡ mesh.faces =
+    c.as_slice-faces.ensures ∙ ap (λ (k : Mesh). k.faces) c.mesh-mesh.ensures in
+    let all : c.loop-number.number ≡ 3 * length mesh.faces = omega (arith, ap length faces) in
+    c.loop-number.invariant.taken v l
+    ∙ ap sums_of (below_all mesh doubled v c.loop-number.number all)
