@@ -1,3 +1,4 @@
 pub mod FinePolicy
 pub mod CornerPlanes
 pub mod FineCosts
+pub mod Rows

@@ -9,6 +9,8 @@ mod pair;
 mod round;
 mod run;
 mod table;
+mod theory;
 
 pub use run::simplify_fine;
 pub use table::{FineTable, OutOfMemory};
+pub use theory::planes_round_are_right;
