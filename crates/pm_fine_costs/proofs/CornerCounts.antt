@@ -1,10 +1,13 @@
 -- How many planes there are round a vertex: three for each of its faces at most.
-use Rattle.std.proofs.Common.{◌≡◌, ℕ, zero, suc, ◌+◌, ◌*◌, ◌/◌, ◌%◌, ◌<◌, ◌≤◌, Bool, true, false, cond, eqb, ◌||◌, ◌&&◌, List, [], ◌∷◌, ◌++◌}
-use Rattle.std.proofs.Common.{length, length-append, take, get_or, map, Some, None, Option, inl, inr, refl, sym, ap, ◌∙◌, subst, arith}
+use Rattle.std.proofs.Common.{◌≡◌, ℕ, zero, suc, ◌+◌, ◌*◌, ◌/◌, ◌%◌, ◌<◌, ◌≤◌, Bool, true, false}
+use Rattle.std.proofs.Common.{cond, eqb, ◌||◌, ◌&&◌, List, [], ◌∷◌, ◌++◌}
+use Rattle.std.proofs.Common.{length, length-append, take, get_or, map, Some, None, Option, inl}
+use Rattle.std.proofs.Common.{inr, refl, sym, ap, ◌∙◌, subst, arith}
 use Rattle.std.specs.List.{filter, flat_map, range_with_len}
 use Rattle.std.specs.Prelude.{unwrap_or}
 use Rattle.std.proofs.Math.Seq.{take-length}
-use Rattle.std.proofs.lemmas.Bool.{cases_Bool, cond-true, cond-false, and_parts, eqb-true, eq-eqb, or_left, or_right, both_ways}
+use Rattle.std.proofs.lemmas.Bool.{cases_Bool, cond-true, cond-false, and_parts, eqb-true, eq-eqb}
+use Rattle.std.proofs.lemmas.Bool.{or_left, or_right, both_ways}
 use Rattle.std.proofs.lemmas.List.{length-map, get_or-map}
 use Rattle.std.proofs.lemmas.List.Elements.{filter-append}
 use Rattle.std.proofs.lemmas.List.Filters.{length-filter_more}
@@ -16,7 +19,8 @@ use Rattle.pm_base.proofs.TwinLaws.{stands-true}
 use Rattle.pm_base.specs.declared.mesh.Corners.{Corners}
 use Rattle.pm_base.specs.Geometry.{Direction}
 use Rattle.pm_base.specs.Meshes.{Mesh}
-use Rattle.pm_base.specs.Sides.{Net, Stands, side_count, stands, face_of, next, prev, corner_in, no_corners}
+use Rattle.pm_base.specs.Sides.{Net, Stands, side_count, stands, face_of, next, prev, corner_in}
+use Rattle.pm_base.specs.Sides.{no_corners}
 use Rattle.pm_quadric.specs.Planes.{Plane}
 use Rattle.pm_runs.specs.Planes.{planes_at, plane_of_face, has_corner}
 use Rattle.pm_runs.specs.Surfaces.{Surface, surface_of, net_of_surface}
@@ -163,8 +167,10 @@ filter_taken p fs (suc n) l =
     ap (λ (i : ℕ). length (filter p (take i fs))) k
     ∙ length-filter_more p fs n no_corners (omega arith) in
     elim (cases_Bool (q n)) [
-      | inl t ↦ (let c : ◌≡◌ {A = ℕ} (cond (p (get_or fs n no_corners)) 1 0) 1 = cond-true _ _ _ t in omega (arith, c, before, more, count-true q n t))
-      | inr t ↦ (let c : ◌≡◌ {A = ℕ} (cond (p (get_or fs n no_corners)) 1 0) 0 = cond-false _ _ _ t in omega (arith, c, before, more, count-false q n t))
+      | inl t ↦ (let c : ◌≡◌ {A = ℕ} (cond (p (get_or fs n no_corners)) 1 0) 1 = cond-true _ _ _
+          t in omega (arith, c, before, more, count-true q n t))
+      | inr t ↦ (let c : ◌≡◌ {A = ℕ} (cond (p (get_or fs n no_corners)) 1 0) 0 = cond-false _ _
+          _ t in omega (arith, c, before, more, count-false q n t))
     ]
 
 corner_has : (k : Corners) (i v : ℕ) → corner_in k i ≡ v → has_corner v k ≡ true
@@ -176,8 +182,10 @@ corner_has k i v is =
       | inr t ↦
           let rest : cond (eqb i 1) k.b k.c ≡ v = sym (cond-false _ _ _ t) ∙ is in
           or_right (eqb k.a v) (eqb k.b v || eqb k.c v) (elim (cases_Bool (eqb i 1)) [
-            | inl u ↦ or_left (eqb k.b v) (eqb k.c v) (eq-eqb k.b v (sym (cond-true _ _ _ u) ∙ rest))
-            | inr u ↦ or_right (eqb k.b v) (eqb k.c v) (eq-eqb k.c v (sym (cond-false _ _ _ u) ∙ rest))
+            | inl u ↦ or_left (eqb k.b v) (eqb k.c v)
+                (eq-eqb k.b v (sym (cond-true _ _ _ u) ∙ rest))
+            | inr u ↦ or_right (eqb k.b v) (eqb k.c v)
+                (eq-eqb k.c v (sym (cond-false _ _ _ u) ∙ rest))
           ])
     ]
 
@@ -190,7 +198,8 @@ input_few w mesh v =
     let s = surface_of mesh in
     let fs : List Corners = mesh.faces in
     let q : ℕ → Bool = λ f. has_corner v (get_or fs f no_corners) in
-    let there : (e : ℕ) → (net_of_surface s).from e ≡ corner_in (get_or fs (face_of e) no_corners) (e % 3) =
+    let there : (e : ℕ) → (net_of_surface s).from e ≡ corner_in
+    (get_or fs (face_of e) no_corners) (e % 3) =
     λ e. ap (λ (n : Net). n.from e) (net_there mesh) in
     let face : (e : ℕ) → (stands (net_of_surface s) e && eqb ((net_of_surface s).from e) v) ≡ true →
     q (face_of e) ≡ true = λ e t.

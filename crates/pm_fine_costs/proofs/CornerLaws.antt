@@ -1,5 +1,6 @@
 -- The planes at a corner by places alone are those of the policy.
-use Rattle.std.proofs.Common.{◌≡◌, ℕ, cond, Option, Some, None, List, [], ◌∷◌, ◌++◌, refl, sym, ap, ◌∙◌}
+use Rattle.std.proofs.Common.{◌≡◌, ℕ, cond, Option, Some, None, List, [], ◌∷◌, ◌++◌, refl, sym}
+use Rattle.std.proofs.Common.{ap, ◌∙◌}
 use Rattle.std.specs.Prelude.{is_some, is_none}
 use Rattle.std.specs.Option.{option_map}
 use Rattle.pm_base.specs.Place.{Place}
@@ -10,7 +11,8 @@ use Rattle.pm_quadric.specs.Planes.{Plane, plane_through}
 use Rattle.pm_runs.specs.Surfaces.{Surface, place_at, net_of_surface}
 use Rattle.pm_fine.specs.Normals.{border_normal_of, doubled}
 use Rattle.pm_fine_costs.specs.FinePolicy.{border_planes, corner_planes, face_plane, as_it_is}
-use Rattle.pm_fine_costs.specs.CornerPlanes.{corner_of, normals_of, doubled_normals, some_plane, planes_with}
+use Rattle.pm_fine_costs.specs.CornerPlanes.{corner_of, normals_of, doubled_normals, some_plane}
+use Rattle.pm_fine_costs.specs.CornerPlanes.{planes_with}
 
 abbrev if_none : Option ℕ → Direction → Option Direction
 if_none t n = cond (is_none t) (Some n) None
@@ -43,7 +45,8 @@ module _ (s : Surface) (e : ℕ) where
       (place_at s (m.from (next x))))
 
   before_is : (w : Direction → Direction) → border_planes w s v (prev e) ≡
-      cond (is_some (twin_of m (prev e))) [] (plane_through (w (normal_before e)) (place_at s v) ∷ [])
+      cond (is_some (twin_of m (prev e))) [] (plane_through (w (normal_before e)) (place_at s v)
+      ∷ [])
   before_is w =
       ap (λ (x : ℕ). cond (is_some (twin_of m (prev e))) []
       (plane_through (w (normal_before x)) (place_at s v) ∷ [])) (next-next-next e)

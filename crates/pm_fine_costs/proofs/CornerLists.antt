@@ -1,9 +1,13 @@
 -- The corners round a vertex: which they are, each once, and how many.
-use Rattle.std.proofs.Common.{◌≡◌, ◌≢◌, ℕ, zero, suc, ◌+◌, ◌*◌, ◌/◌, ◌<◌, ◌≤◌, Bool, true, false, cond, ◌&&◌, eqb}
-use Rattle.std.proofs.Common.{List, [], ◌∷◌, ◌++◌, length, length-append, inl, inr, refl, sym, ap, ◌∙◌, subst, arith}
+use Rattle.std.proofs.Common.{◌≡◌, ◌≢◌, ℕ, zero, suc, ◌+◌, ◌*◌, ◌/◌, ◌<◌, ◌≤◌, Bool, true, false}
+use Rattle.std.proofs.Common.{cond, ◌&&◌, eqb}
+use Rattle.std.proofs.Common.{List, [], ◌∷◌, ◌++◌, length, length-append, inl, inr, refl, sym, ap}
+use Rattle.std.proofs.Common.{◌∙◌, subst, arith}
 use Rattle.std.specs.List.{filter, range_with_len}
-use Rattle.std.proofs.lemmas.Bool.{cases_Bool, cases_eq, or_cases, or_left, or_right, eqb-true, eq-eqb, ne_eqb}
-use Rattle.std.proofs.lemmas.Bool.{and_parts, and_from, both_ways, false≢true, false_from_ne_true, cond-true, cond-false}
+use Rattle.std.proofs.lemmas.Bool.{cases_Bool, cases_eq, or_cases, or_left, or_right, eqb-true}
+use Rattle.std.proofs.lemmas.Bool.{eq-eqb, ne_eqb}
+use Rattle.std.proofs.lemmas.Bool.{and_parts, and_from, both_ways, false≢true, false_from_ne_true}
+use Rattle.std.proofs.lemmas.Bool.{cond-true, cond-false}
 use Rattle.pm_base.specs.Counts.{count}
 use Rattle.pm_base.proofs.Counts.{count-zero, count-true, count-false, count_le}
 use Rattle.pm_base.proofs.Numbers.{numbers_next}
@@ -42,7 +46,8 @@ range_once a (suc n) = (
 )
 
 module _ (p : ℕ → Bool) where
-  filter_from : (xs : List ℕ) (e : ℕ) → has (filter p xs) e ≡ true → (p e ≡ true) × (has xs e ≡ true)
+  filter_from : (xs : List ℕ) (e : ℕ) → has (filter p xs) e ≡ true → (p e ≡ true) ×
+      (has xs e ≡ true)
   filter_from [] e h = absurd (false≢true h)
   filter_from (x ∷ xs) e h =
       elim (cases_Bool (p x)) [
@@ -102,7 +107,8 @@ module _ (s : Surface) (v : ℕ) where
   is_round e = stands m e && eqb (m.from e) v
 
   pub corners_once : IsOnce (corners_round s v)
-  corners_once = filter_once is_round (range_with_len 0 (side_count m)) (range_once 0 (side_count m))
+  corners_once = filter_once is_round (range_with_len 0 (side_count m))
+      (range_once 0 (side_count m))
 
   pub round_from : (e : ℕ) → has (corners_round s v) e ≡ true → Stands m e × (m.from e ≡ v)
   round_from e h =

@@ -16,7 +16,8 @@ use Rattle.pm_runs.specs.Counts.{live_count_of}
 use Rattle.pm_runs.specs.Runs.{IsStartOfRun, surface_after, IsStep, IsRun}
 use Rattle.pm_runs.proofs.Live.{live_below, next-after, new_live}
 use Rattle.pm_runs.proofs.Living.{joined_live, live_fewer, first_live_count}
-use Rattle.pm_runs.proofs.Logs.{surface_after-nil, surface_after-more, run-parts, run-sound, step-new}
+use Rattle.pm_runs.proofs.Logs.{surface_after-nil, surface_after-more, run-parts, run-sound}
+use Rattle.pm_runs.proofs.Logs.{step-new}
 use Rattle.pm_fine.specs.declared.fine_quadric.TheConstants.{MOST_FINE_PLANES}
 use Rattle.pm_fine.specs.Normals.{doubled}
 use Rattle.pm_policies.specs.Policies.{Policy, taken_after, brought_after, planes_by}
@@ -72,7 +73,8 @@ goes_first kept m t len slots brought taken =
     omega arith) in
     record {
       policy = refl;
-      brought = λ v live. brought v (low v live) ∙ ap sums_of (sym ((planes_are_taken p m).0 v).brought);
+      brought = λ v live. brought v (low v live) ∙ ap sums_of
+          (sym ((planes_are_taken p m).0 v).brought);
       taken = λ v live. taken v (low v live) ∙ ap sums_of (sym ((planes_are_taken p m).0 v).taken);
       own = λ v w live_v live_w same.
           sym (slots v (low v live_v)) ∙ same ∙ slots w (low w live_w);
@@ -106,7 +108,8 @@ module _
   module _ (v : ℕ) (live : is_live s.surface v ≡ true) where
     brought_count : (quadrics_at t v).brought.count ≡ length (brought_after p m log v)
     brought_count =
-        count_is (quadrics_at t v).brought (brought_after p m log v) (goes.brought v (live_here v live))
+        count_is (quadrics_at t v).brought (brought_after p m log v)
+        (goes.brought v (live_here v live))
 
     taken_count : (quadrics_at t v).taken.count ≡ length (taken_after p m log v)
     taken_count =
@@ -130,10 +133,12 @@ module _
         omega arith
 
     pub stands_all :
-        StandsFor (plus_sums (quadrics_at t v).taken (quadrics_at t v).brought) (planes_by p m log v)
+        StandsFor (plus_sums (quadrics_at t v).taken (quadrics_at t v).brought)
+        (planes_by p m log v)
     stands_all =
         sums_joined (quadrics_at t v).taken (quadrics_at t v).brought (taken_after p m log v)
-        (brought_after p m log v) (goes.taken v (live_here v live)) (goes.brought v (live_here v live))
+        (brought_after p m log v) (goes.taken v (live_here v live))
+        (goes.brought v (live_here v live))
 
   module _ (a b : ℕ) (la : is_live s.surface a ≡ true) (lb : is_live s.surface b ≡ true) where
     pub pair_fits :

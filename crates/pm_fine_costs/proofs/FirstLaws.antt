@@ -1,6 +1,8 @@
 -- The planes of the input's vertices, corner by corner.
-use Rattle.std.proofs.Common.{◌≡◌, ◌≢◌, ℕ, ◌+◌, ◌*◌, ◌<◌, ◌≤◌, Bool, true, false, eqb, ◌&&◌, Option, Some, None, List, [], ◌∷◌, ◌++◌}
-use Rattle.std.proofs.Common.{length, length-append, append-nil, get_or, set, get_or-set_same, get_or-set_other, inl, inr, refl, sym, ap, ◌∙◌, subst, arith}
+use Rattle.std.proofs.Common.{◌≡◌, ◌≢◌, ℕ, ◌+◌, ◌*◌, ◌<◌, ◌≤◌, Bool, true, false, eqb, ◌&&◌}
+use Rattle.std.proofs.Common.{Option, Some, None, List, [], ◌∷◌, ◌++◌}
+use Rattle.std.proofs.Common.{length, length-append, append-nil, get_or, set, get_or-set_same}
+use Rattle.std.proofs.Common.{get_or-set_other, inl, inr, refl, sym, ap, ◌∙◌, subst, arith}
 use Rattle.std.specs.Prelude.{is_none}
 use Rattle.std.specs.Option.{option_map}
 use Rattle.std.specs.List.{filter, flat_map, range_with_len}
@@ -87,7 +89,8 @@ module _ (mesh : Mesh) where
 
   pub below_few : (w : Direction → Direction) (v n : ℕ) → length (planes_below w v n) ≤ 3 * n
   below_few w v n =
-      let all = all_few (corner_planes w s v) (corner_few w s v) (filter (is_round v) (range_with_len 0 n)) in
+      let all = all_few (corner_planes w s v) (corner_few w s v)
+      (filter (is_round v) (range_with_len 0 n)) in
       let some = length-filter (is_round v) (range_with_len 0 n) in
       let most = count_by-le-length (is_round v) (range_with_len 0 n) in
       let len = length-range_with_len 0 n in
@@ -103,7 +106,8 @@ module _ (mesh : Mesh) where
 
   module _ (formed : IsWellFormed mesh) (n : ℕ) (low : n < 3 * length mesh.faces) where
     side_stands : Stands m n
-    side_stands = subst (λ (k : Net). Stands k n) (sym (net_there mesh)) (mesh_side mesh formed n low).0
+    side_stands = subst (λ (k : Net). Stands k n) (sym (net_there mesh))
+        (mesh_side mesh formed n low).0
 
     -- One corner more.
     pub corner_more :
@@ -142,13 +146,15 @@ module _ (mesh : Mesh) where
         (items more : List BothQuadrics) (u v : ℕ) (k : Corner) (within : u < length items)
         (at : u ≡ (net_of mesh.faces).from n) (corner : k ≡ corner_of s n)
         (set_is : more ≡ set items u (record {
-          brought = plus_sums (get_or items u no_quadrics).brought (sums_of (planes_with (normals_of k) k.at));
+          brought = plus_sums (get_or items u no_quadrics).brought
+              (sums_of (planes_with (normals_of k) k.at));
           taken = plus_sums (get_or items u no_quadrics).taken
               (sums_of (planes_with (doubled_normals (normals_of k)) k.at));
         })) where
       abbrev added : BothQuadrics
       added = record {
-        brought = plus_sums (get_or items u no_quadrics).brought (sums_of (planes_with (normals_of k) k.at));
+        brought = plus_sums (get_or items u no_quadrics).brought
+            (sums_of (planes_with (normals_of k) k.at));
         taken = plus_sums (get_or items u no_quadrics).taken
             (sums_of (planes_with (doubled_normals (normals_of k)) k.at));
       }
@@ -182,7 +188,8 @@ module _ (mesh : Mesh) where
           StandsFor (get_or more v no_quadrics).taken (planes_below doubled v (n + 1))
       taken_more before =
           corner_more doubled v u (get_or items v no_quadrics).taken
-          (get_or more v no_quadrics).taken (sums_of (planes_with (doubled_normals (normals_of k)) k.at)) at before
+          (get_or more v no_quadrics).taken (sums_of
+          (planes_with (doubled_normals (normals_of k)) k.at)) at before
           (λ is. ap (λ (q : BothQuadrics). q.taken) (item_here is)
           ∙ ap (λ (j : ℕ). plus_sums (get_or items j no_quadrics).taken
           (sums_of (planes_with (doubled_normals (normals_of k)) k.at))) (sym is))

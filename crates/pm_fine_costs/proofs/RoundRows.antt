@@ -6,7 +6,8 @@ use Rattle.pm_base.specs.Place.{Place}
 use Rattle.pm_base.specs.Sides.{stands, next, twin_of}
 use Rattle.pm_quadric.specs.Planes.{Plane, plane_through}
 use Rattle.pm_runs.specs.Surfaces.{surface_of}
-use Rattle.pm_fine.specs.Normals.{area_normal_of, border_normal_of, doubled, scaled, product_of, way_of}
+use Rattle.pm_fine.specs.Normals.{area_normal_of, border_normal_of, doubled, scaled, product_of}
+use Rattle.pm_fine.specs.Normals.{way_of}
 use Rattle.pm_fine.specs.Rounded.{root}
 use Rattle.pm_fine.proofs.RootLaws.{root_only}
 use Rattle.pm_fine_costs.specs.FinePolicy.{as_it_is, planes_round}
@@ -31,36 +32,48 @@ area_up : area_normal_of up ≡ direction (pos 0) (pos 0) (pos 256)
 unfolding area_normal_of
 area_up = ap (λ (r : ℕ). scaled (pos 262144) r up) twice_rooted
 
-area_down : area_normal_of (direction (pos 0) (pos 0) (neg_ℤ (pos 16))) ≡ direction (pos 0) (pos 0) (neg_ℤ (pos 256))
+area_down : area_normal_of (direction (pos 0) (pos 0) (neg_ℤ (pos 16))) ≡ direction (pos 0)
+    (pos 0) (neg_ℤ (pos 256))
 unfolding area_normal_of
-area_down = ap (λ (r : ℕ). scaled (pos 262144) r (direction (pos 0) (pos 0) (neg_ℤ (pos 16)))) twice_rooted
+area_down = ap (λ (r : ℕ). scaled (pos 262144) r (direction (pos 0) (pos 0) (neg_ℤ (pos 16))))
+    twice_rooted
 
-area_front : area_normal_of (direction (pos 0) (neg_ℤ (pos 16)) (pos 0)) ≡ direction (pos 0) (neg_ℤ (pos 256)) (pos 0)
+area_front : area_normal_of (direction (pos 0) (neg_ℤ (pos 16)) (pos 0)) ≡ direction (pos 0)
+    (neg_ℤ (pos 256)) (pos 0)
 unfolding area_normal_of
-area_front = ap (λ (r : ℕ). scaled (pos 262144) r (direction (pos 0) (neg_ℤ (pos 16)) (pos 0))) twice_rooted
+area_front = ap (λ (r : ℕ). scaled (pos 262144) r (direction (pos 0) (neg_ℤ (pos 16)) (pos 0)))
+    twice_rooted
 
-area_left : area_normal_of (direction (neg_ℤ (pos 16)) (pos 0) (pos 0)) ≡ direction (neg_ℤ (pos 256)) (pos 0) (pos 0)
+area_left : area_normal_of (direction (neg_ℤ (pos 16)) (pos 0) (pos 0)) ≡ direction
+    (neg_ℤ (pos 256)) (pos 0) (pos 0)
 unfolding area_normal_of
-area_left = ap (λ (r : ℕ). scaled (pos 262144) r (direction (neg_ℤ (pos 16)) (pos 0) (pos 0))) twice_rooted
+area_left = ap (λ (r : ℕ). scaled (pos 262144) r (direction (neg_ℤ (pos 16)) (pos 0) (pos 0)))
+    twice_rooted
 
-border_front : border_normal_of (at 0 0 0) (at 4 0 0) up ≡ direction (pos 0) (neg_ℤ (pos 1408)) (pos 0)
+border_front : border_normal_of (at 0 0 0) (at 4 0 0) up ≡ direction (pos 0) (neg_ℤ (pos 1408))
+    (pos 0)
 unfolding border_normal_of
-border_front = ap (λ (r : ℕ). scaled (pos 2883584) (2 * r) (product_of (way_of (at 0 0 0) (at 4 0 0)) up)) once_rooted
+border_front = ap (λ (r : ℕ). scaled (pos 2883584) (2 * r)
+    (product_of (way_of (at 0 0 0) (at 4 0 0)) up)) once_rooted
 
-border_left : border_normal_of (at 0 4 0) (at 0 0 0) up ≡ direction (neg_ℤ (pos 1408)) (pos 0) (pos 0)
+border_left : border_normal_of (at 0 4 0) (at 0 0 0) up ≡ direction (neg_ℤ (pos 1408)) (pos 0)
+    (pos 0)
 unfolding border_normal_of
-border_left = ap (λ (r : ℕ). scaled (pos 2883584) (2 * r) (product_of (way_of (at 0 4 0) (at 0 0 0)) up)) once_rooted
+border_left = ap (λ (r : ℕ). scaled (pos 2883584) (2 * r)
+    (product_of (way_of (at 0 4 0) (at 0 0 0)) up)) once_rooted
 
 pub border_row :
     planes_round as_it_is (surface_of triangle) 0 ≡
     plane (pos 0) (pos 0) (pos 256) ∷ plane (pos 0) (neg_ℤ (pos 1408)) (pos 0) ∷
     plane (neg_ℤ (pos 1408)) (pos 0) (pos 0) ∷ []
 unfolding planes_round stands next twin_of
-border_row = λ i. plane_through (area_up i) (at 0 0 0) ∷ plane_through (border_front i) (at 0 0 0) ∷ plane_through (border_left i) (at 0 0 0) ∷ []
+border_row = λ i. plane_through (area_up i) (at 0 0 0) ∷ plane_through (border_front i)
+    (at 0 0 0) ∷ plane_through (border_left i) (at 0 0 0) ∷ []
 
 pub inner_row :
     planes_round doubled (surface_of tetrahedron) 0 ≡
     plane (pos 0) (pos 0) (neg_ℤ (pos 512)) ∷ plane (pos 0) (neg_ℤ (pos 512)) (pos 0) ∷
     plane (neg_ℤ (pos 512)) (pos 0) (pos 0) ∷ []
 unfolding planes_round stands next twin_of
-inner_row = λ i. plane_through (doubled (area_down i)) (at 0 0 0) ∷ plane_through (doubled (area_front i)) (at 0 0 0) ∷ plane_through (doubled (area_left i)) (at 0 0 0) ∷ []
+inner_row = λ i. plane_through (doubled (area_down i)) (at 0 0 0) ∷ plane_through
+    (doubled (area_front i)) (at 0 0 0) ∷ plane_through (doubled (area_left i)) (at 0 0 0) ∷ []

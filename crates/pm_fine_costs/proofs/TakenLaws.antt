@@ -1,5 +1,6 @@
 -- The planes that a vertex takes, by a walk over the corners round it.
-use Rattle.std.proofs.Common.{◌≡◌, ℕ, ◌+◌, ◌*◌, ◌≤◌, Bool, true, false, cond, Option, Some, None, List, [], ◌∷◌, ◌++◌}
+use Rattle.std.proofs.Common.{◌≡◌, ℕ, ◌+◌, ◌*◌, ◌≤◌, Bool, true, false, cond, Option, Some, None}
+use Rattle.std.proofs.Common.{List, [], ◌∷◌, ◌++◌}
 use Rattle.std.proofs.Common.{length, length-append, refl, sym, ap, ◌∙◌, subst, arith}
 use Rattle.std.specs.Option.{IfSome, option_map}
 use Rattle.std.specs.Prelude.{is_some}
@@ -20,8 +21,10 @@ use Rattle.pm_fine.specs.Normals.{border_normal_of}
 use Rattle.pm_fine.specs.declared.fine_quadric.TheConstants.{MOST_FINE_PLANES}
 use Rattle.pm_shrink.specs.Shrinking.{Shrinking, net_at, fan_at, AreCornersAt}
 use Rattle.pm_simplify.specs.Walks.{still}
-use Rattle.pm_fine_costs.specs.FinePolicy.{normal_at, face_plane, corner_planes, corners_round, planes_round}
-use Rattle.pm_fine_costs.proofs.PlaneSums.{total, total-cons, same_total, plus-assoc, plus-zero, zero-plus}
+use Rattle.pm_fine_costs.specs.FinePolicy.{normal_at, face_plane, corner_planes, corners_round}
+use Rattle.pm_fine_costs.specs.FinePolicy.{planes_round}
+use Rattle.pm_fine_costs.proofs.PlaneSums.{total, total-cons, same_total, plus-assoc, plus-zero}
+use Rattle.pm_fine_costs.proofs.PlaneSums.{zero-plus}
 use Rattle.pm_fine_costs.proofs.CornerLists.{corners_once, same_corners}
 
 pub stands_after : (m : Net) (e g : ℕ) → Stands m e → g ≡ next e → Stands m g
@@ -33,7 +36,8 @@ stands_before m e g st is = subst (Stands m) (sym is) (stands_next m (next e) (s
 abbrev border_plane : (Direction → Direction) → Surface → ℕ → ℕ → Plane
 border_plane w s v e =
     let m = net_of_surface s in
-    plane_through (w (border_normal_of (place_at s (m.from e)) (place_at s (to m e)) (normal_at s e)))
+    plane_through (w (border_normal_of (place_at s (m.from e)) (place_at s (to m e))
+    (normal_at s e)))
     (place_at s v)
 
 three_at_most :
@@ -75,7 +79,8 @@ module _ (w : Direction → Direction) (s : Shrinking) (v : ℕ)
       ∙ zero-plus (total planes (still at fan))
       ∙ ap (total planes) (ap (λ o. rest_of_walk o fan) is ∙ rest_first fan)
 
-  pub walk_stands : (at : Option Side) (c : Side) → at ≡ Some c → IfSome at (λ c. has fan c.0 ≡ true) →
+  pub walk_stands : (at : Option Side) (c : Side) → at ≡ Some c → IfSome at
+      (λ c. has fan c.0 ≡ true) →
       has fan c.0 ≡ true
   walk_stands at c is held = subst (λ (o : Option Side). IfSome o (λ x. has fan x.0 ≡ true)) is held
 

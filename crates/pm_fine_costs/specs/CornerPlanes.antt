@@ -1,5 +1,6 @@
 -- The planes at a corner by places alone, as they are computed.
-use Rattle.std.specs.Prelude.{ℕ, Bool, cond, is_none, Option, Some, None, option_map, List, [], ◌∷◌, ◌++◌}
+use Rattle.std.specs.Prelude.{ℕ, Bool, cond, is_none, Option, Some, None, option_map, List, []}
+use Rattle.std.specs.Prelude.{◌∷◌, ◌++◌}
 use Rattle.pm_base.specs.Place.{Place}
 use Rattle.pm_base.specs.Geometry.{Direction, cross_of}
 use Rattle.pm_base.specs.Sides.{prev, to, third, twin_of}

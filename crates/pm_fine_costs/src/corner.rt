@@ -18,7 +18,8 @@ pub(crate) struct Corner {
     /// The places of the next corner of the face and of the one before.
     pub(crate) next: Point,
     pub(crate) last: Point,
-    /// Whether nothing stands across the side to the next corner, and across that from the one before.
+    /// Whether nothing stands across the side to the next corner, and across that from the one
+    /// before.
     pub(crate) is_open_after: bool,
     pub(crate) is_open_before: bool,
 }
@@ -31,7 +32,8 @@ pub(crate) struct CornerNormals {
     before: Option<FineNormal>,
 }
 
-// The normal of the plane on a side from a to b of a face whose third corner is c, if the side is open.
+// The normal of the plane on a side from a to b of a face whose third corner is c, if the side is
+// open.
 fn open_normal(a: Point, b: Point, c: Point, is_open: bool) -> Option<FineNormal>
     ensures value { result ≡ open_normal a b c is_open }
     ensures small { IfSome result (IsWithin (2 ^ 26)) }

@@ -1,5 +1,6 @@
 //! What the input's vertices are brought and take.
-ghost use Rattle.std.specs.Prelude.{◌≡◌, ◌*◌, ◌<◌, ◌≤◌, ◌+◌, ℕ, length, slice_index_or, slice_set, IfOk};
+ghost use Rattle.std.specs.Prelude.{◌≡◌, ◌*◌, ◌<◌, ◌≤◌, ◌+◌, ℕ, length, slice_index_or};
+ghost use Rattle.std.specs.Prelude.{slice_set, IfOk};
 ghost use Rattle.pm_base.specs.Meshes.{mesh_of};
 ghost use Rattle.pm_base.specs.Sides.{net_of};
 ghost use Rattle.pm_quadric.specs.Sums.{StandsFor, plus_sums, sums_of};
@@ -7,7 +8,8 @@ ghost use Rattle.pm_runs.specs.Surfaces.{surface_of};
 ghost use Rattle.pm_fine.specs.declared.fine_quadric.TheConstants.{MOST_FINE_PLANES};
 ghost use Rattle.pm_fine.specs.Normals.{doubled};
 ghost use Rattle.pm_fine_costs.specs.FinePolicy.{as_it_is, planes_round};
-ghost use Rattle.pm_fine_costs.specs.CornerPlanes.{corner_of, normals_of, doubled_normals, planes_with};
+ghost use Rattle.pm_fine_costs.specs.CornerPlanes.{corner_of, normals_of, doubled_normals};
+ghost use Rattle.pm_fine_costs.specs.CornerPlanes.{planes_with};
 ghost use Rattle.pm_fine_costs.specs.FineCosts.{no_quadrics};
 
 use crate::corner::{Corner, CornerNormals};
@@ -56,8 +58,10 @@ fn corner_of(surface: &Surface, side: Side) -> Corner
 // Gives a vertex the planes at a corner more.
 fn add_corner(quadrics: &mut Vec<BothQuadrics>, v: u32, corner: &Corner)
     requires within { v < length quadrics.old.items }
-    requires brought_few { (slice_index_or quadrics.old.items v no_quadrics).brought.count + 3 ≤ MOST_FINE_PLANES }
-    requires taken_few { (slice_index_or quadrics.old.items v no_quadrics).taken.count + 3 ≤ MOST_FINE_PLANES }
+    requires brought_few { (slice_index_or quadrics.old.items v no_quadrics).brought.count + 3
+        ≤ MOST_FINE_PLANES }
+    requires taken_few { (slice_index_or quadrics.old.items v no_quadrics).taken.count + 3
+        ≤ MOST_FINE_PLANES }
     ensures { quadrics.new.items ≡ slice_set quadrics.old.items v (record {
       brought = plus_sums (slice_index_or quadrics.old.items v no_quadrics).brought
           (sums_of (planes_with (normals_of corner.now) corner.now.at));

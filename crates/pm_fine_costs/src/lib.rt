@@ -1,6 +1,6 @@
-//! The costs of pairs by a policy for the look of what is left: planes of faces by area, planes that
-//! hold the border, and planes that a vertex takes of the faces round it when it is made. The run by
-//! it.
+//! The costs of pairs by a policy for the look of what is left: planes of faces by area, planes
+//! that hold the border, and planes that a vertex takes of the faces round it when it is made. The
+//! run by it.
 #![tactic(auto)]
 
 mod corner;

@@ -11,11 +11,11 @@ use pm_simplify::simplify_by;
 use pm_twins::Surface;
 use std::alloc::Global;
 
-/// Collapses a surface, which is used up, to so many faces by the fine policy: the pair whose planes
-/// have the least sum of squared values at the best of both ends, their midpoint and a fourth place
-/// goes first. No pair with a kept vertex is collapsed, nor weighed. Vertices whose flags are set are
-/// kept, and those past the list of flags aren't, so with a flag for each vertex of the surface no
-/// merged vertex is.
+/// Collapses a surface, which is used up, to so many faces by the fine policy: the pair whose
+/// planes have the least sum of squared values at the best of both ends, their midpoint and a
+/// fourth place goes first. No pair with a kept vertex is collapsed, nor weighed. Vertices whose
+/// flags are set are kept, and those past the list of flags aren't, so with a flag for each vertex
+/// of the surface no merged vertex is.
 pub fn simplify_fine(
     alloc: Global,
     surface: Surface,

@@ -36,8 +36,8 @@ impl Model for FineTable {
 }
 
 impl FineTable {
-    /// The quadrics of a surface before the first collapse. The only call that takes memory, some 360
-    /// bytes a point. O(V + F) for V points and F faces.
+    /// The quadrics of a surface before the first collapse. The only call that takes memory, some
+    /// 360 bytes a point. O(V + F) for V points and F faces.
     pub fn new(alloc: Global, surface: &Surface) -> Result<FineTable, OutOfMemory>
         ensures { IfOk result (λ t. (kept : ℕ → Bool)
             → GoesByFine t (fine_keeping kept) surface.now []) }

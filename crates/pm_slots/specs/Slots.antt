@@ -23,8 +23,8 @@ HaveOwnSlots s slots =
 
 -- Vertex k has an item in the slot of a; what stood in another slot still does.
 pub record IsPut {T : Type 0} (old : Slotted T) (a k : ℕ) (item : T) (new : Slotted T) : Type 0
-    where
-  pub slots : new.slots ≡ slice_set old.slots k (slot_at old a)
-  pub made : (none : T) → item_at new k none ≡ item
-  pub others : (v : ℕ) (none : T) → v ≢ k → slot_at old v ≢ slot_at old a →
-      item_at new v none ≡ item_at old v none
+  where
+    pub slots : new.slots ≡ slice_set old.slots k (slot_at old a)
+    pub made : (none : T) → item_at new k none ≡ item
+    pub others : (v : ℕ) (none : T) → v ≢ k → slot_at old v ≢ slot_at old a →
+        item_at new v none ≡ item_at old v none

@@ -10,10 +10,10 @@ use std::marker::Model;
 /// The answer for want of memory.
 pub type OutOfMemory = AllocError;
 
-/// Items by vertex number. Each collapse makes one live vertex of two: so the new vertex takes a slot
-/// of theirs, and there are only as many slots as points. Contracts see by vertex number the slot,
-/// and by slot the item. A vertex that was merged, or isn't made yet, has a slot too, that of any
-/// other.
+/// Items by vertex number. Each collapse makes one live vertex of two: so the new vertex takes a
+/// slot of theirs, and there are only as many slots as points. Contracts see by vertex number the
+/// slot, and by slot the item. A vertex that was merged, or isn't made yet, has a slot too, that
+/// of any other.
 #[derive(Drop)]
 pub struct SlotTable<T> {
     // By vertex number.
@@ -77,7 +77,8 @@ fn first_slots(alloc: Global, vertices: u32, room: usize) -> Result<Vec<u32>, Ou
     requires least { vertices ≤ room }
     requires most { room ≤ 2 * vertices }
     ensures len { IfOk result (λ slots. length slots.items ≡ room) }
-    ensures each { IfOk result (λ slots. (v : ℕ) → v < vertices → slice_index_or slots.items v 0 ≡ v) }
+    ensures each { IfOk result (λ slots. (v : ℕ) → v < vertices
+        → slice_index_or slots.items v 0 ≡ v) }
     ensures within { IfOk result (λ slots. All (λ k. k < vertices) slots.items) }
 {
     let mut slots = vec![in alloc; 0; room]?;

@@ -11,7 +11,9 @@ returns c = λ kept.
     goes_first kept c.args.surface.now c.in_ok-vertices.vertices
     (omega (arith, made.len, c.len-room.ensures, points.len))
     (λ v l. made.slots v (omega (arith, l, points.len)))
-    (λ v l. ap (λ (q : BothQuadrics). q.brought) (made.items v no_quadrics (omega (arith, l, points.len)))
+    (λ v l. ap (λ (q : BothQuadrics). q.brought) (made.items v no_quadrics
+    (omega (arith, l, points.len)))
     ∙ points.brought v l)
-    (λ v l. ap (λ (q : BothQuadrics). q.taken) (made.items v no_quadrics (omega (arith, l, points.len)))
+    (λ v l. ap (λ (q : BothQuadrics). q.taken) (made.items v no_quadrics
+    (omega (arith, l, points.len)))
     ∙ points.taken v l)

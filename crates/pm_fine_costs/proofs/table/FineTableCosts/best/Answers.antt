@@ -14,8 +14,15 @@ all-first-requires c =
     let t = c.args.self.now in
     let fits = vertex_fits p m log c.args.shrink.now t after goes c.args.a c.requires.a_live in
     let is : c.get.result.now ≡ quadrics_at t c.args.a =
-    c.get.ensures no_quadrics ∙ ap (λ (x : Slotted BothQuadrics). quadrics_at x c.args.a) c.self.view_is in
-    omega (arith, fits, ap (λ (q : BothQuadrics). q.taken.count) is, ap (λ (q : BothQuadrics). q.brought.count) is)
+    c.get.ensures no_quadrics ∙ ap (λ (x : Slotted BothQuadrics). quadrics_at x c.args.a)
+    c.self.view_is in
+    omega (
+      arith,
+      fits,
+      ap (λ (q : BothQuadrics). q.taken.count) is,
+      ap
+          (λ (q : BothQuadrics). q.brought.count) is,
+    )
 
 pub all-requires : goal.all-requires
 all-requires c =
@@ -23,8 +30,15 @@ all-requires c =
     let t = c.args.self.now in
     let fits = vertex_fits p m log c.args.shrink.now t after goes c.args.b c.requires.b_live in
     let is : c.get-2.result.now ≡ quadrics_at t c.args.b =
-    c.get-2.ensures no_quadrics ∙ ap (λ (x : Slotted BothQuadrics). quadrics_at x c.args.b) c.self.view_is in
-    omega (arith, fits, ap (λ (q : BothQuadrics). q.taken.count) is, ap (λ (q : BothQuadrics). q.brought.count) is)
+    c.get-2.ensures no_quadrics ∙ ap (λ (x : Slotted BothQuadrics). quadrics_at x c.args.b)
+    c.self.view_is in
+    omega (
+      arith,
+      fits,
+      ap (λ (q : BothQuadrics). q.taken.count) is,
+      ap
+          (λ (q : BothQuadrics). q.brought.count) is,
+    )
 
 pub plus-both-requires : goal.plus-both-requires
 plus-both-requires c =
@@ -45,12 +59,14 @@ returns-clause-place c = λ p m log after goes.
     c.self.view_is (c.get.ensures no_quadrics) c.all-first.ensures in
     let two = sum_is t c.self.inside.vertices c.args.b c.get-2.result.now c.all.result
     c.self.view_is (c.get-2.ensures no_quadrics) c.all.ensures in
-    let stands = stands_pair p m log c.args.shrink.now t after goes c.args.a c.args.b c.requires.a_live
+    let stands = stands_pair p m log c.args.shrink.now t after goes c.args.a c.args.b
+    c.requires.a_live
     c.requires.b_live c.all-first.result c.all.result c.plus-both.result one two
     c.plus-both.ensures.sums in
     best_is p m log c.args.shrink.now t after goes c.args.a c.args.b c.requires.a_live
     c.requires.b_live c.place.result c.place-2.result c.best_fine_place.result.0 c.place.ensures
-    c.place-2.ensures (c.best_fine_place.ensures.place (pair_planes_by p m log c.args.a c.args.b) stands)
+    c.place-2.ensures (c.best_fine_place.ensures.place
+    (pair_planes_by p m log c.args.a c.args.b) stands)
 
 pub returns-clause-cost : goal.returns-clause-cost
 returns-clause-cost c = λ p m log after goes.
@@ -59,11 +75,13 @@ returns-clause-cost c = λ p m log after goes.
     c.self.view_is (c.get.ensures no_quadrics) c.all-first.ensures in
     let two = sum_is t c.self.inside.vertices c.args.b c.get-2.result.now c.all.result
     c.self.view_is (c.get-2.ensures no_quadrics) c.all.ensures in
-    let stands = stands_pair p m log c.args.shrink.now t after goes c.args.a c.args.b c.requires.a_live
+    let stands = stands_pair p m log c.args.shrink.now t after goes c.args.a c.args.b
+    c.requires.a_live
     c.requires.b_live c.all-first.result c.all.result c.plus-both.result one two
     c.plus-both.ensures.sums in
     c.best_fine_place.ensures.value (pair_planes_by p m log c.args.a c.args.b) stands
     ∙ ap (squares_of (pair_planes_by p m log c.args.a c.args.b))
     (best_is p m log c.args.shrink.now t after goes c.args.a c.args.b c.requires.a_live
     c.requires.b_live c.place.result c.place-2.result c.best_fine_place.result.0 c.place.ensures
-    c.place-2.ensures (c.best_fine_place.ensures.place (pair_planes_by p m log c.args.a c.args.b) stands))
+    c.place-2.ensures (c.best_fine_place.ensures.place
+    (pair_planes_by p m log c.args.a c.args.b) stands))

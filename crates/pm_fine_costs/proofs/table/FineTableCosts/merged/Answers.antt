@@ -10,13 +10,15 @@ pub get-first-requires : goal.get-first-requires
 get-first-requires c =
     let (p, m, log, after, goes) = c.requires.known in
     let low = merged_in p m log c.args.entry.now c.args.shrink.now c.args.self.now after goes in
-    subst (λ (x : Slotted BothQuadrics). c.args.entry.now.t < length x.slots) (sym c.self.view_is) low.0
+    subst (λ (x : Slotted BothQuadrics). c.args.entry.now.t < length x.slots)
+    (sym c.self.view_is) low.0
 
 pub get-requires : goal.get-requires
 get-requires c =
     let (p, m, log, after, goes) = c.requires.known in
     let low = merged_in p m log c.args.entry.now c.args.shrink.now c.args.self.now after goes in
-    subst (λ (x : Slotted BothQuadrics). c.args.entry.now.u < length x.slots) (sym c.self.view_is) low.1.0
+    subst (λ (x : Slotted BothQuadrics). c.args.entry.now.u < length x.slots)
+    (sym c.self.view_is) low.1.0
 
 pub plus-brought-requires : goal.plus-brought-requires
 plus-brought-requires c =
@@ -43,21 +45,33 @@ pub put-requires-clause-a_in : goal.put-requires-clause-a_in
 put-requires-clause-a_in c =
     let (p, m, log, after, goes) = c.requires.known in
     let low = merged_in p m log c.args.entry.now c.args.shrink.now c.args.self.now after goes in
-    subst (λ (x : Slotted BothQuadrics). c.args.entry.now.t < length x.slots) (sym c.self.view_is) low.0
+    subst (λ (x : Slotted BothQuadrics). c.args.entry.now.t < length x.slots)
+    (sym c.self.view_is) low.0
 
 pub put-requires-clause-s_in : goal.put-requires-clause-s_in
 put-requires-clause-s_in c =
     let (p, m, log, after, goes) = c.requires.known in
     let low = merged_in p m log c.args.entry.now c.args.shrink.now c.args.self.now after goes in
-    subst (λ (x : Slotted BothQuadrics). c.args.entry.now.s < length x.slots) (sym c.self.view_is) low.1.1
+    subst (λ (x : Slotted BothQuadrics). c.args.entry.now.s < length x.slots)
+    (sym c.self.view_is) low.1.1
 
 pub returns : goal.returns
 returns c = record {
   goes_on = λ p m log after goes.
       let t = c.args.self.now in
-      let q : BothQuadrics = record { brought = c.plus-brought.result; taken = c.taken_at-taken.result } in
-      let inside : IsPut c.self.inside.vertices c.args.entry.now.t c.args.entry.now.s q c.put.new.self =
-      record { slots = c.put.ensures.slots; made = c.put.ensures.made; others = c.put.ensures.others } in
+      let q : BothQuadrics = record {
+        brought = c.plus-brought.result;
+        taken =
+            c.taken_at-taken.result;
+      } in
+      let inside : IsPut c.self.inside.vertices c.args.entry.now.t c.args.entry.now.s q
+      c.put.new.self =
+      record {
+        slots = c.put.ensures.slots;
+        made = c.put.ensures.made;
+        others =
+            c.put.ensures.others;
+      } in
       let put = subst (λ (x : Slotted BothQuadrics).
       IsPut x c.args.entry.now.t c.args.entry.now.s q c.put.new.self) c.self.view_is inside in
       let one = c.get-first.ensures no_quadrics
@@ -66,7 +80,8 @@ returns c = record {
       ∙ ap (λ (x : Slotted BothQuadrics). quadrics_at x c.args.entry.now.u) c.self.view_is in
       let sum = c.plus-brought.ensures.sums
       ∙ ap (λ (k : BothQuadrics). plus_sums k.brought c.get.result.now.brought) one
-      ∙ ap (λ (k : BothQuadrics). plus_sums (quadrics_at t c.args.entry.now.t).brought k.brought) two in
+      ∙ ap (λ (k : BothQuadrics). plus_sums (quadrics_at t c.args.entry.now.t).brought
+      k.brought) two in
       goes_more p m log c.args.entry.now c.args.shrink.now t after goes c.put.new.self q put sum
       c.taken_at-taken.ensures;
 }
