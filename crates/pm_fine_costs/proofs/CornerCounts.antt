@@ -1,27 +1,25 @@
 -- How many planes there are round a vertex: three for each of its faces at most.
-use Rattle.std.proofs.Common.{◌≡◌, ℕ, zero, suc, ◌+◌, ◌*◌, ◌/◌, ◌%◌, ◌<◌, ◌≤◌, Bool, true, false}
+use Rattle.std.proofs.Common.{◌≡◌, ℕ, zero, suc, ◌+◌, ◌*◌, ◌%◌, ◌≤◌, Bool, true}
 use Rattle.std.proofs.Common.{cond, eqb, ◌||◌, ◌&&◌, List, [], ◌∷◌, ◌++◌}
-use Rattle.std.proofs.Common.{length, length-append, take, get_or, map, Some, None, Option, inl}
-use Rattle.std.proofs.Common.{inr, refl, sym, ap, ◌∙◌, subst, arith}
-use Rattle.std.specs.List.{filter, flat_map, range_with_len}
-use Rattle.std.specs.Prelude.{unwrap_or}
+use Rattle.std.proofs.Common.{length, length-append, take, get_or, Some, inl}
+use Rattle.std.proofs.Common.{inr, refl, sym, ap, ◌∙◌, arith}
+use Rattle.std.specs.List.{filter, range_with_len}
 use Rattle.std.proofs.Math.Seq.{take-length}
 use Rattle.std.proofs.lemmas.Bool.{cases_Bool, cond-true, cond-false, and_parts, eqb-true, eq-eqb}
-use Rattle.std.proofs.lemmas.Bool.{or_left, or_right, both_ways}
-use Rattle.std.proofs.lemmas.List.{length-map, get_or-map}
+use Rattle.std.proofs.lemmas.Bool.{or_left, or_right}
+use Rattle.std.proofs.lemmas.List.{length-map}
 use Rattle.std.proofs.lemmas.List.Elements.{filter-append}
 use Rattle.std.proofs.lemmas.List.Filters.{length-filter_more}
 use Rattle.pm_base.specs.Counts.{count}
 use Rattle.pm_base.proofs.Counts.{count-zero, count-true, count-false, count_le}
 use Rattle.pm_base.proofs.Numbers.{numbers_next}
-use Rattle.pm_base.proofs.Sides.{next_cases, face_cases}
+use Rattle.pm_base.proofs.Sides.{face_cases}
 use Rattle.pm_base.proofs.TwinLaws.{stands-true}
 use Rattle.pm_base.specs.declared.mesh.Corners.{Corners}
 use Rattle.pm_base.specs.Geometry.{Direction}
 use Rattle.pm_base.specs.Meshes.{Mesh}
-use Rattle.pm_base.specs.Sides.{Net, Stands, side_count, stands, face_of, next, prev, corner_in}
+use Rattle.pm_base.specs.Sides.{Net, Stands, stands, face_of, corner_in}
 use Rattle.pm_base.specs.Sides.{no_corners}
-use Rattle.pm_quadric.specs.Planes.{Plane}
 use Rattle.pm_runs.specs.Planes.{planes_at, plane_of_face, has_corner}
 use Rattle.pm_runs.specs.Surfaces.{Surface, surface_of, net_of_surface}
 use Rattle.pm_shrink.proofs.AllFaces.{net_there}

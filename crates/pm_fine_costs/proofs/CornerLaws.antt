@@ -1,5 +1,5 @@
 -- The planes at a corner by places alone are those of the policy.
-use Rattle.std.proofs.Common.{◌≡◌, ℕ, cond, Option, Some, None, List, [], ◌∷◌, ◌++◌, refl, sym}
+use Rattle.std.proofs.Common.{◌≡◌, ℕ, cond, Option, Some, None, [], ◌∷◌, ◌++◌, refl}
 use Rattle.std.proofs.Common.{ap, ◌∙◌}
 use Rattle.std.specs.Prelude.{is_some, is_none}
 use Rattle.std.specs.Option.{option_map}
@@ -7,7 +7,7 @@ use Rattle.pm_base.specs.Place.{Place}
 use Rattle.pm_base.specs.Geometry.{Direction, cross_of}
 use Rattle.pm_base.specs.Sides.{Net, next, prev, to, third, twin_of}
 use Rattle.pm_base.proofs.Sides.{next-next-next}
-use Rattle.pm_quadric.specs.Planes.{Plane, plane_through}
+use Rattle.pm_quadric.specs.Planes.{plane_through}
 use Rattle.pm_runs.specs.Surfaces.{Surface, place_at, net_of_surface}
 use Rattle.pm_fine.specs.Normals.{border_normal_of, doubled}
 use Rattle.pm_fine_costs.specs.FinePolicy.{border_planes, corner_planes, face_plane, as_it_is}

@@ -1,20 +1,15 @@
 -- The corners round a vertex: which they are, each once, and how many.
-use Rattle.std.proofs.Common.{◌≡◌, ◌≢◌, ℕ, zero, suc, ◌+◌, ◌*◌, ◌/◌, ◌<◌, ◌≤◌, Bool, true, false}
-use Rattle.std.proofs.Common.{cond, ◌&&◌, eqb}
-use Rattle.std.proofs.Common.{List, [], ◌∷◌, ◌++◌, length, length-append, inl, inr, refl, sym, ap}
-use Rattle.std.proofs.Common.{◌∙◌, subst, arith}
+use Rattle.std.proofs.Common.{◌≡◌, ℕ, zero, suc, ◌+◌, ◌<◌, ◌≤◌, Bool, true}
+use Rattle.std.proofs.Common.{◌&&◌, eqb}
+use Rattle.std.proofs.Common.{List, [], ◌∷◌, inl, inr, sym, ap}
+use Rattle.std.proofs.Common.{◌∙◌, arith}
 use Rattle.std.specs.List.{filter, range_with_len}
 use Rattle.std.proofs.lemmas.Bool.{cases_Bool, cases_eq, or_cases, or_left, or_right, eqb-true}
-use Rattle.std.proofs.lemmas.Bool.{eq-eqb, ne_eqb}
+use Rattle.std.proofs.lemmas.Bool.{eq-eqb}
 use Rattle.std.proofs.lemmas.Bool.{and_parts, and_from, both_ways, false≢true, false_from_ne_true}
-use Rattle.std.proofs.lemmas.Bool.{cond-true, cond-false}
-use Rattle.pm_base.specs.Counts.{count}
-use Rattle.pm_base.proofs.Counts.{count-zero, count-true, count-false, count_le}
-use Rattle.pm_base.proofs.Numbers.{numbers_next}
 use Rattle.pm_base.proofs.TwinLaws.{stands-true, stands_is_true}
 use Rattle.pm_base.specs.Sides.{Net, Stands, side_count, stands}
 use Rattle.pm_links.specs.Lists.{has, IsOnce}
-use Rattle.pm_links.proofs.Members.{has_head, has_tail}
 use Rattle.pm_runs.specs.Surfaces.{Surface, net_of_surface}
 use Rattle.pm_shrink.specs.Shrinking.{AreCornersAt}
 use Rattle.pm_fine_costs.specs.FinePolicy.{corners_round}

@@ -11,7 +11,6 @@ use Rattle.pm_quadric.specs.Planes.{Plane}
 use Rattle.pm_quadric.specs.Sums.{Sums, plus_sums, sums_of, StandsFor}
 use Rattle.pm_quadric.proofs.QuadricLaws.{count_is, sums_joined}
 use Rattle.pm_runs.specs.Surfaces.{Surface, next_vertex, is_live, surface_of, collapsed, place_at}
-use Rattle.pm_runs.specs.Planes.{planes_at}
 use Rattle.pm_runs.specs.Counts.{live_count_of}
 use Rattle.pm_runs.specs.Runs.{IsStartOfRun, surface_after, IsStep, IsRun}
 use Rattle.pm_runs.proofs.Live.{live_below, next-after, new_live}
@@ -23,7 +22,7 @@ use Rattle.pm_fine.specs.Normals.{doubled}
 use Rattle.pm_policies.specs.Policies.{Policy, taken_after, brought_after, planes_by}
 use Rattle.pm_policies.specs.Policies.{pair_planes_by, place_by}
 use Rattle.pm_fine.specs.Fourth.{best_fine_place_of}
-use Rattle.pm_policies.specs.Bounds.{BringsAtMost, TakesAtMost, TakesByFaces}
+use Rattle.pm_policies.specs.Bounds.{BringsAtMost, TakesByFaces}
 use Rattle.pm_policies.specs.Laws.{AreFew}
 use Rattle.pm_policies.proofs.PlanesTaken.{planes_are_taken}
 use Rattle.pm_policies.proofs.PlaneCounts.{planes_are_few}

@@ -1,7 +1,7 @@
 -- The planes of the input's vertices, corner by corner.
 use Rattle.std.proofs.Common.{◌≡◌, ◌≢◌, ℕ, ◌+◌, ◌*◌, ◌<◌, ◌≤◌, Bool, true, false, eqb, ◌&&◌}
 use Rattle.std.proofs.Common.{Option, Some, None, List, [], ◌∷◌, ◌++◌}
-use Rattle.std.proofs.Common.{length, length-append, append-nil, get_or, set, get_or-set_same}
+use Rattle.std.proofs.Common.{length, append-nil, get_or, set, get_or-set_same}
 use Rattle.std.proofs.Common.{get_or-set_other, inl, inr, refl, sym, ap, ◌∙◌, subst, arith}
 use Rattle.std.specs.Prelude.{is_none}
 use Rattle.std.specs.Option.{option_map}
@@ -12,11 +12,10 @@ use Rattle.std.proofs.lemmas.List.{length-map}
 use Rattle.std.proofs.lemmas.List.Elements.{filter-append}
 use Rattle.std.proofs.lemmas.List.Sums.{length-filter, count_by-le-length}
 use Rattle.std.proofs.lemmas.List.FromFn.{length-range_with_len}
-use Rattle.pm_base.specs.declared.limits.TheConstants.{MOST_FACES}
 use Rattle.pm_base.specs.declared.ids.Side.{Side}
 use Rattle.pm_base.specs.Geometry.{Direction}
 use Rattle.pm_base.specs.Meshes.{Mesh, IsWellFormed}
-use Rattle.pm_base.specs.Sides.{Net, Stands, side_count, stands, net_of, prev, next, twin_of}
+use Rattle.pm_base.specs.Sides.{Net, Stands, side_count, stands, net_of, twin_of}
 use Rattle.pm_base.proofs.NetLaws.{mesh_side}
 use Rattle.pm_base.proofs.Numbers.{numbers_next}
 use Rattle.pm_base.proofs.SideNumbers.{none_numbered}
@@ -24,7 +23,7 @@ use Rattle.pm_base.proofs.TwinLaws.{stands_is_true}
 use Rattle.pm_quadric.specs.Planes.{Plane}
 use Rattle.pm_quadric.specs.Sums.{Sums, plus_sums, sums_of, StandsFor}
 use Rattle.pm_quadric.proofs.QuadricLaws.{count_is, sums_joined}
-use Rattle.pm_runs.specs.Surfaces.{Surface, surface_of, place_at, net_of_surface}
+use Rattle.pm_runs.specs.Surfaces.{Surface, surface_of, net_of_surface}
 use Rattle.pm_fine.specs.declared.fine_quadric.TheConstants.{MOST_FINE_PLANES}
 use Rattle.pm_fine.specs.Normals.{doubled}
 use Rattle.pm_shrink.proofs.AllFaces.{net_there}

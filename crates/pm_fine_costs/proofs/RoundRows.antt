@@ -1,10 +1,9 @@
 -- The rows worked by hand. Roots are those that their squares tell.
-use Rattle.std.proofs.Common.{◌≡◌, ℕ, ◌*◌, ◌^◌, List, [], ◌∷◌, refl, sym, ap, ◌∙◌, arith}
+use Rattle.std.proofs.Common.{◌≡◌, ℕ, ◌*◌, [], ◌∷◌, sym, ap, ◌∙◌, arith}
 use Rattle.std.specs.Prelude.{ℤ, pos, neg_ℤ}
 use Rattle.pm_base.specs.Geometry.{Direction}
-use Rattle.pm_base.specs.Place.{Place}
 use Rattle.pm_base.specs.Sides.{stands, next, twin_of}
-use Rattle.pm_quadric.specs.Planes.{Plane, plane_through}
+use Rattle.pm_quadric.specs.Planes.{plane_through}
 use Rattle.pm_runs.specs.Surfaces.{surface_of}
 use Rattle.pm_fine.specs.Normals.{area_normal_of, border_normal_of, doubled, scaled, product_of}
 use Rattle.pm_fine.specs.Normals.{way_of}

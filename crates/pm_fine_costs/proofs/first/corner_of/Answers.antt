@@ -1,4 +1,4 @@
-use Rattle.std.proofs.Common.{◌≡◌, ◌∙◌, ◌*◌, ◌<◌, ℕ, length, sym, ap, subst}
+use Rattle.std.proofs.Common.{◌∙◌, ◌*◌, ◌<◌, ℕ, length, sym, ap, subst}
 use Rattle.std.specs.Prelude.{is_none}
 use Rattle.pm_base.specs.Sides.{Net, next, twin_of}
 use Rattle.pm_base.proofs.Sides.{next-lt}

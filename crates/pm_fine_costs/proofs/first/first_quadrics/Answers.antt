@@ -1,12 +1,10 @@
-use Rattle.std.proofs.Common.{◌≡◌, ◌∙◌, ℕ, ◌*◌, ◌<◌, List, length, sym, ap, subst, arith}
+use Rattle.std.proofs.Common.{◌≡◌, ◌∙◌, ℕ, ◌*◌, ◌<◌, List, length, ap, arith}
 use Rattle.std.specs.Prelude.{slice_index_or}
 use Rattle.std.proofs.lemmas.List.{length-set}
 use Rattle.pm_base.specs.declared.mesh.Corners.{Corners}
 use Rattle.pm_base.specs.Meshes.{Mesh}
 use Rattle.pm_base.specs.Sides.{net_of}
 use Rattle.pm_base.proofs.NetLaws.{mesh_side}
-use Rattle.pm_quadric.specs.Sums.{StandsFor}
-use Rattle.pm_quadric.specs.Planes.{Plane}
 use Rattle.pm_quadric.specs.Sums.{sums_of}
 use Rattle.pm_fine.specs.Normals.{doubled}
 use Rattle.pm_fine_costs.specs.FinePolicy.{as_it_is}

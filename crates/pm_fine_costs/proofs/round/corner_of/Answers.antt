@@ -1,6 +1,4 @@
-use Rattle.std.proofs.Common.{◌∙◌, ap, sym, subst}
-use Rattle.pm_base.specs.Sides.{Net, Stands}
-use Rattle.pm_base.proofs.Sides.{stands_next}
+use Rattle.std.proofs.Common.{◌∙◌, ap}
 use Rattle.pm_runs.specs.Surfaces.{is_live}
 use Rattle.pm_runs.proofs.Live.{corner_live}
 use Rattle.pm_shrink.specs.Shrinking.{net_at}

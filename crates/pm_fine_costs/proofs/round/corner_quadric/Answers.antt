@@ -1,5 +1,4 @@
 use Rattle.std.proofs.Common.{◌∙◌, ap, sym}
-use Rattle.pm_base.specs.Place.{Place}
 use Rattle.pm_quadric.specs.Sums.{sums_of}
 use Rattle.pm_runs.specs.Surfaces.{Surface}
 use Rattle.pm_fine_costs.specs.declared.corner.Corner.{Corner}

@@ -1,5 +1,5 @@
-use Rattle.std.proofs.Common.{◌≡◌, ◌∙◌, ◌<◌, ◌+◌, ℕ, length, ap, sym, subst, arith}
-use Rattle.pm_quadric.specs.Sums.{Sums, plus_sums}
+use Rattle.std.proofs.Common.{◌∙◌, ◌<◌, length, ap, sym, subst, arith}
+use Rattle.pm_quadric.specs.Sums.{plus_sums}
 use Rattle.pm_slots.specs.Slots.{Slotted, IsPut}
 use Rattle.pm_fine_costs.specs.declared.pair.BothQuadrics.{BothQuadrics}
 use Rattle.pm_fine_costs.specs.FineCosts.{no_quadrics, quadrics_at}
