@@ -6,11 +6,12 @@ Of each crate's page, crates/NAME/README.md:
   steps) where the law is named; of a program each clause that `run` ensures;
 - what is written as `function`: `clause`, `clause` is there: the function has these clauses; so is
   `specs/File`: `word`, and `crate`: `word`;
-- each name in backquotes is a word of some crate's code, definitions or proofs, or a file's name;
-- a page of a crate has at most 8 KB.
+- each name in backquotes is a word of some crate's code, definitions or proofs, or a file's name.
 
-Of every page, each link to a file or to a heading of a page leads to one. The last line is
-`N pages are as told, M aren't`, and the status is 0 exactly where there is a page and none fails.
+Of every page, each link to a file or to a heading of a page leads to one, and a page has at most
+8 KB, but for those of users. README.md and all pages together have no more words than is told
+below; how many they have is said. The last line is `N pages are as told, M aren't`, and the status
+is 0 exactly where there is a page and none fails.
 """
 import re
 import sys
@@ -21,6 +22,9 @@ from sources import Crate, Function, crate_of, words_of
 
 TOP = Path(__file__).resolve().parent.parent
 MOST_BYTES = 8192
+# Pages for users, which may be longer.
+FOR_USERS = ("README.md", "docs/COMMANDS.md", "docs/FORMATS.md", "docs/GUIDE.md")
+MOST_WORDS_OF_README, MOST_WORDS = 1300, 45000
 # Pages whose backquoted names are of the code, beside those of the crates.
 OF_CODE = ("docs/PROMISES.md", "docs/DEFINITIONS.md", "docs/OVERVIEW.md")
 NAME = r"`[^`\n]+`"
@@ -38,7 +42,6 @@ class Known(NamedTuple):
     crates: Dict[str, Crate]
     words: Dict[str, Set[str]]
     every: Set[str]
-
 
 
 def known_at(top: Path) -> Known:
@@ -147,6 +150,31 @@ def slugs(text: str) -> Set[str]:
     return found
 
 
+def word_count(text: str) -> int:
+    """How many of the pieces between blanks have a letter or a digit."""
+    return sum(any(letter.isalnum() for letter in piece) for piece in text.split())
+
+
+def words_at(top: Path) -> Dict[str, int]:
+    """How many words each page has."""
+    names = [*pages_of_crates(top), *pages_at(top)]
+    return {name: word_count((top / name).read_text(encoding="utf-8")) for name in names}
+
+
+def too_many_words(words: Dict[str, int]) -> Iterator[Tuple[str, str]]:
+    """README.md and all pages together, where they have more words than they may."""
+    both = (
+        ("README.md", words.get("README.md", 0), MOST_WORDS_OF_README),
+        ("all pages", sum(words.values()), MOST_WORDS),
+    )
+    yield from ((name, f"{n} words are more than {most}") for name, n, most in both if n > most)
+
+
+def too_many_bytes(text: str) -> Iterator[str]:
+    if len(text.encode()) > MOST_BYTES:
+        yield f"{len(text.encode())} bytes are more than {MOST_BYTES}"
+
+
 def wrong_links(page: Path) -> Iterator[str]:
     text = page.read_text(encoding="utf-8")
     for target in (link or picture for link, picture in LINK.findall(text)):
@@ -170,8 +198,7 @@ def faults_of_crate(folder: Path, known: Known) -> List[str]:
     found += wrong_citations(text, known, folder.name)
     found += missing_files(text, folder)
     found += unknown_names(text, known.every)
-    if len(whole.encode()) > MOST_BYTES:
-        found.append(f"{len(whole.encode())} bytes are more than {MOST_BYTES}")
+    found += too_many_bytes(whole)
     return found + list(wrong_links(page))
 
 
@@ -181,12 +208,18 @@ def faults_of_page(page: Path, name: str, known: Known) -> List[str]:
     if name in OF_CODE:
         found += wrong_citations(plain(text), known, "")
         found += unknown_names(plain(text), known.every)
+    if name not in FOR_USERS:
+        found += too_many_bytes(text)
     return found
+
+
+def pages_of_crates(top: Path) -> List[str]:
+    return sorted(str(path.relative_to(top)) for path in top.glob("crates/*/README.md"))
 
 
 def pages_at(top: Path) -> List[str]:
     """The pages that are no crate's."""
-    found = [*top.glob("*.md"), *top.glob("docs/*.md"), *top.glob("tests/*.md")]
+    found = [*top.glob("*.md"), *top.glob("*/*.md")]
     return sorted(str(path.relative_to(top)) for path in found)
 
 
@@ -197,6 +230,8 @@ def told_of(top: Path) -> Iterator[Tuple[str, List[str]]]:
         yield f"crates/{name}/README.md", faults_of_crate(top / "crates" / name, known)
     for name in pages_at(top):
         yield name, faults_of_page(top / name, name, known)
+    for name, fault in too_many_words(words_at(top)):
+        yield name, [fault]
 
 
 def main(top: Path = TOP) -> int:
@@ -205,6 +240,8 @@ def main(top: Path = TOP) -> int:
         right, wrong = right + (not faults), wrong + bool(faults)
         for fault in dict.fromkeys(faults):
             print(f"{page}: {fault}")
+    words = words_at(top)
+    print(f"{sum(words.values())} words, {words.get('README.md', 0)} of them in README.md")
     print(f"{right} pages are as told, {wrong} aren't")
     return 0 if right and not wrong else 1
 

@@ -157,12 +157,33 @@ class Pages(unittest.TestCase):
         headings = "## `prepare` and `prepare SIZE`\n# 13. A window\n"
         self.assertEqual(pages.slugs(headings), {"prepare-and-prepare-size", "13-a-window"})
 
+    def test_a_word_has_a_letter_or_a_digit(self) -> None:
+        self.assertEqual(pages.word_count("| `a` | - | 2 / 3 |\n|---|\n\n    $ l'été (b)"), 5)
+
+    def test_too_many_words_are_told(self) -> None:
+        rows = [
+            ({"README.md": 1300, "docs/A.md": 43700}, []),
+            ({"README.md": 1301}, [("README.md", "1301 words are more than 1300")]),
+            ({"docs/A.md": 45000, "b.md": 1}, [("all pages", "45001 words are more than 45000")]),
+        ]
+        for words, wanted in rows:
+            self.assertEqual(list(pages.too_many_words(words)), wanted)
+        self.assertIn(
+            "README.md: 1302 words are more than 1300",
+            faults({"README.md": "a - " * 1302}),
+        )
+
+    def test_a_page_for_users_may_be_longer(self) -> None:
+        files = {"docs/GUIDE.md": 9000 * "x", "docs/SPEED.md": 9000 * "x"}
+        self.assertEqual(faults(files), ["docs/SPEED.md: 9000 bytes are more than 8192"])
+
     def test_the_pages_are_counted(self) -> None:
         said = io.StringIO()
         with tempfile.TemporaryDirectory() as room, contextlib.redirect_stdout(said):
             top = made(Path(room), crate(PAGE.replace("`place`", "it")))
             status = pages.main(top)
-        self.assertEqual(said.getvalue().splitlines()[-1], "1 pages are as told, 1 aren't")
+        last = ["21 words, 3 of them in README.md", "1 pages are as told, 1 aren't"]
+        self.assertEqual(said.getvalue().splitlines()[-2:], last)
         self.assertEqual(status, 1)
 
 
