@@ -4,7 +4,7 @@
     rows        the cases of tests/cases, by tests/run.py
     tools       the tests of the tools and of these tests: tools/test_*.py and tests/test_*.py
     random      random cases, compared with a plain model, by tests/random_cases.py
-    documents   the names and links of all pages, by tests/pages.py, and the commands that they
+    documents   names, links and length of all pages, by tests/pages.py, and the commands that they
                 print, by tools/try_document.py
 
 Each part tells how many passed and failed. What can't be run here is said aloud. The last line is
