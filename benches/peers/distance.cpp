@@ -1,9 +1,10 @@
 // How far two meshes are from one another: ONE.obj OTHER.obj SAMPLES
 //
 // Prints the mean, the root mean square and the greatest distance from places of the first to the
-// second, and then the other way. Places are all corners of faces, each once, and SAMPLES more that
-// are spread evenly by area: the same in each run. A distance is to the nearest place of the other
-// mesh's faces, found by a tree of boxes.
+// second, and then the other way. Places are SAMPLES that are spread evenly by area, the same in
+// each run, and the corners of the faces, which count for the greatest alone, since they stand
+// close where a mesh is fine. A distance is to the nearest place of the other mesh's faces, found
+// by a tree of boxes.
 #include <algorithm>
 #include <cmath>
 #include <limits>
@@ -127,38 +128,48 @@ private:
     }
 };
 
-// The corners of the faces, and as many places as asked for on them.
-static std::vector<Place> places(const Mesh &mesh, size_t samples) {
+static std::vector<Place> corners(const Mesh &mesh) {
     std::vector<Place> found;
     std::vector<bool> used(mesh.points.size());
-    std::vector<double> areas;
-    double total = 0;
     for (const Face &f : mesh.faces) {
         for (const unsigned corner : f) {
             if (!used[corner]) {
-                used[corner] = true;
                 found.push_back(mesh.points[corner]);
             }
+            used[corner] = true;
         }
+    }
+    return found;
+}
+
+// The areas of the faces up to each, doubled.
+static std::vector<double> areas_up_to(const Mesh &mesh) {
+    std::vector<double> areas;
+    double total = 0;
+    for (const Face &f : mesh.faces) {
         const Place &a = mesh.points[f[0]];
         const Place normal = cross(minus(mesh.points[f[1]], a), minus(mesh.points[f[2]], a));
         areas.push_back(total += std::sqrt(dot(normal, normal)));
     }
+    return areas;
+}
+
+// Places on the faces: one at random in each of as many equal parts of the area.
+static std::vector<Place> spread(const Mesh &mesh, size_t samples) {
+    const std::vector<double> areas = areas_up_to(mesh);
     std::mt19937_64 chance(1);
     const auto random = [&chance] { return (chance() >> 11) * 0x1p-53; };
+    std::vector<Place> found;
     for (size_t i = 0; i < samples; ++i) {
-        const double at = total * (i + random()) / samples;
+        const double at = areas.back() * (i + random()) / samples;
         const size_t face = std::upper_bound(areas.begin(), areas.end() - 1, at) - areas.begin();
-        double u = random(), v = random();
-        if (u > v) {
-            std::swap(u, v);
-        }
-        Place p = {0, 0, 0};
-        const double weights[3] = {u, v - u, 1 - v};
+        const double one = random(), other = random();
+        const double u = std::min(one, other), v = std::max(one, other);
+        const Face &f = mesh.faces[face];
+        const Place &a = mesh.points[f[0]], &b = mesh.points[f[1]], &c = mesh.points[f[2]];
+        Place p;
         for (int k = 0; k < 3; ++k) {
-            for (int j = 0; j < 3; ++j) {
-                p[j] += weights[k] * mesh.points[mesh.faces[face][k]][j];
-            }
+            p[k] = u * a[k] + (v - u) * b[k] + (1 - v) * c[k];
         }
         found.push_back(p);
     }
@@ -168,14 +179,17 @@ static std::vector<Place> places(const Mesh &mesh, size_t samples) {
 static void tell(const Mesh &from, const Mesh &to, size_t samples) {
     const Tree tree(to);
     double sum = 0, squares = 0, greatest = 0;
-    const std::vector<Place> all = places(from, samples);
-    for (const Place &p : all) {
+    for (const Place &p : spread(from, samples)) {
         const double squared = tree.squared_way(p);
         squares += squared;
         sum += std::sqrt(squared);
-        greatest = std::max(greatest, std::sqrt(squared));
+        greatest = std::max(greatest, squared);
     }
-    std::printf("%.6f %.6f %.6f\n", sum / all.size(), std::sqrt(squares / all.size()), greatest);
+    for (const Place &p : corners(from)) {
+        greatest = std::max(greatest, tree.squared_way(p));
+    }
+    const double count = double(samples);
+    std::printf("%.6f %.6f %.6f\n", sum / count, std::sqrt(squares / count), std::sqrt(greatest));
 }
 
 int main(int, char **words) {

@@ -1,9 +1,10 @@
 #!/usr/bin/env bash
-# Makes the pictures of this folder anew: bash docs/pictures/make.sh [PROGRAM]
-# PROGRAM is ./vdpm unless another is named.
+# Makes the pictures of this folder anew: bash docs/pictures/make.sh [PROGRAM [SIMPLIFY]]
+# They are ./vdpm and ./simplify unless others are named.
 set -euo pipefail
 cd "$(dirname "${BASH_SOURCE[0]}")/../.."
 vdpm=${1:-./vdpm}
+simplify=${2:-./simplify}
 work=$(mktemp -d)
 trap 'rm -r "$work"' EXIT
 "$vdpm" build 0 --digits 1 < examples/asteroid.obj > "$work/asteroid.vdpm"
@@ -29,6 +30,7 @@ python3 benches/terrain.py 60 sea | "$vdpm" build 0 > "$work/sea.vdpm"
 for line in v vd; do
     printf '%s 0 -30000 14000 600 12\nw\n' "$line" | cat "$work/sea.vdpm" - | "$vdpm" live 4000
 done | python3 tools/frames_to_svg.py docs/pictures/flat --width 640 --from 0 -3 1.6
+bash docs/pictures/simplified.sh "$vdpm" "$simplify"
 python3 docs/pictures/split.py
 python3 docs/pictures/crates.py
 # This needs a Chromium.
