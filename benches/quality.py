@@ -1,4 +1,4 @@
-"""How near simplified meshes stay to their input, by `vdpm build`, by `simplify` and by other libraries:
+"""How near simplified meshes stay to their input, by `vdpm build`, `simplify` and other libraries:
 
     python3 benches/quality.py [MODEL..] [--shares 10 1 0.1] [--by NAME..] [--room FOLDER]
 
@@ -6,8 +6,8 @@ A MODEL is KIND:SIZE of benches/meshes.py, terrain:CELLS of benches/terrain.py, 
 `vdpm canon` takes, as `prepare` writes it. Each is simplified to these shares of its faces, in per
 cent. A row has the mean, the root mean square and the greatest distance from the input to what was
 made of it (`out`) and from that to the input (`back`), in units of the grid, by benches/peers/
-distance.cpp: over all corners and --samples more places, spread evenly by area. Samples don't show
-what lies between them: the greatest distance is no bound.
+distance.cpp: over --samples places that are spread evenly by area, and for the greatest over all
+corners, too. Samples don't show what lies between them: the greatest distance is no bound.
 
 Seconds are processor time of the whole program, which reads an OBJ text and writes what it made,
 and MB its peak; a peak below that of this script, some 15 MB, isn't seen. What is made by `build`
@@ -135,11 +135,12 @@ def base_mesh(vdpm: Path, stream: Path) -> Path:
     """The mesh from which the stream begins, as an OBJ text."""
     script = stream.with_suffix(".script")
     written(script, lambda: stream.read_bytes() + b"w\nq\n")
-    with open(script, "rb") as given:
-        view = subprocess.Popen([vdpm, "view", "0"], stdin=given, stdout=subprocess.PIPE)
     draw = [sys.executable, str(TOP / "tools" / "frames_to_obj.py"), str(stream)]
-    subprocess.run(draw, stdin=view.stdout, stdout=subprocess.DEVNULL, check=True)
-    if view.wait():
+    look = [vdpm, "view", "0"]
+    with open(script, "rb") as given:
+        with subprocess.Popen(look, stdin=given, stdout=subprocess.PIPE) as view:
+            subprocess.run(draw, stdin=view.stdout, stdout=subprocess.DEVNULL, check=True)
+    if view.returncode:
         sys.exit(f"quality: {stream} can't be viewed")
     return stream.with_name(f"{stream.name}-1.obj")
 
@@ -170,8 +171,12 @@ def number(value: float) -> str:
     return f"{value:.2f}"
 
 
+def place_of(room: Path, model: str) -> Path:
+    return room / f"{Path(model).stem.replace(':', '_')}.obj"
+
+
 def rows(asked: argparse.Namespace, room: Path, model: str, share: float) -> None:
-    obj = room / f"{Path(model).stem.replace(':', '_')}.obj"
+    obj = place_of(room, model)
     whole = count_of_faces(obj)
     target = max(4, int(whole * share / 100))
     for name, words in asked.commands.items():
@@ -196,7 +201,7 @@ def text_of(model: str) -> bytes:
 
 def put(asked: argparse.Namespace, room: Path, model: str) -> None:
     """Writes the model's canonical text into the room."""
-    obj = room / f"{Path(model).stem.replace(':', '_')}.obj"
+    obj = place_of(room, model)
     given = written(obj.with_suffix(".given"), lambda: text_of(model))
     with open(given, "rb") as source, open(obj, "wb") as target:
         done = subprocess.run([asked.vdpm, "canon"], stdin=source, stdout=target, check=False)

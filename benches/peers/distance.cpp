@@ -52,7 +52,7 @@ static double squared_to_triangle(const Place &p, const Triangle &t) {
     return above * above / dot(normal, normal);
 }
 
-// Triangles in boxes, each parted in halves along its longest axis. Box i has the parts 2i and 2i+1.
+// Triangles in boxes, each parted in halves along its longest axis. Box i has parts 2i and 2i + 1.
 class Tree {
 public:
     explicit Tree(const Mesh &mesh) {
@@ -102,7 +102,9 @@ private:
         }
         const Place size = minus(high, low);
         const size_t axis = std::max_element(size.begin(), size.end()) - size.begin();
-        const auto middle = [axis](const Triangle &t) { return t[0][axis] + t[1][axis] + t[2][axis]; };
+        const auto middle = [axis](const Triangle &t) {
+            return t[0][axis] + t[1][axis] + t[2][axis];
+        };
         const size_t half = (first + last) / 2;
         std::nth_element(
             triangles.begin() + first, triangles.begin() + half, triangles.begin() + last,

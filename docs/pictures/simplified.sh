@@ -1,7 +1,7 @@
 #!/usr/bin/env bash
-# Draws an open terrain of 45,000 faces at 450, by `build` and by `simplify`, as simplified-1.svg and
-# simplified-2.svg: bash docs/pictures/simplified.sh [VDPM SIMPLIFY]
-# Both are drawn by one camera, and a face that is turned away is red.
+# Draws an open terrain of 45,000 faces at 450, by `build` and by `simplify`, as simplified-1.svg
+# and simplified-2.svg: bash docs/pictures/simplified.sh [VDPM SIMPLIFY]
+# Both are drawn by one camera.
 set -euo pipefail
 cd "$(dirname "${BASH_SOURCE[0]}")/../.."
 vdpm=${1:-./vdpm} simplify=${2:-./simplify}
