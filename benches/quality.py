@@ -32,7 +32,7 @@ HERE = Path(__file__).resolve().parent
 TOP = HERE.parent
 PEERS = HERE / "peers"
 DEBIAN_PYTHON = "/usr/bin/python3"  # the one that sees the packages of Debian
-MODELS = ["sphere:100", "block:60", "towers:100", "terrain:150"]
+MODELS = ["sphere:71", "block:50", "towers:100", "terrain:100"]
 NOTHING = "/dev/null"
 
 
