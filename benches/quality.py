@@ -181,8 +181,12 @@ def rows(asked: argparse.Namespace, room: Path, model: str, share: float) -> Non
     target = max(4, int(whole * share / 100))
     for name, words in asked.commands.items():
         made = made_by(asked, name, words, obj, target)
+        left = count_of_faces(made.obj)
+        if left == 0:
+            say(f"{name} left no face of {obj.stem} at {share:g} per cent")
+            continue
         out, back = distances(asked.distance, obj, made.obj, asked.samples)
-        cells = [f"{obj.stem}, {whole:,}", f"{share:g}", name, f"{count_of_faces(made.obj):,}"]
+        cells = [f"{obj.stem}, {whole:,}", f"{share:g}", name, f"{left:,}"]
         cells += [" / ".join(map(number, out)), " / ".join(map(number, back))]
         cells += [f"{made.cost.seconds:.2f}", f"{made.cost.memory:.0f}"]
         print(f"| {' | '.join(cells)} |", flush=True)
