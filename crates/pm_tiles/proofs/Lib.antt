@@ -6,5 +6,5 @@ pub mod RenamedBorders
 pub mod InputBorders
 pub mod SparedLeaves
 pub mod SparedBorders
-pub mod KeptBorders
+pub mod ShownBorders
 pub mod Flags

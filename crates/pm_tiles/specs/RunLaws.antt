@@ -5,13 +5,12 @@ use Rattle.pm_base.specs.Sides.{net_of, IsBorder}
 use Rattle.pm_base.specs.declared.log.Collapse.{Collapse}
 use Rattle.pm_runs.specs.Runs.{IsStartOfRun, IsRun}
 use Rattle.pm_runs.specs.Counts.{IsSpared}
-use Rattle.pm_keeping.specs.Keeping.{IsRunKeeping}
 use Rattle.pm_forest.specs.Rules.{HasShape}
 use Rattle.pm_beyond.specs.Moves.{IsClosed}
 use Rattle.pm_number.specs.Stages.{run_of}
 use Rattle.pm_number.specs.Numbering.{leaf_number, hierarchy_of_run}
 use Rattle.pm_tiles.specs.Fixed.{IsFixed, HasFixedBorder}
-use Rattle.pm_tiles.specs.Borders.{KeepsBorder, ShowsBorder}
+use Rattle.pm_tiles.specs.Borders.{ShowsBorder}
 
 -- A vertex of the mesh that no collapse takes is a fixed leaf.
 abbrev pub SparedVerticesAreFixed : Type 0
@@ -30,17 +29,10 @@ SparedBordersAreFixed =
     (m : Mesh) → IsStartOfRun m → (log : List Collapse) → IsRun m log → SparesBorder m log →
     HasFixedBorder (hierarchy_of_run m log)
 
--- A run that keeps the border's vertices gives such a hierarchy.
-abbrev pub KeptBordersAreFixed : Type 0
-KeptBordersAreFixed =
-    (kept : ℕ → Bool) (m : Mesh) → IsStartOfRun m → KeepsBorder kept m → (target : ℕ) →
-    (log : List Collapse) → IsRunKeeping kept m target log →
-    HasFixedBorder (hierarchy_of_run m log)
-
--- So every closed front of the hierarchy of a run that keeps the vertices on the border shows the
--- border of the mesh that the run began with: its sides, each between the same places, no other.
-abbrev pub KeptBordersAreShown : Type 0
-KeptBordersAreShown =
-    (kept : ℕ → Bool) (m : Mesh) → IsStartOfRun m → KeepsBorder kept m → (target : ℕ) →
-    (log : List Collapse) → IsRunKeeping kept m target log → let h = hierarchy_of_run m log in
+-- So every closed front of such a hierarchy shows the border of the mesh that the run began with:
+-- its sides, each between the same places, no other.
+abbrev pub SparedBordersAreShown : Type 0
+SparedBordersAreShown =
+    (m : Mesh) → IsStartOfRun m → (log : List Collapse) → IsRun m log → SparesBorder m log →
+    let h = hierarchy_of_run m log in
     HasShape h → (T : ℕ → Bool) → IsClosed h T → ShowsBorder h T m

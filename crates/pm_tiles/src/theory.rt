@@ -9,8 +9,7 @@ ghost use Rattle.pm_tiles.specs.Laws.{
 ghost use Rattle.pm_tiles.specs.RunLaws.{
   SparedVerticesAreFixed,
   SparedBordersAreFixed,
-  KeptBordersAreFixed,
-  KeptBordersAreShown,
+  SparedBordersAreShown,
 };
 
 /// States the laws of fixed leaves and fixed borders: every front shows them as they are. It does
@@ -24,10 +23,9 @@ pub fn fixed_borders_are_sound()
 {}
 
 /// States what the hierarchy of a run has for the vertices that no collapse takes, and for a
-/// border whose vertices the run keeps. It does nothing, and callers cite its clauses.
+/// border that has no others. It does nothing, and callers cite its clauses.
 pub fn spared_vertices_are_sound()
     ensures vertices { SparedVerticesAreFixed }
     ensures borders { SparedBordersAreFixed }
-    ensures kept { KeptBordersAreFixed }
-    ensures shown { KeptBordersAreShown }
+    ensures shown { SparedBordersAreShown }
 {}
