@@ -21,11 +21,7 @@ use pm_twins::Surface;
 use std::alloc::Global;
 
 // The hierarchy of a surface's run to a number of faces.
-pub(crate) fn simplified(
-    alloc: Global,
-    surface: Surface,
-    target: u32,
-) -> Result<Hierarchy, OutOfMemory>
+fn simplified(alloc: Global, surface: Surface, target: u32) -> Result<Hierarchy, OutOfMemory>
     ensures simplified { IfOk result (IsSimplified surface target) }
     ensures firm { IfOk result IsFirm }
     ensures mesh { IfOk result (λ h. input_mesh_of h ≡ surface) }

@@ -4,42 +4,40 @@ ghost use Rattle.std.specs.Prelude.{◌≡◌, ◌≤◌, false, None, Ok, IfOk,
 ghost use Rattle.pm_io.specs.Bytes.{AtEnd};
 ghost use Rattle.pm_forest.specs.Meshes.{input_mesh_of};
 ghost use Rattle.pm_firm.specs.Firm.{IsFirm};
+ghost use Rattle.pm_keeping.specs.Keeping.{kept_in};
 ghost use Rattle.pm_commands.specs.Input.{Stops};
 ghost use Rattle.pm_commands.specs.Surface.{IsSurfaceRead};
-ghost use Rattle.pm_commands.specs.Simplified.{IsSimplifiedInside, IsSimplifiedWith, IsSimplifiedText};
+ghost use Rattle.pm_commands.specs.Simplified.{IsKeptWith, IsSimplifiedWith, IsSimplifiedText};
 ghost use Rattle.pm_commands.specs.Outcome.{GivesMeshBack};
 ghost use Rattle.pm_commands.specs.Frames.{ShowsSurfacesOf};
 ghost use Rattle.pm_commands.specs.Borders.{FramesShowBorder};
 ghost use Rattle.pm_commands.specs.Ending.{Ends, Counts};
 
 use crate::asked::{Asked, Border};
-use crate::build::simplified;
 use crate::fault::{CommandFail, InputFail};
 use crate::surface::read_surface;
+use pm_fine_costs::simplify_fine;
 use pm_forest::Hierarchy;
 use pm_format::encode;
 use pm_io::{Sink, Source};
 use pm_number::{OutOfMemory, from_log};
-use pm_simplify::simplify_keeping;
 use pm_tiles::border_flags;
 use pm_twins::Surface;
 use std::alloc::Global;
 
-// The hierarchy of a surface's run to a number of faces that keeps the vertices on its border.
-fn simplified_inside(alloc: Global, surface: Surface, target: u32) -> Result<Hierarchy, OutOfMemory>
-    ensures simplified { IfOk result (IsSimplifiedInside surface target) }
-    ensures firm { IfOk result IsFirm }
-    ensures mesh { IfOk result (λ h. input_mesh_of h ≡ surface) }
+// Flags of the vertices to keep: none where the border is free.
+#[tactic(auto, using(crate::proofs::SimplifiedLaws::free_keeps, crate::proofs::SimplifiedLaws::kept_keeps))]
+fn kept_flags(alloc: Global, surface: &Surface, border: Border) -> Result<Vec<bool>, OutOfMemory>
+    ensures keeps { IfOk result (λ flags. IsKeptWith border surface.now (kept_in flags.items)) }
 {
     surface.invariant();
-    let mesh = surface.mesh().copy(alloc)?;
-    let kept = border_flags(alloc, &surface)?;
-    let log = simplify_keeping(alloc, surface, &kept, target)?;
-    from_log(alloc, &mesh, &log)
+    match border {
+        Border::Free => Ok(Vec::new_in(alloc)),
+        Border::Kept => border_flags(alloc, surface),
+    }
 }
 
 // The hierarchy of a surface's run to a number of faces, with its border free or kept.
-#[tactic(auto, using(crate::proofs::SimplifiedLaws::free_made, crate::proofs::SimplifiedLaws::kept_made))]
 fn simplified_with(
     alloc: Global,
     surface: Surface,
@@ -50,10 +48,11 @@ fn simplified_with(
     ensures firm { IfOk result IsFirm }
     ensures mesh { IfOk result (λ h. input_mesh_of h ≡ surface) }
 {
-    match border {
-        Border::Free => simplified(alloc, surface, target),
-        Border::Kept => simplified_inside(alloc, surface, target),
-    }
+    surface.invariant();
+    let mesh = surface.mesh().copy(alloc)?;
+    let kept = kept_flags(alloc, &surface, border)?;
+    let log = simplify_fine(alloc, surface, &kept, target)?;
+    from_log(alloc, &mesh, &log)
 }
 
 // Reads an OBJ text, and simplifies its mesh to a number of faces.
