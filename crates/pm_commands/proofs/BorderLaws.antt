@@ -1,9 +1,8 @@
--- The flags of a border keep exactly its vertices, and a border that was kept is shown by every frame.
-use Rattle.std.proofs.Common.{◌≡◌, ℕ, ◌≤◌, Bool, true, false, List, length, slice_index_or, Option, Some, None, IfSome}
-use Rattle.std.proofs.Common.{Result, Ok, Err, IfOk, inl, inr, refl, sym, ◌∙◌, ap, subst, arith}
+-- The flags of a border keep exactly its vertices, those of none keep none, and a border that was kept is shown by every frame.
+use Rattle.std.proofs.Common.{◌≡◌, ℕ, ◌≤◌, Bool, true, false, List, [], length, slice_index_or, Option, Some, None, IfSome}
+use Rattle.std.proofs.Common.{Result, Ok, inl, inr, refl, sym, ◌∙◌, ap, subst, arith}
 use Rattle.std.proofs.lemmas.Bool.{cases_lt, both_ways}
 use Rattle.std.proofs.lemmas.List.{get_or_past}
-use Rattle.pm_base.specs.declared.log.Collapse.{Collapse}
 use Rattle.pm_base.specs.Meshes.{Mesh, IsWellFormed}
 use Rattle.pm_base.specs.Sides.{net_of}
 use Rattle.pm_io.specs.Bytes.{Gains}
@@ -13,19 +12,23 @@ use Rattle.pm_forest.specs.Rules.{HasShape}
 use Rattle.pm_beyond.specs.Moves.{IsClosed}
 use Rattle.pm_firm.specs.Firm.{IsFirm}
 use Rattle.pm_runs.specs.Runs.{IsStartOfRun}
-use Rattle.pm_keeping.specs.Keeping.{kept_in, IsRunKeeping}
+use Rattle.pm_keeping.specs.Keeping.{kept_in}
+use Rattle.pm_policies.proofs.OneRun.{one_run_by_a_policy}
+use Rattle.pm_fine_costs.specs.FinePolicy.{fine_keeping}
 use Rattle.pm_number.specs.Numbering.{hierarchy_of_run}
 use Rattle.pm_session.specs.Script.{at_first}
 use Rattle.pm_session.specs.Serving.{played}
 use Rattle.pm_format.specs.Stream.{stream}
-use Rattle.pm_tiles.specs.Borders.{ShowsBorder, KeepsBorder}
+use Rattle.pm_tiles.specs.Borders.{ShowsBorder}
+use Rattle.pm_tiles.specs.RunLaws.{SparesBorder}
 use Rattle.pm_tiles.proofs.Flags.{keeps_border}
-use Rattle.pm_tiles.proofs.KeptBorders.{kept_shown}
+use Rattle.pm_tiles.proofs.ShownBorders.{spared_shown}
+use Rattle.pm_commands.specs.declared.asked.Border.{Border}
 use Rattle.pm_commands.specs.declared.asked.Border.TheVariants as borders
 use Rattle.pm_commands.specs.declared.fault.Fault.{Fault}
 use Rattle.pm_commands.specs.Surface.{IsSurfaceRead}
 use Rattle.pm_commands.specs.Build.{IsMadeOf, no_surface, made}
-use Rattle.pm_commands.specs.Simplified.{IsKeptBorder, IsSimplifiedInside, IsSimplifiedWith, IsSimplifiedText}
+use Rattle.pm_commands.specs.Simplified.{IsKeptWith, IsSimplifiedWith, IsSimplifiedText}
 use Rattle.pm_commands.specs.Frames.{ShowsSurfacesOf}
 use Rattle.pm_commands.specs.Borders.{FramesShowBorder}
 use Rattle.pm_commands.proofs.BuildLaws.{one_made}
@@ -33,12 +36,21 @@ use Rattle.pm_commands.proofs.SimplifiedLaws.{one_simplified_with}
 use Rattle.pm_commands.proofs.SomeOutcomes.{surface_starts}
 use Rattle.pm_commands.proofs.FrameLaws.{scripts_closed, none_closed, shows_surfaces}
 
--- A flag is set of border vertices alone, since those past the list aren't kept.
-flags_keep :
-    (m : Mesh) (flags : List Bool) → IsWellFormed m →
-    IsBorderOf (net_of m.faces) (length m.points) flags → IsKeptBorder m (kept_in flags)
+-- No flag, no vertex.
+pub free_keeps :
+    (border : Border) (m : Mesh) (flags : List Bool) → border ≡ borders.Free → flags ≡ [] →
+    IsKeptWith border m (kept_in flags)
 unfolding kept_in
-flags_keep m flags formed is v = (
+free_keeps borders.Free m flags is none v = ap (λ (l : List Bool). slice_index_or l v false) none ∙ get_or_past [] v false (omega arith)
+free_keeps borders.Kept m flags is none = absurd (cc is)
+
+-- A flag is set of border vertices alone, since those past the list aren't kept.
+pub kept_keeps :
+    (border : Border) (m : Mesh) (flags : List Bool) → border ≡ borders.Kept → IsWellFormed m →
+    IsBorderOf (net_of m.faces) (length m.points) flags → IsKeptWith border m (kept_in flags)
+unfolding kept_in
+kept_keeps borders.Free m flags kept formed is = absurd (cc kept)
+kept_keeps borders.Kept m flags kept formed is v = (
   λ set.
       elim (cases_lt v (length m.points)) [
         | inl l ↦ (is.each v l).0 set
@@ -50,32 +62,16 @@ flags_keep m flags formed is v = (
   λ on. keeps_border m flags formed is v on,
 )
 
--- The hierarchy of the run that keeps these flags.
-pub inside_of :
-    {E : Type 0} (n m : Mesh) (slice flags : List Bool) (target : ℕ) (log : List Collapse) (r : Result Hierarchy E) →
-    n ≡ m → IsWellFormed m → slice ≡ flags → IsBorderOf (net_of m.faces) (length m.points) flags →
-    IsRunKeeping (kept_in slice) m target log → IfOk r (λ h. h ≡ hierarchy_of_run n log) →
-    IfOk r (IsSimplifiedInside m target)
-inside_of n m slice flags target log (Ok h) same formed all border run is = record {
-  kept = kept_in slice;
-  border =
-      flags_keep m slice formed
-      (subst (λ (l : List Bool). IsBorderOf (net_of m.faces) (length m.points) l) (sym all) border);
-  log = log;
-  run = run;
-  made = is ∙ ap (λ (k : Mesh). hierarchy_of_run k log) same;
-}
-inside_of n m slice flags target log (Err e) same formed all border run is = tt
-
-inside_shows :
-    (m : Mesh) → IsStartOfRun m → (target : ℕ) (h : Hierarchy) → IsSimplifiedInside m target h → IsFirm h →
+border_made :
+    (m : Mesh) → IsStartOfRun m → (target : ℕ) (h : Hierarchy) → IsSimplifiedWith borders.Kept m target h → IsFirm h →
     (T : ℕ → Bool) → IsClosed h T → ShowsBorder h T m
-inside_shows m start target h is firm T closed =
+border_made m start target h is firm T closed =
     let shape : HasShape (hierarchy_of_run m is.log) = subst HasShape is.made firm.valid.shape in
     let same : IsClosed (hierarchy_of_run m is.log) T = subst (λ (g : Hierarchy). IsClosed g T) is.made closed in
-    let keeps : KeepsBorder is.kept m = λ v on. (is.border v).1 on in
+    let known = one_run_by_a_policy (fine_keeping is.kept) m target is.log is.run in
+    let spares : SparesBorder m is.log = λ v on. known.spared v ((is.keeps v).1 on) in
     subst (λ (g : Hierarchy). ShowsBorder g T m) (sym is.made)
-    (kept_shown is.kept m start keeps target is.log is.run shape T same)
+    (spared_shown m start is.log known.run spares shape T same)
 
 -- A hierarchy that is made of a text is made of its mesh.
 made_of :
@@ -108,9 +104,9 @@ border_shown target digits bytes old new h is firm shown =
       m = m;
       read = read;
       frames = λ grammar budget front.
-          inside_shows m start target shown.h makes whole (played shown.h grammar (at_first budget) front).state.split
+          border_made m start target shown.h makes whole (played shown.h grammar (at_first budget) front).state.split
           (scripts_closed shown.h whole.valid grammar (at_first budget) (none_closed shown.h) front).0;
-      fronts = λ T closed. inside_shows m start target shown.h makes whole T closed;
+      fronts = λ T closed. border_made m start target shown.h makes whole T closed;
     }
 
 pub shows_border :

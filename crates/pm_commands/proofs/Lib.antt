@@ -2,7 +2,7 @@ pub mod SurfaceLaws
 pub mod BeginningLaws
 pub mod ReadingLaws
 pub mod BuildLaws
-pub mod SomeKeepingRuns
+pub mod SomePolicyRuns
 pub mod SimplifiedLaws
 pub mod FrameLaws
 pub mod OutcomeLaws

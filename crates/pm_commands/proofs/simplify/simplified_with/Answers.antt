@@ -2,9 +2,9 @@ use Rattle.std.proofs.Common.{◌≡◌, ◌∙◌, IfOk, sym, subst}
 use Rattle.pm_base.specs.Meshes.{Mesh, mesh_of}
 use Rattle.pm_forest.specs.Meshes.{input_mesh_of}
 use Rattle.pm_runs.specs.Runs.{IsStartOfRun, IsRun}
-use Rattle.pm_keeping.proofs.OneRun.{one_run_keeping}
-use Rattle.pm_commands.proofs.BorderLaws.{inside_of}
-use Rattle.pm_commands.proofs.simplify.simplified_inside.Goals as goal
+use Rattle.pm_policies.proofs.OneRun.{one_run_by_a_policy}
+use Rattle.pm_commands.proofs.SimplifiedLaws.{made_with}
+use Rattle.pm_commands.proofs.simplify.simplified_with.Goals as goal
 
 pub from_log-requires-clause-start : goal.from_log-requires-clause-start
 from_log-requires-clause-start c =
@@ -15,13 +15,13 @@ from_log-requires-clause-start c =
 pub from_log-requires-clause-run : goal.from_log-requires-clause-run
 from_log-requires-clause-run c =
     let same : mesh_of c.in_ok-mesh.mesh ≡ c.args.surface = c.in_ok-mesh.ensures ∙ c.mesh.ensures in
-    let known = one_run_keeping _ c.args.surface c.args.target c.in_ok-log.log.items c.in_ok-log.ensures.run in
+    let known = one_run_by_a_policy _ c.args.surface c.args.target c.in_ok-log.log.items c.in_ok-log.ensures.run in
     subst (λ (m : Mesh). IsRun m c.in_ok-log.log.items) (sym same) known.run
 
 pub returns-clause-simplified : goal.returns-clause-simplified
 returns-clause-simplified c =
-    inside_of (mesh_of c.in_ok-mesh.mesh) c.args.surface _ c.in_ok-kept.kept.items c.args.target c.in_ok-log.log.items c.from_log.result (c.in_ok-mesh.ensures ∙ c.mesh.ensures) c.invariant.ensures.formed
-    c.deref.ensures.value c.in_ok-kept.ensures.border c.in_ok-log.ensures.run c.from_log.ensures.hierarchy
+    made_with c.args.border (mesh_of c.in_ok-mesh.mesh) c.args.surface _ c.in_ok-kept.kept.items c.args.target c.in_ok-log.log.items c.from_log.result (c.in_ok-mesh.ensures ∙ c.mesh.ensures)
+    c.deref.ensures.value c.in_ok-kept.ensures.keeps c.in_ok-log.ensures.run c.from_log.ensures.hierarchy
 
 pub returns-clause-mesh : goal.returns-clause-mesh
 returns-clause-mesh c =
