@@ -1,10 +1,10 @@
 -- The flags of a border keep exactly its vertices, those of none keep none, and a border that was kept is shown by every frame.
-use Rattle.std.proofs.Common.{◌≡◌, ℕ, ◌≤◌, Bool, true, false, List, [], length, slice_index_or, Option, Some, None, IfSome}
+use Rattle.std.proofs.Common.{◌≡◌, ◌↔◌, ℕ, ◌≤◌, Bool, true, false, List, [], length, slice_index_or, Option, Some, None, IfSome}
 use Rattle.std.proofs.Common.{Result, Ok, inl, inr, refl, sym, ◌∙◌, ap, subst, arith}
 use Rattle.std.proofs.lemmas.Bool.{cases_lt, both_ways}
 use Rattle.std.proofs.lemmas.List.{get_or_past}
 use Rattle.pm_base.specs.Meshes.{Mesh, IsWellFormed}
-use Rattle.pm_base.specs.Sides.{net_of}
+use Rattle.pm_base.specs.Sides.{net_of, IsBorder}
 use Rattle.pm_io.specs.Bytes.{Gains}
 use Rattle.pm_twins.specs.Table.{IsBorderOf}
 use Rattle.pm_forest.specs.Forest.{Hierarchy}
@@ -41,16 +41,16 @@ pub free_keeps :
     (border : Border) (m : Mesh) (flags : List Bool) → border ≡ borders.Free → flags ≡ [] →
     IsKeptWith border m (kept_in flags)
 unfolding kept_in
-free_keeps borders.Free m flags is none v = ap (λ (l : List Bool). slice_index_or l v false) none ∙ get_or_past [] v false (omega arith)
+free_keeps borders.Free m flags is none = λ v.
+    ap (λ (l : List Bool). slice_index_or l v false) none ∙ get_or_past [] v false (omega arith)
 free_keeps borders.Kept m flags is none = absurd (cc is)
 
 -- A flag is set of border vertices alone, since those past the list aren't kept.
-pub kept_keeps :
-    (border : Border) (m : Mesh) (flags : List Bool) → border ≡ borders.Kept → IsWellFormed m →
-    IsBorderOf (net_of m.faces) (length m.points) flags → IsKeptWith border m (kept_in flags)
+flags_keep :
+    (m : Mesh) (flags : List Bool) → IsWellFormed m → IsBorderOf (net_of m.faces) (length m.points) flags →
+    (v : ℕ) → (kept_in flags v ≡ true) ↔ IsBorder (net_of m.faces) v
 unfolding kept_in
-kept_keeps borders.Free m flags kept formed is = absurd (cc kept)
-kept_keeps borders.Kept m flags kept formed is v = (
+flags_keep m flags formed is v = (
   λ set.
       elim (cases_lt v (length m.points)) [
         | inl l ↦ (is.each v l).0 set
@@ -61,6 +61,12 @@ kept_keeps borders.Kept m flags kept formed is v = (
       ],
   λ on. keeps_border m flags formed is v on,
 )
+
+pub kept_keeps :
+    (border : Border) (m : Mesh) (flags : List Bool) → border ≡ borders.Kept → IsWellFormed m →
+    IsBorderOf (net_of m.faces) (length m.points) flags → IsKeptWith border m (kept_in flags)
+kept_keeps borders.Free m flags kept formed is = absurd (cc kept)
+kept_keeps borders.Kept m flags kept formed is = flags_keep m flags formed is
 
 border_made :
     (m : Mesh) → IsStartOfRun m → (target : ℕ) (h : Hierarchy) → IsSimplifiedWith borders.Kept m target h → IsFirm h →

@@ -26,7 +26,6 @@ use pm_twins::Surface;
 use std::alloc::Global;
 
 // Flags of the vertices to keep: none where the border is free.
-#[tactic(auto, using(crate::proofs::BorderLaws::free_keeps, crate::proofs::BorderLaws::kept_keeps))]
 fn kept_flags(alloc: Global, surface: &Surface, border: Border) -> Result<Vec<bool>, OutOfMemory>
     ensures keeps { IfOk result (λ flags. IsKeptWith border surface.now (kept_in flags.items)) }
 {
