@@ -66,12 +66,12 @@ def build_case(rng: Random) -> Case:
 
 
 def simplify_case(rng: Random) -> Case:
-    """Mostly with the border kept, since without that it is what `build` does."""
+    """With the border kept or free."""
     digits, mesh = random_digits(rng), random_mesh(rng)
     target = rng.choice([0, 0, 1, rng.randint(0, 60), 4_294_967_295])
     words = [] if target == 0 and rng.random() < 0.5 else [str(target)]
     words += [] if digits == 0 and rng.random() < 0.5 else ["--digits", str(digits)]
-    words += ["--keep-border"] if rng.random() < 0.8 else []
+    words += ["--keep-border"] if rng.random() < 0.5 else []
     return Case("simplify", words, random_text(rng, mesh, digits))
 
 

@@ -8,6 +8,7 @@ with `prepare` and `simplify`.
     mesh       points, faces, sides, twins, fans, the canonical text
     obj        what an OBJ text means
     run        the run of the builder
+    fine       what the run of `simplify` goes by
     hierarchy  roots, records, nodes; the hierarchy of a run
     stream     the stream text and its faults
     front      split records, kept faces, what stands beyond a side, legal moves

@@ -3,6 +3,7 @@ import re
 from typing import List, Optional, Type
 
 from .faults import Answer, Fault, failed, not_understood
+from .fine import FINE
 from .front import Shown, judge_hierarchy
 from .hierarchy import Hierarchy, hierarchy_of_run, input_mesh
 from .mesh import Corners, Mesh, Point, canonical_text
@@ -153,7 +154,7 @@ def answer(words: List[str], data: bytes) -> Answer:
 
 def simplify(text: bytes, target: int, digits: int, keeps_border: bool) -> Answer:
     mesh = surface_of_text(text, digits)
-    log = run_to(mesh, target, border_of(mesh) if keeps_border else set())
+    log = run_to(mesh, target, border_of(mesh) if keeps_border else set(), FINE)
     return Answer(0, stream_text(hierarchy_of_run(mesh, log), digits), "")
 
 

@@ -1,6 +1,6 @@
 """The run of the builder: the least legal pair is collapsed, again and again, of those that have no
-kept vertex. All pairs are looked at anew each time."""
-from typing import Collection, Dict, List, NamedTuple, Optional, Set, Tuple
+kept vertex. A policy says what costs go by. All pairs are looked at anew each time."""
+from typing import Callable, Collection, Dict, List, NamedTuple, Optional, Set, Tuple
 
 from .mesh import (
     Corners,
@@ -40,30 +40,58 @@ class Collapse(NamedTuple):
     right: Optional[Gone]
 
 
+Places = Dict[int, Point]
+
+
+class Policy(NamedTuple):
+    """What a run goes by: the planes that an input vertex brings, those that a vertex takes of the
+    surface in which it is first there, and the places that a pair may take."""
+
+    brought: Callable[[Faces, Places, int], List[Plane]]
+    taken: Callable[[Faces, Places, int], List[Plane]]
+    candidates: Callable[[List[Plane], Point, Point], List[Point]]
+
+
 class Surface(NamedTuple):
-    """A mesh that is being simplified: the faces that are left, and the places and planes of the
-    vertices that are left. A new vertex has the number `next_vertex`."""
+    """A mesh that is being simplified: the faces that are left, and the places of the vertices that
+    are left, with the planes that they were brought and that they took. A new vertex has the number
+    `next_vertex`."""
 
     faces: Faces
-    places: Dict[int, Point]
+    places: Places
     planes: Dict[int, List[Plane]]
+    taken: Dict[int, List[Plane]]
     next_vertex: int
+    policy: Policy
 
 
-def plane_of(points: List[Point], face: Corners) -> Plane:
-    a, b, c = [points[corner] for corner in face]
-    n = normal(a, b, c)
-    return n, -dot(n, a)
+def plane_through(n: Point, p: Point) -> Plane:
+    return n, -dot(n, p)
 
 
-def surface_of(mesh: Mesh) -> Surface:
-    """Each vertex begins with the planes of its faces."""
-    planes = {
-        vertex: [plane_of(mesh.points, face) for face in mesh.faces if vertex in face]
-        for vertex in range(len(mesh.points))
-    }
-    places = dict(enumerate(mesh.points))
-    return Surface(numbered(mesh.faces), places, planes, len(mesh.points))
+def planes_of_faces(faces: Faces, places: Places, vertex: int) -> List[Plane]:
+    """The planes of the faces at a vertex."""
+    corners = [[places[corner] for corner in face] for face in holding(faces, vertex)]
+    return [plane_through(normal(a, b, c), a) for a, b, c in corners]
+
+
+def midpoint(p: Point, q: Point) -> Point:
+    return ((p[0] + q[0]) // 2, (p[1] + q[1]) // 2, (p[2] + q[2]) // 2)
+
+
+# The run of `build`: planes are brought and none is taken, and the place is an end or the midpoint.
+PLAIN = Policy(
+    planes_of_faces,
+    lambda faces, places, vertex: [],
+    lambda planes, p, q: [p, q, midpoint(p, q)],
+)
+
+
+def surface_of(mesh: Mesh, policy: Policy = PLAIN) -> Surface:
+    faces, places = numbered(mesh.faces), dict(enumerate(mesh.points))
+    brought = {v: policy.brought(faces, places, v) for v in places}
+    taken = {v: policy.taken(faces, places, v) for v in places}
+    return Surface(faces, places, brought, taken, len(mesh.points), policy)
 
 
 def squares(planes: List[Plane], place: Point) -> int:
@@ -72,12 +100,11 @@ def squares(planes: List[Plane], place: Point) -> int:
 
 
 def best_place(surface: Surface, a: int, b: int) -> Tuple[int, Point]:
-    """The cost and the place of a pair: the first of both places and their midpoint, rounded down,
-    at which the planes of both have the least sum of squares."""
-    p, q = surface.places[a], surface.places[b]
-    middle = ((p[0] + q[0]) // 2, (p[1] + q[1]) // 2, (p[2] + q[2]) // 2)
-    planes = surface.planes[a] + surface.planes[b]
-    costs = [(squares(planes, place), i, place) for i, place in enumerate((p, q, middle))]
+    """The cost and the place of a pair: the first candidate at which the planes of both have the
+    least sum of squares."""
+    planes = surface.taken[a] + surface.planes[a] + surface.taken[b] + surface.planes[b]
+    places = surface.policy.candidates(planes, surface.places[a], surface.places[b])
+    costs = [(squares(planes, place), i, place) for i, place in enumerate(places)]
     cost, _, place = min(costs)
     return cost, place
 
@@ -173,8 +200,10 @@ def collapsed(surface: Surface, t: int, u: int, place: Point) -> Tuple[Surface, 
     faces = {f: (a, b, c) for f, (a, b, c) in renamed.items() if len({a, b, c}) == 3}
     places = {v: p for v, p in surface.places.items() if v not in (t, u)}
     planes = {v: list(ps) for v, ps in surface.planes.items() if v not in (t, u)}
+    taken = {v: list(ps) for v, ps in surface.taken.items() if v not in (t, u)}
     places[s], planes[s] = place, surface.planes[t] + surface.planes[u]
-    return Surface(faces, places, planes, s + 1), entry
+    taken[s] = surface.policy.taken(faces, places, s)
+    return Surface(faces, places, planes, taken, s + 1, surface.policy), entry
 
 
 def border_of(mesh: Mesh) -> Set[int]:
@@ -183,10 +212,12 @@ def border_of(mesh: Mesh) -> Set[int]:
     return {vertex for side in border_sides(faces) for vertex in ends(faces, side)}
 
 
-def run_to(mesh: Mesh, target: int, kept: Collection[int] = ()) -> List[Collapse]:
+def run_to(
+    mesh: Mesh, target: int, kept: Collection[int] = (), policy: Policy = PLAIN
+) -> List[Collapse]:
     """The log of the run: while more faces than the target are left and a pair without a kept
     vertex is legal, the least one is collapsed."""
-    surface, log = surface_of(mesh), []
+    surface, log = surface_of(mesh, policy), []
     while len(surface.faces) > target:
         pair = least_pair(surface, kept)
         if pair is None:
