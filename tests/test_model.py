@@ -7,6 +7,7 @@ from typing import List
 
 from model import answer
 from model.bounds import all_bounds
+from model.fine import FINE, fourth_candidate
 from model.hierarchy import hierarchy_of_run
 from model.mesh import Mesh, distance_up
 from model.run import best_place, border_of, run_to, squares, surface_of
@@ -155,6 +156,29 @@ class Building(unittest.TestCase):
         lines = output("demo 2", b"").decode().splitlines()
         self.assertEqual(lines[0], "grid 2 vertices 9 faces 8")
         self.assertEqual(lines[2].split("active")[1], lines[4].split("active")[1])
+
+
+class Simplifying(unittest.TestCase):
+    def test_planes_round_a_vertex_weigh_by_area_and_hold_the_border(self) -> None:
+        surface = surface_of(Mesh([(0, 0, 0), (4, 0, 0), (0, 4, 0)], [(0, 1, 2)]), FINE)
+        normals = [(0, 0, 256), (0, -1408, 0), (-1408, 0, 0)]
+        self.assertEqual(surface.planes[0], [(n, 0) for n in normals])
+        twice = [((0, 0, 512), 0), ((0, -2816, 0), 0), ((-2816, 0, 0), 0)]
+        self.assertEqual(surface.taken[0], twice)
+
+    def test_a_fourth_candidate_is_where_planes_meet(self) -> None:
+        t, u = (0, 0, 0), (4, 0, 4)
+        meeting = [((1, 0, 0), -2), ((0, 1, 0), 1), ((3, 0, 1), -9)]
+        self.assertEqual(fourth_candidate(meeting, t, u), (2, -1, 3))
+        self.assertIsNone(fourth_candidate([meeting[0], meeting[2]], t, u))
+        for height, place in ((9, (2, 9, 2)), (10, None)):
+            planes = [((1, 0, 0), -2), ((0, 1, 0), -height), ((0, 0, 1), -2)]
+            self.assertEqual(fourth_candidate(planes, t, u), place)
+
+    def test_the_least_pairs_of_the_octahedron_by_these_planes(self) -> None:
+        log = run_to(octahedron(), 0, (), FINE)
+        pairs = [(0, 2, (50, 50, 0)), (4, 6, (22, 22, 62))]
+        self.assertEqual([(entry.t, entry.u, entry.place) for entry in log], pairs)
 
 
 class Streams(unittest.TestCase):
