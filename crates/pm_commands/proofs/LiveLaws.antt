@@ -1,5 +1,5 @@
 -- What `view` does without a fault, `live` does too.
-use Rattle.std.proofs.Common.{◌≡◌, refl, ℕ, List, length, Option, Some, None, Result, Ok, Err, sym, ap, ◌∙◌}
+use Rattle.std.proofs.Common.{◌≡◌, refl, ℕ, length, Option, Some, None, Result, Ok, Err, sym, ap, ◌∙◌}
 use Rattle.std.specs.Option.{option_map}
 use Rattle.pm_session.specs.declared.command.ScriptFault.{ScriptFault}
 use Rattle.pm_session.specs.declared.grammar.Grammar.{Grammar}
