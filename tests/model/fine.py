@@ -1,6 +1,6 @@
-"""The policy of `simplify`: planes weigh by the area of their faces, planes on the border hold it, a
-vertex takes the planes round it when it is made, and a fourth candidate is near where the planes of
-a pair have the least sum of squares."""
+"""The policy of `simplify`: planes weigh by the area of their faces, planes on the border hold it,
+a vertex takes the planes round it when it is made, and a fourth candidate is near where the planes
+of a pair have the least sum of squares."""
 from math import isqrt
 from typing import List, Optional, Tuple
 

@@ -1,5 +1,7 @@
--- The flags of a border keep exactly its vertices, those of none keep none, and a border that was kept is shown by every frame.
-use Rattle.std.proofs.Common.{◌≡◌, ◌↔◌, ℕ, ◌≤◌, Bool, true, false, List, [], length, slice_index_or, Option, Some, None, IfSome}
+-- The flags of a border keep exactly its vertices, no flags keep none, and a border that was kept is
+-- shown by every frame.
+use Rattle.std.proofs.Common.{◌≡◌, ◌↔◌, ℕ, ◌≤◌, Bool, true, false, List, [], length, slice_index_or}
+use Rattle.std.proofs.Common.{Option, Some, None, IfSome}
 use Rattle.std.proofs.Common.{Result, Ok, inl, inr, refl, sym, ◌∙◌, ap, subst, arith}
 use Rattle.std.proofs.lemmas.Bool.{cases_lt, both_ways}
 use Rattle.std.proofs.lemmas.List.{get_or_past}
@@ -47,7 +49,8 @@ free_keeps borders.Kept m flags is none = absurd (cc is)
 
 -- A flag is set of border vertices alone, since those past the list aren't kept.
 flags_keep :
-    (m : Mesh) (flags : List Bool) → IsWellFormed m → IsBorderOf (net_of m.faces) (length m.points) flags →
+    (m : Mesh) (flags : List Bool) → IsWellFormed m →
+    IsBorderOf (net_of m.faces) (length m.points) flags →
     (v : ℕ) → (kept_in flags v ≡ true) ↔ IsBorder (net_of m.faces) v
 unfolding kept_in
 flags_keep m flags formed is v = (
@@ -69,11 +72,13 @@ kept_keeps borders.Free m flags kept formed is = absurd (cc kept)
 kept_keeps borders.Kept m flags kept formed is = flags_keep m flags formed is
 
 border_made :
-    (m : Mesh) → IsStartOfRun m → (target : ℕ) (h : Hierarchy) → IsSimplifiedWith borders.Kept m target h → IsFirm h →
-    (T : ℕ → Bool) → IsClosed h T → ShowsBorder h T m
+    (m : Mesh) → IsStartOfRun m → (target : ℕ) (h : Hierarchy) →
+    IsSimplifiedWith borders.Kept m target h → IsFirm h → (T : ℕ → Bool) → IsClosed h T →
+    ShowsBorder h T m
 border_made m start target h is firm T closed =
     let shape : HasShape (hierarchy_of_run m is.log) = subst HasShape is.made firm.valid.shape in
-    let same : IsClosed (hierarchy_of_run m is.log) T = subst (λ (g : Hierarchy). IsClosed g T) is.made closed in
+    let same : IsClosed (hierarchy_of_run m is.log) T =
+    subst (λ (g : Hierarchy). IsClosed g T) is.made closed in
     let known = one_run_by_a_policy (fine_keeping is.kept) m target is.log is.run in
     let spares : SparesBorder m is.log = λ v on. known.spared v ((is.keeps v).1 on) in
     subst (λ (g : Hierarchy). ShowsBorder g T m) (sym is.made)
@@ -110,7 +115,8 @@ border_shown target digits bytes old new h is firm shown =
       m = m;
       read = read;
       frames = λ grammar budget front.
-          border_made m start target shown.h makes whole (played shown.h grammar (at_first budget) front).state.split
+          border_made m start target shown.h makes whole
+          (played shown.h grammar (at_first budget) front).state.split
           (scripts_closed shown.h whole.valid grammar (at_first budget) (none_closed shown.h) front).0;
       fronts = λ T closed. border_made m start target shown.h makes whole T closed;
     }

@@ -30,7 +30,8 @@ same_flag false true one other = one.1 (other.0 refl)
 same_flag false false one other = refl
 
 one_kept :
-    (border : Border) (m : Mesh) (f g : ℕ → Bool) → IsKeptWith border m f → IsKeptWith border m g → f ≡ g
+    (border : Border) (m : Mesh) (f g : ℕ → Bool) → IsKeptWith border m f →
+    IsKeptWith border m g → f ≡ g
 one_kept borders.Free m f g one other = λ j v. (one v ∙ sym (other v)) j
 one_kept borders.Kept m f g one other = λ j v. same_flag (f v) (g v) (one v) (other v) j
 
@@ -57,7 +58,8 @@ one_simplified_with border m target h g is are =
     let same = one_kept border m is.kept are.kept is.keeps are.keeps in
     let run : IsRunBy (fine_keeping are.kept) m target is.log =
     subst (λ k. IsRunBy (fine_keeping k) m target is.log) same is.run in
-    let log = (one_run_by_a_policy (fine_keeping are.kept) m target are.log are.run).one is.log run in
+    let known = one_run_by_a_policy (fine_keeping are.kept) m target are.log are.run in
+    let log = known.one is.log run in
     is.made ∙ ap (λ (l : List Collapse). hierarchy_of_run m l) log ∙ sym are.made
 
 pub some_simplified : (m : Mesh) → IsStartOfRun m → (target : ℕ) → (h : Hierarchy) × IsSimplified m target h
@@ -77,8 +79,8 @@ some_simplified_with border m start target =
 
 -- The hierarchy of the run that keeps these vertices.
 pub made_with :
-    {E : Type 0} (border : Border) (n m : Mesh) (slice flags : List Bool) (target : ℕ) (log : List Collapse)
-    (r : Result Hierarchy E) → n ≡ m → slice ≡ flags → IsKeptWith border m (kept_in flags) →
+    {E : Type 0} (border : Border) (n m : Mesh) (slice flags : List Bool) (target : ℕ)
+    (log : List Collapse) (r : Result Hierarchy E) → n ≡ m → slice ≡ flags → IsKeptWith border m (kept_in flags) →
     IsRunBy (fine_keeping (kept_in slice)) m target log → IfOk r (λ h. h ≡ hierarchy_of_run n log) →
     IfOk r (IsSimplifiedWith border m target)
 made_with border n m slice flags target log (Ok h) same all keeps run is = record {

@@ -1,6 +1,7 @@
--- Each mesh that may be simplified has a run by each policy to each target: as long as some pair may be collapsed, one of
--- them is the least.
-use Rattle.std.proofs.Common.{◌≡◌, ℕ, None, slice_index_or, ◌<◌, true, false, Bool, List, inl, inr, refl, sym, ap}
+-- Each mesh that may be simplified has a run by each policy to each target: as long as some pair may
+-- be collapsed, one of them is the least.
+use Rattle.std.proofs.Common.{◌≡◌, ℕ, None, slice_index_or, ◌<◌, true, false, Bool, List}
+use Rattle.std.proofs.Common.{inl, inr, refl, sym, ap}
 use Rattle.std.proofs.lemmas.Bool.{false≢true}
 use Rattle.pm_base.specs.declared.log.Collapse.{Collapse}
 use Rattle.pm_base.specs.Meshes.{Mesh}
@@ -35,7 +36,8 @@ module _ (p : Policy) (m : Mesh) (start : IsStartOfRun m) where
       ]
 
   key_names :
-      (log : List Collapse) (a b c d : ℕ) → key_by p m log a b ≡ key_by p m log c d → (a ≡ c) × (b ≡ d)
+      (log : List Collapse) (a b c d : ℕ) → key_by p m log a b ≡ key_by p m log c d →
+      (a ≡ c) × (b ≡ d)
   key_names log a b c d is = (ap (λ (k : Key). k.a) is, ap (λ (k : Key). k.b) is)
 
   live_below : (s : Surface) (v : ℕ) → is_live s v ≡ true → v < next_vertex s
@@ -46,11 +48,19 @@ module _ (p : Policy) (m : Mesh) (start : IsStartOfRun m) where
   least? : (log : List Collapse) → IsRun m log → HasLeastBy p m log
   least? log run =
       let s = surface_after m log in
-      let below : (c d : ℕ) → IsCandidateBy p m log c d → (c < next_vertex s) × (d < next_vertex s) = λ c d is.
+      let n = next_vertex s in
+      let below : (c d : ℕ) → IsCandidateBy p m log c d → (c < n) × (d < n) = λ c d is.
       let live = joined_live s (run-sound m start log run) c d is.legal.joined in
       (live_below s c live.0, live_below s d live.1) in
-      elim (least_pair (IsCandidateBy p m log) (candidate? log run) (key_by p m log) (key_names log) (next_vertex s) (next_vertex s)) [
-        | inl x ↦ inl (x.a, x.b, record { candidate = x.is; least = λ c d is. x.least c d (below c d is) is })
+      let found =
+      least_pair (IsCandidateBy p m log) (candidate? log run) (key_by p m log) (key_names log) n n in
+      elim found [
+        | inl x ↦
+            inl (
+              x.a,
+              x.b,
+              record { candidate = x.is; least = λ c d is. x.least c d (below c d is) is },
+            )
         | inr none ↦ inr (λ c d is. none c d (below c d is) is)
       ]
 
