@@ -6,3 +6,4 @@ pub mod CutLaws
 pub mod PieceLaws
 pub mod Worked
 pub mod Shown
+pub mod RecutLaws

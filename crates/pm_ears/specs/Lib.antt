@@ -2,5 +2,6 @@ pub mod Areas
 pub mod Planes
 pub mod Ears
 pub mod Cutting
+pub mod Recutting
 pub mod Counted
 pub mod Laws

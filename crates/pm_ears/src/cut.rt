@@ -1,6 +1,6 @@
 //! A polygon cut into triangles.
-ghost use Rattle.std.specs.Prelude.{◌≤◌, length, IfOk};
-ghost use Rattle.pm_base.specs.declared.limits.TheConstants.{MOST_VERTICES};
+ghost use Rattle.std.specs.Prelude.{◌≤◌, ◌+◌, length, IfOk};
+ghost use Rattle.pm_base.specs.declared.limits.TheConstants.{MOST_FACES};
 ghost use Rattle.pm_ears.specs.Cutting.{IsCutOf};
 
 use crate::OutOfMemory;
@@ -46,7 +46,7 @@ pub struct Cut {
 ///
 /// O(n) for n corners where ears aren't looked for, else O(n^2).
 pub fn cut_polygon(alloc: Global, places: &[Point]) -> Result<Cut, OutOfMemory>
-    requires few { length places.now ≤ MOST_VERTICES }
+    requires few { length places.now ≤ MOST_FACES + 2 }
     ensures { IfOk result (IsCutOf places.now) }
 {
     let spots = spots(alloc, largest_plane(places), places)?;

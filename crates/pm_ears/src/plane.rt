@@ -1,6 +1,6 @@
 //! The plane of two axes on which a polygon shows its largest area.
 ghost use Rattle.std.specs.Prelude.{◌≡◌, ◌+◌, ◌*◌, ◌<◌, ◌≤◌, ◌^◌, ◌+ℤ◌, length, slice_index_or, unsigned_abs, IfOk};
-ghost use Rattle.pm_base.specs.declared.limits.TheConstants.{MOST_VERTICES};
+ghost use Rattle.pm_base.specs.declared.limits.TheConstants.{MOST_FACES};
 ghost use Rattle.pm_ears.specs.Areas.{nowhere, cross_of, along};
 ghost use Rattle.pm_ears.specs.Planes.{across as across_of, spot_of, spots_on, newell, facing as facing_of, largest_of, plane_of};
 
@@ -74,7 +74,7 @@ fn spot_at(plane: Plane, position: u32, point: Point) -> Spot
 
 // Twice the signed area of the triangle of the middle and two corners.
 fn cross_at(plane: Plane, points: &[Point], p: usize, q: usize) -> i64
-    requires few { length points.now ≤ MOST_VERTICES }
+    requires few { length points.now ≤ MOST_FACES + 2 }
     requires p { p < length points.now }
     requires q { q < length points.now }
     ensures value { result ≡ cross_of (slice_index_or (spots_on plane 0 points.now) p nowhere)
@@ -89,7 +89,7 @@ fn cross_at(plane: Plane, points: &[Point], p: usize, q: usize) -> i64
 
 // Where the corners stand on a plane.
 pub(crate) fn spots(alloc: Global, plane: Plane, points: &[Point]) -> Result<Vec<Spot>, OutOfMemory>
-    requires { length points.now ≤ MOST_VERTICES }
+    requires { length points.now ≤ MOST_FACES + 2 }
     ensures { IfOk result (λ spots. spots.items ≡ spots_on plane 0 points.now) }
 {
     let mut spots = Vec::with_capacity(alloc, points.len())?;
@@ -111,7 +111,7 @@ fn add(sum: i64, area: i64) -> i64
 
 // Twice the signed area of what a path over all corners sees from the middle.
 fn area_along(plane: Plane, points: &[Point]) -> i64
-    requires { length points.now ≤ MOST_VERTICES }
+    requires { length points.now ≤ MOST_FACES + 2 }
     ensures value { result ≡ along (spots_on plane 0 points.now) }
     ensures small { unsigned_abs result ≤ 2 ^ 52 }
 {
@@ -124,7 +124,7 @@ fn area_along(plane: Plane, points: &[Point]) -> i64
 
 // Twice the signed area of a polygon as it is seen along an axis.
 fn area_within(across: Axis, points: &[Point]) -> i64
-    requires { length points.now ≤ MOST_VERTICES }
+    requires { length points.now ≤ MOST_FACES + 2 }
     ensures { result ≡ newell across points.now }
 {
     let plane = Plane {
@@ -164,7 +164,7 @@ fn largest(x: i64, y: i64, z: i64) -> Plane
 
 // The plane on which a polygon is cut.
 pub(crate) fn largest_plane(points: &[Point]) -> Plane
-    requires { length points.now ≤ MOST_VERTICES }
+    requires { length points.now ≤ MOST_FACES + 2 }
     ensures { result ≡ plane_of points.now }
 {
     let x = area_within(Axis::X, points);
