@@ -18,6 +18,7 @@ use Rattle.obj_scan.specs.Forms.{returns_of}
 use Rattle.obj_scan.specs.declared.fault.ScanFail.TheVariants as fails
 use Rattle.obj_scan.specs.Refusals.{Refused, LineFault, IsTextFault, IsRefusal, IsRefused}
 use Rattle.obj_scan.specs.Judged.{Scanned}
+use Rattle.pm_ears.specs.Recutting.{IsPolygonWithin}
 use Rattle.obj_prepare.specs.Named.{AreVerticesBelow}
 use Rattle.obj_scan.specs.Meaning.{ScannedSoFar, at_end, scan_meaning_from, scan_meaning_of}
 use Rattle.obj_scan.specs.Reading.{HeldLines, ScanStandsAt, IsScanning, IsReadyToScan, line_taken, nothing_held, scanned_so_far, after_lines}
@@ -27,8 +28,13 @@ use Rattle.obj_scan.proofs.JudgeLaws.{held_in, then_taken, judged_line}
 
 none_scanning : IsScanning nothing_held.scanned
 none_scanning = record {
-  within = record { points = omega arith; faces = omega arith; corners = All-nil (AreVerticesBelow 0) };
-  polygons = omega arith;
+  within = record {
+    points = omega arith;
+    faces = omega arith;
+    corners = All-nil (AreVerticesBelow 0);
+    polygons = All-nil (IsPolygonWithin 0);
+    polygons_few = omega arith;
+  };
   weights = omega arith;
 }
 

@@ -125,7 +125,7 @@ pub scanned_with : (weighted : Bool) (n : ℕ) (m : Mesh) (f : ReadFound)
 unfolding triangles weights_with
 scanned_with weighted n m reads.Nothing = refl
 scanned_with weighted n m (reads.Vertex p) =
-    ap (λ points. record { points = points; faces = m.faces; polygons = 0; weights = weights_after n weighted }) (sym (map-append scaled_up m.points (p ∷ [])))
+    ap (λ points. record { points = points; faces = m.faces; polygons = []; weights = weights_after n weighted }) (sym (map-append scaled_up m.points (p ∷ [])))
 scanned_with weighted n m (reads.Face f) = refl
 
 -- Without a weight there are no more.

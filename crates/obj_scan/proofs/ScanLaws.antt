@@ -3,10 +3,12 @@ use Rattle.std.proofs.Common.{◌≡◌, ℕ, zero, suc, ◌+◌, ◌-◌, ◌<�
 use Rattle.std.specs.List.{All}
 use Rattle.std.proofs.lemmas.Bool.{ltb-true}
 use Rattle.std.proofs.lemmas.List.{take-append-drop}
-use Rattle.std.proofs.lemmas.List.Elements.{All-append, All-nil, All-take, All-drop}
+use Rattle.std.proofs.lemmas.List.Elements.{All-append, All-cons, All-nil, All-take, All-drop}
 use Rattle.std.proofs.Math.Seq.{take-append-add}
 use Rattle.pm_base.specs.declared.mesh.Corners.{Corners}
 use Rattle.pm_base.specs.Place.{Place}
+use Rattle.pm_ears.specs.declared.recut.Polygon.{Polygon}
+use Rattle.pm_ears.specs.Recutting.{IsPolygonWithin}
 use Rattle.obj_lines.specs.Text.{is_continued}
 use Rattle.obj_read.specs.declared.fault.ObjFault.{ObjFault}
 use Rattle.obj_read.specs.declared.fault.ObjFail.{ObjFail}
@@ -81,8 +83,9 @@ vertex_scanning s t p weighted scanning room is = rw is (record {
     points = omega (arith, room, length-append s.points (p ∷ []));
     faces = scanning.within.faces;
     corners = wider (length s.points) (length (s.points ++ p ∷ [])) s.faces (omega (arith, length-append s.points (p ∷ []))) scanning.within.corners;
+    polygons = scanning.within.polygons;
+    polygons_few = scanning.within.polygons_few;
   };
-  polygons = scanning.polygons;
   weights = omega (
     arith,
     weights_case s.weights
@@ -91,10 +94,24 @@ vertex_scanning s t p weighted scanning room is = rw is (record {
   );
 })
 
--- One polygon more is at most so many triangles more.
-polygons_case : (n faces : ℕ) (corners : List ℕ) (b : Bool) → nat_lt 3 (length corners) ≡ b → n ≤ faces → (if b then n + 1 else n) ≤ faces + (length corners - 2)
-polygons_case n faces corners true some le = omega (arith, ltb-true 3 (length corners) some, le)
-polygons_case n faces corners false few le = omega (arith, le)
+-- One polygon more is at most so many triangles more, and is among them.
+polygons_case : (ps : List Polygon) (faces : ℕ) (corners : List ℕ) (b : Bool)
+    → nat_lt 3 (length corners) ≡ b → length ps ≤ faces
+    → length (polygons_after ps faces corners) ≤ faces + (length corners - 2)
+polygons_case ps faces corners true some le =
+    let p : Polygon = record { first = faces; triangles = length corners - 2 } in
+    rw some (omega (arith, ltb-true 3 (length corners) some, le, length-append ps (p ∷ [])))
+polygons_case ps faces corners false few le = rw few (omega (arith, le))
+
+polygons_within : (ps : List Polygon) (faces : ℕ) (corners : List ℕ) (b : Bool)
+    → nat_lt 3 (length corners) ≡ b → All (IsPolygonWithin faces) ps
+    → All (IsPolygonWithin (faces + (length corners - 2))) (polygons_after ps faces corners)
+polygons_within ps faces corners true some all =
+    let n = faces + (length corners - 2) in
+    let p : Polygon = record { first = faces; triangles = length corners - 2 } in
+    rw some (All-append (IsPolygonWithin n) ps (p ∷ []) (λ i d l. omega (arith, all i d l))
+    (All-cons (IsPolygonWithin n) p [] (omega arith) (All-nil (IsPolygonWithin n))))
+polygons_within ps faces corners false few all = rw few (λ i d l. omega (arith, all i d l))
 
 polygon_scanning : (s t : Scanned) (corners : List ℕ) → IsScanning s → All (λ (c : ℕ). c < length s.points) corners → length s.faces + (length corners - 2) ≤ 1048576
     → t ≡ with_scanned s (Found.polygon corners) → IsScanning t
@@ -107,18 +124,23 @@ polygon_scanning s t corners scanning within room is =
         faces = omega (arith, n, room);
         corners = All-append (AreVerticesBelow (length s.points)) s.faces (triangles s.points corners) scanning.within.corners
             (corners_case s.points (length s.points) corners (length corners == 3) refl within);
+        polygons = subst (λ k. All (IsPolygonWithin k)
+            (polygons_after s.polygons (length s.faces) corners)) (sym n)
+            (polygons_within s.polygons (length s.faces) corners (nat_lt 3 (length corners)) refl
+            scanning.within.polygons);
+        polygons_few = omega (arith, n, polygons_case s.polygons (length s.faces) corners
+            (nat_lt 3 (length corners)) refl scanning.within.polygons_few);
       };
-      polygons = subst (λ k. (if nat_lt 3 (length corners) then s.polygons + 1 else s.polygons) ≤ k) (sym n) (polygons_case s.polygons (length s.faces) corners (nat_lt 3 (length corners)) refl scanning.polygons);
       weights = scanning.weights;
     })
 
-abbrev scanned_from : List Place → List Corners → ℕ → ℕ → Scanned
+abbrev scanned_from : List Place → List Corners → List Polygon → ℕ → Scanned
 scanned_from points faces polygons weights =
     record { points = points; faces = faces; polygons = polygons; weights = weights }
 
 -- The same, from what the parts of the code say.
-pub polygon_scanned : (s : Scanned) (points : List Place) (faces : List Corners) (polygons : ℕ) (corners held : List ℕ) → IsScanning s → All (λ (c : ℕ). c < length s.points) corners
-    → length s.faces + (length corners - 2) ≤ 1048576 → points ≡ s.points → faces ≡ s.faces ++ triangles points corners → held ≡ corners → polygons ≡ polygons_after s.polygons held
+pub polygon_scanned : (s : Scanned) (points : List Place) (faces : List Corners) (polygons : List Polygon) (corners held : List ℕ) → IsScanning s → All (λ (c : ℕ). c < length s.points) corners
+    → length s.faces + (length corners - 2) ≤ 1048576 → points ≡ s.points → faces ≡ s.faces ++ triangles points corners → held ≡ corners → polygons ≡ polygons_after s.polygons (length s.faces) held
     → IsScanning (scanned_from s.points faces polygons s.weights)
 polygon_scanned s points faces polygons corners held scanning within room points_are faces_are held_is polygons_are =
     let all = s.faces ++ triangles s.points corners in
@@ -126,7 +148,7 @@ polygon_scanned s points faces polygons corners held scanning within room points
     (ap (λ f. scanned_from s.points f polygons s.weights)
     (faces_are ∙ ap (λ p. s.faces ++ triangles p corners) points_are)
     ∙ ap (λ n. scanned_from s.points all n s.weights)
-    (polygons_are ∙ ap (polygons_after s.polygons) held_is))
+    (polygons_are ∙ ap (polygons_after s.polygons (length s.faces)) held_is))
 
 -- A fault of what a text gives is the line's.
 pub given_fault : (s : Scanned) (r : Result Found ObjFault) (fail : ObjFail) (line : ℕ) → IsLineFault fail line r → IsLineFault fail line (given s r)

@@ -11,7 +11,7 @@ use Rattle.obj_scan.specs.Meaning.{scan_meaning_of}
 -- What is held in memory, without the room of its lists.
 abbrev pub scanned_of : Scan → Scanned
 scanned_of s =
-    record { points = s.points.items; faces = s.faces.items; polygons = s.polygons; weights = s.weights }
+    record { points = s.points.items; faces = s.faces.items; polygons = s.polygons.items; weights = s.weights }
 
 -- The bytes that were taken don't reach the place of the first fault, where the source tells its bytes.
 pub record ScanFailsBefore (whole left : Option (List ℕ)) : Type 0 where

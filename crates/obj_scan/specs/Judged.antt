@@ -11,14 +11,15 @@ use Rattle.obj_read.specs.Fields.{fields, is_letter}
 use Rattle.obj_read.specs.Indices.{index, index_text}
 use Rattle.obj_read.specs.Judged.{◌>>=◌}
 use Rattle.obj_prepare.specs.Numbers.{decimal_coordinate}
+use Rattle.pm_ears.specs.declared.recut.Polygon.{Polygon}
 use Rattle.obj_scan.specs.Polygons.{triangles}
 
--- What the lines so far gave: points in units of 10^-18, triangles, how many faces had more than
--- three corners, and how many vertices have a weight.
+-- What the lines so far gave: points in units of 10^-18, triangles, where those of each face of more
+-- than three corners begin and how many they are, and how many vertices have a weight.
 pub record Scanned : Type 0 where
   pub points : List Place
   pub faces : List Corners
-  pub polygons : ℕ
+  pub polygons : List Polygon
   pub weights : ℕ
 
 -- What a line gives: nothing, a point and whether a weight stands after it, or the vertex numbers
@@ -73,8 +74,12 @@ scanned_fields vertices faces (keyword ∷ more) =
 unfoldable pub scanned_line : ℕ → ℕ → List ℕ → Result Found ObjFault
 scanned_line vertices faces text = scanned_fields vertices faces (fields text)
 
-abbrev pub polygons_after : ℕ → List ℕ → ℕ
-polygons_after n corners = if nat_lt 3 (length corners) then n + 1 else n
+-- With a face of these corners after so many triangles.
+abbrev pub polygons_after : List Polygon → ℕ → List ℕ → List Polygon
+polygons_after ps faces corners =
+    if nat_lt 3 (length corners)
+    then ps ++ record { first = faces; triangles = length corners - 2 } ∷ []
+    else ps
 
 abbrev pub weights_after : ℕ → Bool → ℕ
 weights_after n weighted = if weighted then n + 1 else n
@@ -91,6 +96,6 @@ with_scanned s (vertex p weighted) = record {
 with_scanned s (polygon corners) = record {
   points = s.points;
   faces = s.faces ++ triangles s.points corners;
-  polygons = polygons_after s.polygons corners;
+  polygons = polygons_after s.polygons (length s.faces) corners;
   weights = s.weights;
 }

@@ -26,7 +26,7 @@ abbrev pub scanned_mesh : Mesh → Scanned
 scanned_mesh m = record {
   points = map scaled_up m.points;
   faces = m.faces;
-  polygons = 0;
+  polygons = [];
   weights = 0;
 }
 

@@ -3,6 +3,7 @@
 use Rattle.std.specs.Prelude.{ℕ, ◌+◌, ◌-◌, ◌≤◌, List, [], ◌∷◌, ◌++◌, nat_lt, ◌==◌, length, take, None, Some, Option, Result, Ok, Err, if◌then◌else◌}
 use Rattle.std.specs.List.{All}
 use Rattle.pm_base.specs.declared.limits.TheConstants.{MOST_FACES, MOST_VERTICES}
+use Rattle.pm_ears.specs.Recutting.{IsPolygonWithin}
 use Rattle.obj_lines.specs.declared.limits.TheConstants.{MOST_LINE_BYTES}
 use Rattle.obj_lines.specs.Text.{until, lines, is_continued}
 use Rattle.obj_read.specs.declared.fault.ObjFault.{ObjFault}
@@ -106,7 +107,7 @@ scan_meaning_from s (line ∷ more) = then_scanned_lines (judged_length s line) 
 -- Before the first line.
 abbrev pub nothing_scanned : ScannedSoFar
 nothing_scanned =
-    record { bytes = 0; number = 1; continued = 0; begun = []; scanned = record { points = []; faces = []; polygons = 0; weights = 0 } }
+    record { bytes = 0; number = 1; continued = 0; begun = []; scanned = record { points = []; faces = []; polygons = []; weights = 0 } }
 
 -- The points and triangles of the bytes, or their first line with a fault.
 unfoldable pub scan_meaning_of : List ℕ → Result Scanned Refused
@@ -117,3 +118,5 @@ pub record IsWithinLimits (s : Scanned) : Type 0 where
   pub points : length s.points ≤ MOST_VERTICES
   pub faces : length s.faces ≤ MOST_FACES
   pub corners : All (AreVerticesBelow (length s.points)) s.faces
+  pub polygons : All (IsPolygonWithin (length s.faces)) s.polygons
+  pub polygons_few : length s.polygons ≤ length s.faces

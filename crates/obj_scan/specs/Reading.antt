@@ -30,7 +30,7 @@ held_of s = record { continued = s.continued; begun = s.begun.items; scanned = s
 -- Before the first line.
 abbrev pub nothing_held : HeldLines
 nothing_held =
-    record { continued = 0; begun = []; scanned = record { points = []; faces = []; polygons = 0; weights = 0 } }
+    record { continued = 0; begun = []; scanned = record { points = []; faces = []; polygons = []; weights = 0 } }
 
 -- With what a line gives, or its fault.
 abbrev pub given : Scanned → Result Found ObjFault → Result Scanned ObjFault
@@ -90,11 +90,9 @@ pub record ScanStandsAt (whole now : Option (List ℕ)) (s : ScannedSoFar) (line
 abbrev pub IsScanningText : Option (List ℕ) → List ℕ → Option (List ℕ) → Progress → HeldLines → Feeding → Type 0
 IsScanningText whole window left p h f = ScanStandsAt whole (prepend_known window left) (scanned_so_far p h) (open_line f)
 
--- What the lines gave is within the limits. A polygon that was cut has more than one triangle,
--- and each weight a vertex.
+-- What the lines gave is within the limits. Each weight has a vertex.
 pub record IsScanning (s : Scanned) : Type 0 where
   pub within : IsWithinLimits s
-  pub polygons : s.polygons ≤ length s.faces
   pub weights : s.weights ≤ length s.points
 
 -- What holds between two steps of the reading.

@@ -14,16 +14,17 @@ use obj_lines::Lines;
 use obj_prepare::ExactPoint;
 use obj_read::Progress;
 use pm_base::Corners;
+use pm_ears::Polygon;
 use pm_io::{Source, Taker};
 use std::alloc::Global;
 
-/// What a text spells: points in units of 10^-18, triangles, how many faces had more than three
-/// corners, and how many vertices a weight that isn't 1, as in `v x y z w`.
+/// What a text spells: points in units of 10^-18, triangles, where the fan of each face of more than
+/// three corners stands among them, and how many vertices have a weight that isn't 1, as in `v x y z w`.
 #[derive(Drop)]
 pub struct Scan {
     pub points: Vec<ExactPoint>,
     pub faces: Vec<Corners>,
-    pub polygons: u32,
+    pub polygons: Vec<Polygon>,
     pub weights: u32,
 }
 

@@ -14,6 +14,7 @@ use crate::polygons::push_polygon;
 use crate::scan::Scan;
 use obj_lines::{MOST_LINE_BYTES, is_continued};
 use obj_read::{ObjFail, ObjFault, is_letter, next_field};
+use pm_ears::Polygon;
 use std::alloc::Global;
 
 /// What the lines so far gave, how many of them the next one continues, and what these say. The corners are those of the
@@ -53,16 +54,22 @@ fn take_vertex(scan: &mut Scan, text: &[u8], line: u32) -> Result<(), ObjFail>
     }
 }
 
-// How many faces had more than three corners, after one more.
-fn polygons_after(polygons: u32, corners: &[u32]) -> u32
-    requires { polygons ≤ MOST_FACES }
-    ensures { result ≡ polygons_after polygons corners.now }
+// Notes where the triangles of a face of more than three corners begin, after so many.
+fn note_polygon(
+    polygons: &mut Vec<Polygon>,
+    faces: u32,
+    corners: &[u32],
+) -> Result<(), OutOfMemory>
+    requires { length corners.now ≤ MOST_FACES + 2 }
+    ensures { OnOk result (polygons.new.items ≡ polygons_after polygons.old.items faces corners.now) }
 {
     if corners.len() > 3 {
-        polygons + 1
-    } else {
-        polygons
+        polygons.push(Polygon {
+            first: faces,
+            triangles: (corners.len() - 2) as u32,
+        })?;
     }
+    Ok(())
 }
 
 // Takes a face.
@@ -74,7 +81,9 @@ fn take_face(scan: &mut Scan, corners: &mut Vec<u32>, text: &[u8], line: u32) ->
 {
     let (vertices, faces) = (scan.points.len() as u32, scan.faces.len() as u32);
     face_line(vertices, faces, text, line, corners)?;
-    scan.polygons = polygons_after(scan.polygons, corners);
+    if note_polygon(&mut scan.polygons, faces, corners).is_err() {
+        return Err(ObjFail::OutOfMemory);
+    }
     match push_polygon(&scan.points, &mut scan.faces, corners) {
         Ok(()) => Ok(()),
         Err(_) => Err(ObjFail::OutOfMemory),
@@ -116,7 +125,7 @@ impl Scanner {
             scan: Scan {
                 points: Vec::new(alloc),
                 faces: Vec::new(alloc),
-                polygons: 0,
+                polygons: Vec::new(alloc),
                 weights: 0,
             },
             continued: 0,
