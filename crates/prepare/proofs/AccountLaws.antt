@@ -5,21 +5,23 @@ use Rattle.obj_prepare.specs.Named.{AreVerticesBelow, of_three}
 use Rattle.obj_prepare.proofs.AccountLaws.{accounts_close}
 use Rattle.obj_prepare.proofs.PlacingLaws.{length-places_of}
 use Rattle.obj_prepare.proofs.ThreeLaws.{three_few, three_all}
-use Rattle.prepare.specs.Outcome.{places_in}
+use Rattle.prepare.specs.Outcome.{cut_in, places_in}
 use Rattle.prepare.specs.Laws.{TextsAreAccounted}
+use Rattle.prepare.proofs.RecutLaws.{cut_below, cut_long}
 use Rattle.prepare.proofs.ScannedLaws.{meaning_sound}
 
 pub texts_are_accounted : TextsAreAccounted
 texts_are_accounted size bytes s done means k =
-    let three = of_three s.faces in
+    let cut = cut_in size s in
+    let three = of_three cut in
+    let within = (meaning_sound bytes s means).scanning.within in
     let long : length (places_in size s)
-    ≡ length s.points = length-places_of size s.points three in
-    let corners = three_all (AreVerticesBelow (length s.points)) s.faces
-    (meaning_sound bytes s means).scanning.within.corners in
+    ≡ length s.points = length-places_of size s.points (of_three s.faces) in
+    let corners = three_all (AreVerticesBelow (length s.points)) cut (cut_below size s within) in
     let close = accounts_close (places_in size s) three k.mesh k.notes
     (subst (λ n. All (AreVerticesBelow n) three) (sym long) corners) k.prepared in
     record {
-      triangles = omega (arith, close.triangles_are, three_few s.faces);
+      triangles = omega (arith, close.triangles_are, three_few cut, cut_long size s within);
       split_few = close.split_few;
       vertices = omega (arith, close.vertices_are, long);
     }

@@ -28,8 +28,9 @@ use Rattle.obj_prepare.proofs.PlacingLaws.{length-places_of}
 use Rattle.obj_prepare.proofs.ThreeLaws.{three_all, three_of_mesh}
 use Rattle.prepare.specs.declared.fault.Fault.{Fault}
 use Rattle.prepare.specs.Texts.{output_text, notes_text}
-use Rattle.prepare.specs.Outcome.{Done, MakesPrepared, fit_in, places_in, counts_of, warning_for, rounded_for, rounded_in, IsPreparedText, bad_line, too_many, no_face, made}
+use Rattle.prepare.specs.Outcome.{Done, MakesPrepared, cut_in, fit_in, places_in, counts_in, warning_for, rounded_for, rounded_in, IsPreparedText, bad_line, too_many, no_face, made}
 use Rattle.prepare.specs.Laws.{ComesBack, TextsComeBack}
+use Rattle.prepare.proofs.RecutLaws.{cut_below}
 use Rattle.prepare.proofs.ScannedLaws.{meaning_sound}
 use Rattle.prepare.proofs.ReadLaws.{made_on_grid, mesh_is_read, made_scanned}
 use Rattle.prepare.proofs.StandingLaws.{standing_fit, standing_places}
@@ -69,7 +70,7 @@ numbered m p = (
 abbrev standing_done : Mesh → Notes → Done
 standing_done m notes = record {
   text = output_text fits.Standing m;
-  notes = notes_text (counts_of (scanned_mesh m) m) notes 0 fits.Standing None;
+  notes = notes_text (counts_in None (scanned_mesh m) m) notes 0 fits.Standing None;
 }
 
 -- None of its vertices is joined by rounding.
@@ -111,10 +112,10 @@ makes_itself m notes formed manifold some placed used prepared =
       manifold = manifold;
       some = some;
       text_is = ap (λ (f : Fit). output_text f m) (sym fit);
-      notes_are = ap (λ r. notes_text (counts_of (scanned_mesh m) m) notes r fits.Standing None)
+      notes_are = ap (λ r. notes_text (counts_in None (scanned_mesh m) m) notes r fits.Standing None)
           (sym rounded)
           ∙ ap
-          (λ (f : Fit). notes_text (counts_of (scanned_mesh m) m) notes
+          (λ (f : Fit). notes_text (counts_in None (scanned_mesh m) m) notes
           (rounded_in None (scanned_mesh m) notes) f
           (warning_for f points (of_three m.faces) notes.flat)) (sym fit);
     }
@@ -133,10 +134,11 @@ made_comes_back size bytes s done is means k read =
     let m = k.mesh in
     let p = k.prepared.0 in
     let places = places_in size s in
-    let three = of_three s.faces in
-    let corners = three_all (AreVerticesBelow (length s.points)) s.faces
-    (meaning_sound bytes s means).scanning.within.corners in
-    let long : length s.points ≡ length places = sym (length-places_of size s.points three) in
+    let three = of_three (cut_in size s) in
+    let corners = three_all (AreVerticesBelow (length s.points)) (cut_in size s)
+    (cut_below size s (meaning_sound bytes s means).scanning.within) in
+    let long : length s.points
+    ≡ length places = sym (length-places_of size s.points (of_three s.faces)) in
     let low = subst (λ n. All (AreVerticesBelow n) three) long corners in
     let again = prepared_again places three m low p in
     let count : length m.points ≡ length p.old = ap length p.stand

@@ -18,8 +18,9 @@ use Rattle.obj_prepare.proofs.PlacingLaws.{length-places_of}
 use Rattle.obj_prepare.proofs.ThreeLaws.{three_all}
 use Rattle.prepare.specs.declared.fault.Fault.{Fault}
 use Rattle.prepare.specs.Texts.{head_line}
-use Rattle.prepare.specs.Outcome.{Done, MakesPrepared, fit_in, places_in, IsPreparedText, bad_line, too_many, no_face, made}
+use Rattle.prepare.specs.Outcome.{Done, MakesPrepared, cut_in, fit_in, places_in, IsPreparedText, bad_line, too_many, no_face, made}
 use Rattle.prepare.specs.Laws.{LineLeadsBack, as_it_stood, near, TextLeadsBack, TextsLeadBack}
+use Rattle.prepare.proofs.RecutLaws.{cut_below, cut_named}
 use Rattle.prepare.proofs.ScannedLaws.{meaning_sound}
 use Rattle.prepare.proofs.GridLaws.{IsMeasured, fit_of_measured}
 use Rattle.prepare.proofs.NumeralLaws.{tells_way}
@@ -40,18 +41,20 @@ made_leads_back size bytes s done is means k =
     let fit : Fit = fit_in size s in
     let places = places_in size s in
     let three = of_three s.faces in
+    let cut = of_three (cut_in size s) in
     let sound = meaning_sound bytes s means in
     let measured = fit_of_measured size s.points three is sound.exact in
     let long : length places ≡ length s.points = length-places_of size s.points three in
-    let own = subst (λ (n : ℕ). All (AreVerticesBelow n) three) (sym long)
-    (three_all (AreVerticesBelow (length s.points)) s.faces sound.scanning.within.corners) in
+    let own = subst (λ (n : ℕ). All (AreVerticesBelow n) cut) (sym long)
+    (three_all (AreVerticesBelow (length s.points)) (cut_in size s)
+    (cut_below size s sound.scanning.within)) in
     record {
       line = head_line fit;
       text_is = k.text_is;
       back = λ v l named. line_leads fit (place_in_list places v)
           (place_in_list s.points v) measured (places_lead_back size s.points three v is l named);
-      from = λ w l. let (v, low, named, same) = place_from places three k.mesh own k.prepared.0 w
-          l in (v, subst (λ (n : ℕ). v < n) long low, named, same);
+      from = λ w l. let (v, low, named, same) = place_from places cut k.mesh own k.prepared.0 w
+          l in (v, subst (λ (n : ℕ). v < n) long low, cut_named size s v named, same);
     }
 
 outcome_leads_back : (size : Option ℕ) (bytes : List ℕ) (r : Result Done Fault) (place : Option ℕ) → IsSize size → IsPreparedText size bytes r place

@@ -6,6 +6,7 @@ pub mod ScannedLaws
 pub mod GridLaws
 pub mod HeadLaws
 pub mod ReadLaws
+pub mod RecutLaws
 pub mod StandingLaws
 pub mod RestoredLaws
 pub mod NothingLaws

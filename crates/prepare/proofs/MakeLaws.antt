@@ -1,5 +1,5 @@
 -- What a text gives is what its mesh is made of.
-use Rattle.std.proofs.Common.{◌≡◌, ℕ, ◌<◌, List, ◌++◌, length, Option, Some, None, IfSome, Result, Ok, Err, refl, ◌∙◌, ap, subst}
+use Rattle.std.proofs.Common.{◌≡◌, ℕ, ◌<◌, ◌≤◌, List, ◌++◌, length, Option, Some, None, IfSome, Result, Ok, Err, refl, sym, ◌∙◌, ap, subst, arith}
 use Rattle.pm_base.specs.declared.mesh.Corners.{Corners}
 use Rattle.pm_base.specs.Place.{Place}
 use Rattle.pm_base.specs.Meshes.{Mesh, IsWellFormed}
@@ -13,7 +13,6 @@ use Rattle.obj_scan.specs.Meaning.{scan_meaning_of, IsWithinLimits}
 use Rattle.obj_scan.specs.Fails.{ScanFailsBefore}
 use Rattle.obj_prepare.specs.declared.notes.Notes.{Notes}
 use Rattle.obj_prepare.specs.declared.placing.Fit.{Fit}
-use Rattle.obj_prepare.specs.Placing.{fit_of, prepared_places_of}
 use Rattle.obj_prepare.specs.Prepared.{IsPreparedWith}
 use Rattle.obj_prepare.proofs.PlacingLaws.{length-places_of}
 use Rattle.prepare.specs.Texts.{head_line, notes_text}
@@ -23,11 +22,13 @@ use Rattle.prepare.specs.declared.fault.Fault.{Fault}
 use Rattle.prepare.specs.declared.fault.Fault.TheVariants as faults
 use Rattle.prepare.specs.declared.fault.InputFail.{InputFail}
 use Rattle.prepare.specs.declared.fault.InputFail.TheVariants as input
-use Rattle.prepare.specs.Outcome.{Done, MakesPrepared, fit_in, places_in, counts_of, warning_for, rounded_for, IsPreparedText, bad_line, too_many, no_face, made}
-use Rattle.prepare.specs.Making.{IsMakeFail}
+use Rattle.prepare.specs.Outcome.{Done, MakesPrepared, cut_in, fit_in, places_in, counts_of, warning_for, rounded_for, IsPreparedText, bad_line, too_many, no_face, made}
+use Rattle.prepare.specs.declared.laying.Laid.{Laid}
+use Rattle.prepare.specs.Making.{IsMakeFail, IsLaid}
+use Rattle.prepare.proofs.RecutLaws.{cut_long, cut_within}
 use Rattle.prepare.specs.Ending.{HasPreparedFault, PlaceUnreached, StopsPreparing}
 
-named_within : (s : Scanned) → IsWithinLimits s
+pub named_within : (s : Scanned) → IsWithinLimits s
     → IsNamedWithin (length s.points) (of_three s.faces)
 named_within s within = three_within (length s.points) s.faces (record {
   vertices_few = within.points;
@@ -40,50 +41,66 @@ pub lent_within : (s : Scanned) (points : List Place) (faces : List Corners) →
 lent_within s points faces within points_are faces_are = rw (points_are, faces_are)
     (named_within s within)
 
--- Lists that were lent are the same lists.
+-- What was laid out is within the limits.
 
-pub placed_within : (size : Option ℕ) (s : Scanned) (points : List Place) (faces : List Corners)
-    (places lent : List Place) (again : List Corners) → IsWithinLimits s → points ≡ s.points
-    → faces ≡ of_three s.faces → places ≡ prepared_places_of size points faces → lent ≡ places
-    → again ≡ of_three s.faces
-    → IsNamedWithin (length lent) again
-placed_within size s points faces places lent again within points_are faces_are placed lent_is same =
-    let count : length lent ≡ length s.points = ap length (lent_is ∙ placed) ∙ length-places_of size points faces ∙ ap length points_are in
-    rw (count, same) (named_within s within)
+pub laid_places : (size : Option ℕ) (s : Scanned) (laid : Laid) → IsLaid size s laid
+    → length laid.placing.places.items ≡ length s.points
+laid_places size s laid is =
+    ap length is.places ∙ length-places_of size s.points (of_three s.faces)
 
-pub makes_done : (size : Option ℕ) (s : Scanned) (points : List Place) (faces : List Corners)
-    (fit : Fit) (places lent : List Place) (again third : List Corners) (m : Mesh) (notes : Notes)
-    (shown : List Corners) (head said : List ℕ)
-    → points ≡ s.points → faces ≡ of_three s.faces → fit ≡ fit_of size points faces
-    → places ≡ prepared_places_of size points faces → lent ≡ places → again ≡ of_three s.faces
-    → third ≡ of_three s.faces
-    → IsPreparedWith lent again m notes → IsWellFormed m → IsOrientedManifold (net_of m.faces)
-    → shown ≡ m.faces → 0 < length shown → head ≡ head_line fit
-    → said ≡ notes_text (counts_of s m) notes (rounded_for s.points places third notes.joined) fit
-    (warning_for fit s.points third notes.flat)
+pub laid_fans : (size : Option ℕ) (s : Scanned) (laid : Laid) → IsWithinLimits s
+    → IsLaid size s laid → IsNamedWithin (length s.points) laid.fans.items
+laid_fans size s laid within is =
+    subst (IsNamedWithin (length s.points)) (sym is.fans) (named_within s within)
+
+pub laid_three : (size : Option ℕ) (s : Scanned) (laid : Laid) → IsWithinLimits s
+    → IsLaid size s laid → IsNamedWithin (length s.points) laid.three.items
+laid_three size s laid within is =
+    subst (IsNamedWithin (length s.points)) (sym is.three)
+    (three_within (length s.points) (cut_in size s) (cut_within size s within))
+
+pub laid_lent : (size : Option ℕ) (s : Scanned) (laid : Laid) (places : List Place)
+    (three : List Corners) → IsWithinLimits s → IsLaid size s laid
+    → places ≡ laid.placing.places.items → three ≡ laid.three.items
+    → IsNamedWithin (length places) three
+laid_lent size s laid places three within is places_are three_are =
+    let n : length places
+    ≡ length s.points = ap length places_are ∙ laid_places size s laid is in
+    rw (n, three_are) (laid_three size s laid within is)
+
+pub laid_few : (size : Option ℕ) (s : Scanned) (laid : Laid) → IsWithinLimits s
+    → IsLaid size s laid → length laid.cut.faces.items ≤ 1048576
+laid_few size s laid within is =
+    omega (arith, ap length is.cut, cut_long size s within, within.faces)
+
+pub makes_done : (size : Option ℕ) (s : Scanned) (laid : Laid) (places : List Place)
+    (three : List Corners) (m : Mesh) (notes : Notes) (shown : List Corners)
+    (head said : List ℕ) → IsLaid size s laid → places ≡ laid.placing.places.items
+    → three ≡ laid.three.items → IsPreparedWith places three m notes → IsWellFormed m
+    → IsOrientedManifold (net_of m.faces) → shown ≡ m.faces → 0 < length shown
+    → head ≡ head_line laid.placing.fit
+    → said ≡ notes_text (counts_of s laid.cut.faces.items laid.cut.overlapping m) notes
+    (rounded_for s.points laid.placing.places.items laid.three.items notes.joined) laid.placing.fit
+    (warning_for laid.placing.fit s.points laid.fans.items notes.flat)
     → MakesPrepared size s (record { text = head ++ canonical_text 0 m; notes = said })
-makes_done size s points faces fit places lent again third m notes shown head said points_are
-    faces_are fit_is placed lent_is same thirds prepared formed manifold shown_is some head_is said_is =
-    let fit_same : fit ≡ fit_in size s = fit_is ∙ ap (λ ps. fit_of size ps faces) points_are
-    ∙ ap (λ fs. fit_of size s.points fs) faces_are in
-    let places_same : places ≡ places_in size s = placed
-    ∙ ap (λ ps. prepared_places_of size ps faces) points_are
-    ∙ ap (λ fs. prepared_places_of size s.points fs) faces_are in
-    let Said : List Place → List Corners → Fit → List ℕ = λ ps fs f.
-    notes_text (counts_of s m) notes (rounded_for s.points ps fs notes.joined) f
-    (warning_for f s.points fs notes.flat) in
+makes_done size s laid places three m notes shown head said is places_are three_are prepared formed
+    manifold shown_is some head_is said_is =
+    let Said : List Corners → ℕ → List Place → List Corners → List Corners → Fit → List ℕ =
+    λ cut n ps fs fans f. notes_text (counts_of s cut n m) notes
+    (rounded_for s.points ps fs notes.joined) f (warning_for f s.points fans notes.flat) in
     record {
       mesh = m;
       notes = notes;
-      prepared = subst (λ fs. IsPreparedWith (places_in size s) fs m notes) same
-          (subst (λ ps. IsPreparedWith ps again m notes) (lent_is ∙ places_same) prepared);
+      prepared = subst (λ fs. IsPreparedWith (places_in size s) fs m notes)
+          (three_are ∙ is.three)
+          (subst (λ ps. IsPreparedWith ps three m notes) (places_are ∙ is.places) prepared);
       formed = formed;
       manifold = manifold;
       some = subst (λ (fs : List Corners). 0 < length fs) shown_is some;
-      text_is = ap (λ h. h ++ canonical_text 0 m) (head_is ∙ ap head_line fit_same);
-      notes_are = said_is ∙ ap (λ ps. Said ps third fit) places_same
-          ∙ ap (λ fs. Said (places_in size s) fs fit) thirds
-          ∙ ap (λ f. Said (places_in size s) (of_three s.faces) f) fit_same;
+      text_is = ap (λ h. h ++ canonical_text 0 m) (head_is ∙ ap head_line is.fit);
+      notes_are = said_is
+          ∙ (λ i. Said (is.cut i) (is.overlapping i) (is.places i) (is.three i) (is.fans i)
+          (is.fit i));
     }
 
 -- What follows where the source tells its bytes.

@@ -200,12 +200,14 @@ no_account c vertices triangles = rw (
 -- Only polygons that were cut, weights, closed surfaces inside out and faces without area are told.
 pub nothing_said : (c : Counts) (rounded k : ℕ) (fit : Fit) → account_line c ≡ [] → c.twice ≡ 0
     → notes_text c (nothing_done k) rounded fit None ≡ note_line (codes "polygons cut") c.polygons
+    ++ note_line (codes "polygons whose triangles overlap") c.overlapping
     ++ note_line (codes "weights passed over") c.weights
     ++ note_line (codes "closed surfaces inside out") k
     ++ note_line (codes "faces without area") c.thin ++ last_note fit
 unfolding notes_text face_notes line_notes joined_line turn_notes vertex_notes note_line warning_line
 nothing_said c rounded k fit same none =
     let line = note_line (codes "polygons cut") c.polygons
+    ++ note_line (codes "polygons whose triangles overlap") c.overlapping
     ++ note_line (codes "weights passed over") c.weights in
     let inward = note_line (codes "closed surfaces inside out") k in
     let thin = note_line (codes "faces without area") c.thin in

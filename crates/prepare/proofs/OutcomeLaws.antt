@@ -16,7 +16,7 @@ use Rattle.obj_prepare.proofs.OnePrepared.{prepared_are_one, notes_are_one}
 use Rattle.prepare.specs.declared.fault.Fault.{Fault}
 use Rattle.prepare.specs.declared.fault.Fault.TheVariants as faults
 use Rattle.prepare.specs.Texts.{output_text, notes_text}
-use Rattle.prepare.specs.Outcome.{Done, MakesPrepared, fit_in, places_in, counts_of, rounded_in, warning_in, IsPreparedText, LeavesNoFace, bad_line, too_many, no_face, made}
+use Rattle.prepare.specs.Outcome.{Done, MakesPrepared, cut_in, fit_in, places_in, counts_in, rounded_in, warning_in, IsPreparedText, LeavesNoFace, bad_line, too_many, no_face, made}
 
 one_refused : (found : Result Scanned Refused) (r q : Refused) → found ≡ Err r → found ≡ Err q → r ≡ q
 one_refused found r q is are = cc
@@ -32,32 +32,32 @@ one_made : (size : Option ℕ) (s : Scanned) (done other : Done) → MakesPrepar
 one_made size s done other a b =
     let fit : Fit = fit_in size s in
     let mesh = prepared_are_one (places_in size s)
-    (of_three s.faces) a.mesh b.mesh a.prepared.0 b.prepared.0 in
+    (of_three (cut_in size s)) a.mesh b.mesh a.prepared.0 b.prepared.0 in
     let notes = notes_are_one (places_in size s)
-    (of_three s.faces) a.mesh b.mesh a.notes b.notes a.prepared b.prepared in
+    (of_three (cut_in size s)) a.mesh b.mesh a.notes b.notes a.prepared b.prepared in
     let text = a.text_is ∙ ap (output_text fit) mesh ∙ sym b.text_is in
     let said = a.notes_are
-    ∙ ap (λ (n : Notes). notes_text (counts_of s a.mesh) n (rounded_in size s n) fit
+    ∙ ap (λ (n : Notes). notes_text (counts_in size s a.mesh) n (rounded_in size s n) fit
     (warning_in size s n)) notes
-    ∙ ap (λ (m : Mesh). notes_text (counts_of s m) b.notes (rounded_in size s b.notes) fit
+    ∙ ap (λ (m : Mesh). notes_text (counts_in size s m) b.notes (rounded_in size s b.notes) fit
     (warning_in size s b.notes))
     mesh ∙ sym b.notes_are in
     λ i. record { text = text i; notes = said i }
 
 -- A mesh that is made doesn't have too many vertices.
 not_too_many : (size : Option ℕ) (s : Scanned) (done : Done)
-    → HasTooMany (places_in size s) (of_three s.faces) → MakesPrepared size s done → ⊥
+    → HasTooMany (places_in size s) (of_three (cut_in size s)) → MakesPrepared size s done → ⊥
 not_too_many size s done over makes =
     let mesh = prepared_are_one (places_in size s)
-    (of_three s.faces) over.mesh makes.mesh over.prepared makes.prepared.0 in
+    (of_three (cut_in size s)) over.mesh makes.mesh over.prepared makes.prepared.0 in
     absurd (omega (arith, over.many, makes.formed.points, ap (λ (m : Mesh). length m.points) mesh))
 
 -- A mesh that is made has faces.
 not_without : (size : Option ℕ) (s : Scanned) (done : Done)
-    → LeavesNoFace (places_in size s) (of_three s.faces) → MakesPrepared size s done → ⊥
+    → LeavesNoFace (places_in size s) (of_three (cut_in size s)) → MakesPrepared size s done → ⊥
 not_without size s done leaves makes =
     let mesh = prepared_are_one (places_in size s)
-    (of_three s.faces) leaves.mesh makes.mesh leaves.prepared makes.prepared.0 in
+    (of_three (cut_in size s)) leaves.mesh makes.mesh leaves.prepared makes.prepared.0 in
     absurd (omega (arith, leaves.none, makes.some, ap (λ (m : Mesh). length m.faces) mesh))
 
 -- Too many vertices have faces.
@@ -73,23 +73,23 @@ not_over places faces over leaves =
 
 module _ (size : Option ℕ) (bytes : List ℕ) where
   over_or_made : (s t : Scanned) (done : Done) → scan_meaning_of bytes ≡ Ok s
-      → scan_meaning_of bytes ≡ Ok t → HasTooMany (places_in size s) (of_three s.faces)
+      → scan_meaning_of bytes ≡ Ok t → HasTooMany (places_in size s) (of_three (cut_in size s))
       → MakesPrepared size t done → ⊥
   over_or_made s t done is are over makes = not_too_many size s done over (subst (λ (u : Scanned). MakesPrepared size u done) (one_scanned (scan_meaning_of bytes) t s are is) makes)
 
   none_or_made : (s t : Scanned) (done : Done) → scan_meaning_of bytes ≡ Ok s
-      → scan_meaning_of bytes ≡ Ok t → LeavesNoFace (places_in size s) (of_three s.faces)
+      → scan_meaning_of bytes ≡ Ok t → LeavesNoFace (places_in size s) (of_three (cut_in size s))
       → MakesPrepared size t done → ⊥
   none_or_made s t done is are leaves makes = not_without size s done leaves
       (subst (λ (u : Scanned). MakesPrepared size u done)
       (one_scanned (scan_meaning_of bytes) t s are is) makes)
 
   over_or_none : (s t : Scanned) → scan_meaning_of bytes ≡ Ok s → scan_meaning_of bytes ≡ Ok t
-      → HasTooMany (places_in size s) (of_three s.faces)
-      → LeavesNoFace (places_in size t) (of_three t.faces) → ⊥
+      → HasTooMany (places_in size s) (of_three (cut_in size s))
+      → LeavesNoFace (places_in size t) (of_three (cut_in size t)) → ⊥
   over_or_none s t is are over leaves =
-      not_over (places_in size s) (of_three s.faces) over
-      (subst (λ (u : Scanned). LeavesNoFace (places_in size u) (of_three u.faces))
+      not_over (places_in size s) (of_three (cut_in size s)) over
+      (subst (λ (u : Scanned). LeavesNoFace (places_in size u) (of_three (cut_in size u)))
       (one_scanned (scan_meaning_of bytes) t s are is) leaves)
 
   abbrev refusal : Refused → Result Done Fault

@@ -16,6 +16,7 @@ use Rattle.obj_scan.specs.Refusals.{Refused}
 use Rattle.obj_read.proofs.FormedLaws.{Gives, given, then_gives, unless, either, index_within, not_full}
 use Rattle.obj_read.proofs.DecimalLaws.{with_sign_abs}
 use Rattle.obj_prepare.specs.Exact.{AreExact}
+use Rattle.pm_ears.specs.Recutting.{IsPolygonWithin}
 use Rattle.obj_prepare.specs.Named.{AreVerticesBelow}
 use Rattle.obj_prepare.specs.Numbers.{units_of_text, exponent, is_decimal, decimal_coordinate}
 use Rattle.obj_scan.specs.Polygons.{triangles}
@@ -97,7 +98,7 @@ with_found_sound s (vertex p weighted) sound suits = record {
 }
 with_found_sound s (polygon corners) sound suits = record {
   exact = sound.exact;
-  scanning = polygon_scanned s s.points (s.faces ++ triangles s.points corners) (polygons_after s.polygons corners) corners corners sound.scanning suits.0 suits.1 refl refl refl refl;
+  scanning = polygon_scanned s s.points (s.faces ++ triangles s.points corners) (polygons_after s.polygons (length s.faces) corners) corners corners sound.scanning suits.0 suits.1 refl refl refl refl;
 }
 
 abbrev AfterSound : ScannedSoFar → Type 0
@@ -130,7 +131,7 @@ meaning_from_sound s [] sound = end_sound s (s.continued == 0) refl sound
 meaning_from_sound s (line ∷ more) sound =
     then_lines_sound (judged_length s line) (line_judged s line) s line (λ t. scan_meaning_from t more) (judged_sound s line sound) (λ t keeps. meaning_from_sound t more keeps)
 
-nothing_sound : IsSound (record { points = []; faces = []; polygons = 0; weights = 0 })
+nothing_sound : IsSound (record { points = []; faces = []; polygons = []; weights = 0 })
 nothing_sound = record {
   exact = All-nil AreExact;
   scanning = record {
@@ -139,8 +140,9 @@ nothing_sound = record {
       faces = omega arith;
       corners = All-nil
           (AreVerticesBelow 0);
+      polygons = All-nil (IsPolygonWithin 0);
+      polygons_few = omega arith;
     };
-    polygons = omega arith;
     weights = omega arith;
   };
 }

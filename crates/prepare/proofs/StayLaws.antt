@@ -1,6 +1,7 @@
 -- A text that needs nothing comes back as it is.
-use Rattle.std.proofs.Common.{◌≡◌, ℕ, ◌-◌, ◌<◌, List, ◌++◌, length, map, Option, None, Some, IfSome, Result, Ok, refl, sym, ap, ◌∙◌, subst, arith}
+use Rattle.std.proofs.Common.{◌≡◌, ℕ, ◌-◌, ◌<◌, true, List, [], ◌∷◌, ◌++◌, length, map, Option, None, Some, IfSome, Result, Ok, refl, sym, ap, ◌∙◌, subst, arith}
 use Rattle.std.specs.List.{All}
+use Rattle.std.proofs.lemmas.Bool.{true≢false}
 use Rattle.std.proofs.lemmas.List.{length-map}
 use Rattle.pm_base.specs.Place.{Place, IsPlace}
 use Rattle.pm_base.specs.declared.mesh.Corners.{Corners}
@@ -19,13 +20,14 @@ use Rattle.obj_scan.specs.Meaning.{scan_meaning_of}
 use Rattle.obj_scan.specs.Laws.{scanned_mesh, with_weights, weights_in, scaled_up}
 use Rattle.obj_scan.proofs.ReadLaws.{read_scanned}
 use Rattle.obj_prepare.specs.declared.placing.Fit.TheVariants as fits
-use Rattle.obj_prepare.specs.Named.{IsWithinMesh, of_three}
+use Rattle.obj_scan.specs.Meaning.{IsWithinLimits}
+use Rattle.obj_prepare.specs.Named.{IsWithinMesh, is_some_corner, of_three}
 use Rattle.obj_prepare.specs.Joining.{place_in_list, joined_faces}
 use Rattle.obj_prepare.specs.Placing.{fit_of, prepared_places_of}
 use Rattle.obj_prepare.specs.Prepared.{staying, IsPrepared, IsPreparedWith}
 use Rattle.obj_prepare.specs.Laws.{AreFit}
 use Rattle.obj_prepare.proofs.FitMeshes.{fit_meshes_stay}
-use Rattle.obj_prepare.proofs.PieceLaws.{split_formed}
+use Rattle.obj_prepare.proofs.PieceLaws.{corners_named, split_formed}
 use Rattle.obj_prepare.proofs.PlacingLaws.{length-places_of}
 use Rattle.obj_prepare.proofs.ThreeLaws.{three_of_manifold, three_of_mesh}
 use Rattle.obj_prepare.proofs.TurnedLaws.{turned_stand}
@@ -33,9 +35,10 @@ use Rattle.prepare.specs.declared.fault.Fault.{Fault}
 use Rattle.std.specs.Prelude.{codes}
 use Rattle.prepare.specs.Thin.{thin_count}
 use Rattle.prepare.specs.Texts.{output_text, note_line, last_note, notes_text}
-use Rattle.prepare.specs.Outcome.{Done, MakesPrepared, fit_in, places_in, counts_of, IsPreparedText, made}
+use Rattle.prepare.specs.Outcome.{Done, MakesPrepared, cut_in, fit_in, places_in, counts_in, IsPreparedText, made}
 use Rattle.prepare.specs.Ending.{Finished}
 use Rattle.prepare.specs.Laws.{NeedsNothing, as_it_is, FitScansStay, FitTextsStay, StaysAsItIs}
+use Rattle.prepare.proofs.RecutLaws.{cut_long, cut_named, cut_within}
 use Rattle.prepare.proofs.ScannedLaws.{meaning_sound}
 use Rattle.prepare.proofs.StandingLaws.{standing_fit, standing_places}
 use Rattle.prepare.proofs.NothingLaws.{nothing_done, nothing_told, nothing_said, no_account, no_warning}
@@ -55,33 +58,43 @@ itself_formed places faces within p =
     (omega (arith, long, within.vertices_few))
 
 -- The triangles of a text over the places of its points.
-placed_within : (size : Option ℕ) (bytes : List ℕ) (s : Scanned) → scan_meaning_of bytes ≡ Ok s
-    → IsWithinMesh (length (places_in size s)) s.faces
-placed_within size bytes s means =
-    let within = (meaning_sound bytes s means).scanning.within in
-    subst (λ (n : ℕ). IsWithinMesh n s.faces)
-    (sym (length-places_of size s.points (of_three s.faces)))
-    (record {
-      vertices_few = within.points;
-      faces_few = within.faces;
-      corners = within.corners;
-    })
+placed_within : (size : Option ℕ) (s : Scanned) → IsWithinLimits s
+    → IsWithinMesh (length (places_in size s)) (cut_in size s)
+placed_within size s within =
+    subst (λ (n : ℕ). IsWithinMesh n (cut_in size s))
+    (sym (length-places_of size s.points (of_three s.faces))) (cut_within size s within)
+
+-- Where triangles of three vertices came out there were some.
+some_fans : (size : Option ℕ) (s : Scanned) (fans cut : List Corners) → fans ≡ of_three s.faces
+    → cut ≡ of_three (cut_in size s) → 0 < length cut → 0 < length fans
+some_fans size s (f ∷ fans) cut is are some = omega arith
+some_fans size s [] [] is are some = absurd (omega (arith, some))
+some_fans size s [] (f ∷ cut) is are some =
+    let named : is_some_corner (of_three (cut_in size s)) f.a ≡ true =
+    subst (λ (l : List Corners). is_some_corner l f.a ≡ true) are
+    (corners_named (f ∷ cut) 0 (omega arith)).a in
+    absurd (true≢false (sym (cut_named size s f.a named)
+    ∙ ap (λ (l : List Corners). is_some_corner l f.a) (sym is)))
 
 stays_made : (size : Option ℕ) (bytes : List ℕ) (s : Scanned) → scan_meaning_of bytes ≡ Ok s
-    → NeedsNothing size s → (k : ℕ) × AreInsideOut (net_of s.faces) (places_in size s) k
+    → NeedsNothing size s → (k : ℕ) × AreInsideOut (net_of (cut_in size s)) (places_in size s) k
     × MakesPrepared size s (as_it_is size s k)
 stays_made size bytes s means needs =
+    let limits = (meaning_sound bytes s means).scanning.within in
     let places = places_in size s in
-    let m : Mesh = record { points = places; faces = s.faces } in
-    let within = placed_within size bytes s means in
-    let p : IsPrepared places s.faces m =
-    fit_meshes_stay places s.faces within needs.stand needs.manifold needs.fit in
+    let cut = cut_in size s in
+    let fans = of_three s.faces in
+    let m : Mesh = record { points = places; faces = cut } in
+    let within = placed_within size s limits in
+    let p : IsPrepared places cut m =
+    fit_meshes_stay places cut within needs.stand needs.manifold needs.fit in
     let (k, inward, told) = nothing_told m within.corners needs.manifold needs.fit p in
-    let three : of_three s.faces
-    ≡ s.faces = three_of_manifold s.faces needs.stand needs.manifold in
+    let three : of_three cut ≡ cut = three_of_manifold cut needs.stand needs.manifold in
     let vertices : length s.points
-    ≡ length places = sym (length-places_of size s.points (of_three s.faces)) in
-    let twice : length s.faces - length (of_three s.faces) ≡ 0 = omega (arith, ap length three) in (
+    ≡ length places = sym (length-places_of size s.points fans) in
+    let twice : length cut - length (of_three cut) ≡ 0 = omega (arith, ap length three) in
+    let some : 0 < length fans = some_fans size s fans (of_three cut) refl refl
+    (subst (λ (fs : List Corners). 0 < length fs) (sym three) needs.some) in (
       k,
       inward,
       record {
@@ -89,16 +102,15 @@ stays_made size bytes s means needs =
         notes = nothing_done k;
         prepared = subst (λ (fs : List Corners). IsPreparedWith places fs m (nothing_done k))
             (sym three) (p, told);
-        formed = itself_formed places s.faces within p;
+        formed = itself_formed places cut within p;
         manifold = needs.manifold;
         some = needs.some;
         text_is = refl;
         notes_are = sym
-            (ap (notes_text (counts_of s m) (nothing_done k) 0 (fit_in size s))
-            (no_warning (fit_in size s) s.points (of_three s.faces)
-            (subst (λ (fs : List Corners). 0 < length fs) (sym three) needs.some))
-            ∙ nothing_said (counts_of s m) 0 k (fit_in size s)
-            (no_account (counts_of s m) vertices refl) twice);
+            (ap (notes_text (counts_in size s m) (nothing_done k) 0 (fit_in size s))
+            (no_warning (fit_in size s) s.points fans some)
+            ∙ nothing_said (counts_in size s m) 0 k (fit_in size s)
+            (no_account (counts_in size s m) vertices (sym (cut_long size s limits))) twice);
       },
     )
 

@@ -26,7 +26,7 @@ use Rattle.obj_prepare.specs.Laws.{AreFit}
 use Rattle.prepare.specs.declared.fault.Fault.{Fault}
 use Rattle.prepare.specs.Thin.{thin_count}
 use Rattle.prepare.specs.Texts.{output_text, note_line, notes_text, last_note}
-use Rattle.prepare.specs.Outcome.{Done, MakesPrepared, IsPreparedText, fit_in, places_in, counts_of}
+use Rattle.prepare.specs.Outcome.{Done, MakesPrepared, IsPreparedText, cut_in, overlapping_in, fit_in, places_in, counts_in}
 
 -- A text has one outcome, and one place that decides it.
 abbrev pub OnePreparedText : Type 0
@@ -103,8 +103,9 @@ TextsLeadBack = (size : Option ℕ) (bytes : List ℕ) (s : Scanned) (done : Don
 -- or came out. Each vertex
 -- has no face of three vertices, was joined to an earlier one, has lost its faces, or came out; so
 -- many were split off.
-pub record IsAccounted (s : Scanned) (m : Mesh) (notes : Notes) : Type 0 where
-  pub triangles : (counts_of s m).twice + notes.flat + notes.double + length m.faces
+pub record IsAccounted (size : Option ℕ) (s : Scanned) (m : Mesh)
+    (notes : Notes) : Type 0 where
+  pub triangles : (counts_in size s m).twice + notes.flat + notes.double + length m.faces
       ≡ length s.faces
   pub split_few : notes.split ≤ length m.points
   pub vertices : notes.unnamed + notes.joined + notes.gone + (length m.points - notes.split)
@@ -113,7 +114,7 @@ pub record IsAccounted (s : Scanned) (m : Mesh) (notes : Notes) : Type 0 where
 -- So the numbers that are said of a mesh account for each vertex and triangle of its text.
 abbrev pub TextsAreAccounted : Type 0
 TextsAreAccounted = (size : Option ℕ) (bytes : List ℕ) (s : Scanned) (done : Done)
-    → scan_meaning_of bytes ≡ Ok s → (k : MakesPrepared size s done) → IsAccounted s k.mesh k.notes
+    → scan_meaning_of bytes ≡ Ok s → (k : MakesPrepared size s done) → IsAccounted size s k.mesh k.notes
 
 -- The text of a mesh, prepared without a size, comes back after a comment. Vertices that were split
 -- off stand at one place, so they are joined, and as many are split off again, maybe along sides
@@ -129,7 +130,7 @@ pub record ComesBack (text : List ℕ) (m : Mesh) : Type 0 where
   pub outcome : IsPreparedText None text
       (Ok (record {
         text = output_text fits.Standing m;
-        notes = notes_text (counts_of (scanned_mesh m) m) notes 0 fits.Standing None;
+        notes = notes_text (counts_in None (scanned_mesh m) m) notes 0 fits.Standing None;
       })) None
 
 -- What is written comes back so, whatever the size was.
@@ -154,25 +155,26 @@ FitTextsStay = (bytes : List ℕ) (m : Mesh) → IsFormed bytes → meaning_of 0
           ++ last_note fits.Standing;
     })) None
 
--- A text that needs nothing: it has triangles, each of which has three different corners, the
--- triangles are an oriented manifold, each point is
--- used, and no two come to stand at one place of the grid.
+-- A text that needs nothing once polygons were cut anew: it has triangles, each of which has three
+-- different corners, the triangles are an oriented manifold, each point is used, and no two come to
+-- stand at one place of the grid.
 pub record NeedsNothing (size : Option ℕ) (s : Scanned) : Type 0 where
-  pub some : 0 < length s.faces
-  pub stand : AllStand (net_of s.faces)
-  pub manifold : IsOrientedManifold (net_of s.faces)
-  pub fit : AreFit (places_in size s) s.faces
+  pub some : 0 < length (cut_in size s)
+  pub stand : AllStand (net_of (cut_in size s))
+  pub manifold : IsOrientedManifold (net_of (cut_in size s))
+  pub fit : AreFit (places_in size s) (cut_in size s)
 
 -- The output and the notes of these triangles over the places of these points: polygons that were
--- cut, weights that were passed over, closed surfaces inside out, faces without area, and how
+-- cut, those that overlap, weights that were passed over, closed surfaces inside out, faces without area, and how
 -- places lead back.
 abbrev pub as_it_is : Option ℕ → Scanned → ℕ → Done
 as_it_is size s inside_out = record {
-  text = output_text (fit_in size s) (record { points = places_in size s; faces = s.faces });
-  notes = note_line (codes "polygons cut") s.polygons
+  text = output_text (fit_in size s) (record { points = places_in size s; faces = cut_in size s });
+  notes = note_line (codes "polygons cut") (length s.polygons)
+      ++ note_line (codes "polygons whose triangles overlap") (overlapping_in size s)
       ++ note_line (codes "weights passed over") s.weights
       ++ note_line (codes "closed surfaces inside out") inside_out
-      ++ note_line (codes "faces without area") (thin_count (places_in size s) s.faces)
+      ++ note_line (codes "faces without area") (thin_count (places_in size s) (cut_in size s))
       ++ last_note (fit_in size s);
 }
 
@@ -180,7 +182,7 @@ as_it_is size s inside_out = record {
 abbrev pub FitScansStay : Type 0
 FitScansStay = (size : Option ℕ) (bytes : List ℕ) (s : Scanned)
     → scan_meaning_of bytes ≡ Ok s → NeedsNothing size s
-    → (inside_out : ℕ) × AreInsideOut (net_of s.faces) (places_in size s) inside_out
+    → (inside_out : ℕ) × AreInsideOut (net_of (cut_in size s)) (places_in size s) inside_out
     × IsPreparedText size bytes (Ok (as_it_is size s inside_out)) None
 
 -- Where the bytes spell such a text, it was put as it is, and no more than that was said.
@@ -188,7 +190,7 @@ abbrev pub StaysAsItIs : Option ℕ → List ℕ → Option (List ℕ) → Optio
     → Option (List ℕ) → Option (List ℕ) → ℕ → ℕ → Type 0
 StaysAsItIs size bytes old new err_old err_new err_before err_now = (s : Scanned)
     → scan_meaning_of bytes ≡ Ok s → NeedsNothing size s
-    → (inside_out : ℕ) × AreInsideOut (net_of s.faces) (places_in size s) inside_out
+    → (inside_out : ℕ) × AreInsideOut (net_of (cut_in size s)) (places_in size s) inside_out
     × Gains old new (as_it_is size s inside_out).text
     × Said err_old err_new err_before err_now (as_it_is size s inside_out).notes
 

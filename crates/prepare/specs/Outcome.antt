@@ -5,6 +5,7 @@ use Rattle.pm_base.specs.Place.{Place}
 use Rattle.pm_base.specs.Meshes.{Mesh, IsWellFormed}
 use Rattle.pm_base.specs.Sides.{net_of}
 use Rattle.pm_base.specs.Fans.{IsOrientedManifold}
+use Rattle.pm_ears.specs.Recutting.{recut, overlapping_count}
 use Rattle.obj_scan.specs.Refusals.{Refused}
 use Rattle.obj_scan.specs.Judged.{Scanned}
 use Rattle.obj_scan.specs.Meaning.{scan_meaning_of}
@@ -37,17 +38,27 @@ fit_in size s = fit_of size s.points (of_three s.faces)
 abbrev pub places_in : Option ℕ → Scanned → List Place
 places_in size s = prepared_places_of size s.points (of_three s.faces)
 
--- How many vertices and triangles there were, and came out; how many polygons were cut; how many
--- weights were passed over; how many faces name a vertex twice; and how many came out without area.
-abbrev pub counts_of : Scanned → Mesh → Counts
-counts_of s m = record {
+-- The triangles once polygons are cut anew over these places, and how many polygons keep a fan that
+-- overlaps.
+abbrev pub cut_in : Option ℕ → Scanned → List Corners
+cut_in size s = recut (places_in size s) s.polygons s.faces
+
+abbrev pub overlapping_in : Option ℕ → Scanned → ℕ
+overlapping_in size s = overlapping_count (places_in size s) s.polygons s.faces
+
+-- How many vertices and triangles there were, and came out; how many polygons were cut, and how
+-- many of them overlap; how many weights were passed over; how many of these triangles name a vertex
+-- twice; and how many faces came out without area.
+abbrev pub counts_of : Scanned → List Corners → ℕ → Mesh → Counts
+counts_of s cut overlapping m = record {
   vertices_in = length s.points;
   vertices_out = length m.points;
   triangles_in = length s.faces;
   triangles_out = length m.faces;
-  polygons = s.polygons;
+  polygons = length s.polygons;
+  overlapping = overlapping;
   weights = s.weights;
-  twice = length s.faces - length (of_three s.faces);
+  twice = length cut - length (of_three cut);
   thin = thin_count m.points m.faces;
 }
 
@@ -67,19 +78,23 @@ rounded_for points places triangles joined = if joined == 0 then 0
     else rounded_count points places triangles
 
 abbrev pub rounded_in : Option ℕ → Scanned → Notes → ℕ
-rounded_in size s notes = rounded_for s.points (places_in size s) (of_three s.faces) notes.joined
+rounded_in size s notes =
+    rounded_for s.points (places_in size s) (of_three (cut_in size s)) notes.joined
 
--- What is done with the points and triangles of a text: points are brought onto the grid, triangles become an oriented
--- manifold of these points, and the texts tell of that.
+abbrev pub counts_in : Option ℕ → Scanned → Mesh → Counts
+counts_in size s m = counts_of s (cut_in size s) (overlapping_in size s) m
+
+-- What is done with the points and triangles of a text: points are brought onto the grid, polygons
+-- are cut anew, triangles become an oriented manifold of these points, and the texts tell of that.
 pub record MakesPrepared (size : Option ℕ) (s : Scanned) (done : Done) : Type 0 where
   pub mesh : Mesh
   pub notes : Notes
-  pub prepared : IsPreparedWith (places_in size s) (of_three s.faces) mesh notes
+  pub prepared : IsPreparedWith (places_in size s) (of_three (cut_in size s)) mesh notes
   pub formed : IsWellFormed mesh
   pub manifold : IsOrientedManifold (net_of mesh.faces)
   pub some : 0 < length mesh.faces
   pub text_is : done.text ≡ output_text (fit_in size s) mesh
-  pub notes_are : done.notes ≡ notes_text (counts_of s mesh) notes (rounded_in size s notes)
+  pub notes_are : done.notes ≡ notes_text (counts_in size s mesh) notes (rounded_in size s notes)
       (fit_in size s) (warning_in size s notes)
 
 -- No face comes out.
@@ -95,9 +110,9 @@ pub data IsPreparedText (size : Option ℕ) (bytes : List ℕ) : Result Done Fau
   bad_line : (r : Refused) → scan_meaning_of bytes ≡ Err r
       → IsPreparedText size bytes (Err (faults.Line r.fault r.line)) r.place
   too_many : (s : Scanned) → scan_meaning_of bytes ≡ Ok s
-      → HasTooMany (places_in size s) (of_three s.faces)
+      → HasTooMany (places_in size s) (of_three (cut_in size s))
       → IsPreparedText size bytes (Err faults.TooMany) None
   no_face : (s : Scanned) → scan_meaning_of bytes ≡ Ok s
-      → LeavesNoFace (places_in size s) (of_three s.faces)
+      → LeavesNoFace (places_in size s) (of_three (cut_in size s))
       → IsPreparedText size bytes (Err faults.NoFaces) None
   made : (s : Scanned) (done : Done) → scan_meaning_of bytes ≡ Ok s → MakesPrepared size s done → IsPreparedText size bytes (Ok done) None

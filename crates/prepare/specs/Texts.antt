@@ -79,6 +79,7 @@ joined_line joined rounded =
 -- What is said of polygons, and of vertices with a weight.
 unfoldable pub line_notes : Counts → List ℕ
 line_notes c = note_line (codes "polygons cut") c.polygons
+    ++ note_line (codes "polygons whose triangles overlap") c.overlapping
     ++ note_line (codes "weights passed over") c.weights
 
 -- What is said of the faces and places of the input, of which so many were joined by rounding.

@@ -58,6 +58,11 @@ fn add_line_notes(text: &mut Vec<u8>, counts: Counts) -> Result<(), AllocError>
     ensures { OnOk result (text.new.items ≡ text.old.items ++ line_notes counts) }
 {
     add_note(text, b"polygons cut", counts.polygons)?;
+    add_note(
+        text,
+        b"polygons whose triangles overlap",
+        counts.overlapping,
+    )?;
     add_note(text, b"weights passed over", counts.weights)?;
     Ok(())
 }

@@ -10,6 +10,7 @@ ghost use Rattle.prepare.specs.Outcome.{counts_of};
 use crate::thin::count_thin;
 use obj_scan::Scan;
 use pm_base::{Corners, Mesh};
+use pm_ears::Recut;
 
 /// How many vertices and triangles a text had, and how many came out of it.
 #[derive(Clone, Copy, Debug, PartialEq, Eq)]
@@ -20,6 +21,8 @@ pub struct Counts {
     pub triangles_out: u32,
     /// Faces of more than three corners.
     pub polygons: u32,
+    /// Polygons that keep a fan of which a triangle is turned over.
+    pub overlapping: u32,
     /// Vertices with a weight that isn't 1.
     pub weights: u32,
     /// Triangles that name a vertex twice.
@@ -28,23 +31,25 @@ pub struct Counts {
     pub thin: u32,
 }
 
-/// The counts of a text, of whose triangles these name three vertices, and of the mesh that came
-/// out.
-pub fn counts_of(scan: &Scan, three: &[Corners], mesh: &Mesh) -> Counts
+/// The counts of a text, of whose triangles, once polygons were cut anew, these name three vertices,
+/// and of the mesh that came out.
+pub fn counts_of(scan: &Scan, cut: &Recut, three: &[Corners], mesh: &Mesh) -> Counts
     requires within { IsWithinLimits (scanned_of scan.now) }
-    requires three { three.now ≡ of_three scan.now.faces.items }
+    requires cut { length cut.now.faces.items ≤ MOST_FACES }
+    requires three { three.now ≡ of_three cut.now.faces.items }
     requires few { length three.now ≤ MOST_FACES }
     requires formed { IsWellFormed (mesh_of mesh.now) }
-    ensures { result ≡ counts_of (scanned_of scan.now) (mesh_of mesh.now) }
+    ensures { result ≡ counts_of (scanned_of scan.now) cut.now.faces.items cut.now.overlapping (mesh_of mesh.now) }
 {
     Counts {
         vertices_in: scan.points.len() as u32,
         vertices_out: mesh.points.len() as u32,
         triangles_in: scan.faces.len() as u32,
         triangles_out: mesh.faces.len() as u32,
-        polygons: scan.polygons,
+        polygons: scan.polygons.len() as u32,
+        overlapping: cut.overlapping,
         weights: scan.weights,
-        twice: (scan.faces.len() as u32).saturating_sub(three.len() as u32),
+        twice: (cut.faces.len() as u32).saturating_sub(three.len() as u32),
         thin: count_thin(mesh.points.as_slice(), mesh.faces.as_slice()),
     }
 }

@@ -5,6 +5,7 @@ mod account;
 mod changes;
 mod counts;
 mod fault;
+mod laying;
 mod make;
 mod notes;
 mod outcomes;

@@ -1,5 +1,6 @@
 //! A mesh that is an oriented manifold, made of any OBJ text.
-ghost use Rattle.std.specs.Prelude.{◌≡◌, length, false, None, Ok, IfOk, IfErr, IfSome, OnOk};
+ghost use Rattle.std.specs.Prelude.{◌≡◌, ◌≤◌, length, false, None, Ok, IfOk, IfErr, IfSome, OnOk};
+ghost use Rattle.pm_base.specs.declared.limits.TheConstants.{MOST_FACES};
 ghost use Rattle.pm_base.specs.Meshes.{IsWellFormed, mesh_of};
 ghost use Rattle.pm_io.specs.Bytes.{AtEnd};
 ghost use Rattle.obj_scan.specs.Fails.{scanned_of};
@@ -13,10 +14,10 @@ ghost use Rattle.prepare.specs.Ending.{StopsPreparing};
 
 use crate::counts::counts_of;
 use crate::fault::{Fault, InputFail};
+use crate::laying::{Laid, lay_out};
 use crate::notes::{head_line, notes_text};
 use obj_prepare::{
-    ExactPoint, Fit, LongestAxis, Placing, PrepareFail, Prepared, longest_axis, of_three,
-    place_points, prepare, rounded_count,
+    ExactPoint, Fit, LongestAxis, PrepareFail, Prepared, longest_axis, prepare, rounded_count,
 };
 use obj_scan::{Scan, ScanFail, scan_obj};
 use pm_base::{Corners, Mesh, Point};
@@ -77,24 +78,28 @@ fn rounded_for(
 fn notes_of(
     alloc: Global,
     scan: &Scan,
-    three: &[Corners],
-    placing: &Placing,
+    laid: &Laid,
     prepared: &Prepared,
 ) -> Result<Vec<u8>, AllocError>
     requires within { IsWithinLimits (scanned_of scan.now) }
-    requires three { three.now ≡ of_three_in scan.now.faces.items }
-    requires placed { length placing.now.places.items ≡ length scan.now.points.items }
-    requires sized { IsSized placing.now.fit }
+    requires fans { IsWithinMesh (length scan.now.points.items) laid.now.fans.items }
+    requires placed { length laid.now.placing.places.items ≡ length scan.now.points.items }
+    requires sized { IsSized laid.now.placing.fit }
+    requires cut { length laid.now.cut.faces.items ≤ MOST_FACES }
+    requires three { laid.now.three.items ≡ of_three_in laid.now.cut.faces.items }
+    requires three_within { IsWithinMesh (length scan.now.points.items) laid.now.three.items }
     requires formed { IsWellFormed (mesh_of prepared.now.mesh) }
-    ensures { IfOk result (λ text. text.items ≡ notes_text_of (counts_of (scanned_of scan.now) (mesh_of prepared.now.mesh)) prepared.now.notes
-        (rounded_for scan.now.points.items placing.now.places.items three.now prepared.now.notes.joined) placing.now.fit
-        (warning_for placing.now.fit scan.now.points.items three.now prepared.now.notes.flat)) }
+    ensures { IfOk result (λ text. text.items ≡ notes_text_of (counts_of (scanned_of scan.now) laid.now.cut.faces.items laid.now.cut.overlapping (mesh_of prepared.now.mesh)) prepared.now.notes
+        (rounded_for scan.now.points.items laid.now.placing.places.items laid.now.three.items prepared.now.notes.joined) laid.now.placing.fit
+        (warning_for laid.now.placing.fit scan.now.points.items laid.now.fans.items prepared.now.notes.flat)) }
 {
-    let counts = counts_of(scan, three, &prepared.mesh);
+    let counts = counts_of(scan, &laid.cut, &laid.three, &prepared.mesh);
     let done = prepared.notes;
-    let rounded = rounded_for(alloc, &scan.points, &placing.places, three, done.joined)?;
-    let warning = warning_for(alloc, &placing.fit, &scan.points, three, done.flat)?;
-    notes_text(alloc, counts, &done, rounded, &placing.fit, warning)
+    let places = &laid.placing.places;
+    let rounded = rounded_for(alloc, &scan.points, places, &laid.three, done.joined)?;
+    let fit = &laid.placing.fit;
+    let warning = warning_for(alloc, fit, &scan.points, &laid.fans, done.flat)?;
+    notes_text(alloc, counts, &done, rounded, fit, warning)
 }
 
 // What is made of points and triangles.
@@ -105,13 +110,10 @@ fn make_of(alloc: Global, size: Option<u32>, scan: &Scan) -> Result<Made, InputF
     ensures formed { IfOk result (λ m. IsWellFormed (mesh_of m.mesh)) }
     ensures err { IfErr result (IsMakeFail size (scanned_of scan.now)) }
 {
-    let Ok(three) = of_three(alloc, &scan.faces) else {
+    let Ok(laid) = lay_out(alloc, size, scan) else {
         return Err(InputFail::OutOfMemory);
     };
-    let Ok(placing) = place_points(alloc, size, &scan.points, &three) else {
-        return Err(InputFail::OutOfMemory);
-    };
-    let prepared = match prepare(alloc, &placing.places, &three) {
+    let prepared = match prepare(alloc, &laid.placing.places, &laid.three) {
         Ok(prepared) => prepared,
         Err(PrepareFail::TooMany) => return Err(InputFail::Faulty(Fault::TooMany)),
         Err(PrepareFail::OutOfMemory) => return Err(InputFail::OutOfMemory),
@@ -119,10 +121,10 @@ fn make_of(alloc: Global, size: Option<u32>, scan: &Scan) -> Result<Made, InputF
     if prepared.mesh.faces.as_slice().is_empty() {
         return Err(InputFail::Faulty(Fault::NoFaces));
     }
-    let Ok(notes) = notes_of(alloc, scan, &three, &placing, &prepared) else {
+    let Ok(notes) = notes_of(alloc, scan, &laid, &prepared) else {
         return Err(InputFail::OutOfMemory);
     };
-    let Ok(head) = head_line(alloc, &placing.fit) else {
+    let Ok(head) = head_line(alloc, &laid.placing.fit) else {
         return Err(InputFail::OutOfMemory);
     };
     let mesh = prepared.mesh;
