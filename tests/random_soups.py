@@ -1,5 +1,6 @@
 """Random texts for `prepare`: meshes whose faces don't fit together, as scanners and modelling
 programs write them."""
+from math import atan2
 from random import Random
 from typing import List, Tuple
 
@@ -66,6 +67,23 @@ def merged(rng: Random, soup: Soup) -> Soup:
     return points, faces
 
 
+def with_polygon(rng: Random, soup: Soup) -> Soup:
+    """Puts in a polygon of points of its own, mostly round a middle, so that it seldom crosses
+    itself; it may name one of its corners twice."""
+    points, faces = soup
+    ring = [(rng.randint(-9, 9), rng.randint(-9, 9)) for _ in range(rng.randint(4, 12))]
+    if rng.random() < 0.8:
+        ring.sort(key=lambda at: atan2(at[1], at[0]))
+    axis, face = rng.randrange(3), list(range(len(points), len(points) + len(ring)))
+    for x, y in ring:
+        lifted = rng.choice([3, 3, 3, 4])
+        points.append([(lifted, x, y), (x, lifted, y), (x, y, lifted)][axis])
+    if rng.random() < 0.2:
+        face.insert(rng.randint(0, len(face)), rng.choice(face))
+    faces.insert(rng.randint(0, len(faces)), face)
+    return points, faces
+
+
 def crowded(rng: Random, soup: Soup) -> Soup:
     """Moves points onto others."""
     points, faces = soup
@@ -78,7 +96,7 @@ def crowded(rng: Random, soup: Soup) -> Soup:
 def random_soup(rng: Random) -> Soup:
     mesh = random_mesh(rng)
     soup: Soup = list(mesh.points), [list(face) for face in mesh.faces]
-    for change in (opened, doubled, turned, with_more, merged, crowded):
+    for change in (opened, doubled, turned, with_more, with_polygon, merged, crowded):
         if rng.random() < 0.3:
             soup = change(rng, soup)
     return soup

@@ -18,6 +18,7 @@ from .mesh import (
     numbered,
     sides,
 )
+from .polygons import cut
 from .scan import UNITS, Soup, nearest, soup_of_text
 
 
@@ -246,6 +247,25 @@ class Account(NamedTuple):
         return "" if same else f"prepare: {vertices}; {triangles}\n"
 
 
+def of_three(faces: List[Corners]) -> List[Corners]:
+    return [face for face in faces if len(set(face)) == 3]
+
+
+def corners_in(faces: List[Corners]) -> List[int]:
+    """The vertices that faces name, in ascending order."""
+    return sorted({corner for face in faces for corner in face})
+
+
+def recut(soup: Soup, places: Dict[int, Point]) -> Tuple[List[Corners], int]:
+    """The faces with polygons cut anew over their places, and how many polygons overlap."""
+    faces, overlapping = list(soup.faces), 0
+    for first, corners in soup.polygons:
+        made = cut(corners, [places.get(v, (0, 0, 0)) for v in corners])
+        faces[first : first + len(corners) - 2] = made.triangles
+        overlapping += made.overlaps
+    return faces, overlapping
+
+
 class Prepared(NamedTuple):
     mesh: Mesh
     fit: Optional[Fit]
@@ -256,24 +276,30 @@ class Prepared(NamedTuple):
 
 
 def prepared(soup: Soup, size: Optional[int]) -> Prepared:
-    """Faces that name a vertex twice count for nothing."""
-    three = [face for face in soup.faces if len(set(face)) == 3]
-    named = sorted({corner for face in three for corner in face})
-    fit = fit_of([soup.points[v] for v in named], size)
-    places = {v: place_of(fit, soup.points[v]) for v in named}
+    """Faces that name a vertex twice count for nothing. Points are placed by the fans of polygons,
+    which are cut anew then."""
+    fans = of_three(soup.faces)
+    placed = corners_in(fans)
+    fit = fit_of([soup.points[v] for v in placed], size)
+    stand = {v: place_of(fit, soup.points[v]) for v in placed}
+    recut_faces, overlapping = recut(soup, stand)
+    three = of_three(recut_faces)
+    named = corners_in(three)
+    places = {v: stand[v] for v in named}
     names = joined(places)
     renamed = [(names[a], names[b], names[c]) for a, b, c in three]
     stay = kept(renamed)
     turns = turning(stay, places)
     faces = numbered(turned(stay, turns.flags))
-    fans = split(faces)
-    new = {side: vertex for vertex, fan in enumerate(fans) for side in fan}
-    points = [places[ends(faces, fan[0])[0]] for fan in fans]
+    rounds = split(faces)
+    new = {side: vertex for vertex, sides_of in enumerate(rounds) for side in sides_of}
+    points = [places[ends(faces, sides_of[0])[0]] for sides_of in rounds]
     corners = [(new[3 * face], new[3 * face + 1], new[3 * face + 2]) for face in faces]
     flat = sum(len(set(face)) < 3 for face in renamed)
     used = {v for face in stay for v in face}
     notes = [
         ("polygons cut", len(soup.polygons)),
+        ("polygons whose triangles overlap", overlapping),
         ("weights passed over", len(soup.weights)),
         ("vertices joined", sum(names[v] != v for v in named)),
         ("faces that name a vertex twice", len(soup.faces) - len(three)),
@@ -284,7 +310,7 @@ def prepared(soup: Soup, size: Optional[int]) -> Prepared:
         ("edges of three faces or more", sum(len(at) > 2 for at in sides_of_edges(stay).values())),
         ("closed surfaces inside out", turns.inside_out),
         ("sides cut open", len(cut_sides(faces))),
-        ("vertices split off", len(fans) - len(used)),
+        ("vertices split off", len(rounds) - len(used)),
         ("vertices that no face has", len(soup.points) - len(named)),
         ("vertices whose faces all went", len({names[v] for v in named} - used)),
         (
@@ -294,9 +320,9 @@ def prepared(soup: Soup, size: Optional[int]) -> Prepared:
     ]
     account = Account(len(soup.points), len(points), len(soup.faces), len(corners))
     warning = ""
-    if fit is not None and 10 * flat >= len(three):
+    if fit is not None and 10 * flat >= len(fans):
         warning = "a tenth of the triangles or more became edges: "
-        warning += fit.longest({v: soup.points[v] for v in named})
+        warning += fit.longest({v: soup.points[v] for v in placed})
     rounded = len({soup.points[v] for v in named}) - len(set(places.values()))
     return Prepared(Mesh(points, corners), fit, account, notes, rounded, warning)
 

@@ -1,5 +1,5 @@
-"""What any OBJ text spells for `prepare`: points, triangles, and how many polygons were cut and
-weights passed over.
+"""What any OBJ text spells for `prepare`: points, triangles, polygons among them, and how many
+weights were passed over.
 
 Numbers may have decimals and exponents, faces any number of corners, and a line that ends in a
 backslash is continued by the next. A byte order mark before the first line is passed over. Points
@@ -24,6 +24,7 @@ from .obj import (
     lines_of,
     vertex_named,
 )
+from .polygons import Polygon, fan
 
 SIXTEEN_BITS, LONE_RETURN = 10, 11
 BYTE_ORDER_MARK = b"\xef\xbb\xbf"
@@ -36,7 +37,7 @@ GREATEST_UNITS = 10**32
 class Soup(NamedTuple):
     points: List[Point]
     faces: List[Corners]
-    polygons: List[int]  # how many corners each face had that had more than three
+    polygons: List[Polygon]
     weights: List[bytes]  # the fourth number of each vertex line of four numbers, where it isn't 1
 
 
@@ -69,13 +70,11 @@ def is_weight(field: bytes) -> bool:
         return fault.number == OUT_OF_RANGE
 
 
-def triangles(points: List[Point], corners: List[int]) -> List[Corners]:
-    """The triangles of the first corner and each two neighbours after it. A polygon of more than
-    three corners begins at the first whose point is least by x, then y, then z."""
-    if len(corners) > 3:
-        least = min(range(len(corners)), key=lambda i: points[corners[i]])
-        corners = corners[least:] + corners[:least]
-    return [(corners[0], p, q) for p, q in zip(corners[1:], corners[2:])]
+def begun_least(points: List[Point], corners: List[int]) -> List[int]:
+    """A polygon of more than three corners begins at the first whose point is least by x, then y,
+    then z."""
+    least = min(range(len(corners)), key=lambda i: points[corners[i]])
+    return corners[least:] + corners[:least]
 
 
 def take(soup: Soup, text: bytes) -> None:
@@ -93,9 +92,10 @@ def take(soup: Soup, text: bytes) -> None:
         corners = [vertex_named(field, len(soup.points)) for field in fields]
         if len(soup.faces) + len(corners) - 2 > MOST_FACES:
             raise Fault(TOO_MANY)
-        soup.faces.extend(triangles(soup.points, corners))
         if len(corners) > 3:
-            soup.polygons.append(len(corners))
+            corners = begun_least(soup.points, corners)
+            soup.polygons.append(Polygon(len(soup.faces), corners))
+        soup.faces.extend(fan(corners))
 
 
 def read_of(number: int, line: bytes) -> bytes:
