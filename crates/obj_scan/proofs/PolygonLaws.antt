@@ -1,5 +1,5 @@
 -- Laws of polygons and their triangles.
-use Rattle.std.proofs.Common.{◌≡◌, ℕ, zero, suc, ◌+◌, ◌-◌, ◌<◌, ◌≤◌, Bool, true, false, not, nat_lt, List, [], ◌∷◌, ◌++◌, length, get_or, take, refl, sym, ◌∙◌, ap, subst, arith}
+use Rattle.std.proofs.Common.{◌≡◌, ℕ, zero, suc, ◌+◌, ◌-◌, ◌<◌, ◌≤◌, Bool, true, false, not, nat_lt, List, [], ◌∷◌, ◌++◌, length, get_or, map, take, refl, sym, ◌∙◌, ap, subst, arith}
 use Rattle.std.specs.List.{list_all}
 use Rattle.std.proofs.lemmas.List.Folds.{list_all_at}
 use Rattle.std.proofs.lemmas.Bool.{ltb-true}
@@ -8,6 +8,7 @@ use borrow.Author.Differences.{ints}
 use Rattle.pm_base.specs.declared.mesh.Corners.{Corners}
 use Rattle.pm_base.specs.Place.{Place, origin}
 use Rattle.obj_scan.specs.Polygons.{is_place_before, is_least, before_least, fan}
+use Rattle.obj_scan.specs.Laws.{FansLeadBack}
 
 -- The order of places.
 
@@ -99,3 +100,12 @@ fan_next a rest (suc i) some lt =
     let n : suc i + 1 ≡ suc (suc i) = omega arith in
     let m : suc i - 1 ≡ i = omega arith in
     rw (n, m) (fan_after a rest i lt)
+
+-- The last corners of the triangles are the corners after the first two.
+last_corners : (a b : ℕ) (more : List ℕ) → map (λ (f : Corners). f.c) (fan a (b ∷ more)) ≡ more
+last_corners a b [] = refl
+last_corners a b (c ∷ more) = ap (λ (l : List ℕ). c ∷ l) (last_corners a c more)
+
+pub fans_lead_back : FansLeadBack
+fans_lead_back a b c more =
+    ap (λ (l : List ℕ). a ∷ b ∷ l) (last_corners a b (c ∷ more))

@@ -113,7 +113,7 @@ polygons_within ps faces corners true some all =
     (All-cons (IsPolygonWithin n) p [] (omega arith) (All-nil (IsPolygonWithin n))))
 polygons_within ps faces corners false few all = rw few (λ i d l. omega (arith, all i d l))
 
-polygon_scanning : (s t : Scanned) (corners : List ℕ) → IsScanning s → All (λ (c : ℕ). c < length s.points) corners → length s.faces + (length corners - 2) ≤ 1048576
+pub polygon_scanning : (s t : Scanned) (corners : List ℕ) → IsScanning s → All (λ (c : ℕ). c < length s.points) corners → length s.faces + (length corners - 2) ≤ 1048576
     → t ≡ with_scanned s (Found.polygon corners) → IsScanning t
 polygon_scanning s t corners scanning within room is =
     let all = s.faces ++ triangles s.points corners in
@@ -133,22 +133,6 @@ polygon_scanning s t corners scanning within room is =
       };
       weights = scanning.weights;
     })
-
-abbrev scanned_from : List Place → List Corners → List Polygon → ℕ → Scanned
-scanned_from points faces polygons weights =
-    record { points = points; faces = faces; polygons = polygons; weights = weights }
-
--- The same, from what the parts of the code say.
-pub polygon_scanned : (s : Scanned) (points : List Place) (faces : List Corners) (polygons : List Polygon) (corners held : List ℕ) → IsScanning s → All (λ (c : ℕ). c < length s.points) corners
-    → length s.faces + (length corners - 2) ≤ 1048576 → points ≡ s.points → faces ≡ s.faces ++ triangles points corners → held ≡ corners → polygons ≡ polygons_after s.polygons (length s.faces) held
-    → IsScanning (scanned_from s.points faces polygons s.weights)
-polygon_scanned s points faces polygons corners held scanning within room points_are faces_are held_is polygons_are =
-    let all = s.faces ++ triangles s.points corners in
-    polygon_scanning s (scanned_from s.points faces polygons s.weights) corners scanning within room
-    (ap (λ f. scanned_from s.points f polygons s.weights)
-    (faces_are ∙ ap (λ p. s.faces ++ triangles p corners) points_are)
-    ∙ ap (λ n. scanned_from s.points all n s.weights)
-    (polygons_are ∙ ap (polygons_after s.polygons (length s.faces)) held_is))
 
 -- A fault of what a text gives is the line's.
 pub given_fault : (s : Scanned) (r : Result Found ObjFault) (fail : ObjFail) (line : ℕ) → IsLineFault fail line r → IsLineFault fail line (given s r)

@@ -7,6 +7,8 @@ use Rattle.pm_base.specs.Meshes.{Mesh, IsWellFormed}
 use Rattle.pm_base.specs.Canonical.{canonical_text}
 use Rattle.obj_lines.specs.Text.{until, lines}
 use Rattle.obj_read.specs.Meaning.{meaning_of as mesh_meaning}
+use Rattle.pm_ears.specs.Recutting.{corners_of}
+use Rattle.obj_scan.specs.Polygons.{fan_of}
 use Rattle.obj_scan.specs.Forms.{has_lone_return, is_marked, is_wide}
 use Rattle.obj_scan.specs.Judged.{Scanned}
 use Rattle.obj_scan.specs.Refusals.{Refused}
@@ -44,6 +46,11 @@ pub record IsFormed (bytes : List ℕ) : Type 0 where
   pub ended : list_all (λ line. not (has_lone_return (until 10 line))) (lines bytes) ≡ true
   pub unmarked : is_marked bytes ≡ false
   pub narrow : is_wide bytes ≡ false
+
+-- The fan of a polygon keeps its corners in order, so the polygon is known by it.
+abbrev pub FansLeadBack : Type 0
+FansLeadBack = (a b c : ℕ) (more : List ℕ)
+    → corners_of (fan_of (a ∷ b ∷ c ∷ more)) ≡ a ∷ b ∷ c ∷ more
 
 -- A text so formed that is read as a mesh, with whole numbers for coordinates, is scanned as that
 -- mesh, of whatever weights it has.

@@ -1,11 +1,12 @@
 //! The lines of a text, one after the other: what they gave so far, and those that the next one continues.
 ghost use Rattle.std.specs.Prelude.{ℕ, ◌≡◌, ◌+◌, ◌-◌, ◌<◌, ◌≤◌, ◌++◌, ◌∷◌, [], length, true, false, take, Ok, OnOk, IfErr};
+ghost use Rattle.std.specs.List.{All};
 ghost use Rattle.pm_base.specs.declared.limits.TheConstants.{MOST_FACES, MOST_VERTICES};
 ghost use Rattle.obj_lines.specs.Text.{is_continued};
 ghost use Rattle.obj_read.specs.Fails.{IsLineFault};
 ghost use Rattle.obj_read.specs.Fields.{fields};
 ghost use Rattle.obj_scan.specs.Fails.{scanned_of};
-ghost use Rattle.obj_scan.specs.Judged.{scanned_vertex_line, polygon_line, polygons_after, weights_after};
+ghost use Rattle.obj_scan.specs.Judged.{Found, scanned_vertex_line, polygon_line, polygons_after, weights_after, with_scanned};
 ghost use Rattle.obj_scan.specs.Reading.{IsScanning, given, scanned_after, held_of, nothing_held, taken};
 
 use crate::OutOfMemory;
@@ -72,6 +73,16 @@ fn note_polygon(
     Ok(())
 }
 
+// Puts down the triangles of a face, and notes where they stand if it has more than three corners.
+fn put_face(scan: &mut Scan, corners: &mut Vec<u32>) -> Result<(), OutOfMemory>
+    requires within { All (λ (c : ℕ). c < length scan.old.points.items) corners.old.items }
+    requires room { length scan.old.faces.items + (length corners.old.items - 2) ≤ MOST_FACES }
+    ensures { OnOk result (scanned_of scan.new ≡ with_scanned (scanned_of scan.old) (Found.polygon corners.old.items)) }
+{
+    note_polygon(&mut scan.polygons, scan.faces.len() as u32, corners)?;
+    push_polygon(&scan.points, &mut scan.faces, corners)
+}
+
 // Takes a face.
 fn take_face(scan: &mut Scan, corners: &mut Vec<u32>, text: &[u8], line: u32) -> Result<(), ObjFail>
     requires scanning { IsScanning (scanned_of scan.old) }
@@ -81,10 +92,7 @@ fn take_face(scan: &mut Scan, corners: &mut Vec<u32>, text: &[u8], line: u32) ->
 {
     let (vertices, faces) = (scan.points.len() as u32, scan.faces.len() as u32);
     face_line(vertices, faces, text, line, corners)?;
-    if note_polygon(&mut scan.polygons, faces, corners).is_err() {
-        return Err(ObjFail::OutOfMemory);
-    }
-    match push_polygon(&scan.points, &mut scan.faces, corners) {
+    match put_face(scan, corners) {
         Ok(()) => Ok(()),
         Err(_) => Err(ObjFail::OutOfMemory),
     }

@@ -1,8 +1,10 @@
-//! The law of texts that both readers take.
-ghost use Rattle.obj_scan.specs.Laws.{ReadIsScanned, CommentedIsScanned};
+//! The laws of scanned texts.
+ghost use Rattle.obj_scan.specs.Laws.{FansLeadBack, ReadIsScanned, CommentedIsScanned};
 
-/// States the laws of texts that both readers take. It does nothing, and callers cite its clauses.
+/// States that a polygon is known by its fan, and the laws of texts that both readers take. It does
+/// nothing, and callers cite its clauses.
 pub fn scans_are_sound()
+    ensures fans { FansLeadBack }
     ensures read { ReadIsScanned }
     ensures commented { CommentedIsScanned }
 {}

@@ -6,4 +6,6 @@ pub mod CutLaws
 pub mod PieceLaws
 pub mod Worked
 pub mod Shown
+pub mod Putting
 pub mod RecutLaws
+pub mod Recuts

@@ -3,28 +3,21 @@ use Rattle.std.proofs.Common.{◌≡◌, ℕ, zero, suc, ◌+◌, ◌-◌, ◌<�
 use Rattle.std.specs.List.{All, list_all, filter}
 use Rattle.std.proofs.lemmas.Bool.{cases_Bool, and_parts, true≢false, cond-true, cond-false}
 use Rattle.std.proofs.lemmas.List.{length-map, length-take, length-drop}
-use Rattle.std.proofs.lemmas.List.Elements.{All-nil, All-cons, All-head, All-tail, All-append, All-take, All-drop}
+use Rattle.std.proofs.lemmas.List.Elements.{All-nil, All-cons, All-head, All-tail, All-append, All-take, All-drop, filter-append}
 use Rattle.pm_base.specs.declared.mesh.Corners.{Corners}
 use Rattle.pm_base.specs.Place.{Place, origin}
-use Rattle.pm_ears.specs.declared.cut.Cut.{Cut}
+use Rattle.pm_ears.specs.declared.cut.CutKind.TheVariants as kinds
 use Rattle.pm_ears.specs.declared.recut.Polygon.{Polygon}
 use Rattle.pm_ears.specs.declared.spots.Spot.{Spot}
 use Rattle.pm_ears.specs.declared.spots.Triangle.{Triangle}
 use Rattle.pm_ears.specs.Planes.{plane_of, spots_of}
-use Rattle.pm_ears.specs.Cutting.{Pieces, pieces_of, named, IsCutOf}
-use Rattle.pm_ears.specs.Laws.{IsInOrder}
-use Rattle.pm_ears.specs.Recutting.{fan_at, first_two, corners_of, places_of, pieces_over, names_three, are_ears, gives_way, stays_overlapping, by_corners, ears_over, put_at, with_recut, recut_after, overlapping_count, AreBelow, IsPolygonWithin}
+use Rattle.pm_ears.specs.Cutting.{pieces_of, named}
+use Rattle.pm_ears.specs.Laws.{IsInOrder, RecutsAreAsMany, UprightFansStay}
+use Rattle.pm_ears.specs.Recutting.{fan_at, first_two, corners_of, places_of, pieces_over, names_three, are_ears, is_fan, gives_way, stays_overlapping, by_corners, ears_over, put_at, with_recut, recut_after, overlapping_count, AreBelow, IsPolygonWithin}
+use Rattle.pm_ears.proofs.Putting.{put_long}
 use Rattle.pm_ears.proofs.Rows.{as_many_spots}
 use Rattle.pm_ears.proofs.CutLaws.{two_fewer}
 use Rattle.pm_ears.proofs.PieceLaws.{pieces_are_cuts}
-
--- One polygon more.
-pub recut_next : (places : List Place) (faces cut : List Corners) (ps : List Polygon) (p : Polygon)
-    → recut_after places faces cut (ps ++ p ∷ [])
-    ≡ with_recut places faces (recut_after places faces cut ps) p
-recut_next places faces cut [] p = refl
-recut_next places faces cut (q ∷ ps) p =
-    recut_next places faces (with_recut places faces cut q) ps p
 
 -- How many corners a polygon has.
 pub corners_few : (fan : List Corners) → length (corners_of fan) ≤ length fan + 2
@@ -59,21 +52,6 @@ pub fan_fits : (faces : List Corners) (p : Polygon) → p.first + p.triangles �
     → p.first + length (fan_at faces p) ≤ length faces
 fan_fits faces p l =
     omega (arith, l, length-take p.triangles (drop p.first faces), length-drop p.first faces)
-
-pub put_long : (first : ℕ) (ts faces : List Corners) → first + length ts ≤ length faces
-    → length (put_at first ts faces) ≡ length faces
-put_long first ts faces l =
-    let rest = drop (first + length ts) faces in
-    omega (
-      arith,
-      l,
-      length-append (take first faces ++ ts) rest,
-      length-append (take first faces) ts,
-      length-append (take first faces) (ts ++ rest),
-      length-append ts rest,
-      length-take first faces,
-      length-drop (first + length ts) faces,
-    )
 
 -- Positions of a cut are below the number of corners.
 in_order_below : (n : ℕ) (ts : List Triangle) → All (IsInOrder n) ts
@@ -147,64 +125,3 @@ below_has n fan all = λ i d l. let f = all i d l in record { a = f.a; b = f.b; 
 pub corners_below : (n : ℕ) (fan : List Corners) → All (AreBelow n) fan
     → All (λ (v : ℕ). v < n) (corners_of fan)
 corners_below n fan all = corners_have (λ v. v < n) fan (below_has n fan all)
-
--- What holds of each triangle, and of those that a fan gives way to where it holds of the fan,
--- holds of each after polygons are cut anew.
-module _ (places : List Place) (faces : List Corners) (Q : Corners → Type 0)
-    (each : All Q faces)
-    (given : (fan : List Corners) → names_three fan ≡ true → All Q fan
-      → All Q (ears_over places fan)) where
-  one_holds : (cut : List Corners) (p : Polygon) → All Q cut → All Q (with_recut places faces cut p)
-  unfolding with_recut gives_way
-  one_holds cut p all =
-      let fan = fan_at faces p in
-      let ears = ears_over places fan in
-      elim (cases_Bool (gives_way places fan)) [
-        | inl e ↦
-            let three = (and_parts _ _ e).1 in
-            let new = given fan three (All-take Q p.triangles (drop p.first faces) (All-drop Q p.first faces each)) in
-            let put : All Q (put_at p.first ears cut) =
-            All-append Q (take p.first cut) (ears ++ drop (p.first + length ears) cut)
-            (All-take Q p.first cut all)
-            (All-append Q ears (drop (p.first + length ears) cut) new
-            (All-drop Q (p.first + length ears) cut all)) in
-            subst (All Q) (sym (cond-true _ _ _ e)) put
-        | inr e ↦ subst (All Q) (sym (cond-false _ _ _ e)) all
-      ]
-
-  pub all_hold : (cut : List Corners) (ps : List Polygon) → All Q cut
-      → All Q (recut_after places faces cut ps)
-  all_hold cut [] all = all
-  all_hold cut (p ∷ ps) all = all_hold (with_recut places faces cut p) ps (one_holds cut p all)
-
--- As many triangles stay.
-one_long : (places : List Place) (faces cut : List Corners) (p : Polygon)
-    → p.first + p.triangles ≤ length faces → length cut ≡ length faces
-    → length (with_recut places faces cut p) ≡ length faces
-unfolding with_recut
-one_long places faces cut p within long =
-    let fan = fan_at faces p in
-    let ears = ears_over places fan in
-    elim (cases_Bool (gives_way places fan)) [
-      | inl e ↦
-          let fits : p.first + length ears ≤ length cut =
-          omega (arith, fan_fits faces p within, ears_long places fan e, long) in
-          ap length (cond-true _ (put_at p.first ears cut) cut e) ∙ put_long p.first ears cut fits
-          ∙ long
-      | inr e ↦ ap length (cond-false _ (put_at p.first ears cut) cut e) ∙ long
-    ]
-
-after_long : (places : List Place) (faces cut : List Corners) (ps : List Polygon)
-    → All (IsPolygonWithin (length faces)) ps → length cut ≡ length faces
-    → length (recut_after places faces cut ps) ≡ length faces
-after_long places faces cut [] within long = long
-after_long places faces cut (p ∷ ps) within long =
-    let first = All-head (IsPolygonWithin (length faces)) p ps within in
-    after_long places faces (with_recut places faces cut p) ps
-    (All-tail (IsPolygonWithin (length faces)) p ps within)
-    (one_long places faces cut p first long)
-
-pub recut_long : (places : List Place) (faces : List Corners) (ps : List Polygon)
-    → All (IsPolygonWithin (length faces)) ps
-    → length (recut_after places faces faces ps) ≡ length faces
-recut_long places faces ps within = after_long places faces faces ps within refl

@@ -5,12 +5,14 @@ use Rattle.pm_base.specs.Place.{Place}
 use Rattle.pm_base.specs.declared.mesh.Corners.{Corners}
 use Rattle.pm_ears.specs.declared.cut.CutKind.TheVariants as kinds
 use Rattle.pm_ears.specs.declared.plane.Axis.{Axis}
+use Rattle.pm_ears.specs.declared.recut.Polygon.{Polygon}
 use Rattle.pm_ears.specs.declared.spots.Spot.{Spot}
 use Rattle.pm_ears.specs.declared.spots.Triangle.{Triangle}
 use Rattle.pm_ears.specs.Areas.{twice_area_of, twice_area_within}
 use Rattle.pm_ears.specs.Planes.{newell, spots_of}
 use Rattle.pm_ears.specs.Ears.{ears}
 use Rattle.pm_ears.specs.Cutting.{fan, is_turned_over, pieces_of, named}
+use Rattle.pm_ears.specs.Recutting.{IsPolygonWithin, fan_at, overlapping_count, pieces_over, recut}
 
 -- A triangle of three corners in a row comes off, and its second corner goes.
 pub data TakesOff : List Spot → Triangle → List Spot → Type 0 where
@@ -84,6 +86,20 @@ pub record IsShownLargest (places : List Place) : Type 0 where
 -- On the plane on which it is cut.
 abbrev pub PolygonsAreShownLargest : Type 0
 PolygonsAreShownLargest = (places : List Place) → IsShownLargest places
+
+-- Polygons cut anew are as many triangles;
+abbrev pub RecutsAreAsMany : Type 0
+RecutsAreAsMany =
+    (places : List Place) (polygons : List Polygon) (faces : List Corners)
+    → All (IsPolygonWithin (length faces)) polygons
+    → length (recut places polygons faces) ≡ length faces
+
+-- and the same, with nothing told of them, where no fan has a triangle turned over.
+abbrev pub UprightFansStay : Type 0
+UprightFansStay =
+    (places : List Place) (polygons : List Polygon) (faces : List Corners)
+    → All (λ p. (pieces_over places (fan_at faces p)).kind ≡ kinds.Fan) polygons
+    → (recut places polygons faces ≡ faces) × (overlapping_count places polygons faces ≡ 0)
 
 -- Worked examples, on a plane z = 5. Of the dart (0, 0), (2, 1), (4, 0), (2, 4) the fan overlaps,
 -- and the triangle of the later three corners comes off first. The quadrilateral (0, 0), (4, 4),

@@ -70,7 +70,7 @@ ears_over places fan =
 -- Triangles in place of as many from a number on.
 abbrev pub put_at : ℕ → List Corners → List Corners → List Corners
 put_at first triangles faces =
-    take first faces ++ triangles ++ drop (first + length triangles) faces
+    take first faces ++ (triangles ++ drop (first + length triangles) faces)
 
 -- The triangles with those of one polygon cut anew, in which these stood.
 unfoldable pub with_recut : List Place → List Corners → List Corners → Polygon → List Corners

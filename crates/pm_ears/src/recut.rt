@@ -2,7 +2,7 @@
 ghost use Rattle.std.specs.Prelude.{◌≡◌, ◌<◌, ◌≤◌, ◌+◌, length, map, IfOk};
 ghost use Rattle.std.specs.List.{All};
 ghost use Rattle.pm_base.specs.declared.limits.TheConstants.{MOST_FACES};
-ghost use Rattle.pm_ears.specs.Recutting.{AreBelow, IsPolygonWithin, IsFateOf, IsRecutOf, by_corners, corners_of as corners_of_fan, first_two as first_two_of, names_three as names_three_in, places_of as places_of_corners, put_at};
+ghost use Rattle.pm_ears.specs.Recutting.{AreBelow, IsPolygonWithin, IsFateOf, IsRecutOf, by_corners, corners_of as corners_of_fan, fan_at as fan_at_of, first_two as first_two_of, names_three as names_three_in, places_of as places_of_corners, put_at};
 
 use crate::OutOfMemory;
 use crate::cut::{CutKind, cut_polygon};
@@ -127,8 +127,17 @@ fn judge(alloc: Global, places: &[Point], fan: &[Corners]) -> Result<Fate, OutOf
     }
 }
 
+// The triangles of a polygon.
+fn fan_at(faces: &[Corners], p: Polygon) -> &[Corners]
+    requires { IsPolygonWithin (length faces.now) p }
+    ensures { result.now ≡ fan_at_of faces.now p }
+{
+    let first = p.first as usize;
+    &faces[first..first + p.triangles as usize]
+}
+
 // Puts triangles in place of as many from a number on.
-#[tactic(auto, using(crate::proofs::RecutLaws::put_long))]
+#[tactic(auto, using(crate::proofs::Putting::put_none))]
 fn put(faces: &mut Vec<Corners>, first: usize, triangles: &[Corners])
     requires { first + length triangles.now ≤ length faces.old.items }
     ensures { faces.new.items ≡ put_at first triangles.now faces.old.items }
@@ -144,7 +153,6 @@ fn put(faces: &mut Vec<Corners>, first: usize, triangles: &[Corners])
 /// a vertex twice.
 ///
 /// O(F) for F triangles, and what `cut_polygon` costs for each polygon.
-#[tactic(auto, unfolding(crate::specs::Recutting::with_recut), using(crate::proofs::RecutLaws::recut_next, crate::proofs::RecutLaws::ears_long, crate::proofs::RecutLaws::fan_fits, crate::proofs::RecutLaws::put_long))]
 pub fn recut_polygons(
     alloc: Global,
     places: &[Point],
@@ -161,8 +169,7 @@ pub fn recut_polygons(
     cut.extend_from_slice(faces)?;
     let mut overlapping = 0;
     for p in polygons {
-        let fan = &faces[p.first as usize..][..p.triangles as usize];
-        match judge(alloc, places, fan)? {
+        match judge(alloc, places, fan_at(faces, *p))? {
             Fate::Fan => {}
             Fate::Ears(triangles) => put(&mut cut, p.first as usize, &triangles),
             Fate::OverlappingFan => overlapping += 1,

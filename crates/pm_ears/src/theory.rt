@@ -8,6 +8,8 @@ ghost use Rattle.pm_ears.specs.Laws.{
   UprightUnlessTold,
   OverlapsAreTold,
   PolygonsAreShownLargest,
+  RecutsAreAsMany,
+  UprightFansStay,
   AreWorked,
 };
 
@@ -22,5 +24,7 @@ pub fn ears_are_sound()
     ensures upright { UprightUnlessTold }
     ensures told { OverlapsAreTold }
     ensures shown { PolygonsAreShownLargest }
+    ensures as_many { RecutsAreAsMany }
+    ensures stay { UprightFansStay }
     ensures worked { AreWorked }
 {}

@@ -8,7 +8,8 @@ use Rattle.pm_base.specs.declared.mesh.Corners.{Corners}
 use Rattle.pm_base.specs.Place.{Place}
 use Rattle.pm_fans.specs.Kept.{is_corner, is_flat}
 use Rattle.pm_ears.specs.Recutting.{names_three, ears_over}
-use Rattle.pm_ears.proofs.RecutLaws.{HasCorners, ears_have, all_hold, recut_long}
+use Rattle.pm_ears.proofs.RecutLaws.{HasCorners, ears_have}
+use Rattle.pm_ears.proofs.Recuts.{all_hold, recut_long}
 use Rattle.obj_scan.specs.Judged.{Scanned}
 use Rattle.obj_scan.specs.Meaning.{IsWithinLimits}
 use Rattle.obj_prepare.specs.Named.{AreVerticesBelow, IsWithinMesh, is_some_corner, of_three}

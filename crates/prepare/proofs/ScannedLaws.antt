@@ -19,11 +19,10 @@ use Rattle.obj_prepare.specs.Exact.{AreExact}
 use Rattle.pm_ears.specs.Recutting.{IsPolygonWithin}
 use Rattle.obj_prepare.specs.Named.{AreVerticesBelow}
 use Rattle.obj_prepare.specs.Numbers.{units_of_text, exponent, is_decimal, decimal_coordinate}
-use Rattle.obj_scan.specs.Polygons.{triangles}
 use Rattle.obj_scan.specs.Judged.{Scanned, Found, nothing, vertex, polygon, scanned_vertex_line, indices, polygon_of, polygon_line, scanned_fields, scanned_line, polygons_after, has_weight, with_scanned}
 use Rattle.obj_scan.specs.Meaning.{ScannedSoFar, nothing_scanned, joined_text, and_continued, and_scanned_line, judged_length, then_found, line_judged, then_scanned_lines, at_end, scan_meaning_from, scan_meaning_of}
 use Rattle.obj_scan.specs.Reading.{IsScanning}
-use Rattle.obj_scan.proofs.ScanLaws.{vertex_scanning, polygon_scanned}
+use Rattle.obj_scan.proofs.ScanLaws.{vertex_scanning, polygon_scanning}
 
 abbrev IsExact : ℤ → Type 0
 IsExact z = unsigned_abs z ≤ 10 ^ 32
@@ -98,7 +97,8 @@ with_found_sound s (vertex p weighted) sound suits = record {
 }
 with_found_sound s (polygon corners) sound suits = record {
   exact = sound.exact;
-  scanning = polygon_scanned s s.points (s.faces ++ triangles s.points corners) (polygons_after s.polygons (length s.faces) corners) corners corners sound.scanning suits.0 suits.1 refl refl refl refl;
+  scanning = polygon_scanning s (with_scanned s (polygon corners)) corners sound.scanning suits.0
+      suits.1 refl;
 }
 
 abbrev AfterSound : ScannedSoFar → Type 0
