@@ -1,11 +1,13 @@
 -- What a text gives is what its mesh is made of.
 use Rattle.std.proofs.Common.{◌≡◌, ℕ, ◌<◌, ◌≤◌, List, ◌++◌, length, Option, Some, None, IfSome, Result, Ok, Err, refl, sym, ◌∙◌, ap, subst, arith}
+use Rattle.std.specs.List.{All}
 use Rattle.pm_base.specs.declared.mesh.Corners.{Corners}
 use Rattle.pm_base.specs.Place.{Place}
 use Rattle.pm_base.specs.Meshes.{Mesh, IsWellFormed}
 use Rattle.pm_base.specs.Sides.{net_of}
 use Rattle.pm_base.specs.Fans.{IsOrientedManifold}
 use Rattle.pm_base.specs.Canonical.{canonical_text}
+use Rattle.pm_ears.specs.Recutting.{AreBelow}
 use Rattle.obj_scan.specs.declared.fault.ScanFault.{ScanFault}
 use Rattle.obj_scan.specs.Refusals.{Refused, IsRefusal, FaultNotReached}
 use Rattle.obj_scan.specs.Judged.{Scanned}
@@ -40,6 +42,12 @@ pub lent_within : (s : Scanned) (points : List Place) (faces : List Corners) →
     → points ≡ s.points → faces ≡ of_three s.faces → IsNamedWithin (length points) faces
 lent_within s points faces within points_are faces_are = rw (points_are, faces_are)
     (named_within s within)
+
+-- So are all triangles.
+pub lent_below : (s : Scanned) (places : List Place) (faces : List Corners) → IsWithinLimits s
+    → length places ≡ length s.points → faces ≡ s.faces → All (AreBelow (length places)) faces
+lent_below s places faces within long are =
+    rw (long, are) (λ k d l. let f = within.corners k d l in record { a = f.a; b = f.b; c = f.c })
 
 -- What was laid out is within the limits.
 
