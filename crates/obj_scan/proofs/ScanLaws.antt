@@ -128,8 +128,12 @@ polygon_scanning s t corners scanning within room is =
             (polygons_after s.polygons (length s.faces) corners)) (sym n)
             (polygons_within s.polygons (length s.faces) corners (nat_lt 3 (length corners)) refl
             scanning.within.polygons);
-        polygons_few = omega (arith, n, polygons_case s.polygons (length s.faces) corners
-            (nat_lt 3 (length corners)) refl scanning.within.polygons_few);
+        polygons_few = omega (
+          arith,
+          n,
+          polygons_case s.polygons (length s.faces) corners
+              (nat_lt 3 (length corners)) refl scanning.within.polygons_few,
+        );
       };
       weights = scanning.weights;
     })

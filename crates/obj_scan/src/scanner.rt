@@ -56,11 +56,7 @@ fn take_vertex(scan: &mut Scan, text: &[u8], line: u32) -> Result<(), ObjFail>
 }
 
 // Notes where the triangles of a face of more than three corners begin, after so many.
-fn note_polygon(
-    polygons: &mut Vec<Polygon>,
-    faces: u32,
-    corners: &[u32],
-) -> Result<(), OutOfMemory>
+fn note_polygon(polygons: &mut Vec<Polygon>, faces: u32, corners: &[u32]) -> Result<(), OutOfMemory>
     requires { length corners.now ≤ MOST_FACES + 2 }
     ensures { OnOk result (polygons.new.items ≡ polygons_after polygons.old.items faces corners.now) }
 {

@@ -53,7 +53,7 @@ put_next first i ts faces d l fits =
     λ us. ap (λ (l : List Corners). before ++ (us ++ l)) (split (length us)) in
     ap (λ (l : List Corners). set l (first + i) (get_or ts i d)) (ends (take i ts))
     ∙ set-append_right before (take i ts ++ drop (length (take i ts)) more) first (first + i)
-        (get_or ts i d) long (omega arith)
+    (get_or ts i d) long (omega arith)
     ∙ ap (λ k. before ++ set (take i ts ++ drop (length (take i ts)) more) k (get_or ts i d)) at
     ∙ ap (λ (l : List Corners). before ++ l) (put_here i ts more d l rest)
     ∙ ap (λ k. before ++ (take k ts ++ drop (length (take k ts)) more)) next

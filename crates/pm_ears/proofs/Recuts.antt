@@ -33,7 +33,7 @@ recut_next places faces cut (q ∷ ps) p =
 module _ (places : List Place) (faces : List Corners) (Q : Corners → Type 0)
     (each : All Q faces)
     (given : (fan : List Corners) → names_three fan ≡ true → All Q fan
-      → All Q (ears_over places fan)) where
+    → All Q (ears_over places fan)) where
   one_holds : (cut : List Corners) (p : Polygon) → All Q cut → All Q (with_recut places faces cut p)
   unfolding with_recut gives_way
   one_holds cut p all =

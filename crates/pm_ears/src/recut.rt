@@ -60,11 +60,7 @@ fn corners_of(alloc: Global, fan: &[Corners]) -> Result<Vec<u32>, OutOfMemory>
 }
 
 // Where they stand.
-fn places_of(
-    alloc: Global,
-    places: &[Point],
-    corners: &[u32],
-) -> Result<Vec<Point>, OutOfMemory>
+fn places_of(alloc: Global, places: &[Point], corners: &[u32]) -> Result<Vec<Point>, OutOfMemory>
     requires { All (λ v. v < length places.now) corners.now }
     ensures { IfOk result (λ at. at.items ≡ places_of_corners places.now corners.now) }
 {
