@@ -7,7 +7,7 @@ vdpm=${1:-./vdpm}
 simplify=${2:-./simplify}
 work=$(mktemp -d)
 trap 'rm -r "$work"' EXIT
-"$vdpm" build 0 --digits 1 < examples/asteroid.obj > "$work/asteroid.vdpm"
+"$simplify" 0 --digits 1 < examples/asteroid.obj > "$work/asteroid.vdpm"
 
 # Draws the frames of a script: its file, the pictures' name, and how they are drawn.
 draw() {
