@@ -84,11 +84,15 @@ def written(path: Path, content: Callable[[], bytes]) -> Path:
     return path
 
 
+def count_of_faces(path: Path) -> int:
+    with open(path) as lines:
+        return sum(line.startswith("f ") for line in lines)
+
+
 def mesh_at(path: Path, kind: str, size: int) -> int:
     """Writes a mesh, and answers how many faces it has."""
     written(path, lambda: meshes.text(kind, size).encode())
-    with open(path) as lines:
-        return sum(line.startswith("f ") for line in lines)
+    return count_of_faces(path)
 
 
 def moves(records: int, back: bool) -> str:
