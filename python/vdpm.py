@@ -137,7 +137,8 @@ def _path() -> str:
     for folder in ("proved", "unproved"):
         if (top / folder / "libvdpm.so").exists():
             return str(top / folder / "libvdpm.so")
-    raise FileNotFoundError("libvdpm.so isn't built: python3 tools/library.py builds it")
+    raise FileNotFoundError("libvdpm.so isn't built: ./prove libvdpm proves and builds it, "
+                            "python3 tools/library.py builds it without a proof")
 
 
 def _load(path: str) -> ctypes.CDLL:

@@ -2,7 +2,8 @@
 ./prove call it.
 
     python3 tools/programs.py build NAME       prints the file to run as NAME; it may build it first
-    python3 tools/programs.py prove [NAME..]   proves and builds these programs, or all
+    python3 tools/programs.py prove [NAME..]   proves and builds these, or all programs; libvdpm is
+                                               a name too, of the library
     python3 tools/programs.py status           prints what is known of those that stand
 
 Ends with status 1 where a proof is open, 2 where the words aren't understood, and 70 where there is
@@ -16,7 +17,7 @@ from typing import List
 from quick_start.module import NotCaught
 from quick_start.prove import prove
 from quick_start.record import is_current
-from quick_start.sources import PROGRAMS, Program
+from quick_start.sources import LIBRARY, PROGRAMS, Program
 from quick_start.status import status_lines
 from quick_start.stopped import NOT_BUILT, Stopped
 from quick_start.unproved import build, say
@@ -42,10 +43,9 @@ def runnable(program: Program) -> Path:
 
 def call(words: List[str]) -> int:
     verb, names = (words[0], words[1:]) if words else ("", [])
-    known = all(name in PROGRAMS for name in names)
-    if verb == "build" and known and len(names) == 1:
+    if verb == "build" and len(names) == 1 and names[0] in PROGRAMS:
         print(runnable(Program(TOP, names[0])))
-    elif verb == "prove" and known:
+    elif verb == "prove" and all(name in (*PROGRAMS, LIBRARY) for name in names):
         return 0 if prove(TOP, names) else 1
     elif verb == "status" and not names:
         print("\n".join(status_lines(TOP)))

@@ -1,4 +1,5 @@
-"""Tries how the programs and ./prove build and choose what they run, over a kit of tests.
+"""Tries how the programs, the library and ./prove build and choose what they run, over a kit of
+tests.
 
     python3 tools/test_quick_start.py [--real]
 
@@ -32,11 +33,13 @@ class Repository:
         shutil.copytree(TOP / "tools/quick_start", self.top / "tools/quick_start")
         for name in ("tools/programs.py", *PROGRAMS, "prove"):
             shutil.copy2(TOP / name, self.top / name)
-        write(self.top / "crates.txt", "low:\nvdpm: low\nprepare:\nsimplify: low\n")
+        write(self.top / "crates.txt", "low:\nvdpm: low\nprepare:\nsimplify: low\n"
+              "vdpm_c staticlib: low\n")
         write(self.top / "crates/low/src/lib.rt", "low\n")
         write(self.top / "crates/low/specs/Low.antt", "low\n")
         for name in PROGRAMS:
             write(self.top / f"crates/{name}/src/main.rt", SCRIPT)
+        write(self.top / "crates/vdpm_c/src/lib.rt", "a library\n")
         self.kit = make_kit(folder / "kit")
         self.builds = self.kit / "bin/builds"
 
@@ -203,7 +206,7 @@ class Proved(OverTestKit):
 
     def test_progress_is_told(self) -> None:
         said = self.repository.run("prove").stderr
-        self.assertIn("prove: 2 of 4 crates done", said)
+        self.assertIn("prove: 2 of 5 crates done", said)
         self.assertIn("prove: vdpm is proved and built: proved/vdpm", said)
 
     def test_a_changed_source_or_definition_is_not_proved(self) -> None:
@@ -276,6 +279,83 @@ class Proved(OverTestKit):
 
     def test_words_that_are_not_understood(self) -> None:
         self.assertEqual(self.repository.run("prove", "other").returncode, 2)
+
+
+class Library(OverTestKit):
+    def setUp(self) -> None:
+        super().setUp()
+        self.archive, self.shared = (self.repository.top / f"proved/libvdpm.{end}"
+                                     for end in ("a", "so"))
+
+    def status(self) -> str:
+        return self.repository.run("prove", "--status").stdout
+
+    def test_both_are_built_and_told(self) -> None:
+        ran = self.repository.run("prove", "libvdpm")
+        self.assertEqual(ran.returncode, 0, ran.stderr)
+        self.assertIn("prove: 2 crates,", ran.stderr)
+        self.assertIn("libvdpm is proved and built: proved/libvdpm.a and proved/libvdpm.so\n",
+                      ran.stderr)
+        for built in (self.archive, self.shared):
+            self.assertEqual(built.read_text(), "a library\n")
+            self.assertIn(f"proved/{built.name}: proved; of these sources\n", self.status())
+        left = sorted(it.name for it in self.archive.parent.iterdir())
+        names = [self.archive.name, self.shared.name]
+        self.assertEqual(left, sorted(names + [f"{name}.record" for name in names]))
+
+    def test_programs_alone_are_proved_without_words(self) -> None:
+        self.assertEqual(self.repository.run("prove").returncode, 0)
+        self.assertFalse(self.shared.exists())
+        self.assertIn("proved/libvdpm.so: not built\n", self.status())
+
+    def test_beside_a_program(self) -> None:
+        ran = self.repository.run("prove", "vdpm", "libvdpm")
+        self.assertEqual(ran.returncode, 0, ran.stderr)
+        self.assertTrue(self.shared.exists())
+        self.assertEqual(self.repository.run("vdpm").stderr, "told\n")
+
+    def test_nothing_is_proved_twice_unless_one_of_the_two_is_another(self) -> None:
+        self.repository.run("prove", "libvdpm")
+        again = self.repository.run("prove", "libvdpm").stderr
+        self.assertIn("libvdpm is proved already", again)
+        for built in (self.archive, self.shared):
+            write(built, "other\n")
+            self.assertIn(f"proved/{built.name}: proved; is another file than was built\n",
+                          self.status())
+            self.repository.run("prove", "libvdpm")
+            self.assertEqual(built.read_text(), "a library\n")
+
+    def test_other_sources_are_told(self) -> None:
+        self.repository.run("prove", "libvdpm")
+        self.repository.change("crates/low/specs/Low.antt", "more\n")
+        self.assertIn("proved/libvdpm.so: proved; of other sources than these\n", self.status())
+
+    def test_an_open_goal_is_named_and_nothing_built(self) -> None:
+        self.repository.change("crates/vdpm_c/src/lib.rt", "# OPEN\n")
+        ran = self.repository.run("prove", "libvdpm")
+        self.assertEqual(ran.returncode, 1)
+        self.assertIn("crate vdpm_c is not proved", ran.stderr)
+        self.assertFalse(self.shared.exists())
+
+    def test_an_older_library_never_passes_for_one_that_was_not_built(self) -> None:
+        self.repository.run("prove", "libvdpm")
+        self.repository.change("crates/vdpm_c/src/lib.rt", "# UNBUILT\n")
+        self.assertEqual(self.repository.run("prove", "libvdpm").returncode, 1)
+        self.assertIn("proved/libvdpm.a: proved; of other sources than these\n", self.status())
+
+    def test_without_a_c_compiler_nothing_is_begun(self) -> None:
+        tools = self.repository.kit / "tools"
+        tools.mkdir()
+        for name in ("bash", "sh", "cat", "dirname", "python3"):
+            (tools / name).symlink_to(shutil.which(name))
+        (self.repository.kit / "bin/cc").unlink()
+        ran = self.repository.run("prove", "libvdpm", path=f"{self.repository.kit}/bin:{tools}")
+        self.assert_not_built(ran, "the library needs a C compiler, and cc isn't on the path")
+        self.assertFalse((self.repository.top / "build.log").exists())
+
+    def test_it_is_no_program_to_run(self) -> None:
+        words = [sys.executable, self.repository.top / "tools/programs.py", "build", "libvdpm"]
+        self.assertEqual(subprocess.run(words, capture_output=True, check=False).returncode, 2)
 
 
 if __name__ == "__main__":

@@ -1,8 +1,9 @@
-"""Proves and builds programs by `rt`, on as many processors as there are.
+"""Proves and builds programs, and the library, by `rt`, on as many processors as there are.
 
 `rt run` alone proves the libraries below a program one after another. `rt all check` proves as many
 crates side by side as it is told, each once those below it are done, and keeps them, so that
-`rt run` then has only the program itself to look at again, to compile and to link. (`rt ci` works
+`rt run` then has only the program itself to look at again, to compile and to link, and `rt lib`
+only the library. (`rt ci` works
 side by side too, but tries each must-fail edit and each test on the way, which takes several times
 as long, and of its own run it leaves no record of what a program was built from.)
 """
@@ -17,13 +18,14 @@ import sys
 import threading
 import time
 from pathlib import Path
-from typing import IO, Dict, Iterator, List, Optional, Sequence, TextIO
+from typing import IO, Dict, Generator, Iterator, List, Optional, Sequence, TextIO, Tuple
 
+from . import library
 from .kit import Kit, find_kit
 from .progress import Watch, open_crate, open_goals
 from .record import is_current, path_of, read_record, write_record
-from .sources import (PROGRAMS, PROVED, Program, crate_rows, crates_below, sum_of_file,
-                      sum_of_sources)
+from .sources import (LIBRARY, PROGRAMS, PROVED, Program, crate_rows, crates_below,
+                      sum_of_file, sum_of_sources)
 from .stopped import Stopped
 
 # The memory that a check may take, in kilobytes.
@@ -88,8 +90,9 @@ def lines_of(stream: IO[str]) -> Iterator[Optional[str]]:
         yield line.rstrip("\n")
 
 
-def ran(words: List[str], folder: Path, log: TextIO) -> Iterator[Optional[str]]:
-    """The lines that a command of `rt` prints, each put in the log too."""
+def ran(words: List[str], folder: Path,
+        log: TextIO) -> Generator[Optional[str], None, int]:
+    """The lines that a command of `rt` prints, each put in the log too, and then its status."""
     with subprocess.Popen(words, cwd=folder, stdin=subprocess.DEVNULL, stdout=subprocess.PIPE,
                           stderr=subprocess.STDOUT, text=True, errors="replace") as process:
         try:
@@ -103,13 +106,25 @@ def ran(words: List[str], folder: Path, log: TextIO) -> Iterator[Optional[str]]:
             raise
     if process.returncode < 0:
         raise Stopped(f"rt was stopped by signal {-process.returncode}: start ./prove again")
+    return process.returncode
+
+
+def whole_run(words: List[str], folder: Path, log: TextIO) -> Tuple[int, List[str]]:
+    """The status of a command of `rt`, and the lines that it printed."""
+    running, lines = ran(words, folder, log), []
+    while True:
+        try:
+            line = next(running)
+        except StopIteration as end:
+            return end.value, lines
+        lines += [line] if line else []
 
 
 def prove_crates(programs: Sequence[Program], log: TextIO) -> List[str]:
     """Proves the crates of these programs, and returns those that failed. It ends early where none
     of the programs can be proved any more."""
     top, rows = programs[0].top, crate_rows(programs[0].top)
-    below = [crates_below(rows, program.name) for program in programs]
+    below = [crates_below(rows, program.crate) for program in programs]
     # At the top of the repository rt takes each crate, in a program's folder what is below it.
     folder, crates = (programs[0].folder, below[0]) if len(programs) == 1 else (top, list(rows))
     say(f"{len(crates)} crates, {lanes()} side by side; the whole output goes to build.log")
@@ -155,46 +170,69 @@ def put_in_place(program: Program) -> None:
     os.replace(half, program.proved)
 
 
-def build_program(program: Program, kit: Kit, log: TextIO) -> bool:
-    """Compiles and links a program whose crates are proved, and writes its record."""
-    say(f"building {program.name}")
-    sources = sum_of_sources(program, PROVED)
+def make_program(program: Program, log: TextIO) -> Tuple[bool, List[str]]:
+    """Has rt compile and link a program: whether it is proved and built, and what rt said."""
     # (where rt fails, an older program is not to pass for this one)
     with contextlib.suppress(FileNotFoundError):
         stamp_of(program).unlink()
     words = ["rt", "run", *TRIAL_WORDS[program.name]]
-    lines = [line for line in ran(words, program.folder, log) if line]
-    if not is_stamped(program):
-        say("\n".join(open_crate(program.name, lines)))
+    _, lines = whole_run(words, program.folder, log)
+    return is_stamped(program), lines
+
+
+def make_library(program: Program, log: TextIO) -> Tuple[bool, List[str]]:
+    """The same of the library. No stamp is left of one; `rt lib` ends with 0 where it is proved."""
+    made = library.made_by_rt(program)
+    with contextlib.suppress(FileNotFoundError):
+        made.unlink()
+    status, lines = whole_run(["rt", "lib"], program.folder, log)
+    return status == 0 and made.exists(), lines
+
+
+def build_program(program: Program, kit: Kit, log: TextIO) -> bool:
+    """Builds a program or the library, whose crates are proved, and writes its record."""
+    say(f"building {program.name}")
+    sources = sum_of_sources(program, PROVED)
+    is_made, lines = (make_library if program.is_library else make_program)(program, log)
+    if not is_made:
+        say("\n".join(open_crate(program.crate, lines)))
         return False
     seen = time.time_ns()
     if sum_of_sources(program, PROVED) != sources:
         say(f"the sources of {program.name} changed meanwhile: start ./prove again")
         return False
-    put_in_place(program)
-    write_record(program, program.proved, True, kit, sources, seen)
-    say(f"{program.name} is proved and built: proved/{program.name}")
+    if program.is_library:
+        library.put_proved(program, kit)
+    else:
+        put_in_place(program)
+    for built in program.files_in("proved"):
+        write_record(program, built, True, kit, sources, seen)
+    places = " and ".join(f"proved/{name}" for name in program.files)
+    say(f"{program.name} is proved and built: {places}")
     return True
 
 
 def is_done(program: Program, kit: Kit) -> bool:
     """Whether the program is proved already, of the sources as they are and by this kit."""
-    record = read_record(program.proved)
-    done = bool(record) and record.kit == kit.version and is_current(program, program.proved)
+    files = program.files_in("proved")
+    by_this_kit = all(it and it.kit == kit.version for it in map(read_record, files))
+    done = by_this_kit and all(is_current(program, built) for built in files)
     if done:
         say(f"{program.name} is proved already, of these sources: ./prove --status tells more")
     return done
 
 
 def prove(top: Path, names: Sequence[str]) -> bool:
-    """Proves and builds these programs, or all, and returns whether that was done."""
+    """Proves and builds these, or all programs, and returns whether that was done."""
     kit, rows = find_kit(), crate_rows(top)
+    if LIBRARY in names:
+        library.stop_without_tools()
     with opened_log(top) as log:
         named = [Program(top, name) for name in dict.fromkeys(names or PROGRAMS)]
         programs = [program for program in named if not is_done(program, kit)]
         if not programs:
             return True
         failed = {*prove_crates(programs, log)}
-        done = [not failed & {*crates_below(rows, it.name)} and build_program(it, kit, log)
+        done = [not failed & {*crates_below(rows, it.crate)} and build_program(it, kit, log)
                 for it in programs]
     return all(done)

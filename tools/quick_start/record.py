@@ -92,7 +92,8 @@ def is_current(program: Program, built: Path) -> bool:
     """Whether a program is the one of the sources as they are, by their sums. If so its record gets
     the time of this look, so that the next start need not read them."""
     record, seen = read_record(built), time.time_ns()
-    if record is None or not os.access(built, os.X_OK) or record.sum != sum_of_file(built):
+    use = os.R_OK if program.is_library else os.X_OK
+    if record is None or not os.access(built, use) or record.sum != sum_of_file(built):
         return False
     if record.sources != sum_of_sources(program, PROVED if record.proved else CODE):
         return False

@@ -1,9 +1,10 @@
-"""What a program is made from: the crates below it by crates.txt, and a sum of their files."""
+"""What a program or the library is made from: the crates below it by crates.txt, and a sum of
+their files."""
 import hashlib
 import os
 from dataclasses import dataclass
 from pathlib import Path
-from typing import Dict, Iterator, List, Sequence
+from typing import Dict, Iterator, List, Sequence, Tuple
 
 from .stopped import Stopped
 
@@ -11,18 +12,36 @@ from .stopped import Stopped
 CODE = ("src",)
 PROVED = ("src", "specs", "proofs")
 PROGRAMS = ("vdpm", "prepare", "simplify")
+LIBRARY = "libvdpm"
 
 
 @dataclass(frozen=True)
 class Program:
-    """A program of the repository at `top`."""
+    """A program of the repository at `top`, or its library."""
 
     top: Path
     name: str
 
     @property
+    def is_library(self) -> bool:
+        return self.name == LIBRARY
+
+    @property
+    def crate(self) -> str:
+        return "vdpm_c" if self.is_library else self.name
+
+    @property
     def folder(self) -> Path:
-        return self.top / "crates" / self.name
+        return self.top / "crates" / self.crate
+
+    @property
+    def files(self) -> Tuple[str, ...]:
+        """What is built of it: of the library the static and the shared one."""
+        return (f"{self.name}.a", f"{self.name}.so") if self.is_library else (self.name,)
+
+    def files_in(self, folder: str) -> List[Path]:
+        """The files in that folder of the repository, `proved` or `unproved`."""
+        return [self.top / folder / name for name in self.files]
 
     @property
     def proved(self) -> Path:
@@ -68,7 +87,7 @@ def sum_of_sources(program: Program, parts: Sequence[str]) -> str:
     """A sum of the crates below the program: their rows, and the files in these folders."""
     rows = crate_rows(program.top)
     total = hashlib.sha256()
-    for crate in sorted(crates_below(rows, program.name)):
+    for crate in sorted(crates_below(rows, program.crate)):
         total.update(repr((crate, rows[crate])).encode())
         for part in parts:
             for path in files_of(program.top / "crates" / crate / part):
@@ -79,5 +98,5 @@ def sum_of_sources(program: Program, parts: Sequence[str]) -> str:
 
 def places_read(program: Program) -> List[str]:
     """The files and folders that `start.sh` looks through for anything newer than the program."""
-    below = crates_below(crate_rows(program.top), program.name)
+    below = crates_below(crate_rows(program.top), program.crate)
     return ["crates.txt", *(f"crates/{crate}" for crate in sorted(below))]

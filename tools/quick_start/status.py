@@ -1,10 +1,10 @@
-"""What is known of the programs that stand in this repository."""
+"""What is known of the programs and of the library that stand in this repository."""
 from pathlib import Path
 from typing import Iterator
 
 from .kit import find_kit
 from .record import Record, read_record
-from .sources import CODE, PROGRAMS, PROVED, Program, sum_of_file, sum_of_sources
+from .sources import CODE, LIBRARY, PROGRAMS, PROVED, Program, sum_of_file, sum_of_sources
 from .stopped import Stopped
 
 
@@ -16,16 +16,18 @@ def kit_now() -> str:
 
 
 def standing(program: Program, built: Path, record: Record) -> str:
-    """How a program stands to the sources as they are."""
+    """How a program or a library stands to the sources as they are."""
+    # (the scripts at the top look at each program; whoever loads the library doesn't)
+    so = "" if program.is_library else ", so it isn't run"
     if not built.is_file() or record.sum != sum_of_file(built):
-        return "is another file than was built, so it isn't run"
+        return f"is another file than was built{so}"
     if record.sources != sum_of_sources(program, PROVED if record.proved else CODE):
-        return "of other sources than these, so it isn't run"
+        return f"of other sources than these{so}"
     return "of these sources"
 
 
 def told_of(program: Program, built: Path, kit: str) -> Iterator[str]:
-    """The lines on one program that was built."""
+    """The lines on one file that was built."""
     record, place = read_record(built), built.relative_to(program.top)
     if record is None:
         yield f"{place}: nothing is known of it" if built.exists() else f"{place}: not built"
@@ -39,7 +41,7 @@ def told_of(program: Program, built: Path, kit: str) -> Iterator[str]:
 
 def status_lines(top: Path) -> Iterator[str]:
     kit = kit_now()
-    for name in PROGRAMS:
+    for name in (*PROGRAMS, LIBRARY):
         program = Program(top, name)
-        for built in (program.proved, program.unproved):
+        for built in program.files_in("proved") + program.files_in("unproved"):
             yield from told_of(program, built, kit)

@@ -1,0 +1,146 @@
+"""Builds the library for C, libvdpm.a and libvdpm.so: from what `rt lib` proved and built, or
+without a proof, with the checks of the run time left in, as an unproved program is built.
+"""
+import contextlib
+import os
+import re
+import shutil
+import tempfile
+import time
+from pathlib import Path
+from typing import List
+
+from .kit import Kit, find_kit, stop_where_it_lacks
+from .module import NotCaught, REFUSAL, first_lines, output_of, try_words
+from .record import path_of, write_record
+from .sources import CODE, Program, sum_of_sources
+from .stopped import Stopped
+from .unproved import FLAGS, run_tool
+
+# The kit lowers programs alone, and of a program what its main leads to.
+MAIN = """
+use crate::slot::Slot;
+use crate::tables::{Counts, Handle};
+use std::rt::HostRuntime;
+
+fn main(rt: HostRuntime) {
+    let alloc = rt.alloc();
+    let mut handle = Handle { slot: Slot::empty(alloc), open: 0 };
+    let mut counts = Counts {
+        shown_nodes: 0, shown_faces: 0, nodes: 0, leaves: 0, records: 0, digits: 0,
+    };
+    let (mut place, mut length, mut number) = (0u64, 0usize, 0u32);
+    let (mut bytes, mut signed) = ([0u8; 1], [0i32; 1]);
+    let (mut a, mut b, mut c, mut d) = ([0u32; 1], [0u32; 1], [0u32; 1], [0u32; 1]);
+    exports::vdpm_open(alloc, b"", 0, &mut handle, &mut place);
+    exports::vdpm_line(alloc, &mut handle, b"");
+    exports::vdpm_reply_length(alloc, &mut handle, &mut length);
+    exports::vdpm_reply(alloc, &mut handle, &mut bytes);
+    exports::vdpm_counts(alloc, &mut handle, &mut counts);
+    exports::vdpm_frame(alloc, &mut handle, &mut a, &mut signed, &mut b, &mut c, &mut d);
+    exports::vdpm_splitter(alloc, &mut handle, 0, &mut number);
+    exports::vdpm_maker(alloc, &mut handle, 0, &mut number);
+    exports::vdpm_ancestor(alloc, &mut handle, 0, &mut number);
+    exports::vdpm_place(alloc, &mut handle, 0, &mut signed);
+    exports::vdpm_close(alloc, &mut handle);
+    let Handle { slot: _slot, open: _open } = handle;
+}
+"""
+EXPORT = re.compile(r'define internal (?:noundef )?(i32|void) @"vdpm_c::exports::(vdpm_\w+)"')
+USE = re.compile(r'@"vdpm_c::exports::(vdpm_\w+)"')
+
+
+def stop_without_tools() -> None:
+    """Stops where a tool lacks that a library is put together by, beside those of the kit."""
+    for name, what in (("cc", "C compiler"), ("ar", "archiver")):
+        if shutil.which(name) is None:
+            raise Stopped(f"the library needs a {what}, and {name} isn't on the path")
+
+
+def module_of_library(program: Program, kit: Kit, room: Path) -> Path:
+    """The library's module, as that of a program that calls each of its functions."""
+    sources = room / "src"
+    shutil.copytree(program.folder / "src", sources)
+    root = sources / "main.rt"
+    (sources / "lib.rt").rename(root)
+    root.write_text(root.read_text(encoding="utf-8") + MAIN, encoding="utf-8")
+    words = try_words(program, kit, room)
+    words[words.index(str(program.folder / "src/main.rt"))] = str(root)
+    said = output_of(words, room)
+    module = room / "module.bc"
+    if module.exists():
+        return module
+    if REFUSAL.search(said):
+        raise Stopped(f"the sources don't compile:\n{first_lines(said)}")
+    raise NotCaught(said)
+
+
+def exported(text: str) -> str:
+    """The module with the exported functions under their own names, and no main beside them."""
+    text = EXPORT.sub(lambda it: f"define {it[1]} @{it[2]}", text)
+    text = USE.sub(lambda it: f"@{it[1]}", text)
+    return text.replace("define i32 @main()", "define internal i32 @main()", 1)
+
+
+def compile_unproved(program: Program, kit: Kit, room: Path) -> None:
+    """Puts the library's code into the room, compiled without a proof."""
+    module, text = module_of_library(program, kit, room), room / "module.ll"
+    run_tool([str(kit.clang), "-S", "-emit-llvm", "-O0", "-x", "ir", str(module), "-o", str(text)])
+    text.write_text(exported(text.read_text(encoding="utf-8")), encoding="utf-8")
+    flags = [flag for flag in FLAGS if flag != "-fPIE"]
+    code = room / "library.o"
+    run_tool([str(kit.clang), *flags, "-fPIC", "-c", "-x", "ir", str(text), "-o", str(code)])
+
+
+def made_by_rt(program: Program) -> Path:
+    """Where `rt lib` leaves the library's code."""
+    return program.folder / f"out/lib{program.crate}.a"
+
+
+def take_apart(archive: Path, room: Path) -> None:
+    run_tool(["ar", "x", "--output", str(room), str(archive)])
+
+
+def join(kit: Kit, room: Path) -> None:
+    """Makes libvdpm.a and libvdpm.so in the room, of the code there and the C code of the kit."""
+    for archive in kit.archives:
+        take_apart(archive, room)
+    pieces: List[str] = [str(piece) for piece in sorted(room.glob("*.o"))]
+    run_tool(["ar", "rcs", str(room / "libvdpm.a"), *pieces])
+    run_tool(["cc", "-shared", "-o", str(room / "libvdpm.so"), *pieces])
+
+
+def put_in_place(program: Program, room: Path, folder: Path) -> None:
+    """Moves the files from the room to the folder. No moment has a record of another file."""
+    for name in program.files:
+        with contextlib.suppress(FileNotFoundError):
+            path_of(folder / name).unlink()
+        os.replace(room / name, folder / name)
+
+
+def put_proved(program: Program, kit: Kit) -> None:
+    """Makes the files in `proved/` of what `rt lib` built."""
+    folder = program.top / "proved"
+    folder.mkdir(exist_ok=True)
+    with tempfile.TemporaryDirectory(prefix=f".{program.name}-", dir=folder) as it:
+        take_apart(made_by_rt(program), Path(it))
+        join(kit, Path(it))
+        put_in_place(program, Path(it), folder)
+
+
+def build_unproved(program: Program, folder: Path) -> None:
+    """Makes the files in the folder without a proof, each with its record."""
+    kit = find_kit()
+    stop_where_it_lacks(kit)
+    stop_without_tools()
+    folder.mkdir(exist_ok=True)
+    sources = sum_of_sources(program, CODE)
+    with tempfile.TemporaryDirectory(prefix=f".{program.name}-", dir=folder) as it:
+        compile_unproved(program, kit, Path(it))
+        join(kit, Path(it))
+        seen = time.time_ns()
+        if sum_of_sources(program, CODE) != sources:
+            raise Stopped("the sources changed while it was built: start it again")
+        put_in_place(program, Path(it), folder)
+    for name in program.files:
+        write_record(program, folder / name, False, kit, sources, seen)
