@@ -1,5 +1,5 @@
-"""How `prepare` cuts polygons whose corners stand on the grid: by the fan from the first corner, and
-by ears where a triangle of the fan is turned over."""
+"""How `prepare` cuts polygons whose corners stand on the grid: by the fan from the first corner,
+and by ears where a triangle of the fan is turned over."""
 from typing import List, NamedTuple, Optional, Tuple
 
 from .mesh import Corners, Point
@@ -10,7 +10,7 @@ Spot = Tuple[int, int]
 
 
 class Polygon(NamedTuple):
-    """A face of more than three corners: the number of its fan's first triangle, and its corners."""
+    """A face of more than three corners: the number of its fan's first triangle, and corners."""
 
     first: int
     corners: List[int]
