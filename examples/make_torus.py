@@ -1,4 +1,5 @@
-"""Writes examples/torus.obj: a ring of 24 by 12 vertices and 576 faces, at whole-number coordinates."""
+"""Writes examples/torus.obj: a ring of 24 by 12 vertices and 576 faces, at whole-number
+coordinates."""
 from math import cos, pi, sin
 from pathlib import Path
 

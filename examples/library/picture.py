@@ -3,7 +3,8 @@
 
     python3 examples/library/picture.py torus.vdpm picture.svg [TOLERANCE]
 
-The view is from the side of negative y and from above. Faces are drawn from the farthest to the nearest.
+The view is from the side of negative y and from above. Faces are drawn from the farthest to the
+nearest.
 """
 import sys
 from pathlib import Path
@@ -50,7 +51,10 @@ def drawn(frame: vdpm.Frame) -> List[str]:
         if length == 0 or dot(normal, minus(EYE, a)) <= 0:
             continue
         light = 60 + int(180 * max(0, dot(normal, (0.3, -0.6, 0.74)) / length))
-        at = [(SIZE / 2 + scale * x, SIZE / 2 - scale * (0.55 * y + 0.83 * z)) for x, y, z in (a, b, c)]
+        at = [
+            (SIZE / 2 + scale * x, SIZE / 2 - scale * (0.55 * y + 0.83 * z))
+            for x, y, z in (a, b, c)
+        ]
         points = " ".join(f"{x:.1f},{y:.1f}" for x, y in at)
         depth = sum(0.83 * p[1] - 0.55 * p[2] for p in (a, b, c))
         shapes.append((-depth, f'<polygon points="{points}" fill="rgb({light},{light},{light})"/>'))

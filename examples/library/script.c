@@ -48,7 +48,8 @@ int main(int argc, char **argv) {
     }
     vdpm_viewer viewer = VDPM_CLOSED;
     uint64_t place = 0;
-    uint32_t status = vdpm_open(stream, length, (uint32_t)strtoul(argv[2], NULL, 10), &viewer, &place);
+    uint32_t budget = (uint32_t)strtoul(argv[2], NULL, 10);
+    uint32_t status = vdpm_open(stream, length, budget, &viewer, &place);
     free(stream);
     if (status != VDPM_DONE) {
         fprintf(stderr, "script: fault %u at %llu\n", status, (unsigned long long)place);
