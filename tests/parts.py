@@ -4,8 +4,8 @@
     rows        the cases of tests/cases, by tests/run.py
     tools       the tests of the tools and of these tests: tools/test_*.py and tests/test_*.py
     random      random cases, compared with a plain model, by tests/random_cases.py
-    documents   names, links and length of all pages, by tests/pages.py, and the commands that they
-                print, by tools/try_document.py
+    documents   names, links and length of all pages, by tests/pages.py, the width of all lines, by
+                tests/widths.py, and the commands that pages print, by tools/try_document.py
 
 Each part tells how many passed and failed. What can't be run here is said aloud. The last line is
 `N passed, M failed` over all parts, and the status is 0 exactly where something passed and nothing
@@ -136,8 +136,11 @@ def random(given: Dict[str, Path], room: Path) -> Count:
 
 
 def documents(given: Dict[str, Path], room: Path) -> Count:
-    run = ran([sys.executable, "tests/pages.py"])
-    return counted(run, r"^(\d+) pages are as told, (\d+) aren't$").plus(commands(given, room))
+    pages = ran([sys.executable, "tests/pages.py"])
+    count = counted(pages, r"^(\d+) pages are as told, (\d+) aren't$")
+    widths = ran([sys.executable, "tests/widths.py"])
+    count = count.plus(counted(widths, r"^(\d+) files are within 100 columns, (\d+) aren't$"))
+    return count.plus(commands(given, room))
 
 
 def commands(given: Dict[str, Path], room: Path) -> Count:
