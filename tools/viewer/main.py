@@ -3,11 +3,10 @@
     ./viewer MODEL [--open] [--budget N] [--memory MB] [--program PATH] [--port P]
     ./viewer --film FLIGHT MODEL [--budget N] [--program PATH] > film.html
 
-MODEL is a stream of `vdpm build`; or an OBJ file, which is built first and taken through `prepare`
-where it isn't fit; or the world.json of a world of tiles (docs/WORLDS.md). The page's
-address is printed, and --open opens it; Ctrl-C ends all. With --film the script FLIGHT is played,
-and its frames are written as one page that needs no server. Needs Python 3.8 and a browser with
-WebGL 2, and no network.
+MODEL is a stream; or an OBJ file, which `simplify` builds first, after `prepare` where it isn't fit;
+or the world.json of a world of tiles (docs/WORLDS.md). The page's address is printed, and --open
+opens it; Ctrl-C ends all. With --film the script FLIGHT is played, and its frames are written as
+one page that needs no server. Needs Python 3.8 and a browser with WebGL 2, and no network.
 
 Ends with status 1 where the model can't be had, or the program can't be started or ends early.
 """
@@ -44,7 +43,7 @@ def arguments(words: Optional[List[str]] = None) -> argparse.Namespace:
         description="Shows a mesh in the browser, refined for where the camera looks.",
     )
     add = parser.add_argument
-    add("model", type=Path, help="a stream of `vdpm build`, an OBJ file, or a world.json")
+    add("model", type=Path, help="a stream, an OBJ file, or a world.json")
     add("--open", action="store_true", help="open the page in the browser")
     add("--budget", type=budget_of, default=ALL_MOVES, help="splits and collapses a view may make")
     add("--program", type=Path, default=TOP / "vdpm", help="vdpm, if not this repository's")
@@ -55,9 +54,13 @@ def arguments(words: Optional[List[str]] = None) -> argparse.Namespace:
 
 
 def programs_of(vdpm: Path) -> Programs:
-    """vdpm, and the prepare that lies beside it or else at the top of the repository."""
-    beside = vdpm.resolve().parent / "prepare"
-    return Programs(vdpm.resolve(), beside if beside.is_file() else TOP / "prepare")
+    """vdpm, and the prepare and simplify beside it or else at the top of the repository."""
+
+    def found(name: str) -> Path:
+        beside = vdpm.resolve().parent / name
+        return beside if beside.is_file() else TOP / name
+
+    return Programs(vdpm.resolve(), found("prepare"), found("simplify"))
 
 
 def loaded(asked: argparse.Namespace) -> Model:

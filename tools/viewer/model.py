@@ -2,8 +2,8 @@
 
 A file that begins with the bytes `VDPM` is a stream, and `vdpm check` judges it. Any other is taken
 for an OBJ text: `vdpm canon` judges it with the least number of decimals that it allows; where that
-refuses it, `prepare` makes it fit; then `vdpm build` makes the stream. Each step is told on
-standard error, with the seconds where it takes some.
+refuses it, `prepare` makes it fit; then `simplify` makes the stream. Each step is told on standard
+error, with the seconds where it takes some.
 """
 import re
 import subprocess
@@ -15,7 +15,7 @@ from subprocess import PIPE
 from typing import IO, List, NamedTuple, Optional, Sequence, Set, Tuple
 
 from . import colours, manual
-from .program import UNPROVED, ProgramEnded, end_of, feed
+from .program import UNPROVED, ProgramEnded, end_of, feed, is_notice
 
 MAGIC = b"VDPM"
 SECONDS_BETWEEN_NEWS = 5
@@ -28,10 +28,11 @@ Place = Tuple[float, float, float]
 
 
 class Programs(NamedTuple):
-    """The two programs of this project."""
+    """The programs of this project."""
 
     vdpm: Path
     prepare: Path
+    simplify: Path
 
 
 class Scale(NamedTuple):
@@ -72,12 +73,6 @@ class Done(NamedTuple):
 
 def tell(text: str) -> None:
     print(f"viewer: {text}", file=sys.stderr, flush=True)
-
-
-def is_notice(line: str) -> bool:
-    """Whether a line of `./vdpm` or `./prepare` is about building the program, and not from the
-    program."""
-    return " fault " not in line and (UNPROVED in line or "building" in line)
 
 
 def run(path: Path, words: Sequence[str], text: bytes, doing: str) -> Done:
@@ -162,8 +157,8 @@ def _built(name: str, text: bytes, programs: Programs) -> Model:
         raise ProgramEnded(f"{name} has no faces, so there is nothing to look at")
     tell(f"building a hierarchy of {faces:,} faces")
     begun = time.monotonic()
-    words = ["build", "0"] + (["--digits", str(digits)] if digits else [])
-    stream = needed(run(programs.vdpm, words, mesh, "building"), manual.OBJ).out
+    words = ["0", "--digits", str(digits)]
+    stream = needed(run(programs.simplify, words, mesh, "building"), manual.OBJ).out
     checked = needed(run(programs.vdpm, ["check"], stream, "checking"), manual.STREAM)
     tell(f"built in {time.monotonic() - begun:.1f} s")
     counts = checked.out.decode("ascii").strip()
@@ -173,7 +168,7 @@ def _built(name: str, text: bytes, programs: Programs) -> Model:
 
 
 def _fitting(text: bytes, programs: Programs) -> Tuple[bytes, int, bool]:
-    """A text that `build` takes, with how many decimals, and whether it had to be prepared."""
+    """A text that `simplify` takes, with how many decimals, and whether it had to be prepared."""
     for digits in range(MOST_DIGITS + 1):
         words = ["canon"] + (["--digits", str(digits)] if digits else [])
         done = run(programs.vdpm, words, text, "reading")

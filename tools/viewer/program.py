@@ -26,8 +26,9 @@ except ImportError:  # not on every system; pipes keep their size there
     fcntl = None  # type: ignore[assignment]
 
 ALL_MOVES = (1 << 32) - 1
-# What a notice says that comes where the program was built without its proof.
+# What notices say: that a program was built without its proof, and those that come while it is.
 UNPROVED = ": not proved on this machine"
+_BUILDING = (": building", ": it is being built already")
 PIPE_BYTES = 1 << 20
 PIECE = 1 << 20
 LINES_AT_ONCE = 64
@@ -83,10 +84,15 @@ def script_lines(text: str) -> List[str]:
     return lines
 
 
+def is_notice(line: str) -> bool:
+    """Whether a line on standard error is about building the program, and not from the program."""
+    return " fault " not in line and any(told in line for told in (UNPROVED, *_BUILDING))
+
+
 def said_last(text: bytes) -> str:
-    """The last line of standard error, but for the notice that the program isn't proved."""
+    """The last line of standard error, but for notices."""
     lines = text.decode("utf-8", "replace").strip().splitlines()
-    return next((line for line in reversed(lines) if UNPROVED not in line), "")
+    return next((line for line in reversed(lines) if not is_notice(line)), "")
 
 
 def end_of(said: str, status: int, heading: str) -> ProgramEnded:

@@ -1,5 +1,6 @@
 """What the tests of the window share: the program, models, and a server that ends with its test."""
 import os
+import subprocess
 import tempfile
 import threading
 import unittest
@@ -17,9 +18,13 @@ EXAMPLES = TOP / "examples"
 STREAM = EXAMPLES / "octahedron.vdpm"
 
 
+@lru_cache(maxsize=None)
 def program() -> Path:
-    """The vdpm that is tried: tools/test_viewer.py names another one so."""
-    return Path(os.environ.get("VIEWER_TESTS_PROGRAM", TOP / "vdpm")).resolve()
+    """The vdpm that is tried: tools/test_viewer.py names another one so. It is run once before, so
+    that no test waits until it is built."""
+    path = Path(os.environ.get("VIEWER_TESTS_PROGRAM", TOP / "vdpm")).resolve()
+    subprocess.run([str(path), "check"], input=STREAM.read_bytes(), capture_output=True, check=True)
+    return path
 
 
 @lru_cache(maxsize=None)

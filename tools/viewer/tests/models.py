@@ -7,7 +7,7 @@ from viewer.colours import PLAIN, coloured_vertices, packed
 from viewer.hierarchy import mean_colours, nodes_of
 from viewer.main import programs_of
 from viewer.model import Model, Programs, model_of, scale_of
-from viewer.program import ProgramEnded
+from viewer.program import UNPROVED, ProgramEnded, is_notice, said_last
 
 from .common import EXAMPLES, STREAM, TOP, Case, model, program
 
@@ -28,6 +28,10 @@ class Files(Case):
         self.assertEqual(model("octahedron.obj").faces, 8)
         asteroid = model("asteroid.obj")
         self.assertEqual((asteroid.faces, asteroid.prepared), (6480, False))
+        words = [str(programs_of(program()).simplify), "0", "--digits", "1"]
+        text = (EXAMPLES / "asteroid.obj").read_bytes()
+        done = subprocess.run(words, input=text, capture_output=True, check=True)
+        self.assertEqual(asteroid.stream, done.stdout)
         self.assertEqual(asteroid.stream[4:12], bytes([2, 0, 0, 0, 1, 0, 0, 0]))
 
     def test_an_obj_that_is_not_fit_is_prepared(self) -> None:
@@ -60,16 +64,28 @@ class Files(Case):
         notice = "vdpm: not proved on this machine yet, run-time checks are on; ./prove proves it"
         text = f"#!/bin/sh\necho '{notice}' >&2\nexec '{program()}' \"$@\"\n"
         fake = self.written("vdpm", text.encode(), runs=True)
-        self.assertFalse(model_of(STREAM, Programs(fake, fake)).proved)
+        fakes = Programs(fake, fake, fake)
+        self.assertFalse(model_of(STREAM, fakes).proved)
         with self.assertRaises(ProgramEnded) as caught:
-            model_of(self.written("short", STREAM.read_bytes()[:50]), Programs(fake, fake))
+            model_of(self.written("short", STREAM.read_bytes()[:50]), fakes)
         self.assertIn("fault 22", caught.exception.reason)
+
+    def test_notices_are_told_from_what_a_program_says(self) -> None:
+        notices = [
+            "vdpm: building anew from the sources, without a proof: about a minute",
+            "vdpm: it is being built already; waiting for that", f"vdpm{UNPROVED} yet",
+        ]
+        for notice in notices:
+            self.assertTrue(is_notice(notice), notice)
+            self.assertEqual(said_last(f"vdpm: fault 29\n{notice}\n".encode()), "vdpm: fault 29")
+            self.assertEqual(said_last(notice.encode()), "")
+        self.assertFalse(is_notice("vdpm: out of memory"))
 
     def test_a_program_that_cannot_be_built_is_not_taken_for_a_refusal(self) -> None:
         text = b"#!/bin/sh\necho 'vdpm: not built, so nothing was run' >&2\nexit 1\n"
         fake = self.written("vdpm", text, runs=True)
         with self.assertRaisesRegex(ProgramEnded, "status 1: vdpm: not built, so nothing was run"):
-            model_of(EXAMPLES / "octahedron.obj", Programs(fake, fake))
+            model_of(EXAMPLES / "octahedron.obj", Programs(fake, fake, fake))
 
     def test_the_command_says_what_is_wrong(self) -> None:
         words = [sys.executable, str(TOP / "viewer"), "--program", str(program()), "nowhere.obj"]
