@@ -1,7 +1,7 @@
 // Keeps a mesh in step with the program: each view tells what it changes, and a whole frame comes
 // first, and wherever a change doesn't lead from the mesh that is kept: where the program was
 // started anew, or another page has marked a front meanwhile.
-import { OutOfStep } from "./mesh.js";
+import { OutOfStep } from "./front.js";
 
 const WHOLE = "w\nk\n", CHANGE = "d\n";
 
@@ -32,7 +32,7 @@ export class Follower {
   taken({ frame, change, before, after }, clock) {
     if (!frame && before !== this.mark) return null;
     try {
-      const patch = this.mesh.take(frame ? this.mesh.changeTo(frame) : change, clock());
+      const patch = this.mesh.take(frame ? this.mesh.front.changeTo(frame) : change, clock());
       this.mark = after;
       return patch;
     } catch (fault) {

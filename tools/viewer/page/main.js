@@ -1,10 +1,11 @@
 // The page: asks for the view of the camera, again and again, and draws what came last.
+import { boot } from "./boot.js";
 import { farther, homeOf } from "./camera.js";
 import { GONE } from "./connection.js";
 import { Controls } from "./controls.js";
 import { showFault } from "./faults.js";
 import { copy, saveFlight, saveMesh, savePicture } from "./keeping.js";
-import { GLIDE } from "./layout.js";
+import { Glides } from "./glides.js";
 import * as panel from "./panel.js";
 import { met, sentence } from "./picking.js";
 import { NO_FACE, watchTheme } from "./renderer.js";
@@ -16,7 +17,6 @@ import { Work } from "./work.js";
 const CIRCLE = 0.25;        // radians a second of the slow circle
 const BUDGET_SETTLES = 400; // milliseconds until a budget that is being changed is taken
 const SAY_AGAIN = 100;      // milliseconds between two sayings of the counters
-const GLIDES_ON = 50;       // milliseconds that are drawn after a glide's end, so that its end is
 
 // Words of the address, for slow machines, tests and measurements: drawn pixels for each of the
 // screen, scripts on their way at once, and whether drawing is waited for.
@@ -33,7 +33,6 @@ class Viewer {
     this.hit = null;             // what a click met
     this.dirty = true;           // whether what is drawn isn't what is known
     this.wakes = false;          // whether a picture is going to be made
-    this.glidesUntil = 0;
     this.budgetAt = null;        // when a budget that was changed is taken
     this.fronts = 0;             // how many were shown
     this.inputState = "unasked";
@@ -42,6 +41,7 @@ class Viewer {
     this.log = [];               // all times, where they are measured
     this.work = new Work("worker.js");
     const failed = (fault) => this.fail(fault);
+    this.glides = new Glides({ land: () => this.land(), failed });
     this.views = new Views(this.work, ahead, { framed: (answer) => this.framed(answer), failed });
     const told = (level) => panel.sayLevel(level, this.about, this.hierarchy);
     this.session = new Session(this.work, { told, failed });
@@ -137,7 +137,8 @@ class Viewer {
     }
     if (this.session.isRunning) this.goOn(now);
     if (this.isDone) this.session.askLevel(this.fronts);
-    if (this.dirty || now < this.glidesUntil) this.draw(now);
+    this.glides.end(now);
+    if (this.dirty || this.glides.isOn(now)) this.draw(now);
     if (now - this.times.said > SAY_AGAIN && this.shown !== null) this.say(now);
     // Counters go on for a second, until all that they count is past.
     if ((!this.session.ended && !this.isSettled) || this.times.draws.length > 0) this.wake();
@@ -178,7 +179,7 @@ class Viewer {
     const { put, draw, draws, fronts } = times;
     times.said = now;
     for (const ago of [draws, fronts]) while (ago[0] < now - 1000) ago.shift();
-    const glides = now < this.glidesUntil ? "gliding" : "";
+    const glides = this.glides.isOn(now) ? "gliding" : "";
     const mark = set.freeze ? "refinement frozen: fly round it" : glides;
     const rates = { pictures: draws.length, fronts: fronts.length };
     panel.sayCounters({ shown, all, left, put, draw, ...rates, mark });
@@ -197,7 +198,7 @@ class Viewer {
   // Whether all that is asked for is shown and told.
   get isSettled() {
     const { session: { knownOf, budget }, fronts, set } = this;
-    if (!this.isDone || this.dirty || performance.now() < this.glidesUntil) return false;
+    if (!this.isDone || this.dirty || !this.glides.isOver) return false;
     return knownOf === fronts && budget === set.budget;
   }
 
@@ -210,11 +211,18 @@ class Viewer {
     if (measures) this.scene.renderer.finish();
     this.times.put = performance.now() - begun;
     const { nodeCount, faceCount, changes } = patch;
-    const glides = this.set.glide && changes.nodesCome > 0;
-    if (glides) this.glidesUntil = begun + 1000 * GLIDE + GLIDES_ON;
+    this.glides.take("front", patch, this.set.glide);
     this.change({ shown: { nodeCount, faceCount, changes, moves, times } });
     this.times.fronts.push(begun);
     if (measures) this.log.push({ put: this.times.put, ...this.shown });
+  }
+
+  // Draws the front itself, now that the nodes that go have come to where they go.
+  async land() {
+    const { patch } = await this.work.ask({ task: "settle" });
+    this.scene.renderer.change("front", patch);
+    this.glides.take("front", patch, false);
+    this.change({});
   }
 
   async showInput() {
@@ -282,18 +290,4 @@ class Viewer {
   }
 }
 
-function boot() {
-  const canvas = document.getElementById("picture"), again = () => location.reload();
-  try {
-    globalThis.viewer = new Viewer(canvas); // there for tests and the browser's console
-  } catch (fault) {
-    showFault({ title: "Nothing can be drawn", reason: fault.message });
-    return;
-  }
-  canvas.addEventListener("webglcontextlost", () => {
-    showFault({ title: "The graphics processor gave up", reason: "Load the page again.", again });
-  });
-  globalThis.viewer.open();
-}
-
-boot();
+boot((canvas) => new Viewer(canvas));

@@ -1,16 +1,19 @@
-// The mesh that is shown, kept by what changes (docs/FORMATS.md has the form of a change). It works
-// in the page's worker, and tells the page which cells of its textures become others.
+// The mesh that is drawn. It is the front's; and where the front became coarser it stays as it was
+// for a while, as the nodes that go glide to where the node stands that took their place. So it is
+// always the front or finer. It works in the page's worker, and tells the page which cells of its
+// textures become others.
+//
+// A face is in a front where its corners' ancestors are three nodes there, and these are its
+// corners. So the faces of two fronts together are those of the finer of both, wherever one looks,
+// and a face that goes is flat once all nodes have come to where they go.
+import { cellsOf, coloursOf, cornersAt } from "./cells.js";
+import { Front, check } from "./front.js";
 import { NO_PARENT } from "./hierarchy.js";
 import { GLIDE } from "./layout.js";
-import { addNormal, putNormal, putUnit } from "./normals.js";
+import { addNormal, putNormal } from "./normals.js";
 import { Marked, Row, Slots } from "./slots.js";
 
-// A change that leads from another mesh than the one that is kept.
-export class OutOfStep extends Error {}
-
-function check(fits) {
-  if (!fits) throw new OutOfStep("the change isn't one of the mesh that is kept");
-}
+const THERE = -GLIDE; // when a glide began that is over
 
 // How far of its way a glide is after a part of its time: the same as in shaders.js.
 function eased(part) {
@@ -28,43 +31,51 @@ export class KeptMesh {
   // `colours` has four bytes for each node, or is null.
   constructor(hierarchy, colours) {
     const count = hierarchy.parents.length, { faces } = hierarchy;
-    Object.assign(this, { hierarchy, colours });
-    this.corners = new Int32Array(3 * faces);   // the nodes at a face's corners
-    this.uses = new Int32Array(count);          // how many faces have a node
+    Object.assign(this, { hierarchy, colours, front: new Front(hierarchy) });
+    this.corners = new Int32Array(3 * faces);   // the nodes at a drawn face's corners
+    this.uses = new Int32Array(count);          // how many drawn faces have a node
     this.sums = new Float64Array(3 * count);    // of their normals
-    this.starts = new Float32Array(4 * count);  // where a node's glide began, and when
+    this.goals = new Int32Array(count);         // the front's node to which a node glides
+    this.starts = new Float32Array(4 * count);  // where its glide began, and when
     this.touched = { nodes: new Marked(count), faces: new Marked(faces) };
+    this.split = new Marked(count);   // drawn nodes that a change splits
+    this.landing = new Marked(count); // nodes of the front that are drawn from now on
     this.normal = new Float64Array(3);
     this.clear();
   }
 
-  // Nothing is shown.
+  // Nothing is drawn.
   clear() {
+    this.front.clear();
     this.nodes = new Slots(this.hierarchy.parents.length);
     this.faces = new Row(this.hierarchy.faces);
+    this.leaving = new Map(); // for nodes of the front that aren't drawn yet: those that are, and
+                              // until when
+    this.late = new Row(this.hierarchy.faces); // drawn faces that the front hasn't, or with other
+                                               // corners
     this.uses.fill(0);
     this.sums.fill(0);
-    for (const touched of Object.values(this.touched)) touched.clear();
+    for (const marked of [this.split, this.landing, ...Object.values(this.touched)]) marked.clear();
   }
 
   // Does what a change says, and gives what becomes another in textures. With `now`, in seconds,
-  // nodes that come glide from where their elders are seen then.
+  // nodes glide from where they or their elders are seen then; where it is null, none does.
   take(change, now) {
     const { facesGone, nodesGone, nodes, faces } = change;
+    this.front.take(change);
+    for (const node of nodesGone) this.leave(node, now);
     for (let i = 0; i < nodes.length; i += 4) this.begin(nodes[i], now);
-    for (const face of facesGone) this.removeFace(face);
-    // The old normals of faces that turn are taken off while all their nodes are there.
+    for (const face of facesGone) this.setLate(face, true);
+    const come = [];
     for (let i = 0; i < faces.length; i += 4) {
-      if (this.faces.has(faces[i])) this.shade(faces[i], -1);
+      if (this.faces.has(faces[i])) this.turn(faces[i]);
+      else come.push(faces[i]);
     }
-    for (const node of nodesGone) {
-      check(this.nodes.has(node));
-      this.nodes.remove(node);
-    }
-    for (let i = 0; i < nodes.length; i += 4) this.addNode(nodes[i]);
-    for (let i = 0; i < faces.length; i += 4) this.putFace(faces, i);
-    check(this.nodes.size === change.nodeCount && this.faces.size === change.faceCount);
-    check(nodesGone.every((node) => this.uses[node] === 0));
+    this.landUnclear(come);
+    this.land(now);
+    for (const face of come) this.putFace(face);
+    for (const node of this.split.numbers) this.removeNode(node);
+    this.split.clear();
     const changes = {
       nodesCome: nodes.length / 4, nodesGone: nodesGone.length,
       facesCome: faces.length / 4, facesGone: facesGone.length,
@@ -72,63 +83,114 @@ export class KeptMesh {
     return { ...this.patch(), changes };
   }
 
-  // The change that leads to the mesh of a frame.
-  changeTo({ nodes, faces }) {
-    const seenNodes = new Marked(this.nodes.of.length);
-    const seenFaces = new Marked(this.faces.of.length);
-    const nodesCome = [], facesCome = [];
-    for (let i = 0; i < nodes.length; i += 4) {
-      seenNodes.add(nodes[i]);
-      if (!this.nodes.has(nodes[i])) nodesCome.push(...nodes.subarray(i, i + 4));
-    }
-    for (let i = 0; i < faces.length; i += 4) {
-      seenFaces.add(faces[i]);
-      if (!this.stands(faces, i)) facesCome.push(...faces.subarray(i, i + 4));
-    }
-    return {
-      facesGone: [...this.faces].filter((face) => !seenFaces.has(face)),
-      nodesGone: [...this.nodes].filter((node) => !seenNodes.has(node)),
-      nodes: nodesCome, nodeCount: nodes.length / 4,
-      faces: facesCome, faceCount: faces.length / 4,
-    };
+  // Draws the front where glides to it are over.
+  settle(now) {
+    this.land(now);
+    return this.patch();
   }
 
-  // The mesh as a frame has it.
-  frame() {
-    const { corners, hierarchy: { places } } = this, rising = (a, b) => a - b;
-    const lineOf = (number, three) => [number, ...three.subarray(3 * number, 3 * number + 3)];
-    const lines = (shown, three) =>
-      Int32Array.from([...shown].sort(rising).flatMap((number) => lineOf(number, three)));
-    return { nodes: lines(this.nodes, places), faces: lines(this.faces, corners) };
+  // --- nodes
+
+  // A node has left the front. What is drawn of it and below it glides to the node that took its
+  // place, and back where that one is split again.
+  leave(node, now) {
+    const drawn = this.leaving.get(node)?.nodes ?? [node];
+    this.leaving.delete(node);
+    for (const one of drawn) {
+      const goal = this.front.above(one);
+      if (goal === NO_PARENT) this.split.add(one);
+      else this.aim(one, goal, now);
+    }
   }
 
-  // Whether a face is there with these corners.
-  stands(faces, i) {
-    const { corners } = this, at = 3 * faces[i];
-    return this.faces.has(faces[i]) && corners[at] === faces[i + 1]
-      && corners[at + 1] === faces[i + 2] && corners[at + 2] === faces[i + 3];
+  aim(node, goal, now) {
+    this.putStart(node, node, now);
+    this.goals[node] = goal;
+    this.touched.nodes.add(node);
+    if (goal === node) return;
+    if (!this.leaving.has(goal)) this.leaving.set(goal, { nodes: [], until: 0 });
+    const those = this.leaving.get(goal);
+    those.nodes.push(node);
+    those.until = now === null ? -Infinity : now + GLIDE;
+  }
+
+  // A node that comes starts where its elder, the ancestor that is drawn, is seen now. One that is
+  // drawn already, or for which others are, has been told by `leave`.
+  begin(node, now) {
+    if (this.nodes.has(node) || this.leaving.has(node)) return;
+    const { parents } = this.hierarchy;
+    let elder = parents[node];
+    while (elder !== NO_PARENT && !this.nodes.has(elder)) elder = parents[elder];
+    if (elder === NO_PARENT) this.starts[4 * node + 3] = THERE;
+    else this.putStart(node, elder, now);
+    this.addNode(node);
+  }
+
+  // Lets a glide begin where another node is seen now.
+  putStart(node, seen, now) {
+    const { starts, goals, hierarchy: { places } } = this, at = 4 * node, from = 4 * seen;
+    const part = now === null ? 1 : eased((now - starts[from + 3]) / GLIDE);
+    for (let axis = 0; axis < 3; axis++) {
+      const start = starts[from + axis], end = places[3 * goals[seen] + axis];
+      starts[at + axis] = start + (end - start) * part;
+    }
+    starts[at + 3] = now ?? THERE;
   }
 
   addNode(node) {
-    check(!this.nodes.has(node));
+    this.goals[node] = node;
     this.nodes.add(node);
     this.touched.nodes.add(node);
   }
 
+  removeNode(node) {
+    check(this.uses[node] === 0);
+    this.nodes.remove(node);
+  }
+
+  // --- faces
+
+  // The front has other corners for a drawn face: it gets those that are drawn.
+  turn(face) {
+    const { nodes, corners, front } = this;
+    this.setCorners(face, (at) => (nodes.has(front.corners[at]) ? front.corners[at] : corners[at]));
+  }
+
+  // Gives a drawn face other corners, by where they stand among those of all faces.
+  setCorners(face, cornerAt) {
+    const { corners, front } = this, first = 3 * face;
+    this.shade(face, -1);
+    let isLate = !front.faces.has(face);
+    for (let at = first; at < first + 3; at++) {
+      corners[at] = cornerAt(at);
+      isLate ||= corners[at] !== front.corners[at];
+    }
+    this.shade(face, 1);
+    this.touched.faces.add(this.faces.of[face]);
+    this.setLate(face, isLate);
+  }
+
+  setLate(face, isLate) {
+    if (isLate === this.late.has(face)) return;
+    if (isLate) this.late.add(face);
+    else this.late.remove(face);
+  }
+
+  putFace(face) {
+    for (let at = 3 * face; at < 3 * face + 3; at++) {
+      this.corners[at] = this.front.corners[at];
+      check(this.nodes.has(this.corners[at]));
+    }
+    this.faces.add(face);
+    this.shade(face, 1);
+    this.touched.faces.add(this.faces.of[face]);
+  }
+
   removeFace(face) {
-    check(this.faces.has(face));
     this.shade(face, -1);
     this.touched.faces.add(this.faces.of[face]);
     this.faces.remove(face);
-  }
-
-  putFace(faces, i) {
-    const { corners } = this, face = faces[i], at = 3 * face;
-    for (let corner = 1; corner <= 3; corner++) check(this.nodes.has(faces[i + corner]));
-    if (!this.faces.has(face)) this.faces.add(face);
-    corners[at] = faces[i + 1]; corners[at + 1] = faces[i + 2]; corners[at + 2] = faces[i + 3];
-    this.shade(face, 1);
-    this.touched.faces.add(this.faces.of[face]);
+    this.setLate(face, false);
   }
 
   // Counts a face for its nodes and adds its normal to their sums, or takes both off.
@@ -143,75 +205,76 @@ export class KeptMesh {
     nodes.add(a); nodes.add(b); nodes.add(c);
   }
 
-  // A node that comes starts where its elder, the ancestor that was shown before, is seen now. One
-  // that stands for several nodes of before has none, and starts at its own place.
-  begin(node, now) {
-    const { places, parents } = this.hierarchy, { starts } = this;
-    let elder = now === null ? NO_PARENT : parents[node];
-    while (elder !== NO_PARENT && !this.nodes.has(elder)) elder = parents[elder];
-    if (elder === NO_PARENT) {
-      starts[4 * node + 3] = -GLIDE;
-      return;
+  // --- the ends of glides
+
+  // Nodes of the front that have to be drawn at once: at which a face comes, or a face goes of
+  // which another corner is split. What is told of a face doesn't say which of several drawn nodes
+  // would be its corner then.
+  landUnclear(come) {
+    const { corners, front, leaving, landing, split, late } = this;
+    for (const face of come) {
+      for (let at = 3 * face; at < 3 * face + 3; at++) {
+        if (leaving.has(front.corners[at])) landing.add(front.corners[at]);
+      }
     }
-    const part = eased((now - starts[4 * elder + 3]) / GLIDE);
-    for (let axis = 0; axis < 3; axis++) {
-      const start = starts[4 * elder + axis], own = places[3 * elder + axis];
-      starts[4 * node + axis] = start + (own - start) * part;
+    if (split.numbers.length === 0) return;
+    for (const face of late.at) {
+      const at = 3 * face;
+      const isNear = split.has(corners[at]) || split.has(corners[at + 1])
+        || split.has(corners[at + 2]);
+      if (isNear && !front.faces.has(face)) landing.add(this.meeting(face));
     }
-    starts[4 * node + 3] = now;
   }
 
-  // Cells of textures that become others, four numbers each.
+  // Where two corners of a face that goes come together.
+  meeting(face) {
+    const [a, b, c] = this.corners.subarray(3 * face, 3 * face + 3).map((one) => this.goals[one]);
+    const goal = a === b ? a : c;
+    check((a === b || b === c || c === a) && this.leaving.has(goal));
+    return goal;
+  }
+
+  // Draws the nodes of the front that land, also those whose glides are over, and no longer those
+  // that glide to them.
+  land(now) {
+    const { corners, goals, landing, leaving, late } = this;
+    for (const [node, { until }] of leaving) if (now === null || until <= now) landing.add(node);
+    const lands = (at) => goals[corners[at]] !== corners[at] && landing.has(goals[corners[at]]);
+    for (let i = late.size - 1; i >= 0 && landing.numbers.length > 0; i--) {
+      const face = late.at[i], at = 3 * face;
+      if (!lands(at) && !lands(at + 1) && !lands(at + 2)) continue;
+      this.setCorners(face, (one) => (lands(one) ? goals[corners[one]] : corners[one]));
+      if (this.isFlat(face)) this.removeFace(face);
+    }
+    for (const node of landing.numbers) {
+      for (const one of leaving.get(node).nodes) this.removeNode(one);
+      leaving.delete(node);
+      this.starts[4 * node + 3] = THERE;
+      this.addNode(node);
+    }
+    landing.clear();
+  }
+
+  isFlat(face) {
+    const { corners } = this, a = corners[3 * face], b = corners[3 * face + 1];
+    const c = corners[3 * face + 2];
+    return a === b || b === c || c === a;
+  }
+
+  // What becomes another in textures, and how large the front and what is drawn are.
   patch() {
-    const { nodes, faces, touched, colours } = this;
+    const { nodes, faces, touched, colours, front, leaving } = this;
     const shown = touched.nodes.numbers.filter((node) => nodes.has(node));
     const slots = touched.faces.numbers.filter((slot) => slot < faces.size);
     touched.nodes.clear();
     touched.faces.clear();
-    const cells = this.cells(shown);
-    if (colours !== null) cells.colours = this.coloursOf(shown);
+    const cells = cellsOf(this, shown);
+    if (colours !== null) cells.colours = coloursOf(colours, shown);
     return {
-      nodeCount: nodes.size, faceCount: faces.size,
+      nodeCount: front.nodes.size, faceCount: front.faces.size,
+      drawn: faces.size, glides: leaving.size > 0,
       nodes: { slots: Int32Array.from(shown.map((node) => nodes.of[node])), ...cells },
-      faces: { slots: Int32Array.from(slots), corners: this.cornersAt(slots) },
+      faces: { slots: Int32Array.from(slots), corners: cornersAt(this, slots) },
     };
-  }
-
-  // Places with depths, normals, and where and when glides began.
-  cells(nodes) {
-    const { sums, starts: from, hierarchy: { places: own, depths } } = this;
-    const size = 4 * nodes.length;
-    const places = new Int16Array(size), normals = new Int16Array(size);
-    const starts = new Float32Array(size);
-    for (let i = 0, at = 0; at < size; i++, at += 4) {
-      const node = nodes[i], place = 3 * node, start = 4 * node;
-      places[at] = own[place]; places[at + 1] = own[place + 1]; places[at + 2] = own[place + 2];
-      places[at + 3] = depths[node];
-      putUnit(sums, place, normals, at);
-      starts[at] = from[start]; starts[at + 1] = from[start + 1];
-      starts[at + 2] = from[start + 2]; starts[at + 3] = from[start + 3];
-    }
-    return { places, normals, starts };
-  }
-
-  coloursOf(nodes) {
-    const colours = new Uint8Array(4 * nodes.length);
-    nodes.forEach((node, i) => {
-      for (let part = 0; part < 4; part++) colours[4 * i + part] = this.colours[4 * node + part];
-    });
-    return colours;
-  }
-
-  // The corners of the faces that stand there, by where their nodes stand, and the faces' numbers.
-  cornersAt(slots) {
-    const { corners, faces, nodes: { of } } = this, cells = new Uint32Array(4 * slots.length);
-    for (let i = 0, to = 0; i < slots.length; i++, to += 4) {
-      const face = faces.at[slots[i]], from = 3 * face;
-      cells[to] = of[corners[from]];
-      cells[to + 1] = of[corners[from + 1]];
-      cells[to + 2] = of[corners[from + 2]];
-      cells[to + 3] = face;
-    }
-    return cells;
   }
 }

@@ -2,7 +2,7 @@
 import { coordinate } from "./obj.js";
 
 const part = (name) => document.getElementById(name);
-const counted = (n) => n.toLocaleString("en");
+export const counted = (n) => n.toLocaleString("en");
 const pixels = (n) => `${n < 10 ? Number(n.toFixed(2)) : Math.round(n)} px`;
 const milliseconds = (n) => (n < 10 ? n.toFixed(1) : n.toFixed(0));
 const kilobytes = (n) => `${counted(Math.round(n / 1024))} kB`;
@@ -139,7 +139,7 @@ function made(kind, inside) {
   return element;
 }
 
-const rowOf = (cells) => made("tr", cells.map((cell) => made("td", [cell])));
+export const rowOf = (cells) => made("tr", cells.map((cell) => made("td", [cell])));
 
 // The captions of the two halves, where there are two.
 const INPUT_SAID = { unasked: "", asked: "the input is on its way", shown: "the input" };

@@ -187,11 +187,11 @@ class Mesh {
     this.faceCount = faceCount;
   }
 
-  change({ faceCount, nodes, faces }, offset) {
+  change({ drawn, nodes, faces }, offset) {
     for (const { slots, ...cells } of [nodes, faces]) {
       for (const [name, values] of Object.entries(cells)) this.textures[name].change(slots, values);
     }
-    Object.assign(this, { faceCount, offset, glides: true });
+    Object.assign(this, { faceCount: drawn, offset, glides: true });
   }
 
   bind(at) {

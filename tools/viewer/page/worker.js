@@ -1,20 +1,19 @@
-// Talks with the server and keeps the mesh that is shown, by what changes. A message has a task and
-// a number; the answer has the same number, and what the task gives or its fault. While the replies
-// to one script are read, the next may be on its way.
+// Talks with the server and keeps the mesh that is shown, by what changes. While the replies to one
+// script are read, the next may be on its way.
 import { Connection, fetched } from "./connection.js";
 import { Follower } from "./follower.js";
 import { meanColours, readHierarchy } from "./hierarchy.js";
-import { KeptMesh, handedOver } from "./mesh.js";
+import { KeptMesh } from "./mesh.js";
 import { objText } from "./obj.js";
 import { readReplies } from "./replies.js";
+import { answerBy, clock, startClock } from "./tasks.js";
 
 let connection = null, hierarchy = null, colours = null, follower = null;
-let origin = 0; // when the page's clock began
 
 const tasks = {
   // The model: what is told of it, and what of the hierarchy the page needs.
   async open({ pageOrigin }) {
-    origin = pageOrigin;
+    startClock(pageOrigin);
     connection = new Connection();
     await connection.open;
     const about = await (await fetched("about")).json();
@@ -27,9 +26,12 @@ const tasks = {
 
   // The reply to a view, and what becomes another of what is shown.
   async view({ line, glides }) {
-    const { replies, patch, times, cameAt } = await follower.view(line, () => clock(glides));
+    const { replies, patch, times, cameAt } = await follower.view(line, () => (glides ? clock() : null));
     return { replies, patch, times: { ...times, take: performance.now() - cameAt - times.read } };
   },
+
+  // What becomes another where glides are over.
+  async settle() { return { patch: follower.mesh.settle(clock()) }; },
 
   // The replies to a script that leaves the front as it is.
   async ask({ script }) {
@@ -40,11 +42,12 @@ const tasks = {
   // The input itself, to be drawn beside the front.
   async input() {
     const mesh = new KeptMesh(hierarchy, colours);
-    return { patch: mesh.take(mesh.changeTo(readReplies(await bytesOf("input")).frame), null) };
+    const { frame } = readReplies(await bytesOf("input"));
+    return { patch: mesh.take(mesh.front.changeTo(frame), null) };
   },
 
   // The mesh shown, as an OBJ text.
-  async obj() { return { text: objText(follower.mesh.frame(), hierarchy.digits) }; },
+  async obj() { return { text: objText(follower.mesh.front.frame(), hierarchy.digits) }; },
 };
 
 // The answer to a script, and where the time went, in milliseconds.
@@ -55,11 +58,6 @@ async function talk(script) {
   return { ...answer, ...found, cameAt, times: { view, text, transfer, read, bytes: data.length } };
 }
 
-// Seconds of the page's clock, since a worker's own began later; null where nothing glides.
-function clock(glides) {
-  return glides ? (performance.timeOrigin + performance.now() - origin) / 1000 : null;
-}
-
 const bytesOf = async (path) => new Uint8Array(await (await fetched(path)).arrayBuffer());
 
 // The reply to a ray, with the face's number in the input put behind.
@@ -67,12 +65,4 @@ function withInput(words) {
   return words[0] === "hit" ? [...words, hierarchy.faceInputs[Number(words[1])]] : words;
 }
 
-onmessage = async ({ data }) => {
-  const { task, number, ...asked } = data;
-  try {
-    const answer = await tasks[task](asked);
-    postMessage({ number, answer }, handedOver(answer.patch));
-  } catch (fault) {
-    postMessage({ number, fault: { reason: fault.message, cure: fault.cure ?? "" } });
-  }
-};
+answerBy(tasks);

@@ -1,9 +1,11 @@
 // The page of a world: tiles near the camera are open, each refined for where it looks, and far
 // ones are shown by a parent or as coarse as they can be.
+import { boot } from "./boot.js";
 import { farther, focalOf, homeOf } from "./camera.js";
 import { Controls } from "./controls.js";
 import { showFault } from "./faults.js";
-import { GLIDE } from "./layout.js";
+import { Glides } from "./glides.js";
+import { counted, rowOf } from "./panel.js";
 import { NO_FACE, Renderer, watchTheme } from "./renderer.js";
 import { Tiles } from "./tiles.js";
 import { Work } from "./work.js";
@@ -12,7 +14,6 @@ const SAY_AGAIN = 100; // milliseconds between two sayings of the counters
 const STEPS = 4;       // of the tolerance's slider, a doubling
 const DEEPEST = 40;    // splits below a root, at which a node's colour is the last one
 const part = (name) => document.getElementById(name);
-const counted = (n) => n.toLocaleString("en");
 const megabytes = (n) => `${counted(Math.round(n / 1e6))} MB`;
 const chosen = (name) => document.querySelector(`input[name=${name}]:checked`).value;
 const press = (name) => () => part(name).click();
@@ -33,7 +34,9 @@ class WorldViewer {
     this.canvas = canvas;
     this.renderer = new Renderer(canvas);
     this.work = new Work("world_worker.js");
-    Object.assign(this, { set: settings(), glidesUntil: 0, saidAt: 0, dirty: true, ended: false });
+    const failed = (fault) => this.fail(fault);
+    this.glides = new Glides({ land: (name) => this.land(name), failed });
+    Object.assign(this, { set: settings(), saidAt: 0, dirty: true, ended: false });
   }
 
   async open() {
@@ -45,7 +48,7 @@ class WorldViewer {
     }
     const heard = {
       framed: (tile, patch) => this.framed(tile, patch),
-      dropped: (name) => this.renderer.drop(name),
+      dropped: (name) => this.drop(name),
       failed: (fault) => this.fail(fault),
     };
     this.tiles = new Tiles(this.about.tiles, this.work, heard);
@@ -104,7 +107,8 @@ class WorldViewer {
     const { tiles, set } = this;
     const isFirst = tiles.wanted === null;
     if (isFirst || !set.freeze) tiles.look(this.camera, this.picture(), set, this.about.memory);
-    if (this.dirty || now < this.glidesUntil) this.draw();
+    this.glides.end(now);
+    if (this.dirty || this.glides.isOn(now)) this.draw();
     if (now - this.saidAt > SAY_AGAIN) this.say(now);
     requestAnimationFrame((next) => this.tick(next));
   }
@@ -127,7 +131,21 @@ class WorldViewer {
 
   framed(tile, patch) {
     this.renderer.change(tile.name, patch, tile.offset);
-    if (patch.changes.nodesCome > 0) this.glidesUntil = performance.now() + 1000 * GLIDE + 50;
+    this.glides.take(tile.name, patch, this.set.glide);
+    this.dirty = true;
+  }
+
+  drop(name) {
+    this.renderer.drop(name);
+    this.glides.drop(name);
+  }
+
+  // Draws a tile's front itself, now that the nodes that go have come to where they go.
+  async land(name) {
+    const { patch } = await this.work.ask({ task: "settle", name });
+    if (!patch || !this.renderer.has(name)) return; // it was left meanwhile
+    this.renderer.change(name, patch, this.tiles.tile(name).offset);
+    this.glides.take(name, patch, false);
     this.dirty = true;
   }
 
@@ -148,7 +166,7 @@ class WorldViewer {
   // Whether all is shown as it is asked for.
   get isSettled() {
     const { tiles } = this;
-    if (!tiles?.wanted || tiles.waiting > 0 || performance.now() < this.glidesUntil) return false;
+    if (!tiles?.wanted || tiles.waiting > 0 || !this.glides.isOver) return false;
     const names = [...tiles.wanted.open, ...tiles.wanted.closed];
     return !this.dirty && names.every((name) => tiles.states.get(name)?.shown)
       && names.length === tiles.drawn.length;
@@ -161,22 +179,4 @@ class WorldViewer {
   }
 }
 
-function rowOf(cells) {
-  const row = document.createElement("tr");
-  row.append(...cells.map((cell) => Object.assign(document.createElement("td"), {
-    textContent: cell,
-  })));
-  return row;
-}
-
-function boot() {
-  try {
-    globalThis.viewer = new WorldViewer(part("picture")); // for tests and the browser's console
-  } catch (fault) {
-    showFault({ title: "Nothing can be drawn", reason: fault.message });
-    return;
-  }
-  globalThis.viewer.open();
-}
-
-boot();
+boot((canvas) => new WorldViewer(canvas));

@@ -1,17 +1,17 @@
-// Talks with the server of a world, and keeps the mesh of each tile that is shown. A message has a
-// task and a number; the answer has the same number.
+// Talks with the server of a world, and keeps the mesh of each tile that is shown.
 import { Connection, fetched } from "./connection.js";
 import { Follower } from "./follower.js";
 import { NO_PARENT, readHierarchy } from "./hierarchy.js";
-import { KeptMesh, handedOver } from "./mesh.js";
+import { KeptMesh } from "./mesh.js";
 import { readReplies } from "./replies.js";
+import { answerBy, clock, startClock } from "./tasks.js";
 
 const TINTS = [
   [222, 184, 135], [143, 188, 143], [135, 160, 206], [205, 140, 149], [189, 183, 107],
   [160, 140, 200], [120, 180, 190], [210, 160, 100],
 ];
 
-let connection = null, origin = 0;
+let connection = null;
 const followers = new Map(); // of open tiles, by name
 
 // The same colour for all nodes of a tile, so that one sees which is which.
@@ -39,7 +39,7 @@ async function talk(name, script) {
 const tasks = {
   // What is told of the world.
   async open({ pageOrigin }) {
-    origin = pageOrigin;
+    startClock(pageOrigin);
     connection = new Connection();
     await connection.open;
     return (await fetched("about")).json();
@@ -48,7 +48,7 @@ const tasks = {
   // What a view changes of an open tile.
   async view({ name, line, glides }) {
     const follower = await followerOf(name);
-    const { patch } = await follower.view(line, () => clock(glides));
+    const { patch } = await follower.view(line, () => (glides ? clock() : null));
     return { patch };
   },
 
@@ -57,19 +57,17 @@ const tasks = {
     followers.delete(name);
     const text = new Uint8Array(await (await fetched(`base/${name}`)).arrayBuffer());
     const { frame } = readReplies(text), mesh = new KeptMesh(...baseOf(name, frame));
-    return { patch: mesh.take(mesh.changeTo(frame), null) };
+    return { patch: mesh.take(mesh.front.changeTo(frame), null) };
   },
+
+  // What becomes another of a tile where glides are over; no patch where it was left.
+  async settle({ name }) { return { patch: followers.get(name)?.mesh.settle(clock()) }; },
 
   async forget({ name }) {
     followers.delete(name);
     return {};
   },
 };
-
-// Seconds of the page's clock, since a worker's own began later; null where nothing glides.
-function clock(glides) {
-  return glides ? (performance.timeOrigin + performance.now() - origin) / 1000 : null;
-}
 
 // The hierarchy of a base mesh, which has no records, and its colours.
 function baseOf(name, { nodes, faces }) {
@@ -81,12 +79,4 @@ function baseOf(name, { nodes, faces }) {
   return [{ parents, depths, places, faces: faces.length / 4 }, tint(name, count)];
 }
 
-onmessage = async ({ data }) => {
-  const { task, number, ...asked } = data;
-  try {
-    const answer = await tasks[task](asked);
-    postMessage({ number, answer }, handedOver(answer.patch));
-  } catch (fault) {
-    postMessage({ number, fault: { reason: fault.message, cure: fault.cure ?? "" } });
-  }
-};
+answerBy(tasks);
