@@ -32,6 +32,7 @@ FLAGS = (
 COMPLAINTS = ("Runtime.exceptionThrown", "Runtime.consoleAPICalled", "Log.entryAdded")
 # A machine that does much else is slow; nothing waits this long where all is well.
 PATIENCE = 120.0
+SHIFT = 8  # among the modifiers of an event
 LOOK_AGAIN = 0.02
 
 
@@ -205,16 +206,21 @@ class Browser:
         for kind in ("mousePressed", "mouseReleased"):
             self.mouse(kind, x, y, button="left", clickCount=1)
 
-    def drag(self, start: Tuple[int, int], end: Tuple[int, int], button: str = "left") -> None:
-        self.mouse("mousePressed", *start, button=button, clickCount=1)
+    def drag(
+        self, start: Tuple[int, int], end: Tuple[int, int], button: str = "left",
+        shift: bool = False,
+    ) -> None:
+        held = {"button": button, "modifiers": SHIFT if shift else 0}
+        self.mouse("mousePressed", *start, clickCount=1, **held)
         for step in range(1, 5):
             x, y = (a + (b - a) * step / 4 for a, b in zip(start, end))
-            self.mouse("mouseMoved", x, y, button=button, buttons=1)
-        self.mouse("mouseReleased", *end, button=button, clickCount=1)
+            self.mouse("mouseMoved", x, y, buttons=1, **held)
+        self.mouse("mouseReleased", *end, clickCount=1, **held)
 
-    def key(self, key: str) -> None:
+    def key(self, key: str, shift: bool = False) -> None:
         for kind in ("keyDown", "keyUp"):
-            self.call("Input.dispatchKeyEvent", type=kind, key=key)
+            held = SHIFT if shift else 0
+            self.call("Input.dispatchKeyEvent", type=kind, key=key, modifiers=held)
 
     def touch(self, kind: str, *points: Tuple[int, int]) -> None:
         fingers = [{"x": x, "y": y, "id": number} for number, (x, y) in enumerate(points)]

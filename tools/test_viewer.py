@@ -13,8 +13,8 @@ from browser import NAMES
 
 TOOLS = Path(__file__).resolve().parent
 SUBJECTS = (
-    "programs", "models", "serving", "films", "looking", "settings", "following", "judging",
-    "keeping", "playing", "worlds",
+    "programs", "models", "serving", "films", "looking", "controls", "settings", "following",
+    "gliding", "judging", "keeping", "playing", "worlds",
 )
 NO_BROWSER = "no Chromium"
 

@@ -2,7 +2,7 @@
 import atexit
 import unittest
 from functools import lru_cache
-from typing import Any, List
+from typing import Any, List, Tuple
 
 from browser import Browser, found
 from frames import Frame, read_frames
@@ -69,6 +69,19 @@ class Page(Case):
             f"(() => {{ const s = document.getElementById('{name}'); s.value = {to};"
             " s.dispatchEvent(new Event('input', { bubbles: true })); })()"
         )
+
+    def place_of(self, chosen: str) -> Tuple[float, float]:
+        """The middle of an element, by its CSS selector, once it is scrolled to."""
+        x, y = self.value(
+            f"(() => {{ const e = document.querySelector({chosen!r});"
+            " e.scrollIntoView({ block: 'center' }); const r = e.getBoundingClientRect();"
+            " return [r.left + r.width / 2, r.top + r.height / 2]; })()"
+        )
+        return float(x), float(y)
+
+    def press(self, chosen: str) -> None:
+        """Clicks with the mouse on what is seen of an element."""
+        self.page.click(*self.place_of(chosen))
 
     def whole(self) -> Frame:
         """The front as the program shows it now."""
