@@ -37,6 +37,7 @@ TOP = Path(__file__).resolve().parent.parent
 sys.path.insert(0, str(TOP / "tools"))
 
 from browser import Browser  # noqa: E402
+from viewer.library import built_library  # noqa: E402
 from viewer.main import programs_of  # noqa: E402
 from viewer.model import model_of  # noqa: E402
 from viewer.server import Server  # noqa: E402
@@ -119,6 +120,7 @@ def arguments() -> argparse.Namespace:
     parser = argparse.ArgumentParser(description="Measures the views of the window.")
     parser.add_argument("models", nargs="+", metavar="MODEL")
     parser.add_argument("--program", type=Path, default=TOP / "vdpm")
+    parser.add_argument("--library", action="store_true", help="by libvdpm")
     parser.add_argument("--by", nargs="+", choices=JUDGED, default=JUDGED)
     parser.add_argument("--tolerances", type=float, nargs="*", default=[32, 16, 8])
     parser.add_argument("--steps", type=int, default=100)
@@ -140,8 +142,10 @@ def measure(browser: Browser, asked: argparse.Namespace, judged: str) -> None:
 def measure_model(path: Path, asked: argparse.Namespace) -> None:
     """Serves a model to a browser of its own."""
     model = model_of(path, programs_of(asked.program))
-    print(f"\n{model.name}, {model.faces:,} faces")
-    server = Server(Showing(asked.program.resolve(), model))
+    print(f"\n{model.name}, {model.faces:,} faces{', by the library' if asked.library else ''}")
+    library = built_library() if asked.library else None
+    showing = Showing(asked.program.resolve(), model, library=library)
+    server = Server(showing)
     threading.Thread(target=server.serve_forever, daemon=True).start()
     browser = Browser(1280, 800)
     try:

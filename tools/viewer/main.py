@@ -1,6 +1,6 @@
 """Shows a mesh in a window of the browser: what is refined follows the camera.
 
-    ./viewer MODEL [--open] [--budget N] [--memory MB] [--program PATH] [--port P]
+    ./viewer MODEL [--open] [--budget N] [--memory MB] [--program PATH] [--library] [--port P]
     ./viewer --film FLIGHT MODEL [--budget N] [--program PATH] > film.html
 
 MODEL is a stream; or an OBJ file, which `simplify` builds first, after `prepare` where it isn't fit;
@@ -20,6 +20,7 @@ from types import FrameType
 from typing import List, Optional, Union
 
 from .film import BadFlight, film_page
+from .library import NOT_BUILT, TO_BUILD, built_library
 from .model import Model, Programs, model_of, tell
 from .program import ALL_MOVES, ProgramEnded
 from .server import Server, is_budget
@@ -47,6 +48,7 @@ def arguments(words: Optional[List[str]] = None) -> argparse.Namespace:
     add("--open", action="store_true", help="open the page in the browser")
     add("--budget", type=budget_of, default=ALL_MOVES, help="splits and collapses a view may make")
     add("--program", type=Path, default=TOP / "vdpm", help="vdpm, if not this repository's")
+    add("--library", action="store_true", help="by libvdpm, and not by a program beneath")
     add("--memory", type=int, default=MEMORY, help="megabytes that a world's open tiles may take")
     add("--port", type=int, default=0, help="a free one is taken where none is given")
     add("--film", type=Path, metavar="FLIGHT", help="write a page that plays this script")
@@ -96,7 +98,10 @@ def showing_for(asked: argparse.Namespace) -> Union[Showing, WorldShowing]:
     program = asked.program.resolve()
     if asked.model.name == WORLD:
         return showing_of(program, asked.model, asked.memory * 1_000_000)
-    return Showing(program, loaded(asked), asked.budget)
+    library = built_library() if asked.library else None
+    if asked.library and library is None:
+        raise ProgramEnded(NOT_BUILT, TO_BUILD)
+    return Showing(program, loaded(asked), asked.budget, library)
 
 
 def served(asked: argparse.Namespace) -> Union[Server, WorldServer]:

@@ -43,9 +43,9 @@ _LINE = re.compile(
     rf"vd?(?: {_SIGNED}){{5}}{_PLANES}|vd?s(?: {_SIGNED}){{6}}{_PLANES}|p(?: {_SIGNED}){{6}}"
     rf"|b {_COUNT}|[wmdkl]"
 )
-_MARKING = ("d", "k")  # lines after which the front is marked
+MARKING = ("d", "k")  # lines after which the front is marked
 _GOING_ON = ("d", "w")  # lines whose reply goes on to a line `end`
-_marks = itertools.count(1)
+marks = itertools.count(1)
 
 
 class ProgramEnded(Exception):
@@ -193,7 +193,7 @@ class Program:
         self._in, self._out = self._child.stdin.fileno(), self._child.stdout.fileno()
         _widen(self._in)
         _widen(self._out)
-        self._mark = next(_marks)
+        self._mark = next(marks)
         begun = time.perf_counter()
         try:
             # The stream has no reply of its own: that to `m` shows that it was taken.
@@ -231,8 +231,8 @@ class Program:
                 first = time.perf_counter()
             got += piece
         end, before = time.perf_counter(), self._mark
-        if any(line in _MARKING for line in lines):
-            self._mark = next(_marks)
+        if any(line in MARKING for line in lines):
+            self._mark = next(marks)
         return Answer(
             bytes(got), 1000 * (first - begun), 1000 * (end - first), before, self._mark
         )

@@ -1,22 +1,31 @@
 """What is looked at, and the program that looks, which may be started anew."""
 import threading
 from pathlib import Path
-from typing import Dict, Optional
+from typing import Dict, Optional, Union
 
+from .library import LibraryProgram, is_proved
 from .model import Model
 from .program import ALL_MOVES, Answer, Program, ProgramEnded, replies_to
 
 
 class Showing:
-    """A model and its program. Calls may come from several threads."""
+    """A model and its program, which is the library where one is given. Calls may come from
+    several threads."""
 
-    def __init__(self, path: Path, model: Model, budget: int = ALL_MOVES) -> None:
-        self.path, self.model, self.budget = path, model, budget
+    def __init__(
+        self, path: Path, model: Model, budget: int = ALL_MOVES, library: Optional[Path] = None
+    ) -> None:
+        self.path, self.model, self.budget, self.library = path, model, budget, library
         self._lock = threading.Lock()
-        self._program: Optional[Program] = Program(path, model.stream, budget)
+        self._program: Optional[Union[Program, LibraryProgram]] = self._started(budget)
         self._flight = bytearray()
         self._started_with = budget
         self._input: Optional[bytes] = None
+
+    def _started(self, budget: int) -> Union[Program, LibraryProgram]:
+        if self.library is None:
+            return Program(self.path, self.model.stream, budget)
+        return LibraryProgram(self.library, self.model.stream, budget)
 
     def about(self) -> Dict[str, object]:
         """What the page tells of the model."""
@@ -27,14 +36,14 @@ class Showing:
             "counts": model.counts,
             "budget": self.budget,
             "startedWith": self._started_with,
-            "proved": model.proved,
+            "proved": model.proved and (self.library is None or is_proved(self.library)),
             "prepared": model.prepared,
             "scale": scale,
             "coloured": model.colours is not None,
             "opening": program.opening if program else None,
         }
 
-    def program(self) -> Program:
+    def program(self) -> Union[Program, LibraryProgram]:
         with self._lock:
             if self._program is None:
                 raise ProgramEnded("the program isn't running")
@@ -73,7 +82,7 @@ class Showing:
             if self._program is not None:
                 self._program.close()
                 self._program = None
-            self._program = Program(self.path, self.model.stream, budget)
+            self._program = self._started(budget)
             self.budget = self._started_with = budget
             self._flight = bytearray()
 

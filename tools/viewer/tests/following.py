@@ -98,7 +98,7 @@ class Following(Page):
         self.check(1)
         self.page.key("r")
         self.check(1)
-        self.assertGreater(sum(b"change " in a.text for a in self.answers), 12)
+        self.assertGreater(sum(b"change " in a.text for a in self.answers), 5)
         self.assertEqual(self.page.errors(), [])
 
     def test_from_the_finest_to_the_base_mesh_and_back(self) -> None:

@@ -1,0 +1,90 @@
+"""The same as `vdpm live` beneath the window, by the library (docs/LIBRARY.md) in this process: no
+other process runs, and no reply goes through a pipe."""
+import sys
+import threading
+import time
+from concurrent.futures import ThreadPoolExecutor
+from pathlib import Path
+from typing import List, Optional
+
+from quick_start.record import is_current
+from quick_start.sources import LIBRARY
+from quick_start.sources import Program as Sources
+
+from . import manual
+from .program import MARKING, Answer, ProgramEnded, marks, script_lines
+
+TOP = Path(__file__).resolve().parent.parent.parent
+NOT_BUILT = "the library isn't built of these sources"
+TO_BUILD = "./prove libvdpm proves and builds it, python3 tools/library.py builds it unproved"
+
+
+def built_library() -> Optional[Path]:
+    """The proved library of these sources, or else the one that isn't proved."""
+    sources = Sources(TOP, LIBRARY)
+    for folder in ("proved", "unproved"):
+        path = TOP / folder / f"{LIBRARY}.so"
+        if is_current(sources, path):
+            return path
+    return None
+
+
+def is_proved(library: Path) -> bool:
+    return library.parent.name == "proved"
+
+
+class LibraryProgram:
+    """A session of the library. Its calls may come from several threads; all are done on one, which
+    opened the session."""
+
+    def __init__(self, library: Path, stream: bytes, budget: int) -> None:
+        sys.path.insert(0, str(TOP / "python"))
+        try:
+            import vdpm
+        finally:
+            sys.path.pop(0)
+        self._vdpm, self._lock, self._closed = vdpm, threading.Lock(), False
+        self._thread = ThreadPoolExecutor(1)
+        self._lines, self._mark = 0, next(marks)
+        begun = time.perf_counter()
+        try:
+            opened = self._thread.submit(vdpm.Session, stream, budget, str(library))
+            self._session = opened.result()
+        except (OSError, MemoryError, ValueError) as fault:
+            self._thread.shutdown()
+            raise ProgramEnded(f"{library}: {fault}") from fault
+        self.opening = 1000 * (time.perf_counter() - begun)
+
+    def ask(self, text: str) -> Answer:
+        """The replies to the lines of a script."""
+        lines = script_lines(text)
+        with self._lock:
+            if self._closed:
+                raise ProgramEnded("the session was closed")
+            return self._thread.submit(self._done, lines).result()
+
+    def _done(self, lines: List[str]) -> Answer:
+        begun, first, replies = time.perf_counter(), None, []
+        for line in lines:
+            self._lines += 1
+            try:
+                replies.append(self._session.line(line))
+            except self._vdpm.Fault as fault:
+                said = f"fault {fault.number} line {self._lines}"
+                raise ProgramEnded(said, manual.cure_of(said, manual.SCRIPT)) from fault
+            except MemoryError as fault:
+                raise ProgramEnded("out of memory", manual.cure_of("", "", 5)) from fault
+            first = first or time.perf_counter()
+        end, before = time.perf_counter(), self._mark
+        if any(line in MARKING for line in lines):
+            self._mark = next(marks)
+        first = first or end
+        times = 1000 * (first - begun), 1000 * (end - first)
+        return Answer(b"".join(replies), *times, before, self._mark)
+
+    def close(self) -> None:
+        with self._lock:
+            if not self._closed:
+                self._closed = True
+                self._thread.submit(self._session.close).result()
+                self._thread.shutdown()
