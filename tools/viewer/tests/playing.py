@@ -1,6 +1,7 @@
 """Films in a real browser, opened from a file; and models whose colours or places the page
 tells."""
 import re
+import time
 from typing import List
 
 from frames import read_frames
@@ -27,6 +28,7 @@ MOST_COLOURFUL = """(() => {
   }
   return most;
 })()"""
+DRAWN = "(film.draw(), film.canvas.toDataURL())"
 # How many faces each frame of a film has.
 SIZES = "film.reel.changes.map((_, at) => { film.show(at); return film.reel.faces.size; })"
 FLIGHT = TOP / "examples" / "asteroid_fronts.script"
@@ -63,6 +65,44 @@ class Films(Page):
         self.assertFalse(self.value("follow.checked"))
         self.assertAlmostEqual(self.value("film.camera.yaw"), before - 0.3)
         self.assertEqual(self.page.errors(), [])
+
+    def test_each_control_of_the_bar_by_mouse(self) -> None:
+        self.play(model("asteroid.obj"), flight())
+        self.page.until("film.plays === false")
+        controls = "[...document.querySelectorAll('#bar input, #bar select, #bar button')]"
+        self.assertEqual(
+            sorted(self.value(f"{controls}.map((it) => it.id)")),
+            ["at", "colour", "edges", "follow", "play", "smooth", "speed"],
+        )
+        self.press("#play")
+        self.page.until("film.plays && film.reel.at === 0 && play.textContent === 'Pause'")
+        self.press("#play")
+        self.page.until("!film.plays && play.textContent === 'Play'")
+        for frame in (1, 0):
+            self.slide("at", frame)
+            self.assertEqual(self.value("film.reel.at"), frame)
+            self.assertIn(f"frame {frame + 1} of", self.text("frame-said"))
+        seen = {self.value(DRAWN)}
+        for name in ("edges", "smooth"):
+            self.press(f"#{name}")
+            seen.add(self.value(DRAWN))
+        for value in ("depth", "wire"):
+            self.value(
+                f"colour.value = '{value}',"
+                " colour.dispatchEvent(new Event('change', { bubbles: true }))"
+            )
+            seen.add(self.value(DRAWN))
+        self.page.drag((400, 300), (460, 300))
+        seen.add(self.value(DRAWN))
+        turned = self.value("film.camera.yaw")
+        self.press("#follow")
+        self.page.until(f"film.camera.yaw !== {turned}", 20)
+        self.assertEqual(len(seen), 6)
+        self.value("speed.value = '1', 0")
+        self.press("#play")
+        begun = time.monotonic()
+        self.page.until("!film.plays", 20)
+        self.assertGreater(time.monotonic() - begun, 0.5)
 
     def test_a_flight_by_changes_plays_too(self) -> None:
         script = flight().replace(b"v ", b"vd ").replace(b"w\n", b"d\nl\n")
