@@ -6,10 +6,11 @@ import threading
 import unittest
 from functools import lru_cache
 from pathlib import Path
+from typing import Callable, List
 
 from viewer.main import programs_of
 from viewer.model import Model, model_of
-from viewer.program import ALL_MOVES
+from viewer.program import ALL_MOVES, Answer
 from viewer.server import Server
 from viewer.showing import Showing
 
@@ -52,6 +53,18 @@ class Case(unittest.TestCase):
         threading.Thread(target=server.serve_forever, args=(0.02,), daemon=True).start()
         self.addCleanup(end, server)
         return server
+
+
+def asked_at_once(ask: Callable[[str], Answer], script: str, count: int) -> List[bytes]:
+    """The replies to a script from so many threads."""
+    texts: List[bytes] = []
+    each = lambda: texts.append(ask(script).text)  # noqa: E731
+    threads = [threading.Thread(target=each) for _ in range(count)]
+    for one in threads:
+        one.start()
+    for one in threads:
+        one.join()
+    return texts
 
 
 def end(server: Server) -> None:

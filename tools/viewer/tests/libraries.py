@@ -3,7 +3,7 @@ import os
 import threading
 import unittest
 from pathlib import Path
-from typing import List, Optional
+from typing import Optional
 
 from viewer.library import LibraryProgram, built_library
 from viewer.model import Model
@@ -11,7 +11,7 @@ from viewer.program import ALL_MOVES, Program, ProgramEnded
 from viewer.server import Server
 from viewer.showing import Showing
 
-from .common import STREAM, Case, end, model, program
+from .common import STREAM, Case, asked_at_once, end, model, program
 from .following import Following
 from .programs import VIEW
 
@@ -40,13 +40,7 @@ class Libraries(Case):
             self.assertEqual(one.before == one.after, other.before == other.after)
 
     def test_calls_from_several_threads_are_done_one_by_one(self) -> None:
-        opened, texts = self.opened(), []  # type: LibraryProgram, List[bytes]
-        ask = lambda: texts.append(opened.ask("w\nm\n").text)  # noqa: E731
-        threads = [threading.Thread(target=ask) for _ in range(8)]
-        for one in threads:
-            one.start()
-        for one in threads:
-            one.join()
+        texts = asked_at_once(self.opened().ask, "w\nm\n", 8)
         self.assertEqual((len(texts), len(set(texts))), (8, 1))
 
     def test_faults_and_the_end_are_told(self) -> None:

@@ -1,14 +1,12 @@
 """The child over pipes, and the cures of its faults."""
 import os
 import signal
-import threading
 from pathlib import Path
-from typing import List
 
 from viewer import manual
 from viewer.program import BadScript, Program, ProgramEnded, replies_to, script_lines
 
-from .common import STREAM, Case, program
+from .common import STREAM, Case, asked_at_once, program
 
 VIEW = "v 0 -900 300 1000 4 32433 4553 -1016 6531000"
 
@@ -60,13 +58,7 @@ class Running(Case):
         self.assertEqual(len(set(kept)), len(kept))
 
     def test_calls_from_several_threads_are_done_one_by_one(self) -> None:
-        texts: List[bytes] = []
-        ask = lambda: texts.append(self.program.ask("w\nm\n").text)  # noqa: E731
-        threads = [threading.Thread(target=ask) for _ in range(8)]
-        for one in threads:
-            one.start()
-        for one in threads:
-            one.join()
+        texts = asked_at_once(self.program.ask, "w\nm\n", 8)
         self.assertEqual((len(texts), len(set(texts))), (8, 1))
 
     def test_its_fault_line_is_told_with_the_cure(self) -> None:
