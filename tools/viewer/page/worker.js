@@ -26,7 +26,8 @@ const tasks = {
 
   // The reply to a view, and what becomes another of what is shown.
   async view({ line, glides }) {
-    const { replies, patch, times, cameAt } = await follower.view(line, () => (glides ? clock() : null));
+    const now = () => (glides ? clock() : null);
+    const { replies, patch, times, cameAt } = await follower.view(line, now);
     return { replies, patch, times: { ...times, take: performance.now() - cameAt - times.read } };
   },
 

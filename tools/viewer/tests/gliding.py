@@ -114,7 +114,8 @@ class Gliding(Page):
     def test_a_flight_does_not_jump(self) -> None:
         lines = []
         for step in range(60):
-            x, y = (-9000 + 300 * step, -12000) if step < 40 else (2000, -12000 - 1500 * (step - 40))
+            back = 1500 * (step - 40)
+            x, y = (-9000 + 300 * step, -12000) if step < 40 else (2000, -12000 - back)
             tolerance = 8 if step % 20 < 14 else 5
             lines.append(f"vd {x} {y} {4000 - 50 * step} 1000 {tolerance}\nd\n")
         script = "".join(lines).encode()
