@@ -3,13 +3,14 @@ use Rattle.std.proofs.Common.{◌≡◌, ◌⊎◌, inl, inr, ℕ, ◌-◌, ◌^
 use Rattle.std.specs.Prelude.{codes}
 use Rattle.pm_io.specs.Bytes.{Gains, GainsPart}
 use Rattle.pm_io.specs.Causes.{Rose}
-use Rattle.prepare.specs.declared.fault.Fault.{Fault}
-use Rattle.prepare.specs.declared.fault.InputFail.TheVariants as input
+use Rattle.obj_fit.specs.declared.fault.Fault.{Fault}
+use Rattle.obj_fit.specs.declared.fault.InputFail.TheVariants as input
 use Rattle.prepare.specs.declared.fault.RunFail.{RunFail}
 use Rattle.prepare.specs.declared.fault.RunFail.TheVariants as fails
 use Rattle.prepare.specs.declared.words.Asked.{Asked}
-use Rattle.prepare.specs.Outcome.{Done, IsPreparedText}
-use Rattle.prepare.specs.Ending.{Written, HasPreparedFault, PlaceUnreached, IsPreparedInPart, FailsBy, Finished, prepare_fail_line, prepare_fault_line, prepare_status_of}
+use Rattle.obj_fit.specs.Outcome.{Done, IsPreparedText}
+use Rattle.obj_fit.specs.Fails.{HasPreparedFault, PlaceUnreached}
+use Rattle.prepare.specs.Ending.{Written, IsPreparedInPart, FailsBy, Finished, prepare_fail_line, prepare_fault_line, prepare_status_of}
 use Rattle.pm_io.specs.Puts.{Said}
 
 -- A text that was made was written, or a part of it.

@@ -3,10 +3,10 @@ use Rattle.std.proofs.Common.{◌≡◌, ℕ, List, Option, Some, None, IfSome, 
 use Rattle.obj_prepare.specs.Placing.{IsSize}
 use Rattle.prepare.specs.Ending.{Written}
 use Rattle.prepare.specs.declared.words.Asked.{Asked}
-use Rattle.prepare.specs.Laws.{GainsFitText, GainsWayBack}
-use Rattle.prepare.proofs.ReadLaws.{texts_are_read}
-use Rattle.prepare.proofs.AgainLaws.{texts_come_back}
-use Rattle.prepare.proofs.BackLaws.{texts_lead_back}
+use Rattle.prepare.specs.Gains.{GainsFitText, GainsWayBack}
+use Rattle.obj_fit.proofs.ReadLaws.{texts_are_read}
+use Rattle.obj_fit.proofs.AgainLaws.{texts_come_back}
+use Rattle.obj_fit.proofs.BackLaws.{texts_lead_back}
 
 written_fits : (size : Option ℕ) (bytes notes : List ℕ) (old new : Option (List ℕ)) → IsSize size → Written size bytes notes old new → GainsFitText old new
 written_fits size bytes notes old new sized w =

@@ -1,16 +1,17 @@
 -- How the program ends, and when each status comes.
 use Rattle.std.specs.Prelude.{◌≡◌, ℕ, ◌<◌, List, ◌++◌, length, Option, None, IfSome, Result, Ok, Err, codes}
 use Rattle.std.specs.Fmt.{decimal}
-use Rattle.pm_io.specs.Bytes.{Loses, Gains, GainsPart}
+use Rattle.pm_io.specs.Bytes.{Gains, GainsPart}
 use Rattle.pm_io.specs.Causes.{Rose}
 use Rattle.obj_scan.specs.Refusals.{fault_number}
-use Rattle.prepare.specs.declared.fault.Fault.{Fault}
-use Rattle.prepare.specs.declared.fault.Fault.TheVariants as faults
-use Rattle.prepare.specs.declared.fault.InputFail.{InputFail}
-use Rattle.prepare.specs.declared.fault.InputFail.TheVariants as input
+use Rattle.obj_fit.specs.declared.fault.Fault.{Fault}
+use Rattle.obj_fit.specs.declared.fault.Fault.TheVariants as faults
+use Rattle.obj_fit.specs.declared.fault.InputFail.{InputFail}
+use Rattle.obj_fit.specs.declared.fault.InputFail.TheVariants as input
 use Rattle.prepare.specs.declared.fault.RunFail.{RunFail}
 use Rattle.prepare.specs.declared.fault.RunFail.TheVariants as fails
-use Rattle.prepare.specs.Outcome.{Done, IsPreparedText}
+use Rattle.obj_fit.specs.Outcome.{Done, IsPreparedText}
+use Rattle.obj_fit.specs.Fails.{StopsPreparing}
 use Rattle.pm_io.specs.Puts.{Said, Stayed}
 
 -- The sink gained the text of what was done, and beside it these notes are to be said.
@@ -20,29 +21,11 @@ pub record Written (size : Option ℕ) (bytes notes : List ℕ) (old new : Optio
   pub notes_are : notes ≡ done.notes
   pub gained : Gains old new done.text
 
--- The bytes have this fault.
-pub record HasPreparedFault (size : Option ℕ) (bytes : List ℕ) (f : Fault) : Type 0 where
-  pub place : Option ℕ
-  pub outcome : IsPreparedText size bytes (Err f) place
-
--- A read failed before the place that decides what comes of the bytes.
-pub record PlaceUnreached (size : Option ℕ) (left now : Option (List ℕ)) : Type 0 where
-  pub taken : List ℕ
-  pub took : Loses left now taken
-  pub before : IfSome left (λ bytes. (r : Result Done Fault) (place : Option ℕ) → IsPreparedText size bytes r place → IfSome place (λ n. length taken < n))
-
 -- The sink gained a proper prefix of the text.
 pub record IsPreparedInPart (size : Option ℕ) (bytes : List ℕ) (old new : Option (List ℕ)) : Type 0 where
   pub done : Done
   pub outcome : IsPreparedText size bytes (Ok done) None
   pub part : GainsPart old new done.text
-
--- Why nothing could be made of what the source had left: `left` at first and `now` then, and what its count did. Only a
--- failed read is counted.
-abbrev pub StopsPreparing : Option ℕ → InputFail → Option (List ℕ) → Option (List ℕ) → ℕ → ℕ → Type 0
-StopsPreparing size (input.Faulty f) left now in_old in_new = IfSome left (λ bytes. HasPreparedFault size bytes f) × (in_new ≡ in_old)
-StopsPreparing size input.Read left now in_old in_new = PlaceUnreached size left now × Rose in_old in_new
-StopsPreparing size input.OutOfMemory left now in_old in_new = in_new ≡ in_old
 
 -- The sink gained the text of what was done, and the error sink what is said of it.
 pub record Finished (size : Option ℕ) (bytes : List ℕ) (old new err_old err_new : Option (List ℕ)) (err_before err_now : ℕ) : Type 0 where

@@ -1,7 +1,3 @@
 pub mod Words
-pub mod Thin
-pub mod Texts
-pub mod Outcome
-pub mod Making
 pub mod Ending
-pub mod Laws
+pub mod Gains

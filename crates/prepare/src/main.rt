@@ -1,19 +1,9 @@
 //! `prepare` makes any OBJ text fit to become an oriented manifold: `run` over the standard streams.
 #![tactic(auto)]
 
-mod account;
-mod changes;
-mod counts;
 mod fault;
-mod laying;
-mod make;
-mod notes;
-mod outcomes;
 mod run;
 mod say;
-mod text;
-mod thin;
-mod warning;
 mod words;
 
 use pm_io::{StdSink, StdSource};

@@ -6,32 +6,22 @@ ghost use Rattle.pm_io.specs.Causes.{Rose};
 ghost use Rattle.pm_io.specs.Puts.{Puts, Said, Stayed};
 ghost use Rattle.obj_prepare.specs.Placing.{IsSize};
 ghost use Rattle.prepare.specs.declared.words.Asked.{Asked};
-ghost use Rattle.prepare.specs.declared.fault.Fault.{Fault};
+ghost use Rattle.obj_fit.specs.declared.fault.Fault.{Fault};
 ghost use Rattle.std.specs.IoError.{error_kind};
 ghost use Rattle.prepare.specs.Words.{asked_of};
-ghost use Rattle.prepare.specs.Laws.{GainsFitText, GainsWayBack, StaysAsItIs};
-ghost use Rattle.prepare.specs.Making.{done_of};
-ghost use Rattle.prepare.specs.Ending.{Written, HasPreparedFault, PlaceUnreached, IsPreparedInPart, FailsBy, Finished, prepare_fault_line};
+ghost use Rattle.prepare.specs.Gains.{GainsFitText, GainsWayBack, StaysAsItIs};
+ghost use Rattle.obj_fit.specs.Making.{done_of};
+ghost use Rattle.obj_fit.specs.Fails.{HasPreparedFault, PlaceUnreached};
+ghost use Rattle.prepare.specs.Ending.{Written, IsPreparedInPart, FailsBy, Finished, prepare_fault_line};
 
 use crate::fault::RunFail;
-use crate::make::{Made, make};
 use crate::say::{say, tell};
 use crate::words::read_words;
-use obj_write::write_obj;
-use pm_io::{Sink, Source, WriteFault, put_all};
+use obj_fit::{make, write_made};
+use pm_io::{Sink, Source};
 use std::alloc::Global;
 use std::env::Args;
 use std::io::{self, ErrorKind};
-
-// Writes what was made.
-fn write<K: Sink>(made: &Made, out: &mut K) -> Result<(), WriteFault>
-    requires { IsWellFormed (mesh_of made.now.mesh) }
-    ensures { Puts K.Sink out.old out.new (done_of made.now).text result }
-{
-    put_all(out, &made.head)?;
-    write_obj(&made.mesh, 0, out)?;
-    Ok(())
-}
 
 // Makes a mesh of the input and writes it, and answers what is to be said of it. All memory is taken before the first byte
 // of output.
@@ -53,7 +43,7 @@ fn obey<S: Source, K: Sink>(
         Ok(made) => made,
         Err(fail) => return Err(RunFail::Input(fail)),
     };
-    match write(&made, out) {
+    match write_made(&made, out) {
         Ok(()) => Ok(made.notes),
         Err(_) => Err(RunFail::Write),
     }

@@ -3,7 +3,8 @@ ghost use Rattle.std.specs.Prelude.{◌≡◌};
 ghost use Rattle.prepare.specs.Ending.{prepare_fault_line, prepare_fail_line, prepare_status_of};
 ghost use Rattle.pm_io.specs.Puts.{Said};
 
-use crate::fault::{Fault, InputFail, RunFail};
+use crate::fault::RunFail;
+use obj_fit::{Fault, InputFail};
 use pm_io::{Line, Sink, put_all};
 
 /// Puts text on the error sink. That it fails changes nothing.

@@ -1,0 +1,16 @@
+pub mod TextLaws
+pub mod MakeLaws
+pub mod OutcomeLaws
+pub mod ScannedLaws
+pub mod GridLaws
+pub mod HeadLaws
+pub mod ReadLaws
+pub mod RecutLaws
+pub mod StandingLaws
+pub mod RestoredLaws
+pub mod NothingLaws
+pub mod AgainLaws
+pub mod StayLaws
+pub mod AccountLaws
+pub mod NumeralLaws
+pub mod BackLaws

@@ -1,0 +1,6 @@
+pub mod Thin
+pub mod Texts
+pub mod Outcome
+pub mod Making
+pub mod Fails
+pub mod Laws

@@ -1,0 +1,133 @@
+-- What is written of a mesh that was made, and what is said of it.
+use Rattle.std.specs.Prelude.{ℕ, ◌+◌, ◌==◌, ◌&&◌, pos, List, [], ◌∷◌, ◌++◌, Option, Some, None, codes, if◌then◌else◌}
+use Rattle.std.specs.Fmt.{decimal}
+use Rattle.pm_base.specs.Place.{Place}
+use Rattle.pm_base.specs.Meshes.{Mesh}
+use Rattle.pm_base.specs.Canonical.{coordinate_text, canonical_text}
+use Rattle.pm_turn.specs.declared.counts.TurnCounts.{TurnCounts}
+use Rattle.obj_prepare.specs.declared.notes.Notes.{Notes}
+use Rattle.obj_prepare.specs.declared.placing.Fit.{Fit}
+use Rattle.obj_prepare.specs.declared.placing.Fit.TheVariants as fits
+use Rattle.obj_fit.specs.declared.counts.Counts.{Counts}
+use Rattle.obj_prepare.specs.declared.longest.Axis.{Axis}
+use Rattle.obj_prepare.specs.declared.longest.Axis.TheVariants as axes
+use Rattle.obj_prepare.specs.declared.longest.LongestAxis.{LongestAxis}
+use Rattle.obj_prepare.specs.Back.{WayBack, way_back_of, within_of}
+
+-- The extent of a box, and the steps that it is divided into.
+unfoldable pub scale_text : WayBack → List ℕ
+scale_text way = codes "coordinate = " ++ coordinate_text 18 (pos way.extent) ++ codes " / " ++ decimal way.steps ++ codes " * place + ("
+
+-- A middle, axis by axis.
+unfoldable pub middle_text : Place → List ℕ
+middle_text m = coordinate_text 19 m.x ++ codes " " ++ coordinate_text 19 m.y ++ codes " " ++ coordinate_text 19 m.z
+
+-- `coordinate = E / D * place + (X Y Z)`: how places lead back to coordinates.
+unfoldable pub way_text : WayBack → List ℕ
+way_text way = scale_text way ++ middle_text way.middle ++ codes ")\n"
+
+-- The first line of the output.
+abbrev pub head_line : Fit → List ℕ
+head_line fits.Standing = codes "# coordinates as they stood\n"
+head_line (fits.Scaled size b) = codes "# " ++ way_text (way_back_of size b)
+
+-- The output: the line that tells how places lead back, and the canonical text of the mesh.
+abbrev pub output_text : Fit → Mesh → List ℕ
+output_text fit m = head_line fit ++ canonical_text 0 m
+
+-- `prepare: WHAT N`, where N isn't 0.
+unfoldable pub note_line : List ℕ → ℕ → List ℕ
+note_line what n = if n == 0 then codes "" else codes "prepare: " ++ what ++ codes " " ++ decimal n ++ codes "\n"
+
+-- How near places are to the coordinates.
+unfoldable pub within_text : WayBack → List ℕ
+within_text way = codes "prepare: places are within " ++ coordinate_text 18 (pos (within_of way))
+    ++ codes " of the coordinates\n"
+
+-- How places lead back, where they were scaled.
+abbrev pub last_note : Fit → List ℕ
+last_note fits.Standing = codes ""
+last_note (fits.Scaled size b) = codes "prepare: " ++ way_text (way_back_of size b)
+    ++ within_text (way_back_of size b)
+
+-- `WHAT N in, M out`
+unfoldable pub in_out_text : List ℕ → ℕ → ℕ → List ℕ
+in_out_text what n m = what ++ decimal n ++ codes " in, " ++ decimal m ++ codes " out"
+
+-- How many vertices and triangles there were and came out.
+unfoldable pub account_text : Counts → List ℕ
+account_text c = in_out_text (codes "prepare: vertices ") c.vertices_in c.vertices_out
+    ++ in_out_text (codes "; triangles ") c.triangles_in c.triangles_out ++ codes "\n"
+
+-- The same, where as many didn't come out.
+unfoldable pub account_line : Counts → List ℕ
+account_line c =
+    if c.vertices_in == c.vertices_out && c.triangles_in == c.triangles_out then codes ""
+    else account_text c
+
+-- `, N of them by rounding`, where N isn't 0.
+unfoldable pub rounding_text : ℕ → List ℕ
+rounding_text n =
+    if n == 0 then codes "" else codes ", " ++ decimal n ++ codes " of them by rounding"
+
+-- How many vertices were joined, and how many of these by rounding.
+unfoldable pub joined_line : ℕ → ℕ → List ℕ
+joined_line joined rounded =
+    if joined == 0 then codes ""
+    else codes "prepare: vertices joined " ++ decimal joined ++ rounding_text rounded ++ codes "\n"
+
+-- What is said of polygons, and of vertices with a weight.
+unfoldable pub line_notes : Counts → List ℕ
+line_notes c = note_line (codes "polygons cut") c.polygons
+    ++ note_line (codes "polygons whose triangles overlap") c.overlapping
+    ++ note_line (codes "weights passed over") c.weights
+
+-- What is said of the faces and places of the input, of which so many were joined by rounding.
+unfoldable pub face_notes : Counts → Notes → ℕ → List ℕ
+face_notes c notes rounded =
+    line_notes c
+    ++ joined_line notes.joined rounded
+    ++ note_line (codes "faces that name a vertex twice") c.twice
+    ++ note_line (codes "faces that became edges") notes.flat
+    ++ note_line (codes "faces that stand twice") notes.double
+
+-- What is said of turning.
+unfoldable pub turn_notes : TurnCounts → List ℕ
+turn_notes turns =
+    note_line (codes "faces turned") turns.turned
+    ++ note_line (codes "faces in patches that can't be turned") turns.twisted
+    ++ note_line (codes "edges of three faces or more") turns.crowded
+    ++ note_line (codes "closed surfaces inside out") turns.inside_out
+
+-- What is said of what was cut and left out.
+unfoldable pub vertex_notes : Notes → List ℕ
+vertex_notes notes =
+    note_line (codes "sides cut open") notes.cut
+    ++ note_line (codes "vertices split off") notes.split
+    ++ note_line (codes "vertices that no face has") notes.unnamed
+    ++ note_line (codes "vertices whose faces all went") notes.gone
+
+-- `x`, `y` or `z`
+abbrev pub axis_letter : Axis → ℕ
+axis_letter axes.X = 120
+axis_letter axes.Y = 121
+axis_letter axes.Z = 122
+
+-- Which axis is the longest, and from where to where it goes. Vertices are counted from 1.
+unfoldable pub longest_text : LongestAxis → List ℕ
+longest_text l =
+    codes "the longest axis, " ++ axis_letter l.axis ∷ [] ++ codes ", goes from vertex "
+    ++ decimal (l.low + 1) ++ codes " to vertex " ++ decimal (l.high + 1) ++ codes "\n"
+
+-- That many triangles became edges, and what the box stretches between.
+unfoldable pub warning_line : Option LongestAxis → List ℕ
+warning_line None = codes ""
+warning_line (Some l) = codes "prepare: a tenth of the triangles or more became edges: "
+    ++ longest_text l
+
+-- What is said of the work: how much came out, a line for each kind of change that was made, how
+-- places lead back, and the warning, if any.
+unfoldable pub notes_text : Counts → Notes → ℕ → Fit → Option LongestAxis → List ℕ
+notes_text c notes rounded fit warning =
+    account_line c ++ face_notes c notes rounded ++ turn_notes notes.turns ++ vertex_notes notes
+    ++ note_line (codes "faces without area") c.thin ++ last_note fit ++ warning_line warning

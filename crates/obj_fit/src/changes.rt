@@ -1,0 +1,114 @@
+//! The lines of what was done to lines, faces and vertices of the input.
+ghost use Rattle.std.specs.Prelude.{◌≡◌, ◌++◌, OnOk};
+ghost use Rattle.obj_fit.specs.Texts.{note_line, rounding_text, joined_line, line_notes, face_notes, turn_notes, vertex_notes};
+
+use crate::counts::Counts;
+use crate::text::add_number;
+use obj_prepare::Notes;
+use pm_turn::TurnCounts;
+use std::alloc::AllocError;
+
+/// Adds the line of one kind of change, where it was made.
+#[tactic(auto, unfolding(crate::specs::Texts::note_line), using(crate::proofs::TextLaws::nothing_added))]
+pub(crate) fn add_note(text: &mut Vec<u8>, what: &[u8], n: u32) -> Result<(), AllocError>
+    ensures { OnOk result (text.new.items ≡ text.old.items ++ note_line what.now n) }
+{
+    if n == 0 {
+        return Ok(());
+    }
+    text.extend_from_slice(b"prepare: ")?;
+    text.extend_from_slice(what)?;
+    text.extend_from_slice(b" ")?;
+    add_number(text, u64::from(n))?;
+    text.extend_from_slice(b"\n")
+}
+
+// Adds how many of the vertices that were joined were so by rounding, where some were.
+#[tactic(auto, unfolding(crate::specs::Texts::rounding_text), using(crate::proofs::TextLaws::nothing_added))]
+fn add_rounding(text: &mut Vec<u8>, n: u32) -> Result<(), AllocError>
+    ensures { OnOk result (text.new.items ≡ text.old.items ++ rounding_text n) }
+{
+    if n == 0 {
+        return Ok(());
+    }
+    text.extend_from_slice(b", ")?;
+    add_number(text, u64::from(n))?;
+    text.extend_from_slice(b" of them by rounding")?;
+    Ok(())
+}
+
+// Adds how many vertices were joined, where some were, and how many of these by rounding.
+#[tactic(auto, unfolding(crate::specs::Texts::joined_line), using(crate::proofs::TextLaws::nothing_added))]
+fn add_joined(text: &mut Vec<u8>, joined: u32, rounded: u32) -> Result<(), AllocError>
+    ensures { OnOk result (text.new.items ≡ text.old.items ++ joined_line joined rounded) }
+{
+    if joined == 0 {
+        return Ok(());
+    }
+    text.extend_from_slice(b"prepare: vertices joined ")?;
+    add_number(text, u64::from(joined))?;
+    add_rounding(text, rounded)?;
+    text.extend_from_slice(b"\n")?;
+    Ok(())
+}
+
+// Adds what is said of polygons and weights.
+#[tactic(auto, unfolding(crate::specs::Texts::line_notes))]
+fn add_line_notes(text: &mut Vec<u8>, counts: Counts) -> Result<(), AllocError>
+    ensures { OnOk result (text.new.items ≡ text.old.items ++ line_notes counts) }
+{
+    add_note(text, b"polygons cut", counts.polygons)?;
+    add_note(
+        text,
+        b"polygons whose triangles overlap",
+        counts.overlapping,
+    )?;
+    add_note(text, b"weights passed over", counts.weights)?;
+    Ok(())
+}
+
+/// Adds what is said of the faces and places of the input.
+#[tactic(auto, unfolding(crate::specs::Texts::face_notes))]
+pub(crate) fn add_face_notes(
+    text: &mut Vec<u8>,
+    counts: Counts,
+    notes: &Notes,
+    rounded: u32,
+) -> Result<(), AllocError>
+    ensures { OnOk result (text.new.items ≡ text.old.items ++ face_notes counts notes.now rounded) }
+{
+    add_line_notes(text, counts)?;
+    add_joined(text, notes.joined, rounded)?;
+    add_note(text, b"faces that name a vertex twice", counts.twice)?;
+    add_note(text, b"faces that became edges", notes.flat)?;
+    add_note(text, b"faces that stand twice", notes.double)?;
+    Ok(())
+}
+
+/// Adds what is said of turning.
+#[tactic(auto, unfolding(crate::specs::Texts::turn_notes))]
+pub(crate) fn add_turn_notes(text: &mut Vec<u8>, turns: TurnCounts) -> Result<(), AllocError>
+    ensures { OnOk result (text.new.items ≡ text.old.items ++ turn_notes turns) }
+{
+    add_note(text, b"faces turned", turns.turned)?;
+    add_note(
+        text,
+        b"faces in patches that can't be turned",
+        turns.twisted,
+    )?;
+    add_note(text, b"edges of three faces or more", turns.crowded)?;
+    add_note(text, b"closed surfaces inside out", turns.inside_out)?;
+    Ok(())
+}
+
+/// Adds what is said of what was cut and left out.
+#[tactic(auto, unfolding(crate::specs::Texts::vertex_notes))]
+pub(crate) fn add_vertex_notes(text: &mut Vec<u8>, notes: &Notes) -> Result<(), AllocError>
+    ensures { OnOk result (text.new.items ≡ text.old.items ++ vertex_notes notes.now) }
+{
+    add_note(text, b"sides cut open", notes.cut)?;
+    add_note(text, b"vertices split off", notes.split)?;
+    add_note(text, b"vertices that no face has", notes.unnamed)?;
+    add_note(text, b"vertices whose faces all went", notes.gone)?;
+    Ok(())
+}

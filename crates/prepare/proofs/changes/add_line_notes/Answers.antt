@@ -1,8 +1,0 @@
-use Rattle.prepare.specs.Texts.{line_notes}
-use Rattle.prepare.proofs.TextLaws.{added_three}
-use Rattle.prepare.proofs.changes.add_line_notes.Goals as goal
-
-pub returns : goal.returns
-unfolding line_notes
-returns c = added_three _ _ _ _ _ _ _ c.in_ok-add_note.ensures c.in_ok-add_note-2.ensures
-    c.in_ok-add_note-3.ensures

@@ -1,8 +1,0 @@
-use Rattle.prepare.specs.Texts.{vertex_notes}
-use Rattle.prepare.proofs.TextLaws.{added_four}
-use Rattle.prepare.proofs.changes.add_vertex_notes.Goals as goal
-
-pub returns : goal.returns
-unfolding vertex_notes
-returns c = added_four _ _ _ _ _ _ _ _ _ c.in_ok-add_note.ensures c.in_ok-add_note-2.ensures
-    c.in_ok-add_note-3.ensures c.in_ok-add_note-4.ensures

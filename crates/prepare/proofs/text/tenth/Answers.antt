@@ -1,6 +1,0 @@
-use Rattle.std.proofs.Common.{◌<◌, sym, subst}
-use Rattle.prepare.proofs.TextLaws.{power_some, tenth_is}
-use Rattle.prepare.proofs.text.tenth.Goals as goal
-
-pub returns-clause-some : goal.returns-clause-some
-returns-clause-some c = subst (λ n. 0 < n) (sym (tenth_is c.args.power c.args.unit c.requires.unit)) (power_some c.args.power)

@@ -1,9 +1,0 @@
-use Rattle.std.proofs.Common.{◌≡◌, ◌≤◌, take}
-use Rattle.prepare.specs.Thin.{thin_count}
-use Rattle.prepare.proofs.thin.count_thin.Given as goal
-
-abbrev pub invariant-loop-face : goal.invariant-loop-face
-invariant-loop-face l = record {
-  value : l.n ≡ thin_count l.points (take l.face-index l.faces);
-  most : l.n ≤ l.face-index;
-}
