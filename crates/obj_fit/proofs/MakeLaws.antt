@@ -24,7 +24,7 @@ use Rattle.obj_fit.specs.declared.fault.Fault.{Fault}
 use Rattle.obj_fit.specs.declared.fault.Fault.TheVariants as faults
 use Rattle.obj_fit.specs.declared.fault.InputFail.{InputFail}
 use Rattle.obj_fit.specs.declared.fault.InputFail.TheVariants as input
-use Rattle.obj_fit.specs.Outcome.{Done, MakesPrepared, cut_in, fit_in, places_in, counts_of, warning_for, rounded_for, IsPreparedText, bad_line, too_many, no_face, made}
+use Rattle.obj_fit.specs.Outcome.{Done, MakesPrepared, cut_in, places_in, counts_of, warning_for, rounded_for, IsPreparedText, bad_line, too_many, no_face, made}
 use Rattle.obj_fit.specs.declared.laying.Laid.{Laid}
 use Rattle.obj_fit.specs.Making.{IsMakeFail, IsLaid}
 use Rattle.obj_fit.proofs.RecutLaws.{cut_long, cut_within}

@@ -1,11 +1,10 @@
 -- What polygons that are cut anew leave as it was.
 use Rattle.std.proofs.Common.{◌≡◌, ℕ, ◌<◌, ◌==◌, Bool, true, false, not, List, [], ◌∷◌, length, Option, refl, sym, ap, ◌∙◌, subst, inl, inr, arith}
 use Rattle.std.specs.Prelude.{◌||◌}
-use Rattle.std.specs.List.{All, list_all}
+use Rattle.std.specs.List.{All}
 use Rattle.std.proofs.lemmas.Bool.{cases_Bool, and_parts, cond-true, cond-false, eqb-true, or_cases, or_right, true≢false}
 use Rattle.std.proofs.lemmas.List.Elements.{All-nil, All-cons, All-head, All-tail}
 use Rattle.pm_base.specs.declared.mesh.Corners.{Corners}
-use Rattle.pm_base.specs.Place.{Place}
 use Rattle.pm_fans.specs.Kept.{is_corner, is_flat}
 use Rattle.pm_ears.specs.Recutting.{names_three, ears_over}
 use Rattle.pm_ears.proofs.RecutLaws.{HasCorners, ears_have}
@@ -14,7 +13,6 @@ use Rattle.obj_scan.specs.Judged.{Scanned}
 use Rattle.obj_scan.specs.Meaning.{IsWithinLimits}
 use Rattle.obj_prepare.specs.Named.{AreVerticesBelow, IsWithinMesh, is_some_corner, of_three}
 use Rattle.obj_prepare.proofs.PieceLaws.{corners_named}
-use Rattle.obj_prepare.proofs.ThreeLaws.{three_within}
 use Rattle.obj_fit.specs.Outcome.{cut_in, places_in}
 
 -- As many triangles.

@@ -1,5 +1,5 @@
 -- What a text spells is within the limits, and each of its points is at most 10^32 units away from 0 on each axis.
-use Rattle.std.proofs.Common.{◌≡◌, ℕ, ◌+◌, ◌-◌, ◌^◌, ◌<◌, ◌≤◌, Bool, true, false, not, ◌==◌, ◌||◌, nat_lt, List, [], ◌∷◌, ◌++◌, length, ℤ, Option, Some, None, Result, Ok, Err, IfOk, if◌then◌else◌, refl, subst, arith}
+use Rattle.std.proofs.Common.{◌≡◌, ℕ, ◌+◌, ◌-◌, ◌^◌, ◌<◌, ◌≤◌, Bool, true, false, not, ◌==◌, ◌||◌, nat_lt, List, [], ◌∷◌, length, ℤ, Option, Some, None, Result, Ok, Err, IfOk, if◌then◌else◌, refl, subst, arith}
 use Rattle.std.specs.Prelude.{nat_le, unsigned_abs}
 use Rattle.std.specs.List.{All}
 use Rattle.std.proofs.lemmas.Bool.{ltb-false, or_parts}
@@ -19,7 +19,7 @@ use Rattle.obj_prepare.specs.Exact.{AreExact}
 use Rattle.pm_ears.specs.Recutting.{IsPolygonWithin}
 use Rattle.obj_prepare.specs.Named.{AreVerticesBelow}
 use Rattle.obj_prepare.specs.Numbers.{units_of_text, exponent, is_decimal, decimal_coordinate}
-use Rattle.obj_scan.specs.Judged.{Scanned, Found, nothing, vertex, polygon, scanned_vertex_line, indices, polygon_of, polygon_line, scanned_fields, scanned_line, polygons_after, has_weight, with_scanned}
+use Rattle.obj_scan.specs.Judged.{Scanned, Found, nothing, vertex, polygon, scanned_vertex_line, indices, polygon_of, polygon_line, scanned_fields, scanned_line, has_weight, with_scanned}
 use Rattle.obj_scan.specs.Meaning.{ScannedSoFar, nothing_scanned, joined_text, and_continued, and_scanned_line, judged_length, then_found, line_judged, then_scanned_lines, at_end, scan_meaning_from, scan_meaning_of}
 use Rattle.obj_scan.specs.Reading.{IsScanning}
 use Rattle.obj_scan.proofs.ScanLaws.{vertex_scanning, polygon_scanning}

@@ -1,5 +1,5 @@
 -- A text that needs nothing comes back as it is.
-use Rattle.std.proofs.Common.{◌≡◌, ℕ, ◌-◌, ◌<◌, true, List, [], ◌∷◌, ◌++◌, length, map, Option, None, Some, IfSome, Result, Ok, refl, sym, ap, ◌∙◌, subst, arith}
+use Rattle.std.proofs.Common.{◌≡◌, ℕ, ◌-◌, ◌<◌, true, List, [], ◌∷◌, ◌++◌, length, map, Option, None, Ok, refl, sym, ap, ◌∙◌, subst, arith}
 use Rattle.std.specs.List.{All}
 use Rattle.std.proofs.lemmas.Bool.{true≢false}
 use Rattle.std.proofs.lemmas.List.{length-map}
@@ -29,7 +29,6 @@ use Rattle.obj_prepare.proofs.PieceLaws.{corners_named, split_formed}
 use Rattle.obj_prepare.proofs.PlacingLaws.{length-places_of}
 use Rattle.obj_prepare.proofs.ThreeLaws.{three_of_manifold, three_of_mesh}
 use Rattle.obj_prepare.proofs.TurnedLaws.{turned_stand}
-use Rattle.obj_fit.specs.declared.fault.Fault.{Fault}
 use Rattle.std.specs.Prelude.{codes}
 use Rattle.obj_fit.specs.Thin.{thin_count}
 use Rattle.obj_fit.specs.Texts.{output_text, note_line, last_note, notes_text}

@@ -6,8 +6,6 @@ use Rattle.pm_base.specs.Sides.{net_of}
 use Rattle.pm_base.specs.Fans.{IsOrientedManifold}
 use Rattle.pm_base.specs.Canonical.{canonical_text}
 use Rattle.obj_lines.specs.Text.{until}
-use Rattle.pm_io.specs.Bytes.{Gains}
-use Rattle.pm_io.specs.Puts.{Said}
 use Rattle.pm_fans.specs.Splits.{AllStand}
 use Rattle.pm_turn.specs.Told.{AreInsideOut}
 use Rattle.obj_read.specs.Coordinates.{is_negative, without_sign, decimals, is_number, are_zeros, magnitude, with_sign}
