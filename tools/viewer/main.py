@@ -5,8 +5,9 @@
 
 MODEL is a stream; or an OBJ file, which `simplify` builds first, after `prepare` where it isn't
 fit; or the world.json of a world of tiles (docs/WORLDS.md). The page's address is printed, and
---open opens it; Ctrl-C ends all. With --film the script FLIGHT is played, and its frames are written as
-one page that needs no server. Needs Python 3.8 and a browser with WebGL 2, and no network.
+--open opens it; Ctrl-C ends all. With --film the script FLIGHT is played, and its frames are
+written as one page that needs no server. Needs Python 3.8 and a browser with WebGL 2, and no
+network.
 
 Ends with status 1 where the model can't be had, or the program can't be started or ends early.
 """
