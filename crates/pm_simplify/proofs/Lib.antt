@@ -12,6 +12,8 @@ pub mod Starting
 pub mod Running
 pub mod ObstacleLaws
 pub mod BorderStays
+pub mod KnownBorderLaws
+pub mod RestLaws
 pub mod Waiting
 pub mod Freeing
 pub mod Decisions

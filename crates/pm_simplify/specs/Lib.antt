@@ -5,3 +5,4 @@ pub mod Walks
 pub mod Faults
 pub mod SparedFaces
 pub mod Forgetting
+pub mod KnownBorder

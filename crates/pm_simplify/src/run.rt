@@ -9,6 +9,7 @@ ghost use Rattle.pm_policies.specs.Policies.{Policy};
 ghost use Rattle.pm_policies.specs.PolicyRuns.{IsRunBy};
 ghost use Rattle.pm_simplify.specs.Faults.{IsSimplifyFault};
 
+use crate::border::KnownBorder;
 use crate::choose::least_pair;
 use crate::step::collapse;
 use crate::weigh::filled;
@@ -109,6 +110,7 @@ pub fn simplify_by<C: Costs + Drop>(
     let mut shrink = Shrink::new(alloc, mesh, twins)?;
     let mut queue = filled(alloc, &shrink, &costs, kept, 3 * faces)?;
     let mut waiting = Links::new(alloc, 3 * faces, faces)?;
+    let mut border = KnownBorder::new(alloc, 2 * points)?;
     while shrink.face_count() > target_faces {
         let Some(pair) = least_pair(&shrink, &costs, &mut queue, &mut waiting) else {
             break;
@@ -119,6 +121,7 @@ pub fn simplify_by<C: Costs + Drop>(
             kept,
             &mut queue,
             &mut waiting,
+            &mut border,
             pair,
         ));
     }

@@ -10,8 +10,10 @@ ghost use Rattle.pm_policies.specs.PolicyRuns.{IsCandidateBy};
 ghost use Rattle.pm_shrink.specs.Shrinking.{net_at};
 ghost use Rattle.pm_simplify.specs.OnRuns.{IsOnRun};
 ghost use Rattle.pm_simplify.specs.Choices.{IsRight};
+ghost use Rattle.pm_simplify.specs.KnownBorder.{AreOnBorder};
 
 use crate::around::renew_around;
+use crate::border::KnownBorder;
 use crate::choose::Choice;
 use crate::forget::forget;
 use crate::free::free_around;
@@ -29,6 +31,7 @@ pub(crate) fn collapse<C: Costs>(
     kept: &[bool],
     queue: &mut Queue,
     waiting: &mut Links,
+    border: &mut KnownBorder,
     pair: Choice,
 ) -> Collapse
     requires candidate { (p : Policy) × (m : Mesh) × (log : List Entry)
@@ -40,10 +43,12 @@ pub(crate) fn collapse<C: Costs>(
     requires room { length queue.old ≡ side_count (net_at shrink.old) }
     requires items { waiting.old.items ≡ side_count (net_at shrink.old) }
     requires heads { 3 * length waiting.old.lists ≡ side_count (net_at shrink.old) }
+    requires noted { AreOnBorder shrink.old.surface border.old }
     ensures sides { side_count (net_at shrink.new) ≡ side_count (net_at shrink.old) }
     ensures room { length queue.new ≡ length queue.old }
     ensures items { waiting.new.items ≡ waiting.old.items }
     ensures heads { length waiting.new.lists ≡ length waiting.old.lists }
+    ensures noted { AreOnBorder shrink.new.surface border.new }
     ensures entry { (p : Policy) (m : Mesh) (log : List Entry)
         → IsOnRun shrink.old (C.goes_by costs.old) kept.now p m log
         → result ≡ entry_of (surface_after m log) pair.a pair.b (place_by p m log pair.a pair.b) }
@@ -62,6 +67,6 @@ pub(crate) fn collapse<C: Costs>(
     costs.merged(shrink, &entry);
     forget(queue, entry.left);
     forget(queue, entry.right);
-    renew_around(shrink, costs, kept, queue, entry.s);
+    renew_around(shrink, costs, kept, queue, border, entry.s);
     entry
 }

@@ -1,4 +1,4 @@
-use Rattle.std.proofs.Common.{◌≡◌, ◌∙◌, ◌+◌, ◌*◌, ◌<◌, ◌≤◌, List, [], ◌∷◌, ◌++◌, length}
+use Rattle.std.proofs.Common.{◌≡◌, ◌∙◌, ◌+◌, ◌*◌, ◌<◌, ◌≤◌, Bool, List, [], ◌∷◌, ◌++◌, length}
 use Rattle.std.proofs.Common.{ap, sym, subst, arith}
 use Rattle.std.proofs.lemmas.List.{length-append, length-replicate}
 use Rattle.pm_base.specs.declared.log.Collapse.{Collapse}
@@ -10,7 +10,9 @@ use Rattle.pm_runs.specs.Surfaces.{surface_of, face_count_of}
 use Rattle.pm_runs.specs.Runs.{IsStartOfRun}
 use Rattle.pm_shrink.specs.Shrinking.{net_at}
 use Rattle.pm_shrink.specs.Following.{IsAfter}
+use Rattle.pm_simplify.specs.KnownBorder.{AreOnBorder}
 use Rattle.pm_simplify.specs.OnRuns.{IsOnRun}
+use Rattle.pm_simplify.proofs.KnownBorderLaws.{none_noted}
 use Rattle.pm_simplify.proofs.Starting.{start_stands, start_sides, room_left}
 use Rattle.pm_simplify.proofs.Running.{IsUnderWay, begun_more, ended_few, ended_none}
 use Rattle.pm_simplify.proofs.run.simplify_by.Goals as goal
@@ -76,6 +78,8 @@ loop-shrink-init g c =
       heads =
           ap (λ (l : Lists). 3 * length l.lists) c.in_ok-waiting.ensures.value
           ∙ ap (λ k. 3 * k) (length-replicate c.len-faces.result []) ∙ all;
+      noted = subst (λ (flags : List Bool). AreOnBorder s.surface flags) (sym c.in_ok-border.ensures)
+          (none_noted s.surface (2 * c.len-points.result));
       spare = omega arith;
     }
 
@@ -147,6 +151,7 @@ loop-shrink-preserved g c =
       heads =
           ap (λ k. 3 * k) (c.collapse.ensures.heads ∙ c.least_pair.ensures.heads) ∙ i.heads
           ∙ sides;
+      noted = c.collapse.ensures.noted;
       spare = omega arith;
     }
 

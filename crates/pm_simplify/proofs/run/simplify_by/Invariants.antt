@@ -3,6 +3,7 @@ use Rattle.pm_base.specs.Sides.{side_count}
 use Rattle.pm_keeping.specs.Keeping.{kept_in}
 use Rattle.pm_policies.specs.Policies.{Policy}
 use Rattle.pm_shrink.specs.Shrinking.{net_at}
+use Rattle.pm_simplify.specs.KnownBorder.{AreOnBorder}
 use Rattle.pm_simplify.proofs.Running.{IsUnderWay}
 use Rattle.pm_simplify.proofs.run.simplify_by.Given as goal
 
@@ -14,6 +15,7 @@ invariant-loop-shrink g l = record {
   room : length l.queue ≡ side_count (net_at l.shrink);
   items : l.waiting.items ≡ side_count (net_at l.shrink);
   heads : 3 * length l.waiting.lists ≡ side_count (net_at l.shrink);
+  noted : AreOnBorder l.shrink.surface l.border;
   spare : length l.fn.surface.points ≤ l.log.spare + length l.log.items + 1;
 }
 

@@ -3,12 +3,15 @@ use Rattle.std.specs.Prelude.{IfSome}
 use Rattle.pm_base.specs.declared.log.Collapse.{Collapse as Entry}
 use Rattle.pm_base.specs.Sides.{face_of, side_count}
 use Rattle.pm_queue.specs.Entries.{Entries}
+use Rattle.pm_runs.specs.Surfaces.{Surface}
 use Rattle.pm_runs.specs.Pairs.{IsLegalPair}
 use Rattle.pm_shrink.specs.Shrinking.{net_at}
 use Rattle.pm_shrink.proofs.GoneLaws.{gone_first_in, gone_second_in}
 use Rattle.pm_simplify.specs.Choices.{Renews}
 use Rattle.pm_simplify.specs.Forgetting.{forgotten}
+use Rattle.pm_simplify.specs.KnownBorder.{AreOnBorder}
 use Rattle.pm_simplify.proofs.ForgetLaws.{gone_small, gone_within}
+use Rattle.pm_simplify.proofs.KnownBorderLaws.{noted_collapse}
 use Rattle.pm_simplify.proofs.Stepping.{candidate_live, candidate_legal, right_collapse}
 use Rattle.pm_simplify.proofs.step.collapse.Goals as goal
 
@@ -100,6 +103,20 @@ renew_around-requires-clause-known g c =
         kept = on.kept;
       },
     )
+
+pub renew_around-requires-clause-noted : goal.renew_around-requires-clause-noted
+renew_around-requires-clause-noted g c =
+    let (p, m, log, on, x) = c.requires.candidate in
+    let s = c.args.shrink.now in
+    let a = c.args.pair.a in
+    let b = c.args.pair.b in
+    let place = c.args.pair.place in
+    let legal : IsLegalPair s.surface a b place =
+    candidate_legal p m log s on.after a b place x (c.requires.place p m log on) in
+    let kept = c.invariant.ensures.kept in
+    subst (λ (t : Surface). AreOnBorder t c.args.border.now) (sym c.collapse-entry.ensures.surface)
+    (noted_collapse s.surface c.args.border.now a b place kept.surface kept.proper legal
+    c.requires.noted)
 
 pub returns-clause-right : goal.returns-clause-right
 returns-clause-right g c = λ p m log on right.
