@@ -23,20 +23,30 @@ fn corners_of(front: &Front, face: u32) -> [u32; 3]
     [a.0, b.0, c.0]
 }
 
-// Where the nodes at the corners of a face stand.
-fn positions_at(front: &Front, positions: &[u32], _face: u32, nodes: [u32; 3]) -> [u32; 3]
+// The corners of a face, as nodes and by where those stand.
+#[derive(Clone, Copy)]
+struct FaceCorners {
+    nodes: [u32; 3],
+    positions: [u32; 3],
+}
+
+// The corners of a kept face.
+fn corners_at(front: &Front, positions: &[u32], face: u32) -> FaceCorners
     requires positions { ArePositions front.now.h (set_of front.now.flags) positions.now }
-    requires there { _face < face_count front.now.h }
-    requires nodes { nodes ≡ face_nodes front.now.h (set_of front.now.flags) _face }
-    ensures { result ≡ face_positions front.now.h (set_of front.now.flags) _face }
+    requires there { face < face_count front.now.h }
+    requires kept { is_kept front.now.h (set_of front.now.flags) face ≡ true }
+    ensures nodes { result.nodes ≡ face_nodes front.now.h (set_of front.now.flags) face }
+    ensures positions { result.positions ≡ face_positions front.now.h (set_of front.now.flags) face }
 {
     front.hierarchy().invariant();
+    let nodes = corners_of(front, face);
     let [a, b, c] = nodes;
-    [
+    let positions = [
         positions[a as usize],
         positions[b as usize],
         positions[c as usize],
-    ]
+    ];
+    FaceCorners { nodes, positions }
 }
 
 /// Writes the numbers of the kept faces into `faces`, ascending, and their corners, three for each face in its corner
@@ -60,10 +70,10 @@ pub fn write_faces(
     let mut count = 0usize;
     for face in 0..front.hierarchy().faces() {
         if front.is_kept(FaceId(face)) {
-            let at = corners_of(front, face);
+            let at = corners_at(front, positions, face);
             store(faces, count, face);
-            store_three(nodes, count, at);
-            store_three(corners, count, positions_at(front, positions, face, at));
+            store_three(nodes, count, at.nodes);
+            store_three(corners, count, at.positions);
             count += 1;
         }
     }

@@ -42,8 +42,8 @@ loop-face-preserved c =
           rw (w.count-is, w.faces-is, w.nodes-is, w.corners-is) (record {
             counted = ap (λ k. k + 1) i.counted ∙ sym (count_on (is_kept h T) f pass);
             stored = numbers_on (is_kept h T) f c.loop-face.count _ _ pass i.counted i.stored w.store.ensures.stored;
-            cornered = threes_on (is_kept h T) (face_positions h T) f c.loop-face.count (c.loop-face.count + 1) _ _ _ pass w.positions_at.ensures i.cornered w.store_three-then-is_kept.ensures.stored;
-            pointed = threes_on (is_kept h T) (face_nodes h T) f c.loop-face.count (c.loop-face.count + 1) _ _ _ pass w.corners_of-at.ensures i.pointed w.store_three.ensures.stored;
+            cornered = threes_on (is_kept h T) (face_positions h T) f c.loop-face.count (c.loop-face.count + 1) _ _ _ pass w.corners_at-at.ensures.positions i.cornered w.store_three-then-is_kept.ensures.stored;
+            pointed = threes_on (is_kept h T) (face_nodes h T) f c.loop-face.count (c.loop-face.count + 1) _ _ _ pass w.corners_at-at.ensures.nodes i.pointed w.store_three.ensures.stored;
             faces_len = w.store.ensures.len ∙ i.faces_len;
             corners_len = w.store_three-then-is_kept.ensures.len ∙ i.corners_len;
             nodes_len = w.store_three.ensures.len ∙ i.nodes_len;
