@@ -22,3 +22,4 @@ pub use dispatch::obey;
 pub use fault::{CommandFail, Fault, InputFail};
 pub use outcomes::outcomes_are_sound;
 pub use said::{say, tell};
+pub use starting::start;

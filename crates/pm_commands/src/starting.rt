@@ -9,11 +9,11 @@ use pm_load::LoadFail;
 use pm_session::{Grammar, Session};
 use std::alloc::Global;
 
-/// A session that shows the base front of a valid hierarchy, as `Session::start` says. It is boxed, and
-/// what it shows is told by one word: a function that keeps all its tables in a variable of its own is
-/// slow to prove.
+/// A session that shows the base front of a valid hierarchy and takes lines of this grammar. It is
+/// refused as `Session::start` says. It is boxed, and what it shows is told by one word: a function
+/// that keeps all its tables in a variable of its own is slow to prove.
 #[tactic(auto, unfolding(crate::specs::Started::IsStarted))]
-pub(crate) fn start(
+pub fn start(
     alloc: Global,
     h: Hierarchy,
     grammar: Grammar,

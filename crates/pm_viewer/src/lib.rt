@@ -7,7 +7,6 @@ mod filling;
 mod looking;
 mod opening;
 mod reply;
-mod starting;
 mod viewer;
 
 pub use fail::{Cause, OpenFail, cause_of};

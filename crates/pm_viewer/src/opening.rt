@@ -8,7 +8,6 @@ ghost use Rattle.pm_viewer.specs.Viewing.{viewer_state};
 ghost use Rattle.pm_viewer.specs.Causes.{IsRefusal};
 
 use crate::fail::OpenFail;
-use crate::starting::start_session;
 use crate::viewer::Viewer;
 use pm_commands::{Fault, InputFail};
 use pm_format::{Stream, read_stream};
@@ -38,7 +37,7 @@ fn start<S: Source>(alloc: Global, budget: u32, input: &mut S) -> Result<Started
 {
     let mut taker = Taker::new(alloc)?;
     let Stream { h, digits } = read_stream(alloc, &mut taker, input)?;
-    let session = start_session(alloc, h, budget)?;
+    let session = pm_commands::start(alloc, h, Grammar::Live, budget)?;
     match taker.piece(input) {
         Ok([]) => Ok(Started { session, digits }),
         Ok(_) => Err(InputFail::Faulty(Fault::Trailing)),
