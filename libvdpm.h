@@ -1,18 +1,20 @@
 /* libvdpm: a view-dependent progressive mesh in a program's own memory.
  *
- * A viewer is one hierarchy that is being shown: the bytes that `vdpm build` wrote, a front of
- * it, and the reply to the last script line. It does what `vdpm live` does (docs/COMMANDS.md,
- * docs/FORMATS.md), without a process and without text where arrays serve better.
+ * A viewer is one hierarchy that is being shown: the bytes of a stream, a front of it, and the
+ * reply to the last script line. It does what `vdpm live` does (docs/COMMANDS.md,
+ * docs/FORMATS.md), without a process and without text where arrays serve better. Streams are made
+ * here too: vdpm_build and vdpm_simplify do what `vdpm build` and `simplify` do with a text.
  * docs/LIBRARY.md tells how to build and use it, and what is proved of it.
  *
  * Ownership. A vdpm_viewer is the caller's: a variable or a field, all zero at first
  * (VDPM_CLOSED). Between vdpm_open and vdpm_close it owns memory of the library, so it is
- * neither copied nor changed by hand then; that isn't looked at. The library keeps no pointer
- * that it is given: every array is the caller's, and is read or written during the call alone.
+ * neither copied nor changed by hand then; that isn't looked at. So it is with a vdpm_made between
+ * the making and vdpm_made_close. The library keeps no pointer that it is given: every array is the
+ * caller's, and is read or written during the call alone.
  * The arrays of a call don't overlap, and no pointer is NULL.
  *
- * Threads. A viewer stays on the thread that opened it. Different viewers are independent, each
- * on any thread. No function is called from a signal handler.
+ * Threads. A viewer, or what was made, stays on the thread that opened or made it. Different ones
+ * are independent, each on any thread. No function is called from a signal handler.
  *
  * Memory comes from malloc and goes back to free. Nothing aborts: want of memory is the answer
  * VDPM_NO_MEMORY.
@@ -33,8 +35,10 @@ extern "C" {
  * number (docs/COMMANDS.md, "The faults of a stream"): 11, 20 to 29 or 33. */
 enum {
     VDPM_DONE = 0,
+    VDPM_FAULTY = 1,       /* the text has a fault, which is told beside the answer */
+    VDPM_OUT_OF_RANGE = 2, /* a number that was asked for is out of its range; nothing was done */
     VDPM_NO_MEMORY = 5,  /* memory was wanting */
-    VDPM_NOT_SO = 6,     /* the viewer isn't open; vdpm_open: it is open already */
+    VDPM_NOT_SO = 6,     /* the handle isn't open; what opens or makes: it is open already */
     VDPM_NO_ROOM = 7,    /* an array has less room than is needed; nothing was written */
     VDPM_NO_SUCH = 8,    /* there is no such node or leaf */
     VDPM_QUIT = 9,       /* the line was `q`: nothing was done */
@@ -118,6 +122,45 @@ uint32_t vdpm_place(vdpm_viewer *viewer, uint32_t node, int32_t *out, size_t roo
 
 /* Closes a viewer and gives its memory back. One that isn't open stays as it is. */
 void vdpm_close(vdpm_viewer *viewer);
+
+/* What was made of a text: bytes, and lines that are said beside them. Its fields are the library's
+ * own. All zero at first: vdpm_made made = VDPM_CLOSED; */
+typedef struct vdpm_made {
+    void *at;
+    uint32_t open;
+} vdpm_made;
+
+/* A fault of a text, as the program tells it (docs/COMMANDS.md, "The faults of an OBJ text"). */
+typedef struct vdpm_fault {
+    uint32_t number; /* 0 where there is none */
+    uint64_t place;  /* the line, face or vertex, counted from 1; 0 where it has none */
+} vdpm_fault;
+
+/* Makes the stream of an OBJ text, `length` bytes, as `vdpm build FACES --digits DIGITS` does: its
+ * mesh is simplified to `faces` faces, or as far as pairs may be collapsed (0: as far as that
+ * goes), and coordinates have `digits` decimals, 0 to 4. vdpm_made_bytes has the stream then.
+ * Answers VDPM_DONE; VDPM_FAULTY, with the fault for which the program refuses the text in *fault;
+ * VDPM_OUT_OF_RANGE, for digits above 4; VDPM_NO_MEMORY; or VDPM_NOT_SO. Nothing is made where it
+ * isn't VDPM_DONE. */
+uint32_t vdpm_build(const uint8_t *text, size_t length, uint32_t faces, uint32_t digits,
+                    vdpm_made *made, vdpm_fault *fault);
+
+/* The same as the program `simplify FACES --digits DIGITS` does it, by finer costs; where
+ * `keep_border` isn't 0, with its `--keep-border`: each frame shows the border of the mesh. */
+uint32_t vdpm_simplify(const uint8_t *text, size_t length, uint32_t faces, uint32_t digits,
+                       uint32_t keep_border, vdpm_made *made, vdpm_fault *fault);
+
+/* Tells how many bytes were made, and how many the lines have that are said beside them: 0 after
+ * vdpm_build and vdpm_simplify. */
+uint32_t vdpm_made_length(vdpm_made *made, size_t *bytes, size_t *notes);
+
+/* Copies what was made, or the lines that are said beside it, to the front of `room` bytes, without
+ * a final zero. */
+uint32_t vdpm_made_bytes(vdpm_made *made, uint8_t *out, size_t room);
+uint32_t vdpm_made_notes(vdpm_made *made, uint8_t *out, size_t room);
+
+/* Gives the memory of what was made back. What isn't open stays as it is. */
+void vdpm_made_close(vdpm_made *made);
 
 #ifdef __cplusplus
 }

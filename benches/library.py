@@ -5,7 +5,7 @@
 MODEL is a stream of more faces than are to be shown. The eye goes round it as an orbit of live.py
 does, with the tolerance at which the first view shows about as many faces as are asked for. A step
 is a view, the whole mesh that is shown, and a pick of the ray from the eye to the middle. Each is
-done by python/vdpm.py, with the library that it finds or that VDPM_LIBRARY names, and by the same
+done by python/vdpm, with the library that it finds or that VDPM_LIBRARY names, and by the same
 lines through the pipes of `vdpm live`, a program of its own: the reply to `w` is read to its end,
 and then parsed to the arrays that the library fills, by numpy where it is there. Both are asked the
 same, and it is looked at the end whether the arrays are equal. A cell has the median of the steps,
@@ -26,6 +26,7 @@ sys.path[:0] = [str(TOP / "python"), str(TOP / "benches")]
 
 import vdpm  # noqa: E402
 from live import ALL_MOVES, orbit  # noqa: E402
+from vdpm.session import numpy  # noqa: E402
 
 # The most that a line may tell, so that steps of the tolerance are fine.
 FOCAL = MOST_TOLERANCE = 65535
@@ -79,11 +80,12 @@ class Pipe:
         self.child.stdin.write(b"q\n")
         self.child.stdin.close()
         self.child.wait()
+        self.child.stdout.close()
 
 
 def parsed(text: bytes) -> vdpm.Frame:
     """The arrays of a frame text."""
-    if vdpm.numpy is not None:
+    if numpy is not None:
         return parsed_by_numpy(text)
     words = text.split()
     v, f = int(words[1]), int(words[2])
@@ -100,7 +102,6 @@ def parsed(text: bytes) -> vdpm.Frame:
 
 
 def parsed_by_numpy(text: bytes) -> vdpm.Frame:
-    numpy = vdpm.numpy
     numbers = numpy.fromstring(text.translate(None, b"aefmnrvd"), dtype=numpy.int64, sep=" ")
     v = int(numbers[0])
     points, sides = numbers[2:2 + 4 * v].reshape(-1, 4), numbers[2 + 4 * v:].reshape(-1, 4)

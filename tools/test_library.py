@@ -1,53 +1,32 @@
-"""Tries the library on the script cases of tests/cases: python3 tools/test_library.py
+"""Tries viewers of the library on the script cases of tests/cases: python3 tools/test_library.py
 
-The library that VDPM_LIBRARY names, with its archive beside it, is called from Python and from C;
-where the variable isn't set, one is built without a proof (tools/library.py). Each script of a case
-is done line by line, and the replies are compared byte for byte with those that the case stores;
-each stream that a case refuses is refused for the same fault.
+The library (tools/tried_library.py) is called from Python and from C. Each script of a case is done
+line by line, and the replies are compared byte for byte with those that the case stores; each
+stream that a case refuses is refused for the same fault.
 """
 import ctypes
 import hashlib
-import os
 import random
-import re
 import shutil
 import subprocess
-import sys
 import tempfile
 import unittest
 from pathlib import Path
-from typing import Iterator, List, NamedTuple, Optional, Tuple
+from typing import Iterator, List, Optional, Tuple
 
-TOP = Path(__file__).resolve().parent.parent
-sys.path[:0] = [str(TOP / "tools"), str(TOP / "tests"), str(TOP / "python")]
+from tried_library import TOP, Asked, cases_of, compiled, runs_that_fail, take_library
 
-import builders
 import vdpm
-from case_files import CASES, Case, read_cases
-from library import build
-from quick_start.stopped import Stopped
+from vdpm.library import NO_ROOM
 
 OCTAHEDRON = TOP / "examples" / "octahedron.vdpm"
 GLIDE = TOP / "examples" / "octahedron_glide.script"
 GLIDE_REPLIES = TOP / "examples" / "octahedron_glide.replies"
-FAULT = re.compile(rb"^vdpm: fault (\d+)(?: \w+ (\d+))?$", re.M)
-LONGEST = 20_000_000
 folder = tempfile.TemporaryDirectory(prefix="library-")
 
 
 def setUpModule() -> None:
-    if os.environ.get("VDPM_LIBRARY"):
-        return
-    try:
-        build(Path(folder.name))
-    except Stopped as why:
-        raise unittest.SkipTest(str(why)) from why
-    os.environ["VDPM_LIBRARY"] = str(Path(folder.name) / "libvdpm.so")
-
-
-def archive() -> Path:
-    """The static library beside the shared one."""
-    return Path(os.environ["VDPM_LIBRARY"]).with_suffix(".a")
+    take_library()
 
 
 def tearDownModule() -> None:
@@ -66,40 +45,10 @@ def stream_length(data: bytes) -> int:
     return at
 
 
-class Asked(NamedTuple):
-    """A case of `view` or `live` as the library meets it."""
-
-    name: str
-    given: bytes
-    output: Optional[bytes]
-    digest: Optional[str]
-    fault: Optional[Tuple[int, Optional[int]]]
-    budget: int
-    live: bool
-
-
-def asked_of(case: Case) -> Optional[Asked]:
-    """The case, if it has a stream with a script, whole or with a fault, and no device or limit."""
-    is_script = case.words[:1] in (["view"], ["live"]) and len(case.words) == 2
-    plain = case.program == "vdpm" and is_script
-    if not plain or case.devices or case.memory or case.status not in (0, 1):
-        return None
-    if any(step.key == "through" for step in case.steps) or not case.words[1].isdigit():
-        return None
-    parts = {key: b"".join(builders.flat(builders.build(step.value, case.named))
-                           for step in case.steps if step.key == key) for key in ("in", "out")}
-    told = FAULT.search(case.errors)
-    fault = (int(told[1]), None if told[2] is None else int(told[2])) if told else None
-    stored = None if case.output_sum else parts["out"]
-    digest = case.output_sum.digest if case.output_sum else None
-    live = case.words[0] == "live"
-    return Asked(case.name, parts["in"], stored, digest, fault, int(case.words[1]), live)
-
-
 def all_asked() -> Iterator[Asked]:
-    for case in read_cases(sorted(CASES.glob("*.cases"))):
-        asked = asked_of(case)
-        if asked is not None and len(asked.given) < LONGEST:
+    """The scripts of `view` and `live`."""
+    for asked in cases_of("vdpm", "view", "live"):
+        if len(asked.words) == 2 and asked.words[1].isdigit():
             yield asked
 
 
@@ -108,7 +57,7 @@ class Scripts(unittest.TestCase):
         """The replies and the fault of a case, from the library."""
         if asked.fault and asked.fault[0] < 30 or asked.fault and asked.fault[0] == 33:
             try:
-                vdpm.Session(asked.given, asked.budget).close()
+                vdpm.Session(asked.given, int(asked.words[1])).close()
             except vdpm.Fault as fault:
                 return b"", (fault.number, fault.place)
             return b"", None
@@ -118,7 +67,7 @@ class Scripts(unittest.TestCase):
         lines = script.split(b"\n")
         if lines[-1] == b"":
             lines.pop()
-        with vdpm.Session(asked.given[:length], asked.budget) as session:
+        with vdpm.Session(asked.given[:length], int(asked.words[1])) as session:
             for number, line in enumerate(lines, 1):
                 try:
                     replies.append(session.line(line))
@@ -132,7 +81,8 @@ class Scripts(unittest.TestCase):
         tried = 0
         for asked in all_asked():
             # (a script of `view` may not have the lines of `live`, and is cut off at its own limit)
-            if asked.fault and (asked.fault[0] == 32 or not asked.live and asked.fault[0] == 30):
+            is_view = asked.words[0] == "view"
+            if asked.fault and (asked.fault[0] == 32 or is_view and asked.fault[0] == 30):
                 continue
             with self.subTest(asked.name):
                 output, fault = self.played(asked)
@@ -198,7 +148,7 @@ class Arrays(unittest.TestCase):
             signed = (ctypes.c_int32 * 64)()
             status = session._library.vdpm_frame(session._viewer, room, 3, signed, 64, room, 64,
                                                  room, 64, room, 64)
-            self.assertEqual((status, set(room)), (vdpm.NO_ROOM, {7}))
+            self.assertEqual((status, set(room)), (NO_ROOM, {7}))
 
 
 class Handles(unittest.TestCase):
@@ -223,59 +173,27 @@ class Handles(unittest.TestCase):
         self.assertIn("copy the file again", str(raised.exception))
 
 
-# The Nth allocation fails, where N is the value of FAIL_AT, and says so.
-FAILING = """
-#include <stdio.h>
-#include <stdlib.h>
-void *__real_malloc(size_t size);
-void *__real_realloc(void *at, size_t size);
-static int fails(void) {
-    static long done;
-    if (++done != atol(getenv("FAIL_AT"))) return 0;
-    fprintf(stderr, "allocation failed\\n");
-    return 1;
-}
-void *__wrap_malloc(size_t size) { return fails() ? NULL : __real_malloc(size); }
-void *__wrap_realloc(void *at, size_t size) { return fails() ? NULL : __real_realloc(at, size); }
-"""
-
-
 @unittest.skipUnless(shutil.which("cc"), "there is no cc")
 class FromC(unittest.TestCase):
-    def built(self, *more: str) -> Path:
-        made = Path(folder.name) / "script"
-        words = ["cc", "-std=c99", "-Wall", "-Wextra", "-Werror", "-O1", f"-I{TOP}"]
-        words += [str(TOP / "examples/library/script.c"), str(archive()), "-o", str(made), *more]
-        subprocess.run(words, check=True)
-        return made
-
     def test_a_script_from_c(self) -> None:
-        words = [str(self.built()), str(OCTAHEDRON), "9"]
+        words = [str(compiled("script", Path(folder.name))), str(OCTAHEDRON), "9"]
         done = subprocess.run(words, input=GLIDE.read_bytes(), capture_output=True, check=True)
         self.assertEqual(done.stdout, GLIDE_REPLIES.read_bytes())
 
     def test_each_allocation_failing_in_turn(self) -> None:
-        source = Path(folder.name) / "failing.c"
-        source.write_text(FAILING, encoding="utf-8")
-        made = self.built(str(source), "-Wl,--wrap=malloc,--wrap=realloc")
-        words, script = [str(made), str(OCTAHEDRON), "9"], GLIDE.read_bytes()
-        replies, failed = GLIDE_REPLIES.read_bytes(), 0
-        while True:
-            told = {**os.environ, "FAIL_AT": str(failed + 1)}
-            done = subprocess.run(words, input=script, capture_output=True, env=told, check=False)
-            if b"allocation failed" not in done.stderr:
-                break
-            failed += 1
+        words, replies = [str(OCTAHEDRON), "9"], GLIDE_REPLIES.read_bytes()
+        runs = list(runs_that_fail("script", Path(folder.name), words, GLIDE.read_bytes()))
+        for done in runs:
             self.assertIn(done.returncode, (0, 1, 3), done.stderr)
             self.assertTrue(replies.startswith(done.stdout))
             self.assertTrue(done.returncode or done.stdout == replies)
-        self.assertEqual((done.returncode, done.stdout), (0, replies))
-        self.assertGreater(failed, 20)
+        self.assertEqual((runs[-1].returncode, runs[-1].stdout), (0, replies))
+        self.assertGreater(len(runs), 20)
 
     @unittest.skipUnless(shutil.which("valgrind"), "there is no valgrind")
     def test_valgrind_finds_nothing(self) -> None:
         words = ["valgrind", "-q", "--leak-check=full", "--error-exitcode=9"]
-        words += [str(self.built()), str(OCTAHEDRON), "9"]
+        words += [str(compiled("script", Path(folder.name))), str(OCTAHEDRON), "9"]
         done = subprocess.run(words, input=GLIDE.read_bytes(), capture_output=True, check=False)
         self.assertEqual((done.returncode, done.stderr), (0, b""))
         self.assertEqual(done.stdout, GLIDE_REPLIES.read_bytes())

@@ -19,8 +19,9 @@ from .unproved import FLAGS, run_tool
 
 # The kit lowers programs alone, and of a program what its main leads to.
 MAIN = """
+use crate::made_slot::MadeSlot;
 use crate::slot::Slot;
-use crate::tables::{Counts, Handle};
+use crate::tables::{Counts, Handle, MadeHandle, NO_FAULT};
 use std::rt::HostRuntime;
 
 fn main(rt: HostRuntime) {
@@ -44,10 +45,19 @@ fn main(rt: HostRuntime) {
     exports::vdpm_place(alloc, &mut handle, 0, &mut signed);
     exports::vdpm_close(alloc, &mut handle);
     let Handle { slot: _slot, open: _open } = handle;
+    let mut made = MadeHandle { slot: MadeSlot::empty(alloc), open: 0 };
+    let (mut fault, mut notes) = (NO_FAULT, 0usize);
+    making::vdpm_build(alloc, b"", 0, 0, &mut made, &mut fault);
+    making::vdpm_simplify(alloc, b"", 0, 0, 0, &mut made, &mut fault);
+    making::vdpm_made_length(alloc, &mut made, &mut length, &mut notes);
+    making::vdpm_made_bytes(alloc, &mut made, &mut bytes);
+    making::vdpm_made_notes(alloc, &mut made, &mut bytes);
+    making::vdpm_made_close(alloc, &mut made);
+    let MadeHandle { slot: _made_slot, open: _made_open } = made;
 }
 """
-EXPORT = re.compile(r'define internal (?:noundef )?(i32|void) @"vdpm_c::exports::(vdpm_\w+)"')
-USE = re.compile(r'@"vdpm_c::exports::(vdpm_\w+)"')
+EXPORT = re.compile(r'define internal (?:noundef )?(i32|void) @"vdpm_c::\w+::(vdpm_\w+)"')
+USE = re.compile(r'@"vdpm_c::\w+::(vdpm_\w+)"')
 
 
 def stop_without_tools() -> None:

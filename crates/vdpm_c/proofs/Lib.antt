@@ -1,2 +1,4 @@
 pub mod Values
 pub mod SlotValues
+pub mod MadeValues
+pub mod MadeLaws

@@ -92,7 +92,7 @@ pub extern "C" fn vdpm_reply(alloc: Global, handle: &mut Handle, out: &mut [u8])
         return NOT_SO;
     }
     let viewer = take(alloc, handle);
-    let status = inside::reply(&viewer, out);
+    let status = inside::copy(viewer.reply(), out);
     put(handle, viewer);
     status
 }

@@ -1,10 +1,13 @@
-//! Taking the viewer out of a handle, and putting it back.
+//! Taking what a handle has out of it, and putting it back.
 ghost use Rattle.std.specs.Prelude.{◌≡◌, Some, None, IsSome};
 ghost use Rattle.vdpm_c.specs.Border.{Has};
+ghost use Rattle.vdpm_c.specs.Making.{HasMade};
 
 use crate::loose::Loose;
+use crate::made_slot::MadeSlot;
 use crate::slot::Slot;
-use crate::tables::Handle;
+use crate::tables::{Handle, MadeHandle};
+use pm_making::Made;
 use pm_viewer::Viewer;
 use std::alloc::Global;
 use std::mem::replace;
@@ -36,5 +39,35 @@ pub(crate) fn put(handle: &mut Handle, viewer: Box<Viewer>)
     ensures { Has handle.new viewer.value }
 {
     handle.slot = Slot::of(Loose::of(viewer));
+    handle.open = 1;
+}
+
+// Takes out what a slot for what was made has, and leaves it with nothing.
+fn vacate_made(alloc: Global, slot: &mut MadeSlot) -> MadeSlot
+    ensures taken { result.value ≡ slot.old.value }
+    ensures empty { slot.new.value ≡ None }
+{
+    let empty = MadeSlot::empty(alloc);
+    replace(slot, empty)
+}
+
+// Takes what was made out of an open handle, which isn't open then.
+pub(crate) fn take_made(alloc: Global, handle: &mut MadeHandle) -> Box<Made>
+    requires { IsSome handle.old.slot.value }
+    ensures made { handle.old.slot.value ≡ Some result.value }
+    ensures closed { handle.new.open ≡ 0 }
+    ensures empty { handle.new.slot.value ≡ None }
+{
+    handle.open = 0;
+    let slot = vacate_made(alloc, &mut handle.slot);
+    let loose = slot.into_loose();
+    loose.into_box()
+}
+
+// Puts what was made into a handle, which is open then.
+pub(crate) fn put_made(handle: &mut MadeHandle, it: Box<Made>)
+    ensures { HasMade handle.new it.value }
+{
+    handle.slot = MadeSlot::of(Loose::of(it));
     handle.open = 1;
 }

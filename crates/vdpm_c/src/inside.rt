@@ -52,14 +52,13 @@ pub(crate) fn line(viewer: &mut Viewer, text: &[u8]) -> u32
     status_of(viewer.line(text))
 }
 
-// Copies the reply.
-pub(crate) fn reply(viewer: &Viewer, out: &mut [u8]) -> u32
-    ensures copied { length viewer.now.reply ≤ length out.old
-        → (result ≡ 0) × (take (length viewer.now.reply) out.new ≡ viewer.now.reply) }
-    ensures no_room { (length viewer.now.reply ≤ length out.old → ⊥) → (result ≡ 7) × (out.new
+// Copies bytes to the front of an array.
+pub(crate) fn copy(bytes: &[u8], out: &mut [u8]) -> u32
+    ensures copied { length bytes.now ≤ length out.old
+        → (result ≡ 0) × (take (length bytes.now) out.new ≡ bytes.now) }
+    ensures no_room { (length bytes.now ≤ length out.old → ⊥) → (result ≡ 7) × (out.new
         ≡ out.old) }
 {
-    let bytes = viewer.reply();
     let n = bytes.len();
     if n > out.len() {
         return NO_ROOM;

@@ -1,11 +1,14 @@
-//! The viewer for C: a thin layer of exported functions over `pm_viewer`. `libvdpm.h` tells of each
-//! to its callers.
+//! The viewer and the builder for C: a thin layer of exported functions over `pm_viewer` and
+//! `pm_making`. `libvdpm.h` tells of each to its callers.
 #![tactic(auto)]
 
 mod exports;
 mod holding;
 mod inside;
 mod loose;
+mod made;
+mod made_slot;
+mod making;
 mod slot;
 mod statuses;
 mod tables;

@@ -1,7 +1,12 @@
-//! What the exported functions answer. A fault is answered by its own number, which is 11 or more.
+//! What the exported functions answer. A fault of a stream is answered by its own number, which is 11
+//! or more; one of an OBJ text is told beside the answer.
 
 /// It was done.
 pub(crate) const DONE: u32 = 0;
+/// The text has a fault.
+pub(crate) const FAULTY: u32 = 1;
+/// A number that was asked for is out of its range.
+pub(crate) const OUT_OF_RANGE: u32 = 2;
 /// Memory was wanting.
 pub(crate) const NO_MEMORY: u32 = 5;
 /// The handle isn't open, or, where it was to be opened, is open.

@@ -1,4 +1,5 @@
 //! What crosses to C beside numbers and arrays of them.
+use crate::made_slot::MadeSlot;
 use crate::slot::Slot;
 
 /// A viewer as C holds it: all zero before it is opened and once it is closed.
@@ -23,3 +24,27 @@ pub struct Counts {
     /// How many decimals the coordinates have.
     pub digits: u32,
 }
+
+/// What was made of a text, as C holds it: all zero before it is made and once it is closed.
+#[repr(C)]
+pub struct MadeHandle {
+    pub slot: MadeSlot,
+    /// 1 where something stands in the slot, and 0 where nothing does.
+    pub open: u32,
+}
+
+/// The fault of a text.
+#[repr(C)]
+#[derive(Clone, Copy)]
+pub struct FaultTold {
+    /// Its number; 0 where there is none.
+    pub number: u32,
+    /// The line, face or vertex, counted from 1; 0 where it has none.
+    pub place: u64,
+}
+
+/// No fault.
+pub const NO_FAULT: FaultTold = FaultTold {
+    number: 0,
+    place: 0,
+};

@@ -1,0 +1,68 @@
+-- How a command that builds ends, and what was made then.
+use Rattle.std.proofs.Common.{◌≡◌, ℕ, List, [], Option, Some, Result, Ok, Err, refl, sym, ◌∙◌, ap, subst, arith}
+use Rattle.pm_forest.specs.Forest.{Hierarchy}
+use Rattle.pm_format.specs.Stream.{stream}
+use Rattle.pm_commands.specs.declared.asked.Asked.{Asked}
+use Rattle.pm_commands.specs.declared.asked.Asked.TheVariants as asked
+use Rattle.pm_commands.specs.declared.asked.Border.{Border}
+use Rattle.pm_commands.specs.declared.fault.Fault.{Fault}
+use Rattle.pm_commands.specs.Input.{IsFaulty}
+use Rattle.pm_commands.specs.Ran.{Ran, whole_output}
+use Rattle.pm_commands.specs.Build.{IsBuilt}
+use Rattle.pm_commands.specs.Simplified.{IsSimplifiedText}
+use Rattle.pm_commands.specs.Outcome.{Follows, GivesMeshBack, done_with}
+use Rattle.pm_commands.specs.Frames.{ShowsSurfacesOf}
+use Rattle.pm_making.specs.declared.fail.BuildFail.{BuildFail}
+use Rattle.pm_making.specs.declared.fail.BuildFail.TheVariants as fails
+use Rattle.pm_making.specs.Making.{MadeText, IsStreamOf, IsRefusedBy, IsEndOf}
+
+some_inner : {X : Type 0} {x y : X} → Some x ≡ Some y → x ≡ y
+some_inner e = grind (arith, e)
+
+pub stream_of :
+    (IsMade : List ℕ → Result Hierarchy Fault → Option ℕ → Type 0) (asks : Asked) (digits : ℕ)
+    (text bytes : List ℕ) (all : MadeText) → all ≡ record { bytes = bytes; notes = [] }
+    → ShowsSurfacesOf IsMade digits text (Some []) (Some bytes)
+    → GivesMeshBack asks text (Some []) (Some bytes) → IsStreamOf IsMade asks digits text all
+stream_of IsMade asks digits text bytes all is shows back =
+    subst (IsStreamOf IsMade asks digits text) (sym is) (record {
+      h = shows.h;
+      made = shows.built;
+      bytes = some_inner shows.gained;
+      notes = refl;
+      back = back;
+    })
+
+-- What follows has a fault only where what is read has it.
+fault_read :
+    (does : Hierarchy → List ℕ) (read : Result Hierarchy Fault) (place : Option ℕ) (f : Fault)
+    → (done_with (λ h. whole_output (does h)) read place).fault ≡ Some f → read ≡ Err f
+fault_read does (Ok h) place f is = grind (arith, is)
+fault_read does (Err e) place f is = ap Err (some_inner is)
+
+pub faulty_of :
+    (IsMade : List ℕ → Result Hierarchy Fault → Option ℕ → Type 0) (digits : ℕ) (text : List ℕ)
+    (f : Fault) (all : Ran) → Follows (IsMade text) (λ h. whole_output (stream digits h)) all
+    → all.fault ≡ Some f → IsFaulty IsMade text f
+faulty_of IsMade digits text f all out is =
+    let same = fault_read (stream digits) out.read out.place f
+    (sym (ap (λ (r : Ran). r.fault) out.done) ∙ is) in record {
+      place = out.place;
+      is = subst (λ r. IsMade text r out.place) same out.is;
+    }
+
+pub build_refused :
+    (target digits : ℕ) (text : List ℕ) (fail : BuildFail) → IsEndOf (asked.Build target digits) text fail
+    → IsRefusedBy (IsBuilt target digits) text fail
+build_refused target digits text (fails.Faulty f) end =
+    faulty_of (IsBuilt target digits) digits text f end.1.all end.1.outcome end.1.fault_is
+build_refused target digits text fails.OutOfMemory end = tt
+
+pub simplify_refused :
+    (target digits : ℕ) (border : Border) (text : List ℕ) (fail : BuildFail)
+    → IsEndOf (asked.Simplify target digits border) text fail
+    → IsRefusedBy (IsSimplifiedText border target digits) text fail
+simplify_refused target digits border text (fails.Faulty f) end =
+    faulty_of (IsSimplifiedText border target digits) digits text f end.1.all end.1.outcome
+    end.1.fault_is
+simplify_refused target digits border text fails.OutOfMemory end = tt

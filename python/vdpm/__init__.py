@@ -1,0 +1,22 @@
+"""View-dependent progressive meshes in a program's own memory: libvdpm, from Python.
+
+    import vdpm
+
+    stream = vdpm.simplify(open("model.obj", "rb").read())
+    with vdpm.Session(stream) as session:
+        session.view(eye=(0, -30000, 20000), focal=1000, tolerance=20)
+        frame = session.frame()
+        print(len(frame.nodes), "vertices,", len(frame.faces), "faces")
+
+A session stays on the thread that opened it. Coordinates are whole numbers of units of 10 to the
+power of minus `session.sizes().digits`. The library is found by the variable VDPM_LIBRARY, which is
+a path, or else as proved/libvdpm.so or unproved/libvdpm.so beside this package's folder; `version`
+tells which one that is, and whether it was proved.
+"""
+from .faults import Fault, NotOpen
+from .library import Version, version
+from .making import build, simplify
+from .session import Frame, Hit, Moved, Session, Sizes, Strips
+
+__all__ = ["Fault", "Frame", "Hit", "Moved", "NotOpen", "Session", "Sizes", "Strips", "Version",
+           "build", "simplify", "version"]

@@ -1,0 +1,73 @@
+"""Why the library refuses what it is given."""
+from typing import Mapping, Optional, Tuple
+
+# What a fault says of the bytes, the line or the text, what its place counts, and what to do
+# (docs/COMMANDS.md).
+Table = Mapping[int, Tuple[str, str, str]]
+
+OF_STREAM: Table = {
+    11: ("a directed side of this face is one of an earlier face too", "face",
+         "build it again from the mesh"),
+    20: ("it doesn't begin with VDPM", "", "give it what `vdpm build` wrote"),
+    21: ("it has another version than 1 and 2", "version", "build it again with this program"),
+    22: ("it is cut off", "byte", "copy the file again, as binary"),
+    23: ("its counts break their rule", "", "build it again"),
+    24: ("this root isn't in its place", "root", "build it again"),
+    25: ("this base face isn't between three roots", "face", "build it again"),
+    26: ("this record doesn't fit those before it", "record", "build it again"),
+    27: ("this input field has a wrong number", "input", "build it again"),
+    28: ("this record doesn't have beside its faces what it tells", "record",
+         "build it again from the mesh"),
+    29: ("a byte follows it", "", "cut off what follows"),
+    30: ("the line is none of the forms", "",
+         "one space between fields, no blank at an end, no leading zero, no CR"),
+    31: ("the line names no record", "",
+         "records are counted from 0; sizes() tells how many there are"),
+    33: ("it has version 2 and tells another number of decimals than 1 to 4", "digits",
+         "build it again; without decimals a stream has version 1"),
+}
+
+OF_TEXT: Table = {
+    1: ("it has more than 65,536 bytes", "line", "split it"),
+    2: ("it ends with a backslash", "line", "join continued lines"),
+    3: ("it has fewer than three fields after v or f", "line",
+        "complete it: a place has three numbers, and a face three corners"),
+    4: ("it has a field that is no number of the profile, or a corner that is no index", "line",
+        "write plain numbers, or take the text through `prepare`"),
+    5: ("it has a coordinate with a nonzero digit past the last that was asked for", "line",
+        "ask for more digits, or round the mesh: `prepare` does"),
+    6: ("it has a coordinate outside -32,767 to 32,767 units", "line",
+        "ask for fewer digits, or move or scale the mesh: `prepare` does"),
+    7: ("it names vertex 0, or one that isn't read yet", "line",
+        "write vertices before the faces that name them; they are counted from 1"),
+    8: ("it has a face of more than three corners", "line",
+        "triangulate on export, or by `prepare`"),
+    9: ("it is vertex or face 1,048,577, or holds byte 1,073,741,825 of the text", "line",
+        "simplify before"),
+    10: ("it has a face with two equal corners", "line", "remove it"),
+    11: ("a directed side of this face is one of an earlier face too", "face",
+         "turn faces so that neighbours go round the same way, or take the text through `prepare`"),
+    12: ("the faces at this vertex are no fan", "vertex",
+         "split vertices at which parts of a surface only touch, or take the text through "
+         "`prepare`"),
+}
+
+
+class Fault(ValueError):
+    """Bytes that are no stream, a line that can't be done, or a text of which nothing is made.
+
+    `number` and `place` are as the programs tell them, `word` is what the place counts, and `cure`
+    what to do. A line of a text, or a face or vertex of its mesh, is counted from 1.
+    """
+
+    def __init__(self, number: int, place: Optional[int] = None, table: Table = OF_STREAM) -> None:
+        self.number = number
+        meaning, self.word, self.cure = table.get(number, ("it is refused", "", ""))
+        self.place = place if self.word else None
+        where = f" {self.word} {place}" if self.word else ""
+        cure = f" ({self.cure})" if self.cure else ""
+        super().__init__(f"fault {number}{where}: {meaning}{cure}")
+
+
+class NotOpen(ValueError):
+    """The session is closed."""

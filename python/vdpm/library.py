@@ -1,0 +1,137 @@
+"""Finding and loading the library."""
+import ctypes
+import hashlib
+import os
+from pathlib import Path
+from typing import Dict, NamedTuple, Optional, Union
+
+from .faults import OF_STREAM, Fault, NotOpen, Table
+
+FAULTY, OUT_OF_RANGE = 1, 2
+DONE, NO_MEMORY, NOT_SO, NO_ROOM, NO_SUCH, QUIT = 0, 5, 6, 7, 8, 9
+BAD_LINE, NO_RECORD = 30, 31
+NONE = MOST_NUMBER = 0xFFFFFFFF
+BYTES = ctypes.POINTER(ctypes.c_uint8)
+NUMBERS = ctypes.POINTER(ctypes.c_uint32)
+SIGNED = ctypes.POINTER(ctypes.c_int32)
+
+
+class Handle(ctypes.Structure):
+    """A viewer, or what was made. Its fields are the library's own."""
+
+    _fields_ = [("at", ctypes.c_void_p), ("open", ctypes.c_uint32)]
+
+
+class Told(ctypes.Structure):
+    """The fault of a text."""
+
+    _fields_ = [("number", ctypes.c_uint32), ("place", ctypes.c_uint64)]
+
+
+class Version(NamedTuple):
+    """Which file the library is, and what the record beside it tells, as `./prove --status` does.
+
+    Where the file has no record, or is another than was built, all but its path is None.
+    """
+
+    path: str
+    proved: Optional[bool]
+    commit: Optional[str]
+    built: Optional[str]
+    kit: Optional[str]
+    sources: Optional[str]
+
+
+def path_of_library() -> str:
+    """Where the library is."""
+    told = os.environ.get("VDPM_LIBRARY")
+    if told:
+        return told
+    top = Path(__file__).resolve().parent.parent.parent
+    for folder in ("proved", "unproved"):
+        if (top / folder / "libvdpm.so").exists():
+            return str(top / folder / "libvdpm.so")
+    raise FileNotFoundError("libvdpm.so isn't built: ./prove libvdpm proves and builds it, "
+                            "python3 tools/library.py builds it without a proof")
+
+
+def version(library: Optional[str] = None) -> Version:
+    """Tells which library is loaded by default, or that one: whether it was proved, and of which
+    sources it was built, by a sum of them. It isn't looked whether those still stand."""
+    path = library or path_of_library()
+    unknown = Version(path, None, None, None, None, None)
+    try:
+        lines = Path(f"{path}.record").read_text(encoding="utf-8").splitlines()
+        found = hashlib.sha256(Path(path).read_bytes()).hexdigest()
+    except (OSError, ValueError):
+        return unknown
+    said: Dict[str, str] = dict(line.partition(" ")[::2] for line in lines)
+    if said.get("sum") != found:
+        return unknown
+    return Version(path, said.get("proved") == "yes", said.get("commit"), said.get("built"),
+                   said.get("kit"), said.get("sources"))
+
+
+def load(path: Optional[str] = None) -> ctypes.CDLL:
+    """The library, with the types of its functions."""
+    library = ctypes.CDLL(path or path_of_library())
+    handle, size, number = ctypes.POINTER(Handle), ctypes.c_size_t, ctypes.c_uint32
+    text, told, count = ctypes.c_char_p, ctypes.POINTER(Told), ctypes.POINTER(ctypes.c_size_t)
+    types = {
+        "open": [text, size, number, handle, ctypes.POINTER(ctypes.c_uint64)],
+        "line": [handle, text, size],
+        "reply_length": [handle, count],
+        "reply": [handle, BYTES, size],
+        "counts": [handle, NUMBERS],
+        "frame": [handle, NUMBERS, size, SIGNED, size, NUMBERS, size, NUMBERS, size, NUMBERS, size],
+        "splitter": [handle, number, NUMBERS],
+        "maker": [handle, number, NUMBERS],
+        "ancestor": [handle, number, NUMBERS],
+        "place": [handle, number, SIGNED, size],
+        "close": [handle],
+        "build": [text, size, number, number, handle, told],
+        "simplify": [text, size, number, number, number, handle, told],
+        "made_length": [handle, count, count],
+        "made_bytes": [handle, BYTES, size],
+        "made_notes": [handle, BYTES, size],
+        "made_close": [handle],
+    }
+    for name, arguments in types.items():
+        function = getattr(library, f"vdpm_{name}")
+        function.argtypes, function.restype = arguments, number
+    library.vdpm_close.restype = library.vdpm_made_close.restype = None
+    return library
+
+
+def check(status: int, place: Optional[int] = None) -> None:
+    """Raises what a status says."""
+    if status in (DONE, QUIT):
+        return
+    if status == NO_MEMORY:
+        raise MemoryError("libvdpm: memory is wanting")
+    if status == NOT_SO:
+        raise NotOpen("the session is closed")
+    if status == NO_SUCH:
+        raise IndexError("there is no node or leaf with this number")
+    if status == NO_ROOM:
+        raise ValueError("an array has too little room")
+    raise Fault(status, place)
+
+
+def check_made(status: int, told: Told, table: Table) -> None:
+    """Raises what a status says of a text."""
+    if status == FAULTY:
+        raise Fault(told.number, told.place or None, table)
+    check(status)
+
+
+def number_to(most: int, number: int, name: str) -> int:
+    """A number from 0 to `most`: ctypes would cut off what doesn't fit."""
+    if not 0 <= number <= most:
+        raise ValueError(f"{name} is {number}, and not from 0 to {most}")
+    return number
+
+
+def bytes_of(text: Union[str, bytes]) -> bytes:
+    """A text as bytes."""
+    return text.encode() if isinstance(text, str) else bytes(text)

@@ -1,0 +1,134 @@
+"""Tries what the library makes on the cases of tests/cases: python3 tools/test_library_making.py
+
+The library (tools/tried_library.py) is called from Python and from C. What it makes is compared
+byte for byte with what a case stores of the program, and a fault with the one that the case tells.
+"""
+import ctypes
+import hashlib
+import shutil
+import subprocess
+import tempfile
+import unittest
+from pathlib import Path
+from typing import Any, Dict, List
+
+from tried_library import TOP, Asked, cases_of, compiled, runs_that_fail, take_library
+
+import vdpm
+from vdpm.library import DONE, NOT_SO, Handle, Told, load
+
+OCTAHEDRON = TOP / "examples" / "octahedron.obj"
+folder = tempfile.TemporaryDirectory(prefix="library-")
+
+
+def setUpModule() -> None:
+    take_library()
+
+
+def tearDownModule() -> None:
+    folder.cleanup()
+
+
+def asked_for(words: List[str]) -> Dict[str, Any]:
+    """What the words of `build` and `simplify` ask for, which are understood."""
+    told: Dict[str, Any] = {}
+    left = iter(words)
+    for word in left:
+        if word == "--digits":
+            told["digits"] = int(next(left))
+        elif word == "--keep-border":
+            told["keep_border"] = True
+        else:
+            told["faces"] = int(word)
+    return told
+
+
+class Made(unittest.TestCase):
+    def is_made(self, asked: Asked, made: bytes) -> None:
+        if asked.output is not None:
+            self.assertEqual(made, asked.output)
+        else:
+            self.assertEqual(hashlib.sha256(made).hexdigest(), asked.digest)
+
+    def made_as_told(self, asked: Asked, function: Any, told: Dict[str, Any]) -> None:
+        """The same bytes, or the same fault."""
+        if asked.fault is None:
+            self.is_made(asked, function(asked.given, **told))
+            return
+        with self.assertRaises(vdpm.Fault) as raised:
+            function(asked.given, **told)
+        self.assertEqual((raised.exception.number, raised.exception.place), asked.fault)
+        self.assertTrue(raised.exception.cure)
+
+    def test_streams_are_those_of_build(self) -> None:
+        tried = 0
+        for asked in cases_of("vdpm", "build"):
+            with self.subTest(asked.name):
+                self.made_as_told(asked, vdpm.build, asked_for(asked.words[1:]))
+            tried += 1
+        self.assertGreater(tried, 20)
+
+    def test_streams_are_those_of_simplify(self) -> None:
+        tried = 0
+        for asked in cases_of("simplify"):
+            with self.subTest(asked.name):
+                self.made_as_told(asked, vdpm.simplify, asked_for(asked.words))
+            tried += 1
+        self.assertGreater(tried, 5)
+
+    def test_what_is_made_opens(self) -> None:
+        text = OCTAHEDRON.read_text(encoding="ascii")
+        with vdpm.Session(vdpm.simplify(text, digits=2)) as session:
+            self.assertEqual(session.sizes().digits, 2)
+
+    def test_numbers_out_of_range_are_refused(self) -> None:
+        for told in ({"digits": 5}, {"digits": -1}, {"faces": -1}, {"faces": 2 ** 32}):
+            with self.subTest(told), self.assertRaises(ValueError):
+                vdpm.build(OCTAHEDRON.read_bytes(), **told)
+
+
+class Handles(unittest.TestCase):
+    def test_a_handle_has_its_bytes_until_it_is_closed(self) -> None:
+        library, made, fault = load(), Handle(None, 0), Told()
+        text = OCTAHEDRON.read_bytes()
+        length, notes = ctypes.c_size_t(), ctypes.c_size_t()
+        self.assertEqual(library.vdpm_made_length(made, length, notes), NOT_SO)
+        words = (text, len(text), 0, 0, made, fault)
+        self.assertEqual(library.vdpm_build(*words), DONE)
+        self.assertEqual(library.vdpm_build(*words), NOT_SO)
+        self.assertEqual(library.vdpm_made_length(made, length, notes), DONE)
+        self.assertEqual((length.value, notes.value), (len(vdpm.build(text)), 0))
+        library.vdpm_made_close(made)
+        library.vdpm_made_close(made)
+        self.assertEqual(library.vdpm_made_length(made, length, notes), NOT_SO)
+
+
+@unittest.skipUnless(shutil.which("cc"), "there is no cc")
+class FromC(unittest.TestCase):
+    def test_a_stream_from_c(self) -> None:
+        words = [str(compiled("make", Path(folder.name))), "6"]
+        done = subprocess.run(words, input=OCTAHEDRON.read_bytes(), capture_output=True, check=True)
+        self.assertEqual(done.stdout, vdpm.simplify(OCTAHEDRON.read_bytes(), 6))
+
+    def test_each_allocation_failing_in_turn(self) -> None:
+        text = OCTAHEDRON.read_bytes()
+        runs = list(runs_that_fail("make", Path(folder.name), ["6"], text))
+        whole = (0, vdpm.simplify(text, 6))
+        for done in runs:
+            # (some memory can be done without)
+            wants = b"status 5" in done.stderr
+            self.assertEqual((done.returncode, done.stdout), (1, b"") if wants else whole)
+        self.assertEqual((runs[-1].returncode, runs[-1].stdout), whole)
+        self.assertGreater(len(runs), 20)
+
+    @unittest.skipUnless(shutil.which("valgrind"), "there is no valgrind")
+    def test_valgrind_finds_nothing(self) -> None:
+        words = ["valgrind", "-q", "--leak-check=full", "--error-exitcode=9"]
+        words += [str(compiled("make", Path(folder.name))), "6"]
+        text = OCTAHEDRON.read_bytes()
+        done = subprocess.run(words, input=text, capture_output=True, check=False)
+        self.assertEqual((done.returncode, done.stderr), (0, b""))
+
+
+if __name__ == "__main__":
+    unittest.main()
