@@ -3,7 +3,7 @@
  * A viewer is one hierarchy that is being shown: the bytes of a stream, a front of it, and the
  * reply to the last script line. It does what `vdpm live` does (docs/COMMANDS.md,
  * docs/FORMATS.md), without a process and without text where arrays serve better. Streams are made
- * here too: vdpm_build and vdpm_simplify do what `vdpm build` and `simplify` do with a text.
+ * here too: vdpm_prepare, vdpm_build and vdpm_simplify do what the programs do with a text.
  * docs/LIBRARY.md tells how to build and use it, and what is proved of it.
  *
  * Ownership. A vdpm_viewer is the caller's: a variable or a field, all zero at first
@@ -149,6 +149,14 @@ uint32_t vdpm_build(const uint8_t *text, size_t length, uint32_t faces, uint32_t
  * `keep_border` isn't 0, with its `--keep-border`: each frame shows the border of the mesh. */
 uint32_t vdpm_simplify(const uint8_t *text, size_t length, uint32_t faces, uint32_t digits,
                        uint32_t keep_border, vdpm_made *made, vdpm_fault *fault);
+
+/* Makes any OBJ text fit for the two above, as `prepare` does: vdpm_made_bytes has the text then,
+ * and vdpm_made_notes the lines that the program says of it. `size` is 0, and points that fit the
+ * grid stand as they are, or from 1 to 32,767: the longest axis of the box goes from -size to size.
+ * A fault of a line has that as its place. Answers as vdpm_build does; VDPM_OUT_OF_RANGE is for a
+ * greater size. */
+uint32_t vdpm_prepare(const uint8_t *text, size_t length, uint32_t size, vdpm_made *made,
+                      vdpm_fault *fault);
 
 /* Tells how many bytes were made, and how many the lines have that are said beside them: 0 after
  * vdpm_build and vdpm_simplify. */

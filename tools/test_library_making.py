@@ -76,12 +76,31 @@ class Made(unittest.TestCase):
             tried += 1
         self.assertGreater(tried, 5)
 
+    def test_texts_and_notes_are_those_of_prepare(self) -> None:
+        tried = 0
+        for asked in cases_of("prepare"):
+            if len(asked.words) > 1 or not all(it.isdigit() for it in asked.words):
+                continue
+            told = {"size": int(it) for it in asked.words}
+            if not all(1 <= it <= 32767 for it in told.values()):
+                continue
+            with self.subTest(asked.name):
+                self.made_as_told(asked, lambda text, **told: vdpm.prepare(text, **told).text, told)
+                if asked.fault is None:
+                    notes = vdpm.prepare(asked.given, **told).notes
+                    self.assertEqual("".join(f"{it}\n" for it in notes).encode(), asked.errors)
+            tried += 1
+        self.assertGreater(tried, 30)
+
     def test_what_is_made_opens(self) -> None:
         text = OCTAHEDRON.read_text(encoding="ascii")
         with vdpm.Session(vdpm.simplify(text, digits=2)) as session:
             self.assertEqual(session.sizes().digits, 2)
 
     def test_numbers_out_of_range_are_refused(self) -> None:
+        for size in (0, -1, 32768):
+            with self.subTest(size), self.assertRaises(ValueError):
+                vdpm.prepare(OCTAHEDRON.read_bytes(), size)
         for told in ({"digits": 5}, {"digits": -1}, {"faces": -1}, {"faces": 2 ** 32}):
             with self.subTest(told), self.assertRaises(ValueError):
                 vdpm.build(OCTAHEDRON.read_bytes(), **told)

@@ -2,7 +2,8 @@
 
     import vdpm
 
-    stream = vdpm.simplify(open("model.obj", "rb").read())
+    fit = vdpm.prepare(open("model.obj", "rb").read())
+    stream = vdpm.simplify(fit.text)
     with vdpm.Session(stream) as session:
         session.view(eye=(0, -30000, 20000), focal=1000, tolerance=20)
         frame = session.frame()
@@ -15,8 +16,8 @@ tells which one that is, and whether it was proved.
 """
 from .faults import Fault, NotOpen
 from .library import Version, version
-from .making import build, simplify
+from .making import Prepared, build, prepare, simplify
 from .session import Frame, Hit, Moved, Session, Sizes, Strips
 
-__all__ = ["Fault", "Frame", "Hit", "Moved", "NotOpen", "Session", "Sizes", "Strips", "Version",
-           "build", "simplify", "version"]
+__all__ = ["Fault", "Frame", "Hit", "Moved", "NotOpen", "Prepared", "Session", "Sizes", "Strips",
+           "Version", "build", "prepare", "simplify", "version"]

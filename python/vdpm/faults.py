@@ -52,6 +52,23 @@ OF_TEXT: Table = {
          "`prepare`"),
 }
 
+OF_ANY_TEXT: Table = {
+    1: ("it has more than 65,536 bytes, alone or with the lines that it continues", "line",
+        "split it"),
+    2: ("it is continued, and the text ends", "line", "the text is cut off: copy it again"),
+    3: ("it has fewer than three fields after v or f", "line", "complete it"),
+    4: ("it has a field that is no number", "line", "write numbers"),
+    6: ("it has an exponent above 999, or a coordinate above 10^14", "line", "scale the mesh"),
+    7: ("it names vertex 0, or one that isn't read yet", "line",
+        "write vertices before the faces that name them; they are counted from 1"),
+    9: ("it is vertex or triangle 1,048,577, or holds byte 1,073,741,825 of the text; without a "
+        "line, as many vertices come out", "line", "simplify before"),
+    10: ("the text has 16 bits a letter", "line", "write it anew as UTF-8"),
+    11: ("it has a CR that doesn't end it", "line", "end lines with LF"),
+    12: ("no face comes out", "",
+         "a point cloud has no faces; where all became edges, a vertex may lie far away"),
+}
+
 
 class Fault(ValueError):
     """Bytes that are no stream, a line that can't be done, or a text of which nothing is made.
@@ -64,7 +81,7 @@ class Fault(ValueError):
         self.number = number
         meaning, self.word, self.cure = table.get(number, ("it is refused", "", ""))
         self.place = place if self.word else None
-        where = f" {self.word} {place}" if self.word else ""
+        where = f" {self.word} {place}" if self.place is not None else ""
         cure = f" ({self.cure})" if self.cure else ""
         super().__init__(f"fault {number}{where}: {meaning}{cure}")
 

@@ -91,6 +91,7 @@ def load(path: Optional[str] = None) -> ctypes.CDLL:
         "close": [handle],
         "build": [text, size, number, number, handle, told],
         "simplify": [text, size, number, number, number, handle, told],
+        "prepare": [text, size, number, handle, told],
         "made_length": [handle, count, count],
         "made_bytes": [handle, BYTES, size],
         "made_notes": [handle, BYTES, size],

@@ -1,12 +1,19 @@
-"""Making a stream of a text."""
+"""Making a text fit, and making a stream of it."""
 import ctypes
-from typing import Any, Optional, Tuple, Union
+from typing import Any, NamedTuple, Optional, Tuple, Union
 
-from .faults import OF_TEXT, Table
+from .faults import OF_ANY_TEXT, OF_TEXT, Table
 from .library import (MOST_NUMBER, Handle, Told, bytes_of, check, check_made, load, number_to)
 
-MOST_DIGITS = 4
+MOST_DIGITS, MOST_SIZE = 4, 32767
 Text = Union[str, bytes]
+
+
+class Prepared(NamedTuple):
+    """An OBJ text that is fit for `build` and `simplify`, and what was done, a line each."""
+
+    text: bytes
+    notes: Tuple[str, ...]
 
 
 def _made(library: ctypes.CDLL, table: Table, function: Any, *asked: Any) -> Tuple[bytes, bytes]:
@@ -50,3 +57,18 @@ def simplify(text: Text, faces: int = 0, digits: int = 0, keep_border: bool = Fa
     number_to(MOST_DIGITS, digits, "digits")
     return _made(loaded, OF_TEXT, loaded.vdpm_simplify, data, len(data), faces, digits,
                  bool(keep_border))[0]
+
+
+def prepare(text: Text, size: Optional[int] = None, library: Optional[str] = None) -> Prepared:
+    """Makes any OBJ text fit for `build` and `simplify`, as the program `prepare` does.
+
+    Without a size, points that fit the grid stand as they are; with one, from 1 to 32,767, the
+    longest axis of the box goes from -size to size.
+
+    Raises Fault, with the line, where the program refuses the text; ValueError; and MemoryError.
+    """
+    data, loaded = bytes_of(text), load(library)
+    if size is not None and not 1 <= size <= MOST_SIZE:
+        raise ValueError(f"size is {size}, and not from 1 to {MOST_SIZE}")
+    made, notes = _made(loaded, OF_ANY_TEXT, loaded.vdpm_prepare, data, len(data), size or 0)
+    return Prepared(made, tuple(notes.decode().splitlines()))

@@ -49,6 +49,7 @@ fn main(rt: HostRuntime) {
     let (mut fault, mut notes) = (NO_FAULT, 0usize);
     making::vdpm_build(alloc, b"", 0, 0, &mut made, &mut fault);
     making::vdpm_simplify(alloc, b"", 0, 0, 0, &mut made, &mut fault);
+    making::vdpm_prepare(alloc, b"", 0, &mut made, &mut fault);
     making::vdpm_made_length(alloc, &mut made, &mut length, &mut notes);
     making::vdpm_made_bytes(alloc, &mut made, &mut bytes);
     making::vdpm_made_notes(alloc, &mut made, &mut bytes);

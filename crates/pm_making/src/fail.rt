@@ -15,6 +15,15 @@ pub enum BuildFail {
     OutOfMemory,
 }
 
+/// Why no text is made fit.
+#[derive(Clone, Copy, Debug, PartialEq, Eq)]
+pub enum PrepareFail {
+    /// The text has a fault, or too much or nothing would come of it.
+    Faulty(obj_fit::Fault),
+    /// Memory was wanting.
+    OutOfMemory,
+}
+
 // A fault with its place.
 fn placed(number: u32, place: u32) -> Cause
     ensures number { result.number ≡ number }

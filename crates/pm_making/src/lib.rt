@@ -1,11 +1,13 @@
-//! Making in memory: the stream of an OBJ text's mesh, as bytes of bytes.
+//! Making in memory: of the bytes of an OBJ text those that the programs write of it.
 #![tactic(auto)]
 
 mod building;
 mod fail;
 mod gathered;
 mod made;
+mod preparing;
 
 pub use building::{build, simplify};
-pub use fail::{BuildFail, text_cause_of};
+pub use fail::{BuildFail, PrepareFail, text_cause_of};
 pub use made::Made;
+pub use preparing::prepare;

@@ -1,11 +1,13 @@
 -- What crosses to C of what is made of a text.
-use Rattle.std.specs.Prelude.{◌≡◌, ℕ, zero, suc, List, Option, Some, IsSome, Result}
+use Rattle.std.specs.Prelude.{◌≡◌, ℕ, zero, suc, List, Option, None, Some, IsSome, Result}
 use Rattle.pm_forest.specs.Forest.{Hierarchy}
 use Rattle.pm_commands.specs.declared.asked.Border.{Border}
 use Rattle.pm_commands.specs.declared.asked.Border.TheVariants as borders
 use Rattle.pm_commands.specs.declared.fault.Fault.{Fault}
 use Rattle.pm_commands.specs.Input.{IsFaulty}
 use Rattle.pm_viewer.specs.Causes.{Tells}
+use Rattle.obj_fit.specs.declared.fault.Fault as fit
+use Rattle.obj_fit.specs.Fails.{HasPreparedFault, number_of, line_of}
 use Rattle.pm_making.specs.declared.fail.BuildFail.{BuildFail}
 use Rattle.pm_making.specs.declared.fail.BuildFail.TheVariants as fails
 use Rattle.pm_making.specs.Making.{MadeText}
@@ -45,3 +47,15 @@ pub record RefusedText
 abbrev pub border_told : ℕ → Border
 border_told zero = borders.Free
 border_told (suc n) = borders.Kept
+
+-- The size that is told by a number: 0 tells none.
+abbrev pub size_told : ℕ → Option ℕ
+size_told zero = None
+size_told (suc n) = Some (suc n)
+
+-- The text was refused as `prepare` refuses it, and this is the number of its fault, and its line.
+pub record UnfitText (size : Option ℕ) (text : List ℕ) (told : FaultTold) : Type 0 where
+  pub fault : fit.Fault
+  pub is : HasPreparedFault size text fault
+  pub number_is : told.number ≡ number_of fault
+  pub place_is : told.place ≡ place_told (line_of fault)

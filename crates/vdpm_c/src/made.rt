@@ -1,12 +1,14 @@
 //! What becomes of what was made, or of why nothing was.
-ghost use Rattle.std.specs.Prelude.{◌≡◌, ◌≢◌};
-ghost use Rattle.vdpm_c.specs.Making.{HasMade, FaultIsTold, border_told};
+ghost use Rattle.std.specs.Prelude.{◌≡◌, ◌≢◌, ◌≤◌, ℕ, List, Option};
+ghost use Rattle.obj_prepare.specs.Placing.{IsSize};
+ghost use Rattle.pm_making.specs.Fitting.{IsUnfit};
+ghost use Rattle.vdpm_c.specs.Making.{HasMade, FaultIsTold, UnfitText, border_told, size_told};
 
 use crate::holding::put_made;
 use crate::statuses::{DONE, FAULTY, NO_MEMORY};
 use crate::tables::{FaultTold, MadeHandle};
 use pm_commands::Border;
-use pm_making::{BuildFail, Made, text_cause_of};
+use pm_making::{BuildFail, Made, PrepareFail, text_cause_of};
 use std::alloc::Global;
 
 // What becomes of the border.
@@ -48,6 +50,30 @@ pub(crate) fn refused(fail: BuildFail, fault: &mut FaultTold) -> u32
     *fault = FaultTold {
         number: cause.number,
         place: cause.place.unwrap_or(0),
+    };
+    FAULTY
+}
+
+// The size that is asked for, if one is.
+pub(crate) fn size_told(size: u32) -> Option<u32>
+    ensures value { result ≡ size_told size }
+    ensures fits { size ≤ 32767 → IsSize result }
+{
+    if size == 0 { None } else { Some(size) }
+}
+
+// The fault of a text that isn't made fit goes out.
+pub(crate) fn unfit(fail: PrepareFail, fault: &mut FaultTold) -> u32
+    ensures status { result ≢ 1 → result ≡ 5 }
+    ensures told { (size : Option ℕ) (text : List ℕ)
+        → IsUnfit size text fail → result ≡ 1 → UnfitText size text fault.new }
+{
+    let PrepareFail::Faulty(why) = fail else {
+        return NO_MEMORY;
+    };
+    *fault = FaultTold {
+        number: why.number(),
+        place: why.line().map_or(0, u64::from),
     };
     FAULTY
 }

@@ -3,8 +3,10 @@ ghost use Rattle.std.specs.Prelude.{◌≡◌, ◌≢◌, ◌≤◌, ◌<◌, �
 ghost use Rattle.pm_commands.specs.declared.asked.Asked.TheVariants as asked;
 ghost use Rattle.pm_commands.specs.Build.{IsBuilt};
 ghost use Rattle.pm_commands.specs.Simplified.{IsSimplifiedText};
+ghost use Rattle.obj_fit.specs.Laws.{IsFitText};
 ghost use Rattle.pm_making.specs.Making.{MadeText, IsStreamOf};
-ghost use Rattle.vdpm_c.specs.Making.{IsWhole, HasMade, RefusedText, border_told};
+ghost use Rattle.pm_making.specs.Fitting.{IsPreparedOf};
+ghost use Rattle.vdpm_c.specs.Making.{IsWhole, HasMade, RefusedText, UnfitText, border_told, size_told};
 
 use crate::holding::{put_made, take_made};
 use crate::statuses::{DONE, NOT_SO, OUT_OF_RANGE};
@@ -74,6 +76,35 @@ pub extern "C" fn vdpm_simplify(
     match pm_making::simplify(alloc, text, faces, digits, made::border_told(keep_border)) {
         Ok(it) => made::keep(alloc, it, handle),
         Err(fail) => made::refused(fail, fault),
+    }
+}
+
+/// Makes any OBJ text fit, as the program `prepare` does.
+#[unsafe(no_mangle)]
+pub extern "C" fn vdpm_prepare(
+    alloc: Global,
+    text: &[u8],
+    size: u32,
+    handle: &mut MadeHandle,
+    fault: &mut FaultTold,
+) -> u32
+    ensures done { result ≡ 0 → (m : MadeText) × HasMade handle.new m
+        × IsPreparedOf (size_told size) text.now m × IsFitText m.bytes }
+    ensures refused { result ≡ 1 → UnfitText (size_told size) text.now fault.new }
+    ensures out_of_range { result ≡ 2 ↔ (handle.old.open ≡ 0) × (32767 < size) }
+    ensures not_so { result ≡ 6 ↔ (handle.old.open ≢ 0) }
+    ensures as_before { result ≢ 0 → handle.new ≡ handle.old }
+{
+    *fault = NO_FAULT;
+    if handle.open != 0 {
+        return NOT_SO;
+    }
+    if size > 32767 {
+        return OUT_OF_RANGE;
+    }
+    match pm_making::prepare(alloc, text, made::size_told(size)) {
+        Ok(it) => made::keep(alloc, it, handle),
+        Err(fail) => made::unfit(fail, fault),
     }
 }
 
