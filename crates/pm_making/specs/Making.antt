@@ -16,8 +16,8 @@ pub record MadeText : Type 0 where
   pub notes : List ℕ
 
 -- The bytes are the stream text of a hierarchy that is made of the text, where `IsMade` says which,
--- and lead back to the text's mesh: `expand` does with them what `canon` does with the text. Nothing
--- is said beside them.
+-- and lead back to the text's mesh: `expand` does with them what `canon` does with the text.
+-- Nothing is said beside them.
 pub record IsStreamOf
     (IsMade : List ℕ → Result Hierarchy Fault → Option ℕ → Type 0) (asks : Asked) (digits : ℕ)
     (text : List ℕ) (all : MadeText) : Type 0 where

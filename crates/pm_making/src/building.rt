@@ -73,8 +73,8 @@ pub fn build(alloc: Global, text: &[u8], target: u32, digits: u32) -> Result<Mad
     }
 }
 
-/// Makes of an OBJ text the bytes that the program `simplify` writes: its run is by finer costs than
-/// that of `build`, and a border that is kept is shown by every frame. Else it is as `build`.
+/// Makes of an OBJ text the bytes that the program `simplify` writes: its run is by finer costs
+/// than that of `build`, and a border that is kept is shown by every frame. Else it is as `build`.
 #[tactic(auto, using(crate::proofs::EndLaws::stream_of, crate::proofs::EndLaws::simplify_refused))]
 pub fn simplify(
     alloc: Global,

@@ -6,8 +6,8 @@ use pm_io::{Failed, Sink};
 use std::alloc::Global;
 use std::marker::Model;
 
-/// A sink in memory that grows. It fails only where memory for a piece is wanting, and takes nothing
-/// of it then.
+/// A sink in memory that grows. It fails only where memory for a piece is wanting, and takes
+/// nothing of it then.
 #[derive(Drop)]
 pub(crate) struct Gathered {
     bytes: Vec<u8>,

@@ -11,11 +11,11 @@ use obj_fit::{InputFail, make, outcomes_are_sound, write_made};
 use pm_io::SureSource;
 use std::alloc::Global;
 
-/// Makes of any OBJ text the bytes that the program `prepare` writes, and beside them the lines that
-/// it says: a text that `build` takes. Without a size, points that fit the grid stand as they are;
-/// with one, from 1 to 32,767, the longest axis of the box goes from -size to size. It is refused
-/// exactly where `prepare` refuses the text, or where memory is wanting. The text is copied once; all
-/// else costs what it does in `prepare`.
+/// Makes of any OBJ text the bytes that the program `prepare` writes, and beside them the lines
+/// that it says: a text that `build` takes. Without a size, points that fit the grid stand as they
+/// are; with one, from 1 to 32,767, the longest axis of the box goes from -size to size. It is
+/// refused exactly where `prepare` refuses the text, or where memory is wanting. The text is copied
+/// once; all else costs what it does in `prepare`.
 pub fn prepare(alloc: Global, text: &[u8], size: Option<u32>) -> Result<Made, PrepareFail>
     requires size { IsSize size }
     ensures made { IfOk result (IsPreparedOf size text.now) }

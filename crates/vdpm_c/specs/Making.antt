@@ -23,8 +23,8 @@ IsWhole handle = handle.open ≡ 1 → IsSome handle.slot.value
 abbrev pub HasMade : MadeHandle → MadeText → Type 0
 HasMade handle m = (handle.open ≡ 1) × (handle.slot.value ≡ Some m)
 
--- This is the number of the fault for which nothing is made, and its place, as the line says them that
--- the program says.
+-- This is the number of the fault for which nothing is made, and its place, as the line says them
+-- that the program says.
 pub record FaultIsTold (fail : BuildFail) (told : FaultTold) : Type 0 where
   pub fault : Fault
   pub is : fail ≡ fails.Faulty fault
@@ -32,8 +32,8 @@ pub record FaultIsTold (fail : BuildFail) (told : FaultTold) : Type 0 where
   pub place_is : told.place ≡ place_told place
   pub tells : Tells fault told.number place
 
--- The text was refused as the program refuses it, where `IsMade` says what it makes, and the line that
--- it says has this number and this place.
+-- The text was refused as the program refuses it, where `IsMade` says what it makes, and the line
+-- that it says has this number and this place.
 pub record RefusedText
     (IsMade : List ℕ → Result Hierarchy Fault → Option ℕ → Type 0) (text : List ℕ)
     (told : FaultTold) : Type 0 where

@@ -11,8 +11,8 @@ use std::alloc::Global;
 use std::marker::Model;
 use std::ptr::null_mut;
 
-/// Where what was made stands, if anything was. The pointer is one to bytes, since no other may cross
-/// to C; what was made is what it owns.
+/// Where what was made stands, if anything was. The pointer is one to bytes, since no other may
+/// cross to C; what was made is what it owns.
 #[repr(C)]
 #[derive(Drop)]
 pub struct MadeSlot {

@@ -1,4 +1,5 @@
-//! The exported functions that make bytes of an OBJ text. Each answers a status: 0 where all was done.
+//! The exported functions that make bytes of an OBJ text. Each answers a status: 0 where all was
+//! done.
 ghost use Rattle.std.specs.Prelude.{◌≡◌, ◌≢◌, ◌≤◌, ◌<◌, ◌↔◌, None, length, take};
 ghost use Rattle.pm_commands.specs.declared.asked.Asked.TheVariants as asked;
 ghost use Rattle.pm_commands.specs.Build.{IsBuilt};

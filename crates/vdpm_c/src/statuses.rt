@@ -1,5 +1,5 @@
-//! What the exported functions answer. A fault of a stream is answered by its own number, which is 11
-//! or more; one of an OBJ text is told beside the answer.
+//! What the exported functions answer. A fault of a stream is answered by its own number, which is
+//! 11 or more; one of an OBJ text is told beside the answer.
 
 /// It was done.
 pub(crate) const DONE: u32 = 0;
