@@ -5,6 +5,7 @@
 mod choice;
 mod counts;
 mod edges;
+mod inward;
 mod patches;
 mod sides;
 mod theory;
@@ -14,6 +15,7 @@ mod volumes;
 pub use choice::{Turned, chosen_turns};
 pub use counts::TurnCounts;
 pub use edges::side_mates;
+pub use inward::inside_out_by;
 use std::alloc::AllocError;
 pub use theory::{
     chosen_turns_are_sound, turn_counts_are_sound, turns_are_sound, unions_are_sound,
