@@ -34,7 +34,7 @@ use Rattle.obj_fit.proofs.RecutLaws.{cut_below}
 use Rattle.obj_fit.proofs.ScannedLaws.{meaning_sound}
 use Rattle.obj_fit.proofs.ReadLaws.{made_on_grid, mesh_is_read, made_scanned}
 use Rattle.obj_fit.proofs.StandingLaws.{standing_fit, standing_places}
-use Rattle.obj_fit.proofs.RestoredLaws.{none_flat, none_double, none_unnamed, split_as_joined}
+use Rattle.obj_prepare.proofs.RestoredLaws.{none_flat, none_double, none_unnamed, split_as_joined}
 
 -- The numbers of what was done to make a mesh.
 numbers : (m : Mesh) → IsPrepared m.points m.faces m → Notes

@@ -7,7 +7,6 @@ pub mod HeadLaws
 pub mod ReadLaws
 pub mod RecutLaws
 pub mod StandingLaws
-pub mod RestoredLaws
 pub mod NothingLaws
 pub mod AgainLaws
 pub mod StayLaws

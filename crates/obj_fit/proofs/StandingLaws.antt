@@ -1,5 +1,5 @@
 -- Places of the grid, spelled in units of 10^-18, stand on the grid as they are where faces use all of them.
-use Rattle.std.proofs.Common.{◌≡◌, ℕ, suc, ◌*◌, ◌/◌, ◌%◌, ◌^◌, ◌<◌, ◌≤◌, Bool, true, false, ◌==◌, nat_le, refl, sym, ap, ◌∙◌, subst, None, List, [], ◌∷◌, length, map, get_or, ℤ, pos, negsuc, arith}
+use Rattle.std.proofs.Common.{◌≡◌, ℕ, suc, ◌*◌, ◌/◌, ◌%◌, ◌^◌, ◌<◌, ◌≤◌, Bool, true, false, ◌==◌, nat_le, refl, sym, ap, ◌∙◌, None, List, [], ◌∷◌, length, map, get_or, ℤ, pos, negsuc, arith}
 use Rattle.std.specs.Prelude.{unsigned_abs}
 use Rattle.std.specs.Int.Signed.{lt_z}
 use Rattle.std.specs.List.{All, list_all}
@@ -12,16 +12,15 @@ use Rattle.pm_base.specs.declared.mesh.Corners.{Corners}
 use Rattle.pm_base.specs.Place.{Place, IsPlace}
 use Rattle.pm_base.specs.Sides.{net_of}
 use Rattle.pm_base.specs.Fans.{IsUsed}
-use Rattle.pm_base.proofs.NetLaws.{face_at}
 use Rattle.obj_read.specs.Coordinates.{with_sign}
 use Rattle.obj_scan.specs.Laws.{in_units, scaled_up}
 use Rattle.obj_prepare.specs.declared.placing.Fit.{Fit}
 use Rattle.obj_prepare.specs.declared.placing.Fit.TheVariants as fits
 use Rattle.obj_prepare.specs.Whole.{is_whole_coordinate, whole_part_of, stands_on_grid}
-use Rattle.obj_prepare.specs.Named.{is_some_corner, named_in, chosen}
+use Rattle.obj_prepare.specs.Named.{named_in, chosen}
 use Rattle.obj_prepare.specs.Placing.{fit_for, places_by, fit_of, prepared_places_of}
 use Rattle.obj_prepare.proofs.NamedLaws.{length-named_in, named_at}
-use Rattle.obj_prepare.proofs.PieceLaws.{corners_named, corner_in_has}
+use Rattle.obj_prepare.proofs.RestoredLaws.{used_named}
 use Rattle.obj_fit.proofs.GridLaws.{chosen_all}
 
 up_abs : (n : ℤ) → unsigned_abs (in_units n) ≡ 10 ^ 18 * unsigned_abs n
@@ -62,12 +61,6 @@ standing_fit places faces all =
     let Stands : Place → Type 0 = λ p. stands_on_grid p ≡ true in
     fit_none (chosen flags points)
     (list_all-from_AllPass stands_on_grid (chosen flags points) (chosen_all Stands flags points (All-map Stands scaled_up places (λ i d l. place_stands (get_or places i d) (all i d l)))))
-
-pub used_named : (faces : List Corners) (v : ℕ) → IsUsed (net_of faces) v → is_some_corner faces v ≡ true
-used_named faces v (e, t, at) =
-    let side = t.is_side in
-    let are = corners_named faces (e / 3) (omega arith) in
-    subst (λ i. is_some_corner faces i ≡ true) at (corner_in_has (λ i. is_some_corner faces i ≡ true) (face_at faces (e / 3)) (e % 3) are.a are.b are.c)
 
 places_back : (flags : List Bool) (ps : List Place) → length flags ≡ length ps → ((v : ℕ) → v < length ps → get_or flags v false ≡ true) → places_by fits.Standing flags (map scaled_up ps) ≡ ps
 places_back [] [] same named = refl

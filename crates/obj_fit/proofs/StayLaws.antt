@@ -37,7 +37,9 @@ use Rattle.obj_fit.specs.Laws.{NeedsNothing, as_it_is, FitScansStay, FitTextsSta
 use Rattle.obj_fit.proofs.RecutLaws.{cut_long, cut_named, cut_within}
 use Rattle.obj_fit.proofs.ScannedLaws.{meaning_sound}
 use Rattle.obj_fit.proofs.StandingLaws.{standing_fit, standing_places}
-use Rattle.obj_fit.proofs.NothingLaws.{nothing_done, nothing_told, nothing_said, no_account, no_warning}
+use Rattle.obj_prepare.specs.Nothing.{nothing_done}
+use Rattle.obj_prepare.proofs.NothingLaws.{nothing_told}
+use Rattle.obj_fit.proofs.NothingLaws.{nothing_said, no_account, no_warning}
 
 -- A mesh that is made of itself is well formed.
 itself_formed : (places : List Place) (faces : List Corners) → IsWithinMesh (length places) faces

@@ -19,6 +19,10 @@ pub mod FitMeshes
 pub mod CountLaws
 pub mod KeptCounts
 pub mod AccountLaws
+pub mod RestoredLaws
+pub mod NothingLaws
+pub mod FittingLaws
+pub mod WholeLaws
 pub mod ThreeLaws
 pub mod LongestLaws
 pub mod WithinLaws

@@ -12,4 +12,5 @@ pub mod Prepared
 pub mod Pieces
 pub mod PrepareFails
 pub mod Back
+pub mod Nothing
 pub mod Laws

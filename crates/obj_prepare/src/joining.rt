@@ -68,9 +68,9 @@ fn raised(n: i32) -> u64
     u64::from((n + GREATEST_COORDINATE as i32).unsigned_abs())
 }
 
-// A place as one number.
+/// A place as one number.
 #[tactic(auto, unfolding(crate::specs::Firsts::place_key))]
-fn place_key(p: &Point) -> u64
+pub(crate) fn place_key(p: &Point) -> u64
     ensures value { result ≡ place_key_of p.now }
     ensures place { IsPlace p.now }
 {

@@ -1,12 +1,14 @@
 //! What makes any text in the syntax of Wavefront OBJ fit: decimals of any length, and points scaled onto the grid.
 #![tactic(auto)]
 
+mod apart;
 mod counting;
 mod decimal;
 mod different;
 mod digits;
 mod exact;
 mod extents;
+mod fitting;
 mod joining;
 mod longest;
 mod named;

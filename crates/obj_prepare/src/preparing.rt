@@ -12,6 +12,7 @@ ghost use Rattle.obj_prepare.specs.Pieces.{ArePieces};
 
 use crate::OutOfMemory;
 use crate::counting::{count_flat, count_gone, count_joined, count_set};
+use crate::fitting::as_they_stand;
 use crate::joining::{joined, joined_faces};
 use crate::named::named;
 use crate::notes::Notes;
@@ -102,8 +103,8 @@ fn count_up(
     })
 }
 
-// A list in the form that a mesh has.
-fn held<T: Copy>(alloc: Global, items: &[T]) -> Result<Items<T>, OutOfMemory>
+/// A list in the form that a mesh has.
+pub(crate) fn held<T: Copy>(alloc: Global, items: &[T]) -> Result<Items<T>, OutOfMemory>
     ensures { IfOk result (λ list. list.items ≡ items.now) }
 {
     let mut list = Items::new(alloc);
@@ -150,6 +151,11 @@ pub fn prepare(alloc: Global, places: &[Point], faces: &[Corners]) -> Result<Pre
     ensures manifold { IfOk result (λ p. IsOrientedManifold (net_of p.mesh.faces.items)) }
     ensures err { IfErr result (IsPrepareFail places.now faces.now) }
 {
+    match as_they_stand(alloc, places, faces) {
+        Ok(Some(prepared)) => return Ok(prepared),
+        Ok(None) => {}
+        Err(_) => return Err(PrepareFail::OutOfMemory),
+    }
     let Ok(pieces) = cut_up(alloc, places, faces) else {
         return Err(PrepareFail::OutOfMemory);
     };

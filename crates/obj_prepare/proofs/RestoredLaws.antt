@@ -1,6 +1,6 @@
 -- Where a mesh is made of itself no triangle goes, and as many vertices are split off as were
 -- joined.
-use Rattle.std.proofs.Common.{◌≡◌, ℕ, ◌+◌, ◌<◌, true, not, ◌&&◌, ◌||◌, ◌==◌, inl, inr, refl, sym, ap, ◌∙◌, subst, List, [], ◌∷◌, ◌++◌, length, get_or, arith, length-append, append_assoc}
+use Rattle.std.proofs.Common.{◌≡◌, ℕ, ◌+◌, ◌/◌, ◌%◌, ◌<◌, true, not, ◌&&◌, ◌||◌, ◌==◌, inl, inr, refl, sym, ap, ◌∙◌, subst, List, [], ◌∷◌, ◌++◌, length, get_or, arith, length-append, append_assoc}
 use Rattle.std.specs.List.{All}
 use Rattle.std.proofs.lemmas.Bool.{cases_Bool, cases_order, cond-true, cond-false, and_parts, or_cases, or_left, or_right, eq-eqb, eqb-true, ne_eqb, false≢true, true≢false}
 use Rattle.std.proofs.lemmas.List.{length-map, append-nil}
@@ -19,7 +19,15 @@ use Rattle.obj_prepare.specs.Prepared.{staying, IsPrepared, joined_count, flat_c
 use Rattle.pm_turn.proofs.TurnedFaces.{turned_length}
 use Rattle.obj_prepare.proofs.CountLaws.{count_both}
 use Rattle.obj_prepare.proofs.KeptCounts.{kept_and_flat}
-use Rattle.obj_fit.proofs.StandingLaws.{used_named}
+use Rattle.pm_base.proofs.NetLaws.{face_at}
+use Rattle.obj_prepare.proofs.PieceLaws.{corners_named, corner_in_has}
+
+-- A used vertex is named.
+pub used_named : (faces : List Corners) (v : ℕ) → IsUsed (net_of faces) v → is_some_corner faces v ≡ true
+used_named faces v (e, t, at) =
+    let side = t.is_side in
+    let are = corners_named faces (e / 3) (omega arith) in
+    subst (λ i. is_some_corner faces i ≡ true) at (corner_in_has (λ i. is_some_corner faces i ≡ true) (face_at faces (e / 3)) (e % 3) are.a are.b are.c)
 
 -- Where as many stay, all do.
 all_kept : (before fs : List Corners) → length (kept_after before fs) ≡ length before + length fs
