@@ -7,6 +7,8 @@ use Rattle.std.proofs.lemmas.List.{drop_all}
 use Rattle.std.proofs.lemmas.Nat.{pow-add}
 use Rattle.pm_io.specs.Digits.{is_digit, are_digits, value}
 use Rattle.obj_lines.specs.Text.{until}
+use Rattle.obj_read.proofs.WrittenLaws.{whole_number}
+use Rattle.obj_scan.specs.Digits.{IsOfDigits}
 use Rattle.obj_read.specs.Coordinates.{is_negative, without_sign, whole_part, decimals, is_number, are_zeros, with_sign, padded, magnitude, coordinate}
 use Rattle.obj_prepare.specs.Numbers.{nearest, mantissa, exponent_part, exponent_text, is_exponent, is_decimal, exponent, all_digits, shifted, units_of_text, decimal_coordinate}
 use Rattle.obj_prepare.proofs.DigitLaws.{value_append, value_after}
@@ -137,3 +139,16 @@ whole_in_units field x is =
     let all = plain_units number plain whole.zeros in
     let within : nat_lt (10 ^ 32) (n * 10 ^ 18) ≡ false = le-ltb _ _ (omega (arith, whole.most)) in
     rw (plain.mantissa, plain.exponent, whole.number, all, within) (ap Ok (signed_units (is_negative field) n ∙ ap in_units (sym whole.is)))
+
+-- A number of a few digits alone.
+pub digits_in_units : (field : List ℕ) (n : ℕ) → IsOfDigits (without_sign field) n
+    → decimal_coordinate field ≡ Ok (with_sign (is_negative field) (n * 10 ^ 18))
+unfolding decimal_coordinate is_decimal is_exponent exponent exponent_text without_sign
+digits_in_units field n is =
+    let number = without_sign field in
+    let whole = whole_number number n (record { are = is.are; worth = is.worth }) is.some in
+    let plain = plain_number number whole.form in
+    let all = plain_units number plain whole.zeros in
+    let worth : value 0 (whole_part number) ≡ n = sym (magnitude_whole number) ∙ whole.worth in
+    let within : nat_lt (10 ^ 32) (n * 10 ^ 18) ≡ false = le-ltb _ _ (omega (arith, is.small)) in
+    rw (plain.mantissa, plain.exponent, whole.form, all, worth, within) refl

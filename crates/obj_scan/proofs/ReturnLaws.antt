@@ -1,7 +1,8 @@
 -- Where CRs stand in a line, byte by byte.
-use Rattle.std.proofs.Common.{◌≡◌, ℕ, suc, ◌+◌, ◌<◌, Bool, true, false, ◌==◌, List, [], ◌∷◌, ◌++◌, length, get_or, take, refl, sym, ◌∙◌, ap, arith}
+use Rattle.std.proofs.Common.{◌≡◌, ℕ, suc, ◌+◌, ◌<◌, Bool, true, false, ◌==◌, List, [], ◌∷◌, ◌++◌, length, get_or, take, inl, inr, refl, sym, ◌∙◌, ap, arith}
 use Rattle.std.proofs.Math.Seq.{take-suc}
-use Rattle.std.proofs.lemmas.Bool.{lt-ltb}
+use Rattle.std.proofs.lemmas.Bool.{lt-ltb, cases_Bool, cond-true, cond-false}
+use Rattle.obj_lines.specs.Text.{until}
 use Rattle.obj_scan.specs.declared.form.Returns.{Returns}
 use Rattle.obj_scan.specs.declared.form.Returns.TheVariants as returns
 use Rattle.obj_scan.specs.Forms.{has_lone_return, returns_of, returns_after, next_return, is_inside}
@@ -42,3 +43,26 @@ lone_return (b ∷ line) = inside_case b line (b == 13) refl (lone_return line)
 pub inside_is_lone : (line : List ℕ) (r : Returns) → r ≡ returns_of line
     → has_lone_return line ≡ is_inside r
 inside_is_lone line r is = sym (lone_return line) ∙ ap is_inside (sym is)
+
+-- Where no byte is a CR none is found.
+stays_without : (r : Returns) (b : ℕ) → r ≡ returns.Without → (b == 13) ≡ false
+    → next_return r b ≡ r
+unfolding next_return
+stays_without r b is none = rw (is, none) refl
+
+pub none_returned : (r : Returns) (line : List ℕ) → r ≡ returns.Without
+    → length (until 13 line) ≡ length line → returns_after r line ≡ r
+none_returned r [] is all = refl
+none_returned r (b ∷ line) is all =
+    elim (cases_Bool (b == 13)) [
+      | inl t ↦ absurd
+          (omega (arith, all, ap length (cond-true (b == 13) [] (b ∷ until 13 line) t)))
+      | inr f ↦
+          let rest : length (until 13 line) ≡ length line = omega (
+            arith,
+            all,
+            ap length (cond-false (b == 13) [] (b ∷ until 13 line) f),
+          ) in
+          ap (λ (s : Returns). returns_after s line) (stays_without r b is f)
+          ∙ none_returned r line is rest
+    ]

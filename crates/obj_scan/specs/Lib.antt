@@ -1,6 +1,7 @@
 pub mod Forms
 pub mod Refusals
 pub mod Polygons
+pub mod Digits
 pub mod Judged
 pub mod Meaning
 pub mod Fails

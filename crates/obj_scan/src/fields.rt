@@ -1,17 +1,25 @@
 //! The fields of a line after its keyword.
-ghost use Rattle.std.specs.Prelude.{ℕ, List, ◌∷◌, ◌≡◌, ◌+◌, ◌-◌, ◌<◌, ◌≤◌, nat_le, length, Ok, Err, OnOk, IfOk, IfErr};
+ghost use Rattle.std.specs.Prelude.{ℕ, List, ◌∷◌, ◌≡◌, ◌+◌, ◌-◌, ◌*◌, ◌^◌, ◌<◌, ◌≤◌, nat_le, length, unsigned_abs, Ok, Err, OnOk, IfOk, IfErr, IfSome};
 ghost use Rattle.std.specs.List.{All};
+ghost use Rattle.obj_read.specs.declared.fault.ObjFault.TheVariants as faults;
+ghost use Rattle.obj_read.specs.declared.fault.ObjFail.TheVariants as fails;
+ghost use Rattle.obj_read.specs.Coordinates.{with_sign};
 ghost use Rattle.obj_read.specs.Fails.{IsLineFault};
 ghost use Rattle.obj_read.specs.Fields.{fields};
 ghost use Rattle.obj_prepare.specs.Numbers.{decimal_coordinate as decimal_coordinate_of};
+ghost use Rattle.obj_scan.specs.Digits.{IsOfDigits};
 ghost use Rattle.obj_scan.specs.Judged.{Found, scanned_vertex_line, indices, polygon_line, is_weight, has_weight};
 
 use obj_prepare::{ExactPoint, decimal_coordinate};
-use obj_read::{ObjFail, ObjFault, index, next_field};
+use obj_read::{ObjFail, ObjFault, index, is_negative, next_field, without_sign};
 use pm_base::{MOST_FACES, MOST_VERTICES};
+use pm_io::{are_digits, value_up_to};
 
 // The number 1 in units.
 const ONE: i128 = 1_000_000_000_000_000_000;
+
+// Whole numbers below it are read by their digits alone.
+const SMALL: u64 = 100_000_000_000_000;
 
 /// A point, and whether a weight stands after it.
 #[derive(Clone, Copy, Debug, PartialEq, Eq)]
@@ -41,6 +49,40 @@ fn has_weight(text: &[u8]) -> bool
     }
 }
 
+// The number that digits alone make, where it is small.
+fn few_digits(number: &[u8]) -> Option<u64>
+    ensures { IfSome result (IsOfDigits number.now) }
+{
+    if number.is_empty() || !are_digits(number) {
+        return None;
+    }
+    let n = value_up_to(number, SMALL);
+    if n < SMALL { Some(n) } else { None }
+}
+
+// A whole number in units.
+fn in_units(negative: bool, n: u64) -> i128
+    requires { n < SMALL }
+    ensures value { result ≡ with_sign negative (n * 10 ^ 18) }
+    ensures range { unsigned_abs result ≤ 10 ^ 32 }
+{
+    let units = i128::from(n) * ONE;
+    if negative { -units } else { units }
+}
+
+// The number that a field spells. One of a few digits alone, as most are on the grid, is read as a
+// whole one.
+#[tactic(auto, using(crate::proofs::NumberLaws::digits_in_units))]
+fn number(field: &[u8]) -> Result<i128, ObjFault>
+    ensures value { result ≡ decimal_coordinate_of field.now }
+    ensures range { IfOk result (λ x. unsigned_abs x ≤ 10 ^ 32) }
+{
+    match few_digits(without_sign(field)) {
+        Some(n) => Ok(in_units(is_negative(field), n)),
+        None => decimal_coordinate(field),
+    }
+}
+
 // The vertex with these coordinates, and what stands after them. Each of the three is in range, so
 // there is a point.
 fn vertex_of(x: &[u8], y: &[u8], z: &[u8], rest: &[u8], vertices: u32) -> Result<Vertex, ObjFault>
@@ -48,9 +90,9 @@ fn vertex_of(x: &[u8], y: &[u8], z: &[u8], rest: &[u8], vertices: u32) -> Result
     ensures fault { IfErr result (λ e. scanned_vertex_line vertices (x.now ∷ y.now ∷ z.now ∷ fields rest.now) ≡ Err e) }
     ensures room { OnOk result (vertices < MOST_VERTICES) }
 {
-    let x = decimal_coordinate(x)?;
-    let y = decimal_coordinate(y)?;
-    let z = decimal_coordinate(z)?;
+    let x = number(x)?;
+    let y = number(y)?;
+    let z = number(z)?;
     if vertices >= MOST_VERTICES {
         return Err(ObjFault::TooMany);
     }
@@ -121,6 +163,15 @@ fn has_three(text: &[u8]) -> bool
     next_field(rest).is_some()
 }
 
+fn too_few(line: u32) -> ObjFail
+    ensures { result ≡ fails.Fault faults.TooFewFields line }
+{
+    ObjFail::Fault {
+        fault: ObjFault::TooFewFields,
+        line,
+    }
+}
+
 /// The corners that a face names after so many vertices and triangles, where there is room for its triangles.
 #[tactic(auto, using(crate::proofs::IndexLaws::face_of_three, crate::proofs::IndexLaws::face_of_few))]
 pub fn face_line(
@@ -135,13 +186,12 @@ pub fn face_line(
     ensures room { OnOk result (faces + (length corners.new.items - 2) ≤ MOST_FACES) }
     ensures fault { IfErr result (λ e. IsLineFault e line (polygon_line vertices faces (fields text.now))) }
 {
-    if !has_three(text) {
-        return Err(ObjFail::Fault {
-            fault: ObjFault::TooFewFields,
-            line,
-        });
+    if let Err(fail) = read_corners(vertices, text, line, corners) {
+        return Err(if has_three(text) { fail } else { too_few(line) });
     }
-    read_corners(vertices, text, line, corners)?;
+    if corners.len() < 3 {
+        return Err(too_few(line));
+    }
     if faces as usize + corners.len().saturating_sub(2) > MOST_FACES as usize {
         return Err(ObjFail::Fault {
             fault: ObjFault::TooMany,

@@ -4,6 +4,7 @@ ghost use Rattle.obj_lines.specs.Text.{content as content_of};
 ghost use Rattle.obj_scan.specs.Forms.{is_marked, without_mark, is_wide, next_return, returns_after, returns_of, is_inside, form_fault, line_content};
 
 use crate::fault::ScanFault;
+use obj_lines::until;
 
 /// Whether CRs stand in the line so far.
 #[derive(Clone, Copy, Debug, PartialEq, Eq)]
@@ -40,10 +41,13 @@ impl Returns {
     }
 
     /// After more bytes of the line.
-    #[tactic(auto, using(crate::proofs::ReturnLaws::more_returns))]
+    #[tactic(auto, using(crate::proofs::ReturnLaws::more_returns, crate::proofs::ReturnLaws::none_returned))]
     pub fn after(self, more: &[u8]) -> Returns
         ensures { result ≡ returns_after self more.now }
     {
+        if self == Returns::Without && until(b'\r', more).len() == more.len() {
+            return self;
+        }
         let mut returns = self;
         for at in 0..more.len() {
             returns = returns.next(more[at]);
