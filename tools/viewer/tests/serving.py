@@ -173,8 +173,7 @@ class Ending(Case):
         words = [sys.executable, str(TOP / "viewer"), str(STREAM), "--program", str(program())]
         window = subprocess.Popen(
             words, stdout=subprocess.PIPE, stderr=subprocess.DEVNULL, text=True,
-            # Under nohup a signal is passed over that the terminal's end sends.
-            preexec_fn=lambda: signal.signal(signal.SIGHUP, signal.SIG_DFL),
+            preexec_fn=heed_signals,
         )
         self.addCleanup(window.wait)
         self.addCleanup(window.kill)
@@ -199,6 +198,12 @@ class Ending(Case):
             while any(is_running(child) for child in children):
                 self.assertLess(time.monotonic(), end, f"{number}: the program goes on")
                 time.sleep(0.01)
+
+
+def heed_signals() -> None:
+    """Heeds what a test passes over that runs under nohup, or behind a shell's back."""
+    for number in (signal.SIGHUP, signal.SIGINT):
+        signal.signal(number, signal.SIG_DFL)
 
 
 def is_running(process: Path) -> bool:
