@@ -1,10 +1,10 @@
-"""Looks whether the lines of tools, tests, examples and pages have at most 100 columns:
+"""Looks whether the lines of code, definitions, proofs and pages have at most 100 columns:
 python3 tests/widths.py
 
-In a page a line that can't be broken may be longer: a row of a table, a picture, what a program
-prints, and a word or a link alone. The crates' own files aren't looked at. The last line is
-`N files are within 100 columns, M aren't`, and the status is 0 exactly where there is a file and
-none fails.
+A line that can't be broken may be longer: an attribute (`rt fmt` keeps it on one line) and the
+import of a single name in Rattle; a row of a table, a picture, what a program prints, and a word or
+a link alone in a page. The last line is `N files are within 100 columns, M aren't`, and the status
+is 0 exactly where there is a file and none fails.
 """
 import re
 import subprocess
@@ -14,8 +14,13 @@ from typing import Iterator, List, Tuple
 
 TOP = Path(__file__).resolve().parent.parent
 MOST_COLUMNS = 100
-KINDS = (".py", ".mjs", ".js", ".c", ".h", ".html", ".md")
-UNBROKEN = {".md": re.compile(r"\s*(?:[|!]|\[!|    |(?:[-*] )?\S+$)")}
+KINDS = (".rt", ".antt", ".py", ".mjs", ".js", ".c", ".h", ".html", ".md")
+# An attribute; an import of one name; one word, after what begins a list or a comment.
+UNBROKEN = {
+    ".rt": re.compile(r"\s*#\["),
+    ".antt": re.compile(r"\s*(?:pub )?use [^\s{]+\.\{[^\s,]+\}$"),
+    ".md": re.compile(r"\s*(?:[|!]|\[!|    |(?:[-*] )?\S+$)"),
+}
 
 
 def files_at(top: Path) -> List[Path]:

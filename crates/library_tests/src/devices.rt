@@ -1,5 +1,6 @@
-//! Tests of the readers and writers of std as devices: what no clause says, since contracts see the bytes of a reader and
-//! not its calls. One call of a device makes one call of what it stands on, and hands on the whole buffer.
+//! Tests of the readers and writers of std as devices: what no clause says, since contracts see the
+//! bytes of a reader and not its calls. One call of a device makes one call of what it stands on,
+//! and hands on the whole buffer.
 ghost use Rattle.std.specs.Prelude.{◌≤◌, IfOk};
 
 use pm_io::{Failed, Sink, Source, StdSink, StdSource};
@@ -13,7 +14,8 @@ enum Turn {
     Fails,
 }
 
-// A reader and a writer that counts its calls. Call by call it passes as many bytes as it was told, or fails.
+// A reader and a writer that counts its calls. Call by call it passes as many bytes as it was told,
+// or fails.
 #[derive(Drop)]
 struct Counting<'a> {
     turns: &'a [Turn],
@@ -55,7 +57,8 @@ impl<'a> Write for Counting<'a> {
     }
 }
 
-// A terminal gives more after an end, and a pipe after an error. Neither is asked for it in the same call.
+// A terminal gives more after an end, and a pipe after an error. Neither is asked for it in the
+// same call.
 #[test]
 fn one_take_reads_once(rt: HostRuntime) {
     let turns = [

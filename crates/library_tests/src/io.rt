@@ -3,8 +3,8 @@ ghost use Rattle.std.specs.Prelude.{◌≡◌, false, IfSome};
 
 use pm_io::{MemSink, MemSource, Sink, Source, StdSink, StdSource, SureSource, Taker, put_all};
 
-// Copies a piece of what a source gives to a sink, and answers how many bytes. None where the source has ended or a device
-// failed.
+// Copies a piece of what a source gives to a sink, and answers how many bytes. None where the
+// source has ended or a device failed.
 fn copy_piece<S: Source, K: Sink>(taker: &mut Taker, source: &mut S, sink: &mut K) -> Option<usize>
     requires { S.ended source.old ≡ false }
     ensures { IfSome result (λ _. S.ended source.new ≡ false) }
@@ -20,8 +20,8 @@ fn copy_piece<S: Source, K: Sink>(taker: &mut Taker, source: &mut S, sink: &mut 
     Some(n)
 }
 
-// Copies what a source gives to a sink through a window, until the source ends or a device fails. Answers how many
-// bytes were taken from the window.
+// Copies what a source gives to a sink through a window, until the source ends or a device fails.
+// Answers how many bytes were taken from the window.
 fn copied<S: Source, K: Sink>(taker: &mut Taker, source: &mut S, sink: &mut K) -> usize
     requires { S.ended source.old ≡ false }
 {

@@ -1,5 +1,5 @@
-//! Tests of libraries by public calls alone, a module for each crate. What the programs answer is told by the cases of
-//! tests/, so that these have only what no output shows.
+//! Tests of libraries by public calls alone, a module for each crate. What the programs answer is
+//! told by the cases of tests/, so that these have only what no output shows.
 #![tactic(auto)]
 
 #[cfg(test)]

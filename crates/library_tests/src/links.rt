@@ -37,8 +37,8 @@ fn move_plain(alloc: Global, plain: &mut Plain, from: u32, to: u32) -> Result<()
     Ok(())
 }
 
-// One call, on the arena and on the plain lists: a free item is put in. For a held one, it is taken out
-// where `head` and `other` are the same, and else a list is moved.
+// One call, on the arena and on the plain lists: a free item is put in. For a held one, it is taken
+// out where `head` and `other` are the same, and else a list is moved.
 fn step(
     alloc: Global,
     links: &mut Links,

@@ -69,8 +69,8 @@ fn minor(rt: &impl Abort, a: i128, b: i128, c: i128, d: i128) -> i128 {
     minus(rt, times(rt, a, d), times(rt, b, c))
 }
 
-// The square of the value at p of the plane of a, b and c: of the determinant of the three ways from a. It is written
-// without the crate's own functions, and each step is checked.
+// The square of the value at p of the plane of a, b and c: of the determinant of the three ways
+// from a. It is written without the crate's own functions, and each step is checked.
 fn plain_square(rt: &impl Abort, [a, b, c, p]: [Vector; 4]) -> u128 {
     let (u, v, w) = (way(rt, a, b), way(rt, a, c), way(rt, a, p));
     let x = times(rt, minor(rt, u.1, u.2, v.1, v.2), w.0);

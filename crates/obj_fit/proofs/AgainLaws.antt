@@ -1,5 +1,6 @@
 -- A text that is prepared again comes back.
-use Rattle.std.proofs.Common.{◌≡◌, ℕ, ◌<◌, ◌==◌, Bool, true, false, List, length, map, Option, None, Result, Ok, IfOk, refl, sym, ap, ◌∙◌, subst, arith}
+use Rattle.std.proofs.Common.{◌≡◌, ℕ, ◌<◌, ◌==◌, Bool, true, false, List, length, map, Option, None}
+use Rattle.std.proofs.Common.{Result, Ok, IfOk, refl, sym, ap, ◌∙◌, subst, arith}
 use Rattle.std.proofs.lemmas.List.{length-map}
 use Rattle.std.specs.List.{All}
 use Rattle.pm_base.specs.Place.{Place, IsPlace}
@@ -22,13 +23,17 @@ use Rattle.obj_prepare.specs.Joining.{place_in_list}
 use Rattle.obj_prepare.specs.Different.{rounded_count}
 use Rattle.obj_prepare.proofs.DifferentLaws.{none_rounded}
 use Rattle.obj_prepare.specs.Placing.{IsSize, fit_of, prepared_places_of}
-use Rattle.obj_prepare.specs.Prepared.{staying, joined_count, flat_count, double_count, unnamed_count, split_count, gone_count, IsPrepared, IsPreparedWith}
+use Rattle.obj_prepare.specs.Prepared.{staying, joined_count, flat_count, double_count}
+use Rattle.obj_prepare.specs.Prepared.{unnamed_count, split_count, gone_count, IsPrepared}
+use Rattle.obj_prepare.specs.Prepared.{IsPreparedWith}
 use Rattle.obj_prepare.proofs.AgainLaws.{prepared_again, none_turned_again}
 use Rattle.obj_prepare.proofs.PlacingLaws.{length-places_of}
 use Rattle.obj_prepare.proofs.ThreeLaws.{three_all, three_of_mesh}
 use Rattle.obj_fit.specs.declared.fault.Fault.{Fault}
 use Rattle.obj_fit.specs.Texts.{output_text, notes_text}
-use Rattle.obj_fit.specs.Outcome.{Done, MakesPrepared, cut_in, fit_in, places_in, counts_in, warning_for, rounded_for, rounded_in, IsPreparedText, bad_line, too_many, no_face, made}
+use Rattle.obj_fit.specs.Outcome.{Done, MakesPrepared, cut_in, fit_in, places_in, counts_in}
+use Rattle.obj_fit.specs.Outcome.{warning_for, rounded_for, rounded_in, IsPreparedText, bad_line}
+use Rattle.obj_fit.specs.Outcome.{too_many, no_face, made}
 use Rattle.obj_fit.specs.Laws.{ComesBack, TextsComeBack}
 use Rattle.obj_fit.proofs.RecutLaws.{cut_below}
 use Rattle.obj_fit.proofs.ScannedLaws.{meaning_sound}
@@ -112,7 +117,8 @@ makes_itself m notes formed manifold some placed used prepared =
       manifold = manifold;
       some = some;
       text_is = ap (λ (f : Fit). output_text f m) (sym fit);
-      notes_are = ap (λ r. notes_text (counts_in None (scanned_mesh m) m) notes r fits.Standing None)
+      notes_are = ap (λ r. notes_text (counts_in None (scanned_mesh m) m) notes r fits.Standing
+          None)
           (sym rounded)
           ∙ ap
           (λ (f : Fit). notes_text (counts_in None (scanned_mesh m) m) notes

@@ -18,7 +18,8 @@ use Rattle.obj_prepare.proofs.PlacingLaws.{length-places_of}
 use Rattle.obj_prepare.proofs.ThreeLaws.{three_all}
 use Rattle.obj_fit.specs.declared.fault.Fault.{Fault}
 use Rattle.obj_fit.specs.Texts.{head_line}
-use Rattle.obj_fit.specs.Outcome.{Done, MakesPrepared, cut_in, fit_in, places_in, IsPreparedText, bad_line, too_many, no_face, made}
+use Rattle.obj_fit.specs.Outcome.{Done, MakesPrepared, cut_in, fit_in, places_in, IsPreparedText}
+use Rattle.obj_fit.specs.Outcome.{bad_line, too_many, no_face, made}
 use Rattle.obj_fit.specs.Laws.{LineLeadsBack, as_it_stood, near, TextLeadsBack, TextsLeadBack}
 use Rattle.obj_fit.proofs.RecutLaws.{cut_below, cut_named}
 use Rattle.obj_fit.proofs.ScannedLaws.{meaning_sound}
@@ -32,7 +33,8 @@ use Rattle.obj_fit.proofs.ReadLaws.{mesh_is_read}
 line_leads : (fit : Fit) (place p : Place) → IsMeasured fit → LeadsBack fit place p
     → LineLeadsBack (head_line fit) place p
 line_leads fits.Standing place p measured leads = as_it_stood refl leads
-line_leads (fits.Scaled size b) place p (few, low, high) leads = near (way_back_of size b) (tells_way size b few low high) leads
+line_leads (fits.Scaled size b) place p (few, low, high) leads =
+    near (way_back_of size b) (tells_way size b few low high) leads
 
 made_leads_back : (size : Option ℕ) (bytes : List ℕ) (s : Scanned) (done : Done) → IsSize size
     → scan_meaning_of bytes ≡ Ok s → (k : MakesPrepared size s done)
@@ -57,7 +59,8 @@ made_leads_back size bytes s done is means k =
           l in (v, subst (λ (n : ℕ). v < n) long low, cut_named size s v named, same);
     }
 
-outcome_leads_back : (size : Option ℕ) (bytes : List ℕ) (r : Result Done Fault) (place : Option ℕ) → IsSize size → IsPreparedText size bytes r place
+outcome_leads_back : (size : Option ℕ) (bytes : List ℕ) (r : Result Done Fault) (place : Option ℕ)
+    → IsSize size → IsPreparedText size bytes r place
     → IfOk r (λ done. (s : Scanned) (m : Mesh) → scan_meaning_of bytes ≡ Ok s
     → meaning_of 0 done.text ≡ Ok m → 0 < length m.faces
     → TextLeadsBack s (places_in size s) done.text m)
@@ -65,11 +68,13 @@ outcome_leads_back size bytes found place is (bad_line r means) = tt
 outcome_leads_back size bytes found place is (too_many s means many) = tt
 outcome_leads_back size bytes found place is (no_face s means none) = tt
 outcome_leads_back size bytes found place is (made t done means k) = λ s m spells read some.
-    let own = one_mesh (meaning_of 0 done.text) k.mesh m (mesh_is_read size bytes t done is means k) read in
+    let own = one_mesh (meaning_of 0 done.text) k.mesh m (mesh_is_read size bytes t done is means k)
+    read in
     let same = one_scanned (scan_meaning_of bytes) t s means spells in
     subst (λ (u : Scanned). TextLeadsBack u (places_in size u) done.text m) same
     (subst (TextLeadsBack t (places_in size t) done.text) own
     (made_leads_back size bytes t done is means k))
 
 pub texts_lead_back : TextsLeadBack
-texts_lead_back size bytes s done place m is spells outcome read some = outcome_leads_back size bytes (Ok done) place is outcome s m spells read some
+texts_lead_back size bytes s done place m is spells outcome read some =
+    outcome_leads_back size bytes (Ok done) place is outcome s m spells read some

@@ -1,5 +1,7 @@
 -- The first line of the output is a comment of few bytes.
-use Rattle.std.proofs.Common.{◌≡◌, ℕ, suc, ◌+◌, ◌*◌, ◌/◌, ◌%◌, ◌^◌, ◌<◌, ◌≤◌, Bool, true, false, List, [], ◌∷◌, ◌++◌, length, ℤ, pos, refl, sym, ◌∙◌, ap, arith, append_assoc, length-append}
+use Rattle.std.proofs.Common.{◌≡◌, ℕ, suc, ◌+◌, ◌*◌, ◌/◌, ◌%◌, ◌^◌, ◌<◌, ◌≤◌, Bool, true, false}
+use Rattle.std.proofs.Common.{List, [], ◌∷◌, ◌++◌, length, ℤ, pos, refl, sym, ◌∙◌, ap, arith}
+use Rattle.std.proofs.Common.{append_assoc, length-append}
 use Rattle.std.specs.Prelude.{codes, unsigned_abs, int_lt}
 use Rattle.std.specs.Fmt.{decimal}
 use Rattle.std.proofs.lemmas.Bool.{ne_eqb}
@@ -8,7 +10,8 @@ use borrow.Author.Differences.{ints}
 use Rattle.pm_base.specs.Canonical.{last_digits, minus_if, coordinate_text}
 use Rattle.obj_lines.specs.Text.{until}
 use Rattle.obj_lines.proofs.TextLaws.{until_front}
-use Rattle.obj_read.proofs.WrittenLaws.{decimal_digits, length-last_digits, last_digits_are, no_byte}
+use Rattle.obj_read.proofs.WrittenLaws.{decimal_digits, length-last_digits, last_digits_are}
+use Rattle.obj_read.proofs.WrittenLaws.{no_byte}
 use Rattle.obj_prepare.specs.Exact.{AreExact}
 use Rattle.obj_prepare.specs.Boxes.{extent}
 use Rattle.obj_prepare.specs.declared.extents.PointBox.{PointBox}
@@ -49,22 +52,26 @@ last_digits_short k n = record {
   short = omega (arith, length-last_digits k n);
 }
 
-coordinate_short : (d : ℕ) (z : ℤ) → unsigned_abs z / 10 ^ suc d < 2 ^ 64 → IsShort (22 + suc d) (coordinate_text (suc d) z)
+coordinate_short : (d : ℕ) (z : ℤ) → unsigned_abs z / 10 ^ suc d < 2 ^ 64
+    → IsShort (22 + suc d) (coordinate_text (suc d) z)
 unfolding coordinate_text
 coordinate_short d z few =
     let unit : ℕ = 10 ^ suc d in
     let n : ℕ = unsigned_abs z in
-    let sign = both 1 20 (minus_if (int_lt z (pos 0))) (decimal (n / unit)) (minus_short (int_lt z (pos 0))) (decimal_short (n / unit) few) in
+    let sign = both 1 20 (minus_if (int_lt z (pos 0))) (decimal (n / unit))
+    (minus_short (int_lt z (pos 0))) (decimal_short (n / unit) few) in
     let point : IsShort 1 (codes ".") = record {
       clean = refl;
       plain = refl;
       short = omega arith;
     } in
     rw (ne_eqb (suc d) 0 (λ e. omega (arith, e)))
-    (both 22 (suc d) _ (last_digits (suc d) (n % unit)) (both 21 1 _ (codes ".") sign point) (last_digits_short (suc d) (n % unit)))
+    (both 22 (suc d) _ (last_digits (suc d) (n % unit)) (both 21 1 _ (codes ".") sign point)
+    (last_digits_short (suc d) (n % unit)))
 
 -- The box of exact points has short texts.
-module _ (size : ℕ) (b : PointBox) (few : size ≤ 32767) (low : AreExact b.low) (high : AreExact b.high) where
+module _ (size : ℕ) (b : PointBox) (few : size ≤ 32767) (low : AreExact b.low)
+    (high : AreExact b.high) where
   pub extent_few : extent b ≤ 200000000000000000000000000000000
   unfolding extent
   extent_few =
@@ -91,9 +98,12 @@ module _ (size : ℕ) (b : PointBox) (few : size ≤ 32767) (low : AreExact b.lo
         plain = refl;
         short = omega arith;
       } in
-      both 76 12 _ _ (both 56 20 _ _ (both 53 3 _ _ (both 13 40 _ _ first e) over) (decimal_short (2 * size) (omega (arith, few)))) last
+      both 76 12 _ _
+      (both 56 20 _ _ (both 53 3 _ _ (both 13 40 _ _ first e) over)
+      (decimal_short (2 * size) (omega (arith, few)))) last
 
-  axis_short : (x y : ℤ) → unsigned_abs x ≤ 10 ^ 32 → unsigned_abs y ≤ 10 ^ 32 → IsShort 41 (coordinate_text 19 (middle x y))
+  axis_short : (x y : ℤ) → unsigned_abs x ≤ 10 ^ 32 → unsigned_abs y ≤ 10 ^ 32
+      → IsShort 41 (coordinate_text 19 (middle x y))
   axis_short x y a c = coordinate_short 18 (middle x y) (omega (arith, ints, a, c))
 
   middle_short : IsShort 125 (middle_text (middle_of b))
@@ -106,7 +116,9 @@ module _ (size : ℕ) (b : PointBox) (few : size ≤ 32767) (low : AreExact b.lo
         plain = refl;
         short = omega arith;
       } in
-      both 84 41 _ _ (both 83 1 _ _ (both 42 41 _ _ (both 41 1 _ _ (axis_short b.low.x b.high.x a d) space) (axis_short b.low.y b.high.y c f)) space) (axis_short b.low.z b.high.z e g)
+      both 84 41 _ _
+      (both 83 1 _ _ (both 42 41 _ _ (both 41 1 _ _ (axis_short b.low.x b.high.x a d) space)
+      (axis_short b.low.y b.high.y c f)) space) (axis_short b.low.z b.high.z e g)
 
 -- A comment, with its LF.
 pub record IsComment (text : List ℕ) : Type 0 where
@@ -133,7 +145,10 @@ head_comment (fits.Scaled size b) (few, low, high) =
       plain = refl;
       short = omega arith;
     } in
-    let s = both 1 214 (codes " ") (back ++ codes ")") space (both 213 1 back (codes ")") (both 88 125 _ _ (scale_short size b few low high) (middle_short size b few low high)) end) in
+    let s = both 1 214 (codes " ") (back ++ codes ")") space
+    (both 213 1 back (codes ")")
+    (both 88 125 _ _ (scale_short size b few low high) (middle_short size b few low high)) end)
+    in
     record {
       line = codes " " ++ (back ++ codes ")");
       line_is = s.clean;

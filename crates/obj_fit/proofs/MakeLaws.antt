@@ -1,5 +1,6 @@
 -- What a text gives is what its mesh is made of.
-use Rattle.std.proofs.Common.{◌≡◌, ℕ, ◌<◌, ◌≤◌, List, ◌++◌, length, Option, Some, None, IfSome, Result, Ok, Err, refl, sym, ◌∙◌, ap, subst, arith}
+use Rattle.std.proofs.Common.{◌≡◌, ℕ, ◌<◌, ◌≤◌, List, ◌++◌, length, Option, Some, None, IfSome}
+use Rattle.std.proofs.Common.{Result, Ok, Err, refl, sym, ◌∙◌, ap, subst, arith}
 use Rattle.std.specs.List.{All}
 use Rattle.pm_base.specs.declared.mesh.Corners.{Corners}
 use Rattle.pm_base.specs.Place.{Place}
@@ -24,7 +25,8 @@ use Rattle.obj_fit.specs.declared.fault.Fault.{Fault}
 use Rattle.obj_fit.specs.declared.fault.Fault.TheVariants as faults
 use Rattle.obj_fit.specs.declared.fault.InputFail.{InputFail}
 use Rattle.obj_fit.specs.declared.fault.InputFail.TheVariants as input
-use Rattle.obj_fit.specs.Outcome.{Done, MakesPrepared, cut_in, places_in, counts_of, warning_for, rounded_for, IsPreparedText, bad_line, too_many, no_face, made}
+use Rattle.obj_fit.specs.Outcome.{Done, MakesPrepared, cut_in, places_in, counts_of, warning_for}
+use Rattle.obj_fit.specs.Outcome.{rounded_for, IsPreparedText, bad_line, too_many, no_face, made}
 use Rattle.obj_fit.specs.declared.laying.Laid.{Laid}
 use Rattle.obj_fit.specs.Making.{IsMakeFail, IsLaid}
 use Rattle.obj_fit.proofs.RecutLaws.{cut_long, cut_within}
@@ -128,33 +130,49 @@ module _ (size : Option ℕ) where
       → IfSome left (λ bytes. IsRefusal fault line (scan_meaning_of bytes))
       → IfSome left (λ bytes. HasPreparedFault size bytes (faults.Line fault line))
   line_refuses None fault line is = tt
-  line_refuses (Some bytes) fault line is = refuses_line bytes fault line (scan_meaning_of bytes) refl is
+  line_refuses (Some bytes) fault line is =
+      refuses_line bytes fault line (scan_meaning_of bytes) refl is
 
   -- Bytes that don't reach the first fault's place decide nothing.
-  text_before : (bytes : List ℕ) (taken : ℕ) → FaultNotReached taken (scan_meaning_of bytes) → (r : Result Done Fault) (place : Option ℕ) → IsPreparedText size bytes r place → IfSome place (λ n. taken < n)
-  text_before bytes taken before found place (bad_line r is) = subst (λ (m : Result Scanned Refused). FaultNotReached taken m) is before
+  text_before : (bytes : List ℕ) (taken : ℕ) → FaultNotReached taken (scan_meaning_of bytes)
+      → (r : Result Done Fault) (place : Option ℕ) → IsPreparedText size bytes r place
+      → IfSome place (λ n. taken < n)
+  text_before bytes taken before found place (bad_line r is) =
+      subst (λ (m : Result Scanned Refused). FaultNotReached taken m) is before
   text_before bytes taken before found place (too_many s is many) = tt
   text_before bytes taken before found place (no_face s is none) = tt
   text_before bytes taken before found place (made s done is makes) = tt
 
-  pub text_unreached : (left now : Option (List ℕ)) → ScanFailsBefore left now → PlaceUnreached size left now
-  text_unreached left now fails = record { taken = fails.taken; took = fails.took; before = before left fails.before }
+  pub text_unreached : (left now : Option (List ℕ)) → ScanFailsBefore left now
+      → PlaceUnreached size left now
+  text_unreached left now fails = record {
+    taken = fails.taken;
+    took = fails.took;
+    before = before left fails.before;
+  }
     where
-      before : (left : Option (List ℕ)) → IfSome left (λ bytes. FaultNotReached (length fails.taken) (scan_meaning_of bytes))
-          → IfSome left (λ bytes. (r : Result Done Fault) (place : Option ℕ) → IsPreparedText size bytes r place → IfSome place (λ n. length fails.taken < n))
+      before : (left : Option (List ℕ))
+          → IfSome left (λ bytes. FaultNotReached (length fails.taken) (scan_meaning_of bytes))
+          → IfSome left (λ bytes. (r : Result Done Fault) (place : Option ℕ)
+          → IsPreparedText size bytes r place → IfSome place (λ n. length fails.taken < n))
       before None is = tt
       before (Some bytes) is = text_before bytes (length fails.taken) is
 
-  pub make_stops : (left now : Option (List ℕ)) (s : Scanned) (e : InputFail) (in_old in_new : ℕ) → IfSome left (λ bytes. scan_meaning_of bytes ≡ Ok s) → in_new ≡ in_old → IsMakeFail size s e → StopsPreparing size e left now in_old in_new
+  pub make_stops : (left now : Option (List ℕ)) (s : Scanned) (e : InputFail) (in_old in_new : ℕ)
+      → IfSome left (λ bytes. scan_meaning_of bytes ≡ Ok s) → in_new ≡ in_old → IsMakeFail size s e
+      → StopsPreparing size e left now in_old in_new
   make_stops left now s (input.Faulty (faults.Line e n)) in_old in_new is same fail = absurd fail
   make_stops None now s (input.Faulty faults.TooMany) in_old in_new is same fail = (tt, same)
-  make_stops (Some bytes) now s (input.Faulty faults.TooMany) in_old in_new is same fail = (record { place = None; outcome = too_many s is fail }, same)
+  make_stops (Some bytes) now s (input.Faulty faults.TooMany) in_old in_new is same
+      fail = (record { place = None; outcome = too_many s is fail }, same)
   make_stops None now s (input.Faulty faults.NoFaces) in_old in_new is same fail = (tt, same)
   make_stops (Some bytes) now s (input.Faulty faults.NoFaces) in_old in_new is same
       fail = (record { place = None; outcome = no_face s is fail }, same)
   make_stops left now s input.Read in_old in_new is same fail = absurd fail
   make_stops left now s input.OutOfMemory in_old in_new is same fail = same
 
-  pub make_stands : (left : Option (List ℕ)) (s : Scanned) (done : Done) → IfSome left (λ bytes. scan_meaning_of bytes ≡ Ok s) → MakesPrepared size s done → IfSome left (λ bytes. IsPreparedText size bytes (Ok done) None)
+  pub make_stands : (left : Option (List ℕ)) (s : Scanned) (done : Done)
+      → IfSome left (λ bytes. scan_meaning_of bytes ≡ Ok s) → MakesPrepared size s done
+      → IfSome left (λ bytes. IsPreparedText size bytes (Ok done) None)
   make_stands None s done is makes = tt
   make_stands (Some bytes) s done is makes = made s done is makes

@@ -1,5 +1,6 @@
 -- What is said where nothing needs to be done.
-use Rattle.std.proofs.Common.{◌≡◌, ℕ, ◌<◌, false, ◌*◌, None, nat_le, refl, ap, ◌∙◌, List, [], ◌++◌, length, arith}
+use Rattle.std.proofs.Common.{◌≡◌, ℕ, ◌<◌, false, ◌*◌, None, nat_le, refl, ap, ◌∙◌, List, [], ◌++◌}
+use Rattle.std.proofs.Common.{length, arith}
 use Rattle.std.specs.Prelude.{codes}
 use Rattle.std.proofs.lemmas.Bool.{eq-eqb}
 use Rattle.std.proofs.lemmas.List.{append-nil}
@@ -10,7 +11,8 @@ use Rattle.obj_fit.specs.Outcome.{warning_for}
 use Rattle.pm_base.specs.Place.{Place}
 use Rattle.std.proofs.lemmas.Bool.Decides.{nat_tests}
 use Rattle.obj_fit.specs.declared.counts.Counts.{Counts}
-use Rattle.obj_fit.specs.Texts.{account_line, warning_line, note_line, face_notes, line_notes, joined_line, turn_notes, vertex_notes, last_note, notes_text}
+use Rattle.obj_fit.specs.Texts.{account_line, warning_line, note_line, face_notes, line_notes}
+use Rattle.obj_fit.specs.Texts.{joined_line, turn_notes, vertex_notes, last_note, notes_text}
 use Rattle.obj_prepare.specs.Nothing.{nothing_done}
 
 four_ends : (line : List ℕ) → line ++ [] ++ [] ++ [] ++ [] ≡ line
@@ -34,7 +36,8 @@ pub nothing_said : (c : Counts) (rounded k : ℕ) (fit : Fit) → account_line c
     ++ note_line (codes "weights passed over") c.weights
     ++ note_line (codes "closed surfaces inside out") k
     ++ note_line (codes "faces without area") c.thin ++ last_note fit
-unfolding notes_text face_notes line_notes joined_line turn_notes vertex_notes note_line warning_line
+unfolding notes_text face_notes line_notes joined_line turn_notes vertex_notes note_line
+    warning_line
 nothing_said c rounded k fit same none =
     let line = note_line (codes "polygons cut") c.polygons
     ++ note_line (codes "polygons whose triangles overlap") c.overlapping

@@ -1,5 +1,6 @@
 -- The numerals of the first line spell their numbers.
-use Rattle.std.proofs.Common.{ℕ, suc, ◌*◌, ◌/◌, ◌^◌, ◌<◌, ◌≤◌, List, ◌∷◌, ◌++◌, ℤ, pos, negsuc, neg_ℤ, refl, arith}
+use Rattle.std.proofs.Common.{ℕ, suc, ◌*◌, ◌/◌, ◌^◌, ◌<◌, ◌≤◌, List, ◌∷◌, ◌++◌, ℤ, pos, negsuc}
+use Rattle.std.proofs.Common.{neg_ℤ, refl, arith}
 use Rattle.std.specs.Prelude.{unsigned_abs, codes}
 use Rattle.std.specs.Fmt.{decimal}
 use Rattle.std.proofs.lemmas.Bool.{le-ltb, ne_eqb}
@@ -7,7 +8,8 @@ use Rattle.std.proofs.lemmas.Fmt.{decimal_nonempty}
 use borrow.Author.Differences.{ints}
 use Rattle.pm_base.specs.Canonical.{coordinate_text}
 use Rattle.obj_read.specs.Coordinates.{without_sign}
-use Rattle.obj_read.proofs.WrittenLaws.{IsNumberOf, decimal_digits, not_negative, whole_number, split_number}
+use Rattle.obj_read.proofs.WrittenLaws.{IsNumberOf, decimal_digits, not_negative, whole_number}
+use Rattle.obj_read.proofs.WrittenLaws.{split_number}
 use Rattle.obj_prepare.specs.Exact.{AreExact}
 use Rattle.obj_prepare.specs.Boxes.{extent}
 use Rattle.obj_prepare.specs.declared.extents.PointBox.{PointBox}
@@ -24,23 +26,33 @@ spells_plain d n number is = record {
   worth = rw (is.plain, is.worth, not_negative number is.plain) refl;
 }
 
-spells_minus : (d n : ℕ) (number : List ℕ) → IsNumberOf d number n → Spells d (45 ∷ number) (neg_ℤ (pos n))
+spells_minus : (d n : ℕ) (number : List ℕ) → IsNumberOf d number n
+    → Spells d (45 ∷ number) (neg_ℤ (pos n))
 unfolding without_sign
 spells_minus d n number is = record { form = is.form; zeros = is.zeros; worth = rw is.worth refl }
 
-spells_text : (d : ℕ) (z : ℤ) → unsigned_abs z / 10 ^ suc d < 2 ^ 64 → Spells (suc d) (coordinate_text (suc d) z) z
+spells_text : (d : ℕ) (z : ℤ) → unsigned_abs z / 10 ^ suc d < 2 ^ 64
+    → Spells (suc d) (coordinate_text (suc d) z) z
 unfolding coordinate_text
-spells_text d (pos n) small = rw (ne_eqb (suc d) 0 (λ e. omega (arith, e)), le-ltb n 0 (omega arith)) (spells_plain (suc d) n _ (split_number d n small))
-spells_text d (negsuc n) small = rw (ne_eqb (suc d) 0 (λ e. omega (arith, e))) (spells_minus (suc d) (suc n) _ (split_number d (suc n) small))
+spells_text d (pos n) small =
+    rw (ne_eqb (suc d) 0 (λ e. omega (arith, e)), le-ltb n 0 (omega arith))
+    (spells_plain (suc d) n _ (split_number d n small))
+spells_text d (negsuc n) small =
+    rw (ne_eqb (suc d) 0 (λ e. omega (arith, e)))
+    (spells_minus (suc d) (suc n) _ (split_number d (suc n) small))
 
 spells_decimal : (n : ℕ) → n < 2 ^ 64 → Spells 0 (decimal n) (pos n)
-spells_decimal n small = spells_plain 0 n (decimal n) (whole_number (decimal n) n (decimal_digits n small) (decimal_nonempty n small))
+spells_decimal n small =
+    spells_plain 0 n (decimal n)
+    (whole_number (decimal n) n (decimal_digits n small) (decimal_nonempty n small))
 
-spells_middle : (low high : ℤ) → unsigned_abs low ≤ 10 ^ 32 → unsigned_abs high ≤ 10 ^ 32 → Spells 19 (coordinate_text 19 (middle low high)) (middle low high)
+spells_middle : (low high : ℤ) → unsigned_abs low ≤ 10 ^ 32 → unsigned_abs high ≤ 10 ^ 32
+    → Spells 19 (coordinate_text 19 (middle low high)) (middle low high)
 spells_middle low high a b = spells_text 18 (middle low high) (omega (arith, ints, a, b))
 
 -- The line of a box of exact points.
-pub tells_way : (size : ℕ) (b : PointBox) → size ≤ 32767 → AreExact b.low → AreExact b.high → TellsWayBack (codes "# " ++ way_text (way_back_of size b)) (way_back_of size b)
+pub tells_way : (size : ℕ) (b : PointBox) → size ≤ 32767 → AreExact b.low → AreExact b.high
+    → TellsWayBack (codes "# " ++ way_text (way_back_of size b)) (way_back_of size b)
 unfolding way_text scale_text middle_text
 tells_way size b few low high =
     let (a, c, e) = low in

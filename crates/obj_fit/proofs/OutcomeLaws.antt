@@ -3,7 +3,8 @@ use Rattle.std.proofs.lemmas.List.{length-map}
 use Rattle.pm_base.specs.declared.mesh.Corners.{Corners}
 use Rattle.pm_base.specs.Place.{Place}
 use Rattle.obj_prepare.specs.Joining.{place_in_list}
-use Rattle.std.proofs.Common.{◌≡◌, ℕ, List, length, Option, Result, Ok, Err, refl, sym, ap, ◌∙◌, subst, arith}
+use Rattle.std.proofs.Common.{◌≡◌, ℕ, List, length, Option, Result, Ok, Err, refl, sym, ap, ◌∙◌}
+use Rattle.std.proofs.Common.{subst, arith}
 use Rattle.pm_base.specs.Meshes.{Mesh}
 use Rattle.obj_scan.specs.Refusals.{Refused}
 use Rattle.obj_scan.specs.Judged.{Scanned}
@@ -16,19 +17,25 @@ use Rattle.obj_prepare.proofs.OnePrepared.{prepared_are_one, notes_are_one}
 use Rattle.obj_fit.specs.declared.fault.Fault.{Fault}
 use Rattle.obj_fit.specs.declared.fault.Fault.TheVariants as faults
 use Rattle.obj_fit.specs.Texts.{output_text, notes_text}
-use Rattle.obj_fit.specs.Outcome.{Done, MakesPrepared, cut_in, fit_in, places_in, counts_in, rounded_in, warning_in, IsPreparedText, LeavesNoFace, bad_line, too_many, no_face, made}
+use Rattle.obj_fit.specs.Outcome.{Done, MakesPrepared, cut_in, fit_in, places_in, counts_in}
+use Rattle.obj_fit.specs.Outcome.{rounded_in, warning_in, IsPreparedText, LeavesNoFace, bad_line}
+use Rattle.obj_fit.specs.Outcome.{too_many, no_face, made}
 
-one_refused : (found : Result Scanned Refused) (r q : Refused) → found ≡ Err r → found ≡ Err q → r ≡ q
+one_refused : (found : Result Scanned Refused) (r q : Refused) → found ≡ Err r → found ≡ Err q
+    → r ≡ q
 one_refused found r q is are = cc
 
-pub one_scanned : (found : Result Scanned Refused) (s t : Scanned) → found ≡ Ok s → found ≡ Ok t → s ≡ t
+pub one_scanned : (found : Result Scanned Refused) (s t : Scanned) → found ≡ Ok s → found ≡ Ok t
+    → s ≡ t
 one_scanned found s t is are = cc
 
-not_both : (found : Result Scanned Refused) (r : Refused) (s : Scanned) → found ≡ Err r → found ≡ Ok s → ⊥
+not_both : (found : Result Scanned Refused) (r : Refused) (s : Scanned) → found ≡ Err r
+    → found ≡ Ok s → ⊥
 not_both found r s is are = cc
 
 -- The texts tell of one mesh and of one list of numbers.
-one_made : (size : Option ℕ) (s : Scanned) (done other : Done) → MakesPrepared size s done → MakesPrepared size s other → done ≡ other
+one_made : (size : Option ℕ) (s : Scanned) (done other : Done) → MakesPrepared size s done
+    → MakesPrepared size s other → done ≡ other
 one_made size s done other a b =
     let fit : Fit = fit_in size s in
     let mesh = prepared_are_one (places_in size s)
@@ -75,7 +82,10 @@ module _ (size : Option ℕ) (bytes : List ℕ) where
   over_or_made : (s t : Scanned) (done : Done) → scan_meaning_of bytes ≡ Ok s
       → scan_meaning_of bytes ≡ Ok t → HasTooMany (places_in size s) (of_three (cut_in size s))
       → MakesPrepared size t done → ⊥
-  over_or_made s t done is are over makes = not_too_many size s done over (subst (λ (u : Scanned). MakesPrepared size u done) (one_scanned (scan_meaning_of bytes) t s are is) makes)
+  over_or_made s t done is are over makes =
+      not_too_many size s done over
+      (subst (λ (u : Scanned). MakesPrepared size u done)
+      (one_scanned (scan_meaning_of bytes) t s are is) makes)
 
   none_or_made : (s t : Scanned) (done : Done) → scan_meaning_of bytes ≡ Ok s
       → scan_meaning_of bytes ≡ Ok t → LeavesNoFace (places_in size s) (of_three (cut_in size s))
@@ -95,19 +105,25 @@ module _ (size : Option ℕ) (bytes : List ℕ) where
   abbrev refusal : Refused → Result Done Fault
   refusal r = Err (faults.Line r.fault r.line)
 
-  pub one_outcome : (one other : Result Done Fault) (place there : Option ℕ) → IsPreparedText size bytes one place → IsPreparedText size bytes other there → (one ≡ other) × (place ≡ there)
+  pub one_outcome : (one other : Result Done Fault) (place there : Option ℕ)
+      → IsPreparedText size bytes one place → IsPreparedText size bytes other there
+      → (one ≡ other) × (place ≡ there)
   one_outcome one other place there (bad_line r is) (bad_line q are) =
       let same = one_refused (scan_meaning_of bytes) r q is are in
       (ap refusal same, ap (λ (f : Refused). f.place) same)
-  one_outcome one other place there (bad_line r is) (too_many t are over) = absurd (not_both (scan_meaning_of bytes) r t is are)
+  one_outcome one other place there (bad_line r is) (too_many t are over) =
+      absurd (not_both (scan_meaning_of bytes) r t is are)
   one_outcome one other place there (bad_line r is) (no_face t are none) = absurd
       (not_both (scan_meaning_of bytes) r t is are)
-  one_outcome one other place there (bad_line r is) (made t done are makes) = absurd (not_both (scan_meaning_of bytes) r t is are)
-  one_outcome one other place there (too_many s is over) (bad_line q are) = absurd (not_both (scan_meaning_of bytes) q s are is)
+  one_outcome one other place there (bad_line r is) (made t done are makes) =
+      absurd (not_both (scan_meaning_of bytes) r t is are)
+  one_outcome one other place there (too_many s is over) (bad_line q are) =
+      absurd (not_both (scan_meaning_of bytes) q s are is)
   one_outcome one other place there (too_many s is over) (too_many t are more) = (refl, refl)
   one_outcome one other place there (too_many s is over) (no_face t are none) = absurd
       (over_or_none s t is are over none)
-  one_outcome one other place there (too_many s is over) (made t done are makes) = absurd (over_or_made s t done is are over makes)
+  one_outcome one other place there (too_many s is over) (made t done are makes) =
+      absurd (over_or_made s t done is are over makes)
   one_outcome one other place there (no_face s is none) (bad_line q are) = absurd
       (not_both (scan_meaning_of bytes) q s are is)
   one_outcome one other place there (no_face s is none) (too_many t are over) = absurd
@@ -115,10 +131,15 @@ module _ (size : Option ℕ) (bytes : List ℕ) where
   one_outcome one other place there (no_face s is none) (no_face t are more) = (refl, refl)
   one_outcome one other place there (no_face s is none) (made t done are makes) = absurd
       (none_or_made s t done is are none makes)
-  one_outcome one other place there (made s done is makes) (bad_line q are) = absurd (not_both (scan_meaning_of bytes) q s are is)
-  one_outcome one other place there (made s done is makes) (too_many t are over) = absurd (over_or_made t s done are is over makes)
+  one_outcome one other place there (made s done is makes) (bad_line q are) =
+      absurd (not_both (scan_meaning_of bytes) q s are is)
+  one_outcome one other place there (made s done is makes) (too_many t are over) =
+      absurd (over_or_made t s done are is over makes)
   one_outcome one other place there (made s done is makes) (no_face t are none) = absurd
       (none_or_made t s done are is none makes)
   one_outcome one other place there (made s done is makes) (made t more are again) =
-      let same : done ≡ more = one_made size s done more makes (subst (λ (u : Scanned). MakesPrepared size u more) (one_scanned (scan_meaning_of bytes) t s are is) again) in
+      let same : done ≡ more =
+      one_made size s done more makes
+      (subst (λ (u : Scanned). MakesPrepared size u more)
+      (one_scanned (scan_meaning_of bytes) t s are is) again) in
       (ap Ok same, refl)

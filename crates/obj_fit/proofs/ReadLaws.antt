@@ -1,5 +1,6 @@
 -- What is written is read as the mesh that was made.
-use Rattle.std.proofs.Common.{◌≡◌, ℕ, ◌<◌, List, [], ◌∷◌, ◌++◌, length, Option, Result, Ok, IfOk, sym, ◌∙◌, ap, subst, arith, append_assoc}
+use Rattle.std.proofs.Common.{◌≡◌, ℕ, ◌<◌, List, [], ◌∷◌, ◌++◌, length, Option, Result, Ok, IfOk}
+use Rattle.std.proofs.Common.{sym, ◌∙◌, ap, subst, arith, append_assoc}
 use Rattle.std.specs.List.{All}
 use Rattle.pm_base.specs.Place.{IsPlace}
 use Rattle.pm_base.specs.Meshes.{Mesh}
@@ -14,14 +15,16 @@ use Rattle.obj_scan.proofs.ReadLaws.{canonical_scanned}
 use Rattle.obj_prepare.specs.Named.{of_three}
 use Rattle.obj_prepare.specs.Placing.{IsSize}
 use Rattle.obj_fit.specs.declared.fault.Fault.{Fault}
-use Rattle.obj_fit.specs.Outcome.{Done, MakesPrepared, fit_in, places_in, IsPreparedText, bad_line, too_many, no_face, made}
+use Rattle.obj_fit.specs.Outcome.{Done, MakesPrepared, fit_in, places_in, IsPreparedText, bad_line}
+use Rattle.obj_fit.specs.Outcome.{too_many, no_face, made}
 use Rattle.obj_fit.specs.Laws.{IsFitText, TextsAreRead}
 use Rattle.obj_fit.proofs.ScannedLaws.{meaning_sound}
 use Rattle.obj_fit.proofs.GridLaws.{places_on_grid, taken_on_grid, fit_of_measured}
 use Rattle.obj_fit.proofs.HeadLaws.{head_comment}
 
 -- The points of a mesh that was made are on the grid.
-pub made_on_grid : (size : Option ℕ) (s : Scanned) (done : Done) → IsSize size → (m : MakesPrepared size s done) → All IsPlace m.mesh.points
+pub made_on_grid : (size : Option ℕ) (s : Scanned) (done : Done) → IsSize size
+    → (m : MakesPrepared size s done) → All IsPlace m.mesh.points
 made_on_grid size s done is m =
     let places = places_in size s in
     let p = m.prepared.0 in
@@ -69,7 +72,9 @@ made_is_read size bytes s done is means m =
           (omega arith) m.formed (made_on_grid size s done is m);
     }
 
-pub mesh_is_read : (size : Option ℕ) (bytes : List ℕ) (s : Scanned) (done : Done) → IsSize size → scan_meaning_of bytes ≡ Ok s → (m : MakesPrepared size s done) → meaning_of 0 done.text ≡ Ok m.mesh
+pub mesh_is_read : (size : Option ℕ) (bytes : List ℕ) (s : Scanned) (done : Done) → IsSize size
+    → scan_meaning_of bytes ≡ Ok s → (m : MakesPrepared size s done)
+    → meaning_of 0 done.text ≡ Ok m.mesh
 unfolding made_is_read
 mesh_is_read size bytes s done is means m = (made_is_read size bytes s done is means m).read
 
@@ -83,11 +88,14 @@ made_scanned size bytes s done is means m =
     ∙ canonical_scanned w.line m.mesh w.line_is w.plain w.short m.formed
     (made_on_grid size s done is m)
 
-outcome_is_read : (size : Option ℕ) (bytes : List ℕ) (r : Result Done Fault) (place : Option ℕ) → IsSize size → IsPreparedText size bytes r place → IfOk r (λ done. IsFitText done.text)
+outcome_is_read : (size : Option ℕ) (bytes : List ℕ) (r : Result Done Fault) (place : Option ℕ)
+    → IsSize size → IsPreparedText size bytes r place → IfOk r (λ done. IsFitText done.text)
 outcome_is_read size bytes found place is (bad_line r means) = tt
 outcome_is_read size bytes found place is (too_many s means many) = tt
 outcome_is_read size bytes found place is (no_face s means none) = tt
-outcome_is_read size bytes found place is (made s done means makes) = made_is_read size bytes s done is means makes
+outcome_is_read size bytes found place is (made s done means makes) =
+    made_is_read size bytes s done is means makes
 
 pub texts_are_read : TextsAreRead
-texts_are_read size bytes done place is outcome = outcome_is_read size bytes (Ok done) place is outcome
+texts_are_read size bytes done place is outcome =
+    outcome_is_read size bytes (Ok done) place is outcome

@@ -1,5 +1,8 @@
--- What a text spells is within the limits, and each of its points is at most 10^32 units away from 0 on each axis.
-use Rattle.std.proofs.Common.{◌≡◌, ℕ, ◌+◌, ◌-◌, ◌^◌, ◌<◌, ◌≤◌, Bool, true, false, not, ◌==◌, ◌||◌, nat_lt, List, [], ◌∷◌, length, ℤ, Option, Some, None, Result, Ok, Err, IfOk, if◌then◌else◌, refl, subst, arith}
+-- What a text spells is within the limits, and each of its points is at most 10^32 units away from
+-- 0 on each axis.
+use Rattle.std.proofs.Common.{◌≡◌, ℕ, ◌+◌, ◌-◌, ◌^◌, ◌<◌, ◌≤◌, Bool, true, false, not, ◌==◌, ◌||◌}
+use Rattle.std.proofs.Common.{nat_lt, List, [], ◌∷◌, length, ℤ, Option, Some, None, Result, Ok, Err}
+use Rattle.std.proofs.Common.{IfOk, if◌then◌else◌, refl, subst, arith}
 use Rattle.std.specs.Prelude.{nat_le, unsigned_abs}
 use Rattle.std.specs.List.{All}
 use Rattle.std.proofs.lemmas.Bool.{ltb-false, or_parts}
@@ -13,14 +16,19 @@ use Rattle.obj_read.specs.Coordinates.{with_sign, without_sign, is_negative}
 use Rattle.obj_read.specs.Indices.{index_text}
 use Rattle.obj_scan.specs.Forms.{line_content}
 use Rattle.obj_scan.specs.Refusals.{Refused}
-use Rattle.obj_read.proofs.FormedLaws.{Gives, given, then_gives, unless, either, index_within, not_full}
+use Rattle.obj_read.proofs.FormedLaws.{Gives, given, then_gives, unless, either, index_within}
+use Rattle.obj_read.proofs.FormedLaws.{not_full}
 use Rattle.obj_read.proofs.DecimalLaws.{with_sign_abs}
 use Rattle.obj_prepare.specs.Exact.{AreExact}
 use Rattle.pm_ears.specs.Recutting.{IsPolygonWithin}
 use Rattle.obj_prepare.specs.Named.{AreVerticesBelow}
 use Rattle.obj_prepare.specs.Numbers.{units_of_text, exponent, is_decimal, decimal_coordinate}
-use Rattle.obj_scan.specs.Judged.{Scanned, Found, nothing, vertex, polygon, scanned_vertex_line, indices, polygon_of, polygon_line, scanned_fields, scanned_line, has_weight, with_scanned}
-use Rattle.obj_scan.specs.Meaning.{ScannedSoFar, nothing_scanned, joined_text, and_continued, and_scanned_line, judged_length, then_found, line_judged, then_scanned_lines, at_end, scan_meaning_from, scan_meaning_of}
+use Rattle.obj_scan.specs.Judged.{Scanned, Found, nothing, vertex, polygon, scanned_vertex_line}
+use Rattle.obj_scan.specs.Judged.{indices, polygon_of, polygon_line, scanned_fields, scanned_line}
+use Rattle.obj_scan.specs.Judged.{has_weight, with_scanned}
+use Rattle.obj_scan.specs.Meaning.{ScannedSoFar, nothing_scanned, joined_text, and_continued}
+use Rattle.obj_scan.specs.Meaning.{and_scanned_line, judged_length, then_found, line_judged}
+use Rattle.obj_scan.specs.Meaning.{then_scanned_lines, at_end, scan_meaning_from, scan_meaning_of}
 use Rattle.obj_scan.specs.Reading.{IsScanning}
 use Rattle.obj_scan.proofs.ScanLaws.{vertex_scanning, polygon_scanning}
 
@@ -34,9 +42,16 @@ coordinate_exact field =
     let n = units_of_text number in
     let z = with_sign (is_negative field) n in
     let far = nat_lt 999 (exponent number) || nat_lt (10 ^ 32) n in
-    unless IsExact (not (is_decimal number)) faults.BadNumber (if far then Err faults.OutOfRange else Ok z)
+    unless IsExact (not (is_decimal number)) faults.BadNumber (if far then Err faults.OutOfRange
+    else Ok z)
     (λ digits_are. unless IsExact far faults.OutOfRange (Ok z)
-    (λ small. given IsExact z (omega (arith, with_sign_abs (is_negative field) n, ltb-false (10 ^ 32) n (or_parts (nat_lt 999 (exponent number)) (nat_lt (10 ^ 32) n) small).1))))
+    (λ small. given IsExact z
+    (omega (
+      arith,
+      with_sign_abs (is_negative field) n,
+      ltb-false (10 ^ 32) n
+          (or_parts (nat_lt 999 (exponent number)) (nat_lt (10 ^ 32) n) small).1,
+    ))))
 
 -- After n vertices and k triangles there is room for what a line gives.
 Suits : ℕ → ℕ → Found → Type 0
@@ -50,26 +65,34 @@ vertex_suits n k [] = record { so = tt }
 vertex_suits n k (a ∷ []) = record { so = tt }
 vertex_suits n k (a ∷ b ∷ []) = record { so = tt }
 vertex_suits n k (a ∷ b ∷ c ∷ more) =
-    then_gives _ _ _ _ (coordinate_exact a) (λ x exact_x. then_gives _ _ _ _ (coordinate_exact b) (λ y exact_y. then_gives _ _ _ _ (coordinate_exact c) (λ z exact_z.
+    then_gives _ _ _ _ (coordinate_exact a)
+    (λ x exact_x. then_gives _ _ _ _ (coordinate_exact b)
+    (λ y exact_y. then_gives _ _ _ _ (coordinate_exact c) (λ z exact_z.
     let v = vertex (record { x = x; y = y; z = z }) (has_weight more) in
-    unless (Suits n k) (nat_le 1048576 n) faults.TooMany (Ok v) (λ room. given (Suits n k) v (not_full n room, (exact_x, exact_y, exact_z))))))
+    unless (Suits n k) (nat_le 1048576 n) faults.TooMany (Ok v)
+    (λ room. given (Suits n k) v (not_full n room, (exact_x, exact_y, exact_z))))))
 
 indices_within : (n : ℕ) (fs : List (List ℕ)) → Gives (All (λ (c : ℕ). c < n)) (indices n fs)
 indices_within n [] = given _ _ (All-nil (λ (c : ℕ). c < n))
 indices_within n (field ∷ more) =
-    then_gives _ _ _ _ (index_within n (index_text field)) (λ v low. then_gives _ _ _ _ (indices_within n more) (λ vs all.
+    then_gives _ _ _ _ (index_within n (index_text field))
+    (λ v low. then_gives _ _ _ _ (indices_within n more) (λ vs all.
     given _ _ (All-cons (λ (c : ℕ). c < n) v vs low all)))
 
-polygon_suits : (n k : ℕ) (corners : List ℕ) → All (λ (c : ℕ). c < n) corners → Gives (Suits n k) (polygon_of k corners)
+polygon_suits : (n k : ℕ) (corners : List ℕ) → All (λ (c : ℕ). c < n) corners
+    → Gives (Suits n k) (polygon_of k corners)
 unfolding Suits
 polygon_suits n k corners all =
-    unless (Suits n k) (nat_lt 1048576 (k + (length corners - 2))) faults.TooMany (Ok (polygon corners)) (λ room. given (Suits n k) (polygon corners) (all, grind (arith, nat_tests, room)))
+    unless (Suits n k) (nat_lt 1048576 (k + (length corners - 2))) faults.TooMany
+    (Ok (polygon corners))
+    (λ room. given (Suits n k) (polygon corners) (all, grind (arith, nat_tests, room)))
 
 face_suits : (n k : ℕ) (fs : List (List ℕ)) → Gives (Suits n k) (polygon_line n k fs)
 face_suits n k [] = record { so = tt }
 face_suits n k (a ∷ []) = record { so = tt }
 face_suits n k (a ∷ b ∷ []) = record { so = tt }
-face_suits n k (a ∷ b ∷ c ∷ more) = then_gives _ _ _ _ (indices_within n (a ∷ b ∷ c ∷ more)) (polygon_suits n k)
+face_suits n k (a ∷ b ∷ c ∷ more) =
+    then_gives _ _ _ _ (indices_within n (a ∷ b ∷ c ∷ more)) (polygon_suits n k)
 
 nothing_suits : (n k : ℕ) → Gives (Suits n k) (Ok nothing)
 unfolding Suits
@@ -77,7 +100,9 @@ nothing_suits n k = given (Suits n k) nothing tt
 
 fields_suit : (n k : ℕ) (fs : List (List ℕ)) → Gives (Suits n k) (scanned_fields n k fs)
 fields_suit n k [] = nothing_suits n k
-fields_suit n k (keyword ∷ more) = either _ _ _ _ (vertex_suits n k more) (either _ _ _ _ (face_suits n k more) (nothing_suits n k))
+fields_suit n k (keyword ∷ more) =
+    either _ _ _ _ (vertex_suits n k more)
+    (either _ _ _ _ (face_suits n k more) (nothing_suits n k))
 
 line_suits : (n k : ℕ) (text : List ℕ) → Gives (Suits n k) (scanned_line n k text)
 unfolding scanned_line
@@ -87,7 +112,8 @@ pub record IsSound (s : Scanned) : Type 0 where
   pub exact : All AreExact s.points
   pub scanning : IsScanning s
 
-with_found_sound : (s : Scanned) (f : Found) → IsSound s → Suits (length s.points) (length s.faces) f → IsSound (with_scanned s f)
+with_found_sound : (s : Scanned) (f : Found) → IsSound s
+    → Suits (length s.points) (length s.faces) f → IsSound (with_scanned s f)
 unfolding Suits
 with_found_sound s nothing sound suits = sound
 with_found_sound s (vertex p weighted) sound suits = record {
@@ -104,32 +130,43 @@ with_found_sound s (polygon corners) sound suits = record {
 abbrev AfterSound : ScannedSoFar → Type 0
 AfterSound s = IsSound s.scanned
 
-then_found_sound : (r : Result Found ObjFault) (s : ScannedSoFar) (line : List ℕ) → Gives (Suits (length s.scanned.points) (length s.scanned.faces)) r → AfterSound s → Gives AfterSound (then_found r s line)
+then_found_sound : (r : Result Found ObjFault) (s : ScannedSoFar) (line : List ℕ)
+    → Gives (Suits (length s.scanned.points) (length s.scanned.faces)) r → AfterSound s
+    → Gives AfterSound (then_found r s line)
 unfolding and_scanned_line
 then_found_sound (Ok f) s line suits sound = given _ _ (with_found_sound s.scanned f sound suits.so)
 then_found_sound (Err e) s line suits sound = record { so = tt }
 
-judged_sound : (s : ScannedSoFar) (line : List ℕ) → AfterSound s → Gives AfterSound (line_judged s line)
+judged_sound : (s : ScannedSoFar) (line : List ℕ) → AfterSound s
+    → Gives AfterSound (line_judged s line)
 unfolding line_judged and_continued
 judged_sound s line sound =
     either AfterSound (is_continued (line_content s.number (until 10 line))) _ _
     (given AfterSound (and_continued s line) sound)
-    (then_found_sound (scanned_line (length s.scanned.points) (length s.scanned.faces) (joined_text s line)) s line (line_suits _ _ (joined_text s line)) sound)
+    (then_found_sound
+    (scanned_line (length s.scanned.points) (length s.scanned.faces) (joined_text s line)) s
+    line (line_suits _ _ (joined_text s line)) sound)
 
-then_lines_sound : (r : Option Refused) (next : Result ScannedSoFar ObjFault) (s : ScannedSoFar) (line : List ℕ) (more : ScannedSoFar → Result Scanned Refused) → Gives AfterSound next
-    → ((t : ScannedSoFar) → AfterSound t → IfOk (more t) IsSound) → IfOk (then_scanned_lines r next s line more) IsSound
+then_lines_sound : (r : Option Refused) (next : Result ScannedSoFar ObjFault) (s : ScannedSoFar)
+    (line : List ℕ) (more : ScannedSoFar → Result Scanned Refused) → Gives AfterSound next
+    → ((t : ScannedSoFar) → AfterSound t → IfOk (more t) IsSound)
+    → IfOk (then_scanned_lines r next s line more) IsSound
 then_lines_sound (Some r) next s line more sound keeps = tt
 then_lines_sound None (Ok t) s line more sound keeps = keeps t sound.so
 then_lines_sound None (Err e) s line more sound keeps = tt
 
-end_sound : (s : ScannedSoFar) (ended : Bool) → (s.continued == 0) ≡ ended → AfterSound s → IfOk (at_end s) IsSound
+end_sound : (s : ScannedSoFar) (ended : Bool) → (s.continued == 0) ≡ ended → AfterSound s
+    → IfOk (at_end s) IsSound
 end_sound s true is sound = rw is sound
 end_sound s false is sound = rw is tt
 
-meaning_from_sound : (s : ScannedSoFar) (ls : List (List ℕ)) → AfterSound s → IfOk (scan_meaning_from s ls) IsSound
+meaning_from_sound : (s : ScannedSoFar) (ls : List (List ℕ)) → AfterSound s
+    → IfOk (scan_meaning_from s ls) IsSound
 meaning_from_sound s [] sound = end_sound s (s.continued == 0) refl sound
 meaning_from_sound s (line ∷ more) sound =
-    then_lines_sound (judged_length s line) (line_judged s line) s line (λ t. scan_meaning_from t more) (judged_sound s line sound) (λ t keeps. meaning_from_sound t more keeps)
+    then_lines_sound (judged_length s line) (line_judged s line) s line
+    (λ t. scan_meaning_from t more) (judged_sound s line sound)
+    (λ t keeps. meaning_from_sound t more keeps)
 
 nothing_sound : IsSound (record { points = []; faces = []; polygons = []; weights = 0 })
 nothing_sound = record {
@@ -149,4 +186,6 @@ nothing_sound = record {
 
 pub meaning_sound : (bytes : List ℕ) (s : Scanned) → scan_meaning_of bytes ≡ Ok s → IsSound s
 unfolding scan_meaning_of
-meaning_sound bytes s is = subst (λ (r : Result Scanned Refused). IfOk r IsSound) is (meaning_from_sound nothing_scanned (lines bytes) nothing_sound)
+meaning_sound bytes s is =
+    subst (λ (r : Result Scanned Refused). IfOk r IsSound) is
+    (meaning_from_sound nothing_scanned (lines bytes) nothing_sound)

@@ -1,5 +1,6 @@
 -- A text that needs nothing comes back as it is.
-use Rattle.std.proofs.Common.{◌≡◌, ℕ, ◌-◌, ◌<◌, true, List, [], ◌∷◌, ◌++◌, length, map, Option, None, Ok, refl, sym, ap, ◌∙◌, subst, arith}
+use Rattle.std.proofs.Common.{◌≡◌, ℕ, ◌-◌, ◌<◌, true, List, [], ◌∷◌, ◌++◌, length, map, Option}
+use Rattle.std.proofs.Common.{None, Ok, refl, sym, ap, ◌∙◌, subst, arith}
 use Rattle.std.specs.List.{All}
 use Rattle.std.proofs.lemmas.Bool.{true≢false}
 use Rattle.std.proofs.lemmas.List.{length-map}
@@ -32,7 +33,8 @@ use Rattle.obj_prepare.proofs.TurnedLaws.{turned_stand}
 use Rattle.std.specs.Prelude.{codes}
 use Rattle.obj_fit.specs.Thin.{thin_count}
 use Rattle.obj_fit.specs.Texts.{output_text, note_line, last_note, notes_text}
-use Rattle.obj_fit.specs.Outcome.{Done, MakesPrepared, cut_in, fit_in, places_in, counts_in, IsPreparedText, made}
+use Rattle.obj_fit.specs.Outcome.{Done, MakesPrepared, cut_in, fit_in, places_in, counts_in}
+use Rattle.obj_fit.specs.Outcome.{IsPreparedText, made}
 use Rattle.obj_fit.specs.Laws.{NeedsNothing, as_it_is, FitScansStay, FitTextsStay}
 use Rattle.obj_fit.proofs.RecutLaws.{cut_long, cut_named, cut_within}
 use Rattle.obj_fit.proofs.ScannedLaws.{meaning_sound}

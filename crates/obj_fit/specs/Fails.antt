@@ -29,11 +29,15 @@ pub record HasPreparedFault (size : Option ℕ) (bytes : List ℕ) (f : Fault) :
 pub record PlaceUnreached (size : Option ℕ) (left now : Option (List ℕ)) : Type 0 where
   pub taken : List ℕ
   pub took : Loses left now taken
-  pub before : IfSome left (λ bytes. (r : Result Done Fault) (place : Option ℕ) → IsPreparedText size bytes r place → IfSome place (λ n. length taken < n))
+  pub before : IfSome left (λ bytes. (r : Result Done Fault) (place : Option ℕ)
+      → IsPreparedText size bytes r place → IfSome place (λ n. length taken < n))
 
--- Why nothing could be made of what the source had left: `left` at first and `now` then, and what its count did. Only a
--- failed read is counted.
-abbrev pub StopsPreparing : Option ℕ → InputFail → Option (List ℕ) → Option (List ℕ) → ℕ → ℕ → Type 0
-StopsPreparing size (input.Faulty f) left now in_old in_new = IfSome left (λ bytes. HasPreparedFault size bytes f) × (in_new ≡ in_old)
-StopsPreparing size input.Read left now in_old in_new = PlaceUnreached size left now × Rose in_old in_new
+-- Why nothing could be made of what the source had left: `left` at first and `now` then, and what
+-- its count did. Only a failed read is counted.
+abbrev pub StopsPreparing : Option ℕ → InputFail → Option (List ℕ) → Option (List ℕ) → ℕ → ℕ
+    → Type 0
+StopsPreparing size (input.Faulty f) left now in_old in_new =
+    IfSome left (λ bytes. HasPreparedFault size bytes f) × (in_new ≡ in_old)
+StopsPreparing size input.Read left now in_old in_new =
+    PlaceUnreached size left now × Rose in_old in_new
 StopsPreparing size input.OutOfMemory left now in_old in_new = in_new ≡ in_old

@@ -1,5 +1,6 @@
 -- The laws of outcomes, each as a statement. Byte 10 is LF, 13 is CR, and 35 is `#`.
-use Rattle.std.specs.Prelude.{◌≡◌, ℕ, ◌+◌, ◌-◌, ◌<◌, ◌≤◌, ℤ, pos, true, List, ◌∷◌, ◌++◌, length, drop, codes, Option, None, Result, Ok}
+use Rattle.std.specs.Prelude.{◌≡◌, ℕ, ◌+◌, ◌-◌, ◌<◌, ◌≤◌, ℤ, pos, true, List, ◌∷◌, ◌++◌, length}
+use Rattle.std.specs.Prelude.{drop, codes, Option, None, Result, Ok}
 use Rattle.pm_base.specs.Place.{Place}
 use Rattle.pm_base.specs.Meshes.{Mesh, IsWellFormed}
 use Rattle.pm_base.specs.Sides.{net_of}
@@ -8,7 +9,8 @@ use Rattle.pm_base.specs.Canonical.{canonical_text}
 use Rattle.obj_lines.specs.Text.{until}
 use Rattle.pm_fans.specs.Splits.{AllStand}
 use Rattle.pm_turn.specs.Told.{AreInsideOut}
-use Rattle.obj_read.specs.Coordinates.{is_negative, without_sign, decimals, is_number, are_zeros, magnitude, with_sign}
+use Rattle.obj_read.specs.Coordinates.{is_negative, without_sign, decimals, is_number, are_zeros}
+use Rattle.obj_read.specs.Coordinates.{magnitude, with_sign}
 use Rattle.obj_read.specs.Meaning.{meaning_of}
 use Rattle.obj_scan.specs.Judged.{Scanned}
 use Rattle.obj_scan.specs.Meaning.{scan_meaning_of}
@@ -24,7 +26,8 @@ use Rattle.obj_prepare.specs.Laws.{AreFit}
 use Rattle.obj_fit.specs.declared.fault.Fault.{Fault}
 use Rattle.obj_fit.specs.Thin.{thin_count}
 use Rattle.obj_fit.specs.Texts.{output_text, note_line, notes_text, last_note}
-use Rattle.obj_fit.specs.Outcome.{Done, MakesPrepared, IsPreparedText, cut_in, overlapping_in, fit_in, places_in, counts_in}
+use Rattle.obj_fit.specs.Outcome.{Done, MakesPrepared, IsPreparedText, cut_in, overlapping_in}
+use Rattle.obj_fit.specs.Outcome.{fit_in, places_in, counts_in}
 
 -- A text has one outcome, and one place that decides it.
 abbrev pub OnePreparedText : Type 0
@@ -112,11 +115,13 @@ pub record IsAccounted (size : Option ℕ) (s : Scanned) (m : Mesh)
 -- So the numbers that are said of a mesh account for each vertex and triangle of its text.
 abbrev pub TextsAreAccounted : Type 0
 TextsAreAccounted = (size : Option ℕ) (bytes : List ℕ) (s : Scanned) (done : Done)
-    → scan_meaning_of bytes ≡ Ok s → (k : MakesPrepared size s done) → IsAccounted size s k.mesh k.notes
+    → scan_meaning_of bytes ≡ Ok s → (k : MakesPrepared size s done)
+    → IsAccounted size s k.mesh k.notes
 
 -- The text of a mesh, prepared without a size, comes back after a comment. Vertices that were split
 -- off stand at one place, so they are joined, and as many are split off again, maybe along sides
--- that are cut open. Nothing else is done: no face is turned again, and none was joined by rounding.
+-- that are cut open. Nothing else is done: no face is turned again, and none was joined by
+-- rounding.
 pub record ComesBack (text : List ℕ) (m : Mesh) : Type 0 where
   pub notes : Notes
   pub told : IsPreparedWith m.points m.faces m notes
@@ -163,8 +168,8 @@ pub record NeedsNothing (size : Option ℕ) (s : Scanned) : Type 0 where
   pub fit : AreFit (places_in size s) (cut_in size s)
 
 -- The output and the notes of these triangles over the places of these points: polygons that were
--- cut, those that overlap, weights that were passed over, closed surfaces inside out, faces without area, and how
--- places lead back.
+-- cut, those that overlap, weights that were passed over, closed surfaces inside out, faces without
+-- area, and how places lead back.
 abbrev pub as_it_is : Option ℕ → Scanned → ℕ → Done
 as_it_is size s inside_out = record {
   text = output_text (fit_in size s) (record { points = places_in size s; faces = cut_in size s });

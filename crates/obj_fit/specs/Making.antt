@@ -15,7 +15,10 @@ use Rattle.obj_fit.specs.Outcome.{Done, LeavesNoFace, cut_in, fit_in, overlappin
 
 -- The texts that are written and said of it.
 abbrev pub done_of : Made → Done
-done_of m = record { text = m.head.items ++ canonical_text 0 (mesh_of m.mesh); notes = m.notes.items }
+done_of m = record {
+  text = m.head.items ++ canonical_text 0 (mesh_of m.mesh);
+  notes = m.notes.items;
+}
 
 -- Of points and triangles no mesh is made where too many vertices come out or no face, or memory
 -- is wanting.

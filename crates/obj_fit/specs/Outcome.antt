@@ -1,5 +1,6 @@
 -- What comes of an OBJ text.
-use Rattle.std.specs.Prelude.{◌≡◌, ℕ, ◌-◌, ◌*◌, ◌<◌, ◌==◌, nat_le, List, length, Option, Some, None, Result, Ok, Err, if◌then◌else◌}
+use Rattle.std.specs.Prelude.{◌≡◌, ℕ, ◌-◌, ◌*◌, ◌<◌, ◌==◌, nat_le, List, length, Option, Some, None}
+use Rattle.std.specs.Prelude.{Result, Ok, Err, if◌then◌else◌}
 use Rattle.pm_base.specs.declared.mesh.Corners.{Corners}
 use Rattle.pm_base.specs.Place.{Place}
 use Rattle.pm_base.specs.Meshes.{Mesh, IsWellFormed}
@@ -47,8 +48,8 @@ abbrev pub overlapping_in : Option ℕ → Scanned → ℕ
 overlapping_in size s = overlapping_count (places_in size s) s.polygons s.faces
 
 -- How many vertices and triangles there were, and came out; how many polygons were cut, and how
--- many of them overlap; how many weights were passed over; how many of these triangles name a vertex
--- twice; and how many faces came out without area.
+-- many of them overlap; how many weights were passed over; how many of these triangles name a
+-- vertex twice; and how many faces came out without area.
 abbrev pub counts_of : Scanned → List Corners → ℕ → Mesh → Counts
 counts_of s cut overlapping m = record {
   vertices_in = length s.points;
@@ -106,7 +107,8 @@ pub record LeavesNoFace (places : List Place) (faces : List Corners) : Type 0 wh
 -- The text has a line with a fault, or more vertices come of it than a mesh may have, or no face,
 -- or a mesh is made of it; and how
 -- many bytes decide that, where it isn't the end of the text.
-pub data IsPreparedText (size : Option ℕ) (bytes : List ℕ) : Result Done Fault → Option ℕ → Type 0 where
+pub data IsPreparedText (size : Option ℕ) (bytes : List ℕ) : Result Done Fault → Option ℕ
+    → Type 0 where
   bad_line : (r : Refused) → scan_meaning_of bytes ≡ Err r
       → IsPreparedText size bytes (Err (faults.Line r.fault r.line)) r.place
   too_many : (s : Scanned) → scan_meaning_of bytes ≡ Ok s
@@ -115,4 +117,5 @@ pub data IsPreparedText (size : Option ℕ) (bytes : List ℕ) : Result Done Fau
   no_face : (s : Scanned) → scan_meaning_of bytes ≡ Ok s
       → LeavesNoFace (places_in size s) (of_three (cut_in size s))
       → IsPreparedText size bytes (Err faults.NoFaces) None
-  made : (s : Scanned) (done : Done) → scan_meaning_of bytes ≡ Ok s → MakesPrepared size s done → IsPreparedText size bytes (Ok done) None
+  made : (s : Scanned) (done : Done) → scan_meaning_of bytes ≡ Ok s → MakesPrepared size s done
+      → IsPreparedText size bytes (Ok done) None

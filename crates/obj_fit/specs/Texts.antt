@@ -1,5 +1,6 @@
 -- What is written of a mesh that was made, and what is said of it.
-use Rattle.std.specs.Prelude.{ℕ, ◌+◌, ◌==◌, ◌&&◌, pos, List, [], ◌∷◌, ◌++◌, Option, Some, None, codes, if◌then◌else◌}
+use Rattle.std.specs.Prelude.{ℕ, ◌+◌, ◌==◌, ◌&&◌, pos, List, [], ◌∷◌, ◌++◌, Option, Some, None}
+use Rattle.std.specs.Prelude.{codes, if◌then◌else◌}
 use Rattle.std.specs.Fmt.{decimal}
 use Rattle.pm_base.specs.Place.{Place}
 use Rattle.pm_base.specs.Meshes.{Mesh}
@@ -16,11 +17,13 @@ use Rattle.obj_prepare.specs.Back.{WayBack, way_back_of, within_of}
 
 -- The extent of a box, and the steps that it is divided into.
 unfoldable pub scale_text : WayBack → List ℕ
-scale_text way = codes "coordinate = " ++ coordinate_text 18 (pos way.extent) ++ codes " / " ++ decimal way.steps ++ codes " * place + ("
+scale_text way = codes "coordinate = " ++ coordinate_text 18 (pos way.extent) ++ codes " / "
+    ++ decimal way.steps ++ codes " * place + ("
 
 -- A middle, axis by axis.
 unfoldable pub middle_text : Place → List ℕ
-middle_text m = coordinate_text 19 m.x ++ codes " " ++ coordinate_text 19 m.y ++ codes " " ++ coordinate_text 19 m.z
+middle_text m = coordinate_text 19 m.x ++ codes " " ++ coordinate_text 19 m.y ++ codes " "
+    ++ coordinate_text 19 m.z
 
 -- `coordinate = E / D * place + (X Y Z)`: how places lead back to coordinates.
 unfoldable pub way_text : WayBack → List ℕ
@@ -37,7 +40,8 @@ output_text fit m = head_line fit ++ canonical_text 0 m
 
 -- `prepare: WHAT N`, where N isn't 0.
 unfoldable pub note_line : List ℕ → ℕ → List ℕ
-note_line what n = if n == 0 then codes "" else codes "prepare: " ++ what ++ codes " " ++ decimal n ++ codes "\n"
+note_line what n = if n == 0 then codes "" else codes "prepare: " ++ what ++ codes " " ++ decimal n
+    ++ codes "\n"
 
 -- How near places are to the coordinates.
 unfoldable pub within_text : WayBack → List ℕ

@@ -1,6 +1,7 @@
 //! The lines of what was done to lines, faces and vertices of the input.
 ghost use Rattle.std.specs.Prelude.{◌≡◌, ◌++◌, OnOk};
-ghost use Rattle.obj_fit.specs.Texts.{note_line, rounding_text, joined_line, line_notes, face_notes, turn_notes, vertex_notes};
+ghost use Rattle.obj_fit.specs.Texts.{note_line, rounding_text, joined_line, line_notes};
+ghost use Rattle.obj_fit.specs.Texts.{face_notes, turn_notes, vertex_notes};
 
 use crate::counts::Counts;
 use crate::text::add_number;

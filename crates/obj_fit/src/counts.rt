@@ -31,15 +31,16 @@ pub struct Counts {
     pub thin: u32,
 }
 
-/// The counts of a text, of whose triangles, once polygons were cut anew, these name three vertices,
-/// and of the mesh that came out.
+/// The counts of a text, of whose triangles, once polygons were cut anew, these name three
+/// vertices, and of the mesh that came out.
 pub fn counts_of(scan: &Scan, cut: &Recut, three: &[Corners], mesh: &Mesh) -> Counts
     requires within { IsWithinLimits (scanned_of scan.now) }
     requires cut { length cut.now.faces.items ≤ MOST_FACES }
     requires three { three.now ≡ of_three cut.now.faces.items }
     requires few { length three.now ≤ MOST_FACES }
     requires formed { IsWellFormed (mesh_of mesh.now) }
-    ensures { result ≡ counts_of (scanned_of scan.now) cut.now.faces.items cut.now.overlapping (mesh_of mesh.now) }
+    ensures { result ≡ counts_of (scanned_of scan.now) cut.now.faces.items cut.now.overlapping
+        (mesh_of mesh.now) }
 {
     Counts {
         vertices_in: scan.points.len() as u32,

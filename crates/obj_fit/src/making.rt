@@ -8,7 +8,8 @@ ghost use Rattle.obj_scan.specs.Meaning.{IsWithinLimits};
 ghost use Rattle.obj_prepare.specs.Placing.{IsSize, IsSized};
 ghost use Rattle.obj_prepare.specs.Named.{IsWithinMesh, of_three as of_three_in};
 ghost use Rattle.obj_fit.specs.Texts.{notes_text as notes_text_of};
-ghost use Rattle.obj_fit.specs.Outcome.{MakesPrepared, IsPreparedText, counts_of, warning_for, rounded_for};
+ghost use Rattle.obj_fit.specs.Outcome.{MakesPrepared, IsPreparedText, counts_of, warning_for};
+ghost use Rattle.obj_fit.specs.Outcome.{rounded_for};
 ghost use Rattle.obj_fit.specs.Making.{done_of, IsMakeFail};
 ghost use Rattle.obj_fit.specs.Fails.{StopsPreparing};
 
@@ -89,9 +90,15 @@ fn notes_of(
     requires three { laid.now.three.items ≡ of_three_in laid.now.cut.faces.items }
     requires three_within { IsWithinMesh (length scan.now.points.items) laid.now.three.items }
     requires formed { IsWellFormed (mesh_of prepared.now.mesh) }
-    ensures { IfOk result (λ text. text.items ≡ notes_text_of (counts_of (scanned_of scan.now) laid.now.cut.faces.items laid.now.cut.overlapping (mesh_of prepared.now.mesh)) prepared.now.notes
-        (rounded_for scan.now.points.items laid.now.placing.places.items laid.now.three.items prepared.now.notes.joined) laid.now.placing.fit
-        (warning_for laid.now.placing.fit scan.now.points.items laid.now.fans.items prepared.now.notes.flat)) }
+    ensures { IfOk result
+        (λ text. text.items
+        ≡ notes_text_of
+        (counts_of (scanned_of scan.now) laid.now.cut.faces.items laid.now.cut.overlapping
+        (mesh_of prepared.now.mesh)) prepared.now.notes
+        (rounded_for scan.now.points.items laid.now.placing.places.items laid.now.three.items
+        prepared.now.notes.joined) laid.now.placing.fit
+        (warning_for laid.now.placing.fit scan.now.points.items laid.now.fans.items
+        prepared.now.notes.flat)) }
 {
     let counts = counts_of(scan, &laid.cut, &laid.three, &prepared.mesh);
     let done = prepared.notes;
@@ -131,16 +138,20 @@ fn make_of(alloc: Global, size: Option<u32>, scan: &Scan) -> Result<Made, InputF
     Ok(Made { head, mesh, notes })
 }
 
-/// Reads an OBJ text to its end, and makes a mesh of it. A line with a fault is refused as soon as the byte that shows the
-/// fault has come.
+/// Reads an OBJ text to its end, and makes a mesh of it. A line with a fault is refused as soon as
+/// the byte that shows the fault has come.
 pub fn make<S: Source>(alloc: Global, size: Option<u32>, input: &mut S) -> Result<Made, InputFail>
     requires size { IsSize size }
     requires not_ended { S.ended input.old ≡ false }
-    ensures made { IfOk result (λ m. IfSome (S.left input.old) (λ bytes. IsPreparedText size bytes (Ok (done_of m)) None)) }
+    ensures made { IfOk result
+        (λ m. IfSome (S.left input.old)
+        (λ bytes. IsPreparedText size bytes (Ok (done_of m)) None)) }
     ensures formed { IfOk result (λ m. IsWellFormed (mesh_of m.mesh)) }
     ensures end { OnOk result (AtEnd (S.left input.new)) }
     ensures count { OnOk result (S.faults input.new ≡ S.faults input.old) }
-    ensures err { IfErr result (λ e. StopsPreparing size e (S.left input.old) (S.left input.new) (S.faults input.old) (S.faults input.new)) }
+    ensures err { IfErr result
+        (λ e. StopsPreparing size e (S.left input.old) (S.left input.new) (S.faults input.old)
+        (S.faults input.new)) }
 {
     let scan = match scan_obj(alloc, input) {
         Ok(scan) => scan,

@@ -1,10 +1,12 @@
 //! The line that tells how places lead back, and what is said of the work.
-ghost use Rattle.std.specs.Prelude.{◌≡◌, ◌<◌, ◌≤◌, ◌+◌, ◌-◌, ◌/◌, ◌^◌, ◌*◌, ◌++◌, OnOk, IfOk, codes, pos, ◌+ℤ◌, ◌*ℤ◌, unsigned_abs};
+ghost use Rattle.std.specs.Prelude.{◌≡◌, ◌<◌, ◌≤◌, ◌+◌, ◌-◌, ◌/◌, ◌^◌, ◌*◌, ◌++◌, OnOk, IfOk};
+ghost use Rattle.std.specs.Prelude.{codes, pos, ◌+ℤ◌, ◌*ℤ◌, unsigned_abs};
 ghost use Rattle.pm_base.specs.Canonical.{coordinate_text};
 ghost use Rattle.pm_base.specs.declared.limits.TheConstants.{GREATEST_COORDINATE};
 ghost use Rattle.obj_prepare.specs.Back.{middle, middle_of, way_back_of};
 ghost use Rattle.obj_prepare.specs.Placing.{IsSized};
-ghost use Rattle.obj_fit.specs.Texts.{scale_text, middle_text, way_text, head_line as head_line_of, last_note, within_text, notes_text};
+ghost use Rattle.obj_fit.specs.Texts.{scale_text, middle_text, way_text, head_line as head_line_of};
+ghost use Rattle.obj_fit.specs.Texts.{last_note, within_text, notes_text};
 
 use crate::account::add_account;
 use crate::changes::{add_face_notes, add_note, add_turn_notes, add_vertex_notes};
@@ -59,26 +61,30 @@ fn add_scale(text: &mut Vec<u8>, size: u32, b: &PointBox) -> Result<(), AllocErr
 fn add_axis(text: &mut Vec<u8>, low: i128, high: i128) -> Result<(), AllocError>
     requires low { unsigned_abs low ≤ 10 ^ 32 }
     requires high { unsigned_abs high ≤ 10 ^ 32 }
-    ensures { OnOk result (text.new.items ≡ text.old.items ++ coordinate_text 19 (middle low high)) }
+    ensures { OnOk result (text.new.items ≡ text.old.items
+        ++ coordinate_text 19 (middle low high)) }
 {
     add_coordinate(text, middle(low, high))
 }
 
 // Adds the middle of each axis of a box.
 fn add_x(text: &mut Vec<u8>, b: &PointBox) -> Result<(), AllocError>
-    ensures { OnOk result (text.new.items ≡ text.old.items ++ coordinate_text 19 (middle b.now.low.x b.now.high.x)) }
+    ensures { OnOk result (text.new.items ≡ text.old.items
+        ++ coordinate_text 19 (middle b.now.low.x b.now.high.x)) }
 {
     add_axis(text, b.low.x(), b.high.x())
 }
 
 fn add_y(text: &mut Vec<u8>, b: &PointBox) -> Result<(), AllocError>
-    ensures { OnOk result (text.new.items ≡ text.old.items ++ coordinate_text 19 (middle b.now.low.y b.now.high.y)) }
+    ensures { OnOk result (text.new.items ≡ text.old.items
+        ++ coordinate_text 19 (middle b.now.low.y b.now.high.y)) }
 {
     add_axis(text, b.low.y(), b.high.y())
 }
 
 fn add_z(text: &mut Vec<u8>, b: &PointBox) -> Result<(), AllocError>
-    ensures { OnOk result (text.new.items ≡ text.old.items ++ coordinate_text 19 (middle b.now.low.z b.now.high.z)) }
+    ensures { OnOk result (text.new.items ≡ text.old.items
+        ++ coordinate_text 19 (middle b.now.low.z b.now.high.z)) }
 {
     add_axis(text, b.low.z(), b.high.z())
 }
@@ -137,7 +143,8 @@ fn rounded_up(n: u128, parts: u64) -> u128
 fn add_within(text: &mut Vec<u8>, size: u32, b: &PointBox) -> Result<(), AllocError>
     requires some { 0 < size }
     requires few { size ≤ GREATEST_COORDINATE }
-    ensures { OnOk result (text.new.items ≡ text.old.items ++ within_text (way_back_of size b.now)) }
+    ensures { OnOk result (text.new.items ≡ text.old.items
+        ++ within_text (way_back_of size b.now)) }
 {
     text.extend_from_slice(b"prepare: places are within ")?;
     add_length(text, rounded_up(extent(b), 4 * u64::from(size)))?;
@@ -149,7 +156,9 @@ fn add_within(text: &mut Vec<u8>, size: u32, b: &PointBox) -> Result<(), AllocEr
 fn add_scaled(text: &mut Vec<u8>, size: u32, b: &PointBox) -> Result<(), AllocError>
     requires some { 0 < size }
     requires few { size ≤ GREATEST_COORDINATE }
-    ensures { OnOk result (text.new.items ≡ text.old.items ++ (codes "prepare: " ++ way_text (way_back_of size b.now) ++ within_text (way_back_of size b.now))) }
+    ensures { OnOk result (text.new.items ≡ text.old.items
+        ++ (codes "prepare: " ++ way_text (way_back_of size b.now)
+        ++ within_text (way_back_of size b.now))) }
 {
     text.extend_from_slice(b"prepare: ")?;
     add_way_back(text, size, b)?;
@@ -178,7 +187,8 @@ fn add_notes(
     warning: Option<LongestAxis>,
 ) -> Result<(), AllocError>
     requires { IsSized fit.now }
-    ensures { OnOk result (text.new.items ≡ text.old.items ++ notes_text counts notes.now rounded fit.now warning) }
+    ensures { OnOk result (text.new.items ≡ text.old.items
+        ++ notes_text counts notes.now rounded fit.now warning) }
 {
     add_account(text, counts)?;
     add_face_notes(text, counts, notes, rounded)?;
@@ -201,7 +211,8 @@ pub fn notes_text(
     warning: Option<LongestAxis>,
 ) -> Result<Vec<u8>, AllocError>
     requires { IsSized fit.now }
-    ensures { IfOk result (λ text. text.items ≡ notes_text counts notes.now rounded fit.now warning) }
+    ensures { IfOk result
+        (λ text. text.items ≡ notes_text counts notes.now rounded fit.now warning) }
 {
     let mut text = Vec::new(alloc);
     add_notes(&mut text, counts, notes, rounded, fit, warning)?;

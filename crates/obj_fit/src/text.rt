@@ -1,5 +1,6 @@
 //! Text that is put together in memory.
-ghost use Rattle.std.specs.Prelude.{◌≡◌, ◌<◌, ◌≤◌, ◌+◌, ◌*◌, ◌^◌, ◌++◌, codes, OnOk, pos, unsigned_abs};
+ghost use Rattle.std.specs.Prelude.{◌≡◌, ◌<◌, ◌≤◌, ◌+◌, ◌*◌, ◌^◌, ◌++◌, codes, OnOk, pos};
+ghost use Rattle.std.specs.Prelude.{unsigned_abs};
 ghost use Rattle.std.specs.Fmt.{decimal};
 ghost use Rattle.pm_base.specs.Canonical.{last_digits, minus_if, coordinate_text};
 
@@ -58,7 +59,8 @@ fn add_parts(
 ) -> Result<(), AllocError>
     requires few { digits ≤ 19 }
     requires scale { scale ≡ 10 ^ digits }
-    ensures { OnOk result (text.new.items ≡ text.old.items ++ (minus_if negative ++ decimal whole ++ codes "." ++ last_digits digits part)) }
+    ensures { OnOk result (text.new.items ≡ text.old.items
+        ++ (minus_if negative ++ decimal whole ++ codes "." ++ last_digits digits part)) }
 {
     if negative {
         text.extend_from_slice(b"-")?;

@@ -32,7 +32,9 @@ fn add_longest(text: &mut Vec<u8>, longest: LongestAxis) -> Result<(), AllocErro
 
 // Adds that many triangles became edges, and the longest axis.
 fn add_warned(text: &mut Vec<u8>, longest: LongestAxis) -> Result<(), AllocError>
-    ensures { OnOk result (text.new.items ≡ text.old.items ++ (codes "prepare: a tenth of the triangles or more became edges: " ++ longest_text longest)) }
+    ensures { OnOk result (text.new.items ≡ text.old.items
+        ++ (codes "prepare: a tenth of the triangles or more became edges: "
+        ++ longest_text longest)) }
 {
     text.extend_from_slice(b"prepare: a tenth of the triangles or more became edges: ")?;
     add_longest(text, longest)?;

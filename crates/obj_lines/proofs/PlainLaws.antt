@@ -1,5 +1,7 @@
--- What is read of a text without special bytes, and of a comment; and the bytes of the lines of a text.
-use Rattle.std.proofs.Common.{◌≡◌, ℕ, suc, ◌-◌, ◌<◌, Bool, true, false, not, ◌==◌, ◌&&◌, nat_le, List, [], ◌∷◌, length, get_or, refl, sym, ◌∙◌, ap, arith}
+-- What is read of a text without special bytes, and of a comment; and the bytes of the lines of a
+-- text.
+use Rattle.std.proofs.Common.{◌≡◌, ℕ, suc, ◌-◌, ◌<◌, Bool, true, false, not, ◌==◌, ◌&&◌, nat_le}
+use Rattle.std.proofs.Common.{List, [], ◌∷◌, length, get_or, refl, sym, ◌∙◌, ap, arith}
 use Rattle.std.specs.List.{list_all, concat}
 use Rattle.std.proofs.lemmas.Bool.{true≢false, and_parts, eqb-true, ne_eqb, true_from_ne_false}
 use Rattle.std.proofs.lemmas.List.Folds.{list_all_at}
@@ -22,13 +24,18 @@ lacks stop (b ∷ bs) special plain =
     let parts = and_parts (is_plain b) (are_plain bs) plain in
     rw (apart stop b special parts.0) (ap (λ (l : List ℕ). b ∷ l) (lacks stop bs special parts.1))
 
-ends_plain : (stop : ℕ) (xs : List ℕ) → is_plain stop ≡ false → 0 < length xs → are_plain xs ≡ true → ends_with stop xs ≡ false
+ends_plain : (stop : ℕ) (xs : List ℕ) → is_plain stop ≡ false → 0 < length xs → are_plain xs ≡ true
+    → ends_with stop xs ≡ false
 ends_plain stop xs special some plain =
     let last = get_or xs (length xs - 1) 0 in
-    let is : is_plain last ≡ true = true_from_ne_false _ (λ e. true≢false (sym plain ∙ list_all_at is_plain xs (length xs - 1) 0 (omega (arith, some)) e)) in
+    let is : is_plain last ≡ true =
+    true_from_ne_false _
+    (λ e. true≢false
+    (sym plain ∙ list_all_at is_plain xs (length xs - 1) 0 (omega (arith, some)) e)) in
     apart stop last special is
 
--- A text that is read as it stands: it has no LF, no CR at its end, no comment, and no backslash at its end.
+-- A text that is read as it stands: it has no LF, no CR at its end, no comment, and no backslash at
+-- its end.
 pub record IsReadWhole (text : List ℕ) : Type 0 where
   pub clean : until 10 text ≡ text
   pub read : content text ≡ text
@@ -59,8 +66,10 @@ joined_onto : (b : ℕ) (ls : List (List ℕ)) → concat (onto b ls) ≡ b ∷ 
 joined_onto b [] = refl
 joined_onto b (l ∷ ls) = refl
 
-joined_case : (x : ℕ) (xs : List ℕ) (b : Bool) → (x == 10) ≡ b → concat (lines xs) ≡ xs → concat (lines (x ∷ xs)) ≡ x ∷ xs
-joined_case x xs true is same = rw is (ap (λ (l : List ℕ). 10 ∷ l) same ∙ ap (λ (n : ℕ). n ∷ xs) (sym (eqb-true x 10 is)))
+joined_case : (x : ℕ) (xs : List ℕ) (b : Bool) → (x == 10) ≡ b → concat (lines xs) ≡ xs
+    → concat (lines (x ∷ xs)) ≡ x ∷ xs
+joined_case x xs true is same =
+    rw is (ap (λ (l : List ℕ). 10 ∷ l) same ∙ ap (λ (n : ℕ). n ∷ xs) (sym (eqb-true x 10 is)))
 joined_case x xs false is same = rw is (joined_onto x (lines xs) ∙ ap (λ (l : List ℕ). x ∷ l) same)
 
 pub lines_joined : (bytes : List ℕ) → concat (lines bytes) ≡ bytes

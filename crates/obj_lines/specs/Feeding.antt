@@ -1,12 +1,13 @@
 -- What contracts see of the lines of a text that comes in pieces.
-use Rattle.std.specs.Prelude.{ℕ, ◌+◌, ◌-◌, List, [], ◌++◌, Bool, true, false, length, nat_lt, max, if◌then◌else◌}
+use Rattle.std.specs.Prelude.{ℕ, ◌+◌, ◌-◌, List, [], ◌++◌, Bool, true, false, length, nat_lt, max}
+use Rattle.std.specs.Prelude.{if◌then◌else◌}
 use Rattle.obj_lines.specs.declared.limits.TheConstants.{MOST_LINE_BYTES}
 use Rattle.obj_lines.specs.declared.state.LineState.{LineState}
 use Rattle.obj_lines.specs.declared.state.LineState.TheVariants as states
 use Rattle.obj_lines.specs.Text.{until, content, is_continued}
 
--- The bytes of the open line, or of the last whole line where the last answer was that line; the last answer; how many
--- lines were whole; how many bytes were taken.
+-- The bytes of the open line, or of the last whole line where the last answer was that line; the
+-- last answer; how many lines were whole; how many bytes were taken.
 pub record Feeding : Type 0 where
   pub text : List ℕ
   pub state : LineState
@@ -53,7 +54,8 @@ is_open states.Continued text = false
 is_open states.Partial text = nat_lt 0 (length text)
 is_open states.TooLong text = true
 
--- The number of the last whole line, or of the open one where it has bytes; 1 before the first byte.
+-- The number of the last whole line, or of the open one where it has bytes; 1 before the first
+-- byte.
 unfoldable pub number : Feeding → ℕ
 number f = if is_open f.state f.text then f.whole + 1 else max 1 f.whole
 
@@ -76,7 +78,8 @@ fed_state line piece =
     else if has_end piece then line_state (line ++ until 10 piece)
     else states.Partial
 
--- How many bytes of the piece are taken: up to the first byte too many of the line, up to the LF, or all.
+-- How many bytes of the piece are taken: up to the first byte too many of the line, up to the LF,
+-- or all.
 unfoldable pub fed_used : List ℕ → List ℕ → ℕ
 fed_used line piece =
     if is_too_long line piece then MOST_LINE_BYTES + 1 - length line

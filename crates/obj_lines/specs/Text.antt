@@ -1,5 +1,7 @@
--- The lines of a text, and what is read of a line. Byte 10 is LF, 13 is CR, 35 is `#`, and 92 is a backslash.
-use Rattle.std.specs.Prelude.{ℕ, ◌-◌, List, [], ◌∷◌, Bool, ◌==◌, length, take, slice_index_or, if◌then◌else◌}
+-- The lines of a text, and what is read of a line. Byte 10 is LF, 13 is CR, 35 is `#`, and 92 is a
+-- backslash.
+use Rattle.std.specs.Prelude.{ℕ, ◌-◌, List, [], ◌∷◌, Bool, ◌==◌, length, take, slice_index_or}
+use Rattle.std.specs.Prelude.{if◌then◌else◌}
 use Rattle.pm_io.specs.Bytes.{onto}
 
 -- The bytes before the first that is this one.

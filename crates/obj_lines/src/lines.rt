@@ -1,7 +1,9 @@
 //! The lines of a text that comes in pieces.
 ghost use Rattle.std.specs.Prelude.{◌≡◌, ◌+◌, ◌<◌, ◌≤◌, [], length, true, vec_capacity, IfOk};
 ghost use Rattle.obj_lines.specs.declared.limits.TheConstants.{MOST_TEXT_BYTES};
-ghost use Rattle.obj_lines.specs.Feeding.{begun, is_going, is_line, opened, open_line, last_line, line_state, end_state, fed, fed_state, fed_used, finished, number};
+ghost use Rattle.obj_lines.specs.Feeding.{begun, is_going, is_line, opened, open_line, last_line};
+ghost use Rattle.obj_lines.specs.Feeding.{line_state, end_state, fed, fed_state, fed_used};
+ghost use Rattle.obj_lines.specs.Feeding.{finished, number};
 
 use crate::OutOfMemory;
 use crate::limits::MOST_LINE_BYTES;
@@ -12,9 +14,9 @@ use std::marker::Model;
 
 /// The lines of a text that comes in pieces of any size, one line at a time.
 ///
-/// A line ends with LF, and what follows the last LF is a line if it isn't empty. One CR at a line's end isn't read,
-/// nor what stands from its first `#`. Each byte is copied once and looked at a constant number of times, however the
-/// text is cut.
+/// A line ends with LF, and what follows the last LF is a line if it isn't empty. One CR at a
+/// line's end isn't read, nor what stands from its first `#`. Each byte is copied once and looked
+/// at a constant number of times, however the text is cut.
 #[derive(Drop)]
 pub struct Lines {
     text: Vec<u8>,
@@ -25,14 +27,23 @@ pub struct Lines {
 
 impl Model for Lines {
     ghost use Rattle.std.specs.Prelude.{◌+◌, ◌≤◌, if◌then◌else◌, length, vec_len, vec_capacity};
-    ghost use Rattle.obj_lines.specs.declared.limits.TheConstants.{MOST_LINE_BYTES, MOST_TEXT_BYTES};
+    ghost use Rattle.obj_lines.specs.declared.limits.TheConstants.{MOST_LINE_BYTES};
+    ghost use Rattle.obj_lines.specs.declared.limits.TheConstants.{MOST_TEXT_BYTES};
     ghost use Rattle.obj_lines.specs.Feeding.{Feeding, is_open};
 
     ghost Value = { Feeding };
 
-    ghost view = { λ s. record { text = s.text.items; state = s.state; whole = s.whole; taken = s.taken } };
+    ghost view = { λ s. record {
+      text = s.text.items;
+      state = s.state;
+      whole = s.whole;
+      taken = s.taken;
+    } };
 
-    ghost invariant = { λ s. (vec_len s.text ≤ MOST_LINE_BYTES) × (MOST_LINE_BYTES ≤ vec_capacity s.text) × (s.whole + (if is_open s.state s.text.items then 1 else 0) ≤ s.taken) × (s.taken ≤ MOST_TEXT_BYTES) };
+    ghost invariant = { λ s. (vec_len s.text ≤ MOST_LINE_BYTES)
+        × (MOST_LINE_BYTES ≤ vec_capacity s.text)
+        × (s.whole + (if is_open s.state s.text.items then 1 else 0) ≤ s.taken)
+        × (s.taken ≤ MOST_TEXT_BYTES) };
 }
 
 // Drops a line that is whole: the next one begins.
@@ -70,8 +81,9 @@ impl Lines {
         })
     }
 
-    /// Takes the bytes of a piece up to its first LF, and that LF: what is left of the piece is for the next call. No
-    /// call comes after one that answered `TooLong`, and no more than `MOST_TEXT_BYTES` bytes are fed in all.
+    /// Takes the bytes of a piece up to its first LF, and that LF: what is left of the piece is for
+    /// the next call. No call comes after one that answered `TooLong`, and no more than
+    /// `MOST_TEXT_BYTES` bytes are fed in all.
     #[tactic(auto, unfolding(crate::specs::Feeding::fed, crate::specs::Feeding::fed_state, crate::specs::Feeding::fed_used))]
     pub fn feed(&mut self, piece: &[u8]) -> Fed
         requires going { is_going self.old.state ≡ true }
@@ -112,7 +124,8 @@ impl Lines {
         }
     }
 
-    /// The end of input: what follows the last LF is a line if it isn't empty. `Partial` says that there is none.
+    /// The end of input: what follows the last LF is a line if it isn't empty. `Partial` says that
+    /// there is none.
     #[tactic(auto, unfolding(crate::specs::Feeding::finished, crate::specs::Feeding::end_state))]
     pub fn finish(&mut self) -> LineState
         requires { is_going self.old.state ≡ true }
@@ -129,8 +142,8 @@ impl Lines {
         self.state
     }
 
-    /// What is read of the last whole line: not its LF, nor one CR at its end, nor a comment. The last answer was `Whole`
-    /// or `Continued`.
+    /// What is read of the last whole line: not its LF, nor one CR at its end, nor a comment. The
+    /// last answer was `Whole` or `Continued`.
     pub fn line(&self) -> &[u8]
         requires { is_line self.now.state ≡ true }
         ensures { result.now ≡ last_line self.now }
@@ -138,8 +151,8 @@ impl Lines {
         content_of(&self.text)
     }
 
-    /// The number, from 1, of the last whole line, or of the open line where bytes follow the last LF. It is 1 before
-    /// the first byte.
+    /// The number, from 1, of the last whole line, or of the open line where bytes follow the last
+    /// LF. It is 1 before the first byte.
     #[tactic(auto, unfolding(crate::specs::Feeding::number))]
     pub fn number(&self) -> u32
         ensures { result ≡ number self.now }

@@ -1,7 +1,10 @@
 -- The numbers of what was done account for each vertex and triangle.
-use Rattle.std.proofs.Common.{◌≡◌, ℕ, zero, suc, ◌+◌, ◌*◌, ◌<◌, ◌≤◌, Bool, true, false, not, ◌&&◌, ◌||◌, ◌==◌, inl, inr, refl, sym, ap, ◌∙◌, subst, List, [], ◌∷◌, length, get_or, arith}
+use Rattle.std.proofs.Common.{◌≡◌, ℕ, zero, suc, ◌+◌, ◌*◌, ◌<◌, ◌≤◌, Bool, true, false, not, ◌&&◌}
+use Rattle.std.proofs.Common.{◌||◌, ◌==◌, inl, inr, refl, sym, ap, ◌∙◌, subst, List, [], ◌∷◌}
+use Rattle.std.proofs.Common.{length, get_or, arith}
 use Rattle.std.specs.List.{All, list_any}
-use Rattle.std.proofs.lemmas.Bool.{cases_Bool, cases_order, and_from, or_cases, or_left, or_right, or_parts, eq-eqb, eqb-true, false≢true, true≢false}
+use Rattle.std.proofs.lemmas.Bool.{cases_Bool, cases_order, and_from, or_cases, or_left, or_right}
+use Rattle.std.proofs.lemmas.Bool.{or_parts, eq-eqb, eqb-true, false≢true, true≢false}
 use Rattle.std.proofs.lemmas.List.{length-map}
 use Rattle.std.proofs.lemmas.List.Elements.{All-nil, All-cons, All-head, All-tail}
 use Rattle.pm_base.specs.declared.mesh.Corners.{Corners}
@@ -17,7 +20,8 @@ use Rattle.pm_turn.proofs.TurnedFaces.{turned_length}
 use Rattle.obj_prepare.specs.declared.notes.Notes.{Notes}
 use Rattle.obj_prepare.specs.Named.{is_some_corner, AreVerticesBelow}
 use Rattle.obj_prepare.specs.Joining.{place_in_list, renamed, joined_faces}
-use Rattle.obj_prepare.specs.Prepared.{staying, IsPrepared, AreNotes, joined_count, flat_count, double_count, unnamed_count, split_count, gone_count}
+use Rattle.obj_prepare.specs.Prepared.{staying, IsPrepared, AreNotes, joined_count, flat_count}
+use Rattle.obj_prepare.specs.Prepared.{double_count, unnamed_count, split_count, gone_count}
 use Rattle.obj_prepare.specs.Laws.{DoAccountsClose, AccountsClose}
 use Rattle.obj_prepare.proofs.CountLaws.{count_both}
 use Rattle.obj_prepare.proofs.KeptCounts.{kept_and_flat}

@@ -1,5 +1,6 @@
 -- Laws of counting what was done.
-use Rattle.std.proofs.Common.{◌≡◌, ℕ, zero, suc, ◌+◌, ◌-◌, ◌==◌, ◌&&◌, not, Bool, true, false, List, length, refl, sym, ◌∙◌, ap, inl, inr, arith}
+use Rattle.std.proofs.Common.{◌≡◌, ℕ, zero, suc, ◌+◌, ◌-◌, ◌==◌, ◌&&◌, not, Bool, true, false, List}
+use Rattle.std.proofs.Common.{length, refl, sym, ◌∙◌, ap, inl, inr, arith}
 use Rattle.std.specs.Prelude.{slice_index_or}
 use Rattle.std.specs.List.{filter}
 use Rattle.std.proofs.lemmas.Bool.{cases_Bool, and_from}
@@ -13,45 +14,64 @@ use Rattle.pm_turn.specs.Turning.{turned_by}
 use Rattle.obj_prepare.specs.Named.{is_some_corner, named_in}
 use Rattle.obj_prepare.specs.Joining.{joined_faces}
 use Rattle.obj_prepare.proofs.NamedLaws.{length-named_in, named_at}
-use Rattle.obj_prepare.specs.Prepared.{staying, joined_count, flat_count, double_count, unnamed_count, split_count, gone_count}
+use Rattle.obj_prepare.specs.Prepared.{staying, joined_count, flat_count, double_count}
+use Rattle.obj_prepare.specs.Prepared.{unnamed_count, split_count, gone_count}
 use Rattle.obj_prepare.specs.Pieces.{set_below, joined_below, gone_below}
 
 -- One more number is counted, or not.
 
 counted : (p : ℕ → Bool) (v n : ℕ) → n ≡ count p v → p v ≡ true → n + 1 ≡ count p (v + 1)
-counted p v n is t = let next : v + 1 ≡ suc v = omega arith in omega (arith, is, ap (count p) next, count-true p v t)
+counted p v n is t = let next : v + 1 ≡ suc v =
+    omega arith in omega (arith, is, ap (count p) next, count-true p v t)
 
 passed : (p : ℕ → Bool) (v n : ℕ) → n ≡ count p v → p v ≡ false → n ≡ count p (v + 1)
-passed p v n is f = let next : v + 1 ≡ suc v = omega arith in omega (arith, is, ap (count p) next, count-false p v f)
+passed p v n is f = let next : v + 1 ≡ suc v =
+    omega arith in omega (arith, is, ap (count p) next, count-false p v f)
 
 pub none_set : (flags : List Bool) → 0 ≡ set_below flags 0
 unfolding set_below
 none_set flags = sym (count-zero (λ v. slice_index_or flags v false))
 
-pub set_next : (flags : List Bool) (v n : ℕ) → n ≡ set_below flags v → slice_index_or flags v false ≡ true → n + 1 ≡ set_below flags (v + 1)
+pub set_next : (flags : List Bool) (v n : ℕ) → n ≡ set_below flags v
+    → slice_index_or flags v false ≡ true → n + 1 ≡ set_below flags (v + 1)
 unfolding set_below
 set_next flags v n is t = counted (λ v. slice_index_or flags v false) v n is t
 
-pub unset_next : (flags : List Bool) (v n : ℕ) → n ≡ set_below flags v → slice_index_or flags v false ≡ false → n ≡ set_below flags (v + 1)
+pub unset_next : (flags : List Bool) (v n : ℕ) → n ≡ set_below flags v
+    → slice_index_or flags v false ≡ false → n ≡ set_below flags (v + 1)
 unfolding set_below
 unset_next flags v n is f = passed (λ v. slice_index_or flags v false) v n is f
 
 pub none_joined : (flags : List Bool) (names : List ℕ) → 0 ≡ joined_below flags names 0
 unfolding joined_below
-none_joined flags names = sym (count-zero (λ v. slice_index_or flags v false && not (slice_index_or names v 0 == v)))
+none_joined flags names =
+    sym (count-zero (λ v. slice_index_or flags v false && not (slice_index_or names v 0 == v)))
 
-pub joined_next : (flags : List Bool) (names : List ℕ) (v n : ℕ) → n ≡ joined_below flags names v → slice_index_or flags v false ≡ true → not (slice_index_or names v 0 == v) ≡ true → n + 1 ≡ joined_below flags names (v + 1)
+pub joined_next : (flags : List Bool) (names : List ℕ) (v n : ℕ) → n ≡ joined_below flags names v
+    → slice_index_or flags v false ≡ true → not (slice_index_or names v 0 == v) ≡ true
+    → n + 1 ≡ joined_below flags names (v + 1)
 unfolding joined_below
-joined_next flags names v n is t other = counted (λ v. slice_index_or flags v false && not (slice_index_or names v 0 == v)) v n is (and_from _ _ t other)
+joined_next flags names v n is t other =
+    counted (λ v. slice_index_or flags v false && not (slice_index_or names v 0 == v)) v n is
+    (and_from _ _ t other)
 
-pub unnamed_next : (flags : List Bool) (names : List ℕ) (v n : ℕ) → n ≡ joined_below flags names v → slice_index_or flags v false ≡ false → n ≡ joined_below flags names (v + 1)
+pub unnamed_next : (flags : List Bool) (names : List ℕ) (v n : ℕ) → n ≡ joined_below flags names v
+    → slice_index_or flags v false ≡ false → n ≡ joined_below flags names (v + 1)
 unfolding joined_below
-unnamed_next flags names v n is f = passed (λ v. slice_index_or flags v false && not (slice_index_or names v 0 == v)) v n is (rw f refl)
+unnamed_next flags names v n is f =
+    passed (λ v. slice_index_or flags v false && not (slice_index_or names v 0 == v)) v n is
+    (rw f refl)
 
-pub itself_next : (flags : List Bool) (names : List ℕ) (v n : ℕ) → n ≡ joined_below flags names v → not (slice_index_or names v 0 == v) ≡ false → n ≡ joined_below flags names (v + 1)
+pub itself_next : (flags : List Bool) (names : List ℕ) (v n : ℕ) → n ≡ joined_below flags names v
+    → not (slice_index_or names v 0 == v) ≡ false → n ≡ joined_below flags names (v + 1)
 unfolding joined_below
 itself_next flags names v n is f =
-    passed (λ v. slice_index_or flags v false && not (slice_index_or names v 0 == v)) v n is (elim (cases_Bool (slice_index_or flags v false)) [ inl t ↦ rw (t, f) refl | inr u ↦ rw u refl ])
+    passed (λ v. slice_index_or flags v false && not (slice_index_or names v 0 == v)) v n is
+    (elim (cases_Bool (slice_index_or flags v false)) [
+      | inl t ↦ rw (t, f) refl
+      | inr u ↦
+          rw u refl
+    ])
 
 pub none_gone : (before : List Bool) (names : List ℕ) (after : List Bool)
     → 0 ≡ gone_below before names after 0
@@ -81,51 +101,98 @@ pub count_both : (p : ℕ → Bool) (n : ℕ) → count p n + count (λ v. not (
 count_both p zero = omega (arith, count-zero p, count-zero (λ v. not (p v)))
 count_both p (suc n) =
     elim (cases_Bool (p n)) [
-      | inl t ↦ omega (arith, count-true p n t, count-false (λ v. not (p v)) n (ap not t), count_both p n)
-      | inr f ↦ omega (arith, count-false p n f, count-true (λ v. not (p v)) n (ap not f), count_both p n)
+      | inl t ↦ omega (
+        arith,
+        count-true p n t,
+        count-false (λ v. not (p v)) n (ap not t),
+        count_both p n,
+      )
+      | inr f ↦ omega (
+        arith,
+        count-false p n f,
+        count-true (λ v. not (p v)) n (ap not f),
+        count_both p n,
+      )
     ]
 
-set_named : (fs : List Corners) (n : ℕ) → set_below (named_in fs n) (length (named_in fs n)) ≡ count (is_some_corner fs) n
+set_named : (fs : List Corners) (n : ℕ) → set_below (named_in fs n) (length (named_in fs n))
+    ≡ count (is_some_corner fs) n
 unfolding set_below
 set_named fs n =
-    ap (count (λ v. slice_index_or (named_in fs n) v false)) (length-named_in fs n) ∙ count_same (λ v. slice_index_or (named_in fs n) v false) (is_some_corner fs) n (λ i l. named_at fs n i l)
+    ap (count (λ v. slice_index_or (named_in fs n) v false)) (length-named_in fs n)
+    ∙ count_same (λ v. slice_index_or (named_in fs n) v false) (is_some_corner fs) n
+    (λ i l. named_at fs n i l)
 
-joined_named : (fs : List Corners) (names : List ℕ) → joined_below (named_in fs (length names)) names (length names) ≡ joined_count names fs
+joined_named : (fs : List Corners) (names : List ℕ)
+    → joined_below (named_in fs (length names)) names (length names) ≡ joined_count names fs
 unfolding joined_below joined_count
 joined_named fs names =
-    count_same (λ v. slice_index_or (named_in fs (length names)) v false && not (slice_index_or names v 0 == v)) (λ v. is_some_corner fs v && not (slice_index_or names v 0 == v)) (length names)
+    count_same (λ v. slice_index_or (named_in fs (length names)) v false && not
+    (slice_index_or names v 0 == v))
+    (λ v. is_some_corner fs v && not (slice_index_or names v 0 == v)) (length names)
     (λ i l. ap (λ b. b && not (slice_index_or names i 0 == i)) (named_at fs (length names) i l))
 
 -- Each number of what was done, from what was counted. Lists that were lent are the same lists.
 
-pub counted_joined : (faces : List Corners) (names again : List ℕ) (flags lent : List Bool) (vertices n : ℕ) → length names ≡ vertices → flags ≡ named_in faces vertices → lent ≡ flags → again ≡ names → n ≡ joined_below lent again (length again) → n ≡ joined_count names faces
+pub counted_joined : (faces : List Corners) (names again : List ℕ) (flags lent : List Bool)
+    (vertices n : ℕ) → length names ≡ vertices → flags ≡ named_in faces vertices → lent ≡ flags
+    → again ≡ names → n ≡ joined_below lent again (length again) → n ≡ joined_count names faces
 counted_joined faces names again flags lent vertices n len are same same_names is =
-    is ∙ ap (λ ns. joined_below lent ns (length ns)) same_names ∙ ap (λ fs. joined_below fs names (length names)) (same ∙ are ∙ ap (named_in faces) (sym len)) ∙ joined_named faces names
+    is ∙ ap (λ ns. joined_below lent ns (length ns)) same_names
+    ∙ ap (λ fs. joined_below fs names (length names)) (same ∙ are
+    ∙ ap (named_in faces) (sym len)) ∙ joined_named faces names
 
-pub counted_flat : (faces renamed again : List Corners) (names : List ℕ) (n : ℕ) → renamed ≡ joined_faces names faces → again ≡ renamed → n ≡ length (filter is_flat again) → n ≡ flat_count names faces
+pub counted_flat : (faces renamed again : List Corners) (names : List ℕ) (n : ℕ)
+    → renamed ≡ joined_faces names faces → again ≡ renamed → n ≡ length (filter is_flat again)
+    → n ≡ flat_count names faces
 unfolding flat_count
-counted_flat faces renamed again names n are same is = is ∙ ap (λ fs. length (filter is_flat fs)) (same ∙ are)
+counted_flat faces renamed again names n are same is =
+    is ∙ ap (λ fs. length (filter is_flat fs)) (same ∙ are)
 
-pub counted_double : (faces stay : List Corners) (names : List ℕ) (flat n : ℕ) → flat ≡ flat_count names faces → stay ≡ staying names faces → n ≡ length faces - flat - length stay → n ≡ double_count names faces
+pub counted_double : (faces stay : List Corners) (names : List ℕ) (flat n : ℕ)
+    → flat ≡ flat_count names faces → stay ≡ staying names faces
+    → n ≡ length faces - flat - length stay → n ≡ double_count names faces
 unfolding double_count
-counted_double faces stay names flat n flat_is stay_is is = is ∙ ap (λ f. length faces - f - length stay) flat_is ∙ ap (λ (fs : List Corners). length faces - flat_count names faces - length fs) stay_is
+counted_double faces stay names flat n flat_is stay_is is =
+    is ∙ ap (λ f. length faces - f - length stay) flat_is
+    ∙ ap (λ (fs : List Corners). length faces - flat_count names faces - length fs) stay_is
 
-pub counted_cut : (faces stay turned again : List Corners) (names : List ℕ) (flags : List Bool) (n : ℕ) → stay ≡ staying names faces → turned ≡ turned_by flags stay → again ≡ turned → n ≡ cut_count (net_of again)
+pub counted_cut : (faces stay turned again : List Corners) (names : List ℕ) (flags : List Bool)
+    (n : ℕ) → stay ≡ staying names faces → turned ≡ turned_by flags stay → again ≡ turned
+    → n ≡ cut_count (net_of again)
     → n ≡ cut_count (net_of (turned_by flags (staying names faces)))
-counted_cut faces stay turned again names flags n stay_is turned_is same is = is ∙ ap (λ (fs : List Corners). cut_count (net_of fs)) (same ∙ turned_is ∙ ap (turned_by flags) stay_is)
+counted_cut faces stay turned again names flags n stay_is turned_is same is =
+    is ∙ ap (λ (fs : List Corners). cut_count (net_of fs)) (same ∙ turned_is
+    ∙ ap (turned_by flags) stay_is)
 
 -- How many flags are set of the vertices that a face names.
-counted_set : (fs : List Corners) (flags lent : List Bool) (vertices n : ℕ) → flags ≡ named_in fs vertices → lent ≡ flags → n ≡ set_below lent (length lent) → n ≡ count (is_some_corner fs) vertices
-counted_set fs flags lent vertices n are same is = is ∙ ap (λ bs. set_below bs (length bs)) (same ∙ are) ∙ set_named fs vertices
+counted_set : (fs : List Corners) (flags lent : List Bool) (vertices n : ℕ)
+    → flags ≡ named_in fs vertices → lent ≡ flags → n ≡ set_below lent (length lent)
+    → n ≡ count (is_some_corner fs) vertices
+counted_set fs flags lent vertices n are same is =
+    is ∙ ap (λ bs. set_below bs (length bs)) (same ∙ are) ∙ set_named fs vertices
 
-pub counted_split : (faces stay : List Corners) (names old : List ℕ) (flags lent : List Bool) (vertices set n : ℕ) → length names ≡ vertices → stay ≡ staying names faces → flags ≡ named_in stay vertices → lent ≡ flags → set ≡ set_below lent (length lent) → n ≡ length old - set → n ≡ split_count names faces old
+pub counted_split : (faces stay : List Corners) (names old : List ℕ) (flags lent : List Bool)
+    (vertices set n : ℕ) → length names ≡ vertices → stay ≡ staying names faces
+    → flags ≡ named_in stay vertices → lent ≡ flags → set ≡ set_below lent (length lent)
+    → n ≡ length old - set → n ≡ split_count names faces old
 unfolding split_count
 counted_split faces stay names old flags lent vertices set n len stay_is are same set_is is =
-    is ∙ ap (λ s. length old - s) (counted_set stay flags lent vertices set are same set_is ∙ ap (count (is_some_corner stay)) (sym len) ∙ ap (λ (fs : List Corners). count (is_some_corner fs) (length names)) stay_is)
+    is ∙ ap (λ s. length old - s) (counted_set stay flags lent vertices set are same set_is
+    ∙ ap (count (is_some_corner stay)) (sym len)
+    ∙ ap (λ (fs : List Corners). count (is_some_corner fs) (length names)) stay_is)
 
-pub counted_unnamed : (faces : List Corners) (flags lent : List Bool) (vertices set n : ℕ) → flags ≡ named_in faces vertices → lent ≡ flags → set ≡ set_below lent (length lent) → n ≡ vertices - set → n ≡ unnamed_count vertices faces
+pub counted_unnamed : (faces : List Corners) (flags lent : List Bool) (vertices set n : ℕ)
+    → flags ≡ named_in faces vertices → lent ≡ flags → set ≡ set_below lent (length lent)
+    → n ≡ vertices - set → n ≡ unnamed_count vertices faces
 unfolding unnamed_count
-counted_unnamed faces flags lent vertices set n are same set_is is = omega (arith, is, counted_set faces flags lent vertices set are same set_is, count_both (is_some_corner faces) vertices)
+counted_unnamed faces flags lent vertices set n are same set_is is =
+    omega (
+      arith,
+      is,
+      counted_set faces flags lent vertices set are same set_is,
+      count_both (is_some_corner faces) vertices,
+    )
 
 gone_named : (fs stay : List Corners) (names : List ℕ) (n : ℕ)
     → gone_below (named_in fs n) names (named_in stay n) n

@@ -1,5 +1,7 @@
 -- Laws of counting different points one after the other.
-use Rattle.std.proofs.Common.{◌≡◌, ℕ, suc, ◌+◌, ◌<◌, ◌≤◌, Bool, true, false, not, ◌&&◌, ◌||◌, refl, sym, ap, ◌∙◌, subst, List, [], ◌∷◌, ◌++◌, length, map, get_or, drop, arith, if◌then◌else◌, append_assoc}
+use Rattle.std.proofs.Common.{◌≡◌, ℕ, suc, ◌+◌, ◌<◌, ◌≤◌, Bool, true, false, not, ◌&&◌, ◌||◌, refl}
+use Rattle.std.proofs.Common.{sym, ap, ◌∙◌, subst, List, [], ◌∷◌, ◌++◌, length, map, get_or, drop}
+use Rattle.std.proofs.Common.{arith, if◌then◌else◌, append_assoc}
 use Rattle.std.specs.List.{list_any}
 use Rattle.std.specs.Ordering.{int_cmp, int_eq, is_eq, ordering_then}
 use Rattle.std.specs.Cmp.{tied_then}
@@ -13,7 +15,8 @@ use Rattle.pm_base.specs.Place.{Place}
 use Rattle.pm_base.specs.declared.mesh.Corners.{Corners}
 use Rattle.obj_prepare.specs.Named.{named_in, chosen}
 use Rattle.obj_prepare.proofs.PlacingLaws.{flag_is, off, none_left}
-use Rattle.obj_prepare.specs.Different.{is_same_point, different, rounded_count, PointKey, key_of, key_cmp, IsCounted}
+use Rattle.obj_prepare.specs.Different.{is_same_point, different, rounded_count, PointKey, key_of}
+use Rattle.obj_prepare.specs.Different.{key_cmp, IsCounted}
 
 -- A list has a point, and has so many different ones.
 abbrev has : List Place → Place → Bool

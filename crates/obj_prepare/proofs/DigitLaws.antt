@@ -1,5 +1,6 @@
 -- Laws of numbers in digits, and of rounding them.
-use Rattle.std.proofs.Common.{◌≡◌, ℕ, suc, ◌+◌, ◌-◌, ◌*◌, ◌^◌, ◌<◌, ◌≤◌, min, true, nat_le, List, [], ◌∷◌, ◌++◌, length, drop, get_or, refl, ◌∙◌, ap, arith}
+use Rattle.std.proofs.Common.{◌≡◌, ℕ, suc, ◌+◌, ◌-◌, ◌*◌, ◌^◌, ◌<◌, ◌≤◌, min, true, nat_le, List}
+use Rattle.std.proofs.Common.{[], ◌∷◌, ◌++◌, length, drop, get_or, refl, ◌∙◌, ap, arith}
 use Rattle.std.proofs.Math.Nat.{pow-suc, mul_comm, div-eq_of_lt-le, div-eq_of_lt, mul-le-mul_right}
 use Rattle.std.proofs.lemmas.Bool.{and_parts, leb-true}
 use Rattle.pm_io.specs.Digits.{is_digit, are_digits, value}
@@ -7,8 +8,10 @@ use Rattle.pm_io.proofs.DigitLaws.{value_step}
 use Rattle.obj_prepare.specs.Numbers.{nearest}
 
 -- One digit more was read.
-pub value_next : (digits : List ℕ) (i n next start : ℕ) → i < length digits → next ≡ min (10 * n + (get_or digits i 0 - 48)) (10 ^ 32 + 1)
-    → min (value n (drop i digits)) (10 ^ 32 + 1) ≡ start → min (value next (drop (i + 1) digits)) (10 ^ 32 + 1) ≡ start
+pub value_next : (digits : List ℕ) (i n next start : ℕ) → i < length digits
+    → next ≡ min (10 * n + (get_or digits i 0 - 48)) (10 ^ 32 + 1)
+    → min (value n (drop i digits)) (10 ^ 32 + 1) ≡ start
+    → min (value next (drop (i + 1) digits)) (10 ^ 32 + 1) ≡ start
 value_next digits i n next start lt is so = value_step digits i n next start (10 ^ 32 + 1) lt is so
 
 pub value_append : (n : ℕ) (xs ys : List ℕ) → value n (xs ++ ys) ≡ value (value n xs) ys
@@ -24,8 +27,10 @@ value_after n (b ∷ bs) =
     let here = value_after (10 * n + (b - 48)) bs in
     let there = value_after (10 * 0 + (b - 48)) bs in
     let power = pow-suc 10 (length bs) in
-    let spread : (10 * n + (b - 48)) * 10 ^ length bs ≡ n * (10 * 10 ^ length bs) + (10 * 0 + (b - 48)) * 10 ^ length bs = grind arith in
-    let left : n * 10 ^ suc (length bs) ≡ n * (10 * 10 ^ length bs) = ap (λ (q : ℕ). n * q) (power ∙ mul_comm (10 ^ length bs) 10) in
+    let spread : (10 * n + (b - 48)) * 10 ^ length bs
+    ≡ n * (10 * 10 ^ length bs) + (10 * 0 + (b - 48)) * 10 ^ length bs = grind arith in
+    let left : n * 10 ^ suc (length bs) ≡ n * (10 * 10 ^ length bs) =
+    ap (λ (q : ℕ). n * q) (power ∙ mul_comm (10 ^ length bs) 10) in
     omega (arith, here, there, spread, left)
 
 pub value_below : (ds : List ℕ) → are_digits ds ≡ true → value 0 ds < 10 ^ length ds
@@ -37,12 +42,15 @@ value_below (b ∷ bs) all =
     let rest = value_below bs parts.1 in
     let here = value_after (10 * 0 + (b - 48)) bs in
     let nine : 10 * 0 + (b - 48) ≤ 9 = omega (arith, most) in
-    let product : (10 * 0 + (b - 48)) * 10 ^ length bs ≤ 9 * 10 ^ length bs = mul-le-mul_right (10 ^ length bs) nine in
+    let product : (10 * 0 + (b - 48)) * 10 ^ length bs ≤ 9 * 10 ^ length bs =
+    mul-le-mul_right (10 ^ length bs) nine in
     let power : 10 ^ suc (length bs) ≡ 10 ^ length bs * 10 = pow-suc 10 (length bs) in
     omega (arith, rest, here, product, power)
 
--- A digit d of weight p after a number, and what is less than its weight after it: the digit alone decides.
-pub nearest_up : (h d r p : ℕ) → 0 < p → r < p → 5 ≤ d → d ≤ 9 → nearest (h * (p * 10) + (d * p + r)) (p * 10) ≡ h + 1
+-- A digit d of weight p after a number, and what is less than its weight after it: the digit alone
+-- decides.
+pub nearest_up : (h d r p : ℕ) → 0 < p → r < p → 5 ≤ d → d ≤ 9
+    → nearest (h * (p * 10) + (d * p + r)) (p * 10) ≡ h + 1
 unfolding nearest
 nearest_up h d r p l below least most =
     let low : 5 * p ≤ d * p = mul-le-mul_right p least in
@@ -51,7 +59,8 @@ nearest_up h d r p l below least most =
     let b : (h + 1 + 1) * (2 * (p * 10)) ≡ 2 * (h * (p * 10)) + 40 * p = grind arith in
     div-eq_of_lt-le (2 * (p * 10)) (omega (arith, a, low)) (omega (arith, b, high, below))
 
-pub nearest_down : (h d r p : ℕ) → 0 < p → r < p → d ≤ 4 → nearest (h * (p * 10) + (d * p + r)) (p * 10) ≡ h
+pub nearest_down : (h d r p : ℕ) → 0 < p → r < p → d ≤ 4
+    → nearest (h * (p * 10) + (d * p + r)) (p * 10) ≡ h
 unfolding nearest
 nearest_down h d r p l below most =
     let high : d * p ≤ 4 * p = mul-le-mul_right p most in

@@ -1,15 +1,21 @@
 -- Triangles that need nothing are what comes of them.
-use Rattle.std.proofs.Common.{◌≡◌, ◌≢◌, ℕ, suc, ◌+◌, ◌-◌, ◌*◌, ◌<◌, ◌≤◌, Bool, true, false, ◌==◌, ◌||◌, inl, inr, sym, ap, ◌∙◌, subst, List, [], ◌∷◌, length, map, get_or, Option, None, Some, arith}
+use Rattle.std.proofs.Common.{◌≡◌, ◌≢◌, ℕ, suc, ◌+◌, ◌-◌, ◌*◌, ◌<◌, ◌≤◌, Bool, true, false, ◌==◌}
+use Rattle.std.proofs.Common.{◌||◌, inl, inr, sym, ap, ◌∙◌, subst, List, [], ◌∷◌, length, map}
+use Rattle.std.proofs.Common.{get_or, Option, None, Some, arith}
 use Rattle.std.specs.Prelude.{slice_index_or}
 use Rattle.std.specs.Option.{MatchOption}
 use Rattle.std.specs.List.{All, filter, list_all, IsDistinct}
 use Rattle.std.specs.List.Sorted.{IsPermutation, IsStrictlyIncreasing}
-use Rattle.std.proofs.lemmas.Bool.{cases_Bool, cases_order, cases_lt, cond-true, cond-false, or_cases, or_left, or_right, eq-eqb, eqb-true, ne_eqb, true≢false, false≢true}
+use Rattle.std.proofs.lemmas.Bool.{cases_Bool, cases_order, cases_lt, cond-true, cond-false}
+use Rattle.std.proofs.lemmas.Bool.{or_cases, or_left, or_right, eq-eqb, eqb-true, ne_eqb}
+use Rattle.std.proofs.lemmas.Bool.{true≢false, false≢true}
 use Rattle.std.proofs.lemmas.List.{length-map, get_or-map}
 use Rattle.std.proofs.lemmas.List.Elements.{All-nil, All-cons, All-head, All-tail}
 use Rattle.std.proofs.lemmas.List.Folds.{list_all_at}
 use Rattle.std.proofs.lemmas.List.Sorted.{IsPermutation-sym}
-use Rattle.std.proofs.lemmas.Map.Keys.{IsDistinct-from_apart, IsDistinct-IsPermutation, apart_from_distinct, sorted_from_strictly_increasing, below_from_sorted}
+use Rattle.std.proofs.lemmas.Map.Keys.{IsDistinct-from_apart, IsDistinct-IsPermutation}
+use Rattle.std.proofs.lemmas.Map.Keys.{apart_from_distinct, sorted_from_strictly_increasing}
+use Rattle.std.proofs.lemmas.Map.Keys.{below_from_sorted}
 use lib.Dec.{eqb}
 use Rattle.pm_base.specs.declared.mesh.Corners.{Corners}
 use Rattle.pm_base.specs.Place.{Place, origin}
@@ -141,7 +147,8 @@ module _ (m : Net) (stand : AllStand m) (once : NoSideTwice m) where
     alone = λ g j.
         elim j.ends [
           | inl (from, end) ↦ inl (once g e j.stands (stand e l) from end)
-          | inr (from, end) ↦ inr (once g k j.stands t.stands (from ∙ sym t.begins) (end ∙ sym t.ends))
+          | inr (from, end) ↦
+              inr (once g k j.stands t.stands (from ∙ sym t.begins) (end ∙ sym t.ends))
         ];
   }
 

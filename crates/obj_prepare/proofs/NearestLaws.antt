@@ -6,7 +6,8 @@ use Rattle.std.proofs.Math.Nat.{div-lt_iff_lt-mul, mul-le-mul_left}
 use Rattle.obj_prepare.specs.Numbers.{nearest, parts_off, IsNearest}
 
 -- What is at most the divisor times a size is at most the size.
-pub nearest_within : (size extent n : ℕ) → 0 < extent → n ≤ extent → nearest (size * n) extent ≤ size
+pub nearest_within : (size extent n : ℕ) → 0 < extent → n ≤ extent
+    → nearest (size * n) extent ≤ size
 unfolding nearest
 nearest_within size extent n l h =
     let a : size * n ≤ size * extent = mul-le-mul_left size h in
@@ -17,7 +18,8 @@ nearest_within size extent n l h =
     omega (arith, d)
 
 -- The quotient is at most half below the nearest whole number, and less than half above it.
-pub nearest_is_near : (n d : ℕ) → 0 < d → (2 * (d * nearest n d) ≤ 2 * n + d) × (2 * n < 2 * (d * nearest n d) + d)
+pub nearest_is_near : (n d : ℕ) → 0 < d → (2 * (d * nearest n d) ≤ 2 * n + d)
+    × (2 * n < 2 * (d * nearest n d) + d)
 unfolding nearest
 nearest_is_near n d l =
     let r : ℕ = (2 * n + d) / (2 * d) in
@@ -49,7 +51,8 @@ nearest_is_nearest n d some = record { least = least; halves_up = up }
           | inl below ↦ let s = step_below d r k below in omega (arith, ints, near.0, near.1, s)
           | inr from ↦
               elim (cases_lt r k) [
-                | inl above ↦ let s = step_below d k r above in omega (arith, ints, near.0, near.1, s)
+                | inl above ↦ let s =
+                    step_below d k r above in omega (arith, ints, near.0, near.1, s)
                 | inr most ↦ let same : k ≡ r = omega (arith, from, most) in rw same (omega arith)
               ]
         ]
@@ -58,6 +61,7 @@ nearest_is_nearest n d some = record { least = least; halves_up = up }
     up k as_near =
         let r : ℕ = nearest n d in
         elim (cases_lt r k) [
-          | inl above ↦ let s = step_below d k r above in absurd (omega (arith, ints, near.0, near.1, s, as_near))
+          | inl above ↦ let s =
+              step_below d k r above in absurd (omega (arith, ints, near.0, near.1, s, as_near))
           | inr most ↦ most
         ]

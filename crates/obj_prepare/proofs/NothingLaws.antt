@@ -1,7 +1,10 @@
 -- Where nothing needs to be done, nothing is told of it: all numbers are 0.
-use Rattle.std.proofs.Common.{◌≡◌, ℕ, zero, suc, ◌<◌, ◌≤◌, Bool, true, false, not, ◌&&◌, ◌==◌, nat_lt, inl, inr, refl, sym, ap, ◌∙◌, subst, List, [], ◌∷◌, length, get_or, arith}
+use Rattle.std.proofs.Common.{◌≡◌, ℕ, zero, suc, ◌<◌, ◌≤◌, Bool, true, false, not, ◌&&◌, ◌==◌}
+use Rattle.std.proofs.Common.{nat_lt, inl, inr, refl, sym, ap, ◌∙◌, subst, List, [], ◌∷◌, length}
+use Rattle.std.proofs.Common.{get_or, arith}
 use Rattle.std.specs.List.{All}
-use Rattle.std.proofs.lemmas.Bool.{cases_eq, cases_Bool, and_parts, eq-eqb, eqb-true, le-ltb, or_from, true≢false}
+use Rattle.std.proofs.lemmas.Bool.{cases_eq, cases_Bool, and_parts, eq-eqb, eqb-true, le-ltb}
+use Rattle.std.proofs.lemmas.Bool.{or_from, true≢false}
 use Rattle.std.proofs.lemmas.List.Elements.{All-head, All-tail}
 use Rattle.pm_base.specs.declared.mesh.Corners.{Corners}
 use Rattle.pm_base.specs.Meshes.{Mesh}
@@ -27,7 +30,8 @@ use Rattle.obj_prepare.specs.Laws.{AreFit}
 use Rattle.obj_prepare.specs.Nothing.{no_turns, nothing_done}
 use Rattle.obj_prepare.proofs.PieceLaws.{named_low}
 use Rattle.obj_prepare.proofs.TurnedLaws.{none_turned}
-use Rattle.obj_prepare.proofs.RestoredLaws.{all_stay, none_flat, none_double, none_unnamed, none_gone, all_named, split_as_joined}
+use Rattle.obj_prepare.proofs.RestoredLaws.{all_stay, none_flat, none_double, none_unnamed}
+use Rattle.obj_prepare.proofs.RestoredLaws.{none_gone, all_named, split_as_joined}
 
 -- Of numbers that pass no two are different.
 count_lone : (p : ℕ → Bool) (n : ℕ) → ((i j : ℕ) → p i ≡ true → p j ≡ true → i ≡ j) → count p n ≤ 1

@@ -18,7 +18,8 @@ use Rattle.pm_turn.proofs.ToldAlways.{turn_counts_are_one}
 use Rattle.obj_prepare.specs.declared.notes.Notes.{Notes}
 use Rattle.obj_prepare.specs.Named.{is_some_corner}
 use Rattle.obj_prepare.specs.Joining.{place_in_list, IsFirstAt, AreJoined, joined_faces}
-use Rattle.obj_prepare.specs.Prepared.{staying, IsPrepared, joined_count, flat_count, double_count, split_count, gone_count, IsPreparedWith}
+use Rattle.obj_prepare.specs.Prepared.{staying, IsPrepared, joined_count, flat_count, double_count}
+use Rattle.obj_prepare.specs.Prepared.{split_count, gone_count, IsPreparedWith}
 use Rattle.obj_prepare.proofs.TurnedLaws.{turned_stand}
 
 module _ (places : List Place) (faces : List Corners) where

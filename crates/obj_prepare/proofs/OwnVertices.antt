@@ -1,5 +1,6 @@
 -- Vertices that stand for all at their place.
-use Rattle.std.proofs.Common.{◌≡◌, ℕ, ◌/◌, ◌%◌, ◌<◌, true, List, [], length, get_or, inl, inr, refl, sym, ◌∙◌, subst, Bool, arith}
+use Rattle.std.proofs.Common.{◌≡◌, ℕ, ◌/◌, ◌%◌, ◌<◌, true, List, [], length, get_or, inl, inr, refl}
+use Rattle.std.proofs.Common.{sym, ◌∙◌, subst, Bool, arith}
 use Rattle.std.specs.List.{All}
 use Rattle.std.proofs.lemmas.Bool.{cases_order}
 use Rattle.std.proofs.lemmas.List.{length-map, get_or-map}

@@ -1,5 +1,6 @@
 -- What is made of placed vertices and triangles is a well-formed oriented manifold.
-use Rattle.std.proofs.Common.{◌≡◌, ℕ, ◌<◌, ◌≤◌, Bool, List, length, map, refl, sym, ◌∙◌, ap, subst, arith}
+use Rattle.std.proofs.Common.{◌≡◌, ℕ, ◌<◌, ◌≤◌, Bool, List, length, map, refl, sym, ◌∙◌, ap, subst}
+use Rattle.std.proofs.Common.{arith}
 use Rattle.std.specs.List.{All}
 use Rattle.std.proofs.lemmas.List.{length-map}
 use Rattle.pm_base.specs.declared.mesh.Corners.{Corners}
@@ -22,7 +23,8 @@ use Rattle.obj_prepare.specs.Joining.{place_in_list, AreJoined, renamed, joined_
 use Rattle.obj_prepare.specs.Prepared.{staying, AreNotes, IsPrepared, IsPreparedWith, HasTooMany}
 use Rattle.obj_prepare.specs.Pieces.{ArePieces}
 use Rattle.obj_prepare.proofs.TurnedLaws.{turned_within}
-use Rattle.obj_prepare.proofs.PieceLaws.{renamed_within, kept_within, side_low, kept_cuttable, old_low, split_formed}
+use Rattle.obj_prepare.proofs.PieceLaws.{renamed_within, kept_within, side_low, kept_cuttable}
+use Rattle.obj_prepare.proofs.PieceLaws.{old_low, split_formed}
 
 -- What is known of the pieces.
 

@@ -1,8 +1,12 @@
 -- Where a mesh is made of itself no triangle goes, and as many vertices are split off as were
 -- joined.
-use Rattle.std.proofs.Common.{◌≡◌, ℕ, ◌+◌, ◌/◌, ◌%◌, ◌<◌, true, not, ◌&&◌, ◌||◌, ◌==◌, inl, inr, refl, sym, ap, ◌∙◌, subst, List, [], ◌∷◌, ◌++◌, length, get_or, arith, length-append, append_assoc}
+use Rattle.std.proofs.Common.{◌≡◌, ℕ, ◌+◌, ◌/◌, ◌%◌, ◌<◌, true, not, ◌&&◌, ◌||◌, ◌==◌, inl, inr}
+use Rattle.std.proofs.Common.{refl, sym, ap, ◌∙◌, subst, List, [], ◌∷◌, ◌++◌, length, get_or, arith}
+use Rattle.std.proofs.Common.{length-append, append_assoc}
 use Rattle.std.specs.List.{All}
-use Rattle.std.proofs.lemmas.Bool.{cases_Bool, cases_order, cond-true, cond-false, and_parts, or_cases, or_left, or_right, eq-eqb, eqb-true, ne_eqb, false≢true, true≢false}
+use Rattle.std.proofs.lemmas.Bool.{cases_Bool, cases_order, cond-true, cond-false, and_parts}
+use Rattle.std.proofs.lemmas.Bool.{or_cases, or_left, or_right, eq-eqb, eqb-true, ne_eqb}
+use Rattle.std.proofs.lemmas.Bool.{false≢true, true≢false}
 use Rattle.std.proofs.lemmas.List.{length-map, append-nil}
 use Rattle.std.proofs.lemmas.List.Elements.{All-head, All-tail}
 use Rattle.pm_base.specs.declared.mesh.Corners.{Corners}
@@ -15,7 +19,8 @@ use Rattle.pm_fans.specs.Kept.{is_corner, is_kept_after, kept_after, kept_of}
 use Rattle.pm_fans.proofs.CutLaws.{count_none}
 use Rattle.obj_prepare.specs.Named.{is_some_corner, AreVerticesBelow}
 use Rattle.obj_prepare.specs.Joining.{place_in_list, renamed, joined_faces}
-use Rattle.obj_prepare.specs.Prepared.{staying, IsPrepared, joined_count, flat_count, double_count, unnamed_count, split_count, gone_count}
+use Rattle.obj_prepare.specs.Prepared.{staying, IsPrepared, joined_count, flat_count, double_count}
+use Rattle.obj_prepare.specs.Prepared.{unnamed_count, split_count, gone_count}
 use Rattle.pm_turn.proofs.TurnedFaces.{turned_length}
 use Rattle.obj_prepare.proofs.CountLaws.{count_both}
 use Rattle.obj_prepare.proofs.KeptCounts.{kept_and_flat}
@@ -23,11 +28,14 @@ use Rattle.pm_base.proofs.NetLaws.{face_at}
 use Rattle.obj_prepare.proofs.PieceLaws.{corners_named, corner_in_has}
 
 -- A used vertex is named.
-pub used_named : (faces : List Corners) (v : ℕ) → IsUsed (net_of faces) v → is_some_corner faces v ≡ true
+pub used_named : (faces : List Corners) (v : ℕ) → IsUsed (net_of faces) v
+    → is_some_corner faces v ≡ true
 used_named faces v (e, t, at) =
     let side = t.is_side in
     let are = corners_named faces (e / 3) (omega arith) in
-    subst (λ i. is_some_corner faces i ≡ true) at (corner_in_has (λ i. is_some_corner faces i ≡ true) (face_at faces (e / 3)) (e % 3) are.a are.b are.c)
+    subst (λ i. is_some_corner faces i ≡ true) at
+    (corner_in_has (λ i. is_some_corner faces i ≡ true) (face_at faces (e / 3)) (e % 3) are.a
+    are.b are.c)
 
 -- Where as many stay, all do.
 all_kept : (before fs : List Corners) → length (kept_after before fs) ≡ length before + length fs
@@ -100,7 +108,8 @@ module _ (names : List ℕ) where
       → is_some_corner (joined_faces names fs) v ≡ true → StandsFor n v
   named_joined n [] v are is = absurd (false≢true is)
   named_joined n (f ∷ fs) v are is =
-      elim (or_cases (is_corner (renamed names f) v) (is_some_corner (joined_faces names fs) v) is) [
+      elim (or_cases (is_corner (renamed names f) v) (is_some_corner (joined_faces names fs) v)
+      is) [
         | inl c ↦ joined_corner n f v (All-head (AreVerticesBelow n) f fs are) c
         | inr more ↦ named_joined n fs v (All-tail (AreVerticesBelow n) f fs are) more
       ]

@@ -1,5 +1,6 @@
 -- Faces that name three vertices.
-use Rattle.std.proofs.Common.{◌≡◌, ℕ, ◌≤◌, not, inl, inr, sym, ap, ◌∙◌, refl, List, [], ◌∷◌, length, arith}
+use Rattle.std.proofs.Common.{◌≡◌, ℕ, ◌≤◌, not, inl, inr, sym, ap, ◌∙◌, refl, List, [], ◌∷◌, length}
+use Rattle.std.proofs.Common.{arith}
 use Rattle.std.specs.List.{All, filter}
 use Rattle.std.proofs.lemmas.Bool.{cases_Bool, cond-true, cond-false, ne_eqb}
 use Rattle.std.proofs.lemmas.List.Elements.{All-nil, All-cons, All-head, All-tail}

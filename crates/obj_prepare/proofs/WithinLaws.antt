@@ -4,7 +4,8 @@ use Rattle.std.proofs.Math.Nat.{div-add-mod, mod-lt}
 use Rattle.pm_base.specs.Place.{Place}
 use Rattle.obj_prepare.specs.declared.placing.Fit.{Fit}
 use Rattle.obj_prepare.specs.declared.placing.Fit.TheVariants as fits
-use Rattle.obj_prepare.specs.Back.{WayBack, within_of, LeadsNear, LeadsWithin, StandsWithin, LeadsBack, way_back_of}
+use Rattle.obj_prepare.specs.Back.{WayBack, within_of, LeadsNear, LeadsWithin, StandsWithin}
+use Rattle.obj_prepare.specs.Back.{LeadsBack, way_back_of}
 use Rattle.obj_prepare.specs.Laws.{PlacesAreWithin}
 use Rattle.obj_prepare.proofs.BackLaws.{places_lead_back}
 

@@ -1,12 +1,14 @@
 -- How places on the grid lead back to coordinates in units of 10^-18.
-use Rattle.std.specs.Prelude.{◌≡◌, ℕ, ◌+◌, ◌-◌, ◌*◌, ◌/◌, ◌^◌, ◌<◌, ◌≤◌, ℤ, pos, ◌+ℤ◌, ◌-ℤ◌, ◌*ℤ◌, unsigned_abs}
+use Rattle.std.specs.Prelude.{◌≡◌, ℕ, ◌+◌, ◌-◌, ◌*◌, ◌/◌, ◌^◌, ◌<◌, ◌≤◌, ℤ, pos, ◌+ℤ◌, ◌-ℤ◌, ◌*ℤ◌}
+use Rattle.std.specs.Prelude.{unsigned_abs}
 use Rattle.pm_base.specs.Place.{Place}
 use Rattle.obj_prepare.specs.declared.extents.PointBox.{PointBox}
 use Rattle.obj_prepare.specs.declared.placing.Fit.{Fit}
 use Rattle.obj_prepare.specs.declared.placing.Fit.TheVariants as fits
 use Rattle.obj_prepare.specs.Boxes.{extent}
 
--- A coordinate is extent / steps * place + middle. The extent is in units of 10^-18, and the middle in units of 10^-19.
+-- A coordinate is extent / steps * place + middle. The extent is in units of 10^-18, and the middle
+-- in units of 10^-19.
 pub record WayBack : Type 0 where
   pub extent : ℕ
   pub steps : ℕ
@@ -18,19 +20,25 @@ middle low high = pos 5 *ℤ (low +ℤ high)
 
 -- The middle of a box.
 abbrev pub middle_of : PointBox → Place
-middle_of b = record { x = middle b.low.x b.high.x; y = middle b.low.y b.high.y; z = middle b.low.z b.high.z }
+middle_of b = record {
+  x = middle b.low.x b.high.x;
+  y = middle b.low.y b.high.y;
+  z = middle b.low.z b.high.z;
+}
 
 -- The way back from places that were scaled by their box: the extent became twice the size.
 abbrev pub way_back_of : ℕ → PointBox → WayBack
 way_back_of size b = record { extent = extent b; steps = 2 * size; middle = middle_of b }
 
--- Along an axis with this middle: `steps` times the coordinate that is given back for a place, in units of 10^-19.
+-- Along an axis with this middle: `steps` times the coordinate that is given back for a place, in
+-- units of 10^-19.
 abbrev pub given_back : WayBack → ℤ → ℤ → ℤ
 given_back way middle place = (pos (10 * way.extent) *ℤ place) +ℤ (pos way.steps *ℤ middle)
 
 -- It is at most half a step from the coordinate n, in units of 10^-18. A step is extent / steps.
 abbrev pub IsHalfAStepOff : WayBack → ℤ → ℤ → ℤ → Type 0
-IsHalfAStepOff way middle place n = 2 * unsigned_abs (given_back way middle place -ℤ (pos (10 * way.steps) *ℤ n)) ≤ 10 * way.extent
+IsHalfAStepOff way middle place n =
+    2 * unsigned_abs (given_back way middle place -ℤ (pos (10 * way.steps) *ℤ n)) ≤ 10 * way.extent
 
 -- On each axis a place leads back to at most half a step from the point.
 pub record LeadsNear (way : WayBack) (place p : Place) : Type 0 where

@@ -1,5 +1,7 @@
--- Points in units of 10^-18, scaled by their box. The coordinates of a place stand for units here, or for the grid.
-use Rattle.std.specs.Prelude.{ℕ, ◌*◌, max, ◌==◌, ℤ, pos, ◌+ℤ◌, ◌-ℤ◌, ◌≤ℤ◌, unsigned_abs, List, [], ◌∷◌, if◌then◌else◌}
+-- Points in units of 10^-18, scaled by their box. The coordinates of a place stand for units here,
+-- or for the grid.
+use Rattle.std.specs.Prelude.{ℕ, ◌*◌, max, ◌==◌, ℤ, pos, ◌+ℤ◌, ◌-ℤ◌, ◌≤ℤ◌, unsigned_abs, List, []}
+use Rattle.std.specs.Prelude.{◌∷◌, if◌then◌else◌}
 use Rattle.std.specs.Int.Signed.{lt_z}
 use Rattle.pm_base.specs.Place.{Place}
 use Rattle.obj_read.specs.Coordinates.{with_sign}
@@ -7,8 +9,9 @@ use Rattle.obj_prepare.specs.Numbers.{nearest}
 use Rattle.obj_prepare.specs.Exact.{lower, upper}
 use Rattle.obj_prepare.specs.declared.extents.PointBox.{PointBox}
 
--- The place of a coordinate along one axis: the whole number nearest to size * off / extent, halves away from 0. `off` is
--- twice the coordinate less the two ends of the box, so twice the way from the middle.
+-- The place of a coordinate along one axis: the whole number nearest to size * off / extent, halves
+-- away from 0. `off` is twice the coordinate less the two ends of the box, so twice the way from
+-- the middle.
 unfoldable pub along : ℕ → ℕ → ℤ → ℤ
 along size extent off = with_sign (lt_z off (pos 0)) (nearest (size * unsigned_abs off) extent)
 
@@ -39,9 +42,11 @@ pub record IsInBox (b : PointBox) (p : Place) : Type 0 where
 
 -- How long the longest axis of a box is.
 unfoldable pub extent : PointBox → ℕ
-extent b = max (max (unsigned_abs (b.high.x -ℤ b.low.x)) (unsigned_abs (b.high.y -ℤ b.low.y))) (unsigned_abs (b.high.z -ℤ b.low.z))
+extent b = max (max (unsigned_abs (b.high.x -ℤ b.low.x)) (unsigned_abs (b.high.y -ℤ b.low.y)))
+    (unsigned_abs (b.high.z -ℤ b.low.z))
 
--- The longest axis goes from -size to size, and the middle of each axis to 0. Where all points are one it stands at 0.
+-- The longest axis goes from -size to size, and the middle of each axis to 0. Where all points are
+-- one it stands at 0.
 unfoldable pub scaled : ℕ → PointBox → Place → Place
 scaled size b p =
     if extent b == 0 then record { x = pos 0; y = pos 0; z = pos 0 }

@@ -12,7 +12,8 @@ are_exact p = is_exact p.x && is_exact p.y && is_exact p.z
 
 -- The same as a fact.
 abbrev pub AreExact : Place → Type 0
-AreExact p = (unsigned_abs p.x ≤ 10 ^ 32) × (unsigned_abs p.y ≤ 10 ^ 32) × (unsigned_abs p.z ≤ 10 ^ 32)
+AreExact p =
+    (unsigned_abs p.x ≤ 10 ^ 32) × (unsigned_abs p.y ≤ 10 ^ 32) × (unsigned_abs p.z ≤ 10 ^ 32)
 
 -- The least coordinates of two points, axis by axis, and the greatest.
 abbrev pub lower : Place → Place → Place

@@ -23,12 +23,16 @@ pub record IsFirstOf (places : List Place) (faces : List Corners) (n key v : ℕ
   pub named : is_some_corner faces v ≡ true
   pub place : IsPlace (place_in_list places v)
   pub has : place_key (place_in_list places v) ≡ key
-  pub least : (w : ℕ) → w < v → is_some_corner faces w ≡ true → place_key (place_in_list places w) ≢ key
+  pub least : (w : ℕ) → w < v → is_some_corner faces w ≡ true
+      → place_key (place_in_list places w) ≢ key
 
 -- None of the first n vertices that a face names is at a place with this key.
 abbrev pub HasNone : List Place → List Corners → ℕ → ℕ → Type 0
-HasNone places faces n key = (w : ℕ) → w < n → is_some_corner faces w ≡ true → place_key (place_in_list places w) ≢ key
+HasNone places faces n key =
+    (w : ℕ) → w < n → is_some_corner faces w ≡ true → place_key (place_in_list places w) ≢ key
 
 -- The map has the first of the first n vertices for each key.
 abbrev pub AreFirsts : List Place → List Corners → ℕ → BTreeMap ℕ ℕ → Type 0
-AreFirsts places faces n map = (key : ℕ) → MatchOption (get nat_cmp map key) (HasNone places faces n key) (IsFirstOf places faces n key)
+AreFirsts places faces n map =
+    (key : ℕ) → MatchOption (get nat_cmp map key) (HasNone places faces n key)
+    (IsFirstOf places faces n key)

@@ -11,16 +11,24 @@ place_in_list places v = slice_index_or places v origin
 pub record IsFirstAt (places : List Place) (faces : List Corners) (v u : ℕ) : Type 0 where
   pub named : is_some_corner faces u ≡ true
   pub same : place_in_list places u ≡ place_in_list places v
-  pub least : (w : ℕ) → w < u → is_some_corner faces w ≡ true → place_in_list places w ≢ place_in_list places v
+  pub least : (w : ℕ) → w < u → is_some_corner faces w ≡ true
+      → place_in_list places w ≢ place_in_list places v
 
--- The vertex that stands for each: of those that a face names the first at the same place, and of the others each itself.
+-- The vertex that stands for each: of those that a face names the first at the same place, and of
+-- the others each itself.
 pub record AreJoined (places : List Place) (faces : List Corners) (names : List ℕ) : Type 0 where
   pub all : length names ≡ length places
-  pub each : (v : ℕ) → v < length places → is_some_corner faces v ≡ true → IsFirstAt places faces v (slice_index_or names v 0)
-  pub others : (v : ℕ) → v < length places → is_some_corner faces v ≡ false → slice_index_or names v 0 ≡ v
+  pub each : (v : ℕ) → v < length places → is_some_corner faces v ≡ true
+      → IsFirstAt places faces v (slice_index_or names v 0)
+  pub others : (v : ℕ) → v < length places → is_some_corner faces v ≡ false
+      → slice_index_or names v 0 ≡ v
 
 abbrev pub renamed : List ℕ → Corners → Corners
-renamed names f = record { a = slice_index_or names f.a 0; b = slice_index_or names f.b 0; c = slice_index_or names f.c 0 }
+renamed names f = record {
+  a = slice_index_or names f.a 0;
+  b = slice_index_or names f.b 0;
+  c = slice_index_or names f.c 0;
+}
 
 -- The faces over joined vertices.
 abbrev pub joined_faces : List ℕ → List Corners → List Corners

@@ -1,5 +1,6 @@
 -- The vertices that a face names, and the faces that name three.
-use Rattle.std.specs.Prelude.{ℕ, zero, suc, ◌<◌, ◌≤◌, Bool, true, false, not, List, [], ◌∷◌, ◌++◌, length}
+use Rattle.std.specs.Prelude.{ℕ, zero, suc, ◌<◌, ◌≤◌, Bool, true, false, not, List, [], ◌∷◌, ◌++◌}
+use Rattle.std.specs.Prelude.{length}
 use Rattle.std.specs.List.{All, list_any, filter}
 use Rattle.pm_base.specs.declared.limits.TheConstants.{MOST_FACES, MOST_VERTICES}
 use Rattle.pm_base.specs.declared.mesh.Corners.{Corners}
@@ -31,7 +32,8 @@ pub record AreVerticesBelow (n : ℕ) (f : Corners) : Type 0 where
   pub b : f.b < n
   pub c : f.c < n
 
--- No more vertices and triangles than a mesh can have vertices and faces, and each corner is one of the vertices.
+-- No more vertices and triangles than a mesh can have vertices and faces, and each corner is one of
+-- the vertices.
 pub record IsWithinMesh (vertices : ℕ) (faces : List Corners) : Type 0 where
   pub vertices_few : vertices ≤ MOST_VERTICES
   pub faces_few : length faces ≤ MOST_FACES

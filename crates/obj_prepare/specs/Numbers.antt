@@ -1,10 +1,14 @@
--- Numbers with decimals and an exponent, rounded to whole numbers of units. A unit is 10^-18. Byte 69 is `E`, and 101 is `e`.
-use Rattle.std.specs.Prelude.{◌≡◌, ℕ, ◌+◌, ◌-◌, ◌*◌, ◌/◌, ◌^◌, ◌≤◌, pos, ◌-ℤ◌, unsigned_abs, List, ◌++◌, Bool, not, ◌==◌, ◌&&◌, ◌||◌, nat_lt, length, drop, ℤ, Result, Ok, Err, if◌then◌else◌}
+-- Numbers with decimals and an exponent, rounded to whole numbers of units. A unit is 10^-18. Byte
+-- 69 is `E`, and 101 is `e`.
+use Rattle.std.specs.Prelude.{◌≡◌, ℕ, ◌+◌, ◌-◌, ◌*◌, ◌/◌, ◌^◌, ◌≤◌, pos, ◌-ℤ◌, unsigned_abs, List}
+use Rattle.std.specs.Prelude.{◌++◌, Bool, not, ◌==◌, ◌&&◌, ◌||◌, nat_lt, length, drop, ℤ, Result}
+use Rattle.std.specs.Prelude.{Ok, Err, if◌then◌else◌}
 use Rattle.pm_io.specs.Digits.{are_digits, value}
 use Rattle.obj_lines.specs.Text.{until}
 use Rattle.obj_read.specs.declared.fault.ObjFault.{ObjFault}
 use Rattle.obj_read.specs.declared.fault.ObjFault.TheVariants as faults
-use Rattle.obj_read.specs.Coordinates.{is_negative, without_sign, whole_part, decimals, is_number, with_sign}
+use Rattle.obj_read.specs.Coordinates.{is_negative, without_sign, whole_part, decimals, is_number}
+use Rattle.obj_read.specs.Coordinates.{with_sign}
 
 -- The whole number nearest to n / d, halves up: half a divisor more, and then what is over is left.
 unfoldable pub nearest : ℕ → ℕ → ℕ
@@ -19,7 +23,8 @@ pub record IsNearest (n d r : ℕ) : Type 0 where
   pub least : (k : ℕ) → parts_off n d r ≤ parts_off n d k
   pub halves_up : (k : ℕ) → parts_off n d k ≡ parts_off n d r → k ≤ r
 
--- Of a number without its sign: what stands before the exponent; the exponent with its letter; and without it.
+-- Of a number without its sign: what stands before the exponent; the exponent with its letter; and
+-- without it.
 unfoldable pub mantissa : List ℕ → List ℕ
 mantissa number = until 101 (until 69 number)
 
@@ -31,7 +36,9 @@ exponent_text number = drop 1 (exponent_part number)
 
 -- Digits after a sign where there is one, and a digit at all where the letter stands.
 unfoldable pub is_exponent : List ℕ → Bool
-is_exponent number = are_digits (without_sign (exponent_text number)) && (length (exponent_part number) == 0 || nat_lt 0 (length (without_sign (exponent_text number))))
+is_exponent number =
+    are_digits (without_sign (exponent_text number)) && (length (exponent_part number) ==
+    0 || nat_lt 0 (length (without_sign (exponent_text number))))
 
 unfoldable pub is_decimal : List ℕ → Bool
 is_decimal number = is_number (mantissa number) && is_exponent number
@@ -51,12 +58,15 @@ shifted n up down = if nat_lt up down then nearest n (10 ^ (down - up)) else n *
 -- The number in units.
 unfoldable pub units_of_text : List ℕ → ℕ
 units_of_text number =
-    if is_negative (exponent_text number) then shifted (all_digits number) 18 (length (decimals (mantissa number)) + exponent number)
+    if is_negative (exponent_text number) then
+    shifted (all_digits number) 18 (length (decimals (mantissa number)) + exponent number)
     else shifted (all_digits number) (18 + exponent number) (length (decimals (mantissa number)))
 
--- The coordinate that a field spells, as the nearest whole number of units, halves away from 0; or the field's first fault.
+-- The coordinate that a field spells, as the nearest whole number of units, halves away from 0; or
+-- the field's first fault.
 unfoldable pub decimal_coordinate : List ℕ → Result ℤ ObjFault
 decimal_coordinate field =
     if not (is_decimal (without_sign field)) then Err faults.BadNumber
-    else if nat_lt 999 (exponent (without_sign field)) || nat_lt (10 ^ 32) (units_of_text (without_sign field)) then Err faults.OutOfRange
+    else if nat_lt 999 (exponent (without_sign field)) || nat_lt (10 ^ 32)
+    (units_of_text (without_sign field)) then Err faults.OutOfRange
     else Ok (with_sign (is_negative field) (units_of_text (without_sign field)))

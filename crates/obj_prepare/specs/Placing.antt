@@ -1,5 +1,6 @@
 -- Where points come to stand on the grid.
-use Rattle.std.specs.Prelude.{◌≡◌, ℕ, ◌≤◌, Bool, true, List, [], ◌∷◌, length, Option, None, Some, IfSome, if◌then◌else◌}
+use Rattle.std.specs.Prelude.{◌≡◌, ℕ, ◌≤◌, Bool, true, List, [], ◌∷◌, length, Option, None, Some}
+use Rattle.std.specs.Prelude.{IfSome, if◌then◌else◌}
 use Rattle.std.specs.List.{list_all}
 use Rattle.pm_base.specs.declared.limits.TheConstants.{GREATEST_COORDINATE}
 use Rattle.pm_base.specs.declared.mesh.Corners.{Corners}
@@ -16,11 +17,12 @@ abbrev pub frame_of : List Place → Option PointBox
 frame_of [] = None
 frame_of (p ∷ ps) = Some (box_of_points p ps)
 
--- How points are brought onto the grid: as they stand, where no size is given and all fit, and else by their box. The size
--- is the greatest coordinate where none is given.
+-- How points are brought onto the grid: as they stand, where no size is given and all fit, and else
+-- by their box. The size is the greatest coordinate where none is given.
 abbrev pub fit_for : Option ℕ → List Place → Fit
 fit_for size [] = fits.Standing
-fit_for None (p ∷ ps) = if list_all stands_on_grid (p ∷ ps) then fits.Standing else fits.Scaled GREATEST_COORDINATE (box_of_points p ps)
+fit_for None (p ∷ ps) = if list_all stands_on_grid (p ∷ ps) then fits.Standing
+    else fits.Scaled GREATEST_COORDINATE (box_of_points p ps)
 fit_for (Some size) (p ∷ ps) = fits.Scaled size (box_of_points p ps)
 
 -- A point that can be brought onto the grid so.
@@ -30,12 +32,17 @@ Suits (fits.Scaled size frame) p = (size ≤ GREATEST_COORDINATE) × IsInBox fra
 
 -- The place of a point.
 abbrev pub placed : Fit → Place → Place
-placed fits.Standing p = record { x = whole_part_of p.x; y = whole_part_of p.y; z = whole_part_of p.z }
+placed fits.Standing p = record {
+  x = whole_part_of p.x;
+  y = whole_part_of p.y;
+  z = whole_part_of p.z;
+}
 placed (fits.Scaled size frame) p = scaled size frame p
 
 -- The place of each point whose flag is set. The others, of which nothing is asked, stand at 0.
 abbrev pub places_by : Fit → List Bool → List Place → List Place
-places_by fit (named ∷ flags) (p ∷ ps) = (if named then placed fit p else origin) ∷ places_by fit flags ps
+places_by fit (named ∷ flags) (p ∷ ps) =
+    (if named then placed fit p else origin) ∷ places_by fit flags ps
 places_by fit _ _ = []
 
 -- The points that triangles name, brought onto the grid.
@@ -43,7 +50,8 @@ abbrev pub fit_of : Option ℕ → List Place → List Corners → Fit
 fit_of size points faces = fit_for size (chosen (named_in faces (length points)) points)
 
 abbrev pub prepared_places_of : Option ℕ → List Place → List Corners → List Place
-prepared_places_of size points faces = places_by (fit_of size points faces) (named_in faces (length points)) points
+prepared_places_of size points faces =
+    places_by (fit_of size points faces) (named_in faces (length points)) points
 
 -- Points are scaled to such a size, if at all.
 abbrev pub IsSized : Fit → Type 0

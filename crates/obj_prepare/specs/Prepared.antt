@@ -2,7 +2,8 @@
 -- that became edges, and those whose corners an earlier one has; of those that stay some are turned
 -- round, so that neighbours agree, each patch the better way; the surface is cut along singular
 -- sides, and each vertex split into its fans.
-use Rattle.std.specs.Prelude.{◌≡◌, ℕ, ◌-◌, ◌<◌, Bool, not, ◌==◌, ◌&&◌, List, map, length, slice_index_or}
+use Rattle.std.specs.Prelude.{◌≡◌, ℕ, ◌-◌, ◌<◌, Bool, not, ◌==◌, ◌&&◌, List, map, length}
+use Rattle.std.specs.Prelude.{slice_index_or}
 use Rattle.std.specs.List.{filter}
 use Rattle.pm_base.specs.declared.limits.TheConstants.{MOST_VERTICES}
 use Rattle.pm_base.specs.declared.mesh.Corners.{Corners}

@@ -7,7 +7,8 @@ use Rattle.obj_read.specs.Coordinates.{with_sign}
 
 -- A whole number, no more than the greatest coordinate away from 0; and the number.
 abbrev pub is_whole_coordinate : ℤ → Bool
-is_whole_coordinate n = unsigned_abs n % 10 ^ 18 == 0 && nat_le (unsigned_abs n) (GREATEST_COORDINATE * 10 ^ 18)
+is_whole_coordinate n =
+    unsigned_abs n % 10 ^ 18 == 0 && nat_le (unsigned_abs n) (GREATEST_COORDINATE * 10 ^ 18)
 
 abbrev pub whole_part_of : ℤ → ℤ
 whole_part_of n = with_sign (lt_z n (pos 0)) (unsigned_abs n / 10 ^ 18)

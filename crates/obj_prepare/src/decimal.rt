@@ -1,9 +1,11 @@
-//! A coordinate in a field of a line: a sign where there is one, digits, a point with decimals where there is one, and an
-//! exponent where there is one.
+//! A coordinate in a field of a line: a sign where there is one, digits, a point with decimals
+//! where there is one, and an exponent where there is one.
 ghost use Rattle.std.specs.Prelude.{◌≡◌, ◌≤◌, ◌^◌, ◌+◌, min, true, length, IfOk, unsigned_abs};
 ghost use Rattle.pm_io.specs.Digits.{are_digits};
 ghost use Rattle.obj_read.specs.Coordinates.{with_sign};
-ghost use Rattle.obj_prepare.specs.Numbers.{mantissa, exponent_part, exponent_text, is_exponent, is_decimal, exponent, units_of_text, decimal_coordinate};
+ghost use Rattle.obj_prepare.specs.Numbers.{mantissa, exponent_part, exponent_text, is_exponent};
+ghost use Rattle.obj_prepare.specs.Numbers.{is_decimal, exponent, units_of_text};
+ghost use Rattle.obj_prepare.specs.Numbers.{decimal_coordinate};
 
 use crate::digits::{GREATEST, rounded};
 use obj_lines::until;
@@ -64,8 +66,8 @@ fn exponent(number: &[u8]) -> u64
     value_up_to(without_sign(exponent_text(number)), GREATEST_EXPONENT + 1)
 }
 
-// The number in units, or any number past the greatest coordinate where that is past it. Only digits down to the one
-// after the last unit are looked at.
+// The number in units, or any number past the greatest coordinate where that is past it. Only
+// digits down to the one after the last unit are looked at.
 fn units(number: &[u8], power: usize) -> u128
     requires number { is_decimal number.now ≡ true }
     requires power { power ≡ exponent number.now }
@@ -93,9 +95,9 @@ fn with_sign(negative: bool, n: u128) -> i128
     if negative { -n } else { n }
 }
 
-/// The coordinate that a field spells, in units of 10^-18, or the field's first fault: the nearest whole number, halves
-/// away from 0. It is out of range where its exponent is above 999 either way, or it is above 10^32 units. There may be
-/// any number of digits; the time is linear in the bytes.
+/// The coordinate that a field spells, in units of 10^-18, or the field's first fault: the nearest
+/// whole number, halves away from 0. It is out of range where its exponent is above 999 either way,
+/// or it is above 10^32 units. There may be any number of digits; the time is linear in the bytes.
 #[tactic(auto, unfolding(crate::specs::Numbers::decimal_coordinate))]
 pub fn decimal_coordinate(field: &[u8]) -> Result<i128, ObjFault>
     ensures value { result ≡ decimal_coordinate field.now }

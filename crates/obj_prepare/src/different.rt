@@ -3,7 +3,8 @@ ghost use Rattle.std.specs.Prelude.{◌≡◌, ◌≤◌, ◌+◌, ◌∷◌, Li
 ghost use Rattle.pm_base.specs.declared.limits.TheConstants.{MOST_VERTICES};
 ghost use Rattle.pm_base.specs.Place.{Place};
 ghost use Rattle.obj_prepare.specs.Named.{IsWithinMesh, chosen};
-ghost use Rattle.obj_prepare.specs.Different.{key_of, different, rounded_count as rounded_count_of, IsCounted};
+ghost use Rattle.obj_prepare.specs.Different.{key_of, different, rounded_count as rounded_count_of};
+ghost use Rattle.obj_prepare.specs.Different.{IsCounted};
 
 use crate::OutOfMemory;
 use crate::exact::ExactPoint;
@@ -31,7 +32,8 @@ fn place_key(p: &Point) -> PointKey
 #[tactic(auto, using(crate::proofs::DifferentLaws::new_counted, crate::proofs::DifferentLaws::old_counted))]
 fn counted(seen: &mut BTreeSet<PointKey>, n: u32, key: PointKey) -> Result<u32, OutOfMemory>
     requires few { n ≤ MOST_VERTICES }
-    ensures counted { (p : Place) (whole left : List Place) → key ≡ key_of p → IsCounted whole (p ∷ left) seen.old n
+    ensures counted { (p : Place) (whole left : List Place) → key ≡ key_of p
+        → IsCounted whole (p ∷ left) seen.old n
         → IfOk result (λ m. IsCounted whole left seen.new m) }
     ensures few { IfOk result (λ m. m ≤ n + 1) }
 {

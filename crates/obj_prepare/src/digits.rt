@@ -1,5 +1,6 @@
 //! Digits of a number, up to the one that decides how it is rounded.
-ghost use Rattle.std.specs.Prelude.{◌≡◌, ℕ, ◌+◌, ◌*◌, ◌^◌, ◌<◌, ◌≤◌, min, true, length, ◌++◌, slice_index_or, nat_le};
+ghost use Rattle.std.specs.Prelude.{◌≡◌, ℕ, ◌+◌, ◌*◌, ◌^◌, ◌<◌, ◌≤◌, min, true, length, ◌++◌};
+ghost use Rattle.std.specs.Prelude.{slice_index_or, nat_le};
 ghost use Rattle.pm_io.specs.Digits.{are_digits, value};
 ghost use Rattle.obj_prepare.specs.Numbers.{shifted};
 
@@ -51,12 +52,15 @@ fn digit_at(whole: &[u8], decimals: &[u8], at: usize) -> u8
     }
 }
 
-/// The number that the first `kept` digits make, with zeros after them where fewer are there, rounded by the digit that
-/// follows. Past the greatest coordinate it is any number that is past it.
+/// The number that the first `kept` digits make, with zeros after them where fewer are there,
+/// rounded by the digit that follows. Past the greatest coordinate it is any number that is past
+/// it.
 pub fn rounded(whole: &[u8], decimals: &[u8], kept: usize) -> u128
     requires whole { are_digits whole.now ≡ true }
     requires decimals { are_digits decimals.now ≡ true }
-    ensures value { (up down : ℕ) → kept + down ≡ length (whole.now ++ decimals.now) + up → min result (10 ^ 32 + 1) ≡ min (shifted (value 0 (whole.now ++ decimals.now)) up down) (10 ^ 32 + 1) }
+    ensures value { (up down : ℕ) → kept + down ≡ length (whole.now ++ decimals.now) + up
+        → min result (10 ^ 32 + 1) ≡ min (shifted (value 0 (whole.now ++ decimals.now)) up down)
+        (10 ^ 32 + 1) }
 {
     let front = &whole[..whole.len().min(kept)];
     let back = &decimals[..decimals.len().min(kept - front.len())];

@@ -1,12 +1,14 @@
 //! Points in units of 10^-18, as texts spell them.
-ghost use Rattle.std.specs.Prelude.{◌≡◌, ◌≤◌, ◌^◌, true, false, unsigned_abs, IfSome, OnSome, IfNone};
+ghost use Rattle.std.specs.Prelude.{◌≡◌, ◌≤◌, ◌^◌, true, false, unsigned_abs, IfSome, OnSome};
+ghost use Rattle.std.specs.Prelude.{IfNone};
 ghost use Rattle.std.specs.Int.{int_min, int_max};
 ghost use Rattle.obj_prepare.specs.Exact.{is_exact, are_exact, AreExact, lower, upper};
 
 use crate::digits::GREATEST;
 use std::marker::Model;
 
-/// A point in units of 10^-18. Each coordinate is at most 10^32 units away from 0, which the type keeps.
+/// A point in units of 10^-18. Each coordinate is at most 10^32 units away from 0, which the type
+/// keeps.
 #[derive(Clone, Copy, Debug, PartialEq, Eq)]
 pub struct ExactPoint {
     x: i128,

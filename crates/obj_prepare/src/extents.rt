@@ -1,7 +1,8 @@
 //! The box of points, and their places on the grid.
 ghost use Rattle.std.specs.Prelude.{◌≡◌, ◌≤◌, ◌<◌, ◌*◌, ◌^◌, ℤ, ◌+ℤ◌, ◌-ℤ◌, ◌≤ℤ◌, unsigned_abs};
 ghost use Rattle.pm_base.specs.declared.limits.TheConstants.{GREATEST_COORDINATE};
-ghost use Rattle.obj_prepare.specs.Boxes.{along, off_middle, box_of_points, extent, scaled, IsInBox};
+ghost use Rattle.obj_prepare.specs.Boxes.{along, off_middle, box_of_points, extent, scaled};
+ghost use Rattle.obj_prepare.specs.Boxes.{IsInBox};
 
 use crate::exact::ExactPoint;
 use crate::scale::along;
@@ -158,8 +159,8 @@ pub(crate) fn point(x: i32, y: i32, z: i32) -> Point
     point
 }
 
-/// The place of a point of a box, with the longest axis scaled to go from -size to size: the nearest on the grid, halves
-/// away from 0.
+/// The place of a point of a box, with the longest axis scaled to go from -size to size: the
+/// nearest on the grid, halves away from 0.
 #[tactic(auto, unfolding(crate::specs::Boxes::scaled))]
 pub fn scaled(size: u32, b: &PointBox, p: &ExactPoint) -> Point
     requires size { size ≤ GREATEST_COORDINATE }

@@ -5,7 +5,8 @@ ghost use Rattle.pm_base.specs.Meshes.{IsWellFormed, mesh_of};
 ghost use Rattle.pm_base.specs.Sides.{net_of};
 ghost use Rattle.pm_base.specs.Fans.{IsOrientedManifold};
 ghost use Rattle.obj_prepare.specs.Named.{IsWithinMesh};
-ghost use Rattle.obj_prepare.specs.Nothing.{AreAllNamed, AreWhole, mesh_over, nothing_done as nothing_done_of};
+ghost use Rattle.obj_prepare.specs.Nothing.{AreAllNamed, AreWhole, mesh_over};
+ghost use Rattle.obj_prepare.specs.Nothing.{nothing_done as nothing_done_of};
 ghost use Rattle.obj_prepare.specs.Prepared.{IsPreparedWith};
 
 use crate::OutOfMemory;
@@ -36,8 +37,8 @@ fn are_named(alloc: Global, vertices: usize, faces: &[Corners]) -> Result<bool, 
     Ok(are_set(&named))
 }
 
-// Whether triangles name three vertices each and all vertices together, and no two of these stand at
-// one place.
+// Whether triangles name three vertices each and all vertices together, and no two of these stand
+// at one place.
 #[tactic(auto, using(crate::proofs::FittingLaws::mesh_formed))]
 fn are_whole(alloc: Global, places: &[Point], faces: &[Corners]) -> Result<bool, OutOfMemory>
     requires { IsWithinMesh (length places.now) faces.now }
@@ -98,9 +99,11 @@ pub(crate) fn as_they_stand(
     faces: &[Corners],
 ) -> Result<Option<Prepared>, OutOfMemory>
     requires { IsWithinMesh (length places.now) faces.now }
-    ensures ok { IfOk result (λ r. IfSome r (λ p. IsPreparedWith places.now faces.now (mesh_of p.mesh) p.notes)) }
+    ensures ok { IfOk result
+        (λ r. IfSome r (λ p. IsPreparedWith places.now faces.now (mesh_of p.mesh) p.notes)) }
     ensures formed { IfOk result (λ r. IfSome r (λ p. IsWellFormed (mesh_of p.mesh))) }
-    ensures manifold { IfOk result (λ r. IfSome r (λ p. IsOrientedManifold (net_of p.mesh.faces.items))) }
+    ensures manifold { IfOk result
+        (λ r. IfSome r (λ p. IsOrientedManifold (net_of p.mesh.faces.items))) }
 {
     if !are_whole(alloc, places, faces)? {
         return Ok(None);

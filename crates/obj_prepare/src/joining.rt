@@ -1,11 +1,15 @@
-//! Vertices at one place become one. The first at each place is kept in a map by the place as one number.
-ghost use Rattle.std.specs.Prelude.{◌≡◌, ◌<◌, ◌≤◌, ◌+◌, List, length, true, unsigned_abs, IfOk, OnOk};
+//! Vertices at one place become one. The first at each place is kept in a map by the place as one
+//! number.
+ghost use Rattle.std.specs.Prelude.{◌≡◌, ◌<◌, ◌≤◌, ◌+◌, List, length, true, unsigned_abs, IfOk};
+ghost use Rattle.std.specs.Prelude.{OnOk};
 ghost use Rattle.pm_base.specs.declared.limits.TheConstants.{GREATEST_COORDINATE, MOST_VERTICES};
 ghost use Rattle.pm_base.specs.declared.mesh.Corners.{Corners as FaceCorners};
 ghost use Rattle.pm_base.specs.Place.{IsPlace};
 ghost use Rattle.obj_prepare.specs.Named.{AreVerticesBelow, IsWithinMesh, is_some_corner};
-ghost use Rattle.obj_prepare.specs.Joining.{AreJoined, IsFirstAt, renamed as renamed_of, joined_faces as joined_faces_of};
-ghost use Rattle.obj_prepare.specs.Firsts.{raised as raised_of, place_key as place_key_of, AreFirsts};
+ghost use Rattle.obj_prepare.specs.Joining.{AreJoined, IsFirstAt, renamed as renamed_of};
+ghost use Rattle.obj_prepare.specs.Joining.{joined_faces as joined_faces_of};
+ghost use Rattle.obj_prepare.specs.Firsts.{raised as raised_of, place_key as place_key_of};
+ghost use Rattle.obj_prepare.specs.Firsts.{AreFirsts};
 
 use crate::OutOfMemory;
 use crate::named::named;
@@ -48,7 +52,8 @@ fn first_at(firsts: &mut BTreeMap<u64, u32>, places: &[Point], v: usize) -> Resu
     ensures first { (faces : List FaceCorners) → AreFirsts places.now faces v firsts.old
         → is_some_corner faces v ≡ true → IfOk result (IsFirstAt places.now faces v) }
     ensures noted { (faces : List FaceCorners) → AreFirsts places.now faces v firsts.old
-        → is_some_corner faces v ≡ true → OnOk result (AreFirsts places.now faces (v + 1) firsts.new) }
+        → is_some_corner faces v ≡ true
+        → OnOk result (AreFirsts places.now faces (v + 1) firsts.new) }
 {
     let key = place_key(&places[v]);
     if let Some(&first) = firsts.get(&key) {

@@ -1,4 +1,5 @@
-//! What makes any text in the syntax of Wavefront OBJ fit: decimals of any length, and points scaled onto the grid.
+//! What makes any text in the syntax of Wavefront OBJ fit: decimals of any length, and points
+//! scaled onto the grid.
 #![tactic(auto)]
 
 mod apart;

@@ -1,7 +1,9 @@
 //! The longest axis of a box, and the vertices at its ends.
 ghost use Rattle.std.specs.Prelude.{◌≡◌, ◌≤◌, length, IfOk};
 ghost use Rattle.pm_base.specs.declared.limits.TheConstants.{MOST_VERTICES};
-ghost use Rattle.obj_prepare.specs.Longest.{coordinate_on, is_at, first_at as first_at_of, longest_by, longest_of, longest_axis as longest_axis_of};
+ghost use Rattle.obj_prepare.specs.Longest.{coordinate_on, is_at, first_at as first_at_of};
+ghost use Rattle.obj_prepare.specs.Longest.{longest_by, longest_of};
+ghost use Rattle.obj_prepare.specs.Longest.{longest_axis as longest_axis_of};
 ghost use Rattle.obj_prepare.specs.Named.{IsWithinMesh};
 
 use crate::extents::{PointBox, extent, way};

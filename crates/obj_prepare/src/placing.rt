@@ -4,7 +4,8 @@ ghost use Rattle.std.specs.List.{All, list_all};
 ghost use Rattle.obj_prepare.specs.Boxes.{box_of_points};
 ghost use Rattle.obj_prepare.specs.Exact.{lower, upper};
 ghost use Rattle.obj_prepare.specs.Named.{IsWithinMesh, chosen};
-ghost use Rattle.obj_prepare.specs.Placing.{IsSize, IsSized, Suits, frame_of, fit_for, fit_of, placed, places_by, prepared_places_of};
+ghost use Rattle.obj_prepare.specs.Placing.{IsSize, IsSized, Suits, frame_of, fit_for, fit_of};
+ghost use Rattle.obj_prepare.specs.Placing.{placed, places_by, prepared_places_of};
 ghost use Rattle.obj_prepare.specs.Whole.{stands_on_grid};
 
 use crate::extents::{PointBox, point, scaled};
@@ -30,9 +31,10 @@ pub struct Placing {
     pub places: Vec<Point>,
 }
 
-/// The places of the points that triangles name. Where no size is given and all of them are whole and at most 32,767 in
-/// absolute value, they stand as they are; else the longest axis of their box goes from -size to size, which is 32,767
-/// where none is given. Points that no triangle names stand at 0. O(V + F) for V points and F triangles.
+/// The places of the points that triangles name. Where no size is given and all of them are whole
+/// and at most 32,767 in absolute value, they stand as they are; else the longest axis of their box
+/// goes from -size to size, which is 32,767 where none is given. Points that no triangle names
+/// stand at 0. O(V + F) for V points and F triangles.
 pub fn place_points(
     alloc: Global,
     size: Option<u32>,
@@ -42,7 +44,8 @@ pub fn place_points(
     requires size { IsSize size }
     requires within { IsWithinMesh (length points.now) faces.now }
     ensures fit { IfOk result (λ p. p.fit ≡ fit_of size points.now faces.now) }
-    ensures places { IfOk result (λ p. p.places.items ≡ prepared_places_of size points.now faces.now) }
+    ensures places { IfOk result
+        (λ p. p.places.items ≡ prepared_places_of size points.now faces.now) }
     ensures sized { IfOk result (λ p. IsSized p.fit) }
 {
     let named = named(alloc, points.len(), faces)?;

@@ -130,7 +130,8 @@ fn points_of(alloc: Global, places: &[Point], old: &[u32]) -> Result<Points, Out
 
 fn mesh_of_split(alloc: Global, places: &[Point], split: &Split) -> Result<Mesh, OutOfMemory>
     requires { All (λ v. v < length places.now) split.now.old.items }
-    ensures points { IfOk result (λ m. m.points.items ≡ map (place_in_list places.now) split.now.old.items) }
+    ensures points { IfOk result
+        (λ m. m.points.items ≡ map (place_in_list places.now) split.now.old.items) }
     ensures faces { IfOk result (λ m. m.faces.items ≡ split.now.faces.items) }
 {
     let points = points_of(alloc, places, &split.old)?;

@@ -25,8 +25,9 @@ fn stretched(size: u32, way: u128) -> u128
     u128::from(size) * way
 }
 
-/// The place of a coordinate along one axis of a box: `off` is twice its way from the middle, and the extent of the box
-/// becomes twice the size. It is the nearest whole number, halves away from 0, and at most the size away from 0.
+/// The place of a coordinate along one axis of a box: `off` is twice its way from the middle, and
+/// the extent of the box becomes twice the size. It is the nearest whole number, halves away from
+/// 0, and at most the size away from 0.
 #[tactic(auto, unfolding(crate::specs::Boxes::along), using(crate::proofs::NearestLaws::nearest_within))]
 pub fn along(size: u32, extent: u128, off: i128) -> i32
     requires size { size ≤ GREATEST_COORDINATE }

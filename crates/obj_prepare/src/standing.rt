@@ -1,5 +1,6 @@
 //! Points that fit the grid as they stand.
-ghost use Rattle.std.specs.Prelude.{◌≡◌, ◌≤◌, ◌*◌, ◌%◌, ◌^◌, ◌==◌, ◌&&◌, nat_le, true, unsigned_abs};
+ghost use Rattle.std.specs.Prelude.{◌≡◌, ◌≤◌, ◌*◌, ◌%◌, ◌^◌, ◌==◌, ◌&&◌, nat_le, true};
+ghost use Rattle.std.specs.Prelude.{unsigned_abs};
 ghost use Rattle.pm_base.specs.declared.limits.TheConstants.{GREATEST_COORDINATE};
 ghost use Rattle.obj_prepare.specs.Whole.{is_whole_coordinate, whole_part_of, stands_on_grid};
 
@@ -13,8 +14,8 @@ const TWOS: u128 = 1 << 18;
 
 const FIVES: u64 = 3_814_697_265_625;
 
-// Whether a number of units is one of steps, and in range. It is divided in two parts, since the second
-// fits 64 bits.
+// Whether a number of units is one of steps, and in range. It is divided in two parts, since the
+// second fits 64 bits.
 #[tactic(auto, using(crate::proofs::WholeLaws::steps_by_parts))]
 fn are_steps(units: u128) -> bool
     ensures { result ≡ (units % 10 ^ 18 == 0 && nat_le units (GREATEST_COORDINATE * 10 ^ 18)) }

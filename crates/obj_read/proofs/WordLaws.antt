@@ -1,5 +1,7 @@
 -- The words of a written line: its numbers, which have at most 11 bytes.
-use Rattle.std.proofs.Common.{◌≡◌, ℕ, zero, suc, ◌+◌, ◌-◌, ◌/◌, ◌%◌, ◌^◌, ◌<◌, ◌≤◌, ℤ, pos, negsuc, Bool, true, false, ◌&&◌, nat_le, List, [], ◌∷◌, ◌++◌, length, Ok, refl, sym, ◌∙◌, ap, arith, length-append}
+use Rattle.std.proofs.Common.{◌≡◌, ℕ, zero, suc, ◌+◌, ◌-◌, ◌/◌, ◌%◌, ◌^◌, ◌<◌, ◌≤◌, ℤ, pos, negsuc}
+use Rattle.std.proofs.Common.{Bool, true, false, ◌&&◌, nat_le, List, [], ◌∷◌, ◌++◌, length, Ok}
+use Rattle.std.proofs.Common.{refl, sym, ◌∙◌, ap, arith, length-append}
 use Rattle.std.specs.List.{list_all}
 use Rattle.std.specs.Fmt.{decimal}
 use Rattle.std.proofs.Math.Nat.{div-le_self}
@@ -16,7 +18,8 @@ use Rattle.obj_lines.proofs.PlainLaws.{is_plain, are_plain}
 use Rattle.obj_read.specs.Fields.{is_blank}
 use Rattle.obj_read.specs.Coordinates.{is_negative, is_signed}
 use Rattle.obj_read.specs.Indices.{index, index_text, index_digits}
-use Rattle.obj_read.proofs.WrittenLaws.{decimal_digits, length-last_digits, last_digits_are, no_byte, no_sign, not_negative}
+use Rattle.obj_read.proofs.WrittenLaws.{decimal_digits, length-last_digits, last_digits_are}
+use Rattle.obj_read.proofs.WrittenLaws.{no_byte, no_sign, not_negative}
 
 -- From `-` to the digit 9.
 abbrev pub is_inner : ℕ → Bool
@@ -42,7 +45,8 @@ word_plain (b ∷ bs) is =
     let parts = and_parts (is_inner b) (are_inner bs) is in
     and_from _ _ (inner_plain b parts.0) (word_plain bs parts.1)
 
-inner_both : (xs ys : List ℕ) → are_inner xs ≡ true → are_inner ys ≡ true → are_inner (xs ++ ys) ≡ true
+inner_both : (xs ys : List ℕ) → are_inner xs ≡ true → are_inner ys ≡ true
+    → are_inner (xs ++ ys) ≡ true
 inner_both xs ys left right = list_all-append is_inner xs ys ∙ and_from _ _ left right
 
 digits_inner : (ds : List ℕ) → are_digits ds ≡ true → are_inner ds ≡ true
@@ -89,23 +93,36 @@ pointed_is d n few most =
     let len = length-last_digits d (n % u) in
     let short = whole_word (n / u) less in
     record {
-      inner = inner_both (whole ++ 46 ∷ []) more (inner_both whole (46 ∷ []) (decimal_inner (n / u) (omega (arith, less))) refl) (digits_inner more (last_digits_are d (n % u)));
+      inner = inner_both (whole ++ 46 ∷ []) more
+          (inner_both whole (46 ∷ []) (decimal_inner (n / u) (omega (arith, less))) refl)
+          (digits_inner more (last_digits_are d (n % u)));
       some = omega (arith, length-append (whole ++ 46 ∷ []) more, length-append whole (46 ∷ []));
-      few = omega (arith, length-append (whole ++ 46 ∷ []) more, length-append whole (46 ∷ []), len, short, few);
+      few = omega (
+        arith,
+        length-append (whole ++ 46 ∷ []) more,
+        length-append whole (46 ∷ []),
+        len,
+        short,
+        few,
+      );
     }
 
-pub coordinate_word : (digits : ℕ) (z : ℤ) → digits ≤ 4 → is_coordinate z ≡ true → IsWord (coordinate_text digits z)
+pub coordinate_word : (digits : ℕ) (z : ℤ) → digits ≤ 4 → is_coordinate z ≡ true
+    → IsWord (coordinate_text digits z)
 unfolding coordinate_text pointed
 coordinate_word zero (pos n) few is = decimal_word n (omega (arith, leb-true _ _ is))
 coordinate_word zero (negsuc n) few is =
     let most : suc n ≤ 32767 = leb-true _ _ is in
-    minus_word (decimal (suc n)) (decimal_inner (suc n) (omega (arith, most))) (omega (arith, whole_word (suc n) most))
+    minus_word (decimal (suc n)) (decimal_inner (suc n) (omega (arith, most)))
+    (omega (arith, whole_word (suc n) most))
 coordinate_word (suc d) (pos n) few is =
     let p = pointed_is (suc d) n few (leb-true _ _ is) in
-    rw (ne_eqb (suc d) 0 (λ e. omega (arith, e)), le-ltb n 0 (omega arith)) (record { inner = p.inner; some = p.some; few = omega (arith, p.few) })
+    rw (ne_eqb (suc d) 0 (λ e. omega (arith, e)), le-ltb n 0 (omega arith))
+    (record { inner = p.inner; some = p.some; few = omega (arith, p.few) })
 coordinate_word (suc d) (negsuc n) few is =
     let p = pointed_is (suc d) (suc n) few (leb-true _ _ is) in
-    rw (ne_eqb (suc d) 0 (λ e. omega (arith, e))) (minus_word (pointed (suc d) (suc n)) p.inner p.few)
+    rw (ne_eqb (suc d) 0 (λ e. omega (arith, e)))
+    (minus_word (pointed (suc d) (suc n)) p.inner p.few)
 
 -- The number of a vertex, counted from 1, is read as that vertex.
 pub written_index : (n v : ℕ) → v < n → n ≤ 1048576 → index n (index_text (decimal (v + 1))) ≡ Ok v
@@ -116,6 +133,16 @@ written_index n v lt most =
     let is = decimal_digits (v + 1) small in
     let some = decimal_nonempty (v + 1) small in
     let whole : until 47 ds ≡ ds = no_byte 47 ds (omega arith) is.are in
-    let plain : is_negative ds ≡ false = not_negative ds (ap is_signed (sym (append-nil ds)) ∙ no_sign ds [] is.are some) in
+    let plain : is_negative ds ≡ false =
+    not_negative ds (ap is_signed (sym (append-nil ds)) ∙ no_sign ds [] is.are some) in
     let one : v + 1 - 1 ≡ v = omega arith in
-    rw (whole, plain, is.are, is.worth, lt-ltb 0 (length ds) some, ne_eqb (v + 1) 0 (λ e. omega (arith, e)), le-ltb n (v + 1) (omega (arith, lt)), one) refl
+    rw (
+      whole,
+      plain,
+      is.are,
+      is.worth,
+      lt-ltb 0 (length ds) some,
+      ne_eqb (v + 1) 0 (λ e. omega (arith, e)),
+      le-ltb n (v + 1) (omega (arith, lt)),
+      one,
+    ) refl

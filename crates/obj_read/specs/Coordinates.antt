@@ -1,6 +1,8 @@
--- A coordinate in a field of a line, in units of 10 to the power -digits. Byte 43 is `+`, 45 is `-`, 46 is the point, and
--- 48 is the digit 0.
-use Rattle.std.specs.Prelude.{ℕ, ◌+◌, ◌*◌, ◌^◌, List, [], ◌∷◌, ◌++◌, Bool, false, not, ◌==◌, ◌&&◌, ◌||◌, nat_lt, length, take, drop, replicate, ℤ, pos, neg_ℤ, Result, Ok, Err, if◌then◌else◌}
+-- A coordinate in a field of a line, in units of 10 to the power -digits. Byte 43 is `+`, 45 is
+-- `-`, 46 is the point, and 48 is the digit 0.
+use Rattle.std.specs.Prelude.{ℕ, ◌+◌, ◌*◌, ◌^◌, List, [], ◌∷◌, ◌++◌, Bool, false, not, ◌==◌, ◌&&◌}
+use Rattle.std.specs.Prelude.{◌||◌, nat_lt, length, take, drop, replicate, ℤ, pos, neg_ℤ, Result}
+use Rattle.std.specs.Prelude.{Ok, Err, if◌then◌else◌}
 use Rattle.std.specs.List.{list_all}
 use Rattle.pm_base.specs.declared.limits.TheConstants.{GREATEST_COORDINATE}
 use Rattle.pm_io.specs.Digits.{are_digits, value}
@@ -31,7 +33,9 @@ decimals number = drop (length (until 46 number) + 1) number
 
 -- Digits, a point and digits where there is one, and a digit at all.
 unfoldable pub is_number : List ℕ → Bool
-is_number number = are_digits (whole_part number) && are_digits (decimals number) && nat_lt 0 (length (whole_part number) + length (decimals number))
+is_number number =
+    are_digits (whole_part number) && are_digits (decimals number) && nat_lt 0
+    (length (whole_part number) + length (decimals number))
 
 abbrev pub are_zeros : List ℕ → Bool
 are_zeros digits = list_all (λ b. b == 48) digits
@@ -43,15 +47,18 @@ with_sign negative n = if negative then neg_ℤ (pos n) else pos n
 unfoldable pub padded : ℕ → List ℕ → List ℕ
 padded digits decimals = take digits (decimals ++ replicate digits 48)
 
--- The absolute value of a number without its sign: what stands before the point times 10 to the power of the digits, and
--- the number that the first so many decimals make.
+-- The absolute value of a number without its sign: what stands before the point times 10 to the
+-- power of the digits, and the number that the first so many decimals make.
 unfoldable pub magnitude : ℕ → List ℕ → ℕ
-magnitude digits number = 10 ^ digits * value 0 (whole_part number) + value 0 (padded digits (decimals number))
+magnitude digits number =
+    10 ^ digits * value 0 (whole_part number) + value 0 (padded digits (decimals number))
 
--- The coordinate that a field spells, or the field's first fault. Each decimal past the first so many has to be a zero.
+-- The coordinate that a field spells, or the field's first fault. Each decimal past the first so
+-- many has to be a zero.
 unfoldable pub coordinate : ℕ → List ℕ → Result ℤ ObjFault
 coordinate digits field =
     if not (is_number (without_sign field)) then Err faults.BadNumber
     else if not (are_zeros (drop digits (decimals (without_sign field)))) then Err faults.NotWhole
-    else if nat_lt GREATEST_COORDINATE (magnitude digits (without_sign field)) then Err faults.OutOfRange
+    else if nat_lt GREATEST_COORDINATE (magnitude digits (without_sign field)) then
+    Err faults.OutOfRange
     else Ok (with_sign (is_negative field) (magnitude digits (without_sign field)))

@@ -11,7 +11,8 @@ with_found m found.Nothing = m
 with_found m (found.Vertex p) = record { points = m.points ++ p ∷ []; faces = m.faces }
 with_found m (found.Face f) = record { points = m.points; faces = m.faces ++ f ∷ [] }
 
--- After so many vertices and faces there is room for what a line gives, and a face has three of the vertices.
+-- After so many vertices and faces there is room for what a line gives, and a face has three of the
+-- vertices.
 abbrev pub Fits : ℕ → ℕ → Found → Type 0
 Fits vertices faces found.Nothing = Unit {0}
 Fits vertices faces (found.Vertex p) = vertices < MOST_VERTICES

@@ -1,5 +1,6 @@
 -- The index of a vertex in a field of a line. Byte 47 is `/`.
-use Rattle.std.specs.Prelude.{ℕ, ◌-◌, List, not, ◌==◌, ◌&&◌, ◌||◌, nat_lt, length, drop, Result, Ok, Err, if◌then◌else◌}
+use Rattle.std.specs.Prelude.{ℕ, ◌-◌, List, not, ◌==◌, ◌&&◌, ◌||◌, nat_lt, length, drop, Result, Ok}
+use Rattle.std.specs.Prelude.{Err, if◌then◌else◌}
 use Rattle.pm_io.specs.Digits.{are_digits, value}
 use Rattle.obj_lines.specs.Text.{until}
 use Rattle.obj_read.specs.declared.fault.ObjFault.{ObjFault}
@@ -14,10 +15,13 @@ index_text field = until 47 field
 unfoldable pub index_digits : List ℕ → List ℕ
 index_digits text = if is_negative text then drop 1 text else text
 
--- The number from 0 of the vertex that an index names after so many vertices, or the index's first fault. Index 1 is
--- the first vertex, and -1 the last one.
+-- The number from 0 of the vertex that an index names after so many vertices, or the index's first
+-- fault. Index 1 is the first vertex, and -1 the last one.
 unfoldable pub index : ℕ → List ℕ → Result ℕ ObjFault
 index vertices text =
-    if not (are_digits (index_digits text) && nat_lt 0 (length (index_digits text))) then Err faults.BadNumber
-    else if value 0 (index_digits text) == 0 || nat_lt vertices (value 0 (index_digits text)) then Err faults.BadIndex
-    else Ok (if is_negative text then vertices - value 0 (index_digits text) else value 0 (index_digits text) - 1)
+    if not (are_digits (index_digits text) && nat_lt 0 (length (index_digits text))) then
+    Err faults.BadNumber
+    else if value 0 (index_digits text) == 0 || nat_lt vertices (value 0 (index_digits text)) then
+    Err faults.BadIndex
+    else Ok (if is_negative text then vertices - value 0 (index_digits text)
+    else value 0 (index_digits text) - 1)

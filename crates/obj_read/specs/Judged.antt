@@ -18,13 +18,16 @@ abbrev pub ◌>>=◌ : {A B : Type 0} → Result A ObjFault → (A → Result B 
 
 -- The vertex with these three fields.
 unfoldable pub vertex_of : ℕ → ℕ → List ℕ → List ℕ → List ℕ → Result Found ObjFault
-vertex_of digits vertices a b c = coordinate digits a >>= λ x. coordinate digits b >>= λ y. coordinate digits c >>= λ z.
+vertex_of digits vertices a b c =
+    coordinate digits a >>= λ x. coordinate digits b >>= λ y. coordinate digits c >>= λ z.
     if nat_le MOST_VERTICES vertices then Err faults.TooMany
     else Ok (found.Vertex (record { x = x; y = y; z = z }))
 
 -- The face with these three fields.
 unfoldable pub face_read : ℕ → ℕ → List ℕ → List ℕ → List ℕ → Result Found ObjFault
-face_read vertices faces x y z = index vertices (index_text x) >>= λ a. index vertices (index_text y) >>= λ b. index vertices (index_text z) >>= λ c.
+face_read vertices faces x y z =
+    index vertices (index_text x) >>= λ a. index vertices (index_text y) >>=
+    λ b. index vertices (index_text z) >>= λ c.
     if a == b || b == c || c == a then Err faults.RepeatedCorner
     else if nat_le MOST_FACES faces then Err faults.TooMany
     else Ok (found.Face (record { a = a; b = b; c = c }))
@@ -40,7 +43,8 @@ face_line vertices faces (a ∷ b ∷ c ∷ []) = face_read vertices faces a b c
 face_line vertices faces (a ∷ b ∷ c ∷ d ∷ more) = Err faults.NotTriangle
 face_line vertices faces _ = Err faults.TooFewFields
 
--- The fields of a line. One that begins with neither `v` nor `f` is skipped, as is one without fields.
+-- The fields of a line. One that begins with neither `v` nor `f` is skipped, as is one without
+-- fields.
 abbrev pub fields_found : ℕ → ℕ → ℕ → List (List ℕ) → Result Found ObjFault
 fields_found digits vertices faces [] = Ok found.Nothing
 fields_found digits vertices faces (keyword ∷ more) =
@@ -50,4 +54,5 @@ fields_found digits vertices faces (keyword ∷ more) =
 
 -- What is read of a line after so many vertices and faces, with so many decimals a coordinate.
 unfoldable pub line_found : ℕ → ℕ → ℕ → List ℕ → Result Found ObjFault
-line_found digits vertices faces line = if is_continued line then Err faults.Continuation else fields_found digits vertices faces (fields line)
+line_found digits vertices faces line = if is_continued line then Err faults.Continuation
+    else fields_found digits vertices faces (fields line)

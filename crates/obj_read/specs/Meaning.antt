@@ -1,5 +1,6 @@
 -- The meaning of a text in the syntax of Wavefront OBJ: its mesh, or its first line with a fault.
-use Rattle.std.specs.Prelude.{ℕ, ◌+◌, List, [], ◌∷◌, Bool, min, nat_lt, length, Option, Some, None, Result, Ok, Err, if◌then◌else◌}
+use Rattle.std.specs.Prelude.{ℕ, ◌+◌, List, [], ◌∷◌, Bool, min, nat_lt, length, Option, Some, None}
+use Rattle.std.specs.Prelude.{Result, Ok, Err, if◌then◌else◌}
 use Rattle.obj_lines.specs.declared.limits.TheConstants.{MOST_LINE_BYTES, MOST_TEXT_BYTES}
 use Rattle.pm_base.specs.Meshes.{Mesh}
 use Rattle.obj_lines.specs.Text.{until, lines, content}
@@ -10,23 +11,23 @@ use Rattle.obj_read.specs.Judged.{line_found}
 use Rattle.obj_read.specs.Fits.{with_found}
 use Rattle.obj_lines.specs.Feeding.{has_end}
 
--- How many decimals a coordinate has, and what the lines before gave: how many bytes they have, the number of the next
--- line, and the mesh so far.
+-- How many decimals a coordinate has, and what the lines before gave: how many bytes they have, the
+-- number of the next line, and the mesh so far.
 pub record SoFar : Type 0 where
   pub digits : ℕ
   pub bytes : ℕ
   pub number : ℕ
   pub mesh : Mesh
 
--- The first line with a fault, that line's first fault, and the number from 1 of the byte that shows it, unless that is
--- the end of input.
+-- The first line with a fault, that line's first fault, and the number from 1 of the byte that
+-- shows it, unless that is the end of input.
 pub record Refused : Type 0 where
   pub fault : ObjFault
   pub line : ℕ
   pub place : Option ℕ
 
--- The first byte too many of the text is among the bytes of a line of this length after so many bytes, up to the first
--- too many of the line.
+-- The first byte too many of the text is among the bytes of a line of this length after so many
+-- bytes, up to the first too many of the line.
 abbrev pub is_past : ℕ → ℕ → Bool
 is_past bytes length = nat_lt MOST_TEXT_BYTES (bytes + min length (MOST_LINE_BYTES + 1))
 
@@ -34,15 +35,16 @@ is_past bytes length = nat_lt MOST_TEXT_BYTES (bytes + min length (MOST_LINE_BYT
 abbrev pub is_long : List ℕ → Bool
 is_long line = nat_lt MOST_LINE_BYTES (length (until 10 line))
 
--- A line judged alone, given how many decimals a coordinate has, and how many bytes, vertices and faces stand before it.
+-- A line judged alone, given how many decimals a coordinate has, and how many bytes, vertices and
+-- faces stand before it.
 unfoldable pub read_alone : SoFar → List ℕ → Result Found ObjFault
 read_alone s line =
     if is_past s.bytes (length line) then Err faults.TooMany
     else if is_long line then Err faults.LineTooLong
     else line_found s.digits (length s.mesh.points) (length s.mesh.faces) (content (until 10 line))
 
--- The number from 1 of the byte that shows a line's fault, after so many bytes: the one too many in the text or in the
--- line, else the line's LF. The end of input shows it where there is none.
+-- The number from 1 of the byte that shows a line's fault, after so many bytes: the one too many in
+-- the text or in the line, else the line's LF. The end of input shows it where there is none.
 unfoldable pub place : ℕ → List ℕ → Option ℕ
 place bytes line =
     if is_past bytes (length line) then Some (MOST_TEXT_BYTES + 1)
@@ -52,12 +54,19 @@ place bytes line =
 
 -- After one line more.
 unfoldable pub and_line : SoFar → List ℕ → Found → SoFar
-and_line s line f = record { digits = s.digits; bytes = s.bytes + length line; number = s.number + 1; mesh = with_found s.mesh f }
+and_line s line f = record {
+  digits = s.digits;
+  bytes = s.bytes + length line;
+  number = s.number + 1;
+  mesh = with_found s.mesh f;
+}
 
 -- The first line with a fault ends the reading.
-abbrev pub then_lines : Result Found ObjFault → SoFar → List ℕ → (SoFar → Result Mesh Refused) → Result Mesh Refused
+abbrev pub then_lines : Result Found ObjFault → SoFar → List ℕ → (SoFar → Result Mesh Refused)
+    → Result Mesh Refused
 then_lines (Ok f) s line more = more (and_line s line f)
-then_lines (Err e) s line more = Err (record { fault = e; line = s.number; place = place s.bytes line })
+then_lines (Err e) s line more = Err
+    (record { fault = e; line = s.number; place = place s.bytes line })
 
 abbrev pub meaning_from : SoFar → List (List ℕ) → Result Mesh Refused
 meaning_from s [] = Ok s.mesh
@@ -65,7 +74,12 @@ meaning_from s (line ∷ more) = then_lines (read_alone s line) s line (λ t. me
 
 -- Before the first line.
 abbrev pub nothing_yet : ℕ → SoFar
-nothing_yet digits = record { digits = digits; bytes = 0; number = 1; mesh = record { points = []; faces = [] } }
+nothing_yet digits = record {
+  digits = digits;
+  bytes = 0;
+  number = 1;
+  mesh = record { points = []; faces = [] };
+}
 
 -- The mesh of the bytes with so many decimals a coordinate, or their first line with a fault.
 unfoldable pub meaning_of : ℕ → List ℕ → Result Mesh Refused

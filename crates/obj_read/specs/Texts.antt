@@ -10,14 +10,18 @@ use Rattle.obj_read.specs.Meaning.{meaning_of}
 
 -- The canonical text of a mesh is read as that mesh.
 abbrev pub CanonicalIsRead : Type 0
-CanonicalIsRead = (digits : ℕ) (m : Mesh) → digits ≤ 4 → IsWellFormed m → All IsPlace m.points → meaning_of digits (canonical_text digits m) ≡ Ok m
+CanonicalIsRead = (digits : ℕ) (m : Mesh) → digits ≤ 4 → IsWellFormed m → All IsPlace m.points
+    → meaning_of digits (canonical_text digits m) ≡ Ok m
 
--- A line that is a comment, in front of a text that spells a mesh, changes nothing, where neither gets too long.
+-- A line that is a comment, in front of a text that spells a mesh, changes nothing, where neither
+-- gets too long.
 abbrev pub CommentIsSkipped : Type 0
-CommentIsSkipped = (digits : ℕ) (line bytes : List ℕ) (m : Mesh) → until 10 line ≡ line → length line < MOST_LINE_BYTES → length ((35 ∷ line) ++ 10 ∷ bytes) ≤ MOST_TEXT_BYTES
+CommentIsSkipped = (digits : ℕ) (line bytes : List ℕ) (m : Mesh) → until 10 line ≡ line
+    → length line < MOST_LINE_BYTES → length ((35 ∷ line) ++ 10 ∷ bytes) ≤ MOST_TEXT_BYTES
     → meaning_of digits bytes ≡ Ok m → meaning_of digits ((35 ∷ line) ++ 10 ∷ bytes) ≡ Ok m
 
 -- So the canonical text of a mesh after a comment is read as that mesh.
 abbrev pub CommentedIsRead : Type 0
-CommentedIsRead = (digits : ℕ) (line : List ℕ) (m : Mesh) → until 10 line ≡ line → length line < MOST_LINE_BYTES → digits ≤ 4 → IsWellFormed m → All IsPlace m.points
+CommentedIsRead = (digits : ℕ) (line : List ℕ) (m : Mesh) → until 10 line ≡ line
+    → length line < MOST_LINE_BYTES → digits ≤ 4 → IsWellFormed m → All IsPlace m.points
     → meaning_of digits ((35 ∷ line) ++ 10 ∷ canonical_text digits m) ≡ Ok m

@@ -1,8 +1,11 @@
-//! A coordinate in a field of a line: a sign where there is one, digits, and a point with decimals where there is one.
+//! A coordinate in a field of a line: a sign where there is one, digits, and a point with decimals
+//! where there is one.
 ghost use Rattle.std.specs.Prelude.{◌≡◌, ◌≤◌, ◌<◌, ◌^◌, min, true, drop, IfOk};
 ghost use Rattle.pm_base.specs.Place.{is_coordinate};
 ghost use Rattle.pm_io.specs.Digits.{are_digits, value};
-ghost use Rattle.obj_read.specs.Coordinates.{is_negative, without_sign, whole_part, decimals, is_number, are_zeros, with_sign, padded, magnitude, coordinate};
+ghost use Rattle.obj_read.specs.Coordinates.{is_negative, without_sign, whole_part, decimals};
+ghost use Rattle.obj_read.specs.Coordinates.{is_number, are_zeros, with_sign, padded, magnitude};
+ghost use Rattle.obj_read.specs.Coordinates.{coordinate};
 
 use crate::fault::ObjFault;
 use obj_lines::until;
@@ -93,7 +96,8 @@ fn scale(digits: u32) -> u64
     }
 }
 
-// The number that the first decimals make, exactly so many: zeros stand after them where fewer are there.
+// The number that the first decimals make, exactly so many: zeros stand after them where fewer are
+// there.
 #[tactic(auto, using(crate::proofs::DecimalLaws::digits_take))]
 fn decimals_value(digits: u32, decimals: &[u8]) -> u64
     requires few { digits ≤ 4 }
@@ -123,8 +127,8 @@ fn past(digits: u32, decimals: &[u8]) -> &[u8]
     &decimals[decimals.len().min(digits as usize)..]
 }
 
-/// The coordinate that a field spells, in units of 10 to the power -digits, or the field's first fault. There may be any
-/// number of digits.
+/// The coordinate that a field spells, in units of 10 to the power -digits, or the field's first
+/// fault. There may be any number of digits.
 #[tactic(auto, unfolding(crate::specs::Coordinates::coordinate))]
 pub fn coordinate(digits: u32, field: &[u8]) -> Result<i32, ObjFault>
     requires { digits ≤ 4 }

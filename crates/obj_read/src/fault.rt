@@ -4,8 +4,8 @@ ghost use Rattle.obj_read.specs.Numbers.{fault_number};
 
 use thiserror::Error;
 
-/// What is wrong with a line. A line with several faults is refused for the first one by the order of the OBJ profile,
-/// which isn't the order here.
+/// What is wrong with a line. A line with several faults is refused for the first one by the order
+/// of the OBJ profile, which isn't the order here.
 #[derive(Clone, Copy, Debug, PartialEq, Eq, Error)]
 pub enum ObjFault {
     #[error("more than 65,536 bytes stand before the line's end")]

@@ -39,7 +39,8 @@ fn split_field(bytes: &[u8]) -> (&[u8], &[u8])
 
 /// The first field, and what stands after it.
 pub fn next_field(bytes: &[u8]) -> Option<(&[u8], &[u8])>
-    ensures { MatchOption result (fields bytes.now ≡ []) (λ r. fields bytes.now ≡ r.0.now ∷ fields r.1.now) }
+    ensures { MatchOption result (fields bytes.now ≡ []) (λ r. fields bytes.now ≡ r.0.now
+        ∷ fields r.1.now) }
 {
     let rest = skip_blanks(bytes);
     if rest.is_empty() {

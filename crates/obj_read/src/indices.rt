@@ -1,4 +1,5 @@
-//! The index of a vertex in a field of a line: positive from the first vertex on, negative from the last one back.
+//! The index of a vertex in a field of a line: positive from the first vertex on, negative from the
+//! last one back.
 ghost use Rattle.std.specs.Prelude.{◌≡◌, ◌<◌, ◌≤◌, IfOk};
 ghost use Rattle.obj_read.specs.Indices.{index_text, index_digits, index};
 
@@ -25,8 +26,8 @@ fn index_digits(text: &[u8]) -> &[u8]
     }
 }
 
-/// The number from 0 of the vertex that a field names after so many vertices, or the field's first fault. There may be
-/// any number of digits.
+/// The number from 0 of the vertex that a field names after so many vertices, or the field's first
+/// fault. There may be any number of digits.
 #[tactic(auto, unfolding(crate::specs::Indices::index))]
 pub fn index(vertices: u32, field: &[u8]) -> Result<u32, ObjFault>
     ensures value { result ≡ index vertices (index_text field.now) }

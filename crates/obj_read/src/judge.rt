@@ -1,7 +1,8 @@
 //! A line judged alone: what it gives, or its first fault.
 ghost use Rattle.std.specs.Prelude.{◌≡◌, ◌≤◌, IfOk};
 ghost use Rattle.obj_read.specs.Fields.{fields};
-ghost use Rattle.obj_read.specs.Judged.{vertex_of, face_read, vertex_line, face_line, fields_found, line_found};
+ghost use Rattle.obj_read.specs.Judged.{vertex_of, face_read, vertex_line, face_line, fields_found};
+ghost use Rattle.obj_read.specs.Judged.{line_found};
 ghost use Rattle.obj_read.specs.Fits.{Fits};
 
 use crate::coordinate::coordinate;
@@ -108,8 +109,9 @@ fn fields_found(digits: u32, vertices: u32, faces: u32, line: &[u8]) -> Result<F
     }
 }
 
-/// What a line gives after so many vertices and faces, or its first fault. Its coordinates are read with so many digits
-/// after the point. The line stands here as it is read, without its LF, a CR at its end and a comment.
+/// What a line gives after so many vertices and faces, or its first fault. Its coordinates are read
+/// with so many digits after the point. The line stands here as it is read, without its LF, a CR at
+/// its end and a comment.
 #[tactic(auto, unfolding(crate::specs::Judged::line_found))]
 pub fn line_found(digits: u32, vertices: u32, faces: u32, line: &[u8]) -> Result<Found, ObjFault>
     requires { digits ≤ 4 }

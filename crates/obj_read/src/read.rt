@@ -15,16 +15,19 @@ use std::alloc::Global;
 
 /// Reads a source to its end, and answers the mesh that its bytes spell.
 ///
-/// Lines that begin with neither `v` nor `f` are skipped. Coordinates are kept in units of 10 to the power -digits, with
-/// at most four digits: they are from -32,767 to 32,767 units, and each decimal past the first so many is a zero. Faces
-/// are triangles. All bytes that are held are judged before more are asked for, so a fault is answered as soon as the byte
-/// that shows it has come. However the source cuts its bytes, the answer is the same.
+/// Lines that begin with neither `v` nor `f` are skipped. Coordinates are kept in units of 10 to
+/// the power -digits, with at most four digits: they are from -32,767 to 32,767 units, and each
+/// decimal past the first so many is a zero. Faces are triangles. All bytes that are held are
+/// judged before more are asked for, so a fault is answered as soon as the byte that shows it has
+/// come. However the source cuts its bytes, the answer is the same.
 ///
-/// Each byte is looked at a constant number of times. Memory is taken for the window, for one line, and for the mesh.
+/// Each byte is looked at a constant number of times. Memory is taken for the window, for one line,
+/// and for the mesh.
 pub fn read_obj<S: Source>(alloc: Global, digits: u32, source: &mut S) -> Result<Mesh, ObjFail>
     requires few { digits ≤ 4 }
     requires not_ended { S.ended source.old ≡ false }
-    ensures ok { IfOk result (λ m. IfSome (S.left source.old) (λ bytes. meaning_of digits bytes ≡ Ok (mesh_of m))) }
+    ensures ok { IfOk result
+        (λ m. IfSome (S.left source.old) (λ bytes. meaning_of digits bytes ≡ Ok (mesh_of m))) }
     ensures mesh { IfOk result (λ m. IsWellFormed (mesh_of m)) }
     ensures end { OnOk result (AtEnd (S.left source.new)) }
     ensures err { IfErr result (λ e. Explains digits e (S.left source.old) (S.left source.new)) }

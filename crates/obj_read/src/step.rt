@@ -1,5 +1,6 @@
 //! One step of the reading: the bytes that the window holds, at most up to the end of a line.
-ghost use Rattle.std.specs.Prelude.{ℕ, List, Option, ◌≡◌, ◌≤◌, ◌<◌, length, true, false, Ok, IfOk, IfErr, OnOk};
+ghost use Rattle.std.specs.Prelude.{ℕ, List, Option, ◌≡◌, ◌≤◌, ◌<◌, length, true, false, Ok, IfOk};
+ghost use Rattle.std.specs.Prelude.{IfErr, OnOk};
 ghost use Rattle.std.specs.Io.KnownBytes.{prepend_known};
 ghost use Rattle.pm_base.specs.Meshes.{IsWellFormed, mesh_of};
 ghost use Rattle.pm_io.specs.Bytes.{AtEnd};
@@ -20,7 +21,8 @@ use obj_lines::{LineState, Lines, MOST_TEXT_BYTES};
 use pm_base::Mesh;
 use pm_io::{Source, Taker};
 
-/// How far the reading has come: the bytes taken, those before the open line, and that line's number.
+/// How far the reading has come: the bytes taken, those before the open line, and that line's
+/// number.
 #[derive(Clone, Copy, Debug, PartialEq, Eq)]
 pub struct Progress {
     pub taken: u32,
@@ -45,7 +47,9 @@ fn take_line(mesh: &mut Mesh, digits: u32, text: &[u8], number: u32) -> Result<(
     requires formed { IsWellFormed (mesh_of mesh.old) }
     ensures ok { OnOk result (Gives digits (mesh_of mesh.old) text.now (mesh_of mesh.new)) }
     ensures mesh { OnOk result (IsWellFormed (mesh_of mesh.new)) }
-    ensures fault { IfErr result (λ e. IsLineFault e number (line_found digits (length mesh.old.points.items) (length mesh.old.faces.items) text.now)) }
+    ensures fault { IfErr result
+        (λ e. IsLineFault e number
+        (line_found digits (length mesh.old.points.items) (length mesh.old.faces.items) text.now)) }
 {
     match line_found(
         digits,
@@ -64,8 +68,8 @@ fn take_line(mesh: &mut Mesh, digits: u32, text: &[u8], number: u32) -> Result<(
     }
 }
 
-/// Takes what the window holds, at most up to the end of a line, and judges a line that has ended. False at the end of
-/// input. The window is used up before the source is asked for more.
+/// Takes what the window holds, at most up to the end of a line, and judges a line that has ended.
+/// False at the end of input. The window is used up before the source is asked for more.
 pub fn step<S: Source>(
     digits: u32,
     source: &mut S,
@@ -78,13 +82,19 @@ pub fn step<S: Source>(
     requires ready { IsReadyToRead lines.old (mesh_of mesh.old) progress.old }
     requires not_ended { S.ended source.old ≡ false }
     ensures ready { OnOk result (IsReadyToRead lines.new (mesh_of mesh.new) progress.new) }
-    ensures reads_on { (whole : Option (List ℕ)) → IsReading digits whole taker.old (S.left source.old) progress.old (mesh_of mesh.old) lines.old
-        → OnOk result (IsReading digits whole taker.new (S.left source.new) progress.new (mesh_of mesh.new) lines.new) }
+    ensures reads_on { (whole : Option (List ℕ))
+        → IsReading digits whole taker.old (S.left source.old) progress.old (mesh_of mesh.old)
+        lines.old
+        → OnOk result
+        (IsReading digits whole taker.new (S.left source.new) progress.new (mesh_of mesh.new)
+        lines.new) }
     ensures more { IfOk result (λ more. more ≡ true → progress.old.taken < progress.new.taken) }
     ensures not_ended { IfOk result (λ more. more ≡ true → S.ended source.new ≡ false) }
-    ensures end { IfOk result (λ more. more ≡ false → AtEnd (prepend_known taker.new (S.left source.new))) }
+    ensures end { IfOk result (λ more. more ≡ false
+        → AtEnd (prepend_known taker.new (S.left source.new))) }
     ensures err { IfErr result (λ e. (whole : Option (List ℕ))
-        → IsReading digits whole taker.old (S.left source.old) progress.old (mesh_of mesh.old) lines.old → Explains digits e whole (S.left source.new)) }
+        → IsReading digits whole taker.old (S.left source.old) progress.old (mesh_of mesh.old)
+        lines.old → Explains digits e whole (S.left source.new)) }
     ensures cause { HasCause (S.faults source.old) (S.faults source.new) (of_source result) }
 {
     let fed = match taker.piece(source) {
@@ -124,9 +134,13 @@ pub fn step<S: Source>(
 pub fn finish(digits: u32, mesh: Mesh, lines: Lines, progress: Progress) -> Result<Mesh, ObjFail>
     requires few { digits ≤ 4 }
     requires ready { IsReadyToRead lines (mesh_of mesh) progress }
-    ensures ok { IfOk result (λ m. meaning_from (read_so_far digits progress (mesh_of mesh)) (lines_of (open_line lines)) ≡ Ok (mesh_of m)) }
+    ensures ok { IfOk result
+        (λ m. meaning_from (read_so_far digits progress (mesh_of mesh)) (lines_of (open_line lines))
+        ≡ Ok (mesh_of m)) }
     ensures mesh { IfOk result (λ m. IsWellFormed (mesh_of m)) }
-    ensures err { IfErr result (λ e. IsRefused e (meaning_from (read_so_far digits progress (mesh_of mesh)) (lines_of (open_line lines)))) }
+    ensures err { IfErr result
+        (λ e. IsRefused e
+        (meaning_from (read_so_far digits progress (mesh_of mesh)) (lines_of (open_line lines)))) }
 {
     let mut mesh = mesh;
     let mut lines = lines;

@@ -1,5 +1,6 @@
 -- The lines of a canonical text have no weights.
-use Rattle.std.proofs.Common.{◌≡◌, ℕ, suc, ◌+◌, ◌<◌, ◌≤◌, Bool, true, false, List, [], ◌∷◌, ◌++◌, length, refl, sym, ◌∙◌, ap, subst, arith, append_assoc}
+use Rattle.std.proofs.Common.{◌≡◌, ℕ, suc, ◌+◌, ◌<◌, ◌≤◌, Bool, true, false, List, [], ◌∷◌, ◌++◌}
+use Rattle.std.proofs.Common.{length, refl, sym, ◌∙◌, ap, subst, arith, append_assoc}
 use Rattle.std.specs.Prelude.{unsigned_abs}
 use Rattle.std.specs.Fmt.{decimal}
 use Rattle.std.specs.List.{All, flat_map}
@@ -16,7 +17,8 @@ use Rattle.obj_lines.proofs.TextLaws.{lines_whole}
 use Rattle.obj_lines.proofs.CutLaws.{before_end}
 use Rattle.obj_lines.proofs.PlainLaws.{is_plain, are_plain, plain_text, comment_read}
 use Rattle.obj_read.specs.Fields.{is_blank, begins_blank, fields}
-use Rattle.obj_read.proofs.WordLaws.{is_inner, are_inner, IsWord, inner_filled, word_plain, coordinate_word, decimal_word}
+use Rattle.obj_read.proofs.WordLaws.{is_inner, are_inner, IsWord, inner_filled, word_plain}
+use Rattle.obj_read.proofs.WordLaws.{coordinate_word, decimal_word}
 use Rattle.obj_scan.specs.Judged.{has_weight}
 
 -- The fields of a line have a weight, if they are a vertex's.

@@ -1,5 +1,6 @@
 -- The start and the end of the reading.
-use Rattle.std.proofs.Common.{◌≡◌, ℕ, ◌+◌, ◌<◌, ◌≤◌, ◌⊎◌, inl, inr, List, [], ◌++◌, length, Option, Some, None, Result, Ok, Err, IfSome, refl, sym, ◌∙◌, ap, subst, arith}
+use Rattle.std.proofs.Common.{◌≡◌, ℕ, ◌+◌, ◌<◌, ◌≤◌, ◌⊎◌, inl, inr, List, [], ◌++◌, length, Option}
+use Rattle.std.proofs.Common.{Some, None, Result, Ok, Err, IfSome, refl, sym, ◌∙◌, ap, subst, arith}
 use Rattle.std.specs.Io.KnownBytes.{prepend_known}
 use Rattle.std.proofs.lemmas.List.{append-nil}
 use Rattle.std.proofs.lemmas.List.Elements.{All-nil}
@@ -7,7 +8,8 @@ use Rattle.pm_io.specs.Bytes.{AtEnd}
 use Rattle.obj_lines.specs.declared.state.LineState.{LineState}
 use Rattle.obj_lines.specs.declared.state.LineState.TheVariants as states
 use Rattle.obj_lines.specs.Text.{until, lines}
-use Rattle.obj_lines.specs.Feeding.{Feeding, begun, is_line, is_going, open_line, end_state, finished}
+use Rattle.obj_lines.specs.Feeding.{Feeding, begun, is_line, is_going, open_line, end_state}
+use Rattle.obj_lines.specs.Feeding.{finished}
 use Rattle.obj_lines.proofs.TextLaws.{lines_last}
 use Rattle.obj_lines.proofs.FedLaws.{end_none, end_some}
 use Rattle.obj_read.proofs.FinishLaws.{start, is_last}
@@ -21,7 +23,8 @@ use Rattle.obj_scan.specs.Judged.{Scanned}
 use Rattle.pm_ears.specs.Recutting.{IsPolygonWithin}
 use Rattle.obj_prepare.specs.Named.{AreVerticesBelow}
 use Rattle.obj_scan.specs.Meaning.{ScannedSoFar, at_end, scan_meaning_from, scan_meaning_of}
-use Rattle.obj_scan.specs.Reading.{HeldLines, ScanStandsAt, IsScanning, IsReadyToScan, line_taken, nothing_held, scanned_so_far, after_lines}
+use Rattle.obj_scan.specs.Reading.{HeldLines, ScanStandsAt, IsScanning, IsReadyToScan, line_taken}
+use Rattle.obj_scan.specs.Reading.{nothing_held, scanned_so_far, after_lines}
 use Rattle.obj_scan.specs.Fails.{ExplainsScan}
 use Rattle.obj_scan.proofs.StandLaws.{stands_start}
 use Rattle.obj_scan.proofs.JudgeLaws.{held_in, then_taken, judged_line}
@@ -38,7 +41,8 @@ none_scanning = record {
   weights = omega arith;
 }
 
-pub start_ready : (f : Feeding) (h : HeldLines) → f ≡ begun → h ≡ nothing_held → IsReadyToScan f h start
+pub start_ready : (f : Feeding) (h : HeldLines) → f ≡ begun → h ≡ nothing_held
+    → IsReadyToScan f h start
 start_ready f h is empty =
     let line : open_line f ≡ [] = ap open_line is in
     let long = ap length line in
@@ -54,25 +58,35 @@ start_ready f h is empty =
       scanned = subst (λ (x : HeldLines). IsScanning x.scanned) (sym empty) none_scanning;
     }
 
-pub start_stands : (all : Option (List ℕ)) (window : List ℕ) (f : Feeding) (h : HeldLines) → window ≡ [] → f ≡ begun → h ≡ nothing_held → ScanStandsAt all (prepend_known window all) (scanned_so_far start h) (open_line f)
+pub start_stands : (all : Option (List ℕ)) (window : List ℕ) (f : Feeding) (h : HeldLines)
+    → window ≡ [] → f ≡ begun → h ≡ nothing_held
+    → ScanStandsAt all (prepend_known window all) (scanned_so_far start h) (open_line f)
 start_stands all window f h empty is held =
-    subst (λ (l : List ℕ). ScanStandsAt all (prepend_known l all) (scanned_so_far start h) (open_line f)) (sym empty)
-    (subst (λ (l : List ℕ). ScanStandsAt all (prepend_known [] all) (scanned_so_far start h) l) (sym (ap open_line is))
-    (subst (λ (x : HeldLines). ScanStandsAt all (prepend_known [] all) (scanned_so_far start x) []) (sym held) (stands_start all)))
+    subst (λ (l : List ℕ). ScanStandsAt all (prepend_known l all) (scanned_so_far start h)
+    (open_line f)) (sym empty)
+    (subst (λ (l : List ℕ). ScanStandsAt all (prepend_known [] all) (scanned_so_far start h) l)
+    (sym (ap open_line is))
+    (subst (λ (x : HeldLines). ScanStandsAt all (prepend_known [] all) (scanned_so_far start x) [])
+    (sym held) (stands_start all)))
 
 pub start_returns : (f : Feeding) → f ≡ begun → returns.Without ≡ returns_of (open_line f)
 start_returns f is = sym (ap (λ (x : Feeding). returns_of (open_line x)) is)
 
 -- At the end of input the open line is what is left.
-rest_is : (all now : Option (List ℕ)) (s : ScannedSoFar) (line : List ℕ) → ScanStandsAt all now s line → AtEnd now → IfSome all (λ bytes. scan_meaning_of bytes ≡ scan_meaning_from s (lines line))
+rest_is : (all now : Option (List ℕ)) (s : ScannedSoFar) (line : List ℕ)
+    → ScanStandsAt all now s line → AtEnd now
+    → IfSome all (λ bytes. scan_meaning_of bytes ≡ scan_meaning_from s (lines line))
 rest_is None now s line stands end = tt
 rest_is (Some bytes) None s line stands end = let e = stands.same in cc
 rest_is (Some bytes) (Some rest) s line stands end =
     let same = stands.same in
     let e : scan_meaning_of bytes ≡ scan_meaning_from s (lines (line ++ rest)) = cc in
-    e ∙ ap (λ (l : List ℕ). scan_meaning_from s (lines (line ++ l))) end ∙ ap (λ (l : List ℕ). scan_meaning_from s (lines l)) (append-nil line)
+    e ∙ ap (λ (l : List ℕ). scan_meaning_from s (lines (line ++ l))) end
+    ∙ ap (λ (l : List ℕ). scan_meaning_from s (lines l)) (append-nil line)
 
-pub ended_ok : (all now : Option (List ℕ)) (s : ScannedSoFar) (line : List ℕ) (m : Scanned) → ScanStandsAt all now s line → AtEnd now → scan_meaning_from s (lines line) ≡ Ok m → IfSome all (λ bytes. scan_meaning_of bytes ≡ Ok m)
+pub ended_ok : (all now : Option (List ℕ)) (s : ScannedSoFar) (line : List ℕ) (m : Scanned)
+    → ScanStandsAt all now s line → AtEnd now → scan_meaning_from s (lines line) ≡ Ok m
+    → IfSome all (λ bytes. scan_meaning_of bytes ≡ Ok m)
 ended_ok None now s line m stands end is = tt
 ended_ok (Some bytes) now s line m stands end is = rest_is (Some bytes) now s line stands end ∙ is
 
@@ -82,7 +96,8 @@ pub ended_err : (all now left : Option (List ℕ)) (s : ScannedSoFar) (line : Li
 ended_err all now left s line fails.Read stands end is = absurd is
 ended_err all now left s line fails.OutOfMemory stands end is = tt
 ended_err None now left s line (fails.Fault e n) stands end is = tt
-ended_err (Some bytes) now left s line (fails.Fault e n) stands end is = subst (IsRefusal e n) (sym (rest_is (Some bytes) now s line stands end)) is
+ended_err (Some bytes) now left s line (fails.Fault e n) stands end is =
+    subst (IsRefusal e n) (sym (rest_is (Some bytes) now s line stands end)) is
 
 -- The last line's text is what was open.
 pub last_returns : (f f' : Feeding) (state : LineState) (r : Returns)
@@ -94,9 +109,13 @@ last_returns f f' state r at which is before =
     before ∙ sym (ap (λ (x : Feeding). returns_of x.text) is ∙ ap returns_of e.text)
 
 -- No line is open.
-pub last_none : (s : ScannedSoFar) (line : List ℕ) (state : LineState) → state ≡ end_state line → (state ≡ states.Partial) ⊎ (state ≡ states.TooLong) → scan_meaning_from s (lines line) ≡ at_end s
-last_none s line state at (inl is) = ap (λ (l : List ℕ). scan_meaning_from s (lines l)) (end_none line (ap is_line (sym at ∙ is)))
-last_none s line state at (inr is) = ap (λ (l : List ℕ). scan_meaning_from s (lines l)) (end_none line (ap is_line (sym at ∙ is)))
+pub last_none : (s : ScannedSoFar) (line : List ℕ) (state : LineState) → state ≡ end_state line
+    → (state ≡ states.Partial) ⊎ (state ≡ states.TooLong)
+    → scan_meaning_from s (lines line) ≡ at_end s
+last_none s line state at (inl is) =
+    ap (λ (l : List ℕ). scan_meaning_from s (lines l)) (end_none line (ap is_line (sym at ∙ is)))
+last_none s line state at (inr is) =
+    ap (λ (l : List ℕ). scan_meaning_from s (lines l)) (end_none line (ap is_line (sym at ∙ is)))
 
 -- What is held of the last line, at the end of input.
 pub record IsLast (s : ScannedSoFar) (f f' : Feeding) (state : LineState) : Type 0 where
@@ -115,14 +134,16 @@ judged_last s f f' state r is takes =
     let e = end_some f (is_last (open_line f) state is.at is.which) in
     let h : f'.text ≡ open_line f = ap (λ (x : Feeding). x.text) is.finished ∙ e.text in
     ap (λ (l : List (List ℕ)). scan_meaning_from s l) (lines_last (open_line f) is.clean e.some)
-    ∙ judged_line s (open_line f) (open_line f) (λ t. scan_meaning_from t []) is.clean is.short is.within
+    ∙ judged_line s (open_line f) (open_line f) (λ t. scan_meaning_from t []) is.clean is.short
+    is.within
     ∙ ap (λ x. then_taken x s (open_line f) (λ t. at_end t))
     (ap (line_taken s.number (held_in s)) (sym h) ∙ takes)
 
 -- The last line has no fault: what is so at the end comes after it.
 pub last_ok : (s : ScannedSoFar) (f f' : Feeding) (state : LineState) (h : HeldLines)
     → IsLast s f f' state → line_taken s.number (held_in s) f'.text ≡ Ok h
-    → scan_meaning_from s (lines (open_line f)) ≡ at_end (after_lines (s.bytes + length (open_line f)) (s.number + 1) h)
+    → scan_meaning_from s (lines (open_line f))
+    ≡ at_end (after_lines (s.bytes + length (open_line f)) (s.number + 1) h)
 last_ok s f f' state h is takes = judged_last s f f' state (Ok h) is takes
 
 -- The last line has a fault.

@@ -1,5 +1,7 @@
 -- The lines of a text whose form is right, and texts without a CR.
-use Rattle.std.proofs.Common.{◌≡◌, ℕ, suc, ◌+◌, ◌-◌, ◌<◌, ◌≤◌, Bool, true, false, not, ◌==◌, ◌&&◌, nat_lt, List, [], ◌∷◌, ◌++◌, length, drop, None, refl, sym, ◌∙◌, ap, arith}
+use Rattle.std.proofs.Common.{◌≡◌, ℕ, suc, ◌+◌, ◌-◌, ◌<◌, ◌≤◌, Bool, true, false, not, ◌==◌, ◌&&◌}
+use Rattle.std.proofs.Common.{nat_lt, List, [], ◌∷◌, ◌++◌, length, drop, None, refl, sym, ◌∙◌, ap}
+use Rattle.std.proofs.Common.{arith}
 use Rattle.std.specs.Prelude.{codes, unsigned_abs}
 use Rattle.std.specs.Fmt.{decimal}
 use Rattle.std.specs.List.{All, list_all, concat, flat_map}
@@ -16,7 +18,8 @@ use Rattle.obj_lines.specs.Text.{until, lines, ends_with, without_cr, content}
 use Rattle.obj_lines.proofs.TextLaws.{until_split}
 use Rattle.obj_lines.proofs.PlainLaws.{lines_joined}
 use Rattle.obj_read.proofs.WordLaws.{is_inner, are_inner, IsWord, coordinate_word, decimal_word}
-use Rattle.obj_scan.specs.Forms.{has_lone_return, is_marked, is_wide, without_mark, line_content, form_fault}
+use Rattle.obj_scan.specs.Forms.{has_lone_return, is_marked, is_wide, without_mark, line_content}
+use Rattle.obj_scan.specs.Forms.{form_fault}
 use Rattle.obj_scan.specs.Laws.{IsFormed}
 
 -- What begins with no mark has no front that does.

@@ -1,6 +1,7 @@
 -- What `obj_read` finds in a line, with whole coordinates, is found in it here too.
 use Rattle.std.specs.Prelude.{nat_le}
-use Rattle.std.proofs.Common.{◌≡◌, ℕ, ◌+◌, ℤ, Bool, true, false, ◌==◌, ◌||◌, nat_lt, List, [], ◌∷◌, Result, Ok, Err, refl, sym, ap, arith, if◌then◌else◌}
+use Rattle.std.proofs.Common.{◌≡◌, ℕ, ◌+◌, ℤ, Bool, true, false, ◌==◌, ◌||◌, nat_lt, List, [], ◌∷◌}
+use Rattle.std.proofs.Common.{Result, Ok, Err, refl, sym, ap, arith, if◌then◌else◌}
 use Rattle.std.proofs.lemmas.Bool.{le-ltb, leb-false}
 use Rattle.std.proofs.lemmas.List.{map-append}
 use Rattle.pm_base.specs.Meshes.{Mesh}
@@ -12,10 +13,14 @@ use Rattle.obj_read.specs.declared.found.Found.TheVariants as reads
 use Rattle.obj_read.specs.Coordinates.{coordinate}
 use Rattle.obj_read.specs.Fields.{fields, is_letter}
 use Rattle.obj_read.specs.Indices.{index, index_text}
-use Rattle.obj_read.specs.Judged.{vertex_of, face_read, vertex_line as read_vertex, face_line as read_face, fields_found as read_fields, line_found as read_line}
+use Rattle.obj_read.specs.Judged.{vertex_of, face_read, vertex_line as read_vertex}
+use Rattle.obj_read.specs.Judged.{face_line as read_face, fields_found as read_fields}
+use Rattle.obj_read.specs.Judged.{line_found as read_line}
 use Rattle.obj_read.specs.Fits.{with_found as with_read}
 use Rattle.obj_scan.specs.Polygons.{triangles}
-use Rattle.obj_scan.specs.Judged.{Found, polygon_of, scanned_vertex_line, polygon_line, scanned_fields, scanned_line, with_scanned, has_weight, weights_after}
+use Rattle.obj_scan.specs.Judged.{Found, polygon_of, scanned_vertex_line, polygon_line}
+use Rattle.obj_scan.specs.Judged.{scanned_fields, scanned_line, with_scanned, has_weight}
+use Rattle.obj_scan.specs.Judged.{weights_after}
 use Rattle.obj_scan.specs.Laws.{scaled_up, scanned_mesh, with_weights}
 use Rattle.obj_scan.proofs.BareLaws.{line_weight}
 use Rattle.obj_scan.proofs.NumberLaws.{whole_in_units}
@@ -30,14 +35,18 @@ abbrev given : Bool → Result ReadFound ObjFault → Result Found ObjFault
 given weighted (Ok f) = Ok (found_of weighted f)
 given weighted (Err e) = Err e
 
-vertex_case : (n : ℕ) (a b c : List ℕ) (more : List (List ℕ)) (f : ReadFound) (x y z : Result ℤ ObjFault) (full : Bool) → coordinate 0 a ≡ x → coordinate 0 b ≡ y → coordinate 0 c ≡ z → nat_le 1048576 n ≡ full
+vertex_case : (n : ℕ) (a b c : List ℕ) (more : List (List ℕ)) (f : ReadFound)
+    (x y z : Result ℤ ObjFault) (full : Bool) → coordinate 0 a ≡ x → coordinate 0 b ≡ y
+    → coordinate 0 c ≡ z → nat_le 1048576 n ≡ full
     → vertex_of 0 n a b c ≡ Ok f → scanned_vertex_line n (a ∷ b ∷ c ∷ more) ≡ Ok
     (found_of (has_weight more) f)
 unfolding vertex_of
 vertex_case n a b c more f (Err e) y z full p q r room is = let k = rw p at is in cc
 vertex_case n a b c more f (Ok x) (Err e) z full p q r room is = let k = rw (p, q) at is in cc
-vertex_case n a b c more f (Ok x) (Ok y) (Err e) full p q r room is = let k = rw (p, q, r) at is in cc
-vertex_case n a b c more f (Ok x) (Ok y) (Ok z) true p q r room is = let k = rw (p, q, r, room) at is in cc
+vertex_case n a b c more f (Ok x) (Ok y) (Err e) full p q r room is = let k =
+    rw (p, q, r) at is in cc
+vertex_case n a b c more f (Ok x) (Ok y) (Ok z) true p q r room is = let k =
+    rw (p, q, r, room) at is in cc
 vertex_case n a b c more f (Ok x) (Ok y) (Ok z) false p q r room is =
     let k = rw (p, q, r, room) at is in
     rw (whole_in_units a x p, whole_in_units b y q, whole_in_units c z r, room)
@@ -85,7 +94,8 @@ face_found weighted n k (x ∷ y ∷ z ∷ []) f is =
     face_case weighted n k x y z f _ _ _ _ refl refl refl refl is
 face_found weighted n k (x ∷ y ∷ z ∷ w ∷ more) f is = cc
 
-keyword_case : (n k : ℕ) (keyword : List ℕ) (more : List (List ℕ)) (f : ReadFound) (v t : Bool) → is_letter 118 keyword ≡ v → is_letter 102 keyword ≡ t
+keyword_case : (n k : ℕ) (keyword : List ℕ) (more : List (List ℕ)) (f : ReadFound) (v t : Bool)
+    → is_letter 118 keyword ≡ v → is_letter 102 keyword ≡ t
     → read_fields 0 n k (keyword ∷ more) ≡ Ok f
     → scanned_fields n k (keyword ∷ more) ≡ Ok (found_of (line_weight (keyword ∷ more)) f)
 keyword_case n k keyword more f true t a b is = rw a (vertex_found n keyword more f (rw a at is))
@@ -105,12 +115,17 @@ pub record IsFound (n k : ℕ) (text : List ℕ) (f : ReadFound) : Type 0 where
   pub ended : is_continued text ≡ false
   pub gives : scanned_line n k text ≡ Ok (found_of (line_weight (fields text)) f)
 
-line_case : (n k : ℕ) (text : List ℕ) (f : ReadFound) (ends : Bool) → is_continued text ≡ ends → read_line 0 n k text ≡ Ok f → IsFound n k text f
+line_case : (n k : ℕ) (text : List ℕ) (f : ReadFound) (ends : Bool) → is_continued text ≡ ends
+    → read_line 0 n k text ≡ Ok f → IsFound n k text f
 unfolding read_line scanned_line
 line_case n k text f true ends is = let e = rw ends at is in cc
-line_case n k text f false ends is = record { ended = ends; gives = fields_are_found n k (fields text) f (rw ends at is) }
+line_case n k text f false ends is = record {
+  ended = ends;
+  gives = fields_are_found n k (fields text) f (rw ends at is);
+}
 
-pub line_is_found : (n k : ℕ) (text : List ℕ) (f : ReadFound) → read_line 0 n k text ≡ Ok f → IsFound n k text f
+pub line_is_found : (n k : ℕ) (text : List ℕ) (f : ReadFound) → read_line 0 n k text ≡ Ok f
+    → IsFound n k text f
 line_is_found n k text f is = line_case n k text f (is_continued text) refl is
 
 -- It is put into what was scanned so far as it is put into the mesh.
@@ -125,7 +140,12 @@ pub scanned_with : (weighted : Bool) (n : ℕ) (m : Mesh) (f : ReadFound)
 unfolding triangles weights_with
 scanned_with weighted n m reads.Nothing = refl
 scanned_with weighted n m (reads.Vertex p) =
-    ap (λ points. record { points = points; faces = m.faces; polygons = []; weights = weights_after n weighted }) (sym (map-append scaled_up m.points (p ∷ [])))
+    ap (λ points. record {
+      points = points;
+      faces = m.faces;
+      polygons = [];
+      weights = weights_after n weighted;
+    }) (sym (map-append scaled_up m.points (p ∷ [])))
 scanned_with weighted n m (reads.Face f) = refl
 
 -- Without a weight there are no more.

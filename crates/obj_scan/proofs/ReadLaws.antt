@@ -1,5 +1,7 @@
 -- A text that `obj_read` takes as a mesh is scanned as that mesh, by induction on its lines.
-use Rattle.std.proofs.Common.{◌≡◌, ℕ, ◌+◌, ◌-◌, ◌≤◌, Bool, true, false, List, [], ◌∷◌, length, drop, nat_lt, None, Result, Ok, Err, refl, sym, ◌∙◌, ap, arith, length-append}
+use Rattle.std.proofs.Common.{◌≡◌, ℕ, ◌+◌, ◌-◌, ◌≤◌, Bool, true, false, List, [], ◌∷◌, length, drop}
+use Rattle.std.proofs.Common.{nat_lt, None, Result, Ok, Err, refl, sym, ◌∙◌, ap, arith}
+use Rattle.std.proofs.Common.{length-append}
 use Rattle.std.proofs.lemmas.Bool.{le-ltb, ltb-false}
 use Rattle.std.proofs.lemmas.List.{length-map, length-take}
 use Rattle.pm_base.specs.Meshes.{Mesh}
@@ -8,12 +10,17 @@ use Rattle.obj_lines.proofs.TextLaws.{until_split}
 use Rattle.obj_read.specs.declared.fault.ObjFault.{ObjFault}
 use Rattle.obj_read.specs.declared.found.Found.{Found as ReadFound}
 use Rattle.obj_read.specs.Fits.{with_found as with_read}
-use Rattle.obj_read.specs.Meaning.{SoFar as ReadSoFar, Refused as ReadRefused, is_past, is_long, read_alone as read_judged, and_line as and_read, then_lines as then_read, meaning_from as read_from, meaning_of as read_meaning}
+use Rattle.obj_read.specs.Meaning.{SoFar as ReadSoFar, Refused as ReadRefused, is_past, is_long}
+use Rattle.obj_read.specs.Meaning.{read_alone as read_judged, and_line as and_read}
+use Rattle.obj_read.specs.Meaning.{then_lines as then_read, meaning_from as read_from}
+use Rattle.obj_read.specs.Meaning.{meaning_of as read_meaning}
 use Rattle.obj_read.proofs.CommentLaws.{commented_is_read}
 use Rattle.obj_scan.specs.Refusals.{Refused}
 use Rattle.obj_scan.specs.Judged.{Scanned}
-use Rattle.obj_scan.specs.Meaning.{ScannedSoFar, joined_text, judged_length, line_judged, and_scanned_line, scan_meaning_from, scan_meaning_of}
-use Rattle.obj_scan.specs.Laws.{scanned_mesh, with_weights, weights_in, IsFormed, ReadIsScanned, CommentedIsScanned}
+use Rattle.obj_scan.specs.Meaning.{ScannedSoFar, joined_text, judged_length, line_judged}
+use Rattle.obj_scan.specs.Meaning.{and_scanned_line, scan_meaning_from, scan_meaning_of}
+use Rattle.obj_scan.specs.Laws.{scanned_mesh, with_weights, weights_in, IsFormed, ReadIsScanned}
+use Rattle.obj_scan.specs.Laws.{CommentedIsScanned}
 use Rattle.obj_scan.proofs.FormLaws.{IsPlain, ArePlain, formed_plain, commented_formed}
 use Rattle.obj_scan.proofs.BareLaws.{line_has, AreBare, canonical_bare}
 use Rattle.obj_scan.proofs.FoundLaws.{line_is_found, weights_with, weights_stay, scanned_with}
@@ -21,16 +28,24 @@ use Rattle.obj_scan.proofs.FoundLaws.{line_is_found, weights_with, weights_stay,
 -- What is read of a line isn't longer than it.
 
 length_until : (stop : ℕ) (text : List ℕ) → length (until stop text) ≤ length text
-length_until stop text = omega (arith, ap length (until_split stop text), length-append (until stop text) (drop (length (until stop text)) text))
+length_until stop text =
+    omega (
+      arith,
+      ap length (until_split stop text),
+      length-append (until stop text)
+          (drop (length (until stop text)) text),
+    )
 
-cr_case : (text : List ℕ) (b : Bool) → ends_with 13 text ≡ b → length (without_cr text) ≤ length text
+cr_case : (text : List ℕ) (b : Bool) → ends_with 13 text ≡ b
+    → length (without_cr text) ≤ length text
 unfolding without_cr
 cr_case text true is = rw is (omega (arith, length-take (length text - 1) text))
 cr_case text false is = rw is (omega arith)
 
 length_content : (text : List ℕ) → length (content text) ≤ length text
 unfolding content
-length_content text = omega (arith, length_until 35 (without_cr text), cr_case text (ends_with 13 text) refl)
+length_content text =
+    omega (arith, length_until 35 (without_cr text), cr_case text (ends_with 13 text) refl)
 
 -- How far both readings have come after so many bytes, where the next line has this number and a
 -- mesh was given, and so
@@ -66,7 +81,8 @@ line_case bytes number n m line f false true plain a b is = let e = rw (a, b) at
 line_case bytes number n m line f false false plain a b is =
     let text = content (until 10 line) in
     let found = line_is_found (length m.points) (length m.faces) text f (rw (a, b) at is) in
-    let short : nat_lt 65536 (length text) ≡ false = le-ltb _ _ (omega (arith, length_content (until 10 line), ltb-false _ _ b)) in
+    let short : nat_lt 65536 (length text) ≡ false =
+    le-ltb _ _ (omega (arith, length_content (until 10 line), ltb-false _ _ b)) in
     record {
       within = rw (a, b, plain.formed, plain.read, short) refl;
       gives = rw (plain.read, found.ended, length-map m.points _, found.gives)

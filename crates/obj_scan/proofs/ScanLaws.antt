@@ -1,5 +1,7 @@
 -- Laws of what lines gave.
-use Rattle.std.proofs.Common.{◌≡◌, ℕ, zero, suc, ◌+◌, ◌-◌, ◌<◌, ◌≤◌, Bool, true, false, ◌==◌, nat_lt, List, [], ◌∷◌, ◌++◌, length, take, drop, Result, refl, sym, ◌∙◌, ap, subst, arith, length-append}
+use Rattle.std.proofs.Common.{◌≡◌, ℕ, zero, suc, ◌+◌, ◌-◌, ◌<◌, ◌≤◌, Bool, true, false, ◌==◌}
+use Rattle.std.proofs.Common.{nat_lt, List, [], ◌∷◌, ◌++◌, length, take, drop, Result, refl, sym}
+use Rattle.std.proofs.Common.{◌∙◌, ap, subst, arith, length-append}
 use Rattle.std.specs.List.{All}
 use Rattle.std.proofs.lemmas.Bool.{ltb-true}
 use Rattle.std.proofs.lemmas.List.{take-append-drop}
@@ -30,47 +32,71 @@ fan_of_length : (corners : List ℕ) → length (fan_of corners) ≡ length corn
 fan_of_length [] = refl
 fan_of_length (a ∷ rest) = omega (arith, fan_length a rest)
 
-turned_length : (n : ℕ) (corners : List ℕ) → length (drop n corners ++ take n corners) ≡ length corners
-turned_length n corners = omega (arith, length-append (drop n corners) (take n corners), length-append (take n corners) (drop n corners), ap length (take-append-drop n corners))
+turned_length : (n : ℕ) (corners : List ℕ) → length (drop n corners ++ take n corners)
+    ≡ length corners
+turned_length n corners =
+    omega (
+      arith,
+      length-append (drop n corners) (take n corners),
+      length-append (take n corners)
+          (drop n corners),
+      ap length (take-append-drop n corners),
+    )
 
-triangles_case : (points : List Place) (corners : List ℕ) (b : Bool) → (length corners == 3) ≡ b → length (triangles points corners) ≡ length corners - 2
+triangles_case : (points : List Place) (corners : List ℕ) (b : Bool) → (length corners == 3) ≡ b
+    → length (triangles points corners) ≡ length corners - 2
 unfolding triangles begun_least
 triangles_case points corners true is = rw is (fan_of_length corners)
 triangles_case points corners false is =
     let n = before_least points corners corners in
-    rw is (fan_of_length (drop n corners ++ take n corners) ∙ ap (λ k. k - 2) (turned_length n corners))
+    rw is (fan_of_length (drop n corners ++ take n corners)
+    ∙ ap (λ k. k - 2) (turned_length n corners))
 
-triangles_length : (points : List Place) (corners : List ℕ) → length (triangles points corners) ≡ length corners - 2
+triangles_length : (points : List Place) (corners : List ℕ) → length (triangles points corners)
+    ≡ length corners - 2
 triangles_length points corners = triangles_case points corners (length corners == 3) refl
 
 -- Their corners are those of the polygon.
 
-fan_corners : (n a : ℕ) (rest : List ℕ) → a < n → All (λ (c : ℕ). c < n) rest → All (AreVerticesBelow n) (fan a rest)
+fan_corners : (n a : ℕ) (rest : List ℕ) → a < n → All (λ (c : ℕ). c < n) rest
+    → All (AreVerticesBelow n) (fan a rest)
 fan_corners n a [] lt all = All-nil (AreVerticesBelow n)
 fan_corners n a (b ∷ []) lt all = All-nil (AreVerticesBelow n)
-fan_corners n a (b ∷ c ∷ rest) lt all = first_and (record { a = a; b = b; c = c }) (fan a (c ∷ rest))
-    (record { a = lt; b = all 0 0 (omega arith); c = all 1 0 (omega arith) }) (fan_corners n a (c ∷ rest) lt (λ i d l. all (suc i) d (omega (arith, l))))
+fan_corners n a (b ∷ c ∷ rest) lt all = first_and (record { a = a; b = b; c = c })
+    (fan a (c ∷ rest))
+    (record { a = lt; b = all 0 0 (omega arith); c = all 1 0 (omega arith) })
+    (fan_corners n a (c ∷ rest) lt (λ i d l. all (suc i) d (omega (arith, l))))
   where
-    first_and : (f : Corners) (fs : List Corners) → AreVerticesBelow n f → All (AreVerticesBelow n) fs → All (AreVerticesBelow n) (f ∷ fs)
+    first_and : (f : Corners) (fs : List Corners) → AreVerticesBelow n f
+        → All (AreVerticesBelow n) fs → All (AreVerticesBelow n) (f ∷ fs)
     first_and f fs here later zero d l = here
     first_and f fs here later (suc i) d l = later i d (omega (arith, l))
 
-fan_of_corners : (n : ℕ) (corners : List ℕ) → All (λ (c : ℕ). c < n) corners → All (AreVerticesBelow n) (fan_of corners)
+fan_of_corners : (n : ℕ) (corners : List ℕ) → All (λ (c : ℕ). c < n) corners
+    → All (AreVerticesBelow n) (fan_of corners)
 fan_of_corners n [] all = All-nil (AreVerticesBelow n)
-fan_of_corners n (a ∷ rest) all = fan_corners n a rest (all 0 0 (omega arith)) (λ i d l. all (suc i) d (omega (arith, l)))
+fan_of_corners n (a ∷ rest) all =
+    fan_corners n a rest (all 0 0 (omega arith)) (λ i d l. all (suc i) d (omega (arith, l)))
 
-corners_case : (points : List Place) (n : ℕ) (corners : List ℕ) (b : Bool) → (length corners == 3) ≡ b → All (λ (c : ℕ). c < n) corners → All (AreVerticesBelow n) (triangles points corners)
+corners_case : (points : List Place) (n : ℕ) (corners : List ℕ) (b : Bool)
+    → (length corners == 3) ≡ b → All (λ (c : ℕ). c < n) corners
+    → All (AreVerticesBelow n) (triangles points corners)
 unfolding triangles begun_least
 corners_case points n corners true is all = rw is (fan_of_corners n corners all)
 corners_case points n corners false is all =
     let k = before_least points corners corners in
     let P : ℕ → Type 0 = λ c. c < n in
-    rw is (fan_of_corners n (drop k corners ++ take k corners) (All-append P (drop k corners) (take k corners) (All-drop P k corners all) (All-take P k corners all)))
+    rw is (fan_of_corners n (drop k corners ++ take k corners)
+    (All-append P (drop k corners) (take k corners) (All-drop P k corners all)
+    (All-take P k corners all)))
 
 -- What the lines gave stays within the limits.
 
-wider : (n k : ℕ) (fs : List Corners) → n ≤ k → All (AreVerticesBelow n) fs → All (AreVerticesBelow k) fs
-wider n k fs le all = λ i d l. let f = all i d l in record { a = omega (arith, f.a, le); b = omega (arith, f.b, le); c = omega (arith, f.c, le) }
+wider : (n k : ℕ) (fs : List Corners) → n ≤ k → All (AreVerticesBelow n) fs
+    → All (AreVerticesBelow k) fs
+wider n k fs le all = λ i d l. let f =
+    all i d l in
+    record { a = omega (arith, f.a, le); b = omega (arith, f.b, le); c = omega (arith, f.c, le) }
 
 weights_case : (n k : ℕ) (weighted : Bool) → n ≤ k → weights_after n weighted ≤ k + 1
 weights_case n k true le = omega (arith, le)
@@ -82,7 +108,8 @@ vertex_scanning s t p weighted scanning room is = rw is (record {
   within = record {
     points = omega (arith, room, length-append s.points (p ∷ []));
     faces = scanning.within.faces;
-    corners = wider (length s.points) (length (s.points ++ p ∷ [])) s.faces (omega (arith, length-append s.points (p ∷ []))) scanning.within.corners;
+    corners = wider (length s.points) (length (s.points ++ p ∷ [])) s.faces
+        (omega (arith, length-append s.points (p ∷ []))) scanning.within.corners;
     polygons = scanning.within.polygons;
     polygons_few = scanning.within.polygons_few;
   };
@@ -113,16 +140,24 @@ polygons_within ps faces corners true some all =
     (All-cons (IsPolygonWithin n) p [] (omega arith) (All-nil (IsPolygonWithin n))))
 polygons_within ps faces corners false few all = rw few (λ i d l. omega (arith, all i d l))
 
-pub polygon_scanning : (s t : Scanned) (corners : List ℕ) → IsScanning s → All (λ (c : ℕ). c < length s.points) corners → length s.faces + (length corners - 2) ≤ 1048576
+pub polygon_scanning : (s t : Scanned) (corners : List ℕ) → IsScanning s
+    → All (λ (c : ℕ). c < length s.points) corners → length s.faces + (length corners - 2) ≤ 1048576
     → t ≡ with_scanned s (Found.polygon corners) → IsScanning t
 polygon_scanning s t corners scanning within room is =
     let all = s.faces ++ triangles s.points corners in
-    let n : length all ≡ length s.faces + (length corners - 2) = omega (arith, length-append s.faces (triangles s.points corners), triangles_length s.points corners) in
+    let n : length all ≡ length s.faces + (length corners - 2) =
+    omega (
+      arith,
+      length-append s.faces (triangles s.points corners),
+      triangles_length s.points
+          corners,
+    ) in
     rw is (record {
       within = record {
         points = scanning.within.points;
         faces = omega (arith, n, room);
-        corners = All-append (AreVerticesBelow (length s.points)) s.faces (triangles s.points corners) scanning.within.corners
+        corners = All-append (AreVerticesBelow (length s.points)) s.faces
+            (triangles s.points corners) scanning.within.corners
             (corners_case s.points (length s.points) corners (length corners == 3) refl within);
         polygons = subst (λ k. All (IsPolygonWithin k)
             (polygons_after s.polygons (length s.faces) corners)) (sym n)
@@ -139,20 +174,24 @@ polygon_scanning s t corners scanning within room is =
     })
 
 -- A fault of what a text gives is the line's.
-pub given_fault : (s : Scanned) (r : Result Found ObjFault) (fail : ObjFail) (line : ℕ) → IsLineFault fail line r → IsLineFault fail line (given s r)
+pub given_fault : (s : Scanned) (r : Result Found ObjFault) (fail : ObjFail) (line : ℕ)
+    → IsLineFault fail line r → IsLineFault fail line (given s r)
 given_fault s r fails.Read line fault = fault
 given_fault s r fails.OutOfMemory line fault = tt
 given_fault s r (fails.Fault e l) line (at, is) = (at, ap (given s) is)
 
-pub ended_fault : (r : Result Scanned ObjFault) (fail : ObjFail) (line : ℕ) → IsLineFault fail line r → IsLineFault fail line (ended r)
+pub ended_fault : (r : Result Scanned ObjFault) (fail : ObjFail) (line : ℕ)
+    → IsLineFault fail line r → IsLineFault fail line (ended r)
 ended_fault r fails.Read line fault = fault
 ended_fault r fails.OutOfMemory line fault = tt
 ended_fault r (fails.Fault e l) line (at, is) = (at, ap ended is)
 
 -- A text without its backslash, after another.
-last_case : (begun text : List ℕ) → 0 < length text → take (length (begun ++ text) - 1) (begun ++ text) ≡ begun ++ take (length text - 1) text
+last_case : (begun text : List ℕ) → 0 < length text
+    → take (length (begun ++ text) - 1) (begun ++ text) ≡ begun ++ take (length text - 1) text
 last_case begun text some =
-    let n : length (begun ++ text) - 1 ≡ length begun + (length text - 1) = omega (arith, length-append begun text, some) in
+    let n : length (begun ++ text) - 1 ≡ length begun + (length text - 1) =
+    omega (arith, length-append begun text, some) in
     ap (λ k. take k (begun ++ text)) n ∙ take-append-add begun text (length text - 1)
 
 some_continued : (text : List ℕ) → is_continued text ≡ true → 0 < length text
@@ -160,7 +199,9 @@ unfolding is_continued
 some_continued [] is = let e : false ≡ true = is in cc
 some_continued (b ∷ text) is = omega arith
 
-pub without_last : (begun text after : List ℕ) (n : ℕ) → is_continued text ≡ true → n ≡ length text - 1 → after ≡ begun ++ take n text
+pub without_last : (begun text after : List ℕ) (n : ℕ) → is_continued text ≡ true
+    → n ≡ length text - 1 → after ≡ begun ++ take n text
     → after ++ 32 ∷ [] ≡ take (length (begun ++ text) - 1) (begun ++ text) ++ 32 ∷ []
 without_last begun text after n is at after_is =
-    ap (λ l. l ++ 32 ∷ []) (after_is ∙ ap (λ k. begun ++ take k text) at ∙ sym (last_case begun text (some_continued text is)))
+    ap (λ l. l ++ 32 ∷ []) (after_is ∙ ap (λ k. begun ++ take k text) at
+    ∙ sym (last_case begun text (some_continued text is)))

@@ -11,16 +11,25 @@ use Rattle.obj_scan.specs.Meaning.{scan_meaning_of}
 -- What is held in memory, without the room of its lists.
 abbrev pub scanned_of : Scan → Scanned
 scanned_of s =
-    record { points = s.points.items; faces = s.faces.items; polygons = s.polygons.items; weights = s.weights }
+    record {
+      points = s.points.items;
+      faces = s.faces.items;
+      polygons = s.polygons.items;
+      weights =
+          s.weights;
+    }
 
--- The bytes that were taken don't reach the place of the first fault, where the source tells its bytes.
+-- The bytes that were taken don't reach the place of the first fault, where the source tells its
+-- bytes.
 pub record ScanFailsBefore (whole left : Option (List ℕ)) : Type 0 where
   pub taken : List ℕ
   pub took : Loses whole left taken
   pub before : IfSome whole (λ bytes. FaultNotReached (length taken) (scan_meaning_of bytes))
 
--- What a failure says of the bytes that the source had, and of those that are left. Want of memory says nothing.
+-- What a failure says of the bytes that the source had, and of those that are left. Want of memory
+-- says nothing.
 abbrev pub ExplainsScan : ScanFail → Option (List ℕ) → Option (List ℕ) → Type 0
-ExplainsScan (fails.Fault fault line) whole left = IfSome whole (λ bytes. IsRefusal fault line (scan_meaning_of bytes))
+ExplainsScan (fails.Fault fault line) whole left =
+    IfSome whole (λ bytes. IsRefusal fault line (scan_meaning_of bytes))
 ExplainsScan fails.Read whole left = ScanFailsBefore whole left
 ExplainsScan fails.OutOfMemory whole left = Unit {0}

@@ -1,7 +1,8 @@
 -- The form of a text: how its lines end, and how it begins. Byte 13 is CR; 239, 187 and 191 are EF
 -- BB BF; 254 and 255
 -- are FE and FF.
-use Rattle.std.specs.Prelude.{ℕ, List, [], ◌∷◌, Bool, true, false, ◌==◌, ◌&&◌, ◌||◌, nat_lt, length, drop, slice_index_or, Option, Some, None, if◌then◌else◌}
+use Rattle.std.specs.Prelude.{ℕ, List, [], ◌∷◌, Bool, true, false, ◌==◌, ◌&&◌, ◌||◌, nat_lt, length}
+use Rattle.std.specs.Prelude.{drop, slice_index_or, Option, Some, None, if◌then◌else◌}
 use Rattle.obj_lines.specs.Text.{content}
 use Rattle.obj_scan.specs.declared.fault.ScanFault.{ScanFault}
 use Rattle.obj_scan.specs.declared.fault.ScanFault.TheVariants as faults

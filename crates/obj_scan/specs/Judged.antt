@@ -1,6 +1,7 @@
 -- A line judged alone: what it gives, or its first fault. Byte 118 is `v`, and 102 is `f`. A unit
 -- is 10^-18.
-use Rattle.std.specs.Prelude.{ℕ, ◌+◌, ◌-◌, ◌^◌, ℤ, pos, Bool, true, false, not, List, [], ◌∷◌, ◌++◌, nat_le, nat_lt, length, Result, Ok, Err, if◌then◌else◌}
+use Rattle.std.specs.Prelude.{ℕ, ◌+◌, ◌-◌, ◌^◌, ℤ, pos, Bool, true, false, not, List, [], ◌∷◌, ◌++◌}
+use Rattle.std.specs.Prelude.{nat_le, nat_lt, length, Result, Ok, Err, if◌then◌else◌}
 use Rattle.std.specs.Ordering.{int_eq}
 use Rattle.pm_base.specs.declared.limits.TheConstants.{MOST_FACES, MOST_VERTICES}
 use Rattle.pm_base.specs.declared.mesh.Corners.{Corners}
@@ -14,8 +15,8 @@ use Rattle.obj_prepare.specs.Numbers.{decimal_coordinate}
 use Rattle.pm_ears.specs.declared.recut.Polygon.{Polygon}
 use Rattle.obj_scan.specs.Polygons.{triangles}
 
--- What the lines so far gave: points in units of 10^-18, triangles, where those of each face of more
--- than three corners begin and how many they are, and how many vertices have a weight.
+-- What the lines so far gave: points in units of 10^-18, triangles, where those of each face of
+-- more than three corners begin and how many they are, and how many vertices have a weight.
 pub record Scanned : Type 0 where
   pub points : List Place
   pub faces : List Corners
@@ -43,7 +44,8 @@ has_weight _ = false
 
 -- The fields after `v`. Those after the third make no fault.
 abbrev pub scanned_vertex_line : ℕ → List (List ℕ) → Result Found ObjFault
-scanned_vertex_line vertices (a ∷ b ∷ c ∷ more) = decimal_coordinate a >>= λ x. decimal_coordinate b >>= λ y. decimal_coordinate c >>= λ z.
+scanned_vertex_line vertices (a ∷ b ∷ c ∷ more) =
+    decimal_coordinate a >>= λ x. decimal_coordinate b >>= λ y. decimal_coordinate c >>= λ z.
     if nat_le MOST_VERTICES vertices then Err faults.TooMany
     else Ok (vertex (record { x = x; y = y; z = z }) (has_weight more))
 scanned_vertex_line vertices _ = Err faults.TooFewFields
@@ -51,18 +53,23 @@ scanned_vertex_line vertices _ = Err faults.TooFewFields
 -- The vertices that these fields name, or the first fault.
 abbrev pub indices : ℕ → List (List ℕ) → Result (List ℕ) ObjFault
 indices vertices [] = Ok []
-indices vertices (field ∷ more) = index vertices (index_text field) >>= λ v. indices vertices more >>= λ vs. Ok (v ∷ vs)
+indices vertices (field ∷ more) =
+    index vertices (index_text field) >>= λ v. indices vertices more >>= λ vs. Ok (v ∷ vs)
 
 -- The polygon of n corners is cut into n - 2 triangles, for which there has to be room.
 abbrev pub polygon_of : ℕ → List ℕ → Result Found ObjFault
-polygon_of faces corners = if nat_lt MOST_FACES (faces + (length corners - 2)) then Err faults.TooMany else Ok (polygon corners)
+polygon_of faces corners =
+    if nat_lt MOST_FACES (faces + (length corners - 2)) then Err faults.TooMany
+    else Ok (polygon corners)
 
 -- The fields after `f`.
 abbrev pub polygon_line : ℕ → ℕ → List (List ℕ) → Result Found ObjFault
-polygon_line vertices faces (a ∷ b ∷ c ∷ more) = indices vertices (a ∷ b ∷ c ∷ more) >>= polygon_of faces
+polygon_line vertices faces (a ∷ b ∷ c ∷ more) =
+    indices vertices (a ∷ b ∷ c ∷ more) >>= polygon_of faces
 polygon_line vertices faces _ = Err faults.TooFewFields
 
--- The fields of a line. One that begins with neither `v` nor `f` is skipped, as is one without fields.
+-- The fields of a line. One that begins with neither `v` nor `f` is skipped, as is one without
+-- fields.
 abbrev pub scanned_fields : ℕ → ℕ → List (List ℕ) → Result Found ObjFault
 scanned_fields vertices faces [] = Ok nothing
 scanned_fields vertices faces (keyword ∷ more) =

@@ -1,5 +1,7 @@
--- The laws of texts that `obj_read`, which reads the OBJ profile, takes too. A unit is 10^-18, and byte 35 is `#`.
-use Rattle.std.specs.Prelude.{ℕ, ◌≡◌, ◌<◌, ◌^◌, ◌*ℤ◌, ℤ, pos, true, false, not, List, [], ◌∷◌, ◌++◌, length, map, Result, Ok, Err}
+-- The laws of texts that `obj_read`, which reads the OBJ profile, takes too. A unit is 10^-18, and
+-- byte 35 is `#`.
+use Rattle.std.specs.Prelude.{ℕ, ◌≡◌, ◌<◌, ◌^◌, ◌*ℤ◌, ℤ, pos, true, false, not, List, [], ◌∷◌, ◌++◌}
+use Rattle.std.specs.Prelude.{length, map, Result, Ok, Err}
 use Rattle.std.specs.List.{All, list_all}
 use Rattle.obj_lines.specs.declared.limits.TheConstants.{MOST_LINE_BYTES}
 use Rattle.pm_base.specs.Place.{Place, IsPlace}

@@ -1,6 +1,7 @@
--- What any text in the syntax of Wavefront OBJ spells: points and triangles, or its first line with a fault. A line that
--- ends in a backslash is continued by the next one.
-use Rattle.std.specs.Prelude.{ℕ, ◌+◌, ◌-◌, ◌≤◌, List, [], ◌∷◌, ◌++◌, nat_lt, ◌==◌, length, take, None, Some, Option, Result, Ok, Err, if◌then◌else◌}
+-- What any text in the syntax of Wavefront OBJ spells: points and triangles, or its first line with
+-- a fault. A line that ends in a backslash is continued by the next one.
+use Rattle.std.specs.Prelude.{ℕ, ◌+◌, ◌-◌, ◌≤◌, List, [], ◌∷◌, ◌++◌, nat_lt, ◌==◌, length, take}
+use Rattle.std.specs.Prelude.{None, Some, Option, Result, Ok, Err, if◌then◌else◌}
 use Rattle.std.specs.List.{All}
 use Rattle.pm_base.specs.declared.limits.TheConstants.{MOST_FACES, MOST_VERTICES}
 use Rattle.pm_ears.specs.Recutting.{IsPolygonWithin}
@@ -16,8 +17,8 @@ use Rattle.obj_scan.specs.Forms.{line_content, form_fault}
 use Rattle.obj_scan.specs.Refusals.{Refused}
 use Rattle.obj_scan.specs.Judged.{Scanned, Found, scanned_line, with_scanned}
 
--- What the lines before gave: how many bytes they have, the number of the next line, how many of them it continues and
--- what these say, and the points and triangles so far.
+-- What the lines before gave: how many bytes they have, the number of the next line, how many of
+-- them it continues and what these say, and the points and triangles so far.
 pub record ScannedSoFar : Type 0 where
   pub bytes : ℕ
   pub number : ℕ
@@ -45,7 +46,13 @@ and_continued s line = record {
 
 -- After one line more that gives this.
 unfoldable pub and_scanned_line : ScannedSoFar → List ℕ → Found → ScannedSoFar
-and_scanned_line s line f = record { bytes = s.bytes + length line; number = s.number + 1; continued = 0; begun = []; scanned = with_scanned s.scanned f }
+and_scanned_line s line f = record {
+  bytes = s.bytes + length line;
+  number = s.number + 1;
+  continued = 0;
+  begun = [];
+  scanned = with_scanned s.scanned f;
+}
 
 -- The first of two reasons to refuse a line: what is wrong with its form, and the other.
 abbrev pub or_refused : Option ScanFault → ScannedSoFar → List ℕ → Option Refused → Option Refused
@@ -86,10 +93,13 @@ then_found (Err e) s line = Err e
 unfoldable pub line_judged : ScannedSoFar → List ℕ → Result ScannedSoFar ObjFault
 line_judged s line =
     if is_continued (line_content s.number (until 10 line)) then Ok (and_continued s line)
-    else then_found (scanned_line (length s.scanned.points) (length s.scanned.faces) (joined_text s line)) s line
+    else then_found
+    (scanned_line (length s.scanned.points) (length s.scanned.faces) (joined_text s line)) s
+    line
 
 -- The first line with a fault ends the reading.
-abbrev pub then_scanned_lines : Option Refused → Result ScannedSoFar ObjFault → ScannedSoFar → List ℕ → (ScannedSoFar → Result Scanned Refused) → Result Scanned Refused
+abbrev pub then_scanned_lines : Option Refused → Result ScannedSoFar ObjFault → ScannedSoFar
+    → List ℕ → (ScannedSoFar → Result Scanned Refused) → Result Scanned Refused
 then_scanned_lines (Some r) next s line more = Err r
 then_scanned_lines None (Ok t) s line more = more t
 then_scanned_lines None (Err e) s line more = Err
@@ -102,12 +112,20 @@ at_end s = if s.continued == 0 then Ok s.scanned else Err
 
 abbrev pub scan_meaning_from : ScannedSoFar → List (List ℕ) → Result Scanned Refused
 scan_meaning_from s [] = at_end s
-scan_meaning_from s (line ∷ more) = then_scanned_lines (judged_length s line) (line_judged s line) s line (λ t. scan_meaning_from t more)
+scan_meaning_from s (line ∷ more) =
+    then_scanned_lines (judged_length s line) (line_judged s line) s line
+    (λ t. scan_meaning_from t more)
 
 -- Before the first line.
 abbrev pub nothing_scanned : ScannedSoFar
 nothing_scanned =
-    record { bytes = 0; number = 1; continued = 0; begun = []; scanned = record { points = []; faces = []; polygons = []; weights = 0 } }
+    record {
+      bytes = 0;
+      number = 1;
+      continued = 0;
+      begun = [];
+      scanned = record { points = []; faces = []; polygons = []; weights = 0 };
+    }
 
 -- The points and triangles of the bytes, or their first line with a fault.
 unfoldable pub scan_meaning_of : List ℕ → Result Scanned Refused

@@ -1,5 +1,6 @@
 -- How far the reading of a source has come.
-use Rattle.std.specs.Prelude.{ℕ, ◌+◌, ◌-◌, ◌≡◌, ◌<◌, ◌≤◌, List, [], ◌∷◌, ◌++◌, true, nat_lt, length, take, Option, Some, None, Result, Ok, Err, if◌then◌else◌}
+use Rattle.std.specs.Prelude.{ℕ, ◌+◌, ◌-◌, ◌≡◌, ◌<◌, ◌≤◌, List, [], ◌∷◌, ◌++◌, true, nat_lt, length}
+use Rattle.std.specs.Prelude.{take, Option, Some, None, Result, Ok, Err, if◌then◌else◌}
 use Rattle.std.specs.Io.KnownBytes.{prepend_known}
 use Rattle.std.specs.Option.{option_map}
 use Rattle.obj_lines.specs.declared.limits.TheConstants.{MOST_LINE_BYTES, MOST_TEXT_BYTES}
@@ -18,7 +19,8 @@ use Rattle.obj_scan.specs.Judged.{Scanned, Found, scanned_line, with_scanned}
 use Rattle.obj_scan.specs.Meaning.{ScannedSoFar, scan_meaning_from, scan_meaning_of, IsWithinLimits}
 use Rattle.obj_scan.specs.Fails.{scanned_of}
 
--- What is held between two lines: how many lines the next one continues, what these say, and what all lines gave.
+-- What is held between two lines: how many lines the next one continues, what these say, and what
+-- all lines gave.
 pub record HeldLines : Type 0 where
   pub continued : ℕ
   pub begun : List ℕ
@@ -30,7 +32,11 @@ held_of s = record { continued = s.continued; begun = s.begun.items; scanned = s
 -- Before the first line.
 abbrev pub nothing_held : HeldLines
 nothing_held =
-    record { continued = 0; begun = []; scanned = record { points = []; faces = []; polygons = []; weights = 0 } }
+    record {
+      continued = 0;
+      begun = [];
+      scanned = record { points = []; faces = []; polygons = []; weights = 0 };
+    }
 
 -- With what a line gives, or its fault.
 abbrev pub given : Scanned → Result Found ObjFault → Result Scanned ObjFault
@@ -50,7 +56,13 @@ ended (Err e) = Err e
 unfoldable pub taken : HeldLines → List ℕ → Result HeldLines ObjFault
 taken h text =
     if nat_lt MOST_LINE_BYTES (length (h.begun ++ text)) then Err faults.LineTooLong
-    else if is_continued text then Ok (record { continued = h.continued + 1; begun = take (length (h.begun ++ text) - 1) (h.begun ++ text) ++ 32 ∷ []; scanned = h.scanned })
+    else if is_continued text then
+    Ok (record {
+      continued = h.continued + 1;
+      begun =
+          take (length (h.begun ++ text) - 1) (h.begun ++ text) ++ 32 ∷ [];
+      scanned = h.scanned;
+    })
     else ended (scanned_after h.scanned (h.begun ++ text))
 
 -- A fault of what is read is the first line's of those that go together.
@@ -72,23 +84,34 @@ line_taken number h text = if_formed (form_fault number text) number
 
 -- So many bytes, and this is the number of the next line.
 abbrev pub after_lines : ℕ → ℕ → HeldLines → ScannedSoFar
-after_lines bytes number h = record { bytes = bytes; number = number; continued = h.continued; begun = h.begun; scanned = h.scanned }
+after_lines bytes number h = record {
+  bytes = bytes;
+  number = number;
+  continued = h.continued;
+  begun = h.begun;
+  scanned = h.scanned;
+}
 
 -- What the lines before the open one gave.
 abbrev pub scanned_so_far : Progress → HeldLines → ScannedSoFar
 scanned_so_far p h = after_lines p.start p.number h
 
--- The lines before gave s, a line is open, and what is still to come is known where the source tells it. The meaning of
--- the whole is the meaning of that.
-pub record ScanStandsAt (whole now : Option (List ℕ)) (s : ScannedSoFar) (line : List ℕ) : Type 0 where
-  pub same : option_map scan_meaning_of whole ≡ option_map (λ rest. scan_meaning_from s (lines (line ++ rest))) now
-  pub taken : List ℕ
-  pub took : Loses whole now taken
-  pub count : length taken ≡ s.bytes + length line
+-- The lines before gave s, a line is open, and what is still to come is known where the source
+-- tells it. The meaning of the whole is the meaning of that.
+pub record ScanStandsAt (whole now : Option (List ℕ)) (s : ScannedSoFar) (line : List ℕ) : Type 0
+  where
+    pub same : option_map scan_meaning_of whole
+        ≡ option_map (λ rest. scan_meaning_from s (lines (line ++ rest))) now
+    pub taken : List ℕ
+    pub took : Loses whole now taken
+    pub count : length taken ≡ s.bytes + length line
 
--- A source that had all these bytes is being read: the window holds bytes that were taken and aren't read yet.
-abbrev pub IsScanningText : Option (List ℕ) → List ℕ → Option (List ℕ) → Progress → HeldLines → Feeding → Type 0
-IsScanningText whole window left p h f = ScanStandsAt whole (prepend_known window left) (scanned_so_far p h) (open_line f)
+-- A source that had all these bytes is being read: the window holds bytes that were taken and
+-- aren't read yet.
+abbrev pub IsScanningText : Option (List ℕ) → List ℕ → Option (List ℕ) → Progress → HeldLines
+    → Feeding → Type 0
+IsScanningText whole window left p h f =
+    ScanStandsAt whole (prepend_known window left) (scanned_so_far p h) (open_line f)
 
 -- What the lines gave is within the limits. Each weight has a vertex.
 pub record IsScanning (s : Scanned) : Type 0 where

@@ -1,5 +1,6 @@
 //! The fields of a line after its keyword.
-ghost use Rattle.std.specs.Prelude.{ℕ, List, ◌∷◌, ◌≡◌, ◌+◌, ◌-◌, ◌*◌, ◌^◌, ◌<◌, ◌≤◌, nat_le, length, unsigned_abs, Ok, Err, OnOk, IfOk, IfErr, IfSome};
+ghost use Rattle.std.specs.Prelude.{ℕ, List, ◌∷◌, ◌≡◌, ◌+◌, ◌-◌, ◌*◌, ◌^◌, ◌<◌, ◌≤◌, nat_le};
+ghost use Rattle.std.specs.Prelude.{length, unsigned_abs, Ok, Err, OnOk, IfOk, IfErr, IfSome};
 ghost use Rattle.std.specs.List.{All};
 ghost use Rattle.obj_read.specs.declared.fault.ObjFault.TheVariants as faults;
 ghost use Rattle.obj_read.specs.declared.fault.ObjFail.TheVariants as fails;
@@ -8,7 +9,8 @@ ghost use Rattle.obj_read.specs.Fails.{IsLineFault};
 ghost use Rattle.obj_read.specs.Fields.{fields};
 ghost use Rattle.obj_prepare.specs.Numbers.{decimal_coordinate as decimal_coordinate_of};
 ghost use Rattle.obj_scan.specs.Digits.{IsOfDigits};
-ghost use Rattle.obj_scan.specs.Judged.{Found, scanned_vertex_line, indices, polygon_line, is_weight, has_weight};
+ghost use Rattle.obj_scan.specs.Judged.{Found, scanned_vertex_line, indices, polygon_line};
+ghost use Rattle.obj_scan.specs.Judged.{is_weight, has_weight};
 
 use obj_prepare::{ExactPoint, decimal_coordinate};
 use obj_read::{ObjFail, ObjFault, index, is_negative, next_field, without_sign};
@@ -86,8 +88,11 @@ fn number(field: &[u8]) -> Result<i128, ObjFault>
 // The vertex with these coordinates, and what stands after them. Each of the three is in range, so
 // there is a point.
 fn vertex_of(x: &[u8], y: &[u8], z: &[u8], rest: &[u8], vertices: u32) -> Result<Vertex, ObjFault>
-    ensures ok { IfOk result (λ v. scanned_vertex_line vertices (x.now ∷ y.now ∷ z.now ∷ fields rest.now) ≡ Ok (Found.vertex v.point v.weighted)) }
-    ensures fault { IfErr result (λ e. scanned_vertex_line vertices (x.now ∷ y.now ∷ z.now ∷ fields rest.now) ≡ Err e) }
+    ensures ok { IfOk result
+        (λ v. scanned_vertex_line vertices (x.now ∷ y.now ∷ z.now ∷ fields rest.now)
+        ≡ Ok (Found.vertex v.point v.weighted)) }
+    ensures fault { IfErr result
+        (λ e. scanned_vertex_line vertices (x.now ∷ y.now ∷ z.now ∷ fields rest.now) ≡ Err e) }
     ensures room { OnOk result (vertices < MOST_VERTICES) }
 {
     let x = number(x)?;
@@ -107,7 +112,8 @@ fn vertex_of(x: &[u8], y: &[u8], z: &[u8], rest: &[u8], vertices: u32) -> Result
 
 /// What a vertex spells after so many: three coordinates, and fields that make no fault.
 pub fn vertex_line(vertices: u32, text: &[u8]) -> Result<Vertex, ObjFault>
-    ensures ok { IfOk result (λ v. scanned_vertex_line vertices (fields text.now) ≡ Ok (Found.vertex v.point v.weighted)) }
+    ensures ok { IfOk result (λ v. scanned_vertex_line vertices (fields text.now)
+        ≡ Ok (Found.vertex v.point v.weighted)) }
     ensures fault { IfErr result (λ e. scanned_vertex_line vertices (fields text.now) ≡ Err e) }
     ensures room { OnOk result (vertices < MOST_VERTICES) }
 {
@@ -172,7 +178,8 @@ fn too_few(line: u32) -> ObjFail
     }
 }
 
-/// The corners that a face names after so many vertices and triangles, where there is room for its triangles.
+/// The corners that a face names after so many vertices and triangles, where there is room for its
+/// triangles.
 #[tactic(auto, using(crate::proofs::IndexLaws::face_of_three, crate::proofs::IndexLaws::face_of_few))]
 pub fn face_line(
     vertices: u32,
@@ -181,10 +188,12 @@ pub fn face_line(
     line: u32,
     corners: &mut Vec<u32>,
 ) -> Result<(), ObjFail>
-    ensures ok { OnOk result (polygon_line vertices faces (fields text.now) ≡ Ok (Found.polygon corners.new.items)) }
+    ensures ok { OnOk result (polygon_line vertices faces (fields text.now)
+        ≡ Ok (Found.polygon corners.new.items)) }
     ensures within { OnOk result (All (λ (c : ℕ). c < vertices) corners.new.items) }
     ensures room { OnOk result (faces + (length corners.new.items - 2) ≤ MOST_FACES) }
-    ensures fault { IfErr result (λ e. IsLineFault e line (polygon_line vertices faces (fields text.now))) }
+    ensures fault { IfErr result
+        (λ e. IsLineFault e line (polygon_line vertices faces (fields text.now))) }
 {
     if let Err(fail) = read_corners(vertices, text, line, corners) {
         return Err(if has_three(text) { fail } else { too_few(line) });

@@ -1,7 +1,9 @@
 //! The form of a text: how its lines end, and how it begins.
 ghost use Rattle.std.specs.Prelude.{◌≡◌, ◌<◌, ℕ, List, true, length};
 ghost use Rattle.obj_lines.specs.Text.{content as content_of};
-ghost use Rattle.obj_scan.specs.Forms.{is_marked, without_mark, is_wide, next_return, returns_after, returns_of, is_inside, form_fault, line_content};
+ghost use Rattle.obj_scan.specs.Forms.{is_marked, without_mark, is_wide, next_return};
+ghost use Rattle.obj_scan.specs.Forms.{returns_after, returns_of, is_inside, form_fault};
+ghost use Rattle.obj_scan.specs.Forms.{line_content};
 
 use crate::fault::ScanFault;
 use obj_lines::until;
@@ -85,7 +87,8 @@ fn is_wide(text: &[u8]) -> bool
 /// stand in it.
 #[tactic(auto, unfolding(crate::specs::Forms::form_fault), using(crate::proofs::ReturnLaws::inside_is_lone))]
 pub fn form_fault(content: &[u8], returns: Returns, number: u32) -> Option<ScanFault>
-    ensures { (text : List ℕ) → content.now ≡ content_of text → returns ≡ returns_of text → result ≡ form_fault number text }
+    ensures { (text : List ℕ) → content.now ≡ content_of text → returns ≡ returns_of text
+        → result ≡ form_fault number text }
 {
     if number == 1 && is_wide(content) {
         Some(ScanFault::SixteenBits)
@@ -99,7 +102,8 @@ pub fn form_fault(content: &[u8], returns: Returns, number: u32) -> Option<ScanF
 /// What is read of a line that has this number: the first without its byte order mark.
 #[tactic(auto, unfolding(crate::specs::Forms::line_content))]
 pub fn line_content(content: &[u8], number: u32) -> &[u8]
-    ensures { (text : List ℕ) → content.now ≡ content_of text → result.now ≡ line_content number text }
+    ensures { (text : List ℕ) → content.now ≡ content_of text
+        → result.now ≡ line_content number text }
 {
     if number == 1 {
         without_mark(content)

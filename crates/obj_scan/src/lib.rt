@@ -1,5 +1,5 @@
-//! The points and triangles that any text in the syntax of Wavefront OBJ spells: decimals of any length, polygons, and
-//! continued lines.
+//! The points and triangles that any text in the syntax of Wavefront OBJ spells: decimals of any
+//! length, polygons, and continued lines.
 #![tactic(auto)]
 
 mod fault;

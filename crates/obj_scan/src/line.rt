@@ -23,10 +23,12 @@ pub fn take_whole(
     requires returns { returns ≡ returns_of lines.now.text }
     requires scanning { IsScanning (scanned_of scanner.old.scan) }
     requires continued { scanner.old.continued < number }
-    ensures ok { OnOk result (line_taken number (held_of scanner.old) lines.now.text ≡ Ok (held_of scanner.new)) }
+    ensures ok { OnOk result (line_taken number (held_of scanner.old) lines.now.text
+        ≡ Ok (held_of scanner.new)) }
     ensures scanning { OnOk result (IsScanning (scanned_of scanner.new.scan)) }
     ensures continued { OnOk result (scanner.new.continued ≤ number) }
-    ensures fault { IfErr result (λ e. IsTextFault e (line_taken number (held_of scanner.old) lines.now.text)) }
+    ensures fault { IfErr result
+        (λ e. IsTextFault e (line_taken number (held_of scanner.old) lines.now.text)) }
 {
     let content = lines.line();
     if let Some(fault) = form_fault(content, returns, number) {

@@ -1,7 +1,8 @@
 //! Polygons cut into triangles.
 ghost use Rattle.std.specs.Prelude.{ℕ, ◌≡◌, ◌<◌, ◌≤◌, ◌++◌, length, OnOk};
 ghost use Rattle.std.specs.List.{All};
-ghost use Rattle.obj_scan.specs.Polygons.{is_place_before, before_least, begun_least, fan, triangles};
+ghost use Rattle.obj_scan.specs.Polygons.{is_place_before, before_least, begun_least, fan};
+ghost use Rattle.obj_scan.specs.Polygons.{triangles};
 
 use crate::OutOfMemory;
 use obj_prepare::ExactPoint;
@@ -52,7 +53,8 @@ fn push_fan(faces: &mut Vec<Corners>, a: u32, rest: &[u32]) -> Result<(), OutOfM
     Ok(())
 }
 
-/// Puts down the triangles of a polygon, whose corners may be turned. The time is linear in its corners.
+/// Puts down the triangles of a polygon, whose corners may be turned. The time is linear in its
+/// corners.
 #[tactic(auto, unfolding(crate::specs::Polygons::triangles))]
 pub fn push_polygon(
     points: &[ExactPoint],
@@ -60,7 +62,8 @@ pub fn push_polygon(
     corners: &mut Vec<u32>,
 ) -> Result<(), OutOfMemory>
     requires { All (λ (c : ℕ). c < length points.now) corners.old.items }
-    ensures { OnOk result (faces.new.items ≡ faces.old.items ++ triangles points.now corners.old.items) }
+    ensures { OnOk result (faces.new.items ≡ faces.old.items
+        ++ triangles points.now corners.old.items) }
 {
     if corners.len() != 3 {
         begin_at_least(points, corners);

@@ -18,8 +18,9 @@ use pm_ears::Polygon;
 use pm_io::{Source, Taker};
 use std::alloc::Global;
 
-/// What a text spells: points in units of 10^-18, triangles, where the fan of each face of more than
-/// three corners stands among them, and how many vertices have a weight that isn't 1, as in `v x y z w`.
+/// What a text spells: points in units of 10^-18, triangles, where the fan of each face of more
+/// than three corners stands among them, and how many vertices have a weight that isn't 1, as in `v
+/// x y z w`.
 #[derive(Drop)]
 pub struct Scan {
     pub points: Vec<ExactPoint>,
@@ -34,17 +35,21 @@ pub struct Scan {
 /// letter is refused, and so is a
 /// line with a CR that doesn't end it.
 ///
-/// Lines that begin with neither `v` nor `f` are skipped, and one that ends in a backslash is continued by the next. A
-/// coordinate is the nearest whole number of 10^-18. Of a vertex the first three are read; where one
-/// number more stands there, which other programs divide by, it is counted if it isn't 1, and passed
-/// over. A polygon is cut into triangles, begun at the corner whose point is least. All bytes that are held are judged before more are asked for, so a fault is answered as soon as the byte that
-/// shows it has come. However the source cuts its bytes, the answer is the same.
+/// Lines that begin with neither `v` nor `f` are skipped, and one that ends in a backslash is
+/// continued by the next. A coordinate is the nearest whole number of 10^-18. Of a vertex the first
+/// three are read; where one number more stands there, which other programs divide by, it is
+/// counted if it isn't 1, and passed over. A polygon is cut into triangles, begun at the corner
+/// whose point is least. All bytes that are held are judged before more are asked for, so a fault
+/// is answered as soon as the byte that shows it has come. However the source cuts its bytes, the
+/// answer is the same.
 ///
-/// Each byte, and each corner, is looked at a constant number of times. Memory is taken for the window, for one line, for
-/// lines that are continued, for the corners of one face, and for what is read.
+/// Each byte, and each corner, is looked at a constant number of times. Memory is taken for the
+/// window, for one line, for lines that are continued, for the corners of one face, and for what is
+/// read.
 pub fn scan_obj<S: Source>(alloc: Global, source: &mut S) -> Result<Scan, ScanFail>
     requires { S.ended source.old ≡ false }
-    ensures ok { IfOk result (λ s. IfSome (S.left source.old) (λ bytes. scan_meaning_of bytes ≡ Ok (scanned_of s))) }
+    ensures ok { IfOk result
+        (λ s. IfSome (S.left source.old) (λ bytes. scan_meaning_of bytes ≡ Ok (scanned_of s))) }
     ensures within { IfOk result (λ s. IsWithinLimits (scanned_of s)) }
     ensures end { OnOk result (AtEnd (S.left source.new)) }
     ensures err { IfErr result (λ e. ExplainsScan e (S.left source.old) (S.left source.new)) }

@@ -1,13 +1,17 @@
-//! The lines of a text, one after the other: what they gave so far, and those that the next one continues.
-ghost use Rattle.std.specs.Prelude.{ℕ, ◌≡◌, ◌+◌, ◌-◌, ◌<◌, ◌≤◌, ◌++◌, ◌∷◌, [], length, true, false, take, Ok, OnOk, IfErr};
+//! The lines of a text, one after the other: what they gave so far, and those that the next one
+//! continues.
+ghost use Rattle.std.specs.Prelude.{ℕ, ◌≡◌, ◌+◌, ◌-◌, ◌<◌, ◌≤◌, ◌++◌, ◌∷◌, [], length, true, false};
+ghost use Rattle.std.specs.Prelude.{take, Ok, OnOk, IfErr};
 ghost use Rattle.std.specs.List.{All};
 ghost use Rattle.pm_base.specs.declared.limits.TheConstants.{MOST_FACES, MOST_VERTICES};
 ghost use Rattle.obj_lines.specs.Text.{is_continued};
 ghost use Rattle.obj_read.specs.Fails.{IsLineFault};
 ghost use Rattle.obj_read.specs.Fields.{fields};
 ghost use Rattle.obj_scan.specs.Fails.{scanned_of};
-ghost use Rattle.obj_scan.specs.Judged.{Found, scanned_vertex_line, polygon_line, polygons_after, weights_after, with_scanned};
-ghost use Rattle.obj_scan.specs.Reading.{IsScanning, given, scanned_after, held_of, nothing_held, taken};
+ghost use Rattle.obj_scan.specs.Judged.{Found, scanned_vertex_line, polygon_line, polygons_after};
+ghost use Rattle.obj_scan.specs.Judged.{weights_after, with_scanned};
+ghost use Rattle.obj_scan.specs.Reading.{IsScanning, given, scanned_after, held_of, nothing_held};
+ghost use Rattle.obj_scan.specs.Reading.{taken};
 
 use crate::OutOfMemory;
 use crate::fields::{face_line, vertex_line};
@@ -18,8 +22,8 @@ use obj_read::{ObjFail, ObjFault, is_letter, next_field};
 use pm_ears::Polygon;
 use std::alloc::Global;
 
-/// What the lines so far gave, how many of them the next one continues, and what these say. The corners are those of the
-/// last face: their room is used again.
+/// What the lines so far gave, how many of them the next one continues, and what these say. The
+/// corners are those of the last face: their room is used again.
 #[derive(Drop)]
 pub struct Scanner {
     pub scan: Scan,
@@ -39,9 +43,14 @@ fn weights_after(weights: u32, weighted: bool) -> u32
 // Takes a vertex.
 fn take_vertex(scan: &mut Scan, text: &[u8], line: u32) -> Result<(), ObjFail>
     requires scanning { IsScanning (scanned_of scan.old) }
-    ensures ok { OnOk result (given (scanned_of scan.old) (scanned_vertex_line (length scan.old.points.items) (fields text.now)) ≡ Ok (scanned_of scan.new)) }
+    ensures ok { OnOk result
+        (given (scanned_of scan.old)
+        (scanned_vertex_line (length scan.old.points.items) (fields text.now))
+        ≡ Ok (scanned_of scan.new)) }
     ensures scanning { OnOk result (IsScanning (scanned_of scan.new)) }
-    ensures fault { IfErr result (λ e. IsLineFault e line (scanned_vertex_line (length scan.old.points.items) (fields text.now))) }
+    ensures fault { IfErr result
+        (λ e. IsLineFault e line
+        (scanned_vertex_line (length scan.old.points.items) (fields text.now))) }
 {
     match vertex_line(scan.points.len() as u32, text) {
         Err(fault) => Err(ObjFail::Fault { fault, line }),
@@ -58,7 +67,8 @@ fn take_vertex(scan: &mut Scan, text: &[u8], line: u32) -> Result<(), ObjFail>
 // Notes where the triangles of a face of more than three corners begin, after so many.
 fn note_polygon(polygons: &mut Vec<Polygon>, faces: u32, corners: &[u32]) -> Result<(), OutOfMemory>
     requires { length corners.now ≤ MOST_FACES + 2 }
-    ensures { OnOk result (polygons.new.items ≡ polygons_after polygons.old.items faces corners.now) }
+    ensures { OnOk result
+        (polygons.new.items ≡ polygons_after polygons.old.items faces corners.now) }
 {
     if corners.len() > 3 {
         polygons.push(Polygon {
@@ -73,7 +83,9 @@ fn note_polygon(polygons: &mut Vec<Polygon>, faces: u32, corners: &[u32]) -> Res
 fn put_face(scan: &mut Scan, corners: &mut Vec<u32>) -> Result<(), OutOfMemory>
     requires within { All (λ (c : ℕ). c < length scan.old.points.items) corners.old.items }
     requires room { length scan.old.faces.items + (length corners.old.items - 2) ≤ MOST_FACES }
-    ensures { OnOk result (scanned_of scan.new ≡ with_scanned (scanned_of scan.old) (Found.polygon corners.old.items)) }
+    ensures { OnOk result
+        (scanned_of scan.new
+        ≡ with_scanned (scanned_of scan.old) (Found.polygon corners.old.items)) }
 {
     note_polygon(&mut scan.polygons, scan.faces.len() as u32, corners)?;
     push_polygon(&scan.points, &mut scan.faces, corners)
@@ -82,9 +94,15 @@ fn put_face(scan: &mut Scan, corners: &mut Vec<u32>) -> Result<(), OutOfMemory>
 // Takes a face.
 fn take_face(scan: &mut Scan, corners: &mut Vec<u32>, text: &[u8], line: u32) -> Result<(), ObjFail>
     requires scanning { IsScanning (scanned_of scan.old) }
-    ensures ok { OnOk result (given (scanned_of scan.old) (polygon_line (length scan.old.points.items) (length scan.old.faces.items) (fields text.now)) ≡ Ok (scanned_of scan.new)) }
+    ensures ok { OnOk result
+        (given (scanned_of scan.old)
+        (polygon_line (length scan.old.points.items) (length scan.old.faces.items)
+        (fields text.now)) ≡ Ok (scanned_of scan.new)) }
     ensures scanning { OnOk result (IsScanning (scanned_of scan.new)) }
-    ensures fault { IfErr result (λ e. IsLineFault e line (polygon_line (length scan.old.points.items) (length scan.old.faces.items) (fields text.now))) }
+    ensures fault { IfErr result
+        (λ e. IsLineFault e line
+        (polygon_line (length scan.old.points.items) (length scan.old.faces.items)
+        (fields text.now))) }
 {
     let (vertices, faces) = (scan.points.len() as u32, scan.faces.len() as u32);
     face_line(vertices, faces, text, line, corners)?;
@@ -98,9 +116,11 @@ fn take_face(scan: &mut Scan, corners: &mut Vec<u32>, text: &[u8], line: u32) ->
 #[tactic(auto, unfolding(crate::specs::Reading::scanned_after, crate::specs::Judged::scanned_line), using(crate::proofs::ScanLaws::given_fault))]
 fn take_text(scan: &mut Scan, corners: &mut Vec<u32>, text: &[u8], line: u32) -> Result<(), ObjFail>
     requires scanning { IsScanning (scanned_of scan.old) }
-    ensures ok { OnOk result (scanned_after (scanned_of scan.old) text.now ≡ Ok (scanned_of scan.new)) }
+    ensures ok { OnOk result (scanned_after (scanned_of scan.old) text.now
+        ≡ Ok (scanned_of scan.new)) }
     ensures scanning { OnOk result (IsScanning (scanned_of scan.new)) }
-    ensures fault { IfErr result (λ e. IsLineFault e line (scanned_after (scanned_of scan.old) text.now)) }
+    ensures fault { IfErr result
+        (λ e. IsLineFault e line (scanned_after (scanned_of scan.old) text.now)) }
 {
     match next_field(text) {
         Some((keyword, rest)) if is_letter(b'v', keyword) => take_vertex(scan, rest, line),
@@ -112,7 +132,9 @@ fn take_text(scan: &mut Scan, corners: &mut Vec<u32>, text: &[u8], line: u32) ->
 // Puts down what is read of a line that is continued, with a blank for its backslash.
 fn join_continued(begun: &mut Vec<u8>, text: &[u8]) -> Result<(), OutOfMemory>
     requires continued { is_continued text.now ≡ true }
-    ensures { OnOk result (begun.new.items ≡ take (length (begun.old.items ++ text.now) - 1) (begun.old.items ++ text.now) ++ 32 ∷ []) }
+    ensures { OnOk result
+        (begun.new.items ≡ take (length (begun.old.items ++ text.now) - 1) (begun.old.items
+        ++ text.now) ++ 32 ∷ []) }
 {
     let most = text.len().saturating_sub(1);
     begun.extend_from_slice(&text[..most])?;
@@ -141,11 +163,15 @@ impl Scanner {
     // Takes what a line gives that isn't continued, with the lines that it continues.
     fn take_joined(&mut self, text: &[u8], line: u32) -> Result<(), ObjFail>
         requires scanning { IsScanning (scanned_of self.old.scan) }
-        ensures ok { OnOk result (scanned_after (scanned_of self.old.scan) (self.old.begun.items ++ text.now) ≡ Ok (scanned_of self.new.scan)) }
+        ensures ok { OnOk result
+            (scanned_after (scanned_of self.old.scan) (self.old.begun.items ++ text.now)
+            ≡ Ok (scanned_of self.new.scan)) }
         ensures scanning { OnOk result (IsScanning (scanned_of self.new.scan)) }
         ensures begun { OnOk result (self.new.begun.items ≡ []) }
         ensures continued { OnOk result (self.new.continued ≡ 0) }
-        ensures fault { IfErr result (λ e. IsLineFault e line (scanned_after (scanned_of self.old.scan) (self.old.begun.items ++ text.now))) }
+        ensures fault { IfErr result
+            (λ e. IsLineFault e line
+            (scanned_after (scanned_of self.old.scan) (self.old.begun.items ++ text.now))) }
     {
         self.continued = 0;
         if self.begun.is_empty() {
@@ -163,8 +189,8 @@ impl Scanner {
         }
     }
 
-    /// Takes one line more: this is what is read of it, and its number. A fault of what is read has the number
-    /// of the first of the lines that go together.
+    /// Takes one line more: this is what is read of it, and its number. A fault of what is read has
+    /// the number of the first of the lines that go together.
     #[tactic(auto, unfolding(crate::specs::Reading::taken), using(crate::proofs::ScanLaws::ended_fault))]
     pub fn take_line(&mut self, text: &[u8], number: u32) -> Result<(), ObjFail>
         requires scanning { IsScanning (scanned_of self.old.scan) }
@@ -172,7 +198,8 @@ impl Scanner {
         ensures ok { OnOk result (taken (held_of self.old) text.now ≡ Ok (held_of self.new)) }
         ensures scanning { OnOk result (IsScanning (scanned_of self.new.scan)) }
         ensures continued { OnOk result (self.new.continued ≤ number) }
-        ensures fault { IfErr result (λ e. IsLineFault e (number - self.old.continued) (taken (held_of self.old) text.now)) }
+        ensures fault { IfErr result
+            (λ e. IsLineFault e (number - self.old.continued) (taken (held_of self.old) text.now)) }
     {
         let line = number - self.continued;
         if self.begun.len() + text.len() > MOST_LINE_BYTES {

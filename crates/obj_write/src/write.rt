@@ -40,9 +40,10 @@ fn put_faces<K: Sink>(mesh: &Mesh, page: &mut Page, out: &mut K) -> Result<(), W
     Ok(())
 }
 
-/// Writes the canonical text of a well-formed mesh: a line for each point, and then one for each face. Coordinates are
-/// written with so many decimals, at most four; the mesh has them in units of 10 to the power -digits. After a fault the
-/// sink has gained a part of the text from its front, and not the whole.
+/// Writes the canonical text of a well-formed mesh: a line for each point, and then one for each
+/// face. Coordinates are written with so many decimals, at most four; the mesh has them in units of
+/// 10 to the power -digits. After a fault the sink has gained a part of the text from its front,
+/// and not the whole.
 ///
 /// The text is put in pages of 4,096 bytes, of which the last may be shorter. It takes no memory.
 #[tactic(auto, unfolding(pm_base::specs::Canonical::canonical_text))]

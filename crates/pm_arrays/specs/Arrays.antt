@@ -1,5 +1,6 @@
 -- The mesh that a front shows, as arrays of numbers, in the order of its frame text.
-use Rattle.std.specs.Prelude.{◌≡◌, ℕ, ℤ, ◌+◌, ◌*◌, ◌<◌, Bool, true, List, [], ◌∷◌, length, slice_index_or}
+use Rattle.std.specs.Prelude.{◌≡◌, ℕ, ℤ, ◌+◌, ◌*◌, ◌<◌, Bool, true, List, [], ◌∷◌, length}
+use Rattle.std.specs.Prelude.{slice_index_or}
 use Rattle.std.specs.List.{flat_map}
 use Rattle.pm_base.specs.Counts.{count}
 use Rattle.pm_forest.specs.Forest.{Hierarchy, node_count}
@@ -22,7 +23,8 @@ corner_node h T e = ancestor_of h T (from_leaf h e)
 
 -- The nodes at the corners of a face, in its corner order.
 abbrev pub face_nodes : Hierarchy → (ℕ → Bool) → ℕ → List ℕ
-face_nodes h T f = corner_node h T (3 * f) ∷ corner_node h T (3 * f + 1) ∷ corner_node h T (3 * f + 2) ∷ []
+face_nodes h T f =
+    corner_node h T (3 * f) ∷ corner_node h T (3 * f + 1) ∷ corner_node h T (3 * f + 2) ∷ []
 
 -- The corners of the kept faces as nodes, three for each face.
 abbrev pub node_array : Hierarchy → (ℕ → Bool) → List ℕ
@@ -45,4 +47,5 @@ position_array h T = flat_map (face_positions h T) (kept_faces h T)
 -- A table that has the position of each active node at its number.
 pub record ArePositions (h : Hierarchy) (T : ℕ → Bool) (table : List ℕ) : Type 0 where
   pub len : length table ≡ node_count h
-  pub each : (v : ℕ) → v < node_count h → is_active h T v ≡ true → slice_index_or table v 0 ≡ position_of h T v
+  pub each : (v : ℕ) → v < node_count h → is_active h T v ≡ true
+      → slice_index_or table v 0 ≡ position_of h T v

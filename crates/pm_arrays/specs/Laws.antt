@@ -11,4 +11,5 @@ abbrev pub PositionsAreSound : Type 0
 PositionsAreSound =
     (h : Hierarchy) → HasShape h → (T : ℕ → Bool) (e : ℕ) → e < 3 * face_count h
     → (position_of h T (corner_node h T e) < length (active_nodes h T))
-    × (slice_index_or (active_nodes h T) (position_of h T (corner_node h T e)) 0 ≡ corner_node h T e)
+    × (slice_index_or (active_nodes h T) (position_of h T (corner_node h T e)) 0
+    ≡ corner_node h T e)

@@ -4,7 +4,8 @@ ghost use Rattle.pm_base.specs.Counts.{set_of};
 ghost use Rattle.pm_forest.specs.Faces.{face_count};
 ghost use Rattle.pm_forest.specs.Kept.{is_kept};
 ghost use Rattle.pm_front.specs.Shown.{kept_faces};
-ghost use Rattle.pm_arrays.specs.Arrays.{face_nodes, face_positions, node_array, position_array, ArePositions};
+ghost use Rattle.pm_arrays.specs.Arrays.{face_nodes, face_positions, node_array, position_array};
+ghost use Rattle.pm_arrays.specs.Arrays.{ArePositions};
 
 use crate::store::{store, store_three};
 use pm_base::FaceId;
@@ -36,7 +37,8 @@ fn corners_at(front: &Front, positions: &[u32], face: u32) -> FaceCorners
     requires there { face < face_count front.now.h }
     requires kept { is_kept front.now.h (set_of front.now.flags) face ≡ true }
     ensures nodes { result.nodes ≡ face_nodes front.now.h (set_of front.now.flags) face }
-    ensures positions { result.positions ≡ face_positions front.now.h (set_of front.now.flags) face }
+    ensures positions { result.positions ≡ face_positions front.now.h (set_of front.now.flags)
+        face }
 {
     front.hierarchy().invariant();
     let nodes = corners_of(front, face);
@@ -49,9 +51,10 @@ fn corners_at(front: &Front, positions: &[u32], face: u32) -> FaceCorners
     FaceCorners { nodes, positions }
 }
 
-/// Writes the numbers of the kept faces into `faces`, ascending, and their corners, three for each face in its corner
-/// order: into `nodes` as nodes, and into `corners` by the positions of `positions`, which `write_nodes` has told of this
-/// front. The arrays have just that room. It costs a pass over all faces, and takes no memory.
+/// Writes the numbers of the kept faces into `faces`, ascending, and their corners, three for each
+/// face in its corner order: into `nodes` as nodes, and into `corners` by the positions of
+/// `positions`, which `write_nodes` has told of this front. The arrays have just that room. It
+/// costs a pass over all faces, and takes no memory.
 pub fn write_faces(
     front: &Front,
     positions: &[u32],
@@ -60,9 +63,12 @@ pub fn write_faces(
     nodes: &mut [u32],
 )
     requires positions { ArePositions front.now.h (set_of front.now.flags) positions.now }
-    requires faces_fit { length faces.old ≡ length (kept_faces front.now.h (set_of front.now.flags)) }
-    requires corners_fit { length corners.old ≡ 3 * length (kept_faces front.now.h (set_of front.now.flags)) }
-    requires nodes_fit { length nodes.old ≡ 3 * length (kept_faces front.now.h (set_of front.now.flags)) }
+    requires faces_fit { length faces.old
+        ≡ length (kept_faces front.now.h (set_of front.now.flags)) }
+    requires corners_fit { length corners.old
+        ≡ 3 * length (kept_faces front.now.h (set_of front.now.flags)) }
+    requires nodes_fit { length nodes.old
+        ≡ 3 * length (kept_faces front.now.h (set_of front.now.flags)) }
     ensures faces { faces.new ≡ kept_faces front.now.h (set_of front.now.flags) }
     ensures corners { corners.new ≡ position_array front.now.h (set_of front.now.flags) }
     ensures nodes { nodes.new ≡ node_array front.now.h (set_of front.now.flags) }

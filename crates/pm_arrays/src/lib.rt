@@ -1,4 +1,5 @@
-//! The mesh that a front shows, as arrays of numbers: what a frame text tells, for a caller that draws it.
+//! The mesh that a front shows, as arrays of numbers: what a frame text tells, for a caller that
+//! draws it.
 #![tactic(auto)]
 
 mod faces;

@@ -24,13 +24,15 @@ fn store_node(front: &Front, node: u32, count: usize, nodes: &mut [u32], places:
     store_place(places, count, &front.hierarchy().place(NodeId(node)));
 }
 
-/// Writes the numbers of the active nodes into `nodes`, ascending, and their places into `places`, three coordinates for
-/// each. The arrays have just that room. `positions` has room for a number for each node of the hierarchy: at an active
-/// node it tells then at which position of `nodes` that stands, counted from 0. It costs a pass over all nodes, and takes
-/// no memory.
+/// Writes the numbers of the active nodes into `nodes`, ascending, and their places into `places`,
+/// three coordinates for each. The arrays have just that room. `positions` has room for a number
+/// for each node of the hierarchy: at an active node it tells then at which position of `nodes`
+/// that stands, counted from 0. It costs a pass over all nodes, and takes no memory.
 pub fn write_nodes(front: &Front, nodes: &mut [u32], places: &mut [i32], positions: &mut [u32])
-    requires nodes_fit { length nodes.old ≡ length (active_nodes front.now.h (set_of front.now.flags)) }
-    requires places_fit { length places.old ≡ 3 * length (active_nodes front.now.h (set_of front.now.flags)) }
+    requires nodes_fit { length nodes.old
+        ≡ length (active_nodes front.now.h (set_of front.now.flags)) }
+    requires places_fit { length places.old
+        ≡ 3 * length (active_nodes front.now.h (set_of front.now.flags)) }
     requires positions_fit { length positions.old ≡ node_count front.now.h }
     ensures nodes { nodes.new ≡ active_nodes front.now.h (set_of front.now.flags) }
     ensures places { places.new ≡ place_array front.now.h (set_of front.now.flags) }

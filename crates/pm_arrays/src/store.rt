@@ -36,7 +36,8 @@ fn store_coordinate(to: &mut [i32], count: usize, number: i32)
 /// Stores a place behind the first `count` places.
 pub(crate) fn store_place(to: &mut [i32], count: usize, place: &Point)
     requires { 3 * count + 3 ≤ length to.old }
-    ensures stored { take (3 * (count + 1)) to.new ≡ take (3 * count) to.old ++ place.now.x ∷ place.now.y ∷ place.now.z ∷ [] }
+    ensures stored { take (3 * (count + 1)) to.new ≡ take (3 * count) to.old ++ place.now.x
+        ∷ place.now.y ∷ place.now.z ∷ [] }
     ensures len { length to.new ≡ length to.old }
 {
     store_coordinate(to, 3 * count, place.x());

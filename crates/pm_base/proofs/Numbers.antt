@@ -2,8 +2,10 @@
 use Rattle.std.proofs.Common.{◌≡◌, ℕ, zero, suc, ◌+◌, List, [], ◌∷◌, ◌++◌, refl, ap, arith}
 use Rattle.std.specs.List.{range_with_len}
 
-pub range_parts : (a m n : ℕ) → range_with_len a (m + n) ≡ range_with_len a m ++ range_with_len (a + m) n
-range_parts a zero n = let start : a + 0 ≡ a = omega arith in let count : 0 + n ≡ n = omega arith in rw (count, start) refl
+pub range_parts : (a m n : ℕ) → range_with_len a (m + n) ≡ range_with_len a m
+    ++ range_with_len (a + m) n
+range_parts a zero n = let start : a + 0 ≡ a = omega arith in let count : 0 + n ≡ n =
+    omega arith in rw (count, start) refl
 range_parts a (suc m) n =
     let start : a + suc m ≡ (a + 1) + m = omega arith in
     let count : suc m + n ≡ suc (m + n) = omega arith in

@@ -8,13 +8,22 @@ use Rattle.pm_base.specs.Place.{Place, IsPlace}
 use Rattle.pm_base.specs.Geometry.{IsNormal, cross_of}
 use Rattle.pm_base.proofs.Squares.{abs_minus}
 
-pub abs_product : (a b : ℤ) (m n : ℕ) → unsigned_abs a ≤ m → unsigned_abs b ≤ n → unsigned_abs (a *ℤ b) ≤ m * n
+pub abs_product : (a b : ℤ) (m n : ℕ) → unsigned_abs a ≤ m → unsigned_abs b ≤ n
+    → unsigned_abs (a *ℤ b) ≤ m * n
 abs_product a b m n p q = rw unsigned_abs-mul (mul-le (unsigned_abs a) (unsigned_abs b) m n p q)
 
-pub minor_small : (a b c d : ℤ) → unsigned_abs a ≤ 65534 → unsigned_abs b ≤ 65534 → unsigned_abs c ≤ 65534 → unsigned_abs d ≤ 65534 → unsigned_abs (a *ℤ d -ℤ b *ℤ c) ≤ 8589410312
-minor_small a b c d p q r s = omega (arith, abs_minus (a *ℤ d) (b *ℤ c), abs_product a d 65534 65534 p s, abs_product b c 65534 65534 q r)
+pub minor_small : (a b c d : ℤ) → unsigned_abs a ≤ 65534 → unsigned_abs b ≤ 65534
+    → unsigned_abs c ≤ 65534 → unsigned_abs d ≤ 65534 → unsigned_abs (a *ℤ d -ℤ b *ℤ c) ≤ 8589410312
+minor_small a b c d p q r s =
+    omega (
+      arith,
+      abs_minus (a *ℤ d) (b *ℤ c),
+      abs_product a d 65534 65534 p s,
+      abs_product b c 65534 65534 q r,
+    )
 
-pub above_small : (x y : ℤ) → unsigned_abs x ≤ 32767 → unsigned_abs y ≤ 32767 → unsigned_abs (x -ℤ y) ≤ 65534
+pub above_small : (x y : ℤ) → unsigned_abs x ≤ 32767 → unsigned_abs y ≤ 32767
+    → unsigned_abs (x -ℤ y) ≤ 65534
 above_small x y p q = omega (arith, abs_minus x y)
 
 pub cross_small : (a b c : Place) → IsPlace a → IsPlace b → IsPlace c → IsNormal (cross_of a b c)

@@ -7,14 +7,20 @@ use Rattle.pm_base.specs.Rounded.{root_from, root_up, IsRootUp}
 
 -- no number up to k has a square of at least n
 above : (k n : ℕ) → k * k < n → ((m : ℕ) → n ≤ m * m → k ≤ m) → (m : ℕ) → n ≤ m * m → k + 1 ≤ m
-above k n p h m q = elim (cases_lt k m) [ inl l ↦ omega arith | inr l ↦ absurd (omega (arith, mul-le m m k k l l)) ]
+above k n p h m q =
+    elim (cases_lt k m) [ inl l ↦ omega arith | inr l ↦ absurd (omega (arith, mul-le m m k k l l)) ]
 
-from_is : (f k n : ℕ) → n ≤ (k + f) * (k + f) → ((m : ℕ) → n ≤ m * m → k ≤ m) → IsRootUp n (root_from f k n)
+from_is : (f k n : ℕ) → n ≤ (k + f) * (k + f) → ((m : ℕ) → n ≤ m * m → k ≤ m)
+    → IsRootUp n (root_from f k n)
 from_is zero k n p h = record { enough = omega arith; least = h }
 from_is (suc f) k n p h =
     elim (cases_Bool (nat_le n (k * k))) [
-      | inl e ↦ subst (λ (r : ℕ). IsRootUp n r) (sym (cond-true (nat_le n (k * k)) k (root_from f (k + 1) n) e)) (record { enough = leb-true n (k * k) e; least = h })
-      | inr e ↦ subst (λ (r : ℕ). IsRootUp n r) (sym (cond-false (nat_le n (k * k)) k (root_from f (k + 1) n) e)) (from_is f (k + 1) n (omega arith) (above k n (leb-false n (k * k) e) h))
+      | inl e ↦ subst (λ (r : ℕ). IsRootUp n r)
+          (sym (cond-true (nat_le n (k * k)) k (root_from f (k + 1) n) e))
+          (record { enough = leb-true n (k * k) e; least = h })
+      | inr e ↦ subst (λ (r : ℕ). IsRootUp n r)
+          (sym (cond-false (nat_le n (k * k)) k (root_from f (k + 1) n) e))
+          (from_is f (k + 1) n (omega arith) (above k n (leb-false n (k * k) e) h))
     ]
 
 self_square : (n : ℕ) → n ≤ (0 + n) * (0 + n)

@@ -1,7 +1,9 @@
 -- Searches and decisions over the numbers below a bound.
-use Rattle.std.proofs.Common.{◌≡◌, ◌≢◌, ℕ, zero, suc, ◌<◌, Bool, true, false, Option, Some, None, ◌⊎◌, inl, inr, refl, sym, ◌∙◌, subst, arith}
+use Rattle.std.proofs.Common.{◌≡◌, ◌≢◌, ℕ, zero, suc, ◌<◌, Bool, true, false, Option, Some, None}
+use Rattle.std.proofs.Common.{◌⊎◌, inl, inr, refl, sym, ◌∙◌, subst, arith}
 use Rattle.std.specs.Option.{is_some, is_none}
-use Rattle.std.proofs.lemmas.Bool.{false≢true, cases_Bool, cases_eq, both_ways, cond-true, cond-false}
+use Rattle.std.proofs.lemmas.Bool.{false≢true, cases_Bool, cases_eq, both_ways, cond-true}
+use Rattle.std.proofs.lemmas.Bool.{cond-false}
 use Rattle.std.proofs.lemmas.Option.{none-some, same_Some}
 use Rattle.pm_base.specs.Sides.{find_below}
 
@@ -9,11 +11,13 @@ pub find_below-some : (p : ℕ → Bool) (n g : ℕ) → find_below p n ≡ Some
 find_below-some p zero g e = absurd (none-some g e)
 find_below-some p (suc n) g e =
     elim (cases_Bool (p n)) [
-      | inl a ↦ (let is : n ≡ g = same_Some n g (sym (cond-true _ _ _ a) ∙ e) in (subst (λ i. p i ≡ true) is a, omega arith))
+      | inl a ↦ (let is : n ≡ g = same_Some n g (sym (cond-true _ _ _ a) ∙ e) in
+          (subst (λ i. p i ≡ true) is a, omega arith))
       | inr a ↦ (let r = find_below-some p n g (sym (cond-false _ _ _ a) ∙ e) in (r.0, omega arith))
     ]
 
-pub find_below-has : (p : ℕ → Bool) (n g : ℕ) → g < n → p g ≡ true → (k : ℕ) × (find_below p n ≡ Some k)
+pub find_below-has : (p : ℕ → Bool) (n g : ℕ) → g < n → p g ≡ true
+    → (k : ℕ) × (find_below p n ≡ Some k)
 find_below-has p zero g l e = absurd (omega arith)
 find_below-has p (suc n) g l e =
     elim (cases_Bool (p n)) [
@@ -43,7 +47,8 @@ some_from (Some k) t = (k, refl)
 abbrev pub Decided : Type 0 → Type 0
 Decided P = P ⊎ (P → ⊥)
 
-pub search_below : (P : ℕ → Type 0) → ((i : ℕ) → Decided (P i)) → (n : ℕ) → ((i : ℕ) × (i < n) × P i) ⊎ ((i : ℕ) → i < n → P i → ⊥)
+pub search_below : (P : ℕ → Type 0) → ((i : ℕ) → Decided (P i)) → (n : ℕ)
+    → ((i : ℕ) × (i < n) × P i) ⊎ ((i : ℕ) → i < n → P i → ⊥)
 search_below P decide zero = inr (λ i l h. absurd (omega arith))
 search_below P decide (suc n) =
     elim (decide n) [
@@ -51,6 +56,11 @@ search_below P decide (suc n) =
       | inr never ↦
           elim (search_below P decide n) [
             | inl (i, l, h) ↦ inl (i, omega arith, h)
-            | inr none ↦ inr (λ i l h. elim (cases_eq i n) [ inl is ↦ never (subst P is h) | inr ne ↦ none i (omega arith) h ])
+            | inr none ↦
+                inr (λ i l h. elim (cases_eq i n) [
+                  | inl is ↦ never (subst P is h)
+                  | inr ne ↦
+                      none i (omega arith) h
+                ])
           ]
     ]

@@ -1,15 +1,22 @@
 -- Sides of a face, and the pairs at a vertex: turning a face, and what stands once.
-use Rattle.std.proofs.Common.{◌≡◌, ◌≢◌, ℕ, ◌+◌, ◌-◌, ◌*◌, ◌%◌, ◌<◌, ◌⊎◌, inl, inr, refl, sym, ap, ◌∙◌, subst, arith}
+use Rattle.std.proofs.Common.{◌≡◌, ◌≢◌, ℕ, ◌+◌, ◌-◌, ◌*◌, ◌%◌, ◌<◌, ◌⊎◌, inl, inr, refl, sym, ap}
+use Rattle.std.proofs.Common.{◌∙◌, subst, arith}
 use Rattle.std.proofs.lemmas.Bool.{eq-eqb, ne_eqb, cases_eq, cond-true, cond-false}
 use Rattle.pm_base.specs.Sides.{Net, face_of, next, prev, to, third, Stands, NoSideTwice}
 use Rattle.pm_base.specs.Fans.{IsPairAt}
 
 pub next_cases : (e : ℕ) → ((e % 3 ≡ 2) × (next e ≡ e - 2)) ⊎ ((e % 3 ≢ 2) × (next e ≡ e + 1))
 unfolding next
-next_cases e = elim (cases_eq (e % 3) 2) [ inl a ↦ inl (a, cond-true _ _ _ (eq-eqb _ _ a)) | inr a ↦ inr (a, cond-false _ _ _ (ne_eqb _ _ a)) ]
+next_cases e =
+    elim (cases_eq (e % 3) 2) [
+      | inl a ↦ inl (a, cond-true _ _ _ (eq-eqb _ _ a))
+      | inr a ↦
+          inr (a, cond-false _ _ _ (ne_eqb _ _ a))
+    ]
 
 pub next-next-next : (e : ℕ) → next (next (next e)) ≡ e
-next-next-next e = let a = next_cases e in let b = next_cases (next e) in let c = next_cases (next (next e)) in omega arith
+next-next-next e = let a = next_cases e in let b = next_cases (next e) in let c =
+    next_cases (next (next e)) in omega arith
 
 pub next-lt : (n e : ℕ) → e < 3 * n → next e < 3 * n
 next-lt n e l = let a = next_cases e in omega arith
@@ -38,7 +45,13 @@ stands_next m e t = record {
 
 -- A face is seen from each of its corners.
 abbrev pub turn : (m : Net) (v x y : ℕ) → IsPairAt m v x y → IsPairAt m x y v
-turn m v x y f = record { side = next f.side; stands = stands_next m f.side f.stands; at = f.one; one = f.two; two = ap m.from (next-next-next f.side) ∙ f.at }
+turn m v x y f = record {
+  side = next f.side;
+  stands = stands_next m f.side f.stands;
+  at = f.one;
+  one = f.two;
+  two = ap m.from (next-next-next f.side) ∙ f.at;
+}
 
 abbrev pub back : (m : Net) (v x y : ℕ) → IsPairAt m v x y → IsPairAt m y v x
 back m v x y f = turn m x y v (turn m v x y f)
@@ -69,4 +82,5 @@ module _ (m : Net) (once : NoSideTwice m) where
 
   -- And the seconds.
   pub one_side_in : {v x y z : ℕ} (f : IsPairAt m v x z) (g : IsPairAt m v y z) → f.side ≡ g.side
-  one_side_in {v} {x} {y} {z} f g = one_side f (subst (λ i. IsPairAt m v i z) (sym (one_first f g)) g)
+  one_side_in {v} {x} {y} {z} f g =
+      one_side f (subst (λ i. IsPairAt m v i z) (sym (one_first f g)) g)

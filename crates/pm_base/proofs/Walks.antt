@@ -1,5 +1,7 @@
--- Walks by a step that is one to one, among finitely many numbers: each comes to an end or back to its start.
-use Rattle.std.proofs.Common.{◌≡◌, ◌≢◌, ℕ, zero, suc, ◌+◌, ◌<◌, ◌≤◌, Option, Some, None, ◌⊎◌, inl, inr, refl, sym, ap, ◌∙◌, subst, arith}
+-- Walks by a step that is one to one, among finitely many numbers: each comes to an end or back to
+-- its start.
+use Rattle.std.proofs.Common.{◌≡◌, ◌≢◌, ℕ, zero, suc, ◌+◌, ◌<◌, ◌≤◌, Option, Some, None, ◌⊎◌, inl}
+use Rattle.std.proofs.Common.{inr, refl, sym, ap, ◌∙◌, subst, arith}
 use Rattle.std.specs.Option.{unwrap_or}
 use Rattle.std.proofs.lemmas.Bool.{cases_eq}
 use Rattle.pm_base.proofs.Search.{option_cases}
@@ -26,36 +28,47 @@ pub after_steps-zero : (f : ℕ → Option ℕ) (a : ℕ) → after_steps f a 0 
 unfolding after_steps
 after_steps-zero f a = refl
 
-pub after_steps-suc : (f : ℕ → Option ℕ) (a i o : ℕ) → f (after_steps f a i) ≡ Some o → after_steps f a (suc i) ≡ o
+pub after_steps-suc : (f : ℕ → Option ℕ) (a i o : ℕ) → f (after_steps f a i) ≡ Some o
+    → after_steps f a (suc i) ≡ o
 unfolding after_steps
 after_steps-suc f a i o e = ap (λ r. unwrap_or r (after_steps f a i)) e
 
 pub trail-zero : (f : ℕ → Option ℕ) (a : ℕ) → IsTrail f a 0
-trail-zero f a = record { steps = λ i l. absurd (omega arith); distinct = λ i j l g. absurd (omega arith) }
+trail-zero f a =
+    record { steps = λ i l. absurd (omega arith); distinct = λ i j l g. absurd (omega arith) }
 
 -- Good numbers are those among which f is one to one; a step from one leads to one.
-module _ (f : ℕ → Option ℕ) (Good : ℕ → Type 0) (keeps : (p o : ℕ) → Good p → f p ≡ Some o → Good o) (injective : (p q o : ℕ) → Good p → Good q → f p ≡ Some o → f q ≡ Some o → p ≡ q) (a : ℕ) (start : Good a) where
+module _ (f : ℕ → Option ℕ) (Good : ℕ → Type 0) (keeps : (p o : ℕ) → Good p → f p ≡ Some o
+    → Good o) (injective : (p q o : ℕ) → Good p → Good q → f p ≡ Some o → f q ≡ Some o
+    → p ≡ q) (a : ℕ) (start : Good a) where
   pub trail-good : (k : ℕ) → IsTrail f a k → (i : ℕ) → i ≤ k → Good (after_steps f a i)
   trail-good k t zero l = subst Good (sym (after_steps-zero f a)) start
-  trail-good k t (suc i) l = keeps (after_steps f a i) (after_steps f a (suc i)) (trail-good k t i (omega arith)) (t.steps i (omega arith))
+  trail-good k t (suc i) l =
+      keeps (after_steps f a i) (after_steps f a (suc i)) (trail-good k t i (omega arith))
+      (t.steps i (omega arith))
 
   -- A step that doesn't lead back to the start leads to a number that wasn't met.
-  new_number : (k : ℕ) → IsTrail f a k → (o : ℕ) → f (after_steps f a k) ≡ Some o → o ≢ a → (i : ℕ) → i ≤ k → after_steps f a i ≢ o
+  new_number : (k : ℕ) → IsTrail f a k → (o : ℕ) → f (after_steps f a k) ≡ Some o → o ≢ a → (i : ℕ)
+      → i ≤ k → after_steps f a i ≢ o
   new_number k t o e ne zero l is = ne (sym is ∙ after_steps-zero f a)
   new_number k t o e ne (suc i) l is =
       t.distinct i k (omega arith) (omega arith)
-      (injective (after_steps f a i) (after_steps f a k) o (trail-good k t i (omega arith)) (trail-good k t k (omega arith)) (t.steps i (omega arith) ∙ ap Some is) e)
+      (injective (after_steps f a i) (after_steps f a k) o (trail-good k t i (omega arith))
+      (trail-good k t k (omega arith)) (t.steps i (omega arith) ∙ ap Some is) e)
 
-  pub trail-suc : (k : ℕ) → IsTrail f a k → (o : ℕ) → f (after_steps f a k) ≡ Some o → o ≢ a → IsTrail f a (suc k)
+  pub trail-suc : (k : ℕ) → IsTrail f a k → (o : ℕ) → f (after_steps f a k) ≡ Some o → o ≢ a
+      → IsTrail f a (suc k)
   trail-suc k t o e ne =
       let is = after_steps-suc f a k o e in
       record {
         steps = λ i l. elim (cases_eq i k) [
-          | inl same ↦ subst (λ j. f (after_steps f a j) ≡ Some (after_steps f a (suc j))) (sym same) (e ∙ ap Some (sym is))
+          | inl same ↦ subst (λ j. f (after_steps f a j) ≡ Some (after_steps f a (suc j)))
+              (sym same) (e ∙ ap Some (sym is))
           | inr other ↦ t.steps i (omega arith)
         ];
         distinct = λ i j l g. elim (cases_eq j (suc k)) [
-          | inl same ↦ (λ eq. new_number k t o e ne i (omega arith) (eq ∙ ap (after_steps f a) same ∙ is))
+          | inl same ↦
+              (λ eq. new_number k t o e ne i (omega arith) (eq ∙ ap (after_steps f a) same ∙ is))
           | inr other ↦ t.distinct i j l (omega arith)
         ];
       }
@@ -63,10 +76,12 @@ module _ (f : ℕ → Option ℕ) (Good : ℕ → Type 0) (keeps : (p o : ℕ) �
   module _ (n : ℕ) (bound : (p : ℕ) → Good p → p < n) where
     pub trail-lt : (k : ℕ) → IsTrail f a k → k < n
     trail-lt k t =
-        let b = pigeons (after_steps f a) (suc k) n t.distinct (λ i l. bound (after_steps f a i) (trail-good k t i (omega arith))) in
+        let b = pigeons (after_steps f a) (suc k) n t.distinct
+        (λ i l. bound (after_steps f a i) (trail-good k t i (omega arith))) in
         omega arith
 
-    trail-on : (fuel k : ℕ) → IsTrail f a k → k + fuel ≡ n → (l : ℕ) × IsTrail f a l × (Stops f a l ⊎ Returns f a l)
+    trail-on : (fuel k : ℕ) → IsTrail f a k → k + fuel ≡ n → (l : ℕ) × IsTrail f a l
+        × (Stops f a l ⊎ Returns f a l)
     trail-on zero k t e = let b = trail-lt k t in absurd (omega arith)
     trail-on (suc fuel) k t e =
         elim (option_cases (f (after_steps f a k))) [

@@ -1,4 +1,5 @@
--- Sets of numbers: those below a number, those that a list of flags tells, and how many pass a test.
+-- Sets of numbers: those below a number, those that a list of flags tells, and how many pass a
+-- test.
 use Rattle.std.specs.Prelude.{ℕ, zero, suc, ◌+◌, Bool, true, false, List, slice_index_or}
 use Rattle.std.specs.List.{range_with_len}
 

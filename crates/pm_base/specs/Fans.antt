@@ -2,7 +2,8 @@
 use Rattle.std.specs.Prelude.{◌≡◌, ◌≢◌, ℕ, suc, ◌<◌, ◌≤◌, ◌⊎◌}
 use Rattle.pm_base.specs.Sides.{Net, to, third, Stands, NoSideTwice}
 
--- A face has the corners v, x and y in its own cyclic order: (x, y) is one of the pairs of other corners at v.
+-- A face has the corners v, x and y in its own cyclic order: (x, y) is one of the pairs of other
+-- corners at v.
 pub record IsPairAt (m : Net) (v x y : ℕ) : Type 0 where
   pub side : ℕ
   pub stands : Stands m side

@@ -1,4 +1,5 @@
--- Vectors of integers: normals, products, lengths and distances. Lengths are kept squared, as natural numbers.
+-- Vectors of integers: normals, products, lengths and distances. Lengths are kept squared, as
+-- natural numbers.
 use Rattle.std.specs.Prelude.{ℕ, ℤ, ◌+◌, ◌*◌, ◌≤◌, ◌+ℤ◌, ◌-ℤ◌, ◌*ℤ◌, unsigned_abs}
 use Rattle.pm_base.specs.Place.{Place}
 
@@ -10,7 +11,9 @@ pub record Direction : Type 0 where
 
 -- No number of a face's normal is further from 0 than 2 x 65,534 x 65,534.
 abbrev pub IsNormal : Direction → Type 0
-IsNormal n = (unsigned_abs n.x ≤ 8589410312) × (unsigned_abs n.y ≤ 8589410312) × (unsigned_abs n.z ≤ 8589410312)
+IsNormal n =
+    (unsigned_abs n.x ≤ 8589410312) × (unsigned_abs n.y ≤ 8589410312)
+    × (unsigned_abs n.z ≤ 8589410312)
 
 -- (b - a) x (c - a), the normal of the face a, b, c.
 abbrev pub cross_of : Place → Place → Place → Direction
@@ -29,11 +32,14 @@ square_of n = n * n
 
 -- The squared distance of two places.
 abbrev pub dist2_of : Place → Place → ℕ
-dist2_of p q = square_of (unsigned_abs (p.x -ℤ q.x)) + square_of (unsigned_abs (p.y -ℤ q.y)) + square_of (unsigned_abs (p.z -ℤ q.z))
+dist2_of p q =
+    square_of (unsigned_abs (p.x -ℤ q.x)) + square_of (unsigned_abs (p.y -ℤ q.y)) + square_of
+    (unsigned_abs (p.z -ℤ q.z))
 
 -- The squared length of a vector, u . u.
 abbrev pub norm2_of : Direction → ℕ
-norm2_of u = square_of (unsigned_abs u.x) + square_of (unsigned_abs u.y) + square_of (unsigned_abs u.z)
+norm2_of u =
+    square_of (unsigned_abs u.x) + square_of (unsigned_abs u.y) + square_of (unsigned_abs u.z)
 
 -- u + v
 abbrev pub plus_of : Direction → Direction → Direction

@@ -20,8 +20,13 @@ is_place p = is_coordinate p.x && is_coordinate p.y && is_coordinate p.z
 
 -- The same as a fact.
 abbrev pub IsPlace : Place → Type 0
-IsPlace p = (unsigned_abs p.x ≤ GREATEST_COORDINATE) × (unsigned_abs p.y ≤ GREATEST_COORDINATE) × (unsigned_abs p.z ≤ GREATEST_COORDINATE)
+IsPlace p = (unsigned_abs p.x ≤ GREATEST_COORDINATE) × (unsigned_abs p.y ≤ GREATEST_COORDINATE)
+    × (unsigned_abs p.z ≤ GREATEST_COORDINATE)
 
 -- The place with these three coordinates.
 abbrev pub place_of : List ℤ → Place
-place_of r = record { x = slice_index_or r 0 (pos 0); y = slice_index_or r 1 (pos 0); z = slice_index_or r 2 (pos 0) }
+place_of r = record {
+  x = slice_index_or r 0 (pos 0);
+  y = slice_index_or r 1 (pos 0);
+  z = slice_index_or r 2 (pos 0);
+}

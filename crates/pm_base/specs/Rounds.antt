@@ -1,4 +1,5 @@
--- Fans by going round: the form in which proofs change them. Open and closed are one thing here, and nothing is counted.
+-- Fans by going round: the form in which proofs change them. Open and closed are one thing here,
+-- and nothing is counted.
 use Rattle.std.specs.Prelude.{ℕ}
 use Rattle.pm_base.specs.Sides.{Net}
 use Rattle.pm_base.specs.Fans.{IsPairAt}

@@ -1,10 +1,12 @@
--- A mesh by its sides: the textbook half-edge structure, with three half edges a face. Side 3f + i of face f runs from
--- corner i to the next corner of the face.
-use Rattle.std.specs.Prelude.{◌≡◌, ◌≢◌, ℕ, zero, suc, ◌+◌, ◌-◌, ◌*◌, ◌/◌, ◌%◌, ◌<◌, ◌==◌, nat_lt, Bool, cond, not, ◌&&◌, Option, Some, None, List, length, slice_index_or, ◌⊎◌}
+-- A mesh by its sides: the textbook half-edge structure, with three half edges a face. Side 3f + i
+-- of face f runs from corner i to the next corner of the face.
+use Rattle.std.specs.Prelude.{◌≡◌, ◌≢◌, ℕ, zero, suc, ◌+◌, ◌-◌, ◌*◌, ◌/◌, ◌%◌, ◌<◌, ◌==◌, nat_lt}
+use Rattle.std.specs.Prelude.{Bool, cond, not, ◌&&◌, Option, Some, None, List, length}
+use Rattle.std.specs.Prelude.{slice_index_or, ◌⊎◌}
 use Rattle.pm_base.specs.declared.mesh.Corners.{Corners}
 
--- How many faces there were at first, and the vertex from which each side runs. Merging two vertices changes this one
--- function: a face is there while its three corners are three vertices.
+-- How many faces there were at first, and the vertex from which each side runs. Merging two
+-- vertices changes this one function: a face is there while its three corners are three vertices.
 pub record Net : Type 0 where
   pub faces : ℕ
   pub from : ℕ → ℕ
@@ -43,7 +45,10 @@ beside_side table e = slice_index_or table e None
 
 -- The sides of a list of faces.
 abbrev pub net_of : List Corners → Net
-net_of fs = record { faces = length fs; from = λ e. corner_in (slice_index_or fs (face_of e) no_corners) (e % 3) }
+net_of fs = record {
+  faces = length fs;
+  from = λ e. corner_in (slice_index_or fs (face_of e) no_corners) (e % 3);
+}
 
 -- Side e is one of a face that is there.
 pub record Stands (m : Net) (e : ℕ) : Type 0 where
@@ -54,13 +59,16 @@ pub record Stands (m : Net) (e : ℕ) : Type 0 where
 
 -- The same as a test.
 unfoldable pub stands : Net → ℕ → Bool
-stands m e = nat_lt e (side_count m) && (not (m.from e == to m e) && (not (to m e == third m e) && not (third m e == m.from e)))
+stands m e =
+    nat_lt e (side_count m) &&
+    (not (m.from e == to m e) && (not (to m e == third m e) && not (third m e == m.from e)))
 
 -- No directed side stands twice.
 abbrev pub NoSideTwice : Net → Type 0
 NoSideTwice m = (e g : ℕ) → Stands m e → Stands m g → m.from e ≡ m.from g → to m e ≡ to m g → e ≡ g
 
--- A twin of side e: it joins the same two vertices in the other order. It is a side of another face.
+-- A twin of side e: it joins the same two vertices in the other order. It is a side of another
+-- face.
 pub record IsTwin (m : Net) (e g : ℕ) : Type 0 where
   pub stands : Stands m g
   pub begins : m.from g ≡ to m e

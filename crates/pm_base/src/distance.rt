@@ -37,7 +37,8 @@ fn root_of(n: u64) -> u64
     if root * root < n { root + 1 } else { root }
 }
 
-/// The distance of two points, rounded up: the least whole number whose square is at least the squared distance.
+/// The distance of two points, rounded up: the least whole number whose square is at least the
+/// squared distance.
 pub fn dist_up(p: Point, q: Point) -> u32
     ensures value { result ≡ distance_of p q }
     ensures enough { dist2_of p q ≤ result * result }
@@ -47,19 +48,26 @@ pub fn dist_up(p: Point, q: Point) -> u32
     root_of(dist2(p, q)) as u32
 }
 
-/// A law on distances, which takes no step: where the way from p to q is at most `a` long and that from q to r at most
-/// `b`, both in the measure whose square is m, the way from p to r is at most `a + b` long. It is shorter where one of
-/// the two is. No root is taken.
+/// A law on distances, which takes no step: where the way from p to q is at most `a` long and that
+/// from q to r at most `b`, both in the measure whose square is m, the way from p to r is at most
+/// `a + b` long. It is shorter where one of the two is. No root is taken.
 pub fn distances_add()
-    ensures at_most { (p q r : Place) (a b m : ℕ) → dist2_of p q ≤ a * a * m → dist2_of q r ≤ b * b * m → dist2_of p r ≤ (a + b) * (a + b) * m }
-    ensures first { (p q r : Place) (a b m : ℕ) → dist2_of p q < a * a * m → dist2_of q r ≤ b * b * m → dist2_of p r < (a + b) * (a + b) * m }
-    ensures second { (p q r : Place) (a b m : ℕ) → dist2_of p q ≤ a * a * m → dist2_of q r < b * b * m → dist2_of p r < (a + b) * (a + b) * m }
+    ensures at_most { (p q r : Place) (a b m : ℕ) → dist2_of p q ≤ a * a * m
+        → dist2_of q r ≤ b * b * m → dist2_of p r ≤ (a + b) * (a + b) * m }
+    ensures first { (p q r : Place) (a b m : ℕ) → dist2_of p q < a * a * m
+        → dist2_of q r ≤ b * b * m → dist2_of p r < (a + b) * (a + b) * m }
+    ensures second { (p q r : Place) (a b m : ℕ) → dist2_of p q ≤ a * a * m
+        → dist2_of q r < b * b * m → dist2_of p r < (a + b) * (a + b) * m }
 {}
 
 /// The same law on vectors, and the inequality of Cauchy and Schwarz from which it follows.
 pub fn lengths_add()
-    ensures product { (u v : Direction) → unsigned_abs (dot_of u v) * unsigned_abs (dot_of u v) ≤ norm2_of u * norm2_of v }
-    ensures at_most { (u v : Direction) (a b m : ℕ) → norm2_of u ≤ a * a * m → norm2_of v ≤ b * b * m → norm2_of (plus_of u v) ≤ (a + b) * (a + b) * m }
-    ensures first { (u v : Direction) (a b m : ℕ) → norm2_of u < a * a * m → norm2_of v ≤ b * b * m → norm2_of (plus_of u v) < (a + b) * (a + b) * m }
-    ensures second { (u v : Direction) (a b m : ℕ) → norm2_of u ≤ a * a * m → norm2_of v < b * b * m → norm2_of (plus_of u v) < (a + b) * (a + b) * m }
+    ensures product { (u v : Direction)
+        → unsigned_abs (dot_of u v) * unsigned_abs (dot_of u v) ≤ norm2_of u * norm2_of v }
+    ensures at_most { (u v : Direction) (a b m : ℕ) → norm2_of u ≤ a * a * m
+        → norm2_of v ≤ b * b * m → norm2_of (plus_of u v) ≤ (a + b) * (a + b) * m }
+    ensures first { (u v : Direction) (a b m : ℕ) → norm2_of u < a * a * m → norm2_of v ≤ b * b * m
+        → norm2_of (plus_of u v) < (a + b) * (a + b) * m }
+    ensures second { (u v : Direction) (a b m : ℕ) → norm2_of u ≤ a * a * m → norm2_of v < b * b * m
+        → norm2_of (plus_of u v) < (a + b) * (a + b) * m }
 {}

@@ -1,4 +1,5 @@
-//! The numbers that name parts of a mesh. Each kind has a type of its own, so that none is taken for another.
+//! The numbers that name parts of a mesh. Each kind has a type of its own, so that none is taken
+//! for another.
 ghost use Rattle.std.specs.Prelude.{◌≡◌, ◌+◌, ◌*◌, ◌<◌};
 ghost use Rattle.pm_base.specs.declared.limits.TheConstants.{MOST_FACES, MOST_SIDES};
 ghost use Rattle.pm_base.specs.Sides.{next as next_of, prev as prev_of, face_of};
@@ -11,8 +12,9 @@ pub struct NodeId(pub u32);
 #[derive(Clone, Copy, Debug, PartialEq, Eq, PartialOrd, Ord)]
 pub struct FaceId(pub u32);
 
-/// A side of a face, by its number from 0: side `i` of face `f` runs from corner `i` to the next corner and has the
-/// number `3f + i`. The corner that it runs from has the same number. A mesh has at most `MOST_SIDES`, three a face.
+/// A side of a face, by its number from 0: side `i` of face `f` runs from corner `i` to the next
+/// corner and has the number `3f + i`. The corner that it runs from has the same number. A mesh has
+/// at most `MOST_SIDES`, three a face.
 #[derive(Clone, Copy, Debug, PartialEq, Eq, PartialOrd, Ord)]
 pub struct Side(pub u32);
 

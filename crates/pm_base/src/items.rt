@@ -1,5 +1,6 @@
 //! Lists that grow within room that was taken before.
-ghost use Rattle.std.specs.Prelude.{◌≡◌, ◌+◌, ◌-◌, ◌≤◌, ◌<◌, [], ◌∷◌, ◌++◌, length, OnOk, OnErr, IfOk, slice_index_or};
+ghost use Rattle.std.specs.Prelude.{◌≡◌, ◌+◌, ◌-◌, ◌≤◌, ◌<◌, [], ◌∷◌, ◌++◌, length, OnOk, OnErr};
+ghost use Rattle.std.specs.Prelude.{IfOk, slice_index_or};
 
 use std::alloc::{AllocError, Global};
 use std::marker::Model;
@@ -7,10 +8,11 @@ use std::marker::Model;
 /// The answer for want of memory.
 pub type OutOfMemory = AllocError;
 
-/// A list that can take the memory for items before they come, so that a later step that must not fail can add them.
+/// A list that can take the memory for items before they come, so that a later step that must not
+/// fail can add them.
 ///
-/// Contracts see its items, and beside them `spare`, the number of items for which room is sure. Two lists with the
-/// same items are equal whatever their room is.
+/// Contracts see its items, and beside them `spare`, the number of items for which room is sure.
+/// Two lists with the same items are equal whatever their room is.
 #[derive(Drop)]
 pub struct Items<T> {
     items: Vec<T>,
@@ -40,8 +42,8 @@ impl<T: Copy> Items<T> {
         }
     }
 
-    /// Takes room for at least `n` more items, and keeps the room that is there. Where there is no memory for it, the
-    /// list is as before.
+    /// Takes room for at least `n` more items, and keeps the room that is there. Where there is no
+    /// memory for it, the list is as before.
     pub fn reserve(&mut self, n: usize) -> Result<(), OutOfMemory>
         ensures room { OnOk result (n ≤ self.new.spare) }
         ensures kept { self.old.spare ≤ self.new.spare }
@@ -53,7 +55,8 @@ impl<T: Copy> Items<T> {
         Ok(())
     }
 
-    /// Puts an item last, and takes memory where there is no room. Without memory the list is as before.
+    /// Puts an item last, and takes memory where there is no room. Without memory the list is as
+    /// before.
     pub fn push(&mut self, item: T) -> Result<(), OutOfMemory>
         ensures ok { OnOk result (self.new.items ≡ self.old.items ++ item ∷ []) }
         ensures spare { OnOk result (self.old.spare - 1 ≤ self.new.spare) }

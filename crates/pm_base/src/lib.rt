@@ -1,4 +1,5 @@
-//! What every other crate speaks of: points, meshes, lists with room, and exact whole-number geometry.
+//! What every other crate speaks of: points, meshes, lists with room, and exact whole-number
+//! geometry.
 #![tactic(auto)]
 
 mod distance;

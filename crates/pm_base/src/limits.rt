@@ -9,11 +9,12 @@ pub const MOST_FACES: u32 = 1_048_576;
 /// The most sides of faces: three for each of `MOST_FACES`.
 pub const MOST_SIDES: u32 = 3_145_728;
 
-/// The most nodes of a hierarchy: fewer than two for each of its leaves. A run of collapses names no more vertices.
+/// The most nodes of a hierarchy: fewer than two for each of its leaves. A run of collapses names
+/// no more vertices.
 pub const MOST_NODES: u32 = 2_097_152;
 
-/// The greatest coordinate of a point in absolute value, in units of the grid. With it a quadric's value stays within 128
-/// bits.
+/// The greatest coordinate of a point in absolute value, in units of the grid. With it a quadric's
+/// value stays within 128 bits.
 pub const GREATEST_COORDINATE: u32 = 32_767;
 
 // Clauses and definitions cite the limits by name, so their values are said here.

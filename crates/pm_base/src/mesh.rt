@@ -16,8 +16,9 @@ pub struct Corners {
 /// A list of faces by their corners.
 pub type Triples = Items<Corners>;
 
-/// A triangle mesh: its points, and the corners of its faces. It is well formed where each corner is the number of a
-/// point, the corners of each face differ, and there are at most 1,048,576 points and as many faces.
+/// A triangle mesh: its points, and the corners of its faces. It is well formed where each corner
+/// is the number of a point, the corners of each face differ, and there are at most 1,048,576
+/// points and as many faces.
 #[derive(Drop)]
 pub struct Mesh {
     pub points: Points,

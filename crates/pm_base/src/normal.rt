@@ -98,7 +98,8 @@ fn add_three(a: i128, b: i128, c: i128) -> i128
 pub fn dot(m: Normal, n: Normal) -> i128
     requires m_small { IsNormal (record { x = m.x; y = m.y; z = m.z }) }
     requires n_small { IsNormal (record { x = n.x; y = n.y; z = n.z }) }
-    ensures { result ≡ dot_of (record { x = m.x; y = m.y; z = m.z }) (record { x = n.x; y = n.y; z = n.z }) }
+    ensures { result ≡ dot_of (record { x = m.x; y = m.y; z = m.z })
+        (record { x = n.x; y = n.y; z = n.z }) }
 {
     add_three(wide(m.x, n.x), wide(m.y, n.y), wide(m.z, n.z))
 }

@@ -7,8 +7,8 @@ use std::marker::Model;
 // Stands in a place for no number.
 const NONE: u32 = u32::MAX;
 
-/// A number below 2^32 - 1, or none, in four bytes, where an `Option<u32>` takes eight. Contracts see the number, or
-/// none.
+/// A number below 2^32 - 1, or none, in four bytes, where an `Option<u32>` takes eight. Contracts
+/// see the number, or none.
 #[derive(Clone, Copy)]
 pub struct OptionalNumber {
     number: u32,

@@ -6,7 +6,8 @@ use crate::Items;
 use crate::limits::GREATEST_COORDINATE;
 use std::marker::Model;
 
-/// A point of the whole-number grid. Each coordinate is from -32,767 to 32,767, which the type keeps.
+/// A point of the whole-number grid. Each coordinate is from -32,767 to 32,767, which the type
+/// keeps.
 #[derive(Clone, Copy, Debug, PartialEq, Eq)]
 pub struct Point {
     x: i16,

@@ -1,5 +1,6 @@
 //! Tables from sides to sides.
-ghost use Rattle.std.specs.Prelude.{◌≡◌, ◌<◌, ◌≤◌, None, length, replicate, slice_index_or, slice_set, IfOk, IfSome};
+ghost use Rattle.std.specs.Prelude.{◌≡◌, ◌<◌, ◌≤◌, None, length, replicate, slice_index_or};
+ghost use Rattle.std.specs.Prelude.{slice_set, IfOk, IfSome};
 ghost use Rattle.std.specs.Option.{option_map};
 ghost use Rattle.pm_base.specs.declared.limits.TheConstants.{MOST_SIDES};
 
@@ -7,7 +8,8 @@ use crate::{OptionalNumber, OutOfMemory, Side};
 use std::alloc::Global;
 use std::marker::Model;
 
-/// A side or none in four bytes, where an `Option<Side>` takes eight. Contracts see the number of the side, or none.
+/// A side or none in four bytes, where an `Option<Side>` takes eight. Contracts see the number of
+/// the side, or none.
 #[derive(Clone, Copy)]
 pub struct OptionalSide {
     number: OptionalNumber,
@@ -42,8 +44,8 @@ impl OptionalSide {
     }
 }
 
-/// For each side below a bound another side, or none: four bytes a side. Contracts see a list with the number, or none,
-/// for each.
+/// For each side below a bound another side, or none: four bytes a side. Contracts see a list with
+/// the number, or none, for each.
 #[derive(Drop)]
 pub struct SideMap {
     others: Vec<OptionalSide>,

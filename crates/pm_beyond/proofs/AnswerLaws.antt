@@ -1,6 +1,9 @@
 -- A move has no fault exactly where it is legal, and what blocks a move.
-use Rattle.std.proofs.Common.{◌≡◌, ◌≢◌, ℕ, ◌*◌, ◌<◌, Bool, true, false, cond, not, ◌&&◌, Option, Some, None, List, [], ◌∷◌, ◌⊎◌, inl, inr, refl, sym, ap, ◌∙◌, subst, arith}
-use Rattle.std.proofs.lemmas.Bool.{eqb-true, eq-eqb, cases_Bool, cond-true, cond-false, false≢true, both_ways, and_parts, and_from, not-true, not_from_false}
+use Rattle.std.proofs.Common.{◌≡◌, ◌≢◌, ℕ, ◌*◌, ◌<◌, Bool, true, false, cond, not, ◌&&◌, Option}
+use Rattle.std.proofs.Common.{Some, None, List, [], ◌∷◌, ◌⊎◌, inl, inr, refl, sym, ap, ◌∙◌, subst}
+use Rattle.std.proofs.Common.{arith}
+use Rattle.std.proofs.lemmas.Bool.{eqb-true, eq-eqb, cases_Bool, cond-true, cond-false, false≢true}
+use Rattle.std.proofs.lemmas.Bool.{both_ways, and_parts, and_from, not-true, not_from_false}
 use Rattle.std.proofs.lemmas.Option.{none-some, same_Some}
 use Rattle.pm_base.specs.Sides.{face_of}
 use Rattle.pm_forest.specs.Forest.{Hierarchy, record_at, record_count, s_of, t_of, u_of}
@@ -15,7 +18,9 @@ use Rattle.pm_beyond.specs.declared.moves.MoveFault.{MoveFault}
 use Rattle.pm_beyond.specs.declared.moves.MoveFault.TheVariants as faults
 use Rattle.pm_beyond.specs.Walks.{IsOuter, Beyond, beyond_of, expected}
 use Rattle.pm_beyond.specs.Valid.{IsValid}
-use Rattle.pm_beyond.specs.Moves.{IsClosed, MaySplit, MayCollapse, outer_sides, blocked_by, split_fault, may_try_collapse, same_side, face_beyond, first_other, collapse_fault}
+use Rattle.pm_beyond.specs.Moves.{IsClosed, MaySplit, MayCollapse, outer_sides, blocked_by}
+use Rattle.pm_beyond.specs.Moves.{split_fault, may_try_collapse, same_side, face_beyond}
+use Rattle.pm_beyond.specs.Moves.{first_other, collapse_fault}
 use Rattle.pm_beyond.proofs.Distinct.{In, in-here, in-later, in-nil, in-cases}
 use Rattle.pm_beyond.proofs.Neighbours.{recorded-in, recorded-has}
 use Rattle.pm_beyond.proofs.Found.{beyond-found}
@@ -26,12 +31,14 @@ use Rattle.pm_beyond.proofs.Outer.{outer_sides-outer, outer_sides-has}
 
 -- What a move answers
 
-done_parts : (b : Bool) (r : Option ℕ) → cond b (blocked_by r) (Some faults.NotActive) ≡ None → (b ≡ true) × (r ≡ None)
+done_parts : (b : Bool) (r : Option ℕ) → cond b (blocked_by r) (Some faults.NotActive) ≡ None
+    → (b ≡ true) × (r ≡ None)
 done_parts true None e = (refl, refl)
 done_parts true (Some f) e = absurd cc
 done_parts false r e = absurd cc
 
-done_from : (b : Bool) (r : Option ℕ) → b ≡ true → r ≡ None → cond b (blocked_by r) (Some faults.NotActive) ≡ None
+done_from : (b : Bool) (r : Option ℕ) → b ≡ true → r ≡ None
+    → cond b (blocked_by r) (Some faults.NotActive) ≡ None
 done_from b r e f = cond-true b (blocked_by r) (Some faults.NotActive) e ∙ ap blocked_by f
 
 abbrev blocker : Option MoveFault → ℕ
@@ -39,42 +46,55 @@ blocker None = 0
 blocker (Some faults.NotActive) = 0
 blocker (Some (faults.Blocked g)) = g.0
 
-blocked_parts : (f : ℕ) (b : Bool) (r : Option ℕ) → cond b (blocked_by r) (Some faults.NotActive) ≡ Some (faults.Blocked (record { 0 = f })) → (b ≡ true) × (r ≡ Some f)
+blocked_parts : (f : ℕ) (b : Bool) (r : Option ℕ) → cond b (blocked_by r) (Some faults.NotActive)
+    ≡ Some (faults.Blocked (record { 0 = f })) → (b ≡ true) × (r ≡ Some f)
 blocked_parts f true None e = absurd cc
 blocked_parts f true (Some g) e = (refl, ap (λ r. Some (blocker r)) e)
 blocked_parts f false r e = absurd cc
 
 -- Dropped neighbours
 
-dropped_none : (h : Hierarchy) (T : ℕ → Bool) (xs : List ℕ) → first_dropped h T xs ≡ None → (b : ℕ) → In b xs → is_kept h T (face_of b) ≡ true
+dropped_none : (h : Hierarchy) (T : ℕ → Bool) (xs : List ℕ) → first_dropped h T xs ≡ None → (b : ℕ)
+    → In b xs → is_kept h T (face_of b) ≡ true
 dropped_none h T [] e b i = absurd (in-nil b i)
 dropped_none h T (x ∷ xs) e b i =
     elim (cases_Bool (is_kept h T (face_of x))) [
       | inl k ↦
           elim (in-cases b x xs i) [
             | inl is ↦ ap (λ y. is_kept h T (face_of y)) is ∙ k
-            | inr j ↦ dropped_none h T xs (sym (cond-true _ (first_dropped h T xs) (Some (face_of x)) k) ∙ e) b j
+            | inr j ↦ dropped_none h T xs
+                (sym (cond-true _ (first_dropped h T xs) (Some (face_of x)) k) ∙ e) b j
           ]
-      | inr k ↦ absurd (none-some (face_of x) (sym e ∙ cond-false _ (first_dropped h T xs) (Some (face_of x)) k))
+      | inr k ↦ absurd
+          (none-some (face_of x) (sym e ∙ cond-false _ (first_dropped h T xs) (Some (face_of x)) k))
     ]
 
-none_dropped : (h : Hierarchy) (T : ℕ → Bool) (xs : List ℕ) → ((b : ℕ) → In b xs → is_kept h T (face_of b) ≡ true) → first_dropped h T xs ≡ None
+none_dropped : (h : Hierarchy) (T : ℕ → Bool) (xs : List ℕ)
+    → ((b : ℕ) → In b xs → is_kept h T (face_of b) ≡ true) → first_dropped h T xs ≡ None
 none_dropped h T [] all = refl
-none_dropped h T (x ∷ xs) all = cond-true _ (first_dropped h T xs) (Some (face_of x)) (all x (in-here x xs)) ∙ none_dropped h T xs (λ b i. all b (in-later b x xs i))
+none_dropped h T (x ∷ xs) all =
+    cond-true _ (first_dropped h T xs) (Some (face_of x)) (all x (in-here x xs))
+    ∙ none_dropped h T xs (λ b i. all b (in-later b x xs i))
 
-some_dropped : (h : Hierarchy) (T : ℕ → Bool) (f : ℕ) (xs : List ℕ) → first_dropped h T xs ≡ Some f → (b : ℕ) × In b xs × (face_of b ≡ f) × (is_kept h T f ≡ false)
+some_dropped : (h : Hierarchy) (T : ℕ → Bool) (f : ℕ) (xs : List ℕ) → first_dropped h T xs ≡ Some f
+    → (b : ℕ) × In b xs × (face_of b ≡ f) × (is_kept h T f ≡ false)
 some_dropped h T f [] e = absurd (none-some f e)
 some_dropped h T f (x ∷ xs) e =
     elim (cases_Bool (is_kept h T (face_of x))) [
       | inl k ↦
-          let (b, i, is, d) = some_dropped h T f xs (sym (cond-true _ (first_dropped h T xs) (Some (face_of x)) k) ∙ e) in
+          let (b, i, is, d) =
+          some_dropped h T f xs (sym (cond-true _ (first_dropped h T xs) (Some (face_of x)) k)
+          ∙ e) in
           (b, in-later b x xs i, is, d)
       | inr k ↦
-          let is : face_of x ≡ f = same_Some (face_of x) f (sym (cond-false _ (first_dropped h T xs) (Some (face_of x)) k) ∙ e) in
+          let is : face_of x ≡ f =
+          same_Some (face_of x) f
+          (sym (cond-false _ (first_dropped h T xs) (Some (face_of x)) k) ∙ e) in
           (x, in-here x xs, is, ap (is_kept h T) (sym is) ∙ k)
     ]
 
-module _ (h : Hierarchy) (valid : IsValid h) (T : ℕ → Bool) (closed : IsClosed h T) (k : ℕ) (l : k < record_count h) where
+module _ (h : Hierarchy) (valid : IsValid h) (T : ℕ → Bool) (closed : IsClosed h T) (k : ℕ)
+    (l : k < record_count h) where
   pub split-done : split_fault h T k ≡ None → MaySplit h T k
   unfolding split_fault
   split-done e =
@@ -85,7 +105,8 @@ module _ (h : Hierarchy) (valid : IsValid h) (T : ℕ → Bool) (closed : IsClos
       record {
         active = is_active-true h nodes T (s_of h k) (omega arith) q.0;
         unsplit = not-true (T k) q.1;
-        present = λ s b s_lt outer r. dropped_none h T (neighbours_of (record_at h k)) p.1 b (recorded-in h k s b s_lt outer r);
+        present = λ s b s_lt outer r. dropped_none h T (neighbours_of (record_at h k)) p.1 b
+            (recorded-in h k s b s_lt outer r);
       }
 
   pub split-from : MaySplit h T k → split_fault h T k ≡ None
@@ -93,13 +114,15 @@ module _ (h : Hierarchy) (valid : IsValid h) (T : ℕ → Bool) (closed : IsClos
   split-from may =
       let nodes = shape_of_nodes h valid.shape in
       done_from (may_try h T k) (blocking h T k)
-      (and_from (is_active h T (s_of h k)) (not (T k)) (is_active-from h nodes T (s_of h k) may.active) (not_from_false (T k) may.unsplit))
+      (and_from (is_active h T (s_of h k)) (not (T k))
+      (is_active-from h nodes T (s_of h k) may.active) (not_from_false (T k) may.unsplit))
       (none_dropped h T (neighbours_of (record_at h k)) (λ b i.
       let r = recorded-has h k b l i in
       may.present r.side b r.is_side r.outer r.expects))
 
   -- What blocks a split is the face of a recorded neighbour that isn't kept.
-  pub split-blocked : (f : ℕ) → split_fault h T k ≡ Some (faults.Blocked (record { 0 = f })) → (b : ℕ) × In b (neighbours_of (record_at h k)) × (face_of b ≡ f) × (is_kept h T f ≡ false)
+  pub split-blocked : (f : ℕ) → split_fault h T k ≡ Some (faults.Blocked (record { 0 = f }))
+      → (b : ℕ) × In b (neighbours_of (record_at h k)) × (face_of b ≡ f) × (is_kept h T f ≡ false)
   unfolding split_fault
   split-blocked f e =
       let p = blocked_parts f (may_try h T k) (blocking h T k) e in
@@ -121,62 +144,90 @@ face_at-none : (r : Option ℕ) → face_beyond r ≡ None → r ≡ None
 face_at-none None e = refl
 face_at-none (Some b) e = absurd (none-some (face_of b) (sym e))
 
-face_at-some : (f : ℕ) (r : Option ℕ) → face_beyond r ≡ Some f → (c : ℕ) × (r ≡ Some c) × (face_of c ≡ f)
+face_at-some : (f : ℕ) (r : Option ℕ) → face_beyond r ≡ Some f → (c : ℕ) × (r ≡ Some c)
+    × (face_of c ≡ f)
 face_at-some f None e = absurd (none-some f e)
 face_at-some f (Some c) e = (c, refl, same_Some (face_of c) f e)
 
 -- Beyond side e stands what is expected there, or a side that isn't.
 abbrev MetAt : Hierarchy → (ℕ → Bool) → ℕ → Type 0
-MetAt h T e = (beyond_of h T e ≡ expected h e) ⊎ ((c : ℕ) × (beyond_of h T e ≡ Some c) × (expected h e ≢ Some c))
+MetAt h T e =
+    (beyond_of h T e ≡ expected h e)
+    ⊎ ((c : ℕ) × (beyond_of h T e ≡ Some c) × (expected h e ≢ Some c))
 
-others_none : (h : Hierarchy) (T : ℕ → Bool) (xs : List ℕ) → ((e : ℕ) → In e xs → MetAt h T e) → first_other h T xs ≡ None → (e : ℕ) → In e xs → beyond_of h T e ≡ expected h e
+others_none : (h : Hierarchy) (T : ℕ → Bool) (xs : List ℕ) → ((e : ℕ) → In e xs → MetAt h T e)
+    → first_other h T xs ≡ None → (e : ℕ) → In e xs → beyond_of h T e ≡ expected h e
 others_none h T [] met n e i = absurd (in-nil e i)
 others_none h T (x ∷ xs) met n e i =
     let b = same_side (beyond_of h T x) (expected h x) in
     elim (cases_Bool b) [
       | inl t ↦
           elim (in-cases e x xs i) [
-            | inl is ↦ ap (beyond_of h T) is ∙ same_side-parts (beyond_of h T x) (expected h x) t ∙ ap (expected h) (sym is)
-            | inr j ↦ others_none h T xs (λ g m. met g (in-later g x xs m)) (sym (cond-true b (first_other h T xs) (face_beyond (beyond_of h T x)) t) ∙ n) e j
+            | inl is ↦ ap (beyond_of h T) is ∙ same_side-parts (beyond_of h T x) (expected h x) t
+                ∙ ap (expected h) (sym is)
+            | inr j ↦ others_none h T xs (λ g m. met g (in-later g x xs m))
+                (sym (cond-true b (first_other h T xs) (face_beyond (beyond_of h T x)) t) ∙ n) e j
           ]
       | inr t ↦
-          let nothing = face_at-none (beyond_of h T x) (sym (cond-false b (first_other h T xs) (face_beyond (beyond_of h T x)) t) ∙ n) in
+          let nothing =
+          face_at-none (beyond_of h T x)
+          (sym (cond-false b (first_other h T xs) (face_beyond (beyond_of h T x)) t) ∙ n) in
           elim (met x (in-here x xs)) [
             | inl is ↦ absurd (both_ways _ t (same_side-from (beyond_of h T x) (expected h x) is))
             | inr (c, q, _) ↦ absurd (none-some c (sym nothing ∙ q))
           ]
     ]
 
-none_other : (h : Hierarchy) (T : ℕ → Bool) (xs : List ℕ) → ((e : ℕ) → In e xs → beyond_of h T e ≡ expected h e) → first_other h T xs ≡ None
+none_other : (h : Hierarchy) (T : ℕ → Bool) (xs : List ℕ)
+    → ((e : ℕ) → In e xs → beyond_of h T e ≡ expected h e) → first_other h T xs ≡ None
 none_other h T [] all = refl
 none_other h T (x ∷ xs) all =
-    cond-true _ (first_other h T xs) (face_beyond (beyond_of h T x)) (same_side-from (beyond_of h T x) (expected h x) (all x (in-here x xs)))
+    cond-true _ (first_other h T xs) (face_beyond (beyond_of h T x))
+    (same_side-from (beyond_of h T x) (expected h x) (all x (in-here x xs)))
     ∙ none_other h T xs (λ e i. all e (in-later e x xs i))
 
-some_other : (h : Hierarchy) (T : ℕ → Bool) (f : ℕ) (xs : List ℕ) → first_other h T xs ≡ Some f → (e : ℕ) × (c : ℕ) × In e xs × (beyond_of h T e ≡ Some c) × (face_of c ≡ f) × (beyond_of h T e ≢ expected h e)
+some_other : (h : Hierarchy) (T : ℕ → Bool) (f : ℕ) (xs : List ℕ) → first_other h T xs ≡ Some f
+    → (e : ℕ) × (c : ℕ) × In e xs × (beyond_of h T e ≡ Some c) × (face_of c ≡ f)
+    × (beyond_of h T e ≢ expected h e)
 some_other h T f [] n = absurd (none-some f n)
 some_other h T f (x ∷ xs) n =
     let b = same_side (beyond_of h T x) (expected h x) in
     elim (cases_Bool b) [
       | inl t ↦
-          let (e, c, i, q, is, d) = some_other h T f xs (sym (cond-true b (first_other h T xs) (face_beyond (beyond_of h T x)) t) ∙ n) in
+          let (e, c, i, q, is, d) =
+          some_other h T f xs
+          (sym (cond-true b (first_other h T xs) (face_beyond (beyond_of h T x)) t) ∙ n) in
           (e, c, in-later e x xs i, q, is, d)
       | inr t ↦
-          let (c, q, is) = face_at-some f (beyond_of h T x) (sym (cond-false b (first_other h T xs) (face_beyond (beyond_of h T x)) t) ∙ n) in
-          (x, c, in-here x xs, q, is, λ same. both_ways _ t (same_side-from (beyond_of h T x) (expected h x) same))
+          let (c, q, is) =
+          face_at-some f (beyond_of h T x)
+          (sym (cond-false b (first_other h T xs) (face_beyond (beyond_of h T x)) t) ∙ n) in (
+            x,
+            c,
+            in-here x xs,
+            q,
+            is,
+            λ same. both_ways _ t (same_side-from (beyond_of h T x) (expected h x) same),
+          )
     ]
 
-module _ (h : Hierarchy) (valid : IsValid h) (T : ℕ → Bool) (closed : IsClosed h T) (k : ℕ) (l : k < record_count h) where
-  found : T k ≡ true → (e : ℕ) → e < 3 * face_count h → IsOuter h k e → Beyond h T e (beyond_of h T e)
-  found f e m outer = beyond-found h (forest_of h valid) valid.no_side_twice T (closed-front h T closed) e m (shown_record h T e k outer.0 ∙ f)
+module _ (h : Hierarchy) (valid : IsValid h) (T : ℕ → Bool) (closed : IsClosed h T) (k : ℕ)
+    (l : k < record_count h) where
+  found : T k ≡ true → (e : ℕ) → e < 3 * face_count h → IsOuter h k e
+      → Beyond h T e (beyond_of h T e)
+  found f e m outer =
+      beyond-found h (forest_of h valid) valid.no_side_twice T (closed-front h T closed) e m
+      (shown_record h T e k outer.0 ∙ f)
 
   met_at : T k ≡ true → (e : ℕ) → e < 3 * face_count h → IsOuter h k e → MetAt h T e
   met_at f e m outer =
       elim (cases_Bool (same_side (beyond_of h T e) (expected h e))) [
         | inl t ↦ inl (same_side-parts (beyond_of h T e) (expected h e) t)
         | inr t ↦
-            let other : beyond_of h T e ≢ expected h e = λ q. both_ways _ t (same_side-from (beyond_of h T e) (expected h e) q) in
-            let (c, j, q, r, s, g) = blocked-by_greater h valid T closed k e (beyond_of h T e) l f m outer (found f e m outer) other in
+            let other : beyond_of h T e ≢ expected h e =
+            λ q. both_ways _ t (same_side-from (beyond_of h T e) (expected h e) q) in
+            let (c, j, q, r, s, g) = blocked-by_greater h valid T closed k e (beyond_of h T e) l f m
+            outer (found f e m outer) other in
             inr (c, q, λ is. other (q ∙ sym is))
       ]
 
@@ -192,7 +243,9 @@ module _ (h : Hierarchy) (valid : IsValid h) (T : ℕ → Bool) (closed : IsClos
         t_active = is_active-true h nodes T (t_of h k) (omega arith) r.0;
         u_active = is_active-true h nodes T (u_of h k) (omega arith) r.1;
         as_recorded = λ s m outer.
-            let same = others_none h T (outer_sides h k) (λ g i. let o = outer_sides-outer h k g l i in met_at q.0 g o.1 o.0) p.1 s (outer_sides-has h k s m outer) in
+            let same = others_none h T (outer_sides h k) (λ g i. let o =
+            outer_sides-outer h k g l i in met_at q.0 g o.1 o.0) p.1 s
+            (outer_sides-has h k s m outer) in
             subst (Beyond h T s) same (found q.0 s m outer);
       }
 
@@ -202,19 +255,24 @@ module _ (h : Hierarchy) (valid : IsValid h) (T : ℕ → Bool) (closed : IsClos
       let nodes = shape_of_nodes h valid.shape in
       done_from (may_try_collapse h T k) (first_other h T (outer_sides h k))
       (and_from (T k) (is_active h T (t_of h k) && is_active h T (u_of h k)) may.is_split
-      (and_from (is_active h T (t_of h k)) (is_active h T (u_of h k)) (is_active-from h nodes T (t_of h k) may.t_active) (is_active-from h nodes T (u_of h k) may.u_active)))
+      (and_from (is_active h T (t_of h k)) (is_active h T (u_of h k))
+      (is_active-from h nodes T (t_of h k) may.t_active)
+      (is_active-from h nodes T (u_of h k) may.u_active)))
       (none_other h T (outer_sides h k) (λ s i.
       let outer = outer_sides-outer h k s l i in
-      Beyond-unique h (forest_of h valid) valid.no_side_twice T s (beyond_of h T s) (expected h s) (found may.is_split s outer.1 outer.0) (may.as_recorded s outer.1 outer.0)))
+      Beyond-unique h (forest_of h valid) valid.no_side_twice T s (beyond_of h T s) (expected h s)
+      (found may.is_split s outer.1 outer.0) (may.as_recorded s outer.1 outer.0)))
 
   -- What blocks a collapse is a face of a greater record of the set.
-  pub collapse-blocked : (f : ℕ) → collapse_fault h T k ≡ Some (faults.Blocked (record { 0 = f })) → (j : ℕ) × (revealed_by h f ≡ Some j) × (T j ≡ true) × (k < j)
+  pub collapse-blocked : (f : ℕ) → collapse_fault h T k ≡ Some (faults.Blocked (record { 0 = f }))
+      → (j : ℕ) × (revealed_by h f ≡ Some j) × (T j ≡ true) × (k < j)
   unfolding collapse_fault
   collapse-blocked f e =
       let p = blocked_parts f (may_try_collapse h T k) (first_other h T (outer_sides h k)) e in
       let q = and_parts (T k) (is_active h T (t_of h k) && is_active h T (u_of h k)) p.0 in
       let (s, c, i, b, is, other) = some_other h T f (outer_sides h k) p.1 in
       let outer = outer_sides-outer h k s l i in
-      let (d, j, r, own, t, g) = blocked-by_greater h valid T closed k s (beyond_of h T s) l q.0 outer.1 outer.0 (found q.0 s outer.1 outer.0) other in
+      let (d, j, r, own, t, g) = blocked-by_greater h valid T closed k s (beyond_of h T s) l q.0
+      outer.1 outer.0 (found q.0 s outer.1 outer.0) other in
       let same : d ≡ c = same_Some d c (sym r ∙ b) in
       (j, ap (λ x. revealed_by h x) (sym is) ∙ ap (λ x. record_of h x) (sym same) ∙ own, t, g)

@@ -16,14 +16,18 @@ all_below p (suc n) = p n && all_below p n
 
 -- No other side runs where side e runs.
 abbrev pub alone : Hierarchy → ℕ → Bool
-alone h e = all_below (λ g. cond (eqb (from_leaf h e) (from_leaf h g) && eqb (to_leaf h e) (to_leaf h g)) (eqb e g) true) (3 * face_count h)
+alone h e = all_below
+    (λ g. cond (eqb (from_leaf h e) (from_leaf h g) && eqb (to_leaf h e) (to_leaf h g)) (eqb e g)
+    true) (3 * face_count h)
 
 abbrev pub no_side_twice : Hierarchy → Bool
 no_side_twice h = all_below (alone h) (3 * face_count h)
 
 -- What record k tells of side e is so.
 abbrev pub told_at : Hierarchy → ℕ → ℕ → Bool
-told_at h k e = cond (same_side (record_of h e) (Some k)) (same_side (beyond_of h (below (suc k)) e) (expected h e)) true
+told_at h k e =
+    cond (same_side (record_of h e) (Some k))
+    (same_side (beyond_of h (below (suc k)) e) (expected h e)) true
 
 abbrev pub all_told : Hierarchy → Bool
 all_told h = all_below (λ k. all_below (told_at h k) (3 * face_count h)) (record_count h)

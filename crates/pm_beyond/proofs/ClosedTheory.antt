@@ -6,9 +6,11 @@ use Rattle.pm_forest.specs.Kept.{is_shown}
 use Rattle.pm_beyond.specs.ClosedLaws as law
 use Rattle.pm_beyond.proofs.Found.{beyond-found}
 use Rattle.pm_beyond.proofs.Standing.{forest_of, needs-older, closed-front, may_collapse-from}
-use Rattle.pm_beyond.proofs.Closed.{needed-blocks, blocked-by_greater, four_faces, may_split-closes, may_collapse-closes}
+use Rattle.pm_beyond.proofs.Closed.{needed-blocks, blocked-by_greater, four_faces, may_split-closes}
+use Rattle.pm_beyond.proofs.Closed.{may_collapse-closes}
 use Rattle.pm_beyond.proofs.Outer.{needs-true, needs-from}
-use Rattle.pm_beyond.proofs.AnswerLaws.{split-done, split-from, split-blocked, collapse-done, collapse-from, collapse-blocked}
+use Rattle.pm_beyond.proofs.AnswerLaws.{split-done, split-from, split-blocked, collapse-done}
+use Rattle.pm_beyond.proofs.AnswerLaws.{collapse-from, collapse-blocked}
 
 pub older : law.NeedsAreOlder
 older h shape = (
@@ -21,28 +23,37 @@ older h shape = (
 )
 
 pub needed : law.NeededIsNotCollapsible
-needed h valid T closed k l e = (λ may j m f needs. needed-blocks h valid T closed k j l may m f needs, λ free. may_collapse-from h valid T closed k l e free)
+needed h valid T closed k l e = (
+  λ may j m f needs. needed-blocks h valid T closed k j l may m f needs,
+  λ free. may_collapse-from h valid T closed k l e free,
+)
 
 pub moves : law.LegalMovesKeepSetsClosed
-moves h valid T closed k l = (may_split-closes h valid T closed k l, may_collapse-closes h valid T closed k l)
+moves h valid T closed k l =
+    (may_split-closes h valid T closed k l, may_collapse-closes h valid T closed k l)
 
 pub greater : law.GreaterRecordsBlock
 greater h valid T closed k e l f m outer n =
     let s : is_shown h T e ≡ true = shown_record h T e k outer.0 ∙ f in
-    let found = beyond-found h (forest_of h valid) valid.no_side_twice T (closed-front h T closed) e m s in
+    let found = beyond-found h (forest_of h valid) valid.no_side_twice T (closed-front h T closed) e
+    m s in
     let (c, j, is, r, t, g) = blocked-by_greater h valid T closed k e _ l f m outer found n in
     record { side = c; reveals = j; is_side = is; of_record = r; is_split = t; is_greater = g }
 
 pub four_faces_enough : law.FourFacesAreEnough
-four_faces_enough h valid T closed k o p b l may m outer x q = four_faces h valid T closed k o p b l may m outer x q
+four_faces_enough h valid T closed k o p b l may m outer x q =
+    four_faces h valid T closed k o p b l may m outer x q
 
 pub answers : law.AnswersAreExact
-answers h valid T closed k l =
-    ((split-done h valid T closed k l, split-from h valid T closed k l), (collapse-done h valid T closed k l, collapse-from h valid T closed k l))
+answers h valid T closed k l = (
+  (split-done h valid T closed k l, split-from h valid T closed k l),
+  (collapse-done h valid T closed k l, collapse-from h valid T closed k l),
+)
 
 pub blocking : law.BlockingFacesAreNamed
 blocking h valid T closed k f l = (
-  λ e. let (b, i, is, d) = split-blocked h valid T closed k l f e in record { side = b; recorded = i; of_face = is; dropped = d },
+  λ e. let (b, i, is, d) = split-blocked h valid T closed k l f e in
+      record { side = b; recorded = i; of_face = is; dropped = d },
   collapse-blocked h valid T closed k l f,
 )
 

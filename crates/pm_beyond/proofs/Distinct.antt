@@ -1,5 +1,6 @@
 -- Members of a list of numbers, and lists in which no number stands twice.
-use Rattle.std.proofs.Common.{◌≡◌, ℕ, ◌++◌, eqb, true, false, Bool, List, [], ◌∷◌, ◌⊎◌, inl, inr, refl, sym, subst}
+use Rattle.std.proofs.Common.{◌≡◌, ℕ, ◌++◌, eqb, true, false, Bool, List, [], ◌∷◌, ◌⊎◌, inl, inr}
+use Rattle.std.proofs.Common.{refl, sym, subst}
 use Rattle.std.specs.List.{AllByRecursion, list_any, All}
 use Rattle.std.proofs.lemmas.Bool.{eqb-true, eq-eqb, false≢true, or_cases, or_left, or_right}
 use Rattle.std.proofs.lemmas.List.Elements.{recursion_from_All}
@@ -14,7 +15,12 @@ pub in-later : (q x : ℕ) (xs : List ℕ) → In q xs → In q (x ∷ xs)
 in-later q x xs i = or_right (eqb q x) (list_any (eqb q) xs) i
 
 pub in-cases : (q x : ℕ) (xs : List ℕ) → In q (x ∷ xs) → (q ≡ x) ⊎ In q xs
-in-cases q x xs i = elim (or_cases (eqb q x) (list_any (eqb q) xs) i) [ inl e ↦ inl (eqb-true q x e) | inr e ↦ inr e ]
+in-cases q x xs i =
+    elim (or_cases (eqb q x) (list_any (eqb q) xs) i) [
+      | inl e ↦ inl (eqb-true q x e)
+      | inr e ↦
+          inr e
+    ]
 
 pub in-nil : (q : ℕ) → In q [] → ⊥
 in-nil q i = false≢true i
@@ -42,13 +48,15 @@ in-append_right q (x ∷ xs) ys i = in-later q x (xs ++ ys) (in-append_right q x
 -- What holds of each member of a list holds of one.
 in-rec : (P : ℕ → Type 0) (xs : List ℕ) → AllByRecursion P xs → (q : ℕ) → In q xs → P q
 in-rec P [] a q i = absurd (in-nil q i)
-in-rec P (x ∷ xs) a q i = elim (in-cases q x xs i) [ inl is ↦ subst P (sym is) a.0 | inr j ↦ in-rec P xs a.1 q j ]
+in-rec P (x ∷ xs) a q i =
+    elim (in-cases q x xs i) [ inl is ↦ subst P (sym is) a.0 | inr j ↦ in-rec P xs a.1 q j ]
 
 pub all-in : (P : ℕ → Type 0) (xs : List ℕ) → All P xs → (q : ℕ) → In q xs → P q
 all-in P xs a q i = in-rec P xs (recursion_from_All P xs a) q i
 
 -- A test that some member passes.
-pub any-parts : (p : ℕ → Bool) (xs : List ℕ) → list_any p xs ≡ true → (e : ℕ) × In e xs × (p e ≡ true)
+pub any-parts : (p : ℕ → Bool) (xs : List ℕ) → list_any p xs ≡ true
+    → (e : ℕ) × In e xs × (p e ≡ true)
 any-parts p [] i = absurd (false≢true i)
 any-parts p (x ∷ xs) i =
     elim (or_cases (p x) (list_any p xs) i) [

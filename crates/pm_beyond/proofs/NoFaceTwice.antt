@@ -1,5 +1,6 @@
 -- No walk meets a face twice.
-use Rattle.std.proofs.Common.{◌≡◌, ◌≢◌, ℕ, suc, ◌*◌, ◌<◌, ◌≤◌, eqb, Bool, true, false, Option, Some, length, inl, inr, refl, sym, ap, ◌∙◌, subst, arith}
+use Rattle.std.proofs.Common.{◌≡◌, ◌≢◌, ℕ, suc, ◌*◌, ◌<◌, ◌≤◌, eqb, Bool, true, false, Option, Some}
+use Rattle.std.proofs.Common.{length, inl, inr, refl, sym, ap, ◌∙◌, subst, arith}
 use Rattle.std.specs.List.{IsDistinct, list_any}
 use Rattle.std.proofs.lemmas.Bool.{eqb-true, false≢true, both_ways, or_cases}
 use Rattle.std.proofs.lemmas.Option.{same_Some}
@@ -11,7 +12,8 @@ use Rattle.pm_forest.specs.Faces.{face_count, IsForest}
 use Rattle.pm_forest.specs.Kept.{is_shown}
 use Rattle.pm_forest.proofs.Shown.{shown-apart}
 use Rattle.pm_forest.proofs.OneToOne.{distinct_more, distinct_nil}
-use Rattle.pm_beyond.specs.Walks.{leaf_net, leaf_twin, across, Reaches, here, past, StopsAt, crossed}
+use Rattle.pm_beyond.specs.Walks.{leaf_net, leaf_twin, across, Reaches, here, past, StopsAt}
+use Rattle.pm_beyond.specs.Walks.{crossed}
 use Rattle.pm_beyond.proofs.Twins.{twin-is}
 use Rattle.pm_beyond.proofs.Across.{across_back, across-is_outer, two_outer}
 use Rattle.pm_beyond.proofs.Reaching.{stops_at, back, Beyond-unique}
@@ -19,17 +21,26 @@ use Rattle.pm_beyond.proofs.Carried.{ends-carried}
 
 module _ (h : Hierarchy) (shape : IsForest h) (once : NoSideTwice (leaf_net h)) (T : ℕ → Bool) where
   -- Two walks from one side are equally long.
-  none_crossed : (a : ℕ) (r : Option ℕ) → leaf_twin h a ≡ r → StopsAt h T r → {a' : ℕ} {r' : Option ℕ} → (w : Reaches h T a' r') → a' ≡ a → length (crossed w) ≡ 0
+  none_crossed : (a : ℕ) (r : Option ℕ) → leaf_twin h a ≡ r → StopsAt h T r
+      → {a' : ℕ} {r' : Option ℕ} → (w : Reaches h T a' r') → a' ≡ a → length (crossed w) ≡ 0
   none_crossed a r t s (here t') q = refl
-  none_crossed a r t s (past {c = c} t' d' x' v) q = absurd (both_ways _ d' (stops_at h shape once T r c s (sym t ∙ ap (leaf_twin h) (sym q) ∙ t')))
+  none_crossed a r t s (past {c = c} t' d' x' v) q =
+      absurd (both_ways _ d'
+      (stops_at h shape once T r c s (sym t ∙ ap (leaf_twin h) (sym q) ∙ t')))
 
-  one_crossed : (a c o : ℕ) → leaf_twin h a ≡ Some c → is_shown h T c ≡ false → across h c ≡ Some o → {a' : ℕ} {r' : Option ℕ} → (w : Reaches h T a' r') → a' ≡ a → StopsAt h T r' → (o' : ℕ) × (v : Reaches h T o' r') × (o' ≡ o) × (length (crossed w) ≡ suc (length (crossed v)))
-  one_crossed a c o t d x (here {r = r'} t') q s' = absurd (both_ways _ d (stops_at h shape once T r' c s' (sym t' ∙ ap (leaf_twin h) q ∙ t)))
+  one_crossed : (a c o : ℕ) → leaf_twin h a ≡ Some c → is_shown h T c ≡ false → across h c ≡ Some o
+      → {a' : ℕ} {r' : Option ℕ} → (w : Reaches h T a' r') → a' ≡ a → StopsAt h T r'
+      → (o' : ℕ) × (v : Reaches h T o' r') × (o' ≡ o)
+      × (length (crossed w) ≡ suc (length (crossed v)))
+  one_crossed a c o t d x (here {r = r'} t') q s' =
+      absurd (both_ways _ d (stops_at h shape once T r' c s' (sym t' ∙ ap (leaf_twin h) q ∙ t)))
   one_crossed a c o t d x (past {c = c'} {o = o'} {r = r'} t' d' x' v) q s' =
       let same_c : c' ≡ c = same_Some c' c (sym t' ∙ ap (leaf_twin h) q ∙ t) in
       (o', v, same_Some o' o (sym x' ∙ ap (across h) same_c ∙ x), refl)
 
-  same_length : {a : ℕ} {r : Option ℕ} (w : Reaches h T a r) → StopsAt h T r → {a' : ℕ} {r' : Option ℕ} → (w' : Reaches h T a' r') → a' ≡ a → StopsAt h T r' → length (crossed w') ≡ length (crossed w)
+  same_length : {a : ℕ} {r : Option ℕ} (w : Reaches h T a r) → StopsAt h T r
+      → {a' : ℕ} {r' : Option ℕ} → (w' : Reaches h T a' r') → a' ≡ a → StopsAt h T r'
+      → length (crossed w') ≡ length (crossed w)
   same_length (here {a = a} {r = r} t) s w' q s' = none_crossed a r t s w' q
   same_length (past {a = a} {c = c} {o = o} t d x w) s w' q s' =
       let (o', v, is, l) = one_crossed a c o t d x w' q s' in
@@ -37,7 +48,8 @@ module _ (h : Hierarchy) (shape : IsForest h) (once : NoSideTwice (leaf_net h)) 
 
   -- Where a walk meets a face, it goes on from there, for fewer faces.
   meets : {a : ℕ} {r : Option ℕ} (g : ℕ) (w : Reaches h T a r) → list_any (eqb g) (crossed w) ≡ true
-      → (c : ℕ) × (o : ℕ) × (face_of c ≡ g) × (across h c ≡ Some o) × (v : Reaches h T o r) × (length (crossed v) < length (crossed w))
+      → (c : ℕ) × (o : ℕ) × (face_of c ≡ g) × (across h c ≡ Some o) × (v : Reaches h T o r)
+      × (length (crossed v) < length (crossed w))
   meets g (here t) m = absurd (false≢true m)
   meets g (past {c = c} {o = o} t d x w) m =
       elim (or_cases (eqb g (face_of c)) (list_any (eqb g) (crossed w)) m) [
@@ -46,7 +58,9 @@ module _ (h : Hierarchy) (shape : IsForest h) (once : NoSideTwice (leaf_net h)) 
       ]
 
   module _ (a : ℕ) (a_lt : a < 3 * face_count h) (a_shown : is_shown h T a ≡ true) where
-    distinct_from : {x : ℕ} {r : Option ℕ} (w : Reaches h T x r) → ((s : Option ℕ) → Reaches h T x s → Reaches h T a s) → r ≢ Some a → StopsAt h T r → IsDistinct eqb (crossed w)
+    distinct_from : {x : ℕ} {r : Option ℕ} (w : Reaches h T x r)
+        → ((s : Option ℕ) → Reaches h T x s → Reaches h T a s) → r ≢ Some a → StopsAt h T r
+        → IsDistinct eqb (crossed w)
     distinct_from (here t) go n s = distinct_nil
     distinct_from (past {c = c} {o = o} {r = r} t d x w) go n s =
         distinct_more (face_of c) (crossed w)
@@ -60,13 +74,16 @@ module _ (h : Hierarchy) (shape : IsForest h) (once : NoSideTwice (leaf_net h)) 
               let e = same_length w s v same_o s in
               omega arith
           | inr is ↦
-              let same_o : o' ≡ c = same_Some o' c (sym y ∙ ap (across h) is ∙ across_back h c o x) in
+              let same_o : o' ≡ c =
+              same_Some o' c (sym y ∙ ap (across h) is ∙ across_back h c o x) in
               let on = subst (λ p. Reaches h T p r) same_o v in
               let home = back h shape once T c a_lt (go (Some c) (here t)) refl in
-              n (Beyond-unique h shape once T c r (Some a) (record { reaches = on; stops = s }) (record { reaches = home; stops = a_shown }))
+              n (Beyond-unique h shape once T c r (Some a) (record { reaches = on; stops = s })
+              (record { reaches = home; stops = a_shown }))
         ])
 
-pub crossed-lt : (h : Hierarchy) (T : ℕ → Bool) {a : ℕ} {r : Option ℕ} (w : Reaches h T a r) (q : ℕ) → list_any (eqb q) (crossed w) ≡ true → q < face_count h
+pub crossed-lt : (h : Hierarchy) (T : ℕ → Bool) {a : ℕ} {r : Option ℕ} (w : Reaches h T a r) (q : ℕ)
+    → list_any (eqb q) (crossed w) ≡ true → q < face_count h
 crossed-lt h T (here t) q m = absurd (false≢true m)
 crossed-lt h T (past {a = a} {c = c} t d x w) q m =
     elim (or_cases (eqb q (face_of c)) (list_any (eqb q) (crossed w)) m) [
@@ -74,11 +91,17 @@ crossed-lt h T (past {a = a} {c = c} t d x w) q m =
       | inr e ↦ crossed-lt h T w q e
     ]
 
-pub no_face_twice : (h : Hierarchy) → IsForest h → NoSideTwice (leaf_net h) → (T : ℕ → Bool) → IsFront h T → (a : ℕ) (r : Option ℕ) → a < 3 * face_count h → is_shown h T a ≡ true → (w : Reaches h T a r) → StopsAt h T r → IsDistinct eqb (crossed w)
+pub no_face_twice : (h : Hierarchy) → IsForest h → NoSideTwice (leaf_net h) → (T : ℕ → Bool)
+    → IsFront h T → (a : ℕ) (r : Option ℕ) → a < 3 * face_count h → is_shown h T a ≡ true
+    → (w : Reaches h T a r) → StopsAt h T r → IsDistinct eqb (crossed w)
 no_face_twice h shape once T front a r l s w stops =
-    let not_self : r ≢ Some a = λ q. let e = ends-carried h shape T a w q in shown-apart h shape T front a l s e.0 in
+    let not_self : r ≢ Some a = λ q. let e =
+    ends-carried h shape T a w q in shown-apart h shape T front a l s e.0 in
     distinct_from h shape once T a l s w (λ _ v. v) not_self stops
 
-pub at_most_all_faces : (h : Hierarchy) → IsForest h → NoSideTwice (leaf_net h) → (T : ℕ → Bool) → IsFront h T → (a : ℕ) (r : Option ℕ) → a < 3 * face_count h → is_shown h T a ≡ true → (w : Reaches h T a r) → StopsAt h T r → length (crossed w) ≤ face_count h
+pub at_most_all_faces : (h : Hierarchy) → IsForest h → NoSideTwice (leaf_net h) → (T : ℕ → Bool)
+    → IsFront h T → (a : ℕ) (r : Option ℕ) → a < 3 * face_count h → is_shown h T a ≡ true
+    → (w : Reaches h T a r) → StopsAt h T r → length (crossed w) ≤ face_count h
 at_most_all_faces h shape once T front a r l s w stops =
-    length-le_from_distinct_below (crossed w) (face_count h) (no_face_twice h shape once T front a r l s w stops) (crossed-lt h T w)
+    length-le_from_distinct_below (crossed w) (face_count h)
+    (no_face_twice h shape once T front a r l s w stops) (crossed-lt h T w)

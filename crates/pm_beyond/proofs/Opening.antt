@@ -1,5 +1,6 @@
 -- A hierarchy is judged from the last record down.
-use Rattle.std.proofs.Common.{◌≡◌, ◌≢◌, ℕ, zero, suc, ◌*◌, ◌<◌, ◌≤◌, Some, ◌⊎◌, inl, inr, sym, ◌∙◌, subst, arith}
+use Rattle.std.proofs.Common.{◌≡◌, ◌≢◌, ℕ, zero, suc, ◌*◌, ◌<◌, ◌≤◌, Some, ◌⊎◌, inl, inr, sym, ◌∙◌}
+use Rattle.std.proofs.Common.{subst, arith}
 use Rattle.std.proofs.lemmas.Bool.{cases_Bool, cases_eq, cases_lt, lt-ltb, both_ways}
 use Rattle.pm_base.specs.Sides.{face_of, NoSideTwice}
 use Rattle.pm_base.proofs.Search.{Decided, search_below}
@@ -19,18 +20,28 @@ use Rattle.pm_beyond.proofs.Found.{beyond-found}
 use Rattle.pm_beyond.proofs.AnswerLaws.{same_side-parts, same_side-from}
 
 module _ (h : Hierarchy) (shape : HasShape h) (once : NoSideTwice (leaf_net h)) where
-  -- Just when record k is the last one split, its own sides are shown, so what stands beyond them is found.
-  found : (k e : ℕ) → e < 3 * face_count h → record_of h e ≡ Some k → Beyond h (below (suc k)) e (beyond_of h (below (suc k)) e)
+  -- Just when record k is the last one split, its own sides are shown, so what stands beyond them
+  -- is found.
+  found : (k e : ℕ) → e < 3 * face_count h → record_of h e ≡ Some k
+      → Beyond h (below (suc k)) e (beyond_of h (below (suc k)) e)
   found k e l own =
-      beyond-found h (shape_is_forest h shape) once (below (suc k)) (below-front h (shape_of_nodes h shape) (suc k)) e l
+      beyond-found h (shape_is_forest h shape) once (below (suc k))
+      (below-front h (shape_of_nodes h shape) (suc k)) e l
       (shown_record h (below (suc k)) e k own ∙ lt-ltb k (suc k) (omega arith))
 
-  told-found : (k e : ℕ) → IsAsTold h k → e < 3 * face_count h → record_of h e ≡ Some k → beyond_of h (below (suc k)) e ≡ expected h e
+  told-found : (k e : ℕ) → IsAsTold h k → e < 3 * face_count h → record_of h e ≡ Some k
+      → beyond_of h (below (suc k)) e ≡ expected h e
   told-found k e told l own =
       Beyond-unique h (shape_is_forest h shape) once (below (suc k)) e _ _ (found k e l own)
-      (elim (cases_eq e (inner_of h k (face_of e))) [ inl is ↦ told.1 e l (own, is) | inr other ↦ told.0 e l (own, other) ])
+      (elim (cases_eq e (inner_of h k (face_of e))) [
+        | inl is ↦ told.1 e l (own, is)
+        | inr other ↦
+            told.0 e l (own, other)
+      ])
 
-  pub found-told : (k : ℕ) → ((e : ℕ) → e < 3 * face_count h → record_of h e ≡ Some k → beyond_of h (below (suc k)) e ≡ expected h e) → IsAsTold h k
+  pub found-told : (k : ℕ)
+      → ((e : ℕ) → e < 3 * face_count h → record_of h e ≡ Some k
+      → beyond_of h (below (suc k)) e ≡ expected h e) → IsAsTold h k
   found-told k all = (
     λ e l outer. subst (Beyond h (below (suc k)) e) (all e l outer.0) (found k e l outer.0),
     λ e l inner. subst (Beyond h (below (suc k)) e) (all e l inner.0) (found k e l inner.0),
@@ -48,7 +59,10 @@ module _ (h : Hierarchy) (shape : HasShape h) (once : NoSideTwice (leaf_net h)) 
         | inl own ↦
             elim (cases_Bool (same_side b (expected h e))) [
               | inl t ↦ inr (λ d. d.1 (same_side-parts b (expected h e) t))
-              | inr t ↦ inl (same_side-parts (record_of h e) (Some k) own, λ is. both_ways _ t (same_side-from b (expected h e) is))
+              | inr t ↦ inl (
+                same_side-parts (record_of h e) (Some k) own,
+                λ is. both_ways _ t (same_side-from b (expected h e) is),
+              )
             ]
       ]
 
@@ -61,25 +75,36 @@ module _ (h : Hierarchy) (shape : HasShape h) (once : NoSideTwice (leaf_net h)) 
             let b = beyond_of h (below (suc k)) e in
             elim (cases_Bool (same_side b (expected h e))) [
               | inl t ↦ same_side-parts b (expected h e) t
-              | inr t ↦ absurd (none e l (own, λ is. both_ways _ t (same_side-from b (expected h e) is)))
+              | inr t ↦ absurd
+                  (none e l (own, λ is. both_ways _ t (same_side-from b (expected h e) is)))
             ]))
       ]
 
   abbrev ToldFrom : ℕ → Type 0
   ToldFrom n = (j : ℕ) → n ≤ j → j < record_count h → IsAsTold h j
 
-  last_to_fail : (n : ℕ) → n ≤ record_count h → ToldFrom n → ToldFrom 0 ⊎ ((k : ℕ) × IsLastToFail h k)
+  last_to_fail : (n : ℕ) → n ≤ record_count h → ToldFrom n
+      → ToldFrom 0 ⊎ ((k : ℕ) × IsLastToFail h k)
   last_to_fail zero l told = inl told
   last_to_fail (suc n) l told =
       elim (told? n) [
         | inr fails ↦ inr (n, record { is_record = l; fails = fails; later = λ j a b. told j a b })
         | inl here ↦
             last_to_fail n (omega arith)
-            (λ j a b. elim (cases_eq j n) [ inl is ↦ subst (IsAsTold h) (sym is) here | inr other ↦ told j (omega arith) b ])
+            (λ j a b. elim (cases_eq j n) [
+              | inl is ↦ subst (IsAsTold h) (sym is) here
+              | inr other ↦
+                  told j (omega arith) b
+            ])
       ]
 
   pub valid-from_told : ((k : ℕ) → k < record_count h → IsAsTold h k) → IsValid h
-  valid-from_told told = record { shape = shape; no_side_twice = once; outer = λ k l. (told k l).0; inner = λ k l. (told k l).1 }
+  valid-from_told told = record {
+    shape = shape;
+    no_side_twice = once;
+    outer = λ k l. (told k l).0;
+    inner = λ k l. (told k l).1;
+  }
 
   valid_or_fails : IsValid h ⊎ ((k : ℕ) × IsLastToFail h k)
   valid_or_fails =
@@ -89,10 +114,12 @@ module _ (h : Hierarchy) (shape : HasShape h) (once : NoSideTwice (leaf_net h)) 
       ]
 
 pub told_found : law.ToldIsFound
-told_found h shape once k l = (λ told e m own. told-found h shape once k e told m own, found-told h shape once k)
+told_found h shape once k l =
+    (λ told e m own. told-found h shape once k e told m own, found-told h shape once k)
 
 pub told_valid : law.ValidWhereTold
-told_valid h shape once = (λ valid k l. (valid.outer k l, valid.inner k l), valid-from_told h shape once)
+told_valid h shape once =
+    (λ valid k l. (valid.outer k l, valid.inner k l), valid-from_told h shape once)
 
 pub one_fails : law.ValidOrOneFails
 one_fails h shape once = (
@@ -102,7 +129,11 @@ one_fails h shape once = (
     λ other.
         elim (cases_lt j k) [
           | inl a ↦ absurd (other.fails (last.later k a other.is_record))
-          | inr a ↦ elim (cases_eq j k) [ inl is ↦ is | inr n ↦ absurd (last.fails (other.later j (omega arith) last.is_record)) ]
+          | inr a ↦ elim (cases_eq j k) [
+            | inl is ↦ is
+            | inr n ↦
+                absurd (last.fails (other.later j (omega arith) last.is_record))
+          ]
         ],
   ),
 )

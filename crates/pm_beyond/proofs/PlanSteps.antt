@@ -1,11 +1,16 @@
 -- After its first move a plan is the rest of itself.
-use Rattle.std.proofs.Common.{◌≡◌, ◌≢◌, ℕ, zero, suc, ◌<◌, Bool, true, false, not, List, [], ◌∷◌, ◌++◌, drop, take, ◌⊎◌, inl, inr, refl, sym, ap, ◌∙◌, subst, arith}
-use Rattle.std.proofs.lemmas.Bool.{cases_Bool, cases_eq, and_left, and_right, not_from_true, cond-true, cond-false, eq-eqb, ne_eqb}
+use Rattle.std.proofs.Common.{◌≡◌, ◌≢◌, ℕ, zero, suc, ◌<◌, Bool, true, false, not, List, [], ◌∷◌}
+use Rattle.std.proofs.Common.{◌++◌, drop, take, ◌⊎◌, inl, inr, refl, sym, ap, ◌∙◌, subst, arith}
+use Rattle.std.proofs.lemmas.Bool.{cases_Bool, cases_eq, and_left, and_right, not_from_true}
+use Rattle.std.proofs.lemmas.Bool.{cond-true, cond-false, eq-eqb, ne_eqb}
 use Rattle.pm_forest.specs.Forest.{Hierarchy, record_count}
 use Rattle.pm_forest.specs.Fronts.{with, without}
 use Rattle.pm_forest.proofs.OneStep.{with-same}
-use Rattle.pm_beyond.specs.Plans.{Move, Split, Collapse, moved, moved_by, ascending, descending, less, plan}
-use Rattle.pm_beyond.proofs.PlanLists.{ascending-zero, ascending-true, ascending-false, descending-zero, descending-true, descending-false, less-parts}
+use Rattle.pm_beyond.specs.Plans.{Move, Split, Collapse, moved, moved_by, ascending, descending}
+use Rattle.pm_beyond.specs.Plans.{less, plan}
+use Rattle.pm_beyond.proofs.PlanLists.{ascending-zero, ascending-true, ascending-false}
+use Rattle.pm_beyond.proofs.PlanLists.{descending-zero, descending-true, descending-false}
+use Rattle.pm_beyond.proofs.PlanLists.{less-parts}
 
 with-other : (T : ℕ → Bool) (k j : ℕ) → j ≢ k → with T k j ≡ T j
 with-other T k j n = cond-false _ true (T j) (ne_eqb j k n)
@@ -18,28 +23,35 @@ without-other T k j n = cond-false _ false (T j) (ne_eqb j k n)
 
 -- Tests that are the same below n have the same moves.
 module _ (make : ℕ → Move) (p q : ℕ → Bool) where
-  pub ascending-same : (n : ℕ) → ((j : ℕ) → j < n → p j ≡ q j) → ascending make p n ≡ ascending make q n
+  pub ascending-same : (n : ℕ) → ((j : ℕ) → j < n → p j ≡ q j)
+      → ascending make p n ≡ ascending make q n
   ascending-same zero same = ascending-zero make p ∙ sym (ascending-zero make q)
   ascending-same (suc n) same =
       let before = ascending-same n (λ j l. same j (omega arith)) in
       let here = same n (omega arith) in
       elim (cases_Bool (p n)) [
-        | inl t ↦ ascending-true make p n t ∙ ap (λ ms. ms ++ make n ∷ []) before ∙ sym (ascending-true make q n (sym here ∙ t))
-        | inr t ↦ ascending-false make p n t ∙ before ∙ sym (ascending-false make q n (sym here ∙ t))
+        | inl t ↦ ascending-true make p n t ∙ ap (λ ms. ms ++ make n ∷ []) before
+            ∙ sym (ascending-true make q n (sym here ∙ t))
+        | inr t ↦ ascending-false make p n t ∙ before
+            ∙ sym (ascending-false make q n (sym here ∙ t))
       ]
 
-  pub descending-same : (n : ℕ) → ((j : ℕ) → j < n → p j ≡ q j) → descending make p n ≡ descending make q n
+  pub descending-same : (n : ℕ) → ((j : ℕ) → j < n → p j ≡ q j)
+      → descending make p n ≡ descending make q n
   descending-same zero same = descending-zero make p ∙ sym (descending-zero make q)
   descending-same (suc n) same =
       let before = descending-same n (λ j l. same j (omega arith)) in
       let here = same n (omega arith) in
       elim (cases_Bool (p n)) [
-        | inl t ↦ descending-true make p n t ∙ ap (λ ms. make n ∷ ms) before ∙ sym (descending-true make q n (sym here ∙ t))
-        | inr t ↦ descending-false make p n t ∙ before ∙ sym (descending-false make q n (sym here ∙ t))
+        | inl t ↦ descending-true make p n t ∙ ap (λ ms. make n ∷ ms) before
+            ∙ sym (descending-true make q n (sym here ∙ t))
+        | inr t ↦ descending-false make p n t ∙ before
+            ∙ sym (descending-false make q n (sym here ∙ t))
       ]
 
 -- The number of the first move, and the moves without it.
-record IsFirst (part : (ℕ → Bool) → ℕ → List Move) (make : ℕ → Move) (p : ℕ → Bool) (n : ℕ) (m : Move) (ms : List Move) : Type 0 where
+record IsFirst (part : (ℕ → Bool) → ℕ → List Move) (make : ℕ → Move) (p : ℕ → Bool) (n : ℕ)
+    (m : Move) (ms : List Move) : Type 0 where
   number : ℕ
   low : number < n
   passes : p number ≡ true
@@ -65,7 +77,8 @@ nil_cons : {m : Move} {ms : List Move} → [] ≡ m ∷ ms → ⊥
 nil_cons e = cc
 
 module _ (make : ℕ → Move) (p : ℕ → Bool) where
-  first_ascending : (n : ℕ) (m : Move) (ms : List Move) → ascending make p n ≡ m ∷ ms → IsFirst (ascending make) make p n m ms
+  first_ascending : (n : ℕ) (m : Move) (ms : List Move) → ascending make p n ≡ m ∷ ms
+      → IsFirst (ascending make) make p n m ms
   first_ascending zero m ms e = absurd (nil_cons (sym (ascending-zero make p) ∙ e))
   first_ascending (suc n) m ms e =
       elim (cases_Bool (p n)) [
@@ -78,10 +91,12 @@ module _ (make : ℕ → Move) (p : ℕ → Bool) where
               low = omega arith;
               passes = r.passes;
               move = r.move;
-              others = ascending-false make (without p r.number) n (without-other p r.number n other ∙ t) ∙ r.others;
+              others = ascending-false make (without p r.number) n (without-other p r.number n other
+                  ∙ t) ∙ r.others;
             }
         | inl t ↦
-            let all : ascending make p n ++ make n ∷ [] ≡ m ∷ ms = sym (ascending-true make p n t) ∙ e in
+            let all : ascending make p n ++ make n ∷ [] ≡ m ∷ ms =
+            sym (ascending-true make p n t) ∙ e in
             elim (list_cases (ascending make p n)) [
               | inl none ↦
                   let one : make n ∷ [] ≡ m ∷ ms = ap (λ xs. xs ++ make n ∷ []) (sym none) ∙ all in
@@ -92,12 +107,14 @@ module _ (make : ℕ → Move) (p : ℕ → Bool) where
                     move = ap (head m) (sym one);
                     others =
                         ascending-false make (without p n) n (without-same p n)
-                        ∙ ascending-same make (without p n) p n (λ j l. without-other p n j (omega arith))
+                        ∙ ascending-same make (without p n) p n
+                        (λ j l. without-other p n j (omega arith))
                         ∙ none
                         ∙ ap tail one;
                   }
               | inr (x, xs, is) ↦
-                  let both : x ∷ (xs ++ make n ∷ []) ≡ m ∷ ms = ap (λ ys. ys ++ make n ∷ []) (sym is) ∙ all in
+                  let both : x ∷ (xs ++ make n ∷ []) ≡ m ∷ ms =
+                  ap (λ ys. ys ++ make n ∷ []) (sym is) ∙ all in
                   let r = first_ascending n x xs is in
                   let low = r.low in
                   let other : n ≢ r.number = omega arith in
@@ -107,14 +124,16 @@ module _ (make : ℕ → Move) (p : ℕ → Bool) where
                     passes = r.passes;
                     move = ap (head m) (sym both) ∙ r.move;
                     others =
-                        ascending-true make (without p r.number) n (without-other p r.number n other ∙ t)
+                        ascending-true make (without p r.number) n (without-other p r.number n other
+                        ∙ t)
                         ∙ ap (λ ys. ys ++ make n ∷ []) r.others
                         ∙ ap tail both;
                   }
             ]
       ]
 
-  first_descending : (n : ℕ) (m : Move) (ms : List Move) → descending make p n ≡ m ∷ ms → IsFirst (descending make) make p n m ms
+  first_descending : (n : ℕ) (m : Move) (ms : List Move) → descending make p n ≡ m ∷ ms
+      → IsFirst (descending make) make p n m ms
   first_descending zero m ms e = absurd (nil_cons (sym (descending-zero make p) ∙ e))
   first_descending (suc n) m ms e =
       elim (cases_Bool (p n)) [
@@ -127,10 +146,12 @@ module _ (make : ℕ → Move) (p : ℕ → Bool) where
               low = omega arith;
               passes = r.passes;
               move = r.move;
-              others = descending-false make (without p r.number) n (without-other p r.number n other ∙ t) ∙ r.others;
+              others = descending-false make (without p r.number) n
+                  (without-other p r.number n other ∙ t) ∙ r.others;
             }
         | inl t ↦
-            let all : make n ∷ descending make p n ≡ m ∷ ms = sym (descending-true make p n t) ∙ e in
+            let all : make n ∷ descending make p n ≡ m ∷ ms =
+            sym (descending-true make p n t) ∙ e in
             record {
               number = n;
               low = omega arith;
@@ -138,7 +159,8 @@ module _ (make : ℕ → Move) (p : ℕ → Bool) where
               move = ap (head m) (sym all);
               others =
                   descending-false make (without p n) n (without-same p n)
-                  ∙ descending-same make (without p n) p n (λ j l. without-other p n j (omega arith))
+                  ∙ descending-same make (without p n) p n
+                  (λ j l. without-other p n j (omega arith))
                   ∙ ap tail all;
             }
       ]
@@ -148,7 +170,9 @@ module _ (S G : ℕ → Bool) (k : ℕ) where
   split_less : (j : ℕ) → less G (with S k) j ≡ without (less G S) k j
   split_less j =
       elim (cases_eq j k) [
-        | inl is ↦ subst (λ i. less G (with S k) i ≡ without (less G S) k i) (sym is) (and_right (G k) (not (with S k k)) (not_from_true (with S k k) (with-same S k)) ∙ sym (without-same (less G S) k))
+        | inl is ↦ subst (λ i. less G (with S k) i ≡ without (less G S) k i) (sym is)
+            (and_right (G k) (not (with S k k)) (not_from_true (with S k k) (with-same S k))
+            ∙ sym (without-same (less G S) k))
         | inr n ↦ (rw (with-other S k j n) (sym (without-other (less G S) k j n)))
       ]
 
@@ -156,7 +180,10 @@ module _ (S G : ℕ → Bool) (k : ℕ) where
   split_more g j =
       elim (cases_eq j k) [
         | inl is ↦
-            let here : (T : ℕ → Bool) → less T G j ≡ false = λ T. and_right (T j) (not (G j)) (not_from_true (G j) (subst (λ i. G i ≡ true) (sym is) g)) in
+            let here : (T : ℕ → Bool)
+            → less T G j ≡ false =
+            λ T. and_right (T j) (not (G j))
+            (not_from_true (G j) (subst (λ i. G i ≡ true) (sym is) g)) in
             here (with S k) ∙ sym (here S)
         | inr n ↦ (rw (with-other S k j n) refl)
       ]
@@ -164,7 +191,9 @@ module _ (S G : ℕ → Bool) (k : ℕ) where
   collapse_less : (j : ℕ) → less (without S k) G j ≡ without (less S G) k j
   collapse_less j =
       elim (cases_eq j k) [
-        | inl is ↦ subst (λ i. less (without S k) G i ≡ without (less S G) k i) (sym is) (and_left (without S k k) (not (G k)) (without-same S k) ∙ sym (without-same (less S G) k))
+        | inl is ↦ subst (λ i. less (without S k) G i ≡ without (less S G) k i) (sym is)
+            (and_left (without S k k) (not (G k)) (without-same S k)
+            ∙ sym (without-same (less S G) k))
         | inr n ↦ (rw (without-other S k j n) (sym (without-other (less S G) k j n)))
       ]
 
@@ -172,28 +201,37 @@ module _ (S G : ℕ → Bool) (k : ℕ) where
   collapse_more g j =
       elim (cases_eq j k) [
         | inl is ↦
-            let here : (T : ℕ → Bool) → less G T j ≡ false = λ T. and_left (G j) (not (T j)) (subst (λ i. G i ≡ false) (sym is) g) in
+            let here : (T : ℕ → Bool)
+            → less G T j ≡ false =
+            λ T. and_left (G j) (not (T j)) (subst (λ i. G i ≡ false) (sym is) g) in
             here (without S k) ∙ sym (here S)
         | inr n ↦ (rw (without-other S k j n) refl)
       ]
 
-plan-splits : (h : Hierarchy) (S G : ℕ → Bool) (up : List Move) → ascending Split (less G S) (record_count h) ≡ up → plan h S G ≡ up ++ descending Collapse (less S G) (record_count h)
+plan-splits : (h : Hierarchy) (S G : ℕ → Bool) (up : List Move)
+    → ascending Split (less G S) (record_count h) ≡ up
+    → plan h S G ≡ up ++ descending Collapse (less S G) (record_count h)
 unfolding plan
 plan-splits h S G up e = ap (λ xs. xs ++ descending Collapse (less S G) (record_count h)) e
 
 -- The plan from the set after its first move is the rest.
-pub plan-rest : (h : Hierarchy) (S G : ℕ → Bool) (m : Move) (ms : List Move) → plan h S G ≡ m ∷ ms → plan h (moved S m) G ≡ ms
+pub plan-rest : (h : Hierarchy) (S G : ℕ → Bool) (m : Move) (ms : List Move) → plan h S G ≡ m ∷ ms
+    → plan h (moved S m) G ≡ ms
 plan-rest h S G m ms e =
     let n = record_count h in
     let down = descending Collapse (less S G) n in
     elim (list_cases (ascending Split (less G S) n)) [
       | inl none ↦
-          let r = first_descending Collapse (less S G) n m ms (sym (plan-splits h S G [] none) ∙ e) in
+          let r = first_descending Collapse (less S G) n m ms (sym (plan-splits h S G [] none)
+          ∙ e) in
           let k = r.number in
           let g = (less-parts S G k r.passes).1 in
           ap (λ x. plan h (moved S x) G) r.move
-          ∙ plan-splits h (without S k) G [] (ascending-same Split (less G (without S k)) (less G S) n (λ j l. collapse_more S G k g j) ∙ none)
-          ∙ descending-same Collapse (less (without S k) G) (without (less S G) k) n (λ j l. collapse_less S G k j)
+          ∙ plan-splits h (without S k) G []
+          (ascending-same Split (less G (without S k)) (less G S) n
+          (λ j l. collapse_more S G k g j) ∙ none)
+          ∙ descending-same Collapse (less (without S k) G) (without (less S G) k) n
+          (λ j l. collapse_less S G k j)
           ∙ r.others
       | inr (x, xs, is) ↦
           let both : x ∷ (xs ++ down) ≡ m ∷ ms = sym (plan-splits h S G (x ∷ xs) is) ∙ e in
@@ -201,15 +239,21 @@ plan-rest h S G m ms e =
           let k = r.number in
           let g = (less-parts G S k r.passes).0 in
           ap (λ y. plan h (moved S y) G) (ap (head m) (sym both) ∙ r.move)
-          ∙ plan-splits h (with S k) G xs (ascending-same Split (less G (with S k)) (without (less G S) k) n (λ j l. split_less S G k j) ∙ r.others)
-          ∙ ap (λ ys. xs ++ ys) (descending-same Collapse (less (with S k) G) (less S G) n (λ j l. split_more S G k g j))
+          ∙ plan-splits h (with S k) G xs
+          (ascending-same Split (less G (with S k)) (without (less G S) k) n
+          (λ j l. split_less S G k j) ∙ r.others)
+          ∙ ap (λ ys. xs ++ ys)
+          (descending-same Collapse (less (with S k) G) (less S G) n
+          (λ j l. split_more S G k g j))
           ∙ ap tail both
     ]
 
-rest_after : (h : Hierarchy) (S G : ℕ → Bool) (m : ℕ) (ms : List Move) → plan h S G ≡ ms → plan h (moved_by S (take m ms)) G ≡ drop m ms
+rest_after : (h : Hierarchy) (S G : ℕ → Bool) (m : ℕ) (ms : List Move) → plan h S G ≡ ms
+    → plan h (moved_by S (take m ms)) G ≡ drop m ms
 rest_after h S G zero ms e = e
 rest_after h S G (suc m) [] e = e
 rest_after h S G (suc m) (x ∷ xs) e = rest_after h (moved S x) G m xs (plan-rest h S G x xs e)
 
-pub plan-after : (h : Hierarchy) (S G : ℕ → Bool) (m : ℕ) → plan h (moved_by S (take m (plan h S G))) G ≡ drop m (plan h S G)
+pub plan-after : (h : Hierarchy) (S G : ℕ → Bool) (m : ℕ)
+    → plan h (moved_by S (take m (plan h S G))) G ≡ drop m (plan h S G)
 plan-after h S G m = rest_after h S G m (plan h S G) refl

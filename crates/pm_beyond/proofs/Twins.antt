@@ -15,13 +15,21 @@ use Rattle.pm_beyond.specs.Walks.{leaf_net, leaf_twin}
 
 -- Every face is shown where all records are split.
 pub shown_every : (h : Hierarchy) (e : ℕ) → is_shown h every e ≡ true
-shown_every h e = elim (option_cases (record_of h e)) [ inl n ↦ shown_base h every e n | inr (k, r) ↦ shown_record h every e k r ]
+shown_every h e =
+    elim (option_cases (record_of h e)) [
+      | inl n ↦ shown_base h every e n
+      | inr (k, r) ↦
+          shown_record h every e k r
+    ]
 
 -- So the two ends of a side are two leaves.
-leaves_apart : (h : Hierarchy) → IsForest h → (e : ℕ) → e < 3 * face_count h → from_leaf h e ≢ to_leaf h e
-leaves_apart h shape e l is = shown-apart h shape every (every-front h) e l (shown_every h e) (ap (ancestor_of h every) is)
+leaves_apart : (h : Hierarchy) → IsForest h → (e : ℕ) → e < 3 * face_count h
+    → from_leaf h e ≢ to_leaf h e
+leaves_apart h shape e l is =
+    shown-apart h shape every (every-front h) e l (shown_every h e) (ap (ancestor_of h every) is)
 
-pub side-stands : (h : Hierarchy) → IsForest h → (e : ℕ) → e < 3 * face_count h → Stands (leaf_net h) e
+pub side-stands : (h : Hierarchy) → IsForest h → (e : ℕ) → e < 3 * face_count h
+    → Stands (leaf_net h) e
 side-stands h shape e l =
     let m = next-lt h shape e l in
     let n = next-lt h shape (next e) m in
@@ -29,11 +37,14 @@ side-stands h shape e l =
       is_side = l;
       first = leaves_apart h shape e l;
       second = leaves_apart h shape (next e) m;
-      last = λ is. leaves_apart h shape (next (next e)) n (is ∙ ap (from_leaf h) (sym (next-next-next e)));
+      last = λ is. leaves_apart h shape (next (next e)) n
+          (is ∙ ap (from_leaf h) (sym (next-next-next e)));
     }
 
-pub twin-is : (h : Hierarchy) (e g : ℕ) → leaf_twin h e ≡ Some g → (from_leaf h g ≡ to_leaf h e) × (to_leaf h g ≡ from_leaf h e) × (g < 3 * face_count h)
+pub twin-is : (h : Hierarchy) (e g : ℕ) → leaf_twin h e ≡ Some g → (from_leaf h g ≡ to_leaf h e)
+    × (to_leaf h g ≡ from_leaf h e) × (g < 3 * face_count h)
 twin-is h e g t = let w = twins.twin-is (leaf_net h) e g t in (w.begins, w.ends, w.stands.is_side)
 
-pub twin_back : (h : Hierarchy) → IsForest h → NoSideTwice (leaf_net h) → (e g : ℕ) → e < 3 * face_count h → leaf_twin h e ≡ Some g → leaf_twin h g ≡ Some e
+pub twin_back : (h : Hierarchy) → IsForest h → NoSideTwice (leaf_net h) → (e g : ℕ)
+    → e < 3 * face_count h → leaf_twin h e ≡ Some g → leaf_twin h g ≡ Some e
 twin_back h shape once e g l t = twins.twin_back (leaf_net h) once e g (side-stands h shape e l) t

@@ -8,7 +8,8 @@ use Rattle.pm_beyond.specs.WalkLaws as law
 use Rattle.pm_beyond.proofs.Twins.{shown_every}
 use Rattle.pm_beyond.proofs.Reaching.{back, Beyond-unique, Beyond-injective}
 use Rattle.pm_beyond.proofs.Carried.{ends-carried}
-use Rattle.pm_beyond.proofs.Found.{beyond-found, Crosses-from_walk, stands-from_beyond, beyond-from_stands}
+use Rattle.pm_beyond.proofs.Found.{beyond-found, Crosses-from_walk, stands-from_beyond}
+use Rattle.pm_beyond.proofs.Found.{beyond-from_stands}
 use Rattle.pm_beyond.proofs.NoFaceTwice.{no_face_twice, at_most_all_faces}
 
 pub one_beyond : law.OneStandsBeyond
@@ -17,7 +18,8 @@ one_beyond h shape once T front a l s =
     (found, λ r b. Beyond-unique h shape once T a r _ b found)
 
 pub go_back : law.WalksGoBack
-go_back h shape once T a b l s beyond = record { reaches = back h shape once T b l beyond.reaches refl; stops = s }
+go_back h shape once T a b l s beyond =
+    record { reaches = back h shape once T b l beyond.reaches refl; stops = s }
 
 pub no_two : law.NoTwoShareABeyond
 no_two h shape once T a b c l m s t v w = Beyond-injective h shape once T a b c l m s t v w
@@ -26,12 +28,22 @@ pub ends : law.EndsAreCarried
 ends h shape T a b w = ends-carried h shape T b w refl
 
 pub no_face : law.NoFaceIsMetTwice
-no_face h shape once T front a r l s w stops = (no_face_twice h shape once T front a r l s w stops, at_most_all_faces h shape once T front a r l s w stops)
+no_face h shape once T front a r l s w stops = (
+  no_face_twice h shape once T front a r l s w stops,
+  at_most_all_faces h shape once T front a r
+      l s w stops,
+)
 
 pub by_ancestors : law.WalksGoByAncestors
 by_ancestors h shape once T front a r l s =
-    let apart = shown-apart h shape T front a l s in
-    ((stands-from_beyond h shape once T front a r apart, beyond-from_stands h shape once T front a r apart), λ w. Crosses-from_walk h shape once T front w apart)
+    let apart = shown-apart h shape T front a l s in (
+      (
+        stands-from_beyond h shape once T front a r apart,
+        beyond-from_stands h shape once T front a r
+            apart,
+      ),
+      λ w. Crosses-from_walk h shape once T front w apart,
+    )
 
 stops_in_full : (h : Hierarchy) (r : Option ℕ) → StopsAt h every r
 stops_in_full h None = tt

@@ -12,9 +12,11 @@ use Rattle.pm_forest.specs.Rules.{HasShape}
 use Rattle.pm_beyond.specs.declared.moves.MoveFault.TheVariants as faults
 use Rattle.pm_beyond.specs.Walks.{IsOuter, across, Beyond, beyond_of, expected}
 use Rattle.pm_beyond.specs.Valid.{IsValid}
-use Rattle.pm_beyond.specs.Moves.{Needs, needs, IsClosed, MaySplit, MayCollapse, split_fault, collapse_fault}
+use Rattle.pm_beyond.specs.Moves.{Needs, needs, IsClosed, MaySplit, MayCollapse, split_fault}
+use Rattle.pm_beyond.specs.Moves.{collapse_fault}
 
--- What a record needs is older, so the records below any number are closed; and a closed set is a front.
+-- What a record needs is older, so the records below any number are closed; and a closed set is a
+-- front.
 abbrev pub NeedsAreOlder : Type 0
 NeedsAreOlder =
     (h : Hierarchy) → HasShape h
@@ -25,7 +27,8 @@ NeedsAreOlder =
 -- A record of a closed set may be collapsed exactly where no record of the set needs it.
 abbrev pub NeededIsNotCollapsible : Type 0
 NeededIsNotCollapsible =
-    (h : Hierarchy) → IsValid h → (T : ℕ → Bool) → IsClosed h T → (k : ℕ) → k < record_count h → T k ≡ true
+    (h : Hierarchy) → IsValid h → (T : ℕ → Bool) → IsClosed h T → (k : ℕ) → k < record_count h
+    → T k ≡ true
     → MayCollapse h T k ↔ ((j : ℕ) → j < record_count h → T j ≡ true → Needs h j k → ⊥)
 
 -- The moves that are legal in a closed set are those after which it is closed.
@@ -44,24 +47,30 @@ pub record IsOfGreater (h : Hierarchy) (T : ℕ → Bool) (k : ℕ) (r : Option 
   pub is_split : T reveals ≡ true
   pub is_greater : k < reveals
 
--- Beyond an outer side of a split record stands what is recorded there, or a side of a greater record.
+-- Beyond an outer side of a split record stands what is recorded there, or a side of a greater
+-- record.
 abbrev pub GreaterRecordsBlock : Type 0
 GreaterRecordsBlock =
-    (h : Hierarchy) → IsValid h → (T : ℕ → Bool) → IsClosed h T → (k e : ℕ) → k < record_count h → T k ≡ true
-    → e < 3 * face_count h → IsOuter h k e → beyond_of h T e ≢ expected h e → IsOfGreater h T k (beyond_of h T e)
+    (h : Hierarchy) → IsValid h → (T : ℕ → Bool) → IsClosed h T → (k e : ℕ) → k < record_count h
+    → T k ≡ true
+    → e < 3 * face_count h → IsOuter h k e → beyond_of h T e ≢ expected h e
+    → IsOfGreater h T k (beyond_of h T e)
 
--- Where record k may be split, its two recorded neighbours at each face stand beyond each other; where one of them is
--- missing, nothing stands beyond the other.
+-- Where record k may be split, its two recorded neighbours at each face stand beyond each other;
+-- where one of them is missing, nothing stands beyond the other.
 abbrev pub FourFacesAreEnough : Type 0
 FourFacesAreEnough =
-    (h : Hierarchy) → IsValid h → (T : ℕ → Bool) → IsClosed h T → (k o p b : ℕ) → k < record_count h → MaySplit h T k
-    → o < 3 * face_count h → IsOuter h k o → across h o ≡ Some p → expected h o ≡ Some b → Beyond h T b (expected h p)
+    (h : Hierarchy) → IsValid h → (T : ℕ → Bool) → IsClosed h T → (k o p b : ℕ) → k < record_count h
+    → MaySplit h T k
+    → o < 3 * face_count h → IsOuter h k o → across h o ≡ Some p → expected h o ≡ Some b
+    → Beyond h T b (expected h p)
 
 -- A move has no fault exactly where it is legal.
 abbrev pub AnswersAreExact : Type 0
 AnswersAreExact =
     (h : Hierarchy) → IsValid h → (T : ℕ → Bool) → IsClosed h T → (k : ℕ) → k < record_count h
-    → ((split_fault h T k ≡ None) ↔ MaySplit h T k) × ((collapse_fault h T k ≡ None) ↔ MayCollapse h T k)
+    → ((split_fault h T k ≡ None) ↔ MaySplit h T k)
+    × ((collapse_fault h T k ≡ None) ↔ MayCollapse h T k)
 
 -- Face f isn't kept, and a side of it is recorded beside record k.
 pub record IsDroppedNeighbour (h : Hierarchy) (T : ℕ → Bool) (k f : ℕ) : Type 0 where
@@ -70,8 +79,8 @@ pub record IsDroppedNeighbour (h : Hierarchy) (T : ℕ → Bool) (k f : ℕ) : T
   pub of_face : face_of side ≡ f
   pub dropped : is_kept h T f ≡ false
 
--- What blocks a split is the face of a recorded neighbour that isn't kept; what blocks a collapse is a face that a split
--- record reveals which is greater.
+-- What blocks a split is the face of a recorded neighbour that isn't kept; what blocks a collapse
+-- is a face that a split record reveals which is greater.
 abbrev pub BlockingFacesAreNamed : Type 0
 BlockingFacesAreNamed =
     (h : Hierarchy) → IsValid h → (T : ℕ → Bool) → IsClosed h T → (k f : ℕ) → k < record_count h
@@ -81,4 +90,5 @@ BlockingFacesAreNamed =
 
 -- The test of needs decides them.
 abbrev pub NeedsAreDecided : Type 0
-NeedsAreDecided = (h : Hierarchy) → (j k : ℕ) → j < record_count h → (needs h j k ≡ true) ↔ Needs h j k
+NeedsAreDecided = (h : Hierarchy) → (j k : ℕ) → j < record_count h
+    → (needs h j k ≡ true) ↔ Needs h j k

@@ -1,5 +1,5 @@
--- What the opening of a hierarchy rests on: records are judged from the last one down, each in the front of the records
--- up to it.
+-- What the opening of a hierarchy rests on: records are judged from the last one down, each in the
+-- front of the records up to it.
 use Rattle.std.specs.Prelude.{◌≡◌, ℕ, suc, ◌*◌, ◌<◌, ◌↔◌, ◌⊎◌, Some}
 use Rattle.pm_base.specs.Sides.{NoSideTwice}
 use Rattle.pm_forest.specs.Forest.{Hierarchy, record_count}
@@ -14,10 +14,11 @@ abbrev pub ToldIsFound : Type 0
 ToldIsFound =
     (h : Hierarchy) → HasShape h → NoSideTwice (leaf_net h) → (k : ℕ) → k < record_count h
     → IsAsTold h k
-    ↔ ((e : ℕ) → e < 3 * face_count h → record_of h e ≡ Some k → beyond_of h (below (suc k)) e ≡ expected h e)
+    ↔ ((e : ℕ) → e < 3 * face_count h → record_of h e ≡ Some k
+    → beyond_of h (below (suc k)) e ≡ expected h e)
 
--- A hierarchy of the right shape, in whose leaf mesh no directed side stands twice, is valid where each record is as
--- told.
+-- A hierarchy of the right shape, in whose leaf mesh no directed side stands twice, is valid where
+-- each record is as told.
 abbrev pub ValidWhereTold : Type 0
 ValidWhereTold =
     (h : Hierarchy) → HasShape h → NoSideTwice (leaf_net h)

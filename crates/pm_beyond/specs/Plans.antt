@@ -1,4 +1,5 @@
--- The plan from one set of records to another: splits in ascending order, and then collapses in descending order.
+-- The plan from one set of records to another: splits in ascending order, and then collapses in
+-- descending order.
 use Rattle.std.specs.Prelude.{ℕ, zero, suc, ◌<◌, Bool, cond, not, ◌&&◌, ◌||◌, List, [], ◌∷◌, ◌++◌}
 use Rattle.pm_forest.specs.Forest.{Hierarchy, record_count}
 use Rattle.pm_forest.specs.Fronts.{with, without}
@@ -47,6 +48,8 @@ less S G k = S k && not (G k)
 abbrev pub differs : (ℕ → Bool) → (ℕ → Bool) → ℕ → Bool
 differs S G k = less S G k || less G S k
 
--- The records of G that aren't in S are split, ascending; and then those of S that aren't in G are collapsed, descending.
+-- The records of G that aren't in S are split, ascending; and then those of S that aren't in G are
+-- collapsed, descending.
 unfoldable pub plan : Hierarchy → (ℕ → Bool) → (ℕ → Bool) → List Move
-plan h S G = ascending Split (less G S) (record_count h) ++ descending Collapse (less S G) (record_count h)
+plan h S G =
+    ascending Split (less G S) (record_count h) ++ descending Collapse (less S G) (record_count h)

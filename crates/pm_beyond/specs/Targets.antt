@@ -1,5 +1,6 @@
 -- The target of a view: the least closed set that has each record whose node is wanted.
-use Rattle.std.specs.Prelude.{◌≡◌, ℕ, zero, suc, ◌-◌, ◌<◌, ◌==◌, Bool, true, false, cond, ◌&&◌, ◌||◌}
+use Rattle.std.specs.Prelude.{◌≡◌, ℕ, zero, suc, ◌-◌, ◌<◌, ◌==◌, Bool, true, false, cond, ◌&&◌}
+use Rattle.std.specs.Prelude.{◌||◌}
 use Rattle.pm_forest.specs.Forest.{Hierarchy, record_count, s_of}
 use Rattle.pm_beyond.specs.Moves.{IsClosed, needs}
 
@@ -8,8 +9,8 @@ abbrev pub any_below : (ℕ → Bool) → ℕ → Bool
 any_below p zero = false
 any_below p (suc n) = p n || any_below p n
 
--- Whether record j is taken, once the last d records are decided, from the last one down: a record is taken if its node
--- is wanted or a record that was taken needs it.
+-- Whether record j is taken, once the last d records are decided, from the last one down: a record
+-- is taken if its node is wanted or a record that was taken needs it.
 unfoldable pub taken_after : Hierarchy → (ℕ → Bool) → ℕ → ℕ → Bool
 taken_after h wanted zero j = false
 taken_after h wanted (suc d) j =
@@ -30,4 +31,5 @@ pub record IsTarget (h : Hierarchy) (wanted G : ℕ → Bool) : Type 0 where
   pub closed : IsClosed h G
   pub takes : HasWanted h wanted G
   pub least :
-      (T : ℕ → Bool) → IsClosed h T → HasWanted h wanted T → (k : ℕ) → k < record_count h → G k ≡ true → T k ≡ true
+      (T : ℕ → Bool) → IsClosed h T → HasWanted h wanted T → (k : ℕ) → k < record_count h
+      → G k ≡ true → T k ≡ true

@@ -1,4 +1,5 @@
-//! What stands beyond the sides of kept faces, which hierarchies are valid, and which moves a front permits.
+//! What stands beyond the sides of kept faces, which hierarchies are valid, and which moves a front
+//! permits.
 #![tactic(auto)]
 
 mod moves;

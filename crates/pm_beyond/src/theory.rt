@@ -1,5 +1,5 @@
-//! The theory of what stands beyond the sides of a front's faces (after Hoppe 1997, whose neighbours these are), and of
-//! the sets of records that legal moves lead to.
+//! The theory of what stands beyond the sides of a front's faces (after Hoppe 1997, whose
+//! neighbours these are), and of the sets of records that legal moves lead to.
 ghost use Rattle.pm_beyond.specs.WalkLaws.{
   OneStandsBeyond,
   WalksGoBack,
@@ -19,7 +19,8 @@ ghost use Rattle.pm_beyond.specs.ClosedLaws.{
   BlockingFacesAreNamed,
   NeedsAreDecided,
 };
-ghost use Rattle.pm_beyond.specs.RelinkingLaws.{SplitsRelinkTheirNeighbours, CollapsesRelinkTheirNeighbours};
+ghost use Rattle.pm_beyond.specs.RelinkingLaws.{SplitsRelinkTheirNeighbours};
+ghost use Rattle.pm_beyond.specs.RelinkingLaws.{CollapsesRelinkTheirNeighbours};
 ghost use Rattle.pm_beyond.specs.OpeningLaws.{ToldIsFound, ValidWhereTold, ValidOrOneFails};
 ghost use Rattle.pm_beyond.specs.PlanLaws.{
   TargetsAreLeast,
@@ -41,8 +42,8 @@ pub fn walks_are_sound()
     ensures full { TwinsStandInTheFullFront }
 {}
 
-/// States the laws of closed sets of records and of legal moves between them. It does nothing, and callers cite its
-/// clauses.
+/// States the laws of closed sets of records and of legal moves between them. It does nothing, and
+/// callers cite its clauses.
 pub fn closed_sets_are_sound()
     ensures older { NeedsAreOlder }
     ensures needed { NeededIsNotCollapsible }
@@ -52,8 +53,8 @@ pub fn closed_sets_are_sound()
     ensures decided { NeedsAreDecided }
 {}
 
-/// States what a split and a collapse change of what stands beyond the sides. It does nothing, and callers cite its
-/// clauses.
+/// States what a split and a collapse change of what stands beyond the sides. It does nothing, and
+/// callers cite its clauses.
 pub fn relinking_is_sound()
     ensures split { SplitsRelinkTheirNeighbours }
     ensures collapse { CollapsesRelinkTheirNeighbours }
@@ -65,15 +66,16 @@ pub fn answers_are_sound()
     ensures blocking { BlockingFacesAreNamed }
 {}
 
-/// States how a hierarchy of the right shape is judged, from its last record down. It does nothing, and callers cite
-/// its clauses.
+/// States how a hierarchy of the right shape is judged, from its last record down. It does nothing,
+/// and callers cite its clauses.
 pub fn openings_are_sound()
     ensures found { ToldIsFound }
     ensures told { ValidWhereTold }
     ensures fails { ValidOrOneFails }
 {}
 
-/// States the laws of targets and of plans that lead to them. It does nothing, and callers cite its clauses.
+/// States the laws of targets and of plans that lead to them. It does nothing, and callers cite its
+/// clauses.
 pub fn plans_are_sound()
     ensures least { TargetsAreLeast }
     ensures legal { PlansAreLegal }

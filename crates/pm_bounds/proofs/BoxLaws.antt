@@ -1,5 +1,6 @@
 -- Boxes joined in any order, and any number of times, are one box.
-use Rattle.std.proofs.Common.{◌≡◌, ℕ, ◌≤◌, Bool, ◌||◌, List, [], ◌∷◌, ◌++◌, map, Option, None, Some, IfSome, inl, inr, refl, sym, ap, ◌∙◌, arith}
+use Rattle.std.proofs.Common.{◌≡◌, ℕ, ◌≤◌, Bool, ◌||◌, List, [], ◌∷◌, ◌++◌, map, Option, None, Some}
+use Rattle.std.proofs.Common.{IfSome, inl, inr, refl, sym, ap, ◌∙◌, arith}
 use Rattle.std.specs.Prelude.{ℤ, unsigned_abs}
 use Rattle.std.specs.Int.{int_min, int_max}
 use Rattle.std.specs.List.{filter}
@@ -30,33 +31,64 @@ min_same x = omega (arith, ints, clamps)
 max_same : (x : ℤ) → int_max x x ≡ x
 max_same x = omega (arith, ints, clamps)
 
-min_small : (x y : ℤ) (m : ℕ) → unsigned_abs x ≤ m → unsigned_abs y ≤ m → unsigned_abs (int_min x y) ≤ m
+min_small : (x y : ℤ) (m : ℕ) → unsigned_abs x ≤ m → unsigned_abs y ≤ m
+    → unsigned_abs (int_min x y) ≤ m
 min_small x y m p q = omega (arith, ints, clamps)
 
-max_small : (x y : ℤ) (m : ℕ) → unsigned_abs x ≤ m → unsigned_abs y ≤ m → unsigned_abs (int_max x y) ≤ m
+max_small : (x y : ℤ) (m : ℕ) → unsigned_abs x ≤ m → unsigned_abs y ≤ m
+    → unsigned_abs (int_max x y) ≤ m
 max_small x y m p q = omega (arith, ints, clamps)
 
 -- two boxes
 
 joined-comm : (a b : NormalBox) → joined a b ≡ joined b a
 joined-comm a b =
-    rw (min_comm a.low.x b.low.x, min_comm a.low.y b.low.y, min_comm a.low.z b.low.z, max_comm a.high.x b.high.x, max_comm a.high.y b.high.y, max_comm a.high.z b.high.z)
+    rw (
+      min_comm a.low.x b.low.x,
+      min_comm a.low.y b.low.y,
+      min_comm a.low.z b.low.z,
+      max_comm a.high.x b.high.x,
+      max_comm a.high.y b.high.y,
+      max_comm a.high.z b.high.z,
+    )
     refl
 
 joined-assoc : (a b c : NormalBox) → joined (joined a b) c ≡ joined a (joined b c)
 joined-assoc a b c =
-    rw (min_assoc a.low.x b.low.x c.low.x, min_assoc a.low.y b.low.y c.low.y, min_assoc a.low.z b.low.z c.low.z, max_assoc a.high.x b.high.x c.high.x, max_assoc a.high.y b.high.y c.high.y, max_assoc a.high.z b.high.z c.high.z)
+    rw (
+      min_assoc a.low.x b.low.x c.low.x,
+      min_assoc a.low.y b.low.y c.low.y,
+      min_assoc a.low.z b.low.z c.low.z,
+      max_assoc a.high.x b.high.x c.high.x,
+      max_assoc a.high.y b.high.y c.high.y,
+      max_assoc a.high.z b.high.z c.high.z,
+    )
     refl
 
 joined-same : (a : NormalBox) → joined a a ≡ a
 joined-same a =
-    rw (min_same a.low.x, min_same a.low.y, min_same a.low.z, max_same a.high.x, max_same a.high.y, max_same a.high.z)
+    rw (
+      min_same a.low.x,
+      min_same a.low.y,
+      min_same a.low.z,
+      max_same a.high.x,
+      max_same a.high.y,
+      max_same a.high.z,
+    )
     refl
 
 joined-small : (a b : NormalBox) → IsSmallBox a → IsSmallBox b → IsSmallBox (joined a b)
 joined-small a b p q = (
-  (min_small a.low.x b.low.x _ p.0.0 q.0.0, min_small a.low.y b.low.y _ p.0.1 q.0.1, min_small a.low.z b.low.z _ p.0.2 q.0.2),
-  (max_small a.high.x b.high.x _ p.1.0 q.1.0, max_small a.high.y b.high.y _ p.1.1 q.1.1, max_small a.high.z b.high.z _ p.1.2 q.1.2),
+  (
+    min_small a.low.x b.low.x _ p.0.0 q.0.0,
+    min_small a.low.y b.low.y _ p.0.1 q.0.1,
+    min_small a.low.z b.low.z _ p.0.2 q.0.2,
+  ),
+  (
+    max_small a.high.x b.high.x _ p.1.0 q.1.0,
+    max_small a.high.y b.high.y _ p.1.1 q.1.1,
+    max_small a.high.z b.high.z _ p.1.2 q.1.2,
+  ),
 )
 
 -- the same where one may be missing
@@ -81,7 +113,8 @@ join-same (Some a) = ap Some (joined-same a)
 pub join-twice : (a b : Option NormalBox) → join (join a b) b ≡ join a b
 join-twice a b = join-assoc a b b ∙ ap (join a) (join-same b)
 
-pub join-small : (a b : Option NormalBox) → IfSome a IsSmallBox → IfSome b IsSmallBox → IfSome (join a b) IsSmallBox
+pub join-small : (a b : Option NormalBox) → IfSome a IsSmallBox → IfSome b IsSmallBox
+    → IfSome (join a b) IsSmallBox
 join-small None b p q = q
 join-small (Some a) None p q = p
 join-small (Some a) (Some b) p q = joined-small a b p q
@@ -89,15 +122,20 @@ join-small (Some a) (Some b) p q = joined-small a b p q
 -- Lists
 
 -- one normal more, put last
-pub box_of-more : (ns : List Direction) (n : Direction) → box_of (ns ++ n ∷ []) ≡ join (box_of ns) (Some (box_at n))
+pub box_of-more : (ns : List Direction) (n : Direction)
+    → box_of (ns ++ n ∷ []) ≡ join (box_of ns) (Some (box_at n))
 box_of-more [] n = refl
-box_of-more (m ∷ ns) n = ap (join (Some (box_at m))) (box_of-more ns n) ∙ sym (join-assoc (Some (box_at m)) (box_of ns) (Some (box_at n)))
+box_of-more (m ∷ ns) n =
+    ap (join (Some (box_at m))) (box_of-more ns n)
+    ∙ sym (join-assoc (Some (box_at m)) (box_of ns) (Some (box_at n)))
 
 -- a box taken into both of two
 both : (n a b : Option NormalBox) → join n (join a b) ≡ join (join n a) (join n b)
 both n a b =
-    let turn : join a (join n b) ≡ join n (join a b) = sym (join-assoc a n b) ∙ ap (λ t. join t b) (join-comm a n) ∙ join-assoc n a b in
-    sym (join-assoc n a (join n b) ∙ ap (join n) turn ∙ sym (join-assoc n n (join a b)) ∙ ap (λ t. join t (join a b)) (join-same n))
+    let turn : join a (join n b) ≡ join n (join a b) =
+    sym (join-assoc a n b) ∙ ap (λ t. join t b) (join-comm a n) ∙ join-assoc n a b in
+    sym (join-assoc n a (join n b) ∙ ap (join n) turn ∙ sym (join-assoc n n (join a b))
+    ∙ ap (λ t. join t (join a b)) (join-same n))
 
 right : (n a b : Option NormalBox) → join n (join a b) ≡ join a (join n b)
 right n a b = sym (join-assoc n a b) ∙ ap (λ t. join t b) (join-comm n a) ∙ join-assoc a n b
@@ -107,7 +145,8 @@ module _ {X : Type 0} (f : X → Direction) (p q : X → Bool) where
   either x = p x || q x
 
   -- the box of what passes one of two tests, or both
-  pub box_of-either : (xs : List X) → box_of (map f (filter (λ x. p x || q x) xs)) ≡ join (box_of (map f (filter p xs))) (box_of (map f (filter q xs)))
+  pub box_of-either : (xs : List X) → box_of (map f (filter (λ x. p x || q x) xs))
+      ≡ join (box_of (map f (filter p xs))) (box_of (map f (filter q xs)))
   box_of-either [] = refl
   box_of-either (x ∷ xs) =
       let rest = box_of-either xs in

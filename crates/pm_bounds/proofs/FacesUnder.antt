@@ -1,12 +1,15 @@
 -- The faces under a node, by side numbers and as a list, and that a child has one.
-use Rattle.std.proofs.Common.{◌≡◌, ℕ, suc, ◌+◌, ◌*◌, ◌<◌, true, false, ◌||◌, length, get_or, Some, is_some, inl, inr, refl, sym, ap, ◌∙◌, subst, arith}
+use Rattle.std.proofs.Common.{◌≡◌, ℕ, suc, ◌+◌, ◌*◌, ◌<◌, true, false, ◌||◌, length, get_or, Some}
+use Rattle.std.proofs.Common.{is_some, inl, inr, refl, sym, ap, ◌∙◌, subst, arith}
 use Rattle.std.proofs.lemmas.Bool.{cases_Bool, or_left, or_right, or_parts, both_ways}
 use Rattle.pm_base.specs.Counts.{one_if}
 use Rattle.pm_base.specs.Sides.{face_of, next}
 use Rattle.pm_base.proofs.Sides.{face_of-next}
 use Rattle.pm_forest.specs.Forest.{Hierarchy, record_at, record_count, holds, Holds, Makes}
-use Rattle.pm_forest.specs.Faces.{faces_of, first_face, face_count, revealed_by, is_left, corners_of, from_leaf, inner_of, no_face_corners}
-use Rattle.pm_forest.specs.Rules.{HasShape, head_is_bad, split_is_bad, presence_is_bad, head_fault, head_of}
+use Rattle.pm_forest.specs.Faces.{faces_of, first_face, face_count, revealed_by, is_left}
+use Rattle.pm_forest.specs.Faces.{corners_of, from_leaf, inner_of, no_face_corners}
+use Rattle.pm_forest.specs.Rules.{HasShape, head_is_bad, split_is_bad, presence_is_bad, head_fault}
+use Rattle.pm_forest.specs.Rules.{head_of}
 use Rattle.pm_forest.proofs.Corners.{which_corner, corner_a, corner_b, corner_c}
 use Rattle.pm_forest.proofs.FaceLists.{length-faces_of, corners_of-faces_of}
 use Rattle.pm_forest.proofs.FaceNumbers.{first_face-mono, revealed-from}
@@ -18,25 +21,34 @@ use Rattle.pm_bounds.specs.Bounds.{has_corner_under}
 
 module _ (h : Hierarchy) where
   -- a face with a side that begins under a node is under it
-  pub under_from : (v e : ℕ) → Holds h v (from_leaf h e) → has_corner_under h v (corners_of h (face_of e)) ≡ true
+  pub under_from : (v e : ℕ) → Holds h v (from_leaf h e)
+      → has_corner_under h v (corners_of h (face_of e)) ≡ true
   under_from v e held =
       let f = corners_of h (face_of e) in
       elim (which_corner e) [
         | inl is ↦
-            let a : Holds h v f.a = subst (λ x. Holds h v x) (ap (from_leaf h) is ∙ (corner_a h (face_of e)).0) held in
-            or_left (holds h v f.a || holds h v f.b) (holds h v f.c) (or_left (holds h v f.a) (holds h v f.b) a)
+            let a : Holds h v f.a =
+            subst (λ x. Holds h v x) (ap (from_leaf h) is ∙ (corner_a h (face_of e)).0) held in
+            or_left (holds h v f.a || holds h v f.b) (holds h v f.c)
+            (or_left (holds h v f.a) (holds h v f.b) a)
         | inr other ↦ elim other [
           | inl is ↦
-              let b : Holds h v f.b = subst (λ x. Holds h v x) (ap (from_leaf h) is ∙ (corner_b h (face_of e)).0) held in
-              or_left (holds h v f.a || holds h v f.b) (holds h v f.c) (or_right (holds h v f.a) (holds h v f.b) b)
+              let b : Holds h v f.b =
+              subst (λ x. Holds h v x) (ap (from_leaf h) is ∙ (corner_b h (face_of e)).0)
+              held in
+              or_left (holds h v f.a || holds h v f.b) (holds h v f.c)
+              (or_right (holds h v f.a) (holds h v f.b) b)
           | inr is ↦
-              let c : Holds h v f.c = subst (λ x. Holds h v x) (ap (from_leaf h) is ∙ (corner_c h (face_of e)).0) held in
+              let c : Holds h v f.c =
+              subst (λ x. Holds h v x) (ap (from_leaf h) is ∙ (corner_c h (face_of e)).0)
+              held in
               or_right (holds h v f.a || holds h v f.b) (holds h v f.c) c
         ]
       ]
 
   -- the list of faces has face f at f
-  pub face_there : (f : ℕ) → f < face_count h → (get_or (faces_of h) f no_face_corners ≡ corners_of h f) × (f < length (faces_of h))
+  pub face_there : (f : ℕ) → f < face_count h
+      → (get_or (faces_of h) f no_face_corners ≡ corners_of h f) × (f < length (faces_of h))
   face_there f l = let len = length-faces_of h in (sym (corners_of-faces_of h f l), omega arith)
 
 no_presence : presence_is_bad 0 ≡ true
@@ -50,19 +62,23 @@ module _ (h : Hierarchy) (shape : HasShape h) where
       let r = record_at h k in
       let head = (record_fits h shape k l).head in
       let good = (passed (head_is_bad (cut h k) (head_of r)) _ _ head).0 in
-      let presence : presence_is_bad (one_if (is_some r.left) + 2 * one_if (is_some r.right)) ≡ false = (or_parts (split_is_bad (cut h k) r.s r.width) _ (or_parts _ _ good).0).1 in
+      let presence : presence_is_bad (one_if (is_some r.left) + 2 * one_if (is_some r.right))
+      ≡ false = (or_parts (split_is_bad (cut h k) r.s r.width) _ (or_parts _ _ good).0).1 in
       elim (cases_Bool (is_some r.left)) [
         | inl e ↦ (let one : one_if (is_some r.left) ≡ 1 = ap one_if e in omega arith)
         | inr e ↦ elim (cases_Bool (is_some r.right)) [
           | inl g ↦ (let one : one_if (is_some r.right) ≡ 1 = ap one_if g in omega arith)
           | inr g ↦
-              let none : one_if (is_some r.left) + 2 * one_if (is_some r.right) ≡ 0 = ap (λ b. one_if b + 2 * one_if (is_some r.right)) e ∙ ap (λ b. 0 + 2 * one_if b) g in
+              let none : one_if (is_some r.left) + 2 * one_if (is_some r.right) ≡ 0 =
+              ap (λ b. one_if b + 2 * one_if (is_some r.right)) e
+              ∙ ap (λ b. 0 + 2 * one_if b) g in
               absurd (both_ways _ presence (ap presence_is_bad none ∙ no_presence))
         ]
       ]
 
   -- a side of its first face begins under t, and one under u
-  pub child_faces : (k v : ℕ) → k < record_count h → Makes h k v → (e : ℕ) × (e < 3 * face_count h) × Holds h v (from_leaf h e)
+  pub child_faces : (k v : ℕ) → k < record_count h → Makes h k v → (e : ℕ) × (e < 3 * face_count h)
+      × Holds h v (from_leaf h e)
   child_faces k v l makes =
       let f = first_face h k in
       let more = has_face k l in
@@ -76,12 +92,22 @@ module _ (h : Hierarchy) (shape : HasShape h) where
             let ends = (shape_of_faces h shape).left f k (omega arith) own left in
             elim makes [
               | inl is ↦ (i, omega arith, subst (λ w. Holds h w (from_leaf h i)) (sym is) ends.0)
-              | inr is ↦ (next i, omega arith, subst (λ w. Holds h w (from_leaf h (next i))) (sym is) ends.1)
+              | inr is ↦ (
+                next i,
+                omega arith,
+                subst (λ w. Holds h w (from_leaf h (next i)))
+                    (sym is) ends.1,
+              )
             ]
         | inr right ↦
             let ends = (shape_of_faces h shape).right f k (omega arith) own right in
             elim makes [
-              | inl is ↦ (next i, omega arith, subst (λ w. Holds h w (from_leaf h (next i))) (sym is) ends.1)
+              | inl is ↦ (
+                next i,
+                omega arith,
+                subst (λ w. Holds h w (from_leaf h (next i)))
+                    (sym is) ends.1,
+              )
               | inr is ↦ (i, omega arith, subst (λ w. Holds h w (from_leaf h i)) (sym is) ends.0)
             ]
       ]

@@ -1,5 +1,6 @@
 -- The radii and boxes of leaves, when one face more is looked at.
-use Rattle.std.proofs.Common.{◌≡◌, ℕ, ◌+◌, ◌<◌, ◌≤◌, max, Bool, cond, List, [], ◌∷◌, ◌++◌, map, take, None, Some, Option, inl, inr, refl, sym, ap, ◌∙◌, arith}
+use Rattle.std.proofs.Common.{◌≡◌, ℕ, ◌+◌, ◌<◌, ◌≤◌, max, Bool, cond, List, [], ◌∷◌, ◌++◌, map}
+use Rattle.std.proofs.Common.{take, None, Some, Option, inl, inr, refl, sym, ap, ◌∙◌, arith}
 use Rattle.std.specs.List.{filter}
 use Rattle.std.proofs.Math.Seq.{take-length}
 use Rattle.std.proofs.lemmas.Bool.{cases_Bool, cases_lt, cond-true, cond-false}
@@ -18,7 +19,8 @@ use Rattle.pm_forest.specs.Meshes.{leaf_place}
 use Rattle.pm_bounds.specs.declared.leaves.LeafBounds.{LeafBounds}
 use Rattle.pm_bounds.specs.declared.normal_box.NormalBox.{NormalBox}
 use Rattle.pm_bounds.specs.Boxes.{box_at, join, box_of}
-use Rattle.pm_bounds.specs.Bounds.{greatest, reach, has_corner_under, normal_of, leaf_radius, box_under}
+use Rattle.pm_bounds.specs.Bounds.{greatest, reach, has_corner_under, normal_of, leaf_radius}
+use Rattle.pm_bounds.specs.Bounds.{box_under}
 use Rattle.pm_bounds.specs.Leaves.{bare_leaf_at, widened_by, is_leaf_corner, square_reach}
 use Rattle.pm_bounds.proofs.BoxLaws.{box_of-more}
 use Rattle.pm_bounds.proofs.Nodes.{own_faces}
@@ -32,20 +34,24 @@ greatest-more [] n = omega arith
 greatest-more (m ∷ ns) n = ap (max m) (greatest-more ns n) ∙ max_shift m (greatest ns) n
 
 -- what passes a test, with one item more
-filter-more : {X : Type 0} (p : X → Bool) (xs : List X) (x : X) → filter p (xs ++ x ∷ []) ≡ cond (p x) (filter p xs ++ x ∷ []) (filter p xs)
+filter-more : {X : Type 0} (p : X → Bool) (xs : List X) (x : X)
+    → filter p (xs ++ x ∷ []) ≡ cond (p x) (filter p xs ++ x ∷ []) (filter p xs)
 filter-more p [] x = refl
 filter-more p (y ∷ ys) x =
     let rest = filter-more p ys x in
     elim (cases_Bool (p y)) [
       | inl e ↦ elim (cases_Bool (p x)) [
-        | inl g ↦ (rw (e, g) (ap (λ l. y ∷ l) (rest ∙ cond-true (p x) (filter p ys ++ x ∷ []) (filter p ys) g)))
-        | inr g ↦ (rw (e, g) (ap (λ l. y ∷ l) (rest ∙ cond-false (p x) (filter p ys ++ x ∷ []) (filter p ys) g)))
+        | inl g ↦ (rw (e, g)
+            (ap (λ l. y ∷ l) (rest ∙ cond-true (p x) (filter p ys ++ x ∷ []) (filter p ys) g)))
+        | inr g ↦ (rw (e, g)
+            (ap (λ l. y ∷ l) (rest ∙ cond-false (p x) (filter p ys ++ x ∷ []) (filter p ys) g)))
       ]
       | inr e ↦ (rw e rest)
     ]
 
 -- what passes one of two tests that say the same
-pub filter_same : {X : Type 0} (p q : X → Bool) (xs : List X) → ((x : X) → p x ≡ q x) → filter p xs ≡ filter q xs
+pub filter_same : {X : Type 0} (p q : X → Bool) (xs : List X) → ((x : X) → p x ≡ q x)
+    → filter p xs ≡ filter q xs
 filter_same p q [] same = refl
 filter_same p q (x ∷ xs) same = rw (same x, filter_same p q xs same) refl
 
@@ -55,36 +61,46 @@ first_faces h n = take n (faces_of h)
 
 -- The square of a leaf, and the box of a node, by these faces alone.
 unfoldable pub square_in : Hierarchy → ℕ → ℕ → ℕ
-square_in h n v = greatest (map (square_reach h v) (filter (has_corner_under h v) (first_faces h n)))
+square_in h n v =
+    greatest (map (square_reach h v) (filter (has_corner_under h v) (first_faces h n)))
 
 unfoldable pub box_in : Hierarchy → ℕ → ℕ → Option NormalBox
 box_in h n v = box_of (map (normal_of h) (filter (has_corner_under h v) (first_faces h n)))
 
 module _ (h : Hierarchy) where
-  one_more : (n : ℕ) → n < face_count h → first_faces h (n + 1) ≡ first_faces h n ++ corners_of h n ∷ []
+  one_more : (n : ℕ) → n < face_count h → first_faces h (n + 1) ≡ first_faces h n ++ corners_of h n
+      ∷ []
   one_more n l =
       let len = length-faces_of h in
-      take_more (faces_of h) n no_face_corners (omega arith) ∙ ap (λ f. first_faces h n ++ f ∷ []) (sym (corners_of-faces_of h n l))
+      take_more (faces_of h) n no_face_corners (omega arith)
+      ∙ ap (λ f. first_faces h n ++ f ∷ []) (sym (corners_of-faces_of h n l))
 
   square_in-none : (v : ℕ) → square_in h 0 v ≡ 0
   unfolding square_in
   square_in-none v = refl
 
   square_in-more : (n v : ℕ) → n < face_count h →
-      square_in h (n + 1) v ≡ cond (has_corner_under h v (corners_of h n)) (max (square_in h n v) (square_reach h v (corners_of h n))) (square_in h n v)
+      square_in h (n + 1) v
+      ≡ cond (has_corner_under h v (corners_of h n))
+      (max (square_in h n v) (square_reach h v (corners_of h n))) (square_in h n v)
   unfolding square_in
   square_in-more n v l =
       let f = corners_of h n in
       let fs = first_faces h n in
-      let all : filter (has_corner_under h v) (first_faces h (n + 1)) ≡ cond (has_corner_under h v f) (filter (has_corner_under h v) fs ++ f ∷ []) (filter (has_corner_under h v) fs) =
+      let all : filter (has_corner_under h v) (first_faces h (n + 1))
+      ≡ cond (has_corner_under h v f) (filter (has_corner_under h v) fs ++ f ∷ [])
+      (filter (has_corner_under h v) fs) =
       ap (filter (has_corner_under h v)) (one_more n l) ∙ filter-more (has_corner_under h v) fs f in
       elim (cases_Bool (has_corner_under h v f)) [
         | inl e ↦
             ap (λ l. greatest (map (square_reach h v) l)) (all ∙ cond-true _ _ _ e)
-            ∙ ap greatest (map-append (square_reach h v) (filter (has_corner_under h v) fs) (f ∷ []))
-            ∙ greatest-more (map (square_reach h v) (filter (has_corner_under h v) fs)) (square_reach h v f)
+            ∙ ap greatest
+            (map-append (square_reach h v) (filter (has_corner_under h v) fs) (f ∷ []))
+            ∙ greatest-more (map (square_reach h v) (filter (has_corner_under h v) fs))
+            (square_reach h v f)
             ∙ sym (cond-true _ _ _ e)
-        | inr e ↦ ap (λ l. greatest (map (square_reach h v) l)) (all ∙ cond-false _ _ _ e) ∙ sym (cond-false _ _ _ e)
+        | inr e ↦ ap (λ l. greatest (map (square_reach h v) l)) (all ∙ cond-false _ _ _ e)
+            ∙ sym (cond-false _ _ _ e)
       ]
 
   box_in-none : (v : ℕ) → box_in h 0 v ≡ None
@@ -92,12 +108,16 @@ module _ (h : Hierarchy) where
   box_in-none v = refl
 
   box_in-more : (n v : ℕ) → n < face_count h →
-      box_in h (n + 1) v ≡ cond (has_corner_under h v (corners_of h n)) (join (box_in h n v) (Some (box_at (normal_of h (corners_of h n))))) (box_in h n v)
+      box_in h (n + 1) v
+      ≡ cond (has_corner_under h v (corners_of h n))
+      (join (box_in h n v) (Some (box_at (normal_of h (corners_of h n))))) (box_in h n v)
   unfolding box_in
   box_in-more n v l =
       let f = corners_of h n in
       let fs = first_faces h n in
-      let all : filter (has_corner_under h v) (first_faces h (n + 1)) ≡ cond (has_corner_under h v f) (filter (has_corner_under h v) fs ++ f ∷ []) (filter (has_corner_under h v) fs) =
+      let all : filter (has_corner_under h v) (first_faces h (n + 1))
+      ≡ cond (has_corner_under h v f) (filter (has_corner_under h v) fs ++ f ∷ [])
+      (filter (has_corner_under h v) fs) =
       ap (filter (has_corner_under h v)) (one_more n l) ∙ filter-more (has_corner_under h v) fs f in
       elim (cases_Bool (has_corner_under h v f)) [
         | inl e ↦
@@ -105,18 +125,25 @@ module _ (h : Hierarchy) where
             ∙ ap box_of (map-append (normal_of h) (filter (has_corner_under h v) fs) (f ∷ []))
             ∙ box_of-more (map (normal_of h) (filter (has_corner_under h v) fs)) (normal_of h f)
             ∙ sym (cond-true _ _ _ e)
-        | inr e ↦ ap (λ l. box_of (map (normal_of h) l)) (all ∙ cond-false _ _ _ e) ∙ sym (cond-false _ _ _ e)
+        | inr e ↦ ap (λ l. box_of (map (normal_of h) l)) (all ∙ cond-false _ _ _ e)
+            ∙ sym (cond-false _ _ _ e)
       ]
 
 -- The bounds of leaf l by these faces alone.
 abbrev pub seen_at : Hierarchy → ℕ → ℕ → LeafBounds
-seen_at h n l = record { place = leaf_place h l; square = square_in h n (leaf_node_of h l); normals = box_in h n (leaf_node_of h l) }
+seen_at h n l = record {
+  place = leaf_place h l;
+  square = square_in h n (leaf_node_of h l);
+  normals = box_in h n (leaf_node_of h l);
+}
 
 pub seen_at-none : (h : Hierarchy) (l : ℕ) → seen_at h 0 l ≡ bare_leaf_at (leaf_place h l)
 seen_at-none h l = rw (square_in-none h (leaf_node_of h l), box_in-none h (leaf_node_of h l)) refl
 
 pub seen_at-more : (h : Hierarchy) → HasShape h → (n l : ℕ) → n < face_count h → l < leaf_count h →
-    seen_at h (n + 1) l ≡ cond (is_leaf_corner l (corners_of h n)) (widened_by h l (corners_of h n) (seen_at h n l)) (seen_at h n l)
+    seen_at h (n + 1) l
+    ≡ cond (is_leaf_corner l (corners_of h n)) (widened_by h l (corners_of h n) (seen_at h n l))
+    (seen_at h n l)
 seen_at-more h shape n l below leaf =
     let v = leaf_node_of h l in
     let f = corners_of h n in
@@ -126,10 +153,12 @@ seen_at-more h shape n l below leaf =
     elim (cases_Bool (has_corner_under h v f)) [
       | inl e ↦
           rw (square ∙ cond-true _ _ _ e, box ∙ cond-true _ _ _ e) refl
-          ∙ sym (cond-true (is_leaf_corner l f) (widened_by h l f (seen_at h n l)) (seen_at h n l) (same ∙ e))
+          ∙ sym (cond-true (is_leaf_corner l f) (widened_by h l f (seen_at h n l)) (seen_at h n l)
+          (same ∙ e))
       | inr e ↦
           rw (square ∙ cond-false _ _ _ e, box ∙ cond-false _ _ _ e) refl
-          ∙ sym (cond-false (is_leaf_corner l f) (widened_by h l f (seen_at h n l)) (seen_at h n l) (same ∙ e))
+          ∙ sym (cond-false (is_leaf_corner l f) (widened_by h l f (seen_at h n l)) (seen_at h n l)
+          (same ∙ e))
     ]
 
 -- All faces.
@@ -148,7 +177,8 @@ root_max a b =
     elim (cases_lt a b) [
       | inl l ↦
           let is : max a b ≡ b = omega arith in
-          let up : root_up b ≡ max (root_up a) (root_up b) = omega (arith, root_grows a b (omega arith)) in
+          let up : root_up b ≡ max (root_up a) (root_up b) =
+          omega (arith, root_grows a b (omega arith)) in
           ap root_up is ∙ up
       | inr l ↦
           let is : max a b ≡ a = omega arith in
@@ -166,17 +196,22 @@ reach_root h v f =
     let d = λ (x : ℕ). dist2_of (place_of_node h v) (leaf_place h x) in
     root_greatest (d f.a ∷ d f.b ∷ d f.c ∷ [])
 
-root_of_reaches : (h : Hierarchy) (v : ℕ) (fs : List Face) → root_up (greatest (map (square_reach h v) fs)) ≡ greatest (map (reach h v) fs)
+root_of_reaches : (h : Hierarchy) (v : ℕ) (fs : List Face)
+    → root_up (greatest (map (square_reach h v) fs)) ≡ greatest (map (reach h v) fs)
 root_of_reaches h v [] = root_zero
 root_of_reaches h v (f ∷ fs) =
     root_max (square_reach h v f) (greatest (map (square_reach h v) fs))
     ∙ ap (λ r. max r (root_up (greatest (map (square_reach h v) fs)))) (reach_root h v f)
     ∙ ap (max (reach h v f)) (root_of_reaches h v fs)
 
-pub square_in-all : (h : Hierarchy) (v : ℕ) → root_up (square_in h (face_count h) v) ≡ leaf_radius h v
+pub square_in-all : (h : Hierarchy) (v : ℕ) → root_up (square_in h (face_count h) v)
+    ≡ leaf_radius h v
 unfolding square_in
-square_in-all h v = root_of_reaches h v (filter (has_corner_under h v) (first_faces h (face_count h))) ∙ ap (λ fs. greatest (map (reach h v) (filter (has_corner_under h v) fs))) (all_faces h)
+square_in-all h v =
+    root_of_reaches h v (filter (has_corner_under h v) (first_faces h (face_count h)))
+    ∙ ap (λ fs. greatest (map (reach h v) (filter (has_corner_under h v) fs))) (all_faces h)
 
 pub box_in-all : (h : Hierarchy) (v : ℕ) → box_in h (face_count h) v ≡ box_under h v
 unfolding box_in box_under
-box_in-all h v = ap (λ fs. box_of (map (normal_of h) (filter (has_corner_under h v) fs))) (all_faces h)
+box_in-all h v =
+    ap (λ fs. box_of (map (normal_of h) (filter (has_corner_under h v) fs))) (all_faces h)

@@ -1,5 +1,7 @@
--- The greatest of a list is at least each of its numbers, and a box of normals has each of them in it.
-use Rattle.std.proofs.Common.{◌≡◌, ℕ, zero, suc, ◌<◌, ◌≤◌, Bool, true, List, [], ◌∷◌, length, get_or, map, Option, None, Some, inl, inr, refl, ap, arith}
+-- The greatest of a list is at least each of its numbers, and a box of normals has each of them in
+-- it.
+use Rattle.std.proofs.Common.{◌≡◌, ℕ, zero, suc, ◌<◌, ◌≤◌, Bool, true, List, [], ◌∷◌, length}
+use Rattle.std.proofs.Common.{get_or, map, Option, None, Some, inl, inr, refl, ap, arith}
 use Rattle.std.specs.Prelude.{ℤ, ◌≤ℤ◌}
 use Rattle.std.specs.Int.{int_min, int_max}
 use Rattle.std.specs.List.{filter}
@@ -12,7 +14,8 @@ use Rattle.pm_bounds.specs.Boxes.{box_at, joined, join, box_of}
 use Rattle.pm_bounds.specs.Bounds.{greatest}
 use Rattle.pm_bounds.specs.Laws.{IsIn}
 
-pub greatest_above : {X : Type 0} (g : X → ℕ) (p : X → Bool) (xs : List X) (i : ℕ) (d : X) → i < length xs → p (get_or xs i d) ≡ true → g (get_or xs i d) ≤ greatest (map g (filter p xs))
+pub greatest_above : {X : Type 0} (g : X → ℕ) (p : X → Bool) (xs : List X) (i : ℕ) (d : X)
+    → i < length xs → p (get_or xs i d) ≡ true → g (get_or xs i d) ≤ greatest (map g (filter p xs))
 greatest_above g p [] i d l e = absurd (omega arith)
 greatest_above g p (x ∷ xs) zero d l e = rw e (omega arith)
 greatest_above g p (x ∷ xs) (suc i) d l e =
@@ -65,16 +68,27 @@ in_right n a b i = record {
 }
 
 in_own : (n : Direction) → IsIn n (box_at n)
-in_own n = record { low_x = same_z n.x; low_y = same_z n.y; low_z = same_z n.z; high_x = same_z n.x; high_y = same_z n.y; high_z = same_z n.z }
+in_own n = record {
+  low_x = same_z n.x;
+  low_y = same_z n.y;
+  low_z = same_z n.z;
+  high_x = same_z n.x;
+  high_y = same_z n.y;
+  high_z = same_z n.z;
+}
 
 in_first : (n : Direction) (b : Option NormalBox) → IsInSome n (join (Some (box_at n)) b)
 in_first n None = (box_at n, refl, in_own n)
 in_first n (Some b) = (joined (box_at n) b, refl, in_left n (box_at n) b (in_own n))
 
-in_rest : (n m : Direction) (b : Option NormalBox) → IsInSome n b → IsInSome n (join (Some (box_at m)) b)
-in_rest n m b (a, is, i) = (joined (box_at m) a, ap (join (Some (box_at m))) is, in_right n (box_at m) a i)
+in_rest : (n m : Direction) (b : Option NormalBox) → IsInSome n b
+    → IsInSome n (join (Some (box_at m)) b)
+in_rest n m b (a, is, i) =
+    (joined (box_at m) a, ap (join (Some (box_at m))) is, in_right n (box_at m) a i)
 
-pub box_above : {X : Type 0} (g : X → Direction) (p : X → Bool) (xs : List X) (i : ℕ) (d : X) → i < length xs → p (get_or xs i d) ≡ true → IsInSome (g (get_or xs i d)) (box_of (map g (filter p xs)))
+pub box_above : {X : Type 0} (g : X → Direction) (p : X → Bool) (xs : List X) (i : ℕ) (d : X)
+    → i < length xs → p (get_or xs i d) ≡ true
+    → IsInSome (g (get_or xs i d)) (box_of (map g (filter p xs)))
 box_above g p [] i d l e = absurd (omega arith)
 box_above g p (x ∷ xs) zero d l e = rw e (in_first (g x) (box_of (map g (filter p xs))))
 box_above g p (x ∷ xs) (suc i) d l e =

@@ -1,11 +1,14 @@
--- The bounds of nodes: how far what is under a node can be from the node's place, and which way its faces look.
-use Rattle.std.specs.Prelude.{◌≡◌, ℕ, zero, suc, ◌+◌, ◌<◌, max, List, [], ◌∷◌, length, map, Bool, ◌||◌, Option, None, Some, pos, ◌+ℤ◌, ◌-ℤ◌, unwrap_or, slice_index_or}
+-- The bounds of nodes: how far what is under a node can be from the node's place, and which way its
+-- faces look.
+use Rattle.std.specs.Prelude.{◌≡◌, ℕ, zero, suc, ◌+◌, ◌<◌, max, List, [], ◌∷◌, length, map, Bool}
+use Rattle.std.specs.Prelude.{◌||◌, Option, None, Some, pos, ◌+ℤ◌, ◌-ℤ◌, unwrap_or, slice_index_or}
 use Rattle.std.specs.List.{filter}
 use Rattle.pm_base.specs.Place.{Place, origin}
 use Rattle.pm_base.specs.Geometry.{Direction, cross_of}
 use Rattle.pm_base.specs.Rounded.{distance_of}
 use Rattle.pm_forest.specs.declared.parts.Face.{Face}
-use Rattle.pm_forest.specs.Forest.{Hierarchy, record_count, node_count, s_of, t_of, u_of, holds, splitter_of}
+use Rattle.pm_forest.specs.Forest.{Hierarchy, record_count, node_count, s_of, t_of, u_of, holds}
+use Rattle.pm_forest.specs.Forest.{splitter_of}
 use Rattle.pm_forest.specs.Faces.{faces_of}
 use Rattle.pm_forest.specs.Places.{place_of_node}
 use Rattle.pm_forest.specs.Meshes.{leaf_place}
@@ -43,11 +46,12 @@ reach h v f =
 abbrev pub leaf_radius : Hierarchy → ℕ → ℕ
 leaf_radius h v = greatest (map (reach h v) (faces_under h v))
 
--- A number for the node that record k splits, by those of its children: the greater, over the two, of the child's number
--- and its distance.
+-- A number for the node that record k splits, by those of its children: the greater, over the two,
+-- of the child's number and its distance.
 abbrev pub over_children : Hierarchy → (ℕ → ℕ) → ℕ → ℕ
 over_children h number k =
-    let from = λ (child : ℕ). number child + distance_of (place_of_node h (s_of h k)) (place_of_node h child) in
+    let from = λ (child : ℕ). number child + distance_of (place_of_node h (s_of h k))
+    (place_of_node h child) in
     max (from (t_of h k)) (from (u_of h k))
 
 -- A number for node v: by its children, or a number of its own where no record splits it.
@@ -63,12 +67,13 @@ grown_in h leaf (suc n) v = from_children h leaf (grown_in h leaf n) v (splitter
 abbrev pub grown_from : Hierarchy → (ℕ → ℕ) → ℕ → ℕ
 grown_from h leaf v = grown_in h leaf (record_count h) v
 
--- The error of node v: 0 for a leaf, and from the children for another node. No leaf under the node is farther from it.
+-- The error of node v: 0 for a leaf, and from the children for another node. No leaf under the node
+-- is farther from it.
 unfoldable pub error_of : Hierarchy → ℕ → ℕ
 error_of h v = grown_from h (λ x. 0) v
 
--- The radius of node v, likewise, with the radius of a leaf as above. No corner of a face under the node is farther from
--- it.
+-- The radius of node v, likewise, with the radius of a leaf as above. No corner of a face under the
+-- node is farther from it.
 unfoldable pub radius_of : Hierarchy → ℕ → ℕ
 radius_of h v = grown_from h (leaf_radius h) v
 
@@ -104,8 +109,8 @@ pub record IsBallOf (h : Hierarchy) (v : ℕ) (b : Ball) : Type 0 where
   pub error : b.error ≡ error_of h v
   pub radius : b.radius ≡ radius_of h v
 
--- The bounds of all nodes of a hierarchy, with their places, each list by node; and by record the balls of the nodes that
--- the records split.
+-- The bounds of all nodes of a hierarchy, with their places, each list by node; and by record the
+-- balls of the nodes that the records split.
 pub record Bounds : Type 0 where
   pub places : List Place
   pub errors : List ℕ
@@ -121,4 +126,5 @@ pub record AreBoundsOf (h : Hierarchy) (b : Bounds) : Type 0 where
   pub errors : (v : ℕ) → v < node_count h → slice_index_or b.errors v 0 ≡ error_of h v
   pub radii : (v : ℕ) → v < node_count h → slice_index_or b.radii v 0 ≡ radius_of h v
   pub boxes : (v : ℕ) → v < node_count h → slice_index_or b.boxes v None ≡ box_under h v
-  pub splits : (k : ℕ) → k < record_count h → IsBallOf h (s_of h k) (slice_index_or b.splits k (bare_at origin))
+  pub splits : (k : ℕ) → k < record_count h
+      → IsBallOf h (s_of h k) (slice_index_or b.splits k (bare_at origin))

@@ -6,13 +6,24 @@ use Rattle.pm_bounds.specs.declared.normal_box.NormalBox.{NormalBox}
 
 -- The box that has one normal alone.
 abbrev pub box_at : Direction → NormalBox
-box_at n = record { low = record { x = n.x; y = n.y; z = n.z }; high = record { x = n.x; y = n.y; z = n.z } }
+box_at n = record {
+  low = record { x = n.x; y = n.y; z = n.z };
+  high = record { x = n.x; y = n.y; z = n.z };
+}
 
 -- The least box that has two others in it.
 abbrev pub joined : NormalBox → NormalBox → NormalBox
 joined a b = record {
-  low = record { x = int_min a.low.x b.low.x; y = int_min a.low.y b.low.y; z = int_min a.low.z b.low.z };
-  high = record { x = int_max a.high.x b.high.x; y = int_max a.high.y b.high.y; z = int_max a.high.z b.high.z };
+  low = record {
+    x = int_min a.low.x b.low.x;
+    y = int_min a.low.y b.low.y;
+    z = int_min a.low.z b.low.z;
+  };
+  high = record {
+    x = int_max a.high.x b.high.x;
+    y = int_max a.high.y b.high.y;
+    z = int_max a.high.z b.high.z;
+  };
 }
 
 -- The same where one of the two, or both, may be missing.
@@ -28,7 +39,10 @@ box_of (n ∷ ns) = join (Some (box_at n)) (box_of ns)
 
 -- 0 to 0 on each axis.
 abbrev pub zero_box : NormalBox
-zero_box = record { low = record { x = pos 0; y = pos 0; z = pos 0 }; high = record { x = pos 0; y = pos 0; z = pos 0 } }
+zero_box = record {
+  low = record { x = pos 0; y = pos 0; z = pos 0 };
+  high = record { x = pos 0; y = pos 0; z = pos 0 };
+}
 
 -- The numbers of a box as vectors.
 abbrev pub low_of : NormalBox → Direction

@@ -1,5 +1,6 @@
 -- What the table of leaves keeps while faces are gone through.
-use Rattle.std.specs.Prelude.{◌≡◌, ℕ, ◌<◌, ◌≤◌, ◌||◌, ◌==◌, Bool, max, None, Some, List, [], ◌∷◌, length, IfSome, slice_index_or}
+use Rattle.std.specs.Prelude.{◌≡◌, ℕ, ◌<◌, ◌≤◌, ◌||◌, ◌==◌, Bool, max, None, Some, List, [], ◌∷◌}
+use Rattle.std.specs.Prelude.{length, IfSome, slice_index_or}
 use Rattle.pm_base.specs.Geometry.{dist2_of}
 use Rattle.pm_base.specs.Place.{Place, origin}
 use Rattle.pm_base.specs.Rounded.{root_up}
@@ -20,11 +21,16 @@ bare_leaf_at p = record { place = p; square = 0; normals = None }
 -- Such leaves at the places of the first n leaves.
 pub record AreBareLeaves (h : Hierarchy) (n : ℕ) (leaves : List LeafBounds) : Type 0 where
   pub len : length leaves ≡ n
-  pub each : (l : ℕ) → l < n → slice_index_or leaves l (bare_leaf_at origin) ≡ bare_leaf_at (leaf_place h l)
+  pub each : (l : ℕ) → l < n → slice_index_or leaves l (bare_leaf_at origin)
+      ≡ bare_leaf_at (leaf_place h l)
 
 -- A leaf whose square reaches as far as another, and that has a face's box within its own.
 abbrev pub widened : LeafBounds → ℕ → NormalBox → LeafBounds
-widened b square face = record { place = b.place; square = max b.square square; normals = join b.normals (Some face) }
+widened b square face = record {
+  place = b.place;
+  square = max b.square square;
+  normals = join b.normals (Some face);
+}
 
 -- The squared distance of the farthest corner of a face from the place of node v.
 unfoldable pub square_reach : Hierarchy → ℕ → Face → ℕ
@@ -45,11 +51,15 @@ abbrev pub IsSmallLeaf : LeafBounds → Type 0
 IsSmallLeaf b = (b.square ≤ 12884115468) × IfSome b.normals IsSmallBox
 
 abbrev pub AreSmallLeaves : List LeafBounds → Type 0
-AreSmallLeaves leaves = (l : ℕ) → l < length leaves → IsSmallLeaf (slice_index_or leaves l (bare_leaf_at origin))
+AreSmallLeaves leaves =
+    (l : ℕ) → l < length leaves → IsSmallLeaf (slice_index_or leaves l (bare_leaf_at origin))
 
 -- The bounds of all leaves, by all faces.
 pub record AreSeen (h : Hierarchy) (leaves : List LeafBounds) : Type 0 where
   pub len : length leaves ≡ leaf_count h
-  pub radii : (l : ℕ) → l < leaf_count h → root_up (slice_index_or leaves l (bare_leaf_at origin)).square ≡ leaf_radius h (leaf_node_of h l)
-  pub boxes : (l : ℕ) → l < leaf_count h → (slice_index_or leaves l (bare_leaf_at origin)).normals ≡ box_under h (leaf_node_of h l)
+  pub radii : (l : ℕ) → l < leaf_count h
+      → root_up (slice_index_or leaves l (bare_leaf_at origin)).square
+      ≡ leaf_radius h (leaf_node_of h l)
+  pub boxes : (l : ℕ) → l < leaf_count h → (slice_index_or leaves l (bare_leaf_at origin)).normals
+      ≡ box_under h (leaf_node_of h l)
   pub small : AreSmallLeaves leaves

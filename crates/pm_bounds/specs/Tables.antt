@@ -1,5 +1,6 @@
 -- What the tables of bounds keep.
-use Rattle.std.specs.Prelude.{◌≡◌, ℕ, ◌<◌, ◌≤◌, ◌^◌, None, List, length, map, Option, IfSome, slice_index_or}
+use Rattle.std.specs.Prelude.{◌≡◌, ℕ, ◌<◌, ◌≤◌, ◌^◌, None, List, length, map, Option, IfSome}
+use Rattle.std.specs.Prelude.{slice_index_or}
 use Rattle.pm_base.specs.Place.{Place, origin}
 use Rattle.pm_forest.specs.Forest.{Hierarchy, node_count, splitter_of}
 use Rattle.pm_forest.specs.Places.{place_of_node}
@@ -19,7 +20,13 @@ abbrev pub radii_of : List Ball → List ℕ
 radii_of balls = map (λ (b : Ball). b.radius) balls
 
 abbrev pub bound_lists_of : List Ball → List (Option NormalBox) → List Ball → Bounds
-bound_lists_of balls boxes splits = record { places = places_of balls; errors = errors_of balls; radii = radii_of balls; boxes = boxes; splits = splits }
+bound_lists_of balls boxes splits = record {
+  places = places_of balls;
+  errors = errors_of balls;
+  radii = radii_of balls;
+  boxes = boxes;
+  splits = splits;
+}
 
 -- One of each kind for each node, and none is large.
 pub record IsBounds (b : Bounds) : Type 0 where
@@ -27,9 +34,12 @@ pub record IsBounds (b : Bounds) : Type 0 where
   pub as_many_boxes : length b.boxes ≡ length b.errors
   pub small_errors : (v : ℕ) → v < length b.errors → slice_index_or b.errors v 0 < 2 ^ 38
   pub small_radii : (v : ℕ) → v < length b.errors → slice_index_or b.radii v 0 < 2 ^ 38
-  pub small_boxes : (v : ℕ) → v < length b.errors → IfSome (slice_index_or b.boxes v None) IsSmallBox
-  pub small_split_errors : (k : ℕ) → k < length b.splits → (slice_index_or b.splits k (bare_at origin)).error < 2 ^ 38
-  pub small_split_radii : (k : ℕ) → k < length b.splits → (slice_index_or b.splits k (bare_at origin)).radius < 2 ^ 38
+  pub small_boxes : (v : ℕ) → v < length b.errors
+      → IfSome (slice_index_or b.boxes v None) IsSmallBox
+  pub small_split_errors : (k : ℕ) → k < length b.splits
+      → (slice_index_or b.splits k (bare_at origin)).error < 2 ^ 38
+  pub small_split_radii : (k : ℕ) → k < length b.splits
+      → (slice_index_or b.splits k (bare_at origin)).radius < 2 ^ 38
 
 -- The places of all nodes.
 abbrev pub ArePlaces : Hierarchy → List Place → Type 0
@@ -48,11 +58,14 @@ abbrev pub AreSmallBoxes : List (Option NormalBox) → Type 0
 AreSmallBoxes boxes = (v : ℕ) → v < length boxes → IfSome (slice_index_or boxes v None) IsSmallBox
 
 -- The places, no error yet, and of the nodes that no record splits the radii and boxes.
-pub record AreOfLeaves (h : Hierarchy) (balls : List Ball) (table : List (Option NormalBox)) : Type 0 where
+pub record AreOfLeaves (h : Hierarchy) (balls : List Ball) (table : List (Option NormalBox)) : Type
+    0 where
   pub places : ArePlaces h (places_of balls)
   pub errors : (v : ℕ) → v < node_count h → slice_index_or (errors_of balls) v 0 ≡ 0
-  pub radii : (v : ℕ) → v < node_count h → splitter_of h v ≡ None → slice_index_or (radii_of balls) v 0 ≡ leaf_radius h v
-  pub boxes : (v : ℕ) → v < node_count h → splitter_of h v ≡ None → slice_index_or table v None ≡ box_under h v
+  pub radii : (v : ℕ) → v < node_count h → splitter_of h v ≡ None
+      → slice_index_or (radii_of balls) v 0 ≡ leaf_radius h v
+  pub boxes : (v : ℕ) → v < node_count h → splitter_of h v ≡ None
+      → slice_index_or table v None ≡ box_under h v
 
 -- The number of the node that record k splits, by those of its children in a table.
 abbrev pub grown_at : Hierarchy → List ℕ → ℕ → ℕ

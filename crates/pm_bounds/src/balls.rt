@@ -43,8 +43,8 @@ pub(crate) fn bare_balls(alloc: Global, h: &Hierarchy) -> Result<Vec<Ball>, OutO
     Ok(balls)
 }
 
-/// As many balls as there are records, at the middle of space, to be written over. The length is a parameter, so that no
-/// proof unfolds the list.
+/// As many balls as there are records, at the middle of space, to be written over. The length is a
+/// parameter, so that no proof unfolds the list.
 pub(crate) fn bare_split_balls(alloc: Global, records: usize) -> Result<Vec<Ball>, OutOfMemory>
     ensures { IfOk result (λ balls. length balls.items ≡ records) }
 {

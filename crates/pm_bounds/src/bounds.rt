@@ -14,8 +14,9 @@ use pm_forest::Hierarchy;
 use std::alloc::Global;
 use std::marker::Model;
 
-/// The bounds of all nodes of a hierarchy: for each node its place, an error, a radius and a box of normals, and for each
-/// record the ball of the node that it splits. Contracts see one list of each kind by node, and the balls by record.
+/// The bounds of all nodes of a hierarchy: for each node its place, an error, a radius and a box of
+/// normals, and for each record the ball of the node that it splits. Contracts see one list of each
+/// kind by node, and the balls by record.
 #[derive(Drop)]
 pub struct Bounds {
     balls: Vec<Ball>,
@@ -31,12 +32,13 @@ impl Model for Bounds {
 
     ghost view = { λ b. bound_lists_of b.balls.items b.boxes.items b.split_balls.items };
 
-    ghost invariant = { λ b. IsBounds (bound_lists_of b.balls.items b.boxes.items b.split_balls.items) };
+    ghost invariant = { λ b. IsBounds
+        (bound_lists_of b.balls.items b.boxes.items b.split_balls.items) };
 }
 
 impl Bounds {
-    /// The bounds of a hierarchy, in time and memory linear in its nodes and faces. While faces are gone through, a table
-    /// of leaves takes 72 bytes more for each leaf.
+    /// The bounds of a hierarchy, in time and memory linear in its nodes and faces. While faces are
+    /// gone through, a table of leaves takes 72 bytes more for each leaf.
     pub fn of(alloc: Global, h: &Hierarchy) -> Result<Bounds, OutOfMemory>
         ensures { IfOk result (λ bounds. AreBoundsOf h.now bounds) }
     {
@@ -65,7 +67,8 @@ impl Bounds {
         node_ball(&self.balls, node)
     }
 
-    /// The ball of the node that record `k` splits. It lies by record, so that a walk over records in order reads neighbours.
+    /// The ball of the node that record `k` splits. It lies by record, so that a walk over records
+    /// in order reads neighbours.
     pub fn split_ball(&self, k: u32) -> Ball
         requires { k < length self.now.splits }
         ensures value { result ≡ slice_index_or self.now.splits k (bare_at origin) }
@@ -84,7 +87,8 @@ impl Bounds {
         node_ball(&self.balls, node).error
     }
 
-    /// The node's radius: no corner of a face of the input that has a corner under the node is farther from its place.
+    /// The node's radius: no corner of a face of the input that has a corner under the node is
+    /// farther from its place.
     pub fn radius(&self, node: NodeId) -> u64
         requires { node.0 < length self.now.errors }
         ensures value { result ≡ slice_index_or self.now.radii node.0 0 }
@@ -93,8 +97,8 @@ impl Bounds {
         node_ball(&self.balls, node).radius
     }
 
-    /// The node's box of normals: those of all faces of the input that have a corner under the node. It is 0 to 0 on each
-    /// axis where there is no such face.
+    /// The node's box of normals: those of all faces of the input that have a corner under the
+    /// node. It is 0 to 0 on each axis where there is no such face.
     pub fn normals(&self, node: NodeId) -> NormalBox
         requires { node.0 < length self.now.errors }
         ensures value { result ≡ unwrap_or (slice_index_or self.now.boxes node.0 None) zero_box }

@@ -1,6 +1,8 @@
-//! The bounds of all nodes from those of the leaves: the records are gone through from the last to the first, so that a
-//! node's children have their bounds before it. No call goes down the forest, which can be as deep as it has records.
-ghost use Rattle.std.specs.Prelude.{◌≡◌, ℕ, ◌+◌, ◌*◌, ◌^◌, ◌<◌, ◌≤◌, max, None, length, slice_index_or, slice_set};
+//! The bounds of all nodes from those of the leaves: the records are gone through from the last to
+//! the first, so that a node's children have their bounds before it. No call goes down the forest,
+//! which can be as deep as it has records.
+ghost use Rattle.std.specs.Prelude.{◌≡◌, ℕ, ◌+◌, ◌*◌, ◌^◌, ◌<◌, ◌≤◌, max, None, length};
+ghost use Rattle.std.specs.Prelude.{slice_index_or, slice_set};
 ghost use Rattle.pm_base.specs.declared.limits.TheConstants.{MOST_VERTICES};
 ghost use Rattle.pm_base.specs.Rounded.{distance_of};
 ghost use Rattle.pm_forest.specs.Forest.{node_count, record_count, s_of, t_of, u_of};
@@ -42,16 +44,18 @@ fn nodes_of(h: &Hierarchy, k: u32) -> (NodeId, NodeId, NodeId)
     (NodeId(h.record_at(k).s), t, u)
 }
 
-// The ball of a node at a place by those of its children: each number is the greater, over the two, of the child's number
-// and its distance.
+// The ball of a node at a place by those of its children: each number is the greater, over the two,
+// of the child's number and its distance.
 fn over(place: Point, t: &Ball, u: &Ball) -> Ball
     requires t_error { t.now.error ≤ 2 ^ 38 }
     requires t_radius { t.now.radius ≤ 2 ^ 38 }
     requires u_error { u.now.error ≤ 2 ^ 38 }
     requires u_radius { u.now.radius ≤ 2 ^ 38 }
     ensures at { result.place ≡ place }
-    ensures error { result.error ≡ max (t.now.error + distance_of place t.now.place) (u.now.error + distance_of place u.now.place) }
-    ensures radius { result.radius ≡ max (t.now.radius + distance_of place t.now.place) (u.now.radius + distance_of place u.now.place) }
+    ensures error { result.error ≡ max (t.now.error + distance_of place t.now.place)
+        (u.now.error + distance_of place u.now.place) }
+    ensures radius { result.radius ≡ max (t.now.radius + distance_of place t.now.place)
+        (u.now.radius + distance_of place u.now.place) }
     ensures small_error { result.error ≤ max t.now.error u.now.error + 113509 }
     ensures small_radius { result.radius ≤ max t.now.radius u.now.radius + 113509 }
 {
@@ -69,13 +73,19 @@ fn from_children(h: &Hierarchy, balls: &[Ball], k: u32) -> Ball
     requires record { k < record_count h.now }
     requires len { length balls.now ≡ node_count h.now }
     requires places { ArePlaces h.now (places_of balls.now) }
-    requires small_errors { (v : ℕ) → v < node_count h.now → slice_index_or (errors_of balls.now) v 0 ≤ 113509 * MOST_VERTICES }
-    requires small_radii { (v : ℕ) → v < node_count h.now → slice_index_or (radii_of balls.now) v 0 ≤ 113509 * MOST_VERTICES }
+    requires small_errors { (v : ℕ) → v < node_count h.now
+        → slice_index_or (errors_of balls.now) v 0 ≤ 113509 * MOST_VERTICES }
+    requires small_radii { (v : ℕ) → v < node_count h.now
+        → slice_index_or (radii_of balls.now) v 0 ≤ 113509 * MOST_VERTICES }
     ensures place { result.place ≡ place_of_node h.now (s_of h.now k) }
     ensures error { result.error ≡ grown_at h.now (errors_of balls.now) k }
     ensures radius { result.radius ≡ grown_at h.now (radii_of balls.now) k }
-    ensures small_error { (m : ℕ) → ((v : ℕ) → v < node_count h.now → slice_index_or (errors_of balls.now) v 0 ≤ m) → result.error ≤ m + 113509 }
-    ensures small_radius { (m : ℕ) → ((v : ℕ) → v < node_count h.now → slice_index_or (radii_of balls.now) v 0 ≤ m) → result.radius ≤ m + 113509 }
+    ensures small_error { (m : ℕ)
+        → ((v : ℕ) → v < node_count h.now → slice_index_or (errors_of balls.now) v 0 ≤ m)
+        → result.error ≤ m + 113509 }
+    ensures small_radius { (m : ℕ)
+        → ((v : ℕ) → v < node_count h.now → slice_index_or (radii_of balls.now) v 0 ≤ m)
+        → result.radius ≤ m + 113509 }
 {
     let (s, t, u) = nodes_of(h, k);
     let place = node_ball(balls, s).place;
@@ -89,15 +99,18 @@ fn join_children(h: &Hierarchy, boxes: &mut Vec<Option<NormalBox>>, k: u32)
     requires record { k < record_count h.now }
     requires len { length boxes.old.items ≡ node_count h.now }
     ensures { let old = boxes.old.items in
-        boxes.new.items ≡ slice_set old (s_of h.now k) (join (slice_index_or old (t_of h.now k) None) (slice_index_or old (u_of h.now k) None)) }
+        boxes.new.items
+        ≡ slice_set old (s_of h.now k)
+        (join (slice_index_or old (t_of h.now k) None)
+        (slice_index_or old (u_of h.now k) None)) }
 {
     let (s, t, u) = nodes_of(h, k);
     let joined = join(node_box(boxes, t), node_box(boxes, u));
     boxes[s.0 as usize] = joined;
 }
 
-/// Gives all nodes their bounds, where those that no record splits have theirs, and each record the ball of the node that it
-/// splits.
+/// Gives all nodes their bounds, where those that no record splits have theirs, and each record the
+/// ball of the node that it splits.
 pub fn grow(
     h: &Hierarchy,
     balls: &mut Vec<Ball>,
@@ -110,8 +123,10 @@ pub fn grow(
     requires leaves { AreOfLeaves h.now balls.old.items boxes.old.items }
     requires small_radii { AreAtMost 113509 (radii_of balls.old.items) }
     requires small_boxes { AreSmallBoxes boxes.old.items }
-    ensures are { AreBoundsOf h.now (bound_lists_of balls.new.items boxes.new.items split_balls.new.items) }
-    ensures small { IsBounds (bound_lists_of balls.new.items boxes.new.items split_balls.new.items) }
+    ensures are { AreBoundsOf h.now
+        (bound_lists_of balls.new.items boxes.new.items split_balls.new.items) }
+    ensures small { IsBounds
+        (bound_lists_of balls.new.items boxes.new.items split_balls.new.items) }
 {
     h.invariant();
     for k in (0..h.records()).rev() {

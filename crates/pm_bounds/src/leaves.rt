@@ -1,5 +1,6 @@
 //! The bounds of leaves, which the faces at them give.
-ghost use Rattle.std.specs.Prelude.{◌≡◌, ℕ, ◌<◌, ◌≤◌, cond, None, IfOk, replicate, length, slice_index_or, slice_set};
+ghost use Rattle.std.specs.Prelude.{◌≡◌, ℕ, ◌<◌, ◌≤◌, cond, None, IfOk, replicate, length};
+ghost use Rattle.std.specs.Prelude.{slice_index_or, slice_set};
 ghost use Rattle.pm_base.specs.Geometry.{cross_of};
 ghost use Rattle.pm_base.specs.Rounded.{root_up};
 ghost use Rattle.pm_base.specs.Place.{origin};
@@ -7,7 +8,8 @@ ghost use Rattle.pm_forest.specs.Forest.{node_count, leaf_count};
 ghost use Rattle.pm_forest.specs.Faces.{face_count, corners_of};
 ghost use Rattle.pm_forest.specs.Meshes.{leaf_place};
 ghost use Rattle.pm_bounds.specs.Boxes.{box_at, IsSmallBox};
-ghost use Rattle.pm_bounds.specs.Leaves.{bare_leaf_at, widened, widened_by, is_leaf_corner, AreBareLeaves, AreSmallLeaves, AreSeen};
+ghost use Rattle.pm_bounds.specs.Leaves.{bare_leaf_at, widened, widened_by, is_leaf_corner};
+ghost use Rattle.pm_bounds.specs.Leaves.{AreBareLeaves, AreSmallLeaves, AreSeen};
 ghost use Rattle.pm_bounds.specs.Tables.{
   places_of,
   errors_of,
@@ -25,9 +27,9 @@ use pm_base::{FaceId, NodeId, Point, cross, dist2};
 use pm_forest::{Face, Hierarchy};
 use std::alloc::Global;
 
-/// What the faces at a leaf tell of it: the greatest squared distance of their corners from its place, and the box of
-/// their normals. These lie apart from the bounds of nodes, in the order of leaves, so that a face finds all that it
-/// widens by its leaf numbers alone.
+/// What the faces at a leaf tell of it: the greatest squared distance of their corners from its
+/// place, and the box of their normals. These lie apart from the bounds of nodes, in the order of
+/// leaves, so that a face finds all that it widens by its leaf numbers alone.
 #[derive(Clone, Copy)]
 pub struct LeafBounds {
     place: Point,
@@ -82,7 +84,9 @@ fn widen(leaves: &mut Vec<LeafBounds>, leaf: u32, square: u64, face: NormalBox)
     requires face { IsSmallBox face }
     requires small { AreSmallLeaves leaves.old.items }
     ensures len { length leaves.new.items ≡ length leaves.old.items }
-    ensures wider { let old = leaves.old.items in leaves.new.items ≡ slice_set old leaf (widened (slice_index_or old leaf (bare_leaf_at origin)) square face) }
+    ensures wider { let old = leaves.old.items in
+        leaves.new.items
+        ≡ slice_set old leaf (widened (slice_index_or old leaf (bare_leaf_at origin)) square face) }
     ensures small { AreSmallLeaves leaves.new.items }
 {
     let seen = &mut leaves[leaf as usize];
@@ -90,15 +94,20 @@ fn widen(leaves: &mut Vec<LeafBounds>, leaf: u32, square: u64, face: NormalBox)
     seen.normals = join(seen.normals, Some(face));
 }
 
-// Lets the squares of the leaves at a face's corners reach it, and takes its normal into their boxes.
+// Lets the squares of the leaves at a face's corners reach it, and takes its normal into their
+// boxes.
 fn widen_corners(h: &Hierarchy, leaves: &mut Vec<LeafBounds>, f: FaceId)
     requires face { f.0 < face_count h.now }
     requires len { length leaves.old.items ≡ leaf_count h.now }
-    requires places { (l : ℕ) → l < leaf_count h.now → (slice_index_or leaves.old.items l (bare_leaf_at origin)).place ≡ leaf_place h.now l }
+    requires places { (l : ℕ) → l < leaf_count h.now
+        → (slice_index_or leaves.old.items l (bare_leaf_at origin)).place ≡ leaf_place h.now l }
     requires small { AreSmallLeaves leaves.old.items }
     ensures len { length leaves.new.items ≡ leaf_count h.now }
-    ensures wider { (l : ℕ) → l < leaf_count h.now → let old = slice_index_or leaves.old.items l (bare_leaf_at origin) in
-        slice_index_or leaves.new.items l (bare_leaf_at origin) ≡ cond (is_leaf_corner l (corners_of h.now f.0)) (widened_by h.now l (corners_of h.now f.0) old) old }
+    ensures wider { (l : ℕ) → l < leaf_count h.now
+        → let old = slice_index_or leaves.old.items l (bare_leaf_at origin) in
+        slice_index_or leaves.new.items l (bare_leaf_at origin)
+        ≡ cond (is_leaf_corner l (corners_of h.now f.0))
+        (widened_by h.now l (corners_of h.now f.0) old) old }
     ensures small { AreSmallLeaves leaves.new.items }
 {
     let face = corner_leaves(h, f);
@@ -123,7 +132,8 @@ fn take_root(balls: &mut Vec<Ball>, node: NodeId, square: u64)
     ensures len { length balls.new.items ≡ length balls.old.items }
     ensures places { places_of balls.new.items ≡ places_of balls.old.items }
     ensures errors { errors_of balls.new.items ≡ errors_of balls.old.items }
-    ensures radii { radii_of balls.new.items ≡ slice_set (radii_of balls.old.items) node.0 (root_up square) }
+    ensures radii { radii_of balls.new.items
+        ≡ slice_set (radii_of balls.old.items) node.0 (root_up square) }
     ensures small { AreAtMost 113509 (radii_of balls.new.items) }
 {
     balls[node.0 as usize].radius = root_up(square);
@@ -154,8 +164,8 @@ fn give_nodes(
     }
 }
 
-/// Gives each node that no record splits its bounds; the others keep only room, with no error. The table of leaves ends
-/// with this call.
+/// Gives each node that no record splits its bounds; the others keep only room, with no error. The
+/// table of leaves ends with this call.
 pub fn bound_leaves(
     h: &Hierarchy,
     mut leaves: Vec<LeafBounds>,
@@ -171,7 +181,8 @@ pub fn bound_leaves(
     ensures small_radii { AreAtMost 113509 (radii_of balls.new.items) }
     ensures small_boxes { AreSmallBoxes boxes.new.items }
 {
-    // The root of the greatest square is the greatest of the roots, so a root is taken when all faces are seen.
+    // The root of the greatest square is the greatest of the roots, so a root is taken when all
+    // faces are seen.
     h.invariant();
     for f in 0..h.faces() {
         widen_corners(h, &mut leaves, FaceId(f));

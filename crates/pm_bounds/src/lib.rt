@@ -1,4 +1,5 @@
-//! How far what is under a node of the vertex forest can be from the node's place, and which way its faces look.
+//! How far what is under a node of the vertex forest can be from the node's place, and which way
+//! its faces look.
 #![tactic(auto)]
 
 mod balls;

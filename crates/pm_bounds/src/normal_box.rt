@@ -1,5 +1,6 @@
 //! Boxes of normals.
-ghost use Rattle.std.specs.Prelude.{◌≡◌, ◌<◌, None, replicate, length, IfOk, slice_index_or, unwrap_or};
+ghost use Rattle.std.specs.Prelude.{◌≡◌, ◌<◌, None, replicate, length, IfOk, slice_index_or};
+ghost use Rattle.std.specs.Prelude.{unwrap_or};
 ghost use Rattle.std.specs.Int.{int_min, int_max};
 ghost use Rattle.pm_bounds.specs.Boxes.{join, zero_box};
 
@@ -61,7 +62,8 @@ pub(crate) fn or_zero(a: Option<NormalBox>) -> NormalBox
     })
 }
 
-// As many missing boxes as there are nodes. The length is a parameter, so that no proof unfolds the list.
+// As many missing boxes as there are nodes. The length is a parameter, so that no proof unfolds the
+// list.
 pub(crate) fn bare_boxes(alloc: Global, nodes: usize) -> Result<Vec<Option<NormalBox>>, OutOfMemory>
     ensures { IfOk result (λ boxes. boxes.items ≡ replicate nodes None) }
 {

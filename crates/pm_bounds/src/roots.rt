@@ -2,7 +2,8 @@
 ghost use Rattle.std.specs.Prelude.{◌≡◌, ℕ, ◌*◌, ◌≤◌};
 ghost use Rattle.pm_base.specs.Rounded.{root_up};
 
-// A number that the root is at most: the first of four that is great enough, so that the search takes 6, 9, 12 or 17 steps.
+// A number that the root is at most: the first of four that is great enough, so that the search
+// takes 6, 9, 12 or 17 steps.
 fn most(n: u64) -> u64
     requires { n ≤ 12884115468 }
     ensures enough { n ≤ result * result }
@@ -19,7 +20,8 @@ fn most(n: u64) -> u64
     }
 }
 
-/// The least whole number whose square is at least n. Most distances are short, and their roots are found in fewer steps.
+/// The least whole number whose square is at least n. Most distances are short, and their roots are
+/// found in fewer steps.
 pub(crate) fn root_up(n: u64) -> u64
     requires { n ≤ 12884115468 }
     ensures value { result ≡ root_up n }

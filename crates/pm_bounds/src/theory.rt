@@ -10,8 +10,9 @@ ghost use Rattle.pm_bounds.specs.Laws.{
   BoxesNest,
 };
 
-/// States the laws of bounds, which hold for every hierarchy of the right shape: the equations of errors, radii and boxes,
-/// and what lies within them. It does nothing, and callers cite its clauses.
+/// States the laws of bounds, which hold for every hierarchy of the right shape: the equations of
+/// errors, radii and boxes, and what lies within them. It does nothing, and callers cite its
+/// clauses.
 pub fn bounds_are_sound()
     ensures errors { ErrorsGrow }
     ensures radii { RadiiGrow }

@@ -1,6 +1,8 @@
 -- The laws of changes, each from the lemmas on its subject.
-use Rattle.std.proofs.Common.{◌≡◌, ℕ, ◌+◌, ◌*◌, ◌<◌, Bool, true, false, not, ◌&&◌, ◌||◌, List, map, filter, refl, sym, ap, ◌∙◌, subst, arith}
-use Rattle.std.proofs.lemmas.Bool.{and_parts, and_from, or_parts, not-false, not-true, both_ways, eq-eqb}
+use Rattle.std.proofs.Common.{◌≡◌, ℕ, ◌+◌, ◌*◌, ◌<◌, Bool, true, false, not, ◌&&◌, ◌||◌, List, map}
+use Rattle.std.proofs.Common.{filter, refl, sym, ap, ◌∙◌, subst, arith}
+use Rattle.std.proofs.lemmas.Bool.{and_parts, and_from, or_parts, not-false, not-true, both_ways}
+use Rattle.std.proofs.lemmas.Bool.{eq-eqb}
 use Rattle.pm_base.specs.Counts.{numbers_below}
 use Rattle.pm_forest.specs.Forest.{Hierarchy, node_count}
 use Rattle.pm_forest.specs.Fronts.{is_active, ancestor_of}
@@ -8,12 +10,14 @@ use Rattle.pm_forest.specs.Faces.{face_count, from_leaf}
 use Rattle.pm_forest.specs.Kept.{is_kept}
 use Rattle.pm_morph.specs.Laws.{ShownFace, shown_face_at, shown_faces}
 use Rattle.pm_change.specs.Shown.{ShownNode, node_number, face_number, shown_node_at, shown_nodes}
-use Rattle.pm_change.specs.Changes.{is_gone, is_new_node, is_put, has_moved, has_moved_corner, Change, gone_nodes, new_nodes, gone_faces, put_faces, change_of}
+use Rattle.pm_change.specs.Changes.{is_gone, is_new_node, is_put, has_moved, has_moved_corner}
+use Rattle.pm_change.specs.Changes.{Change, gone_nodes, new_nodes, gone_faces, put_faces, change_of}
 use Rattle.pm_change.specs.Applying.{IsIn, applied, put_all, Mesh, changed}
 use Rattle.pm_change.specs.Laws as laws
 use Rattle.pm_change.proofs.ApplyLaws.{without_gone, with_put}
 use Rattle.pm_change.proofs.LeastLaws.{in_passing, map-own, must_go, must_be_put}
-use Rattle.pm_change.proofs.CornerLaws.{stays_active, active_stays, moved_corner_new, same_corners, put_moved}
+use Rattle.pm_change.proofs.CornerLaws.{stays_active, active_stays, moved_corner_new, same_corners}
+use Rattle.pm_change.proofs.CornerLaws.{put_moved}
 
 -- The law of a change, over any numbers: p tells what there was, q what there is, and t what is
 -- put.

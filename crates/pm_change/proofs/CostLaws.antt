@@ -8,7 +8,8 @@ use Rattle.pm_forest.specs.Rules.{HasShape}
 use Rattle.pm_beyond.specs.Plans.{differs}
 use Rattle.pm_morph.specs.Laws.{shown_face_at}
 use Rattle.pm_change.specs.Shown.{shown_node_at}
-use Rattle.pm_change.specs.Changes.{is_gone_face, is_gone_node, is_new_node, is_put, gone_faces, gone_nodes, new_nodes}
+use Rattle.pm_change.specs.Changes.{is_gone_face, is_gone_node, is_new_node, is_put, gone_faces}
+use Rattle.pm_change.specs.Changes.{gone_nodes, new_nodes}
 use Rattle.pm_change.specs.Laws.{new_corners}
 use Rattle.pm_change.specs.Costs.{most_steps}
 use Rattle.pm_change.specs.Gathering.{AreSetsOf, sizes_of}

@@ -1,8 +1,10 @@
 -- What is gone or new is found at the records that differ.
-use Rattle.std.proofs.Common.{◌≡◌, ℕ, ◌<◌, Bool, true, false, not, List, Some, ◌⊎◌, inl, inr, refl, sym, ap, ◌∙◌}
+use Rattle.std.proofs.Common.{◌≡◌, ℕ, ◌<◌, Bool, true, false, not, List, Some, ◌⊎◌, inl, inr, refl}
+use Rattle.std.proofs.Common.{sym, ap, ◌∙◌}
 use Rattle.std.proofs.lemmas.Bool.{cases_Bool, or_cases, and_parts, both_ways, not-true}
 use Rattle.pm_base.proofs.Search.{option_cases}
-use Rattle.pm_forest.specs.Forest.{Hierarchy, node_count, record_count, s_of, maker_of, splitter_of, Makes}
+use Rattle.pm_forest.specs.Forest.{Hierarchy, node_count, record_count, s_of, maker_of, splitter_of}
+use Rattle.pm_forest.specs.Forest.{Makes}
 use Rattle.pm_forest.specs.Fronts.{IsFront, is_active, made_in}
 use Rattle.pm_forest.specs.Faces.{face_count, revealed_by}
 use Rattle.pm_forest.specs.Kept.{is_kept}
@@ -12,7 +14,8 @@ use Rattle.pm_forest.proofs.FaceNumbers.{revealed-parts}
 use Rattle.pm_forest.proofs.ViewLaws.{kept_flag}
 use Rattle.pm_beyond.specs.Plans.{differs}
 use Rattle.pm_change.specs.Changes.{is_gone_node, is_gone_face, is_new_node}
-use Rattle.pm_change.specs.Gathering.{HasFacesOf, HaveSeen, HaveGathered, HaveRoomFor, AreEmptySets, AreJust}
+use Rattle.pm_change.specs.Gathering.{HasFacesOf, HaveSeen, HaveGathered, HaveRoomFor, AreEmptySets}
+use Rattle.pm_change.specs.Gathering.{AreJust}
 use Rattle.pm_change.specs.declared.sets.ChangeSets.{ChangeSets}
 use Rattle.pm_change.proofs.Sizes.{touched, untouched_same, made_by, split_by, in_set}
 use Rattle.pm_change.proofs.GatherLaws.{just_those, gathered_on}

@@ -1,5 +1,6 @@
 -- How a set gathers numbers that pass a test.
-use Rattle.std.proofs.Common.{◌≡◌, ℕ, ◌<◌, Bool, true, false, List, length, set, length-set, inl, inr, refl, sym, ◌∙◌, subst, if◌then◌else◌}
+use Rattle.std.proofs.Common.{◌≡◌, ℕ, ◌<◌, Bool, true, false, List, length, set, length-set, inl}
+use Rattle.std.proofs.Common.{inr, refl, sym, ◌∙◌, subst, if◌then◌else◌}
 use Rattle.std.proofs.lemmas.Bool.{cases_Bool, cases_eq, both_ways, false_from_ne_true}
 use Rattle.pm_base.specs.Counts.{set_of}
 use Rattle.pm_sets.specs.Sets.{IsEmptySet}

@@ -1,6 +1,10 @@
 -- Where new nodes are, how many faces are put, and what is at corners.
-use Rattle.std.proofs.Common.{◌≡◌, ℕ, zero, suc, ◌+◌, ◌*◌, ◌<◌, ◌≤◌, Bool, true, false, not, ◌&&◌, ◌||◌, Some, length, filter, ◌⊎◌, inl, inr, refl, sym, ap, ◌∙◌, subst, arith}
-use Rattle.std.proofs.lemmas.Bool.{cases_Bool, and_parts, and_from, and_left, and_right, and_cases, or_cases, both_ways, not-true, not_from_false, not_from_true, not-false}
+use Rattle.std.proofs.Common.{◌≡◌, ℕ, zero, suc, ◌+◌, ◌*◌, ◌<◌, ◌≤◌, Bool, true, false, not, ◌&&◌}
+use Rattle.std.proofs.Common.{◌||◌, Some, length, filter, ◌⊎◌, inl, inr, refl, sym, ap, ◌∙◌, subst}
+use Rattle.std.proofs.Common.{arith}
+use Rattle.std.proofs.lemmas.Bool.{cases_Bool, and_parts, and_from, and_left, and_right, and_cases}
+use Rattle.std.proofs.lemmas.Bool.{or_cases, both_ways, not-true, not_from_false, not_from_true}
+use Rattle.std.proofs.lemmas.Bool.{not-false}
 use Rattle.pm_base.specs.Counts.{count, numbers_below}
 use Rattle.pm_base.proofs.Counts.{count-true, count-false, count-zero}
 use Rattle.pm_base.proofs.Search.{option_cases}
@@ -9,7 +13,8 @@ use Rattle.pm_forest.specs.Fronts.{IsFront, is_active, made_in, split_in, ancest
 use Rattle.pm_forest.specs.Faces.{face_count, from_leaf}
 use Rattle.pm_forest.specs.Kept.{is_kept, is_shown}
 use Rattle.pm_forest.specs.Rules.{HasShape}
-use Rattle.pm_forest.proofs.Nodes.{maker_of-from, maker_of-makes, maker_of-lt, splitter_of-splits, splitter_of-s}
+use Rattle.pm_forest.proofs.Nodes.{maker_of-from, maker_of-makes, maker_of-lt, splitter_of-splits}
+use Rattle.pm_forest.proofs.Nodes.{splitter_of-s}
 use Rattle.pm_forest.proofs.ShapeLaws.{shape_of_nodes, shape_of_faces, shape_is_forest}
 use Rattle.pm_forest.proofs.FrontLaws.{kept}
 use Rattle.pm_forest.proofs.Shown.{shown_same}
@@ -108,9 +113,11 @@ module _ (h : Hierarchy) (shape : HasShape h) (S G : ℕ → Bool) (before : IsF
         | inl a ↦ inl (and_from (is_shown h G (3 * f)) (is_at_new h S G (3 * f)) shown a)
         | inr b ↦ inr
             (elim (or_cases (is_at_new h S G (3 * f + 1)) (is_at_new h S G (3 * f + 2)) b) [
-              | inl a ↦ inl (and_from (is_shown h G (3 * f + 1)) (is_at_new h S G (3 * f + 1)) shown1
+              | inl a ↦ inl
+                  (and_from (is_shown h G (3 * f + 1)) (is_at_new h S G (3 * f + 1)) shown1
                   a)
-              | inr a ↦ inr (and_from (is_shown h G (3 * f + 2)) (is_at_new h S G (3 * f + 2)) shown2
+              | inr a ↦ inr
+                  (and_from (is_shown h G (3 * f + 2)) (is_at_new h S G (3 * f + 2)) shown2
                   a)
             ])
       ]

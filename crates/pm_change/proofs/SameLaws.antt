@@ -1,9 +1,12 @@
 -- Where nothing changes.
-use Rattle.std.proofs.Common.{◌≡◌, ℕ, zero, suc, ◌+◌, ◌*◌, ◌<◌, ◌≤◌, Bool, true, false, not, ◌&&◌, ◌||◌, List, [], ◌∷◌, length, map, filter, inl, inr, refl, sym, ap, ◌∙◌, subst, arith}
+use Rattle.std.proofs.Common.{◌≡◌, ℕ, zero, suc, ◌+◌, ◌*◌, ◌<◌, ◌≤◌, Bool, true, false, not, ◌&&◌}
+use Rattle.std.proofs.Common.{◌||◌, List, [], ◌∷◌, length, map, filter, inl, inr, refl, sym, ap}
+use Rattle.std.proofs.Common.{◌∙◌, subst, arith}
 use Rattle.std.specs.List.{range_with_len}
 use Rattle.std.proofs.lemmas.Bool.{cases_Bool, and_from, both_ways, not_from_false}
 use Rattle.pm_base.specs.Counts.{count}
-use Rattle.pm_forest.specs.Forest.{Hierarchy, node_count, record_count, leaf_count, s_of, t_of, interval_of, holds, Holds}
+use Rattle.pm_forest.specs.Forest.{Hierarchy, node_count, record_count, leaf_count, s_of, t_of}
+use Rattle.pm_forest.specs.Forest.{interval_of, holds, Holds}
 use Rattle.pm_forest.specs.Fronts.{IsFront, is_active, ancestor_of}
 use Rattle.pm_forest.specs.Faces.{face_count, from_leaf}
 use Rattle.pm_forest.specs.Kept.{is_kept}
@@ -18,7 +21,8 @@ use Rattle.pm_beyond.specs.Plans.{differs}
 use Rattle.pm_beyond.proofs.PlanLists.{same_bools}
 use Rattle.pm_morph.specs.Laws.{shown_face_at}
 use Rattle.pm_change.specs.Shown.{shown_node_at}
-use Rattle.pm_change.specs.Changes.{Change, change_of, gone_nodes, new_nodes, gone_faces, put_faces, is_new_node, is_put, is_at_new}
+use Rattle.pm_change.specs.Changes.{Change, change_of, gone_nodes, new_nodes, gone_faces, put_faces}
+use Rattle.pm_change.specs.Changes.{is_new_node, is_put, is_at_new}
 use Rattle.pm_change.specs.Applying.{IsIn}
 use Rattle.pm_change.specs.Laws as laws
 use Rattle.pm_change.specs.Laws.{IsNear, child, parent, nothing, is_new_corner, new_corners}

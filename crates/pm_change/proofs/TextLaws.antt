@@ -9,7 +9,8 @@ use Rattle.pm_frame.specs.Frame.{frame_text, end_line}
 use Rattle.pm_morph.specs.Laws.{shown_face_at}
 use Rattle.pm_change.specs.Shown.{shown_node_at}
 use Rattle.pm_change.specs.Changes.{is_new_node, is_put, new_nodes}
-use Rattle.pm_change.specs.Texts.{change_text, line_of_node, line_of_face, first_change_line, gone_face_lines, gone_node_lines, put_face_lines, text_of}
+use Rattle.pm_change.specs.Texts.{change_text, line_of_node, line_of_face, first_change_line}
+use Rattle.pm_change.specs.Texts.{gone_face_lines, gone_node_lines, put_face_lines, text_of}
 use Rattle.pm_change.specs.Laws as laws
 use Rattle.pm_change.proofs.Counting.{length-map}
 use Rattle.pm_change.proofs.ChangeLaws.{there}

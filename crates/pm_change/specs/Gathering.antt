@@ -1,5 +1,6 @@
 -- Sets of numbers while they are filled, and when they are.
-use Rattle.std.specs.Prelude.{◌≡◌, ℕ, ◌+◌, ◌*◌, ◌<◌, Bool, true, List, length, Some, ◌⊎◌, filter, ◌||◌}
+use Rattle.std.specs.Prelude.{◌≡◌, ℕ, ◌+◌, ◌*◌, ◌<◌, Bool, true, List, length, Some, ◌⊎◌, filter}
+use Rattle.std.specs.Prelude.{◌||◌}
 use Rattle.pm_base.specs.Counts.{set_of, numbers_below}
 use Rattle.pm_links.specs.Lists.{has}
 use Rattle.pm_sets.specs.Sets.{IsEmptySet}

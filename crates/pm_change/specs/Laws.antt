@@ -1,5 +1,6 @@
 -- The laws of changes, for a hierarchy of the right shape and any two fronts of it.
-use Rattle.std.specs.Prelude.{◌≡◌, ◌↔◌, ℕ, ◌+◌, ◌*◌, ◌<◌, ◌≤◌, Bool, true, ◌&&◌, List, [], length, filter}
+use Rattle.std.specs.Prelude.{◌≡◌, ◌↔◌, ℕ, ◌+◌, ◌*◌, ◌<◌, ◌≤◌, Bool, true, ◌&&◌, List, [], length}
+use Rattle.std.specs.Prelude.{filter}
 use Rattle.pm_base.specs.Counts.{count, numbers_below}
 use Rattle.pm_forest.specs.Forest.{Hierarchy, node_count, record_count, leaf_count, s_of, Makes}
 use Rattle.pm_forest.specs.Fronts.{IsFront, is_active, ancestor_of}
@@ -14,7 +15,8 @@ use Rattle.pm_frame.specs.Frame.{frame_text}
 use Rattle.pm_change.specs.Texts.{change_text, text_of_change, text_of}
 use Rattle.pm_morph.specs.Laws.{ShownFace, shown_faces}
 use Rattle.pm_change.specs.Shown.{ShownNode, shown_node_at, shown_nodes}
-use Rattle.pm_change.specs.Changes.{Change, change_of, gone_nodes, new_nodes, gone_faces, put_faces, is_gone, is_put, is_new_node, is_at_new, has_new_corner}
+use Rattle.pm_change.specs.Changes.{Change, change_of, gone_nodes, new_nodes, gone_faces, put_faces}
+use Rattle.pm_change.specs.Changes.{is_gone, is_put, is_new_node, is_at_new, has_new_corner}
 use Rattle.pm_change.specs.Applying.{IsIn, Mesh, changed}
 
 -- The mesh that a front shows.

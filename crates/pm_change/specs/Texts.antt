@@ -6,7 +6,8 @@ use Rattle.pm_base.specs.Counts.{numbers_below}
 use Rattle.pm_forest.specs.Forest.{Hierarchy, node_count}
 use Rattle.pm_forest.specs.Faces.{face_count}
 use Rattle.pm_front.specs.Shown.{active_nodes, kept_faces}
-use Rattle.pm_frame.specs.Frame.{head_line, node_line, shown_face_line, shown_node, shown_face, end_line}
+use Rattle.pm_frame.specs.Frame.{head_line, node_line, shown_face_line, shown_node, shown_face}
+use Rattle.pm_frame.specs.Frame.{end_line}
 use Rattle.pm_morph.specs.Laws.{ShownFace}
 use Rattle.pm_change.specs.Shown.{ShownNode}
 use Rattle.pm_change.specs.Changes.{Change, gone_faces, gone_nodes, is_new_node, is_put}

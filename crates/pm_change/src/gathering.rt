@@ -1,12 +1,14 @@
 //! Gathers what is gone and the nodes that are new, from the records that differ.
-ghost use Rattle.std.specs.Prelude.{◌≡◌, ◌+◌, ◌*◌, ◌<◌, ◌≤◌, true, length, slice_set, if◌then◌else◌};
+ghost use Rattle.std.specs.Prelude.{◌≡◌, ◌+◌, ◌*◌, ◌<◌, ◌≤◌, true, length, slice_set};
+ghost use Rattle.std.specs.Prelude.{if◌then◌else◌};
 ghost use Rattle.pm_base.specs.Counts.{count, set_of};
 ghost use Rattle.pm_forest.specs.Forest.{node_count, record_count};
 ghost use Rattle.pm_forest.specs.Faces.{face_count};
 ghost use Rattle.pm_beyond.specs.Plans.{differs};
 ghost use Rattle.pm_morph.specs.Marks.{AreMarksOf};
 ghost use Rattle.pm_change.specs.Changes.{is_gone_node, is_gone_face, is_new_node};
-ghost use Rattle.pm_change.specs.Gathering.{Gathers, AreJust, HasNodesOf, HasFacesOf, HaveRoomFor, HaveGathered, HaveSeen, AreEmptySets};
+ghost use Rattle.pm_change.specs.Gathering.{Gathers, AreJust, HasNodesOf, HasFacesOf, HaveRoomFor};
+ghost use Rattle.pm_change.specs.Gathering.{HaveGathered, HaveSeen, AreEmptySets};
 
 use crate::before;
 use crate::faces::{first_face, new_faces};

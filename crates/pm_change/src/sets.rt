@@ -7,7 +7,8 @@ ghost use Rattle.pm_beyond.specs.Plans.{differs};
 ghost use Rattle.pm_morph.specs.Marks.{AreMarksOf};
 ghost use Rattle.pm_change.specs.Changes.{new_nodes};
 ghost use Rattle.pm_change.specs.Laws.{new_corners};
-ghost use Rattle.pm_change.specs.Gathering.{AreEmptySets, AreSetsOf, HaveRoomFor, size_of, sizes_of};
+ghost use Rattle.pm_change.specs.Gathering.{AreEmptySets, AreSetsOf, HaveRoomFor, size_of};
+ghost use Rattle.pm_change.specs.Gathering.{sizes_of};
 
 use crate::OutOfMemory;
 use crate::corners::gather_puts;

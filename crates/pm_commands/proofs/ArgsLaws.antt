@@ -1,5 +1,6 @@
 -- What gathered arguments ask for, the words after the first of them do.
-use Rattle.std.proofs.Common.{◌≡◌, ◌⊎◌, inl, ℕ, List, String, Option, Some, None, Result, Ok, map, drop, refl, sym, ◌∙◌, subst}
+use Rattle.std.proofs.Common.{◌≡◌, ◌⊎◌, inl, ℕ, List, String, Option, Some, None, Result, Ok, map}
+use Rattle.std.proofs.Common.{drop, refl, sym, ◌∙◌, subst}
 use Rattle.std.specs.String.{string_bytes}
 use Rattle.std.specs.declared.alloc.Global.{Global}
 use Rattle.std.specs.declared.io.Error.{Error}
@@ -8,8 +9,10 @@ use Rattle.std.specs.Vec.Iter.{into_iter_items}
 use Rattle.pm_commands.specs.declared.asked.Asked.{Asked}
 use Rattle.pm_commands.specs.Asking.{AskBy, ArgsAskBy}
 
-module _ (reads : List (List ℕ) → Option Asked) (args : Result (IntoIter (String Global) Global) Error)
-    (it : IntoIter (String Global) Global) (gathered words : List (String Global)) (is : args ≡ Ok it)
+module _ (reads : List (List ℕ) → Option Asked)
+    (args : Result (IntoIter (String Global) Global) Error)
+    (it : IntoIter (String Global) Global) (gathered words : List (String Global))
+    (is : args ≡ Ok it)
     (are : gathered ≡ drop 1 (into_iter_items it)) (same : words ≡ gathered) where
   pub words_ask : (a : Asked) → ArgsAskBy reads args a → AskBy reads words a
   words_ask a asks =

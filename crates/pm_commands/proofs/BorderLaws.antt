@@ -1,5 +1,5 @@
--- The flags of a border keep exactly its vertices, no flags keep none, and a border that was kept is
--- shown by every frame.
+-- The flags of a border keep exactly its vertices, no flags keep none, and a border that was kept
+-- is shown by every frame.
 use Rattle.std.proofs.Common.{◌≡◌, ◌↔◌, ℕ, ◌≤◌, Bool, true, false, List, [], length, slice_index_or}
 use Rattle.std.proofs.Common.{Option, Some, None, IfSome}
 use Rattle.std.proofs.Common.{Result, Ok, inl, inr, refl, sym, ◌∙◌, ap, subst, arith}
@@ -88,7 +88,8 @@ border_made m start target h is firm T closed =
 made_of :
     (Makes : Mesh → Hierarchy → Type 0) (digits : ℕ) (bytes : List ℕ) (h : Hierarchy)
     (r : Result Hierarchy Fault) (place : Option ℕ) → r ≡ Ok h → place ≡ None →
-    IsMadeOf Makes digits bytes r place → (m : Mesh) × IsSurfaceRead digits bytes (Ok m) None × Makes m h
+    IsMadeOf Makes digits bytes r place → (m : Mesh) × IsSurfaceRead digits bytes (Ok m) None
+    × Makes m h
 made_of Makes digits bytes h r place is nowhere (no_surface f i read) = absurd (cc)
 made_of Makes digits bytes h r place is nowhere (made m g i read makes) =
     let same : g ≡ h = cc in (
@@ -108,7 +109,8 @@ border_shown target digits bytes old new h is firm shown =
     (λ m h g. one_simplified_with borders.Kept m target h g) bytes is shown.built).0 in
     let same : h ≡ shown.h = cc in
     let whole : IsFirm shown.h = subst IsFirm same firm in
-    let (m, read, makes) = made_of (λ m h. IsSimplifiedWith borders.Kept m target h) digits bytes shown.h (Ok shown.h) None refl refl shown.built in
+    let (m, read, makes) = made_of (λ m h. IsSimplifiedWith borders.Kept m target h) digits bytes
+    shown.h (Ok shown.h) None refl refl shown.built in
     let start : IsStartOfRun m = surface_starts digits bytes (Ok m) None read in
     record {
       shown = shown;
@@ -117,15 +119,19 @@ border_shown target digits bytes old new h is firm shown =
       frames = λ grammar budget front.
           border_made m start target shown.h makes whole
           (played shown.h grammar (at_first budget) front).state.split
-          (scripts_closed shown.h whole.valid grammar (at_first budget) (none_closed shown.h) front).0;
+          (scripts_closed shown.h whole.valid grammar (at_first budget) (none_closed shown.h)
+          front).0;
       fronts = λ T closed. border_made m start target shown.h makes whole T closed;
     }
 
 pub shows_border :
     (target digits : ℕ) (left old new : Option (List ℕ)) (h : Hierarchy) →
-    IfSome left (λ bytes. IsSimplifiedText borders.Kept target digits bytes (Ok h) None) → digits ≤ 4 →
-    IsFirm h → Gains old new (stream digits h) → IfSome left (λ bytes. FramesShowBorder target digits bytes old new)
+    IfSome left (λ bytes. IsSimplifiedText borders.Kept target digits bytes (Ok h) None)
+    → digits ≤ 4 →
+    IsFirm h → Gains old new (stream digits h)
+    → IfSome left (λ bytes. FramesShowBorder target digits bytes old new)
 shows_border target digits None old new h is few firm gained = tt
 shows_border target digits (Some bytes) old new h is few firm gained =
     border_shown target digits bytes old new h is firm
-    (shows_surfaces (IsSimplifiedText borders.Kept target digits) digits (Some bytes) old new h is few firm gained)
+    (shows_surfaces (IsSimplifiedText borders.Kept target digits) digits (Some bytes) old new h is
+    few firm gained)

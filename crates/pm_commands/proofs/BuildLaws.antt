@@ -1,5 +1,7 @@
--- What is made of an OBJ text is the only thing, and its stream text expands to the mesh of the text.
-use Rattle.std.proofs.Common.{◌≡◌, ℕ, List, [], ◌<◌, ◌≤◌, length, Option, Some, None, Result, Ok, Err, IfOk, IfSome, refl, sym, ◌∙◌, ap, subst}
+-- What is made of an OBJ text is the only thing, and its stream text expands to the mesh of the
+-- text.
+use Rattle.std.proofs.Common.{◌≡◌, ℕ, List, [], ◌<◌, ◌≤◌, length, Option, Some, None, Result, Ok}
+use Rattle.std.proofs.Common.{Err, IfOk, IfSome, refl, sym, ◌∙◌, ap, subst}
 use Rattle.std.proofs.lemmas.List.{append-nil}
 use Rattle.pm_base.specs.declared.log.Collapse.{Collapse}
 use Rattle.pm_base.specs.Meshes.{Mesh}
@@ -27,81 +29,131 @@ use Rattle.pm_commands.specs.Outcome.{IsOutcome, done_with, GivesMeshBack}
 use Rattle.pm_commands.proofs.SurfaceLaws.{one_surface}
 
 -- The log of a run to a target is the only one, and so its hierarchy.
-pub one_simplified : (m : Mesh) (target : ℕ) (h g : Hierarchy) → IsSimplified m target h → IsSimplified m target g → h ≡ g
+pub one_simplified : (m : Mesh) (target : ℕ) (h g : Hierarchy) → IsSimplified m target h
+    → IsSimplified m target g → h ≡ g
 one_simplified m target h g is are =
-    is.made ∙ ap (λ (l : List Collapse). hierarchy_of_run m l) (one_run m target is.log are.log is.run are.run) ∙ sym are.made
+    is.made ∙ ap (λ (l : List Collapse). hierarchy_of_run m l)
+    (one_run m target is.log are.log is.run are.run) ∙ sym are.made
 
 -- The hierarchy of the run of an equal mesh.
-pub run_simplifies : {E : Type 0} (n m : Mesh) (target : ℕ) (log : List Collapse) (r : Result Hierarchy E) → n ≡ m → IsRunTo m target log → IfOk r (λ h. h ≡ hierarchy_of_run n log) → IfOk r (IsSimplified m target)
-run_simplifies n m target log (Ok h) same run is = record { log = log; run = run; made = is ∙ ap (λ (k : Mesh). hierarchy_of_run k log) same }
+pub run_simplifies : {E : Type 0} (n m : Mesh) (target : ℕ) (log : List Collapse)
+    (r : Result Hierarchy E) → n ≡ m → IsRunTo m target log
+    → IfOk r (λ h. h ≡ hierarchy_of_run n log) → IfOk r (IsSimplified m target)
+run_simplifies n m target log (Ok h) same run is = record {
+  log = log;
+  run = run;
+  made = is ∙ ap (λ (k : Mesh). hierarchy_of_run k log) same;
+}
 run_simplifies n m target log (Err e) same run is = tt
 
 -- What is made of a mesh, with so many decimals a coordinate.
 module _ (Makes : Mesh → Hierarchy → Type 0) (digits : ℕ) where
   -- Bytes give one thing, where a mesh does.
 
-  same_mesh : (bytes : List ℕ) (m n : Mesh) {i j : Option ℕ} → IsSurfaceRead digits bytes (Ok m) i → IsSurfaceRead digits bytes (Ok n) j → m ≡ n
+  same_mesh : (bytes : List ℕ) (m n : Mesh) {i j : Option ℕ} → IsSurfaceRead digits bytes (Ok m) i
+      → IsSurfaceRead digits bytes (Ok n) j → m ≡ n
   same_mesh bytes m n is are =
       let same : Ok m ≡ Ok n = (one_surface digits bytes is are).0 in
       cc
 
-  mesh_or_fault : (bytes : List ℕ) (m : Mesh) (f : Fault) {i j : Option ℕ} → IsSurfaceRead digits bytes (Ok m) i → IsSurfaceRead digits bytes (Err f) j → ⊥
+  mesh_or_fault : (bytes : List ℕ) (m : Mesh) (f : Fault) {i j : Option ℕ}
+      → IsSurfaceRead digits bytes (Ok m) i → IsSurfaceRead digits bytes (Err f) j → ⊥
   mesh_or_fault bytes m f is are =
       let same : Ok m ≡ Err f = (one_surface digits bytes is are).0 in
       absurd (cc)
 
-  pub one_made : ((m : Mesh) (h g : Hierarchy) → Makes m h → Makes m g → h ≡ g) → (bytes : List ℕ) {a b : Result Hierarchy Fault} {i j : Option ℕ}
+  pub one_made : ((m : Mesh) (h g : Hierarchy) → Makes m h → Makes m g → h ≡ g)
+      → (bytes : List ℕ) {a b : Result Hierarchy Fault} {i j : Option ℕ}
       → IsMadeOf Makes digits bytes a i → IsMadeOf Makes digits bytes b j → (a ≡ b) × (i ≡ j)
   one_made one bytes (no_surface f i is) (no_surface g j are) =
       let same : Err f ≡ Err g = (one_surface digits bytes is are).0 in
       let fault : f ≡ g = cc in
       (ap (λ (x : Fault). Err x) fault, (one_surface digits bytes is are).1)
-  one_made one bytes (no_surface f i is) (made n g j are makes) = absurd (mesh_or_fault bytes n f are is)
-  one_made one bytes (made m h i is makes) (no_surface g j are) = absurd (mesh_or_fault bytes m g is are)
+  one_made one bytes (no_surface f i is) (made n g j are makes) =
+      absurd (mesh_or_fault bytes n f are is)
+  one_made one bytes (made m h i is makes) (no_surface g j are) =
+      absurd (mesh_or_fault bytes m g is are)
   one_made one bytes (made m h i is makes) (made n g j are other) = (
-    ap (λ (x : Hierarchy). Ok x) (one m h g makes (subst (λ (x : Mesh). Makes x g) (sym (same_mesh bytes m n is are)) other)),
+    ap (λ (x : Hierarchy). Ok x)
+        (one m h g makes
+        (subst (λ (x : Mesh). Makes x g) (sym (same_mesh bytes m n is are)) other)),
     (one_surface digits bytes is are).1,
   )
 
   -- How making ends.
 
-  made_before : (bytes : List ℕ) (taken : ℕ) → ((r : Result Mesh Fault) (place : Option ℕ) → IsSurfaceRead digits bytes r place → IfSome place (λ n. taken < n))
-      → (r : Result Hierarchy Fault) (place : Option ℕ) → IsMadeOf Makes digits bytes r place → IfSome place (λ n. taken < n)
+  made_before : (bytes : List ℕ) (taken : ℕ)
+      → ((r : Result Mesh Fault) (place : Option ℕ) → IsSurfaceRead digits bytes r place
+      → IfSome place (λ n. taken < n))
+      → (r : Result Hierarchy Fault) (place : Option ℕ) → IsMadeOf Makes digits bytes r place
+      → IfSome place (λ n. taken < n)
   made_before bytes taken before r place (no_surface f i is) = before (Err f) i is
   made_before bytes taken before r place (made m h i is makes) = before (Ok m) i is
 
-  made_unreached : (left now : Option (List ℕ)) → Unreached (IsSurfaceRead digits) left now → Unreached (IsMadeOf Makes digits) left now
-  made_unreached left now fails = record { taken = fails.taken; took = fails.took; before = before left fails.before }
+  made_unreached : (left now : Option (List ℕ)) → Unreached (IsSurfaceRead digits) left now
+      → Unreached (IsMadeOf Makes digits) left now
+  made_unreached left now fails = record {
+    taken = fails.taken;
+    took = fails.took;
+    before = before left fails.before;
+  }
     where
-      before : (left : Option (List ℕ)) → IfSome left (λ bytes. (r : Result Mesh Fault) (place : Option ℕ) → IsSurfaceRead digits bytes r place → IfSome place (λ n. length fails.taken < n))
-          → IfSome left (λ bytes. (r : Result Hierarchy Fault) (place : Option ℕ) → IsMadeOf Makes digits bytes r place → IfSome place (λ n. length fails.taken < n))
+      before : (left : Option (List ℕ))
+          → IfSome left (λ bytes. (r : Result Mesh Fault) (place : Option ℕ)
+          → IsSurfaceRead digits bytes r place → IfSome place (λ n. length fails.taken < n))
+          → IfSome left (λ bytes. (r : Result Hierarchy Fault) (place : Option ℕ)
+          → IsMadeOf Makes digits bytes r place → IfSome place (λ n. length fails.taken < n))
       before None is = tt
       before (Some bytes) is = made_before bytes (length fails.taken) is
 
-  pub made_refused : (e : InputFail) (left now : Option (List ℕ)) (in_old in_new : ℕ) → Stops (IsSurfaceRead digits) e left now in_old in_new → Stops (IsMadeOf Makes digits) e left now in_old in_new
+  pub made_refused : (e : InputFail) (left now : Option (List ℕ)) (in_old in_new : ℕ)
+      → Stops (IsSurfaceRead digits) e left now in_old in_new
+      → Stops (IsMadeOf Makes digits) e left now in_old in_new
   made_refused (input.Faulty f) None now in_old in_new stops = (tt, stops.1)
-  made_refused (input.Faulty f) (Some bytes) now in_old in_new stops = (record { place = stops.0.place; is = no_surface f stops.0.place stops.0.is }, stops.1)
+  made_refused (input.Faulty f) (Some bytes) now in_old in_new
+      stops = (
+        record { place = stops.0.place; is = no_surface f stops.0.place stops.0.is },
+        stops.1,
+      )
   made_refused input.Read left now in_old in_new stops = (made_unreached left now stops.0, stops.1)
   made_refused input.OutOfMemory left now in_old in_new stops = stops
 
-  pub made_stands : (left : Option (List ℕ)) (m : Mesh) (h : Hierarchy) → IfSome left (λ bytes. IsSurfaceRead digits bytes (Ok m) None) → Makes m h → IfSome left (λ bytes. IsMadeOf Makes digits bytes (Ok h) None)
+  pub made_stands : (left : Option (List ℕ)) (m : Mesh) (h : Hierarchy)
+      → IfSome left (λ bytes. IsSurfaceRead digits bytes (Ok m) None) → Makes m h
+      → IfSome left (λ bytes. IsMadeOf Makes digits bytes (Ok h) None)
   made_stands None m h is makes = tt
   made_stands (Some bytes) m h is makes = made m h None is makes
 
 -- The text of a valid hierarchy expands to its input mesh.
 
-stream_expands : (digits : ℕ) (bytes : List ℕ) (h : Hierarchy) → digits ≤ 4 → IsSurfaceRead digits bytes (Ok (input_mesh_of h)) None → IsValid h → (all : Ran) → IsOutcome (asked.Canon digits) bytes all → IsOutcome asked.Expand (stream digits h) all
+stream_expands : (digits : ℕ) (bytes : List ℕ) (h : Hierarchy) → digits ≤ 4
+    → IsSurfaceRead digits bytes (Ok (input_mesh_of h)) None → IsValid h → (all : Ran)
+    → IsOutcome (asked.Canon digits) bytes all → IsOutcome asked.Expand (stream digits h) all
 stream_expands digits bytes h few is sound all canon = record {
   read = Ok (record { digits = digits; h = h; rest = [] });
   place = None;
-  is = let o : Beginning = record { digits = digits; h = h; rest = [] } in whole_text o (Some (length (stream digits h))) (valid o (Some (length (stream digits h))) (begins digits h [] few sound.shape (sym (append-nil (stream digits h)))) sound) refl;
-  done = canon.done ∙ ap (λ (r : Result Mesh Fault). done_with (λ m. whole_output (canonical_text digits m)) r canon.place) (one_surface digits bytes canon.is is).0;
+  is = let o : Beginning = record { digits = digits; h = h; rest = [] } in
+      whole_text o (Some (length (stream digits h)))
+      (valid o (Some (length (stream digits h)))
+      (begins digits h [] few sound.shape (sym (append-nil (stream digits h)))) sound) refl;
+  done = canon.done
+      ∙ ap (λ (r : Result Mesh Fault). done_with (λ m. whole_output (canonical_text digits m)) r
+      canon.place) (one_surface digits bytes canon.is is).0;
 }
 
-pub gives_back : (asks : Asked) (left old new : Option (List ℕ)) (h : Hierarchy) → digits_asked asks ≤ 4 → IfSome left (λ bytes. IsOutcome asks bytes (whole_output (stream (digits_asked asks) h)))
-    → IfSome left (λ bytes. IsSurfaceRead (digits_asked asks) bytes (Ok (input_mesh_of h)) None) → IsValid h → Gains old new (stream (digits_asked asks) h) → IfSome left (λ bytes. GivesMeshBack asks bytes old new)
+pub gives_back : (asks : Asked) (left old new : Option (List ℕ)) (h : Hierarchy)
+    → digits_asked asks ≤ 4
+    → IfSome left (λ bytes. IsOutcome asks bytes (whole_output (stream (digits_asked asks) h)))
+    → IfSome left (λ bytes. IsSurfaceRead (digits_asked asks) bytes (Ok (input_mesh_of h)) None)
+    → IsValid h → Gains old new (stream (digits_asked asks) h)
+    → IfSome left (λ bytes. GivesMeshBack asks bytes old new)
 gives_back asks None old new h few outcome is sound gained = tt
 gives_back asks (Some bytes) old new h few outcome is sound gained = record {
-  replied = record { all = whole_output (stream (digits_asked asks) h); outcome = outcome; fault_is = refl; gained = gained };
+  replied = record {
+    all = whole_output (stream (digits_asked asks) h);
+    outcome = outcome;
+    fault_is = refl;
+    gained = gained;
+  };
   expands = stream_expands (digits_asked asks) bytes h few is sound;
 }

@@ -5,7 +5,8 @@ use Rattle.pm_commands.specs.declared.asked.Asked.TheVariants as asked
 use Rattle.pm_commands.specs.Ran.{unread}
 use Rattle.pm_commands.specs.Outcome.{Replied, CutShort}
 
-pub demo_written : (n : ℕ) (left old new : Option (List ℕ)) → IsWritten n old new → IfSome left (λ bytes. Replied (asked.Demo n) bytes None old new)
+pub demo_written : (n : ℕ) (left old new : Option (List ℕ)) → IsWritten n old new
+    → IfSome left (λ bytes. Replied (asked.Demo n) bytes None old new)
 demo_written n None old new is = tt
 demo_written n (Some bytes) old new is = record {
   all = unread is.text;
@@ -14,7 +15,8 @@ demo_written n (Some bytes) old new is = record {
   gained = is.gained;
 }
 
-pub demo_cut : (n : ℕ) (left old new : Option (List ℕ)) → IsCut n old new → IfSome left (λ bytes. CutShort (asked.Demo n) bytes old new)
+pub demo_cut : (n : ℕ) (left old new : Option (List ℕ)) → IsCut n old new
+    → IfSome left (λ bytes. CutShort (asked.Demo n) bytes old new)
 demo_cut n None old new is = tt
 demo_cut n (Some bytes) old new is = record {
   all = unread is.text;

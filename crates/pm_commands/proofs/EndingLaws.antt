@@ -1,5 +1,6 @@
 -- What a status says of how a command ended.
-use Rattle.std.proofs.Common.{◌≡◌, ◌⊎◌, inl, inr, ℕ, ◌-◌, ◌^◌, ◌<◌, List, ◌++◌, Option, Some, None, Err, IfSome, refl, sym, ◌∙◌, ap, subst, arith}
+use Rattle.std.proofs.Common.{◌≡◌, ◌⊎◌, inl, inr, ℕ, ◌-◌, ◌^◌, ◌<◌, List, ◌++◌, Option, Some, None}
+use Rattle.std.proofs.Common.{Err, IfSome, refl, sym, ◌∙◌, ap, subst, arith}
 use Rattle.std.specs.Prelude.{codes}
 use Rattle.pm_io.specs.Causes.{Rose}
 use Rattle.pm_commands.specs.declared.fault.Fault.{Fault}
@@ -18,17 +19,26 @@ one_asked asks a b is are = cc
 
 -- What is said begins with the name of the program.
 module _ (name : List ℕ) where
-  pub said_fault : (asks : Asked) (fail : CommandFail) (left rest old new err_old err_new : Option (List ℕ)) (before now : ℕ)
-      → status_of fail ≡ 1 → Ends asks (Err fail) left rest old new → Said err_old err_new before now (name ++ fail_text fail)
-      → (f : Fault) × IfSome left (λ bytes. Replied asks bytes (Some f) old new) × Said err_old err_new before now (name ++ fault_text f)
+  pub said_fault : (asks : Asked) (fail : CommandFail)
+      (left rest old new err_old err_new : Option (List ℕ)) (before now : ℕ)
+      → status_of fail ≡ 1 → Ends asks (Err fail) left rest old new
+      → Said err_old err_new before now (name ++ fail_text fail)
+      → (f : Fault) × IfSome left (λ bytes. Replied asks bytes (Some f) old new)
+      × Said err_old err_new before now (name ++ fault_text f)
   unfolding fail_text
-  said_fault asks (fails.Faulty f) left rest old new err_old err_new before now is ends said = (f, ends, said)
-  said_fault asks fails.Read left rest old new err_old err_new before now is ends said = absurd (omega arith)
-  said_fault asks fails.Write left rest old new err_old err_new before now is ends said = absurd (omega arith)
-  said_fault asks fails.OutOfMemory left rest old new err_old err_new before now is ends said = absurd (omega arith)
+  said_fault asks (fails.Faulty f) left rest old new err_old err_new before now is ends said =
+      (f, ends, said)
+  said_fault asks fails.Read left rest old new err_old err_new before now is ends said =
+      absurd (omega arith)
+  said_fault asks fails.Write left rest old new err_old err_new before now is ends said =
+      absurd (omega arith)
+  said_fault asks fails.OutOfMemory left rest old new err_old err_new before now is ends said =
+      absurd (omega arith)
 
-  pub said_line : (fail : CommandFail) (text : List ℕ) (err_old err_new : Option (List ℕ)) (before now : ℕ)
-      → fail_text fail ≡ text → Said err_old err_new before now (name ++ fail_text fail) → Said err_old err_new before now (name ++ text)
+  pub said_line : (fail : CommandFail) (text : List ℕ) (err_old err_new : Option (List ℕ))
+      (before now : ℕ)
+      → fail_text fail ≡ text → Said err_old err_new before now (name ++ fail_text fail)
+      → Said err_old err_new before now (name ++ text)
   said_line fail text err_old err_new before now is said =
       subst (λ (l : List ℕ). Said err_old err_new before now (name ++ l)) is said
 
@@ -39,14 +49,16 @@ text_of_read fails.Read is = refl
 text_of_read fails.Write is = absurd (omega arith)
 text_of_read fails.OutOfMemory is = absurd (omega arith)
 
-pub text_of_write : (fail : CommandFail) → status_of fail ≡ 4 → fail_text fail ≡ codes "write fault\n"
+pub text_of_write : (fail : CommandFail) → status_of fail ≡ 4
+    → fail_text fail ≡ codes "write fault\n"
 unfolding fail_text
 text_of_write (fails.Faulty f) is = absurd (omega arith)
 text_of_write fails.Read is = absurd (omega arith)
 text_of_write fails.Write is = refl
 text_of_write fails.OutOfMemory is = absurd (omega arith)
 
-pub text_of_memory : (fail : CommandFail) → status_of fail ≡ 5 → fail_text fail ≡ codes "out of memory\n"
+pub text_of_memory : (fail : CommandFail) → status_of fail ≡ 5
+    → fail_text fail ≡ codes "out of memory\n"
 unfolding fail_text
 text_of_memory (fails.Faulty f) is = absurd (omega arith)
 text_of_memory fails.Read is = absurd (omega arith)
@@ -54,35 +66,61 @@ text_of_memory fails.Write is = absurd (omega arith)
 text_of_memory fails.OutOfMemory is = refl
 
 -- The outcome of the bytes has the fault that the command ended with, or none.
-same_fault : OneOutcome → (asks : Asked) (bytes : List ℕ) (all : Ran) (found : Option Fault) (left old new : Option (List ℕ)) → left ≡ Some bytes → IsOutcome asks bytes all → IfSome left (λ b. Replied asks b found old new) → found ≡ all.fault
+same_fault : OneOutcome
+    → (asks : Asked) (bytes : List ℕ) (all : Ran) (found : Option Fault)
+    (left old new : Option (List ℕ)) → left ≡ Some bytes → IsOutcome asks bytes all
+    → IfSome left (λ b. Replied asks b found old new) → found ≡ all.fault
 same_fault one asks bytes all found left old new is outcome ends =
-    let replied : Replied asks bytes found old new = subst (λ (o : Option (List ℕ)). IfSome o (λ b. Replied asks b found old new)) is ends in
-    sym replied.fault_is ∙ ap (λ (r : Ran). r.fault) (one asks bytes replied.all all replied.outcome outcome)
+    let replied : Replied asks bytes found old new =
+    subst (λ (o : Option (List ℕ)). IfSome o (λ b. Replied asks b found old new)) is ends in
+    sym replied.fault_is
+    ∙ ap (λ (r : Ran). r.fault) (one asks bytes replied.all all replied.outcome outcome)
 
-pub completes_whole : OneOutcome → (asks : Asked) (bytes : List ℕ) (all : Ran) (left old new : Option (List ℕ)) → left ≡ Some bytes → IsOutcome asks bytes all → IfSome left (λ b. Replied asks b None old new) → Answers all.fault 0
-completes_whole one asks bytes all left old new is outcome ends = subst (λ (o : Option Fault). Answers o 0) (same_fault one asks bytes all None left old new is outcome ends) refl
+pub completes_whole : OneOutcome
+    → (asks : Asked) (bytes : List ℕ) (all : Ran) (left old new : Option (List ℕ))
+    → left ≡ Some bytes → IsOutcome asks bytes all → IfSome left (λ b. Replied asks b None old new)
+    → Answers all.fault 0
+completes_whole one asks bytes all left old new is outcome ends =
+    subst (λ (o : Option Fault). Answers o 0)
+    (same_fault one asks bytes all None left old new is outcome ends) refl
 
-pub completes : OneOutcome → (asks : Asked) (fail : CommandFail) (status in_old in_new out_old out_new : ℕ) (bytes : List ℕ) (all : Ran) (left now old new : Option (List ℕ)) → left ≡ Some bytes
-    → IsOutcome asks bytes all → Ends asks (Err fail) left now old new → Counts (Err fail) in_old in_new out_old out_new → status ≡ status_of fail
-    → in_new ≡ in_old → out_new ≡ out_old → in_old < 2 ^ 64 - 1 → out_old < 2 ^ 64 - 1 → Answers all.fault status ⊎ (status ≡ 5)
-completes one asks (fails.Faulty f) status in_old in_new out_old out_new bytes all left now old new is outcome ends counts given in_same out_same in_few out_few =
-    inl (subst (λ (o : Option Fault). Answers o status) (same_fault one asks bytes all (Some f) left old new is outcome ends) given)
-completes one asks fails.Read status in_old in_new out_old out_new bytes all left now old new is outcome ends counts given in_same out_same in_few out_few = absurd (omega arith)
-completes one asks fails.Write status in_old in_new out_old out_new bytes all left now old new is outcome ends counts given in_same out_same in_few out_few = absurd (omega arith)
-completes one asks fails.OutOfMemory status in_old in_new out_old out_new bytes all left now old new is outcome ends counts given in_same out_same in_few out_few = inr given
+pub completes : OneOutcome
+    → (asks : Asked) (fail : CommandFail) (status in_old in_new out_old out_new : ℕ)
+    (bytes : List ℕ) (all : Ran) (left now old new : Option (List ℕ)) → left ≡ Some bytes
+    → IsOutcome asks bytes all → Ends asks (Err fail) left now old new
+    → Counts (Err fail) in_old in_new out_old out_new → status ≡ status_of fail
+    → in_new ≡ in_old → out_new ≡ out_old → in_old < 2 ^ 64 - 1 → out_old < 2 ^ 64 - 1
+    → Answers all.fault status ⊎ (status ≡ 5)
+completes one asks (fails.Faulty f) status in_old in_new out_old out_new bytes all left now old new
+    is outcome ends counts given in_same out_same in_few out_few =
+    inl (subst (λ (o : Option Fault). Answers o status)
+    (same_fault one asks bytes all (Some f) left old new is outcome ends) given)
+completes one asks fails.Read status in_old in_new out_old out_new bytes all left now old new is
+    outcome ends counts given in_same out_same in_few out_few = absurd (omega arith)
+completes one asks fails.Write status in_old in_new out_old out_new bytes all left now old new is
+    outcome ends counts given in_same out_same in_few out_few = absurd (omega arith)
+completes one asks fails.OutOfMemory status in_old in_new out_old out_new bytes all left now old new
+    is outcome ends counts given in_same out_same in_few out_few = inr given
 
-pub read_of : (asks : Asked) (fail : CommandFail) (left now old new : Option (List ℕ)) → status_of fail ≡ 3 → Ends asks (Err fail) left now old new → ReadFails asks left now old new
+pub read_of : (asks : Asked) (fail : CommandFail) (left now old new : Option (List ℕ))
+    → status_of fail ≡ 3 → Ends asks (Err fail) left now old new → ReadFails asks left now old new
 read_of asks (fails.Faulty f) left now old new is ends = absurd (omega arith)
 read_of asks fails.Read left now old new is ends = ends
 read_of asks fails.Write left now old new is ends = absurd (omega arith)
 read_of asks fails.OutOfMemory left now old new is ends = absurd (omega arith)
 
-pub cut_of : (asks : Asked) (fail : CommandFail) (in_old in_new out_old out_new : ℕ) (left now old new : Option (List ℕ)) → status_of fail ≡ 4 → Ends asks (Err fail) left now old new → Counts (Err fail) in_old in_new out_old out_new
+pub cut_of : (asks : Asked) (fail : CommandFail) (in_old in_new out_old out_new : ℕ)
+    (left now old new : Option (List ℕ)) → status_of fail ≡ 4
+    → Ends asks (Err fail) left now old new → Counts (Err fail) in_old in_new out_old out_new
     → Rose out_old out_new × IfSome left (λ bytes. CutShort asks bytes old new)
-cut_of asks (fails.Faulty f) in_old in_new out_old out_new left now old new is ends counts = absurd (omega arith)
-cut_of asks fails.Read in_old in_new out_old out_new left now old new is ends counts = absurd (omega arith)
-cut_of asks fails.Write in_old in_new out_old out_new left now old new is ends counts = (counts, ends)
-cut_of asks fails.OutOfMemory in_old in_new out_old out_new left now old new is ends counts = absurd (omega arith)
+cut_of asks (fails.Faulty f) in_old in_new out_old out_new left now old new is ends counts =
+    absurd (omega arith)
+cut_of asks fails.Read in_old in_new out_old out_new left now old new is ends counts =
+    absurd (omega arith)
+cut_of asks fails.Write in_old in_new out_old out_new left now old new is ends counts =
+    (counts, ends)
+cut_of asks fails.OutOfMemory in_old in_new out_old out_new left now old new is ends counts =
+    absurd (omega arith)
 
 pub write_of : (fail : CommandFail) → status_of fail ≡ 4 → fail ≡ fails.Write
 write_of (fails.Faulty f) is = absurd (omega arith)

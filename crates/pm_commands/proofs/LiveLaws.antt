@@ -1,5 +1,6 @@
 -- What `view` does without a fault, `live` does too.
-use Rattle.std.proofs.Common.{◌≡◌, refl, ℕ, length, Option, Some, None, Result, Ok, Err, sym, ap, ◌∙◌}
+use Rattle.std.proofs.Common.{◌≡◌, refl, ℕ, length, Option, Some, None, Result, Ok, Err, sym, ap}
+use Rattle.std.proofs.Common.{◌∙◌}
 use Rattle.std.specs.Option.{option_map}
 use Rattle.pm_session.specs.declared.command.ScriptFault.{ScriptFault}
 use Rattle.pm_session.specs.declared.grammar.Grammar.{Grammar}
@@ -19,13 +20,17 @@ no_fault (Some f) none = absurd (cc none)
 
 -- What a script does that follows a stream text.
 abbrev does : Grammar → ℕ → Beginning → Ran
-does grammar budget o = of_script (length (stream o.digits o.h)) (played o.h grammar (at_first budget) o.rest)
+does grammar budget o =
+    of_script (length (stream o.digits o.h)) (played o.h grammar (at_first budget) o.rest)
 
-same : (budget : ℕ) (read : Result Beginning Fault) (place : Option ℕ) → (done_with (does grammars.View budget) read place).fault ≡ None
-    → done_with (does grammars.View budget) read place ≡ done_with (does grammars.Live budget) read place
+same : (budget : ℕ) (read : Result Beginning Fault) (place : Option ℕ)
+    → (done_with (does grammars.View budget) read place).fault ≡ None
+    → done_with (does grammars.View budget) read place
+    ≡ done_with (does grammars.Live budget) read place
 same budget (Err f) place whole = absurd (cc whole)
 same budget (Ok o) place whole =
-    ap (of_script (length (stream o.digits o.h))) (sym (live_plays_view_scripts o.h (at_first budget) o.rest (no_fault _ whole)))
+    ap (of_script (length (stream o.digits o.h)))
+    (sym (live_plays_view_scripts o.h (at_first budget) o.rest (no_fault _ whole)))
 
 pub live_does_as_view : LiveDoesAsView
 live_does_as_view budget bytes all is whole = record {

@@ -1,5 +1,7 @@
 -- How reading a stream text ends.
-use Rattle.std.proofs.Common.{◌≡◌, inl, inr, ℕ, ◌+◌, ◌<◌, Bool, true, false, cond, List, [], ◌++◌, length, Option, Some, None, IfSome, Result, Ok, Err, refl, sym, ◌∙◌, ap, subst, arith, length-append}
+use Rattle.std.proofs.Common.{◌≡◌, inl, inr, ℕ, ◌+◌, ◌<◌, Bool, true, false, cond, List, [], ◌++◌}
+use Rattle.std.proofs.Common.{length, Option, Some, None, IfSome, Result, Ok, Err, refl, sym, ◌∙◌}
+use Rattle.std.proofs.Common.{ap, subst, arith, length-append}
 use Rattle.std.specs.Io.KnownBytes.{prepend_known}
 use Rattle.pm_io.specs.Bytes.{Loses, AtEnd}
 use Rattle.pm_io.specs.Causes.{HasCause}
@@ -30,45 +32,70 @@ use Rattle.pm_commands.specs.declared.fault.Fault.TheVariants as faults
 use Rattle.pm_commands.specs.declared.fault.InputFail.{InputFail}
 use Rattle.pm_commands.specs.declared.fault.InputFail.TheVariants as input
 use Rattle.pm_commands.specs.Input.{Unreached, IsFaulty, Stops}
-use Rattle.pm_commands.specs.Beginning.{Beginning, IsBeginning, bad_unit, cut_off, begins, stream_fail, load_fail, leaf_side_twice, wrong_neighbour, IsValidBeginning, no_stream, invalid, valid, IsHierarchyText, no_hierarchy, bytes_after, whole_text}
+use Rattle.pm_commands.specs.Beginning.{Beginning, IsBeginning, bad_unit, cut_off, begins}
+use Rattle.pm_commands.specs.Beginning.{stream_fail, load_fail, leaf_side_twice, wrong_neighbour}
+use Rattle.pm_commands.specs.Beginning.{IsValidBeginning, no_stream, invalid, valid}
+use Rattle.pm_commands.specs.Beginning.{IsHierarchyText, no_hierarchy, bytes_after, whole_text}
 use Rattle.pm_commands.proofs.BeginningLaws.{valid_place, same_valid, no_valid}
 
 -- What was taken is a front of the bytes.
-pub rest_is : (bytes taken : List ℕ) (now : Option (List ℕ)) → Loses (Some bytes) now taken → (rest : List ℕ) × (bytes ≡ taken ++ rest) × (now ≡ Some rest)
+pub rest_is : (bytes taken : List ℕ) (now : Option (List ℕ)) → Loses (Some bytes) now taken
+    → (rest : List ℕ) × (bytes ≡ taken ++ rest) × (now ≡ Some rest)
 rest_is bytes taken None took = absurd (cc took)
 rest_is bytes taken (Some rest) took = (rest, cc took, refl)
 
 -- Bytes that are cut off in the stream don't reach a place.
 
-beginning_before : (taken rest : List ℕ) → stream_fault taken ≡ Some (format.Truncated (length taken)) → (r : Result Beginning Fault) (place : Option ℕ) → IsBeginning (taken ++ rest) r place → IfSome place (λ n. length taken < n)
+beginning_before : (taken rest : List ℕ)
+    → stream_fault taken ≡ Some (format.Truncated (length taken))
+    → (r : Result Beginning Fault) (place : Option ℕ) → IsBeginning (taken ++ rest) r place
+    → IfSome place (λ n. length taken < n)
 beginning_before taken rest cut r place (bad_unit e n fault at) = dont_reach taken rest n cut at
 beginning_before taken rest cut r place (cut_off fault) = tt
-beginning_before taken rest cut r place (begins d h more few shape is) = dont_reach_end taken rest more d h few shape cut is
+beginning_before taken rest cut r place (begins d h more few shape is) =
+    dont_reach_end taken rest more d h few shape cut is
 
-valid_before : (taken rest : List ℕ) → stream_fault taken ≡ Some (format.Truncated (length taken)) → (r : Result Beginning Fault) (place : Option ℕ) → IsValidBeginning (taken ++ rest) r place → IfSome place (λ n. length taken < n)
-valid_before taken rest cut r place (no_stream f i is) = beginning_before taken rest cut (Err f) i is
-valid_before taken rest cut r place (invalid o f i is fault) = beginning_before taken rest cut (Ok o) i is
-valid_before taken rest cut r place (valid o i is good) = beginning_before taken rest cut (Ok o) i is
+valid_before : (taken rest : List ℕ) → stream_fault taken ≡ Some (format.Truncated (length taken))
+    → (r : Result Beginning Fault) (place : Option ℕ) → IsValidBeginning (taken ++ rest) r place
+    → IfSome place (λ n. length taken < n)
+valid_before taken rest cut r place (no_stream f i is) =
+    beginning_before taken rest cut (Err f) i is
+valid_before taken rest cut r place (invalid o f i is fault) =
+    beginning_before taken rest cut (Ok o) i is
+valid_before taken rest cut r place (valid o i is good) =
+    beginning_before taken rest cut (Ok o) i is
 
-pub valid_unread : (left now : Option (List ℕ)) (u : CutOffUnread left now) → IfSome left (λ bytes. (r : Result Beginning Fault) (place : Option ℕ) → IsValidBeginning bytes r place → IfSome place (λ n. length u.taken < n))
+pub valid_unread : (left now : Option (List ℕ)) (u : CutOffUnread left now)
+    → IfSome left (λ bytes. (r : Result Beginning Fault) (place : Option ℕ)
+    → IsValidBeginning bytes r place → IfSome place (λ n. length u.taken < n))
 valid_unread left now u = go left u.took
   where
-    go : (left : Option (List ℕ)) → Loses left now u.taken → IfSome left (λ bytes. (r : Result Beginning Fault) (place : Option ℕ) → IsValidBeginning bytes r place → IfSome place (λ n. length u.taken < n))
+    go : (left : Option (List ℕ)) → Loses left now u.taken
+        → IfSome left (λ bytes. (r : Result Beginning Fault) (place : Option ℕ)
+        → IsValidBeginning bytes r place → IfSome place (λ n. length u.taken < n))
     go None took = tt
     go (Some bytes) took = λ r place is.
         let (rest, whole, now_is) = rest_is bytes u.taken now took in
-        valid_before u.taken rest u.cut r place (subst (λ (l : List ℕ). IsValidBeginning l r place) whole is)
+        valid_before u.taken rest u.cut r place
+        (subst (λ (l : List ℕ). IsValidBeginning l r place) whole is)
 
-valid_unreached : (left now : Option (List ℕ)) → CutOffUnread left now → Unreached IsValidBeginning left now
-valid_unreached left now u = record { taken = u.taken; took = u.took; before = valid_unread left now u }
+valid_unreached : (left now : Option (List ℕ)) → CutOffUnread left now
+    → Unreached IsValidBeginning left now
+valid_unreached left now u = record {
+  taken = u.taken;
+  took = u.took;
+  before = valid_unread left now u;
+}
 
 -- The text has a fault.
 
-truncated_is : (bytes : List ℕ) (n : ℕ) → stream_fault bytes ≡ Some (format.Truncated n) → n ≡ length bytes
+truncated_is : (bytes : List ℕ) (n : ℕ) → stream_fault bytes ≡ Some (format.Truncated n)
+    → n ≡ length bytes
 unfolding stream_fault
 truncated_is bytes n is = go (magic_is_bad bytes) (forest_at (words_of bytes)) is
   where
-    shape_no : (f : Shape) → Some (named (length bytes) (kinds.Fault f)) ≡ Some (format.Truncated n) → ⊥
+    shape_no : (f : Shape) → Some (named (length bytes) (kinds.Fault f)) ≡ Some (format.Truncated n)
+        → ⊥
     shape_no shapes.BadCount e = absurd cc
     shape_no (shapes.BadRoot i) e = absurd cc
     shape_no (shapes.BadFace i) e = absurd cc
@@ -76,7 +103,9 @@ truncated_is bytes n is = go (magic_is_bad bytes) (forest_at (words_of bytes)) i
     shape_no (shapes.BadInput i) e = absurd cc
     shape_no shapes.OutOfMemory e = absurd cc
 
-    go : (bad : Bool) (r : Result (Hierarchy × List ℕ) Stop) → cond bad (Some format.BadMagic) (fault_in (length bytes) r) ≡ Some (format.Truncated n) → n ≡ length bytes
+    go : (bad : Bool) (r : Result (Hierarchy × List ℕ) Stop)
+        → cond bad (Some format.BadMagic) (fault_in (length bytes) r) ≡ Some (format.Truncated n)
+        → n ≡ length bytes
     go true r e = absurd cc
     go false (Ok u) e = absurd cc
     go false (Err kinds.End) e = cc
@@ -84,16 +113,19 @@ truncated_is bytes n is = go (magic_is_bad bytes) (forest_at (words_of bytes)) i
     go false (Err (kinds.Digits d)) e = absurd cc
     go false (Err (kinds.Fault f)) e = absurd (shape_no f e)
 
-pub bad_text : (bytes : List ℕ) (e : FormatError) (cut : Bool) → is_truncated (Some e) ≡ cut → stream_fault bytes ≡ Some e → IsFaulty IsValidBeginning bytes (faults.Stream e)
+pub bad_text : (bytes : List ℕ) (e : FormatError) (cut : Bool) → is_truncated (Some e) ≡ cut
+    → stream_fault bytes ≡ Some e → IsFaulty IsValidBeginning bytes (faults.Stream e)
 bad_text bytes e false told is =
     let (n, at) = there_is_a_place bytes (ap is_truncated is ∙ told) in
     record { place = Some n; is = no_stream (faults.Stream e) (Some n) (bad_unit e n is at) }
 bad_text bytes (format.Truncated n) true told is =
     let len = truncated_is bytes n is in
-    let ends : IsBeginning bytes (Err (faults.Stream (format.Truncated (length bytes)))) None = cut_off (is ∙ ap (λ (k : ℕ). Some (format.Truncated k)) len) in
+    let ends : IsBeginning bytes (Err (faults.Stream (format.Truncated (length bytes)))) None =
+    cut_off (is ∙ ap (λ (k : ℕ). Some (format.Truncated k)) len) in
     record {
       place = None;
-      is = subst (λ (k : ℕ). IsValidBeginning bytes (Err (faults.Stream (format.Truncated k))) None) (sym len) (no_stream (faults.Stream (format.Truncated (length bytes))) None ends);
+      is = subst (λ (k : ℕ). IsValidBeginning bytes (Err (faults.Stream (format.Truncated k))) None)
+          (sym len) (no_stream (faults.Stream (format.Truncated (length bytes))) None ends);
     }
 bad_text bytes format.BadMagic true told is = absurd cc
 bad_text bytes (format.BadVersion v) true told is = absurd cc
@@ -105,26 +137,42 @@ bad_text bytes (format.BadRecord i) true told is = absurd cc
 bad_text bytes (format.BadInput i) true told is = absurd cc
 bad_text bytes format.OutOfMemory true told is = absurd cc
 
-bad_stream : (left : Option (List ℕ)) (e : FormatError) → (e ≡ format.OutOfMemory → ⊥) → HasFault left e → IfSome left (λ bytes. IsFaulty IsValidBeginning bytes (faults.Stream e))
+bad_stream : (left : Option (List ℕ)) (e : FormatError) → (e ≡ format.OutOfMemory → ⊥)
+    → HasFault left e → IfSome left (λ bytes. IsFaulty IsValidBeginning bytes (faults.Stream e))
 bad_stream left e other (inl memory) = absurd (other memory)
 bad_stream None e other (inr is) = tt
 bad_stream (Some bytes) e other (inr is) = bad_text bytes e (is_truncated (Some e)) refl is
 
-pub stream_stops : (left whole mid now : Option (List ℕ)) (e : StreamFail) (in_old in_new : ℕ) → whole ≡ left → Reads whole mid now (Err e) → HasCause in_old in_new (of_stream_source {T = Stream} (Err e)) → Stops IsValidBeginning (stream_fail e) left now in_old in_new
-stream_stops left whole mid now e in_old in_new same reads cause = go e (subst (λ (o : Option (List ℕ)). Reads o mid now (Err e)) same reads) cause
+pub stream_stops : (left whole mid now : Option (List ℕ)) (e : StreamFail) (in_old in_new : ℕ)
+    → whole ≡ left → Reads whole mid now (Err e)
+    → HasCause in_old in_new (of_stream_source {T = Stream} (Err e))
+    → Stops IsValidBeginning (stream_fail e) left now in_old in_new
+stream_stops left whole mid now e in_old in_new same reads cause =
+    go e (subst (λ (o : Option (List ℕ)). Reads o mid now (Err e)) same reads) cause
   where
-    go : (e : StreamFail) → Reads left mid now (Err e) → HasCause in_old in_new (of_stream_source {T = Stream} (Err e)) → Stops IsValidBeginning (stream_fail e) left now in_old in_new
+    go : (e : StreamFail) → Reads left mid now (Err e)
+        → HasCause in_old in_new (of_stream_source {T = Stream} (Err e))
+        → Stops IsValidBeginning (stream_fail e) left now in_old in_new
     go streams.Read reads cause = (valid_unreached left now reads, cause.failed)
     go (streams.Fault format.OutOfMemory) reads cause = cause.same
-    go (streams.Fault format.BadMagic) reads cause = (bad_stream left format.BadMagic (λ e. absurd cc) reads, cause.same)
-    go (streams.Fault (format.BadVersion v)) reads cause = (bad_stream left (format.BadVersion v) (λ e. absurd cc) reads, cause.same)
-    go (streams.Fault (format.BadDigits d)) reads cause = (bad_stream left (format.BadDigits d) (λ e. absurd cc) reads, cause.same)
-    go (streams.Fault (format.Truncated n)) reads cause = (bad_stream left (format.Truncated n) (λ e. absurd cc) reads, cause.same)
-    go (streams.Fault format.BadCount) reads cause = (bad_stream left format.BadCount (λ e. absurd cc) reads, cause.same)
-    go (streams.Fault (format.BadRoot i)) reads cause = (bad_stream left (format.BadRoot i) (λ e. absurd cc) reads, cause.same)
-    go (streams.Fault (format.BadFace i)) reads cause = (bad_stream left (format.BadFace i) (λ e. absurd cc) reads, cause.same)
-    go (streams.Fault (format.BadRecord i)) reads cause = (bad_stream left (format.BadRecord i) (λ e. absurd cc) reads, cause.same)
-    go (streams.Fault (format.BadInput i)) reads cause = (bad_stream left (format.BadInput i) (λ e. absurd cc) reads, cause.same)
+    go (streams.Fault format.BadMagic) reads cause =
+        (bad_stream left format.BadMagic (λ e. absurd cc) reads, cause.same)
+    go (streams.Fault (format.BadVersion v)) reads cause =
+        (bad_stream left (format.BadVersion v) (λ e. absurd cc) reads, cause.same)
+    go (streams.Fault (format.BadDigits d)) reads cause =
+        (bad_stream left (format.BadDigits d) (λ e. absurd cc) reads, cause.same)
+    go (streams.Fault (format.Truncated n)) reads cause =
+        (bad_stream left (format.Truncated n) (λ e. absurd cc) reads, cause.same)
+    go (streams.Fault format.BadCount) reads cause =
+        (bad_stream left format.BadCount (λ e. absurd cc) reads, cause.same)
+    go (streams.Fault (format.BadRoot i)) reads cause =
+        (bad_stream left (format.BadRoot i) (λ e. absurd cc) reads, cause.same)
+    go (streams.Fault (format.BadFace i)) reads cause =
+        (bad_stream left (format.BadFace i) (λ e. absurd cc) reads, cause.same)
+    go (streams.Fault (format.BadRecord i)) reads cause =
+        (bad_stream left (format.BadRecord i) (λ e. absurd cc) reads, cause.same)
+    go (streams.Fault (format.BadInput i)) reads cause =
+        (bad_stream left (format.BadInput i) (λ e. absurd cc) reads, cause.same)
 
 -- The text was read.
 
@@ -133,63 +181,111 @@ pub record Begun (left mid : Option (List ℕ)) (d : ℕ) (h : Hierarchy) : Type
   pub text : IsText bytes d h
   pub took : Loses left mid bytes
 
-pub begun : (left whole mid now : Option (List ℕ)) (s : Stream) → whole ≡ left → Reads whole mid now (Ok s) → Begun left mid s.digits s.h
-begun left whole mid now s same reads = record { bytes = reads.0; text = reads.1; took = subst (λ (o : Option (List ℕ)). Loses o mid reads.0) same reads.2 }
+pub begun : (left whole mid now : Option (List ℕ)) (s : Stream) → whole ≡ left
+    → Reads whole mid now (Ok s) → Begun left mid s.digits s.h
+begun left whole mid now s same reads = record {
+  bytes = reads.0;
+  text = reads.1;
+  took = subst (λ (o : Option (List ℕ)). Loses o mid reads.0) same reads.2;
+}
 
-pub took_text : (left mid : Option (List ℕ)) (d : ℕ) (h : Hierarchy) → Begun left mid d h → Loses left mid (stream d h)
+pub took_text : (left mid : Option (List ℕ)) (d : ℕ) (h : Hierarchy) → Begun left mid d h
+    → Loses left mid (stream d h)
 took_text left mid d h b = subst (λ (l : List ℕ). Loses left mid l) b.text.text b.took
 
-pub opened : (bytes rest : List ℕ) (d : ℕ) (h : Hierarchy) → Begun (Some bytes) (Some rest) d h → IsBeginning bytes (Ok (record { digits = d; h = h; rest = rest })) (Some (length (stream d h)))
-opened bytes rest d h b = begins d h rest b.text.few b.text.shape (cc (took_text (Some bytes) (Some rest) d h b))
+pub opened : (bytes rest : List ℕ) (d : ℕ) (h : Hierarchy) → Begun (Some bytes) (Some rest) d h
+    → IsBeginning bytes (Ok (record { digits = d; h = h; rest = rest }))
+    (Some (length (stream d h)))
+opened bytes rest d h b =
+    begins d h rest b.text.few b.text.shape (cc (took_text (Some bytes) (Some rest) d h b))
 
-load_refuses : (bytes rest : List ℕ) (d : ℕ) (h : Hierarchy) (e : LoadFail) (now : Option (List ℕ)) (in_old in_new : ℕ) → Begun (Some bytes) (Some rest) d h → IsLoadFault h e → in_new ≡ in_old
+load_refuses : (bytes rest : List ℕ) (d : ℕ) (h : Hierarchy) (e : LoadFail) (now : Option (List ℕ))
+    (in_old in_new : ℕ) → Begun (Some bytes) (Some rest) d h → IsLoadFault h e → in_new ≡ in_old
     → Stops IsValidBeginning (load_fail e) (Some bytes) now in_old in_new
 load_refuses bytes rest d h (loads.EdgeTwice f) now in_old in_new b fault same =
-    let o : Beginning = record { digits = d; h = h; rest = rest } in
-    (record { place = Some (length (stream d h)); is = invalid o (faults.LeafEdgeTwice f.0) (Some (length (stream d h))) (opened bytes rest d h b) (leaf_side_twice f.0 fault) }, same)
+    let o : Beginning = record { digits = d; h = h; rest = rest } in (
+      record {
+        place = Some (length (stream d h));
+        is =
+            invalid o (faults.LeafEdgeTwice f.0) (Some (length (stream d h)))
+            (opened bytes rest d h b)
+            (leaf_side_twice f.0 fault);
+      },
+      same,
+    )
 load_refuses bytes rest d h (loads.BadNeighbour k) now in_old in_new b fault same =
-    let o : Beginning = record { digits = d; h = h; rest = rest } in
-    (record { place = Some (length (stream d h)); is = invalid o (faults.BadNeighbour k) (Some (length (stream d h))) (opened bytes rest d h b) (wrong_neighbour k fault.0 fault.1) }, same)
+    let o : Beginning = record { digits = d; h = h; rest = rest } in (
+      record {
+        place = Some (length (stream d h));
+        is =
+            invalid o (faults.BadNeighbour k) (Some (length (stream d h))) (opened bytes rest d h b)
+            (wrong_neighbour k fault.0 fault.1);
+      },
+      same,
+    )
 load_refuses bytes rest d h loads.OutOfMemory now in_old in_new b fault same = same
 
-pub load_stops : (left mid now : Option (List ℕ)) (d : ℕ) (h : Hierarchy) (e : LoadFail) (in_old in_new : ℕ) → Begun left mid d h → IsLoadFault h e → in_new ≡ in_old → Stops IsValidBeginning (load_fail e) left now in_old in_new
+pub load_stops : (left mid now : Option (List ℕ)) (d : ℕ) (h : Hierarchy) (e : LoadFail)
+    (in_old in_new : ℕ) → Begun left mid d h → IsLoadFault h e → in_new ≡ in_old
+    → Stops IsValidBeginning (load_fail e) left now in_old in_new
 load_stops None mid now d h (loads.EdgeTwice f) in_old in_new b fault same = (tt, same)
 load_stops None mid now d h (loads.BadNeighbour k) in_old in_new b fault same = (tt, same)
 load_stops None mid now d h loads.OutOfMemory in_old in_new b fault same = same
 load_stops (Some bytes) None now d h e in_old in_new b fault same = absurd (cc b.took)
-load_stops (Some bytes) (Some rest) now d h e in_old in_new b fault same = load_refuses bytes rest d h e now in_old in_new b fault same
+load_stops (Some bytes) (Some rest) now d h e in_old in_new b fault same =
+    load_refuses bytes rest d h e now in_old in_new b fault same
 
 -- Where nothing may follow, what stops the beginning stops all.
 
-text_before : (bytes : List ℕ) (taken : ℕ) → ((r : Result Beginning Fault) (place : Option ℕ) → IsValidBeginning bytes r place → IfSome place (λ n. taken < n))
-    → (r : Result Beginning Fault) (place : Option ℕ) → IsHierarchyText bytes r place → IfSome place (λ n. taken < n)
+text_before : (bytes : List ℕ) (taken : ℕ)
+    → ((r : Result Beginning Fault) (place : Option ℕ) → IsValidBeginning bytes r place
+    → IfSome place (λ n. taken < n))
+    → (r : Result Beginning Fault) (place : Option ℕ) → IsHierarchyText bytes r place
+    → IfSome place (λ n. taken < n)
 text_before bytes taken before r place (no_hierarchy f i is) = before (Err f) i is
 text_before bytes taken before r place (bytes_after o i is more) =
-    let lt : taken < length (stream o.digits o.h) = subst (λ (p : Option ℕ). IfSome p (λ n. taken < n)) (valid_place bytes (Ok o) i o refl is) (before (Ok o) i is) in
+    let lt : taken < length (stream o.digits o.h) =
+    subst (λ (p : Option ℕ). IfSome p (λ n. taken < n)) (valid_place bytes (Ok o) i o refl is)
+    (before (Ok o) i is) in
     omega (arith, lt)
 text_before bytes taken before r place (whole_text o i is none) = tt
 
-text_unreached : (left now : Option (List ℕ)) → Unreached IsValidBeginning left now → Unreached IsHierarchyText left now
+text_unreached : (left now : Option (List ℕ)) → Unreached IsValidBeginning left now
+    → Unreached IsHierarchyText left now
 text_unreached left now u = record { taken = u.taken; took = u.took; before = before left u.before }
   where
-    before : (left : Option (List ℕ)) → IfSome left (λ bytes. (r : Result Beginning Fault) (place : Option ℕ) → IsValidBeginning bytes r place → IfSome place (λ n. length u.taken < n))
-        → IfSome left (λ bytes. (r : Result Beginning Fault) (place : Option ℕ) → IsHierarchyText bytes r place → IfSome place (λ n. length u.taken < n))
+    before : (left : Option (List ℕ))
+        → IfSome left (λ bytes. (r : Result Beginning Fault) (place : Option ℕ)
+        → IsValidBeginning bytes r place → IfSome place (λ n. length u.taken < n))
+        → IfSome left (λ bytes. (r : Result Beginning Fault) (place : Option ℕ)
+        → IsHierarchyText bytes r place → IfSome place (λ n. length u.taken < n))
     before None is = tt
     before (Some bytes) is = text_before bytes (length u.taken) is
 
-pub text_stops : (e : InputFail) (left now : Option (List ℕ)) (in_old in_new : ℕ) → Stops IsValidBeginning e left now in_old in_new → Stops IsHierarchyText e left now in_old in_new
+pub text_stops : (e : InputFail) (left now : Option (List ℕ)) (in_old in_new : ℕ)
+    → Stops IsValidBeginning e left now in_old in_new
+    → Stops IsHierarchyText e left now in_old in_new
 text_stops (input.Faulty f) None now in_old in_new stops = (tt, stops.1)
-text_stops (input.Faulty f) (Some bytes) now in_old in_new stops = (record { place = stops.0.place; is = no_hierarchy f stops.0.place stops.0.is }, stops.1)
+text_stops (input.Faulty f) (Some bytes) now in_old in_new
+    stops = (
+      record { place = stops.0.place; is = no_hierarchy f stops.0.place stops.0.is },
+      stops.1,
+    )
 text_stops input.Read left now in_old in_new stops = (text_unreached left now stops.0, stops.1)
 text_stops input.OutOfMemory left now in_old in_new stops = stops
 
 -- What the bytes after the text make of it.
 
-module _ (left mid now : Option (List ℕ)) (d : ℕ) (h : Hierarchy) (piece : List ℕ) (b : Begun left mid d h) (good : IsValid h) (after : mid ≡ prepend_known piece now) where
-  pub text_whole : piece ≡ [] → AtEnd now → IfSome left (λ bytes. IsHierarchyText bytes (Ok (record { digits = d; h = h; rest = [] })) None)
+module _ (left mid now : Option (List ℕ)) (d : ℕ) (h : Hierarchy) (piece : List ℕ)
+    (b : Begun left mid d h) (good : IsValid h) (after : mid ≡ prepend_known piece now) where
+  pub text_whole : piece ≡ [] → AtEnd now
+      → IfSome left (λ bytes. IsHierarchyText bytes (Ok (record { digits = d; h = h; rest = [] }))
+      None)
   text_whole none end = go left mid now b after end
     where
-      go : (left mid now : Option (List ℕ)) → Begun left mid d h → mid ≡ prepend_known piece now → AtEnd now → IfSome left (λ bytes. IsHierarchyText bytes (Ok (record { digits = d; h = h; rest = [] })) None)
+      go : (left mid now : Option (List ℕ)) → Begun left mid d h → mid ≡ prepend_known piece now
+          → AtEnd now → IfSome left
+          (λ bytes. IsHierarchyText bytes (Ok (record { digits = d; h = h; rest = [] })) None)
       go None mid now b after end = tt
       go (Some bytes) None now b after end = absurd (cc b.took)
       go (Some bytes) (Some rest) None b after end = absurd (cc after)
@@ -197,13 +293,17 @@ module _ (left mid now : Option (List ℕ)) (d : ℕ) (h : Hierarchy) (piece : L
           let o : Beginning = record { digits = d; h = h; rest = rest } in
           let is : rest ≡ piece ++ later = cc after in
           let nothing : rest ≡ [] = is ∙ ap (λ (l : List ℕ). l ++ later) none ∙ end in
-          subst (λ (l : List ℕ). IsHierarchyText bytes (Ok (record { digits = d; h = h; rest = l })) None) nothing
-          (whole_text o (Some (length (stream d h))) (valid o (Some (length (stream d h))) (opened bytes rest d h b) good) nothing)
+          subst (λ (l : List ℕ). IsHierarchyText bytes (Ok (record { digits = d; h = h; rest = l }))
+          None) nothing
+          (whole_text o (Some (length (stream d h)))
+          (valid o (Some (length (stream d h))) (opened bytes rest d h b) good) nothing)
 
-  pub text_trails : 0 < length piece → IfSome left (λ bytes. IsFaulty IsHierarchyText bytes faults.Trailing)
+  pub text_trails : 0 < length piece
+      → IfSome left (λ bytes. IsFaulty IsHierarchyText bytes faults.Trailing)
   text_trails some = go left mid now b after
     where
-      go : (left mid now : Option (List ℕ)) → Begun left mid d h → mid ≡ prepend_known piece now → IfSome left (λ bytes. IsFaulty IsHierarchyText bytes faults.Trailing)
+      go : (left mid now : Option (List ℕ)) → Begun left mid d h → mid ≡ prepend_known piece now
+          → IfSome left (λ bytes. IsFaulty IsHierarchyText bytes faults.Trailing)
       go None mid now b after = tt
       go (Some bytes) None now b after = absurd (cc b.took)
       go (Some bytes) (Some rest) None b after = absurd (cc after)
@@ -212,13 +312,19 @@ module _ (left mid now : Option (List ℕ)) (d : ℕ) (h : Hierarchy) (piece : L
           let is : rest ≡ piece ++ later = cc after in
           record {
             place = Some (length (stream d h) + 1);
-            is = bytes_after o (Some (length (stream d h))) (valid o (Some (length (stream d h))) (opened bytes rest d h b) good) (λ none. absurd (omega (arith, some, ap length is, ap length none, length-append piece later)));
+            is = bytes_after o (Some (length (stream d h)))
+                (valid o (Some (length (stream d h))) (opened bytes rest d h b) good)
+                (λ none. absurd
+                (omega (arith, some, ap length is, ap length none, length-append piece later)));
           }
 
 -- The read failed that looks for a byte after the text.
 
-after_text : (bytes rest : List ℕ) (d : ℕ) (h : Hierarchy) (n : ℕ) → IsBeginning bytes (Ok (record { digits = d; h = h; rest = rest })) (Some (length (stream d h))) → IsValid h → n ≡ length (stream d h)
-    → (r : Result Beginning Fault) (place : Option ℕ) → IsHierarchyText bytes r place → IfSome place (λ m. n < m)
+after_text : (bytes rest : List ℕ) (d : ℕ) (h : Hierarchy) (n : ℕ)
+    → IsBeginning bytes (Ok (record { digits = d; h = h; rest = rest }))
+    (Some (length (stream d h))) → IsValid h → n ≡ length (stream d h)
+    → (r : Result Beginning Fault) (place : Option ℕ) → IsHierarchyText bytes r place
+    → IfSome place (λ m. n < m)
 after_text bytes rest d h n open_is good same r place (no_hierarchy f i is) =
     let o : Beginning = record { digits = d; h = h; rest = rest } in
     absurd (no_valid bytes o f (valid o (Some (length (stream d h))) open_is good) is)
@@ -228,16 +334,24 @@ after_text bytes rest d h n open_is good same r place (bytes_after q i is more) 
     omega (arith, same, ap (λ (x : Beginning). length (stream x.digits x.h)) one)
 after_text bytes rest d h n open_is good same r place (whole_text q i is none) = tt
 
-pub end_unread : (left mid now : Option (List ℕ)) (d : ℕ) (h : Hierarchy) → Begun left mid d h → IsValid h → mid ≡ now → Unreached IsHierarchyText left now
+pub end_unread : (left mid now : Option (List ℕ)) (d : ℕ) (h : Hierarchy) → Begun left mid d h
+    → IsValid h → mid ≡ now → Unreached IsHierarchyText left now
 end_unread left mid now d h b good same = record {
   taken = b.bytes;
   took = subst (λ (o : Option (List ℕ)). Loses left o b.bytes) same b.took;
   before = before left mid b.took;
 }
   where
-    before : (left mid : Option (List ℕ)) → Loses left mid b.bytes → IfSome left (λ bytes. (r : Result Beginning Fault) (place : Option ℕ) → IsHierarchyText bytes r place → IfSome place (λ n. length b.bytes < n))
+    before : (left mid : Option (List ℕ)) → Loses left mid b.bytes
+        → IfSome left (λ bytes. (r : Result Beginning Fault) (place : Option ℕ)
+        → IsHierarchyText bytes r place → IfSome place (λ n. length b.bytes < n))
     before None mid took = tt
     before (Some bytes) None took = absurd (cc took)
     before (Some bytes) (Some rest) took =
-        let begin : Begun (Some bytes) (Some rest) d h = record { bytes = b.bytes; text = b.text; took = took } in
-        after_text bytes rest d h (length b.bytes) (opened bytes rest d h begin) good (ap length b.text.text)
+        let begin : Begun (Some bytes) (Some rest) d h = record {
+          bytes = b.bytes;
+          text = b.text;
+          took = took;
+        } in
+        after_text bytes rest d h (length b.bytes) (opened bytes rest d h begin) good
+        (ap length b.text.text)

@@ -1,5 +1,6 @@
 -- What `simplify` makes of a mesh: something, and one thing.
-use Rattle.std.proofs.Common.{◌≡◌, ◌↔◌, ℕ, Bool, true, false, List, Result, Ok, Err, IfOk, inl, inr, refl, sym, ◌∙◌, ap, subst}
+use Rattle.std.proofs.Common.{◌≡◌, ◌↔◌, ℕ, Bool, true, false, List, Result, Ok, Err, IfOk, inl, inr}
+use Rattle.std.proofs.Common.{refl, sym, ◌∙◌, ap, subst}
 use Rattle.std.proofs.lemmas.Bool.{false≢true}
 use Rattle.pm_base.specs.declared.log.Collapse.{Collapse}
 use Rattle.pm_base.specs.Meshes.{Mesh}
@@ -52,7 +53,8 @@ some_kept borders.Kept m =
 -- So one hierarchy is made of it.
 
 pub one_simplified_with :
-    (border : Border) (m : Mesh) (target : ℕ) (h g : Hierarchy) → IsSimplifiedWith border m target h →
+    (border : Border) (m : Mesh) (target : ℕ) (h g : Hierarchy) → IsSimplifiedWith border m target h
+    →
     IsSimplifiedWith border m target g → h ≡ g
 one_simplified_with border m target h g is are =
     let same = one_kept border m is.kept are.kept is.keeps are.keeps in
@@ -62,7 +64,8 @@ one_simplified_with border m target h g is are =
     let log = known.one is.log run in
     is.made ∙ ap (λ (l : List Collapse). hierarchy_of_run m l) log ∙ sym are.made
 
-pub some_simplified : (m : Mesh) → IsStartOfRun m → (target : ℕ) → (h : Hierarchy) × IsSimplified m target h
+pub some_simplified : (m : Mesh) → IsStartOfRun m → (target : ℕ)
+    → (h : Hierarchy) × IsSimplified m target h
 some_simplified m start target =
     let run = some_run m start target in
     (hierarchy_of_run m run.0, record { log = run.0; run = run.1; made = refl })
@@ -80,7 +83,8 @@ some_simplified_with border m start target =
 -- The hierarchy of the run that keeps these vertices.
 pub made_with :
     {E : Type 0} (border : Border) (n m : Mesh) (slice flags : List Bool) (target : ℕ)
-    (log : List Collapse) (r : Result Hierarchy E) → n ≡ m → slice ≡ flags → IsKeptWith border m (kept_in flags) →
+    (log : List Collapse) (r : Result Hierarchy E) → n ≡ m → slice ≡ flags
+    → IsKeptWith border m (kept_in flags) →
     IsRunBy (fine_keeping (kept_in slice)) m target log → IfOk r (λ h. h ≡ hierarchy_of_run n log) →
     IfOk r (IsSimplifiedWith border m target)
 made_with border n m slice flags target log (Ok h) same all keeps run is = record {
@@ -100,4 +104,5 @@ same_simplify P a b t u d e is holds =
     let border : a ≡ b = cc in
     let target : t ≡ u = cc in
     let digits : d ≡ e = cc in
-    subst (λ (c : Border). P c u e) border (subst (λ (n : ℕ). P a n e) target (subst (λ (n : ℕ). P a t n) digits holds))
+    subst (λ (c : Border). P c u e) border
+    (subst (λ (n : ℕ). P a n e) target (subst (λ (n : ℕ). P a t n) digits holds))

@@ -1,5 +1,6 @@
 -- Each input has an outcome.
-use Rattle.std.proofs.Common.{◌≡◌, ℕ, ◌+◌, List, [], ◌∷◌, length, Option, Some, None, Result, Ok, Err, IfOk, inl, inr, refl}
+use Rattle.std.proofs.Common.{◌≡◌, ℕ, ◌+◌, List, [], ◌∷◌, length, Option, Some, None, Result, Ok}
+use Rattle.std.proofs.Common.{Err, IfOk, inl, inr, refl}
 use Rattle.pm_base.specs.Meshes.{Mesh}
 use Rattle.pm_base.specs.Canonical.{canonical_text}
 use Rattle.pm_base.specs.Sides.{net_of}
@@ -31,7 +32,9 @@ use Rattle.pm_commands.specs.declared.asked.Asked.TheVariants as asked
 use Rattle.pm_commands.specs.Surface.{IsSurfaceRead, bad_line, no_manifold, manifold}
 use Rattle.pm_commands.specs.Build.{IsSimplified, IsMadeOf, no_surface, made}
 use Rattle.pm_commands.specs.Simplified.{IsSimplifiedWith}
-use Rattle.pm_commands.specs.Beginning.{Beginning, IsBeginning, begins, leaf_side_twice, wrong_neighbour, IsValidBeginning, invalid, valid, IsHierarchyText, no_hierarchy, bytes_after, whole_text}
+use Rattle.pm_commands.specs.Beginning.{Beginning, IsBeginning, begins, leaf_side_twice}
+use Rattle.pm_commands.specs.Beginning.{wrong_neighbour, IsValidBeginning, invalid, valid}
+use Rattle.pm_commands.specs.Beginning.{IsHierarchyText, no_hierarchy, bytes_after, whole_text}
 use Rattle.pm_commands.specs.Ran.{Ran, whole_output, unread, of_script}
 use Rattle.pm_commands.specs.Outcome.{done_with, Follows, counts_line, PlaysScript, SomeOutcome}
 use Rattle.pm_commands.proofs.JudgedLaws.{once_or_repeats, judged}
@@ -45,7 +48,8 @@ Given {X = X} IsRead = (r : Result X Fault) × (place : Option ℕ) × IsRead r 
 some_surface : (digits : ℕ) (bytes : List ℕ) → Given (IsSurfaceRead digits bytes)
 some_surface digits bytes = go (meaning_of digits bytes) refl
   where
-    go : (r : Result Mesh Refused) → meaning_of digits bytes ≡ r → Given (IsSurfaceRead digits bytes)
+    go : (r : Result Mesh Refused) → meaning_of digits bytes ≡ r
+        → Given (IsSurfaceRead digits bytes)
     go (Err e) is = (Err (faults.Obj e.fault e.line), e.place, bad_line e is)
     go (Ok m) is =
         elim (judged m (meaning_formed digits bytes m is)) [
@@ -53,33 +57,50 @@ some_surface digits bytes = go (meaning_of digits bytes) refl
           | inr (f, fault) ↦ (Err f, None, no_manifold m f is fault)
         ]
 
-pub surface_starts : (digits : ℕ) (bytes : List ℕ) (r : Result Mesh Fault) (place : Option ℕ) → IsSurfaceRead digits bytes r place → IfOk r IsStartOfRun
+pub surface_starts : (digits : ℕ) (bytes : List ℕ) (r : Result Mesh Fault) (place : Option ℕ)
+    → IsSurfaceRead digits bytes r place → IfOk r IsStartOfRun
 surface_starts digits bytes r place (bad_line e is) = tt
 surface_starts digits bytes r place (no_manifold m f is fault) = tt
-surface_starts digits bytes r place (manifold m is whole) = record { formed = meaning_formed digits bytes m is; manifold = whole }
+surface_starts digits bytes r place (manifold m is whole) =
+    record { formed = meaning_formed digits bytes m is; manifold = whole }
 
 -- What is made of a mesh.
-some_made : (Makes : Mesh → Hierarchy → Type 0) (digits : ℕ) → ((m : Mesh) → IsStartOfRun m → (h : Hierarchy) × Makes m h) → (bytes : List ℕ) → Given (IsMadeOf Makes digits bytes)
+some_made : (Makes : Mesh → Hierarchy → Type 0) (digits : ℕ)
+    → ((m : Mesh) → IsStartOfRun m → (h : Hierarchy) × Makes m h) → (bytes : List ℕ)
+    → Given (IsMadeOf Makes digits bytes)
 some_made Makes digits some bytes =
     let s = some_surface digits bytes in
     go s.0 s.1 s.2 (surface_starts digits bytes s.0 s.1 s.2)
   where
-    go : (r : Result Mesh Fault) (place : Option ℕ) → IsSurfaceRead digits bytes r place → IfOk r IsStartOfRun → Given (IsMadeOf Makes digits bytes)
+    go : (r : Result Mesh Fault) (place : Option ℕ) → IsSurfaceRead digits bytes r place
+        → IfOk r IsStartOfRun → Given (IsMadeOf Makes digits bytes)
     go (Err f) place is start = (Err f, place, no_surface f place is)
     go (Ok m) place is start =
         let (h, makes) = some m start in
         (Ok h, place, made m h place is makes)
 
 -- A beginning is judged.
-judged_beginning : (bytes : List ℕ) (o : Beginning) (place : Option ℕ) → HasShape o.h → IsBeginning bytes (Ok o) place → Given (IsValidBeginning bytes)
+judged_beginning : (bytes : List ℕ) (o : Beginning) (place : Option ℕ) → HasShape o.h
+    → IsBeginning bytes (Ok o) place → Given (IsValidBeginning bytes)
 judged_beginning bytes o place shape is =
     elim (once_or_repeats (leaf_mesh_of o.h) (leaf_mesh_formed o.h shape)) [
-      | inr (f, first) ↦ (Err (faults.LeafEdgeTwice f), place, invalid o (faults.LeafEdgeTwice f) place is (leaf_side_twice f first))
+      | inr (f, first) ↦ (
+        Err (faults.LeafEdgeTwice f),
+        place,
+        invalid o (faults.LeafEdgeTwice f) place is
+            (leaf_side_twice f first),
+      )
       | inl apart ↦
-          let once = once_same (net_of (leaf_mesh_of o.h).faces) (leaf_net o.h) (leaf_same o.h (leaf_mesh_of o.h).faces refl) apart in
+          let once = once_same (net_of (leaf_mesh_of o.h).faces) (leaf_net o.h)
+          (leaf_same o.h (leaf_mesh_of o.h).faces refl) apart in
           elim (one_fails o.h shape once).0 [
             | inl good ↦ (Ok o, place, valid o place is good)
-            | inr (k, last) ↦ (Err (faults.BadNeighbour k), place, invalid o (faults.BadNeighbour k) place is (wrong_neighbour k once last))
+            | inr (k, last) ↦ (
+              Err (faults.BadNeighbour k),
+              place,
+              invalid o (faults.BadNeighbour k) place is
+                  (wrong_neighbour k once last),
+            )
           ]
     ]
 
@@ -87,40 +108,69 @@ some_valid : (bytes : List ℕ) → IsBytes bytes → Given (IsValidBeginning by
 some_valid bytes are = go (stream_fault bytes) refl
   where
     go : (fault : Option FormatError) → stream_fault bytes ≡ fault → Given (IsValidBeginning bytes)
-    go (Some e) is = let bad = bad_text bytes e (is_truncated (Some e)) refl is in (Err (faults.Stream e), bad.place, bad.is)
+    go (Some e) is = let bad = bad_text bytes e (is_truncated (Some e)) refl is in
+        (Err (faults.Stream e), bad.place, bad.is)
     go None is =
         let b = what_is_whole bytes are is in
         let o : Beginning = record { digits = b.digits; h = b.h; rest = b.rest } in
-        judged_beginning bytes o (Some (length (stream b.digits b.h))) b.shape (begins b.digits b.h b.rest b.few b.shape b.text)
+        judged_beginning bytes o (Some (length (stream b.digits b.h))) b.shape
+        (begins b.digits b.h b.rest b.few b.shape b.text)
 
 some_text : (bytes : List ℕ) → IsBytes bytes → Given (IsHierarchyText bytes)
 some_text bytes are = let s = some_valid bytes are in go s.0 s.1 s.2
   where
-    by_rest : (o : Beginning) (place : Option ℕ) (rest : List ℕ) → o.rest ≡ rest → IsValidBeginning bytes (Ok o) place → Given (IsHierarchyText bytes)
+    by_rest : (o : Beginning) (place : Option ℕ) (rest : List ℕ) → o.rest ≡ rest
+        → IsValidBeginning bytes (Ok o) place → Given (IsHierarchyText bytes)
     by_rest o place [] none is = (Ok o, None, whole_text o place is none)
-    by_rest o place (b ∷ more) some is = (Err faults.Trailing, Some (length (stream o.digits o.h) + 1), bytes_after o place is (λ none. absurd (cc (some, none))))
+    by_rest o place (b ∷ more) some is = (
+      Err faults.Trailing,
+      Some (length (stream o.digits o.h) + 1),
+      bytes_after o place is (λ none. absurd (cc (some, none))),
+    )
 
-    go : (r : Result Beginning Fault) (place : Option ℕ) → IsValidBeginning bytes r place → Given (IsHierarchyText bytes)
+    go : (r : Result Beginning Fault) (place : Option ℕ) → IsValidBeginning bytes r place
+        → Given (IsHierarchyText bytes)
     go (Err f) place is = (Err f, place, no_hierarchy f place is)
     go (Ok o) place is = by_rest o place o.rest refl is
 
-follows : {X : Type 0} (IsRead : Result X Fault → Option ℕ → Type 0) (does : X → Ran) → Given IsRead → (all : Ran) × Follows IsRead does all
-follows IsRead does given = (done_with does given.0 given.1, record { read = given.0; place = given.1; is = given.2; done = refl })
+follows : {X : Type 0} (IsRead : Result X Fault → Option ℕ → Type 0) (does : X → Ran) → Given IsRead
+    → (all : Ran) × Follows IsRead does all
+follows IsRead does given = (
+  done_with does given.0 given.1,
+  record {
+    read = given.0;
+    place = given.1;
+    is = given.2;
+    done = refl;
+  },
+)
 
-some_script : (grammar : Grammar) (budget : ℕ) (bytes : List ℕ) → IsBytes bytes → (all : Ran) × PlaysScript grammar budget bytes all
+some_script : (grammar : Grammar) (budget : ℕ) (bytes : List ℕ) → IsBytes bytes
+    → (all : Ran) × PlaysScript grammar budget bytes all
 some_script grammar budget bytes are =
-    follows (IsValidBeginning bytes) (λ o. of_script (length (stream o.digits o.h)) (played o.h grammar (at_first budget) o.rest)) (some_valid bytes are)
+    follows (IsValidBeginning bytes)
+    (λ o. of_script (length (stream o.digits o.h))
+    (played o.h grammar (at_first budget) o.rest)) (some_valid bytes are)
 
 pub some_outcome : SomeOutcome
-some_outcome (asked.Canon digits) size bytes are = follows (IsSurfaceRead digits bytes) (λ m. whole_output (canonical_text digits m)) (some_surface digits bytes)
+some_outcome (asked.Canon digits) size bytes are =
+    follows (IsSurfaceRead digits bytes) (λ m. whole_output (canonical_text digits m))
+    (some_surface digits bytes)
 some_outcome (asked.Build target digits) size bytes are =
-    follows (IsMadeOf (λ m h. IsSimplified m target h) digits bytes) (λ h. whole_output (stream digits h))
-    (some_made (λ m h. IsSimplified m target h) digits (λ m start. some_simplified m start target) bytes)
+    follows (IsMadeOf (λ m h. IsSimplified m target h) digits bytes)
+    (λ h. whole_output (stream digits h))
+    (some_made (λ m h. IsSimplified m target h) digits (λ m start. some_simplified m start target)
+    bytes)
 some_outcome (asked.Simplify target digits border) size bytes are =
-    follows (IsMadeOf (λ m h. IsSimplifiedWith border m target h) digits bytes) (λ h. whole_output (stream digits h))
-    (some_made (λ m h. IsSimplifiedWith border m target h) digits (λ m start. some_simplified_with border m start target) bytes)
-some_outcome asked.Expand size bytes are = follows (IsHierarchyText bytes) (λ o. whole_output (canonical_text o.digits (input_mesh_of o.h))) (some_text bytes are)
-some_outcome asked.Check size bytes are = follows (IsHierarchyText bytes) (λ o. whole_output (counts_line o.h)) (some_text bytes are)
+    follows (IsMadeOf (λ m h. IsSimplifiedWith border m target h) digits bytes)
+    (λ h. whole_output (stream digits h))
+    (some_made (λ m h. IsSimplifiedWith border m target h) digits
+    (λ m start. some_simplified_with border m start target) bytes)
+some_outcome asked.Expand size bytes are =
+    follows (IsHierarchyText bytes)
+    (λ o. whole_output (canonical_text o.digits (input_mesh_of o.h))) (some_text bytes are)
+some_outcome asked.Check size bytes are =
+    follows (IsHierarchyText bytes) (λ o. whole_output (counts_line o.h)) (some_text bytes are)
 some_outcome (asked.View budget) size bytes are = some_script grammars.View budget bytes are
 some_outcome (asked.Live budget) size bytes are = some_script grammars.Live budget bytes are
 some_outcome (asked.Demo n) size bytes are =

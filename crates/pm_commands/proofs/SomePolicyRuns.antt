@@ -1,5 +1,5 @@
--- Each mesh that may be simplified has a run by each policy to each target: as long as some pair may
--- be collapsed, one of them is the least.
+-- Each mesh that may be simplified has a run by each policy to each target: as long as some pair
+-- may be collapsed, one of them is the least.
 use Rattle.std.proofs.Common.{◌≡◌, ℕ, None, slice_index_or, ◌<◌, true, false, Bool, List}
 use Rattle.std.proofs.Common.{inl, inr, refl, sym, ap}
 use Rattle.std.proofs.lemmas.Bool.{false≢true}
@@ -53,7 +53,8 @@ module _ (p : Policy) (m : Mesh) (start : IsStartOfRun m) where
       let live = joined_live s (run-sound m start log run) c d is.legal.joined in
       (live_below s c live.0, live_below s d live.1) in
       let found =
-      least_pair (IsCandidateBy p m log) (candidate? log run) (key_by p m log) (key_names log) n n in
+      least_pair (IsCandidateBy p m log) (candidate? log run) (key_by p m log) (key_names log) n
+      n in
       elim found [
         | inl x ↦
             inl (

@@ -13,4 +13,5 @@ pub started :
     (s.h ≡ h) × (s.grammar ≡ grammar) × (state_of s ≡ at_first budget)
 unfolding IsStarted
 started h grammar budget boxed s same is =
-    subst (λ (v : Shown). (v.h ≡ h) × (v.grammar ≡ grammar) × (state_of v ≡ at_first budget)) (sym same) is
+    subst (λ (v : Shown). (v.h ≡ h) × (v.grammar ≡ grammar) × (state_of v ≡ at_first budget))
+    (sym same) is

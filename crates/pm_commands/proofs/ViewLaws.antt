@@ -1,5 +1,7 @@
 -- How `view` ends, by what its parts answer.
-use Rattle.std.proofs.Common.{◌≡◌, ℕ, ◌+◌, ◌<◌, ◌≤◌, List, [], ◌++◌, length, Option, Some, None, IfSome, Result, Ok, Err, refl, sym, ◌∙◌, ap, subst, arith, length-append}
+use Rattle.std.proofs.Common.{◌≡◌, ℕ, ◌+◌, ◌<◌, ◌≤◌, List, [], ◌++◌, length, Option, Some, None}
+use Rattle.std.proofs.Common.{IfSome, Result, Ok, Err, refl, sym, ◌∙◌, ap, subst, arith}
+use Rattle.std.proofs.Common.{length-append}
 use Rattle.std.specs.Option.{option_map}
 use Rattle.std.specs.Io.KnownBytes.{prepend_known}
 use Rattle.pm_io.specs.Causes.{Rose}
@@ -21,7 +23,8 @@ use Rattle.pm_session.specs.declared.fail.ServeFail.TheVariants as serve_fails
 use Rattle.pm_session.specs.declared.grammar.Grammar.{Grammar}
 use Rattle.pm_session.specs.declared.grammar.Grammar.TheVariants as grammars
 use Rattle.pm_session.specs.Script.{State, at_first}
-use Rattle.pm_session.specs.Serving.{played, Ended, CutOff, PutPart, NotReached, ReachesPlace, Serves, ServeCounts, WindowAfter}
+use Rattle.pm_session.specs.Serving.{played, Ended, CutOff, PutPart, NotReached, ReachesPlace}
+use Rattle.pm_session.specs.Serving.{Serves, ServeCounts, WindowAfter}
 use Rattle.pm_commands.specs.declared.fault.Fault.{Fault}
 use Rattle.pm_commands.specs.declared.fault.Fault.TheVariants as faults
 use Rattle.pm_commands.specs.declared.fault.CommandFail.TheVariants as fails
@@ -30,43 +33,58 @@ use Rattle.pm_commands.specs.Input.{fail_of, IsFaulty, Stops}
 use Rattle.pm_commands.specs.Ran.{Ran, line_fault, of_script, serve_fail}
 use Rattle.pm_commands.specs.Beginning.{Beginning, IsValidBeginning, valid, stream_fail, load_fail}
 use Rattle.pm_commands.specs.Outcome.{PlaysScript, IsOutcome, done_with, Replied, CutShort}
-use Rattle.pm_commands.specs.Ending.{RepliesTo, in_stream, in_script, PutBy, ReadFails, ReadToEnd, TakesTo, ReadToPlace, FewMoreIn, Ends, Counts}
+use Rattle.pm_commands.specs.Ending.{RepliesTo, in_stream, in_script, PutBy, ReadFails, ReadToEnd}
+use Rattle.pm_commands.specs.Ending.{TakesTo, ReadToPlace, FewMoreIn, Ends, Counts}
 use Rattle.pm_commands.proofs.BeginningLaws.{valid_place}
 use Rattle.pm_commands.proofs.ReadingLaws.{Begun, took_text, opened, valid_unread}
 use Rattle.pm_commands.proofs.OutcomeLaws.{one_outcome, follows_refused, ends_refused}
 
 -- What both kinds of scripts do.
-is_script : (grammar : Grammar) (b : ℕ) (bytes : List ℕ) (all : Ran) → IsOutcome (script_asked grammar b) bytes all → PlaysScript grammar b bytes all
+is_script : (grammar : Grammar) (b : ℕ) (bytes : List ℕ) (all : Ran)
+    → IsOutcome (script_asked grammar b) bytes all → PlaysScript grammar b bytes all
 is_script grammars.View b bytes all is = is
 is_script grammars.Live b bytes all is = is
 
-as_script : (grammar : Grammar) (b : ℕ) (bytes : List ℕ) (all : Ran) → PlaysScript grammar b bytes all → IsOutcome (script_asked grammar b) bytes all
+as_script : (grammar : Grammar) (b : ℕ) (bytes : List ℕ) (all : Ran)
+    → PlaysScript grammar b bytes all → IsOutcome (script_asked grammar b) bytes all
 as_script grammars.View b bytes all is = is
 as_script grammars.Live b bytes all is = is
 
-put_script : (grammar : Grammar) (b : ℕ) (taken text : List ℕ) → RepliesTo grammar b taken text → PutBy (script_asked grammar b) taken text
+put_script : (grammar : Grammar) (b : ℕ) (taken text : List ℕ) → RepliesTo grammar b taken text
+    → PutBy (script_asked grammar b) taken text
 put_script grammars.View b taken text replies = replies
 put_script grammars.Live b taken text replies = replies
 
 -- Where the script begins after so many bytes, its place is moved by these.
-moved : (before : ℕ) (place : Option ℕ) (taken : ℕ) → ((n : ℕ) → taken < before + n) → IfSome (option_map (λ n. before + n) place) (λ m. taken < m)
+moved : (before : ℕ) (place : Option ℕ) (taken : ℕ) → ((n : ℕ) → taken < before + n)
+    → IfSome (option_map (λ n. before + n) place) (λ m. taken < m)
 moved before None taken lt = tt
 moved before (Some n) taken lt = lt n
 
 -- Bytes that don't reach the end of the stream don't reach the place of the outcome.
-view_before : (grammar : Grammar) (b : ℕ) (bytes : List ℕ) (taken : ℕ) (all : Ran) → ((r : Result Beginning Fault) (place : Option ℕ) → IsValidBeginning bytes r place → IfSome place (λ n. taken < n)) → IsOutcome (script_asked grammar b) bytes all → IfSome all.place (λ n. taken < n)
+view_before : (grammar : Grammar) (b : ℕ) (bytes : List ℕ) (taken : ℕ) (all : Ran)
+    → ((r : Result Beginning Fault) (place : Option ℕ) → IsValidBeginning bytes r place
+    → IfSome place (λ n. taken < n)) → IsOutcome (script_asked grammar b) bytes all
+    → IfSome all.place (λ n. taken < n)
 view_before grammar b bytes taken all before is =
     let f = is_script grammar b bytes all is in
     subst (λ (a : Ran). IfSome a.place (λ n. taken < n)) (sym f.done) (go f.read f.place f.is)
   where
-    go : (r : Result Beginning Fault) (place : Option ℕ) → IsValidBeginning bytes r place → IfSome (done_with (λ o. of_script (length (stream o.digits o.h)) (played o.h grammar (at_first b) o.rest)) r place).place (λ n. taken < n)
+    go : (r : Result Beginning Fault) (place : Option ℕ) → IsValidBeginning bytes r place
+        → IfSome (done_with
+        (λ o. of_script (length (stream o.digits o.h)) (played o.h grammar (at_first b) o.rest)) r
+        place).place (λ n. taken < n)
     go (Err e) place is = before (Err e) place is
     go (Ok o) place is =
-        let lt : taken < length (stream o.digits o.h) = subst (λ (p : Option ℕ). IfSome p (λ n. taken < n)) (valid_place bytes (Ok o) place o refl is) (before (Ok o) place is) in
-        moved (length (stream o.digits o.h)) (played o.h grammar (at_first b) o.rest).place taken (λ n. omega (arith, lt))
+        let lt : taken < length (stream o.digits o.h) =
+        subst (λ (p : Option ℕ). IfSome p (λ n. taken < n))
+        (valid_place bytes (Ok o) place o refl is) (before (Ok o) place is) in
+        moved (length (stream o.digits o.h)) (played o.h grammar (at_first b) o.rest).place taken
+        (λ n. omega (arith, lt))
 
 -- A read failed within the stream.
-stream_unread : (grammar : Grammar) (b : ℕ) (left now got : Option (List ℕ)) → CutOffUnread left now → ReadFails (script_asked grammar b) left now got got
+stream_unread : (grammar : Grammar) (b : ℕ) (left now got : Option (List ℕ)) → CutOffUnread left now
+    → ReadFails (script_asked grammar b) left now got got
 stream_unread grammar b left now got u = record {
   taken = u.taken;
   took = u.took;
@@ -76,134 +94,238 @@ stream_unread grammar b left now got u = record {
   gained = gains_none got;
 }
   where
-    before : (left : Option (List ℕ)) → IfSome left (λ bytes. (r : Result Beginning Fault) (place : Option ℕ) → IsValidBeginning bytes r place → IfSome place (λ n. length u.taken < n))
-        → IfSome left (λ bytes. (all : Ran) → IsOutcome (script_asked grammar b) bytes all → IfSome all.place (λ n. length u.taken < n))
+    before : (left : Option (List ℕ))
+        → IfSome left (λ bytes. (r : Result Beginning Fault) (place : Option ℕ)
+        → IsValidBeginning bytes r place → IfSome place (λ n. length u.taken < n))
+        → IfSome left (λ bytes. (all : Ran) → IsOutcome (script_asked grammar b) bytes all
+        → IfSome all.place (λ n. length u.taken < n))
     before None is = tt
-    before (Some bytes) is = λ all outcome. view_before grammar b bytes (length u.taken) all is outcome
+    before (Some bytes) is = λ all outcome. view_before grammar b bytes (length u.taken) all is
+        outcome
 
 -- The stream is refused.
-view_faulty : (grammar : Grammar) (b : ℕ) (left got : Option (List ℕ)) (f : Fault) → IfSome left (λ bytes. IsFaulty IsValidBeginning bytes f) → IfSome left (λ bytes. Replied (script_asked grammar b) bytes (Some f) got got)
+view_faulty : (grammar : Grammar) (b : ℕ) (left got : Option (List ℕ)) (f : Fault)
+    → IfSome left (λ bytes. IsFaulty IsValidBeginning bytes f)
+    → IfSome left (λ bytes. Replied (script_asked grammar b) bytes (Some f) got got)
 view_faulty grammar b None got f is = tt
 view_faulty grammar b (Some bytes) got f is =
-    ends_refused (script_asked grammar b) (Some bytes) got f (is.place, as_script grammar b bytes _ (follows_refused (IsValidBeginning bytes) (λ o. of_script (length (stream o.digits o.h)) (played o.h grammar (at_first b) o.rest)) f is.place is.is))
+    ends_refused (script_asked grammar b) (Some bytes) got f (
+      is.place,
+      as_script grammar b bytes _
+          (follows_refused (IsValidBeginning bytes)
+          (λ o. of_script (length (stream o.digits o.h)) (played o.h grammar (at_first b) o.rest)) f
+          is.place is.is),
+    )
 
 -- The hierarchy isn't opened.
-pub view_load : (grammar : Grammar) (b : ℕ) (e : LoadFail) (left now got : Option (List ℕ)) (in_old in_new : ℕ) → Stops IsValidBeginning (load_fail e) left now in_old in_new → Ends (script_asked grammar b) (Err (fail_of (load_fail e))) left now got got
-view_load grammar b (loads.EdgeTwice f) left now got in_old in_new stops = view_faulty grammar b left got (faults.LeafEdgeTwice f.0) stops.0
-view_load grammar b (loads.BadNeighbour k) left now got in_old in_new stops = view_faulty grammar b left got (faults.BadNeighbour k) stops.0
+pub view_load : (grammar : Grammar) (b : ℕ) (e : LoadFail) (left now got : Option (List ℕ))
+    (in_old in_new : ℕ) → Stops IsValidBeginning (load_fail e) left now in_old in_new
+    → Ends (script_asked grammar b) (Err (fail_of (load_fail e))) left now got got
+view_load grammar b (loads.EdgeTwice f) left now got in_old in_new stops =
+    view_faulty grammar b left got (faults.LeafEdgeTwice f.0) stops.0
+view_load grammar b (loads.BadNeighbour k) left now got in_old in_new stops =
+    view_faulty grammar b left got (faults.BadNeighbour k) stops.0
 view_load grammar b loads.OutOfMemory left now got in_old in_new stops = refl
 
-pub view_stream : (grammar : Grammar) (b : ℕ) (left whole mid now got : Option (List ℕ)) (e : StreamFail) (in_old in_new : ℕ) → whole ≡ left → Reads whole mid now (Err e) → Stops IsValidBeginning (stream_fail e) left now in_old in_new → Ends (script_asked grammar b) (Err (fail_of (stream_fail e))) left now got got
-view_stream grammar b left whole mid now got e in_old in_new same reads stops = go e (subst (λ (o : Option (List ℕ)). Reads o mid now (Err e)) same reads) stops
+pub view_stream : (grammar : Grammar) (b : ℕ) (left whole mid now got : Option (List ℕ))
+    (e : StreamFail) (in_old in_new : ℕ) → whole ≡ left → Reads whole mid now (Err e)
+    → Stops IsValidBeginning (stream_fail e) left now in_old in_new
+    → Ends (script_asked grammar b) (Err (fail_of (stream_fail e))) left now got got
+view_stream grammar b left whole mid now got e in_old in_new same reads stops =
+    go e (subst (λ (o : Option (List ℕ)). Reads o mid now (Err e)) same reads) stops
   where
-    go : (e : StreamFail) → Reads left mid now (Err e) → Stops IsValidBeginning (stream_fail e) left now in_old in_new → Ends (script_asked grammar b) (Err (fail_of (stream_fail e))) left now got got
+    go : (e : StreamFail) → Reads left mid now (Err e)
+        → Stops IsValidBeginning (stream_fail e) left now in_old in_new
+        → Ends (script_asked grammar b) (Err (fail_of (stream_fail e))) left now got got
     go streams.Read reads stops = stream_unread grammar b left now got reads
     go (streams.Fault format.OutOfMemory) reads stops = refl
-    go (streams.Fault format.BadMagic) reads stops = view_faulty grammar b left got (faults.Stream format.BadMagic) stops.0
-    go (streams.Fault (format.BadVersion v)) reads stops = view_faulty grammar b left got (faults.Stream (format.BadVersion v)) stops.0
-    go (streams.Fault (format.BadDigits d)) reads stops = view_faulty grammar b left got (faults.Stream (format.BadDigits d)) stops.0
-    go (streams.Fault (format.Truncated n)) reads stops = view_faulty grammar b left got (faults.Stream (format.Truncated n)) stops.0
-    go (streams.Fault format.BadCount) reads stops = view_faulty grammar b left got (faults.Stream format.BadCount) stops.0
-    go (streams.Fault (format.BadRoot i)) reads stops = view_faulty grammar b left got (faults.Stream (format.BadRoot i)) stops.0
-    go (streams.Fault (format.BadFace i)) reads stops = view_faulty grammar b left got (faults.Stream (format.BadFace i)) stops.0
-    go (streams.Fault (format.BadRecord i)) reads stops = view_faulty grammar b left got (faults.Stream (format.BadRecord i)) stops.0
-    go (streams.Fault (format.BadInput i)) reads stops = view_faulty grammar b left got (faults.Stream (format.BadInput i)) stops.0
+    go (streams.Fault format.BadMagic) reads stops =
+        view_faulty grammar b left got (faults.Stream format.BadMagic) stops.0
+    go (streams.Fault (format.BadVersion v)) reads stops =
+        view_faulty grammar b left got (faults.Stream (format.BadVersion v)) stops.0
+    go (streams.Fault (format.BadDigits d)) reads stops =
+        view_faulty grammar b left got (faults.Stream (format.BadDigits d)) stops.0
+    go (streams.Fault (format.Truncated n)) reads stops =
+        view_faulty grammar b left got (faults.Stream (format.Truncated n)) stops.0
+    go (streams.Fault format.BadCount) reads stops =
+        view_faulty grammar b left got (faults.Stream format.BadCount) stops.0
+    go (streams.Fault (format.BadRoot i)) reads stops =
+        view_faulty grammar b left got (faults.Stream (format.BadRoot i)) stops.0
+    go (streams.Fault (format.BadFace i)) reads stops =
+        view_faulty grammar b left got (faults.Stream (format.BadFace i)) stops.0
+    go (streams.Fault (format.BadRecord i)) reads stops =
+        view_faulty grammar b left got (faults.Stream (format.BadRecord i)) stops.0
+    go (streams.Fault (format.BadInput i)) reads stops =
+        view_faulty grammar b left got (faults.Stream (format.BadInput i)) stops.0
 
 -- The script begins after the stream of a valid hierarchy.
 
-view_outcome : (grammar : Grammar) (b d : ℕ) (h : Hierarchy) (bytes rest : List ℕ) → Begun (Some bytes) (Some rest) d h → IsValid h → IsOutcome (script_asked grammar b) bytes (of_script (length (stream d h)) (played h grammar (at_first b) rest))
+view_outcome : (grammar : Grammar) (b d : ℕ) (h : Hierarchy) (bytes rest : List ℕ)
+    → Begun (Some bytes) (Some rest) d h → IsValid h
+    → IsOutcome (script_asked grammar b) bytes
+    (of_script (length (stream d h)) (played h grammar (at_first b) rest))
 view_outcome grammar b d h bytes rest begun good =
     let o : Beginning = record { digits = d; h = h; rest = rest } in
-    as_script grammar b bytes _ (record { read = Ok o; place = Some (length (stream d h)); is = valid o (Some (length (stream d h))) (opened bytes rest d h begun) good; done = refl })
+    as_script grammar b bytes _ (record {
+      read = Ok o;
+      place = Some (length (stream d h));
+      is = valid o (Some (length (stream d h))) (opened bytes rest d h begun) good;
+      done = refl;
+    })
 
 -- A read failed within the script.
-script_before : (grammar : Grammar) (b d : ℕ) (h : Hierarchy) (bytes rest : List ℕ) (n : ℕ) (all : Ran) → Begun (Some bytes) (Some rest) d h → IsValid h → NotReached n (played h grammar (at_first b) rest) → IsOutcome (script_asked grammar b) bytes all → IfSome all.place (λ m. length (stream d h) + n < m)
+script_before : (grammar : Grammar) (b d : ℕ) (h : Hierarchy) (bytes rest : List ℕ) (n : ℕ)
+    (all : Ran) → Begun (Some bytes) (Some rest) d h → IsValid h
+    → NotReached n (played h grammar (at_first b) rest)
+    → IsOutcome (script_asked grammar b) bytes all
+    → IfSome all.place (λ m. length (stream d h) + n < m)
 script_before grammar b d h bytes rest n all begun good before is =
-    subst (λ (a : Ran). IfSome a.place (λ m. length (stream d h) + n < m)) (one_outcome (script_asked grammar b) bytes (of_script (length (stream d h)) (played h grammar (at_first b) rest)) all (view_outcome grammar b d h bytes rest begun good) is)
+    subst (λ (a : Ran). IfSome a.place (λ m. length (stream d h) + n < m))
+    (one_outcome (script_asked grammar b) bytes
+    (of_script (length (stream d h)) (played h grammar (at_first b) rest)) all
+    (view_outcome grammar b d h bytes rest begun good) is)
     (on (played h grammar (at_first b) rest).place before)
   where
-    on : (o : Option ℕ) → IfSome o (λ place. n < place) → IfSome (option_map (λ k. length (stream d h) + k) o) (λ m. length (stream d h) + n < m)
+    on : (o : Option ℕ) → IfSome o (λ place. n < place)
+        → IfSome (option_map (λ k. length (stream d h) + k) o) (λ m. length (stream d h) + n < m)
     on None lt = tt
     on (Some k) lt = omega (arith, lt)
 
-script_unread : (grammar : Grammar) (b d : ℕ) (h : Hierarchy) (left mid now got_old got_new : Option (List ℕ)) (after : State) → Begun left mid d h → IsValid h → CutOff h grammar (at_first b) mid now got_old got_new after → ReadFails (script_asked grammar b) left now got_old got_new
+script_unread : (grammar : Grammar) (b d : ℕ) (h : Hierarchy)
+    (left mid now got_old got_new : Option (List ℕ)) (after : State) → Begun left mid d h
+    → IsValid h → CutOff h grammar (at_first b) mid now got_old got_new after
+    → ReadFails (script_asked grammar b) left now got_old got_new
 script_unread grammar b d h left mid now got_old got_new after begun good c = record {
   taken = stream d h ++ (c.front ++ c.line);
-  took = loses_both left mid now (stream d h) (c.front ++ c.line) (took_text left mid d h begun) c.took;
+  took = loses_both left mid now (stream d h) (c.front ++ c.line) (took_text left mid d h begun)
+      c.took;
   before = before left mid begun c.before;
   text = (played h grammar (at_first b) c.front).text;
-  put = put_script grammar b _ _ (in_script d h c.front c.line begun.text.few good c.ends c.open_line);
+  put = put_script grammar b _ _
+      (in_script d h c.front c.line begun.text.few good c.ends c.open_line);
   gained = c.gained;
 }
   where
-    len : length (stream d h ++ (c.front ++ c.line)) ≡ length (stream d h) + (length c.front + length c.line)
-    len = omega (arith, length-append (stream d h) (c.front ++ c.line), length-append c.front c.line)
+    len : length (stream d h ++ (c.front ++ c.line))
+        ≡ length (stream d h) + (length c.front + length c.line)
+    len = omega (
+      arith,
+      length-append (stream d h) (c.front ++ c.line),
+      length-append c.front c.line,
+    )
 
-    before : (left mid : Option (List ℕ)) → Begun left mid d h → IfSome mid (λ rest. NotReached (length c.front + length c.line) (played h grammar (at_first b) rest))
-        → IfSome left (λ bytes. (all : Ran) → IsOutcome (script_asked grammar b) bytes all → IfSome all.place (λ n. length (stream d h ++ (c.front ++ c.line)) < n))
+    before : (left mid : Option (List ℕ)) → Begun left mid d h
+        → IfSome mid
+        (λ rest. NotReached (length c.front + length c.line) (played h grammar (at_first b) rest))
+        → IfSome left (λ bytes. (all : Ran) → IsOutcome (script_asked grammar b) bytes all
+        → IfSome all.place (λ n. length (stream d h ++ (c.front ++ c.line)) < n))
     before None mid begun not_yet = tt
     before (Some bytes) None begun not_yet = absurd (cc begun.took)
     before (Some bytes) (Some rest) begun not_yet = λ all is.
-        subst (λ (k : ℕ). IfSome all.place (λ n. k < n)) (sym len) (script_before grammar b d h bytes rest (length c.front + length c.line) all begun good not_yet is)
+        subst (λ (k : ℕ). IfSome all.place (λ n. k < n)) (sym len)
+        (script_before grammar b d h bytes rest (length c.front + length c.line) all begun good
+        not_yet is)
 
 -- The script has ended.
-script_ended : (grammar : Grammar) (b d : ℕ) (h : Hierarchy) (left mid now got_old got_new : Option (List ℕ)) (fault : Option ScriptFault) (found : Option Fault) (after : State) → Begun left mid d h → IsValid h → option_map line_fault fault ≡ found
-    → Ended h grammar (at_first b) mid now got_old got_new fault after → IfSome left (λ bytes. Replied (script_asked grammar b) bytes found got_old got_new)
+script_ended : (grammar : Grammar) (b d : ℕ) (h : Hierarchy)
+    (left mid now got_old got_new : Option (List ℕ)) (fault : Option ScriptFault)
+    (found : Option Fault) (after : State) → Begun left mid d h → IsValid h
+    → option_map line_fault fault ≡ found
+    → Ended h grammar (at_first b) mid now got_old got_new fault after
+    → IfSome left (λ bytes. Replied (script_asked grammar b) bytes found got_old got_new)
 script_ended grammar b d h None mid now got_old got_new fault found after begun good same ended = tt
-script_ended grammar b d h (Some bytes) None now got_old got_new fault found after begun good same ended = absurd (cc begun.took)
-script_ended grammar b d h (Some bytes) (Some rest) now got_old got_new fault found after begun good same ended = record {
-  all = of_script (length (stream d h)) (played h grammar (at_first b) rest);
-  outcome = view_outcome grammar b d h bytes rest begun good;
-  fault_is = ap (option_map line_fault) ended.fault_is ∙ same;
-  gained = ended.gained;
-}
+script_ended grammar b d h (Some bytes) None now got_old got_new fault found after begun good same
+    ended = absurd (cc begun.took)
+script_ended grammar b d h (Some bytes) (Some rest) now got_old got_new fault found after begun good
+    same ended = record {
+      all = of_script (length (stream d h)) (played h grammar (at_first b) rest);
+      outcome = view_outcome grammar b d h bytes rest begun good;
+      fault_is = ap (option_map line_fault) ended.fault_is ∙ same;
+      gained = ended.gained;
+    }
 
-no_place : (before : ℕ) (place : Option ℕ) → option_map (λ n. before + n) place ≡ None → place ≡ None
+no_place : (before : ℕ) (place : Option ℕ) → option_map (λ n. before + n) place ≡ None
+    → place ≡ None
 no_place before None is = refl
 no_place before (Some n) is = absurd (cc is)
 
-script_to_end : (grammar : Grammar) (b d : ℕ) (h : Hierarchy) (left mid now got_old got_new : Option (List ℕ)) (window : List ℕ) (after : State) → Begun left mid d h → IsValid h → Ended h grammar (at_first b) mid (prepend_known window now) got_old got_new None after → ReadToEnd (script_asked grammar b) left now
+script_to_end : (grammar : Grammar) (b d : ℕ) (h : Hierarchy)
+    (left mid now got_old got_new : Option (List ℕ)) (window : List ℕ) (after : State)
+    → Begun left mid d h → IsValid h
+    → Ended h grammar (at_first b) mid (prepend_known window now) got_old got_new None after
+    → ReadToEnd (script_asked grammar b) left now
 script_to_end grammar b d h None mid now got_old got_new window after begun good ended = tt
-script_to_end grammar b d h (Some bytes) None now got_old got_new window after begun good ended = absurd (cc begun.took)
-script_to_end grammar b d h (Some bytes) (Some rest) now got_old got_new window after begun good ended = λ all is none.
+script_to_end grammar b d h (Some bytes) None now got_old got_new window after begun good ended =
+    absurd (cc begun.took)
+script_to_end grammar b d h (Some bytes) (Some rest) now got_old got_new window after begun good
+    ended = λ all is none.
     let p = played h grammar (at_first b) rest in
-    let same = one_outcome (script_asked grammar b) bytes (of_script (length (stream d h)) p) all (view_outcome grammar b d h bytes rest begun good) is in
-    let nowhere : p.place ≡ None = no_place (length (stream d h)) p.place (ap (λ (a : Ran). a.place) same ∙ none) in
-    left_at_end window now (subst (λ (place : Option ℕ). ReachesPlace (Some rest) (prepend_known window now) place) nowhere ended.reaches)
+    let same = one_outcome (script_asked grammar b) bytes (of_script (length (stream d h)) p) all
+    (view_outcome grammar b d h bytes rest begun good) is in
+    let nowhere : p.place ≡ None =
+    no_place (length (stream d h)) p.place (ap (λ (a : Ran). a.place) same ∙ none) in
+    left_at_end window now
+    (subst (λ (place : Option ℕ). ReachesPlace (Some rest) (prepend_known window now) place)
+    nowhere ended.reaches)
 
 -- The script has ended at a place, and the window holds few bytes.
-script_to_place : (grammar : Grammar) (b d : ℕ) (h : Hierarchy) (left mid now got_old got_new : Option (List ℕ)) (window : List ℕ) (after : State) → Begun left mid d h → IsValid h → length window ≤ 4095
-    → Ended h grammar (at_first b) mid (prepend_known window now) got_old got_new None after → ReadToPlace (script_asked grammar b) left now
+script_to_place : (grammar : Grammar) (b d : ℕ) (h : Hierarchy)
+    (left mid now got_old got_new : Option (List ℕ)) (window : List ℕ) (after : State)
+    → Begun left mid d h → IsValid h → length window ≤ 4095
+    → Ended h grammar (at_first b) mid (prepend_known window now) got_old got_new None after
+    → ReadToPlace (script_asked grammar b) left now
 script_to_place grammar b d h None mid now got_old got_new window after begun good few ended = tt
-script_to_place grammar b d h (Some bytes) None now got_old got_new window after begun good few ended = absurd (cc begun.took)
-script_to_place grammar b d h (Some bytes) (Some rest) now got_old got_new window after begun good few ended = λ all is.
-    subst (λ (a : Ran). IfSome a.place (λ n. TakesTo n (Some bytes) now)) (one_outcome (script_asked grammar b) bytes (of_script (length (stream d h)) (played h grammar (at_first b) rest)) all (view_outcome grammar b d h bytes rest begun good) is)
+script_to_place grammar b d h (Some bytes) None now got_old got_new window after begun good few
+    ended = absurd (cc begun.took)
+script_to_place grammar b d h (Some bytes) (Some rest) now got_old got_new window after begun good
+    few ended = λ all is.
+    subst (λ (a : Ran). IfSome a.place (λ n. TakesTo n (Some bytes) now))
+    (one_outcome (script_asked grammar b) bytes
+    (of_script (length (stream d h)) (played h grammar (at_first b) rest)) all
+    (view_outcome grammar b d h bytes rest begun good) is)
     (on (played h grammar (at_first b) rest).place ended.reaches)
   where
-    on : (place : Option ℕ) → ReachesPlace (Some rest) (prepend_known window now) place → IfSome (option_map (λ n. length (stream d h) + n) place) (λ n. TakesTo n (Some bytes) now)
+    on : (place : Option ℕ) → ReachesPlace (Some rest) (prepend_known window now) place
+        → IfSome (option_map (λ n. length (stream d h) + n) place) (λ n. TakesTo n (Some bytes) now)
     on None reaches = tt
     on (Some n) reaches =
         let script = reaches.0 in
-        let len : length (stream d h ++ (script ++ window)) ≡ length (stream d h) + (n + length window) = omega (arith, length-append (stream d h) (script ++ window), length-append script window, reaches.2) in
+        let len : length (stream d h ++ (script ++ window))
+        ≡ length (stream d h) + (n + length window) =
+        omega (
+          arith,
+          length-append (stream d h) (script ++ window),
+          length-append script window,
+          reaches.2,
+        ) in
         record {
           taken = stream d h ++ (script ++ window);
-          took = loses_both (Some bytes) (Some rest) now (stream d h) (script ++ window) (took_text (Some bytes) (Some rest) d h begun) (loses_both (Some rest) (prepend_known window now) now script window reaches.1 refl);
+          took = loses_both (Some bytes) (Some rest) now (stream d h) (script ++ window)
+              (took_text (Some bytes) (Some rest) d h begun)
+              (loses_both (Some rest) (prepend_known window now) now script window reaches.1 refl);
           reached = omega (arith, len);
           few = omega (arith, len, few);
         }
 
 -- A write failed.
-script_cut : (grammar : Grammar) (b d : ℕ) (h : Hierarchy) (left mid now got_old got_new : Option (List ℕ)) (after : State) → Begun left mid d h → IsValid h → PutPart h grammar (at_first b) mid now got_old got_new after → IfSome left (λ bytes. CutShort (script_asked grammar b) bytes got_old got_new)
+script_cut : (grammar : Grammar) (b d : ℕ) (h : Hierarchy)
+    (left mid now got_old got_new : Option (List ℕ)) (after : State) → Begun left mid d h
+    → IsValid h → PutPart h grammar (at_first b) mid now got_old got_new after
+    → IfSome left (λ bytes. CutShort (script_asked grammar b) bytes got_old got_new)
 script_cut grammar b d h None mid now got_old got_new after begun good p = tt
-script_cut grammar b d h (Some bytes) None now got_old got_new after begun good p = absurd (cc begun.took)
+script_cut grammar b d h (Some bytes) None now got_old got_new after begun good p =
+    absurd (cc begun.took)
 script_cut grammar b d h (Some bytes) (Some rest) now got_old got_new after begun good p = record {
   all = of_script (length (stream d h)) (played h grammar (at_first b) rest);
   outcome = view_outcome grammar b d h bytes rest begun good;
   part = p.all;
 }
 
-script_few : (grammar : Grammar) (b d : ℕ) (h : Hierarchy) (window : List ℕ) (left mid now got_old got_new : Option (List ℕ)) (after : State) → Begun left mid d h → IsValid h → length window ≤ 4095
-    → PutPart h grammar (at_first b) mid (prepend_known window now) got_old got_new after → FewMoreIn grammar b left now got_old got_new
+script_few : (grammar : Grammar) (b d : ℕ) (h : Hierarchy) (window : List ℕ)
+    (left mid now got_old got_new : Option (List ℕ)) (after : State) → Begun left mid d h
+    → IsValid h → length window ≤ 4095
+    → PutPart h grammar (at_first b) mid (prepend_known window now) got_old got_new after
+    → FewMoreIn grammar b left now got_old got_new
 script_few grammar b d h window left mid now got_old got_new after begun good few p = record {
   digits = d;
   h = h;
@@ -212,7 +334,9 @@ script_few grammar b d h window left mid now got_old got_new after begun good fe
   window = window;
   told = begun.text.few;
   good = good;
-  took = loses_both left mid now (stream d h) ((p.front ++ p.line) ++ window) (took_text left mid d h begun) (loses_both mid (prepend_known window now) now (p.front ++ p.line) window p.took refl);
+  took = loses_both left mid now (stream d h) ((p.front ++ p.line) ++ window)
+      (took_text left mid d h begun)
+      (loses_both mid (prepend_known window now) now (p.front ++ p.line) window p.took refl);
   ends = p.ends;
   one = p.one;
   to_its_end = p.to_its_end;
@@ -222,7 +346,10 @@ script_few grammar b d h window left mid now got_old got_new after begun good fe
 }
 
 -- The session shows the base front of the hierarchy.
-shown : (grammar grammar' : Grammar) (h h' : Hierarchy) (b : ℕ) (T : State) (mid now got_old got_new : Option (List ℕ)) (r : Result (Unit {0}) ServeFail) (after : State) → h' ≡ h → grammar' ≡ grammar → T ≡ at_first b → Serves h' grammar' T mid now got_old got_new r after
+shown : (grammar grammar' : Grammar) (h h' : Hierarchy) (b : ℕ) (T : State)
+    (mid now got_old got_new : Option (List ℕ)) (r : Result (Unit {0}) ServeFail) (after : State)
+    → h' ≡ h → grammar' ≡ grammar → T ≡ at_first b
+    → Serves h' grammar' T mid now got_old got_new r after
     → Serves h grammar (at_first b) mid now got_old got_new r after
 shown grammar grammar' h h' b T mid now got_old got_new r after same_h same_grammar base serves =
     subst (λ (q : Hierarchy). Serves q grammar (at_first b) mid now got_old got_new r after) same_h
@@ -230,41 +357,88 @@ shown grammar grammar' h h' b T mid now got_old got_new r after same_h same_gram
     (subst (λ (S : State). Serves h' grammar' S mid now got_old got_new r after) base serves))
 
 -- What a session that began so makes of `view`.
-module _ (grammar grammar' : Grammar) (b d : ℕ) (h h' : Hierarchy) (T : State) (left mid now got_old got_new : Option (List ℕ)) (window : List ℕ) (after : State) (begun : Begun left mid d h) (good : IsValid h) (same_h : h' ≡ h) (same_grammar : grammar' ≡ grammar) (base : T ≡ at_first b) where
-  pub view_done : Serves h' grammar' T mid (prepend_known window now) got_old got_new (Ok tt) after → IfSome left (λ bytes. Replied (script_asked grammar b) bytes None got_old got_new)
-  view_done serves = script_ended grammar b d h left mid (prepend_known window now) got_old got_new None None after begun good refl (shown grammar grammar' h h' b T mid (prepend_known window now) got_old got_new (Ok tt) after same_h same_grammar base serves)
+module _ (grammar grammar' : Grammar) (b d : ℕ) (h h' : Hierarchy) (T : State)
+    (left mid now got_old got_new : Option (List ℕ)) (window : List ℕ) (after : State)
+    (begun : Begun left mid d h) (good : IsValid h) (same_h : h' ≡ h) (same_grammar : grammar'
+    ≡ grammar) (base : T ≡ at_first b) where
+  pub view_done : Serves h' grammar' T mid (prepend_known window now) got_old got_new (Ok tt) after
+      → IfSome left (λ bytes. Replied (script_asked grammar b) bytes None got_old got_new)
+  view_done serves =
+      script_ended grammar b d h left mid (prepend_known window now) got_old got_new None None after
+      begun good refl (shown grammar grammar' h h' b T mid (prepend_known window now) got_old
+      got_new (Ok tt) after same_h same_grammar base serves)
 
-  pub view_to_end : Serves h' grammar' T mid (prepend_known window now) got_old got_new (Ok tt) after → ReadToEnd (script_asked grammar b) left now
-  view_to_end serves = script_to_end grammar b d h left mid now got_old got_new window after begun good (shown grammar grammar' h h' b T mid (prepend_known window now) got_old got_new (Ok tt) after same_h same_grammar base serves)
+  pub view_to_end : Serves h' grammar' T mid (prepend_known window now) got_old got_new (Ok tt)
+      after → ReadToEnd (script_asked grammar b) left now
+  view_to_end serves =
+      script_to_end grammar b d h left mid now got_old got_new window after begun good
+      (shown grammar grammar' h h' b T mid (prepend_known window now) got_old got_new (Ok tt) after
+      same_h same_grammar base serves)
 
-  pub view_to_place : Serves h' grammar' T mid (prepend_known window now) got_old got_new (Ok tt) after → length window ≤ 4095 → ReadToPlace (script_asked grammar b) left now
-  view_to_place serves few = script_to_place grammar b d h left mid now got_old got_new window after begun good few (shown grammar grammar' h h' b T mid (prepend_known window now) got_old got_new (Ok tt) after same_h same_grammar base serves)
+  pub view_to_place : Serves h' grammar' T mid (prepend_known window now) got_old got_new (Ok tt)
+      after → length window ≤ 4095 → ReadToPlace (script_asked grammar b) left now
+  view_to_place serves few =
+      script_to_place grammar b d h left mid now got_old got_new window after begun good few
+      (shown grammar grammar' h h' b T mid (prepend_known window now) got_old got_new (Ok tt) after
+      same_h same_grammar base serves)
 
-  pub view_served : (e : ServeFail) → Serves h' grammar' T mid (prepend_known window now) got_old got_new (Err e) after → WindowAfter {X = Unit {0}} (Err e) window → Ends (script_asked grammar b) (Err (serve_fail e)) left now got_old got_new
-  view_served e serves is = go e (shown grammar grammar' h h' b T mid (prepend_known window now) got_old got_new (Err e) after same_h same_grammar base serves) is
+  pub view_served : (e : ServeFail)
+      → Serves h' grammar' T mid (prepend_known window now) got_old got_new (Err e) after
+      → WindowAfter {X = Unit {0}} (Err e) window
+      → Ends (script_asked grammar b) (Err (serve_fail e)) left now got_old got_new
+  view_served e serves is =
+      go e (shown grammar grammar' h h' b T mid (prepend_known window now) got_old got_new (Err e)
+      after same_h same_grammar base serves) is
     where
-      go : (e : ServeFail) → Serves h grammar (at_first b) mid (prepend_known window now) got_old got_new (Err e) after → WindowAfter {X = Unit {0}} (Err e) window → Ends (script_asked grammar b) (Err (serve_fail e)) left now got_old got_new
-      go (serve_fails.BadLine n) s w = script_ended grammar b d h left mid (prepend_known window now) got_old got_new (Some (script.BadLine n)) (Some (faults.BadLine n)) after begun good refl s
-      go (serve_fails.NoRecord n) s w = script_ended grammar b d h left mid (prepend_known window now) got_old got_new (Some (script.NoRecord n)) (Some (faults.NoRecord n)) after begun good refl s
-      go serve_fails.ScriptTooLong s w = script_ended grammar b d h left mid (prepend_known window now) got_old got_new (Some script.TooLong) (Some faults.ScriptTooLong) after begun good refl s
+      go : (e : ServeFail)
+          → Serves h grammar (at_first b) mid (prepend_known window now) got_old got_new (Err e)
+          after → WindowAfter {X = Unit {0}} (Err e) window
+          → Ends (script_asked grammar b) (Err (serve_fail e)) left now got_old got_new
+      go (serve_fails.BadLine n) s w =
+          script_ended grammar b d h left mid (prepend_known window now) got_old got_new
+          (Some (script.BadLine n)) (Some (faults.BadLine n)) after begun good refl s
+      go (serve_fails.NoRecord n) s w =
+          script_ended grammar b d h left mid (prepend_known window now) got_old got_new
+          (Some (script.NoRecord n)) (Some (faults.NoRecord n)) after begun good refl s
+      go serve_fails.ScriptTooLong s w =
+          script_ended grammar b d h left mid (prepend_known window now) got_old got_new
+          (Some script.TooLong) (Some faults.ScriptTooLong) after begun good refl s
       go serve_fails.Read s w =
           script_unread grammar b d h left mid now got_old got_new after begun good
-          (subst (λ (o : Option (List ℕ)). CutOff h grammar (at_first b) mid o got_old got_new after) (ap (λ (l : List ℕ). prepend_known l now) w ∙ sym (loses_none now)) s)
-      go serve_fails.Write s w = script_cut grammar b d h left mid (prepend_known window now) got_old got_new after begun good s
+          (subst (λ (o : Option (List ℕ)). CutOff h grammar (at_first b) mid o got_old got_new
+          after) (ap (λ (l : List ℕ). prepend_known l now) w ∙ sym (loses_none now)) s)
+      go serve_fails.Write s w =
+          script_cut grammar b d h left mid (prepend_known window now) got_old got_new after begun
+          good s
 
-  pub view_few : (e : ServeFail) → Serves h' grammar' T mid (prepend_known window now) got_old got_new (Err e) after → WindowAfter {X = Unit {0}} (Err e) window → serve_fail e ≡ fails.Write → FewMoreIn grammar b left now got_old got_new
-  view_few e serves is write = go e (shown grammar grammar' h h' b T mid (prepend_known window now) got_old got_new (Err e) after same_h same_grammar base serves) is write
+  pub view_few : (e : ServeFail)
+      → Serves h' grammar' T mid (prepend_known window now) got_old got_new (Err e) after
+      → WindowAfter {X = Unit {0}} (Err e) window → serve_fail e ≡ fails.Write
+      → FewMoreIn grammar b left now got_old got_new
+  view_few e serves is write =
+      go e (shown grammar grammar' h h' b T mid (prepend_known window now) got_old got_new (Err e)
+      after same_h same_grammar base serves) is write
     where
-      go : (e : ServeFail) → Serves h grammar (at_first b) mid (prepend_known window now) got_old got_new (Err e) after → WindowAfter {X = Unit {0}} (Err e) window → serve_fail e ≡ fails.Write → FewMoreIn grammar b left now got_old got_new
+      go : (e : ServeFail)
+          → Serves h grammar (at_first b) mid (prepend_known window now) got_old got_new (Err e)
+          after → WindowAfter {X = Unit {0}} (Err e) window → serve_fail e ≡ fails.Write
+          → FewMoreIn grammar b left now got_old got_new
       go (serve_fails.BadLine n) s w write = absurd (cc write)
       go (serve_fails.NoRecord n) s w write = absurd (cc write)
       go serve_fails.ScriptTooLong s w write = absurd (cc write)
       go serve_fails.Read s w write = absurd (cc write)
-      go serve_fails.Write s w write = script_few grammar b d h window left mid now got_old got_new after begun good w s
+      go serve_fails.Write s w write =
+          script_few grammar b d h window left mid now got_old got_new after begun good w s
 
-pub view_counts : (e : ServeFail) (in_old in_mid in_new out_old out_new : ℕ) → in_mid ≡ in_old → ServeCounts {X = Unit {0}} (Err e) in_mid in_new out_old out_new → Counts (Err (serve_fail e)) in_old in_new out_old out_new
-view_counts (serve_fails.BadLine n) in_old in_mid in_new out_old out_new same counts = (counts.0 ∙ same, counts.1)
-view_counts (serve_fails.NoRecord n) in_old in_mid in_new out_old out_new same counts = (counts.0 ∙ same, counts.1)
-view_counts serve_fails.ScriptTooLong in_old in_mid in_new out_old out_new same counts = (counts.0 ∙ same, counts.1)
-view_counts serve_fails.Read in_old in_mid in_new out_old out_new same counts = subst (λ (n : ℕ). Rose n in_new) same counts.0
+pub view_counts : (e : ServeFail) (in_old in_mid in_new out_old out_new : ℕ) → in_mid ≡ in_old
+    → ServeCounts {X = Unit {0}} (Err e) in_mid in_new out_old out_new
+    → Counts (Err (serve_fail e)) in_old in_new out_old out_new
+view_counts (serve_fails.BadLine n) in_old in_mid in_new out_old out_new same counts =
+    (counts.0 ∙ same, counts.1)
+view_counts (serve_fails.NoRecord n) in_old in_mid in_new out_old out_new same counts =
+    (counts.0 ∙ same, counts.1)
+view_counts serve_fails.ScriptTooLong in_old in_mid in_new out_old out_new same counts =
+    (counts.0 ∙ same, counts.1)
+view_counts serve_fails.Read in_old in_mid in_new out_old out_new same counts =
+    subst (λ (n : ℕ). Rose n in_new) same counts.0
 view_counts serve_fails.Write in_old in_mid in_new out_old out_new same counts = counts.1

@@ -11,7 +11,9 @@ use Rattle.pm_commands.specs.declared.asked.Asked.{Asked}
 abbrev pub AskBy : (List (List ℕ) → Option Asked) → List (String Global) → Asked → Type 0
 AskBy reads words asked = reads (map string_bytes words) ≡ Some asked
 
--- The arguments were gathered, and the words after the first of them, which is the program's name, ask for this.
-abbrev pub ArgsAskBy : (List (List ℕ) → Option Asked) → Result (IntoIter (String Global) Global) Error → Asked → Type 0
+-- The arguments were gathered, and the words after the first of them, which is the program's name,
+-- ask for this.
+abbrev pub ArgsAskBy : (List (List ℕ) → Option Asked)
+    → Result (IntoIter (String Global) Global) Error → Asked → Type 0
 ArgsAskBy reads (Ok args) asked = AskBy reads (drop 1 (into_iter_items args)) asked
 ArgsAskBy reads (Err error) asked = ⊥

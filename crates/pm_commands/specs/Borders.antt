@@ -11,10 +11,11 @@ use Rattle.pm_commands.specs.Surface.{IsSurfaceRead}
 use Rattle.pm_commands.specs.Simplified.{IsSimplifiedText}
 use Rattle.pm_commands.specs.Frames.{ShowsSurfacesOf}
 
--- The sink gained the stream text of an OBJ text's mesh that was simplified with its border kept. A `w` after any lines of a
--- script on that stream shows a mesh with exactly the border sides of the OBJ text's mesh, each between the same two places,
--- as every closed set of split records does.
-pub record FramesShowBorder (target digits : ℕ) (bytes : List ℕ) (old new : Option (List ℕ)) : Type 0 where
+-- The sink gained the stream text of an OBJ text's mesh that was simplified with its border kept. A
+-- `w` after any lines of a script on that stream shows a mesh with exactly the border sides of the
+-- OBJ text's mesh, each between the same two places, as every closed set of split records does.
+pub record FramesShowBorder (target digits : ℕ) (bytes : List ℕ) (old new : Option (List ℕ)) : Type
+    0 where
   pub shown : ShowsSurfacesOf (IsSimplifiedText borders.Kept target digits) digits bytes old new
   pub m : Mesh
   pub read : IsSurfaceRead digits bytes (Ok m) None

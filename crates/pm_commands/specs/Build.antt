@@ -8,21 +8,22 @@ use Rattle.pm_number.specs.Numbering.{hierarchy_of_run}
 use Rattle.pm_commands.specs.declared.fault.Fault.{Fault}
 use Rattle.pm_commands.specs.Surface.{IsSurfaceRead}
 
--- The hierarchy is that of a log of the mesh's run to the target, each time by the legal pair of least cost. There is one
--- such log: `OneRunToATarget`.
+-- The hierarchy is that of a log of the mesh's run to the target, each time by the legal pair of
+-- least cost. There is one such log: `OneRunToATarget`.
 pub record IsSimplified (m : Mesh) (target : ℕ) (h : Hierarchy) : Type 0 where
   pub log : List Collapse
   pub run : IsRunTo m target log
   pub made : h ≡ hierarchy_of_run m log
 
--- The text gives no mesh, or this hierarchy is made of its mesh, where `Makes` says what is made of a mesh; and how many
--- bytes decide that, where it isn't the end of the text.
+-- The text gives no mesh, or this hierarchy is made of its mesh, where `Makes` says what is made of
+-- a mesh; and how many bytes decide that, where it isn't the end of the text.
 pub data IsMadeOf
     (Makes : Mesh → Hierarchy → Type 0) (digits : ℕ) (bytes : List ℕ)
     : Result Hierarchy Fault → Option ℕ → Type 0 where
   no_surface : (f : Fault) (place : Option ℕ) → IsSurfaceRead digits bytes (Err f) place
       → IsMadeOf Makes digits bytes (Err f) place
-  made : (m : Mesh) (h : Hierarchy) (place : Option ℕ) → IsSurfaceRead digits bytes (Ok m) place → Makes m h
+  made : (m : Mesh) (h : Hierarchy) (place : Option ℕ) → IsSurfaceRead digits bytes (Ok m) place
+      → Makes m h
       → IsMadeOf Makes digits bytes (Ok h) place
 
 -- The text gives no mesh, or its mesh is simplified.

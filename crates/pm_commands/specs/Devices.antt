@@ -22,17 +22,23 @@ abbrev pub Tells : {E : Type 0} → sink.Ghosts E → E → E → List ℕ → T
 Tells e before now line = Said (e.got before) (e.got now) (e.faults before) (e.faults now) line
 
 -- The outcome of what the source had left has this fault, or none, and exactly its text was put.
-abbrev pub Replies : {S K : Type 0} → source.Ghosts S → sink.Ghosts K → Asked → Option Fault → S → K → K → Type 0
-Replies s k asked fault input before now = IfSome (s.left input) (λ bytes. Replied asked bytes fault (k.got before) (k.got now))
+abbrev pub Replies : {S K : Type 0} → source.Ghosts S → sink.Ghosts K → Asked → Option Fault → S → K
+    → K → Type 0
+Replies s k asked fault input before now =
+    IfSome (s.left input) (λ bytes. Replied asked bytes fault (k.got before) (k.got now))
 
 -- What was put of a build leads back to the mesh.
 abbrev pub LeadsBack : {S K : Type 0} → source.Ghosts S → sink.Ghosts K → ℕ → ℕ → S → K → K → Type 0
-LeadsBack s k target digits input before now = IfSome (s.left input) (λ bytes. GivesBack target digits bytes (k.got before) (k.got now))
+LeadsBack s k target digits input before now =
+    IfSome (s.left input) (λ bytes. GivesBack target digits bytes (k.got before) (k.got now))
 
 -- Each frame of what was put of a build shows an oriented manifold.
-abbrev pub FramesAreSurfaces : {S K : Type 0} → source.Ghosts S → sink.Ghosts K → ℕ → ℕ → S → K → K → Type 0
-FramesAreSurfaces s k target digits input before now = IfSome (s.left input) (λ bytes. ShowsSurfaces target digits bytes (k.got before) (k.got now))
+abbrev pub FramesAreSurfaces : {S K : Type 0} → source.Ghosts S → sink.Ghosts K → ℕ → ℕ → S → K → K
+    → Type 0
+FramesAreSurfaces s k target digits input before now =
+    IfSome (s.left input) (λ bytes. ShowsSurfaces target digits bytes (k.got before) (k.got now))
 
 -- A proper prefix of the outcome's text was put.
 abbrev pub Breaks : {S K : Type 0} → source.Ghosts S → sink.Ghosts K → Asked → S → K → K → Type 0
-Breaks s k asked input before now = IfSome (s.left input) (λ bytes. CutShort asked bytes (k.got before) (k.got now))
+Breaks s k asked input before now =
+    IfSome (s.left input) (λ bytes. CutShort asked bytes (k.got before) (k.got now))

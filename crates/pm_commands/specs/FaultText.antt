@@ -1,4 +1,5 @@
--- What is said on the error sink where a command ends early, after the name of the program and a colon.
+-- What is said on the error sink where a command ends early, after the name of the program and a
+-- colon.
 use Rattle.std.specs.Prelude.{ℕ, List, ◌++◌, codes}
 use Rattle.std.specs.Fmt.{decimal}
 use Rattle.obj_read.specs.Numbers.{fault_number}
@@ -11,7 +12,9 @@ use Rattle.pm_commands.specs.declared.fault.CommandFail.TheVariants as fails
 
 -- A fault with a place: a word for what is counted, and its number.
 unfoldable pub place_text : ℕ → List ℕ → ℕ → List ℕ
-place_text number word place = codes "fault " ++ decimal number ++ codes " " ++ word ++ codes " " ++ decimal place ++ codes "\n"
+place_text number word place =
+    codes "fault " ++ decimal number ++ codes " " ++ word ++ codes " " ++ decimal place
+    ++ codes "\n"
 
 -- A fault without a place.
 unfoldable pub bare_text : ℕ → List ℕ

@@ -17,15 +17,18 @@ use Rattle.pm_commands.specs.Ran.{of_script}
 use Rattle.pm_commands.specs.Build.{IsBuilt}
 use Rattle.pm_commands.specs.Outcome.{IsOutcome}
 
--- A script leads from a closed set of split records to a closed set, and where the marked records were closed too they are
--- closed after it.
+-- A script leads from a closed set of split records to a closed set, and where the marked records
+-- were closed too they are closed after it.
 abbrev pub ScriptsKeepSetsClosed : Type 0
 ScriptsKeepSetsClosed =
-    (h : Hierarchy) → IsValid h → (grammar : Grammar) (s : State) → IsClosed h s.split → (script : List ℕ)
-    → IsClosed h (played h grammar s script).state.split × (IsClosed h s.marked → IsClosed h (played h grammar s script).state.marked)
+    (h : Hierarchy) → IsValid h → (grammar : Grammar) (s : State) → IsClosed h s.split
+    → (script : List ℕ)
+    → IsClosed h (played h grammar s script).state.split
+    × (IsClosed h s.marked → IsClosed h (played h grammar s script).state.marked)
 
--- The sink gained the stream text of the hierarchy that is made of the bytes. `view` and `live` play on it the script that
--- follows, and a `w` after any lines shows an oriented manifold, as every closed set of split records does.
+-- The sink gained the stream text of the hierarchy that is made of the bytes. `view` and `live`
+-- play on it the script that follows, and a `w` after any lines shows an oriented manifold, as
+-- every closed set of split records does.
 pub record ShowsSurfacesOf
     (IsMade : List ℕ → Result Hierarchy Fault → Option ℕ → Type 0) (digits : ℕ) (bytes : List ℕ)
     (old new : Option (List ℕ)) : Type 0 where
@@ -34,11 +37,14 @@ pub record ShowsSurfacesOf
   pub gained : Gains old new (stream digits h)
   pub views :
       (budget : ℕ) (script : List ℕ)
-      → IsOutcome (asked.View budget) (stream digits h ++ script) (of_script (length (stream digits h)) (played h grammars.View (at_first budget) script))
+      → IsOutcome (asked.View budget) (stream digits h ++ script)
+      (of_script (length (stream digits h)) (played h grammars.View (at_first budget) script))
   pub lives :
       (budget : ℕ) (script : List ℕ)
-      → IsOutcome (asked.Live budget) (stream digits h ++ script) (of_script (length (stream digits h)) (played h grammars.Live (at_first budget) script))
-  pub frames : (grammar : Grammar) (budget : ℕ) (front : List ℕ) → IsOrientedManifold (shown_net h (played h grammar (at_first budget) front).state.split)
+      → IsOutcome (asked.Live budget) (stream digits h ++ script)
+      (of_script (length (stream digits h)) (played h grammars.Live (at_first budget) script))
+  pub frames : (grammar : Grammar) (budget : ℕ) (front : List ℕ)
+      → IsOrientedManifold (shown_net h (played h grammar (at_first budget) front).state.split)
   pub fronts : (T : ℕ → Bool) → IsClosed h T → IsOrientedManifold (shown_net h T)
 
 -- So it is with what was built.

@@ -11,8 +11,8 @@ use Rattle.pm_commands.specs.declared.fault.Fault.TheVariants as faults
 use Rattle.pm_commands.specs.declared.fault.CommandFail.{CommandFail}
 use Rattle.pm_commands.specs.declared.fault.CommandFail.TheVariants as fails
 
--- The text that is written; the fault that ends it, if one does; and its place: how many bytes of the input decide all
--- that, where it isn't the end of the input that does.
+-- The text that is written; the fault that ends it, if one does; and its place: how many bytes of
+-- the input decide all that, where it isn't the end of the input that does.
 pub record Ran : Type 0 where
   pub text : List ℕ
   pub fault : Option Fault
@@ -38,7 +38,11 @@ line_fault lines.TooLong = faults.ScriptTooLong
 
 -- What a script does that begins after so many bytes.
 abbrev pub of_script : ℕ → Played → Ran
-of_script before p = record { text = p.text; fault = option_map line_fault p.fault; place = option_map (λ n. before + n) p.place }
+of_script before p = record {
+  text = p.text;
+  fault = option_map line_fault p.fault;
+  place = option_map (λ n. before + n) p.place;
+}
 
 -- A command ends as the serving of its script does.
 abbrev pub serve_fail : ServeFail → CommandFail

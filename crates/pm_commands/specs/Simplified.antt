@@ -1,5 +1,5 @@
--- What `simplify` makes of an OBJ text: the hierarchy of the run by the fine policy, with the border
--- free or kept.
+-- What `simplify` makes of an OBJ text: the hierarchy of the run by the fine policy, with the
+-- border free or kept.
 use Rattle.std.specs.Prelude.{◌≡◌, ◌↔◌, ℕ, Bool, true, false, List, Option, Result}
 use Rattle.pm_base.specs.Meshes.{Mesh}
 use Rattle.pm_base.specs.Sides.{net_of, IsBorder}
@@ -19,9 +19,9 @@ abbrev pub IsKeptWith : Border → Mesh → (ℕ → Bool) → Type 0
 IsKeptWith borders.Free m kept = (v : ℕ) → kept v ≡ false
 IsKeptWith borders.Kept m kept = (v : ℕ) → (kept v ≡ true) ↔ IsBorder (net_of m.faces) v
 
--- The hierarchy is that of a log of the mesh's run to the target by the fine policy that keeps these
--- vertices: each time it collapses the legal pair of least cost among those without one of them.
--- There is one such log: `OneRunByAPolicy`.
+-- The hierarchy is that of a log of the mesh's run to the target by the fine policy that keeps
+-- these vertices: each time it collapses the legal pair of least cost among those without one of
+-- them. There is one such log: `OneRunByAPolicy`.
 pub record IsSimplifiedWith (border : Border) (m : Mesh) (target : ℕ) (h : Hierarchy) : Type 0 where
   pub kept : ℕ → Bool
   pub keeps : IsKeptWith border m kept

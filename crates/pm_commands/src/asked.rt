@@ -12,10 +12,11 @@ pub enum Border {
 /// What is asked for, by words of a command line.
 #[derive(Clone, Copy, Debug, PartialEq, Eq)]
 pub enum Asked {
-    /// `canon` and `canon --digits D`: the canonical text of an OBJ text, with so many decimals; with none by `canon` alone.
+    /// `canon` and `canon --digits D`: the canonical text of an OBJ text, with so many decimals;
+    /// with none by `canon` alone.
     Canon(u32),
-    /// `build`, `build N` and `build N --digits D`: the stream of an OBJ text's mesh, simplified to this number of faces, with
-    /// so many decimals; to none and with none by `build` alone.
+    /// `build`, `build N` and `build N --digits D`: the stream of an OBJ text's mesh, simplified to
+    /// this number of faces, with so many decimals; to none and with none by `build` alone.
     Build(u32, u32),
     /// `expand`: the canonical text of the mesh that a stream was made from.
     Expand,
@@ -27,7 +28,7 @@ pub enum Asked {
     Live(u32),
     /// `demo N`: the summary of the grid of N times N cells, N from 1 to 256.
     Demo(u32),
-    /// `N --digits D --keep-border` of the program `simplify`: the stream of an OBJ text's mesh, simplified to this number of
-    /// faces, with so many decimals, its border kept or not.
+    /// `N --digits D --keep-border` of the program `simplify`: the stream of an OBJ text's mesh,
+    /// simplified to this number of faces, with so many decimals, its border kept or not.
     Simplify(u32, u32, Border),
 }

@@ -55,8 +55,9 @@ fn build_hierarchy<S: Source>(
     Ok(simplified(alloc, surface, target)?)
 }
 
-/// `build N --digits D`: reads an OBJ text, simplifies its mesh to N faces or as far as pairs may be collapsed, and writes
-/// the stream text of the run's hierarchy, each with D decimals a coordinate.
+/// `build N --digits D`: reads an OBJ text, simplifies its mesh to N faces or as far as pairs may
+/// be collapsed, and writes the stream text of the run's hierarchy, each with D decimals a
+/// coordinate.
 pub fn build<S: Source, K: Sink>(
     alloc: Global,
     target: u32,
@@ -68,9 +69,12 @@ pub fn build<S: Source, K: Sink>(
     requires not_ended { S.ended input.old ≡ false }
     ensures ends { Ends (Asked.Build target digits) result
         (S.left input.old) (S.left input.new) (K.got out.old) (K.got out.new) }
-    ensures gives_back { OnOk result (LeadsBack S.Source K.Sink target digits input.old out.old out.new) }
-    ensures surfaces { OnOk result (FramesAreSurfaces S.Source K.Sink target digits input.old out.old out.new) }
-    ensures counts { Counts result (S.faults input.old) (S.faults input.new) (K.faults out.old) (K.faults out.new) }
+    ensures gives_back { OnOk result
+        (LeadsBack S.Source K.Sink target digits input.old out.old out.new) }
+    ensures surfaces { OnOk result
+        (FramesAreSurfaces S.Source K.Sink target digits input.old out.old out.new) }
+    ensures counts { Counts result (S.faults input.old) (S.faults input.new) (K.faults out.old)
+        (K.faults out.new) }
     ensures read_whole { OnOk result (AtEnd (S.left input.new)) }
 {
     let h = build_hierarchy(alloc, target, digits, input)?;

@@ -1,7 +1,8 @@
 //! What each command does with its devices. All memory is taken before the first byte of output.
 ghost use Rattle.std.specs.Prelude.{◌≡◌, ◌≤◌, false, OnOk, IfErr};
 ghost use Rattle.pm_io.specs.Bytes.{AtEnd};
-ghost use Rattle.pm_commands.specs.Ending.{Ends, Counts, ReadToEnd, ReadToPlace, FewMore, FewMoreLive};
+ghost use Rattle.pm_commands.specs.Ending.{Ends, Counts, ReadToEnd, ReadToPlace, FewMore};
+ghost use Rattle.pm_commands.specs.Ending.{FewMoreLive};
 
 use crate::asked::Asked;
 use crate::fault::CommandFail;
@@ -15,8 +16,8 @@ use pm_io::{Line, Sink, Source, Taker, put_all};
 use pm_session::Grammar;
 use std::alloc::Global;
 
-/// `canon --digits D`: reads an OBJ text, and writes the canonical text of its mesh where that is an oriented manifold, each
-/// with D decimals a coordinate.
+/// `canon --digits D`: reads an OBJ text, and writes the canonical text of its mesh where that is
+/// an oriented manifold, each with D decimals a coordinate.
 pub fn canon<S: Source, K: Sink>(
     alloc: Global,
     digits: u32,
@@ -27,7 +28,8 @@ pub fn canon<S: Source, K: Sink>(
     requires not_ended { S.ended input.old ≡ false }
     ensures ends { Ends (Asked.Canon digits) result
         (S.left input.old) (S.left input.new) (K.got out.old) (K.got out.new) }
-    ensures counts { Counts result (S.faults input.old) (S.faults input.new) (K.faults out.old) (K.faults out.new) }
+    ensures counts { Counts result (S.faults input.old) (S.faults input.new) (K.faults out.old)
+        (K.faults out.new) }
     ensures read_whole { OnOk result (AtEnd (S.left input.new)) }
 {
     let surface = read_surface(alloc, digits, input)?;
@@ -35,8 +37,8 @@ pub fn canon<S: Source, K: Sink>(
     Ok(())
 }
 
-/// `expand`: reads a stream text, and writes the canonical text of the mesh that its hierarchy was made from, with as many
-/// decimals as the stream tells.
+/// `expand`: reads a stream text, and writes the canonical text of the mesh that its hierarchy was
+/// made from, with as many decimals as the stream tells.
 pub fn expand<S: Source, K: Sink>(
     alloc: Global,
     input: &mut S,
@@ -45,7 +47,8 @@ pub fn expand<S: Source, K: Sink>(
     requires { S.ended input.old ≡ false }
     ensures ends { Ends Asked.Expand result
         (S.left input.old) (S.left input.new) (K.got out.old) (K.got out.new) }
-    ensures counts { Counts result (S.faults input.old) (S.faults input.new) (K.faults out.old) (K.faults out.new) }
+    ensures counts { Counts result (S.faults input.old) (S.faults input.new) (K.faults out.old)
+        (K.faults out.new) }
     ensures read_whole { OnOk result (AtEnd (S.left input.new)) }
 {
     let stream = read_hierarchy(alloc, input)?;
@@ -63,7 +66,8 @@ pub fn check<S: Source, K: Sink>(
     requires { S.ended input.old ≡ false }
     ensures ends { Ends Asked.Check result
         (S.left input.old) (S.left input.new) (K.got out.old) (K.got out.new) }
-    ensures counts { Counts result (S.faults input.old) (S.faults input.new) (K.faults out.old) (K.faults out.new) }
+    ensures counts { Counts result (S.faults input.old) (S.faults input.new) (K.faults out.old)
+        (K.faults out.new) }
     ensures read_whole { OnOk result (AtEnd (S.left input.new)) }
 {
     let stream = read_hierarchy(alloc, input)?;
@@ -73,8 +77,8 @@ pub fn check<S: Source, K: Sink>(
     Ok(())
 }
 
-/// `view B`: reads the stream of a valid hierarchy, and does the script that follows it line by line. The reply to a line
-/// is put whole before more is asked for than the window holds.
+/// `view B`: reads the stream of a valid hierarchy, and does the script that follows it line by
+/// line. The reply to a line is put whole before more is asked for than the window holds.
 pub fn view<S: Source, K: Sink>(
     alloc: Global,
     budget: u32,
@@ -84,9 +88,12 @@ pub fn view<S: Source, K: Sink>(
     requires { S.ended input.old ≡ false }
     ensures ends { Ends (Asked.View budget) result
         (S.left input.old) (S.left input.new) (K.got out.old) (K.got out.new) }
-    ensures counts { Counts result (S.faults input.old) (S.faults input.new) (K.faults out.old) (K.faults out.new) }
-    ensures read_whole { OnOk result (ReadToEnd (Asked.View budget) (S.left input.old) (S.left input.new)) }
-    ensures read_to_place { OnOk result (ReadToPlace (Asked.View budget) (S.left input.old) (S.left input.new)) }
+    ensures counts { Counts result (S.faults input.old) (S.faults input.new) (K.faults out.old)
+        (K.faults out.new) }
+    ensures read_whole { OnOk result
+        (ReadToEnd (Asked.View budget) (S.left input.old) (S.left input.new)) }
+    ensures read_to_place { OnOk result
+        (ReadToPlace (Asked.View budget) (S.left input.old) (S.left input.new)) }
     ensures few_more { IfErr result (λ e. e ≡ CommandFail.Write
         → FewMore budget (S.left input.old) (S.left input.new) (K.got out.old) (K.got out.new)) }
 {
@@ -107,11 +114,15 @@ pub fn live<S: Source, K: Sink>(
     requires { S.ended input.old ≡ false }
     ensures ends { Ends (Asked.Live budget) result
         (S.left input.old) (S.left input.new) (K.got out.old) (K.got out.new) }
-    ensures counts { Counts result (S.faults input.old) (S.faults input.new) (K.faults out.old) (K.faults out.new) }
-    ensures read_whole { OnOk result (ReadToEnd (Asked.Live budget) (S.left input.old) (S.left input.new)) }
-    ensures read_to_place { OnOk result (ReadToPlace (Asked.Live budget) (S.left input.old) (S.left input.new)) }
+    ensures counts { Counts result (S.faults input.old) (S.faults input.new) (K.faults out.old)
+        (K.faults out.new) }
+    ensures read_whole { OnOk result
+        (ReadToEnd (Asked.Live budget) (S.left input.old) (S.left input.new)) }
+    ensures read_to_place { OnOk result
+        (ReadToPlace (Asked.Live budget) (S.left input.old) (S.left input.new)) }
     ensures few_more { IfErr result (λ e. e ≡ CommandFail.Write
-        → FewMoreLive budget (S.left input.old) (S.left input.new) (K.got out.old) (K.got out.new)) }
+        → FewMoreLive budget (S.left input.old) (S.left input.new) (K.got out.old)
+        (K.got out.new)) }
 {
     let mut taker = Taker::new(alloc)?;
     let Stream { h, .. } = read_stream(alloc, &mut taker, input)?;

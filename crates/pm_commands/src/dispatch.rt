@@ -6,7 +6,8 @@ ghost use Rattle.pm_commands.specs.Simplified.{IsSimplifiedText};
 ghost use Rattle.pm_commands.specs.Outcome.{GivesMeshBack};
 ghost use Rattle.pm_commands.specs.Frames.{ShowsSurfacesOf};
 ghost use Rattle.pm_commands.specs.Borders.{FramesShowBorder};
-ghost use Rattle.pm_commands.specs.Ending.{Ends, Counts, ReadToEnd, ReadToPlace, FewMore, FewMoreLive, BlamesNoInput, status_of};
+ghost use Rattle.pm_commands.specs.Ending.{Ends, Counts, ReadToEnd, ReadToPlace, FewMore};
+ghost use Rattle.pm_commands.specs.Ending.{FewMoreLive, BlamesNoInput, status_of};
 ghost use Rattle.pm_commands.specs.Devices.{Unread, LeadsBack, FramesAreSurfaces};
 
 use crate::asked::{Asked, Border};
@@ -29,29 +30,38 @@ pub fn obey<S: Source, K: Sink>(
     requires few { digits_asked asked ≤ 4 }
     requires size { HasSize asked }
     requires not_ended { S.ended input.old ≡ false }
-    ensures ends { Ends asked result (S.left input.old) (S.left input.new) (K.got out.old) (K.got out.new) }
-    ensures counts { Counts result (S.faults input.old) (S.faults input.new) (K.faults out.old) (K.faults out.new) }
+    ensures ends { Ends asked result (S.left input.old) (S.left input.new) (K.got out.old)
+        (K.got out.new) }
+    ensures counts { Counts result (S.faults input.old) (S.faults input.new) (K.faults out.old)
+        (K.faults out.new) }
     ensures read_whole { OnOk result (ReadToEnd asked (S.left input.old) (S.left input.new)) }
     ensures read_to_place { OnOk result (ReadToPlace asked (S.left input.old) (S.left input.new)) }
     ensures gives_back { (target digits : ℕ) → asked ≡ Asked.Build target digits
         → OnOk result (LeadsBack S.Source K.Sink target digits input.old out.old out.new) }
     ensures surfaces { (target digits : ℕ) → asked ≡ Asked.Build target digits
         → OnOk result (FramesAreSurfaces S.Source K.Sink target digits input.old out.old out.new) }
-    ensures simplified_back { (target digits : ℕ) (border : Border) → asked ≡ Asked.Simplify target digits border
+    ensures simplified_back { (target digits : ℕ) (border : Border)
+        → asked ≡ Asked.Simplify target digits border
         → OnOk result (IfSome (S.left input.old) (λ bytes.
-        GivesMeshBack (Asked.Simplify target digits border) bytes (K.got out.old) (K.got out.new))) }
-    ensures simplified_surfaces { (target digits : ℕ) (border : Border) → asked ≡ Asked.Simplify target digits border
+        GivesMeshBack (Asked.Simplify target digits border) bytes (K.got out.old)
+        (K.got out.new))) }
+    ensures simplified_surfaces { (target digits : ℕ) (border : Border)
+        → asked ≡ Asked.Simplify target digits border
         → OnOk result (IfSome (S.left input.old) (λ bytes.
-        ShowsSurfacesOf (IsSimplifiedText border target digits) digits bytes (K.got out.old) (K.got out.new))) }
+        ShowsSurfacesOf (IsSimplifiedText border target digits) digits bytes (K.got out.old)
+        (K.got out.new))) }
     ensures meets { (target digits : ℕ) → asked ≡ Asked.Simplify target digits Border.Kept
         → OnOk result (IfSome (S.left input.old) (λ bytes.
         FramesShowBorder target digits bytes (K.got out.old) (K.got out.new))) }
     ensures unread { (n : ℕ) → asked ≡ Asked.Demo n
         → Unread S.Source input.old input.new × IfErr result (λ e. BlamesNoInput (status_of e)) }
-    ensures few_more { (budget : ℕ) → asked ≡ Asked.View budget → IfErr result (λ e. e ≡ CommandFail.Write
+    ensures few_more { (budget : ℕ) → asked ≡ Asked.View budget
+        → IfErr result (λ e. e ≡ CommandFail.Write
         → FewMore budget (S.left input.old) (S.left input.new) (K.got out.old) (K.got out.new)) }
-    ensures few_more_live { (budget : ℕ) → asked ≡ Asked.Live budget → IfErr result (λ e. e ≡ CommandFail.Write
-        → FewMoreLive budget (S.left input.old) (S.left input.new) (K.got out.old) (K.got out.new)) }
+    ensures few_more_live { (budget : ℕ) → asked ≡ Asked.Live budget
+        → IfErr result (λ e. e ≡ CommandFail.Write
+        → FewMoreLive budget (S.left input.old) (S.left input.new) (K.got out.old)
+        (K.got out.new)) }
 {
     match asked {
         Asked::Canon(digits) => canon(alloc, digits, input, out),

@@ -18,7 +18,8 @@ use std::alloc::AllocError;
 pub enum Fault {
     /// The bytes begin with no stream text, for this reason.
     Stream(FormatError),
-    /// This record is the last one of a stream, counted from 0, that doesn't have beside its faces what it tells.
+    /// This record is the last one of a stream, counted from 0, that doesn't have beside its faces
+    /// what it tells.
     BadNeighbour(u32),
     /// A byte follows the stream text.
     Trailing,
@@ -32,7 +33,8 @@ pub enum Fault {
     Obj(ObjFault, u32),
     /// A directed side of this face of an OBJ text, counted from 1, is one of an earlier face too.
     EdgeTwice(u32),
-    /// A directed side of this face of a stream's leaf mesh, counted from 0, is one of an earlier face too.
+    /// A directed side of this face of a stream's leaf mesh, counted from 0, is one of an earlier
+    /// face too.
     LeafEdgeTwice(u32),
     /// The faces at this vertex, counted from 1, are no fan.
     NotFan(u32),

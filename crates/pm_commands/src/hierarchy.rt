@@ -10,11 +10,14 @@ use pm_io::{Source, Taker};
 use pm_load::validate;
 use std::alloc::Global;
 
-/// Reads the stream text of a valid hierarchy, and looks that no byte follows it. A fault is answered once the bytes that
-/// decide it were taken.
+/// Reads the stream text of a valid hierarchy, and looks that no byte follows it. A fault is
+/// answered once the bytes that decide it were taken.
 pub fn read_hierarchy<S: Source>(alloc: Global, input: &mut S) -> Result<Stream, InputFail>
     requires { S.ended input.old ≡ false }
-    ensures read { IfOk result (λ s. IfSome (S.left input.old) (λ bytes. IsHierarchyText bytes (Ok (record { digits = s.digits; h = s.h; rest = [] })) None)) }
+    ensures read { IfOk result
+        (λ s. IfSome (S.left input.old)
+        (λ bytes. IsHierarchyText bytes (Ok (record { digits = s.digits; h = s.h; rest = [] }))
+        None)) }
     ensures few { IfOk result (λ s. s.digits ≤ 4) }
     ensures end { OnOk result (AtEnd (S.left input.new)) }
     ensures count { OnOk result (S.faults input.new ≡ S.faults input.old) }

@@ -1,4 +1,5 @@
-//! The commands of the programs: what each of them does with its devices, how it ends, and what is said then.
+//! The commands of the programs: what each of them does with its devices, how it ends, and what is
+//! said then.
 #![tactic(auto)]
 
 mod arguments;

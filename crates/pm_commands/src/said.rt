@@ -1,6 +1,7 @@
 //! What is said on the error sink.
 ghost use Rattle.std.specs.Prelude.{◌≡◌, ◌≤◌, ◌++◌, length, codes};
-ghost use Rattle.pm_commands.specs.FaultText.{place_text, bare_text, stream_text, fault_text, fail_text};
+ghost use Rattle.pm_commands.specs.FaultText.{place_text, bare_text, stream_text, fault_text};
+ghost use Rattle.pm_commands.specs.FaultText.{fail_text};
 ghost use Rattle.pm_commands.specs.Ending.{status_of};
 ghost use Rattle.pm_commands.specs.Devices.{Tells};
 

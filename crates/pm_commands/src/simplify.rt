@@ -1,5 +1,5 @@
-//! The program `simplify`: an OBJ text's mesh is simplified, its border free or kept, and the hierarchy of the run is written
-//! as a stream.
+//! The program `simplify`: an OBJ text's mesh is simplified, its border free or kept, and the
+//! hierarchy of the run is written as a stream.
 ghost use Rattle.std.specs.Prelude.{◌≡◌, ◌≤◌, false, None, Ok, IfOk, IfErr, IfSome, OnOk};
 ghost use Rattle.pm_io.specs.Bytes.{AtEnd};
 ghost use Rattle.pm_forest.specs.Meshes.{input_mesh_of};
@@ -78,8 +78,9 @@ fn simplified_text<S: Source>(
     Ok(simplified_with(alloc, surface, target, border)?)
 }
 
-/// Reads an OBJ text, simplifies its mesh to a number of faces or as far as pairs may be collapsed, and writes the stream text
-/// of the run's hierarchy, with so many decimals a coordinate. A border that is kept is shown by every frame of that stream.
+/// Reads an OBJ text, simplifies its mesh to a number of faces or as far as pairs may be collapsed,
+/// and writes the stream text of the run's hierarchy, with so many decimals a coordinate. A border
+/// that is kept is shown by every frame of that stream.
 pub fn simplify<S: Source, K: Sink>(
     alloc: Global,
     target: u32,
@@ -93,12 +94,15 @@ pub fn simplify<S: Source, K: Sink>(
     ensures ends { Ends (Asked.Simplify target digits border) result
         (S.left input.old) (S.left input.new) (K.got out.old) (K.got out.new) }
     ensures gives_back { OnOk result (IfSome (S.left input.old) (λ bytes.
-        GivesMeshBack (Asked.Simplify target digits border) bytes (K.got out.old) (K.got out.new))) }
+        GivesMeshBack (Asked.Simplify target digits border) bytes (K.got out.old)
+        (K.got out.new))) }
     ensures surfaces { OnOk result (IfSome (S.left input.old) (λ bytes.
-        ShowsSurfacesOf (IsSimplifiedText border target digits) digits bytes (K.got out.old) (K.got out.new))) }
+        ShowsSurfacesOf (IsSimplifiedText border target digits) digits bytes (K.got out.old)
+        (K.got out.new))) }
     ensures meets { border ≡ Border.Kept → OnOk result (IfSome (S.left input.old) (λ bytes.
         FramesShowBorder target digits bytes (K.got out.old) (K.got out.new))) }
-    ensures counts { Counts result (S.faults input.old) (S.faults input.new) (K.faults out.old) (K.faults out.new) }
+    ensures counts { Counts result (S.faults input.old) (S.faults input.new) (K.faults out.old)
+        (K.faults out.new) }
     ensures read_whole { OnOk result (AtEnd (S.left input.new)) }
 {
     let h = simplified_text(alloc, target, digits, border, input)?;

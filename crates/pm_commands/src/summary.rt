@@ -12,7 +12,8 @@ use std::alloc::Global;
 pub fn summarize<K: Sink>(alloc: Global, n: u32, out: &mut K) -> Result<(), CommandFail>
     requires some { 1 ≤ n }
     requires most { n ≤ 256 }
-    ensures ends { (left now : Option (List ℕ)) → Ends (Asked.Demo n) result left now (K.got out.old) (K.got out.new) }
+    ensures ends { (left now : Option (List ℕ))
+        → Ends (Asked.Demo n) result left now (K.got out.old) (K.got out.new) }
     ensures counts { (count : ℕ) → Counts result count count (K.faults out.old) (K.faults out.new) }
     ensures unread { IfErr result (λ e. BlamesNoInput (status_of e)) }
 {

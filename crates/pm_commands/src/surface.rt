@@ -11,8 +11,9 @@ use pm_io::Source;
 use pm_twins::{Surface, SurfaceFail};
 use std::alloc::Global;
 
-/// Reads an OBJ text with so many decimals a coordinate, and answers its mesh where that is an oriented manifold. A line with a fault is refused as soon as
-/// the byte that shows the fault has come; the surface is looked at once the text has ended.
+/// Reads an OBJ text with so many decimals a coordinate, and answers its mesh where that is an
+/// oriented manifold. A line with a fault is refused as soon as the byte that shows the fault has
+/// come; the surface is looked at once the text has ended.
 pub fn read_surface<S: Source>(
     alloc: Global,
     digits: u32,
@@ -20,7 +21,8 @@ pub fn read_surface<S: Source>(
 ) -> Result<Surface, InputFail>
     requires few { digits ≤ 4 }
     requires not_ended { S.ended input.old ≡ false }
-    ensures surface { IfOk result (λ m. IfSome (S.left input.old) (λ bytes. IsSurfaceRead digits bytes (Ok m) None)) }
+    ensures surface { IfOk result
+        (λ m. IfSome (S.left input.old) (λ bytes. IsSurfaceRead digits bytes (Ok m) None)) }
     ensures start { IfOk result IsStartOfRun }
     ensures end { OnOk result (AtEnd (S.left input.new)) }
     ensures count { OnOk result (S.faults input.new ≡ S.faults input.old) }

@@ -23,13 +23,15 @@ pub record IsOfGrid (n : ℕ) (h : Hierarchy) : Type 0 where
 -- `grid N vertices V faces F`
 unfoldable pub grid_line : ℕ → ℕ → ℕ → List ℕ
 grid_line n vertices faces =
-    codes "grid " ++ decimal n ++ codes " vertices " ++ decimal vertices ++ codes " faces " ++ decimal faces ++ codes "\n"
+    codes "grid " ++ decimal n ++ codes " vertices " ++ decimal vertices ++ codes " faces "
+    ++ decimal faces ++ codes "\n"
 
 -- `roots R records M base B bytes S`, where S is the length of the stream text
 unfoldable pub hierarchy_line : Hierarchy → List ℕ
 hierarchy_line h =
     codes "roots " ++ decimal (length h.roots) ++ codes " records " ++ decimal (record_count h)
-    ++ codes " base " ++ decimal (length h.bases) ++ codes " bytes " ++ decimal (length (stream 0 h)) ++ codes "\n"
+    ++ codes " base " ++ decimal (length h.bases) ++ codes " bytes "
+    ++ decimal (length (stream 0 h)) ++ codes "\n"
 
 -- `view I settled X active A kept K`
 unfoldable pub settled_line : ℕ → ℕ → ℕ → ℕ → List ℕ
@@ -42,7 +44,8 @@ settled_line i moves active kept =
 -- number of records, which each plan fits: `PlansAreShort`.
 unfoldable pub view_line : Hierarchy → (ℕ → Bool) → ℕ → View → List ℕ
 view_line h T i view = let S = view_target h view in
-    settled_line i (length (view_plan h T view)) (length (active_nodes h S)) (length (kept_faces h S))
+    settled_line i (length (view_plan h T view)) (length (active_nodes h S))
+    (length (kept_faces h S))
 
 -- Three views, the first one from the base front, and each other one from the target of the
 -- one before.

@@ -1,4 +1,5 @@
-//! A large valid input out of one number: a grid is simplified and looked at, and a summary tells what that gave.
+//! A large valid input out of one number: a grid is simplified and looked at, and a summary tells
+//! what that gave.
 #![tactic(auto)]
 
 mod lines;

@@ -64,9 +64,10 @@ fn put_summary<K: Sink>(n: u32, scene: &mut Scene, out: &mut K) -> Result<(), De
     }
 }
 
-/// Makes the grid of n times n cells, n from 1 to 256, simplifies it as far as pairs may be collapsed, opens the hierarchy
-/// of that, adapts it to three views, and writes a summary: how large the grid and the hierarchy are, and what each view
-/// shows. All memory is taken before the first byte is written.
+/// Makes the grid of n times n cells, n from 1 to 256, simplifies it as far as pairs may be
+/// collapsed, opens the hierarchy of that, adapts it to three views, and writes a summary: how
+/// large the grid and the hierarchy are, and what each view shows. All memory is taken before the
+/// first byte is written.
 pub fn demo<K: Sink>(alloc: Global, n: u32, out: &mut K) -> Result<(), DemoFail>
     requires some { 1 ≤ n }
     requires most { n ≤ 256 }

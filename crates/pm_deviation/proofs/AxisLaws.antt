@@ -1,6 +1,9 @@
 -- Axes: their numbers, their lengths, and how small parts along them are.
-use Rattle.std.proofs.Common.{◌≡◌, ℕ, zero, suc, ◌+◌, ◌*◌, ◌/◌, ◌<◌, ◌≤◌, Bool, true, ◌-◌, ◌&&◌, List, [], ◌∷◌, length, get_or, inl, inr, refl, sym, ap, ◌∙◌, subst, arith}
-use Rattle.std.specs.Prelude.{ℤ, pos, negsuc, neg_ℤ, unwrap_or, Option, None, Some, IfSome, ◌+ℤ◌, ◌*ℤ◌, nat_le, unsigned_abs}
+use Rattle.std.proofs.Common.{◌≡◌, ℕ, zero, suc, ◌+◌, ◌*◌, ◌/◌, ◌<◌, ◌≤◌, Bool, true, ◌-◌, ◌&&◌}
+use Rattle.std.proofs.Common.{List, [], ◌∷◌, length, get_or, inl, inr, refl, sym, ap, ◌∙◌, subst}
+use Rattle.std.proofs.Common.{arith}
+use Rattle.std.specs.Prelude.{ℤ, pos, negsuc, neg_ℤ, unwrap_or, Option, None, Some, IfSome, ◌+ℤ◌}
+use Rattle.std.specs.Prelude.{◌*ℤ◌, nat_le, unsigned_abs}
 use Rattle.std.specs.Int.{div_ceil}
 use Rattle.std.specs.List.{list_all}
 use Rattle.std.specs.Option.{option_map}
@@ -19,11 +22,13 @@ use Rattle.pm_deviation.specs.declared.axes.TheConstants.{AXES}
 use Rattle.pm_deviation.specs.declared.spread.Spread.{Spread}
 use Rattle.pm_deviation.specs.declared.unit_box.UnitBox.{UnitBox}
 use Rattle.pm_deviation.specs.Spreads.{times, along, mirrored, no_spread}
-use Rattle.pm_deviation.specs.Normals.{root_down, share, part_of, direction_of, part_along, spread_of, x_axis, y_axis, z_axis, unit_box_of, length_of}
+use Rattle.pm_deviation.specs.Normals.{root_down, share, part_of, direction_of, part_along}
+use Rattle.pm_deviation.specs.Normals.{spread_of, x_axis, y_axis, z_axis, unit_box_of, length_of}
 use Rattle.pm_deviation.specs.Tables.{IsSpreadWithin, IsPart, IsSum, IsUnitBox, is_axis}
 use Rattle.pm_deviation.proofs.SpreadLaws.{min_small, max_small, joined-small, joined_all-holds}
 use Rattle.pm_deviation.proofs.CosineLaws.{quotient_most}
-use Rattle.pm_deviation.proofs.PartLaws.{ceil_least, root_down_is, root_down-some, roots_order, parts_of, unit_box_cases}
+use Rattle.pm_deviation.proofs.PartLaws.{ceil_least, root_down_is, root_down-some, roots_order}
+use Rattle.pm_deviation.proofs.PartLaws.{parts_of, unit_box_cases}
 
 -- The numbers of an axis.
 pub record IsAxis (u : Axis) : Type 0 where
@@ -34,8 +39,11 @@ pub record IsAxis (u : Axis) : Type 0 where
 
 pub axis_is : (u : Axis) → is_axis u ≡ true → IsAxis u
 axis_is u e =
-    let three = and_parts (nat_le (unsigned_abs u.x) 1 && nat_le (unsigned_abs u.y) 1 && nat_le (unsigned_abs u.z) 1) (nat_le 1 (norm2_of (direction_of u))) e in
-    let two = and_parts (nat_le (unsigned_abs u.x) 1 && nat_le (unsigned_abs u.y) 1) (nat_le (unsigned_abs u.z) 1) three.0 in
+    let three = and_parts
+    (nat_le (unsigned_abs u.x) 1 && nat_le (unsigned_abs u.y) 1 && nat_le (unsigned_abs u.z) 1)
+    (nat_le 1 (norm2_of (direction_of u))) e in
+    let two = and_parts (nat_le (unsigned_abs u.x) 1 && nat_le (unsigned_abs u.y) 1)
+    (nat_le (unsigned_abs u.z) 1) three.0 in
     let one = and_parts (nat_le (unsigned_abs u.x) 1) (nat_le (unsigned_abs u.y) 1) two.0 in
     record {
       x = leb-true (unsigned_abs u.x) 1 one.0;
@@ -44,10 +52,12 @@ axis_is u e =
       some = leb-true 1 (norm2_of (direction_of u)) three.1;
     }
 
-all_at : {X : Type 0} (p : X → Bool) (xs : List X) (i : ℕ) (d : X) → list_all p xs ≡ true → i < length xs → p (get_or xs i d) ≡ true
+all_at : {X : Type 0} (p : X → Bool) (xs : List X) (i : ℕ) (d : X) → list_all p xs ≡ true
+    → i < length xs → p (get_or xs i d) ≡ true
 all_at p [] i d e l = absurd (omega arith)
 all_at p (x ∷ xs) zero d e l = (and_parts (p x) (list_all p xs) e).0
-all_at p (x ∷ xs) (suc i) d e l = all_at p xs i d (and_parts (p x) (list_all p xs) e).1 (omega arith)
+all_at p (x ∷ xs) (suc i) d e l =
+    all_at p xs i d (and_parts (p x) (list_all p xs) e).1 (omega arith)
 
 all_axes : list_all is_axis AXES ≡ true
 all_axes = refl
@@ -63,38 +73,64 @@ own_square zero h = refl
 own_square (suc zero) h = refl
 own_square (suc (suc n)) h = absurd (omega arith)
 
-pub ones_are : (u : Axis) → IsAxis u → norm2_of (direction_of u) ≡ unsigned_abs u.x + unsigned_abs u.y + unsigned_abs u.z
-ones_are u is = rw (own_square (unsigned_abs u.x) is.x, own_square (unsigned_abs u.y) is.y, own_square (unsigned_abs u.z) is.z) refl
+pub ones_are : (u : Axis) → IsAxis u
+    → norm2_of (direction_of u) ≡ unsigned_abs u.x + unsigned_abs u.y + unsigned_abs u.z
+ones_are u is =
+    rw (
+      own_square (unsigned_abs u.x) is.x,
+      own_square (unsigned_abs u.y) is.y,
+      own_square (unsigned_abs u.z) is.z,
+    ) refl
 
 least_of : (n r m : ℕ) → n ≤ m * m → (r - 1) * (r - 1) < n → r ≤ m
-least_of n r m h l = elim (cases_lt m r) [ inl below ↦ absurd (omega (arith, mul-le m m (r - 1) (r - 1) (omega arith) (omega arith))) | inr above ↦ above ]
+least_of n r m h l =
+    elim (cases_lt m r) [
+      | inl below ↦
+          absurd (omega (arith, mul-le m m (r - 1) (r - 1) (omega arith) (omega arith)))
+      | inr above ↦
+          above
+    ]
 
-pub length_is : (u : Axis) (n r : ℕ) → norm2_of (direction_of u) ≡ n → 268435456 * n ≤ r * r → (r - 1) * (r - 1) < 268435456 * n → r ≡ length_of u
-length_is u n r is enough least = root_up_only (268435456 * n) r enough (λ m h. least_of (268435456 * n) r m h least) ∙ ap (λ k. root_up (268435456 * k)) (sym is)
+pub length_is : (u : Axis) (n r : ℕ) → norm2_of (direction_of u) ≡ n → 268435456 * n ≤ r * r
+    → (r - 1) * (r - 1) < 268435456 * n → r ≡ length_of u
+length_is u n r is enough least =
+    root_up_only (268435456 * n) r enough (λ m h. least_of (268435456 * n) r m h least)
+    ∙ ap (λ k. root_up (268435456 * k)) (sym is)
 
 -- Parts along an axis
 
-times_small : (s : Spread) (k : ℤ) (m : ℕ) → IsSpreadWithin m s → unsigned_abs k ≤ 1 → IsSpreadWithin m (times s k)
+times_small : (s : Spread) (k : ℤ) (m : ℕ) → IsSpreadWithin m s → unsigned_abs k ≤ 1
+    → IsSpreadWithin m (times s k)
 times_small s k m small one =
     let low : unsigned_abs (s.low *ℤ k) ≤ m = omega (arith, abs_product s.low k m 1 small.0 one) in
-    let high : unsigned_abs (s.high *ℤ k) ≤ m = omega (arith, abs_product s.high k m 1 small.1 one) in
-    (min_small (s.low *ℤ k) (s.high *ℤ k) m low high, max_small (s.low *ℤ k) (s.high *ℤ k) m low high)
+    let high : unsigned_abs (s.high *ℤ k) ≤ m =
+    omega (arith, abs_product s.high k m 1 small.1 one) in (
+      min_small (s.low *ℤ k) (s.high *ℤ k) m low high,
+      max_small (s.low *ℤ k) (s.high *ℤ k) m low
+          high,
+    )
 
-sum_small : (a b c : ℤ) → unsigned_abs a ≤ 16384 → unsigned_abs b ≤ 16384 → unsigned_abs c ≤ 16384 → unsigned_abs (a +ℤ b +ℤ c) ≤ 49152
+sum_small : (a b c : ℤ) → unsigned_abs a ≤ 16384 → unsigned_abs b ≤ 16384 → unsigned_abs c ≤ 16384
+    → unsigned_abs (a +ℤ b +ℤ c) ≤ 49152
 sum_small a b c p q r = omega (arith, ints)
 
-pub along_small : (b : UnitBox) (u : Axis) → IsUnitBox b → is_axis u ≡ true → IsSum (along b (direction_of u))
+pub along_small : (b : UnitBox) (u : Axis) → IsUnitBox b → is_axis u ≡ true
+    → IsSum (along b (direction_of u))
 unfolding along
 along_small b u small axis =
     let is = axis_is u axis in
     let x = times_small b.x u.x 16384 small.0 is.x in
     let y = times_small b.y u.y 16384 small.1 is.y in
-    let z = times_small b.z u.z 16384 small.2 is.z in
-    (sum_small (times b.x u.x).low (times b.y u.y).low (times b.z u.z).low x.0 y.0 z.0, sum_small (times b.x u.x).high (times b.y u.y).high (times b.z u.z).high x.1 y.1 z.1)
+    let z = times_small b.z u.z 16384 small.2 is.z in (
+      sum_small (times b.x u.x).low (times b.y u.y).low (times b.z u.z).low x.0 y.0 z.0,
+      sum_small (times b.x u.x).high (times b.y u.y).high (times b.z u.z).high x.1 y.1 z.1,
+    )
 
 -- Parts of any normal are no longer than it.
-share_small : (n s t : ℕ) → 0 < s → n ≤ s → s ≤ t → (16384 * n / t ≤ 16384) × (div_ceil (16384 * n) s ≤ 16384)
-share_small n s t some part order = (quotient_most n t (omega arith), ceil_least (16384 * n) s 16384 some (omega arith))
+share_small : (n s t : ℕ) → 0 < s → n ≤ s → s ≤ t → (16384 * n / t ≤ 16384)
+    × (div_ceil (16384 * n) s ≤ 16384)
+share_small n s t some part order =
+    (quotient_most n t (omega arith), ceil_least (16384 * n) s 16384 some (omega arith))
 
 neg_small : (z : ℤ) (m : ℕ) → unsigned_abs z ≤ m → unsigned_abs (neg_ℤ z) ≤ m
 neg_small z m h = omega (arith, ints)
@@ -108,12 +144,19 @@ pos_small n m h = omega arith
 part_small : (k : ℤ) (n : ℕ) → 0 < n → unsigned_abs k ≤ root_down n → IsPart (part_of k n)
 unfolding part_of
 part_small (pos k) n some below =
-    let both = share_small k (root_down n) (root_up n) (root_down-some n some) below (roots_order n) in
-    (pos_small (16384 * k / root_up n) 16384 both.0, pos_small (div_ceil (16384 * k) (root_down n)) 16384 both.1)
+    let both = share_small k (root_down n) (root_up n) (root_down-some n some) below
+    (roots_order n) in (
+      pos_small (16384 * k / root_up n) 16384 both.0,
+      pos_small (div_ceil (16384 * k) (root_down n))
+          16384 both.1,
+    )
 part_small (negsuc k) n some below =
-    let both = share_small (k + 1) (root_down n) (root_up n) (root_down-some n some) (omega (arith, below)) (roots_order n) in
-    mirrored_small (share (k + 1) (root_down n) (root_up n)) 16384
-    (pos_small (16384 * (k + 1) / root_up n) 16384 both.0, pos_small (div_ceil (16384 * (k + 1)) (root_down n)) 16384 both.1)
+    let both = share_small (k + 1) (root_down n) (root_up n) (root_down-some n some)
+    (omega (arith, below)) (roots_order n) in
+    mirrored_small (share (k + 1) (root_down n) (root_up n)) 16384 (
+      pos_small (16384 * (k + 1) / root_up n) 16384 both.0,
+      pos_small (div_ceil (16384 * (k + 1)) (root_down n)) 16384 both.1,
+    )
 
 first_square : (a b c : ℕ) → a * a ≤ a * a + b * b + c * c
 first_square a b c = omega arith
@@ -127,23 +170,34 @@ third_square a b c = omega arith
 parts_small : (n : Direction) → 0 < norm2_of n → IsUnitBox (parts_of n)
 parts_small n some =
     let most = (root_down_is (norm2_of n)).most in (
-      part_small n.x (norm2_of n) some (most (unsigned_abs n.x) (first_square (unsigned_abs n.x) (unsigned_abs n.y) (unsigned_abs n.z))),
-      part_small n.y (norm2_of n) some (most (unsigned_abs n.y) (second_square (unsigned_abs n.x) (unsigned_abs n.y) (unsigned_abs n.z))),
-      part_small n.z (norm2_of n) some (most (unsigned_abs n.z) (third_square (unsigned_abs n.x) (unsigned_abs n.y) (unsigned_abs n.z))),
+      part_small n.x (norm2_of n) some
+          (most (unsigned_abs n.x)
+          (first_square (unsigned_abs n.x) (unsigned_abs n.y) (unsigned_abs n.z))),
+      part_small n.y (norm2_of n) some
+          (most (unsigned_abs n.y)
+          (second_square (unsigned_abs n.x) (unsigned_abs n.y) (unsigned_abs n.z))),
+      part_small n.z (norm2_of n) some
+          (most (unsigned_abs n.z)
+          (third_square (unsigned_abs n.x) (unsigned_abs n.y) (unsigned_abs n.z))),
     )
 
-part_along_small : (h : Hierarchy) (u : Axis) (f : Face) → is_axis u ≡ true → IfSome (part_along h u f) IsSum
+part_along_small : (h : Hierarchy) (u : Axis) (f : Face) → is_axis u ≡ true
+    → IfSome (part_along h u f) IsSum
 part_along_small h u f axis =
     let n = normal_of h f in
-    let small = λ (o : Option UnitBox). IfSome (option_map (λ b. along b (direction_of u)) o) IsSum in
+    let small = λ (o : Option UnitBox). IfSome (option_map (λ b. along b (direction_of u)) o)
+    IsSum in
     elim (unit_box_cases n) [
       | inl none ↦ subst small (sym none) tt
       | inr (is, some) ↦ subst small (sym is) (along_small (parts_of n) u (parts_small n some) axis)
     ]
 
-pub spread_small : (h : Hierarchy) (u : Axis) (v : ℕ) → is_axis u ≡ true → IfSome (spread_of h u v) IsSum
+pub spread_small : (h : Hierarchy) (u : Axis) (v : ℕ) → is_axis u ≡ true
+    → IfSome (spread_of h u v) IsSum
 unfolding spread_of
-spread_small h u v axis = joined_all-holds IsSum (joined-small 49152) (part_along h u) (λ f. part_along_small h u f axis) (faces_under h v)
+spread_small h u v axis =
+    joined_all-holds IsSum (joined-small 49152) (part_along h u) (λ f. part_along_small h u f axis)
+    (faces_under h v)
 
 none_small : IsSum no_spread
 none_small = (omega arith, omega arith)
@@ -152,7 +206,8 @@ under_small : (u : Axis) (o : Option Spread) → IfSome o IsSum → IsSum (unwra
 under_small u None small = none_small
 under_small u (Some s) small = small
 
-pub box_small : (h : Hierarchy) (v : ℕ) → IsSum (unit_box_of h v).x × IsSum (unit_box_of h v).y × IsSum (unit_box_of h v).z
+pub box_small : (h : Hierarchy) (v : ℕ) → IsSum (unit_box_of h v).x × IsSum (unit_box_of h v).y
+    × IsSum (unit_box_of h v).z
 box_small h v = (
   under_small x_axis (spread_of h x_axis v) (spread_small h x_axis v refl),
   under_small y_axis (spread_of h y_axis v) (spread_small h y_axis v refl),

@@ -16,7 +16,8 @@ use Rattle.pm_deviation.specs.Normals.{part_along, spread_of}
 use Rattle.pm_deviation.proofs.SpreadLaws.{joined_all-either}
 
 module _ (h : Hierarchy) (shape : HasShape h) where
-  pub children_hold : (k x : ℕ) → k < record_count h → holds h (s_of h k) x ≡ (holds h (t_of h k) x || holds h (u_of h k) x)
+  pub children_hold : (k x : ℕ) → k < record_count h
+      → holds h (s_of h k) x ≡ (holds h (t_of h k) x || holds h (u_of h k) x)
   children_hold k x l =
       let nodes = shape_of_nodes h shape in
       elim (cases_Bool (holds h (t_of h k) x)) [
@@ -24,19 +25,29 @@ module _ (h : Hierarchy) (shape : HasShape h) where
         | inr t ↦ elim (cases_Bool (holds h (u_of h k) x)) [
           | inl u ↦ (rw (t, u, holds-s_from_u h nodes k x l u) refl)
           | inr u ↦
-              let s : holds h (s_of h k) x ≡ false = false_from_ne_true _ (λ e. both_ways _ u (holds-u_from_s h nodes k x l e t)) in
+              let s : holds h (s_of h k) x ≡ false =
+              false_from_ne_true _ (λ e. both_ways _ u (holds-u_from_s h nodes k x l e t)) in
               rw (t, u, s) refl
         ]
       ]
 
-  pub child_of_leaf : (k x : ℕ) → k < record_count h → Holds h (s_of h k) x → Holds h (t_of h k) x ⊎ Holds h (u_of h k) x
+  pub child_of_leaf : (k x : ℕ) → k < record_count h → Holds h (s_of h k) x
+      → Holds h (t_of h k) x ⊎ Holds h (u_of h k) x
   child_of_leaf k x l held =
-      elim (cases_Bool (holds h (t_of h k) x)) [ inl t ↦ inl t | inr t ↦ inr (holds-u_from_s h (shape_of_nodes h shape) k x l held t) ]
+      elim (cases_Bool (holds h (t_of h k) x)) [
+        | inl t ↦ inl t
+        | inr t ↦
+            inr (holds-u_from_s h (shape_of_nodes h shape) k x l held t)
+      ]
 
   -- the normals under a node that is split are those under its children
-  pub spread-split : (u : Axis) (k : ℕ) → k < record_count h → spread_of h u (s_of h k) ≡ join (spread_of h u (t_of h k)) (spread_of h u (u_of h k))
+  pub spread-split : (u : Axis) (k : ℕ) → k < record_count h
+      → spread_of h u (s_of h k) ≡ join (spread_of h u (t_of h k)) (spread_of h u (u_of h k))
   unfolding spread_of
   spread-split u k l =
       ap (λ fs. joined_all (map (part_along h u) fs))
-      (filter_same (has_corner_under h (s_of h k)) (λ f. has_corner_under h (t_of h k) f || has_corner_under h (u_of h k) f) (faces_of h) (λ f. children_faces h shape k f l))
-      ∙ joined_all-either (part_along h u) (has_corner_under h (t_of h k)) (has_corner_under h (u_of h k)) (faces_of h)
+      (filter_same (has_corner_under h (s_of h k))
+      (λ f. has_corner_under h (t_of h k) f || has_corner_under h (u_of h k) f) (faces_of h)
+      (λ f. children_faces h shape k f l))
+      ∙ joined_all-either (part_along h u) (has_corner_under h (t_of h k))
+      (has_corner_under h (u_of h k)) (faces_of h)

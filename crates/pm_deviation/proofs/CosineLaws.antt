@@ -1,5 +1,6 @@
 -- The cosines of nodes: at most 16,384, and falling from a child to its parent.
-use Rattle.std.proofs.Common.{◌≡◌, ℕ, zero, suc, ◌+◌, ◌*◌, ◌/◌, ◌<◌, ◌≤◌, max, List, [], ◌∷◌, map, Option, None, Some, IfSome, inl, inr, sym, subst, arith}
+use Rattle.std.proofs.Common.{◌≡◌, ℕ, zero, suc, ◌+◌, ◌*◌, ◌/◌, ◌<◌, ◌≤◌, max, List, [], ◌∷◌, map}
+use Rattle.std.proofs.Common.{Option, None, Some, IfSome, inl, inr, sym, subst, arith}
 use Rattle.std.proofs.Math.Nat.{le_refl, div-mul-le_self, div-zero}
 use Rattle.std.specs.Prelude.{ℤ, pos, negsuc, neg_ℤ, ◌*ℤ◌, ◌≤ℤ◌, unsigned_abs}
 use Rattle.std.specs.Option.{option_map}
@@ -20,9 +21,11 @@ use Rattle.pm_deviation.specs.declared.axes.TheConstants.{AXES}
 use Rattle.pm_deviation.specs.declared.spread.Spread.{Spread}
 use Rattle.pm_deviation.specs.declared.unit_box.UnitBox.{UnitBox}
 use Rattle.pm_deviation.specs.Spreads.{joined, join, along}
-use Rattle.pm_deviation.specs.Normals.{direction_of, part_along, spread_of, above_zero, length_of, least_cosine, cosine_by, cosine_along, cosine_of}
+use Rattle.pm_deviation.specs.Normals.{direction_of, part_along, spread_of, above_zero, length_of}
+use Rattle.pm_deviation.specs.Normals.{least_cosine, cosine_by, cosine_along, cosine_of}
 use Rattle.pm_deviation.proofs.Products.{scaled_along}
-use Rattle.pm_deviation.proofs.PartLaws.{times_neg, between, parts_of, parts_scaled, high_length, unit_box_cases}
+use Rattle.pm_deviation.proofs.PartLaws.{times_neg, between, parts_of, parts_scaled, high_length}
+use Rattle.pm_deviation.proofs.PartLaws.{unit_box_cases}
 use Rattle.pm_deviation.proofs.SpreadLaws.{IsOver, over_left, over_right, joined_all-holds}
 use Rattle.pm_deviation.proofs.Children.{spread-split}
 
@@ -47,28 +50,47 @@ max_le' a b c p q = omega arith
 
 pub side_falls : (a b : Spread) → IsOver a b → one_side a ≤ one_side b
 side_falls a b o =
-    max_le (above_zero a.low) (above_zero (neg_ℤ a.high)) (above_zero b.low) (above_zero (neg_ℤ b.high))
-    (above_grows a.low b.low o.0) (above_grows (neg_ℤ a.high) (neg_ℤ b.high) (neg_falls b.high a.high o.1))
+    max_le (above_zero a.low) (above_zero (neg_ℤ a.high)) (above_zero b.low)
+    (above_zero (neg_ℤ b.high))
+    (above_grows a.low b.low o.0)
+    (above_grows (neg_ℤ a.high) (neg_ℤ b.high) (neg_falls b.high a.high o.1))
 
 -- It is at most the length of the axis.
 
--- l x is at most 16,384 times the absolute value of a product, whose square is at most n m, where n is at most l l
-squared : (l x v n m : ℕ) → l * x ≤ 16384 * v → v * v ≤ n * m → n ≤ l * l → (l * l) * (x * x) ≤ (l * l) * (268435456 * m)
+-- l x is at most 16,384 times the absolute value of a product, whose square is at most n m, where n
+-- is at most l l
+squared : (l x v n m : ℕ) → l * x ≤ 16384 * v → v * v ≤ n * m → n ≤ l * l
+    → (l * l) * (x * x) ≤ (l * l) * (268435456 * m)
 squared l x v n m p q r =
-    omega (arith, mul-le (l * x) (l * x) (16384 * v) (16384 * v) p p, q, mul-le n (268435456 * m) (l * l) (268435456 * m) r (le_refl (268435456 * m)))
+    omega (
+      arith,
+      mul-le (l * x) (l * x) (16384 * v) (16384 * v) p p,
+      q,
+      mul-le n (268435456 * m)
+          (l * l) (268435456 * m) r (le_refl (268435456 * m)),
+    )
 
 cancelled : (k a b : ℕ) → 0 < k → k * a ≤ k * b → a ≤ b
-cancelled k a b p h = elim (cases_lt b a) [ inl l ↦ absurd (omega (arith, mul-le k (1 + b) k a (le_refl k) (omega arith))) | inr l ↦ l ]
+cancelled k a b p h =
+    elim (cases_lt b a)
+    [ inl l ↦ absurd (omega (arith, mul-le k (1 + b) k a (le_refl k) (omega arith))) | inr l ↦ l ]
 
 some_square : (l n : ℕ) → 0 < n → n ≤ l * l → 0 < l * l
 some_square l n p h = omega arith
 
-within_length : (l x v n m : ℕ) → 0 < n → l * x ≤ 16384 * v → v * v ≤ n * m → n ≤ l * l → x ≤ root_up (268435456 * m)
+within_length : (l x v n m : ℕ) → 0 < n → l * x ≤ 16384 * v → v * v ≤ n * m → n ≤ l * l
+    → x ≤ root_up (268435456 * m)
 within_length l x v n m some p q r =
     root_le x (root_up (268435456 * m))
-    (omega (arith, (root_up_is (268435456 * m)).enough, cancelled (l * l) (x * x) (268435456 * m) (some_square l n some r) (squared l x v n m p q r)))
+    (omega (
+      arith,
+      (root_up_is (268435456 * m)).enough,
+      cancelled (l * l) (x * x) (268435456 * m)
+          (some_square l n some r) (squared l x v n m p q r),
+    ))
 
-pub low_side : (l : ℕ) (x v : ℤ) → (pos l *ℤ x) ≤ℤ (pos 16384 *ℤ v) → l * above_zero x ≤ 16384 * unsigned_abs v
+pub low_side : (l : ℕ) (x v : ℤ) → (pos l *ℤ x) ≤ℤ (pos 16384 *ℤ v)
+    → l * above_zero x ≤ 16384 * unsigned_abs v
 low_side l (pos x) (pos v) h = omega (arith, ints)
 low_side l (pos x) (negsuc v) h = omega (arith, ints)
 low_side l (negsuc x) v h = omega arith
@@ -76,86 +98,117 @@ low_side l (negsuc x) v h = omega arith
 neg_abs : (v : ℤ) → unsigned_abs (neg_ℤ v) ≡ unsigned_abs v
 neg_abs v = omega (arith, ints)
 
-pub high_side : (l : ℕ) (x v : ℤ) → (pos 16384 *ℤ v) ≤ℤ (pos l *ℤ x) → l * above_zero (neg_ℤ x) ≤ 16384 * unsigned_abs v
+pub high_side : (l : ℕ) (x v : ℤ) → (pos 16384 *ℤ v) ≤ℤ (pos l *ℤ x)
+    → l * above_zero (neg_ℤ x) ≤ 16384 * unsigned_abs v
 high_side l x v h =
     subst (λ (n : ℕ). l * above_zero (neg_ℤ x) ≤ 16384 * n) (neg_abs v)
-    (low_side l (neg_ℤ x) (neg_ℤ v) (between (pos l *ℤ neg_ℤ x) (neg_ℤ (pos l *ℤ x)) (pos 16384 *ℤ neg_ℤ v) (neg_ℤ (pos 16384 *ℤ v)) (times_neg (pos l) x) (times_neg (pos 16384) v) (neg_falls (pos 16384 *ℤ v) (pos l *ℤ x) h)))
+    (low_side l (neg_ℤ x) (neg_ℤ v)
+    (between (pos l *ℤ neg_ℤ x) (neg_ℤ (pos l *ℤ x)) (pos 16384 *ℤ neg_ℤ v)
+    (neg_ℤ (pos 16384 *ℤ v)) (times_neg (pos l) x) (times_neg (pos 16384) v)
+    (neg_falls (pos 16384 *ℤ v) (pos l *ℤ x) h)))
 
 -- No more of a spread lies on one side of 0 than the axis is long.
 abbrev pub IsWithinAxis : Axis → Spread → Type 0
 IsWithinAxis u s = one_side s ≤ length_of u
 
-joined_within : (u : Axis) (a b : Spread) → IsWithinAxis u a → IsWithinAxis u b → IsWithinAxis u (joined a b)
+joined_within : (u : Axis) (a b : Spread) → IsWithinAxis u a → IsWithinAxis u b
+    → IsWithinAxis u (joined a b)
 joined_within u a b p q = omega (arith, side_falls (joined a b) a (over_left a b))
 
-along_within : (n : Direction) (u : Axis) → 0 < norm2_of n → IsWithinAxis u (along (parts_of n) (direction_of u))
+along_within : (n : Direction) (u : Axis) → 0 < norm2_of n
+    → IsWithinAxis u (along (parts_of n) (direction_of u))
 along_within n u some =
     let m = direction_of u in
     let l = root_up (norm2_of n) in
     let i = scaled_along n m l (parts_of n) (parts_scaled n l (high_length (norm2_of n) some)) in
     let v = unsigned_abs (dot_of n m) in
     let far = (root_up_is (norm2_of n)).enough in
-    max_le' (above_zero (along (parts_of n) m).low) (above_zero (neg_ℤ (along (parts_of n) m).high)) (length_of u)
-    (within_length l _ v (norm2_of n) (norm2_of m) some (low_side l (along (parts_of n) m).low (dot_of n m) i.low) (dot_le n m) far)
-    (within_length l _ v (norm2_of n) (norm2_of m) some (high_side l (along (parts_of n) m).high (dot_of n m) i.high) (dot_le n m) far)
+    max_le' (above_zero (along (parts_of n) m).low) (above_zero (neg_ℤ (along (parts_of n) m).high))
+    (length_of u)
+    (within_length l _ v (norm2_of n) (norm2_of m) some
+    (low_side l (along (parts_of n) m).low (dot_of n m) i.low) (dot_le n m) far)
+    (within_length l _ v (norm2_of n) (norm2_of m) some
+    (high_side l (along (parts_of n) m).high (dot_of n m) i.high) (dot_le n m) far)
 
 part_within : (h : Hierarchy) (u : Axis) (f : Face) → IfSome (part_along h u f) (IsWithinAxis u)
 part_within h u f =
     let n = normal_of h f in
     elim (unit_box_cases n) [
-      | inl none ↦ subst (λ (o : Option UnitBox). IfSome (option_map (λ b. along b (direction_of u)) o) (IsWithinAxis u)) (sym none) tt
-      | inr (is, some) ↦ subst (λ (o : Option UnitBox). IfSome (option_map (λ b. along b (direction_of u)) o) (IsWithinAxis u)) (sym is) (along_within n u some)
+      | inl none ↦
+          subst (λ (o : Option UnitBox). IfSome (option_map (λ b. along b (direction_of u)) o)
+          (IsWithinAxis u)) (sym none) tt
+      | inr (is, some) ↦
+          subst (λ (o : Option UnitBox). IfSome (option_map (λ b. along b (direction_of u)) o)
+          (IsWithinAxis u)) (sym is) (along_within n u some)
     ]
 
 pub spread_within : (h : Hierarchy) (u : Axis) (v : ℕ) → IfSome (spread_of h u v) (IsWithinAxis u)
 unfolding spread_of
-spread_within h u v = joined_all-holds (IsWithinAxis u) (joined_within u) (part_along h u) (part_within h u) (faces_under h v)
+spread_within h u v =
+    joined_all-holds (IsWithinAxis u) (joined_within u) (part_along h u) (part_within h u)
+    (faces_under h v)
 
 -- Cosines
 
 quotient_grows : (m n k : ℕ) → m ≤ n → m / k ≤ n / k
 quotient_grows m n zero h = rw (div-zero m, div-zero n) (le_refl zero)
-quotient_grows m n (suc k) h = le-div (m / suc k) n (suc k) (omega arith) (omega (arith, div-mul-le_self m (suc k)))
+quotient_grows m n (suc k) h =
+    le-div (m / suc k) n (suc k) (omega arith) (omega (arith, div-mul-le_self m (suc k)))
 
 pub quotient_most : (m k : ℕ) → m ≤ k → 16384 * m / k ≤ 16384
 quotient_most m zero h = rw (div-zero (16384 * m)) (omega arith)
-quotient_most m (suc k) h = (let l = div_below (16384 * m) (suc k) 16385 (omega arith) (omega arith) in omega arith)
+quotient_most m (suc k) h =
+    (let l = div_below (16384 * m) (suc k) 16385 (omega arith) (omega arith) in omega arith)
 
 least_falls : (u : Axis) (a b : Spread) → IsOver a b → least_cosine u a ≤ least_cosine u b
-least_falls u a b o = quotient_grows (16384 * one_side a) (16384 * one_side b) (length_of u) (mul-le 16384 (one_side a) 16384 (one_side b) (le_refl 16384) (side_falls a b o))
+least_falls u a b o =
+    quotient_grows (16384 * one_side a) (16384 * one_side b) (length_of u)
+    (mul-le 16384 (one_side a) 16384 (one_side b) (le_refl 16384) (side_falls a b o))
 
 pub least_most : (u : Axis) (s : Spread) → IsWithinAxis u s → least_cosine u s ≤ 16384
 least_most u s h = quotient_most (one_side s) (length_of u) h
 
-falls_left : (u : Axis) (a b : Option Spread) → IfSome (join a b) (IsWithinAxis u) → cosine_by u (join a b) ≤ cosine_by u a
+falls_left : (u : Axis) (a b : Option Spread) → IfSome (join a b) (IsWithinAxis u)
+    → cosine_by u (join a b) ≤ cosine_by u a
 falls_left u None None h = le_refl 16384
 falls_left u None (Some b) h = least_most u b h
 falls_left u (Some a) None h = le_refl (least_cosine u a)
 falls_left u (Some a) (Some b) h = least_falls u (joined a b) a (over_left a b)
 
-falls_right : (u : Axis) (a b : Option Spread) → IfSome (join a b) (IsWithinAxis u) → cosine_by u (join a b) ≤ cosine_by u b
+falls_right : (u : Axis) (a b : Option Spread) → IfSome (join a b) (IsWithinAxis u)
+    → cosine_by u (join a b) ≤ cosine_by u b
 falls_right u None b h = le_refl (cosine_by u b)
 falls_right u (Some a) None h = least_most u a h
 falls_right u (Some a) (Some b) h = least_falls u (joined a b) b (over_right a b)
 
-greatest_grows : {X : Type 0} (f g : X → ℕ) (xs : List X) → ((x : X) → f x ≤ g x) → greatest (map f xs) ≤ greatest (map g xs)
+greatest_grows : {X : Type 0} (f g : X → ℕ) (xs : List X) → ((x : X) → f x ≤ g x)
+    → greatest (map f xs) ≤ greatest (map g xs)
 greatest_grows f g [] h = le_refl zero
-greatest_grows f g (x ∷ xs) h = max_le (f x) (greatest (map f xs)) (g x) (greatest (map g xs)) (h x) (greatest_grows f g xs h)
+greatest_grows f g (x ∷ xs) h =
+    max_le (f x) (greatest (map f xs)) (g x) (greatest (map g xs)) (h x) (greatest_grows f g xs h)
 
 module _ (h : Hierarchy) (shape : HasShape h) (k : ℕ) (l : k < record_count h) where
-  joined_under : (u : Axis) → IfSome (join (spread_of h u (t_of h k)) (spread_of h u (u_of h k))) (IsWithinAxis u)
-  joined_under u = subst (λ (o : Option Spread). IfSome o (IsWithinAxis u)) (spread-split h shape u k l) (spread_within h u (s_of h k))
+  joined_under : (u : Axis)
+      → IfSome (join (spread_of h u (t_of h k)) (spread_of h u (u_of h k))) (IsWithinAxis u)
+  joined_under u =
+      subst (λ (o : Option Spread). IfSome o (IsWithinAxis u)) (spread-split h shape u k l)
+      (spread_within h u (s_of h k))
 
-  along_falls : (v : ℕ) → Makes h k v → (u : Axis) → cosine_along h (s_of h k) u ≤ cosine_along h v u
+  along_falls : (v : ℕ) → Makes h k v → (u : Axis)
+      → cosine_along h (s_of h k) u ≤ cosine_along h v u
   along_falls v makes u =
       let t = spread_of h u (t_of h k) in
       let w = spread_of h u (u_of h k) in
-      subst (λ (o : Option Spread). cosine_by u o ≤ cosine_along h v u) (sym (spread-split h shape u k l))
+      subst (λ (o : Option Spread). cosine_by u o ≤ cosine_along h v u)
+      (sym (spread-split h shape u k l))
       (elim makes [
-        | inl is ↦ subst (λ (c : ℕ). cosine_by u (join t w) ≤ cosine_along h c u) (sym is) (falls_left u t w (joined_under u))
-        | inr is ↦ subst (λ (c : ℕ). cosine_by u (join t w) ≤ cosine_along h c u) (sym is) (falls_right u t w (joined_under u))
+        | inl is ↦ subst (λ (c : ℕ). cosine_by u (join t w) ≤ cosine_along h c u) (sym is)
+            (falls_left u t w (joined_under u))
+        | inr is ↦ subst (λ (c : ℕ). cosine_by u (join t w) ≤ cosine_along h c u) (sym is)
+            (falls_right u t w (joined_under u))
       ])
 
   pub cosine_falls : (v : ℕ) → Makes h k v → cosine_of h (s_of h k) ≤ cosine_of h v
   unfolding cosine_of
-  cosine_falls v makes = greatest_grows (cosine_along h (s_of h k)) (cosine_along h v) AXES (along_falls v makes)
+  cosine_falls v makes =
+      greatest_grows (cosine_along h (s_of h k)) (cosine_along h v) AXES (along_falls v makes)

@@ -1,9 +1,12 @@
 -- Deviations are at most errors, and grow from a child to its parent.
-use Rattle.std.proofs.Common.{◌≡◌, ℕ, ◌+◌, ◌*◌, ◌<◌, ◌≤◌, max, min, eqb, Bool, true, false, cond, ◌||◌, None, inl, inr, refl, sym, ap, ◌∙◌, subst, arith}
-use Rattle.std.proofs.lemmas.Bool.{cases_Bool, cases_eq, cond-true, cond-false, or_left, or_right, or_parts, eq-eqb, ne_eqb, both_ways}
+use Rattle.std.proofs.Common.{◌≡◌, ℕ, ◌+◌, ◌*◌, ◌<◌, ◌≤◌, max, min, eqb, Bool, true, false, cond}
+use Rattle.std.proofs.Common.{◌||◌, None, inl, inr, refl, sym, ap, ◌∙◌, subst, arith}
+use Rattle.std.proofs.lemmas.Bool.{cases_Bool, cases_eq, cond-true, cond-false, or_left, or_right}
+use Rattle.std.proofs.lemmas.Bool.{or_parts, eq-eqb, ne_eqb, both_ways}
 use Rattle.std.specs.Int.{div_ceil}
 use Rattle.pm_base.specs.Sides.{IsBorder}
-use Rattle.pm_forest.specs.Forest.{Hierarchy, record_count, node_count, s_of, t_of, u_of, Holds, Makes, splitter_of}
+use Rattle.pm_forest.specs.Forest.{Hierarchy, record_count, node_count, s_of, t_of, u_of, Holds}
+use Rattle.pm_forest.specs.Forest.{Makes, splitter_of}
 use Rattle.pm_forest.specs.Rules.{HasShape}
 use Rattle.pm_forest.proofs.ShapeLaws.{shape_of_nodes}
 use Rattle.pm_beyond.specs.Walks.{leaf_net}
@@ -32,20 +35,30 @@ min_first a b = omega arith
 
 module _ (h : Hierarchy) (shape : HasShape h) where
   -- The plane deviation of a node that is split.
-  pub planes_at_border : (k : ℕ) → k < record_count h → is_at_border h (s_of h k) ≡ true → plane_deviation_of h (s_of h k) ≡ error_of h (s_of h k)
-  planes_at_border k l at = planes_at_split h (shape_of_nodes h shape) k l ∙ cond-true (is_at_border h (s_of h k)) (error_of h (s_of h k)) (over_steps h (plane_deviation_of h) k) at
+  pub planes_at_border : (k : ℕ) → k < record_count h → is_at_border h (s_of h k) ≡ true
+      → plane_deviation_of h (s_of h k) ≡ error_of h (s_of h k)
+  planes_at_border k l at =
+      planes_at_split h (shape_of_nodes h shape) k l
+      ∙ cond-true (is_at_border h (s_of h k)) (error_of h (s_of h k))
+      (over_steps h (plane_deviation_of h) k) at
 
-  pub planes_inside : (k : ℕ) → k < record_count h → is_at_border h (s_of h k) ≡ false → plane_deviation_of h (s_of h k) ≡ over_steps h (plane_deviation_of h) k
-  planes_inside k l at = planes_at_split h (shape_of_nodes h shape) k l ∙ cond-false (is_at_border h (s_of h k)) (error_of h (s_of h k)) (over_steps h (plane_deviation_of h) k) at
+  pub planes_inside : (k : ℕ) → k < record_count h → is_at_border h (s_of h k) ≡ false
+      → plane_deviation_of h (s_of h k) ≡ over_steps h (plane_deviation_of h) k
+  planes_inside k l at =
+      planes_at_split h (shape_of_nodes h shape) k l
+      ∙ cond-false (is_at_border h (s_of h k)) (error_of h (s_of h k))
+      (over_steps h (plane_deviation_of h) k) at
 
   -- a step is no longer than the way
-  stepped : (d e s t a b way_t way_u : ℕ) → d ≡ max (a + min way_t s) (b + min way_u t) → a + way_t ≤ e → b + way_u ≤ e → d ≤ e
+  stepped : (d e s t a b way_t way_u : ℕ) → d ≡ max (a + min way_t s) (b + min way_u t)
+      → a + way_t ≤ e → b + way_u ≤ e → d ≤ e
   stepped d e s t a b way_t way_u is p q = omega arith
 
   pub planes_below : (v : ℕ) → v < node_count h → plane_deviation_of h v ≤ error_of h v
   planes_below v l =
       up_from_leaves h shape (λ w. plane_deviation_of h w ≤ error_of h w)
-      (λ w m none. (let zero_planes = planes_at_leaf h (shape_of_nodes h shape) w none in omega arith))
+      (λ w m none. (let zero_planes = planes_at_leaf h (shape_of_nodes h shape) w none in
+      omega arith))
       (λ k m t u. elim (cases_Bool (is_at_border h (s_of h k))) [
         | inl at ↦ (let is = planes_at_border k m at in omega arith)
         | inr at ↦
@@ -75,14 +88,23 @@ module _ (h : Hierarchy) (shape : HasShape h) where
   pub deviation_below : (v : ℕ) → deviation_of h v ≤ error_of h v
   deviation_below v = elim (cases_Bool (is_error v)) [
     | inl e ↦ (let is = error_there v e in omega arith)
-    | inr e ↦ (let is = tilted_there v e in omega (arith, min_first (error_of h v) (div_ceil (16384 * plane_deviation_of h v) (cosine_of h v))))
+    | inr e ↦ (let is =
+        tilted_there v e in
+        omega (
+          arith,
+          min_first (error_of h v)
+              (div_ceil (16384 * plane_deviation_of h v) (cosine_of h v)),
+        ))
   ]
 
   -- The same from numbers that are the node's.
-  pub deviation_by : (v error planes cosine result : ℕ) (flag : Bool) → result ≡ cond (flag || eqb cosine 0) error (min error (div_ceil (16384 * planes) cosine)) →
-      error ≡ error_of h v → planes ≡ plane_deviation_of h v → cosine ≡ cosine_of h v → flag ≡ is_at_border h v → result ≡ deviation_of h v
+  pub deviation_by : (v error planes cosine result : ℕ) (flag : Bool)
+      → result ≡ cond (flag || eqb cosine 0) error (min error (div_ceil (16384 * planes) cosine)) →
+      error ≡ error_of h v → planes ≡ plane_deviation_of h v → cosine ≡ cosine_of h v
+      → flag ≡ is_at_border h v → result ≡ deviation_of h v
   unfolding deviation_of
-  deviation_by v error planes cosine result flag is error_is planes_are cosine_is flag_is = is ∙ (rw (error_is, planes_are, cosine_is, flag_is) refl)
+  deviation_by v error planes cosine result flag is error_is planes_are cosine_is flag_is =
+      is ∙ (rw (error_is, planes_are, cosine_is, flag_is) refl)
 
   pub below_errors : (v : ℕ) → v < node_count h → IsBelowError h v
   below_errors v l = record { planes = planes_below v l; deviation = deviation_below v }
@@ -93,13 +115,16 @@ module _ (h : Hierarchy) (shape : HasShape h) where
     child_node = elim makes [ inl is ↦ omega arith | inr is ↦ omega arith ]
 
     error_up : error_of h v ≤ error_of h (s_of h k)
-    error_up = (let up = child_number h shape (λ w. 0) (error_of h) (errors_grow h shape) k v l makes in omega arith)
+    error_up = (let up =
+        child_number h shape (λ w. 0) (error_of h) (errors_grow h shape) k v l makes in omega arith)
 
     border_up : is_at_border h v ≡ true → is_at_border h (s_of h k) ≡ true
     border_up at =
         border-split h shape k l ∙ elim makes [
-          | inl is ↦ or_left (is_at_border h (t_of h k)) (is_at_border h (u_of h k)) (subst (λ w. is_at_border h w ≡ true) is at)
-          | inr is ↦ or_right (is_at_border h (t_of h k)) (is_at_border h (u_of h k)) (subst (λ w. is_at_border h w ≡ true) is at)
+          | inl is ↦ or_left (is_at_border h (t_of h k)) (is_at_border h (u_of h k))
+              (subst (λ w. is_at_border h w ≡ true) is at)
+          | inr is ↦ or_right (is_at_border h (t_of h k)) (is_at_border h (u_of h k))
+              (subst (λ w. is_at_border h w ≡ true) is at)
         ]
 
     by_step : (d s t a b : ℕ) → d ≡ max (a + s) (b + t) → (a ≤ d) × (b ≤ d)
@@ -115,14 +140,20 @@ module _ (h : Hierarchy) (shape : HasShape h) where
       | inr at ↦
           let both = by_step _ _ _ _ _ (planes_inside k l at) in
           elim makes [
-            | inl is ↦ subst (λ w. plane_deviation_of h w ≤ plane_deviation_of h (s_of h k)) (sym is) both.0
-            | inr is ↦ subst (λ w. plane_deviation_of h w ≤ plane_deviation_of h (s_of h k)) (sym is) both.1
+            | inl is ↦ subst (λ w. plane_deviation_of h w ≤ plane_deviation_of h (s_of h k))
+                (sym is) both.0
+            | inr is ↦ subst (λ w. plane_deviation_of h w ≤ plane_deviation_of h (s_of h k))
+                (sym is) both.1
           ]
     ]
 
     some_cosine : (c d : ℕ) → eqb d 0 ≡ false → d ≤ c → (0 < d) × (eqb c 0 ≡ false)
     some_cosine c d e p =
-        let some : 0 < d = elim (cases_eq d 0) [ inl is ↦ absurd (both_ways (eqb d 0) e (eq-eqb d 0 is)) | inr differs ↦ omega (arith, differs) ] in
+        let some : 0 < d =
+        elim (cases_eq d 0) [
+          | inl is ↦ absurd (both_ways (eqb d 0) e (eq-eqb d 0 is))
+          | inr differs ↦ omega (arith, differs)
+        ] in
         (some, ne_eqb c 0 (λ is. absurd (omega arith)))
 
     tilted_up : is_error (s_of h k) ≡ false → deviation_of h v ≤ deviation_of h (s_of h k)
@@ -135,11 +166,15 @@ module _ (h : Hierarchy) (shape : HasShape h) where
           | inr at ↦ at
         ] in
         let own : is_error v ≡ false = ap (λ b. b || eqb (cosine_of h v) 0) inside ∙ some.1 in
-        let ceil = ceil_grows (16384 * plane_deviation_of h v) (16384 * plane_deviation_of h (s_of h k)) (cosine_of h v) (cosine_of h (s_of h k))
+        let ceil = ceil_grows (16384 * plane_deviation_of h v)
+        (16384 * plane_deviation_of h (s_of h k)) (cosine_of h v) (cosine_of h (s_of h k))
         (let up = planes_up in omega arith) falls some.0 in
         subst (λ d. d ≤ deviation_of h (s_of h k)) (sym (tilted_there v own))
         (subst (λ d. tilted v ≤ d) (sym (tilted_there (s_of h k) e))
-        (min_le (error_of h v) (div_ceil (16384 * plane_deviation_of h v) (cosine_of h v)) (error_of h (s_of h k)) (div_ceil (16384 * plane_deviation_of h (s_of h k)) (cosine_of h (s_of h k))) error_up ceil))
+        (min_le (error_of h v) (div_ceil (16384 * plane_deviation_of h v) (cosine_of h v))
+        (error_of h (s_of h k))
+        (div_ceil (16384 * plane_deviation_of h (s_of h k)) (cosine_of h (s_of h k))) error_up
+        ceil))
 
     pub deviation_up : deviation_of h v ≤ deviation_of h (s_of h k)
     deviation_up = elim (cases_Bool (is_error (s_of h k))) [
@@ -152,22 +187,29 @@ module _ (h : Hierarchy) (shape : HasShape h) where
     ]
 
     pub grow : Grows h v (s_of h k)
-    grow = record { planes = planes_up; deviation = deviation_up; cosine = cosine_falls h shape k l v makes }
+    grow = record {
+      planes = planes_up;
+      deviation = deviation_up;
+      cosine = cosine_falls h shape k l v makes;
+    }
 
   -- At the border both are the error.
   own_error : (v : ℕ) → splitter_of h v ≡ None → error_of h v ≡ 0
   unfolding error_of
   own_error v none = grown_at_leaf h (shape_of_nodes h shape) (λ w. 0) v none
 
-  planes_error : (v : ℕ) → v < node_count h → is_at_border h v ≡ true → plane_deviation_of h v ≡ error_of h v
+  planes_error : (v : ℕ) → v < node_count h → is_at_border h v ≡ true
+      → plane_deviation_of h v ≡ error_of h v
   planes_error v l at = elim (option_cases (splitter_of h v)) [
     | inl none ↦ planes_at_leaf h (shape_of_nodes h shape) v none ∙ sym (own_error v none)
     | inr (k, e) ↦
         let p = splitter_of-splits h k v e in
-        subst (λ w. plane_deviation_of h w ≡ error_of h w) p.0 (planes_at_border k p.1 (subst (λ w. is_at_border h w ≡ true) (sym p.0) at))
+        subst (λ w. plane_deviation_of h w ≡ error_of h w) p.0
+        (planes_at_border k p.1 (subst (λ w. is_at_border h w ≡ true) (sym p.0) at))
   ]
 
-  pub border_errors : (v x : ℕ) → v < node_count h → IsBorder (leaf_net h) x → Holds h v x → (plane_deviation_of h v ≡ error_of h v) × (deviation_of h v ≡ error_of h v)
+  pub border_errors : (v x : ℕ) → v < node_count h → IsBorder (leaf_net h) x → Holds h v x
+      → (plane_deviation_of h v ≡ error_of h v) × (deviation_of h v ≡ error_of h v)
   border_errors v x l border held =
       let at = at_border-leaf h shape v x border held in
       (planes_error v l at, error_there v (or_left (is_at_border h v) (eqb (cosine_of h v) 0) at))

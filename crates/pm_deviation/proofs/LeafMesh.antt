@@ -1,6 +1,7 @@
 -- The leaf mesh as a list of faces, and as its sides.
 use Rattle.std.specs.List.{range_with_len}
-use Rattle.std.proofs.Common.{◌≡◌, ℕ, ◌*◌, ◌%◌, ◌<◌, List, map, length, get_or, refl, sym, ap, ◌∙◌, subst, arith}
+use Rattle.std.proofs.Common.{◌≡◌, ℕ, ◌*◌, ◌%◌, ◌<◌, List, map, length, get_or, refl, sym, ap, ◌∙◌}
+use Rattle.std.proofs.Common.{subst, arith}
 use Rattle.std.proofs.lemmas.List.{get_or-map, length-map}
 use Rattle.std.proofs.lemmas.List.FromFn.{length-range_with_len}
 use Rattle.pm_base.specs.declared.mesh.Corners.{Corners}
@@ -20,23 +21,36 @@ leaf_faces h = refl
 
 leaf_points : (h : Hierarchy) → length (leaf_mesh_of h).points ≡ leaf_count h
 unfolding leaf_mesh_of
-leaf_points h = length-map (range_with_len 0 (leaf_count h)) (leaf_place h) ∙ length-range_with_len 0 (leaf_count h)
+leaf_points h =
+    length-map (range_with_len 0 (leaf_count h)) (leaf_place h)
+    ∙ length-range_with_len 0 (leaf_count h)
 
-leaf_from : (h : Hierarchy) (e : ℕ) (fs : List Corners) → fs ≡ map leaf_corners (faces_of h) → e < 3 * face_count h → (net_of fs).from e ≡ from_leaf h e
+leaf_from : (h : Hierarchy) (e : ℕ) (fs : List Corners) → fs ≡ map leaf_corners (faces_of h)
+    → e < 3 * face_count h → (net_of fs).from e ≡ from_leaf h e
 unfolding from_leaf
 leaf_from h e fs are l =
     let f = face_of e in
     let in_range : f < face_count h = omega arith in
-    let at : get_or fs f no_triple ≡ leaf_corners (corners_of h f) = ap (λ (cs : List Corners). get_or cs f no_triple) are ∙ get_or-map leaf_corners (faces_of h) f no_face_corners no_triple (omega (arith, length-faces_of h)) ∙ ap leaf_corners (sym (corners_of-faces_of h f in_range)) in
+    let at : get_or fs f no_triple ≡ leaf_corners (corners_of h f) =
+    ap (λ (cs : List Corners). get_or cs f no_triple) are
+    ∙ get_or-map leaf_corners (faces_of h) f no_face_corners no_triple
+    (omega (arith, length-faces_of h))
+    ∙ ap leaf_corners (sym (corners_of-faces_of h f in_range)) in
     ap (λ (c : Corners). corner_in c (e % 3)) at
 
-leaf_same : (h : Hierarchy) (fs : List Corners) → fs ≡ (leaf_mesh_of h).faces → IsSameNet (net_of fs) (leaf_net h)
+leaf_same : (h : Hierarchy) (fs : List Corners) → fs ≡ (leaf_mesh_of h).faces
+    → IsSameNet (net_of fs) (leaf_net h)
 leaf_same h fs are =
     let fs_are = are ∙ leaf_faces h in
-    record { faces = ap length fs_are ∙ length-map (faces_of h) leaf_corners ∙ length-faces_of h; from = λ e l. leaf_from h e fs fs_are l }
+    record {
+      faces = ap length fs_are ∙ length-map (faces_of h) leaf_corners ∙ length-faces_of h;
+      from = λ e l. leaf_from h e fs fs_are l;
+    }
 
-pub leaf_table : (h : Hierarchy) (m : Mesh) (t : Table) → m ≡ leaf_mesh_of h → IsTableOf (net_of m.faces) (length m.points) t → IsTableOf (leaf_net h) (leaf_count h) t
+pub leaf_table : (h : Hierarchy) (m : Mesh) (t : Table) → m ≡ leaf_mesh_of h
+    → IsTableOf (net_of m.faces) (length m.points) t → IsTableOf (leaf_net h) (leaf_count h) t
 leaf_table h m t is table =
     let same = leaf_same h m.faces (ap (λ (n : Mesh). n.faces) is) in
     let points = ap (λ (n : Mesh). length n.points) is ∙ leaf_points h in
-    subst (λ n. IsTableOf (leaf_net h) n t) points (table_same (net_of m.faces) (leaf_net h) same (length m.points) t table)
+    subst (λ n. IsTableOf (leaf_net h) n t) points
+    (table_same (net_of m.faces) (leaf_net h) same (length m.points) t table)

@@ -1,5 +1,6 @@
 -- The planes of the faces under a node are within its plane deviation.
-use Rattle.std.proofs.Common.{◌≡◌, ℕ, ◌+◌, ◌*◌, ◌<◌, ◌≤◌, max, min, true, get_or, Option, Some, inl, inr, sym, ap, ◌∙◌, subst, arith}
+use Rattle.std.proofs.Common.{◌≡◌, ℕ, ◌+◌, ◌*◌, ◌<◌, ◌≤◌, max, min, true, get_or, Option, Some, inl}
+use Rattle.std.proofs.Common.{inr, sym, ap, ◌∙◌, subst, arith}
 use Rattle.std.specs.Prelude.{ℤ, pos, ◌+ℤ◌, ◌-ℤ◌, ◌*ℤ◌, unsigned_abs}
 use Rattle.std.specs.Option.{option_map, unwrap_or}
 use Rattle.std.proofs.lemmas.Bool.{cases_Bool, cases_lt, cases_eq}
@@ -26,14 +27,17 @@ use Rattle.pm_bounds.proofs.Nodes.{split_node}
 use Rattle.pm_deviation.specs.declared.axes.Axis.{Axis}
 use Rattle.pm_deviation.specs.declared.spread.Spread.{Spread}
 use Rattle.pm_deviation.specs.Spreads.{along, no_spread}
-use Rattle.pm_deviation.specs.Normals.{root_down, direction_of, unit_box, part_along, spread_of, x_axis, y_axis, z_axis, unit_box_of}
+use Rattle.pm_deviation.specs.Normals.{root_down, direction_of, unit_box, part_along, spread_of}
+use Rattle.pm_deviation.specs.Normals.{x_axis, y_axis, z_axis, unit_box_of}
 use Rattle.pm_deviation.specs.Borders.{is_at_border}
 use Rattle.pm_deviation.specs.Deviations.{way, most_along, step_of, plane_deviation_of}
 use Rattle.pm_deviation.specs.Laws.{value_of, IsWithin, Show}
 use Rattle.pm_deviation.proofs.Children.{child_of_leaf}
 use Rattle.pm_deviation.proofs.GrowingLaws.{planes_at_border, planes_inside}
-use Rattle.pm_deviation.proofs.PartLaws.{parts_of, parts_scaled, low_length, root_down_is, ceil_enough, unit_box_some}
-use Rattle.pm_deviation.proofs.PlaneValues.{within_more, moves_add, within_way, within_box, triangles_near}
+use Rattle.pm_deviation.proofs.PartLaws.{parts_of, parts_scaled, low_length, root_down_is}
+use Rattle.pm_deviation.proofs.PartLaws.{ceil_enough, unit_box_some}
+use Rattle.pm_deviation.proofs.PlaneValues.{within_more, moves_add, within_way, within_box}
+use Rattle.pm_deviation.proofs.PlaneValues.{triangles_near}
 use Rattle.pm_deviation.proofs.Products.{IsScaledIn, IsScaledInBox, scaled_along, scaled_over}
 use Rattle.pm_deviation.proofs.SpreadLaws.{IsSomeOver, spread_above}
 
@@ -45,13 +49,15 @@ nowhere x y z a b c =
     (simp (add-diff, neg-diff, mul-diff) (diff_same _ _ _ _ (omega arith)))
 
 along_first : (px py pz qx qy qz : ℤ) →
-    (py *ℤ qz -ℤ pz *ℤ qy) *ℤ px +ℤ (pz *ℤ qx -ℤ px *ℤ qz) *ℤ py +ℤ (px *ℤ qy -ℤ py *ℤ qx) *ℤ pz ≡ pos 0
+    (py *ℤ qz -ℤ pz *ℤ qy) *ℤ px +ℤ (pz *ℤ qx -ℤ px *ℤ qz) *ℤ py +ℤ (px *ℤ qy -ℤ py *ℤ qx) *ℤ pz
+    ≡ pos 0
 along_first px py pz qx qy qz =
     rw (diff-of px, diff-of py, diff-of pz, diff-of qx, diff-of qy, diff-of qz, pos_is_diff 0)
     (simp (add-diff, neg-diff, mul-diff) (diff_same _ _ _ _ (omega arith)))
 
 along_second : (px py pz qx qy qz : ℤ) →
-    (py *ℤ qz -ℤ pz *ℤ qy) *ℤ qx +ℤ (pz *ℤ qx -ℤ px *ℤ qz) *ℤ qy +ℤ (px *ℤ qy -ℤ py *ℤ qx) *ℤ qz ≡ pos 0
+    (py *ℤ qz -ℤ pz *ℤ qy) *ℤ qx +ℤ (pz *ℤ qx -ℤ px *ℤ qz) *ℤ qy +ℤ (px *ℤ qy -ℤ py *ℤ qx) *ℤ qz
+    ≡ pos 0
 along_second px py pz qx qy qz =
     rw (diff-of px, diff-of py, diff-of pz, diff-of qx, diff-of qy, diff-of qz, pos_is_diff 0)
     (simp (add-diff, neg-diff, mul-diff) (diff_same _ _ _ _ (omega arith)))
@@ -60,20 +66,26 @@ at_a : (a b c : Place) → dot_of (cross_of a b c) (way a a) ≡ pos 0
 at_a a b c = nowhere a.x a.y a.z (cross_of a b c).x (cross_of a b c).y (cross_of a b c).z
 
 at_b : (a b c : Place) → dot_of (cross_of a b c) (way b a) ≡ pos 0
-at_b a b c = along_first (b.x -ℤ a.x) (b.y -ℤ a.y) (b.z -ℤ a.z) (c.x -ℤ a.x) (c.y -ℤ a.y) (c.z -ℤ a.z)
+at_b a b c =
+    along_first (b.x -ℤ a.x) (b.y -ℤ a.y) (b.z -ℤ a.z) (c.x -ℤ a.x) (c.y -ℤ a.y) (c.z -ℤ a.z)
 
 at_c : (a b c : Place) → dot_of (cross_of a b c) (way c a) ≡ pos 0
-at_c a b c = along_second (b.x -ℤ a.x) (b.y -ℤ a.y) (b.z -ℤ a.z) (c.x -ℤ a.x) (c.y -ℤ a.y) (c.z -ℤ a.z)
+at_c a b c =
+    along_second (b.x -ℤ a.x) (b.y -ℤ a.y) (b.z -ℤ a.z) (c.x -ℤ a.x) (c.y -ℤ a.y) (c.z -ℤ a.z)
 
-on_plane : (h : Hierarchy) (e : ℕ) → value_of h (corners_of h (face_of e)) (leaf_place h (from_leaf h e)) ≡ pos 0
+on_plane : (h : Hierarchy) (e : ℕ)
+    → value_of h (corners_of h (face_of e)) (leaf_place h (from_leaf h e)) ≡ pos 0
 on_plane h e =
     let f = corners_of h (face_of e) in
     let P = λ (x : ℕ). value_of h f (leaf_place h x) ≡ pos 0 in
     elim (which_corner e) [
-      | inl is ↦ subst P (sym (ap (from_leaf h) is ∙ (corner_a h (face_of e)).0)) (at_a (leaf_place h f.a) (leaf_place h f.b) (leaf_place h f.c))
+      | inl is ↦ subst P (sym (ap (from_leaf h) is ∙ (corner_a h (face_of e)).0))
+          (at_a (leaf_place h f.a) (leaf_place h f.b) (leaf_place h f.c))
       | inr other ↦ elim other [
-        | inl is ↦ subst P (sym (ap (from_leaf h) is ∙ (corner_b h (face_of e)).0)) (at_b (leaf_place h f.a) (leaf_place h f.b) (leaf_place h f.c))
-        | inr is ↦ subst P (sym (ap (from_leaf h) is ∙ (corner_c h (face_of e)).0)) (at_c (leaf_place h f.a) (leaf_place h f.b) (leaf_place h f.c))
+        | inl is ↦ subst P (sym (ap (from_leaf h) is ∙ (corner_b h (face_of e)).0))
+            (at_b (leaf_place h f.a) (leaf_place h f.b) (leaf_place h f.c))
+        | inr is ↦ subst P (sym (ap (from_leaf h) is ∙ (corner_c h (face_of e)).0))
+            (at_c (leaf_place h f.a) (leaf_place h f.b) (leaf_place h f.c))
       ]
     ]
 
@@ -86,21 +98,30 @@ zero_within v n d is = subst (λ (z : ℤ). IsWithin z n d) (sym is) (nothing d 
 -- Along the axes stand the numbers of a vector.
 
 one_x : (a b c : ℤ) → a *ℤ pos 1 +ℤ b *ℤ pos 0 +ℤ c *ℤ pos 0 ≡ a
-one_x a b c = rw (diff-of a, diff-of b, diff-of c, pos_is_diff 1, pos_is_diff 0) (simp (add-diff, mul-diff) (diff_same _ _ _ _ (omega arith)))
+one_x a b c =
+    rw (diff-of a, diff-of b, diff-of c, pos_is_diff 1, pos_is_diff 0)
+    (simp (add-diff, mul-diff) (diff_same _ _ _ _ (omega arith)))
 
 one_y : (a b c : ℤ) → a *ℤ pos 0 +ℤ b *ℤ pos 1 +ℤ c *ℤ pos 0 ≡ b
-one_y a b c = rw (diff-of a, diff-of b, diff-of c, pos_is_diff 1, pos_is_diff 0) (simp (add-diff, mul-diff) (diff_same _ _ _ _ (omega arith)))
+one_y a b c =
+    rw (diff-of a, diff-of b, diff-of c, pos_is_diff 1, pos_is_diff 0)
+    (simp (add-diff, mul-diff) (diff_same _ _ _ _ (omega arith)))
 
 one_z : (a b c : ℤ) → a *ℤ pos 0 +ℤ b *ℤ pos 0 +ℤ c *ℤ pos 1 ≡ c
-one_z a b c = rw (diff-of a, diff-of b, diff-of c, pos_is_diff 1, pos_is_diff 0) (simp (add-diff, mul-diff) (diff_same _ _ _ _ (omega arith)))
+one_z a b c =
+    rw (diff-of a, diff-of b, diff-of c, pos_is_diff 1, pos_is_diff 0)
+    (simp (add-diff, mul-diff) (diff_same _ _ _ _ (omega arith)))
 
--- What the parts of a normal have along an axis lies in a spread, so the spread holds its number there.
-axis_scaled : (n : Direction) (l : ℕ) (u : Axis) (o : Option Spread) (k : ℤ) → dot_of n (direction_of u) ≡ k → IsScaledInBox n l (parts_of n) →
+-- What the parts of a normal have along an axis lies in a spread, so the spread holds its number
+-- there.
+axis_scaled : (n : Direction) (l : ℕ) (u : Axis) (o : Option Spread) (k : ℤ)
+    → dot_of n (direction_of u) ≡ k → IsScaledInBox n l (parts_of n) →
     IsSomeOver o (along (parts_of n) (direction_of u)) → IsScaledIn k l (unwrap_or o no_spread)
 axis_scaled n l u o k is i (a, some, over) =
     subst (λ (p : Option Spread). IsScaledIn k l (unwrap_or p no_spread)) (sym some)
     (scaled_over k l a (along (parts_of n) (direction_of u)) over.0 over.1
-    (subst (λ (z : ℤ). IsScaledIn z l (along (parts_of n) (direction_of u))) is (scaled_along n (direction_of u) l (parts_of n) i)))
+    (subst (λ (z : ℤ). IsScaledIn z l (along (parts_of n) (direction_of u))) is
+    (scaled_along n (direction_of u) l (parts_of n) i)))
 
 within_min : (v : ℤ) (n a b : ℕ) → IsWithin v n a → IsWithin v n b → IsWithin v n (min a b)
 within_min v n a b p q = elim (cases_lt a b) [
@@ -115,7 +136,8 @@ max_second : (a b m e : ℕ) → max a b ≤ e * m → b ≤ m * e
 max_second a b m e h = omega arith
 
 no_normal : (v m e n : ℕ) → v * v ≤ n * m → n ≡ 0 → v * v ≤ e * e * n
-no_normal v m e n h is = subst (λ k. v * v ≤ e * e * k) (sym is) (omega (arith, subst (λ k. v * v ≤ k * m) is h))
+no_normal v m e n h is =
+    subst (λ k. v * v ≤ e * e * k) (sym is) (omega (arith, subst (λ k. v * v ≤ k * m) is h))
 
 module _ (h : Hierarchy) (shape : HasShape h) (e : ℕ) (side : e < 3 * face_count h) where
   abbrev face : Face
@@ -128,54 +150,76 @@ module _ (h : Hierarchy) (shape : HasShape h) (e : ℕ) (side : e < 3 * face_cou
   square = norm2_of normal
 
   -- what the face's normal has along an axis is in the spread of each node above a corner
-  pub spread_covers : (v : ℕ) → Holds h v (from_leaf h e) → 0 < square → (u : Axis) → IsSomeOver (spread_of h u v) (along (parts_of normal) (direction_of u))
+  pub spread_covers : (v : ℕ) → Holds h v (from_leaf h e) → 0 < square → (u : Axis)
+      → IsSomeOver (spread_of h u v) (along (parts_of normal) (direction_of u))
   unfolding spread_of
   spread_covers v held some u =
       let f = face_of e in
       let is_face : f < face_count h = omega arith in
       let there = face_there h f is_face in
-      let p : has_corner_under h v (get_or (faces_of h) f no_face_corners) ≡ true = subst (λ (g : Face). has_corner_under h v g ≡ true) (sym there.0) (under_from h v e held) in
+      let p : has_corner_under h v (get_or (faces_of h) f no_face_corners) ≡ true =
+      subst (λ (g : Face). has_corner_under h v g ≡ true) (sym there.0)
+      (under_from h v e held) in
       let own : unit_box normal ≡ Some (parts_of normal) = unit_box_some normal some in
-      let part : part_along h u (get_or (faces_of h) f no_face_corners) ≡ Some (along (parts_of normal) (direction_of u)) =
-      subst (λ (g : Face). part_along h u g ≡ Some (along (parts_of normal) (direction_of u))) (sym there.0) (ap (option_map (λ b. along b (direction_of u))) own) in
-      spread_above (part_along h u) (has_corner_under h v) (faces_of h) f no_face_corners (along (parts_of normal) (direction_of u)) there.1 p part
+      let part : part_along h u (get_or (faces_of h) f no_face_corners)
+      ≡ Some (along (parts_of normal) (direction_of u)) =
+      subst (λ (g : Face). part_along h u g ≡ Some (along (parts_of normal) (direction_of u)))
+      (sym there.0) (ap (option_map (λ b. along b (direction_of u))) own) in
+      spread_above (part_along h u) (has_corner_under h v) (faces_of h) f no_face_corners
+      (along (parts_of normal) (direction_of u)) there.1 p part
 
-  in_box : (v : ℕ) → Holds h v (from_leaf h e) → 0 < square → IsScaledInBox normal (root_down square) (unit_box_of h v)
+  in_box : (v : ℕ) → Holds h v (from_leaf h e) → 0 < square
+      → IsScaledInBox normal (root_down square) (unit_box_of h v)
   in_box v held some =
       let l = root_down square in
       let i = parts_scaled normal l (low_length square some) in
       record {
-        x = axis_scaled normal l x_axis (spread_of h x_axis v) normal.x (one_x normal.x normal.y normal.z) i (spread_covers v held some x_axis);
-        y = axis_scaled normal l y_axis (spread_of h y_axis v) normal.y (one_y normal.x normal.y normal.z) i (spread_covers v held some y_axis);
-        z = axis_scaled normal l z_axis (spread_of h z_axis v) normal.z (one_z normal.x normal.y normal.z) i (spread_covers v held some z_axis);
+        x = axis_scaled normal l x_axis (spread_of h x_axis v) normal.x
+            (one_x normal.x normal.y normal.z) i (spread_covers v held some x_axis);
+        y = axis_scaled normal l y_axis (spread_of h y_axis v) normal.y
+            (one_y normal.x normal.y normal.z) i (spread_covers v held some y_axis);
+        z = axis_scaled normal l z_axis (spread_of h z_axis v) normal.z
+            (one_z normal.x normal.y normal.z) i (spread_covers v held some z_axis);
       }
 
-  boxed_move : (v : ℕ) (move : Direction) → Holds h v (from_leaf h e) → IsWithin (dot_of normal move) square (most_along (unit_box_of h v) move)
+  boxed_move : (v : ℕ) (move : Direction) → Holds h v (from_leaf h e)
+      → IsWithin (dot_of normal move) square (most_along (unit_box_of h v) move)
   boxed_move v move held =
       let b = unit_box_of h v in
       let d = most_along b move in
-      let enough = ceil_enough (max (unsigned_abs (along b move).low) (unsigned_abs (along b move).high)) 16384 (omega arith) in
+      let enough =
+      ceil_enough (max (unsigned_abs (along b move).low) (unsigned_abs (along b move).high))
+      16384 (omega arith) in
       elim (cases_eq square 0) [
-        | inl is ↦ no_normal (unsigned_abs (dot_of normal move)) (norm2_of move) d square (dot_le normal move) is
+        | inl is ↦ no_normal (unsigned_abs (dot_of normal move)) (norm2_of move) d square
+            (dot_le normal move) is
         | inr differs ↦
-            within_box normal move (root_down square) square d b (in_box v held (omega (arith, differs))) (root_down_is square).square
+            within_box normal move (root_down square) square d b
+            (in_box v held (omega (arith, differs))) (root_down_is square).square
             (max_first _ _ 16384 d enough) (max_second _ _ 16384 d enough)
       ]
 
-  stepped : (s v : ℕ) → Holds h v (from_leaf h e) → IsWithin (dot_of normal (way (place_of_node h s) (place_of_node h v))) square (step_of h s v)
+  stepped : (s v : ℕ) → Holds h v (from_leaf h e)
+      → IsWithin (dot_of normal (way (place_of_node h s) (place_of_node h v))) square
+      (step_of h s v)
   stepped s v held =
       let p = place_of_node h s in
       let q = place_of_node h v in
-      within_min (dot_of normal (way p q)) square (distance_of p q) (most_along (unit_box_of h v) (way p q))
+      within_min (dot_of normal (way p q)) square (distance_of p q)
+      (most_along (unit_box_of h v) (way p q))
       (within_way normal (way p q) (distance_of p q) (near p q)) (boxed_move v (way p q) held)
 
   abbrev IsNear : ℕ → ℕ → Type 0
   IsNear v d = IsWithin (value_of h face (place_of_node h v)) square d
 
-  from_child : (k v d : ℕ) → Holds h v (from_leaf h e) → IsNear v (plane_deviation_of h v) → plane_deviation_of h v + step_of h (s_of h k) v ≤ d → IsNear (s_of h k) d
+  from_child : (k v d : ℕ) → Holds h v (from_leaf h e) → IsNear v (plane_deviation_of h v)
+      → plane_deviation_of h v + step_of h (s_of h k) v ≤ d → IsNear (s_of h k) d
   from_child k v d held near_child below =
-      within_more (value_of h face (place_of_node h (s_of h k))) square (plane_deviation_of h v + step_of h (s_of h k) v) d below
-      (moves_add normal (leaf_place h face.a) (place_of_node h v) (place_of_node h (s_of h k)) square (plane_deviation_of h v) (step_of h (s_of h k) v) near_child (stepped (s_of h k) v held))
+      within_more (value_of h face (place_of_node h (s_of h k))) square
+      (plane_deviation_of h v + step_of h (s_of h k) v) d below
+      (moves_add normal (leaf_place h face.a) (place_of_node h v) (place_of_node h (s_of h k))
+      square (plane_deviation_of h v) (step_of h (s_of h k) v) near_child
+      (stepped (s_of h k) v held))
 
   no_more : (d : ℕ) → 0 + d ≡ d
   no_more d = omega arith
@@ -184,9 +228,11 @@ module _ (h : Hierarchy) (shape : HasShape h) (e : ℕ) (side : e < 3 * face_cou
   by_error v l held =
       let x = from_leaf h e in
       subst (λ d. IsNear v d) (no_more (error_of h v))
-      (moves_add normal (leaf_place h face.a) (leaf_place h x) (place_of_node h v) square 0 (error_of h v)
+      (moves_add normal (leaf_place h face.a) (leaf_place h x) (place_of_node h v) square 0
+      (error_of h v)
       (zero_within (value_of h face (leaf_place h x)) square 0 (on_plane h e))
-      (within_way normal (way (place_of_node h v) (leaf_place h x)) (error_of h v) (leaves_covered h shape v x l held)))
+      (within_way normal (way (place_of_node h v) (leaf_place h x)) (error_of h v)
+      (leaves_covered h shape v x l held)))
 
   left_le : (d a b : ℕ) → d ≡ max a b → a ≤ d
   left_le d a b is = omega arith
@@ -194,19 +240,25 @@ module _ (h : Hierarchy) (shape : HasShape h) (e : ℕ) (side : e < 3 * face_cou
   right_le : (d a b : ℕ) → d ≡ max a b → b ≤ d
   right_le d a b is = omega arith
 
-  pub planes_near : (v : ℕ) → v < node_count h → Holds h v (from_leaf h e) → IsNear v (plane_deviation_of h v)
+  pub planes_near : (v : ℕ) → v < node_count h → Holds h v (from_leaf h e)
+      → IsNear v (plane_deviation_of h v)
   planes_near v l =
       up_from_leaves h shape (λ w. Holds h w (from_leaf h e) → IsNear w (plane_deviation_of h w))
       (λ w m none held.
-      let is : leaf_node_of h (from_leaf h e) ≡ w = leaf_node-unsplit h (shape_of_nodes h shape) w (from_leaf h e) m none held in
-      zero_within (value_of h face (place_of_node h w)) square (plane_deviation_of h w) (subst (λ n. value_of h face (place_of_node h n) ≡ pos 0) is (on_plane h e)))
+      let is : leaf_node_of h (from_leaf h e) ≡ w =
+      leaf_node-unsplit h (shape_of_nodes h shape) w (from_leaf h e) m none held in
+      zero_within (value_of h face (place_of_node h w)) square (plane_deviation_of h w)
+      (subst (λ n. value_of h face (place_of_node h n) ≡ pos 0) is (on_plane h e)))
       (λ k m t u held. elim (cases_Bool (is_at_border h (s_of h k))) [
-        | inl at ↦ subst (λ d. IsNear (s_of h k) d) (sym (planes_at_border h shape k m at)) (by_error (s_of h k) (split_node h shape k m) held)
+        | inl at ↦ subst (λ d. IsNear (s_of h k) d) (sym (planes_at_border h shape k m at))
+            (by_error (s_of h k) (split_node h shape k m) held)
         | inr at ↦
             let is = planes_inside h shape k m at in
             elim (child_of_leaf h shape k (from_leaf h e) m held) [
-              | inl a ↦ from_child k (t_of h k) (plane_deviation_of h (s_of h k)) a (t a) (left_le _ _ _ is)
-              | inr a ↦ from_child k (u_of h k) (plane_deviation_of h (s_of h k)) a (u a) (right_le _ _ _ is)
+              | inl a ↦ from_child k (t_of h k) (plane_deviation_of h (s_of h k)) a (t a)
+                  (left_le _ _ _ is)
+              | inr a ↦ from_child k (u_of h k) (plane_deviation_of h (s_of h k)) a (u a)
+                  (right_le _ _ _ is)
             ]
       ])
       v l
@@ -214,11 +266,15 @@ module _ (h : Hierarchy) (shape : HasShape h) (e : ℕ) (side : e < 3 * face_cou
 -- A triangle of three nodes that show a face.
 module _ (h : Hierarchy) (shape : HasShape h) (f : ℕ) (is_face : f < face_count h) where
   abbrev IsNearFace : ℕ → ℕ → Type 0
-  IsNearFace v d = IsWithin (value_of h (corners_of h f) (place_of_node h v)) (norm2_of (normal_of h (corners_of h f))) d
+  IsNearFace v d =
+      IsWithin (value_of h (corners_of h f) (place_of_node h v))
+      (norm2_of (normal_of h (corners_of h f))) d
 
-  near_by : (e v : ℕ) → face_of e ≡ f → e < 3 * face_count h → v < node_count h → Holds h v (from_leaf h e) → IsNearFace v (plane_deviation_of h v)
+  near_by : (e v : ℕ) → face_of e ≡ f → e < 3 * face_count h → v < node_count h
+      → Holds h v (from_leaf h e) → IsNearFace v (plane_deviation_of h v)
   near_by e v is side l held =
-      subst (λ g. IsWithin (value_of h (corners_of h g) (place_of_node h v)) (norm2_of (normal_of h (corners_of h g))) (plane_deviation_of h v)) is
+      subst (λ g. IsWithin (value_of h (corners_of h g) (place_of_node h v))
+      (norm2_of (normal_of h (corners_of h g))) (plane_deviation_of h v)) is
       (planes_near h shape e side v l held)
 
   first_le : (a b c : ℕ) → a ≤ max (max a b) c
@@ -231,12 +287,16 @@ module _ (h : Hierarchy) (shape : HasShape h) (f : ℕ) (is_face : f < face_coun
   third_le a b c = omega arith
 
   raised : (v d e : ℕ) → d ≤ e → IsNearFace v d → IsNearFace v e
-  raised v d e below p = within_more (value_of h (corners_of h f) (place_of_node h v)) (norm2_of (normal_of h (corners_of h f))) d e below p
+  raised v d e below p =
+      within_more (value_of h (corners_of h f) (place_of_node h v))
+      (norm2_of (normal_of h (corners_of h f))) d e below p
 
   pub triangle_near : (u v w i j k : ℕ) → Show h f u v w →
       let value = λ (node : ℕ). value_of h (corners_of h f) (place_of_node h node) in
-      let most = max (max (plane_deviation_of h u) (plane_deviation_of h v)) (plane_deviation_of h w) in
-      IsWithin (pos i *ℤ value u +ℤ pos j *ℤ value v +ℤ pos k *ℤ value w) (norm2_of (normal_of h (corners_of h f))) ((i + j + k) * most)
+      let most = max (max (plane_deviation_of h u) (plane_deviation_of h v))
+      (plane_deviation_of h w) in
+      IsWithin (pos i *ℤ value u +ℤ pos j *ℤ value v +ℤ pos k *ℤ value w)
+      (norm2_of (normal_of h (corners_of h f))) ((i + j + k) * most)
   triangle_near u v w i j k show =
       let value = λ (node : ℕ). value_of h (corners_of h f) (place_of_node h node) in
       let du = plane_deviation_of h u in
@@ -244,7 +304,11 @@ module _ (h : Hierarchy) (shape : HasShape h) (f : ℕ) (is_face : f < face_coun
       let dw = plane_deviation_of h w in
       let most = max (max du dv) dw in
       let (lu, lv, lw) = show.nodes in
-      triangles_near (value u) (value v) (value w) (norm2_of (normal_of h (corners_of h f))) most i j k
-      (raised u du most (first_le du dv dw) (near_by (3 * f) u (omega arith) (omega arith) lu show.first))
-      (raised v dv most (second_le du dv dw) (near_by (3 * f + 1) v (omega arith) (omega arith) lv show.second))
-      (raised w dw most (third_le du dv dw) (near_by (3 * f + 2) w (omega arith) (omega arith) lw show.third))
+      triangles_near (value u) (value v) (value w) (norm2_of (normal_of h (corners_of h f))) most i
+      j k
+      (raised u du most (first_le du dv dw)
+      (near_by (3 * f) u (omega arith) (omega arith) lu show.first))
+      (raised v dv most (second_le du dv dw)
+      (near_by (3 * f + 1) v (omega arith) (omega arith) lv show.second))
+      (raised w dw most (third_le du dv dw)
+      (near_by (3 * f + 2) w (omega arith) (omega arith) lw show.third))

@@ -1,5 +1,7 @@
--- A node's deviation is at least how far its place may be from the planes of its faces, since no cosine is above 1.
-use Rattle.std.proofs.Common.{◌≡◌, ℕ, zero, suc, ◌+◌, ◌*◌, ◌<◌, ◌≤◌, min, max, eqb, true, false, ◌||◌, List, [], ◌∷◌, map, Option, None, Some, inl, inr, sym, arith}
+-- A node's deviation is at least how far its place may be from the planes of its faces, since no
+-- cosine is above 1.
+use Rattle.std.proofs.Common.{◌≡◌, ℕ, zero, suc, ◌+◌, ◌*◌, ◌<◌, ◌≤◌, min, max, eqb, true, false}
+use Rattle.std.proofs.Common.{◌||◌, List, [], ◌∷◌, map, Option, None, Some, inl, inr, sym, arith}
 use Rattle.std.specs.Prelude.{IfSome}
 use Rattle.std.specs.Int.{div_ceil}
 use Rattle.std.proofs.Math.Nat.{le_refl}
@@ -15,10 +17,12 @@ use Rattle.pm_deviation.specs.Normals.{cosine_by, cosine_along, cosine_of, sprea
 use Rattle.pm_deviation.specs.Borders.{is_at_border}
 use Rattle.pm_deviation.specs.Deviations.{plane_deviation_of, deviation_of}
 use Rattle.pm_deviation.proofs.CosineLaws.{IsWithinAxis, least_most, spread_within}
-use Rattle.pm_deviation.proofs.GrowingLaws.{planes_below, is_error, tilted, error_there, tilted_there}
+use Rattle.pm_deviation.proofs.GrowingLaws.{planes_below, is_error, tilted, error_there}
+use Rattle.pm_deviation.proofs.GrowingLaws.{tilted_there}
 use Rattle.pm_deviation.proofs.PartLaws.{ceil_enough}
 
-greatest_most : {X : Type 0} (f : X → ℕ) (xs : List X) (m : ℕ) → ((x : X) → f x ≤ m) → greatest (map f xs) ≤ m
+greatest_most : {X : Type 0} (f : X → ℕ) (xs : List X) (m : ℕ) → ((x : X) → f x ≤ m)
+    → greatest (map f xs) ≤ m
 greatest_most f [] m h = omega arith
 greatest_most f (x ∷ xs) m h =
     let first = h x in
@@ -31,7 +35,9 @@ most u (Some s) h = least_most u s h
 
 cosine_most : (h : Hierarchy) (v : ℕ) → cosine_of h v ≤ 16384
 unfolding cosine_of
-cosine_most h v = greatest_most (cosine_along h v) AXES 16384 (λ u. most u (spread_of h u v) (spread_within h u v))
+cosine_most h v =
+    greatest_most (cosine_along h v) AXES 16384
+    (λ u. most u (spread_of h u v) (spread_within h u v))
 
 positive : (n : ℕ) → eqb n 0 ≡ false → 0 < n
 positive zero e = absurd (false≢true (sym e))
@@ -41,16 +47,20 @@ spread_out : (p q c : ℕ) → c ≤ 16384 → 16384 * p ≤ q * c → p ≤ q
 spread_out p q c few h = omega (arith, h, mul-le q c q 16384 (le_refl q) few)
 
 module _ (h : Hierarchy) (shape : HasShape h) where
-  pub planes_below_deviation : (v : ℕ) → v < node_count h → plane_deviation_of h v ≤ deviation_of h v
+  pub planes_below_deviation : (v : ℕ) → v < node_count h
+      → plane_deviation_of h v ≤ deviation_of h v
   planes_below_deviation v l =
       let below = planes_below h shape v l in
       elim (cases_Bool (is_error h shape v)) [
         | inl e ↦ (let is = error_there h shape v e in omega arith)
         | inr e ↦
             let is = tilted_there h shape v e in
-            let some = positive (cosine_of h v) (or_parts (is_at_border h v) (eqb (cosine_of h v) 0) e).1 in
+            let some = positive (cosine_of h v)
+            (or_parts (is_at_border h v) (eqb (cosine_of h v) 0) e).1 in
             let p = plane_deviation_of h v in
             let q = div_ceil (16384 * p) (cosine_of h v) in
-            let enough = spread_out p q (cosine_of h v) (cosine_most h v) (ceil_enough (16384 * p) (cosine_of h v) some) in
+            let enough =
+            spread_out p q (cosine_of h v) (cosine_most h v)
+            (ceil_enough (16384 * p) (cosine_of h v) some) in
             omega arith
       ]

@@ -1,10 +1,12 @@
 -- Roots rounded down, quotients rounded up, and the parts of a normal that they give.
-use Rattle.std.proofs.Common.{◌≡◌, ℕ, zero, suc, ◌+◌, ◌-◌, ◌*◌, ◌/◌, ◌<◌, ◌≤◌, eqb, ◌⊎◌, None, Some, inl, inr, sym, subst, arith}
+use Rattle.std.proofs.Common.{◌≡◌, ℕ, zero, suc, ◌+◌, ◌-◌, ◌*◌, ◌/◌, ◌<◌, ◌≤◌, eqb, ◌⊎◌, None, Some}
+use Rattle.std.proofs.Common.{inl, inr, sym, subst, arith}
 use Rattle.std.proofs.Math.Nat.{le_refl, div-mul-le_self}
 use Rattle.std.specs.Prelude.{ℤ, pos, negsuc, neg_ℤ, ◌*ℤ◌, ◌≤ℤ◌, nat_le}
 use Rattle.std.specs.Int.{div_ceil}
 use Rattle.std.proofs.lemmas.Nat.{mul-le}
-use Rattle.std.proofs.lemmas.Bool.{cases_Bool, cases_lt, cases_eq, cond-true, cond-false, leb-true, leb-false, eq-eqb, ne_eqb}
+use Rattle.std.proofs.lemmas.Bool.{cases_Bool, cases_lt, cases_eq, cond-true, cond-false, leb-true}
+use Rattle.std.proofs.lemmas.Bool.{leb-false, eq-eqb, ne_eqb}
 use Rattle.std.proofs.lemmas.Grind.{div_ceil_times}
 use borrow.Author.Differences.{ints}
 use Rattle.pm_base.specs.Geometry.{Direction, norm2_of}
@@ -36,7 +38,12 @@ ceil_least n m q l h = elim (cases_lt q (div_ceil n m)) [
 pub ceil_grows : (m n c d : ℕ) → m ≤ n → d ≤ c → 0 < d → div_ceil m c ≤ div_ceil n d
 ceil_grows m n c d p q l =
     ceil_least m c (div_ceil n d) (omega arith)
-    (omega (arith, ceil_enough n d l, mul-le (div_ceil n d) d (div_ceil n d) c (le_refl (div_ceil n d)) q))
+    (omega (
+      arith,
+      ceil_enough n d l,
+      mul-le (div_ceil n d) d (div_ceil n d) c
+          (le_refl (div_ceil n d)) q,
+    ))
 
 -- Roots rounded down
 
@@ -58,7 +65,12 @@ some_root n zero l = absurd (omega arith)
 some_root n (suc r) l = omega arith
 
 less_root : (n r k : ℕ) → n < r * r → k * k ≤ n → k ≤ r - 1
-less_root n r k l h = elim (cases_lt k r) [ inl below ↦ omega arith | inr above ↦ absurd (omega (arith, mul-le r r k k above above)) ]
+less_root n r k l h =
+    elim (cases_lt k r) [
+      | inl below ↦ omega arith
+      | inr above ↦
+          absurd (omega (arith, mul-le r r k k above above))
+    ]
 
 pub root_down_is : (n : ℕ) → IsRootDown n (root_down n)
 unfolding root_down
@@ -66,27 +78,47 @@ root_down_is n =
     let up = root_up_is n in
     let r = root_up n in
     elim (cases_Bool (nat_le (r * r) n)) [
-      | inl e ↦ subst (λ (k : ℕ). IsRootDown n k) (sym (cond-true (nat_le (r * r) n) r (r - 1) e)) (exact n r up.enough (leb-true (r * r) n e))
+      | inl e ↦ subst (λ (k : ℕ). IsRootDown n k) (sym (cond-true (nat_le (r * r) n) r (r - 1) e))
+          (exact n r up.enough (leb-true (r * r) n e))
       | inr e ↦
           let l = leb-false (r * r) n e in
           subst (λ (k : ℕ). IsRootDown n k) (sym (cond-false (nat_le (r * r) n) r (r - 1) e))
-          (record { square = less_square n r up.least (some_root n r l); most = λ k h. less_root n r k l h })
+          (record {
+            square = less_square n r up.least (some_root n r l);
+            most =
+                λ k h. less_root n r k l h;
+          })
     ]
 
 pub root_down-some : (n : ℕ) → 0 < n → 0 < root_down n
 root_down-some n l = (let h = (root_down_is n).most 1 (omega arith) in omega arith)
 
 pub roots_order : (n : ℕ) → root_down n ≤ root_up n
-roots_order n = root_le (root_down n) (root_up n) (omega (arith, (root_down_is n).square, (root_up_is n).enough))
+roots_order n =
+    root_le (root_down n) (root_up n)
+    (omega (arith, (root_down_is n).square, (root_up_is n).enough))
 
 -- Parts
 
--- l q is at most m, where q is m divided by at least l; and l c at least m, where c is m divided by at most l
+-- l q is at most m, where q is m divided by at least l; and l c at least m, where c is m divided by
+-- at most l
 short : (m l long : ℕ) → l ≤ long → l * (m / long) ≤ m
-short m l long h = omega (arith, div-mul-le_self m long, mul-le l (m / long) long (m / long) h (le_refl (m / long)))
+short m l long h =
+    omega (
+      arith,
+      div-mul-le_self m long,
+      mul-le l (m / long) long (m / long) h
+          (le_refl (m / long)),
+    )
 
 long : (m l short : ℕ) → 0 < short → short ≤ l → m ≤ l * div_ceil m short
-long m l short p h = omega (arith, ceil_enough m short p, mul-le short (div_ceil m short) l (div_ceil m short) h (le_refl (div_ceil m short)))
+long m l short p h =
+    omega (
+      arith,
+      ceil_enough m short p,
+      mul-le short (div_ceil m short) l (div_ceil m short) h
+          (le_refl (div_ceil m short)),
+    )
 
 in_order : (a b c d : ℕ) → a * b ≤ c * d → (pos a *ℤ pos b) ≤ℤ (pos c *ℤ pos d)
 in_order a b c d h = omega (arith, ints)
@@ -98,7 +130,8 @@ share_scaled n l s t p q r = record {
 }
 
 pub times_neg : (k z : ℤ) → k *ℤ neg_ℤ z ≡ neg_ℤ (k *ℤ z)
-times_neg k z = rw (diff-of k, diff-of z) (simp (neg-diff, mul-diff) (diff_same _ _ _ _ (omega arith)))
+times_neg k z =
+    rw (diff-of k, diff-of z) (simp (neg-diff, mul-diff) (diff_same _ _ _ _ (omega arith)))
 
 turned_order : (x y : ℤ) → x ≤ℤ y → neg_ℤ y ≤ℤ neg_ℤ x
 turned_order x y h = omega (arith, ints)
@@ -106,10 +139,13 @@ turned_order x y h = omega (arith, ints)
 pub between : (x x' y y' : ℤ) → x ≡ x' → y ≡ y' → x' ≤ℤ y' → x ≤ℤ y
 between x x' y y' e f h = subst (λ (z : ℤ). z ≤ℤ y) (sym e) (subst (λ (z : ℤ). x' ≤ℤ z) (sym f) h)
 
-mirrored_scaled : (n : ℤ) (l : ℕ) (s : Spread) → IsScaledIn n l s → IsScaledIn (neg_ℤ n) l (mirrored s)
+mirrored_scaled : (n : ℤ) (l : ℕ) (s : Spread) → IsScaledIn n l s
+    → IsScaledIn (neg_ℤ n) l (mirrored s)
 mirrored_scaled n l s i = record {
-  low = between _ _ _ _ (times_neg (pos l) s.high) (times_neg (pos 16384) n) (turned_order (pos 16384 *ℤ n) (pos l *ℤ s.high) i.high);
-  high = between _ _ _ _ (times_neg (pos 16384) n) (times_neg (pos l) s.low) (turned_order (pos l *ℤ s.low) (pos 16384 *ℤ n) i.low);
+  low = between _ _ _ _ (times_neg (pos l) s.high) (times_neg (pos 16384) n)
+      (turned_order (pos 16384 *ℤ n) (pos l *ℤ s.high) i.high);
+  high = between _ _ _ _ (times_neg (pos 16384) n) (times_neg (pos l) s.low)
+      (turned_order (pos l *ℤ s.low) (pos 16384 *ℤ n) i.low);
 }
 
 neg_suc : (n : ℕ) → neg_ℤ (pos (n + 1)) ≡ negsuc n
@@ -129,26 +165,49 @@ high_length n p = record { some = p; low = roots_order n; high = le_refl (root_u
 
 pub part_scaled : (z : ℤ) (n l : ℕ) → IsLength n l → IsScaledIn z l (part_of z n)
 unfolding part_of
-part_scaled (pos z) n l is = share_scaled z l (root_down n) (root_up n) (root_down-some n is.some) is.low is.high
+part_scaled (pos z) n l is =
+    share_scaled z l (root_down n) (root_up n) (root_down-some n is.some) is.low is.high
 part_scaled (negsuc z) n l is =
-    subst (λ (y : ℤ). IsScaledIn y l (mirrored (share (z + 1) (root_down n) (root_up n)))) (neg_suc z)
-    (mirrored_scaled (pos (z + 1)) l (share (z + 1) (root_down n) (root_up n)) (share_scaled (z + 1) l (root_down n) (root_up n) (root_down-some n is.some) is.low is.high))
+    subst (λ (y : ℤ). IsScaledIn y l (mirrored (share (z + 1) (root_down n) (root_up n))))
+    (neg_suc z)
+    (mirrored_scaled (pos (z + 1)) l (share (z + 1) (root_down n) (root_up n))
+    (share_scaled (z + 1) l (root_down n) (root_up n) (root_down-some n is.some) is.low
+    is.high))
 
 -- a box of the three
 abbrev pub parts_of : Direction → UnitBox
-parts_of n = record { x = part_of n.x (norm2_of n); y = part_of n.y (norm2_of n); z = part_of n.z (norm2_of n) }
+parts_of n = record {
+  x = part_of n.x (norm2_of n);
+  y = part_of n.y (norm2_of n);
+  z = part_of n.z (norm2_of n);
+}
 
-pub parts_scaled : (n : Direction) (l : ℕ) → IsLength (norm2_of n) l → IsScaledInBox n l (parts_of n)
-parts_scaled n l is = record { x = part_scaled n.x (norm2_of n) l is; y = part_scaled n.y (norm2_of n) l is; z = part_scaled n.z (norm2_of n) l is }
+pub parts_scaled : (n : Direction) (l : ℕ) → IsLength (norm2_of n) l
+    → IsScaledInBox n l (parts_of n)
+parts_scaled n l is =
+    record {
+      x = part_scaled n.x (norm2_of n) l is;
+      y = part_scaled n.y (norm2_of n) l is;
+      z =
+          part_scaled n.z (norm2_of n) l is;
+    }
 
 -- a normal without length has none
-pub unit_box_cases : (n : Direction) → (unit_box n ≡ None) ⊎ ((unit_box n ≡ Some (parts_of n)) × (0 < norm2_of n))
+pub unit_box_cases : (n : Direction)
+    → (unit_box n ≡ None) ⊎ ((unit_box n ≡ Some (parts_of n)) × (0 < norm2_of n))
 unfolding unit_box
 unit_box_cases n = elim (cases_eq (norm2_of n) 0) [
-  | inl is ↦ inl (cond-true (eqb (norm2_of n) 0) None (Some (parts_of n)) (eq-eqb (norm2_of n) 0 is))
-  | inr differs ↦ inr (cond-false (eqb (norm2_of n) 0) None (Some (parts_of n)) (ne_eqb (norm2_of n) 0 differs), omega (arith, differs))
+  | inl is ↦ inl
+      (cond-true (eqb (norm2_of n) 0) None (Some (parts_of n)) (eq-eqb (norm2_of n) 0 is))
+  | inr differs ↦
+      inr (
+        cond-false (eqb (norm2_of n) 0) None (Some (parts_of n)) (ne_eqb (norm2_of n) 0 differs),
+        omega (arith, differs),
+      )
 ]
 
 pub unit_box_some : (n : Direction) → 0 < norm2_of n → unit_box n ≡ Some (parts_of n)
 unfolding unit_box
-unit_box_some n some = cond-false (eqb (norm2_of n) 0) None (Some (parts_of n)) (ne_eqb (norm2_of n) 0 (λ is. absurd (omega arith)))
+unit_box_some n some =
+    cond-false (eqb (norm2_of n) 0) None (Some (parts_of n))
+    (ne_eqb (norm2_of n) 0 (λ is. absurd (omega arith)))

@@ -1,5 +1,6 @@
 -- What the code finds of roots and parts.
-use Rattle.std.proofs.Common.{◌≡◌, ℕ, suc, ◌+◌, ◌*◌, ◌<◌, ◌≤◌, eqb, true, false, None, Some, inl, inr, refl, sym, ap, ◌∙◌, subst, arith, w32, to_z}
+use Rattle.std.proofs.Common.{◌≡◌, ℕ, suc, ◌+◌, ◌*◌, ◌<◌, ◌≤◌, eqb, true, false, None, Some, inl}
+use Rattle.std.proofs.Common.{inr, refl, sym, ap, ◌∙◌, subst, arith, w32, to_z}
 use Rattle.std.specs.Prelude.{ℤ, pos, negsuc, int_lt, unsigned_abs}
 use Rattle.std.proofs.lemmas.Nat.{mul-le}
 use Rattle.std.proofs.lemmas.Bool.{cases_lt, cond-true, eq-eqb}
@@ -16,7 +17,8 @@ use Rattle.pm_deviation.proofs.PartLaws.{root_down_is, parts_of, unit_box_some}
 -- Roots
 
 root_lt : (x y : ℕ) → x * x < y * y → x < y
-root_lt x y h = elim (cases_lt x y) [ inl l ↦ l | inr l ↦ absurd (omega (arith, mul-le y y x x l l)) ]
+root_lt x y h =
+    elim (cases_lt x y) [ inl l ↦ l | inr l ↦ absurd (omega (arith, mul-le y y x x l l)) ]
 
 pub root_down_only : (n r : ℕ) → r * r ≤ n → n < (r + 1) * (r + 1) → r ≡ root_down n
 root_down_only n r p q =
@@ -37,7 +39,9 @@ root_after n d is l = root_up_only n (d + 1) (above_enough n d is) (λ m h. abov
 
 pub root_same : (n d : ℕ) → d ≡ root_down n → n ≤ d * d → d ≡ root_up n
 root_same n d is l =
-    root_up_only n d l (λ m h. root_le d m (omega (arith, h, subst (λ (r : ℕ). r * r ≤ n) (sym is) (root_down_is n).square)))
+    root_up_only n d l
+    (λ m h. root_le d m
+    (omega (arith, h, subst (λ (r : ℕ). r * r ≤ n) (sym is) (root_down_is n).square)))
 
 pub square_same : (a b d : ℕ) → a ≡ d → b ≡ d → a * b ≡ d * d
 square_same a b d p q = rw (p, q) refl
@@ -47,16 +51,20 @@ square_same a b d p q = rw (p, q) refl
 pub small_part : (q : ℕ) → q ≤ 16384 → unsigned_abs (to_z w32 q) ≤ 16384
 small_part q h = omega (arith, ints)
 
-pub part_below : (k : ℤ) (s t square : ℕ) (size m : Spread) → int_lt k (pos 0) ≡ true → size ≡ share (unsigned_abs k) s t → m ≡ mirrored size →
+pub part_below : (k : ℤ) (s t square : ℕ) (size m : Spread) → int_lt k (pos 0) ≡ true
+    → size ≡ share (unsigned_abs k) s t → m ≡ mirrored size →
     s ≡ root_down square → t ≡ root_up square → m ≡ part_of k square
 unfolding part_of
-part_below (pos k) s t square size m below size_is m_is s_is t_is = absurd (omega (arith, ints, below))
+part_below (pos k) s t square size m below size_is m_is s_is t_is =
+    absurd (omega (arith, ints, below))
 part_below (negsuc k) s t square size m below size_is m_is s_is t_is =
     let one : suc k ≡ k + 1 = omega arith in
-    let there : size ≡ share (k + 1) (root_down square) (root_up square) = size_is ∙ (rw (one, s_is, t_is) refl) in
+    let there : size ≡ share (k + 1) (root_down square) (root_up square) =
+    size_is ∙ (rw (one, s_is, t_is) refl) in
     m_is ∙ ap mirrored there
 
-pub part_above : (k : ℤ) (s t square : ℕ) (size : Spread) → int_lt k (pos 0) ≡ false → size ≡ share (unsigned_abs k) s t →
+pub part_above : (k : ℤ) (s t square : ℕ) (size : Spread) → int_lt k (pos 0) ≡ false
+    → size ≡ share (unsigned_abs k) s t →
     s ≡ root_down square → t ≡ root_up square → size ≡ part_of k square
 unfolding part_of
 part_above (pos k) s t square size above size_is s_is t_is = size_is ∙ (rw (s_is, t_is) refl)
@@ -64,26 +72,36 @@ part_above (negsuc k) s t square size above size_is s_is t_is = absurd (omega (a
 
 -- Boxes
 
-pub x_below : (n : Direction) (q r : ℕ) (z : ℤ) → q ≡ norm2_of n → r ≡ root_down q → z ≡ n.x → unsigned_abs z ≤ r
+pub x_below : (n : Direction) (q r : ℕ) (z : ℤ) → q ≡ norm2_of n → r ≡ root_down q → z ≡ n.x
+    → unsigned_abs z ≤ r
 x_below n q r z square root is =
     subst (λ (y : ℤ). unsigned_abs y ≤ r) (sym is)
-    (subst (λ (s : ℕ). unsigned_abs n.x ≤ s) (sym root) ((root_down_is q).most (unsigned_abs n.x) (omega (arith, square))))
+    (subst (λ (s : ℕ). unsigned_abs n.x ≤ s) (sym root)
+    ((root_down_is q).most (unsigned_abs n.x) (omega (arith, square))))
 
-pub y_below : (n : Direction) (q r : ℕ) (z : ℤ) → q ≡ norm2_of n → r ≡ root_down q → z ≡ n.y → unsigned_abs z ≤ r
+pub y_below : (n : Direction) (q r : ℕ) (z : ℤ) → q ≡ norm2_of n → r ≡ root_down q → z ≡ n.y
+    → unsigned_abs z ≤ r
 y_below n q r z square root is =
     subst (λ (y : ℤ). unsigned_abs y ≤ r) (sym is)
-    (subst (λ (s : ℕ). unsigned_abs n.y ≤ s) (sym root) ((root_down_is q).most (unsigned_abs n.y) (omega (arith, square))))
+    (subst (λ (s : ℕ). unsigned_abs n.y ≤ s) (sym root)
+    ((root_down_is q).most (unsigned_abs n.y) (omega (arith, square))))
 
-pub z_below : (n : Direction) (q r : ℕ) (z : ℤ) → q ≡ norm2_of n → r ≡ root_down q → z ≡ n.z → unsigned_abs z ≤ r
+pub z_below : (n : Direction) (q r : ℕ) (z : ℤ) → q ≡ norm2_of n → r ≡ root_down q → z ≡ n.z
+    → unsigned_abs z ≤ r
 z_below n q r z square root is =
     subst (λ (y : ℤ). unsigned_abs y ≤ r) (sym is)
-    (subst (λ (s : ℕ). unsigned_abs n.z ≤ s) (sym root) ((root_down_is q).most (unsigned_abs n.z) (omega (arith, square))))
+    (subst (λ (s : ℕ). unsigned_abs n.z ≤ s) (sym root)
+    ((root_down_is q).most (unsigned_abs n.z) (omega (arith, square))))
 
 pub no_box : (n : Direction) (q : ℕ) → q ≡ norm2_of n → q ≡ 0 → None ≡ unit_box n
 unfolding unit_box
-no_box n q square none = sym (cond-true (eqb (norm2_of n) 0) None (Some (parts_of n)) (eq-eqb (norm2_of n) 0 (sym square ∙ none)))
+no_box n q square none =
+    sym (cond-true (eqb (norm2_of n) 0) None (Some (parts_of n))
+    (eq-eqb (norm2_of n) 0 (sym square ∙ none)))
 
-pub box_there : (n : Direction) (q : ℕ) (x y z : Spread) → q ≡ norm2_of n → 0 < q → x ≡ part_of n.x q → y ≡ part_of n.y q → z ≡ part_of n.z q →
+pub box_there : (n : Direction) (q : ℕ) (x y z : Spread) → q ≡ norm2_of n → 0 < q
+    → x ≡ part_of n.x q → y ≡ part_of n.y q → z ≡ part_of n.z q →
     Some (record { x = x; y = y; z = z }) ≡ unit_box n
 box_there n q x y z square some x_is y_is z_is =
-    (rw (x_is, y_is, z_is, square) refl) ∙ sym (unit_box_some n (subst (λ (m : ℕ). 0 < m) square some))
+    (rw (x_is, y_is, z_is, square) refl)
+    ∙ sym (unit_box_some n (subst (λ (m : ℕ). 0 < m) square some))

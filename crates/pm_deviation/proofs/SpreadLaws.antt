@@ -1,5 +1,8 @@
--- Spreads joined in any order, and any number of times, are one spread, and it has each of them in it.
-use Rattle.std.proofs.Common.{◌≡◌, ℕ, zero, suc, ◌<◌, ◌≤◌, Bool, true, ◌||◌, List, [], ◌∷◌, ◌++◌, length, get_or, map, Option, None, Some, IfSome, inl, inr, refl, sym, ap, ◌∙◌, arith}
+-- Spreads joined in any order, and any number of times, are one spread, and it has each of them in
+-- it.
+use Rattle.std.proofs.Common.{◌≡◌, ℕ, zero, suc, ◌<◌, ◌≤◌, Bool, true, ◌||◌, List, [], ◌∷◌, ◌++◌}
+use Rattle.std.proofs.Common.{length, get_or, map, Option, None, Some, IfSome, inl, inr, refl, sym}
+use Rattle.std.proofs.Common.{ap, ◌∙◌, arith}
 use Rattle.std.specs.Prelude.{ℤ, ◌≤ℤ◌, unsigned_abs}
 use Rattle.std.specs.Int.{int_min, int_max}
 use Rattle.std.specs.List.{filter}
@@ -43,10 +46,12 @@ max_above_left x y = omega (arith, ints, clamps)
 max_above_right : (x y : ℤ) → y ≤ℤ int_max x y
 max_above_right x y = omega (arith, ints, clamps)
 
-pub min_small : (x y : ℤ) (m : ℕ) → unsigned_abs x ≤ m → unsigned_abs y ≤ m → unsigned_abs (int_min x y) ≤ m
+pub min_small : (x y : ℤ) (m : ℕ) → unsigned_abs x ≤ m → unsigned_abs y ≤ m
+    → unsigned_abs (int_min x y) ≤ m
 min_small x y m p q = omega (arith, ints, clamps)
 
-pub max_small : (x y : ℤ) (m : ℕ) → unsigned_abs x ≤ m → unsigned_abs y ≤ m → unsigned_abs (int_max x y) ≤ m
+pub max_small : (x y : ℤ) (m : ℕ) → unsigned_abs x ≤ m → unsigned_abs y ≤ m
+    → unsigned_abs (int_max x y) ≤ m
 max_small x y m p q = omega (arith, ints, clamps)
 
 -- Spread a has spread b in it.
@@ -110,20 +115,26 @@ pub some_left : (a : Spread) (b : Option Spread) → IsSomeOver (join (Some a) b
 some_left a None = (a, refl, over_same a)
 some_left a (Some b) = (joined a b, refl, over_left a b)
 
-pub some_right : (a : Option Spread) (s : Spread) (b : Option Spread) → IsSomeOver b s → IsSomeOver (join a b) s
+pub some_right : (a : Option Spread) (s : Spread) (b : Option Spread) → IsSomeOver b s
+    → IsSomeOver (join a b) s
 some_right None s b over = over
-some_right (Some a) s b (c, is, over) = (joined a c, ap (join (Some a)) is, over_by (joined a c) c s (over_right a c) over)
+some_right (Some a) s b (c, is, over) =
+    (joined a c, ap (join (Some a)) is, over_by (joined a c) c s (over_right a c) over)
 
 -- lists
 
-pub joined_all-more : (ss : List (Option Spread)) (s : Option Spread) → joined_all (ss ++ s ∷ []) ≡ join (joined_all ss) s
+pub joined_all-more : (ss : List (Option Spread)) (s : Option Spread)
+    → joined_all (ss ++ s ∷ []) ≡ join (joined_all ss) s
 joined_all-more [] s = join-none s
-joined_all-more (t ∷ ss) s = ap (join t) (joined_all-more ss s) ∙ sym (join-assoc t (joined_all ss) s)
+joined_all-more (t ∷ ss) s =
+    ap (join t) (joined_all-more ss s) ∙ sym (join-assoc t (joined_all ss) s)
 
 both : (n a b : Option Spread) → join n (join a b) ≡ join (join n a) (join n b)
 both n a b =
-    let turn : join a (join n b) ≡ join n (join a b) = sym (join-assoc a n b) ∙ ap (λ t. join t b) (join-comm a n) ∙ join-assoc n a b in
-    sym (join-assoc n a (join n b) ∙ ap (join n) turn ∙ sym (join-assoc n n (join a b)) ∙ ap (λ t. join t (join a b)) (join-same n))
+    let turn : join a (join n b) ≡ join n (join a b) =
+    sym (join-assoc a n b) ∙ ap (λ t. join t b) (join-comm a n) ∙ join-assoc n a b in
+    sym (join-assoc n a (join n b) ∙ ap (join n) turn ∙ sym (join-assoc n n (join a b))
+    ∙ ap (λ t. join t (join a b)) (join-same n))
 
 right : (n a b : Option Spread) → join n (join a b) ≡ join a (join n b)
 right n a b = sym (join-assoc n a b) ∙ ap (λ t. join t b) (join-comm n a) ∙ join-assoc a n b
@@ -131,7 +142,8 @@ right n a b = sym (join-assoc n a b) ∙ ap (λ t. join t b) (join-comm n a) ∙
 module _ {X : Type 0} (f : X → Option Spread) (p q : X → Bool) where
   -- what passes one of two tests, or both
   pub joined_all-either : (xs : List X) →
-      joined_all (map f (filter (λ x. p x || q x) xs)) ≡ join (joined_all (map f (filter p xs))) (joined_all (map f (filter q xs)))
+      joined_all (map f (filter (λ x. p x || q x) xs))
+      ≡ join (joined_all (map f (filter p xs))) (joined_all (map f (filter q xs)))
   joined_all-either [] = refl
   joined_all-either (x ∷ xs) =
       let rest = joined_all-either xs in
@@ -151,10 +163,12 @@ module _ {X : Type 0} (f : X → Option Spread) (p q : X → Bool) where
 
 module _ {X : Type 0} (f : X → Option Spread) (p : X → Bool) where
   -- each spread of what passes is in that of all
-  pub spread_above : (xs : List X) (i : ℕ) (d : X) (s : Spread) → i < length xs → p (get_or xs i d) ≡ true → f (get_or xs i d) ≡ Some s →
+  pub spread_above : (xs : List X) (i : ℕ) (d : X) (s : Spread) → i < length xs
+      → p (get_or xs i d) ≡ true → f (get_or xs i d) ≡ Some s →
       IsSomeOver (joined_all (map f (filter p xs))) s
   spread_above [] i d s l e is = absurd (omega arith)
-  spread_above (x ∷ xs) zero d s l e is = rw (e, is) (some_left s (joined_all (map f (filter p xs))))
+  spread_above (x ∷ xs) zero d s l e is =
+      rw (e, is) (some_left s (joined_all (map f (filter p xs))))
   spread_above (x ∷ xs) (suc i) d s l e is =
       let rest = spread_above xs i d s (omega arith) e is in
       elim (cases_Bool (p x)) [
@@ -163,15 +177,20 @@ module _ {X : Type 0} (f : X → Option Spread) (p : X → Bool) where
       ]
 
 -- what holds of each, and of two joined where it holds of both, holds of all joined
-pub join-holds : (P : Spread → Type 0) → ((a b : Spread) → P a → P b → P (joined a b)) → (a b : Option Spread) → IfSome a P → IfSome b P → IfSome (join a b) P
+pub join-holds : (P : Spread → Type 0) → ((a b : Spread) → P a → P b → P (joined a b))
+    → (a b : Option Spread) → IfSome a P → IfSome b P → IfSome (join a b) P
 join-holds P both None b p q = q
 join-holds P both (Some a) None p q = p
 join-holds P both (Some a) (Some b) p q = both a b p q
 
-pub joined_all-holds : {X : Type 0} (P : Spread → Type 0) → ((a b : Spread) → P a → P b → P (joined a b)) → (f : X → Option Spread) → ((x : X) → IfSome (f x) P) →
+pub joined_all-holds : {X : Type 0} (P : Spread → Type 0)
+    → ((a b : Spread) → P a → P b → P (joined a b)) → (f : X → Option Spread)
+    → ((x : X) → IfSome (f x) P) →
     (xs : List X) → IfSome (joined_all (map f xs)) P
 joined_all-holds P both f each [] = tt
-joined_all-holds P both f each (x ∷ xs) = join-holds P both (f x) (joined_all (map f xs)) (each x) (joined_all-holds P both f each xs)
+joined_all-holds P both f each (x ∷ xs) =
+    join-holds P both (f x) (joined_all (map f xs)) (each x) (joined_all-holds P both f each xs)
 
-pub joined-small : (m : ℕ) (a b : Spread) → IsSpreadWithin m a → IsSpreadWithin m b → IsSpreadWithin m (joined a b)
+pub joined-small : (m : ℕ) (a b : Spread) → IsSpreadWithin m a → IsSpreadWithin m b
+    → IsSpreadWithin m (joined a b)
 joined-small m a b p q = (min_small a.low b.low m p.0 q.0, max_small a.high b.high m p.1 q.1)

@@ -8,7 +8,8 @@ use Rattle.pm_beyond.specs.Walks.{leaf_twin}
 
 -- Side e of the leaf mesh has no twin, and one of its two ends is under node v.
 abbrev pub is_border_side_under : Hierarchy → ℕ → ℕ → Bool
-is_border_side_under h v e = is_none (leaf_twin h e) && (holds h v (from_leaf h e) || holds h v (to_leaf h e))
+is_border_side_under h v e =
+    is_none (leaf_twin h e) && (holds h v (from_leaf h e) || holds h v (to_leaf h e))
 
 -- There is such a side.
 unfoldable pub is_at_border : Hierarchy → ℕ → Bool

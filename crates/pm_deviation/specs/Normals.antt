@@ -1,6 +1,8 @@
--- Which way the faces under a node look: their normals in parts of 1 / 16,384 of their own lengths. No root is exact, so
--- each part is known by a whole number that isn't above it and one that isn't below it.
-use Rattle.std.specs.Prelude.{ℕ, ◌+◌, ◌-◌, ◌*◌, ◌/◌, ◌==◌, nat_le, if◌then◌else◌, max, map, Option, None, Some, ℤ, pos, negsuc, neg_ℤ, unwrap_or}
+-- Which way the faces under a node look: their normals in parts of 1 / 16,384 of their own lengths.
+-- No root is exact, so each part is known by a whole number that isn't above it and one that isn't
+-- below it.
+use Rattle.std.specs.Prelude.{ℕ, ◌+◌, ◌-◌, ◌*◌, ◌/◌, ◌==◌, nat_le, if◌then◌else◌, max, map, Option}
+use Rattle.std.specs.Prelude.{None, Some, ℤ, pos, negsuc, neg_ℤ, unwrap_or}
 use Rattle.std.specs.Int.{div_ceil}
 use Rattle.std.specs.Option.{option_map, option_map_or}
 use Rattle.pm_base.specs.Geometry.{Direction, norm2_of}
@@ -20,7 +22,10 @@ root_down n = if nat_le (root_up n * root_up n) n then root_up n else root_up n 
 
 -- How many 16,384ths a number is of a length that lies between two whole numbers.
 abbrev pub share : ℕ → ℕ → ℕ → Spread
-share n short long = record { low = pos (16384 * n / long); high = pos (div_ceil (16384 * n) short) }
+share n short long = record {
+  low = pos (16384 * n / long);
+  high = pos (div_ceil (16384 * n) short);
+}
 
 -- The same of a signed number, and of a length whose square is given.
 unfoldable pub part_of : ℤ → ℕ → Spread
@@ -30,7 +35,11 @@ part_of (negsuc n) square = mirrored (share (n + 1) (root_down square) (root_up 
 -- A normal in parts of its own length; none where it has no length, as that of a face without area.
 unfoldable pub unit_box : Direction → Option UnitBox
 unit_box n = if norm2_of n == 0 then None
-    else Some (record { x = part_of n.x (norm2_of n); y = part_of n.y (norm2_of n); z = part_of n.z (norm2_of n) })
+    else Some (record {
+      x = part_of n.x (norm2_of n);
+      y = part_of n.y (norm2_of n);
+      z = part_of n.z (norm2_of n);
+    })
 
 abbrev pub direction_of : Axis → Direction
 direction_of u = record { x = u.x; y = u.y; z = u.z }
@@ -39,7 +48,8 @@ direction_of u = record { x = u.x; y = u.y; z = u.z }
 abbrev pub part_along : Hierarchy → Axis → Face → Option Spread
 part_along h u f = option_map (λ b. along b (direction_of u)) (unit_box (normal_of h f))
 
--- What the normals of the faces under node v have along an axis; none where no face with area is under it.
+-- What the normals of the faces under node v have along an axis; none where no face with area is
+-- under it.
 unfoldable pub spread_of : Hierarchy → Axis → ℕ → Option Spread
 spread_of h u v = joined_all (map (part_along h u) (faces_under h v))
 
@@ -57,7 +67,11 @@ z_axis = record { x = pos 0; y = pos 0; z = pos 1 }
 
 -- The box of all these normals.
 abbrev pub unit_box_of : Hierarchy → ℕ → UnitBox
-unit_box_of h v = record { x = spread_under h x_axis v; y = spread_under h y_axis v; z = spread_under h z_axis v }
+unit_box_of h v = record {
+  x = spread_under h x_axis v;
+  y = spread_under h y_axis v;
+  z = spread_under h z_axis v;
+}
 
 -- A number, and 0 for one below 0.
 abbrev pub above_zero : ℤ → ℕ
@@ -68,8 +82,8 @@ above_zero (negsuc n) = 0
 abbrev pub length_of : Axis → ℕ
 length_of u = root_up (268435456 * norm2_of (direction_of u))
 
--- The least cosine, in 16,384ths, of an axis with normals that have this along it, or of the opposite axis where that is
--- greater; 0 where some look one way along the axis and some the other.
+-- The least cosine, in 16,384ths, of an axis with normals that have this along it, or of the
+-- opposite axis where that is greater; 0 where some look one way along the axis and some the other.
 abbrev pub least_cosine : Axis → Spread → ℕ
 least_cosine u s = 16384 * max (above_zero s.low) (above_zero (neg_ℤ s.high)) / length_of u
 

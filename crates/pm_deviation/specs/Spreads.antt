@@ -30,7 +30,10 @@ mirrored s = record { low = neg_ℤ s.high; high = neg_ℤ s.low }
 
 -- Between which whole numbers lie the products of a number with those of a spread.
 abbrev pub times : Spread → ℤ → Spread
-times s m = record { low = int_min (s.low *ℤ m) (s.high *ℤ m); high = int_max (s.low *ℤ m) (s.high *ℤ m) }
+times s m = record {
+  low = int_min (s.low *ℤ m) (s.high *ℤ m);
+  high = int_max (s.low *ℤ m) (s.high *ℤ m);
+}
 
 -- Between which whole numbers lie the products of a direction with the vectors of a box.
 unfoldable pub along : UnitBox → Direction → Spread

@@ -10,7 +10,8 @@ pub struct Axis {
     pub z: i32,
 }
 
-/// The 13 axes; with their opposites, which mirror them, they are the directions to the 26 neighbours of a cell.
+/// The 13 axes; with their opposites, which mirror them, they are the directions to the 26
+/// neighbours of a cell.
 pub const AXES: [Axis; 13] = [
     Axis { x: 1, y: 0, z: 0 },
     Axis { x: 0, y: 1, z: 0 },

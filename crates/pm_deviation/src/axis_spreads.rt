@@ -1,6 +1,7 @@
-//! What the normals under each node have along one axis: the faces are gone through for the leaves, and then the records
-//! from the last to the first.
-ghost use Rattle.std.specs.Prelude.{◌≡◌, ℕ, ◌<◌, ◌≤◌, cond, true, None, IfOk, IfSome, replicate, length, slice_index_or, slice_set, unsigned_abs};
+//! What the normals under each node have along one axis: the faces are gone through for the leaves,
+//! and then the records from the last to the first.
+ghost use Rattle.std.specs.Prelude.{◌≡◌, ℕ, ◌<◌, ◌≤◌, cond, true, None, IfOk, IfSome, replicate};
+ghost use Rattle.std.specs.Prelude.{length, slice_index_or, slice_set, unsigned_abs};
 ghost use Rattle.std.specs.Option.{option_map};
 ghost use Rattle.pm_forest.specs.Forest.{node_count, leaf_count, record_count, t_of, u_of};
 ghost use Rattle.pm_forest.specs.Faces.{face_count, corners_of};
@@ -9,7 +10,8 @@ ghost use Rattle.pm_bounds.specs.Leaves.{is_leaf_corner};
 ghost use Rattle.pm_deviation.specs.declared.axes.Axis.{Axis};
 ghost use Rattle.pm_deviation.specs.Spreads.{along, join};
 ghost use Rattle.pm_deviation.specs.Normals.{direction_of};
-ghost use Rattle.pm_deviation.specs.Tables.{IsSum, IsUnitBox, is_axis, AreFaceBoxes, AreOwnSpreads, AreSpreads};
+ghost use Rattle.pm_deviation.specs.Tables.{IsSum, IsUnitBox, is_axis, AreFaceBoxes, AreOwnSpreads};
+ghost use Rattle.pm_deviation.specs.Tables.{AreSpreads};
 
 use crate::OutOfMemory;
 use crate::axes::Axis;
@@ -46,7 +48,8 @@ fn face_along(boxes: &[Option<UnitBox>], f: FaceId, axis: Axis) -> Option<Spread
     requires face { f.0 < length boxes.now }
     requires axis { is_axis axis ≡ true }
     requires small { IfSome (slice_index_or boxes.now f.0 None) IsUnitBox }
-    ensures { result ≡ option_map (λ b. along b (direction_of axis)) (slice_index_or boxes.now f.0 None) }
+    ensures { result ≡ option_map (λ b. along b (direction_of axis))
+        (slice_index_or boxes.now f.0 None) }
 {
     match &boxes[f.0 as usize] {
         Some(parts) => Some(box_along(parts, axis)),
@@ -72,7 +75,9 @@ fn widen(h: &Hierarchy, table: &mut Vec<Option<Spread>>, leaf: u32, part: Option
     requires len { length table.old.items ≡ node_count h.now }
     ensures len { length table.new.items ≡ node_count h.now }
     ensures wider { let old = table.old.items in
-        table.new.items ≡ slice_set old (leaf_node_of h.now leaf) (join (slice_index_or old (leaf_node_of h.now leaf) None) part) }
+        table.new.items
+        ≡ slice_set old (leaf_node_of h.now leaf)
+        (join (slice_index_or old (leaf_node_of h.now leaf) None) part) }
 {
     let node = h.leaf_node(leaf).0 as usize;
     table[node] = join(table[node], part);
@@ -83,8 +88,10 @@ fn widen_corners(h: &Hierarchy, table: &mut Vec<Option<Spread>>, f: FaceId, part
     requires face { f.0 < face_count h.now }
     requires len { length table.old.items ≡ node_count h.now }
     ensures len { length table.new.items ≡ node_count h.now }
-    ensures wider { (l : ℕ) → l < leaf_count h.now → let old = slice_index_or table.old.items (leaf_node_of h.now l) None in
-        slice_index_or table.new.items (leaf_node_of h.now l) None ≡ cond (is_leaf_corner l (corners_of h.now f.0)) (join old part) old }
+    ensures wider { (l : ℕ) → l < leaf_count h.now
+        → let old = slice_index_or table.old.items (leaf_node_of h.now l) None in
+        slice_index_or table.new.items (leaf_node_of h.now l) None
+        ≡ cond (is_leaf_corner l (corners_of h.now f.0)) (join old part) old }
 {
     h.invariant();
     let face = corner_leaves(h, f);
@@ -112,7 +119,8 @@ fn see_faces(h: &Hierarchy, boxes: &[Option<UnitBox>], axis: Axis, table: &mut V
 fn joined_children(h: &Hierarchy, table: &[Option<Spread>], k: u32) -> Option<Spread>
     requires record { k < record_count h.now }
     requires len { length table.now ≡ node_count h.now }
-    ensures { result ≡ join (slice_index_or table.now (t_of h.now k) None) (slice_index_or table.now (u_of h.now k) None) }
+    ensures { result ≡ join (slice_index_or table.now (t_of h.now k) None)
+        (slice_index_or table.now (u_of h.now k) None) }
 {
     let nodes = nodes_of(h, k);
     join(table[nodes.t.0 as usize], table[nodes.u.0 as usize])
@@ -121,7 +129,8 @@ fn joined_children(h: &Hierarchy, table: &[Option<Spread>], k: u32) -> Option<Sp
 // Gives all nodes their spreads, where those that no record splits have theirs.
 fn grow(h: &Hierarchy, table: &mut Vec<Option<Spread>>)
     requires { length table.old.items ≡ node_count h.now }
-    ensures { (u : Axis) → AreOwnSpreads h.now u table.old.items → AreSpreads h.now u table.new.items }
+    ensures { (u : Axis) → AreOwnSpreads h.now u table.old.items
+        → AreSpreads h.now u table.new.items }
 {
     h.invariant();
     for k in (0..h.records()).rev() {
@@ -131,7 +140,8 @@ fn grow(h: &Hierarchy, table: &mut Vec<Option<Spread>>)
     }
 }
 
-// As many missing spreads as there are nodes. The length is a parameter, so that no proof unfolds the list.
+// As many missing spreads as there are nodes. The length is a parameter, so that no proof unfolds
+// the list.
 fn missing(alloc: Global, nodes: usize) -> Result<Vec<Option<Spread>>, OutOfMemory>
     ensures { IfOk result (λ table. table.items ≡ replicate nodes None) }
 {

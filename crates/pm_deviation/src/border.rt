@@ -1,8 +1,10 @@
 //! Which nodes are at the border of the leaf mesh.
-ghost use Rattle.std.specs.Prelude.{◌≡◌, ℕ, ◌<◌, ◌||◌, false, None, IfOk, replicate, length, slice_index_or};
+ghost use Rattle.std.specs.Prelude.{◌≡◌, ℕ, ◌<◌, ◌||◌, false, None, IfOk, replicate, length};
+ghost use Rattle.std.specs.Prelude.{slice_index_or};
 ghost use Rattle.pm_base.specs.Sides.{NoSideTwice};
 ghost use Rattle.pm_twins.specs.Table.{IsTableOf};
-ghost use Rattle.pm_forest.specs.Forest.{node_count, leaf_count, record_count, splitter_of, t_of, u_of};
+ghost use Rattle.pm_forest.specs.Forest.{node_count, leaf_count, record_count, splitter_of, t_of};
+ghost use Rattle.pm_forest.specs.Forest.{u_of};
 ghost use Rattle.pm_beyond.specs.Walks.{leaf_net};
 ghost use Rattle.pm_deviation.specs.Borders.{is_at_border};
 ghost use Rattle.pm_deviation.specs.Tables.{AreBorders, AreOwnBorders};
@@ -27,7 +29,8 @@ fn leaf_twins(alloc: Global, h: &Hierarchy) -> Result<Twins, OutOfMemory>
     }
 }
 
-// As many flags as there are nodes, none of them set. The length is a parameter, so that no proof unfolds the list.
+// As many flags as there are nodes, none of them set. The length is a parameter, so that no proof
+// unfolds the list.
 fn no_flags(alloc: Global, nodes: usize) -> Result<Vec<bool>, OutOfMemory>
     ensures { IfOk result (λ flags. flags.items ≡ replicate nodes false) }
 {
@@ -52,7 +55,9 @@ fn mark_leaves(h: &Hierarchy, twins: &Twins, flags: &mut Vec<bool>)
 fn is_child_at_border(h: &Hierarchy, flags: &[bool], k: u32) -> bool
     requires record { k < record_count h.now }
     requires len { length flags.now ≡ node_count h.now }
-    ensures { result ≡ (slice_index_or flags.now (t_of h.now k) false || slice_index_or flags.now (u_of h.now k) false) }
+    ensures { result
+        ≡ (slice_index_or flags.now (t_of h.now k) false || slice_index_or flags.now (u_of h.now k)
+        false) }
 {
     let nodes = nodes_of(h, k);
     flags[nodes.t.0 as usize] || flags[nodes.u.0 as usize]

@@ -1,8 +1,10 @@
 //! How steeply the faces under each node stand to the axis that they look along most alike.
-ghost use Rattle.std.specs.Prelude.{◌≡◌, ℕ, ◌<◌, ◌≤◌, true, None, max, IfOk, IfSome, replicate, length, slice_index_or, slice_set, unsigned_abs};
+ghost use Rattle.std.specs.Prelude.{◌≡◌, ℕ, ◌<◌, ◌≤◌, true, None, max, IfOk, IfSome, replicate};
+ghost use Rattle.std.specs.Prelude.{length, slice_index_or, slice_set, unsigned_abs};
 ghost use Rattle.pm_forest.specs.Forest.{node_count};
 ghost use Rattle.pm_forest.specs.Faces.{face_count};
-ghost use Rattle.pm_deviation.specs.Normals.{above_zero, length_of, least_cosine, cosine_by, cosine_along};
+ghost use Rattle.pm_deviation.specs.Normals.{above_zero, length_of, least_cosine, cosine_by};
+ghost use Rattle.pm_deviation.specs.Normals.{cosine_along};
 ghost use Rattle.pm_deviation.specs.Tables.{IsSum, is_axis, AreFaceBoxes, AreSpreads, AreCosines};
 
 use crate::OutOfMemory;
@@ -63,7 +65,8 @@ fn raise(h: &Hierarchy, cosines: &mut Vec<u32>, spreads: &[Option<Spread>], axis
     requires spreads { AreSpreads h.now axis spreads.now }
     requires len { length cosines.old.items ≡ node_count h.now }
     ensures len { length cosines.new.items ≡ node_count h.now }
-    ensures raised { (v : ℕ) → v < node_count h.now → slice_index_or cosines.new.items v 0 ≡ max (slice_index_or cosines.old.items v 0) (cosine_along h.now v axis) }
+    ensures raised { (v : ℕ) → v < node_count h.now → slice_index_or cosines.new.items v 0
+        ≡ max (slice_index_or cosines.old.items v 0) (cosine_along h.now v axis) }
 {
     for v in 0..h.nodes() {
         let at = v as usize;
@@ -78,8 +81,8 @@ fn zeros(alloc: Global, nodes: usize) -> Result<Vec<u32>, OutOfMemory>
     vec![in alloc; 0; nodes]
 }
 
-/// For each node the least cosine, in 16,384ths, of the axis that the faces under it look along most alike with their
-/// normals: 4 bytes a node, and 12 more while an axis is gone through.
+/// For each node the least cosine, in 16,384ths, of the axis that the faces under it look along
+/// most alike with their normals: 4 bytes a node, and 12 more while an axis is gone through.
 pub(crate) fn cosines(
     alloc: Global,
     h: &Hierarchy,

@@ -22,7 +22,8 @@ use std::alloc::Global;
 fn deviation(error: u64, planes: u64, cosine: u32, is_at_border: bool) -> u64
     requires planes { planes ≤ error }
     requires small { error < 2 ^ 38 }
-    ensures value { result ≡ (if is_at_border || cosine == 0 then error else min error (div_ceil (16384 * planes) cosine)) }
+    ensures value { result ≡ (if is_at_border || cosine == 0 then error
+        else min error (div_ceil (16384 * planes) cosine)) }
     ensures small { result < 2 ^ 38 }
 {
     if is_at_border || cosine == 0 {
@@ -32,7 +33,8 @@ fn deviation(error: u64, planes: u64, cosine: u32, is_at_border: bool) -> u64
     }
 }
 
-// What the deviations of nodes are found from: which are at the border, their cosines and their plane deviations.
+// What the deviations of nodes are found from: which are at the border, their cosines and their
+// plane deviations.
 #[derive(Drop)]
 struct Found {
     borders: Vec<bool>,

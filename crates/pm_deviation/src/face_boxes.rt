@@ -57,7 +57,8 @@ fn part(k: i64, short: u64, long: u64) -> Spread
     requires some { 0 < short }
     requires order { short ≤ long }
     requires small { long ≤ 2 ^ 34 }
-    ensures value { (square : ℕ) → short ≡ root_down square → long ≡ root_up square → result ≡ part_of k square }
+    ensures value { (square : ℕ) → short ≡ root_down square → long ≡ root_up square
+        → result ≡ part_of k square }
     ensures small { IsPart result }
 {
     let size = share(k.unsigned_abs(), short, long);

@@ -1,4 +1,5 @@
-//! A second number of each node, by which a view can judge it: its deviation, which knows flat ground.
+//! A second number of each node, by which a view can judge it: its deviation, which knows flat
+//! ground.
 #![tactic(auto)]
 
 mod axes;

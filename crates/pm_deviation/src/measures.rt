@@ -12,8 +12,8 @@ use pm_forest::Hierarchy;
 use std::alloc::Global;
 use std::marker::Model;
 
-/// The bounds of all nodes of a hierarchy and, where they were asked for, their deviations, 8 bytes a node. Contracts see the
-/// bounds, and the list of deviations by node.
+/// The bounds of all nodes of a hierarchy and, where they were asked for, their deviations, 8 bytes
+/// a node. Contracts see the bounds, and the list of deviations by node.
 #[derive(Drop)]
 pub struct Measures {
     bounds: Bounds,
@@ -27,9 +27,13 @@ impl Model for Measures {
 
     ghost Value = { Measures };
 
-    ghost view = { λ m. record { bounds = m.bounds; deviations = option_map (λ ds. ds.items) m.deviations } };
+    ghost view = { λ m. record {
+      bounds = m.bounds;
+      deviations = option_map (λ ds. ds.items) m.deviations;
+    } };
 
-    ghost invariant = { λ m. IfSome m.deviations (λ ds. AreDeviationLists (length m.bounds.errors) ds.items) };
+    ghost invariant = { λ m. IfSome m.deviations
+        (λ ds. AreDeviationLists (length m.bounds.errors) ds.items) };
 }
 
 impl Measures {
@@ -45,8 +49,8 @@ impl Measures {
         })
     }
 
-    /// The bounds and the deviations, in time and memory linear in nodes and faces. No directed side may stand twice in the
-    /// leaf mesh, as in that of a valid hierarchy.
+    /// The bounds and the deviations, in time and memory linear in nodes and faces. No directed
+    /// side may stand twice in the leaf mesh, as in that of a valid hierarchy.
     pub fn with_deviations(alloc: Global, h: &Hierarchy) -> Result<Measures, OutOfMemory>
         requires { NoSideTwice (leaf_net h.now) }
         ensures are { IfOk result (AreMeasuresOf h.now) }

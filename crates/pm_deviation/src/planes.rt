@@ -1,11 +1,13 @@
 //! The plane deviations of all nodes: the records are gone through from the last to the first.
-ghost use Rattle.std.specs.Prelude.{◌≡◌, ℕ, ◌<◌, ◌^◌, if◌then◌else◌, replicate, length, IfOk, slice_index_or};
+ghost use Rattle.std.specs.Prelude.{◌≡◌, ℕ, ◌<◌, ◌^◌, if◌then◌else◌, replicate, length, IfOk};
+ghost use Rattle.std.specs.Prelude.{slice_index_or};
 ghost use Rattle.pm_forest.specs.Forest.{node_count, record_count, s_of};
 ghost use Rattle.pm_forest.specs.Faces.{face_count};
 ghost use Rattle.pm_bounds.specs.Bounds.{AreBoundsOf, error_of};
 ghost use Rattle.pm_deviation.specs.Borders.{is_at_border};
 ghost use Rattle.pm_deviation.specs.Deviations.{over_steps};
-ghost use Rattle.pm_deviation.specs.Tables.{AreFaceBoxes, AreSpaceSpreads, AreBorders, ArePlaneDeviations};
+ghost use Rattle.pm_deviation.specs.Tables.{AreFaceBoxes, AreSpaceSpreads, AreBorders};
+ghost use Rattle.pm_deviation.specs.Tables.{ArePlaneDeviations};
 
 use crate::OutOfMemory;
 use crate::nodes::nodes_of;
@@ -19,7 +21,8 @@ use std::alloc::Global;
 // The number of the node that a record splits, by those of its children.
 fn over_steps(h: &Hierarchy, spreads: &SpaceSpreads, table: &[u64], k: u32) -> u64
     requires record { k < record_count h.now }
-    requires spreads { AreSpaceSpreads h.now spreads.now.x.items spreads.now.y.items spreads.now.z.items }
+    requires spreads { AreSpaceSpreads h.now spreads.now.x.items spreads.now.y.items
+        spreads.now.z.items }
     requires len { length table.now ≡ node_count h.now }
     requires small { (v : ℕ) → v < node_count h.now → slice_index_or table.now v 0 < 2 ^ 38 }
     ensures { result ≡ over_steps h.now (λ v. slice_index_or table.now v 0) k }
@@ -42,10 +45,13 @@ fn from_steps(
     requires record { k < record_count h.now }
     requires bounds { AreBoundsOf h.now bounds.now }
     requires borders { AreBorders h.now borders.now }
-    requires spreads { AreSpaceSpreads h.now spreads.now.x.items spreads.now.y.items spreads.now.z.items }
+    requires spreads { AreSpaceSpreads h.now spreads.now.x.items spreads.now.y.items
+        spreads.now.z.items }
     requires len { length table.now ≡ node_count h.now }
     requires small { (v : ℕ) → v < node_count h.now → slice_index_or table.now v 0 < 2 ^ 38 }
-    ensures value { result ≡ (if is_at_border h.now (s_of h.now k) then error_of h.now (s_of h.now k) else over_steps h.now (λ v. slice_index_or table.now v 0) k) }
+    ensures value { result
+        ≡ (if is_at_border h.now (s_of h.now k) then error_of h.now (s_of h.now k)
+        else over_steps h.now (λ v. slice_index_or table.now v 0) k) }
     ensures small { error_of h.now (s_of h.now k) < 2 ^ 38 }
 {
     let node = nodes_of(h, k).s;
@@ -67,7 +73,8 @@ fn grow(
 )
     requires bounds { AreBoundsOf h.now bounds.now }
     requires borders { AreBorders h.now borders.now }
-    requires spreads { AreSpaceSpreads h.now spreads.now.x.items spreads.now.y.items spreads.now.z.items }
+    requires spreads { AreSpaceSpreads h.now spreads.now.x.items spreads.now.y.items
+        spreads.now.z.items }
     requires zeros { table.old.items ≡ replicate (node_count h.now) 0 }
     ensures { ArePlaneDeviations h.now table.new.items }
 {
@@ -86,8 +93,8 @@ fn zeros(alloc: Global, nodes: usize) -> Result<Vec<u64>, OutOfMemory>
     vec![in alloc; 0; nodes]
 }
 
-/// How far the place of each node may be from the planes of the faces under it: 8 bytes a node, and 36 more while they are
-/// found.
+/// How far the place of each node may be from the planes of the faces under it: 8 bytes a node, and
+/// 36 more while they are found.
 pub(crate) fn plane_deviations(
     alloc: Global,
     h: &Hierarchy,

@@ -3,7 +3,8 @@ ghost use Rattle.std.specs.Prelude.{◌≡◌, ◌^◌, ◌<◌, ◌≤◌, ◌*
 ghost use Rattle.pm_base.specs.Rounded.{root_up};
 ghost use Rattle.pm_deviation.specs.Normals.{root_down};
 
-/// The greatest whole number whose square is at most n. Most squares fit in 64 bits, where roots are found in half the steps.
+/// The greatest whole number whose square is at most n. Most squares fit in 64 bits, where roots
+/// are found in half the steps.
 pub(crate) fn root_down(n: u128) -> u64
     requires { n < 2 ^ 68 }
     ensures value { result ≡ root_down n }

@@ -40,7 +40,8 @@ impl SpaceSpreads {
 
     /// The box of the normals under a node.
     pub(crate) fn under(&self, h: &Hierarchy, node: NodeId) -> UnitBox
-        requires spreads { AreSpaceSpreads h.now self.now.x.items self.now.y.items self.now.z.items }
+        requires spreads { AreSpaceSpreads h.now self.now.x.items self.now.y.items
+            self.now.z.items }
         requires node { node.0 < node_count h.now }
         ensures value { result ≡ unit_box_of h.now node.0 }
         ensures x_small { IsSum result.x }

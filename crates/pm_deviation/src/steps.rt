@@ -36,7 +36,8 @@ fn most_along(parts: &UnitBox, p: Point, q: Point) -> u64
 
 /// The most that the way from a child to its parent can go along the normals under the child.
 pub(crate) fn step(h: &Hierarchy, spreads: &SpaceSpreads, parent: NodeId, child: NodeId) -> u64
-    requires spreads { AreSpaceSpreads h.now spreads.now.x.items spreads.now.y.items spreads.now.z.items }
+    requires spreads { AreSpaceSpreads h.now spreads.now.x.items spreads.now.y.items
+        spreads.now.z.items }
     requires parent { parent.0 < node_count h.now }
     requires child { child.0 < node_count h.now }
     ensures value { result ≡ step_of h.now parent.0 child.0 }

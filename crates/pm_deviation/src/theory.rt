@@ -8,9 +8,9 @@ ghost use Rattle.pm_deviation.specs.Laws.{
   BordersAreErrors,
 };
 
-/// States the laws of deviations, which hold for every hierarchy of the right shape: that they grow from the leaves up and
-/// stay below errors, and how near to the faces under a node they say that its place is. It does nothing, and callers cite its
-/// clauses.
+/// States the laws of deviations, which hold for every hierarchy of the right shape: that they grow
+/// from the leaves up and stay below errors, and how near to the faces under a node they say that
+/// its place is. It does nothing, and callers cite its clauses.
 pub fn deviations_are_sound()
     ensures below { DeviationsAreBelowErrors }
     ensures grow { DeviationsGrow }

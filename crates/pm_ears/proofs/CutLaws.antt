@@ -1,5 +1,6 @@
 -- Cuts of a polygon: their areas, their number, and their order.
-use Rattle.std.proofs.Common.{◌≡◌, ℕ, zero, suc, ◌+◌, ◌<◌, ◌≤◌, Bool, true, false, List, [], ◌∷◌, length, refl, sym, ap, subst, arith}
+use Rattle.std.proofs.Common.{◌≡◌, ℕ, zero, suc, ◌+◌, ◌<◌, ◌≤◌, Bool, true, false, List, [], ◌∷◌}
+use Rattle.std.proofs.Common.{length, refl, sym, ap, subst, arith}
 use Rattle.std.specs.Prelude.{pos, ◌+ℤ◌}
 use Rattle.std.specs.List.{All}
 use Rattle.std.proofs.lemmas.Int.{ints}
@@ -11,7 +12,8 @@ use Rattle.pm_ears.specs.declared.plane.Axis.TheVariants as axes
 use Rattle.pm_ears.specs.declared.plane.Plane.{Plane}
 use Rattle.pm_ears.specs.declared.spots.Spot.{Spot}
 use Rattle.pm_ears.specs.declared.spots.Triangle.{Triangle}
-use Rattle.pm_ears.specs.Areas.{cross_of, twice_area_of, along, last_from, twice_area_within, triangle_at}
+use Rattle.pm_ears.specs.Areas.{cross_of, twice_area_of, along, last_from, twice_area_within}
+use Rattle.pm_ears.specs.Areas.{triangle_at}
 use Rattle.pm_ears.specs.Planes.{across, mirrored_if, spot_of, spots_on}
 use Rattle.pm_ears.specs.Ears.{without}
 use Rattle.pm_ears.specs.Cutting.{fan}

@@ -11,7 +11,8 @@ use Rattle.pm_ears.specs.declared.cut.CutKind.TheVariants as kinds
 use Rattle.pm_ears.specs.declared.spots.Spot.{Spot}
 use Rattle.pm_ears.specs.declared.spots.Triangle.{Triangle}
 use Rattle.pm_ears.specs.Planes.{spots_of}
-use Rattle.pm_ears.specs.Cutting.{fan, is_turned_over, Pieces, pieces_by, few_ears, pieces_of, named}
+use Rattle.pm_ears.specs.Cutting.{fan, is_turned_over, Pieces, pieces_by, few_ears, pieces_of}
+use Rattle.pm_ears.specs.Cutting.{named}
 use Rattle.pm_ears.proofs.Taking.{some_same}
 
 pub by_fan : (spots : List Spot) → list_any is_turned_over (fan spots) ≡ false

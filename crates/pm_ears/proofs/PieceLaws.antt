@@ -1,5 +1,7 @@
 -- What a polygon is cut into, and what is told of it.
-use Rattle.std.proofs.Common.{◌≡◌, ℕ, zero, suc, ◌+◌, ◌-◌, ◌≤◌, Bool, true, false, Option, Some, None, Ordering, Less, inl, inr, List, [], ◌∷◌, length, refl, sym, ap, ◌∙◌, subst, arith}
+use Rattle.std.proofs.Common.{◌≡◌, ℕ, zero, suc, ◌+◌, ◌-◌, ◌≤◌, Bool, true, false, Option, Some}
+use Rattle.std.proofs.Common.{None, Ordering, Less, inl, inr, List, [], ◌∷◌, length, refl, sym, ap}
+use Rattle.std.proofs.Common.{◌∙◌, subst, arith}
 use Rattle.std.specs.Prelude.{ℤ, pos, int_lt, cond, ◌&&◌, ◌||◌, ◌⊎◌}
 use Rattle.std.specs.List.{All, Any, list_any}
 use Rattle.std.specs.Option.{option_map}

@@ -1,6 +1,8 @@
 -- Triangles put in place of as many others.
-use Rattle.std.proofs.Common.{◌≡◌, ℕ, zero, suc, ◌+◌, ◌-◌, ◌<◌, ◌≤◌, List, [], ◌∷◌, ◌++◌, length, take, drop, get_or, set, refl, sym, ap, ◌∙◌, arith, length-append}
-use Rattle.std.proofs.lemmas.List.{length-take, length-take-le, length-drop, drop-drop, set-append_right, take-append-drop}
+use Rattle.std.proofs.Common.{◌≡◌, ℕ, zero, suc, ◌+◌, ◌-◌, ◌<◌, ◌≤◌, List, [], ◌∷◌, ◌++◌, length}
+use Rattle.std.proofs.Common.{take, drop, get_or, set, refl, sym, ap, ◌∙◌, arith, length-append}
+use Rattle.std.proofs.lemmas.List.{length-take, length-take-le, length-drop, drop-drop}
+use Rattle.std.proofs.lemmas.List.{set-append_right, take-append-drop}
 use Rattle.pm_base.specs.declared.mesh.Corners.{Corners}
 use Rattle.pm_ears.specs.Recutting.{put_at}
 
@@ -47,7 +49,8 @@ put_next first i ts faces d l fits =
     let rest : length ts ≤ length more = omega (arith, fits, length-drop first faces) in
     let at : (first + i) - first ≡ i = omega arith in
     let next : suc i ≡ i + 1 = omega arith in
-    let split : (k : ℕ) → drop (first + k) faces ≡ drop k more = λ k. sym (drop-drop k first faces) in
+    let split : (k : ℕ) → drop (first + k) faces ≡ drop k more =
+    λ k. sym (drop-drop k first faces) in
     let ends : (us : List Corners)
     → put_at first us faces ≡ before ++ (us ++ drop (length us) more) =
     λ us. ap (λ (l : List Corners). before ++ (us ++ l)) (split (length us)) in

@@ -1,9 +1,12 @@
 -- All polygons cut anew, one after the other.
-use Rattle.std.proofs.Common.{◌≡◌, ℕ, zero, suc, ◌+◌, ◌-◌, ◌<◌, ◌≤◌, Bool, true, false, not, ◌&&◌, List, [], ◌∷◌, ◌++◌, length, map, take, drop, get_or, refl, sym, ap, ◌∙◌, subst, inl, inr, arith, length-append, if◌then◌else◌}
+use Rattle.std.proofs.Common.{◌≡◌, ℕ, zero, suc, ◌+◌, ◌-◌, ◌<◌, ◌≤◌, Bool, true, false, not, ◌&&◌}
+use Rattle.std.proofs.Common.{List, [], ◌∷◌, ◌++◌, length, map, take, drop, get_or, refl, sym, ap}
+use Rattle.std.proofs.Common.{◌∙◌, subst, inl, inr, arith, length-append, if◌then◌else◌}
 use Rattle.std.specs.List.{All, list_all, filter}
 use Rattle.std.proofs.lemmas.Bool.{cases_Bool, and_parts, true≢false, cond-true, cond-false}
 use Rattle.std.proofs.lemmas.List.{length-map, length-take, length-drop}
-use Rattle.std.proofs.lemmas.List.Elements.{All-nil, All-cons, All-head, All-tail, All-append, All-take, All-drop, filter-append}
+use Rattle.std.proofs.lemmas.List.Elements.{All-nil, All-cons, All-head, All-tail, All-append}
+use Rattle.std.proofs.lemmas.List.Elements.{All-take, All-drop, filter-append}
 use Rattle.pm_base.specs.declared.mesh.Corners.{Corners}
 use Rattle.pm_base.specs.Place.{Place, origin}
 use Rattle.pm_ears.specs.declared.cut.CutKind.TheVariants as kinds
@@ -13,7 +16,10 @@ use Rattle.pm_ears.specs.declared.spots.Triangle.{Triangle}
 use Rattle.pm_ears.specs.Planes.{plane_of, spots_of}
 use Rattle.pm_ears.specs.Cutting.{pieces_of, named}
 use Rattle.pm_ears.specs.Laws.{IsInOrder, RecutsAreAsMany, UprightFansStay}
-use Rattle.pm_ears.specs.Recutting.{fan_at, first_two, corners_of, places_of, pieces_over, names_three, are_ears, is_fan, gives_way, stays_overlapping, by_corners, ears_over, put_at, with_recut, recut_after, overlapping_count, AreBelow, IsPolygonWithin}
+use Rattle.pm_ears.specs.Recutting.{fan_at, first_two, corners_of, places_of, pieces_over}
+use Rattle.pm_ears.specs.Recutting.{names_three, are_ears, is_fan, gives_way, stays_overlapping}
+use Rattle.pm_ears.specs.Recutting.{by_corners, ears_over, put_at, with_recut, recut_after}
+use Rattle.pm_ears.specs.Recutting.{overlapping_count, AreBelow, IsPolygonWithin}
 use Rattle.pm_ears.proofs.Putting.{put_long}
 use Rattle.pm_ears.proofs.Rows.{as_many_spots}
 use Rattle.pm_ears.proofs.CutLaws.{two_fewer}
@@ -42,7 +48,8 @@ module _ (places : List Place) (faces : List Corners) (Q : Corners → Type 0)
       elim (cases_Bool (gives_way places fan)) [
         | inl e ↦
             let three = (and_parts _ _ e).1 in
-            let new = given fan three (All-take Q p.triangles (drop p.first faces) (All-drop Q p.first faces each)) in
+            let new = given fan three
+            (All-take Q p.triangles (drop p.first faces) (All-drop Q p.first faces each)) in
             let put : All Q (put_at p.first ears cut) =
             All-append Q (take p.first cut) (ears ++ drop (p.first + length ears) cut)
             (All-take Q p.first cut all)

@@ -1,5 +1,7 @@
 -- Corners one after the other: counted, searched, and placed on a plane.
-use Rattle.std.proofs.Common.{◌≡◌, ℕ, zero, suc, ◌+◌, ◌-◌, ◌^◌, ◌<◌, ◌≤◌, w64, to_z, of_z, Bool, true, false, ◌||◌, Some, None, List, [], ◌∷◌, ◌++◌, length, drop, slice_index_or, refl, sym, ap, ◌∙◌, arith}
+use Rattle.std.proofs.Common.{◌≡◌, ℕ, zero, suc, ◌+◌, ◌-◌, ◌^◌, ◌<◌, ◌≤◌, w64, to_z, of_z, Bool}
+use Rattle.std.proofs.Common.{true, false, ◌||◌, Some, None, List, [], ◌∷◌, ◌++◌, length, drop}
+use Rattle.std.proofs.Common.{slice_index_or, refl, sym, ap, ◌∙◌, arith}
 use Rattle.std.specs.Prelude.{ℤ, ◌==◌, ◌+ℤ◌, pos, unsigned_abs, map}
 use Rattle.std.specs.List.{list_any}
 use Rattle.std.proofs.lemmas.Bool.{cond-true, cond-false, false≢true}
@@ -12,7 +14,8 @@ use Rattle.pm_base.specs.declared.mesh.Corners.{Corners}
 use Rattle.pm_ears.specs.declared.spots.Spot.{Spot}
 use Rattle.pm_ears.specs.declared.spots.Triangle.{Triangle}
 use Rattle.pm_ears.specs.declared.plane.Plane.{Plane}
-use Rattle.pm_ears.specs.Areas.{cross_of, along, last_from, twice_area_within, lies_in, inside_of, nowhere}
+use Rattle.pm_ears.specs.Areas.{cross_of, along, last_from, twice_area_within, lies_in, inside_of}
+use Rattle.pm_ears.specs.Areas.{nowhere}
 use Rattle.pm_ears.specs.Planes.{spot_of, spots_on}
 use Rattle.pm_ears.specs.Ears.{first_from}
 use Rattle.pm_ears.specs.Cutting.{fan, fan_from, is_turned_over, named}

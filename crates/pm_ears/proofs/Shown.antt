@@ -1,7 +1,9 @@
 -- The plane on which a polygon is cut shows it largest.
-use Rattle.std.proofs.Common.{◌≡◌, ℕ, ◌+◌, ◌<◌, ◌≤◌, Bool, true, false, inl, inr, List, [], ◌∷◌, refl, sym, ap, ◌∙◌, subst, arith}
+use Rattle.std.proofs.Common.{◌≡◌, ℕ, ◌+◌, ◌<◌, ◌≤◌, Bool, true, false, inl, inr, List, [], ◌∷◌}
+use Rattle.std.proofs.Common.{refl, sym, ap, ◌∙◌, subst, arith}
 use Rattle.std.specs.Prelude.{ℤ, pos, ◌+ℤ◌, ◌≤ℤ◌, nat_le, ◌&&◌, ◌⊎◌, int_lt, unsigned_abs}
-use Rattle.std.proofs.lemmas.Bool.{cases_Bool, cond-true, cond-false, and_parts, and_cases, leb-true, leb-false}
+use Rattle.std.proofs.lemmas.Bool.{cases_Bool, cond-true, cond-false, and_parts, and_cases}
+use Rattle.std.proofs.lemmas.Bool.{leb-true, leb-false}
 use Rattle.std.proofs.lemmas.Int.{ints}
 use Rattle.pm_base.specs.Place.{Place}
 use Rattle.pm_ears.specs.declared.plane.Axis.{Axis}
@@ -9,7 +11,8 @@ use Rattle.pm_ears.specs.declared.plane.Axis.TheVariants as axes
 use Rattle.pm_ears.specs.declared.plane.Plane.{Plane}
 use Rattle.pm_ears.specs.declared.spots.Spot.{Spot}
 use Rattle.pm_ears.specs.Areas.{cross_of, along, last_from, twice_area_within}
-use Rattle.pm_ears.specs.Planes.{across, mirrored_if, spot_of, spots_on, newell, facing, largest_of, plane_of, spots_of}
+use Rattle.pm_ears.specs.Planes.{across, mirrored_if, spot_of, spots_on, newell, facing, largest_of}
+use Rattle.pm_ears.specs.Planes.{plane_of, spots_of}
 use Rattle.pm_ears.specs.Laws.{IsShownLargest}
 
 -- Where the corners stand on a plane, and in its mirror.

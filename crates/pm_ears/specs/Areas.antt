@@ -1,5 +1,6 @@
 -- Corners on a plane, signed areas, and what lies in a triangle.
-use Rattle.std.specs.Prelude.{ℕ, ◌+◌, ℤ, pos, ◌+ℤ◌, ◌-ℤ◌, ◌*ℤ◌, int_lt, Bool, not, ◌&&◌, ◌||◌, List, [], ◌∷◌, slice_index_or}
+use Rattle.std.specs.Prelude.{ℕ, ◌+◌, ℤ, pos, ◌+ℤ◌, ◌-ℤ◌, ◌*ℤ◌, int_lt, Bool, not, ◌&&◌, ◌||◌, List}
+use Rattle.std.specs.Prelude.{[], ◌∷◌, slice_index_or}
 use Rattle.std.specs.Ordering.{int_eq}
 use Rattle.pm_base.specs.Counts.{one_if}
 use Rattle.pm_ears.specs.declared.spots.Spot.{Spot}

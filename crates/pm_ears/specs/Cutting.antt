@@ -1,5 +1,6 @@
 -- How a polygon is cut into triangles: a fan from its first corner, or ears where that overlaps.
-use Rattle.std.specs.Prelude.{◌≡◌, ◌-◌, nat_lt, pos, int_lt, Bool, List, [], ◌∷◌, Option, None, Some, length, map, if◌then◌else◌}
+use Rattle.std.specs.Prelude.{◌≡◌, ◌-◌, nat_lt, pos, int_lt, Bool, List, [], ◌∷◌, Option, None}
+use Rattle.std.specs.Prelude.{Some, length, map, if◌then◌else◌}
 use Rattle.std.specs.List.{list_any}
 use Rattle.pm_base.specs.declared.mesh.Corners.{Corners}
 use Rattle.pm_base.specs.Place.{Place}

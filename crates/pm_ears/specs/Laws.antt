@@ -1,5 +1,6 @@
 -- The laws of cut polygons, each as a statement.
-use Rattle.std.specs.Prelude.{◌≡◌, ℕ, ◌+◌, ◌<◌, ◌≤◌, ℤ, pos, ◌+ℤ◌, ◌≤ℤ◌, unsigned_abs, true, false, Some, List, [], ◌∷◌, length, map}
+use Rattle.std.specs.Prelude.{◌≡◌, ℕ, ◌+◌, ◌<◌, ◌≤◌, ℤ, pos, ◌+ℤ◌, ◌≤ℤ◌, unsigned_abs, true, false}
+use Rattle.std.specs.Prelude.{Some, List, [], ◌∷◌, length, map}
 use Rattle.std.specs.List.{All, Any}
 use Rattle.pm_base.specs.Place.{Place}
 use Rattle.pm_base.specs.declared.mesh.Corners.{Corners}

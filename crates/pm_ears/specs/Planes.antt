@@ -1,5 +1,6 @@
 -- Polygons on the plane of two axes on which they show their largest area.
-use Rattle.std.specs.Prelude.{ℕ, ◌+◌, nat_le, ℤ, pos, int_lt, unsigned_abs, Bool, true, false, ◌&&◌, List, [], ◌∷◌, if◌then◌else◌}
+use Rattle.std.specs.Prelude.{ℕ, ◌+◌, nat_le, ℤ, pos, int_lt, unsigned_abs, Bool, true, false, ◌&&◌}
+use Rattle.std.specs.Prelude.{List, [], ◌∷◌, if◌then◌else◌}
 use Rattle.pm_base.specs.Place.{Place}
 use Rattle.pm_ears.specs.declared.plane.Axis.{Axis}
 use Rattle.pm_ears.specs.declared.plane.Axis.TheVariants as axes

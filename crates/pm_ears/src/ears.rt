@@ -5,7 +5,8 @@ ghost use Rattle.std.specs.Prelude.{◌≡◌, ◌+◌, ◌-◌, ◌<◌, ◌≤
 ghost use Rattle.std.specs.Option.{option_map};
 ghost use Rattle.pm_ears.specs.declared.cut.TheConstants.{MOST_EAR_CORNERS};
 ghost use Rattle.pm_ears.specs.Cutting.{named as named_of, few_ears as few_ears_of};
-ghost use Rattle.pm_ears.specs.Ears.{is_ear as is_ear_of, is_flat as is_flat_of, first_from, next_ear as next_ear_of, ears as ears_of};
+ghost use Rattle.pm_ears.specs.Ears.{is_ear as is_ear_of, is_flat as is_flat_of, first_from};
+ghost use Rattle.pm_ears.specs.Ears.{next_ear as next_ear_of, ears as ears_of};
 ghost use Rattle.pm_ears.specs.Counted.{AreCounted};
 
 use crate::OutOfMemory;

@@ -1,8 +1,10 @@
 //! The plane of two axes on which a polygon shows its largest area.
-ghost use Rattle.std.specs.Prelude.{◌≡◌, ◌+◌, ◌*◌, ◌<◌, ◌≤◌, ◌^◌, ◌+ℤ◌, length, slice_index_or, unsigned_abs, IfOk};
+ghost use Rattle.std.specs.Prelude.{◌≡◌, ◌+◌, ◌*◌, ◌<◌, ◌≤◌, ◌^◌, ◌+ℤ◌, length, slice_index_or};
+ghost use Rattle.std.specs.Prelude.{unsigned_abs, IfOk};
 ghost use Rattle.pm_base.specs.declared.limits.TheConstants.{MOST_FACES};
 ghost use Rattle.pm_ears.specs.Areas.{nowhere, cross_of, along};
-ghost use Rattle.pm_ears.specs.Planes.{across as across_of, spot_of, spots_on, newell, facing as facing_of, largest_of, plane_of};
+ghost use Rattle.pm_ears.specs.Planes.{across as across_of, spot_of, spots_on, newell};
+ghost use Rattle.pm_ears.specs.Planes.{facing as facing_of, largest_of, plane_of};
 
 use crate::OutOfMemory;
 use crate::spots::{Spot, cross};

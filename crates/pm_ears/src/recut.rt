@@ -2,7 +2,11 @@
 ghost use Rattle.std.specs.Prelude.{◌≡◌, ◌<◌, ◌≤◌, ◌+◌, length, map, IfOk};
 ghost use Rattle.std.specs.List.{All};
 ghost use Rattle.pm_base.specs.declared.limits.TheConstants.{MOST_FACES};
-ghost use Rattle.pm_ears.specs.Recutting.{AreBelow, IsPolygonWithin, IsFateOf, IsRecutOf, by_corners, corners_of as corners_of_fan, fan_at as fan_at_of, first_two as first_two_of, names_three as names_three_in, places_of as places_of_corners, put_at};
+ghost use Rattle.pm_ears.specs.Recutting.{AreBelow, IsPolygonWithin, IsFateOf, IsRecutOf};
+ghost use Rattle.pm_ears.specs.Recutting.{by_corners, corners_of as corners_of_fan};
+ghost use Rattle.pm_ears.specs.Recutting.{fan_at as fan_at_of, first_two as first_two_of};
+ghost use Rattle.pm_ears.specs.Recutting.{names_three as names_three_in};
+ghost use Rattle.pm_ears.specs.Recutting.{places_of as places_of_corners, put_at};
 
 use crate::OutOfMemory;
 use crate::cut::{CutKind, cut_polygon};

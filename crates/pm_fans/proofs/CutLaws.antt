@@ -1,6 +1,8 @@
 -- Sides that are cut open, by the map of all sides by their ends.
-use Rattle.std.proofs.Common.{◌≡◌, ◌≢◌, ℕ, zero, suc, ◌+◌, ◌<◌, ◌≤◌, eqb, ltb, Bool, true, false, ◌&&◌, ◌||◌, inl, inr, sym, ap, ◌∙◌, subst, Option, Some, None, arith}
-use Rattle.std.proofs.lemmas.Bool.{eqb-true, eq-eqb, cases_eq, cases_Bool, true≢false, and_parts, and_from, ltb-true, lt-ltb, false_from_ne_true}
+use Rattle.std.proofs.Common.{◌≡◌, ◌≢◌, ℕ, zero, suc, ◌+◌, ◌<◌, ◌≤◌, eqb, ltb, Bool, true, false}
+use Rattle.std.proofs.Common.{◌&&◌, ◌||◌, inl, inr, sym, ap, ◌∙◌, subst, Option, Some, None, arith}
+use Rattle.std.proofs.lemmas.Bool.{eqb-true, eq-eqb, cases_eq, cases_Bool, true≢false, and_parts}
+use Rattle.std.proofs.lemmas.Bool.{and_from, ltb-true, lt-ltb, false_from_ne_true}
 use Rattle.std.specs.Int.{from_bool}
 use Rattle.pm_base.specs.Counts.{count}
 use Rattle.pm_base.specs.Sides.{Net, side_count, to, stands}
@@ -23,7 +25,8 @@ count_one p (suc n) k h =
     elim (cases_Bool (p n)) [
       | inl e ↦
           let is : n ≡ k = h n (omega arith) e in
-          let none = count_none p n (λ i l f. (let same : i ≡ k = h i (omega arith) f in absurd (omega arith))) in
+          let none = count_none p n (λ i l f. (let same : i ≡ k = h i (omega arith) f in
+          absurd (omega arith))) in
           let a = count-true p n e in
           omega arith
       | inr e ↦
@@ -44,7 +47,8 @@ count_some p (suc n) i l e =
           omega arith
     ]
 
-count_two : (p : ℕ → Bool) (n i j : ℕ) → i < n → j < n → i ≢ j → p i ≡ true → p j ≡ true → 1 < count p n
+count_two : (p : ℕ → Bool) (n i j : ℕ) → i < n → j < n → i ≢ j → p i ≡ true → p j ≡ true
+    → 1 < count p n
 count_two p zero i j il jl ne ei ej = absurd (omega arith)
 count_two p (suc n) i j il jl ne ei ej =
     elim (cases_eq i n) [
@@ -61,7 +65,10 @@ count_two p (suc n) i j il jl ne ei ej =
                 omega arith
             | inr differ ↦
                 let r = count_two p n i j (omega arith) (omega arith) ne ei ej in
-                elim (cases_Bool (p n)) [ inl f ↦ (let a = count-true p n f in omega arith) | inr f ↦ (let a = count-false p n f in omega arith) ]
+                elim (cases_Bool (p n)) [
+                  | inl f ↦ (let a = count-true p n f in omega arith)
+                  | inr f ↦ (let a = count-false p n f in omega arith)
+                ]
           ]
     ]
 
@@ -69,7 +76,9 @@ module _ (m : Net) (ok : IsCuttable m) (p q : ℕ) (low : q < 4294967296) where
   runs_true : (e : ℕ) → e < side_count m → ends_key_at m e ≡ ends_key p q → side_runs m p q e ≡ true
   runs_true e l is =
       let at = runs_between m ok e p q l low is in
-      and_from (stands m e) (eqb (m.from e) p && eqb (to m e) q) (stands_is_true m e (ok.stand e l)) (and_from (eqb (m.from e) p) (eqb (to m e) q) (eq-eqb (m.from e) p at.0) (eq-eqb (to m e) q at.1))
+      and_from (stands m e) (eqb (m.from e) p && eqb (to m e) q) (stands_is_true m e (ok.stand e l))
+      (and_from (eqb (m.from e) p) (eqb (to m e) q) (eq-eqb (m.from e) p at.0)
+      (eq-eqb (to m e) q at.1))
 
   true_runs : (e : ℕ) → side_runs m p q e ≡ true → ends_key_at m e ≡ ends_key p q
   true_runs e is =
@@ -77,34 +86,46 @@ module _ (m : Net) (ok : IsCuttable m) (p q : ℕ) (low : q < 4294967296) where
       let ends = and_parts (eqb (m.from e) p) (eqb (to m e) q) both.1 in
       key_is m ok e p q (eqb-true (m.from e) p ends.0) (eqb-true (to m e) q ends.1)
 
-  not_many : count (side_runs m p q) (side_count m) ≤ 1 → ltb 1 (count (side_runs m p q) (side_count m)) ≡ false
-  not_many le = false_from_ne_true (ltb 1 (count (side_runs m p q) (side_count m))) (λ e. let more = ltb-true 1 (count (side_runs m p q) (side_count m)) e in absurd (omega arith))
+  not_many : count (side_runs m p q) (side_count m) ≤ 1
+      → ltb 1 (count (side_runs m p q) (side_count m)) ≡ false
+  not_many le =
+      false_from_ne_true (ltb 1 (count (side_runs m p q) (side_count m))) (λ e. let more =
+      ltb-true 1 (count (side_runs m p q) (side_count m)) e in absurd (omega arith))
 
-  pub many_none : (r : Option ℕ) → IsNoted m (side_count m) (ends_key p q) r → r ≡ None → ltb 1 (count (side_runs m p q) (side_count m)) ≡ false
+  pub many_none : (r : Option ℕ) → IsNoted m (side_count m) (ends_key p q) r → r ≡ None
+      → ltb 1 (count (side_runs m p q) (side_count m)) ≡ false
   many_none r h is =
       let none = subst (IsNoted m (side_count m) (ends_key p q)) is h in
       let zero' = count_none (side_runs m p q) (side_count m) (λ e l t. none e l (true_runs e t)) in
       not_many (omega arith)
 
-  pub many_some : (r : Option ℕ) (v : ℕ) → IsNoted m (side_count m) (ends_key p q) r → r ≡ Some v → ltb 1 (count (side_runs m p q) (side_count m)) ≡ eqb v 4294967295
+  pub many_some : (r : Option ℕ) (v : ℕ) → IsNoted m (side_count m) (ends_key p q) r → r ≡ Some v
+      → ltb 1 (count (side_runs m p q) (side_count m)) ≡ eqb v 4294967295
   many_some r v h is =
       elim (subst (IsNoted m (side_count m) (ends_key p q)) is h) [
         | inl a ↦
-            let one = count_one (side_runs m p q) (side_count m) v (λ e l t. a.alone e l (true_runs e t)) in
+            let one = count_one (side_runs m p q) (side_count m) v
+            (λ e l t. a.alone e l (true_runs e t)) in
             let l = a.in_range in
             let few = ok.short in
             let ne : v ≢ 4294967295 = omega arith in
-            not_many one ∙ sym (false_from_ne_true (eqb v 4294967295) (λ e. ne (eqb-true v 4294967295 e)))
+            not_many one
+            ∙ sym (false_from_ne_true (eqb v 4294967295) (λ e. ne (eqb-true v 4294967295 e)))
         | inr s ↦
-            let two = count_two (side_runs m p q) (side_count m) s.one s.other s.one_in s.other_in s.differ (runs_true s.one s.one_in s.one_has) (runs_true s.other s.other_in s.other_has) in
+            let two = count_two (side_runs m p q) (side_count m) s.one s.other s.one_in s.other_in
+            s.differ (runs_true s.one s.one_in s.one_has)
+            (runs_true s.other s.other_in s.other_has) in
             lt-ltb 1 (count (side_runs m p q) (side_count m)) two ∙ sym (eq-eqb v 4294967295 s.mark)
       ]
 
-pub cut_here : (m : Net) (p q e : ℕ) (a b : Bool) → p ≡ m.from e → q ≡ to m e → a ≡ ltb 1 (count (side_runs m p q) (side_count m)) → a ≡ false → b ≡ ltb 1 (count (side_runs m q p) (side_count m)) → b ≡ is_cut m e
+pub cut_here : (m : Net) (p q e : ℕ) (a b : Bool) → p ≡ m.from e → q ≡ to m e
+    → a ≡ ltb 1 (count (side_runs m p q) (side_count m)) → a ≡ false
+    → b ≡ ltb 1 (count (side_runs m q p) (side_count m)) → b ≡ is_cut m e
 unfolding is_cut
 cut_here m p q e a b pe qe along none back =
     let many : ℕ → ℕ → Bool = λ i j. ltb 1 (count (side_runs m i j) (side_count m)) in
-    let one : many (m.from e) (to m e) ≡ false = ap (λ i. many i (to m e)) (sym pe) ∙ ap (many p) (sym qe) ∙ sym along ∙ none in
+    let one : many (m.from e) (to m e) ≡ false =
+    ap (λ i. many i (to m e)) (sym pe) ∙ ap (many p) (sym qe) ∙ sym along ∙ none in
     let two : b ≡ many (to m e) (m.from e) = back ∙ ap (λ i. many i p) qe ∙ ap (many (to m e)) pe in
     two ∙ sym (ap (λ z. z || many (to m e) (m.from e)) one)
 
@@ -112,7 +133,8 @@ pub bit_le : (b : Bool) → from_bool b ≤ 1
 bit_le true = omega arith
 bit_le false = omega arith
 
-pub cut_more : (m : Net) (n c d : ℕ) (b : Bool) → c ≡ count (is_cut m) n → d ≡ from_bool b → b ≡ is_cut m n → c + d ≡ count (is_cut m) (n + 1)
+pub cut_more : (m : Net) (n c d : ℕ) (b : Bool) → c ≡ count (is_cut m) n → d ≡ from_bool b
+    → b ≡ is_cut m n → c + d ≡ count (is_cut m) (n + 1)
 cut_more m n c d b so_far bit is =
     let s : n + 1 ≡ suc n = omega arith in
     let more : c + from_bool b ≡ count (is_cut m) (suc n) =

@@ -1,5 +1,8 @@
--- Sides that stand once are told by their two ends, and two that run back along one another are glued.
-use Rattle.std.proofs.Common.{◌≡◌, ◌≢◌, ℕ, ◌+◌, ◌*◌, ◌/◌, ◌<◌, ◌≤◌, true, false, inl, inr, refl, sym, ap, ◌∙◌, subst, Option, Some, None, List, [], length, slice_index_or, arith}
+-- Sides that stand once are told by their two ends, and two that run back along one another are
+-- glued.
+use Rattle.std.proofs.Common.{◌≡◌, ◌≢◌, ℕ, ◌+◌, ◌*◌, ◌/◌, ◌<◌, ◌≤◌, true, false, inl, inr, refl}
+use Rattle.std.proofs.Common.{sym, ap, ◌∙◌, subst, Option, Some, None, List, [], length}
+use Rattle.std.proofs.Common.{slice_index_or, arith}
 use Rattle.std.specs.Option.{IfSome, MatchOption, is_some, option_map}
 use Rattle.std.specs.Ordering.{nat_cmp}
 use Rattle.std.specs.BTreeMap.{BTreeMap, get, is_at, Updates}
@@ -17,7 +20,8 @@ use Rattle.pm_fans.specs.Ends.{ends_key, ends_key_at, IsAloneWithKey, AreSeveral
 use Rattle.pm_fans.proofs.KeyLaws.{equal_is}
 
 -- Two ends are known from their key.
-ends_are : (p q r s : ℕ) → q < 4294967296 → s < 4294967296 → ends_key p q ≡ ends_key r s → (p ≡ r) × (q ≡ s)
+ends_are : (p q r s : ℕ) → q < 4294967296 → s < 4294967296 → ends_key p q ≡ ends_key r s
+    → (p ≡ r) × (q ≡ s)
 ends_are p q r s ql sl e =
     let b : ℕ = 4294967296 in
     let one : p ≡ r = sym (div-mul-add p b q ql) ∙ ap (λ n. n / b) e ∙ div-mul-add r b s sl in
@@ -26,65 +30,123 @@ ends_are p q r s ql sl e =
 
 -- Before any side none has a key.
 pub none_noted : (m : Net) (map : BTreeMap ℕ ℕ) → map.entries ≡ [] → AreNoted m 0 map
-none_noted m map is k = subst (IsNoted m 0 k) (sym (ap (lookup (is_at (nat_cmp k))) is)) (λ e l. absurd (omega arith))
+none_noted m map is k =
+    subst (IsNoted m 0 k) (sym (ap (lookup (is_at (nat_cmp k))) is)) (λ e l. absurd (omega arith))
 
 several_on : (m : Net) (n k v : ℕ) → AreSeveral m n k v → AreSeveral m (n + 1) k v
 several_on m n k v s =
     let one = s.one_in in
     let other = s.other_in in
-    record { mark = s.mark; one = s.one; other = s.other; one_in = omega arith; other_in = omega arith; differ = s.differ; one_has = s.one_has; other_has = s.other_has }
+    record {
+      mark = s.mark;
+      one = s.one;
+      other = s.other;
+      one_in = omega arith;
+      other_in = omega arith;
+      differ = s.differ;
+      one_has = s.one_has;
+      other_has = s.other_has;
+    }
 
 -- One more side with another key.
-noted_other : (m : Net) (n k : ℕ) (r : Option ℕ) → ends_key_at m n ≢ k → IsNoted m n k r → IsNoted m (n + 1) k r
-noted_other m n k None ne h = λ e l. elim (cases_eq e n) [ inl same ↦ (λ is. ne (ap (ends_key_at m) (sym same) ∙ is)) | inr other ↦ h e (omega arith) ]
+noted_other : (m : Net) (n k : ℕ) (r : Option ℕ) → ends_key_at m n ≢ k → IsNoted m n k r
+    → IsNoted m (n + 1) k r
+noted_other m n k None ne h =
+    λ e l. elim (cases_eq e n) [
+      | inl same ↦ (λ is. ne (ap (ends_key_at m) (sym same) ∙ is))
+      | inr other ↦ h e (omega arith)
+    ]
 noted_other m n k (Some v) ne (inl a) =
     let low = a.in_range in
     inl (record {
       in_range = omega arith;
       has = a.has;
-      alone = λ e l is. elim (cases_eq e n) [ inl same ↦ absurd (ne (ap (ends_key_at m) (sym same) ∙ is)) | inr other ↦ a.alone e (omega arith) is ];
+      alone = λ e l is. elim (cases_eq e n) [
+        | inl same ↦
+            absurd (ne (ap (ends_key_at m) (sym same) ∙ is))
+        | inr other ↦
+            a.alone e (omega arith) is
+      ];
     })
 noted_other m n k (Some v) ne (inr s) = inr (several_on m n k v s)
 
 -- One more side with this key: the first, or one of several.
-noted_first : (m : Net) (n k : ℕ) → ends_key_at m n ≡ k → IsNoted m n k None → IsNoted m (n + 1) k (Some n)
+noted_first : (m : Net) (n k : ℕ) → ends_key_at m n ≡ k → IsNoted m n k None
+    → IsNoted m (n + 1) k (Some n)
 noted_first m n k is none = inl (record {
   in_range = omega arith;
   has = is;
-  alone = λ e l h. elim (cases_eq e n) [ inl same ↦ same | inr other ↦ absurd (none e (omega arith) h) ];
+  alone = λ e l h. elim (cases_eq e n) [
+    | inl same ↦ same
+    | inr other ↦
+        absurd (none e (omega arith) h)
+  ];
 })
 
-noted_again : (m : Net) (n k v : ℕ) → ends_key_at m n ≡ k → IsNoted m n k (Some v) → IsNoted m (n + 1) k (Some 4294967295)
+noted_again : (m : Net) (n k v : ℕ) → ends_key_at m n ≡ k → IsNoted m n k (Some v)
+    → IsNoted m (n + 1) k (Some 4294967295)
 noted_again m n k v is (inl a) =
     let low = a.in_range in
-    inr (record { mark = refl; one = v; other = n; one_in = omega arith; other_in = omega arith; differ = omega arith; one_has = a.has; other_has = is })
+    inr (record {
+      mark = refl;
+      one = v;
+      other = n;
+      one_in = omega arith;
+      other_in = omega arith;
+      differ = omega arith;
+      one_has = a.has;
+      other_has = is;
+    })
 noted_again m n k v is (inr s) =
     let more = several_on m n k v s in
-    inr (record { mark = refl; one = more.one; other = more.other; one_in = more.one_in; other_in = more.other_in; differ = more.differ; one_has = more.one_has; other_has = more.other_has })
+    inr (record {
+      mark = refl;
+      one = more.one;
+      other = more.other;
+      one_in = more.one_in;
+      other_in = more.other_in;
+      differ = more.differ;
+      one_has = more.one_has;
+      other_has =
+          more.other_has;
+    })
 
-noted_at : (m : Net) (n w : ℕ) (s t : BTreeMap ℕ ℕ) → AreNoted m n s → Updates nat_cmp s t (ends_key_at m n) (Some w) → IsNoted m (n + 1) (ends_key_at m n) (Some w) → AreNoted m (n + 1) t
+noted_at : (m : Net) (n w : ℕ) (s t : BTreeMap ℕ ℕ) → AreNoted m n s
+    → Updates nat_cmp s t (ends_key_at m n) (Some w) → IsNoted m (n + 1) (ends_key_at m n) (Some w)
+    → AreNoted m (n + 1) t
 noted_at m n w s t noted u now k =
     elim (cases_eq (ends_key_at m n) k) [
       | inl same ↦
-          let at : get nat_cmp t k ≡ Some w = u.0 k ∙ cond-true _ _ _ (equal_is (ends_key_at m n) k ∙ eq-eqb _ _ same) in
+          let at : get nat_cmp t k ≡ Some w =
+          u.0 k ∙ cond-true _ _ _ (equal_is (ends_key_at m n) k ∙ eq-eqb _ _ same) in
           subst (IsNoted m (n + 1) k) (sym at) (subst (λ j. IsNoted m (n + 1) j (Some w)) same now)
       | inr ne ↦
-          let at : get nat_cmp t k ≡ get nat_cmp s k = u.0 k ∙ cond-false _ _ _ (equal_is (ends_key_at m n) k ∙ ne_eqb _ _ ne) in
+          let at : get nat_cmp t k ≡ get nat_cmp s k =
+          u.0 k ∙ cond-false _ _ _ (equal_is (ends_key_at m n) k ∙ ne_eqb _ _ ne) in
           subst (IsNoted m (n + 1) k) (sym at) (noted_other m n k (get nat_cmp s k) ne (noted k))
     ]
 
-pub first_noted : (m : Net) (n : ℕ) (s t : BTreeMap ℕ ℕ) → AreNoted m n s → is_some (get nat_cmp s (ends_key_at m n)) ≡ false → Updates nat_cmp s t (ends_key_at m n) (Some n) → AreNoted m (n + 1) t
+pub first_noted : (m : Net) (n : ℕ) (s t : BTreeMap ℕ ℕ) → AreNoted m n s
+    → is_some (get nat_cmp s (ends_key_at m n)) ≡ false
+    → Updates nat_cmp s t (ends_key_at m n) (Some n) → AreNoted m (n + 1) t
 first_noted m n s t noted none u =
     elim (option_cases (get nat_cmp s (ends_key_at m n))) [
-      | inl is ↦ noted_at m n n s t noted u (noted_first m n (ends_key_at m n) refl (subst (IsNoted m n (ends_key_at m n)) is (noted (ends_key_at m n))))
+      | inl is ↦ noted_at m n n s t noted u
+          (noted_first m n (ends_key_at m n) refl
+          (subst (IsNoted m n (ends_key_at m n)) is (noted (ends_key_at m n))))
       | inr (v, is) ↦ absurd (true≢false (sym (ap is_some is) ∙ none))
     ]
 
-pub again_noted : (m : Net) (n : ℕ) (s t : BTreeMap ℕ ℕ) → AreNoted m n s → is_some (get nat_cmp s (ends_key_at m n)) ≡ true → Updates nat_cmp s t (ends_key_at m n) (Some 4294967295) → AreNoted m (n + 1) t
+pub again_noted : (m : Net) (n : ℕ) (s t : BTreeMap ℕ ℕ) → AreNoted m n s
+    → is_some (get nat_cmp s (ends_key_at m n)) ≡ true
+    → Updates nat_cmp s t (ends_key_at m n) (Some 4294967295) → AreNoted m (n + 1) t
 again_noted m n s t noted some u =
     elim (option_cases (get nat_cmp s (ends_key_at m n))) [
       | inl is ↦ absurd (true≢false (sym some ∙ ap is_some is))
-      | inr (v, is) ↦ noted_at m n 4294967295 s t noted u (noted_again m n (ends_key_at m n) v refl (subst (IsNoted m n (ends_key_at m n)) is (noted (ends_key_at m n))))
+      | inr (v, is) ↦
+          noted_at m n 4294967295 s t noted u
+          (noted_again m n (ends_key_at m n) v refl
+          (subst (IsNoted m n (ends_key_at m n)) is (noted (ends_key_at m n))))
     ]
 
 module _ (m : Net) (ok : IsCuttable m) where
@@ -92,90 +154,134 @@ module _ (m : Net) (ok : IsCuttable m) where
   ends_low e l = ok.low (next e) (next-lt m.faces e l)
 
   -- A side that runs from p to q, by its key.
-  pub runs_between : (e p q : ℕ) → e < side_count m → q < 4294967296 → ends_key_at m e ≡ ends_key p q → (m.from e ≡ p) × (to m e ≡ q)
+  pub runs_between : (e p q : ℕ) → e < side_count m → q < 4294967296
+      → ends_key_at m e ≡ ends_key p q → (m.from e ≡ p) × (to m e ≡ q)
   runs_between e p q l ql is = ends_are (m.from e) (to m e) p q (ends_low e l) ql is
 
   pub key_is : (e p q : ℕ) → m.from e ≡ p → to m e ≡ q → ends_key_at m e ≡ ends_key p q
   key_is e p q a b = ap (λ i. ends_key i (to m e)) a ∙ ap (ends_key p) b
 
   -- Two sides that run back along one another and stand once are glued.
-  pub both_alone : (e v g : ℕ) → e < side_count m → IsAloneWithKey m (side_count m) (ends_key (m.from e) (to m e)) v → IsAloneWithKey m (side_count m) (ends_key (to m e) (m.from e)) g → IsGlued m e g
+  pub both_alone : (e v g : ℕ) → e < side_count m
+      → IsAloneWithKey m (side_count m) (ends_key (m.from e) (to m e)) v
+      → IsAloneWithKey m (side_count m) (ends_key (to m e) (m.from e)) g → IsGlued m e g
   both_alone e v g l a b =
       let at = runs_between g (to m e) (m.from e) b.in_range (ok.low e l) b.has in
       record {
         stands = ok.stand e l;
         twin = record { stands = ok.stand g b.in_range; begins = at.0; ends = at.1 };
-        one = λ k t p q. a.alone k t.is_side (key_is k (m.from e) (to m e) p q) ∙ sym (a.alone e l refl);
+        one = λ k t p q. a.alone k t.is_side (key_is k (m.from e) (to m e) p q)
+            ∙ sym (a.alone e l refl);
         other = λ k w. b.alone k w.stands.is_side (key_is k (to m e) (m.from e) w.begins w.ends);
       }
 
-  pub not_alone : (e : ℕ) → e < side_count m → ((v : ℕ) → IsAloneWithKey m (side_count m) (ends_key (m.from e) (to m e)) v → ⊥) → (g : ℕ) → IsGlued m e g → ⊥
+  pub not_alone : (e : ℕ) → e < side_count m
+      → ((v : ℕ) → IsAloneWithKey m (side_count m) (ends_key (m.from e) (to m e)) v → ⊥) → (g : ℕ)
+      → IsGlued m e g → ⊥
   not_alone e l none g w = none e (record {
     in_range = l;
     has = refl;
-    alone = λ k lk h. (let at = runs_between k (m.from e) (to m e) lk (ends_low e l) h in w.one k (ok.stand k lk) at.0 at.1);
+    alone = λ k lk h. (let at = runs_between k (m.from e) (to m e) lk (ends_low e l) h in
+        w.one k (ok.stand k lk) at.0 at.1);
   })
 
-  pub back_not_alone : (e : ℕ) → e < side_count m → ((v : ℕ) → IsAloneWithKey m (side_count m) (ends_key (to m e) (m.from e)) v → ⊥) → (g : ℕ) → IsGlued m e g → ⊥
+  pub back_not_alone : (e : ℕ) → e < side_count m
+      → ((v : ℕ) → IsAloneWithKey m (side_count m) (ends_key (to m e) (m.from e)) v → ⊥) → (g : ℕ)
+      → IsGlued m e g → ⊥
   back_not_alone e l none g w = none g (record {
     in_range = w.twin.stands.is_side;
     has = key_is g (to m e) (m.from e) w.twin.begins w.twin.ends;
-    alone = λ k lk h. (let at = runs_between k (to m e) (m.from e) lk (ok.low e l) h in w.other k (record { stands = ok.stand k lk; begins = at.0; ends = at.1 }));
+    alone = λ k lk h. (let at = runs_between k (to m e) (m.from e) lk (ok.low e l) h in
+        w.other k (record { stands = ok.stand k lk; begins = at.0; ends = at.1 }));
   })
 
 -- What a search for the side with a key answers.
 abbrev pub IsFound : Net → ℕ → Option Side → Type 0
-IsFound m k r = MatchOption r ((v : ℕ) → IsAloneWithKey m (side_count m) k v → ⊥) (λ v. IsAloneWithKey m (side_count m) k v.0)
+IsFound m k r =
+    MatchOption r ((v : ℕ) → IsAloneWithKey m (side_count m) k v
+    → ⊥) (λ v. IsAloneWithKey m (side_count m) k v.0)
 
-module _ (m : Net) (ok : IsCuttable m) (e p q : ℕ) (l : e < side_count m) (begins : p ≡ m.from e) (ends : q ≡ to m e) where
-  ahead : (r : Option Side) → IsFound m (ends_key p q) r → IsFound m (ends_key (m.from e) (to m e)) r
-  ahead r h = subst (λ k. IsFound m k r) (ap (λ i. ends_key i q) begins ∙ ap (ends_key (m.from e)) ends) h
+module _ (m : Net) (ok : IsCuttable m) (e p q : ℕ) (l : e < side_count m) (begins : p ≡ m.from e)
+    (ends : q ≡ to m e) where
+  ahead : (r : Option Side) → IsFound m (ends_key p q) r
+      → IsFound m (ends_key (m.from e) (to m e)) r
+  ahead r h = subst (λ k. IsFound m k r) (ap (λ i. ends_key i q) begins
+      ∙ ap (ends_key (m.from e)) ends) h
 
   back : (r : Option Side) → IsFound m (ends_key q p) r → IsFound m (ends_key (to m e) (m.from e)) r
-  back r h = subst (λ k. IsFound m k r) (ap (λ i. ends_key i p) ends ∙ ap (ends_key (to m e)) begins) h
+  back r h = subst (λ k. IsFound m k r) (ap (λ i. ends_key i p) ends
+      ∙ ap (ends_key (to m e)) begins) h
 
-  pub stands_not_alone : (r : Option Side) → IsFound m (ends_key p q) r → is_some r ≡ false → (g : ℕ) → IsGlued m e g → ⊥
+  pub stands_not_alone : (r : Option Side) → IsFound m (ends_key p q) r → is_some r ≡ false
+      → (g : ℕ) → IsGlued m e g → ⊥
   stands_not_alone None h none = not_alone m ok e l (ahead None h)
   stands_not_alone (Some v) h none = absurd (true≢false none)
 
-  pub glued_found : (r s : Option Side) → IsFound m (ends_key p q) r → is_some r ≡ true → IsFound m (ends_key q p) s → MatchOption s ((g : ℕ) → IsGlued m e g → ⊥) (λ g. IsGlued m e g.0)
+  pub glued_found : (r s : Option Side) → IsFound m (ends_key p q) r → is_some r ≡ true
+      → IsFound m (ends_key q p) s
+      → MatchOption s ((g : ℕ) → IsGlued m e g → ⊥) (λ g. IsGlued m e g.0)
   glued_found None s h some k = absurd (true≢false (sym some))
   glued_found (Some v) None h some k = back_not_alone m ok e l (back None k)
-  glued_found (Some v) (Some g) h some k = both_alone m ok e v.0 g.0 l (ahead (Some v) h) (back (Some g) k)
+  glued_found (Some v) (Some g) h some k =
+      both_alone m ok e v.0 g.0 l (ahead (Some v) h) (back (Some g) k)
 
 -- The table of all sides has that of each of the first n.
 pub record AreGluedTo (m : Net) (n : ℕ) (glued : List (Option ℕ)) : Type 0 where
   pub sides : length glued ≡ side_count m
-  pub each : (e : ℕ) → e < n → MatchOption (slice_index_or glued e None) ((g : ℕ) → IsGlued m e g → ⊥) (λ g. IsGlued m e g)
+  pub each : (e : ℕ) → e < n
+      → MatchOption (slice_index_or glued e None) ((g : ℕ) → IsGlued m e g → ⊥) (λ g. IsGlued m e g)
 
-pub none_glued : (m : Net) (glued : List (Option ℕ)) → glued ≡ replicate (side_count m) None → AreGluedTo m 0 glued
-none_glued m glued is = record { sides = ap length is ∙ length-replicate (side_count m) None; each = λ e l. absurd (omega (arith, l)) }
+pub none_glued : (m : Net) (glued : List (Option ℕ)) → glued ≡ replicate (side_count m) None
+    → AreGluedTo m 0 glued
+none_glued m glued is =
+    record {
+      sides = ap length is ∙ length-replicate (side_count m) None;
+      each =
+          λ e l. absurd (omega (arith, l));
+    }
 
-told : (m : Net) (e : ℕ) (r : Option Side) → MatchOption r ((g : ℕ) → IsGlued m e g → ⊥) (λ g. IsGlued m e g.0) → MatchOption (option_map (λ s. s.0) r) ((g : ℕ) → IsGlued m e g → ⊥) (λ g. IsGlued m e g)
+told : (m : Net) (e : ℕ) (r : Option Side)
+    → MatchOption r ((g : ℕ) → IsGlued m e g → ⊥) (λ g. IsGlued m e g.0)
+    → MatchOption (option_map (λ s. s.0) r) ((g : ℕ) → IsGlued m e g → ⊥) (λ g. IsGlued m e g)
 told m e None none = none
 told m e (Some s) glued = glued
 
 -- One more is put in.
-pub glued_more : (m : Net) (n : ℕ) (xs ys : List (Option ℕ)) (r : Option Side) → n < side_count m → AreGluedTo m n xs → ys ≡ set xs n (option_map (λ s. s.0) r) → MatchOption r ((g : ℕ) → IsGlued m n g → ⊥) (λ g. IsGlued m n g.0) → AreGluedTo m (n + 1) ys
+pub glued_more : (m : Net) (n : ℕ) (xs ys : List (Option ℕ)) (r : Option Side) → n < side_count m
+    → AreGluedTo m n xs → ys ≡ set xs n (option_map (λ s. s.0) r)
+    → MatchOption r ((g : ℕ) → IsGlued m n g → ⊥) (λ g. IsGlued m n g.0) → AreGluedTo m (n + 1) ys
 glued_more m n xs ys r low h is now =
     let new : Option ℕ = option_map (λ s. s.0) r in
     record {
       sides = ap length is ∙ length-set xs n new ∙ h.sides;
       each = λ e l. elim (cases_eq e n) [
         | inl same ↦
-            let at : slice_index_or ys e None ≡ new = ap (λ zs. slice_index_or zs e None) is ∙ ap (λ i. slice_index_or (set xs n new) i None) same ∙ get_or-set_same xs n new None (omega (arith, low, h.sides)) in
+            let at : slice_index_or ys e None ≡ new =
+            ap (λ zs. slice_index_or zs e None) is
+            ∙ ap (λ i. slice_index_or (set xs n new) i None) same
+            ∙ get_or-set_same xs n new None (omega (arith, low, h.sides)) in
             subst (λ o. MatchOption o ((g : ℕ) → IsGlued m e g → ⊥) (λ g. IsGlued m e g)) (sym at)
-            (subst (λ i. MatchOption new ((g : ℕ) → IsGlued m i g → ⊥) (λ g. IsGlued m i g)) (sym same) (told m n r now))
+            (subst (λ i. MatchOption new ((g : ℕ) → IsGlued m i g → ⊥) (λ g. IsGlued m i g))
+            (sym same) (told m n r now))
         | inr other ↦
-            let at : slice_index_or ys e None ≡ slice_index_or xs e None = ap (λ zs. slice_index_or zs e None) is ∙ get_or-set_other xs n e new None other in
-            subst (λ o. MatchOption o ((g : ℕ) → IsGlued m e g → ⊥) (λ g. IsGlued m e g)) (sym at) (h.each e (omega arith))
+            let at : slice_index_or ys e None ≡ slice_index_or xs e None =
+            ap (λ zs. slice_index_or zs e None) is ∙ get_or-set_other xs n e new None other in
+            subst (λ o. MatchOption o ((g : ℕ) → IsGlued m e g → ⊥) (λ g. IsGlued m e g)) (sym at)
+            (h.each e (omega arith))
       ];
     }
 
-pub all_glued : (m : Net) (n : ℕ) (glued : List (Option ℕ)) → n ≡ side_count m → AreGluedTo m n glued → AreGlued m (side_count m) glued
-all_glued m n glued all h = record { sides = h.sides; each = λ e l. h.each e (omega (arith, all, l)) }
+pub all_glued : (m : Net) (n : ℕ) (glued : List (Option ℕ)) → n ≡ side_count m
+    → AreGluedTo m n glued → AreGlued m (side_count m) glued
+all_glued m n glued all h = record {
+  sides = h.sides;
+  each = λ e l. h.each e (omega (arith, all, l));
+}
 
 -- A side that is glued to another has a number that sides have.
-pub glued_low : (m : Net) (e most : ℕ) (r : Option Side) → side_count m ≤ most → MatchOption r ((g : ℕ) → IsGlued m e g → ⊥) (λ g. IsGlued m e g.0) → IfSome r (λ s. s.0 < most)
+pub glued_low : (m : Net) (e most : ℕ) (r : Option Side) → side_count m ≤ most
+    → MatchOption r ((g : ℕ) → IsGlued m e g → ⊥) (λ g. IsGlued m e g.0)
+    → IfSome r (λ s. s.0 < most)
 glued_low m e most None few none = tt
-glued_low m e most (Some s) few glued = (let low = glued.twin.stands.is_side in omega (arith, low, few))
+glued_low m e most (Some s) few glued =
+    (let low = glued.twin.stands.is_side in omega (arith, low, few))

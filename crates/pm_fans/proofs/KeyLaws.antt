@@ -1,5 +1,6 @@
 -- Two faces of three different corners are alike where they have the same key.
-use Rattle.std.proofs.Common.{◌≡◌, ℕ, ◌+◌, ◌*◌, ◌/◌, ◌<◌, ◌≤◌, true, false, ◌⊎◌, inl, inr, sym, ap, ◌∙◌, subst, arith}
+use Rattle.std.proofs.Common.{◌≡◌, ℕ, ◌+◌, ◌*◌, ◌/◌, ◌<◌, ◌≤◌, true, false, ◌⊎◌, inl, inr, sym, ap}
+use Rattle.std.proofs.Common.{◌∙◌, subst, arith}
 use Rattle.std.proofs.lemmas.Bool.Decides.{nat_tests}
 use Rattle.std.specs.Prelude.{◌==◌}
 use Rattle.std.specs.Ordering.{nat_cmp, is_eq}
@@ -7,7 +8,8 @@ use Rattle.std.proofs.lemmas.Bool.{cases_Bool, cases_lt, and_parts, true≢false
 use Rattle.std.proofs.lemmas.Nat.{div-mul-add}
 use Rattle.pm_base.specs.declared.mesh.Corners.{Corners}
 use Rattle.pm_fans.specs.Kept.{is_flat, is_corner, is_alike}
-use Rattle.pm_fans.specs.Keys.{least_corner, middle_corner, greatest_corner, corners_key_of, HasShortCorners, IsProperFace}
+use Rattle.pm_fans.specs.Keys.{least_corner, middle_corner, greatest_corner, corners_key_of}
+use Rattle.pm_fans.specs.Keys.{HasShortCorners, IsProperFace}
 use Rattle.pm_fans.proofs.Turned.{Turned, not_flat, HasAll, turned_has, turned_alike, which}
 
 -- The corners in ascending order, and that they are those of the face.
@@ -16,7 +18,8 @@ record IsOrdered (f : Corners) (x y z : ℕ) : Type 0 where
   last : y < z
   are : Turned f x y z ⊎ Turned f x z y
 
-ordered : (f : Corners) → is_flat f ≡ false → IsOrdered f (least_corner f) (middle_corner f) (greatest_corner f)
+ordered : (f : Corners) → is_flat f ≡ false
+    → IsOrdered f (least_corner f) (middle_corner f) (greatest_corner f)
 ordered f flat =
     let d = not_flat f flat in
     let xy = d.xy in
@@ -31,17 +34,22 @@ ordered f flat =
               | inl bc ↦ inl (inl (record { a = omega arith; b = omega arith; c = omega arith }))
               | inr cb ↦
                   elim (cases_lt f.a f.c) [
-                    | inl ac ↦ inr (inl (record { a = omega arith; b = omega arith; c = omega arith }))
-                    | inr ca ↦ inl (inr (inr (record { a = omega arith; b = omega arith; c = omega arith })))
+                    | inl ac ↦ inr
+                        (inl (record { a = omega arith; b = omega arith; c = omega arith }))
+                    | inr ca ↦ inl
+                        (inr (inr (record { a = omega arith; b = omega arith; c = omega arith })))
                   ]
             ]
         | inr ba ↦
             elim (cases_lt f.a f.c) [
-              | inl ac ↦ inr (inr (inl (record { a = omega arith; b = omega arith; c = omega arith })))
+              | inl ac ↦ inr
+                  (inr (inl (record { a = omega arith; b = omega arith; c = omega arith })))
               | inr ca ↦
                   elim (cases_lt f.b f.c) [
-                    | inl bc ↦ inl (inr (inl (record { a = omega arith; b = omega arith; c = omega arith })))
-                    | inr cb ↦ inr (inr (inr (record { a = omega arith; b = omega arith; c = omega arith })))
+                    | inl bc ↦ inl
+                        (inr (inl (record { a = omega arith; b = omega arith; c = omega arith })))
+                    | inr cb ↦ inr
+                        (inr (inr (record { a = omega arith; b = omega arith; c = omega arith })))
                   ]
             ]
       ];
@@ -54,7 +62,8 @@ ordered_has f x y z o = elim o.are [
 ]
 
 -- Faces with the same three corners are alike.
-same_alike : (f g : Corners) (x y z : ℕ) → IsOrdered f x y z → IsOrdered g x y z → is_alike f g ≡ true
+same_alike : (f g : Corners) (x y z : ℕ) → IsOrdered f x y z → IsOrdered g x y z
+    → is_alike f g ≡ true
 same_alike f g x y z o p =
     let h = ordered_has f x y z o in
     elim p.are [
@@ -69,7 +78,11 @@ OneOf x y z w = (x ≡ w) ⊎ ((y ≡ w) ⊎ (z ≡ w))
 ordered_one : (f : Corners) (x y z w : ℕ) → IsOrdered f x y z → is_corner f w ≡ true → OneOf x y z w
 ordered_one f x y z w o h = elim o.are [
   | inl t ↦ which f w x y z t h
-  | inr t ↦ (elim (which f w x z y t h) [ inl e ↦ inl e | inr k ↦ elim k [ inl e ↦ inr (inr e) | inr e ↦ inr (inl e) ] ])
+  | inr t ↦ (elim (which f w x z y t h) [
+    | inl e ↦ inl e
+    | inr k ↦
+        elim k [ inl e ↦ inr (inr e) | inr e ↦ inr (inl e) ]
+  ])
 ]
 
 within : (x y z w : ℕ) → x < y → y < z → OneOf x y z w → (x ≤ w) × (w ≤ z)
@@ -78,14 +91,28 @@ within x y z w xy yz (inr (inl e)) = (omega arith, omega arith)
 within x y z w xy yz (inr (inr e)) = (omega arith, omega arith)
 
 -- Three ascending numbers out of three ascending ones are these.
-same_three : (x y z p q r : ℕ) → x < y → y < z → p < q → q < r → OneOf x y z p → OneOf x y z q → OneOf x y z r → (x ≡ p) × (y ≡ q) × (z ≡ r)
+same_three : (x y z p q r : ℕ) → x < y → y < z → p < q → q < r → OneOf x y z p → OneOf x y z q
+    → OneOf x y z r → (x ≡ p) × (y ≡ q) × (z ≡ r)
 same_three x y z p q r xy yz pq qr ip iq ir =
     let lo = (within x y z p xy yz ip).0 in
     let hi = (within x y z r xy yz ir).1 in
-    let is : y ≡ q = elim iq [ inl e ↦ absurd (omega arith) | inr k ↦ elim k [ inl e ↦ e | inr e ↦ absurd (omega arith) ] ] in (
-      elim ip [ inl e ↦ e | inr k ↦ elim k [ inl e ↦ absurd (omega arith) | inr e ↦ absurd (omega arith) ] ],
+    let is : y ≡ q =
+    elim iq [
+      | inl e ↦ absurd (omega arith)
+      | inr k ↦
+          elim k [ inl e ↦ e | inr e ↦ absurd (omega arith) ]
+    ] in (
+      elim ip [
+        | inl e ↦ e
+        | inr k ↦
+            elim k [ inl e ↦ absurd (omega arith) | inr e ↦ absurd (omega arith) ]
+      ],
       is,
-      elim ir [ inl e ↦ absurd (omega arith) | inr k ↦ elim k [ inl e ↦ absurd (omega arith) | inr e ↦ e ] ],
+      elim ir [
+        | inl e ↦ absurd (omega arith)
+        | inr k ↦
+            elim k [ inl e ↦ absurd (omega arith) | inr e ↦ e ]
+      ],
     )
 
 all_corners : (f g : Corners) (x y z : ℕ) → is_alike f g ≡ true → Turned g x y z → HasAll f x y z
@@ -93,7 +120,8 @@ unfolding is_alike
 all_corners f g x y z e t =
     let (ab, c) = and_parts _ (is_corner f g.c) e in
     let (a, b) = and_parts (is_corner f g.a) (is_corner f g.b) ab in
-    let at = λ (i j : ℕ) (s : i ≡ j) (h : is_corner f i ≡ true). subst (λ n. is_corner f n ≡ true) s h in
+    let at = λ (i j : ℕ) (s : i ≡ j) (h : is_corner f i ≡ true). subst (λ n. is_corner f n ≡ true) s
+    h in
     elim t [
       | inl u ↦ record { one = at _ _ u.a a; two = at _ _ u.b b; three = at _ _ u.c c }
       | inr v ↦ elim v [
@@ -102,25 +130,33 @@ all_corners f g x y z e t =
       ]
     ]
 
-alike_same : (f g : Corners) (x y z p q r : ℕ) → IsOrdered f x y z → IsOrdered g p q r → is_alike f g ≡ true → (x ≡ p) × (y ≡ q) × (z ≡ r)
+alike_same : (f g : Corners) (x y z p q r : ℕ) → IsOrdered f x y z → IsOrdered g p q r
+    → is_alike f g ≡ true → (x ≡ p) × (y ≡ q) × (z ≡ r)
 alike_same f g x y z p q r o s e =
     let h : HasAll f p q r = elim s.are [
       | inl t ↦ all_corners f g p q r e t
-      | inr t ↦ (let h = all_corners f g p r q e t in record { one = h.one; two = h.three; three = h.two })
+      | inr t ↦ (let h =
+          all_corners f g p r q e t in record { one = h.one; two = h.three; three = h.two })
     ] in
-    same_three x y z p q r o.first o.last s.first s.last (ordered_one f x y z p o h.one) (ordered_one f x y z q o h.two) (ordered_one f x y z r o h.three)
+    same_three x y z p q r o.first o.last s.first s.last (ordered_one f x y z p o h.one)
+    (ordered_one f x y z q o h.two) (ordered_one f x y z r o h.three)
 
 -- Three digits are known from their number.
-digits : (x y z p q r : ℕ) → y < 4294967296 → z < 4294967296 → q < 4294967296 → r < 4294967296 → (x * 4294967296 + y) * 4294967296 + z ≡ (p * 4294967296 + q) * 4294967296 + r → (x ≡ p) × (y ≡ q) × (z ≡ r)
+digits : (x y z p q r : ℕ) → y < 4294967296 → z < 4294967296 → q < 4294967296 → r < 4294967296
+    → (x * 4294967296 + y) * 4294967296 + z ≡ (p * 4294967296 + q) * 4294967296 + r
+    → (x ≡ p) × (y ≡ q) × (z ≡ r)
 digits x y z p q r yl zl ql rl e =
     let b : ℕ = 4294967296 in
-    let two : x * b + y ≡ p * b + q = sym (div-mul-add (x * b + y) b z zl) ∙ ap (λ n. n / b) e ∙ div-mul-add (p * b + q) b r rl in
+    let two : x * b + y ≡ p * b + q =
+    sym (div-mul-add (x * b + y) b z zl) ∙ ap (λ n. n / b) e ∙ div-mul-add (p * b + q) b r rl in
     let one : x ≡ p = sym (div-mul-add x b y yl) ∙ ap (λ n. n / b) two ∙ div-mul-add p b q ql in
     let ones : x * b ≡ p * b = ap (λ n. n * b) one in
     let twos : (x * b + y) * b ≡ (p * b + q) * b = ap (λ n. n * b) two in
     (one, omega (arith, ones, two), omega (arith, twos, e))
 
-same_key : (f g : Corners) → HasShortCorners f → HasShortCorners g → corners_key_of f ≡ corners_key_of g → (least_corner f ≡ least_corner g) × (middle_corner f ≡ middle_corner g) × (greatest_corner f ≡ greatest_corner g)
+same_key : (f g : Corners) → HasShortCorners f → HasShortCorners g
+    → corners_key_of f ≡ corners_key_of g → (least_corner f ≡ least_corner g)
+    × (middle_corner f ≡ middle_corner g) × (greatest_corner f ≡ greatest_corner g)
 unfolding corners_key_of
 same_key f g s t e =
     let fa = s.a in
@@ -129,28 +165,35 @@ same_key f g s t e =
     let ga = t.a in
     let gb = t.b in
     let gc = t.c in
-    digits (least_corner f) (middle_corner f) (greatest_corner f) (least_corner g) (middle_corner g) (greatest_corner g) (omega arith) (omega arith) (omega arith) (omega arith) e
+    digits (least_corner f) (middle_corner f) (greatest_corner f) (least_corner g) (middle_corner g)
+    (greatest_corner g) (omega arith) (omega arith) (omega arith) (omega arith) e
 
-key_from : (f g : Corners) → (least_corner f ≡ least_corner g) × (middle_corner f ≡ middle_corner g) × (greatest_corner f ≡ greatest_corner g) → corners_key_of g ≡ corners_key_of f
+key_from : (f g : Corners) → (least_corner f ≡ least_corner g) × (middle_corner f ≡ middle_corner g)
+    × (greatest_corner f ≡ greatest_corner g) → corners_key_of g ≡ corners_key_of f
 unfolding corners_key_of
 key_from f g e =
     let two = ap (λ n. n * 4294967296) e.0 in
-    let three : (least_corner f * 4294967296 + middle_corner f) * 4294967296 ≡ (least_corner g * 4294967296 + middle_corner g) * 4294967296 = ap (λ n. n * 4294967296) (omega (arith, two, e.1)) in
+    let three : (least_corner f * 4294967296 + middle_corner f) * 4294967296
+    ≡ (least_corner g * 4294967296 + middle_corner g) * 4294967296 =
+    ap (λ n. n * 4294967296) (omega (arith, two, e.1)) in
     omega (arith, three, e.2)
 
 pub equal_is : (x y : ℕ) → is_eq (nat_cmp x y) ≡ (x == y)
 equal_is x y = grind (arith, nat_tests)
 
-one_alike : (f g : Corners) → IsProperFace f → IsProperFace g → corners_key_of f ≡ corners_key_of g → is_alike f g ≡ true
+one_alike : (f g : Corners) → IsProperFace f → IsProperFace g → corners_key_of f ≡ corners_key_of g
+    → is_alike f g ≡ true
 one_alike f g p q e =
     let is = same_key f g p.short q.short e in
     let s = ordered g q.flat in
     let there = subst (λ x. IsOrdered g x (middle_corner g) (greatest_corner g)) (sym is.0) s in
     let then = subst (λ y. IsOrdered g (least_corner f) y (greatest_corner g)) (sym is.1) there in
-    same_alike f g _ _ _ (ordered f p.flat) (subst (λ z. IsOrdered g (least_corner f) (middle_corner f) z) (sym is.2) then)
+    same_alike f g _ _ _ (ordered f p.flat)
+    (subst (λ z. IsOrdered g (least_corner f) (middle_corner f) z) (sym is.2) then)
 
 -- Of faces with three different corners: they are alike where they have one key.
-pub alike_key : (f g : Corners) → IsProperFace f → IsProperFace g → is_eq (nat_cmp (corners_key_of g) (corners_key_of f)) ≡ is_alike f g
+pub alike_key : (f g : Corners) → IsProperFace f → IsProperFace g
+    → is_eq (nat_cmp (corners_key_of g) (corners_key_of f)) ≡ is_alike f g
 alike_key f g p q =
     let o = ordered f p.flat in
     let s = ordered g q.flat in

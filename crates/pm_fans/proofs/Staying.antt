@@ -1,8 +1,11 @@
 -- All faces of a fit list stay, and so do those of an oriented manifold.
-use Rattle.std.proofs.Common.{◌≡◌, ◌≢◌, ℕ, suc, ◌+◌, ◌*◌, ◌/◌, ◌<◌, inl, inr, refl, sym, ap, ◌∙◌, subst, List, [], ◌∷◌, ◌++◌, length, Bool, true, false, not, ◌&&◌, ◌||◌, arith}
+use Rattle.std.proofs.Common.{◌≡◌, ◌≢◌, ℕ, suc, ◌+◌, ◌*◌, ◌/◌, ◌<◌, inl, inr, refl, sym, ap, ◌∙◌}
+use Rattle.std.proofs.Common.{subst, List, [], ◌∷◌, ◌++◌, length, Bool, true, false, not, ◌&&◌}
+use Rattle.std.proofs.Common.{◌||◌, arith}
 use Rattle.std.specs.Prelude.{◌==◌}
 use Rattle.std.specs.List.{list_any}
-use Rattle.std.proofs.lemmas.Bool.{or_cases, eqb-true, ne_eqb, not_from_false, or_from, cases_Bool, cond-true, and_parts, and_from}
+use Rattle.std.proofs.lemmas.Bool.{or_cases, eqb-true, ne_eqb, not_from_false, or_from, cases_Bool}
+use Rattle.std.proofs.lemmas.Bool.{cond-true, and_parts, and_from}
 use Rattle.std.proofs.lemmas.List.{get_or_append_left, length-append, append_assoc, append-nil}
 use Rattle.std.proofs.Math.Seq.{get_or-append_seam}
 use Rattle.pm_base.specs.declared.mesh.Corners.{Corners}
@@ -12,27 +15,40 @@ use Rattle.pm_base.proofs.Sides.{next_cases}
 use Rattle.pm_base.proofs.NetLaws.{face_at, from-corner, first_side, second_side, third_side}
 use Rattle.pm_base.proofs.FanLaws.{fan_no_mirror}
 use Rattle.pm_fans.specs.Splits.{AllStand}
-use Rattle.pm_fans.specs.Kept.{is_flat, is_corner, is_alike, is_kept_after, kept_after, kept_of, IsFitList}
+use Rattle.pm_fans.specs.Kept.{is_flat, is_corner, is_alike, is_kept_after, kept_after, kept_of}
+use Rattle.pm_fans.specs.Kept.{IsFitList}
 use Rattle.pm_fans.proofs.Turned.{side_turned, which}
 
-none_any : (p : Corners → Bool) (xs : List Corners) → ((i : ℕ) → i < length xs → p (face_at xs i) ≡ false) → list_any p xs ≡ false
+none_any : (p : Corners → Bool) (xs : List Corners)
+    → ((i : ℕ) → i < length xs → p (face_at xs i) ≡ false) → list_any p xs ≡ false
 none_any p [] h = refl
-none_any p (x ∷ xs) h = or_from (p x) (list_any p xs) (h 0 (omega arith)) (none_any p xs (λ i l. h (suc i) (omega arith)))
+none_any p (x ∷ xs) h =
+    or_from (p x) (list_any p xs) (h 0 (omega arith))
+    (none_any p xs (λ i l. h (suc i) (omega arith)))
 
-fits : (before : List Corners) (f : Corners) (fs : List Corners) → IsFitList (before ++ f ∷ fs) → is_kept_after before f ≡ true
+fits : (before : List Corners) (f : Corners) (fs : List Corners) → IsFitList (before ++ f ∷ fs)
+    → is_kept_after before f ≡ true
 unfolding is_kept_after
 fits before f fs h =
     let n : ℕ = length before in
     let long : n < length (before ++ f ∷ fs) = omega (arith, length-append before (f ∷ fs)) in
     let seam = get_or-append_seam before f fs no_corners in
-    let none = none_any (is_alike f) before (λ i l. subst (λ g. is_alike f g ≡ false) (get_or_append_left before (f ∷ fs) no_corners i l) (subst (λ g. is_alike g (face_at (before ++ f ∷ fs) i) ≡ false) seam (h.apart i n l long))) in
-    and_from (not (is_flat f)) (not (list_any (is_alike f) before)) (not_from_false _ (subst (λ g. is_flat g ≡ false) seam (h.flat n long))) (not_from_false _ none)
+    let none = none_any (is_alike f) before
+    (λ i l. subst (λ g. is_alike f g ≡ false)
+    (get_or_append_left before (f ∷ fs) no_corners i l)
+    (subst (λ g. is_alike g (face_at (before ++ f ∷ fs) i) ≡ false) seam (h.apart i n l long)))
+    in
+    and_from (not (is_flat f)) (not (list_any (is_alike f) before))
+    (not_from_false _ (subst (λ g. is_flat g ≡ false) seam (h.flat n long)))
+    (not_from_false _ none)
 
-all_stay : (before fs : List Corners) → IsFitList (before ++ fs) → kept_after before fs ≡ before ++ fs
+all_stay : (before fs : List Corners) → IsFitList (before ++ fs) → kept_after before fs ≡ before
+    ++ fs
 all_stay before [] h = sym (append-nil before)
 all_stay before (f ∷ fs) h =
     let whole = append_assoc before (f ∷ []) fs in
-    cond-true _ _ _ (fits before f fs h) ∙ all_stay (before ++ f ∷ []) fs (subst IsFitList (sym whole) h) ∙ whole
+    cond-true _ _ _ (fits before f fs h)
+    ∙ all_stay (before ++ f ∷ []) fs (subst IsFitList (sym whole) h) ∙ whole
 
 pub fit_lists_stay : (fs : List Corners) → IsFitList fs → kept_of fs ≡ fs
 unfolding kept_of
@@ -50,10 +66,22 @@ has_side fs j x e =
     elim (or_cases (k.a == x || k.b == x) (k.c == x) e) [
       | inl p ↦
           elim (or_cases (k.a == x) (k.b == x) p) [
-            | inl q ↦ record { side = 3 * j; of = omega arith; from = (first_side fs j).0 ∙ eqb-true _ _ q }
-            | inr q ↦ record { side = 3 * j + 1; of = omega arith; from = (second_side fs j).0 ∙ eqb-true _ _ q }
+            | inl q ↦ record {
+              side = 3 * j;
+              of = omega arith;
+              from = (first_side fs j).0 ∙ eqb-true _ _ q;
+            }
+            | inr q ↦ record {
+              side = 3 * j + 1;
+              of = omega arith;
+              from = (second_side fs j).0 ∙ eqb-true _ _ q;
+            }
           ]
-      | inr q ↦ record { side = 3 * j + 2; of = omega arith; from = (third_side fs j).0 ∙ eqb-true _ _ q }
+      | inr q ↦ record {
+        side = 3 * j + 2;
+        of = omega arith;
+        from = (third_side fs j).0 ∙ eqb-true _ _ q;
+      }
     ]
 
 third_is : (fs : List Corners) (i : ℕ) → third (net_of fs) (3 * i) ≡ (face_at fs i).c
@@ -66,7 +94,8 @@ third_of : (i : ℕ) → 3 * i / 3 ≡ i
 third_of i = omega arith
 
 -- Of two faces that are alike one repeats a side of the other, or they are mirrors.
-no_alike : (fs : List Corners) → AllStand (net_of fs) → IsOrientedManifold (net_of fs) → (i j : ℕ) → i < length fs → j < length fs → i ≢ j → is_alike (face_at fs j) (face_at fs i) ≡ true → ⊥
+no_alike : (fs : List Corners) → AllStand (net_of fs) → IsOrientedManifold (net_of fs) → (i j : ℕ)
+    → i < length fs → j < length fs → i ≢ j → is_alike (face_at fs j) (face_at fs i) ≡ true → ⊥
 unfolding is_alike
 no_alike fs stand is i j il jl ij e =
     let m : Net = net_of fs in
@@ -85,7 +114,9 @@ no_alike fs stand is i j il jl ij e =
       | inl w ↦ ts.first (sa ∙ sym h.from ∙ w ∙ sym sb)
       | inr v ↦
           elim v [
-            | inl w ↦ ij (sym (third_of i) ∙ ap (λ n. n / 3) (is.no_side_twice s h.side ts th (sa ∙ sym h.from) (sb ∙ sym w)) ∙ h.of)
+            | inl w ↦ ij (sym (third_of i)
+                ∙ ap (λ n. n / 3) (is.no_side_twice s h.side ts th (sa ∙ sym h.from) (sb ∙ sym w))
+                ∙ h.of)
             | inr w ↦
                 elim (which g k.c _ _ _ turned c) [
                   | inl u ↦ ts.last (sc ∙ sym u ∙ h.from ∙ sym sa)
@@ -93,15 +124,28 @@ no_alike fs stand is i j il jl ij e =
                       elim v2 [
                         | inr u ↦ ts.second (sb ∙ sym w ∙ u ∙ sym sc)
                         | inl u ↦
-                            let p : IsPairAt m k.a k.b k.c = record { side = s; stands = ts; at = sa; one = sb; two = sc } in
-                            let q : IsPairAt m k.a k.c k.b = record { side = h.side; stands = th; at = h.from; one = u; two = w } in
+                            let p : IsPairAt m k.a k.b k.c = record {
+                              side = s;
+                              stands = ts;
+                              at = sa;
+                              one = sb;
+                              two = sc;
+                            } in
+                            let q : IsPairAt m k.a k.c k.b = record {
+                              side = h.side;
+                              stands = th;
+                              at = h.from;
+                              one = u;
+                              two = w;
+                            } in
                             fan_no_mirror m k.a (is.fans k.a (s, ts, sa)) k.b k.c p q
                       ]
                 ]
           ]
     ]
 
-manifold_fit : (fs : List Corners) → AllStand (net_of fs) → IsOrientedManifold (net_of fs) → IsFitList fs
+manifold_fit : (fs : List Corners) → AllStand (net_of fs) → IsOrientedManifold (net_of fs)
+    → IsFitList fs
 manifold_fit fs stand is = record {
   flat = λ i l.
       let k : Corners = face_at fs i in
@@ -111,7 +155,10 @@ manifold_fit fs stand is = record {
       let (c2, a2) = third_side fs i in
       let t1 = stand (3 * i + 1) (omega arith) in
       let t2 = stand (3 * i + 2) (omega arith) in
-      or_from (k.a == k.b || k.b == k.c) (k.c == k.a) (or_from (k.a == k.b) (k.b == k.c) (ne_eqb _ _ (λ e. t.first (a ∙ e ∙ sym b))) (ne_eqb _ _ (λ e. t1.first (b2 ∙ e ∙ sym c)))) (ne_eqb _ _ (λ e. t2.first (c2 ∙ e ∙ sym a2)));
+      or_from (k.a == k.b || k.b == k.c) (k.c == k.a)
+      (or_from (k.a == k.b) (k.b == k.c) (ne_eqb _ _ (λ e. t.first (a ∙ e ∙ sym b)))
+      (ne_eqb _ _ (λ e. t1.first (b2 ∙ e ∙ sym c))))
+      (ne_eqb _ _ (λ e. t2.first (c2 ∙ e ∙ sym a2)));
   apart = λ i j ij l.
       elim (cases_Bool (is_alike (face_at fs j) (face_at fs i))) [
         | inl t ↦ absurd (no_alike fs stand is i j (omega arith) l (omega arith) t)
@@ -119,5 +166,6 @@ manifold_fit fs stand is = record {
       ];
 }
 
-pub manifolds_stay : (fs : List Corners) → AllStand (net_of fs) → IsOrientedManifold (net_of fs) → kept_of fs ≡ fs
+pub manifolds_stay : (fs : List Corners) → AllStand (net_of fs) → IsOrientedManifold (net_of fs)
+    → kept_of fs ≡ fs
 manifolds_stay fs stand is = fit_lists_stay fs (manifold_fit fs stand is)

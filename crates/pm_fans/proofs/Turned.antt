@@ -1,7 +1,9 @@
 -- The three corners of a face, in one of its turns.
-use Rattle.std.proofs.Common.{◌≡◌, ◌≢◌, ℕ, ◌/◌, ◌%◌, ◌⊎◌, inl, inr, refl, sym, ◌∙◌, subst, List, true, false, ◌&&◌, ◌||◌, arith}
+use Rattle.std.proofs.Common.{◌≡◌, ◌≢◌, ℕ, ◌/◌, ◌%◌, ◌⊎◌, inl, inr, refl, sym, ◌∙◌, subst, List}
+use Rattle.std.proofs.Common.{true, false, ◌&&◌, ◌||◌, arith}
 use Rattle.std.specs.Prelude.{◌==◌}
-use Rattle.std.proofs.lemmas.Bool.{cases_eq, or_cases, eqb-true, eq-eqb, eqb-false, and_from, or_parts, or_left, or_right}
+use Rattle.std.proofs.lemmas.Bool.{cases_eq, or_cases, eqb-true, eq-eqb, eqb-false, and_from}
+use Rattle.std.proofs.lemmas.Bool.{or_parts, or_left, or_right}
 use Rattle.pm_base.specs.declared.mesh.Corners.{Corners}
 use Rattle.pm_base.specs.Sides.{Net, next, prev, to, third, net_of}
 use Rattle.pm_base.specs.Fans.{IsPairAt}
@@ -18,7 +20,8 @@ pub record AreTurned (k : Corners) (x y z : ℕ) : Type 0 where
 abbrev pub Turned : Corners → ℕ → ℕ → ℕ → Type 0
 Turned k x y z = AreTurned k x y z ⊎ (AreTurned k z x y ⊎ AreTurned k y z x)
 
-pub side_turned : (fs : List Corners) (e f : ℕ) → e / 3 ≡ f → let m = net_of fs in Turned (face_at fs f) (m.from e) (to m e) (third m e)
+pub side_turned : (fs : List Corners) (e f : ℕ) → e / 3 ≡ f → let m =
+    net_of fs in Turned (face_at fs f) (m.from e) (to m e) (third m e)
 side_turned fs e f at =
     let a = next_cases e in
     let b = next_cases (next e) in
@@ -55,16 +58,36 @@ not_flat k e =
     record { xy = eqb-false _ _ s; yz = eqb-false _ _ t; zx = eqb-false _ _ r }
 
 pub turned_differ : (k : Corners) (x y z : ℕ) → Differ k.a k.b k.c → Turned k x y z → Differ x y z
-turned_differ k x y z d (inl t) = record { xy = λ i. d.xy (t.a ∙ i ∙ sym t.b); yz = λ i. d.yz (t.b ∙ i ∙ sym t.c); zx = λ i. d.zx (t.c ∙ i ∙ sym t.a) }
-turned_differ k x y z d (inr (inl t)) = record { xy = λ i. d.yz (t.b ∙ i ∙ sym t.c); yz = λ i. d.zx (t.c ∙ i ∙ sym t.a); zx = λ i. d.xy (t.a ∙ i ∙ sym t.b) }
-turned_differ k x y z d (inr (inr t)) = record { xy = λ i. d.zx (t.c ∙ i ∙ sym t.a); yz = λ i. d.xy (t.a ∙ i ∙ sym t.b); zx = λ i. d.yz (t.b ∙ i ∙ sym t.c) }
+turned_differ k x y z d (inl t) =
+    record {
+      xy = λ i. d.xy (t.a ∙ i ∙ sym t.b);
+      yz = λ i. d.yz (t.b ∙ i ∙ sym t.c);
+      zx =
+          λ i. d.zx (t.c ∙ i ∙ sym t.a);
+    }
+turned_differ k x y z d (inr (inl t)) =
+    record {
+      xy = λ i. d.yz (t.b ∙ i ∙ sym t.c);
+      yz = λ i. d.zx (t.c ∙ i ∙ sym t.a);
+      zx =
+          λ i. d.xy (t.a ∙ i ∙ sym t.b);
+    }
+turned_differ k x y z d (inr (inr t)) =
+    record {
+      xy = λ i. d.zx (t.c ∙ i ∙ sym t.a);
+      yz = λ i. d.xy (t.a ∙ i ∙ sym t.b);
+      zx =
+          λ i. d.yz (t.b ∙ i ∙ sym t.c);
+    }
 
 -- What a face's corners are.
 pub corner_a : (k : Corners) (x : ℕ) → k.a ≡ x → is_corner k x ≡ true
-corner_a k x e = or_left (k.a == x || k.b == x) (k.c == x) (or_left (k.a == x) (k.b == x) (eq-eqb _ _ e))
+corner_a k x e =
+    or_left (k.a == x || k.b == x) (k.c == x) (or_left (k.a == x) (k.b == x) (eq-eqb _ _ e))
 
 pub corner_b : (k : Corners) (x : ℕ) → k.b ≡ x → is_corner k x ≡ true
-corner_b k x e = or_left (k.a == x || k.b == x) (k.c == x) (or_right (k.a == x) (k.b == x) (eq-eqb _ _ e))
+corner_b k x e =
+    or_left (k.a == x || k.b == x) (k.c == x) (or_right (k.a == x) (k.b == x) (eq-eqb _ _ e))
 
 pub corner_c : (k : Corners) (x : ℕ) → k.c ≡ x → is_corner k x ≡ true
 corner_c k x e = or_right (k.a == x || k.b == x) (k.c == x) (eq-eqb _ _ e)
@@ -75,22 +98,41 @@ pub record HasAll (k : Corners) (x y z : ℕ) : Type 0 where
   pub three : is_corner k z ≡ true
 
 pub turned_has : (k : Corners) (x y z : ℕ) → Turned k x y z → HasAll k x y z
-turned_has k x y z (inl t) = record { one = corner_a k x t.a; two = corner_b k y t.b; three = corner_c k z t.c }
-turned_has k x y z (inr (inl t)) = record { one = corner_b k x t.b; two = corner_c k y t.c; three = corner_a k z t.a }
-turned_has k x y z (inr (inr t)) = record { one = corner_c k x t.c; two = corner_a k y t.a; three = corner_b k z t.b }
+turned_has k x y z (inl t) = record {
+  one = corner_a k x t.a;
+  two = corner_b k y t.b;
+  three = corner_c k z t.c;
+}
+turned_has k x y z (inr (inl t)) = record {
+  one = corner_b k x t.b;
+  two = corner_c k y t.c;
+  three = corner_a k z t.a;
+}
+turned_has k x y z (inr (inr t)) = record {
+  one = corner_c k x t.c;
+  two = corner_a k y t.a;
+  three = corner_b k z t.b;
+}
 
 all_alike : (k g : Corners) (a b c : ℕ) → HasAll k a b c → AreTurned g a b c → is_alike k g ≡ true
 unfolding is_alike
 all_alike k g a b c h t =
-    let at = λ (i j : ℕ) (e : i ≡ j) (s : is_corner k j ≡ true). subst (λ n. is_corner k n ≡ true) (sym e) s in
-    and_from (is_corner k g.a && is_corner k g.b) (is_corner k g.c) (and_from (is_corner k g.a) (is_corner k g.b) (at _ _ t.a h.one) (at _ _ t.b h.two)) (at _ _ t.c h.three)
+    let at = λ (i j : ℕ) (e : i ≡ j) (s : is_corner k j ≡ true). subst (λ n. is_corner k n ≡ true)
+    (sym e) s in
+    and_from (is_corner k g.a && is_corner k g.b) (is_corner k g.c)
+    (and_from (is_corner k g.a) (is_corner k g.b) (at _ _ t.a h.one) (at _ _ t.b h.two))
+    (at _ _ t.c h.three)
 
-pub turned_alike : (k g : Corners) (x y z : ℕ) → HasAll k x y z → Turned g x y z → is_alike k g ≡ true
+pub turned_alike : (k g : Corners) (x y z : ℕ) → HasAll k x y z → Turned g x y z
+    → is_alike k g ≡ true
 turned_alike k g x y z h (inl t) = all_alike k g x y z h t
-turned_alike k g x y z h (inr (inl t)) = all_alike k g z x y (record { one = h.three; two = h.one; three = h.two }) t
-turned_alike k g x y z h (inr (inr t)) = all_alike k g y z x (record { one = h.two; two = h.three; three = h.one }) t
+turned_alike k g x y z h (inr (inl t)) =
+    all_alike k g z x y (record { one = h.three; two = h.one; three = h.two }) t
+turned_alike k g x y z h (inr (inr t)) =
+    all_alike k g y z x (record { one = h.two; two = h.three; three = h.one }) t
 
-pair_turned : (fs : List Corners) (v x y : ℕ) (f : IsPairAt (net_of fs) v x y) → Turned (face_at fs (f.side / 3)) v x y
+pair_turned : (fs : List Corners) (v x y : ℕ) (f : IsPairAt (net_of fs) v x y)
+    → Turned (face_at fs (f.side / 3)) v x y
 pair_turned fs v x y f =
     let m : Net = net_of fs in
     let k : Corners = face_at fs (f.side / 3) in
@@ -100,10 +142,13 @@ pair_turned fs v x y f =
     subst (λ i. Turned k i x y) f.at t1
 
 -- Two faces with the same corners in opposite orders are alike, either to the other.
-pub mirrors_alike : (fs : List Corners) (v x y : ℕ) (f : IsPairAt (net_of fs) v x y) (g : IsPairAt (net_of fs) v y x) → is_alike (face_at fs (g.side / 3)) (face_at fs (f.side / 3)) ≡ true
+pub mirrors_alike : (fs : List Corners) (v x y : ℕ) (f : IsPairAt (net_of fs) v x y)
+    (g : IsPairAt (net_of fs) v y x) → is_alike (face_at fs (g.side / 3)) (face_at fs (f.side / 3))
+    ≡ true
 mirrors_alike fs v x y f g =
     let h = turned_has _ _ _ _ (pair_turned fs v y x g) in
-    turned_alike _ _ _ _ _ (record { one = h.one; two = h.three; three = h.two }) (pair_turned fs v x y f)
+    turned_alike _ _ _ _ _ (record { one = h.one; two = h.three; three = h.two })
+    (pair_turned fs v x y f)
 
 -- A corner is one of the three.
 module _ (k : Corners) (x p q r : ℕ) where
@@ -122,7 +167,8 @@ module _ (k : Corners) (x p q r : ℕ) where
   at_c (inr (inl t)) w = inr (inl (sym t.c ∙ w))
   at_c (inr (inr t)) w = inl (sym t.c ∙ w)
 
-pub which : (k : Corners) (x p q r : ℕ) → Turned k p q r → is_corner k x ≡ true → (p ≡ x) ⊎ ((q ≡ x) ⊎ (r ≡ x))
+pub which : (k : Corners) (x p q r : ℕ) → Turned k p q r → is_corner k x ≡ true
+    → (p ≡ x) ⊎ ((q ≡ x) ⊎ (r ≡ x))
 which k x p q r t e =
     elim (or_cases (k.a == x || k.b == x) (k.c == x) e) [
       | inl u ↦

@@ -9,7 +9,9 @@ side_runs m p q g = stands m g && ((m.from g == p) && (to m g == q))
 
 -- Several sides run as this one does, or several run back along it.
 unfoldable pub is_cut : Net → ℕ → Bool
-is_cut m e = nat_lt 1 (count (side_runs m (m.from e) (to m e)) (side_count m)) || nat_lt 1 (count (side_runs m (to m e) (m.from e)) (side_count m))
+is_cut m e =
+    nat_lt 1 (count (side_runs m (m.from e) (to m e)) (side_count m)) || nat_lt 1
+    (count (side_runs m (to m e) (m.from e)) (side_count m))
 
 unfoldable pub cut_count : Net → ℕ
 cut_count m = count (is_cut m) (side_count m)

@@ -1,5 +1,6 @@
 -- The chains of sides round vertices, and the side by which each chain is told: its head.
-use Rattle.std.specs.Prelude.{◌≡◌, ℕ, ◌*◌, ◌<◌, ◌≤◌, ◌⊎◌, List, Option, Some, None, length, slice_index_or}
+use Rattle.std.specs.Prelude.{◌≡◌, ℕ, ◌*◌, ◌<◌, ◌≤◌, ◌⊎◌, List, Option, Some, None, length}
+use Rattle.std.specs.Prelude.{slice_index_or}
 use Rattle.pm_base.specs.declared.limits.TheConstants.{MOST_FACES}
 use Rattle.pm_base.specs.Sides.{prev, beside_side}
 
@@ -8,7 +9,8 @@ pub record AreGluedInPairs (glued : List (Option ℕ)) : Type 0 where
   pub faces : ℕ
   pub sides : length glued ≡ 3 * faces
   pub short : faces ≤ MOST_FACES
-  pub back : (e g : ℕ) → beside_side glued e ≡ Some g → (g < length glued) × (beside_side glued g ≡ Some e)
+  pub back : (e g : ℕ) → beside_side glued e ≡ Some g
+      → (g < length glued) × (beside_side glued g ≡ Some e)
 
 -- Side g is the next one after e round the vertex from which both run.
 abbrev pub IsNextRound : List (Option ℕ) → ℕ → ℕ → Type 0
@@ -24,8 +26,10 @@ pub record AreHeaded (glued heads : List (Option ℕ)) : Type 0 where
   pub long : length heads ≡ length glued
   pub led : (e h : ℕ) → beside_side heads e ≡ Some h → Leads glued h e
   pub own : (e h : ℕ) → beside_side heads e ≡ Some h → beside_side heads h ≡ Some h
-  pub on : (e g h : ℕ) → IsNextRound glued e g → beside_side heads e ≡ Some h → beside_side heads g ≡ Some h
-  pub back : (e g h : ℕ) → IsNextRound glued e g → beside_side heads g ≡ Some h → beside_side heads e ≡ Some h
+  pub on : (e g h : ℕ) → IsNextRound glued e g → beside_side heads e ≡ Some h
+      → beside_side heads g ≡ Some h
+  pub back : (e g h : ℕ) → IsNextRound glued e g → beside_side heads g ≡ Some h
+      → beside_side heads e ≡ Some h
   pub kind : (e h : ℕ) → beside_side heads e ≡ Some h → (beside_side glued h ≡ None) ⊎ (h ≤ e)
 
 abbrev pub HasHead : List (Option ℕ) → ℕ → Type 0

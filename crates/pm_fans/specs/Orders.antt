@@ -5,7 +5,8 @@ use Rattle.pm_base.specs.Sides.{Net, net_of, side_count, Stands}
 use Rattle.pm_base.specs.Fans.{IsUsed}
 use Rattle.pm_fans.specs.Splits.{IsGlued, IsSplitByFans}
 
--- An open chain of sides round a vertex begins here: the side is glued to none, so none is followed by it.
+-- An open chain of sides round a vertex begins here: the side is glued to none, so none is followed
+-- by it.
 abbrev pub IsFirstSide : Net → ℕ → Type 0
 IsFirstSide m e = (g : ℕ) → IsGlued m e g → ⊥
 
@@ -17,16 +18,21 @@ IsLeastSide m n e = (g : ℕ) → Stands m g → n.from g ≡ n.from e → (IsFi
 abbrev pub IsHead : Net → Net → ℕ → Type 0
 IsHead m n e = IsFirstSide m e ⊎ IsLeastSide m n e
 
--- Of two sides with one old vertex: that of an open chain before that of a closed one, and else the lesser one.
+-- Of two sides with one old vertex: that of an open chain before that of a closed one, and else the
+-- lesser one.
 abbrev pub ComesFirst : Net → Net → ℕ → ℕ → Type 0
-ComesFirst m n e g = (IsFirstSide m e × IsLeastSide m n g) ⊎ (((IsFirstSide m e × IsFirstSide m g) ⊎ (IsLeastSide m n e × IsLeastSide m n g)) × (e < g))
+ComesFirst m n e g =
+    (IsFirstSide m e × IsLeastSide m n g)
+    ⊎ (((IsFirstSide m e × IsFirstSide m g) ⊎ (IsLeastSide m n e × IsLeastSide m n g)) × (e < g))
 
 abbrev pub Precedes : Net → Net → ℕ → ℕ → Type 0
 Precedes m n e g = (m.from e < m.from g) ⊎ ((m.from e ≡ m.from g) × ComesFirst m n e g)
 
--- New vertices are numbered by the old one, then open chains before closed ones, then by their heads.
+-- New vertices are numbered by the old one, then open chains before closed ones, then by their
+-- heads.
 abbrev pub IsOrdered : Net → Net → Type 0
-IsOrdered m n = (e g : ℕ) → Stands m e → Stands m g → IsHead m n e → IsHead m n g → n.from e < n.from g → Precedes m n e g
+IsOrdered m n = (e g : ℕ) → Stands m e → Stands m g → IsHead m n e → IsHead m n g
+    → n.from e < n.from g → Precedes m n e g
 
 -- The faces of m with new vertices, and the old vertex of each new one.
 pub record IsSplitMesh (m : Net) (faces : List Corners) (old : List ℕ) : Type 0 where

@@ -1,7 +1,9 @@
-//! The sides that run from one vertex follow one another over glued sides, in chains, open or closed.
-//! All sides of a chain have one head: the first side of an open chain, the least of a closed one.
+//! The sides that run from one vertex follow one another over glued sides, in chains, open or
+//! closed. All sides of a chain have one head: the first side of an open chain, the least of a
+//! closed one.
 ghost use Rattle.std.specs.Prelude.{◌≡◌, ℕ, ◌<◌, ◌⊎◌, Some, None, length, IfOk};
-ghost use Rattle.pm_fans.specs.Heads.{AreGluedInPairs, AreHeaded, HasHead, Keeps, AreOpenHeaded, AreAllHeaded};
+ghost use Rattle.pm_fans.specs.Heads.{AreGluedInPairs, AreHeaded, HasHead, Keeps, AreOpenHeaded};
+ghost use Rattle.pm_fans.specs.Heads.{AreAllHeaded};
 ghost use Rattle.pm_base.specs.Sides.{beside_side};
 
 use crate::OutOfMemory;
@@ -47,7 +49,8 @@ fn walk_on(glued: &SideMap, heads: &mut SideMap, first: Side)
     requires new { beside_side heads.old first.0 ≡ None }
     ensures headed { AreHeaded glued.now heads.new }
     ensures keeps { Keeps heads.old heads.new }
-    ensures only { (e h : ℕ) → beside_side heads.new e ≡ Some h → (beside_side heads.old e ≡ Some h) ⊎ (h ≡ first.0) }
+    ensures only { (e h : ℕ) → beside_side heads.new e ≡ Some h → (beside_side heads.old e ≡ Some h)
+        ⊎ (h ≡ first.0) }
     ensures done { beside_side heads.new first.0 ≡ Some first.0 }
 {
     let mut reached = Some(first);
@@ -61,7 +64,8 @@ fn walk_on(glued: &SideMap, heads: &mut SideMap, first: Side)
 fn walk_back(glued: &SideMap, heads: &mut SideMap, least: Side)
     requires paired { AreGluedInPairs glued.now }
     requires headed { AreHeaded glued.now heads.old }
-    requires open { (e : ℕ) → e < length glued.now → beside_side glued.now e ≡ None → HasHead heads.old e }
+    requires open { (e : ℕ) → e < length glued.now → beside_side glued.now e ≡ None
+        → HasHead heads.old e }
     requires earlier { (e : ℕ) → e < least.0 → HasHead heads.old e }
     requires in_range { least.0 < length glued.now }
     requires new { beside_side heads.old least.0 ≡ None }

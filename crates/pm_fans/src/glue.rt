@@ -1,5 +1,5 @@
-//! Each directed side is noted in a map by its two ends, with a mark where several have the same. A side
-//! that stands once is glued to the one that runs back, where that stands once too.
+//! Each directed side is noted in a map by its two ends, with a mark where several have the same. A
+//! side that stands once is glued to the one that runs back, where that stands once too.
 ghost use Rattle.std.specs.Prelude.{◌≡◌, ◌+◌, ◌*◌, ◌<◌, ◌≤◌, ℕ, length, IfOk, OnOk, MatchOption};
 ghost use Rattle.pm_base.specs.declared.limits.TheConstants.{MOST_FACES, MOST_SIDES};
 ghost use Rattle.pm_base.specs.Sides.{Net, net_of, side_count, to as to_of};
@@ -18,8 +18,8 @@ const SHIFT: u64 = 1 << 32;
 /// Stands in the map where several sides have the same ends.
 pub(crate) const SEVERAL: u32 = u32::MAX;
 
-/// The side to which each side is glued: the one that joins the same two vertices in the other order,
-/// where no other side joins these two; `None` for a side along which the surface is cut.
+/// The side to which each side is glued: the one that joins the same two vertices in the other
+/// order, where no other side joins these two; `None` for a side along which the surface is cut.
 /// O(F log F) for F faces.
 pub fn glued_sides(alloc: Global, faces: &[Corners]) -> Result<SideMap, OutOfMemory>
     requires { IsCuttable (net_of faces.now) }
@@ -76,7 +76,8 @@ pub(crate) fn ends(p: u32, q: u32) -> u64
 // The side from p to q, if it stands once.
 fn alone(sides: &BTreeMap<u64, u32>, p: u32, q: u32) -> Option<Side>
     ensures { (m : Net) (n : ℕ) → n ≤ MOST_SIDES → AreNoted m n sides.now
-        → MatchOption result ((v : ℕ) → IsAloneWithKey m n (ends_key p q) v → ⊥) (λ v. IsAloneWithKey m n (ends_key p q) v.0) }
+        → MatchOption result ((v : ℕ) → IsAloneWithKey m n (ends_key p q) v
+        → ⊥) (λ v. IsAloneWithKey m n (ends_key p q) v.0) }
 {
     match sides.get(&ends(p, q)) {
         Some(&side) if side != SEVERAL => Some(Side(side)),

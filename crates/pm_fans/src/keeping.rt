@@ -1,5 +1,5 @@
-//! Faces that became edges go, and so do those that stand twice. The corners of the faces that stay are
-//! kept in a set, each three as one number.
+//! Faces that became edges go, and so do those that stand twice. The corners of the faces that stay
+//! are kept in a set, each three as one number.
 ghost use Rattle.std.specs.Prelude.{◌≡◌, [], ◌∷◌, IfOk, OnOk};
 ghost use Rattle.pm_fans.specs.Kept.{is_flat as is_flat_of, kept_after, kept_of};
 ghost use Rattle.pm_fans.specs.Keys.{corners_key_of, HasShortCorners, HoldsKeys};

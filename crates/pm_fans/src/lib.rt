@@ -1,5 +1,5 @@
-//! Any faces become an oriented manifold: those stay that have three different corners, one for each
-//! three; the surface is cut along its singular sides, and each vertex is split into its fans.
+//! Any faces become an oriented manifold: those stay that have three different corners, one for
+//! each three; the surface is cut along its singular sides, and each vertex is split into its fans.
 #![tactic(auto)]
 
 mod chains;

@@ -1,9 +1,11 @@
 //! The new vertices, by their heads: they are numbered in the order of the heads' keys.
-ghost use Rattle.std.specs.Prelude.{◌≡◌, ℕ, ◌+◌, ◌*◌, ◌<◌, ◌≤◌, Some, length, slice_index, IfOk, OnOk, MatchBool};
+ghost use Rattle.std.specs.Prelude.{◌≡◌, ℕ, ◌+◌, ◌*◌, ◌<◌, ◌≤◌, Some, length, slice_index, IfOk};
+ghost use Rattle.std.specs.Prelude.{OnOk, MatchBool};
 ghost use Rattle.pm_base.specs.declared.limits.TheConstants.{MOST_FACES, MOST_SIDES};
 ghost use Rattle.pm_base.specs.Sides.{net_of, beside_side};
 ghost use Rattle.pm_fans.specs.Heads.{HasHead};
-ghost use Rattle.pm_fans.specs.HeadKeys.{order_key, side_of_key, AreCollected, AreHeadKeys, AreKeyPlaces, new_of, AreRenamed};
+ghost use Rattle.pm_fans.specs.HeadKeys.{order_key, side_of_key, AreCollected, AreHeadKeys};
+ghost use Rattle.pm_fans.specs.HeadKeys.{AreKeyPlaces, new_of, AreRenamed};
 
 use crate::OutOfMemory;
 use crate::sides::from;
@@ -46,7 +48,8 @@ fn push_head_key(
     requires glued { length glued.now ≡ 3 * length faces.now }
     requires heads { length heads.now ≡ 3 * length faces.now }
     requires so_far { AreCollected (net_of faces.now) glued.now heads.now side.0 keys.old.items }
-    ensures { OnOk result (AreCollected (net_of faces.now) glued.now heads.now (side.0 + 1) keys.new.items) }
+    ensures { OnOk result
+        (AreCollected (net_of faces.now) glued.now heads.now (side.0 + 1) keys.new.items) }
 {
     if !is_head(heads, side) {
         return Ok(());
@@ -58,7 +61,8 @@ fn push_head_key(
 // Whether a side is the head of its chain.
 fn is_head(heads: &SideMap, side: Side) -> bool
     requires { side.0 < length heads.now }
-    ensures { MatchBool result (beside_side heads.now side.0 ≡ Some side.0) (beside_side heads.now side.0 ≡ Some side.0 → ⊥) }
+    ensures { MatchBool result (beside_side heads.now side.0 ≡ Some side.0)
+        (beside_side heads.now side.0 ≡ Some side.0 → ⊥) }
 {
     match heads.get(side) {
         Some(head) => head == side,
@@ -88,7 +92,8 @@ fn side_of(key: u64) -> Side
 /// For each side that is a head, the place of its key. O(F) for F faces.
 pub(crate) fn key_places(alloc: Global, keys: &[u64], sides: usize) -> Result<Vec<u32>, OutOfMemory>
     requires few { length keys.now ≤ MOST_SIDES }
-    requires in_range { (i : ℕ) → i < length keys.now → side_of_key (slice_index keys.now i) < sides }
+    requires in_range { (i : ℕ) → i < length keys.now
+        → side_of_key (slice_index keys.now i) < sides }
     requires apart { (i j : ℕ) → i < j → j < length keys.now
         → side_of_key (slice_index keys.now i) ≡ side_of_key (slice_index keys.now j) → ⊥ }
     ensures { IfOk result (λ places. AreKeyPlaces keys.now places.items sides (length keys.now)) }
@@ -106,10 +111,12 @@ pub(crate) fn old_vertices(
     faces: &[Corners],
     keys: &[u64],
 ) -> Result<Vec<u32>, OutOfMemory>
-    requires { (i : ℕ) → i < length keys.now → side_of_key (slice_index keys.now i) < 3 * length faces.now }
+    requires { (i : ℕ) → i < length keys.now
+        → side_of_key (slice_index keys.now i) < 3 * length faces.now }
     ensures sides { IfOk result (λ old. length old.items ≡ length keys.now) }
     ensures each { IfOk result (λ old. (i : ℕ) → i < length keys.now
-        → slice_index old.items i ≡ (net_of faces.now).from (side_of_key (slice_index keys.now i))) }
+        → slice_index old.items i
+        ≡ (net_of faces.now).from (side_of_key (slice_index keys.now i))) }
 {
     let mut old = Vec::new(alloc);
     for place in 0..keys.len() {

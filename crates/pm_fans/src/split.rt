@@ -18,10 +18,11 @@ pub struct Split {
     pub old: Vec<u32>,
 }
 
-/// The mesh of the faces, cut along every side that isn't glued, with each vertex split into what is
-/// left of its fans. Faces and corners keep their order. The new vertices are numbered by the old
-/// ones; of one old vertex's those with an open chain of sides come first, and then by the chain's
-/// first side, of a closed one by its least. There may be up to three a face. O(F log F) for F faces.
+/// The mesh of the faces, cut along every side that isn't glued, with each vertex split into what
+/// is left of its fans. Faces and corners keep their order. The new vertices are numbered by the
+/// old ones; of one old vertex's those with an open chain of sides come first, and then by the
+/// chain's first side, of a closed one by its least. There may be up to three a face. O(F log F)
+/// for F faces.
 pub fn split_by_fans(alloc: Global, faces: &[Corners]) -> Result<Split, OutOfMemory>
     requires { IsCuttable (net_of faces.now) }
     ensures { IfOk result (λ s. IsSplitMesh (net_of faces.now) s.faces.items s.old.items) }

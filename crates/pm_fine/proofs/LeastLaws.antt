@@ -6,21 +6,31 @@ use Rattle.std.proofs.lemmas.Bool.{cases_Bool, ltb-true, ltb-false, cond-true, c
 use Rattle.pm_base.specs.Place.{Place}
 use Rattle.pm_fine.specs.FinePlaces.{lesser, first_least_of, IsLeastOf}
 
-lesser_least : (value : Place → ℕ) (a b : Place) → (value (lesser value a b) ≤ value a) × (value (lesser value a b) ≤ value b)
+lesser_least : (value : Place → ℕ) (a b : Place) → (value (lesser value a b) ≤ value a)
+    × (value (lesser value a b) ≤ value b)
 lesser_least value a b =
     elim (cases_Bool (nat_lt (value b) (value a))) [
-      | inl e ↦ subst (λ (p : Place). (value p ≤ value a) × (value p ≤ value b)) (sym (cond-true (nat_lt (value b) (value a)) b a e)) (omega (arith, ltb-true (value b) (value a) e), le_refl (value b))
-      | inr e ↦ subst (λ (p : Place). (value p ≤ value a) × (value p ≤ value b)) (sym (cond-false (nat_lt (value b) (value a)) b a e)) (le_refl (value a), omega (arith, ltb-false (value b) (value a) e))
+      | inl e ↦ subst (λ (p : Place). (value p ≤ value a) × (value p ≤ value b))
+          (sym (cond-true (nat_lt (value b) (value a)) b a e))
+          (omega (arith, ltb-true (value b) (value a) e), le_refl (value b))
+      | inr e ↦ subst (λ (p : Place). (value p ≤ value a) × (value p ≤ value b))
+          (sym (cond-false (nat_lt (value b) (value a)) b a e))
+          (le_refl (value a), omega (arith, ltb-false (value b) (value a) e))
     ]
 
 -- at most the value of the place before the list, and of each place in it
-no_greater : (value : Place → ℕ) (a : Place) (ps : List Place) → value (first_least_of value a ps) ≤ value a
+no_greater : (value : Place → ℕ) (a : Place) (ps : List Place)
+    → value (first_least_of value a ps) ≤ value a
 no_greater value a [] = le_refl (value a)
-no_greater value a (b ∷ ps) = omega (arith, no_greater value (lesser value a b) ps, lesser_least value a b)
+no_greater value a (b ∷ ps) =
+    omega (arith, no_greater value (lesser value a b) ps, lesser_least value a b)
 
-pub first_least_is : (value : Place → ℕ) (a : Place) (ps : List Place) → IsLeastOf value (first_least_of value a ps) (a ∷ ps)
+pub first_least_is : (value : Place → ℕ) (a : Place) (ps : List Place)
+    → IsLeastOf value (first_least_of value a ps) (a ∷ ps)
 first_least_is value a [] = (le_refl (value a), tt)
 first_least_is value a (b ∷ ps) =
     let l = lesser_least value a b in
-    let rest = first_least_is value (lesser value a b) ps in
-    (omega (arith, no_greater value (lesser value a b) ps, l.0), (omega (arith, no_greater value (lesser value a b) ps, l.1), rest.1))
+    let rest = first_least_is value (lesser value a b) ps in (
+      omega (arith, no_greater value (lesser value a b) ps, l.0),
+      (omega (arith, no_greater value (lesser value a b) ps, l.1), rest.1),
+    )

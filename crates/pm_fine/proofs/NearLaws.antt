@@ -13,13 +13,15 @@ pub div_less : (n d m : ℕ) → n < d * m → n / d < m
 div_less n d m l =
     elim (cases_lt (n / d) m) [
       | inl q ↦ q
-      | inr q ↦ (let p = mul-div-le n d in let r = mul-le d m d (n / d) (omega arith) q in absurd (omega arith))
+      | inr q ↦ (let p = mul-div-le n d in let r = mul-le d m d (n / d) (omega arith) q in
+          absurd (omega arith))
     ]
 
 twice_is : (a : ℤ) → pos 2 *ℤ a ≡ a +ℤ a
 twice_is a = omega (arith, ints, product_is (pos 2) a)
 
-part_small : (z a : ℤ) (b m : ℕ) → 0 < b → z ≡ a +ℤ a +ℤ pos b → unsigned_abs a ≤ m * b → unsigned_abs (int_div_euclid z (pos (2 * b))) ≤ m
+part_small : (z a : ℤ) (b m : ℕ) → 0 < b → z ≡ a +ℤ a +ℤ pos b → unsigned_abs a ≤ m * b
+    → unsigned_abs (int_div_euclid z (pos (2 * b))) ≤ m
 part_small (pos n) a b m some e h =
     let l : n < 2 * b * (m + 1) = omega (arith, ints) in
     omega (arith, div_less n (2 * b) (m + 1) l)

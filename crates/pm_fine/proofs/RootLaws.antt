@@ -12,19 +12,27 @@ use Rattle.pm_base.proofs.Squares.{two_products, abs_minus}
 use Rattle.pm_fine.specs.Rounded.{root, IsRoot}
 
 root_lt : (x y : ℕ) → x * x < y * y → x < y
-root_lt x y h = elim (cases_lt x y) [ inl l ↦ l | inr l ↦ absurd (omega (arith, mul-le y y x x l l)) ]
+root_lt x y h =
+    elim (cases_lt x y) [ inl l ↦ l | inr l ↦ absurd (omega (arith, mul-le y y x x l l)) ]
 
--- The greatest number whose square is at most n is one less than the least whose square is above it.
+-- The greatest number whose square is at most n is one less than the least whose square is above
+-- it.
 pub root_only : (n r : ℕ) → r * r ≤ n → n < (r + 1) * (r + 1) → r ≡ root n
 unfolding root
 root_only n r p q =
-    omega (arith, root_up_only (n + 1) (r + 1) (omega arith) (λ m h. omega (arith, root_lt r m (omega (arith, h)))))
+    omega (
+      arith,
+      root_up_only (n + 1) (r + 1) (omega arith)
+          (λ m h. omega (arith, root_lt r m (omega (arith, h)))),
+    )
 
 -- and so it is what it is said to be
 some_up : (n : ℕ) → 1 ≤ root_up (n + 1)
 some_up n = elim (cases_lt 0 (root_up (n + 1))) [
   | inl l ↦ l
-  | inr l ↦ let z : root_up (n + 1) ≡ 0 = omega arith in absurd (omega (arith, subst (λ (r : ℕ). n + 1 ≤ r * r) z (root_up_is (n + 1)).enough))
+  | inr l ↦ let z : root_up (n + 1) ≡ 0 =
+      omega arith in
+      absurd (omega (arith, subst (λ (r : ℕ). n + 1 ≤ r * r) z (root_up_is (n + 1)).enough))
 ]
 
 square_kept : (n j : ℕ) → root_up (n + 1) ≡ j + 1 → j * j ≤ n
@@ -35,20 +43,27 @@ square_kept n j e = elim (cases_lt n (j * j)) [
 
 most_kept : (n j : ℕ) → root_up (n + 1) ≡ j + 1 → (m : ℕ) → m * m ≤ n → m ≤ j
 most_kept n j e m h =
-    let enough : n + 1 ≤ (j + 1) * (j + 1) = subst (λ (r : ℕ). n + 1 ≤ r * r) e (root_up_is (n + 1)).enough in
+    let enough : n + 1 ≤ (j + 1) * (j + 1) =
+    subst (λ (r : ℕ). n + 1 ≤ r * r) e (root_up_is (n + 1)).enough in
     omega (arith, root_lt m (j + 1) (omega (arith, h, enough)))
 
 pub root_is : (n : ℕ) → IsRoot n (root n)
 unfolding root
 root_is n =
     let e : root_up (n + 1) ≡ root_up (n + 1) - 1 + 1 = omega (arith, some_up n) in
-    record { square = square_kept n (root_up (n + 1) - 1) e; most = most_kept n (root_up (n + 1) - 1) e }
+    record {
+      square = square_kept n (root_up (n + 1) - 1) e;
+      most =
+          most_kept n (root_up (n + 1) - 1) e;
+    }
 
--- The root of a root, for a number q of at most 3 * 2 ^ 66: p is the first root of q * 2 ^ 48, and r the second.
+-- The root of a root, for a number q of at most 3 * 2 ^ 66: p is the first root of q * 2 ^ 48, and
+-- r the second.
 square_le : (x y : ℕ) → x ≤ y → x * x ≤ y * y
 square_le x y h = mul-le x x y y h h
 
-pub twice_small : (q p r : ℕ) → q ≤ 3 * 2 ^ 66 → p * p ≤ q * 2 ^ 48 → r * r ≤ p → r ≤ 2 ^ 29 - 2 ^ 25
+pub twice_small : (q p r : ℕ) → q ≤ 3 * 2 ^ 66 → p * p ≤ q * 2 ^ 48 → r * r ≤ p
+    → r ≤ 2 ^ 29 - 2 ^ 25
 twice_small q p r h f s = elim (cases_lt 503316480 r) [
   | inl l ↦ (
       let a : 503316480 * 503316480 ≤ r * r = square_le 503316480 r (omega arith) in
@@ -58,7 +73,8 @@ twice_small q p r h f s = elim (cases_lt 503316480 r) [
   | inr l ↦ l
 ]
 
-pub twice_some : (q p r : ℕ) → 0 < q → q * 2 ^ 48 < (p + 1) * (p + 1) → p < (r + 1) * (r + 1) → 4096 ≤ r
+pub twice_some : (q p r : ℕ) → 0 < q → q * 2 ^ 48 < (p + 1) * (p + 1) → p < (r + 1) * (r + 1)
+    → 4096 ≤ r
 twice_some q p r h f s = elim (cases_lt r 4096) [
   | inl l ↦ (
       let a : (r + 1) * (r + 1) ≤ 4096 * 4096 = square_le (r + 1) 4096 (omega arith) in
@@ -68,10 +84,13 @@ twice_some q p r h f s = elim (cases_lt r 4096) [
 ]
 
 -- each number of the vector is at most its length
-below_both : (m q p r : ℕ) → m * m ≤ q → q * 2 ^ 48 < (p + 1) * (p + 1) → p < (r + 1) * (r + 1) → m * 2 ^ 24 < (r + 1) * (r + 1)
-below_both m q p r h f s = let a = root_lt (m * 2 ^ 24) (p + 1) (omega (arith, h, f)) in omega (arith, a, s)
+below_both : (m q p r : ℕ) → m * m ≤ q → q * 2 ^ 48 < (p + 1) * (p + 1) → p < (r + 1) * (r + 1)
+    → m * 2 ^ 24 < (r + 1) * (r + 1)
+below_both m q p r h f s = let a = root_lt (m * 2 ^ 24) (p + 1) (omega (arith, h, f)) in
+    omega (arith, a, s)
 
-pub twice_reaches : (q p r : ℕ) → q * 2 ^ 48 < (p + 1) * (p + 1) → p < (r + 1) * (r + 1) → 4096 ≤ r → r ≤ 2 ^ 29 - 2 ^ 25 → (m : ℕ) → m * m ≤ q → m * 2 ^ 18 ≤ 8388607 * r
+pub twice_reaches : (q p r : ℕ) → q * 2 ^ 48 < (p + 1) * (p + 1) → p < (r + 1) * (r + 1) → 4096 ≤ r
+    → r ≤ 2 ^ 29 - 2 ^ 25 → (m : ℕ) → m * m ≤ q → m * 2 ^ 18 ≤ 8388607 * r
 twice_reaches q p r f s some most m h =
     let a = below_both m q p r h f s in
     let b = mul-le r r r 503316480 (le_refl r) most in
@@ -90,26 +109,40 @@ once_small q r h f = elim (cases_lt r (2 ^ 46)) [
   | inr l ↦ absurd (omega (arith, square_le (2 ^ 46) r l, f, h))
 ]
 
-pub once_reaches : (q r : ℕ) → q * 2 ^ 24 < (r + 1) * (r + 1) → 4096 ≤ r → (m : ℕ) → m * m ≤ 8589410312 * q → m * 2883584 ≤ 67108863 * (2 * r)
+pub once_reaches : (q r : ℕ) → q * 2 ^ 24 < (r + 1) * (r + 1) → 4096 ≤ r → (m : ℕ)
+    → m * m ≤ 8589410312 * q → m * 2883584 ≤ 67108863 * (2 * r)
 once_reaches q r f some m h =
-    let a : m * 4096 < 92680 * (r + 1) = root_lt (m * 4096) (92680 * (r + 1)) (omega (arith, h, f)) in
+    let a : m * 4096 < 92680 * (r + 1) =
+    root_lt (m * 4096) (92680 * (r + 1)) (omega (arith, h, f)) in
     omega (arith, a, some)
 
--- The determinant of two numbers of a way and two of a normal is at most the product of their lengths.
-products_square : (a b c d : ℕ) → (a * d + b * c) * (a * d + b * c) ≤ (a * a + b * b) * (c * c + d * d)
+-- The determinant of two numbers of a way and two of a normal is at most the product of their
+-- lengths.
+products_square : (a b c d : ℕ)
+    → (a * d + b * c) * (a * d + b * c) ≤ (a * a + b * b) * (c * c + d * d)
 products_square a b c d = omega (arith, two_products (a * c) (b * d))
 
-way_square : (a b c d : ℕ) → a ≤ 65534 → b ≤ 65534 → (a * d + b * c) * (a * d + b * c) ≤ 8589410312 * (c * c + d * d)
+way_square : (a b c d : ℕ) → a ≤ 65534 → b ≤ 65534
+    → (a * d + b * c) * (a * d + b * c) ≤ 8589410312 * (c * c + d * d)
 way_square a b c d p q =
     let s = square_le a 65534 p in
     let t = square_le b 65534 q in
-    let u = mul-le (a * a + b * b) (c * c + d * d) 8589410312 (c * c + d * d) (omega (arith, s, t)) (le_refl (c * c + d * d)) in
+    let u = mul-le (a * a + b * b) (c * c + d * d) 8589410312 (c * c + d * d) (omega (arith, s, t))
+    (le_refl (c * c + d * d)) in
     omega (arith, products_square a b c d, u)
 
 pub minor_square : (a b c d : ℤ) (q : ℕ) → unsigned_abs a ≤ 65534 → unsigned_abs b ≤ 65534
-    → square_of (unsigned_abs c) + square_of (unsigned_abs d) ≤ q → square_of (unsigned_abs (a *ℤ d -ℤ b *ℤ c)) ≤ 8589410312 * q
+    → square_of (unsigned_abs c) + square_of (unsigned_abs d) ≤ q
+    → square_of (unsigned_abs (a *ℤ d -ℤ b *ℤ c)) ≤ 8589410312 * q
 minor_square a b c d q p r h =
-    let e : unsigned_abs (a *ℤ d -ℤ b *ℤ c) ≤ unsigned_abs a * unsigned_abs d + unsigned_abs b * unsigned_abs c =
+    let e : unsigned_abs (a *ℤ d -ℤ b *ℤ c) ≤ unsigned_abs a * unsigned_abs d + unsigned_abs
+    b * unsigned_abs c =
     omega (arith, abs_minus (a *ℤ d) (b *ℤ c), unsigned_abs-mul a d, unsigned_abs-mul b c) in
     let s = square_le _ _ e in
-    omega (arith, s, way_square (unsigned_abs a) (unsigned_abs b) (unsigned_abs c) (unsigned_abs d) p r, h)
+    omega (
+      arith,
+      s,
+      way_square (unsigned_abs a) (unsigned_abs b) (unsigned_abs c) (unsigned_abs d)
+          p r,
+      h,
+    )

@@ -1,5 +1,6 @@
 -- How far from 0 the sums over a list of fine planes can be.
-use Rattle.std.proofs.Common.{◌≡◌, ℕ, ◌+◌, ◌*◌, ◌^◌, ◌≤◌, List, [], ◌∷◌, length, refl, subst, arith, lit≤}
+use Rattle.std.proofs.Common.{◌≡◌, ℕ, ◌+◌, ◌*◌, ◌^◌, ◌≤◌, List, [], ◌∷◌, length, refl, subst, arith}
+use Rattle.std.proofs.Common.{lit≤}
 use Rattle.std.proofs.Math.Nat.{le_refl}
 use Rattle.std.specs.Prelude.{ℤ, pos, ◌+ℤ◌, ◌*ℤ◌, unsigned_abs}
 use Rattle.std.proofs.lemmas.Nat.{mul-le}
@@ -25,35 +26,63 @@ pub record IsWithin (n : ℕ) (s : Sums) : Type 0 where
   pub one : unsigned_abs s.one ≤ n * 2 ^ 88
   pub count : s.count ≡ n
 
-once : (a b : ℤ) (m n k : ℕ) → unsigned_abs a ≤ m → unsigned_abs b ≤ n → m * n ≤ k → unsigned_abs (a *ℤ b) ≤ k
+once : (a b : ℤ) (m n k : ℕ) → unsigned_abs a ≤ m → unsigned_abs b ≤ n → m * n ≤ k
+    → unsigned_abs (a *ℤ b) ≤ k
 once a b m n k p q r = omega (arith, abs_product a b m n p q)
 
-twice : (a b : ℤ) (m n k : ℕ) → unsigned_abs a ≤ m → unsigned_abs b ≤ n → 2 * (m * n) ≤ k → unsigned_abs (pos 2 *ℤ (a *ℤ b)) ≤ k
-twice a b m n k p q r = omega (arith, abs_product (pos 2) (a *ℤ b) 2 (m * n) (lit≤ tt) (abs_product a b m n p q))
+twice : (a b : ℤ) (m n k : ℕ) → unsigned_abs a ≤ m → unsigned_abs b ≤ n → 2 * (m * n) ≤ k
+    → unsigned_abs (pos 2 *ℤ (a *ℤ b)) ≤ k
+twice a b m n k p q r =
+    omega (arith, abs_product (pos 2) (a *ℤ b) 2 (m * n) (lit≤ tt) (abs_product a b m n p q))
 
-one_more : (x y : ℤ) (n k : ℕ) → unsigned_abs x ≤ k → unsigned_abs y ≤ n * k → unsigned_abs (x +ℤ y) ≤ (n + 1) * k
+one_more : (x y : ℤ) (n k : ℕ) → unsigned_abs x ≤ k → unsigned_abs y ≤ n * k
+    → unsigned_abs (x +ℤ y) ≤ (n + 1) * k
 one_more x y n k p q = omega (arith, abs_plus x y)
 
-plane_more : (f : Plane) (s : Sums) (n : ℕ) → IsFinePlane f → IsWithin n s → IsWithin (n + 1) (plus_sums (coefficients f) s)
+plane_more : (f : Plane) (s : Sums) (n : ℕ) → IsFinePlane f → IsWithin n s
+    → IsWithin (n + 1) (plus_sums (coefficients f) s)
 plane_more f s n h w = record {
-  xx = one_more (f.a *ℤ f.a) s.xx n (2 ^ 55) (once f.a f.a 134217728 134217728 (2 ^ 55) h.a h.a (lit≤ tt)) w.xx;
-  xy = one_more (pos 2 *ℤ (f.a *ℤ f.b)) s.xy n (2 ^ 55) (twice f.a f.b 134217728 134217728 (2 ^ 55) h.a h.b (lit≤ tt)) w.xy;
-  xz = one_more (pos 2 *ℤ (f.a *ℤ f.c)) s.xz n (2 ^ 55) (twice f.a f.c 134217728 134217728 (2 ^ 55) h.a h.c (lit≤ tt)) w.xz;
-  x = one_more (pos 2 *ℤ (f.a *ℤ f.d)) s.x n (2 ^ 72) (twice f.a f.d 134217728 13193736880128 (2 ^ 72) h.a h.d (lit≤ tt)) w.x;
-  yy = one_more (f.b *ℤ f.b) s.yy n (2 ^ 55) (once f.b f.b 134217728 134217728 (2 ^ 55) h.b h.b (lit≤ tt)) w.yy;
-  yz = one_more (pos 2 *ℤ (f.b *ℤ f.c)) s.yz n (2 ^ 55) (twice f.b f.c 134217728 134217728 (2 ^ 55) h.b h.c (lit≤ tt)) w.yz;
-  y = one_more (pos 2 *ℤ (f.b *ℤ f.d)) s.y n (2 ^ 72) (twice f.b f.d 134217728 13193736880128 (2 ^ 72) h.b h.d (lit≤ tt)) w.y;
-  zz = one_more (f.c *ℤ f.c) s.zz n (2 ^ 55) (once f.c f.c 134217728 134217728 (2 ^ 55) h.c h.c (lit≤ tt)) w.zz;
-  z = one_more (pos 2 *ℤ (f.c *ℤ f.d)) s.z n (2 ^ 72) (twice f.c f.d 134217728 13193736880128 (2 ^ 72) h.c h.d (lit≤ tt)) w.z;
-  one = one_more (f.d *ℤ f.d) s.one n (2 ^ 88) (once f.d f.d 13193736880128 13193736880128 (2 ^ 88) h.d h.d (lit≤ tt)) w.one;
+  xx = one_more (f.a *ℤ f.a) s.xx n (2 ^ 55)
+      (once f.a f.a 134217728 134217728 (2 ^ 55) h.a h.a (lit≤ tt)) w.xx;
+  xy = one_more (pos 2 *ℤ (f.a *ℤ f.b)) s.xy n (2 ^ 55)
+      (twice f.a f.b 134217728 134217728 (2 ^ 55) h.a h.b (lit≤ tt)) w.xy;
+  xz = one_more (pos 2 *ℤ (f.a *ℤ f.c)) s.xz n (2 ^ 55)
+      (twice f.a f.c 134217728 134217728 (2 ^ 55) h.a h.c (lit≤ tt)) w.xz;
+  x = one_more (pos 2 *ℤ (f.a *ℤ f.d)) s.x n (2 ^ 72)
+      (twice f.a f.d 134217728 13193736880128 (2 ^ 72) h.a h.d (lit≤ tt)) w.x;
+  yy = one_more (f.b *ℤ f.b) s.yy n (2 ^ 55)
+      (once f.b f.b 134217728 134217728 (2 ^ 55) h.b h.b (lit≤ tt)) w.yy;
+  yz = one_more (pos 2 *ℤ (f.b *ℤ f.c)) s.yz n (2 ^ 55)
+      (twice f.b f.c 134217728 134217728 (2 ^ 55) h.b h.c (lit≤ tt)) w.yz;
+  y = one_more (pos 2 *ℤ (f.b *ℤ f.d)) s.y n (2 ^ 72)
+      (twice f.b f.d 134217728 13193736880128 (2 ^ 72) h.b h.d (lit≤ tt)) w.y;
+  zz = one_more (f.c *ℤ f.c) s.zz n (2 ^ 55)
+      (once f.c f.c 134217728 134217728 (2 ^ 55) h.c h.c (lit≤ tt)) w.zz;
+  z = one_more (pos 2 *ℤ (f.c *ℤ f.d)) s.z n (2 ^ 72)
+      (twice f.c f.d 134217728 13193736880128 (2 ^ 72) h.c h.d (lit≤ tt)) w.z;
+  one = one_more (f.d *ℤ f.d) s.one n (2 ^ 88)
+      (once f.d f.d 13193736880128 13193736880128 (2 ^ 88) h.d h.d (lit≤ tt)) w.one;
   count = omega (arith, w.count);
 }
 
 pub sums_within : (fs : List Plane) → AreFinePlanes fs → IsWithin (length fs) (sums_of fs)
-sums_within [] hs = record { xx = omega arith; xy = omega arith; xz = omega arith; x = omega arith; yy = omega arith; yz = omega arith; y = omega arith; zz = omega arith; z = omega arith; one = omega arith; count = refl }
+sums_within [] hs = record {
+  xx = omega arith;
+  xy = omega arith;
+  xz = omega arith;
+  x = omega arith;
+  yy = omega arith;
+  yz = omega arith;
+  y = omega arith;
+  zz = omega arith;
+  z = omega arith;
+  one = omega arith;
+  count = refl;
+}
 sums_within (f ∷ fs) hs =
     let e : length fs + 1 ≡ length (f ∷ fs) = omega arith in
-    subst (λ (n : ℕ). IsWithin n (sums_of (f ∷ fs))) e (plane_more f (sums_of fs) (length fs) hs.0 (sums_within fs hs.1))
+    subst (λ (n : ℕ). IsWithin n (sums_of (f ∷ fs))) e
+    (plane_more f (sums_of fs) (length fs) hs.0 (sums_within fs hs.1))
 
 -- With at most as many planes as a quadric can stand for.
 at_most : (x n k m : ℕ) → x ≤ n * k → n ≤ MOST_FINE_PLANES → MOST_FINE_PLANES * k ≤ m → x ≤ m
@@ -74,5 +103,6 @@ within_small n s h w = record {
   count = omega (arith, w.count);
 }
 
-pub sums_small : (fs : List Plane) → AreFinePlanes fs → length fs ≤ MOST_FINE_PLANES → IsFineSmall (sums_of fs)
+pub sums_small : (fs : List Plane) → AreFinePlanes fs → length fs ≤ MOST_FINE_PLANES
+    → IsFineSmall (sums_of fs)
 sums_small fs hs few = within_small (length fs) (sums_of fs) few (sums_within fs hs)

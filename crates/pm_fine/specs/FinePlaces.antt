@@ -1,4 +1,5 @@
--- The places that a collapsed pair can take where its ends have fine planes, and which of them it takes.
+-- The places that a collapsed pair can take where its ends have fine planes, and which of them it
+-- takes.
 use Rattle.std.specs.Prelude.{ℕ, ◌≤◌, nat_lt, if◌then◌else◌, List, [], ◌∷◌, Option, None, Some}
 use Rattle.pm_base.specs.Place.{Place}
 use Rattle.pm_quadric.specs.Candidates.{midpoint}
@@ -7,7 +8,8 @@ use Rattle.pm_quadric.specs.Candidates.{midpoint}
 abbrev pub lesser : (Place → ℕ) → Place → Place → Place
 lesser value a b = if nat_lt (value b) (value a) then b else a
 
--- The first of a list's places at which a value is least; the place before the list is the first of all.
+-- The first of a list's places at which a value is least; the place before the list is the first of
+-- all.
 abbrev pub first_least_of : (Place → ℕ) → Place → List Place → Place
 first_least_of value a [] = a
 first_least_of value a (b ∷ rest) = first_least_of value (lesser value a b) rest

@@ -2,8 +2,8 @@
 use Rattle.std.specs.Prelude.{◌^◌, ◌≤◌, List, [], ◌∷◌, unsigned_abs}
 use Rattle.pm_quadric.specs.Planes.{Plane}
 
--- The numbers of the normal are at most 2 ^ 27, and the last number three times 32,767 times that, as it is where a place
--- is on the plane.
+-- The numbers of the normal are at most 2 ^ 27, and the last number three times 32,767 times that,
+-- as it is where a place is on the plane.
 pub record IsFinePlane (f : Plane) : Type 0 where
   pub a : unsigned_abs f.a ≤ 2 ^ 27
   pub b : unsigned_abs f.b ≤ 2 ^ 27

@@ -1,6 +1,8 @@
--- Normals whose length is chosen, so that a plane's squared value weighs a squared distance by a face's area or by a side's
--- squared length. A chosen length is seldom whole, so each number is the nearest whole one.
-use Rattle.std.specs.Prelude.{ℕ, ◌*◌, ◌^◌, ◌≤◌, ◌==◌, if◌then◌else◌, ℤ, pos, ◌-ℤ◌, ◌*ℤ◌, unsigned_abs}
+-- Normals whose length is chosen, so that a plane's squared value weighs a squared distance by a
+-- face's area or by a side's squared length. A chosen length is seldom whole, so each number is the
+-- nearest whole one.
+use Rattle.std.specs.Prelude.{ℕ, ◌*◌, ◌^◌, ◌≤◌, ◌==◌, if◌then◌else◌, ℤ, pos, ◌-ℤ◌, ◌*ℤ◌}
+use Rattle.std.specs.Prelude.{unsigned_abs}
 use Rattle.pm_base.specs.Place.{Place}
 use Rattle.pm_base.specs.Geometry.{Direction, norm2_of}
 use Rattle.pm_fine.specs.Rounded.{near, root}
@@ -24,7 +26,8 @@ scaled k r n = record { x = near (k *ℤ n.x) r; y = near (k *ℤ n.y) r; z = ne
 abbrev pub root_length : Direction → ℕ
 root_length n = root (root (norm2_of n * 2 ^ 48))
 
--- The face's normal n brought to the length 64 sqrt |n|: its square is 4,096 |n|, by the face's area.
+-- The face's normal n brought to the length 64 sqrt |n|: its square is 4,096 |n|, by the face's
+-- area.
 unfoldable pub area_normal_of : Direction → Direction
 area_normal_of n = if norm2_of n == 0 then no_direction else scaled (pos (2 ^ 18)) (root_length n) n
 
@@ -48,8 +51,8 @@ way_of a b = record { x = b.x -ℤ a.x; y = b.y -ℤ a.y; z = b.z -ℤ a.z }
 abbrev pub fine_length : Direction → ℕ
 fine_length n = root (norm2_of n * 2 ^ 24)
 
--- The normal of the plane along the side from a to b that stands square to the face with normal n, brought to the length
--- 352 |b - a|: its square is 30.25 x 4,096 |b - a| |b - a|.
+-- The normal of the plane along the side from a to b that stands square to the face with normal n,
+-- brought to the length 352 |b - a|: its square is 30.25 x 4,096 |b - a| |b - a|.
 unfoldable pub border_normal_of : Place → Place → Direction → Direction
 border_normal_of a b n = if norm2_of n == 0 then no_direction
     else scaled (pos (11 * 2 ^ 18)) (2 * fine_length n) (product_of (way_of a b) n)

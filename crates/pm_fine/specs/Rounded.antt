@@ -7,7 +7,8 @@ use Rattle.pm_base.specs.Rounded.{root_up}
 abbrev pub near : ℤ → ℕ → ℤ
 near a b = int_div_euclid (pos 2 *ℤ a +ℤ pos b) (pos (2 * b))
 
--- The greatest whole number whose square is at most n: one less than the least whose square is above n.
+-- The greatest whole number whose square is at most n: one less than the least whose square is
+-- above n.
 unfoldable pub root : ℕ → ℕ
 root n = root_up (n + 1) - 1
 

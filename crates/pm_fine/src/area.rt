@@ -1,5 +1,5 @@
-//! Normals of faces by area: as long as the root of what a normal by `cross` is, so that a plane's squared value at a
-//! point is the squared distance times the face's area.
+//! Normals of faces by area: as long as the root of what a normal by `cross` is, so that a plane's
+//! squared value at a point is the squared distance times the face's area.
 ghost use Rattle.std.specs.Prelude.{ℕ, ◌≡◌, ◌<◌, ◌≤◌, ◌-◌, ◌*◌, ◌^◌, pos, ◌*ℤ◌, unsigned_abs};
 ghost use Rattle.pm_base.specs.Geometry.{IsNormal, square_of, norm2_of};
 ghost use Rattle.pm_fine.specs.Rounded.{near, root};

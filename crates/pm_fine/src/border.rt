@@ -1,5 +1,6 @@
 //! Normals of the planes that stand on a border: without them nothing holds a border where it is.
-ghost use Rattle.std.specs.Prelude.{ℕ, ◌≡◌, ◌<◌, ◌≤◌, ◌+◌, ◌-◌, ◌*◌, ◌^◌, pos, ◌-ℤ◌, ◌*ℤ◌, unsigned_abs};
+ghost use Rattle.std.specs.Prelude.{ℕ, ◌≡◌, ◌<◌, ◌≤◌, ◌+◌, ◌-◌, ◌*◌, ◌^◌, pos, ◌-ℤ◌, ◌*ℤ◌};
+ghost use Rattle.std.specs.Prelude.{unsigned_abs};
 ghost use Rattle.pm_base.specs.declared.limits.TheConstants.{GREATEST_COORDINATE};
 ghost use Rattle.pm_base.specs.Geometry.{IsNormal, square_of};
 ghost use Rattle.pm_fine.specs.Rounded.{near, root};
@@ -48,7 +49,8 @@ fn minor(a: i64, b: i64, c: i64, d: i64) -> i64
     requires d_small { unsigned_abs d ≤ 8589410312 }
     ensures value { result ≡ a *ℤ d -ℤ b *ℤ c }
     ensures small { unsigned_abs result ≤ 2 ^ 50 }
-    ensures square { (q : ℕ) → square_of (unsigned_abs c) + square_of (unsigned_abs d) ≤ q → square_of (unsigned_abs result) ≤ 8589410312 * q }
+    ensures square { (q : ℕ) → square_of (unsigned_abs c) + square_of (unsigned_abs d) ≤ q
+        → square_of (unsigned_abs result) ≤ 8589410312 * q }
 {
     minus(product(a, d), product(b, c))
 }
@@ -60,7 +62,8 @@ fn fine_length(square: u128) -> u64
     ensures value { result ≡ root (square * 2 ^ 24) }
     ensures some { 4096 ≤ result }
     ensures small { result < 2 ^ 46 }
-    ensures reaches { (m : ℕ) → square_of m ≤ 8589410312 * square → m * 2883584 ≤ 67108863 * (2 * result) }
+    ensures reaches { (m : ℕ) → square_of m ≤ 8589410312 * square
+        → m * 2883584 ≤ 67108863 * (2 * result) }
 {
     root(square * 16_777_216)
 }
@@ -77,8 +80,9 @@ fn part(m: i64, length: u64) -> i32
     near_wide(2_883_584 * i128::from(m), 2 * length) as i32
 }
 
-/// The normal of the plane along the side from a to b that stands square to a face with normal n (as `cross` gives it),
-/// brought to 352 times the side's length. Without a face's area there is no plane.
+/// The normal of the plane along the side from a to b that stands square to a face with normal n
+/// (as `cross` gives it), brought to 352 times the side's length. Without a face's area there is no
+/// plane.
 pub fn border_normal(a: Point, b: Point, n: Normal) -> FineNormal
     requires { IsNormal (record { x = n.x; y = n.y; z = n.z }) }
     ensures value { result ≡ border_normal_of a b (record { x = n.x; y = n.y; z = n.z }) }

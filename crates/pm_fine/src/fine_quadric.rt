@@ -1,5 +1,7 @@
-//! Exact quadrics of fine planes: ten sums about the origin, as those of faces' planes, for more planes with smaller numbers.
-ghost use Rattle.std.specs.Prelude.{ℕ, ◌≡◌, ◌<◌, ◌≤◌, ◌+◌, ◌^◌, List, [], ◌∷◌, ◌++◌, length, ◌+ℤ◌, ◌*ℤ◌, unsigned_abs};
+//! Exact quadrics of fine planes: ten sums about the origin, as those of faces' planes, for more
+//! planes with smaller numbers.
+ghost use Rattle.std.specs.Prelude.{ℕ, ◌≡◌, ◌<◌, ◌≤◌, ◌+◌, ◌^◌, List, [], ◌∷◌, ◌++◌, length, ◌+ℤ◌};
+ghost use Rattle.std.specs.Prelude.{◌*ℤ◌, unsigned_abs};
 ghost use Rattle.pm_base.specs.Place.{IsPlace};
 ghost use Rattle.pm_quadric.specs.Planes.{Plane, squares_of};
 ghost use Rattle.pm_quadric.specs.Sums.{plus_sums, StandsFor};
@@ -14,16 +16,16 @@ use crate::terms::{add_four, add_three, double, linear, pair, quadratic};
 use pm_base::Point;
 use std::marker::Model;
 
-/// The greatest number of planes that a fine quadric can stand for. A mesh of 1,048,576 faces has three for each of them,
-/// two for each of three sides, and what two vertices take.
+/// The greatest number of planes that a fine quadric can stand for. A mesh of 1,048,576 faces has
+/// three for each of them, two for each of three sides, and what two vertices take.
 pub const MOST_FINE_PLANES: u32 = 16_777_216;
 
 // Clauses and definitions cite the limit by its name, so its value is said here.
 const _: () = prove!(MOST_FINE_PLANES == 16_777_216);
 
-/// The sums, over a list of fine planes, of the ten coefficients of the squared plane value, and the number of planes. The
-/// quadric stands for each list that has these sums, and the type keeps that there is one of at most `MOST_FINE_PLANES`
-/// planes. No call takes memory.
+/// The sums, over a list of fine planes, of the ten coefficients of the squared plane value, and
+/// the number of planes. The quadric stands for each list that has these sums, and the type keeps
+/// that there is one of at most `MOST_FINE_PLANES` planes. No call takes memory.
 #[derive(Clone, Copy, Debug, PartialEq, Eq)]
 pub struct FineQuadric {
     xx: i128,
@@ -45,11 +47,47 @@ impl Model for FineQuadric {
 
     ghost Value = { Sums };
 
-    ghost view = { λ q. record { xx = q.xx; xy = q.xy; xz = q.xz; x = q.x; yy = q.yy; yz = q.yz; y = q.y; zz = q.zz; z = q.z; one = q.one; count = q.count } };
+    ghost view = { λ q. record {
+      xx = q.xx;
+      xy = q.xy;
+      xz = q.xz;
+      x = q.x;
+      yy = q.yy;
+      yz = q.yz;
+      y = q.y;
+      zz = q.zz;
+      z = q.z;
+      one = q.one;
+      count = q.count;
+    } };
 
-    ghost invariant = { λ q. IsFineQuadric (record { xx = q.xx; xy = q.xy; xz = q.xz; x = q.x; yy = q.yy; yz = q.yz; y = q.y; zz = q.zz; z = q.z; one = q.one; count = q.count }) };
+    ghost invariant = { λ q. IsFineQuadric (record {
+      xx = q.xx;
+      xy = q.xy;
+      xz = q.xz;
+      x = q.x;
+      yy = q.yy;
+      yz = q.yz;
+      y = q.y;
+      zz = q.zz;
+      z = q.z;
+      one = q.one;
+      count = q.count;
+    }) };
 
-    ghost inverse = { λ q. record { xx = q.xx; xy = q.xy; xz = q.xz; x = q.x; yy = q.yy; yz = q.yz; y = q.y; zz = q.zz; z = q.z; one = q.one; count = q.count } };
+    ghost inverse = { λ q. record {
+      xx = q.xx;
+      xy = q.xy;
+      xz = q.xz;
+      x = q.x;
+      yy = q.yy;
+      yz = q.yz;
+      y = q.y;
+      zz = q.zz;
+      z = q.z;
+      one = q.one;
+      count = q.count;
+    } };
 }
 
 // Half the slope along an axis at a place, from a row of the matrix and the sum of that axis alone.
@@ -122,7 +160,8 @@ impl FineQuadric {
     pub fn plus(&self, other: &FineQuadric) -> FineQuadric
         requires { self.now.count + other.now.count ≤ MOST_FINE_PLANES }
         ensures sums { result ≡ plus_sums self.now other.now }
-        ensures lists { (fs gs : List Plane) → StandsFor self.now fs → StandsFor other.now gs → StandsFor result (fs ++ gs) }
+        ensures lists { (fs gs : List Plane) → StandsFor self.now fs → StandsFor other.now gs
+            → StandsFor result (fs ++ gs) }
     {
         FineQuadric {
             xx: self.xx + other.xx,
@@ -207,7 +246,8 @@ impl FineQuadric {
         add_four(squares, mixed, linear, self.one)
     }
 
-    /// The sum of the squares of its planes' values at `p`. The time doesn't depend on the number of planes.
+    /// The sum of the squares of its planes' values at `p`. The time doesn't depend on the number
+    /// of planes.
     pub fn value_at(&self, p: Point) -> u128
         ensures lists { (fs : List Plane) → StandsFor self.now fs → result ≡ squares_of fs p }
         ensures small { result < 2 ^ 114 }

@@ -112,7 +112,8 @@ fn solved_place(m: Point, reach: u32, a: &Matrix, g: &Vector) -> Option<Point>
 /// ends and one; and where the value is too steep at the midpoint. It takes no loop and no memory.
 pub fn fourth_place(q: &FineQuadric, t: Point, u: Point) -> Option<Point>
     ensures value { result ≡ fourth_place_of q.now t u }
-    ensures lists { (fs : List Plane) → StandsFor q.now fs → result ≡ fourth_place_of (sums_of fs) t u }
+    ensures lists { (fs : List Plane) → StandsFor q.now fs
+        → result ≡ fourth_place_of (sums_of fs) t u }
 {
     let m = midpoint_of(t, u);
     let matrix = q.matrix();
@@ -123,9 +124,9 @@ pub fn fourth_place(q: &FineQuadric, t: Point, u: Point) -> Option<Point>
 }
 
 /// What the definition of the fourth candidate gives; it takes no step. Where the gradient is 0, a
-/// value is least of all places. The cofactors solve by Cramer's rule. So such a place is the fourth
-/// candidate, where it is near and no number loses a digit. Each fourth candidate is a place, and
-/// there are rows worked by hand.
+/// value is least of all places. The cofactors solve by Cramer's rule. So such a place is the
+/// fourth candidate, where it is near and no number loses a digit. Each fourth candidate is a
+/// place, and there are rows worked by hand.
 pub fn fourth_places_are_sound()
     ensures least { LeastWhereLevel }
     ensures rule { CofactorsSolve }

@@ -1,4 +1,5 @@
-//! Planes whose normals have a chosen length, their exact quadrics, and the place of a pair by them, all in whole numbers.
+//! Planes whose normals have a chosen length, their exact quadrics, and the place of a pair by
+//! them, all in whole numbers.
 #![tactic(auto)]
 
 mod area;

@@ -116,7 +116,8 @@ impl Matrix {
     pub(crate) fn short(&self, digits: u32) -> Matrix
         requires { digits < 128 }
         ensures value { result ≡ short_matrix digits self.now }
-        ensures within { (m : ℕ) → IsMatrixWithin (m * 2 ^ digits) self.now → IsMatrixWithin m result }
+        ensures within { (m : ℕ) → IsMatrixWithin (m * 2 ^ digits) self.now
+            → IsMatrixWithin m result }
     {
         Matrix {
             xx: short(self.xx, digits),

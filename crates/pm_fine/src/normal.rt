@@ -4,7 +4,8 @@ ghost use Rattle.pm_fine.specs.Normals.{IsWithin, IsFineNormal, no_direction, do
 
 use std::marker::Model;
 
-/// A vector square to a plane, whose length is the weight of the plane. Its numbers are from -2^27 to 2^27.
+/// A vector square to a plane, whose length is the weight of the plane. Its numbers are from -2^27
+/// to 2^27.
 #[derive(Clone, Copy, Debug, PartialEq, Eq)]
 pub struct FineNormal {
     x: i32,

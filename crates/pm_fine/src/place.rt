@@ -49,7 +49,8 @@ fn lesser(q: &FineQuadric, a: Point, at_a: u128, b: Point) -> (Point, u128)
 
 // The first least of the candidates, and its value.
 fn first_least(q: &FineQuadric, t: Point, u: Point, fourth: Option<Point>) -> (Point, u128)
-    ensures place { (fs : List Plane) → StandsFor q.now fs → result.0 ≡ fine_place_of (squares_of fs) t u fourth }
+    ensures place { (fs : List Plane) → StandsFor q.now fs
+        → result.0 ≡ fine_place_of (squares_of fs) t u fourth }
     ensures value { (fs : List Plane) → StandsFor q.now fs → result.1 ≡ squares_of fs result.0 }
     ensures small { result.1 < 2 ^ 114 }
 {
@@ -61,11 +62,13 @@ fn first_least(q: &FineQuadric, t: Point, u: Point, fourth: Option<Point>) -> (P
     }
 }
 
-/// The first of t, u, their midpoint and the fourth place, if there is one, at which the quadric's value is least, and that
-/// value. The midpoint's coordinates are rounded down.
+/// The first of t, u, their midpoint and the fourth place, if there is one, at which the quadric's
+/// value is least, and that value. The midpoint's coordinates are rounded down.
 pub fn least_place(q: &FineQuadric, t: Point, u: Point, fourth: Option<Point>) -> (Point, u128)
-    ensures place { (fs : List Plane) → StandsFor q.now fs → result.0 ≡ fine_place_of (squares_of fs) t u fourth }
-    ensures least { (fs : List Plane) → StandsFor q.now fs → IsLeastOf (squares_of fs) result.0 (t ∷ others_of t u fourth) }
+    ensures place { (fs : List Plane) → StandsFor q.now fs
+        → result.0 ≡ fine_place_of (squares_of fs) t u fourth }
+    ensures least { (fs : List Plane) → StandsFor q.now fs
+        → IsLeastOf (squares_of fs) result.0 (t ∷ others_of t u fourth) }
     ensures value { (fs : List Plane) → StandsFor q.now fs → result.1 ≡ squares_of fs result.0 }
     ensures small { result.1 < 2 ^ 114 }
 {

@@ -1,4 +1,5 @@
-//! The terms of a fine quadric's polynomial, and their sums. The bounds leave each sum within 128 bits.
+//! The terms of a fine quadric's polynomial, and their sums. The bounds leave each sum within 128
+//! bits.
 ghost use Rattle.std.specs.Prelude.{◌≡◌, ◌≤◌, ◌*◌, ◌^◌, pos, ◌+ℤ◌, ◌*ℤ◌, unsigned_abs};
 ghost use Rattle.pm_base.specs.declared.limits.TheConstants.{GREATEST_COORDINATE};
 

@@ -20,8 +20,8 @@ abbrev pub quadrics_at : Slotted BothQuadrics → ℕ → BothQuadrics
 quadrics_at t v = item_at t v no_quadrics
 
 -- The policy is a fine one, and the two quadrics of each live vertex, in a slot of its own, stand
--- for the planes that it was brought and that it took. There is a slot for each vertex that can still
--- be made, since a collapse makes one of two.
+-- for the planes that it was brought and that it took. There is a slot for each vertex that can
+-- still be made, since a collapse makes one of two.
 pub record GoesByFine
     (t : Slotted BothQuadrics) (p : Policy) (m : Mesh) (log : List Collapse) : Type 0 where
   pub policy : p ≡ fine_keeping p.kept

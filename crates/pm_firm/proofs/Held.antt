@@ -1,14 +1,18 @@
--- What a record tells beyond the sides of one of its faces, and that a held face has a side with a neighbour.
-use Rattle.std.proofs.Common.{◌≡◌, ℕ, ◌<◌, eqb, true, false, cond, Option, Some, None, inl, inr, refl, sym, ap, ◌∙◌, subst}
+-- What a record tells beyond the sides of one of its faces, and that a held face has a side with a
+-- neighbour.
+use Rattle.std.proofs.Common.{◌≡◌, ℕ, ◌<◌, eqb, true, false, cond, Option, Some, None, inl, inr}
+use Rattle.std.proofs.Common.{refl, sym, ap, ◌∙◌, subst}
 use Rattle.std.specs.Option.{is_some, unwrap_or}
-use Rattle.std.proofs.lemmas.Bool.{cases_Bool, both_ways, false≢true, or_cases, cond-true, cond-false, and_parts, eq-eqb}
+use Rattle.std.proofs.lemmas.Bool.{cases_Bool, both_ways, false≢true, or_cases, cond-true}
+use Rattle.std.proofs.lemmas.Bool.{cond-false, and_parts, eq-eqb}
 use Rattle.pm_base.specs.Sides.{face_of, next}
 use Rattle.pm_base.specs.declared.ids.Side.{Side}
 use Rattle.pm_base.proofs.Search.{some_from}
 use Rattle.pm_base.proofs.Sides.{face_of-next}
 use Rattle.pm_forest.specs.declared.parts.NewFace.{NewFace}
 use Rattle.pm_forest.specs.Forest.{Hierarchy, record_at}
-use Rattle.pm_forest.specs.Faces.{first_face, face_count, revealed_by, is_left, no_face, new_face, inner_of}
+use Rattle.pm_forest.specs.Faces.{first_face, face_count, revealed_by, is_left, no_face, new_face}
+use Rattle.pm_forest.specs.Faces.{inner_of}
 use Rattle.pm_forest.proofs.FaceNumbers.{which_face}
 use Rattle.pm_forest.proofs.ShapeLaws.{left_from}
 use Rattle.pm_forest.proofs.Sides.{next-differs, next_next-differs, inner-face}
@@ -35,21 +39,39 @@ module _ (h : Hierarchy) (k f : ℕ) (fl : f < face_count h) (own : revealed_by 
   inner_expected =
       let face = inner-face h k f in
       ap (expected_at h i) (ap (λ g. revealed_by h g) face ∙ own)
-      ∙ ap (λ g. cond (eqb i (inner_of h k g)) (mate_of h k g) (cond (eqb i (next (inner_of h k g))) (number_of (new_face h k g).first) (number_of (new_face h k g).second))) face
-      ∙ cond-true (eqb i i) (mate_of h k f) (cond (eqb i (next i)) (number_of (new_face h k f).first) (number_of (new_face h k f).second)) (eq-eqb i i refl)
+      ∙ ap (λ g. cond (eqb i (inner_of h k g)) (mate_of h k g)
+      (cond (eqb i (next (inner_of h k g))) (number_of (new_face h k g).first)
+      (number_of (new_face h k g).second))) face
+      ∙ cond-true (eqb i i) (mate_of h k f)
+      (cond (eqb i (next i)) (number_of (new_face h k f).first)
+      (number_of (new_face h k f).second)) (eq-eqb i i refl)
 
   pub outer-first : IsOuter h k (next (inner_of h k f))
-  outer-first = (ap (λ g. revealed_by h g) face_first ∙ own, λ is. next-differs i (is ∙ ap (inner_of h k) face_first))
+  outer-first = (
+    ap (λ g. revealed_by h g) face_first
+        ∙ own,
+    λ is. next-differs i (is ∙ ap (inner_of h k) face_first),
+  )
 
   pub outer-second : IsOuter h k (next (next (inner_of h k f)))
-  outer-second = (ap (λ g. revealed_by h g) face_second ∙ own, λ is. next_next-differs i (is ∙ ap (inner_of h k) face_second))
+  outer-second = (
+    ap (λ g. revealed_by h g) face_second
+        ∙ own,
+    λ is. next_next-differs i (is ∙ ap (inner_of h k) face_second),
+  )
 
   -- the face is the left or the right one of the record
-  pub is-left-face : (n : NewFace) → is_left h k f ≡ true → (record_at h k).left ≡ Some n → new_face h k f ≡ n
-  is-left-face n is there = cond-true (is_left h k f) (unwrap_or (record_at h k).left no_face) (unwrap_or (record_at h k).right no_face) is ∙ ap (λ r. unwrap_or r no_face) there
+  pub is-left-face : (n : NewFace) → is_left h k f ≡ true → (record_at h k).left ≡ Some n
+      → new_face h k f ≡ n
+  is-left-face n is there =
+      cond-true (is_left h k f) (unwrap_or (record_at h k).left no_face)
+      (unwrap_or (record_at h k).right no_face) is ∙ ap (λ r. unwrap_or r no_face) there
 
-  pub is-right-face : (n : NewFace) → is_left h k f ≡ false → (record_at h k).right ≡ Some n → new_face h k f ≡ n
-  is-right-face n is there = cond-false (is_left h k f) (unwrap_or (record_at h k).left no_face) (unwrap_or (record_at h k).right no_face) is ∙ ap (λ r. unwrap_or r no_face) there
+  pub is-right-face : (n : NewFace) → is_left h k f ≡ false → (record_at h k).right ≡ Some n
+      → new_face h k f ≡ n
+  is-right-face n is there =
+      cond-false (is_left h k f) (unwrap_or (record_at h k).left no_face)
+      (unwrap_or (record_at h k).right no_face) is ∙ ap (λ r. unwrap_or r no_face) there
 
   is_held : FacesAreHeld h k → HasNeighbour (new_face h k f)
   unfolding is_left
@@ -69,9 +91,13 @@ module _ (h : Hierarchy) (k f : ℕ) (fl : f < face_count h) (own : revealed_by 
       ]
 
   -- A held face has an outer side at which a neighbour is recorded.
-  pub held_side : FacesAreHeld h k → (e : ℕ) × (b : ℕ) × (face_of e ≡ f) × IsOuter h k e × (expected h e ≡ Some b)
+  pub held_side : FacesAreHeld h k → (e : ℕ) × (b : ℕ) × (face_of e ≡ f) × IsOuter h k e
+      × (expected h e ≡ Some b)
   held_side held =
-      elim (or_cases (is_some (new_face h k f).first) (is_some (new_face h k f).second) (is_held held)) [
-        | inl a ↦ (let (b, is) = some_number (new_face h k f).first a in (next i, b, face_first, outer-first, first_expected h k f own ∙ is))
-        | inr a ↦ (let (b, is) = some_number (new_face h k f).second a in (next (next i), b, face_second, outer-second, second_expected h k f own ∙ is))
+      elim (or_cases (is_some (new_face h k f).first) (is_some (new_face h k f).second)
+      (is_held held)) [
+        | inl a ↦ (let (b, is) = some_number (new_face h k f).first a in
+            (next i, b, face_first, outer-first, first_expected h k f own ∙ is))
+        | inr a ↦ (let (b, is) = some_number (new_face h k f).second a in
+            (next (next i), b, face_second, outer-second, second_expected h k f own ∙ is))
       ]

@@ -1,9 +1,11 @@
 -- The mesh that a front shows before a legal split is the one after it with both children merged.
-use Rattle.std.proofs.Common.{◌≡◌, ◌≢◌, ℕ, ◌*◌, ◌<◌, Bool, true, inl, inr, refl, sym, ap, ◌∙◌, subst, arith}
+use Rattle.std.proofs.Common.{◌≡◌, ◌≢◌, ℕ, ◌*◌, ◌<◌, Bool, true, inl, inr, refl, sym, ap, ◌∙◌}
+use Rattle.std.proofs.Common.{subst, arith}
 use Rattle.std.proofs.lemmas.Bool.{cases_Bool, both_ways, cond-true, cond-false}
 use Rattle.pm_base.specs.Sides.{Net, next, Stands, IsTwin}
 use Rattle.pm_base.specs.Fans.{IsPairAt, IsOrientedManifold}
-use Rattle.pm_forest.specs.Forest.{Hierarchy, record_count, leaf_count, t_of, u_of, s_of, holds, Makes}
+use Rattle.pm_forest.specs.Forest.{Hierarchy, record_count, leaf_count, t_of, u_of, s_of, holds}
+use Rattle.pm_forest.specs.Forest.{Makes}
 use Rattle.pm_forest.specs.Fronts.{IsFront, ancestor_of, with}
 use Rattle.pm_forest.specs.Faces.{face_count, from_leaf, IsForest}
 use Rattle.pm_forest.proofs.Ancestors.{active-ancestor, ancestor_of-unique}
@@ -19,7 +21,8 @@ use Rattle.pm_runs.specs.Merged.{merged}
 use Rattle.pm_runs.proofs.Merges.{merge-pair, merge-other}
 use Rattle.pm_firm.specs.Firm.{shown_net}
 
-module _ (h : Hierarchy) (valid : IsValid h) (T : ℕ → Bool) (closed : IsClosed h T) (k : ℕ) (l : k < record_count h) (may : MaySplit h T k) where
+module _ (h : Hierarchy) (valid : IsValid h) (T : ℕ → Bool) (closed : IsClosed h T) (k : ℕ)
+    (l : k < record_count h) (may : MaySplit h T k) where
   abbrev tree : IsForest h
   tree = forest_of h valid
 
@@ -59,19 +62,26 @@ module _ (h : Hierarchy) (valid : IsValid h) (T : ℕ → Bool) (closed : IsClos
   rename v = merge (t_of h k) (u_of h k) (s_of h k) v
 
   pub both_s : (p q : ℕ) → IsPair (t_of h k) (u_of h k) p q → rename p ≡ rename q
-  both_s p q pair = let net_before = merge-pair (t_of h k) (u_of h k) (s_of h k) p q pair in net_before.0 ∙ sym net_before.1
+  both_s p q pair = let net_before = merge-pair (t_of h k) (u_of h k) (s_of h k) p q pair in
+      net_before.0 ∙ sym net_before.1
 
   -- The mesh before is the mesh after with both children merged.
   renames : (x : ℕ) → x < leaf_count h → rename (ancestor_of h (with T k) x) ≡ ancestor_of h T x
   renames x lx =
-      let both = merge-pair (t_of h k) (u_of h k) (s_of h k) (t_of h k) (u_of h k) (inl (refl, refl)) in
+      let both = merge-pair (t_of h k) (u_of h k) (s_of h k) (t_of h k) (u_of h k)
+      (inl (refl, refl)) in
       elim (cases_Bool (holds h (s_of h k) x)) [
         | inl in_s ↦
             let a = split-under h tree.forest T front k l may.active may.unsplit x lx in_s in
-            let before : ancestor_of h T x ≡ s_of h k = ancestor_of-unique h tree.forest T front (s_of h k) x may.active in_s in
+            let before : ancestor_of h T x ≡ s_of h k =
+            ancestor_of-unique h tree.forest T front (s_of h k) x may.active in_s in
             elim (cases_Bool (holds h (t_of h k) x)) [
-              | inl in_t ↦ ap rename (a ∙ cond-true (holds h (t_of h k) x) (t_of h k) (u_of h k) in_t) ∙ both.0 ∙ sym before
-              | inr in_u ↦ ap rename (a ∙ cond-false (holds h (t_of h k) x) (t_of h k) (u_of h k) in_u) ∙ both.1 ∙ sym before
+              | inl in_t ↦
+                  ap rename (a ∙ cond-true (holds h (t_of h k) x) (t_of h k) (u_of h k) in_t)
+                  ∙ both.0 ∙ sym before
+              | inr in_u ↦
+                  ap rename (a ∙ cond-false (holds h (t_of h k) x) (t_of h k) (u_of h k) in_u)
+                  ∙ both.1 ∙ sym before
             ]
         | inr out ↦
             let a = split-elsewhere h tree.forest T front k l may.active x lx out in
@@ -144,10 +154,14 @@ module _ (h : Hierarchy) (valid : IsValid h) (T : ℕ → Bool) (closed : IsClos
         manifold.no_side_twice e g (there_m e et) (there_m g gt)
         (sym (corner e et.is_side) ∙ a ∙ corner g gt.is_side)
         (sym (corner (next e) (next_lt e et.is_side)) ∙ b ∙ corner (next g) (next_lt g gt.is_side));
-    fans = λ v u. let f = manifold.fans v (u.0, there_m u.0 u.1, sym (corner u.0 u.1.is_side) ∙ u.2) in record {
-      w = f.w;
-      n = f.n;
-      chain = record { here = λ i l. pair_c (f.chain.here i l); all = λ x y g. f.chain.all x y (pair_m g) };
-      ends = f.ends;
-    };
+    fans = λ v u. let f =
+        manifold.fans v (u.0, there_m u.0 u.1, sym (corner u.0 u.1.is_side) ∙ u.2) in record {
+          w = f.w;
+          n = f.n;
+          chain = record {
+            here = λ i l. pair_c (f.chain.here i l);
+            all = λ x y g. f.chain.all x y (pair_m g);
+          };
+          ends = f.ends;
+        };
   }

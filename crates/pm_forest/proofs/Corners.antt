@@ -1,6 +1,8 @@
 -- The corners of a face in order, and the side of a new face that runs from one child to the other.
-use Rattle.std.proofs.Common.{◌≡◌, ℕ, ◌+◌, ◌*◌, ◌%◌, ◌<◌, true, false, cond, not, ◌&&◌, ◌||◌, ◌⊎◌, inl, inr, refl, arith}
-use Rattle.std.proofs.lemmas.Bool.{cases_eq, or_cases, and_parts, not-true, both_ways, false_from_ne_true}
+use Rattle.std.proofs.Common.{◌≡◌, ℕ, ◌+◌, ◌*◌, ◌%◌, ◌<◌, true, false, cond, not, ◌&&◌, ◌||◌, ◌⊎◌}
+use Rattle.std.proofs.Common.{inl, inr, refl, arith}
+use Rattle.std.proofs.lemmas.Bool.{cases_eq, or_cases, and_parts, not-true, both_ways}
+use Rattle.std.proofs.lemmas.Bool.{false_from_ne_true}
 use Rattle.pm_base.specs.Sides.{face_of, next}
 use Rattle.pm_forest.specs.declared.parts.Face.{Face}
 use Rattle.pm_forest.specs.Forest.{Hierarchy, leaf_count, interval_of, holds, Holds}
@@ -9,7 +11,8 @@ use Rattle.pm_forest.specs.Rules.{runs, runs_from}
 
 -- The sides of face f: the corner where each begins, and the side that follows it.
 
-pub corner_a : (h : Hierarchy) (f : ℕ) → (from_leaf h (3 * f) ≡ (corners_of h f).a) × (next (3 * f) ≡ 3 * f + 1)
+pub corner_a : (h : Hierarchy) (f : ℕ) → (from_leaf h (3 * f) ≡ (corners_of h f).a)
+    × (next (3 * f) ≡ 3 * f + 1)
 unfolding from_leaf next
 corner_a h f =
     let face : face_of (3 * f) ≡ f = omega arith in
@@ -24,21 +27,28 @@ corner_b h f =
     let place : (3 * f + 1) % 3 ≡ 1 = omega arith in
     ((rw (place, face) refl), (rw place (omega arith)))
 
-pub corner_c : (h : Hierarchy) (f : ℕ) → (from_leaf h (3 * f + 2) ≡ (corners_of h f).c) × (next (3 * f + 2) ≡ 3 * f)
+pub corner_c : (h : Hierarchy) (f : ℕ) → (from_leaf h (3 * f + 2) ≡ (corners_of h f).c)
+    × (next (3 * f + 2) ≡ 3 * f)
 unfolding from_leaf next
 corner_c h f =
     let face : face_of (3 * f + 2) ≡ f = omega arith in
     let place : (3 * f + 2) % 3 ≡ 2 = omega arith in
     ((rw (place, face) refl), (rw place (omega arith)))
 
-pub which_corner : (e : ℕ) → (e ≡ 3 * face_of e) ⊎ ((e ≡ 3 * face_of e + 1) ⊎ (e ≡ 3 * face_of e + 2))
+pub which_corner : (e : ℕ)
+    → (e ≡ 3 * face_of e) ⊎ ((e ≡ 3 * face_of e + 1) ⊎ (e ≡ 3 * face_of e + 2))
 which_corner e =
     elim (cases_eq (e % 3) 0) [
       | inl a ↦ inl (omega arith)
-      | inr a ↦ elim (cases_eq (e % 3) 1) [ inl b ↦ inr (inl (omega arith)) | inr b ↦ inr (inr (omega arith)) ]
+      | inr a ↦ elim (cases_eq (e % 3) 1) [
+        | inl b ↦ inr (inl (omega arith))
+        | inr b ↦
+            inr (inr (omega arith))
+      ]
     ]
 
--- The corners of f are leaves, and in cyclic order there is one under p, one under q and one outside s.
+-- The corners of f are leaves, and in cyclic order there is one under p, one under q and one
+-- outside s.
 pub record CornersFit (h : Hierarchy) (p q s : ℕ) (f : Face) : Type 0 where
   pub a : f.a < leaf_count h
   pub b : f.b < leaf_count h
@@ -50,7 +60,8 @@ abbrev pub AreAlong : Hierarchy → ℕ → ℕ → ℕ → ℕ → ℕ → ℕ 
 AreAlong h p q s x y z = Holds h p x × Holds h q y × (holds h s z ≡ false)
 
 pub along : (h : Hierarchy) (p q s x y z : ℕ) →
-    runs_from (interval_of h p) (interval_of h q) (interval_of h s) x y z ≡ true → AreAlong h p q s x y z
+    runs_from (interval_of h p) (interval_of h q) (interval_of h s) x y z ≡ true
+    → AreAlong h p q s x y z
 unfolding holds
 along h p q s x y z e =
     let m = and_parts (holds h p x && holds h q y) (not (holds h s z)) e in
@@ -58,7 +69,8 @@ along h p q s x y z e =
     (n.0, n.1, not-true (holds h s z) m.1)
 
 -- in one of the three orders that a face's corners have
-pub ways : (h : Hierarchy) (p q s : ℕ) (f : Face) → runs (interval_of h p) (interval_of h q) (interval_of h s) f ≡ true →
+pub ways : (h : Hierarchy) (p q s : ℕ) (f : Face)
+    → runs (interval_of h p) (interval_of h q) (interval_of h s) f ≡ true →
     AreAlong h p q s f.a f.b f.c ⊎ (AreAlong h p q s f.b f.c f.a ⊎ AreAlong h p q s f.c f.a f.b)
 unfolding runs
 ways h p q s f e =
@@ -73,19 +85,24 @@ ways h p q s f e =
 
 -- The first side of face f that begins under p.
 abbrev pub side_under : Hierarchy → ℕ → ℕ → ℕ
-side_under h p f = cond (holds h p (from_leaf h (3 * f))) (3 * f) (cond (holds h p (from_leaf h (3 * f + 1))) (3 * f + 1) (3 * f + 2))
+side_under h p f =
+    cond (holds h p (from_leaf h (3 * f))) (3 * f)
+    (cond (holds h p (from_leaf h (3 * f + 1))) (3 * f + 1) (3 * f + 2))
 
 -- where no leaf under p is under q or outside s, that side runs from p to q
 pub side_along : (h : Hierarchy) (p q s f : ℕ) → ((x : ℕ) → Holds h p x → Holds h s x) →
     ((x : ℕ) → Holds h p x → Holds h q x → ⊥) →
-    CornersFit h p q s (corners_of h f) → let i = side_under h p f in AreAlong h p q s (from_leaf h i) (to_leaf h i) (from_leaf h (next (next i)))
+    CornersFit h p q s (corners_of h f) → let i =
+    side_under h p f in
+    AreAlong h p q s (from_leaf h i) (to_leaf h i) (from_leaf h (next (next i)))
 side_along h p q s f inside apart fits =
     let a = corner_a h f in
     let b = corner_b h f in
     let c = corner_c h f in
     let outside : (x : ℕ) → holds h s x ≡ false → holds h p x ≡ false = λ x e.
     false_from_ne_true (holds h p x) (λ g. both_ways (holds h s x) e (inside x g)) in
-    let other : (x : ℕ) → Holds h q x → holds h p x ≡ false = λ x e. false_from_ne_true (holds h p x) (λ g. apart x g e) in
+    let other : (x : ℕ) → Holds h q x → holds h p x ≡ false =
+    λ x e. false_from_ne_true (holds h p x) (λ g. apart x g e) in
     elim (ways h p q s (corners_of h f) fits.runs) [
       | inl first ↦
           let at_a : Holds h p (from_leaf h (3 * f)) = rw a.0 first.0 in

@@ -1,15 +1,18 @@
 -- A forest that grows, before its first unit, and when each kind of unit may come next.
-use Rattle.std.proofs.Common.{◌≡◌, ◌+◌, ◌*◌, ◌<◌, ◌≤◌, Bool, true, false, cond, List, [], length, replicate, None, Some, Option, is_some, inr, refl, ap, ◌∙◌, arith}
+use Rattle.std.proofs.Common.{◌≡◌, ◌+◌, ◌*◌, ◌<◌, ◌≤◌, Bool, true, false, cond, List, [], length}
+use Rattle.std.proofs.Common.{replicate, None, Some, Option, is_some, inr, refl, ap, ◌∙◌, arith}
 use Rattle.std.proofs.lemmas.List.{length-replicate}
 use Rattle.std.specs.Prelude.{IfSome}
 use Rattle.pm_base.specs.Counts.{one_if}
 use Rattle.pm_forest.specs.declared.parts.Root.{Root}
 use Rattle.pm_forest.specs.declared.parts.Face.{Face}
 use Rattle.pm_forest.specs.declared.parts.Record.{Record}
-use Rattle.pm_forest.specs.Forest.{node_count, record_count, interval_of, splitter_of, HasForestShape}
+use Rattle.pm_forest.specs.Forest.{node_count, record_count, interval_of, splitter_of}
+use Rattle.pm_forest.specs.Forest.{HasForestShape}
 use Rattle.pm_forest.specs.Faces.{face_count}
 use Rattle.pm_forest.specs.Rules.{counts_are_bad}
-use Rattle.pm_forest.specs.Tables.{Grown, grown, Parts, IsGrowing, most_faces, WithoutFaces, record_total, units}
+use Rattle.pm_forest.specs.Tables.{Grown, grown, Parts, IsGrowing, most_faces, WithoutFaces}
+use Rattle.pm_forest.specs.Tables.{record_total, units}
 use Rattle.pm_forest.proofs.UnitLaws.{counts_fit}
 use Rattle.pm_forest.proofs.GrowingTables.{no_tables}
 
@@ -24,7 +27,8 @@ pub none_coming : (coming : Option Record) → one_if (is_some coming) ≡ 0 →
 none_coming None zero = refl
 none_coming (Some r) zero = absurd (omega arith)
 
-pub some_coming : (coming : Option Record) → is_some coming ≡ true → (r : Record) × (coming ≡ Some r)
+pub some_coming : (coming : Option Record) → is_some coming ≡ true
+    → (r : Record) × (coming ≡ Some r)
 some_coming None there = absurd cc
 some_coming (Some r) there = (r, refl)
 
@@ -53,7 +57,8 @@ started p fit e =
     let nodes = p.counts.roots + 2 * p.counts.records in
     let roots = ap length e.no_roots in
     let bases = ap length e.no_bases in
-    let records : record_total p.records.items p.coming ≡ 0 = (rw (e.no_records, e.no_coming) refl) in
+    let records : record_total p.records.items p.coming ≡ 0 =
+    (rw (e.no_records, e.no_coming) refl) in
     let list = ap length e.no_records in
     let owners = ap length e.no_owners in
     let faces = ap length e.no_faces in
@@ -81,13 +86,27 @@ started p fit e =
       revealed_room = omega arith;
       shape = rw (e.no_coming, e.no_records) (no_shape p.roots.items p.bases.items);
       tables =
-          rw (e.no_roots, e.no_bases, e.no_records, e.no_coming, e.intervals, e.splitters, e.leaf_nodes, e.no_faces, e.no_revealed)
+          rw (
+            e.no_roots,
+            e.no_bases,
+            e.no_records,
+            e.no_coming,
+            e.intervals,
+            e.splitters,
+            e.leaf_nodes,
+            e.no_faces,
+            e.no_revealed,
+          )
           (no_tables nodes p.counts.leaves);
     }
 
 -- What contracts see of a forest with these parts.
 abbrev pub seen : Parts → Grown
-seen p = record { counts = p.counts; h = units p.roots.items p.bases.items p.records.items None; coming = p.coming }
+seen p = record {
+  counts = p.counts;
+  h = units p.roots.items p.bases.items p.records.items None;
+  coming = p.coming;
+}
 
 -- When a record may come next.
 pub record TakesRecord (g : Grown) (r : Record) : Type 0 where

@@ -1,37 +1,52 @@
 -- The tables of a forest with one unit more.
-use Rattle.std.proofs.Common.{◌≡◌, ◌≢◌, ℕ, ◌+◌, ◌<◌, ◌≤◌, eqb, Bool, true, false, cond, List, [], ◌∷◌, ◌++◌, length, sum, get_or, set, replicate, None, Some, Option, is_some, inl, inr, refl, sym, ap, ◌∙◌, arith, length-set}
-use Rattle.std.proofs.lemmas.Bool.{cases_lt, cases_eq, eq-eqb, ne_eqb, le-leb, lt-leb, cond-true, cond-false}
-use Rattle.std.proofs.lemmas.List.{append-nil, append_assoc, get_or_append_left, get_or_push, get_or-set_same, get_or-set_other, get_or-replicate, length_push, length-replicate}
+use Rattle.std.proofs.Common.{◌≡◌, ◌≢◌, ℕ, ◌+◌, ◌<◌, ◌≤◌, eqb, Bool, true, false, cond, List, []}
+use Rattle.std.proofs.Common.{◌∷◌, ◌++◌, length, sum, get_or, set, replicate, None, Some, Option}
+use Rattle.std.proofs.Common.{is_some, inl, inr, refl, sym, ap, ◌∙◌, arith, length-set}
+use Rattle.std.proofs.lemmas.Bool.{cases_lt, cases_eq, eq-eqb, ne_eqb, le-leb, lt-leb, cond-true}
+use Rattle.std.proofs.lemmas.Bool.{cond-false}
+use Rattle.std.proofs.lemmas.List.{append-nil, append_assoc, get_or_append_left, get_or_push}
+use Rattle.std.proofs.lemmas.List.{get_or-set_same, get_or-set_other, get_or-replicate, length_push}
+use Rattle.std.proofs.lemmas.List.{length-replicate}
 use Rattle.pm_base.specs.Counts.{one_if}
 use Rattle.pm_base.proofs.Counts.{one_if-le}
 use Rattle.pm_forest.specs.declared.parts.Root.{Root}
 use Rattle.pm_forest.specs.declared.parts.Face.{Face}
 use Rattle.pm_forest.specs.declared.parts.NewFace.{NewFace}
 use Rattle.pm_forest.specs.declared.parts.Record.{Record}
-use Rattle.pm_forest.specs.Forest.{Hierarchy, widths_of, node_count, record_count, t_of, u_of, interval_after, interval_of, splitter_of, HasForestShape}
+use Rattle.pm_forest.specs.Forest.{Hierarchy, widths_of, node_count, record_count, t_of, u_of}
+use Rattle.pm_forest.specs.Forest.{interval_after, interval_of, splitter_of, HasForestShape}
 use Rattle.pm_forest.specs.Fronts.{every, ancestor_after}
-use Rattle.pm_forest.specs.Faces.{face_in, faces_in, faces_of, first_face, face_count, revealed_after, revealed_by}
+use Rattle.pm_forest.specs.Faces.{face_in, faces_in, faces_of, first_face, face_count}
+use Rattle.pm_forest.specs.Faces.{revealed_after, revealed_by}
 use Rattle.pm_forest.specs.Rules.{with_record}
-use Rattle.pm_forest.specs.Tables.{IsSingle, leaf_node_of, AreTables, WithoutFaces, units, with_new_face}
+use Rattle.pm_forest.specs.Tables.{IsSingle, leaf_node_of, AreTables, WithoutFaces, units}
+use Rattle.pm_forest.specs.Tables.{with_new_face}
 use Rattle.pm_forest.proofs.Ancestors.{ancestor-lt}
-use Rattle.pm_forest.proofs.Prefix.{record_count-with_record, interval_of-with_record, interval_of-with_record_t, interval_of-with_record_u, splitter_of-with_record, face_count-with_record, revealed_by-with_record, faces_of-with_record}
+use Rattle.pm_forest.proofs.Prefix.{record_count-with_record, interval_of-with_record}
+use Rattle.pm_forest.proofs.Prefix.{interval_of-with_record_t, interval_of-with_record_u}
+use Rattle.pm_forest.proofs.Prefix.{splitter_of-with_record, face_count-with_record}
+use Rattle.pm_forest.proofs.Prefix.{revealed_by-with_record, faces_of-with_record}
 use Rattle.pm_forest.proofs.SameSplit.{interval_of-same_split, splitter_of-same_split}
-use Rattle.pm_forest.proofs.RootTables.{width_count, widths-push, root_interval-push, root_interval-last}
-use Rattle.pm_forest.proofs.LeafNodes.{noted, leaf-last, leaf-before, Splits, both_noted, leaf-with_record, leaf_node-same_split}
+use Rattle.pm_forest.proofs.RootTables.{width_count, widths-push, root_interval-push}
+use Rattle.pm_forest.proofs.RootTables.{root_interval-last}
+use Rattle.pm_forest.proofs.LeafNodes.{noted, leaf-last, leaf-before, Splits, both_noted}
+use Rattle.pm_forest.proofs.LeafNodes.{leaf-with_record, leaf_node-same_split}
 
 -- What a new face does to its record.
 pub record AddsFace (r q : Record) (f : Face) : Type 0 where
   pub node : r.s ≡ q.s
   pub width : r.width ≡ q.width
   pub faces : faces_in q ≡ faces_in r ++ f ∷ []
-  pub total : one_if (is_some q.left) + one_if (is_some q.right) ≡ one_if (is_some r.left) + one_if (is_some r.right) + 1
+  pub total : one_if (is_some q.left) + one_if (is_some q.right)
+      ≡ one_if (is_some r.left) + one_if (is_some r.right) + 1
   pub most : one_if (is_some q.left) + one_if (is_some q.right) ≤ 2
 
 pub faces_none : (n : Option NewFace) → is_some n ≡ false → face_in n ≡ []
 faces_none None none = refl
 faces_none (Some n) none = absurd cc
 
-pub adds_face : (r : Record) (left : Bool) (n : NewFace) → is_some (cond left r.left r.right) ≡ false →
+pub adds_face : (r : Record) (left : Bool) (n : NewFace) → is_some (cond left r.left r.right)
+    ≡ false →
     (left ≡ true → is_some r.right ≡ false) → AddsFace r (with_new_face r left n) n.face
 adds_face r true n free in_order =
     let no_left : one_if (is_some r.left) ≡ 0 = ap one_if free in
@@ -55,11 +70,13 @@ adds_face r false n free in_order =
     }
 
 -- the tables of no unit
-pub no_tables : (n m : ℕ) → AreTables (units [] [] [] None) (replicate n (0, 0)) (replicate n None) (replicate m 0) [] []
+pub no_tables : (n m : ℕ)
+    → AreTables (units [] [] [] None) (replicate n (0, 0)) (replicate n None) (replicate m 0) [] []
 unfolding splitter_of faces_of first_face revealed_after
 no_tables n m = record {
   spans = λ v l. absurd (omega arith);
-  split = λ v l. get_or-replicate n v None None (omega (arith, length-replicate {A = Option ℕ} n None));
+  split = λ v l. get_or-replicate n v None None
+      (omega (arith, length-replicate {A = Option ℕ} n None));
   leaves = λ x l single. absurd (omega arith);
   faces_are = refl;
   face_len = refl;
@@ -67,14 +84,17 @@ no_tables n m = record {
   revealed_are = λ f l. refl;
 }
 
-module _ {intervals : List (ℕ × ℕ)} {splitters : List (Option ℕ)} {leaf_nodes : List ℕ} {faces : List Face} {revealed : List (Option ℕ)} where
+module _ {intervals : List (ℕ × ℕ)} {splitters : List (Option ℕ)} {leaf_nodes : List ℕ}
+    {faces : List Face} {revealed : List (Option ℕ)} where
   -- one root more, before any record
   pub tables-with_root : (roots : List Root) (bases : List Face) (r : Root) (node from : ℕ) →
-      node ≡ length roots → from ≡ sum (widths_of roots) → node < length intervals → from + r.width ≤ length leaf_nodes →
+      node ≡ length roots → from ≡ sum (widths_of roots) → node < length intervals
+      → from + r.width ≤ length leaf_nodes →
       HasForestShape (units roots bases [] None) →
       AreTables (units roots bases [] None) intervals splitters leaf_nodes faces revealed →
       AreTables (units (roots ++ r ∷ []) bases [] None)
-      (set intervals node (from, from + r.width)) splitters (noted leaf_nodes node from (from + r.width)) faces revealed
+      (set intervals node (from, from + r.width)) splitters
+      (noted leaf_nodes node from (from + r.width)) faces revealed
   unfolding interval_after ancestor_after splitter_of first_face faces_of revealed_after
   tables-with_root roots bases r node from at start room leaf_room shape t =
       let ws = widths_of roots in
@@ -90,14 +110,16 @@ module _ {intervals : List (ℕ × ℕ)} {splitters : List (Option ℕ)} {leaf_n
               rw (is, read, push, last_node, last.0, last.1) (omega arith, omega arith)
           | inr other ↦
               let read = get_or-set_other intervals node v (from, from + r.width) (0, 0) other in
-              rw (read, push, root_interval-push ws r.width 0 v (omega arith)) (t.spans v (omega arith))
+              rw (read, push, root_interval-push ws r.width 0 v (omega arith))
+              (t.spans v (omega arith))
         ];
         split = t.split;
         leaves = λ x l single. elim (cases_lt x from) [
           | inl below ↦
               let inside : x < sum ws = omega arith in
               let lt = ancestor-lt (units roots bases [] None) shape every 0 x inside in
-              leaf-before roots r leaf_nodes node from at start leaf_room x below (omega arith) (t.leaves x inside) single
+              leaf-before roots r leaf_nodes node from at start leaf_room x below (omega arith)
+              (t.leaves x inside) single
           | inr above ↦ leaf-last roots r leaf_nodes node from at start leaf_room x above l single
         ];
         faces_are = t.faces_are;
@@ -109,22 +131,26 @@ module _ {intervals : List (ℕ × ℕ)} {splitters : List (Option ℕ)} {leaf_n
   -- one base face more, before any record
   pub tables-with_base : (roots : List Root) (bases : List Face) (f : Face) →
       AreTables (units roots bases [] None) intervals splitters leaf_nodes faces revealed →
-      AreTables (units roots (bases ++ f ∷ []) [] None) intervals splitters leaf_nodes (faces ++ f ∷ []) (revealed ++ None ∷ [])
+      AreTables (units roots (bases ++ f ∷ []) [] None) intervals splitters leaf_nodes
+      (faces ++ f ∷ []) (revealed ++ None ∷ [])
   unfolding interval_after ancestor_after splitter_of first_face faces_of revealed_after
   tables-with_base roots bases f t =
       let len = length_push bases f in
       let face_len : length faces ≡ length bases = t.face_len in
       let revealed_len : length revealed ≡ length bases = t.revealed_len in
-      let revealed_push : length (revealed ++ None ∷ []) ≡ length revealed + 1 = length_push revealed None in
+      let revealed_push : length (revealed ++ None ∷ []) ≡ length revealed + 1 =
+      length_push revealed None in
       record {
         spans = t.spans;
         split = t.split;
         leaves = t.leaves;
-        faces_are = ap (λ (l : List Face). l ++ f ∷ []) (t.faces_are ∙ append-nil bases) ∙ sym (append-nil (bases ++ f ∷ []));
+        faces_are = ap (λ (l : List Face). l ++ f ∷ []) (t.faces_are ∙ append-nil bases)
+            ∙ sym (append-nil (bases ++ f ∷ []));
         face_len = omega (arith, length_push faces f);
         revealed_len = omega arith;
         revealed_are = λ i l. elim (cases_lt i (length bases)) [
-          | inl before ↦ get_or_append_left revealed (None ∷ []) None i (omega arith) ∙ t.revealed_are i before
+          | inl before ↦ get_or_append_left revealed (None ∷ []) None i (omega arith)
+              ∙ t.revealed_are i before
           | inr past ↦ get_or_push revealed None None i (omega arith)
         ];
       }
@@ -149,8 +175,10 @@ module _ {intervals : List (ℕ × ℕ)} {splitters : List (Option ℕ)} {leaf_n
       let count = record_count-with_record h r in
       let no_left : one_if (is_some r.left) ≡ 0 = ap one_if bare.0 in
       let no_right : one_if (is_some r.right) ≡ 0 = ap one_if bare.1 in
-      let face_total : face_count (with_record h r) ≡ face_count h = omega (arith, face_count-with_record h r) in
-      let none : faces_in r ≡ [] = (rw (faces_none r.left bare.0, faces_none r.right bare.1) refl) in
+      let face_total : face_count (with_record h r) ≡ face_count h =
+      omega (arith, face_count-with_record h r) in
+      let none : faces_in r ≡ [] =
+      (rw (faces_none r.left bare.0, faces_none r.right bare.1) refl) in
       record {
         spans = λ v l. elim (cases_eq v (u_of h n)) [
           | inl is_u ↦
@@ -160,40 +188,50 @@ module _ {intervals : List (ℕ × ℕ)} {splitters : List (Option ℕ)} {leaf_n
               let read = get_or-set_other noted_t (node_count h + 1) v u_leaves (0, 0) not_u in
               elim (cases_eq v (t_of h n)) [
                 | inl is_t ↦
-                    let read_t = get_or-set_same intervals (node_count h) t_leaves (0, 0) (omega arith) in
+                    let read_t =
+                    get_or-set_same intervals (node_count h) t_leaves (0, 0) (omega arith) in
                     rw (read, is_t, read_t, interval_of-with_record_t h r) (refl, refl)
                 | inr not_t ↦
                     let old : v < node_count h = omega arith in
-                    let read_old = get_or-set_other intervals (node_count h) v t_leaves (0, 0) not_t in
+                    let read_old =
+                    get_or-set_other intervals (node_count h) v t_leaves (0, 0) not_t in
                     rw (read, read_old, interval_of-with_record h r v old) (t.spans v old)
               ]
         ];
         split = λ v l. elim (cases_eq v r.s) [
           | inl is ↦
-              let splitter = splitter_of-with_record h r v ∙ cond-true (eqb r.s v) mark (splitter_of h v) (eq-eqb r.s v (sym is)) in
-              ap (λ y. get_or (set splitters r.s mark) y None) is ∙ get_or-set_same splitters r.s mark None split_room ∙ sym splitter
+              let splitter =
+              splitter_of-with_record h r v
+              ∙ cond-true (eqb r.s v) mark (splitter_of h v) (eq-eqb r.s v (sym is)) in
+              ap (λ y. get_or (set splitters r.s mark) y None) is
+              ∙ get_or-set_same splitters r.s mark None split_room ∙ sym splitter
           | inr other ↦
               let differs : r.s ≢ v = λ e. other (sym e) in
-              let splitter = splitter_of-with_record h r v ∙ cond-false (eqb r.s v) mark (splitter_of h v) (ne_eqb r.s v differs) in
+              let splitter =
+              splitter_of-with_record h r v
+              ∙ cond-false (eqb r.s v) mark (splitter_of h v) (ne_eqb r.s v differs) in
               let old = t.split v (omega (arith, length-set splitters r.s mark)) in
               get_or-set_other splitters r.s v mark None other ∙ old ∙ sym splitter
         ];
         leaves = λ x l single. leaf-with_record h r leaf_nodes s x l (t.leaves x l) single;
         faces_are =
-            t.faces_are ∙ sym (append-nil (faces_of h)) ∙ ap (λ (l : List Face). faces_of h ++ l) (sym none)
+            t.faces_are ∙ sym (append-nil (faces_of h))
+            ∙ ap (λ (l : List Face). faces_of h ++ l) (sym none)
             ∙ sym (faces_of-with_record h r);
         face_len = t.face_len ∙ sym face_total;
         revealed_len = t.revealed_len ∙ sym face_total;
         revealed_are = λ f l.
             let before : f < face_count h = omega arith in
-            let same = revealed_by-with_record h r f ∙ cond-false _ mark (revealed_by h f) (lt-leb (face_count h) f before) in
+            let same = revealed_by-with_record h r f
+            ∙ cond-false _ mark (revealed_by h f) (lt-leb (face_count h) f before) in
             t.revealed_are f before ∙ sym same;
       }
 
   -- one face more in the last record
   pub tables-with_face : (h : Hierarchy) (r q : Record) (f : Face) → AddsFace r q f →
       AreTables (with_record h r) intervals splitters leaf_nodes faces revealed →
-      AreTables (with_record h q) intervals splitters leaf_nodes (faces ++ f ∷ []) (revealed ++ Some (record_count h) ∷ [])
+      AreTables (with_record h q) intervals splitters leaf_nodes (faces ++ f ∷ [])
+      (revealed ++ Some (record_count h) ∷ [])
   tables-with_face h r q f adds t =
       let node = adds.node in
       let width = adds.width in
@@ -210,7 +248,8 @@ module _ {intervals : List (ℕ × ℕ)} {splitters : List (Option ℕ)} {leaf_n
         leaves = λ x l single.
             let same = leaf_node-same_split h r q node width x in
             let old = leaf_node_of (with_record h r) x in
-            let one : IsSingle (interval_of (with_record h r) old) = rw (interval_of-same_split h r q node width old, same) single in
+            let one : IsSingle (interval_of (with_record h r) old) =
+            rw (interval_of-same_split h r q node width old, same) single in
             t.leaves x l one ∙ same;
         faces_are =
             ap (λ (l : List Face). l ++ f ∷ []) (t.faces_are ∙ faces_of-with_record h r)
@@ -227,7 +266,8 @@ module _ {intervals : List (ℕ × ℕ)} {splitters : List (Option ℕ)} {leaf_n
               ∙ sym (revealed_by-with_record h q i)
           | inr new ↦
               let there : face_count h ≤ i = omega arith in
-              let is = revealed_by-with_record h q i ∙ cond-true _ last (revealed_by h i) (le-leb (face_count h) i there) in
+              let is = revealed_by-with_record h q i
+              ∙ cond-true _ last (revealed_by h i) (le-leb (face_count h) i there) in
               get_or_push revealed last None i (omega arith) ∙ sym is
         ];
       }

@@ -1,5 +1,7 @@
 -- A forest that grows goes on being one with each unit that it takes in.
-use Rattle.std.proofs.Common.{◌≡◌, ℕ, ◌+◌, ◌<◌, ◌≤◌, Bool, true, false, cond, List, [], ◌∷◌, ◌++◌, length, sum, get_or, set, replicate, None, Some, Option, is_some, inl, inr, refl, ap, ◌∙◌, arith, length-append, length-set}
+use Rattle.std.proofs.Common.{◌≡◌, ℕ, ◌+◌, ◌<◌, ◌≤◌, Bool, true, false, cond, List, [], ◌∷◌, ◌++◌}
+use Rattle.std.proofs.Common.{length, sum, get_or, set, replicate, None, Some, Option, is_some, inl}
+use Rattle.std.proofs.Common.{inr, refl, ap, ◌∙◌, arith, length-append, length-set}
 use Rattle.std.proofs.lemmas.List.{get_or_read, nil_from_length, length_push, length-replicate}
 use Rattle.std.specs.Option.{option_map}
 use Rattle.pm_base.specs.Held.{Held}
@@ -11,37 +13,58 @@ use Rattle.pm_forest.specs.declared.parts.Record.{Record}
 use Rattle.pm_forest.specs.Forest.{widths_of, root_of, node_count, interval_of, HasForestShape}
 use Rattle.pm_forest.specs.Faces.{no_face, face_count}
 use Rattle.pm_forest.specs.Rules.{with_record}
-use Rattle.pm_forest.specs.Tables.{AreTables, Parts, IsGrowing, units_in, owners_from, record_total, units, with_new_face}
+use Rattle.pm_forest.specs.Tables.{AreTables, Parts, IsGrowing, units_in, owners_from, record_total}
+use Rattle.pm_forest.specs.Tables.{units, with_new_face}
 use Rattle.pm_forest.proofs.OwnerLaws.{get_or-owners_from, length-owners_from, owners_from-push}
 use Rattle.pm_forest.proofs.FaceLists.{face_count-le}
 use Rattle.pm_forest.proofs.Prefix.{face_count-with_record}
 use Rattle.pm_forest.proofs.SameSplit.{HasForestShape-with_record, HasForestShape-same_split}
 use Rattle.pm_forest.proofs.RootTables.{width_count, widths-push}
 use Rattle.pm_forest.proofs.LeafNodes.{interval_of-le, noted, length-noted, Splits}
-use Rattle.pm_forest.proofs.GrowingTables.{adds_face, tables-with_root, tables-with_base, tables-with_record, tables-with_face}
-use Rattle.pm_forest.proofs.GrowingLaws.{TakesFace, TakesRecord, no_shape, none_coming, seen, some_coming}
+use Rattle.pm_forest.proofs.GrowingTables.{adds_face, tables-with_root, tables-with_base}
+use Rattle.pm_forest.proofs.GrowingTables.{tables-with_record, tables-with_face}
+use Rattle.pm_forest.proofs.GrowingLaws.{TakesFace, TakesRecord, no_shape, none_coming, seen}
+use Rattle.pm_forest.proofs.GrowingLaws.{some_coming}
 
 module _ {p : Parts} (s : IsGrowing p) where
   -- a root more
-  pub root_added : (roots : Held Root) (owners : Held ℕ) (intervals : List (ℕ × ℕ)) (leaf_nodes : List ℕ) (r : Root) (node from : ℕ) →
-      length p.roots.items < p.counts.roots → sum (widths_of p.roots.items) + r.width ≤ p.counts.leaves →
+  pub root_added : (roots : Held Root) (owners : Held ℕ) (intervals : List (ℕ × ℕ))
+      (leaf_nodes : List ℕ) (r : Root) (node from : ℕ) →
+      length p.roots.items < p.counts.roots
+      → sum (widths_of p.roots.items) + r.width ≤ p.counts.leaves →
       node ≡ length p.roots.items → from ≡ length p.owners.items →
       roots.items ≡ p.roots.items ++ r ∷ [] → roots.spare + 1 ≡ p.roots.spare →
-      owners.items ≡ p.owners.items ++ replicate r.width node → owners.spare + r.width ≡ p.owners.spare →
-      intervals ≡ set p.intervals node (from, from + r.width) → leaf_nodes ≡ noted p.leaf_nodes node from (from + r.width) →
-      IsGrowing (record p { roots = roots; owners = owners; intervals = intervals; leaf_nodes = leaf_nodes })
-  root_added roots owners intervals leaf_nodes r node from lt fits node_is from_is roots_are root_spare owners_are owner_spare intervals_are leaf_nodes_are =
+      owners.items ≡ p.owners.items ++ replicate r.width node
+      → owners.spare + r.width ≡ p.owners.spare →
+      intervals ≡ set p.intervals node (from, from + r.width)
+      → leaf_nodes ≡ noted p.leaf_nodes node from (from + r.width) →
+      IsGrowing (record p {
+        roots = roots;
+        owners = owners;
+        intervals = intervals;
+        leaf_nodes = leaf_nodes;
+      })
+  root_added roots owners intervals leaf_nodes r node from lt fits node_is from_is roots_are
+      root_spare owners_are owner_spare intervals_are leaf_nodes_are =
       let old = widths_of p.roots.items in
       let all_roots = s.order.roots_first in
       let none : length p.bases.items + record_total p.records.items p.coming ≡ 0 = omega arith in
       let no_coming : p.coming ≡ None = none_coming p.coming (omega arith) in
       let no_records : p.records.items ≡ [] = nil_from_length p.records.items (omega arith) in
       let roots_len = ap length roots_are ∙ length_push p.roots.items r in
-      let owners_len = ap length owners_are ∙ length-append p.owners.items (replicate r.width node) in
+      let owners_len =
+      ap length owners_are ∙ length-append p.owners.items (replicate r.width node) in
       let more = length-replicate r.width node in
       let at : 0 + length old ≡ node = omega (arith, width_count p.roots.items) in
       let owned : owners.items ≡ owners_from 0 (widths_of roots.items) =
-      (rw (roots_are, widths-push p.roots.items r, owners_from-push 0 old r.width, at, owners_are, s.owned) refl) in
+      (rw (
+        roots_are,
+        widths-push p.roots.items r,
+        owners_from-push 0 old r.width,
+        at,
+        owners_are,
+        s.owned,
+      ) refl) in
       record {
         leaf_most = s.leaf_most;
         base_most = s.base_most;
@@ -57,9 +80,12 @@ module _ {p : Parts} (s : IsGrowing p) where
         owner_len = ap length owned ∙ length-owners_from 0 (widths_of roots.items);
         owner_most = omega arith;
         owner_room = omega arith;
-        interval_len = ap length intervals_are ∙ length-set p.intervals node (from, from + r.width) ∙ s.interval_len;
+        interval_len = ap length intervals_are ∙ length-set p.intervals node (from, from + r.width)
+            ∙ s.interval_len;
         splitter_len = s.splitter_len;
-        leaf_node_len = ap length leaf_nodes_are ∙ length-noted p.leaf_nodes node from (from + r.width) ∙ s.leaf_node_len;
+        leaf_node_len =
+            ap length leaf_nodes_are ∙ length-noted p.leaf_nodes node from (from + r.width)
+            ∙ s.leaf_node_len;
         face_most = s.face_most;
         face_total = s.face_total;
         face_room = s.face_room;
@@ -68,7 +94,8 @@ module _ {p : Parts} (s : IsGrowing p) where
         tables =
             rw (no_coming, no_records, roots_are, intervals_are, leaf_nodes_are)
             (tables-with_root p.roots.items p.bases.items r node from node_is
-            (omega arith) (omega arith) (omega arith) (no_shape p.roots.items p.bases.items) (rw (no_coming, no_records) at s.tables));
+            (omega arith) (omega arith) (omega arith) (no_shape p.roots.items p.bases.items)
+            (rw (no_coming, no_records) at s.tables));
       }
 
   -- a base face more
@@ -78,7 +105,8 @@ module _ {p : Parts} (s : IsGrowing p) where
       faces.items ≡ p.faces.items ++ f ∷ [] → faces.spare + 1 ≡ p.faces.spare →
       revealed.items ≡ p.revealed.items ++ None ∷ [] → revealed.spare + 1 ≡ p.revealed.spare →
       IsGrowing (record p { bases = bases; faces = faces; revealed = revealed })
-  base_added bases faces revealed f all lt bases_are base_spare faces_are face_spare revealed_are revealed_spare =
+  base_added bases faces revealed f all lt bases_are base_spare faces_are face_spare revealed_are
+      revealed_spare =
       let all_bases = s.order.bases_first in
       let none : record_total p.records.items p.coming ≡ 0 = omega arith in
       let no_coming : p.coming ≡ None = none_coming p.coming (omega arith) in
@@ -110,14 +138,17 @@ module _ {p : Parts} (s : IsGrowing p) where
         shape = rw (no_coming, no_records) (no_shape p.roots.items bases.items);
         tables =
             rw (no_coming, no_records, bases_are, faces_are, revealed_are)
-            (tables-with_base p.roots.items p.bases.items f (rw (no_coming, no_records) at s.tables));
+            (tables-with_base p.roots.items p.bases.items f
+            (rw (no_coming, no_records) at s.tables));
       }
 
   -- the leaves of a node that is to be split, as the table has them
-  pub split_leaves : (r : Record) → TakesRecord (seen p) r → (at : ℕ × ℕ) → at ≡ get_or p.intervals r.s at →
+  pub split_leaves : (r : Record) → TakesRecord (seen p) r → (at : ℕ × ℕ)
+      → at ≡ get_or p.intervals r.s at →
       (at.0 ≡ (interval_of (seen p).h r.s).from) × (at.1 ≡ (interval_of (seen p).h r.s).until)
   split_leaves r takes at read =
-      let tables : AreTables (seen p).h p.intervals p.splitters p.leaf_nodes p.faces.items p.revealed.items =
+      let tables : AreTables (seen p).h p.intervals p.splitters p.leaf_nodes p.faces.items
+      p.revealed.items =
       rw takes.settled at s.tables in
       let within : r.s < length p.intervals = omega arith in
       let is = get_or_read p.intervals r.s at within read (0, 0) in
@@ -125,7 +156,8 @@ module _ {p : Parts} (s : IsGrowing p) where
       (ap (λ x. x.0) is ∙ spans.0, ap (λ x. x.1) is ∙ spans.1)
 
   -- they are among all leaves
-  pub split_leaves_fit : (r : Record) → TakesRecord (seen p) r → (at : ℕ × ℕ) → at ≡ get_or p.intervals r.s at →
+  pub split_leaves_fit : (r : Record) → TakesRecord (seen p) r → (at : ℕ × ℕ)
+      → at ≡ get_or p.intervals r.s at →
       (at.0 + r.width ≤ length p.leaf_nodes) × (at.1 ≤ length p.leaf_nodes)
   split_leaves_fit r takes at read =
       let shape : HasForestShape (seen p).h = rw takes.settled at s.shape in
@@ -135,23 +167,36 @@ module _ {p : Parts} (s : IsGrowing p) where
 
   -- a record more, whose faces are still to come: first its child t is noted, and then u
   pub record_added : (r : Record) → TakesRecord (seen p) r →
-      (intervals_t intervals_u : List (ℕ × ℕ)) (leaf_nodes_t leaf_nodes_u : List ℕ) (node : ℕ) (mark : Option ℕ) (at : ℕ × ℕ) →
-      at ≡ get_or p.intervals r.s at → node ≡ node_count (seen p).h → mark ≡ Some (length p.records.items) →
+      (intervals_t intervals_u : List (ℕ × ℕ)) (leaf_nodes_t leaf_nodes_u : List ℕ) (node : ℕ)
+      (mark : Option ℕ) (at : ℕ × ℕ) →
+      at ≡ get_or p.intervals r.s at → node ≡ node_count (seen p).h
+      → mark ≡ Some (length p.records.items) →
       intervals_t ≡ set p.intervals node (at.0, at.0 + r.width) →
       leaf_nodes_t ≡ noted p.leaf_nodes node at.0 (at.0 + r.width) →
       intervals_u ≡ set intervals_t (node + 1) (at.0 + r.width, at.1) →
       leaf_nodes_u ≡ noted leaf_nodes_t (node + 1) (at.0 + r.width) at.1 →
-      IsGrowing (record p { coming = Some r; intervals = intervals_u; splitters = set p.splitters r.s mark; leaf_nodes = leaf_nodes_u })
-  record_added r takes intervals_t intervals_u leaf_nodes_t leaf_nodes_u node mark at read node_is mark_is t_interval t_leaf u_interval u_leaf =
+      IsGrowing (record p {
+        coming = Some r;
+        intervals = intervals_u;
+        splitters = set p.splitters r.s mark;
+        leaf_nodes = leaf_nodes_u;
+      })
+  record_added r takes intervals_t intervals_u leaf_nodes_t leaf_nodes_u node mark at read node_is
+      mark_is t_interval t_leaf u_interval u_leaf =
       let h = (seen p).h in
       let leaves = split_leaves r takes at read in
       let none : one_if (is_some p.coming) ≡ 0 = ap (λ x. one_if (is_some x)) takes.settled in
       let shape : HasForestShape h = rw takes.settled at s.shape in
-      let tables : AreTables h p.intervals p.splitters p.leaf_nodes p.faces.items p.revealed.items = rw takes.settled at s.tables in
-      let interval_len_t = ap length t_interval ∙ length-set p.intervals node (at.0, at.0 + r.width) in
-      let interval_len_u = ap length u_interval ∙ length-set intervals_t (node + 1) (at.0 + r.width, at.1) in
-      let leaf_node_len_t = ap length t_leaf ∙ length-noted p.leaf_nodes node at.0 (at.0 + r.width) in
-      let leaf_node_len_u = ap length u_leaf ∙ length-noted leaf_nodes_t (node + 1) (at.0 + r.width) at.1 in
+      let tables : AreTables h p.intervals p.splitters p.leaf_nodes p.faces.items p.revealed.items =
+      rw takes.settled at s.tables in
+      let interval_len_t =
+      ap length t_interval ∙ length-set p.intervals node (at.0, at.0 + r.width) in
+      let interval_len_u =
+      ap length u_interval ∙ length-set intervals_t (node + 1) (at.0 + r.width, at.1) in
+      let leaf_node_len_t =
+      ap length t_leaf ∙ length-noted p.leaf_nodes node at.0 (at.0 + r.width) in
+      let leaf_node_len_u =
+      ap length u_leaf ∙ length-noted leaf_nodes_t (node + 1) (at.0 + r.width) at.1 in
       let splits : Splits h r p.leaf_nodes = record {
         shape = shape;
         there = takes.node;
@@ -182,14 +227,16 @@ module _ {p : Parts} (s : IsGrowing p) where
         face_total = omega arith;
         face_room = s.face_room;
         revealed_room = s.revealed_room;
-        shape = HasForestShape-with_record h r shape takes.node takes.unsplit takes.first takes.rest;
+        shape = HasForestShape-with_record h r shape takes.node takes.unsplit takes.first
+            takes.rest;
         tables =
             rw (u_interval, t_interval, u_leaf, t_leaf, leaves.0, leaves.1, node_is, mark_is)
             (tables-with_record h r splits takes.faces (omega arith) (omega arith) tables);
       }
 
   -- there is room for a face that the coming record takes
-  pub face_fits : (left : Bool) → TakesFace (seen p) left → (1 ≤ p.faces.spare) × (1 ≤ p.revealed.spare)
+  pub face_fits : (left : Bool) → TakesFace (seen p) left
+      → (1 ≤ p.faces.spare) × (1 ≤ p.revealed.spare)
   face_fits left takes =
       let h = (seen p).h in
       let (r, is) = some_coming p.coming takes.there in
@@ -198,7 +245,8 @@ module _ {p : Parts} (s : IsGrowing p) where
       let adds = adds_face r left no_face free in_order in
       let one : one_if (is_some p.coming) ≡ 1 = ap one_if takes.there in
       let units_with = units p.roots.items p.bases.items p.records.items in
-      let count : face_count (units_in p) ≡ face_count h + one_if (is_some r.left) + one_if (is_some r.right) =
+      let count : face_count (units_in p) ≡ face_count h + one_if (is_some r.left) + one_if
+      (is_some r.right) =
       ap (λ coming. face_count (units_with coming)) is ∙ face_count-with_record h r in
       let len = s.tables.face_len in
       let before = face_count-le h in
@@ -210,9 +258,11 @@ module _ {p : Parts} (s : IsGrowing p) where
       (coming : Option Record) (faces : Held Face) (revealed : Held (Option ℕ)) (number : ℕ) →
       coming ≡ option_map (λ r. with_new_face r left n) p.coming → number ≡ length p.records.items →
       faces.items ≡ p.faces.items ++ n.face ∷ [] → faces.spare + 1 ≡ p.faces.spare →
-      revealed.items ≡ p.revealed.items ++ Some number ∷ [] → revealed.spare + 1 ≡ p.revealed.spare →
+      revealed.items ≡ p.revealed.items ++ Some number ∷ [] → revealed.spare + 1 ≡ p.revealed.spare
+      →
       IsGrowing (record p { coming = coming; faces = faces; revealed = revealed })
-  face_added left n takes coming faces revealed number coming_is number_is faces_are face_spare revealed_are revealed_spare =
+  face_added left n takes coming faces revealed number coming_is number_is faces_are face_spare
+      revealed_are revealed_spare =
       let h = (seen p).h in
       let (r, is) = some_coming p.coming takes.there in
       let q = with_new_face r left n in
@@ -222,9 +272,11 @@ module _ {p : Parts} (s : IsGrowing p) where
       let new_is : coming ≡ Some q = coming_is ∙ ap (option_map (λ r. with_new_face r left n)) is in
       let was_one : one_if (is_some p.coming) ≡ 1 = ap one_if takes.there in
       let one : one_if (is_some coming) ≡ 1 = ap (λ x. one_if (is_some x)) new_is in
-      let same : record_total p.records.items coming ≡ record_total p.records.items p.coming = omega arith in
+      let same : record_total p.records.items coming ≡ record_total p.records.items p.coming =
+      omega arith in
       let shape : HasForestShape (with_record h r) = rw is at s.shape in
-      let old : AreTables (with_record h r) p.intervals p.splitters p.leaf_nodes p.faces.items p.revealed.items = rw is at s.tables in
+      let old : AreTables (with_record h r) p.intervals p.splitters p.leaf_nodes p.faces.items
+      p.revealed.items = rw is at s.tables in
       let tables = tables-with_face h r q n.face adds old in
       let few = takes.few in
       let len = s.tables.face_len in
@@ -260,6 +312,8 @@ module _ {p : Parts} (s : IsGrowing p) where
       }
 
 -- the owner that is read in the table
-pub owner_read : (roots : List Root) (owners : List ℕ) (x y : ℕ) → owners ≡ owners_from 0 (widths_of roots) →
+pub owner_read : (roots : List Root) (owners : List ℕ) (x y : ℕ)
+    → owners ≡ owners_from 0 (widths_of roots) →
     x < sum (widths_of roots) → y ≡ get_or owners x y → y ≡ root_of (widths_of roots) 0 x
-owner_read roots owners x y owned l read = read ∙ ap (λ l. get_or l x y) owned ∙ get_or-owners_from (widths_of roots) x y l
+owner_read roots owners x y owned l read =
+    read ∙ ap (λ l. get_or l x y) owned ∙ get_or-owners_from (widths_of roots) x y l

@@ -1,17 +1,23 @@
 -- What the readers of a whole hierarchy answer.
-use Rattle.std.proofs.Common.{◌≡◌, ◌≢◌, ◌↔◌, ℕ, zero, suc, ◌+◌, ◌-◌, ◌/◌, ◌%◌, ◌<◌, ◌≤◌, List, [], ◌∷◌, length, get_or, All, None, Some, IfSome, inl, inr, refl, sym, ap, ◌∙◌, arith}
-use Rattle.std.proofs.lemmas.Bool.{cases_lt, lt-ltb, le-ltb, lt-leb, le-leb, eq-eqb, ne_eqb, cond-true, cond-false}
+use Rattle.std.proofs.Common.{◌≡◌, ◌≢◌, ◌↔◌, ℕ, zero, suc, ◌+◌, ◌-◌, ◌/◌, ◌%◌, ◌<◌, ◌≤◌, List, []}
+use Rattle.std.proofs.Common.{◌∷◌, length, get_or, All, None, Some, IfSome, inl, inr, refl, sym, ap}
+use Rattle.std.proofs.Common.{◌∙◌, arith}
+use Rattle.std.proofs.lemmas.Bool.{cases_lt, lt-ltb, le-ltb, lt-leb, le-leb, eq-eqb, ne_eqb}
+use Rattle.std.proofs.lemmas.Bool.{cond-true, cond-false}
 use Rattle.std.proofs.lemmas.List.{get_or_default}
 use Rattle.std.proofs.lemmas.Option.{none-some}
 use Rattle.pm_base.proofs.Search.{option_cases}
 use Rattle.pm_forest.specs.declared.parts.Root.{Root}
-use Rattle.pm_forest.specs.Forest.{Hierarchy, Interval, record_at, widths, record_count, node_count, leaf_count, Holds, holds, root_interval, interval_after, interval_of, splitter_of}
+use Rattle.pm_forest.specs.Forest.{Hierarchy, Interval, record_at, widths, record_count, node_count}
+use Rattle.pm_forest.specs.Forest.{leaf_count, Holds, holds, root_interval, interval_after}
+use Rattle.pm_forest.specs.Forest.{interval_of, splitter_of}
 use Rattle.pm_forest.specs.Fronts.{every}
 use Rattle.pm_forest.specs.Faces.{first_face, face_count, revealed_by, revealed_after}
 use Rattle.pm_forest.specs.Places.{no_root, place_of_node}
 use Rattle.pm_forest.specs.Rules.{HasShape}
 use Rattle.pm_forest.specs.Tables.{Grown, all_of, grown, IsSingle, leaf_node_of}
-use Rattle.pm_forest.proofs.Nodes.{within-true, within-from, interval-kept, interval_of-t, interval_of-u, has_maker, splitter_of-splits}
+use Rattle.pm_forest.proofs.Nodes.{within-true, within-from, interval-kept, interval_of-t}
+use Rattle.pm_forest.proofs.Nodes.{interval_of-u, has_maker, splitter_of-splits}
 use Rattle.pm_forest.proofs.Ancestors.{ancestor-lt, holds-ancestor_of}
 use Rattle.pm_forest.proofs.FaceNumbers.{revealed-parts, first_face-mono}
 use Rattle.pm_forest.proofs.RootTables.{width_count}
@@ -28,10 +34,12 @@ root_wide : (ws : List ℕ) (start v : ℕ) → All (λ w. 0 < w) ws → v < len
     (root_interval ws start v).from < (root_interval ws start v).until
 root_wide [] start v wide l = absurd (omega arith)
 root_wide (w ∷ ws) start zero wide l = let here : 0 < w = wide 0 0 (omega arith) in omega arith
-root_wide (w ∷ ws) start (suc v) wide l = root_wide ws (start + w) v (λ k d m. wide (suc k) d (omega arith)) (omega arith)
+root_wide (w ∷ ws) start (suc v) wide l =
+    root_wide ws (start + w) v (λ k d m. wide (suc k) d (omega arith)) (omega arith)
 
 -- An interval is its two ends.
-interval_of_ends : (i : Interval) (a b : ℕ) → i.from ≡ a → i.until ≡ b → i ≡ record { from = a; until = b }
+interval_of_ends : (i : Interval) (a b : ℕ) → i.from ≡ a → i.until ≡ b
+    → i ≡ record { from = a; until = b }
 interval_of_ends i a b from until = rw (← from, ← until) refl
 
 module _ (h : Hierarchy) (shape : HasShape h) where
@@ -58,16 +66,19 @@ module _ (h : Hierarchy) (shape : HasShape h) where
   -- what is under a node is a leaf
   pub under_node : (v x : ℕ) → v < node_count h → Holds h v x → x < leaf_count h
   unfolding holds
-  under_node v x l e = let p = within-true _ x e in omega (arith, interval_of-le h (shape_of_nodes h shape) v l)
+  under_node v x l e = let p =
+      within-true _ x e in omega (arith, interval_of-le h (shape_of_nodes h shape) v l)
 
   -- A node that a record splits has two leaves or more.
-  split_wide : (v k : ℕ) → splitter_of h v ≡ Some k → (interval_of h v).from + 1 < (interval_of h v).until
+  split_wide : (v k : ℕ) → splitter_of h v ≡ Some k
+      → (interval_of h v).from + 1 < (interval_of h v).until
   split_wide v k e =
       let p = splitter_of-splits h k v e in
       let w = (shape_of_nodes h shape).width k p.1 in
       rw (← p.0) (omega arith)
 
-  -- A node that none splits is the node of its first leaf in the full front, and so has that leaf alone.
+  -- A node that none splits is the node of its first leaf in the full front, and so has that leaf
+  -- alone.
   one_leaf : (v : ℕ) → v < node_count h → splitter_of h v ≡ None → IsSingle (interval_of h v)
   unfolding holds
   one_leaf v l none =
@@ -77,7 +88,8 @@ module _ (h : Hierarchy) (shape : HasShape h) where
       rw node at (leaf_nodes_of_shape h shape x (under_node v x l under))
 
   -- no record splits a node of one leaf, and no other node stays whole
-  pub unsplit-single : (v : ℕ) → v < node_count h → (splitter_of h v ≡ None) ↔ IsSingle (interval_of h v)
+  pub unsplit-single : (v : ℕ) → v < node_count h → (splitter_of h v ≡ None)
+      ↔ IsSingle (interval_of h v)
   unsplit-single v l = (
     one_leaf v l,
     λ single. elim (option_cases (splitter_of h v)) [
@@ -102,17 +114,21 @@ module _ (h : Hierarchy) (shape : HasShape h) where
 
 -- Faces
 
-later_revealed : (h : Hierarchy) (n f : ℕ) → length h.bases ≤ f → f < first_face h n → revealed_after h n f ≢ None
+later_revealed : (h : Hierarchy) (n f : ℕ) → length h.bases ≤ f → f < first_face h n
+    → revealed_after h n f ≢ None
 unfolding first_face revealed_after
 later_revealed h zero f l m none = omega arith
 later_revealed h (suc n) f l m none =
     elim (cases_lt f (first_face h n)) [
-      | inl before ↦ later_revealed h n f l before (sym (cond-false _ _ _ (lt-leb (first_face h n) f before)) ∙ none)
+      | inl before ↦
+          later_revealed h n f l before (sym (cond-false _ _ _ (lt-leb (first_face h n) f before))
+          ∙ none)
       | inr past ↦ none-some n (sym none ∙ cond-true _ _ _ (le-leb (first_face h n) f past))
     ]
 
 -- no record reveals a base face, and one reveals each other face
-pub revealed-base : (h : Hierarchy) (f : ℕ) → f < face_count h → (revealed_by h f ≡ None) ↔ (f < length h.bases)
+pub revealed-base : (h : Hierarchy) (f : ℕ) → f < face_count h → (revealed_by h f ≡ None)
+    ↔ (f < length h.bases)
 unfolding first_face
 revealed-base h f l = (
   λ none. elim (cases_lt f (length h.bases)) [
@@ -128,7 +144,8 @@ revealed-base h f l = (
   ],
 )
 
-pub revealed-lt : (h : Hierarchy) (f : ℕ) → f < face_count h → IfSome (revealed_by h f) (λ k. k < record_count h)
+pub revealed-lt : (h : Hierarchy) (f : ℕ) → f < face_count h
+    → IfSome (revealed_by h f) (λ k. k < record_count h)
 revealed-lt h f l =
     elim (option_cases (revealed_by h f)) [
       | inl none ↦ (rw none tt)
@@ -148,7 +165,8 @@ pub place-root : (h : Hierarchy) (v : ℕ) (r : Root) → v < length h.roots →
     r.place ≡ place_of_node h v
 unfolding place_of_node
 place-root h v r l is =
-    rw (lt-ltb v (length h.roots) l) (ap (λ (q : Root). q.place) (is ∙ get_or_default h.roots v r no_root l))
+    rw (lt-ltb v (length h.roots) l)
+    (ap (λ (q : Root). q.place) (is ∙ get_or_default h.roots v r no_root l))
 
 pub place-t : (h : Hierarchy) (v : ℕ) → length h.roots ≤ v → (v - length h.roots) % 2 ≡ 0 →
     (record_at h ((v - length h.roots) / 2)).t.place ≡ place_of_node h v

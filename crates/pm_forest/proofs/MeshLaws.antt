@@ -1,23 +1,31 @@
 -- The leaf mesh and the input mesh: their tables, and that they are well formed.
-use Rattle.std.proofs.Common.{◌≡◌, ◌≢◌, ℕ, suc, ◌+◌, ◌-◌, ◌<◌, ◌≤◌, eqb, List, length, get_or, inl, inr, refl, sym, ap, ◌∙◌, subst, arith, get_or-set_same, get_or-set_other}
+use Rattle.std.proofs.Common.{◌≡◌, ◌≢◌, ℕ, suc, ◌+◌, ◌-◌, ◌<◌, ◌≤◌, eqb, List, length, get_or, inl}
+use Rattle.std.proofs.Common.{inr, refl, sym, ap, ◌∙◌, subst, arith, get_or-set_same}
+use Rattle.std.proofs.Common.{get_or-set_other}
 use Rattle.std.proofs.Math.ListN.{set}
-use Rattle.std.proofs.lemmas.Bool.{cases_Bool, cases_eq, eqb-true, eq-eqb, ne_eqb, cond-true, cond-false, both_ways}
+use Rattle.std.proofs.lemmas.Bool.{cases_Bool, cases_eq, eqb-true, eq-eqb, ne_eqb, cond-true}
+use Rattle.std.proofs.lemmas.Bool.{cond-false, both_ways}
 use Rattle.std.proofs.lemmas.List.{length-map, get_or-map}
 use Rattle.std.proofs.lemmas.List.FromFn.{length-map-range_with_len, get_or-map-range_with_len}
 use Rattle.std.specs.Option.{unwrap_or}
 use Rattle.pm_base.specs.Sides.{find_below, no_corners}
 use Rattle.pm_base.specs.Meshes.{IsFace, IsWellFormed}
 use Rattle.pm_base.proofs.Search.{find_below-some, find_below-has, option_cases}
-use Rattle.pm_forest.specs.Forest.{Hierarchy, leaf_count, widths, s_of, t_of, u_of, root_of, holds, Holds}
-use Rattle.pm_forest.specs.Faces.{no_face_corners, faces_of, face_count, corners_of, revealed_by, is_left}
+use Rattle.pm_forest.specs.Forest.{Hierarchy, leaf_count, widths, s_of, t_of, u_of, root_of, holds}
+use Rattle.pm_forest.specs.Forest.{Holds}
+use Rattle.pm_forest.specs.Faces.{no_face_corners, faces_of, face_count, corners_of, revealed_by}
+use Rattle.pm_forest.specs.Faces.{is_left}
 use Rattle.pm_forest.specs.Rules.{HasShape}
-use Rattle.pm_forest.specs.Meshes.{leaf_place, leaf_input, face_input, leaf_corners, input_corners, leaf_mesh_of, face_of_input, input_place, input_face, input_mesh_of, NumbersEach, HasInputNumbers}
+use Rattle.pm_forest.specs.Meshes.{leaf_place, leaf_input, face_input, leaf_corners, input_corners}
+use Rattle.pm_forest.specs.Meshes.{leaf_mesh_of, face_of_input, input_place, input_face}
+use Rattle.pm_forest.specs.Meshes.{input_mesh_of, NumbersEach, HasInputNumbers}
 use Rattle.pm_base.specs.Place.{origin}
 use Rattle.pm_forest.proofs.Nodes.{not_both, holds-s_from_t, holds-s_from_u}
 use Rattle.pm_forest.proofs.FaceNumbers.{revealed-parts}
 use Rattle.pm_forest.proofs.FaceLists.{length-faces_of, corners_of-faces_of}
 use Rattle.pm_forest.proofs.Corners.{CornersFit, AreAlong, ways}
-use Rattle.pm_forest.proofs.ShapeLaws.{leaf_count-le, shape_of_nodes, base_corners, new_corners, leaves_at}
+use Rattle.pm_forest.proofs.ShapeLaws.{leaf_count-le, shape_of_nodes, base_corners, new_corners}
+use Rattle.pm_forest.proofs.ShapeLaws.{leaves_at}
 use Rattle.pm_forest.proofs.FaceLimits.{face_count-most}
 use Rattle.pm_forest.proofs.InputLaws.{some_input, input_most, leaf_input-once}
 use Rattle.pm_forest.proofs.FaceInputs.{some_face_input, face_input_most, face_input-once}
@@ -35,7 +43,8 @@ numbered_so-lt number n i l =
     ]
 
 -- A table of all so far takes the next one.
-pub numbered_more : (number : ℕ → ℕ) (n most : ℕ) (table : List ℕ) → 0 < number n → number n ≤ most → length table ≡ most →
+pub numbered_more : (number : ℕ → ℕ) (n most : ℕ) (table : List ℕ) → 0 < number n → number n ≤ most
+    → length table ≡ most →
     ((i : ℕ) → i < most → get_or table i 0 ≡ numbered_so number n i) →
     (i : ℕ) → i < most → get_or (set table (number n - 1) n) i 0 ≡ numbered_so number (n + 1) i
 numbered_more number n most table some fits len are i l =
@@ -44,22 +53,28 @@ numbered_more number n most table some fits len are i l =
       | inl is ↦
           let place : number n - 1 ≡ i = omega arith in
           let there : i < length table = omega arith in
-          rw (place, next) (get_or-set_same table i n 0 there ∙ sym (ap (λ o. unwrap_or o 0) (cond-true _ _ _ (eq-eqb (number n) (i + 1) is))))
+          rw (place, next) (get_or-set_same table i n 0 there
+          ∙ sym (ap (λ o. unwrap_or o 0) (cond-true _ _ _ (eq-eqb (number n) (i + 1) is))))
       | inr other ↦
           let place : i ≢ number n - 1 = λ e. other (omega arith) in
-          rw next (get_or-set_other table (number n - 1) i n 0 place ∙ are i l ∙ sym (ap (λ o. unwrap_or o 0) (cond-false _ _ _ (ne_eqb (number n) (i + 1) other))))
+          rw next (get_or-set_other table (number n - 1) i n 0 place ∙ are i l
+          ∙ sym (ap (λ o. unwrap_or o 0) (cond-false _ _ _ (ne_eqb (number n) (i + 1) other))))
     ]
 
 -- what has a number is found by it
-pub numbered_so-found : (number : ℕ → ℕ) (n x : ℕ) → ((x y : ℕ) → x < n → y < n → number x ≡ number y → x ≡ y) → x < n → 0 < number x →
+pub numbered_so-found : (number : ℕ → ℕ) (n x : ℕ)
+    → ((x y : ℕ) → x < n → y < n → number x ≡ number y → x ≡ y) → x < n → 0 < number x →
     numbered_so number n (number x - 1) ≡ x
 numbered_so-found number n x once l some =
     let place : number x - 1 + 1 ≡ number x = omega arith in
-    let (y, found) = find_below-has (λ y. eqb (number y) (number x - 1 + 1)) n x l (eq-eqb (number x) (number x - 1 + 1) (sym place)) in
+    let (y, found) = find_below-has (λ y. eqb (number y) (number x - 1 + 1)) n x l
+    (eq-eqb (number x) (number x - 1 + 1) (sym place)) in
     let p = find_below-some (λ y. eqb (number y) (number x - 1 + 1)) n y found in
-    ap (λ o. unwrap_or o 0) found ∙ once y x p.1 l (eqb-true (number y) (number x - 1 + 1) p.0 ∙ place)
+    ap (λ o. unwrap_or o 0) found
+    ∙ once y x p.1 l (eqb-true (number y) (number x - 1 + 1) p.0 ∙ place)
 
-pub numbers_each : (number : ℕ → ℕ) (n : ℕ) → ((x : ℕ) → x < n → 0 < number x) → ((x : ℕ) → x < n → number x ≤ n) →
+pub numbers_each : (number : ℕ → ℕ) (n : ℕ) → ((x : ℕ) → x < n → 0 < number x)
+    → ((x : ℕ) → x < n → number x ≤ n) →
     ((x y : ℕ) → x < n → y < n → number x ≡ number y → x ≡ y) → NumbersEach number n
 numbers_each number n some most once = record {
   some = some;
@@ -68,7 +83,8 @@ numbers_each number n some most once = record {
   each = λ i l.
       let same : (x y : ℕ) → x < n → y < n → number x - 1 ≡ number y - 1 → x ≡ y = λ x y a b e.
       (let p = some x a in let q = some y b in once x y a b (omega arith)) in
-      let below : (x : ℕ) → x < n → number x - 1 < n = λ x a. (let p = some x a in let q = most x a in omega arith) in
+      let below : (x : ℕ) → x < n → number x - 1 < n =
+      λ x a. (let p = some x a in let q = most x a in omega arith) in
       let (x, a, is) = each_is_met (λ x. number x - 1) n same below i l in
       let p = some x a in
       (x, a, omega arith);
@@ -76,33 +92,42 @@ numbers_each number n some most once = record {
 
 module _ (h : Hierarchy) (shape : HasShape h) where
   pub corners_in : (f : ℕ) → f < face_count h →
-      ((corners_of h f).a < leaf_count h) × ((corners_of h f).b < leaf_count h) × ((corners_of h f).c < leaf_count h)
+      ((corners_of h f).a < leaf_count h) × ((corners_of h f).b < leaf_count h)
+      × ((corners_of h f).c < leaf_count h)
   corners_in f l = leaves_at h shape f l (revealed_by h f) refl
 
-  along_apart : (k p q x y z : ℕ) → ((w : ℕ) → Holds h p w → Holds h (s_of h k) w) → ((w : ℕ) → Holds h p w → Holds h q w → ⊥) →
-      ((w : ℕ) → Holds h q w → Holds h (s_of h k) w) → AreAlong h p q (s_of h k) x y z → (x ≢ y) × (y ≢ z) × (z ≢ x)
+  along_apart : (k p q x y z : ℕ) → ((w : ℕ) → Holds h p w → Holds h (s_of h k) w)
+      → ((w : ℕ) → Holds h p w → Holds h q w → ⊥) →
+      ((w : ℕ) → Holds h q w → Holds h (s_of h k) w) → AreAlong h p q (s_of h k) x y z
+      → (x ≢ y) × (y ≢ z) × (z ≢ x)
   along_apart k p q x y z inside apart other a = (
     λ e. apart x a.0 (subst (λ w. Holds h q w) (sym e) a.1),
     λ e. both_ways (holds h (s_of h k) z) a.2 (other z (subst (λ w. Holds h q w) e a.1)),
     λ e. both_ways (holds h (s_of h k) z) a.2 (inside z (subst (λ w. Holds h p w) (sym e) a.0)),
   )
 
-  new_apart : (k p q f : ℕ) → ((w : ℕ) → Holds h p w → Holds h (s_of h k) w) → ((w : ℕ) → Holds h p w → Holds h q w → ⊥) →
-      ((w : ℕ) → Holds h q w → Holds h (s_of h k) w) → CornersFit h p q (s_of h k) (corners_of h f) →
-      ((corners_of h f).a ≢ (corners_of h f).b) × ((corners_of h f).b ≢ (corners_of h f).c) × ((corners_of h f).c ≢ (corners_of h f).a)
+  new_apart : (k p q f : ℕ) → ((w : ℕ) → Holds h p w → Holds h (s_of h k) w)
+      → ((w : ℕ) → Holds h p w → Holds h q w → ⊥) →
+      ((w : ℕ) → Holds h q w → Holds h (s_of h k) w) → CornersFit h p q (s_of h k) (corners_of h f)
+      →
+      ((corners_of h f).a ≢ (corners_of h f).b) × ((corners_of h f).b ≢ (corners_of h f).c)
+      × ((corners_of h f).c ≢ (corners_of h f).a)
   new_apart k p q f inside apart other fits =
       let c = corners_of h f in
       elim (ways h p q (s_of h k) c fits.runs) [
         | inl one ↦ along_apart k p q c.a c.b c.c inside apart other one
         | inr later ↦ elim later [
-          | inl one ↦ (let d = along_apart k p q c.b c.c c.a inside apart other one in (d.2, d.0, d.1))
-          | inr one ↦ (let d = along_apart k p q c.c c.a c.b inside apart other one in (d.1, d.2, d.0))
+          | inl one ↦ (let d = along_apart k p q c.b c.c c.a inside apart other one in
+              (d.2, d.0, d.1))
+          | inr one ↦ (let d = along_apart k p q c.c c.a c.b inside apart other one in
+              (d.1, d.2, d.0))
         ]
       ]
 
   -- a face has three different leaves
   pub corners_apart : (f : ℕ) → f < face_count h →
-      ((corners_of h f).a ≢ (corners_of h f).b) × ((corners_of h f).b ≢ (corners_of h f).c) × ((corners_of h f).c ≢ (corners_of h f).a)
+      ((corners_of h f).a ≢ (corners_of h f).b) × ((corners_of h f).b ≢ (corners_of h f).c)
+      × ((corners_of h f).c ≢ (corners_of h f).a)
   corners_apart f l =
       let nodes = shape_of_nodes h shape in
       elim (option_cases (revealed_by h f)) [
@@ -112,12 +137,18 @@ module _ (h : Hierarchy) (shape : HasShape h) where
             (λ e. fits.ab (ap root e), λ e. fits.bc (ap root e), λ e. fits.ca (ap root e))
         | inr (k, own) ↦
             let known = (revealed-parts h f k l own).0 in
-            let under_t : (w : ℕ) → Holds h (t_of h k) w → Holds h (s_of h k) w = λ w e. holds-s_from_t h nodes k w known e in
-            let under_u : (w : ℕ) → Holds h (u_of h k) w → Holds h (s_of h k) w = λ w e. holds-s_from_u h nodes k w known e in
+            let under_t : (w : ℕ) → Holds h (t_of h k) w → Holds h (s_of h k) w =
+            λ w e. holds-s_from_t h nodes k w known e in
+            let under_u : (w : ℕ) → Holds h (u_of h k) w → Holds h (s_of h k) w =
+            λ w e. holds-s_from_u h nodes k w known e in
             let fits = new_corners h shape f k l own in
             elim (cases_Bool (is_left h k f)) [
-              | inl left ↦ new_apart k (t_of h k) (u_of h k) f under_t (λ w e g. not_both h nodes k w known e g) under_u (rw left at fits)
-              | inr right ↦ new_apart k (u_of h k) (t_of h k) f under_u (λ w e g. not_both h nodes k w known g e) under_t (rw right at fits)
+              | inl left ↦
+                  new_apart k (t_of h k) (u_of h k) f under_t
+                  (λ w e g. not_both h nodes k w known e g) under_u (rw left at fits)
+              | inr right ↦
+                  new_apart k (u_of h k) (t_of h k) f under_u
+                  (λ w e g. not_both h nodes k w known g e) under_t (rw right at fits)
             ]
       ]
 
@@ -131,17 +162,27 @@ module _ (h : Hierarchy) (shape : HasShape h) where
         faces = omega (arith, length-faces_of h, face_count-most h shape);
         corners = λ f d l.
             let there : f < face_count h = omega (arith, length-faces_of h) in
-            let is = get_or-map leaf_corners (faces_of h) f no_face_corners d (omega arith) ∙ ap leaf_corners (sym (corners_of-faces_of h f there)) in
+            let is = get_or-map leaf_corners (faces_of h) f no_face_corners d (omega arith)
+            ∙ ap leaf_corners (sym (corners_of-faces_of h f there)) in
             let inside = corners_in f there in
             let apart = corners_apart f there in
-            rw (is, points) (record { a = inside.0; b = inside.1; c = inside.2; ab = apart.0; bc = apart.1; ca = apart.2 });
+            rw (is, points) (record {
+              a = inside.0;
+              b = inside.1;
+              c = inside.2;
+              ab = apart.0;
+              bc = apart.1;
+              ca = apart.2;
+            });
       }
 
   -- two leaves are two vertices of the input
   pub vertex_below : (x : ℕ) → x < leaf_count h → leaf_input h x - 1 < leaf_count h
-  vertex_below x l = let some = some_input h shape x l in let most = input_most h shape x l in omega arith
+  vertex_below x l = let some = some_input h shape x l in let most =
+      input_most h shape x l in omega arith
 
-  vertex-once : (x y : ℕ) → x < leaf_count h → y < leaf_count h → x ≢ y → leaf_input h x - 1 ≢ leaf_input h y - 1
+  vertex-once : (x y : ℕ) → x < leaf_count h → y < leaf_count h → x ≢ y
+      → leaf_input h x - 1 ≢ leaf_input h y - 1
   vertex-once x y l m differ e =
       let p = some_input h shape x l in
       let q = some_input h shape y m in
@@ -172,14 +213,19 @@ module _ (h : Hierarchy) (shape : HasShape h) where
         corners = λ i d l.
             let there : i < face_count h = omega arith in
             let is = get_or-map-range_with_len face 0 (face_count h) i i d there (omega arith) in
-            rw (is, points) (face_fits (face_of_input h i) (numbered_so-lt (face_input h) (face_count h) i there));
+            rw (is, points)
+            (face_fits (face_of_input h i)
+            (numbered_so-lt (face_input h) (face_count h) i there));
       }
 
   pub has_input_numbers : HasInputNumbers h
   unfolding input_mesh_of
   has_input_numbers =
-      let leaves = numbers_each (leaf_input h) (leaf_count h) (some_input h shape) (input_most h shape) (leaf_input-once h shape) in
-      let faces = numbers_each (face_input h) (face_count h) (some_face_input h shape) (face_input_most h shape) (face_input-once h shape) in
+      let leaves =
+      numbers_each (leaf_input h) (leaf_count h) (some_input h shape) (input_most h shape)
+      (leaf_input-once h shape) in
+      let faces = numbers_each (face_input h) (face_count h) (some_face_input h shape)
+      (face_input_most h shape) (face_input-once h shape) in
       let point = input_place h in
       let face = input_face h in
       record {
@@ -189,11 +235,17 @@ module _ (h : Hierarchy) (shape : HasShape h) where
           points = length-map-range_with_len point 0 (leaf_count h);
           faces = length-map-range_with_len face 0 (face_count h);
           vertex = λ x l.
-              get_or-map-range_with_len point 0 (leaf_count h) (leaf_input h x - 1) (leaf_input h x - 1) origin (vertex_below x l) (omega arith)
-              ∙ ap (leaf_place h) (numbered_so-found (leaf_input h) (leaf_count h) x leaves.once l (leaves.some x l));
+              get_or-map-range_with_len point 0 (leaf_count h) (leaf_input h x - 1)
+              (leaf_input h x - 1) origin (vertex_below x l) (omega arith)
+              ∙ ap (leaf_place h)
+              (numbered_so-found (leaf_input h) (leaf_count h) x leaves.once l
+              (leaves.some x l));
           face = λ f l.
-              let there : face_input h f - 1 < face_count h = (let some = faces.some f l in let most = faces.most f l in omega arith) in
-              get_or-map-range_with_len face 0 (face_count h) (face_input h f - 1) (face_input h f - 1) no_corners there (omega arith)
-              ∙ ap (λ g. input_corners h (corners_of h g)) (numbered_so-found (face_input h) (face_count h) f faces.once l (faces.some f l));
+              let there : face_input h f - 1 < face_count h =
+              (let some = faces.some f l in let most = faces.most f l in omega arith) in
+              get_or-map-range_with_len face 0 (face_count h) (face_input h f - 1)
+              (face_input h f - 1) no_corners there (omega arith)
+              ∙ ap (λ g. input_corners h (corners_of h g))
+              (numbered_so-found (face_input h) (face_count h) f faces.once l (faces.some f l));
         };
       }

@@ -1,13 +1,20 @@
--- A hierarchy cut after its first records, and a hierarchy with one record more: what they share with the whole.
-use Rattle.std.proofs.Common.{◌≡◌, ◌≢◌, ℕ, zero, suc, ◌+◌, ◌<◌, ◌≤◌, eqb, leb, Bool, cond, List, [], ◌∷◌, ◌++◌, length, take, Some, is_some, refl, sym, ap, ◌∙◌, arith, append_assoc}
+-- A hierarchy cut after its first records, and a hierarchy with one record more: what they share
+-- with the whole.
+use Rattle.std.proofs.Common.{◌≡◌, ◌≢◌, ℕ, zero, suc, ◌+◌, ◌<◌, ◌≤◌, eqb, leb, Bool, cond, List, []}
+use Rattle.std.proofs.Common.{◌∷◌, ◌++◌, length, take, Some, is_some, refl, sym, ap, ◌∙◌, arith}
+use Rattle.std.proofs.Common.{append_assoc}
 use Rattle.std.proofs.lemmas.Bool.{eq-eqb, ne_eqb}
-use Rattle.std.proofs.lemmas.List.{get_or-take, get_or_append_left, get_or_push, length_push, length-take-le, take_more, append-nil}
+use Rattle.std.proofs.lemmas.List.{get_or-take, get_or_append_left, get_or_push, length_push}
+use Rattle.std.proofs.lemmas.List.{length-take-le, take_more, append-nil}
 use Rattle.std.specs.List.{flat_map}
 use Rattle.pm_base.specs.Sides.{find_below}
 use Rattle.pm_base.specs.Counts.{one_if}
 use Rattle.pm_forest.specs.declared.parts.Record.{Record}
-use Rattle.pm_forest.specs.Forest.{Hierarchy, no_record, record_at, record_count, s_of, t_of, u_of, node_count, first_part, rest, interval_after, interval_of, splitter_of}
-use Rattle.pm_forest.specs.Faces.{faces_in, faces_of, first_face, face_count, revealed_after, revealed_by}
+use Rattle.pm_forest.specs.Forest.{Hierarchy, no_record, record_at, record_count, s_of, t_of, u_of}
+use Rattle.pm_forest.specs.Forest.{node_count, first_part, rest, interval_after, interval_of}
+use Rattle.pm_forest.specs.Forest.{splitter_of}
+use Rattle.pm_forest.specs.Faces.{faces_in, faces_of, first_face, face_count, revealed_after}
+use Rattle.pm_forest.specs.Faces.{revealed_by}
 use Rattle.pm_forest.specs.Rules.{with_record}
 use Rattle.pm_forest.proofs.Nodes.{interval-kept}
 
@@ -33,7 +40,14 @@ interval_after-alike g h (suc k) same v =
     } in
     let node = same.node k (omega arith) in
     let width = same.width k (omega arith) in
-    rw (node, width, interval_after-alike g h k fewer (s_of h k), interval_after-alike g h k fewer v, same.roots) refl
+    rw (
+      node,
+      width,
+      interval_after-alike g h k fewer (s_of h k),
+      interval_after-alike g h k fewer
+          v,
+      same.roots,
+    ) refl
 
 -- Two hierarchies with as many base faces: the first k records bring in as many faces.
 pub record RevealsAlike (g h : Hierarchy) (k : ℕ) : Type 0 where
@@ -48,11 +62,16 @@ fewer_reveals g h k same = record {
   right = λ j l. same.right j (omega arith);
 }
 
-pub first_face-alike : (g h : Hierarchy) (k : ℕ) → RevealsAlike g h k → first_face g k ≡ first_face h k
+pub first_face-alike : (g h : Hierarchy) (k : ℕ) → RevealsAlike g h k
+    → first_face g k ≡ first_face h k
 unfolding first_face
 first_face-alike g h zero same = same.bases
 first_face-alike g h (suc k) same =
-    rw (first_face-alike g h k (fewer_reveals g h k same), same.left k (omega arith), same.right k (omega arith)) refl
+    rw (
+      first_face-alike g h k (fewer_reveals g h k same),
+      same.left k (omega arith),
+      same.right k (omega arith),
+    ) refl
 
 pub revealed_after-alike : (g h : Hierarchy) (k : ℕ) → RevealsAlike g h k → (f : ℕ) →
     revealed_after g k f ≡ revealed_after h k f
@@ -62,9 +81,11 @@ revealed_after-alike g h (suc k) same f =
     let fewer = fewer_reveals g h k same in
     rw (first_face-alike g h k fewer, revealed_after-alike g h k fewer f) refl
 
-pub find_below-alike : (p q : ℕ → Bool) (n : ℕ) → ((k : ℕ) → k < n → p k ≡ q k) → find_below p n ≡ find_below q n
+pub find_below-alike : (p q : ℕ → Bool) (n : ℕ) → ((k : ℕ) → k < n → p k ≡ q k)
+    → find_below p n ≡ find_below q n
 find_below-alike p q zero same = refl
-find_below-alike p q (suc n) same = rw (same n (omega arith), find_below-alike p q n (λ k l. same k (omega arith))) refl
+find_below-alike p q (suc n) same =
+    rw (same n (omega arith), find_below-alike p q n (λ k l. same k (omega arith))) refl
 
 -- Cut after k records
 
@@ -92,20 +113,27 @@ cut_reveals_alike h k j l = record {
   right = λ i m. ap (λ r. is_some r.right) (record_at-cut h k i (omega arith));
 }
 
-pub interval_after-cut : (h : Hierarchy) (k j v : ℕ) → j ≤ k → interval_after (cut h k) j v ≡ interval_after h j v
+pub interval_after-cut : (h : Hierarchy) (k j v : ℕ) → j ≤ k
+    → interval_after (cut h k) j v ≡ interval_after h j v
 interval_after-cut h k j v l = interval_after-alike (cut h k) h j (cut_splits_alike h k j l) v
 
-pub interval_of-cut : (h : Hierarchy) (k v : ℕ) → k ≤ record_count h → interval_of (cut h k) v ≡ interval_after h k v
-interval_of-cut h k v l = ap (λ n. interval_after (cut h k) n v) (record_count-cut h k l) ∙ interval_after-cut h k k v (omega arith)
+pub interval_of-cut : (h : Hierarchy) (k v : ℕ) → k ≤ record_count h
+    → interval_of (cut h k) v ≡ interval_after h k v
+interval_of-cut h k v l =
+    ap (λ n. interval_after (cut h k) n v) (record_count-cut h k l)
+    ∙ interval_after-cut h k k v (omega arith)
 
 pub first_face-cut : (h : Hierarchy) (k j : ℕ) → j ≤ k → first_face (cut h k) j ≡ first_face h j
 first_face-cut h k j l = first_face-alike (cut h k) h j (cut_reveals_alike h k j l)
 
-pub face_count-cut : (h : Hierarchy) (k : ℕ) → k ≤ record_count h → face_count (cut h k) ≡ first_face h k
-face_count-cut h k l = ap (first_face (cut h k)) (record_count-cut h k l) ∙ first_face-cut h k k (omega arith)
+pub face_count-cut : (h : Hierarchy) (k : ℕ) → k ≤ record_count h
+    → face_count (cut h k) ≡ first_face h k
+face_count-cut h k l =
+    ap (first_face (cut h k)) (record_count-cut h k l) ∙ first_face-cut h k k (omega arith)
 
 -- the record that comes next gives the hierarchy that is cut after it
-pub cut-more : (h : Hierarchy) (k : ℕ) → k < record_count h → cut h (suc k) ≡ with_record (cut h k) (record_at h k)
+pub cut-more : (h : Hierarchy) (k : ℕ) → k < record_count h
+    → cut h (suc k) ≡ with_record (cut h k) (record_at h k)
 cut-more h k l =
     let next : k + 1 ≡ suc k = omega arith in
     let more : take (suc k) h.records ≡ take k h.records ++ record_at h k ∷ [] =
@@ -114,20 +142,25 @@ cut-more h k l =
 
 -- One record more
 
-pub record_count-with_record : (h : Hierarchy) (r : Record) → record_count (with_record h r) ≡ suc (record_count h)
+pub record_count-with_record : (h : Hierarchy) (r : Record)
+    → record_count (with_record h r) ≡ suc (record_count h)
 record_count-with_record h r = length_push h.records r ∙ omega arith
 
-pub record_at-with_record : (h : Hierarchy) (r : Record) (j : ℕ) → j < record_count h → record_at (with_record h r) j ≡ record_at h j
+pub record_at-with_record : (h : Hierarchy) (r : Record) (j : ℕ) → j < record_count h
+    → record_at (with_record h r) j ≡ record_at h j
 record_at-with_record h r j l = get_or_append_left h.records (r ∷ []) no_record j l
 
-pub record_at-with_record_last : (h : Hierarchy) (r : Record) → record_at (with_record h r) (record_count h) ≡ r
+pub record_at-with_record_last : (h : Hierarchy) (r : Record)
+    → record_at (with_record h r) (record_count h) ≡ r
 record_at-with_record_last h r = get_or_push h.records r no_record (record_count h) refl
 
-pub s_of-with_record : (h : Hierarchy) (r : Record) (j : ℕ) → j < record_count h → s_of (with_record h r) j ≡ s_of h j
+pub s_of-with_record : (h : Hierarchy) (r : Record) (j : ℕ) → j < record_count h
+    → s_of (with_record h r) j ≡ s_of h j
 unfolding s_of
 s_of-with_record h r j l = ap (λ q. q.s) (record_at-with_record h r j l)
 
-pub s_of-with_record_last : (h : Hierarchy) (r : Record) → s_of (with_record h r) (record_count h) ≡ r.s
+pub s_of-with_record_last : (h : Hierarchy) (r : Record) → s_of (with_record h r) (record_count h)
+    ≡ r.s
 unfolding s_of
 s_of-with_record_last h r = ap (λ q. q.s) (record_at-with_record_last h r)
 
@@ -149,13 +182,15 @@ with_record_reveals_alike h r k l = record {
 
 pub interval_after-with_record : (h : Hierarchy) (r : Record) (k v : ℕ) → k ≤ record_count h →
     interval_after (with_record h r) k v ≡ interval_after h k v
-interval_after-with_record h r k v l = interval_after-alike (with_record h r) h k (with_record_splits_alike h r k l) v
+interval_after-with_record h r k v l =
+    interval_after-alike (with_record h r) h k (with_record_splits_alike h r k l) v
 
 -- the nodes that were there keep their intervals
 pub interval_of-with_record : (h : Hierarchy) (r : Record) (v : ℕ) → v < node_count h →
     interval_of (with_record h r) v ≡ interval_of h v
 interval_of-with_record h r v l =
-    interval-kept (with_record h r) (record_count h) (record_count (with_record h r)) v (omega (arith, record_count-with_record h r)) l
+    interval-kept (with_record h r) (record_count h) (record_count (with_record h r)) v
+    (omega (arith, record_count-with_record h r)) l
     ∙ interval_after-with_record h r (record_count h) v (omega arith)
 
 -- and the leaves of the node that is split go to its children
@@ -180,7 +215,8 @@ interval_of-with_record_u h r =
     let old = interval_after-with_record h r n r.s (omega arith) in
     let differs : u_of h n ≢ t_of h n = omega arith in
     ap (λ k. interval_after (with_record h r) k (u_of h n)) (record_count-with_record h r)
-    ∙ rw (ne_eqb (u_of h n) (t_of h n) differs, eq-eqb (u_of h n) (u_of h n) refl, node, last, old) refl
+    ∙ rw (ne_eqb (u_of h n) (t_of h n) differs, eq-eqb (u_of h n) (u_of h n) refl, node, last, old)
+    refl
 
 pub splitter_of-with_record : (h : Hierarchy) (r : Record) (v : ℕ) →
     splitter_of (with_record h r) v ≡ cond (eqb r.s v) (Some (record_count h)) (splitter_of h v)
@@ -188,34 +224,46 @@ unfolding splitter_of
 splitter_of-with_record h r v =
     let splits = λ (j : ℕ). eqb (s_of h j) v in
     let splits' = λ (j : ℕ). eqb (s_of (with_record h r) j) v in
-    let earlier = find_below-alike splits' splits (record_count h) (λ j m. ap (λ s. eqb s v) (s_of-with_record h r j m)) in
-    ap (find_below splits') (record_count-with_record h r) ∙ rw (s_of-with_record_last h r, earlier) refl
+    let earlier =
+    find_below-alike splits' splits (record_count h)
+    (λ j m. ap (λ s. eqb s v) (s_of-with_record h r j m)) in
+    ap (find_below splits') (record_count-with_record h r)
+    ∙ rw (s_of-with_record_last h r, earlier) refl
 
 pub first_face-with_record : (h : Hierarchy) (r : Record) (k : ℕ) → k ≤ record_count h →
     first_face (with_record h r) k ≡ first_face h k
-first_face-with_record h r k l = first_face-alike (with_record h r) h k (with_record_reveals_alike h r k l)
+first_face-with_record h r k l =
+    first_face-alike (with_record h r) h k (with_record_reveals_alike h r k l)
 
 pub face_count-with_record : (h : Hierarchy) (r : Record) →
     face_count (with_record h r) ≡ face_count h + one_if (is_some r.left) + one_if (is_some r.right)
 unfolding first_face
 face_count-with_record h r =
     ap (first_face (with_record h r)) (record_count-with_record h r)
-    ∙ rw (first_face-with_record h r (record_count h) (omega arith), record_at-with_record_last h r) refl
+    ∙ rw (first_face-with_record h r (record_count h) (omega arith), record_at-with_record_last h r)
+    refl
 
 pub revealed_by-with_record : (h : Hierarchy) (r : Record) (f : ℕ) →
-    revealed_by (with_record h r) f ≡ cond (leb (face_count h) f) (Some (record_count h)) (revealed_by h f)
+    revealed_by (with_record h r) f ≡ cond (leb (face_count h) f) (Some (record_count h))
+    (revealed_by h f)
 unfolding revealed_after
 revealed_by-with_record h r f =
     let n = record_count h in
-    let earlier = revealed_after-alike (with_record h r) h n (with_record_reveals_alike h r n (omega arith)) f in
+    let earlier =
+    revealed_after-alike (with_record h r) h n (with_record_reveals_alike h r n (omega arith))
+    f in
     ap (λ k. revealed_after (with_record h r) k f) (record_count-with_record h r)
     ∙ rw (first_face-with_record h r n (omega arith), earlier) refl
 
 flat_map-push : {X A : Type 0} (f : X → List A) (xs : List X) (x : X) →
     flat_map f (xs ++ x ∷ []) ≡ flat_map f xs ++ f x
 flat_map-push f [] x = append-nil (f x)
-flat_map-push f (y ∷ xs) x = rw (flat_map-push f xs x) (sym (append_assoc (f y) (flat_map f xs) (f x)))
+flat_map-push f (y ∷ xs) x =
+    rw (flat_map-push f xs x) (sym (append_assoc (f y) (flat_map f xs) (f x)))
 
-pub faces_of-with_record : (h : Hierarchy) (r : Record) → faces_of (with_record h r) ≡ faces_of h ++ faces_in r
+pub faces_of-with_record : (h : Hierarchy) (r : Record) → faces_of (with_record h r) ≡ faces_of h
+    ++ faces_in r
 unfolding faces_of
-faces_of-with_record h r = rw (flat_map-push faces_in h.records r) (sym (append_assoc h.bases (flat_map faces_in h.records) (faces_in r)))
+faces_of-with_record h r =
+    rw (flat_map-push faces_in h.records r)
+    (sym (append_assoc h.bases (flat_map faces_in h.records) (faces_in r)))

@@ -1,12 +1,18 @@
--- Two records that split the same node in the same way, and the shape of nodes with one record more.
-use Rattle.std.proofs.Common.{◌≡◌, ◌≢◌, ℕ, zero, suc, ◌+◌, ◌<◌, eqb, Bool, false, cond, List, [], ◌∷◌, ◌++◌, get_or, None, Some, inl, inr, refl, sym, ap, ◌∙◌, arith}
+-- Two records that split the same node in the same way, and the shape of nodes with one record
+-- more.
+use Rattle.std.proofs.Common.{◌≡◌, ◌≢◌, ℕ, zero, suc, ◌+◌, ◌<◌, eqb, Bool, false, cond, List, []}
+use Rattle.std.proofs.Common.{◌∷◌, ◌++◌, get_or, None, Some, inl, inr, refl, sym, ap, ◌∙◌, arith}
 use Rattle.std.proofs.lemmas.Bool.{cases_Bool, cases_lt, cases_eq, eqb-false, cond-true, cond-false}
 use Rattle.std.proofs.lemmas.Option.{none-some}
 use Rattle.pm_base.specs.Sides.{find_below}
 use Rattle.pm_forest.specs.declared.parts.Record.{Record}
-use Rattle.pm_forest.specs.Forest.{Hierarchy, no_record, record_at, record_count, s_of, node_count, interval_after, interval_of, splitter_of, HasForestShape}
+use Rattle.pm_forest.specs.Forest.{Hierarchy, no_record, record_at, record_count, s_of, node_count}
+use Rattle.pm_forest.specs.Forest.{interval_after, interval_of, splitter_of, HasForestShape}
 use Rattle.pm_forest.specs.Rules.{with_record}
-use Rattle.pm_forest.proofs.Prefix.{interval_after-alike, interval_of-with_record, record_at-with_record, record_at-with_record_last, record_count-with_record, s_of-with_record, s_of-with_record_last, splitter_of-with_record}
+use Rattle.pm_forest.proofs.Prefix.{interval_after-alike, interval_of-with_record}
+use Rattle.pm_forest.proofs.Prefix.{record_at-with_record, record_at-with_record_last}
+use Rattle.pm_forest.proofs.Prefix.{record_count-with_record, s_of-with_record}
+use Rattle.pm_forest.proofs.Prefix.{s_of-with_record_last, splitter_of-with_record}
 
 -- Records that split the same node in the same way: their faces don't matter to the nodes
 
@@ -22,7 +28,8 @@ pub s_of-same_split : (h : Hierarchy) (r q : Record) → r.s ≡ q.s → (j : �
 unfolding s_of
 s_of-same_split h r q node j = push_alike (λ p. p.s) h.records r q no_record j node
 
-pub interval_after-same_split : (h : Hierarchy) (r q : Record) → r.s ≡ q.s → r.width ≡ q.width → (k v : ℕ) →
+pub interval_after-same_split : (h : Hierarchy) (r q : Record) → r.s ≡ q.s → r.width ≡ q.width
+    → (k v : ℕ) →
     interval_after (with_record h r) k v ≡ interval_after (with_record h q) k v
 interval_after-same_split h r q node width k v =
     interval_after-alike (with_record h r) (with_record h q) k (record {
@@ -31,10 +38,12 @@ interval_after-same_split h r q node width k v =
       width = λ j l. push_alike (λ p. p.width) h.records r q no_record j width;
     }) v
 
-record_count-same : (h : Hierarchy) (r q : Record) → record_count (with_record h r) ≡ record_count (with_record h q)
+record_count-same : (h : Hierarchy) (r q : Record)
+    → record_count (with_record h r) ≡ record_count (with_record h q)
 record_count-same h r q = record_count-with_record h r ∙ sym (record_count-with_record h q)
 
-pub interval_of-same_split : (h : Hierarchy) (r q : Record) → r.s ≡ q.s → r.width ≡ q.width → (v : ℕ) →
+pub interval_of-same_split : (h : Hierarchy) (r q : Record) → r.s ≡ q.s → r.width ≡ q.width
+    → (v : ℕ) →
     interval_of (with_record h r) v ≡ interval_of (with_record h q) v
 interval_of-same_split h r q node width v =
     ap (λ n. interval_after (with_record h r) n v) (record_count-same h r q)
@@ -53,9 +62,11 @@ pub find_below-none : (p : ℕ → Bool) (n k : ℕ) → find_below p n ≡ None
 find_below-none p zero k none l = absurd (omega arith)
 find_below-none p (suc n) k none l =
     elim (cases_Bool (p n)) [
-      | inl found ↦ absurd (none-some n (sym none ∙ cond-true (p n) (Some n) (find_below p n) found))
+      | inl found ↦
+          absurd (none-some n (sym none ∙ cond-true (p n) (Some n) (find_below p n) found))
       | inr passed ↦
-          let rest : find_below p n ≡ None = sym (cond-false (p n) (Some n) (find_below p n) passed) ∙ none in
+          let rest : find_below p n ≡ None =
+          sym (cond-false (p n) (Some n) (find_below p n) passed) ∙ none in
           elim (cases_eq k n) [
             | inl is ↦ (rw is passed)
             | inr differs ↦ find_below-none p n k rest (omega arith)
@@ -63,13 +74,17 @@ find_below-none p (suc n) k none l =
     ]
 
 -- no record splits a node that has no splitter
-pub unsplit : (h : Hierarchy) (v : ℕ) → splitter_of h v ≡ None → (k : ℕ) → k < record_count h → s_of h k ≢ v
+pub unsplit : (h : Hierarchy) (v : ℕ) → splitter_of h v ≡ None → (k : ℕ) → k < record_count h
+    → s_of h k ≢ v
 unfolding splitter_of
-unsplit h v none k l = eqb-false _ _ (find_below-none (λ j. eqb (s_of h j) v) (record_count h) k none l)
+unsplit h v none k l =
+    eqb-false _ _ (find_below-none (λ j. eqb (s_of h j) v) (record_count h) k none l)
 
 -- a record may be added that splits a node that isn't split yet and leaves each child a leaf
-pub HasForestShape-with_record : (h : Hierarchy) (r : Record) → HasForestShape h → r.s < node_count h →
-    splitter_of h r.s ≡ None → 0 < r.width → (interval_of h r.s).from + r.width < (interval_of h r.s).until →
+pub HasForestShape-with_record : (h : Hierarchy) (r : Record) → HasForestShape h
+    → r.s < node_count h →
+    splitter_of h r.s ≡ None → 0 < r.width
+    → (interval_of h r.s).from + r.width < (interval_of h r.s).until →
     HasForestShape (with_record h r)
 HasForestShape-with_record h r shape there none first rest_of =
     let n = record_count h in
@@ -83,7 +98,8 @@ HasForestShape-with_record h r shape there none first rest_of =
       once = λ j k a l. elim (cases_lt k n) [
         | inl before ↦
             let earlier : j < n = omega arith in
-            (rw (s_of-with_record h r j earlier, s_of-with_record h r k before) (shape.once j k a before))
+            (rw (s_of-with_record h r j earlier, s_of-with_record h r k before)
+            (shape.once j k a before))
         | inr past ↦
             let is : k ≡ n = omega arith in
             let earlier : j < n = omega arith in
@@ -93,10 +109,12 @@ HasForestShape-with_record h r shape there none first rest_of =
         | inl before ↦
             let older = shape.older k before in
             let same = interval_of-with_record h r (s_of h k) (omega arith) in
-            rw (s_of-with_record h r k before, record_at-with_record h r k before, same) (shape.width k before)
+            rw (s_of-with_record h r k before, record_at-with_record h r k before, same)
+            (shape.width k before)
         | inr past ↦
             let is : k ≡ n = omega arith in
-            rw (is, last, record_at-with_record_last h r, interval_of-with_record h r r.s there) (first, rest_of)
+            rw (is, last, record_at-with_record_last h r, interval_of-with_record h r r.s there)
+            (first, rest_of)
       ];
     }
 
@@ -106,9 +124,15 @@ HasForestShape-same_split h r q node width shape =
     let count = record_count-same h r q in
     record {
       older = λ k l. rw (← s_of-same_split h r q node k) (shape.older k (omega arith));
-      once = λ j k a l. rw (← s_of-same_split h r q node j, ← s_of-same_split h r q node k) (shape.once j k a (omega arith));
+      once = λ j k a l. rw (← s_of-same_split h r q node j, ← s_of-same_split h r q node k)
+          (shape.once j k a (omega arith));
       width = λ k l.
           let w : (record_at (with_record h r) k).width ≡ (record_at (with_record h q) k).width =
           push_alike (λ p. p.width) h.records r q no_record k width in
-          rw (← s_of-same_split h r q node k, ← interval_of-same_split h r q node width (s_of (with_record h r) k), ← w) (shape.width k (omega arith));
+          rw (
+            ← s_of-same_split h r q node k,
+            ← interval_of-same_split h r q node width
+                (s_of (with_record h r) k),
+            ← w,
+          ) (shape.width k (omega arith));
     }

@@ -29,9 +29,12 @@ module _ (h : Hierarchy) where
   inner-face k f =
       let v = cond (is_left h k f) (t_of h k) (u_of h k) in
       elim (cases_Bool (holds h v (from_leaf h (3 * f)))) [
-        | inl a ↦ (rw (cond-true _ (3 * f) (cond (holds h v (from_leaf h (3 * f + 1))) (3 * f + 1) (3 * f + 2)) a) (omega arith))
+        | inl a ↦ (rw
+            (cond-true _ (3 * f)
+            (cond (holds h v (from_leaf h (3 * f + 1))) (3 * f + 1) (3 * f + 2)) a) (omega arith))
         | inr a ↦
-            rw (cond-false _ (3 * f) (cond (holds h v (from_leaf h (3 * f + 1))) (3 * f + 1) (3 * f + 2)) a)
+            rw (cond-false _ (3 * f)
+            (cond (holds h v (from_leaf h (3 * f + 1))) (3 * f + 1) (3 * f + 2)) a)
             (elim (cases_Bool (holds h v (from_leaf h (3 * f + 1)))) [
               | inl b ↦ (rw (cond-true _ (3 * f + 1) (3 * f + 2) b) (omega arith))
               | inr b ↦ (rw (cond-false _ (3 * f + 1) (3 * f + 2) b) (omega arith))

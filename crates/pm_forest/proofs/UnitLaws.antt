@@ -1,5 +1,8 @@
 -- What it means that a unit has no fault.
-use Rattle.std.proofs.Common.{◌≡◌, ◌≢◌, ℕ, zero, suc, ◌+◌, ◌-◌, ◌<◌, ◌≤◌, eqb, leb, ltb, Bool, true, false, cond, not, ◌&&◌, ◌||◌, List, [], ◌∷◌, ◌++◌, length, sum, get_or, take, All, Option, None, Some, is_some, refl, sym, subst, arith, append_assoc}
+use Rattle.std.proofs.Common.{◌≡◌, ◌≢◌, ℕ, zero, suc, ◌+◌, ◌-◌, ◌<◌, ◌≤◌, eqb, leb, ltb, Bool, true}
+use Rattle.std.proofs.Common.{false, cond, not, ◌&&◌, ◌||◌, List, [], ◌∷◌, ◌++◌, length, sum}
+use Rattle.std.proofs.Common.{get_or, take, All, Option, None, Some, is_some, refl, sym, subst}
+use Rattle.std.proofs.Common.{arith, append_assoc}
 use Rattle.std.proofs.lemmas.Bool.{eqb-true, eqb-false, leb-false, ltb-false, or_parts, not-false}
 use Rattle.std.proofs.lemmas.List.{append-nil}
 use Rattle.std.proofs.lemmas.List.Elements.{All-nil, All-cons}
@@ -8,32 +11,42 @@ use Rattle.pm_forest.specs.declared.parts.Counts.{Counts}
 use Rattle.pm_forest.specs.declared.parts.Root.{Root}
 use Rattle.pm_forest.specs.declared.parts.Face.{Face}
 use Rattle.pm_forest.specs.declared.parts.Shape.{Shape}
-use Rattle.pm_forest.specs.Forest.{Hierarchy, widths_of, node_count, root_of, interval_of, splitter_of}
-use Rattle.pm_forest.specs.Rules.{counts_are_bad, width_is_bad, root_fault, base_is_bad, split_is_bad, first_fault_of, AllFit}
+use Rattle.pm_forest.specs.Forest.{Hierarchy, widths_of, node_count, root_of, interval_of}
+use Rattle.pm_forest.specs.Forest.{splitter_of}
+use Rattle.pm_forest.specs.Rules.{counts_are_bad, width_is_bad, root_fault, base_is_bad}
+use Rattle.pm_forest.specs.Rules.{split_is_bad, first_fault_of, AllFit}
 use Rattle.pm_forest.specs.Shaping.{SplitFits}
 
 -- Units in a row
 
 pub AllFit-push : {X : Type 0} (fault : List X → X → Option Shape) (before xs : List X) (x : X) →
     AllFit fault before xs → fault (before ++ xs) x ≡ None → AllFit fault before (xs ++ x ∷ [])
-AllFit-push fault before [] x all fits = (subst (λ (l : List _). fault l x ≡ None) (append-nil before) fits, tt)
-AllFit-push fault before (y ∷ xs) x all fits =
-    (all.0, AllFit-push fault (before ++ y ∷ []) xs x all.1 (subst (λ (l : List _). fault l x ≡ None) (sym (append_assoc before (y ∷ []) xs)) fits))
+AllFit-push fault before [] x all fits =
+    (subst (λ (l : List _). fault l x ≡ None) (append-nil before) fits, tt)
+AllFit-push fault before (y ∷ xs) x all fits = (
+  all.0,
+  AllFit-push fault (before ++ y ∷ []) xs x all.1
+      (subst (λ (l : List _). fault l x ≡ None) (sym (append_assoc before (y ∷ []) xs)) fits),
+)
 
 -- each unit fits after those before it
-pub AllFit-at : {X : Type 0} (fault : List X → X → Option Shape) (before xs : List X) (i : ℕ) (x : X) →
-    AllFit fault before xs → i < length xs → x ≡ get_or xs i x → fault (before ++ take i xs) x ≡ None
+pub AllFit-at : {X : Type 0} (fault : List X → X → Option Shape) (before xs : List X) (i : ℕ)
+    (x : X) →
+    AllFit fault before xs → i < length xs → x ≡ get_or xs i x
+    → fault (before ++ take i xs) x ≡ None
 AllFit-at fault before [] i x all lt is = absurd (omega arith)
 AllFit-at fault before (y ∷ xs) zero x all lt is = rw (append-nil before, is) all.0
 AllFit-at fault before (y ∷ xs) (suc i) x all lt is =
-    subst (λ (l : List _). fault l x ≡ None) (append_assoc before (y ∷ []) (take i xs)) (AllFit-at fault (before ++ y ∷ []) xs i x all.1 (omega arith) is)
+    subst (λ (l : List _). fault l x ≡ None) (append_assoc before (y ∷ []) (take i xs))
+    (AllFit-at fault (before ++ y ∷ []) xs i x all.1 (omega arith) is)
 
 -- what any unit has that fits, all have
 pub AllFit-all : {X : Type 0} (fault : List X → X → Option Shape) (P : X → Type 0) →
     ((before : List X) (x : X) → fault before x ≡ None → P x) →
     (before xs : List X) → AllFit fault before xs → All P xs
 AllFit-all fault P has before [] all = All-nil P
-AllFit-all fault P has before (x ∷ xs) all = All-cons P x xs (has before x all.0) (AllFit-all fault P has (before ++ x ∷ []) xs all.1)
+AllFit-all fault P has before (x ∷ xs) all =
+    All-cons P x xs (has before x all.0) (AllFit-all fault P has (before ++ x ∷ []) xs all.1)
 
 -- a test that finds no fault, and what comes after it
 pub passed : {A : Type 0} (b : Bool) (e : A) (later : Option A) → cond b (Some e) later ≡ None →
@@ -48,28 +61,36 @@ first_none (Some e) b is = absurd cc
 -- One unit
 
 pub counts_fit : (c : Counts) → counts_are_bad c ≡ false →
-    (c.leaves ≤ 1048576) × (c.bases ≤ 1048576) × (c.roots ≤ c.leaves) × (c.records + c.roots ≡ c.leaves)
+    (c.leaves ≤ 1048576) × (c.bases ≤ 1048576) × (c.roots ≤ c.leaves)
+    × (c.records + c.roots ≡ c.leaves)
 unfolding counts_are_bad
 counts_fit c fit =
-    let p = or_parts (ltb 1048576 c.leaves || ltb 1048576 c.bases || ltb c.leaves c.roots || (eqb c.roots 0 && not (eqb c.leaves 0))) (not (eqb c.records (c.leaves - c.roots))) fit in
-    let q = or_parts (ltb 1048576 c.leaves || ltb 1048576 c.bases || ltb c.leaves c.roots) (eqb c.roots 0 && not (eqb c.leaves 0)) p.0 in
+    let p = or_parts (ltb 1048576 c.leaves || ltb 1048576 c.bases || ltb c.leaves c.roots ||
+    (eqb c.roots 0 && not (eqb c.leaves 0))) (not (eqb c.records (c.leaves - c.roots))) fit in
+    let q = or_parts (ltb 1048576 c.leaves || ltb 1048576 c.bases || ltb c.leaves c.roots)
+    (eqb c.roots 0 && not (eqb c.leaves 0)) p.0 in
     let r = or_parts (ltb 1048576 c.leaves || ltb 1048576 c.bases) (ltb c.leaves c.roots) q.0 in
     let s = or_parts (ltb 1048576 c.leaves) (ltb 1048576 c.bases) r.0 in
     let roots = ltb-false c.leaves c.roots r.1 in
     let records = eqb-true c.records (c.leaves - c.roots) (not-false _ p.1) in
     (ltb-false _ _ s.0, ltb-false _ _ s.1, roots, omega arith)
 
-pub width_fits : (c : Counts) (taken before width : ℕ) → width_is_bad c taken before width ≡ false → 0 < width
+pub width_fits : (c : Counts) (taken before width : ℕ) → width_is_bad c taken before width ≡ false
+    → 0 < width
 unfolding width_is_bad
 width_fits c taken before width fits =
-    let p = or_parts (eqb width 0 || ltb c.leaves (taken + width + (c.roots - 1 - before))) (eqb (before + 1) c.roots && not (eqb (taken + width) c.leaves)) fits in
+    let p = or_parts (eqb width 0 || ltb c.leaves (taken + width + (c.roots - 1 - before)))
+    (eqb (before + 1) c.roots && not (eqb (taken + width) c.leaves)) fits in
     let q = or_parts (eqb width 0) (ltb c.leaves (taken + width + (c.roots - 1 - before))) p.0 in
     let some = eqb-false width 0 q.0 in
     omega arith
 
-pub root_wide : (c : Counts) (before : List Root) (r : Root) → root_fault c before r ≡ None → 0 < r.width
+pub root_wide : (c : Counts) (before : List Root) (r : Root) → root_fault c before r ≡ None
+    → 0 < r.width
 unfolding root_fault
-root_wide c before r fits = width_fits c (sum (widths_of before)) (length before) r.width (passed _ _ _ (passed _ _ _ fits).1).0
+root_wide c before r fits =
+    width_fits c (sum (widths_of before)) (length before) r.width
+    (passed _ _ _ (passed _ _ _ fits).1).0
 
 -- A base face whose corners are leaves under three different roots.
 pub record BaseFits (roots : List Root) (f : Face) : Type 0 where
@@ -85,8 +106,10 @@ unfolding base_is_bad
 base_fits roots f fits =
     let n = sum (widths_of roots) in
     let root = root_of (widths_of roots) 0 in
-    let p = or_parts (leb n f.a || leb n f.b || leb n f.c || eqb (root f.a) (root f.b) || eqb (root f.b) (root f.c)) (eqb (root f.a) (root f.c)) fits in
-    let q = or_parts (leb n f.a || leb n f.b || leb n f.c || eqb (root f.a) (root f.b)) (eqb (root f.b) (root f.c)) p.0 in
+    let p = or_parts (leb n f.a || leb n f.b || leb n f.c || eqb (root f.a) (root f.b) || eqb
+    (root f.b) (root f.c)) (eqb (root f.a) (root f.c)) fits in
+    let q = or_parts (leb n f.a || leb n f.b || leb n f.c || eqb (root f.a) (root f.b))
+    (eqb (root f.b) (root f.c)) p.0 in
     let r = or_parts (leb n f.a || leb n f.b || leb n f.c) (eqb (root f.a) (root f.b)) q.0 in
     let s = or_parts (leb n f.a || leb n f.b) (leb n f.c) r.0 in
     let t = or_parts (leb n f.a) (leb n f.b) s.0 in
@@ -99,13 +122,17 @@ base_fits roots f fits =
       ca = λ e. eqb-false _ _ p.1 (sym e);
     }
 
-pub split_fits : (h : Hierarchy) (s width : ℕ) → split_is_bad h s width ≡ false → SplitFits h s width
+pub split_fits : (h : Hierarchy) (s width : ℕ) → split_is_bad h s width ≡ false
+    → SplitFits h s width
 unfolding split_is_bad
 split_fits h s width fits =
     let i = interval_of h s in
-    let p = or_parts (leb (node_count h) s || is_some (splitter_of h s) || ltb (i.until - i.from) 2 || eqb width 0) (leb (i.until - i.from) width) fits in
-    let q = or_parts (leb (node_count h) s || is_some (splitter_of h s) || ltb (i.until - i.from) 2) (eqb width 0) p.0 in
-    let r = or_parts (leb (node_count h) s || is_some (splitter_of h s)) (ltb (i.until - i.from) 2) q.0 in
+    let p = or_parts (leb (node_count h) s || is_some (splitter_of h s) || ltb (i.until - i.from) 2
+    || eqb width 0) (leb (i.until - i.from) width) fits in
+    let q = or_parts (leb (node_count h) s || is_some (splitter_of h s) || ltb (i.until - i.from) 2)
+    (eqb width 0) p.0 in
+    let r = or_parts (leb (node_count h) s || is_some (splitter_of h s)) (ltb (i.until - i.from) 2)
+    q.0 in
     let t = or_parts (leb (node_count h) s) (is_some (splitter_of h s)) r.0 in
     let room = leb-false (i.until - i.from) width p.1 in
     let first = eqb-false width 0 q.1 in

@@ -1,5 +1,8 @@
--- A hierarchy of vertex splits, and the interval of leaves of each of its nodes (Hoppe 1997, the vertex forest).
-use Rattle.std.specs.Prelude.{map, ◌≡◌, ◌≢◌, ℕ, ◌+◌, ◌*◌, ◌-◌, ◌<◌, ◌/◌, ◌==◌, nat_lt, nat_le, Bool, true, cond, ◌&&◌, List, [], ◌∷◌, length, sum, Option, None, Some, pos, slice_index_or, ◌⊎◌}
+-- A hierarchy of vertex splits, and the interval of leaves of each of its nodes (Hoppe 1997, the
+-- vertex forest).
+use Rattle.std.specs.Prelude.{map, ◌≡◌, ◌≢◌, ℕ, ◌+◌, ◌*◌, ◌-◌, ◌<◌, ◌/◌, ◌==◌, nat_lt, nat_le, Bool}
+use Rattle.std.specs.Prelude.{true, cond, ◌&&◌, List, [], ◌∷◌, length, sum, Option, None, Some, pos}
+use Rattle.std.specs.Prelude.{slice_index_or, ◌⊎◌}
 use Rattle.std.proofs.Common.{zero, suc}
 use Rattle.pm_base.specs.Sides.{find_below}
 use Rattle.pm_forest.specs.declared.parts.Root.{Root}
@@ -35,7 +38,8 @@ widths h = widths_of h.roots
 abbrev pub leaf_count : Hierarchy → ℕ
 leaf_count h = sum (widths h)
 
--- The node that record k splits, and its two children: the roots come first, and then two nodes a record.
+-- The node that record k splits, and its two children: the roots come first, and then two nodes a
+-- record.
 unfoldable pub s_of : Hierarchy → ℕ → ℕ
 s_of h k = (record_at h k).s
 
@@ -80,7 +84,8 @@ interval_after h zero v = root_interval (widths h) 0 v
 interval_after h (suc k) v =
     let parent = interval_after h k (s_of h k) in
     let old = interval_after h k v in
-    cond (v == t_of h k) (first_part parent (record_at h k).width) (cond (v == u_of h k) (rest parent (record_at h k).width) old)
+    cond (v == t_of h k) (first_part parent (record_at h k).width)
+    (cond (v == u_of h k) (rest parent (record_at h k).width) old)
 
 abbrev pub interval_of : Hierarchy → ℕ → Interval
 interval_of h v = interval_after h (record_count h) v
@@ -104,9 +109,11 @@ maker_of h v = cond (nat_lt v (length h.roots)) None (Some ((v - length h.roots)
 unfoldable pub splitter_of : Hierarchy → ℕ → Option ℕ
 splitter_of h v = find_below (λ k. s_of h k == v) (record_count h)
 
--- What the rules of shape say of the nodes: a record splits an older node, no node is split twice, and each child has
--- at least one leaf of its parent's.
+-- What the rules of shape say of the nodes: a record splits an older node, no node is split twice,
+-- and each child has at least one leaf of its parent's.
 pub record HasForestShape (h : Hierarchy) : Type 0 where
   pub older : (k : ℕ) → k < record_count h → s_of h k < t_of h k
   pub once : (j k : ℕ) → j < k → k < record_count h → s_of h j ≢ s_of h k
-  pub width : (k : ℕ) → k < record_count h → let i = interval_of h (s_of h k) in (0 < (record_at h k).width) × (i.from + (record_at h k).width < i.until)
+  pub width : (k : ℕ) → k < record_count h → let i =
+      interval_of h (s_of h k) in
+      (0 < (record_at h k).width) × (i.from + (record_at h k).width < i.until)

@@ -1,9 +1,13 @@
--- Fronts of a forest: active nodes and ancestors (Hoppe 1997). A set of records is a test on record numbers.
-use Rattle.std.specs.Prelude.{◌≡◌, ◌≢◌, ℕ, ◌<◌, ◌==◌, nat_lt, Bool, true, false, cond, not, ◌&&◌, Option, Some, None, length, ◌⊎◌}
+-- Fronts of a forest: active nodes and ancestors (Hoppe 1997). A set of records is a test on record
+-- numbers.
+use Rattle.std.specs.Prelude.{◌≡◌, ◌≢◌, ℕ, ◌<◌, ◌==◌, nat_lt, Bool, true, false, cond, not, ◌&&◌}
+use Rattle.std.specs.Prelude.{Option, Some, None, length, ◌⊎◌}
 use Rattle.std.proofs.Common.{zero, suc}
-use Rattle.pm_forest.specs.Forest.{Hierarchy, widths, record_count, s_of, t_of, u_of, root_of, holds, Makes, maker_of, splitter_of}
+use Rattle.pm_forest.specs.Forest.{Hierarchy, widths, record_count, s_of, t_of, u_of, root_of}
+use Rattle.pm_forest.specs.Forest.{holds, Makes, maker_of, splitter_of}
 
--- A set of records is a front if it has, with each record, the record that made the node that it splits.
+-- A set of records is a front if it has, with each record, the record that made the node that it
+-- splits.
 abbrev pub IsFront : Hierarchy → (ℕ → Bool) → Type 0
 IsFront h T = (k j : ℕ) → k < record_count h → T k ≡ true → Makes h j (s_of h k) → T j ≡ true
 
@@ -15,7 +19,8 @@ IsThere h T v = (v < length h.roots) ⊎ ((j : ℕ) × (j < record_count h) × (
 abbrev pub IsActive : Hierarchy → (ℕ → Bool) → ℕ → Type 0
 IsActive h T v = IsThere h T v × ((k : ℕ) → k < record_count h → T k ≡ true → s_of h k ≢ v)
 
--- The same as a test: the record that made the node is split, if one made it, and the one that splits it isn't.
+-- The same as a test: the record that made the node is split, if one made it, and the one that
+-- splits it isn't.
 abbrev pub made_in : (ℕ → Bool) → Option ℕ → Bool
 made_in T None = true
 made_in T (Some k) = T k
@@ -34,7 +39,8 @@ child_of h k x = cond (holds h (t_of h k) x) (t_of h k) (u_of h k)
 -- The node of leaf x once those of the first k records that are in T are split, in ascending order.
 unfoldable pub ancestor_after : Hierarchy → (ℕ → Bool) → ℕ → ℕ → ℕ
 ancestor_after h T zero x = root_of (widths h) 0 x
-ancestor_after h T (suc k) x = let v = ancestor_after h T k x in cond (T k && (s_of h k == v)) (child_of h k x) v
+ancestor_after h T (suc k) x = let v =
+    ancestor_after h T k x in cond (T k && (s_of h k == v)) (child_of h k x) v
 
 -- The ancestor of leaf x: the one active node that has it below it.
 abbrev pub ancestor_of : Hierarchy → (ℕ → Bool) → ℕ → ℕ

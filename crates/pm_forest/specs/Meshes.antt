@@ -1,4 +1,5 @@
--- The meshes of a hierarchy: the one of its leaves, and the same with the numbers of the input (Hoppe 1996).
+-- The meshes of a hierarchy: the one of its leaves, and the same with the numbers of the input
+-- (Hoppe 1996).
 use Rattle.std.specs.Prelude.{◌≡◌, ℕ, ◌+◌, ◌-◌, ◌<◌, ◌≤◌, ◌==◌, List, map, length, slice_index_or}
 use Rattle.std.specs.List.{range_with_len}
 use Rattle.std.specs.Option.{unwrap_or}
@@ -26,7 +27,8 @@ leaf_input h x = input_of_node h (leaf_node_of h x)
 
 -- The input vertex of each leaf, from 0.
 abbrev pub AreInputVertices : Hierarchy → List ℕ → Type 0
-AreInputVertices h vertices = vertices ≡ map (λ x. leaf_input h x - 1) (range_with_len 0 (leaf_count h))
+AreInputVertices h vertices =
+    vertices ≡ map (λ x. leaf_input h x - 1) (range_with_len 0 (leaf_count h))
 
 -- The number of face f among the input's faces, from 1.
 abbrev pub face_input : Hierarchy → ℕ → ℕ
@@ -37,7 +39,11 @@ abbrev pub leaf_corners : Face → Corners
 leaf_corners f = record { a = f.a; b = f.b; c = f.c }
 
 abbrev pub input_corners : Hierarchy → Face → Corners
-input_corners h f = record { a = leaf_input h f.a - 1; b = leaf_input h f.b - 1; c = leaf_input h f.c - 1 }
+input_corners h f = record {
+  a = leaf_input h f.a - 1;
+  b = leaf_input h f.b - 1;
+  c = leaf_input h f.c - 1;
+}
 
 -- The leaf mesh: the places of the leaves, and all faces by number.
 unfoldable pub leaf_mesh_of : Hierarchy → Mesh
@@ -78,10 +84,13 @@ pub record NumbersEach (number : ℕ → ℕ) (n : ℕ) : Type 0 where
 pub record IsInputMesh (h : Hierarchy) (m : Mesh) : Type 0 where
   pub points : length m.points ≡ leaf_count h
   pub faces : length m.faces ≡ face_count h
-  pub vertex : (x : ℕ) → x < leaf_count h → slice_index_or m.points (leaf_input h x - 1) origin ≡ leaf_place h x
-  pub face : (f : ℕ) → f < face_count h → slice_index_or m.faces (face_input h f - 1) no_corners ≡ input_corners h (corners_of h f)
+  pub vertex : (x : ℕ) → x < leaf_count h → slice_index_or m.points (leaf_input h x - 1) origin
+      ≡ leaf_place h x
+  pub face : (f : ℕ) → f < face_count h → slice_index_or m.faces (face_input h f - 1) no_corners
+      ≡ input_corners h (corners_of h f)
 
--- The input numbers of leaves and of faces leave none out, and the input mesh has each leaf and face at its own.
+-- The input numbers of leaves and of faces leave none out, and the input mesh has each leaf and
+-- face at its own.
 pub record HasInputNumbers (h : Hierarchy) : Type 0 where
   pub leaves : NumbersEach (leaf_input h) (leaf_count h)
   pub faces : NumbersEach (face_input h) (face_count h)

@@ -1,5 +1,6 @@
 -- What a front answers to a split (Hoppe 1997, with borders: a missing neighbour asks nothing).
-use Rattle.std.specs.Prelude.{ℕ, Bool, not, ◌&&◌, List, [], ◌∷◌, ◌++◌, Option, Some, None, if◌then◌else◌}
+use Rattle.std.specs.Prelude.{ℕ, Bool, not, ◌&&◌, List, [], ◌∷◌, ◌++◌, Option, Some, None}
+use Rattle.std.specs.Prelude.{if◌then◌else◌}
 use Rattle.pm_base.specs.declared.ids.Side.{Side}
 use Rattle.pm_base.specs.Sides.{face_of}
 use Rattle.pm_forest.specs.declared.parts.NewFace.{NewFace}
@@ -22,7 +23,8 @@ abbrev pub neighbours_in : Option NewFace → List ℕ
 neighbours_in None = []
 neighbours_in (Some n) = side_in n.first ++ side_in n.second
 
--- The sides recorded beyond the outer sides of a record's faces: left first, left second, right first, right second.
+-- The sides recorded beyond the outer sides of a record's faces: left first, left second, right
+-- first, right second.
 abbrev pub neighbours_of : Record → List ℕ
 neighbours_of r = neighbours_in r.left ++ neighbours_in r.right
 
@@ -38,7 +40,8 @@ neighbour_places_of r = places_in r.left ++ places_in r.right
 -- The face of the first of these sides whose face isn't kept.
 abbrev pub first_dropped : Hierarchy → (ℕ → Bool) → List ℕ → Option ℕ
 first_dropped h T [] = None
-first_dropped h T (e ∷ es) = if is_kept h T (face_of e) then first_dropped h T es else Some (face_of e)
+first_dropped h T (e ∷ es) = if is_kept h T (face_of e) then first_dropped h T es
+    else Some (face_of e)
 
 -- A split of record k may be tried where its node is active and it isn't split.
 abbrev pub may_try : Hierarchy → (ℕ → Bool) → ℕ → Bool

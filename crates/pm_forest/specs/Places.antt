@@ -1,5 +1,6 @@
 -- The places of nodes.
-use Rattle.std.specs.Prelude.{ℕ, ◌-◌, ◌/◌, ◌%◌, ◌==◌, nat_lt, length, pos, slice_index_or, if◌then◌else◌}
+use Rattle.std.specs.Prelude.{ℕ, ◌-◌, ◌/◌, ◌%◌, ◌==◌, nat_lt, length, pos, slice_index_or}
+use Rattle.std.specs.Prelude.{if◌then◌else◌}
 use Rattle.pm_base.specs.Place.{Place}
 use Rattle.pm_forest.specs.declared.parts.Root.{Root}
 use Rattle.pm_forest.specs.Forest.{Hierarchy, record_at}

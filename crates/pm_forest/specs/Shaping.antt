@@ -1,5 +1,6 @@
 -- A hierarchy that is being taken in, as contracts see it.
-use Rattle.std.specs.Prelude.{◌≡◌, ◌<◌, ◌≤◌, ℕ, ℤ, ◌+◌, ◌-◌, ◌==◌, List, [], length, Bool, true, false, ◌||◌, not, nat_lt, Option, Some, None, is_some, if◌then◌else◌}
+use Rattle.std.specs.Prelude.{◌≡◌, ◌<◌, ◌≤◌, ℕ, ℤ, ◌+◌, ◌-◌, ◌==◌, List, [], length, Bool, true}
+use Rattle.std.specs.Prelude.{false, ◌||◌, not, nat_lt, Option, Some, None, is_some, if◌then◌else◌}
 use Rattle.pm_base.specs.declared.limits.TheConstants.{MOST_FACES}
 use Rattle.pm_base.specs.Place.{place_of}
 use Rattle.pm_base.specs.declared.ids.Side.{Side}
@@ -15,7 +16,9 @@ use Rattle.pm_forest.specs.declared.parts.UnitKind.TheVariants as kinds
 use Rattle.pm_forest.specs.Marks.{AreMarked}
 use Rattle.pm_forest.specs.Forest.{Hierarchy, node_count, interval_of, splitter_of}
 use Rattle.pm_forest.specs.Faces.{faces_of}
-use Rattle.pm_forest.specs.Rules.{with_record, bare, head_with, counts_are_bad, root_fault, base_fault, head_fault, face_fault, record_fault_after, node_inputs, face_inputs, AllFit}
+use Rattle.pm_forest.specs.Rules.{with_record, bare, head_with, counts_are_bad, root_fault}
+use Rattle.pm_forest.specs.Rules.{base_fault, head_fault, face_fault, record_fault_after}
+use Rattle.pm_forest.specs.Rules.{node_inputs, face_inputs, AllFit}
 use Rattle.pm_forest.specs.Tables.{Grown, grown}
 
 -- The counts, the whole units that were taken in, and the record whose faces are coming.
@@ -45,7 +48,11 @@ abbrev pub expects : Shaping → UnitKind
 expects s = expects_after s.counts s.h s.coming
 
 abbrev pub nothing_in : Counts → Shaping
-nothing_in c = record { counts = c; h = record { roots = []; bases = []; records = [] }; coming = None }
+nothing_in c = record {
+  counts = c;
+  h = record { roots = []; bases = []; records = [] };
+  coming = None;
+}
 
 abbrev pub next_root : List ℤ → ℕ → ℕ → Root
 next_root r width input = record { place = place_of r; width = width; input = input }
@@ -91,10 +98,11 @@ settled c h p =
     if p.left_due || p.right_due then record { counts = c; h = h; coming = Some p }
     else record { counts = c; h = with_record h p.split; coming = None }
 
--- A record some of whose faces are due: what is there has no fault, its place in the forest fits, and the head is that
--- of a record with all of them.
+-- A record some of whose faces are due: what is there has no fault, its place in the forest fits,
+-- and the head is that of a record with all of them.
 pub record ComingFits (h : Hierarchy) (r : Record) (left_due right_due : Bool) : Type 0 where
-  pub head : head_fault h (head_with r (is_some r.left || left_due) (is_some r.right || right_due)) ≡ None
+  pub head : head_fault h (head_with r (is_some r.left || left_due) (is_some r.right || right_due))
+      ≡ None
   pub split : SplitFits h r.s r.width
   pub left : face_fault (with_record h (bare r)) true r.left ≡ None
   pub no_right : is_some r.right ≡ false
@@ -106,21 +114,23 @@ ComingFit h None left_due right_due = (left_due ≡ false) × (right_due ≡ fal
 ComingFit h (Some r) left_due right_due = ComingFits h r left_due right_due
 
 -- The units that were taken in have no fault, and the flags are those of their input numbers.
-pub record IsShaping (g : Grown) (left_due right_due : Bool) (vertices faces : List Bool) : Type 0 where
-  pub counts_fit : counts_are_bad g.counts ≡ false
-  pub roots_fit : AllFit (root_fault g.counts) [] g.h.roots
-  pub bases_fit : AllFit (base_fault g.h.roots) [] g.h.bases
-  pub records_fit : AllFit (record_fault_after g.h.roots g.h.bases) [] g.h.records
-  pub coming_fits : ComingFit g.h g.coming left_due right_due
-  pub roots_most : length g.h.roots ≤ g.counts.roots
-  pub bases_most : length g.h.bases ≤ g.counts.bases
-  pub records_most : length (grown g).records ≤ g.counts.records
-  pub roots_first : 0 < length g.h.bases + length (grown g).records → length g.h.roots ≡ g.counts.roots
-  pub bases_next : 0 < length (grown g).records → length g.h.bases ≡ g.counts.bases
-  pub nodes_marked : AreMarked vertices (node_inputs (grown g))
-  pub node_flags : length vertices ≡ g.counts.leaves
-  pub faces_marked : AreMarked faces (face_inputs (faces_of (grown g)))
-  pub face_flags : length faces ≡ MOST_FACES
+pub record IsShaping (g : Grown) (left_due right_due : Bool) (vertices faces : List Bool) : Type 0
+  where
+    pub counts_fit : counts_are_bad g.counts ≡ false
+    pub roots_fit : AllFit (root_fault g.counts) [] g.h.roots
+    pub bases_fit : AllFit (base_fault g.h.roots) [] g.h.bases
+    pub records_fit : AllFit (record_fault_after g.h.roots g.h.bases) [] g.h.records
+    pub coming_fits : ComingFit g.h g.coming left_due right_due
+    pub roots_most : length g.h.roots ≤ g.counts.roots
+    pub bases_most : length g.h.bases ≤ g.counts.bases
+    pub records_most : length (grown g).records ≤ g.counts.records
+    pub roots_first : 0 < length g.h.bases + length (grown g).records
+        → length g.h.roots ≡ g.counts.roots
+    pub bases_next : 0 < length (grown g).records → length g.h.bases ≡ g.counts.bases
+    pub nodes_marked : AreMarked vertices (node_inputs (grown g))
+    pub node_flags : length vertices ≡ g.counts.leaves
+    pub faces_marked : AreMarked faces (face_inputs (faces_of (grown g)))
+    pub face_flags : length faces ≡ MOST_FACES
 
 -- A record whose faces are due, as contracts see it.
 abbrev pub unfinished : Bool → Bool → Record → Unfinished

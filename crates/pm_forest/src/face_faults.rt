@@ -1,10 +1,15 @@
-//! What is wrong with the next face of a record that comes, and with the input numbers of all faces.
-ghost use Rattle.std.specs.Prelude.{if◌then◌else◌, slice_index_or, true, false, ◌≡◌, ◌+◌, ◌-◌, ◌*◌, ◌<◌, ◌≤◌, ◌||◌, ◌&&◌, not, nat_le, length, None, Some, IfSome, is_some};
+//! What is wrong with the next face of a record that comes, and with the input numbers of all
+//! faces.
+ghost use Rattle.std.specs.Prelude.{if◌then◌else◌, slice_index_or, true, false, ◌≡◌, ◌+◌, ◌-◌, ◌*◌};
+ghost use Rattle.std.specs.Prelude.{◌<◌, ◌≤◌, ◌||◌, ◌&&◌, not, nat_le, length, None, Some, IfSome};
+ghost use Rattle.std.specs.Prelude.{is_some};
 ghost use Rattle.pm_base.specs.declared.limits.TheConstants.{MOST_VERTICES};
 ghost use Rattle.pm_forest.specs.Marks.{AreMarked};
-ghost use Rattle.pm_forest.specs.Forest.{Hierarchy, Interval, leaf_count, node_count, record_count, t_of, u_of, interval_of, within};
+ghost use Rattle.pm_forest.specs.Forest.{Hierarchy, Interval, leaf_count, node_count, record_count};
+ghost use Rattle.pm_forest.specs.Forest.{t_of, u_of, interval_of, within};
 ghost use Rattle.pm_forest.specs.Faces.{faces_of, face_count, first_face, revealed_by};
-ghost use Rattle.pm_forest.specs.Rules.{face_inputs, new_face_is_bad, new_face_fault, past_fault, runs, runs_from, heads_before};
+ghost use Rattle.pm_forest.specs.Rules.{face_inputs, new_face_is_bad, new_face_fault, past_fault};
+ghost use Rattle.pm_forest.specs.Rules.{runs, runs_from, heads_before};
 ghost use Rattle.pm_forest.specs.Shaping.{side_of};
 ghost use Rattle.pm_forest.specs.Tables.{grown};
 
@@ -22,14 +27,18 @@ fn is_within(leaves: (u32, u32), x: u32) -> bool
 
 // Whether in this order one corner is under p, the next under q, and the one after it outside s.
 fn runs_from(p: (u32, u32), q: (u32, u32), s: (u32, u32), corners: [u32; 3]) -> bool
-    ensures { result ≡ runs_from (record { from = p.0; until = p.1 }) (record { from = q.0; until = q.1 }) (record { from = s.0; until = s.1 }) (slice_index_or corners 0 0) (slice_index_or corners 1 0) (slice_index_or corners 2 0) }
+    ensures { result ≡ runs_from (record { from = p.0; until = p.1 })
+        (record { from = q.0; until = q.1 }) (record { from = s.0; until = s.1 })
+        (slice_index_or corners 0 0) (slice_index_or corners 1 0) (slice_index_or corners 2 0) }
 {
     is_within(p, corners[0]) && is_within(q, corners[1]) && !is_within(s, corners[2])
 }
 
 #[tactic(auto, unfolding(crate::specs::Rules::runs))]
 fn runs(p: (u32, u32), q: (u32, u32), s: (u32, u32), f: &Face) -> bool
-    ensures { result ≡ runs (record { from = p.0; until = p.1 }) (record { from = q.0; until = q.1 }) (record { from = s.0; until = s.1 }) f.now }
+    ensures { result
+        ≡ runs (record { from = p.0; until = p.1 }) (record { from = q.0; until = q.1 })
+        (record { from = s.0; until = s.1 }) f.now }
 {
     runs_from(p, q, s, [f.a, f.b, f.c])
         || runs_from(p, q, s, [f.b, f.c, f.a])
@@ -46,8 +55,8 @@ fn first_face(forest: &Growing, split: &Record) -> u32
     forest.faces() - u32::from(split.left.is_some()) - u32::from(split.right.is_some())
 }
 
-// Whether a face of the coming record has a corner that is no leaf, or doesn't have its corners under the children and
-// outside their parent in its order.
+// Whether a face of the coming record has a corner that is no leaf, or doesn't have its corners
+// under the children and outside their parent in its order.
 #[tactic(auto, using(crate::proofs::FaultLaws::nodes_coming))]
 fn is_out_of_place(forest: &Growing, split: &Record, left: bool, f: &Face) -> bool
     requires coming { forest.now.coming ≡ Some split.now }
@@ -56,7 +65,8 @@ fn is_out_of_place(forest: &Growing, split: &Record, left: bool, f: &Face) -> bo
         let t : Interval = interval_of (grown forest.now) (t_of h (record_count h)) in
         let u : Interval = interval_of (grown forest.now) (u_of h (record_count h)) in
         let s : Interval = interval_of (grown forest.now) split.now.s in
-        result ≡ (nat_le (leaf_count h) f.now.a || nat_le (leaf_count h) f.now.b || nat_le (leaf_count h) f.now.c
+        result ≡ (nat_le (leaf_count h) f.now.a || nat_le (leaf_count h) f.now.b || nat_le
+        (leaf_count h) f.now.c
         || not (if left then runs t u s f.now else runs u t s f.now)) }
 {
     let leaves = forest.leaves();

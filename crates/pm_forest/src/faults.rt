@@ -1,10 +1,14 @@
 //! What is wrong with the next unit, by the rules of shape, over a forest that has those before it.
-ghost use Rattle.std.specs.Prelude.{if◌then◌else◌, sum, OnOk, OnSome, IfNone, true, false, ◌≡◌, ◌+◌, ◌-◌, ◌<◌, ◌≤◌, ◌||◌, ◌&&◌, length, None, Some, IfOk, IfErr, IfSome, is_some};
+ghost use Rattle.std.specs.Prelude.{if◌then◌else◌, sum, OnOk, OnSome, IfNone, true, false, ◌≡◌};
+ghost use Rattle.std.specs.Prelude.{◌+◌, ◌-◌, ◌<◌, ◌≤◌, ◌||◌, ◌&&◌, length, None, Some, IfOk};
+ghost use Rattle.std.specs.Prelude.{IfErr, IfSome, is_some};
 ghost use Rattle.pm_base.specs.declared.limits.TheConstants.{MOST_NODES};
 ghost use Rattle.pm_base.specs.Place.{is_place, place_of};
 ghost use Rattle.pm_forest.specs.Marks.{AreMarked};
 ghost use Rattle.pm_forest.specs.Forest.{widths_of, leaf_count, within};
-ghost use Rattle.pm_forest.specs.Rules.{counts_are_bad, width_is_bad, root_inputs, node_inputs, face_inputs, root_fault, base_is_bad, base_fault, split_is_bad, children_fault, head_fault, fields_before};
+ghost use Rattle.pm_forest.specs.Rules.{counts_are_bad, width_is_bad, root_inputs, node_inputs};
+ghost use Rattle.pm_forest.specs.Rules.{face_inputs, root_fault, base_is_bad, base_fault};
+ghost use Rattle.pm_forest.specs.Rules.{split_is_bad, children_fault, head_fault, fields_before};
 ghost use Rattle.pm_forest.specs.Shaping.{next_root, started, SplitFits};
 ghost use Rattle.pm_forest.specs.Tables.{grown};
 
@@ -50,9 +54,12 @@ pub fn next_root(
     requires marked { AreMarked flags.now (root_inputs forest.now.h.roots) }
     requires flags { length flags.now ≡ forest.now.counts.leaves }
     ensures root { IfOk result (λ root. root ≡ next_root r width input) }
-    ensures fits { IfOk result (λ root. root_fault forest.now.counts forest.now.h.roots root ≡ None) }
-    ensures fault { IfErr result (λ e. root_fault forest.now.counts forest.now.h.roots (next_root r width input) ≡ Some e) }
-    ensures room { IfOk result (λ root. sum (widths_of forest.now.h.roots) + root.width ≤ forest.now.counts.leaves) }
+    ensures fits { IfOk result (λ root. root_fault forest.now.counts forest.now.h.roots root
+        ≡ None) }
+    ensures fault { IfErr result
+        (λ e. root_fault forest.now.counts forest.now.h.roots (next_root r width input) ≡ Some e) }
+    ensures room { IfOk result
+        (λ root. sum (widths_of forest.now.h.roots) + root.width ≤ forest.now.counts.leaves) }
     ensures within { IfOk result (λ root. root.input ≤ length flags.now) }
 {
     let before = forest.roots().len() as u32;
@@ -127,8 +134,10 @@ fn is_split_bad(forest: &Growing, s: u32, width: u32) -> bool
 // The places of the two children, where they are in range.
 fn places(head: &Head) -> Option<(Point, Point)>
     ensures some { IfSome result (λ p. (p.0 ≡ place_of head.now.t) × (p.1 ≡ place_of head.now.u)) }
-    ensures good { OnSome result ((is_place (place_of head.now.t) && is_place (place_of head.now.u)) ≡ true) }
-    ensures none { IfNone result ((is_place (place_of head.now.t) && is_place (place_of head.now.u)) ≡ false) }
+    ensures good { OnSome result ((is_place (place_of head.now.t) && is_place (place_of head.now.u))
+        ≡ true) }
+    ensures none { IfNone result ((is_place (place_of head.now.t) && is_place (place_of head.now.u))
+        ≡ false) }
 {
     let t = Point::new(head.t[0], head.t[1], head.t[2])?;
     let u = Point::new(head.u[0], head.u[1], head.u[2])?;

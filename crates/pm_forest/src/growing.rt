@@ -1,8 +1,12 @@
-//! A forest that grows unit by unit, with the tables that make its readers quick: the root of each leaf, the interval and
-//! the splitter of each node, the node of each leaf, and the faces with the records that reveal them.
-ghost use Rattle.std.specs.Prelude.{false, ◌≡◌, ◌+◌, ◌-◌, ◌*◌, ◌<◌, ◌≤◌, [], ◌∷◌, ◌++◌, ◌==◌, cond, length, sum, replicate, None, Some, is_some, true, if◌then◌else◌, IfOk, IfSome, Option, slice_set};
+//! A forest that grows unit by unit, with the tables that make its readers quick: the root of each
+//! leaf, the interval and the splitter of each node, the node of each leaf, and the faces with the
+//! records that reveal them.
+ghost use Rattle.std.specs.Prelude.{false, ◌≡◌, ◌+◌, ◌-◌, ◌*◌, ◌<◌, ◌≤◌, [], ◌∷◌, ◌++◌, ◌==◌, cond};
+ghost use Rattle.std.specs.Prelude.{length, sum, replicate, None, Some, is_some, true};
+ghost use Rattle.std.specs.Prelude.{if◌then◌else◌, IfOk, IfSome, Option, slice_set};
 ghost use Rattle.std.specs.Option.{option_map};
-ghost use Rattle.pm_forest.specs.Forest.{widths_of, node_count, record_count, interval_of, splitter_of};
+ghost use Rattle.pm_forest.specs.Forest.{widths_of, node_count, record_count, interval_of};
+ghost use Rattle.pm_forest.specs.Forest.{splitter_of};
 ghost use Rattle.pm_forest.specs.Faces.{face_count};
 ghost use Rattle.pm_forest.specs.Rules.{counts_are_bad, with_record};
 ghost use Rattle.pm_forest.specs.Tables.{Grown, grown, WithoutFaces, with_new_face};
@@ -12,8 +16,8 @@ use pm_base::{Items, MOST_FACES, OptionalNumber};
 use std::alloc::Global;
 use std::marker::Model;
 
-/// A forest that grows. Contracts see its limits, its whole units and the record whose faces may still come. Each reader
-/// takes one step.
+/// A forest that grows. Contracts see its limits, its whole units and the record whose faces may
+/// still come. Each reader takes one step.
 #[derive(Drop)]
 pub struct Growing {
     pub(crate) counts: Counts,
@@ -34,7 +38,11 @@ impl Model for Growing {
 
     ghost Value = { Grown };
 
-    ghost view = { λ g. record { counts = g.counts; h = record { roots = g.roots.items; bases = g.bases.items; records = g.records.items }; coming = g.coming } };
+    ghost view = { λ g. record {
+      counts = g.counts;
+      h = record { roots = g.roots.items; bases = g.bases.items; records = g.records.items };
+      coming = g.coming;
+    } };
 
     ghost invariant = { λ g. IsGrowing (record {
       counts = g.counts;
@@ -93,7 +101,8 @@ fn note_node(
     requires leaves { until ≤ length leaf_nodes.old.items }
     requires order { from ≤ until }
     ensures intervals { intervals.new.items ≡ slice_set intervals.old.items node (from, until) }
-    ensures leaf_nodes { leaf_nodes.new.items ≡ cond (until == from + 1) (slice_set leaf_nodes.old.items from node) leaf_nodes.old.items }
+    ensures leaf_nodes { leaf_nodes.new.items
+        ≡ cond (until == from + 1) (slice_set leaf_nodes.old.items from node) leaf_nodes.old.items }
 {
     intervals[node as usize] = (from, until);
     if until - from == 1 {
@@ -118,7 +127,12 @@ impl Growing {
     /// A forest with no unit yet. All its memory is taken here.
     pub fn new(alloc: Global, counts: Counts) -> Result<Growing, OutOfMemory>
         requires { counts_are_bad counts ≡ false }
-        ensures { IfOk result (λ g. g ≡ record { counts = counts; h = record { roots = []; bases = []; records = [] }; coming = None }) }
+        ensures { IfOk result
+            (λ g. g ≡ record {
+              counts = counts;
+              h = record { roots = []; bases = []; records = [] };
+              coming = None;
+            }) }
     {
         let nodes = counts.roots as usize + 2 * counts.records as usize;
         let faces = (counts.bases as usize + 2 * counts.records as usize).min(MOST_FACES as usize);
@@ -148,7 +162,8 @@ impl Growing {
     pub fn add_root(&mut self, root: Root)
         requires next { length self.old.h.roots < self.old.counts.roots }
         requires leaves { sum (widths_of self.old.h.roots) + root.width ≤ self.old.counts.leaves }
-        ensures { self.new ≡ record self.old { h = record self.old.h { roots = self.old.h.roots ++ root ∷ [] } } }
+        ensures { self.new
+            ≡ record self.old { h = record self.old.h { roots = self.old.h.roots ++ root ∷ [] } } }
     {
         let node = self.roots.len() as u32;
         let from = self.owners.len() as u32;
@@ -167,7 +182,8 @@ impl Growing {
     pub fn add_base(&mut self, face: Face)
         requires roots { length self.old.h.roots ≡ self.old.counts.roots }
         requires next { length self.old.h.bases < self.old.counts.bases }
-        ensures { self.new ≡ record self.old { h = record self.old.h { bases = self.old.h.bases ++ face ∷ [] } } }
+        ensures { self.new
+            ≡ record self.old { h = record self.old.h { bases = self.old.h.bases ++ face ∷ [] } } }
     {
         self.faces.push_within_room(face);
         self.revealed.push_within_room(OptionalNumber::of(None));
@@ -184,7 +200,8 @@ impl Growing {
         requires node { split.s < node_count self.old.h }
         requires unsplit { splitter_of self.old.h split.s ≡ None }
         requires first { 0 < split.width }
-        requires rest { (interval_of self.old.h split.s).from + split.width < (interval_of self.old.h split.s).until }
+        requires rest { (interval_of self.old.h split.s).from + split.width
+            < (interval_of self.old.h split.s).until }
         ensures { self.new ≡ record self.old { coming = Some split } }
     {
         let number = self.records.len() as u32;
@@ -205,11 +222,13 @@ impl Growing {
 
     /// Takes the next face of the coming record in: its left face, or its right face.
     pub fn add_face(&mut self, left: bool, face: NewFace)
-        requires coming { IfSome self.old.coming (λ r. is_some (if left then r.left else r.right) ≡ false) }
+        requires coming { IfSome self.old.coming (λ r. is_some (if left then r.left else r.right)
+            ≡ false) }
         requires there { is_some self.old.coming ≡ true }
         requires in_order { IfSome self.old.coming (λ r. left ≡ true → is_some r.right ≡ false) }
         requires few { face_count (grown self.old) < MOST_FACES }
-        ensures { IfSome self.old.coming (λ r. self.new ≡ record self.old { coming = Some (with_new_face r left face) }) }
+        ensures { IfSome self.old.coming
+            (λ r. self.new ≡ record self.old { coming = Some (with_new_face r left face) }) }
     {
         let number = self.records.len() as u32;
         self.faces.push_within_room(face.face);
@@ -221,7 +240,8 @@ impl Growing {
     /// Puts the coming record to the others.
     pub fn settle(&mut self)
         requires { is_some self.old.coming ≡ true }
-        ensures { IfSome self.old.coming (λ r. self.new ≡ record self.old { h = with_record self.old.h r; coming = None }) }
+        ensures { IfSome self.old.coming
+            (λ r. self.new ≡ record self.old { h = with_record self.old.h r; coming = None }) }
     {
         if let Some(split) = self.coming.take() {
             self.records.push_within_room(split);

@@ -2,8 +2,10 @@
 ghost use Rattle.std.specs.Prelude.{◌≡◌, ◌+◌, ◌≤◌, ◌<◌, ◌↔◌, None, IfSome, length, slice_index_or};
 ghost use Rattle.pm_base.specs.declared.limits.TheConstants.{MOST_FACES, MOST_NODES, MOST_VERTICES};
 ghost use Rattle.pm_base.specs.Place.{Place};
-ghost use Rattle.pm_forest.specs.Forest.{leaf_count, node_count, record_count, record_at, t_of, u_of, interval_of, maker_of, splitter_of, no_record};
-ghost use Rattle.pm_forest.specs.Faces.{faces_of, face_count, revealed_by, corners_of, no_face_corners};
+ghost use Rattle.pm_forest.specs.Forest.{leaf_count, node_count, record_count, record_at, t_of};
+ghost use Rattle.pm_forest.specs.Forest.{u_of, interval_of, maker_of, splitter_of, no_record};
+ghost use Rattle.pm_forest.specs.Faces.{faces_of, face_count, revealed_by, corners_of};
+ghost use Rattle.pm_forest.specs.Faces.{no_face_corners};
 ghost use Rattle.pm_forest.specs.Places.{place_of_node};
 ghost use Rattle.pm_forest.specs.Rules.{HasShape, counts_of};
 ghost use Rattle.pm_forest.specs.Tables.{leaf_node_of};
@@ -28,7 +30,8 @@ impl Model for Hierarchy {
 
     ghost view = { λ h. h.forest.h };
 
-    ghost invariant = { λ h. HasShape h.forest.h × (h.forest.coming ≡ None) × (counts_of h.forest.h ≡ h.forest.counts) };
+    ghost invariant = { λ h. HasShape h.forest.h × (h.forest.coming ≡ None)
+        × (counts_of h.forest.h ≡ h.forest.counts) };
 }
 
 impl Hierarchy {
@@ -189,7 +192,8 @@ impl Hierarchy {
     pub fn splitter(&self, node: NodeId) -> Option<u32>
         requires { node.0 < node_count self.now }
         ensures value { result ≡ splitter_of self.now node.0 }
-        ensures none { (result ≡ None) ↔ ((interval_of self.now node.0).until ≡ (interval_of self.now node.0).from + 1) }
+        ensures none { (result ≡ None)
+            ↔ ((interval_of self.now node.0).until ≡ (interval_of self.now node.0).from + 1) }
         ensures below { IfSome result (λ k. k < record_count self.now) }
     {
         self.forest.splitter(node.0)

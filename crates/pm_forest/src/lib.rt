@@ -1,4 +1,5 @@
-//! The vertex forest of a progressive mesh: roots, base faces and vertex splits, and the rules of their shape.
+//! The vertex forest of a progressive mesh: roots, base faces and vertex splits, and the rules of
+//! their shape.
 #![tactic(auto)]
 
 mod face_faults;

@@ -18,7 +18,8 @@ pub fn unmarked(alloc: Global, most: u32) -> Result<Vec<bool>, OutOfMemory>
 #[tactic(auto, unfolding(crate::specs::Rules::vertex_input_is_bad))]
 pub fn is_vertex_input_bad(flags: &[bool], width: u32, input: u32) -> bool
     ensures within { result ≡ false → input ≤ length flags.now }
-    ensures exact { (used : List ℕ) → AreMarked flags.now used → result ≡ vertex_input_is_bad (length flags.now) used width input }
+    ensures exact { (used : List ℕ) → AreMarked flags.now used
+        → result ≡ vertex_input_is_bad (length flags.now) used width input }
 {
     if width == 1 {
         input == 0 || input as usize > flags.len() || flags[input as usize - 1]
@@ -31,7 +32,8 @@ pub fn is_vertex_input_bad(flags: &[bool], width: u32, input: u32) -> bool
 #[tactic(auto, unfolding(crate::specs::Rules::vertex_input_is_bad))]
 pub fn is_second_input_bad(flags: &[bool], first: u32, width: u32, input: u32) -> bool
     ensures within { result ≡ false → input ≤ length flags.now }
-    ensures exact { (used : List ℕ) → AreMarked flags.now used → result ≡ vertex_input_is_bad (length flags.now) (used ++ first ∷ []) width input }
+    ensures exact { (used : List ℕ) → AreMarked flags.now used
+        → result ≡ vertex_input_is_bad (length flags.now) (used ++ first ∷ []) width input }
 {
     is_vertex_input_bad(flags, width, input) || width == 1 && first == input
 }
@@ -40,7 +42,8 @@ pub fn is_second_input_bad(flags: &[bool], first: u32, width: u32, input: u32) -
 pub fn is_face_input_bad(flags: &[bool], input: u32) -> bool
     requires { length flags.now ≡ MOST_FACES }
     ensures within { result ≡ false → input ≤ length flags.now }
-    ensures exact { (used : List ℕ) → AreMarked flags.now used → result ≡ face_input_is_bad used input }
+    ensures exact { (used : List ℕ) → AreMarked flags.now used
+        → result ≡ face_input_is_bad used input }
 {
     input == 0 || input as usize > flags.len() || flags[input as usize - 1]
 }
@@ -49,7 +52,8 @@ pub fn is_face_input_bad(flags: &[bool], input: u32) -> bool
 pub fn mark(flags: &mut Vec<bool>, number: u32)
     requires { number ≤ length flags.old.items }
     ensures len { length flags.new.items ≡ length flags.old.items }
-    ensures marked { (used : List ℕ) → AreMarked flags.old.items used → AreMarked flags.new.items (used ++ number ∷ []) }
+    ensures marked { (used : List ℕ) → AreMarked flags.old.items used
+        → AreMarked flags.new.items (used ++ number ∷ []) }
 {
     if number > 0 {
         flags[number as usize - 1] = true;

@@ -67,7 +67,8 @@ fn face_input(h: &Hierarchy, f: u32) -> u32
 
 // The places of all leaves.
 fn leaf_points(h: &Hierarchy, alloc: Global) -> Result<Points, OutOfMemory>
-    ensures { IfOk result (λ points. points.items ≡ map (leaf_place h.now) (range_with_len 0 (leaf_count h.now))) }
+    ensures { IfOk result
+        (λ points. points.items ≡ map (leaf_place h.now) (range_with_len 0 (leaf_count h.now))) }
 {
     let mut points = Points::new(alloc);
     points.reserve(h.leaves() as usize)?;
@@ -90,8 +91,8 @@ fn leaf_faces(h: &Hierarchy, alloc: Global) -> Result<Triples, OutOfMemory>
     Ok(faces)
 }
 
-// The input vertex of each leaf. Faces ask for each leaf about six times and in no order; without this table each
-// question would read the leaf's node and then a record.
+// The input vertex of each leaf. Faces ask for each leaf about six times and in no order; without
+// this table each question would read the leaf's node and then a record.
 fn vertices_by_leaf(h: &Hierarchy, alloc: Global) -> Result<Items<u32>, OutOfMemory>
     ensures { IfOk result (λ vertices. AreInputVertices h.now vertices.items) }
 {
@@ -119,7 +120,8 @@ fn leaves_by_input(h: &Hierarchy, vertices: &[u32], alloc: Global) -> Result<Vec
     requires { AreInputVertices h.now vertices.now }
     ensures len { IfOk result (λ leaves. length leaves.items ≡ leaf_count h.now) }
     ensures each { IfOk result
-        (λ leaves. (i : ℕ) → i < leaf_count h.now → slice_index_or leaves.items i 0 ≡ leaf_of_input h.now i) }
+        (λ leaves. (i : ℕ) → i < leaf_count h.now
+        → slice_index_or leaves.items i 0 ≡ leaf_of_input h.now i) }
 {
     h.invariant();
     let mut leaves = no_nodes(alloc, h.leaves() as usize)?;
@@ -133,7 +135,8 @@ fn leaves_by_input(h: &Hierarchy, vertices: &[u32], alloc: Global) -> Result<Vec
 fn faces_by_input(h: &Hierarchy, alloc: Global) -> Result<Vec<u32>, OutOfMemory>
     ensures len { IfOk result (λ faces. length faces.items ≡ face_count h.now) }
     ensures each { IfOk result
-        (λ faces. (i : ℕ) → i < face_count h.now → slice_index_or faces.items i 0 ≡ face_of_input h.now i) }
+        (λ faces. (i : ℕ) → i < face_count h.now
+        → slice_index_or faces.items i 0 ≡ face_of_input h.now i) }
 {
     let mut faces = no_nodes(alloc, h.faces() as usize)?;
     for f in 0..h.faces() {
@@ -145,7 +148,8 @@ fn faces_by_input(h: &Hierarchy, alloc: Global) -> Result<Vec<u32>, OutOfMemory>
 // The places of the input's vertices.
 fn input_points(h: &Hierarchy, vertices: &[u32], alloc: Global) -> Result<Points, OutOfMemory>
     requires { AreInputVertices h.now vertices.now }
-    ensures { IfOk result (λ points. points.items ≡ map (input_place h.now) (range_with_len 0 (leaf_count h.now))) }
+    ensures { IfOk result
+        (λ points. points.items ≡ map (input_place h.now) (range_with_len 0 (leaf_count h.now))) }
 {
     let leaves = leaves_by_input(h, vertices, alloc)?;
     let mut points = Points::new(alloc);
@@ -175,7 +179,8 @@ fn input_corners(h: &Hierarchy, vertices: &[u32], f: u32) -> Corners
 // The corners of the input's faces.
 fn input_faces(h: &Hierarchy, vertices: &[u32], alloc: Global) -> Result<Triples, OutOfMemory>
     requires { AreInputVertices h.now vertices.now }
-    ensures { IfOk result (λ faces. faces.items ≡ map (input_face h.now) (range_with_len 0 (face_count h.now))) }
+    ensures { IfOk result
+        (λ faces. faces.items ≡ map (input_face h.now) (range_with_len 0 (face_count h.now))) }
 {
     let numbers = faces_by_input(h, alloc)?;
     let mut faces = Triples::new(alloc);
@@ -187,7 +192,8 @@ fn input_faces(h: &Hierarchy, vertices: &[u32], alloc: Global) -> Result<Triples
 }
 
 impl Hierarchy {
-    /// The leaf mesh: the places of the leaves, and the corners of all faces by number. It takes linear time.
+    /// The leaf mesh: the places of the leaves, and the corners of all faces by number. It takes
+    /// linear time.
     #[tactic(auto, using(crate::proofs::MeshLaws::leaf_mesh_formed), unfolding(crate::specs::Meshes::leaf_mesh_of))]
     pub fn leaf_mesh(&self, alloc: Global) -> Result<Mesh, OutOfMemory>
         ensures mesh { IfOk result (λ mesh. mesh_of mesh ≡ leaf_mesh_of self.now) }
@@ -199,8 +205,8 @@ impl Hierarchy {
         Ok(Mesh { points, faces })
     }
 
-    /// The input mesh: the mesh that the hierarchy was made from, with its vertices and faces in their first order. It
-    /// takes linear time.
+    /// The input mesh: the mesh that the hierarchy was made from, with its vertices and faces in
+    /// their first order. It takes linear time.
     #[tactic(auto, using(crate::proofs::MeshLaws::input_mesh_formed), unfolding(crate::specs::Meshes::input_mesh_of))]
     pub fn input_mesh(&self, alloc: Global) -> Result<Mesh, OutOfMemory>
         ensures mesh { IfOk result (λ mesh. mesh_of mesh ≡ input_mesh_of self.now) }

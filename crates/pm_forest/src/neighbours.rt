@@ -16,8 +16,9 @@ fn beside(face: &Option<NewFace>) -> (Option<Side>, Option<Side>)
 }
 
 impl Record {
-    /// The sides recorded beyond the outer sides of the record's faces: left first, left second, right first, right second.
-    /// `None` stands where none is recorded, and where the face isn't there.
+    /// The sides recorded beyond the outer sides of the record's faces: left first, left second,
+    /// right first, right second. `None` stands where none is recorded, and where the face isn't
+    /// there.
     #[tactic(auto, using(crate::proofs::NeighbourLaws::four_places, crate::proofs::NeighbourLaws::listed_in_places))]
     pub fn neighbours(&self) -> [Option<Side>; 4]
         ensures places { result ≡ neighbour_places_of self.now }

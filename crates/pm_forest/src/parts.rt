@@ -1,5 +1,5 @@
-//! What a hierarchy is made of. The names follow Hoppe 1996 and 1997: a vertex split replaces the vertex s by t and u and
-//! brings in a left and a right face.
+//! What a hierarchy is made of. The names follow Hoppe 1996 and 1997: a vertex split replaces the
+//! vertex s by t and u and brings in a left and a right face.
 use pm_base::{Items, Point, Side};
 
 /// How many units of each kind a hierarchy has.
@@ -11,8 +11,8 @@ pub struct Counts {
     pub records: u32,
 }
 
-/// A root of the forest: its place, the number of leaves below it, and, where it is a leaf itself, its number among the
-/// input's vertices, from 1 (0 where it isn't).
+/// A root of the forest: its place, the number of leaves below it, and, where it is a leaf itself,
+/// its number among the input's vertices, from 1 (0 where it isn't).
 #[derive(Clone, Copy, Debug, PartialEq, Eq)]
 pub struct Root {
     pub place: Point,
@@ -20,7 +20,8 @@ pub struct Root {
     pub input: u32,
 }
 
-/// A face: the leaves at its corners in cyclic order, and its number among the input's faces, from 1.
+/// A face: the leaves at its corners in cyclic order, and its number among the input's faces, from
+/// 1.
 #[derive(Clone, Copy, Debug, PartialEq, Eq)]
 pub struct Face {
     pub a: u32,
@@ -36,7 +37,8 @@ pub struct Child {
     pub input: u32,
 }
 
-/// A face that a vertex split brings in, with the sides recorded beyond its first and its second outer side.
+/// A face that a vertex split brings in, with the sides recorded beyond its first and its second
+/// outer side.
 #[derive(Clone, Copy, Debug, PartialEq, Eq)]
 pub struct NewFace {
     pub face: Face,
@@ -44,8 +46,8 @@ pub struct NewFace {
     pub second: Option<Side>,
 }
 
-/// A vertex split: the node `s` that it splits, the number of leaves that its first child t takes, the two children,
-/// and the faces that it brings in to the left and to the right of the new edge.
+/// A vertex split: the node `s` that it splits, the number of leaves that its first child t takes,
+/// the two children, and the faces that it brings in to the left and to the right of the new edge.
 #[derive(Clone, Copy, Debug, PartialEq, Eq)]
 pub struct Record {
     pub s: u32,
@@ -56,8 +58,8 @@ pub struct Record {
     pub right: Option<NewFace>,
 }
 
-/// The head of a vertex split as a stream has it. `presence` is 1 for a left face alone, 2 for a right face alone and 3
-/// for both.
+/// The head of a vertex split as a stream has it. `presence` is 1 for a left face alone, 2 for a
+/// right face alone and 3 for both.
 #[derive(Clone, Copy, Debug, PartialEq, Eq)]
 pub struct Head {
     pub s: u32,
@@ -86,8 +88,8 @@ pub type FaceList = Items<Face>;
 /// A list of vertex splits.
 pub type Records = Items<Record>;
 
-/// Why a hierarchy is refused. Roots, base faces and records are named by their numbers from 0, and a wrong input number
-/// by the number of its field among all input fields of the stream, from 0.
+/// Why a hierarchy is refused. Roots, base faces and records are named by their numbers from 0, and
+/// a wrong input number by the number of its field among all input fields of the stream, from 0.
 #[derive(Clone, Copy, Debug, PartialEq, Eq)]
 pub enum Shape {
     BadCount,

@@ -1,7 +1,9 @@
 //! What is read of a forest that grows.
-ghost use Rattle.std.specs.Prelude.{◌≡◌, ◌+◌, ◌-◌, ◌*◌, ◌<◌, ◌≤◌, length, is_some, if◌then◌else◌, Option, slice_index_or};
+ghost use Rattle.std.specs.Prelude.{◌≡◌, ◌+◌, ◌-◌, ◌*◌, ◌<◌, ◌≤◌, length, is_some, if◌then◌else◌};
+ghost use Rattle.std.specs.Prelude.{Option, slice_index_or};
 ghost use Rattle.pm_base.specs.declared.limits.TheConstants.{MOST_FACES, MOST_NODES, MOST_VERTICES};
-ghost use Rattle.pm_forest.specs.Forest.{widths, leaf_count, node_count, root_of, interval_of, splitter_of};
+ghost use Rattle.pm_forest.specs.Forest.{widths, leaf_count, node_count, root_of, interval_of};
+ghost use Rattle.pm_forest.specs.Forest.{splitter_of};
 ghost use Rattle.pm_forest.specs.Faces.{faces_of, face_count, revealed_by, no_face_corners};
 ghost use Rattle.pm_forest.specs.Tables.{grown, IsSingle, leaf_node_of};
 
@@ -103,7 +105,8 @@ impl Growing {
     /// The node of a leaf, once it has one of its own.
     pub fn leaf_node(&self, leaf: u32) -> u32
         requires leaf { leaf < leaf_count self.now.h }
-        requires single { IsSingle (interval_of (grown self.now) (leaf_node_of (grown self.now) leaf)) }
+        requires single { IsSingle
+            (interval_of (grown self.now) (leaf_node_of (grown self.now) leaf)) }
         ensures { result ≡ leaf_node_of (grown self.now) leaf }
     {
         self.leaf_nodes[leaf as usize]

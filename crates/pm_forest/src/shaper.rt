@@ -1,9 +1,12 @@
 //! Takes a hierarchy in unit by unit, and refuses the first unit that breaks a rule of shape.
-ghost use Rattle.std.specs.Prelude.{true, false, ◌≡◌, ◌+◌, ◌≤◌, ◌⊎◌, length, [], ◌∷◌, ◌++◌, None, Some, is_some, OnOk, OnErr, IfOk, IfErr, IfSome};
+ghost use Rattle.std.specs.Prelude.{true, false, ◌≡◌, ◌+◌, ◌≤◌, ◌⊎◌, length, [], ◌∷◌, ◌++◌, None};
+ghost use Rattle.std.specs.Prelude.{Some, is_some, OnOk, OnErr, IfOk, IfErr, IfSome};
 ghost use Rattle.pm_forest.specs.declared.parts.Counts.{Counts};
 ghost use Rattle.pm_forest.specs.declared.parts.UnitKind.TheVariants as kinds;
-ghost use Rattle.pm_forest.specs.Rules.{counts_are_bad, root_fault, base_fault, head_fault, new_face_fault, past_fault};
-ghost use Rattle.pm_forest.specs.Shaping.{expects, nothing_in, next_root, next_face, started, settled, with_face, so_far};
+ghost use Rattle.pm_forest.specs.Rules.{counts_are_bad, root_fault, base_fault, head_fault};
+ghost use Rattle.pm_forest.specs.Rules.{new_face_fault, past_fault};
+ghost use Rattle.pm_forest.specs.Shaping.{expects, nothing_in, next_root, next_face, started};
+ghost use Rattle.pm_forest.specs.Shaping.{settled, with_face, so_far};
 
 use crate::face_faults::{neighbour, new_face_fault, past_fault};
 use crate::faults::{are_counts_bad, base_fault, next_record, next_root};
@@ -15,8 +18,8 @@ use pm_base::MOST_FACES;
 use std::alloc::Global;
 use std::marker::Model;
 
-/// A hierarchy that is being taken in. Contracts see its counts, the whole units that were taken in, and the record
-/// whose faces are coming.
+/// A hierarchy that is being taken in. Contracts see its counts, the whole units that were taken
+/// in, and the record whose faces are coming.
 #[derive(Drop)]
 pub struct Shaper {
     forest: Growing,
@@ -32,9 +35,14 @@ impl Model for Shaper {
 
     ghost Value = { Shaping };
 
-    ghost view = { λ s. record { counts = s.forest.counts; h = s.forest.h; coming = option_map (unfinished s.left_due s.right_due) s.forest.coming } };
+    ghost view = { λ s. record {
+      counts = s.forest.counts;
+      h = s.forest.h;
+      coming = option_map (unfinished s.left_due s.right_due) s.forest.coming;
+    } };
 
-    ghost invariant = { λ s. IsShaping s.forest s.left_due s.right_due s.vertices_seen.items s.faces_seen.items };
+    ghost invariant = { λ s. IsShaping s.forest s.left_due s.right_due s.vertices_seen.items
+        s.faces_seen.items };
 }
 
 // All the tables of a shaper, with nothing taken in.
@@ -55,8 +63,8 @@ fn new_shaper(alloc: Global, counts: Counts) -> Result<Shaper, OutOfMemory>
 }
 
 impl Shaper {
-    /// A shaper for a hierarchy with these counts. It takes all memory that they can ask for, and no other call takes
-    /// any. BadCount comes exactly where the counts break their rule.
+    /// A shaper for a hierarchy with these counts. It takes all memory that they can ask for, and
+    /// no other call takes any. BadCount comes exactly where the counts break their rule.
     pub fn new(
         alloc: Global,
         leaves: u32,
@@ -64,10 +72,21 @@ impl Shaper {
         bases: u32,
         records: u32,
     ) -> Result<Shaper, Shape>
-        ensures ok { let c : Counts = record { leaves = leaves; roots = roots; bases = bases; records = records } in
+        ensures ok { let c : Counts = record {
+          leaves = leaves;
+          roots = roots;
+          bases = bases;
+          records = records;
+        } in
             IfOk result (λ s. (counts_are_bad c ≡ false) × (s ≡ nothing_in c)) }
-        ensures err { let c : Counts = record { leaves = leaves; roots = roots; bases = bases; records = records } in
-            IfErr result (λ e. ((e ≡ Shape.OutOfMemory) × (counts_are_bad c ≡ false)) ⊎ ((e ≡ Shape.BadCount) × (counts_are_bad c ≡ true))) }
+        ensures err { let c : Counts = record {
+          leaves = leaves;
+          roots = roots;
+          bases = bases;
+          records = records;
+        } in
+            IfErr result (λ e. ((e ≡ Shape.OutOfMemory) × (counts_are_bad c ≡ false))
+            ⊎ ((e ≡ Shape.BadCount) × (counts_are_bad c ≡ true))) }
     {
         let counts = Counts {
             leaves,
@@ -104,12 +123,18 @@ impl Shaper {
         }
     }
 
-    /// Takes the next root in. It is refused exactly where it has a fault, and the shaper is then as before.
+    /// Takes the next root in. It is refused exactly where it has a fault, and the shaper is then
+    /// as before.
     pub fn add_root(&mut self, r: [i32; 3], width: u32, input: u32) -> Result<(), Shape>
         requires { expects self.old ≡ kinds.Root }
-        ensures ok { OnOk result (root_fault self.old.counts self.old.h.roots (next_root r width input) ≡ None) }
-        ensures fault { IfErr result (λ e. root_fault self.old.counts self.old.h.roots (next_root r width input) ≡ Some e) }
-        ensures taken { OnOk result (self.new ≡ record self.old { h = record self.old.h { roots = self.old.h.roots ++ next_root r width input ∷ [] } }) }
+        ensures ok { OnOk result
+            (root_fault self.old.counts self.old.h.roots (next_root r width input) ≡ None) }
+        ensures fault { IfErr result
+            (λ e. root_fault self.old.counts self.old.h.roots (next_root r width input) ≡ Some e) }
+        ensures taken { OnOk result
+            (self.new ≡ record self.old {
+              h = record self.old.h { roots = self.old.h.roots ++ next_root r width input ∷ [] };
+            }) }
         ensures refused { OnErr result (self.new ≡ self.old) }
     {
         match next_root(&self.forest, &self.vertices_seen, r, width, input) {
@@ -122,12 +147,16 @@ impl Shaper {
         }
     }
 
-    /// Takes the next base face in. It is refused exactly where it has a fault, and the shaper is then as before.
+    /// Takes the next base face in. It is refused exactly where it has a fault, and the shaper is
+    /// then as before.
     pub fn add_base(&mut self, f: Face) -> Result<(), Shape>
         requires { expects self.old ≡ kinds.Base }
         ensures ok { OnOk result (base_fault self.old.h.roots self.old.h.bases f ≡ None) }
-        ensures fault { IfErr result (λ e. base_fault self.old.h.roots self.old.h.bases f ≡ Some e) }
-        ensures taken { OnOk result (self.new ≡ record self.old { h = record self.old.h { bases = self.old.h.bases ++ f ∷ [] } }) }
+        ensures fault { IfErr result (λ e. base_fault self.old.h.roots self.old.h.bases f
+            ≡ Some e) }
+        ensures taken { OnOk result
+            (self.new ≡ record self.old
+            { h = record self.old.h { bases = self.old.h.bases ++ f ∷ [] } }) }
         ensures refused { OnErr result (self.new ≡ self.old) }
     {
         if let Some(fault) = base_fault(&self.forest, &self.faces_seen, &f) {
@@ -138,8 +167,8 @@ impl Shaper {
         Ok(())
     }
 
-    /// Takes the head of the next record in; its faces come next. It is refused exactly where it has a fault, and the
-    /// shaper is then as before.
+    /// Takes the head of the next record in; its faces come next. It is refused exactly where it
+    /// has a fault, and the shaper is then as before.
     pub fn add_head(&mut self, head: Head) -> Result<(), Shape>
         requires { expects self.old ≡ kinds.Head }
         ensures ok { OnOk result (head_fault self.old.h head ≡ None) }
@@ -160,13 +189,21 @@ impl Shaper {
         }
     }
 
-    /// Takes the next face of the coming record in, with the words that name its neighbours. It is refused exactly where
-    /// it has a fault, and the shaper is then as before.
+    /// Takes the next face of the coming record in, with the words that name its neighbours. It is
+    /// refused exactly where it has a fault, and the shaper is then as before.
     pub fn add_face(&mut self, f: Face, first: u32, second: u32) -> Result<(), Shape>
         requires { (expects self.old ≡ kinds.LeftFace) ⊎ (expects self.old ≡ kinds.RightFace) }
-        ensures ok { IfSome self.old.coming (λ p. OnOk result (new_face_fault (so_far self.old.h self.old.coming) p.left_due f first second ≡ None)) }
-        ensures fault { IfSome self.old.coming (λ p. IfErr result (λ e. new_face_fault (so_far self.old.h self.old.coming) p.left_due f first second ≡ Some e)) }
-        ensures taken { IfSome self.old.coming (λ p. OnOk result (self.new ≡ settled self.old.counts self.old.h (with_face p (next_face f first second)))) }
+        ensures ok { IfSome self.old.coming
+            (λ p. OnOk result
+            (new_face_fault (so_far self.old.h self.old.coming) p.left_due f first second ≡ None)) }
+        ensures fault { IfSome self.old.coming
+            (λ p. IfErr result
+            (λ e. new_face_fault (so_far self.old.h self.old.coming) p.left_due f first second
+            ≡ Some e)) }
+        ensures taken { IfSome self.old.coming
+            (λ p. OnOk result
+            (self.new ≡ settled self.old.counts self.old.h
+            (with_face p (next_face f first second)))) }
         ensures refused { OnErr result (self.new ≡ self.old) }
     {
         let left = self.left_due;
@@ -196,8 +233,8 @@ impl Shaper {
         Ok(())
     }
 
-    /// The hierarchy of all units. BadInput comes exactly where the input number of a face passes the number of faces,
-    /// and names the first such field; there is no other refusal.
+    /// The hierarchy of all units. BadInput comes exactly where the input number of a face passes
+    /// the number of faces, and names the first such field; there is no other refusal.
     pub fn done(self) -> Result<Hierarchy, Shape>
         requires { expects self ≡ kinds.Nothing }
         ensures ok { OnOk result (past_fault self.h ≡ None) }

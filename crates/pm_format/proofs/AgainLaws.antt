@@ -1,5 +1,7 @@
 -- What has no fault is read again from its words.
-use Rattle.std.proofs.Common.{◌≡◌, ℕ, ◌+◌, ◌-◌, ◌*◌, eqb, ℤ, Bool, true, false, ◌&&◌, ◌||◌, not, is_some, List, [], ◌∷◌, ◌++◌, Option, Some, None, Result, Ok, length, refl, sym, ◌∙◌, ap, arith, append_assoc}
+use Rattle.std.proofs.Common.{◌≡◌, ℕ, ◌+◌, ◌-◌, ◌*◌, eqb, ℤ, Bool, true, false, ◌&&◌, ◌||◌, not}
+use Rattle.std.proofs.Common.{is_some, List, [], ◌∷◌, ◌++◌, Option, Some, None, Result, Ok, length}
+use Rattle.std.proofs.Common.{refl, sym, ◌∙◌, ap, arith, append_assoc}
 use Rattle.std.specs.List.{flat_map}
 use Rattle.std.specs.Int.{w32, cast_signed, cast_unsigned}
 use Rattle.std.proofs.lemmas.Int.{to_z-of_z, fits_signed_from_abs}
@@ -16,19 +18,24 @@ use Rattle.pm_forest.specs.declared.parts.Record.{Record}
 use Rattle.pm_forest.specs.declared.parts.Shape.{Shape}
 use Rattle.pm_forest.specs.declared.parts.Unfinished.{Unfinished}
 use Rattle.pm_forest.specs.Forest.{Hierarchy}
-use Rattle.pm_forest.specs.Rules.{AllFit, root_fault, base_fault, split_is_bad, presence_is_bad, head_is_bad, head_fault, bare, with_record, head_of, face_fault, record_fault, record_fault_after}
+use Rattle.pm_forest.specs.Rules.{AllFit, root_fault, base_fault, split_is_bad, presence_is_bad}
+use Rattle.pm_forest.specs.Rules.{head_is_bad, head_fault, bare, with_record, head_of, face_fault}
+use Rattle.pm_forest.specs.Rules.{record_fault, record_fault_after}
 use Rattle.pm_forest.specs.Shaping.{started, with_face, unfinished}
 use Rattle.pm_forest.proofs.UnitLaws.{passed, first_none}
 use Rattle.pm_forest.proofs.FacesTaken.{side_of-word}
 use Rattle.pm_format.specs.declared.stop.Stop.{Stop}
 use Rattle.pm_format.specs.Stream.{root_words, base_words, new_face_words, head_words, record_words}
-use Rattle.pm_format.specs.Reading.{then_read, read_map, root_at, base_at, head_at, fitting, units_at, root_after, base_after, face_after, face_if, faces_after, record_after, record_after_all}
+use Rattle.pm_format.specs.Reading.{then_read, read_map, root_at, base_at, head_at, fitting}
+use Rattle.pm_format.specs.Reading.{units_at, root_after, base_after, face_after, face_if}
+use Rattle.pm_format.specs.Reading.{faces_after, record_after, record_after_all}
 use Rattle.pm_format.proofs.ReadingLaws.{Reader}
 
 -- Places
 
 coordinate_again : (z : ℤ) → is_coordinate z ≡ true → cast_signed w32 (cast_unsigned w32 z) ≡ z
-coordinate_again z is = to_z-of_z w32 z (fits_signed_from_abs w32 z (omega (arith, leb-true _ _ is)))
+coordinate_again z is =
+    to_z-of_z w32 z (fits_signed_from_abs w32 z (omega (arith, leb-true _ _ is)))
 
 record PlaceAgain (p : Place) : Type 0 where
   x : cast_signed w32 (cast_unsigned w32 p.x) ≡ p.x
@@ -39,18 +46,32 @@ place_again : (p : Place) → is_place p ≡ true → PlaceAgain p
 place_again p is =
     let two = and_parts (is_coordinate p.x && is_coordinate p.y) (is_coordinate p.z) is in
     let one = and_parts (is_coordinate p.x) (is_coordinate p.y) two.0 in
-    record { x = coordinate_again p.x one.0; y = coordinate_again p.y one.1; z = coordinate_again p.z two.1 }
+    record {
+      x = coordinate_again p.x one.0;
+      y = coordinate_again p.y one.1;
+      z =
+          coordinate_again p.z two.1;
+    }
 
 -- One unit
 
-fitting_none : {X : Type 0} (fault : X → Option Shape) (o : Option (X × List ℕ)) (u : X × List ℕ) → o ≡ Some u →
+fitting_none : {X : Type 0} (fault : X → Option Shape) (o : Option (X × List ℕ)) (u : X × List ℕ)
+    → o ≡ Some u →
     fault u.0 ≡ None → fitting fault o ≡ Ok u
 fitting_none fault o u is fits = rw (is, fits) refl
 
-root_again : (r : Root) (rest : List ℕ) → is_place r.place ≡ true → root_at (root_words r ++ rest) ≡ Some (r, rest)
+root_again : (r : Root) (rest : List ℕ) → is_place r.place ≡ true
+    → root_at (root_words r ++ rest) ≡ Some (r, rest)
 root_again r rest is =
     let p = place_again r.place is in
-    λ j. Some (record { place = record { x = p.x j; y = p.y j; z = p.z j }; width = r.width; input = r.input }, rest)
+    λ j. Some (
+      record {
+        place = record { x = p.x j; y = p.y j; z = p.z j };
+        width = r.width;
+        input = r.input;
+      },
+      rest,
+    )
 
 pub root_place : (c : Counts) (before : List Root) (r : Root) → root_fault c before r ≡ None →
     is_place r.place ≡ true
@@ -88,7 +109,8 @@ head_fits h r fits =
     let tested = (passed (head_is_bad h d) _ _ fits).0 in
     let two = or_parts (split_is_bad h d.s d.width || presence_is_bad d.presence) _ tested in
     let one = or_parts (split_is_bad h d.s d.width) (presence_is_bad d.presence) two.0 in
-    let places = and_parts (is_place (place_of d.t)) (is_place (place_of d.u)) (not-false _ two.1) in
+    let places =
+    and_parts (is_place (place_of d.t)) (is_place (place_of d.u)) (not-false _ two.1) in
     record { t = places.0; u = places.1; some = one.1 }
 
 face_again : (h : Hierarchy) (p : Unfinished) (n : NewFace) (rest : List ℕ) →
@@ -98,12 +120,16 @@ unfolding face_after
 face_again h p n rest fits =
     let first = side_of-word n.first in
     let second = side_of-word n.second in
-    rw fits (λ j. Ok (with_face p (record { face = n.face; first = first j; second = second j }), rest))
+    rw fits (λ j. Ok (
+      with_face p (record { face = n.face; first = first j; second = second j }),
+      rest,
+    ))
 
 -- The faces of a record
 
 dues : (left right : Bool) → presence_is_bad (one_if left + 2 * one_if right) ≡ false →
-    (not (eqb (one_if left + 2 * one_if right) 2) ≡ left) × (not (eqb (one_if left + 2 * one_if right) 1) ≡ right)
+    (not (eqb (one_if left + 2 * one_if right) 2) ≡ left)
+    × (not (eqb (one_if left + 2 * one_if right) 1) ≡ right)
 dues true true is = (refl, refl)
 dues true false is = (refl, refl)
 dues false true is = (refl, refl)
@@ -123,7 +149,8 @@ then_right h q = face_if q.0.right_due h q.0 q.1
 faces_again : (h : Hierarchy) (r : Record) (left right : Option NewFace) (rest : List ℕ) →
     face_fault (with_record h (bare r)) true left ≡ None →
     face_fault (with_record h (record (bare r) { left = left })) false right ≡ None →
-    faces_after h (unfinished (is_some left) (is_some right) (bare r)) ((new_face_words left ++ new_face_words right) ++ rest)
+    faces_after h (unfinished (is_some left) (is_some right) (bare r))
+    ((new_face_words left ++ new_face_words right) ++ rest)
     ≡ Ok (unfinished false false (record r { left = left; right = right }), rest)
 unfolding faces_after
 faces_again h r None None rest left_fits right_fits = refl
@@ -132,7 +159,8 @@ faces_again h r (Some n) None rest left_fits right_fits =
 faces_again h r None (Some n) rest left_fits right_fits =
     face_again h (unfinished false true (bare r)) n rest right_fits
 faces_again h r (Some m) (Some n) rest left_fits right_fits =
-    let left = face_again h (unfinished true true (bare r)) m (new_face_words (Some n) ++ rest) left_fits in
+    let left = face_again h (unfinished true true (bare r)) m (new_face_words (Some n) ++ rest)
+    left_fits in
     ap (then_read (then_right h)) left
     ∙ face_again h (unfinished false true (record (bare r) { left = Some m })) n rest right_fits
 
@@ -152,28 +180,35 @@ record_again h r rest fits =
     let ws = (new_face_words r.left ++ new_face_words r.right) ++ rest in
     let is = head_fits h r parts.0 in
     let read = head_again r ws is.t is.u in
-    let head = fitting_none (head_fault h) (head_at (head_words r ++ ws)) (head_of r, ws) read parts.0 in
+    let head = fitting_none (head_fault h) (head_at (head_words r ++ ws)) (head_of r, ws) read
+    parts.0 in
     let others : faces_after h (started (head_of r)) ws ≡ Ok (unfinished false false r, rest) =
-    ap (λ p. faces_after h p ws) (start_again h r parts.0) ∙ faces_again h r r.left r.right rest faces.0 faces.1 in
+    ap (λ p. faces_after h p ws) (start_again h r parts.0)
+    ∙ faces_again h r r.left r.right rest faces.0 faces.1 in
     ap (then_read (then_faces h)) head ∙ ap whole_record others
 
 -- Units after one another
 
 -- Each unit that has no fault is read again.
-abbrev pub ReadsAgain : {X : Type 0} → Reader X → (List X → X → Option Shape) → (X → List ℕ) → Type 0
+abbrev pub ReadsAgain : {X : Type 0} → Reader X → (List X → X → Option Shape) → (X → List ℕ)
+    → Type 0
 ReadsAgain {X} read fault words =
-    (before : List X) (x : X) (rest : List ℕ) → fault before x ≡ None → read before (words x ++ rest) ≡ Ok (x, rest)
+    (before : List X) (x : X) (rest : List ℕ) → fault before x ≡ None
+    → read before (words x ++ rest) ≡ Ok (x, rest)
 
 module _ {X : Type 0} (fault : List X → X → Option Shape) (words : X → List ℕ) where
-  pub units_again : (read : Reader X) → ReadsAgain read fault words → (before more : List X) (rest : List ℕ) →
+  pub units_again : (read : Reader X) → ReadsAgain read fault words
+      → (before more : List X) (rest : List ℕ) →
       AllFit fault before more →
       units_at read (length more) before (flat_map words more ++ rest) ≡ Ok (before ++ more, rest)
   unfolding units_at
-  units_again read again before [] rest all = ap (λ (l : List X). Ok (l, rest)) (sym (append-nil before))
+  units_again read again before [] rest all =
+      ap (λ (l : List X). Ok (l, rest)) (sym (append-nil before))
   units_again read again before (x ∷ xs) rest all =
       let mid = flat_map words xs ++ rest in
       let one : read before (flat_map words (x ∷ xs) ++ rest) ≡ Ok (x, mid) =
-      ap (read before) (append_assoc (words x) (flat_map words xs) rest) ∙ again before x mid all.0 in
+      ap (read before) (append_assoc (words x) (flat_map words xs) rest)
+      ∙ again before x mid all.0 in
       ap (then_read (λ (u : X × List ℕ). units_at read (length xs) (before ++ u.0 ∷ []) u.1)) one
       ∙ units_again read again (before ++ x ∷ []) xs rest all.1
       ∙ ap (λ (l : List X). Ok (l, rest)) (append_assoc before (x ∷ []) xs)

@@ -1,5 +1,8 @@
 -- How many bytes the header of a text has, and how they are gathered.
-use Rattle.std.proofs.Common.{◌≡◌, ◌⊎◌, ℕ, ◌+◌, ◌-◌, ◌*◌, ◌<◌, ◌≤◌, min, Bool, true, false, cond, eqb, ltb, ◌||◌, List, [], ◌∷◌, ◌++◌, Result, Ok, Err, length, take, drop, inl, inr, refl, sym, ◌∙◌, ap, subst, arith, length-append, append_assoc}
+use Rattle.std.proofs.Common.{◌≡◌, ◌⊎◌, ℕ, ◌+◌, ◌-◌, ◌*◌, ◌<◌, ◌≤◌, min, Bool, true, false, cond}
+use Rattle.std.proofs.Common.{eqb, ltb, ◌||◌, List, [], ◌∷◌, ◌++◌, Result, Ok, Err, length, take}
+use Rattle.std.proofs.Common.{drop, inl, inr, refl, sym, ◌∙◌, ap, subst, arith, length-append}
+use Rattle.std.proofs.Common.{append_assoc}
 use Rattle.std.proofs.Math.Seq.{take-add}
 use Rattle.std.proofs.lemmas.Bool.{cases_lt, eqb-true}
 use Rattle.std.proofs.lemmas.List.{length-take-le, length-drop, take-append-drop}
@@ -18,7 +21,8 @@ pub size_is : (bytes : List ℕ) → header_bytes bytes ≡ cond (tells_digits (
 unfolding header_bytes
 size_is bytes = refl
 
-size_within : (bytes : List ℕ) (told : Bool) → header_bytes bytes ≡ cond told 28 24 → (24 ≤ header_bytes bytes) × (header_bytes bytes ≤ 28)
+size_within : (bytes : List ℕ) (told : Bool) → header_bytes bytes ≡ cond told 28 24
+    → (24 ≤ header_bytes bytes) × (header_bytes bytes ≤ 28)
 size_within bytes true is = (omega (arith, is), omega (arith, is))
 size_within bytes false is = (omega (arith, is), omega (arith, is))
 
@@ -43,49 +47,74 @@ told_size : (ws : List ℕ) (d : ℕ × List ℕ) → told_digits ws ≡ Ok d �
 told_size [] d is = absurd cc
 told_size (n ∷ ws) d is = omega (arith, go (eqb n 0 || ltb 4 n) is)
   where
-    go : (bad : Bool) → cond {A = Result (ℕ × List ℕ) Stop} bad (Err (stops.Digits n)) (Ok (n, ws)) ≡ Ok d → length ws ≡ length d.1
+    go : (bad : Bool) → cond {A = Result (ℕ × List ℕ) Stop} bad (Err (stops.Digits n)) (Ok (n, ws))
+        ≡ Ok d → length ws ≡ length d.1
     go true e = absurd cc
     go false e = ap (λ (w : ℕ × List ℕ). length w.1) (same_Ok (n, ws) d e)
 
-digits_size : (ws : List ℕ) (d : ℕ × List ℕ) → digits_at ws ≡ Ok d → cond (tells_digits ws) 28 24 + 4 * length d.1 ≡ 16 + 4 * length ws
+digits_size : (ws : List ℕ) (d : ℕ × List ℕ) → digits_at ws ≡ Ok d
+    → cond (tells_digits ws) 28 24 + 4 * length d.1 ≡ 16 + 4 * length ws
 unfolding digits_at
 digits_size [] d is = absurd cc
 digits_size (m ∷ []) d is = absurd cc
-digits_size (m ∷ v ∷ ws) d is = let n : length (m ∷ v ∷ ws) ≡ 2 + length ws = omega arith in rw n (go (eqb v 1) (eqb v 2) refl refl is)
+digits_size (m ∷ v ∷ ws) d is = let n : length (m ∷ v ∷ ws) ≡ 2 + length ws =
+    omega arith in rw n (go (eqb v 1) (eqb v 2) refl refl is)
   where
     go : (first second : Bool) → eqb v 1 ≡ first → eqb v 2 ≡ second
-        → cond {A = Result (ℕ × List ℕ) Stop} first (Ok (0, ws)) (cond second (told_digits ws) (Err (stops.Version v))) ≡ Ok d
+        → cond {A = Result (ℕ × List ℕ) Stop} first (Ok (0, ws))
+        (cond second (told_digits ws) (Err (stops.Version v))) ≡ Ok d
         → cond second 28 24 + 4 * length d.1 ≡ 16 + 4 * (2 + length ws)
-    go true false one two e = omega (arith, ap (λ (w : ℕ × List ℕ). length w.1) (same_Ok (0, ws) d e))
+    go true false one two e =
+        omega (arith, ap (λ (w : ℕ × List ℕ). length w.1) (same_Ok (0, ws) d e))
     go true true one two e = absurd (cc (ap (λ (n : ℕ). eqb n 2) (eqb-true v 1 one), two))
     go false true one two e = omega (arith, told_size ws d e)
     go false false one two e = absurd cc
 
-counts_size : (ws : List ℕ) (u : Counts × List ℕ) → whole (counts_at ws) ≡ Ok u → length ws ≡ 4 + length u.1
-counts_size (l ∷ r ∷ b ∷ n ∷ ws) u is = omega (arith, ap (λ (w : Counts × List ℕ). length w.1) (same_Ok (record { leaves = l; roots = r; bases = b; records = n }, ws) u is))
+counts_size : (ws : List ℕ) (u : Counts × List ℕ) → whole (counts_at ws) ≡ Ok u
+    → length ws ≡ 4 + length u.1
+counts_size (l ∷ r ∷ b ∷ n ∷ ws) u is =
+    omega (
+      arith,
+      ap (λ (w : Counts × List ℕ). length w.1)
+          (same_Ok (record { leaves = l; roots = r; bases = b; records = n }, ws) u is),
+    )
 counts_size [] u is = absurd cc
 counts_size (l ∷ []) u is = absurd cc
 counts_size (l ∷ r ∷ []) u is = absurd cc
 counts_size (l ∷ r ∷ b ∷ []) u is = absurd cc
 
-pub header_size : (ws : List ℕ) (u : Counts × List ℕ) → header_at ws ≡ Ok u → cond (tells_digits ws) 28 24 + 4 * length u.1 ≡ 4 * length ws
+pub header_size : (ws : List ℕ) (u : Counts × List ℕ) → header_at ws ≡ Ok u
+    → cond (tells_digits ws) 28 24 + 4 * length u.1 ≡ 4 * length ws
 unfolding header_at
 header_size ws u is =
     then_read_ok (λ (d : ℕ × List ℕ). whole (counts_at d.1)) (digits_at ws) u is (λ d was next.
     omega (arith, digits_size ws d was, counts_size d.1 u next))
 
 -- Where its counts are there, it has all its bytes.
-pub header_long : (bytes ws rest : List ℕ) (c : Counts) → ws ≡ words_of bytes → header_at ws ≡ Ok (c, rest) → header_bytes bytes ≤ length bytes
+pub header_long : (bytes ws rest : List ℕ) (c : Counts) → ws ≡ words_of bytes
+    → header_at ws ≡ Ok (c, rest) → header_bytes bytes ≤ length bytes
 header_long bytes ws rest c same is =
-    omega (arith, header_size (words_of bytes) (c, rest) (ap header_at (sym same) ∙ is), size_is bytes, length-words_of bytes)
+    omega (
+      arith,
+      header_size (words_of bytes) (c, rest) (ap header_at (sym same) ∙ is),
+      size_is bytes,
+      length-words_of bytes,
+    )
 
 -- The bytes held and those of the piece reach its end.
-pub header_reached : (held piece kept : List ℕ) (n : ℕ) → kept ≡ held ++ take n piece → header_bytes kept ≤ length kept → MayWant stages.Header held piece
+pub header_reached : (held piece kept : List ℕ) (n : ℕ) → kept ≡ held ++ take n piece
+    → header_bytes kept ≤ length kept → MayWant stages.Header held piece
 header_reached held piece kept n is long =
     let all : held ++ piece ≡ kept ++ drop n piece =
-    ap (λ (l : List ℕ). held ++ l) (sym (take-append-drop n piece)) ∙ sym (append_assoc held (take n piece) (drop n piece)) ∙ ap (λ (l : List ℕ). l ++ drop n piece) (sym is) in
+    ap (λ (l : List ℕ). held ++ l) (sym (take-append-drop n piece))
+    ∙ sym (append_assoc held (take n piece) (drop n piece))
+    ∙ ap (λ (l : List ℕ). l ++ drop n piece) (sym is) in
     let size = size_on kept (drop n piece) (omega (arith, long, (within kept).0)) in
-    inr (refl, subst (λ (l : List ℕ). header_bytes l ≤ length l) (sym all) (omega (arith, size, long, length-append kept (drop n piece))))
+    inr (
+      refl,
+      subst (λ (l : List ℕ). header_bytes l ≤ length l) (sym all)
+          (omega (arith, size, long, length-append kept (drop n piece))),
+    )
 
 -- Words that end in it are fewer.
 counts_end : (ws : List ℕ) → whole (counts_at ws) ≡ Err stops.End → length ws < 4
@@ -95,18 +124,25 @@ counts_end (l ∷ []) is = omega arith
 counts_end (l ∷ r ∷ []) is = omega arith
 counts_end (l ∷ r ∷ b ∷ []) is = omega arith
 
-header_ends : (ws : List ℕ) → header_at ws ≡ Err stops.End → 4 * length ws < cond (tells_digits ws) 28 24
+header_ends : (ws : List ℕ) → header_at ws ≡ Err stops.End
+    → 4 * length ws < cond (tells_digits ws) 28 24
 unfolding digits_at header_at
 header_ends [] is = omega arith
 header_ends (m ∷ []) is = omega arith
-header_ends (m ∷ v ∷ ws) is = let n : length (m ∷ v ∷ ws) ≡ 2 + length ws = omega arith in rw n (go (eqb v 1) (eqb v 2) refl refl ws is)
+header_ends (m ∷ v ∷ ws) is = let n : length (m ∷ v ∷ ws) ≡ 2 + length ws =
+    omega arith in rw n (go (eqb v 1) (eqb v 2) refl refl ws is)
   where
-    told : (bad : Bool) (n : ℕ) (ws : List ℕ) → then_read (λ (d : ℕ × List ℕ). whole (counts_at d.1)) (cond {A = Result (ℕ × List ℕ) Stop} bad (Err (stops.Digits n)) (Ok (n, ws))) ≡ Err stops.End → length ws < 4
+    told : (bad : Bool) (n : ℕ) (ws : List ℕ)
+        → then_read (λ (d : ℕ × List ℕ). whole (counts_at d.1))
+        (cond {A = Result (ℕ × List ℕ) Stop} bad (Err (stops.Digits n)) (Ok (n, ws)))
+        ≡ Err stops.End → length ws < 4
     told true n ws e = absurd cc
     told false n ws e = counts_end ws e
 
     go : (first second : Bool) → eqb v 1 ≡ first → eqb v 2 ≡ second → (ws : List ℕ)
-        → then_read (λ (d : ℕ × List ℕ). whole (counts_at d.1)) (cond {A = Result (ℕ × List ℕ) Stop} first (Ok (0, ws)) (cond second (told_digits ws) (Err (stops.Version v)))) ≡ Err stops.End
+        → then_read (λ (d : ℕ × List ℕ). whole (counts_at d.1))
+        (cond {A = Result (ℕ × List ℕ) Stop} first (Ok (0, ws))
+        (cond second (told_digits ws) (Err (stops.Version v)))) ≡ Err stops.End
         → 4 * (2 + length ws) < cond second 28 24
     go true false one two ws e = omega (arith, counts_end ws e)
     go true true one two ws e = absurd (cc (ap (λ (n : ℕ). eqb n 2) (eqb-true v 1 one), two))
@@ -114,12 +150,14 @@ header_ends (m ∷ v ∷ ws) is = let n : length (m ∷ v ∷ ws) ≡ 2 + length
     go false true one two (n ∷ ws) e = omega (arith, told (eqb n 0 || ltb 4 n) n ws e)
     go false false one two ws e = absurd cc
 
-four_words : (bytes : List ℕ) (told : Bool) → length bytes ≡ cond told 28 24 → 4 * length (words_of bytes) ≡ cond told 28 24
+four_words : (bytes : List ℕ) (told : Bool) → length bytes ≡ cond told 28 24
+    → 4 * length (words_of bytes) ≡ cond told 28 24
 four_words bytes true is = omega (arith, word_count bytes 7 is)
 four_words bytes false is = omega (arith, word_count bytes 6 is)
 
 -- a header that is all there doesn't end early
-pub not_begun : (bytes : List ℕ) → length bytes ≡ header_bytes bytes → header_at (words_of bytes) ≡ Err stops.End → ⊥
+pub not_begun : (bytes : List ℕ) → length bytes ≡ header_bytes bytes
+    → header_at (words_of bytes) ≡ Err stops.End → ⊥
 not_begun bytes len is =
     let four = four_words bytes (tells_digits (words_of bytes)) (len ∙ size_is bytes) in
     absurd (omega (arith, four, header_ends (words_of bytes) is))
@@ -132,21 +170,38 @@ pub record Gathered (held piece kept : List ℕ) (n : ℕ) : Type 0 where
   pub short : length kept ≤ header_bytes kept
   pub all : (n ≡ length piece) ⊎ (length kept ≡ header_bytes kept)
 
-module _ (held piece rest mid kept : List ℕ) (n m size : ℕ) (first : n ≡ min (length piece) (8 - length held)) (at_mid : mid ≡ held ++ take n piece) (told : size ≡ header_bytes mid) (left : rest ≡ drop n piece)
-    (second : m ≡ min (length rest) (size - length mid)) (at_kept : kept ≡ mid ++ take m rest) (begun : length held < header_bytes held) where
+module _ (held piece rest mid kept : List ℕ) (n m size : ℕ)
+    (first : n ≡ min (length piece) (8 - length held)) (at_mid : mid ≡ held ++ take n piece)
+    (told : size ≡ header_bytes mid) (left : rest ≡ drop n piece)
+    (second : m ≡ min (length rest) (size - length mid)) (at_kept : kept ≡ mid ++ take m rest)
+    (begun : length held < header_bytes held) where
   mid_length : length mid ≡ length held + n
-  mid_length = ap (λ (l : List ℕ). length l) at_mid ∙ omega (arith, length-append held (take n piece), length-take-le n piece (omega (arith, first)))
+  mid_length =
+      ap (λ (l : List ℕ). length l) at_mid
+      ∙ omega (
+        arith,
+        length-append held (take n piece),
+        length-take-le n piece (omega (arith, first)),
+      )
 
   rest_length : length rest ≡ length piece - n
   rest_length = ap (λ (l : List ℕ). length l) left ∙ length-drop n piece
 
   kept_length : length kept ≡ length mid + m
-  kept_length = ap (λ (l : List ℕ). length l) at_kept ∙ omega (arith, length-append mid (take m rest), length-take-le m rest (omega (arith, second)))
+  kept_length =
+      ap (λ (l : List ℕ). length l) at_kept
+      ∙ omega (
+        arith,
+        length-append mid (take m rest),
+        length-take-le m rest (omega (arith, second)),
+      )
 
   both : kept ≡ held ++ take (n + m) piece
   both =
-      at_kept ∙ ap (λ (l : List ℕ). l ++ take m rest) at_mid ∙ append_assoc held (take n piece) (take m rest)
-      ∙ ap (λ (l : List ℕ). held ++ (take n piece ++ take m l)) left ∙ ap (λ (l : List ℕ). held ++ l) (sym (take-add n m piece))
+      at_kept ∙ ap (λ (l : List ℕ). l ++ take m rest) at_mid
+      ∙ append_assoc held (take n piece) (take m rest)
+      ∙ ap (λ (l : List ℕ). held ++ (take n piece ++ take m l)) left
+      ∙ ap (λ (l : List ℕ). held ++ l) (sym (take-add n m piece))
 
   -- the version isn't there yet
   before_version : length mid < 8 → Gathered held piece kept (n + m)
@@ -163,12 +218,22 @@ module _ (held piece rest mid kept : List ℕ) (n m size : ℕ) (first : n ≡ m
   mid_short : length mid ≤ size
   mid_short = elim (cases_lt (length held) 8) [
     | inl l ↦ omega (arith, l, first, mid_length, told, (within mid).0)
-    | inr r ↦ omega (arith, r, first, mid_length, told, begun, ap header_bytes at_mid, size_on held (take n piece) r)
+    | inr r ↦ omega (
+      arith,
+      r,
+      first,
+      mid_length,
+      told,
+      begun,
+      ap header_bytes at_mid,
+      size_on held (take n piece) r,
+    )
   ]
 
   after_version : 8 ≤ length mid → Gathered held piece kept (n + m)
   after_version le =
-      let same : header_bytes kept ≡ size = ap header_bytes at_kept ∙ size_on mid (take m rest) le ∙ sym told in
+      let same : header_bytes kept ≡ size =
+      ap header_bytes at_kept ∙ size_on mid (take m rest) le ∙ sym told in
       record {
         within = omega (arith, first, second, rest_length);
         joined = both;

@@ -1,5 +1,6 @@
 -- Reading units one after the other, as a loop does.
-use Rattle.std.proofs.Common.{◌≡◌, ℕ, suc, ◌+◌, ◌-◌, ◌<◌, ◌≤◌, List, [], ◌∷◌, ◌++◌, Option, Some, None, Result, Ok, Err, refl, ap, arith}
+use Rattle.std.proofs.Common.{◌≡◌, ℕ, suc, ◌+◌, ◌-◌, ◌<◌, ◌≤◌, List, [], ◌∷◌, ◌++◌, Option, Some}
+use Rattle.std.proofs.Common.{None, Result, Ok, Err, refl, ap, arith}
 use Rattle.pm_forest.specs.declared.parts.Shape.{Shape}
 use Rattle.pm_format.specs.declared.stop.Stop.{Stop}
 use Rattle.pm_format.specs.Reading.{then_read, read_map, whole, judged, units_at}
@@ -13,12 +14,14 @@ same_Ok x y is = ap (λ r. value_or x r) is
     value_or d (Ok v) = v
     value_or d (Err stop) = d
 
-pub then_read_ok : {A B P : Type 0} (next : A → Result B Stop) (r : Result A Stop) (y : B) → then_read next r ≡ Ok y →
+pub then_read_ok : {A B P : Type 0} (next : A → Result B Stop) (r : Result A Stop) (y : B)
+    → then_read next r ≡ Ok y →
     ((x : A) → r ≡ Ok x → next x ≡ Ok y → P) → P
 then_read_ok next (Ok x) y is goes_on = goes_on x refl is
 then_read_ok next (Err stop) y is goes_on = absurd cc
 
-pub read_map_ok : {A B : Type 0} (make : A → B) (r : Result A Stop) (y : B) → read_map make r ≡ Ok y →
+pub read_map_ok : {A B : Type 0} (make : A → B) (r : Result A Stop) (y : B) → read_map make r ≡ Ok y
+    →
     (x : A) × (r ≡ Ok x) × (make x ≡ y)
 read_map_ok make (Ok x) y is = (x, refl, same_Ok _ _ is)
 read_map_ok make (Err stop) y is = absurd cc
@@ -27,7 +30,8 @@ pub whole_ok : {A : Type 0} (o : Option A) (y : A) → whole o ≡ Ok y → o �
 whole_ok None y is = absurd cc
 whole_ok (Some x) y is = ap (λ v. Some v) (same_Ok _ _ is)
 
-pub judged_ok : {A : Type 0} (fault : Option Shape) (x y : A) → judged fault x ≡ Ok y → (fault ≡ None) × (x ≡ y)
+pub judged_ok : {A : Type 0} (fault : Option Shape) (x y : A) → judged fault x ≡ Ok y
+    → (fault ≡ None) × (x ≡ y)
 judged_ok None x y is = (refl, same_Ok _ _ is)
 judged_ok (Some e) x y is = absurd cc
 
@@ -38,7 +42,8 @@ Reader X = List X → List ℕ → Result (X × List ℕ) Stop
 -- Units in a row
 
 module _ {X : Type 0} (read : Reader X) (count i : ℕ) (before : List X) (ws : List ℕ) where
-  pub units_stop : (e : Stop) → i < count → read before ws ≡ Err e → units_at read (count - i) before ws ≡ Err e
+  pub units_stop : (e : Stop) → i < count → read before ws ≡ Err e
+      → units_at read (count - i) before ws ≡ Err e
   unfolding units_at
   units_stop e lt is = let k : count - i ≡ suc (count - (i + 1)) = omega arith in rw (k, is) refl
 

@@ -1,5 +1,7 @@
 -- What is read has no fault, and is spelled so.
-use Rattle.std.proofs.Common.{◌≡◌, ◌≤◌, ℕ, zero, suc, eqb, ltb, ◌||◌, Bool, true, false, cond, List, [], ◌∷◌, ◌++◌, Option, Some, None, Ok, Err, length, refl, sym, ◌∙◌, ap, subst, arith, append_assoc}
+use Rattle.std.proofs.Common.{◌≡◌, ◌≤◌, ℕ, zero, suc, eqb, ltb, ◌||◌, Bool, true, false, cond, List}
+use Rattle.std.proofs.Common.{[], ◌∷◌, ◌++◌, Option, Some, None, Ok, Err, length, refl, sym, ◌∙◌}
+use Rattle.std.proofs.Common.{ap, subst, arith, append_assoc}
 use Rattle.std.specs.List.{flat_map}
 use Rattle.std.specs.Int.{w32}
 use Rattle.std.proofs.lemmas.Bool.{eqb-true, ne_eqb, ltb-false, or_parts}
@@ -14,7 +16,9 @@ use Rattle.pm_forest.specs.Rules.{AllFit, root_fault, base_fault}
 use Rattle.pm_format.specs.declared.stop.Stop.TheVariants as stops
 use Rattle.pm_format.specs.Words.{AreWords}
 use Rattle.pm_format.specs.Stream.{root_words, base_words, version_words}
-use Rattle.pm_format.specs.Reading.{root_at, base_at, whole, fitting, units_at, root_after, base_after, counts_at, told_digits, digits_at, digits_in, header_at}
+use Rattle.pm_format.specs.Reading.{root_at, base_at, whole, fitting, units_at, root_after}
+use Rattle.pm_format.specs.Reading.{base_after, counts_at, told_digits, digits_at, digits_in}
+use Rattle.pm_format.specs.Reading.{header_at}
 use Rattle.pm_format.proofs.ReadingLaws.{Reader, same_Ok, then_read_ok, whole_ok, judged_ok}
 
 -- What was read from the front: its words, and the words after it.
@@ -23,13 +27,15 @@ pub record Takes (ws text rest : List ℕ) : Type 0 where
   pub rest_fits : AreWords rest
 
 -- what is taken after one another
-pub takes_both : (ws a mid b rest : List ℕ) → Takes ws a mid → Takes mid b rest → Takes ws (a ++ b) rest
+pub takes_both : (ws a mid b rest : List ℕ) → Takes ws a mid → Takes mid b rest
+    → Takes ws (a ++ b) rest
 takes_both ws a mid b rest first second = record {
   parts = first.parts ∙ ap (λ (l : List ℕ). a ++ l) second.parts ∙ sym (append_assoc a b rest);
   rest_fits = second.rest_fits;
 }
 
-pub fitting_ok : {X : Type 0} (fault : X → Option Shape) (o : Option (X × List ℕ)) (u : X × List ℕ) →
+pub fitting_ok : {X : Type 0} (fault : X → Option Shape) (o : Option (X × List ℕ)) (u : X × List ℕ)
+    →
     fitting fault o ≡ Ok u → (o ≡ Some u) × (fault u.0 ≡ None)
 fitting_ok fault o u is =
     then_read_ok _ (whole o) u is (λ v was fits.
@@ -44,7 +50,8 @@ root_takes (x ∷ y ∷ z ∷ w ∷ n ∷ ws) u fit is =
     let at_x = sym (of_z-to_z w32 x fit.0) in
     let at_y = sym (of_z-to_z w32 y fit.1.0) in
     let at_z = sym (of_z-to_z w32 z fit.1.1.0) in
-    subst (λ (v : Root × List ℕ). Takes (x ∷ y ∷ z ∷ w ∷ n ∷ ws) (root_words v.0) v.1) (same_Some _ _ is)
+    subst (λ (v : Root × List ℕ). Takes (x ∷ y ∷ z ∷ w ∷ n ∷ ws) (root_words v.0) v.1)
+    (same_Some _ _ is)
     (record { parts = λ j. at_x j ∷ at_y j ∷ at_z j ∷ w ∷ n ∷ ws; rest_fits = fit.1.1.1.1.1 })
 root_takes [] u fit is = absurd cc
 root_takes (x ∷ []) u fit is = absurd cc
@@ -55,7 +62,8 @@ root_takes (x ∷ y ∷ z ∷ w ∷ []) u fit is = absurd cc
 pub base_takes : (ws : List ℕ) (u : Face × List ℕ) → AreWords ws → base_at ws ≡ Some u →
     Takes ws (base_words u.0) u.1
 base_takes (a ∷ b ∷ c ∷ i ∷ ws) u fit is =
-    subst (λ (v : Face × List ℕ). Takes (a ∷ b ∷ c ∷ i ∷ ws) (base_words v.0) v.1) (same_Some _ _ is)
+    subst (λ (v : Face × List ℕ). Takes (a ∷ b ∷ c ∷ i ∷ ws) (base_words v.0) v.1)
+    (same_Some _ _ is)
     (record { parts = refl; rest_fits = fit.1.1.1.1 })
 base_takes [] u fit is = absurd cc
 base_takes (a ∷ []) u fit is = absurd cc
@@ -71,7 +79,8 @@ Reads {X} read fault words =
     (fault before u.0 ≡ None) × Takes ws (words u.0) u.1
 
 -- The n units that were read after others.
-pub record Added {X : Type 0} (fault : List X → X → Option Shape) (words : X → List ℕ) (n : ℕ) (before all : List X) (ws rest : List ℕ) : Type 0 where
+pub record Added {X : Type 0} (fault : List X → X → Option Shape) (words : X → List ℕ) (n : ℕ)
+    (before all : List X) (ws rest : List ℕ) : Type 0 where
   pub more : List X
   pub all_is : all ≡ before ++ more
   pub count : length more ≡ n
@@ -79,7 +88,8 @@ pub record Added {X : Type 0} (fault : List X → X → Option Shape) (words : X
   pub takes : Takes ws (flat_map words more) rest
 
 module _ {X : Type 0} (fault : List X → X → Option Shape) (words : X → List ℕ) where
-  added_none : (before : List X) (ws : List ℕ) → AreWords ws → Added fault words 0 before before ws ws
+  added_none : (before : List X) (ws : List ℕ) → AreWords ws
+      → Added fault words 0 before before ws ws
   added_none before ws fit = record {
     more = [];
     all_is = sym (append-nil before);
@@ -99,12 +109,14 @@ module _ {X : Type 0} (fault : List X → X → Option Shape) (words : X → Lis
     takes = takes_both ws (words x) mid (flat_map words others.more) rest first others.takes;
   }
 
-  pub units_take : (read : Reader X) → Reads read fault words → (n : ℕ) (before : List X) (ws : List ℕ)
+  pub units_take : (read : Reader X) → Reads read fault words
+      → (n : ℕ) (before : List X) (ws : List ℕ)
       (u : List X × List ℕ) → AreWords ws → units_at read n before ws ≡ Ok u →
       Added fault words n before u.0 ws u.1
   unfolding units_at
   units_take read reads zero before ws u fit is =
-      subst (λ (v : List X × List ℕ). Added fault words 0 before v.0 ws v.1) (same_Ok _ _ is) (added_none before ws fit)
+      subst (λ (v : List X × List ℕ). Added fault words 0 before v.0 ws v.1) (same_Ok _ _ is)
+      (added_none before ws fit)
   units_take read reads (suc n) before ws u fit is =
       then_read_ok _ (read before ws) u is (λ v was then_is.
       let one = reads before ws v fit was in
@@ -137,7 +149,8 @@ pub record HeaderTakes (ws rest : List ℕ) (c : Counts) : Type 0 where
   pub digits : ℕ
   pub few : digits ≤ 4
   pub told : digits_in (digits_at ws) ≡ digits
-  pub parts : ws ≡ 1297106006 ∷ (version_words digits ++ c.leaves ∷ c.roots ∷ c.bases ∷ c.records ∷ rest)
+  pub parts : ws ≡ 1297106006
+      ∷ (version_words digits ++ c.leaves ∷ c.roots ∷ c.bases ∷ c.records ∷ rest)
   pub rest_fits : AreWords rest
 
 -- the counts that were read
@@ -145,7 +158,8 @@ record CountsTake (ws rest : List ℕ) (c : Counts) : Type 0 where
   parts : ws ≡ c.leaves ∷ c.roots ∷ c.bases ∷ c.records ∷ rest
   rest_fits : AreWords rest
 
-counts_take : (ws : List ℕ) (u : Counts × List ℕ) → AreWords ws → counts_at ws ≡ Some u → CountsTake ws u.1 u.0
+counts_take : (ws : List ℕ) (u : Counts × List ℕ) → AreWords ws → counts_at ws ≡ Some u
+    → CountsTake ws u.1 u.0
 counts_take (l ∷ r ∷ b ∷ n ∷ ws) u fit is =
     subst (λ (w : Counts × List ℕ). CountsTake (l ∷ r ∷ b ∷ n ∷ ws) w.1 w.0) (same_Some _ _ is)
     (record { parts = refl; rest_fits = fit.1.1.1.1 })
@@ -166,10 +180,17 @@ told_take true d ws u bad is fit = absurd cc
 told_take false zero ws u bad is fit = absurd cc
 told_take false (suc d) ws u bad is fit =
     let most : suc d ≤ 4 = ltb-false _ _ (or_parts (eqb (suc d) 0) (ltb 4 (suc d)) bad).1 in
-    subst (λ (w : ℕ × List ℕ). (w.0 ≤ 4) × (2 ∷ suc d ∷ ws ≡ version_words w.0 ++ w.1) × AreWords w.1) (same_Ok _ _ is) (most, ap (λ (l : List ℕ). l ++ ws) (sym (version_two d)), fit)
+    subst (λ (w : ℕ × List ℕ). (w.0 ≤ 4) × (2 ∷ suc d ∷ ws ≡ version_words w.0 ++ w.1)
+    × AreWords w.1) (same_Ok _ _ is) (
+      most,
+      ap (λ (l : List ℕ). l ++ ws) (sym (version_two d)),
+      fit,
+    )
 
-version_take : (first second : Bool) (m v : ℕ) (ws : List ℕ) (u : ℕ × List ℕ) → eqb v 1 ≡ first → eqb v 2 ≡ second → m ≡ 1297106006 →
-    cond first (Ok (0, ws)) (cond second (told_digits ws) (Err (stops.Version v))) ≡ Ok u → AreWords ws → DigitsTake (m ∷ v ∷ ws) u.1 u.0
+version_take : (first second : Bool) (m v : ℕ) (ws : List ℕ) (u : ℕ × List ℕ) → eqb v 1 ≡ first
+    → eqb v 2 ≡ second → m ≡ 1297106006 →
+    cond first (Ok (0, ws)) (cond second (told_digits ws) (Err (stops.Version v))) ≡ Ok u
+    → AreWords ws → DigitsTake (m ∷ v ∷ ws) u.1 u.0
 version_take true second m v ws u one two at_m is fit =
     let at_v = eqb-true v 1 one in
     subst (λ (w : ℕ × List ℕ). DigitsTake (m ∷ v ∷ ws) w.1 w.0) (same_Ok _ _ is)
@@ -177,17 +198,25 @@ version_take true second m v ws u one two at_m is fit =
 version_take false true m v (d ∷ ws) u one two at_m is fit =
     let at_v = eqb-true v 2 two in
     let t = told_take (eqb d 0 || ltb 4 d) d ws u refl is fit.1 in
-    record { few = t.0; parts = (λ j. at_m j ∷ at_v j ∷ d ∷ ws) ∙ ap (λ (l : List ℕ). 1297106006 ∷ l) t.1; rest_fits = t.2 }
+    record {
+      few = t.0;
+      parts =
+          (λ j. at_m j ∷ at_v j ∷ d ∷ ws) ∙ ap (λ (l : List ℕ). 1297106006 ∷ l) t.1;
+      rest_fits = t.2;
+    }
 version_take false true m v [] u one two at_m is fit = absurd cc
 version_take false false m v ws u one two at_m is fit = absurd cc
 
-digits_take : (ws : List ℕ) (u : ℕ × List ℕ) → BeginsWithMagic ws → AreWords ws → digits_at ws ≡ Ok u → DigitsTake ws u.1 u.0
+digits_take : (ws : List ℕ) (u : ℕ × List ℕ) → BeginsWithMagic ws → AreWords ws
+    → digits_at ws ≡ Ok u → DigitsTake ws u.1 u.0
 unfolding digits_at
-digits_take (m ∷ v ∷ ws) u magic fit is = version_take (eqb v 1) (eqb v 2) m v ws u refl refl (magic m (v ∷ ws) refl) is fit.1.1
+digits_take (m ∷ v ∷ ws) u magic fit is =
+    version_take (eqb v 1) (eqb v 2) m v ws u refl refl (magic m (v ∷ ws) refl) is fit.1.1
 digits_take [] u magic fit is = absurd cc
 digits_take (m ∷ []) u magic fit is = absurd cc
 
-pub header_takes : (ws : List ℕ) (u : Counts × List ℕ) → BeginsWithMagic ws → AreWords ws → header_at ws ≡ Ok u →
+pub header_takes : (ws : List ℕ) (u : Counts × List ℕ) → BeginsWithMagic ws → AreWords ws
+    → header_at ws ≡ Ok u →
     HeaderTakes ws u.1 u.0
 unfolding header_at
 header_takes ws u magic fit is =

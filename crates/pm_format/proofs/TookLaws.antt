@@ -1,5 +1,8 @@
 -- What a shaper expects, and what taking a unit in leaves.
-use Rattle.std.proofs.Common.{◌≡◌, ◌⊎◌, ℕ, ◌+◌, ◌-◌, ◌*◌, ◌<◌, ◌≤◌, Bool, true, false, cond, ◌||◌, not, eqb, List, [], ◌∷◌, ◌++◌, Option, Some, None, IfSome, Result, Ok, Err, MatchResult, OnOk, IfErr, length, inl, inr, refl, sym, ◌∙◌, ap, subst, arith, length-append}
+use Rattle.std.proofs.Common.{◌≡◌, ◌⊎◌, ℕ, ◌+◌, ◌-◌, ◌*◌, ◌<◌, ◌≤◌, Bool, true, false, cond, ◌||◌}
+use Rattle.std.proofs.Common.{not, eqb, List, [], ◌∷◌, ◌++◌, Option, Some, None, IfSome, Result, Ok}
+use Rattle.std.proofs.Common.{Err, MatchResult, OnOk, IfErr, length, inl, inr, refl, sym, ◌∙◌, ap}
+use Rattle.std.proofs.Common.{subst, arith, length-append}
 use Rattle.std.proofs.lemmas.Bool.{cases_lt, lt-ltb, le-ltb}
 use Rattle.pm_base.specs.Counts.{one_if}
 use Rattle.pm_base.proofs.Counts.{one_if-le}
@@ -16,28 +19,40 @@ use Rattle.pm_forest.proofs.HeadShaping.{presence_some}
 use Rattle.pm_format.specs.declared.stop.Stop.{Stop}
 use Rattle.pm_format.specs.declared.stop.Stop.TheVariants as stops
 use Rattle.pm_format.specs.Words.{words_of}
-use Rattle.pm_format.specs.Reading.{read_map, judged, fitting, root_at, base_at, head_at, new_face_at, FaceUnit, root_after, base_after, face_after, took_root, took_base, took_face}
-use Rattle.pm_format.specs.Decoding.{on_from, rest_from, IsWaiting, due_bytes, begun_count, bytes_to_come, took_head, TakenIn, ReadingStopsAt}
+use Rattle.pm_format.specs.Reading.{read_map, judged, fitting, root_at, base_at, head_at}
+use Rattle.pm_format.specs.Reading.{new_face_at, FaceUnit, root_after, base_after, face_after}
+use Rattle.pm_format.specs.Reading.{took_root, took_base, took_face}
+use Rattle.pm_format.specs.Decoding.{on_from, rest_from, IsWaiting, due_bytes, begun_count}
+use Rattle.pm_format.specs.Decoding.{bytes_to_come, took_head, TakenIn, ReadingStopsAt}
 use Rattle.pm_format.proofs.ReadingLaws.{read_map_ok}
 use Rattle.pm_format.proofs.FaceSteps.{face_in, after_left, after_right}
-use Rattle.pm_format.proofs.OnLaws.{root_on, root_off, base_on, base_off, head_on, head_off, face_on, face_off}
-use Rattle.pm_format.proofs.UnitLaws.{JudgedAlone, alone, base_has, head_has, new_face_has, root_has}
+use Rattle.pm_format.proofs.OnLaws.{root_on, root_off, base_on, base_off, head_on, head_off}
+use Rattle.pm_format.proofs.OnLaws.{face_on, face_off}
+use Rattle.pm_format.proofs.UnitLaws.{JudgedAlone, alone, base_has, head_has, new_face_has}
+use Rattle.pm_format.proofs.UnitLaws.{root_has}
 
 -- What comes next
 
 abbrev pub Expected : UnitKind → Counts → Hierarchy → Option Unfinished → Type 0
 Expected kinds.Root c h coming = (coming ≡ None) × (length h.roots < c.roots)
-Expected kinds.Base c h coming = (coming ≡ None) × (c.roots ≤ length h.roots) × (length h.bases < c.bases)
-Expected kinds.Head c h coming = (coming ≡ None) × (c.roots ≤ length h.roots) × (c.bases ≤ length h.bases) × (length h.records < c.records)
+Expected kinds.Base c h coming =
+    (coming ≡ None) × (c.roots ≤ length h.roots) × (length h.bases < c.bases)
+Expected kinds.Head c h coming =
+    (coming ≡ None) × (c.roots ≤ length h.roots) × (c.bases ≤ length h.bases)
+    × (length h.records < c.records)
 Expected kinds.LeftFace c h coming = (p : Unfinished) × (coming ≡ Some p) × (p.left_due ≡ true)
 Expected kinds.RightFace c h coming = (p : Unfinished) × (coming ≡ Some p) × (p.left_due ≡ false)
-Expected kinds.Nothing c h coming = (coming ≡ None) × (c.roots ≤ length h.roots) × (c.bases ≤ length h.bases) × (c.records ≤ length h.records)
+Expected kinds.Nothing c h coming =
+    (coming ≡ None) × (c.roots ≤ length h.roots) × (c.bases ≤ length h.bases)
+    × (c.records ≤ length h.records)
 
-expected_face : (c : Counts) (h : Hierarchy) (p : Unfinished) (left : Bool) → p.left_due ≡ left → Expected (cond left kinds.LeftFace kinds.RightFace) c h (Some p)
+expected_face : (c : Counts) (h : Hierarchy) (p : Unfinished) (left : Bool) → p.left_due ≡ left
+    → Expected (cond left kinds.LeftFace kinds.RightFace) c h (Some p)
 expected_face c h p true is = (p, refl, is)
 expected_face c h p false is = (p, refl, is)
 
-expected_of : (c : Counts) (h : Hierarchy) (coming : Option Unfinished) → Expected (expects_after c h coming) c h coming
+expected_of : (c : Counts) (h : Hierarchy) (coming : Option Unfinished)
+    → Expected (expects_after c h coming) c h coming
 expected_of c h (Some p) = expected_face c h p p.left_due refl
 expected_of c h None =
     elim (cases_lt (length h.roots) c.roots) [
@@ -52,11 +67,13 @@ expected_of c h None =
     ]
 
 pub expected : (s : Shaping) (k : UnitKind) → expects s ≡ k → Expected k s.counts s.h s.coming
-expected s k is = subst (λ q. Expected q s.counts s.h s.coming) is (expected_of s.counts s.h s.coming)
+expected s k is =
+    subst (λ q. Expected q s.counts s.h s.coming) is (expected_of s.counts s.h s.coming)
 
 -- Each kind of unit, as a shaper takes it in
 
-read_map_err : {A B : Type 0} (make : A → B) (r : Result A Stop) (e : Stop) → read_map make r ≡ Err e → r ≡ Err e
+read_map_err : {A B : Type 0} (make : A → B) (r : Result A Stop) (e : Stop)
+    → read_map make r ≡ Err e → r ≡ Err e
 read_map_err make (Ok x) e is = absurd cc
 read_map_err make (Err f) e is = ap (λ v. Err v) (ap (stop_in f) is)
   where
@@ -68,19 +85,27 @@ read_map_err make (Err f) e is = ap (λ v. Err v) (ap (stop_in f) is)
 abbrev pub Took : Shaping → List ℕ → Result (Unit {0}) Stop → Shaping → Type 0
 Took s unit r t = OnOk r (TakenIn s unit t) × IfErr r (ReadingStopsAt s unit)
 
-stops_here : (s : Shaping) (unit : List ℕ) (e : Stop) → (e ≡ stops.End → ⊥) → ((more : List ℕ) → rest_from s (words_of (unit ++ more)) ≡ Err e) → ReadingStopsAt s unit e
+stops_here : (s : Shaping) (unit : List ℕ) (e : Stop) → (e ≡ stops.End → ⊥)
+    → ((more : List ℕ) → rest_from s (words_of (unit ++ more)) ≡ Err e) → ReadingStopsAt s unit e
 stops_here s unit e judged off = record { off = off; judged = judged }
 
-root_took_of : (s t : Shaping) (unit rest : List ℕ) (r : Result (Unit {0}) Stop) → expects s ≡ kinds.Root → length unit ≡ 20
-    → MatchResult r (λ _. read_map (took_root s) (root_after s.counts s.h.roots (words_of unit)) ≡ Ok (t, rest)) (λ e. root_after s.counts s.h.roots (words_of unit) ≡ Err e) → Took s unit r t
+root_took_of : (s t : Shaping) (unit rest : List ℕ) (r : Result (Unit {0}) Stop)
+    → expects s ≡ kinds.Root → length unit ≡ 20
+    → MatchResult r (λ _. read_map (took_root s) (root_after s.counts s.h.roots (words_of unit))
+    ≡ Ok (t, rest)) (λ e. root_after s.counts s.h.roots (words_of unit) ≡ Err e)
+    → Took s unit r t
 root_took_of s t unit rest (Ok done) next size read =
-    let (u, was, took) = read_map_ok (took_root s) (root_after s.counts s.h.roots (words_of unit)) (t, rest) read in
+    let (u, was, took) = read_map_ok (took_root s) (root_after s.counts s.h.roots (words_of unit))
+    (t, rest) read in
     let a = alone 5 root_at (root_fault s.counts s.h.roots) unit root_has size in
     let e = expected s kinds.Root next in
     let same : (took_root s u).0 ≡ t = ap (λ (v : Shaping × List ℕ). v.0) took in (
       subst (λ v. TakenIn s unit v) same (record {
-        on = λ more. ap (λ q. on_from s.counts s.h q (words_of (unit ++ more))) e.0 ∙ root_on s.counts s.h (words_of (unit ++ more)) (u.0, words_of more) e.1 (a.on u was more)
-            ∙ sym (ap (λ q. on_from s.counts (record s.h { roots = s.h.roots ++ u.0 ∷ [] }) q (words_of more)) e.0);
+        on = λ more. ap (λ q. on_from s.counts s.h q (words_of (unit ++ more))) e.0
+            ∙ root_on s.counts s.h (words_of (unit ++ more)) (u.0, words_of more) e.1
+            (a.on u was more)
+            ∙ sym (ap (λ q. on_from s.counts (record s.h { roots = s.h.roots ++ u.0 ∷ [] }) q
+            (words_of more)) e.0);
         waits = subst (λ q. IfSome q (λ p. p.left_due || p.right_due ≡ true)) (sym e.0) tt;
         less = omega (arith, e.1, length-append s.h.roots (u.0 ∷ []), size);
       }),
@@ -88,19 +113,30 @@ root_took_of s t unit rest (Ok done) next size read =
     )
 root_took_of s t unit rest (Err e) next size stop =
     let a = alone 5 root_at (root_fault s.counts s.h.roots) unit root_has size in
-    let x = expected s kinds.Root next in
-    (tt, stops_here s unit e (λ is. a.ends (stop ∙ ap (λ v. Err v) is)) (λ more. ap (λ q. on_from s.counts s.h q (words_of (unit ++ more))) x.0 ∙ root_off s.counts s.h (words_of (unit ++ more)) e x.1 (a.off e stop more)))
+    let x = expected s kinds.Root next in (
+      tt,
+      stops_here s unit e (λ is. a.ends (stop ∙ ap (λ v. Err v) is))
+          (λ more. ap (λ q. on_from s.counts s.h q (words_of (unit ++ more))) x.0
+          ∙ root_off s.counts s.h (words_of (unit ++ more)) e x.1 (a.off e stop more)),
+    )
 
-base_took_of : (s t : Shaping) (unit rest : List ℕ) (r : Result (Unit {0}) Stop) → expects s ≡ kinds.Base → length unit ≡ 16
-    → MatchResult r (λ _. read_map (took_base s) (base_after s.h.roots s.h.bases (words_of unit)) ≡ Ok (t, rest)) (λ e. base_after s.h.roots s.h.bases (words_of unit) ≡ Err e) → Took s unit r t
+base_took_of : (s t : Shaping) (unit rest : List ℕ) (r : Result (Unit {0}) Stop)
+    → expects s ≡ kinds.Base → length unit ≡ 16
+    → MatchResult r (λ _. read_map (took_base s) (base_after s.h.roots s.h.bases (words_of unit))
+    ≡ Ok (t, rest)) (λ e. base_after s.h.roots s.h.bases (words_of unit) ≡ Err e)
+    → Took s unit r t
 base_took_of s t unit rest (Ok done) next size read =
-    let (u, was, took) = read_map_ok (took_base s) (base_after s.h.roots s.h.bases (words_of unit)) (t, rest) read in
+    let (u, was, took) = read_map_ok (took_base s) (base_after s.h.roots s.h.bases (words_of unit))
+    (t, rest) read in
     let a = alone 4 base_at (base_fault s.h.roots s.h.bases) unit base_has size in
     let e = expected s kinds.Base next in
     let same : (took_base s u).0 ≡ t = ap (λ (v : Shaping × List ℕ). v.0) took in (
       subst (λ v. TakenIn s unit v) same (record {
-        on = λ more. ap (λ q. on_from s.counts s.h q (words_of (unit ++ more))) e.0 ∙ base_on s.counts s.h (words_of (unit ++ more)) (u.0, words_of more) e.1 e.2 (a.on u was more)
-            ∙ sym (ap (λ q. on_from s.counts (record s.h { bases = s.h.bases ++ u.0 ∷ [] }) q (words_of more)) e.0);
+        on = λ more. ap (λ q. on_from s.counts s.h q (words_of (unit ++ more))) e.0
+            ∙ base_on s.counts s.h (words_of (unit ++ more)) (u.0, words_of more) e.1 e.2
+            (a.on u was more)
+            ∙ sym (ap (λ q. on_from s.counts (record s.h { bases = s.h.bases ++ u.0 ∷ [] }) q
+            (words_of more)) e.0);
         waits = subst (λ q. IfSome q (λ p. p.left_due || p.right_due ≡ true)) (sym e.0) tt;
         less = omega (arith, e.2, length-append s.h.bases (u.0 ∷ []), size);
       }),
@@ -108,20 +144,32 @@ base_took_of s t unit rest (Ok done) next size read =
     )
 base_took_of s t unit rest (Err e) next size stop =
     let a = alone 4 base_at (base_fault s.h.roots s.h.bases) unit base_has size in
-    let x = expected s kinds.Base next in
-    (tt, stops_here s unit e (λ is. a.ends (stop ∙ ap (λ v. Err v) is)) (λ more. ap (λ q. on_from s.counts s.h q (words_of (unit ++ more))) x.0 ∙ base_off s.counts s.h (words_of (unit ++ more)) e x.1 x.2 (a.off e stop more)))
+    let x = expected s kinds.Base next in (
+      tt,
+      stops_here s unit e (λ is. a.ends (stop ∙ ap (λ v. Err v) is))
+          (λ more. ap (λ q. on_from s.counts s.h q (words_of (unit ++ more))) x.0
+          ∙ base_off s.counts s.h (words_of (unit ++ more)) e x.1 x.2 (a.off e stop more)),
+    )
 
-head_took_of : (s t : Shaping) (unit rest : List ℕ) (r : Result (Unit {0}) Stop) → expects s ≡ kinds.Head → length unit ≡ 44
-    → MatchResult r (λ _. read_map (took_head s) (fitting (head_fault s.h) (head_at (words_of unit))) ≡ Ok (t, rest)) (λ e. fitting (head_fault s.h) (head_at (words_of unit)) ≡ Err e) → Took s unit r t
+head_took_of : (s t : Shaping) (unit rest : List ℕ) (r : Result (Unit {0}) Stop)
+    → expects s ≡ kinds.Head → length unit ≡ 44
+    → MatchResult r
+    (λ _. read_map (took_head s) (fitting (head_fault s.h) (head_at (words_of unit)))
+    ≡ Ok (t, rest)) (λ e. fitting (head_fault s.h) (head_at (words_of unit)) ≡ Err e)
+    → Took s unit r t
 head_took_of s t unit rest (Ok done) next size read =
-    let (d, was, took) = read_map_ok (took_head s) (fitting (head_fault s.h) (head_at (words_of unit))) (t, rest) read in
+    let (d, was, took) =
+    read_map_ok (took_head s) (fitting (head_fault s.h) (head_at (words_of unit))) (t, rest)
+    read in
     let a = alone 11 head_at (head_fault s.h) unit head_has size in
     let e = expected s kinds.Head next in
     let same : (took_head s d).0 ≡ t = ap (λ (v : Shaping × List ℕ). v.0) took in
     let left = one_if-le (not (eqb d.0.presence 2)) in
     let right = one_if-le (not (eqb d.0.presence 1)) in (
       subst (λ v. TakenIn s unit v) same (record {
-        on = λ more. ap (λ q. on_from s.counts s.h q (words_of (unit ++ more))) e.0 ∙ head_on s.counts s.h (words_of (unit ++ more)) (d.0, words_of more) e.1 e.2 e.3 (a.on d was more);
+        on = λ more. ap (λ q. on_from s.counts s.h q (words_of (unit ++ more))) e.0
+            ∙ head_on s.counts s.h (words_of (unit ++ more)) (d.0, words_of more) e.1 e.2 e.3
+            (a.on d was more);
         waits = presence_some d.0.presence;
         less = omega (arith, e.3, ap due_bytes e.0, ap begun_count e.0, left, right, size);
       }),
@@ -129,40 +177,63 @@ head_took_of s t unit rest (Ok done) next size read =
     )
 head_took_of s t unit rest (Err e) next size stop =
     let a = alone 11 head_at (head_fault s.h) unit head_has size in
-    let x = expected s kinds.Head next in
-    (tt, stops_here s unit e (λ is. a.ends (stop ∙ ap (λ v. Err v) is)) (λ more. ap (λ q. on_from s.counts s.h q (words_of (unit ++ more))) x.0 ∙ head_off s.counts s.h (words_of (unit ++ more)) e x.1 x.2 x.3 (a.off e stop more)))
+    let x = expected s kinds.Head next in (
+      tt,
+      stops_here s unit e (λ is. a.ends (stop ∙ ap (λ v. Err v) is))
+          (λ more. ap (λ q. on_from s.counts s.h q (words_of (unit ++ more))) x.0
+          ∙ head_off s.counts s.h (words_of (unit ++ more)) e x.1 x.2 x.3 (a.off e stop more)),
+    )
 
-face_found : (more : List ℕ) (make : FaceUnit × List ℕ → Unfinished × List ℕ) (r longer : Result (FaceUnit × List ℕ) Stop) (q : Unfinished × List ℕ) → read_map make r ≡ Ok q
-    → ((u : FaceUnit × List ℕ) → r ≡ Ok u → longer ≡ Ok (u.0, words_of more)) → ((u : FaceUnit × List ℕ) → make (u.0, words_of more) ≡ ((make u).0, words_of more)) → read_map make longer ≡ Ok (q.0, words_of more)
+face_found : (more : List ℕ) (make : FaceUnit × List ℕ → Unfinished × List ℕ)
+    (r longer : Result (FaceUnit × List ℕ) Stop) (q : Unfinished × List ℕ) → read_map make r ≡ Ok q
+    → ((u : FaceUnit × List ℕ) → r ≡ Ok u → longer ≡ Ok (u.0, words_of more))
+    → ((u : FaceUnit × List ℕ) → make (u.0, words_of more) ≡ ((make u).0, words_of more))
+    → read_map make longer ≡ Ok (q.0, words_of more)
 face_found more make r longer q is on keeps =
     let (u, was, made) = read_map_ok make r q is in
-    ap (read_map make) (on u was) ∙ ap (λ v. Ok v) (keeps u) ∙ ap (λ (v : Unfinished × List ℕ). Ok (v.0, words_of more)) made
+    ap (read_map make) (on u was) ∙ ap (λ v. Ok v) (keeps u)
+    ∙ ap (λ (v : Unfinished × List ℕ). Ok (v.0, words_of more)) made
 
-face_alone : (h : Hierarchy) (p : Unfinished) (unit : List ℕ) → length unit ≡ 24 → JudgedAlone (face_after h p (words_of unit)) (λ more. face_after h p (words_of (unit ++ more)))
+face_alone : (h : Hierarchy) (p : Unfinished) (unit : List ℕ) → length unit ≡ 24
+    → JudgedAlone (face_after h p (words_of unit))
+    (λ more. face_after h p (words_of (unit ++ more)))
 unfolding face_after
 face_alone h p unit size =
-    let fault = λ (f : FaceUnit). new_face_fault (with_record h p.split) p.left_due f.face f.first f.second in
-    let make : FaceUnit × List ℕ → Unfinished × List ℕ = λ f. (with_face p (next_face f.0.face f.0.first f.0.second), f.1) in
+    let fault = λ (f : FaceUnit). new_face_fault (with_record h p.split) p.left_due f.face f.first
+    f.second in
+    let make : FaceUnit × List ℕ → Unfinished × List ℕ =
+    λ f. (with_face p (next_face f.0.face f.0.first f.0.second), f.1) in
     let a = alone 6 new_face_at fault unit new_face_has size in
     record {
-      on = λ q is more. face_found more make (fitting fault (new_face_at (words_of unit))) (fitting fault (new_face_at (words_of (unit ++ more)))) q is (λ u was. a.on u was more) (λ u. refl);
-      off = λ e is more. ap (read_map make) (a.off e (read_map_err make (fitting fault (new_face_at (words_of unit))) e is) more);
-      ends = λ is. a.ends (read_map_err make (fitting fault (new_face_at (words_of unit))) stops.End is);
+      on = λ q is more. face_found more make (fitting fault (new_face_at (words_of unit)))
+          (fitting fault (new_face_at (words_of (unit ++ more)))) q is (λ u was. a.on u was more)
+          (λ u. refl);
+      off = λ e is more. ap (read_map make)
+          (a.off e (read_map_err make (fitting fault (new_face_at (words_of unit))) e is) more);
+      ends = λ is. a.ends (read_map_err make (fitting fault (new_face_at (words_of unit))) stops.End
+          is);
     }
 
 -- a shaper waits where something is due
-settled_waits : (c : Counts) (h : Hierarchy) (q : Unfinished) (due : Bool) → q.left_due || q.right_due ≡ due → IsWaiting (settled c h q)
+settled_waits : (c : Counts) (h : Hierarchy) (q : Unfinished) (due : Bool)
+    → q.left_due || q.right_due ≡ due → IsWaiting (settled c h q)
 settled_waits c h q true is = rw is is
 settled_waits c h q false is = rw is tt
 
-settled_less : (c : Counts) (h : Hierarchy) (q : Unfinished) (due : Bool) → q.left_due || q.right_due ≡ due
-    → bytes_to_come (settled c h q) ≤ 20 * (c.roots - length h.roots) + 16 * (c.bases - length h.bases) + 92 * (c.records - (length h.records + 1)) + (24 * one_if q.left_due + 24 * one_if q.right_due)
+settled_less : (c : Counts) (h : Hierarchy) (q : Unfinished) (due : Bool)
+    → q.left_due || q.right_due ≡ due
+    → bytes_to_come (settled c h q) ≤ 20 * (c.roots - length h.roots) + 16
+    * (c.bases - length h.bases) + 92 * (c.records - (length h.records + 1))
+    + (24 * one_if q.left_due + 24 * one_if q.right_due)
 settled_less c h q true is = rw is (omega arith)
 settled_less c h q false is = rw is (omega (arith, length-append h.records (q.split ∷ [])))
 
 -- one face less is due
-face_less : (h : Hierarchy) (p : Unfinished) (ws : List ℕ) (q : Unfinished × List ℕ) (left right : Bool) → p.left_due ≡ left → p.right_due ≡ right → left || right ≡ true → face_after h p ws ≡ Ok q
-    → (24 * one_if q.0.left_due + 24 * one_if q.0.right_due) + 24 ≤ 24 * one_if p.left_due + 24 * one_if p.right_due
+face_less : (h : Hierarchy) (p : Unfinished) (ws : List ℕ) (q : Unfinished × List ℕ)
+    (left right : Bool) → p.left_due ≡ left → p.right_due ≡ right → left || right ≡ true
+    → face_after h p ws ≡ Ok q
+    → (24 * one_if q.0.left_due + 24 * one_if q.0.right_due) + 24 ≤ 24 * one_if
+    p.left_due + 24 * one_if p.right_due
 face_less h p ws q true right is_left is_right due is =
     let stage = after_left p q.0 (face_in h p ws q is) is_left in
     omega (arith, ap one_if stage.0, ap one_if stage.1, ap one_if is_left)
@@ -171,50 +242,91 @@ face_less h p ws q false true is_left is_right due is =
     omega (arith, ap one_if stage.0, ap one_if stage.1, ap one_if is_left, ap one_if is_right)
 face_less h p ws q false false is_left is_right due is = absurd cc
 
-face_took_of : (s t : Shaping) (p : Unfinished) (unit rest : List ℕ) (r : Result (Unit {0}) Stop) → s.coming ≡ Some p → p.left_due || p.right_due ≡ true → length unit ≡ 24
-    → MatchResult r (λ _. read_map (took_face s) (face_after s.h p (words_of unit)) ≡ Ok (t, rest)) (λ e. face_after s.h p (words_of unit) ≡ Err e) → Took s unit r t
+face_took_of : (s t : Shaping) (p : Unfinished) (unit rest : List ℕ) (r : Result (Unit {0}) Stop)
+    → s.coming ≡ Some p → p.left_due || p.right_due ≡ true → length unit ≡ 24
+    → MatchResult r (λ _. read_map (took_face s) (face_after s.h p (words_of unit)) ≡ Ok (t, rest))
+    (λ e. face_after s.h p (words_of unit) ≡ Err e) → Took s unit r t
 face_took_of s t p unit rest (Ok done) coming due size read =
-    let (q, was, took) = read_map_ok (took_face s) (face_after s.h p (words_of unit)) (t, rest) read in
+    let (q, was, took) = read_map_ok (took_face s) (face_after s.h p (words_of unit)) (t, rest)
+    read in
     let a = face_alone s.h p unit size in
     let same : settled s.counts s.h q.0 ≡ t = ap (λ (v : Shaping × List ℕ). v.0) took in (
       subst (λ v. TakenIn s unit v) same (record {
-        on = λ more. ap (λ q. on_from s.counts s.h q (words_of (unit ++ more))) coming ∙ face_on s.counts s.h p (words_of (unit ++ more)) (q.0, words_of more) due (a.on q was more);
+        on = λ more. ap (λ q. on_from s.counts s.h q (words_of (unit ++ more))) coming
+            ∙ face_on s.counts s.h p (words_of (unit ++ more)) (q.0, words_of more) due
+            (a.on q was more);
         waits = settled_waits s.counts s.h q.0 (q.0.left_due || q.0.right_due) refl;
-        less = omega (arith, settled_less s.counts s.h q.0 (q.0.left_due || q.0.right_due) refl, face_less s.h p (words_of unit) q p.left_due p.right_due refl refl due was, ap due_bytes coming, ap begun_count coming, size);
+        less = omega (
+          arith,
+          settled_less s.counts s.h q.0 (q.0.left_due || q.0.right_due) refl,
+          face_less s.h p (words_of unit) q p.left_due p.right_due refl refl due was,
+          ap due_bytes coming,
+          ap begun_count coming,
+          size,
+        );
       }),
       tt,
     )
 face_took_of s t p unit rest (Err e) coming due size stop =
-    let a = face_alone s.h p unit size in
-    (tt, stops_here s unit e (λ is. a.ends (stop ∙ ap (λ v. Err v) is)) (λ more. ap (λ q. on_from s.counts s.h q (words_of (unit ++ more))) coming ∙ face_off s.counts s.h p (words_of (unit ++ more)) e due (a.off e stop more)))
+    let a = face_alone s.h p unit size in (
+      tt,
+      stops_here s unit e (λ is. a.ends (stop ∙ ap (λ v. Err v) is))
+          (λ more. ap (λ q. on_from s.counts s.h q (words_of (unit ++ more))) coming
+          ∙ face_off s.counts s.h p (words_of (unit ++ more)) e due (a.off e stop more)),
+    )
 
 -- a face comes where a record is begun
-pub face_coming : (s : Shaping) → (expects s ≡ kinds.LeftFace) ⊎ (expects s ≡ kinds.RightFace) → s.coming ≡ None → ⊥
+pub face_coming : (s : Shaping) → (expects s ≡ kinds.LeftFace) ⊎ (expects s ≡ kinds.RightFace)
+    → s.coming ≡ None → ⊥
 face_coming s (inl left) none = let e = expected s kinds.LeftFace left in absurd (cc (e.1, none))
 face_coming s (inr right) none = let e = expected s kinds.RightFace right in absurd (cc (e.1, none))
 
-pub root_took : (s t : Shaping) (unit ws rest : List ℕ) (r : Result (Unit {0}) Stop) → expects s ≡ kinds.Root → length unit ≡ 20 → ws ≡ words_of unit
-    → MatchResult r (λ _. read_map (took_root s) (root_after s.counts s.h.roots ws) ≡ Ok (t, rest)) (λ e. root_after s.counts s.h.roots ws ≡ Err e) → Took s unit r t
+pub root_took : (s t : Shaping) (unit ws rest : List ℕ) (r : Result (Unit {0}) Stop)
+    → expects s ≡ kinds.Root → length unit ≡ 20 → ws ≡ words_of unit
+    → MatchResult r (λ _. read_map (took_root s) (root_after s.counts s.h.roots ws) ≡ Ok (t, rest))
+    (λ e. root_after s.counts s.h.roots ws ≡ Err e) → Took s unit r t
 root_took s t unit ws rest r next size is read =
-    root_took_of s t unit rest r next size (subst (λ v. MatchResult r (λ _. read_map (took_root s) (root_after s.counts s.h.roots v) ≡ Ok (t, rest)) (λ e. root_after s.counts s.h.roots v ≡ Err e)) is read)
+    root_took_of s t unit rest r next size
+    (subst (λ v. MatchResult r (λ _. read_map (took_root s) (root_after s.counts s.h.roots v)
+    ≡ Ok (t, rest)) (λ e. root_after s.counts s.h.roots v ≡ Err e)) is read)
 
-pub base_took : (s t : Shaping) (unit ws rest : List ℕ) (r : Result (Unit {0}) Stop) → expects s ≡ kinds.Base → length unit ≡ 16 → ws ≡ words_of unit
-    → MatchResult r (λ _. read_map (took_base s) (base_after s.h.roots s.h.bases ws) ≡ Ok (t, rest)) (λ e. base_after s.h.roots s.h.bases ws ≡ Err e) → Took s unit r t
+pub base_took : (s t : Shaping) (unit ws rest : List ℕ) (r : Result (Unit {0}) Stop)
+    → expects s ≡ kinds.Base → length unit ≡ 16 → ws ≡ words_of unit
+    → MatchResult r (λ _. read_map (took_base s) (base_after s.h.roots s.h.bases ws) ≡ Ok (t, rest))
+    (λ e. base_after s.h.roots s.h.bases ws ≡ Err e) → Took s unit r t
 base_took s t unit ws rest r next size is read =
-    base_took_of s t unit rest r next size (subst (λ v. MatchResult r (λ _. read_map (took_base s) (base_after s.h.roots s.h.bases v) ≡ Ok (t, rest)) (λ e. base_after s.h.roots s.h.bases v ≡ Err e)) is read)
+    base_took_of s t unit rest r next size
+    (subst (λ v. MatchResult r (λ _. read_map (took_base s) (base_after s.h.roots s.h.bases v)
+    ≡ Ok (t, rest)) (λ e. base_after s.h.roots s.h.bases v ≡ Err e)) is read)
 
-pub head_took : (s t : Shaping) (unit ws rest : List ℕ) (r : Result (Unit {0}) Stop) → expects s ≡ kinds.Head → length unit ≡ 44 → ws ≡ words_of unit
-    → MatchResult r (λ _. read_map (took_head s) (fitting (head_fault s.h) (head_at ws)) ≡ Ok (t, rest)) (λ e. fitting (head_fault s.h) (head_at ws) ≡ Err e) → Took s unit r t
+pub head_took : (s t : Shaping) (unit ws rest : List ℕ) (r : Result (Unit {0}) Stop)
+    → expects s ≡ kinds.Head → length unit ≡ 44 → ws ≡ words_of unit
+    → MatchResult r (λ _. read_map (took_head s) (fitting (head_fault s.h) (head_at ws))
+    ≡ Ok (t, rest)) (λ e. fitting (head_fault s.h) (head_at ws) ≡ Err e) → Took s unit r t
 head_took s t unit ws rest r next size is read =
-    head_took_of s t unit rest r next size (subst (λ v. MatchResult r (λ _. read_map (took_head s) (fitting (head_fault s.h) (head_at v)) ≡ Ok (t, rest)) (λ e. fitting (head_fault s.h) (head_at v) ≡ Err e)) is read)
+    head_took_of s t unit rest r next size
+    (subst (λ v. MatchResult r
+    (λ _. read_map (took_head s) (fitting (head_fault s.h) (head_at v)) ≡ Ok (t, rest))
+    (λ e. fitting (head_fault s.h) (head_at v) ≡ Err e)) is read)
 
-face_took_at : (s t : Shaping) (unit rest : List ℕ) (r : Result (Unit {0}) Stop) (coming : Option Unfinished) → s.coming ≡ coming → (coming ≡ None → ⊥) → IfSome coming (λ p. p.left_due || p.right_due ≡ true) → length unit ≡ 24
-    → IfSome coming (λ p. MatchResult r (λ _. read_map (took_face s) (face_after s.h p (words_of unit)) ≡ Ok (t, rest)) (λ e. face_after s.h p (words_of unit) ≡ Err e)) → Took s unit r t
+face_took_at : (s t : Shaping) (unit rest : List ℕ) (r : Result (Unit {0}) Stop)
+    (coming : Option Unfinished) → s.coming ≡ coming → (coming ≡ None → ⊥)
+    → IfSome coming (λ p. p.left_due || p.right_due ≡ true) → length unit ≡ 24
+    → IfSome coming
+    (λ p. MatchResult r (λ _. read_map (took_face s) (face_after s.h p (words_of unit))
+    ≡ Ok (t, rest)) (λ e. face_after s.h p (words_of unit) ≡ Err e)) → Took s unit r t
 face_took_at s t unit rest r None is some due size read = absurd (some refl)
-face_took_at s t unit rest r (Some p) is some due size read = face_took_of s t p unit rest r is due size read
+face_took_at s t unit rest r (Some p) is some due size read =
+    face_took_of s t p unit rest r is due size read
 
-pub face_took : (s t : Shaping) (unit ws rest : List ℕ) (r : Result (Unit {0}) Stop) → (expects s ≡ kinds.LeftFace) ⊎ (expects s ≡ kinds.RightFace) → IsWaiting s → length unit ≡ 24 → ws ≡ words_of unit
-    → IfSome s.coming (λ p. MatchResult r (λ _. read_map (took_face s) (face_after s.h p ws) ≡ Ok (t, rest)) (λ e. face_after s.h p ws ≡ Err e)) → Took s unit r t
+pub face_took : (s t : Shaping) (unit ws rest : List ℕ) (r : Result (Unit {0}) Stop)
+    → (expects s ≡ kinds.LeftFace) ⊎ (expects s ≡ kinds.RightFace) → IsWaiting s → length unit ≡ 24
+    → ws ≡ words_of unit
+    → IfSome s.coming
+    (λ p. MatchResult r (λ _. read_map (took_face s) (face_after s.h p ws) ≡ Ok (t, rest))
+    (λ e. face_after s.h p ws ≡ Err e)) → Took s unit r t
 face_took s t unit ws rest r next waits size is read =
     face_took_at s t unit rest r s.coming refl (face_coming s next) waits size
-    (subst (λ v. IfSome s.coming (λ p. MatchResult r (λ _. read_map (took_face s) (face_after s.h p v) ≡ Ok (t, rest)) (λ e. face_after s.h p v ≡ Err e))) is read)
+    (subst (λ v. IfSome s.coming
+    (λ p. MatchResult r (λ _. read_map (took_face s) (face_after s.h p v) ≡ Ok (t, rest))
+    (λ e. face_after s.h p v ≡ Err e))) is read)

@@ -1,5 +1,6 @@
 -- Words to bytes and back.
-use Rattle.std.proofs.Common.{◌≡◌, ℕ, zero, suc, ◌+◌, ◌*◌, ◌^◌, ◌<◌, ◌≤◌, List, [], ◌∷◌, ◌++◌, length, get_or, take, refl, sym, ◌∙◌, ap, arith, append_assoc}
+use Rattle.std.proofs.Common.{◌≡◌, ℕ, zero, suc, ◌+◌, ◌*◌, ◌^◌, ◌<◌, ◌≤◌, List, [], ◌∷◌, ◌++◌}
+use Rattle.std.proofs.Common.{length, get_or, take, refl, sym, ◌∙◌, ap, arith, append_assoc}
 use Rattle.std.proofs.lemmas.Nat.{le_bytes_4, from_le_bytes-to_le_bytes_4}
 use Rattle.byteorder.specs.Endian.{little_bytes}
 use Rattle.pm_format.specs.Words.{words_of, spelled, AreWords, IsBytes}
@@ -15,13 +16,17 @@ four_fit a b c d ha hb hc hd (suc (suc (suc (suc i)))) = omega arith
 -- four bytes are those of their number
 four : (a b c d : ℕ) → a < 256 → b < 256 → c < 256 → d < 256 →
     little_bytes 4 (a + 256 * (b + 256 * (c + 256 * d))) ≡ a ∷ b ∷ c ∷ d ∷ []
-four a b c d ha hb hc hd = le_bytes_4 (a ∷ b ∷ c ∷ d ∷ []) _ refl (four_fit a b c d ha hb hc hd) (omega arith)
+four a b c d ha hb hc hd =
+    le_bytes_4 (a ∷ b ∷ c ∷ d ∷ []) _ refl (four_fit a b c d ha hb hc hd) (omega arith)
 
 -- the number of a word's bytes is the word
-again : (w : ℕ) (rest : List ℕ) → w < 2 ^ 32 → words_of (little_bytes 4 w ++ rest) ≡ w ∷ words_of rest
-again w rest lt = ap (λ (n : ℕ). n ∷ words_of rest) (omega (arith, from_le_bytes-to_le_bytes_4 w lt))
+again : (w : ℕ) (rest : List ℕ) → w < 2 ^ 32 → words_of (little_bytes 4 w ++ rest) ≡ w
+    ∷ words_of rest
+again w rest lt =
+    ap (λ (n : ℕ). n ∷ words_of rest) (omega (arith, from_le_bytes-to_le_bytes_4 w lt))
 
-pub words_again : (ws rest : List ℕ) → AreWords ws → words_of (spelled ws ++ rest) ≡ ws ++ words_of rest
+pub words_again : (ws rest : List ℕ) → AreWords ws → words_of (spelled ws ++ rest) ≡ ws
+    ++ words_of rest
 unfolding spelled
 words_again [] rest all = refl
 words_again (w ∷ ws) rest all =
@@ -45,8 +50,10 @@ words_take (a ∷ b ∷ c ∷ d ∷ rest) (suc k) fits le =
     rw n (rw others (ap (λ (l : List ℕ). l ++ spelled (take k (words_of rest))) (sym first)))
 
 pub text_words : (bytes : List ℕ) → IsBytes bytes → AreWords (words_of bytes)
-text_words (a ∷ b ∷ c ∷ d ∷ rest) fit =
-    (omega (arith, fit 0, fit 1, fit 2, fit 3), text_words rest (λ i. fit (suc (suc (suc (suc i))))))
+text_words (a ∷ b ∷ c ∷ d ∷ rest) fit = (
+  omega (arith, fit 0, fit 1, fit 2, fit 3),
+  text_words rest (λ i. fit (suc (suc (suc (suc i))))),
+)
 text_words [] fit = tt
 text_words (a ∷ []) fit = tt
 text_words (a ∷ b ∷ []) fit = tt

@@ -1,6 +1,7 @@
--- Reading a hierarchy from words, unit by unit: what was read and the words after it, or why reading stops there. Each
--- unit is judged by those before it, as soon as all its words are there.
-use Rattle.std.specs.Prelude.{ℕ, ℤ, zero, suc, ◌==◌, ◌||◌, nat_lt, List, [], ◌∷◌, ◌++◌, Option, Some, None, Result, Ok, Err, Bool, if◌then◌else◌}
+-- Reading a hierarchy from words, unit by unit: what was read and the words after it, or why
+-- reading stops there. Each unit is judged by those before it, as soon as all its words are there.
+use Rattle.std.specs.Prelude.{ℕ, ℤ, zero, suc, ◌==◌, ◌||◌, nat_lt, List, [], ◌∷◌, ◌++◌, Option}
+use Rattle.std.specs.Prelude.{Some, None, Result, Ok, Err, Bool, if◌then◌else◌}
 use Rattle.std.specs.Int.{w32, cast_signed}
 use Rattle.pm_forest.specs.declared.parts.Counts.{Counts}
 use Rattle.pm_forest.specs.declared.parts.Root.{Root}
@@ -11,7 +12,8 @@ use Rattle.pm_forest.specs.declared.parts.Shape.{Shape}
 use Rattle.pm_forest.specs.declared.parts.Shape.TheVariants as shapes
 use Rattle.pm_forest.specs.declared.parts.Unfinished.{Unfinished}
 use Rattle.pm_forest.specs.Forest.{Hierarchy}
-use Rattle.pm_forest.specs.Rules.{counts_are_bad, root_fault, base_fault, head_fault, new_face_fault, past_fault, with_record}
+use Rattle.pm_forest.specs.Rules.{counts_are_bad, root_fault, base_fault, head_fault}
+use Rattle.pm_forest.specs.Rules.{new_face_fault, past_fault, with_record}
 use Rattle.pm_forest.specs.Shaping.{Shaping, next_root, started, with_face, next_face, settled}
 use Rattle.pm_format.specs.declared.stop.Stop.{Stop}
 use Rattle.pm_format.specs.declared.stop.Stop.TheVariants as stops
@@ -36,7 +38,8 @@ judged None x = Ok x
 judged (Some fault) x = Err (stops.Fault fault)
 
 -- What was read, where it has no fault.
-abbrev pub fitting : {X : Type 0} → (X → Option Shape) → Option (X × List ℕ) → Result (X × List ℕ) Stop
+abbrev pub fitting : {X : Type 0} → (X → Option Shape) → Option (X × List ℕ)
+    → Result (X × List ℕ) Stop
 fitting fault o = then_read (λ u. judged (fault u.0) u) (whole o)
 
 -- Coordinates as signed numbers.
@@ -53,7 +56,18 @@ base_at _ = None
 
 abbrev pub head_at : List ℕ → Option (Head × List ℕ)
 head_at (s ∷ width ∷ tx ∷ ty ∷ tz ∷ t_input ∷ ux ∷ uy ∷ uz ∷ u_input ∷ presence ∷ ws) =
-    Some (record { s = s; width = width; t = signed_place tx ty tz; t_input = t_input; u = signed_place ux uy uz; u_input = u_input; presence = presence }, ws)
+    Some (
+      record {
+        s = s;
+        width = width;
+        t = signed_place tx ty tz;
+        t_input = t_input;
+        u = signed_place ux uy uz;
+        u_input = u_input;
+        presence = presence;
+      },
+      ws,
+    )
 head_at _ = None
 
 -- A new face with the two words that name its neighbours.
@@ -63,13 +77,23 @@ pub record FaceUnit : Type 0 where
   pub second : ℕ
 
 abbrev pub new_face_at : List ℕ → Option (FaceUnit × List ℕ)
-new_face_at (a ∷ b ∷ c ∷ input ∷ first ∷ second ∷ ws) = Some (record { face = record { a = a; b = b; c = c; input = input }; first = first; second = second }, ws)
+new_face_at (a ∷ b ∷ c ∷ input ∷ first ∷ second ∷ ws) = Some (
+  record {
+    face = record { a = a; b = b; c = c; input = input };
+    first = first;
+    second =
+        second;
+  },
+  ws,
+)
 new_face_at _ = None
 
 -- As many units as counted, each judged by those before it.
-unfoldable pub units_at : {X : Type 0} → (List X → List ℕ → Result (X × List ℕ) Stop) → ℕ → List X → List ℕ → Result (List X × List ℕ) Stop
+unfoldable pub units_at : {X : Type 0} → (List X → List ℕ → Result (X × List ℕ) Stop) → ℕ → List X
+    → List ℕ → Result (List X × List ℕ) Stop
 units_at read zero before ws = Ok (before, ws)
-units_at read (suc n) before ws = then_read (λ u. units_at read n (before ++ u.0 ∷ []) u.1) (read before ws)
+units_at read (suc n) before ws =
+    then_read (λ u. units_at read n (before ++ u.0 ∷ []) u.1) (read before ws)
 
 abbrev pub root_after : Counts → List Root → List ℕ → Result (Root × List ℕ) Stop
 root_after c before ws = fitting (root_fault c before) (root_at ws)
@@ -81,7 +105,8 @@ base_after roots before ws = fitting (base_fault roots before) (base_at ws)
 unfoldable pub face_after : Hierarchy → Unfinished → List ℕ → Result (Unfinished × List ℕ) Stop
 face_after h p ws =
     read_map (λ f. (with_face p (next_face f.0.face f.0.first f.0.second), f.1))
-    (fitting (λ f. new_face_fault (with_record h p.split) p.left_due f.face f.first f.second) (new_face_at ws))
+    (fitting (λ f. new_face_fault (with_record h p.split) p.left_due f.face f.first f.second)
+    (new_face_at ws))
 
 abbrev pub face_if : Bool → Hierarchy → Unfinished → List ℕ → Result (Unfinished × List ℕ) Stop
 face_if due h p ws = if due then face_after h p ws else Ok (p, ws)
@@ -93,10 +118,13 @@ faces_after h p ws = then_read (λ q. face_if q.0.right_due h q.0 q.1) (face_if 
 -- The next record after h: its head, and then its faces.
 unfoldable pub record_after : Hierarchy → List ℕ → Result (Record × List ℕ) Stop
 record_after h ws =
-    then_read (λ d. read_map (λ p. (p.0.split, p.1)) (faces_after h (started d.0) d.1)) (fitting (head_fault h) (head_at ws))
+    then_read (λ d. read_map (λ p. (p.0.split, p.1)) (faces_after h (started d.0) d.1))
+    (fitting (head_fault h) (head_at ws))
 
-abbrev pub record_after_all : List Root → List Face → List Record → List ℕ → Result (Record × List ℕ) Stop
-record_after_all roots bases before ws = record_after (record { roots = roots; bases = bases; records = before }) ws
+abbrev pub record_after_all : List Root → List Face → List Record → List ℕ
+    → Result (Record × List ℕ) Stop
+record_after_all roots bases before ws = record_after
+    (record { roots = roots; bases = bases; records = before }) ws
 
 -- The counts of a header.
 abbrev pub counts_at : List ℕ → Option (Counts × List ℕ)
@@ -110,7 +138,8 @@ told_digits [] = Err stops.End
 
 -- How many decimals coordinates have. The first word is the magic, which is judged by its bytes.
 unfoldable pub digits_at : List ℕ → Result (ℕ × List ℕ) Stop
-digits_at (magic ∷ version ∷ ws) = if version == 1 then Ok (0, ws) else if version == 2 then told_digits ws else Err (stops.Version version)
+digits_at (magic ∷ version ∷ ws) = if version == 1 then Ok (0, ws) else if version == 2 then
+    told_digits ws else Err (stops.Version version)
 digits_at _ = Err stops.End
 
 -- The version, and in version 2 the number of decimals, is judged before the counts.
@@ -128,10 +157,13 @@ rest_at c ws =
     then_read (λ r. then_read (λ b. then_read (λ n.
     let h : Hierarchy = record { roots = r.0; bases = b.0; records = n.0 } in
     judged (past_fault h) (h, n.1))
-    (units_at (record_after_all r.0 b.0) c.records [] b.1)) (units_at (base_after r.0) c.bases [] r.1)) (units_at (root_after c) c.roots [] ws)
+    (units_at (record_after_all r.0 b.0) c.records [] b.1))
+    (units_at (base_after r.0) c.bases [] r.1)) (units_at (root_after c) c.roots [] ws)
 
 unfoldable pub forest_at : List ℕ → Result (Hierarchy × List ℕ) Stop
-forest_at ws = then_read (λ c. if counts_are_bad c.0 then Err (stops.Fault shapes.BadCount) else rest_at c.0 c.1) (header_at ws)
+forest_at ws =
+    then_read (λ c. if counts_are_bad c.0 then Err (stops.Fault shapes.BadCount)
+    else rest_at c.0 c.1) (header_at ws)
 
 -- A shaper, and the words that are left, once it took in what was read.
 abbrev pub took_root : Shaping → Root × List ℕ → Shaping × List ℕ

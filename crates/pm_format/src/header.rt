@@ -1,5 +1,6 @@
 //! The header of a stream text that comes in pieces.
-ghost use Rattle.std.specs.Prelude.{◌≡◌, ◌≤◌, ◌<◌, ◌-◌, ◌⊎◌, ◌++◌, length, take, min, Some, None, Ok, Err};
+ghost use Rattle.std.specs.Prelude.{◌≡◌, ◌≤◌, ◌<◌, ◌-◌, ◌⊎◌, ◌++◌, length, take, min, Some, None};
+ghost use Rattle.std.specs.Prelude.{Ok, Err};
 ghost use Rattle.pm_format.specs.Faults.{magic_is_bad};
 ghost use Rattle.pm_format.specs.Standing.{header_bytes, JudgesHeader, stage_of};
 
@@ -42,7 +43,8 @@ pub fn gather(held: &mut Held, piece: &[u8]) -> usize
     ensures within { result ≤ length piece.now }
     ensures held { held.new.items ≡ held.old.items ++ take result piece.now }
     ensures short { length held.new.items ≤ header_bytes held.new.items }
-    ensures all { (result ≡ length piece.now) ⊎ (length held.new.items ≡ header_bytes held.new.items) }
+    ensures all { (result ≡ length piece.now)
+        ⊎ (length held.new.items ≡ header_bytes held.new.items) }
 {
     let version = fill(held, piece, 8);
     let size = header_size(held.as_slice());
@@ -73,7 +75,8 @@ fn stopped(stop: Stop) -> Stage
 pub fn judge_header(alloc: Global, bytes: &[u8]) -> Stage
     requires short { length bytes.now ≤ header_bytes bytes.now }
     ensures judged { JudgesHeader bytes.now result }
-    ensures memory { result ≡ Stage.Refused FormatError.OutOfMemory → header_bytes bytes.now ≤ length bytes.now }
+    ensures memory { result ≡ Stage.Refused FormatError.OutOfMemory
+        → header_bytes bytes.now ≤ length bytes.now }
 {
     if is_magic_bad(bytes) {
         return Stage::Refused(FormatError::BadMagic);

@@ -29,7 +29,8 @@ impl<'a> Words<'a> {
 
     /// The next word, where four bytes are left.
     pub fn next_word(&mut self) -> Option<u32>
-        ensures { MatchOption result ((self.old ≡ []) × (self.new ≡ [])) (λ w. self.old ≡ w ∷ self.new) }
+        ensures { MatchOption result ((self.old ≡ []) × (self.new ≡ []))
+            (λ w. self.old ≡ w ∷ self.new) }
     {
         if self.rest.len() < 4 {
             return None;

@@ -5,7 +5,8 @@ ghost use Rattle.pm_io.specs.Puts.{Puts, PutsThrough};
 ghost use Rattle.pm_forest.specs.Forest.{leaf_count, record_count};
 ghost use Rattle.pm_forest.specs.Rules.{word_of};
 ghost use Rattle.pm_format.specs.Words.{spelled, AreWords};
-ghost use Rattle.pm_format.specs.Stream.{header_words, root_words, base_words, head_words, new_face_words, record_words, stream};
+ghost use Rattle.pm_format.specs.Stream.{header_words, root_words, base_words, head_words};
+ghost use Rattle.pm_format.specs.Stream.{new_face_words, record_words, stream};
 
 use crate::units::{MAGIC, WHOLE, WITH_DIGITS};
 use byteorder::{ByteOrder, LittleEndian};
@@ -135,7 +136,8 @@ fn put_new_face<K: Sink>(
     out: &mut K,
 ) -> Result<(), WriteFault>
     requires { AreWords (new_face_words new) }
-    ensures { PutsThrough K.Sink out.old out.new page.old page.new (spelled (new_face_words new)) result }
+    ensures { PutsThrough K.Sink out.old out.new page.old page.new (spelled (new_face_words new))
+        result }
 {
     match new {
         None => Ok(()),
@@ -144,7 +146,8 @@ fn put_new_face<K: Sink>(
 }
 
 fn put_head<K: Sink>(split: &Record, page: &mut Page, out: &mut K) -> Result<(), WriteFault>
-    ensures { PutsThrough K.Sink out.old out.new page.old page.new (spelled (head_words split.now)) result }
+    ensures { PutsThrough K.Sink out.old out.new page.old page.new (spelled (head_words split.now))
+        result }
 {
     put_words(&head_words(split), page, out)
 }
@@ -152,7 +155,8 @@ fn put_head<K: Sink>(split: &Record, page: &mut Page, out: &mut K) -> Result<(),
 fn put_record<K: Sink>(split: &Record, page: &mut Page, out: &mut K) -> Result<(), WriteFault>
     requires left { AreWords (new_face_words split.now.left) }
     requires right { AreWords (new_face_words split.now.right) }
-    ensures { PutsThrough K.Sink out.old out.new page.old page.new (spelled (record_words split.now)) result }
+    ensures { PutsThrough K.Sink out.old out.new page.old page.new
+        (spelled (record_words split.now)) result }
 {
     put_head(split, page, out)?;
     put_new_face(split.left, page, out)?;
@@ -190,9 +194,10 @@ fn put_records<K: Sink>(h: &Hierarchy, page: &mut Page, out: &mut K) -> Result<(
     Ok(())
 }
 
-/// Writes the stream text of a hierarchy whose coordinates have so many decimals, at most four. After a fault the sink has
-/// gained a part of the text from its front, and not the whole. It takes no memory, and time linear in the text. The text
-/// is put in pages of 4,096 bytes, of which the last may be shorter.
+/// Writes the stream text of a hierarchy whose coordinates have so many decimals, at most four.
+/// After a fault the sink has gained a part of the text from its front, and not the whole. It takes
+/// no memory, and time linear in the text. The text is put in pages of 4,096 bytes, of which the
+/// last may be shorter.
 pub fn encode<K: Sink>(h: &Hierarchy, digits: u32, out: &mut K) -> Result<(), WriteFault>
     requires { digits ≤ 4 }
     ensures { Puts K.Sink out.old out.new (stream digits h.now) result }

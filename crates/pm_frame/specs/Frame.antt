@@ -11,15 +11,19 @@ use Rattle.pm_front.specs.Shown.{active_nodes, kept_faces}
 
 -- `frame V F`
 unfoldable pub head_line : ℕ → ℕ → List ℕ
-head_line vertices faces = codes "frame " ++ decimal vertices ++ codes " " ++ decimal faces ++ codes "\n"
+head_line vertices faces =
+    codes "frame " ++ decimal vertices ++ codes " " ++ decimal faces ++ codes "\n"
 
 -- `v NODE X Y Z`
 unfoldable pub node_line : ℕ → Place → List ℕ
-node_line v p = codes "v " ++ decimal v ++ codes " " ++ signed_decimal p.x ++ codes " " ++ signed_decimal p.y ++ codes " " ++ signed_decimal p.z ++ codes "\n"
+node_line v p = codes "v " ++ decimal v ++ codes " " ++ signed_decimal p.x ++ codes " "
+    ++ signed_decimal p.y ++ codes " " ++ signed_decimal p.z ++ codes "\n"
 
 -- `f FACE A B C`
 unfoldable pub shown_face_line : ℕ → ℕ → ℕ → ℕ → List ℕ
-shown_face_line f a b c = codes "f " ++ decimal f ++ codes " " ++ decimal a ++ codes " " ++ decimal b ++ codes " " ++ decimal c ++ codes "\n"
+shown_face_line f a b c =
+    codes "f " ++ decimal f ++ codes " " ++ decimal a ++ codes " " ++ decimal b ++ codes " "
+    ++ decimal c ++ codes "\n"
 
 unfoldable pub end_line : List ℕ
 end_line = codes "end\n"
@@ -30,7 +34,9 @@ shown_node h v = node_line v (place_of_node h v)
 
 -- A kept face, with the ancestors of its corners in the face's corner order.
 abbrev pub shown_face : Hierarchy → (ℕ → Bool) → ℕ → List ℕ
-shown_face h T f = shown_face_line f (ancestor_of h T (from_leaf h (3 * f))) (ancestor_of h T (from_leaf h (3 * f + 1))) (ancestor_of h T (from_leaf h (3 * f + 2)))
+shown_face h T f =
+    shown_face_line f (ancestor_of h T (from_leaf h (3 * f)))
+    (ancestor_of h T (from_leaf h (3 * f + 1))) (ancestor_of h T (from_leaf h (3 * f + 2)))
 
 -- The first line, with how many nodes are active and how many faces are kept.
 abbrev pub first_line : Hierarchy → (ℕ → Bool) → List ℕ

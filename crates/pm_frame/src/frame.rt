@@ -5,7 +5,8 @@ ghost use Rattle.pm_forest.specs.Forest.{node_count};
 ghost use Rattle.pm_forest.specs.Faces.{face_count};
 ghost use Rattle.pm_base.specs.Counts.{set_of};
 ghost use Rattle.pm_forest.specs.Kept.{is_kept};
-ghost use Rattle.pm_frame.specs.Frame.{first_line, shown_node, node_lines, shown_face, face_lines, end_line, frame_text};
+ghost use Rattle.pm_frame.specs.Frame.{first_line, shown_node, node_lines, shown_face, face_lines};
+ghost use Rattle.pm_frame.specs.Frame.{end_line, frame_text};
 
 use crate::line::{put_end, put_face, put_head, put_node};
 use pm_base::{FaceId, NodeId};
@@ -58,9 +59,9 @@ fn put_shown(front: &Front, line: &mut Line, face: FaceId)
     put_face(line, face.0, a.0, b.0, c.0);
 }
 
-/// Adds a line for each kept face, with the ancestors of its corners, ascending by number: O(1) time
-/// for each, and for each 4,096 faces of the hierarchy. It takes no memory. After a fault the sink
-/// has gained a part of what the page held and the lines.
+/// Adds a line for each kept face, with the ancestors of its corners, ascending by number: O(1)
+/// time for each, and for each 4,096 faces of the hierarchy. It takes no memory. After a fault the
+/// sink has gained a part of what the page held and the lines.
 pub fn put_faces<K: Sink>(front: &Front, page: &mut Page, out: &mut K) -> Result<(), WriteFault>
     ensures { let text = face_lines front.now.h (set_of front.now.flags) in
         PutsThrough K.Sink out.old out.new page.old page.new text result }
@@ -85,12 +86,12 @@ pub fn put_last<K: Sink>(page: &mut Page, out: &mut K) -> Result<(), WriteFault>
     page.add(line.as_slice(), out)
 }
 
-/// Writes the frame text: the active nodes and the kept faces, ascending by number. A frame costs O(1)
-/// time for each of these, and for each 4,096 nodes and faces of the hierarchy. It takes no memory.
-/// After a fault the sink has gained a part of the text from its front, and not the whole.
+/// Writes the frame text: the active nodes and the kept faces, ascending by number. A frame costs
+/// O(1) time for each of these, and for each 4,096 nodes and faces of the hierarchy. It takes no
+/// memory. After a fault the sink has gained a part of the text from its front, and not the whole.
 ///
-/// The text is put in pages of 4,096 bytes, of which the last may be shorter: when the call returns,
-/// nothing is held back.
+/// The text is put in pages of 4,096 bytes, of which the last may be shorter: when the call
+/// returns, nothing is held back.
 #[tactic(auto, unfolding(crate::specs::Frame::frame_text))]
 pub fn write_frame<K: Sink>(front: &Front, out: &mut K) -> Result<(), WriteFault>
     ensures { Puts K.Sink out.old out.new (frame_text front.now.h (set_of front.now.flags)) result }

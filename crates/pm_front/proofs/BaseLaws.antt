@@ -1,5 +1,6 @@
 -- The base front: no record is split.
-use Rattle.std.proofs.Common.{◌≡◌, ℕ, ◌*◌, Bool, false, List, Option, length, replicate, sym, ap, ◌∙◌, subst}
+use Rattle.std.proofs.Common.{◌≡◌, ℕ, ◌*◌, Bool, false, List, Option, length, replicate, sym, ap}
+use Rattle.std.proofs.Common.{◌∙◌, subst}
 use Rattle.std.proofs.lemmas.Bool.{false≢true}
 use Rattle.std.proofs.lemmas.List.{length-replicate}
 use Rattle.pm_base.specs.Sides.{NoSideTwice}
@@ -26,19 +27,25 @@ module _ (h : Hierarchy) (flags : List Bool) (none : flags ≡ replicate (record
   unset = ap set_of none ∙ set_of-unset (record_count h)
 
   -- All of it at once.
-  pub base-refined : HasShape h → NoSideTwice (leaf_net h) → (corners : Lists) (active kept : Members) (table : List (Option ℕ)) →
-      corners.items ≡ 3 * face_count h → corners.lists ≡ base_lists h → active.bound ≡ node_count h → AreActive h no_records active.list →
-      kept.bound ≡ face_count h → AreShown h no_records kept.list → AreStored h no_records table → IsRefinement h flags corners active kept table
-  base-refined shape once corners active kept table items lists bound nodes kept_bound faces beyond = record {
-    shape = shape;
-    once = once;
-    flag_len = ap length none ∙ length-replicate (record_count h) false;
-    front = subst (λ (T : ℕ → Bool). IsFront h T) (sym unset) (base-front h);
-    corner_items = items;
-    corner_lists = subst (λ (T : ℕ → Bool). AreCorners h T corners.lists) (sym unset) (subst (AreCorners h no_records) (sym lists) (base-right h shape));
-    active_bound = bound;
-    active_list = subst (λ (T : ℕ → Bool). AreActive h T active.list) (sym unset) nodes;
-    kept_bound = kept_bound;
-    kept_list = subst (λ (T : ℕ → Bool). AreShown h T kept.list) (sym unset) faces;
-    beyond = subst (λ (T : ℕ → Bool). AreStored h T table) (sym unset) beyond;
-  }
+  pub base-refined : HasShape h → NoSideTwice (leaf_net h)
+      → (corners : Lists) (active kept : Members) (table : List (Option ℕ)) →
+      corners.items ≡ 3 * face_count h → corners.lists ≡ base_lists h → active.bound ≡ node_count h
+      → AreActive h no_records active.list →
+      kept.bound ≡ face_count h → AreShown h no_records kept.list → AreStored h no_records table
+      → IsRefinement h flags corners active kept table
+  base-refined shape once corners active kept table items lists bound nodes kept_bound faces
+      beyond = record {
+        shape = shape;
+        once = once;
+        flag_len = ap length none ∙ length-replicate (record_count h) false;
+        front = subst (λ (T : ℕ → Bool). IsFront h T) (sym unset) (base-front h);
+        corner_items = items;
+        corner_lists =
+            subst (λ (T : ℕ → Bool). AreCorners h T corners.lists) (sym unset)
+            (subst (AreCorners h no_records) (sym lists) (base-right h shape));
+        active_bound = bound;
+        active_list = subst (λ (T : ℕ → Bool). AreActive h T active.list) (sym unset) nodes;
+        kept_bound = kept_bound;
+        kept_list = subst (λ (T : ℕ → Bool). AreShown h T kept.list) (sym unset) faces;
+        beyond = subst (λ (T : ℕ → Bool). AreStored h T table) (sym unset) beyond;
+      }

@@ -1,5 +1,6 @@
 -- The counts of a set once a record comes to it or has left it.
-use Rattle.std.proofs.Common.{◌≡◌, ℕ, ◌+◌, ◌<◌, ◌≤◌, ◌^◌, Bool, false, List, length, get_or, replicate, Option, sym, ◌∙◌, arith}
+use Rattle.std.proofs.Common.{◌≡◌, ℕ, ◌+◌, ◌<◌, ◌≤◌, ◌^◌, Bool, false, List, length, get_or}
+use Rattle.std.proofs.Common.{replicate, Option, sym, ◌∙◌, arith}
 use Rattle.std.proofs.lemmas.List.{length-replicate, get_or-replicate}
 use Rattle.pm_forest.specs.Forest.{Hierarchy, record_count}
 use Rattle.pm_forest.specs.Fronts.{with, no_records}
@@ -9,28 +10,55 @@ use Rattle.pm_front.specs.Needed.{times_in, times_named, AreRaised, AreNeedCount
 use Rattle.pm_front.proofs.NamedLaws.{times_named-most}
 use Rattle.pm_front.proofs.NeedCountLaws.{need_count-most, need_count-with, need_count-empty}
 
-module _ (h : Hierarchy) (T : ℕ → Bool) (j : ℕ) (l : j < record_count h) (absent : T j ≡ false) (names : List (Option ℕ)) (named : (k : ℕ) → times_in k names ≡ times_named h j k) where
+module _ (h : Hierarchy) (T : ℕ → Bool) (j : ℕ) (l : j < record_count h) (absent : T j ≡ false)
+    (names : List (Option ℕ)) (named : (k : ℕ) → times_in k names ≡ times_named h j k) where
   -- Before a record comes, there is room for what it names.
-  pub room_left : HasShape h → (counts : List ℕ) → AreNeedCounts h T counts → (k : ℕ) → k < length counts → get_or counts k 0 + times_in k names < 2 ^ 32
+  pub room_left : HasShape h → (counts : List ℕ) → AreNeedCounts h T counts → (k : ℕ)
+      → k < length counts → get_or counts k 0 + times_in k names < 2 ^ 32
   room_left shape counts are k k_lt =
       let few = leaf_count-le h shape in
       let records = record_count-roots h shape in
-      omega (arith, are.len, are.each k (omega (arith, are.len)), need_count-most h T k, named k, times_named-most h j k, few, records)
+      omega (
+        arith,
+        are.len,
+        are.each k (omega (arith, are.len)),
+        need_count-most h T k,
+        named k,
+        times_named-most h j k,
+        few,
+        records,
+      )
 
-  pub counts_with : (old new : List ℕ) → AreNeedCounts h T old → AreRaised old new names → AreNeedCounts h (with T j) new
+  pub counts_with : (old new : List ℕ) → AreNeedCounts h T old → AreRaised old new names
+      → AreNeedCounts h (with T j) new
   counts_with old new are raised = record {
     len = raised.len ∙ are.len;
-    each = λ k k_lt. omega (arith, raised.each k (omega (arith, are.len)), are.each k k_lt, need_count-with h T j absent k l, named k);
+    each = λ k k_lt. omega (
+      arith,
+      raised.each k (omega (arith, are.len)),
+      are.each k k_lt,
+      need_count-with h T j absent k l,
+      named k,
+    );
   }
 
   -- Before a record is left out, what it names is counted.
-  pub names_counted : (counts : List ℕ) → AreNeedCounts h (with T j) counts → (k : ℕ) → k < length counts → times_in k names ≤ get_or counts k 0
-  names_counted counts are k k_lt = omega (arith, are.each k (omega (arith, are.len)), need_count-with h T j absent k l, named k)
+  pub names_counted : (counts : List ℕ) → AreNeedCounts h (with T j) counts → (k : ℕ)
+      → k < length counts → times_in k names ≤ get_or counts k 0
+  names_counted counts are k k_lt =
+      omega (arith, are.each k (omega (arith, are.len)), need_count-with h T j absent k l, named k)
 
-  pub counts_without : (old new : List ℕ) → AreNeedCounts h (with T j) old → AreRaised new old names → AreNeedCounts h T new
+  pub counts_without : (old new : List ℕ) → AreNeedCounts h (with T j) old → AreRaised new old names
+      → AreNeedCounts h T new
   counts_without old new are raised = record {
     len = sym raised.len ∙ are.len;
-    each = λ k k_lt. omega (arith, raised.each k (omega (arith, are.len, raised.len)), are.each k k_lt, need_count-with h T j absent k l, named k);
+    each = λ k k_lt. omega (
+      arith,
+      raised.each k (omega (arith, are.len, raised.len)),
+      are.each k k_lt,
+      need_count-with h T j absent k l,
+      named k,
+    );
   }
 
 -- The counts of the empty set are zero.

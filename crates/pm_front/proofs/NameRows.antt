@@ -1,5 +1,6 @@
 -- The rows of a table of names.
-use Rattle.std.proofs.Common.{◌≡◌, ℕ, ◌+◌, ◌<◌, List, [], ◌∷◌, ◌++◌, length, get_or, Option, inl, inr, refl, sym, ap, ◌∙◌, subst, arith}
+use Rattle.std.proofs.Common.{◌≡◌, ℕ, ◌+◌, ◌<◌, List, [], ◌∷◌, ◌++◌, length, get_or, Option, inl}
+use Rattle.std.proofs.Common.{inr, refl, sym, ap, ◌∙◌, subst, arith}
 use Rattle.std.proofs.Math.ListN.{get_or-append}
 use Rattle.std.proofs.Math.Seq.{get_or-append_seam}
 use Rattle.std.specs.List.{All}
@@ -9,29 +10,43 @@ use Rattle.pm_forest.specs.Forest.{Hierarchy}
 use Rattle.pm_front.specs.Needed.{AreNamesOf}
 
 -- The items of a list of five, read one by one, are the list.
-pub five_are : {X : Type 0} (xs : List X) (a b c x y d e f g h : X) → length xs ≡ 5 → a ≡ get_or xs 0 d → b ≡ get_or xs 1 e → c ≡ get_or xs 2 f → x ≡ get_or xs 3 g → y ≡ get_or xs 4 h →
+pub five_are : {X : Type 0} (xs : List X) (a b c x y d e f g h : X) → length xs ≡ 5
+    → a ≡ get_or xs 0 d → b ≡ get_or xs 1 e → c ≡ get_or xs 2 f → x ≡ get_or xs 3 g
+    → y ≡ get_or xs 4 h →
     a ∷ b ∷ c ∷ x ∷ y ∷ [] ≡ xs
 five_are [] a b c x y d e f g h five is_a is_b is_c is_x is_y = absurd (omega arith)
 five_are (p ∷ []) a b c x y d e f g h five is_a is_b is_c is_x is_y = absurd (omega arith)
 five_are (p ∷ q ∷ []) a b c x y d e f g h five is_a is_b is_c is_x is_y = absurd (omega arith)
 five_are (p ∷ q ∷ r ∷ []) a b c x y d e f g h five is_a is_b is_c is_x is_y = absurd (omega arith)
-five_are (p ∷ q ∷ r ∷ s ∷ []) a b c x y d e f g h five is_a is_b is_c is_x is_y = absurd (omega arith)
-five_are (p ∷ q ∷ r ∷ s ∷ t ∷ []) a b c x y d e f g h five is_a is_b is_c is_x is_y = (rw (is_a, is_b, is_c, is_x, is_y) refl)
-five_are (p ∷ q ∷ r ∷ s ∷ t ∷ u ∷ xs) a b c x y d e f g h five is_a is_b is_c is_x is_y = absurd (omega arith)
+five_are (p ∷ q ∷ r ∷ s ∷ []) a b c x y d e f g h five is_a is_b is_c is_x is_y =
+    absurd (omega arith)
+five_are (p ∷ q ∷ r ∷ s ∷ t ∷ []) a b c x y d e f g h five is_a is_b is_c is_x is_y =
+    (rw (is_a, is_b, is_c, is_x, is_y) refl)
+five_are (p ∷ q ∷ r ∷ s ∷ t ∷ u ∷ xs) a b c x y d e f g h five is_a is_b is_c is_x is_y =
+    absurd (omega arith)
 
 -- What holds of each of five holds of the list of them.
-pub all_five : {X : Type 0} (P : X → Type 0) (a b c x y : X) → P a → P b → P c → P x → P y → All P (a ∷ b ∷ c ∷ x ∷ y ∷ [])
+pub all_five : {X : Type 0} (P : X → Type 0) (a b c x y : X) → P a → P b → P c → P x → P y
+    → All P (a ∷ b ∷ c ∷ x ∷ y ∷ [])
 all_five P a b c x y of_a of_b of_c of_x of_y =
-    All-cons P a (b ∷ c ∷ x ∷ y ∷ []) of_a (All-cons P b (c ∷ x ∷ y ∷ []) of_b (All-cons P c (x ∷ y ∷ []) of_c (All-cons P x (y ∷ []) of_x (All-cons P y [] of_y (All-nil P)))))
+    All-cons P a (b ∷ c ∷ x ∷ y ∷ []) of_a
+    (All-cons P b (c ∷ x ∷ y ∷ []) of_b
+    (All-cons P c (x ∷ y ∷ []) of_c
+    (All-cons P x (y ∷ []) of_x (All-cons P y [] of_y (All-nil P)))))
 
 -- One more row.
-pub row_more : (h : Hierarchy) (rows : List (List (Option ℕ))) (k : ℕ) → length rows ≡ k → ((j : ℕ) → j < k → AreNamesOf h j (get_or rows j [])) → (row : List (Option ℕ)) → AreNamesOf h k row →
+pub row_more : (h : Hierarchy) (rows : List (List (Option ℕ))) (k : ℕ) → length rows ≡ k
+    → ((j : ℕ) → j < k → AreNamesOf h j (get_or rows j [])) → (row : List (Option ℕ))
+    → AreNamesOf h k row →
     (j : ℕ) → j < k + 1 → AreNamesOf h j (get_or (rows ++ row ∷ []) j [])
 row_more h rows k len each row named j l =
     elim (cases_lt j k) [
-      | inl before ↦ subst (AreNamesOf h j) (sym (get_or-append rows (row ∷ []) [] j (omega (arith, len)))) (each j before)
+      | inl before ↦
+          subst (AreNamesOf h j) (sym (get_or-append rows (row ∷ []) [] j (omega (arith, len))))
+          (each j before)
       | inr last ↦
           let at : k ≡ j = omega arith in
-          let seam = ap (λ n. get_or (rows ++ row ∷ []) n []) (sym at ∙ sym len) ∙ get_or-append_seam rows row [] [] in
+          let seam = ap (λ n. get_or (rows ++ row ∷ []) n []) (sym at ∙ sym len)
+          ∙ get_or-append_seam rows row [] [] in
           subst (AreNamesOf h j) (sym seam) (subst (λ n. AreNamesOf h n row) at named)
     ]

@@ -1,6 +1,9 @@
--- How often the records of a set name a record: zero exactly where none needs it, and the sum over the parts of a set.
-use Rattle.std.proofs.Common.{◌≡◌, ℕ, zero, suc, ◌+◌, ◌*◌, ◌<◌, ◌≤◌, eqb, Bool, true, false, not, ◌&&◌, ◌||◌, cond, inl, inr, refl, sym, ap, ◌∙◌, arith}
-use Rattle.std.proofs.lemmas.Bool.{cases_Bool, cases_eq, eq-eqb, ne_eqb, or_parts, and_from, and_parts, both_ways, false_from_ne_true, cond-true, cond-false}
+-- How often the records of a set name a record: zero exactly where none needs it, and the sum over
+-- the parts of a set.
+use Rattle.std.proofs.Common.{◌≡◌, ℕ, zero, suc, ◌+◌, ◌*◌, ◌<◌, ◌≤◌, eqb, Bool, true, false, not}
+use Rattle.std.proofs.Common.{◌&&◌, ◌||◌, cond, inl, inr, refl, sym, ap, ◌∙◌, arith}
+use Rattle.std.proofs.lemmas.Bool.{cases_Bool, cases_eq, eq-eqb, ne_eqb, or_parts, and_from}
+use Rattle.std.proofs.lemmas.Bool.{and_parts, both_ways, false_from_ne_true, cond-true, cond-false}
 use Rattle.pm_forest.specs.Forest.{Hierarchy, record_count}
 use Rattle.pm_forest.specs.Fronts.{with, no_records}
 use Rattle.pm_runs.proofs.PlaneCounts.{share-most}
@@ -10,14 +13,16 @@ use Rattle.pm_front.specs.Needed.{times_named, named_below, need_count, is_neede
 use Rattle.pm_front.proofs.NamedLaws.{times_named-none, times_named-some, times_named-most}
 
 -- The share of one record: in a set, in a part of it, and in what remains.
-share : (s f : Bool) (n : ℕ) → (f ≡ true → s ≡ true) → cond s n 0 ≡ cond f n 0 + cond (s && not f) n 0
+share : (s f : Bool) (n : ℕ) → (f ≡ true → s ≡ true)
+    → cond s n 0 ≡ cond f n 0 + cond (s && not f) n 0
 share true true n has = omega arith
 share true false n has = omega arith
 share false true n has = absurd (both_ways false refl (has refl))
 share false false n has = omega arith
 
 module _ (h : Hierarchy) where
-  below_more : (T : ℕ → Bool) (k n : ℕ) → named_below h T k (suc n) ≡ cond (T n) (times_named h n k) 0 + named_below h T k n
+  below_more : (T : ℕ → Bool) (k n : ℕ)
+      → named_below h T k (suc n) ≡ cond (T n) (times_named h n k) 0 + named_below h T k n
   unfolding named_below
   below_more T k n = refl
 
@@ -26,7 +31,8 @@ module _ (h : Hierarchy) where
   below_none T k = refl
 
   -- Sets with the same records have the same counts.
-  below_alike : (A B : ℕ → Bool) (k n : ℕ) → ((i : ℕ) → i < n → A i ≡ B i) → named_below h A k n ≡ named_below h B k n
+  below_alike : (A B : ℕ → Bool) (k n : ℕ) → ((i : ℕ) → i < n → A i ≡ B i)
+      → named_below h A k n ≡ named_below h B k n
   below_alike A B k zero same = below_none A k ∙ sym (below_none B k)
   below_alike A B k (suc n) same =
       let here = ap (λ b. cond b (times_named h n k) 0) (same n (omega arith)) in
@@ -36,24 +42,36 @@ module _ (h : Hierarchy) where
   -- No record's count is above five times the number of records.
   below_most : (T : ℕ → Bool) (k n : ℕ) → named_below h T k n ≤ 5 * n
   below_most T k zero = omega (arith, below_none T k)
-  below_most T k (suc n) = omega (arith, below_more T k n, below_most T k n, share-most (T n) (times_named h n k), times_named-most h n k)
+  below_most T k (suc n) =
+      omega (
+        arith,
+        below_more T k n,
+        below_most T k n,
+        share-most (T n) (times_named h n k),
+        times_named-most h n k,
+      )
 
   pub need_count-most : (T : ℕ → Bool) (k : ℕ) → need_count h T k ≤ 5 * record_count h
   need_count-most T k = below_most T k (record_count h)
 
   -- Zero exactly where no record of the set needs the record
-  unneeded-below : (T : ℕ → Bool) (k n : ℕ) → n ≤ record_count h → any_below (λ j. T j && needs h j k) n ≡ false → named_below h T k n ≡ 0
+  unneeded-below : (T : ℕ → Bool) (k n : ℕ) → n ≤ record_count h
+      → any_below (λ j. T j && needs h j k) n ≡ false → named_below h T k n ≡ 0
   unneeded-below T k zero l e = below_none T k
   unneeded-below T k (suc n) l e =
       let (here, later) = or_parts (T n && needs h n k) (any_below (λ j. T j && needs h j k) n) e in
       let rest = unneeded-below T k n (omega arith) later in
       let one : cond (T n) (times_named h n k) 0 ≡ 0 = elim (cases_Bool (T n)) [
-        | inl t ↦ cond-true (T n) (times_named h n k) 0 t ∙ times_named-none h n k (omega arith) (false_from_ne_true (needs h n k) (λ u. both_ways _ here (and_from (T n) (needs h n k) t u)))
+        | inl t ↦ cond-true (T n) (times_named h n k) 0 t
+            ∙ times_named-none h n k (omega arith)
+            (false_from_ne_true (needs h n k)
+            (λ u. both_ways _ here (and_from (T n) (needs h n k) t u)))
         | inr f ↦ cond-false (T n) (times_named h n k) 0 f
       ] in
       omega (arith, below_more T k n, one, rest)
 
-  uncounted-below : (T : ℕ → Bool) (k n : ℕ) → n ≤ record_count h → named_below h T k n ≡ 0 → any_below (λ j. T j && needs h j k) n ≡ false
+  uncounted-below : (T : ℕ → Bool) (k n : ℕ) → n ≤ record_count h → named_below h T k n ≡ 0
+      → any_below (λ j. T j && needs h j k) n ≡ false
   uncounted-below T k zero l e = refl
   uncounted-below T k (suc n) l e =
       let more = below_more T k n in
@@ -80,24 +98,35 @@ module _ (h : Hierarchy) where
   ]
 
   -- The counts of a set are those of a part of it and of what remains.
-  below_parts : (S F : ℕ → Bool) (k n : ℕ) → ((j : ℕ) → F j ≡ true → S j ≡ true) → named_below h S k n ≡ named_below h F k n + named_below h (remaining S F) k n
-  below_parts S F k zero has = omega (arith, below_none S k, below_none F k, below_none (remaining S F) k)
+  below_parts : (S F : ℕ → Bool) (k n : ℕ) → ((j : ℕ) → F j ≡ true → S j ≡ true)
+      → named_below h S k n ≡ named_below h F k n + named_below h (remaining S F) k n
+  below_parts S F k zero has =
+      omega (arith, below_none S k, below_none F k, below_none (remaining S F) k)
   below_parts S F k (suc n) has =
-      omega (arith, below_more S k n, below_more F k n, below_more (remaining S F) k n, below_parts S F k n has, share (S n) (F n) (times_named h n k) (has n))
+      omega (
+        arith,
+        below_more S k n,
+        below_more F k n,
+        below_more (remaining S F) k n,
+        below_parts S F k n has,
+        share (S n) (F n) (times_named h n k) (has n),
+      )
 
   module _ (S F : ℕ → Bool) (has : (j : ℕ) → F j ≡ true → S j ≡ true) (k : ℕ) where
     pub need_count-parts : need_count h S k ≡ need_count h F k + need_count h (remaining S F) k
     need_count-parts = below_parts S F k (record_count h) has
 
     -- They are the part's exactly where nothing that remains needs the record
-    pub remaining-unneeded : need_count h F k ≡ need_count h S k → is_needed h (remaining S F) k ≡ false
+    pub remaining-unneeded : need_count h F k ≡ need_count h S k
+        → is_needed h (remaining S F) k ≡ false
     remaining-unneeded e = unneeded-count (remaining S F) k (omega (arith, need_count-parts, e))
 
     pub remaining-same : is_needed h (remaining S F) k ≡ false → need_count h F k ≡ need_count h S k
     remaining-same e = omega (arith, need_count-parts, need_count-unneeded (remaining S F) k e)
 
     -- as a test.
-    pub remaining_test : eqb (need_count h F k) (need_count h S k) ≡ not (is_needed h (remaining S F) k)
+    pub remaining_test : eqb (need_count h F k) (need_count h S k)
+        ≡ not (is_needed h (remaining S F) k)
     remaining_test = elim (cases_Bool (is_needed h (remaining S F) k)) [
       | inl t ↦ ne_eqb _ _ (λ e. both_ways _ (remaining-unneeded e) t) ∙ ap not (sym t)
       | inr f ↦ eq-eqb _ _ (remaining-same f) ∙ ap not (sym f)
@@ -114,22 +143,28 @@ module _ (h : Hierarchy) where
   -- A record more.
   module _ (T : ℕ → Bool) (j : ℕ) (absent : T j ≡ false) (k : ℕ) where
     before_it : (n : ℕ) → n ≤ j → named_below h (with T j) k n ≡ named_below h T k n
-    before_it n l = below_alike (with T j) T k n (λ i m. cond-false (eqb i j) true (T i) (ne_eqb i j (omega arith)))
+    before_it n l =
+        below_alike (with T j) T k n
+        (λ i m. cond-false (eqb i j) true (T i) (ne_eqb i j (omega arith)))
 
-    past_it : (n : ℕ) → j < n → named_below h (with T j) k n ≡ named_below h T k n + times_named h j k
+    past_it : (n : ℕ) → j < n
+        → named_below h (with T j) k n ≡ named_below h T k n + times_named h j k
     past_it zero l = absurd (omega arith)
     past_it (suc n) l = elim (cases_eq n j) [
       | inl is ↦
           let rest = before_it n (omega arith) in
-          let one = cond-true (with T j n) (times_named h n k) 0 (cond-true (eqb n j) true (T n) (eq-eqb n j is)) in
+          let one = cond-true (with T j n) (times_named h n k) 0
+          (cond-true (eqb n j) true (T n) (eq-eqb n j is)) in
           let none = cond-false (T n) (times_named h n k) 0 (ap T is ∙ absent) in
           let same = ap (λ i. times_named h i k) is in
           omega (arith, below_more (with T j) k n, below_more T k n, rest, one, none, same)
       | inr other ↦
           let rest = past_it n (omega arith) in
-          let same = ap (λ b. cond b (times_named h n k) 0) (cond-false (eqb n j) true (T n) (ne_eqb n j other)) in
+          let same = ap (λ b. cond b (times_named h n k) 0)
+          (cond-false (eqb n j) true (T n) (ne_eqb n j other)) in
           omega (arith, below_more (with T j) k n, below_more T k n, rest, same)
     ]
 
-    pub need_count-with : j < record_count h → need_count h (with T j) k ≡ need_count h T k + times_named h j k
+    pub need_count-with : j < record_count h
+        → need_count h (with T j) k ≡ need_count h T k + times_named h j k
     need_count-with l = past_it (record_count h) l

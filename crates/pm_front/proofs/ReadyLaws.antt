@@ -1,5 +1,6 @@
 -- Fronts that keep the records of which their next moves are made.
-use Rattle.std.proofs.Common.{◌≡◌, ℕ, ◌<◌, Bool, true, false, List, [], length, get_or, Option, sym, subst}
+use Rattle.std.proofs.Common.{◌≡◌, ℕ, ◌<◌, Bool, true, false, List, [], length, get_or, Option, sym}
+use Rattle.std.proofs.Common.{subst}
 use Rattle.std.proofs.Math.ListN.{set}
 use Rattle.pm_forest.specs.Forest.{Hierarchy, record_count}
 use Rattle.pm_forest.specs.Fronts.{with, without}
@@ -10,24 +11,31 @@ use Rattle.pm_front.specs.Candidates.{Candidates, AreCandidates}
 use Rattle.pm_front.specs.State.{State, IsSoundFront, IsReadyFront}
 
 -- What holds of what is read holds of what it is.
-pub as_read : (P : Hierarchy → List Bool → Type 0) (g h : Hierarchy) (fs flags : List Bool) → g ≡ h → fs ≡ flags → P g fs → P h flags
+pub as_read : (P : Hierarchy → List Bool → Type 0) (g h : Hierarchy) (fs flags : List Bool) → g ≡ h
+    → fs ≡ flags → P g fs → P h flags
 as_read P g h fs flags same is p = subst (λ (x : Hierarchy). P x flags) same (subst (P g) is p)
 
 -- a state with the same hierarchy and these flags
-pub ready-same : (s : State) (h : Hierarchy) (flags : List Bool) (c : Candidates) (names : List (List (Option ℕ))) → s.h ≡ h → s.flags ≡ flags → IsReadyFront h flags c names → IsReadyFront s.h s.flags c names
+pub ready-same : (s : State) (h : Hierarchy) (flags : List Bool) (c : Candidates)
+    (names : List (List (Option ℕ))) → s.h ≡ h → s.flags ≡ flags → IsReadyFront h flags c names
+    → IsReadyFront s.h s.flags c names
 ready-same s h flags c names same is ready =
-    as_read (λ (g : Hierarchy) (fs : List Bool). IsReadyFront g fs c names) h s.h flags s.flags (sym same) (sym is) ready
+    as_read (λ (g : Hierarchy) (fs : List Bool). IsReadyFront g fs c names) h s.h flags s.flags
+    (sym same) (sym is) ready
 
 -- After a move
-module _ (h : Hierarchy) (flags : List Bool) (k : ℕ) (l : k < length flags) (c : Candidates) (names : List (List (Option ℕ))) (rows : AreNames h names) where
-  pub split_ready : IsSoundFront h (set flags k true) → AreCandidates h (with (set_of flags) k) c → IsReadyFront h (set flags k true) c names
+module _ (h : Hierarchy) (flags : List Bool) (k : ℕ) (l : k < length flags) (c : Candidates)
+    (names : List (List (Option ℕ))) (rows : AreNames h names) where
+  pub split_ready : IsSoundFront h (set flags k true) → AreCandidates h (with (set_of flags) k) c
+      → IsReadyFront h (set flags k true) c names
   split_ready sound are = record {
     sound = sound;
     names = rows;
     candidates = subst (λ (T : ℕ → Bool). AreCandidates h T c) (sym (set_of-set flags k l)) are;
   }
 
-  pub collapse_ready : IsSoundFront h (set flags k false) → AreCandidates h (without (set_of flags) k) c → IsReadyFront h (set flags k false) c names
+  pub collapse_ready : IsSoundFront h (set flags k false)
+      → AreCandidates h (without (set_of flags) k) c → IsReadyFront h (set flags k false) c names
   collapse_ready sound are = record {
     sound = sound;
     names = rows;
@@ -35,5 +43,9 @@ module _ (h : Hierarchy) (flags : List Bool) (k : ℕ) (l : k < length flags) (c
   }
 
 -- The row of a record has its names.
-pub row_named : (h g : Hierarchy) (names : List (List (Option ℕ))) → AreNames h names → g ≡ h → (k : ℕ) → k < record_count h → (row : List (Option ℕ)) → row ≡ get_or names k [] → AreNamesOf g k row
-row_named h g names rows same k l row is = subst (λ (x : Hierarchy). AreNamesOf x k row) (sym same) (subst (AreNamesOf h k) (sym is) (rows.each k l))
+pub row_named : (h g : Hierarchy) (names : List (List (Option ℕ))) → AreNames h names → g ≡ h
+    → (k : ℕ) → k < record_count h → (row : List (Option ℕ)) → row ≡ get_or names k []
+    → AreNamesOf g k row
+row_named h g names rows same k l row is =
+    subst (λ (x : Hierarchy). AreNamesOf x k row) (sym same)
+    (subst (AreNamesOf h k) (sym is) (rows.each k l))

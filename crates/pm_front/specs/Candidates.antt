@@ -1,6 +1,7 @@
--- The records of which the next moves of a front are made: those that wait for a split, those that may be collapsed, and
--- how often each is needed.
-use Rattle.std.specs.Prelude.{◌≡◌, ℕ, ◌<◌, ◌==◌, Bool, false, not, ◌&&◌, ◌||◌, List, length, replicate, Option, slice_index_or}
+-- The records of which the next moves of a front are made: those that wait for a split, those that
+-- may be collapsed, and how often each is needed.
+use Rattle.std.specs.Prelude.{◌≡◌, ℕ, ◌<◌, ◌==◌, Bool, false, not, ◌&&◌, ◌||◌, List, length}
+use Rattle.std.specs.Prelude.{replicate, Option, slice_index_or}
 use Rattle.pm_forest.specs.Forest.{Hierarchy, record_count}
 use Rattle.pm_base.specs.Counts.{set_of}
 use Rattle.pm_forest.specs.Moves.{may_try}
@@ -14,14 +15,19 @@ pub record Candidates : Type 0 where
 
 -- Those of no record at all.
 abbrev pub no_candidates : ℕ → Candidates
-no_candidates n = record { counts = replicate n 0; waiting = replicate n false; unneeded = replicate n false }
+no_candidates n = record {
+  counts = replicate n 0;
+  waiting = replicate n false;
+  unneeded = replicate n false;
+}
 
 -- The flags are the answers of a test on records.
 pub record AreAnswers (h : Hierarchy) (test : ℕ → Bool) (flags : List Bool) : Type 0 where
   pub len : length flags ≡ record_count h
   pub each : (k : ℕ) → k < record_count h → set_of flags k ≡ test k
 
--- The counts are those of T; the records that wait are those that aren't split and whose nodes are active.
+-- The counts are those of T; the records that wait are those that aren't split and whose nodes are
+-- active.
 pub record AreCandidates (h : Hierarchy) (T : ℕ → Bool) (c : Candidates) : Type 0 where
   pub counts : AreNeedCounts h T c.counts
   pub waiting : AreAnswers h (may_try h T) c.waiting

@@ -1,5 +1,7 @@
--- Records that a set needs, how often its records name them, and what remains of a set once some records are gone.
-use Rattle.std.specs.Prelude.{◌≡◌, ℕ, zero, suc, ◌+◌, ◌<◌, Bool, cond, ◌&&◌, not, List, ◌∷◌, map, filter, length, Option, None, Some, [], IfSome, slice_index_or}
+-- Records that a set needs, how often its records name them, and what remains of a set once some
+-- records are gone.
+use Rattle.std.specs.Prelude.{◌≡◌, ℕ, zero, suc, ◌+◌, ◌<◌, Bool, cond, ◌&&◌, not, List, ◌∷◌, map}
+use Rattle.std.specs.Prelude.{filter, length, Option, None, Some, [], IfSome, slice_index_or}
 use Rattle.std.specs.List.{All}
 use Rattle.pm_base.specs.declared.ids.Side.{Side}
 use Rattle.pm_forest.specs.Forest.{Hierarchy, record_at, record_count, s_of, maker_of}
@@ -16,8 +18,8 @@ is_needed h T k = any_below (λ j. T j && needs h j k) (record_count h)
 abbrev pub is_unneeded : Hierarchy → (ℕ → Bool) → ℕ → Bool
 is_unneeded h T k = T k && not (is_needed h T k)
 
--- What record j needs, once for each reason: the record that made its node, and those that reveal the faces of its
--- recorded neighbours.
+-- What record j needs, once for each reason: the record that made its node, and those that reveal
+-- the faces of its recorded neighbours.
 abbrev pub named_by : Hierarchy → ℕ → List (Option ℕ)
 named_by h j = maker_of h (s_of h j) ∷ map (λ e. record_of h e) (neighbours_of (record_at h j))
 
@@ -34,8 +36,8 @@ times_in k names = length (filter (is_at k) names)
 abbrev pub times_named : Hierarchy → ℕ → ℕ → ℕ
 times_named h j k = times_in k (named_by h j)
 
--- These are the names of what record k needs, in some order, each below the number of records. None stands where nothing
--- is named.
+-- These are the names of what record k needs, in some order, each below the number of records. None
+-- stands where nothing is named.
 pub record AreNamesOf (h : Hierarchy) (k : ℕ) (names : List (Option ℕ)) : Type 0 where
   pub there : All (λ name. IfSome name (λ j. j < record_count h)) names
   pub times : (j : ℕ) → times_in j names ≡ times_named h k j
@@ -62,7 +64,8 @@ pub record AreNeedCounts (h : Hierarchy) (T : ℕ → Bool) (counts : List ℕ) 
 -- The count of each record goes up by how often it is among these names.
 pub record AreRaised (old new : List ℕ) (names : List (Option ℕ)) : Type 0 where
   pub len : length new ≡ length old
-  pub each : (k : ℕ) → k < length old → slice_index_or new k 0 ≡ slice_index_or old k 0 + times_in k names
+  pub each : (k : ℕ) → k < length old
+      → slice_index_or new k 0 ≡ slice_index_or old k 0 + times_in k names
 
 -- The records of S but those that are gone.
 abbrev pub remaining : (ℕ → Bool) → (ℕ → Bool) → ℕ → Bool

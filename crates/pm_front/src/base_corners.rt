@@ -1,4 +1,5 @@
-//! The corner lists of the base front, made of the corners of base faces alone: it has no other corners.
+//! The corner lists of the base front, made of the corners of base faces alone: it has no other
+//! corners.
 ghost use Rattle.std.specs.Prelude.{◌≡◌, ◌*◌};
 ghost use Rattle.pm_links.specs.Lists.{empty_lists};
 ghost use Rattle.pm_forest.specs.Forest.{node_count};
@@ -41,8 +42,9 @@ fn gather(indexed: &IndexedHierarchy, corners: &mut Links)
     }
 }
 
-/// The corner lists of the base front, where all lists are empty. It goes once through the base faces' corners and once
-/// through the records, each time from the last one down, and takes no memory.
+/// The corner lists of the base front, where all lists are empty. It goes once through the base
+/// faces' corners and once through the records, each time from the last one down, and takes no
+/// memory.
 pub(crate) fn base_corners(indexed: &IndexedHierarchy, corners: &mut Links)
     requires { corners.old ≡ empty_lists (3 * face_count indexed.now) (node_count indexed.now) }
     ensures items { corners.new.items ≡ corners.old.items }

@@ -1,5 +1,7 @@
-//! The records of which the next moves of a front are made, kept with each move, so that none has to be looked for.
-ghost use Rattle.std.specs.Prelude.{ℕ, ◌≡◌, ◌<◌, ◌≤◌, ◌+◌, ◌^◌, ◌∷◌, [], true, false, length, replicate, slice_index_or, IfOk, IfSome};
+//! The records of which the next moves of a front are made, kept with each move, so that none has
+//! to be looked for.
+ghost use Rattle.std.specs.Prelude.{ℕ, ◌≡◌, ◌<◌, ◌≤◌, ◌+◌, ◌^◌, ◌∷◌, [], true, false, length};
+ghost use Rattle.std.specs.Prelude.{replicate, slice_index_or, IfOk, IfSome};
 ghost use Rattle.std.specs.List.{All};
 ghost use Rattle.pm_forest.specs.Forest.{node_count, record_count, splitter_of};
 ghost use Rattle.pm_forest.specs.Fronts.{no_records, with, without};
@@ -8,7 +10,8 @@ ghost use Rattle.pm_forest.specs.Moves.{may_try};
 ghost use Rattle.pm_beyond.specs.Moves.{IsClosed, is_at};
 ghost use Rattle.pm_sets.specs.declared.set.TheConstants.{BOUND_LIMIT};
 ghost use Rattle.pm_front.specs.Needed.{times_in, AreNamesOf, AreRaised};
-ghost use Rattle.pm_front.specs.Candidates.{no_candidates, is_named, is_freed, AreAnswers, AreCleared, AreAdded, AreCandidates};
+ghost use Rattle.pm_front.specs.Candidates.{no_candidates, is_named, is_freed, AreAnswers};
+ghost use Rattle.pm_front.specs.Candidates.{AreCleared, AreAdded, AreCandidates};
 
 use crate::OutOfMemory;
 use crate::need_counts::NeedCounts;
@@ -18,8 +21,8 @@ use pm_sets::NumberSet;
 use std::alloc::Global;
 use std::marker::Model;
 
-/// The records that wait for a split, those that may be collapsed, and how often each is needed. Contracts see the counts
-/// and a flag for each record of either set.
+/// The records that wait for a split, those that may be collapsed, and how often each is needed.
+/// Contracts see the counts and a flag for each record of either set.
 #[derive(Drop)]
 pub(crate) struct Candidates {
     needs: NeedCounts,
@@ -68,7 +71,8 @@ fn free(needs: &mut NeedCounts, unneeded: &mut NumberSet, name: Option<u32>)
 // Counts each of these names once more.
 fn need_all(needs: &mut NeedCounts, unneeded: &mut NumberSet, names: &[Option<u32>])
     requires there { All (λ name. IfSome name (λ k. k < length needs.old)) names.now }
-    requires room { (k : ℕ) → k < length needs.old → slice_index_or needs.old k 0 + times_in k names.now < 2 ^ 32 }
+    requires room { (k : ℕ) → k < length needs.old
+        → slice_index_or needs.old k 0 + times_in k names.now < 2 ^ 32 }
     requires len { length unneeded.old ≡ length needs.old }
     ensures counts { AreRaised needs.old needs.new names.now }
     ensures unneeded { AreCleared unneeded.old unneeded.new (is_named names.now) }
@@ -81,7 +85,8 @@ fn need_all(needs: &mut NeedCounts, unneeded: &mut NumberSet, names: &[Option<u3
 // Counts each of these names once less.
 fn free_all(needs: &mut NeedCounts, unneeded: &mut NumberSet, names: &[Option<u32>])
     requires there { All (λ name. IfSome name (λ k. k < length needs.old)) names.now }
-    requires counted { (k : ℕ) → k < length needs.old → times_in k names.now ≤ slice_index_or needs.old k 0 }
+    requires counted { (k : ℕ) → k < length needs.old
+        → times_in k names.now ≤ slice_index_or needs.old k 0 }
     requires len { length unneeded.old ≡ length needs.old }
     ensures counts { AreRaised needs.new needs.old names.now }
     ensures unneeded { AreAdded unneeded.old unneeded.new (is_freed names.now needs.new) }
@@ -140,7 +145,8 @@ impl Candidates {
         })
     }
 
-    /// Those of the front in which no record is split: the records that split a root wait. O(roots).
+    /// Those of the front in which no record is split: the records that split a root wait.
+    /// O(roots).
     pub(crate) fn open(&mut self, h: &Hierarchy)
         requires { self.old ≡ no_candidates (record_count h.now) }
         ensures { AreCandidates h.now no_records self.new }
@@ -148,7 +154,8 @@ impl Candidates {
         add_roots(&mut self.waiting, h);
     }
 
-    /// Those after record `k`, which needs what these names tell, was split. The flags are those before. O(1).
+    /// Those after record `k`, which needs what these names tell, was split. The flags are those
+    /// before. O(1).
     pub(crate) fn split(&mut self, h: &Hierarchy, names: &[Option<u32>], _set: &[bool], k: u32)
         requires record { k < record_count h.now }
         requires names { AreNamesOf h.now k names.now }
@@ -166,7 +173,8 @@ impl Candidates {
         self.waiting.remove(k);
     }
 
-    /// Those after record `k`, which needs what these names tell, was collapsed. The flags are those before. O(1).
+    /// Those after record `k`, which needs what these names tell, was collapsed. The flags are
+    /// those before. O(1).
     pub(crate) fn collapse(&mut self, h: &Hierarchy, names: &[Option<u32>], _set: &[bool], k: u32)
         requires record { k < record_count h.now }
         requires names { AreNamesOf h.now k names.now }

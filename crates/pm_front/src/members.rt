@@ -1,5 +1,6 @@
 //! Different numbers below a bound, which can be walked in ascending order, and how many they are.
-ghost use Rattle.std.specs.Prelude.{◌≡◌, ℕ, ◌-◌, ◌<◌, ◌≤◌, ◌∷◌, ◌++◌, [], true, false, filter, length, IfOk, IfSome, IfNone};
+ghost use Rattle.std.specs.Prelude.{◌≡◌, ℕ, ◌-◌, ◌<◌, ◌≤◌, ◌∷◌, ◌++◌, [], true, false, filter};
+ghost use Rattle.std.specs.Prelude.{length, IfOk, IfSome, IfNone};
 ghost use Rattle.std.specs.List.{range_with_len};
 ghost use Rattle.pm_links.specs.Lists.{has, list_without, first_of, after, IsOnce};
 ghost use Rattle.pm_links.specs.declared.links.TheConstants.{LIMIT};
@@ -12,8 +13,8 @@ use pm_sets::NumberSet;
 use std::alloc::Global;
 use std::marker::Model;
 
-/// Contracts see the bound and the ascending list. `insert`, `remove`, `has` and `len` take O(1) time; a walk over all
-/// takes time linear in them and in a 4,096th of the bound.
+/// Contracts see the bound and the ascending list. `insert`, `remove`, `has` and `len` take O(1)
+/// time; a walk over all takes time linear in them and in a 4,096th of the bound.
 #[derive(Drop)]
 pub(crate) struct Members {
     numbers: NumberSet,

@@ -1,5 +1,6 @@
 //! The moves of a front.
-ghost use Rattle.std.specs.Prelude.{◌≡◌, ◌<◌, ◌↔◌, Some, None, IsOk, IfErr, OnOk, OnErr, MatchResult};
+ghost use Rattle.std.specs.Prelude.{◌≡◌, ◌<◌, ◌↔◌, Some, None, IsOk, IfErr, OnOk, OnErr};
+ghost use Rattle.std.specs.Prelude.{MatchResult};
 ghost use Rattle.pm_forest.specs.Forest.{record_count};
 ghost use Rattle.pm_forest.specs.Fronts.{with, without};
 ghost use Rattle.pm_base.specs.Counts.{set_of};
@@ -13,8 +14,9 @@ use crate::{Front, MoveFault};
 use pm_base::FaceId;
 
 impl Front {
-    /// Splits record `k` where that is legal: its node is active, it isn't split, and each recorded neighbour is kept.
-    /// `Blocked` names the first one that isn't, in the order left first, left second, right first, right second.
+    /// Splits record `k` where that is legal: its node is active, it isn't split, and each recorded
+    /// neighbour is kept. `Blocked` names the first one that isn't, in the order left first, left
+    /// second, right first, right second.
     pub fn split(&mut self, k: u32) -> Result<(), MoveFault>
         requires { k < record_count self.old.h }
         ensures answer { let fault = split_fault self.old.h (set_of self.old.flags) k in
@@ -43,7 +45,8 @@ impl Front {
         ensures hierarchy { self.new.h ≡ self.old.h }
         ensures surface { IsFirm self.old.h → IsSurfaceShown self.new.h (set_of self.new.flags) }
         ensures done { set_of self.new.flags ≡ with (set_of self.old.flags) k }
-        ensures corners { self.new.corners ≡ split_lists self.old.h (set_of self.old.flags) k self.old.corners }
+        ensures corners { self.new.corners ≡ split_lists self.old.h (set_of self.old.flags) k
+            self.old.corners }
     {
         let names = self.names.of(k);
         self.candidates.split(
@@ -55,10 +58,11 @@ impl Front {
         self.refinement.split(k);
     }
 
-    /// Collapses record `k` where that is legal: it is split, both children are active, and beyond each outer side of its
-    /// faces stands exactly the recorded neighbour. `Blocked` names the face that stands beyond the first side where
-    /// something else does, in the same order. That is a face of a greater split record. In a front a split record may be
-    /// collapsed exactly where no split record needs it.
+    /// Collapses record `k` where that is legal: it is split, both children are active, and beyond
+    /// each outer side of its faces stands exactly the recorded neighbour. `Blocked` names the face
+    /// that stands beyond the first side where something else does, in the same order. That is a
+    /// face of a greater split record. In a front a split record may be collapsed exactly where no
+    /// split record needs it.
     pub fn collapse(&mut self, k: u32) -> Result<(), MoveFault>
         requires { k < record_count self.old.h }
         ensures answer { let fault = collapse_fault self.old.h (set_of self.old.flags) k in
@@ -70,7 +74,8 @@ impl Front {
         ensures hierarchy { self.new.h ≡ self.old.h }
         ensures surface { IsFirm self.old.h → IsSurfaceShown self.new.h (set_of self.new.flags) }
         ensures done { OnOk result (set_of self.new.flags ≡ without (set_of self.old.flags) k) }
-        ensures corners { OnOk result (self.new.corners ≡ collapsed_lists self.old.h k self.old.corners) }
+        ensures corners { OnOk result
+            (self.new.corners ≡ collapsed_lists self.old.h k self.old.corners) }
         ensures refused { OnErr result (self.new ≡ self.old) }
     {
         match self.refinement.collapse_fault(k) {

@@ -16,8 +16,9 @@ use std::marker::Model;
 // The names of one record, in 20 bytes.
 type Row = [OptionalNumber; 5];
 
-/// What each record of a hierarchy needs: the maker of its node, and the revealers of the faces of its recorded neighbours.
-/// A move then reads one row, where it would look up each of these faces. Contracts see the rows.
+/// What each record of a hierarchy needs: the maker of its node, and the revealers of the faces of
+/// its recorded neighbours. A move then reads one row, where it would look up each of these faces.
+/// Contracts see the rows.
 #[derive(Drop)]
 pub(crate) struct NameTable {
     rows: Vec<Row>,
@@ -69,8 +70,8 @@ fn revealer(h: &Hierarchy, side: Option<Side>) -> Option<u32>
     h.revealed_by(side?.face())
 }
 
-// What record `k` needs, once for each reason; `None` where no neighbour is recorded, and where no record made a node
-// or revealed a face.
+// What record `k` needs, once for each reason; `None` where no neighbour is recorded, and where no
+// record made a node or revealed a face.
 fn names_of(h: &Hierarchy, k: u32) -> [Option<u32>; 5]
     requires { k < record_count h.now }
     ensures { AreNamesOf h.now k result }

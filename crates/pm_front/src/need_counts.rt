@@ -1,6 +1,7 @@
-//! For each record how often the records of a set name it among what they need, so that whether one of them needs it is
-//! answered by one look.
-ghost use Rattle.std.specs.Prelude.{ℕ, ◌≡◌, ◌<◌, ◌≤◌, ◌+◌, ◌^◌, false, [], ◌∷◌, length, replicate, slice_index_or, IfOk, IfSome};
+//! For each record how often the records of a set name it among what they need, so that whether one
+//! of them needs it is answered by one look.
+ghost use Rattle.std.specs.Prelude.{ℕ, ◌≡◌, ◌<◌, ◌≤◌, ◌+◌, ◌^◌, false, [], ◌∷◌, length, replicate};
+ghost use Rattle.std.specs.Prelude.{slice_index_or, IfOk, IfSome};
 ghost use Rattle.std.specs.List.{All};
 ghost use Rattle.pm_forest.specs.Forest.{record_count};
 ghost use Rattle.pm_forest.specs.Fronts.{with};
@@ -13,8 +14,9 @@ use pm_sets::NumberSet;
 use std::alloc::Global;
 use std::marker::Model;
 
-/// For each record how often the records of a set name it among what they need: the maker of a record's node, and the
-/// revealers of the faces of its recorded neighbours, once for each. Contracts see the counts.
+/// For each record how often the records of a set name it among what they need: the maker of a
+/// record's node, and the revealers of the faces of its recorded neighbours, once for each.
+/// Contracts see the counts.
 #[derive(Drop)]
 pub struct NeedCounts {
     counts: Vec<u32>,
@@ -31,7 +33,8 @@ impl Model for NeedCounts {
 // Counts each of these names once more.
 fn raise_all(needs: &mut NeedCounts, names: &[Option<u32>])
     requires there { All (λ name. IfSome name (λ k. k < length needs.old)) names.now }
-    requires room { (k : ℕ) → k < length needs.old → slice_index_or needs.old k 0 + times_in k names.now < 2 ^ 32 }
+    requires room { (k : ℕ) → k < length needs.old
+        → slice_index_or needs.old k 0 + times_in k names.now < 2 ^ 32 }
     ensures { AreRaised needs.old needs.new names.now }
 {
     for name in names {
@@ -42,7 +45,8 @@ fn raise_all(needs: &mut NeedCounts, names: &[Option<u32>])
 // Counts each of these names once less.
 fn lower_all(needs: &mut NeedCounts, names: &[Option<u32>])
     requires there { All (λ name. IfSome name (λ k. k < length needs.old)) names.now }
-    requires counted { (k : ℕ) → k < length needs.old → times_in k names.now ≤ slice_index_or needs.old k 0 }
+    requires counted { (k : ℕ) → k < length needs.old
+        → times_in k names.now ≤ slice_index_or needs.old k 0 }
     ensures { AreRaised needs.new needs.old names.now }
 {
     for name in names {

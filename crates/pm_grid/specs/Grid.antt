@@ -1,4 +1,5 @@
--- The grid of n times n cells, two faces a cell. Rows ascend with y, and in a row columns ascend with x.
+-- The grid of n times n cells, two faces a cell. Rows ascend with y, and in a row columns ascend
+-- with x.
 use Rattle.std.specs.Prelude.{ℕ, pos, ◌+◌, ◌*◌, ◌%◌, List, [], ◌∷◌, map}
 use Rattle.std.specs.List.{flat_map, range_with_len}
 use Rattle.pm_base.specs.Place.{Place}
@@ -18,7 +19,8 @@ height r c = (7 * (c * c) + 11 * (c * r) + 13 * (r * r)) % 97
 abbrev pub grid_point : ℕ → ℕ → Place
 grid_point r c = record { x = pos (100 * c); y = pos (100 * r); z = pos (height r c) }
 
--- The two faces of the cell whose least row and column these are; a diagonal from that corner parts them.
+-- The two faces of the cell whose least row and column these are; a diagonal from that corner parts
+-- them.
 abbrev pub lower_face : ℕ → ℕ → ℕ → Corners
 lower_face n r c = record { a = vertex n r c; b = vertex n r (c + 1); c = vertex n (r + 1) (c + 1) }
 

@@ -11,8 +11,10 @@ GridsAreManifolds = (n : ℕ) → 1 ≤ n → IsOrientedManifold (net_of (grid n
 
 -- It has n + 1 rows of n + 1 points, and two faces a cell.
 abbrev pub GridsAreCounted : Type 0
-GridsAreCounted = (n : ℕ) → (length (grid n).points ≡ (n + 1) * (n + 1)) × (length (grid n).faces ≡ n * (n * 2))
+GridsAreCounted =
+    (n : ℕ) → (length (grid n).points ≡ (n + 1) * (n + 1)) × (length (grid n).faces ≡ n * (n * 2))
 
--- It is a mesh within the limits: each corner is a point's number, and the corners of a face differ.
+-- It is a mesh within the limits: each corner is a point's number, and the corners of a face
+-- differ.
 abbrev pub GridsAreWellFormed : Type 0
 GridsAreWellFormed = (n : ℕ) → 1 ≤ n → n ≤ 256 → IsWellFormed (grid n)

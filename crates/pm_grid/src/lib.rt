@@ -1,4 +1,5 @@
-//! A grid of points with heights that look like chance, as a triangle mesh of any size up to 256 times 256 cells.
+//! A grid of points with heights that look like chance, as a triangle mesh of any size up to 256
+//! times 256 cells.
 #![tactic(auto)]
 
 mod mesh;

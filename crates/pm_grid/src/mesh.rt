@@ -7,8 +7,8 @@ use crate::OutOfMemory;
 use pm_base::{Corners, Mesh, Point, Points, Triples};
 use std::alloc::Global;
 
-/// The grid of n times n cells, n from 1 to 256: (n + 1) (n + 1) points, row by row, and two faces a cell. Columns and rows
-/// are 100 apart, along x and along y, and heights are from 0 to 96.
+/// The grid of n times n cells, n from 1 to 256: (n + 1) (n + 1) points, row by row, and two faces
+/// a cell. Columns and rows are 100 apart, along x and along y, and heights are from 0 to 96.
 ///
 /// Time and memory are linear in the number of cells.
 pub fn grid(alloc: Global, n: u32) -> Result<Mesh, OutOfMemory>

@@ -1,6 +1,7 @@
-//! Where bytes come from and where they go. Each device counts its failures, so that a caller that is generic over it can
-//! answer "it failed" only where the count says so.
-ghost use Rattle.std.specs.Prelude.{◌≡◌, ◌<◌, ◌≤◌, List, ℕ, Bool, false, Option, length, take, IfOk, OnErr};
+//! Where bytes come from and where they go. Each device counts its failures, so that a caller that
+//! is generic over it can answer "it failed" only where the count says so.
+ghost use Rattle.std.specs.Prelude.{◌≡◌, ◌<◌, ◌≤◌, List, ℕ, Bool, false, Option, length, take};
+ghost use Rattle.std.specs.Prelude.{IfOk, OnErr};
 ghost use Rattle.pm_io.specs.Bytes.{Loses, Gains, AtEnd};
 ghost use Rattle.pm_io.specs.Causes.{HasCause};
 
@@ -24,12 +25,13 @@ pub trait Source {
     /// How often the source has failed. The count never falls.
     ghost faults: { Self → ℕ };
 
-    /// Whether the source has ended: it answered that nothing is left, and isn't to be asked again. A source needn't keep
-    /// that: it may say that it never ends. Who takes any source can't count on it.
+    /// Whether the source has ended: it answered that nothing is left, and isn't to be asked again.
+    /// A source needn't keep that: it may say that it never ends. Who takes any source can't count
+    /// on it.
     ghost ended: { Self → Bool } = { λ _. false };
 
-    /// Takes the next bytes into the front of the buffer and answers how many: 0 exactly where nothing is left. Only after
-    /// that answer the source may have ended.
+    /// Takes the next bytes into the front of the buffer and answers how many: 0 exactly where
+    /// nothing is left. Only after that answer the source may have ended.
     fn take(&mut self, buf: &mut [u8]) -> Result<usize, Failed>
         requires room { 0 < length buf.old }
         requires not_ended { ended self.old ≡ false }
@@ -50,7 +52,8 @@ pub trait Sink {
     /// How often the sink has failed. The count never falls.
     ghost faults: { Self → ℕ };
 
-    /// Gives the sink a piece that isn't empty. It takes at least one byte from the front and answers how many.
+    /// Gives the sink a piece that isn't empty. It takes at least one byte from the front and
+    /// answers how many.
     fn put(&mut self, piece: &[u8]) -> Result<usize, Failed>
         requires { 0 < length piece.now }
         ensures some { IfOk result (λ n. 0 < n) }

@@ -1,4 +1,5 @@
-//! Sources and sinks of bytes, which count their failures, and the window, the line and the page of text over them.
+//! Sources and sinks of bytes, which count their failures, and the window, the line and the page of
+//! text over them.
 #![tactic(auto)]
 
 mod device;

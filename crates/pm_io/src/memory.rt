@@ -1,5 +1,7 @@
 //! Devices in memory, for tests and for callers that have their bytes already.
-ghost use Rattle.std.specs.Prelude.{◌≡◌, ◌+◌, ◌-◌, ◌^◌, ◌≤◌, ◌<◌, ◌||◌, ◌==◌, [], ◌++◌, min, length, take, drop, nat_le, if◌then◌else◌, false, IfOk, OnOk, OnErr, Some, is_err};
+ghost use Rattle.std.specs.Prelude.{◌≡◌, ◌+◌, ◌-◌, ◌^◌, ◌≤◌, ◌<◌, ◌||◌, ◌==◌, [], ◌++◌, min};
+ghost use Rattle.std.specs.Prelude.{length, take, drop, nat_le, if◌then◌else◌, false, IfOk, OnOk};
+ghost use Rattle.std.specs.Prelude.{OnErr, Some, is_err};
 ghost use Rattle.pm_io.specs.Bytes.{Loses, Gains, AtEnd};
 ghost use Rattle.pm_io.specs.Causes.{HasCause};
 ghost use Rattle.pm_io.specs.Memory.{is_listed};
@@ -8,7 +10,8 @@ use crate::{Failed, OutOfMemory, Sink, Source};
 use std::alloc::Global;
 use std::marker::Model;
 
-/// Gives its bytes, at most `step` a call, and fails at the calls whose numbers, from 0, it was told.
+/// Gives its bytes, at most `step` a call, and fails at the calls whose numbers, from 0, it was
+/// told.
 #[derive(Drop)]
 pub struct MemSource {
     bytes: Vec<u8>,
@@ -25,7 +28,13 @@ impl Model for MemSource {
 
     ghost Value = { SourceState };
 
-    ghost view = { λ s. record { left = drop s.at s.bytes.items; step = s.step; fails = s.fails.items; calls = s.calls; faults = s.faults } };
+    ghost view = { λ s. record {
+      left = drop s.at s.bytes.items;
+      step = s.step;
+      fails = s.fails.items;
+      calls = s.calls;
+      faults = s.faults;
+    } };
 
     ghost invariant = { λ s. (s.at ≤ vec_len s.bytes) × (1 ≤ s.step) };
 }
@@ -39,7 +48,13 @@ impl MemSource {
         fails: &[u32],
     ) -> Result<MemSource, OutOfMemory>
         requires { 1 ≤ step }
-        ensures { IfOk result (λ s. s ≡ record { left = bytes.now; step = step; fails = fails.now; calls = 0; faults = 0 }) }
+        ensures { IfOk result (λ s. s ≡ record {
+          left = bytes.now;
+          step = step;
+          fails = fails.now;
+          calls = 0;
+          faults = 0;
+        }) }
     {
         Ok(MemSource {
             bytes: Vec::from_slice(alloc, bytes)?,
@@ -80,16 +95,19 @@ impl Source for MemSource {
     fn take(&mut self, buf: &mut [u8]) -> Result<usize, Failed>
         requires { 0 < length buf.old }
         ensures bound { IfOk result (λ n. n ≤ length buf.new) }
-        ensures bytes { IfOk result (λ n. Loses (Some self.old.left) (Some self.new.left) (take n buf.new)) }
+        ensures bytes { IfOk result
+            (λ n. Loses (Some self.old.left) (Some self.new.left) (take n buf.new)) }
         ensures end { IfOk result (λ n. n ≡ 0 → AtEnd (Some self.old.left)) }
         ensures err { OnErr result (Some self.new.left ≡ Some self.old.left) }
         ensures cause { HasCause self.old.faults self.new.faults result }
         ensures listed { is_err result ≡ is_listed self.old.fails self.old.calls }
-        ensures count { IfOk result (λ n. n ≡ min (min (length self.old.left) self.old.step) (length buf.new)) }
+        ensures count { IfOk result
+            (λ n. n ≡ min (min (length self.old.left) self.old.step) (length buf.new)) }
         ensures step { self.new.step ≡ self.old.step }
         ensures fails { self.new.fails ≡ self.old.fails }
         ensures calls { self.new.calls ≡ min (self.old.calls + 1) (2 ^ 64 - 1) }
-        ensures faults { self.new.faults ≡ if is_err result then min (self.old.faults + 1) (2 ^ 64 - 1) else self.old.faults }
+        ensures faults { self.new.faults ≡ if is_err result then
+            min (self.old.faults + 1) (2 ^ 64 - 1) else self.old.faults }
     {
         let call = self.calls;
         self.calls = call.saturating_add(1);
@@ -144,12 +162,14 @@ impl Source for SureSource {
     fn take(&mut self, buf: &mut [u8]) -> Result<usize, Failed>
         requires { 0 < length buf.old }
         ensures bound { IfOk result (λ n. n ≤ length buf.new) }
-        ensures bytes { IfOk result (λ n. Loses (Some self.old.left) (Some self.new.left) (take n buf.new)) }
+        ensures bytes { IfOk result
+            (λ n. Loses (Some self.old.left) (Some self.new.left) (take n buf.new)) }
         ensures end { IfOk result (λ n. n ≡ 0 → AtEnd (Some self.old.left)) }
         ensures err { OnErr result (Some self.new.left ≡ Some self.old.left) }
         ensures cause { HasCause 0 0 result }
         ensures sure { is_err result ≡ false }
-        ensures count { IfOk result (λ n. n ≡ min (min (length self.old.left) self.old.step) (length buf.new)) }
+        ensures count { IfOk result
+            (λ n. n ≡ min (min (length self.old.left) self.old.step) (length buf.new)) }
         ensures step { self.new.step ≡ self.old.step }
     {
         let n = copy_from(&self.bytes, self.at, self.step, buf);
@@ -158,8 +178,8 @@ impl Source for SureSource {
     }
 }
 
-/// Takes bytes into memory, at most `step` a call and `room` in all. It fails at the calls whose numbers, from 0, it was
-/// told, and where the room is full.
+/// Takes bytes into memory, at most `step` a call and `room` in all. It fails at the calls whose
+/// numbers, from 0, it was told, and where the room is full.
 #[derive(Drop)]
 pub struct MemSink {
     bytes: Vec<u8>,
@@ -176,9 +196,17 @@ impl Model for MemSink {
 
     ghost Value = { SinkState };
 
-    ghost view = { λ s. record { got = s.bytes.items; room = s.room; step = s.step; fails = s.fails.items; calls = s.calls; faults = s.faults } };
+    ghost view = { λ s. record {
+      got = s.bytes.items;
+      room = s.room;
+      step = s.step;
+      fails = s.fails.items;
+      calls = s.calls;
+      faults = s.faults;
+    } };
 
-    ghost invariant = { λ s. (vec_len s.bytes ≤ s.room) × (s.room ≤ vec_capacity s.bytes) × (1 ≤ s.step) };
+    ghost invariant = { λ s. (vec_len s.bytes ≤ s.room) × (s.room ≤ vec_capacity s.bytes)
+        × (1 ≤ s.step) };
 }
 
 impl MemSink {
@@ -190,7 +218,14 @@ impl MemSink {
         fails: &[u32],
     ) -> Result<MemSink, OutOfMemory>
         requires { 1 ≤ step }
-        ensures { IfOk result (λ s. s ≡ record { got = []; room = room; step = step; fails = fails.now; calls = 0; faults = 0 }) }
+        ensures { IfOk result (λ s. s ≡ record {
+          got = [];
+          room = room;
+          step = step;
+          fails = fails.now;
+          calls = 0;
+          faults = 0;
+        }) }
     {
         Ok(MemSink {
             bytes: Vec::with_capacity(alloc, room)?,
@@ -219,16 +254,22 @@ impl Sink for MemSink {
         requires { 0 < length piece.now }
         ensures some { IfOk result (λ n. 0 < n) }
         ensures bound { IfOk result (λ n. n ≤ length piece.now) }
-        ensures bytes { IfOk result (λ n. Gains (Some self.old.got) (Some self.new.got) (take n piece.now)) }
+        ensures bytes { IfOk result
+            (λ n. Gains (Some self.old.got) (Some self.new.got) (take n piece.now)) }
         ensures err { OnErr result (Some self.new.got ≡ Some self.old.got) }
         ensures cause { HasCause self.old.faults self.new.faults result }
-        ensures listed { is_err result ≡ (nat_le self.old.room (length self.old.got) || is_listed self.old.fails self.old.calls) }
-        ensures count { IfOk result (λ n. n ≡ min (min (length piece.now) self.old.step) (self.old.room - length self.old.got)) }
+        ensures listed { is_err result
+            ≡ (nat_le self.old.room (length self.old.got) || is_listed self.old.fails
+            self.old.calls) }
+        ensures count { IfOk result
+            (λ n. n ≡ min (min (length piece.now) self.old.step)
+            (self.old.room - length self.old.got)) }
         ensures room { self.new.room ≡ self.old.room }
         ensures step { self.new.step ≡ self.old.step }
         ensures fails { self.new.fails ≡ self.old.fails }
         ensures calls { self.new.calls ≡ min (self.old.calls + 1) (2 ^ 64 - 1) }
-        ensures faults { self.new.faults ≡ if is_err result then min (self.old.faults + 1) (2 ^ 64 - 1) else self.old.faults }
+        ensures faults { self.new.faults ≡ if is_err result then
+            min (self.old.faults + 1) (2 ^ 64 - 1) else self.old.faults }
     {
         let call = self.calls;
         self.calls = call.saturating_add(1);

@@ -15,7 +15,8 @@ pub fn are_digits(text: &[u8]) -> bool
     text.iter().all(|b| is_digit(*b))
 }
 
-/// The number that the digits make, or `most` where that is less. There may be any number of digits.
+/// The number that the digits make, or `most` where that is less. There may be any number of
+/// digits.
 #[tactic(auto, using(crate::proofs::DigitLaws::value_cut))]
 pub fn value_up_to(digits: &[u8], most: u64) -> u64
     requires room { most ≤ 2 ^ 60 }
@@ -29,7 +30,8 @@ pub fn value_up_to(digits: &[u8], most: u64) -> u64
     n
 }
 
-/// The unsigned number that the text is: digits without leading zeros, of a value that is at most `most`.
+/// The unsigned number that the text is: digits without leading zeros, of a value that is at most
+/// `most`.
 #[tactic(auto, unfolding(crate::specs::Digits::unsigned_of))]
 pub fn read_unsigned(text: &[u8], most: u32) -> Option<u32>
     ensures { result ≡ unsigned_of most text.now }

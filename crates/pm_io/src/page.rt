@@ -9,7 +9,8 @@ use std::marker::Model;
 // How many bytes a page holds.
 const SIZE: usize = 4096;
 
-/// A page of at most 4,096 bytes on their way to a sink. Contracts see the bytes that it holds. It takes no memory.
+/// A page of at most 4,096 bytes on their way to a sink. Contracts see the bytes that it holds. It
+/// takes no memory.
 #[derive(Drop)]
 pub struct Page {
     held: ArrayVec<u8, 4096>,
@@ -41,9 +42,9 @@ impl Page {
         let _ = self.held.try_extend_from_slice(piece);
     }
 
-    /// Adds a piece to what the page holds. The sink isn't called where the page has room for it; else it gets whole
-    /// pages, and the rest is held. After a fault the sink has gained a part of what was held and the piece, and the page
-    /// is empty: what wasn't put is lost.
+    /// Adds a piece to what the page holds. The sink isn't called where the page has room for it;
+    /// else it gets whole pages, and the rest is held. After a fault the sink has gained a part of
+    /// what was held and the piece, and the page is empty: what wasn't put is lost.
     pub fn add<K: Sink>(&mut self, piece: &[u8], out: &mut K) -> Result<(), WriteFault>
         ensures puts { PutsThrough K.Sink out.old out.new self.old self.new piece.now result }
         ensures quiet { length self.old + length piece.now ≤ 4096 → out.new ≡ out.old }
@@ -63,8 +64,8 @@ impl Page {
         Ok(())
     }
 
-    /// Puts what the page holds; an empty page makes no call. The page is empty then. After a fault the sink has gained
-    /// a part of what was held, and the rest is lost.
+    /// Puts what the page holds; an empty page makes no call. The page is empty then. After a fault
+    /// the sink has gained a part of what was held, and the rest is lost.
     pub fn flush<K: Sink>(&mut self, out: &mut K) -> Result<(), WriteFault>
         ensures puts { Puts K.Sink out.old out.new self.old result }
         ensures empty { self.new ≡ [] }

@@ -3,8 +3,8 @@ ghost use Rattle.pm_io.specs.Puts.{Puts};
 
 use crate::{Failed, Sink, WriteFault};
 
-/// Writes the whole piece. An empty piece makes no call. After a fault the sink has gained a part of the piece from its
-/// front, and not the whole.
+/// Writes the whole piece. An empty piece makes no call. After a fault the sink has gained a part
+/// of the piece from its front, and not the whole.
 pub fn put_all<K: Sink>(out: &mut K, piece: &[u8]) -> Result<(), WriteFault>
     ensures { Puts K.Sink out.old out.new piece.now result }
 {

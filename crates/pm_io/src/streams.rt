@@ -1,7 +1,8 @@
-//! The readers and writers of std as devices. What a terminal, pipe or file gives and takes is outside every proof, so
-//! these devices tell nothing of their bytes. A reader or writer over memory tells its own, and there a call hands on
-//! exactly those bytes.
-ghost use Rattle.std.specs.Prelude.{◌≡◌, ◌+◌, ◌-◌, ◌^◌, ◌≤◌, ◌<◌, min, length, take, None, [], if◌then◌else◌, IfOk, OnErr, is_err};
+//! The readers and writers of std as devices. What a terminal, pipe or file gives and takes is
+//! outside every proof, so these devices tell nothing of their bytes. A reader or writer over
+//! memory tells its own, and there a call hands on exactly those bytes.
+ghost use Rattle.std.specs.Prelude.{◌≡◌, ◌+◌, ◌-◌, ◌^◌, ◌≤◌, ◌<◌, min, length, take, None, []};
+ghost use Rattle.std.specs.Prelude.{if◌then◌else◌, IfOk, OnErr, is_err};
 ghost use Rattle.std.specs.Io.KnownBytes.{ReadConsumes, WriteAppends};
 ghost use Rattle.pm_io.specs.Bytes.{Loses, Gains, AtEnd};
 ghost use Rattle.pm_io.specs.Causes.{HasCause};
@@ -37,8 +38,10 @@ impl<R: Read> Source for StdSource<R> {
         ensures end { IfOk result (λ n. n ≡ 0 → AtEnd None) }
         ensures err { OnErr result (Loses None None []) }
         ensures cause { HasCause self.old.faults self.new.faults result }
-        ensures faults { self.new.faults ≡ if is_err result then min (self.old.faults + 1) (2 ^ 64 - 1) else self.old.faults }
-        ensures reader { ReadConsumes (R.remaining self.old.reader) (R.remaining self.new.reader) result buf.new }
+        ensures faults { self.new.faults ≡ if is_err result then
+            min (self.old.faults + 1) (2 ^ 64 - 1) else self.old.faults }
+        ensures reader { ReadConsumes (R.remaining self.old.reader) (R.remaining self.new.reader)
+            result buf.new }
     {
         match self.reader.read(buf) {
             Ok(n) => Ok(n),
@@ -78,8 +81,10 @@ impl<W: Write> Sink for StdSink<W> {
         ensures bytes { IfOk result (λ n. Gains None None (take n piece.now)) }
         ensures err { OnErr result (Gains None None []) }
         ensures cause { HasCause self.old.faults self.new.faults result }
-        ensures faults { self.new.faults ≡ if is_err result then min (self.old.faults + 1) (2 ^ 64 - 1) else self.old.faults }
-        ensures writer { WriteAppends (W.contents self.old.writer) (W.contents self.new.writer) result piece.now }
+        ensures faults { self.new.faults ≡ if is_err result then
+            min (self.old.faults + 1) (2 ^ 64 - 1) else self.old.faults }
+        ensures writer { WriteAppends (W.contents self.old.writer) (W.contents self.new.writer)
+            result piece.now }
     {
         match self.writer.write(piece) {
             Ok(n) if n > 0 => Ok(n),

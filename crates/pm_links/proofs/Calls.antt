@@ -1,10 +1,14 @@
--- Laws for callers: the list of each head after a call, and which items are then held or free. Each takes
--- the call's clause as it stands.
-use Rattle.std.proofs.Common.{◌≡◌, ◌≢◌, ◌↔◌, ℕ, ◌<◌, ◌≤◌, Option, Some, None, true, eqb, List, [], ◌∷◌, ◌++◌, length, sym, ap, ◌∙◌, subst, ⊎_elim, get_or-set_other, get_or-set_same, length-set}
+-- Laws for callers: the list of each head after a call, and which items are then held or free. Each
+-- takes the call's clause as it stands.
+use Rattle.std.proofs.Common.{◌≡◌, ◌≢◌, ◌↔◌, ℕ, ◌<◌, ◌≤◌, Option, Some, None, true, eqb, List, []}
+use Rattle.std.proofs.Common.{◌∷◌, ◌++◌, length, sym, ap, ◌∙◌, subst, ⊎_elim, get_or-set_other}
+use Rattle.std.proofs.Common.{get_or-set_same, length-set}
 use Rattle.std.proofs.lemmas.List.{length-map, get_or_past}
 use Rattle.std.proofs.lemmas.Option.{none-some}
-use Rattle.std.proofs.lemmas.Bool.{or_from, cases_lt, cases_eq, ne_eqb, false≢true, false_from_ne_true}
-use Rattle.pm_links.specs.Lists.{Lists, IsHeld, IsFree, IsSound, list_of, has, list_without, with_list, with_first, with_moved, without_item}
+use Rattle.std.proofs.lemmas.Bool.{or_from, cases_lt, cases_eq, ne_eqb, false≢true}
+use Rattle.std.proofs.lemmas.Bool.{false_from_ne_true}
+use Rattle.pm_links.specs.Lists.{Lists, IsHeld, IsFree, IsSound, list_of, has, list_without}
+use Rattle.pm_links.specs.Lists.{with_list, with_first, with_moved, without_item}
 use Rattle.pm_links.proofs.Members.{has_tail}
 use Rattle.pm_links.proofs.Without.{without_none, has-without, has-without_same, get_without}
 
@@ -47,7 +51,8 @@ pub after_push : (v w : Lists) (head item : ℕ) → head < length v.lists →
     w ≡ with_first v head item → AfterPush v w head item
 after_push v w head item low e = record {
   gained = ap (λ k. list_of k head) e ∙ list_of-with_list_same v head (item ∷ list_of v head) low;
-  others = λ g ne. ap (λ k. list_of k g) e ∙ list_of-with_list_other v head g (item ∷ list_of v head) ne;
+  others = λ g ne. ap (λ k. list_of k g) e
+      ∙ list_of-with_list_other v head g (item ∷ list_of v head) ne;
   items = ap (λ k. k.items) e;
   heads = ap (λ k. length k.lists) e ∙ length-set v.lists head (item ∷ list_of v head);
 }

@@ -1,7 +1,10 @@
 -- What two walks from the two ends of a list leave between them, and what they copy to a room.
-use Rattle.std.proofs.Common.{◌≡◌, ◌≢◌, ℕ, ◌+◌, ◌-◌, ◌<◌, ◌≤◌, true, false, eqb, List, [], ◌∷◌, ◌++◌, length, get_or, set, take, drop, sym, refl, ap, ◌∙◌, subst, append_assoc, length-set, arith}
+use Rattle.std.proofs.Common.{◌≡◌, ◌≢◌, ℕ, ◌+◌, ◌-◌, ◌<◌, ◌≤◌, true, false, eqb, List, [], ◌∷◌}
+use Rattle.std.proofs.Common.{◌++◌, length, get_or, set, take, drop, sym, refl, ap, ◌∙◌, subst}
+use Rattle.std.proofs.Common.{append_assoc, length-set, arith}
 use Rattle.std.proofs.Math.Seq.{take-length}
-use Rattle.std.proofs.lemmas.List.{drop-set, drop-set-lt, take-set-le, take_more_set, length-append, length-take-le, length-drop}
+use Rattle.std.proofs.lemmas.List.{drop-set, drop-set-lt, take-set-le, take_more_set, length-append}
+use Rattle.std.proofs.lemmas.List.{length-take-le, length-drop}
 use Rattle.std.proofs.lemmas.Bool.{or_parts, or_left, or_right, eqb-false, ne_eqb, false≢true}
 use Rattle.pm_links.specs.Lists.{has, IsOnce, AreFirst, gathered}
 use Rattle.pm_links.specs.Arena.{IsLinked}
@@ -20,7 +23,8 @@ once_front (x ∷ xs) y o =
 
 -- a run up to its last item y
 cut_last : (next prev : List ℕ) (a x : ℕ) (xs : List ℕ) (b y : ℕ) → get_or prev b 0 ≡ y →
-    IsLinked next prev a (x ∷ xs) b → (ys : List ℕ) × (x ∷ xs ≡ ys ++ y ∷ []) × IsLinked next prev a ys y
+    IsLinked next prev a (x ∷ xs) b → (ys : List ℕ) × (x ∷ xs ≡ ys ++ y ∷ [])
+    × IsLinked next prev a ys y
 cut_last next prev a x [] b y e l =
     let is : x ≡ y = sym l.2.1 ∙ e in
     ([], ap (λ k. k ∷ []) is, subst (λ (k : ℕ). IsLinked next prev a [] k) is (l.0, l.1))
@@ -60,7 +64,8 @@ module _ (next prev : List ℕ) where
         not_first = (or_parts (has xs first) (has (y ∷ []) first)
             (sym (has-append xs (y ∷ []) first) ∙ l.not_first)).0;
         not_last = o.1;
-        in_range = λ x h. l.in_range x (has-append xs (y ∷ []) x ∙ or_left (has xs x) (has (y ∷ []) x) h);
+        in_range = λ x h. l.in_range x (has-append xs (y ∷ []) x
+            ∙ or_left (has xs x) (has (y ∷ []) x) h);
       }
 
 -- ---- what is copied: the first items before `front`, and the last from `back` on
@@ -89,7 +94,10 @@ module _ {next prev items room : List ℕ} {front back first last : ℕ}
           let done : Copies next prev items (set room front x) (front + 1) back x last = record {
             middle = xs;
             left = left_front next prev first x xs last l;
-            parts = rw (take_more_set room front x (omega (arith, c.high)), drop-set-lt back room front x lt)
+            parts = rw (
+              take_more_set room front x (omega (arith, c.high)),
+              drop-set-lt back room front x lt,
+            )
                 (p ∙ sym (append_assoc (take front room) (x ∷ []) (xs ++ drop back room)));
             first_in = l.in_range x (has_head x xs);
             last_in = c.last_in;
@@ -116,7 +124,11 @@ module _ {next prev items room : List ℕ} {front back first last : ℕ}
           record {
             middle = r.0;
             left = left_back next prev first r.0 item last r.2 whole;
-            parts = rw (take-set-le front room (back - 1) item (omega arith), drop-set room (back - 1) item inner, again)
+            parts = rw (
+              take-set-le front room (back - 1) item (omega arith),
+              drop-set room (back - 1) item inner,
+              again,
+            )
                 (p ∙ ap (λ k. take front room ++ (k ++ drop back room)) r.1
                 ∙ ap (λ k. take front room ++ k) (append_assoc r.0 (item ∷ []) (drop back room)));
             first_in = c.first_in;

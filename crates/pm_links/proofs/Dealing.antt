@@ -1,10 +1,13 @@
 -- Laws for callers: a loop that takes the first item of one list and puts it first in one of two
 -- others.
-use Rattle.std.proofs.Common.{◌≡◌, ◌≢◌, ℕ, ◌<◌, Some, Bool, true, false, not, eqb, List, [], ◌∷◌, ◌++◌, length, reverse, sym, refl, ap, ◌∙◌, subst, ◌⊎◌, ⊎_elim, append_assoc, arith}
+use Rattle.std.proofs.Common.{◌≡◌, ◌≢◌, ℕ, ◌<◌, Some, Bool, true, false, not, eqb, List, [], ◌∷◌}
+use Rattle.std.proofs.Common.{◌++◌, length, reverse, sym, refl, ap, ◌∙◌, subst, ◌⊎◌, ⊎_elim}
+use Rattle.std.proofs.Common.{append_assoc, arith}
 use Rattle.std.specs.List.{filter}
 use Rattle.std.proofs.lemmas.Grind.{reverse_onto}
 use Rattle.std.proofs.lemmas.Bool.{eqb-true, eqb-false, eq-eqb, cases_Bool}
-use Rattle.pm_links.specs.Lists.{Lists, list_of, has, first_of, after, IsOnce, IsSound, list_without, with_first, without_item}
+use Rattle.pm_links.specs.Lists.{Lists, list_of, has, first_of, after, IsOnce, IsSound}
+use Rattle.pm_links.specs.Lists.{list_without, with_first, without_item}
 use Rattle.pm_links.specs.Dealt.{dealt}
 use Rattle.pm_links.proofs.Members.{has_head, first_is}
 use Rattle.pm_links.proofs.Without.{without_first}
@@ -53,7 +56,8 @@ dealt_end p v from left right h e =
     (cases_Bool (eqb h from))
 
 reverse_cons : (x : ℕ) (xs ys : List ℕ) → reverse (x ∷ xs) ++ ys ≡ reverse xs ++ x ∷ ys
-reverse_cons x xs ys = ap (λ k. k ++ ys) (reverse_onto xs x []) ∙ append_assoc (reverse xs) (x ∷ []) ys
+reverse_cons x xs ys =
+    ap (λ k. k ++ ys) (reverse_onto xs x []) ∙ append_assoc (reverse xs) (x ∷ []) ys
 
 -- one item is dealt
 pub dealt_step : (p : ℕ → Bool) (v w : Lists) (from left right to x h : ℕ) (xs : List ℕ) →
@@ -68,7 +72,8 @@ dealt_step p v w from left right to x h xs lf rf rl c vf move =
     (λ d. rw d.1 (ap (λ k. reverse (filter p xs) ++ k)
     (subst (λ (k : ℕ). list_of w k ≡ x ∷ list_of v k) d.0 move.put)
     ∙ sym (reverse_cons x (filter p xs) (list_of v left))))
-    (λ d. rw d.1 (ap (λ k. reverse (filter p xs) ++ k) (move.others left lf (λ t. rl (sym d.0 ∙ sym t)))))
+    (λ d. rw d.1
+    (ap (λ k. reverse (filter p xs) ++ k) (move.others left lf (λ t. rl (sym d.0 ∙ sym t)))))
     c))
     (λ (m : eqb h left ≡ false). rw m (⊎_elim
     (λ (t : eqb h right ≡ true). rw (t, vf, move.taken) (⊎_elim

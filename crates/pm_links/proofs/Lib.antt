@@ -1,4 +1,5 @@
--- for callers: one list, a table, the lists after each call, a walk, a list that is dealt to two others
+-- for callers: one list, a table, the lists after each call, a walk, a list that is dealt to two
+-- others
 pub mod Members
 pub mod Without
 pub mod SetAll

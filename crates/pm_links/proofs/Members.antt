@@ -1,9 +1,12 @@
 -- Laws for callers: which items a list has, and that none stands twice.
-use Rattle.std.proofs.Common.{◌≡◌, ◌≢◌, ℕ, zero, suc, ◌<◌, ◌≤◌, Some, None, true, false, ◌||◌, eqb, List, [], ◌∷◌, ◌++◌, length, get_or, sym, refl, ap, ◌∙◌, ⊎_elim, arith}
+use Rattle.std.proofs.Common.{◌≡◌, ◌≢◌, ℕ, zero, suc, ◌<◌, ◌≤◌, Some, None, true, false, ◌||◌, eqb}
+use Rattle.std.proofs.Common.{List, [], ◌∷◌, ◌++◌, length, get_or, sym, refl, ap, ◌∙◌, ⊎_elim}
+use Rattle.std.proofs.Common.{arith}
 use Rattle.std.specs.List.{IsDistinct, AllByRecursion, list_any, Contains}
 use Rattle.std.proofs.lemmas.Map.Steps.{length-le_from_distinct_below}
 use Rattle.std.proofs.lemmas.Option.{none-some, same_Some}
-use Rattle.std.proofs.lemmas.Bool.{or_parts, or_from, or_cases, or_left, or_right, eqb-true, eqb-false, eq-eqb, ne_eqb, false≢true}
+use Rattle.std.proofs.lemmas.Bool.{or_parts, or_from, or_cases, or_left, or_right, eqb-true}
+use Rattle.std.proofs.lemmas.Bool.{eqb-false, eq-eqb, ne_eqb, false≢true}
 use Rattle.pm_links.specs.Lists.{has, IsOnce, first_of}
 
 -- ---- one item
@@ -59,7 +62,8 @@ IsDistinct_from_once (x ∷ xs) o = (others x xs o.0, IsDistinct_from_once xs o.
         (ne_eqb x y (λ e. eqb-false y x s.0 (sym e)), others x ys s.1)
 
 -- numbers below n, no two of them equal, are at most n
-pub few_below : (n : ℕ) (xs : List ℕ) → IsOnce xs → ((x : ℕ) → has xs x ≡ true → x < n) → length xs ≤ n
+pub few_below : (n : ℕ) (xs : List ℕ) → IsOnce xs → ((x : ℕ) → has xs x ≡ true → x < n)
+    → length xs ≤ n
 few_below n xs o low =
     length-le_from_distinct_below xs n (IsDistinct_from_once xs o) (λ x h. low x (found xs x h))
   where
@@ -75,7 +79,8 @@ pub Contains-has : (xs : List ℕ) (x : ℕ) → has xs x ≡ true → Contains 
 Contains-has [] x h = absurd (false≢true h)
 Contains-has (y ∷ ys) x h =
     ⊎_elim (λ e. (0, omega arith, eqb-true y x e))
-    (λ k. let r = Contains-has ys x k in (suc r.0, omega arith, r.2)) (or_cases (eqb y x) (has ys x) h)
+    (λ k. let r =
+    Contains-has ys x k in (suc r.0, omega arith, r.2)) (or_cases (eqb y x) (has ys x) h)
 
 pub has_from_Contains : (xs : List ℕ) (x : ℕ) → Contains xs x → has xs x ≡ true
 has_from_Contains xs x c = at xs c.0 c.1 c.2

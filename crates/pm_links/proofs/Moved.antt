@@ -1,5 +1,7 @@
 -- The arena after the items of one list are put before those of another.
-use Rattle.std.proofs.Common.{◌≡◌, ◌≢◌, ℕ, ◌+◌, ◌<◌, true, false, List, [], ◌++◌, get_or, set, sym, ap, ◌∙◌, subst, ◌⊎◌, inl, inr, ⊎_elim, arith, get_or-set_other, get_or-set_same, length-set}
+use Rattle.std.proofs.Common.{◌≡◌, ◌≢◌, ℕ, ◌+◌, ◌<◌, true, false, List, [], ◌++◌, get_or, set, sym}
+use Rattle.std.proofs.Common.{ap, ◌∙◌, subst, ◌⊎◌, inl, inr, ⊎_elim, arith, get_or-set_other}
+use Rattle.std.proofs.Common.{get_or-set_same, length-set}
 use Rattle.std.proofs.lemmas.List.{set-get_or}
 use Rattle.std.proofs.lemmas.Bool.{or_cases, or_left, or_right, cases_Bool, cases_eq, false≢true}
 use Rattle.pm_links.specs.Lists.{has, set_all}
@@ -7,10 +9,11 @@ use Rattle.pm_links.specs.Arena.{IsLinked, IsArena}
 use Rattle.pm_links.proofs.Members.{has-append, once-append}
 use Rattle.pm_links.proofs.SetAll.{length-set_all, set_all_in, set_all_out}
 use Rattle.pm_links.proofs.Runs.{last_held, moved_run}
-use Rattle.pm_links.proofs.Outside.{IsOutside, stays, head_out, outside_head, outside_item, outside, first_at, first_node_in}
+use Rattle.pm_links.proofs.Outside.{IsOutside, stays, head_out, outside_head, outside_item, outside}
+use Rattle.pm_links.proofs.Outside.{first_at, first_node_in}
 
--- the list of f, whose first item is a and whose last is z, goes before that of t, where u was the first
--- node
+-- the list of f, whose first item is a and whose last is z, goes before that of t, where u was the
+-- first node
 pub moved : {n m : ℕ} {next prev owner : List ℕ} {ls : List (List ℕ)} →
     IsArena n m next prev owner ls → (f t a z u : ℕ) → f < m → t < m → f ≢ t → a < n →
     get_or next (n + f) 0 ≡ a → get_or prev (n + f) 0 ≡ z → get_or next (n + t) 0 ≡ u →
@@ -93,7 +96,8 @@ moved {n} {m} {next} {prev} {owner} {ls} i f t a z u fm tm ft an fa fz tu =
           c)
           (cases g);
       once = λ g gm. ⊎_elim (λ (e : g ≡ f). rw e (rw at_f tt))
-          (λ c. ⊎_elim (λ (e : g ≡ t). rw e (rw at_t (once-append xs ys (i.once f fm) (i.once t tm) apart)))
+          (λ c. ⊎_elim
+          (λ (e : g ≡ t). rw e (rw at_t (once-append xs ys (i.once f fm) (i.once t tm) apart)))
           (λ ne. rw (at g ne.0 ne.1) (i.once g gm)) c) (cases g);
       in_range = λ g y gm. ⊎_elim (λ (e : g ≡ f). rw e (rw at_f (λ k. absurd (false≢true k))))
           (λ c. ⊎_elim (λ (e : g ≡ t). rw e
@@ -129,4 +133,5 @@ moved {n} {m} {next} {prev} {owner} {ls} i f t a z u fm tm ft an fa fz tu =
 pub moved_none : (ls : List (List ℕ)) (f t : ℕ) → get_or ls f [] ≡ [] → f ≢ t →
     set (set ls t (get_or ls f [] ++ get_or ls t [])) f [] ≡ ls
 moved_none ls f t e ne =
-    rw e (ap (λ k. set k f []) (set-get_or ls t []) ∙ ap (λ k. set ls f k) (sym e) ∙ set-get_or ls f [])
+    rw e (ap (λ k. set k f []) (set-get_or ls t []) ∙ ap (λ k. set ls f k) (sym e)
+    ∙ set-get_or ls f [])

@@ -1,5 +1,6 @@
 -- Which nodes of an arena are no part of a ring, so that a write there leaves it.
-use Rattle.std.proofs.Common.{◌≡◌, ◌≢◌, ℕ, ◌+◌, ◌<◌, true, false, eqb, List, [], get_or, set, sym, ◌∙◌, subst, ◌⊎◌, inl, inr, ⊎_elim, arith}
+use Rattle.std.proofs.Common.{◌≡◌, ◌≢◌, ℕ, ◌+◌, ◌<◌, true, false, eqb, List, [], get_or, set, sym}
+use Rattle.std.proofs.Common.{◌∙◌, subst, ◌⊎◌, inl, inr, ⊎_elim, arith}
 use Rattle.std.proofs.lemmas.List.{get_or_past}
 use Rattle.std.proofs.lemmas.Bool.{or_cases, eqb-true, cases_lt, false≢true, false_from_ne_true}
 use Rattle.pm_links.specs.Lists.{has}
@@ -18,7 +19,8 @@ pub stays : (n : ℕ) (next prev : List ℕ) (ls : List (List ℕ)) (g p v q w :
 stays n next prev ls g p v q w op oq l = linked-set next prev p v q w (n + g) (get_or ls g [])
     (n + g) op.start op.inner oq.start oq.inner l
 
-module _ {n m : ℕ} {next prev owner : List ℕ} {ls : List (List ℕ)} (a : IsArena n m next prev owner ls) where
+module _ {n m : ℕ} {next prev owner : List ℕ} {ls : List (List ℕ)}
+    (a : IsArena n m next prev owner ls) where
   -- a head whose list has an item is one of the m heads
   pub low_head : (h x : ℕ) → has (get_or ls h []) x ≡ true → h < m
   low_head h x i =
@@ -40,7 +42,8 @@ module _ {n m : ℕ} {next prev owner : List ℕ} {ls : List (List ℕ)} (a : Is
   }
 
   -- an item of another head's list
-  pub outside_item : (g h y : ℕ) → g < m → h < m → h ≢ g → has (get_or ls h []) y ≡ true → IsOutside n ls g y
+  pub outside_item : (g h y : ℕ) → g < m → h < m → h ≢ g → has (get_or ls h []) y ≡ true
+      → IsOutside n ls g y
   outside_item g h y gm hm ne i =
       let lt : y < n = a.in_range h y hm i in
       record {
@@ -80,11 +83,13 @@ module _ {n m : ℕ} {next prev owner : List ℕ} {ls : List (List ℕ)} (a : Is
 
   pub after_at : (h x : ℕ) → has (get_or ls h []) x ≡ true →
       (get_or next x 0 ≡ n + h) ⊎ (has (get_or ls h []) (get_or next x 0) ≡ true)
-  after_at h x i = next_in next prev (n + h) (get_or ls h []) (n + h) x i (a.linked h (low_head h x i))
+  after_at h x i =
+      next_in next prev (n + h) (get_or ls h []) (n + h) x i (a.linked h (low_head h x i))
 
   -- a node of a ring is a node
   pub node_in : (h y : ℕ) → h < m → (y ≡ n + h) ⊎ (has (get_or ls h []) y ≡ true) → y < n + m
-  node_in h y hm c = ⊎_elim (λ e. omega arith) (λ i. let lt : y < n = a.in_range h y hm i in omega arith) c
+  node_in h y hm c =
+      ⊎_elim (λ e. omega arith) (λ i. let lt : y < n = a.in_range h y hm i in omega arith) c
 
   pub first_node_in : (h : ℕ) → h < m → get_or next (n + h) 0 < n + m
   first_node_in h hm = node_in h (get_or next (n + h) 0) hm (first_at h hm)

@@ -1,11 +1,14 @@
 -- The arena after an item is put first in a list.
-use Rattle.std.proofs.Common.{◌≡◌, ◌≢◌, ℕ, ◌+◌, ◌<◌, true, false, eqb, List, [], ◌∷◌, length, get_or, set, sym, ap, ◌∙◌, subst, ◌⊎◌, ⊎_elim, arith, get_or-set_other, get_or-set_same, length-set}
+use Rattle.std.proofs.Common.{◌≡◌, ◌≢◌, ℕ, ◌+◌, ◌<◌, true, false, eqb, List, [], ◌∷◌, length}
+use Rattle.std.proofs.Common.{get_or, set, sym, ap, ◌∙◌, subst, ◌⊎◌, ⊎_elim, arith}
+use Rattle.std.proofs.Common.{get_or-set_other, get_or-set_same, length-set}
 use Rattle.std.proofs.lemmas.Bool.{or_cases, or_right, eqb-true, cases_eq}
 use Rattle.pm_links.specs.Lists.{has}
 use Rattle.pm_links.specs.Arena.{IsArena}
 use Rattle.pm_links.proofs.Members.{has_head, differs}
 use Rattle.pm_links.proofs.Runs.{linked-set, relink_front}
-use Rattle.pm_links.proofs.Outside.{IsOutside, stays, head_out, outside_head, outside, first_at, node_in}
+use Rattle.pm_links.proofs.Outside.{IsOutside, stays, head_out, outside_head, outside, first_at}
+use Rattle.pm_links.proofs.Outside.{node_in}
 
 -- item x is put first in the list of head h; f is the node that was first
 pub pushed : {n m : ℕ} {next prev owner : List ℕ} {ls : List (List ℕ)} →
@@ -34,8 +37,10 @@ pushed {n} {m} {next} {prev} {owner} {ls} a h x f hm xn free fi =
       owner_len = length-set owner x h ∙ a.owner_len;
       linked = λ g gm. ⊎_elim
           (λ (e : g ≡ h). rw e (rw at_h (
-            get_or-set_same (set next x f) (n + h) x 0 (rw (length-set next x f, a.next_len) (omega arith)),
-            get_or-set_same (set prev f x) x (n + h) 0 (rw (length-set prev f x, a.prev_len) (omega arith)),
+            get_or-set_same (set next x f) (n + h) x 0
+                (rw (length-set next x f, a.next_len) (omega arith)),
+            get_or-set_same (set prev f x) x (n + h) 0
+                (rw (length-set prev f x, a.prev_len) (omega arith)),
             linked-set (set next x f) (set prev f x) (n + h) x x (n + h) x xs (n + h) (omega arith)
                 (head_out a h hm) (omega arith) (free h)
                 (relink_front next prev (n + h) f x xs (n + h) (rw a.next_len (omega arith))
@@ -66,7 +71,8 @@ pushed {n} {m} {next} {prev} {owner} {ls} a h x f hm xn free fi =
           (λ k. own y (λ t. differs xs y x k (free h) t) ∙ a.owned h y hm k ∙ sym e)
           (or_cases (eqb x y) (has xs y) i2))
           (λ ne. let i2 : has (get_or ls g []) y ≡ true = rw (at g ne) at i in
-          own y (λ t. differs (get_or ls g []) y x i2 (free g) t) ∙ a.owned g y gm i2) (cases_eq g h);
+          own y (λ t. differs (get_or ls g []) y x i2 (free g) t) ∙ a.owned g y gm i2)
+          (cases_eq g h);
       listed = λ y yn. ⊎_elim
           (λ (e : y ≡ x). rw e (rw own_x (rw at_h (λ _. has_head x xs))))
           (λ ne. rw (own y ne) (λ lt. ⊎_elim

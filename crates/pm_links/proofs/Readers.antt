@@ -1,5 +1,6 @@
 -- What the node after a head's or an item's tells of the list.
-use Rattle.std.proofs.Common.{◌≡◌, ℕ, ◌+◌, ◌<◌, ◌≤◌, Some, None, true, false, cond, ltb, eqb, List, [], ◌∷◌, get_or, sym, ap, refl, ◌∙◌, ⊎_elim, arith}
+use Rattle.std.proofs.Common.{◌≡◌, ℕ, ◌+◌, ◌<◌, ◌≤◌, Some, None, true, false, cond, ltb, eqb, List}
+use Rattle.std.proofs.Common.{[], ◌∷◌, get_or, sym, ap, refl, ◌∙◌, ⊎_elim, arith}
 use Rattle.std.proofs.lemmas.Bool.{or_cases, eqb-true, cases_Bool, false≢true, lt-ltb, le-ltb}
 use Rattle.pm_links.specs.Lists.{has, first_of, after}
 use Rattle.pm_links.specs.Arena.{IsLinked, IsArena}
@@ -10,7 +11,8 @@ first_run : (next prev : List ℕ) (n a : ℕ) (xs : List ℕ) (b f : ℕ) → n
     ((x : ℕ) → has xs x ≡ true → x < n) → get_or next a 0 ≡ f → IsLinked next prev a xs b →
     first_of xs ≡ cond (ltb f n) (Some f) None
 first_run next prev n a [] b f nb low e l = rw (sym e ∙ l.0, le-ltb b n nb) refl
-first_run next prev n a (x ∷ xs) b f nb low e l = rw (sym e ∙ l.0, lt-ltb x n (low x (has_head x xs))) refl
+first_run next prev n a (x ∷ xs) b f nb low e l =
+    rw (sym e ∙ l.0, lt-ltb x n (low x (has_head x xs))) refl
 
 next_run : (next prev : List ℕ) (n a : ℕ) (xs : List ℕ) (b x f : ℕ) → n ≤ b →
     ((x : ℕ) → has xs x ≡ true → x < n) → get_or next x 0 ≡ f → has xs x ≡ true →
@@ -25,7 +27,8 @@ next_run next prev n a (y ∷ ys) b x f nb low e h l =
     (or_cases (eqb y x) (has ys x) h)) l.2))
     (cases_Bool (eqb y x))
 
-module _ {n m : ℕ} {next prev owner : List ℕ} {ls : List (List ℕ)} (a : IsArena n m next prev owner ls) where
+module _ {n m : ℕ} {next prev owner : List ℕ} {ls : List (List ℕ)}
+    (a : IsArena n m next prev owner ls) where
   pub first_read : (h f : ℕ) → h < m → get_or next (n + h) 0 ≡ f →
       first_of (get_or ls h []) ≡ cond (ltb f n) (Some f) None
   first_read h f hm e =

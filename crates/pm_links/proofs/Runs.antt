@@ -1,8 +1,11 @@
 -- What a write to the links does to a run of linked nodes.
-use Rattle.std.proofs.Common.{◌≡◌, ◌≢◌, ℕ, ◌<◌, true, false, eqb, List, [], ◌∷◌, ◌++◌, length, get_or, set, sym, ap, ◌∙◌, subst, ◌⊎◌, inl, inr, ⊎_elim, get_or-set_other, get_or-set_same, length-set}
+use Rattle.std.proofs.Common.{◌≡◌, ◌≢◌, ℕ, ◌<◌, true, false, eqb, List, [], ◌∷◌, ◌++◌, length}
+use Rattle.std.proofs.Common.{get_or, set, sym, ap, ◌∙◌, subst, ◌⊎◌, inl, inr, ⊎_elim}
+use Rattle.std.proofs.Common.{get_or-set_other, get_or-set_same, length-set}
 use Rattle.std.proofs.lemmas.List.{append-nil}
 use Rattle.std.proofs.lemmas.Grind.{get_or-set_at}
-use Rattle.std.proofs.lemmas.Bool.{or_parts, or_cases, or_left, or_right, eqb-true, eqb-false, eq-eqb, cases_Bool, false≢true}
+use Rattle.std.proofs.lemmas.Bool.{or_parts, or_cases, or_left, or_right, eqb-true, eqb-false}
+use Rattle.std.proofs.lemmas.Bool.{eq-eqb, cases_Bool, false≢true}
 use Rattle.pm_links.specs.Lists.{has, IsOnce, list_without}
 use Rattle.pm_links.specs.Arena.{IsLinked}
 use Rattle.pm_links.proofs.Members.{differs}
@@ -39,7 +42,8 @@ module _ (next prev : List ℕ) where
   prev_in a (y ∷ ys) b x h l =
       ⊎_elim (λ e. or_left (eqb a (get_or prev x 0)) (has (y ∷ ys) (get_or prev x 0))
       (eq-eqb a (get_or prev x 0) (sym l.1 ∙ ap (λ k. get_or prev k 0) (eqb-true y x e))))
-      (λ k. or_right (eqb a (get_or prev x 0)) (has (y ∷ ys) (get_or prev x 0)) (prev_in y ys b x k l.2))
+      (λ k. or_right (eqb a (get_or prev x 0)) (has (y ∷ ys) (get_or prev x 0))
+      (prev_in y ys b x k l.2))
       (or_cases (eqb y x) (has ys x) h)
 
   -- the node after an item of the run
@@ -146,8 +150,8 @@ module _ (next prev : List ℕ) where
       ))
       (cases_Bool (eqb y x))
 
--- the run from node f goes before the run from node t: a is its first item, z its last, and u the first
--- node after t
+-- the run from node f goes before the run from node t: a is its first item, z its last, and u the
+-- first node after t
 pub moved_run : (next prev : List ℕ) (f t a z u : ℕ) (xs ys : List ℕ) → length prev ≡ length next →
     t < length next → a < length next → z < length next → u < length next →
     get_or next f 0 ≡ a → get_or prev f 0 ≡ z → get_or next t 0 ≡ u → a ≢ f → f ≢ t → t ≢ a →
@@ -156,10 +160,12 @@ pub moved_run : (next prev : List ℕ) (f t a z u : ℕ) (xs ys : List ℕ) → 
     has xs u ≡ false → u ≢ f → IsOnce xs → IsOnce ys →
     IsLinked next prev f xs f → IsLinked next prev t ys t →
     IsLinked (set (set (set next t a) z u) f f) (set (set (set prev a t) u z) f f) t (xs ++ ys) t
-moved_run next prev f t a z u xs ys same tl al zl ul fa fz tu af ft ta xf xt yf yt ya yz tz xu uf ox oy lf lt =
+moved_run next prev f t a z u xs ys same tl al zl ul fa fz tu af ft ta xf xt yf yt ya yz tz xu uf ox
+    oy lf lt =
     let n1 : List ℕ = set next t a in
     let p1 : List ℕ = set prev a t in
-    let s1 : IsLinked n1 p1 t xs f = relink_front next prev f a t xs f tl (rw same al) fa xt xf ox lf in
+    let s1 : IsLinked n1 p1 t xs f =
+    relink_front next prev f a t xs f tl (rw same al) fa xt xf ox lf in
     let z1 : get_or p1 f 0 ≡ z = get_or-set_other prev a f t 0 (λ k. af (sym k)) ∙ fz in
     let s2 : IsLinked (set n1 z u) (set p1 u z) t xs u =
     relink_end n1 p1 t xs f z u (rw (length-set next t a) zl)
@@ -171,7 +177,8 @@ moved_run next prev f t a z u xs ys same tl al zl ul fa fz tu af ft ta xf xt yf 
     add : (ys : List ℕ) → has ys f ≡ false → has ys t ≡ false → has ys a ≡ false →
         has ys z ≡ false → IsOnce ys → IsLinked next prev t ys t →
         IsLinked (set (set (set next t a) z u) f f) (set (set (set prev a t) u z) f f) t xs u →
-        IsLinked (set (set (set next t a) z u) f f) (set (set (set prev a t) u z) f f) t (xs ++ ys) t
+        IsLinked (set (set (set next t a) z u) f f) (set (set (set prev a t) u z) f f) t (xs ++ ys)
+        t
     add [] yf yt ya yz oy lt s = rw append-nil
         (subst (λ (k : ℕ). IsLinked (set (set (set next t a) z u) f f)
         (set (set (set prev a t) u z) f f) t xs k) (sym tu ∙ lt.0) s)

@@ -1,15 +1,18 @@
 -- The arena after an item is taken out of its list.
-use Rattle.std.proofs.Common.{◌≡◌, ◌≢◌, ℕ, ◌+◌, ◌<◌, ◌≤◌, true, false, List, [], get_or, set, map, sym, ◌∙◌, subst, ◌⊎◌, ⊎_elim, arith, get_or-set_other, get_or-set_same, length-set}
+use Rattle.std.proofs.Common.{◌≡◌, ◌≢◌, ℕ, ◌+◌, ◌<◌, ◌≤◌, true, false, List, [], get_or, set, map}
+use Rattle.std.proofs.Common.{sym, ◌∙◌, subst, ◌⊎◌, ⊎_elim, arith, get_or-set_other}
+use Rattle.std.proofs.Common.{get_or-set_same, length-set}
 use Rattle.std.proofs.lemmas.List.{length-map}
 use Rattle.std.proofs.lemmas.Bool.{cases_eq}
 use Rattle.pm_links.specs.Lists.{has, list_without}
 use Rattle.pm_links.specs.Arena.{IsArena}
 use Rattle.pm_links.proofs.Without.{without_none, has-without, was_there, once-without, get_without}
 use Rattle.pm_links.proofs.Runs.{cut}
-use Rattle.pm_links.proofs.Outside.{stays, head_out, outside_item, outside, before_at, after_at, before_in, after_in}
+use Rattle.pm_links.proofs.Outside.{stays, head_out, outside_item, outside, before_at, after_at}
+use Rattle.pm_links.proofs.Outside.{before_in, after_in}
 
--- item x is taken out of the list of head h; p and q are the nodes beside it, and `none` marks an item
--- without an owner
+-- item x is taken out of the list of head h; p and q are the nodes beside it, and `none` marks an
+-- item without an owner
 pub unlinked : {n m : ℕ} {next prev owner : List ℕ} {ls : List (List ℕ)} →
     IsArena n m next prev owner ls → (h x p q none : ℕ) → h < m → has (get_or ls h []) x ≡ true →
     get_or prev x 0 ≡ p → get_or next x 0 ≡ q → m ≤ none →
@@ -26,7 +29,8 @@ unlinked {n} {m} {next} {prev} {owner} {ls} a h x p q none hm i pi qi mn =
     let out : has xs (n + h) ≡ false = head_out a h hm in
     let own : (y : ℕ) → y ≢ x → get_or (set owner x none) y 0 ≡ get_or owner y 0 =
     λ y ne. get_or-set_other owner x y none 0 ne in
-    let own_x : get_or (set owner x none) x 0 ≡ none = get_or-set_same owner x none 0 (rw a.owner_len xn) in
+    let own_x : get_or (set owner x none) x 0 ≡ none =
+    get_or-set_same owner x none 0 (rw a.owner_len xn) in
     let back : (g y : ℕ) → has (get_or (map (list_without x) ls) g []) y ≡ true →
     (y ≢ x) × (has (get_or ls g []) y ≡ true) =
     λ g y k. was_there x (get_or ls g []) y

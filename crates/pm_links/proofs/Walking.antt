@@ -1,10 +1,13 @@
 -- Laws for callers: a walk along one list by `first` and `next`.
-use Rattle.std.proofs.Common.{◌≡◌, ℕ, ◌<◌, ◌≤◌, true, false, eqb, List, [], ◌∷◌, get_or, sym, refl, ap, ◌∙◌, ⊎_elim, arith}
+use Rattle.std.proofs.Common.{◌≡◌, ℕ, ◌<◌, ◌≤◌, true, false, eqb, List, [], ◌∷◌, get_or, sym, refl}
+use Rattle.std.proofs.Common.{ap, ◌∙◌, ⊎_elim, arith}
 use Rattle.std.specs.List.{All}
 use Rattle.std.specs.Option.{IfSome}
 use Rattle.std.proofs.lemmas.List.Elements.{Contains-get_or}
-use Rattle.std.proofs.lemmas.Bool.{or_parts, or_cases, eqb-false, eq-eqb, ne_eqb, cases_Bool, false≢true}
-use Rattle.pm_links.specs.Lists.{Lists, list_of, has, IsOnce, first_of, after, rest_of_walk, IsSound}
+use Rattle.std.proofs.lemmas.Bool.{or_parts, or_cases, eqb-false, eq-eqb, ne_eqb, cases_Bool}
+use Rattle.std.proofs.lemmas.Bool.{false≢true}
+use Rattle.pm_links.specs.Lists.{Lists, list_of, has, IsOnce, first_of, after, rest_of_walk}
+use Rattle.pm_links.specs.Lists.{IsSound}
 use Rattle.pm_links.proofs.Members.{has_head, has_tail, has_from_Contains}
 
 -- ---- what is left to see
@@ -19,7 +22,8 @@ pub held_after : (x : ℕ) (xs : List ℕ) (w : ℕ) → has (after x xs) w ≡ 
 held_after x [] w t = t
 held_after x (z ∷ zs) w t =
     ⊎_elim (λ (e : eqb z x ≡ true). has_tail z zs w (rw e at t))
-    (λ (e : eqb z x ≡ false). has_tail z zs w (held_after x zs w (rw e at t))) (cases_Bool (eqb z x))
+    (λ (e : eqb z x ≡ false). has_tail z zs w (held_after x zs w (rw e at t)))
+    (cases_Bool (eqb z x))
 
 -- one step on
 pub rest_next : (xs : List ℕ) (x : ℕ) → IsOnce xs → has xs x ≡ true →

@@ -1,5 +1,6 @@
 -- The lists that a walk along the links gives are those that the arena holds.
-use Rattle.std.proofs.Common.{◌≡◌, ℕ, zero, suc, ◌+◌, ◌-◌, ◌<◌, ◌≤◌, true, List, [], ◌∷◌, length, get_or, map, sym, refl, ap, ◌∙◌, subst, ⊎_elim, arith}
+use Rattle.std.proofs.Common.{◌≡◌, ℕ, zero, suc, ◌+◌, ◌-◌, ◌<◌, ◌≤◌, true, List, [], ◌∷◌, length}
+use Rattle.std.proofs.Common.{get_or, map, sym, refl, ap, ◌∙◌, subst, ⊎_elim, arith}
 use Rattle.std.specs.List.{range_with_len}
 use Rattle.std.proofs.lemmas.List.FromFn.{length-map-range_with_len, get_or-map-range_with_len}
 use Rattle.std.proofs.lemmas.List.{ext_get_or, get_or_past}
@@ -46,7 +47,8 @@ walk-linked next prev n (suc k) a (x ∷ xs) b short nb low l =
           (λ y h. low y (has_tail x xs y h)) l.2,
     ) refl
 
-module _ {n m : ℕ} {next prev owner : List ℕ} {ls : List (List ℕ)} (a : IsArena n m next prev owner ls) where
+module _ {n m : ℕ} {next prev owner : List ℕ} {ls : List (List ℕ)}
+    (a : IsArena n m next prev owner ls) where
   pub walk_list : (h : ℕ) → h < m → walk_items next n n (get_or next (n + h) 0) ≡ get_or ls h []
   walk_list h hm =
       let low : (x : ℕ) → has (get_or ls h []) x ≡ true → x < n = λ x i. a.in_range h x hm i in
@@ -54,7 +56,8 @@ module _ {n m : ℕ} {next prev owner : List ℕ} {ls : List (List ℕ)} (a : Is
       (few_below n (get_or ls h []) (a.once h hm) low) (omega arith) low (a.linked h hm)
 
   -- a walk that knows only the node of the head comes to its end too
-  pub walk_ring : (h : ℕ) → h < m → walk_items next (n + h) (n + h) (get_or next (n + h) 0) ≡ get_or ls h []
+  pub walk_ring : (h : ℕ) → h < m → walk_items next (n + h) (n + h) (get_or next (n + h) 0)
+      ≡ get_or ls h []
   walk_ring h hm =
       let low : (x : ℕ) → has (get_or ls h []) x ≡ true → x < n + h =
       λ x i. let lt : x < n = a.in_range h x hm i in omega arith in
@@ -85,7 +88,8 @@ module _ {n m : ℕ} {next prev owner : List ℕ} {ls : List (List ℕ)} (a : Is
   sound = record {
     small = a.few_items;
     few_heads = rw a.heads a.few_heads;
-    few = λ h. ⊎_elim (λ lt. few_below n (get_or ls h []) (a.once h lt) (λ x i. a.in_range h x lt i))
+    few = λ h. ⊎_elim
+        (λ lt. few_below n (get_or ls h []) (a.once h lt) (λ x i. a.in_range h x lt i))
         (λ ge. subst (λ (k : List ℕ). length k ≤ n) (sym (get_or_past ls h [] (rw a.heads ge)))
         (omega arith)) (cases_lt h m);
     in_range = λ h x i. a.in_range h x (low_head a h x i) i;

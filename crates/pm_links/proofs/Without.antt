@@ -1,6 +1,8 @@
 -- Laws for callers: a list with an item taken out.
-use Rattle.std.proofs.Common.{◌≡◌, ◌≢◌, ℕ, zero, suc, Bool, true, false, ◌||◌, eqb, List, [], ◌∷◌, get_or, map, sym, refl, ap, ◌∙◌, ⊎_elim}
-use Rattle.std.proofs.lemmas.Bool.{or_parts, eqb-true, eqb-false, eq-eqb, ne_eqb, cases_Bool, false≢true}
+use Rattle.std.proofs.Common.{◌≡◌, ◌≢◌, ℕ, zero, suc, Bool, true, false, ◌||◌, eqb, List, [], ◌∷◌}
+use Rattle.std.proofs.Common.{get_or, map, sym, refl, ap, ◌∙◌, ⊎_elim}
+use Rattle.std.proofs.lemmas.Bool.{or_parts, eqb-true, eqb-false, eq-eqb, ne_eqb, cases_Bool}
+use Rattle.std.proofs.lemmas.Bool.{false≢true}
 use Rattle.pm_links.specs.Lists.{has, IsOnce, list_without}
 
 -- an item that isn't there
@@ -20,7 +22,8 @@ has-without x [] y ne = refl
 has-without x (z ∷ zs) y ne =
     ⊎_elim (λ (e : eqb z x ≡ true). rw e (has-without x zs y ne
     ∙ sym (or_step (eqb z y) (has zs y) (ne_eqb z y (λ k. ne (sym k ∙ eqb-true z x e))))))
-    (λ (e : eqb z x ≡ false). rw e (ap (λ b. eqb z y || b) (has-without x zs y ne))) (cases_Bool (eqb z x))
+    (λ (e : eqb z x ≡ false). rw e (ap (λ b. eqb z y || b) (has-without x zs y ne)))
+    (cases_Bool (eqb z x))
   where
     or_step : (a b : Bool) → a ≡ false → (a || b) ≡ b
     or_step a b e = rw e refl
@@ -32,9 +35,11 @@ has-without_same x (z ∷ zs) =
     (λ (e : eqb z x ≡ false). rw (e, e) (has-without_same x zs)) (cases_Bool (eqb z x))
 
 -- what is still there is another item, and was there
-pub was_there : (x : ℕ) (xs : List ℕ) (y : ℕ) → has (list_without x xs) y ≡ true → (y ≢ x) × (has xs y ≡ true)
+pub was_there : (x : ℕ) (xs : List ℕ) (y : ℕ) → has (list_without x xs) y ≡ true
+    → (y ≢ x) × (has xs y ≡ true)
 was_there x xs y h =
-    let ne : y ≢ x = λ e. false≢true (sym (has-without_same x xs) ∙ ap (has (list_without x xs)) (sym e) ∙ h) in
+    let ne : y ≢ x =
+    λ e. false≢true (sym (has-without_same x xs) ∙ ap (has (list_without x xs)) (sym e) ∙ h) in
     (ne, sym (has-without x xs y ne) ∙ h)
 
 pub once-without : (x : ℕ) (xs : List ℕ) → IsOnce xs → IsOnce (list_without x xs)

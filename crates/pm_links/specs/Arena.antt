@@ -1,6 +1,7 @@
--- The arrays of a `Links`. The node of item x is x, and the node of head h is n + h. Each list is a ring
--- of links through the node of its head.
-use Rattle.std.specs.Prelude.{◌≡◌, ℕ, zero, suc, ◌+◌, ◌<◌, ◌≤◌, true, nat_lt, List, [], ◌∷◌, length, map, slice_index, slice_index_or, if◌then◌else◌}
+-- The arrays of a `Links`. The node of item x is x, and the node of head h is n + h. Each list is a
+-- ring of links through the node of its head.
+use Rattle.std.specs.Prelude.{◌≡◌, ℕ, zero, suc, ◌+◌, ◌<◌, ◌≤◌, true, nat_lt, List, [], ◌∷◌, length}
+use Rattle.std.specs.Prelude.{map, slice_index, slice_index_or, if◌then◌else◌}
 use Rattle.std.specs.List.{range_with_len}
 use Rattle.pm_links.specs.declared.links.TheConstants.{LIMIT}
 use Rattle.pm_links.specs.Lists.{has, IsOnce}
@@ -14,7 +15,8 @@ IsLinked next prev a (x ∷ xs) b =
 -- the items from node a on, up to the first node of a head; at most k
 unfoldable pub walk_items : List ℕ → ℕ → ℕ → ℕ → List ℕ
 walk_items next n zero a = []
-walk_items next n (suc k) a = if nat_lt a n then a ∷ walk_items next n k (slice_index next a) else []
+walk_items next n (suc k) a = if nat_lt a n then a ∷ walk_items next n k (slice_index next a)
+    else []
 
 -- the list of each head
 unfoldable pub lists_of : ℕ → ℕ → List ℕ → List (List ℕ)

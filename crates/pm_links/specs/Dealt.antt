@@ -10,7 +10,8 @@ dealt_left p v from left = reverse (filter p (list_of v from)) ++ list_of v left
 abbrev pub dealt_right : (ℕ → Bool) → Lists → ℕ → ℕ → List ℕ
 dealt_right p v from right = reverse (filter (λ x. not (p x)) (list_of v from)) ++ list_of v right
 
--- the list of head h after the items of `from` are dealt to `left` where they pass, and else to `right`
+-- the list of head h after the items of `from` are dealt to `left` where they pass, and else to
+-- `right`
 abbrev pub dealt : (ℕ → Bool) → Lists → ℕ → ℕ → ℕ → ℕ → List ℕ
 dealt p v from left right h =
     if nat_eq h from then []

@@ -1,5 +1,7 @@
 -- What callers see of a `Links`: how many items there are, and the list of each head.
-use Rattle.std.specs.Prelude.{◌≡◌, ℕ, ◌<◌, ◌≤◌, Bool, true, false, not, ◌||◌, nat_eq, Option, Some, None, if◌then◌else◌, List, [], ◌∷◌, ◌++◌, length, filter, map, replicate, slice_index_or, slice_set, take, drop}
+use Rattle.std.specs.Prelude.{◌≡◌, ℕ, ◌<◌, ◌≤◌, Bool, true, false, not, ◌||◌, nat_eq, Option, Some}
+use Rattle.std.specs.Prelude.{None, if◌then◌else◌, List, [], ◌∷◌, ◌++◌, length, filter, map}
+use Rattle.std.specs.Prelude.{replicate, slice_index_or, slice_set, take, drop}
 use Rattle.pm_links.specs.declared.links.TheConstants.{LIMIT}
 
 pub record Lists : Type 0 where

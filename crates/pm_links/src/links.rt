@@ -1,13 +1,16 @@
 //! Linked lists in one arena.
-ghost use Rattle.std.specs.Prelude.{◌≡◌, ℕ, ◌+◌, ◌*◌, ◌<◌, ◌≤◌, ◌≢◌, length, slice_index, true, IfOk, ◌↔◌};
-ghost use Rattle.pm_links.specs.Lists.{list_of, has, after, first_of, IsHeld, IsFree, IsSound, empty_lists, with_first, with_moved, without_item, gathered, AreFirst};
+ghost use Rattle.std.specs.Prelude.{◌≡◌, ℕ, ◌+◌, ◌*◌, ◌<◌, ◌≤◌, ◌≢◌, length, slice_index, true};
+ghost use Rattle.std.specs.Prelude.{IfOk, ◌↔◌};
+ghost use Rattle.pm_links.specs.Lists.{list_of, has, after, first_of, IsHeld, IsFree, IsSound};
+ghost use Rattle.pm_links.specs.Lists.{empty_lists, with_first, with_moved, without_item, gathered};
+ghost use Rattle.pm_links.specs.Lists.{AreFirst};
 
 use super::rings::{Ends, copy_ends, cut_out, insert_after, move_ring, relabel};
 use std::alloc::{AllocError, Global};
 use std::marker::Model;
 
-/// The most items, and the most heads, of a `Links`. Items and heads together are then still numbers of
-/// 32 bits.
+/// The most items, and the most heads, of a `Links`. Items and heads together are then still
+/// numbers of 32 bits.
 pub const LIMIT: u32 = 4_194_304;
 
 // Clauses and definitions cite the limit by its name, so its value is said here.
@@ -19,16 +22,17 @@ pub type OutOfMemory = AllocError;
 // The owner of an item that is in no list.
 const FREE: u32 = u32::MAX;
 
-/// An arena of items and heads. Each head has a list of items, and each item is in at most one list.
+/// An arena of items and heads. Each head has a list of items, and each item is in at most one
+/// list.
 ///
-/// The lists are linked both ways and lie in the arena's own arrays: three words of 32 bits an item and
-/// two a head. Only `new` takes memory. Items and heads are numbered from 0.
+/// The lists are linked both ways and lie in the arena's own arrays: three words of 32 bits an item
+/// and two a head. Only `new` takes memory. Items and heads are numbered from 0.
 #[derive(Drop)]
 pub struct Links {
     items: u32,
     heads: u32,
-    // Node `x` is item `x`, and node `items + h` is head `h`. The list of a head is a ring through its
-    // node.
+    // Node `x` is item `x`, and node `items + h` is head `h`. The list of a head is a ring through
+    // its node.
     next: Vec<u32>,
     prev: Vec<u32>,
     // The head in whose list the item is, or `FREE`.
@@ -48,7 +52,8 @@ impl Model for Links {
 }
 
 impl Links {
-    /// `n` items and `m` heads, and every list empty. O(n + m), and the only call that takes memory.
+    /// `n` items and `m` heads, and every list empty. O(n + m), and the only call that takes
+    /// memory.
     pub fn new(alloc: Global, n: u32, m: u32) -> Result<Links, OutOfMemory>
         requires items { n ≤ LIMIT }
         requires heads { m ≤ LIMIT }
@@ -90,8 +95,8 @@ impl Links {
         self.owner[item as usize] = FREE;
     }
 
-    /// Puts the items of the list of `from`, in order, before those of the list of `to`. Afterwards the
-    /// list of `from` is empty. It goes once through the items of `from`.
+    /// Puts the items of the list of `from`, in order, before those of the list of `to`. Afterwards
+    /// the list of `from` is empty. It goes once through the items of `from`.
     pub fn move_all(&mut self, from: u32, to: u32)
         requires from_in { from < length self.old.lists }
         requires to_in { to < length self.old.lists }
@@ -128,16 +133,17 @@ impl Links {
         if node < self.items { Some(node) } else { None }
     }
 
-    /// Copies the first items of the list of `head`, in order, to the places of `room` before `front` and
-    /// then to those from `back` on. They are all, where there is room for them, and else at least half as
-    /// many as there is room for. Two walks go from the two ends of the list, so that two reads are under
-    /// way at a time. Each item is one step at most.
+    /// Copies the first items of the list of `head`, in order, to the places of `room` before
+    /// `front` and then to those from `back` on. They are all, where there is room for them, and
+    /// else at least half as many as there is room for. Two walks go from the two ends of the list,
+    /// so that two reads are under way at a time. Each item is one step at most.
     pub fn gather(&self, head: u32, room: &mut [u32]) -> Ends
         requires { head < length self.now.lists }
         ensures len { length room.new ≡ length room.old }
         ensures front { result.front ≤ result.back }
         ensures back { result.back ≤ length room.new }
-        ensures first { AreFirst (gathered room.new result.front result.back) (list_of self.now head) }
+        ensures first { AreFirst (gathered room.new result.front result.back)
+            (list_of self.now head) }
         ensures all { length (list_of self.now head) ≤ length room.old
             → gathered room.new result.front result.back ≡ list_of self.now head }
         ensures more { length room.old < length (list_of self.now head)

@@ -22,8 +22,8 @@ fn lower_sides(lowering: &mut Lowering) -> Result<(), BadNeighbour>
     Ok(())
 }
 
-/// A hierarchy back, where it is valid. It takes memory for the leaf mesh, its twins and the tables of a lowering, and opens
-/// no front. Linear in the size of the hierarchy.
+/// A hierarchy back, where it is valid. It takes memory for the leaf mesh, its twins and the tables
+/// of a lowering, and opens no front. Linear in the size of the hierarchy.
 pub fn validate(alloc: Global, h: Hierarchy) -> Result<Hierarchy, LoadFail>
     ensures h { IfOk result (λ valid. valid ≡ h) }
     ensures valid { OnOk result (IsValid h) }

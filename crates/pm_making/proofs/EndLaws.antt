@@ -1,5 +1,6 @@
 -- How a command that builds ends, and what was made then.
-use Rattle.std.proofs.Common.{◌≡◌, ℕ, List, [], Option, Some, Result, Ok, Err, refl, sym, ◌∙◌, ap, subst, arith}
+use Rattle.std.proofs.Common.{◌≡◌, ℕ, List, [], Option, Some, Result, Ok, Err, refl, sym, ◌∙◌, ap}
+use Rattle.std.proofs.Common.{subst, arith}
 use Rattle.pm_forest.specs.Forest.{Hierarchy}
 use Rattle.pm_format.specs.Stream.{stream}
 use Rattle.pm_commands.specs.declared.asked.Asked.{Asked}
@@ -52,7 +53,8 @@ faulty_of IsMade digits text f all out is =
     }
 
 pub build_refused :
-    (target digits : ℕ) (text : List ℕ) (fail : BuildFail) → IsEndOf (asked.Build target digits) text fail
+    (target digits : ℕ) (text : List ℕ) (fail : BuildFail)
+    → IsEndOf (asked.Build target digits) text fail
     → IsRefusedBy (IsBuilt target digits) text fail
 build_refused target digits text (fails.Faulty f) end =
     faulty_of (IsBuilt target digits) digits text f end.1.all end.1.outcome end.1.fault_is

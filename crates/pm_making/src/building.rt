@@ -20,7 +20,8 @@ use std::alloc::Global;
 fn obeyed(alloc: Global, asked: Asked, text: &[u8]) -> Result<Vec<u8>, BuildFail>
     requires few { digits_asked asked ≤ 4 }
     requires size { HasSize asked }
-    ensures replied { IfOk result (λ made. Replied asked text.now None (Some []) (Some made.items)) }
+    ensures replied { IfOk result
+        (λ made. Replied asked text.now None (Some []) (Some made.items)) }
     ensures refused { IfErr result (IsEndOf asked text.now) }
     ensures gives_back { (target digits : ℕ) → asked ≡ Asked.Build target digits
         → IfOk result (λ made. GivesMeshBack (Asked.Build target digits) text.now (Some [])

@@ -1,5 +1,7 @@
--- The full front has the Euler number of the leaf mesh, and so has every closed front of a firm hierarchy.
-use Rattle.std.proofs.Common.{◌≡◌, ℕ, zero, suc, ◌+◌, ◌*◌, ◌/◌, ◌<◌, ◌≤◌, ltb, Bool, true, ◌&&◌, length, inl, inr, refl, sym, ap, ◌∙◌, arith}
+-- The full front has the Euler number of the leaf mesh, and so has every closed front of a firm
+-- hierarchy.
+use Rattle.std.proofs.Common.{◌≡◌, ℕ, zero, suc, ◌+◌, ◌*◌, ◌/◌, ◌<◌, ◌≤◌, ltb, Bool, true, ◌&&◌}
+use Rattle.std.proofs.Common.{length, inl, inr, refl, sym, ap, ◌∙◌, arith}
 use Rattle.std.specs.Prelude.{is_some, is_none, pos, ◌+ℤ◌, ◌-ℤ◌}
 use Rattle.std.proofs.lemmas.Bool.{cases_Bool, and_from, and_right, lt-ltb, le-ltb, false≢true}
 use Rattle.pm_base.specs.Counts.{count}
@@ -22,7 +24,8 @@ use Rattle.pm_beyond.proofs.WalkTheory as walks
 use Rattle.pm_beyond.proofs.PlanLists.{same_bools}
 use Rattle.pm_firm.specs.Firm.{IsFirm}
 use Rattle.pm_firm.proofs.FirmFronts.{rising, rise-none, rise-with, rise-closed, rise-all}
-use Rattle.pm_manifold.specs.Measure.{is_border_side, is_joined_side, nodes_shown, faces_shown, border_sides, joined_sides, edges_shown, euler_of, edges_of}
+use Rattle.pm_manifold.specs.Measure.{is_border_side, is_joined_side, nodes_shown, faces_shown}
+use Rattle.pm_manifold.specs.Measure.{border_sides, joined_sides, edges_shown, euler_of, edges_of}
 use Rattle.pm_manifold.specs.Laws as law
 use Rattle.pm_manifold.proofs.BorderSides.{stands_as}
 use Rattle.pm_manifold.proofs.Counted.{count_all}
@@ -33,7 +36,12 @@ every_closed : (h : Hierarchy) → IsClosed h every
 every_closed h j k l t needs = refl
 
 true_and : (a b c : Bool) → a ≡ true → b ≡ c → (a && b) ≡ c
-true_and a b c t is = elim (cases_Bool b) [ inl s ↦ and_from a b t s ∙ sym s ∙ is | inr s ↦ and_right a b s ∙ sym s ∙ is ]
+true_and a b c t is =
+    elim (cases_Bool b) [
+      | inl s ↦ and_from a b t s ∙ sym s ∙ is
+      | inr s ↦ and_right a b s ∙ sym s
+          ∙ is
+    ]
 
 module _ (h : Hierarchy) (firm : IsFirm h) where
   abbrev tree : IsForest h
@@ -43,8 +51,10 @@ module _ (h : Hierarchy) (firm : IsFirm h) where
   base_nodes : nodes_shown h no_records ≡ length h.roots
   base_nodes =
       let own : ℕ → ℕ = λ i. i in
-      let all = met-count own (length h.roots) (node_count h) (λ i j a b is. let same : i ≡ j = is in absurd (omega arith)) (λ i l. let low : i < node_count h = omega arith in low) in
-      count_same (is_active h no_records) (met own (length h.roots)) (node_count h) (λ v l. same_bools (is_active h no_records v) (met own (length h.roots) v)
+      let all = met-count own (length h.roots) (node_count h) (λ i j a b is. let same : i ≡ j =
+      is in absurd (omega arith)) (λ i l. let low : i < node_count h = omega arith in low) in
+      count_same (is_active h no_records) (met own (length h.roots)) (node_count h)
+      (λ v l. same_bools (is_active h no_records v) (met own (length h.roots) v)
       (λ t. elim (is_active-true h tree.forest no_records v l t).0 [
         | inl root ↦ met-from own (length h.roots) v root
         | inr (j, jl, f, m) ↦ absurd (false≢true f)
@@ -56,15 +66,19 @@ module _ (h : Hierarchy) (firm : IsFirm h) where
       is_active-from h tree.forest no_records v (inl root, λ k kl f. absurd (false≢true f)))) ∙ all
 
   risen_nodes : (j : ℕ) → j ≤ record_count h → nodes_shown h (rising every j) ≡ length h.roots + j
-  risen_nodes zero l = let z : length h.roots ≡ length h.roots + 0 = omega arith in ap (nodes_shown h) (rise-none every) ∙ base_nodes ∙ z
+  risen_nodes zero l = let z : length h.roots ≡ length h.roots + 0 =
+      omega arith in ap (nodes_shown h) (rise-none every) ∙ base_nodes ∙ z
   risen_nodes (suc j) l =
       let low = rise-closed h firm every (every_closed h) j in
       let jl : j < record_count h = omega arith in
-      let may = may_split-from h firm.valid.shape (rising every j) low j jl (and_right (every j) (ltb j j) (le-ltb j j (omega arith))) (λ i needs.
-      and_from (every i) (ltb i j) refl (lt-ltb i j (needs-older h firm.valid.shape j i jl needs))) in
+      let may = may_split-from h firm.valid.shape (rising every j) low j jl
+      (and_right (every j) (ltb j j) (le-ltb j j (omega arith))) (λ i needs.
+      and_from (every i) (ltb i j) refl (lt-ltb i j (needs-older h firm.valid.shape j i jl needs)))
+      in
       let more = nodes_more h firm.valid (rising every j) low j jl may in
       let before = risen_nodes j (omega arith) in
-      ap (nodes_shown h) (sym (rise-with every j refl)) ∙ more ∙ ap (λ x. x + 1) before ∙ omega arith
+      ap (nodes_shown h) (sym (rise-with every j refl)) ∙ more ∙ ap (λ x. x + 1) before
+      ∙ omega arith
 
   abbrev front : IsFront h every
   front = closed-front h every (every_closed h)
@@ -85,27 +99,34 @@ module _ (h : Hierarchy) (firm : IsFirm h) where
   full_faces = count_all (is_kept h every) (face_count h) full_kept
 
   full_beyond : (e : ℕ) → e < 3 * face_count h → beyond_of h every e ≡ leaf_twin h e
-  full_beyond e l = stands_as h firm.valid every front e (leaf_twin h e) l (shown_every h e) (walks.full h tree firm.valid.no_side_twice e l)
+  full_beyond e l =
+      stands_as h firm.valid every front e (leaf_twin h e) l (shown_every h e)
+      (walks.full h tree firm.valid.no_side_twice e l)
 
   kept_here : (e : ℕ) → e < 3 * face_count h → is_kept h every (face_of e) ≡ true
   kept_here e l = kept_at_side h tree every front e l ∙ shown_every h e
 
   full_borders : border_sides h every ≡ count (λ e. is_none (leaf_twin h e)) (3 * face_count h)
   unfolding is_border_side
-  full_borders = count_same (is_border_side h every) (λ e. is_none (leaf_twin h e)) (3 * face_count h) (λ e l.
-      true_and (is_kept h every (face_of e)) (is_none (beyond_of h every e)) (is_none (leaf_twin h e)) (kept_here e l) (ap is_none (full_beyond e l)))
+  full_borders =
+      count_same (is_border_side h every) (λ e. is_none (leaf_twin h e)) (3 * face_count h) (λ e l.
+      true_and (is_kept h every (face_of e)) (is_none (beyond_of h every e))
+      (is_none (leaf_twin h e)) (kept_here e l) (ap is_none (full_beyond e l)))
 
   full_joined : joined_sides h every ≡ count (λ e. is_some (leaf_twin h e)) (3 * face_count h)
   unfolding is_joined_side
-  full_joined = count_same (is_joined_side h every) (λ e. is_some (leaf_twin h e)) (3 * face_count h) (λ e l.
-      true_and (is_kept h every (face_of e)) (is_some (beyond_of h every e)) (is_some (leaf_twin h e)) (kept_here e l) (ap is_some (full_beyond e l)))
+  full_joined =
+      count_same (is_joined_side h every) (λ e. is_some (leaf_twin h e)) (3 * face_count h) (λ e l.
+      true_and (is_kept h every (face_of e)) (is_some (beyond_of h every e))
+      (is_some (leaf_twin h e)) (kept_here e l) (ap is_some (full_beyond e l)))
 
   full_edges : edges_shown h every ≡ edges_of (leaf_net h)
   full_edges =
       ap (λ x. x + joined_sides h every / 2) full_borders
       ∙ ap (λ x. count (λ e. is_none (leaf_twin h e)) (3 * face_count h) + x / 2) full_joined
 
-  pub full_euler : euler_of h every ≡ pos (leaf_count h) -ℤ pos (edges_of (leaf_net h)) +ℤ pos (face_count h)
+  pub full_euler : euler_of h every ≡ pos (leaf_count h) -ℤ pos (edges_of (leaf_net h)) +ℤ pos
+      (face_count h)
   unfolding euler_of
   full_euler =
       ap (λ x. pos x -ℤ pos (edges_shown h every) +ℤ pos (faces_shown h every)) full_nodes
@@ -113,4 +134,5 @@ module _ (h : Hierarchy) (firm : IsFirm h) where
       ∙ ap (λ x. pos (leaf_count h) -ℤ pos (edges_of (leaf_net h)) +ℤ pos x) full_faces
 
 pub euler_stays : law.EulerNumbersStay
-euler_stays h firm T closed = as_base h firm T closed ∙ sym (as_base h firm every (every_closed h)) ∙ full_euler h firm
+euler_stays h firm T closed =
+    as_base h firm T closed ∙ sym (as_base h firm every (every_closed h)) ∙ full_euler h firm

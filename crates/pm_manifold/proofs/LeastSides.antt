@@ -1,6 +1,8 @@
 -- Each loop of border sides has one least side.
-use Rattle.std.proofs.Common.{◌≡◌, ℕ, zero, suc, ◌*◌, ◌<◌, leb, Bool, true, false, inl, inr, refl, arith}
-use Rattle.std.proofs.lemmas.Bool.{cases_Bool, cases_order, both_ways, true≢false, and_parts, and_cases, leb-false}
+use Rattle.std.proofs.Common.{◌≡◌, ℕ, zero, suc, ◌*◌, ◌<◌, leb, Bool, true, false, inl, inr, refl}
+use Rattle.std.proofs.Common.{arith}
+use Rattle.std.proofs.lemmas.Bool.{cases_Bool, cases_order, both_ways, true≢false, and_parts}
+use Rattle.std.proofs.lemmas.Bool.{and_cases, leb-false}
 use Rattle.pm_forest.specs.Forest.{Hierarchy}
 use Rattle.pm_forest.specs.Faces.{face_count}
 use Rattle.pm_beyond.specs.Valid.{IsValid}
@@ -11,7 +13,8 @@ use Rattle.pm_manifold.specs.Laws as law
 use Rattle.pm_manifold.proofs.Loops.{after-zero, after_border, joins, turns, begins_not}
 
 -- Where a side isn't the least, a lesser one is reached.
-lesser : (h : Hierarchy) (T : ℕ → Bool) (e n : ℕ) → is_least_within h T e n ≡ false → (i : ℕ) × (i < n) × (border_after h T e i < e)
+lesser : (h : Hierarchy) (T : ℕ → Bool) (e n : ℕ) → is_least_within h T e n ≡ false
+    → (i : ℕ) × (i < n) × (border_after h T e i < e)
 lesser h T e zero off = absurd (true≢false off)
 lesser h T e (suc n) off =
     elim (and_cases (leb e (border_after h T e n)) (is_least_within h T e n) off) [
@@ -22,9 +25,13 @@ lesser h T e (suc n) off =
 module _ (h : Hierarchy) (valid : IsValid h) (T : ℕ → Bool) (closed : IsClosed h T) where
   border-of : (e : ℕ) → e < 3 * face_count h → begins_loop h T e ≡ true → IsBorderSideIn h T e
   unfolding begins_loop
-  border-of e l t = record { low = l; border = (and_parts (is_border_side h T e) (is_least_within h T e (3 * face_count h)) t).0 }
+  border-of e l t = record {
+    low = l;
+    border = (and_parts (is_border_side h T e) (is_least_within h T e (3 * face_count h)) t).0;
+  }
 
-  not_least : (e : ℕ) → IsBorderSideIn h T e → begins_loop h T e ≡ false → is_least_within h T e (3 * face_count h) ≡ false
+  not_least : (e : ℕ) → IsBorderSideIn h T e → begins_loop h T e ≡ false
+      → is_least_within h T e (3 * face_count h) ≡ false
   unfolding begins_loop
   not_least e b off =
       elim (and_cases (is_border_side h T e) (is_least_within h T e (3 * face_count h)) off) [
@@ -47,17 +54,31 @@ module _ (h : Hierarchy) (valid : IsValid h) (T : ℕ → Bool) (closed : IsClos
             let (i, il, less) = lesser h T e (3 * face_count h) (not_least e b off) in
             let x = border_after h T e i in
             let r = find n x (omega arith) (after_border h valid T closed e i b) in
-            record { least = r.least; low = r.low; begins = r.begins; leads = joins h valid T closed r.least x e r.leads (turns h valid T closed e x b (i, refl)) }
+            record {
+              least = r.least;
+              low = r.low;
+              begins = r.begins;
+              leads =
+                  joins h valid T closed r.least x e r.leads
+                  (turns h valid T closed e x b (i, refl));
+            }
       ]
 
-  same_least : (g k e : ℕ) → IsBorderSideIn h T g → IsBorderSideIn h T k → begins_loop h T g ≡ true → begins_loop h T k ≡ true → IsInLoop h T g e → IsInLoop h T k e → g ≡ k
+  same_least : (g k e : ℕ) → IsBorderSideIn h T g → IsBorderSideIn h T k → begins_loop h T g ≡ true
+      → begins_loop h T k ≡ true → IsInLoop h T g e → IsInLoop h T k e → g ≡ k
   same_least g k e bg bk tg tk a b =
       elim (cases_order g k) [
         | inl is ↦ is
         | inr o ↦
             elim o [
-              | inl less ↦ absurd (both_ways (begins_loop h T k) (begins_not h valid T closed k g less bg (joins h valid T closed g e k a (turns h valid T closed k e bk b))) tk)
-              | inr less ↦ absurd (both_ways (begins_loop h T g) (begins_not h valid T closed g k less bk (joins h valid T closed k e g b (turns h valid T closed g e bg a))) tg)
+              | inl less ↦
+                  absurd (both_ways (begins_loop h T k)
+                  (begins_not h valid T closed k g less bg
+                  (joins h valid T closed g e k a (turns h valid T closed k e bk b))) tk)
+              | inr less ↦
+                  absurd (both_ways (begins_loop h T g)
+                  (begins_not h valid T closed g k less bk
+                  (joins h valid T closed k e g b (turns h valid T closed g e bg a))) tg)
             ]
       ]
 
@@ -68,5 +89,6 @@ one_least h valid T closed e b =
       least = r.least;
       begins = r.begins;
       leads = r.leads;
-      only = λ g l t a. same_least h valid T closed g r.least e (border-of h valid T closed g l t) (border-of h valid T closed r.least r.low r.begins) t r.begins a r.leads;
+      only = λ g l t a. same_least h valid T closed g r.least e (border-of h valid T closed g l t)
+          (border-of h valid T closed r.least r.low r.begins) t r.begins a r.leads;
     }

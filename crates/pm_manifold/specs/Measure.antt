@@ -1,5 +1,6 @@
 -- The measure of the mesh that a front shows.
-use Rattle.std.specs.Prelude.{ℕ, ℤ, zero, suc, pos, ◌+ℤ◌, ◌-ℤ◌, ◌+◌, ◌*◌, ◌/◌, nat_le, Bool, true, ◌&&◌, Option, option_map, is_some, is_none}
+use Rattle.std.specs.Prelude.{ℕ, ℤ, zero, suc, pos, ◌+ℤ◌, ◌-ℤ◌, ◌+◌, ◌*◌, ◌/◌, nat_le, Bool, true}
+use Rattle.std.specs.Prelude.{◌&&◌, Option, option_map, is_some, is_none}
 use Rattle.pm_base.specs.Sides.{Net, face_of, next, twin_of}
 use Rattle.pm_base.specs.Counts.{count}
 use Rattle.pm_forest.specs.Forest.{Hierarchy, node_count}
@@ -15,7 +16,8 @@ is_border_side h T e = is_kept h T (face_of e) && is_none (beyond_of h T e)
 unfoldable pub is_joined_side : Hierarchy → (ℕ → Bool) → ℕ → Bool
 is_joined_side h T e = is_kept h T (face_of e) && is_some (beyond_of h T e)
 
--- How many nodes are active, how many faces are kept, and how many sides are border sides or others.
+-- How many nodes are active, how many faces are kept, and how many sides are border sides or
+-- others.
 abbrev pub nodes_shown : Hierarchy → (ℕ → Bool) → ℕ
 nodes_shown h T = count (is_active h T) (node_count h)
 
@@ -38,7 +40,9 @@ euler_of h T = pos (nodes_shown h T) -ℤ pos (edges_shown h T) +ℤ pos (faces_
 
 -- The same of a mesh by its sides: each side without a twin is an edge, and so are each two twins.
 abbrev pub edges_of : Net → ℕ
-edges_of m = count (λ e. is_none (twin_of m e)) (3 * m.faces) + count (λ e. is_some (twin_of m e)) (3 * m.faces) / 2
+edges_of m =
+    count (λ e. is_none (twin_of m e)) (3 * m.faces) + count (λ e. is_some (twin_of m e))
+    (3 * m.faces) / 2
 
 abbrev pub euler_of_mesh : Net → ℕ → ℤ
 euler_of_mesh m vertices = pos vertices -ℤ pos (edges_of m) +ℤ pos m.faces
@@ -47,8 +51,9 @@ euler_of_mesh m vertices = pos vertices -ℤ pos (edges_of m) +ℤ pos m.faces
 abbrev pub turn_at : Hierarchy → (ℕ → Bool) → ℕ → Option ℕ
 turn_at h T e = option_map next (beyond_of h T e)
 
--- The border side after border side e: from the side that follows e in its face, while a side stands beyond, on to the
--- side that follows that one. No walk takes more steps than there are sides.
+-- The border side after border side e: from the side that follows e in its face, while a side
+-- stands beyond, on to the side that follows that one. No walk takes more steps than there are
+-- sides.
 unfoldable pub next_border : Hierarchy → (ℕ → Bool) → ℕ → ℕ
 next_border h T e = walk (turn_at h T) (3 * face_count h) (next e)
 

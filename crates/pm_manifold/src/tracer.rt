@@ -1,9 +1,11 @@
 //! Counting nodes, edges, faces and border loops of the mesh shown.
-ghost use Rattle.std.specs.Prelude.{◌≡◌, ◌+◌, ◌*◌, ◌<◌, ◌≤◌, ◌↔◌, ◌⊎◌, ℕ, true, false, length, IfOk};
+ghost use Rattle.std.specs.Prelude.{◌≡◌, ◌+◌, ◌*◌, ◌<◌, ◌≤◌, ◌↔◌, ◌⊎◌, ℕ, true, false, length};
+ghost use Rattle.std.specs.Prelude.{IfOk};
 ghost use Rattle.pm_base.specs.declared.limits.TheConstants.{MOST_FACES, MOST_NODES, MOST_SIDES};
 ghost use Rattle.pm_base.specs.Counts.{count, set_of};
 ghost use Rattle.pm_forest.specs.Faces.{face_count};
-ghost use Rattle.pm_manifold.specs.Measure.{nodes_shown, edges_shown, faces_shown, border_sides, loops_shown};
+ghost use Rattle.pm_manifold.specs.Measure.{nodes_shown, edges_shown, faces_shown, border_sides};
+ghost use Rattle.pm_manifold.specs.Measure.{loops_shown};
 ghost use Rattle.pm_manifold.specs.Tracing.{IsBorderSideIn, IsInLoop};
 
 use crate::OutOfMemory;
@@ -14,7 +16,8 @@ use pm_front::Front;
 use std::alloc::Global;
 use std::marker::Model;
 
-/// How many nodes, edges, faces and border loops the mesh shown has. The Euler number is nodes minus edges plus faces.
+/// How many nodes, edges, faces and border loops the mesh shown has. The Euler number is nodes
+/// minus edges plus faces.
 #[derive(Clone, Copy, Debug, PartialEq, Eq)]
 pub struct Measure {
     pub nodes: u32,
@@ -49,15 +52,16 @@ impl Tracer {
         })
     }
 
-    /// The measure of the mesh that the front shows. The front is one of the tracer's hierarchy. Each side is looked at, and
-    /// turned over once more where it is at a border node; no memory.
+    /// The measure of the mesh that the front shows. The front is one of the tracer's hierarchy.
+    /// Each side is looked at, and turned over once more where it is at a border node; no memory.
     pub fn measure(&mut self, front: &Front) -> Measure
         requires { self.old ≡ 3 * face_count front.now.h }
         ensures nodes { result.nodes ≡ nodes_shown front.now.h (set_of front.now.flags) }
         ensures edges { result.edges ≡ edges_shown front.now.h (set_of front.now.flags) }
         ensures faces { result.faces ≡ faces_shown front.now.h (set_of front.now.flags) }
         ensures loops { result.loops ≡ loops_shown front.now.h (set_of front.now.flags) }
-        ensures few { (result.nodes ≤ MOST_NODES) × (result.edges ≤ MOST_SIDES) × (result.faces ≤ MOST_FACES) }
+        ensures few { (result.nodes ≤ MOST_NODES) × (result.edges ≤ MOST_SIDES)
+            × (result.faces ≤ MOST_FACES) }
         ensures same { self.new ≡ self.old }
     {
         front.invariant();
@@ -104,7 +108,8 @@ fn mark_loop(marks: &mut Vec<bool>, front: &Front, first: Side)
     requires border { IsBorderSideIn front.now.h (set_of front.now.flags) first.0 }
     ensures len { length marks.new.items ≡ length marks.old.items }
     ensures marked { (i : ℕ) → (set_of marks.new.items i ≡ true)
-        ↔ ((set_of marks.old.items i ≡ true) ⊎ IsInLoop front.now.h (set_of front.now.flags) first.0 i) }
+        ↔ ((set_of marks.old.items i ≡ true)
+        ⊎ IsInLoop front.now.h (set_of front.now.flags) first.0 i) }
 {
     front.invariant();
     let mut at = first;

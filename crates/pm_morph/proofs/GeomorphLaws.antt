@@ -16,9 +16,14 @@ use Rattle.pm_morph.proofs.LeastLaws.{none_part, part_none, first_unsplit, unspl
 use Rattle.pm_morph.proofs.InterpolationLaws.{place_at_end, place_at_start}
 
 pub elders : law.EachNodeHasOneElder
-elders h shape T S marked front part v active = (is_elder h shape T S marked front part v active, only_elder h shape T S marked front part v active)
+elders h shape T S marked front part v active = (
+  is_elder h shape T S marked front part v active,
+  only_elder h shape T S marked front part v
+      active,
+)
 
-own_place : (h : Hierarchy) (T : ℕ → Bool) (b v : ℕ) → 0 < b → morph_place_at h T b b v ≡ place_of_node h v
+own_place : (h : Hierarchy) (T : ℕ → Bool) (b v : ℕ) → 0 < b
+    → morph_place_at h T b b v ≡ place_of_node h v
 unfolding morph_place_at
 own_place h T b v some = place_at_end b (place_of_node h (elder_of h T v)) (place_of_node h v) some
 
@@ -26,7 +31,9 @@ own_line : (h : Hierarchy) (T : ℕ → Bool) (b v : ℕ) → 0 < b → moved_no
 own_line h T b v some = ap (node_line v) (own_place h T b v some)
 
 pub ends : law.EndsAtTheFrame
-ends h T S b some = ap (λ (line : ℕ → List ℕ). flat_map line (active_nodes h S)) (fun_ext (λ v. own_line h T b v some))
+ends h T S b some =
+    ap (λ (line : ℕ → List ℕ). flat_map line (active_nodes h S))
+    (fun_ext (λ v. own_line h T b v some))
 
 pub starts : law.StartsAtElders
 unfolding morph_place_at
@@ -36,4 +43,5 @@ pub faces : law.EldersShowTheMarkedFront
 faces h shape T S marked front part = elders_show h shape T S marked front part
 
 pub least : law.TheLeastIsNamed
-least h T S = ((none_part h T S, part_none h T S), λ k. (first_unsplit h T S k, unsplit_first h T S k))
+least h T S =
+    ((none_part h T S, part_none h T S), λ k. (first_unsplit h T S k, unsplit_first h T S k))

@@ -13,13 +13,18 @@ use Rattle.pm_base.specs.Place.{Place}
 use Rattle.pm_morph.specs.Interpolation.{interpolated, place_between}
 
 pub weighed_small : (w : ℕ) (c : ℤ) → unsigned_abs c ≤ 32767 → unsigned_abs (pos w *ℤ c) ≤ w * 32767
-weighed_small w c small = rw unsigned_abs-mul (mul-le w (unsigned_abs c) w 32767 (omega arith) small)
+weighed_small w c small =
+    rw unsigned_abs-mul (mul-le w (unsigned_abs c) w 32767 (omega arith) small)
 
-pub sum_small : (a b : ℕ) (x y : ℤ) → a ≤ b → unsigned_abs x ≤ (b - a) * 32767 → unsigned_abs y ≤ a * 32767 → unsigned_abs (x +ℤ y) ≤ b * 32767
+pub sum_small : (a b : ℕ) (x y : ℤ) → a ≤ b → unsigned_abs x ≤ (b - a) * 32767
+    → unsigned_abs y ≤ a * 32767 → unsigned_abs (x +ℤ y) ≤ b * 32767
 sum_small a b x y l p q = omega (arith, abs_plus x y)
 
-pub way_small : (a b : ℕ) (elder own : ℤ) → a ≤ b → unsigned_abs elder ≤ 32767 → unsigned_abs own ≤ 32767 → unsigned_abs (pos (b - a) *ℤ elder +ℤ pos a *ℤ own) ≤ b * 32767
-way_small a b elder own l p q = sum_small a b (pos (b - a) *ℤ elder) (pos a *ℤ own) l (weighed_small (b - a) elder p) (weighed_small a own q)
+pub way_small : (a b : ℕ) (elder own : ℤ) → a ≤ b → unsigned_abs elder ≤ 32767
+    → unsigned_abs own ≤ 32767 → unsigned_abs (pos (b - a) *ℤ elder +ℤ pos a *ℤ own) ≤ b * 32767
+way_small a b elder own l p q =
+    sum_small a b (pos (b - a) *ℤ elder) (pos a *ℤ own) l (weighed_small (b - a) elder p)
+    (weighed_small a own q)
 
 div_small : (n b : ℕ) → n ≤ b * 32767 → n / b ≤ 32767
 div_small n b l = div-le_of_le-mul b l
@@ -28,10 +33,12 @@ div_less : (n b : ℕ) → n < b * 32767 → n / b < 32767
 div_less n b l =
     elim (cases_lt (n / b) 32767) [
       | inl m ↦ m
-      | inr m ↦ (let p = mul-div-le n b in let q = mul-le b 32767 b (n / b) (omega arith) m in absurd (omega arith))
+      | inr m ↦ (let p = mul-div-le n b in let q = mul-le b 32767 b (n / b) (omega arith) m in
+          absurd (omega arith))
     ]
 
-pub part_small : (z : ℤ) (b : ℕ) → 0 < b → unsigned_abs z ≤ b * 32767 → unsigned_abs (int_div_euclid z (pos b)) ≤ 32767
+pub part_small : (z : ℤ) (b : ℕ) → 0 < b → unsigned_abs z ≤ b * 32767
+    → unsigned_abs (int_div_euclid z (pos b)) ≤ 32767
 part_small (pos n) b some small = div_small n b small
 part_small (negsuc n) b some small = let l = div_less n b (omega arith) in omega arith
 
@@ -40,8 +47,10 @@ negative : (b n : ℕ) → 0 < b → pos b *ℤ negsuc n ≡ negsuc (b * suc n -
 negative b n some = omega (arith, ints, product_is (pos b) (negsuc n))
 
 pub shared : (b : ℕ) (o : ℤ) → 0 < b → int_div_euclid (pos b *ℤ o) (pos b) ≡ o
-shared b (pos n) some = ap (λ z. int_div_euclid z (pos b)) (pos-*ℤ-pos b n) ∙ ap pos (mul-div_cancel_left n some)
-shared b (negsuc n) some = ap (λ z. int_div_euclid z (pos b)) (negative b n some) ∙ ap negsuc (div-eq_of_lt-le b (omega arith) (omega arith))
+shared b (pos n) some = ap (λ z. int_div_euclid z (pos b)) (pos-*ℤ-pos b n)
+    ∙ ap pos (mul-div_cancel_left n some)
+shared b (negsuc n) some = ap (λ z. int_div_euclid z (pos b)) (negative b n some)
+    ∙ ap negsuc (div-eq_of_lt-le b (omega arith) (omega arith))
 
 nothing : (z : ℤ) → pos 0 *ℤ z ≡ pos 0
 nothing z = omega (arith, ints, product_is (pos 0) z)
@@ -59,7 +68,10 @@ at_start b elder own some =
     rw (all, sum) (shared b elder some)
 
 pub place_at_end : (b : ℕ) (elder own : Place) → 0 < b → place_between b b elder own ≡ own
-place_at_end b elder own some = rw (at_end b elder.x own.x some, at_end b elder.y own.y some, at_end b elder.z own.z some) refl
+place_at_end b elder own some =
+    rw (at_end b elder.x own.x some, at_end b elder.y own.y some, at_end b elder.z own.z some) refl
 
 pub place_at_start : (b : ℕ) (elder own : Place) → 0 < b → place_between 0 b elder own ≡ elder
-place_at_start b elder own some = rw (at_start b elder.x own.x some, at_start b elder.y own.y some, at_start b elder.z own.z some) refl
+place_at_start b elder own some =
+    rw (at_start b elder.x own.x some, at_start b elder.y own.y some, at_start b elder.z own.z some)
+    refl

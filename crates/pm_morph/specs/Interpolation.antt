@@ -11,7 +11,13 @@ abbrev pub interpolated : ℕ → ℕ → ℤ → ℤ → ℤ
 interpolated a b elder own = int_div_euclid (pos (b - a) *ℤ elder +ℤ pos a *ℤ own) (pos b)
 
 abbrev pub place_between : ℕ → ℕ → Place → Place → Place
-place_between a b elder own = record { x = interpolated a b elder.x own.x; y = interpolated a b elder.y own.y; z = interpolated a b elder.z own.z }
+place_between a b elder own =
+    record {
+      x = interpolated a b elder.x own.x;
+      y = interpolated a b elder.y own.y;
+      z =
+          interpolated a b elder.z own.z;
+    }
 
 -- The place of node v at a/b, where T is the marked front.
 unfoldable pub morph_place_at : Hierarchy → (ℕ → Bool) → ℕ → ℕ → ℕ → Place

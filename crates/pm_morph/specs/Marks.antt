@@ -13,8 +13,10 @@ pub record AreMarksOf (h : Hierarchy) (marks : List Bool) : Type 0 where
   pub mark_len : length marks ≡ record_count h
   pub closed : IsClosed h (set_of marks)
 
--- How a geomorph ends, by the marked record that isn't split, if there is one, and the text that is due.
-abbrev pub MorphEnds : Option ℕ → List ℕ → Result (Unit {0}) MorphFail → Option (List ℕ) → Option (List ℕ) → Type 0
+-- How a geomorph ends, by the marked record that isn't split, if there is one, and the text that is
+-- due.
+abbrev pub MorphEnds : Option ℕ → List ℕ → Result (Unit {0}) MorphFail → Option (List ℕ)
+    → Option (List ℕ) → Type 0
 MorphEnds None text (Ok done) old new = Gains old new text
 MorphEnds None text (Err fails.Write) old new = GainsPart old new text
 MorphEnds (Some k) text (Err (fails.NotFiner j)) old new = (j ≡ k) × (new ≡ old)

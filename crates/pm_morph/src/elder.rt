@@ -18,7 +18,8 @@ fn climb(h: &Hierarchy, marks: &[bool], from: NodeId) -> NodeId
     requires front { IsFront h.now (set_of marks.now) }
     requires leaf { (interval_of h.now from.0).from < leaf_count h.now }
     requires above { IsAbove h.now (set_of marks.now) (interval_of h.now from.0).from from.0 }
-    ensures value { result.0 ≡ ancestor_of h.now (set_of marks.now) (interval_of h.now from.0).from }
+    ensures value { result.0
+        ≡ ancestor_of h.now (set_of marks.now) (interval_of h.now from.0).from }
     ensures there { result.0 < node_count h.now }
 {
     h.invariant();
@@ -32,7 +33,8 @@ fn climb(h: &Hierarchy, marks: &[bool], from: NodeId) -> NodeId
     node
 }
 
-/// The elder of an active node: the climb goes up to the first node that a marked record made, or to a root.
+/// The elder of an active node: the climb goes up to the first node that a marked record made, or
+/// to a root.
 #[tactic(auto, unfolding(crate::specs::Elders::elder_of))]
 pub(crate) fn elder(front: &Front, marks: &[bool], node: NodeId) -> NodeId
     requires marks { AreMarksOf front.now.h marks.now }

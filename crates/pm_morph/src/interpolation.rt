@@ -26,7 +26,8 @@ fn sum_of(x: i64, y: i64) -> i64
     x + y
 }
 
-// The weighted mean of two coordinates, rounded down, from their weighted sum and the sum of the weights.
+// The weighted mean of two coordinates, rounded down, from their weighted sum and the sum of the
+// weights.
 #[tactic(auto, using(crate::proofs::InterpolationLaws::part_small))]
 fn part_of(sum: i64, b: u32) -> i32
     requires some { 0 < b }
@@ -52,7 +53,8 @@ fn interpolated(a: u32, b: u32, elder: i32, own: i32) -> i32
     part_of(sum_of(weighed(b - a, elder), weighed(a, own)), b)
 }
 
-/// The place at a/b of the way from the elder's place to the node's own, with each coordinate rounded down.
+/// The place at a/b of the way from the elder's place to the node's own, with each coordinate
+/// rounded down.
 pub(crate) fn place_between(a: u32, b: u32, elder: &Point, own: &Point) -> Point
     requires some { 0 < b }
     requires most { b ≤ MOST_PARTS }

@@ -1,5 +1,6 @@
-//! Geomorphs: the mesh on its way from a marked front to a finer one (Hoppe 1996). It has the faces of the finer front, and
-//! each node stands between its elder, the node of the marked front above it, and its own place.
+//! Geomorphs: the mesh on its way from a marked front to a finer one (Hoppe 1996). It has the faces
+//! of the finer front, and each node stands between its elder, the node of the marked front above
+//! it, and its own place.
 #![tactic(auto)]
 
 mod elder;

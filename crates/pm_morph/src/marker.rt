@@ -17,15 +17,16 @@ use pm_io::Sink;
 use std::alloc::Global;
 use std::marker::Model;
 
-/// Why a geomorph isn't written whole: a marked record, the least such one, isn't split, or the text couldn't be put.
+/// Why a geomorph isn't written whole: a marked record, the least such one, isn't split, or the
+/// text couldn't be put.
 #[derive(Clone, Copy, Debug, PartialEq, Eq)]
 pub enum MorphFail {
     NotFiner(u32),
     Write,
 }
 
-/// A marked front of a hierarchy: a mark for each record, set where the record is split in that front. Contracts see the
-/// marks.
+/// A marked front of a hierarchy: a mark for each record, set where the record is split in that
+/// front. Contracts see the marks.
 #[derive(Drop)]
 pub struct Marker {
     marks: Vec<bool>,
@@ -65,7 +66,8 @@ fn write_from<K: Sink>(
     requires most { b ≤ MOST_PARTS }
     requires within { a ≤ b }
     ensures ends { let S = set_of front.now.flags in let T = set_of marks.now in
-        MorphEnds (unsplit_of front.now.h T S) (morph_text front.now.h T S a b) result (K.got out.old) (K.got out.new) }
+        MorphEnds (unsplit_of front.now.h T S) (morph_text front.now.h T S a b) result
+        (K.got out.old) (K.got out.new) }
     ensures counts { MorphCounts result (K.faults out.old) (K.faults out.new) }
 {
     match first_unsplit(front, marks) {
@@ -78,7 +80,8 @@ fn write_from<K: Sink>(
 }
 
 impl Marker {
-    /// A marker of the base front of a hierarchy, in which no record is split. It takes memory for a mark on each record.
+    /// A marker of the base front of a hierarchy, in which no record is split. It takes memory for
+    /// a mark on each record.
     #[tactic(auto, using(pm_forest::proofs::Flags::none_set, crate::proofs::MarkLaws::base_marks))]
     pub fn new(alloc: Global, h: &Hierarchy) -> Result<Marker, OutOfMemory>
         ensures base { IfOk result (λ m. set_of m ≡ no_records) }
@@ -88,7 +91,8 @@ impl Marker {
         Ok(Marker { marks })
     }
 
-    /// Marks a front, of the hierarchy that the marker was made of. It takes no memory, and a step for each record.
+    /// Marks a front, of the hierarchy that the marker was made of. It takes no memory, and a step
+    /// for each record.
     #[tactic(auto, using(crate::proofs::MarkLaws::front_marks))]
     pub fn mark(&mut self, front: &Front)
         requires { AreMarksOf front.now.h self.old }
@@ -114,14 +118,15 @@ impl Marker {
         self.marks[k as usize]
     }
 
-    /// Writes the mesh at a/b of the way from the marked front to a finer one: the text of the finer front's frame, with
-    /// another first line, and with each active node at a/b of the way from its elder's place to its own, each coordinate
-    /// rounded down. `b` is from 1 to 65,535 and `a` at most `b`.
+    /// Writes the mesh at a/b of the way from the marked front to a finer one: the text of the
+    /// finer front's frame, with another first line, and with each active node at a/b of the way
+    /// from its elder's place to its own, each coordinate rounded down. `b` is from 1 to 65,535 and
+    /// `a` at most `b`.
     ///
-    /// NotFiner names the least marked record that isn't split, exactly where there is one, and nothing is written then.
-    /// Write comes only where the sink failed: it gained a part of the text from its front, and not the whole. The marks
-    /// stay. It takes no memory; it costs what a frame does, a climb from each active node to its
-    /// elder, and a step for each record.
+    /// NotFiner names the least marked record that isn't split, exactly where there is one, and
+    /// nothing is written then. Write comes only where the sink failed: it gained a part of the
+    /// text from its front, and not the whole. The marks stay. It takes no memory; it costs what a
+    /// frame does, a climb from each active node to its elder, and a step for each record.
     pub fn write_morph<K: Sink>(
         &mut self,
         front: &Front,
@@ -134,7 +139,8 @@ impl Marker {
         requires most { b ≤ MOST_PARTS }
         requires within { a ≤ b }
         ensures ends { let S = set_of front.now.flags in let T = set_of self.old in
-            MorphEnds (unsplit_of front.now.h T S) (morph_text front.now.h T S a b) result (K.got out.old) (K.got out.new) }
+            MorphEnds (unsplit_of front.now.h T S) (morph_text front.now.h T S a b) result
+            (K.got out.old) (K.got out.new) }
         ensures counts { MorphCounts result (K.faults out.old) (K.faults out.new) }
         ensures same { self.new ≡ self.old }
     {

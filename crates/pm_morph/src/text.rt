@@ -6,7 +6,8 @@ ghost use Rattle.pm_forest.specs.Fronts.{is_active};
 ghost use Rattle.pm_base.specs.Counts.{set_of};
 ghost use Rattle.pm_morph.specs.Elders.{IsPart};
 ghost use Rattle.pm_morph.specs.Marks.{AreMarksOf};
-ghost use Rattle.pm_morph.specs.Texts.{morph_line, first_morph_line, moved_node, moved_lines, morph_text};
+ghost use Rattle.pm_morph.specs.Texts.{morph_line, first_morph_line, moved_node, moved_lines};
+ghost use Rattle.pm_morph.specs.Texts.{morph_text};
 ghost use Rattle.pm_morph.specs.declared.limits.TheConstants.{MOST_PARTS};
 
 use crate::elder::elder;

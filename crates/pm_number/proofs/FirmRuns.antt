@@ -1,5 +1,6 @@
 -- The hierarchy of a run is firm.
-use Rattle.std.proofs.Common.{◌≡◌, ℕ, suc, ◌+◌, ◌-◌, ◌<◌, false, Option, Some, None, length, inl, inr, refl, sym, ◌∙◌, subst, arith}
+use Rattle.std.proofs.Common.{◌≡◌, ℕ, suc, ◌+◌, ◌-◌, ◌<◌, false, Option, Some, None, length, inl}
+use Rattle.std.proofs.Common.{inr, refl, sym, ◌∙◌, subst, arith}
 use Rattle.std.specs.Prelude.{is_some, take}
 use Rattle.std.proofs.Math.Path.{fun_ext}
 use Rattle.std.proofs.lemmas.Bool.{cases_Bool, le-ltb, true≢false, or_left, or_right}
@@ -23,8 +24,10 @@ use Rattle.pm_runs.specs.Merged.{StandsAcross}
 use Rattle.pm_runs.proofs.Collapsed.{alike-sym}
 use Rattle.pm_runs.proofs.Manifolds.{manifold-same, run-manifold}
 use Rattle.pm_runs.proofs.Sides.{twin-across}
-use Rattle.pm_number.specs.Stages.{Run, run_of, steps, entry_at, net_of_run_after, IsGone, IsMerging, side_by, side_moved}
-use Rattle.pm_number.specs.Numbering.{node_number, leaf_number, face_number, hierarchy_of, hierarchy_of_run}
+use Rattle.pm_number.specs.Stages.{Run, run_of, steps, entry_at, net_of_run_after, IsGone}
+use Rattle.pm_number.specs.Stages.{IsMerging, side_by, side_moved}
+use Rattle.pm_number.specs.Numbering.{node_number, leaf_number, face_number, hierarchy_of}
+use Rattle.pm_number.specs.Numbering.{hierarchy_of_run}
 use Rattle.pm_number.specs.Shown.{SameGone, IsNumbered}
 use Rattle.pm_number.proofs.LawsProved.{are_valid}
 use Rattle.pm_number.proofs.Merging.{alike-at, merging}
@@ -50,9 +53,12 @@ moved_none : (side : ℕ → ℕ) (r : Option ℕ) → side_moved side r ≡ Non
 moved_none side None e = refl
 moved_none side (Some x) e = absurd (none-some (side x) (sym e))
 
-module _ (r : Run) (run : IsMerging r) (h : Hierarchy) (node leaf face : ℕ → ℕ) (num : IsNumbered r h node leaf face) where
+module _ (r : Run) (run : IsMerging r) (h : Hierarchy) (node leaf face : ℕ
+    → ℕ) (num : IsNumbered r h node leaf face) where
   -- The face of record k that the log tells of is held.
-  gone_held : (i p q f : ℕ) → i < steps r → IsPair (entry_at r i).t (entry_at r i).u p q → (g : Option Gone) → IsGone (net_of_run_after r i) p q g → (n : NewFace) → SameGone face f g (Some n) → HasNeighbour n
+  gone_held : (i p q f : ℕ) → i < steps r → IsPair (entry_at r i).t (entry_at r i).u p q
+      → (g : Option Gone) → IsGone (net_of_run_after r i) p q g → (n : NewFace)
+      → SameGone face f g (Some n) → HasNeighbour n
   gone_held i p q f l pair None gone n same = absurd same
   gone_held i p q f l pair (Some g) (e, w, face_is, first, second) n (is, one, two) =
       elim (cases_Bool (is_some n.first)) [
@@ -61,9 +67,14 @@ module _ (r : Run) (run : IsMerging r) (h : Hierarchy) (node leaf face : ℕ →
             elim (cases_Bool (is_some n.second)) [
               | inl b ↦ or_right (is_some n.first) (is_some n.second) b
               | inr b ↦
-                  let first_none = moved_none (side_by face) (number_of g.first) (sym one ∙ not_some n.first a) in
-                  let second_none = moved_none (side_by face) (number_of g.second) (sym two ∙ not_some n.second b) in
-                  absurd (not_alone (net_of_run_after r i) (entry_at r i).t (entry_at r i).u (run.linkable i l) e p q pair w
+                  let first_none =
+                  moved_none (side_by face) (number_of g.first)
+                  (sym one ∙ not_some n.first a) in
+                  let second_none =
+                  moved_none (side_by face) (number_of g.second)
+                  (sym two ∙ not_some n.second b) in
+                  absurd (not_alone (net_of_run_after r i) (entry_at r i).t (entry_at r i).u
+                  (run.linkable i l) e p q pair w
                   (subst (StandsAcross (net_of_run_after r i) (next e)) first_none first)
                   (subst (StandsAcross (net_of_run_after r i) (next (next e))) second_none second))
             ]
@@ -77,8 +88,14 @@ module _ (r : Run) (run : IsMerging r) (h : Hierarchy) (node leaf face : ℕ →
       let i_lt : i < steps r = omega arith in
       let told = run.logged i i_lt in
       record {
-        left = λ n there. gone_held i (entry_at r i).t (entry_at r i).u (first_face h k) i_lt (inl (refl, refl)) (entry_at r i).left told.left n (subst (SameGone face (first_face h k) (entry_at r i).left) there (num.left i k is));
-        right = λ n there. gone_held i (entry_at r i).u (entry_at r i).t (first_face h k + one_if (is_some (record_at h k).left)) i_lt (inr (refl, refl)) (entry_at r i).right told.right n (subst (SameGone face (first_face h k + one_if (is_some (record_at h k).left)) (entry_at r i).right) there (num.right i k is));
+        left = λ n there. gone_held i (entry_at r i).t (entry_at r i).u (first_face h k) i_lt
+            (inl (refl, refl)) (entry_at r i).left told.left n
+            (subst (SameGone face (first_face h k) (entry_at r i).left) there (num.left i k is));
+        right = λ n there. gone_held i (entry_at r i).u (entry_at r i).t
+            (first_face h k + one_if (is_some (record_at h k).left)) i_lt (inr (refl, refl))
+            (entry_at r i).right told.right n
+            (subst (SameGone face (first_face h k + one_if (is_some (record_at h k).left))
+            (entry_at r i).right) there (num.right i k is));
       }
 
 pub are_firm : law.HierarchiesOfRunsAreFirm
@@ -90,16 +107,25 @@ are_firm m start log run shape =
     let num = numbered r told in
     let un = undoes r h (node_number r) (leaf_number r) (face_number r) told num in
     let last : IsOrientedManifold (net_of_run_after r (length log)) =
-    manifold-same (net_of_surface (surface_after m (take (length log) log))) (net_of_run_after r (length log)) (alike-sym (net_of_run_after r (length log)) (net_of_surface (surface_after m (take (length log) log))) (alike-at m log start run (length log) (omega arith)))
-    (subst (λ l. IsOrientedManifold (net_of_surface (surface_after m l))) (sym (take_all (length log) log (omega arith))) (run-manifold m start log run)) in
+    manifold-same (net_of_surface (surface_after m (take (length log) log)))
+    (net_of_run_after r (length log))
+    (alike-sym (net_of_run_after r (length log))
+    (net_of_surface (surface_after m (take (length log) log)))
+    (alike-at m log start run (length log) (omega arith)))
+    (subst (λ l. IsOrientedManifold (net_of_surface (surface_after m l)))
+    (sym (take_all (length log) log (omega arith))) (run-manifold m start log run)) in
     let shown : IsOrientedManifold (shown_net h (below 0)) =
-    manifold-moved (net_of_run_after r (length log)) (shown_net h (below 0)) (λ e. side_by (face_number r) e) (node_number r)
-    (stage r h (node_number r) (leaf_number r) (face_number r) told num (length log) 0 (omega arith)) last in
+    manifold-moved (net_of_run_after r (length log)) (shown_net h (below 0))
+    (λ e. side_by (face_number r) e) (node_number r)
+    (stage r h (node_number r) (leaf_number r) (face_number r) told num (length log) 0
+    (omega arith)) last in
     let agrees = across-is_beyond h un 0 (omega arith) in
     let base : IsSurfaceShown h (below 0) = record {
       manifold = shown;
-      twins = beyond-twins h un.shape (below 0) (below-front h un.shape.forest 0) un.no_side_twice (λ e l s.
-          agrees.beyond e (twin_of (shown_net h (below 0)) e) l s (twin-across (shown_net h (below 0)) e (twin_of (shown_net h (below 0)) e) refl));
+      twins = beyond-twins h un.shape (below 0) (below-front h un.shape.forest 0) un.no_side_twice
+          (λ e l s.
+          agrees.beyond e (twin_of (shown_net h (below 0)) e) l s
+          (twin-across (shown_net h (below 0)) e (twin_of (shown_net h (below 0)) e) refl));
     } in
     record {
       valid = are_valid m start log run shape;

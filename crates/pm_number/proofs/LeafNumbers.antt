@@ -1,20 +1,29 @@
 -- The leaves of a run's vertices: what was merged into a vertex is an interval.
-use Rattle.std.proofs.Common.{suc, zero, ◌≡◌, ◌≢◌, ℕ, ◌+◌, ◌-◌, ◌*◌, ◌<◌, ◌≤◌, eqb, true, cond, map, sum, length, inl, inr, refl, sym, ap, ◌∙◌, subst, arith}
-use Rattle.std.proofs.lemmas.Bool.{cases_eq, cases_lt, eq-eqb, ne_eqb, lt-ltb, cond-true, cond-false}
+use Rattle.std.proofs.Common.{suc, zero, ◌≡◌, ◌≢◌, ℕ, ◌+◌, ◌-◌, ◌*◌, ◌<◌, ◌≤◌, eqb, true, cond, map}
+use Rattle.std.proofs.Common.{sum, length, inl, inr, refl, sym, ap, ◌∙◌, subst, arith}
+use Rattle.std.proofs.lemmas.Bool.{cases_eq, cases_lt, eq-eqb, ne_eqb, lt-ltb, cond-true}
+use Rattle.std.proofs.lemmas.Bool.{cond-false}
 use Rattle.pm_forest.proofs.Ancestors.{active-ancestor, holds-ancestor_of, there-lt}
 use Rattle.pm_forest.proofs.Nodes.{within-from, within-true, interval-t, interval-u, interval-else}
-use Rattle.pm_forest.specs.Forest.{Hierarchy, widths, record_at, leaf_count, s_of, t_of, u_of, within, root_interval, first_part, rest, interval_after, interval_of, holds, Holds, HasForestShape}
+use Rattle.pm_forest.specs.Forest.{Hierarchy, widths, record_at, leaf_count, s_of, t_of, u_of}
+use Rattle.pm_forest.specs.Forest.{within, root_interval, first_part, rest, interval_after}
+use Rattle.pm_forest.specs.Forest.{interval_of, holds, Holds, HasForestShape}
 use Rattle.pm_forest.specs.Fronts.{ancestor_of, below}
-use Rattle.pm_number.proofs.NodeNumbers.{stays_left, as_t, as_u, node-t, node-u, node_of, node-once, node-there, node-back, t_differs, root-count, count, record-at, s-of}
+use Rattle.pm_number.proofs.NodeNumbers.{stays_left, as_t, as_u, node-t, node-u, node_of, node-once}
+use Rattle.pm_number.proofs.NodeNumbers.{node-there, node-back, t_differs, root-count, count}
+use Rattle.pm_number.proofs.NodeNumbers.{record-at, s-of}
 use Rattle.pm_number.proofs.Positions.{interval-same, root-interval, before-within, map_map}
 use Rattle.pm_number.proofs.RunLaws.{ends_given}
-use Rattle.pm_number.specs.Numbering.{place_in, left_over, step_of, node_number, width_after, width_number, start_after, leaf_number, numbered_root, hierarchy_of}
+use Rattle.pm_number.specs.Numbering.{place_in, left_over, step_of, node_number, width_after}
+use Rattle.pm_number.specs.Numbering.{width_number, start_after, leaf_number, numbered_root}
+use Rattle.pm_number.specs.Numbering.{hierarchy_of}
 use Rattle.pm_number.specs.Stages.{Run, steps, entry_at, IsMerging}
 
 module _ (r : Run) (run : IsMerging r) where
   -- Widths
 
-  pub width-kept : (i n v : ℕ) → i ≤ n → n ≤ steps r → v < r.vertices + i → width_after r n v ≡ width_after r i v
+  pub width-kept : (i n v : ℕ) → i ≤ n → n ≤ steps r → v < r.vertices + i
+      → width_after r n v ≡ width_after r i v
   unfolding width_after
   width-kept i zero v a b l = (let is : 0 ≡ i = omega arith in ap (λ n. width_after r n v) is)
   width-kept i (suc n) v a b l =
@@ -23,10 +32,14 @@ module _ (r : Run) (run : IsMerging r) where
         | inr c ↦
             let named = run.named n b in
             let other : v ≢ (entry_at r n).s = omega arith in
-            cond-false _ (width_after r n (entry_at r n).t + width_after r n (entry_at r n).u) (width_after r n v) (ne_eqb v (entry_at r n).s other) ∙ width-kept i n v c (omega arith) l
+            cond-false _ (width_after r n (entry_at r n).t + width_after r n (entry_at r n).u)
+            (width_after r n v) (ne_eqb v (entry_at r n).s other)
+            ∙ width-kept i n v c (omega arith) l
       ]
 
-  pub width-step : (i : ℕ) → i < steps r → width_number r (entry_at r i).s ≡ width_number r (entry_at r i).t + width_number r (entry_at r i).u
+  pub width-step : (i : ℕ) → i < steps r
+      → width_number r (entry_at r i).s ≡ width_number r (entry_at r i).t + width_number r
+      (entry_at r i).u
   unfolding width_after
   width-step i l =
       let c = entry_at r i in
@@ -35,7 +48,9 @@ module _ (r : Run) (run : IsMerging r) where
       let t = width-kept i (steps r) c.t (omega arith) (omega arith) g.0 in
       let u = width-kept i (steps r) c.u (omega arith) (omega arith) g.1 in
       let s = width-kept (suc i) (steps r) c.s l (omega arith) (omega arith) in
-      let both : width_after r (suc i) c.s ≡ width_after r i c.t + width_after r i c.u = cond-true _ (width_after r i c.t + width_after r i c.u) (width_after r i c.s) (eq-eqb c.s c.s refl) in
+      let both : width_after r (suc i) c.s ≡ width_after r i c.t + width_after r i c.u =
+      cond-true _ (width_after r i c.t + width_after r i c.u) (width_after r i c.s)
+      (eq-eqb c.s c.s refl) in
       omega arith
 
   pub width-one : (x : ℕ) → x < r.vertices → width_number r x ≡ 1
@@ -49,8 +64,12 @@ module _ (r : Run) (run : IsMerging r) where
       let c = entry_at r n in
       let t = some-width n c.t in
       elim (cases_eq v c.s) [
-        | inl is ↦ (let e = cond-true _ (width_after r n c.t + width_after r n c.u) (width_after r n v) (eq-eqb v c.s is) in omega arith)
-        | inr no_s ↦ (let e = cond-false _ (width_after r n c.t + width_after r n c.u) (width_after r n v) (ne_eqb v c.s no_s) in let w = some-width n v in omega arith)
+        | inl is ↦ (let e =
+            cond-true _ (width_after r n c.t + width_after r n c.u) (width_after r n v)
+            (eq-eqb v c.s is) in omega arith)
+        | inr no_s ↦
+            (let e = cond-false _ (width_after r n c.t + width_after r n c.u) (width_after r n v)
+            (ne_eqb v c.s no_s) in let w = some-width n v in omega arith)
       ]
 
   pub some : (v : ℕ) → 0 < width_number r v
@@ -62,27 +81,37 @@ module _ (r : Run) (run : IsMerging r) where
   unfolding start_after
   start-t d =
       let c = step_of r d in
-      cond-true _ (start_after r d c.s) (cond (eqb c.t c.u) (start_after r d c.s + width_number r c.t) (start_after r d c.t)) (eq-eqb c.t c.t refl)
+      cond-true _ (start_after r d c.s)
+      (cond (eqb c.t c.u) (start_after r d c.s + width_number r c.t) (start_after r d c.t))
+      (eq-eqb c.t c.t refl)
 
-  pub start-u : (d : ℕ) → (step_of r d).t ≢ (step_of r d).u → start_after r (suc d) (step_of r d).u ≡ start_after r d (step_of r d).s + width_number r (step_of r d).t
+  pub start-u : (d : ℕ) → (step_of r d).t ≢ (step_of r d).u → start_after r (suc d) (step_of r d).u
+      ≡ start_after r d (step_of r d).s + width_number r (step_of r d).t
   unfolding start_after
   start-u d n =
       let c = step_of r d in
-      cond-false _ (start_after r d c.s) (cond (eqb c.u c.u) (start_after r d c.s + width_number r c.t) (start_after r d c.u)) (ne_eqb c.u c.t (λ z. n (sym z)))
-      ∙ cond-true _ (start_after r d c.s + width_number r c.t) (start_after r d c.u) (eq-eqb c.u c.u refl)
+      cond-false _ (start_after r d c.s)
+      (cond (eqb c.u c.u) (start_after r d c.s + width_number r c.t) (start_after r d c.u))
+      (ne_eqb c.u c.t (λ z. n (sym z)))
+      ∙ cond-true _ (start_after r d c.s + width_number r c.t) (start_after r d c.u)
+      (eq-eqb c.u c.u refl)
 
-  pub start-else : (d v : ℕ) → v ≢ (step_of r d).t → v ≢ (step_of r d).u → start_after r (suc d) v ≡ start_after r d v
+  pub start-else : (d v : ℕ) → v ≢ (step_of r d).t → v ≢ (step_of r d).u
+      → start_after r (suc d) v ≡ start_after r d v
   unfolding start_after
   start-else d v a b =
       let c = step_of r d in
-      cond-false _ (start_after r d c.s) (cond (eqb v c.u) (start_after r d c.s + width_number r c.t) (start_after r d v)) (ne_eqb v c.t a)
+      cond-false _ (start_after r d c.s)
+      (cond (eqb v c.u) (start_after r d c.s + width_number r c.t) (start_after r d v))
+      (ne_eqb v c.t a)
       ∙ cond-false _ (start_after r d c.s + width_number r c.t) (start_after r d v) (ne_eqb v c.u b)
 
   h : Hierarchy
   h = hierarchy_of r
 
   -- the vertex that a collapse makes is taken later, if at all
-  pub older : (i : ℕ) → i < steps r → node_number r (entry_at r i).s < length (left_over r) + 2 * (steps r - suc i)
+  pub older : (i : ℕ) → i < steps r
+      → node_number r (entry_at r i).s < length (left_over r) + 2 * (steps r - suc i)
   older i l =
       let named = run.named i l in
       elim (node_of r run (entry_at r i).s (omega arith)) [
@@ -96,10 +125,12 @@ module _ (r : Run) (run : IsMerging r) where
 
   -- The interval of a node, as soon as it has one
   pub record IsAt (d v : ℕ) : Type 0 where
-    pub interval : interval_after (hierarchy_of r) d (node_number r v) ≡ record { from = start_after r d v; until = start_after r d v + width_number r v }
+    pub interval : interval_after (hierarchy_of r) d (node_number r v)
+        ≡ record { from = start_after r d v; until = start_after r d v + width_number r v }
     pub within_all : start_after r d v + width_number r v ≤ leaf_count (hierarchy_of r)
 
-  pub is_at : (d v : ℕ) → d ≤ steps r → v < r.vertices + steps r → node_number r v < length (left_over r) + 2 * d → IsAt d v
+  pub is_at : (d v : ℕ) → d ≤ steps r → v < r.vertices + steps r
+      → node_number r v < length (left_over r) + 2 * d → IsAt d v
   unfolding interval_after start_after
   is_at zero v l m n =
       elim (node_of r run v m) [
@@ -109,8 +140,10 @@ module _ (r : Run) (run : IsMerging r) where
             let fits = before-within w (left_over r) v b in
             record {
               interval =
-                  ap (root_interval (widths (hierarchy_of r)) 0) c ∙ ap (λ ws. root_interval ws 0 (place_in v (left_over r))) widths-are
-                  ∙ root-interval w (left_over r) 0 v b ∙ interval-same _ _ _ _ (omega arith) (omega arith);
+                  ap (root_interval (widths (hierarchy_of r)) 0) c
+                  ∙ ap (λ ws. root_interval ws 0 (place_in v (left_over r))) widths-are
+                  ∙ root-interval w (left_over r) 0 v b
+                  ∙ interval-same _ _ _ _ (omega arith) (omega arith);
               within_all = omega arith;
             }
         | as_t j j_lt is c ↦ absurd (omega arith)
@@ -127,29 +160,47 @@ module _ (r : Run) (run : IsMerging r) where
       let at_s = is_at d c.s (omega arith) (omega arith) (omega arith) in
       let s_is = s-of r d l in
       let s_interval = ap (interval_after k d) s_is ∙ at_s.interval in
-      let width_is : (record_at k d).width ≡ width_number r c.t = ap (λ x. x.width) (record-at r d l) in
+      let width_is : (record_at k d).width ≡ width_number r c.t =
+      ap (λ x. x.width) (record-at r d l) in
       let both = width-step i i_lt in
       let all = at_s.within_all in
       elim (cases_eq v c.t) [
         | inl is ↦
-            let node_is : node_number r v ≡ t_of k d = ap (node_number r) is ∙ node-t r run i i_lt ∙ omega arith in
-            let start_is : start_after r (suc d) v ≡ start_after r d c.s = ap (start_after r (suc d)) is ∙ start-t d in
+            let node_is : node_number r v ≡ t_of k d =
+            ap (node_number r) is ∙ node-t r run i i_lt ∙ omega arith in
+            let start_is : start_after r (suc d) v ≡ start_after r d c.s =
+            ap (start_after r (suc d)) is ∙ start-t d in
             let same : width_number r v ≡ width_number r c.t = ap (width_number r) is in
             record {
               interval =
-                  ap (interval_after k (suc d)) node_is ∙ interval-t k d ∙ ap (λ x. first_part x (record_at k d).width) s_interval ∙ ap (first_part (record { from = start_after r d c.s; until = start_after r d c.s + width_number r c.s })) width_is
+                  ap (interval_after k (suc d)) node_is ∙ interval-t k d
+                  ∙ ap (λ x. first_part x (record_at k d).width) s_interval
+                  ∙ ap (first_part
+                  (record {
+                    from = start_after r d c.s;
+                    until =
+                        start_after r d c.s + width_number r c.s;
+                  })) width_is
                   ∙ interval-same _ _ _ _ (omega arith) (omega arith);
               within_all = omega arith;
             }
         | inr not_t ↦
             elim (cases_eq v c.u) [
               | inl is ↦
-                  let node_is : node_number r v ≡ u_of k d = ap (node_number r) is ∙ node-u r run i i_lt ∙ omega arith in
-                  let start_is : start_after r (suc d) v ≡ start_after r d c.s + width_number r c.t = ap (start_after r (suc d)) is ∙ start-u d (t_differs r run i i_lt) in
+                  let node_is : node_number r v ≡ u_of k d =
+                  ap (node_number r) is ∙ node-u r run i i_lt ∙ omega arith in
+                  let start_is : start_after r (suc d) v
+                  ≡ start_after r d c.s + width_number r c.t =
+                  ap (start_after r (suc d)) is ∙ start-u d (t_differs r run i i_lt) in
                   let same : width_number r v ≡ width_number r c.u = ap (width_number r) is in
                   record {
                     interval =
-                        ap (interval_after k (suc d)) node_is ∙ interval-u k d ∙ ap (λ x. rest x (record_at k d).width) s_interval ∙ ap (rest (record { from = start_after r d c.s; until = start_after r d c.s + width_number r c.s })) width_is
+                        ap (interval_after k (suc d)) node_is ∙ interval-u k d
+                        ∙ ap (λ x. rest x (record_at k d).width) s_interval
+                        ∙ ap (rest (record {
+                          from = start_after r d c.s;
+                          until = start_after r d c.s + width_number r c.s;
+                        })) width_is
                         ∙ interval-same _ _ _ _ (omega arith) (omega arith);
                     within_all = omega arith;
                   }
@@ -157,13 +208,16 @@ module _ (r : Run) (run : IsMerging r) where
                   let t_node = node-t r run i i_lt in
                   let u_node = node-u r run i i_lt in
                   let g = ends_given r run i i_lt in
-                  let off_t : node_number r v ≢ t_of k d = λ z. not_t (node-once r run v c.t m (omega arith) (omega arith)) in
-                  let off_u : node_number r v ≢ u_of k d = λ z. not_u (node-once r run v c.u m (omega arith) (omega arith)) in
+                  let off_t : node_number r v ≢ t_of k d =
+                  λ z. not_t (node-once r run v c.t m (omega arith) (omega arith)) in
+                  let off_u : node_number r v ≢ u_of k d =
+                  λ z. not_u (node-once r run v c.u m (omega arith) (omega arith)) in
                   let old = is_at d v (omega arith) m (omega arith) in
                   let start_is = start-else d v not_t not_u in
                   let all' = old.within_all in
                   record {
-                    interval = interval-else k d (node_number r v) off_t off_u ∙ old.interval ∙ interval-same _ _ _ _ (omega arith) (omega arith);
+                    interval = interval-else k d (node_number r v) off_t off_u ∙ old.interval
+                        ∙ interval-same _ _ _ _ (omega arith) (omega arith);
                     within_all = omega arith;
                   }
             ]
@@ -172,8 +226,13 @@ module _ (r : Run) (run : IsMerging r) where
   pub at_end : (v : ℕ) → v < r.vertices + steps r → IsAt (steps r) v
   at_end v l = is_at (steps r) v (omega arith) l (node-there r run v l)
 
-  pub interval-end : (v : ℕ) → v < r.vertices + steps r → interval_of (hierarchy_of r) (node_number r v) ≡ record { from = leaf_number r v; until = leaf_number r v + width_number r v }
-  interval-end v l = ap (λ n. interval_after (hierarchy_of r) n (node_number r v)) (count r) ∙ (at_end v l).interval
+  pub interval-end : (v : ℕ) → v < r.vertices + steps r
+      → interval_of (hierarchy_of r) (node_number r v) ≡ record {
+        from = leaf_number r v;
+        until = leaf_number r v + width_number r v;
+      }
+  interval-end v l = ap (λ n. interval_after (hierarchy_of r) n (node_number r v)) (count r)
+      ∙ (at_end v l).interval
 
   pub forest : HasForestShape (hierarchy_of r)
   forest = record {
@@ -190,7 +249,8 @@ module _ (r : Run) (run : IsMerging r) where
         let k_lt : k < steps r = omega arith in
         let p = run.named (steps r - suc j) (omega arith) in
         let q = run.named (steps r - suc k) (omega arith) in
-        let same = node-once r run (step_of r j).s (step_of r k).s (omega arith) (omega arith) (sym (s-of r j j_lt) ∙ z ∙ s-of r k k_lt) in
+        let same = node-once r run (step_of r j).s (step_of r k).s (omega arith) (omega arith)
+        (sym (s-of r j j_lt) ∙ z ∙ s-of r k k_lt) in
         omega arith;
     width = λ k l.
         let c = count r in
@@ -199,10 +259,15 @@ module _ (r : Run) (run : IsMerging r) where
         let i_lt : i < steps r = omega arith in
         let e = entry_at r i in
         let named = run.named i i_lt in
-        let is : interval_of (hierarchy_of r) (s_of (hierarchy_of r) k) ≡ record { from = leaf_number r e.s; until = leaf_number r e.s + width_number r e.s } = ap (interval_of (hierarchy_of r)) (s-of r k k_lt) ∙ interval-end e.s (omega arith) in
-        let from_is : (interval_of (hierarchy_of r) (s_of (hierarchy_of r) k)).from ≡ leaf_number r e.s = ap (λ x. x.from) is in
-        let until_is : (interval_of (hierarchy_of r) (s_of (hierarchy_of r) k)).until ≡ leaf_number r e.s + width_number r e.s = ap (λ x. x.until) is in
-        let width_is : (record_at (hierarchy_of r) k).width ≡ width_number r e.t = ap (λ x. x.width) (record-at r k k_lt) in
+        let is : interval_of (hierarchy_of r) (s_of (hierarchy_of r) k)
+        ≡ record { from = leaf_number r e.s; until = leaf_number r e.s + width_number r e.s } =
+        ap (interval_of (hierarchy_of r)) (s-of r k k_lt) ∙ interval-end e.s (omega arith) in
+        let from_is : (interval_of (hierarchy_of r) (s_of (hierarchy_of r) k)).from
+        ≡ leaf_number r e.s = ap (λ x. x.from) is in
+        let until_is : (interval_of (hierarchy_of r) (s_of (hierarchy_of r) k)).until
+        ≡ leaf_number r e.s + width_number r e.s = ap (λ x. x.until) is in
+        let width_is : (record_at (hierarchy_of r) k).width ≡ width_number r e.t =
+        ap (λ x. x.width) (record-at r k k_lt) in
         let both = width-step i i_lt in
         let a = some e.t in
         let b = some e.u in
@@ -213,13 +278,16 @@ module _ (r : Run) (run : IsMerging r) where
   unfolding holds
   held x l =
       let w = width-one x l in
-      subst (λ i. within i (leaf_number r x) ≡ true) (sym (interval-end x (omega arith))) (within-from _ (leaf_number r x) (omega arith) (omega arith))
+      subst (λ i. within i (leaf_number r x) ≡ true) (sym (interval-end x (omega arith)))
+      (within-from _ (leaf_number r x) (omega arith) (omega arith))
 
   pub leaf-there : (x : ℕ) → x < r.vertices → leaf_number r x < leaf_count (hierarchy_of r)
-  leaf-there x l = let a = (at_end x (omega arith)).within_all in let w = width-one x l in omega arith
+  leaf-there x l = let a = (at_end x (omega arith)).within_all in let w =
+      width-one x l in omega arith
 
   -- every leaf is an input vertex's
-  pub leaf-back : (y : ℕ) → y < leaf_count (hierarchy_of r) → (x : ℕ) × (x < r.vertices) × (leaf_number r x ≡ y)
+  pub leaf-back : (y : ℕ) → y < leaf_count (hierarchy_of r) → (x : ℕ) × (x < r.vertices)
+      × (leaf_number r x ≡ y)
   unfolding holds
   leaf-back y l =
       let k = hierarchy_of r in
@@ -234,7 +302,9 @@ module _ (r : Run) (run : IsMerging r) where
         | inl a ↦
             let w = width-one v a in
             let e = holds-ancestor_of k forest T y l in
-            let p = within-true _ y (subst (λ i. within i y ≡ true) (ap (interval_of k) (sym v_is) ∙ interval-end v v_lt) e) in
+            let p = within-true _ y
+            (subst (λ i. within i y ≡ true) (ap (interval_of k) (sym v_is)
+            ∙ interval-end v v_lt) e) in
             (v, a, omega arith)
         | inr a ↦
             let i = v - r.vertices in
@@ -243,6 +313,9 @@ module _ (r : Run) (run : IsMerging r) where
             let j_lt : j < steps r = omega arith in
             let named = run.named i i_lt in
             let back : steps r - suc j ≡ i = omega arith in
-            let is : v ≡ (step_of r j).s = (let q : (step_of r j).s ≡ (entry_at r i).s = ap (λ n. (entry_at r n).s) back in omega arith) in
-            absurd (active.1 j (omega arith) (lt-ltb j (steps r) j_lt) (s-of r j j_lt ∙ ap (node_number r) (sym is) ∙ v_is))
+            let is : v ≡ (step_of r j).s =
+            (let q : (step_of r j).s ≡ (entry_at r i).s = ap (λ n. (entry_at r n).s) back in
+            omega arith) in
+            absurd (active.1 j (omega arith) (lt-ltb j (steps r) j_lt) (s-of r j j_lt
+            ∙ ap (node_number r) (sym is) ∙ v_is))
       ]

@@ -1,27 +1,38 @@
 -- The vertices that are alive at a stage of a run are the active nodes of the front there.
-use Rattle.std.proofs.Common.{suc, ◌≡◌, ◌≢◌, ℕ, ◌+◌, ◌-◌, ◌*◌, ◌<◌, ◌≤◌, true, false, length, inl, inr, sym, ap, ◌∙◌, subst, arith}
+use Rattle.std.proofs.Common.{suc, ◌≡◌, ◌≢◌, ℕ, ◌+◌, ◌-◌, ◌*◌, ◌<◌, ◌≤◌, true, false, length, inl}
+use Rattle.std.proofs.Common.{inr, sym, ap, ◌∙◌, subst, arith}
 use Rattle.std.proofs.lemmas.Bool.{cases_lt, lt-ltb, ltb-true, both_ways, false_from_ne_true}
 use Rattle.pm_forest.proofs.Ancestors.{there-lt}
 use Rattle.pm_forest.specs.Forest.{s_of}
 use Rattle.pm_forest.specs.Fronts.{IsActive, below}
 use Rattle.pm_number.proofs.LeafNumbers.{forest}
-use Rattle.pm_number.proofs.NodeNumbers.{stays_left, as_t, as_u, takes-t, takes-u, takes-parts, node-t, node-u, node_of, node-once, node-back, root-count, count, s-of}
-use Rattle.pm_number.specs.Numbering.{takes, left_over, step_of, node_number, hierarchy_of, IsThereAfter}
+use Rattle.pm_number.proofs.NodeNumbers.{stays_left, as_t, as_u, takes-t, takes-u, takes-parts}
+use Rattle.pm_number.proofs.NodeNumbers.{node-t, node-u, node_of, node-once, node-back, root-count}
+use Rattle.pm_number.proofs.NodeNumbers.{count, s-of}
+use Rattle.pm_number.specs.Numbering.{takes, left_over, step_of, node_number, hierarchy_of}
+use Rattle.pm_number.specs.Numbering.{IsThereAfter}
 use Rattle.pm_number.specs.Stages.{Run, steps, entry_at, IsMerging}
 
 module _ (r : Run) (run : IsMerging r) (i k : ℕ) (is : i + k ≡ steps r) where
   -- a record below k doesn't split the node of a vertex given by then
-  unsplit : (v : ℕ) → v < r.vertices + i → (j : ℕ) → j < k → s_of (hierarchy_of r) j ≢ node_number r v
+  unsplit : (v : ℕ) → v < r.vertices + i → (j : ℕ) → j < k
+      → s_of (hierarchy_of r) j ≢ node_number r v
   unsplit v l j m z =
       let n = run.named (steps r - suc j) (omega arith) in
-      let same = node-once r run (step_of r j).s v (omega arith) (omega arith) (sym (s-of r j (omega arith)) ∙ z) in
+      let same = node-once r run (step_of r j).s v (omega arith) (omega arith)
+      (sym (s-of r j (omega arith)) ∙ z) in
       omega arith
 
-  pub live-active : (v : ℕ) → IsThereAfter r i v → IsActive (hierarchy_of r) (below k) (node_number r v)
+  pub live-active : (v : ℕ) → IsThereAfter r i v
+      → IsActive (hierarchy_of r) (below k) (node_number r v)
   live-active v (l, free) =
       let c = count r in
       let roots = root-count r in
-      let made : (j : ℕ) → j < steps r → takes r v j ≡ true → i ≤ j = λ j j_lt e. elim (cases_lt j i) [ inl a ↦ absurd (both_ways _ (free j a) e) | inr a ↦ a ] in (
+      let made : (j : ℕ) → j < steps r → takes r v j ≡ true
+      → i ≤ j = λ j j_lt e. elim (cases_lt j i) [
+        | inl a ↦ absurd (both_ways _ (free j a) e)
+        | inr a ↦ a
+      ] in (
         elim (node_of r run v (omega arith)) [
           | stays_left a b n ↦ inl (omega arith)
           | as_t j j_lt v_is n ↦
@@ -37,7 +48,8 @@ module _ (r : Run) (run : IsMerging r) (i k : ℕ) (is : i + k ≡ steps r) wher
       )
 
   -- a vertex taken before has a node of a greater record
-  too_high : (v n j : ℕ) → j < i → n < length (left_over r) + 2 * k → node_number r v ≡ n → takes r v j ≡ true → ⊥
+  too_high : (v n j : ℕ) → j < i → n < length (left_over r) + 2 * k → node_number r v ≡ n
+      → takes r v j ≡ true → ⊥
   too_high v n j l low v_is e =
       let j_lt : j < steps r = omega arith in
       elim (takes-parts r v j e) [
@@ -45,7 +57,8 @@ module _ (r : Run) (run : IsMerging r) (i k : ℕ) (is : i + k ≡ steps r) wher
         | inr z ↦ (let u = node-u r run j j_lt in let q = ap (node_number r) z in omega arith)
       ]
 
-  pub active-live : (n : ℕ) → IsActive (hierarchy_of r) (below k) n → (v : ℕ) × IsThereAfter r i v × (node_number r v ≡ n)
+  pub active-live : (n : ℕ) → IsActive (hierarchy_of r) (below k) n → (v : ℕ) × IsThereAfter r i v
+      × (node_number r v ≡ n)
   active-live n active =
       let h = hierarchy_of r in
       let c = count r in
@@ -55,7 +68,8 @@ module _ (r : Run) (run : IsMerging r) (i k : ℕ) (is : i + k ≡ steps r) wher
       let low : n < length (left_over r) + 2 * k =
       elim active.0 [
         | inl a ↦ omega arith
-        | inr (j, a, b, makes) ↦ (let j_lt = ltb-true j k b in elim makes [ inl d ↦ omega arith | inr d ↦ omega arith ])
+        | inr (j, a, b, makes) ↦ (let j_lt =
+            ltb-true j k b in elim makes [ inl d ↦ omega arith | inr d ↦ omega arith ])
       ] in
       let given : v < r.vertices + i =
       elim (cases_lt v (r.vertices + i)) [
@@ -68,7 +82,9 @@ module _ (r : Run) (run : IsMerging r) (i k : ℕ) (is : i + k ≡ steps r) wher
             let back : steps r - suc j ≡ o = omega arith in
             let same : (step_of r j).s ≡ (entry_at r o).s = ap (λ n. (entry_at r n).s) back in
             let v_s : (step_of r j).s ≡ v = omega arith in
-            absurd (active.1 j (omega arith) (lt-ltb j k (omega arith)) (s-of r j (omega arith) ∙ ap (node_number r) v_s ∙ v_is))
+            absurd (active.1 j (omega arith) (lt-ltb j k (omega arith)) (s-of r j (omega arith)
+            ∙ ap (node_number r) v_s ∙ v_is))
       ] in
-      let free : (j : ℕ) → j < i → takes r v j ≡ false = λ j l. false_from_ne_true _ (λ e. too_high v n j l low v_is e) in
+      let free : (j : ℕ) → j < i → takes r v j ≡ false =
+      λ j l. false_from_ne_true _ (λ e. too_high v n j l low v_is e) in
       (v, (given, free), v_is)

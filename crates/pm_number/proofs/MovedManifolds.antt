@@ -7,7 +7,8 @@ use Rattle.pm_base.proofs.FanLaws.{used?, every_round}
 use Rattle.pm_runs.proofs.Manifolds.{rounds-manifold}
 use Rattle.pm_runs.proofs.Proper.{manifold-proper}
 use Rattle.pm_number.specs.Stages.{Renames}
-use Rattle.pm_number.proofs.Renamed.{at_to, at_third, stands-moved, stood-before, once-moved, no_mirror-moved}
+use Rattle.pm_number.proofs.Renamed.{at_to, at_third, stands-moved, stood-before, once-moved}
+use Rattle.pm_number.proofs.Renamed.{no_mirror-moved}
 
 module _ (m n : Net) (side name : ℕ → ℕ) (map : Renames m n side name) where
   pair-moved : (v x y : ℕ) → IsPairAt m v x y → IsPairAt n (name v) (name x) (name y)
@@ -37,15 +38,30 @@ module _ (m n : Net) (side name : ℕ → ℕ) (map : Renames m n side name) whe
               name a,
               λ x y f.
                   let (h, k, h_is) = map.back f.side f.stands.is_side in
-                  let st' = stood-before m n side name map h k (subst (λ i. Stands n i) (sym h_is) f.stands) in
-                  let at' : m.from h ≡ v = map.one (m.from h) v (h, k, refl) (g, l, refl) (sym (map.from h k) ∙ ap n.from h_is ∙ f.at ∙ sym v_is) in
-                  let x_is : name (to m h) ≡ x = sym (at_to m n side name map h k) ∙ ap (λ i. to n i) h_is ∙ f.one in
-                  let p : IsPairAt m v (to m h) (third m h) = record { side = h; stands = st'; at = at'; one = refl; two = refl } in
-                  subst (λ i. Goes n i (name a) x) v_is (subst (λ i. Goes n (name v) (name a) i) x_is (goes-moved v (all (to m h) (third m h) p))),
+                  let st' = stood-before m n side name map h k
+                  (subst (λ i. Stands n i) (sym h_is) f.stands) in
+                  let at' : m.from h ≡ v =
+                  map.one (m.from h) v (h, k, refl) (g, l, refl) (sym (map.from h k)
+                  ∙ ap n.from h_is ∙ f.at ∙ sym v_is) in
+                  let x_is : name (to m h) ≡ x =
+                  sym (at_to m n side name map h k) ∙ ap (λ i. to n i) h_is ∙ f.one in
+                  let p : IsPairAt m v (to m h) (third m h) = record {
+                    side = h;
+                    stands = st';
+                    at = at';
+                    one = refl;
+                    two = refl;
+                  } in
+                  subst (λ i. Goes n i (name a) x) v_is
+                  (subst (λ i. Goes n (name v) (name a) i) x_is
+                  (goes-moved v (all (to m h) (third m h) p))),
             )
       ]
 
   pub manifold-moved : IsOrientedManifold m → IsOrientedManifold n
   manifold-moved manifold =
       let proper = manifold-proper m manifold in
-      rounds-manifold n (record { once = once-moved m n side name map proper.once; no_mirror = no_mirror-moved m n side name map proper.no_mirror }) (round-moved manifold)
+      rounds-manifold n (record {
+        once = once-moved m n side name map proper.once;
+        no_mirror = no_mirror-moved m n side name map proper.no_mirror;
+      }) (round-moved manifold)

@@ -9,32 +9,65 @@ use Rattle.pm_runs.proofs.Sides.{runs_next, runs_last}
 
 module _ (m : Net) (t u : ℕ) (link : IsLinkable m t u) where
   -- sides p to q of a face whose two other sides have no twin
-  both_alone : (e p q : ℕ) → Runs m e p q → HasNoTwin m (next e) → HasNoTwin m (next (next e)) → IsBorder m p → IsBorder m q → ((p ≡ t) × (q ≡ u)) → ⊥
+  both_alone : (e p q : ℕ) → Runs m e p q → HasNoTwin m (next e) → HasNoTwin m (next (next e))
+      → IsBorder m p → IsBorder m q → ((p ≡ t) × (q ≡ u)) → ⊥
   both_alone e p q r a b bp bq (pt, qu) =
       elim (option_cases (twin_of m e)) [
-        | inl none ↦ link.single e (inl (record { stands = r.stands; begins = r.begins ∙ pt; ends = r.ends ∙ qu })) (twin-none m e none) a b
+        | inl none ↦
+            link.single e
+            (inl (record { stands = r.stands; begins = r.begins ∙ pt; ends = r.ends ∙ qu }))
+            (twin-none m e none) a b
         | inr (g, is) ↦
             let w = twin-is m e g is in
-            link.border (bp.0, bp.1, elim bp.2 [ inl i ↦ inl (i ∙ pt) | inr i ↦ inr (i ∙ pt) ]) (bq.0, bq.1, elim bq.2 [ inl i ↦ inl (i ∙ qu) | inr i ↦ inr (i ∙ qu) ])
-            (e, record { stands = r.stands; begins = r.begins ∙ pt; ends = r.ends ∙ qu })
-            (g, record { stands = w.stands; begins = w.begins ∙ r.ends ∙ qu; ends = w.ends ∙ r.begins ∙ pt })
+            link.border (bp.0, bp.1, elim bp.2 [ inl i ↦ inl (i ∙ pt) | inr i ↦ inr (i ∙ pt) ])
+            (bq.0, bq.1, elim bq.2 [ inl i ↦ inl (i ∙ qu) | inr i ↦ inr (i ∙ qu) ])
+            (e, record { stands = r.stands; begins = r.begins ∙ pt; ends = r.ends ∙ qu }) (
+              g,
+              record {
+                stands = w.stands;
+                begins = w.begins ∙ r.ends ∙ qu;
+                ends =
+                    w.ends ∙ r.begins ∙ pt;
+              },
+            )
       ]
 
-  pub not_alone : (e p q : ℕ) → IsPair t u p q → Runs m e p q → HasNoTwin m (next e) → HasNoTwin m (next (next e)) → ⊥
+  pub not_alone : (e p q : ℕ) → IsPair t u p q → Runs m e p q → HasNoTwin m (next e)
+      → HasNoTwin m (next (next e)) → ⊥
   not_alone e p q pair r a b =
       let n = runs_next m e p q (third m e) r refl in
       let l = runs_last m e p q (third m e) r refl in
-      let bp : IsBorder m p = (next (next e), record { stands = l.stands; alone = b }, inr l.ends) in
+      let bp : IsBorder m p =
+      (next (next e), record { stands = l.stands; alone = b }, inr l.ends) in
       let bq : IsBorder m q = (next e, record { stands = n.stands; alone = a }, inl n.begins) in
       elim pair [
         | inl k ↦ both_alone e p q r a b bp bq k
         | inr (pu, qt) ↦
             elim (option_cases (twin_of m e)) [
-              | inl none ↦ link.single e (inr (record { stands = r.stands; begins = r.begins ∙ pu; ends = r.ends ∙ qt })) (twin-none m e none) a b
+              | inl none ↦
+                  link.single e
+                  (inr (record { stands = r.stands; begins = r.begins ∙ pu; ends = r.ends ∙ qt }))
+                  (twin-none m e none) a b
               | inr (g, is) ↦
                   let w = twin-is m e g is in
-                  link.border (bq.0, bq.1, elim bq.2 [ inl i ↦ inl (i ∙ qt) | inr i ↦ inr (i ∙ qt) ]) (bp.0, bp.1, elim bp.2 [ inl i ↦ inl (i ∙ pu) | inr i ↦ inr (i ∙ pu) ])
-                  (g, record { stands = w.stands; begins = w.begins ∙ r.ends ∙ qt; ends = w.ends ∙ r.begins ∙ pu })
+                  link.border (
+                    bq.0,
+                    bq.1,
+                    elim bq.2 [
+                      | inl i ↦ inl (i ∙ qt)
+                      | inr i ↦
+                          inr (i ∙ qt)
+                    ],
+                  )
+                  (bp.0, bp.1, elim bp.2 [ inl i ↦ inl (i ∙ pu) | inr i ↦ inr (i ∙ pu) ]) (
+                    g,
+                    record {
+                      stands = w.stands;
+                      begins = w.begins ∙ r.ends ∙ qt;
+                      ends =
+                          w.ends ∙ r.begins ∙ pu;
+                    },
+                  )
                   (e, record { stands = r.stands; begins = r.begins ∙ pu; ends = r.ends ∙ qt })
             ]
       ]

@@ -1,6 +1,9 @@
 -- What the rules of shape ask of a unit, each rule from the facts that pass it.
-use Rattle.std.proofs.Common.{◌≡◌, ◌≢◌, ℕ, zero, suc, ◌+◌, ◌-◌, ◌<◌, ◌≤◌, ◌⊎◌, eqb, true, false, not, ◌&&◌, List, [], ◌∷◌, ◌++◌, length, sum, get_or, take, Option, None, is_some, inl, inr, refl, sym, ◌∙◌, subst, arith, append_assoc}
-use Rattle.std.proofs.lemmas.Bool.{cases_eq, le-ltb, lt-leb, eq-eqb, ne_eqb, or_from, and_left, and_right, cond-true, cond-false}
+use Rattle.std.proofs.Common.{◌≡◌, ◌≢◌, ℕ, zero, suc, ◌+◌, ◌-◌, ◌<◌, ◌≤◌, ◌⊎◌, eqb, true, false}
+use Rattle.std.proofs.Common.{not, ◌&&◌, List, [], ◌∷◌, ◌++◌, length, sum, get_or, take, Option}
+use Rattle.std.proofs.Common.{None, is_some, inl, inr, refl, sym, ◌∙◌, subst, arith, append_assoc}
+use Rattle.std.proofs.lemmas.Bool.{cases_eq, le-ltb, lt-leb, eq-eqb, ne_eqb, or_from, and_left}
+use Rattle.std.proofs.lemmas.Bool.{and_right, cond-true, cond-false}
 use Rattle.std.proofs.lemmas.List.{append-nil}
 use Rattle.pm_base.specs.Place.{is_place, place_of}
 use Rattle.pm_forest.specs.declared.parts.Counts.{Counts}
@@ -9,8 +12,12 @@ use Rattle.pm_forest.specs.declared.parts.Face.{Face}
 use Rattle.pm_forest.specs.declared.parts.Head.{Head}
 use Rattle.pm_forest.specs.declared.parts.Shape.{Shape}
 use Rattle.pm_forest.specs.Marks.{is_used}
-use Rattle.pm_forest.specs.Forest.{Hierarchy, widths_of, node_count, leaf_count, root_of, interval_of, splitter_of}
-use Rattle.pm_forest.specs.Rules.{counts_are_bad, root_inputs, face_inputs, node_inputs, vertex_input_is_bad, face_input_is_bad, width_is_bad, root_fault, base_is_bad, base_fault, split_is_bad, presence_is_bad, head_is_bad, children_fault, head_fault, AllFit}
+use Rattle.pm_forest.specs.Forest.{Hierarchy, widths_of, node_count, leaf_count, root_of}
+use Rattle.pm_forest.specs.Forest.{interval_of, splitter_of}
+use Rattle.pm_forest.specs.Rules.{counts_are_bad, root_inputs, face_inputs, node_inputs}
+use Rattle.pm_forest.specs.Rules.{vertex_input_is_bad, face_input_is_bad, width_is_bad, root_fault}
+use Rattle.pm_forest.specs.Rules.{base_is_bad, base_fault, split_is_bad, presence_is_bad}
+use Rattle.pm_forest.specs.Rules.{head_is_bad, children_fault, head_fault, AllFit}
 use Rattle.pm_forest.specs.Shaping.{SplitFits}
 use Rattle.pm_forest.proofs.UnitLaws.{BaseFits}
 use Rattle.pm_forest.proofs.OwnerLaws.{sum-cons}
@@ -18,19 +25,24 @@ use Rattle.pm_forest.proofs.OwnerLaws.{sum-cons}
 -- Units in a row
 
 pub AllFit-from : {X : Type 0} (fault : List X → X → Option Shape) (d : X) (before xs : List X) →
-    ((i : ℕ) → i < length xs → fault (before ++ take i xs) (get_or xs i d) ≡ None) → AllFit fault before xs
+    ((i : ℕ) → i < length xs → fault (before ++ take i xs) (get_or xs i d) ≡ None)
+    → AllFit fault before xs
 AllFit-from fault d before [] fits = tt
 AllFit-from fault d before (x ∷ xs) fits = (
   subst (λ (l : List _). fault l x ≡ None) (append-nil before) (fits 0 (omega arith)),
   AllFit-from fault d (before ++ x ∷ []) xs
-      (λ i l. subst (λ (ys : List _). fault ys (get_or xs i d) ≡ None) (sym (append_assoc before (x ∷ []) (take i xs))) (fits (suc i) (omega arith))),
+      (λ i l. subst (λ (ys : List _). fault ys (get_or xs i d) ≡ None)
+      (sym (append_assoc before (x ∷ []) (take i xs))) (fits (suc i) (omega arith))),
 )
 
 -- Used numbers
 
-pub unused-from : (used : List ℕ) (n : ℕ) → ((k : ℕ) → k < length used → get_or used k 0 ≢ n) → is_used used n ≡ false
+pub unused-from : (used : List ℕ) (n : ℕ) → ((k : ℕ) → k < length used → get_or used k 0 ≢ n)
+    → is_used used n ≡ false
 unused-from [] n apart = refl
-unused-from (m ∷ used) n apart = or_from (eqb m n) (is_used used n) (ne_eqb m n (apart 0 (omega arith))) (unused-from used n (λ k l. apart (suc k) (omega arith)))
+unused-from (m ∷ used) n apart =
+    or_from (eqb m n) (is_used used n) (ne_eqb m n (apart 0 (omega arith)))
+    (unused-from used n (λ k l. apart (suc k) (omega arith)))
 
 -- Widths
 
@@ -42,8 +54,10 @@ length-sum (w ∷ ws) wide =
     omega (arith, sum-cons w ws)
 
 -- the widths up to one of them, and at least one leaf for each after it
-pub widths_fit : (ws : List ℕ) (i : ℕ) → ((i : ℕ) → i < length ws → 0 < get_or ws i 0) → i < length ws →
-    (sum (take i ws) + get_or ws i 0 + (length ws - 1 - i) ≤ sum ws) × (i + 1 ≡ length ws → sum (take i ws) + get_or ws i 0 ≡ sum ws)
+pub widths_fit : (ws : List ℕ) (i : ℕ) → ((i : ℕ) → i < length ws → 0 < get_or ws i 0)
+    → i < length ws →
+    (sum (take i ws) + get_or ws i 0 + (length ws - 1 - i) ≤ sum ws)
+    × (i + 1 ≡ length ws → sum (take i ws) + get_or ws i 0 ≡ sum ws)
 widths_fit [] i wide l = absurd (omega arith)
 widths_fit (w ∷ ws) zero wide l =
     let later = length-sum ws (λ i l. wide (suc i) (omega arith)) in (
@@ -64,33 +78,48 @@ widths_fit (w ∷ ws) (suc i) wide l =
 
 -- One unit
 
-pub counts_pass : (c : Counts) → c.leaves ≤ 1048576 → c.bases ≤ 1048576 → c.roots ≤ c.leaves → (c.roots ≡ 0 → c.leaves ≡ 0) →
+pub counts_pass : (c : Counts) → c.leaves ≤ 1048576 → c.bases ≤ 1048576 → c.roots ≤ c.leaves
+    → (c.roots ≡ 0 → c.leaves ≡ 0) →
     c.records ≡ c.leaves - c.roots → counts_are_bad c ≡ false
 unfolding counts_are_bad
 counts_pass c leaves bases roots none records =
     let empty : eqb c.roots 0 && not (eqb c.leaves 0) ≡ false = elim (cases_eq c.roots 0) [
-      | inl is ↦ and_right (eqb c.roots 0) (not (eqb c.leaves 0)) (rw (eq-eqb c.leaves 0 (none is)) refl)
+      | inl is ↦ and_right (eqb c.roots 0) (not (eqb c.leaves 0))
+          (rw (eq-eqb c.leaves 0 (none is)) refl)
       | inr some ↦ and_left (eqb c.roots 0) (not (eqb c.leaves 0)) (ne_eqb c.roots 0 some)
     ] in
-    rw (le-ltb 1048576 c.leaves leaves, le-ltb 1048576 c.bases bases, le-ltb c.leaves c.roots roots, empty, eq-eqb c.records (c.leaves - c.roots) records) refl
+    rw (
+      le-ltb 1048576 c.leaves leaves,
+      le-ltb 1048576 c.bases bases,
+      le-ltb c.leaves c.roots roots,
+      empty,
+      eq-eqb c.records (c.leaves - c.roots) records,
+    ) refl
 
-pub width_pass : (c : Counts) (taken before width : ℕ) → 0 < width → taken + width + (c.roots - 1 - before) ≤ c.leaves →
+pub width_pass : (c : Counts) (taken before width : ℕ) → 0 < width
+    → taken + width + (c.roots - 1 - before) ≤ c.leaves →
     (before + 1 ≡ c.roots → taken + width ≡ c.leaves) → width_is_bad c taken before width ≡ false
 unfolding width_is_bad
 width_pass c taken before width some room last =
     let nonzero : width ≢ 0 = λ e. omega arith in
-    let ends : eqb (before + 1) c.roots && not (eqb (taken + width) c.leaves) ≡ false = elim (cases_eq (before + 1) c.roots) [
-      | inl is ↦ and_right (eqb (before + 1) c.roots) (not (eqb (taken + width) c.leaves)) (rw (eq-eqb (taken + width) c.leaves (last is)) refl)
-      | inr more ↦ and_left (eqb (before + 1) c.roots) (not (eqb (taken + width) c.leaves)) (ne_eqb (before + 1) c.roots more)
+    let ends : eqb (before + 1) c.roots && not (eqb (taken + width) c.leaves) ≡ false =
+    elim (cases_eq (before + 1) c.roots) [
+      | inl is ↦ and_right (eqb (before + 1) c.roots) (not (eqb (taken + width) c.leaves))
+          (rw (eq-eqb (taken + width) c.leaves (last is)) refl)
+      | inr more ↦ and_left (eqb (before + 1) c.roots) (not (eqb (taken + width) c.leaves))
+          (ne_eqb (before + 1) c.roots more)
     ] in
-    rw (ne_eqb width 0 nonzero, le-ltb c.leaves (taken + width + (c.roots - 1 - before)) room, ends) refl
+    rw (ne_eqb width 0 nonzero, le-ltb c.leaves (taken + width + (c.roots - 1 - before)) room, ends)
+    refl
 
 -- A node of one leaf has a number of its own, and another has 0.
 abbrev pub InputPasses : ℕ → List ℕ → ℕ → ℕ → Type 0
 InputPasses leaves used width input =
-    ((width ≡ 1) × (0 < input) × (input ≤ leaves) × (is_used used input ≡ false)) ⊎ ((width ≢ 1) × (input ≡ 0))
+    ((width ≡ 1) × (0 < input) × (input ≤ leaves) × (is_used used input ≡ false))
+    ⊎ ((width ≢ 1) × (input ≡ 0))
 
-pub input_pass : (leaves : ℕ) (used : List ℕ) (width input : ℕ) → InputPasses leaves used width input →
+pub input_pass : (leaves : ℕ) (used : List ℕ) (width input : ℕ)
+    → InputPasses leaves used width input →
     vertex_input_is_bad leaves used width input ≡ false
 unfolding vertex_input_is_bad
 input_pass leaves used width input passes =
@@ -104,25 +133,39 @@ input_pass leaves used width input passes =
 
 pub root_pass : (c : Counts) (before : List Root) (r : Root) → is_place r.place ≡ true →
     width_is_bad c (sum (widths_of before)) (length before) r.width ≡ false →
-    vertex_input_is_bad c.leaves (root_inputs before) r.width r.input ≡ false → root_fault c before r ≡ None
+    vertex_input_is_bad c.leaves (root_inputs before) r.width r.input ≡ false
+    → root_fault c before r ≡ None
 unfolding root_fault
 root_pass c before r place width input = rw (place, width, input) refl
 
-pub face_input_pass : (used : List ℕ) (input : ℕ) → 0 < input → input ≤ 1048576 → is_used used input ≡ false → face_input_is_bad used input ≡ false
+pub face_input_pass : (used : List ℕ) (input : ℕ) → 0 < input → input ≤ 1048576
+    → is_used used input ≡ false → face_input_is_bad used input ≡ false
 unfolding face_input_is_bad
 face_input_pass used input some most fresh =
     let nonzero : input ≢ 0 = λ e. omega arith in
     or_from _ _ (or_from _ _ (ne_eqb input 0 nonzero) (le-ltb 1048576 input most)) fresh
 
-pub base_pass : (roots : List Root) (before : List Face) (f : Face) → BaseFits roots f → face_input_is_bad (face_inputs before) f.input ≡ false →
+pub base_pass : (roots : List Root) (before : List Face) (f : Face) → BaseFits roots f
+    → face_input_is_bad (face_inputs before) f.input ≡ false →
     base_fault roots before f ≡ None
 unfolding base_fault base_is_bad
 base_pass roots before f fits input =
     let n = sum (widths_of roots) in
     let root = root_of (widths_of roots) 0 in
-    rw (lt-leb n f.a fits.a, lt-leb n f.b fits.b, lt-leb n f.c fits.c, ne_eqb (root f.a) (root f.b) fits.ab, ne_eqb (root f.b) (root f.c) fits.bc, ne_eqb (root f.a) (root f.c) (λ e. fits.ca (sym e)), input) refl
+    rw (
+      lt-leb n f.a fits.a,
+      lt-leb n f.b fits.b,
+      lt-leb n f.c fits.c,
+      ne_eqb (root f.a) (root f.b)
+          fits.ab,
+      ne_eqb (root f.b) (root f.c) fits.bc,
+      ne_eqb (root f.a) (root f.c)
+          (λ e. fits.ca (sym e)),
+      input,
+    ) refl
 
-pub split_pass : (h : Hierarchy) (s width : ℕ) → SplitFits h s width → split_is_bad h s width ≡ false
+pub split_pass : (h : Hierarchy) (s width : ℕ) → SplitFits h s width
+    → split_is_bad h s width ≡ false
 unfolding split_is_bad
 split_pass h s width fits =
     let i = interval_of h s in
@@ -130,12 +173,20 @@ split_pass h s width fits =
     let rest = fits.rest in
     let nonzero : width ≢ 0 = λ e. omega arith in
     let none : is_some (splitter_of h s) ≡ false = rw fits.unsplit refl in
-    rw (lt-leb (node_count h) s fits.node, none, le-ltb (i.until - i.from) 2 (omega arith), ne_eqb width 0 nonzero, lt-leb (i.until - i.from) width (omega arith)) refl
+    rw (
+      lt-leb (node_count h) s fits.node,
+      none,
+      le-ltb (i.until - i.from) 2 (omega arith),
+      ne_eqb width 0 nonzero,
+      lt-leb (i.until - i.from) width (omega arith),
+    ) refl
 
-pub head_pass : (h : Hierarchy) (d : Head) → split_is_bad h d.s d.width ≡ false → presence_is_bad d.presence ≡ false →
+pub head_pass : (h : Hierarchy) (d : Head) → split_is_bad h d.s d.width ≡ false
+    → presence_is_bad d.presence ≡ false →
     is_place (place_of d.t) ≡ true → is_place (place_of d.u) ≡ true →
     vertex_input_is_bad (leaf_count h) (node_inputs h) d.width d.t_input ≡ false →
-    vertex_input_is_bad (leaf_count h) (node_inputs h ++ d.t_input ∷ []) ((interval_of h d.s).until - (interval_of h d.s).from - d.width) d.u_input ≡ false →
+    vertex_input_is_bad (leaf_count h) (node_inputs h ++ d.t_input ∷ [])
+    ((interval_of h d.s).until - (interval_of h d.s).from - d.width) d.u_input ≡ false →
     head_fault h d ≡ None
 unfolding head_fault head_is_bad children_fault
 head_pass h d split presence t u first second = rw (split, presence, t, u, first, second) refl

@@ -26,10 +26,12 @@ pub record AreOnGrid (m : Mesh) (log : List Collapse) : Type 0 where
 
 -- The hierarchy of a run has the right shape.
 abbrev pub HierarchiesHaveShape : Type 0
-HierarchiesHaveShape = (m : Mesh) → IsStartOfRun m → (log : List Collapse) → IsRun m log → AreOnGrid m log →
+HierarchiesHaveShape = (m : Mesh) → IsStartOfRun m → (log : List Collapse) → IsRun m log
+    → AreOnGrid m log →
     HasShape (hierarchy_of_run m log)
 
--- It keeps the mesh that the run began with: its leaves are that mesh's vertices. Each collapse is a record.
+-- It keeps the mesh that the run began with: its leaves are that mesh's vertices. Each collapse is
+-- a record.
 pub record KeepsMesh (m : Mesh) (log : List Collapse) : Type 0 where
   pub mesh : input_mesh_of (hierarchy_of_run m log) ≡ m
   pub leaves : leaf_count (hierarchy_of_run m log) ≡ length m.points
@@ -37,7 +39,8 @@ pub record KeepsMesh (m : Mesh) (log : List Collapse) : Type 0 where
   pub records : record_count (hierarchy_of_run m log) ≡ length log
 
 abbrev pub HierarchiesKeepMeshes : Type 0
-HierarchiesKeepMeshes = (m : Mesh) → IsStartOfRun m → (log : List Collapse) → IsRun m log → KeepsMesh m log
+HierarchiesKeepMeshes = (m : Mesh) → IsStartOfRun m → (log : List Collapse) → IsRun m log
+    → KeepsMesh m log
 
 -- The surface after the first i collapses, and its sides.
 abbrev pub surface_at : Mesh → List Collapse → ℕ → Surface
@@ -60,24 +63,30 @@ shown_at m log k = shown_net (hierarchy_of_run m log) (below k)
 abbrev pub IsActiveAt : Mesh → List Collapse → ℕ → ℕ → Type 0
 IsActiveAt m log k n = IsActive (hierarchy_of_run m log) (below k) n
 
--- The surface after the first i collapses, with other numbers, is what the front of the records below k shows: the same
--- faces stand, with the nodes of their corners; the live vertices are the active nodes, each at its place.
+-- The surface after the first i collapses, with other numbers, is what the front of the records
+-- below k shows: the same faces stand, with the nodes of their corners; the live vertices are the
+-- active nodes, each at its place.
 pub record IsShown (m : Mesh) (log : List Collapse) (i k : ℕ) : Type 0 where
   pub sides : (e : ℕ) → e < 3 * length m.faces →
       Stands (net_of_log_at m log i) e ↔ Stands (shown_at m log k) (side_numbered_in m log e)
-  pub all_sides : (e : ℕ) → e < 3 * length m.faces → (g : ℕ) × (g < 3 * length m.faces) × (side_numbered_in m log g ≡ e)
+  pub all_sides : (e : ℕ) → e < 3 * length m.faces → (g : ℕ) × (g < 3 * length m.faces)
+      × (side_numbered_in m log g ≡ e)
   pub corners : (e : ℕ) → Stands (net_of_log_at m log i) e →
-      (shown_at m log k).from (side_numbered_in m log e) ≡ node_in m log ((net_of_log_at m log i).from e)
-  pub vertices : (v : ℕ) → is_live (surface_at m log i) v ≡ true → IsActiveAt m log k (node_in m log v)
+      (shown_at m log k).from (side_numbered_in m log e)
+      ≡ node_in m log ((net_of_log_at m log i).from e)
+  pub vertices : (v : ℕ) → is_live (surface_at m log i) v ≡ true
+      → IsActiveAt m log k (node_in m log v)
   pub all_vertices : (n : ℕ) → IsActiveAt m log k n →
       (v : ℕ) × (is_live (surface_at m log i) v ≡ true) × (node_in m log v ≡ n)
-  pub once : (v w : ℕ) → is_live (surface_at m log i) v ≡ true → is_live (surface_at m log i) w ≡ true →
+  pub once : (v w : ℕ) → is_live (surface_at m log i) v ≡ true
+      → is_live (surface_at m log i) w ≡ true →
       node_in m log v ≡ node_in m log w → v ≡ w
   pub places : (v : ℕ) → is_live (surface_at m log i) v ≡ true →
       place_of_node (hierarchy_of_run m log) (node_in m log v) ≡ place_at (surface_at m log i) v
 
 abbrev pub SurfacesAreShown : Type 0
-SurfacesAreShown = (m : Mesh) → IsStartOfRun m → (log : List Collapse) → IsRun m log → (i k : ℕ) → i + k ≡ length log →
+SurfacesAreShown = (m : Mesh) → IsStartOfRun m → (log : List Collapse) → IsRun m log → (i k : ℕ)
+    → i + k ≡ length log →
     IsShown m log i k
 
 -- It is valid where it has the right shape.

@@ -1,6 +1,9 @@
--- The hierarchy of a run: the vertices that are left, ascending, are the roots; the collapses in reverse order are the
--- records; leaves are numbered under the roots in turn, t before u; the base faces are those that are left, ascending.
-use Rattle.std.specs.Prelude.{◌≡◌, ℕ, zero, suc, ◌+◌, ◌-◌, ◌*◌, ◌<◌, ◌==◌, nat_lt, Bool, false, cond, ◌||◌, Option, Some, None, List, [], ◌∷◌, map, length, is_some, is_none, slice_index_or}
+-- The hierarchy of a run: the vertices that are left, ascending, are the roots; the collapses in
+-- reverse order are the records; leaves are numbered under the roots in turn, t before u; the base
+-- faces are those that are left, ascending.
+use Rattle.std.specs.Prelude.{◌≡◌, ℕ, zero, suc, ◌+◌, ◌-◌, ◌*◌, ◌<◌, ◌==◌, nat_lt, Bool, false}
+use Rattle.std.specs.Prelude.{cond, ◌||◌, Option, Some, None, List, [], ◌∷◌, map, length, is_some}
+use Rattle.std.specs.Prelude.{is_none, slice_index_or}
 use Rattle.std.specs.List.{filter, range_with_len}
 use Rattle.pm_base.specs.Place.{Place, place_of}
 use Rattle.pm_base.specs.Counts.{one_if}
@@ -61,7 +64,8 @@ step_of r k = entry_at r (steps r - suc k)
 -- The node of vertex v.
 abbrev pub node_at : Run → ℕ → Option ℕ → ℕ
 node_at r v None = place_in v (left_over r)
-node_at r v (Some i) = length (left_over r) + 2 * (steps r - suc i) + cond ((entry_at r i).t == v) 0 1
+node_at r v (Some i) =
+    length (left_over r) + 2 * (steps r - suc i) + cond ((entry_at r i).t == v) 0 1
 
 unfoldable pub node_number : Run → ℕ → ℕ
 node_number r v = node_at r v (taken_by r v)
@@ -81,7 +85,8 @@ unfoldable pub start_after : Run → ℕ → ℕ → ℕ
 start_after r zero v = sum_before (width_number r) v (left_over r)
 start_after r (suc d) v =
     let c = step_of r d in
-    cond (v == c.t) (start_after r d c.s) (cond (v == c.u) (start_after r d c.s + width_number r c.t) (start_after r d v))
+    cond (v == c.t) (start_after r d c.s)
+    (cond (v == c.u) (start_after r d c.s + width_number r c.t) (start_after r d v))
 
 -- The leaf of input vertex x.
 abbrev pub leaf_number : Run → ℕ → ℕ
@@ -90,20 +95,24 @@ leaf_number r x = start_after r (steps r) x
 -- How many faces stand before those of record k.
 unfoldable pub faces_before : Run → ℕ → ℕ
 faces_before r zero = length (base_faces r)
-faces_before r (suc k) = let c = step_of r k in faces_before r k + one_if (is_some c.left) + one_if (is_some c.right)
+faces_before r (suc k) = let c =
+    step_of r k in faces_before r k + one_if (is_some c.left) + one_if (is_some c.right)
 
 -- The number of input face f.
 abbrev pub face_at : Run → ℕ → Option ℕ → ℕ
 face_at r f None = place_in f (base_faces r)
 face_at r f (Some i) =
-    faces_before r (steps r - suc i) + cond (is_gone f (entry_at r i).left) 0 (one_if (is_some (entry_at r i).left))
+    faces_before r (steps r - suc i) + cond (is_gone f (entry_at r i).left) 0
+    (one_if (is_some (entry_at r i).left))
 
 unfoldable pub face_number : Run → ℕ → ℕ
 face_number r f = face_at r f (dropped_by r f)
 
 -- The place of a vertex: that of an input vertex, or that of the collapse that made it.
 unfoldable pub place_number : Run → ℕ → Place
-place_number r v = cond (nat_lt v r.vertices) (slice_index_or r.points v (place_of [])) (entry_at r (v - r.vertices)).place
+place_number r v =
+    cond (nat_lt v r.vertices) (slice_index_or r.points v (place_of []))
+    (entry_at r (v - r.vertices)).place
 
 -- The number of an input vertex from 1, and 0 for the others.
 unfoldable pub input_number : Run → ℕ → ℕ
@@ -144,7 +153,11 @@ numbered_step r k = let c = step_of r k in record {
 }
 
 abbrev pub numbered_root : Run → ℕ → Root
-numbered_root r v = record { place = place_number r v; width = width_number r v; input = input_number r v }
+numbered_root r v = record {
+  place = place_number r v;
+  width = width_number r v;
+  input = input_number r v;
+}
 
 abbrev pub hierarchy_of : Run → Hierarchy
 hierarchy_of r = record {

@@ -1,6 +1,7 @@
--- A run of collapses on the sides of its first mesh. A merge changes the vertices from which sides run, and nothing else,
--- so a face that was dropped needs no mark.
-use Rattle.std.specs.Prelude.{◌≡◌, ℕ, zero, suc, ◌+◌, ◌*◌, ◌%◌, ◌<◌, Option, Some, None, List, [], length, slice_index_or}
+-- A run of collapses on the sides of its first mesh. A merge changes the vertices from which sides
+-- run, and nothing else, so a face that was dropped needs no mark.
+use Rattle.std.specs.Prelude.{◌≡◌, ℕ, zero, suc, ◌+◌, ◌*◌, ◌%◌, ◌<◌, Option, Some, None, List, []}
+use Rattle.std.specs.Prelude.{length, slice_index_or}
 use Rattle.pm_base.specs.Place.{Place, place_of}
 use Rattle.pm_base.specs.Meshes.{Mesh}
 use Rattle.pm_base.specs.declared.log.Gone.{Gone}
@@ -11,7 +12,8 @@ use Rattle.pm_runs.specs.Surfaces.{merge}
 use Rattle.pm_runs.specs.Pairs.{Runs, HasSide}
 use Rattle.pm_runs.specs.Merged.{IsProper, StandsAcross, IsLinkable}
 
--- How many vertices there were at first, the sides, the places of those vertices, and the collapses in their order.
+-- How many vertices there were at first, the sides, the places of those vertices, and the collapses
+-- in their order.
 pub record Run : Type 0 where
   pub vertices : ℕ
   pub net : Net
@@ -19,7 +21,12 @@ pub record Run : Type 0 where
   pub log : List Collapse
 
 abbrev pub run_of : Mesh → List Collapse → Run
-run_of m log = record { vertices = length m.points; net = net_of m.faces; points = m.points; log = log }
+run_of m log = record {
+  vertices = length m.points;
+  net = net_of m.faces;
+  points = m.points;
+  log = log;
+}
 
 abbrev pub no_collapse : Collapse
 no_collapse = record { t = 0; u = 0; s = 0; place = place_of []; left = None; right = None }
@@ -49,13 +56,15 @@ pub record TellsWhatGoes (m : Net) (c : Collapse) : Type 0 where
   pub left : IsGone m c.t c.u c.left
   pub right : IsGone m c.u c.t c.right
 
--- A run from a mesh in which neither a side nor a face comes twice, by pairs that meet the link condition.
+-- A run from a mesh in which neither a side nor a face comes twice, by pairs that meet the link
+-- condition.
 pub record IsMerging (r : Run) : Type 0 where
   pub vertex : (e : ℕ) → e < 3 * r.net.faces → r.net.from e < r.vertices
   pub whole : (e : ℕ) → e < 3 * r.net.faces → Stands r.net e
   pub proper : IsProper r.net
   pub named : (i : ℕ) → i < steps r → (entry_at r i).s ≡ r.vertices + i
-  pub linkable : (i : ℕ) → i < steps r → IsLinkable (net_of_run_after r i) (entry_at r i).t (entry_at r i).u
+  pub linkable : (i : ℕ) → i < steps r
+      → IsLinkable (net_of_run_after r i) (entry_at r i).t (entry_at r i).u
   pub logged : (i : ℕ) → i < steps r → TellsWhatGoes (net_of_run_after r i) (entry_at r i)
 
 -- The side that a side becomes, where faces take the numbers that `face` gives.

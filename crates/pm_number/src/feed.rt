@@ -1,4 +1,5 @@
-//! Hands the units of the hierarchy of a run to a shaper. It refuses none of them, as each passes the rules of shape.
+//! Hands the units of the hierarchy of a run to a shaper. It refuses none of them, as each passes
+//! the rules of shape.
 ghost use Rattle.std.specs.Prelude.{◌≡◌, ◌+◌, ◌*◌, ◌<◌, ℕ, Some, length};
 ghost use Rattle.pm_base.specs.Meshes.{mesh_of};
 ghost use Rattle.pm_base.specs.declared.log.Gone.{Gone};
@@ -6,7 +7,8 @@ ghost use Rattle.pm_forest.specs.Shaping.{nothing_in};
 ghost use Rattle.pm_forest.specs.Rules.{counts_of};
 ghost use Rattle.pm_number.specs.Stages.{run_of};
 ghost use Rattle.pm_number.specs.Numbering.{step_of, hierarchy_of};
-ghost use Rattle.pm_number.specs.Tables.{IsSmallRun, AreNumbersOf, took_roots, took_bases, took_records, with_head_taken, took_left};
+ghost use Rattle.pm_number.specs.Tables.{IsSmallRun, AreNumbersOf, took_roots, took_bases};
+ghost use Rattle.pm_number.specs.Tables.{took_records, with_head_taken, took_left};
 
 use crate::left::entry;
 use crate::tables::Numbers;
@@ -18,8 +20,10 @@ use pm_forest::Shaper;
 pub fn add_roots(shaper: &mut Shaper, mesh: &Mesh, log: &[Collapse], numbers: &Numbers)
     requires run { IsSmallRun (run_of (mesh_of mesh.now) log.now) }
     requires numbers { AreNumbersOf (run_of (mesh_of mesh.now) log.now) numbers.now }
-    requires before { shaper.old ≡ nothing_in (counts_of (hierarchy_of (run_of (mesh_of mesh.now) log.now))) }
-    ensures { let h = hierarchy_of (run_of (mesh_of mesh.now) log.now) in shaper.new ≡ took_roots h (length h.roots) }
+    requires before { shaper.old
+        ≡ nothing_in (counts_of (hierarchy_of (run_of (mesh_of mesh.now) log.now))) }
+    ensures { let h = hierarchy_of (run_of (mesh_of mesh.now) log.now) in
+        shaper.new ≡ took_roots h (length h.roots) }
 {
     for i in 0..numbers.left.len() {
         let root = numbers.left[i];
@@ -36,7 +40,8 @@ pub fn add_bases(shaper: &mut Shaper, mesh: &Mesh, log: &[Collapse], numbers: &N
     requires run { IsSmallRun (run_of (mesh_of mesh.now) log.now) }
     requires numbers { AreNumbersOf (run_of (mesh_of mesh.now) log.now) numbers.now }
     requires before { shaper.old ≡ took_bases (hierarchy_of (run_of (mesh_of mesh.now) log.now)) 0 }
-    ensures { let h = hierarchy_of (run_of (mesh_of mesh.now) log.now) in shaper.new ≡ took_bases h (length h.bases) }
+    ensures { let h = hierarchy_of (run_of (mesh_of mesh.now) log.now) in
+        shaper.new ≡ took_bases h (length h.bases) }
 {
     for i in 0..numbers.bases.len() {
         let base = FaceId(numbers.bases[i]);
@@ -57,7 +62,8 @@ fn add_left(
     requires numbers { AreNumbersOf (run_of (mesh_of mesh.now) log.now) numbers.now }
     requires inside { k < length log.now }
     requires gone { gone.now ≡ (step_of (run_of (mesh_of mesh.now) log.now) k).left }
-    requires before { shaper.old ≡ with_head_taken (hierarchy_of (run_of (mesh_of mesh.now) log.now)) k }
+    requires before { shaper.old
+        ≡ with_head_taken (hierarchy_of (run_of (mesh_of mesh.now) log.now)) k }
     ensures { shaper.new ≡ took_left (hierarchy_of (run_of (mesh_of mesh.now) log.now)) k }
 {
     if let Some(gone) = gone {
@@ -98,8 +104,10 @@ fn add_right(
 pub fn add_records(shaper: &mut Shaper, mesh: &Mesh, log: &[Collapse], numbers: &Numbers)
     requires run { IsSmallRun (run_of (mesh_of mesh.now) log.now) }
     requires numbers { AreNumbersOf (run_of (mesh_of mesh.now) log.now) numbers.now }
-    requires before { shaper.old ≡ took_records (hierarchy_of (run_of (mesh_of mesh.now) log.now)) 0 }
-    ensures { shaper.new ≡ took_records (hierarchy_of (run_of (mesh_of mesh.now) log.now)) (length log.now) }
+    requires before { shaper.old ≡ took_records (hierarchy_of (run_of (mesh_of mesh.now) log.now))
+        0 }
+    ensures { shaper.new ≡ took_records (hierarchy_of (run_of (mesh_of mesh.now) log.now))
+        (length log.now) }
 {
     for k in 0..log.len() {
         let collapse = entry(mesh, log, log.len() - 1 - k);

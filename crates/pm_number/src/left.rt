@@ -1,8 +1,10 @@
 //! What a run leaves: the vertices that no collapse merged, and the faces that none dropped.
-ghost use Rattle.std.specs.Prelude.{true, false, ◌≡◌, ◌≢◌, ◌+◌, ◌<◌, ◌||◌, ℕ, IfOk, length, is_some, slice_index_or};
+ghost use Rattle.std.specs.Prelude.{true, false, ◌≡◌, ◌≢◌, ◌+◌, ◌<◌, ◌||◌, ℕ, IfOk, length};
+ghost use Rattle.std.specs.Prelude.{is_some, slice_index_or};
 ghost use Rattle.pm_base.specs.Meshes.{mesh_of};
 ghost use Rattle.pm_number.specs.Stages.{run_of, entry_at};
-ghost use Rattle.pm_number.specs.Numbering.{picked, taken_by, is_gone, dropped_by, left_over, base_faces};
+ghost use Rattle.pm_number.specs.Numbering.{picked, taken_by, is_gone, dropped_by, left_over};
+ghost use Rattle.pm_number.specs.Numbering.{base_faces};
 ghost use Rattle.pm_number.specs.Tables.{IsSmallRun, all_vertices, is_unset};
 
 use crate::OutOfMemory;
@@ -27,7 +29,8 @@ pub fn entry<'a>(mesh: &Mesh, log: &'a [Collapse], i: usize) -> &'a Collapse
 // Flags none of which is set. The length is a parameter, so that no proof unfolds the list.
 fn no_flags(alloc: Global, n: usize) -> Result<Vec<bool>, OutOfMemory>
     ensures len { IfOk result (λ flags. length flags.items ≡ n) }
-    ensures unset { IfOk result (λ flags. (k : ℕ) → k < n → slice_index_or flags.items k false ≡ false) }
+    ensures unset { IfOk result (λ flags. (k : ℕ) → k < n → slice_index_or flags.items k false
+        ≡ false) }
 {
     vec![in alloc; false; n]
 }
@@ -35,9 +38,11 @@ fn no_flags(alloc: Global, n: usize) -> Result<Vec<bool>, OutOfMemory>
 // For each vertex whether a collapse merges it into another.
 fn flag_taken(alloc: Global, mesh: &Mesh, log: &[Collapse]) -> Result<Vec<bool>, OutOfMemory>
     requires { IsSmallRun (run_of (mesh_of mesh.now) log.now) }
-    ensures len { IfOk result (λ flags. length flags.items ≡ all_vertices (run_of (mesh_of mesh.now) log.now)) }
+    ensures len { IfOk result (λ flags. length flags.items
+        ≡ all_vertices (run_of (mesh_of mesh.now) log.now)) }
     ensures each { let r = run_of (mesh_of mesh.now) log.now in IfOk result
-        (λ flags. (v : ℕ) → v < all_vertices r → slice_index_or flags.items v false ≡ is_some (taken_by r v)) }
+        (λ flags. (v : ℕ) → v < all_vertices r → slice_index_or flags.items v false
+        ≡ is_some (taken_by r v)) }
 {
     let mut flags = no_flags(alloc, mesh.points.len() + log.len())?;
     for i in 0..log.len() {
@@ -53,7 +58,8 @@ fn flag_gone(flags: &mut Vec<bool>, gone: &Option<Gone>)
     requires { (f : ℕ) → is_gone f gone.now ≡ true → f < length flags.old.items }
     ensures len { length flags.new.items ≡ length flags.old.items }
     ensures each { (f : ℕ) → f < length flags.old.items
-        → slice_index_or flags.new.items f false ≡ (is_gone f gone.now || slice_index_or flags.old.items f false) }
+        → slice_index_or flags.new.items f false
+        ≡ (is_gone f gone.now || slice_index_or flags.old.items f false) }
 {
     if let Some(gone) = gone {
         flags[gone.face.0 as usize] = true;
@@ -65,7 +71,8 @@ fn flag_dropped(alloc: Global, mesh: &Mesh, log: &[Collapse]) -> Result<Vec<bool
     requires { IsSmallRun (run_of (mesh_of mesh.now) log.now) }
     ensures len { IfOk result (λ flags. length flags.items ≡ length mesh.now.faces.items) }
     ensures each { let r = run_of (mesh_of mesh.now) log.now in IfOk result
-        (λ flags. (f : ℕ) → f < r.net.faces → slice_index_or flags.items f false ≡ is_some (dropped_by r f)) }
+        (λ flags. (f : ℕ) → f < r.net.faces → slice_index_or flags.items f false
+        ≡ is_some (dropped_by r f)) }
 {
     let mut flags = no_flags(alloc, mesh.faces.len())?;
     for i in 0..log.len() {
@@ -79,7 +86,8 @@ fn flag_dropped(alloc: Global, mesh: &Mesh, log: &[Collapse]) -> Result<Vec<bool
 // The numbers whose flags aren't set, ascending.
 fn unflagged(alloc: Global, flags: &[bool]) -> Result<Vec<u32>, OutOfMemory>
     requires { length flags.now < 4294967296 }
-    ensures { IfOk result (λ numbers. numbers.items ≡ picked (is_unset flags.now) 0 (length flags.now)) }
+    ensures { IfOk result (λ numbers. numbers.items
+        ≡ picked (is_unset flags.now) 0 (length flags.now)) }
 {
     let mut numbers = Vec::new(alloc);
     for k in 0..flags.len() {

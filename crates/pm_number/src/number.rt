@@ -14,8 +14,8 @@ use pm_base::{Log, Mesh};
 use pm_forest::{Hierarchy, Shape, Shaper};
 use std::alloc::Global;
 
-/// The hierarchy of the run that the log tells of the mesh. It is valid, and its input mesh is the mesh. It takes linear
-/// time and memory.
+/// The hierarchy of the run that the log tells of the mesh. It is valid, and its input mesh is the
+/// mesh. It takes linear time and memory.
 pub fn from_log(alloc: Global, mesh: &Mesh, log: &Log) -> Result<Hierarchy, OutOfMemory>
     requires start { IsStartOfRun (mesh_of mesh.now) }
     requires run { IsRun (mesh_of mesh.now) log.now.items }
@@ -29,8 +29,8 @@ pub fn from_log(alloc: Global, mesh: &Mesh, log: &Log) -> Result<Hierarchy, OutO
     let leaves = mesh.points.len() as u32;
     let roots = numbers.left.len() as u32;
     let bases = numbers.bases.len() as u32;
-    // The counts, the units and the input numbers are those of a hierarchy of the right shape, so no call is refused but
-    // for want of memory.
+    // The counts, the units and the input numbers are those of a hierarchy of the right shape, so
+    // no call is refused but for want of memory.
     let mut shaper = match Shaper::new(alloc, leaves, roots, bases, log.len() as u32) {
         Ok(shaper) => shaper,
         Err(Shape::BadCount) => unreachable!(),

@@ -1,10 +1,13 @@
-//! The tables of a run's numbers. Widths are summed up the log; nodes, leaves and faces are numbered down it.
+//! The tables of a run's numbers. Widths are summed up the log; nodes, leaves and faces are
+//! numbered down it.
 ghost use Rattle.std.specs.Prelude.{◌≡◌, ◌+◌, ◌<◌, ℕ, true, IfOk, length, is_some, slice_index_or};
 ghost use Rattle.pm_base.specs.Counts.{one_if};
 ghost use Rattle.pm_base.specs.Meshes.{mesh_of};
 ghost use Rattle.pm_number.specs.Stages.{run_of};
-ghost use Rattle.pm_number.specs.Numbering.{is_gone, left_over, base_faces, width_number, node_number, leaf_number, face_number};
-ghost use Rattle.pm_number.specs.Tables.{IsSmallRun, all_vertices, HasNumbers, AreNumbersOf, RootsHave, HasStarts, with_gone};
+ghost use Rattle.pm_number.specs.Numbering.{is_gone, left_over, base_faces, width_number};
+ghost use Rattle.pm_number.specs.Numbering.{node_number, leaf_number, face_number};
+ghost use Rattle.pm_number.specs.Tables.{IsSmallRun, all_vertices, HasNumbers, AreNumbersOf};
+ghost use Rattle.pm_number.specs.Tables.{RootsHave, HasStarts, with_gone};
 
 use crate::OutOfMemory;
 use crate::left::{base_faces, entry, left_over};
@@ -25,7 +28,8 @@ pub struct Numbers {
 // A table of one number. The length is a parameter, so that no proof unfolds the list.
 fn same(alloc: Global, number: u32, n: usize) -> Result<Vec<u32>, OutOfMemory>
     ensures len { IfOk result (λ table. length table.items ≡ n) }
-    ensures each { IfOk result (λ table. (k : ℕ) → k < n → slice_index_or table.items k 0 ≡ number) }
+    ensures each { IfOk result (λ table. (k : ℕ) → k < n
+        → slice_index_or table.items k 0 ≡ number) }
 {
     vec![in alloc; number; n]
 }
@@ -33,7 +37,8 @@ fn same(alloc: Global, number: u32, n: usize) -> Result<Vec<u32>, OutOfMemory>
 // How many input vertices are merged in each vertex.
 fn widths(alloc: Global, mesh: &Mesh, log: &[Collapse]) -> Result<Vec<u32>, OutOfMemory>
     requires { IsSmallRun (run_of (mesh_of mesh.now) log.now) }
-    ensures { let r = run_of (mesh_of mesh.now) log.now in IfOk result (λ widths. HasNumbers widths.items (width_number r) (all_vertices r)) }
+    ensures { let r = run_of (mesh_of mesh.now) log.now in
+        IfOk result (λ widths. HasNumbers widths.items (width_number r) (all_vertices r)) }
 {
     let mut widths = same(alloc, 1, mesh.points.len() + log.len())?;
     for i in 0..log.len() {
@@ -46,9 +51,11 @@ fn widths(alloc: Global, mesh: &Mesh, log: &[Collapse]) -> Result<Vec<u32>, OutO
 // Numbers what is left: entry j of the list has the number j.
 fn number_left(table: &mut Vec<u32>, left: &[u32])
     requires few { length left.now < 4294967296 }
-    requires inside { (j : ℕ) → j < length left.now → slice_index_or left.now j 0 < length table.old.items }
+    requires inside { (j : ℕ) → j < length left.now
+        → slice_index_or left.now j 0 < length table.old.items }
     ensures len { length table.new.items ≡ length table.old.items }
-    ensures each { (number : ℕ → ℕ) → ((j : ℕ) → j < length left.now → number (slice_index_or left.now j 0) ≡ j)
+    ensures each { (number : ℕ → ℕ)
+        → ((j : ℕ) → j < length left.now → number (slice_index_or left.now j 0) ≡ j)
         → (j : ℕ) → j < length left.now → RootsHave table.new.items number left.now j }
 {
     for j in 0..left.len() {
@@ -63,7 +70,8 @@ fn number_children(nodes: &mut Vec<u32>, mesh: &Mesh, log: &[Collapse], roots: u
     requires len { length nodes.old.items ≡ all_vertices (run_of (mesh_of mesh.now) log.now) }
     requires left { let r = run_of (mesh_of mesh.now) log.now in
         (j : ℕ) → j < roots → RootsHave nodes.old.items (node_number r) (left_over r) j }
-    ensures { let r = run_of (mesh_of mesh.now) log.now in HasNumbers nodes.new.items (node_number r) (all_vertices r) }
+    ensures { let r = run_of (mesh_of mesh.now) log.now in
+        HasNumbers nodes.new.items (node_number r) (all_vertices r) }
 {
     for i in 0..log.len() {
         let collapse = entry(mesh, log, i);
@@ -82,7 +90,8 @@ fn nodes(
 ) -> Result<Vec<u32>, OutOfMemory>
     requires run { IsSmallRun (run_of (mesh_of mesh.now) log.now) }
     requires left { left.now ≡ left_over (run_of (mesh_of mesh.now) log.now) }
-    ensures { let r = run_of (mesh_of mesh.now) log.now in IfOk result (λ nodes. HasNumbers nodes.items (node_number r) (all_vertices r)) }
+    ensures { let r = run_of (mesh_of mesh.now) log.now in
+        IfOk result (λ nodes. HasNumbers nodes.items (node_number r) (all_vertices r)) }
 {
     let mut nodes = same(alloc, 0, mesh.points.len() + log.len())?;
     number_left(&mut nodes, left);
@@ -94,7 +103,8 @@ fn nodes(
 fn start_roots(starts: &mut Vec<u32>, mesh: &Mesh, log: &[Collapse], left: &[u32], widths: &[u32])
     requires run { IsSmallRun (run_of (mesh_of mesh.now) log.now) }
     requires left { left.now ≡ left_over (run_of (mesh_of mesh.now) log.now) }
-    requires widths { let r = run_of (mesh_of mesh.now) log.now in HasNumbers widths.now (width_number r) (all_vertices r) }
+    requires widths { let r = run_of (mesh_of mesh.now) log.now in
+        HasNumbers widths.now (width_number r) (all_vertices r) }
     requires len { length starts.old.items ≡ all_vertices (run_of (mesh_of mesh.now) log.now) }
     ensures len { length starts.new.items ≡ length starts.old.items }
     ensures each { HasStarts (run_of (mesh_of mesh.now) log.now) starts.new.items 0 }
@@ -110,10 +120,12 @@ fn start_roots(starts: &mut Vec<u32>, mesh: &Mesh, log: &[Collapse], left: &[u32
 // The first leaves of the children, from those of the nodes that are split.
 fn start_children(starts: &mut Vec<u32>, mesh: &Mesh, log: &[Collapse], widths: &[u32])
     requires run { IsSmallRun (run_of (mesh_of mesh.now) log.now) }
-    requires widths { let r = run_of (mesh_of mesh.now) log.now in HasNumbers widths.now (width_number r) (all_vertices r) }
+    requires widths { let r = run_of (mesh_of mesh.now) log.now in
+        HasNumbers widths.now (width_number r) (all_vertices r) }
     requires len { length starts.old.items ≡ all_vertices (run_of (mesh_of mesh.now) log.now) }
     requires roots { HasStarts (run_of (mesh_of mesh.now) log.now) starts.old.items 0 }
-    ensures { let r = run_of (mesh_of mesh.now) log.now in HasNumbers starts.new.items (leaf_number r) (all_vertices r) }
+    ensures { let r = run_of (mesh_of mesh.now) log.now in
+        HasNumbers starts.new.items (leaf_number r) (all_vertices r) }
 {
     for d in 0..log.len() {
         let collapse = entry(mesh, log, log.len() - 1 - d);
@@ -133,8 +145,10 @@ fn starts(
 ) -> Result<Vec<u32>, OutOfMemory>
     requires run { IsSmallRun (run_of (mesh_of mesh.now) log.now) }
     requires left { left.now ≡ left_over (run_of (mesh_of mesh.now) log.now) }
-    requires widths { let r = run_of (mesh_of mesh.now) log.now in HasNumbers widths.now (width_number r) (all_vertices r) }
-    ensures { let r = run_of (mesh_of mesh.now) log.now in IfOk result (λ starts. HasNumbers starts.items (leaf_number r) (all_vertices r)) }
+    requires widths { let r = run_of (mesh_of mesh.now) log.now in
+        HasNumbers widths.now (width_number r) (all_vertices r) }
+    ensures { let r = run_of (mesh_of mesh.now) log.now in
+        IfOk result (λ starts. HasNumbers starts.items (leaf_number r) (all_vertices r)) }
 {
     let mut starts = same(alloc, 0, mesh.points.len() + log.len())?;
     start_roots(&mut starts, mesh, log, left, widths);
@@ -165,7 +179,8 @@ fn number_dropped(faces: &mut Vec<u32>, mesh: &Mesh, log: &[Collapse], bases: u3
     requires len { length faces.old.items ≡ length mesh.now.faces.items }
     requires left { let r = run_of (mesh_of mesh.now) log.now in
         (j : ℕ) → j < bases → RootsHave faces.old.items (face_number r) (base_faces r) j }
-    ensures { let r = run_of (mesh_of mesh.now) log.now in HasNumbers faces.new.items (face_number r) r.net.faces }
+    ensures { let r = run_of (mesh_of mesh.now) log.now in
+        HasNumbers faces.new.items (face_number r) r.net.faces }
 {
     let mut next = bases;
     for d in 0..log.len() {
@@ -184,7 +199,8 @@ fn faces(
 ) -> Result<Vec<u32>, OutOfMemory>
     requires run { IsSmallRun (run_of (mesh_of mesh.now) log.now) }
     requires bases { bases.now ≡ base_faces (run_of (mesh_of mesh.now) log.now) }
-    ensures { let r = run_of (mesh_of mesh.now) log.now in IfOk result (λ faces. HasNumbers faces.items (face_number r) r.net.faces) }
+    ensures { let r = run_of (mesh_of mesh.now) log.now in
+        IfOk result (λ faces. HasNumbers faces.items (face_number r) r.net.faces) }
 {
     let mut faces = same(alloc, 0, mesh.faces.len())?;
     number_left(&mut faces, bases);

@@ -8,7 +8,8 @@ ghost use Rattle.pm_forest.specs.Forest.{record_at};
 ghost use Rattle.pm_forest.specs.Rules.{word_of, head_of};
 ghost use Rattle.pm_beyond.specs.Walks.{number_of};
 ghost use Rattle.pm_number.specs.Stages.{run_of};
-ghost use Rattle.pm_number.specs.Numbering.{step_of, place_number, input_number, numbered_face, numbered_side, hierarchy_of};
+ghost use Rattle.pm_number.specs.Numbering.{step_of, place_number, input_number, numbered_face};
+ghost use Rattle.pm_number.specs.Numbering.{numbered_side, hierarchy_of};
 ghost use Rattle.pm_number.specs.Tables.{IsSmallRun, AreNumbersOf, coordinates};
 
 use crate::left::entry;
@@ -78,7 +79,8 @@ pub fn word(mesh: &Mesh, log: &[Collapse], numbers: &Numbers, side: Option<Side>
 
 // The word that tells which faces a collapse drops.
 fn presence(collapse: &Collapse) -> u32
-    ensures { result ≡ one_if (is_some collapse.now.left) + 2 * one_if (is_some collapse.now.right) }
+    ensures { result ≡ one_if (is_some collapse.now.left) + 2 * one_if
+        (is_some collapse.now.right) }
 {
     match (&collapse.left, &collapse.right) {
         (None, None) => 0,
@@ -93,9 +95,12 @@ pub fn head(mesh: &Mesh, log: &[Collapse], numbers: &Numbers, k: usize) -> Head
     requires run { IsSmallRun (run_of (mesh_of mesh.now) log.now) }
     requires numbers { AreNumbersOf (run_of (mesh_of mesh.now) log.now) numbers.now }
     requires inside { k < length log.now }
-    ensures value { result ≡ head_of (record_at (hierarchy_of (run_of (mesh_of mesh.now) log.now)) k) }
-    ensures first { let r = run_of (mesh_of mesh.now) log.now in is_place (place_number r (step_of r k).t) ≡ true }
-    ensures second { let r = run_of (mesh_of mesh.now) log.now in is_place (place_number r (step_of r k).u) ≡ true }
+    ensures value { result
+        ≡ head_of (record_at (hierarchy_of (run_of (mesh_of mesh.now) log.now)) k) }
+    ensures first { let r = run_of (mesh_of mesh.now) log.now in
+        is_place (place_number r (step_of r k).t) ≡ true }
+    ensures second { let r = run_of (mesh_of mesh.now) log.now in
+        is_place (place_number r (step_of r k).u) ≡ true }
 {
     let collapse = entry(mesh, log, log.len() - 1 - k);
     Head {

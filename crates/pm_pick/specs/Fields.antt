@@ -10,7 +10,8 @@ use Rattle.pm_pick.specs.Rays.{Ray, is_ray}
 -- The three numbers that three fields spell, each at most `most` away from 0.
 unfoldable pub three_of : ℕ → List ℕ → List ℕ → List ℕ → Option Place
 three_of most x y z =
-    option_and_then (λ a. option_and_then (λ b. option_and_then (λ c. Some (record { x = a; y = b; z = c }))
+    option_and_then
+    (λ a. option_and_then (λ b. option_and_then (λ c. Some (record { x = a; y = b; z = c }))
     (signed_of most z)) (signed_of most y)) (signed_of most x)
 
 -- The ray from o whose way has the numbers of d, if it is one.
@@ -21,7 +22,10 @@ ray_from o d =
 
 -- The ray that six fields spell: the numbers of its origin, and those of its way.
 unfoldable pub ray_in : List (List ℕ) → Option Ray
-ray_in (x ∷ y ∷ z ∷ a ∷ b ∷ c ∷ []) = option_and_then (λ o. option_and_then (λ d. ray_from o d) (three_of GREATEST_WAY_COMPONENT a b c)) (three_of GREATEST_EYE_COORDINATE x y z)
+ray_in (x ∷ y ∷ z ∷ a ∷ b ∷ c ∷ []) =
+    option_and_then
+    (λ o. option_and_then (λ d. ray_from o d) (three_of GREATEST_WAY_COMPONENT a b c))
+    (three_of GREATEST_EYE_COORDINATE x y z)
 ray_in _ = None
 
 -- The ray that a text spells.

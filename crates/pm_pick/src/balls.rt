@@ -1,5 +1,6 @@
 //! Which balls a ray meets.
-ghost use Rattle.std.specs.Prelude.{◌≡◌, ◌≤◌, ◌<◌, ◌^◌, ◌+◌, ◌*◌, ◌||◌, not, pos, ℕ, int_lt, nat_lt, true, false, unsigned_abs};
+ghost use Rattle.std.specs.Prelude.{◌≡◌, ◌≤◌, ◌<◌, ◌^◌, ◌+◌, ◌*◌, ◌||◌, not, pos, ℕ, int_lt};
+ghost use Rattle.std.specs.Prelude.{nat_lt, true, false, unsigned_abs};
 ghost use Rattle.pm_base.specs.Geometry.{norm2_of, square_of};
 ghost use Rattle.pm_base.specs.Sides.{face_of};
 ghost use Rattle.pm_forest.specs.Forest.{node_count, Holds};
@@ -36,8 +37,8 @@ fn square_of_component(a: i32) -> u64
     size * size
 }
 
-// Whether a ball with this radius is aside: n is the squared length of the ray's way, and far that of its product with the
-// way to the ball's middle.
+// Whether a ball with this radius is aside: n is the squared length of the ray's way, and far that
+// of its product with the way to the ball's middle.
 fn is_too_far(far: u128, n: u64, radius: u64) -> bool
     requires n_small { n ≤ 2 ^ 34 }
     requires radius_small { radius ≤ 2 ^ 38 }
@@ -90,8 +91,9 @@ fn is_met(h: &Hierarchy, bounds: &Bounds, node: NodeId, ray: &Ray) -> bool
     ray.meets(ball.place, ball.radius)
 }
 
-/// Whether the ray meets the ball of a node, whose middle is the node's place and whose radius is that of the bounds. If it
-/// doesn't, it hits no face that has a corner under the node. It counts one step, and takes no memory.
+/// Whether the ray meets the ball of a node, whose middle is the node's place and whose radius is
+/// that of the bounds. If it doesn't, it hits no face that has a corner under the node. It counts
+/// one step, and takes no memory.
 pub fn ball_met<L: Ledger>(
     h: &Hierarchy,
     bounds: &Bounds,
@@ -102,7 +104,8 @@ pub fn ball_met<L: Ledger>(
     requires bounds { AreBoundsOf h.now bounds.now }
     requires node { node.0 < node_count h.now }
     ensures value { result ≡ is_met h.now ray.now node.0 }
-    ensures missed { result ≡ false → (e : ℕ) → e < 3 * face_count h.now → Holds h.now node.0 (from_leaf h.now e) → MissesFace h.now ray.now (face_of e) }
+    ensures missed { result ≡ false → (e : ℕ) → e < 3 * face_count h.now
+        → Holds h.now node.0 (from_leaf h.now e) → MissesFace h.now ray.now (face_of e) }
     ensures cost { steps.new ≡ steps.old + 1 }
 {
     steps.tick();

@@ -13,7 +13,8 @@ pub struct BadRay;
 #[tactic(auto, unfolding(crate::specs::Fields::three_of))]
 fn read_three(x: &[u8], y: &[u8], z: &[u8], most: u32) -> Option<(i32, i32, i32)>
     requires { most < 2 ^ 31 }
-    ensures { MatchOption result (three_of most x.now y.now z.now ≡ None) (λ p. three_of most x.now y.now z.now ≡ Some (record { x = p.0; y = p.1; z = p.2 })) }
+    ensures { MatchOption result (three_of most x.now y.now z.now ≡ None)
+        (λ p. three_of most x.now y.now z.now ≡ Some (record { x = p.0; y = p.1; z = p.2 })) }
 {
     let a = read_small(x, most)?;
     let b = read_small(y, most)?;
@@ -23,7 +24,10 @@ fn read_three(x: &[u8], y: &[u8], z: &[u8], most: u32) -> Option<(i32, i32, i32)
 
 #[tactic(auto, unfolding(crate::specs::Fields::ray_from))]
 fn ray_from(o: (i32, i32, i32), d: (i32, i32, i32)) -> Option<Ray>
-    ensures { MatchOption result (ray_from (record { x = o.0; y = o.1; z = o.2 }) (record { x = d.0; y = d.1; z = d.2 }) ≡ None) (λ r. ray_from (record { x = o.0; y = o.1; z = o.2 }) (record { x = d.0; y = d.1; z = d.2 }) ≡ Some r) }
+    ensures { MatchOption result
+        (ray_from (record { x = o.0; y = o.1; z = o.2 }) (record { x = d.0; y = d.1; z = d.2 })
+        ≡ None) (λ r. ray_from (record { x = o.0; y = o.1; z = o.2 })
+        (record { x = d.0; y = d.1; z = d.2 }) ≡ Some r) }
 {
     Ray::new(o.0, o.1, o.2, d.0, d.1, d.2)
 }
@@ -46,10 +50,11 @@ fn ray_in(text: &[u8]) -> Option<Ray>
     ray_from(origin, way)
 }
 
-/// The ray that a text spells: the three numbers of its origin and the three of its way, separated by one space. It takes no
-/// memory.
+/// The ray that a text spells: the three numbers of its origin and the three of its way, separated
+/// by one space. It takes no memory.
 ///
-/// BadRay comes exactly where the text isn't of this form, a number is out of range, or the way is 0.
+/// BadRay comes exactly where the text isn't of this form, a number is out of range, or the way is
+/// 0.
 pub fn read_ray(fields: &[u8]) -> Result<Ray, BadRay>
     ensures ok { IfOk result (λ ray. ray_of fields.now ≡ Some ray) }
     ensures bad { OnErr result (ray_of fields.now ≡ None) }

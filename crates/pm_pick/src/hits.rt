@@ -1,11 +1,13 @@
-//! Where a ray meets a face. The ray passes the three sides of a face that it hits on one hand: the volumes that it spans with
-//! them have one sign. All by whole numbers, without a division.
-ghost use Rattle.std.specs.Prelude.{◌≡◌, ◌≤◌, ◌<◌, ◌^◌, ◌+◌, ◌*◌, ◌≤ℤ◌, pos, ℕ, int_le, nat_lt, unsigned_abs, IfSome, IfNone, true, false, Some, None};
+//! Where a ray meets a face. The ray passes the three sides of a face that it hits on one hand: the
+//! volumes that it spans with them have one sign. All by whole numbers, without a division.
+ghost use Rattle.std.specs.Prelude.{◌≡◌, ◌≤◌, ◌<◌, ◌^◌, ◌+◌, ◌*◌, ◌≤ℤ◌, pos, ℕ, int_le, nat_lt};
+ghost use Rattle.std.specs.Prelude.{unsigned_abs, IfSome, IfNone, true, false, Some, None};
 ghost use Rattle.pm_base.specs.Geometry.{cross_of, dot_of, IsNormal};
 ghost use Rattle.pm_forest.specs.Faces.{face_count, corners_of};
 ghost use Rattle.pm_forest.specs.Meshes.{leaf_place};
 ghost use Rattle.pm_pick.specs.Rays.{direction_of, IsWithin};
-ghost use Rattle.pm_pick.specs.Hits.{sign_turned, slope_of, height_of, passing, is_hit_at, is_hit, IsHit};
+ghost use Rattle.pm_pick.specs.Hits.{sign_turned, slope_of, height_of, passing, is_hit_at, is_hit};
+ghost use Rattle.pm_pick.specs.Hits.{IsHit};
 ghost use Rattle.pm_pick.specs.Picks.{HitsFace, MissesFace};
 
 use crate::Ray;
@@ -15,7 +17,8 @@ use pm_forest::Hierarchy;
 use pm_view::Steps;
 use std::sync::ledger::Ledger;
 
-/// Where a ray hits a face: at the fraction `s / q` of its way, where `q` is above 0. The fraction isn't reduced.
+/// Where a ray hits a face: at the fraction `s / q` of its way, where `q` is above 0. The fraction
+/// isn't reduced.
 #[derive(Clone, Copy, Debug, PartialEq, Eq)]
 pub struct Hit {
     pub face: FaceId,
@@ -145,8 +148,8 @@ fn corners(h: &Hierarchy, f: FaceId) -> (Point, Point, Point)
     )
 }
 
-/// Where the ray hits a face of the input, on whichever hand; none exactly where it doesn't, as where the ray lies in the
-/// face's plane. It counts one step, and takes no memory.
+/// Where the ray hits a face of the input, on whichever hand; none exactly where it doesn't, as
+/// where the ray lies in the face's plane. It counts one step, and takes no memory.
 pub fn face_hit<L: Ledger>(h: &Hierarchy, f: FaceId, ray: &Ray, steps: &mut Steps<L>) -> Option<Hit>
     requires { f.0 < face_count h.now }
     ensures some { IfSome result (λ x. (x.face.0 ≡ f.0) × HitsFace h.now ray.now f.0 x.s x.q) }

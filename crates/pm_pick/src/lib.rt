@@ -1,4 +1,5 @@
-//! Picking: which face of the input a ray hits first. Nodes whose balls the ray doesn't meet are skipped with all under them.
+//! Picking: which face of the input a ray hits first. Nodes whose balls the ray doesn't meet are
+//! skipped with all under them.
 #![tactic(auto)]
 
 mod balls;

@@ -1,4 +1,5 @@
-//! The limit of the way of a ray, which code and clauses cite by name. The origin has the limit of an eye.
+//! The limit of the way of a ray, which code and clauses cite by name. The origin has the limit of
+//! an eye.
 
 /// The greatest component of a ray's way in absolute value.
 pub const GREATEST_WAY_COMPONENT: u32 = 32_767;

@@ -1,5 +1,6 @@
 //! Finding the first face that a ray meets.
-ghost use Rattle.std.specs.Prelude.{◌≡◌, ◌≤◌, ◌<◌, ◌+◌, ◌*◌, ◌==◌, ◌⊎◌, ℕ, IfOk, IfSome, IfNone, length, slice_index_or, None, Some};
+ghost use Rattle.std.specs.Prelude.{◌≡◌, ◌≤◌, ◌<◌, ◌+◌, ◌*◌, ◌==◌, ◌⊎◌, ℕ, IfOk, IfSome, IfNone};
+ghost use Rattle.std.specs.Prelude.{length, slice_index_or, None, Some};
 ghost use Rattle.pm_base.specs.Counts.{count};
 ghost use Rattle.pm_base.specs.Sides.{face_of};
 ghost use Rattle.pm_forest.specs.Forest.{node_count, leaf_count, interval_of};
@@ -24,8 +25,8 @@ use std::alloc::Global;
 use std::marker::Model;
 use std::sync::ledger::Ledger;
 
-/// What finds the first face that a ray hits: the faces at each leaf of a hierarchy. No front is asked, so a pick is the same
-/// at each.
+/// What finds the first face that a ray hits: the faces at each leaf of a hierarchy. No front is
+/// asked, so a pick is the same at each.
 #[derive(Drop)]
 pub struct Picker {
     last: Vec<Option<u32>>,
@@ -83,8 +84,10 @@ impl Picker {
         requires found { IfSome best (IsFound h.now ray.now) }
         ensures found { IfSome result (IsFound h.now ray.now) }
         ensures kept { (f s q : ℕ) → 0 < q → Beats best f s q → Beats result f s q }
-        ensures here { (e s q : ℕ) → e < 3 * face_count h.now → from_leaf h.now e ≡ leaf → HitsFace h.now ray.now (face_of e) s q → Beats result (face_of e) s q }
-        ensures cost { steps.new ≡ steps.old + count (λ e. from_leaf h.now e == leaf) (3 * face_count h.now) }
+        ensures here { (e s q : ℕ) → e < 3 * face_count h.now → from_leaf h.now e ≡ leaf
+            → HitsFace h.now ray.now (face_of e) s q → Beats result (face_of e) s q }
+        ensures cost { steps.new ≡ steps.old + count (λ e. from_leaf h.now e == leaf)
+            (3 * face_count h.now) }
     {
         let mut best = best;
         let mut at = self.last_at(leaf);
@@ -95,7 +98,8 @@ impl Picker {
         best
     }
 
-    // Tests a node to which the walk came, and the faces at its leaf where it has but one, and answers the node that is next.
+    // Tests a node to which the walk came, and the faces at its leaf where it has but one, and
+    // answers the node that is next.
     fn visit<L: Ledger>(
         &self,
         h: &Hierarchy,
@@ -109,8 +113,11 @@ impl Picker {
         requires bounds { AreBoundsOf h.now bounds.now }
         requires node { node.0 < node_count h.now }
         requires found { IfSome best.old (IsFound h.now ray.now) }
-        ensures ahead { ((interval_of h.now node.0).from < leaf_next h.now result) ⊎ (((interval_of h.now node.0).from ≡ leaf_next h.now result) × (node.0 < node_next result)) }
-        ensures walked { (base : ℕ) → IsWalked h.now ray.now (Some node) best.old base steps.old → IsWalked h.now ray.now result best.new base steps.new }
+        ensures ahead { ((interval_of h.now node.0).from < leaf_next h.now result)
+            ⊎ (((interval_of h.now node.0).from ≡ leaf_next h.now result)
+            × (node.0 < node_next result)) }
+        ensures walked { (base : ℕ) → IsWalked h.now ray.now (Some node) best.old base steps.old
+            → IsWalked h.now ray.now result best.new base steps.new }
     {
         h.invariant();
         if !ball_met(h, bounds, node, ray, steps) {
@@ -147,11 +154,13 @@ impl Picker {
         best
     }
 
-    /// The hit with the least fraction, and of those the face with the least number; none exactly where the ray hits no face.
-    /// Picker and bounds are those of the hierarchy. It takes no memory.
+    /// The hit with the least fraction, and of those the face with the least number; none exactly
+    /// where the ray hits no face. Picker and bounds are those of the hierarchy. It takes no
+    /// memory.
     ///
-    /// It skips what is under nodes whose balls the ray doesn't meet: it counts a step for each root and for both children of each node that is met
-    /// with all nodes above it, and one for each face corner at the leaves whose nodes are so met.
+    /// It skips what is under nodes whose balls the ray doesn't meet: it counts a step for each
+    /// root and for both children of each node that is met with all nodes above it, and one for
+    /// each face corner at the leaves whose nodes are so met.
     pub fn pick<L: Ledger>(
         &self,
         h: &Hierarchy,

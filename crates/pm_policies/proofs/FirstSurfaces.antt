@@ -26,7 +26,8 @@ taken-made p s planes (c ∷ cs) steps zero v is l =
     ∙ cond-true _ _ _ (eq-eqb v c.s (omega arith))
 taken-made p s planes (c ∷ cs) steps (suc i) v is l =
     let n = next-after s c.t c.u c.place in
-    taken-made p (after_entry s c) (taken_next p s planes c) cs steps.1 i v (omega arith) (omega arith)
+    taken-made p (after_entry s c) (taken_next p s planes c) cs steps.1 i v (omega arith)
+    (omega arith)
 
 pub planes_are_of_first_surfaces : law.PlanesAreOfFirstSurfaces
 unfolding IsRun surface_after taken_after

@@ -12,7 +12,20 @@ use Rattle.pm_quadric.proofs.Words.{sum_read, sum_is}
 
 -- Two quadrics together.
 abbrev pub sums_read : Sums → Sums → Sums
-sums_read s t = record { xx = sum_read s.xx t.xx; xy = sum_read s.xy t.xy; xz = sum_read s.xz t.xz; x = sum_read s.x t.x; yy = sum_read s.yy t.yy; yz = sum_read s.yz t.yz; y = sum_read s.y t.y; zz = sum_read s.zz t.zz; z = sum_read s.z t.z; one = sum_read s.one t.one; count = s.count + t.count }
+sums_read s t = record {
+  xx = sum_read s.xx t.xx;
+  xy = sum_read s.xy t.xy;
+  xz = sum_read s.xz t.xz;
+  x = sum_read s.x t.x;
+  yy = sum_read s.yy t.yy;
+  yz = sum_read s.yz t.yz;
+  y = sum_read s.y t.y;
+  zz = sum_read s.zz t.zz;
+  z = sum_read s.z t.z;
+  one = sum_read s.one t.one;
+  count =
+      s.count + t.count;
+}
 
 sums_read-plus : (s t : Sums) → IsSmall s → IsSmall t → sums_read s t ≡ plus_sums s t
 sums_read-plus s t h k =
@@ -29,18 +42,28 @@ sums_read-plus s t h k =
       sum_is s.one t.one (2 ^ 122) h.one k.one (lit≤ tt),
     ) refl
 
-pub sums_read-is : (s t u v : Sums) → IsSmall s → IsSmall t → s ≡ u → t ≡ v → sums_read s t ≡ plus_sums u v
-sums_read-is s t u v h k p q = sums_read-plus s t h k ∙ (ap (λ (r : Sums). plus_sums r t) p ∙ ap (λ (r : Sums). plus_sums u r) q)
+pub sums_read-is : (s t u v : Sums) → IsSmall s → IsSmall t → s ≡ u → t ≡ v
+    → sums_read s t ≡ plus_sums u v
+sums_read-is s t u v h k p q =
+    sums_read-plus s t h k
+    ∙ (ap (λ (r : Sums). plus_sums r t) p ∙ ap (λ (r : Sums). plus_sums u r) q)
 
 -- The plane of a face: the last number, a product of two numbers, and the ten.
-pub offset_is : (r x y z : ℤ) (n : Direction) (p : Place) → r ≡ neg_ℤ (x *ℤ p.x +ℤ y *ℤ p.y +ℤ z *ℤ p.z) → x ≡ n.x → y ≡ n.y → z ≡ n.z → r ≡ (plane_through n p).d
+pub offset_is : (r x y z : ℤ) (n : Direction) (p : Place)
+    → r ≡ neg_ℤ (x *ℤ p.x +ℤ y *ℤ p.y +ℤ z *ℤ p.z) → x ≡ n.x → y ≡ n.y → z ≡ n.z
+    → r ≡ (plane_through n p).d
 offset_is r x y z n p e ex ey ez = e ∙ rw (ex, ey, ez) refl
 
-pub pair_is : (r a b a' b' : ℤ) → FitsSigned w128 r → r ≡ to_z w64 (of_z w64 a) *ℤ to_z w64 (of_z w64 b) → FitsSigned w64 a → FitsSigned w64 b → a ≡ a' → b ≡ b' → to_z w128 (of_z w128 r) ≡ a' *ℤ b'
+pub pair_is : (r a b a' b' : ℤ) → FitsSigned w128 r
+    → r ≡ to_z w64 (of_z w64 a) *ℤ to_z w64 (of_z w64 b) → FitsSigned w64 a → FitsSigned w64 b
+    → a ≡ a' → b ≡ b' → to_z w128 (of_z w128 r) ≡ a' *ℤ b'
 pair_is r a b a' b' fr e fa fb ea eb = to_z-of_z w128 r fr ∙ (e ∙ simp to_z-of_z (rw (ea, eb) refl))
 
-pub double_is : (r a b a' b' : ℤ) → FitsSigned w128 r → r ≡ pos 2 *ℤ (to_z w64 (of_z w64 a) *ℤ to_z w64 (of_z w64 b)) → FitsSigned w64 a → FitsSigned w64 b → a ≡ a' → b ≡ b' → to_z w128 (of_z w128 r) ≡ pos 2 *ℤ (a' *ℤ b')
-double_is r a b a' b' fr e fa fb ea eb = to_z-of_z w128 r fr ∙ (e ∙ simp to_z-of_z (rw (ea, eb) refl))
+pub double_is : (r a b a' b' : ℤ) → FitsSigned w128 r
+    → r ≡ pos 2 *ℤ (to_z w64 (of_z w64 a) *ℤ to_z w64 (of_z w64 b)) → FitsSigned w64 a
+    → FitsSigned w64 b → a ≡ a' → b ≡ b' → to_z w128 (of_z w128 r) ≡ pos 2 *ℤ (a' *ℤ b')
+double_is r a b a' b' fr e fa fb ea eb =
+    to_z-of_z w128 r fr ∙ (e ∙ simp to_z-of_z (rw (ea, eb) refl))
 
 pub coefficients_are : (f : Plane) (r1 r2 r3 r4 r5 r6 r7 r8 r9 r10 : ℤ)
     → r1 ≡ f.a *ℤ f.a
@@ -53,5 +76,18 @@ pub coefficients_are : (f : Plane) (r1 r2 r3 r4 r5 r6 r7 r8 r9 r10 : ℤ)
     → r8 ≡ f.c *ℤ f.c
     → r9 ≡ pos 2 *ℤ (f.c *ℤ f.d)
     → r10 ≡ f.d *ℤ f.d
-    → (let s : Sums = record { xx = r1; xy = r2; xz = r3; x = r4; yy = r5; yz = r6; y = r7; zz = r8; z = r9; one = r10; count = 1 } in s) ≡ coefficients f
-coefficients_are f r1 r2 r3 r4 r5 r6 r7 r8 r9 r10 e1 e2 e3 e4 e5 e6 e7 e8 e9 e10 = rw (e1, e2, e3, e4, e5, e6, e7, e8, e9, e10) refl
+    → (let s : Sums = record {
+      xx = r1;
+      xy = r2;
+      xz = r3;
+      x = r4;
+      yy = r5;
+      yz = r6;
+      y = r7;
+      zz = r8;
+      z = r9;
+      one = r10;
+      count = 1;
+    } in s) ≡ coefficients f
+coefficients_are f r1 r2 r3 r4 r5 r6 r7 r8 r9 r10 e1 e2 e3 e4 e5 e6 e7 e8 e9 e10 =
+    rw (e1, e2, e3, e4, e5, e6, e7, e8, e9, e10) refl

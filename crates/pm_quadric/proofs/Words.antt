@@ -8,35 +8,46 @@ use Rattle.pm_base.proofs.Squares.{abs_plus}
 use Rattle.pm_base.proofs.Range.{fits_abs}
 
 -- An absolute value.
-pub abs_read : (r v : ℤ) (n : ℕ) → FitsSigned w128 r → n ≡ unsigned_abs (to_z w128 (of_z w128 r)) → r ≡ v → n ≡ unsigned_abs v
+pub abs_read : (r v : ℤ) (n : ℕ) → FitsSigned w128 r → n ≡ unsigned_abs (to_z w128 (of_z w128 r))
+    → r ≡ v → n ≡ unsigned_abs v
 abs_read r v n f e p = e ∙ ap unsigned_abs (to_z-of_z w128 r f ∙ p)
 
 -- A product.
 pub at_most_product : (a b m n k : ℕ) → a ≤ m → b ≤ n → m * n ≤ k → a * b ≤ k
 at_most_product a b m n k p q r = omega (arith, mul-le a b m n p q)
 
-product_at_most : (a b : ℤ) (m : ℕ) → unsigned_abs a * unsigned_abs b ≤ m → unsigned_abs (a *ℤ b) ≤ m
+product_at_most : (a b : ℤ) (m : ℕ) → unsigned_abs a * unsigned_abs b ≤ m
+    → unsigned_abs (a *ℤ b) ≤ m
 product_at_most a b m h = rw unsigned_abs-mul h
 
 product_fits : (a b : ℤ) → unsigned_abs a * unsigned_abs b ≤ 2 ^ 122 → FitsSigned w128 (a *ℤ b)
 product_fits a b h = fits_abs (a *ℤ b) (2 ^ 122) (product_at_most a b (2 ^ 122) h) (lit< tt)
 
-pub times_fits : (a b : ℤ) → FitsSigned w128 a → FitsSigned w128 b → unsigned_abs a * unsigned_abs b ≤ 2 ^ 122 → FitsSigned w128 (to_z w128 (of_z w128 a) *ℤ to_z w128 (of_z w128 b))
+pub times_fits : (a b : ℤ) → FitsSigned w128 a → FitsSigned w128 b
+    → unsigned_abs a * unsigned_abs b ≤ 2 ^ 122
+    → FitsSigned w128 (to_z w128 (of_z w128 a) *ℤ to_z w128 (of_z w128 b))
 times_fits a b fa fb h = simp to_z-of_z (product_fits a b h)
 
-pub times_is : (a b : ℤ) → FitsSigned w128 a → FitsSigned w128 b → unsigned_abs a * unsigned_abs b ≤ 2 ^ 122 → to_z w128 (of_z w128 (to_z w128 (of_z w128 a) *ℤ to_z w128 (of_z w128 b))) ≡ a *ℤ b
+pub times_is : (a b : ℤ) → FitsSigned w128 a → FitsSigned w128 b
+    → unsigned_abs a * unsigned_abs b ≤ 2 ^ 122
+    → to_z w128 (of_z w128 (to_z w128 (of_z w128 a) *ℤ to_z w128 (of_z w128 b))) ≡ a *ℤ b
 times_is a b fa fb h = let f = product_fits a b h in simp to_z-of_z
 
-pub times_small : (a b : ℤ) → FitsSigned w128 a → FitsSigned w128 b → unsigned_abs a * unsigned_abs b ≤ 2 ^ 122 → unsigned_abs (to_z w128 (of_z w128 (to_z w128 (of_z w128 a) *ℤ to_z w128 (of_z w128 b)))) ≤ 2 ^ 122
+pub times_small : (a b : ℤ) → FitsSigned w128 a → FitsSigned w128 b
+    → unsigned_abs a * unsigned_abs b ≤ 2 ^ 122
+    → unsigned_abs (to_z w128 (of_z w128 (to_z w128 (of_z w128 a) *ℤ to_z w128 (of_z w128 b)))) ≤ 2
+    ^ 122
 times_small a b fa fb h = rw (times_is a b fa fb h) (product_at_most a b (2 ^ 122) h)
 
 -- A sum, whose bits `sum_read` reads.
 abbrev pub sum_read : ℤ → ℤ → ℤ
 sum_read a b = to_z w128 (of_z w128 (to_z w128 (of_z w128 a) +ℤ to_z w128 (of_z w128 b)))
 
-pub sum_is : (a b : ℤ) (m : ℕ) → unsigned_abs a ≤ m → unsigned_abs b ≤ m → m ≤ 2 ^ 125 → sum_read a b ≡ a +ℤ b
+pub sum_is : (a b : ℤ) (m : ℕ) → unsigned_abs a ≤ m → unsigned_abs b ≤ m → m ≤ 2 ^ 125
+    → sum_read a b ≡ a +ℤ b
 sum_is a b m p q r =
-    let f : FitsSigned w128 (a +ℤ b) = fits_signed_from_abs w128 (a +ℤ b) (omega (arith, abs_plus a b)) in
+    let f : FitsSigned w128 (a +ℤ b) =
+    fits_signed_from_abs w128 (a +ℤ b) (omega (arith, abs_plus a b)) in
     let fa : FitsSigned w128 a = fits_signed_from_abs w128 a (omega arith) in
     let fb : FitsSigned w128 b = fits_signed_from_abs w128 b (omega arith) in
     simp to_z-of_z

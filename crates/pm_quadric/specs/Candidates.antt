@@ -5,11 +5,18 @@ use Rattle.pm_base.specs.Place.{Place}
 
 -- The midpoint, with each coordinate rounded down.
 abbrev pub midpoint : Place → Place → Place
-midpoint t u = record { x = int_div_euclid (t.x +ℤ u.x) (pos 2); y = int_div_euclid (t.y +ℤ u.y) (pos 2); z = int_div_euclid (t.z +ℤ u.z) (pos 2) }
+midpoint t u =
+    record {
+      x = int_div_euclid (t.x +ℤ u.x) (pos 2);
+      y = int_div_euclid (t.y +ℤ u.y) (pos 2);
+      z =
+          int_div_euclid (t.z +ℤ u.z) (pos 2);
+    }
 
 -- The first of three places at which a value is least.
 abbrev pub first_least : (Place → ℕ) → Place → Place → Place → Place
-first_least value a b c = if nat_le (value a) (value b) && nat_le (value a) (value c) then a else (if nat_le (value b) (value c) then b else c)
+first_least value a b c = if nat_le (value a) (value b) && nat_le (value a) (value c) then a
+    else (if nat_le (value b) (value c) then b else c)
 
 -- The first of t, u and their midpoint at which a value is least.
 abbrev pub least_place : (Place → ℕ) → Place → Place → Place

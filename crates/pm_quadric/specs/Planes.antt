@@ -1,4 +1,5 @@
--- Planes of faces, and their squared values at a place (Garland and Heckbert 1997, with normals that aren't made unit).
+-- Planes of faces, and their squared values at a place (Garland and Heckbert 1997, with normals
+-- that aren't made unit).
 use Rattle.std.specs.Prelude.{◌≡◌, ℕ, ◌+◌, List, [], ◌∷◌, ℤ, ◌+ℤ◌, ◌*ℤ◌, neg_ℤ, unsigned_abs}
 use Rattle.pm_base.specs.Place.{Place, IsPlace}
 use Rattle.pm_base.specs.Geometry.{Direction, cross_of, square_of}
@@ -16,7 +17,12 @@ plane_value f p = f.a *ℤ p.x +ℤ f.b *ℤ p.y +ℤ f.c *ℤ p.z +ℤ f.d
 
 -- The plane with the normal n through p.
 abbrev pub plane_through : Direction → Place → Plane
-plane_through n p = record { a = n.x; b = n.y; c = n.z; d = neg_ℤ (n.x *ℤ p.x +ℤ n.y *ℤ p.y +ℤ n.z *ℤ p.z) }
+plane_through n p = record {
+  a = n.x;
+  b = n.y;
+  c = n.z;
+  d = neg_ℤ (n.x *ℤ p.x +ℤ n.y *ℤ p.y +ℤ n.z *ℤ p.z);
+}
 
 -- The plane of the face with corners a, b and c.
 abbrev pub plane_of : Place → Place → Place → Plane

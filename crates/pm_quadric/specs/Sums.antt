@@ -18,7 +18,19 @@ pub record Sums : Type 0 where
 
 -- The sums over no plane.
 abbrev pub zero_sums : Sums
-zero_sums = record { xx = pos 0; xy = pos 0; xz = pos 0; x = pos 0; yy = pos 0; yz = pos 0; y = pos 0; zz = pos 0; z = pos 0; one = pos 0; count = 0 }
+zero_sums = record {
+  xx = pos 0;
+  xy = pos 0;
+  xz = pos 0;
+  x = pos 0;
+  yy = pos 0;
+  yz = pos 0;
+  y = pos 0;
+  zz = pos 0;
+  z = pos 0;
+  one = pos 0;
+  count = 0;
+}
 
 -- Two quadrics together: each number of the one added to that of the other.
 abbrev pub plus_sums : Sums → Sums → Sums

@@ -1,5 +1,6 @@
-//! The place of a collapsed pair: the least of three candidates, which keeps it on the whole-number grid. Garland and
-//! Heckbert (1997) solve for the least of all places, and fall back on these three where that fails.
+//! The place of a collapsed pair: the least of three candidates, which keeps it on the whole-number
+//! grid. Garland and Heckbert (1997) solve for the least of all places, and fall back on these
+//! three where that fails.
 ghost use Rattle.std.specs.Prelude.{◌≡◌, ◌<◌, ◌≤◌, ◌^◌, List, pos, ◌+ℤ◌, unsigned_abs};
 ghost use Rattle.std.specs.Int.{int_div_euclid};
 ghost use Rattle.pm_base.specs.declared.limits.TheConstants.{GREATEST_COORDINATE};
@@ -33,11 +34,13 @@ fn midpoint_of(t: Point, u: Point) -> Point
     }
 }
 
-/// The first of t, u and their midpoint at which the quadric's value is least, and that value. The midpoint's
-/// coordinates are rounded down.
+/// The first of t, u and their midpoint at which the quadric's value is least, and that value. The
+/// midpoint's coordinates are rounded down.
 pub fn best_place(q: &Quadric, t: Point, u: Point) -> (Point, u128)
-    ensures place { (fs : List Plane) → StandsFor q.now fs → result.0 ≡ least_place (squares_of fs) t u }
-    ensures least { (fs : List Plane) → StandsFor q.now fs → IsLeastPlace (squares_of fs) result.0 t u }
+    ensures place { (fs : List Plane) → StandsFor q.now fs
+        → result.0 ≡ least_place (squares_of fs) t u }
+    ensures least { (fs : List Plane) → StandsFor q.now fs
+        → IsLeastPlace (squares_of fs) result.0 t u }
     ensures value { (fs : List Plane) → StandsFor q.now fs → result.1 ≡ squares_of fs result.0 }
     ensures small { result.1 < 2 ^ 124 }
 {

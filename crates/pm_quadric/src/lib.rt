@@ -1,4 +1,5 @@
-//! Exact quadrics: the squared values of a list of planes, summed in whole numbers, and the place where they are least.
+//! Exact quadrics: the squared values of a list of planes, summed in whole numbers, and the place
+//! where they are least.
 #![tactic(auto)]
 
 mod best;

@@ -1,6 +1,7 @@
-//! Quadrics after Garland and Heckbert (1997). They sum squared distances to planes. Here the planes' normals are not
-//! made unit, so that every number is whole and every sum exact.
-ghost use Rattle.std.specs.Prelude.{◌≡◌, ◌<◌, ◌≤◌, ◌+◌, ◌^◌, List, [], ◌∷◌, ◌++◌, length, unsigned_abs};
+//! Quadrics after Garland and Heckbert (1997). They sum squared distances to planes. Here the
+//! planes' normals are not made unit, so that every number is whole and every sum exact.
+ghost use Rattle.std.specs.Prelude.{◌≡◌, ◌<◌, ◌≤◌, ◌+◌, ◌^◌, List, [], ◌∷◌, ◌++◌, length};
+ghost use Rattle.std.specs.Prelude.{unsigned_abs};
 ghost use Rattle.pm_base.specs.Place.{IsPlace};
 ghost use Rattle.pm_quadric.specs.Planes.{Plane, plane_of, squares_of};
 ghost use Rattle.pm_quadric.specs.Sums.{plus_sums, StandsFor};
@@ -12,18 +13,19 @@ use crate::terms::{add_four, add_three, linear, quadratic};
 use pm_base::{Point, cross};
 use std::marker::Model;
 
-/// The greatest number of planes that a quadric can stand for: three for each of 1,048,576 faces, one at each corner.
+/// The greatest number of planes that a quadric can stand for: three for each of 1,048,576 faces,
+/// one at each corner.
 pub const MOST_PLANES: u32 = 3_145_728;
 
 // Clauses and definitions cite the limit by its name, so its value is said here.
 const _: () = prove!(MOST_PLANES == 3_145_728);
 
-/// The sums, over a list of planes of faces, of the ten coefficients of the squared plane value, and the number of
-/// planes. The quadric stands for each list that has these sums, and the type keeps that there is one of at most
-/// `MOST_PLANES` planes.
+/// The sums, over a list of planes of faces, of the ten coefficients of the squared plane value,
+/// and the number of planes. The quadric stands for each list that has these sums, and the type
+/// keeps that there is one of at most `MOST_PLANES` planes.
 ///
-/// A face's normal is as long as twice the face's area, so a plane's value at a point is the point's distance from the
-/// plane times that, with a sign. No call takes memory.
+/// A face's normal is as long as twice the face's area, so a plane's value at a point is the
+/// point's distance from the plane times that, with a sign. No call takes memory.
 #[derive(Clone, Copy, Debug, PartialEq, Eq)]
 pub struct Quadric {
     xx: i128,
@@ -45,11 +47,47 @@ impl Model for Quadric {
 
     ghost Value = { Sums };
 
-    ghost view = { λ q. record { xx = q.xx; xy = q.xy; xz = q.xz; x = q.x; yy = q.yy; yz = q.yz; y = q.y; zz = q.zz; z = q.z; one = q.one; count = q.count } };
+    ghost view = { λ q. record {
+      xx = q.xx;
+      xy = q.xy;
+      xz = q.xz;
+      x = q.x;
+      yy = q.yy;
+      yz = q.yz;
+      y = q.y;
+      zz = q.zz;
+      z = q.z;
+      one = q.one;
+      count = q.count;
+    } };
 
-    ghost invariant = { λ q. IsQuadric (record { xx = q.xx; xy = q.xy; xz = q.xz; x = q.x; yy = q.yy; yz = q.yz; y = q.y; zz = q.zz; z = q.z; one = q.one; count = q.count }) };
+    ghost invariant = { λ q. IsQuadric (record {
+      xx = q.xx;
+      xy = q.xy;
+      xz = q.xz;
+      x = q.x;
+      yy = q.yy;
+      yz = q.yz;
+      y = q.y;
+      zz = q.zz;
+      z = q.z;
+      one = q.one;
+      count = q.count;
+    }) };
 
-    ghost inverse = { λ q. record { xx = q.xx; xy = q.xy; xz = q.xz; x = q.x; yy = q.yy; yz = q.yz; y = q.y; zz = q.zz; z = q.z; one = q.one; count = q.count } };
+    ghost inverse = { λ q. record {
+      xx = q.xx;
+      xy = q.xy;
+      xz = q.xz;
+      x = q.x;
+      yy = q.yy;
+      yz = q.yz;
+      y = q.y;
+      zz = q.zz;
+      z = q.z;
+      one = q.one;
+      count = q.count;
+    } };
 }
 
 impl Quadric {
@@ -72,8 +110,8 @@ impl Quadric {
         }
     }
 
-    /// The quadric of the plane of the face with corners a, b and c. Corners in one line give the plane of zeros, whose
-    /// value is 0 everywhere.
+    /// The quadric of the plane of the face with corners a, b and c. Corners in one line give the
+    /// plane of zeros, whose value is 0 everywhere.
     pub fn of_face(a: Point, b: Point, c: Point) -> Quadric
         ensures { StandsFor result (plane_of a b c ∷ []) }
     {
@@ -108,7 +146,8 @@ impl Quadric {
     pub fn plus(&self, other: &Quadric) -> Quadric
         requires { self.now.count + other.now.count ≤ MOST_PLANES }
         ensures sums { result ≡ plus_sums self.now other.now }
-        ensures lists { (fs gs : List Plane) → StandsFor self.now fs → StandsFor other.now gs → StandsFor result (fs ++ gs) }
+        ensures lists { (fs gs : List Plane) → StandsFor self.now fs → StandsFor other.now gs
+            → StandsFor result (fs ++ gs) }
     {
         Quadric {
             xx: self.xx + other.xx,
@@ -177,7 +216,8 @@ impl Quadric {
         add_four(squares, mixed, linear, self.one)
     }
 
-    /// The sum of the squares of its planes' values at `p`. The time doesn't depend on the number of planes.
+    /// The sum of the squares of its planes' values at `p`. The time doesn't depend on the number
+    /// of planes.
     pub fn value(&self, p: Point) -> u128
         ensures lists { (fs : List Plane) → StandsFor self.now fs → result ≡ squares_of fs p }
         ensures small { result < 2 ^ 124 }

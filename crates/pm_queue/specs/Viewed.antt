@@ -12,9 +12,10 @@ use Rattle.pm_queue.specs.Parts.{IsParted}
 unfoldable pub entries : List Key → List ℕ → Entries
 entries keys place = map (λ p. slice_get keys p) place
 
--- the tables are inverse to each other, the members of the first part are a heap, which has one if there is one at all,
--- and a list of keys with so much room takes one of each item
-pub record IsIndexedHeap (keys : List Key) (room : ℕ) (heap place : List ℕ) (parting : Parting) : Type 0 where
+-- the tables are inverse to each other, the members of the first part are a heap, which has one if
+-- there is one at all, and a list of keys with so much room takes one of each item
+pub record IsIndexedHeap (keys : List Key) (room : ℕ) (heap place : List ℕ) (parting : Parting) :
+    Type 0 where
   pub limit : length place ≤ ITEM_LIMIT
   pub within : length keys ≤ length place
   pub room_for_all : length place ≤ room

@@ -1,7 +1,8 @@
-//! An item gets a key, or loses it. Every item has a place, and the members are the items of the places that have a key,
-//! the first ones.
+//! An item gets a key, or loses it. Every item has a place, and the members are the items of the
+//! places that have a key, the first ones.
 
-ghost use Rattle.std.specs.Prelude.{◌≡◌, ◌+◌, ◌<◌, ◌≤◌, ℕ, List, length, slice_index, slice_set, vec_capacity};
+ghost use Rattle.std.specs.Prelude.{◌≡◌, ◌+◌, ◌<◌, ◌≤◌, ℕ, List, length, slice_index, slice_set};
+ghost use Rattle.std.specs.Prelude.{vec_capacity};
 ghost use Rattle.pm_queue.specs.declared.key.Key.{Key};
 ghost use Rattle.pm_queue.specs.Places.{AddsMember, DropsMember, IsPlaces, KeepsMembers};
 ghost use Rattle.pm_queue.specs.Heap.{goes_first, KeyChange, IsKeyed, IsHeap};
@@ -13,8 +14,8 @@ use super::places::exchange_items;
 use super::queue::ITEM_LIMIT;
 use super::slot::Slot;
 
-// Gives an item the key, and makes it a member if it is none: then it comes behind the others. A heap of the first places
-// that doesn't have the item stays one.
+// Gives an item the key, and makes it a member if it is none: then it comes behind the others. A
+// heap of the first places that doesn't have the item stays one.
 fn put_key(heap: &mut [u32], place: &mut [u32], keys: &mut Vec<Slot>, item: u32, key: Key)
     ghost item_keys: { KeyChange }
     requires places { IsPlaces (length item_keys.before) heap.old place.old }
@@ -28,11 +29,13 @@ fn put_key(heap: &mut [u32], place: &mut [u32], keys: &mut Vec<Slot>, item: u32,
     ensures room { vec_capacity keys.old ≤ vec_capacity keys.new }
     ensures more { length keys.old.items ≤ length keys.new.items }
     ensures member { slice_index place.new item < length keys.new.items }
-    ensures members { AddsMember place.old place.new (length keys.old.items) (length keys.new.items) item }
+    ensures members { AddsMember place.old place.new (length keys.old.items) (length keys.new.items)
+        item }
     ensures first { (n : ℕ) → n ≤ length keys.old.items → n ≤ slice_index place.old item
         → KeepsMembers place.old place.new n }
     ensures heap { (n : ℕ) → n ≤ length keys.old.items → n ≤ slice_index place.old item
-        → IsHeap (goes_first item_keys.before) heap.old n → IsHeap (goes_first item_keys.after) heap.new n }
+        → IsHeap (goes_first item_keys.before) heap.old n
+        → IsHeap (goes_first item_keys.after) heap.new n }
 {
     let at = place[item as usize];
     let len = keys.len() as u32;
@@ -44,7 +47,8 @@ fn put_key(heap: &mut [u32], place: &mut [u32], keys: &mut Vec<Slot>, item: u32,
     let _ = keys.push(Slot::of(key));
 }
 
-// Makes a member no member: the last one takes its place. A heap of the first places that doesn't have the item stays one.
+// Makes a member no member: the last one takes its place. A heap of the first places that doesn't
+// have the item stays one.
 fn drop_key(heap: &mut [u32], place: &mut [u32], keys: &mut Vec<Slot>, item: u32)
     ghost item_keys: { List Key }
     requires places { IsPlaces (length item_keys) heap.old place.old }
@@ -56,7 +60,8 @@ fn drop_key(heap: &mut [u32], place: &mut [u32], keys: &mut Vec<Slot>, item: u32
     ensures keyed { IsKeyed item_keys heap.new keys.new.items }
     ensures len { length keys.new.items + 1 ≡ length keys.old.items }
     ensures room { vec_capacity keys.old ≤ vec_capacity keys.new }
-    ensures members { DropsMember place.old place.new (length keys.old.items) (length keys.new.items) item }
+    ensures members { DropsMember place.old place.new (length keys.old.items)
+        (length keys.new.items) item }
     ensures first { (n : ℕ) → n ≤ slice_index place.old item → KeepsMembers place.old place.new n }
     ensures heap { (n : ℕ) → n ≤ slice_index place.old item
         → IsHeap (goes_first item_keys) heap.old n → IsHeap (goes_first item_keys) heap.new n }
@@ -95,7 +100,8 @@ pub(crate) fn place_item(
     ensures some_near { 0 < length keys.new.items → 0 < parting.new.near }
     ensures heap { IsHeap (goes_first item_keys.after) heap.new parting.new.near }
     ensures parted { IsParted item_keys.after place.new (length keys.new.items) parting.new }
-    ensures members { AddsMember place.old place.new (length keys.old.items) (length keys.new.items) item }
+    ensures members { AddsMember place.old place.new (length keys.old.items) (length keys.new.items)
+        item }
 {
     let near = set_aside(heap, place, keys, parting.near, item);
     put_key(heap, place, keys, item, key);
@@ -127,7 +133,8 @@ pub(crate) fn drop_item(
     ensures some_near { 0 < length keys.new.items → 0 < parting.new.near }
     ensures heap { IsHeap (goes_first item_keys) heap.new parting.new.near }
     ensures parted { IsParted item_keys place.new (length keys.new.items) parting.new }
-    ensures members { DropsMember place.old place.new (length keys.old.items) (length keys.new.items) item }
+    ensures members { DropsMember place.old place.new (length keys.old.items)
+        (length keys.new.items) item }
 {
     if place[item as usize] as usize >= keys.len() {
         return;

@@ -1,6 +1,6 @@
-//! A map from items to keys, with its least entry at hand: an indexed heap (Williams 1964) of four branches (Johnson 1975)
-//! for the keys of small cost. The others wait in no order until they are needed, as in a quickheap (Navarro and Paredes
-//! 2010).
+//! A map from items to keys, with its least entry at hand: an indexed heap (Williams 1964) of four
+//! branches (Johnson 1975) for the keys of small cost. The others wait in no order until they are
+//! needed, as in a quickheap (Navarro and Paredes 2010).
 #![tactic(auto)]
 
 mod heap;

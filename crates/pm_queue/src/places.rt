@@ -48,7 +48,8 @@ pub(crate) fn exchange_items(heap: &mut [u32], place: &mut [u32], p: u32, q: u32
 fn exchange_keys(keys: &mut [Slot], p: u32, q: u32)
     requires p_in { p < length keys.old }
     requires q_in { q < length keys.old }
-    ensures { keys.new ≡ slice_set (slice_set keys.old p (item_key_of keys.old q)) q (item_key_of keys.old p) }
+    ensures { keys.new ≡ slice_set (slice_set keys.old p (item_key_of keys.old q)) q
+        (item_key_of keys.old p) }
 {
     let key = keys[p as usize];
     keys[p as usize] = keys[q as usize];

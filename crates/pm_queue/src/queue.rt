@@ -1,5 +1,6 @@
 //! A queue of items by their keys.
-ghost use Rattle.std.specs.Prelude.{◌≡◌, ◌<◌, ◌≤◌, IfNone, IfOk, IfSome, false, is_some, length, replicate, slice_set};
+ghost use Rattle.std.specs.Prelude.{◌≡◌, ◌<◌, ◌≤◌, IfNone, IfOk, IfSome, false, is_some, length};
+ghost use Rattle.std.specs.Prelude.{replicate, slice_set};
 
 use super::heap::{drop_item, place_item};
 use super::key::Key;
@@ -22,11 +23,13 @@ const _: () = prove!(ITEM_LIMIT == 4_194_304);
 ///
 /// Contracts see a list with an optional key for each item.
 ///
-/// Only entries of small cost, the near ones, stand in a heap. When the last of them is gone, a pass over all keys brings
-/// some of the others near, and moves the bound between near and far up by an eighth at least.
+/// Only entries of small cost, the near ones, stand in a heap. When the last of them is gone, a
+/// pass over all keys brings some of the others near, and moves the bound between near and far up
+/// by an eighth at least.
 #[derive(Drop)]
 pub struct Queue {
-    // The item at each place. Those that have a key stand in the first places, and of them the near ones come first.
+    // The item at each place. Those that have a key stand in the first places, and of them the near
+    // ones come first.
     heap: Vec<u32>,
     // The place of each item.
     place: Vec<u32>,
@@ -45,7 +48,8 @@ impl Model for Queue {
 
     ghost view = { λ q. entries q.keys.items q.place.items };
 
-    ghost invariant = { λ q. IsIndexedHeap q.keys.items (vec_capacity q.keys) q.heap.items q.place.items q.parting };
+    ghost invariant = { λ q. IsIndexedHeap q.keys.items (vec_capacity q.keys) q.heap.items
+        q.place.items q.parting };
 }
 
 impl Queue {
@@ -70,7 +74,8 @@ impl Queue {
         })
     }
 
-    /// Gives `item` the key, in place of any that it has. O(log n) time, but for the passes that the type tells of.
+    /// Gives `item` the key, in place of any that it has. O(log n) time, but for the passes that
+    /// the type tells of.
     pub fn set(&mut self, item: u32, key: Key)
         requires in_range { item < length self.old }
         ensures replaced { self.new ≡ slice_set self.old item (Some key) }

@@ -16,12 +16,20 @@ empty_set flags none = fun_ext none
 
 module _ (h : Hierarchy) (counts : List ℕ) where
   -- Where it is empty, all counts are 0.
-  pub counts_start : (flags : List Bool) → IsEmptySet flags → length counts ≡ record_count h → ((k : ℕ) → get_or counts k 0 ≡ 0) → AreNeedCounts h (set_of flags) counts
-  counts_start flags none len zero = record { len = len; each = λ k l. zero k ∙ sym (ap (λ (T : ℕ → Bool). need_count h T k) (empty_set flags none) ∙ need_count-empty h k) }
+  pub counts_start : (flags : List Bool) → IsEmptySet flags → length counts ≡ record_count h
+      → ((k : ℕ) → get_or counts k 0 ≡ 0) → AreNeedCounts h (set_of flags) counts
+  counts_start flags none len zero = record {
+    len = len;
+    each = λ k l. zero k
+        ∙ sym (ap (λ (T : ℕ → Bool). need_count h T k) (empty_set flags none)
+        ∙ need_count-empty h k);
+  }
 
-  pub counts_end : (flags : List Bool) → IsEmptySet flags → AreNeedCounts h (set_of flags) counts → (k : ℕ) → get_or counts k 0 ≡ 0
+  pub counts_end : (flags : List Bool) → IsEmptySet flags → AreNeedCounts h (set_of flags) counts
+      → (k : ℕ) → get_or counts k 0 ≡ 0
   counts_end flags none are k =
       elim (cases_lt k (record_count h)) [
-        | inl l ↦ are.each k l ∙ ap (λ (T : ℕ → Bool). need_count h T k) (empty_set flags none) ∙ need_count-empty h k
+        | inl l ↦ are.each k l ∙ ap (λ (T : ℕ → Bool). need_count h T k) (empty_set flags none)
+            ∙ need_count-empty h k
         | inr m ↦ get_or_past counts k 0 (let len = are.len in omega arith)
       ]

@@ -13,8 +13,10 @@ splits_of rises = ascending Split (set_of rises) (length rises)
 abbrev pub collapses_of : List Bool → List Move
 collapses_of falls = descending Collapse (set_of falls) (length falls)
 
--- The moves are legal, and lead from a set of records and its corner lists to another one and its own.
-pub record AreToDo (h : Hierarchy) (T end : ℕ → Bool) (now then : List (List ℕ)) (ms : List Move) : Type 0 where
+-- The moves are legal, and lead from a set of records and its corner lists to another one and its
+-- own.
+pub record AreToDo (h : Hierarchy) (T end : ℕ → Bool) (now then : List (List ℕ)) (ms : List Move) :
+    Type 0 where
   pub legal : AreLegal h T ms
   pub ends : moved_by T ms ≡ end
   pub corners : corner_lists_after h T ms now ≡ then

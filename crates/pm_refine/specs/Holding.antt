@@ -25,7 +25,8 @@ pub record HoldsBelow (n : ℕ) (p : ℕ → Bool) (b : ℕ) (flags : List Bool)
   pub there : (k : ℕ) → k < b → p k ≡ true → set_of flags k ≡ true
   pub only : (k : ℕ) → set_of flags k ≡ true → (k < b) × (p k ≡ true)
 
--- On the way from S to G: the records from b on that are to be split, and those that are to be collapsed.
+-- On the way from S to G: the records from b on that are to be split, and those that are to be
+-- collapsed.
 pub record HoldsMoves (n : ℕ) (S G : ℕ → Bool) (b : ℕ) (rises falls : List Bool) : Type 0 where
   pub up : HoldsFrom n (less G S) b rises
   pub down : HoldsFrom n (less S G) b falls

@@ -1,6 +1,7 @@
-//! Which records are in the target of a view, and which moves lead there, from the last record down:
-//! over those that were found, and what a record needs that a move is made of.
-ghost use Rattle.std.specs.Prelude.{ℕ, ◌≡◌, ◌+◌, ◌<◌, ◌≤◌, ◌&&◌, ◌||◌, not, length, true, false, slice_set};
+//! Which records are in the target of a view, and which moves lead there, from the last record
+//! down: over those that were found, and what a record needs that a move is made of.
+ghost use Rattle.std.specs.Prelude.{ℕ, ◌≡◌, ◌+◌, ◌<◌, ◌≤◌, ◌&&◌, ◌||◌, not, length, true, false};
+ghost use Rattle.std.specs.Prelude.{slice_set};
 ghost use Rattle.pm_base.specs.Counts.{count, one_if, set_of};
 ghost use Rattle.pm_sets.specs.Sets.{IsEmptySet};
 ghost use Rattle.pm_forest.specs.Forest.{record_count, s_of};
@@ -10,7 +11,8 @@ ghost use Rattle.pm_view.specs.Wanted.{Serves, is_wanted};
 ghost use Rattle.pm_refine.specs.Holding.{Joins, HoldsMoves};
 ghost use Rattle.pm_refine.specs.Finding.{IsStartOfPlan};
 ghost use Rattle.pm_refine.specs.Deciding.{AreDecided, IsNext};
-ghost use Rattle.pm_front.specs.Needed.{is_needed, is_unneeded, remaining, AreNamesOf, AreNeedCounts};
+ghost use Rattle.pm_front.specs.Needed.{is_needed, is_unneeded, remaining, AreNamesOf};
+ghost use Rattle.pm_front.specs.Needed.{AreNeedCounts};
 ghost use Rattle.pm_refine.specs.Adapting.{view_target};
 
 use crate::falls::Falls;
@@ -23,8 +25,8 @@ use pm_sets::NumberSet;
 use pm_view::{Steps, View, wants_split};
 use std::sync::ledger::Ledger;
 
-// Whether a split record needs record `k` that won't be collapsed: the split records name it more often than those of
-// them that will be.
+// Whether a split record needs record `k` that won't be collapsed: the split records name it more
+// often than those of them that will be.
 fn is_still_needed(front: &Front, falls: &Falls, k: u32) -> bool
     requires record { k < record_count front.now.h }
     requires split { (j : ℕ) → set_of falls.now.records j ≡ true → set_of front.now.flags j ≡ true }
@@ -53,10 +55,12 @@ fn stays<L: Ledger>(
     requires counts { AreNeedCounts front.now.h (set_of falls.now.records) falls.now.needs }
     ensures value { let h = front.now.h in let S = set_of front.now.flags in
         result ≡ (not (S k) || (set_of marks.now k
-        || (is_needed h (remaining S (set_of falls.now.records)) k || is_wanted h view.now (s_of h k)))) }
+        || (is_needed h (remaining S (set_of falls.now.records)) k || is_wanted h view.now
+        (s_of h k)))) }
     ensures cost { let h = front.now.h in let S = set_of front.now.flags in
         steps.new ≤ steps.old + one_if (S k
-        && (not (set_of marks.now k) && not (is_needed h (remaining S (set_of falls.now.records)) k))) }
+        && (not (set_of marks.now k) && not
+        (is_needed h (remaining S (set_of falls.now.records)) k))) }
 {
     if !front.is_split(k) {
         return true;
@@ -93,7 +97,8 @@ fn note(
     ensures counts { AreNeedCounts h.now (set_of falls.new.records) falls.new.needs }
     ensures goes { is_split ≡ true → (marks.new.items ≡ marks.old.items)
         × (rises.new ≡ rises.old) × (falls.new.records ≡ slice_set falls.old.records k true) }
-    ensures comes { is_split ≡ false → Joins (set_of marks.old.items) (set_of marks.new.items) (needs h.now k)
+    ensures comes { is_split ≡ false
+        → Joins (set_of marks.old.items) (set_of marks.new.items) (needs h.now k)
         × (rises.new ≡ slice_set rises.old k true) × (falls.new.records ≡ falls.old.records) }
 {
     if is_split {
@@ -120,12 +125,15 @@ fn decide<L: Ledger>(
     requires next { IsNext front.now.h (is_wanted front.now.h view.now) (set_of front.now.flags) k
         marks.old.items work.old rises.old falls.old.records }
     requires counts { AreNeedCounts front.now.h (set_of falls.old.records) falls.old.needs }
-    ensures decided { AreDecided front.now.h (is_wanted front.now.h view.now) (set_of front.now.flags) k
+    ensures decided { AreDecided front.now.h (is_wanted front.now.h view.now)
+        (set_of front.now.flags) k
         marks.new.items work.new rises.new falls.new.records }
     ensures counts { AreNeedCounts front.now.h (set_of falls.new.records) falls.new.needs }
-    ensures answer { result ≡ differs (set_of front.now.flags) (view_target front.now.h view.now) k }
+    ensures answer { result ≡ differs (set_of front.now.flags) (view_target front.now.h view.now)
+        k }
     ensures cost { let h = front.now.h in let S = set_of front.now.flags in
-        steps.new ≤ steps.old + (one_if (S k && not (is_unneeded h S k)) + one_if (differs S (view_target h view.now) k)) }
+        steps.new ≤ steps.old + (one_if (S k && not (is_unneeded h S k)) + one_if
+        (differs S (view_target h view.now) k)) }
 {
     front.invariant();
     let h = front.hierarchy();
@@ -141,8 +149,8 @@ fn decide<L: Ledger>(
     true
 }
 
-/// Puts the records that will be split in the set `rises`, and those that will be collapsed in the set
-/// `falls`, and answers how many they are. It empties the set `work`.
+/// Puts the records that will be split in the set `rises`, and those that will be collapsed in the
+/// set `falls`, and answers how many they are. It empties the set `work`.
 pub(crate) fn decide_all<L: Ledger>(
     front: &Front,
     measures: &Measures,
@@ -154,7 +162,8 @@ pub(crate) fn decide_all<L: Ledger>(
     steps: &mut Steps<L>,
 ) -> u32
     requires measures { Serves front.now.h view.now measures.now }
-    requires start { IsStartOfPlan front.now.h (is_wanted front.now.h view.now) (set_of front.now.flags)
+    requires start { IsStartOfPlan front.now.h (is_wanted front.now.h view.now)
+        (set_of front.now.flags)
         work.old }
     requires marks { length marks.old.items ≡ record_count front.now.h }
     requires clear { (j : ℕ) → set_of marks.old.items j ≡ false }
@@ -170,7 +179,8 @@ pub(crate) fn decide_all<L: Ledger>(
     ensures moves { HoldsMoves (record_count front.now.h) (set_of front.now.flags)
         (view_target front.now.h view.now) 0 rises.new falls.new.records }
     ensures counts { AreNeedCounts front.now.h (set_of falls.new.records) falls.new.needs }
-    ensures answer { result ≡ count (differs (set_of front.now.flags) (view_target front.now.h view.now))
+    ensures answer { result
+        ≡ count (differs (set_of front.now.flags) (view_target front.now.h view.now))
         (record_count front.now.h) }
     ensures cost { let h = front.now.h in let S = set_of front.now.flags in
         steps.new ≤ steps.old + count (λ j. S j && not (is_unneeded h S j)) (record_count h)

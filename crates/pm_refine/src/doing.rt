@@ -21,11 +21,13 @@ use pm_view::View;
 // budget.
 fn split_first(front: &mut Front, rises: &mut NumberSet, budget: u32) -> u32
     requires rises { length rises.old ≡ record_count front.old.h }
-    requires legal { AreLegal front.old.h (set_of front.old.flags) (take budget (splits_of rises.old)) }
+    requires legal { AreLegal front.old.h (set_of front.old.flags)
+        (take budget (splits_of rises.old)) }
     ensures hierarchy { front.new.h ≡ front.old.h }
     ensures len { length rises.new ≡ length rises.old }
     ensures left { result ≡ budget - length (splits_of rises.old) }
-    ensures moved { set_of front.new.flags ≡ moved_by (set_of front.old.flags) (take budget (splits_of rises.old)) }
+    ensures moved { set_of front.new.flags
+        ≡ moved_by (set_of front.old.flags) (take budget (splits_of rises.old)) }
     ensures corners { front.new.corners ≡ corner_lists_after front.old.h (set_of front.old.flags)
         (take budget (splits_of rises.old)) front.old.corners }
 {
@@ -44,7 +46,8 @@ fn split_first(front: &mut Front, rises: &mut NumberSet, budget: u32) -> u32
 fn collapse_last(front: &mut Front, falls: &mut Falls, budget: u32)
     requires falls { length falls.old.records ≡ record_count front.old.h }
     requires counts { AreNeedCounts front.old.h (set_of falls.old.records) falls.old.needs }
-    requires legal { AreLegal front.old.h (set_of front.old.flags) (take budget (collapses_of falls.old.records)) }
+    requires legal { AreLegal front.old.h (set_of front.old.flags)
+        (take budget (collapses_of falls.old.records)) }
     ensures hierarchy { front.new.h ≡ front.old.h }
     ensures len { length falls.new.records ≡ length falls.old.records }
     ensures counts { AreNeedCounts front.old.h (set_of falls.new.records) falls.new.needs }
@@ -93,7 +96,8 @@ pub(crate) fn advance(
     ensures moved { let S = set_of front.old.flags in
         set_of front.new.flags ≡ moved_by S (take budget (view_plan front.old.h S _view.now)) }
     ensures corners { let S = set_of front.old.flags in front.new.corners
-        ≡ corner_lists_after front.old.h S (take budget (view_plan front.old.h S _view.now)) front.old.corners }
+        ≡ corner_lists_after front.old.h S (take budget (view_plan front.old.h S _view.now))
+        front.old.corners }
 {
     front.invariant();
     let left = split_first(front, rises, budget);

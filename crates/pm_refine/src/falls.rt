@@ -1,5 +1,6 @@
 //! The records that will be collapsed, and how often they name each record among what they need.
-ghost use Rattle.std.specs.Prelude.{ℕ, ◌≡◌, ◌<◌, ◌≤◌, true, false, length, replicate, slice_index_or, slice_set, IfOk, IfSome, IfNone};
+ghost use Rattle.std.specs.Prelude.{ℕ, ◌≡◌, ◌<◌, ◌≤◌, true, false, length, replicate};
+ghost use Rattle.std.specs.Prelude.{slice_index_or, slice_set, IfOk, IfSome, IfNone};
 ghost use Rattle.pm_sets.specs.Sets.{IsEmptySet, IsLast};
 ghost use Rattle.pm_sets.specs.declared.set.TheConstants.{BOUND_LIMIT};
 ghost use Rattle.pm_forest.specs.Forest.{record_count};
@@ -12,8 +13,8 @@ use pm_front::{Front, NeedCounts};
 use pm_sets::NumberSet;
 use std::alloc::Global;
 
-/// A set of records, with the counts of what they need. The counts are those of the set in the hierarchy that each call is
-/// handed; they are all 0 where the set is empty.
+/// A set of records, with the counts of what they need. The counts are those of the set in the
+/// hierarchy that each call is handed; they are all 0 where the set is empty.
 #[derive(Drop)]
 pub(crate) struct Falls {
     records: NumberSet,

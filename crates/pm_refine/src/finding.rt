@@ -1,5 +1,6 @@
-//! Records that aren't split and whose nodes are wanted are found from those that wait for a split, since a wanted
-//! node has a wanted parent. Records that may go are among those that no split record needs.
+//! Records that aren't split and whose nodes are wanted are found from those that wait for a split,
+//! since a wanted node has a wanted parent. Records that may go are among those that no split
+//! record needs.
 ghost use Rattle.std.specs.Prelude.{◌≡◌, ◌+◌, ◌*◌, ◌<◌, ◌≤◌, ◌||◌, length};
 ghost use Rattle.pm_base.specs.Counts.{count, set_of};
 ghost use Rattle.pm_sets.specs.Sets.{IsEmptySet};
@@ -72,8 +73,8 @@ fn see_unneeded<L: Ledger>(
     }
 }
 
-// Puts the record that splits a node in the set, if one does and the node is wanted. A leaf is passed
-// over without a test.
+// Puts the record that splits a node in the set, if one does and the node is wanted. A leaf is
+// passed over without a test.
 fn look<L: Ledger>(
     h: &Hierarchy,
     measures: &Measures,
@@ -120,9 +121,10 @@ fn look_below<L: Ledger>(
     look(h, measures, view, u, rises, steps);
 }
 
-/// Finds the records that aren't split and whose nodes are wanted, and the records that may go, and puts
-/// them in the set `work`. It uses the set `rises`. It tests the node of each record that waits for a split and of each
-/// that no split record needs once, and each child of what it finds once at most.
+/// Finds the records that aren't split and whose nodes are wanted, and the records that may go, and
+/// puts them in the set `work`. It uses the set `rises`. It tests the node of each record that
+/// waits for a split and of each that no split record needs once, and each child of what it finds
+/// once at most.
 pub(crate) fn find<L: Ledger>(
     front: &Front,
     measures: &Measures,
@@ -138,10 +140,12 @@ pub(crate) fn find<L: Ledger>(
     requires no_work { IsEmptySet work.old }
     ensures len { length rises.new ≡ length rises.old }
     ensures empty { IsEmptySet rises.new }
-    ensures start { IsStartOfPlan front.now.h (is_wanted front.now.h view.now) (set_of front.now.flags)
+    ensures start { IsStartOfPlan front.now.h (is_wanted front.now.h view.now)
+        (set_of front.now.flags)
         work.new }
     ensures cost { let h = front.now.h in let S = set_of front.now.flags in
-        steps.new ≤ steps.old + count (may_try h S) (record_count h) + count (is_unneeded h S) (record_count h)
+        steps.new ≤ steps.old + count (may_try h S) (record_count h) + count (is_unneeded h S)
+        (record_count h)
         + 2 * count (is_due h (is_wanted h view.now) S) (record_count h) }
 {
     front.invariant();

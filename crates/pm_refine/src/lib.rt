@@ -1,4 +1,5 @@
-//! The plan of a view: its target, the moves that lead to it, and as many of them as a budget allows.
+//! The plan of a view: its target, the moves that lead to it, and as many of them as a budget
+//! allows.
 #![tactic(auto)]
 
 mod deciding;

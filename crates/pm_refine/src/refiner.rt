@@ -31,8 +31,8 @@ pub enum Adapted {
     Spent { moves: u32, left: u32 },
 }
 
-/// What adapts the fronts of a hierarchy to views: a flag and a count for each record, and three sets of records.
-/// Contracts see the number of records.
+/// What adapts the fronts of a hierarchy to views: a flag and a count for each record, and three
+/// sets of records. Contracts see the number of records.
 #[derive(Drop)]
 pub struct Refiner {
     // Set where a record that will be split needs the record, while it is still to be decided.
@@ -57,7 +57,8 @@ impl Model for Refiner {
 }
 
 impl Refiner {
-    /// Takes room for a flag and a count for each record of a hierarchy, and for three sets of its records.
+    /// Takes room for a flag and a count for each record of a hierarchy, and for three sets of its
+    /// records.
     pub fn new(alloc: Global, h: &Hierarchy) -> Result<Refiner, OutOfMemory>
         ensures { IfOk result (λ r. r ≡ record_count h.now) }
     {
@@ -94,15 +95,20 @@ impl Refiner {
         ensures refiner { self.new ≡ self.old }
         ensures hierarchy { front.new.h ≡ front.old.h }
         ensures moved { set_of front.new.flags
-            ≡ moved_by (set_of front.old.flags) (take budget (view_plan front.old.h (set_of front.old.flags) view.now)) }
+            ≡ moved_by (set_of front.old.flags)
+            (take budget (view_plan front.old.h (set_of front.old.flags) view.now)) }
         ensures corners { let S = set_of front.old.flags in front.new.corners
-            ≡ corner_lists_after front.old.h S (take budget (view_plan front.old.h S view.now)) front.old.corners }
-        ensures answer { result ≡ adapted_of budget (length (view_plan front.old.h (set_of front.old.flags) view.now)) }
+            ≡ corner_lists_after front.old.h S (take budget (view_plan front.old.h S view.now))
+            front.old.corners }
+        ensures answer { result
+            ≡ adapted_of budget (length (view_plan front.old.h (set_of front.old.flags) view.now)) }
         ensures settled { (moves : ℕ) → result ≡ answers.Settled moves
             → (set_of front.new.flags ≡ view_target front.old.h view.now)
-            × (moves ≡ count (differs (set_of front.old.flags) (set_of front.new.flags)) (record_count front.old.h)) }
+            × (moves ≡ count (differs (set_of front.old.flags) (set_of front.new.flags))
+            (record_count front.old.h)) }
         ensures cost { let S = set_of front.old.flags in steps.new ≤ steps.old
-            + 2 * length (active_nodes front.old.h S) + 4 * length (view_plan front.old.h S view.now) }
+            + 2 * length (active_nodes front.old.h S) + 4 * length
+            (view_plan front.old.h S view.now) }
     {
         front.invariant();
         find(

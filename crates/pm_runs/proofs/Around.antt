@@ -15,13 +15,19 @@ agrees-sym m n p a = record { forth = a.back; back = a.forth }
 
 module _ (m n : Net) where
   runs-from : (e p q : ℕ) → AgreesAt m n p → Runs m e p q → Runs n e p q
-  runs-from e p q a r = let f = a.forth e r.stands r.begins in record { stands = f.0; begins = f.1; ends = f.2 ∙ r.ends }
+  runs-from e p q a r = let f =
+      a.forth e r.stands r.begins in record { stands = f.0; begins = f.1; ends = f.2 ∙ r.ends }
 
   -- a side that runs to p is seen from its face's corner at p
   pub runs-to : (e p q : ℕ) → AgreesAt m n q → Runs m e p q → Runs n e p q
   runs-to e p q a r =
       let f = a.forth (next e) (stands_next m e r.stands) r.ends in
-      record { stands = stands_back n e f.0; begins = sym (third_next n e) ∙ f.3 ∙ third_next m e ∙ r.begins; ends = f.1 }
+      record {
+        stands = stands_back n e f.0;
+        begins =
+            sym (third_next n e) ∙ f.3 ∙ third_next m e ∙ r.begins;
+        ends = f.1;
+      }
 
   third-from : (e p q : ℕ) → AgreesAt m n p → Runs m e p q → third n e ≡ third m e
   third-from e p q a r = (a.forth e r.stands r.begins).3
@@ -37,21 +43,38 @@ module _ (m n : Net) where
 
   has_face : (p v w : ℕ) → AgreesAt m n p → HasFace m p v w → HasFace n p v w
   has_face p v w a (e, st, is, way) =
-      let f = a.forth e st is in
-      (e, f.0, f.1, elim way [ inl k ↦ inl (f.2 ∙ k.0, f.3 ∙ k.1) | inr k ↦ inr (f.2 ∙ k.0, f.3 ∙ k.1) ])
+      let f = a.forth e st is in (
+        e,
+        f.0,
+        f.1,
+        elim way [
+          | inl k ↦ inl (f.2 ∙ k.0, f.3 ∙ k.1)
+          | inr k ↦
+              inr (f.2 ∙ k.0, f.3 ∙ k.1)
+        ],
+      )
 
   -- a side with an end at p that has no twin in one has none in the other
   border_from : (e p q : ℕ) → AgreesAt m n p → Runs m e p q → HasNoTwin m e → HasNoTwin n e
   border_from e p q a r alone g twin =
       let w = runs-from e p q a r in
       let f = a.back (next g) (stands_next n g twin.stands) (twin.ends ∙ w.begins) in
-      alone g (record { stands = stands_back m g f.0; begins = sym (third_next m g) ∙ f.3 ∙ third_next n g ∙ twin.begins ∙ w.ends ∙ sym r.ends; ends = f.1 ∙ sym r.begins })
+      alone g (record {
+        stands = stands_back m g f.0;
+        begins = sym (third_next m g) ∙ f.3
+            ∙ third_next n g ∙ twin.begins ∙ w.ends ∙ sym r.ends;
+        ends = f.1 ∙ sym r.begins;
+      })
 
   border_to : (e p q : ℕ) → AgreesAt m n q → Runs m e p q → HasNoTwin m e → HasNoTwin n e
   border_to e p q a r alone g twin =
       let w = runs-to e p q a r in
       let f = a.back g twin.stands (twin.begins ∙ w.ends) in
-      alone g (record { stands = f.0; begins = f.1 ∙ sym r.ends; ends = f.2 ∙ twin.ends ∙ w.begins ∙ sym r.begins })
+      alone g (record {
+        stands = f.0;
+        begins = f.1 ∙ sym r.ends;
+        ends = f.2 ∙ twin.ends ∙ w.begins ∙ sym r.begins;
+      })
 
   on_border : (p : ℕ) → AgreesAt m n p → IsBorder m p → IsBorder n p
   on_border p a (e, b, way) =
@@ -61,7 +84,11 @@ module _ (m n : Net) where
             let w = runs-from e p _ a r in
             (e, record { stands = w.stands; alone = border_from e p _ a r b.alone }, inl w.begins)
         | inr is ↦
-            let r : Runs m e (m.from e) p = record { stands = b.stands; begins = refl; ends = is } in
+            let r : Runs m e (m.from e) p = record {
+              stands = b.stands;
+              begins = refl;
+              ends = is;
+            } in
             let w = runs-to e _ p a r in
             (e, record { stands = w.stands; alone = border_to e _ p a r b.alone }, inr w.ends)
       ]
@@ -77,12 +104,17 @@ module _ (m n : Net) (t u : ℕ) (a : AgreesAt m n t) (b : AgreesAt m n u) where
   same-apart keeps = record {
     common = λ w j k.
         let (e, links, is) = keeps.common w (joined n m t w a' j) (joined n m u w b' k) in
-        elim links [ inl r ↦ (e, inl (runs-from m n e t u a r), third-from m n e t u a r ∙ is) | inr r ↦ (e, inr (runs-from m n e u t b r), third-from m n e u t b r ∙ is) ];
+        elim links [
+          | inl r ↦ (e, inl (runs-from m n e t u a r), third-from m n e t u a r ∙ is)
+          | inr r ↦ (e, inr (runs-from m n e u t b r), third-from m n e u t b r ∙ is)
+        ];
     thirds = λ e g r w f k.
         let x = third-from n m e t u a' r in
         let y = third-from n m g u t b' w in
-        let f' = subst (λ v. HasFace m t v (third m g)) (sym x) (subst (λ v. HasFace m t (third n e) v) (sym y) (has_face n m t _ _ a' f)) in
-        let k' = subst (λ v. HasFace m u v (third m g)) (sym x) (subst (λ v. HasFace m u (third n e) v) (sym y) (has_face n m u _ _ b' k)) in
+        let f' = subst (λ v. HasFace m t v (third m g)) (sym x)
+        (subst (λ v. HasFace m t (third n e) v) (sym y) (has_face n m t _ _ a' f)) in
+        let k' = subst (λ v. HasFace m u v (third m g)) (sym x)
+        (subst (λ v. HasFace m u (third n e) v) (sym y) (has_face n m u _ _ b' k)) in
         keeps.thirds e g (runs-from n m e t u a' r) (runs-from n m g u t b' w) f' k';
   }
 
@@ -90,27 +122,44 @@ module _ (m n : Net) (t u : ℕ) (a : AgreesAt m n t) (b : AgreesAt m n u) where
   same-linkable ok = record {
     joined = joined m n t u a ok.joined;
     apart = same-apart ok.apart;
-    border = λ x y s w. ok.border (on_border n m t a' x) (on_border n m u b' y) (has_side n m t u a' s) (has_side n m u t b' w);
+    border = λ x y s w. ok.border (on_border n m t a' x) (on_border n m u b' y)
+        (has_side n m t u a' s) (has_side n m u t b' w);
     single = λ e links x y z.
         elim links [
-          | inl r ↦ ok.single e (inl (runs-from n m e t u a' r)) (border_from n m e t u a' r x) (border_from n m (next e) u _ b' (runs_next n e t u _ r refl) y) (border_to n m (next (next e)) _ t a' (runs_last n e t u _ r refl) z)
-          | inr r ↦ ok.single e (inr (runs-from n m e u t b' r)) (border_from n m e u t b' r x) (border_from n m (next e) t _ a' (runs_next n e u t _ r refl) y) (border_to n m (next (next e)) _ u b' (runs_last n e u t _ r refl) z)
+          | inl r ↦ ok.single e (inl (runs-from n m e t u a' r)) (border_from n m e t u a' r x)
+              (border_from n m (next e) u _ b' (runs_next n e t u _ r refl) y)
+              (border_to n m (next (next e)) _ t a' (runs_last n e t u _ r refl) z)
+          | inr r ↦ ok.single e (inr (runs-from n m e u t b' r)) (border_from n m e u t b' r x)
+              (border_from n m (next e) t _ a' (runs_next n e u t _ r refl) y)
+              (border_to n m (next (next e)) _ u b' (runs_last n e u t _ r refl) z)
         ];
   }
 
-module _ (m : Net) (t u s p : ℕ) (fresh : IsFresh m s) (n_s : p ≢ s) (n_t : p ≢ t) (n_u : p ≢ u) (off_t : Joined m p t → ⊥) (off_u : Joined m p u → ⊥) where
+module _ (m : Net) (t u s p : ℕ) (fresh : IsFresh m s) (n_s : p ≢ s) (n_t : p ≢ t) (n_u : p ≢ u)
+    (off_t : Joined m p t → ⊥) (off_u : Joined m p u → ⊥) where
   pub not_to : (e : ℕ) → Stands m e → m.from e ≡ p → (to m e ≢ t) × (to m e ≢ u)
-  not_to e st is = (λ z. off_t (inl (e, record { stands = st; begins = is; ends = z })), λ z. off_u (inl (e, record { stands = st; begins = is; ends = z })))
+  not_to e st is = (
+    λ z. off_t (inl (e, record { stands = st; begins = is; ends = z })),
+    λ z. off_u (inl (e, record { stands = st; begins = is; ends = z })),
+  )
 
   pub not_third : (e : ℕ) → Stands m e → m.from e ≡ p → (third m e ≢ t) × (third m e ≢ u)
   not_third e st is =
-      let o : (v : ℕ) → third m e ≡ v → HasSide m v p = λ v z. (next (next e), runs_last m e p (to m e) v (record { stands = st; begins = is; ends = refl }) z) in
+      let o : (v : ℕ) → third m e ≡ v
+      → HasSide m v p =
+      λ v z. (
+        next (next e),
+        runs_last m e p (to m e) v
+            (record { stands = st; begins = is; ends = refl }) z,
+      ) in
       (λ z. off_t (inr (o t z)), λ z. off_u (inr (o u z)))
 
   of_pair : (v w : ℕ) → v ≢ t → v ≢ u → IsPair t u v w → ⊥
   of_pair v w x y pair = elim pair [ inl k ↦ x k.0 | inr k ↦ y k.0 ]
 
-  kept_corners : (e : ℕ) → Stands m e → m.from e ≡ p → Stands (merged m t u s) e × (merge t u s (m.from e) ≡ p) × (merge t u s (to m e) ≡ to m e) × (merge t u s (third m e) ≡ third m e)
+  kept_corners : (e : ℕ) → Stands m e → m.from e ≡ p → Stands (merged m t u s) e
+      × (merge t u s (m.from e) ≡ p) × (merge t u s (to m e) ≡ to m e)
+      × (merge t u s (third m e) ≡ third m e)
   kept_corners e st is =
       let x = not_to e st is in
       let y = not_third e st is in
@@ -125,10 +174,12 @@ module _ (m : Net) (t u s p : ℕ) (fresh : IsFresh m s) (n_s : p ≢ s) (n_t : 
   pub was_at : (e : ℕ) → Stands m e → merge t u s (m.from e) ≡ p → m.from e ≡ p
   was_at e st q =
       elim (cases_eq (m.from e) t) [
-        | inl z ↦ absurd (n_s (sym q ∙ ap (merge t u s) z ∙ (merge-pair t u s t u (inl (refl, refl))).0))
+        | inl z ↦ absurd
+            (n_s (sym q ∙ ap (merge t u s) z ∙ (merge-pair t u s t u (inl (refl, refl))).0))
         | inr z ↦
             elim (cases_eq (m.from e) u) [
-              | inl w ↦ absurd (n_s (sym q ∙ ap (merge t u s) w ∙ (merge-pair t u s t u (inl (refl, refl))).1))
+              | inl w ↦ absurd
+                  (n_s (sym q ∙ ap (merge t u s) w ∙ (merge-pair t u s t u (inl (refl, refl))).1))
               | inr w ↦ sym (merge-other t u s (m.from e) z w) ∙ q
             ]
       ]

@@ -1,5 +1,7 @@
--- Nets that are told by the corners of each face: which sides stand, and when two of them have the same faces.
-use Rattle.std.proofs.Common.{◌≡◌, ◌≢◌, ℕ, ◌*◌, ◌%◌, ◌<◌, ◌⊎◌, inl, inr, refl, sym, ap, ◌∙◌, subst, arith}
+-- Nets that are told by the corners of each face: which sides stand, and when two of them have the
+-- same faces.
+use Rattle.std.proofs.Common.{◌≡◌, ◌≢◌, ℕ, ◌*◌, ◌%◌, ◌<◌, ◌⊎◌, inl, inr, refl, sym, ap, ◌∙◌, subst}
+use Rattle.std.proofs.Common.{arith}
 use Rattle.std.proofs.lemmas.Bool.{cases_eq}
 use Rattle.pm_base.specs.declared.mesh.Corners.{Corners}
 use Rattle.pm_base.specs.Sides.{Net, face_of, next, prev, to, third, corner_in, Stands}
@@ -21,10 +23,14 @@ pub record AreTurned (m : Net) (e a b c : ℕ) : Type 0 where
   pub third_is : third m e ≡ c
 
 module _ (n : ℕ) (corners : ℕ → Corners) where
-  from-corner : (e f i : ℕ) → face_of e ≡ f → e % 3 ≡ i → (net_by n corners).from e ≡ corner_in (corners f) i
-  from-corner e f i at is = ap (λ (k : ℕ). corner_in (corners k) (e % 3)) at ∙ ap (corner_in (corners f)) is
+  from-corner : (e f i : ℕ) → face_of e ≡ f → e % 3 ≡ i
+      → (net_by n corners).from e ≡ corner_in (corners f) i
+  from-corner e f i at is =
+      ap (λ (k : ℕ). corner_in (corners k) (e % 3)) at ∙ ap (corner_in (corners f)) is
 
-  pub side_cases : (e f : ℕ) → face_of e ≡ f → let k = corners f in AreTurned (net_by n corners) e k.a k.b k.c ⊎ (AreTurned (net_by n corners) e k.b k.c k.a ⊎ AreTurned (net_by n corners) e k.c k.a k.b)
+  pub side_cases : (e f : ℕ) → face_of e ≡ f → let k =
+      corners f in AreTurned (net_by n corners) e k.a k.b k.c
+      ⊎ (AreTurned (net_by n corners) e k.b k.c k.a ⊎ AreTurned (net_by n corners) e k.c k.a k.b)
   side_cases e f at =
       let a = next_cases e in
       let b = next_cases (next e) in
@@ -49,7 +55,8 @@ module _ (n : ℕ) (corners : ℕ → Corners) where
       ]
 
   -- A side stands where its face's corners are three vertices.
-  stands_by : (e a b c : ℕ) → e < 3 * n → AreTurned (net_by n corners) e a b c → a ≢ b → b ≢ c → c ≢ a → Stands (net_by n corners) e
+  stands_by : (e a b c : ℕ) → e < 3 * n → AreTurned (net_by n corners) e a b c → a ≢ b → b ≢ c
+      → c ≢ a → Stands (net_by n corners) e
   stands_by e a b c l t ab bc ca = record {
     is_side = l;
     first = λ is. ab (sym t.from_is ∙ is ∙ t.to_is);
@@ -57,11 +64,16 @@ module _ (n : ℕ) (corners : ℕ → Corners) where
     last = λ is. ca (sym t.third_is ∙ is ∙ t.from_is);
   }
 
-  pub distinct_stands : (e : ℕ) → e < 3 * n → AreDistinct (corners (face_of e)) → Stands (net_by n corners) e
+  pub distinct_stands : (e : ℕ) → e < 3 * n → AreDistinct (corners (face_of e))
+      → Stands (net_by n corners) e
   distinct_stands e l d =
       elim (side_cases e (face_of e) refl) [
         | inl t ↦ stands_by e _ _ _ l t d.ab d.bc d.ca
-        | inr h ↦ elim h [ inl t ↦ stands_by e _ _ _ l t d.bc d.ca d.ab | inr t ↦ stands_by e _ _ _ l t d.ca d.ab d.bc ]
+        | inr h ↦ elim h [
+          | inl t ↦ stands_by e _ _ _ l t d.bc d.ca d.ab
+          | inr t ↦
+              stands_by e _ _ _ l t d.ca d.ab d.bc
+        ]
       ]
 
   pub stands_distinct : (e : ℕ) → Stands (net_by n corners) e → AreDistinct (corners (face_of e))
@@ -88,19 +100,24 @@ module _ (n : ℕ) (corners : ℕ → Corners) where
       ]
 
 -- All three sides of a face have the same corners.
-from_same : (n o : ℕ) (k l : ℕ → Corners) (e f : ℕ) → face_of e ≡ f → l f ≡ k f → (net_by o l).from e ≡ (net_by n k).from e
-from_same n o k l e f at is = ap (λ (c : Corners). corner_in c (e % 3)) (subst (λ g. l g ≡ k g) (sym at) is)
+from_same : (n o : ℕ) (k l : ℕ → Corners) (e f : ℕ) → face_of e ≡ f → l f ≡ k f
+    → (net_by o l).from e ≡ (net_by n k).from e
+from_same n o k l e f at is =
+    ap (λ (c : Corners). corner_in c (e % 3)) (subst (λ g. l g ≡ k g) (sym at) is)
 
 pub same_face : (n o : ℕ) (k l : ℕ → Corners) (e : ℕ) → l (face_of e) ≡ k (face_of e) →
-    ((net_by o l).from e ≡ (net_by n k).from e) × (to (net_by o l) e ≡ to (net_by n k) e) × (third (net_by o l) e ≡ third (net_by n k) e)
+    ((net_by o l).from e ≡ (net_by n k).from e) × (to (net_by o l) e ≡ to (net_by n k) e)
+    × (third (net_by o l) e ≡ third (net_by n k) e)
 same_face n o k l e is = (
   from_same n o k l e (face_of e) refl is,
   from_same n o k l (next e) (face_of e) (face_of-next e) is,
   from_same n o k l (prev e) (face_of e) (face_of-next (next e) ∙ face_of-next e) is,
 )
 
-half_alike : (n o : ℕ) (k l : ℕ → Corners) → o ≡ n → ((f : ℕ) → AreDistinct (k f) → l f ≡ k f) → (p e : ℕ) → Stands (net_by n k) e → (net_by n k).from e ≡ p →
-    Stands (net_by o l) e × ((net_by o l).from e ≡ p) × (to (net_by o l) e ≡ to (net_by n k) e) × (third (net_by o l) e ≡ third (net_by n k) e)
+half_alike : (n o : ℕ) (k l : ℕ → Corners) → o ≡ n → ((f : ℕ) → AreDistinct (k f) → l f ≡ k f)
+    → (p e : ℕ) → Stands (net_by n k) e → (net_by n k).from e ≡ p →
+    Stands (net_by o l) e × ((net_by o l).from e ≡ p) × (to (net_by o l) e ≡ to (net_by n k) e)
+    × (third (net_by o l) e ≡ third (net_by n k) e)
 half_alike n o k l count each p e st is =
     let d = stands_distinct n k e st in
     let same = each (face_of e) d in
@@ -113,14 +130,18 @@ half_alike n o k l count each p e st is =
     )
 
 -- Two nets with the same corners wherever one of them has three different ones.
-pub corners-alike : (n o : ℕ) (k l : ℕ → Corners) → o ≡ n → ((f : ℕ) → AreDistinct (k f) → l f ≡ k f) → ((f : ℕ) → AreDistinct (l f) → l f ≡ k f) → Alike (net_by n k) (net_by o l)
+pub corners-alike : (n o : ℕ) (k l : ℕ → Corners) → o ≡ n
+    → ((f : ℕ) → AreDistinct (k f) → l f ≡ k f) → ((f : ℕ) → AreDistinct (l f) → l f ≡ k f)
+    → Alike (net_by n k) (net_by o l)
 corners-alike n o k l count forth back p = record {
   forth = λ e st is. half_alike n o k l count forth p e st is;
   back = λ e st is. half_alike o n l k (sym count) (λ f d. sym (back f d)) p e st is;
 }
 
 -- Two nets whose sides run from the same vertices.
-pointwise_half : (m n : Net) → n.faces ≡ m.faces → ((e : ℕ) → n.from e ≡ m.from e) → (p e : ℕ) → Stands m e → m.from e ≡ p → Stands n e × (n.from e ≡ p) × (to n e ≡ to m e) × (third n e ≡ third m e)
+pointwise_half : (m n : Net) → n.faces ≡ m.faces → ((e : ℕ) → n.from e ≡ m.from e) → (p e : ℕ)
+    → Stands m e → m.from e ≡ p → Stands n e × (n.from e ≡ p) × (to n e ≡ to m e)
+    × (third n e ≡ third m e)
 pointwise_half m n count each p e st is =
     let side : e < 3 * m.faces = st.is_side in (
       record {

@@ -8,4 +8,12 @@ use Rattle.pm_runs.specs.Octahedron.{octahedron, IsFirstCollapse}
 
 pub first_collapse : IsFirstCollapse
 unfolding octahedron next stands twin_of merge side_from_to planes_at
-first_collapse = record { place = refl; cost = refl; entry = refl; faces = refl; next = refl; first_gone = refl; second_gone = refl }
+first_collapse = record {
+  place = refl;
+  cost = refl;
+  entry = refl;
+  faces = refl;
+  next = refl;
+  first_gone = refl;
+  second_gone = refl;
+}

@@ -15,14 +15,20 @@ module _ (m : Net) (p q : ℕ) where
       let f = find_below-some (runs_from_to m p q) (side_count m) e is in
       let a = and_parts (stands m e) (eqb (m.from e) p && eqb (to m e) q) f.0 in
       let b = and_parts (eqb (m.from e) p) (eqb (to m e) q) a.1 in
-      record { stands = stands-true m e a.0; begins = eqb-true (m.from e) p b.0; ends = eqb-true (to m e) q b.1 }
+      record {
+        stands = stands-true m e a.0;
+        begins = eqb-true (m.from e) p b.0;
+        ends =
+            eqb-true (to m e) q b.1;
+      }
 
   pub runs-has : (e : ℕ) → Runs m e p q → (k : ℕ) × (side_from_to m p q ≡ Some k)
   unfolding side_from_to
   runs-has e r =
       find_below-has (runs_from_to m p q) (side_count m) e r.stands.is_side
       (and_from (stands m e) (eqb (m.from e) p && eqb (to m e) q) (stands_is_true m e r.stands)
-      (and_from (eqb (m.from e) p) (eqb (to m e) q) (eq-eqb (m.from e) p r.begins) (eq-eqb (to m e) q r.ends)))
+      (and_from (eqb (m.from e) p) (eqb (to m e) q) (eq-eqb (m.from e) p r.begins)
+      (eq-eqb (to m e) q r.ends)))
 
   pub runs-found : NoSideTwice m → (e : ℕ) → Runs m e p q → side_from_to m p q ≡ Some e
   runs-found once e r =
@@ -34,4 +40,9 @@ module _ (m : Net) (p q : ℕ) where
   none-side none (e, r) = let (k, is) = runs-has e r in none-some k (sym none ∙ is)
 
   pub side-none : (HasSide m p q → ⊥) → side_from_to m p q ≡ None
-  side-none never = elim (option_cases (side_from_to m p q)) [ inl none ↦ none | inr (e, is) ↦ absurd (never (e, found-runs e is)) ]
+  side-none never =
+      elim (option_cases (side_from_to m p q)) [
+        | inl none ↦ none
+        | inr (e, is) ↦
+            absurd (never (e, found-runs e is))
+      ]

@@ -19,7 +19,9 @@ module _ (m n : Net) (once : NoSideTwice m) (p q s : ℕ)
   p_way stay is ne = absurd (ne is)
   p_way (on {x = y} {y = x} w f) is ne =
       elim (cases_eq y q) [
-        | inl same ↦ subst (λ i. Goes n s b i) (one_second m once edge (subst (λ i. IsPairAt m p i x) same f)) stay
+        | inl same ↦
+            subst (λ i. Goes n s b i)
+            (one_second m once edge (subst (λ i. IsPairAt m p i x) same f)) stay
         | inr other ↦ on (p_way w is other) (from_p y x f other ne)
       ]
 
@@ -47,11 +49,14 @@ module _ (m n : Net) (once : NoSideTwice m) (p q s : ℕ)
         | inr y_p ↦
             elim (cases_eq z p) [
               | inl is ↦
-                  let e = one_first m once (subst (λ i. IsPairAt m q y i) is f) (turn m p q b edge) in
-                  subst (λ i. Goes n s (image y) i) (image-other y y_p ∙ e ∙ sym (image-p z is)) stay
+                  let e = one_first m once (subst (λ i. IsPairAt m q y i) is f)
+                  (turn m p q b edge) in
+                  subst (λ i. Goes n s (image y) i) (image-other y y_p ∙ e ∙ sym (image-p z is))
+                  stay
               | inr z_p ↦
                   subst (λ i. Goes n s i (image z)) (sym (image-other y y_p))
-                  (subst (λ i. Goes n s y i) (sym (image-other z z_p)) (on stay (from_q y z f y_p z_p)))
+                  (subst (λ i. Goes n s y i) (sym (image-other z z_p))
+                  (on stay (from_q y z f y_p z_p)))
             ]
       ]
 
@@ -68,6 +73,7 @@ module _ (m n : Net) (once : NoSideTwice m) (p q s : ℕ)
         λ x y g.
             elim (at_s x y g) [
               | inl (h, ne) ↦ append n s to_b (p_way (p_spins x y h) refl ne)
-              | inr (h, ne) ↦ subst (λ i. Goes n s (image a) i) (image-other x ne) (q_way (all x y h))
+              | inr (h, ne) ↦
+                  subst (λ i. Goes n s (image a) i) (image-other x ne) (q_way (all x y h))
             ],
       )

@@ -1,11 +1,13 @@
--- Legality of a pair is a matter of what the faces at its two ends look like, and a collapse changes only what is near.
+-- Legality of a pair is a matter of what the faces at its two ends look like, and a collapse
+-- changes only what is near.
 use Rattle.std.proofs.Common.{◌≡◌, ℕ, inl, inr, sym, ap, ◌∙◌, subst}
 use Rattle.std.specs.Prelude.{pos, ◌≤ℤ◌}
 use Rattle.pm_base.specs.Place.{Place}
 use Rattle.pm_base.specs.Geometry.{cross_of, dot_of}
 use Rattle.pm_base.specs.Sides.{Net, next, prev, to, third, NoSideTwice}
 use Rattle.pm_base.proofs.Sides.{stands_next}
-use Rattle.pm_runs.specs.Surfaces.{Surface, next_vertex, place_at, net_of_surface, IsSurface, collapsed}
+use Rattle.pm_runs.specs.Surfaces.{Surface, next_vertex, place_at, net_of_surface, IsSurface}
+use Rattle.pm_runs.specs.Surfaces.{collapsed}
 use Rattle.pm_runs.specs.Pairs.{StayUpright, IsLegalPair}
 use Rattle.pm_runs.specs.Merged.{AgreesAt, merged}
 use Rattle.pm_runs.specs.Nearby.{LooksSameAt, IsFar}
@@ -16,8 +18,10 @@ use Rattle.pm_runs.proofs.Live.{surface-fresh, old_at}
 
 pub agrees-trans : (m n o : Net) (p : ℕ) → AgreesAt m n p → AgreesAt n o p → AgreesAt m o p
 agrees-trans m n o p a b = record {
-  forth = λ e st is. let f = a.forth e st is in let g = b.forth e f.0 f.1 in (g.0, g.1, g.2 ∙ f.2, g.3 ∙ f.3);
-  back = λ e st is. let g = b.back e st is in let f = a.back e g.0 g.1 in (f.0, f.1, f.2 ∙ g.2, f.3 ∙ g.3);
+  forth = λ e st is. let f = a.forth e st is in let g =
+      b.forth e f.0 f.1 in (g.0, g.1, g.2 ∙ f.2, g.3 ∙ f.3);
+  back = λ e st is. let g = b.back e st is in let f =
+      a.back e g.0 g.1 in (f.0, f.1, f.2 ∙ g.2, f.3 ∙ g.3);
 }
 
 pub looks-sym : (s r : Surface) (p : ℕ) → LooksSameAt s r p → LooksSameAt r s p
@@ -32,7 +36,9 @@ looks-sym s r p a = record {
       );
 }
 
-same_upright : (place x y z x' y' z' : Place) → x' ≡ x → y' ≡ y → z' ≡ z → pos 0 ≤ℤ dot_of (cross_of place y z) (cross_of x y z) → pos 0 ≤ℤ dot_of (cross_of place y' z') (cross_of x' y' z')
+same_upright : (place x y z x' y' z' : Place) → x' ≡ x → y' ≡ y → z' ≡ z
+    → pos 0 ≤ℤ dot_of (cross_of place y z) (cross_of x y z)
+    → pos 0 ≤ℤ dot_of (cross_of place y' z') (cross_of x' y' z')
 same_upright place x y z x' y' z' i j k h =
     subst (λ q. pos 0 ≤ℤ dot_of (cross_of place y' z') (cross_of q y' z')) (sym i)
     (subst (λ q. pos 0 ≤ℤ dot_of (cross_of place q z') (cross_of x q z')) (sym j)
@@ -42,32 +48,44 @@ module _ (s r : Surface) (a b : ℕ) (at_a : LooksSameAt s r a) (at_b : LooksSam
   upright-same : (place : Place) → StayUpright s a b place → StayUpright r a b place
   upright-same place ok =
       λ e p q pair st is x y.
-      let here : LooksSameAt s r p = elim pair [ inl k ↦ subst (LooksSameAt s r) (sym k.0) at_a | inr k ↦ subst (LooksSameAt s r) (sym k.0) at_b ] in
+      let here : LooksSameAt s r p =
+      elim pair [
+        | inl k ↦ subst (LooksSameAt s r) (sym k.0) at_a
+        | inr k ↦
+            subst (LooksSameAt s r) (sym k.0) at_b
+      ] in
       let f = here.faces.back e st is in
       let w = here.places e f.0 f.1 in
-      same_upright place (place_at s p) (place_at s (to (net_of_surface s) e)) (place_at s (third (net_of_surface s) e)) _ _ _ w.0
+      same_upright place (place_at s p) (place_at s (to (net_of_surface s) e))
+      (place_at s (third (net_of_surface s) e)) _ _ _ w.0
       (ap (place_at r) (sym f.2) ∙ w.1) (ap (place_at r) (sym f.3) ∙ w.2)
       (ok e p q pair f.0 f.1 (λ z. x (sym f.2 ∙ z)) (λ z. y (sym f.3 ∙ z)))
 
-  pub legal-same : NoSideTwice (net_of_surface r) → (place : Place) → IsLegalPair s a b place → IsLegalPair r a b place
+  pub legal-same : NoSideTwice (net_of_surface r) → (place : Place) → IsLegalPair s a b place
+      → IsLegalPair r a b place
   legal-same once place ok =
       linkable-legal r once a b place
-      (same-linkable (net_of_surface s) (net_of_surface r) a b at_a.faces at_b.faces (legal-linkable s a b place ok))
+      (same-linkable (net_of_surface s) (net_of_surface r) a b at_a.faces at_b.faces
+      (legal-linkable s a b place ok))
       (upright-same place ok.upright)
 
 -- A vertex that is far from the two looks as before.
-pub far-same : (s : Surface) → IsSurface s → (a b p : ℕ) (place : Place) → IsFar s a b p → LooksSameAt s (collapsed s a b place) p
+pub far-same : (s : Surface) → IsSurface s → (a b p : ℕ) (place : Place) → IsFar s a b p
+    → LooksSameAt s (collapsed s a b place) p
 far-same s sound a b p place far =
     let m : Net = net_of_surface s in
     let n : ℕ = next_vertex s in
     let fresh = surface-fresh s sound in
     record {
       faces = agrees-trans m (merged m a b n) (net_of_surface (collapsed s a b place)) p
-          (merge-agrees m a b n p fresh far.other.not_new far.other.not_first far.other.not_second far.off_first far.off_second)
+          (merge-agrees m a b n p fresh far.other.not_new far.other.not_first far.other.not_second
+          far.off_first far.off_second)
           (collapse-alike s a b place p);
       places = λ e st is.
-          let i = not_to m a b n p fresh far.other.not_new far.other.not_first far.other.not_second far.off_first far.off_second e st is in
-          let j = not_third m a b n p fresh far.other.not_new far.other.not_first far.other.not_second far.off_first far.off_second e st is in
+          let i = not_to m a b n p fresh far.other.not_new far.other.not_first far.other.not_second
+          far.off_first far.off_second e st is in
+          let j = not_third m a b n p fresh far.other.not_new far.other.not_first
+          far.other.not_second far.off_first far.off_second e st is in
           let st1 = stands_next m e st in (
             old_at s a b place p far.other.not_new far.other.not_first far.other.not_second,
             old_at s a b place (to m e) (fresh (next e) st1) i.0 i.1,

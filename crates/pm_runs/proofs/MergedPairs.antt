@@ -35,13 +35,18 @@ module _ (m : Net) (t u s : ℕ) (fresh : IsFresh m s) where
   kind_of x =
       elim (cases_eq x t) [
         | inl a ↦ is_t a (new-t x a)
-        | inr a ↦ elim (cases_eq x u) [ inl b ↦ is_u b (new-u x b) | inr b ↦ other a b (new-other x a b) ]
+        | inr a ↦ elim (cases_eq x u) [
+          | inl b ↦ is_u b (new-u x b)
+          | inr b ↦
+              other a b (new-other x a b)
+        ]
       ]
 
   pub not_s : {v x y : ℕ} → IsPairAt m v x y → v ≢ s
   not_s f is = fresh f.side f.stands (f.at ∙ is)
 
-  pub image : {v x y : ℕ} → IsPairAt m v x y → new v ≢ new x → new x ≢ new y → new y ≢ new v → IsPairAt after (new v) (new x) (new y)
+  pub image : {v x y : ℕ} → IsPairAt m v x y → new v ≢ new x → new x ≢ new y → new y ≢ new v
+      → IsPairAt after (new v) (new x) (new y)
   image f a b c = record {
     side = f.side;
     stands = record {
@@ -72,7 +77,13 @@ module _ (m : Net) (t u s : ℕ) (fresh : IsFresh m s) where
     v0 = m.from f.side;
     x0 = to m f.side;
     y0 = third m f.side;
-    face = record { side = f.side; stands = was_there f.side f.stands; at = refl; one = refl; two = refl };
+    face = record {
+      side = f.side;
+      stands = was_there f.side f.stands;
+      at = refl;
+      one = refl;
+      two = refl;
+    };
     v-is = f.at;
     x-is = f.one;
     y-is = f.two;
@@ -87,42 +98,54 @@ module _ (m : Net) (t u s : ℕ) (fresh : IsFresh m s) where
       ]
 
   -- The pairs at s are those at t and at u that name neither end
-  pub at_s : (x y : ℕ) → IsPairAt after s x y → (IsPairAt m t x y ⊎ IsPairAt m u x y) × (x ≢ t) × (x ≢ u) × (y ≢ t) × (y ≢ u)
+  pub at_s : (x y : ℕ) → IsPairAt after s x y → (IsPairAt m t x y ⊎ IsPairAt m u x y) × (x ≢ t)
+      × (x ≢ u) × (y ≢ t) × (y ≢ u)
   at_s x y f =
       let o = origin f in
       let (ex, xt, xu) = unmoved o.x0 x o.x-is (λ is. corner-first after s x y f (sym is)) in
       let (ey, yt, yu) = unmoved o.y0 y o.y-is (λ is. second-corner after s x y f is) in
-      let g : IsPairAt m o.v0 x y = subst (λ i. IsPairAt m o.v0 i y) ex (subst (λ i. IsPairAt m o.v0 o.x0 i) ey o.face) in
+      let g : IsPairAt m o.v0 x y =
+      subst (λ i. IsPairAt m o.v0 i y) ex (subst (λ i. IsPairAt m o.v0 o.x0 i) ey o.face) in
       elim (kind_of o.v0) [
         | is_t a b ↦ (inl (subst (λ i. IsPairAt m i x y) a g), xt, xu, yt, yu)
         | is_u a b ↦ (inr (subst (λ i. IsPairAt m i x y) a g), xt, xu, yt, yu)
         | other a b c ↦ absurd (not_s o.face (sym c ∙ o.v-is))
       ]
 
-  from_end : (v x y : ℕ) → new v ≡ s → IsPairAt m v x y → x ≢ t → x ≢ u → y ≢ t → y ≢ u → IsPairAt after s x y
+  from_end : (v x y : ℕ) → new v ≡ s → IsPairAt m v x y → x ≢ t → x ≢ u → y ≢ t → y ≢ u
+      → IsPairAt after s x y
   from_end v x y is f xt xu yt yu =
       let ex = new-other x xt xu in
       let ey = new-other y yt yu in
       let xs = not_s (turn m v x y f) in
       let ys = not_s (back m v x y f) in
-      let g = image f (λ e. xs (sym (sym is ∙ e ∙ ex))) (λ e. first-second m v x y f (sym ex ∙ e ∙ ey)) (λ e. ys (sym ey ∙ e ∙ is)) in
-      subst (λ i. IsPairAt after i x y) is (subst (λ i. IsPairAt after (new v) i y) ex (subst (λ i. IsPairAt after (new v) (new x) i) ey g))
+      let g = image f (λ e. xs (sym (sym is ∙ e ∙ ex)))
+      (λ e. first-second m v x y f (sym ex ∙ e ∙ ey)) (λ e. ys (sym ey ∙ e ∙ is)) in
+      subst (λ i. IsPairAt after i x y) is
+      (subst (λ i. IsPairAt after (new v) i y) ex
+      (subst (λ i. IsPairAt after (new v) (new x) i) ey g))
 
   pub from_t : (x y : ℕ) → IsPairAt m t x y → x ≢ u → y ≢ u → IsPairAt after s x y
-  from_t x y f xu yu = from_end t x y (new-t t refl) f (λ e. corner-first m t x y f (sym e)) xu (second-corner m t x y f) yu
+  from_t x y f xu yu =
+      from_end t x y (new-t t refl) f (λ e. corner-first m t x y f (sym e)) xu
+      (second-corner m t x y f) yu
 
   pub from_u : (x y : ℕ) → IsPairAt m u x y → x ≢ t → y ≢ t → IsPairAt after s x y
-  from_u x y f xt yt = from_end u x y (new-u u refl) f xt (λ e. corner-first m u x y f (sym e)) yt (second-corner m u x y f)
+  from_u x y f xt yt =
+      from_end u x y (new-u u refl) f xt (λ e. corner-first m u x y f (sym e)) yt
+      (second-corner m u x y f)
 
   -- The pairs at another vertex are those before, renamed
-  pub away : (v x y : ℕ) → v ≢ s → IsPairAt after v x y → (x0 : ℕ) × (y0 : ℕ) × IsPairAt m v x0 y0 × (new x0 ≡ x) × (new y0 ≡ y) × (v ≢ t) × (v ≢ u)
+  pub away : (v x y : ℕ) → v ≢ s → IsPairAt after v x y → (x0 : ℕ) × (y0 : ℕ) × IsPairAt m v x0 y0
+      × (new x0 ≡ x) × (new y0 ≡ y) × (v ≢ t) × (v ≢ u)
   away v x y ne f =
       let o = origin f in
       let (ev, vt, vu) = unmoved o.v0 v o.v-is ne in
       (o.x0, o.y0, subst (λ i. IsPairAt m i o.x0 o.y0) ev o.face, o.x-is, o.y-is, vt, vu)
 
   -- vertices of the mesh that take one number
-  pub same_new : (x y : ℕ) → x ≢ s → y ≢ s → new x ≡ new y → (x ≡ y) ⊎ ((new x ≡ s) × (((x ≡ t) × (y ≡ u)) ⊎ ((x ≡ u) × (y ≡ t))))
+  pub same_new : (x y : ℕ) → x ≢ s → y ≢ s → new x ≡ new y
+      → (x ≡ y) ⊎ ((new x ≡ s) × (((x ≡ t) × (y ≡ u)) ⊎ ((x ≡ u) × (y ≡ t))))
   same_new x y xs ys is =
       elim (kind_of x) [
         | is_t a b ↦

@@ -1,6 +1,7 @@
 -- Merging two vertices into a third one.
 use Rattle.std.proofs.Common.{◌≡◌, ◌≢◌, ℕ, eqb, ◌⊎◌, inl, inr, refl, sym, ap, ◌∙◌}
-use Rattle.std.proofs.lemmas.Bool.{eq-eqb, ne_eqb, or_left, or_right, or_from, cases_eq, cond-true, cond-false}
+use Rattle.std.proofs.lemmas.Bool.{eq-eqb, ne_eqb, or_left, or_right, or_from, cases_eq, cond-true}
+use Rattle.std.proofs.lemmas.Bool.{cond-false}
 use Rattle.pm_runs.specs.Surfaces.{merge}
 use Rattle.pm_runs.specs.Pairs.{IsPair}
 
@@ -22,23 +23,33 @@ unfolding merge
 merge-other t u s v a b = cond-false _ s v (or_from _ _ (ne_eqb v t a) (ne_eqb v u b))
 
 -- two vertices, neither of them s, that become one were one, or are the two of the pair
-pub merge-same : (t u s v w : ℕ) → v ≢ s → w ≢ s → merge t u s v ≡ merge t u s w → (v ≡ w) ⊎ IsPair t u v w
+pub merge-same : (t u s v w : ℕ) → v ≢ s → w ≢ s → merge t u s v ≡ merge t u s w
+    → (v ≡ w) ⊎ IsPair t u v w
 merge-same t u s v w a b e =
     let mt = (merge-pair t u s t u (inl (refl, refl))).0 in
     let mu = (merge-pair t u s t u (inl (refl, refl))).1 in
-    let becomes : (x y : ℕ) → x ≢ t → x ≢ u → merge t u s x ≡ merge t u s y → merge t u s y ≡ s → x ≡ s = λ x y n m q r. sym (merge-other t u s x n m) ∙ q ∙ r in
+    let becomes : (x y : ℕ) → x ≢ t → x ≢ u → merge t u s x ≡ merge t u s y → merge t u s y ≡ s
+    → x ≡ s = λ x y n m q r. sym (merge-other t u s x n m) ∙ q ∙ r in
     elim (cases_eq v t) [
       | inl vt ↦
           elim (cases_eq w t) [
             | inl wt ↦ inl (vt ∙ sym wt)
-            | inr wt ↦ elim (cases_eq w u) [ inl wu ↦ inr (inl (vt, wu)) | inr wu ↦ absurd (b (becomes w v wt wu (sym e) (ap (merge t u s) vt ∙ mt))) ]
+            | inr wt ↦ elim (cases_eq w u) [
+              | inl wu ↦ inr (inl (vt, wu))
+              | inr wu ↦
+                  absurd (b (becomes w v wt wu (sym e) (ap (merge t u s) vt ∙ mt)))
+            ]
           ]
       | inr vt ↦
           elim (cases_eq v u) [
             | inl vu ↦
                 elim (cases_eq w u) [
                   | inl wu ↦ inl (vu ∙ sym wu)
-                  | inr wu ↦ elim (cases_eq w t) [ inl wt ↦ inr (inr (vu, wt)) | inr wt ↦ absurd (b (becomes w v wt wu (sym e) (ap (merge t u s) vu ∙ mu))) ]
+                  | inr wu ↦ elim (cases_eq w t) [
+                    | inl wt ↦ inr (inr (vu, wt))
+                    | inr wt ↦
+                        absurd (b (becomes w v wt wu (sym e) (ap (merge t u s) vu ∙ mu)))
+                  ]
                 ]
             | inr vu ↦
                 elim (cases_eq w t) [
@@ -46,7 +57,8 @@ merge-same t u s v w a b e =
                   | inr wt ↦
                       elim (cases_eq w u) [
                         | inl wu ↦ absurd (a (becomes v w vt vu e (ap (merge t u s) wu ∙ mu)))
-                        | inr wu ↦ inl (sym (merge-other t u s v vt vu) ∙ e ∙ merge-other t u s w wt wu)
+                        | inr wu ↦ inl (sym (merge-other t u s v vt vu) ∙ e
+                            ∙ merge-other t u s w wt wu)
                       ]
                 ]
           ]

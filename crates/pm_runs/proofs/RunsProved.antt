@@ -8,18 +8,28 @@ use Rattle.pm_base.specs.Meshes.{Mesh}
 use Rattle.pm_runs.specs.Surfaces.{surface_of}
 use Rattle.pm_runs.specs.Planes.{planes_at, planes_after, planes_from}
 use Rattle.pm_runs.specs.Runs.{surface_from, surface_after, IsRun}
-use Rattle.pm_runs.specs.RunLaws.{RunsGrow, EntriesAreSteps, RunsStayProper, RunsAreMerges, RunsStayManifolds, SparedVerticesAreLive, RunsAreShort, PlanesStay, PlanesAreKept, KeysAreKept, CandidatesAreLocal, OneRunToATarget, RunsAreBuilt}
+use Rattle.pm_runs.specs.RunLaws.{RunsGrow, EntriesAreSteps, RunsStayProper, RunsAreMerges}
+use Rattle.pm_runs.specs.RunLaws.{RunsStayManifolds, SparedVerticesAreLive, RunsAreShort}
+use Rattle.pm_runs.specs.RunLaws.{PlanesStay, PlanesAreKept, KeysAreKept, CandidatesAreLocal}
+use Rattle.pm_runs.specs.RunLaws.{OneRunToATarget, RunsAreBuilt}
 use Rattle.pm_runs.proofs.Live.{input-sound, live_below, point_live}
-use Rattle.pm_runs.proofs.Logs.{surface_after-nil, surface_after-more, steps_from-parts, planes_from-append, run-nil, run-more, run-parts, run-step, run-sound, run-proper, next-from, next-run}
+use Rattle.pm_runs.proofs.Logs.{surface_after-nil, surface_after-more, steps_from-parts}
+use Rattle.pm_runs.proofs.Logs.{planes_from-append, run-nil, run-more, run-parts, run-step}
+use Rattle.pm_runs.proofs.Logs.{run-sound, run-proper, next-from, next-run}
 use Rattle.pm_runs.proofs.LeastRuns.{one_run, run-to-run, begun-nil, begun-more, begun-end}
-use Rattle.pm_runs.proofs.Living.{WasOrCame, live-from, from-live, planes-stay, first_live_count, live-count-from, some_left}
+use Rattle.pm_runs.proofs.Living.{WasOrCame, live-from, from-live, planes-stay, first_live_count}
+use Rattle.pm_runs.proofs.Living.{live-count-from, some_left}
 use Rattle.pm_runs.proofs.PlaneCounts.{first_count, run-count, pair_few}
 use Rattle.pm_runs.proofs.Manifolds.{run-manifold}
 use Rattle.pm_runs.proofs.MergedRuns.{run-alike}
 use Rattle.pm_runs.proofs.Keys.{place-kept, key-kept, candidate-stays, candidate-was}
 
 pub runs_grow : RunsGrow
-runs_grow m = (run-nil m, surface_after-nil m, (λ log c. ((run-parts m log c, (λ p. run-more m log c p.0 p.1)), surface_after-more m log c)))
+runs_grow m = (
+  run-nil m,
+  surface_after-nil m,
+  (λ log c. ((run-parts m log c, (λ p. run-more m log c p.0 p.1)), surface_after-more m log c)),
+)
 
 pub entries_are_steps : EntriesAreSteps
 entries_are_steps m log run i c l = run-step m log run i c l
@@ -27,15 +37,24 @@ entries_are_steps m log run i c l = run-step m log run i c l
 pub runs_stay_proper : RunsStayProper
 runs_stay_proper m start log run = (run-sound m start log run, run-proper m start log run)
 
-point_below : (m : Mesh) (log : List Collapse) (v : ℕ) → WasOrCame (surface_of m) log v → v < length m.points + length log
+point_below : (m : Mesh) (log : List Collapse) (v : ℕ) → WasOrCame (surface_of m) log v
+    → v < length m.points + length log
 point_below m log v way =
     let n = length-map m.points Some in
-    elim way [ inl live ↦ (let l = live_below (surface_of m) v live in omega arith) | inr (low, high) ↦ omega arith ]
+    elim way [
+      | inl live ↦ (let l = live_below (surface_of m) v live in omega arith)
+      | inr (low, high) ↦ omega arith
+    ]
 
-was_or_came : (m : Mesh) (log : List Collapse) (v : ℕ) → v < length m.points + length log → WasOrCame (surface_of m) log v
+was_or_came : (m : Mesh) (log : List Collapse) (v : ℕ) → v < length m.points + length log
+    → WasOrCame (surface_of m) log v
 was_or_came m log v l =
     let n = length-map m.points Some in
-    elim (cases_lt v (length m.points)) [ inl low ↦ inl (point_live m.points v low) | inr high ↦ inr (omega arith, omega arith) ]
+    elim (cases_lt v (length m.points)) [
+      | inl low ↦ inl (point_live m.points v low)
+      | inr high ↦
+          inr (omega arith, omega arith)
+    ]
 
 pub spared_vertices_are_live : SparedVerticesAreLive
 unfolding IsRun surface_after
@@ -43,7 +62,8 @@ spared_vertices_are_live m start log run =
     let sound = input-sound m start.formed in (
       next-run m log,
       (λ v. (
-        (λ live. let (way, spared) = live-from (surface_of m) sound log run v live in (point_below m log v way, spared)),
+        (λ live. let (way, spared) = live-from (surface_of m) sound log run v live in
+            (point_below m log v way, spared)),
         (λ p. from-live (surface_of m) sound log run v (was_or_came m log v p.0) p.1),
       )),
     )
@@ -65,7 +85,8 @@ planes_stay m log more run v l =
     let n = next-from (surface_of m) log in
     let points = length-map m.points Some in
     ap (λ (f : ℕ → List Plane). f v) (planes_from-append (planes_at m) log more) ∙
-    planes-stay (planes_from (planes_at m) log) (surface_from (surface_of m) log) more rest v (omega arith)
+    planes-stay (planes_from (planes_at m) log) (surface_from (surface_of m) log) more rest v
+    (omega arith)
 
 pub planes_are_kept : PlanesAreKept
 planes_are_kept m start log run =
@@ -73,23 +94,32 @@ planes_are_kept m start log run =
     let first = first_count m in (
       same,
       omega arith,
-      (λ a b order la lb. pair_few (planes_after m log) (surface_after m log) a b la lb (λ is. absurd (omega arith))),
+      (λ a b order la lb. pair_few (planes_after m log) (surface_after m log) a b la lb
+          (λ is. absurd (omega arith))),
     )
 
 pub keys_are_kept : KeysAreKept
-keys_are_kept m log c step p q x y = (place-kept m log c step p q x y, key-kept m log c step p q x y)
+keys_are_kept m log c step p q x y =
+    (place-kept m log c step p q x y, key-kept m log c step p q x y)
 
 pub candidates_are_local : CandidatesAreLocal
 candidates_are_local m start log c run step p q x y =
     let sound = run-sound m start log run in
-    let proper = run-proper m start log run in
-    (candidate-stays m log c step sound proper p q x y, candidate-was m log c step sound proper p q x y)
+    let proper = run-proper m start log run in (
+      candidate-stays m log c step sound proper p q x y,
+      candidate-was m log c step sound proper p q
+          x y,
+    )
 
 pub one_run_to_a_target : OneRunToATarget
-one_run_to_a_target m target log run = (run-to-run m target log run, (λ other also. one_run m target other log also run))
+one_run_to_a_target m target log run =
+    (run-to-run m target log run, (λ other also. one_run m target other log also run))
 
 pub runs_are_built : RunsAreBuilt
-runs_are_built m target = (begun-nil m target, (λ log begun. ((λ c step. begun-more m target log c begun step), begun-end m target log begun)))
+runs_are_built m target = (
+  begun-nil m target,
+  (λ log begun. ((λ c step. begun-more m target log c begun step), begun-end m target log begun)),
+)
 
 pub runs_stay_manifolds : RunsStayManifolds
 runs_stay_manifolds m start log run = run-manifold m start log run

@@ -1,6 +1,10 @@
 -- The laws of one collapse, from the lemmas.
 use Rattle.pm_runs.specs.Surfaces.{net_of_surface, collapsed}
-use Rattle.pm_runs.specs.Laws.{MeshesAreSurfaces, CollapsesAreMerges, SidesAreFound, ThirdsAreCommon, PairsHaveNoOrder, LinkableIsLegal, StepsKeepSurfaces, StepsMoveNothingElse, LegalityIsLocal, StepsAreLocal, NeighboursAreKept, OtherSidesStay, FacesAreCounted, LegalStepsKeepManifolds}
+use Rattle.pm_runs.specs.Laws.{MeshesAreSurfaces, CollapsesAreMerges, SidesAreFound}
+use Rattle.pm_runs.specs.Laws.{ThirdsAreCommon, PairsHaveNoOrder, LinkableIsLegal}
+use Rattle.pm_runs.specs.Laws.{StepsKeepSurfaces, StepsMoveNothingElse, LegalityIsLocal}
+use Rattle.pm_runs.specs.Laws.{StepsAreLocal, NeighboursAreKept, OtherSidesStay, FacesAreCounted}
+use Rattle.pm_runs.specs.Laws.{LegalStepsKeepManifolds}
 use Rattle.std.proofs.Common.{ap, arith}
 use Rattle.pm_base.specs.Counts.{one_if}
 use Rattle.pm_base.specs.Sides.{face_of}
@@ -15,7 +19,8 @@ use Rattle.pm_runs.proofs.Found.{found-runs, runs-found, none-side, side-none}
 use Rattle.pm_runs.proofs.Relinked.{drops-faces, relinks-twins}
 use Rattle.pm_runs.proofs.Local.{looks-sym, legal-same, far-same}
 use Rattle.pm_runs.proofs.Manifolds.{collapse-manifold}
-use Rattle.pm_runs.proofs.Neighbours.{runs-stay, runs-were, twin-same, neighbours-kept, neighbours-were}
+use Rattle.pm_runs.proofs.Neighbours.{runs-stay, runs-were, twin-same, neighbours-kept}
+use Rattle.pm_runs.proofs.Neighbours.{neighbours-were}
 
 pub meshes_are_surfaces : MeshesAreSurfaces
 meshes_are_surfaces m formed manifold = (input-sound m formed, input-proper m manifold)
@@ -24,7 +29,8 @@ pub collapses_are_merges : CollapsesAreMerges
 collapses_are_merges s a b place = collapse-alike s a b place
 
 pub sides_are_found : SidesAreFound
-sides_are_found m once p q = ((λ e. (found-runs m p q e, runs-found m p q once e)), (none-side m p q, side-none m p q))
+sides_are_found m once p q =
+    ((λ e. (found-runs m p q e, runs-found m p q once e)), (none-side m p q, side-none m p q))
 
 pub thirds_are_common : ThirdsAreCommon
 thirds_are_common m a b w = third-common m a b w
@@ -33,7 +39,10 @@ pub pairs_have_no_order : PairsHaveNoOrder
 pairs_have_no_order s a b place = (legal-turned s a b place, legal-turned s b a place)
 
 pub linkable_is_legal : LinkableIsLegal
-linkable_is_legal s once a b place = ((λ ok. (legal-linkable s a b place ok, ok.upright)), (λ ok. linkable-legal s once a b place ok.0 ok.1))
+linkable_is_legal s once a b place = (
+  (λ ok. (legal-linkable s a b place ok, ok.upright)),
+  (λ ok. linkable-legal s once a b place ok.0 ok.1),
+)
 
 pub steps_keep_surfaces : StepsKeepSurfaces
 steps_keep_surfaces s sound proper a b place ok =
@@ -49,7 +58,10 @@ pub steps_move_nothing_else : StepsMoveNothingElse
 steps_move_nothing_else s a b place = (
   new_live s a b place,
   new_at s a b place,
-  (λ v other. (old_live s a b place v other.not_new other.not_first other.not_second, old_at s a b place v other.not_new other.not_first other.not_second)),
+  (λ v other. (
+    old_live s a b place v other.not_new other.not_first other.not_second,
+    old_at s a b place v other.not_new other.not_first other.not_second,
+  )),
 )
 
 pub legality_is_local : LegalityIsLocal
@@ -60,17 +72,25 @@ legality_is_local s r once once' p q x y at = (
 
 pub steps_are_local : StepsAreLocal
 steps_are_local s sound proper a b place ok p q x y at =
-    legality_is_local s (collapsed s a b place) proper.once (collapse-proper s sound proper a b place (legal-apart s a b place ok)).once p q
+    legality_is_local s (collapsed s a b place) proper.once
+    (collapse-proper s sound proper a b place (legal-apart s a b place ok)).once p q
     (far-same s sound a b p place x) (far-same s sound a b q place y) at
 
 pub neighbours_are_kept : NeighboursAreKept
 neighbours_are_kept s sound proper a b place ok p other =
-    let link = legal-linkable s a b place ok in
-    (neighbours-kept s sound proper a b place link p other, neighbours-were s sound proper a b place link p other.not_new)
+    let link = legal-linkable s a b place ok in (
+      neighbours-kept s sound proper a b place link p other,
+      neighbours-were s sound proper a b place
+          link p other.not_new,
+    )
 
 pub other_sides_stay : OtherSidesStay
 other_sides_stay s sound proper a b place ok e p q op oq = (
-  (runs-stay s sound a b place e p q op oq, runs-were s sound a b place e p q op.not_new oq.not_new),
+  (
+    runs-stay s sound a b place e p q op oq,
+    runs-were s sound a b place e p q op.not_new
+        oq.not_new,
+  ),
   twin-same s sound a b place proper (legal-apart s a b place ok) e p q op oq,
 )
 
@@ -82,4 +102,5 @@ faces_are_counted s sound proper a b place ok =
     omega arith
 
 pub legal_steps_keep_manifolds : LegalStepsKeepManifolds
-legal_steps_keep_manifolds s sound manifold a b place ok = collapse-manifold s sound a b place (legal-linkable s a b place ok) manifold
+legal_steps_keep_manifolds s sound manifold a b place ok =
+    collapse-manifold s sound a b place (legal-linkable s a b place ok) manifold

@@ -1,14 +1,18 @@
--- Collapses on nets, in the form in which proofs treat them: a merge of two vertices changes the vertices from which
--- sides run, and nothing else. The law `CollapsesAreMerges` joins it to `collapsed`.
+-- Collapses on nets, in the form in which proofs treat them: a merge of two vertices changes the
+-- vertices from which sides run, and nothing else. The law `CollapsesAreMerges` joins it to
+-- `collapsed`.
 use Rattle.std.specs.Prelude.{◌≡◌, ◌≢◌, ℕ, ◌⊎◌, Option, Some, None, List, [], ◌∷◌}
 use Rattle.pm_base.specs.declared.log.Collapse.{Collapse}
-use Rattle.pm_base.specs.Sides.{Net, next, prev, to, third, Stands, NoSideTwice, IsTwin, HasNoTwin, IsBorder}
+use Rattle.pm_base.specs.Sides.{Net, next, prev, to, third, Stands, NoSideTwice, IsTwin, HasNoTwin}
+use Rattle.pm_base.specs.Sides.{IsBorder}
 use Rattle.pm_runs.specs.Surfaces.{merge}
 use Rattle.pm_runs.specs.Pairs.{Runs, HasSide, Joined, Links, IsThird, HasFace}
 
--- No two faces with the same three corners. Where no directed side stands twice they could only be in opposite orders.
+-- No two faces with the same three corners. Where no directed side stands twice they could only be
+-- in opposite orders.
 abbrev pub NoMirror : Net → Type 0
-NoMirror m = (e g : ℕ) → Stands m e → Stands m g → m.from g ≡ to m e → to m g ≡ m.from e → third m g ≢ third m e
+NoMirror m = (e g : ℕ) → Stands m e → Stands m g → m.from g ≡ to m e → to m g ≡ m.from e
+    → third m g ≢ third m e
 
 -- Neither a side nor a face comes twice.
 pub record IsProper (m : Net) : Type 0 where
@@ -39,15 +43,18 @@ pub record IsLinkable (m : Net) (t u : ℕ) : Type 0 where
   pub joined : Joined m t u
   pub apart : KeepsApart m t u
   pub border : IsBorder m t → IsBorder m u → HasSide m t u → HasSide m u t → ⊥
-  pub single : (e : ℕ) → Links m e t u → HasNoTwin m e → HasNoTwin m (next e) → HasNoTwin m (prev e) → ⊥
+  pub single : (e : ℕ) → Links m e t u → HasNoTwin m e → HasNoTwin m (next e) → HasNoTwin m (prev e)
+      → ⊥
 
 -- From one other side of a face that holds both vertices to its other one.
 abbrev pub Past : Net → ℕ → ℕ → ℕ → ℕ → Type 0
-Past m t u c o = (x : ℕ) × Links m x t u × (((c ≡ next x) × (o ≡ prev x)) ⊎ ((c ≡ prev x) × (o ≡ next x)))
+Past m t u c o =
+    (x : ℕ) × Links m x t u × (((c ≡ next x) × (o ≡ prev x)) ⊎ ((c ≡ prev x) × (o ≡ next x)))
 
 -- Two nets agree around vertex p: the same faces hold it, with the same other corners.
 pub record AgreesAt (m n : Net) (p : ℕ) : Type 0 where
-  pub forth : (e : ℕ) → Stands m e → m.from e ≡ p → Stands n e × (n.from e ≡ p) × (to n e ≡ to m e) ×
+  pub forth : (e : ℕ) → Stands m e → m.from e ≡ p → Stands n e × (n.from e ≡ p) × (to n e ≡ to m e)
+      ×
       (third n e ≡ third m e)
   pub back : (e : ℕ) → Stands n e → n.from e ≡ p → Stands m e × (m.from e ≡ p) × (to m e ≡ to n e) ×
       (third m e ≡ third n e)

@@ -1,5 +1,6 @@
--- Neighbours, and the pairs of vertices that may be collapsed: the link condition (Dey, Edelsbrunner, Guha and
--- Nekhayev 1999), with its border cases, and the test for faces that turn over.
+-- Neighbours, and the pairs of vertices that may be collapsed: the link condition (Dey,
+-- Edelsbrunner, Guha and Nekhayev 1999), with its border cases, and the test for faces that turn
+-- over.
 use Rattle.std.specs.Prelude.{◌≡◌, ◌≢◌, ℕ, pos, ◌≤ℤ◌, ◌⊎◌, ◌↔◌}
 use Rattle.pm_base.specs.Place.{Place}
 use Rattle.pm_base.specs.Geometry.{cross_of, dot_of}
@@ -42,17 +43,20 @@ abbrev pub AreOnceOnBorder : Net → ℕ → ℕ → Type 0
 AreOnceOnBorder m a b = IsBorder m a → IsBorder m b → (e g : ℕ) → Links m e a b → Links m g a b →
     face_of e ≡ face_of g
 
--- If two faces hold both, with third corners v and w, then not both a, v, w and b, v, w are the corners of faces.
+-- If two faces hold both, with third corners v and w, then not both a, v, w and b, v, w are the
+-- corners of faces.
 abbrev pub ShareNoTriangle : Net → ℕ → ℕ → Type 0
-ShareNoTriangle m a b = (e g : ℕ) → Runs m e a b → Runs m g b a → HasFace m a (third m e) (third m g) →
+ShareNoTriangle m a b =
+    (e g : ℕ) → Runs m e a b → Runs m g b a → HasFace m a (third m e) (third m g) →
     HasFace m b (third m e) (third m g) → ⊥
 
 -- If one face holds both, not both of its other sides are border sides.
 abbrev pub AreNotAlone : Net → ℕ → ℕ → Type 0
-AreNotAlone m a b = (e : ℕ) → Links m e a b → IsBorderSide m e → IsBorderSide m (next e) → IsBorderSide m (prev e) → ⊥
+AreNotAlone m a b = (e : ℕ) → Links m e a b → IsBorderSide m e → IsBorderSide m (next e)
+    → IsBorderSide m (prev e) → ⊥
 
--- The face with corners p, v and w doesn't turn over when p moves to the place: the product of the two normals is at
--- least 0.
+-- The face with corners p, v and w doesn't turn over when p moves to the place: the product of the
+-- two normals is at least 0.
 abbrev pub StaysUpright : Surface → Place → ℕ → ℕ → ℕ → Type 0
 StaysUpright s place p v w =
     let q = place_at s v in

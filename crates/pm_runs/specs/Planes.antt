@@ -1,4 +1,5 @@
--- The planes that a vertex stands for, and from them the place and the cost of a pair (Garland and Heckbert 1997).
+-- The planes that a vertex stands for, and from them the place and the cost of a pair (Garland and
+-- Heckbert 1997).
 use Rattle.std.specs.Prelude.{ℕ, ◌==◌, Bool, cond, ◌||◌, List, [], ◌∷◌, ◌++◌, map, slice_index_or}
 use Rattle.std.specs.List.{filter}
 use Rattle.pm_base.specs.Place.{Place, place_of}
@@ -24,7 +25,8 @@ has_corner v f = f.a == v || (f.b == v || f.c == v)
 unfoldable pub planes_at : Mesh → ℕ → List Plane
 planes_at m v = map (plane_of_face m) (filter (has_corner v) m.faces)
 
--- One collapse gives the new vertex the planes of t and then those of u. Other vertices keep theirs.
+-- One collapse gives the new vertex the planes of t and then those of u. Other vertices keep
+-- theirs.
 abbrev pub joined_planes : (ℕ → List Plane) → Collapse → ℕ → List Plane
 joined_planes planes c v = cond (v == c.s) (planes c.t ++ planes c.u) (planes v)
 
@@ -32,8 +34,8 @@ abbrev pub planes_from : (ℕ → List Plane) → List Collapse → ℕ → List
 planes_from planes [] = planes
 planes_from planes (c ∷ cs) = planes_from (joined_planes planes c) cs
 
--- The planes of a vertex after the collapses of a log: those of all input vertices merged in it, a plane as often as it
--- comes in.
+-- The planes of a vertex after the collapses of a log: those of all input vertices merged in it, a
+-- plane as often as it comes in.
 unfoldable pub planes_after : Mesh → List Collapse → ℕ → List Plane
 planes_after m log = planes_from (planes_at m) log
 
@@ -41,10 +43,11 @@ planes_after m log = planes_from (planes_at m) log
 abbrev pub pair_planes : (ℕ → List Plane) → ℕ → ℕ → List Plane
 pair_planes planes a b = planes a ++ planes b
 
--- The place of a pair: the first of the places of a and b and their midpoint at which the planes of both have the least
--- sum of squared values.
+-- The place of a pair: the first of the places of a and b and their midpoint at which the planes of
+-- both have the least sum of squared values.
 abbrev pub best_place_of : (ℕ → List Plane) → Surface → ℕ → ℕ → Place
-best_place_of planes s a b = least_place (squares_of (pair_planes planes a b)) (place_at s a) (place_at s b)
+best_place_of planes s a b =
+    least_place (squares_of (pair_planes planes a b)) (place_at s a) (place_at s b)
 
 -- That sum there.
 abbrev pub cost_of : (ℕ → List Plane) → Surface → ℕ → ℕ → ℕ

@@ -1,4 +1,5 @@
--- Runs of collapses, and the run to a number of faces, which takes the pair of least cost at each step.
+-- Runs of collapses, and the run to a number of faces, which takes the pair of least cost at each
+-- step.
 use Rattle.std.specs.Prelude.{◌≡◌, ℕ, ◌<◌, ◌≤◌, true, ◌⊎◌, List, [], ◌∷◌, ◌++◌}
 use Rattle.pm_base.specs.Place.{Place}
 use Rattle.pm_base.specs.declared.log.Collapse.{Collapse}
@@ -29,7 +30,8 @@ surface_from s (c ∷ cs) = surface_from (after_entry s c) cs
 unfoldable pub surface_after : Mesh → List Collapse → Surface
 surface_after m log = surface_from (surface_of m) log
 
--- A collapse of two vertices, the lesser one first, that is legal at its place, with what the log is to say of it.
+-- A collapse of two vertices, the lesser one first, that is legal at its place, with what the log
+-- is to say of it.
 pub record IsStep (s : Surface) (c : Collapse) : Type 0 where
   pub ordered : c.t < c.u
   pub legal : IsLegalPair s c.t c.u c.place
@@ -70,16 +72,20 @@ pub record IsStepTo (m : Mesh) (target : ℕ) (past : List Collapse) (c : Collap
 
 -- No more faces than the target are left, or no pair may be collapsed.
 abbrev pub IsEnd : Mesh → ℕ → List Collapse → Type 0
-IsEnd m target log = (face_count_of (surface_after m log) ≤ target) ⊎ ((a b : ℕ) → IsCandidate m log a b → ⊥)
+IsEnd m target log =
+    (face_count_of (surface_after m log) ≤ target) ⊎ ((a b : ℕ) → IsCandidate m log a b → ⊥)
 
 abbrev pub AreStepsTo : Mesh → ℕ → List Collapse → List Collapse → Type 0
 AreStepsTo m target past [] = IsEnd m target past
-AreStepsTo m target past (c ∷ cs) = IsStepTo m target past c × AreStepsTo m target (past ++ c ∷ []) cs
+AreStepsTo m target past (c ∷ cs) =
+    IsStepTo m target past c × AreStepsTo m target (past ++ c ∷ []) cs
 
 -- The log of the run to a number of faces.
 unfoldable pub IsRunTo : Mesh → ℕ → List Collapse → Type 0
 IsRunTo m target log = AreStepsTo m target [] log
 
--- The log is the first part of the run to a number of faces: what goes on from it makes a run of both.
+-- The log is the first part of the run to a number of faces: what goes on from it makes a run of
+-- both.
 abbrev pub IsBegun : Mesh → ℕ → List Collapse → Type 0
-IsBegun m target past = (rest : List Collapse) → AreStepsTo m target past rest → IsRunTo m target (past ++ rest)
+IsBegun m target past = (rest : List Collapse) → AreStepsTo m target past rest
+    → IsRunTo m target (past ++ rest)

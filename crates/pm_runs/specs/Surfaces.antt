@@ -1,13 +1,15 @@
 -- A mesh that is being simplified, and the collapse of two of its vertices (Hoppe 1996).
-use Rattle.std.specs.Prelude.{◌≡◌, ◌≢◌, ℕ, ◌%◌, ◌==◌, Bool, true, cond, ◌||◌, Option, Some, None, is_some, unwrap_or, option_and_then, List, [], ◌∷◌, ◌++◌, map, length, slice_index_or, slice_set}
+use Rattle.std.specs.Prelude.{◌≡◌, ◌≢◌, ℕ, ◌%◌, ◌==◌, Bool, true, cond, ◌||◌, Option, Some, None}
+use Rattle.std.specs.Prelude.{is_some, unwrap_or, option_and_then, List, [], ◌∷◌, ◌++◌, map, length}
+use Rattle.std.specs.Prelude.{slice_index_or, slice_set}
 use Rattle.std.specs.List.{count_by}
 use Rattle.pm_base.specs.Place.{Place, place_of}
 use Rattle.pm_base.specs.declared.mesh.Corners.{Corners}
 use Rattle.pm_base.specs.Meshes.{Mesh}
 use Rattle.pm_base.specs.Sides.{Net, face_of, corner_in, no_corners}
 
--- The faces by their numbers in the input mesh, none where a face was dropped; and the places of the live vertices by
--- number, none where a vertex was merged into another.
+-- The faces by their numbers in the input mesh, none where a face was dropped; and the places of
+-- the live vertices by number, none where a vertex was merged into another.
 pub record Surface : Type 0 where
   pub faces : List (Option Corners)
   pub places : List (Option Place)
@@ -30,7 +32,10 @@ corners_at s f = unwrap_or (slice_index_or s.faces f None) no_corners
 
 -- The sides of the faces. A dropped face has three equal corners, so none of its sides stands.
 abbrev pub net_of_surface : Surface → Net
-net_of_surface s = record { faces = length s.faces; from = λ e. corner_in (corners_at s (face_of e)) (e % 3) }
+net_of_surface s = record {
+  faces = length s.faces;
+  from = λ e. corner_in (corners_at s (face_of e)) (e % 3);
+}
 
 -- How many faces are still there.
 abbrev pub face_count_of : Surface → ℕ
@@ -71,6 +76,7 @@ merged_places t u place ps = slice_set (slice_set ps t None) u None ++ Some plac
 -- Vertices t and u become the next vertex, at the place; faces with two equal corners are dropped.
 abbrev pub collapsed : Surface → ℕ → ℕ → Place → Surface
 collapsed s t u place = record {
-  faces = map (λ f. option_and_then (λ k. if_distinct (merged_corners t u (next_vertex s) k)) f) s.faces;
+  faces = map (λ f. option_and_then (λ k. if_distinct (merged_corners t u (next_vertex s) k)) f)
+      s.faces;
   places = merged_places t u place s.places;
 }

@@ -1,4 +1,5 @@
-//! The theory of edge collapses and of runs of them: each function here states laws, which its check proves.
+//! The theory of edge collapses and of runs of them: each function here states laws, which its
+//! check proves.
 #![tactic(auto)]
 
 mod theory;

@@ -32,8 +32,8 @@ ghost use Rattle.pm_runs.specs.RunLaws.{
   RunsAreBuilt,
 };
 
-/// The laws of one collapse, which takes no step. Surfaces keep their soundness, twins are linked anew around the faces
-/// that go, and only what is near the two vertices changes.
+/// The laws of one collapse, which takes no step. Surfaces keep their soundness, twins are linked
+/// anew around the faces that go, and only what is near the two vertices changes.
 pub fn steps_are_sound()
     ensures meshes { MeshesAreSurfaces }
     ensures merges { CollapsesAreMerges }
@@ -52,8 +52,8 @@ pub fn steps_are_sound()
     ensures example { IsFirstCollapse }
 {}
 
-/// The laws of runs, which takes no step. A run stays a surface without doubles, its vertices keep their planes, and the
-/// run to a number of faces has one log.
+/// The laws of runs, which takes no step. A run stays a surface without doubles, its vertices keep
+/// their planes, and the run to a number of faces has one log.
 pub fn runs_are_sound()
     ensures grow { RunsGrow }
     ensures entries { EntriesAreSteps }

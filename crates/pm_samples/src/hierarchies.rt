@@ -4,7 +4,8 @@ use pm_forest::Hierarchy;
 use std::alloc::Global;
 use std::test::Fail;
 
-/// An octahedron: a closed surface of four roots, four base faces and two vertex splits with two new faces each.
+/// An octahedron: a closed surface of four roots, four base faces and two vertex splits with two
+/// new faces each.
 pub fn octahedron(alloc: Global) -> Result<Hierarchy, Fail> {
     let units = [
         Unit::Root([0, -100, 0], 1, 4),

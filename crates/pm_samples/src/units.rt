@@ -16,7 +16,8 @@ pub fn face(a: u32, b: u32, c: u32, input: u32) -> Face {
     Face { a, b, c, input }
 }
 
-/// The head of a record with places and input numbers of both children, of which the first has one leaf.
+/// The head of a record with places and input numbers of both children, of which the first has one
+/// leaf.
 pub fn head(s: u32, t: ([i32; 3], u32), u: ([i32; 3], u32), presence: u32) -> Head {
     let (t, t_input) = t;
     let (u, u_input) = u;

@@ -1,13 +1,18 @@
 -- A script of `view` without a fault does the same in `live`.
-use Rattle.std.proofs.Common.{◌≡◌, ◌≢◌, ℕ, ◌+◌, Bool, true, false, eqb, leb, cond, ◌&&◌, List, [], ◌∷◌, length, Option, Some, None, slice_index_or, inl, inr, refl, sym, ◌∙◌, ap, subst}
+use Rattle.std.proofs.Common.{◌≡◌, ◌≢◌, ℕ, ◌+◌, Bool, true, false, eqb, leb, cond, ◌&&◌, List, []}
+use Rattle.std.proofs.Common.{◌∷◌, length, Option, Some, None, slice_index_or, inl, inr, refl, sym}
+use Rattle.std.proofs.Common.{◌∙◌, ap, subst}
 use Rattle.std.proofs.lemmas.Bool.{cases_Bool, and_parts, eqb-true}
 use Rattle.obj_lines.specs.Text.{until, lines}
 use Rattle.pm_forest.specs.Forest.{Hierarchy}
 use Rattle.pm_session.specs.declared.command.Command.TheVariants as commands
 use Rattle.pm_session.specs.declared.command.ScriptFault.{ScriptFault}
 use Rattle.pm_session.specs.declared.grammar.Grammar.TheVariants as grammars
-use Rattle.pm_session.specs.Script.{is_one_letter, begins_with, begins_with_both, begins_with_three, fields_command, view_command, live_command, State, Deed, Replies, Ends, IsBad, NamesNoRecord, deed_of, line_deed}
-use Rattle.pm_session.specs.Serving.{At, Played, after_reply, is_past_script, is_script_line_long, done_line, play_line, played_from, played}
+use Rattle.pm_session.specs.Script.{is_one_letter, begins_with, begins_with_both, begins_with_three}
+use Rattle.pm_session.specs.Script.{fields_command, view_command, live_command, State, Deed}
+use Rattle.pm_session.specs.Script.{Replies, Ends, IsBad, NamesNoRecord, deed_of, line_deed}
+use Rattle.pm_session.specs.Serving.{At, Played, after_reply, is_past_script, is_script_line_long}
+use Rattle.pm_session.specs.Serving.{done_line, play_line, played_from, played}
 use Rattle.pm_session.specs.Laws.{LiveHasViewLines, LivePlaysViewScripts}
 
 and_no : (a b : Bool) → b ≡ false → a && b ≡ false
@@ -33,28 +38,49 @@ module _ (line : List ℕ) (letter : ℕ) (begins : slice_index_or line 0 0 ≡ 
 
   no_begin : (other : ℕ) → eqb letter other ≡ false → begins_with other line ≡ false
   no_begin other differs =
-      ap (λ (b : Bool). b && eqb (slice_index_or line 1 0) 32) (and_no (leb 2 (length line)) _ (ap (λ (n : ℕ). eqb n other) begins ∙ differs))
+      ap (λ (b : Bool). b && eqb (slice_index_or line 1 0) 32)
+      (and_no (leb 2 (length line)) _ (ap (λ (n : ℕ). eqb n other) begins ∙ differs))
 
-  no_both : (first second : ℕ) → eqb letter first ≡ false → begins_with_both first second line ≡ false
+  no_both : (first second : ℕ) → eqb letter first ≡ false → begins_with_both first second line
+      ≡ false
   no_both first second differs =
-      ap (λ (b : Bool). (b && eqb (slice_index_or line 1 0) second) && eqb (slice_index_or line 2 0) 32)
+      ap (λ (b : Bool). (b && eqb (slice_index_or line 1 0) second) && eqb (slice_index_or line 2 0)
+      32)
       (and_no (leb 3 (length line)) _ (ap (λ (n : ℕ). eqb n first) begins ∙ differs))
 
   other_bad : IsOther letter → view_command line ≡ commands.Bad
   unfolding view_command fields_command
   other_bad o =
-      rw (no_letter 119 o.w, no_letter 109 o.m, no_letter 116 o.t, no_letter 113 o.q, no_letter 107 o.k)
-      (rw (no_begin 115 o.s, no_begin 99 o.c, no_begin 118 o.v, no_both 118 115 o.v, no_begin 112 o.p, no_begin 103 o.g) refl)
+      rw (
+        no_letter 119 o.w,
+        no_letter 109 o.m,
+        no_letter 116 o.t,
+        no_letter 113 o.q,
+        no_letter 107 o.k,
+      )
+      (rw (
+        no_begin 115 o.s,
+        no_begin 99 o.c,
+        no_begin 118 o.v,
+        no_both 118 115 o.v,
+        no_begin 112 o.p,
+        no_begin 103 o.g,
+      ) refl)
 
 -- `vd` and `vds` stand before other bytes than those that `v` and `vs` do.
-module _ (line : List ℕ) (begins : slice_index_or line 0 0 ≡ 118) (goes_on : slice_index_or line 1 0 ≡ 100) where
-  no_second : (first second : ℕ) → eqb 100 second ≡ false → begins_with_both first second line ≡ false
+module _ (line : List ℕ) (begins : slice_index_or line 0 0 ≡ 118) (goes_on : slice_index_or line 1 0
+    ≡ 100) where
+  no_second : (first second : ℕ) → eqb 100 second ≡ false → begins_with_both first second line
+      ≡ false
   no_second first second differs =
       ap (λ (b : Bool). b && eqb (slice_index_or line 2 0) 32)
-      (and_no (leb 3 (length line) && eqb (slice_index_or line 0 0) first) _ (ap (λ (n : ℕ). eqb n second) goes_on ∙ differs))
+      (and_no (leb 3 (length line) && eqb (slice_index_or line 0 0) first) _
+      (ap (λ (n : ℕ). eqb n second) goes_on ∙ differs))
 
   v_no_begin : begins_with 118 line ≡ false
-  v_no_begin = and_no (leb 2 (length line) && eqb (slice_index_or line 0 0) 118) _ (ap (λ (n : ℕ). eqb n 32) goes_on)
+  v_no_begin =
+      and_no (leb 2 (length line) && eqb (slice_index_or line 0 0) 118) _
+      (ap (λ (n : ℕ). eqb n 32) goes_on)
 
   v_no_letter : (other : ℕ) → eqb 118 other ≡ false → is_one_letter other line ≡ false
   v_no_letter = no_letter line 118 begins
@@ -65,38 +91,95 @@ module _ (line : List ℕ) (begins : slice_index_or line 0 0 ≡ 118) (goes_on :
   by_deviation_bad : view_command line ≡ commands.Bad
   unfolding view_command fields_command
   by_deviation_bad =
-      rw (v_no_letter 119 refl, v_no_letter 109 refl, v_no_letter 116 refl, v_no_letter 113 refl, v_no_letter 107 refl)
-      (rw (v_other 115 refl, v_other 99 refl, v_no_begin, no_second 118 115 refl, v_other 112 refl, v_other 103 refl) refl)
+      rw (
+        v_no_letter 119 refl,
+        v_no_letter 109 refl,
+        v_no_letter 116 refl,
+        v_no_letter 113 refl,
+        v_no_letter 107 refl,
+      )
+      (rw (
+        v_other 115 refl,
+        v_other 99 refl,
+        v_no_begin,
+        no_second 118 115 refl,
+        v_other 112 refl,
+        v_other 103 refl,
+      ) refl)
 
-first_of_one : (letter : ℕ) (line : List ℕ) → is_one_letter letter line ≡ true → slice_index_or line 0 0 ≡ letter
+first_of_one : (letter : ℕ) (line : List ℕ) → is_one_letter letter line ≡ true
+    → slice_index_or line 0 0 ≡ letter
 first_of_one letter line is = eqb-true _ _ (and_parts _ _ is).1
 
-first_of_fields : (letter : ℕ) (line : List ℕ) → begins_with letter line ≡ true → slice_index_or line 0 0 ≡ letter
+first_of_fields : (letter : ℕ) (line : List ℕ) → begins_with letter line ≡ true
+    → slice_index_or line 0 0 ≡ letter
 first_of_fields letter line is = eqb-true _ _ (and_parts _ _ (and_parts _ _ is).0).1
 
-first_of_both : (first second : ℕ) (line : List ℕ) → begins_with_both first second line ≡ true → slice_index_or line 0 0 ≡ first
-first_of_both first second line is = eqb-true _ _ (and_parts _ _ (and_parts _ _ (and_parts _ _ is).0).0).1
+first_of_both : (first second : ℕ) (line : List ℕ) → begins_with_both first second line ≡ true
+    → slice_index_or line 0 0 ≡ first
+first_of_both first second line is =
+    eqb-true _ _ (and_parts _ _ (and_parts _ _ (and_parts _ _ is).0).0).1
 
-second_of_both : (first second : ℕ) (line : List ℕ) → begins_with_both first second line ≡ true → slice_index_or line 1 0 ≡ second
+second_of_both : (first second : ℕ) (line : List ℕ) → begins_with_both first second line ≡ true
+    → slice_index_or line 1 0 ≡ second
 second_of_both first second line is = eqb-true _ _ (and_parts _ _ (and_parts _ _ is).0).1
 
-first_of_three : (first second third : ℕ) (line : List ℕ) → begins_with_three first second third line ≡ true → slice_index_or line 0 0 ≡ first
-first_of_three first second third line is = eqb-true _ _ (and_parts _ _ (and_parts _ _ (and_parts _ _ (and_parts _ _ is).0).0).0).1
+first_of_three : (first second third : ℕ) (line : List ℕ)
+    → begins_with_three first second third line ≡ true → slice_index_or line 0 0 ≡ first
+first_of_three first second third line is =
+    eqb-true _ _ (and_parts _ _ (and_parts _ _ (and_parts _ _ (and_parts _ _ is).0).0).0).1
 
-second_of_three : (first second third : ℕ) (line : List ℕ) → begins_with_three first second third line ≡ true → slice_index_or line 1 0 ≡ second
-second_of_three first second third line is = eqb-true _ _ (and_parts _ _ (and_parts _ _ (and_parts _ _ is).0).0).1
+second_of_three : (first second third : ℕ) (line : List ℕ)
+    → begins_with_three first second third line ≡ true → slice_index_or line 1 0 ≡ second
+second_of_three first second third line is =
+    eqb-true _ _ (and_parts _ _ (and_parts _ _ (and_parts _ _ is).0).0).1
 
 is_other_d : IsOther 100
-is_other_d = record { w = refl; m = refl; t = refl; q = refl; k = refl; s = refl; c = refl; v = refl; p = refl; g = refl }
+is_other_d = record {
+  w = refl;
+  m = refl;
+  t = refl;
+  q = refl;
+  k = refl;
+  s = refl;
+  c = refl;
+  v = refl;
+  p = refl;
+  g = refl;
+}
 
 is_other_l : IsOther 108
-is_other_l = record { w = refl; m = refl; t = refl; q = refl; k = refl; s = refl; c = refl; v = refl; p = refl; g = refl }
+is_other_l = record {
+  w = refl;
+  m = refl;
+  t = refl;
+  q = refl;
+  k = refl;
+  s = refl;
+  c = refl;
+  v = refl;
+  p = refl;
+  g = refl;
+}
 
 is_other_b : IsOther 98
-is_other_b = record { w = refl; m = refl; t = refl; q = refl; k = refl; s = refl; c = refl; v = refl; p = refl; g = refl }
+is_other_b = record {
+  w = refl;
+  m = refl;
+  t = refl;
+  q = refl;
+  k = refl;
+  s = refl;
+  c = refl;
+  v = refl;
+  p = refl;
+  g = refl;
+}
 
-as_view : (line : List ℕ) → is_one_letter 100 line ≡ false → is_one_letter 108 line ≡ false → begins_with 98 line ≡ false
-    → begins_with_both 118 100 line ≡ false → begins_with_three 118 100 115 line ≡ false → live_command line ≡ view_command line
+as_view : (line : List ℕ) → is_one_letter 100 line ≡ false → is_one_letter 108 line ≡ false
+    → begins_with 98 line ≡ false
+    → begins_with_both 118 100 line ≡ false → begins_with_three 118 100 115 line ≡ false
+    → live_command line ≡ view_command line
 unfolding live_command
 as_view line not_d not_l not_b not_vd not_vds = rw (not_d, not_l, not_b, not_vd, not_vds) refl
 
@@ -109,9 +192,13 @@ live_has_view_lines line some =
         | inr not_l ↦ elim (cases_Bool (begins_with 98 line)) [
           | inl b ↦ absurd (some (other_bad line 98 (first_of_fields 98 line b) is_other_b))
           | inr not_b ↦ elim (cases_Bool (begins_with_both 118 100 line)) [
-            | inl vd ↦ absurd (some (by_deviation_bad line (first_of_both 118 100 line vd) (second_of_both 118 100 line vd)))
+            | inl vd ↦ absurd
+                (some (by_deviation_bad line (first_of_both 118 100 line vd)
+                (second_of_both 118 100 line vd)))
             | inr not_vd ↦ elim (cases_Bool (begins_with_three 118 100 115 line)) [
-              | inl vds ↦ absurd (some (by_deviation_bad line (first_of_three 118 100 115 line vds) (second_of_three 118 100 115 line vds)))
+              | inl vds ↦ absurd
+                  (some (by_deviation_bad line (first_of_three 118 100 115 line vds)
+                  (second_of_three 118 100 115 line vds)))
               | inr not_vds ↦ as_view line not_d not_l not_b not_vd not_vds
             ]
           ]
@@ -122,10 +209,12 @@ live_has_view_lines line some =
 deed_alike : (h : Hierarchy) (s : State) (line : List ℕ) → line_deed h grammars.View s line ≢ IsBad
     → line_deed h grammars.Live s line ≡ line_deed h grammars.View s line
 unfolding line_deed
-deed_alike h s line good = ap (deed_of h s) (live_has_view_lines line (λ bad. good (ap (deed_of h s) bad)))
+deed_alike h s line good =
+    ap (deed_of h s) (live_has_view_lines line (λ bad. good (ap (deed_of h s) bad)))
 
 done_alike : (s : At) (line : List ℕ) (deed : Deed) (live view : At → Played)
-    → ((t : At) → (view t).fault ≡ None → live t ≡ view t) → (done_line s line deed view).fault ≡ None
+    → ((t : At) → (view t).fault ≡ None → live t ≡ view t) → (done_line s line deed view).fault
+    ≡ None
     → done_line s line deed live ≡ done_line s line deed view
 done_alike s line (Replies reply T) live view later good = ap (after_reply reply) (later _ good)
 done_alike s line Ends live view later good = refl
@@ -134,24 +223,32 @@ done_alike s line NamesNoRecord live view later good = absurd cc
 
 play_alike : (h : Hierarchy) (s : At) (line : List ℕ) (live view : At → Played) (past long : Bool)
     → is_past_script s.bytes (length line) ≡ past → is_script_line_long line ≡ long
-    → ((t : At) → (view t).fault ≡ None → live t ≡ view t) → (play_line h grammars.View s line view).fault ≡ None
+    → ((t : At) → (view t).fault ≡ None → live t ≡ view t)
+    → (play_line h grammars.View s line view).fault ≡ None
     → play_line h grammars.Live s line live ≡ play_line h grammars.View s line view
 unfolding play_line
-play_alike h s line live view true long past_is long_is later good = let e = rw past_is at good in absurd (cc e)
-play_alike h s line live view false true past_is long_is later good = let e = rw (past_is, long_is) at good in absurd (cc e)
+play_alike h s line live view true long past_is long_is later good = let e =
+    rw past_is at good in absurd (cc e)
+play_alike h s line live view false true past_is long_is later good = let e =
+    rw (past_is, long_is) at good in absurd (cc e)
 play_alike h s line live view false false past_is long_is later good =
     let text = until 10 line in
-    let fine : (done_line s line (line_deed h grammars.View s.state text) view).fault ≡ None = rw (past_is, long_is) at good in
+    let fine : (done_line s line (line_deed h grammars.View s.state text) view).fault ≡ None =
+    rw (past_is, long_is) at good in
     let some : line_deed h grammars.View s.state text ≢ IsBad = λ bad.
-    let e : ◌≡◌ {A = Option ScriptFault} (done_line s line IsBad view).fault None = subst (λ (d : Deed). (done_line s line d view).fault ≡ None) bad fine in absurd (cc e) in
+    let e : ◌≡◌ {A = Option ScriptFault} (done_line s line IsBad view).fault None =
+    subst (λ (d : Deed). (done_line s line d view).fault ≡ None) bad fine in absurd (cc e) in
     rw (past_is, long_is)
-    (ap (λ (d : Deed). done_line s line d live) (deed_alike h s.state text some) ∙ done_alike s line (line_deed h grammars.View s.state text) live view later fine)
+    (ap (λ (d : Deed). done_line s line d live) (deed_alike h s.state text some)
+    ∙ done_alike s line (line_deed h grammars.View s.state text) live view later fine)
 
-from_alike : (h : Hierarchy) (s : At) (ls : List (List ℕ)) → (played_from h grammars.View s ls).fault ≡ None
+from_alike : (h : Hierarchy) (s : At) (ls : List (List ℕ))
+    → (played_from h grammars.View s ls).fault ≡ None
     → played_from h grammars.Live s ls ≡ played_from h grammars.View s ls
 from_alike h s [] good = refl
 from_alike h s (l ∷ ls) good =
-    play_alike h s l (λ t. played_from h grammars.Live t ls) (λ t. played_from h grammars.View t ls) _ _ refl refl (λ t fine. from_alike h t ls fine) good
+    play_alike h s l (λ t. played_from h grammars.Live t ls) (λ t. played_from h grammars.View t ls)
+    _ _ refl refl (λ t fine. from_alike h t ls fine) good
 
 pub live_plays_view_scripts : LivePlaysViewScripts
 unfolding played

@@ -1,5 +1,6 @@
 -- The level of detail, one record or node on.
-use Rattle.std.proofs.Common.{◌≡◌, ℕ, suc, ◌+◌, Bool, true, false, List, [], ◌∷◌, ◌++◌, map, filter, max, refl, sym, ap, ◌∙◌, subst, arith}
+use Rattle.std.proofs.Common.{◌≡◌, ℕ, suc, ◌+◌, Bool, true, false, List, [], ◌∷◌, ◌++◌, map, filter}
+use Rattle.std.proofs.Common.{max, refl, sym, ap, ◌∙◌, subst, arith}
 use Rattle.pm_base.specs.Counts.{numbers_below, count, one_if}
 use Rattle.pm_bounds.specs.Bounds.{greatest}
 use Rattle.pm_front.proofs.Counting.{passing_next, passing_same}
@@ -30,11 +31,14 @@ map_last f (m ∷ ns) n = ap (λ (l : List ℕ). f m ∷ l) (map_last f ns n)
 abbrev below : (ℕ → ℕ) → (ℕ → Bool) → ℕ → ℕ
 below f p k = greatest (map f (filter p (numbers_below k)))
 
-pub greatest_next : (f : ℕ → ℕ) (p : ℕ → Bool) (k n number : ℕ) → p k ≡ true → number ≡ f k → n ≡ below f p k → max number n ≡ below f p (k + 1)
+pub greatest_next : (f : ℕ → ℕ) (p : ℕ → Bool) (k n number : ℕ) → p k ≡ true → number ≡ f k
+    → n ≡ below f p k → max number n ≡ below f p (k + 1)
 greatest_next f p k n number pass is so_far =
     rw (is, so_far) (sym (greatest_last (map f (filter p (numbers_below k))) (f k)))
     ∙ ap greatest (sym (map_last f (filter p (numbers_below k)) k))
     ∙ ap (λ (l : List ℕ). greatest (map f l)) (sym (passing_next p k pass))
 
-pub greatest_same : (f : ℕ → ℕ) (p : ℕ → Bool) (k n : ℕ) → p k ≡ false → n ≡ below f p k → n ≡ below f p (k + 1)
-greatest_same f p k n fail so_far = so_far ∙ ap (λ (l : List ℕ). greatest (map f l)) (sym (passing_same p k fail))
+pub greatest_same : (f : ℕ → ℕ) (p : ℕ → Bool) (k n : ℕ) → p k ≡ false → n ≡ below f p k
+    → n ≡ below f p (k + 1)
+greatest_same f p k n fail so_far =
+    so_far ∙ ap (λ (l : List ℕ). greatest (map f l)) (sym (passing_same p k fail))

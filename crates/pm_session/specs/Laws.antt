@@ -9,7 +9,8 @@ use Rattle.pm_session.specs.Serving.{played}
 
 -- A line of more than 1,024 bytes is none of the forms.
 abbrev pub LongLinesAreBad : Type 0
-LongLinesAreBad = (grammar : Grammar) (line : List ℕ) → 1024 < length line → command_of grammar line ≡ commands.Bad
+LongLinesAreBad = (grammar : Grammar) (line : List ℕ) → 1024 < length line
+    → command_of grammar line ≡ commands.Bad
 
 -- A line of `view` asks for the same in `live`.
 abbrev pub LiveHasViewLines : Type 0

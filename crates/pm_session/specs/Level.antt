@@ -28,5 +28,6 @@ level_line nodes faces split error deviation =
 -- The reply to `l`.
 abbrev pub level_reply : Hierarchy → (ℕ → Bool) → List ℕ
 level_reply h T =
-    level_line (length (active_nodes h T)) (length (kept_faces h T)) (split_count h T) (greatest_error h T)
+    level_line (length (active_nodes h T)) (length (kept_faces h T)) (split_count h T)
+    (greatest_error h T)
     (greatest_deviation h T)

@@ -1,6 +1,8 @@
--- The script machine: what a line, and what a list of lines, does from a state: which records are split, which are
--- marked, and the budget of moves a view.
-use Rattle.std.specs.Prelude.{ℕ, ◌+◌, pos, ◌+ℤ◌, ◌-ℤ◌, ◌==◌, ◌&&◌, nat_lt, nat_le, Bool, true, false, is_none, List, [], ◌∷◌, ◌++◌, length, drop, take, slice_index_or, Option, Some, None, if◌then◌else◌, cond, codes}
+-- The script machine: what a line, and what a list of lines, does from a state: which records are
+-- split, which are marked, and the budget of moves a view.
+use Rattle.std.specs.Prelude.{ℕ, ◌+◌, pos, ◌+ℤ◌, ◌-ℤ◌, ◌==◌, ◌&&◌, nat_lt, nat_le, Bool, true}
+use Rattle.std.specs.Prelude.{false, is_none, List, [], ◌∷◌, ◌++◌, length, drop, take}
+use Rattle.std.specs.Prelude.{slice_index_or, Option, Some, None, if◌then◌else◌, cond, codes}
 use Rattle.std.specs.Option.{option_map, option_and_then}
 use Rattle.std.specs.Fmt.{decimal, signed_decimal}
 use Rattle.pm_io.specs.Digits.{unsigned_of}
@@ -48,12 +50,14 @@ is_one_letter letter line = length line == 1 && slice_index_or line 0 0 == lette
 
 -- The line begins with this letter and a space.
 abbrev pub begins_with : ℕ → List ℕ → Bool
-begins_with letter line = nat_le 2 (length line) && slice_index_or line 0 0 == letter && slice_index_or line 1 0 == 32
+begins_with letter line =
+    nat_le 2 (length line) && slice_index_or line 0 0 == letter && slice_index_or line 1 0 == 32
 
 -- The line begins with these two letters and a space.
 abbrev pub begins_with_both : ℕ → ℕ → List ℕ → Bool
 begins_with_both first second line =
-    nat_le 3 (length line) && slice_index_or line 0 0 == first && slice_index_or line 1 0 == second && slice_index_or line 2 0 == 32
+    nat_le 3 (length line) && slice_index_or line 0 0 == first && slice_index_or line 1 0 == second
+    && slice_index_or line 2 0 == 32
 
 -- The line begins with these three letters and a space.
 abbrev pub begins_with_three : ℕ → ℕ → ℕ → List ℕ → Bool
@@ -79,7 +83,8 @@ pick_by (Some ray) = commands.Pick ray
 
 -- The two unsigned numbers of 32 bits that fields spell, and those that a text spells.
 unfoldable pub two_in : List (List ℕ) → Option (ℕ × ℕ)
-two_in (a ∷ b ∷ []) = option_and_then (λ x. option_map (λ y. (x, y)) (unsigned_of 4294967295 b)) (unsigned_of 4294967295 a)
+two_in (a ∷ b ∷ []) = option_and_then (λ x. option_map (λ y. (x, y)) (unsigned_of 4294967295 b))
+    (unsigned_of 4294967295 a)
 two_in _ = None
 
 abbrev pub two_of : List ℕ → Option (ℕ × ℕ)
@@ -97,9 +102,9 @@ morph_by (Some part) = commands.Morph part.0 part.1
 abbrev pub number_in : List ℕ → Option ℕ
 number_in line = unsigned_of 4294967295 (drop 2 line)
 
--- A line with fields: `s K`, `c K` or `g A B` with one space between fields, and K, A and B unsigned numbers of 32 bits; `v`,
--- a space and the fields of a plain view; `vs`, a space and those of a view with outlines; or `p`, a space and the fields of
--- a ray.
+-- A line with fields: `s K`, `c K` or `g A B` with one space between fields, and K, A and B
+-- unsigned numbers of 32 bits; `v`, a space and the fields of a plain view; `vs`, a space and those
+-- of a view with outlines; or `p`, a space and the fields of a ray.
 unfoldable pub fields_command : List ℕ → Command
 fields_command line =
     if begins_with 115 line then split_of (number_in line)
@@ -120,15 +125,17 @@ view_command line =
     else if is_one_letter 107 line then commands.Mark
     else fields_command line
 
--- A line of `live`: `d`, `l`, `b N` with N an unsigned number of 32 bits, `vd` and `vds` with the fields of `v` and `vs`, or
--- a line of `view`.
+-- A line of `live`: `d`, `l`, `b N` with N an unsigned number of 32 bits, `vd` and `vds` with the
+-- fields of `v` and `vs`, or a line of `view`.
 unfoldable pub live_command : List ℕ → Command
 live_command line =
     if is_one_letter 100 line then commands.Change
     else if is_one_letter 108 line then commands.Level
     else if begins_with 98 line then budget_by (number_in line)
-    else if begins_with_both 118 100 line then look_of (option_map by_deviation (view_of kinds.Plain (drop 3 line)))
-    else if begins_with_three 118 100 115 line then look_of (option_map by_deviation (view_of kinds.Outline (drop 4 line)))
+    else if begins_with_both 118 100 line then
+    look_of (option_map by_deviation (view_of kinds.Plain (drop 3 line)))
+    else if begins_with_three 118 100 115 line then
+    look_of (option_map by_deviation (view_of kinds.Outline (drop 4 line)))
     else view_command line
 
 -- What a line asks for.
@@ -158,32 +165,36 @@ after_collapse h T k = cond (is_none (collapse_fault h T k)) (without T k) T
 -- The reply to a view: `settled MOVES`, or `spent MOVES LEFT`.
 unfoldable pub view_reply : Adapted → List ℕ
 view_reply (adapted.Settled moves) = codes "settled " ++ decimal moves ++ codes "\n"
-view_reply (adapted.Spent moves left) = codes "spent " ++ decimal moves ++ codes " " ++ decimal left ++ codes "\n"
+view_reply (adapted.Spent moves left) = codes "spent " ++ decimal moves ++ codes " " ++ decimal left
+    ++ codes "\n"
 
 -- The line of these nodes, edges, faces and loops, with the Euler number; and the reply to `m`.
 unfoldable pub shape_line : ℕ → ℕ → ℕ → ℕ → List ℕ
 shape_line nodes edges faces loops =
-    codes "shape " ++ decimal nodes ++ codes " " ++ decimal edges ++ codes " " ++ decimal faces ++ codes " loops " ++ decimal loops
+    codes "shape " ++ decimal nodes ++ codes " " ++ decimal edges ++ codes " " ++ decimal faces
+    ++ codes " loops " ++ decimal loops
     ++ codes " euler " ++ signed_decimal (pos nodes -ℤ pos edges +ℤ pos faces) ++ codes "\n"
 
 unfoldable pub shape_reply : Hierarchy → (ℕ → Bool) → List ℕ
 shape_reply h T = shape_line (nodes_shown h T) (edges_shown h T) (faces_shown h T) (loops_shown h T)
 
--- The reply to a ray, by the first hit: `hit FACE S Q`, where it stands at the fraction S / Q of the ray's way, or `miss`.
+-- The reply to a ray, by the first hit: `hit FACE S Q`, where it stands at the fraction S / Q of
+-- the ray's way, or `miss`.
 unfoldable pub pick_reply : Option Hit → List ℕ
 pick_reply None = codes "miss\n"
-pick_reply (Some hit) = codes "hit " ++ decimal hit.face.0 ++ codes " " ++ decimal hit.s ++ codes " " ++ decimal hit.q ++ codes "\n"
+pick_reply (Some hit) = codes "hit " ++ decimal hit.face.0 ++ codes " " ++ decimal hit.s
+    ++ codes " " ++ decimal hit.q ++ codes "\n"
 
--- What is answered to a view, and the split records after it: the first moves of its plan are made, as many as the budget
--- allows.
+-- What is answered to a view, and the split records after it: the first moves of its plan are made,
+-- as many as the budget allows.
 unfoldable pub adapted_to : Hierarchy → ℕ → (ℕ → Bool) → View → Adapted
 adapted_to h budget T view = adapted_of budget (length (view_plan h T view))
 
 unfoldable pub after_view : Hierarchy → ℕ → (ℕ → Bool) → View → ℕ → Bool
 after_view h budget T view = moved_by T (take budget (view_plan h T view))
 
--- The state: which records are split, which are marked, and the budget of moves a view. At first no record is split and
--- none is marked.
+-- The state: which records are split, which are marked, and the budget of moves a view. At first no
+-- record is split and none is marked.
 pub record State : Type 0 where
   pub split : ℕ → Bool
   pub marked : ℕ → Bool
@@ -231,12 +242,21 @@ deed_of h s commands.Measure = Replies (shape_reply h s.split) s
 deed_of h s commands.Strip = Replies (strips_text h s.split) s
 deed_of h s commands.Quit = Ends
 deed_of h s commands.Bad = IsBad
-deed_of h s (commands.Split k) = if nat_lt k (record_count h) then Replies (reply_to (split_fault h s.split k)) (now_split s (after_split h s.split k)) else NamesNoRecord
-deed_of h s (commands.Collapse k) = if nat_lt k (record_count h) then Replies (reply_to (collapse_fault h s.split k)) (now_split s (after_collapse h s.split k)) else NamesNoRecord
-deed_of h s (commands.Look view) = Replies (view_reply (adapted_to h s.budget s.split view)) (now_split s (after_view h s.budget s.split view))
+deed_of h s (commands.Split k) =
+    if nat_lt k (record_count h) then
+    Replies (reply_to (split_fault h s.split k)) (now_split s (after_split h s.split k))
+    else NamesNoRecord
+deed_of h s (commands.Collapse k) =
+    if nat_lt k (record_count h) then
+    Replies (reply_to (collapse_fault h s.split k)) (now_split s (after_collapse h s.split k))
+    else NamesNoRecord
+deed_of h s (commands.Look view) =
+    Replies (view_reply (adapted_to h s.budget s.split view))
+    (now_split s (after_view h s.budget s.split view))
 deed_of h s (commands.Pick ray) = Replies (pick_reply (pick_of h ray)) s
 deed_of h s commands.Mark = Replies (reply_to None) (now_marked s)
-deed_of h s (commands.Morph a b) = if is_fraction a b then Replies (morph_reply h s.marked s.split a b) s else IsBad
+deed_of h s (commands.Morph a b) =
+    if is_fraction a b then Replies (morph_reply h s.marked s.split a b) s else IsBad
 deed_of h s (commands.Budget moves) = Replies (reply_to None) (with_budget s moves)
 deed_of h s commands.Level = Replies (level_reply h s.split) s
 deed_of h s commands.Change = Replies (change_text h s.marked s.split) (now_marked s)
@@ -259,8 +279,9 @@ done_by n Ends later = record { text = []; fault = None }
 done_by n IsBad later = record { text = []; fault = Some (faults.BadLine n) }
 done_by n NamesNoRecord later = record { text = []; fault = Some (faults.NoRecord n) }
 
--- What the lines of a script do from state s, the first of which has the number n: `q` ends the script, and so does the
--- first line that is none of the forms of its grammar or names no record.
+-- What the lines of a script do from state s, the first of which has the number n: `q` ends the
+-- script, and so does the first line that is none of the forms of its grammar or names no record.
 unfoldable pub ran : Hierarchy → Grammar → State → ℕ → List (List ℕ) → ScriptRun
 ran h grammar s n [] = record { text = []; fault = None }
-ran h grammar s n (line ∷ lines) = done_by n (line_deed h grammar s line) (λ later. ran h grammar later (n + 1) lines)
+ran h grammar s n (line ∷ lines) =
+    done_by n (line_deed h grammar s line) (λ later. ran h grammar later (n + 1) lines)

@@ -17,8 +17,9 @@ use Rattle.pm_session.specs.declared.ending.LineFail.{LineFail}
 use Rattle.pm_session.specs.declared.ending.LineFail.TheVariants as fails
 use Rattle.pm_session.specs.Script.{State, Deed, Replies, Ends, IsBad, NamesNoRecord}
 
--- The hierarchy that is shown, which lines a script may have, a flag for each record that is set where it is split, a mark
--- for each that is set where it is marked, and the budget of moves a view.
+-- The hierarchy that is shown, which lines a script may have, a flag for each record that is set
+-- where it is split, a mark for each that is set where it is marked, and the budget of moves a
+-- view.
 pub record Shown : Type 0 where
   pub h : Hierarchy
   pub grammar : Grammar
@@ -30,8 +31,9 @@ pub record Shown : Type 0 where
 abbrev pub state_of : Shown → State
 state_of s = record { split = set_of s.flags; marked = set_of s.marks; budget = s.budget }
 
--- What the tools of a session have: the measures of nodes, for how many records there is room, for how many sides there is a
--- mark, the lists of the faces at each leaf, for how many faces there is a flag, and how large the sets of a change are.
+-- What the tools of a session have: the measures of nodes, for how many records there is room, for
+-- how many sides there is a mark, the lists of the faces at each leaf, for how many faces there is
+-- a flag, and how large the sets of a change are.
 pub record Toolbox : Type 0 where
   pub measures : Measures
   pub room : ℕ
@@ -55,15 +57,19 @@ HasItsMeasures grammars.View measures = Unit {0}
 HasItsMeasures grammars.Live measures = has_deviations measures ≡ true
 
 -- The tools and the marks are those of the hierarchy, and the tools serve the script.
-pub record IsFitting (h : Hierarchy) (grammar : Grammar) (tools : Toolbox) (marks : List Bool) : Type 0 where
+pub record IsFitting (h : Hierarchy) (grammar : Grammar) (tools : Toolbox) (marks : List Bool) :
+    Type 0 where
   pub tools_fit : AreToolsOf h tools
   pub tools_serve : HasItsMeasures grammar tools.measures
   pub marks_fit : AreMarksOf h marks
 
--- How a line ends, by its deed: `before` and `after` are the states, and `old` and `new` what the sink had taken.
-abbrev pub LineEnds : Deed → Result Next LineFail → State → State → Option (List ℕ) → Option (List ℕ) → Type 0
+-- How a line ends, by its deed: `before` and `after` are the states, and `old` and `new` what the
+-- sink had taken.
+abbrev pub LineEnds : Deed → Result Next LineFail → State → State → Option (List ℕ)
+    → Option (List ℕ) → Type 0
 LineEnds (Replies reply s) (Ok nexts.More) before after old new = (after ≡ s) × Gains old new reply
-LineEnds (Replies reply s) (Err fails.Write) before after old new = (after ≡ s) × GainsPart old new reply
+LineEnds (Replies reply s) (Err fails.Write) before after old new = (after ≡ s)
+    × GainsPart old new reply
 LineEnds Ends (Ok nexts.Quit) before after old new = (after ≡ before) × (new ≡ old)
 LineEnds IsBad (Err fails.BadLine) before after old new = (after ≡ before) × (new ≡ old)
 LineEnds NamesNoRecord (Err fails.NoRecord) before after old new = (after ≡ before) × (new ≡ old)

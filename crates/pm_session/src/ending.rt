@@ -10,7 +10,8 @@ pub enum Next {
     Quit,
 }
 
-/// Why a line isn't done whole: it is none of the forms, it names no record, or its reply couldn't be put.
+/// Why a line isn't done whole: it is none of the forms, it names no record, or its reply couldn't
+/// be put.
 #[derive(Clone, Copy, Debug, PartialEq, Eq)]
 pub enum LineFail {
     BadLine,

@@ -3,15 +3,16 @@ ghost use Rattle.std.specs.Prelude.{◌≡◌, true, length};
 ghost use Rattle.pm_base.specs.Counts.{set_of};
 ghost use Rattle.pm_front.specs.Shown.{active_nodes, kept_faces};
 ghost use Rattle.pm_deviation.specs.Deviations.{AreMeasuresOf, has_deviations};
-ghost use Rattle.pm_session.specs.Level.{split_count, greatest_error, greatest_deviation, level_line};
+ghost use Rattle.pm_session.specs.Level.{split_count, greatest_error, greatest_deviation};
+ghost use Rattle.pm_session.specs.Level.{level_line};
 
 use pm_base::NodeId;
 use pm_deviation::Measures;
 use pm_front::Front;
 use pm_io::Line;
 
-/// The level of detail that a front shows: how many nodes and faces, how many records are split, and the greatest error
-/// and the greatest deviation of a node, in units.
+/// The level of detail that a front shows: how many nodes and faces, how many records are split,
+/// and the greatest error and the greatest deviation of a node, in units.
 #[derive(Clone, Copy, Debug, PartialEq, Eq)]
 pub(crate) struct Level {
     pub nodes: u32,
@@ -89,7 +90,8 @@ pub(crate) fn level_of(front: &Front, measures: &Measures) -> Level
 /// The line that replies to `l`.
 #[tactic(auto, unfolding(crate::specs::Level::level_line))]
 pub(crate) fn put_level(line: &mut Line, level: Level)
-    ensures { line.new ≡ level_line level.nodes level.faces level.split level.error level.deviation }
+    ensures { line.new ≡ level_line level.nodes level.faces level.split level.error
+        level.deviation }
 {
     line.clear();
     line.add(b"level ");

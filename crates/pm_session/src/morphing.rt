@@ -49,9 +49,11 @@ pub(crate) fn put_morph<K: Sink>(
 ) -> Result<(), WriteFault>
     requires made { AreMarksOf front.now.h marker.old }
     requires fraction { is_fraction a b ≡ true }
-    ensures ok { let text = morph_reply front.now.h (set_of marker.old) (set_of front.now.flags) a b in
+    ensures ok { let text =
+        morph_reply front.now.h (set_of marker.old) (set_of front.now.flags) a b in
         OnOk result (Gains (K.got out.old) (K.got out.new) text) }
-    ensures err { let text = morph_reply front.now.h (set_of marker.old) (set_of front.now.flags) a b in
+    ensures err { let text = morph_reply front.now.h (set_of marker.old) (set_of front.now.flags) a
+        b in
         OnErr result (GainsPart (K.got out.old) (K.got out.new) text) }
     ensures count { OnOk result (K.faults out.new ≡ K.faults out.old) }
     ensures rose { OnErr result (Rose (K.faults out.old) (K.faults out.new)) }

@@ -50,8 +50,8 @@ use pm_view::View;
 use std::alloc::Global;
 use std::marker::Model;
 
-/// A hierarchy that is being shown. Contracts see it, which lines a script may have, which records are split and which are
-/// marked, and the budget of moves a view.
+/// A hierarchy that is being shown. Contracts see it, which lines a script may have, which records
+/// are split and which are marked, and the budget of moves a view.
 #[derive(Drop)]
 pub struct Session {
     grammar: Grammar,
@@ -66,14 +66,20 @@ impl Model for Session {
 
     ghost Value = { Shown };
 
-    ghost view = { λ s. record { h = s.front.h; grammar = s.grammar; flags = s.front.flags; marks = s.marker; budget = s.budget } };
+    ghost view = { λ s. record {
+      h = s.front.h;
+      grammar = s.grammar;
+      flags = s.front.flags;
+      marks = s.marker;
+      budget = s.budget;
+    } };
 
     ghost invariant = { λ s. IsFitting s.front.h s.grammar s.tools s.marker };
 }
 
 impl Session {
-    /// A session that shows the base front of a valid hierarchy. It is refused as `open_front` says. All the memory that
-    /// a script can want is taken here.
+    /// A session that shows the base front of a valid hierarchy. It is refused as `open_front`
+    /// says. All the memory that a script can want is taken here.
     #[tactic(auto, using(pm_forest::proofs::Flags::none_set))]
     pub fn start(
         alloc: Global,
@@ -81,7 +87,8 @@ impl Session {
         grammar: Grammar,
         budget: u32,
     ) -> Result<Session, LoadFail>
-        ensures shown { IfOk result (λ s. (s.h ≡ h) × (s.grammar ≡ grammar) × (state_of s ≡ at_first budget)) }
+        ensures shown { IfOk result (λ s. (s.h ≡ h) × (s.grammar ≡ grammar)
+            × (state_of s ≡ at_first budget)) }
         ensures valid { OnOk result (IsValid h) }
         ensures fault { IfErr result (IsLoadFault h) }
         ensures refused { IfErr result (λ e. e ≢ LoadFail.OutOfMemory → IsValid h → ⊥) }
@@ -105,7 +112,8 @@ impl Session {
 
     // Writes the frame.
     fn show<K: Sink>(&self, out: &mut K) -> Result<(), WriteFault>
-        ensures { Puts K.Sink out.old out.new (frame_text self.now.h (set_of self.now.flags)) result }
+        ensures { Puts K.Sink out.old out.new (frame_text self.now.h (set_of self.now.flags))
+            result }
     {
         write_frame(&self.front, out)
     }
@@ -113,7 +121,8 @@ impl Session {
     // What a line asks for.
     fn command(&self, text: &[u8]) -> Command
         ensures value { result ≡ command_of self.now.grammar text.now }
-        ensures views { (view : Seen) → result ≡ Command.Look view → has_measure self.now.grammar view.measure ≡ true }
+        ensures views { (view : Seen) → result ≡ Command.Look view
+            → has_measure self.now.grammar view.measure ≡ true }
         ensures levels { result ≡ Command.Level → self.now.grammar ≡ Grammar.Live }
     {
         command_of(self.grammar, text)
@@ -132,7 +141,8 @@ impl Session {
         requires { k < record_count self.old.h }
         ensures answer { result ≡ split_fault self.old.h (set_of self.old.flags) k }
         ensures after { set_of self.new.flags ≡ after_split self.old.h (set_of self.old.flags) k }
-        ensures same { (self.new.h ≡ self.old.h) × (self.new.grammar ≡ self.old.grammar) × (self.new.marks ≡ self.old.marks) × (self.new.budget ≡ self.old.budget) }
+        ensures same { (self.new.h ≡ self.old.h) × (self.new.grammar ≡ self.old.grammar)
+            × (self.new.marks ≡ self.old.marks) × (self.new.budget ≡ self.old.budget) }
     {
         match self.front.split(k) {
             Ok(()) => None,
@@ -145,8 +155,10 @@ impl Session {
     fn collapse(&mut self, k: u32) -> Option<MoveFault>
         requires { k < record_count self.old.h }
         ensures answer { result ≡ collapse_fault self.old.h (set_of self.old.flags) k }
-        ensures after { set_of self.new.flags ≡ after_collapse self.old.h (set_of self.old.flags) k }
-        ensures same { (self.new.h ≡ self.old.h) × (self.new.grammar ≡ self.old.grammar) × (self.new.marks ≡ self.old.marks) × (self.new.budget ≡ self.old.budget) }
+        ensures after { set_of self.new.flags ≡ after_collapse self.old.h (set_of self.old.flags)
+            k }
+        ensures same { (self.new.h ≡ self.old.h) × (self.new.grammar ≡ self.old.grammar)
+            × (self.new.marks ≡ self.old.marks) × (self.new.budget ≡ self.old.budget) }
     {
         match self.front.collapse(k) {
             Ok(()) => None,
@@ -158,9 +170,12 @@ impl Session {
     #[tactic(auto, using(crate::proofs::MeasureLaws::has_enough))]
     fn look(&mut self, view: &View) -> Adapted
         requires { has_measure self.old.grammar view.now.measure ≡ true }
-        ensures answer { result ≡ adapted_to self.old.h self.old.budget (set_of self.old.flags) view.now }
-        ensures after { set_of self.new.flags ≡ after_view self.old.h self.old.budget (set_of self.old.flags) view.now }
-        ensures same { (self.new.h ≡ self.old.h) × (self.new.grammar ≡ self.old.grammar) × (self.new.marks ≡ self.old.marks) × (self.new.budget ≡ self.old.budget) }
+        ensures answer { result ≡ adapted_to self.old.h self.old.budget (set_of self.old.flags)
+            view.now }
+        ensures after { set_of self.new.flags
+            ≡ after_view self.old.h self.old.budget (set_of self.old.flags) view.now }
+        ensures same { (self.new.h ≡ self.old.h) × (self.new.grammar ≡ self.old.grammar)
+            × (self.new.marks ≡ self.old.marks) × (self.new.budget ≡ self.old.budget) }
     {
         self.tools.adapt(&mut self.front, view, self.budget)
     }
@@ -175,7 +190,8 @@ impl Session {
     // Writes the measure.
     #[tactic(auto, unfolding(crate::specs::Script::shape_reply))]
     fn measure<K: Sink>(&mut self, out: &mut K) -> Result<(), WriteFault>
-        ensures puts { Puts K.Sink out.old out.new (shape_reply self.old.h (set_of self.old.flags)) result }
+        ensures puts { Puts K.Sink out.old out.new (shape_reply self.old.h (set_of self.old.flags))
+            result }
         ensures same { self.new ≡ self.old }
     {
         let measure = self.tools.measure(&self.front);
@@ -187,7 +203,8 @@ impl Session {
     // Writes the level of detail, in a script of `live`.
     fn level<K: Sink>(&self, out: &mut K) -> Result<(), WriteFault>
         requires { self.now.grammar ≡ Grammar.Live }
-        ensures { Puts K.Sink out.old out.new (level_reply self.now.h (set_of self.now.flags)) result }
+        ensures { Puts K.Sink out.old out.new (level_reply self.now.h (set_of self.now.flags))
+            result }
     {
         let level = self.tools.level(&self.front);
         let mut line = Line::new();
@@ -197,7 +214,8 @@ impl Session {
 
     // Writes the strips.
     fn strip<K: Sink>(&mut self, out: &mut K) -> Result<(), WriteFault>
-        ensures puts { Puts K.Sink out.old out.new (strips_text self.old.h (set_of self.old.flags)) result }
+        ensures puts { Puts K.Sink out.old out.new (strips_text self.old.h (set_of self.old.flags))
+            result }
         ensures same { self.new ≡ self.old }
     {
         self.tools.write_strips(&self.front, out)
@@ -206,17 +224,20 @@ impl Session {
     // Marks the split records.
     fn mark(&mut self)
         ensures marked { set_of self.new.marks ≡ set_of self.old.flags }
-        ensures same { (self.new.h ≡ self.old.h) × (self.new.grammar ≡ self.old.grammar) × (self.new.flags ≡ self.old.flags) × (self.new.budget ≡ self.old.budget) }
+        ensures same { (self.new.h ≡ self.old.h) × (self.new.grammar ≡ self.old.grammar)
+            × (self.new.flags ≡ self.old.flags) × (self.new.budget ≡ self.old.budget) }
     {
         self.marker.mark(&self.front);
     }
 
     // Writes what changed since the marked front, and marks the front as it stands.
     fn change<K: Sink>(&mut self, out: &mut K) -> Result<(), WriteFault>
-        ensures puts { let text = change_text self.old.h (set_of self.old.marks) (set_of self.old.flags) in
+        ensures puts { let text =
+            change_text self.old.h (set_of self.old.marks) (set_of self.old.flags) in
             Puts K.Sink out.old out.new text result }
         ensures marked { set_of self.new.marks ≡ set_of self.old.flags }
-        ensures same { (self.new.h ≡ self.old.h) × (self.new.grammar ≡ self.old.grammar) × (self.new.flags ≡ self.old.flags) × (self.new.budget ≡ self.old.budget) }
+        ensures same { (self.new.h ≡ self.old.h) × (self.new.grammar ≡ self.old.grammar)
+            × (self.new.flags ≡ self.old.flags) × (self.new.budget ≡ self.old.budget) }
     {
         let told = self
             .tools
@@ -228,17 +249,21 @@ impl Session {
     // Sets the budget of moves a view.
     fn set_budget(&mut self, moves: u32)
         ensures budget { self.new.budget ≡ moves }
-        ensures same { (self.new.h ≡ self.old.h) × (self.new.grammar ≡ self.old.grammar) × (self.new.flags ≡ self.old.flags) × (self.new.marks ≡ self.old.marks) }
+        ensures same { (self.new.h ≡ self.old.h) × (self.new.grammar ≡ self.old.grammar)
+            × (self.new.flags ≡ self.old.flags) × (self.new.marks ≡ self.old.marks) }
     {
         self.budget = moves;
     }
 
-    // Writes the geomorph at a/b of the way from the marked front, or which marked record isn't split.
+    // Writes the geomorph at a/b of the way from the marked front, or which marked record isn't
+    // split.
     fn morph<K: Sink>(&mut self, a: u32, b: u32, out: &mut K) -> Result<(), WriteFault>
         requires { is_fraction a b ≡ true }
-        ensures ok { let text = morph_reply self.old.h (set_of self.old.marks) (set_of self.old.flags) a b in
+        ensures ok { let text =
+            morph_reply self.old.h (set_of self.old.marks) (set_of self.old.flags) a b in
             OnOk result (Gains (K.got out.old) (K.got out.new) text) }
-        ensures err { let text = morph_reply self.old.h (set_of self.old.marks) (set_of self.old.flags) a b in
+        ensures err { let text =
+            morph_reply self.old.h (set_of self.old.marks) (set_of self.old.flags) a b in
             OnErr result (GainsPart (K.got out.old) (K.got out.new) text) }
         ensures count { OnOk result (K.faults out.new ≡ K.faults out.old) }
         ensures rose { OnErr result (Rose (K.faults out.old) (K.faults out.new)) }
@@ -247,13 +272,15 @@ impl Session {
         put_morph(&mut self.marker, &self.front, a, b, out)
     }
 
-    /// Does one script line, which is given without its LF, and writes its whole reply. BadLine comes exactly where the
-    /// line is none of the forms, and NoRecord exactly where it names a record that isn't there; nothing is changed or
-    /// written then. Write comes only where the sink failed: the line's move stands, and the sink gained a part of the
-    /// reply from its front, and not the whole. It takes no memory.
+    /// Does one script line, which is given without its LF, and writes its whole reply. BadLine
+    /// comes exactly where the line is none of the forms, and NoRecord exactly where it names a
+    /// record that isn't there; nothing is changed or written then. Write comes only where the sink
+    /// failed: the line's move stands, and the sink gained a part of the reply from its front, and
+    /// not the whole. It takes no memory.
     pub fn line<K: Sink>(&mut self, text: &[u8], out: &mut K) -> Result<Next, LineFail>
         ensures ends { let s = state_of self.old in
-            LineEnds (line_deed self.old.h self.old.grammar s text.now) result s (state_of self.new) (K.got out.old) (K.got out.new) }
+            LineEnds (line_deed self.old.h self.old.grammar s text.now) result s (state_of self.new)
+            (K.got out.old) (K.got out.new) }
         ensures counts { LineCounts result (K.faults out.old) (K.faults out.new) }
         ensures same { (self.new.h ≡ self.old.h) × (self.new.grammar ≡ self.old.grammar) }
         ensures refused { IfErr result (λ e. (e ≡ LineFail.Write → ⊥) → self.new ≡ self.old) }

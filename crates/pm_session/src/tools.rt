@@ -36,8 +36,9 @@ use std::alloc::{AllocError, Global};
 use std::marker::{Brand, Model};
 use std::sync::ledger::{Blank, Ledger};
 
-/// The tools of a session: the measures of the nodes, and what adapts fronts to views, measures the mesh that a front shows,
-/// picks faces, and writes strips and changes. `new` takes all the memory that they want.
+/// The tools of a session: the measures of the nodes, and what adapts fronts to views, measures the
+/// mesh that a front shows, picks faces, and writes strips and changes. `new` takes all the memory
+/// that they want.
 #[derive(Drop)]
 pub(crate) struct Tools {
     measures: Measures,
@@ -53,7 +54,14 @@ impl Model for Tools {
 
     ghost Value = { Toolbox };
 
-    ghost view = { λ t. record { measures = t.measures; room = t.refiner; marks = t.tracer; lists = t.picker; flags = t.stripper; sets = t.changer } };
+    ghost view = { λ t. record {
+      measures = t.measures;
+      room = t.refiner;
+      marks = t.tracer;
+      lists = t.picker;
+      flags = t.stripper;
+      sets = t.changer;
+    } };
 }
 
 // What views of a script of this grammar are judged by: a script of `view` has none by deviation.
@@ -84,7 +92,8 @@ fn adapt<L: Ledger>(
     requires parts { blank.parts ≡ L.parts }
     requires some { 0 < L.parts }
     ensures answer { result ≡ adapted_to front.old.h budget (set_of front.old.flags) view.now }
-    ensures after { set_of front.new.flags ≡ after_view front.old.h budget (set_of front.old.flags) view.now }
+    ensures after { set_of front.new.flags ≡ after_view front.old.h budget (set_of front.old.flags)
+        view.now }
     ensures hierarchy { front.new.h ≡ front.old.h }
     ensures same { refiner.new ≡ refiner.old }
 {
@@ -118,9 +127,11 @@ impl Tools {
     /// Adapts a front to a view, in at most `budget` moves.
     pub(crate) fn adapt(&mut self, front: &mut Front, view: &View, budget: u32) -> Adapted
         requires tools { AreToolsOf front.old.h self.old }
-        requires enough { view.now.measure ≡ judges.Deviation → has_deviations self.old.measures ≡ true }
+        requires enough { view.now.measure ≡ judges.Deviation
+            → has_deviations self.old.measures ≡ true }
         ensures answer { result ≡ adapted_to front.old.h budget (set_of front.old.flags) view.now }
-        ensures after { set_of front.new.flags ≡ after_view front.old.h budget (set_of front.old.flags) view.now }
+        ensures after { set_of front.new.flags
+            ≡ after_view front.old.h budget (set_of front.old.flags) view.now }
         ensures hierarchy { front.new.h ≡ front.old.h }
         ensures same { self.new ≡ self.old }
     {
@@ -149,7 +160,8 @@ impl Tools {
         ensures edges { result.edges ≡ edges_shown front.now.h (set_of front.now.flags) }
         ensures faces { result.faces ≡ faces_shown front.now.h (set_of front.now.flags) }
         ensures loops { result.loops ≡ loops_shown front.now.h (set_of front.now.flags) }
-        ensures few { (result.nodes ≤ MOST_NODES) × (result.edges ≤ MOST_SIDES) × (result.faces ≤ MOST_FACES) }
+        ensures few { (result.nodes ≤ MOST_NODES) × (result.edges ≤ MOST_SIDES)
+            × (result.faces ≤ MOST_FACES) }
         ensures same { self.new ≡ self.old }
     {
         self.tracer.measure(front)
@@ -163,7 +175,8 @@ impl Tools {
         ensures faces { result.faces ≡ length (kept_faces front.now.h (set_of front.now.flags)) }
         ensures split { result.split ≡ split_count front.now.h (set_of front.now.flags) }
         ensures error { result.error ≡ greatest_error front.now.h (set_of front.now.flags) }
-        ensures deviation { result.deviation ≡ greatest_deviation front.now.h (set_of front.now.flags) }
+        ensures deviation { result.deviation
+            ≡ greatest_deviation front.now.h (set_of front.now.flags) }
     {
         level_of(front, &self.measures)
     }
@@ -175,7 +188,8 @@ impl Tools {
         out: &mut K,
     ) -> Result<(), WriteFault>
         requires { AreToolsOf front.now.h self.old }
-        ensures puts { Puts K.Sink out.old out.new (strips_text front.now.h (set_of front.now.flags)) result }
+        ensures puts { Puts K.Sink out.old out.new
+            (strips_text front.now.h (set_of front.now.flags)) result }
         ensures same { self.new ≡ self.old }
     {
         self.stripper.write_strips(front, out)
@@ -190,7 +204,8 @@ impl Tools {
     ) -> Result<(), WriteFault>
         requires tools { AreToolsOf front.now.h self.old }
         requires marks { AreMarksOf front.now.h marks.now }
-        ensures puts { let text = change_text front.now.h (set_of marks.now) (set_of front.now.flags) in
+        ensures puts { let text =
+            change_text front.now.h (set_of marks.now) (set_of front.now.flags) in
             Puts K.Sink out.old out.new text result }
         ensures same { self.new ≡ self.old }
     {

@@ -1,4 +1,5 @@
--- for callers: the numbers of a range that pass a test, the flags after each call, and what the answers of a search say
+-- for callers: the numbers of a range that pass a test, the flags after each call, and what the
+-- answers of a search say
 pub mod Ranges
 pub mod FlagLaws
 pub mod OrderLaws

@@ -1,5 +1,6 @@
 -- Flags in words of 64 bits: the flag of number j is bit j % 64 of word j / 64.
-use Rattle.std.specs.Prelude.{◌≡◌, ℕ, ◌+◌, ◌*◌, ◌/◌, ◌%◌, ◌<◌, ◌≤◌, ◌==◌, ◌↔◌, Bool, false, List, length, map, slice_index_or}
+use Rattle.std.specs.Prelude.{◌≡◌, ℕ, ◌+◌, ◌*◌, ◌/◌, ◌%◌, ◌<◌, ◌≤◌, ◌==◌, ◌↔◌, Bool, false, List}
+use Rattle.std.specs.Prelude.{length, map, slice_index_or}
 use Rattle.std.specs.List.{range_with_len}
 use Rattle.std.specs.Int.{bit_at}
 use Rattle.pm_base.specs.Counts.{set_of}
@@ -22,8 +23,8 @@ flag_in words j = has_bit (slice_index_or words (j / 64) 0) (j % 64)
 abbrev pub flags_in : List ℕ → ℕ → List Bool
 flags_in words n = map (flag_in words) (range_with_len 0 n)
 
--- A word for each 64 numbers below the bound, and one in which the bound itself would lie; no number from the bound on has a
--- flag.
+-- A word for each 64 numbers below the bound, and one in which the bound itself would lie; no
+-- number from the bound on has a flag.
 pub record AreWords (bound : ℕ) (words : List ℕ) : Type 0 where
   pub few : bound ≤ BOUND_LIMIT
   pub blocks : length words ≡ bound / 64 + 1
@@ -33,4 +34,5 @@ pub record AreWords (bound : ℕ) (words : List ℕ) : Type 0 where
 pub record AreBlocks (numbers blocks : List Bool) : Type 0 where
   pub few : length numbers ≤ BOUND_LIMIT
   pub long : length blocks ≡ length numbers / 64 + 1
-  pub each : (b : ℕ) → b < length blocks → (set_of blocks b ≡ false) ↔ IsGap numbers (64 * b) (64 * b + 64)
+  pub each : (b : ℕ) → b < length blocks → (set_of blocks b ≡ false)
+      ↔ IsGap numbers (64 * b) (64 * b + 64)

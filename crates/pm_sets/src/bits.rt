@@ -1,5 +1,6 @@
 //! A list of flags, 64 in a word, and searches in it.
-ghost use Rattle.std.specs.Prelude.{◌≡◌, ℕ, ◌+◌, ◌*◌, ◌/◌, ◌<◌, ◌≤◌, ◌↔◌, true, false, length, replicate, slice_set, IfOk, IfSome, IfNone};
+ghost use Rattle.std.specs.Prelude.{◌≡◌, ℕ, ◌+◌, ◌*◌, ◌/◌, ◌<◌, ◌≤◌, ◌↔◌, true, false, length};
+ghost use Rattle.std.specs.Prelude.{replicate, slice_set, IfOk, IfSome, IfNone};
 ghost use Rattle.pm_base.specs.Counts.{set_of};
 ghost use Rattle.pm_sets.specs.Sets.{IsEmptySet, IsGap, IsFirst, IsLast};
 
@@ -9,7 +10,8 @@ use crate::words::{WORD, first_bit, has_bit, last_bit, with_bit, without_bit};
 use std::alloc::Global;
 use std::marker::Model;
 
-/// A flag for each number below a bound: bit `j % 64` of word `j / 64` is that of number `j`. Contracts see the flags.
+/// A flag for each number below a bound: bit `j % 64` of word `j / 64` is that of number `j`.
+/// Contracts see the flags.
 #[derive(Drop)]
 pub(crate) struct Bits {
     bound: u32,

@@ -1,5 +1,6 @@
 //! A set of numbers: a bit for each, and a bit for each 64 of them.
-ghost use Rattle.std.specs.Prelude.{◌≡◌, ◌<◌, ◌≤◌, true, false, length, replicate, slice_set, IfOk, IfSome, IfNone};
+ghost use Rattle.std.specs.Prelude.{◌≡◌, ◌<◌, ◌≤◌, true, false, length, replicate, slice_set, IfOk};
+ghost use Rattle.std.specs.Prelude.{IfSome, IfNone};
 ghost use Rattle.pm_sets.specs.Sets.{IsEmptySet, IsGap, IsFirst, IsLast};
 ghost use Rattle.pm_base.specs.Counts.{set_of};
 
@@ -19,8 +20,9 @@ const _: () = prove!(BOUND_LIMIT == 4_194_304);
 
 /// A set of numbers below a bound. Contracts see a flag for each number below the bound.
 ///
-/// It takes a bit for each number, and one for each block of 64 numbers, which is set where one of them is in the set. A
-/// search looks at two words of bits of numbers, and at one word of bits of blocks for each 4,096 numbers that it passes over.
+/// It takes a bit for each number, and one for each block of 64 numbers, which is set where one of
+/// them is in the set. A search looks at two words of bits of numbers, and at one word of bits of
+/// blocks for each 4,096 numbers that it passes over.
 #[derive(Drop)]
 pub struct NumberSet {
     // Set where the number is in the set.

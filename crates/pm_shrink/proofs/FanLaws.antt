@@ -1,16 +1,20 @@
 -- The corners at a vertex: what a walk over them sees of the faces there.
-use Rattle.std.proofs.Common.{◌≡◌, ◌↔◌, ℕ, ◌<◌, arith, Bool, true, false, ◌&&◌, ◌||◌, eqb, List, [], ◌∷◌, get_or, ◌⊎◌, inl, inr, refl, sym, ap, ◌∙◌, subst}
+use Rattle.std.proofs.Common.{◌≡◌, ◌↔◌, ℕ, ◌<◌, arith, Bool, true, false, ◌&&◌, ◌||◌, eqb, List, []}
+use Rattle.std.proofs.Common.{◌∷◌, get_or, ◌⊎◌, inl, inr, refl, sym, ap, ◌∙◌, subst}
 use Rattle.std.specs.Prelude.{is_none}
 use Rattle.std.specs.List.{All, list_any}
 use Rattle.std.proofs.lemmas.List.Elements.{Contains-get_or}
-use Rattle.std.proofs.lemmas.Bool.{or_cases, or_left, or_right, and_parts, and_from, eqb-true, eq-eqb, cases_Bool, false≢true}
-use Rattle.pm_base.specs.Sides.{Net, next, prev, to, third, Stands, side_count, IsBorderSide, IsBorder, twin_of}
+use Rattle.std.proofs.lemmas.Bool.{or_cases, or_left, or_right, and_parts, and_from, eqb-true}
+use Rattle.std.proofs.lemmas.Bool.{eq-eqb, cases_Bool, false≢true}
+use Rattle.pm_base.specs.Sides.{Net, next, prev, to, third, Stands, side_count, IsBorderSide}
+use Rattle.pm_base.specs.Sides.{IsBorder, twin_of}
 use Rattle.pm_base.proofs.Sides.{stands_next, next-next-next}
 use Rattle.pm_base.proofs.TwinLaws.{twin-is, twin-none, none-twin}
 use Rattle.pm_base.proofs.Search.{Decided, option_cases, none_from}
 use Rattle.pm_links.specs.Lists.{has}
 use Rattle.pm_links.proofs.Members.{has_head, has_tail, has_from_Contains}
-use Rattle.pm_runs.specs.Pairs.{StaysUpright, StayUpright, Runs, Joined, IsThird, HasFace, HaveCommonThirds}
+use Rattle.pm_runs.specs.Pairs.{StaysUpright, StayUpright, Runs, Joined, IsThird, HasFace}
+use Rattle.pm_runs.specs.Pairs.{HaveCommonThirds}
 use Rattle.pm_base.specs.Place.{Place}
 use Rattle.pm_base.specs.Geometry.{Direction, cross_of, dot_of}
 use Rattle.std.specs.Prelude.{ℤ, pos, negsuc, ◌+ℤ◌, ◌*ℤ◌, ◌≤ℤ◌}
@@ -21,39 +25,52 @@ use Rattle.pm_runs.specs.Surfaces.{Surface, net_of_surface, place_at}
 use Rattle.pm_runs.proofs.Legal.{third-common}
 use Rattle.pm_runs.proofs.Sides.{runs_last, third_next}
 use Rattle.pm_shrink.specs.Shrinking.{AreCornersAt}
-use Rattle.pm_shrink.specs.Walks.{holds_vertex, has_two, is_open_corner, HasStray, KeepsUpright, StayUprightAt}
+use Rattle.pm_shrink.specs.Walks.{holds_vertex, has_two, is_open_corner, HasStray, KeepsUpright}
+use Rattle.pm_shrink.specs.Walks.{StayUprightAt}
 
 module _ (m : Net) (v : ℕ) (xs : List ℕ) (are : AreCornersAt m v xs) where
   pub all_stand : All (Stands m) xs
-  all_stand = λ k d l. ((are.each (get_or xs k d)).0 (has_from_Contains xs (get_or xs k d) (Contains-get_or xs k d l))).0
+  all_stand = λ k d l.
+      ((are.each (get_or xs k d)).0
+      (has_from_Contains xs (get_or xs k d) (Contains-get_or xs k d l))).0
 
   pub all_start : All (λ e. m.from e ≡ v) xs
-  all_start = λ k d l. ((are.each (get_or xs k d)).0 (has_from_Contains xs (get_or xs k d) (Contains-get_or xs k d l))).1
+  all_start = λ k d l.
+      ((are.each (get_or xs k d)).0
+      (has_from_Contains xs (get_or xs k d) (Contains-get_or xs k d l))).1
 
   pub all_within : All (λ e. e < side_count m) xs
   all_within = λ k d l. (all_stand k d l).is_side
 
 -- No face holds a vertex twice.
 pub not_own_neighbour : (m : Net) (v : ℕ) → Joined m v v → ⊥
-not_own_neighbour m v j = elim j [ inl (e, r) ↦ r.stands.first (r.begins ∙ sym r.ends) | inr (e, r) ↦ r.stands.first (r.begins ∙ sym r.ends) ]
+not_own_neighbour m v j =
+    elim j [
+      | inl (e, r) ↦ r.stands.first (r.begins ∙ sym r.ends)
+      | inr (e, r) ↦
+          r.stands.first (r.begins ∙ sym r.ends)
+    ]
 
 -- A walk: what is left to see decides.
 
-module _ (p : ℕ → Bool) (all xs : List ℕ) (x : ℕ) (rest : List ℕ) (left : list_any p all ≡ list_any p xs) (steps : xs ≡ x ∷ rest) where
+module _ (p : ℕ → Bool) (all xs : List ℕ) (x : ℕ) (rest : List ℕ)
+    (left : list_any p all ≡ list_any p xs) (steps : xs ≡ x ∷ rest) where
   pub walk_on : p x ≡ false → list_any p all ≡ list_any p rest
   walk_on no_match = left ∙ ap (list_any p) steps ∙ ap (λ b. b || list_any p rest) no_match
 
   pub walk_found : p x ≡ true → list_any p all ≡ true
   walk_found match = left ∙ ap (list_any p) steps ∙ ap (λ b. b || list_any p rest) match
 
-pub walk_ended : (p : ℕ → Bool) (all xs : List ℕ) → list_any p all ≡ list_any p xs → xs ≡ [] → list_any p all ≡ false
+pub walk_ended : (p : ℕ → Bool) (all xs : List ℕ) → list_any p all ≡ list_any p xs → xs ≡ []
+    → list_any p all ≡ false
 walk_ended p all xs left ends = left ∙ ap (list_any p) ends
 
 -- A walk: each item is left to see, or has been found good.
 abbrev pub SoFar : (ℕ → Type 0) → List ℕ → List ℕ → Type 0
 SoFar good all xs = (e : ℕ) → has all e ≡ true → (has xs e ≡ true) ⊎ good e
 
-pub so_far_more : (good : ℕ → Type 0) (all xs : List ℕ) (x : ℕ) (rest : List ℕ) → SoFar good all xs → xs ≡ x ∷ rest → good x → SoFar good all rest
+pub so_far_more : (good : ℕ → Type 0) (all xs : List ℕ) (x : ℕ) (rest : List ℕ) → SoFar good all xs
+    → xs ≡ x ∷ rest → good x → SoFar good all rest
 so_far_more good all xs x rest passed steps here e h =
     elim (passed e h) [
       | inr fine ↦ inr fine
@@ -64,10 +81,16 @@ so_far_more good all xs x rest passed steps here e h =
           ]
     ]
 
-pub so_far_all : (good : ℕ → Type 0) (all xs : List ℕ) → SoFar good all xs → xs ≡ [] → (e : ℕ) → has all e ≡ true → good e
-so_far_all good all xs passed ends e h = elim (passed e h) [ inl left ↦ absurd (false≢true (sym (ap (λ k. has k e) ends) ∙ left)) | inr fine ↦ fine ]
+pub so_far_all : (good : ℕ → Type 0) (all xs : List ℕ) → SoFar good all xs → xs ≡ [] → (e : ℕ)
+    → has all e ≡ true → good e
+so_far_all good all xs passed ends e h =
+    elim (passed e h) [
+      | inl left ↦ absurd (false≢true (sym (ap (λ k. has k e) ends) ∙ left))
+      | inr fine ↦ fine
+    ]
 
-any-has : (p : ℕ → Bool) (xs : List ℕ) → list_any p xs ≡ true → (e : ℕ) × (has xs e ≡ true) × (p e ≡ true)
+any-has : (p : ℕ → Bool) (xs : List ℕ) → list_any p xs ≡ true → (e : ℕ) × (has xs e ≡ true)
+    × (p e ≡ true)
 any-has p [] t = absurd (false≢true t)
 any-has p (x ∷ xs) t =
     elim (or_cases (p x) (list_any p xs) t) [
@@ -85,10 +108,13 @@ has-any p (x ∷ xs) e h is =
 
 module _ (m : Net) (v : ℕ) (xs : List ℕ) (are : AreCornersAt m v xs) where
   -- A corner that passes is seen, and one that is seen passes.
-  pub any-corner : (p : ℕ → Bool) → list_any p xs ≡ true → (e : ℕ) × Stands m e × (m.from e ≡ v) × (p e ≡ true)
-  any-corner p t = let (e, h, is) = any-has p xs t in let at = (are.each e).0 h in (e, at.0, at.1, is)
+  pub any-corner : (p : ℕ → Bool) → list_any p xs ≡ true → (e : ℕ) × Stands m e × (m.from e ≡ v)
+      × (p e ≡ true)
+  any-corner p t = let (e, h, is) = any-has p xs t in let at =
+      (are.each e).0 h in (e, at.0, at.1, is)
 
-  pub corner-any : (p : ℕ → Bool) (e : ℕ) → Stands m e → m.from e ≡ v → p e ≡ true → list_any p xs ≡ true
+  pub corner-any : (p : ℕ → Bool) (e : ℕ) → Stands m e → m.from e ≡ v → p e ≡ true
+      → list_any p xs ≡ true
   corner-any p e st at is = has-any p xs e ((are.each e).1 (st, at)) is
 
   pub seen_joined : (w : ℕ) → (list_any (holds_vertex m w) xs ≡ true) ↔ Joined m v w
@@ -97,13 +123,20 @@ module _ (m : Net) (v : ℕ) (xs : List ℕ) (are : AreCornersAt m v xs) where
         let (e, st, at, is) = any-corner (holds_vertex m w) t in
         elim (or_cases (eqb (to m e) w) (eqb (third m e) w) is) [
           | inl k ↦ inl (e, record { stands = st; begins = at; ends = eqb-true (to m e) w k })
-          | inr k ↦ inr (prev e, runs_last m e v (to m e) w (record { stands = st; begins = at; ends = refl }) (eqb-true (third m e) w k))
+          | inr k ↦ inr (
+            prev e,
+            runs_last m e v (to m e) w (record { stands = st; begins = at; ends = refl })
+                (eqb-true (third m e) w k),
+          )
         ]),
     λ j. elim j [
-      | inl (e, r) ↦ corner-any (holds_vertex m w) e r.stands r.begins (or_left (eqb (to m e) w) (eqb (third m e) w) (eq-eqb (to m e) w r.ends))
+      | inl (e, r) ↦
+          corner-any (holds_vertex m w) e r.stands r.begins
+          (or_left (eqb (to m e) w) (eqb (third m e) w) (eq-eqb (to m e) w r.ends))
       | inr (e, r) ↦
           corner-any (holds_vertex m w) (next e) (stands_next m e r.stands) r.ends
-          (or_right (eqb (to m (next e)) w) (eqb (third m (next e)) w) (eq-eqb (third m (next e)) w (third_next m e ∙ r.begins)))
+          (or_right (eqb (to m (next e)) w) (eqb (third m (next e)) w)
+          (eq-eqb (third m (next e)) w (third_next m e ∙ r.begins)))
     ],
   )
 
@@ -117,16 +150,22 @@ module _ (m : Net) (v : ℕ) (xs : List ℕ) (are : AreCornersAt m v xs) where
           st,
           at,
           elim (or_cases one two is) [
-            | inl k ↦ (let q = and_parts (eqb (to m e) b) (eqb (third m e) c) k in inl (eqb-true (to m e) b q.0, eqb-true (third m e) c q.1))
-            | inr k ↦ (let q = and_parts (eqb (to m e) c) (eqb (third m e) b) k in inr (eqb-true (to m e) c q.0, eqb-true (third m e) b q.1))
+            | inl k ↦ (let q = and_parts (eqb (to m e) b) (eqb (third m e) c) k in
+                inl (eqb-true (to m e) b q.0, eqb-true (third m e) c q.1))
+            | inr k ↦ (let q = and_parts (eqb (to m e) c) (eqb (third m e) b) k in
+                inr (eqb-true (to m e) c q.0, eqb-true (third m e) b q.1))
           ],
         )),
     λ (e, st, at, way). corner-any (has_two m b c) e st at (
         let one = eqb (to m e) b && eqb (third m e) c in
         let two = eqb (to m e) c && eqb (third m e) b in
         elim way [
-          | inl k ↦ or_left one two (and_from (eqb (to m e) b) (eqb (third m e) c) (eq-eqb (to m e) b k.0) (eq-eqb (third m e) c k.1))
-          | inr k ↦ or_right one two (and_from (eqb (to m e) c) (eqb (third m e) b) (eq-eqb (to m e) c k.0) (eq-eqb (third m e) b k.1))
+          | inl k ↦ or_left one two
+              (and_from (eqb (to m e) b) (eqb (third m e) c) (eq-eqb (to m e) b k.0)
+              (eq-eqb (third m e) c k.1))
+          | inr k ↦ or_right one two
+              (and_from (eqb (to m e) c) (eqb (third m e) b) (eq-eqb (to m e) c k.0)
+              (eq-eqb (third m e) b k.1))
         ]),
   )
 
@@ -147,13 +186,19 @@ module _ (m : Net) (v : ℕ) (xs : List ℕ) (are : AreCornersAt m v xs) where
         let before = stands_next m (next e) (stands_next m e st) in
         elim (or_cases (is_none (twin_of m e)) (is_none (twin_of m (prev e))) is) [
           | inl k ↦ (e, border-test m e st k, inl at)
-          | inr k ↦ (prev e, border-test m (prev e) before k, inr (ap m.from (next-next-next e) ∙ at))
+          | inr k ↦ (
+            prev e,
+            border-test m (prev e) before k,
+            inr (ap m.from (next-next-next e) ∙ at),
+          )
         ]),
     λ (e, side, way). elim way [
-      | inl at ↦ corner-any m v xs are (is_open_corner m) e side.stands at (or_left (is_none (twin_of m e)) (is_none (twin_of m (prev e))) (test-border m e side))
+      | inl at ↦ corner-any m v xs are (is_open_corner m) e side.stands at
+          (or_left (is_none (twin_of m e)) (is_none (twin_of m (prev e))) (test-border m e side))
       | inr at ↦
           corner-any m v xs are (is_open_corner m) (next e) (stands_next m e side.stands) at
-          (or_right (is_none (twin_of m (next e))) (is_none (twin_of m (prev (next e)))) (ap (λ g. is_none (twin_of m g)) (next-next-next e) ∙ test-border m e side))
+          (or_right (is_none (twin_of m (next e))) (is_none (twin_of m (prev (next e))))
+          (ap (λ g. is_none (twin_of m g)) (next-next-next e) ∙ test-border m e side))
     ],
   )
 
@@ -174,12 +219,19 @@ third-face m a b w (e, links, is) =
     ]
 
 -- Without a stray every common neighbour is a third corner.
-pub no_stray_common : (m : Net) (a b : ℕ) (xs : List ℕ) → AreCornersAt m a xs → ((w : ℕ) → Decided (IsThird m a b w)) → ((e : ℕ) → has xs e ≡ true → HasStray m a b e → ⊥) → HaveCommonThirds m a b
+pub no_stray_common : (m : Net) (a b : ℕ) (xs : List ℕ) → AreCornersAt m a xs
+    → ((w : ℕ) → Decided (IsThird m a b w)) → ((e : ℕ) → has xs e ≡ true → HasStray m a b e → ⊥)
+    → HaveCommonThirds m a b
 no_stray_common m a b xs are third? none w = (
   λ (near, other). elim (third? w) [
     | inl is ↦ is
     | inr never ↦
-        let onward : (e : ℕ) → Runs m e a w → ⊥ = λ e r. none e ((are.each e).1 (r.stands, r.begins)) (inl (subst (Joined m b) (sym r.ends) other, λ t. never (subst (IsThird m a b) r.ends t))) in
+        let onward : (e : ℕ) → Runs m e a w → ⊥ =
+        λ e r. none e ((are.each e).1 (r.stands, r.begins))
+        (inl (
+          subst (Joined m b) (sym r.ends) other,
+          λ t. never (subst (IsThird m a b) r.ends t),
+        )) in
         absurd (elim near [
           | inl (e, r) ↦ onward e r
           | inr (e, r) ↦
@@ -187,10 +239,20 @@ no_stray_common m a b xs are third? none w = (
                 | inl alone ↦
                     let is : third m (next e) ≡ w = third_next m e ∙ r.begins in
                     none (next e) ((are.each (next e)).1 (stands_next m e r.stands, r.ends))
-                    (inr (ap is_none (ap (twin_of m) (next-next-next e) ∙ alone), (subst (Joined m b) (sym is) other, λ t. never (subst (IsThird m a b) is t))))
+                    (inr (
+                      ap is_none (ap (twin_of m) (next-next-next e) ∙ alone),
+                      (
+                        subst (Joined m b) (sym is) other,
+                        λ t. never (subst (IsThird m a b) is t),
+                      ),
+                    ))
                 | inr (g, t) ↦
                     let k = twin-is m e g t in
-                    onward g (record { stands = k.stands; begins = k.begins ∙ r.ends; ends = k.ends ∙ r.begins })
+                    onward g (record {
+                      stands = k.stands;
+                      begins = k.begins ∙ r.ends;
+                      ends = k.ends ∙ r.begins;
+                    })
               ]
         ])
   ],
@@ -198,7 +260,8 @@ no_stray_common m a b xs are third? none w = (
 )
 
 -- Whether w is a third corner can be decided by the corners at a.
-pub third_decided : (m : Net) (a b : ℕ) (xs : List ℕ) → AreCornersAt m a xs → (w : ℕ) → Decided (IsThird m a b w)
+pub third_decided : (m : Net) (a b : ℕ) (xs : List ℕ) → AreCornersAt m a xs → (w : ℕ)
+    → Decided (IsThird m a b w)
 third_decided m a b xs are w =
     let seen = seen_face m a xs are b w in
     elim (cases_Bool (list_any (has_two m b w) xs)) [
@@ -207,27 +270,36 @@ third_decided m a b xs are w =
     ]
 
 -- That no face turns over is told of each end in turn.
-pub upright_from : (s : Surface) (a b : ℕ) (place : Place) → StayUprightAt s a b place → StayUprightAt s b a place → StayUpright s a b place
+pub upright_from : (s : Surface) (a b : ℕ) (place : Place) → StayUprightAt s a b place
+    → StayUprightAt s b a place → StayUpright s a b place
 upright_from s a b place one other e p q pair st at x y =
     let m : Net = net_of_surface s in
     elim pair [
-      | inl k ↦ subst (λ (v : ℕ). StaysUpright s place v (to m e) (third m e)) (sym k.0) (one e st (at ∙ k.0) (λ z. x (z ∙ sym k.1)) (λ z. y (z ∙ sym k.1)))
-      | inr k ↦ subst (λ (v : ℕ). StaysUpright s place v (to m e) (third m e)) (sym k.0) (other e st (at ∙ k.0) (λ z. x (z ∙ sym k.1)) (λ z. y (z ∙ sym k.1)))
+      | inl k ↦ subst (λ (v : ℕ). StaysUpright s place v (to m e) (third m e)) (sym k.0)
+          (one e st (at ∙ k.0) (λ z. x (z ∙ sym k.1)) (λ z. y (z ∙ sym k.1)))
+      | inr k ↦ subst (λ (v : ℕ). StaysUpright s place v (to m e) (third m e)) (sym k.0)
+          (other e st (at ∙ k.0) (λ z. x (z ∙ sym k.1)) (λ z. y (z ∙ sym k.1)))
     ]
 
-pub upright_at_first : (s : Surface) (a b : ℕ) (place : Place) → StayUpright s a b place → StayUprightAt s a b place
+pub upright_at_first : (s : Surface) (a b : ℕ) (place : Place) → StayUpright s a b place
+    → StayUprightAt s a b place
 upright_at_first s a b place all e st at x y = all e a b (inl (refl, refl)) st at x y
 
-pub upright_at_second : (s : Surface) (a b : ℕ) (place : Place) → StayUpright s a b place → StayUprightAt s b a place
+pub upright_at_second : (s : Surface) (a b : ℕ) (place : Place) → StayUpright s a b place
+    → StayUprightAt s b a place
 upright_at_second s a b place all e st at x y = all e b a (inr (refl, refl)) st at x y
 
 -- Where each corner at p keeps its face upright, no face at p turns over.
-pub all_upright : (s : Surface) (p q : ℕ) (place : Place) (xs : List ℕ) → AreCornersAt (net_of_surface s) p xs → ((e : ℕ) → has xs e ≡ true → KeepsUpright s q place e) → StayUprightAt s p q place
+pub all_upright : (s : Surface) (p q : ℕ) (place : Place) (xs : List ℕ)
+    → AreCornersAt (net_of_surface s) p xs → ((e : ℕ) → has xs e ≡ true → KeepsUpright s q place e)
+    → StayUprightAt s p q place
 all_upright s p q place xs are all e st at x y =
     let m : Net = net_of_surface s in
-    subst (λ (v : ℕ). StaysUpright s place v (to m e) (third m e)) at (all e ((are.each e).1 (st, at)) x y)
+    subst (λ (v : ℕ). StaysUpright s place v (to m e) (third m e)) at
+    (all e ((are.each e).1 (st, at)) x y)
 
--- The product of a vector with itself is never below 0, so no face turns over at a vertex that stays at its place.
+-- The product of a vector with itself is never below 0, so no face turns over at a vertex that
+-- stays at its place.
 own_square : (x : ℤ) → pos 0 ≤ℤ (x *ℤ x)
 own_square (pos a) = omega (arith, ints)
 own_square (negsuc a) = omega (arith, ints)
@@ -236,14 +308,19 @@ three_squares : (x y z : ℤ) → pos 0 ≤ℤ x → pos 0 ≤ℤ y → pos 0 �
 three_squares x y z p q r = omega (arith, ints)
 
 own_product : (n : Direction) → pos 0 ≤ℤ dot_of n n
-own_product n = three_squares (n.x *ℤ n.x) (n.y *ℤ n.y) (n.z *ℤ n.z) (own_square n.x) (own_square n.y) (own_square n.z)
+own_product n =
+    three_squares (n.x *ℤ n.x) (n.y *ℤ n.y) (n.z *ℤ n.z) (own_square n.x) (own_square n.y)
+    (own_square n.z)
 
-pub own_upright : (s : Surface) (p q : ℕ) (place : Place) → place ≡ place_at s p → StayUprightAt s p q place
+pub own_upright : (s : Surface) (p q : ℕ) (place : Place) → place ≡ place_at s p
+    → StayUprightAt s p q place
 own_upright s p q place is e st at x y =
     let m : Net = net_of_surface s in
-    subst (λ (k : Place). StaysUpright s k p (to m e) (third m e)) (sym is) (own_product (cross_of (place_at s p) (place_at s (to m e)) (place_at s (third m e))))
+    subst (λ (k : Place). StaysUpright s k p (to m e) (third m e)) (sym is)
+    (own_product (cross_of (place_at s p) (place_at s (to m e)) (place_at s (third m e))))
 
-pub same_place : (p q : Place) → (int_eq p.x q.x && (int_eq p.y q.y && int_eq p.z q.z)) ≡ true → p ≡ q
+pub same_place : (p q : Place) → (int_eq p.x q.x && (int_eq p.y q.y && int_eq p.z q.z)) ≡ true
+    → p ≡ q
 same_place p q t =
     let one = and_parts (int_eq p.x q.x) (int_eq p.y q.y && int_eq p.z q.z) t in
     let two = and_parts (int_eq p.y q.y) (int_eq p.z q.z) one.1 in

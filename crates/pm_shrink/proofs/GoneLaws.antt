@@ -1,5 +1,6 @@
 -- The faces that a collapse drops: where they are, and which corners they take out of the lists.
-use Rattle.std.proofs.Common.{◌≡◌, ◌≢◌, ℕ, ◌+◌, ◌*◌, ◌<◌, true, List, Option, Some, None, inl, inr, refl, sym, ap, ◌∙◌, subst, arith}
+use Rattle.std.proofs.Common.{◌≡◌, ◌≢◌, ℕ, ◌+◌, ◌*◌, ◌<◌, true, List, Option, Some, None, inl, inr}
+use Rattle.std.proofs.Common.{refl, sym, ap, ◌∙◌, subst, arith}
 use Rattle.std.specs.Prelude.{option_map, IfSome}
 use Rattle.pm_base.specs.declared.ids.Side.{Side}
 use Rattle.pm_base.specs.declared.log.Gone.{Gone}
@@ -16,17 +17,21 @@ use Rattle.pm_runs.proofs.Legal.{no_two_ways}
 use Rattle.pm_shrink.specs.Writes.{without_corners, unlisted}
 
 -- What is so of each face with a side from p to q is so of the one that goes.
-pub if_gone : (m : Net) (p q : ℕ) (P : Gone → Type 0) → ((e : ℕ) → Runs m e p q → P (gone_at m e)) → IfSome (gone_of m p q) P
+pub if_gone : (m : Net) (p q : ℕ) (P : Gone → Type 0) → ((e : ℕ) → Runs m e p q → P (gone_at m e))
+    → IfSome (gone_of m p q) P
 if_gone m p q P all =
     elim (option_cases (side_from_to m p q)) [
       | inl none ↦ subst (λ (o : Option ℕ). IfSome (option_map (gone_at m) o) P) (sym none) tt
-      | inr (e, is) ↦ subst (λ (o : Option ℕ). IfSome (option_map (gone_at m) o) P) (sym is) (all e (found-runs m p q e is))
+      | inr (e, is) ↦ subst (λ (o : Option ℕ). IfSome (option_map (gone_at m) o) P) (sym is)
+          (all e (found-runs m p q e is))
     ]
 
-pub gone_is : (m : Net) → NoSideTwice m → (e p q : ℕ) → Runs m e p q → gone_of m p q ≡ Some (gone_at m e)
+pub gone_is : (m : Net) → NoSideTwice m → (e p q : ℕ) → Runs m e p q
+    → gone_of m p q ≡ Some (gone_at m e)
 gone_is m once e p q r = ap (option_map (gone_at m)) (runs-found m p q once e r)
 
-if_side : (t : Option ℕ) (n : ℕ) → ((k : ℕ) → t ≡ Some k → k < n) → IfSome (option_map side_id t) (λ (s : Side). s.0 < n)
+if_side : (t : Option ℕ) (n : ℕ) → ((k : ℕ) → t ≡ Some k → k < n)
+    → IfSome (option_map side_id t) (λ (s : Side). s.0 < n)
 if_side None n low = tt
 if_side (Some k) n low = low k refl
 
@@ -36,7 +41,11 @@ stands_beside m e g st same =
     let one = stands_next m e st in
     elim (face_cases e g (sym same)) [
       | inl is ↦ subst (Stands m) (sym is) st
-      | inr h ↦ elim h [ inl is ↦ subst (Stands m) (sym is) one | inr is ↦ subst (Stands m) (sym is) (stands_next m (next e) one) ]
+      | inr h ↦ elim h [
+        | inl is ↦ subst (Stands m) (sym is) one
+        | inr is ↦
+            subst (Stands m) (sym is) (stands_next m (next e) one)
+      ]
     ]
 
 -- The three corners of a face are in lists.
@@ -45,62 +54,88 @@ AreHeld lists f = IsHeld lists (3 * f) × IsHeld lists (3 * f + 1) × IsHeld lis
 
 module _ (m : Net) (p q : ℕ) where
   pub gone_face_in : IfSome (gone_of m p q) (λ g. g.face.0 < m.faces)
-  gone_face_in = if_gone m p q (λ g. g.face.0 < m.faces) (λ e r. (let l = r.stands.is_side in omega arith))
+  gone_face_in =
+      if_gone m p q (λ g. g.face.0 < m.faces) (λ e r. (let l = r.stands.is_side in omega arith))
 
-  pub gone_first_in : (n : ℕ) → n ≡ side_count m → IfSome (gone_of m p q) (λ g. IfSome g.first (λ s. s.0 < n))
-  gone_first_in n is = if_gone m p q (λ g. IfSome g.first (λ s. s.0 < n)) (λ e r. if_side (twin_of m (next e)) n (λ k t. (let l = (twin-is m (next e) k t).stands.is_side in omega arith)))
+  pub gone_first_in : (n : ℕ) → n ≡ side_count m
+      → IfSome (gone_of m p q) (λ g. IfSome g.first (λ s. s.0 < n))
+  gone_first_in n is =
+      if_gone m p q (λ g. IfSome g.first (λ s. s.0 < n))
+      (λ e r. if_side (twin_of m (next e)) n
+      (λ k t. (let l = (twin-is m (next e) k t).stands.is_side in omega arith)))
 
-  pub gone_second_in : (n : ℕ) → n ≡ side_count m → IfSome (gone_of m p q) (λ g. IfSome g.second (λ s. s.0 < n))
-  gone_second_in n is = if_gone m p q (λ g. IfSome g.second (λ s. s.0 < n)) (λ e r. if_side (twin_of m (prev e)) n (λ k t. (let l = (twin-is m (prev e) k t).stands.is_side in omega arith)))
+  pub gone_second_in : (n : ℕ) → n ≡ side_count m
+      → IfSome (gone_of m p q) (λ g. IfSome g.second (λ s. s.0 < n))
+  gone_second_in n is =
+      if_gone m p q (λ g. IfSome g.second (λ s. s.0 < n))
+      (λ e r. if_side (twin_of m (prev e)) n
+      (λ k t. (let l = (twin-is m (prev e) k t).stands.is_side in omega arith)))
 
-  pub gone_held : (lists : Lists) → ((e : ℕ) → Runs m e p q → (g : ℕ) → Stands m g → face_of g ≡ face_of e → IsHeld lists g) → IfSome (gone_of m p q) (λ g. AreHeld lists g.face.0)
+  pub gone_held : (lists : Lists)
+      → ((e : ℕ) → Runs m e p q → (g : ℕ) → Stands m g → face_of g ≡ face_of e → IsHeld lists g)
+      → IfSome (gone_of m p q) (λ g. AreHeld lists g.face.0)
   gone_held lists held = if_gone m p q (λ g. AreHeld lists g.face.0) (λ e r. all_held e r)
     where
       corner : (e : ℕ) → Runs m e p q → (g : ℕ) → face_of g ≡ face_of e → IsHeld lists g
       corner e r g same = held e r g (stands_beside m e g r.stands same) same
 
       all_held : (e : ℕ) → Runs m e p q → AreHeld lists (face_of e)
-      all_held e r = (corner e r (3 * face_of e) (omega arith), corner e r (3 * face_of e + 1) (omega arith), corner e r (3 * face_of e + 2) (omega arith))
+      all_held e r = (
+        corner e r (3 * face_of e) (omega arith),
+        corner e r (3 * face_of e + 1) (omega arith),
+        corner e r (3 * face_of e + 2) (omega arith),
+      )
 
 -- The face of corner x doesn't go.
 abbrev pub IsSparedBy : Option Gone → ℕ → Type 0
 IsSparedBy o f = IfSome o (λ g. f ≢ g.face.0)
 
-without-other : (f : ℕ) (xs : List ℕ) (x : ℕ) → face_of x ≢ f → has (without_corners f xs) x ≡ has xs x
+without-other : (f : ℕ) (xs : List ℕ) (x : ℕ) → face_of x ≢ f
+    → has (without_corners f xs) x ≡ has xs x
 without-other f xs x ne =
-    has-without (3 * f + 2) (list_without (3 * f + 1) (list_without (3 * f) xs)) x (λ e. ne (omega (arith, e)))
-    ∙ has-without (3 * f + 1) (list_without (3 * f) xs) x (λ e. ne (omega (arith, e))) ∙ has-without (3 * f) xs x (λ e. ne (omega (arith, e)))
+    has-without (3 * f + 2) (list_without (3 * f + 1) (list_without (3 * f) xs)) x
+    (λ e. ne (omega (arith, e)))
+    ∙ has-without (3 * f + 1) (list_without (3 * f) xs) x (λ e. ne (omega (arith, e)))
+    ∙ has-without (3 * f) xs x (λ e. ne (omega (arith, e)))
 
-without-was : (f : ℕ) (xs : List ℕ) (x : ℕ) → has (without_corners f xs) x ≡ true → (has xs x ≡ true) × (face_of x ≢ f)
+without-was : (f : ℕ) (xs : List ℕ) (x : ℕ) → has (without_corners f xs) x ≡ true
+    → (has xs x ≡ true) × (face_of x ≢ f)
 without-was f xs x h =
     let (c, i) = was_there (3 * f + 2) (list_without (3 * f + 1) (list_without (3 * f) xs)) x h in
     let (b, j) = was_there (3 * f + 1) (list_without (3 * f) xs) x i in
     let (a, k) = was_there (3 * f) xs x j in
     (k, λ e. absurd (omega (arith, e, a, b, c)))
 
-pub unlisted-other : (o : Option Gone) (xs : List ℕ) (x : ℕ) → IsSparedBy o (face_of x) → has (unlisted o xs) x ≡ has xs x
+pub unlisted-other : (o : Option Gone) (xs : List ℕ) (x : ℕ) → IsSparedBy o (face_of x)
+    → has (unlisted o xs) x ≡ has xs x
 unlisted-other None xs x spared = refl
 unlisted-other (Some g) xs x spared = without-other g.face.0 xs x spared
 
-pub unlisted-was : (o : Option Gone) (xs : List ℕ) (x : ℕ) → has (unlisted o xs) x ≡ true → (has xs x ≡ true) × IsSparedBy o (face_of x)
+pub unlisted-was : (o : Option Gone) (xs : List ℕ) (x : ℕ) → has (unlisted o xs) x ≡ true
+    → (has xs x ≡ true) × IsSparedBy o (face_of x)
 unlisted-was None xs x h = (h, tt)
 unlisted-was (Some g) xs x h = without-was g.face.0 xs x h
 
 module _ (m : Net) (once : NoSideTwice m) (a b : ℕ) where
   -- A face is spared by both where it holds no side between the two.
-  pub spared-links : (f : ℕ) → IsSparedBy (gone_of m a b) f → IsSparedBy (gone_of m b a) f → (y : ℕ) → Links m y a b → face_of y ≢ f
+  pub spared-links : (f : ℕ) → IsSparedBy (gone_of m a b) f → IsSparedBy (gone_of m b a) f → (y : ℕ)
+      → Links m y a b → face_of y ≢ f
   spared-links f x z y links same =
       elim links [
         | inl r ↦ subst (λ (o : Option Gone). IsSparedBy o f) (gone_is m once y a b r) x (sym same)
         | inr r ↦ subst (λ (o : Option Gone). IsSparedBy o f) (gone_is m once y b a r) z (sym same)
       ]
 
-  pub links-spared : (f : ℕ) → ((y : ℕ) → Links m y a b → face_of y ≢ f) → IsSparedBy (gone_of m a b) f × IsSparedBy (gone_of m b a) f
+  pub links-spared : (f : ℕ) → ((y : ℕ) → Links m y a b → face_of y ≢ f)
+      → IsSparedBy (gone_of m a b) f × IsSparedBy (gone_of m b a) f
   links-spared f never = (
     if_gone m a b (λ g. f ≢ g.face.0) (λ e r is. never e (inl r) (sym is)),
     if_gone m b a (λ g. f ≢ g.face.0) (λ e r is. never e (inr r) (sym is)),
   )
 
   -- The right face isn't the left one.
-  pub right_spared : (e g : ℕ) → Runs m e b a → face_of g ≡ face_of e → IsSparedBy (gone_of m a b) (face_of g)
-  right_spared e g r same = if_gone m a b (λ k. face_of g ≢ k.face.0) (λ x w is. no_two_ways m x e a b w r (sym is ∙ same))
+  pub right_spared : (e g : ℕ) → Runs m e b a → face_of g ≡ face_of e
+      → IsSparedBy (gone_of m a b) (face_of g)
+  right_spared e g r same =
+      if_gone m a b (λ k. face_of g ≢ k.face.0)
+      (λ x w is. no_two_ways m x e a b w r (sym is ∙ same))

@@ -1,5 +1,7 @@
 -- The other tables after a collapse: what stands across each side, and the places.
-use Rattle.std.proofs.Common.{◌≡◌, ℕ, ◌+◌, ◌<◌, ◌≤◌, List, [], ◌∷◌, ◌++◌, length, get_or, set, take, Option, Some, None, ◌⊎◌, inl, inr, refl, sym, ap, ◌∙◌, subst, arith, get_or-set_other, get_or-set_same}
+use Rattle.std.proofs.Common.{◌≡◌, ℕ, ◌+◌, ◌<◌, ◌≤◌, List, [], ◌∷◌, ◌++◌, length, get_or, set, take}
+use Rattle.std.proofs.Common.{Option, Some, None, ◌⊎◌, inl, inr, refl, sym, ap, ◌∙◌, subst, arith}
+use Rattle.std.proofs.Common.{get_or-set_other, get_or-set_same}
 use Rattle.std.specs.Prelude.{option_map}
 use Rattle.std.proofs.lemmas.List.{length-set, take_more_set}
 use Rattle.std.proofs.Math.Seq.{take-set-lt}
@@ -22,22 +24,30 @@ use Rattle.pm_shrink.specs.Writes.{with_across, relinked, side_number}
 
 -- ---- what stands across
 
-pub length-with_across : (table : List (Option ℕ)) (at to : Option Side) → length (with_across table at to) ≡ length table
+pub length-with_across : (table : List (Option ℕ)) (at to : Option Side)
+    → length (with_across table at to) ≡ length table
 length-with_across table None to = refl
 length-with_across table (Some g) to = length-set table g.0 (side_number to)
 
-pub length-relinked : (table : List (Option ℕ)) (o : Option Gone) → length (relinked table o) ≡ length table
+pub length-relinked : (table : List (Option ℕ)) (o : Option Gone)
+    → length (relinked table o) ≡ length table
 length-relinked table None = refl
-length-relinked table (Some g) = length-with_across (with_across table g.first g.second) g.second g.first ∙ length-with_across table g.first g.second
+length-relinked table (Some g) =
+    length-with_across (with_across table g.first g.second) g.second g.first
+    ∙ length-with_across table g.first g.second
 
 -- A write that is right where it is, of a table that is right or is written there.
-write_right : (table : List (Option ℕ)) (at to : Option ℕ) (e : ℕ) (x : Option ℕ) → e < length table → (at ≡ Some e → to ≡ x) → (get_or table e None ≡ x) ⊎ (at ≡ Some e) →
+write_right : (table : List (Option ℕ)) (at to : Option ℕ) (e : ℕ) (x : Option ℕ) → e < length table
+    → (at ≡ Some e → to ≡ x) → (get_or table e None ≡ x) ⊎ (at ≡ Some e) →
     get_or (with_across table (option_map side_id at) (option_map side_id to)) e None ≡ x
 write_right table None to e x l right way = elim way [ inl k ↦ k | inr k ↦ absurd (none-some e k) ]
 write_right table (Some g) to e x l right way =
     elim (cases_eq e g) [
-      | inl is ↦ ap (λ (i : ℕ). get_or (set table i (side_number (option_map side_id to))) e None) (sym is) ∙ get_or-set_same table e (side_number (option_map side_id to)) None l ∙ number to ∙ right (ap Some (sym is))
-      | inr ne ↦ get_or-set_other table g e (side_number (option_map side_id to)) None ne ∙ elim way [ inl k ↦ k | inr k ↦ absurd (ne (sym (same_Some g e k))) ]
+      | inl is ↦ ap (λ (i : ℕ). get_or (set table i (side_number (option_map side_id to))) e None)
+          (sym is) ∙ get_or-set_same table e (side_number (option_map side_id to)) None l
+          ∙ number to ∙ right (ap Some (sym is))
+      | inr ne ↦ get_or-set_other table g e (side_number (option_map side_id to)) None ne
+          ∙ elim way [ inl k ↦ k | inr k ↦ absurd (ne (sym (same_Some g e k))) ]
     ]
   where
     number : (t : Option ℕ) → side_number (option_map side_id t) ≡ t
@@ -45,35 +55,48 @@ write_right table (Some g) to e x l right way =
     number (Some k) = refl
 
 -- Both writes of one face that goes.
-face_right : (m : Net) (p q : ℕ) (table : List (Option ℕ)) (e : ℕ) (x : Option ℕ) → e < length table →
-    ((y : ℕ) → Runs m y p q → (twin_of m (next y) ≡ Some e → twin_of m (prev y) ≡ x) × (twin_of m (prev y) ≡ Some e → twin_of m (next y) ≡ x)) →
-    (get_or table e None ≡ x) ⊎ ((y : ℕ) × Runs m y p q × ((twin_of m (next y) ≡ Some e) ⊎ (twin_of m (prev y) ≡ Some e))) → NoSideTwice m →
+face_right : (m : Net) (p q : ℕ) (table : List (Option ℕ)) (e : ℕ) (x : Option ℕ) → e < length table
+    →
+    ((y : ℕ) → Runs m y p q → (twin_of m (next y) ≡ Some e → twin_of m (prev y) ≡ x)
+    × (twin_of m (prev y) ≡ Some e → twin_of m (next y) ≡ x)) →
+    (get_or table e None ≡ x)
+    ⊎ ((y : ℕ) × Runs m y p q × ((twin_of m (next y) ≡ Some e) ⊎ (twin_of m (prev y) ≡ Some e)))
+    → NoSideTwice m →
     get_or (relinked table (gone_of m p q)) e None ≡ x
 face_right m p q table e x l right way once =
     elim (option_cases (side_from_to m p q)) [
       | inl none ↦
           ap (λ o. get_or (relinked table (option_map (gone_at m) o)) e None) none
-          ∙ elim way [ inl k ↦ k | inr (y, r, hit) ↦ absurd (none-some y (sym none ∙ runs-found m p q once y r)) ]
+          ∙ elim way [
+            | inl k ↦ k
+            | inr (y, r, hit) ↦
+                absurd (none-some y (sym none ∙ runs-found m p q once y r))
+          ]
       | inr (y, is) ↦
           let r = found-runs m p q y is in
           let first = twin_of m (next y) in
           let second = twin_of m (prev y) in
           let one = with_across table (option_map side_id first) (option_map side_id second) in
-          let len : length one ≡ length table = length-with_across table (option_map side_id first) (option_map side_id second) in
+          let len : length one ≡ length table =
+          length-with_across table (option_map side_id first) (option_map side_id second) in
           ap (λ o. get_or (relinked table (option_map (gone_at m) o)) e None) is
           ∙ elim (hit_second way y r) [
             | inr at ↦ write_right one second first e x (omega arith) (right y r).1 (inr at)
-            | inl rest ↦ write_right one second first e x (omega arith) (right y r).1 (inl (write_right table first second e x l (right y r).0 rest))
+            | inl rest ↦ write_right one second first e x (omega arith) (right y r).1
+                (inl (write_right table first second e x l (right y r).0 rest))
           ]
     ]
   where
-    hit_second : (get_or table e None ≡ x) ⊎ ((y : ℕ) × Runs m y p q × ((twin_of m (next y) ≡ Some e) ⊎ (twin_of m (prev y) ≡ Some e))) → (y : ℕ) → Runs m y p q →
+    hit_second : (get_or table e None ≡ x)
+        ⊎ ((y : ℕ) × Runs m y p q × ((twin_of m (next y) ≡ Some e) ⊎ (twin_of m (prev y) ≡ Some e)))
+        → (y : ℕ) → Runs m y p q →
         ((get_or table e None ≡ x) ⊎ (twin_of m (next y) ≡ Some e)) ⊎ (twin_of m (prev y) ≡ Some e)
     hit_second way y r =
         elim way [
           | inl k ↦ inl (inl k)
           | inr (z, w, hit) ↦
-              let same : z ≡ y = once z y w.stands r.stands (w.begins ∙ sym r.begins) (w.ends ∙ sym r.ends) in
+              let same : z ≡ y =
+              once z y w.stands r.stands (w.begins ∙ sym r.begins) (w.ends ∙ sym r.ends) in
               elim hit [
                 | inl k ↦ inl (inr (subst (λ (i : ℕ). twin_of m (next i) ≡ Some e) same k))
                 | inr k ↦ inr (subst (λ (i : ℕ). twin_of m (prev i) ≡ Some e) same k)
@@ -81,7 +104,8 @@ face_right m p q table e x l right way once =
         ]
 
 abbrev Hits : Net → ℕ → ℕ → ℕ → Type 0
-Hits m p q e = (y : ℕ) × Runs m y p q × ((twin_of m (next y) ≡ Some e) ⊎ (twin_of m (prev y) ≡ Some e))
+Hits m p q e =
+    (y : ℕ) × Runs m y p q × ((twin_of m (next y) ≡ Some e) ⊎ (twin_of m (prev y) ≡ Some e))
 
 hits? : (m : Net) → NoSideTwice m → (p q e : ℕ) → Hits m p q e ⊎ (Hits m p q e → ⊥)
 hits? m once p q e =
@@ -95,13 +119,19 @@ hits? m once p q e =
                 elim (option_eq? (twin_of m (prev y)) e) [
                   | inl k ↦ inl (y, r, inr k)
                   | inr n2 ↦ inr (λ (z, w, hit). (
-                      let same : z ≡ y = once z y w.stands r.stands (w.begins ∙ sym r.begins) (w.ends ∙ sym r.ends) in
-                      elim hit [ inl k ↦ n1 (subst (λ (i : ℕ). twin_of m (next i) ≡ Some e) same k) | inr k ↦ n2 (subst (λ (i : ℕ). twin_of m (prev i) ≡ Some e) same k) ]))
+                      let same : z ≡ y =
+                      once z y w.stands r.stands (w.begins ∙ sym r.begins)
+                      (w.ends ∙ sym r.ends) in
+                      elim hit [
+                        | inl k ↦ n1 (subst (λ (i : ℕ). twin_of m (next i) ≡ Some e) same k)
+                        | inr k ↦ n2 (subst (λ (i : ℕ). twin_of m (prev i) ≡ Some e) same k)
+                      ]))
                 ]
           ]
     ]
 
-module _ (s : Surface) (sound : IsSurface s) (proper : IsProper (net_of_surface s)) (a b : ℕ) (place : Place) (legal : IsLegalPair s a b place) where
+module _ (s : Surface) (sound : IsSurface s) (proper : IsProper (net_of_surface s)) (a b : ℕ)
+    (place : Place) (legal : IsLegalPair s a b place) where
   abbrev m : Net
   m = net_of_surface s
 
@@ -112,37 +142,58 @@ module _ (s : Surface) (sound : IsSurface s) (proper : IsProper (net_of_surface 
   relinks = (steps_keep_surfaces s sound proper a b place legal).twins
 
   -- Each side that stands after the collapse has its new twin.
-  pub across-merged : (table : List (Option ℕ)) (e : ℕ) → e < length table → Stands n e → get_or table e None ≡ twin_of m e →
+  pub across-merged : (table : List (Option ℕ)) (e : ℕ) → e < length table → Stands n e
+      → get_or table e None ≡ twin_of m e →
       get_or (relinked (relinked table (gone_of m a b)) (gone_of m b a)) e None ≡ twin_of n e
   across-merged table e l st was =
-      let right : (y : ℕ) → Links m y a b → (twin_of m (next y) ≡ Some e → twin_of m (prev y) ≡ twin_of n e) × (twin_of m (prev y) ≡ Some e → twin_of m (next y) ≡ twin_of n e)
-      = λ y links. ((λ k. sym (relinks.first y e links k).1), (λ k. sym (relinks.second y e links k).1)) in
+      let right : (y : ℕ) → Links m y a b
+      → (twin_of m (next y) ≡ Some e → twin_of m (prev y) ≡ twin_of n e)
+      × (twin_of m (prev y) ≡ Some e → twin_of m (next y) ≡ twin_of n e)
+      = λ y links.
+      ((λ k. sym (relinks.first y e links k).1), (λ k. sym (relinks.second y e links k).1)) in
       let one = relinked table (gone_of m a b) in
       let len : length one ≡ length table = length-relinked table (gone_of m a b) in
-      face_right m b a one e (twin_of n e) (omega arith) (λ y r. right y (inr r)) (elim (hits? m proper.once b a e) [
+      face_right m b a one e (twin_of n e) (omega arith) (λ y r. right y (inr r))
+      (elim (hits? m proper.once b a e) [
         | inl hit ↦ inr hit
-        | inr off_right ↦ inl (face_right m a b table e (twin_of n e) l (λ y r. right y (inl r)) (elim (hits? m proper.once a b e) [
-          | inl hit ↦ inr hit
-          | inr off_left ↦ inl (was ∙ sym (relinks.others e st (λ x links. (
-            (λ k. elim links [ inl r ↦ off_left (x, r, inl k) | inr r ↦ off_right (x, r, inl k) ]),
-            (λ k. elim links [ inl r ↦ off_left (x, r, inr k) | inr r ↦ off_right (x, r, inr k) ]),
-          ))))
-        ]) proper.once)
+        | inr off_right ↦
+            inl (face_right m a b table e (twin_of n e) l (λ y r. right y (inl r))
+            (elim (hits? m proper.once a b e) [
+              | inl hit ↦ inr hit
+              | inr off_left ↦ inl (was ∙ sym (relinks.others e st (λ x links. (
+                (λ k. elim links [
+                  | inl r ↦ off_left (x, r, inl k)
+                  | inr r ↦
+                      off_right (x, r, inl k)
+                ]),
+                (λ k. elim links [
+                  | inl r ↦ off_left (x, r, inr k)
+                  | inr r ↦
+                      off_right (x, r, inr k)
+                ]),
+              ))))
+            ]) proper.once)
       ]) proper.once
 
 -- ---- places
 
-pub places-merged : (places : List (Option Place)) (next a b : ℕ) (place : Place) → a < next → b < next → next < length places →
-    take (next + 1) (set (set (set places a None) b None) next (Some place)) ≡ merged_places a b place (take next places)
+pub places-merged : (places : List (Option Place)) (next a b : ℕ) (place : Place) → a < next
+    → b < next → next < length places →
+    take (next + 1) (set (set (set places a None) b None) next (Some place))
+    ≡ merged_places a b place (take next places)
 places-merged places next a b place la lb ln =
     let two : List (Option Place) = set (set places a None) b None in
-    let len : length two ≡ length places = length-set (set places a None) b None ∙ length-set places a None in
+    let len : length two ≡ length places =
+    length-set (set places a None) b None ∙ length-set places a None in
     take_more_set two next (Some place) (omega arith)
-    ∙ ap (λ k. k ++ Some place ∷ []) (take-set-lt next (set places a None) b None lb ∙ ap (λ k. set k b None) (take-set-lt next places a None la))
+    ∙ ap (λ k. k ++ Some place ∷ []) (take-set-lt next (set places a None) b None lb
+    ∙ ap (λ k. set k b None) (take-set-lt next places a None la))
 
-pub places-fresh : (places : List (Option Place)) (next a b v : ℕ) (place : Place) → a < next → b < next → next + 1 ≤ v → get_or places v None ≡ None →
+pub places-fresh : (places : List (Option Place)) (next a b v : ℕ) (place : Place) → a < next
+    → b < next → next + 1 ≤ v → get_or places v None ≡ None →
     get_or (set (set (set places a None) b None) next (Some place)) v None ≡ None
 places-fresh places next a b v place la lb le fresh =
-    get_or-set_other (set (set places a None) b None) next v (Some place) None (λ is. absurd (omega (arith, is)))
+    get_or-set_other (set (set places a None) b None) next v (Some place) None
+    (λ is. absurd (omega (arith, is)))
     ∙ get_or-set_other (set places a None) b v None None (λ is. absurd (omega (arith, is)))
     ∙ get_or-set_other places a v None None (λ is. absurd (omega (arith, is))) ∙ fresh

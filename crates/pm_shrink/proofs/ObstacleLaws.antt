@@ -1,5 +1,6 @@
 -- What hinders a pair: the parts of a legal pair by what was found.
-use Rattle.std.proofs.Common.{◌≡◌, ◌↔◌, ◌&&◌, eqb, ℕ, true, Option, Some, None, inl, inr, refl, sym, ◌∙◌, subst}
+use Rattle.std.proofs.Common.{◌≡◌, ◌↔◌, ◌&&◌, eqb, ℕ, true, Option, Some, None, inl, inr, refl, sym}
+use Rattle.std.proofs.Common.{◌∙◌, subst}
 use Rattle.std.specs.Prelude.{MatchOption, is_none, option_map}
 use Rattle.std.proofs.lemmas.Bool.{or_cases, and_parts, eqb-true, false≢true}
 use Rattle.std.proofs.lemmas.Option.{none-some, same_Some}
@@ -8,7 +9,8 @@ use Rattle.pm_base.specs.declared.ids.Side.{Side}
 use Rattle.pm_base.specs.Sides.{Net, next, prev, to, third, Stands, NoSideTwice}
 use Rattle.pm_base.proofs.Sides.{stands_next}
 use Rattle.pm_runs.specs.Surfaces.{Surface, net_of_surface}
-use Rattle.pm_runs.specs.Pairs.{HasFace, IsPair, ShareNoTriangle, HaveCommonThirds, StaysUpright, StayUpright}
+use Rattle.pm_runs.specs.Pairs.{HasFace, IsPair, ShareNoTriangle, HaveCommonThirds, StaysUpright}
+use Rattle.pm_runs.specs.Pairs.{StayUpright}
 use Rattle.pm_runs.specs.Steps.{side_from_to}
 use Rattle.pm_runs.proofs.Found.{found-runs, runs-found}
 use Rattle.pm_runs.proofs.Sides.{runs_last}
@@ -20,27 +22,50 @@ use Rattle.pm_shrink.specs.Obstacles.{Strays, TellsTriangle, IsAlone, TurnsOver}
 pub strays_uncommon : (m : Net) (a b w : ℕ) → Strays m a b w → HaveCommonThirds m a b → ⊥
 strays_uncommon m a b w x common = x.off ((common w).0 (x.first, x.second))
 
-pub stray_first : (m : Net) (a b e : ℕ) → Stands m e → m.from e ≡ a → IsStray m a b (to m e) → Stands m (next e) × Strays m a b (m.from (next e))
-stray_first m a b e st at x = (stands_next m e st, record { first = inl (e, record { stands = st; begins = at; ends = refl }); second = x.0; off = x.1 })
+pub stray_first : (m : Net) (a b e : ℕ) → Stands m e → m.from e ≡ a → IsStray m a b (to m e)
+    → Stands m (next e) × Strays m a b (m.from (next e))
+stray_first m a b e st at x = (
+  stands_next m e st,
+  record {
+    first = inl (e, record { stands = st; begins = at; ends = refl });
+    second = x.0;
+    off = x.1;
+  },
+)
 
-pub stray_last : (m : Net) (a b e : ℕ) → Stands m e → m.from e ≡ a → IsStray m a b (third m e) → Stands m (prev e) × Strays m a b (m.from (prev e))
+pub stray_last : (m : Net) (a b e : ℕ) → Stands m e → m.from e ≡ a → IsStray m a b (third m e)
+    → Stands m (prev e) × Strays m a b (m.from (prev e))
 stray_last m a b e st at x = (
   stands_next m (next e) (stands_next m e st),
-  record { first = inr (prev e, runs_last m e a (to m e) (third m e) (record { stands = st; begins = at; ends = refl }) refl); second = x.0; off = x.1 },
+  record {
+    first =
+        inr (
+          prev e,
+          runs_last m e a (to m e) (third m e)
+              (record { stands = st; begins = at; ends = refl }) refl,
+        );
+    second = x.0;
+    off = x.1;
+  },
 )
 
 -- The two faces that hold the pair are these, so their third corners alone count.
-module _ (m : Net) (a b : ℕ) (once : NoSideTwice m) (l g : ℕ) (left : side_from_to m a b ≡ Some l) (right : side_from_to m b a ≡ Some g) where
-  pub only_triangle : (HasFace m a (third m l) (third m g) → HasFace m b (third m l) (third m g) → ⊥) → ShareNoTriangle m a b
+module _ (m : Net) (a b : ℕ) (once : NoSideTwice m) (l g : ℕ) (left : side_from_to m a b ≡ Some l)
+    (right : side_from_to m b a ≡ Some g) where
+  pub only_triangle : (HasFace m a (third m l) (third m g) → HasFace m b (third m l) (third m g)
+      → ⊥) → ShareNoTriangle m a b
   only_triangle never x y r w f k =
       let is_left : x ≡ l = same_Some x l (sym (runs-found m a b once x r) ∙ left) in
       let is_right : y ≡ g = same_Some y g (sym (runs-found m b a once y w) ∙ right) in
       never
-      (subst (λ (i : ℕ). HasFace m a (third m i) (third m g)) is_left (subst (λ (i : ℕ). HasFace m a (third m x) (third m i)) is_right f))
-      (subst (λ (i : ℕ). HasFace m b (third m i) (third m g)) is_left (subst (λ (i : ℕ). HasFace m b (third m x) (third m i)) is_right k))
+      (subst (λ (i : ℕ). HasFace m a (third m i) (third m g)) is_left
+      (subst (λ (i : ℕ). HasFace m a (third m x) (third m i)) is_right f))
+      (subst (λ (i : ℕ). HasFace m b (third m i) (third m g)) is_left
+      (subst (λ (i : ℕ). HasFace m b (third m x) (third m i)) is_right k))
 
   pub triangle_told : HasFace m b (third m l) (third m g) → (r : Option Side) →
-      MatchOption r (HasFace m a (third m l) (third m g) → ⊥) (λ e. Stands m e.0 × (m.from e.0 ≡ a) × (has_two m (third m l) (third m g) e.0 ≡ true)) →
+      MatchOption r (HasFace m a (third m l) (third m g) → ⊥) (λ e. Stands m e.0 × (m.from e.0 ≡ a)
+      × (has_two m (third m l) (third m g) e.0 ≡ true)) →
       MatchOption r (ShareNoTriangle m a b) (λ e. Stands m e.0 × TellsTriangle m a b e.0)
   triangle_told second None never = only_triangle (λ f k. never f)
   triangle_told second (Some s) found =
@@ -56,36 +81,76 @@ module _ (m : Net) (a b : ℕ) (once : NoSideTwice m) (l g : ℕ) (left : side_f
         | inl k ↦
             let q = and_parts (eqb (to m e) v) (eqb (third m e) w) k in
             let i = eqb-true (to m e) v q.0 in
-            let j = eqb-true (third m e) w q.1 in
-            (st, record { left = l; right = g; shares = record { left = runs_left; right = runs_right; first = (e, st, at, inl (i, j)); second = second }; left_in = inl i; right_in = inr j })
+            let j = eqb-true (third m e) w q.1 in (
+              st,
+              record {
+                left = l;
+                right = g;
+                shares = record {
+                  left = runs_left;
+                  right = runs_right;
+                  first = (e, st, at, inl (i, j));
+                  second = second;
+                };
+                left_in = inl i;
+                right_in = inr j;
+              },
+            )
         | inr k ↦
             let q = and_parts (eqb (to m e) w) (eqb (third m e) v) k in
             let i = eqb-true (to m e) w q.0 in
-            let j = eqb-true (third m e) v q.1 in
-            (st, record { left = l; right = g; shares = record { left = runs_left; right = runs_right; first = (e, st, at, inr (i, j)); second = second }; left_in = inr j; right_in = inl i })
+            let j = eqb-true (third m e) v q.1 in (
+              st,
+              record {
+                left = l;
+                right = g;
+                shares = record {
+                  left = runs_left;
+                  right = runs_right;
+                  first = (e, st, at, inr (i, j));
+                  second = second;
+                };
+                left_in = inr j;
+                right_in = inl i;
+              },
+            )
       ]
 
 -- The answer of a search as a test.
-pub none_iff : {A : Type 0} (r : Option A) (P : Type 0) (Q : A → Type 0) → MatchOption r P Q → ((e : A) → Q e → P → ⊥) → (is_none r ≡ true) ↔ P
+pub none_iff : {A : Type 0} (r : Option A) (P : Type 0) (Q : A → Type 0) → MatchOption r P Q
+    → ((e : A) → Q e → P → ⊥) → (is_none r ≡ true) ↔ P
 none_iff None P Q p apart = (λ t. p, λ k. refl)
 none_iff (Some e) P Q q apart = (λ t. absurd (false≢true t), λ k. absurd (apart e q k))
 
 -- A face that is alone along the pair, in either direction, is the one that the search finds.
-pub alone_found : (m : Net) (p q : ℕ) → NoSideTwice m → IsAloneAlong m p q → (r : Option Side) → option_map (λ s. s.0) r ≡ side_from_to m p q → (P : Type 0) → MatchOption r P (λ e. Stands m e.0 × IsAlone m p q e.0)
-alone_found m p q once (e, r, x, y, z) None is P = absurd (none-some e (is ∙ runs-found m p q once e r))
+pub alone_found : (m : Net) (p q : ℕ) → NoSideTwice m → IsAloneAlong m p q → (r : Option Side)
+    → option_map (λ s. s.0) r ≡ side_from_to m p q → (P : Type 0)
+    → MatchOption r P (λ e. Stands m e.0 × IsAlone m p q e.0)
+alone_found m p q once (e, r, x, y, z) None is P =
+    absurd (none-some e (is ∙ runs-found m p q once e r))
 alone_found m p q once (e, r, x, y, z) (Some s) is P =
-    subst (λ (k : ℕ). Stands m k × IsAlone m p q k) (sym (same_Some s.0 e (is ∙ runs-found m p q once e r)))
+    subst (λ (k : ℕ). Stands m k × IsAlone m p q k)
+    (sym (same_Some s.0 e (is ∙ runs-found m p q once e r)))
     (r.stands, record { links = inl r; own = x; next_side = y; prev_side = z })
 
-pub alone_back : (m : Net) (p q : ℕ) (r : Option Side) (P : Type 0) → MatchOption r P (λ e. Stands m e.0 × IsAlone m q p e.0) → MatchOption r P (λ e. Stands m e.0 × IsAlone m p q e.0)
+pub alone_back : (m : Net) (p q : ℕ) (r : Option Side) (P : Type 0)
+    → MatchOption r P (λ e. Stands m e.0 × IsAlone m q p e.0)
+    → MatchOption r P (λ e. Stands m e.0 × IsAlone m p q e.0)
 alone_back m p q None P h = h
 alone_back m p q (Some e) P h = (
   h.0,
-  record { links = elim h.1.links [ inl r ↦ inr r | inr r ↦ inl r ]; own = h.1.own; next_side = h.1.next_side; prev_side = h.1.prev_side },
+  record {
+    links = elim h.1.links [ inl r ↦ inr r | inr r ↦ inl r ];
+    own = h.1.own;
+    next_side = h.1.next_side;
+    prev_side = h.1.prev_side;
+  },
 )
 
 -- A face at one of the two that turns over.
-pub turns_here : (s : Surface) (a b p q : ℕ) (place : Place) → IsPair a b p q → (e : ℕ) → Stands (net_of_surface s) e → (net_of_surface s).from e ≡ p → TurnsAt s q place e → TurnsOver s a b place e
+pub turns_here : (s : Surface) (a b p q : ℕ) (place : Place) → IsPair a b p q → (e : ℕ)
+    → Stands (net_of_surface s) e → (net_of_surface s).from e ≡ p → TurnsAt s q place e
+    → TurnsOver s a b place e
 turns_here s a b p q place pair e st at x = record {
   end = p;
   other_end = q;
@@ -94,11 +159,16 @@ turns_here s a b p q place pair e st at x = record {
   begins = at;
   not_to = x.0;
   not_third = x.1;
-  turns = λ ok. x.2 (subst (λ (v : ℕ). StaysUpright s place v (to (net_of_surface s) e) (third (net_of_surface s) e)) (sym at) ok);
+  turns = λ ok. x.2
+      (subst (λ (v : ℕ). StaysUpright s place v (to (net_of_surface s) e)
+      (third (net_of_surface s) e)) (sym at) ok);
 }
 
-pub turned_second : (s : Surface) (a b : ℕ) (place : Place) → StayUprightAt s a b place → (r : Option Side) →
-    MatchOption r (StayUprightAt s b a place) (λ e. Stands (net_of_surface s) e.0 × ((net_of_surface s).from e.0 ≡ b) × TurnsAt s a place e.0) →
+pub turned_second : (s : Surface) (a b : ℕ) (place : Place) → StayUprightAt s a b place
+    → (r : Option Side) →
+    MatchOption r (StayUprightAt s b a place) (λ e. Stands (net_of_surface s) e.0
+    × ((net_of_surface s).from e.0 ≡ b) × TurnsAt s a place e.0) →
     MatchOption r (StayUpright s a b place) (λ e. TurnsOver s a b place e.0)
 turned_second s a b place first None second = upright_from s a b place first second
-turned_second s a b place first (Some e) found = turns_here s a b b a place (inr (refl, refl)) e.0 found.0 found.1 found.2
+turned_second s a b place first (Some e) found =
+    turns_here s a b b a place (inr (refl, refl)) e.0 found.0 found.1 found.2

@@ -1,10 +1,13 @@
 -- What a `Shrink` holds before the first collapse.
-use Rattle.std.proofs.Common.{◌≡◌, ℕ, ◌-◌, ◌*◌, ◌<◌, ◌≤◌, cond, List, [], ◌∷◌, ◌++◌, length, map, take, get_or, Option, Some, None, inl, inr, refl, sym, ap, ◌∙◌, subst, arith}
+use Rattle.std.proofs.Common.{◌≡◌, ℕ, ◌-◌, ◌*◌, ◌<◌, ◌≤◌, cond, List, [], ◌∷◌, ◌++◌, length, map}
+use Rattle.std.proofs.Common.{take, get_or, Option, Some, None, inl, inr, refl, sym, ap, ◌∙◌, subst}
+use Rattle.std.proofs.Common.{arith}
 use Rattle.std.specs.Prelude.{is_some, IfSome}
 use Rattle.std.specs.List.{count_by}
 use Rattle.std.proofs.Math.ListN.{replicate}
 use Rattle.std.proofs.Math.Seq.{take-append_seam}
-use Rattle.std.proofs.lemmas.List.{length-map, length-append, length-replicate, get_or-append_right, get_or-replicate, get_or_past}
+use Rattle.std.proofs.lemmas.List.{length-map, length-append, length-replicate, get_or-append_right}
+use Rattle.std.proofs.lemmas.List.{get_or-replicate, get_or_past}
 use Rattle.std.proofs.lemmas.List.Sums.{sum_by-cons}
 use Rattle.std.proofs.lemmas.Bool.{cases_lt}
 use Rattle.std.proofs.lemmas.Option.{none-some}
@@ -33,11 +36,16 @@ use Rattle.pm_shrink.proofs.CornerTables.{AreListed}
 
 all_counted : (fs : List Corners) → count_by is_some (map Some fs) ≡ length fs
 all_counted [] = refl
-all_counted (f ∷ fs) = omega (arith, sum_by-cons (λ k. cond (is_some k) 1 0) (Some f) (map Some fs), all_counted fs)
+all_counted (f ∷ fs) =
+    omega (arith, sum_by-cons (λ k. cond (is_some k) 1 0) (Some f) (map Some fs), all_counted fs)
 
 -- Every side stands, and runs from a point.
-pub side_there : (m : Mesh) → IsWellFormed m → (e : ℕ) → e < 3 * length m.faces → Stands (net_of_surface (surface_of m)) e × ((net_of_surface (surface_of m)).from e < length m.points)
-side_there m formed e l = subst (λ (n : Net). Stands n e × (n.from e < length m.points)) (sym (net_there m)) (mesh_side m formed e l)
+pub side_there : (m : Mesh) → IsWellFormed m → (e : ℕ) → e < 3 * length m.faces
+    → Stands (net_of_surface (surface_of m)) e
+    × ((net_of_surface (surface_of m)).from e < length m.points)
+side_there m formed e l =
+    subst (λ (n : Net). Stands n e × (n.from e < length m.points)) (sym (net_there m))
+    (mesh_side m formed e l)
 
 -- The places with room for later ones.
 abbrev pub roomy_places : Mesh → List (Option Place)
@@ -46,18 +54,28 @@ roomy_places m = map Some m.points ++ replicate (2 * length m.points - length m.
 taken_places : (m : Mesh) → take (length m.points) (roomy_places m) ≡ map Some m.points
 taken_places m =
     let later : List (Option Place) = replicate (2 * length m.points - length m.points) None in
-    ap (λ (k : ℕ). take k (map Some m.points ++ later)) (sym (length-map m.points Some)) ∙ take-append_seam (map Some m.points) later
+    ap (λ (k : ℕ). take k (map Some m.points ++ later)) (sym (length-map m.points Some))
+    ∙ take-append_seam (map Some m.points) later
 
-pub surface_there : (m : Mesh) → surface_with (map Some m.faces) (roomy_places m) (length m.points) ≡ surface_of m
-surface_there m = ap (λ (k : List (Option Place)). let s : Surface = record { faces = map Some m.faces; places = k } in s) (taken_places m)
+pub surface_there : (m : Mesh) → surface_with (map Some m.faces) (roomy_places m) (length m.points)
+    ≡ surface_of m
+surface_there m =
+    ap (λ (k : List (Option Place)). let s : Surface = record {
+      faces = map Some m.faces;
+      places =
+          k;
+    } in s) (taken_places m)
 
 fresh_places : (m : Mesh) (v : ℕ) → length m.points ≤ v → get_or (roomy_places m) v None ≡ None
 fresh_places m v le =
     let n = 2 * length m.points - length m.points in
-    get_or-append_right (map Some m.points) (replicate n None) (length m.points) v None (length-map m.points Some) le
+    get_or-append_right (map Some m.points) (replicate n None) (length m.points) v None
+    (length-map m.points Some) le
     ∙ elim (cases_lt (v - length m.points) n) [
       | inl l ↦ get_or-replicate n (v - length m.points) None None l
-      | inr g ↦ get_or_past (replicate n None) (v - length m.points) None (let len : length (replicate {A = Option Place} n None) ≡ n = length-replicate n None in omega arith)
+      | inr g ↦ get_or_past (replicate n None) (v - length m.points) None
+          (let len : length (replicate {A = Option Place} n None) ≡ n =
+          length-replicate n None in omega arith)
     ]
 
 -- The twins of a net, where they are asked for.
@@ -69,28 +87,44 @@ twins_there : (n : Net) (twins : List (Option ℕ)) → AreTwinsOf n twins → A
 twins_there n twins are = record { sides = are.sides; each = λ e stands. are.each e stands.is_side }
 
 -- Each side in the table is one of the net.
-pub twins_low : (n : Net) (twins : List (Option ℕ)) → AreTwinsOf n twins → n.faces ≤ MOST_FACES → (e : ℕ) → IfSome (get_or twins e None) (λ g. g < MOST_SIDES)
+pub twins_low : (n : Net) (twins : List (Option ℕ)) → AreTwinsOf n twins → n.faces ≤ MOST_FACES
+    → (e : ℕ) → IfSome (get_or twins e None) (λ g. g < MOST_SIDES)
 twins_low n twins are few e =
     elim (option_cases (get_or twins e None)) [
       | inl none ↦ subst (λ (o : Option ℕ). IfSome o (λ g. g < MOST_SIDES)) (sym none) tt
       | inr (g, is) ↦
-          let low : e < side_count n = elim (cases_lt e (side_count n)) [ inl l ↦ l | inr past ↦ absurd (none-some g (sym (get_or_past twins e None (omega (arith, are.sides))) ∙ is)) ] in
+          let low : e < side_count n =
+          elim (cases_lt e (side_count n)) [
+            | inl l ↦ l
+            | inr past ↦
+                absurd (none-some g (sym (get_or_past twins e None (omega (arith, are.sides)))
+                ∙ is))
+          ] in
           let side = (twin-is n e g (sym (are.each e low) ∙ is)).stands.is_side in
-          subst (λ (o : Option ℕ). IfSome o (λ k. k < MOST_SIDES)) (sym is) (omega (arith, side, few))
+          subst (λ (o : Option ℕ). IfSome o (λ k. k < MOST_SIDES)) (sym is)
+          (omega (arith, side, few))
     ]
 
 module _ (m : Mesh) (formed : IsWellFormed m) (manifold : IsOrientedManifold (net_of m.faces)) where
   net : Net
   net = net_of_surface (surface_of m)
 
-  kept_there : (corners : Lists) → IsSound corners → AreListed (map Some m.faces) (3 * length m.faces) corners →
+  kept_there : (corners : Lists) → IsSound corners
+      → AreListed (map Some m.faces) (3 * length m.faces) corners →
       IsKept (record { surface = surface_of m; corners = corners.lists })
   kept_there corners sound listed = record {
     short = omega (arith, length-map m.faces Some, formed.faces);
-    room = omega (arith, length-map m.points Some, all_counted m.faces, formed.faces, formed.points);
+    room = omega (
+      arith,
+      length-map m.points Some,
+      all_counted m.faces,
+      formed.faces,
+      formed.points,
+    );
     surface = input-sound m formed;
     proper = input-proper m manifold;
-    manifold = manifold-same (net_of m.faces) (net_of_surface (surface_of m)) (input-alike m) manifold;
+    manifold = manifold-same (net_of m.faces) (net_of_surface (surface_of m)) (input-alike m)
+        manifold;
     corners = λ v. record {
       each = λ e. (
         λ h. (let at = (listed v e).0 h in ((side_there m formed e at.0).0, at.1)),
@@ -100,20 +134,30 @@ module _ (m : Mesh) (formed : IsWellFormed m) (manifold : IsOrientedManifold (ne
     };
   }
 
-  pub started : (places : List (Option Place)) (twins : Table) (corners : Lists) → places ≡ roomy_places m →
+  pub started : (places : List (Option Place)) (twins : Table) (corners : Lists)
+      → places ≡ roomy_places m →
       IsTableOf (net_of m.faces) (length m.points) twins →
-      corners.items ≡ 3 * length m.faces → length corners.lists ≡ 2 * length m.points → IsSound corners → AreListed (map Some m.faces) (3 * length m.faces) corners →
+      corners.items ≡ 3 * length m.faces → length corners.lists ≡ 2 * length m.points
+      → IsSound corners → AreListed (map Some m.faces) (3 * length m.faces) corners →
       IsShrink (map Some m.faces) places (length m.points) (length m.faces) twins.twins corners
   started places twins corners places_are table items heads sound listed =
-      let P : List (Option Place) → Type 0 = λ (k : List (Option Place)). IsShrink (map Some m.faces) k (length m.points) (length m.faces) twins.twins corners in
+      let P : List (Option Place) → Type 0 =
+      λ (k : List (Option Place)). IsShrink (map Some m.faces) k (length m.points)
+      (length m.faces) twins.twins corners in
       let all : length (map Some m.faces) ≡ length m.faces = length-map m.faces Some in
       let room : length (roomy_places m) ≡ 2 * length m.points = (
       let later : List (Option Place) = replicate (2 * length m.points - length m.points) None in
-      let later_len : length later ≡ 2 * length m.points - length m.points = length-replicate (2 * length m.points - length m.points) None in
-      omega (arith, length-append (map Some m.points) later, length-map m.points Some, later_len)) in
+      let later_len : length later ≡ 2 * length m.points - length m.points =
+      length-replicate (2 * length m.points - length m.points) None in
+      omega (arith, length-append (map Some m.points) later, length-map m.points Some, later_len))
+      in
       subst P (sym places_are) (record {
-        kept = subst (λ (s : Surface). IsKept (record { surface = s; corners = corners.lists })) (sym (surface_there m)) (kept_there corners sound listed);
-        twins = subst (λ (s : Surface). IsAcross s twins.twins) (sym (surface_there m)) (let t = subst (λ (n : Net). AreTwins n twins.twins) (sym (net_there m)) (twins_there (net_of m.faces) twins.twins table.twins) in record { sides = t.sides; each = t.each });
+        kept = subst (λ (s : Surface). IsKept (record { surface = s; corners = corners.lists }))
+            (sym (surface_there m)) (kept_there corners sound listed);
+        twins = subst (λ (s : Surface). IsAcross s twins.twins) (sym (surface_there m))
+            (let t = subst (λ (n : Net). AreTwins n twins.twins) (sym (net_there m))
+            (twins_there (net_of m.faces) twins.twins table.twins) in
+            record { sides = t.sides; each = t.each });
         roomy = record {
           count = sym (all_counted m.faces);
           made = ap (λ (s : Surface). length s.places) (surface_there m) ∙ length-map m.points Some;

@@ -1,35 +1,54 @@
 -- What the writes of a collapse leave at each number.
-use Rattle.std.proofs.Common.{◌≡◌, ◌≢◌, ℕ, ◌+◌, ◌*◌, ◌%◌, ◌<◌, Bool, true, false, ◌||◌, eqb, cond, List, [], ◌∷◌, length, get_or, set, Option, Some, None, inl, inr, refl, sym, ap, ◌∙◌, subst, arith, get_or-set_other, get_or-set_same}
+use Rattle.std.proofs.Common.{◌≡◌, ◌≢◌, ℕ, ◌+◌, ◌*◌, ◌%◌, ◌<◌, Bool, true, false, ◌||◌, eqb, cond}
+use Rattle.std.proofs.Common.{List, [], ◌∷◌, length, get_or, set, Option, Some, None, inl, inr}
+use Rattle.std.proofs.Common.{refl, sym, ap, ◌∙◌, subst, arith, get_or-set_other, get_or-set_same}
 use Rattle.std.specs.Prelude.{option_map}
 use Rattle.std.proofs.lemmas.List.{length-set}
-use Rattle.std.proofs.lemmas.Bool.{cases_eq, eq-eqb, ne_eqb, or_left, or_right, cond-true, cond-false}
+use Rattle.std.proofs.lemmas.Bool.{cases_eq, eq-eqb, ne_eqb, or_left, or_right, cond-true}
+use Rattle.std.proofs.lemmas.Bool.{cond-false}
 use Rattle.pm_base.specs.declared.mesh.Corners.{Corners}
 use Rattle.pm_base.specs.Sides.{face_of}
 use Rattle.pm_links.specs.Lists.{has}
 use Rattle.pm_shrink.specs.Writes.{with_vertex, with_corner, with_corners}
 
-pub length-with_corner : (faces : List (Option Corners)) (e v : ℕ) → length (with_corner faces e v) ≡ length faces
-length-with_corner faces e v = length-set faces (face_of e) (option_map (λ k. with_vertex k (e % 3) v) (get_or faces (face_of e) None))
+pub length-with_corner : (faces : List (Option Corners)) (e v : ℕ)
+    → length (with_corner faces e v) ≡ length faces
+length-with_corner faces e v =
+    length-set faces (face_of e)
+    (option_map (λ k. with_vertex k (e % 3) v) (get_or faces (face_of e) None))
 
-pub length-with_corners : (faces : List (Option Corners)) (es : List ℕ) (v : ℕ) → length (with_corners faces es v) ≡ length faces
+pub length-with_corners : (faces : List (Option Corners)) (es : List ℕ) (v : ℕ)
+    → length (with_corners faces es v) ≡ length faces
 length-with_corners faces [] v = refl
-length-with_corners faces (e ∷ es) v = length-with_corners (with_corner faces e v) es v ∙ length-with_corner faces e v
+length-with_corners faces (e ∷ es) v =
+    length-with_corners (with_corner faces e v) es v ∙ length-with_corner faces e v
 
 -- A face in which each of the listed corners has the vertex.
 abbrev pub renamed : List ℕ → ℕ → ℕ → Corners → Corners
-renamed es v f k = record { a = cond (has es (3 * f)) v k.a; b = cond (has es (3 * f + 1)) v k.b; c = cond (has es (3 * f + 2)) v k.c }
+renamed es v f k = record {
+  a = cond (has es (3 * f)) v k.a;
+  b = cond (has es (3 * f + 1)) v k.b;
+  c = cond (has es (3 * f + 2)) v k.c;
+}
 
 pub corners_same : (k l : Corners) → k.a ≡ l.a → k.b ≡ l.b → k.c ≡ l.c → k ≡ l
 corners_same k l p q r = λ i. record { a = p i; b = q i; c = r i }
 
 -- A corner of another face.
-renamed-other : (e : ℕ) (es : List ℕ) (v f : ℕ) (k : Corners) → f ≢ face_of e → renamed (e ∷ es) v f k ≡ renamed es v f k
+renamed-other : (e : ℕ) (es : List ℕ) (v f : ℕ) (k : Corners) → f ≢ face_of e
+    → renamed (e ∷ es) v f k ≡ renamed es v f k
 renamed-other e es v f k ne =
-    let off : (i : ℕ) → i < 3 → eqb e (3 * f + i) ≡ false = λ i l. ne_eqb e (3 * f + i) (λ is. ne (omega (arith, is))) in
-    let at : (i : ℕ) (x : ℕ) → i < 3 → cond (eqb e (3 * f + i) || has es (3 * f + i)) v x ≡ cond (has es (3 * f + i)) v x = λ i x l. ap (λ b. cond (b || has es (3 * f + i)) v x) (off i l) in
-    corners_same (renamed (e ∷ es) v f k) (renamed es v f k) (first e es v f k.a (ne_eqb e (3 * f) (λ is. ne (omega (arith, is))))) (at 1 k.b (omega arith)) (at 2 k.c (omega arith))
+    let off : (i : ℕ) → i < 3 → eqb e (3 * f + i) ≡ false =
+    λ i l. ne_eqb e (3 * f + i) (λ is. ne (omega (arith, is))) in
+    let at : (i : ℕ) (x : ℕ) → i < 3 → cond (eqb e (3 * f + i) || has es (3 * f + i)) v x
+    ≡ cond (has es (3 * f + i)) v x =
+    λ i x l. ap (λ b. cond (b || has es (3 * f + i)) v x) (off i l) in
+    corners_same (renamed (e ∷ es) v f k) (renamed es v f k)
+    (first e es v f k.a (ne_eqb e (3 * f) (λ is. ne (omega (arith, is)))))
+    (at 1 k.b (omega arith)) (at 2 k.c (omega arith))
   where
-    first : (e : ℕ) (es : List ℕ) (v f x : ℕ) → eqb e (3 * f) ≡ false → cond (eqb e (3 * f) || has es (3 * f)) v x ≡ cond (has es (3 * f)) v x
+    first : (e : ℕ) (es : List ℕ) (v f x : ℕ) → eqb e (3 * f) ≡ false
+        → cond (eqb e (3 * f) || has es (3 * f)) v x ≡ cond (has es (3 * f)) v x
     first e es v f x off = ap (λ b. cond (b || has es (3 * f)) v x) off
 
 -- A corner of this face.
@@ -39,10 +58,12 @@ cond_twice true false v x = refl
 cond_twice false true v x = refl
 cond_twice false false v x = refl
 
-put_one : (h : Bool) (e n v x y : ℕ) → (e ≡ n → y ≡ v) → (e ≢ n → y ≡ x) → cond h v y ≡ cond (eqb e n || h) v x
+put_one : (h : Bool) (e n v x y : ℕ) → (e ≡ n → y ≡ v) → (e ≢ n → y ≡ x)
+    → cond h v y ≡ cond (eqb e n || h) v x
 put_one h e n v x y on off =
     elim (cases_eq e n) [
-      | inl is ↦ ap (λ z. cond h v z) (on is) ∙ both h v ∙ sym (ap (λ b. cond (b || h) v x) (eq-eqb e n is))
+      | inl is ↦ ap (λ z. cond h v z) (on is) ∙ both h v
+          ∙ sym (ap (λ b. cond (b || h) v x) (eq-eqb e n is))
       | inr ne ↦ ap (λ z. cond h v z) (off ne) ∙ sym (ap (λ b. cond (b || h) v x) (ne_eqb e n ne))
     ]
   where
@@ -50,63 +71,92 @@ put_one h e n v x y on off =
     both true v = refl
     both false v = refl
 
-vertex-a : (k : Corners) (i v : ℕ) → (i ≡ 0 → (with_vertex k i v).a ≡ v) × (i ≢ 0 → (with_vertex k i v).a ≡ k.a)
+vertex-a : (k : Corners) (i v : ℕ) → (i ≡ 0 → (with_vertex k i v).a ≡ v)
+    × (i ≢ 0 → (with_vertex k i v).a ≡ k.a)
 vertex-a k i v = (
   λ is. ap (λ (n : Corners). n.a) (cond-true _ _ _ (eq-eqb i 0 is)),
-  λ ne. ap (λ (n : Corners). n.a) (cond-false _ _ _ (ne_eqb i 0 ne)) ∙ elim (cases_eq i 1) [ inl is ↦ ap (λ (n : Corners). n.a) (cond-true _ _ _ (eq-eqb i 1 is)) | inr o ↦ ap (λ (n : Corners). n.a) (cond-false _ _ _ (ne_eqb i 1 o)) ],
+  λ ne. ap (λ (n : Corners). n.a) (cond-false _ _ _ (ne_eqb i 0 ne))
+      ∙ elim (cases_eq i 1) [
+        | inl is ↦ ap (λ (n : Corners). n.a) (cond-true _ _ _ (eq-eqb i 1 is))
+        | inr o ↦ ap (λ (n : Corners). n.a) (cond-false _ _ _ (ne_eqb i 1 o))
+      ],
 )
 
-vertex-b : (k : Corners) (i v : ℕ) → (i ≡ 1 → (with_vertex k i v).b ≡ v) × (i ≢ 1 → (with_vertex k i v).b ≡ k.b)
+vertex-b : (k : Corners) (i v : ℕ) → (i ≡ 1 → (with_vertex k i v).b ≡ v)
+    × (i ≢ 1 → (with_vertex k i v).b ≡ k.b)
 vertex-b k i v = (
-  λ is. ap (λ (n : Corners). n.b) (cond-false _ _ _ (ne_eqb i 0 (λ z. absurd (omega (arith, z, is))))) ∙ ap (λ (n : Corners). n.b) (cond-true _ _ _ (eq-eqb i 1 is)),
+  λ is. ap (λ (n : Corners). n.b)
+      (cond-false _ _ _ (ne_eqb i 0 (λ z. absurd (omega (arith, z, is)))))
+      ∙ ap (λ (n : Corners). n.b) (cond-true _ _ _ (eq-eqb i 1 is)),
   λ ne. elim (cases_eq i 0) [
     | inl is ↦ ap (λ (n : Corners). n.b) (cond-true _ _ _ (eq-eqb i 0 is))
-    | inr o ↦ ap (λ (n : Corners). n.b) (cond-false _ _ _ (ne_eqb i 0 o)) ∙ ap (λ (n : Corners). n.b) (cond-false _ _ _ (ne_eqb i 1 ne))
+    | inr o ↦ ap (λ (n : Corners). n.b) (cond-false _ _ _ (ne_eqb i 0 o))
+        ∙ ap (λ (n : Corners). n.b) (cond-false _ _ _ (ne_eqb i 1 ne))
   ],
 )
 
-vertex-c : (k : Corners) (i v : ℕ) → i < 3 → (i ≡ 2 → (with_vertex k i v).c ≡ v) × (i ≢ 2 → (with_vertex k i v).c ≡ k.c)
+vertex-c : (k : Corners) (i v : ℕ) → i < 3 → (i ≡ 2 → (with_vertex k i v).c ≡ v)
+    × (i ≢ 2 → (with_vertex k i v).c ≡ k.c)
 vertex-c k i v l = (
-  λ is. ap (λ (n : Corners). n.c) (cond-false _ _ _ (ne_eqb i 0 (λ z. absurd (omega (arith, z, is))))) ∙ ap (λ (n : Corners). n.c) (cond-false _ _ _ (ne_eqb i 1 (λ z. absurd (omega (arith, z, is))))),
+  λ is. ap (λ (n : Corners). n.c)
+      (cond-false _ _ _ (ne_eqb i 0 (λ z. absurd (omega (arith, z, is)))))
+      ∙ ap (λ (n : Corners). n.c)
+      (cond-false _ _ _ (ne_eqb i 1 (λ z. absurd (omega (arith, z, is))))),
   λ ne. elim (cases_eq i 0) [
     | inl is ↦ ap (λ (n : Corners). n.c) (cond-true _ _ _ (eq-eqb i 0 is))
-    | inr o ↦ ap (λ (n : Corners). n.c) (cond-false _ _ _ (ne_eqb i 0 o)) ∙ elim (cases_eq i 1) [ inl is ↦ ap (λ (n : Corners). n.c) (cond-true _ _ _ (eq-eqb i 1 is)) | inr p ↦ absurd (omega (arith, o, p, ne)) ]
+    | inr o ↦ ap (λ (n : Corners). n.c) (cond-false _ _ _ (ne_eqb i 0 o))
+        ∙ elim (cases_eq i 1) [
+          | inl is ↦ ap (λ (n : Corners). n.c) (cond-true _ _ _ (eq-eqb i 1 is))
+          | inr p ↦ absurd (omega (arith, o, p, ne))
+        ]
   ],
 )
 
-renamed-same : (e : ℕ) (es : List ℕ) (v f : ℕ) (k : Corners) → f ≡ face_of e → renamed es v f (with_vertex k (e % 3) v) ≡ renamed (e ∷ es) v f k
+renamed-same : (e : ℕ) (es : List ℕ) (v f : ℕ) (k : Corners) → f ≡ face_of e
+    → renamed es v f (with_vertex k (e % 3) v) ≡ renamed (e ∷ es) v f k
 renamed-same e es v f k is =
     let w : Corners = with_vertex k (e % 3) v in
     let a = vertex-a k (e % 3) v in
     let b = vertex-b k (e % 3) v in
     let c = vertex-c k (e % 3) v (omega arith) in
     corners_same (renamed es v f w) (renamed (e ∷ es) v f k)
-    (put_one (has es (3 * f)) e (3 * f) v k.a w.a (λ z. a.0 (omega (arith, z, is))) (λ z. a.1 (λ y. z (omega (arith, y, is)))))
-    (put_one (has es (3 * f + 1)) e (3 * f + 1) v k.b w.b (λ z. b.0 (omega (arith, z, is))) (λ z. b.1 (λ y. z (omega (arith, y, is)))))
-    (put_one (has es (3 * f + 2)) e (3 * f + 2) v k.c w.c (λ z. c.0 (omega (arith, z, is))) (λ z. c.1 (λ y. z (omega (arith, y, is)))))
+    (put_one (has es (3 * f)) e (3 * f) v k.a w.a (λ z. a.0 (omega (arith, z, is)))
+    (λ z. a.1 (λ y. z (omega (arith, y, is)))))
+    (put_one (has es (3 * f + 1)) e (3 * f + 1) v k.b w.b (λ z. b.0 (omega (arith, z, is)))
+    (λ z. b.1 (λ y. z (omega (arith, y, is)))))
+    (put_one (has es (3 * f + 2)) e (3 * f + 2) v k.c w.c (λ z. c.0 (omega (arith, z, is)))
+    (λ z. c.1 (λ y. z (omega (arith, y, is)))))
 
-map_twice : (g h : Corners → Corners) (o : Option Corners) → option_map g (option_map h o) ≡ option_map (λ k. g (h k)) o
+map_twice : (g h : Corners → Corners) (o : Option Corners)
+    → option_map g (option_map h o) ≡ option_map (λ k. g (h k)) o
 map_twice g h None = refl
 map_twice g h (Some k) = refl
 
-map_same : (g h : Corners → Corners) (o : Option Corners) → ((k : Corners) → g k ≡ h k) → option_map g o ≡ option_map h o
+map_same : (g h : Corners → Corners) (o : Option Corners) → ((k : Corners) → g k ≡ h k)
+    → option_map g o ≡ option_map h o
 map_same g h None same = refl
 map_same g h (Some k) same = ap Some (same k)
 
 -- One write, read at a face.
-read_corner : (faces : List (Option Corners)) (e v f : ℕ) → face_of e < length faces → get_or (with_corner faces e v) f None ≡ cond (eqb f (face_of e)) (option_map (λ k. with_vertex k (e % 3) v) (get_or faces f None)) (get_or faces f None)
+read_corner : (faces : List (Option Corners)) (e v f : ℕ) → face_of e < length faces
+    → get_or (with_corner faces e v) f None
+    ≡ cond (eqb f (face_of e)) (option_map (λ k. with_vertex k (e % 3) v) (get_or faces f None))
+    (get_or faces f None)
 read_corner faces e v f l =
     let new = option_map (λ k. with_vertex k (e % 3) v) (get_or faces (face_of e) None) in
     elim (cases_eq f (face_of e)) [
       | inl is ↦
-          ap (λ (i : ℕ). get_or (set faces (face_of e) new) i None) is ∙ get_or-set_same faces (face_of e) new None l
+          ap (λ (i : ℕ). get_or (set faces (face_of e) new) i None) is
+          ∙ get_or-set_same faces (face_of e) new None l
           ∙ ap (λ (i : ℕ). option_map (λ k. with_vertex k (e % 3) v) (get_or faces i None)) (sym is)
           ∙ sym (cond-true _ _ _ (eq-eqb f (face_of e) is))
-      | inr ne ↦ get_or-set_other faces (face_of e) f new None ne ∙ sym (cond-false _ _ _ (ne_eqb f (face_of e) ne))
+      | inr ne ↦ get_or-set_other faces (face_of e) f new None ne
+          ∙ sym (cond-false _ _ _ (ne_eqb f (face_of e) ne))
     ]
 
 -- All writes, read at a face.
-pub read_corners : (es : List ℕ) (faces : List (Option Corners)) (v f : ℕ) → ((e : ℕ) → has es e ≡ true → face_of e < length faces) →
+pub read_corners : (es : List ℕ) (faces : List (Option Corners)) (v f : ℕ)
+    → ((e : ℕ) → has es e ≡ true → face_of e < length faces) →
     get_or (with_corners faces es v) f None ≡ option_map (renamed es v f) (get_or faces f None)
 read_corners [] faces v f low = sym (map_id (get_or faces f None))
   where
@@ -116,14 +166,18 @@ read_corners [] faces v f low = sym (map_id (get_or faces f None))
 read_corners (e ∷ es) faces v f low =
     let here = low e (or_left (eqb e e) (has es e) (eq-eqb e e refl)) in
     let len = length-with_corner faces e v in
-    let rest = read_corners es (with_corner faces e v) v f (λ g h. subst (λ (n : ℕ). face_of g < n) (sym len) (low g (or_right (eqb e g) (has es g) h))) in
+    let rest = read_corners es (with_corner faces e v) v f
+    (λ g h. subst (λ (n : ℕ). face_of g < n) (sym len)
+    (low g (or_right (eqb e g) (has es g) h))) in
     let one = read_corner faces e v f here in
     elim (cases_eq f (face_of e)) [
       | inl is ↦
           rest ∙ ap (option_map (renamed es v f)) (one ∙ cond-true _ _ _ (eq-eqb f (face_of e) is))
           ∙ map_twice (renamed es v f) (λ k. with_vertex k (e % 3) v) (get_or faces f None)
-          ∙ map_same (λ k. renamed es v f (with_vertex k (e % 3) v)) (renamed (e ∷ es) v f) (get_or faces f None) (λ k. renamed-same e es v f k is)
+          ∙ map_same (λ k. renamed es v f (with_vertex k (e % 3) v)) (renamed (e ∷ es) v f)
+          (get_or faces f None) (λ k. renamed-same e es v f k is)
       | inr ne ↦
           rest ∙ ap (option_map (renamed es v f)) (one ∙ cond-false _ _ _ (ne_eqb f (face_of e) ne))
-          ∙ map_same (renamed es v f) (renamed (e ∷ es) v f) (get_or faces f None) (λ k. sym (renamed-other e es v f k ne))
+          ∙ map_same (renamed es v f) (renamed (e ∷ es) v f) (get_or faces f None)
+          (λ k. sym (renamed-other e es v f k ne))
     ]

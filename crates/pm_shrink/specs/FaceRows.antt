@@ -20,4 +20,5 @@ row_corners rows = map (λ (r : Row). r.corners) rows
 
 -- What stands across each side of the faces.
 unfoldable pub across_of : List Row → List (Option ℕ)
-across_of rows = map (λ e. across_in (face_row rows (face_of e)) (e % 3)) (range_with_len 0 (3 * length rows))
+across_of rows =
+    map (λ e. across_in (face_row rows (face_of e)) (e % 3)) (range_with_len 0 (3 * length rows))

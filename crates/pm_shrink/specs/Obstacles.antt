@@ -1,9 +1,11 @@
--- Why a pair may not be collapsed. Most reasons are shown by one face, and last as long as its corners are there.
+-- Why a pair may not be collapsed. Most reasons are shown by one face, and last as long as its
+-- corners are there.
 use Rattle.std.specs.Prelude.{◌≡◌, ◌≢◌, ℕ, ◌⊎◌}
 use Rattle.pm_base.specs.Place.{Place}
 use Rattle.pm_base.specs.Sides.{Net, face_of, next, prev, to, third, Stands, IsBorderSide, IsBorder}
 use Rattle.pm_runs.specs.Surfaces.{Surface, net_of_surface}
-use Rattle.pm_runs.specs.Pairs.{Runs, Joined, Links, HasSide, IsThird, HasFace, IsPair, StaysUpright, IsLegalPair}
+use Rattle.pm_runs.specs.Pairs.{Runs, Joined, Links, HasSide, IsThird, HasFace, IsPair}
+use Rattle.pm_runs.specs.Pairs.{StaysUpright, IsLegalPair}
 use Rattle.pm_shrink.specs.declared.verdict.Verdict.{Verdict}
 use Rattle.pm_shrink.specs.declared.verdict.Verdict.TheVariants as verdicts
 
@@ -49,7 +51,9 @@ pub record IsAlone (m : Net) (a b e : ℕ) : Type 0 where
 -- The face of side e shows why the pair may not be collapsed to the place.
 pub record Hinders (s : Surface) (a b : ℕ) (place : Place) (e : ℕ) : Type 0 where
   pub stands : Stands (net_of_surface s) e
-  pub why : TurnsOver s a b place e ⊎ (Strays (net_of_surface s) a b ((net_of_surface s).from e) ⊎ (TellsTriangle (net_of_surface s) a b e ⊎ IsAlone (net_of_surface s) a b e))
+  pub why : TurnsOver s a b place e
+      ⊎ (Strays (net_of_surface s) a b ((net_of_surface s).from e)
+      ⊎ (TellsTriangle (net_of_surface s) a b e ⊎ IsAlone (net_of_surface s) a b e))
 
 -- Both are on the border, and two faces hold both. This lasts as long as the two are there.
 pub record IsBarred (m : Net) (a b : ℕ) : Type 0 where

@@ -1,5 +1,6 @@
 -- How the tables of a `Shrink` hold what contracts see.
-use Rattle.std.specs.Prelude.{◌≡◌, ℕ, ◌+◌, ◌*◌, ◌≤◌, ◌%◌, Option, None, List, length, take, slice_index_or, unwrap_or}
+use Rattle.std.specs.Prelude.{◌≡◌, ℕ, ◌+◌, ◌*◌, ◌≤◌, ◌%◌, Option, None, List, length, take}
+use Rattle.std.specs.Prelude.{slice_index_or, unwrap_or}
 use Rattle.pm_base.specs.declared.limits.TheConstants.{MOST_NODES}
 use Rattle.pm_base.specs.Place.{Place}
 use Rattle.pm_base.specs.declared.mesh.Corners.{Corners}
@@ -9,7 +10,8 @@ use Rattle.pm_runs.specs.Surfaces.{Surface, net_of_surface, face_count_of}
 use Rattle.pm_runs.specs.Counts.{live_count_of}
 use Rattle.pm_shrink.specs.Shrinking.{Shrinking, IsKept}
 
--- The faces by number, each with its corners or none where it was dropped; and by number of a side what stands across it.
+-- The faces by number, each with its corners or none where it was dropped; and by number of a side
+-- what stands across it.
 pub record Faces : Type 0 where
   pub faces : List (Option Corners)
   pub across : List (Option ℕ)
@@ -28,10 +30,12 @@ shrinking_with faces places next corners = record {
   corners = corners.lists;
 }
 
--- The table of what stands across each side of a surface; of sides of dropped faces it says nothing.
+-- The table of what stands across each side of a surface; of sides of dropped faces it says
+-- nothing.
 pub record IsAcross (s : Surface) (across : List (Option ℕ)) : Type 0 where
   pub sides : length across ≡ 3 * length s.faces
-  pub each : (e : ℕ) → Stands (net_of_surface s) e → slice_index_or across e None ≡ twin_of (net_of_surface s) e
+  pub each : (e : ℕ) → Stands (net_of_surface s) e
+      → slice_index_or across e None ≡ twin_of (net_of_surface s) e
 
 -- The tables have room for every collapse that can come: each makes one vertex of two.
 pub record IsRoomy (s : Surface) (places : List (Option Place)) (next left : ℕ) : Type 0 where

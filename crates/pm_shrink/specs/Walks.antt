@@ -19,16 +19,18 @@ is_open_corner m e = is_none (twin_of m e) || is_none (twin_of m (prev e))
 
 -- A face has a side from p to q, and nothing stands across any of its sides.
 abbrev pub IsAloneAlong : Net → ℕ → ℕ → Type 0
-IsAloneAlong m p q = (e : ℕ) × Runs m e p q × IsBorderSide m e × IsBorderSide m (next e) × IsBorderSide m (prev e)
+IsAloneAlong m p q =
+    (e : ℕ) × Runs m e p q × IsBorderSide m e × IsBorderSide m (next e) × IsBorderSide m (prev e)
 
 -- w is a neighbour of b, and no third corner of a face that holds both a and b.
 abbrev pub IsStray : Net → ℕ → ℕ → ℕ → Type 0
 IsStray m a b w = Joined m b w × (IsThird m a b w → ⊥)
 
--- Such a one follows in the face at the corner; or it comes before there, and nothing stands across the side between. Else it
--- follows in the face that stands there.
+-- Such a one follows in the face at the corner; or it comes before there, and nothing stands across
+-- the side between. Else it follows in the face that stands there.
 abbrev pub HasStray : Net → ℕ → ℕ → ℕ → Type 0
-HasStray m a b e = IsStray m a b (to m e) ⊎ ((is_none (twin_of m (prev e)) ≡ true) × IsStray m a b (third m e))
+HasStray m a b e =
+    IsStray m a b (to m e) ⊎ ((is_none (twin_of m (prev e)) ≡ true) × IsStray m a b (third m e))
 
 -- The face at the corner, if it doesn't hold q, stays upright when the corner moves to the place.
 abbrev pub KeepsUpright : Surface → ℕ → Place → ℕ → Type 0

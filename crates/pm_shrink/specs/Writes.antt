@@ -1,5 +1,6 @@
 -- What a collapse writes, table by table.
-use Rattle.std.specs.Prelude.{ℕ, ◌+◌, ◌*◌, ◌%◌, ◌==◌, cond, Option, Some, None, option_map, List, [], ◌∷◌, slice_index_or, slice_set}
+use Rattle.std.specs.Prelude.{ℕ, ◌+◌, ◌*◌, ◌%◌, ◌==◌, cond, Option, Some, None, option_map, List}
+use Rattle.std.specs.Prelude.{[], ◌∷◌, slice_index_or, slice_set}
 use Rattle.pm_base.specs.declared.ids.Side.{Side}
 use Rattle.pm_base.specs.declared.log.Gone.{Gone}
 use Rattle.pm_base.specs.declared.mesh.Corners.{Corners}

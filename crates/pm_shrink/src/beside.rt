@@ -1,5 +1,6 @@
-//! A face that turns over, looked for beside the pair's edge. Where many corners are at one vertex, as in the middle of a cap,
-//! a face that does is mostly a few steps away, and the list of corners would come to it late.
+//! A face that turns over, looked for beside the pair's edge. Where many corners are at one vertex,
+//! as in the middle of a cap, a face that does is mostly a few steps away, and the list of corners
+//! would come to it late.
 ghost use Rattle.std.specs.Prelude.{◌≡◌, ◌≢◌, ◌<◌, ℕ, true, IfSome};
 ghost use Rattle.pm_base.specs.Sides.{Stands, IsTwin};
 ghost use Rattle.pm_runs.specs.Surfaces.{is_live as is_live_in};
@@ -22,7 +23,8 @@ enum Way {
 }
 
 impl Shrink {
-    // A corner of one of the two whose face doesn't hold the other, lies beside the pair's edge, and turns over.
+    // A corner of one of the two whose face doesn't hold the other, lies beside the pair's edge,
+    // and turns over.
     pub(crate) fn turned_near(&self, a: u32, b: u32, place: Point) -> Option<Side>
         requires a_live { is_live_in self.now.surface a ≡ true }
         requires b_live { is_live_in self.now.surface b ≡ true }
@@ -38,7 +40,8 @@ impl Shrink {
     fn turned_near_at(&self, p: u32, q: u32, place: Point) -> Option<Side>
         requires p_live { is_live_in self.now.surface p ≡ true }
         requires q_live { is_live_in self.now.surface q ≡ true }
-        ensures { IfSome result (λ e. Stands (net_at self.now) e.0 × ((net_at self.now).from e.0 ≡ p)
+        ensures { IfSome result (λ e. Stands (net_at self.now) e.0
+            × ((net_at self.now).from e.0 ≡ p)
             × TurnsAt self.now.surface q place e.0) }
     {
         if place == self.place(p) || self.corners_at(p).nth(MANY).is_none() {
@@ -53,11 +56,13 @@ impl Shrink {
         self.turned_along(edge, Way::Right, q, place)
     }
 
-    // A corner of p in a face that holds q. The corners at both are walked at once, so that the fewer ones decide.
+    // A corner of p in a face that holds q. The corners at both are walked at once, so that the
+    // fewer ones decide.
     fn corner_with(&self, p: u32, q: u32) -> Option<Side>
         requires p_live { is_live_in self.now.surface p ≡ true }
         requires q_live { is_live_in self.now.surface q ≡ true }
-        ensures { IfSome result (λ e. Stands (net_at self.now) e.0 × ((net_at self.now).from e.0 ≡ p)) }
+        ensures { IfSome result (λ e. Stands (net_at self.now) e.0
+            × ((net_at self.now).from e.0 ≡ p)) }
     {
         self.invariant();
         let mut at_p = self.corners_at(p);
@@ -77,11 +82,13 @@ impl Shrink {
         None
     }
 
-    // The first of the corners from this one on, one way round its vertex, whose face doesn't hold q and turns over.
+    // The first of the corners from this one on, one way round its vertex, whose face doesn't hold
+    // q and turns over.
     fn turned_along(&self, from: Side, way: Way, q: u32, place: Point) -> Option<Side>
         requires { Stands (net_at self.now) from.0 }
         ensures { IfSome result (λ e. Stands (net_at self.now) e.0
-            × ((net_at self.now).from e.0 ≡ (net_at self.now).from from.0) × TurnsAt self.now.surface q place e.0) }
+            × ((net_at self.now).from e.0 ≡ (net_at self.now).from from.0)
+            × TurnsAt self.now.surface q place e.0) }
     {
         let mut corner = from;
         for _ in 0..NEAR {

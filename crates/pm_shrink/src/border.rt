@@ -1,5 +1,5 @@
-//! What is known of the border without a walk over corners: for each vertex a border side that runs from it, where one
-//! was noted and is still one.
+//! What is known of the border without a walk over corners: for each vertex a border side that runs
+//! from it, where one was noted and is still one.
 ghost use Rattle.std.specs.Prelude.{◌≡◌, IfSome, IsTrue};
 ghost use Rattle.pm_base.specs.Sides.{to as to_of, Stands, IsBorder};
 ghost use Rattle.pm_shrink.specs.Shrinking.{net_at};
@@ -9,12 +9,13 @@ use crate::Shrink;
 use pm_base::{Gone, Side};
 
 impl Shrink {
-    /// Whether two faces hold the ends of a side, and both ends are known to be on the border, so that they may not be
-    /// collapsed as long as they are there. O(1).
+    /// Whether two faces hold the ends of a side, and both ends are known to be on the border, so
+    /// that they may not be collapsed as long as they are there. O(1).
     pub fn is_barred(&self, side: Side) -> bool
         requires { Stands (net_at self.now) side.0 }
         ensures { IsTrue result
-            → IsBarred (net_at self.now) ((net_at self.now).from side.0) (to_of (net_at self.now) side.0) }
+            → IsBarred (net_at self.now) ((net_at self.now).from side.0)
+            (to_of (net_at self.now) side.0) }
     {
         if self.is_border_side(side) {
             return false;
@@ -34,7 +35,8 @@ impl Shrink {
 
     // Whether a number, which may be any, is that of a corner at a vertex.
     fn is_corner_of(&self, corner: Side, v: u32) -> bool
-        ensures { IsTrue result → Stands (net_at self.now) corner.0 × ((net_at self.now).from corner.0 ≡ v) }
+        ensures { IsTrue result → Stands (net_at self.now) corner.0
+            × ((net_at self.now).from corner.0 ≡ v) }
     {
         match self.vertex_of(corner) {
             None => false,
@@ -44,7 +46,8 @@ impl Shrink {
 
     // The vertex at a corner, if the number, which may be any, is that of one.
     fn vertex_of(&self, corner: Side) -> Option<u32>
-        ensures { IfSome result (λ v. Stands (net_at self.now) corner.0 × ((net_at self.now).from corner.0 ≡ v)) }
+        ensures { IfSome result (λ v. Stands (net_at self.now) corner.0
+            × ((net_at self.now).from corner.0 ≡ v)) }
     {
         self.invariant();
         if corner.0 as usize >= 3 * self.faces.len() {
@@ -90,8 +93,8 @@ impl Shrink {
         }
     }
 
-    // Notes border sides after a collapse of a and b: what was noted for these runs from the new vertex now, and what
-    // stood across the other sides of the dropped faces may be on the border.
+    // Notes border sides after a collapse of a and b: what was noted for these runs from the new
+    // vertex now, and what stood across the other sides of the dropped faces may be on the border.
     pub(crate) fn note_merged(&mut self, a: u32, b: u32, left: Option<Gone>, right: Option<Gone>)
         ensures { self.new ≡ self.old }
     {

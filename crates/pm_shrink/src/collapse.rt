@@ -14,9 +14,9 @@ use crate::tables::{count_gone, drop_face, merge_corners, merge_places};
 use pm_base::{Collapse, Gone, Point};
 
 impl Shrink {
-    /// Collapses a pair that is legal at the place: both ends become the next vertex, there, and the faces that hold both
-    /// are dropped. Only the faces at the two ends are touched. The answer is the log's entry, with what stood across the
-    /// other sides of the dropped faces.
+    /// Collapses a pair that is legal at the place: both ends become the next vertex, there, and
+    /// the faces that hold both are dropped. Only the faces at the two ends are touched. The answer
+    /// is the log's entry, with what stood across the other sides of the dropped faces.
     pub fn collapse(&mut self, a: u32, b: u32, place: Point) -> Collapse
         requires ordered { a < b }
         requires legal { IsLegalPair self.old.surface a b place }

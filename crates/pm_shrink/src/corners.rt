@@ -7,11 +7,12 @@ ghost use Rattle.pm_shrink.specs.Writes.{with_vertex};
 use pm_base::Corners;
 use std::marker::Model;
 
-// Stands for each corner where there is no face. No vertex has this number, since it is past `MOST_NODES`.
+// Stands for each corner where there is no face. No vertex has this number, since it is past
+// `MOST_NODES`.
 const NONE: u32 = u32::MAX;
 
-/// The corners of a face, or none, in twelve bytes, where an `Option<Corners>` takes sixteen. Contracts see the corners,
-/// or none.
+/// The corners of a face, or none, in twelve bytes, where an `Option<Corners>` takes sixteen.
+/// Contracts see the corners, or none.
 #[derive(Clone, Copy)]
 pub(crate) struct OptionalCorners {
     a: u32,

@@ -1,5 +1,6 @@
 //! The faces of a surface, each beside what stands across its sides.
-ghost use Rattle.std.specs.Prelude.{◌≡◌, ◌+◌, ◌*◌, ◌<◌, ◌≤◌, ◌≢◌, ℕ, None, Some, length, map, slice_index_or, slice_set, is_some, true, All, IfOk, IfSome};
+ghost use Rattle.std.specs.Prelude.{◌≡◌, ◌+◌, ◌*◌, ◌<◌, ◌≤◌, ◌≢◌, ℕ, None, Some, length, map};
+ghost use Rattle.std.specs.Prelude.{slice_index_or, slice_set, is_some, true, All, IfOk, IfSome};
 ghost use Rattle.std.specs.Option.{option_map};
 ghost use Rattle.pm_base.specs.declared.limits.TheConstants.{MOST_FACES, MOST_NODES, MOST_SIDES};
 ghost use Rattle.pm_base.specs.Sides.{face_of};
@@ -32,7 +33,8 @@ impl Row {
     // Puts a vertex at corner number i, if the face is there.
     fn set_corner(&mut self, i: u32, vertex: u32)
         requires { vertex < MOST_NODES }
-        ensures corners { self.new.corners ≡ option_map (λ k. with_vertex k i vertex) self.old.corners }
+        ensures corners { self.new.corners
+            ≡ option_map (λ k. with_vertex k i vertex) self.old.corners }
         ensures across { (j : ℕ) → across_in self.new j ≡ across_in self.old j }
     {
         self.corners.set(i, vertex);
@@ -49,9 +51,9 @@ impl Row {
     }
 }
 
-/// The faces of a surface by number. What stands across the sides of a face lies beside its corners, since what reads
-/// the one mostly reads the other next. Contracts see two lists: the corners of each face, or none where it was dropped,
-/// and what stands across each side, or none.
+/// The faces of a surface by number. What stands across the sides of a face lies beside its
+/// corners, since what reads the one mostly reads the other next. Contracts see two lists: the
+/// corners of each face, or none where it was dropped, and what stands across each side, or none.
 #[derive(Drop)]
 pub(crate) struct FaceTable {
     rows: Vec<Row>,
@@ -63,7 +65,8 @@ impl Model for FaceTable {
 
     ghost Value = { Faces };
 
-    ghost view = { λ t. record { faces = row_corners t.rows.items; across = across_of t.rows.items } };
+    ghost view = { λ t.
+        record { faces = row_corners t.rows.items; across = across_of t.rows.items } };
 }
 
 impl FaceTable {
@@ -147,7 +150,8 @@ fn row_of(corners: Corners, across: &SideMap, face: u32) -> Row
     requires sides { 3 * face + 2 < length across.now }
     requires small { (e : ℕ) → IfSome (slice_index_or across.now e None) (λ g. g < MOST_SIDES) }
     ensures corners { result.corners ≡ Some corners }
-    ensures across { (i : ℕ) → i < 3 → across_in result i ≡ slice_index_or across.now (3 * face + i) None }
+    ensures across { (i : ℕ) → i < 3
+        → across_in result i ≡ slice_index_or across.now (3 * face + i) None }
 {
     let first = 3 * face;
     Row {

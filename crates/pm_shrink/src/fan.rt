@@ -1,8 +1,10 @@
 //! Walks over the corners at one vertex.
-ghost use Rattle.std.specs.Prelude.{◌≡◌, ◌<◌, ◌≤◌, ℕ, ◌↔◌, ◌||◌, true, IsTrue, All, MatchOption, is_none};
+ghost use Rattle.std.specs.Prelude.{◌≡◌, ◌<◌, ◌≤◌, ℕ, ◌↔◌, ◌||◌, true, IsTrue, All, MatchOption};
+ghost use Rattle.std.specs.Prelude.{is_none};
 ghost use Rattle.std.specs.Option.{option_map};
 ghost use Rattle.pm_base.specs.declared.limits.TheConstants.{MOST_SIDES};
-ghost use Rattle.pm_base.specs.Sides.{side_count, prev as prev_of, to as to_of, third as third_of, Stands, IsBorder, twin_of};
+ghost use Rattle.pm_base.specs.Sides.{side_count, prev as prev_of, to as to_of, third as third_of};
+ghost use Rattle.pm_base.specs.Sides.{Stands, IsBorder, twin_of};
 ghost use Rattle.pm_runs.specs.Surfaces.{is_live as is_live_in};
 ghost use Rattle.pm_runs.specs.Pairs.{Joined, IsThird, HasFace};
 ghost use Rattle.pm_runs.specs.Steps.{side_from_to};
@@ -64,8 +66,8 @@ impl Shrink {
         self.across(side).is_none()
     }
 
-    // Whether nothing stands across one of the two sides of a face at a corner: that which runs from it, and that which
-    // runs to it.
+    // Whether nothing stands across one of the two sides of a face at a corner: that which runs
+    // from it, and that which runs to it.
     fn is_border_corner(&self, corner: Side) -> bool
         requires { Stands (net_at self.now) corner.0 }
         ensures { result ≡ (is_none (twin_of (net_at self.now) corner.0)
@@ -75,7 +77,8 @@ impl Shrink {
         self.is_border_side(corner) || self.is_border_side(corner.prev())
     }
 
-    // The side from p to q, if a face has one. The corners at both are walked at once, so that the fewer ones decide.
+    // The side from p to q, if a face has one. The corners at both are walked at once, so that the
+    // fewer ones decide.
     pub(crate) fn side_to(&self, p: u32, q: u32) -> Option<Side>
         requires p_live { is_live_in self.now.surface p ≡ true }
         requires q_live { is_live_in self.now.surface q ≡ true }
@@ -104,8 +107,9 @@ impl Shrink {
         self.to(corner) == w || self.third(corner) == w
     }
 
-    // Whether some face holds both v and w. Where few corners are at v they decide, since those at w are seldom at hand.
-    // Else the corners at both are walked at once, so that the fewer ones decide.
+    // Whether some face holds both v and w. Where few corners are at v they decide, since those at
+    // w are seldom at hand. Else the corners at both are walked at once, so that the fewer ones
+    // decide.
     pub(crate) fn is_joined(&self, v: u32, w: u32) -> bool
         requires v_live { is_live_in self.now.surface v ≡ true }
         requires w_live { is_live_in self.now.surface w ≡ true }

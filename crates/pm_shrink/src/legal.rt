@@ -1,10 +1,13 @@
-//! Which pairs may be collapsed: the link condition with its border cases (Dey, Edelsbrunner, Guha and Nekhayev 1999),
-//! and the test for faces that turn over. Only the faces at the two ends are looked at.
+//! Which pairs may be collapsed: the link condition with its border cases (Dey, Edelsbrunner, Guha
+//! and Nekhayev 1999), and the test for faces that turn over. Only the faces at the two ends are
+//! looked at.
 ghost use Rattle.std.specs.Prelude.{◌≡◌, ◌≢◌, ◌<◌, ℕ, ◌↔◌, ◌&&◌, ◌≤ℤ◌, pos, true, IsTrue, is_none};
 ghost use Rattle.pm_base.specs.Geometry.{cross_of, dot_of};
-ghost use Rattle.pm_base.specs.Sides.{next as next_of, prev as prev_of, to as to_of, third as third_of, Stands, IsBorder, twin_of};
+ghost use Rattle.pm_base.specs.Sides.{next as next_of, prev as prev_of, to as to_of};
+ghost use Rattle.pm_base.specs.Sides.{third as third_of, Stands, IsBorder, twin_of};
 ghost use Rattle.pm_runs.specs.Surfaces.{is_live as is_live_in, place_at};
-ghost use Rattle.pm_runs.specs.Pairs.{HasSide, HaveCommonThirds, AreOnceOnBorder, ShareNoTriangle, AreNotAlone, StaysUpright, StayUpright, IsLegalPair};
+ghost use Rattle.pm_runs.specs.Pairs.{HasSide, HaveCommonThirds, AreOnceOnBorder, ShareNoTriangle};
+ghost use Rattle.pm_runs.specs.Pairs.{AreNotAlone, StaysUpright, StayUpright, IsLegalPair};
 ghost use Rattle.pm_shrink.specs.Shrinking.{net_at};
 ghost use Rattle.pm_shrink.specs.Walks.{IsStray, IsAloneAlong, StayUprightAt};
 
@@ -12,8 +15,8 @@ use crate::Shrink;
 use pm_base::{Point, Side, cross, dot};
 
 impl Shrink {
-    /// Whether the pair of two different live vertices may be collapsed to the place. The time is at most the product of
-    /// the numbers of faces at the two.
+    /// Whether the pair of two different live vertices may be collapsed to the place. The time is
+    /// at most the product of the numbers of faces at the two.
     pub fn pair_legal(&self, a: u32, b: u32, place: Point) -> bool
         requires a_live { is_live_in self.now.surface a ≡ true }
         requires b_live { is_live_in self.now.surface b ≡ true }
@@ -30,7 +33,8 @@ impl Shrink {
     fn is_linkable(&self, a: u32, b: u32) -> bool
         requires a_live { is_live_in self.now.surface a ≡ true }
         requires b_live { is_live_in self.now.surface b ≡ true }
-        ensures { IsTrue result ↔ ((HaveCommonThirds (net_at self.now) a b × ShareNoTriangle (net_at self.now) a b)
+        ensures { IsTrue result
+            ↔ ((HaveCommonThirds (net_at self.now) a b × ShareNoTriangle (net_at self.now) a b)
             × (AreOnceOnBorder (net_at self.now) a b × AreNotAlone (net_at self.now) a b)) }
     {
         self.keeps_apart(a, b) && self.keeps_border(a, b)
@@ -40,7 +44,8 @@ impl Shrink {
     fn keeps_apart(&self, a: u32, b: u32) -> bool
         requires a_live { is_live_in self.now.surface a ≡ true }
         requires b_live { is_live_in self.now.surface b ≡ true }
-        ensures { IsTrue result ↔ (HaveCommonThirds (net_at self.now) a b × ShareNoTriangle (net_at self.now) a b) }
+        ensures { IsTrue result
+            ↔ (HaveCommonThirds (net_at self.now) a b × ShareNoTriangle (net_at self.now) a b) }
     {
         self.have_common_thirds(a, b) && self.share_no_triangle(a, b)
     }
@@ -49,7 +54,8 @@ impl Shrink {
     fn keeps_border(&self, a: u32, b: u32) -> bool
         requires a_live { is_live_in self.now.surface a ≡ true }
         requires b_live { is_live_in self.now.surface b ≡ true }
-        ensures { IsTrue result ↔ (AreOnceOnBorder (net_at self.now) a b × AreNotAlone (net_at self.now) a b) }
+        ensures { IsTrue result
+            ↔ (AreOnceOnBorder (net_at self.now) a b × AreNotAlone (net_at self.now) a b) }
     {
         self.are_once_on_border(a, b) && self.are_not_alone(a, b)
     }
@@ -123,7 +129,8 @@ impl Shrink {
         self.side_to(p, q).is_some()
     }
 
-    // (iii) If two faces hold both, with third corners v and w, then not both a, v, w and b, v, w are the corners of faces.
+    // (iii) If two faces hold both, with third corners v and w, then not both a, v, w and b, v, w
+    // are the corners of faces.
     fn share_no_triangle(&self, a: u32, b: u32) -> bool
         requires a_live { is_live_in self.now.surface a ≡ true }
         requires b_live { is_live_in self.now.surface b ≡ true }
@@ -164,7 +171,8 @@ impl Shrink {
         self.is_border_side(side.next()) && self.is_border_side(side.prev())
     }
 
-    // (iv) No face that holds exactly one of the two turns over when that corner moves to the place.
+    // (iv) No face that holds exactly one of the two turns over when that corner moves to the
+    // place.
     fn stay_upright(&self, a: u32, b: u32, place: Point) -> bool
         requires a_live { is_live_in self.now.surface a ≡ true }
         requires b_live { is_live_in self.now.surface b ≡ true }
@@ -181,11 +189,12 @@ impl Shrink {
         self.turned_at(p, q, place).is_none()
     }
 
-    // Whether the face at a corner doesn't turn over when the corner moves to the place: the product of its two normals
-    // is then not below 0.
+    // Whether the face at a corner doesn't turn over when the corner moves to the place: the
+    // product of its two normals is then not below 0.
     pub(crate) fn is_upright(&self, corner: Side, place: Point) -> bool
         requires { Stands (net_at self.now) corner.0 }
-        ensures { IsTrue result ↔ StaysUpright self.now.surface place ((net_at self.now).from corner.0)
+        ensures { IsTrue result
+            ↔ StaysUpright self.now.surface place ((net_at self.now).from corner.0)
             (to_of (net_at self.now) corner.0) (third_of (net_at self.now) corner.0) }
     {
         self.invariant();

@@ -1,4 +1,5 @@
-//! The mesh that is being simplified: which pairs of vertices may be collapsed, and the collapse of one.
+//! The mesh that is being simplified: which pairs of vertices may be collapsed, and the collapse of
+//! one.
 #![tactic(auto)]
 
 mod beside;

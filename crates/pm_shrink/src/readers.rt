@@ -4,7 +4,8 @@ ghost use Rattle.std.specs.Option.{option_map};
 ghost use Rattle.pm_base.specs.declared.limits.TheConstants.{MOST_SIDES};
 ghost use Rattle.pm_base.specs.Sides.{side_count, Stands, twin_of};
 ghost use Rattle.pm_links.specs.Lists.{first_of, after};
-ghost use Rattle.pm_runs.specs.Surfaces.{next_vertex as next_vertex_of, is_live as is_live_in, place_at, face_count_of};
+ghost use Rattle.pm_runs.specs.Surfaces.{next_vertex as next_vertex_of, is_live as is_live_in};
+ghost use Rattle.pm_runs.specs.Surfaces.{place_at, face_count_of};
 ghost use Rattle.pm_shrink.specs.Shrinking.{net_at, fan_at, IsKept};
 
 use crate::Shrink;
@@ -48,18 +49,19 @@ impl Shrink {
         self.places[v as usize].unwrap()
     }
 
-    /// The first corner of the list of a live vertex, and none exactly where no face that is still there has the vertex.
-    /// Corner `i` of face `f` has the number `3f + i`.
+    /// The first corner of the list of a live vertex, and none exactly where no face that is still
+    /// there has the vertex. Corner `i` of face `f` has the number `3f + i`.
     pub fn first_corner(&self, v: u32) -> Option<Side>
         requires { is_live_in self.now.surface v ≡ true }
         ensures value { option_map (λ c. c.0) result ≡ first_of (fan_at self.now v) }
-        ensures stands { IfSome result (λ c. Stands (net_at self.now) c.0 × ((net_at self.now).from c.0 ≡ v)) }
+        ensures stands { IfSome result (λ c. Stands (net_at self.now) c.0
+            × ((net_at self.now).from c.0 ≡ v)) }
     {
         self.corners.first(v).map(Side)
     }
 
-    /// The corner after this one in the list of its vertex, and none exactly at the last. With `first_corner` it walks
-    /// each corner at a vertex once.
+    /// The corner after this one in the list of its vertex, and none exactly at the last. With
+    /// `first_corner` it walks each corner at a vertex once.
     pub fn next_corner(&self, corner: Side) -> Option<Side>
         requires { Stands (net_at self.now) corner.0 }
         ensures value { option_map (λ c. c.0) result
@@ -87,7 +89,8 @@ impl Shrink {
         self.faces.from(corner)
     }
 
-    /// What stands across a side of a face that is still there, and none exactly where nothing does.
+    /// What stands across a side of a face that is still there, and none exactly where nothing
+    /// does.
     pub fn across(&self, side: Side) -> Option<Side>
         requires { Stands (net_at self.now) side.0 }
         ensures { option_map (λ s. s.0) result ≡ twin_of (net_at self.now) side.0 }

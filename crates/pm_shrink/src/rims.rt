@@ -6,7 +6,8 @@ use crate::shrink::OutOfMemory;
 use pm_base::{OptionalSide, Side};
 use std::alloc::Global;
 
-/// For each vertex a side that ran from it with nothing across it when it was last noted, if one was.
+/// For each vertex a side that ran from it with nothing across it when it was last noted, if one
+/// was.
 #[derive(Drop)]
 pub(crate) struct RimTable {
     sides: Vec<OptionalSide>,

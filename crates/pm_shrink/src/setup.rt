@@ -1,5 +1,6 @@
 //! The surface before the first collapse.
-ghost use Rattle.std.specs.Prelude.{◌≡◌, ◌+◌, ◌-◌, ◌*◌, ◌<◌, ◌≤◌, ◌++◌, ◌↔◌, ℕ, [], Some, None, true, is_some, length, map, replicate, slice_index_or, IfOk};
+ghost use Rattle.std.specs.Prelude.{◌≡◌, ◌+◌, ◌-◌, ◌*◌, ◌<◌, ◌≤◌, ◌++◌, ◌↔◌, ℕ, [], Some, None};
+ghost use Rattle.std.specs.Prelude.{true, is_some, length, map, replicate, slice_index_or, IfOk};
 ghost use Rattle.pm_base.specs.declared.limits.TheConstants.{MOST_FACES, MOST_NODES};
 ghost use Rattle.pm_base.specs.Meshes.{mesh_of, IsWellFormed};
 ghost use Rattle.pm_base.specs.Sides.{face_of, net_of};
@@ -20,8 +21,8 @@ use pm_twins::Twins;
 use std::alloc::Global;
 
 impl Shrink {
-    /// The whole mesh, which is a well-formed oriented manifold, before the first collapse. All room for later vertices
-    /// is taken here. O(V + F) for V points and F faces.
+    /// The whole mesh, which is a well-formed oriented manifold, before the first collapse. All
+    /// room for later vertices is taken here. O(V + F) for V points and F faces.
     pub fn new(alloc: Global, mesh: Mesh, twins: Twins) -> Result<Shrink, OutOfMemory>
         requires formed { IsWellFormed (mesh_of mesh) }
         requires manifold { IsOrientedManifold (net_of mesh.faces.items) }
@@ -87,7 +88,8 @@ fn corner_lists(alloc: Global, faces: &FaceTable, room: usize) -> Result<Links, 
     requires room { room ≤ MOST_NODES }
     requires there { (e : ℕ) → e < 3 * length faces.now.faces
         → is_some (slice_index_or faces.now.faces (face_of e) None) ≡ true }
-    requires within { (e : ℕ) → e < 3 * length faces.now.faces → side_from faces.now.faces e < room }
+    requires within { (e : ℕ) → e < 3 * length faces.now.faces
+        → side_from faces.now.faces e < room }
     ensures items { IfOk result (λ lists. lists.items ≡ 3 * length faces.now.faces) }
     ensures heads { IfOk result (λ lists. length lists.lists ≡ room) }
     ensures sound { IfOk result IsSound }

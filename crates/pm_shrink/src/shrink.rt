@@ -12,11 +12,13 @@ pub type OutOfMemory = AllocError;
 /// A mesh that is being simplified. Contracts see the faces that are still there, the places of the
 /// live vertices, and by vertex number the lists of corners.
 ///
-/// Vertices are named by numbers, and each collapse makes the next one. Only `new` takes memory, some 60 bytes a face and
-/// 50 a point: there is room for as many later vertices as there are points, since each collapse takes two away for one.
+/// Vertices are named by numbers, and each collapse makes the next one. Only `new` takes memory,
+/// some 60 bytes a face and 50 a point: there is room for as many later vertices as there are
+/// points, since each collapse takes two away for one.
 #[derive(Drop)]
 pub struct Shrink {
-    // Each face, and what stands across its sides; of the sides of a dropped face that says nothing.
+    // Each face, and what stands across its sides; of the sides of a dropped face that says
+    // nothing.
     pub(crate) faces: FaceTable,
     // Which corners are at each vertex, in faces that are there.
     pub(crate) corners: Links,

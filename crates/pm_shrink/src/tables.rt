@@ -1,9 +1,11 @@
 //! What a collapse writes to the tables: free functions, each over the tables that it changes.
-ghost use Rattle.std.specs.Prelude.{◌≡◌, ◌≢◌, ◌+◌, ◌*◌, ◌<◌, ◌≤◌, ℕ, None, Some, length, slice_set, is_some, IfSome};
+ghost use Rattle.std.specs.Prelude.{◌≡◌, ◌≢◌, ◌+◌, ◌*◌, ◌<◌, ◌≤◌, ℕ, None, Some, length, slice_set};
+ghost use Rattle.std.specs.Prelude.{is_some, IfSome};
 ghost use Rattle.pm_base.specs.declared.limits.TheConstants.{MOST_FACES, MOST_NODES, MOST_SIDES};
 ghost use Rattle.pm_base.specs.Counts.{one_if};
 ghost use Rattle.pm_links.specs.Lists.{list_of, with_moved, IsHeld, IsSound};
-ghost use Rattle.pm_shrink.specs.Writes.{with_corners, without_face, without_corners, unlisted, with_across, relinked};
+ghost use Rattle.pm_shrink.specs.Writes.{with_corners, without_face, without_corners, unlisted};
+ghost use Rattle.pm_shrink.specs.Writes.{with_across, relinked};
 
 use crate::faces::FaceTable;
 use pm_base::{FaceId, Gone, Point, Side};
@@ -44,7 +46,8 @@ fn unlink_face(corners: &mut Links, face: FaceId)
     requires first { IsHeld corners.old (3 * face.0) }
     requires second { IsHeld corners.old (3 * face.0 + 1) }
     requires third { IsHeld corners.old (3 * face.0 + 2) }
-    ensures lists { (h : ℕ) → list_of corners.new h ≡ without_corners face.0 (list_of corners.old h) }
+    ensures lists { (h : ℕ)
+        → list_of corners.new h ≡ without_corners face.0 (list_of corners.old h) }
     ensures items { corners.new.items ≡ corners.old.items }
     ensures heads { length corners.new.lists ≡ length corners.old.lists }
 {
@@ -100,7 +103,8 @@ pub(crate) fn merge_places(places: &mut Vec<Option<Point>>, a: u32, b: u32, s: u
     requires a_in { a < length places.old.items }
     requires b_in { b < length places.old.items }
     requires s_in { s < length places.old.items }
-    ensures { places.new.items ≡ slice_set (slice_set (slice_set places.old.items a None) b None) s (Some place) }
+    ensures { places.new.items ≡ slice_set (slice_set (slice_set places.old.items a None) b None) s
+        (Some place) }
 {
     places[a as usize] = None;
     places[b as usize] = None;

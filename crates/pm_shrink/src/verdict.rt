@@ -2,9 +2,11 @@
 ghost use Rattle.std.specs.Prelude.{◌≡◌, ◌≢◌, ◌<◌, ℕ, true, IsTrue, IsFalse, MatchOption};
 ghost use Rattle.pm_base.specs.Sides.{to as to_of, third as third_of, Stands};
 ghost use Rattle.pm_runs.specs.Surfaces.{is_live as is_live_in};
-ghost use Rattle.pm_runs.specs.Pairs.{Joined, HaveCommonThirds, ShareNoTriangle, AreNotAlone, StaysUpright, StayUpright};
+ghost use Rattle.pm_runs.specs.Pairs.{Joined, HaveCommonThirds, ShareNoTriangle, AreNotAlone};
+ghost use Rattle.pm_runs.specs.Pairs.{StaysUpright, StayUpright};
 ghost use Rattle.pm_shrink.specs.Shrinking.{net_at};
-ghost use Rattle.pm_shrink.specs.Obstacles.{Strays, TellsTriangle, IsAlone, TurnsOver, Hinders, VerdictTells};
+ghost use Rattle.pm_shrink.specs.Obstacles.{Strays, TellsTriangle, IsAlone, TurnsOver, Hinders};
+ghost use Rattle.pm_shrink.specs.Obstacles.{VerdictTells};
 ghost use Rattle.pm_shrink.specs.Walks.{HasStray, KeepsUpright, StayUprightAt, TurnsAt};
 
 use crate::Shrink;
@@ -22,8 +24,8 @@ pub enum Verdict {
 }
 
 impl Shrink {
-    /// Whether a pair of neighbours may be collapsed to the place, and if not how long that lasts. The time is at most
-    /// the product of the numbers of faces at the two.
+    /// Whether a pair of neighbours may be collapsed to the place, and if not how long that lasts.
+    /// The time is at most the product of the numbers of faces at the two.
     pub fn verdict(&self, a: u32, b: u32, place: Point) -> Verdict
         requires a_live { is_live_in self.now.surface a ≡ true }
         requires b_live { is_live_in self.now.surface b ≡ true }
@@ -45,12 +47,13 @@ impl Shrink {
     fn hindrance(&self, a: u32, b: u32, place: Point) -> Option<Side>
         requires a_live { is_live_in self.now.surface a ≡ true }
         requires b_live { is_live_in self.now.surface b ≡ true }
-        ensures { MatchOption result ((HaveCommonThirds (net_at self.now) a b × ShareNoTriangle (net_at self.now) a b)
+        ensures { MatchOption result
+            ((HaveCommonThirds (net_at self.now) a b × ShareNoTriangle (net_at self.now) a b)
             × (AreNotAlone (net_at self.now) a b × StayUpright self.now.surface a b place))
             (λ e. Hinders self.now.surface a b place e.0) }
     {
-        // A face that turns over is asked for first: where many corners are at one of the two, most pairs wait for one, and
-        // it is found before all neighbours have been compared.
+        // A face that turns over is asked for first: where many corners are at one of the two, most
+        // pairs wait for one, and it is found before all neighbours have been compared.
         if let Some(side) = self.turned(a, b, place) {
             return Some(side);
         }
@@ -68,7 +71,8 @@ impl Shrink {
         requires a_live { is_live_in self.now.surface a ≡ true }
         requires b_live { is_live_in self.now.surface b ≡ true }
         ensures { MatchOption result (HaveCommonThirds (net_at self.now) a b)
-            (λ e. Stands (net_at self.now) e.0 × Strays (net_at self.now) a b ((net_at self.now).from e.0)) }
+            (λ e. Stands (net_at self.now) e.0
+            × Strays (net_at self.now) a b ((net_at self.now).from e.0)) }
     {
         for number in self.corners_at(a) {
             if let Some(side) = self.stray_at(a, b, Side(number)) {
@@ -78,15 +82,16 @@ impl Shrink {
         None
     }
 
-    // Such a side in the face at a corner of a. A neighbour that comes before a in the face follows it in the next face, so
-    // that it is asked about here only where there is none.
+    // Such a side in the face at a corner of a. A neighbour that comes before a in the face follows
+    // it in the next face, so that it is asked about here only where there is none.
     fn stray_at(&self, a: u32, b: u32, corner: Side) -> Option<Side>
         requires a_live { is_live_in self.now.surface a ≡ true }
         requires b_live { is_live_in self.now.surface b ≡ true }
         requires corner { Stands (net_at self.now) corner.0 }
         requires at { (net_at self.now).from corner.0 ≡ a }
         ensures { MatchOption result (HasStray (net_at self.now) a b corner.0 → ⊥)
-            (λ e. Stands (net_at self.now) e.0 × Strays (net_at self.now) a b ((net_at self.now).from e.0)) }
+            (λ e. Stands (net_at self.now) e.0
+            × Strays (net_at self.now) a b ((net_at self.now).from e.0)) }
     {
         self.invariant();
         if self.is_stray(a, b, self.to(corner)) {
@@ -98,8 +103,8 @@ impl Shrink {
         None
     }
 
-    // (iii) If two faces hold both, with third corners v and w, and both a, v, w and b, v, w are the corners of faces, a
-    // side of the first of these.
+    // (iii) If two faces hold both, with third corners v and w, and both a, v, w and b, v, w are
+    // the corners of faces, a side of the first of these.
     pub(crate) fn shared_triangle(&self, a: u32, b: u32) -> Option<Side>
         requires a_live { is_live_in self.now.surface a ≡ true }
         requires b_live { is_live_in self.now.surface b ≡ true }
@@ -150,8 +155,8 @@ impl Shrink {
         self.turned_at(b, a, place)
     }
 
-    // A corner of p whose face doesn't hold q, and turns over when p moves to the place. Where p stays at its place none
-    // does.
+    // A corner of p whose face doesn't hold q, and turns over when p moves to the place. Where p
+    // stays at its place none does.
     pub(crate) fn turned_at(&self, p: u32, q: u32, place: Point) -> Option<Side>
         requires { is_live_in self.now.surface p ≡ true }
         ensures { MatchOption result (StayUprightAt self.now.surface p q place)

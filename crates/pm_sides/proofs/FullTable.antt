@@ -1,5 +1,6 @@
 -- The full front: the records below their number are all of them.
-use Rattle.std.proofs.Common.{◌≡◌, ℕ, ◌*◌, ◌<◌, Bool, true, false, List, Option, replicate, inl, inr, refl, sym, ◌∙◌, arith}
+use Rattle.std.proofs.Common.{◌≡◌, ℕ, ◌*◌, ◌<◌, Bool, true, false, List, Option, replicate, inl}
+use Rattle.std.proofs.Common.{inr, refl, sym, ◌∙◌, arith}
 use Rattle.std.proofs.Math.Path.{fun_ext}
 use Rattle.std.proofs.lemmas.List.{get_or-replicate, get_or_past, length-replicate}
 use Rattle.std.proofs.lemmas.Bool.{lt-ltb, le-ltb, cases_lt, both_ways}
@@ -25,7 +26,8 @@ pub set_of-all : (n : ℕ) → set_of (replicate n true) ≡ below n
 set_of-all n = fun_ext (λ j.
     elim (cases_lt j n) [
       | inl l ↦ get_or-replicate n j true false l ∙ sym (lt-ltb j n l)
-      | inr l ↦ get_or_past (replicate n true) j false (omega (arith, length-replicate n true)) ∙ sym (le-ltb j n l)
+      | inr l ↦ get_or_past (replicate n true) j false (omega (arith, length-replicate n true))
+          ∙ sym (le-ltb j n l)
     ])
 
 module _ (h : Hierarchy) (shape : HasShape h) where
@@ -36,17 +38,21 @@ module _ (h : Hierarchy) (shape : HasShape h) where
   all-shown e l =
       elim (option_cases (record_of h e)) [
         | inl base ↦ shown_base h all e base
-        | inr (k, own) ↦ shown_record h all e k own ∙ lt-ltb k (record_count h) (record-lt h e k l own)
+        | inr (k, own) ↦ shown_record h all e k own
+            ∙ lt-ltb k (record_count h) (record-lt h e k l own)
       ]
 
-  pub all-stored : NoSideTwice (leaf_net h) → (table : List (Option ℕ)) → AreStored h every table → AreStored h all table
+  pub all-stored : NoSideTwice (leaf_net h) → (table : List (Option ℕ)) → AreStored h every table
+      → AreStored h all table
   all-stored once table full = record {
     sides = full.sides;
     shown = λ a l s.
         let far = full.shown a l (shown_every h a) in
         record {
           reaches = fewer h every all (λ j e. refl) far.reaches;
-          stops = stops_there h all (beside_side table a) (λ c is. all-shown c (reaches-lt h (shape_is_forest h shape) once every c far.reaches is));
+          stops = stops_there h all (beside_side table a)
+              (λ c is. all-shown c
+              (reaches-lt h (shape_is_forest h shape) once every c far.reaches is));
         };
     hidden = λ a l d. absurd (both_ways (is_shown h all a) d (all-shown a l));
   }

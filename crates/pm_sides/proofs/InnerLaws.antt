@@ -1,5 +1,7 @@
 -- The table of the inner sides of the faces.
-use Rattle.std.proofs.Common.{◌≡◌, ℕ, ◌+◌, ◌*◌, ◌<◌, Some, List, [], ◌∷◌, ◌++◌, length, slice_index_or, inl, inr, refl, sym, ap, ◌∙◌, subst, arith, length-append}
+use Rattle.std.proofs.Common.{◌≡◌, ℕ, ◌+◌, ◌*◌, ◌<◌, Some, List, [], ◌∷◌, ◌++◌, length}
+use Rattle.std.proofs.Common.{slice_index_or, inl, inr, refl, sym, ap, ◌∙◌, subst, arith}
+use Rattle.std.proofs.Common.{length-append}
 use Rattle.std.proofs.Math.ListN.{get_or-append}
 use Rattle.std.proofs.Math.Seq.{get_or-append_seam}
 use Rattle.std.proofs.lemmas.Bool.{cases_lt}
@@ -9,33 +11,44 @@ use Rattle.pm_sides.specs.Tables.{AreInnerCorners, inner_at}
 
 -- One more entry.
 pub inners_none : (h : Hierarchy) → AreInnerCorners h 0 []
-inners_none h = record { len = refl; few = λ f l. absurd (omega arith); each = λ f l. absurd (omega arith) }
+inners_none h = record {
+  len = refl;
+  few = λ f l. absurd (omega arith);
+  each = λ f l. absurd (omega arith);
+}
 
-pub entry_old : (n x : ℕ) (xs : List ℕ) → length xs ≡ n → (f : ℕ) → f < n → slice_index_or (xs ++ x ∷ []) f 0 ≡ slice_index_or xs f 0
+pub entry_old : (n x : ℕ) (xs : List ℕ) → length xs ≡ n → (f : ℕ) → f < n
+    → slice_index_or (xs ++ x ∷ []) f 0 ≡ slice_index_or xs f 0
 entry_old n x xs len f l = get_or-append xs (x ∷ []) 0 f (omega (arith, len))
 
 pub entry_new : (n x : ℕ) (xs : List ℕ) → length xs ≡ n → slice_index_or (xs ++ x ∷ []) n 0 ≡ x
-entry_new n x xs len = ap (λ i. slice_index_or (xs ++ x ∷ []) i 0) (sym len) ∙ get_or-append_seam xs x [] 0
+entry_new n x xs len =
+    ap (λ i. slice_index_or (xs ++ x ∷ []) i 0) (sym len) ∙ get_or-append_seam xs x [] 0
 
-pub inners_go_on : (h : Hierarchy) (n x : ℕ) (xs : List ℕ) → AreInnerCorners h n xs → x < 3 → 3 * n + x ≡ inner_at h n (revealed_by h n) → AreInnerCorners h (n + 1) (xs ++ x ∷ [])
+pub inners_go_on : (h : Hierarchy) (n x : ℕ) (xs : List ℕ) → AreInnerCorners h n xs → x < 3
+    → 3 * n + x ≡ inner_at h n (revealed_by h n) → AreInnerCorners h (n + 1) (xs ++ x ∷ [])
 inners_go_on h n x xs so_far few is = record {
   len = length-append xs (x ∷ []) ∙ ap (λ m. m + 1) so_far.len;
   few = λ f l. elim (cases_lt f n) [
     | inl a ↦ subst (λ c. c < 3) (sym (entry_old n x xs so_far.len f a)) (so_far.few f a)
     | inr a ↦
         let last : n ≡ f = omega arith in
-        subst (λ g. slice_index_or (xs ++ x ∷ []) g 0 < 3) last (subst (λ c. c < 3) (sym (entry_new n x xs so_far.len)) few)
+        subst (λ g. slice_index_or (xs ++ x ∷ []) g 0 < 3) last
+        (subst (λ c. c < 3) (sym (entry_new n x xs so_far.len)) few)
   ];
   each = λ f l. elim (cases_lt f n) [
     | inl a ↦ ap (λ c. 3 * f + c) (entry_old n x xs so_far.len f a) ∙ so_far.each f a
     | inr a ↦
         let last : n ≡ f = omega arith in
-        subst (λ g. 3 * g + slice_index_or (xs ++ x ∷ []) g 0 ≡ inner_at h g (revealed_by h g)) last (ap (λ c. 3 * n + c) (entry_new n x xs so_far.len) ∙ is)
+        subst (λ g. 3 * g + slice_index_or (xs ++ x ∷ []) g 0 ≡ inner_at h g (revealed_by h g)) last
+        (ap (λ c. 3 * n + c) (entry_new n x xs so_far.len) ∙ is)
   ];
 }
 
-pub inner_few : (h : Hierarchy) (n : ℕ) (xs : List ℕ) → AreInnerCorners h n xs → (f : ℕ) → f < n → slice_index_or xs f 0 < 3
+pub inner_few : (h : Hierarchy) (n : ℕ) (xs : List ℕ) → AreInnerCorners h n xs → (f : ℕ) → f < n
+    → slice_index_or xs f 0 < 3
 inner_few h n xs inners = inners.few
 
-pub inner_read : (h : Hierarchy) (n : ℕ) (xs : List ℕ) → AreInnerCorners h n xs → (k f : ℕ) → f < n → revealed_by h f ≡ Some k → 3 * f + slice_index_or xs f 0 ≡ inner_of h k f
+pub inner_read : (h : Hierarchy) (n : ℕ) (xs : List ℕ) → AreInnerCorners h n xs → (k f : ℕ) → f < n
+    → revealed_by h f ≡ Some k → 3 * f + slice_index_or xs f 0 ≡ inner_of h k f
 inner_read h n xs inners k f l own = inners.each f l ∙ ap (inner_at h f) own

@@ -1,4 +1,5 @@
--- for callers: the sides and faces of records, the nodes that they split, and what is read of the table
+-- for callers: the sides and faces of records, the nodes that they split, and what is read of the
+-- table
 pub mod RecordSides
 pub mod SideLaws
 pub mod FirstLaws

@@ -1,5 +1,6 @@
 -- What holds of a hierarchy while it is lowered, from the full front on.
-use Rattle.std.proofs.Common.{◌≡◌, ℕ, suc, ◌-◌, ◌*◌, ◌<◌, Bool, true, false, List, [], ◌∷◌, Option, Some, inl, inr, length, replicate, refl, sym, ap, ◌∙◌, subst, arith}
+use Rattle.std.proofs.Common.{◌≡◌, ℕ, suc, ◌-◌, ◌*◌, ◌<◌, Bool, true, false, List, [], ◌∷◌, Option}
+use Rattle.std.proofs.Common.{Some, inl, inr, length, replicate, refl, sym, ap, ◌∙◌, subst, arith}
 use Rattle.std.proofs.Math.ListN.{set, length-set}
 use Rattle.std.proofs.lemmas.Bool.{cases_eq, lt-ltb, le-ltb}
 use Rattle.std.proofs.lemmas.List.{length-replicate}
@@ -20,63 +21,88 @@ use Rattle.pm_sides.specs.Told.{TellsAll}
 use Rattle.pm_sides.specs.Lowering.{IsLoweredTo, IsLowering}
 use Rattle.pm_sides.proofs.FullTable.{set_of-all, all-stored}
 
-pub full_lowered : (h : Hierarchy) → IsLoweredTo h (replicate (record_count h) true) (record_count h)
-full_lowered h = record { most = omega arith; front = set_of-all (record_count h); told = λ k a b. absurd (omega arith) }
+pub full_lowered : (h : Hierarchy)
+    → IsLoweredTo h (replicate (record_count h) true) (record_count h)
+full_lowered h = record {
+  most = omega arith;
+  front = set_of-all (record_count h);
+  told = λ k a b. absurd (omega arith);
+}
 
-module _ (h : Hierarchy) (shape : HasShape h) (once : NoSideTwice (leaf_net h)) (flags : List Bool) (left : ℕ) (to : IsLoweredTo h flags left) (len : length flags ≡ record_count h) where
+module _ (h : Hierarchy) (shape : HasShape h) (once : NoSideTwice (leaf_net h)) (flags : List Bool)
+    (left : ℕ) (to : IsLoweredTo h flags left) (len : length flags ≡ record_count h) where
   pub last_told : 0 < left → TellsAll h (set_of flags) (left - 1) → IsAsTold h (left - 1)
   last_told pos tells =
       let last : suc (left - 1) ≡ left = omega arith in
       let T : set_of flags ≡ below (suc (left - 1)) = to.front ∙ ap below (sym last) in
-      (told_found h shape once (left - 1) (omega (arith, to.most))).1 (subst (λ (U : ℕ → Bool). TellsAll h U (left - 1)) T tells)
+      (told_found h shape once (left - 1) (omega (arith, to.most))).1
+      (subst (λ (U : ℕ → Bool). TellsAll h U (left - 1)) T tells)
 
   pub last_fails : 0 < left → (TellsAll h (set_of flags) (left - 1) → ⊥) → IsAsTold h (left - 1) → ⊥
   last_fails pos untold told =
       let last : suc (left - 1) ≡ left = omega arith in
       let T : set_of flags ≡ below (suc (left - 1)) = to.front ∙ ap below (sym last) in
-      untold (subst (λ (U : ℕ → Bool). TellsAll h U (left - 1)) (sym T) ((told_found h shape once (left - 1) (omega (arith, to.most))).0 told))
+      untold (subst (λ (U : ℕ → Bool). TellsAll h U (left - 1)) (sym T)
+      ((told_found h shape once (left - 1) (omega (arith, to.most))).0 told))
 
-  pub lowered : 0 < left → TellsAll h (set_of flags) (left - 1) → IsLoweredTo h (set flags (left - 1) false) (left - 1)
+  pub lowered : 0 < left → TellsAll h (set_of flags) (left - 1)
+      → IsLoweredTo h (set flags (left - 1) false) (left - 1)
   lowered pos tells =
       let told = last_told pos tells in
       let last : suc (left - 1) ≡ left = omega arith in
       let most = to.most in
       record {
         most = omega arith;
-        front = set_of-clear flags (left - 1) (omega arith) ∙ ap (λ (U : ℕ → Bool). without U (left - 1)) (to.front ∙ ap below (sym last)) ∙ without-below (left - 1);
-        told = λ j a b. elim (cases_eq j (left - 1)) [ inl is ↦ subst (IsAsTold h) (sym is) told | inr other ↦ to.told j (omega arith) b ];
+        front = set_of-clear flags (left - 1) (omega arith)
+            ∙ ap (λ (U : ℕ → Bool). without U (left - 1)) (to.front ∙ ap below (sym last))
+            ∙ without-below (left - 1);
+        told = λ j a b. elim (cases_eq j (left - 1)) [
+          | inl is ↦ subst (IsAsTold h) (sym is) told
+          | inr other ↦ to.told j (omega arith) b
+        ];
       }
 
   -- the last record that is split, and its children
   pub last_split : 0 < left → set_of flags (left - 1) ≡ true
-  last_split pos = ap (λ (U : ℕ → Bool). U (left - 1)) to.front ∙ lt-ltb (left - 1) left (omega arith)
+  last_split pos =
+      ap (λ (U : ℕ → Bool). U (left - 1)) to.front ∙ lt-ltb (left - 1) left (omega arith)
 
-  pub last_beyond : 0 < left → TellsAll h (set_of flags) (left - 1) → (e : ℕ) → e < 3 * face_count h → record_of h e ≡ Some (left - 1) → Beyond h (set_of flags) e (expected h e)
+  pub last_beyond : 0 < left → TellsAll h (set_of flags) (left - 1) → (e : ℕ) → e < 3 * face_count h
+      → record_of h e ≡ Some (left - 1) → Beyond h (set_of flags) e (expected h e)
   last_beyond pos tells e e_lt own =
       let last : suc (left - 1) ≡ left = omega arith in
       let T : set_of flags ≡ below (suc (left - 1)) = to.front ∙ ap below (sym last) in
       let told = last_told pos tells in
       subst (λ (U : ℕ → Bool). Beyond h U e (expected h e)) (sym T)
-      (elim (cases_eq e (inner_of h (left - 1) (face_of e))) [ inl is ↦ told.1 e e_lt (own, is) | inr other ↦ told.0 e e_lt (own, other) ])
+      (elim (cases_eq e (inner_of h (left - 1) (face_of e))) [
+        | inl is ↦ told.1 e e_lt (own, is)
+        | inr other ↦ told.0 e e_lt (own, other)
+      ])
 
   pub lowered-front : IsFront h (set_of flags)
   lowered-front = subst (IsFront h) (sym to.front) (below-front h (shape_of_nodes h shape) left)
 
 -- A lowering begins with all records split, and goes on by the last one that is.
-pub lowering-begins : (h : Hierarchy) → HasShape h → NoSideTwice (leaf_net h) → (flags : List Bool) (table : List (Option ℕ)) → flags ≡ replicate (record_count h) true →
+pub lowering-begins : (h : Hierarchy) → HasShape h → NoSideTwice (leaf_net h)
+    → (flags : List Bool) (table : List (Option ℕ)) → flags ≡ replicate (record_count h) true →
     AreStored h every table → IsLowering h flags table (record_count h)
 lowering-begins h shape once flags table all_set full =
-    let is : set_of flags ≡ below (record_count h) = ap set_of all_set ∙ set_of-all (record_count h) in
+    let is : set_of flags ≡ below (record_count h) =
+    ap set_of all_set ∙ set_of-all (record_count h) in
     record {
       shape = shape;
       once = once;
       flag_len = ap length all_set ∙ length-replicate (record_count h) true;
-      lowered = subst (λ (fs : List Bool). IsLoweredTo h fs (record_count h)) (sym all_set) (full_lowered h);
-      beyond = subst (λ (T : ℕ → Bool). AreStored h T table) (sym is) (all-stored h shape once table full);
+      lowered = subst (λ (fs : List Bool). IsLoweredTo h fs (record_count h)) (sym all_set)
+          (full_lowered h);
+      beyond = subst (λ (T : ℕ → Bool). AreStored h T table) (sym is)
+          (all-stored h shape once table full);
     }
 
-pub lowering-goes_on : (h : Hierarchy) (flags : List Bool) (table : List (Option ℕ)) (left : ℕ) → IsLowering h flags table left → 0 < left → TellsAll h (set_of flags) (left - 1) →
-    (now : List (Option ℕ)) → AreStored h (without (set_of flags) (left - 1)) now → IsLowering h (set flags (left - 1) false) now (left - 1)
+pub lowering-goes_on : (h : Hierarchy) (flags : List Bool) (table : List (Option ℕ)) (left : ℕ)
+    → IsLowering h flags table left → 0 < left → TellsAll h (set_of flags) (left - 1) →
+    (now : List (Option ℕ)) → AreStored h (without (set_of flags) (left - 1)) now
+    → IsLowering h (set flags (left - 1) false) now (left - 1)
 lowering-goes_on h flags table left was pos tells now right =
     let most = was.lowered.most in
     record {
@@ -84,22 +110,28 @@ lowering-goes_on h flags table left was pos tells now right =
       once = was.once;
       flag_len = length-set flags (left - 1) false ∙ was.flag_len;
       lowered = lowered h was.shape was.once flags left was.lowered was.flag_len pos tells;
-      beyond = subst (λ (T : ℕ → Bool). AreStored h T now) (sym (set_of-clear flags (left - 1) (omega (arith, was.flag_len)))) right;
+      beyond = subst (λ (T : ℕ → Bool). AreStored h T now)
+          (sym (set_of-clear flags (left - 1) (omega (arith, was.flag_len)))) right;
     }
 
 -- Once no record is split, no flag is set.
-all_false : (flags : List Bool) → ((j : ℕ) → j < length flags → set_of flags j ≡ false) → flags ≡ replicate (length flags) false
+all_false : (flags : List Bool) → ((j : ℕ) → j < length flags → set_of flags j ≡ false)
+    → flags ≡ replicate (length flags) false
 all_false [] none = refl
 all_false (x ∷ xs) none =
     let first : x ≡ false = none 0 (omega arith) in
     let later = all_false xs (λ j l. none (suc j) (omega arith)) in
     ap (λ y. y ∷ xs) first ∙ ap (λ (ys : List Bool). false ∷ ys) later
 
-module _ (h : Hierarchy) (flags : List Bool) (table : List (Option ℕ)) (left : ℕ) (was : IsLowering h flags table left) (none : left ≡ 0) where
+module _ (h : Hierarchy) (flags : List Bool) (table : List (Option ℕ)) (left : ℕ)
+    (was : IsLowering h flags table left) (none : left ≡ 0) where
   pub lowered-flags : flags ≡ replicate (record_count h) false
   lowered-flags =
-      let clear = λ (j : ℕ) (l : j < length flags). ap (λ (U : ℕ → Bool). U j) (was.lowered.front ∙ ap below none) ∙ le-ltb j 0 (omega arith) in
+      let clear = λ (j : ℕ) (l : j < length flags). ap (λ (U : ℕ → Bool). U j) (was.lowered.front
+      ∙ ap below none) ∙ le-ltb j 0 (omega arith) in
       all_false flags clear ∙ ap (λ n. replicate n false) was.flag_len
 
   pub lowered-stored : AreStored h no_records table
-  lowered-stored = subst (λ (T : ℕ → Bool). AreStored h T table) (ap set_of lowered-flags ∙ set_of-unset (record_count h)) was.beyond
+  lowered-stored =
+      subst (λ (T : ℕ → Bool). AreStored h T table) (ap set_of lowered-flags
+      ∙ set_of-unset (record_count h)) was.beyond

@@ -1,5 +1,6 @@
 -- The node that each record splits, and the table of these.
-use Rattle.std.proofs.Common.{◌≡◌, ℕ, ◌+◌, ◌<◌, List, [], ◌∷◌, ◌++◌, slice_index_or, inl, inr, ap, ◌∙◌, subst, refl, arith, length-append}
+use Rattle.std.proofs.Common.{◌≡◌, ℕ, ◌+◌, ◌<◌, List, [], ◌∷◌, ◌++◌, slice_index_or, inl, inr, ap}
+use Rattle.std.proofs.Common.{◌∙◌, subst, refl, arith, length-append}
 use Rattle.std.proofs.lemmas.Bool.{cases_lt}
 use Rattle.pm_forest.specs.Forest.{Hierarchy, node_count, record_at, record_count, s_of}
 use Rattle.pm_forest.specs.Rules.{HasShape}
@@ -20,13 +21,15 @@ s_below h shape k l = let older = (shape_of_nodes h shape).older k l in omega ar
 pub splits_none : (h : Hierarchy) → AreSplitNodes h 0 []
 splits_none h = record { len = refl; each = λ k l. absurd (omega arith) }
 
-pub splits_go_on : (h : Hierarchy) (n x : ℕ) (xs : List ℕ) → AreSplitNodes h n xs → x ≡ s_of h n → AreSplitNodes h (n + 1) (xs ++ x ∷ [])
+pub splits_go_on : (h : Hierarchy) (n x : ℕ) (xs : List ℕ) → AreSplitNodes h n xs → x ≡ s_of h n
+    → AreSplitNodes h (n + 1) (xs ++ x ∷ [])
 splits_go_on h n x xs so_far is = record {
   len = length-append xs (x ∷ []) ∙ ap (λ m. m + 1) so_far.len;
   each = λ k l. elim (cases_lt k n) [
     | inl a ↦ entry_old n x xs so_far.len k a ∙ so_far.each k a
     | inr a ↦
         let last : n ≡ k = omega arith in
-        subst (λ j. slice_index_or (xs ++ x ∷ []) j 0 ≡ s_of h j) last (entry_new n x xs so_far.len ∙ is)
+        subst (λ j. slice_index_or (xs ++ x ∷ []) j 0 ≡ s_of h j) last (entry_new n x xs so_far.len
+        ∙ is)
   ];
 }

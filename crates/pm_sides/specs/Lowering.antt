@@ -21,7 +21,8 @@ pub record IsLoweredTo (h : Hierarchy) (flags : List Bool) (left : ℕ) : Type 0
   pub told : (k : ℕ) → left ≤ k → k < record_count h → IsAsTold h k
 
 -- What a lowering keeps: a flag for each record, and the table of what stands beyond each side.
-pub record IsLowering (h : Hierarchy) (flags : List Bool) (table : List (Option ℕ)) (left : ℕ) : Type 0 where
+pub record IsLowering (h : Hierarchy) (flags : List Bool) (table : List (Option ℕ)) (left : ℕ) :
+    Type 0 where
   pub shape : HasShape h
   pub once : NoSideTwice (leaf_net h)
   pub flag_len : length flags ≡ record_count h

@@ -6,4 +6,5 @@ use Rattle.pm_beyond.specs.Walks.{beyond_of, expected}
 
 -- Beyond each side of the faces of record k stands what the record tells.
 abbrev pub TellsAll : Hierarchy → (ℕ → Bool) → ℕ → Type 0
-TellsAll h T k = (e : ℕ) → e < 3 * face_count h → record_of h e ≡ Some k → beyond_of h T e ≡ expected h e
+TellsAll h T k = (e : ℕ) → e < 3 * face_count h → record_of h e ≡ Some k
+    → beyond_of h T e ≡ expected h e

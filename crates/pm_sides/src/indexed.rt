@@ -1,5 +1,5 @@
-//! A hierarchy with the first face of each record, the node that it splits, and the inner side of each face: what no
-//! move changes.
+//! A hierarchy with the first face of each record, the node that it splits, and the inner side of
+//! each face: what no move changes.
 ghost use Rattle.std.specs.Prelude.{◌≡◌, ◌+◌, ◌*◌, ◌<◌, ◌≤◌, is_some, IfOk, IfSome, Some};
 ghost use Rattle.pm_base.specs.Counts.{one_if};
 ghost use Rattle.pm_base.specs.Sides.{face_of};
@@ -17,8 +17,8 @@ use pm_forest::{Hierarchy, Record};
 use std::alloc::Global;
 use std::marker::Model;
 
-/// A hierarchy with tables by which the sides of its records' faces are found. Contracts see the hierarchy. Which side of
-/// each face is the inner one is found once, when it is indexed.
+/// A hierarchy with tables by which the sides of its records' faces are found. Contracts see the
+/// hierarchy. Which side of each face is the inner one is found once, when it is indexed.
 #[derive(Drop)]
 pub struct IndexedHierarchy {
     hierarchy: Hierarchy,
@@ -36,7 +36,8 @@ impl Model for IndexedHierarchy {
 
     ghost view = { λ i. i.hierarchy };
 
-    ghost invariant = { λ i. IsIndexed i.hierarchy i.first_faces.items i.split_nodes.items i.inner_corners.items };
+    ghost invariant = { λ i. IsIndexed i.hierarchy i.first_faces.items i.split_nodes.items
+        i.inner_corners.items };
 }
 
 // How many faces a record brings in.
@@ -74,8 +75,8 @@ fn split_nodes(alloc: Global, h: &Hierarchy) -> Result<Vec<u32>, OutOfMemory>
 }
 
 impl IndexedHierarchy {
-    /// Indexes a hierarchy: O(R + F) for R records and F faces. The only call that takes memory: two numbers for each record
-    /// and a byte for each face.
+    /// Indexes a hierarchy: O(R + F) for R records and F faces. The only call that takes memory:
+    /// two numbers for each record and a byte for each face.
     pub fn new(alloc: Global, hierarchy: Hierarchy) -> Result<IndexedHierarchy, OutOfMemory>
         ensures { IfOk result (λ i. i ≡ hierarchy) }
     {
@@ -160,7 +161,8 @@ impl IndexedHierarchy {
         face.side(u32::from(self.inner_corners[face.0 as usize]))
     }
 
-    /// From one outer side of a record's face to the other. None for an inner side, and for one of a base face. O(1).
+    /// From one outer side of a record's face to the other. None for an inner side, and for one of
+    /// a base face. O(1).
     #[tactic(auto, unfolding(pm_beyond::specs::Walks::across))]
     pub fn across(&self, side: Side) -> Option<Side>
         requires { side.0 < 3 * face_count self.now }
@@ -199,8 +201,9 @@ impl IndexedHierarchy {
         Some(self.inner(k, other))
     }
 
-    /// What a record tells of a side of one of its faces: the side recorded beyond an outer side, and the inner side of
-    /// its other face for an inner side. None for a side of a base face. O(1).
+    /// What a record tells of a side of one of its faces: the side recorded beyond an outer side,
+    /// and the inner side of its other face for an inner side. None for a side of a base face.
+    /// O(1).
     #[tactic(auto, unfolding(pm_beyond::specs::Walks::expected))]
     pub fn expected(&self, side: Side) -> Option<Side>
         requires { side.0 < 3 * face_count self.now }

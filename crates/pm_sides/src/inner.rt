@@ -20,7 +20,8 @@ pub(crate) fn is_left(h: &Hierarchy, firsts: &[u32], k: u32, face: FaceId) -> bo
     h.record_at(k).left.is_some() && face.0 == firsts[k as usize]
 }
 
-// The child of record `k` under which the inner side of a face of it begins: t in its left face, u in its right one.
+// The child of record `k` under which the inner side of a face of it begins: t in its left face, u
+// in its right one.
 fn start(h: &Hierarchy, firsts: &[u32], k: u32, face: FaceId) -> NodeId
     requires record { k < record_count h.now }
     requires firsts { AreFirstFaces h.now (record_count h.now) firsts.now }

@@ -1,4 +1,5 @@
-//! A hierarchy with the tables beside it that the sides of its faces are found by, and what stands beyond each side.
+//! A hierarchy with the tables beside it that the sides of its faces are found by, and what stands
+//! beyond each side.
 #![tactic(auto)]
 
 mod indexed;

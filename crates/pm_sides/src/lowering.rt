@@ -1,6 +1,7 @@
-//! Lowering goes from the full front of a hierarchy down to its base front, and looks at each record's neighbours on the
-//! way. It keeps nothing of a front but what stands beyond the sides.
-ghost use Rattle.std.specs.Prelude.{ℕ, ◌≡◌, ◌-◌, ◌<◌, ◌≤◌, OnOk, OnErr, IfOk, IfErr, replicate, false};
+//! Lowering goes from the full front of a hierarchy down to its base front, and looks at each
+//! record's neighbours on the way. It keeps nothing of a front but what stands beyond the sides.
+ghost use Rattle.std.specs.Prelude.{ℕ, ◌≡◌, ◌-◌, ◌<◌, ◌≤◌, OnOk, OnErr, IfOk, IfErr, replicate};
+ghost use Rattle.std.specs.Prelude.{false};
 ghost use Rattle.pm_base.specs.Sides.{NoSideTwice};
 ghost use Rattle.pm_twins.specs.Table.{IsTableOf};
 ghost use Rattle.pm_forest.specs.Forest.{record_count, leaf_count};
@@ -22,8 +23,8 @@ use std::marker::Model;
 #[derive(Clone, Copy, Debug, PartialEq, Eq)]
 pub struct BadNeighbour(pub u32);
 
-/// A hierarchy that is being lowered: the records below `left` are split, and all others are as told. Contracts see the
-/// hierarchy and `left`.
+/// A hierarchy that is being lowered: the records below `left` are split, and all others are as
+/// told. Contracts see the hierarchy and `left`.
 #[derive(Drop)]
 pub struct Lowering {
     indexed: IndexedHierarchy,
@@ -43,8 +44,9 @@ impl Model for Lowering {
 }
 
 impl Lowering {
-    /// The full front: every record is split. It takes all memory that the lowering will use: nine bytes for each record and
-    /// a byte for each face. What stands beyond the sides is kept in the twins' table, which is taken over.
+    /// The full front: every record is split. It takes all memory that the lowering will use: nine
+    /// bytes for each record and a byte for each face. What stands beyond the sides is kept in the
+    /// twins' table, which is taken over.
     pub fn full(alloc: Global, h: Hierarchy, twins: Twins) -> Result<Lowering, OutOfMemory>
         requires { IsTableOf (leaf_net h) (leaf_count h) twins }
         ensures { IfOk result (λ o. o ≡ record { h = h; left = record_count h }) }
@@ -62,13 +64,14 @@ impl Lowering {
         })
     }
 
-    /// The hierarchy has the right shape, no directed side stands twice in its leaf mesh, at most all records are split, and
-    /// all from `left` on are as told.
+    /// The hierarchy has the right shape, no directed side stands twice in its leaf mesh, at most
+    /// all records are split, and all from `left` on are as told.
     pub fn invariant(&self)
         ensures shape { HasShape self.now.h }
         ensures once { NoSideTwice (leaf_net self.now.h) }
         ensures most { self.now.left ≤ record_count self.now.h }
-        ensures rules { (k : ℕ) → self.now.left ≤ k → k < record_count self.now.h → IsAsTold self.now.h k }
+        ensures rules { (k : ℕ) → self.now.left ≤ k → k < record_count self.now.h
+            → IsAsTold self.now.h k }
     {
         let _ = &self.split;
     }
@@ -81,12 +84,14 @@ impl Lowering {
         self.left
     }
 
-    /// Collapses the greatest split record, where that is as told: beyond the sides of its faces stands what it tells. O(1).
+    /// Collapses the greatest split record, where that is as told: beyond the sides of its faces
+    /// stands what it tells. O(1).
     pub fn lower(&mut self) -> Result<(), BadNeighbour>
         requires { 0 < self.old.left }
         ensures ok { OnOk result (self.new ≡ record { h = self.old.h; left = self.old.left - 1 }) }
         ensures good { OnOk result (IsAsTold self.old.h (self.old.left - 1)) }
-        ensures bad { IfErr result (λ b. (b.0 ≡ self.old.left - 1) × (IsAsTold self.old.h b.0 → ⊥)) }
+        ensures bad { IfErr result (λ b. (b.0 ≡ self.old.left - 1)
+            × (IsAsTold self.old.h b.0 → ⊥)) }
         ensures refused { OnErr result (self.new ≡ self.old) }
     {
         let k = self.left - 1;
@@ -99,7 +104,8 @@ impl Lowering {
         Ok(())
     }
 
-    /// The indexed hierarchy, the records' flags and the table of the sides, once no record is split.
+    /// The indexed hierarchy, the records' flags and the table of the sides, once no record is
+    /// split.
     pub fn into_parts(self) -> (IndexedHierarchy, Vec<bool>, SideTable)
         requires { self.left ≡ 0 }
         ensures h { result.0 ≡ self.h }

@@ -1,4 +1,5 @@
-//! What stands beyond each side, in a table of four bytes a side. A move changes it beside the recorded neighbours.
+//! What stands beyond each side, in a table of four bytes a side. A move changes it beside the
+//! recorded neighbours.
 ghost use Rattle.std.specs.Prelude.{◌≡◌, ◌+◌, ◌*◌, ◌<◌, ℕ, true, length, slice_set, IfSome, Some};
 ghost use Rattle.pm_base.specs.declared.limits.TheConstants.{MOST_SIDES};
 ghost use Rattle.pm_base.specs.Sides.{NoSideTwice, beside_side};
@@ -18,8 +19,8 @@ use pm_forest::Hierarchy;
 use pm_twins::Twins;
 use std::marker::Model;
 
-/// What stands beyond each side of a hierarchy's faces in a front: four bytes a side. Contracts see a list with the number of
-/// what is stored beside each side, or none.
+/// What stands beyond each side of a hierarchy's faces in a front: four bytes a side. Contracts see
+/// a list with the number of what is stored beside each side, or none.
 #[derive(Drop)]
 pub struct SideTable {
     sides: SideMap,
@@ -34,7 +35,8 @@ impl Model for SideTable {
 }
 
 impl SideTable {
-    /// In the full front the twins stand beyond the sides, so their table is taken over. It takes no memory. O(1).
+    /// In the full front the twins stand beyond the sides, so their table is taken over. It takes
+    /// no memory. O(1).
     pub fn full(h: &Hierarchy, twins: Twins) -> SideTable
         requires { IsTableOf (leaf_net h.now) (leaf_count h.now) twins }
         ensures { AreStored h.now every result }
@@ -64,8 +66,8 @@ impl SideTable {
         self.sides.set(side, other);
     }
 
-    /// What stands beyond the sides once record `k` is split: beside each of its faces' sides is stored what stands beyond it
-    /// then, and it stands beyond that side. O(1).
+    /// What stands beyond the sides once record `k` is split: beside each of its faces' sides is
+    /// stored what stands beyond it then, and it stands beyond that side. O(1).
     pub fn link_new(&mut self, indexed: &IndexedHierarchy, split: &[bool], k: u32)
         requires record { k < record_count indexed.now }
         requires valid { IsValid indexed.now }
@@ -81,8 +83,8 @@ impl SideTable {
         }
     }
 
-    /// What stands beyond the sides once record `k`, which is as told, is collapsed: what stood beyond the two outer sides of
-    /// each of its faces. O(1).
+    /// What stands beyond the sides once record `k`, which is as told, is collapsed: what stood
+    /// beyond the two outer sides of each of its faces. O(1).
     pub fn link_over(&mut self, indexed: &IndexedHierarchy, split: &[bool], k: u32)
         requires record { k < record_count indexed.now }
         requires once { NoSideTwice (leaf_net indexed.now) }

@@ -15,7 +15,8 @@ use crate::table::SideTable;
 use pm_base::Side;
 
 impl SideTable {
-    /// Whether beyond a side of a face of record `k`, which is split, stands what the record tells. O(1).
+    /// Whether beyond a side of a face of record `k`, which is split, stands what the record tells.
+    /// O(1).
     pub fn is_as_told(&self, indexed: &IndexedHierarchy, split: &[bool], k: u32, side: Side) -> bool
         requires once { NoSideTwice (leaf_net indexed.now) }
         requires front { IsFront indexed.now (set_of split.now) }
@@ -24,13 +25,15 @@ impl SideTable {
         requires side { side.0 < 3 * face_count indexed.now }
         requires own { record_of indexed.now side.0 ≡ Some k }
         ensures { result
-            ≡ same_side (beyond_of indexed.now (set_of split.now) side.0) (expected indexed.now side.0) }
+            ≡ same_side (beyond_of indexed.now (set_of split.now) side.0)
+            (expected indexed.now side.0) }
     {
         indexed.invariant();
         self.beyond(side) == indexed.expected(side)
     }
 
-    /// Whether beyond each side of the faces of record `k`, which is split, stands what the record tells. O(1).
+    /// Whether beyond each side of the faces of record `k`, which is split, stands what the record
+    /// tells. O(1).
     pub fn tells_all(&self, indexed: &IndexedHierarchy, split: &[bool], k: u32) -> bool
         requires record { k < record_count indexed.now }
         requires once { NoSideTwice (leaf_net indexed.now) }

@@ -15,14 +15,16 @@ three? p q r =
       | inr n ↦ inr (λ h. n (h.0, (h.1, h.2)))
     ]
 
-pub four? : {P Q R S : Type 0} → Decided P → Decided Q → Decided R → Decided S → Decided (P × Q × R × S)
+pub four? : {P Q R S : Type 0} → Decided P → Decided Q → Decided R → Decided S
+    → Decided (P × Q × R × S)
 four? p q r s =
     elim (both? p (three? q r s)) [
       | inl h ↦ inl (h.0, h.1.0, h.1.1, h.1.2)
       | inr n ↦ inr (λ h. n (h.0, (h.1, h.2, h.3)))
     ]
 
-pub five? : {P Q R S T : Type 0} → Decided P → Decided Q → Decided R → Decided S → Decided T → Decided (P × Q × R × S × T)
+pub five? : {P Q R S T : Type 0} → Decided P → Decided Q → Decided R → Decided S → Decided T
+    → Decided (P × Q × R × S × T)
 five? p q r s t =
     elim (both? p (four? q r s t)) [
       | inl h ↦ inl (h.0, h.1.0, h.1.1, h.1.2, h.1.3)
@@ -42,7 +44,8 @@ pub less? : (a b : ℕ) → Decided (a < b)
 less? a b = elim (cases_lt a b) [ inl l ↦ inl l | inr k ↦ inr (λ l. omega (arith, k, l)) ]
 
 -- What holds at some side holds at one below their number.
-pub at_side? : (n : ℕ) (P : ℕ → Type 0) → ((e : ℕ) → Decided (P e)) → ((e : ℕ) → P e → e < n) → Decided ((e : ℕ) × P e)
+pub at_side? : (n : ℕ) (P : ℕ → Type 0) → ((e : ℕ) → Decided (P e)) → ((e : ℕ) → P e → e < n)
+    → Decided ((e : ℕ) × P e)
 at_side? n P decide below =
     elim (search_below P decide n) [
       | inl (e, l, h) ↦ inl (e, h)

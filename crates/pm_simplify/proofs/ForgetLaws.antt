@@ -1,5 +1,6 @@
 -- Which keys go with the faces that a collapse drops.
-use Rattle.std.proofs.Common.{◌≡◌, ◌≢◌, ℕ, ◌+◌, ◌*◌, ◌<◌, ◌≤◌, ◌⊎◌, zero, suc, Option, Some, None, [], ◌∷◌, slice_set, inl, inr, refl, sym, ap, ◌∙◌, subst, arith}
+use Rattle.std.proofs.Common.{◌≡◌, ◌≢◌, ℕ, ◌+◌, ◌*◌, ◌<◌, ◌≤◌, ◌⊎◌, zero, suc, Option, Some, None}
+use Rattle.std.proofs.Common.{[], ◌∷◌, slice_set, inl, inr, refl, sym, ap, ◌∙◌, subst, arith}
 use Rattle.std.specs.Prelude.{option_map, IfSome}
 use Rattle.std.proofs.lemmas.Bool.{cases_eq}
 use Rattle.std.proofs.lemmas.List.{get_or-set_other}
@@ -45,12 +46,16 @@ side_loses : (m : Entries) (s : Option Side) → Loses m (without_key m s)
 side_loses m None i = inl refl
 side_loses m (Some s) i = set_none_loses m s.0 i
 
-side_clear : (m : Entries) (s : Option Side) (i : ℕ) → s ≡ Some (side_id i) → key_at (without_key m s) i ≡ None
-side_clear m s i is = subst (λ (t : Option Side). key_at (without_key m t) i ≡ None) (sym is) (set_none_same m i)
+side_clear : (m : Entries) (s : Option Side) (i : ℕ) → s ≡ Some (side_id i)
+    → key_at (without_key m s) i ≡ None
+side_clear m s i is =
+    subst (λ (t : Option Side). key_at (without_key m t) i ≡ None) (sym is) (set_none_same m i)
 
-side_spares : (m : Entries) (s : Option Side) (i : ℕ) → (s ≡ Some (side_id i) → ⊥) → key_at (without_key m s) i ≡ key_at m i
+side_spares : (m : Entries) (s : Option Side) (i : ℕ) → (s ≡ Some (side_id i) → ⊥)
+    → key_at (without_key m s) i ≡ key_at m i
 side_spares m None i off = refl
-side_spares m (Some s) i off = get_or-set_other m s.0 i None None (λ is. off (ap (λ (x : ℕ). Some (side_id x)) (sym is)))
+side_spares m (Some s) i off =
+    get_or-set_other m s.0 i None None (λ is. off (ap (λ (x : ℕ). Some (side_id x)) (sym is)))
 
 module _ (m : Entries) (f : ℕ) where
   abbrev one : Entries
@@ -60,17 +65,24 @@ module _ (m : Entries) (f : ℕ) where
   two = slice_set (slice_set m (3 * f) None) (3 * f + 1) None
 
   face_loses : Loses m (without_keys_of m f)
-  face_loses = loses_trans m two (without_keys_of m f) (loses_trans m one two (set_none_loses m (3 * f)) (set_none_loses one (3 * f + 1))) (set_none_loses two (3 * f + 2))
+  face_loses =
+      loses_trans m two (without_keys_of m f)
+      (loses_trans m one two (set_none_loses m (3 * f)) (set_none_loses one (3 * f + 1)))
+      (set_none_loses two (3 * f + 2))
 
   face_clear : (i : ℕ) → face_of i ≡ f → key_at (without_keys_of m f) i ≡ None
   face_clear i is =
       let all : Entries = without_keys_of m f in
       elim (cases_eq i (3 * f)) [
-        | inl a ↦ loses_none two all (set_none_loses two (3 * f + 2)) i (loses_none one two (set_none_loses one (3 * f + 1)) i (ap (key_at one) a ∙ set_none_same m (3 * f)))
+        | inl a ↦ loses_none two all (set_none_loses two (3 * f + 2)) i
+            (loses_none one two (set_none_loses one (3 * f + 1)) i (ap (key_at one) a
+            ∙ set_none_same m (3 * f)))
         | inr na ↦
             elim (cases_eq i (3 * f + 1)) [
-              | inl b ↦ loses_none two all (set_none_loses two (3 * f + 2)) i (ap (key_at two) b ∙ set_none_same one (3 * f + 1))
-              | inr nb ↦ let last : i ≡ 3 * f + 2 = omega (arith, is, na, nb) in ap (key_at all) last ∙ set_none_same two (3 * f + 2)
+              | inl b ↦ loses_none two all (set_none_loses two (3 * f + 2)) i (ap (key_at two) b
+                  ∙ set_none_same one (3 * f + 1))
+              | inr nb ↦ let last : i ≡ 3 * f + 2 =
+                  omega (arith, is, na, nb) in ap (key_at all) last ∙ set_none_same two (3 * f + 2)
             ]
       ]
 
@@ -85,11 +97,14 @@ forgotten_loses m None = λ i. inl refl
 forgotten_loses m (Some g) =
     let face : Entries = without_keys_of m g.face.0 in
     let first : Entries = without_key face g.first in
-    loses_trans m first (forgotten m (Some g)) (loses_trans m face first (face_loses m g.face.0) (side_loses face g.first)) (side_loses first g.second)
+    loses_trans m first (forgotten m (Some g))
+    (loses_trans m face first (face_loses m g.face.0) (side_loses face g.first))
+    (side_loses first g.second)
 
 -- Side e is in the face of side x, or stands across one of that face's other two sides.
 abbrev pub IsBeside : Net → ℕ → ℕ → Type 0
-IsBeside n x e = (face_of e ≡ face_of x) ⊎ ((twin_of n (next x) ≡ Some e) ⊎ (twin_of n (prev x) ≡ Some e))
+IsBeside n x e =
+    (face_of e ≡ face_of x) ⊎ ((twin_of n (next x) ≡ Some e) ⊎ (twin_of n (prev x) ≡ Some e))
 
 side_back : (t : Option ℕ) (e : ℕ) → option_map side_id t ≡ Some (side_id e) → t ≡ Some e
 side_back None e is = absurd (none-some (side_id e) is)
@@ -107,29 +122,42 @@ module _ (n : Net) (x e : ℕ) (m : Entries) where
       let last : Entries = forgotten m (Some (gone_at n x)) in
       let loses : Loses first last = side_loses first (option_map side_id (twin_of n (prev x))) in
       elim beside [
-        | inl same ↦ loses_none first last loses e (loses_none face first (side_loses face (option_map side_id (twin_of n (next x)))) e (face_clear m (face_of x) e same))
+        | inl same ↦
+            loses_none first last loses e
+            (loses_none face first (side_loses face (option_map side_id (twin_of n (next x)))) e
+            (face_clear m (face_of x) e same))
         | inr rest ↦
             elim rest [
-              | inl t ↦ loses_none first last loses e (side_clear face (option_map side_id (twin_of n (next x))) e (ap (option_map side_id) t))
-              | inr t ↦ side_clear first (option_map side_id (twin_of n (prev x))) e (ap (option_map side_id) t)
+              | inl t ↦ loses_none first last loses e
+                  (side_clear face (option_map side_id (twin_of n (next x))) e
+                  (ap (option_map side_id) t))
+              | inr t ↦ side_clear first (option_map side_id (twin_of n (prev x))) e
+                  (ap (option_map side_id) t)
             ]
       ]
 
   at_spares : (IsBeside n x e → ⊥) → key_at (forgotten m (Some (gone_at n x))) e ≡ key_at m e
   at_spares off =
-      side_spares first (option_map side_id (twin_of n (prev x))) e (λ is. off (inr (inr (side_back (twin_of n (prev x)) e is))))
-      ∙ side_spares face (option_map side_id (twin_of n (next x))) e (λ is. off (inr (inl (side_back (twin_of n (next x)) e is))))
+      side_spares first (option_map side_id (twin_of n (prev x))) e
+      (λ is. off (inr (inr (side_back (twin_of n (prev x)) e is))))
+      ∙ side_spares face (option_map side_id (twin_of n (next x))) e
+      (λ is. off (inr (inl (side_back (twin_of n (next x)) e is))))
       ∙ face_spares m (face_of x) e (λ same. off (inl same))
 
 module _ (n : Net) (p q e : ℕ) (m : Entries) where
-  gone_clear : NoSideTwice n → (x : ℕ) → Runs n x p q → IsBeside n x e → key_at (forgotten m (gone_of n p q)) e ≡ None
-  gone_clear once x r beside = ap (λ (g : Option Gone). key_at (forgotten m g) e) (gone_is n once x p q r) ∙ at_clear n x e m beside
+  gone_clear : NoSideTwice n → (x : ℕ) → Runs n x p q → IsBeside n x e
+      → key_at (forgotten m (gone_of n p q)) e ≡ None
+  gone_clear once x r beside =
+      ap (λ (g : Option Gone). key_at (forgotten m g) e) (gone_is n once x p q r)
+      ∙ at_clear n x e m beside
 
-  gone_spares : ((x : ℕ) → Runs n x p q → IsBeside n x e → ⊥) → key_at (forgotten m (gone_of n p q)) e ≡ key_at m e
+  gone_spares : ((x : ℕ) → Runs n x p q → IsBeside n x e → ⊥)
+      → key_at (forgotten m (gone_of n p q)) e ≡ key_at m e
   gone_spares off =
       elim (option_cases (side_from_to n p q)) [
         | inl none ↦ ap (λ (o : Option ℕ). key_at (forgotten m (option_map (gone_at n) o)) e) none
-        | inr (x, is) ↦ ap (λ (o : Option ℕ). key_at (forgotten m (option_map (gone_at n) o)) e) is ∙ at_spares n x e m (off x (found-runs n p q x is))
+        | inr (x, is) ↦ ap (λ (o : Option ℕ). key_at (forgotten m (option_map (gone_at n) o)) e) is
+            ∙ at_spares n x e m (off x (found-runs n p q x is))
       ]
 
 -- The keys that go with both faces.
@@ -140,17 +168,21 @@ module _ (n : Net) (t u : ℕ) (m : Entries) where
   pub both_lose : Loses m (without_both n t u m)
   both_lose =
       let one : Entries = forgotten m (gone_of n t u) in
-      loses_trans m one (without_both n t u m) (forgotten_loses m (gone_of n t u)) (forgotten_loses one (gone_of n u t))
+      loses_trans m one (without_both n t u m) (forgotten_loses m (gone_of n t u))
+      (forgotten_loses one (gone_of n u t))
 
-  pub both_clear : NoSideTwice n → (x e : ℕ) → Links n x t u → IsBeside n x e → key_at (without_both n t u m) e ≡ None
+  pub both_clear : NoSideTwice n → (x e : ℕ) → Links n x t u → IsBeside n x e
+      → key_at (without_both n t u m) e ≡ None
   both_clear once x e l beside =
       let one : Entries = forgotten m (gone_of n t u) in
       elim l [
-        | inl r ↦ loses_none one (without_both n t u m) (forgotten_loses one (gone_of n u t)) e (gone_clear n t u e m once x r beside)
+        | inl r ↦ loses_none one (without_both n t u m) (forgotten_loses one (gone_of n u t)) e
+            (gone_clear n t u e m once x r beside)
         | inr r ↦ gone_clear n u t e one once x r beside
       ]
 
-  pub both_spare : (e : ℕ) → ((x : ℕ) → Links n x t u → IsBeside n x e → ⊥) → key_at (without_both n t u m) e ≡ key_at m e
+  pub both_spare : (e : ℕ) → ((x : ℕ) → Links n x t u → IsBeside n x e → ⊥)
+      → key_at (without_both n t u m) e ≡ key_at m e
   both_spare e off =
       let one : Entries = forgotten m (gone_of n t u) in
       gone_spares n u t e one (λ x r. off x (inr r)) ∙ gone_spares n t u e m (λ x r. off x (inl r))
@@ -158,7 +190,9 @@ module _ (n : Net) (t u : ℕ) (m : Entries) where
 -- A face that goes is one of the net's.
 module _ (n : Net) (p q len : ℕ) (all : len ≡ side_count n) (short : n.faces ≤ 1048576) where
   pub gone_small : IfSome (gone_of n p q) (λ g. g.face.0 < 1048576)
-  gone_small = if_gone n p q (λ g. g.face.0 < 1048576) (λ e r. (let l = r.stands.is_side in omega arith))
+  gone_small =
+      if_gone n p q (λ g. g.face.0 < 1048576) (λ e r. (let l = r.stands.is_side in omega arith))
 
   pub gone_within : IfSome (gone_of n p q) (λ g. 3 * g.face.0 + 2 < len)
-  gone_within = if_gone n p q (λ g. 3 * g.face.0 + 2 < len) (λ e r. (let l = r.stands.is_side in omega arith))
+  gone_within =
+      if_gone n p q (λ g. 3 * g.face.0 + 2 < len) (λ e r. (let l = r.stands.is_side in omega arith))

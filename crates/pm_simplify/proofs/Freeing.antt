@@ -44,15 +44,20 @@ released p m log old new was now i right is stays weighed =
     }
 
 -- The first item of a list is in it.
-pub first_has : (was : Lists) (face i : ℕ) → first_of (list_of was face) ≡ Some i → has (list_of was face) i ≡ true
-first_has was face i first = let (rest, all) = first_is (list_of was face) i first in ap (λ l. has l i) all ∙ has_head i rest
+pub first_has : (was : Lists) (face i : ℕ) → first_of (list_of was face) ≡ Some i
+    → has (list_of was face) i ≡ true
+first_has was face i first = let (rest, all) = first_is (list_of was face) i first in
+    ap (λ l. has l i) all ∙ has_head i rest
 
-module _ (was now : Lists) (face i : ℕ) (sound : IsSound was) (first : first_of (list_of was face) ≡ Some i) (is : now ≡ without_item was i) where
+module _ (was now : Lists) (face i : ℕ) (sound : IsSound was) (first : first_of (list_of was face)
+    ≡ Some i) (is : now ≡ without_item was i) where
   -- The list of which the first item goes gets shorter.
   pub shorter : length (list_of now face) < length (list_of was face)
   shorter =
       let (rest, all) = first_is (list_of was face) i first in
-      let now_is : list_of now face ≡ rest = (after_unlink was now i is).lost face ∙ ap (list_without i) all ∙ without_first i rest (subst IsOnce all (sound.once face)) in
+      let now_is : list_of now face ≡ rest =
+      (after_unlink was now i is).lost face ∙ ap (list_without i) all
+      ∙ without_first i rest (subst IsOnce all (sound.once face)) in
       let a = ap (λ (l : List ℕ). length l) now_is in
       let b = ap (λ (l : List ℕ). length l) all in
       omega arith
@@ -63,10 +68,12 @@ module _ (was now : Lists) (face i : ℕ) (sound : IsSound was) (first : first_o
 
 -- Whether an item is in a list.
 module _ (lists : Lists) (i : ℕ) where
-  pub held_if : (head : Option ℕ) → ((h : ℕ) → (head ≡ Some h) ↔ (has (list_of lists h) i ≡ true)) → is_some head ≡ true → IsHeld lists i
+  pub held_if : (head : Option ℕ) → ((h : ℕ) → (head ≡ Some h) ↔ (has (list_of lists h) i ≡ true))
+      → is_some head ≡ true → IsHeld lists i
   held_if None at some = absurd (false≢true some)
   held_if (Some h) at some = (h, (at h).0 refl)
 
-  pub free_if : (head : Option ℕ) → ((h : ℕ) → (head ≡ Some h) ↔ (has (list_of lists h) i ≡ true)) → is_some head ≡ false → IsFree lists i
+  pub free_if : (head : Option ℕ) → ((h : ℕ) → (head ≡ Some h) ↔ (has (list_of lists h) i ≡ true))
+      → is_some head ≡ false → IsFree lists i
   free_if None at none = free_from_none lists i None at refl
   free_if (Some h) at none = absurd (false≢true (sym none))

@@ -1,5 +1,6 @@
 -- The number of an edge: both of its sides have the same one, and it is that of one of them.
-use Rattle.std.proofs.Common.{◌≡◌, ℕ, ◌<◌, ltb, Option, Some, None, ◌⊎◌, inl, inr, sym, ap, ◌∙◌, subst, arith}
+use Rattle.std.proofs.Common.{◌≡◌, ℕ, ◌<◌, ltb, Option, Some, None, ◌⊎◌, inl, inr, sym, ap, ◌∙◌}
+use Rattle.std.proofs.Common.{subst, arith}
 use Rattle.std.proofs.lemmas.Bool.{cases_Bool, cond-true, cond-false, ltb-true, ltb-false}
 use Rattle.pm_base.specs.Sides.{Net, next, prev, to, Stands, NoSideTwice, IsTwin, twin_of}
 use Rattle.pm_base.proofs.Search.{option_cases}
@@ -14,7 +15,8 @@ module _ (m : Net) where
   unfolding item_of
   item_by e r t = ap (lesser_of_pair e) t
 
-  pub item_cases : (e : ℕ) → (item_of m e ≡ e) ⊎ ((g : ℕ) × (twin_of m e ≡ Some g) × (item_of m e ≡ g))
+  pub item_cases : (e : ℕ)
+      → (item_of m e ≡ e) ⊎ ((g : ℕ) × (twin_of m e ≡ Some g) × (item_of m e ≡ g))
   item_cases e =
       elim (option_cases (twin_of m e)) [
         | inl n ↦ inl (item_by e None n)
@@ -25,7 +27,8 @@ module _ (m : Net) where
             ]
       ]
 
-  pub twin_back : NoSideTwice m → (e g : ℕ) → Stands m e → twin_of m e ≡ Some g → twin_of m g ≡ Some e
+  pub twin_back : NoSideTwice m → (e g : ℕ) → Stands m e → twin_of m e ≡ Some g
+      → twin_of m g ≡ Some e
   twin_back once e g st t = across-twin m once g (Some e) (twin-twin m e g st (twin-is m e g t))
 
   lesser_turned : (e g : ℕ) → lesser_of_pair g (Some e) ≡ lesser_of_pair e (Some g)
@@ -39,12 +42,15 @@ module _ (m : Net) where
         | inr a ↦
             elim (cases_Bool (ltb e g)) [
               | inl b ↦ cond-true _ _ _ b ∙ sym (cond-false _ _ _ a)
-              | inr b ↦ cond-false _ _ _ b ∙ (let x = ltb-false g e a in let y = ltb-false e g b in omega arith) ∙ sym (cond-false _ _ _ a)
+              | inr b ↦ cond-false _ _ _ b ∙ (let x = ltb-false g e a in let y = ltb-false e g b in
+                  omega arith) ∙ sym (cond-false _ _ _ a)
             ]
       ]
 
-  pub item_twin : NoSideTwice m → (e g : ℕ) → Stands m e → twin_of m e ≡ Some g → item_of m g ≡ item_of m e
-  item_twin once e g st t = item_by g (Some e) (twin_back once e g st t) ∙ lesser_turned e g ∙ sym (item_by e (Some g) t)
+  pub item_twin : NoSideTwice m → (e g : ℕ) → Stands m e → twin_of m e ≡ Some g
+      → item_of m g ≡ item_of m e
+  item_twin once e g st t =
+      item_by g (Some e) (twin_back once e g st t) ∙ lesser_turned e g ∙ sym (item_by e (Some g) t)
 
   pub item_item : NoSideTwice m → (e : ℕ) → Stands m e → item_of m (item_of m e) ≡ item_of m e
   item_item once e st =
@@ -61,38 +67,54 @@ module _ (m : Net) where
       ]
 
   twin_runs : (e g p q : ℕ) → IsTwin m e g → Runs m e p q → Runs m g q p
-  twin_runs e g p q t r = record { stands = t.stands; begins = t.begins ∙ r.ends; ends = t.ends ∙ r.begins }
+  twin_runs e g p q t r = record {
+    stands = t.stands;
+    begins = t.begins ∙ r.ends;
+    ends = t.ends ∙ r.begins;
+  }
 
   twin_links : (e g a b : ℕ) → IsTwin m e g → Links m e a b → Links m g a b
-  twin_links e g a b t l = elim l [ inl r ↦ inr (twin_runs e g a b t r) | inr r ↦ inl (twin_runs e g b a t r) ]
+  twin_links e g a b t l =
+      elim l [ inl r ↦ inr (twin_runs e g a b t r) | inr r ↦ inl (twin_runs e g b a t r) ]
 
   pub links_item : (e a b : ℕ) → Links m e a b → Links m (item_of m e) a b
   links_item e a b l =
       elim (item_cases e) [
         | inl is ↦ subst (λ i. Links m i a b) (sym is) l
-        | inr (g, t, is) ↦ subst (λ i. Links m i a b) (sym is) (twin_links e g a b (twin-is m e g t) l)
+        | inr (g, t, is) ↦
+            subst (λ i. Links m i a b) (sym is) (twin_links e g a b (twin-is m e g t) l)
       ]
 
   -- The two ends of a side, the lesser one first, are these.
-  pub same_ends : (e a b c d : ℕ) → Links m e a b → Links m e c d → a < b → c < d → (a ≡ c) × (b ≡ d)
+  pub same_ends : (e a b c d : ℕ) → Links m e a b → Links m e c d → a < b → c < d
+      → (a ≡ c) × (b ≡ d)
   same_ends e a b c d l k x y =
       elim l [
         | inl r ↦
             elim k [
               | inl s ↦ (sym r.begins ∙ s.begins, sym r.ends ∙ s.ends)
-              | inr s ↦ absurd (let i : a ≡ d = sym r.begins ∙ s.begins in let j : b ≡ c = sym r.ends ∙ s.ends in omega arith)
+              | inr s ↦ absurd (let i : a ≡ d = sym r.begins ∙ s.begins in
+                  let j : b ≡ c = sym r.ends ∙ s.ends in omega arith)
             ]
         | inr r ↦
             elim k [
-              | inl s ↦ absurd (let i : b ≡ c = sym r.begins ∙ s.begins in let j : a ≡ d = sym r.ends ∙ s.ends in omega arith)
+              | inl s ↦ absurd (let i : b ≡ c = sym r.begins ∙ s.begins in
+                  let j : a ≡ d = sym r.ends ∙ s.ends in omega arith)
               | inr s ↦ (sym r.ends ∙ s.ends, sym r.begins ∙ s.begins)
             ]
       ]
 
   -- A side at a vertex runs from it, or the next side in the face does.
-  pub side_corner : (v e : ℕ) → IsSideAt m v e → (Stands m e × (m.from e ≡ v)) ⊎ (Stands m (next e) × (m.from (next e) ≡ v) × (prev (next e) ≡ e))
-  side_corner v e at = elim at.ends [ inl is ↦ inl (at.stands, is) | inr is ↦ inr (stands_next m e at.stands, is, next-next-next e) ]
+  pub side_corner : (v e : ℕ) → IsSideAt m v e → (Stands m e × (m.from e ≡ v))
+      ⊎ (Stands m (next e) × (m.from (next e) ≡ v) × (prev (next e) ≡ e))
+  side_corner v e at =
+      elim at.ends [
+        | inl is ↦ inl (at.stands, is)
+        | inr is ↦
+            inr (stands_next m e at.stands, is, next-next-next e)
+      ]
 
   -- Its twin runs from the vertex to which it runs.
-  pub twin_corner : (e g : ℕ) → twin_of m e ≡ Some g → Stands m g × (m.from g ≡ to m e) × (to m g ≡ m.from e)
+  pub twin_corner : (e g : ℕ) → twin_of m e ≡ Some g → Stands m g × (m.from g ≡ to m e)
+      × (to m g ≡ m.from e)
   twin_corner e g t = let w = twin-is m e g t in (w.stands, w.begins, w.ends)

@@ -1,5 +1,6 @@
 -- Vertices that are noted as being on the border, and what a note and a collapse change.
-use Rattle.std.proofs.Common.{◌≡◌, ◌≢◌, ℕ, ◌<◌, true, false, Bool, List, inl, inr, sym, ap, ◌∙◌, subst}
+use Rattle.std.proofs.Common.{◌≡◌, ◌≢◌, ℕ, ◌<◌, true, false, Bool, List, inl, inr, sym, ap, ◌∙◌}
+use Rattle.std.proofs.Common.{subst}
 use Rattle.std.proofs.Common.{arith, get_or-set_other}
 use Rattle.std.specs.Prelude.{is_some, slice_set, replicate}
 use Rattle.std.proofs.lemmas.Bool.{cases_eq, cases_lt, false≢true, both_ways}
@@ -7,11 +8,13 @@ use Rattle.std.proofs.lemmas.List.{get_or_past, get_or-replicate, length-replica
 use Rattle.pm_base.specs.Place.{Place}
 use Rattle.pm_base.specs.Sides.{Net, next, to, Stands}
 use Rattle.pm_base.proofs.Sides.{stands_next}
-use Rattle.pm_runs.specs.Surfaces.{Surface, next_vertex, is_live, net_of_surface, IsSurface, collapsed}
+use Rattle.pm_runs.specs.Surfaces.{Surface, next_vertex, is_live, net_of_surface, IsSurface}
+use Rattle.pm_runs.specs.Surfaces.{collapsed}
 use Rattle.pm_runs.specs.Pairs.{IsLegalPair}
 use Rattle.pm_runs.specs.Merged.{IsProper}
 use Rattle.pm_runs.specs.Nearby.{IsOther}
-use Rattle.pm_runs.proofs.Live.{live_below, corner_live, old_live, gone_first, gone_second, next-after}
+use Rattle.pm_runs.proofs.Live.{live_below, corner_live, old_live, gone_first, gone_second}
+use Rattle.pm_runs.proofs.Live.{next-after}
 use Rattle.pm_runs.proofs.Living.{joined_live}
 use Rattle.pm_shrink.specs.Obstacles.{IsBarred}
 use Rattle.pm_simplify.specs.KnownBorder.{IsKnownBorder, AreOnBorder}
@@ -71,9 +74,11 @@ noted_collapse s flags a b place sound proper legal on v is =
       border = λ live.
           let new : v ≢ next_vertex s = λ same. absurd (omega (arith, low, same)) in
           let first : v ≢ a = λ same.
-          both_ways _ (ap (is_live then) same ∙ ap is_some (gone_first s a b place (live_below s a la))) live in
+          both_ways _ (ap (is_live then) same
+          ∙ ap is_some (gone_first s a b place (live_below s a la))) live in
           let second : v ≢ b = λ same.
-          both_ways _ (ap (is_live then) same ∙ ap is_some (gone_second s a b place (live_below s b lb))) live in
+          both_ways _ (ap (is_live then) same
+          ∙ ap is_some (gone_second s a b place (live_below s b lb))) live in
           let other : IsOther s a b v =
           record { not_new = new; not_first = first; not_second = second } in
           let was : is_live s v ≡ true = sym (old_live s a b place v new first second) ∙ live in

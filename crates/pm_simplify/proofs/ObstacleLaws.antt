@@ -17,7 +17,8 @@ use Rattle.pm_simplify.specs.SparedFaces.{IsFaceSpared}
 -- Each is against a legal pair.
 module _ (s : Surface) (a b : ℕ) (place : Place) (legal : IsLegalPair s a b place) where
   pub no_turn : (e : ℕ) → TurnsOver s a b place e → ⊥
-  no_turn e x = x.turns (legal.upright e x.end x.other_end x.pair x.stands x.begins x.not_to x.not_third)
+  no_turn e x =
+      x.turns (legal.upright e x.end x.other_end x.pair x.stands x.begins x.not_to x.not_third)
 
   pub no_stray : (w : ℕ) → Strays (net_of_surface s) a b w → ⊥
   no_stray w x = x.off ((legal.common w).0 (x.first, x.second))
@@ -29,7 +30,8 @@ module _ (s : Surface) (a b : ℕ) (place : Place) (legal : IsLegalPair s a b pl
   not_alone e x = legal.single e x.links x.own x.next_side x.prev_side
 
 -- Another pair is collapsed.
-module _ (s : Surface) (sound : IsSurface s) (proper : IsProper (net_of_surface s)) (t u : ℕ) (at : Place) (legal : IsLegalPair s t u at) where
+module _ (s : Surface) (sound : IsSurface s) (proper : IsProper (net_of_surface s)) (t u : ℕ)
+    (at : Place) (legal : IsLegalPair s t u at) where
   abbrev n : Net
   n = net_of_surface s
 
@@ -49,12 +51,15 @@ module _ (s : Surface) (sound : IsSurface s) (proper : IsProper (net_of_surface 
   twin_stays e p q x y r = (other_sides_stay s sound proper t u at legal e p q x y).1 r
 
   joined_stay : (p q : ℕ) → Other p → Other q → Joined n p q → Joined o p q
-  joined_stay p q x y j = elim j [ inl (e, r) ↦ inl (e, stays e p q x y r) | inr (e, r) ↦ inr (e, stays e q p y x r) ]
+  joined_stay p q x y j =
+      elim j [ inl (e, r) ↦ inl (e, stays e p q x y r) | inr (e, r) ↦ inr (e, stays e q p y x r) ]
 
-  third_stays : (e p q w : ℕ) → Other p → Other q → Other w → Runs n e p q → third n e ≡ w → third o e ≡ w
+  third_stays : (e p q w : ℕ) → Other p → Other q → Other w → Runs n e p q → third n e ≡ w
+      → third o e ≡ w
   third_stays e p q w x y z r is = (stays (next e) q w y z (runs_next n e p q w r is)).ends
 
-  third_was : (e p q w : ℕ) → Other p → Other q → Other w → Runs o e p q → third o e ≡ w → third n e ≡ w
+  third_was : (e p q w : ℕ) → Other p → Other q → Other w → Runs o e p q → third o e ≡ w
+      → third n e ≡ w
   third_was e p q w x y z r is = (was (next e) q w y z (runs_next o e p q w r is)).ends
 
   thirds_were : (a b w : ℕ) → Other a → Other b → Other w → IsThird o a b w → IsThird n a b w
@@ -66,9 +71,16 @@ module _ (s : Surface) (sound : IsSurface s) (proper : IsProper (net_of_surface 
       ]
 
   pub stray_stays : (a b w : ℕ) → Other a → Other b → Other w → Strays n a b w → Strays o a b w
-  stray_stays a b w x y z h = record { first = joined_stay a w x z h.first; second = joined_stay b w y z h.second; off = λ third. h.off (thirds_were a b w x y z third) }
+  stray_stays a b w x y z h =
+      record {
+        first = joined_stay a w x z h.first;
+        second = joined_stay b w y z h.second;
+        off =
+            λ third. h.off (thirds_were a b w x y z third);
+      }
 
-  pub corner_stays : (e a v w : ℕ) → Other a → Other v → Other w → Stands n e → n.from e ≡ a → to n e ≡ v → third n e ≡ w → Stands o e × (o.from e ≡ a) × (to o e ≡ v) × (third o e ≡ w)
+  pub corner_stays : (e a v w : ℕ) → Other a → Other v → Other w → Stands n e → n.from e ≡ a
+      → to n e ≡ v → third n e ≡ w → Stands o e × (o.from e ≡ a) × (to o e ≡ v) × (third o e ≡ w)
   corner_stays e a v w x y z st is_a is_v is_w =
       let r : Runs n e a v = record { stands = st; begins = is_a; ends = is_v } in
       let k = stays e a v x y r in
@@ -78,15 +90,21 @@ module _ (s : Surface) (sound : IsSurface s) (proper : IsProper (net_of_surface 
   face_stays a v w x y z h =
       let (e, st, is, ways) = h in
       elim ways [
-        | inl (i, j) ↦ let (st', is', i', j') = corner_stays e a v w x y z st is i j in (e, st', is', inl (i', j'))
-        | inr (i, j) ↦ let (st', is', i', j') = corner_stays e a w v x z y st is i j in (e, st', is', inr (i', j'))
+        | inl (i, j) ↦ let (st', is', i', j') = corner_stays e a v w x y z st is i j in
+            (e, st', is', inl (i', j'))
+        | inr (i, j) ↦ let (st', is', i', j') = corner_stays e a w v x z y st is i j in
+            (e, st', is', inr (i', j'))
       ]
 
-  pub triangle_stays : (a b e g : ℕ) → Other a → Other b → Other (third n e) → Other (third n g) → SharesTriangle n a b e g → SharesTriangle o a b e g
+  pub triangle_stays : (a b e g : ℕ) → Other a → Other b → Other (third n e) → Other (third n g)
+      → SharesTriangle n a b e g → SharesTriangle o a b e g
   triangle_stays a b e g x y v w h =
       let is_v : third o e ≡ third n e = third_stays e a b (third n e) x y v h.left refl in
       let is_w : third o g ≡ third n g = third_stays g b a (third n g) y x w h.right refl in
-      let at_ends : (c : ℕ) → HasFace o c (third n e) (third n g) → HasFace o c (third o e) (third o g) = λ c f. subst (λ p. HasFace o c p (third o g)) (sym is_v) (subst (HasFace o c (third n e)) (sym is_w) f) in
+      let at_ends : (c : ℕ) → HasFace o c (third n e) (third n g)
+      → HasFace o c (third o e) (third o g) =
+      λ c f. subst (λ p. HasFace o c p (third o g)) (sym is_v)
+      (subst (HasFace o c (third n e)) (sym is_w) f) in
       record {
         left = stays e a b x y h.left;
         right = stays g b a y x h.right;
@@ -94,35 +112,55 @@ module _ (s : Surface) (sound : IsSurface s) (proper : IsProper (net_of_surface 
         second = at_ends b (face_stays b (third n e) (third n g) y v w h.second);
       }
 
-  border_side_stays : (e p q : ℕ) → Other p → Other q → Runs n e p q → IsBorderSide n e → IsBorderSide o e
-  border_side_stays e p q x y r h = record { stands = (stays e p q x y r).stands; alone = twin-none o e (twin_stays e p q x y r ∙ none-twin n e h.alone) }
+  border_side_stays : (e p q : ℕ) → Other p → Other q → Runs n e p q → IsBorderSide n e
+      → IsBorderSide o e
+  border_side_stays e p q x y r h =
+      record {
+        stands = (stays e p q x y r).stands;
+        alone =
+            twin-none o e (twin_stays e p q x y r ∙ none-twin n e h.alone);
+      }
 
-  pub alone_stays : (a b e : ℕ) → Other a → Other b → Other (third n e) → IsAlone n a b e → IsAlone o a b e
+  pub alone_stays : (a b e : ℕ) → Other a → Other b → Other (third n e) → IsAlone n a b e
+      → IsAlone o a b e
   alone_stays a b e x y z h =
-      let for : (p q : ℕ) → Other p → Other q → Runs n e p q → Links o e a b → IsAlone o a b e = λ p q i j r l. record {
+      let for : (p q : ℕ) → Other p → Other q → Runs n e p q → Links o e a b
+      → IsAlone o a b e = λ p q i j r l. record {
         links = l;
         own = border_side_stays e p q i j r h.own;
-        next_side = border_side_stays (next e) q (third n e) j z (runs_next n e p q (third n e) r refl) h.next_side;
-        prev_side = border_side_stays (prev e) (third n e) p z i (runs_last n e p q (third n e) r refl) h.prev_side;
+        next_side = border_side_stays (next e) q (third n e) j z
+            (runs_next n e p q (third n e) r refl) h.next_side;
+        prev_side = border_side_stays (prev e) (third n e) p z i
+            (runs_last n e p q (third n e) r refl) h.prev_side;
       } in
-      elim h.links [ inl r ↦ for a b x y r (inl (stays e a b x y r)) | inr r ↦ for b a y x r (inr (stays e b a y x r)) ]
+      elim h.links [
+        | inl r ↦ for a b x y r (inl (stays e a b x y r))
+        | inr r ↦
+            for b a y x r (inr (stays e b a y x r))
+      ]
 
   place_stays : (v : ℕ) → Other v → place_at (collapsed s t u at) v ≡ place_at s v
   place_stays v x = ((steps_move_nothing_else s t u at).2 v x).1
 
-  upright_was : (place : Place) (p v w v' w' : ℕ) → Other p → Other v → Other w → v' ≡ v → w' ≡ w → StaysUpright (collapsed s t u at) place p v' w' → StaysUpright s place p v w
+  upright_was : (place : Place) (p v w v' w' : ℕ) → Other p → Other v → Other w → v' ≡ v → w' ≡ w
+      → StaysUpright (collapsed s t u at) place p v' w' → StaysUpright s place p v w
   upright_was place p v w v' w' x y z i j h =
       let r : Surface = collapsed s t u at in
       let is_p : place_at r p ≡ place_at s p = place_stays p x in
       let is_v : place_at r v' ≡ place_at s v = ap (place_at r) i ∙ place_stays v y in
       let is_w : place_at r w' ≡ place_at s w = ap (place_at r) j ∙ place_stays w z in
-      subst (λ k. pos 0 ≤ℤ dot_of (cross_of place (place_at s v) k) (cross_of (place_at s p) (place_at s v) k)) is_w
-      (subst (λ k. pos 0 ≤ℤ dot_of (cross_of place k (place_at r w')) (cross_of (place_at s p) k (place_at r w'))) is_v
-      (subst (λ k. pos 0 ≤ℤ dot_of (cross_of place (place_at r v') (place_at r w')) (cross_of k (place_at r v') (place_at r w'))) is_p h))
+      subst (λ k. pos 0 ≤ℤ dot_of (cross_of place (place_at s v) k)
+      (cross_of (place_at s p) (place_at s v) k)) is_w
+      (subst (λ k. pos 0 ≤ℤ dot_of (cross_of place k (place_at r w'))
+      (cross_of (place_at s p) k (place_at r w'))) is_v
+      (subst (λ k. pos 0 ≤ℤ dot_of (cross_of place (place_at r v') (place_at r w'))
+      (cross_of k (place_at r v') (place_at r w'))) is_p h))
 
-  pub turn_stays : (a b e : ℕ) (place : Place) → IsFaceSpared s t u e → TurnsOver s a b place e → TurnsOver (collapsed s t u at) a b place e
+  pub turn_stays : (a b e : ℕ) (place : Place) → IsFaceSpared s t u e → TurnsOver s a b place e
+      → TurnsOver (collapsed s t u at) a b place e
   turn_stays a b e place spared h =
-      let (st, is, i, j) = corner_stays e (n.from e) (to n e) (third n e) spared.from spared.to spared.third h.stands refl refl refl in
+      let (st, is, i, j) = corner_stays e (n.from e) (to n e) (third n e) spared.from spared.to
+      spared.third h.stands refl refl refl in
       record {
         end = h.end;
         other_end = h.other_end;
@@ -131,5 +169,7 @@ module _ (s : Surface) (sound : IsSurface s) (proper : IsProper (net_of_surface 
         begins = is ∙ h.begins;
         not_to = λ same. h.not_to (sym i ∙ same);
         not_third = λ same. h.not_third (sym j ∙ same);
-        turns = λ ok. h.turns (upright_was place h.end (to n e) (third n e) (to o e) (third o e) (subst Other h.begins spared.from) spared.to spared.third i j ok);
+        turns = λ ok. h.turns
+            (upright_was place h.end (to n e) (third n e) (to o e) (third o e)
+            (subst Other h.begins spared.from) spared.to spared.third i j ok);
       }

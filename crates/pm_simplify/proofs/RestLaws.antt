@@ -1,5 +1,6 @@
 -- A corner at which nothing is to be done.
-use Rattle.std.proofs.Common.{◌≡◌, ℕ, true, false, Option, Some, None, List, Bool, inl, inr, refl, sym, subst, arith}
+use Rattle.std.proofs.Common.{◌≡◌, ℕ, true, false, Option, Some, None, List, Bool, inl, inr, refl}
+use Rattle.std.proofs.Common.{sym, subst, arith}
 use Rattle.std.specs.Prelude.{is_some}
 use Rattle.std.proofs.lemmas.Bool.{cases_lt, false≢true}
 use Rattle.pm_base.specs.declared.log.Collapse.{Collapse}
@@ -33,7 +34,8 @@ module _
     (s : Shrinking) (sound : IsSurface s.surface) (flags : List Bool)
     (on : AreOnBorder s.surface flags) (e : ℕ) (st : Stands (net_at s) e)
     (start : is_noted flags ((net_at s).from e) ≡ true)
-    (onto : is_noted flags (to (net_at s) e) ≡ true) (shared : twin_of (net_at s) e ≡ None → ⊥) where
+    (onto : is_noted flags (to (net_at s) e) ≡ true) (shared : twin_of (net_at s) e ≡ None
+    → ⊥) where
   abbrev n : Net
   n = net_at s
 
@@ -79,10 +81,12 @@ module _
         let there : Stands (net_after m log) e =
         subst (λ (t : Surface). Stands (net_of_surface t) e) after.surface st in
         let none : key_at queue (item_of (net_after m log) e) ≡ None =
-        subst (λ (t : Surface). key_at queue (item_of (net_of_surface t) e) ≡ None) after.surface empty in
+        subst (λ (t : Surface). key_at queue (item_of (net_of_surface t) e) ≡ None) after.surface
+        empty in
         record {
           out = subst (IsEntry p m log (item_of (net_after m log) e)) (sym none)
               (entry_of_item p m log once e there None rest_due);
-          back = λ is. absurd (never (subst (λ (t : Surface). twin_of (net_of_surface t) (prev e) ≡ None)
+          back = λ is. absurd
+              (never (subst (λ (t : Surface). twin_of (net_of_surface t) (prev e) ≡ None)
               (sym after.surface) is));
         }

@@ -11,9 +11,11 @@ without_key m (Some s) = slice_set m s.0 None
 
 -- The entries with no key at the numbers of a face's sides.
 abbrev pub without_keys_of : Entries → ℕ → Entries
-without_keys_of m f = slice_set (slice_set (slice_set m (3 * f) None) (3 * f + 1) None) (3 * f + 2) None
+without_keys_of m f =
+    slice_set (slice_set (slice_set m (3 * f) None) (3 * f + 1) None) (3 * f + 2) None
 
--- The entries with no key at the numbers of a dropped face's sides, nor of what stood across two of them.
+-- The entries with no key at the numbers of a dropped face's sides, nor of what stood across two of
+-- them.
 abbrev pub forgotten : Entries → Option Gone → Entries
 forgotten m None = m
 forgotten m (Some g) = without_key (without_key (without_keys_of m g.face.0) g.first) g.second

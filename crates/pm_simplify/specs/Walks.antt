@@ -20,7 +20,8 @@ pub record IsWalk (fan : List ℕ) (Done : ℕ → Type 0) (at : Option Side) : 
   pub held : IfSome at (λ c. has fan c.0 ≡ true)
   pub seen : (e : ℕ) → has fan e ≡ true → (has (still at fan) e ≡ true) ⊎ Done e
 
--- Of the two sides at a corner the first is right, and so is the second where nothing stands across it.
+-- Of the two sides at a corner the first is right, and so is the second where nothing stands across
+-- it.
 pub record IsRightBeside
     (p : Policy) (m : Mesh) (log : List Collapse) (entries : Entries) (e : ℕ) : Type 0 where
   pub out : IsRightAt p m log entries (item_of (net_after m log) e)

@@ -56,7 +56,8 @@ impl KnownBorder {
     /// Notes both ends of a side that is known to be barred.
     pub(crate) fn learn(&mut self, shrink: &Shrink, side: Side)
         requires { Stands (net_at shrink.now) side.0 }
-        ensures { AreOnBorder shrink.now.surface self.old → AreOnBorder shrink.now.surface self.new }
+        ensures { AreOnBorder shrink.now.surface self.old
+            → AreOnBorder shrink.now.surface self.new }
     {
         shrink.invariant();
         if shrink.is_barred(side) {

@@ -34,14 +34,15 @@ pub enum SimplifyFail {
     OutOfMemory,
 }
 
-/// Collapses the legal pair of least cost, again and again, while more faces than the target are left and a pair may be
-/// collapsed. Equal costs go by the pair's vertex numbers. The answer is the log of the collapses; the mesh stays as it
-/// is.
+/// Collapses the legal pair of least cost, again and again, while more faces than the target are
+/// left and a pair may be collapsed. Equal costs go by the pair's vertex numbers. The answer is the
+/// log of the collapses; the mesh stays as it is.
 ///
-/// Only a pair that comes up as the least is asked whether it may be collapsed, by the faces at its two ends. Where it may
-/// not, it waits until a corner of a face that shows why is merged. A step gives keys to the edges at the new vertex and
-/// to those that waited for a face at one of the two ends, each in O(log F) for F faces, but for the passes that the queue
-/// makes over all keys, of which there are not many in a run.
+/// Only a pair that comes up as the least is asked whether it may be collapsed, by the faces at its
+/// two ends. Where it may not, it waits until a corner of a face that shows why is merged. A step
+/// gives keys to the edges at the new vertex and to those that waited for a face at one of the two
+/// ends, each in O(log F) for F faces, but for the passes that the queue makes over all keys, of
+/// which there are not many in a run.
 pub fn simplify(alloc: Global, mesh: &Mesh, target_faces: u32) -> Result<Log, SimplifyFail>
     requires { IsWellFormed (mesh_of mesh.now) }
     ensures run { IfOk result (λ log. IsRunTo (mesh_of mesh.now) target_faces log.items) }

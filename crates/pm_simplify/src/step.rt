@@ -23,8 +23,9 @@ use pm_links::Links;
 use pm_queue::Queue;
 use pm_shrink::Shrink;
 
-/// Collapses a pair that may be collapsed, to its place. The pairs that wait for a face at one of its ends come back to the queue, the
-/// edges of the dropped faces leave it, and those at the new vertex get new keys.
+/// Collapses a pair that may be collapsed, to its place. The pairs that wait for a face at one of
+/// its ends come back to the queue, the edges of the dropped faces leave it, and those at the new
+/// vertex get new keys.
 pub(crate) fn collapse<C: Costs>(
     shrink: &mut Shrink,
     costs: &mut C,

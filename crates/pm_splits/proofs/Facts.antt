@@ -18,7 +18,8 @@ is_twin m e g is = let w = twin-is m e g is in (w.stands, w.begins, w.ends)
 pub one_twin : (m : Net) → NoSideTwice m → (e g : ℕ) → RunsBack m e g → twin_of m e ≡ Some g
 one_twin m once e g w = twin-one m once e g (record { stands = w.0; begins = w.1; ends = w.2 })
 
-pub twin_beyond : {n : Net} {t u s : ℕ} {beyond : ℕ → Option ℕ} → IsSplit n t u s beyond → (e g : ℕ) → Stands n e → beyond e ≡ Some g → RunsBack n e g
+pub twin_beyond : {n : Net} {t u s : ℕ} {beyond : ℕ → Option ℕ} → IsSplit n t u s beyond → (e g : ℕ)
+    → Stands n e → beyond e ≡ Some g → RunsBack n e g
 twin_beyond h e g st is = let w = h.ends e g st is in (w.stands, w.begins, w.ends)
 
 -- No two faces of the net have the same corners.
@@ -37,10 +38,15 @@ leads? m v x =
       | inl t ↦
           elim (cases_eq (m.from e) v) [
             | inr never ↦ inr (λ h. never h.1)
-            | inl a ↦ elim (cases_eq (to m e) x) [ inl b ↦ inl (t, a, b) | inr never ↦ inr (λ h. never h.2) ]
+            | inl a ↦ elim (cases_eq (to m e) x) [
+              | inl b ↦ inl (t, a, b)
+              | inr never ↦
+                  inr (λ h. never h.2)
+            ]
           ]
     ]) (side_count m)) [
-      | inl (e, l, (t, a, b)) ↦ inl (third m e, record { side = e; stands = t; at = a; one = b; two = refl })
+      | inl (e, l, (t, a, b)) ↦
+          inl (third m e, record { side = e; stands = t; at = a; one = b; two = refl })
       | inr none ↦ inr (λ h. none h.1.side h.1.stands.is_side (h.1.stands, h.1.at, h.1.one))
     ]
 
@@ -48,5 +54,9 @@ pub begins? : (m : Net) (v e : ℕ) → Decided (Stands m e × (m.from e ≡ v))
 begins? m v e =
     elim (stands? m e) [
       | inr never ↦ inr (λ h. never h.0)
-      | inl t ↦ elim (cases_eq (m.from e) v) [ inl a ↦ inl (t, a) | inr never ↦ inr (λ h. never h.1) ]
+      | inl t ↦ elim (cases_eq (m.from e) v) [
+        | inl a ↦ inl (t, a)
+        | inr never ↦
+            inr (λ h. never h.1)
+      ]
     ]

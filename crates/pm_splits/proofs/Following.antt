@@ -10,7 +10,8 @@ use Rattle.pm_splits.specs.Splits.{IsSplit}
 use Rattle.pm_splits.proofs.Facts.{one_twin, twin_beyond, HasNoMirror}
 use Rattle.pm_splits.proofs.Split.{merged_name, merged_net, renamed_face}
 
-module _ (n : Net) (t u s : ℕ) (beyond : ℕ → Option ℕ) (h : IsSplit n t u s beyond) (once : NoSideTwice (merged_net n t u s beyond h)) (plain : HasNoMirror n) where
+module _ (n : Net) (t u s : ℕ) (beyond : ℕ → Option ℕ) (h : IsSplit n t u s beyond)
+    (once : NoSideTwice (merged_net n t u s beyond h)) (plain : HasNoMirror n) where
   abbrev net_before : Net
   net_before = merged_net n t u s beyond h
 
@@ -23,23 +24,35 @@ module _ (n : Net) (t u s : ℕ) (beyond : ℕ → Option ℕ) (h : IsSplit n t 
     fan : n.from g ≡ n.from e → IsPairAt n (n.from e) (third n e) (to n g) → Meets e g
     cut : to n g ≡ third n e → IsPairAt n (n.from e) (third n e) (n.from g) → Meets e g
 
-  pub meets : (e g : ℕ) → Stands net_before e → Stands net_before g → name_before (n.from e) ≡ name_before (n.from g) → name_before (third n e) ≡ name_before (to n g) → Meets e g
+  pub meets : (e g : ℕ) → Stands net_before e → Stands net_before g
+      → name_before (n.from e) ≡ name_before (n.from g)
+      → name_before (third n e) ≡ name_before (to n g) → Meets e g
   meets e g et gt a b =
       let pt = stands_next net_before (next e) (stands_next net_before e et) in
       let pn = stands_next n (next e) (stands_next n e (stood n t u s h.fresh e et)) in
       let c = ap n.from (next-next-next e) in
-      elim (h.kept (prev e) g pt (one_twin net_before once (prev e) g (gt, sym a ∙ sym (ap name_before c), sym b))) [
+      elim (h.kept (prev e) g pt
+      (one_twin net_before once (prev e) g (gt, sym a ∙ sym (ap name_before c), sym b))) [
         | inl l ↦ (let (gn, gf, gto) = twin_beyond h (prev e) g pn l in direct (gf ∙ c) gto)
         | inr k ↦
             let (on_there, of, oto) = twin_beyond h (prev e) k.o pn k.meets in
             let O = pair_at n k.o on_there in
             elim k.sides [
               | inl is ↦
-                  let (gn, gf, gto) = twin_beyond h k.r g (subst (Stands n) (sym is) (stands_next n k.o on_there)) k.leaves in
-                  cut (gto ∙ ap n.from is ∙ oto) (renamed_face n t u s beyond h (n.from k.o) (to n k.o) (third n k.o) (n.from e) (third n e) (n.from g) O (of ∙ c) oto (sym (gf ∙ ap (to n) is)))
+                  let (gn, gf, gto) =
+                  twin_beyond h k.r g (subst (Stands n) (sym is) (stands_next n k.o on_there))
+                  k.leaves in
+                  cut (gto ∙ ap n.from is ∙ oto)
+                  (renamed_face n t u s beyond h (n.from k.o) (to n k.o) (third n k.o)
+                  (n.from e) (third n e) (n.from g) O (of ∙ c) oto (sym (gf ∙ ap (to n) is)))
               | inr is ↦
-                  let (gn, gf, gto) = twin_beyond h k.r g (subst (Stands n) (sym is) (stands_next n (next k.o) (stands_next n k.o on_there))) k.leaves in
-                  fan (gf ∙ ap (to n) is ∙ ap n.from (next-next-next k.o) ∙ of ∙ c) (renamed_face n t u s beyond h (n.from k.o) (to n k.o) (third n k.o) (n.from e) (third n e) (to n g) O (of ∙ c) oto (sym (gto ∙ ap n.from is)))
+                  let (gn, gf, gto) =
+                  twin_beyond h k.r g
+                  (subst (Stands n) (sym is)
+                  (stands_next n (next k.o) (stands_next n k.o on_there))) k.leaves in
+                  fan (gf ∙ ap (to n) is ∙ ap n.from (next-next-next k.o) ∙ of ∙ c)
+                  (renamed_face n t u s beyond h (n.from k.o) (to n k.o) (third n k.o)
+                  (n.from e) (third n e) (to n g) O (of ∙ c) oto (sym (gto ∙ ap n.from is)))
             ]
       ]
 
@@ -47,7 +60,8 @@ module _ (n : Net) (t u s : ℕ) (beyond : ℕ → Option ℕ) (h : IsSplit n t 
   stays x0 x is ne = (unmoved n t u s h.fresh x0 x is ne).0
 
   -- a face with two vertices of one new number, and another
-  pub old_face : {a b c : ℕ} (f : IsPairAt n a b c) → name_before a ≢ name_before b → name_before b ≢ name_before c → name_before c ≢ name_before a → Stands net_before f.side
+  pub old_face : {a b c : ℕ} (f : IsPairAt n a b c) → name_before a ≢ name_before b
+      → name_before b ≢ name_before c → name_before c ≢ name_before a → Stands net_before f.side
   old_face f a b c = record {
     is_side = f.stands.is_side;
     first = λ i. a (sym (ap name_before f.at) ∙ i ∙ ap name_before f.one);
@@ -62,7 +76,8 @@ module _ (n : Net) (t u s : ℕ) (beyond : ℕ → Option ℕ) (h : IsSplit n t 
   second_end p q z (inr (a, b)) (inl (c, d)) = c ∙ sym b
   second_end p q z (inr (a, b)) (inr (c, d)) = absurd (h.differ (sym d ∙ a))
 
-  pub other_of : (p q p' q' : ℕ) → AreEnds t u p q → AreEnds t u p' q' → p' ≢ p → (p' ≡ q) × (q' ≡ p)
+  pub other_of : (p q p' q' : ℕ) → AreEnds t u p q → AreEnds t u p' q' → p' ≢ p
+      → (p' ≡ q) × (q' ≡ p)
   other_of p q p' q' (inl (a, b)) (inl (c, d)) ne = absurd (ne (c ∙ sym a))
   other_of p q p' q' (inl (a, b)) (inr (c, d)) ne = (c ∙ sym b, d ∙ sym a)
   other_of p q p' q' (inr (a, b)) (inl (c, d)) ne = (c ∙ sym b, d ∙ sym a)

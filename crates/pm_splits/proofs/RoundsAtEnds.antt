@@ -1,21 +1,25 @@
 -- A split keeps the fan of each end.
-use Rattle.std.proofs.Common.{◌≡◌, ◌≢◌, ℕ, eqb, cond, Option, ◌⊎◌, inl, inr, refl, sym, ap, ◌∙◌, subst}
+use Rattle.std.proofs.Common.{◌≡◌, ◌≢◌, ℕ, eqb, cond, Option, ◌⊎◌, inl, inr, refl, sym, ap, ◌∙◌}
+use Rattle.std.proofs.Common.{subst}
 use Rattle.std.proofs.lemmas.Bool.{cases_eq, cond-true, cond-false, eq-eqb, ne_eqb}
 use Rattle.pm_base.specs.Sides.{Net, side_count, next, prev, to, third, Stands, NoSideTwice}
 use Rattle.pm_base.specs.Fans.{IsPairAt}
 use Rattle.pm_base.specs.Rounds.{Goes, stay, on, IsRound}
 use Rattle.pm_base.proofs.Search.{search_below}
-use Rattle.pm_base.proofs.Sides.{next-next-next, stands_next, turn, back, corner-first, first-second, second-corner, pair_at, one_side, one_first}
+use Rattle.pm_base.proofs.Sides.{next-next-next, stands_next, turn, back, corner-first}
+use Rattle.pm_base.proofs.Sides.{first-second, second-corner, pair_at, one_side, one_first}
 use Rattle.pm_base.proofs.Rounds.{IsFirst, append, uncons, ends_first}
 use Rattle.pm_runs.specs.Pairs.{IsPair as AreEnds}
 use Rattle.pm_runs.proofs.Apart.{stood}
 use Rattle.pm_runs.proofs.MergedPairs.{new-t, new-u, new-other, not_s, is_t, is_u, other, kind_of}
 use Rattle.pm_splits.specs.Splits.{IsSplit}
 use Rattle.pm_splits.proofs.Facts.{twin_beyond, HasNoMirror, Leads, leads?, begins?}
-use Rattle.pm_splits.proofs.Split.{merged_name, merged_net, swap, next_ends, prev_ends, new_prev, renamed_face, no_side_twice_after}
+use Rattle.pm_splits.proofs.Split.{merged_name, merged_net, swap, next_ends, prev_ends, new_prev}
+use Rattle.pm_splits.proofs.Split.{renamed_face, no_side_twice_after}
 use Rattle.pm_splits.proofs.Following.{direct, fan, cut, meets, stays, old_face}
 
-module _ (n : Net) (t u s : ℕ) (beyond : ℕ → Option ℕ) (h : IsSplit n t u s beyond) (once : NoSideTwice (merged_net n t u s beyond h)) (plain : HasNoMirror n) where
+module _ (n : Net) (t u s : ℕ) (beyond : ℕ → Option ℕ) (h : IsSplit n t u s beyond)
+    (once : NoSideTwice (merged_net n t u s beyond h)) (plain : HasNoMirror n) where
   abbrev net_before : Net
   net_before = merged_net n t u s beyond h
 
@@ -38,7 +42,12 @@ module _ (n : Net) (t u s : ℕ) (beyond : ℕ → Option ℕ) (h : IsSplit n t 
     other_end-is = end_s q p (swap n t u s beyond h p q ends)
 
     ends_apart : p ≢ q
-    ends_apart is = elim ends [ inl (a, b) ↦ h.differ (sym a ∙ is ∙ b) | inr (a, b) ↦ h.differ (sym b ∙ sym is ∙ a) ]
+    ends_apart is =
+        elim ends [
+          | inl (a, b) ↦ h.differ (sym a ∙ is ∙ b)
+          | inr (a, b) ↦
+              h.differ (sym b ∙ sym is ∙ a)
+        ]
 
     pub not_end : (x : ℕ) → x ≢ p → x ≢ q → name_before x ≡ x
     not_end x xp xq =
@@ -65,7 +74,9 @@ module _ (n : Net) (t u s : ℕ) (beyond : ℕ → Option ℕ) (h : IsSplit n t 
 
     reached-other : (e : ℕ) → n.from e ≡ q → reached e ≡ q
     unfolding reached
-    reached-other e is = cond-false (eqb (n.from e) p) (to n e) q (ne_eqb (n.from e) p (λ i. ends_apart (sym i ∙ is)))
+    reached-other e is =
+        cond-false (eqb (n.from e) p) (to n e) q
+        (ne_eqb (n.from e) p (λ i. ends_apart (sym i ∙ is)))
 
     old_end : {x y : ℕ} (f : IsPairAt n p x y) → x ≢ q → y ≢ q → Stands net_before f.side
     old_end {x} {y} f xq yq =
@@ -73,10 +84,12 @@ module _ (n : Net) (t u s : ℕ) (beyond : ℕ → Option ℕ) (h : IsSplit n t 
         let ey = not_end y (second-corner n p x y f) yq in
         let xs = not_s n t u s h.fresh (turn n p x y f) in
         let ys = not_s n t u s h.fresh (back n p x y f) in
-        old_face n t u s beyond h once plain f (λ i. xs (sym ex ∙ sym i ∙ own_end-is)) (λ i. first-second n p x y f (sym ex ∙ i ∙ ey)) (λ i. ys (sym ey ∙ i ∙ own_end-is))
+        old_face n t u s beyond h once plain f (λ i. xs (sym ex ∙ sym i ∙ own_end-is))
+        (λ i. first-second n p x y f (sym ex ∙ i ∙ ey)) (λ i. ys (sym ey ∙ i ∙ own_end-is))
 
     module _ (a y0 : ℕ) (f0 : IsPairAt net_before s a y0) where
-      goes_at_end : {c x : ℕ} → Goes net_before s c x → c ≡ a → (y : ℕ) (f : IsPairAt net_before s x y) → Goes n p (reached f0.side) (reached f.side)
+      goes_at_end : {c x : ℕ} → Goes net_before s c x → c ≡ a
+          → (y : ℕ) (f : IsPairAt net_before s x y) → Goes n p (reached f0.side) (reached f.side)
       goes_at_end {c} stay is y f =
           let same = one_side net_before once f0 (subst (λ i. IsPairAt net_before s i y) is f) in
           subst (λ i. Goes n p (reached f0.side) (reached i)) same stay
@@ -90,68 +103,104 @@ module _ (n : Net) (t u s : ℕ) (beyond : ℕ → Option ℕ) (h : IsSplit n t 
           let G = pair_at n g.side gn in
           elim (end_at g.side gn g.at) [
             | inl gp ↦
-                let r' = on (subst (λ i. Goes n p (reached f0.side) i) (reached-own g.side gp) r) (subst (λ i. IsPairAt n i (to n g.side) (third n g.side)) gp G) in
+                let r' = on (subst (λ i. Goes n p (reached f0.side) i) (reached-own g.side gp) r)
+                (subst (λ i. IsPairAt n i (to n g.side) (third n g.side)) gp G) in
                 elim (end_at f.side fn f.at) [
-                  | inl fp ↦ subst (λ i. Goes n p (reached f0.side) i) (tg ∙ sym tf ∙ sym (reached-own f.side fp)) r'
+                  | inl fp ↦ subst (λ i. Goes n p (reached f0.side) i) (tg ∙ sym tf
+                      ∙ sym (reached-own f.side fp)) r'
                   | inr fq ↦
-                      elim (meets n t u s beyond h once plain g.side f.side g.stands f.stands (g.at ∙ sym f.at) (g.two ∙ sym f.one)) [
+                      elim (meets n t u s beyond h once plain g.side f.side g.stands f.stands
+                      (g.at ∙ sym f.at) (g.two ∙ sym f.one)) [
                         | direct x y ↦ absurd (ends_apart (sym gp ∙ sym x ∙ fq))
                         | fan x y ↦ absurd (ends_apart (sym gp ∙ sym x ∙ fq))
                         | cut x k ↦
-                            let k' = renamed_face n t u s beyond h (n.from g.side) (third n g.side) (n.from f.side) p (third n g.side) q k gp refl fq in
-                            subst (λ i. Goes n p (reached f0.side) i) (sym (reached-other f.side fq)) (on r' k')
+                            let k' = renamed_face n t u s beyond h (n.from g.side) (third n g.side)
+                            (n.from f.side) p (third n g.side) q k gp refl fq in
+                            subst (λ i. Goes n p (reached f0.side) i)
+                            (sym (reached-other f.side fq)) (on r' k')
                       ]
                 ]
             | inr gq ↦
                 let r' = subst (λ i. Goes n p (reached f0.side) i) (reached-other g.side gq) r in
                 elim (end_at f.side fn f.at) [
-                  | inr fq ↦ subst (λ i. Goes n p (reached f0.side) i) (sym (reached-other f.side fq)) r'
+                  | inr fq ↦ subst (λ i. Goes n p (reached f0.side) i)
+                      (sym (reached-other f.side fq)) r'
                   | inl fp ↦
-                      elim (meets n t u s beyond h once plain g.side f.side g.stands f.stands (g.at ∙ sym f.at) (g.two ∙ sym f.one)) [
+                      elim (meets n t u s beyond h once plain g.side f.side g.stands f.stands
+                      (g.at ∙ sym f.at) (g.two ∙ sym f.one)) [
                         | direct x y ↦ absurd (ends_apart (sym fp ∙ x ∙ gq))
                         | fan x y ↦ absurd (ends_apart (sym fp ∙ x ∙ gq))
                         | cut x k ↦
-                            let k' = renamed_face n t u s beyond h (n.from g.side) (third n g.side) (n.from f.side) q (third n g.side) p k gq refl fp in
-                            subst (λ i. Goes n p (reached f0.side) i) (tg ∙ sym tf ∙ sym (reached-own f.side fp)) (on r' (back n q (third n g.side) p k'))
+                            let k' = renamed_face n t u s beyond h (n.from g.side) (third n g.side)
+                            (n.from f.side) q (third n g.side) p k gq refl fp in
+                            subst (λ i. Goes n p (reached f0.side) i) (tg ∙ sym tf
+                            ∙ sym (reached-own f.side fp))
+                            (on r' (back n q (third n g.side) p k'))
                       ]
                 ]
           ]
 
       module _ (all : (x y : ℕ) → IsPairAt net_before s x y → Goes net_before s a x) where
-        reach : (e : ℕ) → Stands net_before e → name_before (n.from e) ≡ s → Goes n p (reached f0.side) (reached e)
+        reach : (e : ℕ) → Stands net_before e → name_before (n.from e) ≡ s
+            → Goes n p (reached f0.side) (reached e)
         reach e there at =
-            let f : IsPairAt net_before s (name_before (to n e)) (name_before (third n e)) = record { side = e; stands = there; at = at; one = refl; two = refl } in
-            goes_at_end (all (name_before (to n e)) (name_before (third n e)) f) refl (name_before (third n e)) f
+            let f : IsPairAt net_before s (name_before (to n e))
+            (name_before (third n e)) = record {
+              side = e;
+              stands = there;
+              at = at;
+              one = refl;
+              two = refl;
+            } in
+            goes_at_end (all (name_before (to n e)) (name_before (third n e)) f) refl
+            (name_before (third n e)) f
 
-        reach_face : {x y : ℕ} (f : IsPairAt n p x y) → Stands net_before f.side → Goes n p (reached f0.side) x
-        reach_face f there = subst (λ i. Goes n p (reached f0.side) i) (reached-own f.side f.at ∙ f.one) (reach f.side there (ap name_before f.at ∙ own_end-is))
+        reach_face : {x y : ℕ} (f : IsPairAt n p x y) → Stands net_before f.side
+            → Goes n p (reached f0.side) x
+        reach_face f there =
+            subst (λ i. Goes n p (reached f0.side) i) (reached-own f.side f.at ∙ f.one)
+            (reach f.side there (ap name_before f.at ∙ own_end-is))
 
         reach_q : (e : ℕ) → Stands net_before e → n.from e ≡ q → Goes n p (reached f0.side) q
-        reach_q e there at = subst (λ i. Goes n p (reached f0.side) i) (reached-other e at) (reach e there (ap name_before at ∙ other_end-is))
+        reach_q e there at =
+            subst (λ i. Goes n p (reached f0.side) i) (reached-other e at)
+            (reach e there (ap name_before at ∙ other_end-is))
 
         -- the third corner before q
         reaches_third : (x : ℕ) → IsPairAt n p x q → Leads n x p → Goes n p (reached f0.side) x
         reaches_third x f (z, g) =
             let g' = turn n x p z g in
-            let old = old_end g' (λ i. plain p q x (subst (λ j. IsPairAt n p j x) i g') f) (first-second n p x q f) in
+            let old = old_end g' (λ i. plain p q x (subst (λ j. IsPairAt n p j x) i g') f)
+            (first-second n p x q f) in
             on (reach_face g' old) g'
 
         -- q itself
         reaches_end : (w : ℕ) → IsPairAt n p q w → Leads n w q → Goes n p (reached f0.side) q
         reaches_end w f (z, g) =
-            let zp : z ≢ p = λ i. plain p q w f (back n w q p (subst (λ j. IsPairAt n w q j) i g)) in
+            let zp : z ≢ p =
+            λ i. plain p q w f (back n w q p (subst (λ j. IsPairAt n w q j) i g)) in
             let ew = not_end w (second-corner n p q w f) (λ i. first-second n p q w f (sym i)) in
             let ez = not_end z zp (λ i. first-second n w q z g (sym i)) in
             let ws = not_s n t u s h.fresh g in
             let zs = not_s n t u s h.fresh (back n w q z g) in
-            let old = old_face n t u s beyond h once plain g (λ i. ws (sym ew ∙ i ∙ other_end-is)) (λ i. zs (sym ez ∙ sym i ∙ other_end-is)) (λ i. second-corner n w q z g (sym ez ∙ i ∙ ew)) in
+            let old = old_face n t u s beyond h once plain g (λ i. ws (sym ew ∙ i ∙ other_end-is))
+            (λ i. zs (sym ez ∙ sym i ∙ other_end-is))
+            (λ i. second-corner n w q z g (sym ez ∙ i ∙ ew)) in
             reach_q (next g.side) (stands_next net_before g.side old) g.one
 
-        first_is : (x b : ℕ) → Stands net_before b → name_before (n.from b) ≡ s → to n b ≡ x → name_before x ≡ x → IsFirst net_before s x → f0.side ≡ b
+        first_is : (x b : ℕ) → Stands net_before b → name_before (n.from b) ≡ s → to n b ≡ x
+            → name_before x ≡ x → IsFirst net_before s x → f0.side ≡ b
         first_is x b bt bs bx ex first =
-            let F : IsPairAt net_before s x (name_before (third n b)) = record { side = b; stands = bt; at = bs; one = ap name_before bx ∙ ex; two = refl } in
+            let F : IsPairAt net_before s x (name_before (third n b)) = record {
+              side = b;
+              stands = bt;
+              at = bs;
+              one = ap name_before bx ∙ ex;
+              two = refl;
+            } in
             let is = ends_first net_before once s (all x (name_before (third n b)) F) first in
-            one_side net_before once f0 (subst (λ i. IsPairAt net_before s i (name_before (third n b))) (sym is) F)
+            one_side net_before once f0
+            (subst (λ i. IsPairAt net_before s i (name_before (third n b))) (sym is) F)
 
         starts_at_end : (x : ℕ) → IsPairAt n p x q → (Leads n x p → ⊥) → reached f0.side ≡ q
         starts_at_end x f none =
@@ -162,7 +211,17 @@ module _ (n : Net) (t u s : ℕ) (beyond : ℕ → Option ℕ) (h : IsSplit n t 
             let ex = not_end x (λ i. corner-first n p x q f (sym i)) (first-second n p x q f) in
             let xs = not_s n t u s h.fresh (turn n p x q f) in
             elim side [
-              | inl l ↦ (let (bn, bf, bto) = twin_beyond h (next k.side) b at l in absurd (none (third n b, record { side = b; stands = bn; at = bf ∙ a2; one = bto ∙ a1; two = refl })))
+              | inl l ↦ (let (bn, bf, bto) = twin_beyond h (next k.side) b at l in
+                  absurd (none (
+                    third n b,
+                    record {
+                      side = b;
+                      stands = bn;
+                      at = bf ∙ a2;
+                      one = bto ∙ a1;
+                      two = refl;
+                    },
+                  )))
               | inr l ↦
                   let (bn, bf, bto) = twin_beyond h (prev k.side) b ct l in
                   let first : IsFirst net_before s x = λ z g.
@@ -171,12 +230,26 @@ module _ (n : Net) (t u s : ℕ) (beyond : ℕ → Option ℕ) (h : IsSplit n t 
                   let pn = stands_next n (next g.side) (stands_next n g.side gn) in
                   let c = ap n.from (next-next-next g.side) in
                   elim (end_at g.side gn g.at) [
-                    | inl gp ↦ none (third n (prev g.side), record { side = prev g.side; stands = pn; at = tg; one = c ∙ gp; two = refl })
+                    | inl gp ↦ none (
+                      third n (prev g.side),
+                      record {
+                        side = prev g.side;
+                        stands = pn;
+                        at = tg;
+                        one = c ∙ gp;
+                        two = refl;
+                      },
+                    )
                     | inr gq ↦
-                        let same = single (prev g.side) (prev k.side) pn ct (tg ∙ sym c1) (c ∙ gq ∙ sym c2) in
-                        new_prev n t u s beyond h q p x (swap n t u s beyond h p q ends) k (subst (Stands net_before) same (stands_next net_before (next g.side) (stands_next net_before g.side g.stands)))
+                        let same = single (prev g.side) (prev k.side) pn ct (tg ∙ sym c1)
+                        (c ∙ gq ∙ sym c2) in
+                        new_prev n t u s beyond h q p x (swap n t u s beyond h p q ends) k
+                        (subst (Stands net_before) same
+                        (stands_next net_before (next g.side)
+                        (stands_next net_before g.side g.stands)))
                   ] in
-                  let is = first_is x b bt (ap name_before (bf ∙ c2) ∙ other_end-is) (bto ∙ c1) ex first in
+                  let is = first_is x b bt (ap name_before (bf ∙ c2) ∙ other_end-is) (bto ∙ c1) ex
+                  first in
                   reached-other f0.side (ap n.from is ∙ bf ∙ c2)
             ]
 
@@ -188,7 +261,17 @@ module _ (n : Net) (t u s : ℕ) (beyond : ℕ → Option ℕ) (h : IsSplit n t 
             let ew = not_end w (second-corner n p q w f) (λ i. first-second n p q w f (sym i)) in
             let ws = not_s n t u s h.fresh (back n p q w f) in
             elim side [
-              | inl l ↦ (let (bn, bf, bto) = twin_beyond h (next f.side) b at l in absurd (none (third n b, record { side = b; stands = bn; at = bf ∙ a2; one = bto ∙ a1; two = refl })))
+              | inl l ↦ (let (bn, bf, bto) = twin_beyond h (next f.side) b at l in
+                  absurd (none (
+                    third n b,
+                    record {
+                      side = b;
+                      stands = bn;
+                      at = bf ∙ a2;
+                      one = bto ∙ a1;
+                      two = refl;
+                    },
+                  )))
               | inr l ↦
                   let (bn, bf, bto) = twin_beyond h (prev f.side) b ct l in
                   let first : IsFirst net_before s w = λ z g.
@@ -197,21 +280,38 @@ module _ (n : Net) (t u s : ℕ) (beyond : ℕ → Option ℕ) (h : IsSplit n t 
                   let pn = stands_next n (next g.side) (stands_next n g.side gn) in
                   let c = ap n.from (next-next-next g.side) in
                   elim (end_at g.side gn g.at) [
-                    | inr gq ↦ none (third n (prev g.side), record { side = prev g.side; stands = pn; at = tg; one = c ∙ gq; two = refl })
+                    | inr gq ↦ none (
+                      third n (prev g.side),
+                      record {
+                        side = prev g.side;
+                        stands = pn;
+                        at = tg;
+                        one = c ∙ gq;
+                        two = refl;
+                      },
+                    )
                     | inl gp ↦
-                        let same = single (prev g.side) (prev f.side) pn ct (tg ∙ sym c1) (c ∙ gp ∙ sym c2) in
-                        new_prev n t u s beyond h p q w ends f (subst (Stands net_before) same (stands_next net_before (next g.side) (stands_next net_before g.side g.stands)))
+                        let same = single (prev g.side) (prev f.side) pn ct (tg ∙ sym c1)
+                        (c ∙ gp ∙ sym c2) in
+                        new_prev n t u s beyond h p q w ends f
+                        (subst (Stands net_before) same
+                        (stands_next net_before (next g.side)
+                        (stands_next net_before g.side g.stands)))
                   ] in
-                  let is = first_is w b bt (ap name_before (bf ∙ c2) ∙ own_end-is) (bto ∙ c1) ew first in
+                  let is = first_is w b bt (ap name_before (bf ∙ c2) ∙ own_end-is) (bto ∙ c1) ew
+                  first in
                   reached-own f0.side (ap n.from is ∙ bf ∙ c2) ∙ ap (to n) is ∙ bto ∙ c1
             ]
 
-        gather_end : (a1 : ℕ) → Goes n p a1 (reached f0.side) → ((w : ℕ) → IsPairAt n p q w → Goes n p a1 q) → ((x : ℕ) → IsPairAt n p x q → Goes n p a1 x) → IsRound n p
+        gather_end : (a1 : ℕ) → Goes n p a1 (reached f0.side)
+            → ((w : ℕ) → IsPairAt n p q w → Goes n p a1 q)
+            → ((x : ℕ) → IsPairAt n p x q → Goes n p a1 x) → IsRound n p
         gather_end a1 w at_q before_q = (
           a1,
           λ x y f.
               elim (cases_eq x q) [
-                | inl is ↦ subst (λ i. Goes n p a1 i) (sym is) (at_q y (subst (λ i. IsPairAt n p i y) is f))
+                | inl is ↦ subst (λ i. Goes n p a1 i) (sym is)
+                    (at_q y (subst (λ i. IsPairAt n p i y) is f))
                 | inr xq ↦
                     elim (cases_eq y q) [
                       | inl is ↦ before_q x (subst (λ i. IsPairAt n p x i) is f)
@@ -228,9 +328,12 @@ module _ (n : Net) (t u s : ℕ) (beyond : ℕ → Option ℕ) (h : IsSplit n t 
                   elim (leads? n x p) [
                     | inl has ↦
                         gather_end (reached f0.side) stay (λ w f. on (reaches_third x f2 has) f2)
-                        (λ x' f'. subst (λ i. Goes n p (reached f0.side) i) (one_first n single f2 f') (reaches_third x f2 has))
+                        (λ x' f'. subst (λ i. Goes n p (reached f0.side) i)
+                        (one_first n single f2 f') (reaches_third x f2 has))
                     | inr none ↦
-                        gather_end x (subst (λ i. Goes n p x i) (sym (starts_at_end x f2 none)) (on stay f2)) (λ w f. on stay f2)
+                        gather_end x
+                        (subst (λ i. Goes n p x i) (sym (starts_at_end x f2 none)) (on stay f2))
+                        (λ w f. on stay f2)
                         (λ x' f'. subst (λ i. Goes n p x i) (one_first n single f2 f') stay)
                   ]
               | inr none ↦
@@ -238,10 +341,14 @@ module _ (n : Net) (t u s : ℕ) (beyond : ℕ → Option ℕ) (h : IsSplit n t 
                   elim (leads? n p q) [
                     | inl (w, f) ↦
                         elim (leads? n w q) [
-                          | inl has ↦ gather_end (reached f0.side) stay (λ w' f'. reaches_end w f has) (λ x f'. absurd (no_x x f'))
-                          | inr bad ↦ gather_end q (subst (λ i. Goes n p q i) (sym (starts_at_third w f bad)) (on stay f)) (λ w' f'. stay) (λ x f'. absurd (no_x x f'))
+                          | inl has ↦ gather_end (reached f0.side) stay
+                              (λ w' f'. reaches_end w f has) (λ x f'. absurd (no_x x f'))
+                          | inr bad ↦ gather_end q
+                              (subst (λ i. Goes n p q i) (sym (starts_at_third w f bad))
+                              (on stay f)) (λ w' f'. stay) (λ x f'. absurd (no_x x f'))
                         ]
-                    | inr never ↦ gather_end (reached f0.side) stay (λ w f. absurd (never (w, f))) (λ x f'. absurd (no_x x f'))
+                    | inr never ↦ gather_end (reached f0.side) stay (λ w f. absurd (never (w, f)))
+                        (λ x f'. absurd (no_x x f'))
                   ]
             ]
 
@@ -256,20 +363,27 @@ module _ (n : Net) (t u s : ℕ) (beyond : ℕ → Option ℕ) (h : IsSplit n t 
                 let (c1, c2, c3, ct) = prev_ends n t u s beyond h k in
                 let (b, bt, side) = h.held p q y ends k in
                 elim side [
-                  | inl l ↦ (let (bn, bf, bto) = twin_beyond h (next k.side) b at l in absurd (none (next b) (stands_next net_before b bt) (ap name_before (bto ∙ a1) ∙ other_end-is)))
-                  | inr l ↦ (let (bn, bf, bto) = twin_beyond h (prev k.side) b ct l in absurd (none b bt (ap name_before (bf ∙ c2) ∙ own_end-is)))
+                  | inl l ↦ (let (bn, bf, bto) = twin_beyond h (next k.side) b at l in
+                      absurd (none (next b) (stands_next net_before b bt) (ap name_before (bto ∙ a1)
+                      ∙ other_end-is)))
+                  | inr l ↦ (let (bn, bf, bto) = twin_beyond h (prev k.side) b ct l in
+                      absurd (none b bt (ap name_before (bf ∙ c2) ∙ own_end-is)))
                 ]
             | inr xq ↦
                 elim (cases_eq y q) [
-                  | inr yq ↦ absurd (none f.side (old_end f xq yq) (ap name_before f.at ∙ own_end-is))
+                  | inr yq ↦ absurd
+                      (none f.side (old_end f xq yq) (ap name_before f.at ∙ own_end-is))
                   | inl is ↦
                       let k = back n p x q (subst (λ i. IsPairAt n p x i) is f) in
                       let (a1, a2, a3, at) = next_ends n t u s beyond h k in
                       let (c1, c2, c3, ct) = prev_ends n t u s beyond h k in
                       let (b, bt, side) = h.held q p x (swap n t u s beyond h p q ends) k in
                       elim side [
-                        | inl l ↦ (let (bn, bf, bto) = twin_beyond h (next k.side) b at l in absurd (none (next b) (stands_next net_before b bt) (ap name_before (bto ∙ a1) ∙ own_end-is)))
-                        | inr l ↦ (let (bn, bf, bto) = twin_beyond h (prev k.side) b ct l in absurd (none b bt (ap name_before (bf ∙ c2) ∙ other_end-is)))
+                        | inl l ↦ (let (bn, bf, bto) = twin_beyond h (next k.side) b at l in
+                            absurd (none (next b) (stands_next net_before b bt)
+                            (ap name_before (bto ∙ a1) ∙ own_end-is)))
+                        | inr l ↦ (let (bn, bf, bto) = twin_beyond h (prev k.side) b ct l in
+                            absurd (none b bt (ap name_before (bf ∙ c2) ∙ other_end-is)))
                       ]
                 ]
           ],
@@ -277,12 +391,22 @@ module _ (n : Net) (t u s : ℕ) (beyond : ℕ → Option ℕ) (h : IsSplit n t 
 
     pub round_end : IsRound net_before s → IsRound n p
     round_end (a, all) =
-        elim (search_below (λ e. Stands net_before e × (net_before.from e ≡ s)) (begins? net_before s) (side_count net_before)) [
+        elim (search_below (λ e. Stands net_before e × (net_before.from e ≡ s))
+        (begins? net_before s) (side_count net_before)) [
           | inr none ↦ none_at_end (λ e et at. none e et.is_side (et, at))
           | inl (e, l, (et, at)) ↦
-              let f : IsPairAt net_before s (to net_before e) (third net_before e) = record { side = e; stands = et; at = at; one = refl; two = refl } in
+              let f : IsPairAt net_before s (to net_before e)
+              (third net_before e) = record {
+                side = e;
+                stands = et;
+                at = at;
+                one = refl;
+                two =
+                    refl;
+              } in
               elim (uncons net_before once s (all (to net_before e) (third net_before e) f)) [
-                | inl is ↦ round_at_end a (third net_before e) (subst (λ i. IsPairAt net_before s i (third net_before e)) (sym is) f) all
+                | inl is ↦ round_at_end a (third net_before e)
+                    (subst (λ i. IsPairAt net_before s i (third net_before e)) (sym is) f) all
                 | inr (b, g, w) ↦ round_at_end a b g all
               ]
         ]

@@ -4,7 +4,8 @@ use Rattle.std.proofs.lemmas.Bool.{cases_eq}
 use Rattle.std.proofs.lemmas.Option.{same_Some}
 use Rattle.pm_base.specs.Sides.{Net, next, prev, to, third, Stands, NoSideTwice}
 use Rattle.pm_base.specs.Fans.{IsPairAt}
-use Rattle.pm_base.proofs.Sides.{next-next-next, turn, back, corner-first, first-second, second-corner, pair_at}
+use Rattle.pm_base.proofs.Sides.{next-next-next, turn, back, corner-first, first-second}
+use Rattle.pm_base.proofs.Sides.{second-corner, pair_at}
 use Rattle.pm_runs.specs.Pairs.{IsPair as AreEnds}
 use Rattle.pm_runs.proofs.MergedPairs.{new, after, new-t, new-u, not_s, same_new}
 use Rattle.pm_splits.specs.Splits.{IsSplit}
@@ -47,8 +48,11 @@ module _ (n : Net) (t u s : ℕ) (beyond : ℕ → Option ℕ) (h : IsSplit n t 
     pub face : IsPairAt n p q w
     pub which : (e ≡ face.side) ⊎ ((e ≡ next face.side) ⊎ (e ≡ prev face.side))
 
-  pub ends_of : {va xa ya vb xb yb : ℕ} → IsPairAt n va xa ya → IsPairAt n vb xb yb → merged_name va ≡ merged_name vb → va ≢ vb → AreEnds t u va vb
-  ends_of {va = va} {vb = vb} f g is ne = elim (same_new n t u s h.fresh va vb (not_s n t u s h.fresh f) (not_s n t u s h.fresh g) is) [ inl same ↦ absurd (ne same) | inr (k, ends) ↦ ends ]
+  pub ends_of : {va xa ya vb xb yb : ℕ} → IsPairAt n va xa ya → IsPairAt n vb xb yb
+      → merged_name va ≡ merged_name vb → va ≢ vb → AreEnds t u va vb
+  ends_of {va = va} {vb = vb} f g is ne =
+      elim (same_new n t u s h.fresh va vb (not_s n t u s h.fresh f) (not_s n t u s h.fresh g) is)
+      [ inl same ↦ absurd (ne same) | inr (k, ends) ↦ ends ]
 
   pub old_or_new : (e : ℕ) → Stands n e → Stands merged_net e ⊎ IsNew e
   old_or_new e there =
@@ -56,14 +60,42 @@ module _ (n : Net) (t u s : ℕ) (beyond : ℕ → Option ℕ) (h : IsSplit n t 
       let F1 = turn n (n.from e) (to n e) (third n e) F in
       let F2 = back n (n.from e) (to n e) (third n e) F in
       elim (cases_eq (merged_net.from e) (to merged_net e)) [
-        | inl is ↦ inr (record { p = n.from e; q = to n e; w = third n e; are_ends = ends_of F F1 is there.first; face = F; which = inl refl })
+        | inl is ↦ inr (record {
+          p = n.from e;
+          q = to n e;
+          w = third n e;
+          are_ends = ends_of F F1 is there.first;
+          face = F;
+          which = inl refl;
+        })
         | inr a ↦
             elim (cases_eq (to merged_net e) (third merged_net e)) [
-              | inl is ↦ inr (record { p = to n e; q = third n e; w = n.from e; are_ends = ends_of F1 F2 is there.second; face = F1; which = inr (inr (sym (next-next-next e))) })
+              | inl is ↦ inr (record {
+                p = to n e;
+                q = third n e;
+                w = n.from e;
+                are_ends = ends_of F1 F2 is there.second;
+                face = F1;
+                which =
+                    inr (inr (sym (next-next-next e)));
+              })
               | inr b ↦
                   elim (cases_eq (third merged_net e) (merged_net.from e)) [
-                    | inl is ↦ inr (record { p = third n e; q = n.from e; w = to n e; are_ends = ends_of F2 F is there.last; face = F2; which = inr (inl (sym (next-next-next e))) })
-                    | inr c ↦ inl (record { is_side = there.is_side; first = a; second = b; last = c })
+                    | inl is ↦ inr (record {
+                      p = third n e;
+                      q = n.from e;
+                      w = to n e;
+                      are_ends = ends_of F2 F is there.last;
+                      face = F2;
+                      which =
+                          inr (inl (sym (next-next-next e)));
+                    })
+                    | inr c ↦ inl (record {
+                      is_side = there.is_side;
+                      first = a;
+                      second = b;
+                      last = c;
+                    })
                   ]
             ]
       ]
@@ -74,42 +106,75 @@ module _ (n : Net) (t u s : ℕ) (beyond : ℕ → Option ℕ) (h : IsSplit n t 
       let eq = same_ends k.p k.q k.are_ends in
       let c = ap n.from (next-next-next f.side) in
       elim k.which [
-        | inl is ↦ there.first (ap merged_name (ap n.from is ∙ f.at) ∙ eq ∙ sym (ap merged_name (ap (to n) is ∙ f.one)))
+        | inl is ↦ there.first (ap merged_name (ap n.from is ∙ f.at) ∙ eq
+            ∙ sym (ap merged_name (ap (to n) is ∙ f.one)))
         | inr o ↦
             elim o [
-              | inl is ↦ there.last (ap merged_name (ap (third n) is ∙ c ∙ f.at) ∙ eq ∙ sym (ap merged_name (ap n.from is ∙ f.one)))
-              | inr is ↦ there.second (ap merged_name (ap (to n) is ∙ c ∙ f.at) ∙ eq ∙ sym (ap merged_name (ap (third n) is ∙ ap n.from (ap next (next-next-next f.side)) ∙ f.one)))
+              | inl is ↦ there.last (ap merged_name (ap (third n) is ∙ c ∙ f.at) ∙ eq
+                  ∙ sym (ap merged_name (ap n.from is ∙ f.one)))
+              | inr is ↦ there.second (ap merged_name (ap (to n) is ∙ c ∙ f.at) ∙ eq
+                  ∙ sym (ap merged_name (ap (third n) is
+                  ∙ ap n.from (ap next (next-next-next f.side)) ∙ f.one)))
             ]
       ]
 
   -- the ends of a new face's outer sides
-  pub next_ends : {p q w : ℕ} (f : IsPairAt n p q w) → (n.from (next f.side) ≡ q) × (to n (next f.side) ≡ w) × (third n (next f.side) ≡ p) × Stands n (next f.side)
+  pub next_ends : {p q w : ℕ} (f : IsPairAt n p q w) → (n.from (next f.side) ≡ q)
+      × (to n (next f.side) ≡ w) × (third n (next f.side) ≡ p) × Stands n (next f.side)
   next_ends {p} {q} {w} f = let g = turn n p q w f in (g.at, g.one, g.two, g.stands)
 
-  pub prev_ends : {p q w : ℕ} (f : IsPairAt n p q w) → (n.from (prev f.side) ≡ w) × (to n (prev f.side) ≡ p) × (third n (prev f.side) ≡ q) × Stands n (prev f.side)
+  pub prev_ends : {p q w : ℕ} (f : IsPairAt n p q w) → (n.from (prev f.side) ≡ w)
+      × (to n (prev f.side) ≡ p) × (third n (prev f.side) ≡ q) × Stands n (prev f.side)
   prev_ends {p} {q} {w} f = let g = back n p q w f in (g.at, g.one, g.two, g.stands)
 
-  pub new_next : (p q w : ℕ) → AreEnds t u p q → (f : IsPairAt n p q w) → Stands merged_net (next f.side) → ⊥
-  new_next p q w k f = new_gone (next f.side) (record { p = p; q = q; w = w; are_ends = k; face = f; which = inr (inl refl) })
+  pub new_next : (p q w : ℕ) → AreEnds t u p q → (f : IsPairAt n p q w)
+      → Stands merged_net (next f.side) → ⊥
+  new_next p q w k f = new_gone (next f.side) (record {
+    p = p;
+    q = q;
+    w = w;
+    are_ends = k;
+    face = f;
+    which = inr (inl refl);
+  })
 
-  pub new_prev : (p q w : ℕ) → AreEnds t u p q → (f : IsPairAt n p q w) → Stands merged_net (prev f.side) → ⊥
-  new_prev p q w k f = new_gone (prev f.side) (record { p = p; q = q; w = w; are_ends = k; face = f; which = inr (inr refl) })
+  pub new_prev : (p q w : ℕ) → AreEnds t u p q → (f : IsPairAt n p q w)
+      → Stands merged_net (prev f.side) → ⊥
+  new_prev p q w k f = new_gone (prev f.side) (record {
+    p = p;
+    q = q;
+    w = w;
+    are_ends = k;
+    face = f;
+    which = inr (inr refl);
+  })
 
-  abbrev pub renamed_face : (a b c a' b' c' : ℕ) → IsPairAt n a b c → a ≡ a' → b ≡ b' → c ≡ c' → IsPairAt n a' b' c'
-  renamed_face a b c a' b' c' f x y z = record { side = f.side; stands = f.stands; at = f.at ∙ x; one = f.one ∙ y; two = f.two ∙ z }
+  abbrev pub renamed_face : (a b c a' b' c' : ℕ) → IsPairAt n a b c → a ≡ a' → b ≡ b' → c ≡ c'
+      → IsPairAt n a' b' c'
+  renamed_face a b c a' b' c' f x y z = record {
+    side = f.side;
+    stands = f.stands;
+    at = f.at ∙ x;
+    one = f.one ∙ y;
+    two = f.two ∙ z;
+  }
 
   module _ (once : NoSideTwice merged_net) where
     -- of the side beyond, in the mesh before
-    between : (b g o : ℕ) → Stands n o → Stands merged_net b → Stands merged_net g → RunsBack merged_net b g → beyond o ≡ Some b → (beyond b ≡ Some g → ⊥) → ((r : ℕ) → beyond r ≡ Some g → (r ≡ next o) ⊎ (r ≡ prev o) → ⊥) → ⊥
+    between : (b g o : ℕ) → Stands n o → Stands merged_net b → Stands merged_net g
+        → RunsBack merged_net b g → beyond o ≡ Some b → (beyond b ≡ Some g → ⊥)
+        → ((r : ℕ) → beyond r ≡ Some g → (r ≡ next o) ⊎ (r ≡ prev o) → ⊥) → ⊥
     between b g o ot bt gt twin lo never not_over =
         let lb = h.back o b ot lo in
         elim (h.kept b g bt (one_twin merged_net once b g twin)) [
           | inl is ↦ never is
-          | inr k ↦ (let same = same_Some k.o o (sym k.meets ∙ lb) in not_over k.r k.leaves (subst (λ i. (k.r ≡ next i) ⊎ (k.r ≡ prev i)) same k.sides))
+          | inr k ↦ (let same = same_Some k.o o (sym k.meets ∙ lb) in
+              not_over k.r k.leaves (subst (λ i. (k.r ≡ next i) ⊎ (k.r ≡ prev i)) same k.sides))
         ]
 
     -- An old side with the ends of a new one's
-    next_twice : (p q w : ℕ) (k : AreEnds t u p q) (f : IsPairAt n p q w) (g : ℕ) → Stands merged_net g → n.from g ≡ q → to n g ≡ w → ⊥
+    next_twice : (p q w : ℕ) (k : AreEnds t u p q) (f : IsPairAt n p q w) (g : ℕ)
+        → Stands merged_net g → n.from g ≡ q → to n g ≡ w → ⊥
     next_twice p q w k f g gt gq gw =
         let (b, bt, side) = h.held p q w k f in
         let (a1, a2, a3, at) = next_ends f in
@@ -117,8 +182,14 @@ module _ (n : Net) (t u s : ℕ) (beyond : ℕ → Option ℕ) (h : IsSplit n t 
         elim side [
           | inl l ↦
               let (bn, bf, bto) = twin_beyond h (next f.side) b at l in
-              between b g (next f.side) at bt gt (gt, ap merged_name (gq ∙ sym a1 ∙ sym bto), ap merged_name (gw ∙ sym a2 ∙ sym bf)) l
-              (λ is. new_next p q w k f (subst (Stands merged_net) (same_Some g (next f.side) (sym is ∙ h.back (next f.side) b at l)) gt))
+              between b g (next f.side) at bt gt (
+                gt,
+                ap merged_name (gq ∙ sym a1 ∙ sym bto),
+                ap merged_name (gw ∙ sym a2 ∙ sym bf),
+              ) l
+              (λ is. new_next p q w k f
+              (subst (Stands merged_net)
+              (same_Some g (next f.side) (sym is ∙ h.back (next f.side) b at l)) gt))
               (λ r lr which.
               elim which [
                 | inl is ↦
@@ -126,16 +197,19 @@ module _ (n : Net) (t u s : ℕ) (beyond : ℕ → Option ℕ) (h : IsSplit n t 
                     corner-first n p q w f (sym (sym gq ∙ gf ∙ ap (to n) is ∙ c2))
                 | inr is ↦
                     let is' : r ≡ f.side = is ∙ next-next-next f.side in
-                    let (gn, gf, gto) = twin_beyond h r g (subst (Stands n) (sym is') f.stands) lr in
+                    let (gn, gf, gto) =
+                    twin_beyond h r g (subst (Stands n) (sym is') f.stands) lr in
                     second-corner n p q w f (sym gw ∙ gto ∙ ap n.from is' ∙ f.at)
               ])
           | inr l ↦
               let (bn, bf, bto) = twin_beyond h (prev f.side) b ct l in
-              let same = once b g bt gt (ap merged_name (bf ∙ c2) ∙ same_ends p q k ∙ sym (ap merged_name gq)) (ap merged_name (bto ∙ c1 ∙ sym gw)) in
+              let same = once b g bt gt (ap merged_name (bf ∙ c2) ∙ same_ends p q k
+              ∙ sym (ap merged_name gq)) (ap merged_name (bto ∙ c1 ∙ sym gw)) in
               corner-first n p q w f (sym c2 ∙ sym bf ∙ ap n.from same ∙ gq)
         ]
 
-    prev_twice : (p q w : ℕ) (k : AreEnds t u p q) (f : IsPairAt n p q w) (g : ℕ) → Stands merged_net g → n.from g ≡ w → to n g ≡ p → ⊥
+    prev_twice : (p q w : ℕ) (k : AreEnds t u p q) (f : IsPairAt n p q w) (g : ℕ)
+        → Stands merged_net g → n.from g ≡ w → to n g ≡ p → ⊥
     prev_twice p q w k f g gt gw gp =
         let (b, bt, side) = h.held p q w k f in
         let (a1, a2, a3, at) = next_ends f in
@@ -143,13 +217,20 @@ module _ (n : Net) (t u s : ℕ) (beyond : ℕ → Option ℕ) (h : IsSplit n t 
         elim side [
           | inr l ↦
               let (bn, bf, bto) = twin_beyond h (prev f.side) b ct l in
-              between b g (prev f.side) ct bt gt (gt, ap merged_name (gw ∙ sym c1 ∙ sym bto), ap merged_name (gp ∙ sym c2 ∙ sym bf)) l
-              (λ is. new_prev p q w k f (subst (Stands merged_net) (same_Some g (prev f.side) (sym is ∙ h.back (prev f.side) b ct l)) gt))
+              between b g (prev f.side) ct bt gt (
+                gt,
+                ap merged_name (gw ∙ sym c1 ∙ sym bto),
+                ap merged_name (gp ∙ sym c2 ∙ sym bf),
+              ) l
+              (λ is. new_prev p q w k f
+              (subst (Stands merged_net)
+              (same_Some g (prev f.side) (sym is ∙ h.back (prev f.side) b ct l)) gt))
               (λ r lr which.
               elim which [
                 | inl is ↦
                     let is' : r ≡ f.side = is ∙ next-next-next f.side in
-                    let (gn, gf, gto) = twin_beyond h r g (subst (Stands n) (sym is') f.stands) lr in
+                    let (gn, gf, gto) =
+                    twin_beyond h r g (subst (Stands n) (sym is') f.stands) lr in
                     first-second n p q w f (sym (sym gw ∙ gf ∙ ap (to n) is' ∙ f.one))
                 | inr is ↦
                     let is' : r ≡ next f.side = is ∙ ap next (next-next-next f.side) in
@@ -158,7 +239,8 @@ module _ (n : Net) (t u s : ℕ) (beyond : ℕ → Option ℕ) (h : IsSplit n t 
               ])
           | inl l ↦
               let (bn, bf, bto) = twin_beyond h (next f.side) b at l in
-              let same = once b g bt gt (ap merged_name (bf ∙ a2 ∙ sym gw)) (ap merged_name (bto ∙ a1) ∙ sym (same_ends p q k) ∙ sym (ap merged_name gp)) in
+              let same = once b g bt gt (ap merged_name (bf ∙ a2 ∙ sym gw))
+              (ap merged_name (bto ∙ a1) ∙ sym (same_ends p q k) ∙ sym (ap merged_name gp)) in
               corner-first n p q w f (sym gp ∙ sym (ap (to n) same) ∙ bto ∙ a1)
         ]
 
@@ -168,25 +250,43 @@ module _ (n : Net) (t u s : ℕ) (beyond : ℕ → Option ℕ) (h : IsSplit n t 
         let (a1, a2, a3, at) = next_ends f in
         let (c1, c2, c3, ct) = prev_ends f in
         elim k.which [
-          | inl is ↦ gt.first (ap merged_name (sym a ∙ ap n.from is ∙ f.at) ∙ same_ends k.p k.q k.are_ends ∙ sym (ap merged_name (sym b ∙ ap (to n) is ∙ f.one)))
+          | inl is ↦ gt.first (ap merged_name (sym a ∙ ap n.from is ∙ f.at)
+              ∙ same_ends k.p k.q k.are_ends ∙ sym (ap merged_name (sym b ∙ ap (to n) is ∙ f.one)))
           | inr o ↦
               elim o [
-                | inl is ↦ next_twice k.p k.q k.w k.are_ends f g gt (sym a ∙ ap n.from is ∙ a1) (sym b ∙ ap (to n) is ∙ a2)
-                | inr is ↦ prev_twice k.p k.q k.w k.are_ends f g gt (sym a ∙ ap n.from is ∙ c1) (sym b ∙ ap (to n) is ∙ c2)
+                | inl is ↦ next_twice k.p k.q k.w k.are_ends f g gt (sym a ∙ ap n.from is ∙ a1)
+                    (sym b ∙ ap (to n) is ∙ a2)
+                | inr is ↦ prev_twice k.p k.q k.w k.are_ends f g gt (sym a ∙ ap n.from is ∙ c1)
+                    (sym b ∙ ap (to n) is ∙ c2)
               ]
         ]
 
     -- a third corner is no end
-    third_apart : (p q w p' q' : ℕ) → AreEnds t u p q → AreEnds t u p' q' → IsPairAt n p' q' w → (w ≢ p) × (w ≢ q)
+    third_apart : (p q w p' q' : ℕ) → AreEnds t u p q → AreEnds t u p' q' → IsPairAt n p' q' w
+        → (w ≢ p) × (w ≢ q)
     third_apart p q w p' q' k k' f = (
-      (λ is. elim (either p q p' q' k k') [ inl e ↦ second-corner n p' q' w f (is ∙ e) | inr e ↦ first-second n p' q' w f (sym (is ∙ e)) ]),
-      (λ is. elim (either q p p' q' (swap p q k) k') [ inl e ↦ second-corner n p' q' w f (is ∙ e) | inr e ↦ first-second n p' q' w f (sym (is ∙ e)) ]),
+      (λ is. elim (either p q p' q' k k') [
+        | inl e ↦ second-corner n p' q' w f (is ∙ e)
+        | inr e ↦
+            first-second n p' q' w f (sym (is ∙ e))
+      ]),
+      (λ is. elim (either q p p' q' (swap p q k) k') [
+        | inl e ↦ second-corner n p' q' w f (is ∙ e)
+        | inr e ↦ first-second n p' q' w f (sym (is ∙ e))
+      ]),
     )
 
     -- two new faces from one end to the other are one
-    one_new : (p q w p' q' w' : ℕ) → AreEnds t u p q → AreEnds t u p' q' → (f : IsPairAt n p q w) (f' : IsPairAt n p' q' w') → p ≡ p' → f.side ≡ f'.side
+    one_new : (p q w p' q' w' : ℕ) → AreEnds t u p q → AreEnds t u p' q'
+        → (f : IsPairAt n p q w) (f' : IsPairAt n p' q' w') → p ≡ p' → f.side ≡ f'.side
     one_new p q w p' q' w' k k' f f' is =
-        let g : IsPairAt n p q w' = record { side = f'.side; stands = f'.stands; at = f'.at ∙ sym is; one = f'.one ∙ sym (other_end p q p' q' k k' is); two = f'.two } in
+        let g : IsPairAt n p q w' = record {
+          side = f'.side;
+          stands = f'.stands;
+          at = f'.at ∙ sym is;
+          one = f'.one ∙ sym (other_end p q p' q' k k' is);
+          two = f'.two;
+        } in
         h.one p q w w' k f g
 
     new_new : (e g : ℕ) → IsNew e → IsNew g → n.from e ≡ n.from g → to n e ≡ to n g → e ≡ g
@@ -204,7 +304,8 @@ module _ (n : Net) (t u s : ℕ) (beyond : ℕ → Option ℕ) (h : IsSplit n t 
               let ep = sym (ap n.from is ∙ f.at) ∙ a in
               let eq = sym (ap (to n) is ∙ f.one) ∙ b in
               elim k'.which [
-                | inl is' ↦ is ∙ one_new k.p k.q k.w k'.p k'.q k'.w k.are_ends k'.are_ends f f' (ep ∙ ap n.from is' ∙ f'.at) ∙ sym is'
+                | inl is' ↦ is ∙ one_new k.p k.q k.w k'.p k'.q k'.w k.are_ends k'.are_ends f f'
+                    (ep ∙ ap n.from is' ∙ f'.at) ∙ sym is'
                 | inr o ↦
                     elim o [
                       | inl is' ↦ absurd (apart.1 (sym (eq ∙ ap (to n) is' ∙ a2')))
@@ -222,8 +323,11 @@ module _ (n : Net) (t u s : ℕ) (beyond : ℕ → Option ℕ) (h : IsSplit n t 
                           elim o' [
                             | inl is' ↦
                                 let qq = eq ∙ ap n.from is' ∙ a1' in
-                                let pp = other_end k.q k.p k'.q k'.p (swap k.p k.q k.are_ends) (swap k'.p k'.q k'.are_ends) qq in
-                                is ∙ ap next (one_new k.p k.q k.w k'.p k'.q k'.w k.are_ends k'.are_ends f f' pp) ∙ sym is'
+                                let pp = other_end k.q k.p k'.q k'.p (swap k.p k.q k.are_ends)
+                                (swap k'.p k'.q k'.are_ends) qq in
+                                is ∙ ap next
+                                (one_new k.p k.q k.w k'.p k'.q k'.w k.are_ends k'.are_ends f f'
+                                pp) ∙ sym is'
                             | inr is' ↦ absurd (apart.1 (sym (eq ∙ ap n.from is' ∙ c1')))
                           ]
                     ]
@@ -235,7 +339,9 @@ module _ (n : Net) (t u s : ℕ) (beyond : ℕ → Option ℕ) (h : IsSplit n t 
                       | inr o' ↦
                           elim o' [
                             | inl is' ↦ absurd (apart.0 (sym (ep ∙ ap (to n) is' ∙ a2')))
-                            | inr is' ↦ is ∙ ap prev (one_new k.p k.q k.w k'.p k'.q k'.w k.are_ends k'.are_ends f f' (ep ∙ ap (to n) is' ∙ c2')) ∙ sym is'
+                            | inr is' ↦ is
+                                ∙ ap prev (one_new k.p k.q k.w k'.p k'.q k'.w k.are_ends k'.are_ends
+                                f f' (ep ∙ ap (to n) is' ∙ c2')) ∙ sym is'
                           ]
                     ]
               ]

@@ -6,9 +6,11 @@ use Rattle.pm_base.proofs.Sides.{turn, back}
 use Rattle.pm_runs.specs.Pairs.{IsPair as AreEnds}
 use Rattle.pm_splits.specs.Splits.{IsSplit}
 use Rattle.pm_splits.proofs.Facts.{twin_beyond, HasNoMirror}
-use Rattle.pm_splits.proofs.Split.{merged_name, merged_net, swap, old_or_new, next_ends, prev_ends, new_next, new_prev, renamed_face, no_side_twice_after}
+use Rattle.pm_splits.proofs.Split.{merged_name, merged_net, swap, old_or_new, next_ends, prev_ends}
+use Rattle.pm_splits.proofs.Split.{new_next, new_prev, renamed_face, no_side_twice_after}
 
-module _ (n : Net) (t u s : ℕ) (beyond : ℕ → Option ℕ) (h : IsSplit n t u s beyond) (once : NoSideTwice (merged_net n t u s beyond h)) where
+module _ (n : Net) (t u s : ℕ) (beyond : ℕ → Option ℕ) (h : IsSplit n t u s beyond)
+    (once : NoSideTwice (merged_net n t u s beyond h)) where
   abbrev net_before : Net
   net_before = merged_net n t u s beyond h
 
@@ -26,14 +28,22 @@ module _ (n : Net) (t u s : ℕ) (beyond : ℕ → Option ℕ) (h : IsSplit n t 
       elim side [
         | inl l ↦
             let (bn, bf, bto) = twin_beyond h (next f.side) b at l in
-            new_prev n t u s beyond h q p w (swap n t u s beyond h p q k) g (subst (Stands net_before) (no_side_twice_after n t u s beyond h once b (prev g.side) bn ct' (bf ∙ a2 ∙ sym c1') (bto ∙ a1 ∙ sym c2')) bt)
+            new_prev n t u s beyond h q p w (swap n t u s beyond h p q k) g
+            (subst (Stands net_before)
+            (no_side_twice_after n t u s beyond h once b (prev g.side) bn ct'
+            (bf ∙ a2 ∙ sym c1') (bto ∙ a1 ∙ sym c2')) bt)
         | inr l ↦
             let (bn, bf, bto) = twin_beyond h (prev f.side) b ct l in
-            new_next n t u s beyond h q p w (swap n t u s beyond h p q k) g (subst (Stands net_before) (no_side_twice_after n t u s beyond h once b (next g.side) bn at' (bf ∙ c2 ∙ sym a1') (bto ∙ c1 ∙ sym a2')) bt)
+            new_next n t u s beyond h q p w (swap n t u s beyond h p q k) g
+            (subst (Stands net_before)
+            (no_side_twice_after n t u s beyond h once b (next g.side) bn at'
+            (bf ∙ c2 ∙ sym a1') (bto ∙ c1 ∙ sym a2')) bt)
       ]
 
   -- the corners of a face, as its side stands in another form of it
-  new_mirror : (v x y : ℕ) (f : IsPairAt n v x y) → IsPairAt n v y x → (p q w : ℕ) → AreEnds t u p q → (k : IsPairAt n p q w) → ((f.side ≡ k.side) ⊎ ((f.side ≡ next k.side) ⊎ (f.side ≡ prev k.side))) → ⊥
+  new_mirror : (v x y : ℕ) (f : IsPairAt n v x y) → IsPairAt n v y x → (p q w : ℕ) → AreEnds t u p q
+      → (k : IsPairAt n p q w)
+      → ((f.side ≡ k.side) ⊎ ((f.side ≡ next k.side) ⊎ (f.side ≡ prev k.side))) → ⊥
   new_mirror v x y f g p q w ends k which =
       let (a1, a2, a3, at) = next_ends n t u s beyond h k in
       let (c1, c2, c3, ct) = prev_ends n t u s beyond h k in
@@ -43,7 +53,8 @@ module _ (n : Net) (t u s : ℕ) (beyond : ℕ → Option ℕ) (h : IsSplit n t 
             let vp = sym f.at ∙ ap n.from is ∙ k.at in
             let xq = sym f.one ∙ ap (to n) is ∙ k.one in
             let yw = sym f.two ∙ ap (third n) is ∙ k.two in
-            no_two p q w ends k (back n p w q (renamed_face n t u s beyond h v y x p w q g vp yw xq))
+            no_two p q w ends k
+            (back n p w q (renamed_face n t u s beyond h v y x p w q g vp yw xq))
         | inr o ↦
             elim o [
               | inl is ↦
@@ -57,7 +68,8 @@ module _ (n : Net) (t u s : ℕ) (beyond : ℕ → Option ℕ) (h : IsSplit n t 
                   let vw = sym f.at ∙ ap n.from is ∙ c1 in
                   let xp = sym f.one ∙ ap (to n) is ∙ c2 in
                   let yq = sym f.two ∙ ap (third n) is ∙ c3 in
-                  no_two p q w ends k (turn n w q p (renamed_face n t u s beyond h v y x w q p g vw yq xp))
+                  no_two p q w ends k
+                  (turn n w q p (renamed_face n t u s beyond h v y x w q p g vw yq xp))
             ]
       ]
 
@@ -65,13 +77,30 @@ module _ (n : Net) (t u s : ℕ) (beyond : ℕ → Option ℕ) (h : IsSplit n t 
   no_mirror_after plain v x y f g =
       elim (old_or_new n t u s beyond h f.side f.stands) [
         | inl fo ↦
-            let f' : IsPairAt net_before (name_before v) (name_before x) (name_before y) = record { side = f.side; stands = fo; at = ap name_before f.at; one = ap name_before f.one; two = ap name_before f.two } in
+            let f' : IsPairAt net_before (name_before v) (name_before x)
+            (name_before y) = record {
+              side = f.side;
+              stands = fo;
+              at = ap name_before f.at;
+              one = ap name_before f.one;
+              two = ap name_before f.two;
+            } in
             let go : Stands net_before g.side = record {
               is_side = g.stands.is_side;
-              first = λ i. fo.last (ap name_before f.two ∙ sym (ap name_before g.one) ∙ sym i ∙ ap name_before g.at ∙ sym (ap name_before f.at));
-              second = λ i. fo.second (ap name_before f.one ∙ sym (ap name_before g.two) ∙ sym i ∙ ap name_before g.one ∙ sym (ap name_before f.two));
-              last = λ i. fo.first (ap name_before f.at ∙ sym (ap name_before g.at) ∙ sym i ∙ ap name_before g.two ∙ sym (ap name_before f.one));
+              first = λ i. fo.last (ap name_before f.two ∙ sym (ap name_before g.one) ∙ sym i
+                  ∙ ap name_before g.at ∙ sym (ap name_before f.at));
+              second = λ i. fo.second (ap name_before f.one ∙ sym (ap name_before g.two) ∙ sym i
+                  ∙ ap name_before g.one ∙ sym (ap name_before f.two));
+              last = λ i. fo.first (ap name_before f.at ∙ sym (ap name_before g.at) ∙ sym i
+                  ∙ ap name_before g.two ∙ sym (ap name_before f.one));
             } in
-            plain (name_before v) (name_before x) (name_before y) f' (record { side = g.side; stands = go; at = ap name_before g.at; one = ap name_before g.one; two = ap name_before g.two })
+            plain (name_before v) (name_before x) (name_before y) f'
+            (record {
+              side = g.side;
+              stands = go;
+              at = ap name_before g.at;
+              one = ap name_before g.one;
+              two = ap name_before g.two;
+            })
         | inr k ↦ new_mirror v x y f g k.p k.q k.w k.are_ends k.face k.which
       ]

@@ -1,5 +1,6 @@
 -- The strips of a front, and their text.
-use Rattle.std.specs.Prelude.{◌≡◌, ℕ, ◌+◌, ◌*◌, ◌<◌, nat_lt, Bool, true, false, ◌&&◌, cond, List, [], ◌∷◌, ◌++◌, length, map, Option, None, ◌↔◌, codes}
+use Rattle.std.specs.Prelude.{◌≡◌, ℕ, ◌+◌, ◌*◌, ◌<◌, nat_lt, Bool, true, false, ◌&&◌, cond, List}
+use Rattle.std.specs.Prelude.{[], ◌∷◌, ◌++◌, length, map, Option, None, ◌↔◌, codes}
 use Rattle.std.specs.List.{flat_map}
 use Rattle.std.specs.Fmt.{decimal}
 use Rattle.pm_base.specs.declared.mesh.Corners.{Corners}
@@ -24,8 +25,8 @@ beyond_in h T e = cond (is_there h T (face_of e)) (beyond_of h T e) None
 abbrev pub node_of_corner : Hierarchy → (ℕ → Bool) → ℕ → ℕ
 node_of_corner h T e = ancestor_of h T (from_leaf h e)
 
--- The strips, each by the sides with which it comes to its triangles, and the list of each. No strip has more triangles than
--- there are faces.
+-- The strips, each by the sides with which it comes to its triangles, and the list of each. No
+-- strip has more triangles than there are faces.
 unfoldable pub strips_of : Hierarchy → (ℕ → Bool) → List (List ℕ)
 strips_of h T = strips_from (beyond_in h T) (face_count h) (face_count h) (is_there h T) 0
 
@@ -45,7 +46,8 @@ count_line strips = codes "strips " ++ decimal strips ++ codes "\n"
 
 -- The text of the strips.
 unfoldable pub strips_text : Hierarchy → (ℕ → Bool) → List ℕ
-strips_text h T = flat_map strip_line (strip_lists_of h T) ++ count_line (length (strip_lists_of h T))
+strips_text h T =
+    flat_map strip_line (strip_lists_of h T) ++ count_line (length (strip_lists_of h T))
 
 -- The list has each kept face once.
 pub record HasEachOnce (h : Hierarchy) (T : ℕ → Bool) (faces : List ℕ) : Type 0 where
@@ -54,7 +56,11 @@ pub record HasEachOnce (h : Hierarchy) (T : ℕ → Bool) (faces : List ℕ) : T
 
 -- The active nodes at the corners of face f.
 abbrev pub corners_shown : Hierarchy → (ℕ → Bool) → ℕ → Corners
-corners_shown h T f = record { a = node_of_corner h T (3 * f); b = node_of_corner h T (3 * f + 1); c = node_of_corner h T (3 * f + 2) }
+corners_shown h T f = record {
+  a = node_of_corner h T (3 * f);
+  b = node_of_corner h T (3 * f + 1);
+  c = node_of_corner h T (3 * f + 2);
+}
 
 -- Each triangle is the face in its place, up to a turn of the corners.
 abbrev pub AreTurned : (ℕ → Corners) → List ℕ → List Corners → Type 0
@@ -66,4 +72,5 @@ AreTurned shown _ _ = ⊥
 pub record ShowTheMesh (h : Hierarchy) (T : ℕ → Bool) : Type 0 where
   pub faces : List ℕ
   pub kept : HasEachOnce h T faces
-  pub triangles : AreTurned (corners_shown h T) faces (flat_map (decoded false) (strip_lists_of h T))
+  pub triangles : AreTurned (corners_shown h T) faces
+      (flat_map (decoded false) (strip_lists_of h T))

@@ -7,7 +7,8 @@ use Rattle.pm_strips.specs.Shown.{node_text, strip_line}
 
 -- The first three nodes of a strip that begins with side e.
 unfoldable pub first_text : (ℕ → ℕ) → ℕ → List ℕ
-first_text node e = codes "t" ++ node_text (node e) ++ node_text (node (next e)) ++ node_text (node (next (next e)))
+first_text node e =
+    codes "t" ++ node_text (node e) ++ node_text (node (next e)) ++ node_text (node (next (next e)))
 
 -- The node that a strip lists when it enters a triangle by side g; and those for several.
 abbrev pub node_entered : (ℕ → ℕ) → ℕ → List ℕ

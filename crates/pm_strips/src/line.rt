@@ -15,7 +15,8 @@ use pm_io::Line;
 pub(crate) fn add_node(line: &mut Line, front: &Front, corner: Side)
     requires there { is_there front.now.h (set_of front.now.flags) (face_of corner.0) ≡ true }
     requires room { length line.old + 11 ≤ 128 }
-    ensures text { line.new ≡ line.old ++ node_text (node_of_corner front.now.h (set_of front.now.flags) corner.0) }
+    ensures text { line.new ≡ line.old
+        ++ node_text (node_of_corner front.now.h (set_of front.now.flags) corner.0) }
     ensures short { length line.new ≤ length line.old + 11 }
 {
     let node = front.corner(corner.face(), corner.0 % 3);

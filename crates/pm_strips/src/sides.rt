@@ -4,7 +4,8 @@ ghost use Rattle.pm_base.specs.Sides.{next as next_of, face_of};
 ghost use Rattle.pm_base.specs.Counts.{set_of};
 ghost use Rattle.pm_forest.specs.Faces.{face_count};
 ghost use Rattle.pm_beyond.specs.Walks.{number_of};
-ghost use Rattle.pm_strips.specs.Strips.{exit_of as exit_of_in, free_beyond as free_beyond_in, leads_on as leads_on_in, first_side as first_side_in};
+ghost use Rattle.pm_strips.specs.Strips.{exit_of as exit_of_in, free_beyond as free_beyond_in};
+ghost use Rattle.pm_strips.specs.Strips.{leads_on as leads_on_in, first_side as first_side_in};
 ghost use Rattle.pm_strips.specs.Shown.{is_there, beyond_in};
 
 use pm_base::{FaceId, Side};
@@ -35,7 +36,8 @@ pub(crate) fn exit_of(front: &Front, is_odd: bool, side: Side) -> Side
 fn beyond(front: &Front, side: Side) -> Option<Side>
     requires { is_there front.now.h (set_of front.now.flags) (face_of side.0) ≡ true }
     ensures value { number_of result ≡ beyond_in front.now.h (set_of front.now.flags) side.0 }
-    ensures there { IfSome result (λ g. is_there front.now.h (set_of front.now.flags) (face_of g.0) ≡ true) }
+    ensures there { IfSome result (λ g. is_there front.now.h (set_of front.now.flags) (face_of g.0)
+        ≡ true) }
 {
     front.invariant();
     front.beyond(side)
@@ -47,7 +49,8 @@ pub(crate) fn free_beyond(free: &[bool], front: &Front, side: Side) -> Option<Si
     requires there { is_there front.now.h (set_of front.now.flags) (face_of side.0) ≡ true }
     ensures value { number_of result
         ≡ free_beyond_in (beyond_in front.now.h (set_of front.now.flags)) (set_of free.now) side.0 }
-    ensures there { IfSome result (λ g. is_there front.now.h (set_of front.now.flags) (face_of g.0) ≡ true) }
+    ensures there { IfSome result (λ g. is_there front.now.h (set_of front.now.flags) (face_of g.0)
+        ≡ true) }
 {
     match beyond(front, side) {
         Some(far) if free[far.face().0 as usize] => Some(far),
@@ -59,7 +62,8 @@ pub(crate) fn free_beyond(free: &[bool], front: &Front, side: Side) -> Option<Si
 fn leads_on(free: &[bool], front: &Front, side: Side) -> bool
     requires len { length free.now ≡ face_count front.now.h }
     requires there { is_there front.now.h (set_of front.now.flags) (face_of side.0) ≡ true }
-    ensures { result ≡ leads_on_in (beyond_in front.now.h (set_of front.now.flags)) (set_of free.now) side.0 }
+    ensures { result ≡ leads_on_in (beyond_in front.now.h (set_of front.now.flags))
+        (set_of free.now) side.0 }
 {
     free_beyond(free, front, next(front, side)).is_some()
 }

@@ -47,8 +47,8 @@ fn put_node<K: Sink>(
     page.add(line.as_slice(), out)
 }
 
-// The nodes of the triangles that a strip enters from an exit on, where the first of them is an odd one. Their faces are free
-// no longer.
+// The nodes of the triangles that a strip enters from an exit on, where the first of them is an odd
+// one. Their faces are free no longer.
 fn put_entered<K: Sink>(
     free: &mut Vec<bool>,
     front: &Front,
@@ -59,10 +59,13 @@ fn put_entered<K: Sink>(
     requires len { length free.old.items ≡ face_count front.now.h }
     requires there { is_there front.now.h (set_of front.now.flags) (face_of first_exit.0) ≡ true }
     ensures puts { let h = front.now.h in let T = set_of front.now.flags in
-        let sides = entered (beyond_in h T) (face_count h) (set_of free.old.items) true first_exit.0 in
-        PutsThrough K.Sink out.old out.new page.old page.new (entered_text (node_of_corner h T) sides) result }
+        let sides = entered (beyond_in h T) (face_count h) (set_of free.old.items) true
+        first_exit.0 in
+        PutsThrough K.Sink out.old out.new page.old page.new
+        (entered_text (node_of_corner h T) sides) result }
     ensures left { let h = front.now.h in let T = set_of front.now.flags in
-        let sides = entered (beyond_in h T) (face_count h) (set_of free.old.items) true first_exit.0 in
+        let sides = entered (beyond_in h T) (face_count h) (set_of free.old.items) true
+        first_exit.0 in
         OnOk result (set_of free.new.items ≡ left_by (set_of free.old.items) sides) }
     ensures len { length free.new.items ≡ length free.old.items }
 {
@@ -94,7 +97,8 @@ pub(crate) fn put_strip<K: Sink>(
     requires there { is_there front.now.h (set_of front.now.flags) face.0 ≡ true }
     ensures puts { let h = front.now.h in let T = set_of front.now.flags in
         let sides = strip_from (beyond_in h T) (face_count h) (set_of free.old.items) face.0 in
-        PutsThrough K.Sink out.old out.new page.old page.new (line_of (node_of_corner h T) sides) result }
+        PutsThrough K.Sink out.old out.new page.old page.new (line_of (node_of_corner h T) sides)
+        result }
     ensures left { let h = front.now.h in let T = set_of front.now.flags in
         let sides = strip_from (beyond_in h T) (face_count h) (set_of free.old.items) face.0 in
         OnOk result (set_of free.new.items ≡ left_by (set_of free.old.items) sides) }

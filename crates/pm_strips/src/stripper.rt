@@ -4,7 +4,8 @@ ghost use Rattle.std.specs.List.{flat_map};
 ghost use Rattle.pm_io.specs.Puts.{Puts, PutsThrough};
 ghost use Rattle.pm_base.specs.Counts.{set_of};
 ghost use Rattle.pm_forest.specs.Faces.{face_count};
-ghost use Rattle.pm_strips.specs.Shown.{is_there, strip_lists_of, strip_line, count_line, strips_text, ShowTheMesh};
+ghost use Rattle.pm_strips.specs.Shown.{is_there, strip_lists_of, strip_line, count_line};
+ghost use Rattle.pm_strips.specs.Shown.{strips_text, ShowTheMesh};
 
 use crate::OutOfMemory;
 use crate::line::put_count;
@@ -16,7 +17,8 @@ use pm_io::{Line, Page, Sink, WriteFault};
 use std::alloc::Global;
 use std::marker::Model;
 
-/// Writes the fronts of one hierarchy as triangle strips. It has a flag for each face, and contracts see how many.
+/// Writes the fronts of one hierarchy as triangle strips. It has a flag for each face, and
+/// contracts see how many.
 #[derive(Drop)]
 pub struct Stripper {
     free: Vec<bool>,
@@ -41,17 +43,19 @@ impl Stripper {
         })
     }
 
-    /// Writes the mesh that the front shows as triangle strips, and how many there are. The front is one of the stripper's
-    /// hierarchy. The lists of the strips stand for the kept faces, each once, with their corners in cyclic order. All
-    /// faces are looked at twice, and at most four sides of each kept one; no memory. After a fault the sink has gained a
-    /// part of the text from its front, and not the whole. A later call starts anew.
+    /// Writes the mesh that the front shows as triangle strips, and how many there are. The front
+    /// is one of the stripper's hierarchy. The lists of the strips stand for the kept faces, each
+    /// once, with their corners in cyclic order. All faces are looked at twice, and at most four
+    /// sides of each kept one; no memory. After a fault the sink has gained a part of the text from
+    /// its front, and not the whole. A later call starts anew.
     ///
-    /// The text is put in pages of 4,096 bytes, of which the last may be shorter: when the call returns, nothing is held
-    /// back.
+    /// The text is put in pages of 4,096 bytes, of which the last may be shorter: when the call
+    /// returns, nothing is held back.
     #[tactic(auto, using(crate::proofs::ShownLaws::strips_show), unfolding(crate::specs::Shown::strips_text))]
     pub fn write_strips<K: Sink>(&mut self, front: &Front, out: &mut K) -> Result<(), WriteFault>
         requires { self.old ≡ face_count front.now.h }
-        ensures puts { Puts K.Sink out.old out.new (strips_text front.now.h (set_of front.now.flags)) result }
+        ensures puts { Puts K.Sink out.old out.new
+            (strips_text front.now.h (set_of front.now.flags)) result }
         ensures same { self.new ≡ self.old }
         ensures mesh { ShowTheMesh front.now.h (set_of front.now.flags) }
     {
@@ -95,9 +99,11 @@ fn put_strips<K: Sink>(
 ) -> Result<u32, WriteFault>
     requires len { length free.old.items ≡ face_count front.now.h }
     requires free { set_of free.old.items ≡ is_there front.now.h (set_of front.now.flags) }
-    ensures puts { let text = flat_map strip_line (strip_lists_of front.now.h (set_of front.now.flags)) in
+    ensures puts { let text =
+        flat_map strip_line (strip_lists_of front.now.h (set_of front.now.flags)) in
         PutsThrough K.Sink out.old out.new page.old page.new text result }
-    ensures count { IfOk result (λ n. n ≡ length (strip_lists_of front.now.h (set_of front.now.flags))) }
+    ensures count { IfOk result
+        (λ n. n ≡ length (strip_lists_of front.now.h (set_of front.now.flags))) }
     ensures len { length free.new.items ≡ length free.old.items }
 {
     let mut strips = 0u32;

@@ -1,38 +1,53 @@
 -- Flags chosen by sums over patches.
-use Rattle.std.proofs.Common.{◌≡◌, ◌≢◌, ℕ, ◌+◌, ◌*◌, ◌<◌, ◌≤◌, inl, inr, refl, sym, ap, ◌∙◌, subst, Bool, true, false, not, ◌||◌, List, Option, Some, None, length, slice_index_or, arith}
+use Rattle.std.proofs.Common.{◌≡◌, ◌≢◌, ℕ, ◌+◌, ◌*◌, ◌<◌, ◌≤◌, inl, inr, refl, sym, ap, ◌∙◌, subst}
+use Rattle.std.proofs.Common.{Bool, true, false, not, ◌||◌, List, Option, Some, None, length}
+use Rattle.std.proofs.Common.{slice_index_or, arith}
 use Rattle.std.specs.Prelude.{ℤ, pos, neg_ℤ, ◌≤ℤ◌, nat_lt}
 use Rattle.std.specs.Option.{is_none, MatchOption}
-use Rattle.std.proofs.lemmas.Bool.{cases_Bool, cases_eq, cond-true, cond-false, ltb-true, ltb-false, true≢false, or_cases, or_left, or_right}
+use Rattle.std.proofs.lemmas.Bool.{cases_Bool, cases_eq, cond-true, cond-false, ltb-true, ltb-false}
+use Rattle.std.proofs.lemmas.Bool.{true≢false, or_cases, or_left, or_right}
 use Rattle.pm_base.specs.Place.{Place}
 use Rattle.pm_base.specs.Sides.{Net, face_of, side_count, beside_side}
 use Rattle.pm_turn.specs.declared.patches.Root.{Root}
 use Rattle.pm_turn.specs.declared.choice.Sums.{Sums}
-use Rattle.pm_turn.specs.Turning.{flag_of, AreMates, clash, flipped_if, Way, stay, over, AgreeOnceTurned, AreTraced}
+use Rattle.pm_turn.specs.Turning.{flag_of, AreMates, clash, flipped_if, Way, stay, over}
+use Rattle.pm_turn.specs.Turning.{AgreeOnceTurned, AreTraced}
 use Rattle.pm_turn.specs.Unions.{AreMated}
-use Rattle.pm_turn.specs.Choice.{AreLeast, IsOpen, IsClosed, Agrees, HasClash, turned_in, staying_in, IsFewest, volume_at, volume_in, IsOutward, AreChosenTurns}
-use Rattle.pm_turn.specs.Sums.{root_at, parity_at, is_bare, no_sums, AreSums, is_reversed, chosen_flag}
+use Rattle.pm_turn.specs.Choice.{AreLeast, IsOpen, IsClosed, Agrees, HasClash, turned_in}
+use Rattle.pm_turn.specs.Choice.{staying_in, IsFewest, volume_at, volume_in, IsOutward}
+use Rattle.pm_turn.specs.Choice.{AreChosenTurns}
+use Rattle.pm_turn.specs.Sums.{root_at, parity_at, is_bare, no_sums, AreSums, is_reversed}
+use Rattle.pm_turn.specs.Sums.{chosen_flag}
 use Rattle.pm_turn.proofs.Traced.{one_in, other_in, roots_same, root_in, root_root, odd_way}
-use Rattle.pm_turn.proofs.Reversing.{flip_past, stays_without_odd, by_count, at_least_own, not_not, by_volumes}
-use Rattle.pm_turn.proofs.Totals.{patch_same, patch_none, patch_some, patch_total, patch_opposite, determinant_turned}
+use Rattle.pm_turn.proofs.Reversing.{flip_past, stays_without_odd, by_count, at_least_own, not_not}
+use Rattle.pm_turn.proofs.Reversing.{by_volumes}
+use Rattle.pm_turn.proofs.Totals.{patch_same, patch_none, patch_some, patch_total, patch_opposite}
+use Rattle.pm_turn.proofs.Totals.{determinant_turned}
 
 -- A face has a side without a mate.
-bare_side : (mates : List (Option ℕ)) (f e : ℕ) → face_of e ≡ f → beside_side mates e ≡ None → is_bare mates f ≡ true
+bare_side : (mates : List (Option ℕ)) (f e : ℕ) → face_of e ≡ f → beside_side mates e ≡ None
+    → is_bare mates f ≡ true
 bare_side mates f e at none =
     let one : Bool = is_none (beside_side mates (3 * f)) in
     let two : Bool = is_none (beside_side mates (3 * f + 1)) in
     let three : Bool = is_none (beside_side mates (3 * f + 2)) in
     elim (cases_eq e (3 * f)) [
-      | inl is ↦ or_left (one || two) three (or_left one two (ap (λ i. is_none (beside_side mates i)) (sym is) ∙ ap is_none none))
+      | inl is ↦ or_left (one || two) three
+          (or_left one two (ap (λ i. is_none (beside_side mates i)) (sym is) ∙ ap is_none none))
       | inr n0 ↦
           elim (cases_eq e (3 * f + 1)) [
-            | inl is ↦ or_left (one || two) three (or_right one two (ap (λ i. is_none (beside_side mates i)) (sym is) ∙ ap is_none none))
+            | inl is ↦ or_left (one || two) three
+                (or_right one two (ap (λ i. is_none (beside_side mates i)) (sym is)
+                ∙ ap is_none none))
             | inr n1 ↦
                 let is : e ≡ 3 * f + 2 = omega (arith, at, n0, n1) in
-                or_right (one || two) three (ap (λ i. is_none (beside_side mates i)) (sym is) ∙ ap is_none none)
+                or_right (one || two) three (ap (λ i. is_none (beside_side mates i)) (sym is)
+                ∙ ap is_none none)
           ]
     ]
 
-side_bare : (mates : List (Option ℕ)) (f : ℕ) → is_bare mates f ≡ true → (e : ℕ) × (face_of e ≡ f) × (is_none (beside_side mates e) ≡ true)
+side_bare : (mates : List (Option ℕ)) (f : ℕ) → is_bare mates f ≡ true → (e : ℕ) × (face_of e ≡ f)
+    × (is_none (beside_side mates e) ≡ true)
 side_bare mates f t =
     let one : Bool = is_none (beside_side mates (3 * f)) in
     let two : Bool = is_none (beside_side mates (3 * f + 1)) in
@@ -46,21 +61,28 @@ side_bare mates f t =
           ]
     ]
 
-no_mate : (m : Net) (e : ℕ) (o : Option ℕ) → is_none o ≡ true → MatchOption o ((k : ℕ) → AreMates m e k → ⊥) (λ k. AreMates m e k) → (k : ℕ) → AreMates m e k → ⊥
+no_mate : (m : Net) (e : ℕ) (o : Option ℕ) → is_none o ≡ true
+    → MatchOption o ((k : ℕ) → AreMates m e k → ⊥) (λ k. AreMates m e k) → (k : ℕ) → AreMates m e k
+    → ⊥
 no_mate m e None t none = none
 no_mate m e (Some k) t mate = absurd (true≢false (sym t))
 
-none_beside : (m : Net) (e : ℕ) (o : Option ℕ) → MatchOption o ((k : ℕ) → AreMates m e k → ⊥) (λ k. AreMates m e k) → ((k : ℕ) → AreMates m e k → ⊥) → o ≡ None
+none_beside : (m : Net) (e : ℕ) (o : Option ℕ)
+    → MatchOption o ((k : ℕ) → AreMates m e k → ⊥) (λ k. AreMates m e k)
+    → ((k : ℕ) → AreMates m e k → ⊥) → o ≡ None
 none_beside m e None h none = refl
 none_beside m e (Some k) mate none = absurd (none k mate)
 
 -- A turned face's volume is the opposite.
-pub volume_turned : (m : Net) (places : List Place) (b : Bool) (f : ℕ) → volume_at m places (not b) f ≡ neg_ℤ (volume_at m places b f)
+pub volume_turned : (m : Net) (places : List Place) (b : Bool) (f : ℕ)
+    → volume_at m places (not b) f ≡ neg_ℤ (volume_at m places b f)
 volume_turned m places false f = determinant_turned _ _ _
 volume_turned m places true f = determinant_turned _ _ _
 
-module _ (m : Net) (places : List Place) (mates : List (Option ℕ)) (roots : List Root) (odd : ℕ → Bool) (sums : List Sums)
-    (t : AreTraced m (root_at roots) (parity_at roots) odd) (am : AreMated m mates) (s : AreSums m places mates roots m.faces sums) where
+module _ (m : Net) (places : List Place) (mates : List (Option ℕ)) (roots : List Root) (odd : ℕ
+    → Bool) (sums : List Sums)
+    (t : AreTraced m (root_at roots) (parity_at roots) odd) (am : AreMated m mates)
+    (s : AreSums m places mates roots m.faces sums) where
   abbrev pub root : ℕ → ℕ
   root = root_at roots
 
@@ -76,14 +98,17 @@ module _ (m : Net) (places : List Place) (mates : List (Option ℕ)) (roots : Li
   pub patches : AreLeast m root
   patches = record {
     way = λ f l. (parity f, t.way f l);
-    low = λ f g p l w. subst (λ i. i ≤ g) (sym (roots_same m root parity odd t f g p w)) (t.below g);
+    low = λ f g p l w. subst (λ i. i ≤ g) (sym (roots_same m root parity odd t f g p w))
+        (t.below g);
   }
 
   -- Where neighbours agree all ways are even.
   pub even_way : (r f g : ℕ) (p : Bool) → Agrees m root r → root f ≡ r → Way m f g p → p ≡ false
   even_way r f g p all at stay = refl
   even_way r f g q all at (over {e} {k} {p} w a) =
-      ap (λ (c : Bool). flipped_if c p) (all e k a (sym (roots_same m root parity odd t f (face_of e) p w) ∙ at)) ∙ even_way r f (face_of e) p all at w
+      ap (λ (c : Bool). flipped_if c p)
+      (all e k a (sym (roots_same m root parity odd t f (face_of e) p w) ∙ at))
+      ∙ even_way r f (face_of e) p all at w
 
   pub all_even : (r : ℕ) → Agrees m root r → (f : ℕ) → f < m.faces → root f ≡ r → parity f ≡ false
   all_even r all f l at = even_way r f (root f) (parity f) all at (t.way f l)
@@ -101,13 +126,16 @@ module _ (m : Net) (places : List Place) (mates : List (Option ℕ)) (roots : Li
     pub some_bare : IsOpen m root r → (sum_of r).bare ≢ 0
     some_bare o zero =
         let fl : face_of o.side < m.faces = omega (arith, o.in_range) in
-        let none : beside_side mates o.side ≡ None = none_beside m o.side (beside_side mates o.side) (am.each o.side o.in_range) o.none in
-        let some = patch_some root r m.faces (is_bare mates) (face_of o.side) fl o.here (bare_side mates (face_of o.side) o.side refl none) in
+        let none : beside_side mates o.side ≡ None =
+        none_beside m o.side (beside_side mates o.side) (am.each o.side o.in_range) o.none in
+        let some = patch_some root r m.faces (is_bare mates) (face_of o.side) fl o.here
+        (bare_side mates (face_of o.side) o.side refl none) in
         let bare = (s.each r low).bare in
         absurd (omega (arith, some, bare, zero))
 
     pub none_odd : Agrees m root r → (sum_of r).odd ≡ 0
-    none_odd all = (s.each r low).odd ∙ patch_none root r m.faces parity (λ f l at. all_even r all f l at)
+    none_odd all =
+        (s.each r low).odd ∙ patch_none root r m.faces parity (λ f l at. all_even r all f l at)
 
     pub none_bare : IsClosed m root r → (sum_of r).bare ≡ 0
     none_bare closed =
@@ -117,7 +145,12 @@ module _ (m : Net) (places : List Place) (mates : List (Option ℕ)) (roots : Li
           | inl b ↦
               let (e, ef, none) = side_bare mates f b in
               let el : e < side_count m = omega (arith, ef, l) in
-              absurd (closed (record { side = e; in_range = el; here = ap root ef ∙ at; none = no_mate m e (beside_side mates e) none (am.each e el) }))
+              absurd (closed (record {
+                side = e;
+                in_range = el;
+                here = ap root ef ∙ at;
+                none = no_mate m e (beside_side mates e) none (am.each e el);
+              }))
         ])
 
     some_odd : odd r ≡ false → HasClash m root r → (sum_of r).odd ≢ 0
@@ -125,16 +158,27 @@ module _ (m : Net) (places : List Place) (mates : List (Option ℕ)) (roots : Li
         let sum = (s.each r low).odd in
         let un' : odd (root (face_of h.side)) ≡ false = ap odd h.here ∙ un in
         let other : root (face_of h.mate) ≡ r = sym (t.same h.side h.mate h.mates) ∙ h.here in
-        let step : parity (face_of h.mate) ≡ not (parity (face_of h.side)) = t.straight h.side h.mate h.mates un' ∙ ap (λ (c : Bool). flipped_if c (parity (face_of h.side))) h.clashes in
+        let step : parity (face_of h.mate) ≡ not (parity (face_of h.side)) =
+        t.straight h.side h.mate h.mates un'
+        ∙ ap (λ (c : Bool). flipped_if c (parity (face_of h.side))) h.clashes in
         elim (cases_Bool (parity (face_of h.side))) [
-          | inl p ↦ let some = patch_some root r m.faces parity (face_of h.side) (one_in m h.side h.mate h.mates) h.here p in absurd (omega (arith, some, sum, zero))
-          | inr p ↦ let some = patch_some root r m.faces parity (face_of h.mate) (other_in m h.side h.mate h.mates) other (step ∙ ap not p) in absurd (omega (arith, some, sum, zero))
+          | inl p ↦ let some =
+              patch_some root r m.faces parity (face_of h.side) (one_in m h.side h.mate h.mates)
+              h.here p in absurd (omega (arith, some, sum, zero))
+          | inr p ↦ let some =
+              patch_some root r m.faces parity (face_of h.mate) (other_in m h.side h.mate h.mates)
+              other (step ∙ ap not p) in absurd (omega (arith, some, sum, zero))
         ]
 
   module _ (flags : List Bool) (long : length flags ≡ m.faces)
-      (is : (f : ℕ) → f < m.faces → flag_of flags f ≡ chosen_flag (odd (root_at roots f)) (is_reversed (slice_index_or sums (root_at roots f) no_sums)) (parity_at roots f)) where
-    flag_straight : (f r : ℕ) → f < m.faces → root f ≡ r → odd r ≡ false → flag_of flags f ≡ flipped_if (back r) (parity f)
-    flag_straight f r l at un = is f l ∙ ap (λ i. chosen_flag (odd i) (back i) (parity f)) at ∙ cond-false _ _ _ un
+      (is : (f : ℕ) → f < m.faces
+      → flag_of flags f
+      ≡ chosen_flag (odd (root_at roots f))
+      (is_reversed (slice_index_or sums (root_at roots f) no_sums)) (parity_at roots f)) where
+    flag_straight : (f r : ℕ) → f < m.faces → root f ≡ r → odd r ≡ false
+        → flag_of flags f ≡ flipped_if (back r) (parity f)
+    flag_straight f r l at un =
+        is f l ∙ ap (λ i. chosen_flag (odd i) (back i) (parity f)) at ∙ cond-false _ _ _ un
 
     flag_odd : (f : ℕ) → f < m.faces → odd (root f) ≡ true → flag_of flags f ≡ false
     flag_odd f l set = is f l ∙ cond-true _ _ _ set
@@ -150,7 +194,8 @@ module _ (m : Net) (places : List Place) (mates : List (Option ℕ)) (roots : Li
             flag_straight (face_of k) (root (face_of e)) (other_in m e k a) (sym (t.same e k a)) un
                 ∙ ap (flipped_if (back (root (face_of e)))) (t.straight e k a un)
                 ∙ flip_past (back (root (face_of e))) (clash m e k) (parity (face_of e))
-                ∙ ap (flipped_if (clash m e k)) (sym (flag_straight (face_of e) (root (face_of e)) (one_in m e k a) refl un)),
+                ∙ ap (flipped_if (clash m e k))
+                (sym (flag_straight (face_of e) (root (face_of e)) (one_in m e k a) refl un)),
           );
     }
 
@@ -160,45 +205,65 @@ module _ (m : Net) (places : List Place) (mates : List (Option ℕ)) (roots : Li
           | inl set ↦ flag_odd f l set
           | inr un ↦
               let r : ℕ = root f in
-              let none : (sum_of r).odd ≡ 0 = none_odd r (root_in m root parity odd t f l) (root_root m root parity odd t f l) all in
-              flag_straight f r l refl un ∙ ap (λ (b : Bool). flipped_if b (parity f)) (stays_without_odd (sum_of r) none) ∙ all_even r all f l refl
+              let none : (sum_of r).odd ≡ 0 =
+              none_odd r (root_in m root parity odd t f l) (root_root m root parity odd t f l)
+              all in
+              flag_straight f r l refl un
+              ∙ ap (λ (b : Bool). flipped_if b (parity f)) (stays_without_odd (sum_of r) none)
+              ∙ all_even r all f l refl
         ]
 
     module _ (r : ℕ) (low : r < m.faces) (own : root r ≡ r) where
       -- How many are turned in a patch that isn't twisted.
-      counts_on : odd r ≡ false → back r ≡ true → (turned_in m root (flag_of flags) r ≡ (sum_of r).even) × (staying_in m root (flag_of flags) r ≡ (sum_of r).odd)
+      counts_on : odd r ≡ false → back r ≡ true
+          → (turned_in m root (flag_of flags) r ≡ (sum_of r).even)
+          × (staying_in m root (flag_of flags) r ≡ (sum_of r).odd)
       counts_on un b =
-          let flag : (f : ℕ) → f < m.faces → root f ≡ r → flag_of flags f ≡ not (parity f) = λ f l at. flag_straight f r l at un ∙ ap (λ (x : Bool). flipped_if x (parity f)) b in (
-            patch_same root r m.faces (flag_of flags) (λ f. not (parity f)) flag ∙ sym (s.each r low).even,
-            patch_same root r m.faces (λ f. not (flag_of flags f)) parity (λ f l at. ap not (flag f l at) ∙ not_not (parity f)) ∙ sym (s.each r low).odd,
+          let flag : (f : ℕ) → f < m.faces → root f ≡ r → flag_of flags f ≡ not (parity f) =
+          λ f l at. flag_straight f r l at un ∙ ap (λ (x : Bool). flipped_if x (parity f)) b in (
+            patch_same root r m.faces (flag_of flags) (λ f. not (parity f)) flag
+                ∙ sym (s.each r low).even,
+            patch_same root r m.faces (λ f. not (flag_of flags f)) parity
+                (λ f l at. ap not (flag f l at) ∙ not_not (parity f)) ∙ sym (s.each r low).odd,
           )
 
-      counts_off : odd r ≡ false → back r ≡ false → (turned_in m root (flag_of flags) r ≡ (sum_of r).odd) × (staying_in m root (flag_of flags) r ≡ (sum_of r).even)
+      counts_off : odd r ≡ false → back r ≡ false
+          → (turned_in m root (flag_of flags) r ≡ (sum_of r).odd)
+          × (staying_in m root (flag_of flags) r ≡ (sum_of r).even)
       counts_off un b =
-          let flag : (f : ℕ) → f < m.faces → root f ≡ r → flag_of flags f ≡ parity f = λ f l at. flag_straight f r l at un ∙ ap (λ (x : Bool). flipped_if x (parity f)) b in (
+          let flag : (f : ℕ) → f < m.faces → root f ≡ r → flag_of flags f ≡ parity f =
+          λ f l at. flag_straight f r l at un ∙ ap (λ (x : Bool). flipped_if x (parity f)) b in (
             patch_same root r m.faces (flag_of flags) parity flag ∙ sym (s.each r low).odd,
-            patch_same root r m.faces (λ f. not (flag_of flags f)) (λ f. not (parity f)) (λ f l at. ap not (flag f l at)) ∙ sym (s.each r low).even,
+            patch_same root r m.faces (λ f. not (flag_of flags f)) (λ f. not (parity f))
+                (λ f l at. ap not (flag f l at)) ∙ sym (s.each r low).even,
           )
 
-      few_straight : odd r ≡ false → back r ≡ nat_lt (sum_of r).even (sum_of r).odd → IsFewest m root (flag_of flags) r
+      few_straight : odd r ≡ false → back r ≡ nat_lt (sum_of r).even (sum_of r).odd
+          → IsFewest m root (flag_of flags) r
       few_straight un told =
           elim (cases_Bool (back r)) [
             | inl b ↦
                 let (c, d) = counts_on un b in
                 let less : (sum_of r).even < (sum_of r).odd = ltb-true _ _ (sym told ∙ b) in
-                record { few = omega (arith, c, d, less); first = λ e. absurd (omega (arith, c, d, less, e)) }
+                record {
+                  few = omega (arith, c, d, less);
+                  first =
+                      λ e. absurd (omega (arith, c, d, less, e));
+                }
             | inr b ↦
                 let (c, d) = counts_off un b in
                 let most : (sum_of r).odd ≤ (sum_of r).even = ltb-false _ _ (sym told ∙ b) in
                 record {
                   few = omega (arith, c, d, most);
-                  first = λ e. flag_straight r r low own un ∙ ap (λ (x : Bool). flipped_if x (parity r)) b ∙ own_even r low own;
+                  first = λ e. flag_straight r r low own un
+                      ∙ ap (λ (x : Bool). flipped_if x (parity r)) b ∙ own_even r low own;
                 }
           ]
 
       few_twisted : odd r ≡ true → IsFewest m root (flag_of flags) r
       few_twisted set =
-          let none = patch_none root r m.faces (flag_of flags) (λ f l at. flag_odd f l (ap odd at ∙ set)) in
+          let none = patch_none root r m.faces (flag_of flags)
+          (λ f l at. flag_odd f l (ap odd at ∙ set)) in
           record { few = omega (arith, none); first = λ e. flag_odd r low (ap odd own ∙ set) }
 
       fewest_here : IsOpen m root r → IsFewest m root (flag_of flags) r
@@ -209,32 +274,41 @@ module _ (m : Net) (places : List Place) (mates : List (Option ℕ)) (roots : Li
                 few_straight un (by_count (sum_of r) (some_bare r low own o))
           ]
 
-      volume_off : odd r ≡ false → back r ≡ false → volume_in m places root (flag_of flags) r ≡ (sum_of r).volume
+      volume_off : odd r ≡ false → back r ≡ false → volume_in m places root (flag_of flags) r
+          ≡ (sum_of r).volume
       volume_off un b =
-          patch_total root r m.faces (λ f. volume_at m places (flag_of flags f) f) (λ f. volume_at m places (parity f) f) (λ f l at.
-          ap (λ (x : Bool). volume_at m places x f) (flag_straight f r l at un ∙ ap (λ (x : Bool). flipped_if x (parity f)) b))
+          patch_total root r m.faces (λ f. volume_at m places (flag_of flags f) f)
+          (λ f. volume_at m places (parity f) f) (λ f l at.
+          ap (λ (x : Bool). volume_at m places x f) (flag_straight f r l at un
+          ∙ ap (λ (x : Bool). flipped_if x (parity f)) b))
           ∙ sym (s.each r low).volume
 
-      volume_on : odd r ≡ false → back r ≡ true → volume_in m places root (flag_of flags) r ≡ neg_ℤ (sum_of r).volume
+      volume_on : odd r ≡ false → back r ≡ true → volume_in m places root (flag_of flags) r
+          ≡ neg_ℤ (sum_of r).volume
       volume_on un b =
-          patch_opposite root r m.faces (λ f. volume_at m places (parity f) f) (λ f. volume_at m places (flag_of flags f) f) (λ f l at.
-          ap (λ (x : Bool). volume_at m places x f) (flag_straight f r l at un ∙ ap (λ (x : Bool). flipped_if x (parity f)) b)
+          patch_opposite root r m.faces (λ f. volume_at m places (parity f) f)
+          (λ f. volume_at m places (flag_of flags f) f) (λ f l at.
+          ap (λ (x : Bool). volume_at m places x f) (flag_straight f r l at un
+          ∙ ap (λ (x : Bool). flipped_if x (parity f)) b)
           ∙ volume_turned m places (parity f) f)
           ∙ ap neg_ℤ (sym (s.each r low).volume)
 
-      no_volume : odd r ≡ false → (sum_of r).volume ≡ pos 0 → volume_in m places root (flag_of flags) r ≡ pos 0
+      no_volume : odd r ≡ false → (sum_of r).volume ≡ pos 0
+          → volume_in m places root (flag_of flags) r ≡ pos 0
       no_volume un zero =
           elim (cases_Bool (back r)) [
             | inl b ↦ volume_on un b ∙ ap neg_ℤ zero
             | inr b ↦ volume_off un b ∙ zero
           ]
 
-      outward_here : IsClosed m root r → HasClash m root r → odd r ≡ false → IsOutward m places root (flag_of flags) r
+      outward_here : IsClosed m root r → HasClash m root r → odd r ≡ false
+          → IsOutward m places root (flag_of flags) r
       outward_here closed h un =
           let v : ℤ = volume_in m places root (flag_of flags) r in
           elim (by_volumes (sum_of r) (none_bare r low own closed) (some_odd r low own un h)) [
             | inl (zero, told) ↦ record {
-              volume = subst (λ (z : ℤ). pos 0 ≤ℤ z) (sym (no_volume un zero)) (at_least_own (pos 0));
+              volume = subst (λ (z : ℤ). pos 0 ≤ℤ z) (sym (no_volume un zero))
+                  (at_least_own (pos 0));
               flat = λ _. few_straight un told;
             }
             | inr two ↦
@@ -257,9 +331,13 @@ module _ (m : Net) (places : List Place) (mates : List (Option ℕ)) (roots : Li
       least = root;
       patches = patches;
       same = same;
-      fewest = λ r o. let l : face_of o.side < m.faces = omega (arith, o.in_range) in fewest_here r (root_low (face_of o.side) r l o.here) (root_own (face_of o.side) r l o.here) o;
+      fewest = λ r o. let l : face_of o.side < m.faces =
+          omega (arith, o.in_range) in
+          fewest_here r (root_low (face_of o.side) r l o.here)
+          (root_own (face_of o.side) r l o.here) o;
       outward = λ r closed h un.
           let l = one_in m h.side h.mate h.mates in
           let own = root_own (face_of h.side) r l h.here in
-          outward_here r (root_low (face_of h.side) r l h.here) own closed h (ap odd (sym own) ∙ un);
+          outward_here r (root_low (face_of h.side) r l h.here) own closed h (ap odd (sym own)
+          ∙ un);
     }

@@ -1,6 +1,8 @@
 -- Of each mesh it can be told which way round each patch is turned: mates are joined, faces are
 -- counted patch by patch, and the counts decide.
-use Rattle.std.proofs.Common.{◌≡◌, ℕ, ◌<◌, ◌≤◌, inl, inr, refl, sym, ap, ◌∙◌, subst, Bool, false, not, ◌&&◌, List, Option, Some, None, length, map, slice_index_or, arith}
+use Rattle.std.proofs.Common.{◌≡◌, ℕ, ◌<◌, ◌≤◌, inl, inr, refl, sym, ap, ◌∙◌, subst, Bool, false}
+use Rattle.std.proofs.Common.{not, ◌&&◌, List, Option, Some, None, length, map, slice_index_or}
+use Rattle.std.proofs.Common.{arith}
 use Rattle.std.specs.Prelude.{pos, ◌==◌, ◌⊎◌, if◌then◌else◌}
 use Rattle.std.specs.Option.{MatchOption}
 use Rattle.std.specs.List.{range_with_len}
@@ -15,7 +17,8 @@ use Rattle.pm_turn.specs.declared.choice.Sums.{Sums}
 use Rattle.pm_turn.specs.Turning.{AreMates, AreTraced}
 use Rattle.pm_turn.specs.Unions.{Elders, Up, AreElders, AreMated}
 use Rattle.pm_turn.specs.Choice.{total, volume_at, AreChosenTurns}
-use Rattle.pm_turn.specs.Sums.{no_root, root_at, parity_at, is_bare, no_sums, IsSums, AreSums, is_reversed, chosen_flag}
+use Rattle.pm_turn.specs.Sums.{no_root, root_at, parity_at, is_bare, no_sums, IsSums, AreSums}
+use Rattle.pm_turn.specs.Sums.{is_reversed, chosen_flag}
 use Rattle.pm_turn.specs.ChoiceLaws.{ChosenTurnsAreThere}
 use Rattle.pm_turn.proofs.Joining.{up_below, elders_traced}
 use Rattle.pm_turn.proofs.TurnsThere.{mate?, up_of, all_grown}

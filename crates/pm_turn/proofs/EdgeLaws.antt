@@ -1,10 +1,12 @@
 -- The sides of an edge are told by its two vertices, and where it has two they are mates.
-use Rattle.std.proofs.Common.{◌≡◌, ◌≢◌, ℕ, ◌+◌, ◌*◌, ◌/◌, ◌<◌, ◌≤◌, inl, inr, refl, sym, ap, ◌∙◌, subst, Option, Some, None, List, [], length, slice_index_or, arith}
+use Rattle.std.proofs.Common.{◌≡◌, ◌≢◌, ℕ, ◌+◌, ◌*◌, ◌/◌, ◌<◌, ◌≤◌, inl, inr, refl, sym, ap, ◌∙◌}
+use Rattle.std.proofs.Common.{subst, Option, Some, None, List, [], length, slice_index_or, arith}
 use Rattle.std.specs.Option.{IfSome, MatchOption, option_map}
 use Rattle.std.specs.Ordering.{nat_cmp}
 use Rattle.std.specs.BTreeMap.{BTreeMap, get, is_at, Updates}
 use Rattle.std.specs.Map.{lookup}
-use Rattle.std.proofs.lemmas.Bool.{cases_eq, cases_lt, cond-true, cond-false, eq-eqb, ne_eqb, lt-ltb, le-ltb}
+use Rattle.std.proofs.lemmas.Bool.{cases_eq, cases_lt, cond-true, cond-false, eq-eqb, ne_eqb}
+use Rattle.std.proofs.lemmas.Bool.{lt-ltb, le-ltb}
 use Rattle.std.proofs.lemmas.Nat.{div-mul-add}
 use Rattle.std.proofs.Math.ListN.{set, replicate}
 use Rattle.std.proofs.lemmas.List.{get_or-set_same, get_or-set_other, length-set, length-replicate}
@@ -16,7 +18,8 @@ use Rattle.pm_fans.proofs.KeyLaws.{equal_is}
 use Rattle.pm_turn.specs.declared.edges.Edge.{Edge}
 use Rattle.pm_turn.specs.Turning.{JoinsSame, AreMates}
 use Rattle.pm_turn.specs.Unions.{AreMated}
-use Rattle.pm_turn.specs.Edges.{edge_key, edge_key_at, AreTwo, AreMore, IsEdge, AreEdges, edge_with, mate_in}
+use Rattle.pm_turn.specs.Edges.{edge_key, edge_key_at, AreTwo, AreMore, IsEdge, AreEdges, edge_with}
+use Rattle.pm_turn.specs.Edges.{mate_in}
 use Rattle.pm_turn.proofs.TurnedSides.{SameEnds}
 
 -- Two ends in ascending order are known from their key.
@@ -96,7 +99,8 @@ more_on m n k s =
     }
 
 -- One more side with another key.
-noted_other : (m : Net) (n k : ℕ) (r : Option Edge) → edge_key_at m n ≢ k → IsEdge m n k r → IsEdge m (n + 1) k r
+noted_other : (m : Net) (n k : ℕ) (r : Option Edge) → edge_key_at m n ≢ k → IsEdge m n k r
+    → IsEdge m (n + 1) k r
 noted_other m n k None ne h = λ e l.
     elim (cases_eq e n) [
       | inl same ↦ (λ is. ne (ap (edge_key_at m) (sym same) ∙ is))
@@ -131,7 +135,8 @@ noted_other m n k (Some (Edge.Two v w)) ne h =
 noted_other m n k (Some Edge.More) ne h = more_on m n k h
 
 -- One more side with this key.
-noted_same : (m : Net) (n k : ℕ) (r : Option Edge) (e : Side) → e.0 ≡ n → edge_key_at m n ≡ k → IsEdge m n k r
+noted_same : (m : Net) (n k : ℕ) (r : Option Edge) (e : Side) → e.0 ≡ n → edge_key_at m n ≡ k
+    → IsEdge m n k r
     → IsEdge m (n + 1) k (Some (edge_with r e))
 noted_same m n k None e at is none = record {
   in_range = omega (arith, at);
@@ -175,35 +180,45 @@ noted_same m n k (Some (Edge.Two v w)) e at is h =
     }
 noted_same m n k (Some Edge.More) e at is h = more_on m n k h
 
-pub one_noted : (m : Net) (s t : BTreeMap ℕ Edge) (e : Side) (key : ℕ) (r : Option Edge) (now : Edge) → AreEdges m e.0 s
-    → key ≡ edge_key_at m e.0 → r ≡ get nat_cmp s key → now ≡ edge_with r e → Updates nat_cmp s t key (Some now)
+pub one_noted : (m : Net) (s t : BTreeMap ℕ Edge) (e : Side) (key : ℕ) (r : Option Edge)
+    (now : Edge) → AreEdges m e.0 s
+    → key ≡ edge_key_at m e.0 → r ≡ get nat_cmp s key → now ≡ edge_with r e
+    → Updates nat_cmp s t key (Some now)
     → AreEdges m (e.0 + 1) t
 one_noted m s t e key r now noted is at new u k =
     elim (cases_eq key k) [
       | inl same ↦
-          let here : get nat_cmp t k ≡ Some now = u.0 k ∙ cond-true _ _ _ (equal_is key k ∙ eq-eqb _ _ same) in
-          let before : IsEdge m e.0 k r = subst (IsEdge m e.0 k) (sym (at ∙ ap (get nat_cmp s) same)) (noted k) in
-          let after : IsEdge m (e.0 + 1) k (Some (edge_with r e)) = noted_same m e.0 k r e refl (sym is ∙ same) before in
+          let here : get nat_cmp t k ≡ Some now =
+          u.0 k ∙ cond-true _ _ _ (equal_is key k ∙ eq-eqb _ _ same) in
+          let before : IsEdge m e.0 k r =
+          subst (IsEdge m e.0 k) (sym (at ∙ ap (get nat_cmp s) same)) (noted k) in
+          let after : IsEdge m (e.0 + 1) k (Some (edge_with r e)) =
+          noted_same m e.0 k r e refl (sym is ∙ same) before in
           subst (IsEdge m (e.0 + 1) k) (ap Some (sym new) ∙ sym here) after
       | inr ne ↦
-          let here : get nat_cmp t k ≡ get nat_cmp s k = u.0 k ∙ cond-false _ _ _ (equal_is key k ∙ ne_eqb _ _ ne) in
-          subst (IsEdge m (e.0 + 1) k) (sym here) (noted_other m e.0 k (get nat_cmp s k) (λ i. ne (is ∙ i)) (noted k))
+          let here : get nat_cmp t k ≡ get nat_cmp s k =
+          u.0 k ∙ cond-false _ _ _ (equal_is key k ∙ ne_eqb _ _ ne) in
+          subst (IsEdge m (e.0 + 1) k) (sym here)
+          (noted_other m e.0 k (get nat_cmp s k) (λ i. ne (is ∙ i)) (noted k))
     ]
 
 module _ (m : Net) (ok : IsCuttable m) where
   to_low : (e : ℕ) → e < side_count m → to m e < 4294967296
   to_low e l = ok.low (next e) (next-lt m.faces e l)
 
-  joins : (e g : ℕ) → e < side_count m → g < side_count m → edge_key_at m g ≡ edge_key_at m e → JoinsSame m e g
+  joins : (e g : ℕ) → e < side_count m → g < side_count m → edge_key_at m g ≡ edge_key_at m e
+      → JoinsSame m e g
   joins e g el gl is = record {
     stands = ok.stand g gl;
-    ends = key_ends (m.from g) (to m g) (m.from e) (to m e) (ok.low g gl) (to_low g gl) (ok.low e el) (to_low e el) is;
+    ends = key_ends (m.from g) (to m g) (m.from e) (to m e) (ok.low g gl) (to_low g gl)
+        (ok.low e el) (to_low e el) is;
   }
 
   has_key : (e g : ℕ) → JoinsSame m e g → edge_key_at m g ≡ edge_key_at m e
   has_key e g j = same_key (m.from g) (to m g) (m.from e) (to m e) j.ends
 
-  are_mates : (e k : ℕ) → e < side_count m → AreTwo m (side_count m) (edge_key_at m e) e k → AreMates m e k
+  are_mates : (e k : ℕ) → e < side_count m → AreTwo m (side_count m) (edge_key_at m e) e k
+      → AreMates m e k
   are_mates e k l t = record {
     stands = ok.stand e l;
     differ = t.differ;
@@ -231,16 +246,25 @@ module _ (m : Net) (ok : IsCuttable m) where
         | inl i ↦
             elim two [
               | inl j ↦ t.one_two (i ∙ sym j)
-              | inr j ↦ elim three [ inl h ↦ t.one_three (i ∙ sym h) | inr h ↦ t.two_three (j ∙ sym h) ]
+              | inr j ↦ elim three [
+                | inl h ↦ t.one_three (i ∙ sym h)
+                | inr h ↦
+                    t.two_three (j ∙ sym h)
+              ]
             ]
         | inr i ↦
             elim two [
               | inr j ↦ t.one_two (i ∙ sym j)
-              | inl j ↦ elim three [ inr h ↦ t.one_three (i ∙ sym h) | inl h ↦ t.two_three (j ∙ sym h) ]
+              | inl j ↦ elim three [
+                | inr h ↦ t.one_three (i ∙ sym h)
+                | inl h ↦
+                    t.two_three (j ∙ sym h)
+              ]
             ]
       ]
 
-  mate_is : (e : Side) (r : Option Edge) → e.0 < side_count m → IsEdge m (side_count m) (edge_key_at m e.0) r
+  mate_is : (e : Side) (r : Option Edge) → e.0 < side_count m
+      → IsEdge m (side_count m) (edge_key_at m e.0) r
       → MatchOption (mate_in r e) ((k : ℕ) → AreMates m e.0 k → ⊥) (λ k. AreMates m e.0 k.0)
   mate_is e None l none = absurd (none e.0 l refl)
   mate_is e (Some (Edge.One v)) l only = λ k a.
@@ -251,41 +275,55 @@ module _ (m : Net) (ok : IsCuttable m) where
       elim (cases_eq v.0 e.0) [
         | inl is ↦
             subst (λ (x : Side). AreMates m e.0 x.0) (sym (cond-true _ _ _ (eq-eqb _ _ is)))
-            (are_mates e.0 w.0 l (subst (λ i. AreTwo m (side_count m) (edge_key_at m e.0) i w.0) is two))
+            (are_mates e.0 w.0 l
+            (subst (λ i. AreTwo m (side_count m) (edge_key_at m e.0) i w.0) is two))
         | inr ne ↦
-            let at : w.0 ≡ e.0 = elim (two.alone e.0 l refl) [ inl is ↦ absurd (ne (sym is)) | inr is ↦ sym is ] in
+            let at : w.0 ≡ e.0 =
+            elim (two.alone e.0 l refl) [ inl is ↦ absurd (ne (sym is)) | inr is ↦ sym is ] in
             let turned = swapped (side_count m) (edge_key_at m e.0) v.0 w.0 two in
             subst (λ (x : Side). AreMates m e.0 x.0) (sym (cond-false _ _ _ (ne_eqb _ _ ne)))
-            (are_mates e.0 v.0 l (subst (λ i. AreTwo m (side_count m) (edge_key_at m e.0) i v.0) at turned))
+            (are_mates e.0 v.0 l
+            (subst (λ i. AreTwo m (side_count m) (edge_key_at m e.0) i v.0) at turned))
       ]
   mate_is e (Some Edge.More) l more = λ k a. three_apart e.0 k a more
 
-  pub mate_found : (e : Side) (map : BTreeMap ℕ Edge) (key : ℕ) (r : Option Edge) (found : Option Side)
-      → e.0 < side_count m → AreEdges m (side_count m) map → key ≡ edge_key_at m e.0 → r ≡ get nat_cmp map key
-      → found ≡ mate_in r e → MatchOption found ((k : ℕ) → AreMates m e.0 k → ⊥) (λ k. AreMates m e.0 k.0)
+  pub mate_found : (e : Side) (map : BTreeMap ℕ Edge) (key : ℕ) (r : Option Edge)
+      (found : Option Side)
+      → e.0 < side_count m → AreEdges m (side_count m) map → key ≡ edge_key_at m e.0
+      → r ≡ get nat_cmp map key
+      → found ≡ mate_in r e
+      → MatchOption found ((k : ℕ) → AreMates m e.0 k → ⊥) (λ k. AreMates m e.0 k.0)
   mate_found e map key r found l noted is at answer =
-      let edge : IsEdge m (side_count m) (edge_key_at m e.0) r = subst (IsEdge m (side_count m) (edge_key_at m e.0)) (sym (at ∙ ap (get nat_cmp map) is)) (noted (edge_key_at m e.0)) in
-      subst (λ (o : Option Side). MatchOption o ((k : ℕ) → AreMates m e.0 k → ⊥) (λ k. AreMates m e.0 k.0)) (sym answer) (mate_is e r l edge)
+      let edge : IsEdge m (side_count m) (edge_key_at m e.0) r =
+      subst (IsEdge m (side_count m) (edge_key_at m e.0)) (sym (at ∙ ap (get nat_cmp map) is))
+      (noted (edge_key_at m e.0)) in
+      subst (λ (o : Option Side). MatchOption o ((k : ℕ) → AreMates m e.0 k
+      → ⊥) (λ k. AreMates m e.0 k.0)) (sym answer) (mate_is e r l edge)
 
 -- The table of all sides has the mate of each of the first n.
 pub record AreMatedTo (m : Net) (n : ℕ) (mates : List (Option ℕ)) : Type 0 where
   pub sides : length mates ≡ side_count m
-  pub each : (e : ℕ) → e < n → MatchOption (beside_side mates e) ((k : ℕ) → AreMates m e k → ⊥) (λ k. AreMates m e k)
+  pub each : (e : ℕ) → e < n
+      → MatchOption (beside_side mates e) ((k : ℕ) → AreMates m e k → ⊥) (λ k. AreMates m e k)
 
-pub none_mated : (m : Net) (mates : List (Option ℕ)) → mates ≡ replicate (side_count m) None → AreMatedTo m 0 mates
+pub none_mated : (m : Net) (mates : List (Option ℕ)) → mates ≡ replicate (side_count m) None
+    → AreMatedTo m 0 mates
 none_mated m mates is = record {
   sides = ap length is ∙ length-replicate (side_count m) None;
   each = λ e l. absurd (omega (arith, l));
 }
 
-told : (m : Net) (e : ℕ) (r : Option Side) → MatchOption r ((k : ℕ) → AreMates m e k → ⊥) (λ k. AreMates m e k.0)
+told : (m : Net) (e : ℕ) (r : Option Side)
+    → MatchOption r ((k : ℕ) → AreMates m e k → ⊥) (λ k. AreMates m e k.0)
     → MatchOption (option_map (λ s. s.0) r) ((k : ℕ) → AreMates m e k → ⊥) (λ k. AreMates m e k)
 told m e None none = none
 told m e (Some s) mate = mate
 
 -- One more is put in.
-pub mated_more : (m : Net) (n : ℕ) (xs ys : List (Option ℕ)) (r : Option Side) → n < side_count m → AreMatedTo m n xs
-    → ys ≡ set xs n (option_map (λ s. s.0) r) → MatchOption r ((k : ℕ) → AreMates m n k → ⊥) (λ k. AreMates m n k.0)
+pub mated_more : (m : Net) (n : ℕ) (xs ys : List (Option ℕ)) (r : Option Side) → n < side_count m
+    → AreMatedTo m n xs
+    → ys ≡ set xs n (option_map (λ s. s.0) r)
+    → MatchOption r ((k : ℕ) → AreMates m n k → ⊥) (λ k. AreMates m n k.0)
     → AreMatedTo m (n + 1) ys
 mated_more m n xs ys r low h is now =
     let new : Option ℕ = option_map (λ s. s.0) r in
@@ -294,20 +332,33 @@ mated_more m n xs ys r low h is now =
       each = λ e l.
           elim (cases_eq e n) [
             | inl same ↦
-                let at : slice_index_or ys e None ≡ new = ap (λ zs. slice_index_or zs e None) is ∙ ap (λ i. slice_index_or (set xs n new) i None) same ∙ get_or-set_same xs n new None (omega (arith, low, h.sides)) in
-                subst (λ o. MatchOption o ((k : ℕ) → AreMates m e k → ⊥) (λ k. AreMates m e k)) (sym at)
-                (subst (λ i. MatchOption new ((k : ℕ) → AreMates m i k → ⊥) (λ k. AreMates m i k)) (sym same) (told m n r now))
+                let at : slice_index_or ys e None ≡ new =
+                ap (λ zs. slice_index_or zs e None) is
+                ∙ ap (λ i. slice_index_or (set xs n new) i None) same
+                ∙ get_or-set_same xs n new None (omega (arith, low, h.sides)) in
+                subst (λ o. MatchOption o ((k : ℕ) → AreMates m e k → ⊥) (λ k. AreMates m e k))
+                (sym at)
+                (subst (λ i. MatchOption new ((k : ℕ) → AreMates m i k → ⊥) (λ k. AreMates m i k))
+                (sym same) (told m n r now))
             | inr other ↦
-                let at : slice_index_or ys e None ≡ slice_index_or xs e None = ap (λ zs. slice_index_or zs e None) is ∙ get_or-set_other xs n e new None other in
-                subst (λ o. MatchOption o ((k : ℕ) → AreMates m e k → ⊥) (λ k. AreMates m e k)) (sym at) (h.each e (omega (arith, l, other)))
+                let at : slice_index_or ys e None ≡ slice_index_or xs e None =
+                ap (λ zs. slice_index_or zs e None) is
+                ∙ get_or-set_other xs n e new None other in
+                subst (λ o. MatchOption o ((k : ℕ) → AreMates m e k → ⊥) (λ k. AreMates m e k))
+                (sym at) (h.each e (omega (arith, l, other)))
           ];
     }
 
-pub all_mated : (m : Net) (n : ℕ) (mates : List (Option ℕ)) → n ≡ side_count m → AreMatedTo m n mates → AreMated m mates
-all_mated m n mates all h = record { sides = h.sides; each = λ e l. h.each e (omega (arith, all, l)) }
+pub all_mated : (m : Net) (n : ℕ) (mates : List (Option ℕ)) → n ≡ side_count m
+    → AreMatedTo m n mates → AreMated m mates
+all_mated m n mates all h = record {
+  sides = h.sides;
+  each = λ e l. h.each e (omega (arith, all, l));
+}
 
 -- A mate has a number that sides have.
 pub mate_low : (m : Net) (e most : ℕ) (r : Option Side) → side_count m ≤ most
-    → MatchOption r ((k : ℕ) → AreMates m e k → ⊥) (λ k. AreMates m e k.0) → IfSome r (λ s. s.0 < most)
+    → MatchOption r ((k : ℕ) → AreMates m e k → ⊥) (λ k. AreMates m e k.0)
+    → IfSome r (λ s. s.0 < most)
 mate_low m e most None few none = tt
 mate_low m e most (Some s) few mate = let low = mate.same.stands.is_side in omega (arith, low, few)

@@ -1,5 +1,6 @@
 -- One list of flags is chosen, and no other turns fewer faces of an open patch.
-use Rattle.std.proofs.Common.{◌≡◌, ℕ, ◌<◌, ◌≤◌, ◌⊎◌, inl, inr, refl, sym, ap, ◌∙◌, subst, Bool, true, false, not, ◌&&◌, List, arith}
+use Rattle.std.proofs.Common.{◌≡◌, ℕ, ◌<◌, ◌≤◌, ◌⊎◌, inl, inr, refl, sym, ap, ◌∙◌, subst, Bool}
+use Rattle.std.proofs.Common.{true, false, not, ◌&&◌, List, arith}
 use Rattle.std.specs.Prelude.{ℤ, pos, neg_ℤ, ◌≤ℤ◌, ◌==◌, if◌then◌else◌}
 use Rattle.std.proofs.lemmas.Bool.{cases_Bool, true≢false}
 use borrow.Author.Differences.{ints}
@@ -8,7 +9,9 @@ use Rattle.pm_base.specs.Counts.{count}
 use Rattle.pm_base.specs.Sides.{Net, face_of}
 use Rattle.pm_base.proofs.Counts.{count_same}
 use Rattle.pm_turn.specs.Turning.{flag_of, clash, flipped_if, Way, stay, AgreeOnceTurned}
-use Rattle.pm_turn.specs.Choice.{AreLeast, IsOpen, IsClosed, Agrees, HasClash, turned_in, staying_in, IsFewest, volume_at, volume_in, IsOutward, AreChosenTurns}
+use Rattle.pm_turn.specs.Choice.{AreLeast, IsOpen, IsClosed, Agrees, HasClash, turned_in}
+use Rattle.pm_turn.specs.Choice.{staying_in, IsFewest, volume_at, volume_in, IsOutward}
+use Rattle.pm_turn.specs.Choice.{AreChosenTurns}
 use Rattle.pm_turn.proofs.TurnedFaces.{along, not_both, same_flags}
 use Rattle.pm_turn.proofs.Traced.{way_back, one_in}
 use Rattle.pm_turn.proofs.Totals.{total_same, patch_same, patch_none, patch_opposite}

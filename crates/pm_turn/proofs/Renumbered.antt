@@ -1,13 +1,17 @@
 -- Which faces are turned doesn't depend on the vertices' numbers.
-use Rattle.std.proofs.Common.{◌≡◌, ℕ, ◌+◌, ◌*◌, ◌<◌, inl, inr, refl, sym, ap, ◌∙◌, subst, Bool, true, false, not, ◌&&◌, List, arith}
+use Rattle.std.proofs.Common.{◌≡◌, ℕ, ◌+◌, ◌*◌, ◌<◌, inl, inr, refl, sym, ap, ◌∙◌, subst, Bool}
+use Rattle.std.proofs.Common.{true, false, not, ◌&&◌, List, arith}
 use Rattle.std.specs.Prelude.{ℤ, pos, ◌≤ℤ◌, ◌==◌, if◌then◌else◌}
 use Rattle.std.proofs.lemmas.Bool.{cases_Bool, eqb-true, eqb-false, eq-eqb, ne_eqb}
 use Rattle.pm_base.specs.Place.{Place}
 use Rattle.pm_base.specs.Counts.{count}
 use Rattle.pm_base.specs.Sides.{Net, face_of, side_count, next, prev, Stands}
 use Rattle.pm_base.proofs.Sides.{next-lt}
-use Rattle.pm_turn.specs.Turning.{flag_of, JoinsSame, AreMates, clash, flipped_if, Way, stay, over, AgreeOnceTurned, AreTurns}
-use Rattle.pm_turn.specs.Choice.{AreLeast, IsOpen, Agrees, HasClash, turned_in, staying_in, IsFewest, place_at, determinant_of, volume_at, total, volume_in, IsOutward, AreChosenTurns}
+use Rattle.pm_turn.specs.Turning.{flag_of, JoinsSame, AreMates, clash, flipped_if, Way, stay, over}
+use Rattle.pm_turn.specs.Turning.{AgreeOnceTurned, AreTurns}
+use Rattle.pm_turn.specs.Choice.{AreLeast, IsOpen, Agrees, HasClash, turned_in, staying_in}
+use Rattle.pm_turn.specs.Choice.{IsFewest, place_at, determinant_of, volume_at, total, volume_in}
+use Rattle.pm_turn.specs.Choice.{IsOutward, AreChosenTurns}
 use Rattle.pm_turn.specs.ChoiceLaws.{IsRenumbered}
 use Rattle.pm_turn.proofs.Totals.{total_same}
 

@@ -1,6 +1,8 @@
 -- Sums of integers, counts in a patch, and determinants of turned faces.
-use Rattle.std.proofs.Common.{◌≡◌, ◌≢◌, ℕ, zero, suc, ◌*◌, ◌<◌, ◌≤◌, ◌^◌, inl, inr, refl, sym, ap, ◌∙◌, subst, Bool, true, false, ◌&&◌, arith}
-use Rattle.std.specs.Prelude.{ℤ, pos, negsuc, neg_ℤ, ◌+ℤ◌, ◌-ℤ◌, ◌*ℤ◌, ◌==◌, unsigned_abs, if◌then◌else◌}
+use Rattle.std.proofs.Common.{◌≡◌, ◌≢◌, ℕ, zero, suc, ◌*◌, ◌<◌, ◌≤◌, ◌^◌, inl, inr, refl, sym, ap}
+use Rattle.std.proofs.Common.{◌∙◌, subst, Bool, true, false, ◌&&◌, arith}
+use Rattle.std.specs.Prelude.{ℤ, pos, negsuc, neg_ℤ, ◌+ℤ◌, ◌-ℤ◌, ◌*ℤ◌, ◌==◌, unsigned_abs}
+use Rattle.std.specs.Prelude.{if◌then◌else◌}
 use Rattle.std.proofs.Math.IntN.{*ℤ_comm, *ℤ-zero, *ℤ-negsuc, neg_ℤ-neg_ℤ}
 use Rattle.std.proofs.lemmas.Bool.{cases_eq, cases_Bool, cond-true, cond-false, eq-eqb, ne_eqb}
 use borrow.Author.Differences.{ints}
@@ -31,7 +33,8 @@ total_same g h (suc n) e =
     omega (arith, ints, a, b, c, d)
 
 -- The sum of the opposites.
-pub total_opposite : (g h : ℕ → ℤ) (n : ℕ) → ((i : ℕ) → i < n → h i ≡ neg_ℤ (g i)) → total h n ≡ neg_ℤ (total g n)
+pub total_opposite : (g h : ℕ → ℤ) (n : ℕ) → ((i : ℕ) → i < n → h i ≡ neg_ℤ (g i))
+    → total h n ≡ neg_ℤ (total g n)
 total_opposite g h zero e =
     let a = total-zero g in
     let b = total-zero h in
@@ -43,10 +46,13 @@ total_opposite g h (suc n) e =
     let d = total_opposite g h n (λ i l. e i (omega (arith, l))) in
     omega (arith, ints, a, b, c, d)
 
-pub total_small : (g : ℕ → ℤ) (b n : ℕ) → ((i : ℕ) → unsigned_abs (g i) ≤ b) → unsigned_abs (total g n) ≤ n * b
-total_small g b zero e = let a : unsigned_abs (total g zero) ≡ 0 = ap unsigned_abs (total-zero g) in omega (arith, a)
+pub total_small : (g : ℕ → ℤ) (b n : ℕ) → ((i : ℕ) → unsigned_abs (g i) ≤ b)
+    → unsigned_abs (total g n) ≤ n * b
+total_small g b zero e = let a : unsigned_abs (total g zero) ≡ 0 =
+    ap unsigned_abs (total-zero g) in omega (arith, a)
 total_small g b (suc n) e =
-    let a : unsigned_abs (total g (suc n)) ≡ unsigned_abs (g n +ℤ total g n) = ap unsigned_abs (total-suc g n) in
+    let a : unsigned_abs (total g (suc n)) ≡ unsigned_abs (g n +ℤ total g n) =
+    ap unsigned_abs (total-suc g n) in
     let c = abs_plus (g n) (total g n) in
     let d = e n in
     let i = total_small g b n e in
@@ -55,7 +61,8 @@ total_small g b (suc n) e =
 -- Counts.
 pub count_zero : (p : ℕ → Bool) (n : ℕ) → ((i : ℕ) → i < n → p i ≡ false) → count p n ≡ 0
 count_zero p zero h = count-zero p
-count_zero p (suc n) h = count-false p n (h n (omega arith)) ∙ count_zero p n (λ i l. h i (omega (arith, l)))
+count_zero p (suc n) h =
+    count-false p n (h n (omega arith)) ∙ count_zero p n (λ i l. h i (omega (arith, l)))
 
 pub count_some : (p : ℕ → Bool) (n i : ℕ) → i < n → p i ≡ true → 0 < count p n
 count_some p zero i l e = absurd (omega (arith, l))
@@ -77,7 +84,8 @@ in_patch root r f b is = ap (λ (t : Bool). t && b) (eq-eqb (root f) r is)
 pub out_of_patch : (root : ℕ → ℕ) (r f : ℕ) (b : Bool) → root f ≢ r → ((root f == r) && b) ≡ false
 out_of_patch root r f b ne = ap (λ (t : Bool). t && b) (ne_eqb (root f) r ne)
 
-pub patch_same : (root : ℕ → ℕ) (r n : ℕ) (p q : ℕ → Bool) → ((f : ℕ) → f < n → root f ≡ r → p f ≡ q f)
+pub patch_same : (root : ℕ → ℕ) (r n : ℕ) (p q : ℕ → Bool)
+    → ((f : ℕ) → f < n → root f ≡ r → p f ≡ q f)
     → count (λ f. (root f == r) && p f) n ≡ count (λ f. (root f == r) && q f) n
 patch_same root r n p q h =
     count_same (λ f. (root f == r) && p f) (λ f. (root f == r) && q f) n (λ f l.
@@ -86,7 +94,8 @@ patch_same root r n p q h =
       | inr ne ↦ out_of_patch root r f (p f) ne ∙ sym (out_of_patch root r f (q f) ne)
     ])
 
-pub patch_none : (root : ℕ → ℕ) (r n : ℕ) (p : ℕ → Bool) → ((f : ℕ) → f < n → root f ≡ r → p f ≡ false) → count (λ f. (root f == r) && p f) n ≡ 0
+pub patch_none : (root : ℕ → ℕ) (r n : ℕ) (p : ℕ → Bool)
+    → ((f : ℕ) → f < n → root f ≡ r → p f ≡ false) → count (λ f. (root f == r) && p f) n ≡ 0
 patch_none root r n p h =
     count_zero (λ f. (root f == r) && p f) n (λ f l.
     elim (cases_eq (root f) r) [
@@ -94,26 +103,38 @@ patch_none root r n p h =
       | inr ne ↦ out_of_patch root r f (p f) ne
     ])
 
-pub patch_some : (root : ℕ → ℕ) (r n : ℕ) (p : ℕ → Bool) (f : ℕ) → f < n → root f ≡ r → p f ≡ true → 0 < count (λ f. (root f == r) && p f) n
-patch_some root r n p f l is e = count_some (λ f. (root f == r) && p f) n f l (in_patch root r f (p f) is ∙ e)
+pub patch_some : (root : ℕ → ℕ) (r n : ℕ) (p : ℕ → Bool) (f : ℕ) → f < n → root f ≡ r → p f ≡ true
+    → 0 < count (λ f. (root f == r) && p f) n
+patch_some root r n p f l is e =
+    count_some (λ f. (root f == r) && p f) n f l (in_patch root r f (p f) is ∙ e)
 
 -- Volumes of the faces of one patch.
-pub patch_total : (root : ℕ → ℕ) (r n : ℕ) (g h : ℕ → ℤ) → ((f : ℕ) → f < n → root f ≡ r → g f ≡ h f)
-    → total (λ f. if root f == r then g f else pos 0) n ≡ total (λ f. if root f == r then h f else pos 0) n
+pub patch_total : (root : ℕ → ℕ) (r n : ℕ) (g h : ℕ → ℤ)
+    → ((f : ℕ) → f < n → root f ≡ r → g f ≡ h f)
+    → total (λ f. if root f == r then g f else pos 0) n ≡ total (λ f. if root f == r then h f
+    else pos 0) n
 patch_total root r n g h e =
-    total_same (λ f. if root f == r then g f else pos 0) (λ f. if root f == r then h f else pos 0) n (λ f l.
+    total_same (λ f. if root f == r then g f else pos 0) (λ f. if root f == r then h f else pos 0) n
+    (λ f l.
     elim (cases_eq (root f) r) [
-      | inl is ↦ cond-true _ _ _ (eq-eqb (root f) r is) ∙ e f l is ∙ sym (cond-true _ _ _ (eq-eqb (root f) r is))
-      | inr ne ↦ cond-false _ _ _ (ne_eqb (root f) r ne) ∙ sym (cond-false _ _ _ (ne_eqb (root f) r ne))
+      | inl is ↦ cond-true _ _ _ (eq-eqb (root f) r is) ∙ e f l is
+          ∙ sym (cond-true _ _ _ (eq-eqb (root f) r is))
+      | inr ne ↦ cond-false _ _ _ (ne_eqb (root f) r ne)
+          ∙ sym (cond-false _ _ _ (ne_eqb (root f) r ne))
     ])
 
-pub patch_opposite : (root : ℕ → ℕ) (r n : ℕ) (g h : ℕ → ℤ) → ((f : ℕ) → f < n → root f ≡ r → h f ≡ neg_ℤ (g f))
-    → total (λ f. if root f == r then h f else pos 0) n ≡ neg_ℤ (total (λ f. if root f == r then g f else pos 0) n)
+pub patch_opposite : (root : ℕ → ℕ) (r n : ℕ) (g h : ℕ → ℤ)
+    → ((f : ℕ) → f < n → root f ≡ r → h f ≡ neg_ℤ (g f))
+    → total (λ f. if root f == r then h f else pos 0) n
+    ≡ neg_ℤ (total (λ f. if root f == r then g f else pos 0) n)
 patch_opposite root r n g h e =
-    total_opposite (λ f. if root f == r then g f else pos 0) (λ f. if root f == r then h f else pos 0) n (λ f l.
+    total_opposite (λ f. if root f == r then g f else pos 0) (λ f. if root f == r then h f
+    else pos 0) n (λ f l.
     elim (cases_eq (root f) r) [
-      | inl is ↦ cond-true _ _ _ (eq-eqb (root f) r is) ∙ e f l is ∙ ap neg_ℤ (sym (cond-true _ _ _ (eq-eqb (root f) r is)))
-      | inr ne ↦ cond-false _ _ _ (ne_eqb (root f) r ne) ∙ ap neg_ℤ (sym (cond-false _ _ _ (ne_eqb (root f) r ne)))
+      | inl is ↦ cond-true _ _ _ (eq-eqb (root f) r is) ∙ e f l is
+          ∙ ap neg_ℤ (sym (cond-true _ _ _ (eq-eqb (root f) r is)))
+      | inr ne ↦ cond-false _ _ _ (ne_eqb (root f) r ne)
+          ∙ ap neg_ℤ (sym (cond-false _ _ _ (ne_eqb (root f) r ne)))
     ])
 
 -- Determinants.
@@ -128,7 +149,8 @@ times_opposite x (pos zero) = *ℤ-zero x ∙ ap neg_ℤ (sym (*ℤ-zero x))
 times_opposite x (pos (suc n)) = *ℤ-negsuc x n
 times_opposite x (negsuc n) = sym (neg_ℤ-neg_ℤ (x *ℤ pos (suc n))) ∙ ap neg_ℤ (sym (*ℤ-negsuc x n))
 
-opposite_sum : (x y z u v w : ℤ) → u ≡ neg_ℤ x → v ≡ neg_ℤ y → w ≡ neg_ℤ z → u +ℤ v +ℤ w ≡ neg_ℤ (x +ℤ y +ℤ z)
+opposite_sum : (x y z u v w : ℤ) → u ≡ neg_ℤ x → v ≡ neg_ℤ y → w ≡ neg_ℤ z
+    → u +ℤ v +ℤ w ≡ neg_ℤ (x +ℤ y +ℤ z)
 opposite_sum x y z u v w a b c = omega (arith, ints, a, b, c)
 
 -- A face that is turned has the opposite determinant.
@@ -140,12 +162,17 @@ determinant_turned a b c =
     let x : k.x ≡ neg_ℤ n.x = minor_back (b.y -ℤ a.y) (b.z -ℤ a.z) (c.y -ℤ a.y) (c.z -ℤ a.z) in
     let y : k.y ≡ neg_ℤ n.y = minor_back (b.z -ℤ a.z) (b.x -ℤ a.x) (c.z -ℤ a.z) (c.x -ℤ a.x) in
     let z : k.z ≡ neg_ℤ n.z = minor_back (b.x -ℤ a.x) (b.y -ℤ a.y) (c.x -ℤ a.x) (c.y -ℤ a.y) in
-    let dx : a.x *ℤ k.x ≡ neg_ℤ (a.x *ℤ n.x) = ap (λ (t : ℤ). a.x *ℤ t) x ∙ times_opposite a.x n.x in
-    let dy : a.y *ℤ k.y ≡ neg_ℤ (a.y *ℤ n.y) = ap (λ (t : ℤ). a.y *ℤ t) y ∙ times_opposite a.y n.y in
-    let dz : a.z *ℤ k.z ≡ neg_ℤ (a.z *ℤ n.z) = ap (λ (t : ℤ). a.z *ℤ t) z ∙ times_opposite a.z n.z in
-    opposite_sum (a.x *ℤ n.x) (a.y *ℤ n.y) (a.z *ℤ n.z) (a.x *ℤ k.x) (a.y *ℤ k.y) (a.z *ℤ k.z) dx dy dz
+    let dx : a.x *ℤ k.x ≡ neg_ℤ (a.x *ℤ n.x) =
+    ap (λ (t : ℤ). a.x *ℤ t) x ∙ times_opposite a.x n.x in
+    let dy : a.y *ℤ k.y ≡ neg_ℤ (a.y *ℤ n.y) =
+    ap (λ (t : ℤ). a.y *ℤ t) y ∙ times_opposite a.y n.y in
+    let dz : a.z *ℤ k.z ≡ neg_ℤ (a.z *ℤ n.z) =
+    ap (λ (t : ℤ). a.z *ℤ t) z ∙ times_opposite a.z n.z in
+    opposite_sum (a.x *ℤ n.x) (a.y *ℤ n.y) (a.z *ℤ n.z) (a.x *ℤ k.x) (a.y *ℤ k.y) (a.z *ℤ k.z) dx dy
+    dz
 
-pub dot_small : (x y z : ℤ) (n : Direction) → unsigned_abs x ≤ 32767 → unsigned_abs y ≤ 32767 → unsigned_abs z ≤ 32767 → IsNormal n
+pub dot_small : (x y z : ℤ) (n : Direction) → unsigned_abs x ≤ 32767 → unsigned_abs y ≤ 32767
+    → unsigned_abs z ≤ 32767 → IsNormal n
     → unsigned_abs (dot_of (record { x = x; y = y; z = z }) n) ≤ 2 ^ 51
 dot_small x y z n p q r s =
     let a = abs_product x n.x 32767 8589410312 p s.0 in

@@ -1,39 +1,54 @@
 -- Faces turned one by one, and the numbers from 0.
-use Rattle.std.proofs.Common.{◌≡◌, ℕ, ◌+◌, ◌<◌, ◌≤◌, inl, inr, sym, ap, ◌∙◌, subst, Bool, false, List, [], ◌∷◌, ◌++◌, length, drop, slice_index_or, arith}
+use Rattle.std.proofs.Common.{◌≡◌, ℕ, ◌+◌, ◌<◌, ◌≤◌, inl, inr, sym, ap, ◌∙◌, subst, Bool, false}
+use Rattle.std.proofs.Common.{List, [], ◌∷◌, ◌++◌, length, drop, slice_index_or, arith}
 use Rattle.std.proofs.lemmas.Bool.{cases_eq}
-use Rattle.std.proofs.lemmas.List.{append_assoc, append-nil, drop_more, drop_all, get_or_append_left, length-append}
+use Rattle.std.proofs.lemmas.List.{append_assoc, append-nil, drop_more, drop_all}
+use Rattle.std.proofs.lemmas.List.{get_or_append_left, length-append}
 use Rattle.std.proofs.Math.Seq.{get_or-append_seam}
 use Rattle.pm_base.specs.declared.mesh.Corners.{Corners}
 use Rattle.pm_base.specs.Sides.{no_corners}
 use Rattle.pm_turn.specs.Turning.{turned_if, turned_by}
 
-pub turned_more : (flags : List Bool) (fs xs ys all : List Corners) (at : ℕ) (new : Corners) → at < length fs → length flags ≡ length fs
-    → new ≡ turned_if (slice_index_or flags at false) (slice_index_or fs at no_corners) → ys ≡ xs ++ new ∷ []
-    → xs ++ turned_by (drop at flags) (drop at fs) ≡ all → ys ++ turned_by (drop (at + 1) flags) (drop (at + 1) fs) ≡ all
+pub turned_more : (flags : List Bool) (fs xs ys all : List Corners) (at : ℕ) (new : Corners)
+    → at < length fs → length flags ≡ length fs
+    → new ≡ turned_if (slice_index_or flags at false) (slice_index_or fs at no_corners)
+    → ys ≡ xs ++ new ∷ []
+    → xs ++ turned_by (drop at flags) (drop at fs) ≡ all
+    → ys ++ turned_by (drop (at + 1) flags) (drop (at + 1) fs) ≡ all
 turned_more flags fs xs ys all at new l long is items left =
     let rest : List Corners = turned_by (drop (at + 1) flags) (drop (at + 1) fs) in
-    let step : turned_by (drop at flags) (drop at fs) ≡ turned_if (slice_index_or flags at false) (slice_index_or fs at no_corners) ∷ rest =
-    ap (λ (bs : List Bool). turned_by bs (drop at fs)) (drop_more flags at false (omega (arith, l, long)))
-    ∙ ap (turned_by (slice_index_or flags at false ∷ drop (at + 1) flags)) (drop_more fs at no_corners l) in
+    let step : turned_by (drop at flags) (drop at fs)
+    ≡ turned_if (slice_index_or flags at false) (slice_index_or fs at no_corners) ∷ rest =
+    ap (λ (bs : List Bool). turned_by bs (drop at fs))
+    (drop_more flags at false (omega (arith, l, long)))
+    ∙ ap (turned_by (slice_index_or flags at false ∷ drop (at + 1) flags))
+    (drop_more fs at no_corners l) in
     ap (λ (zs : List Corners). zs ++ rest) items
     ∙ append_assoc xs (new ∷ []) rest
     ∙ ap (λ (f : Corners). xs ++ (f ∷ rest)) is
     ∙ ap (λ (zs : List Corners). xs ++ zs) (sym step)
     ∙ left
 
-pub turned_all : (flags : List Bool) (fs xs all : List Corners) (at : ℕ) → length fs ≤ at → xs ++ turned_by (drop at flags) (drop at fs) ≡ all → xs ≡ all
+pub turned_all : (flags : List Bool) (fs xs all : List Corners) (at : ℕ) → length fs ≤ at
+    → xs ++ turned_by (drop at flags) (drop at fs) ≡ all → xs ≡ all
 turned_all flags fs xs all at l left =
-    sym (append-nil xs) ∙ sym (ap (λ (gs : List Corners). xs ++ turned_by (drop at flags) gs) (drop_all at fs l)) ∙ left
+    sym (append-nil xs)
+    ∙ sym (ap (λ (gs : List Corners). xs ++ turned_by (drop at flags) gs) (drop_all at fs l))
+    ∙ left
 
-pub own_more : (xs ys : List ℕ) (n : ℕ) → length xs ≡ n → ((x : ℕ) → x < n → slice_index_or xs x 0 ≡ x) → ys ≡ xs ++ n ∷ []
+pub own_more : (xs ys : List ℕ) (n : ℕ) → length xs ≡ n
+    → ((x : ℕ) → x < n → slice_index_or xs x 0 ≡ x) → ys ≡ xs ++ n ∷ []
     → (length ys ≡ n + 1) × ((x : ℕ) → x < n + 1 → slice_index_or ys x 0 ≡ x)
 own_more xs ys n long each is = (
   ap length is ∙ length-append xs (n ∷ []) ∙ ap (λ i. i + 1) long,
   λ x l.
       elim (cases_eq x n) [
-        | inl same ↦ ap (λ (zs : List ℕ). slice_index_or zs x 0) is ∙ ap (λ i. slice_index_or (xs ++ n ∷ []) i 0) (same ∙ sym long) ∙ get_or-append_seam xs n [] 0 ∙ sym same
+        | inl same ↦ ap (λ (zs : List ℕ). slice_index_or zs x 0) is
+            ∙ ap (λ i. slice_index_or (xs ++ n ∷ []) i 0) (same ∙ sym long)
+            ∙ get_or-append_seam xs n [] 0 ∙ sym same
         | inr ne ↦
             let l' : x < n = omega (arith, l, ne) in
-            ap (λ (zs : List ℕ). slice_index_or zs x 0) is ∙ get_or_append_left xs (n ∷ []) 0 x (subst (λ i. x < i) (sym long) l') ∙ each x l'
+            ap (λ (zs : List ℕ). slice_index_or zs x 0) is
+            ∙ get_or_append_left xs (n ∷ []) 0 x (subst (λ i. x < i) (sym long) l') ∙ each x l'
       ],
 )

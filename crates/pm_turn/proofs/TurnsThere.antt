@@ -1,5 +1,7 @@
--- Of each mesh it can be told which faces are turned: mates are looked for and joined, side by side.
-use Rattle.std.proofs.Common.{◌≡◌, ◌≢◌, ℕ, zero, suc, ◌+◌, ◌<◌, ◌≤◌, ◌⊎◌, inl, inr, refl, sym, ap, ◌∙◌, subst, Bool, true, false, not, List, length, map, arith}
+-- Of each mesh it can be told which faces are turned: mates are looked for and joined, side by
+-- side.
+use Rattle.std.proofs.Common.{◌≡◌, ◌≢◌, ℕ, zero, suc, ◌+◌, ◌<◌, ◌≤◌, ◌⊎◌, inl, inr, refl, sym, ap}
+use Rattle.std.proofs.Common.{◌∙◌, subst, Bool, true, false, not, List, length, map, arith}
 use Rattle.std.specs.List.{range_with_len}
 use Rattle.std.proofs.lemmas.Bool.{cases_eq, cases_order}
 use Rattle.std.proofs.lemmas.List.{length-map, get_or-map}
@@ -10,7 +12,8 @@ use Rattle.pm_base.proofs.TwinLaws.{stands?}
 use Rattle.pm_turn.specs.Turning.{JoinsSame, AreMates, clash, flipped_if, traced_flag}
 use Rattle.pm_turn.specs.Unions.{Elders, Up, top, up, AreElders, marked, under, all_own}
 use Rattle.pm_turn.specs.TurnLaws.{TurnsAreThere}
-use Rattle.pm_turn.proofs.Joining.{up_below, begun, none_more, agreeing_more, odd_more, under_first, under_second, elders_traced}
+use Rattle.pm_turn.proofs.Joining.{up_below, begun, none_more, agreeing_more, odd_more, under_first}
+use Rattle.pm_turn.proofs.Joining.{under_second, elders_traced}
 use Rattle.pm_turn.proofs.Traced.{traced_tables_turn}
 
 -- What is decided of two is decided of both, and of one of them.
@@ -63,11 +66,13 @@ module _ (m : Net) (e : ℕ) where
         | inr out ↦ inr (λ k a. out a.stands)
         | inl t ↦
             elim (search_below IsOther other? (side_count m)) [
-              | inr none ↦ inr (λ k a. none k a.same.stands.is_side (a.same, λ is. a.differ (sym is)))
+              | inr none ↦
+                  inr (λ k a. none k a.same.stands.is_side (a.same, λ is. a.differ (sym is)))
               | inl (k, l, (j, ne)) ↦
                   elim (search_below (IsThird k) (third? k) (side_count m)) [
                     | inl (g, gl, (i, (apart, other))) ↦
-                        inr (λ h a. other (one_other h g a (i, apart) ∙ sym (one_other h k a (j, ne))))
+                        inr (λ h a. other (one_other h g a (i, apart)
+                        ∙ sym (one_other h k a (j, ne))))
                     | inr none ↦
                         inl (
                           k,
@@ -125,13 +130,25 @@ joined_at m n k t s a =
     elim (cases_order r o) [
       | inl is ↦
           elim (same_or_not q (flipped_if (clash m n k) p)) [
-            | inl agree ↦ (t, agreeing_more m n k t s a r p q v (subst (λ i. Up t (face_of k) i q) (sym is) w) agree)
+            | inl agree ↦ (
+              t,
+              agreeing_more m n k t s a r p q v (subst (λ i. Up t (face_of k) i q) (sym is) w)
+                  agree,
+            )
             | inr odd ↦ (marked t r, odd_more m n k t s a r o p q v w is odd)
           ]
       | inr i ↦
           elim i [
-            | inl less ↦ (under t r o (flipped_if p (flipped_if (clash m n k) q)), under_first m n k t s a r o p q v w less)
-            | inr less ↦ (under t o r (flipped_if q (flipped_if (clash m n k) p)), under_second m n k t s a r o p q v w less)
+            | inl less ↦ (
+              under t r o (flipped_if p (flipped_if (clash m n k) q)),
+              under_first m n k t s a r
+                  o p q v w less,
+            )
+            | inr less ↦ (
+              under t o r (flipped_if q (flipped_if (clash m n k) p)),
+              under_second m n k t s a r
+                  o p q v w less,
+            )
           ]
     ]
 
@@ -160,8 +177,11 @@ turns_are_there m =
     let long : length numbers ≡ m.faces = length-range_with_len 0 m.faces in (
       flags,
       traced_tables_turn m flags root parity t.odd
-          (elders_traced m t root parity s (λ f l. way f) (λ f. up_below m (side_count m) t s f (root f) (parity f) (way f)))
+          (elders_traced m t root parity s (λ f l. way f)
+          (λ f. up_below m (side_count m) t s f (root f) (parity f) (way f)))
           (length-map numbers (traced_flag root parity t.odd) ∙ long)
-          (λ f l. get_or-map (traced_flag root parity t.odd) numbers f 0 false (subst (λ k. f < k) (sym long) l)
-          ∙ ap (traced_flag root parity t.odd) (get_or-range_with_len 0 m.faces f 0 l ∙ omega arith)),
+          (λ f l. get_or-map (traced_flag root parity t.odd) numbers f 0 false
+          (subst (λ k. f < k) (sym long) l)
+          ∙ ap (traced_flag root parity t.odd) (get_or-range_with_len 0 m.faces f 0 l
+          ∙ omega arith)),
     )

@@ -1,6 +1,7 @@
 -- Which way round a patch is turned. Where its neighbours can be made to agree, they can in two
 -- ways, each the reverse of the other.
-use Rattle.std.specs.Prelude.{◌≡◌, ℕ, ℤ, zero, suc, pos, ◌+◌, ◌*◌, ◌<◌, ◌≤◌, ◌+ℤ◌, ◌≤ℤ◌, ◌==◌, Bool, true, false, not, ◌&&◌, List, length, slice_index_or, if◌then◌else◌}
+use Rattle.std.specs.Prelude.{◌≡◌, ℕ, ℤ, zero, suc, pos, ◌+◌, ◌*◌, ◌<◌, ◌≤◌, ◌+ℤ◌, ◌≤ℤ◌, ◌==◌, Bool}
+use Rattle.std.specs.Prelude.{true, false, not, ◌&&◌, List, length, slice_index_or, if◌then◌else◌}
 use Rattle.pm_base.specs.Place.{Place, origin}
 use Rattle.pm_base.specs.Geometry.{dot_of, cross_of}
 use Rattle.pm_base.specs.Counts.{count}

@@ -5,7 +5,8 @@ use Rattle.pm_base.specs.Sides.{Net, face_of, net_of, no_corners}
 use Rattle.pm_base.specs.Fans.{IsOrientedManifold}
 use Rattle.pm_fans.specs.Splits.{AllStand, IsGlued, IsSplitByFans}
 use Rattle.pm_fans.specs.Kept.{kept_of}
-use Rattle.pm_turn.specs.Turning.{turned_face, turned_by, flag_of, moved, AreMates, AgreeOnceTurned, AreTurns, AllAgree, AreTraced, traced_flag}
+use Rattle.pm_turn.specs.Turning.{turned_face, turned_by, flag_of, moved, AreMates, AgreeOnceTurned}
+use Rattle.pm_turn.specs.Turning.{AreTurns, AllAgree, AreTraced, traced_flag}
 
 -- Whichever faces are turned: those that stay, turned, and split by fans, are an oriented manifold.
 abbrev pub TurnedFacesBecomeManifolds : Type 0

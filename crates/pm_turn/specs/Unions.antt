@@ -1,6 +1,7 @@
 -- Patches found by joining faces that are mates, pair by pair: each face has an elder, which is at
 -- most itself, and the face that is its own elder stands for its patch.
-use Rattle.std.specs.Prelude.{◌≡◌, ◌≢◌, ℕ, ◌<◌, ◌≤◌, ◌==◌, Bool, true, false, ◌||◌, if◌then◌else◌, List, length, slice_index_or, Option, MatchOption}
+use Rattle.std.specs.Prelude.{◌≡◌, ◌≢◌, ℕ, ◌<◌, ◌≤◌, ◌==◌, Bool, true, false, ◌||◌, if◌then◌else◌}
+use Rattle.std.specs.Prelude.{List, length, slice_index_or, Option, MatchOption}
 use Rattle.pm_base.specs.Sides.{Net, face_of, side_count, beside_side}
 use Rattle.pm_turn.specs.Turning.{AreMates, clash, flipped_if, flag_with, Way}
 

@@ -1,5 +1,6 @@
 //! Which way round each patch is turned: sums over its faces, and the choice by them.
-ghost use Rattle.std.specs.Prelude.{◌≡◌, ℕ, ◌+◌, ◌*◌, ◌<◌, ◌≤◌, ◌^◌, length, slice_index_or, slice_set, replicate, unsigned_abs, IfOk, OnOk};
+ghost use Rattle.std.specs.Prelude.{◌≡◌, ℕ, ◌+◌, ◌*◌, ◌<◌, ◌≤◌, ◌^◌, length, slice_index_or};
+ghost use Rattle.std.specs.Prelude.{slice_set, replicate, unsigned_abs, IfOk, OnOk};
 ghost use Rattle.pm_base.specs.declared.limits.TheConstants.{MOST_FACES};
 ghost use Rattle.pm_base.specs.Sides.{net_of, side_count};
 ghost use Rattle.pm_fans.specs.Splits.{IsCuttable};
@@ -28,8 +29,8 @@ use pm_base::{Corners, Point, Side, SideMap};
 use std::alloc::Global;
 
 /// What is added up over the faces of a patch: how many have an even way to the face that stands
-/// for it, how many an odd one, how many have a side without a mate, and six times the volume, where
-/// faces with an odd way are turned.
+/// for it, how many an odd one, how many have a side without a mate, and six times the volume,
+/// where faces with an odd way are turned.
 #[derive(Clone, Copy)]
 pub(crate) struct Sums {
     pub(crate) even: u32,
@@ -47,10 +48,10 @@ pub struct Turned {
 }
 
 /// For each face whether it is turned round, as `turns` tells, but each patch the better way round,
-/// and what can be told of that. No face is turned where neighbours agree already. Of a patch with a
-/// side that has no mate the fewest faces are turned; of two equal choices the face of least number
-/// stays. A closed patch has a volume that isn't below 0; without volume it is turned as an open
-/// one. Sums are exact. There is one such list of flags. O(F log F) for F faces.
+/// and what can be told of that. No face is turned where neighbours agree already. Of a patch with
+/// a side that has no mate the fewest faces are turned; of two equal choices the face of least
+/// number stays. A closed patch has a volume that isn't below 0; without volume it is turned as an
+/// open one. Sums are exact. There is one such list of flags. O(F log F) for F faces.
 pub fn chosen_turns(
     alloc: Global,
     faces: &[Corners],
@@ -86,12 +87,14 @@ pub(crate) fn all_roots(
     faces: &[Corners],
 ) -> Result<Vec<Root>, OutOfMemory>
     requires short { length faces.now ≤ MOST_FACES }
-    requires tables { AreTables (length faces.now) p.old.elders.items p.old.parities.items p.old.odd.items }
+    requires tables { AreTables (length faces.now) p.old.elders.items p.old.parities.items
+        p.old.odd.items }
     requires all { AreElders (net_of faces.now) (side_count (net_of faces.now))
         (elders_of p.old.elders.items p.old.parities.items p.old.odd.items) }
     ensures odd { OnOk result (length p.new.odd.items ≡ length faces.now) }
     ensures long { IfOk result (λ rs. length rs.items ≡ length faces.now) }
-    ensures traced { IfOk result (λ rs. AreTraced (net_of faces.now) (root_at rs.items) (parity_at rs.items)
+    ensures traced { IfOk result
+        (λ rs. AreTraced (net_of faces.now) (root_at rs.items) (parity_at rs.items)
         (flag_of p.new.odd.items)) }
 {
     let mut roots = Vec::new(alloc);
@@ -114,7 +117,8 @@ pub(crate) fn patch_sums(
     requires mated { length mates.now ≡ side_count (net_of faces.now) }
     requires long { length roots.now ≡ length faces.now }
     requires below { (f : ℕ) → root_at roots.now f ≤ f }
-    ensures { IfOk result (λ sums. AreSums (net_of faces.now) places.now mates.now roots.now (length faces.now)
+    ensures { IfOk result
+        (λ sums. AreSums (net_of faces.now) places.now mates.now roots.now (length faces.now)
         sums.items) }
 {
     let mut sums = no_sums(alloc, faces.len())?;
@@ -166,11 +170,13 @@ fn add_face(
     requires even { (slice_index_or sums.old.items root.face no_sums_of).even < MOST_FACES }
     requires odd { (slice_index_or sums.old.items root.face no_sums_of).odd < MOST_FACES }
     requires bare { (slice_index_or sums.old.items root.face no_sums_of).bare < MOST_FACES }
-    requires volume { unsigned_abs (slice_index_or sums.old.items root.face no_sums_of).volume ≤ 2 ^ 71 }
+    requires volume { unsigned_abs (slice_index_or sums.old.items root.face no_sums_of).volume ≤ 2 ^
+        71 }
     ensures items { sums.new.items ≡ slice_set sums.old.items root.face
         (with_face_of (slice_index_or sums.old.items root.face no_sums_of) root.parity bare
         (volume_at (net_of faces.now) places.now root.parity face)) }
-    ensures small { unsigned_abs (volume_at (net_of faces.now) places.now root.parity face) ≤ 2 ^ 51 }
+    ensures small { unsigned_abs (volume_at (net_of faces.now) places.now root.parity face) ≤ 2 ^
+        51 }
 {
     let old = sums[root.face as usize];
     let volume = volume_of(faces, places, face, root.parity);
@@ -208,8 +214,10 @@ pub(crate) fn chosen_flags(
     requires mated { AreMated (net_of faces.now) mates.now }
     requires odd { length odd.now ≡ length faces.now }
     requires long { length roots.now ≡ length faces.now }
-    requires traced { AreTraced (net_of faces.now) (root_at roots.now) (parity_at roots.now) (flag_of odd.now) }
-    requires sums { AreSums (net_of faces.now) places.now mates.now roots.now (length faces.now) sums.now }
+    requires traced { AreTraced (net_of faces.now) (root_at roots.now) (parity_at roots.now)
+        (flag_of odd.now) }
+    requires sums { AreSums (net_of faces.now) places.now mates.now roots.now (length faces.now)
+        sums.now }
     ensures { IfOk result (λ flags. AreChosenTurns (net_of faces.now) places.now flags.items) }
 {
     let mut flags = Vec::new(alloc);
@@ -225,15 +233,16 @@ fn flag_at(odd: &[bool], roots: &[Root], sums: &[Sums], face: usize) -> bool
     requires odd { root_at roots.now face < length odd.now }
     requires sums { root_at roots.now face < length sums.now }
     ensures { result ≡ chosen_flag_of (flag_of odd.now (root_at roots.now face))
-        (is_reversed_of (slice_index_or sums.now (root_at roots.now face) no_sums_of)) (parity_at roots.now face) }
+        (is_reversed_of (slice_index_or sums.now (root_at roots.now face) no_sums_of))
+        (parity_at roots.now face) }
 {
     let root = roots[face];
     let reversed = is_reversed(sums[root.face as usize]);
     chosen_flag(odd[root.face as usize], reversed, root.parity)
 }
 
-// Whether the way round by parities is to be reversed: of a closed patch that has a clash if its volume
-// is below 0, and of another, or without volume, if more faces would be turned than stay.
+// Whether the way round by parities is to be reversed: of a closed patch that has a clash if its
+// volume is below 0, and of another, or without volume, if more faces would be turned than stay.
 fn is_reversed(s: Sums) -> bool
     ensures { result ≡ is_reversed_of s }
 {
@@ -244,7 +253,8 @@ fn is_reversed(s: Sums) -> bool
     }
 }
 
-// The flag of a face, by whether its patch has an odd closed way, is reversed, and the face's parity.
+// The flag of a face, by whether its patch has an odd closed way, is reversed, and the face's
+// parity.
 fn chosen_flag(odd: bool, reversed: bool, parity: bool) -> bool
     ensures { result ≡ chosen_flag_of odd reversed parity }
 {

@@ -52,7 +52,8 @@ pub(crate) fn twisted_faces(faces: &[Corners], odd: &[bool], roots: &[Root]) -> 
     requires short { length faces.now ≤ MOST_FACES }
     requires odd { length odd.now ≡ length faces.now }
     requires long { length roots.now ≡ length faces.now }
-    requires traced { AreTraced (net_of faces.now) (root_at roots.now) (parity_at roots.now) (flag_of odd.now) }
+    requires traced { AreTraced (net_of faces.now) (root_at roots.now) (parity_at roots.now)
+        (flag_of odd.now) }
     ensures { IsCount (IsTwisted (net_of faces.now)) (length faces.now) result }
 {
     let mut twisted = 0;
@@ -77,8 +78,10 @@ pub(crate) fn inside_out(
     requires mated { AreMated (net_of faces.now) mates.now }
     requires odd { length odd.now ≡ length faces.now }
     requires long { length roots.now ≡ length faces.now }
-    requires traced { AreTraced (net_of faces.now) (root_at roots.now) (parity_at roots.now) (flag_of odd.now) }
-    requires sums { AreSums (net_of faces.now) places.now mates.now roots.now (length faces.now) sums.now }
+    requires traced { AreTraced (net_of faces.now) (root_at roots.now) (parity_at roots.now)
+        (flag_of odd.now) }
+    requires sums { AreSums (net_of faces.now) places.now mates.now roots.now (length faces.now)
+        sums.now }
     ensures { AreInsideOut (net_of faces.now) places.now result }
 {
     let mut inward = 0;

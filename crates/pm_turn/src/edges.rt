@@ -1,6 +1,7 @@
-//! The sides of each edge, noted in a map by the edge's two vertices. Two faces are neighbours where an
-//! edge has two sides and no third.
-ghost use Rattle.std.specs.Prelude.{◌≡◌, ◌+◌, ◌*◌, ◌<◌, ◌≤◌, Option, length, IfOk, OnOk, MatchOption, ℕ};
+//! The sides of each edge, noted in a map by the edge's two vertices. Two faces are neighbours
+//! where an edge has two sides and no third.
+ghost use Rattle.std.specs.Prelude.{◌≡◌, ◌+◌, ◌*◌, ◌<◌, ◌≤◌, Option, length, IfOk, OnOk};
+ghost use Rattle.std.specs.Prelude.{MatchOption, ℕ};
 ghost use Rattle.std.specs.Ordering.{nat_cmp};
 ghost use Rattle.std.specs.BTreeMap.{get};
 ghost use Rattle.pm_base.specs.declared.limits.TheConstants.{MOST_FACES};

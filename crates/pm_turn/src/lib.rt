@@ -1,5 +1,5 @@
-//! Faces turned round so that neighbours agree: the patches that faces make over the edges that two of
-//! them share, and of each patch the faces that are turned.
+//! Faces turned round so that neighbours agree: the patches that faces make over the edges that two
+//! of them share, and of each patch the faces that are turned.
 #![tactic(auto)]
 
 mod choice;

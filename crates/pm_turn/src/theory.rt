@@ -28,7 +28,8 @@ ghost use Rattle.pm_turn.specs.ToldLaws.{
   TurnCountsAreOne,
   ManifoldsAreStraight,
 };
-ghost use Rattle.pm_turn.specs.UnionLaws.{EldersGrow, EldersBegin, MatelessSidesPass, EldersAreTraced};
+ghost use Rattle.pm_turn.specs.UnionLaws.{EldersGrow, EldersBegin, MatelessSidesPass};
+ghost use Rattle.pm_turn.specs.UnionLaws.{EldersAreTraced};
 
 /// The laws of turning faces round, which takes no step.
 pub fn turns_are_sound()

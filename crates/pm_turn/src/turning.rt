@@ -1,5 +1,6 @@
 //! Which faces are turned, told by the patches that their neighbours make.
-ghost use Rattle.std.specs.Prelude.{◌≡◌, ℕ, ◌<◌, ◌≤◌, length, slice_index_or, replicate, false, IfOk};
+ghost use Rattle.std.specs.Prelude.{◌≡◌, ℕ, ◌<◌, ◌≤◌, length, slice_index_or, replicate, false};
+ghost use Rattle.std.specs.Prelude.{IfOk};
 ghost use Rattle.pm_base.specs.declared.limits.TheConstants.{MOST_FACES};
 ghost use Rattle.pm_base.specs.Sides.{Net, net_of, side_count};
 ghost use Rattle.pm_fans.specs.Splits.{IsCuttable};
@@ -12,10 +13,10 @@ use crate::patches::{Patches, join_all, root_of};
 use pm_base::Corners;
 use std::alloc::Global;
 
-/// For each face whether it is turned round. Faces are neighbours where they alone share an edge, and a
-/// patch is all that is reached from a face over neighbours. Once the flagged faces are turned,
-/// neighbours run along their edge in opposite orders; the face of least number in each patch stays.
-/// Of a patch of which that can't be had, as of a Moebius strip, no face is flagged.
+/// For each face whether it is turned round. Faces are neighbours where they alone share an edge,
+/// and a patch is all that is reached from a face over neighbours. Once the flagged faces are
+/// turned, neighbours run along their edge in opposite orders; the face of least number in each
+/// patch stays. Of a patch of which that can't be had, as of a Moebius strip, no face is flagged.
 /// There is one such list of flags. O(F log F) for F faces.
 pub fn turns(alloc: Global, faces: &[Corners]) -> Result<Vec<bool>, OutOfMemory>
     requires { IsCuttable (net_of faces.now) }
@@ -55,7 +56,8 @@ fn turned_if(turn: bool, face: Corners) -> Corners
 
 /// Each face in a patch of its own.
 pub(crate) fn own_patches(alloc: Global, faces: u32) -> Result<Patches, OutOfMemory>
-    ensures tables { IfOk result (λ p. AreTables faces p.elders.items p.parities.items p.odd.items) }
+    ensures tables { IfOk result
+        (λ p. AreTables faces p.elders.items p.parities.items p.odd.items) }
     ensures begun { IfOk result (λ p. (m : Net) → m.faces ≡ faces
         → AreElders m 0 (elders_of p.elders.items p.parities.items p.odd.items)) }
 {
@@ -93,7 +95,8 @@ fn own_elders(alloc: Global, faces: u32) -> Result<Vec<u32>, OutOfMemory>
 #[tactic(auto, using(crate::proofs::Flags::none_flagged))]
 fn flags(alloc: Global, p: &mut Patches, faces: &[Corners]) -> Result<Vec<bool>, OutOfMemory>
     requires short { length faces.now ≤ MOST_FACES }
-    requires tables { AreTables (length faces.now) p.old.elders.items p.old.parities.items p.old.odd.items }
+    requires tables { AreTables (length faces.now) p.old.elders.items p.old.parities.items
+        p.old.odd.items }
     requires all { AreElders (net_of faces.now) (side_count (net_of faces.now))
         (elders_of p.old.elders.items p.old.parities.items p.old.odd.items) }
     ensures { IfOk result (λ flags. AreTurns (net_of faces.now) flags.items) }
@@ -105,16 +108,19 @@ fn flags(alloc: Global, p: &mut Patches, faces: &[Corners]) -> Result<Vec<bool>,
     Ok(flags)
 }
 
-// Whether a face is turned: the way to the face that stands for its patch is odd, and the patch has no
-// odd closed way.
+// Whether a face is turned: the way to the face that stands for its patch is odd, and the patch has
+// no odd closed way.
 fn is_turned(p: &mut Patches, face: u32) -> bool
     requires in_range { face < length p.old.elders.items }
-    requires tables { AreTables (length p.old.elders.items) p.old.elders.items p.old.parities.items p.old.odd.items }
+    requires tables { AreTables (length p.old.elders.items) p.old.elders.items p.old.parities.items
+        p.old.odd.items }
     requires below { (x : ℕ) → slice_index_or p.old.elders.items x 0 ≤ x }
-    ensures tables { AreTables (length p.old.elders.items) p.new.elders.items p.new.parities.items p.new.odd.items }
+    ensures tables { AreTables (length p.old.elders.items) p.new.elders.items p.new.parities.items
+        p.new.odd.items }
     ensures shorter { AreShorter (elders_of p.old.elders.items p.old.parities.items p.old.odd.items)
         (elders_of p.new.elders.items p.new.parities.items p.new.odd.items) }
-    ensures flag { IsFlagged (elders_of p.new.elders.items p.new.parities.items p.new.odd.items) face result }
+    ensures flag { IsFlagged (elders_of p.new.elders.items p.new.parities.items p.new.odd.items)
+        face result }
 {
     let root = root_of(p, face);
     flag(p.odd[root.face as usize], root.parity)

@@ -5,7 +5,9 @@ use Rattle.pm_base.proofs.NetLaws.{first_side, second_side, third_side, mesh_sid
 use Rattle.pm_base.proofs.TwinLaws.{twin-is, twin-one, twin_back, other_face}
 use Rattle.pm_base.proofs.Rounds.{one_out, one_in}
 use Rattle.pm_base.proofs.FanLaws as fans
-use Rattle.pm_twins.specs.Laws.{SidesAreCorners, MeshesStand, TwinsAreFound, TwinsAreMutual, PairsAreDistinct, FansAreRounds, OneBorderSideEach, FansCloseInside, NoTwoFacesAlike}
+use Rattle.pm_twins.specs.Laws.{SidesAreCorners, MeshesStand, TwinsAreFound, TwinsAreMutual}
+use Rattle.pm_twins.specs.Laws.{PairsAreDistinct, FansAreRounds, OneBorderSideEach, FansCloseInside}
+use Rattle.pm_twins.specs.Laws.{NoTwoFacesAlike}
 
 pub sides_are_corners : SidesAreCorners
 sides_are_corners fs f = (first_side fs f, second_side fs f, third_side fs f)
@@ -17,13 +19,20 @@ pub twins_are_found : TwinsAreFound
 twins_are_found m once e g = (twin-is m e g, twin-one m once e g)
 
 pub twins_are_mutual : TwinsAreMutual
-twins_are_mutual m once e g t is = (twin_back m once e g t is, other_face m e g t (twin-is m e g is))
+twins_are_mutual m once e g t is =
+    (twin_back m once e g t is, other_face m e g t (twin-is m e g is))
 
 pub pairs_are_distinct : PairsAreDistinct
-pairs_are_distinct m once v x y z = ((λ f g. (one_second m once f g, one_side m once f g)), (λ f g. (one_first m once f g, one_side_in m once f g)))
+pairs_are_distinct m once v x y z = (
+  (λ f g. (one_second m once f g, one_side m once f g)),
+  (λ f g. (one_first m once f g, one_side_in m once f g)),
+)
 
 pub fans_are_rounds : FansAreRounds
-fans_are_rounds m once v = ((λ fan. (fans.fan_round m v fan, fans.fan_no_mirror m v fan)), (λ h. fans.round_fan m once v h.1 h.0))
+fans_are_rounds m once v = (
+  (λ fan. (fans.fan_round m v fan, fans.fan_no_mirror m v fan)),
+  (λ h. fans.round_fan m once v h.1 h.0),
+)
 
 pub one_border_side_each : OneBorderSideEach
 one_border_side_each m manifold e g be bg = (

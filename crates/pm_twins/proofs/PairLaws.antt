@@ -1,5 +1,7 @@
 -- The sides that arrive at one vertex are paired one by one, and in the end all are.
-use Rattle.std.proofs.Common.{◌≡◌, ◌≢◌, ℕ, ◌+◌, ◌-◌, ◌<◌, ◌≤◌, eqb, true, Option, Some, None, List, [], ◌∷◌, length, slice_index_or, ◌⊎◌, inl, inr, sym, ap, ◌∙◌, subst, arith}
+use Rattle.std.proofs.Common.{◌≡◌, ◌≢◌, ℕ, ◌+◌, ◌-◌, ◌<◌, ◌≤◌, eqb, true, Option, Some, None, List}
+use Rattle.std.proofs.Common.{[], ◌∷◌, length, slice_index_or, ◌⊎◌, inl, inr, sym, ap, ◌∙◌, subst}
+use Rattle.std.proofs.Common.{arith}
 use Rattle.std.proofs.Math.ListN.{set}
 use Rattle.std.proofs.lemmas.Bool.{cases_eq, eqb-true, or_cases, false≢true}
 use Rattle.std.proofs.lemmas.List.{get_or-set_same, get_or-set_other, length-set}
@@ -19,22 +21,33 @@ use Rattle.pm_twins.proofs.Whole.{to_within}
 use Rattle.pm_twins.proofs.RowLaws.{row_next, row_ends}
 
 -- Where all sides that leave v are stamped, a look at the stamps finds the one that runs to q.
-found : (m : Net) (v q : ℕ) (stamps : List Stamp) (r : Option Side) → AreAllStamped m v stamps → r ≡ stamped stamps v q → IsSideBetween m v q (option_map (λ s. s.0) r)
-found m v q stamps r all is = subst (λ (r : Option Side). IsSideBetween m v q (option_map (λ s. s.0) r)) (sym is) (all q)
+found : (m : Net) (v q : ℕ) (stamps : List Stamp) (r : Option Side) → AreAllStamped m v stamps
+    → r ≡ stamped stamps v q → IsSideBetween m v q (option_map (λ s. s.0) r)
+found m v q stamps r all is =
+    subst (λ (r : Option Side). IsSideBetween m v q (option_map (λ s. s.0) r)) (sym is) (all q)
 
 -- What it finds is one of the mesh's sides.
-pub found-low : (m : Net) (v q most : ℕ) (stamps : List Stamp) (r : Option Side) → AreAllStamped m v stamps → side_count m ≤ most → r ≡ stamped stamps v q → IfSome r (λ s. s.0 < most)
+pub found-low : (m : Net) (v q most : ℕ) (stamps : List Stamp) (r : Option Side)
+    → AreAllStamped m v stamps → side_count m ≤ most → r ≡ stamped stamps v q
+    → IfSome r (λ s. s.0 < most)
 found-low m v q most stamps None all few is = tt
-found-low m v q most stamps (Some s) all few is = let (l, from, ends) = found m v q stamps (Some s) all is in omega (arith, l, few)
+found-low m v q most stamps (Some s) all few is = let (l, from, ends) =
+    found m v q stamps (Some s) all is in omega (arith, l, few)
 
--- Of the sides that leave v these are still to be gone through; the sides before the others are paired.
+-- Of the sides that leave v these are still to be gone through; the sides before the others are
+-- paired.
 pub record IsPairing (m : Net) (v : ℕ) (left : List ℕ) (twins : List (Option ℕ)) : Type 0 where
   pub leave : (e : ℕ) → has left e ≡ true → (e < side_count m) × (m.from e ≡ v)
   pub sides : length twins ≡ side_count m
-  pub passed : (g : ℕ) → g < side_count m → m.from g ≡ v → (has left g ≡ true) ⊎ IsSideBetween m v (m.from (prev g)) (slice_index_or twins (prev g) None)
-  pub before : (e : ℕ) → e < side_count m → to m e < v → IsSideBetween m (to m e) (m.from e) (slice_index_or twins e None)
+  pub passed : (g : ℕ) → g < side_count m → m.from g ≡ v
+      → (has left g ≡ true)
+      ⊎ IsSideBetween m v (m.from (prev g)) (slice_index_or twins (prev g) None)
+  pub before : (e : ℕ) → e < side_count m → to m e < v
+      → IsSideBetween m (to m e) (m.from e) (slice_index_or twins e None)
 
-pub pairing_begins : (m : Net) (n v : ℕ) (starts sides : List ℕ) (twins : List (Option ℕ)) → AreRows m n starts sides → v < n → ArePaired m v twins → IsPairing m v (row_at starts sides v) twins
+pub pairing_begins : (m : Net) (n v : ℕ) (starts sides : List ℕ) (twins : List (Option ℕ))
+    → AreRows m n starts sides → v < n → ArePaired m v twins
+    → IsPairing m v (row_at starts sides v) twins
 pairing_begins m n v starts sides twins rows low paired = record {
   leave = λ e h. (rows.each v e low).0 h;
   sides = paired.sides;
@@ -42,27 +55,35 @@ pairing_begins m n v starts sides twins rows low paired = record {
   before = paired.each;
 }
 
-pub pairing_side : (m : Net) (v i end x : ℕ) (sides : List ℕ) (twins : List (Option ℕ)) → i < end → x ≡ start_at sides i → IsPairing m v (row sides i (end - i)) twins →
+pub pairing_side : (m : Net) (v i end x : ℕ) (sides : List ℕ) (twins : List (Option ℕ)) → i < end
+    → x ≡ start_at sides i → IsPairing m v (row sides i (end - i)) twins →
     IsPairing m v (x ∷ row sides (i + 1) (end - (i + 1))) twins
 pairing_side m v i end x sides twins l is h =
-    subst (λ (left : List ℕ). IsPairing m v left twins) (row_next sides i end l ∙ ap (λ (k : ℕ). k ∷ row sides (i + 1) (end - (i + 1))) (sym is)) h
+    subst (λ (left : List ℕ). IsPairing m v left twins) (row_next sides i end l
+    ∙ ap (λ (k : ℕ). k ∷ row sides (i + 1) (end - (i + 1))) (sym is)) h
 
-pub pairing_ends : (m : Net) (v i end : ℕ) (sides : List ℕ) (twins : List (Option ℕ)) → end ≤ i → IsPairing m v (row sides i (end - i)) twins → IsPairing m v [] twins
-pairing_ends m v i end sides twins l h = subst (λ (left : List ℕ). IsPairing m v left twins) (row_ends sides i end l) h
+pub pairing_ends : (m : Net) (v i end : ℕ) (sides : List ℕ) (twins : List (Option ℕ)) → end ≤ i
+    → IsPairing m v (row sides i (end - i)) twins → IsPairing m v [] twins
+pairing_ends m v i end sides twins l h =
+    subst (λ (left : List ℕ). IsPairing m v left twins) (row_ends sides i end l) h
 
 prev-lt : (m : Net) (e : ℕ) → e < side_count m → prev e < side_count m
 prev-lt m e l = next-lt m.faces (next e) (next-lt m.faces e l)
 
-pub pairing_prev : (m : Net) (v x : ℕ) (left : List ℕ) (twins : List (Option ℕ)) → IsPairing m v (x ∷ left) twins → prev x < side_count m
+pub pairing_prev : (m : Net) (v x : ℕ) (left : List ℕ) (twins : List (Option ℕ))
+    → IsPairing m v (x ∷ left) twins → prev x < side_count m
 pairing_prev m v x left twins i = prev-lt m x (i.leave x (has_head x left)).0
 
 -- One more side is paired.
-module _ (m : Net) (v x p : ℕ) (left : List ℕ) (stamps : List Stamp) (twins : List (Option ℕ)) (r : Option Side) (i : IsPairing m v (x ∷ left) twins) (all : AreAllStamped m v stamps) (is : p ≡ prev x) (looked : r ≡ stamped stamps v (m.from p)) where
+module _ (m : Net) (v x p : ℕ) (left : List ℕ) (stamps : List Stamp) (twins : List (Option ℕ))
+    (r : Option Side) (i : IsPairing m v (x ∷ left) twins) (all : AreAllStamped m v stamps)
+    (is : p ≡ prev x) (looked : r ≡ stamped stamps v (m.from p)) where
   here_x : (x < side_count m) × (m.from x ≡ v)
   here_x = i.leave x (has_head x left)
 
   p_low : p < length twins
-  p_low = subst (λ (n : ℕ). p < n) (sym i.sides) (subst (λ (k : ℕ). k < side_count m) (sym is) (prev-lt m x here_x.0))
+  p_low = subst (λ (n : ℕ). p < n) (sym i.sides)
+      (subst (λ (k : ℕ). k < side_count m) (sym is) (prev-lt m x here_x.0))
 
   p_ends : to m p ≡ v
   p_ends = ap (to m) is ∙ ap m.from (next-next-next x) ∙ here_x.1
@@ -71,9 +92,11 @@ module _ (m : Net) (v x p : ℕ) (left : List ℕ) (stamps : List Stamp) (twins 
   twin = option_map (λ s. s.0) r
 
   at_p : IsSideBetween m v (m.from p) (slice_index_or (set twins p twin) p None)
-  at_p = subst (IsSideBetween m v (m.from p)) (sym (get_or-set_same twins p twin None p_low)) (found m v (m.from p) stamps r all looked)
+  at_p = subst (IsSideBetween m v (m.from p)) (sym (get_or-set_same twins p twin None p_low))
+      (found m v (m.from p) stamps r all looked)
 
-  other_slot : (u : ℕ) → u ≢ p → slice_index_or twins u None ≡ slice_index_or (set twins p twin) u None
+  other_slot : (u : ℕ) → u ≢ p
+      → slice_index_or twins u None ≡ slice_index_or (set twins p twin) u None
   other_slot u ne = sym (get_or-set_other twins p u twin None ne)
 
   pub pairing_more : IsPairing m v left (set twins p twin)
@@ -83,22 +106,29 @@ module _ (m : Net) (v x p : ℕ) (left : List ℕ) (stamps : List Stamp) (twins 
     passed = λ g l from. elim (i.passed g l from) [
       | inl h ↦
           elim (or_cases (eqb x g) (has left g) h) [
-            | inl t ↦ inr (subst (λ (k : ℕ). IsSideBetween m v (m.from k) (slice_index_or (set twins p twin) k None)) (is ∙ ap prev (eqb-true x g t)) at_p)
+            | inl t ↦ inr
+                (subst (λ (k : ℕ). IsSideBetween m v (m.from k)
+                (slice_index_or (set twins p twin) k None)) (is ∙ ap prev (eqb-true x g t)) at_p)
             | inr t ↦ inl t
           ]
       | inr done ↦
           inr (elim (cases_eq (prev g) p) [
-            | inl same ↦ subst (λ (k : ℕ). IsSideBetween m v (m.from k) (slice_index_or (set twins p twin) k None)) (sym same) at_p
+            | inl same ↦
+                subst (λ (k : ℕ). IsSideBetween m v (m.from k)
+                (slice_index_or (set twins p twin) k None)) (sym same) at_p
             | inr ne ↦ subst (IsSideBetween m v (m.from (prev g))) (other_slot (prev g) ne) done
           ])
     ];
     before = λ e l low.
-        let ne : e ≢ p = λ same. absurd (let ends : to m e ≡ v = ap (to m) same ∙ p_ends in omega (arith, ends, low)) in
+        let ne : e ≢ p =
+        λ same. absurd (let ends : to m e ≡ v = ap (to m) same ∙ p_ends in
+        omega (arith, ends, low)) in
         subst (IsSideBetween m (to m e) (m.from e)) (other_slot e ne) (i.before e l low);
   }
 
 -- All that arrive are paired.
-pub paired_more : (m : Net) (v : ℕ) (twins : List (Option ℕ)) → IsPairing m v [] twins → ArePaired m (v + 1) twins
+pub paired_more : (m : Net) (v : ℕ) (twins : List (Option ℕ)) → IsPairing m v [] twins
+    → ArePaired m (v + 1) twins
 paired_more m v twins i = record {
   sides = i.sides;
   each = λ e l low. elim (cases_eq (to m e) v) [
@@ -107,14 +137,17 @@ paired_more m v twins i = record {
         elim (i.passed (next e) (next-lt m.faces e l) ends) [
           | inl h ↦ absurd (false≢true h)
           | inr done ↦
-              subst (λ (v : ℕ). IsSideBetween m v (m.from e) (slice_index_or twins e None)) (sym ends)
-              (subst (λ (k : ℕ). IsSideBetween m v (m.from k) (slice_index_or twins k None)) (next-next-next e) done)
+              subst (λ (v : ℕ). IsSideBetween m v (m.from e) (slice_index_or twins e None))
+              (sym ends)
+              (subst (λ (k : ℕ). IsSideBetween m v (m.from k) (slice_index_or twins k None))
+              (next-next-next e) done)
         ]
   ];
 }
 
 -- Where no side stands twice, the side that runs back is the twin.
-between_twin : (m : Net) (vertices : ℕ) → IsWhole m vertices → NoSideTwice m → (e : ℕ) → (r : Option ℕ) → IsSideBetween m (to m e) (m.from e) r → r ≡ twin_of m e
+between_twin : (m : Net) (vertices : ℕ) → IsWhole m vertices → NoSideTwice m → (e : ℕ)
+    → (r : Option ℕ) → IsSideBetween m (to m e) (m.from e) r → r ≡ twin_of m e
 between_twin m vertices whole once e None none =
     elim (option_cases (twin_of m e)) [
       | inl same ↦ sym same
@@ -123,8 +156,10 @@ between_twin m vertices whole once e None none =
 between_twin m vertices whole once e (Some g) (l, from, ends) =
     sym (twin-one m once e g (record { stands = whole.stands g l; begins = from; ends = ends }))
 
-pub paired_all : (m : Net) (vertices : ℕ) (twins : List (Option ℕ)) → IsWhole m vertices → NoSideTwice m → ArePaired m vertices twins → AreTwinsOf m twins
+pub paired_all : (m : Net) (vertices : ℕ) (twins : List (Option ℕ)) → IsWhole m vertices
+    → NoSideTwice m → ArePaired m vertices twins → AreTwinsOf m twins
 paired_all m vertices twins whole once paired = record {
   sides = paired.sides;
-  each = λ e l. between_twin m vertices whole once e (slice_index_or twins e None) (paired.each e l (to_within m vertices whole e l));
+  each = λ e l. between_twin m vertices whole once e (slice_index_or twins e None)
+      (paired.each e l (to_within m vertices whole e l));
 }

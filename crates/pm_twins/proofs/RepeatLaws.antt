@@ -15,7 +15,11 @@ module _ (m : Net) (vertices : ℕ) (whole : IsWhole m vertices) where
       let t = whole.stands e l in
       elim (face_cases e g f) [
         | inl same ↦ ne (sym same)
-        | inr h ↦ elim h [ inl at ↦ t.first (is ∙ ap m.from at) | inr at ↦ t.last (sym (is ∙ ap m.from at)) ]
+        | inr h ↦ elim h [
+          | inl at ↦ t.first (is ∙ ap m.from at)
+          | inr at ↦
+              t.last (sym (is ∙ ap m.from at))
+        ]
       ]
 
   pub none_twice : IsLeastRepeat m vertices None → NoSideTwice m
@@ -25,22 +29,34 @@ module _ (m : Net) (vertices : ℕ) (whole : IsWhole m vertices) where
         | inr ne ↦
             absurd (elim (cases_lt e g) [
               | inl l ↦ none.least g tg.is_side (whole.within g tg.is_side) (e, l, from, ends)
-              | inr l ↦ none.least e te.is_side (whole.within e te.is_side) (g, omega (arith, l, ne), sym from, sym ends)
+              | inr l ↦ none.least e te.is_side (whole.within e te.is_side)
+                  (g, omega (arith, l, ne), sym from, sym ends)
             ])
       ]
 
-  pub first_repeating : (g : Side) → IsLeastRepeat m vertices (Some g) → IsFirstRepeating m (face_of g.0)
+  pub first_repeating : (g : Side) → IsLeastRepeat m vertices (Some g)
+      → IsFirstRepeating m (face_of g.0)
   first_repeating g least =
       let (l, (earlier, before, from, ends)) = least.is_one in
-      let apart : face_of earlier ≢ face_of g.0 = λ same. one_face earlier g.0 (omega (arith, before, l)) same (λ k. absurd (omega (arith, k, before))) from in
+      let apart : face_of earlier ≢ face_of g.0 =
+      λ same. one_face earlier g.0 (omega (arith, before, l)) same
+      (λ k. absurd (omega (arith, k, before))) from in
       record {
         in_range = omega (arith, l);
-        repeats = record { side = g.0; earlier = earlier; of_face = refl; before = omega (arith, before, apart); from = from; to = ends };
+        repeats = record {
+          side = g.0;
+          earlier = earlier;
+          of_face = refl;
+          before = omega (arith, before, apart);
+          from = from;
+          to = ends;
+        };
         least = λ h low r.
             let of_face = r.of_face in
             let first = r.before in
             let less : r.side < g.0 = omega (arith, of_face, low) in
             let in_range : r.side < side_count m = omega (arith, less, l) in
-            let up_to = least.least r.side in_range (whole.within r.side in_range) (r.earlier, omega (arith, first, of_face), r.from, r.to) in
+            let up_to = least.least r.side in_range (whole.within r.side in_range)
+            (r.earlier, omega (arith, first, of_face), r.from, r.to) in
             omega (arith, up_to, less);
       }

@@ -1,8 +1,11 @@
 -- The sides that leave one vertex are stamped one by one.
-use Rattle.std.proofs.Common.{◌≡◌, ◌≢◌, ℕ, ◌+◌, ◌-◌, ◌<◌, ◌≤◌, eqb, min, max, true, false, Option, Some, None, List, [], ◌∷◌, length, slice_index_or, ◌⊎◌, inl, inr, refl, sym, ap, ◌∙◌, subst, arith}
+use Rattle.std.proofs.Common.{◌≡◌, ◌≢◌, ℕ, ◌+◌, ◌-◌, ◌<◌, ◌≤◌, eqb, min, max, true, false, Option}
+use Rattle.std.proofs.Common.{Some, None, List, [], ◌∷◌, length, slice_index_or, ◌⊎◌, inl, inr}
+use Rattle.std.proofs.Common.{refl, sym, ap, ◌∙◌, subst, arith}
 use Rattle.std.specs.Option.{IfSome, option_map}
 use Rattle.std.proofs.Math.ListN.{set}
-use Rattle.std.proofs.lemmas.Bool.{cases_eq, cases_lt, cond-true, cond-false, eqb-true, eq-eqb, ne_eqb, or_cases, or_parts, false≢true}
+use Rattle.std.proofs.lemmas.Bool.{cases_eq, cases_lt, cond-true, cond-false, eqb-true, eq-eqb}
+use Rattle.std.proofs.lemmas.Bool.{ne_eqb, or_cases, or_parts, false≢true}
 use Rattle.std.proofs.lemmas.List.{get_or-set_same, get_or-set_other}
 use Rattle.std.proofs.lemmas.Option.{none-some, same_Some}
 use Rattle.pm_base.specs.declared.ids.Side.{Side}
@@ -13,7 +16,9 @@ use Rattle.pm_twins.specs.declared.stamps.Stamp.{Stamp}
 use Rattle.pm_twins.specs.declared.stamps.TheConstants.{NOWHERE}
 use Rattle.pm_twins.specs.SideRows.{row, start_at, row_at, AreRows}
 use Rattle.pm_twins.proofs.RowLaws.{row_next, row_ends}
-use Rattle.pm_twins.specs.Stamping.{no_stamp, side_from, stamped, in_order, lesser_of, NoneStampedFrom, IsSideBetween, AreAllStamped, IsRepeat, IsUpTo, IsLeastRepeat}
+use Rattle.pm_twins.specs.Stamping.{no_stamp, side_from, stamped, in_order, lesser_of}
+use Rattle.pm_twins.specs.Stamping.{NoneStampedFrom, IsSideBetween, AreAllStamped, IsRepeat, IsUpTo}
+use Rattle.pm_twins.specs.Stamping.{IsLeastRepeat}
 
 -- The lesser of two sides.
 up_to_first : (a b : Option Side) (e : ℕ) → IsUpTo a e → IsUpTo (lesser_of a b) e
@@ -26,7 +31,8 @@ up_to_second None b e l = l
 up_to_second (Some a) None e l = absurd l
 up_to_second (Some a) (Some b) e l = omega (arith, l)
 
-lesser-either : (P : ℕ → Type 0) (a b : Option Side) → IfSome a (λ g. P g.0) → IfSome b (λ g. P g.0) → IfSome (lesser_of a b) (λ g. P g.0)
+lesser-either : (P : ℕ → Type 0) (a b : Option Side) → IfSome a (λ g. P g.0) → IfSome b (λ g. P g.0)
+    → IfSome (lesser_of a b) (λ g. P g.0)
 lesser-either P None b p q = q
 lesser-either P (Some a) None p q = p
 lesser-either P (Some a) (Some b) p q =
@@ -48,33 +54,43 @@ module _ (stamps : List Stamp) (v w : ℕ) (f : Side) (low : w < length stamps) 
 
   -- It hides what another vertex stamped there.
   hidden_slot : (u : ℕ) → v ≢ u → stamped with_stamp u w ≡ None
-  hidden_slot u ne = ap (side_from u) same_stamp ∙ cond-false (eqb v u) (Some f) None (ne_eqb v u ne)
+  hidden_slot u ne =
+      ap (side_from u) same_stamp ∙ cond-false (eqb v u) (Some f) None (ne_eqb v u ne)
 
   other_slot : (u x : ℕ) → x ≢ w → stamped with_stamp u x ≡ stamped stamps u x
-  other_slot u x ne = ap (side_from u) (get_or-set_other stamps w x (record { side = f; origin = v }) no_stamp ne)
+  other_slot u x ne =
+      ap (side_from u) (get_or-set_other stamps w x (record { side = f; origin = v }) no_stamp ne)
 
   none_later : (n : ℕ) → v < n → NoneStampedFrom n stamps → NoneStampedFrom n with_stamp
   none_later n lt none u x le past =
       elim (cases_eq x w) [
-        | inl same ↦ ap (stamped with_stamp u) same ∙ hidden_slot u (λ is. absurd (omega (arith, is, lt, le)))
+        | inl same ↦ ap (stamped with_stamp u) same
+            ∙ hidden_slot u (λ is. absurd (omega (arith, is, lt, le)))
         | inr ne ↦ other_slot u x ne ∙ none u x le past
       ]
 
--- For side e from v a side with the same vertices is stamped that isn't later, and that is e itself unless a repeat up to e is known.
+-- For side e from v a side with the same vertices is stamped that isn't later, and that is e itself
+-- unless a repeat up to e is known.
 abbrev pub IsStamped : Net → ℕ → List Stamp → Option Side → ℕ → Type 0
-IsStamped m v stamps least e = (s : Side) × (stamped stamps v (to m e) ≡ Some s) × (s.0 ≤ e) × ((s.0 ≡ e) ⊎ IsUpTo least e)
+IsStamped m v stamps least e =
+    (s : Side) × (stamped stamps v (to m e) ≡ Some s) × (s.0 ≤ e) × ((s.0 ≡ e) ⊎ IsUpTo least e)
 
 -- Of the sides that leave v these are still to be stamped.
-pub record IsStamping (m : Net) (v : ℕ) (left : List ℕ) (stamps : List Stamp) (least : Option Side) : Type 0 where
+pub record IsStamping (m : Net) (v : ℕ) (left : List ℕ) (stamps : List Stamp)
+    (least : Option Side) : Type 0 where
   pub once : IsOnce left
   pub leave : (e : ℕ) → has left e ≡ true → (e < side_count m) × (m.from e ≡ v)
-  pub each : (w : ℕ) (s : Side) → stamped stamps v w ≡ Some s → (s.0 < side_count m) × (m.from s.0 ≡ v) × (to m s.0 ≡ w) × (has left s.0 ≡ false)
+  pub each : (w : ℕ) (s : Side) → stamped stamps v w ≡ Some s
+      → (s.0 < side_count m) × (m.from s.0 ≡ v) × (to m s.0 ≡ w) × (has left s.0 ≡ false)
   pub none : NoneStampedFrom (v + 1) stamps
-  pub passed : (e : ℕ) → e < side_count m → m.from e ≡ v → (has left e ≡ true) ⊎ IsStamped m v stamps least e
+  pub passed : (e : ℕ) → e < side_count m → m.from e ≡ v
+      → (has left e ≡ true) ⊎ IsStamped m v stamps least e
   pub is_one : IfSome least (λ g. (g.0 < side_count m) × IsRepeat m g.0)
   pub below : (e : ℕ) → e < side_count m → m.from e < v → IsRepeat m e → IsUpTo least e
 
-pub stamping_begins : (m : Net) (n v : ℕ) (starts sides : List ℕ) (stamps : List Stamp) (least : Option Side) → AreRows m n starts sides → v < n → v < NOWHERE → NoneStampedFrom v stamps → IsLeastRepeat m v least →
+pub stamping_begins : (m : Net) (n v : ℕ) (starts sides : List ℕ) (stamps : List Stamp)
+    (least : Option Side) → AreRows m n starts sides → v < n → v < NOWHERE
+    → NoneStampedFrom v stamps → IsLeastRepeat m v least →
     IsStamping m v (row_at starts sides v) stamps least
 stamping_begins m n v starts sides stamps least rows low past none r = record {
   once = rows.once v low;
@@ -87,27 +103,36 @@ stamping_begins m n v starts sides stamps least rows low past none r = record {
 }
 
 -- The next side of the row.
-pub stamping_side : (m : Net) (v i end x : ℕ) (sides : List ℕ) (stamps : List Stamp) (least : Option Side) → i < end → x ≡ start_at sides i → IsStamping m v (row sides i (end - i)) stamps least →
+pub stamping_side : (m : Net) (v i end x : ℕ) (sides : List ℕ) (stamps : List Stamp)
+    (least : Option Side) → i < end → x ≡ start_at sides i
+    → IsStamping m v (row sides i (end - i)) stamps least →
     IsStamping m v (x ∷ row sides (i + 1) (end - (i + 1))) stamps least
 stamping_side m v i end x sides stamps least l is h =
-    subst (λ (left : List ℕ). IsStamping m v left stamps least) (row_next sides i end l ∙ ap (λ (k : ℕ). k ∷ row sides (i + 1) (end - (i + 1))) (sym is)) h
+    subst (λ (left : List ℕ). IsStamping m v left stamps least) (row_next sides i end l
+    ∙ ap (λ (k : ℕ). k ∷ row sides (i + 1) (end - (i + 1))) (sym is)) h
 
-pub stamping_ends : (m : Net) (v i end : ℕ) (sides : List ℕ) (stamps : List Stamp) (least : Option Side) → end ≤ i → IsStamping m v (row sides i (end - i)) stamps least → IsStamping m v [] stamps least
-stamping_ends m v i end sides stamps least l h = subst (λ (left : List ℕ). IsStamping m v left stamps least) (row_ends sides i end l) h
+pub stamping_ends : (m : Net) (v i end : ℕ) (sides : List ℕ) (stamps : List Stamp)
+    (least : Option Side) → end ≤ i → IsStamping m v (row sides i (end - i)) stamps least
+    → IsStamping m v [] stamps least
+stamping_ends m v i end sides stamps least l h =
+    subst (λ (left : List ℕ). IsStamping m v left stamps least) (row_ends sides i end l) h
 
 -- What stamping side f for side x at vertex w brings, with another least repeat.
-record Adds (m : Net) (v : ℕ) (x : Side) (w : ℕ) (f : Side) (left : List ℕ) (stamps : List Stamp) (least next : Option Side) : Type 0 where
+record Adds (m : Net) (v : ℕ) (x : Side) (w : ℕ) (f : Side) (left : List ℕ) (stamps : List Stamp)
+    (least next : Option Side) : Type 0 where
   is_side : f.0 < side_count m
   leaves : m.from f.0 ≡ v
   ends : to m f.0 ≡ w
   gone : has left f.0 ≡ false
   first : f.0 ≤ x.0
   itself : (f.0 ≡ x.0) ⊎ IsUpTo next x.0
-  others : (e : ℕ) (s : Side) → stamped stamps v w ≡ Some s → s.0 ≤ e → (s.0 ≡ e) ⊎ IsUpTo least e → (f.0 ≤ e) × ((f.0 ≡ e) ⊎ IsUpTo next e)
+  others : (e : ℕ) (s : Side) → stamped stamps v w ≡ Some s → s.0 ≤ e → (s.0 ≡ e) ⊎ IsUpTo least e
+      → (f.0 ≤ e) × ((f.0 ≡ e) ⊎ IsUpTo next e)
   keeps : (e : ℕ) → IsUpTo least e → IsUpTo next e
   is_one : IfSome next (λ g. (g.0 < side_count m) × IsRepeat m g.0)
 
-module _ (m : Net) (v : ℕ) (x : Side) (w : ℕ) (left : List ℕ) (stamps : List Stamp) (least : Option Side) (i : IsStamping m v (x.0 ∷ left) stamps least) (at : w ≡ to m x.0) where
+module _ (m : Net) (v : ℕ) (x : Side) (w : ℕ) (left : List ℕ) (stamps : List Stamp)
+    (least : Option Side) (i : IsStamping m v (x.0 ∷ left) stamps least) (at : w ≡ to m x.0) where
   here_x : (x.0 < side_count m) × (m.from x.0 ≡ v)
   here_x = i.leave x.0 (has_head x.0 left)
 
@@ -126,7 +151,8 @@ module _ (m : Net) (v : ℕ) (x : Side) (w : ℕ) (left : List ℕ) (stamps : Li
   }
 
   module _ (s : Side) (is : stamped stamps v w ≡ Some s) where
-    there : (s.0 < side_count m) × (m.from s.0 ≡ v) × (to m s.0 ≡ w) × (has (x.0 ∷ left) s.0 ≡ false)
+    there : (s.0 < side_count m) × (m.from s.0 ≡ v) × (to m s.0 ≡ w)
+        × (has (x.0 ∷ left) s.0 ≡ false)
     there = i.each w s is
 
     -- An earlier one is.
@@ -141,18 +167,29 @@ module _ (m : Net) (v : ℕ) (x : Side) (w : ℕ) (left : List ℕ) (stamps : Li
           first = omega (arith, lt);
           itself = inr (up_to_second least (Some x) x.0 (omega arith));
           others = λ e q here le way.
-              let same : q.0 ≡ s.0 = ap (λ (k : Side). k.0) (same_Some q s (sym here ∙ is)) in
-              (omega (arith, same, le), elim way [ inl z ↦ inl (sym same ∙ z) | inr z ↦ inr (up_to_first least (Some x) e z) ]);
+              let same : q.0 ≡ s.0 = ap (λ (k : Side). k.0) (same_Some q s (sym here ∙ is)) in (
+                omega (arith, same, le),
+                elim way [
+                  | inl z ↦ inl (sym same ∙ z)
+                  | inr z ↦
+                      inr (up_to_first least (Some x) e z)
+                ],
+              );
           keeps = λ e k. up_to_first least (Some x) e k;
-          is_one = lesser-either (λ g. (g < side_count m) × IsRepeat m g) least (Some x) i.is_one (here_x.0, (s.0, lt, from ∙ sym here_x.1, ends ∙ at));
+          is_one = lesser-either (λ g. (g < side_count m) × IsRepeat m g) least (Some x) i.is_one
+              (here_x.0, (s.0, lt, from ∙ sym here_x.1, ends ∙ at));
         }
 
     -- A later one is.
     adds_before : x.0 ≤ s.0 → Adds m v x w x left stamps least (lesser_of least (Some s))
     adds_before le =
         let (l, from, ends, out) = there in
-        let ne : s.0 ≢ x.0 = λ same. false≢true (sym out ∙ subst (λ (k : ℕ). has (x.0 ∷ left) k ≡ true) (sym same) (has_head x.0 left)) in
-        let lt : x.0 < s.0 = elim (cases_lt x.0 s.0) [ inl h ↦ h | inr h ↦ absurd (ne (omega (arith, h, le))) ] in
+        let ne : s.0 ≢ x.0 =
+        λ same. false≢true
+        (sym out ∙ subst (λ (k : ℕ). has (x.0 ∷ left) k ≡ true) (sym same) (has_head x.0 left))
+        in
+        let lt : x.0 < s.0 =
+        elim (cases_lt x.0 s.0) [ inl h ↦ h | inr h ↦ absurd (ne (omega (arith, h, le))) ] in
         record {
           is_side = here_x.0;
           leaves = here_x.1;
@@ -161,13 +198,18 @@ module _ (m : Net) (v : ℕ) (x : Side) (w : ℕ) (left : List ℕ) (stamps : Li
           first = omega arith;
           itself = inl refl;
           others = λ e q here q_le way.
-              let same : q.0 ≡ s.0 = ap (λ (k : Side). k.0) (same_Some q s (sym here ∙ is)) in
-              (omega (arith, same, q_le, le), inr (up_to_second least (Some s) e (omega (arith, same, q_le))));
+              let same : q.0 ≡ s.0 = ap (λ (k : Side). k.0) (same_Some q s (sym here ∙ is)) in (
+                omega (arith, same, q_le, le),
+                inr (up_to_second least (Some s) e (omega (arith, same, q_le))),
+              );
           keeps = λ e k. up_to_first least (Some s) e k;
-          is_one = lesser-either (λ g. (g < side_count m) × IsRepeat m g) least (Some s) i.is_one (l, (x.0, lt, here_x.1 ∙ sym from, sym (ends ∙ at)));
+          is_one = lesser-either (λ g. (g < side_count m) × IsRepeat m g) least (Some s) i.is_one
+              (l, (x.0, lt, here_x.1 ∙ sym from, sym (ends ∙ at)));
         }
 
-  adds : (known : Option Side) → known ≡ stamped stamps v w → Adds m v x w (in_order known x).first left stamps least (lesser_of least (in_order known x).later)
+  adds : (known : Option Side) → known ≡ stamped stamps v w
+      → Adds m v x w (in_order known x).first left stamps least
+      (lesser_of least (in_order known x).later)
   adds None is = adds_alone (sym is)
   adds (Some s) is =
       elim (cases_lt s.0 x.0) [
@@ -181,7 +223,8 @@ module _ (m : Net) (v : ℕ) (x : Side) (w : ℕ) (left : List ℕ) (stamps : Li
             rw (least_is, most_is) (adds_before s (sym is) ge)
       ]
 
-  module _ (f : Side) (next : Option Side) (low : w < length stamps) (a : Adds m v x w f left stamps least next) where
+  module _ (f : Side) (next : Option Side) (low : w < length stamps)
+      (a : Adds m v x w f left stamps least next) where
     abbrev now : List Stamp
     now = with_stamp stamps v w f low
 
@@ -194,8 +237,16 @@ module _ (m : Net) (v : ℕ) (x : Side) (w : ℕ) (left : List ℕ) (stamps : Li
     stamped_still : (e : ℕ) → IsStamped m v stamps least e → IsStamped m v now next e
     stamped_still e (s, is, le, way) =
         elim (cases_eq (to m e) w) [
-          | inl same ↦ (let (first, more) = a.others e s (ap (stamped stamps v) (sym same) ∙ is) le way in (f, ap (stamped now v) same ∙ f_there, first, more))
-          | inr ne ↦ (s, other_slot stamps v w f low v (to m e) ne ∙ is, le, elim way [ inl z ↦ inl z | inr z ↦ inr (a.keeps e z) ])
+          | inl same ↦
+              (let (first, more) = a.others e s (ap (stamped stamps v) (sym same) ∙ is) le way in
+              (f, ap (stamped now v) same ∙ f_there, first, more))
+          | inr ne ↦ (
+            s,
+            other_slot stamps v w f low v (to m e) ne
+                ∙ is,
+            le,
+            elim way [ inl z ↦ inl z | inr z ↦ inr (a.keeps e z) ],
+          )
         ]
 
     stamping_adds : IsStamping m v left now next
@@ -205,9 +256,12 @@ module _ (m : Net) (v : ℕ) (x : Side) (w : ℕ) (left : List ℕ) (stamps : Li
       each = λ u s is. elim (cases_eq u w) [
         | inl same ↦
             let is_f : f ≡ s = same_Some f s (sym f_there ∙ ap (stamped now v) (sym same) ∙ is) in
-            subst (λ (k : Side). (k.0 < side_count m) × (m.from k.0 ≡ v) × (to m k.0 ≡ u) × (has left k.0 ≡ false)) is_f
+            subst (λ (k : Side). (k.0 < side_count m) × (m.from k.0 ≡ v) × (to m k.0 ≡ u)
+            × (has left k.0 ≡ false)) is_f
             (a.is_side, a.leaves, a.ends ∙ sym same, a.gone)
-        | inr ne ↦ (let (l, from, ends, out) = i.each u s (sym (other_slot stamps v w f low v u ne) ∙ is) in (l, from, ends, (or_parts (eqb x.0 s.0) (has left s.0) out).1))
+        | inr ne ↦ (let (l, from, ends, out) =
+            i.each u s (sym (other_slot stamps v w f low v u ne) ∙ is) in
+            (l, from, ends, (or_parts (eqb x.0 s.0) (has left s.0) out).1))
       ];
       none = none_later stamps v w f low (v + 1) (omega arith) i.none;
       passed = λ e l from. elim (i.passed e l from) [
@@ -223,17 +277,24 @@ module _ (m : Net) (v : ℕ) (x : Side) (w : ℕ) (left : List ℕ) (stamps : Li
     }
 
 -- One more side is stamped.
-pub stamping_more : (m : Net) (v : ℕ) (x : Side) (w : ℕ) (left : List ℕ) (stamps : List Stamp) (least known : Option Side) → IsStamping m v (x.0 ∷ left) stamps least → w ≡ to m x.0 → w < length stamps → known ≡ stamped stamps v w →
-    IsStamping m v left (set stamps w (record { side = (in_order known x).first; origin = v })) (lesser_of least (in_order known x).later)
+pub stamping_more : (m : Net) (v : ℕ) (x : Side) (w : ℕ) (left : List ℕ) (stamps : List Stamp)
+    (least known : Option Side) → IsStamping m v (x.0 ∷ left) stamps least → w ≡ to m x.0
+    → w < length stamps → known ≡ stamped stamps v w →
+    IsStamping m v left (set stamps w (record { side = (in_order known x).first; origin = v }))
+    (lesser_of least (in_order known x).later)
 stamping_more m v x w left stamps least known i at low is =
-    stamping_adds m v x w left stamps least i at (in_order known x).first (lesser_of least (in_order known x).later) low (adds m v x w left stamps least i at known is)
+    stamping_adds m v x w left stamps least i at (in_order known x).first
+    (lesser_of least (in_order known x).later) low
+    (adds m v x w left stamps least i at known is)
 
 -- All are stamped.
-module _ (m : Net) (v : ℕ) (stamps : List Stamp) (least : Option Side) (i : IsStamping m v [] stamps least) where
+module _ (m : Net) (v : ℕ) (stamps : List Stamp) (least : Option Side)
+    (i : IsStamping m v [] stamps least) where
   all_passed : (e : ℕ) → e < side_count m → m.from e ≡ v → IsStamped m v stamps least e
   all_passed e l from = elim (i.passed e l from) [ inl h ↦ absurd (false≢true h) | inr done ↦ done ]
 
-  side_between : (w : ℕ) (r : Option Side) → stamped stamps v w ≡ r → IsSideBetween m v w (option_map (λ s. s.0) r)
+  side_between : (w : ℕ) (r : Option Side) → stamped stamps v w ≡ r
+      → IsSideBetween m v w (option_map (λ s. s.0) r)
   side_between w None is = λ e l from ends.
       let (s, there, le, way) = all_passed e l from in
       none-some s (sym is ∙ ap (stamped stamps v) (sym ends) ∙ there)
@@ -251,7 +312,8 @@ module _ (m : Net) (v : ℕ) (stamps : List Stamp) (least : Option Side) (i : Is
           let (g, lt, gf, gt) = r in
           let (s, is, le, way) = all_passed e l from in
           let (q, q_is, q_le, q_way) = all_passed g (omega (arith, lt, l)) (gf ∙ from) in
-          let same : q.0 ≡ s.0 = ap (λ (k : Side). k.0) (same_Some q s (sym q_is ∙ ap (stamped stamps v) gt ∙ is)) in
+          let same : q.0 ≡ s.0 =
+          ap (λ (k : Side). k.0) (same_Some q s (sym q_is ∙ ap (stamped stamps v) gt ∙ is)) in
           elim way [ inl z ↦ absurd (omega (arith, z, same, q_le, lt)) | inr z ↦ z ]
     ];
   }

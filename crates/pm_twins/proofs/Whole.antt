@@ -13,14 +13,27 @@ pub mesh_whole : (m : Mesh) → IsWellFormed m → IsWhole (net_of m.faces) (len
 mesh_whole m formed =
     let points = formed.points in
     let faces = formed.faces in
-    record { short = omega arith; few = omega arith; stands = λ e l. (mesh_side m formed e l).0; within = λ e l. (mesh_side m formed e l).1 }
+    record {
+      short = omega arith;
+      few = omega arith;
+      stands = λ e l. (mesh_side m formed e l).0;
+      within = λ e l. (mesh_side m formed e l).1;
+    }
 
 pub to_within : (m : Net) (n : ℕ) → IsWhole m n → (e : ℕ) → e < side_count m → to m e < n
 to_within m n whole e l = whole.within _ (next-lt m.faces e l)
 
 -- Lists that are those of a well-formed mesh and of its twins can be walked.
-pub mesh_walkable : (m : Mesh) (fs : List Corners) (twins table : List (Option ℕ)) → IsWellFormed m → NoSideTwice (net_of m.faces) → AreTwinsOf (net_of m.faces) twins → fs ≡ m.faces → table ≡ twins → IsWalkable (net_of fs) table
+pub mesh_walkable : (m : Mesh) (fs : List Corners) (twins table : List (Option ℕ)) → IsWellFormed m
+    → NoSideTwice (net_of m.faces) → AreTwinsOf (net_of m.faces) twins → fs ≡ m.faces
+    → table ≡ twins → IsWalkable (net_of fs) table
 mesh_walkable m fs twins table formed once are is same =
     let short = formed.faces in
-    let walkable : IsWalkable (net_of m.faces) twins = record { short = omega arith; stands = λ e l. (mesh_side m formed e l).0; once = once; twins = are } in
-    subst (λ (gs : List Corners). IsWalkable (net_of gs) table) (sym is) (subst (λ (t : List (Option ℕ)). IsWalkable (net_of m.faces) t) (sym same) walkable)
+    let walkable : IsWalkable (net_of m.faces) twins = record {
+      short = omega arith;
+      stands = λ e l. (mesh_side m formed e l).0;
+      once = once;
+      twins = are;
+    } in
+    subst (λ (gs : List Corners). IsWalkable (net_of gs) table) (sym is)
+    (subst (λ (t : List (Option ℕ)). IsWalkable (net_of m.faces) t) (sym same) walkable)

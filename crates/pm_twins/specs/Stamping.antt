@@ -1,5 +1,7 @@
--- Stamps: at some vertices a side that runs there. They are good for the sides that leave one vertex at a time.
-use Rattle.std.specs.Prelude.{◌≡◌, ℕ, ◌<◌, ◌≤◌, ◌==◌, cond, min, max, Option, None, Some, List, length, slice_index_or}
+-- Stamps: at some vertices a side that runs there. They are good for the sides that leave one
+-- vertex at a time.
+use Rattle.std.specs.Prelude.{◌≡◌, ℕ, ◌<◌, ◌≤◌, ◌==◌, cond, min, max, Option, None, Some, List}
+use Rattle.std.specs.Prelude.{length, slice_index_or}
 use Rattle.std.specs.Option.{IfSome, option_map}
 use Rattle.pm_base.specs.declared.ids.Side.{Side}
 use Rattle.pm_base.specs.Sides.{Net, side_count, to}
@@ -62,9 +64,11 @@ IsSideBetween m p q (Some e) = (e < side_count m) × (m.from e ≡ p) × (to m e
 
 -- At each vertex to which a side runs from vertex v such a side is stamped, and at no other one.
 abbrev pub AreAllStamped : Net → ℕ → List Stamp → Type 0
-AreAllStamped m v stamps = (w : ℕ) → IsSideBetween m v w (option_map (λ s. s.0) (stamped stamps v w))
+AreAllStamped m v stamps =
+    (w : ℕ) → IsSideBetween m v w (option_map (λ s. s.0) (stamped stamps v w))
 
 -- The table has a side that runs back for each that runs to one of the first n vertices.
 pub record ArePaired (m : Net) (n : ℕ) (twins : List (Option ℕ)) : Type 0 where
   pub sides : length twins ≡ side_count m
-  pub each : (e : ℕ) → e < side_count m → to m e < n → IsSideBetween m (to m e) (m.from e) (slice_index_or twins e None)
+  pub each : (e : ℕ) → e < side_count m → to m e < n
+      → IsSideBetween m (to m e) (m.from e) (slice_index_or twins e None)

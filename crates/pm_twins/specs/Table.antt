@@ -1,5 +1,6 @@
 -- The twins of a mesh as contracts see them.
-use Rattle.std.specs.Prelude.{◌≡◌, ℕ, ◌<◌, Bool, true, false, Option, None, List, length, slice_index_or, ◌↔◌}
+use Rattle.std.specs.Prelude.{◌≡◌, ℕ, ◌<◌, Bool, true, false, Option, None, List, length}
+use Rattle.std.specs.Prelude.{slice_index_or, ◌↔◌}
 use Rattle.pm_base.specs.Sides.{Net, side_count, NoSideTwice, twin_of, IsBorder}
 
 -- The twin of each side, and of each vertex whether it is on the border.

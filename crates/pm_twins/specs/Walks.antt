@@ -1,5 +1,6 @@
 -- The walk round a vertex that decides whether its faces are a fan.
-use Rattle.std.specs.Prelude.{◌≡◌, ◌≢◌, ℕ, ◌+◌, ◌<◌, ◌≤◌, ◌==◌, Bool, cond, ◌&&◌, Option, Some, None, List, ◌⊎◌}
+use Rattle.std.specs.Prelude.{◌≡◌, ◌≢◌, ℕ, ◌+◌, ◌<◌, ◌≤◌, ◌==◌, Bool, cond, ◌&&◌, Option, Some}
+use Rattle.std.specs.Prelude.{None, List, ◌⊎◌}
 use Rattle.pm_base.specs.declared.ids.Side.{Side}
 use Rattle.pm_base.specs.declared.limits.TheConstants.{MOST_FACES}
 use Rattle.pm_base.specs.Sides.{Net, side_count, Stands, stands, NoSideTwice, twin_of}
@@ -16,7 +17,8 @@ degree m v = count (begins_at m v) (side_count m)
 
 -- A walk may start at side a: it has no twin, or every side that runs from the same vertex has one.
 abbrev pub IsStart : Net → ℕ → Type 0
-IsStart m a = (twin_of m a ≡ None) ⊎ ((g : ℕ) → g < side_count m → m.from g ≡ m.from a → twin_of m g ≢ None)
+IsStart m a =
+    (twin_of m a ≡ None) ⊎ ((g : ℕ) → g < side_count m → m.from g ≡ m.from a → twin_of m g ≢ None)
 
 -- A list of faces with the twins of their sides can be walked.
 pub record IsWalkable (m : Net) (table : List (Option ℕ)) : Type 0 where
@@ -31,12 +33,17 @@ first_given None e = Some e
 first_given (Some a) e = Some a
 
 abbrev pub with_side : Vertex → Side → Bool → Vertex
-with_side v e alone = record { degree = v.degree + 1; start = cond alone (Some e) (first_given v.start e) }
+with_side v e alone = record {
+  degree = v.degree + 1;
+  start = cond alone (Some e) (first_given v.start e);
+}
 
 -- Of the first n sides none runs from v, or this is where the walk is to start.
 abbrev pub StartsSoFar : Net → ℕ → ℕ → Option Side → Type 0
 StartsSoFar m n v None = (e : ℕ) → e < n → m.from e ≢ v
-StartsSoFar m n v (Some a) = (a.0 < n) × (m.from a.0 ≡ v) × ((twin_of m a.0 ≡ None) ⊎ ((g : ℕ) → g < n → m.from g ≡ v → twin_of m g ≢ None))
+StartsSoFar m n v (Some a) =
+    (a.0 < n) × (m.from a.0 ≡ v)
+    × ((twin_of m a.0 ≡ None) ⊎ ((g : ℕ) → g < n → m.from g ≡ v → twin_of m g ≢ None))
 
 abbrev pub no_vertex : Vertex
 no_vertex = record { degree = 0; start = None }

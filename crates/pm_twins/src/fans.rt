@@ -1,5 +1,6 @@
-//! Each side is noted at the vertex from which it runs; then one walk round each vertex decides whether
-//! its faces are a fan. A side without twin begins an open fan, so a walk starts at one where there is one.
+//! Each side is noted at the vertex from which it runs; then one walk round each vertex decides
+//! whether its faces are a fan. A side without twin begins an open fan, so a walk starts at one
+//! where there is one.
 ghost use Rattle.std.specs.Prelude.{◌≡◌, ◌+◌, ◌<◌, ℕ, length, slice_index_or, OnOk, IfOk, IfErr};
 ghost use Rattle.pm_base.specs.Meshes.{mesh_of, IsWellFormed};
 ghost use Rattle.pm_base.specs.Sides.{net_of, side_count};
@@ -46,11 +47,12 @@ impl Vertex {
     }
 }
 
-/// Whether a well-formed mesh, whose twins are given, is an oriented manifold. A vertex that no face
-/// uses is permitted. O(F + V) for F faces and V vertices.
+/// Whether a well-formed mesh, whose twins are given, is an oriented manifold. A vertex that no
+/// face uses is permitted. O(F + V) for F faces and V vertices.
 pub fn check_fans(alloc: Global, mesh: &Mesh, twins: &Twins) -> Result<(), FansFail>
     requires formed { IsWellFormed (mesh_of mesh.now) }
-    requires twins { IsTableOf (net_of mesh.now.faces.items) (length mesh.now.points.items) twins.now }
+    requires twins { IsTableOf (net_of mesh.now.faces.items) (length mesh.now.points.items)
+        twins.now }
     ensures manifold { OnOk result (IsOrientedManifold (net_of mesh.now.faces.items)) }
     ensures not_fan { IfErr result (IsFansFault (net_of mesh.now.faces.items)) }
 {

@@ -10,8 +10,8 @@ use crate::sides;
 use pm_base::{Corners, Side, SideMap};
 use std::marker::Model;
 
-/// The faces of a mesh with the twins of their sides, so that one can walk round a vertex. Contracts
-/// see the faces.
+/// The faces of a mesh with the twins of their sides, so that one can walk round a vertex.
+/// Contracts see the faces.
 #[derive(Drop)]
 pub(crate) struct HalfEdges<'a> {
     pub(crate) faces: &'a [Corners],
@@ -67,9 +67,9 @@ impl HalfEdges<'_> {
 
     /// Whether the faces at the vertex from which side `start` runs, `degree` in number, are a fan.
     ///
-    /// The walk goes from side to side until there is no next one, or it is `start`. As `start` is the
-    /// first of an open fan, or any of a closed one, the faces are a fan where the walk has passed them
-    /// all. It meets no side twice, so it ends before the sides run out.
+    /// The walk goes from side to side until there is no next one, or it is `start`. As `start` is
+    /// the first of an open fan, or any of a closed one, the faces are a fan where the walk has
+    /// passed them all. It meets no side twice, so it ends before the sides run out.
     pub(crate) fn is_fan(&self, start: Side, degree: u32) -> bool
         requires in_range { start.0 < side_count (net_of self.now) }
         requires start { IsStart (net_of self.now) start.0 }

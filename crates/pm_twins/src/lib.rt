@@ -1,5 +1,5 @@
-//! The twin of each side of a triangle mesh, the vertices on its border, and whether the faces at each
-//! vertex are a fan; and surfaces, which are meshes where all this is well.
+//! The twin of each side of a triangle mesh, the vertices on its border, and whether the faces at
+//! each vertex are a fan; and surfaces, which are meshes where all this is well.
 #![tactic(auto)]
 
 mod fans;

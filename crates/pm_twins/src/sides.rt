@@ -5,7 +5,8 @@ ghost use Rattle.pm_base.specs.Sides.{to as to_of, net_of};
 
 use pm_base::{Corners, Side};
 
-/// The vertex from which a side runs. The corner is chosen without a jump, since in the order of the rows no guess of it is good.
+/// The vertex from which a side runs. The corner is chosen without a jump, since in the order of
+/// the rows no guess of it is good.
 pub(crate) fn from(faces: &[Corners], side: Side) -> u32
     requires { side.0 < 3 * length faces.now }
     ensures { result ≡ (net_of faces.now).from side.0 }

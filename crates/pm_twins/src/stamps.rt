@@ -1,10 +1,13 @@
-//! While a vertex is gone through, each side that leaves it is stamped at the vertex to which it runs. The
-//! twin of a side that arrives is then the stamp at the vertex from which it comes. A stamp that an earlier
-//! vertex left behind is told by its origin, where its side runs from, so the stamps are never wiped.
+//! While a vertex is gone through, each side that leaves it is stamped at the vertex to which it
+//! runs. The twin of a side that arrives is then the stamp at the vertex from which it comes. A
+//! stamp that an earlier vertex left behind is told by its origin, where its side runs from, so the
+//! stamps are never wiped.
 ghost use Rattle.std.specs.Prelude.{◌≡◌, ◌+◌, ◌<◌, length, replicate, IfOk};
 ghost use Rattle.pm_base.specs.Sides.{net_of};
 ghost use Rattle.pm_twins.specs.SideRows.{AreRows, IsWhole};
-ghost use Rattle.pm_twins.specs.Stamping.{no_stamp, stamped as stamped_of, in_order as ordered, lesser_of, NoneStampedFrom, AreAllStamped, IsLeastRepeat, ArePaired};
+ghost use Rattle.pm_twins.specs.Stamping.{no_stamp, stamped as stamped_of, in_order as ordered};
+ghost use Rattle.pm_twins.specs.Stamping.{lesser_of, NoneStampedFrom, AreAllStamped, IsLeastRepeat};
+ghost use Rattle.pm_twins.specs.Stamping.{ArePaired};
 
 use crate::OutOfMemory;
 use crate::side_rows::SideRows;
@@ -12,7 +15,8 @@ use crate::sides::{from, to};
 use pm_base::{Corners, Side, SideMap};
 use std::alloc::Global;
 
-// The origin where no side is stamped yet. No vertex has this number, since it is past `MOST_VERTICES`.
+// The origin where no side is stamped yet. No vertex has this number, since it is past
+// `MOST_VERTICES`.
 const NOWHERE: u32 = u32::MAX;
 
 /// A side, and beside it the vertex from which it runs, so that one look finds both.
@@ -80,8 +84,8 @@ fn stamped(stamps: &[Stamp], vertex: u32, end: u32) -> Option<Side>
     }
 }
 
-/// Stamps the sides that leave a vertex, and answers the least side so far that runs between the same
-/// vertices as an earlier one. Of two such sides the earlier keeps the stamp.
+/// Stamps the sides that leave a vertex, and answers the least side so far that runs between the
+/// same vertices as an earlier one. Of two such sides the earlier keeps the stamp.
 pub(crate) fn stamp_leaving(
     faces: &[Corners],
     rows: &SideRows,
@@ -90,7 +94,8 @@ pub(crate) fn stamp_leaving(
     repeat: Option<Side>,
 ) -> Option<Side>
     requires whole { IsWhole (net_of faces.now) (length stamps.old.items) }
-    requires rows { AreRows (net_of faces.now) (length stamps.old.items) rows.now.starts.items rows.now.sides.items }
+    requires rows { AreRows (net_of faces.now) (length stamps.old.items) rows.now.starts.items
+        rows.now.sides.items }
     requires in_range { vertex < length stamps.old.items }
     requires none { NoneStampedFrom vertex stamps.old.items }
     requires repeat { IsLeastRepeat (net_of faces.now) vertex repeat }
@@ -123,7 +128,8 @@ pub(crate) fn pair_arriving(
     twins: &mut SideMap,
 )
     requires whole { IsWhole (net_of faces.now) (length stamps.now) }
-    requires rows { AreRows (net_of faces.now) (length stamps.now) rows.now.starts.items rows.now.sides.items }
+    requires rows { AreRows (net_of faces.now) (length stamps.now) rows.now.starts.items
+        rows.now.sides.items }
     requires in_range { vertex < length stamps.now }
     requires all { AreAllStamped (net_of faces.now) vertex stamps.now }
     requires paired { ArePaired (net_of faces.now) vertex twins.old }

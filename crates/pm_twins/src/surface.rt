@@ -24,8 +24,8 @@ pub enum SurfaceFail {
     OutOfMemory,
 }
 
-/// A well-formed mesh that is an oriented manifold, with the twins of its sides. A vertex that no face
-/// uses is permitted. Contracts see the mesh.
+/// A well-formed mesh that is an oriented manifold, with the twins of its sides. A vertex that no
+/// face uses is permitted. Contracts see the mesh.
 #[derive(Drop)]
 pub struct Surface {
     mesh: Mesh,
@@ -44,8 +44,8 @@ impl Model for Surface {
 }
 
 impl Surface {
-    /// The surface of a well-formed mesh, which is dropped where it is refused. O(F + V) for F faces and
-    /// V vertices.
+    /// The surface of a well-formed mesh, which is dropped where it is refused. O(F + V) for F
+    /// faces and V vertices.
     pub fn of(alloc: Global, mesh: Mesh) -> Result<Surface, SurfaceFail>
         requires { IsWellFormed (mesh_of mesh) }
         ensures mesh { IfOk result (λ s. s ≡ mesh_of mesh) }

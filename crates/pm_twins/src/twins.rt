@@ -1,10 +1,12 @@
-//! The sides of a mesh are put into rows, each at the vertex from which it runs, and then the vertices are
-//! gone through. Of the sides that leave one, two that run to the same vertex are one side twice; and a side
-//! that arrives there has the one that runs back as its twin.
-ghost use Rattle.std.specs.Prelude.{◌≡◌, ◌<◌, ℕ, ◌↔◌, length, IfOk, IfErr, OnOk, MatchOption, IsTrue};
+//! The sides of a mesh are put into rows, each at the vertex from which it runs, and then the
+//! vertices are gone through. Of the sides that leave one, two that run to the same vertex are one
+//! side twice; and a side that arrives there has the one that runs back as its twin.
+ghost use Rattle.std.specs.Prelude.{◌≡◌, ◌<◌, ℕ, ◌↔◌, length, IfOk, IfErr, OnOk, MatchOption};
+ghost use Rattle.std.specs.Prelude.{IsTrue};
 ghost use Rattle.std.specs.Option.{option_map};
 ghost use Rattle.pm_base.specs.Meshes.{mesh_of, IsWellFormed};
-ghost use Rattle.pm_base.specs.Sides.{Net, net_of, side_count, NoSideTwice, IsTwin, HasNoTwin, IsBorder};
+ghost use Rattle.pm_base.specs.Sides.{Net, net_of, side_count, NoSideTwice, IsTwin, HasNoTwin};
+ghost use Rattle.pm_base.specs.Sides.{IsBorder};
 ghost use Rattle.pm_twins.specs.Table.{twin_at, border_at, AreTwinsOf, IsBorderOf, IsTableOf};
 ghost use Rattle.pm_twins.specs.Faults.{IsTwinsFault};
 ghost use Rattle.pm_twins.specs.SideRows.{AreRows, IsWhole};
@@ -26,8 +28,8 @@ pub enum TwinsFail {
     OutOfMemory,
 }
 
-/// The twin of each side of a mesh, and for each vertex whether it is on the border: four bytes a side
-/// and one a vertex.
+/// The twin of each side of a mesh, and for each vertex whether it is on the border: four bytes a
+/// side and one a vertex.
 #[derive(Drop)]
 pub struct Twins {
     twins: SideMap,
@@ -43,9 +45,9 @@ impl Model for Twins {
 }
 
 impl Twins {
-    /// The twins of a well-formed mesh. O(F + V) for F faces and V vertices, also where a side stands twice
-    /// and where many faces have one vertex: each side is put into a row, stamped and paired once, with one look at
-    /// a table for each.
+    /// The twins of a well-formed mesh. O(F + V) for F faces and V vertices, also where a side
+    /// stands twice and where many faces have one vertex: each side is put into a row, stamped and
+    /// paired once, with one look at a table for each.
     pub fn of(alloc: Global, mesh: &Mesh) -> Result<Twins, TwinsFail>
         requires { IsWellFormed (mesh_of mesh.now) }
         ensures twins { IfOk result
@@ -99,8 +101,8 @@ impl Twins {
     }
 }
 
-// The twin of each side. The vertices are gone through one by one: the sides that leave one are stamped,
-// and those that arrive look for their twins among them.
+// The twin of each side. The vertices are gone through one by one: the sides that leave one are
+// stamped, and those that arrive look for their twins among them.
 fn pair_sides(
     alloc: Global,
     faces: &[Corners],

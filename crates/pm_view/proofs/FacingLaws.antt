@@ -21,10 +21,14 @@ not_negative (pos a) (negsuc b) p q = absurd (omega (arith, ints))
 not_negative (negsuc a) b p q = absurd (omega (arith, ints))
 
 times_minus : (k u v : ℤ) → k *ℤ (v -ℤ u) ≡ k *ℤ v -ℤ k *ℤ u
-times_minus k u v = rw (diff-of k, diff-of u, diff-of v) (simp (add-diff, neg-diff, mul-diff) (diff_same _ _ _ _ (omega arith)))
+times_minus k u v =
+    rw (diff-of k, diff-of u, diff-of v)
+    (simp (add-diff, neg-diff, mul-diff) (diff_same _ _ _ _ (omega arith)))
 
 minus_times : (k u v : ℤ) → (pos 0 -ℤ k) *ℤ (v -ℤ u) ≡ k *ℤ u -ℤ k *ℤ v
-minus_times k u v = rw (diff-of k, diff-of u, diff-of v, pos_is_diff 0) (simp (add-diff, neg-diff, mul-diff) (diff_same _ _ _ _ (omega arith)))
+minus_times k u v =
+    rw (diff-of k, diff-of u, diff-of v, pos_is_diff 0)
+    (simp (add-diff, neg-diff, mul-diff) (diff_same _ _ _ _ (omega arith)))
 
 apart : (u v : ℤ) → u ≤ℤ v → pos 0 ≤ℤ (v -ℤ u)
 apart u v h = omega (arith, ints)
@@ -33,10 +37,15 @@ joined : (u v : ℤ) → pos 0 ≤ℤ (v -ℤ u) → u ≤ℤ v
 joined u v h = omega (arith, ints)
 
 pub times_up : (k u v : ℤ) → pos 0 ≤ℤ k → u ≤ℤ v → (k *ℤ u) ≤ℤ (k *ℤ v)
-times_up k u v p q = joined (k *ℤ u) (k *ℤ v) (subst (λ (z : ℤ). pos 0 ≤ℤ z) (times_minus k u v) (not_negative k (v -ℤ u) p (apart u v q)))
+times_up k u v p q =
+    joined (k *ℤ u) (k *ℤ v)
+    (subst (λ (z : ℤ). pos 0 ≤ℤ z) (times_minus k u v) (not_negative k (v -ℤ u) p (apart u v q)))
 
 pub times_down : (k u v : ℤ) → k ≤ℤ pos 0 → u ≤ℤ v → (k *ℤ v) ≤ℤ (k *ℤ u)
-times_down k u v p q = joined (k *ℤ v) (k *ℤ u) (subst (λ (z : ℤ). pos 0 ≤ℤ z) (minus_times k u v) (not_negative (pos 0 -ℤ k) (v -ℤ u) (apart k (pos 0) p) (apart u v q)))
+times_down k u v p q =
+    joined (k *ℤ v) (k *ℤ u)
+    (subst (λ (z : ℤ). pos 0 ≤ℤ z) (minus_times k u v)
+    (not_negative (pos 0 -ℤ k) (v -ℤ u) (apart k (pos 0) p) (apart u v q)))
 
 -- one factor in an interval: the product is above that with one of the ends
 least_one : (k u v y : ℤ) → u ≤ℤ y → y ≤ℤ v → int_min (k *ℤ u) (k *ℤ v) ≤ℤ (k *ℤ y)
@@ -45,62 +54,81 @@ least_one k u v y p q =
     (λ l. min_right (k *ℤ u) (k *ℤ v) (k *ℤ y) (times_down k y v (omega (arith, ints)) q))
     (λ l. min_left (k *ℤ u) (k *ℤ v) (k *ℤ y) (times_up k u y l p))
 
-min_both : (a b c d x y : ℤ) → int_min a c ≤ℤ x → int_min b d ≤ℤ y → int_min (int_min a b) (int_min c d) ≤ℤ int_min x y
+min_both : (a b c d x y : ℤ) → int_min a c ≤ℤ x → int_min b d ≤ℤ y
+    → int_min (int_min a b) (int_min c d) ≤ℤ int_min x y
 min_both a b c d x y p q = omega (arith, ints, clamps)
 
 least_turned : (c a b x : ℤ) → a ≤ℤ x → x ≤ℤ b → int_min (a *ℤ c) (b *ℤ c) ≤ℤ (x *ℤ c)
 least_turned c a b x p q = rw (*ℤ_comm a c, *ℤ_comm b c, *ℤ_comm x c) (least_one c a b x p q)
 
-pub least_product_le : (a b c d x y : ℤ) → a ≤ℤ x → x ≤ℤ b → c ≤ℤ y → y ≤ℤ d → least_product a b c d ≤ℤ (x *ℤ y)
+pub least_product_le : (a b c d x y : ℤ) → a ≤ℤ x → x ≤ℤ b → c ≤ℤ y → y ≤ℤ d
+    → least_product a b c d ≤ℤ (x *ℤ y)
 least_product_le a b c d x y p q r s =
     ≤ℤ_by (least_product a b c d) (int_min (x *ℤ c) (x *ℤ d)) (x *ℤ y)
-    (min_both (a *ℤ c) (a *ℤ d) (b *ℤ c) (b *ℤ d) (x *ℤ c) (x *ℤ d) (least_turned c a b x p q) (least_turned d a b x p q))
+    (min_both (a *ℤ c) (a *ℤ d) (b *ℤ c) (b *ℤ d) (x *ℤ c) (x *ℤ d) (least_turned c a b x p q)
+    (least_turned d a b x p q))
     (least_one x c d y r s)
 
 -- a smaller box has no smaller product
 min_of : (z x y : ℤ) → z ≤ℤ x → z ≤ℤ y → z ≤ℤ int_min x y
 min_of z x y p q = omega (arith, ints, clamps)
 
-pub least_product_grows : (a b c d a' b' c' d' : ℤ) → a ≤ℤ a' → a' ≤ℤ b' → b' ≤ℤ b → c ≤ℤ c' → c' ≤ℤ d' → d' ≤ℤ d → least_product a b c d ≤ℤ least_product a' b' c' d'
+pub least_product_grows : (a b c d a' b' c' d' : ℤ) → a ≤ℤ a' → a' ≤ℤ b' → b' ≤ℤ b → c ≤ℤ c'
+    → c' ≤ℤ d' → d' ≤ℤ d → least_product a b c d ≤ℤ least_product a' b' c' d'
 least_product_grows a b c d a' b' c' d' p q r s t u =
     let bl = ≤ℤ_by a' b' b q r in
     let al = ≤ℤ_by a a' b' p q in
     let dl = ≤ℤ_by c' d' d t u in
     let cl = ≤ℤ_by c c' d' s t in
     min_of (least_product a b c d) (int_min (a' *ℤ c') (a' *ℤ d')) (int_min (b' *ℤ c') (b' *ℤ d'))
-    (min_of (least_product a b c d) (a' *ℤ c') (a' *ℤ d') (least_product_le a b c d a' c' p bl s dl) (least_product_le a b c d a' d' p bl cl u))
-    (min_of (least_product a b c d) (b' *ℤ c') (b' *ℤ d') (least_product_le a b c d b' c' al r s dl) (least_product_le a b c d b' d' al r cl u))
+    (min_of (least_product a b c d) (a' *ℤ c') (a' *ℤ d') (least_product_le a b c d a' c' p bl s dl)
+    (least_product_le a b c d a' d' p bl cl u))
+    (min_of (least_product a b c d) (b' *ℤ c') (b' *ℤ d') (least_product_le a b c d b' c' al r s dl)
+    (least_product_le a b c d b' d' al r cl u))
 
 -- each axis of a way is at most as long as the way
 one_of_three : (x y z d : ℕ) → x * x + y * y + z * z ≤ d * d → (x ≤ d) × (y ≤ d) × (z ≤ d)
-one_of_three x y z d h = (root_le x d (omega arith), root_le y d (omega arith), root_le z d (omega arith))
+one_of_three x y z d h =
+    (root_le x d (omega arith), root_le y d (omega arith), root_le z d (omega arith))
 
-pub axes_near : (p q : Place) (d : ℕ) → dist2_of p q ≤ d * d → (unsigned_abs (p.x -ℤ q.x) ≤ d) × (unsigned_abs (p.y -ℤ q.y) ≤ d) × (unsigned_abs (p.z -ℤ q.z) ≤ d)
-axes_near p q d h = one_of_three (unsigned_abs (p.x -ℤ q.x)) (unsigned_abs (p.y -ℤ q.y)) (unsigned_abs (p.z -ℤ q.z)) d h
+pub axes_near : (p q : Place) (d : ℕ) → dist2_of p q ≤ d * d → (unsigned_abs (p.x -ℤ q.x) ≤ d)
+    × (unsigned_abs (p.y -ℤ q.y) ≤ d) × (unsigned_abs (p.z -ℤ q.z) ≤ d)
+axes_near p q d h =
+    one_of_three (unsigned_abs (p.x -ℤ q.x)) (unsigned_abs (p.y -ℤ q.y)) (unsigned_abs (p.z -ℤ q.z))
+    d h
 
-pub lower : (p q e : ℤ) (d s r : ℕ) → unsigned_abs (p -ℤ q) ≤ d → s + d ≤ r → (p -ℤ pos r -ℤ e) ≤ℤ (q -ℤ pos s -ℤ e)
+pub lower : (p q e : ℤ) (d s r : ℕ) → unsigned_abs (p -ℤ q) ≤ d → s + d ≤ r
+    → (p -ℤ pos r -ℤ e) ≤ℤ (q -ℤ pos s -ℤ e)
 lower p q e d s r h l = omega (arith, ints)
 
-pub upper : (p q e : ℤ) (d s r : ℕ) → unsigned_abs (p -ℤ q) ≤ d → s + d ≤ r → (q +ℤ pos s -ℤ e) ≤ℤ (p +ℤ pos r -ℤ e)
+pub upper : (p q e : ℤ) (d s r : ℕ) → unsigned_abs (p -ℤ q) ≤ d → s + d ≤ r
+    → (q +ℤ pos s -ℤ e) ≤ℤ (p +ℤ pos r -ℤ e)
 upper p q e d s r h l = omega (arith, ints)
 
 pub middle : (q e : ℤ) (s : ℕ) → (q -ℤ pos s -ℤ e) ≤ℤ (q +ℤ pos s -ℤ e)
 middle q e s = omega (arith, ints)
 
-axis_grows : (a b a' b' p q e : ℤ) (d s r : ℕ) → a ≤ℤ a' → a' ≤ℤ b' → b' ≤ℤ b → unsigned_abs (p -ℤ q) ≤ d → s + d ≤ r → least_on_axis a b p r e ≤ℤ least_on_axis a' b' q s e
-axis_grows a b a' b' p q e d s r u v w h l = least_product_grows a b (p -ℤ pos r -ℤ e) (p +ℤ pos r -ℤ e) a' b' (q -ℤ pos s -ℤ e) (q +ℤ pos s -ℤ e) u v w (lower p q e d s r h l) (middle q e s) (upper p q e d s r h l)
+axis_grows : (a b a' b' p q e : ℤ) (d s r : ℕ) → a ≤ℤ a' → a' ≤ℤ b' → b' ≤ℤ b
+    → unsigned_abs (p -ℤ q) ≤ d → s + d ≤ r → least_on_axis a b p r e ≤ℤ least_on_axis a' b' q s e
+axis_grows a b a' b' p q e d s r u v w h l =
+    least_product_grows a b (p -ℤ pos r -ℤ e) (p +ℤ pos r -ℤ e) a' b' (q -ℤ pos s -ℤ e)
+    (q +ℤ pos s -ℤ e) u v w (lower p q e d s r h l) (middle q e s) (upper p q e d s r h l)
 
 pub three_le : (a b c x y z : ℤ) → a ≤ℤ x → b ≤ℤ y → c ≤ℤ z → (a +ℤ b +ℤ c) ≤ℤ (x +ℤ y +ℤ z)
 three_le a b c x y z p q r = omega (arith, ints)
 
-pub facing_child : (child parent : Bounded) (eye : Place) → IsChild child parent → least_facing parent eye ≤ℤ least_facing child eye
+pub facing_child : (child parent : Bounded) (eye : Place) → IsChild child parent
+    → least_facing parent eye ≤ℤ least_facing child eye
 unfolding least_facing
 facing_child s b eye h =
     let n = axes_near b.place s.place h.d h.near in
     three_le _ _ _ _ _ _
-    (axis_grows b.box.low.x b.box.high.x s.box.low.x s.box.high.x b.place.x s.place.x eye.x h.d s.radius b.radius h.nested.low_x h.nested.box_x h.nested.high_x n.0 h.radius)
-    (axis_grows b.box.low.y b.box.high.y s.box.low.y s.box.high.y b.place.y s.place.y eye.y h.d s.radius b.radius h.nested.low_y h.nested.box_y h.nested.high_y n.1 h.radius)
-    (axis_grows b.box.low.z b.box.high.z s.box.low.z s.box.high.z b.place.z s.place.z eye.z h.d s.radius b.radius h.nested.low_z h.nested.box_z h.nested.high_z n.2 h.radius)
+    (axis_grows b.box.low.x b.box.high.x s.box.low.x s.box.high.x b.place.x s.place.x eye.x h.d
+    s.radius b.radius h.nested.low_x h.nested.box_x h.nested.high_x n.0 h.radius)
+    (axis_grows b.box.low.y b.box.high.y s.box.low.y s.box.high.y b.place.y s.place.y eye.y h.d
+    s.radius b.radius h.nested.low_y h.nested.box_y h.nested.high_y n.1 h.radius)
+    (axis_grows b.box.low.z b.box.high.z s.box.low.z s.box.high.z b.place.z s.place.z eye.z h.d
+    s.radius b.radius h.nested.low_z h.nested.box_z h.nested.high_z n.2 h.radius)
 
 pub lower_end : (p q e : ℤ) (r : ℕ) → unsigned_abs (p -ℤ q) ≤ r → (p -ℤ pos r -ℤ e) ≤ℤ (q -ℤ e)
 lower_end p q e r h = omega (arith, ints)
@@ -108,14 +136,21 @@ lower_end p q e r h = omega (arith, ints)
 pub upper_end : (p q e : ℤ) (r : ℕ) → unsigned_abs (p -ℤ q) ≤ r → (q -ℤ e) ≤ℤ (p +ℤ pos r -ℤ e)
 upper_end p q e r h = omega (arith, ints)
 
-axis_corner : (a b n p q e : ℤ) (r : ℕ) → a ≤ℤ n → n ≤ℤ b → unsigned_abs (p -ℤ q) ≤ r → least_on_axis a b p r e ≤ℤ (n *ℤ (q -ℤ e))
-axis_corner a b n p q e r u v h = least_product_le a b (p -ℤ pos r -ℤ e) (p +ℤ pos r -ℤ e) n (q -ℤ e) u v (lower_end p q e r h) (upper_end p q e r h)
+axis_corner : (a b n p q e : ℤ) (r : ℕ) → a ≤ℤ n → n ≤ℤ b → unsigned_abs (p -ℤ q) ≤ r
+    → least_on_axis a b p r e ≤ℤ (n *ℤ (q -ℤ e))
+axis_corner a b n p q e r u v h =
+    least_product_le a b (p -ℤ pos r -ℤ e) (p +ℤ pos r -ℤ e) n (q -ℤ e) u v (lower_end p q e r h)
+    (upper_end p q e r h)
 
-pub facing_corner : (b : Bounded) (n : Direction) (q eye : Place) → IsCorner b n q → least_facing b eye ≤ℤ dot_of n (way q eye)
+pub facing_corner : (b : Bounded) (n : Direction) (q eye : Place) → IsCorner b n q
+    → least_facing b eye ≤ℤ dot_of n (way q eye)
 unfolding least_facing
 facing_corner b n q eye h =
     let k = axes_near b.place q b.radius h.near in
     three_le _ _ _ _ _ _
-    (axis_corner b.box.low.x b.box.high.x n.x b.place.x q.x eye.x b.radius h.boxed.low_x h.boxed.high_x k.0)
-    (axis_corner b.box.low.y b.box.high.y n.y b.place.y q.y eye.y b.radius h.boxed.low_y h.boxed.high_y k.1)
-    (axis_corner b.box.low.z b.box.high.z n.z b.place.z q.z eye.z b.radius h.boxed.low_z h.boxed.high_z k.2)
+    (axis_corner b.box.low.x b.box.high.x n.x b.place.x q.x eye.x b.radius h.boxed.low_x
+    h.boxed.high_x k.0)
+    (axis_corner b.box.low.y b.box.high.y n.y b.place.y q.y eye.y b.radius h.boxed.low_y
+    h.boxed.high_y k.1)
+    (axis_corner b.box.low.z b.box.high.z n.z b.place.z q.z eye.z b.radius h.boxed.low_z
+    h.boxed.high_z k.2)

@@ -10,6 +10,7 @@ unfolding unsigned_of
 unsigned_small most n text e =
     let v = value 0 text in
     elim (cases_Bool (is_unsigned text && nat_le v most)) [
-      | inl t ↦ subst (λ m. m ≤ most) (sym (same_Some n v (e ∙ cond-true _ (Some v) None t))) (leb-true v most (and_parts (is_unsigned text) (nat_le v most) t).1)
+      | inl t ↦ subst (λ m. m ≤ most) (sym (same_Some n v (e ∙ cond-true _ (Some v) None t)))
+          (leb-true v most (and_parts (is_unsigned text) (nat_le v most) t).1)
       | inr t ↦ absurd (none-some n (sym (e ∙ cond-false _ (Some v) None t)))
     ]

@@ -11,7 +11,8 @@ use Rattle.pm_bounds.proofs.ListLaws.{max_left, max_right, ≤ℤ_by}
 use Rattle.pm_view.specs.Wanted.{Bounded, greatest_product, greatest_facing}
 use Rattle.pm_view.specs.Laws.{way}
 use Rattle.pm_view.proofs.Premises.{IsChild, IsCorner, greatest_on_axis}
-use Rattle.pm_view.proofs.FacingLaws.{times_up, times_down, axes_near, lower, upper, middle, three_le, lower_end, upper_end}
+use Rattle.pm_view.proofs.FacingLaws.{times_up, times_down, axes_near, lower, upper, middle}
+use Rattle.pm_view.proofs.FacingLaws.{three_le, lower_end, upper_end}
 
 -- one factor in an interval: the product is below that with one of the ends
 greatest_one : (k u v y : ℤ) → u ≤ℤ y → y ≤ℤ v → (k *ℤ y) ≤ℤ int_max (k *ℤ u) (k *ℤ v)
@@ -20,52 +21,74 @@ greatest_one k u v y p q =
     (λ l. max_left (k *ℤ u) (k *ℤ v) (k *ℤ y) (times_down k u y (omega (arith, ints)) p))
     (λ l. max_right (k *ℤ u) (k *ℤ v) (k *ℤ y) (times_up k y v l q))
 
-max_both : (a b c d x y : ℤ) → x ≤ℤ int_max a c → y ≤ℤ int_max b d → int_max x y ≤ℤ int_max (int_max a b) (int_max c d)
+max_both : (a b c d x y : ℤ) → x ≤ℤ int_max a c → y ≤ℤ int_max b d
+    → int_max x y ≤ℤ int_max (int_max a b) (int_max c d)
 max_both a b c d x y p q = omega (arith, ints, clamps)
 
 greatest_turned : (c a b x : ℤ) → a ≤ℤ x → x ≤ℤ b → (x *ℤ c) ≤ℤ int_max (a *ℤ c) (b *ℤ c)
 greatest_turned c a b x p q = rw (*ℤ_comm a c, *ℤ_comm b c, *ℤ_comm x c) (greatest_one c a b x p q)
 
-pub greatest_product_ge : (a b c d x y : ℤ) → a ≤ℤ x → x ≤ℤ b → c ≤ℤ y → y ≤ℤ d → (x *ℤ y) ≤ℤ greatest_product a b c d
+pub greatest_product_ge : (a b c d x y : ℤ) → a ≤ℤ x → x ≤ℤ b → c ≤ℤ y → y ≤ℤ d
+    → (x *ℤ y) ≤ℤ greatest_product a b c d
 greatest_product_ge a b c d x y p q r s =
     ≤ℤ_by (x *ℤ y) (int_max (x *ℤ c) (x *ℤ d)) (greatest_product a b c d)
     (greatest_one x c d y r s)
-    (max_both (a *ℤ c) (a *ℤ d) (b *ℤ c) (b *ℤ d) (x *ℤ c) (x *ℤ d) (greatest_turned c a b x p q) (greatest_turned d a b x p q))
+    (max_both (a *ℤ c) (a *ℤ d) (b *ℤ c) (b *ℤ d) (x *ℤ c) (x *ℤ d) (greatest_turned c a b x p q)
+    (greatest_turned d a b x p q))
 
 -- a smaller box has no greater product
 max_of : (z x y : ℤ) → x ≤ℤ z → y ≤ℤ z → int_max x y ≤ℤ z
 max_of z x y p q = omega (arith, ints, clamps)
 
-pub greatest_product_grows : (a b c d a' b' c' d' : ℤ) → a ≤ℤ a' → a' ≤ℤ b' → b' ≤ℤ b → c ≤ℤ c' → c' ≤ℤ d' → d' ≤ℤ d → greatest_product a' b' c' d' ≤ℤ greatest_product a b c d
+pub greatest_product_grows : (a b c d a' b' c' d' : ℤ) → a ≤ℤ a' → a' ≤ℤ b' → b' ≤ℤ b → c ≤ℤ c'
+    → c' ≤ℤ d' → d' ≤ℤ d → greatest_product a' b' c' d' ≤ℤ greatest_product a b c d
 greatest_product_grows a b c d a' b' c' d' p q r s t u =
     let bl = ≤ℤ_by a' b' b q r in
     let al = ≤ℤ_by a a' b' p q in
     let dl = ≤ℤ_by c' d' d t u in
     let cl = ≤ℤ_by c c' d' s t in
-    max_of (greatest_product a b c d) (int_max (a' *ℤ c') (a' *ℤ d')) (int_max (b' *ℤ c') (b' *ℤ d'))
-    (max_of (greatest_product a b c d) (a' *ℤ c') (a' *ℤ d') (greatest_product_ge a b c d a' c' p bl s dl) (greatest_product_ge a b c d a' d' p bl cl u))
-    (max_of (greatest_product a b c d) (b' *ℤ c') (b' *ℤ d') (greatest_product_ge a b c d b' c' al r s dl) (greatest_product_ge a b c d b' d' al r cl u))
+    max_of (greatest_product a b c d) (int_max (a' *ℤ c') (a' *ℤ d'))
+    (int_max (b' *ℤ c') (b' *ℤ d'))
+    (max_of (greatest_product a b c d) (a' *ℤ c') (a' *ℤ d')
+    (greatest_product_ge a b c d a' c' p bl s dl) (greatest_product_ge a b c d a' d' p bl cl u))
+    (max_of (greatest_product a b c d) (b' *ℤ c') (b' *ℤ d')
+    (greatest_product_ge a b c d b' c' al r s dl) (greatest_product_ge a b c d b' d' al r cl u))
 
-axis_grows : (a b a' b' p q e : ℤ) (d s r : ℕ) → a ≤ℤ a' → a' ≤ℤ b' → b' ≤ℤ b → unsigned_abs (p -ℤ q) ≤ d → s + d ≤ r → greatest_on_axis a' b' q s e ≤ℤ greatest_on_axis a b p r e
-axis_grows a b a' b' p q e d s r u v w h l = greatest_product_grows a b (p -ℤ pos r -ℤ e) (p +ℤ pos r -ℤ e) a' b' (q -ℤ pos s -ℤ e) (q +ℤ pos s -ℤ e) u v w (lower p q e d s r h l) (middle q e s) (upper p q e d s r h l)
+axis_grows : (a b a' b' p q e : ℤ) (d s r : ℕ) → a ≤ℤ a' → a' ≤ℤ b' → b' ≤ℤ b
+    → unsigned_abs (p -ℤ q) ≤ d → s + d ≤ r
+    → greatest_on_axis a' b' q s e ≤ℤ greatest_on_axis a b p r e
+axis_grows a b a' b' p q e d s r u v w h l =
+    greatest_product_grows a b (p -ℤ pos r -ℤ e) (p +ℤ pos r -ℤ e) a' b' (q -ℤ pos s -ℤ e)
+    (q +ℤ pos s -ℤ e) u v w (lower p q e d s r h l) (middle q e s) (upper p q e d s r h l)
 
-pub turning_child : (child parent : Bounded) (eye : Place) → IsChild child parent → greatest_facing child eye ≤ℤ greatest_facing parent eye
+pub turning_child : (child parent : Bounded) (eye : Place) → IsChild child parent
+    → greatest_facing child eye ≤ℤ greatest_facing parent eye
 unfolding greatest_facing
 turning_child s b eye h =
     let n = axes_near b.place s.place h.d h.near in
     three_le _ _ _ _ _ _
-    (axis_grows b.box.low.x b.box.high.x s.box.low.x s.box.high.x b.place.x s.place.x eye.x h.d s.radius b.radius h.nested.low_x h.nested.box_x h.nested.high_x n.0 h.radius)
-    (axis_grows b.box.low.y b.box.high.y s.box.low.y s.box.high.y b.place.y s.place.y eye.y h.d s.radius b.radius h.nested.low_y h.nested.box_y h.nested.high_y n.1 h.radius)
-    (axis_grows b.box.low.z b.box.high.z s.box.low.z s.box.high.z b.place.z s.place.z eye.z h.d s.radius b.radius h.nested.low_z h.nested.box_z h.nested.high_z n.2 h.radius)
+    (axis_grows b.box.low.x b.box.high.x s.box.low.x s.box.high.x b.place.x s.place.x eye.x h.d
+    s.radius b.radius h.nested.low_x h.nested.box_x h.nested.high_x n.0 h.radius)
+    (axis_grows b.box.low.y b.box.high.y s.box.low.y s.box.high.y b.place.y s.place.y eye.y h.d
+    s.radius b.radius h.nested.low_y h.nested.box_y h.nested.high_y n.1 h.radius)
+    (axis_grows b.box.low.z b.box.high.z s.box.low.z s.box.high.z b.place.z s.place.z eye.z h.d
+    s.radius b.radius h.nested.low_z h.nested.box_z h.nested.high_z n.2 h.radius)
 
-axis_corner : (a b n p q e : ℤ) (r : ℕ) → a ≤ℤ n → n ≤ℤ b → unsigned_abs (p -ℤ q) ≤ r → (n *ℤ (q -ℤ e)) ≤ℤ greatest_on_axis a b p r e
-axis_corner a b n p q e r u v h = greatest_product_ge a b (p -ℤ pos r -ℤ e) (p +ℤ pos r -ℤ e) n (q -ℤ e) u v (lower_end p q e r h) (upper_end p q e r h)
+axis_corner : (a b n p q e : ℤ) (r : ℕ) → a ≤ℤ n → n ≤ℤ b → unsigned_abs (p -ℤ q) ≤ r
+    → (n *ℤ (q -ℤ e)) ≤ℤ greatest_on_axis a b p r e
+axis_corner a b n p q e r u v h =
+    greatest_product_ge a b (p -ℤ pos r -ℤ e) (p +ℤ pos r -ℤ e) n (q -ℤ e) u v (lower_end p q e r h)
+    (upper_end p q e r h)
 
-pub turning_corner : (b : Bounded) (n : Direction) (q eye : Place) → IsCorner b n q → dot_of n (way q eye) ≤ℤ greatest_facing b eye
+pub turning_corner : (b : Bounded) (n : Direction) (q eye : Place) → IsCorner b n q
+    → dot_of n (way q eye) ≤ℤ greatest_facing b eye
 unfolding greatest_facing
 turning_corner b n q eye h =
     let k = axes_near b.place q b.radius h.near in
     three_le _ _ _ _ _ _
-    (axis_corner b.box.low.x b.box.high.x n.x b.place.x q.x eye.x b.radius h.boxed.low_x h.boxed.high_x k.0)
-    (axis_corner b.box.low.y b.box.high.y n.y b.place.y q.y eye.y b.radius h.boxed.low_y h.boxed.high_y k.1)
-    (axis_corner b.box.low.z b.box.high.z n.z b.place.z q.z eye.z b.radius h.boxed.low_z h.boxed.high_z k.2)
+    (axis_corner b.box.low.x b.box.high.x n.x b.place.x q.x eye.x b.radius h.boxed.low_x
+    h.boxed.high_x k.0)
+    (axis_corner b.box.low.y b.box.high.y n.y b.place.y q.y eye.y b.radius h.boxed.low_y
+    h.boxed.high_y k.1)
+    (axis_corner b.box.low.z b.box.high.z n.z b.place.z q.z eye.z b.radius h.boxed.low_z
+    h.boxed.high_z k.2)

@@ -1,18 +1,25 @@
 -- The tests pass from a child to its parent, and each test that fails says why.
-use Rattle.std.proofs.Common.{◌≡◌, ℕ, ◌+◌, ◌*◌, ◌<◌, ◌≤◌, true, false, ◌&&◌, ◌||◌, Bool, not, List, [], ◌∷◌, ◌⊎◌, inl, inr, refl, suc, sym, ap, ◌∙◌, arith}
+use Rattle.std.proofs.Common.{◌≡◌, ℕ, ◌+◌, ◌*◌, ◌<◌, ◌≤◌, true, false, ◌&&◌, ◌||◌, Bool, not, List}
+use Rattle.std.proofs.Common.{[], ◌∷◌, ◌⊎◌, inl, inr, refl, suc, sym, ap, ◌∙◌, arith}
 use Rattle.std.proofs.Math.Nat.{le_refl}
 use Rattle.std.specs.Prelude.{ℤ, pos, ◌≤ℤ◌, ◌<ℤ◌, int_lt, int_le, nat_lt, unsigned_abs}
 use Rattle.std.proofs.lemmas.Nat.{mul-le}
-use Rattle.std.proofs.lemmas.Bool.{cases_lt, and_parts, and_from, and_cases, or_cases, or_parts, or_left, or_right, not-true, not-false, not_from_false, both_ways, lt-ltb, ltb-true, ltb-false, false_from_ne_true, false≢true}
+use Rattle.std.proofs.lemmas.Bool.{cases_lt, and_parts, and_from, and_cases, or_cases, or_parts}
+use Rattle.std.proofs.lemmas.Bool.{or_left, or_right, not-true, not-false, not_from_false}
+use Rattle.std.proofs.lemmas.Bool.{both_ways, lt-ltb, ltb-true, ltb-false, false_from_ne_true}
+use Rattle.std.proofs.lemmas.Bool.{false≢true}
 use Rattle.pm_base.specs.Place.{Place}
 use Rattle.pm_base.specs.Geometry.{Direction, dot_of, dist2_of, norm2_of}
 use Rattle.pm_view.specs.declared.measure.Measure.{Measure}
 use Rattle.pm_view.specs.declared.measure.Measure.TheVariants as measures
 use Rattle.pm_view.specs.declared.plane.Plane.{Plane}
 use Rattle.pm_view.specs.Views.{View}
-use Rattle.pm_view.specs.Wanted.{Bounded, value_at, normal_in, is_outside, is_outside_any, least_facing, greatest_facing, may_turn_away, size_of, looks_larger, looks_large, is_large, passes}
+use Rattle.pm_view.specs.Wanted.{Bounded, value_at, normal_in, is_outside, is_outside_any}
+use Rattle.pm_view.specs.Wanted.{least_facing, greatest_facing, may_turn_away, size_of}
+use Rattle.pm_view.specs.Wanted.{looks_larger, looks_large, is_large, passes}
 use Rattle.pm_view.specs.Laws.{way}
-use Rattle.pm_view.proofs.Premises.{IsChild, IsCorner, IsBehindOne, FacesAway, FacesTo, LooksWithin, LooksTiny}
+use Rattle.pm_view.proofs.Premises.{IsChild, IsCorner, IsBehindOne, FacesAway, FacesTo, LooksWithin}
+use Rattle.pm_view.proofs.Premises.{LooksTiny}
 use borrow.Author.Differences.{ints}
 use Rattle.pm_bounds.proofs.ListLaws.{≤ℤ_by}
 use Rattle.pm_view.proofs.Outside.{Outside, outside_within}
@@ -39,30 +46,41 @@ is_at_most a b h = sym (omega (arith, ints))
 -- planes
 outside_from : (f : Plane) (p : Place) (r : ℕ) → is_outside f p r ≡ true → Outside f p r
 outside_from f p r e =
-    let h = and_parts (int_lt (value_at f p) (pos 0)) (nat_lt (r * r * norm2_of (normal_in f)) (unsigned_abs (value_at f p) * unsigned_abs (value_at f p))) e in
+    let h = and_parts (int_lt (value_at f p) (pos 0))
+    (nat_lt (r * r * norm2_of (normal_in f))
+    (unsigned_abs (value_at f p) * unsigned_abs (value_at f p))) e in
     record { negative = less _ _ h.0; far = ltb-true _ _ h.1 }
 
 outside_to : (f : Plane) (p : Place) (r : ℕ) → Outside f p r → is_outside f p r ≡ true
 outside_to f p r h = and_from _ _ (is_less _ _ h.negative) (lt-ltb _ _ h.far)
 
-pub outside_any_within : (fs : List Plane) (p q : Place) (r s d : ℕ) → dist2_of p q ≤ d * d → s + d ≤ r → is_outside_any fs p r ≡ true → is_outside_any fs q s ≡ true
+pub outside_any_within : (fs : List Plane) (p q : Place) (r s d : ℕ) → dist2_of p q ≤ d * d
+    → s + d ≤ r → is_outside_any fs p r ≡ true → is_outside_any fs q s ≡ true
 outside_any_within [] p q r s d near le e = e
 outside_any_within (f ∷ fs) p q r s d near le e =
     elim (or_cases (is_outside f p r) (is_outside_any fs p r) e) [
-      | inl h ↦ or_left (is_outside f q s) (is_outside_any fs q s) (outside_to f q s (outside_within f p q r s d (outside_from f p r h) near le))
-      | inr h ↦ or_right (is_outside f q s) (is_outside_any fs q s) (outside_any_within fs p q r s d near le h)
+      | inl h ↦ or_left (is_outside f q s) (is_outside_any fs q s)
+          (outside_to f q s (outside_within f p q r s d (outside_from f p r h) near le))
+      | inr h ↦ or_right (is_outside f q s) (is_outside_any fs q s)
+          (outside_any_within fs p q r s d near le h)
     ]
 
-behind : (f : Plane) (b : Bounded) → Outside f b.place b.radius → (n : Direction) (q : Place) → IsCorner b n q → value_at f q <ℤ pos 0
-behind f b h n q k = (outside_within f b.place q b.radius 0 b.radius h k.near (omega arith)).negative
+behind : (f : Plane) (b : Bounded) → Outside f b.place b.radius → (n : Direction) (q : Place)
+    → IsCorner b n q → value_at f q <ℤ pos 0
+behind f b h n q k =
+    (outside_within f b.place q b.radius 0 b.radius h k.near (omega arith)).negative
 
-first_behind : (f : Plane) (fs : List Plane) (b : Bounded) → ((n : Direction) (q : Place) → IsCorner b n q → value_at f q <ℤ pos 0) → IsBehindOne (f ∷ fs) b
+first_behind : (f : Plane) (fs : List Plane) (b : Bounded)
+    → ((n : Direction) (q : Place) → IsCorner b n q → value_at f q <ℤ pos 0)
+    → IsBehindOne (f ∷ fs) b
 first_behind f fs b h = (f, (0, omega arith, refl), h)
 
-later_behind : (f : Plane) (fs : List Plane) (b : Bounded) → IsBehindOne fs b → IsBehindOne (f ∷ fs) b
+later_behind : (f : Plane) (fs : List Plane) (b : Bounded) → IsBehindOne fs b
+    → IsBehindOne (f ∷ fs) b
 later_behind f fs b (g, (k, l, is), h) = (g, (suc k, omega arith, is), h)
 
-pub behind_one : (fs : List Plane) (b : Bounded) → is_outside_any fs b.place b.radius ≡ true → IsBehindOne fs b
+pub behind_one : (fs : List Plane) (b : Bounded) → is_outside_any fs b.place b.radius ≡ true
+    → IsBehindOne fs b
 behind_one [] b e = absurd (false≢true e)
 behind_one (f ∷ fs) b e =
     elim (or_cases (is_outside f b.place b.radius) (is_outside_any fs b.place b.radius) e) [
@@ -74,11 +92,19 @@ behind_one (f ∷ fs) b e =
 <ℤ_by : (x y z : ℤ) → x <ℤ y → y ≤ℤ z → x <ℤ z
 <ℤ_by x y z p q = omega (arith, ints)
 
-pub turned_away : (b : Bounded) (eye : Place) → int_le (least_facing b eye) (pos 0) ≡ false → FacesAway b eye
-turned_away b eye e n q k = <ℤ_by (pos 0) (least_facing b eye) (dot_of n (way q eye)) (above (least_facing b eye) (pos 0) e) (facing_corner b n q eye k)
+pub turned_away : (b : Bounded) (eye : Place) → int_le (least_facing b eye) (pos 0) ≡ false
+    → FacesAway b eye
+turned_away b eye e n q k =
+    <ℤ_by (pos 0) (least_facing b eye) (dot_of n (way q eye)) (above (least_facing b eye) (pos 0) e)
+    (facing_corner b n q eye k)
 
-pub facing_passes : (child parent : Bounded) (eye : Place) → IsChild child parent → int_le (least_facing child eye) (pos 0) ≡ true → int_le (least_facing parent eye) (pos 0) ≡ true
-facing_passes s b eye h e = is_at_most (least_facing b eye) (pos 0) (≤ℤ_by (least_facing b eye) (least_facing s eye) (pos 0) (facing_child s b eye h) (at_most (least_facing s eye) (pos 0) e))
+pub facing_passes : (child parent : Bounded) (eye : Place) → IsChild child parent
+    → int_le (least_facing child eye) (pos 0) ≡ true → int_le (least_facing parent eye) (pos 0)
+    ≡ true
+facing_passes s b eye h e =
+    is_at_most (least_facing b eye) (pos 0)
+    (≤ℤ_by (least_facing b eye) (least_facing s eye) (pos 0) (facing_child s b eye h)
+    (at_most (least_facing s eye) (pos 0) e))
 
 -- size
 lt_by : (a b c : ℕ) → a < b → b ≤ c → a < c
@@ -89,13 +115,15 @@ le_by a b c p q = omega arith
 
 -- (e f + t r + t d) is at most (e' f + t r'), with e at most e' and r + d at most r'
 grown : (e r d f t e' r' : ℕ) → e ≤ e' → r + d ≤ r' → t * d + (e * f + t * r) ≤ e' * f + t * r'
-grown e r d f t e' r' p q = omega (arith, mul-le e f e' f p (le_refl f), mul-le t (r + d) t r' (le_refl t) q)
+grown e r d f t e' r' p q =
+    omega (arith, mul-le e f e' f p (le_refl f), mul-le t (r + d) t r' (le_refl t) q)
 
 at_most_more : (a d b : ℕ) → a + d ≤ b → a ≤ b
 at_most_more a d b h = omega arith
 
 -- by whichever number a node is judged, its parent's is no less
-size_grows : (child parent : Bounded) (m : Measure) → IsChild child parent → size_of m child ≤ size_of m parent
+size_grows : (child parent : Bounded) (m : Measure) → IsChild child parent
+    → size_of m child ≤ size_of m parent
 size_grows s b measures.Error h = at_most_more s.error h.d b.error h.error
 size_grows s b measures.Deviation h = h.deviation
 
@@ -104,32 +132,44 @@ near_times t n d h = omega (arith, mul-le (t * t) n (t * t) (d * d) (le_refl (t 
 
 -- a size in the child's ball, and one that is no less in the parent's
 sizes_pass : (child parent : Bounded) (v : View) (tol m n : ℕ) → IsChild child parent → m ≤ n
-    → looks_larger m child.place child.radius v tol ≡ true → looks_larger n parent.place parent.radius v tol ≡ true
+    → looks_larger m child.place child.radius v tol ≡ true
+    → looks_larger n parent.place parent.radius v tol ≡ true
 unfolding looks_larger
 sizes_pass s b v tol m n h le e =
-    let l = ltb-true (tol * tol * dist2_of s.place v.eye) ((m * v.focal + tol * s.radius) * (m * v.focal + tol * s.radius)) e in
+    let l = ltb-true (tol * tol * dist2_of s.place v.eye)
+    ((m * v.focal + tol * s.radius) * (m * v.focal + tol * s.radius)) e in
     let near = near_times tol (dist2_of b.place s.place) h.d h.near in
     let w = scaled b.place s.place v.eye tol (tol * h.d) (m * v.focal + tol * s.radius) near l in
     let g = grown m s.radius h.d v.focal tol n b.radius le h.radius in
-    lt-ltb (tol * tol * dist2_of b.place v.eye) ((n * v.focal + tol * b.radius) * (n * v.focal + tol * b.radius))
+    lt-ltb (tol * tol * dist2_of b.place v.eye)
+    ((n * v.focal + tol * b.radius) * (n * v.focal + tol * b.radius))
     (lt_by _ _ _ w (mul-le _ _ _ _ g g))
 
-pub looks_large_passes : (child parent : Bounded) (v : View) (tol : ℕ) → IsChild child parent → looks_large child v tol ≡ true → looks_large parent v tol ≡ true
+pub looks_large_passes : (child parent : Bounded) (v : View) (tol : ℕ) → IsChild child parent
+    → looks_large child v tol ≡ true → looks_large parent v tol ≡ true
 looks_large_passes s b v tol h e =
-    sizes_pass s b v tol (size_of v.measure s) (size_of v.measure b) h (size_grows s b v.measure h) e
+    sizes_pass s b v tol (size_of v.measure s) (size_of v.measure b) h (size_grows s b v.measure h)
+    e
 
-pub turning_passes : (child parent : Bounded) (eye : Place) → IsChild child parent → may_turn_away child eye ≡ true → may_turn_away parent eye ≡ true
-turning_passes s b eye h e = is_at_most (pos 0) (greatest_facing b eye) (≤ℤ_by (pos 0) (greatest_facing s eye) (greatest_facing b eye) (at_most (pos 0) (greatest_facing s eye) e) (turning_child s b eye h))
+pub turning_passes : (child parent : Bounded) (eye : Place) → IsChild child parent
+    → may_turn_away child eye ≡ true → may_turn_away parent eye ≡ true
+turning_passes s b eye h e =
+    is_at_most (pos 0) (greatest_facing b eye)
+    (≤ℤ_by (pos 0) (greatest_facing s eye) (greatest_facing b eye)
+    (at_most (pos 0) (greatest_facing s eye) e) (turning_child s b eye h))
 
-pub large_passes : (child parent : Bounded) (v : View) → IsChild child parent → is_large child v ≡ true → is_large parent v ≡ true
+pub large_passes : (child parent : Bounded) (v : View) → IsChild child parent
+    → is_large child v ≡ true → is_large parent v ≡ true
 unfolding is_large
 large_passes s b v h e =
     elim (or_cases (looks_large s v v.tol) (may_turn_away s v.eye && looks_large s v v.sil) e) [
-      | inl l ↦ or_left (looks_large b v v.tol) (may_turn_away b v.eye && looks_large b v v.sil) (looks_large_passes s b v v.tol h l)
+      | inl l ↦ or_left (looks_large b v v.tol) (may_turn_away b v.eye && looks_large b v v.sil)
+          (looks_large_passes s b v v.tol h l)
       | inr two ↦
           let parts = and_parts (may_turn_away s v.eye) (looks_large s v v.sil) two in
           or_right (looks_large b v v.tol) (may_turn_away b v.eye && looks_large b v v.sil)
-          (and_from (may_turn_away b v.eye) (looks_large b v v.sil) (turning_passes s b v.eye h parts.0) (looks_large_passes s b v v.sil h parts.1))
+          (and_from (may_turn_away b v.eye) (looks_large b v v.sil)
+          (turning_passes s b v.eye h parts.0) (looks_large_passes s b v v.sil h parts.1))
     ]
 
 -- f f n is at most e e f f
@@ -143,15 +183,19 @@ clash : (a b c : ℕ) → a < b → b ≡ c → c ≤ a → ⊥
 clash a b c p q r = omega arith
 
 -- a size that looks no larger than a tolerance, seen by way of a place within the radius
-size_within : (size : ℕ) (b : Bounded) (v : View) (tol : ℕ) → looks_larger size b.place b.radius v tol ≡ false
+size_within : (size : ℕ) (b : Bounded) (v : View) (tol : ℕ)
+    → looks_larger size b.place b.radius v tol ≡ false
     → (q : Place) → dist2_of b.place q ≤ b.radius * b.radius
     → (size * v.focal) * (size * v.focal) ≤ tol * tol * dist2_of q v.eye
 unfolding looks_larger
 size_within size b v tol e q near =
-    let l = ltb-false (tol * tol * dist2_of b.place v.eye) ((size * v.focal + tol * b.radius) * (size * v.focal + tol * b.radius)) e in
+    let l = ltb-false (tol * tol * dist2_of b.place v.eye)
+    ((size * v.focal + tol * b.radius) * (size * v.focal + tol * b.radius)) e in
     let near = near_times tol (dist2_of b.place q) b.radius near in
     elim (cases_lt (tol * tol * dist2_of q v.eye) ((size * v.focal) * (size * v.focal))) [
-      | inl h ↦ absurd (clash _ _ _ (scaled b.place q v.eye tol (tol * b.radius) (size * v.focal) near h) (turned v.focal tol b.radius size) l)
+      | inl h ↦ absurd
+          (clash _ _ _ (scaled b.place q v.eye tol (tol * b.radius) (size * v.focal) near h)
+          (turned v.focal tol b.radius size) l)
       | inr h ↦ h
     ]
 
@@ -162,12 +206,15 @@ within b v tol e n q k = size_within (size_of v.measure b) b v tol e q k.near
 <ℤ_from x y z p q = omega (arith, ints)
 
 pub turned_to : (b : Bounded) (eye : Place) → may_turn_away b eye ≡ false → FacesTo b eye
-turned_to b eye e n q k = <ℤ_from (dot_of n (way q eye)) (greatest_facing b eye) (pos 0) (turning_corner b n q eye k) (above (pos 0) (greatest_facing b eye) e)
+turned_to b eye e n q k =
+    <ℤ_from (dot_of n (way q eye)) (greatest_facing b eye) (pos 0) (turning_corner b n q eye k)
+    (above (pos 0) (greatest_facing b eye) e)
 
 pub tiny : (b : Bounded) (v : View) → is_large b v ≡ false → LooksTiny b v
 unfolding is_large
 tiny b v e =
-    let parts = or_parts (looks_large b v v.tol) (may_turn_away b v.eye && looks_large b v v.sil) e in
+    let parts = or_parts (looks_large b v v.tol) (may_turn_away b v.eye && looks_large b v v.sil)
+    e in
     elim (and_cases (may_turn_away b v.eye) (looks_large b v v.sil) parts.1) [
       | inl to ↦ (within b v v.tol parts.0, inr (turned_to b v.eye to))
       | inr fine ↦ (within b v v.tol parts.0, inl (within b v v.sil fine))
@@ -181,10 +228,13 @@ absorbed false false = refl
 
 pub plain : (b : Bounded) (v : View) → v.sil ≡ v.tol → is_large b v ≡ looks_large b v v.tol
 unfolding is_large
-plain b v same = ap (λ (s : ℕ). looks_large b v v.tol || (may_turn_away b v.eye && looks_large b v s)) same ∙ absorbed (looks_large b v v.tol) (may_turn_away b v.eye)
+plain b v same =
+    ap (λ (s : ℕ). looks_large b v v.tol || (may_turn_away b v.eye && looks_large b v s)) same
+    ∙ absorbed (looks_large b v v.tol) (may_turn_away b v.eye)
 
 -- size first, and of each tolerance what is left to ask
-pub asked_in_turn : (o f t w s : Bool) → ((t || s) && not o && (f && (t || w))) ≡ (not o && f && (t || (w && s)))
+pub asked_in_turn : (o f t w s : Bool) → ((t || s) && not o && (f && (t || w)))
+    ≡ (not o && f && (t || (w && s)))
 asked_in_turn true f true w s = refl
 asked_in_turn true f false w true = refl
 asked_in_turn true f false w false = refl
@@ -197,19 +247,32 @@ asked_in_turn false false false w true = refl
 asked_in_turn false false false w false = refl
 
 -- all three
-pub wanted_passes : (child parent : Bounded) (v : View) → IsChild child parent → passes child v ≡ true → passes parent v ≡ true
+pub wanted_passes : (child parent : Bounded) (v : View) → IsChild child parent
+    → passes child v ≡ true → passes parent v ≡ true
 wanted_passes s b v h e =
-    let two = and_parts (not (is_outside_any v.planes s.place s.radius) && int_le (least_facing s v.eye) (pos 0)) (is_large s v) e in
-    let one = and_parts (not (is_outside_any v.planes s.place s.radius)) (int_le (least_facing s v.eye) (pos 0)) two.0 in
-    let inside = false_from_ne_true (is_outside_any v.planes b.place b.radius) (λ (o : is_outside_any v.planes b.place b.radius ≡ true). both_ways (is_outside_any v.planes s.place s.radius) (not-true _ one.0) (outside_any_within v.planes b.place s.place b.radius s.radius h.d h.near h.radius o)) in
-    and_from _ _ (and_from _ _ (not_from_false _ inside) (facing_passes s b v.eye h one.1)) (large_passes s b v h two.1)
+    let two = and_parts
+    (not (is_outside_any v.planes s.place s.radius) && int_le (least_facing s v.eye) (pos 0))
+    (is_large s v) e in
+    let one = and_parts (not (is_outside_any v.planes s.place s.radius))
+    (int_le (least_facing s v.eye) (pos 0)) two.0 in
+    let inside =
+    false_from_ne_true (is_outside_any v.planes b.place b.radius)
+    (λ (o : is_outside_any v.planes b.place b.radius ≡ true). both_ways
+    (is_outside_any v.planes s.place s.radius) (not-true _ one.0)
+    (outside_any_within v.planes b.place s.place b.radius s.radius h.d h.near h.radius o)) in
+    and_from _ _ (and_from _ _ (not_from_false _ inside) (facing_passes s b v.eye h one.1))
+    (large_passes s b v h two.1)
 
-pub reasons : (b : Bounded) (v : View) → passes b v ≡ false → IsBehindOne v.planes b ⊎ (FacesAway b v.eye ⊎ LooksTiny b v)
+pub reasons : (b : Bounded) (v : View) → passes b v ≡ false → IsBehindOne v.planes b
+    ⊎ (FacesAway b v.eye ⊎ LooksTiny b v)
 reasons b v e =
-    elim (and_cases (not (is_outside_any v.planes b.place b.radius) && int_le (least_facing b v.eye) (pos 0)) (is_large b v) e) [
-      | inl h ↦ elim (and_cases (not (is_outside_any v.planes b.place b.radius)) (int_le (least_facing b v.eye) (pos 0)) h) [
-        | inl k ↦ inl (behind_one v.planes b (not-false _ k))
-        | inr k ↦ inr (inl (turned_away b v.eye k))
-      ]
+    elim (and_cases (not (is_outside_any v.planes b.place b.radius) && int_le (least_facing b v.eye)
+    (pos 0)) (is_large b v) e) [
+      | inl h ↦ elim
+          (and_cases (not (is_outside_any v.planes b.place b.radius))
+          (int_le (least_facing b v.eye) (pos 0)) h) [
+            | inl k ↦ inl (behind_one v.planes b (not-false _ k))
+            | inr k ↦ inr (inl (turned_away b v.eye k))
+          ]
       | inr h ↦ inr (inr (tiny b v h))
     ]

@@ -1,5 +1,5 @@
--- What the tests of a node rest on: how the bounds of a child and of its parent hang together, and the corners of the faces
--- under a node.
+-- What the tests of a node rest on: how the bounds of a child and of its parent hang together, and
+-- the corners of the faces under a node.
 use Rattle.std.specs.Prelude.{ℕ, ◌+◌, ◌*◌, ◌≤◌, ◌⊎◌, List, ℤ, pos, ◌+ℤ◌, ◌-ℤ◌, ◌<ℤ◌}
 use Rattle.std.specs.List.{Contains}
 use Rattle.pm_base.specs.Place.{Place}
@@ -10,8 +10,8 @@ use Rattle.pm_view.specs.Views.{View}
 use Rattle.pm_view.specs.Wanted.{Bounded, size_of, value_at, least_product, greatest_product}
 use Rattle.pm_view.specs.Laws.{way}
 
--- Some d is at least the distance of a child and its parent, and error and radius grow by it; deviations don't fall, and
--- the child's box lies in the parent's.
+-- Some d is at least the distance of a child and its parent, and error and radius grow by it;
+-- deviations don't fall, and the child's box lies in the parent's.
 pub record IsChild (child parent : Bounded) : Type 0 where
   pub d : ℕ
   pub near : dist2_of parent.place child.place ≤ d * d
@@ -27,7 +27,9 @@ pub record IsCorner (b : Bounded) (n : Direction) (q : Place) : Type 0 where
 
 -- The reasons of the laws, over all that the bounds allow.
 abbrev pub IsBehindOne : List Plane → Bounded → Type 0
-IsBehindOne fs b = (f : Plane) × Contains fs f × ((n : Direction) (q : Place) → IsCorner b n q → value_at f q <ℤ pos 0)
+IsBehindOne fs b =
+    (f : Plane) × Contains fs f
+    × ((n : Direction) (q : Place) → IsCorner b n q → value_at f q <ℤ pos 0)
 
 abbrev pub FacesAway : Bounded → Place → Type 0
 FacesAway b eye = (n : Direction) (q : Place) → IsCorner b n q → pos 0 <ℤ dot_of n (way q eye)
@@ -39,13 +41,16 @@ FacesTo b eye = (n : Direction) (q : Place) → IsCorner b n q → dot_of n (way
 abbrev pub LooksWithin : Bounded → View → ℕ → Type 0
 LooksWithin b v tol =
     (n : Direction) (q : Place) → IsCorner b n q
-    → (size_of v.measure b * v.focal) * (size_of v.measure b * v.focal) ≤ tol * tol * dist2_of q v.eye
+    → (size_of v.measure b * v.focal) * (size_of v.measure b * v.focal) ≤ tol * tol * dist2_of q
+    v.eye
 
 abbrev pub LooksTiny : Bounded → View → Type 0
 LooksTiny b v = LooksWithin b v v.tol × (LooksWithin b v v.sil ⊎ FacesTo b v.eye)
 
 abbrev pub least_on_axis : ℤ → ℤ → ℤ → ℕ → ℤ → ℤ
-least_on_axis low high at radius eye = least_product low high (at -ℤ pos radius -ℤ eye) (at +ℤ pos radius -ℤ eye)
+least_on_axis low high at radius eye =
+    least_product low high (at -ℤ pos radius -ℤ eye) (at +ℤ pos radius -ℤ eye)
 
 abbrev pub greatest_on_axis : ℤ → ℤ → ℤ → ℕ → ℤ → ℤ
-greatest_on_axis low high at radius eye = greatest_product low high (at -ℤ pos radius -ℤ eye) (at +ℤ pos radius -ℤ eye)
+greatest_on_axis low high at radius eye =
+    greatest_product low high (at -ℤ pos radius -ℤ eye) (at +ℤ pos radius -ℤ eye)

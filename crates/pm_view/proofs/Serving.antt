@@ -7,9 +7,14 @@ use Rattle.pm_view.specs.Views.{View}
 use Rattle.pm_view.specs.Wanted.{Serves}
 
 -- Without deviations they serve each view by errors.
-pub serves_errors : (h : Hierarchy) (view : View) (m : Measures) → AreMeasuresOf h m → view.measure ≡ measures.Error → Serves h view m
-serves_errors h view m are by = record { are = are; enough = λ other. grind (arith, sym by ∙ other) }
+pub serves_errors : (h : Hierarchy) (view : View) (m : Measures) → AreMeasuresOf h m
+    → view.measure ≡ measures.Error → Serves h view m
+serves_errors h view m are by = record {
+  are = are;
+  enough = λ other. grind (arith, sym by ∙ other);
+}
 
 -- With them they serve each view.
-pub serves_all : (h : Hierarchy) (view : View) (m : Measures) → AreMeasuresOf h m → has_deviations m ≡ true → Serves h view m
+pub serves_all : (h : Hierarchy) (view : View) (m : Measures) → AreMeasuresOf h m
+    → has_deviations m ≡ true → Serves h view m
 serves_all h view m are there = record { are = are; enough = λ _. there }

@@ -1,5 +1,6 @@
 -- The three tests by which a view wants a node (Hoppe 1997), in whole numbers.
-use Rattle.std.specs.Prelude.{◌≡◌, true, ℕ, ◌+◌, ◌*◌, Bool, ◌&&◌, ◌||◌, not, nat_lt, List, ℤ, pos, ◌+ℤ◌, ◌-ℤ◌, ◌*ℤ◌, int_lt, int_le, unsigned_abs}
+use Rattle.std.specs.Prelude.{◌≡◌, true, ℕ, ◌+◌, ◌*◌, Bool, ◌&&◌, ◌||◌, not, nat_lt, List, ℤ, pos}
+use Rattle.std.specs.Prelude.{◌+ℤ◌, ◌-ℤ◌, ◌*ℤ◌, int_lt, int_le, unsigned_abs}
 use Rattle.std.specs.Int.{int_min, int_max}
 use Rattle.std.specs.List.{list_any}
 use Rattle.pm_base.specs.Place.{Place}
@@ -43,10 +44,12 @@ value_at f p = f.a *ℤ p.x +ℤ f.b *ℤ p.y +ℤ f.c *ℤ p.z +ℤ f.d
 abbrev pub normal_in : Plane → Direction
 normal_in f = record { x = f.a; y = f.b; z = f.c }
 
--- The whole ball round p with radius r lies on the negative side of the plane: the value m at p is below 0, and m m is
--- above r r times the squared length of the normal.
+-- The whole ball round p with radius r lies on the negative side of the plane: the value m at p is
+-- below 0, and m m is above r r times the squared length of the normal.
 abbrev pub is_outside : Plane → Place → ℕ → Bool
-is_outside f p r = int_lt (value_at f p) (pos 0) && nat_lt (r * r * norm2_of (normal_in f)) (square_of (unsigned_abs (value_at f p)))
+is_outside f p r =
+    int_lt (value_at f p) (pos 0) && nat_lt (r * r * norm2_of (normal_in f))
+    (square_of (unsigned_abs (value_at f p)))
 
 abbrev pub is_outside_any : List Plane → Place → ℕ → Bool
 is_outside_any fs p r = list_any (λ f. is_outside f p r) fs
@@ -55,8 +58,8 @@ is_outside_any fs p r = list_any (λ f. is_outside f p r) fs
 abbrev pub least_product : ℤ → ℤ → ℤ → ℤ → ℤ
 least_product a b c d = int_min (int_min (a *ℤ c) (a *ℤ d)) (int_min (b *ℤ c) (b *ℤ d))
 
--- The sum over the axes of the least products of the normal box and the point box, seen from the eye. Where it is above 0
--- every face under the node is turned away from the eye.
+-- The sum over the axes of the least products of the normal box and the point box, seen from the
+-- eye. Where it is above 0 every face under the node is turned away from the eye.
 unfoldable pub least_facing : Bounded → Place → ℤ
 least_facing b eye =
     let points = box_round b.place b.radius in
@@ -68,8 +71,9 @@ least_facing b eye =
 abbrev pub greatest_product : ℤ → ℤ → ℤ → ℤ → ℤ
 greatest_product a b c d = int_max (int_max (a *ℤ c) (a *ℤ d)) (int_max (b *ℤ c) (b *ℤ d))
 
--- The sum over the axes of the greatest products. Where it is below 0 every face under the node is turned to the eye; where
--- it isn't, and the least sum isn't above 0, the outline may run through the node.
+-- The sum over the axes of the greatest products. Where it is below 0 every face under the node is
+-- turned to the eye; where it isn't, and the least sum isn't above 0, the outline may run through
+-- the node.
 unfoldable pub greatest_facing : Bounded → Place → ℤ
 greatest_facing b eye =
     let points = box_round b.place b.radius in
@@ -77,10 +81,11 @@ greatest_facing b eye =
     +ℤ greatest_product b.box.low.y b.box.high.y (points.low.y -ℤ eye.y) (points.high.y -ℤ eye.y)
     +ℤ greatest_product b.box.low.z b.box.high.z (points.low.z -ℤ eye.z) (points.high.z -ℤ eye.z)
 
--- A size at a place, in a ball of radius r, looks larger than a tolerance: (size focal + tol r) squared is above tol tol D,
--- where D is the squared distance from the eye.
+-- A size at a place, in a ball of radius r, looks larger than a tolerance: (size focal + tol r)
+-- squared is above tol tol D, where D is the squared distance from the eye.
 unfoldable pub looks_larger : ℕ → Place → ℕ → View → ℕ → Bool
-looks_larger size p r v tol = nat_lt (tol * tol * dist2_of p v.eye) (square_of (size * v.focal + tol * r))
+looks_larger size p r v tol =
+    nat_lt (tol * tol * dist2_of p v.eye) (square_of (size * v.focal + tol * r))
 
 -- The node's error, or its deviation where the view judges by that, looks larger than a tolerance.
 abbrev pub looks_large : Bounded → View → ℕ → Bool
@@ -90,12 +95,15 @@ looks_large b v tol = looks_larger (size_of v.measure b) b.place b.radius v tol
 abbrev pub may_turn_away : Bounded → Place → Bool
 may_turn_away b eye = int_le (pos 0) (greatest_facing b eye)
 
--- The node looks larger than the tolerance; or it may lie on the outline, and looks larger than the tolerance for outlines.
+-- The node looks larger than the tolerance; or it may lie on the outline, and looks larger than the
+-- tolerance for outlines.
 unfoldable pub is_large : Bounded → View → Bool
 is_large b v = looks_large b v v.tol || (may_turn_away b v.eye && looks_large b v v.sil)
 
 abbrev pub passes : Bounded → View → Bool
-passes b v = not (is_outside_any v.planes b.place b.radius) && int_le (least_facing b v.eye) (pos 0) && is_large b v
+passes b v =
+    not (is_outside_any v.planes b.place b.radius) && int_le (least_facing b v.eye) (pos 0) &&
+    is_large b v
 
 -- The view wants node v of h.
 abbrev pub is_wanted : Hierarchy → View → ℕ → Bool

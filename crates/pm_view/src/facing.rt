@@ -1,4 +1,5 @@
-//! The least and the greatest that the product of a normal in a box and a way from the eye to a ball can be.
+//! The least and the greatest that the product of a normal in a box and a way from the eye to a
+//! ball can be.
 ghost use Rattle.std.specs.Prelude.{◌≡◌, ◌≤◌, ◌^◌, pos, ◌+ℤ◌, ◌-ℤ◌, ◌*ℤ◌, unsigned_abs};
 ghost use Rattle.std.specs.Int.{int_min, int_max};
 ghost use Rattle.pm_base.specs.declared.limits.TheConstants.{GREATEST_COORDINATE};
@@ -72,7 +73,8 @@ pub fn least_on_axis(low: i64, high: i64, at: i32, radius: u64, eye: i32) -> i12
     requires at_small { unsigned_abs at ≤ GREATEST_COORDINATE }
     requires radius_small { radius ≤ 2 ^ 38 }
     requires eye_small { unsigned_abs eye ≤ GREATEST_EYE_COORDINATE }
-    ensures value { result ≡ least_product low high (at -ℤ pos radius -ℤ eye) (at +ℤ pos radius -ℤ eye) }
+    ensures value { result ≡ least_product low high (at -ℤ pos radius -ℤ eye)
+        (at +ℤ pos radius -ℤ eye) }
     ensures small { unsigned_abs result ≤ 2 ^ 74 }
 {
     least(
@@ -90,7 +92,8 @@ pub fn greatest_on_axis(low: i64, high: i64, at: i32, radius: u64, eye: i32) -> 
     requires at_small { unsigned_abs at ≤ GREATEST_COORDINATE }
     requires radius_small { radius ≤ 2 ^ 38 }
     requires eye_small { unsigned_abs eye ≤ GREATEST_EYE_COORDINATE }
-    ensures value { result ≡ greatest_product low high (at -ℤ pos radius -ℤ eye) (at +ℤ pos radius -ℤ eye) }
+    ensures value { result ≡ greatest_product low high (at -ℤ pos radius -ℤ eye)
+        (at +ℤ pos radius -ℤ eye) }
     ensures small { unsigned_abs result ≤ 2 ^ 74 }
 {
     greatest(

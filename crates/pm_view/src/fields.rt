@@ -1,9 +1,12 @@
 //! The fields that spell a view, read from left to right.
-ghost use Rattle.std.specs.Prelude.{◌≡◌, ◌<◌, ◌≤◌, ◌∷◌, [], ℕ, suc, true, length, Some, None, MatchOption, IfSome, IfNone, IfOk, OnErr, unsigned_abs};
+ghost use Rattle.std.specs.Prelude.{◌≡◌, ◌<◌, ◌≤◌, ◌∷◌, [], ℕ, suc, true, length, Some, None};
+ghost use Rattle.std.specs.Prelude.{MatchOption, IfSome, IfNone, IfOk, OnErr, unsigned_abs};
 ghost use Rattle.std.specs.List.{list_all};
-ghost use Rattle.pm_view.specs.declared.limits.TheConstants.{GREATEST_EYE_COORDINATE, GREATEST_TOLERANCE};
+ghost use Rattle.pm_view.specs.declared.limits.TheConstants.{GREATEST_EYE_COORDINATE};
+ghost use Rattle.pm_view.specs.declared.limits.TheConstants.{GREATEST_TOLERANCE};
 ghost use Rattle.pm_view.specs.Views.{is_plane};
-ghost use Rattle.pm_view.specs.Fields.{spaced_fields, fields_after, eye_of, plane_read, first_plane, planes_of, first_sil, view_of};
+ghost use Rattle.pm_view.specs.Fields.{spaced_fields, fields_after, eye_of, plane_read};
+ghost use Rattle.pm_view.specs.Fields.{first_plane, planes_of, first_sil, view_of};
 
 use crate::limits::{
     GREATEST_EYE_COORDINATE, GREATEST_FOCAL_LENGTH, GREATEST_NORMAL_COMPONENT, GREATEST_OFFSET,
@@ -39,7 +42,8 @@ pub fn cut_field(text: &[u8]) -> (&[u8], &[u8])
 
 // The text after the space that ends a field; none where the last field was read.
 fn after_space(rest: &[u8]) -> Option<&[u8]>
-    ensures { MatchOption result (fields_after rest.now ≡ []) (λ text. fields_after rest.now ≡ spaced_fields text.now) }
+    ensures { MatchOption result (fields_after rest.now ≡ []) (λ text. fields_after rest.now
+        ≡ spaced_fields text.now) }
 {
     match rest {
         [] => None,
@@ -49,14 +53,16 @@ fn after_space(rest: &[u8]) -> Option<&[u8]>
 
 /// The next field and the rest; none where the last field was read.
 pub fn next_field(rest: &[u8]) -> Option<(&[u8], &[u8])>
-    ensures { MatchOption result (fields_after rest.now ≡ []) (λ r. fields_after rest.now ≡ r.0.now ∷ fields_after r.1.now) }
+    ensures { MatchOption result (fields_after rest.now ≡ []) (λ r. fields_after rest.now ≡ r.0.now
+        ∷ fields_after r.1.now) }
 {
     Some(cut_field(after_space(rest)?))
 }
 
 #[tactic(auto, unfolding(crate::specs::Fields::eye_of))]
 fn read_eye(x: &[u8], y: &[u8], z: &[u8]) -> Option<(i32, i32, i32)>
-    ensures value { MatchOption result (eye_of x.now y.now z.now ≡ None) (λ e. eye_of x.now y.now z.now ≡ Some (record { x = e.0; y = e.1; z = e.2 })) }
+    ensures value { MatchOption result (eye_of x.now y.now z.now ≡ None)
+        (λ e. eye_of x.now y.now z.now ≡ Some (record { x = e.0; y = e.1; z = e.2 })) }
     ensures x_small { IfSome result (λ e. unsigned_abs e.0 ≤ GREATEST_EYE_COORDINATE) }
     ensures y_small { IfSome result (λ e. unsigned_abs e.1 ≤ GREATEST_EYE_COORDINATE) }
     ensures z_small { IfSome result (λ e. unsigned_abs e.2 ≤ GREATEST_EYE_COORDINATE) }
@@ -83,7 +89,8 @@ fn read_plane(a: &[u8], b: &[u8], c: &[u8], d: &[u8]) -> Option<Plane>
 // The first plane and the rest.
 #[tactic(auto, unfolding(crate::specs::Fields::first_plane))]
 fn cut_plane(text: &[u8]) -> Option<(Plane, &[u8])>
-    ensures value { MatchOption result (first_plane (spaced_fields text.now) ≡ None) (λ r. first_plane (spaced_fields text.now) ≡ Some (r.0, fields_after r.1.now)) }
+    ensures value { MatchOption result (first_plane (spaced_fields text.now) ≡ None)
+        (λ r. first_plane (spaced_fields text.now) ≡ Some (r.0, fields_after r.1.now)) }
     ensures in_range { IfSome result (λ r. is_plane r.0 ≡ true) }
 {
     let (a, rest) = cut_field(text);
@@ -95,7 +102,8 @@ fn cut_plane(text: &[u8]) -> Option<(Plane, &[u8])>
 
 // The planes that all fields of the rest spell.
 fn read_planes(fields: &[u8]) -> Option<ArrayVec<Plane, 6>>
-    ensures value { MatchOption result (planes_of 6 (fields_after fields.now) ≡ None) (λ planes. planes_of 6 (fields_after fields.now) ≡ Some planes.items) }
+    ensures value { MatchOption result (planes_of 6 (fields_after fields.now) ≡ None)
+        (λ planes. planes_of 6 (fields_after fields.now) ≡ Some planes.items) }
     ensures in_range { IfSome result (λ planes. list_all is_plane planes.items ≡ true) }
 {
     let mut planes = ArrayVec::new();
@@ -116,12 +124,13 @@ fn read_planes(fields: &[u8]) -> Option<ArrayVec<Plane, 6>>
     }
 }
 
-// The tolerance for outlines and the rest; none where there has to be a field for it and there is none, or it is above the
-// tolerance.
+// The tolerance for outlines and the rest; none where there has to be a field for it and there is
+// none, or it is above the tolerance.
 #[tactic(auto, unfolding(crate::specs::Fields::first_sil))]
 fn read_sil(kind: ViewKind, tol: u32, rest: &[u8]) -> Option<(u32, &[u8])>
     requires { tol ≤ GREATEST_TOLERANCE }
-    ensures value { MatchOption result (first_sil kind tol (fields_after rest.now) ≡ None) (λ s. first_sil kind tol (fields_after rest.now) ≡ Some (s.0, fields_after s.1.now)) }
+    ensures value { MatchOption result (first_sil kind tol (fields_after rest.now) ≡ None)
+        (λ s. first_sil kind tol (fields_after rest.now) ≡ Some (s.0, fields_after s.1.now)) }
     ensures small { IfSome result (λ s. s.0 ≤ tol) }
 {
     match kind {
@@ -150,12 +159,13 @@ fn view_in(kind: ViewKind, text: &[u8]) -> Option<View>
     Some(View::within_range(eye, focal, tol, sil, planes))
 }
 
-/// The view that a text spells: the numbers of the eye, the focal length, the tolerance, the tolerance for outlines where the
-/// kind is `Outline`, and the four numbers of each of up to six planes, separated by one space. The outlines of a plain view
-/// have its one tolerance. It takes no memory.
+/// The view that a text spells: the numbers of the eye, the focal length, the tolerance, the
+/// tolerance for outlines where the kind is `Outline`, and the four numbers of each of up to six
+/// planes, separated by one space. The outlines of a plain view have its one tolerance. It takes no
+/// memory.
 ///
-/// BadView comes exactly where the text isn't of this form, a number is out of range, or the tolerance for outlines is above
-/// the other.
+/// BadView comes exactly where the text isn't of this form, a number is out of range, or the
+/// tolerance for outlines is above the other.
 pub fn read_view(kind: ViewKind, fields: &[u8]) -> Result<View, BadView>
     ensures ok { IfOk result (λ view. view_of kind fields.now ≡ Some view) }
     ensures bad { OnErr result (view_of kind fields.now ≡ None) }

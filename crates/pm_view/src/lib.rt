@@ -1,4 +1,5 @@
-//! Views, the text that spells one, and the three tests by which a view wants a node of the vertex forest.
+//! Views, the text that spells one, and the three tests by which a view wants a node of the vertex
+//! forest.
 #![tactic(auto)]
 
 mod facing;

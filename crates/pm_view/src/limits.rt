@@ -1,6 +1,7 @@
 //! The limits of views, which code and clauses cite by name.
 
-/// The greatest coordinate of the eye in absolute value. The eye may stand outside the range of points.
+/// The greatest coordinate of the eye in absolute value. The eye may stand outside the range of
+/// points.
 pub const GREATEST_EYE_COORDINATE: u32 = 16_777_215;
 
 /// The greatest focal length.

@@ -5,6 +5,7 @@
 pub enum Measure {
     /// The error: no leaf under the node is farther from its place.
     Error,
-    /// The deviation: how far the node's place may be from the faces under it, so that flat ground is seen as flat.
+    /// The deviation: how far the node's place may be from the faces under it, so that flat ground
+    /// is seen as flat.
     Deviation,
 }

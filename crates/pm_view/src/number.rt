@@ -45,7 +45,8 @@ pub fn read_signed(field: &[u8], most: u64) -> Option<i64>
     }
 }
 
-/// The signed number that a field is, where it is at most `most` away from 0, as a number of 32 bits.
+/// The signed number that a field is, where it is at most `most` away from 0, as a number of 32
+/// bits.
 pub fn read_small(field: &[u8], most: u32) -> Option<i32>
     requires { most < 2 ^ 31 }
     ensures value { result ≡ signed_of most field.now }

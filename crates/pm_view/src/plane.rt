@@ -1,5 +1,6 @@
 //! Planes, and whether a ball lies wholly on the negative side of one.
-ghost use Rattle.std.specs.Prelude.{◌≡◌, ◌+◌, ◌*◌, ◌≤◌, ◌^◌, ◌&&◌, true, pos, ◌+ℤ◌, ◌*ℤ◌, int_lt, nat_lt, unsigned_abs};
+ghost use Rattle.std.specs.Prelude.{◌≡◌, ◌+◌, ◌*◌, ◌≤◌, ◌^◌, ◌&&◌, true, pos, ◌+ℤ◌, ◌*ℤ◌, int_lt};
+ghost use Rattle.std.specs.Prelude.{nat_lt, unsigned_abs};
 ghost use Rattle.std.specs.List.{list_all};
 ghost use Rattle.pm_base.specs.declared.limits.TheConstants.{GREATEST_COORDINATE};
 ghost use Rattle.pm_base.specs.Geometry.{square_of, norm2_of};
@@ -50,12 +51,14 @@ fn square_of_component(a: i32) -> u64
     size * size
 }
 
-// Whether the ball is outside: m is the plane's value at its middle, n the squared length of the plane's normal.
+// Whether the ball is outside: m is the plane's value at its middle, n the squared length of the
+// plane's normal.
 fn is_beyond(m: i64, n: u64, radius: u64) -> bool
     requires m_small { unsigned_abs m ≤ 2 ^ 43 }
     requires n_small { n ≤ 2 ^ 34 }
     requires radius_small { radius ≤ 2 ^ 38 }
-    ensures { result ≡ (int_lt m (pos 0) && nat_lt (radius * radius * n) (unsigned_abs m * unsigned_abs m)) }
+    ensures { result
+        ≡ (int_lt m (pos 0) && nat_lt (radius * radius * n) (unsigned_abs m * unsigned_abs m)) }
 {
     m < 0 && square(radius) * u128::from(n) < square(m.unsigned_abs())
 }

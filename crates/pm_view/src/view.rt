@@ -1,12 +1,16 @@
 //! Views, and what each of their tests asks.
-ghost use Rattle.std.specs.Prelude.{◌≡◌, ◌≤◌, ◌^◌, ◌&&◌, ◌||◌, ℕ, nat_le, true, false, pos, int_le, unsigned_abs, IfSome, OnSome, IfNone};
+ghost use Rattle.std.specs.Prelude.{◌≡◌, ◌≤◌, ◌^◌, ◌&&◌, ◌||◌, ℕ, nat_le, true, false, pos, int_le};
+ghost use Rattle.std.specs.Prelude.{unsigned_abs, IfSome, OnSome, IfNone};
 ghost use Rattle.std.specs.List.{list_all};
 ghost use Rattle.pm_base.specs.Geometry.{dist2_of};
 ghost use Rattle.pm_bounds.specs.Boxes.{IsSmallBox};
 ghost use Rattle.pm_bounds.specs.declared.normal_box.NormalBox.{NormalBox};
-ghost use Rattle.pm_view.specs.declared.limits.TheConstants.{GREATEST_EYE_COORDINATE, GREATEST_FOCAL_LENGTH, GREATEST_TOLERANCE};
+ghost use Rattle.pm_view.specs.declared.limits.TheConstants.{GREATEST_EYE_COORDINATE};
+ghost use Rattle.pm_view.specs.declared.limits.TheConstants.{GREATEST_FOCAL_LENGTH};
+ghost use Rattle.pm_view.specs.declared.limits.TheConstants.{GREATEST_TOLERANCE};
 ghost use Rattle.pm_view.specs.Views.{is_eye, is_plane, are_tolerances, is_view, by_deviation};
-ghost use Rattle.pm_view.specs.Wanted.{Bounded, is_outside_any, least_facing, greatest_facing, may_turn_away, looks_larger};
+ghost use Rattle.pm_view.specs.Wanted.{Bounded, is_outside_any, least_facing, greatest_facing};
+ghost use Rattle.pm_view.specs.Wanted.{may_turn_away, looks_larger};
 
 use crate::facing::{add_three, greatest_on_axis, least_on_axis};
 use crate::limits::{
@@ -21,9 +25,11 @@ use pm_base::Point;
 use pm_bounds::NormalBox;
 use std::marker::Model;
 
-/// What is looked at: by which number of a node, from where, how finely, and in front of which planes. The numbers are in range, which the type
-/// keeps: the eye's are at most 16,777,215 away from 0, focal length and tolerance at most 65,535, the tolerance for outlines
-/// at most the tolerance, the numbers a, b and c of a plane at most 32,767 away from 0, and d at most 4,398,046,511,104.
+/// What is looked at: by which number of a node, from where, how finely, and in front of which
+/// planes. The numbers are in range, which the type keeps: the eye's are at most 16,777,215 away
+/// from 0, focal length and tolerance at most 65,535, the tolerance for outlines at most the
+/// tolerance, the numbers a, b and c of a plane at most 32,767 away from 0, and d at most
+/// 4,398,046,511,104.
 #[derive(Drop)]
 pub struct View {
     measure: Measure,
@@ -41,9 +47,24 @@ impl Model for View {
 
     ghost Value = { View };
 
-    ghost view = { λ v. record { measure = v.measure; eye = record { x = v.ex; y = v.ey; z = v.ez }; focal = v.focal; tol = v.tol; sil = v.sil; planes = v.planes.items } };
+    ghost view = { λ v. record {
+      measure = v.measure;
+      eye = record { x = v.ex; y = v.ey; z = v.ez };
+      focal = v.focal;
+      tol = v.tol;
+      sil = v.sil;
+      planes = v.planes.items;
+    } };
 
-    ghost invariant = { λ v. IsView (record { measure = v.measure; eye = record { x = v.ex; y = v.ey; z = v.ez }; focal = v.focal; tol = v.tol; sil = v.sil; planes = v.planes.items }) };
+    ghost invariant = { λ v. IsView
+        (record {
+          measure = v.measure;
+          eye = record { x = v.ex; y = v.ey; z = v.ez };
+          focal = v.focal;
+          tol = v.tol;
+          sil = v.sil;
+          planes = v.planes.items;
+        }) };
 }
 
 fn is_within(n: i32, most: u32) -> bool
@@ -82,14 +103,23 @@ fn are_tolerances(tol: u32, sil: u32) -> bool
 }
 
 fn are_in_range(ex: i32, ey: i32, ez: i32, focal: u32, tol: u32, sil: u32, planes: &[Plane]) -> bool
-    ensures { result ≡ is_view (record { measure = Measure.Error; eye = record { x = ex; y = ey; z = ez }; focal = focal; tol = tol; sil = sil; planes = planes.now }) }
+    ensures { result
+        ≡ is_view (record {
+          measure = Measure.Error;
+          eye = record { x = ex; y = ey; z = ez };
+          focal = focal;
+          tol = tol;
+          sil = sil;
+          planes = planes.now;
+        }) }
 {
     let is_fine = is_eye(ex, ey, ez) && focal <= GREATEST_FOCAL_LENGTH && are_tolerances(tol, sil);
     is_fine && are_planes(planes)
 }
 
 impl View {
-    /// The view by errors of these numbers; none exactly where one of them is out of range or `sil` is above `tol`. It takes no memory.
+    /// The view by errors of these numbers; none exactly where one of them is out of range or `sil`
+    /// is above `tol`. It takes no memory.
     pub fn new(
         ex: i32,
         ey: i32,
@@ -99,9 +129,33 @@ impl View {
         sil: u32,
         planes: ArrayVec<Plane, 6>,
     ) -> Option<View>
-        ensures some { IfSome result (λ v. v ≡ record { measure = Measure.Error; eye = record { x = ex; y = ey; z = ez }; focal = focal; tol = tol; sil = sil; planes = planes.items }) }
-        ensures in_range { OnSome result (is_view (record { measure = Measure.Error; eye = record { x = ex; y = ey; z = ez }; focal = focal; tol = tol; sil = sil; planes = planes.items }) ≡ true) }
-        ensures none { IfNone result (is_view (record { measure = Measure.Error; eye = record { x = ex; y = ey; z = ez }; focal = focal; tol = tol; sil = sil; planes = planes.items }) ≡ false) }
+        ensures some { IfSome result
+            (λ v. v ≡ record {
+              measure = Measure.Error;
+              eye = record { x = ex; y = ey; z = ez };
+              focal = focal;
+              tol = tol;
+              sil = sil;
+              planes = planes.items;
+            }) }
+        ensures in_range { OnSome result
+            (is_view (record {
+              measure = Measure.Error;
+              eye = record { x = ex; y = ey; z = ez };
+              focal = focal;
+              tol = tol;
+              sil = sil;
+              planes = planes.items;
+            }) ≡ true) }
+        ensures none { IfNone result
+            (is_view (record {
+              measure = Measure.Error;
+              eye = record { x = ex; y = ey; z = ez };
+              focal = focal;
+              tol = tol;
+              sil = sil;
+              planes = planes.items;
+            }) ≡ false) }
     {
         if are_in_range(ex, ey, ez, focal, tol, sil, planes.as_slice()) {
             Some(View {
@@ -134,7 +188,14 @@ impl View {
         requires tol { tol ≤ GREATEST_TOLERANCE }
         requires sil { sil ≤ tol }
         requires planes { list_all is_plane planes.items ≡ true }
-        ensures { result ≡ record { measure = Measure.Error; eye = record { x = eye.0; y = eye.1; z = eye.2 }; focal = focal; tol = tol; sil = sil; planes = planes.items } }
+        ensures { result ≡ record {
+          measure = Measure.Error;
+          eye = record { x = eye.0; y = eye.1; z = eye.2 };
+          focal = focal;
+          tol = tol;
+          sil = sil;
+          planes = planes.items;
+        } }
     {
         let (ex, ey, ez) = eye;
         View {
@@ -157,11 +218,19 @@ impl View {
         is_outside_any(self.planes.as_slice(), place, radius)
     }
 
-    // The least that the product of a normal in the box and a way from the eye into the ball can be.
+    // The least that the product of a normal in the box and a way from the eye into the ball can
+    // be.
     fn least_facing(&self, place: Point, radius: u64, normals: NormalBox) -> i128
         requires radius_small { radius ≤ 2 ^ 38 }
         requires box_small { IsSmallBox normals }
-        ensures { (error deviation : ℕ) → result ≡ least_facing (record { place = place; error = error; deviation = deviation; radius = radius; box = normals }) self.now.eye }
+        ensures { (error deviation : ℕ)
+            → result ≡ least_facing (record {
+              place = place;
+              error = error;
+              deviation = deviation;
+              radius = radius;
+              box = normals;
+            }) self.now.eye }
     {
         let (low, high) = (normals.low, normals.high);
         let x = least_on_axis(low.x, high.x, place.x(), radius, self.ex);
@@ -174,16 +243,34 @@ impl View {
     fn may_face(&self, place: Point, radius: u64, normals: NormalBox) -> bool
         requires radius_small { radius ≤ 2 ^ 38 }
         requires box_small { IsSmallBox normals }
-        ensures { (error deviation : ℕ) → result ≡ int_le (least_facing (record { place = place; error = error; deviation = deviation; radius = radius; box = normals }) self.now.eye) (pos 0) }
+        ensures { (error deviation : ℕ)
+            → result ≡ int_le
+            (least_facing (record {
+              place = place;
+              error = error;
+              deviation = deviation;
+              radius = radius;
+              box = normals;
+            }) self.now.eye) (pos 0) }
     {
         self.least_facing(place, radius, normals) <= 0
     }
 
-    // The greatest that the product of a normal in the box and a way from the eye into the ball can be.
+    // The greatest that the product of a normal in the box and a way from the eye into the ball can
+    // be.
     fn greatest_facing(&self, place: Point, radius: u64, normals: NormalBox) -> i128
         requires radius_small { radius ≤ 2 ^ 38 }
         requires box_small { IsSmallBox normals }
-        ensures { (error deviation : ℕ) → result ≡ greatest_facing (record { place = place; error = error; deviation = deviation; radius = radius; box = normals }) self.now.eye }
+        ensures { (error deviation : ℕ)
+            → result ≡ greatest_facing
+            (record {
+              place = place;
+              error = error;
+              deviation = deviation;
+              radius = radius;
+              box =
+                  normals;
+            }) self.now.eye }
     {
         let (low, high) = (normals.low, normals.high);
         let x = greatest_on_axis(low.x, high.x, place.x(), radius, self.ex);
@@ -196,13 +283,20 @@ impl View {
     fn may_turn_away(&self, place: Point, radius: u64, normals: NormalBox) -> bool
         requires radius_small { radius ≤ 2 ^ 38 }
         requires box_small { IsSmallBox normals }
-        ensures { (error deviation : ℕ) → result ≡ may_turn_away (record { place = place; error = error; deviation = deviation; radius = radius; box = normals }) self.now.eye }
+        ensures { (error deviation : ℕ)
+            → result ≡ may_turn_away (record {
+              place = place;
+              error = error;
+              deviation = deviation;
+              radius = radius;
+              box = normals;
+            }) self.now.eye }
     {
         self.greatest_facing(place, radius, normals) >= 0
     }
 
-    // Whether a face in the ball, with its normal in the box, may be turned to the eye; and, unless the node is large
-    // without an outline too, whether one may be turned away.
+    // Whether a face in the ball, with its normal in the box, may be turned to the eye; and, unless
+    // the node is large without an outline too, whether one may be turned away.
     pub(crate) fn may_show(
         &self,
         place: Point,
@@ -212,8 +306,16 @@ impl View {
     ) -> bool
         requires radius_small { radius ≤ 2 ^ 38 }
         requires box_small { IsSmallBox normals }
-        ensures { (error deviation : ℕ) → let b : Bounded = record { place = place; error = error; deviation = deviation; radius = radius; box = normals } in
-            result ≡ (int_le (least_facing b self.now.eye) (pos 0) && (is_large || may_turn_away b self.now.eye)) }
+        ensures { (error deviation : ℕ)
+            → let b : Bounded = record {
+              place = place;
+              error = error;
+              deviation = deviation;
+              radius = radius;
+              box = normals;
+            } in
+            result ≡ (int_le (least_facing b self.now.eye) (pos 0) &&
+            (is_large || may_turn_away b self.now.eye)) }
     {
         self.may_face(place, radius, normals)
             && (is_large || self.may_turn_away(place, radius, normals))

@@ -27,8 +27,8 @@ fn size_of(h: &Hierarchy, measures: &Measures, node: NodeId, ball: &Ball, view: 
     }
 }
 
-// The three tests of a node, which has this ball, as one step. The box of its normals is read last and only where it is asked
-// for: most nodes are too small, and the box lies apart from the ball.
+// The three tests of a node, which has this ball, as one step. The box of its normals is read last
+// and only where it is asked for: most nodes are too small, and the box lies apart from the ball.
 #[tactic(auto, unfolding(crate::specs::Wanted::is_large), using(crate::proofs::Passing::asked_in_turn))]
 fn passes<L: Ledger>(
     h: &Hierarchy,
@@ -59,10 +59,10 @@ fn passes<L: Ledger>(
         )
 }
 
-/// Whether the view wants the node refined: no plane of the view has the node's whole ball behind it, a face under the node
-/// may be turned to the eye, and the node's error, or its deviation where the view judges by that, looks larger than the
-/// tolerance, or than the tolerance for outlines where a face under the node may be turned away too. It counts one step, and
-/// takes no memory.
+/// Whether the view wants the node refined: no plane of the view has the node's whole ball behind
+/// it, a face under the node may be turned to the eye, and the node's error, or its deviation where
+/// the view judges by that, looks larger than the tolerance, or than the tolerance for outlines
+/// where a face under the node may be turned away too. It counts one step, and takes no memory.
 pub fn wants<L: Ledger>(
     h: &Hierarchy,
     measures: &Measures,
@@ -74,8 +74,10 @@ pub fn wants<L: Ledger>(
     requires node { node.0 < node_count h.now }
     ensures value { result ≡ is_wanted h.now view.now node.0 }
     ensures cost { steps.new ≡ steps.old + 1 }
-    ensures parent { result ≡ true → (k : ℕ) → k < record_count h.now → Makes h.now k node.0 → is_wanted h.now view.now (s_of h.now k) ≡ true }
-    ensures reason { result ≡ false → IsBehind h.now view.now node.0 ⊎ (IsTurnedAway h.now view.now node.0 ⊎ IsTiny h.now view.now node.0) }
+    ensures parent { result ≡ true → (k : ℕ) → k < record_count h.now → Makes h.now k node.0
+        → is_wanted h.now view.now (s_of h.now k) ≡ true }
+    ensures reason { result ≡ false → IsBehind h.now view.now node.0
+        ⊎ (IsTurnedAway h.now view.now node.0 ⊎ IsTiny h.now view.now node.0) }
 {
     h.invariant();
     passes(
@@ -88,9 +90,9 @@ pub fn wants<L: Ledger>(
     )
 }
 
-/// Whether the view wants a node refined that record `k` splits: as `wants` says, but the ball is found by the record. The
-/// balls of records lie in their order, so that a walk over records reads neighbours. It counts one step, and takes no
-/// memory.
+/// Whether the view wants a node refined that record `k` splits: as `wants` says, but the ball is
+/// found by the record. The balls of records lie in their order, so that a walk over records reads
+/// neighbours. It counts one step, and takes no memory.
 pub fn wants_split<L: Ledger>(
     h: &Hierarchy,
     measures: &Measures,

@@ -1,7 +1,8 @@
 //! The node that shows a leaf.
 ghost use Rattle.std.specs.Prelude.{◌≡◌, ◌+◌, ◌<◌, IfSome};
 ghost use Rattle.pm_base.specs.Counts.{set_of};
-ghost use Rattle.pm_forest.specs.Forest.{node_count, leaf_count, record_count, interval_of, maker_of};
+ghost use Rattle.pm_forest.specs.Forest.{node_count, leaf_count, record_count, interval_of};
+ghost use Rattle.pm_forest.specs.Forest.{maker_of};
 ghost use Rattle.pm_forest.specs.Fronts.{IsFront, ancestor_of};
 ghost use Rattle.pm_forest.proofs.Climbing.{IsAbove};
 

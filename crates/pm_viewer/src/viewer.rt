@@ -1,7 +1,9 @@
 //! The viewer.
-ghost use Rattle.std.specs.Prelude.{◌≡◌, ◌≤◌, ◌<◌, ◌*◌, [], Some, Err, IfOk, IfErr, OnOk, OnErr, length, take};
+ghost use Rattle.std.specs.Prelude.{◌≡◌, ◌≤◌, ◌<◌, ◌*◌, [], Some, Err, IfOk, IfErr, OnOk, OnErr};
+ghost use Rattle.std.specs.Prelude.{length, take};
 ghost use Rattle.pm_base.specs.Counts.{set_of};
-ghost use Rattle.pm_forest.specs.Forest.{node_count, leaf_count, record_count, splitter_of, maker_of};
+ghost use Rattle.pm_forest.specs.Forest.{node_count, leaf_count, record_count, splitter_of};
+ghost use Rattle.pm_forest.specs.Forest.{maker_of};
 ghost use Rattle.pm_forest.specs.Fronts.{ancestor_of};
 ghost use Rattle.pm_forest.specs.Places.{place_of_node};
 ghost use Rattle.pm_front.specs.Shown.{active_nodes, kept_faces};
@@ -39,7 +41,11 @@ impl Model for Viewer {
 
     ghost Value = { Viewed };
 
-    ghost view = { λ v. record { shown = v.session.value; digits = v.digits; reply = v.reply.got } };
+    ghost view = { λ v. record {
+      shown = v.session.value;
+      digits = v.digits;
+      reply = v.reply.got;
+    } };
 
     ghost invariant = { λ v. (v.session.value.grammar ≡ grammars.Live) × (v.digits ≤ 4) ×
         (length v.positions.items ≡ node_count v.session.value.h) };

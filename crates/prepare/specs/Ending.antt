@@ -14,20 +14,23 @@ use Rattle.obj_fit.specs.Fails.{StopsPreparing}
 use Rattle.pm_io.specs.Puts.{Said, Stayed}
 
 -- The sink gained the text of what was done, and beside it these notes are to be said.
-pub record Written (size : Option ℕ) (bytes notes : List ℕ) (old new : Option (List ℕ)) : Type 0 where
-  pub done : Done
-  pub outcome : IsPreparedText size bytes (Ok done) None
-  pub notes_are : notes ≡ done.notes
-  pub gained : Gains old new done.text
+pub record Written (size : Option ℕ) (bytes notes : List ℕ) (old new : Option (List ℕ)) : Type 0
+  where
+    pub done : Done
+    pub outcome : IsPreparedText size bytes (Ok done) None
+    pub notes_are : notes ≡ done.notes
+    pub gained : Gains old new done.text
 
 -- The sink gained a proper prefix of the text.
-pub record IsPreparedInPart (size : Option ℕ) (bytes : List ℕ) (old new : Option (List ℕ)) : Type 0 where
-  pub done : Done
-  pub outcome : IsPreparedText size bytes (Ok done) None
-  pub part : GainsPart old new done.text
+pub record IsPreparedInPart (size : Option ℕ) (bytes : List ℕ) (old new : Option (List ℕ)) : Type 0
+  where
+    pub done : Done
+    pub outcome : IsPreparedText size bytes (Ok done) None
+    pub part : GainsPart old new done.text
 
 -- The sink gained the text of what was done, and the error sink what is said of it.
-pub record Finished (size : Option ℕ) (bytes : List ℕ) (old new err_old err_new : Option (List ℕ)) (err_before err_now : ℕ) : Type 0 where
+pub record Finished (size : Option ℕ) (bytes : List ℕ) (old new err_old err_new : Option (List ℕ))
+    (err_before err_now : ℕ) : Type 0 where
   pub done : Done
   pub outcome : IsPreparedText size bytes (Ok done) None
   pub gained : Gains old new done.text
@@ -53,6 +56,9 @@ prepare_status_of (fails.Input input.OutOfMemory) = 5
 prepare_status_of fails.Write = 4
 
 -- How the program ends early: only a failed write finds the output changed.
-abbrev pub FailsBy : Option ℕ → RunFail → Option (List ℕ) → Option (List ℕ) → ℕ → ℕ → Option (List ℕ) → Option (List ℕ) → ℕ → ℕ → Type 0
-FailsBy size (fails.Input e) left now in_old in_new old new out_old out_new = StopsPreparing size e left now in_old in_new × Stayed old new out_old out_new
-FailsBy size fails.Write left now in_old in_new old new out_old out_new = IfSome left (λ bytes. IsPreparedInPart size bytes old new) × Rose out_old out_new
+abbrev pub FailsBy : Option ℕ → RunFail → Option (List ℕ) → Option (List ℕ) → ℕ → ℕ
+    → Option (List ℕ) → Option (List ℕ) → ℕ → ℕ → Type 0
+FailsBy size (fails.Input e) left now in_old in_new old new out_old out_new =
+    StopsPreparing size e left now in_old in_new × Stayed old new out_old out_new
+FailsBy size fails.Write left now in_old in_new old new out_old out_new =
+    IfSome left (λ bytes. IsPreparedInPart size bytes old new) × Rose out_old out_new

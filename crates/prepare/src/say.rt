@@ -49,7 +49,8 @@ fn put_fail(line: &mut Line, fail: RunFail)
 /// Says why the program ended early, and answers its status.
 pub fn tell<E: Sink>(err: &mut E, fail: RunFail) -> u8
     ensures status { result ≡ prepare_status_of fail }
-    ensures said { Said (E.got err.old) (E.got err.new) (E.faults err.old) (E.faults err.new) (prepare_fail_line fail) }
+    ensures said { Said (E.got err.old) (E.got err.new) (E.faults err.old) (E.faults err.new)
+        (prepare_fail_line fail) }
 {
     let mut line = Line::new();
     put_fail(&mut line, fail);

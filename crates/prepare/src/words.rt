@@ -12,7 +12,8 @@ use std::env::Args;
 /// What the words ask for.
 #[derive(Clone, Copy, Debug, PartialEq, Eq)]
 pub struct Asked {
-    /// How far from 0 the longest axis goes either way, from 1 to 32,767. None leaves points as they stand where they fit.
+    /// How far from 0 the longest axis goes either way, from 1 to 32,767. None leaves points as
+    /// they stand where they fit.
     pub size: Option<u32>,
 }
 

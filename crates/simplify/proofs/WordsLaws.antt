@@ -1,5 +1,6 @@
 -- The last of the words tells whether the border is kept.
-use Rattle.std.proofs.Common.{◌≡◌, ℕ, ◌-◌, ◌+◌, Bool, true, false, List, [], ◌∷◌, ◌++◌, length, take, String, slice_index_or}
+use Rattle.std.proofs.Common.{◌≡◌, ℕ, ◌-◌, ◌+◌, Bool, true, false, List, [], ◌∷◌, ◌++◌, length}
+use Rattle.std.proofs.Common.{take, String, slice_index_or}
 use Rattle.std.proofs.Common.{map, if◌then◌else◌, refl, sym, ◌∙◌, ap, arith, length-append}
 use Rattle.std.specs.Prelude.{nat_eq, codes}
 use Rattle.std.specs.String.{string_bytes}
@@ -25,12 +26,14 @@ module _ (before : List (List ℕ)) (last : List ℕ) where
   place = omega (arith, length-append before (last ∷ []))
 
   last_is : last_word (before ++ last ∷ []) ≡ last
-  last_is = ap (λ i. slice_index_or (before ++ last ∷ []) i []) place ∙ get_or-append_seam before last [] []
+  last_is = ap (λ i. slice_index_or (before ++ last ∷ []) i []) place
+      ∙ get_or-append_seam before last [] []
 
   before_is : take (length (before ++ last ∷ []) - 1) (before ++ last ∷ []) ≡ before
   before_is = ap (λ i. take i (before ++ last ∷ [])) place ∙ take-append_seam before (last ∷ [])
 
-module _ (words before : List (String Global)) (last : String Global) (are : words ≡ before ++ last ∷ []) where
+module _ (words before : List (String Global)) (last : String Global) (are : words ≡ before
+    ++ last ∷ []) where
   spelled : map string_bytes words ≡ map string_bytes before ++ string_bytes last ∷ []
   spelled = ap (map string_bytes) are ∙ map-append string_bytes before (last ∷ [])
 
@@ -42,7 +45,9 @@ module _ (words before : List (String Global)) (last : String Global) (are : wor
       asked_of (map string_bytes words) ≡ with_border borders.Kept (map string_bytes before)
   unfolding asked_of
   last_kept flag =
-      let fronts = ap (λ l. take (length l - 1) l) spelled ∙ before_is (map string_bytes before) (string_bytes last) in
+      let fronts =
+      ap (λ l. take (length l - 1) l) spelled
+      ∙ before_is (map string_bytes before) (string_bytes last) in
       pick_true _ _ _ (ap (λ w. pointwise nat_eq w (codes "--keep-border")) last_bytes ∙ flag)
       ∙ ap (with_border borders.Kept) fronts
 

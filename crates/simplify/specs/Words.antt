@@ -1,5 +1,6 @@
 -- The words of a command line.
-use Rattle.std.specs.Prelude.{ℕ, ◌-◌, nat_eq, List, [], ◌∷◌, length, take, slice_index_or, Option, Some, None, if◌then◌else◌, codes}
+use Rattle.std.specs.Prelude.{ℕ, ◌-◌, nat_eq, List, [], ◌∷◌, length, take, slice_index_or, Option}
+use Rattle.std.specs.Prelude.{Some, None, if◌then◌else◌, codes}
 use Rattle.std.specs.Cmp.Lexicographic.{pointwise}
 use Rattle.pm_io.specs.Digits.{unsigned_of}
 use Rattle.pm_commands.specs.declared.asked.Border.{Border}
@@ -16,10 +17,12 @@ abbrev pub with_digits : Border → Option ℕ → List ℕ → Option ℕ → O
 with_digits border None flag digits = None
 with_digits border (Some target) flag None = None
 with_digits border (Some target) flag (Some digits) =
-    if pointwise nat_eq flag (codes "--digits") then Some (asked.Simplify target digits border) else None
+    if pointwise nat_eq flag (codes "--digits") then Some (asked.Simplify target digits border)
+    else None
 
--- What the words ask for with the border free or kept: none, `N`, `--digits D` or `N --digits D`, with N an unsigned number
--- of 32 bits, and D from 0 to 4. Without N it is 0, and so is D. Other words ask for nothing.
+-- What the words ask for with the border free or kept: none, `N`, `--digits D` or `N --digits D`,
+-- with N an unsigned number of 32 bits, and D from 0 to 4. Without N it is 0, and so is D. Other
+-- words ask for nothing.
 unfoldable pub with_border : Border → List (List ℕ) → Option Asked
 with_border border [] = Some (asked.Simplify 0 0 border)
 with_border border (number ∷ []) = with_target border (unsigned_of 4294967295 number)
@@ -32,8 +35,8 @@ with_border border _ = None
 abbrev pub last_word : List (List ℕ) → List ℕ
 last_word words = slice_index_or words (length words - 1) []
 
--- What the words ask for. The border is kept where the last word is `--keep-border`, and the words before it ask for the
--- rest; else it is free.
+-- What the words ask for. The border is kept where the last word is `--keep-border`, and the words
+-- before it ask for the rest; else it is free.
 unfoldable pub asked_of : List (List ℕ) → Option Asked
 asked_of words =
     if pointwise nat_eq (last_word words) (codes "--keep-border")

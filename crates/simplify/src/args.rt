@@ -1,5 +1,6 @@
 //! The program over its arguments, the first of which is its name.
-ghost use Rattle.std.specs.Prelude.{◌≡◌, ◌≢◌, ◌⊎◌, ◌≤◌, ◌<◌, ◌-◌, ◌^◌, ℕ, false, List, None, Some, IfErr, IfSome, codes};
+ghost use Rattle.std.specs.Prelude.{◌≡◌, ◌≢◌, ◌⊎◌, ◌≤◌, ◌<◌, ◌-◌, ◌^◌, ℕ, false, List, None, Some};
+ghost use Rattle.std.specs.Prelude.{IfErr, IfSome, codes};
 ghost use Rattle.std.specs.IoError.{error_kind};
 ghost use Rattle.pm_io.specs.Causes.{Rose};
 ghost use Rattle.pm_commands.specs.declared.fault.Fault.{Fault};
@@ -23,12 +24,14 @@ use std::env::Args;
 use std::io;
 use std::io::ErrorKind;
 
-// The status where the words can't be gathered: for want of memory, of which nothing is said, or since one isn't UTF-8
-// and so none of the forms.
+// The status where the words can't be gathered: for want of memory, of which nothing is said, or
+// since one isn't UTF-8 and so none of the forms.
 fn refuse_words<E: Sink>(err: &mut E, kind: ErrorKind) -> u8
     ensures memory { kind ≡ ErrorKind.OutOfMemory → (result ≡ 5) × Unput E.Sink err.old err.new }
-    ensures either { ((result ≡ 5) × Unput E.Sink err.old err.new) ⊎ ((result ≡ 2) × Tells E.Sink err.old err.new (codes "simplify: words not understood\n")) }
-    ensures other { kind ≢ ErrorKind.OutOfMemory → (result ≡ 2) × Tells E.Sink err.old err.new (codes "simplify: words not understood\n") }
+    ensures either { ((result ≡ 5) × Unput E.Sink err.old err.new)
+        ⊎ ((result ≡ 2) × Tells E.Sink err.old err.new (codes "simplify: words not understood\n")) }
+    ensures other { kind ≢ ErrorKind.OutOfMemory
+        → (result ≡ 2) × Tells E.Sink err.old err.new (codes "simplify: words not understood\n") }
 {
     if kind == ErrorKind::OutOfMemory {
         return 5;
@@ -37,8 +40,9 @@ fn refuse_words<E: Sink>(err: &mut E, kind: ErrorKind) -> u8
     2
 }
 
-/// Does what the words after the program's name ask for, as `run` does, and answers the exit status. Where the words can't be
-/// gathered nothing is read or put: 2 where one isn't UTF-8, and 5 where memory was wanted.
+/// Does what the words after the program's name ask for, as `run` does, and answers the exit
+/// status. Where the words can't be gathered nothing is read or put: 2 where one isn't UTF-8, and 5
+/// where memory was wanted.
 pub fn answer<S: Source, K: Sink, E: Sink>(
     alloc: Global,
     args: io::Result<Args>,
@@ -52,23 +56,29 @@ pub fn answer<S: Source, K: Sink, E: Sink>(
     // Words that ask for nothing are refused, and only they; then nothing is read or put.
     ensures refused { ((asked : Asked) → ArgsAsk args asked → ⊥) → (result ≡ 2) ⊎ (result ≡ 5) }
     ensures known { result ≡ 2 → (asked : Asked) → ArgsAsk args asked → ⊥ }
-    ensures untouched { result ≡ 2 → Unread S.Source input.old input.new × Unput K.Sink out.old out.new }
-    ensures said_words { result ≡ 2 → Tells E.Sink err.old err.new (codes "simplify: words not understood\n") }
+    ensures untouched { result ≡ 2 → Unread S.Source input.old input.new
+        × Unput K.Sink out.old out.new }
+    ensures said_words { result ≡ 2
+        → Tells E.Sink err.old err.new (codes "simplify: words not understood\n") }
     // Words that can't be gathered: 5 where memory was wanted, and 2 where one isn't UTF-8.
     ensures no_memory { IfErr args (λ e. error_kind e ≡ ErrorKind.OutOfMemory → result ≡ 5) }
     ensures not_text { IfErr args (λ e. error_kind e ≢ ErrorKind.OutOfMemory → result ≡ 2) }
     // The outcome of what was asked for is whole, and exactly its text was put.
     ensures whole { (asked : Asked) → ArgsAsk args asked → result ≡ 0
         → Replies S.Source K.Sink asked None input.old out.old out.new }
-    // The stream expands to the mesh of the OBJ text, each frame that `view` writes of it shows a surface, and its border where
-    // that was kept.
-    ensures expands { (target digits : ℕ) (border : Border) → ArgsAsk args (Asked.Simplify target digits border) → result ≡ 0
+    // The stream expands to the mesh of the OBJ text, each frame that `view` writes of it shows a
+    // surface, and its border where that was kept.
+    ensures expands { (target digits : ℕ) (border : Border)
+        → ArgsAsk args (Asked.Simplify target digits border) → result ≡ 0
         → IfSome (S.left input.old) (λ bytes.
         GivesMeshBack (Asked.Simplify target digits border) bytes (K.got out.old) (K.got out.new)) }
-    ensures surfaces { (target digits : ℕ) (border : Border) → ArgsAsk args (Asked.Simplify target digits border) → result ≡ 0
+    ensures surfaces { (target digits : ℕ) (border : Border)
+        → ArgsAsk args (Asked.Simplify target digits border) → result ≡ 0
         → IfSome (S.left input.old) (λ bytes.
-        ShowsSurfacesOf (IsSimplifiedText border target digits) digits bytes (K.got out.old) (K.got out.new)) }
-    ensures meets { (target digits : ℕ) → ArgsAsk args (Asked.Simplify target digits Border.Kept) → result ≡ 0
+        ShowsSurfacesOf (IsSimplifiedText border target digits) digits bytes (K.got out.old)
+        (K.got out.new)) }
+    ensures meets { (target digits : ℕ) → ArgsAsk args (Asked.Simplify target digits Border.Kept)
+        → result ≡ 0
         → IfSome (S.left input.old) (λ bytes.
         FramesShowBorder target digits bytes (K.got out.old) (K.got out.new)) }
     ensures read_whole { (asked : Asked) → ArgsAsk args asked → result ≡ 0
@@ -86,7 +96,8 @@ pub fn answer<S: Source, K: Sink, E: Sink>(
         → Rose (K.faults out.old) (K.faults out.new)
         × Breaks S.Source K.Sink asked input.old out.old out.new }
     // Memory was wanted, and nothing was put; no device failed.
-    ensures memory { result ≡ 5 → (S.faults input.new ≡ S.faults input.old) × Unput K.Sink out.old out.new }
+    ensures memory { result ≡ 5 → (S.faults input.new ≡ S.faults input.old)
+        × Unput K.Sink out.old out.new }
     // Where no device failed, a whole outcome gives 0 and a fault gives 1, unless memory is wanted.
     ensures complete { (asked : Asked) (bytes : List ℕ) (all : Ran) → ArgsAsk args asked
         → S.left input.old ≡ Some bytes → IsOutcome asked bytes all

@@ -1,4 +1,5 @@
-//! `simplify`, which makes a stream of a mesh and may keep its border: `answer` over the standard streams.
+//! `simplify`, which makes a stream of a mesh and may keep its border: `answer` over the standard
+//! streams.
 #![tactic(auto)]
 
 mod args;

@@ -1,13 +1,16 @@
 //! The program over its arguments, the first of which is its name.
-ghost use Rattle.std.specs.Prelude.{◌≡◌, ◌≢◌, ◌⊎◌, ◌≤◌, ◌<◌, ◌-◌, ◌^◌, ℕ, false, List, None, Some, IfErr, codes};
+ghost use Rattle.std.specs.Prelude.{◌≡◌, ◌≢◌, ◌⊎◌, ◌≤◌, ◌<◌, ◌-◌, ◌^◌, ℕ, false, List, None, Some};
+ghost use Rattle.std.specs.Prelude.{IfErr, codes};
 ghost use Rattle.std.specs.IoError.{error_kind};
 ghost use Rattle.pm_io.specs.Causes.{Rose};
 ghost use Rattle.pm_commands.specs.declared.fault.Fault.{Fault};
 ghost use Rattle.pm_commands.specs.declared.asked.Asked.{Asked};
 ghost use Rattle.pm_commands.specs.Ran.{Ran};
 ghost use Rattle.pm_commands.specs.Outcome.{IsOutcome};
-ghost use Rattle.pm_commands.specs.Ending.{ReadFails, ReadToEnd, ReadToPlace, FewMore, FewMoreLive, Answers};
-ghost use Rattle.pm_commands.specs.Devices.{Unread, Unput, Tells, Replies, LeadsBack, FramesAreSurfaces, Breaks};
+ghost use Rattle.pm_commands.specs.Ending.{ReadFails, ReadToEnd, ReadToPlace, FewMore, FewMoreLive};
+ghost use Rattle.pm_commands.specs.Ending.{Answers};
+ghost use Rattle.pm_commands.specs.Devices.{Unread, Unput, Tells, Replies, LeadsBack};
+ghost use Rattle.pm_commands.specs.Devices.{FramesAreSurfaces, Breaks};
 ghost use Rattle.vdpm.specs.Asking.{ArgsAsk};
 ghost use Rattle.vdpm.specs.FaultLine.{fault_line};
 
@@ -19,12 +22,14 @@ use std::env::Args;
 use std::io;
 use std::io::ErrorKind;
 
-// The status where the words can't be gathered: for want of memory, of which nothing is said, or since one isn't UTF-8
-// and so none of the forms.
+// The status where the words can't be gathered: for want of memory, of which nothing is said, or
+// since one isn't UTF-8 and so none of the forms.
 fn refuse_words<E: Sink>(err: &mut E, kind: ErrorKind) -> u8
     ensures memory { kind ≡ ErrorKind.OutOfMemory → (result ≡ 5) × Unput E.Sink err.old err.new }
-    ensures either { ((result ≡ 5) × Unput E.Sink err.old err.new) ⊎ ((result ≡ 2) × Tells E.Sink err.old err.new (codes "vdpm: words not understood\n")) }
-    ensures other { kind ≢ ErrorKind.OutOfMemory → (result ≡ 2) × Tells E.Sink err.old err.new (codes "vdpm: words not understood\n") }
+    ensures either { ((result ≡ 5) × Unput E.Sink err.old err.new)
+        ⊎ ((result ≡ 2) × Tells E.Sink err.old err.new (codes "vdpm: words not understood\n")) }
+    ensures other { kind ≢ ErrorKind.OutOfMemory
+        → (result ≡ 2) × Tells E.Sink err.old err.new (codes "vdpm: words not understood\n") }
 {
     if kind == ErrorKind::OutOfMemory {
         return 5;
@@ -33,8 +38,9 @@ fn refuse_words<E: Sink>(err: &mut E, kind: ErrorKind) -> u8
     2
 }
 
-/// Does what the words after the program's name ask for, as `run` does, and answers the exit status. Where the words can't be
-/// gathered nothing is read or put: 2 where one isn't UTF-8, and 5 where memory was wanted.
+/// Does what the words after the program's name ask for, as `run` does, and answers the exit
+/// status. Where the words can't be gathered nothing is read or put: 2 where one isn't UTF-8, and 5
+/// where memory was wanted.
 pub fn answer<S: Source, K: Sink, E: Sink>(
     alloc: Global,
     args: io::Result<Args>,
@@ -48,15 +54,18 @@ pub fn answer<S: Source, K: Sink, E: Sink>(
     // Words that ask for nothing are refused, and only they; then nothing is read or put.
     ensures refused { ((asked : Asked) → ArgsAsk args asked → ⊥) → (result ≡ 2) ⊎ (result ≡ 5) }
     ensures known { result ≡ 2 → (asked : Asked) → ArgsAsk args asked → ⊥ }
-    ensures untouched { result ≡ 2 → Unread S.Source input.old input.new × Unput K.Sink out.old out.new }
-    ensures said_words { result ≡ 2 → Tells E.Sink err.old err.new (codes "vdpm: words not understood\n") }
+    ensures untouched { result ≡ 2 → Unread S.Source input.old input.new
+        × Unput K.Sink out.old out.new }
+    ensures said_words { result ≡ 2
+        → Tells E.Sink err.old err.new (codes "vdpm: words not understood\n") }
     // Words that can't be gathered: 5 where memory was wanted, and 2 where one isn't UTF-8.
     ensures no_memory { IfErr args (λ e. error_kind e ≡ ErrorKind.OutOfMemory → result ≡ 5) }
     ensures not_text { IfErr args (λ e. error_kind e ≢ ErrorKind.OutOfMemory → result ≡ 2) }
     // The outcome of what was asked for is whole, and exactly its text was put.
     ensures whole { (asked : Asked) → ArgsAsk args asked → result ≡ 0
         → Replies S.Source K.Sink asked None input.old out.old out.new }
-    // The stream of a build expands to the mesh of the OBJ text, and each frame that `view` writes of it shows a surface.
+    // The stream of a build expands to the mesh of the OBJ text, and each frame that `view` writes
+    // of it shows a surface.
     ensures expands { (target digits : ℕ) → ArgsAsk args (Asked.Build target digits) → result ≡ 0
         → LeadsBack S.Source K.Sink target digits input.old out.old out.new }
     ensures surfaces { (target digits : ℕ) → ArgsAsk args (Asked.Build target digits) → result ≡ 0
@@ -82,7 +91,8 @@ pub fn answer<S: Source, K: Sink, E: Sink>(
     ensures few_more_live { (budget : ℕ) → ArgsAsk args (Asked.Live budget) → result ≡ 4
         → FewMoreLive budget (S.left input.old) (S.left input.new) (K.got out.old) (K.got out.new) }
     // Memory was wanted, and nothing was put; no device failed.
-    ensures memory { result ≡ 5 → (S.faults input.new ≡ S.faults input.old) × Unput K.Sink out.old out.new }
+    ensures memory { result ≡ 5 → (S.faults input.new ≡ S.faults input.old)
+        × Unput K.Sink out.old out.new }
     // Where no device failed, a whole outcome gives 0 and a fault gives 1, unless memory is wanted.
     ensures complete { (asked : Asked) (bytes : List ℕ) (all : Ran) → ArgsAsk args asked
         → S.left input.old ≡ Some bytes → IsOutcome asked bytes all

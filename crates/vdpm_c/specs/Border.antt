@@ -1,5 +1,6 @@
 -- What crosses to C: what C owes, and what each exported function came to.
-use Rattle.std.specs.Prelude.{◌≡◌, ℕ, ◌≤◌, List, [], length, Option, Some, None, IsSome, Result, Ok, Err}
+use Rattle.std.specs.Prelude.{◌≡◌, ℕ, ◌≤◌, List, [], length, Option, Some, None, IsSome, Result, Ok}
+use Rattle.std.specs.Prelude.{Err}
 use Rattle.pm_base.specs.Counts.{set_of}
 use Rattle.pm_forest.specs.Forest.{node_count, leaf_count, record_count}
 use Rattle.pm_front.specs.Shown.{active_nodes, kept_faces}

@@ -6,7 +6,8 @@ ghost use Rattle.pm_forest.specs.Fronts.{ancestor_of};
 ghost use Rattle.pm_front.specs.Shown.{active_nodes, kept_faces};
 ghost use Rattle.pm_arrays.specs.Arrays.{coordinates_of, place_array, position_array, node_array};
 ghost use Rattle.pm_viewer.specs.Viewing.{Viewed, FrameFits};
-ghost use Rattle.vdpm_c.specs.Border.{IsSound, Has, LineDone, Opened, Refused, AreCountsOf, record_told};
+ghost use Rattle.vdpm_c.specs.Border.{IsSound, Has, LineDone, Opened, Refused, AreCountsOf};
+ghost use Rattle.vdpm_c.specs.Border.{record_told};
 
 use crate::holding::{put, take};
 use crate::inside;

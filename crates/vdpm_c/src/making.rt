@@ -7,7 +7,8 @@ ghost use Rattle.pm_commands.specs.Simplified.{IsSimplifiedText};
 ghost use Rattle.obj_fit.specs.Laws.{IsFitText};
 ghost use Rattle.pm_making.specs.Making.{MadeText, IsStreamOf};
 ghost use Rattle.pm_making.specs.Fitting.{IsPreparedOf};
-ghost use Rattle.vdpm_c.specs.Making.{IsWhole, HasMade, RefusedText, UnfitText, border_told, size_told};
+ghost use Rattle.vdpm_c.specs.Making.{IsWhole, HasMade, RefusedText, UnfitText, border_told};
+ghost use Rattle.vdpm_c.specs.Making.{size_told};
 
 use crate::holding::{put_made, take_made};
 use crate::statuses::{DONE, NOT_SO, OUT_OF_RANGE};

@@ -12,7 +12,8 @@ returns c =
     let number = c.in_ok-add_number.ensures
     ∙ ap (λ n. c.extend_from_slice.new.self.items ++ decimal n) c.from.ensures in
     rw (ne_eqb c.args.n 0 c.if-n-eq0.false)
-    (added_three c.args.text.now.items c.extend_from_slice.new.self.items c.add_number.new.text.items
+    (added_three c.args.text.now.items c.extend_from_slice.new.self.items
+    c.add_number.new.text.items
     c.extend_from_slice-2.new.self.items (codes ", ") (decimal c.args.n)
     (codes " of them by rounding")
     c.in_ok-extend_from_slice.ensures.items number c.in_ok-extend_from_slice-2.ensures.items)

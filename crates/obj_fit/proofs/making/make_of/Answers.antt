@@ -2,7 +2,8 @@ use Rattle.std.proofs.Common.{arith}
 use Rattle.std.proofs.lemmas.Bool.Decides.{nat_tests}
 use Rattle.pm_base.specs.Meshes.{mesh_of}
 use Rattle.obj_scan.specs.Fails.{scanned_of}
-use Rattle.obj_fit.proofs.MakeLaws.{laid_lent, laid_fans, laid_places, laid_few, laid_three, makes_done}
+use Rattle.obj_fit.proofs.MakeLaws.{laid_lent, laid_fans, laid_places, laid_few, laid_three}
+use Rattle.obj_fit.proofs.MakeLaws.{makes_done}
 use Rattle.obj_fit.proofs.making.make_of.Goals as goal
 
 pub prepare-requires : goal.prepare-requires

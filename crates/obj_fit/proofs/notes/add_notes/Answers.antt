@@ -1,5 +1,6 @@
 use Rattle.std.specs.Prelude.{codes}
-use Rattle.obj_fit.specs.Texts.{account_line, face_notes, turn_notes, vertex_notes, note_line, last_note, warning_line, notes_text}
+use Rattle.obj_fit.specs.Texts.{account_line, face_notes, turn_notes, vertex_notes, note_line}
+use Rattle.obj_fit.specs.Texts.{last_note, warning_line, notes_text}
 use Rattle.obj_fit.proofs.TextLaws.{added_seven}
 use Rattle.obj_fit.proofs.notes.add_notes.Goals as goal
 

@@ -5,4 +5,6 @@ use Rattle.obj_prepare.specs.Named.{chosen}
 use Rattle.obj_prepare.proofs.placing.all_stand.Given as goal
 
 abbrev pub invariant-loop-at : goal.invariant-loop-at
-invariant-loop-at l = list_all stands_on_grid (chosen (drop l.at l.named) (drop l.at l.points)) ≡ list_all stands_on_grid (chosen l.named l.points)
+invariant-loop-at l =
+    list_all stands_on_grid (chosen (drop l.at l.named) (drop l.at l.points))
+    ≡ list_all stands_on_grid (chosen l.named l.points)

@@ -5,4 +5,6 @@ use Rattle.obj_prepare.proofs.PlacingLaws.{frame_after}
 use Rattle.obj_prepare.proofs.placing.frame_of.Given as goal
 
 abbrev pub invariant-loop-at : goal.invariant-loop-at
-invariant-loop-at l = frame_after l.frame (chosen (drop l.at l.named) (drop l.at l.points)) ≡ frame_of (chosen l.named l.points)
+invariant-loop-at l =
+    frame_after l.frame (chosen (drop l.at l.named) (drop l.at l.points))
+    ≡ frame_of (chosen l.named l.points)

@@ -11,7 +11,9 @@ fit_for-fit-requires-clause-flags c = ap length (c.deref.ensures.value ∙ c.in_
     ∙ length-named_in c.args.faces.now (length c.args.points.now)
 
 pub places_by-requires-clause-flags : goal.places_by-requires-clause-flags
-places_by-requires-clause-flags c = ap length (c.deref-2.ensures.value ∙ c.in_ok-named.ensures) ∙ length-named_in c.args.faces.now (length c.args.points.now)
+places_by-requires-clause-flags c =
+    ap length (c.deref-2.ensures.value ∙ c.in_ok-named.ensures)
+    ∙ length-named_in c.args.faces.now (length c.args.points.now)
 
 pub places_by-requires-clause-suits : goal.places_by-requires-clause-suits
 places_by-requires-clause-suits c =

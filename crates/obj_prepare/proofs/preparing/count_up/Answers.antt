@@ -2,7 +2,8 @@ use Rattle.std.proofs.Common.{length, sym, ◌∙◌, ap, arith}
 use Rattle.obj_prepare.specs.Named.{named_in}
 use Rattle.obj_prepare.proofs.PiecesMade.{pieces_names, pieces_stay, pieces_told, pieces_cuttable}
 use Rattle.obj_prepare.proofs.NamedLaws.{length-named_in}
-use Rattle.obj_prepare.proofs.CountLaws.{counted_joined, counted_flat, counted_double, counted_cut, counted_split, counted_unnamed, counted_gone}
+use Rattle.obj_prepare.proofs.CountLaws.{counted_joined, counted_flat, counted_double, counted_cut}
+use Rattle.obj_prepare.proofs.CountLaws.{counted_split, counted_unnamed, counted_gone}
 use Rattle.obj_prepare.proofs.preparing.count_up.Goals as goal
 
 pub named-requires-2 : goal.named-requires-2

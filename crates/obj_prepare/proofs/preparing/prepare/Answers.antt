@@ -1,7 +1,8 @@
 use Rattle.std.proofs.Common.{sym, subst, arith}
 use Rattle.pm_base.specs.Sides.{net_of}
 use Rattle.pm_base.specs.Fans.{IsOrientedManifold}
-use Rattle.obj_prepare.proofs.PiecesMade.{pieces_old, pieces_manifold, pieces_formed, pieces_made, pieces_too_many}
+use Rattle.obj_prepare.proofs.PiecesMade.{pieces_old, pieces_manifold, pieces_formed, pieces_made}
+use Rattle.obj_prepare.proofs.PiecesMade.{pieces_too_many}
 use Rattle.obj_prepare.proofs.preparing.prepare.Goals as goal
 
 pub returns-then-len-clause-err : goal.returns-then-len-clause-err

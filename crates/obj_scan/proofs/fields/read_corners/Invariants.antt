@@ -7,7 +7,8 @@ use Rattle.obj_scan.proofs.fields.read_corners.Given as goal
 
 abbrev pub invariant-loop-field : goal.invariant-loop-field
 invariant-loop-field l = record {
-  read : indices l.vertices (fields l.text) ≡ and_then l.corners.items (indices l.vertices (fields l.rest));
+  read : indices l.vertices (fields l.text)
+      ≡ and_then l.corners.items (indices l.vertices (fields l.rest));
   within : All (λ (c : ℕ). c < l.vertices) l.corners.items;
 }
 

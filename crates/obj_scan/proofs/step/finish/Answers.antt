@@ -16,17 +16,21 @@ take_whole-requires-clause-returns c = last_returns _ _ _ _ c.finish.ensures.sta
 
 pub returns-in-Partial-clause-ok : goal.returns-in-Partial-clause-ok
 returns-in-Partial-clause-ok c =
-    let same = last_none (scanned_so_far c.args.progress (held_of c.args.scanner)) _ _ c.finish.ensures.state c.in-Partial.is in
+    let same = last_none (scanned_so_far c.args.progress (held_of c.args.scanner)) _ _
+    c.finish.ensures.state c.in-Partial.is in
     if_ok c.end.result _ _ (λ s is. same ∙ is c.args.progress.start) c.end.ensures.ok
 
 pub returns-in-Partial-clause-err : goal.returns-in-Partial-clause-err
 returns-in-Partial-clause-err c =
-    let same = last_none (scanned_so_far c.args.progress (held_of c.args.scanner)) _ _ c.finish.ensures.state c.in-Partial.is in
-    if_err c.end.result _ _ (λ e is. refused_same e _ _ same (is c.args.progress.start)) c.end.ensures.err
+    let same = last_none (scanned_so_far c.args.progress (held_of c.args.scanner)) _ _
+    c.finish.ensures.state c.in-Partial.is in
+    if_err c.end.result _ _ (λ e is. refused_same e _ _ same (is c.args.progress.start))
+    c.end.ensures.err
 
 pub returns-clause-ok : goal.returns-clause-ok
 returns-clause-ok c =
-    let within : c.args.progress.start + length (open_line c.args.lines) ≤ 1073741824 = omega (arith, c.requires.ready.at, c.requires.ready.room) in
+    let within : c.args.progress.start + length (open_line c.args.lines) ≤ 1073741824 =
+    omega (arith, c.requires.ready.at, c.requires.ready.room) in
     let same = last_ok (scanned_so_far c.args.progress (held_of c.args.scanner)) _ _ _
     (held_of c.take_whole.new.scanner)
     (record {
@@ -38,11 +42,13 @@ returns-clause-ok c =
       within = within;
     })
     c.in_ok-take_whole-in-Whole.ensures.ok in
-    if_ok c.end-in-Whole.result _ _ (λ s is. same ∙ is (c.args.progress.start + length (open_line c.args.lines))) c.end-in-Whole.ensures.ok
+    if_ok c.end-in-Whole.result _ _ (λ s is. same
+    ∙ is (c.args.progress.start + length (open_line c.args.lines))) c.end-in-Whole.ensures.ok
 
 pub returns-clause-err : goal.returns-clause-err
 returns-clause-err c =
-    let within : c.args.progress.start + length (open_line c.args.lines) ≤ 1073741824 = omega (arith, c.requires.ready.at, c.requires.ready.room) in
+    let within : c.args.progress.start + length (open_line c.args.lines) ≤ 1073741824 =
+    omega (arith, c.requires.ready.at, c.requires.ready.room) in
     let same = last_ok (scanned_so_far c.args.progress (held_of c.args.scanner)) _ _ _
     (held_of c.take_whole.new.scanner)
     (record {
@@ -54,13 +60,16 @@ returns-clause-err c =
       within = within;
     })
     c.in_ok-take_whole-in-Whole.ensures.ok in
-    if_err c.end-in-Whole.result _ _ (λ e is. refused_same e _ _ same (is (c.args.progress.start + length (open_line c.args.lines)))) c.end-in-Whole.ensures.err
+    if_err c.end-in-Whole.result _ _
+    (λ e is. refused_same e _ _ same
+    (is (c.args.progress.start + length (open_line c.args.lines)))) c.end-in-Whole.ensures.err
 
 pub returns-in_err-take_whole-in-Whole-clause-err :
     goal.returns-in_err-take_whole-in-Whole-clause-err
 returns-in_err-take_whole-in-Whole-clause-err c =
     let p = err_from_is_err_and c.from_residual.result c.from_residual.ensures.1 in
-    let within : c.args.progress.start + length (open_line c.args.lines) ≤ 1073741824 = omega (arith, c.requires.ready.at, c.requires.ready.room) in
+    let within : c.args.progress.start + length (open_line c.args.lines) ≤ 1073741824 =
+    omega (arith, c.requires.ready.at, c.requires.ready.room) in
     rw (p.1, p.2) (last_err (scanned_so_far c.args.progress (held_of c.args.scanner)) _ _ _ _
     (record {
       at = c.finish.ensures.state;

@@ -25,9 +25,11 @@ pub store-requires : goal.store-requires
 store-requires c =
     let h = c.args.front.now.h in
     let i = c.loop-face.invariant in
-    let there : c.loop-face.face < face_count h = omega (arith, ap face_count c.hierarchy.ensures) in
+    let there : c.loop-face.face < face_count h =
+    omega (arith, ap face_count c.hierarchy.ensures) in
     let pass = sym c.is_kept.ensures ∙ c.if-is_kept.true in
-    let below = position_below (is_kept h (set_of c.args.front.now.flags)) c.loop-face.face (face_count h) there pass in
+    let below = position_below (is_kept h (set_of c.args.front.now.flags)) c.loop-face.face
+    (face_count h) there pass in
     omega (arith, below, i.counted, i.faces_len)
 
 pub loop-face-preserved : goal.loop-face-preserved
@@ -41,9 +43,14 @@ loop-face-preserved c =
           let pass = sym c.is_kept.ensures ∙ w.if-is_kept.true in
           rw (w.count-is, w.faces-is, w.nodes-is, w.corners-is) (record {
             counted = ap (λ k. k + 1) i.counted ∙ sym (count_on (is_kept h T) f pass);
-            stored = numbers_on (is_kept h T) f c.loop-face.count _ _ pass i.counted i.stored w.store.ensures.stored;
-            cornered = threes_on (is_kept h T) (face_positions h T) f c.loop-face.count (c.loop-face.count + 1) _ _ _ pass w.corners_at-at.ensures.positions i.cornered w.store_three-then-is_kept.ensures.stored;
-            pointed = threes_on (is_kept h T) (face_nodes h T) f c.loop-face.count (c.loop-face.count + 1) _ _ _ pass w.corners_at-at.ensures.nodes i.pointed w.store_three.ensures.stored;
+            stored = numbers_on (is_kept h T) f c.loop-face.count _ _ pass i.counted i.stored
+                w.store.ensures.stored;
+            cornered = threes_on (is_kept h T) (face_positions h T) f c.loop-face.count
+                (c.loop-face.count + 1) _ _ _ pass w.corners_at-at.ensures.positions i.cornered
+                w.store_three-then-is_kept.ensures.stored;
+            pointed = threes_on (is_kept h T) (face_nodes h T) f c.loop-face.count
+                (c.loop-face.count + 1) _ _ _ pass w.corners_at-at.ensures.nodes i.pointed
+                w.store_three.ensures.stored;
             faces_len = w.store.ensures.len ∙ i.faces_len;
             corners_len = w.store_three-then-is_kept.ensures.len ∙ i.corners_len;
             nodes_len = w.store_three.ensures.len ∙ i.nodes_len;
@@ -53,8 +60,10 @@ loop-face-preserved c =
           rw (w.count-is, w.faces-is, w.nodes-is, w.corners-is) (record {
             counted = i.counted ∙ sym (count_stays (is_kept h T) f fail);
             stored = numbers_stay (is_kept h T) (λ xs. xs) f _ fail i.stored;
-            cornered = numbers_stay (is_kept h T) (λ xs. flat_map (face_positions h T) xs) f _ fail i.cornered;
-            pointed = numbers_stay (is_kept h T) (λ xs. flat_map (face_nodes h T) xs) f _ fail i.pointed;
+            cornered = numbers_stay (is_kept h T) (λ xs. flat_map (face_positions h T) xs) f _ fail
+                i.cornered;
+            pointed = numbers_stay (is_kept h T) (λ xs. flat_map (face_nodes h T) xs) f _ fail
+                i.pointed;
             faces_len = i.faces_len;
             corners_len = i.corners_len;
             nodes_len = i.nodes_len;

@@ -10,8 +10,11 @@ use Rattle.pm_arrays.proofs.nodes.write_nodes.Given as goal
 abbrev pub invariant-loop-node : goal.invariant-loop-node
 invariant-loop-node l = record {
   counted : l.count ≡ count (is_active l.front.h (set_of l.front.flags)) l.node;
-  stored : take l.count l.nodes ≡ filter (is_active l.front.h (set_of l.front.flags)) (numbers_below l.node);
-  placed : take (3 * l.count) l.places ≡ flat_map (coordinates_of l.front.h) (filter (is_active l.front.h (set_of l.front.flags)) (numbers_below l.node));
+  stored : take l.count l.nodes ≡ filter (is_active l.front.h (set_of l.front.flags))
+      (numbers_below l.node);
+  placed : take (3 * l.count) l.places
+      ≡ flat_map (coordinates_of l.front.h)
+      (filter (is_active l.front.h (set_of l.front.flags)) (numbers_below l.node));
   told : (v : ℕ) → v < l.node → is_active l.front.h (set_of l.front.flags) v ≡ true
       → slice_index_or l.positions v 0 ≡ count (is_active l.front.h (set_of l.front.flags)) v;
   nodes_len : length l.nodes ≡ length (active_nodes l.front.h (set_of l.front.flags));

@@ -12,4 +12,6 @@ pub returns-clause-z : goal.returns-clause-z
 returns-clause-z c = search rules
 
 pub returns-clause-small : goal.returns-clause-small
-returns-clause-small c = cross_small c.args.a c.args.b c.args.c c.x-2.ensures.in_range c.x.ensures.in_range c.x-3.ensures.in_range
+returns-clause-small c =
+    cross_small c.args.a c.args.b c.args.c c.x-2.ensures.in_range c.x.ensures.in_range
+    c.x-3.ensures.in_range

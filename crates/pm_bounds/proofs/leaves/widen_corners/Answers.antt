@@ -22,7 +22,8 @@ one_wider :
 one_wider h f old new l square normal wider reach is =
     wider
     ∙ ap (λ n. set old l (widened (get_or old l (bare_leaf_at origin)) n normal)) reach
-    ∙ ap (λ b. set old l (widened (get_or old l (bare_leaf_at origin)) (square_reach h (leaf_node_of h l) f) b)) is
+    ∙ ap (λ b. set old l
+    (widened (get_or old l (bare_leaf_at origin)) (square_reach h (leaf_node_of h l) f) b)) is
 
 pub returns-clause-wider : goal.returns-clause-wider
 returns-clause-wider c l m =
@@ -35,10 +36,14 @@ returns-clause-wider c l m =
     let first = c.index.result.now.place in
     let second = c.index-2.result.now.place in
     let third = c.index-3.result.now.place in
-    let is : IsMeasured h face first second third c.dist2-ab.result c.dist2-bc.result c.dist2-ca.result = record {
-      at_a = place_read h leaves face.a c.index.result.now len places corners.a_leaf c.index.ensures;
-      at_b = place_read h leaves face.b c.index-2.result.now len places corners.b_leaf c.index-2.ensures;
-      at_c = place_read h leaves face.c c.index-3.result.now len places corners.c_leaf c.index-3.ensures;
+    let is : IsMeasured h face first second third c.dist2-ab.result c.dist2-bc.result
+    c.dist2-ca.result = record {
+      at_a = place_read h leaves face.a c.index.result.now len places corners.a_leaf
+          c.index.ensures;
+      at_b = place_read h leaves face.b c.index-2.result.now len places corners.b_leaf
+          c.index-2.ensures;
+      at_c = place_read h leaves face.c c.index-3.result.now len places corners.c_leaf
+          c.index-3.ensures;
       along_ab = c.dist2-ab.ensures.value;
       along_bc = c.dist2-bc.ensures.value;
       along_ca = c.dist2-ca.ensures.value;
@@ -47,11 +52,19 @@ returns-clause-wider c l m =
     let one = c.widen.new.leaves.items in
     let two = c.widen-2.new.leaves.items in
     let all = c.widen-3.new.leaves.items in
-    let read : get_or all l (bare_leaf_at origin) ≡ cond (is_leaf_corner l face) (widened_by h l face (get_or leaves l (bare_leaf_at origin))) (get_or leaves l (bare_leaf_at origin)) =
+    let read : get_or all l (bare_leaf_at origin)
+    ≡ cond (is_leaf_corner l face) (widened_by h l face (get_or leaves l (bare_leaf_at origin)))
+    (get_or leaves l (bare_leaf_at origin)) =
     three (bare_leaf_at origin) (λ w b. widened_by h w face b) (widened-twice h face)
-    leaves one two all face.a face.b face.c (omega (arith, corners.a_leaf, len)) (omega (arith, corners.b_leaf, len)) (omega (arith, corners.c_leaf, len))
-    (one_wider h face leaves one face.a _ _ c.widen.ensures.wider (c.max.ensures ∙ reach_a h face first second third _ _ _ is) normal)
-    (one_wider h face one two face.b _ _ c.widen-2.ensures.wider (c.max-2.ensures ∙ reach_b h face first second third _ _ _ is) normal)
-    (one_wider h face two all face.c _ _ c.widen-3.ensures.wider (c.max-3.ensures ∙ reach_c h face first second third _ _ _ is) normal) l in
-    subst (λ (f : Face). get_or all l (bare_leaf_at origin) ≡ cond (is_leaf_corner l f) (widened_by h l f (get_or leaves l (bare_leaf_at origin))) (get_or leaves l (bare_leaf_at origin)))
+    leaves one two all face.a face.b face.c (omega (arith, corners.a_leaf, len))
+    (omega (arith, corners.b_leaf, len)) (omega (arith, corners.c_leaf, len))
+    (one_wider h face leaves one face.a _ _ c.widen.ensures.wider (c.max.ensures
+    ∙ reach_a h face first second third _ _ _ is) normal)
+    (one_wider h face one two face.b _ _ c.widen-2.ensures.wider (c.max-2.ensures
+    ∙ reach_b h face first second third _ _ _ is) normal)
+    (one_wider h face two all face.c _ _ c.widen-3.ensures.wider (c.max-3.ensures
+    ∙ reach_c h face first second third _ _ _ is) normal) l in
+    subst (λ (f : Face). get_or all l (bare_leaf_at origin)
+    ≡ cond (is_leaf_corner l f) (widened_by h l f (get_or leaves l (bare_leaf_at origin)))
+    (get_or leaves l (bare_leaf_at origin)))
     corners.corners read

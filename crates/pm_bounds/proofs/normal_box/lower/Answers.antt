@@ -13,4 +13,5 @@ returns c =
     let rx : FitsSigned w64 c.min.result = search rules in
     let ry : FitsSigned w64 c.min-2.result = search rules in
     let rz : FitsSigned w64 c.min-3.result = search rules in
-    simp to_z-of_z (rw (c.min.ensures.value, c.min-2.ensures.value, c.min-3.ensures.value) (simp to_z-of_z))
+    simp to_z-of_z (rw (c.min.ensures.value, c.min-2.ensures.value, c.min-3.ensures.value)
+    (simp to_z-of_z))

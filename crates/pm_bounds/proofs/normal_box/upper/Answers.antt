@@ -13,4 +13,5 @@ returns c =
     let rx : FitsSigned w64 c.max.result = search rules in
     let ry : FitsSigned w64 c.max-2.result = search rules in
     let rz : FitsSigned w64 c.max-3.result = search rules in
-    simp to_z-of_z (rw (c.max.ensures.value, c.max-2.ensures.value, c.max-3.ensures.value) (simp to_z-of_z))
+    simp to_z-of_z (rw (c.max.ensures.value, c.max-2.ensures.value, c.max-3.ensures.value)
+    (simp to_z-of_z))

@@ -1,4 +1,5 @@
-use Rattle.std.proofs.Common.{◌≡◌, ◌<◌, ℕ, Bool, List, Option, true, set, length, sym, ap, ◌∙◌, subst, arith}
+use Rattle.std.proofs.Common.{◌≡◌, ◌<◌, ℕ, Bool, List, Option, true, set, length, sym, ap, ◌∙◌}
+use Rattle.std.proofs.Common.{subst, arith}
 use Rattle.pm_base.specs.declared.ids.Side.{Side}
 use Rattle.pm_base.specs.Counts.{set_of}
 use Rattle.pm_base.specs.Sides.{face_of}

@@ -3,7 +3,8 @@ use Rattle.std.proofs.lemmas.Result.{err_from_is_err_and}
 use Rattle.pm_io.proofs.PutLaws.{through_then, through_stops, flush_then, flush_stops}
 use Rattle.pm_base.specs.Counts.{set_of}
 use Rattle.pm_frame.specs.Frame.{end_line}
-use Rattle.pm_change.specs.Texts.{first_change_line, gone_face_lines, gone_node_lines, new_node_lines, put_face_lines, change_text}
+use Rattle.pm_change.specs.Texts.{first_change_line, gone_face_lines, gone_node_lines}
+use Rattle.pm_change.specs.Texts.{new_node_lines, put_face_lines, change_text}
 use Rattle.pm_change.proofs.telling.write_sets.Goals as goal
 
 pub returns-in_err-put_first-clause-puts : goal.returns-in_err-put_first-clause-puts

@@ -3,5 +3,6 @@ use Rattle.std.specs.Vec.Iter.{into_iter_items, into_iter_len}
 use Rattle.pm_commands.proofs.arguments.words_after_name.Given as goal
 
 abbrev pub invariant-loop-word : goal.invariant-loop-word
-invariant-loop-word l = (l.words.items ++ into_iter_items l.word-iterator ≡ drop 1 (into_iter_items l.fn.args))
+invariant-loop-word l =
+    (l.words.items ++ into_iter_items l.word-iterator ≡ drop 1 (into_iter_items l.fn.args))
     × (into_iter_len l.word-iterator ≡ length (into_iter_items l.word-iterator))

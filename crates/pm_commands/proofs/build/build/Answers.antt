@@ -4,7 +4,8 @@ use Rattle.pm_format.specs.Stream.{stream}
 use Rattle.pm_commands.specs.declared.asked.Asked.TheVariants as asked
 use Rattle.pm_commands.specs.Build.{IsBuilt}
 use Rattle.pm_commands.specs.Ran.{whole_output}
-use Rattle.pm_commands.proofs.OutcomeLaws.{ends_stopped, counts_stopped, ends_all, ends_part, follows_done}
+use Rattle.pm_commands.proofs.OutcomeLaws.{ends_stopped, counts_stopped, ends_all, ends_part}
+use Rattle.pm_commands.proofs.OutcomeLaws.{follows_done}
 use Rattle.pm_commands.proofs.BuildLaws.{gives_back}
 use Rattle.pm_commands.proofs.FrameLaws.{shows_surfaces}
 use Rattle.pm_commands.proofs.build.build.Goals as goal
@@ -12,27 +13,45 @@ use Rattle.pm_commands.proofs.build.build.Goals as goal
 pub returns-in_err-h-clause-ends : goal.returns-in_err-h-clause-ends
 returns-in_err-h-clause-ends g c =
     let p = err_from_is_err_and c.from_residual.result c.from_residual.ensures.1 in
-    rw (p.1, p.2) (ends_stopped (asked.Build c.args.target c.args.digits) (IsBuilt c.args.target c.args.digits) (λ h. whole_output (stream c.args.digits h)) (λ x. refl) (λ taken. refl) (λ bytes all is. is) (λ bytes all is. is) c.in_err-h.field-0.0 _ _ _ _ _ c.in_err-h.ensures.err)
+    rw (p.1, p.2)
+    (ends_stopped (asked.Build c.args.target c.args.digits)
+    (IsBuilt c.args.target c.args.digits) (λ h. whole_output (stream c.args.digits h))
+    (λ x. refl) (λ taken. refl) (λ bytes all is. is) (λ bytes all is. is) c.in_err-h.field-0.0 _
+    _ _ _ _ c.in_err-h.ensures.err)
 
 pub returns-in_err-h-clause-counts : goal.returns-in_err-h-clause-counts
 returns-in_err-h-clause-counts g c =
     let p = err_from_is_err_and c.from_residual.result c.from_residual.ensures.1 in
-    rw (p.1, p.2) (counts_stopped (IsBuilt c.args.target c.args.digits) c.in_err-h.field-0.0 _ _ _ _ _ c.in_err-h.ensures.err)
+    rw (p.1, p.2) (counts_stopped (IsBuilt c.args.target c.args.digits) c.in_err-h.field-0.0 _ _ _ _
+    _ c.in_err-h.ensures.err)
 
 pub returns-clause-ends : goal.returns-clause-ends
 returns-clause-ends g c =
-    ends_all (asked.Build c.args.target c.args.digits) _ _ _ (whole_output (stream c.args.digits c.in_ok-h.h)) None (follows_done (IsBuilt c.args.target c.args.digits) (λ h. whole_output (stream c.args.digits h)) _ c.in_ok-h.h None c.in_ok-h.ensures.built) refl c.in_ok-encode.ensures.ok
+    ends_all (asked.Build c.args.target c.args.digits) _ _ _
+    (whole_output (stream c.args.digits c.in_ok-h.h)) None
+    (follows_done (IsBuilt c.args.target c.args.digits)
+    (λ h. whole_output (stream c.args.digits h)) _ c.in_ok-h.h None c.in_ok-h.ensures.built)
+    refl c.in_ok-encode.ensures.ok
 
 pub returns-clause-gives_back : goal.returns-clause-gives_back
 returns-clause-gives_back g c =
     gives_back (asked.Build c.args.target c.args.digits) _ _ _ c.in_ok-h.h c.requires.few
-    (follows_done (IsBuilt c.args.target c.args.digits) (λ h. whole_output (stream c.args.digits h)) _ c.in_ok-h.h None c.in_ok-h.ensures.built) c.in_ok-h.ensures.mesh c.in_ok-h.ensures.firm.valid c.in_ok-encode.ensures.ok
+    (follows_done (IsBuilt c.args.target c.args.digits) (λ h. whole_output (stream c.args.digits h))
+    _ c.in_ok-h.h None c.in_ok-h.ensures.built) c.in_ok-h.ensures.mesh
+    c.in_ok-h.ensures.firm.valid c.in_ok-encode.ensures.ok
 
 pub returns-clause-surfaces : goal.returns-clause-surfaces
-returns-clause-surfaces g c = shows_surfaces (IsBuilt c.args.target c.args.digits) c.args.digits _ _ _ c.in_ok-h.h c.in_ok-h.ensures.built c.requires.few c.in_ok-h.ensures.firm c.in_ok-encode.ensures.ok
+returns-clause-surfaces g c =
+    shows_surfaces (IsBuilt c.args.target c.args.digits) c.args.digits _ _ _ c.in_ok-h.h
+    c.in_ok-h.ensures.built c.requires.few c.in_ok-h.ensures.firm c.in_ok-encode.ensures.ok
 
 pub returns-in_err-encode-clause-ends : goal.returns-in_err-encode-clause-ends
 returns-in_err-encode-clause-ends g c =
-    let p = err_from_is_err_and c.from_residual-in_err-encode.result c.from_residual-in_err-encode.ensures.1 in
+    let p = err_from_is_err_and c.from_residual-in_err-encode.result
+    c.from_residual-in_err-encode.ensures.1 in
     rw (p.1, p.2)
-    (ends_part (asked.Build c.args.target c.args.digits) _ _ _ (whole_output (stream c.args.digits c.in_ok-h.h)) (follows_done (IsBuilt c.args.target c.args.digits) (λ h. whole_output (stream c.args.digits h)) _ c.in_ok-h.h None c.in_ok-h.ensures.built) c.in_err-encode.ensures.err)
+    (ends_part (asked.Build c.args.target c.args.digits) _ _ _
+    (whole_output (stream c.args.digits c.in_ok-h.h))
+    (follows_done (IsBuilt c.args.target c.args.digits)
+    (λ h. whole_output (stream c.args.digits h)) _ c.in_ok-h.h None c.in_ok-h.ensures.built)
+    c.in_err-encode.ensures.err)

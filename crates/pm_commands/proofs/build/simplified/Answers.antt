@@ -9,19 +9,24 @@ use Rattle.pm_commands.proofs.build.simplified.Goals as goal
 pub from_log-requires-clause-start : goal.from_log-requires-clause-start
 from_log-requires-clause-start c =
     let same : mesh_of c.in_ok-mesh.mesh ≡ c.args.surface = c.in_ok-mesh.ensures ∙ c.mesh.ensures in
-    let start : IsStartOfRun c.args.surface = record { formed = c.invariant.ensures.formed; manifold = c.invariant.ensures.manifold } in
+    let start : IsStartOfRun c.args.surface =
+    record { formed = c.invariant.ensures.formed; manifold = c.invariant.ensures.manifold } in
     subst (λ (m : Mesh). IsStartOfRun m) (sym same) start
 
 pub from_log-requires-clause-run : goal.from_log-requires-clause-run
 from_log-requires-clause-run c =
     let same : mesh_of c.in_ok-mesh.mesh ≡ c.args.surface = c.in_ok-mesh.ensures ∙ c.mesh.ensures in
     run-to-run (mesh_of c.in_ok-mesh.mesh) c.args.target c.in_ok-log.log.items
-    (subst (λ (m : Mesh). IsRunTo m c.args.target c.in_ok-log.log.items) (sym same) c.in_ok-log.ensures.run)
+    (subst (λ (m : Mesh). IsRunTo m c.args.target c.in_ok-log.log.items) (sym same)
+    c.in_ok-log.ensures.run)
 
 pub returns-clause-simplified : goal.returns-clause-simplified
 returns-clause-simplified c =
-    run_simplifies (mesh_of c.in_ok-mesh.mesh) c.args.surface c.args.target c.in_ok-log.log.items c.from_log.result (c.in_ok-mesh.ensures ∙ c.mesh.ensures) c.in_ok-log.ensures.run c.from_log.ensures.hierarchy
+    run_simplifies (mesh_of c.in_ok-mesh.mesh) c.args.surface c.args.target c.in_ok-log.log.items
+    c.from_log.result (c.in_ok-mesh.ensures ∙ c.mesh.ensures) c.in_ok-log.ensures.run
+    c.from_log.ensures.hierarchy
 
 pub returns-clause-mesh : goal.returns-clause-mesh
 returns-clause-mesh c =
-    subst (λ (m : Mesh). IfOk c.from_log.result (λ h. input_mesh_of h ≡ m)) (c.in_ok-mesh.ensures ∙ c.mesh.ensures) c.from_log.ensures.mesh
+    subst (λ (m : Mesh). IfOk c.from_log.result (λ h. input_mesh_of h ≡ m)) (c.in_ok-mesh.ensures
+    ∙ c.mesh.ensures) c.from_log.ensures.mesh

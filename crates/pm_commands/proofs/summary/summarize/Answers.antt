@@ -5,4 +5,6 @@ pub returns-in-Ok-clause-ends : goal.returns-in-Ok-clause-ends
 returns-in-Ok-clause-ends g c = λ left now. demo_written c.args.n left _ _ c.in-Ok.ensures.ends
 
 pub returns-in-Err-Write-clause-ends : goal.returns-in-Err-Write-clause-ends
-returns-in-Err-Write-clause-ends g c = λ left now. demo_cut c.args.n left _ _ (rw c.in-Err-Write.field-0-is at c.in-Err-Write.ensures.ends)
+returns-in-Err-Write-clause-ends g c =
+    λ left now. demo_cut c.args.n left _ _
+    (rw c.in-Err-Write.field-0-is at c.in-Err-Write.ensures.ends)

@@ -7,5 +7,6 @@ use Rattle.pm_costs.proofs.quadrics.face_quadrics.Given as goal
 abbrev pub invariant-loop-face : goal.invariant-loop-face
 invariant-loop-face l = record {
   len : length l.quadrics.items ≡ length l.points;
-  each : (v : ℕ) → v < length l.points → slice_index_or l.quadrics.items v zero_sums ≡ sums_of (planes_at (mesh_with l.points (take l.face l.faces)) v);
+  each : (v : ℕ) → v < length l.points → slice_index_or l.quadrics.items v zero_sums
+      ≡ sums_of (planes_at (mesh_with l.points (take l.face l.faces)) v);
 }

@@ -11,7 +11,8 @@ returns-in-Err-clause-ends g c =
     record {
       text = sizes_text n h ++ views_text n h;
       summary = summary_is n h c.requires.of_grid;
-      part = part_more _ _ _ (views_text n h) (part_same _ _ _ _ (ap (sizes_text n) c.hierarchy.ensures) c.in-Err.ensures.err);
+      part = part_more _ _ _ (views_text n h)
+          (part_same _ _ _ _ (ap (sizes_text n) c.hierarchy.ensures) c.in-Err.ensures.err);
     }
 
 pub returns-in-Ok-clause-ends : goal.returns-in-Ok-clause-ends
@@ -21,7 +22,9 @@ returns-in-Ok-clause-ends g c =
     record {
       text = sizes_text n h ++ views_text n h;
       summary = summary_is n h c.requires.of_grid;
-      gained = gains_both _ _ _ _ _ (gains_same _ _ _ _ (ap (sizes_text n) c.hierarchy.ensures) c.in_default.ensures.ok) c.in-Ok.ensures.ok;
+      gained = gains_both _ _ _ _ _
+          (gains_same _ _ _ _ (ap (sizes_text n) c.hierarchy.ensures) c.in_default.ensures.ok)
+          c.in-Ok.ensures.ok;
     }
 
 pub returns-in-Err-put_views-clause-ends : goal.returns-in-Err-put_views-clause-ends
@@ -31,5 +34,7 @@ returns-in-Err-put_views-clause-ends g c =
     record {
       text = sizes_text n h ++ views_text n h;
       summary = summary_is n h c.requires.of_grid;
-      part = part_after _ _ _ _ _ (gains_same _ _ _ _ (ap (sizes_text n) c.hierarchy.ensures) c.in_default.ensures.ok) c.in-Err-put_views.ensures.err;
+      part = part_after _ _ _ _ _
+          (gains_same _ _ _ _ (ap (sizes_text n) c.hierarchy.ensures) c.in_default.ensures.ok)
+          c.in-Err-put_views.ensures.err;
     }

@@ -19,8 +19,10 @@ narrow-requires c =
     let ez = simp to_z-of_z at c.from-3.ensures in
     let fits : FitsSigned w64 c.along-low.result.0 = search rules in
     let low = simp to_z-of_z at c.along-low.ensures.low in
-    let is : c.along-low.result.0 ≡ (along c.args.parts.now (direction_of c.args.axis)).low = low ∙ (rw (ex, ey, ez) refl) in
-    subst (λ (z : ℤ). unsigned_abs z ≤ 49152) (sym (to_z-of_z w64 c.along-low.result.0 fits ∙ is)) (along_small c.args.parts.now c.args.axis c.requires.small c.requires.axis).0
+    let is : c.along-low.result.0 ≡ (along c.args.parts.now (direction_of c.args.axis)).low =
+    low ∙ (rw (ex, ey, ez) refl) in
+    subst (λ (z : ℤ). unsigned_abs z ≤ 49152) (sym (to_z-of_z w64 c.along-low.result.0 fits ∙ is))
+    (along_small c.args.parts.now c.args.axis c.requires.small c.requires.axis).0
 
 pub narrow-requires-2 : goal.narrow-requires-2
 narrow-requires-2 c =
@@ -35,5 +37,7 @@ narrow-requires-2 c =
     let ez = simp to_z-of_z at c.from-3.ensures in
     let fits : FitsSigned w64 c.along-low.result.1 = search rules in
     let high = simp to_z-of_z at c.along-low.ensures.high in
-    let is : c.along-low.result.1 ≡ (along c.args.parts.now (direction_of c.args.axis)).high = high ∙ (rw (ex, ey, ez) refl) in
-    subst (λ (z : ℤ). unsigned_abs z ≤ 49152) (sym (to_z-of_z w64 c.along-low.result.1 fits ∙ is)) (along_small c.args.parts.now c.args.axis c.requires.small c.requires.axis).1
+    let is : c.along-low.result.1 ≡ (along c.args.parts.now (direction_of c.args.axis)).high =
+    high ∙ (rw (ex, ey, ez) refl) in
+    subst (λ (z : ℤ). unsigned_abs z ≤ 49152) (sym (to_z-of_z w64 c.along-low.result.1 fits ∙ is))
+    (along_small c.args.parts.now c.args.axis c.requires.small c.requires.axis).1

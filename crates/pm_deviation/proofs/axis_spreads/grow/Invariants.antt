@@ -10,5 +10,6 @@ use Rattle.pm_deviation.proofs.axis_spreads.grow.Given as goal
 abbrev pub invariant-loop-k : goal.invariant-loop-k
 invariant-loop-k l = record {
   len : length l.table.items ≡ node_count l.h;
-  found : (u : Axis) → AreOwnSpreads l.h u l.fn.table.items → AreFoundFrom l.h None (spread_of l.h u) l.table.items l.k;
+  found : (u : Axis) → AreOwnSpreads l.h u l.fn.table.items
+      → AreFoundFrom l.h None (spread_of l.h u) l.table.items l.k;
 }

@@ -15,6 +15,9 @@ returns-clause-wider c =
     let leaves = c.corner_leaves-face.ensures in
     let all = c.widen-3.new.table.items in
     subst (λ (f : Face). (l : ℕ) → l < leaf_count h →
-    get_or all (leaf_node_of h l) None ≡ cond (is_leaf_corner l f) (join (get_or old (leaf_node_of h l) None) c.args.part) (get_or old (leaf_node_of h l) None)) leaves.corners
-    (corners_widened h c.invariant.ensures old c.widen.new.table.items c.widen-2.new.table.items all c.args.part face c.requires.len leaves.a_leaf leaves.b_leaf leaves.c_leaf
+    get_or all (leaf_node_of h l) None
+    ≡ cond (is_leaf_corner l f) (join (get_or old (leaf_node_of h l) None) c.args.part)
+    (get_or old (leaf_node_of h l) None)) leaves.corners
+    (corners_widened h c.invariant.ensures old c.widen.new.table.items c.widen-2.new.table.items all
+    c.args.part face c.requires.len leaves.a_leaf leaves.b_leaf leaves.c_leaf
     c.widen.ensures.wider c.widen-2.ensures.wider c.widen-3.ensures.wider)

@@ -7,5 +7,6 @@ use Rattle.pm_deviation.proofs.border.mark_leaves.Given as goal
 abbrev pub invariant-loop-leaf : goal.invariant-loop-leaf
 invariant-loop-leaf l = record {
   len : length l.flags.items ≡ node_count l.h;
-  given : (x : ℕ) → x < l.leaf → get_or l.flags.items (leaf_node_of l.h x) false ≡ is_at_border l.h (leaf_node_of l.h x);
+  given : (x : ℕ) → x < l.leaf → get_or l.flags.items (leaf_node_of l.h x) false
+      ≡ is_at_border l.h (leaf_node_of l.h x);
 }

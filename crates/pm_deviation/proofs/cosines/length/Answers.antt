@@ -14,7 +14,8 @@ returns-in-1-clause-value c =
     let x = simp to_z-of_z at c.unsigned_abs.ensures.value in
     let y = simp to_z-of_z at c.unsigned_abs-2.ensures.value in
     let z = simp to_z-of_z at c.unsigned_abs-3.ensures.value in
-    let ones : norm2_of (direction_of u) ≡ 1 = omega (arith, ones_are u (axis_is u c.requires), x, y, z, c.in-1.is) in
+    let ones : norm2_of (direction_of u) ≡ 1 =
+    omega (arith, ones_are u (axis_is u c.requires), x, y, z, c.in-1.is) in
     length_is u 1 16384 ones (omega arith) (omega arith)
 
 pub returns-in-2-clause-value : goal.returns-in-2-clause-value
@@ -26,7 +27,8 @@ returns-in-2-clause-value c =
     let x = simp to_z-of_z at c.unsigned_abs.ensures.value in
     let y = simp to_z-of_z at c.unsigned_abs-2.ensures.value in
     let z = simp to_z-of_z at c.unsigned_abs-3.ensures.value in
-    let ones : norm2_of (direction_of u) ≡ 2 = omega (arith, ones_are u (axis_is u c.requires), x, y, z, c.in-2.is) in
+    let ones : norm2_of (direction_of u) ≡ 2 =
+    omega (arith, ones_are u (axis_is u c.requires), x, y, z, c.in-2.is) in
     length_is u 2 23171 ones (omega arith) (omega arith)
 
 pub returns-in_default-clause-value : goal.returns-in_default-clause-value
@@ -39,5 +41,6 @@ returns-in_default-clause-value c =
     let x = simp to_z-of_z at c.unsigned_abs.ensures.value in
     let y = simp to_z-of_z at c.unsigned_abs-2.ensures.value in
     let z = simp to_z-of_z at c.unsigned_abs-3.ensures.value in
-    let ones : norm2_of (direction_of u) ≡ 3 = omega (arith, ones_are u is, is.x, is.y, is.z, is.some, x, y, z, c.in_default) in
+    let ones : norm2_of (direction_of u) ≡ 3 =
+    omega (arith, ones_are u is, is.x, is.y, is.z, is.some, x, y, z, c.in_default) in
     length_is u 3 28378 ones (omega arith) (omega arith)

@@ -19,8 +19,10 @@ loop-v-preserved c =
     let was = c.loop-v.invariant in
     let len = was.len in
     let below : v < node_count h = omega (arith, c.loop-v-test.true, c.nodes-v-end.ensures.value) in
-    let read : c.index.result.now ≡ get_or now v 0 = c.index.ensures ∙ get_or_default now v c.index.result.now 0 (omega arith) in
-    let along : c.cosine_by.result ≡ cosine_along h v c.args.axis = c.cosine_by.ensures ∙ ap (cosine_by c.args.axis) (c.requires.spreads.each v below) in
+    let read : c.index.result.now ≡ get_or now v 0 =
+    c.index.ensures ∙ get_or_default now v c.index.result.now 0 (omega arith) in
+    let along : c.cosine_by.result ≡ cosine_along h v c.args.axis =
+    c.cosine_by.ensures ∙ ap (cosine_by c.args.axis) (c.requires.spreads.each v below) in
     raise_step h c.args.axis c.args.cosines.now.items now v c.max.result below was
     (c.max.ensures ∙ ap (λ x. max x c.cosine_by.result) read ∙ ap (max (get_or now v 0)) along)
 
@@ -29,4 +31,5 @@ cosine_by-requires-clause-small c =
     let h = c.args.h.now in
     let v = c.loop-v.v in
     let below : v < node_count h = omega (arith, c.loop-v-test.true, c.nodes-v-end.ensures.value) in
-    subst (λ (o : Option Spread). IfSome o IsSum) (sym (c.requires.spreads.each v below)) (spread_small h c.args.axis v c.requires.axis)
+    subst (λ (o : Option Spread). IfSome o IsSum) (sym (c.requires.spreads.each v below))
+    (spread_small h c.args.axis v c.requires.axis)

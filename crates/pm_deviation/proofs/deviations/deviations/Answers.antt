@@ -1,10 +1,15 @@
-use Rattle.std.proofs.Common.{◌≡◌, ℕ, ◌+◌, ◌<◌, ◌^◌, [], ◌∷◌, ◌++◌, length, length-append, get_or, ap, ◌∙◌, subst, sym, rules, arith}
+use Rattle.std.proofs.Common.{◌≡◌, ℕ, ◌+◌, ◌<◌, ◌^◌, [], ◌∷◌, ◌++◌, length, length-append, get_or}
+use Rattle.std.proofs.Common.{ap, ◌∙◌, subst, sym, rules, arith}
 use Rattle.pm_deviation.specs.Deviations.{deviation_of}
 use Rattle.pm_deviation.proofs.NodeTables.{pushed}
 use Rattle.pm_deviation.proofs.deviations.deviations.Goals as goal
 
 pub loop-node-init : goal.loop-node-init
-loop-node-init c = record { len = search rules; each = λ v l. absurd (omega arith); small = λ v l. absurd (omega arith) }
+loop-node-init c = record {
+  len = search rules;
+  each = λ v l. absurd (omega arith);
+  small = λ v l. absurd (omega arith);
+}
 
 pub loop-node-preserved : goal.loop-node-preserved
 loop-node-preserved c =
@@ -17,7 +22,8 @@ loop-node-preserved c =
     let items : c.push.new.self.items ≡ old ++ x ∷ [] = search rules in
     let all : (v : ℕ) → v < n + 1 → P v (get_or c.push.new.self.items v 0) =
     subst (λ l. (v : ℕ) → v < n + 1 → P v (get_or l v 0)) (sym items)
-    (pushed 0 P n old x was.len (λ v l. (was.each v l, was.small v l)) (c.node_deviation.ensures.value, c.node_deviation.ensures.small)) in
+    (pushed 0 P n old x was.len (λ v l. (was.each v l, was.small v l))
+    (c.node_deviation.ensures.value, c.node_deviation.ensures.small)) in
     record {
       len = ap length items ∙ length-append old (x ∷ []) ∙ ap (λ (k : ℕ). k + 1) was.len;
       each = λ v l. (all v l).0;

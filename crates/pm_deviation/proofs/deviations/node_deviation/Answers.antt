@@ -14,8 +14,11 @@ deviation-requires-clause-planes c =
     let found = c.args.found.now in
     let len = c.requires.planes.nodes in
     let planes : c.index.result.now ≡ plane_deviation_of h v =
-    c.index.ensures ∙ get_or_default found.planes.items v c.index.result.now 0 (omega (arith, len, c.requires.node)) ∙ c.requires.planes.each v c.requires.node in
-    let error : c.error-error.result ≡ error_of h v = c.error-error.ensures.value ∙ c.requires.bounds.errors v c.requires.node in
+    c.index.ensures
+    ∙ get_or_default found.planes.items v c.index.result.now 0
+    (omega (arith, len, c.requires.node)) ∙ c.requires.planes.each v c.requires.node in
+    let error : c.error-error.result ≡ error_of h v =
+    c.error-error.ensures.value ∙ c.requires.bounds.errors v c.requires.node in
     omega (arith, planes, error, planes_below h c.invariant.ensures v c.requires.node)
 
 pub returns-clause-value : goal.returns-clause-value
@@ -25,10 +28,17 @@ returns-clause-value c =
     let found = c.args.found.now in
     let node = c.requires.node in
     let planes : c.index.result.now ≡ plane_deviation_of h v =
-    c.index.ensures ∙ get_or_default found.planes.items v c.index.result.now 0 (omega (arith, c.requires.planes.nodes, node)) ∙ c.requires.planes.each v node in
+    c.index.ensures
+    ∙ get_or_default found.planes.items v c.index.result.now 0
+    (omega (arith, c.requires.planes.nodes, node)) ∙ c.requires.planes.each v node in
     let cosine : c.index-2.result.now ≡ cosine_of h v =
-    c.index-2.ensures ∙ get_or_default found.cosines.items v c.index-2.result.now 0 (omega (arith, c.requires.cosines.nodes, node)) ∙ c.requires.cosines.each v node in
+    c.index-2.ensures ∙ get_or_default found.cosines.items v c.index-2.result.now 0
+    (omega (arith, c.requires.cosines.nodes, node)) ∙ c.requires.cosines.each v node in
     let flag : c.index-3.result.now ≡ is_at_border h v =
-    c.index-3.ensures ∙ get_or_default found.borders.items v c.index-3.result.now false (omega (arith, c.requires.borders.nodes, node)) ∙ c.requires.borders.each v node in
-    let error : c.error-error.result ≡ error_of h v = c.error-error.ensures.value ∙ c.requires.bounds.errors v node in
-    deviation_by h c.invariant.ensures v c.error-error.result c.index.result.now c.index-2.result.now c.deviation.result c.index-3.result.now c.deviation.ensures.value error planes cosine flag
+    c.index-3.ensures ∙ get_or_default found.borders.items v c.index-3.result.now false
+    (omega (arith, c.requires.borders.nodes, node)) ∙ c.requires.borders.each v node in
+    let error : c.error-error.result ≡ error_of h v =
+    c.error-error.ensures.value ∙ c.requires.bounds.errors v node in
+    deviation_by h c.invariant.ensures v c.error-error.result c.index.result.now
+    c.index-2.result.now c.deviation.result c.index-3.result.now c.deviation.ensures.value error
+    planes cosine flag

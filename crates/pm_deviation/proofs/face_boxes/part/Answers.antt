@@ -10,7 +10,8 @@ returns-then-k-lt0-clause-value c square short long =
     let test = simp to_z-of_z at c.if-k-lt0.true in
     let size = simp to_z-of_z at c.unsigned_abs.ensures.value in
     part_below c.args.k c.args.short c.args.long square c.share-size.result c.mirrored.result test
-    (c.share-size.ensures.value ∙ ap (λ n. share n c.args.short c.args.long) size) c.mirrored.ensures short long
+    (c.share-size.ensures.value ∙ ap (λ n. share n c.args.short c.args.long) size)
+    c.mirrored.ensures short long
 
 pub returns-else-k-lt0-clause-value : goal.returns-else-k-lt0-clause-value
 returns-else-k-lt0-clause-value c square short long =

@@ -7,5 +7,14 @@ use Rattle.pm_deviation.proofs.face_boxes.share.Goals as goal
 pub returns-clause-small : goal.returns-clause-small
 returns-clause-small c =
     let n = c.args.n in
-    let high : c.div_ceil.result ≤ 16384 = omega (arith, c.div_ceil.ensures, ceil_least (16384 * n) c.args.short 16384 c.requires.some (omega (arith, c.requires.part))) in
-    (small_part (16384 * n / c.args.long) (quotient_most n c.args.long (omega (arith, c.requires.part, c.requires.order))), small_part c.div_ceil.result high)
+    let high : c.div_ceil.result ≤ 16384 =
+    omega (
+      arith,
+      c.div_ceil.ensures,
+      ceil_least (16384 * n) c.args.short 16384 c.requires.some
+          (omega (arith, c.requires.part)),
+    ) in (
+      small_part (16384 * n / c.args.long)
+          (quotient_most n c.args.long (omega (arith, c.requires.part, c.requires.order))),
+      small_part c.div_ceil.result high,
+    )

@@ -1,4 +1,5 @@
-use Rattle.std.proofs.Common.{◌≡◌, ℕ, ◌<◌, ◌≤◌, ◌∙◌, ap, sym, subst, rules, arith, FitsSigned, w64, to_z, of_z}
+use Rattle.std.proofs.Common.{◌≡◌, ℕ, ◌<◌, ◌≤◌, ◌∙◌, ap, sym, subst, rules, arith, FitsSigned, w64}
+use Rattle.std.proofs.Common.{to_z, of_z}
 use Rattle.std.proofs.lemmas.Int.{to_z-of_z}
 use Rattle.pm_base.specs.Geometry.{Direction}
 use Rattle.pm_base.specs.Rounded.{root_up}
@@ -16,43 +17,59 @@ in_order q r s down up = omega (arith, roots_order q)
 pub returns-then-square-eq0-clause-value : goal.returns-then-square-eq0-clause-value
 returns-then-square-eq0-clause-value c =
     let n : Direction = record { x = c.args.n.x; y = c.args.n.y; z = c.args.n.z } in
-    no_box n c.norm2-square.result c.norm2-square.ensures.value (omega (arith, c.if-square-eq0.true))
+    no_box n c.norm2-square.result c.norm2-square.ensures.value
+    (omega (arith, c.if-square-eq0.true))
 
 pub part-requires-clause-part : goal.part-requires-clause-part
 part-requires-clause-part c =
     let n : Direction = record { x = c.args.n.x; y = c.args.n.y; z = c.args.n.z } in
     let fits : FitsSigned w64 c.args.n.x = search rules in
-    x_below n c.norm2-square.result c.root_down-short.result (to_z w64 (of_z w64 c.args.n.x)) c.norm2-square.ensures.value c.root_down-short.ensures.value (to_z-of_z w64 c.args.n.x fits)
+    x_below n c.norm2-square.result c.root_down-short.result (to_z w64 (of_z w64 c.args.n.x))
+    c.norm2-square.ensures.value c.root_down-short.ensures.value (to_z-of_z w64 c.args.n.x fits)
 
 pub part-requires-clause-some : goal.part-requires-clause-some
-part-requires-clause-some c = some_root c.norm2-square.result c.root_down-short.result c.root_down-short.ensures.value (omega (arith, c.if-square-eq0.false))
+part-requires-clause-some c =
+    some_root c.norm2-square.result c.root_down-short.result c.root_down-short.ensures.value
+    (omega (arith, c.if-square-eq0.false))
 
 pub part-requires-clause-order : goal.part-requires-clause-order
-part-requires-clause-order c = in_order c.norm2-square.result c.root_down-short.result c.root_up-long.result c.root_down-short.ensures.value c.root_up-long.ensures.value
+part-requires-clause-order c =
+    in_order c.norm2-square.result c.root_down-short.result c.root_up-long.result
+    c.root_down-short.ensures.value c.root_up-long.ensures.value
 
 pub part-requires-2-clause-part : goal.part-requires-2-clause-part
 part-requires-2-clause-part c =
     let n : Direction = record { x = c.args.n.x; y = c.args.n.y; z = c.args.n.z } in
     let fits : FitsSigned w64 c.args.n.y = search rules in
-    y_below n c.norm2-square.result c.root_down-short.result (to_z w64 (of_z w64 c.args.n.y)) c.norm2-square.ensures.value c.root_down-short.ensures.value (to_z-of_z w64 c.args.n.y fits)
+    y_below n c.norm2-square.result c.root_down-short.result (to_z w64 (of_z w64 c.args.n.y))
+    c.norm2-square.ensures.value c.root_down-short.ensures.value (to_z-of_z w64 c.args.n.y fits)
 
 pub part-requires-2-clause-some : goal.part-requires-2-clause-some
-part-requires-2-clause-some c = some_root c.norm2-square.result c.root_down-short.result c.root_down-short.ensures.value (omega (arith, c.if-square-eq0.false))
+part-requires-2-clause-some c =
+    some_root c.norm2-square.result c.root_down-short.result c.root_down-short.ensures.value
+    (omega (arith, c.if-square-eq0.false))
 
 pub part-requires-2-clause-order : goal.part-requires-2-clause-order
-part-requires-2-clause-order c = in_order c.norm2-square.result c.root_down-short.result c.root_up-long.result c.root_down-short.ensures.value c.root_up-long.ensures.value
+part-requires-2-clause-order c =
+    in_order c.norm2-square.result c.root_down-short.result c.root_up-long.result
+    c.root_down-short.ensures.value c.root_up-long.ensures.value
 
 pub part-requires-3-clause-part : goal.part-requires-3-clause-part
 part-requires-3-clause-part c =
     let n : Direction = record { x = c.args.n.x; y = c.args.n.y; z = c.args.n.z } in
     let fits : FitsSigned w64 c.args.n.z = search rules in
-    z_below n c.norm2-square.result c.root_down-short.result (to_z w64 (of_z w64 c.args.n.z)) c.norm2-square.ensures.value c.root_down-short.ensures.value (to_z-of_z w64 c.args.n.z fits)
+    z_below n c.norm2-square.result c.root_down-short.result (to_z w64 (of_z w64 c.args.n.z))
+    c.norm2-square.ensures.value c.root_down-short.ensures.value (to_z-of_z w64 c.args.n.z fits)
 
 pub part-requires-3-clause-some : goal.part-requires-3-clause-some
-part-requires-3-clause-some c = some_root c.norm2-square.result c.root_down-short.result c.root_down-short.ensures.value (omega (arith, c.if-square-eq0.false))
+part-requires-3-clause-some c =
+    some_root c.norm2-square.result c.root_down-short.result c.root_down-short.ensures.value
+    (omega (arith, c.if-square-eq0.false))
 
 pub part-requires-3-clause-order : goal.part-requires-3-clause-order
-part-requires-3-clause-order c = in_order c.norm2-square.result c.root_down-short.result c.root_up-long.result c.root_down-short.ensures.value c.root_up-long.ensures.value
+part-requires-3-clause-order c =
+    in_order c.norm2-square.result c.root_down-short.result c.root_up-long.result
+    c.root_down-short.ensures.value c.root_up-long.ensures.value
 
 pub returns-clause-value : goal.returns-clause-value
 returns-clause-value c =

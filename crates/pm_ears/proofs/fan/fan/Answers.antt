@@ -1,4 +1,5 @@
-use Rattle.std.proofs.Common.{◌<◌, ◌≤◌, ◌+◌, ◌++◌, List, drop, length, map, ap, sym, ◌∙◌, slice_index_or, arith}
+use Rattle.std.proofs.Common.{◌<◌, ◌≤◌, ◌+◌, ◌++◌, List, drop, length, map, ap, sym, ◌∙◌}
+use Rattle.std.proofs.Common.{slice_index_or, arith}
 use Rattle.std.proofs.lemmas.List.{append-nil}
 use Rattle.pm_base.specs.declared.mesh.Corners.{Corners}
 use Rattle.pm_ears.specs.declared.spots.Triangle.{Triangle}

@@ -1,4 +1,5 @@
-use Rattle.std.proofs.Common.{◌≡◌, ◌<◌, ◌≤◌, ◌+◌, ◌++◌, List, [], ◌∷◌, length, take, drop, slice_index_or, ap, sym, ◌∙◌, subst, arith}
+use Rattle.std.proofs.Common.{◌≡◌, ◌<◌, ◌≤◌, ◌+◌, ◌++◌, List, [], ◌∷◌, length, take, drop}
+use Rattle.std.proofs.Common.{slice_index_or, ap, sym, ◌∙◌, subst, arith}
 use Rattle.std.specs.List.{All}
 use Rattle.std.proofs.lemmas.List.{take_more, length-take, length-drop}
 use Rattle.std.proofs.lemmas.List.Elements.{All-take, All-drop}
@@ -17,7 +18,8 @@ judge-requires-clause-below c =
     let p : Polygon = slice_index_or c.args.polygons.now c.loop-p.p-index none in
     let Below : Corners → Type 0 = AreBelow (length c.args.places.now) in
     subst (All Below) (sym c.fan_at.ensures)
-    (All-take Below p.triangles (drop p.first faces) (All-drop Below p.first faces c.requires.below))
+    (All-take Below p.triangles (drop p.first faces)
+    (All-drop Below p.first faces c.requires.below))
 
 pub judge-requires-clause-few : goal.judge-requires-clause-few
 judge-requires-clause-few c =

@@ -20,14 +20,22 @@ loop-number-preserved c =
           record {
             headed = subst (AreHeaded glued) (sym is) w.walk_back.ensures.headed;
             opened = λ e l b. kept_head old new keeps e (i.opened e l b);
-            earlier = below_more (HasHead new) _ (λ e l. kept_head old new keeps e (i.earlier e l)) (subst (λ (hs : List (Option ℕ)). HasHead hs c.loop-number.number) (sym is) w.walk_back.ensures.done);
+            earlier = below_more (HasHead new) _ (λ e l. kept_head old new keeps e (i.earlier e l))
+                (subst (λ (hs : List (Option ℕ)). HasHead hs c.loop-number.number) (sym is)
+                w.walk_back.ensures.done);
           }
       | else-is_none w ↦
           let is : new ≡ old = cc in
-          let some : is_some (beside_side old c.loop-number.number) ≡ true = ap is_some (sym c.get.ensures) ∙ sym (some_numbered c.get.result) ∙ c.is_none.ensures ∙ ap not w.if-is_none.false in
+          let some : is_some (beside_side old c.loop-number.number) ≡ true =
+          ap is_some (sym c.get.ensures) ∙ sym (some_numbered c.get.result) ∙ c.is_none.ensures
+          ∙ ap not w.if-is_none.false in
           record {
             headed = subst (AreHeaded glued) (sym is) i.headed;
-            opened = λ e l b. subst (λ (hs : List (Option ℕ)). HasHead hs e) (sym is) (i.opened e l b);
-            earlier = below_more (HasHead new) _ (λ e l. subst (λ (hs : List (Option ℕ)). HasHead hs e) (sym is) (i.earlier e l)) (subst (λ (hs : List (Option ℕ)). HasHead hs c.loop-number.number) (sym is) (some_is (beside_side old c.loop-number.number) some));
+            opened = λ e l b. subst (λ (hs : List (Option ℕ)). HasHead hs e) (sym is)
+                (i.opened e l b);
+            earlier = below_more (HasHead new) _
+                (λ e l. subst (λ (hs : List (Option ℕ)). HasHead hs e) (sym is) (i.earlier e l))
+                (subst (λ (hs : List (Option ℕ)). HasHead hs c.loop-number.number) (sym is)
+                (some_is (beside_side old c.loop-number.number) some));
           }
     ]

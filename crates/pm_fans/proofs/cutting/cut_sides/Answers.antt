@@ -12,7 +12,17 @@ pub overflow_add-cut : goal.overflow_add-cut
 overflow_add-cut c =
     let few = count_le (is_cut (net_of c.args.faces.now)) c.loop-number.number in
     let bit = bit_le c.is_cut.result in
-    omega (arith, few, bit, c.from-cut.ensures, c.loop-number.invariant, c.loop-number-test.true, c.requires.short)
+    omega (
+      arith,
+      few,
+      bit,
+      c.from-cut.ensures,
+      c.loop-number.invariant,
+      c.loop-number-test.true,
+      c.requires.short,
+    )
 
 pub loop-number-preserved : goal.loop-number-preserved
-loop-number-preserved c = cut_more (net_of c.args.faces.now) c.loop-number.number c.loop-number.cut c.from-cut.result c.is_cut.result c.loop-number.invariant c.from-cut.ensures c.is_cut.ensures
+loop-number-preserved c =
+    cut_more (net_of c.args.faces.now) c.loop-number.number c.loop-number.cut c.from-cut.result
+    c.is_cut.result c.loop-number.invariant c.from-cut.ensures c.is_cut.ensures

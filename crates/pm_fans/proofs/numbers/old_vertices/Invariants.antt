@@ -6,5 +6,6 @@ use Rattle.pm_fans.proofs.numbers.old_vertices.Given as goal
 abbrev pub invariant-loop-place : goal.invariant-loop-place
 invariant-loop-place l = record {
   sides : length l.old.items ≡ l.place;
-  each : (i : ℕ) → i < l.place → slice_index l.old.items i ≡ (net_of l.faces).from (side_of_key (slice_index l.keys i));
+  each : (i : ℕ) → i < l.place
+      → slice_index l.old.items i ≡ (net_of l.faces).from (side_of_key (slice_index l.keys i));
 }

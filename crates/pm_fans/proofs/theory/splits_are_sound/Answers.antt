@@ -11,7 +11,8 @@ returns c = record {
   whole = manifolds_stay_whole;
   numbered = numberings_split;
   fit = kept_are_fit;
-  any = λ fs fs' s. let (stand, single) = kept_are_fit fs in splits_make_manifolds _ _ stand single s;
+  any = λ fs fs' s. let (stand, single) =
+      kept_are_fit fs in splits_make_manifolds _ _ stand single s;
   kept = nothing_is_lost;
   stay = fit_lists_stay;
   fit_input = manifolds_stay;

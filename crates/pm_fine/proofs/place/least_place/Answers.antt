@@ -7,4 +7,7 @@ use Rattle.pm_fine.proofs.place.least_place.Goals as goal
 
 pub returns-clause-least : goal.returns-clause-least
 returns-clause-least c fs s =
-    subst (λ (p : Place). IsLeastOf (squares_of fs) p (c.args.t ∷ others_of c.args.t c.args.u c.args.fourth)) (sym (c.first_least.ensures.place fs s)) (first_least_is (squares_of fs) c.args.t (others_of c.args.t c.args.u c.args.fourth))
+    subst (λ (p : Place). IsLeastOf (squares_of fs) p
+    (c.args.t ∷ others_of c.args.t c.args.u c.args.fourth))
+    (sym (c.first_least.ensures.place fs s))
+    (first_least_is (squares_of fs) c.args.t (others_of c.args.t c.args.u c.args.fourth))

@@ -6,4 +6,5 @@ pub returns-clause-value : goal.returns-clause-value
 returns-clause-value c = search rules
 
 pub returns-clause-within : goal.returns-clause-within
-returns-clause-within c m h = rw (returns-clause-value c) (near_small c.args.a c.args.b m c.requires.some h)
+returns-clause-within c m h =
+    rw (returns-clause-value c) (near_small c.args.a c.args.b m c.requires.some h)

@@ -7,4 +7,6 @@ pub times-requires : goal.times-requires
 times-requires c =
     let fa = c.ranges.coefficient in
     let fr : FitsSigned w32 c.product.result = search rules in
-    simp to_z-of_z (at_most_product (unsigned_abs c.args.coefficient) (unsigned_abs c.product.result) (2 ^ 79) 1073676289 (2 ^ 122) c.requires.coefficient_small c.product.ensures.small (lit≤ tt))
+    simp to_z-of_z
+    (at_most_product (unsigned_abs c.args.coefficient) (unsigned_abs c.product.result) (2 ^ 79)
+    1073676289 (2 ^ 122) c.requires.coefficient_small c.product.ensures.small (lit≤ tt))

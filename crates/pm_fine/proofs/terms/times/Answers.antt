@@ -16,7 +16,8 @@ returns-clause-value c =
     let ff = c.ranges.factor in
     let e = simp to_z-of_z at c.from.ensures in
     let fr : FitsSigned w128 c.from.result = search rules in
-    times_is c.args.coefficient c.from.result c.ranges.coefficient fr (rw e c.requires) ∙ ap (λ (t : ℤ). c.args.coefficient *ℤ t) e
+    times_is c.args.coefficient c.from.result c.ranges.coefficient fr (rw e c.requires)
+    ∙ ap (λ (t : ℤ). c.args.coefficient *ℤ t) e
 
 pub returns-clause-small : goal.returns-clause-small
 returns-clause-small c =

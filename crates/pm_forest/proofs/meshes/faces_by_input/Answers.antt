@@ -14,7 +14,10 @@ loop-f-preserved c =
     let value = c.face_input.ensures.value in
     record {
       len = length-set table (c.face_input.result - 1) f ∙ c.loop-f.invariant.len;
-      each = subst (λ (n : ℕ). (i : ℕ) → i < face_count h → get_or (set table (n - 1) f) i 0 ≡ numbered_so (face_input h) (f + 1) i) (sym value)
-          (numbered_more (face_input h) f (face_count h) table (subst (λ n. 0 < n) value c.face_input.ensures.some) (subst (λ n. n ≤ face_count h) value c.face_input.ensures.most)
+      each = subst (λ (n : ℕ). (i : ℕ) → i < face_count h
+          → get_or (set table (n - 1) f) i 0 ≡ numbered_so (face_input h) (f + 1) i) (sym value)
+          (numbered_more (face_input h) f (face_count h) table
+          (subst (λ n. 0 < n) value c.face_input.ensures.some)
+          (subst (λ n. n ≤ face_count h) value c.face_input.ensures.most)
           c.loop-f.invariant.len c.loop-f.invariant.each);
     }

@@ -7,5 +7,6 @@ use Rattle.pm_forest.proofs.meshes.faces_by_input.Given as goal
 abbrev pub invariant-loop-f : goal.invariant-loop-f
 invariant-loop-f l = record {
   len : length l.faces.items ≡ face_count l.h;
-  each : (i : ℕ) → i < face_count l.h → slice_index_or l.faces.items i 0 ≡ numbered_so (face_input l.h) l.f i;
+  each : (i : ℕ) → i < face_count l.h
+      → slice_index_or l.faces.items i 0 ≡ numbered_so (face_input l.h) l.f i;
 }

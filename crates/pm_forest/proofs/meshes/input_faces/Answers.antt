@@ -11,17 +11,23 @@ input_corners-requires-clause-face c =
     let h = c.args.h.now in
     let i = c.loop-i.i in
     let l : i < face_count h = omega (arith, c.in_ok-numbers.ensures.len) in
-    let read = get_or_read c.in_ok-numbers.numbers.items i c.index.result.now (omega (arith, c.in_ok-numbers.ensures.len)) c.index.ensures 0 in
-    subst (λ n. n < face_count h) (sym (read ∙ c.in_ok-numbers.ensures.each i l)) (numbered_so-lt (face_input h) (face_count h) i l)
+    let read = get_or_read c.in_ok-numbers.numbers.items i c.index.result.now
+    (omega (arith, c.in_ok-numbers.ensures.len)) c.index.ensures 0 in
+    subst (λ n. n < face_count h) (sym (read ∙ c.in_ok-numbers.ensures.each i l))
+    (numbered_so-lt (face_input h) (face_count h) i l)
 
 pub loop-i-preserved : goal.loop-i-preserved
 loop-i-preserved c =
     let h = c.args.h.now in
     let i = c.loop-i.i in
     let l : i < face_count h = omega (arith, c.in_ok-numbers.ensures.len) in
-    let read = get_or_read c.in_ok-numbers.numbers.items i c.index.result.now (omega (arith, c.in_ok-numbers.ensures.len)) c.index.ensures 0 in
-    let corners = c.input_corners.ensures ∙ ap (λ f. input_corners h (corners_of h f)) (read ∙ c.in_ok-numbers.ensures.each i l) in
+    let read = get_or_read c.in_ok-numbers.numbers.items i c.index.result.now
+    (omega (arith, c.in_ok-numbers.ensures.len)) c.index.ensures 0 in
+    let corners =
+    c.input_corners.ensures
+    ∙ ap (λ f. input_corners h (corners_of h f)) (read ∙ c.in_ok-numbers.ensures.each i l) in
     record {
-      faces = rw (c.push_within_room.ensures.items, c.loop-i.invariant.faces, corners) (sym (map-range_with_len_more (input_face h) 0 i i (omega arith)));
+      faces = rw (c.push_within_room.ensures.items, c.loop-i.invariant.faces, corners)
+          (sym (map-range_with_len_more (input_face h) 0 i i (omega arith)));
       spare = omega arith;
     }

@@ -10,6 +10,7 @@ loop-leaf-preserved c =
     let x = c.loop-leaf.leaf in
     let place = c.place.ensures ∙ ap (place_of_node h) c.leaf_node.ensures.value in
     record {
-      points = rw (c.push_within_room.ensures.items, c.loop-leaf.invariant.points, place) (sym (map-range_with_len_more (leaf_place h) 0 x x (omega arith)));
+      points = rw (c.push_within_room.ensures.items, c.loop-leaf.invariant.points, place)
+          (sym (map-range_with_len_more (leaf_place h) 0 x x (omega arith)));
       spare = omega arith;
     }

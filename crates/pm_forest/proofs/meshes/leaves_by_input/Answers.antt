@@ -16,5 +16,6 @@ loop-leaf-preserved c =
     record {
       len = length-set table c.vertex_of.result x ∙ c.loop-leaf.invariant.len;
       each = rw c.vertex_of.ensures.value
-          (numbered_more (leaf_input h) x (leaf_count h) table (some_input h shape x l) (input_most h shape x l) c.loop-leaf.invariant.len c.loop-leaf.invariant.each);
+          (numbered_more (leaf_input h) x (leaf_count h) table (some_input h shape x l)
+          (input_most h shape x l) c.loop-leaf.invariant.len c.loop-leaf.invariant.each);
     }

@@ -7,5 +7,6 @@ use Rattle.pm_forest.proofs.meshes.leaves_by_input.Given as goal
 abbrev pub invariant-loop-leaf : goal.invariant-loop-leaf
 invariant-loop-leaf l = record {
   len : length l.leaves.items ≡ leaf_count l.h;
-  each : (i : ℕ) → i < leaf_count l.h → slice_index_or l.leaves.items i 0 ≡ numbered_so (leaf_input l.h) l.leaf i;
+  each : (i : ℕ) → i < leaf_count l.h
+      → slice_index_or l.leaves.items i 0 ≡ numbered_so (leaf_input l.h) l.leaf i;
 }

@@ -8,6 +8,11 @@ loop-leaf-preserved c =
     let h = c.args.h.now in
     let x = c.loop-leaf.leaf in
     record {
-      vertices = rw (c.push_within_room.ensures.items, c.loop-leaf.invariant.vertices, c.leaf_input.ensures.value) (sym (map-range_with_len_more (λ x. leaf_input h x - 1) 0 x x (omega arith)));
+      vertices = rw (
+        c.push_within_room.ensures.items,
+        c.loop-leaf.invariant.vertices,
+        c.leaf_input.ensures.value,
+      )
+          (sym (map-range_with_len_more (λ x. leaf_input h x - 1) 0 x x (omega arith)));
       spare = omega arith;
     }

@@ -13,53 +13,70 @@ returns-in_err-put_header g c =
     let h = c.args.h.now in
     let head = spelled (header_words c.args.digits h) in
     rw (p.1, p.2) (puts_same g.K.Sink _ _ _ _ _ (sym (stream_text c.args.digits h))
-    (flush_stops g.K.Sink _ _ _ _ _ _ c.new-page.ensures (through_stops g.K.Sink _ _ _ _ head _ _ c.in_err-put_header.ensures)))
+    (flush_stops g.K.Sink _ _ _ _ _ _ c.new-page.ensures
+    (through_stops g.K.Sink _ _ _ _ head _ _ c.in_err-put_header.ensures)))
 
 pub returns-in_err-put_roots : goal.returns-in_err-put_roots
 returns-in_err-put_roots g c =
-    let p = err_from_is_err_and c.from_residual-in_err-put_roots.result c.from_residual-in_err-put_roots.ensures.1 in
+    let p = err_from_is_err_and c.from_residual-in_err-put_roots.result
+    c.from_residual-in_err-put_roots.ensures.1 in
     let h = c.args.h.now in
     let head = spelled (header_words c.args.digits h) in
     let roots = flat_map (λ r. spelled (root_words r)) h.roots in
-    let part = through_then g.K.Sink _ _ _ _ _ _ head _ _ _ c.in_ok-put_header.ensures (through_stops g.K.Sink _ _ _ _ roots _ _ c.in_err-put_roots.ensures) in
-    rw (p.1, p.2) (puts_same g.K.Sink _ _ _ _ _ (sym (stream_text c.args.digits h)) (flush_stops g.K.Sink _ _ _ _ _ _ c.new-page.ensures part))
+    let part = through_then g.K.Sink _ _ _ _ _ _ head _ _ _ c.in_ok-put_header.ensures
+    (through_stops g.K.Sink _ _ _ _ roots _ _ c.in_err-put_roots.ensures) in
+    rw (p.1, p.2)
+    (puts_same g.K.Sink _ _ _ _ _ (sym (stream_text c.args.digits h))
+    (flush_stops g.K.Sink _ _ _ _ _ _ c.new-page.ensures part))
 
 pub returns-in_err-put_bases : goal.returns-in_err-put_bases
 returns-in_err-put_bases g c =
-    let p = err_from_is_err_and c.from_residual-in_err-put_bases.result c.from_residual-in_err-put_bases.ensures.1 in
+    let p = err_from_is_err_and c.from_residual-in_err-put_bases.result
+    c.from_residual-in_err-put_bases.ensures.1 in
     let h = c.args.h.now in
     let head = spelled (header_words c.args.digits h) in
     let roots = flat_map (λ r. spelled (root_words r)) h.roots in
     let bases = flat_map (λ f. spelled (base_words f)) h.bases in
-    let two = through_then g.K.Sink _ _ _ _ _ _ roots _ _ _ c.in_ok-put_roots.ensures (through_stops g.K.Sink _ _ _ _ bases _ _ c.in_err-put_bases.ensures) in
+    let two = through_then g.K.Sink _ _ _ _ _ _ roots _ _ _ c.in_ok-put_roots.ensures
+    (through_stops g.K.Sink _ _ _ _ bases _ _ c.in_err-put_bases.ensures) in
     let part = through_then g.K.Sink _ _ _ _ _ _ head _ _ _ c.in_ok-put_header.ensures two in
-    rw (p.1, p.2) (puts_same g.K.Sink _ _ _ _ _ (sym (stream_text c.args.digits h)) (flush_stops g.K.Sink _ _ _ _ _ _ c.new-page.ensures part))
+    rw (p.1, p.2)
+    (puts_same g.K.Sink _ _ _ _ _ (sym (stream_text c.args.digits h))
+    (flush_stops g.K.Sink _ _ _ _ _ _ c.new-page.ensures part))
 
 pub returns-in_err-put_records : goal.returns-in_err-put_records
 returns-in_err-put_records g c =
-    let p = err_from_is_err_and c.from_residual-in_err-put_records.result c.from_residual-in_err-put_records.ensures.1 in
+    let p = err_from_is_err_and c.from_residual-in_err-put_records.result
+    c.from_residual-in_err-put_records.ensures.1 in
     let h = c.args.h.now in
     let head = spelled (header_words c.args.digits h) in
     let roots = flat_map (λ r. spelled (root_words r)) h.roots in
     let bases = flat_map (λ f. spelled (base_words f)) h.bases in
     let records = flat_map (λ r. spelled (record_words r)) h.records in
-    let two = through_then g.K.Sink _ _ _ _ _ _ bases records _ _ c.in_ok-put_bases.ensures c.in_err-put_records.ensures in
+    let two = through_then g.K.Sink _ _ _ _ _ _ bases records _ _ c.in_ok-put_bases.ensures
+    c.in_err-put_records.ensures in
     let three = through_then g.K.Sink _ _ _ _ _ _ roots _ _ _ c.in_ok-put_roots.ensures two in
     let part = through_then g.K.Sink _ _ _ _ _ _ head _ _ _ c.in_ok-put_header.ensures three in
-    rw (p.1, p.2) (puts_same g.K.Sink _ _ _ _ _ (sym (stream_text c.args.digits h)) (flush_stops g.K.Sink _ _ _ _ _ _ c.new-page.ensures part))
+    rw (p.1, p.2)
+    (puts_same g.K.Sink _ _ _ _ _ (sym (stream_text c.args.digits h))
+    (flush_stops g.K.Sink _ _ _ _ _ _ c.new-page.ensures part))
 
 pub returns-in_err-flush : goal.returns-in_err-flush
 returns-in_err-flush g c =
-    let p = err_from_is_err_and c.from_residual-in_err-flush.result c.from_residual-in_err-flush.ensures.1 in
+    let p = err_from_is_err_and c.from_residual-in_err-flush.result
+    c.from_residual-in_err-flush.ensures.1 in
     let h = c.args.h.now in
     let head = spelled (header_words c.args.digits h) in
     let roots = flat_map (λ r. spelled (root_words r)) h.roots in
     let bases = flat_map (λ f. spelled (base_words f)) h.bases in
     let records = flat_map (λ r. spelled (record_words r)) h.records in
-    let two = through_then g.K.Sink _ _ _ _ _ _ bases records _ _ c.in_ok-put_bases.ensures c.in_ok-put_records.ensures in
+    let two = through_then g.K.Sink _ _ _ _ _ _ bases records _ _ c.in_ok-put_bases.ensures
+    c.in_ok-put_records.ensures in
     let three = through_then g.K.Sink _ _ _ _ _ _ roots _ _ _ c.in_ok-put_roots.ensures two in
     let all = through_then g.K.Sink _ _ _ _ _ _ head _ _ _ c.in_ok-put_header.ensures three in
-    rw (p.1, p.2) (puts_same g.K.Sink _ _ _ _ _ (sym (stream_text c.args.digits h)) (flush_then g.K.Sink _ _ _ _ _ _ _ _ c.new-page.ensures all c.in_err-flush.ensures.puts))
+    rw (p.1, p.2)
+    (puts_same g.K.Sink _ _ _ _ _ (sym (stream_text c.args.digits h))
+    (flush_then g.K.Sink _ _ _ _ _ _ _ _ c.new-page.ensures all c.in_err-flush.ensures.puts))
 
 pub returns : goal.returns
 returns g c =
@@ -68,7 +85,9 @@ returns g c =
     let roots = flat_map (λ r. spelled (root_words r)) h.roots in
     let bases = flat_map (λ f. spelled (base_words f)) h.bases in
     let records = flat_map (λ r. spelled (record_words r)) h.records in
-    let two = through_then g.K.Sink _ _ _ _ _ _ bases records _ _ c.in_ok-put_bases.ensures c.in_ok-put_records.ensures in
+    let two = through_then g.K.Sink _ _ _ _ _ _ bases records _ _ c.in_ok-put_bases.ensures
+    c.in_ok-put_records.ensures in
     let three = through_then g.K.Sink _ _ _ _ _ _ roots _ _ _ c.in_ok-put_roots.ensures two in
     let all = through_then g.K.Sink _ _ _ _ _ _ head _ _ _ c.in_ok-put_header.ensures three in
-    puts_same g.K.Sink _ _ _ _ _ (sym (stream_text c.args.digits h)) (flush_then g.K.Sink _ _ _ _ _ _ _ _ c.new-page.ensures all c.in_ok-flush.ensures.puts)
+    puts_same g.K.Sink _ _ _ _ _ (sym (stream_text c.args.digits h))
+    (flush_then g.K.Sink _ _ _ _ _ _ _ _ c.new-page.ensures all c.in_ok-flush.ensures.puts)

@@ -7,6 +7,7 @@ use Rattle.pm_format.proofs.write.put_bases.Given as goal
 
 abbrev pub invariant-loop-i : goal.invariant-loop-i
 invariant-loop-i g l = record {
-  text : GainsThrough (g.K.Sink.got l.fn.out) (g.K.Sink.got l.out) l.fn.page l.page (flat_map (λ x. spelled (base_words x)) (take l.i l.h.bases));
+  text : GainsThrough (g.K.Sink.got l.fn.out) (g.K.Sink.got l.out) l.fn.page l.page
+      (flat_map (λ x. spelled (base_words x)) (take l.i l.h.bases));
   count : g.K.Sink.faults l.out ≡ g.K.Sink.faults l.fn.out;
 }

@@ -4,4 +4,5 @@ use Rattle.pm_format.specs.Words.{spelled}
 use Rattle.pm_format.proofs.write.put_head.Goals as goal
 
 pub returns : goal.returns
-returns g c = through_same g.K.Sink _ _ _ _ _ _ _ (ap spelled c.head_words.ensures) c.put_words.ensures
+returns g c =
+    through_same g.K.Sink _ _ _ _ _ _ _ (ap spelled c.head_words.ensures) c.put_words.ensures

@@ -11,5 +11,6 @@ unfolding spelled
 returns-in-None g c =
     let got = g.K.Sink.got c.args.out.now in
     let page = c.args.page.now in
-    let none = subst (λ new. GainsThrough got got page page (spelled (new_face_words new))) (sym c.in-None.is) (through_none got page) in
+    let none = subst (λ new. GainsThrough got got page page (spelled (new_face_words new)))
+    (sym c.in-None.is) (through_none got page) in
     through_done g.K.Sink c.args.out.now c.args.out.now page page _ _ none refl

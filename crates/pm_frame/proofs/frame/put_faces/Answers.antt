@@ -10,7 +10,13 @@ use Rattle.pm_frame.proofs.Lines.{line_next, line_cut, line_gap}
 use Rattle.pm_frame.proofs.frame.put_faces.Goals as goal
 
 pub overflow_add-from : goal.overflow_add-from
-overflow_add-from g c = omega (arith, c.in-Some.ensures.below, face_count-most c.args.front.now.h c.invariant.ensures.valid.shape)
+overflow_add-from g c =
+    omega (
+      arith,
+      c.in-Some.ensures.below,
+      face_count-most c.args.front.now.h
+          c.invariant.ensures.valid.shape,
+    )
 
 pub put_shown-requires-clause-kept : goal.put_shown-requires-clause-kept
 put_shown-requires-clause-kept g c = c.in-Some.ensures.some.passes
@@ -23,9 +29,14 @@ returns-in_err-add g c =
     let line = shown_face h (set_of c.args.front.now.flags) in
     let n = c.in-Some.face.0 in
     let least = c.in-Some.ensures.some in
-    let so_far = line_gap shown line c.loop-face.from n _ _ _ _ least.from least.none c.loop-face.invariant.text in
-    let part = line_cut shown line n (face_count h) _ _ _ _ _ _ c.in-Some.ensures.below least.passes (c.as_slice.ensures ∙ c.put_shown.ensures) so_far c.in_err-add.ensures.puts.err in
-    rw (p.1, p.2) (through_failed g.K.Sink c.args.out.now c.loop-face.out _ _ _ _ _ part c.loop-face.invariant.count c.in_err-add.ensures.puts.cause)
+    let so_far =
+    line_gap shown line c.loop-face.from n _ _ _ _ least.from least.none
+    c.loop-face.invariant.text in
+    let part = line_cut shown line n (face_count h) _ _ _ _ _ _ c.in-Some.ensures.below least.passes
+    (c.as_slice.ensures ∙ c.put_shown.ensures) so_far c.in_err-add.ensures.puts.err in
+    rw (p.1, p.2)
+    (through_failed g.K.Sink c.args.out.now c.loop-face.out _ _ _ _ _ part
+    c.loop-face.invariant.count c.in_err-add.ensures.puts.cause)
 
 pub loop-face-preserved : goal.loop-face-preserved
 loop-face-preserved g c =
@@ -34,10 +45,13 @@ loop-face-preserved g c =
     let line = shown_face h (set_of c.args.front.now.flags) in
     let n = c.in-Some.face.0 in
     let least = c.in-Some.ensures.some in
-    let so_far = line_gap shown line c.loop-face.from n _ _ _ _ least.from least.none c.loop-face.invariant.text in
+    let so_far =
+    line_gap shown line c.loop-face.from n _ _ _ _ least.from least.none
+    c.loop-face.invariant.text in
     record {
       within = omega (arith, c.in-Some.ensures.below);
-      text = line_next shown line n _ _ _ _ _ _ _ least.passes (c.as_slice.ensures ∙ c.put_shown.ensures) so_far c.in_ok-add.ensures.puts.ok;
+      text = line_next shown line n _ _ _ _ _ _ _ least.passes (c.as_slice.ensures
+          ∙ c.put_shown.ensures) so_far c.in_ok-add.ensures.puts.ok;
       count = c.in_ok-add.ensures.puts.cause.same ∙ c.loop-face.invariant.count;
     }
 
@@ -48,4 +62,5 @@ returns g c =
     let line = shown_face h (set_of c.args.front.now.flags) in
     let i = c.loop-face.invariant in
     through_done g.K.Sink c.args.out.now c.loop-face.out c.args.page.now c.loop-face.page _ _
-    (line_gap shown line c.loop-face.from (face_count h) _ _ _ _ i.within c.in_default.ensures.none i.text) i.count
+    (line_gap shown line c.loop-face.from (face_count h) _ _ _ _ i.within c.in_default.ensures.none
+    i.text) i.count

@@ -10,7 +10,9 @@ use Rattle.pm_frame.proofs.frame.put_faces.Given as goal
 abbrev pub invariant-loop-face : goal.invariant-loop-face
 invariant-loop-face g l = record {
   within : l.from ≤ face_count l.front.h;
-  text : GainsThrough (g.K.Sink.got l.fn.out) (g.K.Sink.got l.out) l.fn.page l.page (flat_map (shown_face l.front.h (set_of l.front.flags)) (filter (is_kept l.front.h (set_of l.front.flags)) (numbers_below l.from)));
+  text : GainsThrough (g.K.Sink.got l.fn.out) (g.K.Sink.got l.out) l.fn.page l.page
+      (flat_map (shown_face l.front.h (set_of l.front.flags))
+      (filter (is_kept l.front.h (set_of l.front.flags)) (numbers_below l.from)));
   count : g.K.Sink.faults l.out ≡ g.K.Sink.faults l.fn.out;
 }
 

@@ -10,7 +10,9 @@ use Rattle.pm_frame.proofs.frame.put_nodes.Given as goal
 abbrev pub invariant-loop-node : goal.invariant-loop-node
 invariant-loop-node g l = record {
   within : l.from ≤ node_count l.front.h;
-  text : GainsThrough (g.K.Sink.got l.fn.out) (g.K.Sink.got l.out) l.fn.page l.page (flat_map (shown_node l.front.h) (filter (is_active l.front.h (set_of l.front.flags)) (numbers_below l.from)));
+  text : GainsThrough (g.K.Sink.got l.fn.out) (g.K.Sink.got l.out) l.fn.page l.page
+      (flat_map (shown_node l.front.h)
+      (filter (is_active l.front.h (set_of l.front.flags)) (numbers_below l.from)));
   count : g.K.Sink.faults l.out ≡ g.K.Sink.faults l.fn.out;
 }
 

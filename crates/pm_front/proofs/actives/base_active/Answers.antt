@@ -9,5 +9,8 @@ pub returns-clause-right : goal.returns-clause-right
 returns-clause-right c =
     let xs = c.args.nodes.now.list in
     let new = c.put_in.new.members.list in
-    let are = subst (λ (n : ℕ). AreSameNumbers new (range_with_len 0 (n - 0) ++ xs)) c.roots.ensures.value c.put_in.ensures.list in
-    roots-active c.args.h.now new (first_ones (length c.args.h.now.roots) xs new (ap (λ (m : Members). m.list) c.requires) are) c.put_in.ensures.list.once
+    let are = subst (λ (n : ℕ). AreSameNumbers new (range_with_len 0 (n - 0) ++ xs))
+    c.roots.ensures.value c.put_in.ensures.list in
+    roots-active c.args.h.now new
+    (first_ones (length c.args.h.now.roots) xs new (ap (λ (m : Members). m.list) c.requires)
+    are) c.put_in.ensures.list.once

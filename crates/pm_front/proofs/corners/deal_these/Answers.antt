@@ -11,15 +11,21 @@ deal_one-requires-clause-corner c =
     let s = s_of c.args.h.now c.args.k in
     let i = c.loop-corner.invariant in
     let x = get_or c.args.these.now c.loop-corner.corner-index 0 in
-    let left = next_of_first c.args.these.now (list_of c.args.corners.now s) (list_of c.loop-corner.corners s) c.loop-corner.corner-index c.requires.first c.loop-corner-test.true i.rest in
-    let low = i.sound.in_range s x (rw left (has_head x (drop (c.loop-corner.corner-index + 1) (list_of c.args.corners.now s)))) in
+    let left = next_of_first c.args.these.now (list_of c.args.corners.now s)
+    (list_of c.loop-corner.corners s) c.loop-corner.corner-index c.requires.first
+    c.loop-corner-test.true i.rest in
+    let low = i.sound.in_range s x
+    (rw left (has_head x
+    (drop (c.loop-corner.corner-index + 1) (list_of c.args.corners.now s)))) in
     omega (arith, low, i.items, c.requires.items)
 
 pub deal_one-requires-clause-held : goal.deal_one-requires-clause-held
 deal_one-requires-clause-held c =
     let s = s_of c.args.h.now c.args.k in
     let x = get_or c.args.these.now c.loop-corner.corner-index 0 in
-    let left = next_of_first c.args.these.now (list_of c.args.corners.now s) (list_of c.loop-corner.corners s) c.loop-corner.corner-index c.requires.first c.loop-corner-test.true c.loop-corner.invariant.rest in
+    let left = next_of_first c.args.these.now (list_of c.args.corners.now s)
+    (list_of c.loop-corner.corners s) c.loop-corner.corner-index c.requires.first
+    c.loop-corner-test.true c.loop-corner.invariant.rest in
     (s, rw left (has_head x (drop (c.loop-corner.corner-index + 1) (list_of c.args.corners.now s))))
 
 pub loop-corner-preserved : goal.loop-corner-preserved
@@ -29,9 +35,12 @@ loop-corner-preserved c =
     let v = c.loop-corner.corners in
     let i = c.loop-corner.invariant in
     let x = get_or c.args.these.now c.loop-corner.corner-index 0 in
-    let left = next_of_first c.args.these.now (list_of c.args.corners.now s) (list_of v s) c.loop-corner.corner-index c.requires.first c.loop-corner-test.true i.rest in
+    let left = next_of_first c.args.these.now (list_of c.args.corners.now s) (list_of v s)
+    c.loop-corner.corner-index c.requires.first c.loop-corner-test.true i.rest in
     let child = c.children.ensures in
-    let d = deals_one h c.invariant.ensures c.args.k c.requires.record v c.deal_one.new.corners c.children.result.0.0 c.children.result.1.0 x child.t child.u child.nodes i.sound (i.heads ∙ c.requires.heads) (ap first_of left) c.deal_one.ensures.lists in
+    let d = deals_one h c.invariant.ensures c.args.k c.requires.record v c.deal_one.new.corners
+    c.children.result.0.0 c.children.result.1.0 x child.t child.u child.nodes i.sound
+    (i.heads ∙ c.requires.heads) (ap first_of left) c.deal_one.ensures.lists in
     record {
       items = d.items ∙ i.items;
       heads = d.heads ∙ i.heads;

@@ -6,5 +6,6 @@ use Rattle.pm_front.proofs.members.put_in.Given as goal
 abbrev pub invariant-loop-number : goal.invariant-loop-number
 invariant-loop-number l = record {
   bound : l.members.bound ≡ l.fn.members.bound;
-  list : AreSameNumbers l.members.list (range_with_len l.from (l.number - l.from) ++ l.fn.members.list);
+  list : AreSameNumbers l.members.list (range_with_len l.from (l.number - l.from)
+      ++ l.fn.members.list);
 }

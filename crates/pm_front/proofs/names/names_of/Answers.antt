@@ -17,32 +17,52 @@ maker-requires c =
 
 pub revealer-requires : goal.revealer-requires
 revealer-requires c =
-    neighbour_there c.args.h.now c.args.k 0 c.neighbours-sides.result c.invariant.ensures c.requires (c.neighbours-sides.ensures.list ∙ ap neighbours_of c.record_at-change.ensures) (omega arith)
+    neighbour_there c.args.h.now c.args.k 0 c.neighbours-sides.result c.invariant.ensures c.requires
+    (c.neighbours-sides.ensures.list ∙ ap neighbours_of c.record_at-change.ensures)
+    (omega arith)
 
 pub revealer-requires-2 : goal.revealer-requires-2
 revealer-requires-2 c =
-    neighbour_there c.args.h.now c.args.k 1 c.neighbours-sides.result c.invariant.ensures c.requires (c.neighbours-sides.ensures.list ∙ ap neighbours_of c.record_at-change.ensures) (omega arith)
+    neighbour_there c.args.h.now c.args.k 1 c.neighbours-sides.result c.invariant.ensures c.requires
+    (c.neighbours-sides.ensures.list ∙ ap neighbours_of c.record_at-change.ensures)
+    (omega arith)
 
 pub revealer-requires-3 : goal.revealer-requires-3
 revealer-requires-3 c =
-    neighbour_there c.args.h.now c.args.k 2 c.neighbours-sides.result c.invariant.ensures c.requires (c.neighbours-sides.ensures.list ∙ ap neighbours_of c.record_at-change.ensures) (omega arith)
+    neighbour_there c.args.h.now c.args.k 2 c.neighbours-sides.result c.invariant.ensures c.requires
+    (c.neighbours-sides.ensures.list ∙ ap neighbours_of c.record_at-change.ensures)
+    (omega arith)
 
 pub revealer-requires-4 : goal.revealer-requires-4
 revealer-requires-4 c =
-    neighbour_there c.args.h.now c.args.k 3 c.neighbours-sides.result c.invariant.ensures c.requires (c.neighbours-sides.ensures.list ∙ ap neighbours_of c.record_at-change.ensures) (omega arith)
+    neighbour_there c.args.h.now c.args.k 3 c.neighbours-sides.result c.invariant.ensures c.requires
+    (c.neighbours-sides.ensures.list ∙ ap neighbours_of c.record_at-change.ensures)
+    (omega arith)
 
 pub returns : goal.returns
 returns c =
     let h = c.args.h.now in
     let sides = c.neighbours-sides.result in
     let four : length sides ≡ 4 = omega arith in
-    let made = c.maker.ensures.value ∙ ap (maker_of h) (ap (λ (r : Record). r.s) c.record_at-change.ensures ∙ s_is h c.args.k) in
-    let times : (j : ℕ) → times_in j (c.maker.result ∷ c.revealer.result ∷ c.revealer-2.result ∷ c.revealer-3.result ∷ c.revealer-4.result ∷ []) ≡ times_named h c.args.k j = λ j.
-    let names = names_times h c.args.k j sides four (c.neighbours-sides.ensures.list ∙ ap neighbours_of c.record_at-change.ensures) in
-    (rw (made, c.revealer.ensures.value, c.revealer-2.ensures.value, c.revealer-3.ensures.value, c.revealer-4.ensures.value) names) in
+    let made = c.maker.ensures.value
+    ∙ ap (maker_of h) (ap (λ (r : Record). r.s) c.record_at-change.ensures ∙ s_is h c.args.k) in
+    let times : (j : ℕ)
+    → times_in j (c.maker.result ∷ c.revealer.result ∷ c.revealer-2.result ∷ c.revealer-3.result
+    ∷ c.revealer-4.result ∷ []) ≡ times_named h c.args.k j = λ j.
+    let names = names_times h c.args.k j sides four (c.neighbours-sides.ensures.list
+    ∙ ap neighbours_of c.record_at-change.ensures) in
+    (rw (
+      made,
+      c.revealer.ensures.value,
+      c.revealer-2.ensures.value,
+      c.revealer-3.ensures.value,
+      c.revealer-4.ensures.value,
+    ) names) in
     let P : Option ℕ → Type 0 = λ name. IfSome name (λ j. j < record_count h) in
     record {
-      there = all_five P c.maker.result c.revealer.result c.revealer-2.result c.revealer-3.result c.revealer-4.result c.maker.ensures.below c.revealer.ensures.there c.revealer-2.ensures.there
+      there = all_five P c.maker.result c.revealer.result c.revealer-2.result c.revealer-3.result
+          c.revealer-4.result c.maker.ensures.below c.revealer.ensures.there
+          c.revealer-2.ensures.there
           c.revealer-3.ensures.there c.revealer-4.ensures.there;
       times = times;
     }

@@ -1,5 +1,6 @@
 use Rattle.std.proofs.Common.{◌-◌, length-set, refl, ◌∙◌, arith}
-use Rattle.pm_links.proofs.Copying.{front_step, back_step, met_front, met_back, all_copied, all_fit, all_first}
+use Rattle.pm_links.proofs.Copying.{front_step, back_step, met_front, met_back, all_copied, all_fit}
+use Rattle.pm_links.proofs.Copying.{all_first}
 use Rattle.pm_links.proofs.rings.copy_ends.Goals as goal
 
 pub returns-then-item-last : goal.returns-then-item-last
@@ -34,7 +35,9 @@ pub loop-front-preserved-then-front-back : goal.loop-front-preserved-then-front-
 loop-front-preserved-then-front-back g c =
     let i = c.loop-front.invariant in
     let one = front_step i.copies _ c.loop-front-test.true refl c.if-item-last.false in
-    let room_len = length-set _ (c.loop-front.back - 1) _ ∙ length-set c.loop-front.room c.loop-front.front _ in
+    let room_len =
+    length-set _ (c.loop-front.back - 1) _
+    ∙ length-set c.loop-front.room c.loop-front.front _ in
     record {
       copies = back_step one _ c.if-front-back.true refl c.if-item-first.false;
       even = omega (arith, room_len, i.even, c.if-front-back.true);

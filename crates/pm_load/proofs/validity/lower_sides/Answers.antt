@@ -11,7 +11,13 @@ returns-in_err-lower-clause-fault c =
     let k = c.in_err-lower.field-0.0.0 in
     let bad = c.in_err-lower.ensures.bad in
     let last : IsLastToFail h k = record {
-      is_record = omega (arith, bad.0, c.left.ensures.value, c.left.ensures.most, c.loop-lowering-test.true);
+      is_record = omega (
+        arith,
+        bad.0,
+        c.left.ensures.value,
+        c.left.ensures.most,
+        c.loop-lowering-test.true,
+      );
       fails = bad.1;
       later = λ j a b. c.invariant.ensures.rules j (omega (arith, bad.0)) b;
     } in

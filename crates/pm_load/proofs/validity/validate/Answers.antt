@@ -9,4 +9,5 @@ returns-clause-valid c =
     let i = c.invariant.ensures in
     let none = c.in_default-lower_sides.ensures.left in
     let valid = (told_valid _ i.shape i.once).1 (λ k l. i.rules k (omega (arith, none)) l) in
-    subst IsValid (c.in_default-lower_sides.ensures.h ∙ ap (λ (o : Lowered). o.h) c.in-Ok.ensures) valid
+    subst IsValid (c.in_default-lower_sides.ensures.h ∙ ap (λ (o : Lowered). o.h) c.in-Ok.ensures)
+    valid

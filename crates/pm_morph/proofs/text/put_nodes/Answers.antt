@@ -27,9 +27,15 @@ returns-in_err-add g c =
     let line = moved_node h (set_of c.args.marks.now) c.args.a c.args.b in
     let n = c.in-Some.node.0 in
     let least = c.in-Some.ensures.some in
-    let so_far = line_gap shown line c.loop-node.from n _ _ _ _ least.from least.none c.loop-node.invariant.text in
-    let part = line_cut shown line n (node_count h) _ _ _ _ _ _ c.in-Some.ensures.below least.passes (◌∙◌ {c = line n} c.as_slice.ensures c.put_moved.ensures) so_far c.in_err-add.ensures.puts.err in
-    rw (p.1, p.2) (through_failed g.K.Sink c.args.out.now c.loop-node.out _ _ _ _ _ part c.loop-node.invariant.count c.in_err-add.ensures.puts.cause)
+    let so_far =
+    line_gap shown line c.loop-node.from n _ _ _ _ least.from least.none
+    c.loop-node.invariant.text in
+    let part = line_cut shown line n (node_count h) _ _ _ _ _ _ c.in-Some.ensures.below least.passes
+    (◌∙◌ {c = line n} c.as_slice.ensures c.put_moved.ensures) so_far
+    c.in_err-add.ensures.puts.err in
+    rw (p.1, p.2)
+    (through_failed g.K.Sink c.args.out.now c.loop-node.out _ _ _ _ _ part
+    c.loop-node.invariant.count c.in_err-add.ensures.puts.cause)
 
 pub loop-node-preserved : goal.loop-node-preserved
 loop-node-preserved g c =
@@ -38,10 +44,14 @@ loop-node-preserved g c =
     let line = moved_node h (set_of c.args.marks.now) c.args.a c.args.b in
     let n = c.in-Some.node.0 in
     let least = c.in-Some.ensures.some in
-    let so_far = line_gap shown line c.loop-node.from n _ _ _ _ least.from least.none c.loop-node.invariant.text in
+    let so_far =
+    line_gap shown line c.loop-node.from n _ _ _ _ least.from least.none
+    c.loop-node.invariant.text in
     record {
       within = omega (arith, c.in-Some.ensures.below);
-      text = line_next shown line n _ _ _ _ _ _ _ least.passes (◌∙◌ {c = line n} c.as_slice.ensures c.put_moved.ensures) so_far c.in_ok-add.ensures.puts.ok;
+      text = line_next shown line n _ _ _ _ _ _ _ least.passes
+          (◌∙◌ {c = line n} c.as_slice.ensures c.put_moved.ensures) so_far
+          c.in_ok-add.ensures.puts.ok;
       count = c.in_ok-add.ensures.puts.cause.same ∙ c.loop-node.invariant.count;
     }
 
@@ -52,4 +62,5 @@ returns g c =
     let line = moved_node h (set_of c.args.marks.now) c.args.a c.args.b in
     let i = c.loop-node.invariant in
     through_done g.K.Sink c.args.out.now c.loop-node.out c.args.page.now c.loop-node.page _ _
-    (line_gap shown line c.loop-node.from (node_count h) _ _ _ _ i.within c.in_default.ensures.none i.text) i.count
+    (line_gap shown line c.loop-node.from (node_count h) _ _ _ _ i.within c.in_default.ensures.none
+    i.text) i.count

@@ -21,9 +21,14 @@ loop-i-preserved c =
     let inside : i < length c.args.numbers.now.bases.items = omega arith in
     let l : i < length (base_faces r) = omega arith in
     let all = length-map (base_faces r) (numbered_face r) in
-    let f = get_or_read c.args.numbers.now.bases.items i c.index.result.now inside c.index.ensures 0 ∙ ap (λ xs. get_or xs i 0) is in
-    let face = c.face.ensures ∙ ap (numbered_face r) f ∙ sym (get_or-map (numbered_face r) (base_faces r) i 0 no_face_corners l) in
-    base_taken h c.loop-i.shaper c.add_base.new.self i c.face.result c.add_base.result c.loop-i.invariant (omega arith) face (base_fits r c.requires.run.merging c.requires.run.few_faces i (omega arith)) c.add_base.ensures.fault c.add_base.ensures.taken
+    let f = get_or_read c.args.numbers.now.bases.items i c.index.result.now inside c.index.ensures 0
+    ∙ ap (λ xs. get_or xs i 0) is in
+    let face = c.face.ensures ∙ ap (numbered_face r) f
+    ∙ sym (get_or-map (numbered_face r) (base_faces r) i 0 no_face_corners l) in
+    base_taken h c.loop-i.shaper c.add_base.new.self i c.face.result c.add_base.result
+    c.loop-i.invariant (omega arith) face
+    (base_fits r c.requires.run.merging c.requires.run.few_faces i (omega arith))
+    c.add_base.ensures.fault c.add_base.ensures.taken
 
 pub returns : goal.returns
 returns c =
@@ -50,6 +55,7 @@ face-requires-clause-inside c =
     let is = c.requires.numbers.bases_are in
     let len = ap length is in
     let inside : i < length c.args.numbers.now.bases.items = omega arith in
-    let f = get_or_read c.args.numbers.now.bases.items i c.index.result.now inside c.index.ensures 0 ∙ ap (λ xs. get_or xs i 0) is in
+    let f = get_or_read c.args.numbers.now.bases.items i c.index.result.now inside c.index.ensures 0
+    ∙ ap (λ xs. get_or xs i 0) is in
     let low = (bases_inside r c.requires.run.merging i (omega arith)).0 in
     omega arith

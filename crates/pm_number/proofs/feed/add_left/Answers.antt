@@ -9,7 +9,8 @@ use Rattle.pm_number.specs.Numbering.{step_of}
 use Rattle.pm_number.proofs.NodeNumbers.{count}
 use Rattle.pm_number.proofs.Fitting.{presence_fits}
 use Rattle.pm_number.proofs.FaceFitting.{left_fits}
-use Rattle.pm_number.proofs.FeedLaws.{sent, next_is, left_is, left_none, expects_left, left_taken, no_left}
+use Rattle.pm_number.proofs.FeedLaws.{sent, next_is, left_is, left_none, expects_left, left_taken}
+use Rattle.pm_number.proofs.FeedLaws.{no_left}
 use Rattle.pm_number.proofs.feed.add_left.Goals as goal
 
 pub add_face-requires : goal.add_face-requires
@@ -18,8 +19,11 @@ add_face-requires c =
     let h = hierarchy_of r in
     let i = steps r - suc c.args.k in
     let i_lt : i < steps r = (let l = c.requires.inside in omega arith) in
-    let w = sent r i (entry_at r i).t (entry_at r i).u (step_of r c.args.k).left c.in-Some.gone c.requires.run.merging (sym c.requires.gone ∙ c.in-Some.is) (c.requires.run.merging.logged i i_lt).left in
-    expects_left h c.args.shaper.now c.args.k w.taken c.requires.before (left_is r c.args.k w.taken c.requires.inside w.is)
+    let w = sent r i (entry_at r i).t (entry_at r i).u (step_of r c.args.k).left c.in-Some.gone
+    c.requires.run.merging (sym c.requires.gone ∙ c.in-Some.is)
+    (c.requires.run.merging.logged i i_lt).left in
+    expects_left h c.args.shaper.now c.args.k w.taken c.requires.before
+    (left_is r c.args.k w.taken c.requires.inside w.is)
 
 pub face-requires-clause-inside : goal.face-requires-clause-inside
 face-requires-clause-inside c =
@@ -27,7 +31,9 @@ face-requires-clause-inside c =
     let h = hierarchy_of r in
     let i = steps r - suc c.args.k in
     let i_lt : i < steps r = (let l = c.requires.inside in omega arith) in
-    let w = sent r i (entry_at r i).t (entry_at r i).u (step_of r c.args.k).left c.in-Some.gone c.requires.run.merging (sym c.requires.gone ∙ c.in-Some.is) (c.requires.run.merging.logged i i_lt).left in
+    let w = sent r i (entry_at r i).t (entry_at r i).u (step_of r c.args.k).left c.in-Some.gone
+    c.requires.run.merging (sym c.requires.gone ∙ c.in-Some.is)
+    (c.requires.run.merging.logged i i_lt).left in
     w.face
 
 pub word-requires-clause-inside : goal.word-requires-clause-inside
@@ -36,7 +42,9 @@ word-requires-clause-inside c =
     let h = hierarchy_of r in
     let i = steps r - suc c.args.k in
     let i_lt : i < steps r = (let l = c.requires.inside in omega arith) in
-    let w = sent r i (entry_at r i).t (entry_at r i).u (step_of r c.args.k).left c.in-Some.gone c.requires.run.merging (sym c.requires.gone ∙ c.in-Some.is) (c.requires.run.merging.logged i i_lt).left in
+    let w = sent r i (entry_at r i).t (entry_at r i).u (step_of r c.args.k).left c.in-Some.gone
+    c.requires.run.merging (sym c.requires.gone ∙ c.in-Some.is)
+    (c.requires.run.merging.logged i i_lt).left in
     w.first
 
 pub word-requires-in-Some-clause-inside : goal.word-requires-in-Some-clause-inside
@@ -45,7 +53,9 @@ word-requires-in-Some-clause-inside c =
     let h = hierarchy_of r in
     let i = steps r - suc c.args.k in
     let i_lt : i < steps r = (let l = c.requires.inside in omega arith) in
-    let w = sent r i (entry_at r i).t (entry_at r i).u (step_of r c.args.k).left c.in-Some.gone c.requires.run.merging (sym c.requires.gone ∙ c.in-Some.is) (c.requires.run.merging.logged i i_lt).left in
+    let w = sent r i (entry_at r i).t (entry_at r i).u (step_of r c.args.k).left c.in-Some.gone
+    c.requires.run.merging (sym c.requires.gone ∙ c.in-Some.is)
+    (c.requires.run.merging.logged i i_lt).left in
     w.second
 
 pub returns-in-Some : goal.returns-in-Some
@@ -54,20 +64,27 @@ returns-in-Some c =
     let h = hierarchy_of r in
     let i = steps r - suc c.args.k in
     let i_lt : i < steps r = (let l = c.requires.inside in omega arith) in
-    let w = sent r i (entry_at r i).t (entry_at r i).u (step_of r c.args.k).left c.in-Some.gone c.requires.run.merging (sym c.requires.gone ∙ c.in-Some.is) (c.requires.run.merging.logged i i_lt).left in
+    let w = sent r i (entry_at r i).t (entry_at r i).u (step_of r c.args.k).left c.in-Some.gone
+    c.requires.run.merging (sym c.requires.gone ∙ c.in-Some.is)
+    (c.requires.run.merging.logged i i_lt).left in
     let face = c.face.ensures ∙ w.face_is in
     let first = c.word.ensures ∙ ap word_of w.first_is in
     let second = c.word-in-Some.ensures ∙ ap word_of w.second_is in
     let all = count r in
     let k_lt : c.args.k < record_count h = (let l = c.requires.inside in omega arith) in
     let there = left_is r c.args.k w.taken c.requires.inside w.is in
-    left_taken h c.args.shaper.now c.add_face.new.self c.args.k c.face.result c.word.result c.word-in-Some.result w.taken c.add_face.result c.requires.before k_lt there
-    (next_is w.taken c.face.result c.word.result c.word-in-Some.result face first second) face first second
-    (left_fits r c.requires.run.merging c.requires.run.few_faces c.args.k k_lt w.taken there) c.add_face.ensures.fault c.add_face.ensures.taken
+    left_taken h c.args.shaper.now c.add_face.new.self c.args.k c.face.result c.word.result
+    c.word-in-Some.result w.taken c.add_face.result c.requires.before k_lt there
+    (next_is w.taken c.face.result c.word.result c.word-in-Some.result face first second) face first
+    second
+    (left_fits r c.requires.run.merging c.requires.run.few_faces c.args.k k_lt w.taken there)
+    c.add_face.ensures.fault c.add_face.ensures.taken
 
 pub returns-in_default : goal.returns-in_default
 returns-in_default c =
     let r = run_of (mesh_of c.args.mesh.now) c.args.log.now in
     let h = hierarchy_of r in
     let none = left_none r c.args.k c.requires.inside (sym c.requires.gone ∙ c.in_default.is) in
-    c.requires.before ∙ no_left h c.args.k (record_at h c.args.k).right refl (presence_fits r c.requires.run.merging c.args.k c.requires.inside) none
+    c.requires.before
+    ∙ no_left h c.args.k (record_at h c.args.k).right refl
+    (presence_fits r c.requires.run.merging c.args.k c.requires.inside) none

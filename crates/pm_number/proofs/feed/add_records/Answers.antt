@@ -31,13 +31,17 @@ pub add_left-requires-clause-gone : goal.add_left-requires-clause-gone
 add_left-requires-clause-gone c =
     let r = run_of (mesh_of c.args.mesh.now) c.args.log.now in
     let h = hierarchy_of r in
-    ap (λ (x : Collapse). x.left) (step_is r c.loop-k.k c.entry-collapse.result.now c.loop-k-test.true c.entry-collapse.ensures.value)
+    ap (λ (x : Collapse). x.left)
+    (step_is r c.loop-k.k c.entry-collapse.result.now c.loop-k-test.true
+    c.entry-collapse.ensures.value)
 
 pub add_right-requires-clause-gone : goal.add_right-requires-clause-gone
 add_right-requires-clause-gone c =
     let r = run_of (mesh_of c.args.mesh.now) c.args.log.now in
     let h = hierarchy_of r in
-    ap (λ (x : Collapse). x.right) (step_is r c.loop-k.k c.entry-collapse.result.now c.loop-k-test.true c.entry-collapse.ensures.value)
+    ap (λ (x : Collapse). x.right)
+    (step_is r c.loop-k.k c.entry-collapse.result.now c.loop-k-test.true
+    c.entry-collapse.ensures.value)
 
 pub add_left-requires-clause-before : goal.add_left-requires-clause-before
 add_left-requires-clause-before c =
@@ -45,5 +49,7 @@ add_left-requires-clause-before c =
     let h = hierarchy_of r in
     let k = c.loop-k.k in
     let run = c.requires.run.merging in
-    head_taken h c.loop-k.shaper c.add_head.new.self k c.head.result c.add_head.result c.loop-k.invariant (presence_fits r run k c.loop-k-test.true) c.head.ensures.value
-    (head_fits r run k c.loop-k-test.true c.head.ensures.first c.head.ensures.second) c.add_head.ensures.fault c.add_head.ensures.taken
+    head_taken h c.loop-k.shaper c.add_head.new.self k c.head.result c.add_head.result
+    c.loop-k.invariant (presence_fits r run k c.loop-k-test.true) c.head.ensures.value
+    (head_fits r run k c.loop-k-test.true c.head.ensures.first c.head.ensures.second)
+    c.add_head.ensures.fault c.add_head.ensures.taken

@@ -4,7 +4,9 @@ use Rattle.pm_number.proofs.LeftLaws.{entry_read, entry_fits}
 use Rattle.pm_number.proofs.left.entry.Goals as goal
 
 pub returns-clause-value : goal.returns-clause-value
-returns-clause-value c = entry_read (run_of (mesh_of c.args.mesh.now) c.args.log.now) c.args.i c.index-log-i.result c.requires.inside c.index-log-i.is
+returns-clause-value c =
+    entry_read (run_of (mesh_of c.args.mesh.now) c.args.log.now) c.args.i c.index-log-i.result
+    c.requires.inside c.index-log-i.is
 
 pub returns-clause-made : goal.returns-clause-made
 returns-clause-made c =

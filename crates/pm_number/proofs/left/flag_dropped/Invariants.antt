@@ -8,5 +8,6 @@ use Rattle.pm_number.proofs.left.flag_dropped.Given as goal
 abbrev pub invariant-loop-i : goal.invariant-loop-i
 invariant-loop-i l = record {
   len : length l.flags.items ≡ length l.mesh.faces.items;
-  each : (f : ℕ) → f < length l.mesh.faces.items → slice_index_or l.flags.items f false ≡ is_some (find_below (drops (run_of (mesh_of l.mesh) l.log) f) l.i);
+  each : (f : ℕ) → f < length l.mesh.faces.items → slice_index_or l.flags.items f false
+      ≡ is_some (find_below (drops (run_of (mesh_of l.mesh) l.log) f) l.i);
 }

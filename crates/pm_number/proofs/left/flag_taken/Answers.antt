@@ -18,7 +18,8 @@ loop-i-preserved c =
     let len = c.loop-i.invariant.len in
     record {
       len = length-set (set flags x.t _) x.u _ ∙ length-set flags x.t _ ∙ len;
-      each = taken_more r flags c.loop-i.i (all_vertices r) x e.value len (let l = e.first in omega arith) (let l = e.second in omega arith) c.loop-i.invariant.each;
+      each = taken_more r flags c.loop-i.i (all_vertices r) x e.value len (let l = e.first in
+          omega arith) (let l = e.second in omega arith) c.loop-i.invariant.each;
     }
 
 pub returns-clause-each : goal.returns-clause-each
@@ -26,4 +27,5 @@ unfolding taken_by
 returns-clause-each c =
     let r = run_of (mesh_of c.args.mesh.now) c.args.log.now in
     let end : c.loop-i.i ≡ length c.args.log.now = omega arith in
-    subst (λ (n : ℕ). (v : ℕ) → v < all_vertices r → get_or c.loop-i.flags.items v false ≡ is_some (find_below (takes r v) n)) end c.loop-i.invariant.each
+    subst (λ (n : ℕ). (v : ℕ) → v < all_vertices r → get_or c.loop-i.flags.items v false
+    ≡ is_some (find_below (takes r v) n)) end c.loop-i.invariant.each

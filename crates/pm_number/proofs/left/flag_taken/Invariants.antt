@@ -9,5 +9,7 @@ use Rattle.pm_number.proofs.left.flag_taken.Given as goal
 abbrev pub invariant-loop-i : goal.invariant-loop-i
 invariant-loop-i l = record {
   len : length l.flags.items ≡ all_vertices (run_of (mesh_of l.mesh) l.log);
-  each : (v : ℕ) → v < all_vertices (run_of (mesh_of l.mesh) l.log) → slice_index_or l.flags.items v false ≡ is_some (find_below (takes (run_of (mesh_of l.mesh) l.log) v) l.i);
+  each : (v : ℕ) → v < all_vertices (run_of (mesh_of l.mesh) l.log)
+      → slice_index_or l.flags.items v false
+      ≡ is_some (find_below (takes (run_of (mesh_of l.mesh) l.log) v) l.i);
 }

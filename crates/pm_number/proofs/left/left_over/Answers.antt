@@ -11,5 +11,7 @@ pub returns : goal.returns
 returns c =
     let r = run_of (mesh_of c.args.mesh.now) c.args.log.now in
     let flags = c.in_ok-taken.taken.items in
-    let is = ap (λ fs. picked (is_unset fs) 0 (length fs)) c.deref.ensures.value ∙ left_is r flags c.in_ok-taken.ensures.len c.in_ok-taken.ensures.each in
-    subst (λ (xs : List ℕ). IfOk c.unflagged.result (λ numbers. numbers.items ≡ xs)) is c.unflagged.ensures
+    let is = ap (λ fs. picked (is_unset fs) 0 (length fs)) c.deref.ensures.value
+    ∙ left_is r flags c.in_ok-taken.ensures.len c.in_ok-taken.ensures.each in
+    subst (λ (xs : List ℕ). IfOk c.unflagged.result (λ numbers. numbers.items ≡ xs)) is
+    c.unflagged.ensures

@@ -14,10 +14,14 @@ loop-k-preserved c =
     elim c.if-not-flags-k.branch [
       | then-not-flags-k+in_ok-push w ↦
           let passes : test k ≡ true = ap not w.if-not-flags-k.true in
-          ap (λ v. v.items) w.numbers-is ∙ w.in_ok-push.ensures.items ∙ ap (λ xs. xs ++ k ∷ []) c.loop-k.invariant
-          ∙ sym (picked_more test k ∙ ap (λ xs. picked test 0 k ++ xs) (cond-true (test k) (k ∷ []) [] passes))
+          ap (λ v. v.items) w.numbers-is ∙ w.in_ok-push.ensures.items
+          ∙ ap (λ xs. xs ++ k ∷ []) c.loop-k.invariant
+          ∙ sym (picked_more test k
+          ∙ ap (λ xs. picked test 0 k ++ xs) (cond-true (test k) (k ∷ []) [] passes))
       | else-not-flags-k w ↦
           let fails : test k ≡ false = ap not w.if-not-flags-k.false in
           ap (λ v. v.items) w.numbers-is ∙ c.loop-k.invariant
-          ∙ sym (picked_more test k ∙ ap (λ xs. picked test 0 k ++ xs) (cond-false (test k) (k ∷ []) [] fails) ∙ append-nil (picked test 0 k))
+          ∙ sym (picked_more test k
+          ∙ ap (λ xs. picked test 0 k ++ xs) (cond-false (test k) (k ∷ []) [] fails)
+          ∙ append-nil (picked test 0 k))
     ]

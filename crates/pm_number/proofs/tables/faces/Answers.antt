@@ -18,9 +18,12 @@ number_left-requires-clause-few c =
 pub number_left-requires-clause-inside : goal.number_left-requires-clause-inside
 number_left-requires-clause-inside c =
     let r = run_of (mesh_of c.args.mesh.now) c.args.log.now in
-    let len : length c.in_ok-faces.faces.items ≡ r.net.faces = omega (arith, c.in_ok-faces.ensures.len) in
-    subst (λ (xs : List ℕ). (j : ℕ) → j < length xs → slice_index_or xs j 0 < length c.in_ok-faces.faces.items) (sym c.requires.bases)
-    (subst (λ (n : ℕ). (j : ℕ) → j < length (base_faces r) → slice_index_or (base_faces r) j 0 < n) (sym len) (λ j l. (bases_inside r c.requires.run.merging j l).0))
+    let len : length c.in_ok-faces.faces.items ≡ r.net.faces =
+    omega (arith, c.in_ok-faces.ensures.len) in
+    subst (λ (xs : List ℕ). (j : ℕ) → j < length xs
+    → slice_index_or xs j 0 < length c.in_ok-faces.faces.items) (sym c.requires.bases)
+    (subst (λ (n : ℕ). (j : ℕ) → j < length (base_faces r) → slice_index_or (base_faces r) j 0 < n)
+    (sym len) (λ j l. (bases_inside r c.requires.run.merging j l).0))
 
 pub overflow_cast-bases : goal.overflow_cast-bases
 overflow_cast-bases c =
@@ -35,6 +38,9 @@ pub number_dropped-requires-clause-left : goal.number_dropped-requires-clause-le
 number_dropped-requires-clause-left c =
     let r = run_of (mesh_of c.args.mesh.now) c.args.log.now in
     let is = c.requires.bases in
-    let each = subst (λ (xs : List ℕ). (number : ℕ → ℕ) → ((j : ℕ) → j < length xs → number (slice_index_or xs j 0) ≡ j) → (j : ℕ) → j < length xs → RootsHave c.number_left.new.table.items number xs j) is c.number_left.ensures.each in
+    let each = subst (λ (xs : List ℕ). (number : ℕ → ℕ)
+    → ((j : ℕ) → j < length xs → number (slice_index_or xs j 0) ≡ j) → (j : ℕ) → j < length xs
+    → RootsHave c.number_left.new.table.items number xs j) is c.number_left.ensures.each in
     let len = ap length is in
-    λ j l. each (face_number r) (λ k m. (bases_inside r c.requires.run.merging k m).1) j (omega arith)
+    λ j l. each (face_number r) (λ k m. (bases_inside r c.requires.run.merging k m).1) j
+    (omega arith)

@@ -30,9 +30,12 @@ loop-i-preserved c =
     let r = run_of (mesh_of c.args.mesh.now) c.args.log.now in
     let i = c.loop-i.i in
     let before = c.loop-i.invariant in
-    let node : c.args.roots + 2 * (length c.args.log.now - 1 - i) ≡ length (left_over r) + 2 * (length c.args.log.now - 1 - i) = ap (λ n. n + 2 * (length c.args.log.now - 1 - i)) c.requires.roots in
+    let node : c.args.roots + 2 * (length c.args.log.now - 1 - i)
+    ≡ length (left_over r) + 2 * (length c.args.log.now - 1 - i) =
+    ap (λ n. n + 2 * (length c.args.log.now - 1 - i)) c.requires.roots in
     let n : all_vertices r ≡ all_vertices r = omega arith in
-    let more = ends_more r c.requires.run.merging c.loop-i.nodes.items i (all_vertices r) (c.args.roots + 2 * (length c.args.log.now - 1 - i)) c.entry-collapse.result.now
+    let more = ends_more r c.requires.run.merging c.loop-i.nodes.items i (all_vertices r)
+    (c.args.roots + 2 * (length c.args.log.now - 1 - i)) c.entry-collapse.result.now
     c.entry-collapse.ensures.value c.loop-i-test.true before.len n node before.roots before.ends in
     record { len = more.0; roots = more.1; ends = more.2 }
 
@@ -40,4 +43,5 @@ pub returns : goal.returns
 returns c =
     let r = run_of (mesh_of c.args.mesh.now) c.args.log.now in
     let last = c.loop-i.invariant in
-    nodes_all r c.requires.run.merging c.loop-i.nodes.items last.len last.roots (λ j l. last.ends j (omega arith))
+    nodes_all r c.requires.run.merging c.loop-i.nodes.items last.len last.roots
+    (λ j l. last.ends j (omega arith))

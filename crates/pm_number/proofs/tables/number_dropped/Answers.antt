@@ -5,7 +5,8 @@ use Rattle.pm_base.specs.Counts.{one_if}
 use Rattle.pm_base.proofs.Counts.{one_if-le}
 use Rattle.pm_number.specs.Numbering.{base_faces, face_number}
 use Rattle.pm_number.specs.Tables.{RootsHave, with_gone}
-use Rattle.pm_number.proofs.FaceTables.{faces_start, faces_before-le, dropped_more, faces_all, RecordsHave}
+use Rattle.pm_number.proofs.FaceTables.{faces_start, faces_before-le, dropped_more, faces_all}
+use Rattle.pm_number.proofs.FaceTables.{RecordsHave}
 use Rattle.pm_number.proofs.tables.number_dropped.Goals as goal
 
 pub number_gone-next-requires-clause-few : goal.number_gone-next-requires-clause-few
@@ -16,7 +17,8 @@ number_gone-next-requires-clause-few c =
     let next = c.loop-d.invariant.next in
     omega arith
 
-pub number_gone-next-requires-in-loop-d-clause-few : goal.number_gone-next-requires-in-loop-d-clause-few
+pub number_gone-next-requires-in-loop-d-clause-few :
+    goal.number_gone-next-requires-in-loop-d-clause-few
 number_gone-next-requires-in-loop-d-clause-few c =
     let r = run_of (mesh_of c.args.mesh.now) c.args.log.now in
     let most = faces_before-le r c.requires.run.merging c.loop-d.d (omega arith) in
@@ -47,12 +49,15 @@ loop-d-preserved c =
     let before = c.loop-d.invariant in
     let first = c.number_gone-next.ensures in
     let second = c.number_gone-next-in-loop-d.ensures in
-    let more = dropped_more r c.requires.run.merging table d n x c.entry-collapse.ensures.value c.loop-d-test.true before.len before.next before.left before.records in
-    let is = second.faces ∙ ap (λ t. with_gone t x.right c.number_gone-next.result) first.faces ∙ ap (with_gone (with_gone table x.left n) x.right) first.next in
+    let more = dropped_more r c.requires.run.merging table d n x c.entry-collapse.ensures.value
+    c.loop-d-test.true before.len before.next before.left before.records in
+    let is = second.faces ∙ ap (λ t. with_gone t x.right c.number_gone-next.result) first.faces
+    ∙ ap (with_gone (with_gone table x.left n) x.right) first.next in
     record {
       len = ap length is ∙ more.0;
       next = second.next ∙ ap (λ m. m + one_if (is_some x.right)) first.next ∙ more.1;
-      left = subst (λ (t : List ℕ). (j : ℕ) → j < length (base_faces r) → RootsHave t (face_number r) (base_faces r) j) (sym is) more.2;
+      left = subst (λ (t : List ℕ). (j : ℕ) → j < length (base_faces r)
+          → RootsHave t (face_number r) (base_faces r) j) (sym is) more.2;
       records = subst (λ (t : List ℕ). RecordsHave r t (d + 1)) (sym is) more.3;
     }
 
@@ -60,4 +65,5 @@ pub returns : goal.returns
 returns c =
     let r = run_of (mesh_of c.args.mesh.now) c.args.log.now in
     let last = c.loop-d.invariant in
-    faces_all r c.requires.run.merging c.loop-d.faces.items last.len last.left (λ j l. last.records j (omega arith))
+    faces_all r c.requires.run.merging c.loop-d.faces.items last.len last.left
+    (λ j l. last.records j (omega arith))

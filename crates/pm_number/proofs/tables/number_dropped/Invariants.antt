@@ -10,6 +10,8 @@ abbrev pub invariant-loop-d : goal.invariant-loop-d
 invariant-loop-d l = record {
   len : length l.faces.items ≡ length l.mesh.faces.items;
   next : l.next ≡ faces_before (run_of (mesh_of l.mesh) l.log) l.d;
-  left : (j : ℕ) → j < length (base_faces (run_of (mesh_of l.mesh) l.log)) → RootsHave l.faces.items (face_number (run_of (mesh_of l.mesh) l.log)) (base_faces (run_of (mesh_of l.mesh) l.log)) j;
+  left : (j : ℕ) → j < length (base_faces (run_of (mesh_of l.mesh) l.log))
+      → RootsHave l.faces.items (face_number (run_of (mesh_of l.mesh) l.log))
+      (base_faces (run_of (mesh_of l.mesh) l.log)) j;
   records : RecordsHave (run_of (mesh_of l.mesh) l.log) l.faces.items l.d;
 }

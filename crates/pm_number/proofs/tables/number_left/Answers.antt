@@ -23,8 +23,12 @@ loop-j-preserved c =
           let here = right j c.loop-j-test.true in
           let inside = c.requires.inside j c.loop-j-test.true in
           elim (cases_lt k j) [
-            | inl a ↦ set_keeps table number w j (slice_index_or left k 0) (sym here) (c.loop-j.invariant.each number right k a) (omega arith)
-            | inr a ↦ (let is : k ≡ j = omega arith in subst (λ (n : ℕ). RootsHave (set table w j) number left n) (sym is) (set_makes table number w j (sym here) (omega arith)))
+            | inl a ↦ set_keeps table number w j (slice_index_or left k 0) (sym here)
+                (c.loop-j.invariant.each number right k a) (omega arith)
+            | inr a ↦ (let is : k ≡ j =
+                omega arith in
+                subst (λ (n : ℕ). RootsHave (set table w j) number left n) (sym is)
+                (set_makes table number w j (sym here) (omega arith)))
           ];
     }
 

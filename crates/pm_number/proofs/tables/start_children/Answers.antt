@@ -11,7 +11,9 @@ overflow_add-start c =
     let x = c.entry-collapse.result.now in
     let e = c.entry-collapse.ensures in
     let width = c.requires.widths.each x.t (let l = e.first in omega arith) in
-    let few = start-small r c.requires.run c.loop-d.starts.items c.loop-d.d x c.index-start.result.now (slice_index_or c.args.widths.now x.t 0) e.value c.loop-d-test.true c.loop-d.invariant.len c.loop-d.invariant.each c.index-start.ensures width in
+    let few = start-small r c.requires.run c.loop-d.starts.items c.loop-d.d x
+    c.index-start.result.now (slice_index_or c.args.widths.now x.t 0) e.value c.loop-d-test.true
+    c.loop-d.invariant.len c.loop-d.invariant.each c.index-start.ensures width in
     omega arith
 
 pub loop-d-preserved : goal.loop-d-preserved
@@ -20,11 +22,14 @@ loop-d-preserved c =
     let x = c.entry-collapse.result.now in
     let e = c.entry-collapse.ensures in
     let width = c.requires.widths.each x.t (let l = e.first in omega arith) in
-    let more = starts_more r c.requires.run.merging c.loop-d.starts.items c.loop-d.d x c.index-start.result.now (slice_index_or c.args.widths.now x.t 0) e.value c.loop-d-test.true c.loop-d.invariant.len c.loop-d.invariant.each c.index-start.ensures width in
+    let more = starts_more r c.requires.run.merging c.loop-d.starts.items c.loop-d.d x
+    c.index-start.result.now (slice_index_or c.args.widths.now x.t 0) e.value c.loop-d-test.true
+    c.loop-d.invariant.len c.loop-d.invariant.each c.index-start.ensures width in
     record { len = more.0; each = more.1 }
 
 pub returns : goal.returns
 returns c =
     let r = run_of (mesh_of c.args.mesh.now) c.args.log.now in
     let end : c.loop-d.d ≡ length c.args.log.now = omega arith in
-    starts_all r c.requires.run.merging c.loop-d.starts.items c.loop-d.invariant.len (subst (HasStarts r c.loop-d.starts.items) end c.loop-d.invariant.each)
+    starts_all r c.requires.run.merging c.loop-d.starts.items c.loop-d.invariant.len
+    (subst (HasStarts r c.loop-d.starts.items) end c.loop-d.invariant.each)

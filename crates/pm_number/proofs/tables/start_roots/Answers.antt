@@ -5,7 +5,8 @@ use Rattle.pm_base.specs.Meshes.{mesh_of}
 use Rattle.pm_number.specs.Stages.{run_of}
 use Rattle.pm_number.specs.Numbering.{left_over, width_number, start_after}
 use Rattle.pm_number.specs.Tables.{RootsHave}
-use Rattle.pm_number.proofs.NumberLaws.{left_inside, width_sum, width_sum-next, width_sum-le, roots_more, roots_all}
+use Rattle.pm_number.proofs.NumberLaws.{left_inside, width_sum, width_sum-next, width_sum-le}
+use Rattle.pm_number.proofs.NumberLaws.{roots_more, roots_all}
 use Rattle.pm_number.proofs.tables.start_roots.Goals as goal
 
 pub index_mut-requires : goal.index_mut-requires
@@ -36,7 +37,8 @@ overflow_add-start c =
     let len = ap length c.requires.left in
     let at = ap (λ xs. slice_index_or xs j 0) c.requires.left in
     let inside = left_inside r run j (omega arith) in
-    let width = c.requires.widths.each (slice_index_or c.args.left.now j 0) (omega arith) ∙ ap (width_number r) at in
+    let width = c.requires.widths.each (slice_index_or c.args.left.now j 0) (omega arith)
+    ∙ ap (width_number r) at in
     let next = width_sum-next r j (omega arith) in
     let most = width_sum-le r run (j + 1) in
     let few = c.requires.run.few_vertices in
@@ -62,13 +64,17 @@ loop-j-preserved c =
     let before = c.loop-j.invariant in
     record {
       len = length-set table v c.loop-j.start ∙ before.len;
-      start = ap (λ n. n + slice_index_or c.args.widths.now v 0) before.start ∙ ap (λ n. width_sum r j + n) width ∙ sym (width_sum-next r j (omega arith));
-      each = subst (λ (w : ℕ). (k : ℕ) → k < j + 1 → RootsHave (set table w c.loop-j.start) (start_after r 0) (left_over r) k) (sym at)
-          (roots_more r run table j c.loop-j.start (omega arith) before.len before.start before.each);
+      start = ap (λ n. n + slice_index_or c.args.widths.now v 0) before.start
+          ∙ ap (λ n. width_sum r j + n) width ∙ sym (width_sum-next r j (omega arith));
+      each = subst (λ (w : ℕ). (k : ℕ) → k < j + 1
+          → RootsHave (set table w c.loop-j.start) (start_after r 0) (left_over r) k) (sym at)
+          (roots_more r run table j c.loop-j.start (omega arith) before.len before.start
+          before.each);
     }
 
 pub returns-clause-each : goal.returns-clause-each
 returns-clause-each c =
     let r = run_of (mesh_of c.args.mesh.now) c.args.log.now in
     let len = ap length c.requires.left in
-    roots_all r c.requires.run.merging c.loop-j.starts.items (λ k l. c.loop-j.invariant.each k (omega arith))
+    roots_all r c.requires.run.merging c.loop-j.starts.items
+    (λ k l. c.loop-j.invariant.each k (omega arith))

@@ -10,5 +10,7 @@ abbrev pub invariant-loop-j : goal.invariant-loop-j
 invariant-loop-j l = record {
   len : length l.starts.items ≡ all_vertices (run_of (mesh_of l.mesh) l.log);
   start : l.start ≡ width_sum (run_of (mesh_of l.mesh) l.log) l.j;
-  each : (j : ℕ) → j < l.j → RootsHave l.starts.items (start_after (run_of (mesh_of l.mesh) l.log) 0) (left_over (run_of (mesh_of l.mesh) l.log)) j;
+  each : (j : ℕ) → j < l.j
+      → RootsHave l.starts.items (start_after (run_of (mesh_of l.mesh) l.log) 0)
+      (left_over (run_of (mesh_of l.mesh) l.log)) j;
 }

@@ -17,19 +17,24 @@ pub loop-i-preserved : goal.loop-i-preserved
 loop-i-preserved c =
     let r = run_of (mesh_of c.args.mesh.now) c.args.log.now in
     let e = c.entry-collapse.ensures in
-    widths_more r c.loop-i.widths.items c.loop-i.i (all_vertices r) c.entry-collapse.result.now c.index.result.now c.index-in-loop-i.result.now e.value c.loop-i.invariant
-    (let a = e.first in omega arith) (let a = e.second in omega arith) (let a = e.made in omega arith) c.index.ensures c.index-in-loop-i.ensures
+    widths_more r c.loop-i.widths.items c.loop-i.i (all_vertices r) c.entry-collapse.result.now
+    c.index.result.now c.index-in-loop-i.result.now e.value c.loop-i.invariant
+    (let a = e.first in omega arith) (let a = e.second in omega arith) (let a =
+    e.made in omega arith) c.index.ensures c.index-in-loop-i.ensures
 
 pub overflow_add-index : goal.overflow_add-index
 overflow_add-index c =
     let r = run_of (mesh_of c.args.mesh.now) c.args.log.now in
     let e = c.entry-collapse.ensures in
     let n : all_vertices r ≡ all_vertices r = omega arith in
-    let few = widths_small r c.loop-i.widths.items c.loop-i.i (all_vertices r) c.entry-collapse.result.now c.index.result.now c.index-in-loop-i.result.now c.requires e.value c.loop-i-test.true c.loop-i.invariant n c.index.ensures c.index-in-loop-i.ensures in
+    let few = widths_small r c.loop-i.widths.items c.loop-i.i (all_vertices r)
+    c.entry-collapse.result.now c.index.result.now c.index-in-loop-i.result.now c.requires
+    e.value c.loop-i-test.true c.loop-i.invariant n c.index.ensures c.index-in-loop-i.ensures in
     omega arith
 
 pub returns : goal.returns
 returns c =
     let r = run_of (mesh_of c.args.mesh.now) c.args.log.now in
     let end : c.loop-i.i ≡ length c.args.log.now = omega arith in
-    subst (λ (n : ℕ). HasNumbers c.loop-i.widths.items (width_after r n) (all_vertices r)) end c.loop-i.invariant
+    subst (λ (n : ℕ). HasNumbers c.loop-i.widths.items (width_after r n) (all_vertices r)) end
+    c.loop-i.invariant

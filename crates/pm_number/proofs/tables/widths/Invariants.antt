@@ -5,4 +5,6 @@ use Rattle.pm_number.specs.Tables.{HasNumbers, all_vertices}
 use Rattle.pm_number.proofs.tables.widths.Given as goal
 
 abbrev pub invariant-loop-i : goal.invariant-loop-i
-invariant-loop-i l = HasNumbers l.widths.items (width_after (run_of (mesh_of l.mesh) l.log) l.i) (all_vertices (run_of (mesh_of l.mesh) l.log))
+invariant-loop-i l =
+    HasNumbers l.widths.items (width_after (run_of (mesh_of l.mesh) l.log) l.i)
+    (all_vertices (run_of (mesh_of l.mesh) l.log))

@@ -3,4 +3,9 @@ use Rattle.pm_quadric.proofs.SumsBounds.{sums_small}
 use Rattle.pm_quadric.proofs.limits.values_fit.Goals as goal
 
 pub returns : goal.returns
-returns c = record { plane = square_small; planes = squares_small; quadric = squares_below; sums = sums_small }
+returns c = record {
+  plane = square_small;
+  planes = squares_small;
+  quadric = squares_below;
+  sums = sums_small;
+}

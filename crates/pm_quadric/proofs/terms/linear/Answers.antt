@@ -7,4 +7,5 @@ pub times-requires : goal.times-requires
 times-requires c =
     let fa = c.ranges.coefficient in
     let fx = c.ranges.x in
-    simp to_z-of_z (at_most_product (unsigned_abs c.args.coefficient) (unsigned_abs c.args.x) (2 ^ 106) 32767 (2 ^ 122) c.requires.coefficient_small c.requires.x_small (lit≤ tt))
+    simp to_z-of_z (at_most_product (unsigned_abs c.args.coefficient) (unsigned_abs c.args.x)
+    (2 ^ 106) 32767 (2 ^ 122) c.requires.coefficient_small c.requires.x_small (lit≤ tt))

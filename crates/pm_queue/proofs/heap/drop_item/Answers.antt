@@ -1,4 +1,5 @@
-use Rattle.std.proofs.Common.{◌≡◌, ◌<◌, ◌≤◌, not, ◌&&◌, eqb, length, get_or, arith, sym, refl, ap, ◌∙◌}
+use Rattle.std.proofs.Common.{◌≡◌, ◌<◌, ◌≤◌, not, ◌&&◌, eqb, length, get_or, arith, sym, refl, ap}
+use Rattle.std.proofs.Common.{◌∙◌}
 use Rattle.std.proofs.lemmas.Bool.{ltb-false, eq-eqb}
 use Rattle.std.proofs.lemmas.List.{with_items_is}
 use Rattle.pm_queue.proofs.Members.{not_true}
@@ -19,8 +20,11 @@ drop_key-requires g c =
           keys_limit,
           (
             item_in,
-            rw (keys_is, len) (was_in c.set_aside-parting.new.place c.args.place.now (length keys.items) (length keys.items) c.args.item
-                (sym (e.members (length keys.items) near_in c.args.item (omega (arith, w.place_len))))
+            rw (keys_is, len)
+                (was_in c.set_aside-parting.new.place c.args.place.now (length keys.items)
+                (length keys.items) c.args.item
+                (sym (e.members (length keys.items) near_in c.args.item
+                (omega (arith, w.place_len))))
                 (omega (arith, c.len.ensures, keys.ok.0, c.if-place-item.false))),
           ),
         ),
@@ -29,7 +33,8 @@ drop_key-requires g c =
 
 pub regroup-requires : goal.regroup-requires
 regroup-requires g c =
-    let (w, (keyed, (keys_limit, (item_in, (near_in, (some_near, (heap, parted))))))) = c.requires in
+    let (w, (keyed, (keys_limit, (item_in, (near_in, (some_near, (heap, parted))))))) =
+    c.requires in
     let keys = c.args.keys.now in
     let e = c.set_aside-parting.ensures in
     let d = c.drop_key.ensures in
@@ -39,7 +44,8 @@ regroup-requires g c =
     let keys_is = with_items_is keys c.set_aside-parting.new.keys (len ∙ sym keys.ok.0) in
     let now = c.deref_mut-2.ensures.value in
     let low : c.args.item < length c.args.place.now = omega (arith, w.place_len) in
-    let member : get_or aside c.args.item 0 < length keys.items = was_in aside c.args.place.now (length keys.items) (length keys.items)
+    let member : get_or aside c.args.item 0 < length keys.items =
+    was_in aside c.args.place.now (length keys.items) (length keys.items)
     c.args.item (sym (e.members (length keys.items) near_in c.args.item low))
     (omega (arith, c.len.ensures, keys.ok.0, c.if-place-item.false)) in
     let out : near ≤ get_or aside c.args.item 0 = ltb-false _ _ (e.near c.args.item low
@@ -54,10 +60,14 @@ regroup-requires g c =
             rw now (omega (arith, out, member, one_less)),
             (
               d.heap near out e.heap,
-              rw now (parted_rest g.item_keys aside c.drop_key.new.place (omega (arith, e.places.place_len, d.places.place_len))
-                  (record { near = near; bound = c.args.parting.now.bound }) (length keys.items) _ c.args.item
-                  (parted_aside g.item_keys c.args.place.now aside (omega (arith, e.places.place_len, w.place_len)) c.args.parting.now
-                  (length keys.items) near c.args.item parted (e.members (length keys.items) near_in) e.near)
+              rw now (parted_rest g.item_keys aside c.drop_key.new.place
+                  (omega (arith, e.places.place_len, d.places.place_len))
+                  (record { near = near; bound = c.args.parting.now.bound }) (length keys.items) _
+                  c.args.item
+                  (parted_aside g.item_keys c.args.place.now aside
+                  (omega (arith, e.places.place_len, w.place_len)) c.args.parting.now
+                  (length keys.items) near c.args.item parted
+                  (e.members (length keys.items) near_in) e.near)
                   (d.first near out) (rw (keys_is, len) at d.members)),
             ),
           ),
@@ -75,8 +85,11 @@ returns-clause-members g c = λ i lt.
     let len = e.keys_len ∙ ap length c.deref_mut.ensures.value in
     let keys_is = with_items_is keys c.set_aside-parting.new.keys (len ∙ sym keys.ok.0) in
     let now = c.deref_mut-2.ensures.value in
-    let new_len : length c.regroup.new.keys ≡ length c.drop_key.new.keys.items = r.keys_len ∙ ap length now in
-    let new_is = with_items_is c.drop_key.new.keys c.regroup.new.keys (new_len ∙ sym c.drop_key.new.keys.ok.0) in
+    let new_len : length c.regroup.new.keys ≡ length c.drop_key.new.keys.items =
+    r.keys_len ∙ ap length now in
+    let new_is =
+    with_items_is c.drop_key.new.keys c.regroup.new.keys
+    (new_len ∙ sym c.drop_key.new.keys.ok.0) in
     rw (new_is, new_len)
     ((rw now at r.members i (omega (arith, w.place_len, d.places.place_len)))
     ∙ (rw (keys_is, len) at d.members i (omega (arith, w.place_len, e.places.place_len)))

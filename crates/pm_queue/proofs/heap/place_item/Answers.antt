@@ -1,4 +1,5 @@
-use Rattle.std.proofs.Common.{◌≡◌, ◌<◌, ◌≤◌, ◌||◌, eqb, length, get_or, arith, sym, refl, ap, ◌∙◌, length-set}
+use Rattle.std.proofs.Common.{◌≡◌, ◌<◌, ◌≤◌, ◌||◌, eqb, length, get_or, arith, sym, refl, ap, ◌∙◌}
+use Rattle.std.proofs.Common.{length-set}
 use Rattle.std.specs.Vec.{with_items}
 use Rattle.std.proofs.lemmas.Bool.{ltb-false, eq-eqb}
 use Rattle.std.proofs.lemmas.List.{with_items_is}
@@ -8,7 +9,8 @@ use Rattle.pm_queue.proofs.heap.place_item.Goals as goal
 
 pub sort_in-parting-requires : goal.sort_in-parting-requires
 sort_in-parting-requires g c =
-    let (w, (keyed, (replaced, (keys_limit, (room, (item_in, (near_in, (heap, parted)))))))) = c.requires in
+    let (w, (keyed, (replaced, (keys_limit, (room, (item_in, (near_in, (heap, parted)))))))) =
+    c.requires in
     let keys = c.args.keys.now in
     let e = c.set_aside-near.ensures in
     let d = c.put_key.ensures in
@@ -18,7 +20,9 @@ sort_in-parting-requires g c =
     let keys_is = with_items_is keys c.set_aside-near.new.keys (len ∙ sym keys.ok.0) in
     let now = c.deref_mut-2.ensures.value in
     let low : c.args.item < length c.args.place.now = omega (arith, w.place_len) in
-    let absent = e.near c.args.item low ∙ not_true (eqb c.args.item c.args.item) _ (eq-eqb c.args.item c.args.item refl) in
+    let absent =
+    e.near c.args.item low
+    ∙ not_true (eqb c.args.item c.args.item) _ (eq-eqb c.args.item c.args.item refl) in
     let out : near ≤ get_or aside c.args.item 0 = ltb-false _ _ absent in
     let more = rw (keys_is, len) at d.more in
     let first = d.first near (rw (keys_is, len) (omega (arith, e.near_in, near_in))) out in (
@@ -38,10 +42,13 @@ sort_in-parting-requires g c =
                   (
                     d.heap near (rw (keys_is, len) (omega (arith, e.near_in, near_in))) out e.heap,
                     rw (now, replaced) (parted_key g.item_keys.before aside c.put_key.new.place
-                        (omega (arith, e.places.place_len, d.places.place_len)) (record { near = near; bound = c.args.parting.now.bound })
+                        (omega (arith, e.places.place_len, d.places.place_len))
+                        (record { near = near; bound = c.args.parting.now.bound })
                         (length keys.items) _ c.args.item c.args.key
-                        (parted_aside g.item_keys.before c.args.place.now aside (omega (arith, e.places.place_len, w.place_len))
-                        c.args.parting.now (length keys.items) near c.args.item parted (e.members (length keys.items) near_in) e.near)
+                        (parted_aside g.item_keys.before c.args.place.now aside
+                        (omega (arith, e.places.place_len, w.place_len))
+                        c.args.parting.now (length keys.items) near c.args.item parted
+                        (e.members (length keys.items) near_in) e.near)
                         first (rw (keys_is, len) at d.members)),
                   ),
                 ),
@@ -69,10 +76,13 @@ returns-clause-members g c = λ i lt.
     let sorted_len : length sorted ≡ length put.items = s.keys_len ∙ ap length now in
     let sorted_is = with_items_is put sorted (sorted_len ∙ sym put.ok.0) in
     let now_again = c.deref_mut-3.ensures.value ∙ sorted_is in
-    let new_len : length c.regroup.new.keys ≡ length put.items = r.keys_len ∙ ap length now_again ∙ sorted_len in
-    let new_is = with_items_is (with_items put sorted) c.regroup.new.keys (new_len ∙ sym put.ok.0) in
+    let new_len : length c.regroup.new.keys ≡ length put.items =
+    r.keys_len ∙ ap length now_again ∙ sorted_len in
+    let new_is =
+    with_items_is (with_items put sorted) c.regroup.new.keys (new_len ∙ sym put.ok.0) in
     rw (new_is, new_len)
-    ((rw (now_again, sorted_len) at r.members i (omega (arith, w.place_len, s.places.place_len, replaced_len)))
+    ((rw (now_again, sorted_len) at r.members i
+    (omega (arith, w.place_len, s.places.place_len, replaced_len)))
     ∙ (rw now at s.members i (omega (arith, w.place_len, d.places.place_len)))
     ∙ (rw (keys_is, len) at d.members i (omega (arith, w.place_len, e.places.place_len)))
     ∙ ap (λ b. eqb i c.args.item || b) (e.members (length keys.items) near_in i lt))

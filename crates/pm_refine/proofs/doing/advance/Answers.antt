@@ -12,7 +12,9 @@ use Rattle.pm_refine.proofs.doing.advance.Goals as goal
 pub split_first-left-requires-clause-legal : goal.split_first-left-requires-clause-legal
 split_first-left-requires-clause-legal c =
     let h = c.args.front.now.h in
-    (may_start h (set_of c.args.front.now.flags) (view_target h c.args._view.now) c.args.rises.now c.args.falls.now.records c.requires.moves c.invariant.ensures.valid c.invariant.ensures.closed
+    (may_start h (set_of c.args.front.now.flags) (view_target h c.args._view.now) c.args.rises.now
+    c.args.falls.now.records c.requires.moves c.invariant.ensures.valid
+    c.invariant.ensures.closed
     c.requires.closed c.args.budget).0
 
 pub collapse_last-requires-clause-legal : goal.collapse_last-requires-clause-legal
@@ -23,10 +25,13 @@ collapse_last-requires-clause-legal c =
     let done = c.split_first-left.ensures in
     let left = c.split_first-left.result in
     let first = moved_by S (take c.args.budget (splits_of c.args.rises.now)) in
-    subst (λ (x : Hierarchy). AreLegal x (set_of c.split_first-left.new.front.flags) (take left down)) (sym done.hierarchy)
+    subst (λ (x : Hierarchy). AreLegal x (set_of c.split_first-left.new.front.flags)
+    (take left down)) (sym done.hierarchy)
     (subst (λ T. AreLegal h T (take left down)) (sym done.moved)
     (subst (λ i. AreLegal h first (take i down)) (sym done.left)
-    (may_start h S (view_target h c.args._view.now) c.args.rises.now c.args.falls.now.records c.requires.moves c.invariant.ensures.valid c.invariant.ensures.closed c.requires.closed c.args.budget).1))
+    (may_start h S (view_target h c.args._view.now) c.args.rises.now c.args.falls.now.records
+    c.requires.moves c.invariant.ensures.valid c.invariant.ensures.closed c.requires.closed
+    c.args.budget).1))
 
 pub returns-clause-moved : goal.returns-clause-moved
 returns-clause-moved c =
@@ -39,7 +44,9 @@ returns-clause-moved c =
     ∙ ap (λ (T : ℕ → Bool). moved_by T (take c.split_first-left.result down)) done.moved
     ∙ ap (λ i. moved_by (moved_by S up) (take i down)) done.left
     ∙ sym (moved_by-append S up (take (c.args.budget - length (splits_of c.args.rises.now)) down))
-    ∙ sym (ap (moved_by S) (plan_starts h S (view_target h c.args._view.now) c.args.rises.now c.args.falls.now.records c.requires.moves c.args.budget))
+    ∙ sym (ap (moved_by S)
+    (plan_starts h S (view_target h c.args._view.now) c.args.rises.now c.args.falls.now.records
+    c.requires.moves c.args.budget))
 
 pub returns-clause-corners : goal.returns-clause-corners
 returns-clause-corners c =
@@ -52,9 +59,13 @@ returns-clause-corners c =
     let before = c.args.front.now.corners in
     let rest = take (c.args.budget - length (splits_of c.args.rises.now)) down in
     c.collapse_last.ensures.corners
-    ∙ ap (λ (x : Hierarchy). corner_lists_after x (set_of front.flags) (take c.split_first-left.result down) front.corners) done.hierarchy
-    ∙ ap (λ (T : ℕ → Bool). corner_lists_after h T (take c.split_first-left.result down) front.corners) done.moved
+    ∙ ap (λ (x : Hierarchy). corner_lists_after x (set_of front.flags)
+    (take c.split_first-left.result down) front.corners) done.hierarchy
+    ∙ ap (λ (T : ℕ → Bool). corner_lists_after h T (take c.split_first-left.result down)
+    front.corners) done.moved
     ∙ ap (λ i. corner_lists_after h (moved_by S up) (take i down) front.corners) done.left
     ∙ ap (corner_lists_after h (moved_by S up) rest) done.corners
     ∙ sym (lists-append h S up rest before)
-    ∙ sym (ap (λ ms. corner_lists_after h S ms before) (plan_starts h S (view_target h c.args._view.now) c.args.rises.now c.args.falls.now.records c.requires.moves c.args.budget))
+    ∙ sym (ap (λ ms. corner_lists_after h S ms before)
+    (plan_starts h S (view_target h c.args._view.now) c.args.rises.now c.args.falls.now.records
+    c.requires.moves c.args.budget))

@@ -11,8 +11,12 @@ invariant-loop-left l = record {
   hierarchy : l.front.h ≡ l.fn.front.h;
   len : length l.falls.records ≡ length l.fn.falls.records;
   counts : AreNeedCounts l.fn.front.h (set_of l.falls.records) l.falls.needs;
-  to_do : AreToDo l.fn.front.h (set_of l.front.flags) (moved_by (set_of l.fn.front.flags) (take l.budget (collapses_of l.fn.falls.records))) l.front.corners
-      (corner_lists_after l.fn.front.h (set_of l.fn.front.flags) (take l.budget (collapses_of l.fn.falls.records)) l.fn.front.corners) (take l.left (collapses_of l.falls.records));
+  to_do : AreToDo l.fn.front.h (set_of l.front.flags)
+      (moved_by (set_of l.fn.front.flags) (take l.budget (collapses_of l.fn.falls.records)))
+      l.front.corners
+      (corner_lists_after l.fn.front.h (set_of l.fn.front.flags)
+      (take l.budget (collapses_of l.fn.falls.records)) l.fn.front.corners)
+      (take l.left (collapses_of l.falls.records));
 }
 
 abbrev pub decreases-loop-left : goal.decreases-loop-left

@@ -10,8 +10,11 @@ invariant-loop-left l = record {
   hierarchy : l.front.h ≡ l.fn.front.h;
   len : length l.rises ≡ length l.fn.rises;
   left : l.left - length (splits_of l.rises) ≡ l.budget - length (splits_of l.fn.rises);
-  to_do : AreToDo l.fn.front.h (set_of l.front.flags) (moved_by (set_of l.fn.front.flags) (take l.budget (splits_of l.fn.rises))) l.front.corners
-      (corner_lists_after l.fn.front.h (set_of l.fn.front.flags) (take l.budget (splits_of l.fn.rises)) l.fn.front.corners) (take l.left (splits_of l.rises));
+  to_do : AreToDo l.fn.front.h (set_of l.front.flags)
+      (moved_by (set_of l.fn.front.flags) (take l.budget (splits_of l.fn.rises))) l.front.corners
+      (corner_lists_after l.fn.front.h (set_of l.fn.front.flags)
+      (take l.budget (splits_of l.fn.rises)) l.fn.front.corners)
+      (take l.left (splits_of l.rises));
 }
 
 abbrev pub decreases-loop-left : goal.decreases-loop-left

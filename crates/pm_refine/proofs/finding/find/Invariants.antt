@@ -9,8 +9,10 @@ use Rattle.pm_refine.proofs.finding.find.Given as goal
 
 abbrev pub invariant-loop-k : goal.invariant-loop-k
 invariant-loop-k g l = record {
-  found : AreFound l.front.h (is_wanted l.front.h l.view) (set_of l.front.flags) l.next l.rises l.work;
-  cost : l.steps ≤ l.fn.steps + count (may_try l.front.h (set_of l.front.flags)) (record_count l.front.h)
+  found : AreFound l.front.h (is_wanted l.front.h l.view) (set_of l.front.flags) l.next l.rises
+      l.work;
+  cost : l.steps ≤ l.fn.steps + count (may_try l.front.h (set_of l.front.flags))
+      (record_count l.front.h)
       + count (is_unneeded l.front.h (set_of l.front.flags)) (record_count l.front.h)
       + 2 * count (is_due l.front.h (is_wanted l.front.h l.view) (set_of l.front.flags)) l.next;
 }

@@ -33,10 +33,15 @@ loop-k-preserved g c =
     let test = is_unneeded h S in
     let found = is_loose h wanted S in
     let first = c.in-Some.ensures.some in
-    let next = next_there n test c.unneeded.result.now c.unneeded.ensures.len c.unneeded.ensures.each c.loop-k.from k first in
-    let none = none_skipped n test c.unneeded.result.now c.unneeded.ensures.len c.unneeded.ensures.each c.loop-k.from k first in
-    let up = holds_up n found c.loop-k.from k flags first.from c.loop-k.invariant.loose (λ j low high. and_left (test j) (not (wanted (s_of h j))) (none j low high)) in
-    let answer : c.wants_split.result ≡ wanted (s_of h k) = c.wants_split.ensures.value ∙ ap (λ (x : Hierarchy). is_wanted x view (s_of x k)) c.hierarchy.ensures in
+    let next = next_there n test c.unneeded.result.now c.unneeded.ensures.len
+    c.unneeded.ensures.each c.loop-k.from k first in
+    let none = none_skipped n test c.unneeded.result.now c.unneeded.ensures.len
+    c.unneeded.ensures.each c.loop-k.from k first in
+    let up = holds_up n found c.loop-k.from k flags first.from c.loop-k.invariant.loose
+    (λ j low high. and_left (test j) (not (wanted (s_of h j))) (none j low high)) in
+    let answer : c.wants_split.result ≡ wanted (s_of h k) =
+    c.wants_split.ensures.value
+    ∙ ap (λ (x : Hierarchy). is_wanted x view (s_of x k)) c.hierarchy.ensures in
     let ahead = first.from in
     let low = next.0 in
     let more = count_up test c.loop-k.from k ahead in
@@ -49,17 +54,23 @@ loop-k-preserved g c =
       most = omega arith;
       loose = elim c.if-not-wants_split.branch [
         | then-not-wants_split w ↦
-            subst (λ (m : List Bool). HoldsBelow n found (k + 1) m) (sym (w.work-is ∙ w.insert.ensures))
-            (holds_next n found k flags low up (and_from (test k) (not (wanted (s_of h k))) next.1 (not_from_false (wanted (s_of h k)) (sym answer ∙ w.if-not-wants_split.true))))
+            subst (λ (m : List Bool). HoldsBelow n found (k + 1) m)
+            (sym (w.work-is ∙ w.insert.ensures))
+            (holds_next n found k flags low up
+            (and_from (test k) (not (wanted (s_of h k))) next.1
+            (not_from_false (wanted (s_of h k)) (sym answer ∙ w.if-not-wants_split.true))))
         | else-not-wants_split w ↦
             subst (λ (m : List Bool). HoldsBelow n found (k + 1) m) (sym w.work-is)
-            (holds_past n found k flags up (and_right (test k) (not (wanted (s_of h k))) (not_from_true (wanted (s_of h k)) (sym answer ∙ w.if-not-wants_split.false))))
+            (holds_past n found k flags up
+            (and_right (test k) (not (wanted (s_of h k)))
+            (not_from_true (wanted (s_of h k)) (sym answer ∙ w.if-not-wants_split.false))))
       ];
       cost = omega arith;
     }
 
 pub returns-clause-cost : goal.returns-clause-cost
 returns-clause-cost g c =
-    let up = count_up (is_unneeded c.args.front.now.h (set_of c.args.front.now.flags)) c.loop-k.from (record_count c.args.front.now.h) c.loop-k.invariant.most in
+    let up = count_up (is_unneeded c.args.front.now.h (set_of c.args.front.now.flags)) c.loop-k.from
+    (record_count c.args.front.now.h) c.loop-k.invariant.most in
     let before = c.loop-k.invariant.cost in
     omega arith

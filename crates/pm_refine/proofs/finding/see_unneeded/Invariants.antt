@@ -10,7 +10,8 @@ use Rattle.pm_refine.proofs.finding.see_unneeded.Given as goal
 abbrev pub invariant-loop-k : goal.invariant-loop-k
 invariant-loop-k g l = record {
   most : l.from ≤ record_count l.front.h;
-  loose : HoldsBelow (record_count l.front.h) (is_loose l.front.h (is_wanted l.front.h l.view) (set_of l.front.flags)) l.from l.work;
+  loose : HoldsBelow (record_count l.front.h)
+      (is_loose l.front.h (is_wanted l.front.h l.view) (set_of l.front.flags)) l.from l.work;
   cost : l.steps ≤ l.fn.steps + count (is_unneeded l.front.h (set_of l.front.flags)) l.from;
 }
 

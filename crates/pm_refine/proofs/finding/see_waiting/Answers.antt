@@ -33,10 +33,15 @@ loop-k-preserved g c =
     let test = may_try h S in
     let found = is_due_now h wanted S in
     let first = c.in-Some.ensures.some in
-    let next = next_there n test c.waiting.result.now c.waiting.ensures.len c.waiting.ensures.each c.loop-k.from k first in
-    let none = none_skipped n test c.waiting.result.now c.waiting.ensures.len c.waiting.ensures.each c.loop-k.from k first in
-    let up = holds_up n found c.loop-k.from k flags first.from c.loop-k.invariant.seen (λ j low high. and_left (test j) (wanted (s_of h j)) (none j low high)) in
-    let answer : c.wants_split.result ≡ wanted (s_of h k) = c.wants_split.ensures.value ∙ ap (λ (x : Hierarchy). is_wanted x view (s_of x k)) c.hierarchy.ensures in
+    let next = next_there n test c.waiting.result.now c.waiting.ensures.len c.waiting.ensures.each
+    c.loop-k.from k first in
+    let none = none_skipped n test c.waiting.result.now c.waiting.ensures.len c.waiting.ensures.each
+    c.loop-k.from k first in
+    let up = holds_up n found c.loop-k.from k flags first.from c.loop-k.invariant.seen
+    (λ j low high. and_left (test j) (wanted (s_of h j)) (none j low high)) in
+    let answer : c.wants_split.result ≡ wanted (s_of h k) =
+    c.wants_split.ensures.value
+    ∙ ap (λ (x : Hierarchy). is_wanted x view (s_of x k)) c.hierarchy.ensures in
     let ahead = first.from in
     let low = next.0 in
     let more = count_up test c.loop-k.from k ahead in
@@ -49,17 +54,21 @@ loop-k-preserved g c =
       most = omega arith;
       seen = elim c.if-wants_split.branch [
         | then-wants_split w ↦
-            subst (λ (m : List Bool). HoldsBelow n found (k + 1) m) (sym (w.rises-is ∙ w.insert.ensures))
-            (holds_next n found k flags low up (and_from (test k) (wanted (s_of h k)) next.1 (sym answer ∙ w.if-wants_split.true)))
+            subst (λ (m : List Bool). HoldsBelow n found (k + 1) m)
+            (sym (w.rises-is ∙ w.insert.ensures))
+            (holds_next n found k flags low up
+            (and_from (test k) (wanted (s_of h k)) next.1 (sym answer ∙ w.if-wants_split.true)))
         | else-wants_split w ↦
             subst (λ (m : List Bool). HoldsBelow n found (k + 1) m) (sym w.rises-is)
-            (holds_past n found k flags up (and_right (test k) (wanted (s_of h k)) (sym answer ∙ w.if-wants_split.false)))
+            (holds_past n found k flags up
+            (and_right (test k) (wanted (s_of h k)) (sym answer ∙ w.if-wants_split.false)))
       ];
       cost = omega arith;
     }
 
 pub returns-clause-cost : goal.returns-clause-cost
 returns-clause-cost g c =
-    let up = count_up (may_try c.args.front.now.h (set_of c.args.front.now.flags)) c.loop-k.from (record_count c.args.front.now.h) c.loop-k.invariant.most in
+    let up = count_up (may_try c.args.front.now.h (set_of c.args.front.now.flags)) c.loop-k.from
+    (record_count c.args.front.now.h) c.loop-k.invariant.most in
     let before = c.loop-k.invariant.cost in
     omega arith

@@ -10,7 +10,8 @@ use Rattle.pm_refine.proofs.finding.see_waiting.Given as goal
 abbrev pub invariant-loop-k : goal.invariant-loop-k
 invariant-loop-k g l = record {
   most : l.from ≤ record_count l.front.h;
-  seen : HoldsBelow (record_count l.front.h) (is_due_now l.front.h (is_wanted l.front.h l.view) (set_of l.front.flags)) l.from l.rises;
+  seen : HoldsBelow (record_count l.front.h)
+      (is_due_now l.front.h (is_wanted l.front.h l.view) (set_of l.front.flags)) l.from l.rises;
   cost : l.steps ≤ l.fn.steps + count (may_try l.front.h (set_of l.front.flags)) l.from;
 }
 

@@ -7,5 +7,6 @@ use Rattle.pm_refine.proofs.marks.mark_all.Given as goal
 abbrev pub invariant-loop-name : goal.invariant-loop-name
 invariant-loop-name l = record {
   len : length l.marks.items ≡ length l.fn.marks.items;
-  marked : Joins (set_of l.fn.marks.items) (set_of l.marks.items) (is_named (take l.name-index l.names));
+  marked : Joins (set_of l.fn.marks.items) (set_of l.marks.items)
+      (is_named (take l.name-index l.names));
 }

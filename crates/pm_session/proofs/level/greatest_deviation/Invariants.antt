@@ -7,5 +7,7 @@ use Rattle.pm_session.proofs.level.greatest_deviation.Given as goal
 
 abbrev pub invariant-loop-node : goal.invariant-loop-node
 invariant-loop-node l = record {
-  most : l.most ≡ greatest (map (deviation_of l.front.h) (filter (is_active l.front.h (set_of l.front.flags)) (numbers_below l.node)));
+  most : l.most
+      ≡ greatest (map (deviation_of l.front.h)
+      (filter (is_active l.front.h (set_of l.front.flags)) (numbers_below l.node)));
 }

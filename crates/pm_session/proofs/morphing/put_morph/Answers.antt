@@ -8,4 +8,5 @@ pub write_morph-requires-clause-most : goal.write_morph-requires-clause-most
 write_morph-requires-clause-most g c = (fraction_parts c.args.a c.args.b c.requires.fraction).most
 
 pub write_morph-requires-clause-within : goal.write_morph-requires-clause-within
-write_morph-requires-clause-within g c = (fraction_parts c.args.a c.args.b c.requires.fraction).within
+write_morph-requires-clause-within g c =
+    (fraction_parts c.args.a c.args.b c.requires.fraction).within

@@ -6,4 +6,5 @@ pub returns-else-word-eq0-clause-there : goal.returns-else-word-eq0-clause-there
 returns-else-word-eq0-clause-there c = last_there c.args.word (omega arith) (omega arith)
 
 pub returns-else-word-eq0-clause-last : goal.returns-else-word-eq0-clause-last
-returns-else-word-eq0-clause-last c = λ j after below. last_above c.args.word (omega arith) (omega arith) j after
+returns-else-word-eq0-clause-last c =
+    λ j after below. last_above c.args.word (omega arith) (omega arith) j after

@@ -8,5 +8,6 @@ invariant-loop-number l = record {
   items : l.lists.items ≡ l.sides;
   heads : length l.lists.lists ≡ l.room;
   sound : IsSound l.lists;
-  each : (v e : ℕ) → (has (list_of l.lists v) e ≡ true) ↔ ((e < l.number) × (side_from l.faces.faces e ≡ v));
+  each : (v e : ℕ) → (has (list_of l.lists v) e ≡ true)
+      ↔ ((e < l.number) × (side_from l.faces.faces e ≡ v));
 }

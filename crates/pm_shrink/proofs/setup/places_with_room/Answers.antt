@@ -1,4 +1,5 @@
-use Rattle.std.proofs.Common.{◌≡◌, ◌∙◌, ℕ, ◌++◌, ◌-◌, List, Option, Some, None, length, map, ap, arith}
+use Rattle.std.proofs.Common.{◌≡◌, ◌∙◌, ℕ, ◌++◌, ◌-◌, List, Option, Some, None, length, map, ap}
+use Rattle.std.proofs.Common.{arith}
 use Rattle.std.proofs.Math.ListN.{replicate}
 use Rattle.std.proofs.lemmas.List.{length-map}
 use Rattle.std.specs.Prelude.{vec_len}
@@ -14,5 +15,7 @@ returns c =
     let have : vec_len c.in_ok-places.places ≡ n = omega (arith, len) in
     let old : List (Option Place) = c.in_ok-places.places.items in
     c.in_ok-resize.ensures.items
-    ∙ ap (λ (k : List (Option Place)). k ++ replicate (c.args.room - vec_len c.in_ok-places.places) None) (take_all c.args.room old (omega arith) ∙ there)
+    ∙ ap (λ (k : List (Option Place)). k
+    ++ replicate (c.args.room - vec_len c.in_ok-places.places) None)
+    (take_all c.args.room old (omega arith) ∙ there)
     ∙ ap (λ (k : ℕ). map Some c.args.points.now ++ replicate (c.args.room - k) None) have

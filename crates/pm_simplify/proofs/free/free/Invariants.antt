@@ -13,7 +13,9 @@ invariant-loop-item g l = record {
   items : l.waiting.items ≡ l.fn.waiting.items;
   heads : length l.waiting.lists ≡ length l.fn.waiting.lists;
   others : (f : ℕ) → list_of l.fn.waiting f ≡ [] → list_of l.waiting f ≡ [];
-  right : (p : Policy) (m : Mesh) (log : List Collapse) → IsOnRun l.shrink (g.C.Costs.goes_by l.costs) l.kept p m log → IsRight p m log l.fn.queue l.fn.waiting → IsRight p m log l.queue l.waiting;
+  right : (p : Policy) (m : Mesh) (log : List Collapse)
+      → IsOnRun l.shrink (g.C.Costs.goes_by l.costs) l.kept p m log
+      → IsRight p m log l.fn.queue l.fn.waiting → IsRight p m log l.queue l.waiting;
 }
 
 abbrev pub decreases-loop-item : goal.decreases-loop-item

@@ -17,7 +17,9 @@ invariant-loop-at g l = record {
   heads : length l.waiting.lists ≡ length l.fn.waiting.lists;
   walk : IsWalk (fan_at l.shrink l.v) (λ e. list_of l.waiting (face_of e) ≡ []) l.at;
   others : (f : ℕ) → list_of l.fn.waiting f ≡ [] → list_of l.waiting f ≡ [];
-  right : (p : Policy) (m : Mesh) (log : List Collapse) → IsOnRun l.shrink (g.C.Costs.goes_by l.costs) l.kept p m log → IsRight p m log l.fn.queue l.fn.waiting → IsRight p m log l.queue l.waiting;
+  right : (p : Policy) (m : Mesh) (log : List Collapse)
+      → IsOnRun l.shrink (g.C.Costs.goes_by l.costs) l.kept p m log
+      → IsRight p m log l.fn.queue l.fn.waiting → IsRight p m log l.queue l.waiting;
 }
 
 abbrev pub decreases-loop-at : goal.decreases-loop-at

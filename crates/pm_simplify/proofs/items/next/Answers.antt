@@ -6,4 +6,5 @@ use Rattle.pm_simplify.proofs.items.next.Goals as goal
 
 pub returns-clause-stands : goal.returns-clause-stands
 returns-clause-stands c =
-    subst (Stands (net_at c.args.shrink.now)) (sym c.next.ensures.value) (stands_next (net_at c.args.shrink.now) c.args.side.0 c.requires)
+    subst (Stands (net_at c.args.shrink.now)) (sym c.next.ensures.value)
+    (stands_next (net_at c.args.shrink.now) c.args.side.0 c.requires)

@@ -78,7 +78,8 @@ loop-shrink-init g c =
       heads =
           ap (λ (l : Lists). 3 * length l.lists) c.in_ok-waiting.ensures.value
           ∙ ap (λ k. 3 * k) (length-replicate c.len-faces.result []) ∙ all;
-      noted = subst (λ (flags : List Bool). AreOnBorder s.surface flags) (sym c.in_ok-border.ensures)
+      noted = subst (λ (flags : List Bool). AreOnBorder s.surface flags)
+          (sym c.in_ok-border.ensures)
           (none_noted s.surface (2 * c.len-points.result));
       spare = omega arith;
     }

@@ -1,4 +1,5 @@
-use Rattle.std.proofs.Common.{◌≡◌, ◌∙◌, ◌+◌, ◌*◌, ◌<◌, ◌++◌, ◌∷◌, [], List, length, refl, sym, ap, subst}
+use Rattle.std.proofs.Common.{◌≡◌, ◌∙◌, ◌+◌, ◌*◌, ◌<◌, ◌++◌, ◌∷◌, [], List, length, refl, sym, ap}
+use Rattle.std.proofs.Common.{subst}
 use Rattle.std.specs.Prelude.{IfSome}
 use Rattle.pm_base.specs.declared.log.Collapse.{Collapse as Entry}
 use Rattle.pm_base.specs.Sides.{face_of, side_count}
@@ -16,56 +17,87 @@ use Rattle.pm_simplify.proofs.Stepping.{candidate_live, candidate_legal, right_c
 use Rattle.pm_simplify.proofs.step.collapse.Goals as goal
 
 pub free_around-requires-clause-live : goal.free_around-requires-clause-live
-free_around-requires-clause-live g c = let (p, m, log, on, x) = c.requires.candidate in (candidate_live p m log c.args.shrink.now on.after c.args.pair.a c.args.pair.b x).0
+free_around-requires-clause-live g c = let (p, m, log, on, x) =
+    c.requires.candidate in
+    (candidate_live p m log c.args.shrink.now on.after c.args.pair.a c.args.pair.b x).0
 
 pub free_around-requires-2-clause-live : goal.free_around-requires-2-clause-live
-free_around-requires-2-clause-live g c = let (p, m, log, on, x) = c.requires.candidate in (candidate_live p m log c.args.shrink.now on.after c.args.pair.a c.args.pair.b x).1
+free_around-requires-2-clause-live g c = let (p, m, log, on, x) =
+    c.requires.candidate in
+    (candidate_live p m log c.args.shrink.now on.after c.args.pair.a c.args.pair.b x).1
 
 pub forget-requires-clause-small : goal.forget-requires-clause-small
 forget-requires-clause-small g c =
     let n = net_at c.args.shrink.now in
-    subst (λ (x : Entry). IfSome x.left (λ g. g.face.0 < 1048576)) (sym c.collapse-entry.ensures.entry) (gone_small n c.args.pair.a c.args.pair.b (side_count n) refl c.invariant.ensures.kept.short)
+    subst (λ (x : Entry). IfSome x.left (λ g. g.face.0 < 1048576))
+    (sym c.collapse-entry.ensures.entry)
+    (gone_small n c.args.pair.a c.args.pair.b (side_count n) refl
+    c.invariant.ensures.kept.short)
 
 pub forget-requires-clause-face : goal.forget-requires-clause-face
 forget-requires-clause-face g c =
     let n = net_at c.args.shrink.now in
     let room = c.free_around-2.ensures.room ∙ c.free_around.ensures.room ∙ c.requires.room in
-    subst (λ (x : Entry). IfSome x.left (λ g. 3 * g.face.0 + 2 < length c.free_around-2.new.queue)) (sym c.collapse-entry.ensures.entry) (gone_within n c.args.pair.a c.args.pair.b (length c.free_around-2.new.queue) room c.invariant.ensures.kept.short)
+    subst (λ (x : Entry). IfSome x.left (λ g. 3 * g.face.0 + 2 < length c.free_around-2.new.queue))
+    (sym c.collapse-entry.ensures.entry)
+    (gone_within n c.args.pair.a c.args.pair.b (length c.free_around-2.new.queue) room
+    c.invariant.ensures.kept.short)
 
 pub forget-requires-clause-first : goal.forget-requires-clause-first
 forget-requires-clause-first g c =
     let n = net_at c.args.shrink.now in
     let room = c.free_around-2.ensures.room ∙ c.free_around.ensures.room ∙ c.requires.room in
-    subst (λ (x : Entry). IfSome x.left (λ g. IfSome g.first (λ s. s.0 < length c.free_around-2.new.queue))) (sym c.collapse-entry.ensures.entry) (gone_first_in n c.args.pair.a c.args.pair.b (length c.free_around-2.new.queue) room)
+    subst (λ (x : Entry). IfSome x.left
+    (λ g. IfSome g.first (λ s. s.0 < length c.free_around-2.new.queue)))
+    (sym c.collapse-entry.ensures.entry)
+    (gone_first_in n c.args.pair.a c.args.pair.b (length c.free_around-2.new.queue) room)
 
 pub forget-requires-clause-second : goal.forget-requires-clause-second
 forget-requires-clause-second g c =
     let n = net_at c.args.shrink.now in
     let room = c.free_around-2.ensures.room ∙ c.free_around.ensures.room ∙ c.requires.room in
-    subst (λ (x : Entry). IfSome x.left (λ g. IfSome g.second (λ s. s.0 < length c.free_around-2.new.queue))) (sym c.collapse-entry.ensures.entry) (gone_second_in n c.args.pair.a c.args.pair.b (length c.free_around-2.new.queue) room)
+    subst (λ (x : Entry). IfSome x.left
+    (λ g. IfSome g.second (λ s. s.0 < length c.free_around-2.new.queue)))
+    (sym c.collapse-entry.ensures.entry)
+    (gone_second_in n c.args.pair.a c.args.pair.b (length c.free_around-2.new.queue) room)
 
 pub forget-requires-2-clause-small : goal.forget-requires-2-clause-small
 forget-requires-2-clause-small g c =
     let n = net_at c.args.shrink.now in
-    subst (λ (x : Entry). IfSome x.right (λ g. g.face.0 < 1048576)) (sym c.collapse-entry.ensures.entry) (gone_small n c.args.pair.b c.args.pair.a (side_count n) refl c.invariant.ensures.kept.short)
+    subst (λ (x : Entry). IfSome x.right (λ g. g.face.0 < 1048576))
+    (sym c.collapse-entry.ensures.entry)
+    (gone_small n c.args.pair.b c.args.pair.a (side_count n) refl
+    c.invariant.ensures.kept.short)
 
 pub forget-requires-2-clause-face : goal.forget-requires-2-clause-face
 forget-requires-2-clause-face g c =
     let n = net_at c.args.shrink.now in
-    let room = c.forget.ensures.room ∙ c.free_around-2.ensures.room ∙ c.free_around.ensures.room ∙ c.requires.room in
-    subst (λ (x : Entry). IfSome x.right (λ g. 3 * g.face.0 + 2 < length c.forget.new.queue)) (sym c.collapse-entry.ensures.entry) (gone_within n c.args.pair.b c.args.pair.a (length c.forget.new.queue) room c.invariant.ensures.kept.short)
+    let room = c.forget.ensures.room ∙ c.free_around-2.ensures.room ∙ c.free_around.ensures.room
+    ∙ c.requires.room in
+    subst (λ (x : Entry). IfSome x.right (λ g. 3 * g.face.0 + 2 < length c.forget.new.queue))
+    (sym c.collapse-entry.ensures.entry)
+    (gone_within n c.args.pair.b c.args.pair.a (length c.forget.new.queue) room
+    c.invariant.ensures.kept.short)
 
 pub forget-requires-2-clause-first : goal.forget-requires-2-clause-first
 forget-requires-2-clause-first g c =
     let n = net_at c.args.shrink.now in
-    let room = c.forget.ensures.room ∙ c.free_around-2.ensures.room ∙ c.free_around.ensures.room ∙ c.requires.room in
-    subst (λ (x : Entry). IfSome x.right (λ g. IfSome g.first (λ s. s.0 < length c.forget.new.queue))) (sym c.collapse-entry.ensures.entry) (gone_first_in n c.args.pair.b c.args.pair.a (length c.forget.new.queue) room)
+    let room = c.forget.ensures.room ∙ c.free_around-2.ensures.room ∙ c.free_around.ensures.room
+    ∙ c.requires.room in
+    subst (λ (x : Entry). IfSome x.right
+    (λ g. IfSome g.first (λ s. s.0 < length c.forget.new.queue)))
+    (sym c.collapse-entry.ensures.entry)
+    (gone_first_in n c.args.pair.b c.args.pair.a (length c.forget.new.queue) room)
 
 pub forget-requires-2-clause-second : goal.forget-requires-2-clause-second
 forget-requires-2-clause-second g c =
     let n = net_at c.args.shrink.now in
-    let room = c.forget.ensures.room ∙ c.free_around-2.ensures.room ∙ c.free_around.ensures.room ∙ c.requires.room in
-    subst (λ (x : Entry). IfSome x.right (λ g. IfSome g.second (λ s. s.0 < length c.forget.new.queue))) (sym c.collapse-entry.ensures.entry) (gone_second_in n c.args.pair.b c.args.pair.a (length c.forget.new.queue) room)
+    let room = c.forget.ensures.room ∙ c.free_around-2.ensures.room ∙ c.free_around.ensures.room
+    ∙ c.requires.room in
+    subst (λ (x : Entry). IfSome x.right
+    (λ g. IfSome g.second (λ s. s.0 < length c.forget.new.queue)))
+    (sym c.collapse-entry.ensures.entry)
+    (gone_second_in n c.args.pair.b c.args.pair.a (length c.forget.new.queue) room)
 
 pub free_around-requires-clause-known : goal.free_around-requires-clause-known
 free_around-requires-clause-known g c =
@@ -128,14 +160,16 @@ returns-clause-right g c = λ p m log on right.
     (c.requires.place p0 m0 log0 on0) in
     let entry = c.collapse-entry.result in
     let then = returns-clause-goes_on g c p m log on in
-    let freed = c.free_around-2.ensures.right p m log on (c.free_around.ensures.right p m log on right) in
+    let freed = c.free_around-2.ensures.right p m log on
+    (c.free_around.ensures.right p m log on right) in
     let keys : c.forget-2.new.queue ≡
     forgotten (forgotten c.free_around-2.new.queue entry.left) entry.right =
     c.forget-2.ensures.keys ∙ ap (λ (q : Entries). forgotten q entry.right) c.forget.ensures.keys in
     right_collapse p m log s c.args.pair.a c.args.pair.b place on.after x.ordered legal
     (c.requires.place p m log on) entry c.collapse-entry.ensures.entry
     c.free_around-2.new.queue c.renew_around.new.queue c.free_around-2.new.waiting freed
-    (λ k st from. c.free_around-2.ensures.others (face_of k) (c.free_around.ensures.empty k st from))
+    (λ k st from. c.free_around-2.ensures.others (face_of k)
+    (c.free_around.ensures.empty k st from))
     c.free_around-2.ensures.empty
     (subst (λ (q : Entries). Renews p m (log ++ entry ∷ []) q c.renew_around.new.queue) keys
     (c.renew_around.ensures.renews p m _ then)) (c.renew_around.ensures.right p m _ then)

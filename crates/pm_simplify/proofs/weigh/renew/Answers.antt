@@ -7,7 +7,8 @@ returns-clause-right g c =
     let within = c.item_of.ensures.within in
     let room = c.requires.room in
     λ p m log on. weighed_right p m log c.args.shrink.now on.after
-    c.args.side.0 c.requires.stands c.args.queue.now c.put_key.new.queue c.item_of.result c.free_key_of.result
+    c.args.side.0 c.requires.stands c.args.queue.now c.put_key.new.queue c.item_of.result
+    c.free_key_of.result
     c.item_of.ensures.value (omega arith) (c.free_key_of.ensures p m log on) c.put_key.ensures
 
 pub returns-clause-renews : goal.returns-clause-renews
@@ -15,5 +16,6 @@ returns-clause-renews g c =
     let within = c.item_of.ensures.within in
     let room = c.requires.room in
     λ p m log on. weighed_renews p m log c.args.shrink.now on.after
-    c.args.side.0 c.requires.stands c.args.queue.now c.put_key.new.queue c.item_of.result c.free_key_of.result
+    c.args.side.0 c.requires.stands c.args.queue.now c.put_key.new.queue c.item_of.result
+    c.free_key_of.result
     c.item_of.ensures.value (omega arith) (c.free_key_of.ensures p m log on) c.put_key.ensures

@@ -1,4 +1,5 @@
-use Rattle.std.proofs.Common.{◌≡◌, ℕ, ◌<◌, Bool, List, length, slice_index_or, refl, sym, subst, arith}
+use Rattle.std.proofs.Common.{◌≡◌, ℕ, ◌<◌, Bool, List, length, slice_index_or, refl, sym, subst}
+use Rattle.std.proofs.Common.{arith}
 use Rattle.std.specs.Prelude.{ℤ}
 use Rattle.pm_base.specs.Sides.{Net, net_of}
 use Rattle.pm_turn.specs.declared.patches.Root.{Root}
@@ -10,7 +11,8 @@ use Rattle.pm_turn.proofs.choice.patch_sums.Goals as goal
 
 pub loop-face-init : goal.loop-face-init
 loop-face-init c = record {
-  sums = none_summed (net_of c.args.faces.now) c.args.places.now c.args.mates.now c.args.roots.now c.in_ok-sums.sums.items c.in_ok-sums.ensures;
+  sums = none_summed (net_of c.args.faces.now) c.args.places.now c.args.mates.now c.args.roots.now
+      c.in_ok-sums.sums.items c.in_ok-sums.ensures;
   small = none_small (length c.args.faces.now) c.in_ok-sums.sums.items c.in_ok-sums.ensures;
 }
 
@@ -21,7 +23,9 @@ add_face-requires-clause-even c =
     let r : ℕ = root_at c.args.roots.now face in
     let l : face < m.faces = omega (arith, c.loop-face-test.true, c.loop-face.auto.face-end) in
     let below = c.requires.below face in
-    let low = sums_low m c.args.places.now c.args.mates.now c.args.roots.now face r (slice_index_or c.loop-face.sums.items r no_sums) (c.loop-face.invariant.sums.each r (omega (arith, below, l))) in
+    let low = sums_low m c.args.places.now c.args.mates.now c.args.roots.now face r
+    (slice_index_or c.loop-face.sums.items r no_sums)
+    (c.loop-face.invariant.sums.each r (omega (arith, below, l))) in
     let most = low.0 in
     omega (arith, most, l, c.requires.short)
 
@@ -32,7 +36,9 @@ add_face-requires-clause-odd c =
     let r : ℕ = root_at c.args.roots.now face in
     let l : face < m.faces = omega (arith, c.loop-face-test.true, c.loop-face.auto.face-end) in
     let below = c.requires.below face in
-    let low = sums_low m c.args.places.now c.args.mates.now c.args.roots.now face r (slice_index_or c.loop-face.sums.items r no_sums) (c.loop-face.invariant.sums.each r (omega (arith, below, l))) in
+    let low = sums_low m c.args.places.now c.args.mates.now c.args.roots.now face r
+    (slice_index_or c.loop-face.sums.items r no_sums)
+    (c.loop-face.invariant.sums.each r (omega (arith, below, l))) in
     let most = low.1 in
     omega (arith, most, l, c.requires.short)
 
@@ -43,7 +49,9 @@ add_face-requires-clause-bare c =
     let r : ℕ = root_at c.args.roots.now face in
     let l : face < m.faces = omega (arith, c.loop-face-test.true, c.loop-face.auto.face-end) in
     let below = c.requires.below face in
-    let low = sums_low m c.args.places.now c.args.mates.now c.args.roots.now face r (slice_index_or c.loop-face.sums.items r no_sums) (c.loop-face.invariant.sums.each r (omega (arith, below, l))) in
+    let low = sums_low m c.args.places.now c.args.mates.now c.args.roots.now face r
+    (slice_index_or c.loop-face.sums.items r no_sums)
+    (c.loop-face.invariant.sums.each r (omega (arith, below, l))) in
     let most = low.2 in
     omega (arith, most, l, c.requires.short)
 
@@ -65,12 +73,17 @@ loop-face-preserved c =
     let volume : ℤ = volume_at m c.args.places.now parity face in
     let new : Sums = with_face (slice_index_or xs r no_sums) parity bare volume in
     record {
-      sums = summed_more xs ys r new low c.add_face.ensures.items m c.args.places.now c.args.mates.now roots face parity bare volume refl refl (sym c.is_bare-bare.ensures) refl refl inv.sums;
-      small = small_more xs ys r new low c.add_face.ensures.items face parity bare volume refl c.add_face.ensures.small inv.small;
+      sums = summed_more xs ys r new low c.add_face.ensures.items m c.args.places.now
+          c.args.mates.now roots face parity bare volume refl refl (sym c.is_bare-bare.ensures) refl
+          refl inv.sums;
+      small = small_more xs ys r new low c.add_face.ensures.items face parity bare volume refl
+          c.add_face.ensures.small inv.small;
     }
 
 pub returns : goal.returns
 returns c =
     let m : Net = net_of c.args.faces.now in
-    let end : c.loop-face.face ≡ m.faces = omega (arith, c.loop-face-test.false, c.loop-face.auto.face-end) in
-    subst (λ n. AreSums m c.args.places.now c.args.mates.now c.args.roots.now n c.loop-face.sums.items) end c.loop-face.invariant.sums
+    let end : c.loop-face.face ≡ m.faces =
+    omega (arith, c.loop-face-test.false, c.loop-face.auto.face-end) in
+    subst (λ n. AreSums m c.args.places.now c.args.mates.now c.args.roots.now n
+    c.loop-face.sums.items) end c.loop-face.invariant.sums

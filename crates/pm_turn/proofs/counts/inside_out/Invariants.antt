@@ -7,4 +7,7 @@ use Rattle.pm_turn.specs.Told.{is_inward}
 use Rattle.pm_turn.proofs.counts.inside_out.Given as goal
 
 abbrev pub invariant-loop-face : goal.invariant-loop-face
-invariant-loop-face l = l.inward ≡ count (λ r. is_inward (root_at l.roots r == r) (flag_of l.odd r) (slice_index_or l.sums r no_sums)) l.face
+invariant-loop-face l =
+    l.inward ≡ count
+    (λ r. is_inward (root_at l.roots r == r) (flag_of l.odd r) (slice_index_or l.sums r no_sums))
+    l.face

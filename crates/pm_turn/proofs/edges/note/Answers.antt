@@ -11,8 +11,10 @@ pub returns-clause-noted : goal.returns-clause-noted
 returns-clause-noted c =
     let m : Net = net_of c.args.faces.now in
     let key : c.ends-key.result ≡ edge_key_at m c.args.side.0 =
-    c.ends-key.ensures ∙ ap (λ i. edge_key i c.to.result) c.from.ensures ∙ ap (edge_key (m.from c.args.side.0)) c.to.ensures in
-    one_noted m c.args.edges.now c.insert.new.self c.args.side c.ends-key.result c.edge_at-edge.result c.with_side.result
+    c.ends-key.ensures ∙ ap (λ i. edge_key i c.to.result) c.from.ensures
+    ∙ ap (edge_key (m.from c.args.side.0)) c.to.ensures in
+    one_noted m c.args.edges.now c.insert.new.self c.args.side c.ends-key.result
+    c.edge_at-edge.result c.with_side.result
     c.requires.noted key c.edge_at-edge.ensures c.with_side.ensures c.in_ok-insert.ensures.updates
 
 pub returns-clause-third : goal.returns-clause-third
@@ -20,7 +22,8 @@ returns-clause-third c =
     let m : Net = net_of c.args.faces.now in
     let k = edge_key_at m c.args.side.0 in
     let key : c.ends-key.result ≡ k =
-    c.ends-key.ensures ∙ ap (λ i. edge_key i c.to.result) c.from.ensures ∙ ap (edge_key (m.from c.args.side.0)) c.to.ensures in
+    c.ends-key.ensures ∙ ap (λ i. edge_key i c.to.result) c.from.ensures
+    ∙ ap (edge_key (m.from c.args.side.0)) c.to.ensures in
     c.has_two.ensures
     ∙ ap has_two (c.edge_at-edge.ensures ∙ ap (get nat_cmp c.args.edges.now) key)
     ∙ third_told m c.args.side.0 k _ (c.requires.noted k)

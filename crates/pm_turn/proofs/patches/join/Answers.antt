@@ -14,13 +14,16 @@ join_roots-requires-clause-one c =
     let p = c.root_of-other.new.p in
     let t = elders_of p.elders.items p.parities.items p.odd.items in
     let late = c.root_of-other.ensures.shorter in
-    let s : AreElders m n t = late.stay m n (c.root_of-one.ensures.shorter.stay m n c.requires.so_far) in
+    let s : AreElders m n t =
+    late.stay m n (c.root_of-one.ensures.shorter.stay m n c.requires.so_far) in
     let v : Up t (face_of n) one.face one.parity =
-    subst (λ f. Up t f one.face one.parity) c.face.ensures (late.ups c.face.result.0 one.face one.parity c.root_of-one.ensures.root) in
+    subst (λ f. Up t f one.face one.parity) c.face.ensures
+    (late.ups c.face.result.0 one.face one.parity c.root_of-one.ensures.root) in
     let w : Up t (face_of k) other.face other.parity =
     subst (λ f. Up t f other.face other.parity) c.face-2.ensures c.root_of-other.ensures.root in
     let long : length p.elders.items ≡ m.faces =
-    c.root_of-other.ensures.tables.elders_long ∙ c.root_of-one.ensures.tables.elders_long ∙ c.requires.tables.elders_long in
+    c.root_of-other.ensures.tables.elders_long ∙ c.root_of-one.ensures.tables.elders_long
+    ∙ c.requires.tables.elders_long in
     let a = c.requires.mates in
     let side = a.stands.is_side in
     let low = up_below m n t s (face_of n) one.face one.parity v in
@@ -36,13 +39,16 @@ join_roots-requires-clause-other c =
     let p = c.root_of-other.new.p in
     let t = elders_of p.elders.items p.parities.items p.odd.items in
     let late = c.root_of-other.ensures.shorter in
-    let s : AreElders m n t = late.stay m n (c.root_of-one.ensures.shorter.stay m n c.requires.so_far) in
+    let s : AreElders m n t =
+    late.stay m n (c.root_of-one.ensures.shorter.stay m n c.requires.so_far) in
     let v : Up t (face_of n) one.face one.parity =
-    subst (λ f. Up t f one.face one.parity) c.face.ensures (late.ups c.face.result.0 one.face one.parity c.root_of-one.ensures.root) in
+    subst (λ f. Up t f one.face one.parity) c.face.ensures
+    (late.ups c.face.result.0 one.face one.parity c.root_of-one.ensures.root) in
     let w : Up t (face_of k) other.face other.parity =
     subst (λ f. Up t f other.face other.parity) c.face-2.ensures c.root_of-other.ensures.root in
     let long : length p.elders.items ≡ m.faces =
-    c.root_of-other.ensures.tables.elders_long ∙ c.root_of-one.ensures.tables.elders_long ∙ c.requires.tables.elders_long in
+    c.root_of-other.ensures.tables.elders_long ∙ c.root_of-one.ensures.tables.elders_long
+    ∙ c.requires.tables.elders_long in
     let a = c.requires.mates in
     let side = a.same.stands.is_side in
     let low = up_below m n t s (face_of k) other.face other.parity w in
@@ -58,9 +64,11 @@ returns-clause-one_more c =
     let p = c.root_of-other.new.p in
     let t = elders_of p.elders.items p.parities.items p.odd.items in
     let late = c.root_of-other.ensures.shorter in
-    let s : AreElders m n t = late.stay m n (c.root_of-one.ensures.shorter.stay m n c.requires.so_far) in
+    let s : AreElders m n t =
+    late.stay m n (c.root_of-one.ensures.shorter.stay m n c.requires.so_far) in
     let v : Up t (face_of n) one.face one.parity =
-    subst (λ f. Up t f one.face one.parity) c.face.ensures (late.ups c.face.result.0 one.face one.parity c.root_of-one.ensures.root) in
+    subst (λ f. Up t f one.face one.parity) c.face.ensures
+    (late.ups c.face.result.0 one.face one.parity c.root_of-one.ensures.root) in
     let w : Up t (face_of k) other.face other.parity =
     subst (λ f. Up t f other.face other.parity) c.face-2.ensures c.root_of-other.ensures.root in
     c.join_roots.ensures.one_more m n k c.requires.mates c.clash-clash.ensures s v w

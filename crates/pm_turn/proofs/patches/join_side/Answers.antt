@@ -12,5 +12,8 @@ returns-in-None-clause-one_more c =
     let m : Net = net_of c.args.faces.now in
     let p = c.args.p.now in
     let e : ℕ = c.args.side.0 in
-    let bare : beside_side c.args.mates.now e ≡ None = sym c.get.ensures ∙ ap (option_map (λ (s : Side). s.0)) c.in-None.is in
-    none_more m e (elders_of p.elders.items p.parities.items p.odd.items) c.requires.so_far (subst (λ o. MatchOption o ((k : ℕ) → AreMates m e k → ⊥) (λ k. AreMates m e k)) bare (c.requires.mated.each e c.requires.in_range))
+    let bare : beside_side c.args.mates.now e ≡ None =
+    sym c.get.ensures ∙ ap (option_map (λ (s : Side). s.0)) c.in-None.is in
+    none_more m e (elders_of p.elders.items p.parities.items p.odd.items) c.requires.so_far
+    (subst (λ o. MatchOption o ((k : ℕ) → AreMates m e k → ⊥) (λ k. AreMates m e k)) bare
+    (c.requires.mated.each e c.requires.in_range))

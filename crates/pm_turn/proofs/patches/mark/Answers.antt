@@ -5,4 +5,5 @@ use Rattle.pm_turn.proofs.patches.mark.Goals as goal
 pub returns-clause-value : goal.returns-clause-value
 returns-clause-value c =
     let p = c.args.p.now in
-    tables_marked p.elders.items p.parities.items p.odd.items c.args.root (subst (λ n. c.args.root < n) (sym c.requires.tables.odd_long) c.requires.root)
+    tables_marked p.elders.items p.parities.items p.odd.items c.args.root
+    (subst (λ n. c.args.root < n) (sym c.requires.tables.odd_long) c.requires.root)

@@ -12,5 +12,7 @@ returns-clause-value c =
     let ol2 = subst (λ n. c.args.high < n) (sym t.odd_long) c.requires.high in
     let a = get_or_read p.odd.items c.args.low c.index.result.now ol c.index.ensures false in
     let b = get_or_read p.odd.items c.args.high c.index-2.result.now ol2 c.index-2.ensures false in
-    tables_under p.elders.items p.parities.items p.odd.items c.args.low c.args.high c.args.parity c.either-odd.result c.requires.high pl ol
-    (c.either-odd.ensures ∙ ap (λ (x : Bool). x || c.index-2.result.now) a ∙ ap (λ (x : Bool). slice_index_or p.odd.items c.args.low false || x) b)
+    tables_under p.elders.items p.parities.items p.odd.items c.args.low c.args.high c.args.parity
+    c.either-odd.result c.requires.high pl ol
+    (c.either-odd.ensures ∙ ap (λ (x : Bool). x || c.index-2.result.now) a
+    ∙ ap (λ (x : Bool). slice_index_or p.odd.items c.args.low false || x) b)

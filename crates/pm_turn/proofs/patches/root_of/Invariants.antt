@@ -8,8 +8,10 @@ invariant-loop-at l =
     let now = elders_of l.p.elders.items l.p.parities.items l.p.odd.items in
     record {
       in_range : l.at < length l.fn.p.elders.items;
-      tables : AreTables (length l.fn.p.elders.items) l.p.elders.items l.p.parities.items l.p.odd.items;
-      shorter : AreShorter (elders_of l.fn.p.elders.items l.fn.p.parities.items l.fn.p.odd.items) now;
+      tables : AreTables (length l.fn.p.elders.items) l.p.elders.items l.p.parities.items
+          l.p.odd.items;
+      shorter : AreShorter (elders_of l.fn.p.elders.items l.fn.p.parities.items l.fn.p.odd.items)
+          now;
       below : (x : ℕ) → slice_index_or l.p.elders.items x 0 ≤ x;
       rise : (r : ℕ) (q : Bool) → Up now l.at r q → Up now l.fn.face r (flipped_if q l.parity);
     }

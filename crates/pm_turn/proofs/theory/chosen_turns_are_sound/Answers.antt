@@ -1,6 +1,7 @@
 use Rattle.pm_turn.proofs.ChosenThere.{chosen_turns_are_there}
 use Rattle.pm_turn.proofs.OneChoice.{chosen_turns_are_one, fewest_are_turned}
-use Rattle.pm_turn.proofs.ChosenAgain.{agreeing_faces_are_kept, manifolds_are_kept, chosen_faces_are_turned_once}
+use Rattle.pm_turn.proofs.ChosenAgain.{agreeing_faces_are_kept, manifolds_are_kept}
+use Rattle.pm_turn.proofs.ChosenAgain.{chosen_faces_are_turned_once}
 use Rattle.pm_turn.proofs.Renumbered.{turns_are_renumbered, chosen_turns_are_renumbered}
 use Rattle.pm_turn.proofs.Totals.{unit_tetrahedron_faces_out}
 use Rattle.pm_turn.proofs.theory.chosen_turns_are_sound.Goals as goal

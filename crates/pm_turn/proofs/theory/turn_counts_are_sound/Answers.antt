@@ -1,4 +1,5 @@
-use Rattle.pm_turn.proofs.ToldAlways.{turn_counts_are_there, turn_counts_are_one, manifolds_are_straight}
+use Rattle.pm_turn.proofs.ToldAlways.{turn_counts_are_there, turn_counts_are_one}
+use Rattle.pm_turn.proofs.ToldAlways.{manifolds_are_straight}
 use Rattle.pm_turn.proofs.theory.turn_counts_are_sound.Goals as goal
 
 pub returns : goal.returns

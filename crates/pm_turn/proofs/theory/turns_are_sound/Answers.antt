@@ -1,4 +1,6 @@
-use Rattle.pm_turn.proofs.TurnedFaces.{turned_faces_become_manifolds, each_is_turned_or_not, turned_faces_stay, turns_are_one, agreeing_faces_stay, manifolds_are_not_turned}
+use Rattle.pm_turn.proofs.TurnedFaces.{turned_faces_become_manifolds, each_is_turned_or_not}
+use Rattle.pm_turn.proofs.TurnedFaces.{turned_faces_stay, turns_are_one, agreeing_faces_stay}
+use Rattle.pm_turn.proofs.TurnedFaces.{manifolds_are_not_turned}
 use Rattle.pm_turn.proofs.TurnedSides.{turned_mates_are_glued, glued_stays_glued}
 use Rattle.pm_turn.proofs.TurnedAgain.{turned_faces_are_turned_once}
 use Rattle.pm_turn.proofs.TurnsThere.{turns_are_there}

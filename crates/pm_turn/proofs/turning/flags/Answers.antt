@@ -13,9 +13,12 @@ loop-face-preserved c =
     let s = elders_of old.elders.items old.parities.items old.odd.items in
     let t = elders_of p.elders.items p.parities.items p.odd.items in
     record {
-      tables = subst (λ n. AreTables n p.elders.items p.parities.items p.odd.items) inv.tables.elders_long c.is_turned.ensures.tables;
+      tables = subst (λ n. AreTables n p.elders.items p.parities.items p.odd.items)
+          inv.tables.elders_long c.is_turned.ensures.tables;
       all = c.is_turned.ensures.shorter.stay m (side_count m) inv.all;
-      flagged = flagged_more s t c.loop-face.face c.loop-face.flags.items c.push.new.self.items c.is_turned.result c.is_turned.ensures.shorter inv.all.below inv.flagged c.is_turned.ensures.flag c.in_ok-push.ensures.items;
+      flagged = flagged_more s t c.loop-face.face c.loop-face.flags.items c.push.new.self.items
+          c.is_turned.result c.is_turned.ensures.shorter inv.all.below inv.flagged
+          c.is_turned.ensures.flag c.in_ok-push.ensures.items;
     }
 
 pub returns : goal.returns
@@ -24,5 +27,6 @@ returns c =
     let inv = c.loop-face.invariant in
     let p = c.loop-face.p in
     let t = elders_of p.elders.items p.parities.items p.odd.items in
-    let end : c.loop-face.face ≡ m.faces = omega (arith, c.loop-face-test.false, c.loop-face.auto.face-end) in
+    let end : c.loop-face.face ≡ m.faces =
+    omega (arith, c.loop-face-test.false, c.loop-face.auto.face-end) in
     flagged_turn m t c.loop-face.face c.loop-face.flags.items inv.all end inv.flagged

@@ -12,5 +12,7 @@ returns-clause-tables c = record {
 
 pub returns-clause-begun : goal.returns-clause-begun
 returns-clause-begun c m is =
-    own_elders_begin m c.args.faces c.in_ok-elders.elders.items c.in_ok-parities.parities.items c.in_ok-odd.odd.items is
-    c.in_ok-elders.ensures.long c.in_ok-elders.ensures.each c.in_ok-parities.ensures c.in_ok-odd.ensures
+    own_elders_begin m c.args.faces c.in_ok-elders.elders.items c.in_ok-parities.parities.items
+    c.in_ok-odd.odd.items is
+    c.in_ok-elders.ensures.long c.in_ok-elders.ensures.each c.in_ok-parities.ensures
+    c.in_ok-odd.ensures

@@ -7,11 +7,14 @@ pub loop-at-preserved : goal.loop-at-preserved
 loop-at-preserved c =
     let flags = c.args.flags.now in
     let fs = c.args.faces.now in
-    turned_more flags fs c.loop-at.all.items c.push.new.self.items (turned_by flags fs) c.loop-at.at c.turned_if.result
-    (omega (arith, c.loop-at-test.true, c.loop-at.auto.at-end)) c.requires c.turned_if.ensures c.in_ok-push.ensures.items c.loop-at.invariant
+    turned_more flags fs c.loop-at.all.items c.push.new.self.items (turned_by flags fs) c.loop-at.at
+    c.turned_if.result
+    (omega (arith, c.loop-at-test.true, c.loop-at.auto.at-end)) c.requires c.turned_if.ensures
+    c.in_ok-push.ensures.items c.loop-at.invariant
 
 pub returns : goal.returns
 returns c =
     let flags = c.args.flags.now in
     let fs = c.args.faces.now in
-    turned_all flags fs c.loop-at.all.items (turned_by flags fs) c.loop-at.at (omega (arith, c.loop-at-test.false, c.loop-at.auto.at-end)) c.loop-at.invariant
+    turned_all flags fs c.loop-at.all.items (turned_by flags fs) c.loop-at.at
+    (omega (arith, c.loop-at-test.false, c.loop-at.auto.at-end)) c.loop-at.invariant

@@ -6,5 +6,6 @@ use Rattle.pm_twins.proofs.fans.note_sides.Given as goal
 abbrev pub invariant-loop-number : goal.invariant-loop-number
 invariant-loop-number l = record {
   len : length l.vertices.items ≡ l.count;
-  known : (v : ℕ) → v < l.count → IsKnown (net_of l.sides) l.number v (slice_index_or l.vertices.items v no_vertex);
+  known : (v : ℕ) → v < l.count
+      → IsKnown (net_of l.sides) l.number v (slice_index_or l.vertices.items v no_vertex);
 }

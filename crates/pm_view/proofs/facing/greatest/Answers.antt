@@ -20,9 +20,19 @@ returns-clause-value c =
     let m2 : FitsSigned w128 c.max-2.result = search rules in
     let m3 : FitsSigned w128 c.max-3.result = search rules in
     simp to_z-of_z
-    (rw c.max-3.ensures.value (simp to_z-of_z (rw (c.max.ensures.value, c.max-2.ensures.value) (simp to_z-of_z (rw (c.product.ensures.value, c.product-2.ensures.value, c.product-3.ensures.value, c.product-4.ensures.value) (simp to_z-of_z))))))
+    (rw c.max-3.ensures.value
+    (simp to_z-of_z
+    (rw (c.max.ensures.value, c.max-2.ensures.value)
+    (simp to_z-of_z
+    (rw (
+      c.product.ensures.value,
+      c.product-2.ensures.value,
+      c.product-3.ensures.value,
+      c.product-4.ensures.value,
+    ) (simp to_z-of_z))))))
 
-max_small : (r x y : ℤ) (m : ℕ) → r ≡ int_max x y → unsigned_abs x ≤ m → unsigned_abs y ≤ m → unsigned_abs r ≤ m
+max_small : (r x y : ℤ) (m : ℕ) → r ≡ int_max x y → unsigned_abs x ≤ m → unsigned_abs y ≤ m
+    → unsigned_abs r ≤ m
 max_small r x y m e p q = omega (arith, ints, clamps)
 
 pub returns-clause-small : goal.returns-clause-small
@@ -39,5 +49,7 @@ returns-clause-small c =
     let e3 = simp to_z-of_z at c.max-3.ensures.value in
     simp to_z-of_z
     (max_small c.max-3.result c.max.result c.max-2.result _ e3
-    (max_small c.max.result c.product.result c.product-2.result _ e1 c.product.ensures.small c.product-2.ensures.small)
-    (max_small c.max-2.result c.product-3.result c.product-4.result _ e2 c.product-3.ensures.small c.product-4.ensures.small))
+    (max_small c.max.result c.product.result c.product-2.result _ e1 c.product.ensures.small
+    c.product-2.ensures.small)
+    (max_small c.max-2.result c.product-3.result c.product-4.result _ e2 c.product-3.ensures.small
+    c.product-4.ensures.small))

@@ -2,7 +2,8 @@ use Rattle.pm_view.proofs.NumberLaws.{unsigned_small}
 use Rattle.pm_view.proofs.fields.view_in.Goals as goal
 
 pub within_range-requires-clause-focal : goal.within_range-requires-clause-focal
-within_range-requires-clause-focal c = unsigned_small 65535 c.in_ok-focal-2.focal _ c.in_ok-focal-2.ensures
+within_range-requires-clause-focal c =
+    unsigned_small 65535 c.in_ok-focal-2.focal _ c.in_ok-focal-2.ensures
 
 pub within_range-requires-clause-tol : goal.within_range-requires-clause-tol
 within_range-requires-clause-tol c = unsigned_small 65535 c.in_ok-tol-2.tol _ c.in_ok-tol-2.ensures

@@ -7,7 +7,8 @@ use Rattle.pm_io.proofs.Known.{loses_none}
 use Rattle.pm_forest.specs.Forest.{Hierarchy}
 use Rattle.pm_commands.specs.Beginning.{stream_fail, load_fail, IsHierarchyText}
 use Rattle.pm_commands.proofs.StartLaws.{started}
-use Rattle.pm_commands.proofs.ReadingLaws.{begun, stream_stops, load_stops, text_stops, text_whole, text_trails, end_unread}
+use Rattle.pm_commands.proofs.ReadingLaws.{begun, stream_stops, load_stops, text_stops, text_whole}
+use Rattle.pm_commands.proofs.ReadingLaws.{text_trails, end_unread}
 use Rattle.pm_viewer.proofs.opening.start.Goals as goal
 
 pub returns-in_err-h-clause-err : goal.returns-in_err-h-clause-err

@@ -3,4 +3,8 @@ use Rattle.pm_worlds.proofs.Names as names
 use Rattle.pm_worlds.proofs.theory.cut_meshes_are_sound.Goals as goal
 
 pub returns : goal.returns
-returns c = record { surfaces = cuts.cut_surfaces; borders = cuts.cut_borders; names = names.nodes_named }
+returns c = record {
+  surfaces = cuts.cut_surfaces;
+  borders = cuts.cut_borders;
+  names = names.nodes_named;
+}

@@ -4,7 +4,9 @@ use Rattle.prepare.proofs.EndingLaws.{text_written}
 use Rattle.prepare.proofs.run.obey.Goals as goal
 
 pub returns-in-Ok-write_made-clause-written : goal.returns-in-Ok-write_made-clause-written
-returns-in-Ok-write_made-clause-written g c = text_written c.args.size _ _ _ (done_of c.in-Ok.made) c.in-Ok.made.notes.items c.in-Ok.ensures.made refl c.in-Ok-write_made.ensures.ok
+returns-in-Ok-write_made-clause-written g c =
+    text_written c.args.size _ _ _ (done_of c.in-Ok.made) c.in-Ok.made.notes.items
+    c.in-Ok.ensures.made refl c.in-Ok-write_made.ensures.ok
 
 pub returns-in-Err-clause-err : goal.returns-in-Err-clause-err
 returns-in-Err-clause-err g c = (c.in-Err.ensures.err, (refl, refl))

@@ -2,62 +2,100 @@ use Rattle.std.proofs.Common.{Option, IfSome, sym, ap, ◌∙◌, subst}
 use Rattle.obj_prepare.specs.Placing.{IsSize}
 use Rattle.prepare.specs.declared.words.Asked.{Asked}
 use Rattle.prepare.specs.Words.{asked_of}
-use Rattle.prepare.proofs.EndingLaws.{one_asked, said_done, fault_of, counts_of, memory_counts_of, rose_of, read_of, cut_of, nothing_of, completes, line_of_read, line_of_write, line_of_memory, said_line}
+use Rattle.prepare.proofs.EndingLaws.{one_asked, said_done, fault_of, counts_of, memory_counts_of}
+use Rattle.prepare.proofs.EndingLaws.{rose_of, read_of, cut_of, nothing_of, completes, line_of_read}
+use Rattle.prepare.proofs.EndingLaws.{line_of_write, line_of_memory, said_line}
 use Rattle.prepare.proofs.FitLaws.{gained_fits, gained_leads}
 use Rattle.prepare.proofs.StayLaws.{left_stays}
 use Rattle.prepare.proofs.run.run.Goals as goal
 
 pub returns-in-Ok-obey-clause-whole : goal.returns-in-Ok-obey-clause-whole
 returns-in-Ok-obey-clause-whole g c = λ other asks is.
-    said_done c.in-Some.asked other _ _ _ _ _ _ _ c.in-Ok-obey.notes.items c.deref.result.now (one_asked _ _ other (sym c.read_words.ensures.asked ∙ c.in-Some.is) (sym (ap asked_of c.in-Ok.is) ∙ asks)) c.in-Ok-obey.ensures.written c.deref.ensures.value c.say-in-Ok-obey.ensures
+    said_done c.in-Some.asked other _ _ _ _ _ _ _ c.in-Ok-obey.notes.items c.deref.result.now
+    (one_asked _ _ other (sym c.read_words.ensures.asked ∙ c.in-Some.is)
+    (sym (ap asked_of c.in-Ok.is) ∙ asks)) c.in-Ok-obey.ensures.written c.deref.ensures.value
+    c.say-in-Ok-obey.ensures
 
 pub returns-in-Ok-obey-clause-fit_text : goal.returns-in-Ok-obey-clause-fit_text
 returns-in-Ok-obey-clause-fit_text g c = λ is.
-    gained_fits c.in-Some.asked.size _ c.in-Ok-obey.notes.items _ _ (subst (λ (a : Option Asked). IfSome a (λ x. IsSize x.size)) c.in-Some.is c.read_words.ensures.size) c.in-Ok-obey.ensures.written
+    gained_fits c.in-Some.asked.size _ c.in-Ok-obey.notes.items _ _
+    (subst (λ (a : Option Asked). IfSome a (λ x. IsSize x.size)) c.in-Some.is
+    c.read_words.ensures.size) c.in-Ok-obey.ensures.written
 
 pub returns-in-Ok-obey-clause-leads_back : goal.returns-in-Ok-obey-clause-leads_back
 returns-in-Ok-obey-clause-leads_back g c = λ other asks is.
-    gained_leads c.in-Some.asked other _ c.in-Ok-obey.notes.items _ _ (one_asked _ _ other (sym c.read_words.ensures.asked ∙ c.in-Some.is) (sym (ap asked_of c.in-Ok.is) ∙ asks))
-    (subst (λ (a : Option Asked). IfSome a (λ x. IsSize x.size)) c.in-Some.is c.read_words.ensures.size) c.in-Ok-obey.ensures.written
+    gained_leads c.in-Some.asked other _ c.in-Ok-obey.notes.items _ _
+    (one_asked _ _ other (sym c.read_words.ensures.asked ∙ c.in-Some.is)
+    (sym (ap asked_of c.in-Ok.is) ∙ asks))
+    (subst (λ (a : Option Asked). IfSome a (λ x. IsSize x.size)) c.in-Some.is
+    c.read_words.ensures.size) c.in-Ok-obey.ensures.written
 
 pub returns-in-Ok-obey-clause-stays : goal.returns-in-Ok-obey-clause-stays
 returns-in-Ok-obey-clause-stays g c = λ other asks is.
     left_stays other.size _ _ _ _ _ _ _
-    (said_done c.in-Some.asked other _ _ _ _ _ _ _ c.in-Ok-obey.notes.items c.deref.result.now (one_asked _ _ other (sym c.read_words.ensures.asked ∙ c.in-Some.is) (sym (ap asked_of c.in-Ok.is) ∙ asks)) c.in-Ok-obey.ensures.written c.deref.ensures.value c.say-in-Ok-obey.ensures)
+    (said_done c.in-Some.asked other _ _ _ _ _ _ _ c.in-Ok-obey.notes.items c.deref.result.now
+    (one_asked _ _ other (sym c.read_words.ensures.asked ∙ c.in-Some.is)
+    (sym (ap asked_of c.in-Ok.is) ∙ asks)) c.in-Ok-obey.ensures.written c.deref.ensures.value
+    c.say-in-Ok-obey.ensures)
 
 pub returns-in-Err-obey-clause-faulty : goal.returns-in-Err-obey-clause-faulty
 returns-in-Err-obey-clause-faulty g c = λ other asks is.
-    fault_of c.in-Some.asked other _ _ _ _ _ _ _ _ c.in-Err-obey.fail _ _ _ _ (one_asked _ _ other (sym c.read_words.ensures.asked ∙ c.in-Some.is) (sym (ap asked_of c.in-Ok.is) ∙ asks)) (sym c.tell.ensures.status ∙ is) c.in-Err-obey.ensures.err c.tell.ensures.said
+    fault_of c.in-Some.asked other _ _ _ _ _ _ _ _ c.in-Err-obey.fail _ _ _ _
+    (one_asked _ _ other (sym c.read_words.ensures.asked ∙ c.in-Some.is)
+    (sym (ap asked_of c.in-Ok.is) ∙ asks)) (sym c.tell.ensures.status ∙ is)
+    c.in-Err-obey.ensures.err c.tell.ensures.said
 
 pub returns-in-Err-obey-clause-faulty_counts : goal.returns-in-Err-obey-clause-faulty_counts
-returns-in-Err-obey-clause-faulty_counts g c = λ is. counts_of c.in-Some.asked c.in-Some.asked _ _ _ _ _ _ _ _ c.in-Err-obey.fail (sym c.tell.ensures.status ∙ is) c.in-Err-obey.ensures.err
+returns-in-Err-obey-clause-faulty_counts g c =
+    λ is. counts_of c.in-Some.asked c.in-Some.asked _ _ _ _ _ _ _ _ c.in-Err-obey.fail
+    (sym c.tell.ensures.status ∙ is) c.in-Err-obey.ensures.err
 
 pub returns-in-Err-obey-clause-memory_counts : goal.returns-in-Err-obey-clause-memory_counts
-returns-in-Err-obey-clause-memory_counts g c = λ is. memory_counts_of c.in-Some.asked c.in-Some.asked _ _ _ _ _ _ _ _ c.in-Err-obey.fail (sym c.tell.ensures.status ∙ is) c.in-Err-obey.ensures.err
+returns-in-Err-obey-clause-memory_counts g c =
+    λ is. memory_counts_of c.in-Some.asked c.in-Some.asked _ _ _ _ _ _ _ _ c.in-Err-obey.fail
+    (sym c.tell.ensures.status ∙ is) c.in-Err-obey.ensures.err
 
 pub returns-in-Err-obey-clause-read : goal.returns-in-Err-obey-clause-read
-returns-in-Err-obey-clause-read g c = λ is. rose_of c.in-Some.asked c.in-Some.asked _ _ _ _ _ _ _ _ c.in-Err-obey.fail (sym c.tell.ensures.status ∙ is) c.in-Err-obey.ensures.err
+returns-in-Err-obey-clause-read g c =
+    λ is. rose_of c.in-Some.asked c.in-Some.asked _ _ _ _ _ _ _ _ c.in-Err-obey.fail
+    (sym c.tell.ensures.status ∙ is) c.in-Err-obey.ensures.err
 
 pub returns-in-Err-obey-clause-unreached : goal.returns-in-Err-obey-clause-unreached
 returns-in-Err-obey-clause-unreached g c = λ other asks is.
-    read_of c.in-Some.asked other _ _ _ _ _ _ _ _ c.in-Err-obey.fail (one_asked _ _ other (sym c.read_words.ensures.asked ∙ c.in-Some.is) (sym (ap asked_of c.in-Ok.is) ∙ asks)) (sym c.tell.ensures.status ∙ is) c.in-Err-obey.ensures.err
+    read_of c.in-Some.asked other _ _ _ _ _ _ _ _ c.in-Err-obey.fail
+    (one_asked _ _ other (sym c.read_words.ensures.asked ∙ c.in-Some.is)
+    (sym (ap asked_of c.in-Ok.is) ∙ asks)) (sym c.tell.ensures.status ∙ is)
+    c.in-Err-obey.ensures.err
 
 pub returns-in-Err-obey-clause-write : goal.returns-in-Err-obey-clause-write
 returns-in-Err-obey-clause-write g c = λ other asks is.
-    cut_of c.in-Some.asked other _ _ _ _ _ _ _ _ c.in-Err-obey.fail (one_asked _ _ other (sym c.read_words.ensures.asked ∙ c.in-Some.is) (sym (ap asked_of c.in-Ok.is) ∙ asks)) (sym c.tell.ensures.status ∙ is) c.in-Err-obey.ensures.err
+    cut_of c.in-Some.asked other _ _ _ _ _ _ _ _ c.in-Err-obey.fail
+    (one_asked _ _ other (sym c.read_words.ensures.asked ∙ c.in-Some.is)
+    (sym (ap asked_of c.in-Ok.is) ∙ asks)) (sym c.tell.ensures.status ∙ is)
+    c.in-Err-obey.ensures.err
 
 pub returns-in-Err-obey-clause-nothing_put : goal.returns-in-Err-obey-clause-nothing_put
-returns-in-Err-obey-clause-nothing_put g c = λ is. nothing_of c.in-Some.asked c.in-Some.asked _ _ _ _ _ _ _ _ c.in-Err-obey.fail _ c.tell.ensures.status is c.in-Err-obey.ensures.err
+returns-in-Err-obey-clause-nothing_put g c =
+    λ is. nothing_of c.in-Some.asked c.in-Some.asked _ _ _ _ _ _ _ _ c.in-Err-obey.fail _
+    c.tell.ensures.status is c.in-Err-obey.ensures.err
 
 pub returns-in-Err-obey-clause-said_read : goal.returns-in-Err-obey-clause-said_read
-returns-in-Err-obey-clause-said_read g c = λ is. said_line c.in-Err-obey.fail _ _ _ _ _ (line_of_read c.in-Err-obey.fail (sym c.tell.ensures.status ∙ is)) c.tell.ensures.said
+returns-in-Err-obey-clause-said_read g c =
+    λ is. said_line c.in-Err-obey.fail _ _ _ _ _
+    (line_of_read c.in-Err-obey.fail (sym c.tell.ensures.status ∙ is)) c.tell.ensures.said
 
 pub returns-in-Err-obey-clause-said_write : goal.returns-in-Err-obey-clause-said_write
-returns-in-Err-obey-clause-said_write g c = λ is. said_line c.in-Err-obey.fail _ _ _ _ _ (line_of_write c.in-Err-obey.fail (sym c.tell.ensures.status ∙ is)) c.tell.ensures.said
+returns-in-Err-obey-clause-said_write g c =
+    λ is. said_line c.in-Err-obey.fail _ _ _ _ _
+    (line_of_write c.in-Err-obey.fail (sym c.tell.ensures.status ∙ is)) c.tell.ensures.said
 
 pub returns-in-Err-obey-clause-said_memory : goal.returns-in-Err-obey-clause-said_memory
-returns-in-Err-obey-clause-said_memory g c = rw c.in-Ok.is (λ is. said_line c.in-Err-obey.fail _ _ _ _ _ (line_of_memory c.in-Err-obey.fail (sym c.tell.ensures.status ∙ is)) c.tell.ensures.said)
+returns-in-Err-obey-clause-said_memory g c =
+    rw c.in-Ok.is
+    (λ is. said_line c.in-Err-obey.fail _ _ _ _ _
+    (line_of_memory c.in-Err-obey.fail (sym c.tell.ensures.status ∙ is)) c.tell.ensures.said)
 
 pub returns-in-Err-obey-clause-complete : goal.returns-in-Err-obey-clause-complete
 returns-in-Err-obey-clause-complete g c = λ other asks in_same out_same in_few out_few.
-    completes c.in-Some.asked c.in-Some.asked _ _ _ _ _ _ _ _ c.in-Err-obey.fail _ c.tell.ensures.status c.in-Err-obey.ensures.err in_same out_same in_few out_few
+    completes c.in-Some.asked c.in-Some.asked _ _ _ _ _ _ _ _ c.in-Err-obey.fail _
+    c.tell.ensures.status c.in-Err-obey.ensures.err in_same out_same in_few out_few

@@ -4,22 +4,33 @@ use Rattle.simplify.specs.Words.{asked_of}
 use Rattle.pm_commands.proofs.ArgsLaws.{words_ask, refused_words}
 use Rattle.simplify.proofs.args.answer.Goals as goal
 
-pub returns-in-Ok-words_after_name-clause-refused : goal.returns-in-Ok-words_after_name-clause-refused
+pub returns-in-Ok-words_after_name-clause-refused :
+    goal.returns-in-Ok-words_after_name-clause-refused
 returns-in-Ok-words_after_name-clause-refused g c =
-    refused_words asked_of _ _ _ _ c.in-Ok.is c.in-Ok-words_after_name.ensures c.deref.ensures.value _ c.run.ensures.refused
+    refused_words asked_of _ _ _ _ c.in-Ok.is c.in-Ok-words_after_name.ensures c.deref.ensures.value
+    _ c.run.ensures.refused
 
 pub returns-in-Ok-words_after_name-clause-write : goal.returns-in-Ok-words_after_name-clause-write
 returns-in-Ok-words_after_name-clause-write g c = λ a asks is.
-    c.run.ensures.write a (words_ask asked_of _ _ _ _ c.in-Ok.is c.in-Ok-words_after_name.ensures c.deref.ensures.value a asks) is
+    c.run.ensures.write a (words_ask asked_of _ _ _ _ c.in-Ok.is c.in-Ok-words_after_name.ensures
+    c.deref.ensures.value a asks) is
 
-pub returns-in-Ok-words_after_name-clause-expands : goal.returns-in-Ok-words_after_name-clause-expands
+pub returns-in-Ok-words_after_name-clause-expands :
+    goal.returns-in-Ok-words_after_name-clause-expands
 returns-in-Ok-words_after_name-clause-expands g c = λ target digits border asks is.
-    c.run.ensures.expands target digits border (words_ask asked_of _ _ _ _ c.in-Ok.is c.in-Ok-words_after_name.ensures c.deref.ensures.value (asked.Simplify target digits border) asks) is
+    c.run.ensures.expands target digits border
+    (words_ask asked_of _ _ _ _ c.in-Ok.is c.in-Ok-words_after_name.ensures
+    c.deref.ensures.value (asked.Simplify target digits border) asks) is
 
-pub returns-in-Ok-words_after_name-clause-surfaces : goal.returns-in-Ok-words_after_name-clause-surfaces
+pub returns-in-Ok-words_after_name-clause-surfaces :
+    goal.returns-in-Ok-words_after_name-clause-surfaces
 returns-in-Ok-words_after_name-clause-surfaces g c = λ target digits border asks is.
-    c.run.ensures.surfaces target digits border (words_ask asked_of _ _ _ _ c.in-Ok.is c.in-Ok-words_after_name.ensures c.deref.ensures.value (asked.Simplify target digits border) asks) is
+    c.run.ensures.surfaces target digits border
+    (words_ask asked_of _ _ _ _ c.in-Ok.is c.in-Ok-words_after_name.ensures
+    c.deref.ensures.value (asked.Simplify target digits border) asks) is
 
 pub returns-in-Ok-words_after_name-clause-meets : goal.returns-in-Ok-words_after_name-clause-meets
 returns-in-Ok-words_after_name-clause-meets g c = λ target digits asks is.
-    c.run.ensures.meets target digits (words_ask asked_of _ _ _ _ c.in-Ok.is c.in-Ok-words_after_name.ensures c.deref.ensures.value (asked.Simplify target digits borders.Kept) asks) is
+    c.run.ensures.meets target digits
+    (words_ask asked_of _ _ _ _ c.in-Ok.is c.in-Ok-words_after_name.ensures
+    c.deref.ensures.value (asked.Simplify target digits borders.Kept) asks) is

@@ -10,11 +10,13 @@ returns-then-eq-clause-asked c =
     let flag : pointwise nat_eq (string_bytes c.in-Some.last.now) (codes "--keep-border") ≡ true =
     cc (c.as_str.ensures.value, c.eq.ensures, c.if-eq.true) in
     c.with_border-then-eq.ensures.asked
-    ∙ sym (last_kept c.args.words.now c.in-Some.before.now c.in-Some.last.now c.in-Some.ensures.cases.0 flag)
+    ∙ sym (last_kept c.args.words.now c.in-Some.before.now c.in-Some.last.now
+    c.in-Some.ensures.cases.0 flag)
 
 pub returns-else-eq-clause-asked : goal.returns-else-eq-clause-asked
 returns-else-eq-clause-asked c =
     let other : pointwise nat_eq (string_bytes c.in-Some.last.now) (codes "--keep-border") ≡ false =
     cc (c.as_str.ensures.value, c.eq.ensures, c.if-eq.false) in
     c.with_border-else-eq.ensures.asked
-    ∙ sym (last_free c.args.words.now c.in-Some.before.now c.in-Some.last.now c.in-Some.ensures.cases.0 other)
+    ∙ sym (last_free c.args.words.now c.in-Some.before.now c.in-Some.last.now
+    c.in-Some.ensures.cases.0 other)

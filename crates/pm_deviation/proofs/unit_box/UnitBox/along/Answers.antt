@@ -13,7 +13,11 @@ returns-clause-low c =
     let ry : FitsSigned w64 c.times-low_y.result.0 = search rules in
     let rz : FitsSigned w64 c.times-low_z.result.0 = search rules in
     let s : FitsSigned w64 c.add_three.result = search rules in
-    simp to_z-of_z (rw c.add_three.ensures.value (simp to_z-of_z (rw (c.times-low_x.ensures.low, c.times-low_y.ensures.low, c.times-low_z.ensures.low) (simp to_z-of_z))))
+    simp to_z-of_z
+    (rw c.add_three.ensures.value
+    (simp to_z-of_z
+    (rw (c.times-low_x.ensures.low, c.times-low_y.ensures.low, c.times-low_z.ensures.low)
+    (simp to_z-of_z))))
 
 pub returns-clause-high : goal.returns-clause-high
 unfolding along
@@ -25,4 +29,8 @@ returns-clause-high c =
     let ry : FitsSigned w64 c.times-low_y.result.1 = search rules in
     let rz : FitsSigned w64 c.times-low_z.result.1 = search rules in
     let s : FitsSigned w64 c.add_three-2.result = search rules in
-    simp to_z-of_z (rw c.add_three-2.ensures.value (simp to_z-of_z (rw (c.times-low_x.ensures.high, c.times-low_y.ensures.high, c.times-low_z.ensures.high) (simp to_z-of_z))))
+    simp to_z-of_z
+    (rw c.add_three-2.ensures.value
+    (simp to_z-of_z
+    (rw (c.times-low_x.ensures.high, c.times-low_y.ensures.high, c.times-low_z.ensures.high)
+    (simp to_z-of_z))))

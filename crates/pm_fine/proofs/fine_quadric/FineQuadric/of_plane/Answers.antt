@@ -19,10 +19,12 @@ returns c =
     let ed = c.d-d.ensures.value in
     let xx = pair_is c.pair.result _ _ f.a f.a (search rules) c.pair.ensures fa fa ea ea in
     let xy = double_is c.double.result _ _ f.a f.b (search rules) c.double.ensures fa fb ea eb in
-    let xz = double_is c.double-2.result _ _ f.a f.c (search rules) c.double-2.ensures fa fc ea ec in
+    let xz = double_is c.double-2.result _ _ f.a f.c (search rules) c.double-2.ensures fa fc ea
+    ec in
     let x = double_is c.double-3.result _ _ f.a f.d (search rules) c.double-3.ensures fa fd ea ed in
     let yy = pair_is c.pair-2.result _ _ f.b f.b (search rules) c.pair-2.ensures fb fb eb eb in
-    let yz = double_is c.double-4.result _ _ f.b f.c (search rules) c.double-4.ensures fb fc eb ec in
+    let yz = double_is c.double-4.result _ _ f.b f.c (search rules) c.double-4.ensures fb fc eb
+    ec in
     let y = double_is c.double-5.result _ _ f.b f.d (search rules) c.double-5.ensures fb fd eb ed in
     let zz = pair_is c.pair-3.result _ _ f.c f.c (search rules) c.pair-3.ensures fc fc ec ec in
     let z = double_is c.double-6.result _ _ f.c f.d (search rules) c.double-6.ensures fc fd ec ed in
@@ -30,4 +32,5 @@ returns c =
     coefficients_are f _ _ _ _ _ _ _ _ _ _ xx xy xz x yy yz y zz z one ∙ sym (sums-one f)
 
 pub invariant_of-result : goal.invariant_of-result
-invariant_of-result c = subst IsFineQuadric (sym (returns c)) (fine_one c.args.f.now c.a-a.ensures.in_range)
+invariant_of-result c =
+    subst IsFineQuadric (sym (returns c)) (fine_one c.args.f.now c.a-a.ensures.in_range)

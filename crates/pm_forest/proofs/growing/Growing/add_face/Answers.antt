@@ -34,6 +34,9 @@ invariant_of-self c =
       few = c.requires.few;
     } in
     let seen = subst (λ v. TakesFace v c.args.left) (sym c.self.view_is) takes in
-    let revealed = c.push_within_room-2.ensures.items ∙ ap (λ mark. c.self.inside.revealed.items ++ mark ∷ []) c.of.ensures in
+    let revealed =
+    c.push_within_room-2.ensures.items
+    ∙ ap (λ mark. c.self.inside.revealed.items ++ mark ∷ []) c.of.ensures in
     face_added c.self.invariant c.args.left c.args.face seen _ _ _ _
-    c.set_face.ensures c.len-number.ensures c.push_within_room.ensures.items c.push_within_room.ensures.spare revealed c.push_within_room-2.ensures.spare
+    c.set_face.ensures c.len-number.ensures c.push_within_room.ensures.items
+    c.push_within_room.ensures.spare revealed c.push_within_room-2.ensures.spare

@@ -37,7 +37,8 @@ note_node-requires-2-clause-leaves c =
     let seen = subst (λ v. TakesRecord v c.args.split) (sym c.self.view_is) takes in
     let fits = split_leaves_fit c.self.invariant c.args.split seen at c.index.ensures in
     let node = c.len.result + 2 * c.len-number.result in
-    let len = ap length c.note_node.ensures.leaf_nodes ∙ length-noted c.self.inside.leaf_nodes.items node at.0 (at.0 + c.args.split.width) in
+    let len = ap length c.note_node.ensures.leaf_nodes
+    ∙ length-noted c.self.inside.leaf_nodes.items node at.0 (at.0 + c.args.split.width) in
     omega arith
 
 pub invariant_of-self : goal.invariant_of-self
@@ -54,8 +55,10 @@ invariant_of-self c =
       rest = c.requires.rest;
     } in
     let seen = subst (λ v. TakesRecord v c.args.split) (sym c.self.view_is) takes in
-    let node : c.len.result + 2 * c.len-number.result ≡ length c.self.inside.roots.items + 2 * length c.self.inside.records.items =
+    let node : c.len.result + 2 * c.len-number.result
+    ≡ length c.self.inside.roots.items + 2 * length c.self.inside.records.items =
     omega (arith, c.len.ensures, c.len-number.ensures) in
     record_added c.self.invariant c.args.split seen _ _ _ _ _ _
     c.index.result.now c.index.ensures node (c.of.ensures ∙ ap Some c.len-number.ensures)
-    c.note_node.ensures.intervals c.note_node.ensures.leaf_nodes c.note_node-2.ensures.intervals c.note_node-2.ensures.leaf_nodes
+    c.note_node.ensures.intervals c.note_node.ensures.leaf_nodes c.note_node-2.ensures.intervals
+    c.note_node-2.ensures.leaf_nodes

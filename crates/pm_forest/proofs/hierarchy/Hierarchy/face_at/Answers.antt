@@ -9,4 +9,5 @@ returns-clause-corners c =
     let h = c.args.self.now in
     let f = c.args.f.0 in
     let whole = all_units c.self.inside.forest h c.self.invariant.1 c.self.view_is in
-    c.face.ensures ∙ ap (λ g. slice_index_or (faces_of g) f no_face_corners) whole ∙ sym (corners_of-faces_of h f c.requires)
+    c.face.ensures ∙ ap (λ g. slice_index_or (faces_of g) f no_face_corners) whole
+    ∙ sym (corners_of-faces_of h f c.requires)

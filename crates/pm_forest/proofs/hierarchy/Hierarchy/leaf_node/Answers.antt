@@ -18,7 +18,8 @@ returns-clause-alone c =
     let x = c.args.leaf in
     let whole = all_units c.self.inside.forest h c.self.invariant.1 c.self.view_is in
     let shape = subst HasShape c.self.view_is c.self.invariant.0 in
-    rw (c.leaf_node.ensures ∙ ap (λ g. leaf_node_of g x) whole) (leaf_node-alone h shape x c.requires)
+    rw (c.leaf_node.ensures ∙ ap (λ g. leaf_node_of g x) whole)
+    (leaf_node-alone h shape x c.requires)
 
 pub returns-clause-node : goal.returns-clause-node
 returns-clause-node c =

@@ -13,7 +13,9 @@ next_record-requires-clause-flags c =
     let s = c.self.inside in
     let next = subst (λ v. expects v ≡ kinds.Head) (sym c.self.view_is) c.requires in
     let at = expects_head s.forest.counts s.forest.h s.forest.coming s.left_due s.right_due next in
-    let leaves = leaves_complete s.forest s.left_due s.right_due s.vertices_seen.items s.faces_seen.items c.self.invariant at.1 in
+    let leaves =
+    leaves_complete s.forest s.left_due s.right_due s.vertices_seen.items s.faces_seen.items
+    c.self.invariant at.1 in
     ap length c.deref.ensures.value ∙ c.self.invariant.node_flags ∙ sym leaves
 
 pub invariant_of-self : goal.invariant_of-self
@@ -23,9 +25,13 @@ invariant_of-self c =
     let next = subst (λ v. expects v ≡ kinds.Head) (sym c.self.view_is) c.requires in
     let at = expects_head s.forest.counts s.forest.h s.forest.coming s.left_due s.right_due next in
     let nodes = rw at.0 at c.self.invariant.nodes_marked in
-    let marked = c.mark-in-Ok.ensures.marked _ (c.mark.ensures.marked (node_inputs s.forest.h) nodes) in
-    head_added s.forest c.add_record.new.self s.left_due s.right_due s.vertices_seen.items c.mark-in-Ok.new.flags.items s.faces_seen.items d
-    c.self.invariant at.0 at.1 at.2 at.3 (omega arith) (omega arith) c.in-Ok.ensures.good c.in-Ok.ensures.fits
+    let marked =
+    c.mark-in-Ok.ensures.marked _ (c.mark.ensures.marked (node_inputs s.forest.h) nodes) in
+    head_added s.forest c.add_record.new.self s.left_due s.right_due s.vertices_seen.items
+    c.mark-in-Ok.new.flags.items s.faces_seen.items d
+    c.self.invariant at.0 at.1 at.2 at.3 (omega arith) (omega arith) c.in-Ok.ensures.good
+    c.in-Ok.ensures.fits
     (rw c.in-Ok.ensures.split at c.add_record.ensures)
-    (subst (λ r. AreMarked c.mark-in-Ok.new.flags.items ((node_inputs s.forest.h ++ r.t.input ∷ []) ++ r.u.input ∷ [])) c.in-Ok.ensures.split marked)
+    (subst (λ r. AreMarked c.mark-in-Ok.new.flags.items ((node_inputs s.forest.h ++ r.t.input ∷ [])
+    ++ r.u.input ∷ [])) c.in-Ok.ensures.split marked)
     (c.mark-in-Ok.ensures.len ∙ c.mark.ensures.len)

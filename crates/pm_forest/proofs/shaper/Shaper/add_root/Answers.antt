@@ -11,7 +11,10 @@ invariant_of-self c =
     let s = c.self.inside in
     let next = subst (λ v. expects v ≡ kinds.Root) (sym c.self.view_is) c.requires in
     let at = expects_root s.forest.counts s.forest.h s.forest.coming s.left_due s.right_due next in
-    let marked = roots_marked s.forest s.left_due s.right_due s.vertices_seen.items s.faces_seen.items c.self.invariant at.0 at.1 in
-    root_added s.forest c.add_root.new.self s.left_due s.right_due s.vertices_seen.items c.mark.new.flags.items s.faces_seen.items c.in-Ok.root
+    let marked =
+    roots_marked s.forest s.left_due s.right_due s.vertices_seen.items s.faces_seen.items
+    c.self.invariant at.0 at.1 in
+    root_added s.forest c.add_root.new.self s.left_due s.right_due s.vertices_seen.items
+    c.mark.new.flags.items s.faces_seen.items c.in-Ok.root
     c.self.invariant at.0 at.1 c.in-Ok.ensures.fits c.add_root.ensures
     (c.mark.ensures.marked (root_inputs s.forest.h.roots) marked) c.mark.ensures.len

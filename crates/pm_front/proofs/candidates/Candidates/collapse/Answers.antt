@@ -18,8 +18,11 @@ free_all-requires-clause-counted c =
     let T = set_of c.args._set.now in
     let k = c.args.k in
     let before = subst (AreCandidates h T) (sym c.self.view_is) c.requires.candidates in
-    let counts = subst (λ S. AreNeedCounts h S c.self.inside.needs) (sym (with-without T k c.requires.is_split)) before.counts in
-    names_counted h (without T k) k c.requires.record (without-same T k) c.args.names.now c.requires.names.times c.self.inside.needs counts
+    let counts =
+    subst (λ S. AreNeedCounts h S c.self.inside.needs)
+    (sym (with-without T k c.requires.is_split)) before.counts in
+    names_counted h (without T k) k c.requires.record (without-same T k) c.args.names.now
+    c.requires.names.times c.self.inside.needs counts
 
 pub returns : goal.returns
 returns c =
@@ -27,12 +30,24 @@ returns c =
     let T = set_of c.args._set.now in
     let k = c.args.k in
     let before = subst (AreCandidates h T) (sym c.self.view_is) c.requires.candidates in
-    let put = subst (λ S. AreNeedCounts h S c.self.inside.needs) (sym (with-without T k c.requires.is_split)) before.counts in
-    let counts = counts_without h (without T k) k c.requires.record (without-same T k) c.args.names.now c.requires.names.times _ _ put c.free_all.ensures.counts in
-    let first = subst (λ v. AreCleared c.self.inside.waiting c.clear_splitter.new.waiting (λ j. is_at j (splitter_of h v))) c.children.ensures.t c.clear_splitter.ensures in
-    let second = subst (λ v. AreCleared c.clear_splitter.new.waiting c.clear_splitter-2.new.waiting (λ j. is_at j (splitter_of h v))) c.children.ensures.u c.clear_splitter-2.ensures in
-    let waiting = waiting-without h c.invariant.ensures T c.requires.closed k c.requires.record c.requires.is_split _ _ _ before.waiting first second in
-    let unneeded = unneeded-without h c.invariant.ensures T c.requires.closed k c.requires.record c.requires.is_split _ _ c.args.names.now c.requires.names.times c.free_all.new.needs counts before.unneeded c.free_all.ensures.unneeded in
+    let put = subst (λ S. AreNeedCounts h S c.self.inside.needs)
+    (sym (with-without T k c.requires.is_split)) before.counts in
+    let counts =
+    counts_without h (without T k) k c.requires.record (without-same T k) c.args.names.now
+    c.requires.names.times _ _ put c.free_all.ensures.counts in
+    let first = subst
+    (λ v. AreCleared c.self.inside.waiting c.clear_splitter.new.waiting
+    (λ j. is_at j (splitter_of h v))) c.children.ensures.t c.clear_splitter.ensures in
+    let second =
+    subst (λ v. AreCleared c.clear_splitter.new.waiting c.clear_splitter-2.new.waiting
+    (λ j. is_at j (splitter_of h v))) c.children.ensures.u c.clear_splitter-2.ensures in
+    let waiting =
+    waiting-without h c.invariant.ensures T c.requires.closed k c.requires.record
+    c.requires.is_split _ _ _ before.waiting first second in
+    let unneeded =
+    unneeded-without h c.invariant.ensures T c.requires.closed k c.requires.record
+    c.requires.is_split _ _ c.args.names.now c.requires.names.times c.free_all.new.needs counts
+    before.unneeded c.free_all.ensures.unneeded in
     record {
       counts = counts;
       waiting = subst (AreAnswers h (may_try h (without T k))) (sym c.insert.ensures) waiting;

@@ -11,7 +11,9 @@ returns c =
     let h = c.args.h.now in
     let was = c.self.view_is ∙ c.requires in
     record {
-      counts = subst (AreNeedCounts h no_records) (sym (ap (λ (x : Candidates). x.counts) was)) (counts_none h);
+      counts = subst (AreNeedCounts h no_records) (sym (ap (λ (x : Candidates). x.counts) was))
+          (counts_none h);
       waiting = c.add_roots.ensures;
-      unneeded = subst (AreAnswers h (is_unneeded h no_records)) (sym (ap (λ (x : Candidates). x.unneeded) was)) (unneeded-none h);
+      unneeded = subst (AreAnswers h (is_unneeded h no_records))
+          (sym (ap (λ (x : Candidates). x.unneeded) was)) (unneeded-none h);
     }

@@ -16,7 +16,8 @@ need_all-requires-clause-room c =
     let h = c.args.h.now in
     let T = set_of c.args._set.now in
     let before = subst (AreCandidates h T) (sym c.self.view_is) c.requires.candidates in
-    room_left h T c.args.k c.requires.record c.requires.unsplit c.args.names.now c.requires.names.times c.invariant.ensures c.self.inside.needs before.counts
+    room_left h T c.args.k c.requires.record c.requires.unsplit c.args.names.now
+    c.requires.names.times c.invariant.ensures c.self.inside.needs before.counts
 
 pub returns : goal.returns
 returns c =
@@ -24,12 +25,22 @@ returns c =
     let T = set_of c.args._set.now in
     let k = c.args.k in
     let before = subst (AreCandidates h T) (sym c.self.view_is) c.requires.candidates in
-    let first = subst (λ v. AreAdded c.self.inside.waiting c.add_splitter.new.waiting (λ j. is_at j (splitter_of h v))) c.children.ensures.t c.add_splitter.ensures in
-    let second = subst (λ v. AreAdded c.add_splitter.new.waiting c.add_splitter-2.new.waiting (λ j. is_at j (splitter_of h v))) c.children.ensures.u c.add_splitter-2.ensures in
-    let waiting = waiting-with h c.invariant.ensures T c.requires.closed k c.requires.record c.requires.unsplit _ _ _ before.waiting first second in
-    let unneeded = unneeded-with h c.invariant.ensures T c.requires.closed k c.requires.record c.requires.unsplit _ _ c.args.names.now c.requires.names.times before.unneeded c.need_all.ensures.unneeded in
+    let first = subst
+    (λ v. AreAdded c.self.inside.waiting c.add_splitter.new.waiting
+    (λ j. is_at j (splitter_of h v))) c.children.ensures.t c.add_splitter.ensures in
+    let second =
+    subst (λ v. AreAdded c.add_splitter.new.waiting c.add_splitter-2.new.waiting
+    (λ j. is_at j (splitter_of h v))) c.children.ensures.u c.add_splitter-2.ensures in
+    let waiting =
+    waiting-with h c.invariant.ensures T c.requires.closed k c.requires.record
+    c.requires.unsplit _ _ _ before.waiting first second in
+    let unneeded =
+    unneeded-with h c.invariant.ensures T c.requires.closed k c.requires.record
+    c.requires.unsplit _ _ c.args.names.now c.requires.names.times before.unneeded
+    c.need_all.ensures.unneeded in
     record {
-      counts = counts_with h T k c.requires.record c.requires.unsplit c.args.names.now c.requires.names.times _ _ before.counts c.need_all.ensures.counts;
+      counts = counts_with h T k c.requires.record c.requires.unsplit c.args.names.now
+          c.requires.names.times _ _ before.counts c.need_all.ensures.counts;
       waiting = subst (AreAnswers h (may_try h (with T k))) (sym c.remove.ensures) waiting;
       unneeded = subst (AreAnswers h (is_unneeded h (with T k))) (sym c.insert.ensures) unneeded;
     }

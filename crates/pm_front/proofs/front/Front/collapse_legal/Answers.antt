@@ -14,25 +14,30 @@ use Rattle.pm_front.proofs.front.Front.collapse_legal.Goals as goal
 
 pub of-names-requires : goal.of-names-requires
 of-names-requires c =
-    let l = subst (λ (s : State). c.args.k < record_count s.h) (sym c.self.view_is) c.requires.record in
+    let l = subst (λ (s : State). c.args.k < record_count s.h) (sym c.self.view_is)
+    c.requires.record in
     omega (arith, l, c.self.invariant.names.len)
 
 pub collapse-requires-clause-names : goal.collapse-requires-clause-names
 collapse-requires-clause-names c =
     let s = c.self.inside.refinement in
-    let l = subst (λ (s : State). c.args.k < record_count s.h) (sym c.self.view_is) c.requires.record in
-    row_named s.h _ c.self.inside.names c.self.invariant.names c.hierarchy.ensures c.args.k l _ c.of-names.ensures
+    let l = subst (λ (s : State). c.args.k < record_count s.h) (sym c.self.view_is)
+    c.requires.record in
+    row_named s.h _ c.self.inside.names c.self.invariant.names c.hierarchy.ensures c.args.k l _
+    c.of-names.ensures
 
 pub collapse-requires-clause-closed : goal.collapse-requires-clause-closed
 collapse-requires-clause-closed c =
-    as_read (λ (h : Hierarchy) (flags : List Bool). IsClosed h (set_of flags)) _ _ _ _ (sym c.hierarchy.ensures) (sym c.flags.ensures) c.self.invariant.sound.closed
+    as_read (λ (h : Hierarchy) (flags : List Bool). IsClosed h (set_of flags)) _ _ _ _
+    (sym c.hierarchy.ensures) (sym c.flags.ensures) c.self.invariant.sound.closed
 
 pub collapse-requires-2-clause-told : goal.collapse-requires-2-clause-told
 collapse-requires-2-clause-told c =
     let s = c.self.inside.refinement in
     let k = c.args.k in
     let l = subst (λ (s : State). k < record_count s.h) (sym c.self.view_is) c.requires.record in
-    let may = subst (λ (s : State). MayCollapse s.h (set_of s.flags) k) (sym c.self.view_is) c.requires.legal in
+    let may = subst (λ (s : State). MayCollapse s.h (set_of s.flags) k) (sym c.self.view_is)
+    c.requires.legal in
     collapse_told s.h s.flags c.self.invariant.sound k l may
 
 pub invariant_of-self : goal.invariant_of-self
@@ -40,21 +45,29 @@ invariant_of-self c =
     let s = c.self.inside.refinement in
     let k = c.args.k in
     let l = subst (λ (s : State). k < record_count s.h) (sym c.self.view_is) c.requires.record in
-    let may = subst (λ (s : State). MayCollapse s.h (set_of s.flags) k) (sym c.self.view_is) c.requires.legal in
+    let may = subst (λ (s : State). MayCollapse s.h (set_of s.flags) k) (sym c.self.view_is)
+    c.requires.legal in
     let sound = c.self.invariant.sound in
     let at : k < length s.flags = omega (arith, l, sound.flag_len) in
-    let are = as_read (λ (h : Hierarchy) (flags : List Bool). AreCandidates h (without (set_of flags) k) c.collapse.new.self) _ _ _ _ c.hierarchy.ensures c.flags.ensures c.collapse.ensures in
-    ready-same c.collapse-2.new.self s.h _ c.collapse.new.self c.self.inside.names c.collapse-2.ensures.h c.collapse-2.ensures.flags
-    (collapse_ready s.h s.flags k at c.collapse.new.self c.self.inside.names c.self.invariant.names (collapse_sound s.h s.flags sound k l may) are)
+    let are = as_read
+    (λ (h : Hierarchy) (flags : List Bool). AreCandidates h (without (set_of flags) k)
+    c.collapse.new.self) _ _ _ _ c.hierarchy.ensures c.flags.ensures c.collapse.ensures in
+    ready-same c.collapse-2.new.self s.h _ c.collapse.new.self c.self.inside.names
+    c.collapse-2.ensures.h c.collapse-2.ensures.flags
+    (collapse_ready s.h s.flags k at c.collapse.new.self c.self.inside.names c.self.invariant.names
+    (collapse_sound s.h s.flags sound k l may) are)
 
 pub returns-clause-surface : goal.returns-clause-surface
 returns-clause-surface c firm =
     let s = c.self.inside.refinement in
     let k = c.args.k in
     let l = subst (λ (s : State). k < record_count s.h) (sym c.self.view_is) c.requires.record in
-    let may = subst (λ (s : State). MayCollapse s.h (set_of s.flags) k) (sym c.self.view_is) c.requires.legal in
-    let sound = sound-same c.collapse-2.new.self s.h _ c.collapse-2.ensures.h c.collapse-2.ensures.flags (collapse_sound s.h s.flags c.self.invariant.sound k l may) in
-    shows_surface c.collapse-2.new.self sound (subst IsFirm (sym (c.collapse-2.ensures.h ∙ ap (λ (s : State). s.h) c.self.view_is)) firm)
+    let may = subst (λ (s : State). MayCollapse s.h (set_of s.flags) k) (sym c.self.view_is)
+    c.requires.legal in
+    let sound = sound-same c.collapse-2.new.self s.h _ c.collapse-2.ensures.h
+    c.collapse-2.ensures.flags (collapse_sound s.h s.flags c.self.invariant.sound k l may) in
+    shows_surface c.collapse-2.new.self sound
+    (subst IsFirm (sym (c.collapse-2.ensures.h ∙ ap (λ (s : State). s.h) c.self.view_is)) firm)
 
 pub returns-clause-done : goal.returns-clause-done
 returns-clause-done c =
@@ -62,4 +75,5 @@ returns-clause-done c =
     let k = c.args.k in
     let l = subst (λ (s : State). k < record_count s.h) (sym c.self.view_is) c.requires.record in
     let at : k < length s.flags = omega (arith, l, c.self.invariant.sound.flag_len) in
-    ap set_of c.collapse-2.ensures.flags ∙ set_of-clear s.flags k at ∙ ap (λ (s : State). without (set_of s.flags) k) c.self.view_is
+    ap set_of c.collapse-2.ensures.flags ∙ set_of-clear s.flags k at
+    ∙ ap (λ (s : State). without (set_of s.flags) k) c.self.view_is

@@ -11,5 +11,9 @@ returns-clause-zero c =
     let s = c.args.self.now in
     let k = c.args.k in
     let l = subst (λ (s : State). k < record_count s.h) (sym c.self.view_is) c.requires in
-    let is = c.count.ensures ∙ c.self.invariant.candidates.counts.each k l ∙ ap (λ (s : State). need_count s.h (set_of s.flags) k) c.self.view_is in
-    (λ none. unneeded-count s.h (set_of s.flags) k (sym is ∙ none), λ free. is ∙ need_count-unneeded s.h (set_of s.flags) k free)
+    let is = c.count.ensures ∙ c.self.invariant.candidates.counts.each k l
+    ∙ ap (λ (s : State). need_count s.h (set_of s.flags) k) c.self.view_is in (
+      λ none. unneeded-count s.h (set_of s.flags) k (sym is ∙ none),
+      λ free. is
+          ∙ need_count-unneeded s.h (set_of s.flags) k free,
+    )

@@ -13,35 +13,48 @@ use Rattle.pm_front.proofs.front.Front.split_legal.Goals as goal
 
 pub of-names-requires : goal.of-names-requires
 of-names-requires c =
-    let l = subst (λ (s : State). c.args.k < record_count s.h) (sym c.self.view_is) c.requires.record in
+    let l = subst (λ (s : State). c.args.k < record_count s.h) (sym c.self.view_is)
+    c.requires.record in
     omega (arith, l, c.self.invariant.names.len)
 
 pub split-requires-clause-names : goal.split-requires-clause-names
 split-requires-clause-names c =
     let s = c.self.inside.refinement in
-    let l = subst (λ (s : State). c.args.k < record_count s.h) (sym c.self.view_is) c.requires.record in
-    row_named s.h _ c.self.inside.names c.self.invariant.names c.hierarchy.ensures c.args.k l _ c.of-names.ensures
+    let l = subst (λ (s : State). c.args.k < record_count s.h) (sym c.self.view_is)
+    c.requires.record in
+    row_named s.h _ c.self.inside.names c.self.invariant.names c.hierarchy.ensures c.args.k l _
+    c.of-names.ensures
 
 pub split-requires-clause-closed : goal.split-requires-clause-closed
 split-requires-clause-closed c =
-    as_read (λ (h : Hierarchy) (flags : List Bool). IsClosed h (set_of flags)) _ _ _ _ (sym c.hierarchy.ensures) (sym c.flags.ensures) c.self.invariant.sound.closed
+    as_read (λ (h : Hierarchy) (flags : List Bool). IsClosed h (set_of flags)) _ _ _ _
+    (sym c.hierarchy.ensures) (sym c.flags.ensures) c.self.invariant.sound.closed
 
 pub invariant_of-self : goal.invariant_of-self
 invariant_of-self c =
     let s = c.self.inside.refinement in
     let k = c.args.k in
     let l = subst (λ (s : State). k < record_count s.h) (sym c.self.view_is) c.requires.record in
-    let may = subst (λ (s : State). MaySplit s.h (set_of s.flags) k) (sym c.self.view_is) c.requires.legal in
+    let may = subst (λ (s : State). MaySplit s.h (set_of s.flags) k) (sym c.self.view_is)
+    c.requires.legal in
     let sound = c.self.invariant.sound in
     let at : k < length s.flags = omega (arith, l, sound.flag_len) in
-    let are = as_read (λ (h : Hierarchy) (flags : List Bool). AreCandidates h (with (set_of flags) k) c.split.new.self) _ _ _ _ c.hierarchy.ensures c.flags.ensures c.split.ensures in
-    ready-same c.split-2.new.self s.h _ c.split.new.self c.self.inside.names c.split-2.ensures.h c.split-2.ensures.flags (split_ready s.h s.flags k at c.split.new.self c.self.inside.names c.self.invariant.names (split_sound s.h s.flags sound k l may) are)
+    let are = as_read
+    (λ (h : Hierarchy) (flags : List Bool). AreCandidates h (with (set_of flags) k)
+    c.split.new.self) _ _ _ _ c.hierarchy.ensures c.flags.ensures c.split.ensures in
+    ready-same c.split-2.new.self s.h _ c.split.new.self c.self.inside.names c.split-2.ensures.h
+    c.split-2.ensures.flags
+    (split_ready s.h s.flags k at c.split.new.self c.self.inside.names c.self.invariant.names
+    (split_sound s.h s.flags sound k l may) are)
 
 pub returns-clause-surface : goal.returns-clause-surface
 returns-clause-surface c firm =
     let s = c.self.inside.refinement in
     let k = c.args.k in
     let l = subst (λ (s : State). k < record_count s.h) (sym c.self.view_is) c.requires.record in
-    let may = subst (λ (s : State). MaySplit s.h (set_of s.flags) k) (sym c.self.view_is) c.requires.legal in
-    let sound = sound-same c.split-2.new.self s.h _ c.split-2.ensures.h c.split-2.ensures.flags (split_sound s.h s.flags c.self.invariant.sound k l may) in
-    shows_surface c.split-2.new.self sound (subst IsFirm (sym (c.split-2.ensures.h ∙ ap (λ (s : State). s.h) c.self.view_is)) firm)
+    let may = subst (λ (s : State). MaySplit s.h (set_of s.flags) k) (sym c.self.view_is)
+    c.requires.legal in
+    let sound = sound-same c.split-2.new.self s.h _ c.split-2.ensures.h c.split-2.ensures.flags
+    (split_sound s.h s.flags c.self.invariant.sound k l may) in
+    shows_surface c.split-2.new.self sound
+    (subst IsFirm (sym (c.split-2.ensures.h ∙ ap (λ (s : State). s.h) c.self.view_is)) firm)

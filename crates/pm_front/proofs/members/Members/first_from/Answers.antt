@@ -7,11 +7,13 @@ use Rattle.pm_front.proofs.FlagLaws.{least_found, none_found, found_below}
 use Rattle.pm_front.proofs.members.Members.first_from.Goals as goal
 
 pub first_from-requires : goal.first_from-requires
-first_from-requires c = subst (λ (m : Members). c.args.from ≤ m.bound) (sym c.self.view_is) c.requires
+first_from-requires c =
+    subst (λ (m : Members). c.args.from ≤ m.bound) (sym c.self.view_is) c.requires
 
 pub returns-clause-some : goal.returns-clause-some
 returns-clause-some c =
-    subst (λ (m : Members). IfSome c.first_from.result (IsLeastFrom (has m.list) c.args.from)) c.self.view_is
+    subst (λ (m : Members). IfSome c.first_from.result (IsLeastFrom (has m.list) c.args.from))
+    c.self.view_is
     (least_found c.self.inside.numbers c.args.from c.first_from.result c.first_from.ensures.some)
 
 pub returns-clause-below : goal.returns-clause-below
@@ -21,5 +23,7 @@ returns-clause-below c =
 
 pub returns-clause-none : goal.returns-clause-none
 returns-clause-none c =
-    subst (λ (m : Members). IfNone c.first_from.result (NonePasses (has m.list) c.args.from m.bound)) c.self.view_is
-    (none_found c.self.inside.numbers c.args.from (length c.self.inside.numbers) c.first_from.result c.first_from.ensures.none)
+    subst (λ (m : Members). IfNone c.first_from.result
+    (NonePasses (has m.list) c.args.from m.bound)) c.self.view_is
+    (none_found c.self.inside.numbers c.args.from (length c.self.inside.numbers) c.first_from.result
+    c.first_from.ensures.none)

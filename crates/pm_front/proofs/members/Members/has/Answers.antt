@@ -5,4 +5,5 @@ use Rattle.pm_front.proofs.FlagLaws.{has-flagged}
 use Rattle.pm_front.proofs.members.Members.has.Goals as goal
 
 pub returns : goal.returns
-returns c = c.has.ensures ∙ sym (has-flagged c.self.inside.numbers c.args.number) ∙ ap (λ (m : Members). has m.list c.args.number) c.self.view_is
+returns c = c.has.ensures ∙ sym (has-flagged c.self.inside.numbers c.args.number)
+    ∙ ap (λ (m : Members). has m.list c.args.number) c.self.view_is

@@ -1,4 +1,5 @@
-use Rattle.std.proofs.Common.{ℕ, List, [], ◌∷◌, ◌++◌, length, get_or, Option, sym, ap, ◌∙◌, subst, arith, length-append}
+use Rattle.std.proofs.Common.{ℕ, List, [], ◌∷◌, ◌++◌, length, get_or, Option, sym, ap, ◌∙◌, subst}
+use Rattle.std.proofs.Common.{arith, length-append}
 use Rattle.pm_front.specs.Needed.{AreNamesOf}
 use Rattle.pm_front.proofs.NameRows.{row_more}
 use Rattle.pm_front.proofs.names.NameTable.new.Goals as goal
@@ -9,9 +10,11 @@ loop-k-preserved c =
     let rows : List (List (Option ℕ)) = c.loop-k.rows.items in
     let row : List (Option ℕ) = c.names_of.result in
     let so_far = c.loop-k.invariant in
-    let items = c.in_ok-push.ensures.items ∙ ap (λ (one : List (Option ℕ)). rows ++ one ∷ []) c.row_of.ensures in
+    let items = c.in_ok-push.ensures.items
+    ∙ ap (λ (one : List (Option ℕ)). rows ++ one ∷ []) c.row_of.ensures in
     record {
       len = omega (arith, ap length items, length-append rows (row ∷ []), so_far.len);
       each = λ j l.
-          subst (λ (all : List (List (Option ℕ))). AreNamesOf h j (get_or all j [])) (sym items) (row_more h rows c.loop-k.k so_far.len so_far.each row c.names_of.ensures j l);
+          subst (λ (all : List (List (Option ℕ))). AreNamesOf h j (get_or all j [])) (sym items)
+          (row_more h rows c.loop-k.k so_far.len so_far.each row c.names_of.ensures j l);
     }

@@ -18,12 +18,20 @@ invariant_of-result c =
     let active = c.base_active.new.nodes in
     let kept = c.base_kept.new.faces in
     let same = c.hierarchy-h.ensures ∙ parts.ensures.h in
-    let items = c.base_corners.ensures.items ∙ ap (λ (v : Lists). v.items) c.requires.empty.no_corners in
-    let lists = c.base_corners.ensures.lists ∙ ap (λ (g : Hierarchy). base_lists g) parts.ensures.h in
-    let bound = c.base_active.ensures.bound ∙ ap (λ (v : Members). v.bound) c.requires.empty.no_nodes in
-    let nodes = subst (λ (g : Hierarchy). AreActive g no_records active.list) same c.base_active.ensures.right in
-    let kept_bound = c.base_kept.ensures.bound ∙ ap (λ (v : Members). v.bound) c.requires.empty.no_faces in
-    let faces = subst (λ (g : Hierarchy). AreShown g no_records kept.list) same c.base_kept.ensures.right in
-    subst (λ (g : Hierarchy). IsRefinement g flags corners active kept parts.result.2) (sym parts.ensures.h)
-    (base-refined h flags parts.ensures.flags c.invariant.ensures.shape c.invariant.ensures.once corners active kept parts.result.2
+    let items = c.base_corners.ensures.items
+    ∙ ap (λ (v : Lists). v.items) c.requires.empty.no_corners in
+    let lists = c.base_corners.ensures.lists
+    ∙ ap (λ (g : Hierarchy). base_lists g) parts.ensures.h in
+    let bound = c.base_active.ensures.bound
+    ∙ ap (λ (v : Members). v.bound) c.requires.empty.no_nodes in
+    let nodes = subst (λ (g : Hierarchy). AreActive g no_records active.list) same
+    c.base_active.ensures.right in
+    let kept_bound =
+    c.base_kept.ensures.bound ∙ ap (λ (v : Members). v.bound) c.requires.empty.no_faces in
+    let faces = subst (λ (g : Hierarchy). AreShown g no_records kept.list) same
+    c.base_kept.ensures.right in
+    subst (λ (g : Hierarchy). IsRefinement g flags corners active kept parts.result.2)
+    (sym parts.ensures.h)
+    (base-refined h flags parts.ensures.flags c.invariant.ensures.shape c.invariant.ensures.once
+    corners active kept parts.result.2
     items lists bound nodes kept_bound faces parts.ensures.stored)

@@ -15,8 +15,11 @@ step c =
     let next_is = c.next-self-inside.ensures.value c.self.inside.head held in
     let left : rest_of_walk c.next-self-inside.result l ≡ after c.in_ok-item.item l
     = ap (λ k. rest_of_walk k l) next_is ∙ rest_next l c.in_ok-item.item
-    (c.next-self-inside.ensures.sound.once c.self.inside.head) held in
-    (next_is, sym c.self.view_is ∙ ap (λ k. rest_of_walk k l) was ∙ ap (λ k. c.in_ok-item.item ∷ k) (sym left))
+    (c.next-self-inside.ensures.sound.once c.self.inside.head) held in (
+      next_is,
+      sym c.self.view_is ∙ ap (λ k. rest_of_walk k l) was
+          ∙ ap (λ k. c.in_ok-item.item ∷ k) (sym left),
+    )
 
 pub invariant_of-self : goal.invariant_of-self
 invariant_of-self c = rw (step c).0 (held_next c.in_ok-item.item

@@ -11,7 +11,9 @@ returns-else-node-self-clause-value c =
     let low = rw (← c.self.view_is, a.heads) at c.requires in
     let inner : c.self.inside.items + c.args.head < length c.self.inside.next.items = omega arith in
     let read = get_or_read c.self.inside.next.items _ _ inner c.index-node.ensures 0 in
-    rw (← c.self.view_is) (sym (rw (le-ltb c.index-node.result.now c.self.inside.items c.if-node-self.false) at (first_read a c.args.head _ low (sym read))))
+    rw (← c.self.view_is)
+    (sym (rw (le-ltb c.index-node.result.now c.self.inside.items c.if-node-self.false) at
+    (first_read a c.args.head _ low (sym read))))
 
 pub returns-then-node-self-clause-sound : goal.returns-then-node-self-clause-sound
 returns-then-node-self-clause-sound c = rw (← c.self.view_is) (sound c.self.invariant)

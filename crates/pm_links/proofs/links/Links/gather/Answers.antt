@@ -12,8 +12,10 @@ copy_ends-requires c =
     let low : h < c.self.inside.heads = rw (← c.self.view_is, a.heads) at c.requires in
     let lists = lists_of c.self.inside.items c.self.inside.heads c.self.inside.next.items in
     let nodes = a.prev_len ∙ sym a.next_len in
-    let node_in : c.self.inside.items + h < length c.self.inside.next.items = omega (arith, a.next_len, low) in
-    let items_in : (x : ℕ) → has (get_or lists h []) x ≡ true → x < length c.self.inside.next.items =
+    let node_in : c.self.inside.items + h < length c.self.inside.next.items =
+    omega (arith, a.next_len, low) in
+    let items_in : (x : ℕ) → has (get_or lists h []) x ≡ true
+    → x < length c.self.inside.next.items =
     λ x i. omega (arith, a.in_range h x low i, a.next_len) in
     rw (c.deref.ensures.value, c.deref-2.ensures.value, walk_ring a h low)
     (nodes, (node_in, (a.linked h low, (a.once h low, (head_out a h low, items_in)))))

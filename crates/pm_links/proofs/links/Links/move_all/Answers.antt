@@ -1,4 +1,5 @@
-use Rattle.std.proofs.Common.{◌≡◌, ◌+◌, ◌<◌, [], ◌++◌, length, get_or, set, arith, refl, sym, ◌∙◌, ap}
+use Rattle.std.proofs.Common.{◌≡◌, ◌+◌, ◌<◌, [], ◌++◌, length, get_or, set, arith, refl, sym, ◌∙◌}
+use Rattle.std.proofs.Common.{ap}
 use Rattle.std.proofs.lemmas.List.{with_items_is, get_or_read}
 use Rattle.std.proofs.lemmas.Bool.{le-ltb}
 use Rattle.std.specs.Vec.{with_items}
@@ -14,7 +15,11 @@ pub move_ring-requires-clause-last_in : goal.move_ring-requires-clause-last_in
 move_ring-requires-clause-last_in c =
     let a = c.self.invariant in
     let low = rw (← c.self.view_is, a.heads) at c.requires.from_in in
-    rw (c.deref_mut-then-first-self.ensures.value, c.deref_mut-then-first-self-2.ensures.value, a.next_len) (last_node_in a c.args.from low)
+    rw (
+      c.deref_mut-then-first-self.ensures.value,
+      c.deref_mut-then-first-self-2.ensures.value,
+      a.next_len,
+    ) (last_node_in a c.args.from low)
 
 pub move_ring-requires-clause-after_in : goal.move_ring-requires-clause-after_in
 move_ring-requires-clause-after_in c =
@@ -28,8 +33,10 @@ made : (c : goal.After-self-then-first-self-2-1) → IsArena c.self.inside.items
     (with_items c.self.inside.prev c.move_ring.new.prev).items
     (with_items c.self.inside.owner c.relabel.new.owner).items
     (set (set (lists_of c.self.inside.items c.self.inside.heads c.self.inside.next.items) c.args.to
-    (get_or (lists_of c.self.inside.items c.self.inside.heads c.self.inside.next.items) c.args.from []
-    ++ get_or (lists_of c.self.inside.items c.self.inside.heads c.self.inside.next.items) c.args.to [])) c.args.from [])
+    (get_or (lists_of c.self.inside.items c.self.inside.heads c.self.inside.next.items) c.args.from
+    []
+    ++ get_or (lists_of c.self.inside.items c.self.inside.heads c.self.inside.next.items) c.args.to
+    [])) c.args.from [])
 made c =
     let a = c.self.invariant in
     let from_low = rw (← c.self.view_is, a.heads) at c.requires.from_in in
@@ -42,13 +49,18 @@ made c =
     let prev_len : length c.move_ring.new.prev ≡ c.self.inside.prev.len = omega arith in
     let owner_len : length c.relabel.new.owner ≡ c.self.inside.owner.len = omega arith in
     let next_is = with_items_is c.self.inside.next c.move_ring.new.next next_len
-    ∙ rw (c.deref_mut-then-first-self.ensures.value, c.deref_mut-then-first-self-2.ensures.value) at c.move_ring.ensures.next in
+    ∙ rw (c.deref_mut-then-first-self.ensures.value, c.deref_mut-then-first-self-2.ensures.value) at
+    c.move_ring.ensures.next in
     let prev_is = with_items_is c.self.inside.prev c.move_ring.new.prev prev_len
-    ∙ rw (c.deref_mut-then-first-self.ensures.value, c.deref_mut-then-first-self-2.ensures.value) at c.move_ring.ensures.prev in
+    ∙ rw (c.deref_mut-then-first-self.ensures.value, c.deref_mut-then-first-self-2.ensures.value) at
+    c.move_ring.ensures.prev in
     let walked = walk_list a c.args.from from_low in
     let owner_is = with_items_is c.self.inside.owner c.relabel.new.owner owner_len
-    ∙ rw (c.deref.ensures.value, c.deref_mut.ensures.value, a.owner_len, ← read, walked) at c.relabel.ensures in
-    rw (next_is, prev_is, owner_is) (moved a c.args.from c.args.to _ _ _ from_low to_low c.requires.differ (rw read c.if-first-self.true) refl refl refl)
+    ∙ rw (c.deref.ensures.value, c.deref_mut.ensures.value, a.owner_len, ← read, walked) at
+    c.relabel.ensures in
+    rw (next_is, prev_is, owner_is)
+    (moved a c.args.from c.args.to _ _ _ from_low to_low c.requires.differ
+    (rw read c.if-first-self.true) refl refl refl)
 
 pub invariant_of-self : goal.invariant_of-self
 invariant_of-self c = closed (made c)

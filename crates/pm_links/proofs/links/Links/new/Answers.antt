@@ -7,7 +7,8 @@ use Rattle.pm_links.proofs.links.Links.new.Goals as goal
 
 -- the arena as the fields are made
 made : (c : goal.In_ok-owner) → IsArena c.args.n c.args.m
-    c.in_ok-next.next.items c.in_ok-prev.prev.items c.in_ok-owner.owner.items (replicate c.args.m [])
+    c.in_ok-next.next.items c.in_ok-prev.prev.items c.in_ok-owner.owner.items
+    (replicate c.args.m [])
 made c =
     let next = c.in_ok-next.ensures {u = tt} in
     let prev = c.in_ok-prev.ensures {u = tt} in

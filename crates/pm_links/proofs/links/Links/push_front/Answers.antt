@@ -19,7 +19,9 @@ made : (c : goal.After-self-3-1) → IsArena c.self.inside.items c.self.inside.h
     (with_items c.self.inside.prev c.insert_after.new.prev).items
     (set c.self.inside.owner.items c.args.item c.args.head)
     (set (lists_of c.self.inside.items c.self.inside.heads c.self.inside.next.items) c.args.head
-    (c.args.item ∷ get_or (lists_of c.self.inside.items c.self.inside.heads c.self.inside.next.items) c.args.head []))
+    (c.args.item
+    ∷ get_or (lists_of c.self.inside.items c.self.inside.heads c.self.inside.next.items)
+    c.args.head []))
 made c =
     let a = c.self.invariant in
     let low = rw (← c.self.view_is, a.heads) at c.requires.head_in in
@@ -37,4 +39,5 @@ pub invariant_of-self : goal.invariant_of-self
 invariant_of-self c = closed (made c)
 
 pub returns : goal.returns
-returns c = rw (← c.self.view_is) (record { lists = seen (made c); sound = sound (closed (made c)) })
+returns c = rw (← c.self.view_is)
+    (record { lists = seen (made c); sound = sound (closed (made c)) })

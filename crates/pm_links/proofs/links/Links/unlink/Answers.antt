@@ -27,7 +27,8 @@ made : (c : goal.After-self-3-1) → IsArena c.self.inside.items c.self.inside.h
     (with_items c.self.inside.next c.cut_out.new.next).items
     (with_items c.self.inside.prev c.cut_out.new.prev).items
     (set c.self.inside.owner.items c.args.item FREE)
-    (map (list_without c.args.item) (lists_of c.self.inside.items c.self.inside.heads c.self.inside.next.items))
+    (map (list_without c.args.item)
+    (lists_of c.self.inside.items c.self.inside.heads c.self.inside.next.items))
 made c =
     let a = c.self.invariant in
     let held = rw (← c.self.view_is) at c.requires in
@@ -38,10 +39,12 @@ made c =
     ∙ rw (c.deref_mut.ensures.value, c.deref_mut-2.ensures.value) at c.cut_out.ensures.next in
     let prev_is = with_items_is c.self.inside.prev c.cut_out.new.prev prev_len
     ∙ rw (c.deref_mut.ensures.value, c.deref_mut-2.ensures.value) at c.cut_out.ensures.prev in
-    rw (next_is, prev_is) (unlinked a held.0 c.args.item _ _ FREE low held.1 refl refl (omega arith))
+    rw (next_is, prev_is)
+    (unlinked a held.0 c.args.item _ _ FREE low held.1 refl refl (omega arith))
 
 pub invariant_of-self : goal.invariant_of-self
 invariant_of-self c = closed (made c)
 
 pub returns : goal.returns
-returns c = rw (← c.self.view_is) (record { lists = seen (made c); sound = sound (closed (made c)) })
+returns c = rw (← c.self.view_is)
+    (record { lists = seen (made c); sound = sound (closed (made c)) })

@@ -21,10 +21,12 @@ returns c =
     let ed = offset_is _ _ _ _ n c.args.a c.offset-d.ensures.value ea eb ec in
     let xx = pair_is c.pair.result _ _ f.a f.a (search rules) c.pair.ensures fa fa ea ea in
     let xy = double_is c.double.result _ _ f.a f.b (search rules) c.double.ensures fa fb ea eb in
-    let xz = double_is c.double-2.result _ _ f.a f.c (search rules) c.double-2.ensures fa fc ea ec in
+    let xz = double_is c.double-2.result _ _ f.a f.c (search rules) c.double-2.ensures fa fc ea
+    ec in
     let x = double_is c.double-3.result _ _ f.a f.d (search rules) c.double-3.ensures fa fd ea ed in
     let yy = pair_is c.pair-2.result _ _ f.b f.b (search rules) c.pair-2.ensures fb fb eb eb in
-    let yz = double_is c.double-4.result _ _ f.b f.c (search rules) c.double-4.ensures fb fc eb ec in
+    let yz = double_is c.double-4.result _ _ f.b f.c (search rules) c.double-4.ensures fb fc eb
+    ec in
     let y = double_is c.double-5.result _ _ f.b f.d (search rules) c.double-5.ensures fb fd eb ed in
     let zz = pair_is c.pair-3.result _ _ f.c f.c (search rules) c.pair-3.ensures fc fc ec ec in
     let z = double_is c.double-6.result _ _ f.c f.d (search rules) c.double-6.ensures fc fd ec ed in

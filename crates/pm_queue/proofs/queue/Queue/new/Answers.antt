@@ -3,5 +3,6 @@ use Rattle.pm_queue.proofs.queue.Queue.new.Goals as goal
 
 pub returns : goal.returns
 returns c = record {
-  empty = rw c.in_ok-keys.ensures.items (entries_none c.args.n c.in_ok-place.place.items c.in_ok-place.ensures.len);
+  empty = rw c.in_ok-keys.ensures.items
+      (entries_none c.args.n c.in_ok-place.place.items c.in_ok-place.ensures.len);
 }

@@ -16,7 +16,8 @@ use Rattle.pm_refine.proofs.refiner.Refiner.adapt.Goals as goal
 pub decide_all-moves-requires-clause-counts : goal.decide_all-moves-requires-clause-counts
 decide_all-moves-requires-clause-counts g c =
     let idle = c.self.invariant in
-    counts_start c.args.front.now.h c.self.inside.falls.needs c.self.inside.falls.records idle.no_falls (idle.count_len ∙ c.self.view_is ∙ c.requires.records) idle.no_counts
+    counts_start c.args.front.now.h c.self.inside.falls.needs c.self.inside.falls.records
+    idle.no_falls (idle.count_len ∙ c.self.view_is ∙ c.requires.records) idle.no_counts
 
 pub advance-requires-clause-closed : goal.advance-requires-clause-closed
 advance-requires-clause-closed g c =
@@ -27,7 +28,8 @@ pub invariant_of-self : goal.invariant_of-self
 invariant_of-self g c =
     let decided = c.decide_all-moves.ensures in
     let done = c.advance.ensures in
-    let all : record_count c.args.front.now.h ≡ length c.decide_all-moves.new.marks.items = sym (decided.len ∙ c.self.view_is ∙ c.requires.records) in
+    let all : record_count c.args.front.now.h ≡ length c.decide_all-moves.new.marks.items =
+    sym (decided.len ∙ c.self.view_is ∙ c.requires.records) in
     record {
       work_len = decided.work_len ∙ c.find.ensures.start.work_len ∙ all;
       rises_len = done.rises_len ∙ decided.moves.up.len ∙ all;
@@ -37,22 +39,30 @@ invariant_of-self g c =
       no_work = decided.empty;
       no_rises = done.no_rises;
       no_falls = done.no_falls;
-      no_counts = counts_end c.args.front.now.h c.advance.new.falls.needs c.advance.new.falls.records done.no_falls done.counts;
+      no_counts = counts_end c.args.front.now.h c.advance.new.falls.needs
+          c.advance.new.falls.records done.no_falls done.counts;
     }
 
 pub returns-clause-answer : goal.returns-clause-answer
 returns-clause-answer g c =
     let h = c.args.front.now.h in
     let S = set_of c.args.front.now.flags in
-    c.adapted.ensures ∙ ap (adapted_of c.args.budget) (c.decide_all-moves.ensures.answer ∙ sym (length-plan h S (view_target h c.args.view.now)))
+    c.adapted.ensures
+    ∙ ap (adapted_of c.args.budget) (c.decide_all-moves.ensures.answer
+    ∙ sym (length-plan h S (view_target h c.args.view.now)))
 
 pub returns-clause-settled : goal.returns-clause-settled
 returns-clause-settled g c moves settled =
     let h = c.args.front.now.h in
     let S = set_of c.args.front.now.flags in
     let view = c.args.view.now in
-    let answer = c.adapted.ensures ∙ ap (adapted_of c.args.budget) (c.decide_all-moves.ensures.answer ∙ sym (length-plan h S (view_target h view))) in
-    settled_there h view S c.advance.new.front.flags c.args.budget moves (c.invariant-2.ensures.flags ∙ ap record_count c.advance.ensures.hierarchy) c.advance.ensures.moved
+    let answer =
+    c.adapted.ensures
+    ∙ ap (adapted_of c.args.budget) (c.decide_all-moves.ensures.answer
+    ∙ sym (length-plan h S (view_target h view))) in
+    settled_there h view S c.advance.new.front.flags c.args.budget moves
+    (c.invariant-2.ensures.flags ∙ ap record_count c.advance.ensures.hierarchy)
+    c.advance.ensures.moved
     (subst (λ a. a ≡ answers.Settled moves) answer settled)
 
 pub returns-clause-cost : goal.returns-clause-cost

@@ -13,10 +13,14 @@ invariant_of-result c =
       work_len = ap (λ (m : List Bool). length m) c.in_ok-work.ensures ∙ as_many;
       rises_len = ap (λ (m : List Bool). length m) c.in_ok-rises.ensures ∙ as_many;
       falls_len = ap (λ (m : List Bool). length m) c.in_ok-falls.ensures.records ∙ as_many;
-      count_len = ap (λ (m : List ℕ). length m) c.in_ok-falls.ensures.needs ∙ length-replicate n 0 ∙ sym (length-replicate n false) ∙ as_many;
+      count_len = ap (λ (m : List ℕ). length m) c.in_ok-falls.ensures.needs ∙ length-replicate n 0
+          ∙ sym (length-replicate n false) ∙ as_many;
       clear = λ j. ap (λ (m : List Bool). set_of m j) marks ∙ all_alike false n j;
       no_work = λ j. ap (λ (m : List Bool). set_of m j) c.in_ok-work.ensures ∙ all_alike false n j;
-      no_rises = λ j. ap (λ (m : List Bool). set_of m j) c.in_ok-rises.ensures ∙ all_alike false n j;
-      no_falls = λ j. ap (λ (m : List Bool). set_of m j) c.in_ok-falls.ensures.records ∙ all_alike false n j;
-      no_counts = λ j. ap (λ (m : List ℕ). get_or m j 0) c.in_ok-falls.ensures.needs ∙ all_alike {A = ℕ} 0 n j;
+      no_rises = λ j. ap (λ (m : List Bool). set_of m j) c.in_ok-rises.ensures
+          ∙ all_alike false n j;
+      no_falls = λ j. ap (λ (m : List Bool). set_of m j) c.in_ok-falls.ensures.records
+          ∙ all_alike false n j;
+      no_counts = λ j. ap (λ (m : List ℕ). get_or m j 0) c.in_ok-falls.ensures.needs
+          ∙ all_alike {A = ℕ} 0 n j;
     }

@@ -9,11 +9,19 @@ use Rattle.pm_shrink.proofs.FaceTables.{length-across_of, across_written}
 use Rattle.pm_shrink.proofs.faces.FaceTable.set_across.Goals as goal
 
 pub index_mut-requires : goal.index_mut-requires
-index_mut-requires c = omega (arith, c.requires.there, c.face.ensures, length-across_of c.self.inside.rows.items, ap (λ (t : Faces). length t.across) c.self.view_is)
+index_mut-requires c =
+    omega (
+      arith,
+      c.requires.there,
+      c.face.ensures,
+      length-across_of c.self.inside.rows.items,
+      ap (λ (t : Faces). length t.across) c.self.view_is,
+    )
 
 pub returns-clause-faces : goal.returns-clause-faces
 returns-clause-faces c =
-    map-set_same (λ (r : Row). r.corners) c.self.inside.rows.items c.face.result.0 c.set_across.new.self c.index_mut.result.now
+    map-set_same (λ (r : Row). r.corners) c.self.inside.rows.items c.face.result.0
+    c.set_across.new.self c.index_mut.result.now
     (c.set_across.ensures.corners ∙ ap (λ (r : Row). r.corners) c.index_mut.ensures.value)
     ∙ ap (λ (t : Faces). t.faces) c.self.view_is
 
@@ -22,8 +30,17 @@ returns-clause-across c =
     let rows : List Row = c.self.inside.rows.items in
     let e : ℕ = c.args.side.0 in
     let old : Row = c.index_mut.result.now in
-    let low : e < 3 * length rows = omega (arith, c.requires.there, length-across_of rows, ap (λ (t : Faces). length t.across) c.self.view_is) in
-    let value : old ≡ get_or rows (face_of e) old = c.index_mut.ensures.value ∙ ap (λ (f : ℕ). get_or rows f old) c.face.ensures in
+    let low : e < 3 * length rows =
+    omega (
+      arith,
+      c.requires.there,
+      length-across_of rows,
+      ap (λ (t : Faces). length t.across)
+          c.self.view_is,
+    ) in
+    let value : old ≡ get_or rows (face_of e) old =
+    c.index_mut.ensures.value ∙ ap (λ (f : ℕ). get_or rows f old) c.face.ensures in
     ap (λ (f : ℕ). across_of (set rows f c.set_across.new.self)) c.face.ensures
-    ∙ across_written rows e old c.set_across.new.self (side_number c.args.to) low value (c.set_across.ensures.here ∙ c.of.ensures) c.set_across.ensures.others
+    ∙ across_written rows e old c.set_across.new.self (side_number c.args.to) low value
+    (c.set_across.ensures.here ∙ c.of.ensures) c.set_across.ensures.others
     ∙ ap (λ (t : Faces). set t.across e (side_number c.args.to)) c.self.view_is

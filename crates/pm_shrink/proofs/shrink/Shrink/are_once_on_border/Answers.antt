@@ -11,6 +11,8 @@ returns c =
     let no_twice = c.invariant.ensures.kept.proper.once in
     let twice = c.are_twice_on_border.ensures in
     let result : Bool = c.are_twice_on_border.result in (
-      λ t. border_once m no_twice c.args.a c.args.b (λ x y h k. both_ways_not result (twice.1 ((x, y), (h, k))) t),
-      λ once. no_from result (λ t. let all = twice.0 t in once_border m c.args.a c.args.b once all.0.0 all.0.1 all.1.0 all.1.1),
+      λ t. border_once m no_twice c.args.a c.args.b
+          (λ x y h k. both_ways_not result (twice.1 ((x, y), (h, k))) t),
+      λ once. no_from result (λ t. let all = twice.0 t in
+          once_border m c.args.a c.args.b once all.0.0 all.0.1 all.1.0 all.1.1),
     )

@@ -7,7 +7,8 @@ use Rattle.pm_shrink.proofs.shrink.Shrink.corner_with.Goals as goal
 
 pub has_other-requires : goal.has_other-requires
 has_other-requires c =
-    (rw (c.in-Some-Some.ensures {u = tt}).steps at c.loop-from_p.invariant.stand_p) 0 0 (omega arith)
+    (rw (c.in-Some-Some.ensures {u = tt}).steps at c.loop-from_p.invariant.stand_p) 0 0
+    (omega arith)
 
 pub returns-then-has_other : goal.returns-then-has_other
 returns-then-has_other c =
@@ -18,22 +19,28 @@ returns-then-has_other c =
 
 pub to-requires : goal.to-requires
 to-requires c =
-    (rw (c.in-Some-Some.ensures' {u = tt}).steps at c.loop-from_p.invariant.stand_q) 0 0 (omega arith)
+    (rw (c.in-Some-Some.ensures' {u = tt}).steps at c.loop-from_p.invariant.stand_q) 0 0
+    (omega arith)
 
 pub third-requires : goal.third-requires
 third-requires c =
-    (rw (c.in-Some-Some.ensures' {u = tt}).steps at c.loop-from_p.invariant.stand_q) 0 0 (omega arith)
+    (rw (c.in-Some-Some.ensures' {u = tt}).steps at c.loop-from_p.invariant.stand_q) 0 0
+    (omega arith)
 
 pub next-requires-then-to-p : goal.next-requires-then-to-p
 next-requires-then-to-p c =
-    let stands : Stands (net_at c.args.self.now) c.in-Some-Some.from_q = (rw (c.in-Some-Some.ensures' {u = tt}).steps at c.loop-from_p.invariant.stand_q) 0 0 (omega arith) in
+    let stands : Stands (net_at c.args.self.now) c.in-Some-Some.from_q =
+    (rw (c.in-Some-Some.ensures' {u = tt}).steps at c.loop-from_p.invariant.stand_q) 0 0
+    (omega arith) in
     let l = stands.is_side in
     let few = c.invariant.ensures.few_sides in
     omega arith
 
 pub prev-requires : goal.prev-requires
 prev-requires c =
-    let stands : Stands (net_at c.args.self.now) c.in-Some-Some.from_q = (rw (c.in-Some-Some.ensures' {u = tt}).steps at c.loop-from_p.invariant.stand_q) 0 0 (omega arith) in
+    let stands : Stands (net_at c.args.self.now) c.in-Some-Some.from_q =
+    (rw (c.in-Some-Some.ensures' {u = tt}).steps at c.loop-from_p.invariant.stand_q) 0 0
+    (omega arith) in
     let l = stands.is_side in
     let few = c.invariant.ensures.few_sides in
     omega arith
@@ -41,16 +48,22 @@ prev-requires c =
 pub returns-then-to-p : goal.returns-then-to-p
 returns-then-to-p c =
     let m : Net = net_at c.args.self.now in
-    let stands : Stands m c.in-Some-Some.from_q = (rw (c.in-Some-Some.ensures' {u = tt}).steps at c.loop-from_p.invariant.stand_q) 0 0 (omega arith) in
+    let stands : Stands m c.in-Some-Some.from_q =
+    (rw (c.in-Some-Some.ensures' {u = tt}).steps at c.loop-from_p.invariant.stand_q) 0 0
+    (omega arith) in
     subst (λ (e : ℕ). Stands m e × (m.from e ≡ c.args.p)) (sym c.next-then-to-p.ensures.value)
     (stands_next m c.in-Some-Some.from_q stands, sym c.to.ensures ∙ c.if-to-p.true)
 
 pub returns-then-third-p : goal.returns-then-third-p
 returns-then-third-p c =
     let m : Net = net_at c.args.self.now in
-    let stands : Stands m c.in-Some-Some.from_q = (rw (c.in-Some-Some.ensures' {u = tt}).steps at c.loop-from_p.invariant.stand_q) 0 0 (omega arith) in
-    subst (λ (e : ℕ). Stands m e × (m.from e ≡ c.args.p)) (sym c.prev.ensures.value)
-    (stands_next m (next c.in-Some-Some.from_q) (stands_next m c.in-Some-Some.from_q stands), sym c.third.ensures ∙ c.if-third-p.true)
+    let stands : Stands m c.in-Some-Some.from_q =
+    (rw (c.in-Some-Some.ensures' {u = tt}).steps at c.loop-from_p.invariant.stand_q) 0 0
+    (omega arith) in
+    subst (λ (e : ℕ). Stands m e × (m.from e ≡ c.args.p)) (sym c.prev.ensures.value) (
+      stands_next m (next c.in-Some-Some.from_q) (stands_next m c.in-Some-Some.from_q stands),
+      sym c.third.ensures ∙ c.if-third-p.true,
+    )
 
 pub loop-from_p-preserved : goal.loop-from_p-preserved
 loop-from_p-preserved c =
@@ -58,7 +71,10 @@ loop-from_p-preserved c =
     let steps_p = (c.in-Some-Some.ensures {u = tt}).steps in
     let steps_q = (c.in-Some-Some.ensures' {u = tt}).steps in
     record {
-      stand_p = All-tail (Stands m) c.in-Some-Some.from_p c.next.new.self (rw steps_p at c.loop-from_p.invariant.stand_p);
-      stand_q = All-tail (Stands m) c.in-Some-Some.from_q c.next-in-loop-from_p.new.self (rw steps_q at c.loop-from_p.invariant.stand_q);
-      start_p = All-tail (λ e. m.from e ≡ c.args.p) c.in-Some-Some.from_p c.next.new.self (rw steps_p at c.loop-from_p.invariant.start_p);
+      stand_p = All-tail (Stands m) c.in-Some-Some.from_p c.next.new.self
+          (rw steps_p at c.loop-from_p.invariant.stand_p);
+      stand_q = All-tail (Stands m) c.in-Some-Some.from_q c.next-in-loop-from_p.new.self
+          (rw steps_q at c.loop-from_p.invariant.stand_q);
+      start_p = All-tail (λ e. m.from e ≡ c.args.p) c.in-Some-Some.from_p c.next.new.self
+          (rw steps_p at c.loop-from_p.invariant.start_p);
     }

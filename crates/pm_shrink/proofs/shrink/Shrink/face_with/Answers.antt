@@ -11,8 +11,10 @@ pub returns-then-has_others : goal.returns-then-has_others
 returns-then-has_others c =
     let m : Net = net_at c.args.self.now in
     let steps = (c.in-Some.ensures {u = tt}).steps in
-    let stands : Stands m c.in-Some.number = (rw steps at c.loop-number.invariant.stand) 0 0 (omega arith) in
-    let start : m.from c.in-Some.number ≡ c.args.a = (rw steps at c.loop-number.invariant.start) 0 0 (omega arith) in
+    let stands : Stands m c.in-Some.number =
+    (rw steps at c.loop-number.invariant.stand) 0 0 (omega arith) in
+    let start : m.from c.in-Some.number ≡ c.args.a =
+    (rw steps at c.loop-number.invariant.start) 0 0 (omega arith) in
     (stands, start, sym c.has_others.ensures ∙ c.if-has_others.true)
 
 pub loop-number-preserved : goal.loop-number-preserved
@@ -21,9 +23,13 @@ loop-number-preserved c =
     let fan : List ℕ = fan_at c.args.self.now c.args.a in
     let steps = (c.in-Some.ensures {u = tt}).steps in
     record {
-      left = walk_on (has_two m c.args.b c.args.c) fan c.loop-number.number-iterator c.in-Some.number c.next.new.self c.loop-number.invariant.left steps (sym c.has_others.ensures ∙ c.if-has_others.false);
-      stand = All-tail (Stands m) c.in-Some.number c.next.new.self (rw steps at c.loop-number.invariant.stand);
-      start = All-tail (λ g. m.from g ≡ c.args.a) c.in-Some.number c.next.new.self (rw steps at c.loop-number.invariant.start);
+      left = walk_on (has_two m c.args.b c.args.c) fan c.loop-number.number-iterator
+          c.in-Some.number c.next.new.self c.loop-number.invariant.left steps
+          (sym c.has_others.ensures ∙ c.if-has_others.false);
+      stand = All-tail (Stands m) c.in-Some.number c.next.new.self
+          (rw steps at c.loop-number.invariant.stand);
+      start = All-tail (λ g. m.from g ≡ c.args.a) c.in-Some.number c.next.new.self
+          (rw steps at c.loop-number.invariant.start);
     }
 
 pub returns : goal.returns
@@ -31,6 +37,8 @@ returns c =
     let m : Net = net_at c.args.self.now in
     let fan : List ℕ = fan_at c.args.self.now c.args.a in
     let items = c.corners_at-number-items.ensures in
-    let none = walk_ended (has_two m c.args.b c.args.c) fan c.loop-number.number-iterator c.loop-number.invariant.left (c.in-None.ensures {u = tt}).steps.0 in
-    let seen = seen_face m c.args.a fan (subst (AreCornersAt m c.args.a) items.corners items.each) c.args.b c.args.c in
+    let none = walk_ended (has_two m c.args.b c.args.c) fan c.loop-number.number-iterator
+    c.loop-number.invariant.left (c.in-None.ensures {u = tt}).steps.0 in
+    let seen = seen_face m c.args.a fan (subst (AreCornersAt m c.args.a) items.corners items.each)
+    c.args.b c.args.c in
     λ k. false≢true (sym none ∙ seen.1 k)

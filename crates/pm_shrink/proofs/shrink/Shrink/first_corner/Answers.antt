@@ -8,5 +8,7 @@ returns-clause-value c = search rules
 
 pub returns-clause-stands : goal.returns-clause-stands
 returns-clause-stands c =
-    let are = subst (λ (s : Shrinking). AreCornersAt (net_at s) c.args.v (fan_at s c.args.v)) c.self.view_is (c.self.invariant.kept.corners c.args.v) in
-    first_stands (net_at c.args.self.now) c.args.v (fan_at c.args.self.now c.args.v) are c.map.result (returns-clause-value c)
+    let are = subst (λ (s : Shrinking). AreCornersAt (net_at s) c.args.v (fan_at s c.args.v))
+    c.self.view_is (c.self.invariant.kept.corners c.args.v) in
+    first_stands (net_at c.args.self.now) c.args.v (fan_at c.args.self.now c.args.v) are
+    c.map.result (returns-clause-value c)

@@ -10,6 +10,8 @@ use Rattle.pm_shrink.proofs.shrink.Shrink.have_common_thirds.Goals as goal
 pub returns : goal.returns
 returns c =
     let m : Net = net_at c.args.self.now in
-    let seen = none_iff c.stray.result (HaveCommonThirds m c.args.a c.args.b) (λ e. Stands m e.0 × Strays m c.args.a c.args.b (m.from e.0)) c.stray.ensures (λ e x. strays_uncommon m c.args.a c.args.b (m.from e.0) x.1) in
+    let seen = none_iff c.stray.result (HaveCommonThirds m c.args.a c.args.b) (λ e. Stands m e.0
+    × Strays m c.args.a c.args.b (m.from e.0)) c.stray.ensures
+    (λ e x. strays_uncommon m c.args.a c.args.b (m.from e.0) x.1) in
     let test = none_is c.stray.result c.is_none.result c.is_none.ensures in
     (λ t. seen.0 (sym test ∙ t), λ k. test ∙ seen.1 k)

@@ -7,4 +7,5 @@ use Rattle.pm_shrink.proofs.shrink.Shrink.is_border_corner.Goals as goal
 pub is_border_side-requires-else-is_border_side : goal.is_border_side-requires-else-is_border_side
 is_border_side-requires-else-is_border_side c =
     let m = net_at c.args.self.now in
-    subst (Stands m) (sym c.prev.ensures.value) (stands_next m (next c.args.corner.0) (stands_next m c.args.corner.0 c.requires))
+    subst (Stands m) (sym c.prev.ensures.value)
+    (stands_next m (next c.args.corner.0) (stands_next m c.args.corner.0 c.requires))

@@ -9,5 +9,6 @@ pub returns-in-Some : goal.returns-in-Some
 returns-in-Some c =
     let m : Net = net_at c.args.self.now in
     let e : ℕ = c.args.corner.0 in
-    let at = subst (λ (o : Option ℕ). IfSome o (λ v. Stands m e × (m.from e ≡ v))) c.in-Some.is c.vertex_of.ensures in
+    let at = subst (λ (o : Option ℕ). IfSome o (λ v. Stands m e × (m.from e ≡ v))) c.in-Some.is
+    c.vertex_of.ensures in
     λ t. (at.0, at.1 ∙ eqb-true c.in-Some.w c.args.v t)

@@ -8,6 +8,7 @@ use Rattle.pm_shrink.proofs.shrink.Shrink.is_joined_at.Given as goal
 -- What is left to see decides.
 abbrev pub invariant-loop-number : goal.invariant-loop-number
 invariant-loop-number l = record {
-  left : list_any (holds_vertex (net_at l.self) l.w) (fan_at l.self l.v) ≡ list_any (holds_vertex (net_at l.self) l.w) l.number-iterator;
+  left : list_any (holds_vertex (net_at l.self) l.w) (fan_at l.self l.v)
+      ≡ list_any (holds_vertex (net_at l.self) l.w) l.number-iterator;
   stand : All (Stands (net_at l.self)) l.number-iterator;
 }

@@ -7,26 +7,44 @@ use Rattle.pm_shrink.specs.Shrinking.{net_at, fan_at, AreCornersAt}
 use Rattle.pm_shrink.specs.Walks.{holds_vertex}
 use Rattle.pm_shrink.proofs.FanLaws.{walk_on, walk_found, walk_ended, seen_joined}
 use Rattle.pm_shrink.proofs.shrink.Shrink.is_joined_at_either.Goals as goal
-use Rattle.pm_shrink.proofs.shrink.Shrink.is_joined_at_either.Goals.{then-has_other-via-then-has_other, then-has_other-via-else-has_other+then-has_other-2}
+use Rattle.pm_shrink.proofs.shrink.Shrink.is_joined_at_either.Goals.{then-has_other-via-then-has_other}
+use Rattle.pm_shrink.proofs.shrink.Shrink.is_joined_at_either.Goals.{then-has_other-via-else-has_other+then-has_other-2}
 
 pub has_other-requires : goal.has_other-requires
 has_other-requires c =
-    (rw (c.in-Some-Some.ensures {u = tt}).steps at c.loop-from_v.invariant.stand_v) 0 0 (omega arith)
+    (rw (c.in-Some-Some.ensures {u = tt}).steps at c.loop-from_v.invariant.stand_v) 0 0
+    (omega arith)
 
 pub has_other-requires-else-has_other : goal.has_other-requires-else-has_other
 has_other-requires-else-has_other c =
-    (rw (c.in-Some-Some.ensures' {u = tt}).steps at c.loop-from_v.invariant.stand_w) 0 0 (omega arith)
+    (rw (c.in-Some-Some.ensures' {u = tt}).steps at c.loop-from_v.invariant.stand_w) 0 0
+    (omega arith)
 
 pub returns-then-has_other : goal.returns-then-has_other
 returns-then-has_other c =
     let m : Net = net_at c.args.self.now in
     let v = c.corners_at-at_v.ensures in
     let w = c.corners_at-at_w.ensures in
-    let here = seen_joined m c.args.v (fan_at c.args.self.now c.args.v) (subst (AreCornersAt m c.args.v) v.corners v.each) c.args.w in
-    let there = seen_joined m c.args.w (fan_at c.args.self.now c.args.w) (subst (AreCornersAt m c.args.w) w.corners w.each) c.args.v in
+    let here = seen_joined m c.args.v (fan_at c.args.self.now c.args.v)
+    (subst (AreCornersAt m c.args.v) v.corners v.each) c.args.w in
+    let there = seen_joined m c.args.w (fan_at c.args.self.now c.args.w)
+    (subst (AreCornersAt m c.args.w) w.corners w.each) c.args.v in
     elim c.then-has_other.branch [
-      | then-has_other-via-then-has_other x ↦ (λ t. here.0 (walk_found (holds_vertex m c.args.w) (fan_at c.args.self.now c.args.v) c.loop-from_v.at_v c.in-Some-Some.from_v c.next.new.self c.loop-from_v.invariant.left_v (c.in-Some-Some.ensures {u = tt}).steps (sym c.has_other.ensures ∙ x.if-has_other.true)), λ k. λ i. true)
-      | then-has_other-via-else-has_other+then-has_other-2 x ↦ (λ t. joined-turned m c.args.w c.args.v (there.0 (walk_found (holds_vertex m c.args.v) (fan_at c.args.self.now c.args.w) c.loop-from_v.at_w c.in-Some-Some.from_w c.next-in-loop-from_v.new.self c.loop-from_v.invariant.left_w (c.in-Some-Some.ensures' {u = tt}).steps (sym x.has_other-else-has_other.ensures ∙ x.if-has_other-2.true))), λ k. λ i. true)
+      | then-has_other-via-then-has_other x ↦ (
+        λ t. here.0 (walk_found (holds_vertex m c.args.w) (fan_at c.args.self.now c.args.v)
+            c.loop-from_v.at_v c.in-Some-Some.from_v c.next.new.self c.loop-from_v.invariant.left_v
+            (c.in-Some-Some.ensures {u = tt}).steps (sym c.has_other.ensures
+            ∙ x.if-has_other.true)),
+        λ k. λ i. true,
+      )
+      | then-has_other-via-else-has_other+then-has_other-2 x ↦ (
+        λ t. joined-turned m c.args.w c.args.v
+            (there.0 (walk_found (holds_vertex m c.args.v) (fan_at c.args.self.now c.args.w)
+            c.loop-from_v.at_w c.in-Some-Some.from_w c.next-in-loop-from_v.new.self
+            c.loop-from_v.invariant.left_w (c.in-Some-Some.ensures' {u = tt}).steps
+            (sym x.has_other-else-has_other.ensures ∙ x.if-has_other-2.true))),
+        λ k. λ i. true,
+      )
     ]
 
 pub loop-from_v-preserved : goal.loop-from_v-preserved
@@ -35,10 +53,17 @@ loop-from_v-preserved c =
     let steps_v = (c.in-Some-Some.ensures {u = tt}).steps in
     let steps_w = (c.in-Some-Some.ensures' {u = tt}).steps in
     record {
-      left_v = walk_on (holds_vertex m c.args.w) (fan_at c.args.self.now c.args.v) c.loop-from_v.at_v c.in-Some-Some.from_v c.next.new.self c.loop-from_v.invariant.left_v steps_v (sym c.has_other.ensures ∙ c.if-has_other.false);
-      left_w = walk_on (holds_vertex m c.args.v) (fan_at c.args.self.now c.args.w) c.loop-from_v.at_w c.in-Some-Some.from_w c.next-in-loop-from_v.new.self c.loop-from_v.invariant.left_w steps_w (sym c.has_other-else-has_other.ensures ∙ c.if-has_other-2.false);
-      stand_v = All-tail (Stands m) c.in-Some-Some.from_v c.next.new.self (rw steps_v at c.loop-from_v.invariant.stand_v);
-      stand_w = All-tail (Stands m) c.in-Some-Some.from_w c.next-in-loop-from_v.new.self (rw steps_w at c.loop-from_v.invariant.stand_w);
+      left_v = walk_on (holds_vertex m c.args.w) (fan_at c.args.self.now c.args.v)
+          c.loop-from_v.at_v c.in-Some-Some.from_v c.next.new.self c.loop-from_v.invariant.left_v
+          steps_v (sym c.has_other.ensures ∙ c.if-has_other.false);
+      left_w = walk_on (holds_vertex m c.args.v) (fan_at c.args.self.now c.args.w)
+          c.loop-from_v.at_w c.in-Some-Some.from_w c.next-in-loop-from_v.new.self
+          c.loop-from_v.invariant.left_w steps_w (sym c.has_other-else-has_other.ensures
+          ∙ c.if-has_other-2.false);
+      stand_v = All-tail (Stands m) c.in-Some-Some.from_v c.next.new.self
+          (rw steps_v at c.loop-from_v.invariant.stand_v);
+      stand_w = All-tail (Stands m) c.in-Some-Some.from_w c.next-in-loop-from_v.new.self
+          (rw steps_w at c.loop-from_v.invariant.stand_w);
     }
 
 -- The corners at w have all been seen,
@@ -46,8 +71,11 @@ pub returns-in_default : goal.returns-in_default
 returns-in_default c =
     let m : Net = net_at c.args.self.now in
     let w = c.corners_at-at_w.ensures in
-    let none = walk_ended (holds_vertex m c.args.v) (fan_at c.args.self.now c.args.w) c.loop-from_v.at_w c.loop-from_v.invariant.left_w (c.in_default.ensures' {u = tt}).steps.0 in
-    let seen = seen_joined m c.args.w (fan_at c.args.self.now c.args.w) (subst (AreCornersAt m c.args.w) w.corners w.each) c.args.v in
+    let none = walk_ended (holds_vertex m c.args.v) (fan_at c.args.self.now c.args.w)
+    c.loop-from_v.at_w c.loop-from_v.invariant.left_w
+    (c.in_default.ensures' {u = tt}).steps.0 in
+    let seen = seen_joined m c.args.w (fan_at c.args.self.now c.args.w)
+    (subst (AreCornersAt m c.args.w) w.corners w.each) c.args.v in
     (λ t. absurd (false≢true t), λ k. sym none ∙ seen.1 (joined-turned m c.args.v c.args.w k))
 
 -- or those at v.
@@ -55,6 +83,9 @@ pub returns-in_default-2 : goal.returns-in_default-2
 returns-in_default-2 c =
     let m : Net = net_at c.args.self.now in
     let v = c.corners_at-at_v.ensures in
-    let none = walk_ended (holds_vertex m c.args.w) (fan_at c.args.self.now c.args.v) c.loop-from_v.at_v c.loop-from_v.invariant.left_v (rw c.in_default.is-0 at c.next.ensures.steps).0 in
-    let seen = seen_joined m c.args.v (fan_at c.args.self.now c.args.v) (subst (AreCornersAt m c.args.v) v.corners v.each) c.args.w in
+    let none = walk_ended (holds_vertex m c.args.w) (fan_at c.args.self.now c.args.v)
+    c.loop-from_v.at_v c.loop-from_v.invariant.left_v
+    (rw c.in_default.is-0 at c.next.ensures.steps).0 in
+    let seen = seen_joined m c.args.v (fan_at c.args.self.now c.args.v)
+    (subst (AreCornersAt m c.args.v) v.corners v.each) c.args.w in
     (λ t. absurd (false≢true t), λ k. sym none ∙ seen.1 k)

@@ -8,8 +8,10 @@ use Rattle.pm_shrink.proofs.shrink.Shrink.is_joined_at_either.Given as goal
 -- What is left to see at either vertex decides.
 abbrev pub invariant-loop-from_v : goal.invariant-loop-from_v
 invariant-loop-from_v l = record {
-  left_v : list_any (holds_vertex (net_at l.self) l.w) (fan_at l.self l.v) ≡ list_any (holds_vertex (net_at l.self) l.w) l.at_v;
-  left_w : list_any (holds_vertex (net_at l.self) l.v) (fan_at l.self l.w) ≡ list_any (holds_vertex (net_at l.self) l.v) l.at_w;
+  left_v : list_any (holds_vertex (net_at l.self) l.w) (fan_at l.self l.v)
+      ≡ list_any (holds_vertex (net_at l.self) l.w) l.at_v;
+  left_w : list_any (holds_vertex (net_at l.self) l.v) (fan_at l.self l.w)
+      ≡ list_any (holds_vertex (net_at l.self) l.v) l.at_w;
   stand_v : All (Stands (net_at l.self)) l.at_v;
   stand_w : All (Stands (net_at l.self)) l.at_w;
 }

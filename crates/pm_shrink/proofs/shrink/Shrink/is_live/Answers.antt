@@ -7,4 +7,8 @@ use Rattle.pm_shrink.proofs.shrink.Shrink.is_live.Goals as goal
 pub returns-then-v-len : goal.returns-then-v-len
 returns-then-v-len c =
     rw (← c.self.view_is)
-    (c.is_some.ensures ∙ ap is_some (c.index.ensures ∙ get_or_default c.self.inside.places.items c.args.v c.index.result.now None (omega arith) ∙ sym (place_read c.self.inside.places.items c.self.inside.next c.args.v c.self.invariant.roomy.fresh)))
+    (c.is_some.ensures
+    ∙ ap is_some (c.index.ensures
+    ∙ get_or_default c.self.inside.places.items c.args.v c.index.result.now None (omega arith)
+    ∙ sym (place_read c.self.inside.places.items c.self.inside.next c.args.v
+    c.self.invariant.roomy.fresh)))

@@ -12,8 +12,11 @@ returns-then-is_border_corner c =
     let m : Net = net_at c.args.self.now in
     let fan : List ℕ = fan_at c.args.self.now c.args.v in
     let items = c.corners_at-number-items.ensures in
-    let found = walk_found (is_open_corner m) fan c.loop-number.number-iterator c.in-Some.number c.next.new.self c.loop-number.invariant.left (c.in-Some.ensures {u = tt}).steps (sym c.is_border_corner.ensures ∙ c.if-is_border_corner.true) in
-    let seen = seen_border m c.args.v fan (subst (AreCornersAt m c.args.v) items.corners items.each) in
+    let found = walk_found (is_open_corner m) fan c.loop-number.number-iterator c.in-Some.number
+    c.next.new.self c.loop-number.invariant.left (c.in-Some.ensures {u = tt}).steps
+    (sym c.is_border_corner.ensures ∙ c.if-is_border_corner.true) in
+    let seen = seen_border m c.args.v fan (subst (AreCornersAt m c.args.v) items.corners items.each)
+    in
     (λ t. seen.0 found, λ k. λ i. true)
 
 pub loop-number-preserved : goal.loop-number-preserved
@@ -22,8 +25,11 @@ loop-number-preserved c =
     let fan : List ℕ = fan_at c.args.self.now c.args.v in
     let steps = (c.in-Some.ensures {u = tt}).steps in
     record {
-      left = walk_on (is_open_corner m) fan c.loop-number.number-iterator c.in-Some.number c.next.new.self c.loop-number.invariant.left steps (sym c.is_border_corner.ensures ∙ c.if-is_border_corner.false);
-      stand = All-tail (Stands m) c.in-Some.number c.next.new.self (rw steps at c.loop-number.invariant.stand);
+      left = walk_on (is_open_corner m) fan c.loop-number.number-iterator c.in-Some.number
+          c.next.new.self c.loop-number.invariant.left steps (sym c.is_border_corner.ensures
+          ∙ c.if-is_border_corner.false);
+      stand = All-tail (Stands m) c.in-Some.number c.next.new.self
+          (rw steps at c.loop-number.invariant.stand);
     }
 
 pub returns : goal.returns
@@ -31,6 +37,8 @@ returns c =
     let m : Net = net_at c.args.self.now in
     let fan : List ℕ = fan_at c.args.self.now c.args.v in
     let items = c.corners_at-number-items.ensures in
-    let none = walk_ended (is_open_corner m) fan c.loop-number.number-iterator c.loop-number.invariant.left (c.in-None.ensures {u = tt}).steps.0 in
-    let seen = seen_border m c.args.v fan (subst (AreCornersAt m c.args.v) items.corners items.each) in
+    let none = walk_ended (is_open_corner m) fan c.loop-number.number-iterator
+    c.loop-number.invariant.left (c.in-None.ensures {u = tt}).steps.0 in
+    let seen = seen_border m c.args.v fan (subst (AreCornersAt m c.args.v) items.corners items.each)
+    in
     (λ t. absurd (false≢true t), λ k. sym none ∙ seen.1 k)

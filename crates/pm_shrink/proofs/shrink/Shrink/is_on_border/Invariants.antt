@@ -8,6 +8,7 @@ use Rattle.pm_shrink.proofs.shrink.Shrink.is_on_border.Given as goal
 -- What is left to see decides.
 abbrev pub invariant-loop-number : goal.invariant-loop-number
 invariant-loop-number l = record {
-  left : list_any (is_open_corner (net_at l.self)) (fan_at l.self l.v) ≡ list_any (is_open_corner (net_at l.self)) l.number-iterator;
+  left : list_any (is_open_corner (net_at l.self)) (fan_at l.self l.v)
+      ≡ list_any (is_open_corner (net_at l.self)) l.number-iterator;
   stand : All (Stands (net_at l.self)) l.number-iterator;
 }

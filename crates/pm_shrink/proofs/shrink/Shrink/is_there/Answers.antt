@@ -6,6 +6,8 @@ use Rattle.pm_shrink.proofs.shrink.Shrink.is_there.Goals as goal
 
 pub returns : goal.returns
 returns c =
-    let heads = subst (λ (s : Shrinking). (v : ℕ) → (c.head_of.result ≡ Some v) ↔ (has (fan_at s v) c.args.side.0 ≡ true)) c.self.view_is c.head_of.ensures.value in
-    let at = held_stands (net_at c.args.self.now) (fan_at c.args.self.now) c.args.side.0 c.invariant.ensures.kept.corners c.head_of.result heads in
+    let heads = subst (λ (s : Shrinking). (v : ℕ) → (c.head_of.result ≡ Some v)
+    ↔ (has (fan_at s v) c.args.side.0 ≡ true)) c.self.view_is c.head_of.ensures.value in
+    let at = held_stands (net_at c.args.self.now) (fan_at c.args.self.now) c.args.side.0
+    c.invariant.ensures.kept.corners c.head_of.result heads in
     (λ yes. at.0 (sym c.is_some.ensures ∙ yes), λ st. c.is_some.ensures ∙ at.1 st)

@@ -17,13 +17,18 @@ pub returns-clause-value : goal.returns-clause-value
 returns-clause-value c =
     let stands = rw (← c.self.view_is) at c.requires in
     let v : ℕ = side_from c.self.inside.faces.faces c.args.corner.0 in
-    let is = c.next.ensures.value v (((c.self.invariant.kept.corners v).each c.args.corner.0).1 (stands, refl)) in
+    let is = c.next.ensures.value v
+    (((c.self.invariant.kept.corners v).each c.args.corner.0).1 (stands, refl)) in
     let same : option_map (λ (k : Side). k.0) c.map.result ≡ c.next.result = search rules in
-    subst (λ (s : Shrinking). option_map (λ (k : Side). k.0) c.map.result ≡ first_of (after c.args.corner.0 (fan_at s ((net_at s).from c.args.corner.0)))) c.self.view_is
+    subst (λ (s : Shrinking). option_map (λ (k : Side). k.0) c.map.result
+    ≡ first_of (after c.args.corner.0 (fan_at s ((net_at s).from c.args.corner.0))))
+    c.self.view_is
     (same ∙ is)
 
 pub returns-clause-stands : goal.returns-clause-stands
 returns-clause-stands c =
     let v : ℕ = (net_at c.args.self.now).from c.args.corner.0 in
-    let are = subst (λ (s : Shrinking). AreCornersAt (net_at s) v (fan_at s v)) c.self.view_is (c.self.invariant.kept.corners v) in
-    next_stands (net_at c.args.self.now) v c.args.corner.0 (fan_at c.args.self.now v) are c.map.result (returns-clause-value c)
+    let are = subst (λ (s : Shrinking). AreCornersAt (net_at s) v (fan_at s v)) c.self.view_is
+    (c.self.invariant.kept.corners v) in
+    next_stands (net_at c.args.self.now) v c.args.corner.0 (fan_at c.args.self.now v) are
+    c.map.result (returns-clause-value c)

@@ -7,4 +7,5 @@ use Rattle.pm_shrink.proofs.shrink.Shrink.third.Goals as goal
 pub from-requires : goal.from-requires
 from-requires c =
     let m : Net = net_at c.args.self.now in
-    subst (Stands m) (sym c.prev.ensures.value) (stands_next m (next c.args.side.0) (stands_next m c.args.side.0 c.requires))
+    subst (Stands m) (sym c.prev.ensures.value)
+    (stands_next m (next c.args.side.0) (stands_next m c.args.side.0 c.requires))

@@ -12,7 +12,8 @@ returns-then-turns_over c =
     let steps = (c.in-Some.ensures {u = tt}).steps in
     let e : ℕ = c.in-Some.number in
     let stands : Stands m e = (rw steps at c.loop-number.invariant.stand) 0 0 (omega arith) in
-    let start : m.from e ≡ c.args.p = (rw steps at c.loop-number.invariant.start) 0 0 (omega arith) in
+    let start : m.from e ≡ c.args.p =
+    (rw steps at c.loop-number.invariant.start) 0 0 (omega arith) in
     (stands, start, c.turns_over.ensures.yes c.if-turns_over.true)
 
 pub loop-number-preserved : goal.loop-number-preserved
@@ -22,9 +23,12 @@ loop-number-preserved c =
     let steps = (c.in-Some.ensures {u = tt}).steps in
     let e : ℕ = c.in-Some.number in
     record {
-      passed = so_far_more (KeepsUpright c.args.self.now.surface c.args.q c.args.place) fan c.loop-number.number-iterator e c.next.new.self c.loop-number.invariant.passed steps (c.turns_over.ensures.no c.if-turns_over.false);
+      passed = so_far_more (KeepsUpright c.args.self.now.surface c.args.q c.args.place) fan
+          c.loop-number.number-iterator e c.next.new.self c.loop-number.invariant.passed steps
+          (c.turns_over.ensures.no c.if-turns_over.false);
       stand = All-tail (Stands m) e c.next.new.self (rw steps at c.loop-number.invariant.stand);
-      start = All-tail (λ g. m.from g ≡ c.args.p) e c.next.new.self (rw steps at c.loop-number.invariant.start);
+      start = All-tail (λ g. m.from g ≡ c.args.p) e c.next.new.self
+          (rw steps at c.loop-number.invariant.start);
     }
 
 pub returns : goal.returns
@@ -33,8 +37,12 @@ returns c =
     let fan : List ℕ = fan_at c.args.self.now c.args.p in
     let items = c.corners_at-number-items.ensures in
     let are = subst (AreCornersAt m c.args.p) items.corners items.each in
-    let all = so_far_all (KeepsUpright c.args.self.now.surface c.args.q c.args.place) fan c.loop-number.number-iterator c.loop-number.invariant.passed (c.in-None.ensures {u = tt}).steps.0 in
+    let all = so_far_all (KeepsUpright c.args.self.now.surface c.args.q c.args.place) fan
+    c.loop-number.number-iterator c.loop-number.invariant.passed
+    (c.in-None.ensures {u = tt}).steps.0 in
     all_upright c.args.self.now.surface c.args.p c.args.q c.args.place fan are all
 
 pub returns-then-eq : goal.returns-then-eq
-returns-then-eq c = own_upright c.args.self.now.surface c.args.p c.args.q c.args.place (same_place c.args.place c.place.result (sym c.eq.ensures ∙ c.if-eq.true) ∙ c.place.ensures)
+returns-then-eq c =
+    own_upright c.args.self.now.surface c.args.p c.args.q c.args.place
+    (same_place c.args.place c.place.result (sym c.eq.ensures ∙ c.if-eq.true) ∙ c.place.ensures)

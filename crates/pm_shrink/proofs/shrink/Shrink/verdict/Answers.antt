@@ -12,7 +12,9 @@ returns-else-are_twice_on_border c =
     record {
       joined = c.requires.joined;
       common = parts.0.0;
-      border = border_once m c.invariant.ensures.kept.proper.once c.args.a c.args.b (λ x y h k. false≢true (sym c.if-are_twice_on_border.false ∙ c.are_twice_on_border.ensures.1 ((x, y), (h, k))));
+      border = border_once m c.invariant.ensures.kept.proper.once c.args.a c.args.b
+          (λ x y h k. false≢true (sym c.if-are_twice_on_border.false
+          ∙ c.are_twice_on_border.ensures.1 ((x, y), (h, k))));
       triangles = parts.0.1;
       single = parts.1.0;
       upright = parts.1.1;

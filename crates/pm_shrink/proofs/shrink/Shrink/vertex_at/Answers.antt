@@ -7,5 +7,6 @@ use Rattle.pm_shrink.proofs.shrink.Shrink.vertex_at.Goals as goal
 
 pub from-requires : goal.from-requires
 from-requires c =
-    subst (λ (s : Shrinking). is_some (slice_index_or s.surface.faces (face_of c.args.corner.0) None) ≡ true) (sym c.self.view_is)
+    subst (λ (s : Shrinking). is_some
+    (slice_index_or s.surface.faces (face_of c.args.corner.0) None) ≡ true) (sym c.self.view_is)
     (ap is_some (stands_face c.args.self.now.surface c.args.corner.0 c.requires))

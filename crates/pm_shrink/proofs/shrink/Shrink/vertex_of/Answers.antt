@@ -6,5 +6,7 @@ use Rattle.pm_shrink.proofs.shrink.Shrink.vertex_of.Goals as goal
 
 pub returns : goal.returns
 returns c =
-    let heads = subst (λ (s : Shrinking). (v : ℕ) → (c.head_of.result ≡ Some v) ↔ (has (fan_at s v) c.args.corner.0 ≡ true)) c.self.view_is c.head_of.ensures.value in
-    held_at (net_at c.args.self.now) (fan_at c.args.self.now) c.args.corner.0 c.invariant.ensures.kept.corners c.head_of.result heads
+    let heads = subst (λ (s : Shrinking). (v : ℕ) → (c.head_of.result ≡ Some v)
+    ↔ (has (fan_at s v) c.args.corner.0 ≡ true)) c.self.view_is c.head_of.ensures.value in
+    held_at (net_at c.args.self.now) (fan_at c.args.self.now) c.args.corner.0
+    c.invariant.ensures.kept.corners c.head_of.result heads

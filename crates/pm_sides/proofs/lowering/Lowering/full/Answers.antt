@@ -10,6 +10,11 @@ invariant_of-result c =
     let flags = c.in_ok-split.split.items in
     let table = c.full-table.result in
     let all_set : flags ≡ replicate c.records-left.result true = search rules in
-    let all : flags ≡ replicate (record_count h) true = all_set ∙ ap (λ n. replicate n true) c.records-left.ensures.value in
-    let begins = lowering-begins h c.invariant.ensures c.requires.once flags table all c.full-table.ensures in
-    subst (λ (g : Hierarchy). IsLowering g flags table c.records-left.result) (sym (c.in_ok-indexed.ensures {u = tt})) (subst (IsLowering h flags table) (sym c.records-left.ensures.value) begins)
+    let all : flags ≡ replicate (record_count h) true =
+    all_set ∙ ap (λ n. replicate n true) c.records-left.ensures.value in
+    let begins =
+    lowering-begins h c.invariant.ensures c.requires.once flags table all
+    c.full-table.ensures in
+    subst (λ (g : Hierarchy). IsLowering g flags table c.records-left.result)
+    (sym (c.in_ok-indexed.ensures {u = tt}))
+    (subst (IsLowering h flags table) (sym c.records-left.ensures.value) begins)

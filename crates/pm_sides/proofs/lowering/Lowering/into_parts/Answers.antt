@@ -10,10 +10,12 @@ pub returns-clause-flags : goal.returns-clause-flags
 returns-clause-flags c =
     let i = c.self.inside in
     let none = ap (λ (o : Lowered). o.left) c.self.view_is ∙ c.requires in
-    lowered-flags i.indexed i.split.items i.table i.left c.self.invariant none ∙ ap (λ (o : Lowered). replicate (record_count o.h) false) c.self.view_is
+    lowered-flags i.indexed i.split.items i.table i.left c.self.invariant none
+    ∙ ap (λ (o : Lowered). replicate (record_count o.h) false) c.self.view_is
 
 pub returns-clause-stored : goal.returns-clause-stored
 returns-clause-stored c =
     let i = c.self.inside in
     let none = ap (λ (o : Lowered). o.left) c.self.view_is ∙ c.requires in
-    subst (λ (o : Lowered). AreStored o.h no_records i.table) c.self.view_is (lowered-stored i.indexed i.split.items i.table i.left c.self.invariant none)
+    subst (λ (o : Lowered). AreStored o.h no_records i.table) c.self.view_is
+    (lowered-stored i.indexed i.split.items i.table i.left c.self.invariant none)

@@ -6,4 +6,5 @@ use Rattle.pm_sides.proofs.lowering.Lowering.invariant.Goals as goal
 
 pub returns-clause-rules : goal.returns-clause-rules
 returns-clause-rules c =
-    subst (λ (o : Lowered). (k : ℕ) → o.left ≤ k → k < record_count o.h → IsAsTold o.h k) c.self.view_is c.self.invariant.lowered.told
+    subst (λ (o : Lowered). (k : ℕ) → o.left ≤ k → k < record_count o.h → IsAsTold o.h k)
+    c.self.view_is c.self.invariant.lowered.told

@@ -11,4 +11,5 @@ returns c =
     let h = c.args.h.now in
     let twins = c.requires.twins in
     subst (AreStored h every) (sym c.into_sides.ensures)
-    (full-stored h c.args.twins.twins twins.sides twins.each (full h (shape_is_forest h c.invariant.ensures) c.requires.once))
+    (full-stored h c.args.twins.twins twins.sides twins.each
+    (full h (shape_is_forest h c.invariant.ensures) c.requires.once))

@@ -10,7 +10,8 @@ returns-then-is_barred c = λ on.
     let s = c.args.shrink.now in
     let p = c.vertex_at.result in
     let q = c.vertex_at-then-is_barred.result in
-    let made = c.note-then-is_barred.ensures ∙ ap (λ (f : List Bool). slice_set f q true) c.note.ensures in
+    let made = c.note-then-is_barred.ensures
+    ∙ ap (λ (f : List Bool). slice_set f q true) c.note.ensures in
     subst (AreOnBorder s.surface) (sym made)
     (noted_ends s.surface c.args.self.now c.args.side.0 p q c.invariant.ensures.kept.surface
     c.requires c.vertex_at.ensures

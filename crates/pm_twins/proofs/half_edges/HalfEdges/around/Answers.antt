@@ -10,14 +10,22 @@ prev-requires c = omega (arith, ap length c.self.view_is, c.self.invariant.short
 pub get-requires : goal.get-requires
 get-requires c =
     let n = length c.args.self.now in
-    omega (arith, ap length c.self.view_is, c.self.invariant.twins.sides, next-lt n (next c.args.side.0) (next-lt n c.args.side.0 c.requires), c.prev.ensures.value)
+    omega (
+      arith,
+      ap length c.self.view_is,
+      c.self.invariant.twins.sides,
+      next-lt n (next c.args.side.0) (next-lt n c.args.side.0 c.requires),
+      c.prev.ensures.value,
+    )
 
 pub returns : goal.returns
 unfolding around
 returns c =
     let n = length c.args.self.now in
-    let before : prev c.args.side.0 < 3 * n = next-lt n (next c.args.side.0) (next-lt n c.args.side.0 c.requires) in
-    let inside : prev c.args.side.0 < 3 * length c.self.inside.faces.now = omega (arith, ap length c.self.view_is) in
+    let before : prev c.args.side.0 < 3 * n =
+    next-lt n (next c.args.side.0) (next-lt n c.args.side.0 c.requires) in
+    let inside : prev c.args.side.0 < 3 * length c.self.inside.faces.now =
+    omega (arith, ap length c.self.view_is) in
     c.get.ensures
     ∙ ap (λ (i : ℕ). slice_index_or c.self.inside.twins.now i None) c.prev.ensures.value
     ∙ c.self.invariant.twins.each (prev c.args.side.0) inside

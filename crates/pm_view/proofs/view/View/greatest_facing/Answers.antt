@@ -24,5 +24,20 @@ returns c error deviation =
     let ex : FitsSigned w32 c.self.inside.ex = search rules in
     let ey : FitsSigned w32 c.self.inside.ey = search rules in
     let ez : FitsSigned w32 c.self.inside.ez = search rules in
-    simp to_z-of_z (subst (λ (v : View). c.add_three.result ≡ greatest_facing (record { place = c.args.place; error = error; deviation = deviation; radius = c.args.radius; box = c.args.normals }) v.eye) c.self.view_is
-    (rw c.add_three.ensures (simp to_z-of_z (rw (c.greatest_on_axis-x.ensures.value, c.greatest_on_axis-y.ensures.value, c.greatest_on_axis-z.ensures.value) (simp to_z-of_z (rw (c.x.ensures.value, c.y.ensures.value, c.z.ensures.value) refl))))))
+    simp to_z-of_z
+    (subst (λ (v : View). c.add_three.result
+    ≡ greatest_facing (record {
+      place = c.args.place;
+      error = error;
+      deviation = deviation;
+      radius = c.args.radius;
+      box = c.args.normals;
+    }) v.eye) c.self.view_is
+    (rw c.add_three.ensures
+    (simp to_z-of_z
+    (rw (
+      c.greatest_on_axis-x.ensures.value,
+      c.greatest_on_axis-y.ensures.value,
+      c.greatest_on_axis-z.ensures.value,
+    )
+    (simp to_z-of_z (rw (c.x.ensures.value, c.y.ensures.value, c.z.ensures.value) refl))))))

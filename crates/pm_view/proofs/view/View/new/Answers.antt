@@ -9,11 +9,16 @@ pub invariant_of-result : goal.invariant_of-result
 invariant_of-result c =
     let with : List Plane → View = λ planes. record {
       measure = measures.Error;
-      eye = record { x = to_z w32 (of_z w32 c.args.ex); y = to_z w32 (of_z w32 c.args.ey); z = to_z w32 (of_z w32 c.args.ez) };
+      eye = record {
+        x = to_z w32 (of_z w32 c.args.ex);
+        y = to_z w32 (of_z w32 c.args.ey);
+        z = to_z w32 (of_z w32 c.args.ez);
+      };
       focal = c.args.focal;
       tol = c.args.tol;
       sil = c.args.sil;
       planes = planes;
     } in
     subst (λ (planes : List Plane). IsView (with planes)) c.as_slice.ensures.value
-    (tested (with c.as_slice.result.now) (sym c.are_in_range.ensures ∙ c.if-are_in_range.true) c.as_slice.ensures.fits)
+    (tested (with c.as_slice.result.now) (sym c.are_in_range.ensures ∙ c.if-are_in_range.true)
+    c.as_slice.ensures.fits)

@@ -7,7 +7,8 @@ use base.Fml.{ftrue}
 use prog.Wp.{Env, WpFn}
 use contract.Monad.{fact, fact_i}
 use contract.Running.{tables}
-use types.Kit.{‵, raw, ◌⊛◌, prop, ◌$◌, ◌∵◌, !, qed, by, move, drop, use0, split, regoal, fsplit, fjoin, rewrite}
+use types.Kit.{‵, raw, ◌⊛◌, prop, ◌$◌, ◌∵◌, !, qed, by, move, drop, use0, split, regoal, fsplit}
+use types.Kit.{fjoin, rewrite}
 use types.Part.{agg}
 use types.Run.{no_more, and_then, returns, enter, lit}
 use types.ByLocal.{alloc_all, pass_all, free_all, look_at, get, sets, env}

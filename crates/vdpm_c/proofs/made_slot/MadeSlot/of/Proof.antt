@@ -7,7 +7,8 @@ use base.Fml.{ftrue}
 use prog.Wp.{Env, WpFn}
 use contract.Monad.{fact, fact_i}
 use contract.Running.{tables}
-use types.Kit.{‵, raw, ◌⊛◌, prop, ◌$◌, ◌∵◌, !, qed, by, move, drop, use0, split, regoal, fsplit, fjoin}
+use types.Kit.{‵, raw, ◌⊛◌, prop, ◌$◌, ◌∵◌, !, qed, by, move, drop, use0, split, regoal, fsplit}
+use types.Kit.{fjoin}
 use types.Part.{whole, sub, agg}
 use types.Run.{stop, fld, of_opd, no_more, and_then, returns, enter}
 use types.ByLocal.{alloc_all, pass_all, free_all, look_at, get, get_in, sets, env}
@@ -58,7 +59,11 @@ of_spec 𝓤 𝓛 𝓜 𝓡 wired =
     fsplit ! $ move ! (1 ∷ []) $ drop ! $ loose_out R Z heap_laws.the_row_laws ghosts ! d vss.0
     (λ b o h e told fits.
     let good = loose_good R Z heap_laws.the_row_laws ghosts b o h fits in
-    let made : slot.the_row.Denot = record { at = block_ptr b o; alloc = d.alloc; value = Some d.value } in
+    let made : slot.the_row.Denot = record {
+      at = block_ptr b o;
+      alloc = d.alloc;
+      value = Some d.value;
+    } in
     regoal ! (λ (us : List Val). prop (WpFn 𝓤 H C Λ fn us Post)) (λ i. told i ++ []) refl $
     enter ! C Λ fn (both (vptr b o) h ∷ []) Post $
     alloc_all ! (λ l. pass_all ! refl (good, tt) $ let En : Env 𝓤 𝓛.H = env fn.locals l in

@@ -8,7 +8,8 @@ use prog.Wp.{Env, WpFn}
 use contract.Monad.{fact, fact_i}
 use contract.Running.{tables}
 use types.Logic.{sem}
-use types.Kit.{‵, raw, rewrite, ◌⊛◌, prop, ◌$◌, ◌∵◌, !, qed, by, move, drop, use0, split, regoal, fsplit, fjoin}
+use types.Kit.{‵, raw, rewrite, ◌⊛◌, prop, ◌$◌, ◌∵◌, !, qed, by, move, drop, use0, split, regoal}
+use types.Kit.{fsplit, fjoin}
 use types.Part.{whole, sub, agg}
 use types.Run.{stop, fld, of_opd, no_more, and_then, returns, enter}
 use types.ByLocal.{alloc_all, pass_all, free_all, look_at, get, get_in, sets, env}
@@ -67,7 +68,12 @@ into_loose_spec 𝓤 𝓛 𝓜 𝓡 wired =
     in_a_block ! d.at (λ p. box_owns (ghosts.dealloc_token d.alloc) R p x) (fst∗ 𝓤 (never 𝓤)
     (sem 𝓛 (ghosts.dealloc_token d.alloc (bare (lone R.mir)) null_ptr))) (λ b o e.
     let good = loose_good R Z LZ ghosts b o h fits in
-    let made : (Loose R Z LZ ghosts).Denot = record { at = block_ptr b o; alloc = d.alloc; value = x } in
+    let made : (Loose R Z LZ ghosts).Denot = record {
+      at = block_ptr b o;
+      alloc = d.alloc;
+      value =
+          x;
+    } in
     let spelled : vss.0 ≡ both (vptr b o) h ∷ [] = subst (λ (p : Ptr). vss.0 ≡ both
     (ptr_val p) h ∷ []) e told in
     regoal ! (λ (us : List Val). prop (WpFn 𝓤 H C Λ fn us Post)) (λ i. spelled i ++ []) refl $
