@@ -1,8 +1,9 @@
 -- Chains of sides get their heads by walks: on along an open one, back along a closed one.
 use Rattle.std.proofs.Common.{◌≡◌, ◌≢◌, ℕ, ◌<◌, ◌⊎◌, inl, inr, refl, sym, ap, ◌∙◌, subst, true}
-use Rattle.std.proofs.Common.{cond, Option, Some, None, List, length, set, count_by, arith}
+use Rattle.std.proofs.lemmas.Grind.{common_steps}
+use Rattle.std.proofs.Common.{Option, Some, None, List, length, set, count_by, arith}
 use Rattle.std.specs.Option.{is_none, is_some}
-use Rattle.std.proofs.lemmas.Bool.{cases_eq, cases_lt, true≢false}
+use Rattle.std.proofs.lemmas.Bool.{true≢false}
 use Rattle.std.proofs.lemmas.List.{get_or-set_same, get_or-set_other, get_or_past}
 use Rattle.std.proofs.lemmas.List.Sums.{sum_by-set}
 use Rattle.pm_base.specs.Sides.{next, prev, beside_side}
@@ -18,12 +19,7 @@ pub one_value : {x y : ℕ} {r : Option ℕ} → r ≡ Some x → r ≡ Some y �
 one_value a b = cc
 
 pub in_table : (table : List (Option ℕ)) (e h : ℕ) → beside_side table e ≡ Some h → e < length table
-in_table table e h is =
-    elim (cases_lt e (length table)) [
-      | inl low ↦ low
-      | inr past ↦
-          absurd (none_some (get_or_past table e None past) is)
-    ]
+in_table table e h is = grind (arith, common_steps, get_or_past, none_some)
 
 -- One entry is written.
 module _ (heads : List (Option ℕ)) (a x : ℕ) (l : a < length heads) where
@@ -32,19 +28,10 @@ module _ (heads : List (Option ℕ)) (a x : ℕ) (l : a < length heads) where
 
   pub set_cases : (e h : ℕ) → beside_side (set heads a (Some x)) e ≡ Some h
       → ((e ≡ a) × (h ≡ x)) ⊎ ((e ≢ a) × (beside_side heads e ≡ Some h))
-  set_cases e h is =
-      elim (cases_eq e a) [
-        | inl same ↦
-            inl (same, one_value (ap (beside_side (set heads a (Some x))) (sym same) ∙ is) set_here)
-        | inr other ↦ inr (other, sym (get_or-set_other heads a e (Some x) None other) ∙ is)
-      ]
+  set_cases e h is = grind (arith, common_steps, get_or-set_other, one_value, set_here)
 
   pub set_keeps : beside_side heads a ≡ None → Keeps heads (set heads a (Some x))
-  set_keeps bare e h is =
-      elim (cases_eq e a) [
-        | inl same ↦ absurd (none_some bare (ap (beside_side heads) (sym same) ∙ is))
-        | inr other ↦ get_or-set_other heads a e (Some x) None other ∙ is
-      ]
+  set_keeps bare e h is = grind (arith, common_steps, get_or-set_other, none_some)
 
 -- How many sides have no head.
 unfoldable pub bare_count : List (Option ℕ) → ℕ
@@ -53,11 +40,7 @@ bare_count heads = count_by is_none heads
 pub bare-set : (heads : List (Option ℕ)) (a x : ℕ) → a < length heads → beside_side heads a ≡ None
     → bare_count (set heads a (Some x)) < bare_count heads
 unfolding bare_count
-bare-set heads a x l is =
-    let e = sum_by-set (λ o. cond (is_none o) 1 0) heads a (Some x) None l in
-    let weight : Option ℕ → ℕ = λ o. cond (is_none o) 1 0 in
-    let f : weight (beside_side heads a) ≡ 1 = ap weight is in
-    omega (arith, e, f)
+bare-set heads a x l is = grind (arith, common_steps, sum_by-set)
 
 -- A step in front.
 pub leads_from : (glued : List (Option ℕ)) (a b e : ℕ) → IsNextRound glued a b → Leads glued b e

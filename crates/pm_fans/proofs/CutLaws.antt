@@ -1,7 +1,8 @@
 -- Sides that are cut open, by the map of all sides by their ends.
 use Rattle.std.proofs.Common.{◌≡◌, ◌≢◌, ℕ, zero, suc, ◌+◌, ◌<◌, ◌≤◌, eqb, ltb, Bool, true, false}
-use Rattle.std.proofs.Common.{◌&&◌, ◌||◌, inl, inr, sym, ap, ◌∙◌, subst, Option, Some, None, arith}
-use Rattle.std.proofs.lemmas.Bool.{eqb-true, eq-eqb, cases_eq, cases_Bool, true≢false, and_parts}
+use Rattle.std.proofs.lemmas.Grind.{common_steps}
+use Rattle.std.proofs.Common.{◌&&◌, inl, inr, sym, ◌∙◌, subst, Option, Some, None, arith}
+use Rattle.std.proofs.lemmas.Bool.{eqb-true, eq-eqb, cases_Bool, and_parts}
 use Rattle.std.proofs.lemmas.Bool.{and_from, ltb-true, lt-ltb, false_from_ne_true}
 use Rattle.std.specs.Int.{from_bool}
 use Rattle.pm_base.specs.Counts.{count}
@@ -22,55 +23,25 @@ count_none p (suc n) h =
 count_one : (p : ℕ → Bool) (n k : ℕ) → ((i : ℕ) → i < n → p i ≡ true → i ≡ k) → count p n ≤ 1
 count_one p zero k h = let a = count-zero p in omega arith
 count_one p (suc n) k h =
-    elim (cases_Bool (p n)) [
-      | inl e ↦
-          let is : n ≡ k = h n (omega arith) e in
-          let none = count_none p n (λ i l f. (let same : i ≡ k = h i (omega arith) f in
-          absurd (omega arith))) in
-          let a = count-true p n e in
-          omega arith
-      | inr e ↦
-          let a = count-false p n e in
-          let r = count_one p n k (λ i l f. h i (omega arith) f) in
-          omega arith
-    ]
+    grind (arith, common_steps, count-false, count-true, count_none, count_one p n k)
 
 count_some : (p : ℕ → Bool) (n i : ℕ) → i < n → p i ≡ true → 0 < count p n
 count_some p zero i l e = absurd (omega arith)
-count_some p (suc n) i l e =
-    elim (cases_Bool (p n)) [
-      | inl f ↦ (let a = count-true p n f in omega arith)
-      | inr f ↦
-          let a = count-false p n f in
-          let ne : i ≢ n = λ is. true≢false (sym e ∙ ap p is ∙ f) in
-          let r = count_some p n i (omega arith) e in
-          omega arith
-    ]
+count_some p (suc n) i l e = grind (arith, common_steps, count-false, count-true, count_some p n i)
 
 count_two : (p : ℕ → Bool) (n i j : ℕ) → i < n → j < n → i ≢ j → p i ≡ true → p j ≡ true
     → 1 < count p n
 count_two p zero i j il jl ne ei ej = absurd (omega arith)
 count_two p (suc n) i j il jl ne ei ej =
-    elim (cases_eq i n) [
-      | inl is ↦
-          let a = count-true p n (ap p (sym is) ∙ ei) in
-          let jn : j ≢ n = λ js. ne (is ∙ sym js) in
-          let r = count_some p n j (omega arith) ej in
-          omega arith
-      | inr other ↦
-          elim (cases_eq j n) [
-            | inl is ↦
-                let a = count-true p n (ap p (sym is) ∙ ej) in
-                let r = count_some p n i (omega arith) ei in
-                omega arith
-            | inr differ ↦
-                let r = count_two p n i j (omega arith) (omega arith) ne ei ej in
-                elim (cases_Bool (p n)) [
-                  | inl f ↦ (let a = count-true p n f in omega arith)
-                  | inr f ↦ (let a = count-false p n f in omega arith)
-                ]
-          ]
-    ]
+    grind (
+      arith,
+      common_steps,
+      count-false p n,
+      count-true p n,
+      count_some p n j,
+      count_some p n i,
+      count_two p n i j,
+    )
 
 module _ (m : Net) (ok : IsCuttable m) (p q : ℕ) (low : q < 4294967296) where
   runs_true : (e : ℕ) → e < side_count m → ends_key_at m e ≡ ends_key p q → side_runs m p q e ≡ true
@@ -81,10 +52,7 @@ module _ (m : Net) (ok : IsCuttable m) (p q : ℕ) (low : q < 4294967296) where
       (eq-eqb (to m e) q at.1))
 
   true_runs : (e : ℕ) → side_runs m p q e ≡ true → ends_key_at m e ≡ ends_key p q
-  true_runs e is =
-      let both = and_parts (stands m e) (eqb (m.from e) p && eqb (to m e) q) is in
-      let ends = and_parts (eqb (m.from e) p) (eqb (to m e) q) both.1 in
-      key_is m ok e p q (eqb-true (m.from e) p ends.0) (eqb-true (to m e) q ends.1)
+  true_runs e is = grind (arith, common_steps, and_parts, eqb-true, key_is)
 
   not_many : count (side_runs m p q) (side_count m) ≤ 1
       → ltb 1 (count (side_runs m p q) (side_count m)) ≡ false
@@ -95,9 +63,7 @@ module _ (m : Net) (ok : IsCuttable m) (p q : ℕ) (low : q < 4294967296) where
   pub many_none : (r : Option ℕ) → IsNoted m (side_count m) (ends_key p q) r → r ≡ None
       → ltb 1 (count (side_runs m p q) (side_count m)) ≡ false
   many_none r h is =
-      let none = subst (IsNoted m (side_count m) (ends_key p q)) is h in
-      let zero' = count_none (side_runs m p q) (side_count m) (λ e l t. none e l (true_runs e t)) in
-      not_many (omega arith)
+      grind (arith, common_steps, not_many, true_runs, count_none (side_runs m p q) (side_count m))
 
   pub many_some : (r : Option ℕ) (v : ℕ) → IsNoted m (side_count m) (ends_key p q) r → r ≡ Some v
       → ltb 1 (count (side_runs m p q) (side_count m)) ≡ eqb v 4294967295
@@ -122,12 +88,7 @@ pub cut_here : (m : Net) (p q e : ℕ) (a b : Bool) → p ≡ m.from e → q ≡
     → a ≡ ltb 1 (count (side_runs m p q) (side_count m)) → a ≡ false
     → b ≡ ltb 1 (count (side_runs m q p) (side_count m)) → b ≡ is_cut m e
 unfolding is_cut
-cut_here m p q e a b pe qe along none back =
-    let many : ℕ → ℕ → Bool = λ i j. ltb 1 (count (side_runs m i j) (side_count m)) in
-    let one : many (m.from e) (to m e) ≡ false =
-    ap (λ i. many i (to m e)) (sym pe) ∙ ap (many p) (sym qe) ∙ sym along ∙ none in
-    let two : b ≡ many (to m e) (m.from e) = back ∙ ap (λ i. many i p) qe ∙ ap (many (to m e)) pe in
-    two ∙ sym (ap (λ z. z || many (to m e) (m.from e)) one)
+cut_here m p q e a b pe qe along none back = grind (arith, common_steps)
 
 pub bit_le : (b : Bool) → from_bool b ≤ 1
 bit_le true = omega arith
@@ -136,18 +97,4 @@ bit_le false = omega arith
 pub cut_more : (m : Net) (n c d : ℕ) (b : Bool) → c ≡ count (is_cut m) n → d ≡ from_bool b
     → b ≡ is_cut m n → c + d ≡ count (is_cut m) (n + 1)
 cut_more m n c d b so_far bit is =
-    let s : n + 1 ≡ suc n = omega arith in
-    let more : c + from_bool b ≡ count (is_cut m) (suc n) =
-    elim (cases_Bool b) [
-      | inl e ↦
-          let a = count-true (is_cut m) n (sym is ∙ e) in
-          let one : ℕ = from_bool b in
-          let is_one : one ≡ from_bool true = ap from_bool e in
-          omega (arith, a, is_one, so_far)
-      | inr e ↦
-          let a = count-false (is_cut m) n (sym is ∙ e) in
-          let none : ℕ = from_bool b in
-          let is_none : none ≡ from_bool false = ap from_bool e in
-          omega (arith, a, is_none, so_far)
-    ] in
-    ap (λ k. c + k) bit ∙ more ∙ ap (count (is_cut m)) (sym s)
+    grind (arith, common_steps, count-false (is_cut m) n, count-true (is_cut m) n)

@@ -1,5 +1,6 @@
 -- Faces that can be cut.
 use Rattle.std.proofs.Common.{◌≡◌, ℕ, ◌/◌, ◌%◌, ◌<◌, ◌≤◌, inl, inr, refl, sym, subst, List, length}
+use Rattle.std.proofs.lemmas.Grind.{common_steps}
 use Rattle.std.proofs.Common.{slice_index_or, arith}
 use Rattle.std.proofs.lemmas.Bool.{cases_eq}
 use Rattle.pm_base.specs.declared.mesh.Corners.{Corners}
@@ -21,12 +22,7 @@ short_cuttable fs few stand short = record {
       let s = short (e / 3) at in
       elim (cases_eq (e % 3) 0) [
         | inl is ↦ subst (λ v. v < 4294967296) (sym (from-corner fs e (e / 3) 0 refl is)) s.a
-        | inr n0 ↦
-            elim (cases_eq (e % 3) 1) [
-              | inl is ↦ subst (λ v. v < 4294967296) (sym (from-corner fs e (e / 3) 1 refl is)) s.b
-              | inr n1 ↦ subst (λ v. v < 4294967296)
-                  (sym (from-corner fs e (e / 3) 2 refl (omega arith))) s.c
-            ]
+        | inr n0 ↦ grind (arith, common_steps, from-corner)
       ];
 }
 

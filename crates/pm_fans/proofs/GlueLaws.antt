@@ -1,6 +1,7 @@
 -- Sides that stand once are told by their two ends, and two that run back along one another are
 -- glued.
-use Rattle.std.proofs.Common.{◌≡◌, ◌≢◌, ℕ, ◌+◌, ◌*◌, ◌/◌, ◌<◌, ◌≤◌, true, false, inl, inr, refl}
+use Rattle.std.proofs.Common.{◌≡◌, ◌≢◌, ℕ, ◌+◌, ◌<◌, ◌≤◌, true, false, inl, inr, refl}
+use Rattle.std.proofs.lemmas.Grind.{common_steps}
 use Rattle.std.proofs.Common.{sym, ap, ◌∙◌, subst, Option, Some, None, List, [], length}
 use Rattle.std.proofs.Common.{slice_index_or, arith}
 use Rattle.std.specs.Option.{IfSome, MatchOption, is_some, option_map}
@@ -22,11 +23,7 @@ use Rattle.pm_fans.proofs.KeyLaws.{equal_is}
 -- Two ends are known from their key.
 ends_are : (p q r s : ℕ) → q < 4294967296 → s < 4294967296 → ends_key p q ≡ ends_key r s
     → (p ≡ r) × (q ≡ s)
-ends_are p q r s ql sl e =
-    let b : ℕ = 4294967296 in
-    let one : p ≡ r = sym (div-mul-add p b q ql) ∙ ap (λ n. n / b) e ∙ div-mul-add r b s sl in
-    let ones : p * b ≡ r * b = ap (λ n. n * b) one in
-    (one, omega (arith, ones, e))
+ends_are p q r s ql sl e = grind (arith, common_steps, div-mul-add)
 
 -- Before any side none has a key.
 pub none_noted : (m : Net) (map : BTreeMap ℕ ℕ) → map.entries ≡ [] → AreNoted m 0 map
@@ -34,97 +31,30 @@ none_noted m map is k =
     subst (IsNoted m 0 k) (sym (ap (lookup (is_at (nat_cmp k))) is)) (λ e l. absurd (omega arith))
 
 several_on : (m : Net) (n k v : ℕ) → AreSeveral m n k v → AreSeveral m (n + 1) k v
-several_on m n k v s =
-    let one = s.one_in in
-    let other = s.other_in in
-    record {
-      mark = s.mark;
-      one = s.one;
-      other = s.other;
-      one_in = omega arith;
-      other_in = omega arith;
-      differ = s.differ;
-      one_has = s.one_has;
-      other_has = s.other_has;
-    }
+several_on m n k v s = grind (arith, common_steps)
 
 -- One more side with another key.
 noted_other : (m : Net) (n k : ℕ) (r : Option ℕ) → ends_key_at m n ≢ k → IsNoted m n k r
     → IsNoted m (n + 1) k r
-noted_other m n k None ne h =
-    λ e l. elim (cases_eq e n) [
-      | inl same ↦ (λ is. ne (ap (ends_key_at m) (sym same) ∙ is))
-      | inr other ↦ h e (omega arith)
-    ]
-noted_other m n k (Some v) ne (inl a) =
-    let low = a.in_range in
-    inl (record {
-      in_range = omega arith;
-      has = a.has;
-      alone = λ e l is. elim (cases_eq e n) [
-        | inl same ↦
-            absurd (ne (ap (ends_key_at m) (sym same) ∙ is))
-        | inr other ↦
-            a.alone e (omega arith) is
-      ];
-    })
+noted_other m n k None ne h = grind (arith, common_steps)
+noted_other m n k (Some v) ne (inl a) = grind (arith, common_steps)
 noted_other m n k (Some v) ne (inr s) = inr (several_on m n k v s)
 
 -- One more side with this key: the first, or one of several.
 noted_first : (m : Net) (n k : ℕ) → ends_key_at m n ≡ k → IsNoted m n k None
     → IsNoted m (n + 1) k (Some n)
-noted_first m n k is none = inl (record {
-  in_range = omega arith;
-  has = is;
-  alone = λ e l h. elim (cases_eq e n) [
-    | inl same ↦ same
-    | inr other ↦
-        absurd (none e (omega arith) h)
-  ];
-})
+noted_first m n k is none = grind (arith, common_steps)
 
 noted_again : (m : Net) (n k v : ℕ) → ends_key_at m n ≡ k → IsNoted m n k (Some v)
     → IsNoted m (n + 1) k (Some 4294967295)
-noted_again m n k v is (inl a) =
-    let low = a.in_range in
-    inr (record {
-      mark = refl;
-      one = v;
-      other = n;
-      one_in = omega arith;
-      other_in = omega arith;
-      differ = omega arith;
-      one_has = a.has;
-      other_has = is;
-    })
-noted_again m n k v is (inr s) =
-    let more = several_on m n k v s in
-    inr (record {
-      mark = refl;
-      one = more.one;
-      other = more.other;
-      one_in = more.one_in;
-      other_in = more.other_in;
-      differ = more.differ;
-      one_has = more.one_has;
-      other_has =
-          more.other_has;
-    })
+noted_again m n k v is (inl a) = grind (arith, common_steps)
+noted_again m n k v is (inr s) = grind (arith, common_steps, several_on)
 
 noted_at : (m : Net) (n w : ℕ) (s t : BTreeMap ℕ ℕ) → AreNoted m n s
     → Updates nat_cmp s t (ends_key_at m n) (Some w) → IsNoted m (n + 1) (ends_key_at m n) (Some w)
     → AreNoted m (n + 1) t
 noted_at m n w s t noted u now k =
-    elim (cases_eq (ends_key_at m n) k) [
-      | inl same ↦
-          let at : get nat_cmp t k ≡ Some w =
-          u.0 k ∙ cond-true _ _ _ (equal_is (ends_key_at m n) k ∙ eq-eqb _ _ same) in
-          subst (IsNoted m (n + 1) k) (sym at) (subst (λ j. IsNoted m (n + 1) j (Some w)) same now)
-      | inr ne ↦
-          let at : get nat_cmp t k ≡ get nat_cmp s k =
-          u.0 k ∙ cond-false _ _ _ (equal_is (ends_key_at m n) k ∙ ne_eqb _ _ ne) in
-          subst (IsNoted m (n + 1) k) (sym at) (noted_other m n k (get nat_cmp s k) ne (noted k))
-    ]
+    grind (arith, common_steps, cond-false, cond-true, eq-eqb, equal_is, ne_eqb, noted_other)
 
 pub first_noted : (m : Net) (n : ℕ) (s t : BTreeMap ℕ ℕ) → AreNoted m n s
     → is_some (get nat_cmp s (ends_key_at m n)) ≡ false
@@ -233,12 +163,7 @@ pub record AreGluedTo (m : Net) (n : ℕ) (glued : List (Option ℕ)) : Type 0 w
 
 pub none_glued : (m : Net) (glued : List (Option ℕ)) → glued ≡ replicate (side_count m) None
     → AreGluedTo m 0 glued
-none_glued m glued is =
-    record {
-      sides = ap length is ∙ length-replicate (side_count m) None;
-      each =
-          λ e l. absurd (omega (arith, l));
-    }
+none_glued m glued is = grind (arith, common_steps, length-replicate)
 
 told : (m : Net) (e : ℕ) (r : Option Side)
     → MatchOption r ((g : ℕ) → IsGlued m e g → ⊥) (λ g. IsGlued m e g.0)
@@ -257,26 +182,17 @@ glued_more m n xs ys r low h is now =
       each = λ e l. elim (cases_eq e n) [
         | inl same ↦
             let at : slice_index_or ys e None ≡ new =
-            ap (λ zs. slice_index_or zs e None) is
-            ∙ ap (λ i. slice_index_or (set xs n new) i None) same
-            ∙ get_or-set_same xs n new None (omega (arith, low, h.sides)) in
+            grind (arith, common_steps, get_or-set_same, set, slice_index_or) in
             subst (λ o. MatchOption o ((g : ℕ) → IsGlued m e g → ⊥) (λ g. IsGlued m e g)) (sym at)
             (subst (λ i. MatchOption new ((g : ℕ) → IsGlued m i g → ⊥) (λ g. IsGlued m i g))
             (sym same) (told m n r now))
-        | inr other ↦
-            let at : slice_index_or ys e None ≡ slice_index_or xs e None =
-            ap (λ zs. slice_index_or zs e None) is ∙ get_or-set_other xs n e new None other in
-            subst (λ o. MatchOption o ((g : ℕ) → IsGlued m e g → ⊥) (λ g. IsGlued m e g)) (sym at)
-            (h.each e (omega arith))
+        | inr other ↦ grind (arith, common_steps, get_or-set_other, slice_index_or)
       ];
     }
 
 pub all_glued : (m : Net) (n : ℕ) (glued : List (Option ℕ)) → n ≡ side_count m
     → AreGluedTo m n glued → AreGlued m (side_count m) glued
-all_glued m n glued all h = record {
-  sides = h.sides;
-  each = λ e l. h.each e (omega (arith, all, l));
-}
+all_glued m n glued all h = grind (arith, common_steps)
 
 -- A side that is glued to another has a number that sides have.
 pub glued_low : (m : Net) (e most : ℕ) (r : Option Side) → side_count m ≤ most

@@ -1,7 +1,9 @@
 -- Faces that stayed stay, and so they do where each vertex has another number, no two the same.
 use Rattle.std.proofs.Common.{◌≡◌, ℕ, inl, inr, refl, sym, ap, ◌∙◌, List, [], ◌∷◌, ◌++◌, map, ◌==◌}
+use Rattle.std.proofs.Common.{arith}
+use Rattle.std.proofs.lemmas.Grind.{common_steps}
 use Rattle.std.specs.List.{list_any}
-use Rattle.std.proofs.lemmas.Bool.{cases_Bool, cases_eq, cond-true, cond-false, eq-eqb, ne_eqb}
+use Rattle.std.proofs.lemmas.Bool.{cases_Bool, cond-true, cond-false, eq-eqb, ne_eqb}
 use Rattle.std.proofs.lemmas.List.{map-append}
 use Rattle.pm_base.specs.declared.mesh.Corners.{Corners}
 use Rattle.pm_fans.specs.Kept.{is_flat, is_corner, is_alike, is_kept_after, kept_after, kept_of}
@@ -21,16 +23,15 @@ all_again : (before fs : List Corners) → kept_after [] before ≡ before
     → kept_after [] (kept_after before fs) ≡ kept_after before fs
 all_again before [] same = same
 all_again before (f ∷ fs) same =
-    elim (cases_Bool (is_kept_after before f)) [
-      | inl t ↦
-          let more : kept_after [] (before ++ f ∷ []) ≡ before ++ f ∷ [] =
-          kept_append [] before (f ∷ []) ∙ ap (λ b. kept_after b (f ∷ [])) same
-          ∙ cond-true _ _ _ t in
-          ap (kept_after []) (cond-true _ _ _ t) ∙ all_again (before ++ f ∷ []) fs more
-          ∙ sym (cond-true _ _ _ t)
-      | inr n ↦ ap (kept_after []) (cond-false _ _ _ n) ∙ all_again before fs same
-          ∙ sym (cond-false _ _ _ n)
-    ]
+    grind (
+      arith,
+      common_steps,
+      cond-false,
+      cond-true,
+      kept_append,
+      all_again (before ++ f ∷ []) fs,
+      all_again before fs same,
+    )
 
 pub kept_again : (fs : List Corners) → kept_of (kept_of fs) ≡ kept_of fs
 unfolding kept_of
@@ -42,11 +43,7 @@ renumbered r f = record { a = r f.a; b = r f.b; c = r f.c }
 
 module _ (r : ℕ → ℕ) (apart : (x y : ℕ) → r x ≡ r y → x ≡ y) where
   same_test : (x y : ℕ) → (r x == r y) ≡ (x == y)
-  same_test x y =
-      elim (cases_eq x y) [
-        | inl is ↦ eq-eqb _ _ (ap r is) ∙ sym (eq-eqb _ _ is)
-        | inr differ ↦ ne_eqb _ _ (λ e. differ (apart x y e)) ∙ sym (ne_eqb _ _ differ)
-      ]
+  same_test x y = grind (arith, common_steps, eq-eqb, ne_eqb)
 
   flat_same : (f : Corners) → is_flat (renumbered r f) ≡ is_flat f
   flat_same f = rw (same_test f.a f.b, same_test f.b f.c, same_test f.c f.a) refl

@@ -1,19 +1,20 @@
 -- The faces that stay have three different corners, and no two have the same ones.
 use Rattle.std.proofs.Common.{◌≡◌, ℕ, zero, suc, ◌/◌, ◌<◌, ◌⊎◌, inl, inr, refl, sym, ap, ◌∙◌, subst}
-use Rattle.std.proofs.Common.{List, [], ◌∷◌, ◌++◌, length, Bool, true, false, not, ◌&&◌, arith}
+use Rattle.std.proofs.lemmas.Grind.{common_steps}
+use Rattle.std.proofs.Common.{List, [], ◌∷◌, ◌++◌, length, Bool, true, false, not, arith}
 use Rattle.std.specs.List.{list_any}
-use Rattle.std.proofs.lemmas.Bool.{and_cases, not-false, cases_Bool, cases_order, cases_lt}
+use Rattle.std.proofs.lemmas.Bool.{and_cases, not-false, cases_Bool, cases_order}
 use Rattle.std.proofs.lemmas.Bool.{cond-true, cond-false, and_parts, and_from, or_left, or_right}
 use Rattle.std.proofs.lemmas.Bool.{not-true, true≢false}
 use Rattle.std.proofs.lemmas.List.{get_or_append_left, length-append}
 use Rattle.std.proofs.Math.Seq.{get_or-append_seam}
 use Rattle.std.proofs.lemmas.List.Folds.{list_any_at, list_any-append}
 use Rattle.pm_base.specs.declared.mesh.Corners.{Corners}
-use Rattle.pm_base.specs.Sides.{Net, to, net_of, no_corners}
+use Rattle.pm_base.specs.Sides.{Net, to, net_of}
 use Rattle.pm_base.proofs.Sides.{face_cases, corner-first, first-second, second-corner}
 use Rattle.pm_base.proofs.NetLaws.{face_at}
 use Rattle.pm_fans.specs.Splits.{AllStand, NoMirroredFaces}
-use Rattle.pm_fans.specs.Kept.{is_flat, is_corner, is_alike, is_kept_after, kept_after, kept_of}
+use Rattle.pm_fans.specs.Kept.{is_flat, is_alike, is_kept_after, kept_after, kept_of}
 use Rattle.pm_fans.specs.Kept.{IsFitList}
 use Rattle.pm_fans.proofs.Turned.{side_turned, not_flat, turned_differ, corner_a, corner_b}
 use Rattle.pm_fans.proofs.Turned.{corner_c, mirrors_alike}
@@ -26,12 +27,7 @@ more_cases : (fs : List Corners) (f : Corners) (i : ℕ) → i < length (fs ++ f
     → ((i < length fs) × (face_at (fs ++ f ∷ []) i ≡ face_at fs i))
     ⊎ ((i ≡ length fs) × (face_at (fs ++ f ∷ []) i ≡ f))
 more_cases fs f i l =
-    elim (cases_lt i (length fs)) [
-      | inl k ↦ inl (k, get_or_append_left fs (f ∷ []) no_corners i k)
-      | inr k ↦
-          let is : i ≡ length fs = omega (arith, length-append fs (f ∷ [])) in
-          inr (is, ap (λ n. face_at (fs ++ f ∷ []) n) is ∙ get_or-append_seam fs f [] no_corners)
-    ]
+    grind (arith, common_steps, face_at, get_or-append_seam, get_or_append_left, length-append)
 
 parts_kept : (fs : List Corners) (f : Corners) → is_kept_after fs f ≡ true
     → (is_flat f ≡ false) × (list_any (is_alike f) fs ≡ false)
@@ -41,11 +37,7 @@ parts_kept fs f k = let (a, b) = and_parts (not (is_flat f)) (not (list_any (is_
 
 unlike : (fs : List Corners) (f : Corners) (i : ℕ) → list_any (is_alike f) fs ≡ false
     → i < length fs → is_alike f (face_at fs i) ≡ false
-unlike fs f i none l =
-    elim (cases_Bool (is_alike f (face_at fs i))) [
-      | inl t ↦ absurd (true≢false (sym (list_any_at (is_alike f) fs i no_corners l t) ∙ none))
-      | inr n ↦ n
-    ]
+unlike fs f i none l = grind (arith, common_steps, face_at, list_any_at)
 
 more_fit : (fs : List Corners) (f : Corners) → IsFitList fs → is_kept_after fs f ≡ true
     → IsFitList (fs ++ f ∷ [])
@@ -96,11 +88,7 @@ fit_single fs h v x y f g =
       | inl same ↦
           elim (face_cases f.side g.side same) [
             | inl is ↦ first-second m v x y f (sym f.one ∙ ap (to m) (sym is) ∙ g.one)
-            | inr k ↦
-                elim k [
-                  | inl is ↦ corner-first m v x y f (sym g.at ∙ ap m.from is ∙ f.one)
-                  | inr is ↦ second-corner m v x y f (sym f.two ∙ ap m.from (sym is) ∙ g.at)
-                ]
+            | inr k ↦ grind (arith, common_steps, corner-first, second-corner)
           ]
       | inr k ↦
           elim k [
@@ -132,19 +120,12 @@ grows p before (f ∷ fs) h =
 
 alike_itself : (f : Corners) → is_alike f f ≡ true
 unfolding is_alike
-alike_itself f =
-    and_from (is_corner f f.a && is_corner f f.b) (is_corner f f.c)
-    (and_from (is_corner f f.a) (is_corner f f.b) (corner_a f f.a refl) (corner_b f f.b refl))
-    (corner_c f f.c refl)
+alike_itself f = grind (arith, common_steps, and_from, corner_a, corner_b, corner_c)
 
 was_there : (before : List Corners) (f : Corners) → is_flat f ≡ false
     → is_kept_after before f ≡ false → list_any (is_alike f) before ≡ true
 unfolding is_kept_after
-was_there before f flat n =
-    elim (and_cases (not (is_flat f)) (not (list_any (is_alike f) before)) n) [
-      | inl a ↦ absurd (true≢false (sym (not-false _ a) ∙ flat))
-      | inr b ↦ not-false _ b
-    ]
+was_there before f flat n = grind (arith, common_steps, and_cases, not-false)
 
 not_lost : (before fs : List Corners) (i : ℕ) → i < length fs → is_flat (face_at fs i) ≡ false
     → list_any (is_alike (face_at fs i)) (kept_after before fs) ≡ true

@@ -1,10 +1,11 @@
 -- Two faces of three different corners are alike where they have the same key.
-use Rattle.std.proofs.Common.{◌≡◌, ℕ, ◌+◌, ◌*◌, ◌/◌, ◌<◌, ◌≤◌, true, false, ◌⊎◌, inl, inr, sym, ap}
+use Rattle.std.proofs.Common.{◌≡◌, ℕ, ◌+◌, ◌*◌, ◌<◌, ◌≤◌, true, false, ◌⊎◌, inl, inr, sym}
+use Rattle.std.proofs.lemmas.Grind.{common_steps}
 use Rattle.std.proofs.Common.{◌∙◌, subst, arith}
 use Rattle.std.proofs.lemmas.Bool.Decides.{nat_tests}
 use Rattle.std.specs.Prelude.{◌==◌}
 use Rattle.std.specs.Ordering.{nat_cmp, is_eq}
-use Rattle.std.proofs.lemmas.Bool.{cases_Bool, cases_lt, and_parts, true≢false, eq-eqb, ne_eqb}
+use Rattle.std.proofs.lemmas.Bool.{cases_Bool, and_parts, true≢false, eq-eqb, ne_eqb}
 use Rattle.std.proofs.lemmas.Nat.{div-mul-add}
 use Rattle.pm_base.specs.declared.mesh.Corners.{Corners}
 use Rattle.pm_fans.specs.Kept.{is_flat, is_corner, is_alike}
@@ -20,40 +21,7 @@ record IsOrdered (f : Corners) (x y z : ℕ) : Type 0 where
 
 ordered : (f : Corners) → is_flat f ≡ false
     → IsOrdered f (least_corner f) (middle_corner f) (greatest_corner f)
-ordered f flat =
-    let d = not_flat f flat in
-    let xy = d.xy in
-    let yz = d.yz in
-    let zx = d.zx in
-    record {
-      first = omega arith;
-      last = omega arith;
-      are = elim (cases_lt f.a f.b) [
-        | inl ab ↦
-            elim (cases_lt f.b f.c) [
-              | inl bc ↦ inl (inl (record { a = omega arith; b = omega arith; c = omega arith }))
-              | inr cb ↦
-                  elim (cases_lt f.a f.c) [
-                    | inl ac ↦ inr
-                        (inl (record { a = omega arith; b = omega arith; c = omega arith }))
-                    | inr ca ↦ inl
-                        (inr (inr (record { a = omega arith; b = omega arith; c = omega arith })))
-                  ]
-            ]
-        | inr ba ↦
-            elim (cases_lt f.a f.c) [
-              | inl ac ↦ inr
-                  (inr (inl (record { a = omega arith; b = omega arith; c = omega arith })))
-              | inr ca ↦
-                  elim (cases_lt f.b f.c) [
-                    | inl bc ↦ inl
-                        (inr (inl (record { a = omega arith; b = omega arith; c = omega arith })))
-                    | inr cb ↦ inr
-                        (inr (inr (record { a = omega arith; b = omega arith; c = omega arith })))
-                  ]
-            ]
-      ];
-    }
+ordered f flat = grind (arith, common_steps, not_flat)
 
 ordered_has : (f : Corners) (x y z : ℕ) → IsOrdered f x y z → HasAll f x y z
 ordered_has f x y z o = elim o.are [
@@ -94,26 +62,7 @@ within x y z w xy yz (inr (inr e)) = (omega arith, omega arith)
 same_three : (x y z p q r : ℕ) → x < y → y < z → p < q → q < r → OneOf x y z p → OneOf x y z q
     → OneOf x y z r → (x ≡ p) × (y ≡ q) × (z ≡ r)
 same_three x y z p q r xy yz pq qr ip iq ir =
-    let lo = (within x y z p xy yz ip).0 in
-    let hi = (within x y z r xy yz ir).1 in
-    let is : y ≡ q =
-    elim iq [
-      | inl e ↦ absurd (omega arith)
-      | inr k ↦
-          elim k [ inl e ↦ e | inr e ↦ absurd (omega arith) ]
-    ] in (
-      elim ip [
-        | inl e ↦ e
-        | inr k ↦
-            elim k [ inl e ↦ absurd (omega arith) | inr e ↦ absurd (omega arith) ]
-      ],
-      is,
-      elim ir [
-        | inl e ↦ absurd (omega arith)
-        | inr k ↦
-            elim k [ inl e ↦ absurd (omega arith) | inr e ↦ e ]
-      ],
-    )
+    grind (arith, common_steps, within x y z p xy yz ip, within x y z r xy yz ir)
 
 all_corners : (f g : Corners) (x y z : ℕ) → is_alike f g ≡ true → Turned g x y z → HasAll f x y z
 unfolding is_alike
@@ -145,14 +94,7 @@ alike_same f g x y z p q r o s e =
 digits : (x y z p q r : ℕ) → y < 4294967296 → z < 4294967296 → q < 4294967296 → r < 4294967296
     → (x * 4294967296 + y) * 4294967296 + z ≡ (p * 4294967296 + q) * 4294967296 + r
     → (x ≡ p) × (y ≡ q) × (z ≡ r)
-digits x y z p q r yl zl ql rl e =
-    let b : ℕ = 4294967296 in
-    let two : x * b + y ≡ p * b + q =
-    sym (div-mul-add (x * b + y) b z zl) ∙ ap (λ n. n / b) e ∙ div-mul-add (p * b + q) b r rl in
-    let one : x ≡ p = sym (div-mul-add x b y yl) ∙ ap (λ n. n / b) two ∙ div-mul-add p b q ql in
-    let ones : x * b ≡ p * b = ap (λ n. n * b) one in
-    let twos : (x * b + y) * b ≡ (p * b + q) * b = ap (λ n. n * b) two in
-    (one, omega (arith, ones, two), omega (arith, twos, e))
+digits x y z p q r yl zl ql rl e = grind (arith, common_steps, div-mul-add)
 
 same_key : (f g : Corners) → HasShortCorners f → HasShortCorners g
     → corners_key_of f ≡ corners_key_of g → (least_corner f ≡ least_corner g)
@@ -171,12 +113,7 @@ same_key f g s t e =
 key_from : (f g : Corners) → (least_corner f ≡ least_corner g) × (middle_corner f ≡ middle_corner g)
     × (greatest_corner f ≡ greatest_corner g) → corners_key_of g ≡ corners_key_of f
 unfolding corners_key_of
-key_from f g e =
-    let two = ap (λ n. n * 4294967296) e.0 in
-    let three : (least_corner f * 4294967296 + middle_corner f) * 4294967296
-    ≡ (least_corner g * 4294967296 + middle_corner g) * 4294967296 =
-    ap (λ n. n * 4294967296) (omega (arith, two, e.1)) in
-    omega (arith, three, e.2)
+key_from f g e = grind (arith, common_steps)
 
 pub equal_is : (x y : ℕ) → is_eq (nat_cmp x y) ≡ (x == y)
 equal_is x y = grind (arith, nat_tests)

@@ -1,5 +1,6 @@
 -- The set of the keys of the faces that stay, as one more face is looked at.
 use Rattle.std.proofs.Common.{◌≡◌, ℕ, zero, suc, ◌+◌, ◌<◌, ◌≤◌, Bool, true, false, not, ◌&&◌, ◌||◌}
+use Rattle.std.proofs.lemmas.Grind.{common_steps}
 use Rattle.std.proofs.Common.{inl, inr, refl, sym, ap, ◌∙◌, subst, List, [], ◌∷◌, ◌++◌, length}
 use Rattle.std.proofs.Common.{drop, arith}
 use Rattle.std.specs.List.{All, list_any}
@@ -17,10 +18,7 @@ use Rattle.pm_fans.specs.Keys.{corners_key_of, IsProperFace, has_key, HoldsKeys,
 use Rattle.pm_fans.proofs.KeyLaws.{alike_key}
 
 pub no_keys : (stay : List Corners) (s : BTreeSet ℕ) → stay ≡ [] → s.keys ≡ [] → HoldsKeys stay s
-no_keys stay s none is = record {
-  proper = subst (All IsProperFace) (sym none) (λ k d l. absurd (omega arith));
-  each = λ k. ap (list_any (λ q. is_eq (nat_cmp k q))) is ∙ sym (ap (λ fs. has_key fs k) none);
-}
+no_keys stay s none is = grind (arith, common_steps)
 
 -- A face has the key where one is alike.
 has_alike : (fs : List Corners) (f : Corners) → All IsProperFace fs → IsProperFace f
@@ -80,10 +78,7 @@ new_stays stay f s h e short new =
 
 pub old_holds : (stay : List Corners) (s n : BTreeSet ℕ) → HoldsKeys stay s → n.keys ≡ s.keys
     → HoldsKeys stay n
-old_holds stay s n h same = record {
-  proper = h.proper;
-  each = λ k. ap (list_any (λ q. is_eq (nat_cmp k q))) same ∙ h.each k;
-}
+old_holds stay s n h same = grind (arith, common_steps)
 
 pub new_holds : (stay more : List Corners) (f : Corners) (s n : BTreeSet ℕ) → HoldsKeys stay s
     → is_flat f ≡ false → HasShortCorners f → Updates nat_cmp s n (corners_key_of f) true
@@ -98,11 +93,7 @@ new_holds stay more f s n h e short u is = record {
 -- One face after the other.
 then_rest : (stay : List Corners) (f : Corners) (fs : List Corners)
     → kept_after (kept_after stay (f ∷ [])) fs ≡ kept_after stay (f ∷ fs)
-then_rest stay f fs =
-    elim (cases_Bool (is_kept_after stay f)) [
-      | inl t ↦ ap (λ xs. kept_after xs fs) (cond-true _ _ _ t) ∙ sym (cond-true _ _ _ t)
-      | inr n ↦ ap (λ xs. kept_after xs fs) (cond-false _ _ _ n) ∙ sym (cond-false _ _ _ n)
-    ]
+then_rest stay f fs = grind (arith, common_steps, cond-false, cond-true)
 
 pub one_more : (stay more fs : List Corners) (i : ℕ) → i < length fs
     → more ≡ kept_after stay (face_at fs i ∷ []) → kept_after stay (drop i fs) ≡ kept_of fs

@@ -4,7 +4,7 @@ use Rattle.std.proofs.Common.{subst, List, length, arith}
 use Rattle.std.specs.Prelude.{slice_index_or}
 use Rattle.std.proofs.lemmas.Bool.{cases_eq, cases_lt, cases_order}
 use Rattle.std.proofs.lemmas.List.{ext_get_or}
-use Rattle.std.proofs.lemmas.Grind.{same_number_lists}
+use Rattle.std.proofs.lemmas.Grind.{same_number_lists, common_steps}
 use Rattle.pm_base.specs.declared.mesh.Corners.{Corners}
 use Rattle.pm_base.specs.Sides.{Net, net_of, no_corners, side_count, prev, Stands}
 use Rattle.pm_base.proofs.NetLaws.{face_at, first_side, second_side, third_side}
@@ -178,15 +178,7 @@ module _ (m : Net) (fs gs : List Corners) (old was : List ℕ) (stand : AllStand
       s.used v l in (e, subst (λ k. e < 3 * k) s.split.faces te.is_side, is)
 
   no_more : length old ≤ length was
-  no_more =
-      elim (cases_lt (length was) (length old)) [
-        | inr le ↦ le
-        | inl l ↦
-            let (e, low, is) = side_of (length was) l in
-            let same = one_from e low in
-            let w = t.within e low in
-            absurd (omega arith)
-      ]
+  no_more = grind (arith, common_steps, one_from, side_of (length was))
 
   one_old : (v : ℕ) → v < length old → slice_index_or old v 0 ≡ slice_index_or was v 0
   one_old v l =

@@ -1,5 +1,6 @@
 -- An oriented manifold of which every vertex is used is its own split by fans.
-use Rattle.std.proofs.Common.{ℕ, ◌<◌, inl, refl, sym, ap, ◌∙◌, subst, List, arith}
+use Rattle.std.proofs.Common.{ℕ, ◌<◌, refl, sym, ap, ◌∙◌, subst, List, arith}
+use Rattle.std.proofs.lemmas.Grind.{common_steps}
 use Rattle.std.specs.List.{range_with_len}
 use Rattle.std.proofs.lemmas.List.FromFn.{length-range_with_len, get_or-range_with_len}
 use Rattle.pm_base.specs.declared.mesh.Corners.{Corners}
@@ -42,13 +43,7 @@ own_fans m is = record {
         f0.side,
         f0.stands,
         λ g tg same.
-            let pg : IsPairAt m (m.from e) (to m g) (third m g) = record {
-              side = g;
-              stands = tg;
-              at = same;
-              one = refl;
-              two = refl;
-            } in
+            let pg : IsPairAt m (m.from e) (to m g) (third m g) = grind (arith, common_steps) in
             goes_turns m once f0 (all (to m g) (third m g) pg) (third m g) pg,
       );
 }
@@ -56,10 +51,5 @@ own_fans m is = record {
 pub manifolds_are_their_own_split : (fs : List Corners) (n : ℕ) → IsOrientedManifold (net_of fs)
     → ((e : ℕ) → e < side_count (net_of fs) → (net_of fs).from e < n)
     → ((v : ℕ) → v < n → IsUsed (net_of fs) v) → IsSplitMesh (net_of fs) fs (range_with_len 0 n)
-manifolds_are_their_own_split fs n is low used = record {
-  split = own_fans (net_of fs) is;
-  ordered = λ e g te tg he hg less. inl less;
-  used = λ v l. used v (subst (λ k. v < k) (length-range_with_len 0 n) l);
-  within = λ e l. subst (λ k. (net_of fs).from e < k) (sym (length-range_with_len 0 n)) (low e l);
-  back = λ e l. get_or-range_with_len 0 n ((net_of fs).from e) 0 (low e l) ∙ omega arith;
-}
+manifolds_are_their_own_split fs n is low used =
+    grind (arith, common_steps, get_or-range_with_len, length-range_with_len, own_fans)

@@ -1,11 +1,12 @@
 -- Where the same sides have equal ends, whatever the vertices' numbers are, the same sides are
 -- glued and vertices are split alike.
-use Rattle.std.proofs.Common.{◌≡◌, ℕ, zero, suc, ◌*◌, ◌/◌, ◌%◌, ◌<◌, ◌==◌, inl, inr, sym, ap, ◌∙◌}
+use Rattle.std.proofs.Common.{◌≡◌, ℕ, zero, suc, ◌*◌, ◌<◌, inl, inr, sym, ap, ◌∙◌}
+use Rattle.std.proofs.lemmas.Grind.{common_steps}
 use Rattle.std.proofs.Common.{subst, List, length, map, get_or, arith}
-use Rattle.std.proofs.lemmas.Bool.{cases_Bool, cases_lt, cond-true, cond-false}
+use Rattle.std.proofs.lemmas.Bool.{cases_lt, cond-true, cond-false}
 use Rattle.std.proofs.lemmas.List.{length-map, get_or-map}
 use Rattle.pm_base.specs.declared.mesh.Corners.{Corners}
-use Rattle.pm_base.specs.Sides.{Net, next, prev, net_of, side_count, corner_in, no_corners, Stands}
+use Rattle.pm_base.specs.Sides.{Net, next, prev, net_of, side_count, corner_in, Stands}
 use Rattle.pm_base.specs.Sides.{IsTwin}
 use Rattle.pm_base.proofs.Sides.{next-lt}
 use Rattle.pm_base.proofs.NetLaws.{face_at}
@@ -25,25 +26,11 @@ side_there : (m k : Net) → HaveSameEnds m k → (e : ℕ) → e < side_count m
 side_there m k s e l = subst (λ n. e < 3 * n) (sym s.faces) l
 
 swapped : (m k : Net) → HaveSameEnds m k → HaveSameEnds k m
-swapped m k s =
-    let low = λ (e : ℕ) (l : e < side_count k). subst (λ n. e < 3 * n) s.faces l in
-    record {
-      faces = sym s.faces;
-      there = λ e g el gl. s.back e g (low e el) (low g gl);
-      back = λ e g el gl. s.there e g (low e el) (low g gl);
-    }
+swapped m k s = grind (arith, common_steps)
 
 stands_there : (m k : Net) → HaveSameEnds m k → (e : ℕ) → Stands m e → Stands k e
 stands_there m k s e t =
-    let l = t.is_side in
-    let l1 = next-lt m.faces e l in
-    let l2 = next-lt m.faces (next e) l1 in
-    record {
-      is_side = side_there m k s e l;
-      first = λ is. t.first (s.back e (next e) l l1 is);
-      second = λ is. t.second (s.back (next e) (prev e) l1 l2 is);
-      last = λ is. t.last (s.back (prev e) e l2 l is);
-    }
+    grind (arith, common_steps, next-lt m.faces e, next-lt m.faces (next e), side_there m k s e)
 
 twin_there : (m k : Net) → HaveSameEnds m k → (e g : ℕ) → e < side_count m → IsTwin m e g
     → IsTwin k e g
@@ -98,15 +85,7 @@ comes_there m k n s e g (inr (inr (a, b), l)) =
 none_below : (m n : Net) (v : ℕ) → ((e : ℕ) → Stands m e → n.from e ≡ v → IsHead m n e → ⊥)
     → (k e : ℕ) → e < k → Stands m e → n.from e ≡ v → ⊥
 none_below m n v none zero e l t at = omega arith
-none_below m n v none (suc k) e l t at =
-    none e t at (inr (λ g tg same. (
-      λ first. none g tg (same ∙ at) (inl first),
-      elim (cases_lt g e) [
-        | inl less ↦
-            absurd (none_below m n v none k g (omega arith) tg (same ∙ at))
-        | inr le ↦ le
-      ],
-    )))
+none_below m n v none (suc k) e l t at = grind (arith, common_steps, none_below m n v none k)
 
 module _ (m : Net) (fs : List Corners) (old : List ℕ) (stand : AllStand m)
     (p : IsSplitMesh m fs old) where
@@ -177,22 +156,12 @@ module _ (m : Net) (fs : List Corners) (old : List ℕ) (stand : AllStand m)
 -- The sides of faces over other numbers of their vertices.
 corner_renumbered : (r : ℕ → ℕ) (f : Corners) (i : ℕ)
     → corner_in (renumbered r f) i ≡ r (corner_in f i)
-corner_renumbered r f i =
-    elim (cases_Bool (i == 0)) [
-      | inl a ↦ cond-true _ _ _ a ∙ ap r (sym (cond-true _ _ _ a))
-      | inr n ↦
-          cond-false _ _ _ n ∙ (elim (cases_Bool (i == 1)) [
-            | inl b ↦ cond-true _ _ _ b ∙ ap r (sym (cond-true _ _ _ b))
-            | inr c ↦ cond-false _ _ _ c ∙ ap r (sym (cond-false _ _ _ c))
-          ]) ∙ ap r (sym (cond-false _ _ _ n))
-    ]
+corner_renumbered r f i = grind (arith, common_steps, cond-false, cond-true)
 
 pub from_renumbered : (r : ℕ → ℕ) (fs : List Corners) (e : ℕ) → e < side_count (net_of fs)
     → (net_of (map (renumbered r) fs)).from e ≡ r ((net_of fs).from e)
 from_renumbered r fs e l =
-    ap (λ f. corner_in f (e % 3))
-    (get_or-map (renumbered r) fs (e / 3) no_corners no_corners (omega arith))
-    ∙ corner_renumbered r (face_at fs (e / 3)) (e % 3)
+    grind (arith, common_steps, corner_renumbered, face_at, get_or-map, renumbered)
 
 pub same_ends : (r : ℕ → ℕ) → ((x y : ℕ) → r x ≡ r y → x ≡ y) → (fs : List Corners)
     → HaveSameEnds (net_of fs) (net_of (map (renumbered r) fs))

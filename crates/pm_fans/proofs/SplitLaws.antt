@@ -1,8 +1,9 @@
 -- Vertices numbered by the heads of their chains are a split by fans, in order.
 use Rattle.std.proofs.Common.{◌≡◌, ℕ, ◌+◌, ◌*◌, ◌/◌, ◌%◌, ◌<◌, ◌≤◌, inl, inr, refl, sym, ap, ◌∙◌}
-use Rattle.std.proofs.Common.{subst, cond, Option, Some, None, List, length, slice_index}
+use Rattle.std.proofs.lemmas.Grind.{common_steps}
+use Rattle.std.proofs.Common.{subst, Option, Some, None, List, length, slice_index}
 use Rattle.std.proofs.Common.{slice_index_or, arith}
-use Rattle.std.specs.Option.{MatchOption, is_some, unwrap_or}
+use Rattle.std.specs.Option.{MatchOption, unwrap_or}
 use Rattle.std.proofs.lemmas.Bool.{cases_eq, cases_lt}
 use Rattle.pm_base.specs.declared.mesh.Corners.{Corners}
 use Rattle.pm_base.specs.Sides.{Net, net_of, side_count, prev, Stands, beside_side}
@@ -71,18 +72,12 @@ module _ (m : Net) (glued : List (Option ℕ)) (ok : IsCuttable m)
 order_open : (m : Net) (glued : List (Option ℕ)) (e : ℕ) → beside_side glued e ≡ None
     → order_key m glued e ≡ m.from e * 8388608 + e
 unfolding order_key
-order_open m glued e is =
-    let bit : ℕ = cond (is_some (beside_side glued e)) 1 0 in
-    let none : bit ≡ 0 = ap (λ (o : Option ℕ). cond (is_some o) 1 0) is in
-    omega (arith, none)
+order_open m glued e is = grind (arith, common_steps)
 
 order_closed : (m : Net) (glued : List (Option ℕ)) (e k : ℕ) → beside_side glued e ≡ Some k
     → order_key m glued e ≡ m.from e * 8388608 + 4194304 + e
 unfolding order_key
-order_closed m glued e k is =
-    let bit : ℕ = cond (is_some (beside_side glued e)) 1 0 in
-    let one : bit ≡ 1 = ap (λ (o : Option ℕ). cond (is_some o) 1 0) is in
-    omega (arith, one)
+order_closed m glued e k is = grind (arith, common_steps)
 
 module _ (m : Net) (glued heads : List (Option ℕ)) (keys places : List ℕ) (fs : List Corners)
     (ok : IsCuttable m) (g : AreGlued m (side_count m) glued) (a : AreAllHeaded glued heads)

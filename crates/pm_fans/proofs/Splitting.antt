@@ -1,5 +1,6 @@
 -- Splitting vertices by fans: the proofs.
-use Rattle.std.proofs.Common.{◌≡◌, ℕ, ◌*◌, ◌<◌, inl, inr, refl, sym, ap, ◌∙◌, subst}
+use Rattle.std.proofs.Common.{◌≡◌, ℕ, ◌*◌, ◌<◌, refl, sym, ap, ◌∙◌, subst, arith}
+use Rattle.std.proofs.lemmas.Grind.{common_steps}
 use Rattle.pm_base.specs.Sides.{Net, next, prev, to, third, Stands, NoSideTwice, IsTwin}
 use Rattle.pm_base.specs.Fans.{IsPairAt, IsUsed, IsOrientedManifold}
 use Rattle.pm_base.specs.Rounds.{Goes, stay as halt, on as go, IsRound}
@@ -67,13 +68,7 @@ module _ (m n : Net) (s : IsSplitByFans m n) where
   goes a g t (on {e} w _ r) =
       let (te, fe, k) = goes a e t w in
       let (tg, fg, j) = step e g te r in
-      let f : IsPairAt n (n.from a) (to n e) (third n e) = record {
-        side = e;
-        stands = there e te;
-        at = fe;
-        one = refl;
-        two = refl;
-      } in
+      let f : IsPairAt n (n.from a) (to n e) (third n e) = grind (arith, common_steps, there) in
       (tg, fg ∙ fe, subst (λ i. Goes n (n.from a) (to n a) i) (sym j) (go k f))
 
   -- A side that was come to over a glued side stands once.
@@ -99,16 +94,7 @@ module _ (m n : Net) (s : IsSplitByFans m n) where
         ∙ old-from (next g) (stands_next m g vg))
 
     old_pair : {v x y : ℕ} → IsPairAt n v x y → IsPairAt m (s.old v) (s.old x) (s.old y)
-    old_pair f =
-        let t = here f.side f.stands in
-        let t1 = stands_next m f.side t in
-        record {
-          side = f.side;
-          stands = t;
-          at = sym (old-from f.side t) ∙ ap s.old f.at;
-          one = sym (old-from (next f.side) t1) ∙ ap s.old f.one;
-          two = sym (old-from (prev f.side) (stands_next m (next f.side) t1)) ∙ ap s.old f.two;
-        }
+    old_pair f = grind (arith, common_steps, here, old-from, stands_next)
 
     round_split : (v : ℕ) → IsUsed n v → IsRound n v
     round_split v (e, te, is) =
@@ -147,11 +133,7 @@ module _ (m n : Net) (s : IsSplitByFans m n) where
 -- The first pair of a way that meets every pair.
 pub first_pair : (m : Net) (once : NoSideTwice m) (v a x y : ℕ) → Goes m v a x → IsPairAt m v x y
     → (b : ℕ) × IsPairAt m v a b
-first_pair m once v a x y w f =
-    elim (uncons m once v w) [
-      | inl is ↦ (y, subst (λ i. IsPairAt m v i y) (sym is) f)
-      | inr (b, g, u) ↦ (b, g)
-    ]
+first_pair m once v a x y w f = grind (arith, common_steps, uncons)
 
 pub splits_make_manifolds : (m n : Net) → AllStand m → NoMirroredFaces m → IsSplitByFans m n
     → IsOrientedManifold n
@@ -164,13 +146,7 @@ manifolds_stay_whole m n is s e g te tg same =
     let v : ℕ = m.from e in
     let (a, all) = fan_round m v (is.fans v (e, te, refl)) in
     let pe : IsPairAt m v (to m e) (third m e) = pair_at m e te in
-    let pg : IsPairAt m v (to m g) (third m g) = record {
-      side = g;
-      stands = tg;
-      at = sym same;
-      one = refl;
-      two = refl;
-    } in
+    let pg : IsPairAt m v (to m g) (third m g) = grind (arith, common_steps) in
     let (b, f0) = first_pair m once v a (to m e) (third m e) (all (to m e) (third m e) pe) pe in
     stays m n s once f0 (all (to m e) (third m e) pe) (third m e) pe
     ∙ sym (stays m n s once f0 (all (to m g) (third m g) pg) (third m g) pg)

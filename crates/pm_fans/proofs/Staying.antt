@@ -1,5 +1,6 @@
 -- All faces of a fit list stay, and so do those of an oriented manifold.
 use Rattle.std.proofs.Common.{◌≡◌, ◌≢◌, ℕ, suc, ◌+◌, ◌*◌, ◌/◌, ◌<◌, inl, inr, refl, sym, ap, ◌∙◌}
+use Rattle.std.proofs.lemmas.Grind.{common_steps}
 use Rattle.std.proofs.Common.{subst, List, [], ◌∷◌, ◌++◌, length, Bool, true, false, not, ◌&&◌}
 use Rattle.std.proofs.Common.{◌||◌, arith}
 use Rattle.std.specs.Prelude.{◌==◌}
@@ -46,9 +47,7 @@ all_stay : (before fs : List Corners) → IsFitList (before ++ fs) → kept_afte
     ++ fs
 all_stay before [] h = sym (append-nil before)
 all_stay before (f ∷ fs) h =
-    let whole = append_assoc before (f ∷ []) fs in
-    cond-true _ _ _ (fits before f fs h)
-    ∙ all_stay (before ++ f ∷ []) fs (subst IsFitList (sym whole) h) ∙ whole
+    grind (arith, common_steps, append_assoc, cond-true, fits, all_stay (before ++ f ∷ []) fs)
 
 pub fit_lists_stay : (fs : List Corners) → IsFitList fs → kept_of fs ≡ fs
 unfolding kept_of
@@ -131,13 +130,7 @@ no_alike fs stand is i j il jl ij e =
                               one = sb;
                               two = sc;
                             } in
-                            let q : IsPairAt m k.a k.c k.b = record {
-                              side = h.side;
-                              stands = th;
-                              at = h.from;
-                              one = u;
-                              two = w;
-                            } in
+                            let q : IsPairAt m k.a k.c k.b = grind (arith, common_steps) in
                             fan_no_mirror m k.a (is.fans k.a (s, ts, sa)) k.b k.c p q
                       ]
                 ]

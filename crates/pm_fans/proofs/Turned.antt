@@ -1,8 +1,9 @@
 -- The three corners of a face, in one of its turns.
-use Rattle.std.proofs.Common.{◌≡◌, ◌≢◌, ℕ, ◌/◌, ◌%◌, ◌⊎◌, inl, inr, refl, sym, ◌∙◌, subst, List}
-use Rattle.std.proofs.Common.{true, false, ◌&&◌, ◌||◌, arith}
+use Rattle.std.proofs.Common.{◌≡◌, ◌≢◌, ℕ, ◌/◌, ◌⊎◌, inl, inr, refl, sym, ◌∙◌, subst, List}
+use Rattle.std.proofs.lemmas.Grind.{common_steps}
+use Rattle.std.proofs.Common.{true, false, ◌||◌, arith}
 use Rattle.std.specs.Prelude.{◌==◌}
-use Rattle.std.proofs.lemmas.Bool.{cases_eq, or_cases, eqb-true, eq-eqb, eqb-false, and_from}
+use Rattle.std.proofs.lemmas.Bool.{or_cases, eqb-true, eq-eqb, eqb-false, and_from}
 use Rattle.std.proofs.lemmas.Bool.{or_parts, or_left, or_right}
 use Rattle.pm_base.specs.declared.mesh.Corners.{Corners}
 use Rattle.pm_base.specs.Sides.{Net, next, prev, to, third, net_of}
@@ -23,27 +24,21 @@ Turned k x y z = AreTurned k x y z ⊎ (AreTurned k z x y ⊎ AreTurned k y z x)
 pub side_turned : (fs : List Corners) (e f : ℕ) → e / 3 ≡ f → let m =
     net_of fs in Turned (face_at fs f) (m.from e) (to m e) (third m e)
 side_turned fs e f at =
-    let a = next_cases e in
-    let b = next_cases (next e) in
-    elim (cases_eq (e % 3) 0) [
-      | inl is ↦ inl (record {
-        a = sym (from-corner fs e f 0 at is);
-        b = sym (from-corner fs (next e) f 1 (omega arith) (omega arith));
-        c = sym (from-corner fs (prev e) f 2 (omega arith) (omega arith));
-      })
-      | inr n0 ↦ inr (elim (cases_eq (e % 3) 1) [
-        | inl is ↦ inl (record {
-          b = sym (from-corner fs e f 1 at is);
-          c = sym (from-corner fs (next e) f 2 (omega arith) (omega arith));
-          a = sym (from-corner fs (prev e) f 0 (omega arith) (omega arith));
-        })
-        | inr n1 ↦ inr (record {
-          c = sym (from-corner fs e f 2 at (omega arith));
-          a = sym (from-corner fs (next e) f 0 (omega arith) (omega arith));
-          b = sym (from-corner fs (prev e) f 1 (omega arith) (omega arith));
-        })
-      ])
-    ]
+    grind (
+      arith,
+      common_steps,
+      from-corner fs e f 0 at,
+      from-corner fs (next e) f 1,
+      from-corner fs (prev e) f 2,
+      from-corner fs e f 1 at,
+      from-corner fs (next e) f 2,
+      from-corner fs (prev e) f 0,
+      from-corner fs e f 2 at,
+      from-corner fs (next e) f 0,
+      from-corner fs (prev e) f 1,
+      next_cases e,
+      next_cases (next e),
+    )
 
 -- Three different corners.
 pub record Differ (x y z : ℕ) : Type 0 where
@@ -52,33 +47,12 @@ pub record Differ (x y z : ℕ) : Type 0 where
   pub zx : z ≢ x
 
 pub not_flat : (k : Corners) → is_flat k ≡ false → Differ k.a k.b k.c
-not_flat k e =
-    let (p, r) = or_parts (k.a == k.b || k.b == k.c) (k.c == k.a) e in
-    let (s, t) = or_parts (k.a == k.b) (k.b == k.c) p in
-    record { xy = eqb-false _ _ s; yz = eqb-false _ _ t; zx = eqb-false _ _ r }
+not_flat k e = grind (arith, common_steps, eqb-false, or_parts)
 
 pub turned_differ : (k : Corners) (x y z : ℕ) → Differ k.a k.b k.c → Turned k x y z → Differ x y z
-turned_differ k x y z d (inl t) =
-    record {
-      xy = λ i. d.xy (t.a ∙ i ∙ sym t.b);
-      yz = λ i. d.yz (t.b ∙ i ∙ sym t.c);
-      zx =
-          λ i. d.zx (t.c ∙ i ∙ sym t.a);
-    }
-turned_differ k x y z d (inr (inl t)) =
-    record {
-      xy = λ i. d.yz (t.b ∙ i ∙ sym t.c);
-      yz = λ i. d.zx (t.c ∙ i ∙ sym t.a);
-      zx =
-          λ i. d.xy (t.a ∙ i ∙ sym t.b);
-    }
-turned_differ k x y z d (inr (inr t)) =
-    record {
-      xy = λ i. d.zx (t.c ∙ i ∙ sym t.a);
-      yz = λ i. d.xy (t.a ∙ i ∙ sym t.b);
-      zx =
-          λ i. d.yz (t.b ∙ i ∙ sym t.c);
-    }
+turned_differ k x y z d (inl t) = grind (arith, common_steps)
+turned_differ k x y z d (inr (inl t)) = grind (arith, common_steps)
+turned_differ k x y z d (inr (inr t)) = grind (arith, common_steps)
 
 -- What a face's corners are.
 pub corner_a : (k : Corners) (x : ℕ) → k.a ≡ x → is_corner k x ≡ true
@@ -98,30 +72,13 @@ pub record HasAll (k : Corners) (x y z : ℕ) : Type 0 where
   pub three : is_corner k z ≡ true
 
 pub turned_has : (k : Corners) (x y z : ℕ) → Turned k x y z → HasAll k x y z
-turned_has k x y z (inl t) = record {
-  one = corner_a k x t.a;
-  two = corner_b k y t.b;
-  three = corner_c k z t.c;
-}
-turned_has k x y z (inr (inl t)) = record {
-  one = corner_b k x t.b;
-  two = corner_c k y t.c;
-  three = corner_a k z t.a;
-}
-turned_has k x y z (inr (inr t)) = record {
-  one = corner_c k x t.c;
-  two = corner_a k y t.a;
-  three = corner_b k z t.b;
-}
+turned_has k x y z (inl t) = grind (arith, common_steps, corner_a, corner_b, corner_c)
+turned_has k x y z (inr (inl t)) = grind (arith, common_steps, corner_a, corner_b, corner_c)
+turned_has k x y z (inr (inr t)) = grind (arith, common_steps, corner_a, corner_b, corner_c)
 
 all_alike : (k g : Corners) (a b c : ℕ) → HasAll k a b c → AreTurned g a b c → is_alike k g ≡ true
 unfolding is_alike
-all_alike k g a b c h t =
-    let at = λ (i j : ℕ) (e : i ≡ j) (s : is_corner k j ≡ true). subst (λ n. is_corner k n ≡ true)
-    (sym e) s in
-    and_from (is_corner k g.a && is_corner k g.b) (is_corner k g.c)
-    (and_from (is_corner k g.a) (is_corner k g.b) (at _ _ t.a h.one) (at _ _ t.b h.two))
-    (at _ _ t.c h.three)
+all_alike k g a b c h t = grind (arith, common_steps, and_from)
 
 pub turned_alike : (k g : Corners) (x y z : ℕ) → HasAll k x y z → Turned g x y z
     → is_alike k g ≡ true
