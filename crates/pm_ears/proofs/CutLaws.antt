@@ -1,6 +1,7 @@
 -- Cuts of a polygon: their areas, their number, and their order.
 use Rattle.std.proofs.Common.{◌≡◌, ℕ, zero, suc, ◌+◌, ◌<◌, ◌≤◌, Bool, true, false, List, [], ◌∷◌}
-use Rattle.std.proofs.Common.{length, refl, sym, ap, subst, arith}
+use Rattle.std.proofs.lemmas.Grind.{common_steps}
+use Rattle.std.proofs.Common.{length, refl, ap, arith}
 use Rattle.std.specs.Prelude.{pos, ◌+ℤ◌}
 use Rattle.std.specs.List.{All}
 use Rattle.std.proofs.lemmas.Int.{ints}
@@ -61,9 +62,7 @@ pub two_fewer : (spots : List Spot) (ts : List Triangle) → IsCut spots ts
     → length ts + 2 ≡ length spots
 two_fewer spots ts (done {p} {q}) = refl
 two_fewer spots ts (next {left} {rest} {t} {ts = us} w more) =
-    let one = took_one w in
-    let others = two_fewer rest us more in
-    omega (arith, one, others)
+    grind (arith, common_steps, took_one, two_fewer rest us more)
 
 -- Fans.
 pub fans_are_cuts : (a b : Spot) (more : List Spot) → IsCut (a ∷ b ∷ more) (fan (a ∷ b ∷ more))
@@ -97,17 +96,9 @@ lower low high n (p ∷ more) l h = let from = h.0 in (omega (arith, l, from), h
 took_order : (low n : ℕ) {left rest : List Spot} {t : Triangle} → TakesOff left t rest
     → AreBetween low n left → IsInOrder n t × AreBetween low n rest
 unfolding AreBetween
-took_order low n (here {a} {b} {c} {more}) h =
-    let ab = h.2.0 in
-    let bc = h.2.2.0 in
-    let rest : AreBetween (a.position + 1) n (c ∷ more) =
-    (omega (arith, ab, bc), h.2.2.1, h.2.2.2) in
-    let others : AreBetween low n (a ∷ c ∷ more) = (h.0, h.1, rest) in
-    (record { first = omega (arith, ab); second = omega (arith, bc); below = h.2.2.1 }, others)
+took_order low n (here {a} {b} {c} {more}) h = grind (arith, common_steps, AreBetween)
 took_order low n (later {p} {rest} w) h =
-    let (t, more) = took_order (p.position + 1) n w h.2 in
-    let others : AreBetween low n (p ∷ rest) = (h.0, h.1, more) in
-    (t, others)
+    grind (arith, common_steps, AreBetween, took_order (p.position + 1) n w h.2)
 
 pub cut_order : (low n : ℕ) (spots : List Spot) (ts : List Triangle) → IsCut spots ts
     → AreBetween low n spots → All (IsInOrder n) ts
@@ -135,10 +126,4 @@ pub spots_between : (plane : Plane) (i n : ℕ) (places : List Place) → i + le
 unfolding AreBetween
 spots_between plane i n [] l = _
 spots_between plane i n (p ∷ more) l =
-    let at = position_of plane i p in (
-      omega (arith, at),
-      omega (arith, at, l),
-      subst
-          (λ k. AreBetween k n (spots_on plane (i + 1) more)) (ap (λ k. k + 1) (sym at))
-          (spots_between plane (i + 1) n more (omega (arith, l))),
-    )
+    grind (arith, common_steps, AreBetween, position_of, spots_between plane (i + 1) n more)

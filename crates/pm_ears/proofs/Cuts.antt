@@ -1,5 +1,6 @@
 -- A cut, by what was found of the fan and of the ears.
-use Rattle.std.proofs.Common.{◌≡◌, true, false, Option, Some, None, List, refl, sym, ap, ◌∙◌, subst}
+use Rattle.std.proofs.Common.{◌≡◌, true, false, Option, Some, None, List, refl, sym, arith}
+use Rattle.std.proofs.lemmas.Grind.{common_steps}
 use Rattle.std.specs.Prelude.{map}
 use Rattle.std.specs.List.{list_any}
 use Rattle.std.specs.Option.{option_map}
@@ -11,7 +12,7 @@ use Rattle.pm_ears.specs.declared.cut.CutKind.TheVariants as kinds
 use Rattle.pm_ears.specs.declared.spots.Spot.{Spot}
 use Rattle.pm_ears.specs.declared.spots.Triangle.{Triangle}
 use Rattle.pm_ears.specs.Planes.{spots_of}
-use Rattle.pm_ears.specs.Cutting.{fan, is_turned_over, Pieces, pieces_by, few_ears, pieces_of}
+use Rattle.pm_ears.specs.Cutting.{fan, is_turned_over, pieces_by, few_ears, pieces_of}
 use Rattle.pm_ears.specs.Cutting.{named}
 use Rattle.pm_ears.proofs.Taking.{some_same}
 
@@ -30,13 +31,7 @@ pub cut_by_fan : (places : List Place) (spots : List Spot) (triangles : List Cor
     → triangles ≡ map named (fan spots)
     → (kinds.Fan ≡ (pieces_of (spots_of places)).kind)
     × (triangles ≡ map named (pieces_of (spots_of places)).triangles)
-cut_by_fan places spots triangles is e t =
-    subst (λ (ss : List Spot). (kinds.Fan ≡ (pieces_of ss).kind)
-    × (triangles ≡ map named (pieces_of ss).triangles)) is (
-      sym (ap (λ (p : Pieces). p.kind) (by_fan spots e)),
-      t
-          ∙ sym (ap (λ (p : Pieces). map named p.triangles) (by_fan spots e)),
-    )
+cut_by_fan places spots triangles is e t = grind (arith, common_steps, by_fan)
 
 ears_told : (f : List Triangle) (o : Option (List Triangle)) (triangles : List Corners)
     → Some triangles ≡ option_map (map named) o
@@ -56,19 +51,11 @@ pub cut_by_ears : (places : List Place) (spots : List Spot) (triangles : List Co
     → Some triangles ≡ option_map (map named) (few_ears spots)
     → (kinds.Ears ≡ (pieces_of (spots_of places)).kind)
     × (triangles ≡ map named (pieces_of (spots_of places)).triangles)
-cut_by_ears places spots triangles is e t =
-    subst (λ (ss : List Spot). (kinds.Ears ≡ (pieces_of ss).kind)
-    × (triangles ≡ map named (pieces_of ss).triangles)) is
-    (subst (λ (p : Pieces). (kinds.Ears ≡ p.kind) × (triangles ≡ map named p.triangles))
-    (sym (by_ears spots e)) (ears_told (fan spots) (few_ears spots) triangles t))
+cut_by_ears places spots triangles is e t = grind (arith, common_steps, by_ears, ears_told)
 
 pub cut_by_none : (places : List Place) (spots : List Spot) (triangles : List Corners)
     → spots ≡ spots_of places → list_any is_turned_over (fan spots) ≡ true
     → None ≡ option_map (map named) (few_ears spots) → triangles ≡ map named (fan spots)
     → (kinds.OverlappingFan ≡ (pieces_of (spots_of places)).kind)
     × (triangles ≡ map named (pieces_of (spots_of places)).triangles)
-cut_by_none places spots triangles is e o t =
-    subst (λ (ss : List Spot). (kinds.OverlappingFan ≡ (pieces_of ss).kind)
-    × (triangles ≡ map named (pieces_of ss).triangles)) is
-    (subst (λ (p : Pieces). (kinds.OverlappingFan ≡ p.kind) × (triangles ≡ map named p.triangles))
-    (sym (by_ears spots e)) (no_ears_told (fan spots) (few_ears spots) triangles o t))
+cut_by_none places spots triangles is e o t = grind (arith, common_steps, by_ears, no_ears_told)

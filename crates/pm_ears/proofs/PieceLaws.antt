@@ -1,5 +1,6 @@
 -- What a polygon is cut into, and what is told of it.
 use Rattle.std.proofs.Common.{◌≡◌, ℕ, zero, suc, ◌+◌, ◌-◌, ◌≤◌, Bool, true, false, Option, Some}
+use Rattle.std.proofs.lemmas.Grind.{common_steps}
 use Rattle.std.proofs.Common.{None, Ordering, Less, inl, inr, List, [], ◌∷◌, length, refl, sym, ap}
 use Rattle.std.proofs.Common.{◌∙◌, subst, arith}
 use Rattle.std.specs.Prelude.{ℤ, pos, int_lt, cond, ◌&&◌, ◌||◌, ◌⊎◌}
@@ -33,11 +34,7 @@ left_true true b e = refl
 left_true false b e = absurd (false≢true e)
 
 above : (z : ℤ) → int_lt (pos 0) z ≡ true → int_lt z (pos 0) ≡ false
-above z e =
-    elim (cases_Bool (int_lt z (pos 0))) [
-      | inl f ↦ absurd (omega (arith, ints, e, f))
-      | inr f ↦ f
-    ]
+above z e = grind (arith, common_steps, ints)
 
 not_less : (a : Bool) (x : Ordering) → is_eq (cond a Less x) ≡ true → a ≡ false
 not_less true x e = absurd (false≢true e)
@@ -64,12 +61,7 @@ mapped_some t (Some us) ts e = (us, refl, some_same (t ∷ us) ts e)
 
 begins : (n : ℕ) (left : List Spot) (ts : List Triangle) → ears (suc n) left ≡ Some ts
     → Begins left n ts
-begins n left ts e =
-    option_and_then_some (λ i. option_map (λ (us : List Triangle). triangle_at left i ∷ us)
-    (ears n (without left i))) (next_ear left) ts e
-    (λ i found more. let (us, rest, all) =
-    mapped_some (triangle_at left i) (ears n (without left i)) ts more in
-    record { first = i; others = us; found = found; rest = rest; all = all })
+begins n left ts e = grind (arith, common_steps, mapped_some, option_and_then_some)
 
 pub ears_upright : (n : ℕ) (left : List Spot) (ts : List Triangle) → ears n left ≡ Some ts
     → All (λ t. is_turned_over t ≡ false) ts
@@ -126,13 +118,7 @@ by_option spots (Some ts) l e =
     ears_cut (length spots - 2) spots ts (omega (arith, l)) (few_ears_some spots ts e)
 
 pieces_cut : (spots : List Spot) → 2 ≤ length spots → IsCut spots (pieces_of spots).triangles
-pieces_cut spots l =
-    elim (cases_Bool (list_any is_turned_over (fan spots))) [
-      | inl e ↦ subst (λ (p : Pieces). IsCut spots p.triangles) (sym (by_ears spots e))
-          (by_option spots (few_ears spots) l refl)
-      | inr e ↦ subst (λ (p : Pieces). IsCut spots p.triangles) (sym (by_fan spots e))
-          (fan_cut spots l)
-    ]
+pieces_cut spots l = grind (arith, common_steps, by_ears, by_fan, by_option, fan_cut)
 
 pub pieces_are_cuts : (places : List Place) → 2 ≤ length places
     → IsCut (spots_of places) (pieces_of (spots_of places)).triangles

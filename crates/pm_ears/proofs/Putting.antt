@@ -1,5 +1,6 @@
 -- Triangles put in place of as many others.
 use Rattle.std.proofs.Common.{◌≡◌, ℕ, zero, suc, ◌+◌, ◌-◌, ◌<◌, ◌≤◌, List, [], ◌∷◌, ◌++◌, length}
+use Rattle.std.proofs.lemmas.Grind.{common_steps}
 use Rattle.std.proofs.Common.{take, drop, get_or, set, refl, sym, ap, ◌∙◌, arith, length-append}
 use Rattle.std.proofs.lemmas.List.{length-take, length-take-le, length-drop, drop-drop}
 use Rattle.std.proofs.lemmas.List.{set-append_right, take-append-drop}
@@ -8,18 +9,7 @@ use Rattle.pm_ears.specs.Recutting.{put_at}
 
 pub put_long : (first : ℕ) (ts faces : List Corners) → first + length ts ≤ length faces
     → length (put_at first ts faces) ≡ length faces
-put_long first ts faces l =
-    let rest = drop (first + length ts) faces in
-    omega (
-      arith,
-      l,
-      length-append (take first faces ++ ts) rest,
-      length-append (take first faces) ts,
-      length-append (take first faces) (ts ++ rest),
-      length-append ts rest,
-      length-take first faces,
-      length-drop (first + length ts) faces,
-    )
+put_long first ts faces l = grind (arith, common_steps, length-append, length-drop, length-take)
 
 -- Triangles put in place of others one after the other.
 pub put_none : (first : ℕ) (faces : List Corners) → put_at first [] faces ≡ faces

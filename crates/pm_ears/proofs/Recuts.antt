@@ -1,29 +1,22 @@
 -- All polygons cut anew, one after the other.
-use Rattle.std.proofs.Common.{◌≡◌, ℕ, zero, suc, ◌+◌, ◌-◌, ◌<◌, ◌≤◌, Bool, true, false, not, ◌&&◌}
-use Rattle.std.proofs.Common.{List, [], ◌∷◌, ◌++◌, length, map, take, drop, get_or, refl, sym, ap}
-use Rattle.std.proofs.Common.{◌∙◌, subst, inl, inr, arith, length-append, if◌then◌else◌}
-use Rattle.std.specs.List.{All, list_all, filter}
-use Rattle.std.proofs.lemmas.Bool.{cases_Bool, and_parts, true≢false, cond-true, cond-false}
-use Rattle.std.proofs.lemmas.List.{length-map, length-take, length-drop}
-use Rattle.std.proofs.lemmas.List.Elements.{All-nil, All-cons, All-head, All-tail, All-append}
+use Rattle.std.proofs.Common.{◌≡◌, ℕ, ◌+◌, ◌-◌, ◌≤◌, true, false}
+use Rattle.std.proofs.lemmas.Grind.{common_steps}
+use Rattle.std.proofs.Common.{List, [], ◌∷◌, ◌++◌, length, take, drop, refl, sym, ap}
+use Rattle.std.proofs.Common.{◌∙◌, subst, inl, inr, arith, length-append}
+use Rattle.std.specs.List.{All}
+use Rattle.std.proofs.lemmas.Bool.{cases_Bool, and_parts, cond-true, cond-false}
+use Rattle.std.proofs.lemmas.List.Elements.{All-head, All-tail, All-append}
 use Rattle.std.proofs.lemmas.List.Elements.{All-take, All-drop, filter-append}
 use Rattle.pm_base.specs.declared.mesh.Corners.{Corners}
-use Rattle.pm_base.specs.Place.{Place, origin}
+use Rattle.pm_base.specs.Place.{Place}
 use Rattle.pm_ears.specs.declared.cut.CutKind.TheVariants as kinds
 use Rattle.pm_ears.specs.declared.recut.Polygon.{Polygon}
-use Rattle.pm_ears.specs.declared.spots.Spot.{Spot}
-use Rattle.pm_ears.specs.declared.spots.Triangle.{Triangle}
-use Rattle.pm_ears.specs.Planes.{plane_of, spots_of}
-use Rattle.pm_ears.specs.Cutting.{pieces_of, named}
-use Rattle.pm_ears.specs.Laws.{IsInOrder, RecutsAreAsMany, UprightFansStay}
-use Rattle.pm_ears.specs.Recutting.{fan_at, first_two, corners_of, places_of, pieces_over}
-use Rattle.pm_ears.specs.Recutting.{names_three, are_ears, is_fan, gives_way, stays_overlapping}
-use Rattle.pm_ears.specs.Recutting.{by_corners, ears_over, put_at, with_recut, recut_after}
-use Rattle.pm_ears.specs.Recutting.{overlapping_count, AreBelow, IsPolygonWithin}
+use Rattle.pm_ears.specs.Laws.{RecutsAreAsMany, UprightFansStay}
+use Rattle.pm_ears.specs.Recutting.{fan_at, pieces_over}
+use Rattle.pm_ears.specs.Recutting.{names_three, gives_way, stays_overlapping}
+use Rattle.pm_ears.specs.Recutting.{ears_over, put_at, with_recut, recut_after}
+use Rattle.pm_ears.specs.Recutting.{overlapping_count, IsPolygonWithin}
 use Rattle.pm_ears.proofs.Putting.{put_long}
-use Rattle.pm_ears.proofs.Rows.{as_many_spots}
-use Rattle.pm_ears.proofs.CutLaws.{two_fewer}
-use Rattle.pm_ears.proofs.PieceLaws.{pieces_are_cuts}
 use Rattle.pm_ears.proofs.RecutLaws.{ears_long, fan_fits}
 
 -- One polygon more.
@@ -70,16 +63,7 @@ one_long : (places : List Place) (faces cut : List Corners) (p : Polygon)
     → length (with_recut places faces cut p) ≡ length faces
 unfolding with_recut
 one_long places faces cut p within long =
-    let fan = fan_at faces p in
-    let ears = ears_over places fan in
-    elim (cases_Bool (gives_way places fan)) [
-      | inl e ↦
-          let fits : p.first + length ears ≤ length cut =
-          omega (arith, fan_fits faces p within, ears_long places fan e, long) in
-          ap length (cond-true _ (put_at p.first ears cut) cut e) ∙ put_long p.first ears cut fits
-          ∙ long
-      | inr e ↦ ap length (cond-false _ (put_at p.first ears cut) cut e) ∙ long
-    ]
+    grind (arith, common_steps, cond-false, cond-true, ears_long, fan_fits, put_long)
 
 after_long : (places : List Place) (faces cut : List Corners) (ps : List Polygon)
     → All (IsPolygonWithin (length faces)) ps → length cut ≡ length faces
@@ -103,10 +87,7 @@ recuts_are_as_many places polygons faces within = recut_long places faces polygo
 fan_stays : (places : List Place) (fan : List Corners) → (pieces_over places fan).kind ≡ kinds.Fan
     → (gives_way places fan ≡ false) × (stays_overlapping places fan ≡ false)
 unfolding gives_way stays_overlapping
-fan_stays places fan e = (
-  ap (λ k. are_ears k && names_three fan) e,
-  ap (λ k. not (is_fan k) && not (are_ears k && names_three fan)) e,
-)
+fan_stays places fan e = grind (arith, common_steps)
 
 IsUprightAt : List Place → List Corners → Polygon → Type 0
 IsUprightAt places faces p = (pieces_over places (fan_at faces p)).kind ≡ kinds.Fan
@@ -143,42 +124,26 @@ pub one_gives : (places : List Place) (faces cut ts new : List Corners) (ps : Li
     → new ≡ put_at p.first ts cut → new ≡ recut_after places faces faces (ps ++ p ∷ [])
 unfolding with_recut
 one_gives places faces cut ts new ps p is gives ears put =
-    let before = recut_after places faces faces ps in
-    let own = ears_over places (fan_at faces p) in
-    put ∙ ap (λ us. put_at p.first us cut) ears ∙ ap (put_at p.first own) is
-    ∙ sym (cond-true _ (put_at p.first own before) before gives)
-    ∙ sym (recut_next places faces faces ps p)
+    grind (arith, common_steps, cond-true, recut_next)
 
 pub one_stays : (places : List Place) (faces cut : List Corners) (ps : List Polygon) (p : Polygon)
     → cut ≡ recut_after places faces faces ps → gives_way places (fan_at faces p) ≡ false
     → cut ≡ recut_after places faces faces (ps ++ p ∷ [])
 unfolding with_recut
-one_stays places faces cut ps p is stays =
-    let before = recut_after places faces faces ps in
-    let own = ears_over places (fan_at faces p) in
-    is ∙ sym (cond-false _ (put_at p.first own before) before stays)
-    ∙ sym (recut_next places faces faces ps p)
+one_stays places faces cut ps p is stays = grind (arith, common_steps, cond-false, recut_next)
 
 pub ears_fit : (places : List Place) (faces cut ts : List Corners) (p : Polygon)
     → gives_way places (fan_at faces p) ≡ true → ts ≡ ears_over places (fan_at faces p)
     → p.first + p.triangles ≤ length faces → length cut ≡ length faces
     → p.first + length ts ≤ length cut
-ears_fit places faces cut ts p gives are within long = omega (
-  arith,
-  fan_fits faces p within,
-  ap length are,
-  ears_long places (fan_at faces p) gives,
-  long,
-)
+ears_fit places faces cut ts p gives are within long =
+    grind (arith, common_steps, ears_long, fan_fits)
 
 -- It is told, or not.
 told_after : (places : List Place) (faces : List Corners) (ps : List Polygon) (p : Polygon)
     → overlapping_count places (ps ++ p ∷ []) faces
     ≡ overlapping_count places ps faces + overlapping_count places (p ∷ []) faces
-told_after places faces ps p =
-    let test = λ (q : Polygon). stays_overlapping places (fan_at faces q) in
-    ap length (filter-append test ps (p ∷ []))
-    ∙ length-append (filter test ps) (filter test (p ∷ []))
+told_after places faces ps p = grind (arith, common_steps, filter-append, length-append)
 
 pub one_told : (places : List Place) (faces : List Corners) (n m : ℕ) (ps : List Polygon)
     (p : Polygon) → n ≡ overlapping_count places ps faces

@@ -1,7 +1,8 @@
 -- Corners one after the other: counted, searched, and placed on a plane.
 use Rattle.std.proofs.Common.{◌≡◌, ℕ, zero, suc, ◌+◌, ◌-◌, ◌^◌, ◌<◌, ◌≤◌, w64, to_z, of_z, Bool}
+use Rattle.std.proofs.lemmas.Grind.{common_steps}
 use Rattle.std.proofs.Common.{true, false, ◌||◌, Some, None, List, [], ◌∷◌, ◌++◌, length, drop}
-use Rattle.std.proofs.Common.{slice_index_or, refl, sym, ap, ◌∙◌, arith}
+use Rattle.std.proofs.Common.{slice_index_or, refl, ap, ◌∙◌, arith}
 use Rattle.std.specs.Prelude.{ℤ, ◌==◌, ◌+ℤ◌, pos, unsigned_abs, map}
 use Rattle.std.specs.List.{list_any}
 use Rattle.std.proofs.lemmas.Bool.{cond-true, cond-false, false≢true}
@@ -59,35 +60,21 @@ fan_begins (a ∷ more) = refl
 pub fan_next : (spots : List Spot) (i : ℕ) → i + 1 < length spots
     → fan_from (slice_index_or spots 0 nowhere) (drop i spots)
     ≡ fan_triangle spots i ∷ fan_from (slice_index_or spots 0 nowhere) (drop (i + 1) spots)
-fan_next spots i l =
-    let a : Spot = slice_index_or spots 0 nowhere in
-    at_drop_more (fan_from a) spots i nowhere (omega (arith, l))
-    ∙ at_drop_more (λ (rest : List Spot). fan_from a (slice_index_or spots i nowhere ∷ rest)) spots
-    (i + 1) nowhere l
-    ∙ ap (λ (ts : List Triangle). fan_triangle spots i ∷ ts) (sym
-    (at_drop_more (fan_from a) spots (i + 1) nowhere l))
+fan_next spots i l = grind (arith, common_steps, at_drop_more, slice_index_or)
 
 pub turned_next : (spots : List Spot) (i : ℕ) (b : Bool) → i + 1 < length spots
     → is_turned_over (fan_triangle spots i) ≡ b
     → list_any is_turned_over (fan_from (slice_index_or spots 0 nowhere) (drop i spots))
     ≡ (b || list_any is_turned_over
     (fan_from (slice_index_or spots 0 nowhere) (drop (i + 1) spots)))
-turned_next spots i b l e =
-    ap (list_any is_turned_over) (fan_next spots i l)
-    ∙ ap (λ t. t || list_any is_turned_over
-    (fan_from (slice_index_or spots 0 nowhere) (drop (i + 1) spots))) e
+turned_next spots i b l e = grind (arith, common_steps, fan_next, slice_index_or)
 
 pub fan_more : (spots : List Spot) (i : ℕ) (done more : List Corners) (t : Corners)
     → i + 1 < length spots → t ≡ named (fan_triangle spots i) → more ≡ done ++ t ∷ []
     → more ++ map named (fan_from (slice_index_or spots 0 nowhere) (drop (i + 1) spots))
     ≡ done ++ map named (fan_from (slice_index_or spots 0 nowhere) (drop i spots))
 fan_more spots i done more t l is put =
-    let rest : List Corners =
-    map named (fan_from (slice_index_or spots 0 nowhere) (drop (i + 1) spots)) in
-    ap (λ (cs : List Corners). cs ++ rest) put
-    ∙ append_assoc done (t ∷ []) rest
-    ∙ ap (λ (c : Corners). done ++ c ∷ rest) is
-    ∙ ap (λ (ts : List Triangle). done ++ map named ts) (sym (fan_next spots i l))
+    grind (arith, common_steps, append_assoc, fan_next, slice_index_or)
 
 pub fan_ends : (spots : List Spot) (a : Spot) (k : ℕ) → length spots ≤ k + 1
     → fan_from a (drop k spots) ≡ []
@@ -101,11 +88,7 @@ pub spots_next : (plane : Plane) (done : List Spot) (i : ℕ) (places : List Pla
     → i < length places → p ≡ slice_index_or places i p
     → done ++ spots_on plane i (drop i places)
     ≡ (done ++ spot_of plane i p ∷ []) ++ spots_on plane (i + 1) (drop (i + 1) places)
-spots_next plane done i places p l is =
-    ap (λ (ss : List Spot). done ++ ss) (at_drop_more (spots_on plane i) places i p l
-    ∙ ap (λ q. spot_of plane i q ∷ spots_on plane (i + 1) (drop (i + 1) places)) (sym is))
-    ∙ sym (append_assoc done (spot_of plane i p ∷ [])
-    (spots_on plane (i + 1) (drop (i + 1) places)))
+spots_next plane done i places p l is = grind (arith, common_steps, append_assoc, at_drop_more)
 
 pub as_many_spots : (plane : Plane) (i : ℕ) (places : List Place)
     → length (spots_on plane i places) ≡ length places
@@ -126,9 +109,7 @@ pub spot_on_plane : (plane : Plane) (places : List Place) (k : ℕ) (e : Place) 
     → slice_index_or (spots_on plane 0 places) k nowhere
     ≡ spot_of plane k (slice_index_or places k e)
 spot_on_plane plane places k e l =
-    let z : 0 + k ≡ k =
-    omega arith in spot_on plane 0 places k nowhere e l
-    ∙ ap (λ i. spot_of plane i (slice_index_or places k e)) z
+    grind (arith, common_steps, slice_index_or places k e, spot_on plane 0 places k nowhere e l)
 
 -- An area stands in 64 bits.
 pub area_kept : (x : ℤ) → unsigned_abs x ≤ 2 ^ 53 → to_z w64 (of_z w64 x) ≡ x

@@ -1,6 +1,7 @@
 -- The plane on which a polygon is cut shows it largest.
 use Rattle.std.proofs.Common.{◌≡◌, ℕ, ◌+◌, ◌<◌, ◌≤◌, Bool, true, false, inl, inr, List, [], ◌∷◌}
-use Rattle.std.proofs.Common.{refl, sym, ap, ◌∙◌, subst, arith}
+use Rattle.std.proofs.lemmas.Grind.{common_steps}
+use Rattle.std.proofs.Common.{refl, sym, ap, subst, arith}
 use Rattle.std.specs.Prelude.{ℤ, pos, ◌+ℤ◌, ◌≤ℤ◌, nat_le, ◌&&◌, ◌⊎◌, int_lt, unsigned_abs}
 use Rattle.std.proofs.lemmas.Bool.{cases_Bool, cond-true, cond-false, and_parts, and_cases}
 use Rattle.std.proofs.lemmas.Bool.{leb-true, leb-false}
@@ -8,11 +9,10 @@ use Rattle.std.proofs.lemmas.Int.{ints}
 use Rattle.pm_base.specs.Place.{Place}
 use Rattle.pm_ears.specs.declared.plane.Axis.{Axis}
 use Rattle.pm_ears.specs.declared.plane.Axis.TheVariants as axes
-use Rattle.pm_ears.specs.declared.plane.Plane.{Plane}
 use Rattle.pm_ears.specs.declared.spots.Spot.{Spot}
 use Rattle.pm_ears.specs.Areas.{cross_of, along, last_from, twice_area_within}
 use Rattle.pm_ears.specs.Planes.{across, mirrored_if, spot_of, spots_on, newell, facing, largest_of}
-use Rattle.pm_ears.specs.Planes.{plane_of, spots_of}
+use Rattle.pm_ears.specs.Planes.{plane_of}
 use Rattle.pm_ears.specs.Laws.{IsShownLargest}
 
 -- Where the corners stand on a plane, and in its mirror.
@@ -92,16 +92,7 @@ facing_seen axis places =
 shown_by : (axis : Axis) (places : List Place) → plane_of places ≡ facing axis (newell axis places)
     → ((other : Axis) → unsigned_abs (newell other places) ≤ unsigned_abs (newell axis places))
     → IsShownLargest places
-shown_by axis places is most =
-    let s = facing_seen axis places in
-    let area : ℤ = twice_area_within (spots_of places) in
-    let same : twice_area_within (spots_on (facing axis (newell axis places)) 0 places) ≡ area =
-    ap (λ (plane : Plane). twice_area_within (spots_on plane 0 places)) (sym is) in
-    record {
-      upright = subst (λ z. pos 0 ≤ℤ z) same s.upright;
-      largest = λ other. subst (λ n. unsigned_abs (newell other places) ≤ n)
-          (s.size ∙ ap unsigned_abs same) (most other);
-    }
+shown_by axis places is most = grind (arith, common_steps, facing_seen axis places)
 
 most_of : (places : List Place) (n : ℕ) → unsigned_abs (newell axes.X places) ≤ n
     → unsigned_abs (newell axes.Y places) ≤ n → unsigned_abs (newell axes.Z places) ≤ n
@@ -112,12 +103,7 @@ most_of places n x y z axes.Z = z
 
 -- One of the three is as great as each.
 lower : (x y z : ℕ) → (nat_le y x && nat_le z x) ≡ false → (x < y) ⊎ (x < z)
-lower x y z e =
-    elim (and_cases (nat_le y x) (nat_le z x) e) [
-      | inl f ↦ inl (leb-false y x f)
-      | inr f ↦
-          inr (leb-false z x f)
-    ]
+lower x y z e = grind (arith, common_steps, and_cases, leb-false)
 
 Picks : ℤ → ℤ → ℤ → Axis → ℤ → Type 0
 Picks x y z axis n =
@@ -127,36 +113,7 @@ Picks x y z axis n =
 picks : (x y z : ℤ) → Picks x y z axes.X x ⊎ (Picks x y z axes.Y y ⊎ Picks x y z axes.Z z)
 unfolding Picks largest_of
 picks x y z =
-    let nx = unsigned_abs x in
-    let ny = unsigned_abs y in
-    let nz = unsigned_abs z in
-    elim (cases_Bool (nat_le ny nx && nat_le nz nx)) [
-      | inl e ↦ (let parts =
-          and_parts _ _ e in
-          inl (cond-true _ _ _ e, omega arith, leb-true ny nx parts.0, leb-true nz nx parts.1))
-      | inr e ↦
-          let low = lower nx ny nz e in
-          elim (cases_Bool (nat_le nz ny)) [
-            | inl f ↦ (let zy =
-                leb-true nz ny f in
-                inr (inl (
-                  cond-false _ _ _ e
-                      ∙ cond-true _ _ _ f,
-                  omega (arith, low, zy),
-                  omega arith,
-                  zy,
-                )))
-            | inr f ↦ (let yz =
-                leb-false nz ny f in
-                inr (inr (
-                  cond-false _ _ _ e
-                      ∙ cond-false _ _ _ f,
-                  omega (arith, low, yz),
-                  omega (arith, yz),
-                  omega arith,
-                )))
-          ]
-    ]
+    grind (arith, common_steps, and_parts, cond-false, cond-true, leb-false, leb-true, lower)
 
 pub shown_largest : (places : List Place) → IsShownLargest places
 unfolding Picks

@@ -1,10 +1,11 @@
 -- Ears that come off one after the other.
 use Rattle.std.proofs.Common.{◌≡◌, ℕ, zero, suc, ◌+◌, ◌-◌, ◌<◌, ◌≤◌, Bool, true, Option, Some, None}
-use Rattle.std.proofs.Common.{inl, inr, List, [], ◌∷◌, ◌++◌, length, refl, sym, ap, ◌∙◌, subst}
+use Rattle.std.proofs.lemmas.Grind.{common_steps}
+use Rattle.std.proofs.Common.{inl, inr, List, [], ◌∷◌, ◌++◌, length, refl, sym, ap, ◌∙◌}
 use Rattle.std.proofs.Common.{arith}
 use Rattle.std.specs.Prelude.{map, ◌⊎◌}
 use Rattle.std.specs.Option.{option_or, option_map, option_and_then, unwrap_or}
-use Rattle.std.proofs.lemmas.Bool.{cases_Bool, cond-true, cond-false}
+use Rattle.std.proofs.lemmas.Bool.{cond-true, cond-false}
 use Rattle.std.proofs.lemmas.List.{append_assoc, append-nil}
 use Rattle.std.proofs.lemmas.List.Edits.{length-remove}
 use Rattle.std.proofs.lemmas.Option.{none-some}
@@ -27,14 +28,7 @@ pub first_found : (test : ℕ → Bool) (i n k : ℕ) → first_from test i n �
     → (test k ≡ true) × (k < i + n)
 first_found test i zero k e = absurd (none-some k e)
 first_found test i (suc n) k e =
-    elim (cases_Bool (test i)) [
-      | inl here ↦
-          let is : i ≡ k = some_same i k (sym (cond-true _ _ _ here) ∙ e) in
-          (subst (λ j. test j ≡ true) is here, omega (arith, is))
-      | inr not ↦ (let (passes, l) =
-          first_found test (i + 1) n k (sym (cond-false _ _ _ not) ∙ e) in
-          (passes, omega (arith, l)))
-    ]
+    grind (arith, common_steps, cond-false, cond-true, some_same, first_found test (i + 1) n k)
 
 -- An ear or a flat triangle comes next, of those that are left.
 one_of_two : (P Q : ℕ → Type 0) (o p : Option ℕ) (k : ℕ) → ((j : ℕ) → o ≡ Some j → P j)
@@ -98,20 +92,9 @@ ears_next done more left rest at all found off put so_far =
 pub ears_stop : (done : List Corners) (left : List Spot) (all : Option (List Corners))
     → 2 < length left → next_ear left ≡ None → after done left ≡ all → None ≡ all
 unfolding then_ears
-ears_stop done left all l none so_far =
-    let one : length left - 2 ≡ suc (length left - 3) = omega (arith, l) in
-    let step : after done left ≡ None =
-    ap (λ n. option_map (λ (ts : List Triangle). done ++ map named ts) (ears n left)) one
-    ∙ ap (λ (o : Option ℕ). option_map (λ (ts : List Triangle). done ++ map named ts)
-    (option_and_then (then_ears left (length left - 3)) o)) none in
-    sym step ∙ so_far
+ears_stop done left all l none so_far = grind (arith, common_steps, then_ears)
 
 -- or all are off.
 pub ears_end : (done : List Corners) (left : List Spot) (all : Option (List Corners))
     → length left ≤ 2 → after done left ≡ all → Some done ≡ all
-ears_end done left all l so_far =
-    let none : length left - 2 ≡ 0 = omega (arith, l) in
-    let step : after done left ≡ Some done =
-    ap (λ n. option_map (λ (ts : List Triangle). done ++ map named ts) (ears n left)) none
-    ∙ ap Some (append-nil done) in
-    sym step ∙ so_far
+ears_end done left all l so_far = grind (arith, common_steps, append-nil)
