@@ -1,6 +1,6 @@
 -- Border sides, and the pairs at a vertex to which none leads or from which none leads on.
-use Rattle.std.proofs.Common.{◌≡◌, ℕ, ◌⊎◌, inl, inr, refl, sym, ap, ◌∙◌, subst}
-use Rattle.std.proofs.lemmas.Bool.{cases_eq}
+use Rattle.std.proofs.Common.{◌≡◌, ℕ, ◌⊎◌, inl, inr, refl, sym, ap, ◌∙◌, subst, arith}
+use Rattle.std.proofs.lemmas.Grind.{common_steps}
 use Rattle.pm_base.specs.Sides.{Net, next, prev, side_count, to, third, Stands, twin_of}
 use Rattle.pm_base.specs.Sides.{IsBorderSide, IsBorder}
 use Rattle.pm_base.specs.Fans.{IsPairAt}
@@ -111,19 +111,7 @@ module _ (m : Net) (v : ℕ) where
   IsEndAt e = IsBorderSide m e × ((m.from e ≡ v) ⊎ (to m e ≡ v))
 
   end? : (e : ℕ) → Decided (IsBorderSide m e × ((m.from e ≡ v) ⊎ (to m e ≡ v)))
-  end? e =
-      elim (border_side? e) [
-        | inr never ↦ inr (λ h. never h.0)
-        | inl b ↦
-            elim (cases_eq (m.from e) v) [
-              | inl is ↦ inl (b, inl is)
-              | inr first ↦
-                  elim (cases_eq (to m e) v) [
-                    | inl is ↦ inl (b, inr is)
-                    | inr second ↦ inr (λ h. elim h.1 [ inl is ↦ first is | inr is ↦ second is ])
-                  ]
-            ]
-      ]
+  end? e = grind (arith, common_steps, border_side?)
 
   pub border? : Decided (IsBorder m v)
   border? =
@@ -137,15 +125,7 @@ module _ (m : Net) (v : ℕ) where
       elim (search_below (λ e. Stands m e × (m.from e ≡ v) × (third m e ≡ y)) (λ e.
       elim (stands? m e) [
         | inr never ↦ inr (λ h. never h.0)
-        | inl t ↦
-            elim (cases_eq (m.from e) v) [
-              | inr never ↦ inr (λ h. never h.1)
-              | inl a ↦
-                  elim (cases_eq (third m e) y) [
-                    | inl b ↦ inl (t, a, b)
-                    | inr never ↦ inr (λ h. never h.2)
-                  ]
-            ]
+        | inl t ↦ grind (arith, common_steps)
       ]) (side_count m)) [
         | inl (e, l, (t, a, b)) ↦
             inl (to m e, record { side = e; stands = t; at = a; one = refl; two = b })

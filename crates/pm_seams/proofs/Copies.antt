@@ -1,5 +1,6 @@
 -- A mesh that stands in another one, side by side, with other names for its vertices.
-use Rattle.std.proofs.Common.{◌≡◌, ℕ, ◌*◌, ◌<◌, refl, sym, ap, ◌∙◌, subst}
+use Rattle.std.proofs.Common.{◌≡◌, ℕ, ◌*◌, ◌<◌, refl, sym, ap, ◌∙◌, subst, arith}
+use Rattle.std.proofs.lemmas.Grind.{common_steps}
 use Rattle.pm_base.specs.Sides.{Net, next, prev, to, third, Stands, NoSideTwice}
 use Rattle.pm_base.specs.Fans.{IsPairAt}
 use Rattle.pm_base.proofs.Sides.{next-lt, stands_next}
@@ -19,12 +20,7 @@ module _ (a m : Net) (name place : ℕ → ℕ) (c : IsCopied a m name place) wh
   third_named e l = ap (to m) (c.turns e l) ∙ to_named (next e) (next-lt a.faces e l)
 
   pub stands_from : (e : ℕ) → e < 3 * a.faces → Stands m (place e) → Stands a e
-  stands_from e l s = record {
-    is_side = l;
-    first = λ is. s.first (c.named e l ∙ ap name is ∙ sym (to_named e l));
-    second = λ is. s.second (to_named e l ∙ ap name is ∙ sym (third_named e l));
-    last = λ is. s.last (third_named e l ∙ ap name is ∙ sym (c.named e l));
-  }
+  stands_from e l s = grind (arith, common_steps, third_named, to_named)
 
   module _ (one : IsOneToOneOn name a) where
     pub stands_in : (e : ℕ) → Stands a e → Stands m (place e)

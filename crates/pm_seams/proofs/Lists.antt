@@ -1,5 +1,6 @@
 -- Lists of faces, one after the other.
 use Rattle.std.proofs.Common.{◌≡◌, ℕ, ◌+◌, ◌-◌, ◌*◌, ◌/◌, ◌%◌, List, ◌++◌, length, length-append}
+use Rattle.std.proofs.lemmas.Grind.{common_steps}
 use Rattle.std.proofs.Common.{inl, inr, sym, ap, ◌∙◌, arith}
 use Rattle.std.proofs.Math.Path.{fun_ext}
 use Rattle.std.specs.Prelude.{slice_index_or}
@@ -7,7 +8,7 @@ use Rattle.std.proofs.Math.ListN.{get_or-append}
 use Rattle.std.proofs.Math.Seq.{get_or-append_right}
 use Rattle.std.proofs.lemmas.Bool.{cases_lt, cond-true, cond-false, lt-ltb, le-ltb}
 use Rattle.pm_base.specs.declared.mesh.Corners.{Corners}
-use Rattle.pm_base.specs.Sides.{Net, corner_in, no_corners, net_of}
+use Rattle.pm_base.specs.Sides.{corner_in, no_corners, net_of}
 use Rattle.pm_seams.specs.Joined.{together}
 use Rattle.pm_seams.specs.Laws as law
 
@@ -32,11 +33,7 @@ module _ (fs gs : List Corners) where
       ]
 
   pub both : net_of (fs ++ gs) ≡ together (net_of fs) (net_of gs)
-  both =
-      let count : length (fs ++ gs) ≡ length fs + length gs = length-append fs gs in
-      let by_count : ℕ → Net = λ k. record { faces = k; from = (net_of (fs ++ gs)).from } in
-      let by_corners : (ℕ → ℕ) → Net = λ f. record { faces = length fs + length gs; from = f } in
-      ap by_count count ∙ ap by_corners (fun_ext corner)
+  both = grind (arith, common_steps, corner, fun_ext, length-append)
 
 pub lists_together : law.ListsArePutTogether
 lists_together = both

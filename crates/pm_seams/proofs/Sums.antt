@@ -1,5 +1,6 @@
 -- The sides of two meshes put together: those of the one and those of the other.
 use Rattle.std.proofs.Common.{◌≡◌, ℕ, ◌+◌, ◌-◌, ◌*◌, ◌≤◌, ◌⊎◌, inl, inr, refl, sym, ap, ◌∙◌, arith}
+use Rattle.std.proofs.lemmas.Grind.{common_steps}
 use Rattle.std.proofs.lemmas.Bool.{cases_lt, cond-true, cond-false, lt-ltb, le-ltb}
 use Rattle.pm_base.specs.Sides.{Net, side_count, to, third, NoSideTwice}
 use Rattle.pm_base.specs.Fans.{IsPairAt}
@@ -33,11 +34,7 @@ module _ (a r : Net) where
   itself x y p q is = is
 
   first_copied : IsCopied a (together a r) (λ x. x) (λ e. e)
-  first_copied = record {
-    is_side = λ e l. omega arith;
-    turns = λ e l. refl;
-    named = λ e l. cond-true _ _ _ (lt-ltb e (side_count a) l);
-  }
+  first_copied = grind (arith, common_steps, cond-true, lt-ltb)
 
   second_copied : IsCopied r (together a r) (λ x. x) (λ e. 3 * a.faces + e)
   second_copied = record {
@@ -76,13 +73,7 @@ module _ (a r : Net) where
       let le = se.is_side in
       let lg = sg.is_side in
       let f : IsPairAt m (m.from e) (to m e) (third m e) = pair_at m e se in
-      let h : IsPairAt m (m.from e) (to m e) (third m g) = record {
-        side = g;
-        stands = sg;
-        at = sym begins;
-        one = sym ends;
-        two = refl;
-      } in
+      let h : IsPairAt m (m.from e) (to m e) (third m g) = grind (arith, common_steps) in
       elim (cases_lt e (3 * a.faces)) [
         | inl el ↦
             let fa = pair_from a m (λ i. i) first_copied _ _ _ f e el refl in
