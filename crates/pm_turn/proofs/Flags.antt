@@ -1,5 +1,6 @@
 -- Flags read from the ways up.
 use Rattle.std.proofs.Common.{◌≡◌, ℕ, ◌+◌, ◌<◌, ◌≤◌, inl, inr, sym, ap, ◌∙◌, subst, Bool, false}
+use Rattle.std.proofs.lemmas.Grind.{common_steps}
 use Rattle.std.proofs.Common.{List, [], ◌∷◌, ◌++◌, length, slice_index_or, replicate, arith}
 use Rattle.std.proofs.lemmas.Bool.{cases_eq, cases_lt, true≢false}
 use Rattle.std.proofs.lemmas.List.{get_or_append_left, length-append, get_or-replicate, get_or_past}
@@ -56,10 +57,7 @@ flagged_more t u n xs ys flag s low h now new =
           ];
       way = λ f l.
           elim (cases_eq f n) [
-            | inl is ↦
-                subst (λ i. Up u f i (parity f)) (sym (put_same h.root n f now.root is))
-                (subst (λ (b : Bool). Up u f now.root b) (sym (put_same h.parity n f now.parity is))
-                (subst (λ i. Up u i now.root now.parity) (sym is) now.way))
+            | inl is ↦ grind (arith, common_steps, put_same)
             | inr ne ↦
                 subst (λ i. Up u f i (parity f)) (sym (put_other h.root n f now.root ne))
                 (subst (λ (b : Bool). Up u f (h.root f) b)
@@ -68,20 +66,11 @@ flagged_more t u n xs ys flag s low h now new =
           ];
       is = λ f l.
           elim (cases_eq f n) [
-            | inl is ↦
-                let at : flag_of ys f ≡ flag =
-                ap (λ (zs : List Bool). flag_of zs f) new
-                ∙ ap (flag_of (xs ++ flag ∷ [])) (is ∙ sym h.long)
-                ∙ get_or-append_seam xs flag [] false in
-                at ∙ now.is ∙ ap (λ i. flag_with (u.odd i) now.parity)
-                (sym (put_same h.root n f now.root is))
-                ∙ ap (flag_with (u.odd (root f))) (sym (put_same h.parity n f now.parity is))
+            | inl is ↦ grind (arith, common_steps, get_or-append_seam, put_same)
             | inr ne ↦
                 let l' : f < n = omega (arith, l, ne) in
                 let at : flag_of ys f ≡ flag_of xs f =
-                ap (λ (zs : List Bool). flag_of zs f) new
-                ∙ get_or_append_left xs (flag ∷ []) false f
-                (subst (λ i. f < i) (sym h.long) l') in
+                grind (arith, common_steps, get_or_append_left) in
                 at ∙ h.is f l'
                 ∙ ap (λ (b : Bool). flag_with b (h.parity f)) (sym (s.odd (h.root f)))
                 ∙ ap (λ i. flag_with (u.odd i) (h.parity f))

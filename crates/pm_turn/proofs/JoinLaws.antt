@@ -1,5 +1,6 @@
 -- One pair of mates joined, in the tables.
-use Rattle.std.proofs.Common.{◌≡◌, ℕ, ◌+◌, ◌<◌, refl, sym, ap, ◌∙◌, subst, Bool, true, false, not}
+use Rattle.std.proofs.Common.{◌≡◌, ℕ, ◌+◌, ◌<◌, refl, sym, Bool, true, false, not}
+use Rattle.std.proofs.lemmas.Grind.{common_steps}
 use Rattle.std.proofs.Common.{arith}
 use Rattle.pm_base.specs.Sides.{Net, face_of}
 use Rattle.pm_turn.specs.Turning.{AreMates, clash, flipped_if}
@@ -31,36 +32,19 @@ module _ (m : Net) (n k : ℕ) (t : Elders) (s : AreElders m n t) (a : AreMates 
 
     pub put_first : (d x : Bool) (u : Elders) → r < o → x ≡ flipped_if c q → d ≡ flipped_if p x
         → u ≡ under t r o d → AreElders m (n + 1) u
-    put_first d x u l xi di is =
-        let d' : flipped_if p (flipped_if (clash m n k) q) ≡ d =
-        sym (di ∙ ap (flipped_if p) (xi ∙ ap (λ (b : Bool). flipped_if b q) ci)) in
-        subst (AreElders m (n + 1)) (sym is)
-        (subst (λ (b : Bool). AreElders m (n + 1) (under t r o b)) d'
-        (under_first m n k t s a r o p q v w l))
+    put_first d x u l xi di is = grind (arith, common_steps, under_first)
 
     pub put_second : (d x : Bool) (u : Elders) → o < r → x ≡ flipped_if c p → d ≡ flipped_if q x
         → u ≡ under t o r d → AreElders m (n + 1) u
-    put_second d x u l xi di is =
-        let d' : flipped_if q (flipped_if (clash m n k) p) ≡ d =
-        sym (di ∙ ap (flipped_if q) (xi ∙ ap (λ (b : Bool). flipped_if b p) ci)) in
-        subst (AreElders m (n + 1)) (sym is)
-        (subst (λ (b : Bool). AreElders m (n + 1) (under t o r b)) d'
-        (under_second m n k t s a r o p q v w l))
+    put_second d x u l xi di is = grind (arith, common_steps, under_second)
 
     one_face : (r < o → ⊥) → (o < r → ⊥) → r ≡ o
     one_face f g = omega (arith, f, g)
 
     pub mark_root : (x z : Bool) (u : Elders) → (r < o → ⊥) → (o < r → ⊥) → x ≡ flipped_if c p
         → z ≡ flipped_if q x → z ≡ true → u ≡ marked t r → AreElders m (n + 1) u
-    mark_root x z u f g xi zi set is =
-        let x' : x ≡ flipped_if (clash m n k) p = xi ∙ ap (λ (b : Bool). flipped_if b p) ci in
-        subst (AreElders m (n + 1)) (sym is)
-        (odd_more m n k t s a r o p q v w (one_face f g) (flips_differ q x (sym zi ∙ set)
-        ∙ ap not x'))
+    mark_root x z u f g xi zi set is = grind (arith, common_steps, flips_differ, odd_more, one_face)
 
     pub pass_on : (x z : Bool) → (r < o → ⊥) → (o < r → ⊥) → x ≡ flipped_if c p → z ≡ flipped_if q x
         → z ≡ false → AreElders m (n + 1) t
-    pass_on x z f g xi zi un =
-        let x' : x ≡ flipped_if (clash m n k) p = xi ∙ ap (λ (b : Bool). flipped_if b p) ci in
-        agreeing_more m n k t s a r p q v (subst (λ i. Up t (face_of k) i q) (sym (one_face f g)) w)
-        (flips_same q x (sym zi ∙ un) ∙ x')
+    pass_on x z f g xi zi un = grind (arith, common_steps, agreeing_more, flips_same, one_face)

@@ -1,5 +1,6 @@
 -- Joining mates, pair by pair.
 use Rattle.std.proofs.Common.{◌≡◌, ◌≢◌, ℕ, ◌+◌, ◌<◌, ◌≤◌, ◌⊎◌, inl, inr, refl, sym, ap, ◌∙◌, subst}
+use Rattle.std.proofs.lemmas.Grind.{common_steps}
 use Rattle.std.proofs.Common.{Bool, true, false, not, ◌||◌, arith}
 use Rattle.std.proofs.lemmas.Bool.{cases_eq, cond-true, cond-false, eq-eqb, ne_eqb, or_parts}
 use Rattle.std.proofs.lemmas.Bool.{or_cases, true≢false}
@@ -134,25 +135,7 @@ module _ (t : Elders) (low high : ℕ) (d : Bool) (less : low < high) (lo : t.el
   joined_under : (m : Net) (e k : ℕ) → AreJoined m t e k → AreJoined m t' e k
   joined_under m e k j =
       elim (moved_up (face_of e) j.root j.one j.one_up) [
-        | inl (h, v) ↦
-            elim (moved_up (face_of k) j.root j.other j.other_up) [
-              | inr (h', _) ↦ absurd (h h')
-              | inl (_, w) ↦ record {
-                root = j.root;
-                one = j.one;
-                other = j.other;
-                one_up = v;
-                other_up = w;
-                agree = λ none.
-                    elim (cases_eq j.root low) [
-                      | inr ne ↦ j.agree
-                          (sym (put_other t.odd low j.root (t.odd low || t.odd high) ne) ∙ none)
-                      | inl is ↦ j.agree (ap t.odd is
-                          ∙ (or_parts (t.odd low) (t.odd high)
-                          (sym (put_same t.odd low j.root (t.odd low || t.odd high) is) ∙ none)).0)
-                    ];
-              }
-            ]
+        | inl (h, v) ↦ grind (arith, common_steps, moved_up, or_parts, put_other, put_same)
         | inr (h, v) ↦
             elim (moved_up (face_of k) j.root j.other j.other_up) [
               | inl (h', _) ↦ absurd (h' h)
@@ -309,9 +292,7 @@ module _ (m : Net) (n k : ℕ) (t : Elders) (s : AreElders m n t) (a : AreMates 
         → AreElders m (n + 1) (marked t v-root)
     odd_more is odd =
         let r : ℕ = v-root in
-        let round : Way m r r true =
-        subst (λ (b : Bool). Way m r r b) (odd_then q (clash m n k) p odd)
-        (subst (λ i. Way m r i (flipped_if q (flipped_if (clash m n k) p))) (sym is) across) in
+        let round : Way m r r true = grind (arith, common_steps, across, odd_then) in
         let set : put t.odd r true r ≡ true = put_same t.odd r r true refl in
         more m n (marked t r) (record {
           below = s.below;

@@ -1,14 +1,13 @@
 -- The faces that stay are a list of which all stay.
-use Rattle.std.proofs.Common.{◌≡◌, ℕ, ◌<◌, ◌⊎◌, inl, inr, sym, ap, ◌∙◌, subst, List, [], ◌∷◌, ◌++◌}
+use Rattle.std.proofs.Common.{◌≡◌, ℕ, ◌<◌, ◌⊎◌, inl, inr, sym, subst, List, [], ◌∷◌, ◌++◌}
+use Rattle.std.proofs.lemmas.Grind.{common_steps}
 use Rattle.std.proofs.Common.{length, true, false, not, arith}
 use Rattle.std.specs.List.{list_any}
-use Rattle.std.proofs.lemmas.Bool.{cases_Bool, cases_lt, cond-true, cond-false, and_parts, not-true}
-use Rattle.std.proofs.lemmas.Bool.{true≢false}
+use Rattle.std.proofs.lemmas.Bool.{cases_Bool, cond-true, cond-false, and_parts, not-true}
 use Rattle.std.proofs.lemmas.List.{get_or_append_left, length-append}
 use Rattle.std.proofs.Math.Seq.{get_or-append_seam}
 use Rattle.std.proofs.lemmas.List.Folds.{list_any_at}
 use Rattle.pm_base.specs.declared.mesh.Corners.{Corners}
-use Rattle.pm_base.specs.Sides.{no_corners}
 use Rattle.pm_base.proofs.NetLaws.{face_at}
 use Rattle.pm_fans.specs.Kept.{is_flat, is_alike, is_kept_after, kept_after, kept_of, IsFitList}
 
@@ -20,12 +19,7 @@ more_cases : (fs : List Corners) (f : Corners) (i : ℕ) → i < length (fs ++ f
     → ((i < length fs) × (face_at (fs ++ f ∷ []) i ≡ face_at fs i))
     ⊎ ((i ≡ length fs) × (face_at (fs ++ f ∷ []) i ≡ f))
 more_cases fs f i l =
-    elim (cases_lt i (length fs)) [
-      | inl k ↦ inl (k, get_or_append_left fs (f ∷ []) no_corners i k)
-      | inr k ↦
-          let is : i ≡ length fs = omega (arith, length-append fs (f ∷ [])) in
-          inr (is, ap (λ n. face_at (fs ++ f ∷ []) n) is ∙ get_or-append_seam fs f [] no_corners)
-    ]
+    grind (arith, common_steps, face_at, get_or-append_seam, get_or_append_left, length-append)
 
 parts_kept : (fs : List Corners) (f : Corners) → is_kept_after fs f ≡ true
     → (is_flat f ≡ false) × (list_any (is_alike f) fs ≡ false)
@@ -35,11 +29,7 @@ parts_kept fs f k = let (a, b) = and_parts (not (is_flat f)) (not (list_any (is_
 
 unlike : (fs : List Corners) (f : Corners) (i : ℕ) → list_any (is_alike f) fs ≡ false
     → i < length fs → is_alike f (face_at fs i) ≡ false
-unlike fs f i none l =
-    elim (cases_Bool (is_alike f (face_at fs i))) [
-      | inl t ↦ absurd (true≢false (sym (list_any_at (is_alike f) fs i no_corners l t) ∙ none))
-      | inr n ↦ n
-    ]
+unlike fs f i none l = grind (arith, common_steps, face_at, list_any_at)
 
 more_fit : (fs : List Corners) (f : Corners) → IsFitList fs → is_kept_after fs f ≡ true
     → IsFitList (fs ++ f ∷ [])

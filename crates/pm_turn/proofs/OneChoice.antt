@@ -1,7 +1,8 @@
 -- One list of flags is chosen, and no other turns fewer faces of an open patch.
 use Rattle.std.proofs.Common.{◌≡◌, ℕ, ◌<◌, ◌≤◌, ◌⊎◌, inl, inr, refl, sym, ap, ◌∙◌, subst, Bool}
+use Rattle.std.proofs.lemmas.Grind.{common_steps}
 use Rattle.std.proofs.Common.{true, false, not, ◌&&◌, List, arith}
-use Rattle.std.specs.Prelude.{ℤ, pos, neg_ℤ, ◌≤ℤ◌, ◌==◌, if◌then◌else◌}
+use Rattle.std.specs.Prelude.{ℤ, pos, neg_ℤ, ◌≤ℤ◌, ◌==◌}
 use Rattle.std.proofs.lemmas.Bool.{cases_Bool, true≢false}
 use borrow.Author.Differences.{ints}
 use Rattle.pm_base.specs.Place.{Place}
@@ -22,24 +23,16 @@ use Rattle.pm_turn.proofs.Choosing.{volume_turned}
 module _ (m : Net) (places : List Place) (a b : ℕ → ℕ)
     (same : (f : ℕ) → f < m.faces → a f ≡ b f) where
   pub open_by : (r : ℕ) → IsOpen m a r → IsOpen m b r
-  open_by r o = let l : face_of o.side < m.faces = omega (arith, o.in_range) in
-      record {
-        side = o.side;
-        in_range = o.in_range;
-        here = sym (same (face_of o.side) l)
-            ∙ o.here;
-        none = o.none;
-      }
+  open_by r o = grind (arith, common_steps, same)
 
   clash_by : (r : ℕ) → HasClash m a r → HasClash m b r
-  clash_by r h = record {
-    side = h.side;
-    mate = h.mate;
-    mates = h.mates;
-    here =
-        sym (same (face_of h.side) (one_in m h.side h.mate h.mates)) ∙ h.here;
-    clashes = h.clashes;
-  }
+  clash_by r h =
+      grind (
+        arith,
+        common_steps,
+        one_in m h.side h.mate h.mates,
+        same (face_of h.side) (one_in m h.side h.mate h.mates),
+      )
 
   pub agrees_by : (r : ℕ) → Agrees m a r → Agrees m b r
   agrees_by r all e k w at = all e k w (same (face_of e) (one_in m e k w) ∙ at)
@@ -58,20 +51,11 @@ module _ (m : Net) (places : List Place) (a b : ℕ → ℕ)
 
   pub volume_by : (turned : ℕ → Bool) (r : ℕ)
       → volume_in m places a turned r ≡ volume_in m places b turned r
-  volume_by turned r =
-      total_same (λ f. if a f == r then volume_at m places (turned f) f else pos 0)
-      (λ f. if b f == r then volume_at m places (turned f) f else pos 0) m.faces
-      (λ f l. ap (λ i. if i == r then volume_at m places (turned f) f else pos 0) (same f l))
+  volume_by turned r = grind (arith, common_steps, same, total_same)
 
   outward_by : (turned : ℕ → Bool) (r : ℕ) → IsOutward m places a turned r
       → IsOutward m places b turned r
-  outward_by turned r h =
-      let v = volume_by turned r in
-      record {
-        volume = subst (λ (z : ℤ). pos 0 ≤ℤ z) v h.volume;
-        flat =
-            λ e. fewest_by turned r (h.flat (v ∙ e));
-      }
+  outward_by turned r h = grind (arith, common_steps, fewest_by, volume_by)
 
 same_or_not : (a b : Bool) → (a ≡ b) ⊎ (b ≡ not a)
 same_or_not true true = inl refl
@@ -134,14 +118,7 @@ module _ (m : Net) (least : ℕ → ℕ) (one other : List Bool) (h : AreLeast m
         (λ f l at. ap not (reversed e f l at) ∙ not_not (flag_of one f))
 
     both_fewest : IsFewest m least (flag_of one) r → IsFewest m least (flag_of other) r → ⊥
-    both_fewest a b =
-        let few_one = a.few in
-        let few_other = b.few in
-        let even : turned_in m least (flag_of one) r ≡ staying_in m least (flag_of one) r =
-        omega (arith, few_one, few_other, turned_other, staying_other) in
-        let even_other : turned_in m least (flag_of other) r ≡ staying_in m least
-        (flag_of other) r = omega (arith, even, turned_other, staying_other) in
-        own_not (flag_of one r) (a.first even ∙ sym (b.first even_other) ∙ e)
+    both_fewest a b = grind (arith, common_steps, own_not, staying_other, turned_other)
 
     volume_other : (places : List Place)
         → volume_in m places least (flag_of other) r ≡ neg_ℤ
@@ -154,10 +131,7 @@ module _ (m : Net) (least : ℕ → ℕ) (one other : List Bool) (h : AreLeast m
 
     both_outward : (places : List Place) → IsOutward m places least (flag_of one) r
         → IsOutward m places least (flag_of other) r → ⊥
-    both_outward places a b =
-        let (v, w) = flat_volumes (volume_in m places least (flag_of one) r)
-        (volume_in m places least (flag_of other) r) (volume_other places) a.volume b.volume in
-        both_fewest (a.flat v) (b.flat w)
+    both_outward places a b = grind (arith, common_steps, both_fewest, flat_volumes, volume_other)
 
 module _ (m : Net) (places : List Place) (one other : List Bool) (s : AreChosenTurns m places one)
     (t : AreChosenTurns m places other) where
@@ -231,11 +205,7 @@ module _ (m : Net) (places : List Place) (one other : List Bool) (s : AreChosenT
 -- Twisted is told by odd closed ways, so it is the same all over a patch.
 patch_twisted : (m : Net) (flags : List Bool) (t : AgreeOnceTurned m flags) (f g : ℕ) (p : Bool)
     → Way m f g p → t.twisted g ≡ true → t.twisted f ≡ true
-patch_twisted m flags t f g p w set =
-    elim (cases_Bool (t.twisted f)) [
-      | inl is ↦ is
-      | inr un ↦ absurd (true≢false (sym set ∙ (along m flags t f g p w un).0))
-    ]
+patch_twisted m flags t f g p w set = grind (arith, common_steps, along m flags t f g p w)
 
 pub fewest_are_turned : (m : Net) (places : List Place) (flags other : List Bool)
     (t : AreChosenTurns m places flags) → AgreeOnceTurned m other → (r : ℕ) → IsOpen m t.least r

@@ -1,16 +1,16 @@
 -- Which faces are turned doesn't depend on the vertices' numbers.
 use Rattle.std.proofs.Common.{◌≡◌, ℕ, ◌+◌, ◌*◌, ◌<◌, inl, inr, refl, sym, ap, ◌∙◌, subst, Bool}
-use Rattle.std.proofs.Common.{true, false, not, ◌&&◌, List, arith}
-use Rattle.std.specs.Prelude.{ℤ, pos, ◌≤ℤ◌, ◌==◌, if◌then◌else◌}
+use Rattle.std.proofs.lemmas.Grind.{common_steps}
+use Rattle.std.proofs.Common.{true, false, List, arith}
+use Rattle.std.specs.Prelude.{ℤ}
 use Rattle.std.proofs.lemmas.Bool.{cases_Bool, eqb-true, eqb-false, eq-eqb, ne_eqb}
 use Rattle.pm_base.specs.Place.{Place}
-use Rattle.pm_base.specs.Counts.{count}
-use Rattle.pm_base.specs.Sides.{Net, face_of, side_count, next, prev, Stands}
+use Rattle.pm_base.specs.Sides.{Net, face_of, side_count, next, Stands}
 use Rattle.pm_base.proofs.Sides.{next-lt}
 use Rattle.pm_turn.specs.Turning.{flag_of, JoinsSame, AreMates, clash, flipped_if, Way, stay, over}
 use Rattle.pm_turn.specs.Turning.{AgreeOnceTurned, AreTurns}
-use Rattle.pm_turn.specs.Choice.{AreLeast, IsOpen, Agrees, HasClash, turned_in, staying_in}
-use Rattle.pm_turn.specs.Choice.{IsFewest, place_at, determinant_of, volume_at, total, volume_in}
+use Rattle.pm_turn.specs.Choice.{AreLeast, IsOpen, Agrees, HasClash}
+use Rattle.pm_turn.specs.Choice.{IsFewest, place_at, determinant_of, volume_at, volume_in}
 use Rattle.pm_turn.specs.Choice.{IsOutward, AreChosenTurns}
 use Rattle.pm_turn.specs.ChoiceLaws.{IsRenumbered}
 use Rattle.pm_turn.proofs.Totals.{total_same}
@@ -29,29 +29,11 @@ module _ (m n : Net) (h : IsRenumbered m n) where
   in_n e l = subst (λ i. e < 3 * i) (sym h.faces) l
 
   stands_on : (e : ℕ) → Stands m e → Stands n e
-  stands_on e s =
-      let a = s.is_side in
-      let b = next-lt m.faces e a in
-      let c = next-lt m.faces (next e) b in
-      record {
-        is_side = in_n e a;
-        first = λ is. s.first (h.back e (next e) a b is);
-        second = λ is. s.second (h.back (next e) (prev e) b c is);
-        last = λ is. s.last (h.back (prev e) e c a is);
-      }
+  stands_on e s = grind (arith, common_steps, in_n e, next-lt m.faces e, next-lt m.faces (next e))
 
   joins_on : (e g : ℕ) → e < side_count m → JoinsSame m e g → JoinsSame n e g
   joins_on e g el j =
-      let gl = j.stands.is_side in
-      let el' = next-lt m.faces e el in
-      let gl' = next-lt m.faces g gl in
-      record {
-        stands = stands_on g j.stands;
-        ends = elim j.ends [
-          | inl (a, b) ↦ inl (h.there g e gl el a, h.there (next g) (next e) gl' el' b)
-          | inr (a, b) ↦ inr (h.there g (next e) gl el' a, h.there (next g) e gl' el b)
-        ];
-      }
+      grind (arith, common_steps, next-lt m.faces e el, next-lt m.faces g, stands_on g j.stands)
 
 mates_on : (m n : Net) → IsRenumbered m n → (e k : ℕ) → AreMates m e k → AreMates n e k
 mates_on m n h e k a = record {
@@ -143,28 +125,14 @@ module _ (m n : Net) (h : IsRenumbered m n) where
 
   clash_off : (least : ℕ → ℕ) (r : ℕ) → HasClash n least r → HasClash m least r
   clash_off least r c =
-      let a = mates_off c.side c.mate c.mates in
-      record {
-        side = c.side;
-        mate = c.mate;
-        mates = a;
-        here = c.here;
-        clashes =
-            clash_on m n h c.side c.mate a ∙ c.clashes;
-      }
+      grind (arith, common_steps, clash_on m n h c.side c.mate, mates_off c.side c.mate c.mates)
 
   agrees_off : (least : ℕ → ℕ) (r : ℕ) → Agrees n least r → Agrees m least r
   agrees_off least r all e k a at = clash_on m n h e k a ∙ all e k (mates_on m n h e k a) at
 
   fewest_like : (least : ℕ → ℕ) (turned : ℕ → Bool) (r : ℕ) → IsFewest m least turned r
       → IsFewest n least turned r
-  fewest_like least turned r s =
-      let t : turned_in n least turned r ≡ turned_in m least turned r =
-      ap (count (λ f. (least f == r) && turned f)) h.faces in
-      let u : staying_in n least turned r ≡ staying_in m least turned r =
-      ap (count (λ f. (least f == r) && not (turned f))) h.faces in
-      let few = s.few in
-      record { few = omega (arith, t, u, few); first = λ e. s.first (sym t ∙ e ∙ u) }
+  fewest_like least turned r s = grind (arith, common_steps)
 
   module _ (old new : List Place)
       (places : (e : ℕ) → e < side_count m → place_at new (n.from e) ≡ place_at old (m.from e))
@@ -182,18 +150,11 @@ module _ (m n : Net) (h : IsRenumbered m n) where
 
       total_like : (least : ℕ → ℕ) (turned : ℕ → Bool) (r : ℕ)
           → volume_in n new least turned r ≡ volume_in m old least turned r
-      total_like least turned r =
-          ap (total (λ f. if least f == r then volume_at n new (turned f) f else pos 0)) h.faces
-          ∙ total_same (λ f. if least f == r then volume_at n new (turned f) f else pos 0)
-          (λ f. if least f == r then volume_at m old (turned f) f else pos 0) m.faces
-          (λ f l. ap (λ (z : ℤ). if least f == r then z else pos 0) (volume_like (turned f) f l))
+      total_like least turned r = grind (arith, common_steps, total_same, volume_like)
 
       outward_like : (least : ℕ → ℕ) (turned : ℕ → Bool) (r : ℕ) → IsOutward m old least turned r
           → IsOutward n new least turned r
-      outward_like least turned r s = record {
-        volume = subst (λ (z : ℤ). pos 0 ≤ℤ z) (sym (total_like least turned r)) s.volume;
-        flat = λ e. fewest_like least turned r (s.flat (sym (total_like least turned r) ∙ e));
-      }
+      outward_like least turned r s = grind (arith, common_steps, fewest_like, total_like)
 
       chosen_like : (flags : List Bool) → AreChosenTurns m old flags → AreChosenTurns n new flags
       unfolding agree_like

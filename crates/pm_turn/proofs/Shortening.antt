@@ -1,5 +1,6 @@
 -- Ways up are shortened: a face's elder is passed over.
 use Rattle.std.proofs.Common.{◌≡◌, ◌≢◌, ℕ, ◌<◌, ◌≤◌, inl, inr, refl, sym, ap, ◌∙◌, subst, Bool}
+use Rattle.std.proofs.lemmas.Grind.{common_steps}
 use Rattle.std.proofs.Common.{List, length, false, set, slice_index_or, arith}
 use Rattle.std.proofs.lemmas.Bool.{cases_eq}
 use Rattle.pm_base.specs.Sides.{face_of}
@@ -26,10 +27,7 @@ module _ (t : Elders) (f : ℕ) (apart : t.elder f ≢ f) (far : t.elder (t.elde
   u = halved t f
 
   goes_below : t.elder (t.elder f) ≢ f
-  goes_below is =
-      let a = below f in
-      let b = below (t.elder f) in
-      absurd (omega (arith, a, b, is, apart))
+  goes_below is = grind (arith, common_steps)
 
   elder_at : (x : ℕ) → x ≡ f → u.elder x ≡ t.elder (t.elder x)
   elder_at x is =
@@ -47,11 +45,7 @@ module _ (t : Elders) (f : ℕ) (apart : t.elder f ≢ f) (far : t.elder (t.elde
   parity_else x ne = put_other t.parity f x (flipped_if (t.parity (t.elder f)) (t.parity f)) ne
 
   stays_apart : (x : ℕ) → t.elder x ≢ x → u.elder x ≢ x
-  stays_apart x ne is =
-      elim (cases_eq x f) [
-        | inl at ↦ goes_below (sym (put_same t.elder f x (t.elder (t.elder f)) at) ∙ is ∙ at)
-        | inr other ↦ ne (sym (elder_else x other) ∙ is)
-      ]
+  stays_apart x ne is = grind (arith, common_steps, elder_else, goes_below, put_same)
 
   stays_top : (x : ℕ) → t.elder x ≡ x → u.elder x ≡ x
   stays_top x is = elder_else x (λ at. apart (ap t.elder (sym at) ∙ is ∙ at)) ∙ is
@@ -126,13 +120,7 @@ module _ (t : Elders) (f : ℕ) (apart : t.elder f ≢ f) (far : t.elder (t.elde
           ];
       step = λ x l.
           elim (cases_eq x f) [
-            | inl is ↦
-                let b = below x in
-                let l' : t.elder x < m.faces = omega (arith, b, l) in
-                let w = way_on m x (t.elder x) (t.elder (t.elder x)) (t.parity x)
-                (t.parity (t.elder x)) (s.step x l) (s.step (t.elder x) l') in
-                subst (λ i. Way m x i (u.parity x)) (sym (elder_at x is))
-                (subst (λ (b : Bool). Way m x (t.elder (t.elder x)) b) (sym (parity_at x is)) w)
+            | inl is ↦ grind (arith, common_steps, elder_at, parity_at, way_on)
             | inr ne ↦ subst (λ i. Way m x i (u.parity x)) (sym (elder_else x ne))
                 (subst (λ (b : Bool). Way m x (t.elder x) b) (sym (parity_else x ne)) (s.step x l))
           ];
@@ -151,24 +139,10 @@ module _ (t : Elders) (f : ℕ) (apart : t.elder f ≢ f) (far : t.elder (t.elde
   }
 
 pub same_shorter : (t : Elders) → AreShorter t t
-same_shorter t = record {
-  ups = λ x r p v. v;
-  back = λ x r p v. v;
-  low = λ b. b;
-  apart = λ x ne. ne;
-  odd = λ x. refl;
-  stay = λ m n s. s;
-}
+same_shorter t = grind (arith, common_steps)
 
 pub shorter_on : (s t u : Elders) → AreShorter s t → AreShorter t u → AreShorter s u
-shorter_on s t u a b = record {
-  ups = λ x r p v. b.ups x r p (a.ups x r p v);
-  back = λ x r p v. a.back x r p (b.back x r p v);
-  low = λ l. b.low (a.low l);
-  apart = λ x ne. b.apart x (a.apart x ne);
-  odd = λ x. b.odd x ∙ a.odd x;
-  stay = λ m n e. b.stay m n (a.stay m n e);
-}
+shorter_on s t u a b = grind (arith, common_steps)
 
 -- The tables once a face's elder was passed over.
 pub tables_halved : (es : List ℕ) (ps os : List Bool) (f next : ℕ) (d : Bool) → f < length es

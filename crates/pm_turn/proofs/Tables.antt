@@ -1,8 +1,8 @@
 -- Tables of elders as they are written.
-use Rattle.std.proofs.Common.{◌≡◌, ℕ, ◌<◌, inl, inr, sym, subst, ◌∙◌, Bool, true, false, ◌||◌, List}
+use Rattle.std.proofs.Common.{◌≡◌, ℕ, ◌<◌, inl, inr, sym, ◌∙◌, Bool, true, false, ◌||◌, List, arith}
 use Rattle.std.proofs.Common.{length, set, slice_index_or}
 use Rattle.std.proofs.lemmas.Bool.{cases_eq, cond-true, cond-false, eq-eqb, ne_eqb}
-use Rattle.std.proofs.lemmas.Grind.{get_or-set_at}
+use Rattle.std.proofs.lemmas.Grind.{get_or-set_at, common_steps}
 use Rattle.std.proofs.lemmas.List.{get_or-set_other}
 use Rattle.pm_turn.specs.Unions.{Up, put, under, marked, elders_of}
 
@@ -28,18 +28,9 @@ tables_under es ps os low high d v el pl ol is =
 
 pub tables_marked : (es : List ℕ) (ps os : List Bool) (r : ℕ) → r < length os
     → elders_of es ps (set os r true) ≡ marked (elders_of es ps os) r
-tables_marked es ps os r ol =
-    let o = set_put os r true false ol in
-    λ i. record {
-      elder = λ x. slice_index_or es x 0;
-      parity = λ x. slice_index_or ps x false;
-      odd = λ x. o x i;
-    }
+tables_marked es ps os r ol = grind (arith, common_steps, set_put, slice_index_or)
 
 -- A way up read from tables of the same items.
 pub up_at : (es es2 : List ℕ) (ps ps2 os : List Bool) (f f2 r : ℕ) (p : Bool) → es2 ≡ es → ps2 ≡ ps
     → f2 ≡ f → Up (elders_of es2 ps2 os) f2 r p → Up (elders_of es ps os) f r p
-up_at es es2 ps ps2 os f f2 r p a b c u =
-    subst (λ l. Up (elders_of l ps os) f r p) a
-    (subst (λ l. Up (elders_of es2 l os) f r p) b
-    (subst (λ g. Up (elders_of es2 ps2 os) g r p) c u))
+up_at es es2 ps ps2 os f f2 r p a b c u = grind (arith, common_steps)

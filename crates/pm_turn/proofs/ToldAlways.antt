@@ -1,8 +1,8 @@
 -- What is told of turning can be told of any mesh, in one way; and of an oriented manifold.
-use Rattle.std.proofs.Common.{◌≡◌, ℕ, ◌<◌, inl, inr, refl, sym, ap, ◌∙◌, subst, Bool, true, false}
+use Rattle.std.proofs.Common.{◌≡◌, ℕ, ◌<◌, refl, sym, ap, ◌∙◌, subst, Bool, false, arith}
+use Rattle.std.proofs.lemmas.Grind.{common_steps}
 use Rattle.std.proofs.Common.{List}
 use Rattle.std.specs.Prelude.{ℤ, pos, ◌<ℤ◌}
-use Rattle.std.proofs.lemmas.Bool.{cases_Bool, true≢false}
 use Rattle.pm_base.specs.Place.{Place}
 use Rattle.pm_base.specs.Counts.{count}
 use Rattle.pm_base.specs.Sides.{Net, face_of, side_count}
@@ -21,16 +21,7 @@ use Rattle.pm_turn.proofs.OneChoice.{least_same, open_by, agrees_by, volume_by}
 
 -- There is one such count.
 count_one : {P : ℕ → Type 0} (n k j : ℕ) → IsCount P n k → IsCount P n j → k ≡ j
-count_one n k j s t =
-    s.is ∙ count_same s.test t.test n (λ i l.
-    elim (cases_Bool (s.test i)) [
-      | inl a ↦ a ∙ sym (t.no i l (s.yes i l a))
-      | inr a ↦
-          elim (cases_Bool (t.test i)) [
-            | inr b ↦ a ∙ sym b
-            | inl b ↦ absurd (true≢false (sym (s.no i l (t.yes i l b)) ∙ a))
-          ]
-    ]) ∙ sym t.is
+count_one n k j s t = grind (arith, common_steps, count_same)
 
 module _ (m : Net) (places : List Place) (a b : ℕ → ℕ)
     (same : (f : ℕ) → f < m.faces → a f ≡ b f) where
@@ -45,15 +36,14 @@ module _ (m : Net) (places : List Place) (a b : ℕ → ℕ)
 inward_one : (m : Net) (places : List Place) (k j : ℕ)
     → AreInsideOut m places k → AreInsideOut m places j → k ≡ j
 inward_one m places k j s t =
-    let same : (f : ℕ) → f < m.faces → t.least f ≡ s.least f =
-    least_same m t.least s.least t.patches s.patches in
-    count_one m.faces k j s.count (record {
-      test = t.count.test;
-      yes = λ r l e. inward_by m places t.least s.least same r l (t.count.yes r l e);
-      no = λ r l h.
-          t.count.no r l (inward_by m places s.least t.least (λ f fl. sym (same f fl)) r l h);
-      is = t.count.is;
-    })
+    grind (
+      arith,
+      common_steps,
+      count_one m.faces k j s.count,
+      inward_by m places t.least s.least,
+      inward_by m places s.least t.least,
+      least_same m t.least s.least t.patches s.patches,
+    )
 
 pub turn_counts_are_one : TurnCountsAreOne
 turn_counts_are_one m places flags one other s t =
@@ -101,12 +91,7 @@ always_even m all f g q (over {e} {k} {p} w a) =
     ap (λ (c : Bool). flipped_if c p) (all e k a) ∙ always_even m all f (face_of e) p w
 
 none_twisted : (m : Net) (k : ℕ) → AllAgree m → IsCount (IsTwisted m) m.faces k → k ≡ 0
-none_twisted m k all h =
-    h.is ∙ count_zero h.test m.faces (λ i l.
-    elim (cases_Bool (h.test i)) [
-      | inr un ↦ un
-      | inl t ↦ absurd (true≢false (always_even m all i i true (h.yes i l t)))
-    ])
+none_twisted m k all h = grind (arith, common_steps, always_even, count_zero)
 
 pub manifolds_are_straight : ManifoldsAreStraight
 manifolds_are_straight m places flags c stand is s = (

@@ -1,10 +1,11 @@
 -- Sums of integers, counts in a patch, and determinants of turned faces.
-use Rattle.std.proofs.Common.{◌≡◌, ◌≢◌, ℕ, zero, suc, ◌*◌, ◌<◌, ◌≤◌, ◌^◌, inl, inr, refl, sym, ap}
-use Rattle.std.proofs.Common.{◌∙◌, subst, Bool, true, false, ◌&&◌, arith}
+use Rattle.std.proofs.Common.{◌≡◌, ◌≢◌, ℕ, zero, suc, ◌*◌, ◌<◌, ◌≤◌, ◌^◌, refl, sym, ap}
+use Rattle.std.proofs.lemmas.Grind.{common_steps}
+use Rattle.std.proofs.Common.{◌∙◌, Bool, true, false, ◌&&◌, arith}
 use Rattle.std.specs.Prelude.{ℤ, pos, negsuc, neg_ℤ, ◌+ℤ◌, ◌-ℤ◌, ◌*ℤ◌, ◌==◌, unsigned_abs}
 use Rattle.std.specs.Prelude.{if◌then◌else◌}
 use Rattle.std.proofs.Math.IntN.{*ℤ_comm, *ℤ-zero, *ℤ-negsuc, neg_ℤ-neg_ℤ}
-use Rattle.std.proofs.lemmas.Bool.{cases_eq, cases_Bool, cond-true, cond-false, eq-eqb, ne_eqb}
+use Rattle.std.proofs.lemmas.Bool.{cond-true, cond-false, eq-eqb, ne_eqb}
 use borrow.Author.Differences.{ints}
 use Rattle.pm_base.specs.Place.{Place}
 use Rattle.pm_base.specs.Geometry.{Direction, IsNormal, dot_of, cross_of}
@@ -25,20 +26,12 @@ total-suc g n = refl
 
 pub total_same : (g h : ℕ → ℤ) (n : ℕ) → ((i : ℕ) → i < n → g i ≡ h i) → total g n ≡ total h n
 total_same g h zero e = total-zero g ∙ sym (total-zero h)
-total_same g h (suc n) e =
-    let a = total-suc g n in
-    let b = total-suc h n in
-    let c = e n (omega arith) in
-    let d = total_same g h n (λ i l. e i (omega (arith, l))) in
-    omega (arith, ints, a, b, c, d)
+total_same g h (suc n) e = grind (arith, common_steps, total-suc, total_same g h n)
 
 -- The sum of the opposites.
 pub total_opposite : (g h : ℕ → ℤ) (n : ℕ) → ((i : ℕ) → i < n → h i ≡ neg_ℤ (g i))
     → total h n ≡ neg_ℤ (total g n)
-total_opposite g h zero e =
-    let a = total-zero g in
-    let b = total-zero h in
-    omega (arith, ints, a, b)
+total_opposite g h zero e = grind (arith, common_steps, total-zero)
 total_opposite g h (suc n) e =
     let a = total-suc g n in
     let b = total-suc h n in
@@ -50,13 +43,7 @@ pub total_small : (g : ℕ → ℤ) (b n : ℕ) → ((i : ℕ) → unsigned_abs 
     → unsigned_abs (total g n) ≤ n * b
 total_small g b zero e = let a : unsigned_abs (total g zero) ≡ 0 =
     ap unsigned_abs (total-zero g) in omega (arith, a)
-total_small g b (suc n) e =
-    let a : unsigned_abs (total g (suc n)) ≡ unsigned_abs (g n +ℤ total g n) =
-    ap unsigned_abs (total-suc g n) in
-    let c = abs_plus (g n) (total g n) in
-    let d = e n in
-    let i = total_small g b n e in
-    omega (arith, a, c, d, i)
+total_small g b (suc n) e = grind (arith, common_steps, abs_plus, total-suc, total_small g b n e)
 
 -- Counts.
 pub count_zero : (p : ℕ → Bool) (n : ℕ) → ((i : ℕ) → i < n → p i ≡ false) → count p n ≡ 0
@@ -66,16 +53,7 @@ count_zero p (suc n) h =
 
 pub count_some : (p : ℕ → Bool) (n i : ℕ) → i < n → p i ≡ true → 0 < count p n
 count_some p zero i l e = absurd (omega (arith, l))
-count_some p (suc n) i l e =
-    elim (cases_eq i n) [
-      | inl is ↦ let a = count-true p n (subst (λ j. p j ≡ true) is e) in omega (arith, a)
-      | inr ne ↦
-          let r = count_some p n i (omega (arith, l, ne)) e in
-          elim (cases_Bool (p n)) [
-            | inl t ↦ let a = count-true p n t in omega (arith, a)
-            | inr f ↦ let a = count-false p n f in omega (arith, a, r)
-          ]
-    ]
+count_some p (suc n) i l e = grind (arith, common_steps, count-false, count-true, count_some p n i)
 
 -- Tests of the faces of one patch.
 pub in_patch : (root : ℕ → ℕ) (r f : ℕ) (b : Bool) → root f ≡ r → ((root f == r) && b) ≡ b
@@ -87,21 +65,11 @@ out_of_patch root r f b ne = ap (λ (t : Bool). t && b) (ne_eqb (root f) r ne)
 pub patch_same : (root : ℕ → ℕ) (r n : ℕ) (p q : ℕ → Bool)
     → ((f : ℕ) → f < n → root f ≡ r → p f ≡ q f)
     → count (λ f. (root f == r) && p f) n ≡ count (λ f. (root f == r) && q f) n
-patch_same root r n p q h =
-    count_same (λ f. (root f == r) && p f) (λ f. (root f == r) && q f) n (λ f l.
-    elim (cases_eq (root f) r) [
-      | inl is ↦ in_patch root r f (p f) is ∙ h f l is ∙ sym (in_patch root r f (q f) is)
-      | inr ne ↦ out_of_patch root r f (p f) ne ∙ sym (out_of_patch root r f (q f) ne)
-    ])
+patch_same root r n p q h = grind (arith, common_steps, count_same, in_patch, out_of_patch)
 
 pub patch_none : (root : ℕ → ℕ) (r n : ℕ) (p : ℕ → Bool)
     → ((f : ℕ) → f < n → root f ≡ r → p f ≡ false) → count (λ f. (root f == r) && p f) n ≡ 0
-patch_none root r n p h =
-    count_zero (λ f. (root f == r) && p f) n (λ f l.
-    elim (cases_eq (root f) r) [
-      | inl is ↦ in_patch root r f (p f) is ∙ h f l is
-      | inr ne ↦ out_of_patch root r f (p f) ne
-    ])
+patch_none root r n p h = grind (arith, common_steps, count_zero, in_patch, out_of_patch)
 
 pub patch_some : (root : ℕ → ℕ) (r n : ℕ) (p : ℕ → Bool) (f : ℕ) → f < n → root f ≡ r → p f ≡ true
     → 0 < count (λ f. (root f == r) && p f) n
@@ -114,28 +82,14 @@ pub patch_total : (root : ℕ → ℕ) (r n : ℕ) (g h : ℕ → ℤ)
     → total (λ f. if root f == r then g f else pos 0) n ≡ total (λ f. if root f == r then h f
     else pos 0) n
 patch_total root r n g h e =
-    total_same (λ f. if root f == r then g f else pos 0) (λ f. if root f == r then h f else pos 0) n
-    (λ f l.
-    elim (cases_eq (root f) r) [
-      | inl is ↦ cond-true _ _ _ (eq-eqb (root f) r is) ∙ e f l is
-          ∙ sym (cond-true _ _ _ (eq-eqb (root f) r is))
-      | inr ne ↦ cond-false _ _ _ (ne_eqb (root f) r ne)
-          ∙ sym (cond-false _ _ _ (ne_eqb (root f) r ne))
-    ])
+    grind (arith, common_steps, cond-false, cond-true, eq-eqb, ne_eqb, total_same)
 
 pub patch_opposite : (root : ℕ → ℕ) (r n : ℕ) (g h : ℕ → ℤ)
     → ((f : ℕ) → f < n → root f ≡ r → h f ≡ neg_ℤ (g f))
     → total (λ f. if root f == r then h f else pos 0) n
     ≡ neg_ℤ (total (λ f. if root f == r then g f else pos 0) n)
 patch_opposite root r n g h e =
-    total_opposite (λ f. if root f == r then g f else pos 0) (λ f. if root f == r then h f
-    else pos 0) n (λ f l.
-    elim (cases_eq (root f) r) [
-      | inl is ↦ cond-true _ _ _ (eq-eqb (root f) r is) ∙ e f l is
-          ∙ ap neg_ℤ (sym (cond-true _ _ _ (eq-eqb (root f) r is)))
-      | inr ne ↦ cond-false _ _ _ (ne_eqb (root f) r ne)
-          ∙ ap neg_ℤ (sym (cond-false _ _ _ (ne_eqb (root f) r ne)))
-    ])
+    grind (arith, common_steps, cond-false, cond-true, eq-eqb, ne_eqb, total_opposite)
 
 -- Determinants.
 minor_back : (p q r s : ℤ) → r *ℤ q -ℤ s *ℤ p ≡ neg_ℤ (p *ℤ s -ℤ q *ℤ r)
@@ -174,13 +128,7 @@ determinant_turned a b c =
 pub dot_small : (x y z : ℤ) (n : Direction) → unsigned_abs x ≤ 32767 → unsigned_abs y ≤ 32767
     → unsigned_abs z ≤ 32767 → IsNormal n
     → unsigned_abs (dot_of (record { x = x; y = y; z = z }) n) ≤ 2 ^ 51
-dot_small x y z n p q r s =
-    let a = abs_product x n.x 32767 8589410312 p s.0 in
-    let b = abs_product y n.y 32767 8589410312 q s.1 in
-    let c = abs_product z n.z 32767 8589410312 r s.2 in
-    let d = abs_plus (x *ℤ n.x +ℤ y *ℤ n.y) (z *ℤ n.z) in
-    let e = abs_plus (x *ℤ n.x) (y *ℤ n.y) in
-    omega (arith, a, b, c, d, e)
+dot_small x y z n p q r s = grind (arith, common_steps, abs_plus, abs_product)
 
 -- One worked row.
 pub unit_tetrahedron_faces_out : UnitTetrahedronFacesOut

@@ -1,5 +1,6 @@
 -- Flags from traced tables.
 use Rattle.std.proofs.Common.{◌≡◌, ℕ, ◌<◌, ◌≤◌, inl, inr, refl, sym, ap, ◌∙◌, subst, List, length}
+use Rattle.std.proofs.lemmas.Grind.{common_steps}
 use Rattle.std.proofs.Common.{Bool, true, false, arith}
 use Rattle.std.proofs.lemmas.Bool.{cases_Bool, cond-true, cond-false, eqb-true, eqb-false, eq-eqb}
 use Rattle.std.proofs.lemmas.Bool.{ne_eqb}
@@ -18,11 +19,7 @@ way_on m f g h p r w (over {e} {k} {p = q} v a) =
     (over (way_on m f g (face_of e) p q w v) a)
 
 pub clash_back : (m : Net) (e k : ℕ) → clash m k e ≡ clash m e k
-clash_back m e k =
-    elim (cases_Bool (clash m e k)) [
-      | inl c ↦ eq-eqb _ _ (sym (eqb-true _ _ c)) ∙ sym c
-      | inr c ↦ ne_eqb _ _ (λ is. eqb-false _ _ c (sym is)) ∙ sym c
-    ]
+clash_back m e k = grind (arith, common_steps, eq-eqb, eqb-false, eqb-true, ne_eqb)
 
 pub flip_none : (b : Bool) → flipped_if b false ≡ b
 flip_none true = refl

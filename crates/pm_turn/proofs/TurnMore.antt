@@ -1,5 +1,6 @@
 -- Faces turned one by one, and the numbers from 0.
 use Rattle.std.proofs.Common.{◌≡◌, ℕ, ◌+◌, ◌<◌, ◌≤◌, inl, inr, sym, ap, ◌∙◌, subst, Bool, false}
+use Rattle.std.proofs.lemmas.Grind.{common_steps}
 use Rattle.std.proofs.Common.{List, [], ◌∷◌, ◌++◌, length, drop, slice_index_or, arith}
 use Rattle.std.proofs.lemmas.Bool.{cases_eq}
 use Rattle.std.proofs.lemmas.List.{append_assoc, append-nil, drop_more, drop_all}
@@ -16,25 +17,11 @@ pub turned_more : (flags : List Bool) (fs xs ys all : List Corners) (at : ℕ) (
     → xs ++ turned_by (drop at flags) (drop at fs) ≡ all
     → ys ++ turned_by (drop (at + 1) flags) (drop (at + 1) fs) ≡ all
 turned_more flags fs xs ys all at new l long is items left =
-    let rest : List Corners = turned_by (drop (at + 1) flags) (drop (at + 1) fs) in
-    let step : turned_by (drop at flags) (drop at fs)
-    ≡ turned_if (slice_index_or flags at false) (slice_index_or fs at no_corners) ∷ rest =
-    ap (λ (bs : List Bool). turned_by bs (drop at fs))
-    (drop_more flags at false (omega (arith, l, long)))
-    ∙ ap (turned_by (slice_index_or flags at false ∷ drop (at + 1) flags))
-    (drop_more fs at no_corners l) in
-    ap (λ (zs : List Corners). zs ++ rest) items
-    ∙ append_assoc xs (new ∷ []) rest
-    ∙ ap (λ (f : Corners). xs ++ (f ∷ rest)) is
-    ∙ ap (λ (zs : List Corners). xs ++ zs) (sym step)
-    ∙ left
+    grind (arith, common_steps, append_assoc, drop_more, slice_index_or)
 
 pub turned_all : (flags : List Bool) (fs xs all : List Corners) (at : ℕ) → length fs ≤ at
     → xs ++ turned_by (drop at flags) (drop at fs) ≡ all → xs ≡ all
-turned_all flags fs xs all at l left =
-    sym (append-nil xs)
-    ∙ sym (ap (λ (gs : List Corners). xs ++ turned_by (drop at flags) gs) (drop_all at fs l))
-    ∙ left
+turned_all flags fs xs all at l left = grind (arith, common_steps, append-nil, drop_all)
 
 pub own_more : (xs ys : List ℕ) (n : ℕ) → length xs ≡ n
     → ((x : ℕ) → x < n → slice_index_or xs x 0 ≡ x) → ys ≡ xs ++ n ∷ []

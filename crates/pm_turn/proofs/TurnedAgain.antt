@@ -1,5 +1,7 @@
 -- Faces that were turned aren't turned again.
 use Rattle.std.proofs.Common.{◌≡◌, ◌≢◌, ℕ, ◌*◌, ◌<◌, ◌⊎◌, inl, inr, refl, sym, ap, ◌∙◌, subst, List}
+use Rattle.std.proofs.Common.{arith}
+use Rattle.std.proofs.lemmas.Grind.{common_steps}
 use Rattle.std.proofs.Common.{[], ◌∷◌, length, Bool, true, false, not}
 use Rattle.std.specs.Prelude.{◌==◌}
 use Rattle.std.proofs.lemmas.Bool.{cases_Bool, eq-eqb, ne_eqb}
@@ -53,18 +55,8 @@ module _ (a b x y : ℕ) (ab : a ≢ b) where
 
   tests : SameEnds x y a b → ((b == y) ≡ (a == x)) × ((a == y) ≡ not (a == x))
       × ((b == x) ≡ not (a == x))
-  tests (inl (c, d)) =
-      let ax : (a == x) ≡ true = eq-eqb _ _ (sym c) in (
-        eq-eqb _ _ (sym d) ∙ sym ax,
-        ne_eqb _ _ (λ is. ab (is ∙ d)) ∙ sym (ap not ax),
-        ne_eqb _ _ (λ is. ab (sym (is ∙ c))) ∙ sym (ap not ax),
-      )
-  tests (inr (c, d)) =
-      let ax : (a == x) ≡ false = ne_eqb _ _ (λ is. ab (is ∙ c)) in (
-        ne_eqb _ _ (λ is. ab (sym (is ∙ d))) ∙ sym ax,
-        eq-eqb _ _ (sym d) ∙ sym (ap not ax),
-        eq-eqb _ _ (sym c) ∙ sym (ap not ax),
-      )
+  tests (inl (c, d)) = grind (arith, common_steps, eq-eqb, ne_eqb)
+  tests (inr (c, d)) = grind (arith, common_steps, eq-eqb, ne_eqb)
 
 module _ (flags : List Bool) (fs : List Corners) (stand : AllStand (net_of fs))
     (stand' : AllStand (net_of (turned_by flags fs))) where

@@ -1,5 +1,6 @@
 -- Turning faces round.
 use Rattle.std.proofs.Common.{◌≡◌, ℕ, zero, suc, ◌<◌, ◌≤◌, ◌⊎◌, inl, inr, refl, sym, ap, ◌∙◌, subst}
+use Rattle.std.proofs.lemmas.Grind.{common_steps}
 use Rattle.std.proofs.Common.{List, [], ◌∷◌, length, Bool, true, false, not, ◌&&◌, ◌||◌, arith}
 use Rattle.std.specs.Prelude.{◌==◌}
 use Rattle.std.proofs.lemmas.Bool.{cases_Bool, eqb-true, ne_eqb, or_from, true≢false}
@@ -40,14 +41,8 @@ pub each_is_turned_or_not : (flags : List Bool) (fs : List Corners)
     → (length (turned_by flags fs) ≡ length fs)
     × ((i : ℕ) → i < length fs → (face_at (turned_by flags fs) i ≡ face_at fs i)
     ⊎ (face_at (turned_by flags fs) i ≡ turned_face (face_at fs i)))
-each_is_turned_or_not flags fs = (
-  turned_length flags fs,
-  λ i l.
-      elim (if_cases (flag_of flags i) (face_at fs i)) [
-        | inl is ↦ inl (turned_at flags fs i l ∙ is)
-        | inr is ↦ inr (turned_at flags fs i l ∙ is)
-      ],
-)
+each_is_turned_or_not flags fs =
+    grind (arith, common_steps, face_at, if_cases, turned_at, turned_length)
 
 -- A turned face has the same corners.
 or_swap : (p q r : Bool) → (p || r || q) ≡ (p || q || r)
@@ -69,11 +64,7 @@ corner_turned f v = or_swap (f.a == v) (f.b == v) (f.c == v)
 
 alike_first : (f g : Corners) → is_alike (turned_face f) g ≡ is_alike f g
 unfolding is_alike
-alike_first f g =
-    ap (λ (b : Bool). b && is_corner (turned_face f) g.b && is_corner (turned_face f) g.c)
-    (corner_turned f g.a)
-    ∙ ap (λ (b : Bool). is_corner f g.a && b && is_corner (turned_face f) g.c) (corner_turned f g.b)
-    ∙ ap (λ (b : Bool). is_corner f g.a && is_corner f g.b && b) (corner_turned f g.c)
+alike_first f g = grind (arith, common_steps, corner_turned)
 
 alike_second : (f g : Corners) → is_alike f (turned_face g) ≡ is_alike f g
 unfolding is_alike
@@ -87,11 +78,7 @@ alike_if false false f g = refl
 
 flat_if : (b : Bool) (f : Corners) → is_flat f ≡ false → is_flat (turned_if b f) ≡ false
 flat_if false f e = e
-flat_if true f e =
-    let d = not_flat f e in
-    or_from (f.a == f.c || f.c == f.b) (f.b == f.a)
-    (or_from (f.a == f.c) (f.c == f.b) (ne_eqb _ _ (λ i. d.zx (sym i)))
-    (ne_eqb _ _ (λ i. d.yz (sym i)))) (ne_eqb _ _ (λ i. d.xy (sym i)))
+flat_if true f e = grind (arith, common_steps, ne_eqb, not_flat, or_from)
 
 turned_fit : (flags : List Bool) (fs : List Corners) → IsFitList fs → IsFitList (turned_by flags fs)
 turned_fit flags fs h = record {

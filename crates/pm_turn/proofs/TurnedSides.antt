@@ -1,10 +1,11 @@
 -- The sides of turned faces, and what is glued.
 use Rattle.std.proofs.Common.{◌≡◌, ◌≢◌, ℕ, ◌+◌, ◌-◌, ◌*◌, ◌/◌, ◌%◌, ◌<◌, ◌⊎◌, inl, inr, refl, sym}
+use Rattle.std.proofs.lemmas.Grind.{common_steps}
 use Rattle.std.proofs.Common.{ap, ◌∙◌, subst, List, length, Bool, true, false, not, arith}
 use Rattle.std.proofs.lemmas.Bool.{cases_Bool, cases_eq, cond-true, cond-false, eqb-true, eqb-false}
 use Rattle.std.proofs.lemmas.Bool.{ne_eqb, true≢false}
 use Rattle.pm_base.specs.declared.mesh.Corners.{Corners}
-use Rattle.pm_base.specs.Sides.{Net, face_of, next, to, net_of, corner_in, Stands}
+use Rattle.pm_base.specs.Sides.{Net, face_of, to, net_of, corner_in, Stands}
 use Rattle.pm_base.proofs.Sides.{next-lt, face_of-next}
 use Rattle.pm_base.proofs.NetLaws.{face_at, first_side, second_side, third_side}
 use Rattle.pm_fans.specs.Splits.{AllStand, IsGlued}
@@ -43,22 +44,10 @@ module _ (flags : List Bool) (fs : List Corners) where
   moved_not e is = cond-false _ _ _ is
 
   pub moved_face : (e : ℕ) → face_of (moved flags e) ≡ face_of e
-  moved_face e =
-      elim (cases_Bool (flag_of flags (face_of e))) [
-        | inl is ↦ let at = moved_on e is in omega (arith, at)
-        | inr is ↦ ap face_of (moved_not e is)
-      ]
+  moved_face e = grind (arith, common_steps, moved_not, moved_on)
 
   pub moved_back : (e : ℕ) → moved flags (moved flags e) ≡ e
-  moved_back e =
-      elim (cases_Bool (flag_of flags (face_of e))) [
-        | inl is ↦
-            let at = moved_on e is in
-            let f = moved_face e in
-            let again = moved_on (moved flags e) (ap (flag_of flags) f ∙ is) in
-            omega (arith, at, f, again)
-        | inr is ↦ ap (moved flags) (moved_not e is) ∙ moved_not e is
-      ]
+  moved_back e = grind (arith, common_steps, moved_face, moved_not, moved_on)
 
   pub moved_in : (e : ℕ) → e < 3 * length fs → moved flags e < 3 * length fs
   moved_in e l = let f = moved_face e in omega (arith, f)
@@ -84,15 +73,7 @@ module _ (flags : List Bool) (fs : List Corners) where
     pub to_is : to n (moved flags e) ≡ m.from e
 
   runs : (e : ℕ) → e < 3 * length fs → flag_of flags (face_of e) ≡ false → Runs e
-  runs e l is =
-      let at = moved_not e is in
-      record {
-        unset = is;
-        from_is = ap n.from at ∙ from_not e l is;
-        to_is = ap (to n) at
-            ∙ from_not (next e) (next-lt (length fs) e l) (ap (flag_of flags) (face_of-next e)
-            ∙ is);
-      }
+  runs e l is = grind (arith, common_steps, face_of-next, from_not, moved_not, next-lt)
 
   runs_back : (e f : ℕ) → face_of e ≡ f → f < length fs → flag_of flags f ≡ true
       → (n.from (3 * f + (2 - e % 3)) ≡ to m e) × (to n (3 * f + (2 - e % 3)) ≡ m.from e)
@@ -120,13 +101,7 @@ module _ (flags : List Bool) (fs : List Corners) where
             )
         | inr r0 ↦
             elim (cases_eq (e % 3) 1) [
-              | inl r ↦
-                  let e' : e ≡ 3 * f + 1 = omega (arith, at, r) in
-                  let g' : 3 * f + (2 - e % 3) ≡ 3 * f + 1 = omega (arith, r) in (
-                    ap n.from g' ∙ tb2 ∙ kb ∙ sym c ∙ ap (to m) (sym e'),
-                    ap (to n) g' ∙ tc ∙ kc
-                        ∙ sym b2 ∙ ap m.from (sym e'),
-                  )
+              | inl r ↦ grind (arith, common_steps)
               | inr r1 ↦
                   let r : e % 3 ≡ 2 = omega (arith, r0, r1) in
                   let e' : e ≡ 3 * f + 2 = omega (arith, at, r) in
@@ -189,17 +164,8 @@ module _ (flags : List Bool) (fs : List Corners) where
                 | inr (b, d) ↦ absurd (a.stands.first (same ∙ b))
                 | inl (b, d) ↦
                     elim (runs_cases e a.stands.is_side) [
-                      | inl r ↦
-                          elim (runs_cases k a.same.stands.is_side) [
-                            | inl q ↦ absurd
-                                (true≢false (sym (not_same ∙ ap not r.unset) ∙ q.unset))
-                            | inr q ↦ (q.from_is ∙ d ∙ sym r.to_is, q.to_is ∙ b ∙ sym r.from_is)
-                          ]
-                      | inr r ↦
-                          elim (runs_cases k a.same.stands.is_side) [
-                            | inl q ↦ (q.from_is ∙ b ∙ sym r.to_is, q.to_is ∙ d ∙ sym r.from_is)
-                            | inr q ↦ absurd (true≢false (sym q.set ∙ not_same ∙ ap not r.set))
-                          ]
+                      | inl r ↦ grind (arith, common_steps, runs_cases)
+                      | inr r ↦ grind (arith, common_steps, runs_cases)
                     ]
               ]
           | inr c ↦
@@ -210,16 +176,8 @@ module _ (flags : List Bool) (fs : List Corners) where
                 | inl (b, d) ↦ absurd (apart (sym b))
                 | inr (b, d) ↦
                     elim (runs_cases e a.stands.is_side) [
-                      | inl r ↦
-                          elim (runs_cases k a.same.stands.is_side) [
-                            | inl q ↦ (q.from_is ∙ b ∙ sym r.to_is, q.to_is ∙ d ∙ sym r.from_is)
-                            | inr q ↦ absurd (true≢false (sym q.set ∙ same ∙ r.unset))
-                          ]
-                      | inr r ↦
-                          elim (runs_cases k a.same.stands.is_side) [
-                            | inl q ↦ absurd (true≢false (sym (same ∙ r.set) ∙ q.unset))
-                            | inr q ↦ (q.from_is ∙ d ∙ sym r.to_is, q.to_is ∙ b ∙ sym r.from_is)
-                          ]
+                      | inl r ↦ grind (arith, common_steps, runs_cases)
+                      | inr r ↦ grind (arith, common_steps, runs_cases)
                     ]
               ]
         ]
@@ -266,13 +224,7 @@ glued_mates m e k w =
     )
 
 pub mates_back : (m : Net) (e k : ℕ) → AreMates m e k → AreMates m k e
-mates_back m e k a = record {
-  stands = a.same.stands;
-  differ = λ is. a.differ (sym is);
-  same = record { stands = a.stands; ends = ends_back a.same.ends };
-  alone = λ g s. elim (a.alone g (record { stands = s.stands; ends = ends_on s.ends a.same.ends }))
-      [ inl is ↦ inr is | inr is ↦ inl is ];
-}
+mates_back m e k a = grind (arith, common_steps, ends_back, ends_on)
 
 module _ (fs : List Corners) (flags : List Bool) (t : AgreeOnceTurned (net_of (kept_of fs)) flags)
   where

@@ -1,6 +1,7 @@
 -- Of each mesh it can be told which faces are turned: mates are looked for and joined, side by
 -- side.
 use Rattle.std.proofs.Common.{◌≡◌, ◌≢◌, ℕ, zero, suc, ◌+◌, ◌<◌, ◌≤◌, ◌⊎◌, inl, inr, refl, sym, ap}
+use Rattle.std.proofs.lemmas.Grind.{common_steps}
 use Rattle.std.proofs.Common.{◌∙◌, subst, Bool, true, false, not, List, length, map, arith}
 use Rattle.std.specs.List.{range_with_len}
 use Rattle.std.proofs.lemmas.Bool.{cases_eq, cases_order}
@@ -33,15 +34,15 @@ apart? a b = elim (cases_eq a b) [ inl is ↦ inr (λ ne. ne is) | inr ne ↦ in
 module _ (m : Net) (e : ℕ) where
   joins? : (g : ℕ) → Decided (JoinsSame m e g)
   joins? g =
-      elim (stands? m g) [
-        | inr out ↦ inr (λ j. out j.stands)
-        | inl t ↦
-            elim (either? (both? (cases_eq (m.from g) (m.from e)) (cases_eq (to m g) (to m e)))
-            (both? (cases_eq (m.from g) (to m e)) (cases_eq (to m g) (m.from e)))) [
-              | inl ends ↦ inl (record { stands = t; ends = ends })
-              | inr out ↦ inr (λ j. out j.ends)
-            ]
-      ]
+      grind (
+        arith,
+        common_steps,
+        both? (cases_eq (m.from g) (m.from e)) (cases_eq (to m g) (to m e)),
+        both? (cases_eq (m.from g) (to m e)) (cases_eq (to m g) (m.from e)),
+        either? (both? (cases_eq (m.from g) (m.from e)) (cases_eq (to m g) (to m e)))
+            (both? (cases_eq (m.from g) (to m e)) (cases_eq (to m g) (m.from e))),
+        stands? m g,
+      )
 
   -- Another side that joins the two vertices, and one beside that.
   abbrev IsOther : ℕ → Type 0
@@ -73,24 +74,7 @@ module _ (m : Net) (e : ℕ) where
                     | inl (g, gl, (i, (apart, other))) ↦
                         inr (λ h a. other (one_other h g a (i, apart)
                         ∙ sym (one_other h k a (j, ne))))
-                    | inr none ↦
-                        inl (
-                          k,
-                          record {
-                            stands = t;
-                            differ = λ is. ne (sym is);
-                            same = j;
-                            alone = λ g i.
-                                elim (cases_eq g e) [
-                                  | inl a ↦ inl a
-                                  | inr a ↦
-                                      elim (cases_eq g k) [
-                                        | inl b ↦ inr b
-                                        | inr b ↦ absurd (none g i.stands.is_side (i, (a, b)))
-                                      ]
-                                ];
-                          },
-                        )
+                    | inr none ↦ grind (arith, common_steps)
                   ]
             ]
       ]
@@ -161,10 +145,7 @@ grown m n t s =
 
 pub all_grown : (m : Net) (n : ℕ) → AreGrown m n
 all_grown m zero = (all_own, begun m)
-all_grown m (suc n) =
-    let (t, s) = all_grown m n in
-    let next : n + 1 ≡ suc n = omega arith in
-    subst (AreGrown m) next (grown m n t s)
+all_grown m (suc n) = grind (arith, common_steps, grown m n, all_grown m n)
 
 pub turns_are_there : TurnsAreThere
 turns_are_there m =
