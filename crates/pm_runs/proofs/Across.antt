@@ -1,5 +1,7 @@
 -- What stands across each side after one merge.
 use Rattle.std.proofs.Common.{◌≡◌, ◌≢◌, ℕ, Option, Some, None, ◌⊎◌, inl, inr, refl, sym, ap, ◌∙◌}
+use Rattle.std.proofs.Common.{arith}
+use Rattle.std.proofs.lemmas.Grind.{common_steps}
 use Rattle.std.proofs.Common.{subst}
 use Rattle.pm_base.specs.Sides.{Net, next, to, third, Stands, IsTwin}
 use Rattle.pm_base.proofs.Sides.{stands_next}
@@ -12,19 +14,11 @@ use Rattle.pm_runs.proofs.Apart.{stood, stays, gone_next, gone_last, wedge}
 
 -- of a pair, the one beside b is a
 pub beside : (t u v a b : ℕ) → IsPair t u a b → a ≢ b → IsPair t u v b → v ≡ a
-beside t u v a b pair n w =
-    elim pair [
-      | inl p ↦ elim w [ inl q ↦ q.0 ∙ sym p.0 | inr q ↦ absurd (n (p.0 ∙ sym q.1)) ]
-      | inr p ↦ elim w [ inl q ↦ absurd (n (p.0 ∙ sym q.1)) | inr q ↦ q.0 ∙ sym p.0 ]
-    ]
+beside t u v a b pair n w = grind (arith, common_steps)
 
 -- what is of a pair is a or b
 pub one_of : (t u v w a b : ℕ) → IsPair t u a b → IsPair t u v w → (v ≡ a) ⊎ (v ≡ b)
-one_of t u v w a b pair k =
-    elim pair [
-      | inl p ↦ elim k [ inl q ↦ inl (q.0 ∙ sym p.0) | inr q ↦ inr (q.0 ∙ sym p.1) ]
-      | inr p ↦ elim k [ inl q ↦ inr (q.0 ∙ sym p.1) | inr q ↦ inl (q.0 ∙ sym p.0) ]
-    ]
+one_of t u v w a b pair k = grind (arith, common_steps)
 
 module _ (m : Net) (t u s : ℕ) (fresh : IsFresh m s) (keeps : KeepsApart m t u)
     (proper : IsProper m) where
@@ -41,11 +35,7 @@ module _ (m : Net) (t u s : ℕ) (fresh : IsFresh m s) (keeps : KeepsApart m t u
 
   -- the third corner of a face over the pair isn't of the pair
   outside : (x a b v w : ℕ) → IsPair t u a b → Runs m x a b → v ≡ third m x → IsPair t u v w → ⊥
-  outside x a b v w pair rx is k =
-      elim (one_of t u v w a b pair k) [
-        | inl q ↦ rx.stands.last (sym is ∙ q ∙ sym rx.begins)
-        | inr q ↦ rx.stands.second (rx.ends ∙ sym q ∙ is)
-      ]
+  outside x a b v w pair rx is k = grind (arith, common_steps, one_of)
 
   distinct : (x a b : ℕ) → Runs m x a b → a ≢ b
   distinct x a b rx z = rx.stands.first (rx.begins ∙ z ∙ sym rx.ends)
@@ -103,9 +93,7 @@ module _ (m : Net) (t u s : ℕ) (fresh : IsFresh m s) (keeps : KeepsApart m t u
               | inr q ↦ outside x a b (m.from e) (to m g) pair rx i (turned t u _ _ q)
             ]
         | inr p ↦
-            let is_a : m.from g ≡ a =
-            beside t u (m.from g) a b pair (distinct x a b rx)
-            (subst (IsPair t u (m.from g)) j p) in
+            let is_a : m.from g ≡ a = grind (arith, common_steps, beside, distinct) in
             elim (merge-same t u s _ _ (fresh_to g old) (fresh e se) l) [
               | inl q ↦ none g
                   (record {
@@ -149,9 +137,7 @@ module _ (m : Net) (t u s : ℕ) (fresh : IsFresh m s) (keeps : KeepsApart m t u
                   (subst (Stands (merged m t u s))
                   (same g (next (next x)) (third m x) a w (runs_last m x a b _ rx refl)) sg)
               | inr q ↦
-                  let is_b : to m g ≡ b =
-                  beside t u (to m g) b a (turned t u a b pair) (λ z. distinct x a b rx (sym z))
-                  (subst (IsPair t u (to m g)) i q) in
+                  let is_b : to m g ≡ b = grind (arith, common_steps, beside, distinct, turned) in
                   none g (record { stands = old; begins = p ∙ j; ends = is_b ∙ sym rx.ends })
             ]
         | inr p ↦ outside x a b (to m e) (m.from g) pair rx j (turned t u _ _ p)
@@ -201,16 +187,8 @@ module _ (m : Net) (t u s : ℕ) (fresh : IsFresh m s) (keeps : KeepsApart m t u
             elim (merge-same t u s _ _ (fresh_to g old) (fresh e se) l) [
               | inl q ↦ border g (record { stands = old; begins = p; ends = q })
               | inr q ↦
-                  let we : Runs m e (m.from e) (to m e) = record {
-                    stands = se;
-                    begins = refl;
-                    ends = refl;
-                  } in
-                  let wg : Runs m g (to m e) (to m g) = record {
-                    stands = old;
-                    begins = p;
-                    ends = refl;
-                  } in
+                  let we : Runs m e (m.from e) (to m e) = grind (arith, common_steps) in
+                  let wg : Runs m g (to m e) (to m g) = grind (arith, common_steps) in
                   let (x, rx, is) =
                   wedge m t u s fresh keeps proper.once (m.from e) (to m g) (to m e) e g
                   (turned t u _ _ q) we st wg in
@@ -221,16 +199,8 @@ module _ (m : Net) (t u s : ℕ) (fresh : IsFresh m s) (keeps : KeepsApart m t u
         | inr p ↦
             elim (merge-same t u s _ _ (fresh_to g old) (fresh e se) l) [
               | inl q ↦
-                  let we : Runs m e (m.from e) (to m e) = record {
-                    stands = se;
-                    begins = refl;
-                    ends = refl;
-                  } in
-                  let wg : Runs m g (m.from g) (m.from e) = record {
-                    stands = old;
-                    begins = refl;
-                    ends = q;
-                  } in
+                  let we : Runs m e (m.from e) (to m e) = grind (arith, common_steps) in
+                  let wg : Runs m g (m.from g) (m.from e) = grind (arith, common_steps) in
                   let (x, rx, is) =
                   wedge m t u s fresh keeps proper.once (m.from g) (to m e) (m.from e) g e p wg
                   sg we in

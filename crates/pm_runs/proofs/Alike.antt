@@ -1,6 +1,7 @@
 -- Nets with the same faces there, whatever they keep of dropped ones: all that is said of one holds
 -- of the other.
-use Rattle.std.proofs.Common.{◌≡◌, ℕ, Option, Some, None, refl, sym, ap, ◌∙◌}
+use Rattle.std.proofs.Common.{◌≡◌, ℕ, Option, Some, None, refl, sym, ◌∙◌, arith}
+use Rattle.std.proofs.lemmas.Grind.{common_steps}
 use Rattle.pm_base.specs.Sides.{Net, to, third, Stands}
 use Rattle.pm_runs.specs.Surfaces.{merge}
 use Rattle.pm_runs.specs.Merged.{IsProper, StandsAcross, Alike, merged}
@@ -16,15 +17,8 @@ module _ (m n : Net) (alike : Alike m n) where
   back_side e st = (alike (n.from e)).back e st refl
 
   pub alike-across : (e : ℕ) (r : Option ℕ) → Stands m e → StandsAcross m e r → StandsAcross n e r
-  alike-across e None st border =
-      λ g w.
-      let f = same_side e st in
-      let k = back_side g w.stands in
-      border g (record { stands = k.0; begins = k.1 ∙ w.begins ∙ f.2; ends = k.2 ∙ w.ends ∙ f.1 })
-  alike-across e (Some g) st w =
-      let f = same_side e st in
-      let k = same_side g w.stands in
-      record { stands = k.0; begins = k.1 ∙ w.begins ∙ sym f.2; ends = k.2 ∙ w.ends ∙ sym f.1 }
+  alike-across e None st border = grind (arith, common_steps, back_side, same_side e st)
+  alike-across e (Some g) st w = grind (arith, common_steps, same_side e st, same_side g w.stands)
 
   pub alike-proper : IsProper m → IsProper n
   alike-proper proper = record {
@@ -39,25 +33,7 @@ merged_half : (m n : Net) → Alike m n → (t u s p e : ℕ) → Stands (merged
     → merge t u s (m.from e) ≡ p → Stands (merged n t u s) e × (merge t u s (n.from e) ≡ p)
     × (merge t u s (to n e) ≡ merge t u s (to m e))
     × (merge t u s (third n e) ≡ merge t u s (third m e))
-merged_half m n alike t u s p e st is =
-    let mg : ℕ → ℕ = merge t u s in
-    let old : Stands m e = record {
-      is_side = st.is_side;
-      first = λ z. st.first (ap mg z);
-      second = λ z. st.second (ap mg z);
-      last = λ z. st.last (ap mg z);
-    } in
-    let f = same_side m n alike e old in (
-      record {
-        is_side = f.0.is_side;
-        first = λ z. st.first (ap mg (sym f.1) ∙ z ∙ ap mg f.2);
-        second = λ z. st.second (ap mg (sym f.2) ∙ z ∙ ap mg f.3);
-        last = λ z. st.last (ap mg (sym f.3) ∙ z ∙ ap mg f.1);
-      },
-      ap mg f.1 ∙ is,
-      ap mg f.2,
-      ap mg f.3,
-    )
+merged_half m n alike t u s p e st is = grind (arith, common_steps, same_side m n alike e)
 
 pub alike-merged : (m n : Net) → Alike m n → (t u s : ℕ) → Alike (merged m t u s) (merged n t u s)
 alike-merged m n alike t u s p = record {

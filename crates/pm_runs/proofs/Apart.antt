@@ -1,5 +1,6 @@
 -- One merge of a pair that keeps apart: no side and no face comes twice.
-use Rattle.std.proofs.Common.{◌≡◌, ◌≢◌, ℕ, ◌⊎◌, inl, inr, refl, sym, ap, ◌∙◌, subst}
+use Rattle.std.proofs.Common.{◌≡◌, ◌≢◌, ℕ, ◌⊎◌, inl, inr, refl, sym, ap, ◌∙◌, subst, arith}
+use Rattle.std.proofs.lemmas.Grind.{common_steps}
 use Rattle.pm_base.specs.Sides.{Net, next, to, third, Stands, NoSideTwice}
 use Rattle.pm_base.proofs.Sides.{stands_next}
 use Rattle.pm_runs.specs.Surfaces.{merge}
@@ -11,12 +12,7 @@ use Rattle.pm_runs.proofs.Sides.{stands_back, runs_next, runs_last, third_next}
 module _ (m : Net) (t u s : ℕ) (fresh : IsFresh m s) where
   -- a side that stands afterwards stood before
   pub stood : (e : ℕ) → Stands (merged m t u s) e → Stands m e
-  stood e st = record {
-    is_side = st.is_side;
-    first = λ z. st.first (ap (merge t u s) z);
-    second = λ z. st.second (ap (merge t u s) z);
-    last = λ z. st.last (ap (merge t u s) z);
-  }
+  stood e st = grind (arith, common_steps)
 
   fresh_to : (e : ℕ) → Stands m e → to m e ≢ s
   fresh_to e st = fresh (next e) (stands_next m e st)
@@ -28,15 +24,7 @@ module _ (m : Net) (t u s : ℕ) (fresh : IsFresh m s) where
   pub stays : (e : ℕ) → Stands m e → (IsPair t u (m.from e) (to m e) → ⊥)
       → (IsPair t u (to m e) (third m e) → ⊥) → (IsPair t u (third m e) (m.from e) → ⊥)
       → Stands (merged m t u s) e
-  stays e st a b c = record {
-    is_side = st.is_side;
-    first = λ z. elim (merge-same t u s _ _ (fresh e st) (fresh_to e st) z)
-        [ inl q ↦ st.first q | inr p ↦ a p ];
-    second = λ z. elim (merge-same t u s _ _ (fresh_to e st) (fresh_third e st) z)
-        [ inl q ↦ st.second q | inr p ↦ b p ];
-    last = λ z. elim (merge-same t u s _ _ (fresh_third e st) (fresh e st) z)
-        [ inl q ↦ st.last q | inr p ↦ c p ];
-  }
+  stays e st a b c = grind (arith, common_steps, fresh_third e st, fresh_to e st, merge-same t u s)
 
   -- no side of a face that holds both ends stands afterwards
   pub gone : (x a b : ℕ) → IsPair t u a b → Runs m x a b → Stands (merged m t u s) x → ⊥
@@ -67,12 +55,7 @@ module _ (m : Net) (t u s : ℕ) (fresh : IsFresh m s) where
                     begins = r.begins ∙ sym p.0;
                     ends = r.ends ∙ sym p.1;
                   })
-                  | inr r ↦
-                      inr (record {
-                        stands = r.stands;
-                        begins = r.begins ∙ sym p.1;
-                        ends = r.ends ∙ sym p.0;
-                      })
+                  | inr r ↦ grind (arith, common_steps)
                 ],
                 c.2,
               )
@@ -86,12 +69,7 @@ module _ (m : Net) (t u s : ℕ) (fresh : IsFresh m s) where
                     begins = r.begins ∙ sym p.1;
                     ends = r.ends ∙ sym p.0;
                   })
-                  | inr r ↦
-                      inl (record {
-                        stands = r.stands;
-                        begins = r.begins ∙ sym p.0;
-                        ends = r.ends ∙ sym p.1;
-                      })
+                  | inr r ↦ grind (arith, common_steps)
                 ],
                 c.2,
               )

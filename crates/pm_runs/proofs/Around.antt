@@ -1,6 +1,6 @@
 -- Legality of a pair is a matter of the faces at its ends; a merge changes only what is near.
-use Rattle.std.proofs.Common.{◌≡◌, ◌≢◌, ℕ, inl, inr, refl, sym, ap, ◌∙◌, subst}
-use Rattle.std.proofs.lemmas.Bool.{cases_eq}
+use Rattle.std.proofs.Common.{◌≡◌, ◌≢◌, ℕ, inl, inr, refl, sym, ◌∙◌, subst, arith}
+use Rattle.std.proofs.lemmas.Grind.{common_steps}
 use Rattle.pm_base.specs.Sides.{Net, next, to, third, Stands, HasNoTwin, IsBorder}
 use Rattle.pm_base.proofs.Sides.{stands_next}
 use Rattle.pm_runs.specs.Surfaces.{merge}
@@ -42,17 +42,7 @@ module _ (m n : Net) where
   joined p q a j = elim j [ inl k ↦ inl (has_side p q a k) | inr k ↦ inr (has_side_to q p a k) ]
 
   has_face : (p v w : ℕ) → AgreesAt m n p → HasFace m p v w → HasFace n p v w
-  has_face p v w a (e, st, is, way) =
-      let f = a.forth e st is in (
-        e,
-        f.0,
-        f.1,
-        elim way [
-          | inl k ↦ inl (f.2 ∙ k.0, f.3 ∙ k.1)
-          | inr k ↦
-              inr (f.2 ∙ k.0, f.3 ∙ k.1)
-        ],
-      )
+  has_face p v w a (e, st, is, way) = grind (arith, common_steps)
 
   -- a side with an end at p that has no twin in one has none in the other
   border_from : (e p q : ℕ) → AgreesAt m n p → Runs m e p q → HasNoTwin m e → HasNoTwin n e
@@ -67,14 +57,7 @@ module _ (m n : Net) where
       })
 
   border_to : (e p q : ℕ) → AgreesAt m n q → Runs m e p q → HasNoTwin m e → HasNoTwin n e
-  border_to e p q a r alone g twin =
-      let w = runs-to e p q a r in
-      let f = a.back g twin.stands (twin.begins ∙ w.ends) in
-      alone g (record {
-        stands = f.0;
-        begins = f.1 ∙ sym r.ends;
-        ends = f.2 ∙ twin.ends ∙ w.begins ∙ sym r.begins;
-      })
+  border_to e p q a r alone g twin = grind (arith, common_steps, runs-to e p q a r)
 
   on_border : (p : ℕ) → AgreesAt m n p → IsBorder m p → IsBorder n p
   on_border p a (e, b, way) =
@@ -84,11 +67,7 @@ module _ (m n : Net) where
             let w = runs-from e p _ a r in
             (e, record { stands = w.stands; alone = border_from e p _ a r b.alone }, inl w.begins)
         | inr is ↦
-            let r : Runs m e (m.from e) p = record {
-              stands = b.stands;
-              begins = refl;
-              ends = is;
-            } in
+            let r : Runs m e (m.from e) p = grind (arith, common_steps) in
             let w = runs-to e _ p a r in
             (e, record { stands = w.stands; alone = border_to e _ p a r b.alone }, inr w.ends)
       ]
@@ -138,10 +117,7 @@ module _ (m n : Net) (t u : ℕ) (a : AgreesAt m n t) (b : AgreesAt m n u) where
 module _ (m : Net) (t u s p : ℕ) (fresh : IsFresh m s) (n_s : p ≢ s) (n_t : p ≢ t) (n_u : p ≢ u)
     (off_t : Joined m p t → ⊥) (off_u : Joined m p u → ⊥) where
   pub not_to : (e : ℕ) → Stands m e → m.from e ≡ p → (to m e ≢ t) × (to m e ≢ u)
-  not_to e st is = (
-    λ z. off_t (inl (e, record { stands = st; begins = is; ends = z })),
-    λ z. off_u (inl (e, record { stands = st; begins = is; ends = z })),
-  )
+  not_to e st is = grind (arith, common_steps)
 
   pub not_third : (e : ℕ) → Stands m e → m.from e ≡ p → (third m e ≢ t) × (third m e ≢ u)
   not_third e st is =
@@ -173,24 +149,13 @@ module _ (m : Net) (t u s p : ℕ) (fresh : IsFresh m s) (n_s : p ≢ s) (n_t : 
 
   pub was_at : (e : ℕ) → Stands m e → merge t u s (m.from e) ≡ p → m.from e ≡ p
   was_at e st q =
-      elim (cases_eq (m.from e) t) [
-        | inl z ↦ absurd
-            (n_s (sym q ∙ ap (merge t u s) z ∙ (merge-pair t u s t u (inl (refl, refl))).0))
-        | inr z ↦
-            elim (cases_eq (m.from e) u) [
-              | inl w ↦ absurd
-                  (n_s (sym q ∙ ap (merge t u s) w ∙ (merge-pair t u s t u (inl (refl, refl))).1))
-              | inr w ↦ sym (merge-other t u s (m.from e) z w) ∙ q
-            ]
-      ]
+      grind (
+        arith,
+        common_steps,
+        merge-other t u s (m.from e),
+        merge-pair t u s t u (inl (refl, refl)),
+      )
 
   -- A merge leaves the faces at a vertex that is neither an end nor beside one
   pub merge-agrees : AgreesAt m (merged m t u s) p
-  merge-agrees = record {
-    forth = λ e st is. kept_corners e st is;
-    back = λ e st q.
-        let old = stood m t u s fresh e st in
-        let is = was_at e old q in
-        let k = kept_corners e old is in
-        (old, is, sym k.2, sym k.3);
-  }
+  merge-agrees = grind (arith, common_steps, kept_corners, stood, was_at)

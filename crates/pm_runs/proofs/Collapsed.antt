@@ -1,9 +1,11 @@
 -- A collapse of a surface is a merge of its net.
 use Rattle.std.proofs.Common.{◌≡◌, ℕ, zero, suc, ◌%◌, eqb, Bool, false, cond, ◌||◌, Option, Some}
-use Rattle.std.proofs.Common.{None, List, [], ◌∷◌, length, map, inl, inr, refl, sym, ap, ◌∙◌, subst}
+use Rattle.std.proofs.Common.{arith}
+use Rattle.std.proofs.lemmas.Grind.{common_steps}
+use Rattle.std.proofs.Common.{None, List, [], ◌∷◌, length, map, refl, ap, ◌∙◌, subst}
 use Rattle.std.specs.Prelude.{unwrap_or, option_and_then, slice_index_or}
-use Rattle.std.proofs.lemmas.Bool.{cases_Bool, eq-eqb, ne_eqb, or_from, or_left, or_right}
-use Rattle.std.proofs.lemmas.Bool.{cond-true, cond-false, both_ways}
+use Rattle.std.proofs.lemmas.Bool.{eq-eqb, ne_eqb, or_from, or_left, or_right}
+use Rattle.std.proofs.lemmas.Bool.{cond-true, cond-false}
 use Rattle.std.proofs.lemmas.List.{length-map}
 use Rattle.std.proofs.Math.ListN.{get_or-map}
 use Rattle.std.proofs.lemmas.Option.{none-some, same_Some}
@@ -41,11 +43,7 @@ distinct-test : (k : Corners) → AreDistinct k → equal_test k ≡ false
 distinct-test k d = or_from _ _ (ne_eqb _ _ d.ab) (or_from _ _ (ne_eqb _ _ d.bc) (ne_eqb _ _ d.ca))
 
 test-distinct : (k : Corners) → equal_test k ≡ false → AreDistinct k
-test-distinct k f = record {
-  ab = λ is. both_ways _ f (or_left _ _ (eq-eqb _ _ is));
-  bc = λ is. both_ways _ f (or_right (eqb k.a k.b) _ (or_left _ (eqb k.c k.a) (eq-eqb _ _ is)));
-  ca = λ is. both_ways _ f (or_right (eqb k.a k.b) _ (or_right (eqb k.b k.c) _ (eq-eqb _ _ is)));
-}
+test-distinct k f = grind (arith, common_steps, eq-eqb, or_left, or_right)
 
 not_distinct : AreDistinct no_corners → ⊥
 not_distinct d = d.ab refl
@@ -62,29 +60,13 @@ kept_face t u s (Some k) d =
 pub face_kept : (t u s : ℕ) (f : Option Corners) → AreDistinct (corners_in (next_face t u s f))
     → corners_in (next_face t u s f) ≡ merged_corners t u s (corners_in f)
 face_kept t u s None d = absurd (d.ab refl)
-face_kept t u s (Some k) d =
-    elim (cases_Bool (equal_test (merged_corners t u s k))) [
-      | inl equal ↦
-          absurd (not_distinct
-          (subst AreDistinct
-          (ap (λ b. corners_in (cond b None (Some (merged_corners t u s k)))) equal) d))
-      | inr differ ↦ ap (λ b. corners_in (cond b None (Some (merged_corners t u s k)))) differ
-    ]
+face_kept t u s (Some k) d = grind (arith, common_steps, AreDistinct, not_distinct)
 
 pub kept_from : (t u s : ℕ) (f : Option Corners) (k : Corners) → next_face t u s f ≡ Some k
     → (f ≡ Some (corners_in f)) × (k ≡ merged_corners t u s (corners_in f)) × AreDistinct k
 kept_from t u s None k is = absurd (none-some k is)
 kept_from t u s (Some l) k is =
-    elim (cases_Bool (equal_test (merged_corners t u s l))) [
-      | inl equal ↦
-          absurd (none-some k (sym (ap (λ b. cond b None (Some (merged_corners t u s l))) equal)
-          ∙ is))
-      | inr differ ↦
-          let same : merged_corners t u s l ≡ k =
-          same_Some _ k (sym (ap (λ b. cond b None (Some (merged_corners t u s l))) differ)
-          ∙ is) in
-          (refl, sym same, subst AreDistinct same (test-distinct (merged_corners t u s l) differ))
-    ]
+    grind (arith, common_steps, AreDistinct, none-some, same_Some, test-distinct)
 
 -- What a face holds after a collapse.
 pub collapsed-face : (s : Surface) (t u : ℕ) (place : Place) (f : ℕ)
@@ -98,18 +80,7 @@ module _ (s : Surface) (t u : ℕ) (place : Place) where
 
   corner-merged : (k : Corners) (i : ℕ) → corner_in (merged_corners t u (next_vertex s) k) i
       ≡ merge t u (next_vertex s) (corner_in k i)
-  corner-merged k i =
-      elim (cases_Bool (eqb i 0)) [
-        | inl a ↦ cond-true _ _ _ a ∙ ap (merge t u (next_vertex s)) (sym (cond-true _ _ _ a))
-        | inr a ↦
-            cond-false _ _ _ a ∙
-            elim (cases_Bool (eqb i 1)) [
-              | inl b ↦ cond-true _ _ _ b ∙ ap (merge t u (next_vertex s)) (sym (cond-true _ _ _ b))
-              | inr b ↦ cond-false _ _ _ b
-                  ∙ ap (merge t u (next_vertex s)) (sym (cond-false _ _ _ b))
-            ] ∙
-            ap (merge t u (next_vertex s)) (sym (cond-false _ _ _ a))
-      ]
+  corner-merged k i = grind (arith, common_steps, cond-false, cond-true)
 
   as_merged : Alike (merged (net_of_surface s) t u (next_vertex s)) (net_by (length s.faces) now)
   as_merged = pointwise-alike (merged (net_of_surface s) t u (next_vertex s))

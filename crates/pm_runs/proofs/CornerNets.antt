@@ -1,8 +1,8 @@
 -- Nets that are told by the corners of each face: which sides stand, and when two of them have the
 -- same faces.
 use Rattle.std.proofs.Common.{◌≡◌, ◌≢◌, ℕ, ◌*◌, ◌%◌, ◌<◌, ◌⊎◌, inl, inr, refl, sym, ap, ◌∙◌, subst}
+use Rattle.std.proofs.lemmas.Grind.{common_steps}
 use Rattle.std.proofs.Common.{arith}
-use Rattle.std.proofs.lemmas.Bool.{cases_eq}
 use Rattle.pm_base.specs.declared.mesh.Corners.{Corners}
 use Rattle.pm_base.specs.Sides.{Net, face_of, next, prev, to, third, corner_in, Stands}
 use Rattle.pm_base.proofs.Sides.{next_cases, face_of-next}
@@ -32,37 +32,26 @@ module _ (n : ℕ) (corners : ℕ → Corners) where
       corners f in AreTurned (net_by n corners) e k.a k.b k.c
       ⊎ (AreTurned (net_by n corners) e k.b k.c k.a ⊎ AreTurned (net_by n corners) e k.c k.a k.b)
   side_cases e f at =
-      let a = next_cases e in
-      let b = next_cases (next e) in
-      elim (cases_eq (e % 3) 0) [
-        | inl is ↦ inl (record {
-          from_is = from-corner e f 0 at is;
-          to_is = from-corner (next e) f 1 (omega arith) (omega arith);
-          third_is = from-corner (prev e) f 2 (omega arith) (omega arith);
-        })
-        | inr n0 ↦ inr (elim (cases_eq (e % 3) 1) [
-          | inl is ↦ inl (record {
-            from_is = from-corner e f 1 at is;
-            to_is = from-corner (next e) f 2 (omega arith) (omega arith);
-            third_is = from-corner (prev e) f 0 (omega arith) (omega arith);
-          })
-          | inr n1 ↦ inr (record {
-            from_is = from-corner e f 2 at (omega arith);
-            to_is = from-corner (next e) f 0 (omega arith) (omega arith);
-            third_is = from-corner (prev e) f 1 (omega arith) (omega arith);
-          })
-        ])
-      ]
+      grind (
+        arith,
+        common_steps,
+        from-corner e f 0 at,
+        from-corner (next e) f 1,
+        from-corner (prev e) f 2,
+        from-corner e f 1 at,
+        from-corner (next e) f 2,
+        from-corner (prev e) f 0,
+        from-corner e f 2 at,
+        from-corner (next e) f 0,
+        from-corner (prev e) f 1,
+        next_cases e,
+        next_cases (next e),
+      )
 
   -- A side stands where its face's corners are three vertices.
   stands_by : (e a b c : ℕ) → e < 3 * n → AreTurned (net_by n corners) e a b c → a ≢ b → b ≢ c
       → c ≢ a → Stands (net_by n corners) e
-  stands_by e a b c l t ab bc ca = record {
-    is_side = l;
-    first = λ is. ab (sym t.from_is ∙ is ∙ t.to_is);
-    second = λ is. bc (sym t.to_is ∙ is ∙ t.third_is);
-    last = λ is. ca (sym t.third_is ∙ is ∙ t.from_is);
-  }
+  stands_by e a b c l t ab bc ca = grind (arith, common_steps)
 
   pub distinct_stands : (e : ℕ) → e < 3 * n → AreDistinct (corners (face_of e))
       → Stands (net_by n corners) e
@@ -108,25 +97,19 @@ from_same n o k l e f at is =
 pub same_face : (n o : ℕ) (k l : ℕ → Corners) (e : ℕ) → l (face_of e) ≡ k (face_of e) →
     ((net_by o l).from e ≡ (net_by n k).from e) × (to (net_by o l) e ≡ to (net_by n k) e)
     × (third (net_by o l) e ≡ third (net_by n k) e)
-same_face n o k l e is = (
-  from_same n o k l e (face_of e) refl is,
-  from_same n o k l (next e) (face_of e) (face_of-next e) is,
-  from_same n o k l (prev e) (face_of e) (face_of-next (next e) ∙ face_of-next e) is,
-)
+same_face n o k l e is = grind (arith, common_steps, face_of-next, from_same)
 
 half_alike : (n o : ℕ) (k l : ℕ → Corners) → o ≡ n → ((f : ℕ) → AreDistinct (k f) → l f ≡ k f)
     → (p e : ℕ) → Stands (net_by n k) e → (net_by n k).from e ≡ p →
     Stands (net_by o l) e × ((net_by o l).from e ≡ p) × (to (net_by o l) e ≡ to (net_by n k) e)
     × (third (net_by o l) e ≡ third (net_by n k) e)
 half_alike n o k l count each p e st is =
-    let d = stands_distinct n k e st in
-    let same = each (face_of e) d in
-    let s = same_face n o k l e same in
-    let side : e < 3 * n = st.is_side in (
-      distinct_stands o l e (omega arith) (subst AreDistinct (sym same) d),
-      s.0 ∙ is,
-      s.1,
-      s.2,
+    grind (
+      arith,
+      common_steps,
+      distinct_stands o l e,
+      same_face n o k l e,
+      stands_distinct n k e st,
     )
 
 -- Two nets with the same corners wherever one of them has three different ones.
@@ -142,21 +125,7 @@ corners-alike n o k l count forth back p = record {
 pointwise_half : (m n : Net) → n.faces ≡ m.faces → ((e : ℕ) → n.from e ≡ m.from e) → (p e : ℕ)
     → Stands m e → m.from e ≡ p → Stands n e × (n.from e ≡ p) × (to n e ≡ to m e)
     × (third n e ≡ third m e)
-pointwise_half m n count each p e st is =
-    let side : e < 3 * m.faces = st.is_side in (
-      record {
-        is_side = omega arith;
-        first = λ z. st.first (sym (each e) ∙ z ∙ each (next e));
-        second = λ z. st.second (sym (each (next e)) ∙ z ∙ each (prev e));
-        last = λ z. st.last (sym (each (prev e)) ∙ z ∙ each e);
-      },
-      each e ∙ is,
-      each (next e),
-      each (prev e),
-    )
+pointwise_half m n count each p e st is = grind (arith, common_steps)
 
 pub pointwise-alike : (m n : Net) → n.faces ≡ m.faces → ((e : ℕ) → n.from e ≡ m.from e) → Alike m n
-pointwise-alike m n count each p = record {
-  forth = λ e st is. pointwise_half m n count each p e st is;
-  back = λ e st is. pointwise_half n m (sym count) (λ g. sym (each g)) p e st is;
-}
+pointwise-alike m n count each p = grind (arith, common_steps, pointwise_half)

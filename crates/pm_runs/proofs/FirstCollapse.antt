@@ -1,5 +1,6 @@
 -- The first collapse of the octahedron, by computing.
-use Rattle.std.proofs.Common.{refl}
+use Rattle.std.proofs.Common.{arith}
+use Rattle.std.proofs.lemmas.Grind.{common_steps}
 use Rattle.pm_base.specs.Sides.{next, stands, twin_of}
 use Rattle.pm_runs.specs.Surfaces.{merge}
 use Rattle.pm_runs.specs.Steps.{side_from_to}
@@ -8,12 +9,4 @@ use Rattle.pm_runs.specs.Octahedron.{octahedron, IsFirstCollapse}
 
 pub first_collapse : IsFirstCollapse
 unfolding octahedron next stands twin_of merge side_from_to planes_at
-first_collapse = record {
-  place = refl;
-  cost = refl;
-  entry = refl;
-  faces = refl;
-  next = refl;
-  first_gone = refl;
-  second_gone = refl;
-}
+first_collapse = grind (arith, common_steps)

@@ -1,5 +1,6 @@
 -- The side from one vertex to another, found by search.
-use Rattle.std.proofs.Common.{◌≡◌, ℕ, eqb, ◌&&◌, Some, None, inl, inr, sym, ap, ◌∙◌}
+use Rattle.std.proofs.Common.{◌≡◌, ℕ, eqb, ◌&&◌, Some, None, inl, inr, sym, ap, ◌∙◌, arith}
+use Rattle.std.proofs.lemmas.Grind.{common_steps}
 use Rattle.std.proofs.lemmas.Bool.{eqb-true, eq-eqb, and_parts, and_from}
 use Rattle.std.proofs.lemmas.Option.{none-some}
 use Rattle.pm_base.specs.Sides.{Net, side_count, to, stands, NoSideTwice}
@@ -11,16 +12,7 @@ use Rattle.pm_runs.specs.Steps.{runs_from_to, side_from_to}
 module _ (m : Net) (p q : ℕ) where
   pub found-runs : (e : ℕ) → side_from_to m p q ≡ Some e → Runs m e p q
   unfolding side_from_to
-  found-runs e is =
-      let f = find_below-some (runs_from_to m p q) (side_count m) e is in
-      let a = and_parts (stands m e) (eqb (m.from e) p && eqb (to m e) q) f.0 in
-      let b = and_parts (eqb (m.from e) p) (eqb (to m e) q) a.1 in
-      record {
-        stands = stands-true m e a.0;
-        begins = eqb-true (m.from e) p b.0;
-        ends =
-            eqb-true (to m e) q b.1;
-      }
+  found-runs e is = grind (arith, common_steps, and_parts, eqb-true, find_below-some, stands-true)
 
   pub runs-has : (e : ℕ) → Runs m e p q → (k : ℕ) × (side_from_to m p q ≡ Some k)
   unfolding side_from_to

@@ -1,12 +1,10 @@
 -- The place and the key of a pair depend on its two ends alone, and a collapse elsewhere leaves
 -- them.
-use Rattle.std.proofs.Common.{◌≡◌, ℕ, List, [], ◌∷◌, ◌++◌, sym, ap, ◌∙◌, subst}
-use Rattle.pm_base.specs.Place.{Place}
+use Rattle.std.proofs.Common.{◌≡◌, ℕ, List, [], ◌∷◌, ◌++◌, sym, ap, ◌∙◌, subst, arith}
+use Rattle.std.proofs.lemmas.Grind.{common_steps}
 use Rattle.pm_base.specs.declared.log.Collapse.{Collapse}
 use Rattle.pm_base.specs.Meshes.{Mesh}
-use Rattle.pm_quadric.specs.Planes.{Plane, squares_of}
-use Rattle.pm_quadric.specs.Candidates.{least_place}
-use Rattle.pm_queue.specs.declared.key.Key.{Key}
+use Rattle.pm_quadric.specs.Planes.{Plane}
 use Rattle.pm_runs.specs.Surfaces.{Surface, place_at, net_of_surface, IsSurface, collapsed}
 use Rattle.pm_runs.specs.Pairs.{IsLegalPair}
 use Rattle.pm_runs.specs.Planes.{best_place_of, key_of, planes_after}
@@ -26,19 +24,10 @@ module _ (f g : ℕ → List Plane) (s r : Surface) (a b : ℕ) (planes_a : g a 
         ap (λ (x : List Plane). x ++ g b) planes_a ∙ ap (λ (y : List Plane). f a ++ y) planes_b
 
     pub best_place-same : best_place_of g r a b ≡ best_place_of f s a b
-    best_place-same =
-        ap (λ (ps : List Plane). least_place (squares_of ps) (place_at r a) (place_at r b))
-        planes_same ∙
-        ap (λ (p : Place). least_place (squares_of (f a ++ f b)) p (place_at r b)) at_a ∙
-        ap (λ (p : Place). least_place (squares_of (f a ++ f b)) (place_at s a) p) at_b
+    best_place-same = grind (arith, common_steps, planes_same)
 
     pub key-same : key_of g r a b ≡ key_of f s a b
-    key-same = let place =
-        best_place-same in let h : squares_of (g a ++ g b) (best_place_of g r a b)
-        ≡ squares_of (f a ++ f b) (best_place_of f s a b) =
-        ap (λ (ps : List Plane). squares_of ps (best_place_of g r a b)) planes_same
-        ∙ ap (squares_of (f a ++ f b)) place in
-        ap (λ n. (let k : Key = record { cost = n; a = a; b = b } in k)) h
+    key-same = grind (arith, common_steps, best_place-same, planes_same)
 
 module _ (m : Mesh) (log : List Collapse) (c : Collapse) (step : IsStep (surface_after m log) c)
   where

@@ -1,12 +1,12 @@
 -- The run to a number of faces has one log, is a run, and can be built entry by entry.
 use Rattle.std.proofs.Common.{◌≡◌, ℕ, List, [], ◌∷◌, ◌++◌, inl, inr, refl, sym, ap, ◌∙◌, subst}
+use Rattle.std.proofs.lemmas.Grind.{common_steps}
 use Rattle.std.proofs.Common.{arith}
 use Rattle.std.proofs.lemmas.Bool.{both_ways}
 use Rattle.std.proofs.lemmas.List.{append_assoc, append-nil}
 use Rattle.pm_base.specs.declared.log.Collapse.{Collapse}
 use Rattle.pm_base.specs.Meshes.{Mesh}
 use Rattle.pm_queue.proofs.KeyOrder.{before_asym}
-use Rattle.pm_runs.specs.Pairs.{IsLegalPair}
 use Rattle.pm_runs.specs.Steps.{entry_of}
 use Rattle.pm_runs.specs.Runs.{surface_after, IsStep, AreSteps, IsRun, place_of_pair, key_of_pair}
 use Rattle.pm_runs.specs.Runs.{IsLeastPair, IsStepTo, IsEnd, AreStepsTo, IsRunTo, IsBegun}
@@ -63,15 +63,7 @@ module _ (m : Mesh) where
 
   step-to : (target : ℕ) (past : List Collapse) (c : Collapse) → IsStepTo m target past c
       → IsStep (surface_after m past) c
-  step-to target past c step =
-      let place : c.place ≡ place_of_pair m past c.t c.u =
-      ap (λ (d : Collapse). d.place) step.entry in
-      record {
-        ordered = step.least.candidate.ordered;
-        legal = subst (IsLegalPair (surface_after m past) c.t c.u) (sym place)
-            step.least.candidate.legal;
-        entry = step.entry ∙ ap (entry_of (surface_after m past) c.t c.u) (sym place);
-      }
+  step-to target past c step = grind (arith, common_steps)
 
   steps-to : (target : ℕ) (past cs : List Collapse) → AreStepsTo m target past cs
       → AreSteps (surface_after m past) cs

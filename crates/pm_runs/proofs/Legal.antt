@@ -1,6 +1,7 @@
 -- Legal pairs: in terms of the link condition on nets, in either order, and as a matter of the
 -- faces at the two ends.
-use Rattle.std.proofs.Common.{◌≡◌, ℕ, inl, inr, sym, ap, ◌∙◌}
+use Rattle.std.proofs.Common.{◌≡◌, ℕ, inl, inr, sym, ap, ◌∙◌, arith}
+use Rattle.std.proofs.lemmas.Grind.{common_steps}
 use Rattle.pm_base.specs.Place.{Place}
 use Rattle.pm_base.specs.Sides.{Net, face_of, next, prev, third, Stands, NoSideTwice, IsBorder}
 use Rattle.pm_base.proofs.Sides.{stands_next}
@@ -57,12 +58,7 @@ legal-turned s a b place ok =
 -- Where no directed side stands twice, the parts that speak of borders say the same in terms of
 -- sides without a twin.
 pub no_two_ways : (m : Net) (e g a b : ℕ) → Runs m e a b → Runs m g b a → face_of e ≡ face_of g → ⊥
-no_two_ways m e g a b r w same =
-    other_face m e g r.stands (record {
-      stands = w.stands;
-      begins = w.begins ∙ sym r.ends;
-      ends = w.ends ∙ sym r.begins;
-    }) (sym same)
+no_two_ways m e g a b r w same = grind (arith, common_steps, other_face)
 
 one_way : (m : Net) → NoSideTwice m → (e g a b : ℕ) → Runs m e a b → Runs m g a b
     → face_of e ≡ face_of g

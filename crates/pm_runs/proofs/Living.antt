@@ -1,8 +1,9 @@
 -- Which vertices are live after a run, and what they keep.
 use Rattle.std.proofs.Common.{◌≡◌, ◌≢◌, ℕ, zero, suc, ◌+◌, ◌<◌, ◌≤◌, true, false, Some, None, List}
+use Rattle.std.proofs.lemmas.Grind.{common_steps}
 use Rattle.std.proofs.Common.{[], ◌∷◌, length, ◌⊎◌, inl, inr, refl, sym, ap, ◌∙◌, arith}
 use Rattle.std.specs.Prelude.{is_some, slice_set}
-use Rattle.std.proofs.lemmas.Bool.{cases_eq, both_ways, cond-false, ne_eqb}
+use Rattle.std.proofs.lemmas.Bool.{cond-false, ne_eqb}
 use Rattle.std.proofs.lemmas.List.{get_or-set_other}
 use Rattle.pm_base.specs.Place.{Place}
 use Rattle.pm_base.specs.declared.log.Collapse.{Collapse}
@@ -75,35 +76,20 @@ module _ (s : Surface) (sound : IsSurface s) (c : Collapse) (step : IsStep s c) 
   pub came : (cs : List Collapse) (v : ℕ) → WasOrCame after cs v → (v ≢ c.t) × (v ≢ c.u)
       × WasOrCame s (c ∷ cs) v
   came cs v way =
-      let n = next-after s c.t c.u c.place in
-      let a = low_first in
-      let b = low_second in
-      elim way [
-        | inl live ↦
-            let n_t : v ≢ c.t = λ is. both_ways _ (ap (is_live after) is ∙ first_dead) live in
-            let n_u : v ≢ c.u = λ is. both_ways _ (ap (is_live after) is ∙ second_dead) live in
-            elim (cases_eq v (next_vertex s)) [
-              | inl is ↦ (n_t, n_u, inr (omega arith, omega arith))
-              | inr n_s ↦ (n_t, n_u, inl (sym (old_live s c.t c.u c.place v n_s n_t n_u) ∙ live))
-            ]
-        | inr (low, high) ↦ (
-          (λ is. absurd (omega arith)),
-          (λ is. absurd (omega arith)),
-          inr (omega arith, omega arith),
-        )
-      ]
+      grind (
+        arith,
+        common_steps,
+        first_dead,
+        low_first,
+        low_second,
+        second_dead,
+        next-after s c.t c.u c.place,
+        old_live s c.t c.u c.place v,
+      )
 
   pub comes : (cs : List Collapse) (v : ℕ) → v ≢ c.t → v ≢ c.u → WasOrCame s (c ∷ cs) v
       → WasOrCame after cs v
-  comes cs v n_t n_u way =
-      let n = next-after s c.t c.u c.place in
-      elim (cases_eq v (next_vertex s)) [
-        | inl is ↦ inl (ap (is_live after) is ∙ new_live s c.t c.u c.place)
-        | inr n_s ↦ elim way [
-          | inl live ↦ inl (old_live s c.t c.u c.place v n_s n_t n_u ∙ live)
-          | inr (low, high) ↦ inr (omega arith, omega arith)
-        ]
-      ]
+  comes cs v n_t n_u way = grind (arith, common_steps, new_live, next-after, old_live)
 
 pub live-from : (s : Surface) → IsSurface s → (cs : List Collapse) → AreSteps s cs → (v : ℕ)
     → is_live (surface_from s cs) v ≡ true → WasOrCame s cs v × IsSpared v cs
@@ -138,12 +124,7 @@ planes-stay planes s (c ∷ cs) steps v l =
 pub live_fewer : (s : Surface) (a b : ℕ) (place : Place) → is_live s a ≡ true → is_live s b ≡ true
     → a ≢ b → suc (live_count_of (collapsed s a b place)) ≡ live_count_of s
 live_fewer s a b place la lb n =
-    let one = present-set s.places a la in
-    let two = present-set (slice_set s.places a None) b
-    (ap is_some (get_or-set_other s.places a b None None (λ is. n (sym is))) ∙ lb) in
-    let more = present-append (slice_set (slice_set s.places a None) b None) (Some place ∷ []) in
-    let last = present-some place [] in
-    omega arith
+    grind (arith, common_steps, get_or-set_other, present-append, present-set, present-some)
 
 pub first_live_count : (m : Mesh) → live_count_of (surface_of m) ≡ length m.points
 first_live_count m = all_present m.points

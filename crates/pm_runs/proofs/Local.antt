@@ -1,6 +1,7 @@
 -- Legality of a pair is a matter of what the faces at its two ends look like, and a collapse
 -- changes only what is near.
-use Rattle.std.proofs.Common.{◌≡◌, ℕ, inl, inr, sym, ap, ◌∙◌, subst}
+use Rattle.std.proofs.Common.{◌≡◌, ℕ, sym, ap, ◌∙◌, arith}
+use Rattle.std.proofs.lemmas.Grind.{common_steps}
 use Rattle.std.specs.Prelude.{pos, ◌≤ℤ◌}
 use Rattle.pm_base.specs.Place.{Place}
 use Rattle.pm_base.specs.Geometry.{cross_of, dot_of}
@@ -17,12 +18,7 @@ use Rattle.pm_runs.proofs.Legal.{legal-linkable, linkable-legal}
 use Rattle.pm_runs.proofs.Live.{surface-fresh, old_at}
 
 pub agrees-trans : (m n o : Net) (p : ℕ) → AgreesAt m n p → AgreesAt n o p → AgreesAt m o p
-agrees-trans m n o p a b = record {
-  forth = λ e st is. let f = a.forth e st is in let g =
-      b.forth e f.0 f.1 in (g.0, g.1, g.2 ∙ f.2, g.3 ∙ f.3);
-  back = λ e st is. let g = b.back e st is in let f =
-      a.back e g.0 g.1 in (f.0, f.1, f.2 ∙ g.2, f.3 ∙ g.3);
-}
+agrees-trans m n o p a b = grind (arith, common_steps)
 
 pub looks-sym : (s r : Surface) (p : ℕ) → LooksSameAt s r p → LooksSameAt r s p
 looks-sym s r p a = record {
@@ -39,21 +35,13 @@ looks-sym s r p a = record {
 same_upright : (place x y z x' y' z' : Place) → x' ≡ x → y' ≡ y → z' ≡ z
     → pos 0 ≤ℤ dot_of (cross_of place y z) (cross_of x y z)
     → pos 0 ≤ℤ dot_of (cross_of place y' z') (cross_of x' y' z')
-same_upright place x y z x' y' z' i j k h =
-    subst (λ q. pos 0 ≤ℤ dot_of (cross_of place y' z') (cross_of q y' z')) (sym i)
-    (subst (λ q. pos 0 ≤ℤ dot_of (cross_of place q z') (cross_of x q z')) (sym j)
-    (subst (λ q. pos 0 ≤ℤ dot_of (cross_of place y q) (cross_of x y q)) (sym k) h))
+same_upright place x y z x' y' z' i j k h = grind (arith, common_steps)
 
 module _ (s r : Surface) (a b : ℕ) (at_a : LooksSameAt s r a) (at_b : LooksSameAt s r b) where
   upright-same : (place : Place) → StayUpright s a b place → StayUpright r a b place
   upright-same place ok =
       λ e p q pair st is x y.
-      let here : LooksSameAt s r p =
-      elim pair [
-        | inl k ↦ subst (LooksSameAt s r) (sym k.0) at_a
-        | inr k ↦
-            subst (LooksSameAt s r) (sym k.0) at_b
-      ] in
+      let here : LooksSameAt s r p = grind (arith, common_steps) in
       let f = here.faces.back e st is in
       let w = here.places e f.0 f.1 in
       same_upright place (place_at s p) (place_at s (to (net_of_surface s) e))

@@ -1,7 +1,7 @@
 -- The pairs at a vertex before and after a merge.
-use Rattle.std.proofs.Common.{◌≡◌, ◌≢◌, ℕ, ◌⊎◌, inl, inr, refl, sym, ap, ◌∙◌, subst}
-use Rattle.std.proofs.lemmas.Bool.{cases_eq}
-use Rattle.pm_base.specs.Sides.{Net, to, third, Stands}
+use Rattle.std.proofs.Common.{◌≡◌, ◌≢◌, ℕ, ◌⊎◌, inl, inr, refl, sym, ap, ◌∙◌, subst, arith}
+use Rattle.std.proofs.lemmas.Grind.{common_steps}
+use Rattle.pm_base.specs.Sides.{Net, Stands}
 use Rattle.pm_base.specs.Fans.{IsPairAt}
 use Rattle.pm_base.proofs.Sides.{turn, back, corner-first, first-second, second-corner}
 use Rattle.pm_runs.specs.Surfaces.{merge}
@@ -32,33 +32,14 @@ module _ (m : Net) (t u s : ℕ) (fresh : IsFresh m s) where
     other : x ≢ t → x ≢ u → new x ≡ x → Kind x
 
   pub kind_of : (x : ℕ) → Kind x
-  kind_of x =
-      elim (cases_eq x t) [
-        | inl a ↦ is_t a (new-t x a)
-        | inr a ↦ elim (cases_eq x u) [
-          | inl b ↦ is_u b (new-u x b)
-          | inr b ↦
-              other a b (new-other x a b)
-        ]
-      ]
+  kind_of x = grind (arith, common_steps, new-other, new-t, new-u)
 
   pub not_s : {v x y : ℕ} → IsPairAt m v x y → v ≢ s
   not_s f is = fresh f.side f.stands (f.at ∙ is)
 
   pub image : {v x y : ℕ} → IsPairAt m v x y → new v ≢ new x → new x ≢ new y → new y ≢ new v
       → IsPairAt after (new v) (new x) (new y)
-  image f a b c = record {
-    side = f.side;
-    stands = record {
-      is_side = f.stands.is_side;
-      first = λ is. a (sym (ap new f.at) ∙ is ∙ ap new f.one);
-      second = λ is. b (sym (ap new f.one) ∙ is ∙ ap new f.two);
-      last = λ is. c (sym (ap new f.two) ∙ is ∙ ap new f.at);
-    };
-    at = ap new f.at;
-    one = ap new f.one;
-    two = ap new f.two;
-  }
+  image f a b c = grind (arith, common_steps)
 
   was_there : (e : ℕ) → Stands after e → Stands m e
   was_there e h = stood m t u s fresh e h
@@ -73,29 +54,10 @@ module _ (m : Net) (t u s : ℕ) (fresh : IsFresh m s) where
     pub y-is : new y0 ≡ y
 
   pub origin : {v x y : ℕ} → IsPairAt after v x y → Origin v x y
-  origin f = record {
-    v0 = m.from f.side;
-    x0 = to m f.side;
-    y0 = third m f.side;
-    face = record {
-      side = f.side;
-      stands = was_there f.side f.stands;
-      at = refl;
-      one = refl;
-      two = refl;
-    };
-    v-is = f.at;
-    x-is = f.one;
-    y-is = f.two;
-  }
+  origin f = grind (arith, common_steps, was_there)
 
   pub unmoved : (x0 x : ℕ) → new x0 ≡ x → x ≢ s → (x0 ≡ x) × (x ≢ t) × (x ≢ u)
-  unmoved x0 x is ne =
-      elim (kind_of x0) [
-        | is_t a b ↦ absurd (ne (sym is ∙ b))
-        | is_u a b ↦ absurd (ne (sym is ∙ b))
-        | other a b c ↦ (let e : x0 ≡ x = sym c ∙ is in (e, (λ k. a (e ∙ k)), (λ k. b (e ∙ k))))
-      ]
+  unmoved x0 x is ne = grind (arith, common_steps, kind_of)
 
   -- The pairs at s are those at t and at u that name neither end
   pub at_s : (x y : ℕ) → IsPairAt after s x y → (IsPairAt m t x y ⊎ IsPairAt m u x y) × (x ≢ t)
@@ -146,24 +108,4 @@ module _ (m : Net) (t u s : ℕ) (fresh : IsFresh m s) where
   -- vertices of the mesh that take one number
   pub same_new : (x y : ℕ) → x ≢ s → y ≢ s → new x ≡ new y
       → (x ≡ y) ⊎ ((new x ≡ s) × (((x ≡ t) × (y ≡ u)) ⊎ ((x ≡ u) × (y ≡ t))))
-  same_new x y xs ys is =
-      elim (kind_of x) [
-        | is_t a b ↦
-            elim (kind_of y) [
-              | is_t c d ↦ inl (a ∙ sym c)
-              | is_u c d ↦ inr (b, inl (a, c))
-              | other c d e ↦ absurd (ys (sym e ∙ sym is ∙ b))
-            ]
-        | is_u a b ↦
-            elim (kind_of y) [
-              | is_t c d ↦ inr (b, inr (a, c))
-              | is_u c d ↦ inl (a ∙ sym c)
-              | other c d e ↦ absurd (ys (sym e ∙ sym is ∙ b))
-            ]
-        | other a b c ↦
-            elim (kind_of y) [
-              | is_t d e ↦ absurd (xs (sym c ∙ is ∙ e))
-              | is_u d e ↦ absurd (xs (sym c ∙ is ∙ e))
-              | other d e g ↦ inl (sym c ∙ is ∙ g)
-            ]
-      ]
+  same_new x y xs ys is = grind (arith, common_steps, kind_of)

@@ -1,5 +1,6 @@
 -- The merge of a pair that meets the link condition keeps the chain of faces at each vertex.
-use Rattle.std.proofs.Common.{◌≡◌, ◌≢◌, ℕ, ◌⊎◌, inl, inr, refl, sym, ◌∙◌, subst}
+use Rattle.std.proofs.Common.{◌≡◌, ◌≢◌, ℕ, ◌⊎◌, inl, inr, refl, sym, ◌∙◌, subst, arith}
+use Rattle.std.proofs.lemmas.Grind.{common_steps}
 use Rattle.std.proofs.lemmas.Bool.{cases_eq}
 use Rattle.pm_base.specs.Sides.{Net, side_count, to, third, NoSideTwice, IsBorderSide, IsBorder}
 use Rattle.pm_base.specs.Sides.{twin_of}
@@ -55,15 +56,7 @@ border? m v =
     elim (search_below (λ e. IsBorderSide m e × ((m.from e ≡ v) ⊎ (to m e ≡ v))) (λ e.
     elim (border_side? m e) [
       | inr never ↦ inr (λ h. never h.0)
-      | inl b ↦
-          elim (cases_eq (m.from e) v) [
-            | inl is ↦ inl (b, inl is)
-            | inr n ↦ elim (cases_eq (to m e) v) [
-              | inl is ↦ inl (b, inr is)
-              | inr o ↦
-                  inr (λ h. elim h.1 [ inl z ↦ n z | inr z ↦ o z ])
-            ]
-          ]
+      | inl b ↦ grind (arith, common_steps)
     ]) (side_count m)) [
       | inl (e, l, h) ↦ inl (e, h.0, h.1)
       | inr none ↦ inr (λ h. none h.0 h.1.stands.is_side (h.1, h.2))

@@ -1,8 +1,9 @@
 -- The planes of all live vertices together are as many as at first: three a face at most.
 use Rattle.std.proofs.Common.{◌≡◌, ◌≢◌, ℕ, zero, suc, ◌+◌, ◌*◌, ◌≤◌, eqb, Bool, true, false, cond}
-use Rattle.std.proofs.Common.{◌||◌, List, [], ◌∷◌, length, inl, inr, refl, sym, ap, ◌∙◌, arith}
+use Rattle.std.proofs.lemmas.Grind.{common_steps}
+use Rattle.std.proofs.Common.{◌||◌, List, [], ◌∷◌, length, refl, ap, ◌∙◌, arith}
 use Rattle.std.specs.List.{filter}
-use Rattle.std.proofs.lemmas.Bool.{cases_Bool, cond-true, cond-false, eq-eqb, ne_eqb}
+use Rattle.std.proofs.lemmas.Bool.{cond-true, cond-false, eq-eqb, ne_eqb}
 use Rattle.std.proofs.lemmas.List.{length-map, length-append}
 use Rattle.pm_base.specs.declared.mesh.Corners.{Corners}
 use Rattle.pm_base.specs.declared.log.Collapse.{Collapse}
@@ -24,19 +25,7 @@ use Rattle.pm_runs.proofs.Totals.{sum_same, sum_add, sum_le, sum_two, two_within
 -- At first.
 length-filter : {X : Type 0} (test : X → Bool) (x : X) (xs : List X)
     → length (filter test (x ∷ xs)) ≡ one_if (test x) + length (filter test xs)
-length-filter test x xs =
-    elim (cases_Bool (test x)) [
-      | inl is ↦
-          let kept : length (filter test (x ∷ xs)) ≡ suc (length (filter test xs)) =
-          ap length (cond-true _ _ _ is) in
-          let one : one_if (test x) ≡ 1 = ap one_if is in
-          omega arith
-      | inr is ↦
-          let gone : length (filter test (x ∷ xs)) ≡ length (filter test xs) =
-          ap length (cond-false _ _ _ is) in
-          let none : one_if (test x) ≡ 0 = ap one_if is in
-          omega arith
-    ]
+length-filter test x xs = grind (arith, common_steps, cond-false, cond-true)
 
 or_le : (a b : Bool) → one_if (a || b) ≤ one_if a + one_if b
 or_le true b = omega arith
@@ -98,17 +87,11 @@ module _ (s : Surface) (sound : IsSurface s) (c : Collapse) (step : IsStep s c) 
   now = joined_planes planes c
 
   at_new : counted now (after_entry s c) (next_vertex s) ≡ length (planes c.t) + length (planes c.u)
-  at_new =
-      cond-true _ _ _ (new_live s c.t c.u c.place) ∙
-      ap length (cond-true _ _ _ (eq-eqb _ _ (sym (step-new s c step)))) ∙
-      length-append (planes c.t) (planes c.u)
+  at_new = grind (arith, common_steps, cond-true, eq-eqb, length-append, new_live, step-new)
 
   at_other : (v : ℕ) → v ≢ next_vertex s → v ≢ c.t → v ≢ c.u
       → counted now (after_entry s c) v ≡ counted planes s v
-  at_other v n_s n_t n_u =
-      ap (λ b. cond b (length (now v)) 0) (old_live s c.t c.u c.place v n_s n_t n_u) ∙
-      ap (λ (ps : List Plane). cond (is_live s v) (length ps) 0)
-      (cond-false _ _ _ (ne_eqb v c.s (λ is. n_s (is ∙ step-new s c step))))
+  at_other v n_s n_t n_u = grind (arith, common_steps, cond-false, ne_eqb, old_live, step-new)
 
   pub count-kept : plane_count_of (joined_planes planes c) (after_entry s c)
       ≡ plane_count_of planes s

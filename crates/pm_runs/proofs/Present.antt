@@ -1,10 +1,11 @@
 -- Counting what is present in a list of options, and lists that lose one entry or two.
 use Rattle.std.proofs.Common.{◌≡◌, ◌≢◌, ℕ, zero, suc, ◌+◌, true, false, cond, Option, Some, None}
+use Rattle.std.proofs.lemmas.Grind.{common_steps}
 use Rattle.std.proofs.Common.{List, [], ◌∷◌, ◌++◌, length, map, ◌⊎◌, inl, inr, refl, sym, ap, ◌∙◌}
-use Rattle.std.proofs.Common.{subst, arith}
+use Rattle.std.proofs.Common.{arith}
 use Rattle.std.specs.Prelude.{is_some, option_map, slice_index_or, slice_set}
 use Rattle.std.specs.List.{count_by}
-use Rattle.std.proofs.lemmas.Bool.{cases_eq, cases_lt, both_ways}
+use Rattle.std.proofs.lemmas.Bool.{cases_eq, both_ways}
 use Rattle.std.proofs.lemmas.List.{length-set, get_or-set_same, get_or-set_other}
 use Rattle.std.proofs.lemmas.Option.{none-some, same_Some}
 use Rattle.std.proofs.Math.ListN.{get_or-eq_default}
@@ -77,12 +78,7 @@ pub without_if-same : {X : Type 0} (o : Option ℕ) (xs : List (Option X)) (i : 
     → slice_index_or (without_if o xs) i None ≡ None
 without_if-same None xs i is = absurd (none-some i is)
 without_if-same (Some j) xs i is =
-    elim (cases_lt i (length xs)) [
-      | inl l ↦ subst (λ k. slice_index_or (slice_set xs k None) i None ≡ None)
-          (sym (same_Some j i is)) (get_or-set_same xs i None None l)
-      | inr past ↦ get_or-eq_default (slice_set xs j None) None (let n = length-set xs j None in
-          omega arith)
-    ]
+    grind (arith, common_steps, get_or-eq_default, get_or-set_same, length-set, same_Some)
 
 pub without_if-other : {X : Type 0} (o : Option ℕ) (xs : List (Option X)) (i : ℕ) → o ≢ Some i
     → slice_index_or (without_if o xs) i None ≡ slice_index_or xs i None

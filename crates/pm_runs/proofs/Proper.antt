@@ -1,10 +1,11 @@
 -- Neither a side nor a face comes twice: in an oriented manifold, and after each collapse of a
 -- legal pair.
-use Rattle.std.proofs.Common.{ℕ, refl, ap, ◌∙◌}
+use Rattle.std.proofs.Common.{ℕ, arith}
+use Rattle.std.proofs.lemmas.Grind.{common_steps}
 use Rattle.pm_base.specs.Place.{Place}
 use Rattle.pm_base.specs.Meshes.{Mesh}
-use Rattle.pm_base.specs.Sides.{Net, next, to, third, net_of}
-use Rattle.pm_base.specs.Fans.{IsPairAt, IsOrientedManifold}
+use Rattle.pm_base.specs.Sides.{Net, to, third, net_of}
+use Rattle.pm_base.specs.Fans.{IsOrientedManifold}
 use Rattle.pm_base.proofs.Sides.{stands_next, next-next-next}
 use Rattle.pm_base.proofs.FanLaws.{no_mirror}
 use Rattle.pm_runs.specs.Surfaces.{Surface, next_vertex, net_of_surface, surface_of, IsSurface}
@@ -19,27 +20,16 @@ use Rattle.pm_runs.proofs.Live.{surface-fresh}
 
 manifold_no_mirror : (m : Net) → IsOrientedManifold m → NoMirror m
 manifold_no_mirror m manifold e g st st' i j k =
-    let one : IsPairAt m (m.from e) (to m e) (third m e) = record {
-      side = e;
-      stands = st;
-      at = refl;
-      one = refl;
-      two = refl;
-    } in
-    let other : IsPairAt m (m.from e) (third m e) (to m e) = record {
-      side = next g;
-      stands = stands_next m g st';
-      at = j;
-      one = k;
-      two = ap m.from (next-next-next g) ∙ i;
-    } in
-    no_mirror m manifold (m.from e) (to m e) (third m e) one other
+    grind (
+      arith,
+      common_steps,
+      next-next-next g,
+      no_mirror m manifold (m.from e) (to m e) (third m e),
+      stands_next m g st',
+    )
 
 pub manifold-proper : (m : Net) → IsOrientedManifold m → IsProper m
-manifold-proper m manifold = record {
-  once = manifold.no_side_twice;
-  no_mirror = manifold_no_mirror m manifold;
-}
+manifold-proper m manifold = grind (arith, common_steps, manifold_no_mirror, no_mirror)
 
 pub input-proper : (m : Mesh) → IsOrientedManifold (net_of m.faces)
     → IsProper (net_of_surface (surface_of m))

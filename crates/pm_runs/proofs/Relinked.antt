@@ -1,10 +1,11 @@
 -- Which sides stand after the collapse of a pair that keeps apart, and which stand back to back.
-use Rattle.std.proofs.Common.{◌≡◌, ◌≢◌, ℕ, Some, inl, inr, refl, sym, ap, ◌∙◌, subst}
+use Rattle.std.proofs.Common.{◌≡◌, ◌≢◌, ℕ, Some, inl, inr, refl, sym, ap, ◌∙◌, subst, arith}
+use Rattle.std.proofs.lemmas.Grind.{common_steps}
 use Rattle.pm_base.specs.Place.{Place}
 use Rattle.pm_base.specs.Sides.{Net, face_of, next, prev, to, Stands, IsTwin, twin_of}
 use Rattle.pm_base.proofs.Sides.{stands_next, face_of-next, face_cases}
 use Rattle.pm_base.proofs.TwinLaws.{twin-is, twin_back}
-use Rattle.pm_runs.specs.Surfaces.{Surface, next_vertex, net_of_surface, IsSurface, merge}
+use Rattle.pm_runs.specs.Surfaces.{Surface, next_vertex, net_of_surface, IsSurface}
 use Rattle.pm_runs.specs.Surfaces.{collapsed}
 use Rattle.pm_runs.specs.Pairs.{Runs, Links, IsPair}
 use Rattle.pm_runs.specs.Merged.{IsProper, KeepsApart, merged, Past}
@@ -18,11 +19,7 @@ use Rattle.pm_runs.proofs.Live.{surface-fresh}
 use Rattle.pm_runs.proofs.Proper.{collapse-proper}
 
 pair-links : (m : Net) (a b e : ℕ) → Stands m e → IsPair a b (m.from e) (to m e) → Links m e a b
-pair-links m a b e st pair =
-    elim pair [
-      | inl k ↦ inl (record { stands = st; begins = k.0; ends = k.1 })
-      | inr k ↦ inr (record { stands = st; begins = k.0; ends = k.1 })
-    ]
+pair-links m a b e st pair = grind (arith, common_steps)
 
 pub link-pair : (m : Net) (a b x : ℕ) → Links m x a b → (p q : ℕ) × IsPair a b p q × Runs m x p q
 link-pair m a b x links =
@@ -30,19 +27,7 @@ link-pair m a b x links =
 
 -- A side across from one that links the two links them too.
 back_links : (m : Net) (a b x e : ℕ) → Links m x a b → Stands m e → IsTwin m e x → Links m e a b
-back_links m a b x e links st w =
-    elim links [
-      | inl r ↦ inr (record {
-        stands = st;
-        begins = sym w.ends ∙ r.ends;
-        ends = sym w.begins ∙ r.begins;
-      })
-      | inr r ↦ inl (record {
-        stands = st;
-        begins = sym w.ends ∙ r.ends;
-        ends = sym w.begins ∙ r.begins;
-      })
-    ]
+back_links m a b x e links st w = grind (arith, common_steps)
 
 module _ (s : Surface) (sound : IsSurface s) (a b : ℕ) (place : Place) where
   abbrev before : Net
@@ -61,14 +46,7 @@ module _ (s : Surface) (sound : IsSurface s) (a b : ℕ) (place : Place) where
   to_between e st = (back_side between after (collapse-alike s a b place) e st).0
 
   pub drop_stood : (e : ℕ) → Stands after e → Stands before e
-  drop_stood e st =
-      let w = to_between e st in
-      record {
-        is_side = w.is_side;
-        first = λ z. w.first (ap (merge a b (next_vertex s)) z);
-        second = λ z. w.second (ap (merge a b (next_vertex s)) z);
-        last = λ z. w.last (ap (merge a b (next_vertex s)) z);
-      }
+  drop_stood e st = grind (arith, common_steps, to_between e st)
 
   pub drop_stays : (e : ℕ) → Stands before e
       → ((x : ℕ) → Links before x a b → face_of x ≢ face_of e) → Stands after e

@@ -1,8 +1,8 @@
 -- The laws of runs, from the lemmas.
 use Rattle.pm_quadric.specs.Planes.{Plane}
-use Rattle.std.proofs.Common.{ℕ, ◌+◌, ◌<◌, Some, List, length, inl, inr, ap, ◌∙◌, arith}
+use Rattle.std.proofs.lemmas.Grind.{common_steps}
+use Rattle.std.proofs.Common.{ℕ, ◌+◌, ◌<◌, Some, List, length, ap, ◌∙◌, arith}
 use Rattle.std.proofs.lemmas.List.{length-map}
-use Rattle.std.proofs.lemmas.Bool.{cases_lt}
 use Rattle.pm_base.specs.declared.log.Collapse.{Collapse}
 use Rattle.pm_base.specs.Meshes.{Mesh}
 use Rattle.pm_runs.specs.Surfaces.{surface_of}
@@ -39,22 +39,11 @@ runs_stay_proper m start log run = (run-sound m start log run, run-proper m star
 
 point_below : (m : Mesh) (log : List Collapse) (v : ℕ) → WasOrCame (surface_of m) log v
     → v < length m.points + length log
-point_below m log v way =
-    let n = length-map m.points Some in
-    elim way [
-      | inl live ↦ (let l = live_below (surface_of m) v live in omega arith)
-      | inr (low, high) ↦ omega arith
-    ]
+point_below m log v way = grind (arith, common_steps, length-map, live_below)
 
 was_or_came : (m : Mesh) (log : List Collapse) (v : ℕ) → v < length m.points + length log
     → WasOrCame (surface_of m) log v
-was_or_came m log v l =
-    let n = length-map m.points Some in
-    elim (cases_lt v (length m.points)) [
-      | inl low ↦ inl (point_live m.points v low)
-      | inr high ↦
-          inr (omega arith, omega arith)
-    ]
+was_or_came m log v l = grind (arith, common_steps, length-map, point_live)
 
 pub spared_vertices_are_live : SparedVerticesAreLive
 unfolding IsRun surface_after
@@ -89,14 +78,7 @@ planes_stay m log more run v l =
     (omega arith)
 
 pub planes_are_kept : PlanesAreKept
-planes_are_kept m start log run =
-    let same = run-count m start log run in
-    let first = first_count m in (
-      same,
-      omega arith,
-      (λ a b order la lb. pair_few (planes_after m log) (surface_after m log) a b la lb
-          (λ is. absurd (omega arith))),
-    )
+planes_are_kept m start log run = grind (arith, common_steps, first_count, pair_few, run-count)
 
 pub keys_are_kept : KeysAreKept
 keys_are_kept m log c step p q x y =

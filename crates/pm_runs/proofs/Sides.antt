@@ -1,5 +1,6 @@
 -- The three directed sides of a face, and what stands across a side.
-use Rattle.std.proofs.Common.{◌≡◌, ℕ, Option, Some, None, ap, ◌∙◌, subst}
+use Rattle.std.proofs.Common.{◌≡◌, ℕ, Option, Some, None, ap, subst, arith}
+use Rattle.std.proofs.lemmas.Grind.{common_steps}
 use Rattle.pm_base.specs.Sides.{Net, next, third, Stands, NoSideTwice, twin_of}
 use Rattle.pm_base.proofs.Sides.{next-next-next, stands_next}
 use Rattle.pm_base.proofs.TwinLaws.{twin-is, twin-one, twin-none, none-twin}
@@ -17,13 +18,7 @@ pub third_next : (m : Net) (e : ℕ) → third m (next e) ≡ m.from e
 third_next m e = ap m.from (next-next-next e)
 
 pub runs_last : (m : Net) (e p q w : ℕ) → Runs m e p q → third m e ≡ w → Runs m (next (next e)) w p
-runs_last m e p q w r is =
-    record {
-      stands = stands_next m (next e) (stands_next m e r.stands);
-      begins = is;
-      ends =
-          ap m.from (next-next-next e) ∙ r.begins;
-    }
+runs_last m e p q w r is = grind (arith, common_steps, next-next-next, stands_next)
 
 pub twin-across : (m : Net) (e : ℕ) (r : Option ℕ) → twin_of m e ≡ r → StandsAcross m e r
 twin-across m e None n = twin-none m e n

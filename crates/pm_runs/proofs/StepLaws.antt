@@ -1,5 +1,6 @@
 -- The laws of one collapse, from the lemmas.
 use Rattle.pm_runs.specs.Surfaces.{net_of_surface, collapsed}
+use Rattle.std.proofs.lemmas.Grind.{common_steps}
 use Rattle.pm_runs.specs.Laws.{MeshesAreSurfaces, CollapsesAreMerges, SidesAreFound}
 use Rattle.pm_runs.specs.Laws.{ThirdsAreCommon, PairsHaveNoOrder, LinkableIsLegal}
 use Rattle.pm_runs.specs.Laws.{StepsKeepSurfaces, StepsMoveNothingElse, LegalityIsLocal}
@@ -39,10 +40,8 @@ pub pairs_have_no_order : PairsHaveNoOrder
 pairs_have_no_order s a b place = (legal-turned s a b place, legal-turned s b a place)
 
 pub linkable_is_legal : LinkableIsLegal
-linkable_is_legal s once a b place = (
-  (λ ok. (legal-linkable s a b place ok, ok.upright)),
-  (λ ok. linkable-legal s once a b place ok.0 ok.1),
-)
+linkable_is_legal s once a b place =
+    grind (arith, common_steps, legal-linkable s a b place, linkable-legal s once a b place)
 
 pub steps_keep_surfaces : StepsKeepSurfaces
 steps_keep_surfaces s sound proper a b place ok =
@@ -55,14 +54,8 @@ steps_keep_surfaces s sound proper a b place ok =
     }
 
 pub steps_move_nothing_else : StepsMoveNothingElse
-steps_move_nothing_else s a b place = (
-  new_live s a b place,
-  new_at s a b place,
-  (λ v other. (
-    old_live s a b place v other.not_new other.not_first other.not_second,
-    old_at s a b place v other.not_new other.not_first other.not_second,
-  )),
-)
+steps_move_nothing_else s a b place =
+    grind (arith, common_steps, new_at, new_live, old_at, old_live)
 
 pub legality_is_local : LegalityIsLocal
 legality_is_local s r once once' p q x y at = (

@@ -1,5 +1,6 @@
 -- Sums over the numbers below a bound.
 use Rattle.std.proofs.Common.{◌≡◌, ◌≢◌, ℕ, zero, suc, ◌+◌, ◌<◌, ◌≤◌, eqb, cond, inl, inr, refl, sym}
+use Rattle.std.proofs.lemmas.Grind.{common_steps}
 use Rattle.std.proofs.Common.{ap, ◌∙◌, arith}
 use Rattle.std.proofs.lemmas.Bool.{cases_eq, cond-true, cond-false, eq-eqb, ne_eqb}
 use Rattle.pm_base.specs.Counts.{one_if}
@@ -23,18 +24,7 @@ sum_le f g (suc n) each = let a = each n (omega arith) in
 pub sum_one : (f g : ℕ → ℕ) (n t : ℕ) → t < n → g t ≡ 0 → ((i : ℕ) → i < n → i ≢ t → g i ≡ f i)
     → sum_below g n + f t ≡ sum_below f n
 sum_one f g zero t l none each = absurd (omega arith)
-sum_one f g (suc n) t l none each =
-    elim (cases_eq n t) [
-      | inl is ↦
-          let rest = sum_same f g n (λ i low. each i (omega arith) (λ z. absurd (omega arith))) in
-          let at_g : g n ≡ 0 = ap g is ∙ none in
-          let at_f : f n ≡ f t = ap f is in
-          omega arith
-      | inr ne ↦
-          let rest = sum_one f g n t (omega arith) none (λ i low. each i (omega arith)) in
-          let top = each n (omega arith) ne in
-          omega arith
-    ]
+sum_one f g (suc n) t l none each = grind (arith, common_steps, sum_same, sum_one f g n t)
 
 -- Two terms go.
 pub sum_two : (f g : ℕ → ℕ) (n t u : ℕ) → t < n → u < n → t ≢ u → g t ≡ 0 → g u ≡ 0
@@ -71,16 +61,13 @@ sum_nothing (suc n) = let rest = sum_nothing n in omega arith
 pub sum_met : (a n : ℕ) → sum_below (λ i. one_if (eqb a i)) n ≤ 1
 sum_met a zero = omega arith
 sum_met a (suc n) =
-    elim (cases_eq a n) [
-      | inl is ↦
-          let none : sum_below (λ i. one_if (eqb a i)) n ≡ sum_below (λ i. 0) n =
-          sum_same (λ i. 0) (λ i. one_if (eqb a i)) n
-          (λ i l. ap one_if (ne_eqb a i (λ z. absurd (omega arith)))) in
-          let zeros = sum_nothing n in
-          let top : one_if (eqb a n) ≡ 1 = ap one_if (eq-eqb a n is) in
-          omega arith
-      | inr ne ↦
-          let top : one_if (eqb a n) ≡ 0 = ap one_if (ne_eqb a n ne) in
-          let rest = sum_met a n in
-          omega arith
-    ]
+    grind (
+      arith,
+      common_steps,
+      sum_same,
+      eq-eqb a n,
+      ne_eqb a,
+      ne_eqb a n,
+      sum_nothing n,
+      sum_met a n,
+    )
