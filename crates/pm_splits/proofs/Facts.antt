@@ -1,6 +1,6 @@
 -- What the proofs of splits need of nets: twins as three facts, and what a vertex leads to.
-use Rattle.std.proofs.Common.{◌≡◌, ℕ, Option, Some, inl, inr, refl}
-use Rattle.std.proofs.lemmas.Bool.{cases_eq}
+use Rattle.std.proofs.Common.{◌≡◌, ℕ, Option, Some, inl, inr, refl, arith}
+use Rattle.std.proofs.lemmas.Grind.{common_steps}
 use Rattle.pm_base.specs.Sides.{Net, side_count, to, third, Stands, NoSideTwice, twin_of}
 use Rattle.pm_base.specs.Fans.{IsPairAt}
 use Rattle.pm_base.specs.Rounds.{NoMirrorAt}
@@ -35,15 +35,7 @@ leads? m v x =
     elim (search_below (λ e. Stands m e × (m.from e ≡ v) × (to m e ≡ x)) (λ e.
     elim (stands? m e) [
       | inr never ↦ inr (λ h. never h.0)
-      | inl t ↦
-          elim (cases_eq (m.from e) v) [
-            | inr never ↦ inr (λ h. never h.1)
-            | inl a ↦ elim (cases_eq (to m e) x) [
-              | inl b ↦ inl (t, a, b)
-              | inr never ↦
-                  inr (λ h. never h.2)
-            ]
-          ]
+      | inl t ↦ grind (arith, common_steps)
     ]) (side_count m)) [
       | inl (e, l, (t, a, b)) ↦
           inl (third m e, record { side = e; stands = t; at = a; one = b; two = refl })
@@ -51,12 +43,4 @@ leads? m v x =
     ]
 
 pub begins? : (m : Net) (v e : ℕ) → Decided (Stands m e × (m.from e ≡ v))
-begins? m v e =
-    elim (stands? m e) [
-      | inr never ↦ inr (λ h. never h.0)
-      | inl t ↦ elim (cases_eq (m.from e) v) [
-        | inl a ↦ inl (t, a)
-        | inr never ↦
-            inr (λ h. never h.1)
-      ]
-    ]
+begins? m v e = grind (arith, common_steps, stands? m e)

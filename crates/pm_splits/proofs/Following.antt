@@ -1,5 +1,6 @@
 -- How two sides that follow one another round a vertex before a split stand after it.
-use Rattle.std.proofs.Common.{◌≡◌, ◌≢◌, ℕ, Option, inl, inr, sym, ap, ◌∙◌, subst}
+use Rattle.std.proofs.Common.{◌≡◌, ◌≢◌, ℕ, Option, inl, inr, sym, ap, ◌∙◌, subst, arith}
+use Rattle.std.proofs.lemmas.Grind.{common_steps}
 use Rattle.pm_base.specs.Sides.{Net, next, prev, to, third, Stands, NoSideTwice}
 use Rattle.pm_base.specs.Fans.{IsPairAt}
 use Rattle.pm_base.proofs.Sides.{next-next-next, stands_next, pair_at}
@@ -62,12 +63,7 @@ module _ (n : Net) (t u s : ℕ) (beyond : ℕ → Option ℕ) (h : IsSplit n t 
   -- a face with two vertices of one new number, and another
   pub old_face : {a b c : ℕ} (f : IsPairAt n a b c) → name_before a ≢ name_before b
       → name_before b ≢ name_before c → name_before c ≢ name_before a → Stands net_before f.side
-  old_face f a b c = record {
-    is_side = f.stands.is_side;
-    first = λ i. a (sym (ap name_before f.at) ∙ i ∙ ap name_before f.one);
-    second = λ i. b (sym (ap name_before f.one) ∙ i ∙ ap name_before f.two);
-    last = λ i. c (sym (ap name_before f.two) ∙ i ∙ ap name_before f.at);
-  }
+  old_face f a b c = grind (arith, common_steps)
 
   -- which end takes the other place
   pub second_end : (p q z : ℕ) → AreEnds t u p q → AreEnds t u z p → z ≡ q

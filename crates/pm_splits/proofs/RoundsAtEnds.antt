@@ -1,5 +1,7 @@
 -- A split keeps the fan of each end.
 use Rattle.std.proofs.Common.{◌≡◌, ◌≢◌, ℕ, eqb, cond, Option, ◌⊎◌, inl, inr, refl, sym, ap, ◌∙◌}
+use Rattle.std.proofs.Common.{arith}
+use Rattle.std.proofs.lemmas.Grind.{common_steps}
 use Rattle.std.proofs.Common.{subst}
 use Rattle.std.proofs.lemmas.Bool.{cases_eq, cond-true, cond-false, eq-eqb, ne_eqb}
 use Rattle.pm_base.specs.Sides.{Net, side_count, next, prev, to, third, Stands, NoSideTwice}
@@ -42,19 +44,10 @@ module _ (n : Net) (t u s : ℕ) (beyond : ℕ → Option ℕ) (h : IsSplit n t 
     other_end-is = end_s q p (swap n t u s beyond h p q ends)
 
     ends_apart : p ≢ q
-    ends_apart is =
-        elim ends [
-          | inl (a, b) ↦ h.differ (sym a ∙ is ∙ b)
-          | inr (a, b) ↦
-              h.differ (sym b ∙ sym is ∙ a)
-        ]
+    ends_apart is = grind (arith, common_steps)
 
     pub not_end : (x : ℕ) → x ≢ p → x ≢ q → name_before x ≡ x
-    not_end x xp xq =
-        elim ends [
-          | inl (a, b) ↦ new-other n t u s h.fresh x (λ i. xp (i ∙ sym a)) (λ i. xq (i ∙ sym b))
-          | inr (a, b) ↦ new-other n t u s h.fresh x (λ i. xq (i ∙ sym b)) (λ i. xp (i ∙ sym a))
-        ]
+    not_end x xp xq = grind (arith, common_steps, new-other n t u s h.fresh x)
 
     end_at : (e : ℕ) → Stands n e → name_before (n.from e) ≡ s → (n.from e ≡ p) ⊎ (n.from e ≡ q)
     end_at e there is =
@@ -191,13 +184,8 @@ module _ (n : Net) (t u s : ℕ) (beyond : ℕ → Option ℕ) (h : IsSplit n t 
         first_is : (x b : ℕ) → Stands net_before b → name_before (n.from b) ≡ s → to n b ≡ x
             → name_before x ≡ x → IsFirst net_before s x → f0.side ≡ b
         first_is x b bt bs bx ex first =
-            let F : IsPairAt net_before s x (name_before (third n b)) = record {
-              side = b;
-              stands = bt;
-              at = bs;
-              one = ap name_before bx ∙ ex;
-              two = refl;
-            } in
+            let F : IsPairAt net_before s x (name_before (third n b)) =
+            grind (arith, common_steps) in
             let is = ends_first net_before once s (all x (name_before (third n b)) F) first in
             one_side net_before once f0
             (subst (λ i. IsPairAt net_before s i (name_before (third n b))) (sym is) F)

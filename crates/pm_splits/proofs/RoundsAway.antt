@@ -1,5 +1,6 @@
 -- A split keeps the fan of each vertex that is no end.
-use Rattle.std.proofs.Common.{◌≡◌, ◌≢◌, ℕ, Option, ◌⊎◌, inl, inr, refl, sym, ap, ◌∙◌, subst}
+use Rattle.std.proofs.Common.{◌≡◌, ◌≢◌, ℕ, Option, ◌⊎◌, inl, inr, refl, sym, ap, ◌∙◌, subst, arith}
+use Rattle.std.proofs.lemmas.Grind.{common_steps}
 use Rattle.std.proofs.lemmas.Bool.{cases_eq}
 use Rattle.pm_base.specs.Sides.{Net, side_count, next, prev, to, third, Stands, NoSideTwice}
 use Rattle.pm_base.specs.Fans.{IsPairAt}
@@ -35,11 +36,7 @@ module _ (n : Net) (t u s : ℕ) (beyond : ℕ → Option ℕ) (h : IsSplit n t 
     v-is = new-other n t u s h.fresh v vt vu
 
     apart_v : (x : ℕ) → v ≢ x → x ≢ s → name_before v ≢ name_before x
-    apart_v x ne xs is =
-        elim (same_new n t u s h.fresh v x vs xs is) [
-          | inl e ↦ ne e
-          | inr (k, ends) ↦ elim ends [ inl (a, b) ↦ vt a | inr (a, b) ↦ vu a ]
-        ]
+    apart_v x ne xs is = grind (arith, common_steps, same_new n t u s h.fresh v x vs xs is)
 
     old_away : {x y : ℕ} (f : IsPairAt n v x y) → name_before x ≢ name_before y
         → Stands net_before f.side
@@ -52,13 +49,7 @@ module _ (n : Net) (t u s : ℕ) (beyond : ℕ → Option ℕ) (h : IsSplit n t 
 
     before : {x y : ℕ} (f : IsPairAt n v x y) → Stands net_before f.side
         → IsPairAt net_before v (name_before x) (name_before y)
-    before f there = record {
-      side = f.side;
-      stands = there;
-      at = ap name_before f.at ∙ v-is;
-      one = ap name_before f.one;
-      two = ap name_before f.two;
-    }
+    before f there = grind (arith, common_steps, v-is)
 
     at_v : {x y : ℕ} (f : IsPairAt net_before v x y) → IsPairAt n v (to n f.side) (third n f.side)
     at_v f = record {

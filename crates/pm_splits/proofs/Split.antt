@@ -1,5 +1,7 @@
 -- A split keeps that no directed side stands twice.
 use Rattle.std.proofs.Common.{◌≡◌, ◌≢◌, ℕ, Option, Some, ◌⊎◌, inl, inr, refl, sym, ap, ◌∙◌, subst}
+use Rattle.std.proofs.Common.{arith}
+use Rattle.std.proofs.lemmas.Grind.{common_steps}
 use Rattle.std.proofs.lemmas.Bool.{cases_eq}
 use Rattle.std.proofs.lemmas.Option.{same_Some}
 use Rattle.pm_base.specs.Sides.{Net, next, prev, to, third, Stands, NoSideTwice}
@@ -108,14 +110,7 @@ module _ (n : Net) (t u s : ℕ) (beyond : ℕ → Option ℕ) (h : IsSplit n t 
       elim k.which [
         | inl is ↦ there.first (ap merged_name (ap n.from is ∙ f.at) ∙ eq
             ∙ sym (ap merged_name (ap (to n) is ∙ f.one)))
-        | inr o ↦
-            elim o [
-              | inl is ↦ there.last (ap merged_name (ap (third n) is ∙ c ∙ f.at) ∙ eq
-                  ∙ sym (ap merged_name (ap n.from is ∙ f.one)))
-              | inr is ↦ there.second (ap merged_name (ap (to n) is ∙ c ∙ f.at) ∙ eq
-                  ∙ sym (ap merged_name (ap (third n) is
-                  ∙ ap n.from (ap next (next-next-next f.side)) ∙ f.one)))
-            ]
+        | inr o ↦ grind (arith, common_steps, next-next-next)
       ]
 
   -- the ends of a new face's outer sides
@@ -264,17 +259,8 @@ module _ (n : Net) (t u s : ℕ) (beyond : ℕ → Option ℕ) (h : IsSplit n t 
     -- a third corner is no end
     third_apart : (p q w p' q' : ℕ) → AreEnds t u p q → AreEnds t u p' q' → IsPairAt n p' q' w
         → (w ≢ p) × (w ≢ q)
-    third_apart p q w p' q' k k' f = (
-      (λ is. elim (either p q p' q' k k') [
-        | inl e ↦ second-corner n p' q' w f (is ∙ e)
-        | inr e ↦
-            first-second n p' q' w f (sym (is ∙ e))
-      ]),
-      (λ is. elim (either q p p' q' (swap p q k) k') [
-        | inl e ↦ second-corner n p' q' w f (is ∙ e)
-        | inr e ↦ first-second n p' q' w f (sym (is ∙ e))
-      ]),
-    )
+    third_apart p q w p' q' k k' f =
+        grind (arith, common_steps, either, first-second, second-corner, swap)
 
     -- two new faces from one end to the other are one
     one_new : (p q w p' q' w' : ℕ) → AreEnds t u p q → AreEnds t u p' q'
@@ -306,11 +292,7 @@ module _ (n : Net) (t u s : ℕ) (beyond : ℕ → Option ℕ) (h : IsSplit n t 
               elim k'.which [
                 | inl is' ↦ is ∙ one_new k.p k.q k.w k'.p k'.q k'.w k.are_ends k'.are_ends f f'
                     (ep ∙ ap n.from is' ∙ f'.at) ∙ sym is'
-                | inr o ↦
-                    elim o [
-                      | inl is' ↦ absurd (apart.1 (sym (eq ∙ ap (to n) is' ∙ a2')))
-                      | inr is' ↦ absurd (apart.0 (sym (ep ∙ ap n.from is' ∙ c1')))
-                    ]
+                | inr o ↦ grind (arith, common_steps)
               ]
           | inr o ↦
               elim o [

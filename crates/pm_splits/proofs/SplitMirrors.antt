@@ -1,5 +1,6 @@
 -- A split keeps that no two faces have the same corners.
-use Rattle.std.proofs.Common.{◌≡◌, ℕ, Option, ◌⊎◌, inl, inr, sym, ap, ◌∙◌, subst}
+use Rattle.std.proofs.Common.{◌≡◌, ℕ, Option, ◌⊎◌, inl, inr, sym, ap, ◌∙◌, subst, arith}
+use Rattle.std.proofs.lemmas.Grind.{common_steps}
 use Rattle.pm_base.specs.Sides.{Net, next, prev, to, third, Stands, NoSideTwice}
 use Rattle.pm_base.specs.Fans.{IsPairAt}
 use Rattle.pm_base.proofs.Sides.{turn, back}
@@ -85,15 +86,7 @@ module _ (n : Net) (t u s : ℕ) (beyond : ℕ → Option ℕ) (h : IsSplit n t 
               one = ap name_before f.one;
               two = ap name_before f.two;
             } in
-            let go : Stands net_before g.side = record {
-              is_side = g.stands.is_side;
-              first = λ i. fo.last (ap name_before f.two ∙ sym (ap name_before g.one) ∙ sym i
-                  ∙ ap name_before g.at ∙ sym (ap name_before f.at));
-              second = λ i. fo.second (ap name_before f.one ∙ sym (ap name_before g.two) ∙ sym i
-                  ∙ ap name_before g.one ∙ sym (ap name_before f.two));
-              last = λ i. fo.first (ap name_before f.at ∙ sym (ap name_before g.at) ∙ sym i
-                  ∙ ap name_before g.two ∙ sym (ap name_before f.one));
-            } in
+            let go : Stands net_before g.side = grind (arith, common_steps) in
             plain (name_before v) (name_before x) (name_before y) f'
             (record {
               side = g.side;

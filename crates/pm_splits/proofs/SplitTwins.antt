@@ -1,5 +1,7 @@
 -- After a split what stands beyond a side is its twin; and the whole law.
 use Rattle.std.proofs.Common.{◌≡◌, ◌≢◌, ℕ, Option, Some, None, ◌⊎◌, inl, inr, refl, sym, ap, ◌∙◌}
+use Rattle.std.proofs.Common.{arith}
+use Rattle.std.proofs.lemmas.Grind.{common_steps}
 use Rattle.std.proofs.Common.{subst}
 use Rattle.std.proofs.lemmas.Bool.{cases_eq}
 use Rattle.std.proofs.lemmas.Option.{none-some, same_Some}
@@ -60,18 +62,14 @@ module _ (n : Net) (t u s : ℕ) (beyond : ℕ → Option ℕ) (h : IsSplit n t 
       let G = pair_at n g gt in
       elim k.which [
         | inl is ↦
-            let F : IsPairAt n q p (third n g) =
-            renamed_face n t u s beyond h (n.from g) (to n g) (third n g) q p (third n g) G
-            (gf ∙ ap (to n) is ∙ f.one) (gto ∙ ap n.from is ∙ f.at) refl in
+            let F : IsPairAt n q p (third n g) = grind (arith, common_steps, renamed_face) in
             none-some F.side (sym lo ∙ ap beyond is ∙ h.inner p q w (third n g) ends f F)
         | inr which ↦
             elim which [
               | inl is ↦
                   let g_w : n.from g ≡ w = gf ∙ ap (to n) is ∙ a2 in
                   let g_q : to n g ≡ q = gto ∙ ap n.from is ∙ a1 in
-                  let F : IsPairAt n w q (third n g) =
-                  renamed_face n t u s beyond h (n.from g) (to n g) (third n g) w q (third n g)
-                  G g_w g_q refl in
+                  let F : IsPairAt n w q (third n g) = grind (arith, common_steps, renamed_face) in
                   elim (cases_eq (third n g) p) [
                     | inl e ↦ plain p q w f (back n w q p (subst (λ i. IsPairAt n w q i) e F))
                     | inr ne ↦
@@ -108,10 +106,7 @@ module _ (n : Net) (t u s : ℕ) (beyond : ℕ → Option ℕ) (h : IsSplit n t 
                                           first-second n p q w f
                                           (sym (sym g_w ∙ y ∙ ap (to n) r' ∙ f.one))
                                       | inr r ↦
-                                          let r' : m.r ≡ o =
-                                          r ∙ ap prev oo ∙ ap next (next-next-next f.side)
-                                          ∙ sym is in
-                                          none-some g (sym lo ∙ ap beyond (sym r') ∙ m.leaves)
+                                          grind (arith, common_steps, next-next-next, none-some)
                                     ]
                               ]
                         ]
@@ -119,9 +114,7 @@ module _ (n : Net) (t u s : ℕ) (beyond : ℕ → Option ℕ) (h : IsSplit n t 
               | inr is ↦
                   let g_p : n.from g ≡ p = gf ∙ ap (to n) is ∙ c2 in
                   let g_w : to n g ≡ w = gto ∙ ap n.from is ∙ c1 in
-                  let F : IsPairAt n p w (third n g) =
-                  renamed_face n t u s beyond h (n.from g) (to n g) (third n g) p w (third n g)
-                  G g_p g_w refl in
+                  let F : IsPairAt n p w (third n g) = grind (arith, common_steps, renamed_face) in
                   elim (cases_eq (third n g) q) [
                     | inl e ↦ plain p q w f (subst (λ i. IsPairAt n p w i) e F)
                     | inr ne ↦
