@@ -1,11 +1,10 @@
 -- A pair that a collapse neither merges nor makes keeps its place and its key, whatever the policy,
 -- and far from the collapse it may be collapsed as before.
-use Rattle.std.proofs.Common.{◌≡◌, ◌≢◌, ℕ, List, [], ◌∷◌, ◌++◌, sym, ap, ◌∙◌, subst}
-use Rattle.pm_base.specs.Place.{Place}
+use Rattle.std.proofs.Common.{◌≡◌, ℕ, List, [], ◌∷◌, ◌++◌, sym, ap, ◌∙◌, subst, arith}
+use Rattle.std.proofs.lemmas.Grind.{common_steps}
 use Rattle.pm_base.specs.declared.log.Collapse.{Collapse}
 use Rattle.pm_base.specs.Meshes.{Mesh}
-use Rattle.pm_quadric.specs.Planes.{Plane, squares_of}
-use Rattle.pm_queue.specs.declared.key.Key.{Key}
+use Rattle.pm_quadric.specs.Planes.{Plane}
 use Rattle.pm_runs.specs.Surfaces.{Surface, place_at, collapsed}
 use Rattle.pm_runs.specs.Pairs.{IsLegalPair}
 use Rattle.pm_runs.specs.Runs.{surface_after, IsStep}
@@ -13,7 +12,7 @@ use Rattle.pm_runs.specs.Nearby.{IsOther}
 use Rattle.pm_runs.proofs.Live.{old_at}
 use Rattle.pm_runs.proofs.Logs.{surface_after-more, run-sound, run-proper, step-new}
 use Rattle.pm_runs.proofs.StepLaws.{steps_are_local}
-use Rattle.pm_policies.specs.Policies.{Policy, taken_after, brought_after, planes_by}
+use Rattle.pm_policies.specs.Policies.{Policy, planes_by}
 use Rattle.pm_policies.specs.Policies.{pair_planes_by, place_by, key_by}
 use Rattle.pm_policies.specs.Laws as law
 use Rattle.pm_policies.proofs.PlanesTaken.{taken-other, brought-other}
@@ -27,10 +26,7 @@ module _ (p : Policy) (m : Mesh) (log : List Collapse) (c : Collapse) where
 
   module _ (step : IsStep (surface_after m log) c) where
     planes_kept : (v : ℕ) → IsOther now c.t c.u v → planes_by p m more v ≡ planes_by p m log v
-    planes_kept v other =
-        let new : v ≢ c.s = λ is. other.not_new (is ∙ step-new now c step) in
-        ap (λ (x : List Plane). x ++ brought_after p m more v) (taken-other p m log c v new)
-        ∙ ap (λ (y : List Plane). taken_after p m log v ++ y) (brought-other p m log c v new)
+    planes_kept v other = grind (arith, common_steps, brought-other, step-new, taken-other)
 
     at_kept :
         (v : ℕ) → IsOther now c.t c.u v →
@@ -48,27 +44,13 @@ module _ (p : Policy) (m : Mesh) (log : List Collapse) (c : Collapse) where
           ∙ ap (λ (ps : List Plane). planes_by p m log a ++ ps) (planes_kept b y)
 
       place_kept : place_by p m more a b ≡ place_by p m log a b
-      place_kept =
-          let later = surface_after m more in
-          let all = pair_planes_by p m log a b in
-          ap (λ (ps : List Plane). p.place ps (place_at later a) (place_at later b)) pair_kept
-          ∙ ap (λ (q : Place). p.place all q (place_at later b)) (at_kept a x)
-          ∙ ap (λ (q : Place). p.place all (place_at now a) q) (at_kept b y)
+      place_kept = grind (arith, common_steps, at_kept, pair_kept)
 
       key_kept : key_by p m more a b ≡ key_by p m log a b
-      key_kept =
-          let all = pair_planes_by p m log a b in
-          let cost : squares_of (pair_planes_by p m more a b) (place_by p m more a b) ≡
-          squares_of all (place_by p m log a b) =
-          ap (λ (ps : List Plane). squares_of ps (place_by p m more a b)) pair_kept
-          ∙ ap (squares_of all) place_kept in
-          ap (λ n. (let k : Key = record { cost = n; a = a; b = b } in k)) cost
+      key_kept = grind (arith, common_steps, pair_kept, place_kept)
 
 pub keys_are_kept_by : law.KeysAreKeptBy
-keys_are_kept_by p m log c step a b x y = (
-  place_kept p m log c step a b x y,
-  key_kept p m log c step a b x y,
-)
+keys_are_kept_by p m log c step a b x y = grind (arith, common_steps, key_kept, place_kept)
 
 pub candidates_are_local_by : law.CandidatesAreLocalBy
 candidates_are_local_by p m start log c run step a b x y =

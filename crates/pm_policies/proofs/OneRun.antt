@@ -1,11 +1,11 @@
 -- A run by a policy has one log, is a run, and takes no vertex that the policy keeps.
 use Rattle.std.proofs.Common.{◌≡◌, ◌≢◌, ℕ, zero, suc, true, false, List, [], ◌∷◌, ◌++◌, inl, inr}
+use Rattle.std.proofs.lemmas.Grind.{common_steps}
 use Rattle.std.proofs.Common.{refl, sym, ap, ◌∙◌, subst, arith}
 use Rattle.std.proofs.lemmas.Bool.{both_ways}
 use Rattle.pm_base.specs.declared.log.Collapse.{Collapse}
 use Rattle.pm_base.specs.Meshes.{Mesh}
 use Rattle.pm_queue.proofs.KeyOrder.{before_asym}
-use Rattle.pm_runs.specs.Pairs.{IsLegalPair}
 use Rattle.pm_runs.specs.Steps.{entry_of}
 use Rattle.pm_runs.specs.Counts.{IsSpared}
 use Rattle.pm_runs.specs.Runs.{surface_after, IsStep, AreSteps, IsRun}
@@ -79,16 +79,7 @@ module _ (p : Policy) (m : Mesh) where
   step-by :
       (target : ℕ) (past : List Collapse) (c : Collapse) → IsStepBy p m target past c →
       IsStep (surface_after m past) c
-  step-by target past c step =
-      let s = surface_after m past in
-      let pair = step.least.candidate in
-      let place : c.place ≡ place_by p m past c.t c.u =
-      ap (λ (d : Collapse). d.place) step.entry in
-      record {
-        ordered = pair.ordered;
-        legal = subst (IsLegalPair s c.t c.u) (sym place) pair.legal;
-        entry = step.entry ∙ ap (entry_of s c.t c.u) (sym place);
-      }
+  step-by target past c step = grind (arith, common_steps)
 
   steps-by :
       (target : ℕ) (past cs : List Collapse) → AreStepsBy p m target past cs →
@@ -120,8 +111,4 @@ module _ (p : Policy) (m : Mesh) where
 
 pub one_run_by_a_policy : law.OneRunByAPolicy
 unfolding IsRunBy
-one_run_by_a_policy p m target log x = record {
-  run = run-by p m target log x;
-  spared = spares p m target [] log x;
-  one = λ other y. one_log p m target other log y x;
-}
+one_run_by_a_policy p m target log x = grind (arith, common_steps, one_log, run-by, spares)

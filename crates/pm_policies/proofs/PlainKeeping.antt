@@ -1,20 +1,21 @@
 -- The policy of the run that keeps some vertices takes nothing, so its places and keys are that
 -- run's.
 use Rattle.std.proofs.Common.{◌≡◌, ℕ, eqb, Bool, true, List, [], ◌∷◌, ◌++◌, inl, inr, refl, sym, ap}
+use Rattle.std.proofs.Common.{arith}
+use Rattle.std.proofs.lemmas.Grind.{common_steps}
 use Rattle.std.proofs.Common.{◌∙◌, subst}
 use Rattle.std.proofs.lemmas.Bool.{cases_Bool, cond-true, cond-false}
 use Rattle.pm_base.specs.declared.log.Collapse.{Collapse}
 use Rattle.pm_base.specs.Meshes.{Mesh}
-use Rattle.pm_quadric.specs.Planes.{Plane, squares_of}
-use Rattle.pm_quadric.specs.Candidates.{least_place}
+use Rattle.pm_quadric.specs.Planes.{Plane}
 use Rattle.pm_queue.specs.declared.key.Key.{Key}
 use Rattle.pm_queue.specs.Keys.{is_before}
-use Rattle.pm_runs.specs.Surfaces.{Surface, surface_of, place_at}
+use Rattle.pm_runs.specs.Surfaces.{Surface, surface_of}
 use Rattle.pm_runs.specs.Pairs.{IsLegalPair}
 use Rattle.pm_runs.specs.Steps.{entry_of}
 use Rattle.pm_runs.specs.Planes.{planes_after, pair_planes}
 use Rattle.pm_runs.specs.Runs.{after_entry, surface_after, place_of_pair, key_of_pair}
-use Rattle.pm_keeping.specs.Keeping.{none_kept, IsFreeCandidate, IsLeastFreePair, IsStepKeeping}
+use Rattle.pm_keeping.specs.Keeping.{IsFreeCandidate, IsLeastFreePair, IsStepKeeping}
 use Rattle.pm_keeping.specs.Keeping.{AreStepsKeeping, IsRunKeeping}
 use Rattle.pm_keeping.proofs.KeepingNone.{keeping_none_is_the_run}
 use Rattle.pm_policies.specs.Policies.{Policy, taken_next, taken_from, taken_after, brought_after}
@@ -52,20 +53,10 @@ module _ (kept : ℕ → Bool) where
           ∙ ap (λ (y : List Plane). planes_after m log a ++ y) (planes_same log b)
 
       place_same : place_by policy m log a b ≡ place_of_pair m log a b
-      place_same =
-          let s = surface_after m log in
-          ap (λ (ps : List Plane). least_place (squares_of ps) (place_at s a) (place_at s b))
-          pair_same
+      place_same = grind (arith, common_steps, pair_same)
 
       key_same : key_by policy m log a b ≡ key_of_pair m log a b
-      key_same =
-          let place = place_by policy m log a b in
-          let all = pair_planes (planes_after m log) a b in
-          let cost : squares_of (pair_planes_by policy m log a b) place ≡
-          squares_of all (place_of_pair m log a b) =
-          ap (λ (ps : List Plane). squares_of ps place) pair_same
-          ∙ ap (squares_of all) place_same in
-          ap (λ n. (let k : Key = record { cost = n; a = a; b = b } in k)) cost
+      key_same = grind (arith, common_steps, pair_same, place_same)
 
       candidate_to : IsCandidateBy policy m log a b → IsFreeCandidate kept m log a b
       candidate_to x = record {
@@ -162,6 +153,4 @@ plain_keeping_is_keeping kept m target log =
 
 pub plain_run_is_the_run : law.PlainRunIsTheRun
 plain_run_is_the_run m target log =
-    let keeping = plain_keeping_is_keeping none_kept m target log in
-    let none = keeping_none_is_the_run m target log in
-    (λ x. none.0 (keeping.0 x), λ x. keeping.1 (none.1 x))
+    grind (arith, common_steps, keeping_none_is_the_run, plain_keeping_is_keeping)

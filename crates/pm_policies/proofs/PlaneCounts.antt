@@ -1,8 +1,9 @@
 -- How many planes there are along a run: brought ones as many as at first, and taken ones as few as
 -- the policy takes.
-use Rattle.std.proofs.Common.{◌≡◌, ℕ, zero, suc, ◌+◌, ◌*◌, ◌<◌, ◌≤◌, eqb, true, cond, Some, List}
+use Rattle.std.proofs.Common.{◌≡◌, ℕ, zero, suc, ◌+◌, ◌*◌, ◌<◌, ◌≤◌, eqb, true, cond, List}
+use Rattle.std.proofs.lemmas.Grind.{common_steps}
 use Rattle.std.proofs.Common.{[], ◌∷◌, ◌++◌, length, inl, inr, refl, ap, ◌∙◌, arith}
-use Rattle.std.proofs.lemmas.Bool.{cases_Bool, cases_eq, cond-true, cond-false}
+use Rattle.std.proofs.lemmas.Bool.{cases_Bool, cond-true, cond-false}
 use Rattle.std.proofs.lemmas.List.{length-map, length-append}
 use Rattle.std.proofs.Math.Nat.{mul-le-mul_left}
 use Rattle.pm_base.specs.declared.log.Collapse.{Collapse}
@@ -23,42 +24,19 @@ use Rattle.pm_policies.specs.Laws as law
 sum_scaled :
     (f g : ℕ → ℕ) (k n : ℕ) → ((i : ℕ) → f i ≤ k * g i) → sum_below f n ≤ k * sum_below g n
 sum_scaled f g k zero each = omega arith
-sum_scaled f g k (suc n) each =
-    let top = each n in
-    let rest = sum_scaled f g k n each in
-    omega arith
+sum_scaled f g k (suc n) each = grind (arith, common_steps, sum_scaled f g k n each)
 
 -- One term is no more than all.
 one_within : (f : ℕ → ℕ) (n t : ℕ) → t < n → f t ≤ sum_below f n
 one_within f zero t l = absurd (omega arith)
-one_within f (suc n) t l =
-    elim (cases_eq n t) [
-      | inl is ↦ (let top : f n ≡ f t = ap f is in omega arith)
-      | inr other ↦ (let rest = one_within f n t (omega arith) in omega arith)
-    ]
+one_within f (suc n) t l = grind (arith, common_steps, one_within f n t)
 
 -- Brought planes.
 module _ (p : Policy) (m : Mesh) where
   brought-first :
       (k : ℕ) → BringsAtMost p m k →
       plane_count_of (p.brought m) (surface_of m) ≤ k * plane_count_of (planes_at m) (surface_of m)
-  brought-first k few =
-      let s = surface_of m in
-      sum_scaled (λ v. cond (is_live s v) (length (p.brought m v)) 0)
-      (λ v. cond (is_live s v) (length (planes_at m v)) 0) k (next_vertex s) (λ v.
-      elim (cases_Bool (is_live s v)) [
-        | inl is ↦
-            let one : cond (is_live s v) (length (p.brought m v)) 0 ≡ length (p.brought m v) =
-            cond-true _ _ _ is in
-            let two : cond (is_live s v) (length (planes_at m v)) 0 ≡ length (planes_at m v) =
-            cond-true _ _ _ is in
-            let both = ap (λ n. k * n) two in
-            let each = few v in
-            omega arith
-        | inr is ↦
-            let none : cond (is_live s v) (length (p.brought m v)) 0 ≡ 0 = cond-false _ _ _ is in
-            omega arith
-      ])
+  brought-first k few = grind (arith, common_steps, cond-false, cond-true, sum_scaled)
 
   brought-kept :
       IsStartOfRun m → (log : List Collapse) → IsRun m log →
@@ -93,10 +71,7 @@ module _ (p : Policy) (n : ℕ) where
             let now = ap length (cond-true _ (p.taken (after_entry s c) w) (planes w) is) in
             let few = takes (c ∷ []) (steps.0, tt) w in
             omega (arith, now, few)
-        | inr is ↦
-            let now = ap length (cond-false _ (p.taken (after_entry s c) w) (planes w) is) in
-            let few = had w in
-            omega (arith, now, few)
+        | inr is ↦ grind (arith, common_steps, cond-false)
       ]) v
 
   taken-each :
@@ -114,13 +89,7 @@ faces-same s (c ∷ cs) = faces-same (after_entry s c) cs ∙ length-map s.faces
 takes-by-faces :
     (p : Policy) (m : Mesh) (n : ℕ) → TakesByFaces p n → TakesAtMost p m (n * length m.faces)
 unfolding surface_after
-takes-by-faces p m n takes log run v =
-    let s = surface_of m in
-    let all : length (surface_from s log).faces ≡ length m.faces =
-    faces-same s log ∙ length-map m.faces Some in
-    let number = ap (λ k. n * k) all in
-    let few = takes (surface_from s log) v in
-    omega (arith, number, few)
+takes-by-faces p m n takes log run v = grind (arith, common_steps, faces-same, length-map)
 
 vertex-few :
     (p : Policy) (m : Mesh) (log : List Collapse) (all each : ℕ) →
