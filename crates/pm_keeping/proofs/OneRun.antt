@@ -1,11 +1,11 @@
 -- A run that keeps vertices has one log, is a run, and takes no vertex that it keeps.
 use Rattle.std.proofs.Common.{◌≡◌, ◌≢◌, ℕ, zero, suc, Bool, true, false, List, [], ◌∷◌, ◌++◌, inl}
+use Rattle.std.proofs.lemmas.Grind.{common_steps}
 use Rattle.std.proofs.Common.{inr, refl, sym, ap, ◌∙◌, subst, arith}
 use Rattle.std.proofs.lemmas.Bool.{both_ways}
 use Rattle.pm_base.specs.declared.log.Collapse.{Collapse}
 use Rattle.pm_base.specs.Meshes.{Mesh}
 use Rattle.pm_queue.proofs.KeyOrder.{before_asym}
-use Rattle.pm_runs.specs.Pairs.{IsLegalPair}
 use Rattle.pm_runs.specs.Steps.{entry_of}
 use Rattle.pm_runs.specs.Counts.{IsSpared}
 use Rattle.pm_runs.specs.Runs.{surface_after, IsStep, AreSteps, IsRun, place_of_pair, key_of_pair}
@@ -79,16 +79,7 @@ module _ (kept : ℕ → Bool) (m : Mesh) where
   step-keeping :
       (target : ℕ) (past : List Collapse) (c : Collapse) → IsStepKeeping kept m target past c →
       IsStep (surface_after m past) c
-  step-keeping target past c step =
-      let s = surface_after m past in
-      let pair = step.least.free.candidate in
-      let place : c.place ≡ place_of_pair m past c.t c.u =
-      ap (λ (d : Collapse). d.place) step.entry in
-      record {
-        ordered = pair.ordered;
-        legal = subst (IsLegalPair s c.t c.u) (sym place) pair.legal;
-        entry = step.entry ∙ ap (entry_of s c.t c.u) (sym place);
-      }
+  step-keeping target past c step = grind (arith, common_steps)
 
   steps-keeping :
       (target : ℕ) (past cs : List Collapse) → AreStepsKeeping kept m target past cs →
