@@ -1,8 +1,8 @@
 -- The corners of a face in order, and the side of a new face that runs from one child to the other.
-use Rattle.std.proofs.Common.{◌≡◌, ℕ, ◌+◌, ◌*◌, ◌%◌, ◌<◌, true, false, cond, not, ◌&&◌, ◌||◌, ◌⊎◌}
-use Rattle.std.proofs.Common.{inl, inr, refl, arith}
-use Rattle.std.proofs.lemmas.Bool.{cases_eq, or_cases, and_parts, not-true, both_ways}
-use Rattle.std.proofs.lemmas.Bool.{false_from_ne_true}
+use Rattle.std.proofs.Common.{◌≡◌, ℕ, ◌+◌, ◌*◌, ◌<◌, true, false, cond, ◌||◌, ◌⊎◌}
+use Rattle.std.proofs.lemmas.Grind.{common_steps}
+use Rattle.std.proofs.Common.{inl, inr, arith}
+use Rattle.std.proofs.lemmas.Bool.{or_cases, and_parts, not-true}
 use Rattle.pm_base.specs.Sides.{face_of, next}
 use Rattle.pm_forest.specs.declared.parts.Face.{Face}
 use Rattle.pm_forest.specs.Forest.{Hierarchy, leaf_count, interval_of, holds, Holds}
@@ -14,38 +14,21 @@ use Rattle.pm_forest.specs.Rules.{runs, runs_from}
 pub corner_a : (h : Hierarchy) (f : ℕ) → (from_leaf h (3 * f) ≡ (corners_of h f).a)
     × (next (3 * f) ≡ 3 * f + 1)
 unfolding from_leaf next
-corner_a h f =
-    let face : face_of (3 * f) ≡ f = omega arith in
-    let place : (3 * f) % 3 ≡ 0 = omega arith in
-    ((rw (place, face) refl), (rw place refl))
+corner_a h f = grind (arith, common_steps)
 
 pub corner_b : (h : Hierarchy) (f : ℕ) →
     (from_leaf h (3 * f + 1) ≡ (corners_of h f).b) × (next (3 * f + 1) ≡ 3 * f + 2)
 unfolding from_leaf next
-corner_b h f =
-    let face : face_of (3 * f + 1) ≡ f = omega arith in
-    let place : (3 * f + 1) % 3 ≡ 1 = omega arith in
-    ((rw (place, face) refl), (rw place (omega arith)))
+corner_b h f = grind (arith, common_steps)
 
 pub corner_c : (h : Hierarchy) (f : ℕ) → (from_leaf h (3 * f + 2) ≡ (corners_of h f).c)
     × (next (3 * f + 2) ≡ 3 * f)
 unfolding from_leaf next
-corner_c h f =
-    let face : face_of (3 * f + 2) ≡ f = omega arith in
-    let place : (3 * f + 2) % 3 ≡ 2 = omega arith in
-    ((rw (place, face) refl), (rw place (omega arith)))
+corner_c h f = grind (arith, common_steps)
 
 pub which_corner : (e : ℕ)
     → (e ≡ 3 * face_of e) ⊎ ((e ≡ 3 * face_of e + 1) ⊎ (e ≡ 3 * face_of e + 2))
-which_corner e =
-    elim (cases_eq (e % 3) 0) [
-      | inl a ↦ inl (omega arith)
-      | inr a ↦ elim (cases_eq (e % 3) 1) [
-        | inl b ↦ inr (inl (omega arith))
-        | inr b ↦
-            inr (inr (omega arith))
-      ]
-    ]
+which_corner e = grind (arith, common_steps)
 
 -- The corners of f are leaves, and in cyclic order there is one under p, one under q and one
 -- outside s.
@@ -63,10 +46,7 @@ pub along : (h : Hierarchy) (p q s x y z : ℕ) →
     runs_from (interval_of h p) (interval_of h q) (interval_of h s) x y z ≡ true
     → AreAlong h p q s x y z
 unfolding holds
-along h p q s x y z e =
-    let m = and_parts (holds h p x && holds h q y) (not (holds h s z)) e in
-    let n = and_parts (holds h p x) (holds h q y) m.0 in
-    (n.0, n.1, not-true (holds h s z) m.1)
+along h p q s x y z e = grind (arith, common_steps, and_parts, not-true)
 
 -- in one of the three orders that a face's corners have
 pub ways : (h : Hierarchy) (p q s : ℕ) (f : Face)
@@ -96,25 +76,11 @@ pub side_along : (h : Hierarchy) (p q s f : ℕ) → ((x : ℕ) → Holds h p x 
     side_under h p f in
     AreAlong h p q s (from_leaf h i) (to_leaf h i) (from_leaf h (next (next i)))
 side_along h p q s f inside apart fits =
-    let a = corner_a h f in
-    let b = corner_b h f in
-    let c = corner_c h f in
-    let outside : (x : ℕ) → holds h s x ≡ false → holds h p x ≡ false = λ x e.
-    false_from_ne_true (holds h p x) (λ g. both_ways (holds h s x) e (inside x g)) in
-    let other : (x : ℕ) → Holds h q x → holds h p x ≡ false =
-    λ x e. false_from_ne_true (holds h p x) (λ g. apart x g e) in
-    elim (ways h p q s (corners_of h f) fits.runs) [
-      | inl first ↦
-          let at_a : Holds h p (from_leaf h (3 * f)) = rw a.0 first.0 in
-          rw (at_a, a.1, b.1, a.0, b.0, c.0) first
-      | inr later ↦ elim later [
-        | inl second ↦
-            let at_a : holds h p (from_leaf h (3 * f)) ≡ false = rw a.0 (outside _ second.2) in
-            let at_b : Holds h p (from_leaf h (3 * f + 1)) = rw b.0 second.0 in
-            rw (at_a, at_b, b.1, c.1, b.0, c.0, a.0) second
-        | inr third ↦
-            let at_a : holds h p (from_leaf h (3 * f)) ≡ false = rw a.0 (other _ third.1) in
-            let at_b : holds h p (from_leaf h (3 * f + 1)) ≡ false = rw b.0 (outside _ third.2) in
-            rw (at_a, at_b, c.1, a.1, c.0, a.0, b.0) third
-      ]
-    ]
+    grind (
+      arith,
+      common_steps,
+      corner_a h f,
+      corner_b h f,
+      corner_c h f,
+      ways h p q s (corners_of h f) fits.runs,
+    )

@@ -1,8 +1,9 @@
 -- Once all records are split there is a node for each leaf: a record adds one node without
 -- children, and one leaf that is the first of its node.
 use Rattle.std.proofs.Common.{◌≡◌, ◌≢◌, ℕ, zero, suc, ◌+◌, ◌<◌, ◌≤◌, eqb, Bool, true, false, List}
-use Rattle.std.proofs.Common.{[], ◌∷◌, length, sum, All, inl, inr, refl, sym, ap, ◌∙◌, subst, arith}
-use Rattle.std.proofs.lemmas.Bool.{cases_Bool, cases_lt, cases_eq, eqb-true, eq-eqb, ne_eqb, lt-ltb}
+use Rattle.std.proofs.lemmas.Grind.{common_steps}
+use Rattle.std.proofs.Common.{[], ◌∷◌, length, sum, All, inl, inr, refl, sym, ap, ◌∙◌, arith}
+use Rattle.std.proofs.lemmas.Bool.{cases_Bool, cases_lt, eqb-true, eq-eqb, ne_eqb, lt-ltb}
 use Rattle.std.proofs.lemmas.Bool.{le-ltb}
 use Rattle.std.proofs.lemmas.List.{length-map}
 use Rattle.pm_base.specs.Counts.{one_if}
@@ -33,15 +34,7 @@ count_below-le p (suc n) =
 count_below-all : (p : ℕ → Bool) (n x : ℕ) → count_below p n ≡ n → x < n → p x ≡ true
 count_below-all p zero x all l = absurd (omega arith)
 count_below-all p (suc n) x all l =
-    let rest = count_below-le p n in
-    elim (cases_Bool (p n)) [
-      | inl a ↦ elim (cases_eq x n) [
-        | inl is ↦ (rw is a)
-        | inr differs ↦ (let fewer : count_below p n ≡ n = omega (arith, ap one_if a) in
-            count_below-all p n x fewer (omega arith))
-      ]
-      | inr a ↦ absurd (omega (arith, ap one_if a))
-    ]
+    grind (arith, common_steps, count_below-le, count_below-all p n x)
 
 count_below-same : (p q : ℕ → Bool) (n : ℕ) → ((x : ℕ) → x < n → q x ≡ p x)
     → count_below q n ≡ count_below p n
@@ -54,18 +47,7 @@ count_below-more : (p q : ℕ → Bool) (n c : ℕ) → c < n → p c ≡ false 
     ((x : ℕ) → x < n → x ≢ c → q x ≡ p x) → count_below q n ≡ suc (count_below p n)
 count_below-more p q zero c l at_p at_q same = absurd (omega arith)
 count_below-more p q (suc n) c l at_p at_q same =
-    elim (cases_eq c n) [
-      | inl is ↦
-          let last_p : p n ≡ false = subst (λ x. p x ≡ false) is at_p in
-          let last_q : q n ≡ true = subst (λ x. q x ≡ true) is at_q in
-          let before = count_below-same p q n (λ x m. same x (omega arith) (omega arith)) in
-          omega (arith, before, ap one_if last_p, ap one_if last_q)
-      | inr differs ↦
-          let last : q n ≡ p n = same n (omega arith) (omega arith) in
-          let before =
-          count_below-more p q n c (omega arith) at_p at_q (λ x m. same x (omega arith)) in
-          omega (arith, before, ap one_if last)
-    ]
+    grind (arith, common_steps, count_below-same, count_below-more p q n c)
 
 -- of w numbers from a on the first alone passes
 count_below-one : (p : ℕ → Bool) (a w : ℕ) → p a ≡ true
@@ -91,9 +73,7 @@ first_of_roots p (zero ∷ ws) start wide is = let never : 0 < 0 =
     wide 0 0 (omega arith) in absurd (omega arith)
 first_of_roots p (suc w ∷ ws) start wide is =
     let all = sum-cons (suc w) ws in
-    let first : p start ≡ true =
-    is start (omega arith) (omega arith)
-    ∙ (rw (lt-ltb start (start + suc w) (omega arith)) (eq-eqb start start refl)) in
+    let first : p start ≡ true = grind (arith, common_steps, eq-eqb, lt-ltb) in
     let others : (x : ℕ) → start < x → x < start + suc w → p x ≡ false = λ x a b.
     let differs : start ≢ x = omega arith in
     is x (omega arith) (omega arith) ∙ (rw (lt-ltb x (start + suc w) b) (ne_eqb start x differs)) in
@@ -126,17 +106,7 @@ module _ (h : Hierarchy) (shape : HasForestShape h) where
   unfolding interval_after
   until-le zero v l = omega (arith, until_root-le (widths h) 0 v)
   until-le (suc k) v l =
-      let w = width_after k l in
-      let parent = until-le k (s_of h k) (omega arith) in
-      elim (cases_eq v (t_of h k)) [
-        | inl is ↦ (rw (eq-eqb v (t_of h k) is) (omega arith))
-        | inr differs ↦ elim (cases_eq v (u_of h k)) [
-          | inl is ↦ (rw (ne_eqb v (t_of h k) differs, eq-eqb v (u_of h k) is) parent)
-          | inr other ↦
-              (rw (ne_eqb v (t_of h k) differs, ne_eqb v (u_of h k) other)
-              (until-le k v (omega arith)))
-        ]
-      ]
+      grind (arith, common_steps, eq-eqb, ne_eqb, width_after, until-le k (s_of h k), until-le k v)
 
   holds_parts : (v x : ℕ) → Holds h v x → ((interval_of h v).from ≤ x)
       × (x < (interval_of h v).until)
@@ -158,12 +128,7 @@ module _ (h : Hierarchy) (shape : HasForestShape h) where
 
   first_at_start : All (λ w. 0 < w) (widths h) → count_below (is_first 0) (leaf_count h)
       ≡ length h.roots
-  first_at_start wide =
-      let start : count_below (is_first 0) (0 + sum (widths h))
-      ≡ count_below (is_first 0) 0 + length (widths h) =
-      first_of_roots (is_first 0) (widths h) 0 wide (λ x a b. same_start x) in
-      let all : 0 + sum (widths h) ≡ leaf_count h = omega arith in
-      omega (arith, rw all at start, length-map h.roots (λ r. r.width))
+  first_at_start wide = grind (arith, common_steps, first_of_roots, length-map, same_start)
 
   -- the intervals of the node that record k splits and of its children, once it has split it
   split_interval : (k : ℕ) → k < record_count h
@@ -191,10 +156,7 @@ module _ (h : Hierarchy) (shape : HasForestShape h) where
 
   under_s : (k : ℕ) → k < record_count h → Holds h (s_of h k) (first_of_u k)
   unfolding holds
-  under_s k l =
-      let w = width_after k l in
-      rw (split_interval k l)
-      (within-from (interval_after h k (s_of h k)) (first_of_u k) (omega arith) (omega arith))
+  under_s k l = grind (arith, common_steps, split_interval, width_after, within-from)
 
   -- the leaves of the first child come before it, and those of the second child don't
   before_u : (k x : ℕ) → k < record_count h → Holds h (t_of h k) x → x < first_of_u k
@@ -212,11 +174,8 @@ module _ (h : Hierarchy) (shape : HasForestShape h) where
       let w = width_after k l in
       let place : ancestor_after h every k c ≡ s_of h k = place-s h shape k c l (under_s k l) in
       let differs : (interval_after h k (s_of h k)).from ≢ c = omega arith in
-      let is : is_first (suc k) c ≡ true = elim (move h every k c) [
-        | stays e n ↦ absurd (n refl (sym place))
-        | to_t a b f e ↦ (let below = before_u k c l f in absurd (omega arith))
-        | to_u a b f e ↦ (rw (e, after_u k l) (eq-eqb c c refl))
-      ] in
+      let is : is_first (suc k) c ≡ true =
+      grind (arith, common_steps, after_u, before_u, eq-eqb, move, stays, to_t, to_u) in
       ((rw place (ne_eqb _ c differs)), is)
 
   same_first : (k x : ℕ) → k < record_count h → x < leaf_count h → x ≢ first_of_u k →
@@ -229,9 +188,7 @@ module _ (h : Hierarchy) (shape : HasForestShape h) where
         | to_t a b f e ↦ (rw (e, after_t k l, ← b) refl)
         | to_u a b f e ↦
             let w = width_after k l in
-            let under : Holds h (s_of h k) x =
-            subst (λ v. Holds h v x) (sym b) (holds-ancestor h shape every k x (omega arith) m)
-            in
+            let under : Holds h (s_of h k) x = grind (arith, common_steps, holds-ancestor) in
             let past = from_u k x l (holds-u_from_s h shape k x l under f) in
             let not_c : first_of_u k ≢ x = omega arith in
             let not_s : (interval_after h k (s_of h k)).from ≢ x = omega arith in

@@ -1,6 +1,7 @@
 -- The ends of the sides of a record's face: the inner side runs between leaves below t and u, and
 -- the third corner is outside s.
 use Rattle.std.proofs.Common.{◌≡◌, ℕ, ◌*◌, ◌<◌, Bool, false, Some, inl, inr, sym, ap, ◌∙◌, arith}
+use Rattle.std.proofs.lemmas.Grind.{common_steps}
 use Rattle.std.proofs.lemmas.Bool.{cases_Bool}
 use Rattle.pm_base.specs.Sides.{face_of, next}
 use Rattle.pm_base.proofs.Sides.{face_of-next}
@@ -34,11 +35,7 @@ module _ (h : Hierarchy) (shape : IsForest h) where
 
   pub third_outside : (k f : ℕ) → f < face_count h → revealed_by h f ≡ Some k
       → holds h (s_of h k) (from_leaf h (next (next (inner_of h k f)))) ≡ false
-  third_outside k f l r =
-      elim (cases_Bool (is_left h k f)) [
-        | inl a ↦ (let p = shape.faces.left f k l r a in p.2)
-        | inr a ↦ (let p = shape.faces.right f k l r a in p.2)
-      ]
+  third_outside k f l r = grind (arith, common_steps)
 
   -- While the record isn't split, the two ends of its face's inner side have one ancestor.
   pub inner-joined : (T : ℕ → Bool) (k f : ℕ) → f < face_count h → revealed_by h f ≡ Some k

@@ -1,5 +1,6 @@
 -- How many faces there are, and which numbers of input faces and of neighbours they have.
-use Rattle.std.proofs.Common.{◌≡◌, ℕ, zero, suc, ◌+◌, ◌*◌, ◌<◌, ◌≤◌, ltb, List, [], ◌∷◌, length}
+use Rattle.std.proofs.Common.{◌≡◌, ℕ, zero, suc, ◌+◌, ◌*◌, ◌<◌, ◌≤◌, List, [], ◌∷◌}
+use Rattle.std.proofs.lemmas.Grind.{common_steps}
 use Rattle.std.proofs.Common.{All, Option, None, Some, is_some, inl, inr, refl, ap, arith}
 use Rattle.std.proofs.lemmas.Bool.{cases_Bool, ltb-false}
 use Rattle.std.proofs.lemmas.List.Elements.{All-nil, All-cons, All-append, All-get_or}
@@ -9,7 +10,7 @@ use Rattle.pm_base.proofs.Search.{some_from}
 use Rattle.pm_forest.specs.declared.parts.Face.{Face}
 use Rattle.pm_forest.specs.declared.parts.NewFace.{NewFace}
 use Rattle.pm_forest.specs.Forest.{Hierarchy, record_at, record_count, leaf_count, interval_of}
-use Rattle.pm_forest.specs.Faces.{no_face_corners, faces_of, first_face, face_count, corners_of}
+use Rattle.pm_forest.specs.Faces.{faces_of, first_face, face_count, corners_of}
 use Rattle.pm_forest.specs.Rules.{word_of, past_from, past_fault, HasShape}
 use Rattle.pm_forest.specs.Tables.{IsSingle, leaf_node_of}
 use Rattle.pm_forest.specs.Moves.{side_in, neighbours_in, neighbours_of}
@@ -71,9 +72,7 @@ inputs_from : (h : Hierarchy) (f : ℕ) (fs : List Face) → past_from h f fs �
     All (λ (x : Face). x.input ≤ face_count h) fs
 inputs_from h f [] none = All-nil (λ (x : Face). x.input ≤ face_count h)
 inputs_from h f (x ∷ fs) none =
-    let p = passed (ltb (face_count h) x.input) _ _ none in
-    All-cons (λ (x : Face). x.input ≤ face_count h) x fs (ltb-false _ _ p.0)
-    (inputs_from h (f + 1) fs p.1)
+    grind (arith, common_steps, All-cons, ltb-false, passed, inputs_from h (f + 1) fs)
 
 -- the input numbers of the faces are among as many as there are faces
 pub face_inputs-le : (h : Hierarchy) → HasShape h → All (λ f. f.input ≤ face_count h) (faces_of h)
@@ -83,10 +82,7 @@ face_inputs-le h shape = inputs_from h 0 (faces_of h) shape.inputs
 pub input-le : (h : Hierarchy) → HasShape h → (f : ℕ) → f < face_count h
     → (corners_of h f).input ≤ face_count h
 input-le h shape f l =
-    let below : f < length (faces_of h) = omega (arith, length-faces_of h) in
-    rw (corners_of-faces_of h f l)
-    (All-get_or (λ (x : Face). x.input ≤ face_count h) (faces_of h) f no_face_corners below
-    (face_inputs-le h shape))
+    grind (arith, common_steps, All-get_or, corners_of-faces_of, face_inputs-le, length-faces_of)
 
 -- Once all records are split each leaf has a node of its own.
 pub leaf_nodes_of_shape : (h : Hierarchy) → HasShape h → (x : ℕ) → x < leaf_count h →

@@ -1,8 +1,9 @@
 -- Faces by number and faces as a list are the same faces.
 use Rattle.std.proofs.Common.{◌≡◌, ℕ, zero, suc, ◌+◌, ◌-◌, ◌*◌, ◌<◌, ◌≤◌, eqb, leb, cond, ◌&&◌, []}
+use Rattle.std.proofs.lemmas.Grind.{common_steps}
 use Rattle.std.proofs.Common.{◌++◌, length, get_or, Option, None, Some, is_some, inl, inr, refl}
 use Rattle.std.proofs.Common.{sym, ap, ◌∙◌, arith, length-append}
-use Rattle.std.proofs.lemmas.Bool.{cases_lt, cases_eq, eq-eqb, ne_eqb, le-leb, lt-leb, cond-true}
+use Rattle.std.proofs.lemmas.Bool.{cases_lt, eq-eqb, ne_eqb, le-leb, lt-leb, cond-true}
 use Rattle.std.proofs.lemmas.Bool.{cond-false}
 use Rattle.std.proofs.lemmas.List.{get_or_append_left, get_or-append_right, take_all}
 use Rattle.std.specs.List.{flat_map}
@@ -22,13 +23,7 @@ length-face_in (Some n) = refl
 
 pub length-faces_in : (r : Record)
     → length (faces_in r) ≡ one_if (is_some r.left) + one_if (is_some r.right)
-length-faces_in r =
-    omega (
-      arith,
-      length-append (face_in r.left) (face_in r.right),
-      length-face_in r.left,
-      length-face_in r.right,
-    )
+length-faces_in r = grind (arith, common_steps, length-append, length-face_in)
 
 -- the faces of the first records, one record on
 pub faces_of-cut_more : (h : Hierarchy) (k : ℕ) → k < record_count h →
@@ -41,15 +36,14 @@ pub length-faces_of_cut : (h : Hierarchy) (k : ℕ) → k ≤ record_count h
 unfolding faces_of first_face
 length-faces_of_cut h zero l = omega (arith, length-append h.bases (flat_map faces_in []))
 length-faces_of_cut h (suc k) l =
-    let more = ap length (faces_of-cut_more h k l) in
-    let both = length-append (faces_of (cut h k)) (faces_in (record_at h k)) in
-    omega (
+    grind (
       arith,
-      more,
-      both,
-      length-faces_in (record_at h k),
-      length-faces_of_cut h k
-          (omega arith),
+      common_steps,
+      cut,
+      faces_of-cut_more,
+      length-append,
+      length-faces_in,
+      length-faces_of_cut h k,
     )
 
 pub faces_of-cut_all : (h : Hierarchy) → faces_of (cut h (record_count h)) ≡ faces_of h
@@ -65,13 +59,7 @@ length-faces_of h =
 pub first_face-le : (h : Hierarchy) (k : ℕ) → first_face h k ≤ length h.bases + 2 * k
 unfolding first_face
 first_face-le h zero = omega arith
-first_face-le h (suc k) =
-    omega (
-      arith,
-      first_face-le h k,
-      one_if-le (is_some (record_at h k).left),
-      one_if-le (is_some (record_at h k).right),
-    )
+first_face-le h (suc k) = grind (arith, common_steps, is_some, one_if-le, first_face-le h k)
 
 pub face_count-le : (h : Hierarchy) → face_count h ≤ length h.bases + 2 * record_count h
 face_count-le h = first_face-le h (record_count h)
@@ -83,16 +71,8 @@ new_face-at : (l r : Option NewFace) (first f : ℕ) → first ≤ f
     ≡ get_or (face_in l ++ face_in r) (f - first) no_face_corners
 new_face-at None None first f a b = absurd (omega arith)
 new_face-at None (Some m) first f a b = let place : f - first ≡ 0 = omega arith in rw place refl
-new_face-at (Some n) None first f a b =
-    let is : f ≡ first = omega arith in
-    let place : f - first ≡ 0 = omega arith in
-    rw (place, eq-eqb f first is) refl
-new_face-at (Some n) (Some m) first f a b =
-    elim (cases_eq f first) [
-      | inl is ↦ (let place : f - first ≡ 0 = omega arith in rw (place, eq-eqb f first is) refl)
-      | inr differs ↦ (let place : f - first ≡ 1 = omega arith in
-          rw (place, ne_eqb f first differs) refl)
-    ]
+new_face-at (Some n) None first f a b = grind (arith, common_steps, eq-eqb)
+new_face-at (Some n) (Some m) first f a b = grind (arith, common_steps, eq-eqb, ne_eqb)
 
 corners_after : (h : Hierarchy) (k f : ℕ) → k ≤ record_count h → f < first_face h k →
     corners_told_by h f (revealed_after h k f) ≡ get_or (faces_of (cut h k)) f no_face_corners
@@ -105,13 +85,15 @@ corners_after h (suc k) f l below =
     let more = ap (λ fs. get_or fs f no_face_corners) (faces_of-cut_more h k l) in
     elim (cases_lt f (first_face h k)) [
       | inl before ↦
-          let revealed =
-          cond-false (leb (first_face h k) f) (Some k) (revealed_after h k f)
-          (lt-leb (first_face h k) f before) in
-          let old = get_or_append_left (faces_of (cut h k)) (faces_in r) no_face_corners f
-          (omega arith) in
-          ap (corners_told_by h f) revealed ∙ corners_after h k f (omega arith) before ∙ sym old
-          ∙ sym more
+          grind (
+            arith,
+            common_steps,
+            cond-false,
+            cut,
+            get_or_append_left,
+            lt-leb,
+            corners_after h k f,
+          )
       | inr past ↦
           let revealed =
           cond-true (leb (first_face h k) f) (Some k) (revealed_after h k f)

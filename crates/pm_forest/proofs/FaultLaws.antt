@@ -1,5 +1,6 @@
 -- What is wrong with a face of the coming record, and with a face whose input number is too great.
 use Rattle.std.proofs.Common.{◌≡◌, ℕ, ◌+◌, ◌-◌, ◌*◌, ◌<◌, ◌≤◌, Bool, ◌||◌, not, if◌then◌else◌}
+use Rattle.std.proofs.lemmas.Grind.{common_steps}
 use Rattle.std.proofs.Common.{nat_le, nat_lt, drop, Option, None, Some, is_some, refl, arith}
 use Rattle.std.proofs.Math.ListN.{drop_of_length-le}
 use Rattle.pm_base.specs.Counts.{one_if}
@@ -25,12 +26,7 @@ pub faces_coming : (h : Hierarchy) (coming : Option Record) (r : Record) → com
     face_count (all_of h coming) ≡ first_face (all_of h coming) (record_count h) + one_if
     (is_some r.left) + one_if (is_some r.right)
 faces_coming h coming r is =
-    rw is (omega (
-      arith,
-      face_count-with_record h r,
-      first_face-with_record h r (record_count h)
-          (omega arith),
-    ))
+    grind (arith, common_steps, face_count-with_record, first_face-with_record)
 
 -- the parts by which a face of the coming record is judged: its place, and the words that name its
 -- neighbours

@@ -1,6 +1,6 @@
 -- The laws of fronts, each from the lemmas on its subject.
-use Rattle.std.proofs.Common.{inl, inr, sym, arith}
-use Rattle.std.proofs.lemmas.Bool.{cases_Bool}
+use Rattle.std.proofs.Common.{arith}
+use Rattle.std.proofs.lemmas.Grind.{common_steps}
 use Rattle.pm_forest.specs.Laws as law
 use Rattle.pm_forest.proofs.Ancestors.{active-ancestor, holds-ancestor_of, ancestor_of-unique, deep}
 use Rattle.pm_forest.proofs.Ancestors.{shallow, below-front}
@@ -10,21 +10,11 @@ use Rattle.pm_forest.proofs.OneStep.{collapse-under, collapse-elsewhere}
 use Rattle.pm_forest.proofs.Shown.{kept-shown}
 
 pub one_ancestor : law.EachLeafHasOneAncestor
-one_ancestor h shape T front x l = record {
-  active = active-ancestor h shape T x l;
-  held = holds-ancestor_of h shape T x l;
-  only = λ w a e. sym (ancestor_of-unique h shape T front w x a e);
-}
+one_ancestor h shape T front x l =
+    grind (arith, common_steps, active-ancestor, ancestor_of-unique, holds-ancestor_of)
 
 pub prefixes : law.FrontsHavePrefixes
-prefixes h shape T front j x l m e = (
-  deep h shape T front j x l m e,
-  λ g. elim (cases_Bool (T j)) [
-    | inl t ↦ t
-    | inr t ↦
-        (let s = shallow h shape T j x l m e t in absurd (omega arith))
-  ],
-)
+prefixes h shape T front j x l m e = grind (arith, common_steps, deep, shallow)
 
 pub splits : law.SplitsMoveTheirLeaves
 splits h shape T front k l active n = (
@@ -34,11 +24,8 @@ splits h shape T front k l active n = (
 )
 
 pub collapses : law.CollapsesMoveTheirLeaves
-collapses h shape T front k l e t u = (
-  without-front h shape T front k l e t u,
-  collapse-under h shape T front k l e t u,
-  collapse-elsewhere h shape T front k l e t u,
-)
+collapses h shape T front k l e t u =
+    grind (arith, common_steps, collapse-elsewhere, collapse-under, without-front)
 
 pub lower : law.LowerRecordsAreFronts
 lower h shape n = below-front h shape n

@@ -1,5 +1,6 @@
 -- A forest that grows, before its first unit, and when each kind of unit may come next.
 use Rattle.std.proofs.Common.{◌≡◌, ◌+◌, ◌*◌, ◌<◌, ◌≤◌, Bool, true, false, cond, List, [], length}
+use Rattle.std.proofs.lemmas.Grind.{common_steps}
 use Rattle.std.proofs.Common.{replicate, None, Some, Option, is_some, inr, refl, ap, ◌∙◌, arith}
 use Rattle.std.proofs.lemmas.List.{length-replicate}
 use Rattle.std.specs.Prelude.{IfSome}
@@ -17,11 +18,7 @@ use Rattle.pm_forest.proofs.UnitLaws.{counts_fit}
 use Rattle.pm_forest.proofs.GrowingTables.{no_tables}
 
 pub no_shape : (roots : List Root) (bases : List Face) → HasForestShape (units roots bases [] None)
-no_shape roots bases = record {
-  older = λ k l. absurd (omega arith);
-  once = λ j k a l. absurd (omega arith);
-  width = λ k l. absurd (omega arith);
-}
+no_shape roots bases = grind (arith, common_steps)
 
 pub none_coming : (coming : Option Record) → one_if (is_some coming) ≡ 0 → coming ≡ None
 none_coming None zero = refl

@@ -1,5 +1,6 @@
 -- The tables of a forest with one unit more.
 use Rattle.std.proofs.Common.{◌≡◌, ◌≢◌, ℕ, ◌+◌, ◌<◌, ◌≤◌, eqb, Bool, true, false, cond, List, []}
+use Rattle.std.proofs.lemmas.Grind.{common_steps}
 use Rattle.std.proofs.Common.{◌∷◌, ◌++◌, length, sum, get_or, set, replicate, None, Some, Option}
 use Rattle.std.proofs.Common.{is_some, inl, inr, refl, sym, ap, ◌∙◌, arith, length-set}
 use Rattle.std.proofs.lemmas.Bool.{cases_lt, cases_eq, eq-eqb, ne_eqb, le-leb, lt-leb, cond-true}
@@ -48,41 +49,15 @@ faces_none (Some n) none = absurd cc
 pub adds_face : (r : Record) (left : Bool) (n : NewFace) → is_some (cond left r.left r.right)
     ≡ false →
     (left ≡ true → is_some r.right ≡ false) → AddsFace r (with_new_face r left n) n.face
-adds_face r true n free in_order =
-    let no_left : one_if (is_some r.left) ≡ 0 = ap one_if free in
-    let no_right : one_if (is_some r.right) ≡ 0 = ap one_if (in_order refl) in
-    record {
-      node = refl;
-      width = refl;
-      faces = rw (faces_none r.left free, faces_none r.right (in_order refl)) refl;
-      total = omega arith;
-      most = omega arith;
-    }
+adds_face r true n free in_order = grind (arith, common_steps, faces_none, is_some)
 adds_face r false n free in_order =
-    let no_right : one_if (is_some r.right) ≡ 0 = ap one_if free in
-    let left_most = one_if-le (is_some r.left) in
-    record {
-      node = refl;
-      width = refl;
-      faces = rw (faces_none r.right free, append-nil (face_in r.left)) refl;
-      total = omega arith;
-      most = omega arith;
-    }
+    grind (arith, common_steps, append-nil, faces_none, is_some, one_if-le)
 
 -- the tables of no unit
 pub no_tables : (n m : ℕ)
     → AreTables (units [] [] [] None) (replicate n (0, 0)) (replicate n None) (replicate m 0) [] []
 unfolding splitter_of faces_of first_face revealed_after
-no_tables n m = record {
-  spans = λ v l. absurd (omega arith);
-  split = λ v l. get_or-replicate n v None None
-      (omega (arith, length-replicate {A = Option ℕ} n None));
-  leaves = λ x l single. absurd (omega arith);
-  faces_are = refl;
-  face_len = refl;
-  revealed_len = refl;
-  revealed_are = λ f l. refl;
-}
+no_tables n m = grind (arith, common_steps, get_or-replicate, length-replicate)
 
 module _ {intervals : List (ℕ × ℕ)} {splitters : List (Option ℕ)} {leaf_nodes : List ℕ}
     {faces : List Face} {revealed : List (Option ℕ)} where
@@ -187,10 +162,7 @@ module _ {intervals : List (ℕ × ℕ)} {splitters : List (Option ℕ)} {leaf_n
           | inr not_u ↦
               let read = get_or-set_other noted_t (node_count h + 1) v u_leaves (0, 0) not_u in
               elim (cases_eq v (t_of h n)) [
-                | inl is_t ↦
-                    let read_t =
-                    get_or-set_same intervals (node_count h) t_leaves (0, 0) (omega arith) in
-                    rw (read, is_t, read_t, interval_of-with_record_t h r) (refl, refl)
+                | inl is_t ↦ grind (arith, common_steps, get_or-set_same, interval_of-with_record_t)
                 | inr not_t ↦
                     let old : v < node_count h = omega arith in
                     let read_old =
@@ -200,11 +172,15 @@ module _ {intervals : List (ℕ × ℕ)} {splitters : List (Option ℕ)} {leaf_n
         ];
         split = λ v l. elim (cases_eq v r.s) [
           | inl is ↦
-              let splitter =
-              splitter_of-with_record h r v
-              ∙ cond-true (eqb r.s v) mark (splitter_of h v) (eq-eqb r.s v (sym is)) in
-              ap (λ y. get_or (set splitters r.s mark) y None) is
-              ∙ get_or-set_same splitters r.s mark None split_room ∙ sym splitter
+              grind (
+                arith,
+                common_steps,
+                cond-true,
+                eq-eqb,
+                get_or,
+                get_or-set_same,
+                splitter_of-with_record,
+              )
           | inr other ↦
               let differs : r.s ≢ v = λ e. other (sym e) in
               let splitter =
@@ -265,9 +241,6 @@ module _ {intervals : List (ℕ × ℕ)} {splitters : List (Option ℕ)} {leaf_n
               ∙ revealed_by-with_record h r i
               ∙ sym (revealed_by-with_record h q i)
           | inr new ↦
-              let there : face_count h ≤ i = omega arith in
-              let is = revealed_by-with_record h q i
-              ∙ cond-true _ last (revealed_by h i) (le-leb (face_count h) i there) in
-              get_or_push revealed last None i (omega arith) ∙ sym is
+              grind (arith, common_steps, cond-true, get_or_push, le-leb, revealed_by-with_record)
         ];
       }

@@ -1,5 +1,6 @@
 -- What the readers of a whole hierarchy answer.
 use Rattle.std.proofs.Common.{◌≡◌, ◌≢◌, ◌↔◌, ℕ, zero, suc, ◌+◌, ◌-◌, ◌/◌, ◌%◌, ◌<◌, ◌≤◌, List, []}
+use Rattle.std.proofs.lemmas.Grind.{common_steps}
 use Rattle.std.proofs.Common.{◌∷◌, length, get_or, All, None, Some, IfSome, inl, inr, refl, sym, ap}
 use Rattle.std.proofs.Common.{◌∙◌, arith}
 use Rattle.std.proofs.lemmas.Bool.{cases_lt, lt-ltb, le-ltb, lt-leb, le-leb, eq-eqb, ne_eqb}
@@ -72,10 +73,7 @@ module _ (h : Hierarchy) (shape : HasShape h) where
   -- A node that a record splits has two leaves or more.
   split_wide : (v k : ℕ) → splitter_of h v ≡ Some k
       → (interval_of h v).from + 1 < (interval_of h v).until
-  split_wide v k e =
-      let p = splitter_of-splits h k v e in
-      let w = (shape_of_nodes h shape).width k p.1 in
-      rw (← p.0) (omega arith)
+  split_wide v k e = grind (arith, common_steps, shape_of_nodes h shape, splitter_of-splits h k v e)
 
   -- A node that none splits is the node of its first leaf in the full front, and so has that leaf
   -- alone.
@@ -90,13 +88,7 @@ module _ (h : Hierarchy) (shape : HasShape h) where
   -- no record splits a node of one leaf, and no other node stays whole
   pub unsplit-single : (v : ℕ) → v < node_count h → (splitter_of h v ≡ None)
       ↔ IsSingle (interval_of h v)
-  unsplit-single v l = (
-    one_leaf v l,
-    λ single. elim (option_cases (splitter_of h v)) [
-      | inl none ↦ none
-      | inr (k, e) ↦ (let wide = split_wide v k e in absurd (omega arith))
-    ],
-  )
+  unsplit-single v l = grind (arith, common_steps, one_leaf, option_cases, split_wide)
 
   -- the node of a leaf has this leaf alone
   pub leaf_node-alone : (x : ℕ) → x < leaf_count h →

@@ -1,14 +1,14 @@
 -- Input numbers: no two leaves have the same one, and no two faces, so each number is that of one
 -- of them.
-use Rattle.std.proofs.Common.{◌≡◌, ◌≢◌, ℕ, zero, suc, ◌+◌, ◌-◌, ◌*◌, ◌/◌, ◌%◌, ◌<◌, ◌≤◌, eqb, ltb}
-use Rattle.std.proofs.Common.{false, not, ◌||◌, List, [], ◌∷◌, ◌++◌, length, get_or, take, drop}
+use Rattle.std.proofs.Common.{◌≡◌, ◌≢◌, ℕ, zero, suc, ◌+◌, ◌-◌, ◌*◌, ◌/◌, ◌%◌, ◌<◌, ◌≤◌, eqb}
+use Rattle.std.proofs.Common.{false, not, List, [], ◌∷◌, ◌++◌, length, get_or, take, drop}
 use Rattle.std.proofs.Common.{None, inl, inr, refl, sym, ap, ◌∙◌, arith, append_assoc}
-use Rattle.std.proofs.lemmas.Bool.{cases_lt, cases_order, eqb-false, eq-eqb, ltb-false, or_parts}
+use Rattle.std.proofs.lemmas.Bool.{cases_lt, eqb-false, eq-eqb, ltb-false, or_parts}
 use Rattle.std.proofs.lemmas.Bool.{cond-true}
 use Rattle.std.proofs.lemmas.List.{length-map, length-append, length-take-le, get_or_append_left}
 use Rattle.std.proofs.lemmas.List.{get_or-append_right, get_or_push, get_or-map, get_or-take}
 use Rattle.std.proofs.lemmas.List.{get_or_default, length_push, take-append-drop}
-use Rattle.std.proofs.lemmas.Grind.{flat_map-append}
+use Rattle.std.proofs.lemmas.Grind.{flat_map-append, common_steps}
 use Rattle.std.specs.List.{flat_map}
 use Rattle.pm_base.specs.Place.{is_place}
 use Rattle.pm_forest.specs.declared.parts.Counts.{Counts}
@@ -17,7 +17,7 @@ use Rattle.pm_forest.specs.declared.parts.Head.{Head}
 use Rattle.pm_forest.specs.declared.parts.Record.{Record}
 use Rattle.pm_forest.specs.Marks.{is_used}
 use Rattle.pm_forest.specs.Forest.{Hierarchy, no_record, record_at, record_count, node_count}
-use Rattle.pm_forest.specs.Forest.{leaf_count, widths, s_of, t_of, u_of, root_interval, interval_of}
+use Rattle.pm_forest.specs.Forest.{leaf_count, s_of, t_of, u_of, root_interval, interval_of}
 use Rattle.pm_forest.specs.Places.{no_root}
 use Rattle.pm_forest.specs.Rules.{root_inputs, child_inputs, node_inputs, vertex_input_is_bad}
 use Rattle.pm_forest.specs.Rules.{width_is_bad, root_fault, head_of, head_is_bad, children_fault}
@@ -60,21 +60,12 @@ child_inputs-u (r ∷ rs) (suc k) l = let two : 2 * suc k + 1 ≡ suc (suc (2 * 
     omega arith in rw two (child_inputs-u rs k (omega arith))
 
 pub node_inputs-length : (h : Hierarchy) → length (node_inputs h) ≡ node_count h
-node_inputs-length h =
-    omega (
-      arith,
-      length-append (root_inputs h.roots) (flat_map child_inputs h.records),
-      length-map h.roots (λ r. r.input),
-      child_inputs-length h.records,
-    )
+node_inputs-length h = grind (arith, common_steps, child_inputs-length, length-append, length-map)
 
 pub input-root : (h : Hierarchy) (v : ℕ) → v < length h.roots
     → input_of_node h v ≡ (get_or h.roots v no_root).input
 unfolding input_of_node
-input-root h v l =
-    get_or_append_left (root_inputs h.roots) (flat_map child_inputs h.records) 0 v
-    (omega (arith, length-map h.roots (λ r. r.input)))
-    ∙ get_or-map (λ (r : Root). r.input) h.roots v no_root 0 l
+input-root h v l = grind (arith, common_steps, get_or-map, get_or_append_left, length-map)
 
 pub input-t : (h : Hierarchy) (k : ℕ) → k < record_count h
     → input_of_node h (t_of h k) ≡ (record_at h k).t.input
@@ -106,18 +97,12 @@ read-root h v r l is =
 pub read-t : (h : Hierarchy) (v : ℕ) → length h.roots ≤ v → (v - length h.roots) % 2 ≡ 0
     → v < node_count h →
     (record_at h ((v - length h.roots) / 2)).t.input ≡ input_of_node h v
-read-t h v l even m =
-    let k = (v - length h.roots) / 2 in
-    let node : t_of h k ≡ v = omega arith in
-    sym (input-t h k (omega arith)) ∙ ap (input_of_node h) node
+read-t h v l even m = grind (arith, common_steps, input-t h)
 
 pub read-u : (h : Hierarchy) (v : ℕ) → length h.roots ≤ v → (v - length h.roots) % 2 ≢ 0
     → v < node_count h →
     (record_at h ((v - length h.roots) / 2)).u.input ≡ input_of_node h v
-read-u h v l odd m =
-    let k = (v - length h.roots) / 2 in
-    let node : u_of h k ≡ v = omega arith in
-    sym (input-u h k (omega arith)) ∙ ap (input_of_node h) node
+read-u h v l odd m = grind (arith, common_steps, input-u h)
 
 -- the nodes of the first k records
 inputs_of-cut : (h : Hierarchy) (k : ℕ) → node_inputs h ≡ node_inputs (cut h k)
@@ -150,11 +135,7 @@ input_fits : (leaves : ℕ) (used : List ℕ) (width input : ℕ)
     (0 < input) × (input ≤ leaves) × (is_used used input ≡ false)
 unfolding vertex_input_is_bad
 input_fits leaves used width input fits one =
-    let judged = sym (cond-true (eqb width 1) _ _ (eq-eqb width 1 one)) ∙ fits in
-    let p = or_parts (eqb input 0 || ltb leaves input) (is_used used input) judged in
-    let q = or_parts (eqb input 0) (ltb leaves input) p.0 in
-    let some = eqb-false input 0 q.0 in
-    (omega arith, ltb-false leaves input q.1, p.1)
+    grind (arith, common_steps, cond-true, eq-eqb, eqb-false, ltb-false, or_parts)
 
 root_width : (ws : List ℕ) (start v : ℕ) → v < length ws
     → (root_interval ws start v).until ≡ (root_interval ws start v).from + get_or ws v 0
@@ -175,14 +156,7 @@ children_judged : (h : Hierarchy) (d : Head) → children_fault h d ≡ None →
     × (vertex_input_is_bad (leaf_count h) (node_inputs h ++ d.t_input ∷ [])
     ((interval_of h d.s).until - (interval_of h d.s).from - d.width) d.u_input ≡ false)
 unfolding children_fault
-children_judged h d fits =
-    let wide = (interval_of h d.s).until - (interval_of h d.s).from - d.width in
-    let first = passed (vertex_input_is_bad (leaf_count h) (node_inputs h) d.width d.t_input) _ _
-    fits in (
-      first.0,
-      (passed (vertex_input_is_bad (leaf_count h) (node_inputs h ++ d.t_input ∷ []) wide
-          d.u_input) _ _ first.1).0,
-    )
+children_judged h d fits = grind (arith, common_steps, passed)
 
 module _ (h : Hierarchy) (shape : HasShape h) where
   root_fits : (v : ℕ) → v < length h.roots → IsSingle (interval_of h v) → InputFits h v
@@ -194,13 +168,7 @@ module _ (h : Hierarchy) (shape : HasShape h) where
       (get_or_default h.roots v no_root r l) in
       let judged = root_judged c (take v h.roots) r fits in
       let width : r.width ≡ 1 =
-      (let one = root_width (widths h) 0 v
-      (omega (arith, length-map h.roots (λ (q : Root). q.width))) in
-      let is = root_is h shape v l in
-      let from = ap (λ i. i.from) is in
-      let until = ap (λ i. i.until) is in
-      let read = get_or-map (λ (q : Root). q.width) h.roots v no_root 0 l in
-      omega arith) in
+      grind (arith, common_steps, get_or-map, length-map, root_is, root_width) in
       let p = input_fits (leaf_count h) (root_inputs (take v h.roots)) r.width r.input judged
       width in
       let here = input-root h v l in
@@ -210,11 +178,7 @@ module _ (h : Hierarchy) (shape : HasShape h) where
         fresh = λ w m same.
             let earlier = root_inputs (take v h.roots) in
             let len : w < length earlier =
-            omega (
-              arith,
-              length-map (take v h.roots) (λ (q : Root). q.input),
-              length-take-le v h.roots (omega arith),
-            ) in
+            grind (arith, common_steps, length-map, length-take-le) in
             let read : get_or earlier w 0 ≡ input_of_node h w =
             get_or-map (λ (q : Root). q.input) (take v h.roots) w no_root 0
             (omega (arith, length-take-le v h.roots (omega arith)))
@@ -292,15 +256,7 @@ module _ (h : Hierarchy) (shape : HasShape h) where
 
   pub node_fits : (v : ℕ) → v < node_count h → IsSingle (interval_of h v) → InputFits h v
   node_fits v l single =
-      elim (cases_lt v (length h.roots)) [
-        | inl a ↦ root_fits v a single
-        | inr a ↦
-            let (j, j_lt, makes) = has_maker h v (record_count h) a l in
-            elim makes [
-              | inl is ↦ (rw is (t_fits j j_lt (rw is at single)))
-              | inr is ↦ (rw is (u_fits j j_lt (rw is at single)))
-            ]
-      ]
+      grind (arith, common_steps, t_fits, u_fits, has_maker h v (record_count h), root_fits v)
 
   -- Leaves
 
@@ -324,11 +280,4 @@ module _ (h : Hierarchy) (shape : HasShape h) where
   -- no two leaves have the same input number
   pub leaf_input-once : (x y : ℕ) → x < leaf_count h → y < leaf_count h
       → leaf_input h x ≡ leaf_input h y → x ≡ y
-  leaf_input-once x y l m same =
-      elim (cases_order (leaf_node_of h x) (leaf_node_of h y)) [
-        | inl is ↦ leaf_node-once x y l m is
-        | inr other ↦ elim other [
-          | inl a ↦ absurd ((leaf_fits y m).fresh (leaf_node_of h x) a same)
-          | inr a ↦ absurd ((leaf_fits x l).fresh (leaf_node_of h y) a (sym same))
-        ]
-      ]
+  leaf_input-once x y l m same = grind (arith, common_steps, leaf_fits, leaf_node-once)

@@ -1,6 +1,7 @@
 -- Where two leaves below the node of a record have one ancestor, and where two: those below its two
 -- children have one until the record is split, and two from then on.
-use Rattle.std.proofs.Common.{◌≡◌, ◌≢◌, ℕ, zero, suc, ◌<◌, ◌≤◌, Bool, true, false, inl, inr, refl}
+use Rattle.std.proofs.Common.{◌≡◌, ◌≢◌, ℕ, zero, suc, ◌<◌, ◌≤◌, Bool, true, false, inl, inr}
+use Rattle.std.proofs.lemmas.Grind.{common_steps}
 use Rattle.std.proofs.Common.{sym, ◌∙◌, subst, arith}
 use Rattle.std.proofs.lemmas.Bool.{cases_eq, cases_lt, false_from_ne_true, both_ways}
 use Rattle.pm_forest.specs.Forest.{Hierarchy, record_count, leaf_count, s_of, t_of, u_of, holds}
@@ -21,18 +22,7 @@ module _ (h : Hierarchy) (shape : HasForestShape h) where
       → Holds h (t_of h k) a → Holds h (s_of h k) b → holds h (t_of h k) b ≡ false
       → ancestor_after h every (suc k) a ≢ ancestor_after h every (suc k) b
   parted k a b l la lb e f g =
-      let p = place-s h shape k a l (holds-s_from_t h shape k a l e) in
-      let q = place-s h shape k b l f in
-      elim (move h every k a) [
-        | stays c n ↦ absurd (n refl (sym p))
-        | to_t c d m r ↦
-            elim (move h every k b) [
-              | stays c' n ↦ absurd (n refl (sym q))
-              | to_t c' d' m' r' ↦ absurd (both_ways _ g m')
-              | to_u c' d' m' r' ↦ omega arith
-            ]
-        | to_u c d m r ↦ absurd (both_ways _ m e)
-      ]
+      grind (arith, common_steps, holds-s_from_t, move, place-s, stays, to_t, to_u)
 
   -- So no other record has one of them below its first child and one below its second.
   never_between : (k a b i x y : ℕ) → k < record_count h → i < record_count h → a < leaf_count h
@@ -74,28 +64,9 @@ module _ (h : Hierarchy) (shape : HasForestShape h) where
         let hb = holds-ancestor h shape T i b (omega arith) lb in
         let other : T i ≡ true → i ≢ k = λ p is. both_ways _ g (subst (λ n. T n ≡ true) is p) in
         elim (move h T i a) [
-          | stays c n ↦
-              elim (move h T i b) [
-                | stays c' n' ↦ omega arith
-                | to_t p q t d ↦ absurd (n p (q ∙ sym r))
-                | to_u p q t d ↦ absurd (n p (q ∙ sym r))
-              ]
-          | to_t p q t d ↦
-              elim (move h T i b) [
-                | stays c' n' ↦ absurd (n' p (q ∙ r))
-                | to_t p' q' t' d' ↦ omega arith
-                | to_u p' q' t' d' ↦
-                    absurd (never_between k a b i a b l m la lb la lb e f sa sb (rw q ha) (rw q' hb)
-                    t (rw q' hb) t' (other p))
-              ]
-          | to_u p q t d ↦
-              elim (move h T i b) [
-                | stays c' n' ↦ absurd (n' p (q ∙ r))
-                | to_t p' q' t' d' ↦
-                    absurd (never_between k a b i b a l m la lb lb la e f sb sa (rw q ha) (rw q' hb)
-                    t' (rw q ha) t (other p))
-                | to_u p' q' t' d' ↦ omega arith
-              ]
+          | stays c n ↦ grind (arith, common_steps, move, stays, to_t, to_u)
+          | to_t p q t d ↦ grind (arith, common_steps, move, never_between, stays, to_t, to_u)
+          | to_u p q t d ↦ grind (arith, common_steps, move, never_between, stays, to_t, to_u)
         ]
 
     pub joined : ancestor_of h T a ≡ ancestor_of h T b
@@ -123,15 +94,5 @@ module _ (h : Hierarchy) (shape : HasForestShape h) where
           let p = at_s a (holds-s_from_t h shape k a l e) in
           let q = at_s b (holds-s_from_u h shape k b l f) in
           let now : ancestor_after h T (suc k) a ≢ ancestor_after h T (suc k) b =
-          elim (move h T k a) [
-            | stays c n ↦ absurd (n g (sym p))
-            | to_t c d m r ↦
-                elim (move h T k b) [
-                  | stays c' n ↦ absurd (n g (sym q))
-                  | to_t c' d' m' r' ↦ absurd (not_both h shape k b l m' f)
-                  | to_u c' d' m' r' ↦ omega arith
-                ]
-            | to_u c d m r ↦ absurd (both_ways _ m e)
-          ]
-          in
+          grind (arith, common_steps, move, not_both, stays, to_t, to_u) in
           apart_later h shape T (suc k) (record_count h) a b l la lb now

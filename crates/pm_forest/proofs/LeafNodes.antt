@@ -1,13 +1,14 @@
 -- The table of the leaves' nodes, with one root or one record more.
 use Rattle.std.proofs.Common.{◌≡◌, ◌≢◌, ℕ, zero, suc, ◌+◌, ◌<◌, ◌≤◌, eqb, Bool, true, false, cond}
+use Rattle.std.proofs.lemmas.Grind.{common_steps}
 use Rattle.std.proofs.Common.{List, [], ◌∷◌, ◌++◌, length, sum, get_or, set, None, inl, inr, refl}
 use Rattle.std.proofs.Common.{sym, ap, subst, ◌∙◌, arith, length-set}
-use Rattle.std.proofs.lemmas.Bool.{cases_Bool, cases_lt, cases_eq, eq-eqb, ne_eqb, cond-true}
+use Rattle.std.proofs.lemmas.Bool.{eq-eqb, ne_eqb, cond-true}
 use Rattle.std.proofs.lemmas.Bool.{cond-false}
 use Rattle.std.proofs.lemmas.List.{get_or-set_same, get_or-set_other}
 use Rattle.pm_forest.specs.declared.parts.Root.{Root}
 use Rattle.pm_forest.specs.declared.parts.Record.{Record}
-use Rattle.pm_forest.specs.Forest.{Hierarchy, widths, widths_of, leaf_count, node_count, record_at}
+use Rattle.pm_forest.specs.Forest.{Hierarchy, widths, widths_of, leaf_count, node_count}
 use Rattle.pm_forest.specs.Forest.{record_count, s_of, t_of, u_of, root_interval, root_of}
 use Rattle.pm_forest.specs.Forest.{interval_after, interval_of, holds, Holds, splitter_of}
 use Rattle.pm_forest.specs.Forest.{first_part, rest, HasForestShape}
@@ -32,11 +33,7 @@ noted leaf_nodes node from until = cond (eqb until (from + 1)) (set leaf_nodes f
 pub length-noted : (leaf_nodes : List ℕ) (node from until : ℕ)
     → length (noted leaf_nodes node from until) ≡ length leaf_nodes
 length-noted leaf_nodes node from until =
-    elim (cases_Bool (eqb until (from + 1))) [
-      | inl e ↦ (rw (cond-true _ (set leaf_nodes from node) leaf_nodes e)
-          (length-set leaf_nodes from node))
-      | inr e ↦ (rw (cond-false _ (set leaf_nodes from node) leaf_nodes e) refl)
-    ]
+    grind (arith, common_steps, cond-false, cond-true, length-set)
 
 noted-single : (leaf_nodes : List ℕ) (node from until : ℕ) → until ≡ from + 1
     → from < length leaf_nodes →
@@ -48,12 +45,7 @@ noted-single leaf_nodes node from until single within =
 noted-other : (leaf_nodes : List ℕ) (node from until x : ℕ) → x ≢ from →
     get_or (noted leaf_nodes node from until) x 0 ≡ get_or leaf_nodes x 0
 noted-other leaf_nodes node from until x differs =
-    elim (cases_Bool (eqb until (from + 1))) [
-      | inl e ↦
-          let read = get_or-set_other leaf_nodes from x node 0 differs in
-          rw (cond-true _ (set leaf_nodes from node) leaf_nodes e) read
-      | inr e ↦ (rw (cond-false _ (set leaf_nodes from node) leaf_nodes e) refl)
-    ]
+    grind (arith, common_steps, cond-false, cond-true, get_or-set_other)
 
 -- One root more
 
@@ -106,10 +98,7 @@ ancestor_after-alike : (g h : Hierarchy) (T : ℕ → Bool) (k x : ℕ) → g.ro
 unfolding ancestor_after holds
 ancestor_after-alike g h T zero x roots nodes spans = rw roots refl
 ancestor_after-alike g h T (suc k) x roots nodes spans =
-    let before =
-    ancestor_after-alike g h T k x roots (λ j l. nodes j (omega arith))
-    (λ j l. spans j (omega arith)) in
-    rw (nodes k (omega arith), before, spans k (omega arith), roots) refl
+    grind (arith, common_steps, ancestor_after-alike g h T k x roots)
 
 -- where the leaves are before the last record
 leaf_node-before : (h : Hierarchy) (r : Record) (x : ℕ)
@@ -138,21 +127,17 @@ interval_after-le : (h : Hierarchy) → HasForestShape h → (k v : ℕ) → k �
 unfolding interval_after
 interval_after-le h shape zero v m l = omega (arith, root_interval-le (widths h) 0 v)
 interval_after-le h shape (suc k) v m l =
-    let s = interval_after h k (s_of h k) in
-    let older = shape.older k m in
-    let parent = interval_after-le h shape k (s_of h k) (omega arith) older in
-    let kept = interval-kept h k (record_count h) (s_of h k) (omega arith) older in
-    let fits : s.from + (record_at h k).width < s.until = rw kept at (shape.width k m).1 in
-    elim (cases_eq v (t_of h k)) [
-      | inl is ↦ (rw (eq-eqb v (t_of h k) is) (omega arith))
-      | inr not_t ↦
-          elim (cases_eq v (u_of h k)) [
-            | inl is ↦ (rw (ne_eqb v (t_of h k) not_t, eq-eqb v (u_of h k) is) parent)
-            | inr not_u ↦
-                let before = interval_after-le h shape k v (omega arith) (omega arith) in
-                rw (ne_eqb v (t_of h k) not_t, ne_eqb v (u_of h k) not_u) before
-          ]
-    ]
+    grind (
+      arith,
+      common_steps,
+      eq-eqb v (t_of h k),
+      eq-eqb v (u_of h k),
+      interval-kept h k (record_count h) (s_of h k),
+      ne_eqb v (t_of h k),
+      ne_eqb v (u_of h k),
+      interval_after-le h shape k (s_of h k),
+      interval_after-le h shape k v,
+    )
 
 pub interval_of-le : (h : Hierarchy) → HasForestShape h → (v : ℕ) → v < node_count h
     → (interval_of h v).until ≤ leaf_count h
@@ -160,12 +145,7 @@ interval_of-le h shape v l = interval_after-le h shape (record_count h) v (omega
 
 -- each node is there once all records are split
 there_every : (h : Hierarchy) (v : ℕ) → v < node_count h → IsThere h every v
-there_every h v l =
-    elim (cases_lt v (length h.roots)) [
-      | inl root ↦ inl root
-      | inr child ↦ (let (j, before, makes) = has_maker h v (record_count h) child l in
-          inr (j, before, refl, makes))
-    ]
+there_every h v l = grind (arith, common_steps, has_maker h v (record_count h))
 
 -- a node that no record splits is the node of each of its leaves
 pub leaf_node-unsplit : (h : Hierarchy) → HasForestShape h → (v x : ℕ) → v < node_count h
@@ -274,10 +254,7 @@ module _ (h : Hierarchy) (r : Record) (leaf_nodes : List ℕ) (s : Splits h r le
             let one : IsSingle (interval_of h (leaf_node_of h x)) = rw (same, interval) at single in
             let other : leaf_node_of h x ≢ r.s = λ is. n refl (node ∙ sym is ∙ sym before) in
             leaf-elsewhere x other ∙ was one ∙ sym same
-        | to_t a b c e ↦
-            let is : leaf_node_of (with_record h r) x ≡ t_of h n = count ∙ e in
-            leaf-under_t x c (subst (λ v. IsSingle (interval_of (with_record h r) v)) is single)
-            ∙ sym is
+        | to_t a b c e ↦ grind (arith, common_steps, leaf-under_t)
         | to_u a b c e ↦
             let is : leaf_node_of (with_record h r) x ≡ u_of h n = count ∙ e in
             let at_s : leaf_node_of h x ≡ r.s = sym before ∙ sym b ∙ node in

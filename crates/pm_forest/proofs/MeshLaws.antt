@@ -1,17 +1,18 @@
 -- The leaf mesh and the input mesh: their tables, and that they are well formed.
 use Rattle.std.proofs.Common.{◌≡◌, ◌≢◌, ℕ, suc, ◌+◌, ◌-◌, ◌<◌, ◌≤◌, eqb, List, length, get_or, inl}
-use Rattle.std.proofs.Common.{inr, refl, sym, ap, ◌∙◌, subst, arith, get_or-set_same}
+use Rattle.std.proofs.lemmas.Grind.{common_steps}
+use Rattle.std.proofs.Common.{inr, refl, sym, ap, ◌∙◌, arith, get_or-set_same}
 use Rattle.std.proofs.Common.{get_or-set_other}
 use Rattle.std.proofs.Math.ListN.{set}
 use Rattle.std.proofs.lemmas.Bool.{cases_Bool, cases_eq, eqb-true, eq-eqb, ne_eqb, cond-true}
-use Rattle.std.proofs.lemmas.Bool.{cond-false, both_ways}
+use Rattle.std.proofs.lemmas.Bool.{cond-false}
 use Rattle.std.proofs.lemmas.List.{length-map, get_or-map}
 use Rattle.std.proofs.lemmas.List.FromFn.{length-map-range_with_len, get_or-map-range_with_len}
 use Rattle.std.specs.Option.{unwrap_or}
 use Rattle.pm_base.specs.Sides.{find_below, no_corners}
 use Rattle.pm_base.specs.Meshes.{IsFace, IsWellFormed}
 use Rattle.pm_base.proofs.Search.{find_below-some, find_below-has, option_cases}
-use Rattle.pm_forest.specs.Forest.{Hierarchy, leaf_count, widths, s_of, t_of, u_of, root_of, holds}
+use Rattle.pm_forest.specs.Forest.{Hierarchy, leaf_count, s_of, t_of, u_of}
 use Rattle.pm_forest.specs.Forest.{Holds}
 use Rattle.pm_forest.specs.Faces.{no_face_corners, faces_of, face_count, corners_of, revealed_by}
 use Rattle.pm_forest.specs.Faces.{is_left}
@@ -36,11 +37,7 @@ abbrev pub numbered_so : (ℕ → ℕ) → ℕ → ℕ → ℕ
 numbered_so number n i = unwrap_or (find_below (λ x. eqb (number x) (i + 1)) n) 0
 
 pub numbered_so-lt : (number : ℕ → ℕ) (n i : ℕ) → i < n → numbered_so number n i < n
-numbered_so-lt number n i l =
-    elim (option_cases (find_below (λ x. eqb (number x) (i + 1)) n)) [
-      | inl none ↦ (rw none (omega arith))
-      | inr (x, found) ↦ (rw found (find_below-some (λ y. eqb (number y) (i + 1)) n x found).1)
-    ]
+numbered_so-lt number n i l = grind (arith, common_steps, find_below-some, option_cases)
 
 -- A table of all so far takes the next one.
 pub numbered_more : (number : ℕ → ℕ) (n most : ℕ) (table : List ℕ) → 0 < number n → number n ≤ most
@@ -50,11 +47,7 @@ pub numbered_more : (number : ℕ → ℕ) (n most : ℕ) (table : List ℕ) →
 numbered_more number n most table some fits len are i l =
     let next : n + 1 ≡ suc n = omega arith in
     elim (cases_eq (number n) (i + 1)) [
-      | inl is ↦
-          let place : number n - 1 ≡ i = omega arith in
-          let there : i < length table = omega arith in
-          rw (place, next) (get_or-set_same table i n 0 there
-          ∙ sym (ap (λ o. unwrap_or o 0) (cond-true _ _ _ (eq-eqb (number n) (i + 1) is))))
+      | inl is ↦ grind (arith, common_steps, cond-true, eq-eqb, get_or-set_same)
       | inr other ↦
           let place : i ≢ number n - 1 = λ e. other (omega arith) in
           rw next (get_or-set_other table (number n - 1) i n 0 place ∙ are i l
@@ -100,11 +93,7 @@ module _ (h : Hierarchy) (shape : HasShape h) where
       → ((w : ℕ) → Holds h p w → Holds h q w → ⊥) →
       ((w : ℕ) → Holds h q w → Holds h (s_of h k) w) → AreAlong h p q (s_of h k) x y z
       → (x ≢ y) × (y ≢ z) × (z ≢ x)
-  along_apart k p q x y z inside apart other a = (
-    λ e. apart x a.0 (subst (λ w. Holds h q w) (sym e) a.1),
-    λ e. both_ways (holds h (s_of h k) z) a.2 (other z (subst (λ w. Holds h q w) e a.1)),
-    λ e. both_ways (holds h (s_of h k) z) a.2 (inside z (subst (λ w. Holds h p w) (sym e) a.0)),
-  )
+  along_apart k p q x y z inside apart other a = grind (arith, common_steps)
 
   new_apart : (k p q f : ℕ) → ((w : ℕ) → Holds h p w → Holds h (s_of h k) w)
       → ((w : ℕ) → Holds h p w → Holds h q w → ⊥) →
@@ -113,16 +102,7 @@ module _ (h : Hierarchy) (shape : HasShape h) where
       ((corners_of h f).a ≢ (corners_of h f).b) × ((corners_of h f).b ≢ (corners_of h f).c)
       × ((corners_of h f).c ≢ (corners_of h f).a)
   new_apart k p q f inside apart other fits =
-      let c = corners_of h f in
-      elim (ways h p q (s_of h k) c fits.runs) [
-        | inl one ↦ along_apart k p q c.a c.b c.c inside apart other one
-        | inr later ↦ elim later [
-          | inl one ↦ (let d = along_apart k p q c.b c.c c.a inside apart other one in
-              (d.2, d.0, d.1))
-          | inr one ↦ (let d = along_apart k p q c.c c.a c.b inside apart other one in
-              (d.1, d.2, d.0))
-        ]
-      ]
+      grind (arith, common_steps, along_apart k p q, ways h p q (s_of h k))
 
   -- a face has three different leaves
   pub corners_apart : (f : ℕ) → f < face_count h →
@@ -131,10 +111,7 @@ module _ (h : Hierarchy) (shape : HasShape h) where
   corners_apart f l =
       let nodes = shape_of_nodes h shape in
       elim (option_cases (revealed_by h f)) [
-        | inl none ↦
-            let fits = base_corners h shape f l none in
-            let root = root_of (widths h) 0 in
-            (λ e. fits.ab (ap root e), λ e. fits.bc (ap root e), λ e. fits.ca (ap root e))
+        | inl none ↦ grind (arith, common_steps, base_corners)
         | inr (k, own) ↦
             let known = (revealed-parts h f k l own).0 in
             let under_t : (w : ℕ) → Holds h (t_of h k) w → Holds h (s_of h k) w =
@@ -183,23 +160,10 @@ module _ (h : Hierarchy) (shape : HasShape h) where
 
   vertex-once : (x y : ℕ) → x < leaf_count h → y < leaf_count h → x ≢ y
       → leaf_input h x - 1 ≢ leaf_input h y - 1
-  vertex-once x y l m differ e =
-      let p = some_input h shape x l in
-      let q = some_input h shape y m in
-      differ (leaf_input-once h shape x y l m (omega arith))
+  vertex-once x y l m differ e = grind (arith, common_steps, leaf_input-once, some_input)
 
   face_fits : (f : ℕ) → f < face_count h → IsFace (leaf_count h) (input_corners h (corners_of h f))
-  face_fits f l =
-      let inside = corners_in f l in
-      let apart = corners_apart f l in
-      record {
-        a = vertex_below _ inside.0;
-        b = vertex_below _ inside.1;
-        c = vertex_below _ inside.2;
-        ab = vertex-once _ _ inside.0 inside.1 apart.0;
-        bc = vertex-once _ _ inside.1 inside.2 apart.1;
-        ca = vertex-once _ _ inside.2 inside.0 apart.2;
-      }
+  face_fits f l = grind (arith, common_steps, corners_apart, corners_in, vertex-once, vertex_below)
 
   pub input_mesh_formed : IsWellFormed (input_mesh_of h)
   unfolding input_mesh_of

@@ -1,5 +1,7 @@
 -- The neighbours of a record, place by place.
 use Rattle.std.proofs.Common.{◌≡◌, List, [], ◌∷◌, ◌++◌, Option, None, Some, sym, ap, refl, ◌∙◌}
+use Rattle.std.proofs.Common.{arith}
+use Rattle.std.proofs.lemmas.Grind.{common_steps}
 use Rattle.std.proofs.Common.{append_assoc}
 use Rattle.std.proofs.lemmas.List.{append-nil}
 use Rattle.pm_base.specs.declared.ids.Side.{Side}
@@ -28,7 +30,4 @@ in_places (Some n) = ap (λ l. side_in n.first ++ l) (append-nil (side_in n.seco
 -- What stands in the places is the list of neighbours.
 pub listed_in_places : (l : List (Option Side)) (r : Record) → l ≡ neighbour_places_of r
     → sides_in l ≡ neighbours_of r
-listed_in_places l r places =
-    ap sides_in places ∙ append_sides (places_in r.left) (places_in r.right)
-    ∙ ap (λ x. x ++ sides_in (places_in r.right)) (in_places r.left)
-    ∙ ap (λ x. neighbours_in r.left ++ x) (in_places r.right)
+listed_in_places l r places = grind (arith, common_steps, append_sides, in_places)

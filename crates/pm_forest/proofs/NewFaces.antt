@@ -1,5 +1,6 @@
 -- What it means that a record's new face has no fault.
 use Rattle.std.proofs.Common.{◌≡◌, ℕ, suc, ◌+◌, ◌-◌, ◌*◌, ◌<◌, ◌≤◌, leb, ltb, Bool, true, false}
+use Rattle.std.proofs.lemmas.Grind.{common_steps}
 use Rattle.std.proofs.Common.{cond, not, ◌||◌, None, is_some, refl, sym, ap, ◌∙◌, arith}
 use Rattle.std.proofs.lemmas.Bool.{leb-false, ltb-false, or_parts, not-false}
 use Rattle.pm_base.specs.Counts.{one_if}
@@ -95,9 +96,7 @@ new_face_fits h nodes k l r node width left f first second fits =
     let is_u : interval_of g (u_of g k) ≡ interval_of h (u_of h k) =
     coming_interval h nodes k l r node width (u_of h k) (omega arith) in
     let ran = rw (number, is_s, is_t, is_u) at (not-false run w.1) in
-    let older : limit ≡ 3 * first_face h k =
-    ap (λ j. 3 * first_face g j) number
-    ∙ ap (λ m. 3 * m) (coming_first_face h nodes k l r node width) in
+    let older : limit ≡ 3 * first_face h k = grind (arith, common_steps, coming_first_face) in
     let fit_first = ltb-false limit first v.1 in
     let fit_second = ltb-false limit second q.1 in (
       record {

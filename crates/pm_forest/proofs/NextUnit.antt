@@ -1,5 +1,7 @@
 -- What the kind of the next unit says of the units so far.
 use Rattle.std.proofs.Common.{◌≡◌, ◌<◌, ◌≤◌, ltb, Bool, true, false, if◌then◌else◌, length, Option}
+use Rattle.std.proofs.Common.{arith}
+use Rattle.std.proofs.lemmas.Grind.{common_steps}
 use Rattle.std.proofs.Common.{None, Some, is_some, ◌⊎◌, inl, inr, refl}
 use Rattle.std.specs.Option.{option_map}
 use Rattle.std.proofs.lemmas.Bool.{ltb-true, ltb-false}
@@ -63,22 +65,14 @@ pub expects_root : (c : Counts) (h : Hierarchy) (coming : Option Record) (left r
     (coming ≡ None) × (length h.roots < c.roots)
 expects_root c h (Some r) true right is = absurd cc
 expects_root c h (Some r) false right is = absurd cc
-expects_root c h None left right is = (
-  refl,
-  ltb-true (length h.roots) c.roots
-      (is_root (ltb (length h.roots) c.roots) (ltb (length h.bases) c.bases)
-      (ltb (length h.records) c.records) is),
-)
+expects_root c h None left right is = grind (arith, common_steps, is_root, ltb-true)
 
 pub expects_base : (c : Counts) (h : Hierarchy) (coming : Option Record) (left right : Bool)
     → expects (seen c h coming left right) ≡ kinds.Base →
     (coming ≡ None) × (c.roots ≤ length h.roots) × (length h.bases < c.bases)
 expects_base c h (Some r) true right is = absurd cc
 expects_base c h (Some r) false right is = absurd cc
-expects_base c h None left right is =
-    let tests = is_base (ltb (length h.roots) c.roots) (ltb (length h.bases) c.bases)
-    (ltb (length h.records) c.records) is in
-    (refl, ltb-false (length h.roots) c.roots tests.0, ltb-true (length h.bases) c.bases tests.1)
+expects_base c h None left right is = grind (arith, common_steps, is_base, ltb-false, ltb-true)
 
 pub expects_head : (c : Counts) (h : Hierarchy) (coming : Option Record) (left right : Bool)
     → expects (seen c h coming left right) ≡ kinds.Head →
@@ -86,14 +80,7 @@ pub expects_head : (c : Counts) (h : Hierarchy) (coming : Option Record) (left r
     × (length h.records < c.records)
 expects_head c h (Some r) true right is = absurd cc
 expects_head c h (Some r) false right is = absurd cc
-expects_head c h None left right is =
-    let tests = is_head (ltb (length h.roots) c.roots) (ltb (length h.bases) c.bases)
-    (ltb (length h.records) c.records) is in (
-      refl,
-      ltb-false (length h.roots) c.roots tests.0,
-      ltb-false (length h.bases) c.bases tests.1,
-      ltb-true (length h.records) c.records tests.2,
-    )
+expects_head c h None left right is = grind (arith, common_steps, is_head, ltb-false, ltb-true)
 
 pub expects_nothing : (c : Counts) (h : Hierarchy) (coming : Option Record) (left right : Bool)
     → expects (seen c h coming left right) ≡ kinds.Nothing →
@@ -101,14 +88,7 @@ pub expects_nothing : (c : Counts) (h : Hierarchy) (coming : Option Record) (lef
     × (c.records ≤ length h.records)
 expects_nothing c h (Some r) true right is = absurd cc
 expects_nothing c h (Some r) false right is = absurd cc
-expects_nothing c h None left right is =
-    let tests = is_nothing (ltb (length h.roots) c.roots) (ltb (length h.bases) c.bases)
-    (ltb (length h.records) c.records) is in (
-      refl,
-      ltb-false (length h.roots) c.roots tests.0,
-      ltb-false (length h.bases) c.bases tests.1,
-      ltb-false (length h.records) c.records tests.2,
-    )
+expects_nothing c h None left right is = grind (arith, common_steps, is_nothing, ltb-false)
 
 pub expects_face : (c : Counts) (h : Hierarchy) (coming : Option Record) (left right : Bool) →
     (expects (seen c h coming left right) ≡ kinds.LeftFace)

@@ -1,10 +1,11 @@
 -- Nodes: the record that made a node, the record that splits it, and how a record deals the leaves
 -- of its node out to the two children.
-use Rattle.std.proofs.Common.{◌≡◌, ◌≢◌, ℕ, zero, suc, ◌-◌, ◌/◌, ◌%◌, ◌<◌, ◌≤◌, eqb, ltb, true}
+use Rattle.std.proofs.Common.{◌≡◌, ◌≢◌, ℕ, zero, suc, ◌-◌, ◌/◌, ◌%◌, ◌<◌, ◌≤◌, eqb, true}
+use Rattle.std.proofs.lemmas.Grind.{common_steps}
 use Rattle.std.proofs.Common.{false, Some, None, length, ◌⊎◌, inl, inr, refl, sym, ap, ◌∙◌, arith}
 use Rattle.std.proofs.lemmas.Bool.{ltb-true, ltb-false, le-ltb, leb-true, leb-false, le-leb, lt-ltb}
 use Rattle.std.proofs.lemmas.Bool.{eqb-true, eq-eqb, ne_eqb, and_parts, and_from, and_cases}
-use Rattle.std.proofs.lemmas.Bool.{cases_eq, cases_lt, cases_Bool, cond-true, cond-false}
+use Rattle.std.proofs.lemmas.Bool.{cases_eq, cases_lt, cond-true, cond-false}
 use Rattle.std.proofs.lemmas.Option.{none-some, same_Some}
 use Rattle.pm_base.proofs.Search.{find_below-some, find_below-has}
 use Rattle.pm_forest.specs.Forest.{Hierarchy, Interval, record_at, record_count, s_of, t_of, u_of}
@@ -46,14 +47,7 @@ interval-else h k v a b = rw (ne_eqb v (t_of h k) a, ne_eqb v (u_of h k) b)
 pub interval-kept : (h : Hierarchy) (k j v : ℕ) → k ≤ j → v < t_of h k
     → interval_after h j v ≡ interval_after h k v
 interval-kept h k zero v a l = let e : k ≡ 0 = omega arith in rw e
-interval-kept h k (suc j) v a l =
-    elim (cases_lt j k) [
-      | inl b ↦ (let e : k ≡ suc j = omega arith in rw e)
-      | inr b ↦
-          let n : v ≢ t_of h j = omega arith in
-          let m : v ≢ u_of h j = omega arith in
-          interval-else h j v n m ∙ interval-kept h k j v b l
-    ]
+interval-kept h k (suc j) v a l = grind (arith, common_steps, interval-else, interval-kept h k j v)
 
 module _ (h : Hierarchy) (shape : HasForestShape h) where
   pub interval_of-t : (k : ℕ) → k < record_count h
@@ -75,17 +69,11 @@ module _ (h : Hierarchy) (shape : HasForestShape h) where
   -- The leaves below s are those below its two children, each below one of them.
   pub holds-s_from_t : (k x : ℕ) → k < record_count h → Holds h (t_of h k) x → Holds h (s_of h k) x
   unfolding holds
-  holds-s_from_t k x l e =
-      let p = within-true _ x (rw (interval_of-t k l) at e) in
-      let w = shape.width k l in
-      within-from _ x (omega arith) (omega arith)
+  holds-s_from_t k x l e = grind (arith, common_steps, interval_of-t, within-from, within-true)
 
   pub holds-s_from_u : (k x : ℕ) → k < record_count h → Holds h (u_of h k) x → Holds h (s_of h k) x
   unfolding holds
-  holds-s_from_u k x l e =
-      let p = within-true _ x (rw (interval_of-u k l) at e) in
-      let w = shape.width k l in
-      within-from _ x (omega arith) (omega arith)
+  holds-s_from_u k x l e = grind (arith, common_steps, interval_of-u, within-from, within-true)
 
   pub holds-u_from_s : (k x : ℕ) → k < record_count h → Holds h (s_of h k) x
       → holds h (t_of h k) x ≡ false → Holds h (u_of h k) x
@@ -99,31 +87,16 @@ module _ (h : Hierarchy) (shape : HasForestShape h) where
 
   pub not_both : (k x : ℕ) → k < record_count h → Holds h (t_of h k) x → Holds h (u_of h k) x → ⊥
   unfolding holds
-  not_both k x l e f =
-      let p = within-true _ x (rw (interval_of-t k l) at e) in
-      let q = within-true _ x (rw (interval_of-u k l) at f) in
-      omega arith
+  not_both k x l e f = grind (arith, common_steps, interval_of-t, interval_of-u, within-true)
 
 -- Each node but the roots was made by one record.
 
 pub makes_once : (h : Hierarchy) (i j v : ℕ) → Makes h i v → Makes h j v → i ≡ j
-makes_once h i j v a b =
-    elim a [
-      | inl c ↦ elim b [ inl d ↦ omega arith | inr d ↦ omega arith ]
-      | inr c ↦ elim b [ inl d ↦ omega arith | inr d ↦ omega arith ]
-    ]
+makes_once h i j v a b = grind (arith, common_steps)
 
 -- a node is a child of a record or isn't
 pub cases_made : (h : Hierarchy) (k v : ℕ) → Makes h k v ⊎ (Makes h k v → ⊥)
-cases_made h k v =
-    elim (cases_eq v (t_of h k)) [
-      | inl a ↦ inl (inl a)
-      | inr n ↦ elim (cases_eq v (u_of h k)) [
-        | inl a ↦ inl (inr a)
-        | inr m ↦
-            inr (λ made. elim made [ inl a ↦ n a | inr a ↦ m a ])
-      ]
-    ]
+cases_made h k v = grind (arith, common_steps)
 
 pub has_maker : (h : Hierarchy) (v n : ℕ) → length h.roots ≤ v → v < t_of h n
     → (j : ℕ) × (j < n) × Makes h j v
@@ -138,36 +111,13 @@ has_maker h v n a b =
 
 pub maker_of-makes : (h : Hierarchy) (j v : ℕ) → maker_of h v ≡ Some j → Makes h j v
 maker_of-makes h j v e =
-    elim (cases_Bool (ltb v (length h.roots))) [
-      | inl a ↦ absurd
-          (none-some j (sym (cond-true _ None (Some ((v - length h.roots) / 2)) a) ∙ e))
-      | inr a ↦
-          let low = ltb-false v (length h.roots) a in
-          let is : (v - length h.roots) / 2 ≡ j =
-          same_Some _ _ (sym (cond-false _ None (Some ((v - length h.roots) / 2)) a) ∙ e) in
-          elim (cases_eq ((v - length h.roots) % 2) 0) [
-            | inl b ↦ inl (omega arith)
-            | inr b ↦
-                inr (omega arith)
-          ]
-    ]
+    grind (arith, common_steps, cond-false, cond-true, ltb-false, none-some, same_Some)
 
 pub maker_of-from : (h : Hierarchy) (j v : ℕ) → Makes h j v → maker_of h v ≡ Some j
-maker_of-from h j v makes =
-    let at_least : length h.roots ≤ v = elim makes [ inl a ↦ omega arith | inr a ↦ omega arith ] in
-    let half : (v - length h.roots) / 2 ≡ j =
-    elim makes [ inl a ↦ omega arith | inr a ↦ omega arith ] in
-    cond-false _ None (Some ((v - length h.roots) / 2)) (le-ltb v (length h.roots) at_least)
-    ∙ ap Some half
+maker_of-from h j v makes = grind (arith, common_steps, cond-false, le-ltb)
 
 pub maker_of-none : (h : Hierarchy) (v : ℕ) → maker_of h v ≡ None → v < length h.roots
-maker_of-none h v e =
-    elim (cases_Bool (ltb v (length h.roots))) [
-      | inl a ↦ ltb-true v (length h.roots) a
-      | inr a ↦ absurd
-          (none-some ((v - length h.roots) / 2)
-          (sym e ∙ cond-false _ None (Some ((v - length h.roots) / 2)) a))
-    ]
+maker_of-none h v e = grind (arith, common_steps, cond-false, ltb-true, none-some)
 
 pub maker_of-root : (h : Hierarchy) (v : ℕ) → v < length h.roots → maker_of h v ≡ None
 maker_of-root h v l =

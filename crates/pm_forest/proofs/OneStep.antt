@@ -1,6 +1,7 @@
 -- What one split and one collapse change: a front stays a front, and the leaves below the node of
 -- the record move, and no others.
 use Rattle.std.proofs.Common.{◌≡◌, ◌≢◌, ℕ, ◌<◌, Bool, true, false, ◌⊎◌, inl, inr, refl, sym, ap}
+use Rattle.std.proofs.lemmas.Grind.{common_steps}
 use Rattle.std.proofs.Common.{◌∙◌, subst, arith}
 use Rattle.std.proofs.lemmas.Bool.{eq-eqb, ne_eqb, cases_eq, cases_Bool, cases_lt, false≢true}
 use Rattle.std.proofs.lemmas.Bool.{both_ways}
@@ -24,11 +25,7 @@ with-from T k j e =
     elim (cases_eq j k) [ inl is ↦ (rw (eq-eqb j k is)) | inr n ↦ (rw (ne_eqb j k n) e) ]
 
 pub without-parts : (T : ℕ → Bool) (k j : ℕ) → without T k j ≡ true → (j ≢ k) × (T j ≡ true)
-without-parts T k j e =
-    elim (cases_eq j k) [
-      | inl is ↦ (let f = rw (eq-eqb j k is) at e in absurd (false≢true f))
-      | inr n ↦ (n, rw (ne_eqb j k n) at e)
-    ]
+without-parts T k j e = grind (arith, common_steps, eq-eqb, false≢true, ne_eqb)
 
 pub without-from : (T : ℕ → Bool) (k j : ℕ) → j ≢ k → T j ≡ true → without T k j ≡ true
 without-from T k j n e = rw (ne_eqb j k n) e
@@ -39,19 +36,7 @@ module _ (h : Hierarchy) (shape : HasForestShape h) (T : ℕ → Bool) (front : 
     pub with-front : IsFront h (with T k)
     with-front i j m e makes =
         elim (with-cases T k i e) [
-          | inl is ↦
-              elim active.0 [
-                | inl a ↦ elim makes [
-                  | inl b ↦ (let q : s_of h i ≡ s_of h k = ap (s_of h) is in
-                      absurd (omega arith))
-                  | inr b ↦ (let q : s_of h i ≡ s_of h k = ap (s_of h) is in
-                      absurd (omega arith))
-                ]
-                | inr (j', _, f, makes') ↦
-                    let same = makes_once h j' j (s_of h k) makes'
-                    (subst (λ n. Makes h j (s_of h n)) is makes) in
-                    with-from T k j (subst (λ n. T n ≡ true) same f)
-              ]
+          | inl is ↦ grind (arith, common_steps, makes_once, with-from)
           | inr f ↦ with-from T k j (front i j m f makes)
         ]
 
@@ -78,10 +63,7 @@ module _ (h : Hierarchy) (shape : HasForestShape h) (T : ℕ → Bool) (front : 
     child_active n v makes = (
       inr (k, l, with-same T k, makes),
       λ i b f q. elim (with-cases T k i f) [
-        | inl is ↦
-            let o = shape.older k l in
-            let w : s_of h i ≡ s_of h k = ap (s_of h) is in
-            elim makes [ inl c ↦ omega arith | inr c ↦ omega arith ]
+        | inl is ↦ grind (arith, common_steps)
         | inr g ↦ both_ways _ n (front i k b g (subst (Makes h k) (sym q) makes))
       ],
     )
@@ -115,14 +97,7 @@ module _ (h : Hierarchy) (shape : HasForestShape h) (T : ℕ → Bool) (front : 
         ancestor_of-unique h shape (without T k) without-front (s_of h k) x (
           elim (there-s h shape T front k l e) [
             | inl a ↦ inl a
-            | inr (j, a, b, c) ↦
-                inr (
-                  j,
-                  a,
-                  without-from T k j (λ is. let o = shape.older k l in
-                      elim c [ inl d ↦ omega arith | inr d ↦ omega arith ]) b,
-                  c,
-                )
+            | inr (j, a, b, c) ↦ grind (arith, common_steps, without-from)
           ],
           λ i b g q.
               let p = without-parts T k i g in

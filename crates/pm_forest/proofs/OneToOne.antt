@@ -1,8 +1,9 @@
 -- A function that is one to one below n and stays below n leaves no number below n out.
 use Rattle.std.proofs.Common.{◌≡◌, ℕ, zero, suc, ◌<◌, eqb, true, false, List, [], ◌∷◌, length, inl}
+use Rattle.std.proofs.lemmas.Grind.{common_steps}
 use Rattle.std.proofs.Common.{inr, refl, sym, ap, arith}
 use Rattle.std.specs.List.{IsDistinct, AllByRecursion, list_any}
-use Rattle.std.proofs.lemmas.Bool.{cases_Bool, eqb-true, eq-eqb, false≢true, or_cases, or_parts}
+use Rattle.std.proofs.lemmas.Bool.{eqb-true, eq-eqb, false≢true, or_cases, or_parts}
 use Rattle.std.proofs.lemmas.Bool.{both_ways}
 use Rattle.std.proofs.lemmas.Map.Steps.{length-le_from_distinct_below}
 use Rattle.pm_base.specs.Sides.{find_below}
@@ -21,11 +22,7 @@ length-images f (suc n) = ap suc (length-images f n)
 pub images-parts : (f : ℕ → ℕ) (n q : ℕ) → list_any (eqb q) (images f n) ≡ true
     → (x : ℕ) × (x < n) × (q ≡ f x)
 images-parts f zero q e = absurd (false≢true e)
-images-parts f (suc n) q e =
-    elim (or_cases (eqb q (f n)) (list_any (eqb q) (images f n)) e) [
-      | inl a ↦ (n, omega arith, eqb-true q (f n) a)
-      | inr a ↦ (let (x, l, is) = images-parts f n q a in (x, omega arith, is))
-    ]
+images-parts f (suc n) q e = grind (arith, common_steps, eqb-true, or_cases, images-parts f n q)
 
 none_equal : (q : ℕ) (xs : List ℕ) → list_any (eqb q) xs ≡ false
     → AllByRecursion (λ y. eqb q y ≡ false) xs
@@ -36,11 +33,7 @@ none_equal q (x ∷ xs) e = let p = or_parts (eqb q x) (list_any (eqb q) xs) e i
 pub distinct_more : (q : ℕ) (xs : List ℕ) → IsDistinct eqb xs → (list_any (eqb q) xs ≡ true → ⊥)
     → IsDistinct eqb (q ∷ xs)
 unfolding IsDistinct
-distinct_more q xs distinct fresh =
-    elim (cases_Bool (list_any (eqb q) xs)) [
-      | inl e ↦ absurd (fresh e)
-      | inr e ↦ (none_equal q xs e, distinct)
-    ]
+distinct_more q xs distinct fresh = grind (arith, common_steps, none_equal)
 
 pub distinct_nil : IsDistinct eqb []
 unfolding IsDistinct
@@ -50,11 +43,7 @@ pub images-distinct : (f : ℕ → ℕ) (n : ℕ) → ((x y : ℕ) → x < n →
     → IsDistinct eqb (images f n)
 images-distinct f zero once = distinct_nil
 images-distinct f (suc n) once =
-    distinct_more (f n) (images f n)
-    (images-distinct f n (λ x y l m e. once x y (omega arith) (omega arith) e)) (λ e.
-    let (x, l, is) = images-parts f n (f n) e in
-    let same = once n x (omega arith) (omega arith) is in
-    omega arith)
+    grind (arith, common_steps, distinct_more, images-parts, images-distinct f n)
 
 pub each_is_met : (f : ℕ → ℕ) (n : ℕ) → ((x y : ℕ) → x < n → y < n → f x ≡ f y → x ≡ y)
     → ((x : ℕ) → x < n → f x < n) →

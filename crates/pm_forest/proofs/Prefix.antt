@@ -1,6 +1,7 @@
 -- A hierarchy cut after its first records, and a hierarchy with one record more: what they share
 -- with the whole.
 use Rattle.std.proofs.Common.{◌≡◌, ◌≢◌, ℕ, zero, suc, ◌+◌, ◌<◌, ◌≤◌, eqb, leb, Bool, cond, List, []}
+use Rattle.std.proofs.lemmas.Grind.{common_steps}
 use Rattle.std.proofs.Common.{◌∷◌, ◌++◌, length, take, Some, is_some, refl, sym, ap, ◌∙◌, arith}
 use Rattle.std.proofs.Common.{append_assoc}
 use Rattle.std.proofs.lemmas.Bool.{eq-eqb, ne_eqb}
@@ -100,18 +101,10 @@ unfolding s_of
 s_of-cut h k j l = ap (λ r. r.s) (record_at-cut h k j l)
 
 cut_splits_alike : (h : Hierarchy) (k j : ℕ) → j ≤ k → SplitsAlike (cut h k) h j
-cut_splits_alike h k j l = record {
-  roots = refl;
-  node = λ i m. s_of-cut h k i (omega arith);
-  width = λ i m. ap (λ r. r.width) (record_at-cut h k i (omega arith));
-}
+cut_splits_alike h k j l = grind (arith, common_steps, record_at-cut, s_of-cut)
 
 cut_reveals_alike : (h : Hierarchy) (k j : ℕ) → j ≤ k → RevealsAlike (cut h k) h j
-cut_reveals_alike h k j l = record {
-  bases = refl;
-  left = λ i m. ap (λ r. is_some r.left) (record_at-cut h k i (omega arith));
-  right = λ i m. ap (λ r. is_some r.right) (record_at-cut h k i (omega arith));
-}
+cut_reveals_alike h k j l = grind (arith, common_steps, is_some, record_at-cut)
 
 pub interval_after-cut : (h : Hierarchy) (k j v : ℕ) → j ≤ k
     → interval_after (cut h k) j v ≡ interval_after h j v
@@ -134,11 +127,7 @@ face_count-cut h k l =
 -- the record that comes next gives the hierarchy that is cut after it
 pub cut-more : (h : Hierarchy) (k : ℕ) → k < record_count h
     → cut h (suc k) ≡ with_record (cut h k) (record_at h k)
-cut-more h k l =
-    let next : k + 1 ≡ suc k = omega arith in
-    let more : take (suc k) h.records ≡ take k h.records ++ record_at h k ∷ [] =
-    ap (λ n. take n h.records) (sym next) ∙ take_more h.records k no_record l in
-    ap (λ rs. record h { records = rs }) more
+cut-more h k l = grind (arith, common_steps, take_more)
 
 -- One record more
 
@@ -166,19 +155,12 @@ s_of-with_record_last h r = ap (λ q. q.s) (record_at-with_record_last h r)
 
 with_record_splits_alike : (h : Hierarchy) (r : Record) (k : ℕ) → k ≤ record_count h →
     SplitsAlike (with_record h r) h k
-with_record_splits_alike h r k l = record {
-  roots = refl;
-  node = λ j m. s_of-with_record h r j (omega arith);
-  width = λ j m. ap (λ q. q.width) (record_at-with_record h r j (omega arith));
-}
+with_record_splits_alike h r k l =
+    grind (arith, common_steps, record_at-with_record, s_of-with_record)
 
 with_record_reveals_alike : (h : Hierarchy) (r : Record) (k : ℕ) → k ≤ record_count h →
     RevealsAlike (with_record h r) h k
-with_record_reveals_alike h r k l = record {
-  bases = refl;
-  left = λ j m. ap (λ q. is_some q.left) (record_at-with_record h r j (omega arith));
-  right = λ j m. ap (λ q. is_some q.right) (record_at-with_record h r j (omega arith));
-}
+with_record_reveals_alike h r k l = grind (arith, common_steps, is_some, record_at-with_record)
 
 pub interval_after-with_record : (h : Hierarchy) (r : Record) (k v : ℕ) → k ≤ record_count h →
     interval_after (with_record h r) k v ≡ interval_after h k v

@@ -1,7 +1,8 @@
 -- The intervals and the leaves of roots, with one root more.
 use Rattle.std.proofs.Common.{◌≡◌, ℕ, zero, suc, ◌+◌, ◌<◌, ◌≤◌, List, [], ◌∷◌, ◌++◌, length, sum}
-use Rattle.std.proofs.Common.{refl, ap, inl, inr, arith}
-use Rattle.std.proofs.lemmas.Bool.{cases_lt, lt-ltb, le-ltb}
+use Rattle.std.proofs.lemmas.Grind.{common_steps}
+use Rattle.std.proofs.Common.{refl, arith}
+use Rattle.std.proofs.lemmas.Bool.{lt-ltb, le-ltb}
 use Rattle.std.proofs.lemmas.List.{length-map, map_push}
 use Rattle.pm_forest.specs.declared.parts.Root.{Root}
 use Rattle.pm_forest.specs.Forest.{widths_of, root_interval, root_of}
@@ -29,12 +30,7 @@ pub root_of-push : (ws : List ℕ) (w start x : ℕ) → x < start + sum ws
     → root_of (ws ++ w ∷ []) start x ≡ root_of ws start x
 root_of-push [] w start x l = rw (lt-ltb x (start + w) (omega arith)) refl
 root_of-push (u ∷ ws) w start x l =
-    elim (cases_lt x (start + u)) [
-      | inl below ↦ (rw (lt-ltb x (start + u) below) refl)
-      | inr above ↦
-          let later = root_of-push ws w (start + u) x (omega (arith, sum-cons u ws)) in
-          rw (le-ltb x (start + u) above) (ap suc later)
-    ]
+    grind (arith, common_steps, le-ltb, lt-ltb, sum-cons, root_of-push ws w (start + u) x)
 
 -- the last root's leaves come after theirs
 pub root_interval-last : (ws : List ℕ) (w start : ℕ) → let i =
@@ -49,9 +45,7 @@ pub root_of-last : (ws : List ℕ) (w start x : ℕ) → start + sum ws ≤ x �
     root_of (ws ++ w ∷ []) start x ≡ length ws
 root_of-last [] w start x above below = rw (lt-ltb x (start + w) (omega arith)) refl
 root_of-last (u ∷ ws) w start x above below =
-    let later = root_of-last ws w (start + u) x (omega (arith, sum-cons u ws))
-    (omega (arith, sum-cons u ws)) in
-    rw (le-ltb x (start + u) (omega (arith, sum-cons u ws))) (ap suc later)
+    grind (arith, common_steps, le-ltb, sum-cons, root_of-last ws w (start + u) x)
 
 -- no root has leaves past the leaves' number
 pub root_interval-le : (ws : List ℕ) (start v : ℕ)

@@ -1,8 +1,9 @@
 -- Two records that split the same node in the same way, and the shape of nodes with one record
 -- more.
-use Rattle.std.proofs.Common.{◌≡◌, ◌≢◌, ℕ, zero, suc, ◌+◌, ◌<◌, eqb, Bool, false, cond, List, []}
-use Rattle.std.proofs.Common.{◌∷◌, ◌++◌, get_or, None, Some, inl, inr, refl, sym, ap, ◌∙◌, arith}
-use Rattle.std.proofs.lemmas.Bool.{cases_Bool, cases_lt, cases_eq, eqb-false, cond-true, cond-false}
+use Rattle.std.proofs.Common.{◌≡◌, ◌≢◌, ℕ, zero, suc, ◌+◌, ◌<◌, eqb, Bool, false, List, []}
+use Rattle.std.proofs.lemmas.Grind.{common_steps}
+use Rattle.std.proofs.Common.{◌∷◌, ◌++◌, get_or, None, inl, inr, refl, sym, ap, ◌∙◌, arith}
+use Rattle.std.proofs.lemmas.Bool.{cases_lt, eqb-false, cond-true, cond-false}
 use Rattle.std.proofs.lemmas.Option.{none-some}
 use Rattle.pm_base.specs.Sides.{find_below}
 use Rattle.pm_forest.specs.declared.parts.Record.{Record}
@@ -32,11 +33,7 @@ pub interval_after-same_split : (h : Hierarchy) (r q : Record) → r.s ≡ q.s �
     → (k v : ℕ) →
     interval_after (with_record h r) k v ≡ interval_after (with_record h q) k v
 interval_after-same_split h r q node width k v =
-    interval_after-alike (with_record h r) (with_record h q) k (record {
-      roots = refl;
-      node = λ j l. s_of-same_split h r q node j;
-      width = λ j l. push_alike (λ p. p.width) h.records r q no_record j width;
-    }) v
+    grind (arith, common_steps, interval_after-alike, push_alike, s_of-same_split)
 
 record_count-same : (h : Hierarchy) (r q : Record)
     → record_count (with_record h r) ≡ record_count (with_record h q)
@@ -51,27 +48,14 @@ interval_of-same_split h r q node width v =
 
 pub splitter_of-same_split : (h : Hierarchy) (r q : Record) → r.s ≡ q.s → (v : ℕ) →
     splitter_of (with_record h r) v ≡ splitter_of (with_record h q) v
-splitter_of-same_split h r q node v =
-    splitter_of-with_record h r v
-    ∙ ap (λ s. cond (eqb s v) (Some (record_count h)) (splitter_of h v)) node
-    ∙ sym (splitter_of-with_record h q v)
+splitter_of-same_split h r q node v = grind (arith, common_steps, splitter_of-with_record)
 
 -- The shape of the nodes
 
 pub find_below-none : (p : ℕ → Bool) (n k : ℕ) → find_below p n ≡ None → k < n → p k ≡ false
 find_below-none p zero k none l = absurd (omega arith)
 find_below-none p (suc n) k none l =
-    elim (cases_Bool (p n)) [
-      | inl found ↦
-          absurd (none-some n (sym none ∙ cond-true (p n) (Some n) (find_below p n) found))
-      | inr passed ↦
-          let rest : find_below p n ≡ None =
-          sym (cond-false (p n) (Some n) (find_below p n) passed) ∙ none in
-          elim (cases_eq k n) [
-            | inl is ↦ (rw is passed)
-            | inr differs ↦ find_below-none p n k rest (omega arith)
-          ]
-    ]
+    grind (arith, common_steps, cond-false, cond-true, none-some, find_below-none p n k)
 
 -- no record splits a node that has no splitter
 pub unsplit : (h : Hierarchy) (v : ℕ) → splitter_of h v ≡ None → (k : ℕ) → k < record_count h
@@ -100,10 +84,7 @@ HasForestShape-with_record h r shape there none first rest_of =
             let earlier : j < n = omega arith in
             (rw (s_of-with_record h r j earlier, s_of-with_record h r k before)
             (shape.once j k a before))
-        | inr past ↦
-            let is : k ≡ n = omega arith in
-            let earlier : j < n = omega arith in
-            rw (is, last, s_of-with_record h r j earlier) (unsplit h r.s none j earlier)
+        | inr past ↦ grind (arith, common_steps, s_of-with_record, unsplit)
       ];
       width = λ k l. elim (cases_lt k n) [
         | inl before ↦
@@ -112,9 +93,7 @@ HasForestShape-with_record h r shape there none first rest_of =
             rw (s_of-with_record h r k before, record_at-with_record h r k before, same)
             (shape.width k before)
         | inr past ↦
-            let is : k ≡ n = omega arith in
-            rw (is, last, record_at-with_record_last h r, interval_of-with_record h r r.s there)
-            (first, rest_of)
+            grind (arith, common_steps, interval_of-with_record, record_at-with_record_last)
       ];
     }
 

@@ -1,13 +1,13 @@
 -- What the rules of shape, by which each unit is judged, say of a whole hierarchy.
 use Rattle.std.proofs.Common.{◌≡◌, ℕ, zero, suc, ◌+◌, ◌<◌, ◌≤◌, eqb, leb, true, false, cond, List}
+use Rattle.std.proofs.lemmas.Grind.{common_steps}
 use Rattle.std.proofs.Common.{[], length, get_or, All, Option, None, Some, is_some, inl, inr, refl}
-use Rattle.std.proofs.Common.{sym, ap, ◌∙◌, arith}
+use Rattle.std.proofs.Common.{sym, ◌∙◌, arith}
 use Rattle.std.proofs.lemmas.Bool.{cases_Bool, eqb-true, eq-eqb, leb-false, or_parts, and_parts}
-use Rattle.std.proofs.lemmas.Bool.{and_from, cond-true, cond-false, both_ways}
+use Rattle.std.proofs.lemmas.Bool.{and_from, cond-true, cond-false}
 use Rattle.std.proofs.lemmas.List.{get_or_default}
 use Rattle.std.proofs.lemmas.List.Elements.{All-map, All-get_or}
 use Rattle.std.proofs.lemmas.Option.{none-some}
-use Rattle.std.specs.Option.{unwrap_or}
 use Rattle.pm_base.specs.Counts.{one_if}
 use Rattle.pm_base.specs.Sides.{face_of}
 use Rattle.pm_base.proofs.Search.{some_from}
@@ -16,10 +16,10 @@ use Rattle.pm_forest.specs.declared.parts.Face.{Face}
 use Rattle.pm_forest.specs.declared.parts.NewFace.{NewFace}
 use Rattle.pm_forest.specs.Forest.{Hierarchy, no_record, record_at, record_count, widths}
 use Rattle.pm_forest.specs.Forest.{leaf_count, s_of, t_of, u_of, interval_of, Holds, HasForestShape}
-use Rattle.pm_forest.specs.Faces.{no_face_corners, no_face, corners_told_by, first_face, face_count}
+use Rattle.pm_forest.specs.Faces.{no_face_corners, first_face, face_count}
 use Rattle.pm_forest.specs.Faces.{revealed_after, revealed_by, is_left, corners_of, inner_of}
 use Rattle.pm_forest.specs.Faces.{HasFaceShape, IsForest}
-use Rattle.pm_forest.specs.Rules.{root_fault, base_is_bad, base_fault, split_is_bad, head_is_bad}
+use Rattle.pm_forest.specs.Rules.{root_fault, base_is_bad, base_fault, head_is_bad}
 use Rattle.pm_forest.specs.Rules.{head_fault, bare, left_only, with_record, head_of, new_face_fault}
 use Rattle.pm_forest.specs.Rules.{word_of, face_fault, record_fault, record_fault_after, counts_of}
 use Rattle.pm_forest.specs.Rules.{HasShape}
@@ -83,11 +83,7 @@ record_fits h shape k l =
 head_split : (h : Hierarchy) (k : ℕ) → RecordFits h k
     → SplitFits (cut h k) (record_at h k).s (record_at h k).width
 unfolding head_fault head_is_bad
-head_split h k fits =
-    let r = record_at h k in
-    let tested = (passed (head_is_bad (cut h k) (head_of r)) _ _ fits.head).0 in
-    split_fits (cut h k) r.s r.width
-    (or_parts (split_is_bad (cut h k) r.s r.width) _ (or_parts _ _ tested).0).0
+head_split h k fits = grind (arith, common_steps, cut, or_parts, passed, split_fits)
 
 -- the nodes have the shape of a forest
 pub shape_of_nodes : (h : Hierarchy) → HasShape h → HasForestShape h
@@ -96,10 +92,8 @@ shape_of_nodes h shape =
     let split : (k : ℕ) → k < record_count h
     → SplitFits (cut h k) (s_of h k) (record_at h k).width = λ k l.
     head_split h k (record_fits h shape k l) in
-    let older : (k : ℕ) → k < record_count h → s_of h k < t_of h k = λ k l.
-    let node = (split k l).node in
-    let count = record_count-cut h k (omega arith) in
-    omega arith in
+    let older : (k : ℕ) → k < record_count h → s_of h k < t_of h k =
+    grind (arith, common_steps, record_count-cut) in
     record {
       older = older;
       once = λ j k a l.
@@ -193,21 +187,13 @@ pub left_corners : (h : Hierarchy) (f k : ℕ) (n : NewFace) → revealed_by h f
     → is_left h k f ≡ true →
     (record_at h k).left ≡ Some n → corners_of h f ≡ n.face
 unfolding corners_of
-left_corners h f k n own left is =
-    ap (corners_told_by h f) own
-    ∙ ap (λ b. (cond b (unwrap_or (record_at h k).left no_face)
-    (unwrap_or (record_at h k).right no_face)).face) left
-    ∙ ap (λ o. (unwrap_or o no_face).face) is
+left_corners h f k n own left is = grind (arith, common_steps)
 
 pub right_corners : (h : Hierarchy) (f k : ℕ) (n : NewFace) → revealed_by h f ≡ Some k
     → is_left h k f ≡ false →
     (record_at h k).right ≡ Some n → corners_of h f ≡ n.face
 unfolding corners_of
-right_corners h f k n own left is =
-    ap (corners_told_by h f) own
-    ∙ ap (λ b. (cond b (unwrap_or (record_at h k).left no_face)
-    (unwrap_or (record_at h k).right no_face)).face) left
-    ∙ ap (λ o. (unwrap_or o no_face).face) is
+right_corners h f k n own left is = grind (arith, common_steps)
 
 -- the corners of a face that record k reveals
 pub new_corners : (h : Hierarchy) → HasShape h → (f k : ℕ) → f < face_count h
@@ -221,10 +207,8 @@ new_corners h shape f k l own =
           let (n, is) = some_from (record_at h k).left (left_is_there h k f left).0 in
           rw (left, left_corners h f k n own left is) (left_fits h shape k known n is).0.corners
       | inr not_left ↦
-          let is_right : is_some (record_at h k).right ≡ true = elim (which_face h f k l own) [
-            | inl a ↦ absurd (both_ways _ not_left (left_from h k f a.0 a.1))
-            | inr b ↦ b.0
-          ] in
+          let is_right : is_some (record_at h k).right ≡ true =
+          grind (arith, common_steps, left_from, which_face) in
           let (n, is) = some_from (record_at h k).right is_right in
           rw (not_left, right_corners h f k n own not_left is)
           (right_fits h shape k known n is).0.corners

@@ -1,7 +1,7 @@
 -- What a shaper keeps with each root and base face that it takes in.
 use Rattle.std.proofs.Common.{◌≡◌, ℕ, ◌+◌, ◌<◌, ◌≤◌, Bool, false, List, [], ◌∷◌, ◌++◌, length, sum}
-use Rattle.std.proofs.Common.{Option, None, inl, inr, refl, ap, ◌∙◌, subst, arith}
-use Rattle.std.proofs.lemmas.Bool.{cases_lt}
+use Rattle.std.proofs.lemmas.Grind.{common_steps}
+use Rattle.std.proofs.Common.{Option, None, ap, ◌∙◌, arith}
 use Rattle.std.proofs.lemmas.Bool.Decides.{nat_tests}
 use Rattle.std.proofs.lemmas.List.{append-nil, nil_from_length, length_push, map_push}
 use Rattle.std.proofs.lemmas.List.Sums.{sum_by_push}
@@ -29,29 +29,11 @@ pub nothing_fits : (c : Counts) (g : Grown) (vertices faces : List Bool) → cou
     IsShaping g false false vertices faces
 unfolding faces_of
 nothing_fits c g vertices faces fit is nodes_marked node_flags faces_marked face_flags =
-    rw is (record {
-      counts_fit = fit;
-      roots_fit = tt;
-      bases_fit = tt;
-      records_fit = tt;
-      coming_fits = (refl, refl);
-      roots_most = omega arith;
-      bases_most = omega arith;
-      records_most = omega arith;
-      roots_first = λ some. absurd (omega arith);
-      bases_next = λ some. absurd (omega arith);
-      nodes_marked = nodes_marked;
-      node_flags = node_flags;
-      faces_marked = faces_marked;
-      face_flags = face_flags;
-    })
+    grind (arith, common_steps)
 
 -- where a kind of units isn't complete, none that comes later is there
 not_begun : (later now all : ℕ) → (0 < later → now ≡ all) → now < all → later ≡ 0
-not_begun later now all complete lt = elim (cases_lt 0 later) [
-  | inl some ↦ (let full = complete some in absurd (omega arith))
-  | inr none ↦ omega arith
-]
+not_begun later now all complete lt = grind (arith, common_steps)
 
 no_records : (h : Hierarchy) (coming : Option Record) → coming ≡ None
     → length (all_of h coming).records ≡ 0 → h.records ≡ []
@@ -72,11 +54,7 @@ pub roots_marked : (g : Grown) (left right : Bool) (vertices faces : List Bool) 
     IsShaping g left right vertices faces → g.coming ≡ None → length g.h.roots < g.counts.roots
     → AreMarked vertices (root_inputs g.h.roots)
 roots_marked g left right vertices faces s none lt =
-    let later : length g.h.bases + length (grown g).records ≡ 0 =
-    not_begun _ _ _ s.roots_first lt in
-    let alone = no_records g.h g.coming none (omega arith) in
-    subst (AreMarked vertices) (rw (none, alone) (append-nil (root_inputs g.h.roots)))
-    s.nodes_marked
+    grind (arith, common_steps, append-nil, no_records, not_begun)
 
 root_to : (c : Counts) (roots : List Root) (left right : Bool)
     (vertices vertices' faces : List Bool) (r : Root) →
@@ -86,24 +64,7 @@ root_to : (c : Counts) (roots : List Root) (left right : Bool)
     IsShaping (without_records c (roots ++ r ∷ []) []) left right vertices' faces
 unfolding faces_of
 root_to c roots left right vertices vertices' faces r s lt fits marked flags =
-    record {
-      counts_fit = s.counts_fit;
-      roots_fit = AllFit-push (root_fault c) [] roots r s.roots_fit fits;
-      bases_fit = tt;
-      records_fit = tt;
-      coming_fits = s.coming_fits;
-      roots_most = omega (arith, length_push roots r);
-      bases_most = s.bases_most;
-      records_most = s.records_most;
-      roots_first = λ some. absurd (omega arith);
-      bases_next = λ some. absurd (omega arith);
-      nodes_marked =
-          rw (append-nil (root_inputs (roots ++ r ∷ [])), map_push (λ (x : Root). x.input) roots r)
-          marked;
-      node_flags = flags ∙ s.node_flags;
-      faces_marked = s.faces_marked;
-      face_flags = s.face_flags;
-    }
+    grind (arith, common_steps, AllFit-push, append-nil, length_push, map_push)
 
 pub root_added : (g g' : Grown) (left right : Bool) (vertices vertices' faces : List Bool)
     (r : Root) →
@@ -130,9 +91,7 @@ pub bases_marked : (g : Grown) (left right : Bool) (vertices faces : List Bool) 
     → AreMarked faces (face_inputs g.h.bases)
 unfolding faces_of
 bases_marked g left right vertices faces s none lt =
-    let alone = no_records g.h g.coming none (not_begun _ _ _ s.bases_next lt) in
-    subst (λ (l : List Face). AreMarked faces (face_inputs l))
-    (rw (none, alone) (append-nil g.h.bases)) s.faces_marked
+    grind (arith, common_steps, append-nil, no_records, not_begun)
 
 base_to : (c : Counts) (roots : List Root) (bases : List Face) (left right : Bool)
     (vertices faces faces' : List Bool) (f : Face) →
@@ -143,23 +102,7 @@ base_to : (c : Counts) (roots : List Root) (bases : List Face) (left right : Boo
     IsShaping (without_records c roots (bases ++ f ∷ [])) left right vertices faces'
 unfolding faces_of
 base_to c roots bases left right vertices faces faces' f s all lt fits marked flags =
-    record {
-      counts_fit = s.counts_fit;
-      roots_fit = s.roots_fit;
-      bases_fit = AllFit-push (base_fault roots) [] bases f s.bases_fit fits;
-      records_fit = tt;
-      coming_fits = s.coming_fits;
-      roots_most = s.roots_most;
-      bases_most = omega (arith, length_push bases f);
-      records_most = s.records_most;
-      roots_first = λ some. omega (arith, s.roots_most);
-      bases_next = λ some. absurd (omega arith);
-      nodes_marked = s.nodes_marked;
-      node_flags = s.node_flags;
-      faces_marked =
-          rw (append-nil (bases ++ f ∷ []), map_push (λ (x : Face). x.input) bases f) marked;
-      face_flags = flags ∙ s.face_flags;
-    }
+    grind (arith, common_steps, AllFit-push, append-nil, length_push, map_push)
 
 pub base_added : (g g' : Grown) (left right : Bool) (vertices faces faces' : List Bool) (f : Face) →
     IsShaping g left right vertices faces → g.coming ≡ None → g.counts.roots ≤ length g.h.roots
@@ -209,12 +152,8 @@ no_leaves c fit none = grind (arith, nat_tests)
 pub leaves_all : (c : Counts) (roots : List Root) → counts_are_bad c ≡ false
     → AllFit (root_fault c) [] roots → length roots ≡ c.roots →
     sum (widths_of roots) ≡ c.leaves
-leaves_all c roots fit fits count = elim (cases_lt 0 (length roots)) [
-  | inl some ↦ omega (arith, all_wide c [] roots (omega arith) some fits)
-  | inr none ↦
-      let nil : roots ≡ [] = nil_from_length roots (omega arith) in
-      omega (arith, ap (λ (rs : List Root). sum (widths_of rs)) nil, no_leaves c fit (omega arith))
-]
+leaves_all c roots fit fits count =
+    grind (arith, common_steps, all_wide, nil_from_length, no_leaves)
 
 pub leaves_complete : (g : Grown) (left right : Bool) (vertices faces : List Bool)
     → IsShaping g left right vertices faces →

@@ -1,5 +1,6 @@
 -- In a front the kept faces are the base faces and the faces of split records.
 use Rattle.std.proofs.Common.{◌≡◌, ◌≢◌, ◌⊎◌, ℕ, ◌+◌, ◌*◌, ◌<◌, eqb, Bool, true, false, not, ◌&&◌}
+use Rattle.std.proofs.lemmas.Grind.{common_steps}
 use Rattle.std.proofs.Common.{Option, Some, None, inl, inr, refl, sym, ap, ◌∙◌, subst, arith}
 use Rattle.std.proofs.lemmas.Bool.{eq-eqb, ne_eqb, cases_eq, cases_Bool, true≢false, and_left}
 use Rattle.std.proofs.lemmas.Bool.{and_right}
@@ -60,34 +61,18 @@ shown-parts h T e d = shown_at (record_of h e) T d
 -- With record k split too its own faces are shown, and those that were.
 pub shown_with : (h : Hierarchy) (T : ℕ → Bool) (k e : ℕ) → is_shown h T e ≡ true
     → is_shown h (with T k) e ≡ true
-shown_with h T k e s =
-    elim (shown-parts h T e s) [
-      | inl n ↦ shown_base h (with T k) e n
-      | inr (j, r, t) ↦ shown_record h (with T k) e j r ∙ with-from T k j t
-    ]
+shown_with h T k e s = grind (arith, common_steps, shown-parts, shown_base, shown_record, with-from)
 
 pub shown_with-parts : (h : Hierarchy) (T : ℕ → Bool) (k e : ℕ) → is_shown h (with T k) e ≡ true
     → (record_of h e ≡ Some k) ⊎ (is_shown h T e ≡ true)
 shown_with-parts h T k e s =
-    elim (shown-parts h (with T k) e s) [
-      | inl n ↦ inr (shown_base h T e n)
-      | inr (j, r, t) ↦
-          elim (with-cases T k j t) [
-            | inl is ↦ inl (r ∙ ap Some is)
-            | inr old ↦
-                inr (shown_record h T e j r ∙ old)
-          ]
-    ]
+    grind (arith, common_steps, shown-parts, shown_base, shown_record, with-cases)
 
 -- With record k no longer split the faces of other records stay shown, and no others.
 pub shown_without : (h : Hierarchy) (T : ℕ → Bool) (k e : ℕ) → record_of h e ≢ Some k
     → is_shown h T e ≡ true → is_shown h (without T k) e ≡ true
 shown_without h T k e n s =
-    elim (shown-parts h T e s) [
-      | inl b ↦ shown_base h (without T k) e b
-      | inr (j, r, t) ↦ shown_record h (without T k) e j r
-          ∙ without-from T k j (λ is. n (r ∙ ap Some is)) t
-    ]
+    grind (arith, common_steps, shown-parts, shown_base, shown_record, without-from)
 
 pub shown_without-parts : (h : Hierarchy) (T : ℕ → Bool) (k e : ℕ)
     → is_shown h (without T k) e ≡ true → (record_of h e ≢ Some k) × (is_shown h T e ≡ true)
@@ -122,24 +107,11 @@ module _ (h : Hierarchy) (shape : IsForest h) (T : ℕ → Bool) (front : IsFron
             let outside = third_outside h shape k (face_of e) (omega arith) r in
             let ends = inner_ends h shape k (face_of e) (omega arith) r in
             let from_s : Holds h (s_of h k) (from_leaf h i) =
-            elim ends [
-              | t_first p q ↦ holds-s_from_t h shape.forest k (from_leaf h i) k_lt p
-              | u_first p q ↦ holds-s_from_u h shape.forest k (from_leaf h i) k_lt p
-            ] in
+            grind (arith, common_steps, holds-s_from_t, holds-s_from_u, t_first, u_first) in
             let to_s : Holds h (s_of h k) (to_leaf h i) =
-            elim ends [
-              | t_first p q ↦ holds-s_from_u h shape.forest k (to_leaf h i) k_lt q
-              | u_first p q ↦ holds-s_from_t h shape.forest k (to_leaf h i) k_lt q
-            ] in
+            grind (arith, common_steps, holds-s_from_t, holds-s_from_u, t_first, u_first) in
             elim (three_sides e i (sym (inner-face h k (face_of e)))) [
-              | inl is ↦
-                  rw is (elim ends [
-                    | t_first p q ↦ apart_children h shape.forest T front k k_lt t (from_leaf h i)
-                        (to_leaf h i) f_lt g_lt p q
-                    | u_first p q ↦
-                        (λ z. apart_children h shape.forest T front k k_lt t (to_leaf h i)
-                        (from_leaf h i) g_lt f_lt q p (sym z))
-                  ])
+              | inl is ↦ grind (arith, common_steps, apart_children, t_first, u_first)
               | inr which ↦
                   elim which [
                     | inl is ↦ (λ z. apart_outside h shape.forest T front k k_lt t (to_leaf h i)
@@ -188,12 +160,6 @@ module _ (h : Hierarchy) (shape : IsForest h) (T : ℕ → Bool) (front : IsFron
             (eq-eqb (up a) (up b) (ap up (sym q) ∙ j ∙ ap (λ g. up (next g)) q ∙ ap up m)) in
             elim (cases_eq i (3 * f)) [
               | inl q ↦ and_left x (y && z) (same (3 * f) (3 * f + 1) q n0) ∙ sym s
-              | inr q ↦
-                  elim (cases_eq i (3 * f + 1)) [
-                    | inl q' ↦ and_right x (y && z)
-                        (and_left y z (same (3 * f + 1) (3 * f + 2) q' n1)) ∙ sym s
-                    | inr q' ↦ and_right x (y && z)
-                        (and_right y z (same (3 * f + 2) (3 * f) (omega arith) n2)) ∙ sym s
-                  ]
+              | inr q ↦ grind (arith, common_steps, and_left, and_right)
             ]
       ]

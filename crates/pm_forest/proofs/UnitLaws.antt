@@ -1,7 +1,8 @@
 -- What it means that a unit has no fault.
-use Rattle.std.proofs.Common.{◌≡◌, ◌≢◌, ℕ, zero, suc, ◌+◌, ◌-◌, ◌<◌, ◌≤◌, eqb, leb, ltb, Bool, true}
-use Rattle.std.proofs.Common.{false, cond, not, ◌&&◌, ◌||◌, List, [], ◌∷◌, ◌++◌, length, sum}
-use Rattle.std.proofs.Common.{get_or, take, All, Option, None, Some, is_some, refl, sym, subst}
+use Rattle.std.proofs.Common.{◌≡◌, ◌≢◌, ℕ, zero, suc, ◌+◌, ◌-◌, ◌<◌, ◌≤◌, Bool, true}
+use Rattle.std.proofs.lemmas.Grind.{common_steps}
+use Rattle.std.proofs.Common.{false, cond, List, [], ◌∷◌, ◌++◌, length, sum}
+use Rattle.std.proofs.Common.{get_or, take, All, Option, None, Some, is_some, refl, subst}
 use Rattle.std.proofs.Common.{arith, append_assoc}
 use Rattle.std.proofs.lemmas.Bool.{eqb-true, eqb-false, leb-false, ltb-false, or_parts, not-false}
 use Rattle.std.proofs.lemmas.List.{append-nil}
@@ -11,8 +12,7 @@ use Rattle.pm_forest.specs.declared.parts.Counts.{Counts}
 use Rattle.pm_forest.specs.declared.parts.Root.{Root}
 use Rattle.pm_forest.specs.declared.parts.Face.{Face}
 use Rattle.pm_forest.specs.declared.parts.Shape.{Shape}
-use Rattle.pm_forest.specs.Forest.{Hierarchy, widths_of, node_count, root_of, interval_of}
-use Rattle.pm_forest.specs.Forest.{splitter_of}
+use Rattle.pm_forest.specs.Forest.{Hierarchy, widths_of, root_of}
 use Rattle.pm_forest.specs.Rules.{counts_are_bad, width_is_bad, root_fault, base_is_bad}
 use Rattle.pm_forest.specs.Rules.{split_is_bad, first_fault_of, AllFit}
 use Rattle.pm_forest.specs.Shaping.{SplitFits}
@@ -23,11 +23,8 @@ pub AllFit-push : {X : Type 0} (fault : List X → X → Option Shape) (before x
     AllFit fault before xs → fault (before ++ xs) x ≡ None → AllFit fault before (xs ++ x ∷ [])
 AllFit-push fault before [] x all fits =
     (subst (λ (l : List _). fault l x ≡ None) (append-nil before) fits, tt)
-AllFit-push fault before (y ∷ xs) x all fits = (
-  all.0,
-  AllFit-push fault (before ++ y ∷ []) xs x all.1
-      (subst (λ (l : List _). fault l x ≡ None) (sym (append_assoc before (y ∷ []) xs)) fits),
-)
+AllFit-push fault before (y ∷ xs) x all fits =
+    grind (arith, common_steps, append_assoc, AllFit-push fault (before ++ y ∷ []) xs x all.1)
 
 -- each unit fits after those before it
 pub AllFit-at : {X : Type 0} (fault : List X → X → Option Shape) (before xs : List X) (i : ℕ)
@@ -64,26 +61,12 @@ pub counts_fit : (c : Counts) → counts_are_bad c ≡ false →
     (c.leaves ≤ 1048576) × (c.bases ≤ 1048576) × (c.roots ≤ c.leaves)
     × (c.records + c.roots ≡ c.leaves)
 unfolding counts_are_bad
-counts_fit c fit =
-    let p = or_parts (ltb 1048576 c.leaves || ltb 1048576 c.bases || ltb c.leaves c.roots ||
-    (eqb c.roots 0 && not (eqb c.leaves 0))) (not (eqb c.records (c.leaves - c.roots))) fit in
-    let q = or_parts (ltb 1048576 c.leaves || ltb 1048576 c.bases || ltb c.leaves c.roots)
-    (eqb c.roots 0 && not (eqb c.leaves 0)) p.0 in
-    let r = or_parts (ltb 1048576 c.leaves || ltb 1048576 c.bases) (ltb c.leaves c.roots) q.0 in
-    let s = or_parts (ltb 1048576 c.leaves) (ltb 1048576 c.bases) r.0 in
-    let roots = ltb-false c.leaves c.roots r.1 in
-    let records = eqb-true c.records (c.leaves - c.roots) (not-false _ p.1) in
-    (ltb-false _ _ s.0, ltb-false _ _ s.1, roots, omega arith)
+counts_fit c fit = grind (arith, common_steps, eqb-true, ltb-false, not-false, or_parts)
 
 pub width_fits : (c : Counts) (taken before width : ℕ) → width_is_bad c taken before width ≡ false
     → 0 < width
 unfolding width_is_bad
-width_fits c taken before width fits =
-    let p = or_parts (eqb width 0 || ltb c.leaves (taken + width + (c.roots - 1 - before)))
-    (eqb (before + 1) c.roots && not (eqb (taken + width) c.leaves)) fits in
-    let q = or_parts (eqb width 0) (ltb c.leaves (taken + width + (c.roots - 1 - before))) p.0 in
-    let some = eqb-false width 0 q.0 in
-    omega arith
+width_fits c taken before width fits = grind (arith, common_steps, eqb-false, or_parts)
 
 pub root_wide : (c : Counts) (before : List Root) (r : Root) → root_fault c before r ≡ None
     → 0 < r.width
@@ -103,42 +86,10 @@ pub record BaseFits (roots : List Root) (f : Face) : Type 0 where
 
 pub base_fits : (roots : List Root) (f : Face) → base_is_bad roots f ≡ false → BaseFits roots f
 unfolding base_is_bad
-base_fits roots f fits =
-    let n = sum (widths_of roots) in
-    let root = root_of (widths_of roots) 0 in
-    let p = or_parts (leb n f.a || leb n f.b || leb n f.c || eqb (root f.a) (root f.b) || eqb
-    (root f.b) (root f.c)) (eqb (root f.a) (root f.c)) fits in
-    let q = or_parts (leb n f.a || leb n f.b || leb n f.c || eqb (root f.a) (root f.b))
-    (eqb (root f.b) (root f.c)) p.0 in
-    let r = or_parts (leb n f.a || leb n f.b || leb n f.c) (eqb (root f.a) (root f.b)) q.0 in
-    let s = or_parts (leb n f.a || leb n f.b) (leb n f.c) r.0 in
-    let t = or_parts (leb n f.a) (leb n f.b) s.0 in
-    record {
-      a = leb-false n f.a t.0;
-      b = leb-false n f.b t.1;
-      c = leb-false n f.c s.1;
-      ab = eqb-false _ _ r.1;
-      bc = eqb-false _ _ q.1;
-      ca = λ e. eqb-false _ _ p.1 (sym e);
-    }
+base_fits roots f fits = grind (arith, common_steps, eqb-false, leb-false, or_parts)
 
 pub split_fits : (h : Hierarchy) (s width : ℕ) → split_is_bad h s width ≡ false
     → SplitFits h s width
 unfolding split_is_bad
 split_fits h s width fits =
-    let i = interval_of h s in
-    let p = or_parts (leb (node_count h) s || is_some (splitter_of h s) || ltb (i.until - i.from) 2
-    || eqb width 0) (leb (i.until - i.from) width) fits in
-    let q = or_parts (leb (node_count h) s || is_some (splitter_of h s) || ltb (i.until - i.from) 2)
-    (eqb width 0) p.0 in
-    let r = or_parts (leb (node_count h) s || is_some (splitter_of h s)) (ltb (i.until - i.from) 2)
-    q.0 in
-    let t = or_parts (leb (node_count h) s) (is_some (splitter_of h s)) r.0 in
-    let room = leb-false (i.until - i.from) width p.1 in
-    let first = eqb-false width 0 q.1 in
-    record {
-      node = leb-false (node_count h) s t.0;
-      unsplit = not_some (splitter_of h s) t.1;
-      first = omega arith;
-      rest = omega arith;
-    }
+    grind (arith, common_steps, eqb-false, is_some, leb-false, not_some, or_parts)

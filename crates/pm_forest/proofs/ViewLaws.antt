@@ -1,6 +1,7 @@
 -- What a view of a hierarchy of the right shape may rest on: kept faces by their records, corners,
 -- splits, and the climb to an ancestor.
 use Rattle.std.proofs.Common.{◌≡◌, ℕ, ◌+◌, ◌*◌, ◌<◌, Bool, true, false, Some, ap, ◌∙◌, arith}
+use Rattle.std.proofs.lemmas.Grind.{common_steps}
 use Rattle.pm_base.specs.Sides.{face_of}
 use Rattle.pm_forest.specs.Forest.{Hierarchy, leaf_count, s_of, maker_of}
 use Rattle.pm_forest.specs.Fronts.{IsFront, made_in, ancestor_of, every}
@@ -38,18 +39,7 @@ pub record HasCorners (h : Hierarchy) (f : ℕ) : Type 0 where
 
 pub corner_below : (h : Hierarchy) → HasShape h → (f : ℕ) → f < face_count h → HasCorners h f
 corner_below h shape f l =
-    let leaf = (shape_of_faces h shape).leaves in
-    let a = (corner_a h f).0 in
-    let b = (corner_b h f).0 in
-    let c = (corner_c h f).0 in
-    record {
-      a = a;
-      b = b;
-      c = c;
-      a_below = rw a at (leaf (3 * f) (omega arith));
-      b_below = rw b at (leaf (3 * f + 1) (omega arith));
-      c_below = rw c at (leaf (3 * f + 2) (omega arith));
-    }
+    grind (arith, common_steps, corner_a h f, corner_b h f, corner_c h f, shape_of_faces h shape)
 
 -- Fronts
 
