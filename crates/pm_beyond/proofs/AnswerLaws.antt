@@ -1,9 +1,10 @@
 -- A move has no fault exactly where it is legal, and what blocks a move.
 use Rattle.std.proofs.Common.{◌≡◌, ◌≢◌, ℕ, ◌*◌, ◌<◌, Bool, true, false, cond, not, ◌&&◌, Option}
-use Rattle.std.proofs.Common.{Some, None, List, [], ◌∷◌, ◌⊎◌, inl, inr, refl, sym, ap, ◌∙◌, subst}
+use Rattle.std.proofs.lemmas.Grind.{common_steps}
+use Rattle.std.proofs.Common.{Some, None, List, [], ◌∷◌, ◌⊎◌, refl, sym, ap, ◌∙◌, subst}
 use Rattle.std.proofs.Common.{arith}
-use Rattle.std.proofs.lemmas.Bool.{eqb-true, eq-eqb, cases_Bool, cond-true, cond-false, false≢true}
-use Rattle.std.proofs.lemmas.Bool.{both_ways, and_parts, and_from, not-true, not_from_false}
+use Rattle.std.proofs.lemmas.Bool.{eqb-true, eq-eqb, cond-true, cond-false, false≢true}
+use Rattle.std.proofs.lemmas.Bool.{and_parts, and_from, not-true, not_from_false}
 use Rattle.std.proofs.lemmas.Option.{none-some, same_Some}
 use Rattle.pm_base.specs.Sides.{face_of}
 use Rattle.pm_forest.specs.Forest.{Hierarchy, record_at, record_count, s_of, t_of, u_of}
@@ -58,16 +59,7 @@ dropped_none : (h : Hierarchy) (T : ℕ → Bool) (xs : List ℕ) → first_drop
     → In b xs → is_kept h T (face_of b) ≡ true
 dropped_none h T [] e b i = absurd (in-nil b i)
 dropped_none h T (x ∷ xs) e b i =
-    elim (cases_Bool (is_kept h T (face_of x))) [
-      | inl k ↦
-          elim (in-cases b x xs i) [
-            | inl is ↦ ap (λ y. is_kept h T (face_of y)) is ∙ k
-            | inr j ↦ dropped_none h T xs
-                (sym (cond-true _ (first_dropped h T xs) (Some (face_of x)) k) ∙ e) b j
-          ]
-      | inr k ↦ absurd
-          (none-some (face_of x) (sym e ∙ cond-false _ (first_dropped h T xs) (Some (face_of x)) k))
-    ]
+    grind (arith, common_steps, cond-false, cond-true, in-cases, none-some, dropped_none h T xs)
 
 none_dropped : (h : Hierarchy) (T : ℕ → Bool) (xs : List ℕ)
     → ((b : ℕ) → In b xs → is_kept h T (face_of b) ≡ true) → first_dropped h T xs ≡ None
@@ -80,18 +72,16 @@ some_dropped : (h : Hierarchy) (T : ℕ → Bool) (f : ℕ) (xs : List ℕ) → 
     → (b : ℕ) × In b xs × (face_of b ≡ f) × (is_kept h T f ≡ false)
 some_dropped h T f [] e = absurd (none-some f e)
 some_dropped h T f (x ∷ xs) e =
-    elim (cases_Bool (is_kept h T (face_of x))) [
-      | inl k ↦
-          let (b, i, is, d) =
-          some_dropped h T f xs (sym (cond-true _ (first_dropped h T xs) (Some (face_of x)) k)
-          ∙ e) in
-          (b, in-later b x xs i, is, d)
-      | inr k ↦
-          let is : face_of x ≡ f =
-          same_Some (face_of x) f
-          (sym (cond-false _ (first_dropped h T xs) (Some (face_of x)) k) ∙ e) in
-          (x, in-here x xs, is, ap (is_kept h T) (sym is) ∙ k)
-    ]
+    grind (
+      arith,
+      common_steps,
+      cond-false,
+      cond-true,
+      in-here,
+      in-later,
+      same_Some,
+      some_dropped h T f xs,
+    )
 
 module _ (h : Hierarchy) (valid : IsValid h) (T : ℕ → Bool) (closed : IsClosed h T) (k : ℕ)
     (l : k < record_count h) where
@@ -159,57 +149,43 @@ others_none : (h : Hierarchy) (T : ℕ → Bool) (xs : List ℕ) → ((e : ℕ) 
     → first_other h T xs ≡ None → (e : ℕ) → In e xs → beyond_of h T e ≡ expected h e
 others_none h T [] met n e i = absurd (in-nil e i)
 others_none h T (x ∷ xs) met n e i =
-    let b = same_side (beyond_of h T x) (expected h x) in
-    elim (cases_Bool b) [
-      | inl t ↦
-          elim (in-cases e x xs i) [
-            | inl is ↦ ap (beyond_of h T) is ∙ same_side-parts (beyond_of h T x) (expected h x) t
-                ∙ ap (expected h) (sym is)
-            | inr j ↦ others_none h T xs (λ g m. met g (in-later g x xs m))
-                (sym (cond-true b (first_other h T xs) (face_beyond (beyond_of h T x)) t) ∙ n) e j
-          ]
-      | inr t ↦
-          let nothing =
-          face_at-none (beyond_of h T x)
-          (sym (cond-false b (first_other h T xs) (face_beyond (beyond_of h T x)) t) ∙ n) in
-          elim (met x (in-here x xs)) [
-            | inl is ↦ absurd (both_ways _ t (same_side-from (beyond_of h T x) (expected h x) is))
-            | inr (c, q, _) ↦ absurd (none-some c (sym nothing ∙ q))
-          ]
-    ]
+    grind (
+      arith,
+      common_steps,
+      cond-false,
+      cond-true,
+      face_at-none,
+      in-cases,
+      in-here,
+      in-later,
+      none-some,
+      same_side-from,
+      same_side-parts,
+      others_none h T xs,
+    )
 
 none_other : (h : Hierarchy) (T : ℕ → Bool) (xs : List ℕ)
     → ((e : ℕ) → In e xs → beyond_of h T e ≡ expected h e) → first_other h T xs ≡ None
 none_other h T [] all = refl
 none_other h T (x ∷ xs) all =
-    cond-true _ (first_other h T xs) (face_beyond (beyond_of h T x))
-    (same_side-from (beyond_of h T x) (expected h x) (all x (in-here x xs)))
-    ∙ none_other h T xs (λ e i. all e (in-later e x xs i))
+    grind (arith, common_steps, cond-true, in-here, in-later, same_side-from, none_other h T xs)
 
 some_other : (h : Hierarchy) (T : ℕ → Bool) (f : ℕ) (xs : List ℕ) → first_other h T xs ≡ Some f
     → (e : ℕ) × (c : ℕ) × In e xs × (beyond_of h T e ≡ Some c) × (face_of c ≡ f)
     × (beyond_of h T e ≢ expected h e)
 some_other h T f [] n = absurd (none-some f n)
 some_other h T f (x ∷ xs) n =
-    let b = same_side (beyond_of h T x) (expected h x) in
-    elim (cases_Bool b) [
-      | inl t ↦
-          let (e, c, i, q, is, d) =
-          some_other h T f xs
-          (sym (cond-true b (first_other h T xs) (face_beyond (beyond_of h T x)) t) ∙ n) in
-          (e, c, in-later e x xs i, q, is, d)
-      | inr t ↦
-          let (c, q, is) =
-          face_at-some f (beyond_of h T x)
-          (sym (cond-false b (first_other h T xs) (face_beyond (beyond_of h T x)) t) ∙ n) in (
-            x,
-            c,
-            in-here x xs,
-            q,
-            is,
-            λ same. both_ways _ t (same_side-from (beyond_of h T x) (expected h x) same),
-          )
-    ]
+    grind (
+      arith,
+      common_steps,
+      cond-false,
+      cond-true,
+      face_at-some,
+      in-here,
+      in-later,
+      same_side-from,
+      some_other h T f xs,
+    )
 
 module _ (h : Hierarchy) (valid : IsValid h) (T : ℕ → Bool) (closed : IsClosed h T) (k : ℕ)
     (l : k < record_count h) where
@@ -221,15 +197,14 @@ module _ (h : Hierarchy) (valid : IsValid h) (T : ℕ → Bool) (closed : IsClos
 
   met_at : T k ≡ true → (e : ℕ) → e < 3 * face_count h → IsOuter h k e → MetAt h T e
   met_at f e m outer =
-      elim (cases_Bool (same_side (beyond_of h T e) (expected h e))) [
-        | inl t ↦ inl (same_side-parts (beyond_of h T e) (expected h e) t)
-        | inr t ↦
-            let other : beyond_of h T e ≢ expected h e =
-            λ q. both_ways _ t (same_side-from (beyond_of h T e) (expected h e) q) in
-            let (c, j, q, r, s, g) = blocked-by_greater h valid T closed k e (beyond_of h T e) l f m
-            outer (found f e m outer) other in
-            inr (c, q, λ is. other (q ∙ sym is))
-      ]
+      grind (
+        arith,
+        common_steps,
+        blocked-by_greater h valid T closed k e (beyond_of h T e) l f m outer (found f e m outer),
+        found f e m outer,
+        same_side-from (beyond_of h T e) (expected h e),
+        same_side-parts (beyond_of h T e) (expected h e),
+      )
 
   pub collapse-done : collapse_fault h T k ≡ None → MayCollapse h T k
   unfolding collapse_fault

@@ -1,6 +1,7 @@
 -- Closed sets of records: what is needed isn't collapsible, legal moves keep a set closed, and the
 -- two recorded neighbours of a face meet.
 use Rattle.std.proofs.Common.{length, ◌↔◌, ◌≡◌, ◌≢◌, ℕ, suc, ◌*◌, ◌<◌, Bool, true, false, Option}
+use Rattle.std.proofs.lemmas.Grind.{common_steps}
 use Rattle.std.proofs.Common.{Some, ◌⊎◌, inl, inr, refl, sym, ap, ◌∙◌, subst, arith}
 use Rattle.std.proofs.lemmas.Bool.{cases_lt, cases_eq, both_ways}
 use Rattle.std.proofs.lemmas.Option.{same_Some}
@@ -170,11 +171,7 @@ module _ (h : Hierarchy) (valid : IsValid h) (T : ℕ → Bool) (closed : IsClos
 
   -- What a record that may be split needs is in the set.
   present_need : (k i : ℕ) → MaySplit h T k → Needs h k i → T i ≡ true
-  present_need k i may (as_maker m) =
-      elim may.active.0 [
-        | inl a ↦ elim m [ inl q ↦ absurd (omega arith) | inr q ↦ absurd (omega arith) ]
-        | inr (j, _, f, makes) ↦ subst (λ n. T n ≡ true) (makes_once h j i (s_of h k) makes m) f
-      ]
+  present_need k i may (as_maker m) = grind (arith, common_steps, makes_once)
   present_need k i may (as_neighbour e b l outer q r) =
       sym (shown_record h T b i r)
       ∙ sym (kept_at_side h (forest_of h valid) T (closed-front h T closed) b

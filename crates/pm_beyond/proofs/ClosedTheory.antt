@@ -1,5 +1,6 @@
 -- The laws of closed sets, each from the lemmas on its subject.
 use Rattle.std.proofs.Common.{◌≡◌, true, ◌∙◌, arith}
+use Rattle.std.proofs.lemmas.Grind.{common_steps}
 use Rattle.std.proofs.lemmas.Bool.{ltb-true, lt-ltb}
 use Rattle.pm_forest.proofs.Shown.{shown_record}
 use Rattle.pm_forest.specs.Kept.{is_shown}
@@ -45,17 +46,11 @@ four_faces_enough h valid T closed k o p b l may m outer x q =
     four_faces h valid T closed k o p b l may m outer x q
 
 pub answers : law.AnswersAreExact
-answers h valid T closed k l = (
-  (split-done h valid T closed k l, split-from h valid T closed k l),
-  (collapse-done h valid T closed k l, collapse-from h valid T closed k l),
-)
+answers h valid T closed k l =
+    grind (arith, common_steps, collapse-done, collapse-from, split-done, split-from)
 
 pub blocking : law.BlockingFacesAreNamed
-blocking h valid T closed k f l = (
-  λ e. let (b, i, is, d) = split-blocked h valid T closed k l f e in
-      record { side = b; recorded = i; of_face = is; dropped = d },
-  collapse-blocked h valid T closed k l f,
-)
+blocking h valid T closed k f l = grind (arith, common_steps, collapse-blocked, split-blocked)
 
 pub decided : law.NeedsAreDecided
 decided h j k l = (needs-true h j k l, needs-from h j k)

@@ -1,5 +1,6 @@
 -- Members of a list of numbers, and lists in which no number stands twice.
-use Rattle.std.proofs.Common.{◌≡◌, ℕ, ◌++◌, eqb, true, false, Bool, List, [], ◌∷◌, ◌⊎◌, inl, inr}
+use Rattle.std.proofs.Common.{◌≡◌, ℕ, ◌++◌, eqb, true, Bool, List, [], ◌∷◌, ◌⊎◌, inl, inr, arith}
+use Rattle.std.proofs.lemmas.Grind.{common_steps}
 use Rattle.std.proofs.Common.{refl, sym, subst}
 use Rattle.std.specs.List.{AllByRecursion, list_any, All}
 use Rattle.std.proofs.lemmas.Bool.{eqb-true, eq-eqb, false≢true, or_cases, or_left, or_right}
@@ -15,12 +16,7 @@ pub in-later : (q x : ℕ) (xs : List ℕ) → In q xs → In q (x ∷ xs)
 in-later q x xs i = or_right (eqb q x) (list_any (eqb q) xs) i
 
 pub in-cases : (q x : ℕ) (xs : List ℕ) → In q (x ∷ xs) → (q ≡ x) ⊎ In q xs
-in-cases q x xs i =
-    elim (or_cases (eqb q x) (list_any (eqb q) xs) i) [
-      | inl e ↦ inl (eqb-true q x e)
-      | inr e ↦
-          inr e
-    ]
+in-cases q x xs i = grind (arith, common_steps, eqb-true, or_cases)
 
 pub in-nil : (q : ℕ) → In q [] → ⊥
 in-nil q i = false≢true i
@@ -28,18 +24,12 @@ in-nil q i = false≢true i
 pub in-append : (q : ℕ) (xs ys : List ℕ) → In q (xs ++ ys) → In q xs ⊎ In q ys
 in-append q [] ys i = inr i
 in-append q (x ∷ xs) ys i =
-    elim (in-cases q x (xs ++ ys) i) [
-      | inl is ↦ inl (or_left (eqb q x) (list_any (eqb q) xs) (eq-eqb q x is))
-      | inr e ↦ elim (in-append q xs ys e) [ inl f ↦ inl (in-later q x xs f) | inr f ↦ inr f ]
-    ]
+    grind (arith, common_steps, eq-eqb, in-cases, in-later, or_left, in-append q xs ys)
 
 pub in-append_left : (q : ℕ) (xs ys : List ℕ) → In q xs → In q (xs ++ ys)
 in-append_left q [] ys i = absurd (in-nil q i)
 in-append_left q (x ∷ xs) ys i =
-    elim (in-cases q x xs i) [
-      | inl is ↦ or_left (eqb q x) (list_any (eqb q) (xs ++ ys)) (eq-eqb q x is)
-      | inr e ↦ in-later q x (xs ++ ys) (in-append_left q xs ys e)
-    ]
+    grind (arith, common_steps, eq-eqb, in-cases, in-later, or_left, in-append_left q xs ys)
 
 pub in-append_right : (q : ℕ) (xs ys : List ℕ) → In q ys → In q (xs ++ ys)
 in-append_right q [] ys i = i
@@ -58,16 +48,9 @@ all-in P xs a q i = in-rec P xs (recursion_from_All P xs a) q i
 pub any-parts : (p : ℕ → Bool) (xs : List ℕ) → list_any p xs ≡ true
     → (e : ℕ) × In e xs × (p e ≡ true)
 any-parts p [] i = absurd (false≢true i)
-any-parts p (x ∷ xs) i =
-    elim (or_cases (p x) (list_any p xs) i) [
-      | inl t ↦ (x, in-here x xs, t)
-      | inr t ↦ (let (e, j, u) = any-parts p xs t in (e, in-later e x xs j, u))
-    ]
+any-parts p (x ∷ xs) i = grind (arith, common_steps, in-here, in-later, or_cases, any-parts p xs)
 
 pub any-from : (p : ℕ → Bool) (xs : List ℕ) (e : ℕ) → In e xs → p e ≡ true → list_any p xs ≡ true
 any-from p [] e i t = absurd (in-nil e i)
 any-from p (x ∷ xs) e i t =
-    elim (in-cases e x xs i) [
-      | inl is ↦ or_left (p x) (list_any p xs) (subst (λ y. p y ≡ true) is t)
-      | inr j ↦ or_right (p x) (list_any p xs) (any-from p xs e j t)
-    ]
+    grind (arith, common_steps, in-cases, or_left, or_right, any-from p xs e)

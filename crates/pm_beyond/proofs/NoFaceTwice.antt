@@ -1,5 +1,6 @@
 -- No walk meets a face twice.
 use Rattle.std.proofs.Common.{◌≡◌, ◌≢◌, ℕ, suc, ◌*◌, ◌<◌, ◌≤◌, eqb, Bool, true, false, Option, Some}
+use Rattle.std.proofs.lemmas.Grind.{common_steps}
 use Rattle.std.proofs.Common.{length, inl, inr, refl, sym, ap, ◌∙◌, subst, arith}
 use Rattle.std.specs.List.{IsDistinct, list_any}
 use Rattle.std.proofs.lemmas.Bool.{eqb-true, false≢true, both_ways, or_cases}
@@ -69,10 +70,7 @@ module _ (h : Hierarchy) (shape : IsForest h) (once : NoSideTwice (leaf_net h)) 
         let (c', o', f, y, v, l) = meets (face_of c) w m in
         let (k, outer, _) = across-is_outer h c' o' y in
         elim (two_outer h c o c' x k outer f) [
-          | inl is ↦
-              let same_o : o' ≡ o = same_Some o' o (sym y ∙ ap (across h) is ∙ x) in
-              let e = same_length w s v same_o s in
-              omega arith
+          | inl is ↦ grind (arith, common_steps, same_Some, same_length)
           | inr is ↦
               let same_o : o' ≡ c =
               same_Some o' c (sym y ∙ ap (across h) is ∙ across_back h c o x) in
@@ -95,9 +93,7 @@ pub no_face_twice : (h : Hierarchy) → IsForest h → NoSideTwice (leaf_net h) 
     → IsFront h T → (a : ℕ) (r : Option ℕ) → a < 3 * face_count h → is_shown h T a ≡ true
     → (w : Reaches h T a r) → StopsAt h T r → IsDistinct eqb (crossed w)
 no_face_twice h shape once T front a r l s w stops =
-    let not_self : r ≢ Some a = λ q. let e =
-    ends-carried h shape T a w q in shown-apart h shape T front a l s e.0 in
-    distinct_from h shape once T a l s w (λ _ v. v) not_self stops
+    grind (arith, common_steps, distinct_from, ends-carried, shown-apart)
 
 pub at_most_all_faces : (h : Hierarchy) → IsForest h → NoSideTwice (leaf_net h) → (T : ℕ → Bool)
     → IsFront h T → (a : ℕ) (r : Option ℕ) → a < 3 * face_count h → is_shown h T a ≡ true

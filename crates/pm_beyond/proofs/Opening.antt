@@ -1,5 +1,6 @@
 -- A hierarchy is judged from the last record down.
 use Rattle.std.proofs.Common.{◌≡◌, ◌≢◌, ℕ, zero, suc, ◌*◌, ◌<◌, ◌≤◌, Some, ◌⊎◌, inl, inr, sym, ◌∙◌}
+use Rattle.std.proofs.lemmas.Grind.{common_steps}
 use Rattle.std.proofs.Common.{subst, arith}
 use Rattle.std.proofs.lemmas.Bool.{cases_Bool, cases_eq, cases_lt, lt-ltb, both_ways}
 use Rattle.pm_base.specs.Sides.{face_of, NoSideTwice}
@@ -42,29 +43,14 @@ module _ (h : Hierarchy) (shape : HasShape h) (once : NoSideTwice (leaf_net h)) 
   pub found-told : (k : ℕ)
       → ((e : ℕ) → e < 3 * face_count h → record_of h e ≡ Some k
       → beyond_of h (below (suc k)) e ≡ expected h e) → IsAsTold h k
-  found-told k all = (
-    λ e l outer. subst (Beyond h (below (suc k)) e) (all e l outer.0) (found k e l outer.0),
-    λ e l inner. subst (Beyond h (below (suc k)) e) (all e l inner.0) (found k e l inner.0),
-  )
+  found-told k all = grind (arith, common_steps, found k)
 
   -- Side e is one of record k's and something else stands beyond it than is expected.
   abbrev Differs : ℕ → ℕ → Type 0
   Differs k e = (record_of h e ≡ Some k) × (beyond_of h (below (suc k)) e ≢ expected h e)
 
   differs? : (k e : ℕ) → Decided (Differs k e)
-  differs? k e =
-      let b = beyond_of h (below (suc k)) e in
-      elim (cases_Bool (same_side (record_of h e) (Some k))) [
-        | inr n ↦ inr (λ d. both_ways _ n (same_side-from (record_of h e) (Some k) d.0))
-        | inl own ↦
-            elim (cases_Bool (same_side b (expected h e))) [
-              | inl t ↦ inr (λ d. d.1 (same_side-parts b (expected h e) t))
-              | inr t ↦ inl (
-                same_side-parts (record_of h e) (Some k) own,
-                λ is. both_ways _ t (same_side-from b (expected h e) is),
-              )
-            ]
-      ]
+  differs? k e = grind (arith, common_steps, same_side-from, same_side-parts)
 
   told? : (k : ℕ) → Decided (IsAsTold h k)
   told? k =

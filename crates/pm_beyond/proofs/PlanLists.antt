@@ -1,11 +1,12 @@
 -- Plans as lists of moves: the moves of the numbers that pass a test, how many they are, and where
 -- they lead.
-use Rattle.std.proofs.Common.{◌≡◌, ◌≢◌, ℕ, zero, suc, ◌+◌, ◌<◌, Bool, true, false, not, List, []}
+use Rattle.std.proofs.Common.{◌≡◌, ℕ, zero, suc, ◌+◌, ◌<◌, Bool, true, false, not, List, []}
+use Rattle.std.proofs.lemmas.Grind.{common_steps}
 use Rattle.std.proofs.Common.{◌∷◌, ◌++◌, length, take, ◌⊎◌, inl, inr, refl, sym, ap, ◌∙◌, subst}
 use Rattle.std.proofs.Common.{arith}
-use Rattle.std.proofs.lemmas.Bool.{cases_Bool, cases_eq, cond-true, cond-false, both_ways}
+use Rattle.std.proofs.lemmas.Bool.{cases_Bool, cond-true, cond-false}
 use Rattle.std.proofs.lemmas.Bool.{and_parts, and_from, and_left, or_left, or_right, or_from}
-use Rattle.std.proofs.lemmas.Bool.{not-true, not_from_false, false_from_ne_true}
+use Rattle.std.proofs.lemmas.Bool.{not-true, not_from_false}
 use Rattle.std.proofs.lemmas.List.{append-nil, length-append}
 use Rattle.pm_base.specs.Counts.{count}
 use Rattle.pm_base.proofs.Counts.{count-true, count-false, count-zero}
@@ -17,12 +18,7 @@ use Rattle.pm_beyond.specs.Plans.{descending, less, differs, plan}
 
 -- Two tests of which each passes where the other does are the same.
 pub same_bools : (a b : Bool) → (a ≡ true → b ≡ true) → (b ≡ true → a ≡ true) → a ≡ b
-same_bools a b f g =
-    elim (cases_Bool a) [
-      | inl t ↦ t ∙ sym (f t)
-      | inr t ↦ t
-          ∙ sym (false_from_ne_true b (λ u. both_ways _ t (g u)))
-    ]
+same_bools a b f g = grind (arith, common_steps)
 
 -- Some moves and then some more
 
@@ -108,33 +104,23 @@ pub count-differs : (S G : ℕ → Bool) (n : ℕ) → count (less G S) n + coun
 count-differs S G zero = let a = count-zero (less G S) in let b = count-zero (less S G) in let c =
     count-zero (differs S G) in omega arith
 count-differs S G (suc n) =
-    let before = count-differs S G n in
-    elim (cases_Bool (less S G n)) [
-      | inl t ↦
-          let a = count-true (less S G) n t in
-          let b = count-false (less G S) n (less-once S G n t) in
-          let c = count-true (differs S G) n (or_left (less S G n) (less G S n) t) in
-          omega arith
-      | inr t ↦
-          let a = count-false (less S G) n t in
-          elim (cases_Bool (less G S n)) [
-            | inl u ↦ (let b = count-true (less G S) n u in let c =
-                count-true (differs S G) n (or_right (less S G n) (less G S n) u) in omega arith)
-            | inr u ↦ (let b = count-false (less G S) n u in let c =
-                count-false (differs S G) n (or_from (less S G n) (less G S n) t u) in omega arith)
-          ]
-    ]
+    grind (
+      arith,
+      common_steps,
+      count-false,
+      count-true,
+      less-once,
+      or_from,
+      or_left,
+      or_right,
+      count-differs S G n,
+    )
 
 pub length-plan : (h : Hierarchy) (S G : ℕ → Bool)
     → length (plan h S G) ≡ count (differs S G) (record_count h)
 unfolding plan
 length-plan h S G =
-    let n = record_count h in
-    let a = length-append (ascending Split (less G S) n) (descending Collapse (less S G) n) in
-    let b = length-ascending Split (less G S) n in
-    let c = length-descending Collapse (less S G) n in
-    let d = count-differs S G n in
-    omega arith
+    grind (arith, common_steps, count-differs, length-append, length-ascending, length-descending)
 
 -- Where the moves lead
 
@@ -156,123 +142,29 @@ module _ (S G : ℕ → Bool) where
     pub all : (j : ℕ) → j < top → Keeps n j → T j ≡ true
 
   pub rise-split : (n : ℕ) (T : ℕ → Bool) → Rises n T → less G S n ≡ true → Rises (suc n) (with T n)
-  rise-split n T r e =
-      let p = less-parts G S n e in
-      record {
-        only = λ j t. elim (with-cases T n j t) [
-          | inl is ↦ inr (subst (λ i. G i ≡ true) (sym is) p.0, omega arith)
-          | inr u ↦ elim (r.only j u) [
-            | inl s ↦ inl s
-            | inr g ↦
-                (let l = g.1 in inr (g.0, omega arith))
-          ]
-        ];
-        all = λ j has. elim (cases_eq j n) [
-          | inl is ↦ subst (λ i. with T n i ≡ true) (sym is) (with-same T n)
-          | inr other ↦
-              with-from T n j
-              (r.all j (elim has [
-                | inl s ↦ inl s
-                | inr g ↦
-                    (let l = g.1 in inr (g.0, omega arith))
-              ]))
-        ];
-      }
+  rise-split n T r e = grind (arith, common_steps, less-parts, with-cases, with-from, with-same)
 
   pub rise-skip : (n : ℕ) (T : ℕ → Bool) → Rises n T → less G S n ≡ false → Rises (suc n) T
-  rise-skip n T r e = record {
-    only = λ j t. elim (r.only j t) [
-      | inl s ↦ inl s
-      | inr g ↦
-          (let l = g.1 in inr (g.0, omega arith))
-    ];
-    all = λ j has. elim has [
-      | inl s ↦ r.all j (inl s)
-      | inr g ↦
-          let l = g.1 in
-          elim (cases_eq j n) [
-            | inr other ↦ r.all j (inr (g.0, omega arith))
-            | inl is ↦
-                elim (cases_Bool (S j)) [
-                  | inl s ↦ r.all j (inl s)
-                  | inr s ↦ absurd
-                      (both_ways _ (subst (λ i. less G S i ≡ false) (sym is) e)
-                      (and_from (G j) (not (S j)) g.0 (not_from_false (S j) s)))
-                ]
-          ]
-    ];
-  }
+  rise-skip n T r e = grind (arith, common_steps, and_from, not_from_false)
 
   pub fall-collapse : (top n : ℕ) (T : ℕ → Bool) → Falls top (suc n) T → less S G n ≡ true
       → Falls top n (without T n)
-  fall-collapse top n T f e =
-      let p = less-parts S G n e in
-      record {
-        only = λ j l t.
-            let q = without-parts T n j t in
-            let other = q.0 in
-            elim (f.only j l q.1) [
-              | inl g ↦ inl g
-              | inr s ↦
-                  (let m = s.1 in inr (s.0, omega arith))
-            ];
-        all = λ j l keeps.
-            let other : j ≢ n = λ is. elim keeps [
-              | inl g ↦ both_ways _ p.1 (subst (λ i. G i ≡ true) is g)
-              | inr s ↦ (let m = s.1 in omega arith)
-            ] in
-            without-from T n j other
-            (f.all j l (elim keeps [
-              | inl g ↦ inl g
-              | inr s ↦
-                  (let m = s.1 in inr (s.0, omega arith))
-            ]));
-      }
+  fall-collapse top n T f e = grind (arith, common_steps, less-parts, without-from, without-parts)
 
   pub fall-skip : (top n : ℕ) (T : ℕ → Bool) → Falls top (suc n) T → less S G n ≡ false
       → Falls top n T
-  fall-skip top n T f e = record {
-    only = λ j l t. elim (f.only j l t) [
-      | inl g ↦ inl g
-      | inr s ↦
-          let m = s.1 in
-          elim (cases_eq j n) [
-            | inr other ↦ inr (s.0, omega arith)
-            | inl is ↦
-                elim (cases_Bool (G j)) [
-                  | inl g ↦ inl g
-                  | inr g ↦ absurd
-                      (both_ways _ (subst (λ i. less S G i ≡ false) (sym is) e)
-                      (and_from (S j) (not (G j)) s.0 (not_from_false (G j) g)))
-                ]
-          ]
-    ];
-    all = λ j l keeps. f.all j l
-        (elim keeps [ inl g ↦ inl g | inr s ↦ (let m = s.1 in inr (s.0, omega arith)) ]);
-  }
+  fall-skip top n T f e = grind (arith, common_steps, and_from, not_from_false)
 
   pub turn : (top : ℕ) (T : ℕ → Bool) → Rises top T → Falls top top T
-  turn top T r = record {
-    only = λ j l t. elim (r.only j t) [ inl s ↦ inr (s, l) | inr g ↦ inl g.0 ];
-    all = λ j l keeps. r.all j (elim keeps [ inl g ↦ inr (g, l) | inr s ↦ inl s.0 ]);
-  }
+  turn top T r = grind (arith, common_steps)
 
   -- The splits lead from S to S with all of G,
   pub rises : (n : ℕ) → Rises n (moved_by S (ascending Split (less G S) n))
-  rises zero =
-      rw (ascending-zero Split (less G S))
-      (record {
-        only = λ j t. inl t;
-        all =
-            λ j has. elim has [ inl s ↦ s | inr g ↦ (let l = g.1 in absurd (omega arith)) ];
-      })
+  rises zero = grind (arith, common_steps, ascending-zero)
   rises (suc n) =
       let before = ascending Split (less G S) n in
       elim (cases_Bool (less G S n)) [
-        | inl t ↦
-            subst (Rises (suc n)) (sym (moved_by-append S before (Split n ∷ []))
-            ∙ ap (moved_by S) (sym (ascending-true Split (less G S) n t)))
-            (rise-split n (moved_by S before) (rises n) t)
+        | inl t ↦ grind (arith, common_steps, ascending-true, moved_by-append, rise-split, rises n)
         | inr t ↦ subst (Rises (suc n))
             (ap (moved_by S) (sym (ascending-false Split (less G S) n t)))
             (rise-skip n (moved_by S before) (rises n) t)
@@ -281,11 +173,7 @@ module _ (S G : ℕ → Bool) where
   -- and the collapses from there to G.
   pub falls : (top n : ℕ) (T : ℕ → Bool) → Falls top n T → (j : ℕ) → j < top
       → moved_by T (descending Collapse (less S G) n) j ≡ G j
-  falls top zero T f j l =
-      ap (λ ms. moved_by T ms j) (descending-zero Collapse (less S G))
-      ∙ same_bools (T j) (G j)
-      (λ t. elim (f.only j l t) [ inl g ↦ g | inr s ↦ (let m = s.1 in absurd (omega arith)) ])
-      (λ g. f.all j l (inl g))
+  falls top zero T f j l = grind (arith, common_steps, descending-zero, same_bools)
   falls top (suc n) T f j l =
       elim (cases_Bool (less S G n)) [
         | inl t ↦ ap (λ ms. moved_by T ms j) (descending-true Collapse (less S G) n t)
@@ -296,8 +184,4 @@ module _ (S G : ℕ → Bool) where
 
   pub leads : (h : Hierarchy) → (k : ℕ) → k < record_count h → moved_by S (plan h S G) k ≡ G k
   unfolding plan
-  leads h k l =
-      let n = record_count h in
-      let up = ascending Split (less G S) n in
-      ap (λ (T : ℕ → Bool). T k) (moved_by-append S up (descending Collapse (less S G) n))
-      ∙ falls n n (moved_by S up) (turn n (moved_by S up) (rises n)) k l
+  leads h k l = grind (arith, common_steps, falls, moved_by-append, rises, turn)

@@ -1,5 +1,6 @@
 -- After its first move a plan is the rest of itself.
 use Rattle.std.proofs.Common.{◌≡◌, ◌≢◌, ℕ, zero, suc, ◌<◌, Bool, true, false, not, List, [], ◌∷◌}
+use Rattle.std.proofs.lemmas.Grind.{common_steps}
 use Rattle.std.proofs.Common.{◌++◌, drop, take, ◌⊎◌, inl, inr, refl, sym, ap, ◌∙◌, subst, arith}
 use Rattle.std.proofs.lemmas.Bool.{cases_Bool, cases_eq, and_left, and_right, not_from_true}
 use Rattle.std.proofs.lemmas.Bool.{cond-true, cond-false, eq-eqb, ne_eqb}
@@ -27,27 +28,13 @@ module _ (make : ℕ → Move) (p q : ℕ → Bool) where
       → ascending make p n ≡ ascending make q n
   ascending-same zero same = ascending-zero make p ∙ sym (ascending-zero make q)
   ascending-same (suc n) same =
-      let before = ascending-same n (λ j l. same j (omega arith)) in
-      let here = same n (omega arith) in
-      elim (cases_Bool (p n)) [
-        | inl t ↦ ascending-true make p n t ∙ ap (λ ms. ms ++ make n ∷ []) before
-            ∙ sym (ascending-true make q n (sym here ∙ t))
-        | inr t ↦ ascending-false make p n t ∙ before
-            ∙ sym (ascending-false make q n (sym here ∙ t))
-      ]
+      grind (arith, common_steps, ascending-false, ascending-true, ascending-same n)
 
   pub descending-same : (n : ℕ) → ((j : ℕ) → j < n → p j ≡ q j)
       → descending make p n ≡ descending make q n
   descending-same zero same = descending-zero make p ∙ sym (descending-zero make q)
   descending-same (suc n) same =
-      let before = descending-same n (λ j l. same j (omega arith)) in
-      let here = same n (omega arith) in
-      elim (cases_Bool (p n)) [
-        | inl t ↦ descending-true make p n t ∙ ap (λ ms. make n ∷ ms) before
-            ∙ sym (descending-true make q n (sym here ∙ t))
-        | inr t ↦ descending-false make p n t ∙ before
-            ∙ sym (descending-false make q n (sym here ∙ t))
-      ]
+      grind (arith, common_steps, descending-false, descending-true, descending-same n)
 
 -- The number of the first move, and the moves without it.
 record IsFirst (part : (ℕ → Bool) → ℕ → List Move) (make : ℕ → Move) (p : ℕ → Bool) (n : ℕ)
@@ -83,52 +70,34 @@ module _ (make : ℕ → Move) (p : ℕ → Bool) where
   first_ascending (suc n) m ms e =
       elim (cases_Bool (p n)) [
         | inr t ↦
-            let r = first_ascending n m ms (sym (ascending-false make p n t) ∙ e) in
-            let low = r.low in
-            let other : n ≢ r.number = omega arith in
-            record {
-              number = r.number;
-              low = omega arith;
-              passes = r.passes;
-              move = r.move;
-              others = ascending-false make (without p r.number) n (without-other p r.number n other
-                  ∙ t) ∙ r.others;
-            }
+            grind (
+              arith,
+              common_steps,
+              ascending-false,
+              without-other,
+              first_ascending n m ms (sym (ascending-false make p n t) ∙ e),
+            )
         | inl t ↦
             let all : ascending make p n ++ make n ∷ [] ≡ m ∷ ms =
             sym (ascending-true make p n t) ∙ e in
             elim (list_cases (ascending make p n)) [
               | inl none ↦
-                  let one : make n ∷ [] ≡ m ∷ ms = ap (λ xs. xs ++ make n ∷ []) (sym none) ∙ all in
-                  record {
-                    number = n;
-                    low = omega arith;
-                    passes = t;
-                    move = ap (head m) (sym one);
-                    others =
-                        ascending-false make (without p n) n (without-same p n)
-                        ∙ ascending-same make (without p n) p n
-                        (λ j l. without-other p n j (omega arith))
-                        ∙ none
-                        ∙ ap tail one;
-                  }
+                  grind (
+                    arith,
+                    common_steps,
+                    ascending-false,
+                    ascending-same,
+                    without-other,
+                    without-same,
+                  )
               | inr (x, xs, is) ↦
-                  let both : x ∷ (xs ++ make n ∷ []) ≡ m ∷ ms =
-                  ap (λ ys. ys ++ make n ∷ []) (sym is) ∙ all in
-                  let r = first_ascending n x xs is in
-                  let low = r.low in
-                  let other : n ≢ r.number = omega arith in
-                  record {
-                    number = r.number;
-                    low = omega arith;
-                    passes = r.passes;
-                    move = ap (head m) (sym both) ∙ r.move;
-                    others =
-                        ascending-true make (without p r.number) n (without-other p r.number n other
-                        ∙ t)
-                        ∙ ap (λ ys. ys ++ make n ∷ []) r.others
-                        ∙ ap tail both;
-                  }
+                  grind (
+                    arith,
+                    common_steps,
+                    ascending-true,
+                    without-other,
+                    first_ascending n x xs is,
+                  )
             ]
       ]
 
@@ -138,31 +107,23 @@ module _ (make : ℕ → Move) (p : ℕ → Bool) where
   first_descending (suc n) m ms e =
       elim (cases_Bool (p n)) [
         | inr t ↦
-            let r = first_descending n m ms (sym (descending-false make p n t) ∙ e) in
-            let low = r.low in
-            let other : n ≢ r.number = omega arith in
-            record {
-              number = r.number;
-              low = omega arith;
-              passes = r.passes;
-              move = r.move;
-              others = descending-false make (without p r.number) n
-                  (without-other p r.number n other ∙ t) ∙ r.others;
-            }
+            grind (
+              arith,
+              common_steps,
+              descending-false,
+              without-other,
+              first_descending n m ms (sym (descending-false make p n t) ∙ e),
+            )
         | inl t ↦
-            let all : make n ∷ descending make p n ≡ m ∷ ms =
-            sym (descending-true make p n t) ∙ e in
-            record {
-              number = n;
-              low = omega arith;
-              passes = t;
-              move = ap (head m) (sym all);
-              others =
-                  descending-false make (without p n) n (without-same p n)
-                  ∙ descending-same make (without p n) p n
-                  (λ j l. without-other p n j (omega arith))
-                  ∙ ap tail all;
-            }
+            grind (
+              arith,
+              common_steps,
+              descending-false,
+              descending-same,
+              descending-true,
+              without-other,
+              without-same,
+            )
       ]
 
 -- What a move does to what is still to do.
@@ -177,36 +138,13 @@ module _ (S G : ℕ → Bool) (k : ℕ) where
       ]
 
   split_more : G k ≡ true → (j : ℕ) → less (with S k) G j ≡ less S G j
-  split_more g j =
-      elim (cases_eq j k) [
-        | inl is ↦
-            let here : (T : ℕ → Bool)
-            → less T G j ≡ false =
-            λ T. and_right (T j) (not (G j))
-            (not_from_true (G j) (subst (λ i. G i ≡ true) (sym is) g)) in
-            here (with S k) ∙ sym (here S)
-        | inr n ↦ (rw (with-other S k j n) refl)
-      ]
+  split_more g j = grind (arith, common_steps, and_right, not_from_true, with-other)
 
   collapse_less : (j : ℕ) → less (without S k) G j ≡ without (less S G) k j
-  collapse_less j =
-      elim (cases_eq j k) [
-        | inl is ↦ subst (λ i. less (without S k) G i ≡ without (less S G) k i) (sym is)
-            (and_left (without S k k) (not (G k)) (without-same S k)
-            ∙ sym (without-same (less S G) k))
-        | inr n ↦ (rw (without-other S k j n) (sym (without-other (less S G) k j n)))
-      ]
+  collapse_less j = grind (arith, common_steps, and_left, without-other, without-same)
 
   collapse_more : G k ≡ false → (j : ℕ) → less G (without S k) j ≡ less G S j
-  collapse_more g j =
-      elim (cases_eq j k) [
-        | inl is ↦
-            let here : (T : ℕ → Bool)
-            → less G T j ≡ false =
-            λ T. and_left (G j) (not (T j)) (subst (λ i. G i ≡ false) (sym is) g) in
-            here (without S k) ∙ sym (here S)
-        | inr n ↦ (rw (without-other S k j n) refl)
-      ]
+  collapse_more g j = grind (arith, common_steps, and_left, without-other)
 
 plan-splits : (h : Hierarchy) (S G : ℕ → Bool) (up : List Move)
     → ascending Split (less G S) (record_count h) ≡ up

@@ -1,8 +1,9 @@
 -- The laws of targets and plans: each move of a plan between closed sets is legal when its turn
 -- comes.
 use Rattle.std.proofs.Common.{◌≡◌, ℕ, zero, suc, ◌≤◌, Bool, true, false, List, [], ◌∷◌, take, inl}
+use Rattle.std.proofs.lemmas.Grind.{common_steps}
 use Rattle.std.proofs.Common.{inr, sym, subst, arith}
-use Rattle.std.proofs.lemmas.Bool.{cases_Bool, both_ways, false_from_ne_true}
+use Rattle.std.proofs.lemmas.Bool.{cases_Bool, both_ways}
 use Rattle.pm_base.proofs.Counts.{count_le}
 use Rattle.pm_forest.specs.Forest.{Hierarchy, record_count}
 use Rattle.pm_forest.specs.Fronts.{without}
@@ -45,13 +46,7 @@ module _ (h : Hierarchy) (valid : IsValid h) where
           | inr t ↦ subst (AreLegal h S) (sym (ascending-false Split (less G S) n t)) legal
           | inl t ↦
               let p = less-parts G S n t in
-              let unsplit : T n ≡ false =
-              false_from_ne_true (T n)
-              (λ u. elim (has.only n u) [
-                | inl s ↦ both_ways _ p.1 s
-                | inr g ↦
-                    (let m = g.1 in omega arith)
-              ]) in
+              let unsplit : T n ≡ false = grind (arith, common_steps) in
               let there : (i : ℕ) → Needs h n i → T i ≡ true = λ i need.
               let older = needs-older h valid.shape n i l need in
               has.all i (inr (G_closed n i l p.0 need, older)) in

@@ -1,6 +1,7 @@
 -- Walks through faces that aren't shown: they can be joined, walked back, and end at one side at
 -- most.
 use Rattle.std.proofs.Common.{◌≡◌, ℕ, ◌*◌, ◌<◌, Bool, true, false, Option, Some, None, inl, inr}
+use Rattle.std.proofs.lemmas.Grind.{common_steps}
 use Rattle.std.proofs.Common.{refl, sym, ap, ◌∙◌, subst, arith}
 use Rattle.std.proofs.lemmas.Bool.{cases_Bool, both_ways, false_from_ne_true}
 use Rattle.std.proofs.lemmas.Option.{none-some, same_Some}
@@ -66,9 +67,7 @@ module _ (h : Hierarchy) (shape : IsForest h) (once : NoSideTwice (leaf_net h)) 
   same_past D a c o t d x (here {r = r'} t') q s' go =
       absurd (both_ways _ d (stops_at D r' c s' (sym t' ∙ ap (leaf_twin h) q ∙ t)))
   same_past D a c o t d x (past {c = c'} {o = o'} {r = r'} t' d' x' v) q s' go =
-      let same_c : c' ≡ c = same_Some c' c (sym t' ∙ ap (leaf_twin h) q ∙ t) in
-      let same_o : o' ≡ o = same_Some o' o (sym x' ∙ ap (across h) same_c ∙ x) in
-      go (subst (λ e. Reaches h D e r') same_o v)
+      grind (arith, common_steps, same_Some)
 
   -- One side, or none, stands beyond a side,
   pub same_end : (D : ℕ → Bool) {a : ℕ} {r : Option ℕ} (a' : ℕ) (r' : Option ℕ) → Reaches h D a r
@@ -85,11 +84,7 @@ module _ (h : Hierarchy) (shape : IsForest h) (once : NoSideTwice (leaf_net h)) 
   pub Beyond-injective : (D : ℕ → Bool) (a b c : ℕ) → a < 3 * face_count h → b < 3 * face_count h
       → is_shown h D a ≡ true → is_shown h D b ≡ true → Beyond h D a (Some c)
       → Beyond h D b (Some c) → a ≡ b
-  Beyond-injective D a b c l m s t v w =
-      same_Some a b
-      (Beyond-unique D c (Some a) (Some b)
-      (record { reaches = back D c l v.reaches refl; stops = s })
-      (record { reaches = back D c m w.reaches refl; stops = t }))
+  Beyond-injective D a b c l m s t v w = grind (arith, common_steps, Beyond-unique, back, same_Some)
 
   -- Walks in two sets of records
 

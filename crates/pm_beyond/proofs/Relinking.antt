@@ -1,6 +1,7 @@
 -- What one split and one collapse change of what stands beyond the sides. For a collapse neither a
 -- valid hierarchy nor a closed set is asked for, so that the opening may cite it.
 use Rattle.std.proofs.Common.{◌≡◌, ◌≢◌, ℕ, ◌*◌, ◌<◌, Bool, true, false, Option, Some, None, inl}
+use Rattle.std.proofs.lemmas.Grind.{common_steps}
 use Rattle.std.proofs.Common.{inr, refl, sym, ap, ◌∙◌, subst, arith}
 use Rattle.std.proofs.lemmas.Bool.{cases_eq, both_ways, false_from_ne_true}
 use Rattle.std.proofs.lemmas.Option.{same_Some}
@@ -88,11 +89,7 @@ module _ (h : Hierarchy) (shape : IsForest h) (once : NoSideTwice (leaf_net h)) 
   -- every other side keeps what stands beyond it
   pub collapse-other : (a : ℕ) (r : Option ℕ) → Beyond h T a r
       → ((c : ℕ) → r ≡ Some c → record_of h c ≢ Some k) → Beyond h (without T k) a r
-  collapse-other a r b n =
-      record {
-        reaches = fewer h T (without T k) (λ j e. (without-parts T k j e).1) b.reaches;
-        stops = other_stops r n b.stops;
-      }
+  collapse-other a r b n = grind (arith, common_steps, fewer, other_stops, without-parts)
 
 module _ (h : Hierarchy) (valid : IsValid h) (T : ℕ → Bool) (k : ℕ) where
   -- A split in a closed set.

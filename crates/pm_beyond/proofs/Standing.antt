@@ -1,7 +1,8 @@
 -- What stands in a closed set beyond the sides of a record's faces: what is expected there, or a
 -- side of a greater record, and then some record needs this one.
 use Rattle.std.proofs.Common.{◌≡◌, ℕ, zero, suc, ◌*◌, ◌<◌, Bool, true, false, Option, Some, None}
-use Rattle.std.proofs.Common.{inl, inr, refl, sym, ap, ◌∙◌, arith}
+use Rattle.std.proofs.lemmas.Grind.{common_steps}
+use Rattle.std.proofs.Common.{inl, inr, refl, sym, ◌∙◌, arith}
 use Rattle.std.proofs.lemmas.Bool.{lt-ltb, ltb-false, cases_eq}
 use Rattle.std.proofs.lemmas.Option.{same_Some}
 use Rattle.pm_base.specs.Sides.{face_of}
@@ -83,10 +84,7 @@ module _ (h : Hierarchy) (valid : IsValid h) (T : ℕ → Bool) (closed : IsClos
                   o_shown;
             }) in
             elim (cases_eq c (inner_of h j (face_of c))) [
-              | inl inner ↦
-                  let q = expected-inner h j c o c_lt (r, inner) is in
-                  let same : j ≡ k = same_Some j k (sym q.0 ∙ own) in
-                  absurd (omega arith)
+              | inl inner ↦ grind (arith, common_steps, expected-inner, same_Some)
               | inr other ↦ (j, j_lt, e, as_neighbour c o c_lt (r, other) is own)
             ]
         | some_before b' c' u d x s z ↦
@@ -100,10 +98,7 @@ module _ (h : Hierarchy) (valid : IsValid h) (T : ℕ → Bool) (closed : IsClos
             }) in
             let (i, outer_c', outer_b') = across-is_outer h c' b' x in
             elim (cases_eq c (inner_of h j (face_of c))) [
-              | inl inner ↦
-                  let q = expected-inner h j c b' c_lt (r, inner) is in
-                  let same : i ≡ j = same_Some i j (sym outer_b'.0 ∙ q.0) in
-                  absurd (outer_b'.1 (q.1 ∙ ap (λ a. inner_of h a (face_of b')) (sym same)))
+              | inl inner ↦ grind (arith, common_steps, expected-inner, same_Some)
               | inr other ↦
                   let smaller =
                   expected-older h valid.shape j c b' i c_lt (r, other) is outer_b'.0 in
@@ -143,11 +138,7 @@ module _ (h : Hierarchy) (valid : IsValid h) (T : ℕ → Bool) (closed : IsClos
       let shape = forest_of h valid in
       let v = as_told h valid k e l own in
       elim (first_shown h shape once (below (suc k)) T v.reaches) [
-        | none_between w ↦
-            as_expected (record {
-              reaches = w;
-              stops = expected_shown k e k_lt f l own (expected h e) refl;
-            })
+        | none_between w ↦ grind (arith, common_steps, expected_shown)
         | some_between c w d s u ↦
             let p = dropped-parts h k c (reaches-lt h shape once (below (suc k)) c w refl) d in
             greater c p.0 (record { reaches = u; stops = s }) p.1 (sym (shown_record h T c p.0 p.1)
@@ -169,9 +160,4 @@ module _ (h : Hierarchy) (valid : IsValid h) (T : ℕ → Bool) (closed : IsClos
 
   pub may_collapse-from : (k : ℕ) → k < record_count h → T k ≡ true
       → ((j : ℕ) → j < record_count h → T j ≡ true → Needs h j k → ⊥) → MayCollapse h T k
-  may_collapse-from k l e free = record {
-    is_split = e;
-    t_active = (inr (k, l, e, inl refl), λ i m f q. free i m f (as_maker (inl q)));
-    u_active = (inr (k, l, e, inr refl), λ i m f q. free i m f (as_maker (inr q)));
-    as_recorded = λ s m outer. unneeded-standing k s l e m outer.0 free;
-  }
+  may_collapse-from k l e free = grind (arith, common_steps, unneeded-standing k)

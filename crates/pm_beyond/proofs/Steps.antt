@@ -1,8 +1,9 @@
 -- A walk by a step that is one to one among the numbers below n, from a number to which no step
 -- leads, ends within n steps.
-use Rattle.std.proofs.Common.{cond, ◌≡◌, ℕ, zero, suc, ◌+◌, ◌-◌, ◌*◌, ◌<◌, ◌≤◌, Bool, false, Option}
+use Rattle.std.proofs.Common.{◌≡◌, ℕ, zero, suc, ◌+◌, ◌-◌, ◌*◌, ◌<◌, ◌≤◌, Bool, false, Option}
+use Rattle.std.proofs.lemmas.Grind.{common_steps}
 use Rattle.std.proofs.Common.{Some, None, inl, inr, refl, sym, ap, ◌∙◌, arith}
-use Rattle.std.proofs.lemmas.Bool.{cases_Bool, cases_eq, cond-true, cond-false}
+use Rattle.std.proofs.lemmas.Bool.{cond-true, cond-false}
 use Rattle.std.proofs.lemmas.Option.{none-some}
 use Rattle.pm_base.proofs.Search.{option_cases}
 use Rattle.pm_base.proofs.Walks.{after_steps, after_steps-zero, IsTrail, trail-good, trail-lt}
@@ -10,7 +11,7 @@ use Rattle.pm_base.proofs.Walks.{trail-ends}
 use Rattle.pm_forest.specs.Forest.{Hierarchy}
 use Rattle.pm_forest.specs.Faces.{face_count}
 use Rattle.pm_forest.specs.Kept.{is_shown}
-use Rattle.pm_beyond.specs.Walks.{leaf_twin, across, out_at, way_out, go_on, walk}
+use Rattle.pm_beyond.specs.Walks.{leaf_twin, across, way_out, go_on, walk}
 use Rattle.pm_beyond.proofs.Twins.{twin-is}
 use Rattle.pm_beyond.proofs.Across.{across-lt}
 
@@ -45,12 +46,7 @@ pub walk-along : (f : ℕ → Option ℕ) (a l : ℕ) → IsTrail f a l → f (a
 walk-along f a l t e zero i low high = let is : i ≡ l =
     omega arith in walk_zero f (after_steps f a i) ∙ ap (after_steps f a) is
 walk-along f a l t e (suc m) i low high =
-    elim (cases_eq i l) [
-      | inl is ↦ walk-none f m (after_steps f a i) (ap (λ j. f (after_steps f a j)) is ∙ e)
-          ∙ ap (after_steps f a) is
-      | inr other ↦ walk-some f m (after_steps f a i) (after_steps f a (suc i))
-          (t.steps i (omega arith)) ∙ walk-along f a l t e m (suc i) (omega arith) (omega arith)
-    ]
+    grind (arith, common_steps, after_steps, walk-none, walk-some, walk-along f a l t e m (suc i))
 
 module _ (f : ℕ → Option ℕ) (n a : ℕ) (start : a < n) (keeps : (p o : ℕ) → p < n → f p ≡ Some o
     → o < n) (injective : (p q o : ℕ) → p < n → q < n → f p ≡ Some o → f q ≡ Some o
@@ -74,15 +70,7 @@ pub way_out_parts : (h : Hierarchy) (T : ℕ → Bool) (a o : ℕ) → way_out h
     → (c : ℕ) × (leaf_twin h a ≡ Some c) × (is_shown h T c ≡ false) × (across h c ≡ Some o)
 unfolding way_out
 way_out_parts h T a o e =
-    elim (option_cases (leaf_twin h a)) [
-      | inl t ↦ absurd (none-some o (ap (out_at h T) (sym t) ∙ e))
-      | inr (c, t) ↦
-          let g : cond (is_shown h T c) None (across h c) ≡ Some o = ap (out_at h T) (sym t) ∙ e in
-          elim (cases_Bool (is_shown h T c)) [
-            | inl s ↦ absurd (none-some o (sym (cond-true _ None (across h c) s) ∙ g))
-            | inr s ↦ (c, t, s, sym (cond-false _ None (across h c) s) ∙ g)
-          ]
-    ]
+    grind (arith, common_steps, cond-false, cond-true, none-some, option_cases)
 
 -- to a side of the mesh.
 pub way_out_lt : (h : Hierarchy) (T : ℕ → Bool) (a o : ℕ) → way_out h T a ≡ Some o

@@ -1,5 +1,6 @@
 -- The target is the least closed set that has each record whose node is wanted.
 use Rattle.std.proofs.Common.{◌≡◌, ◌≢◌, ℕ, zero, suc, ◌-◌, ◌<◌, ◌≤◌, eqb, Bool, true, ◌&&◌, ◌||◌}
+use Rattle.std.proofs.lemmas.Grind.{common_steps}
 use Rattle.std.proofs.Common.{inl, inr, sym, ap, ◌∙◌, subst, arith}
 use Rattle.std.proofs.lemmas.Bool.{eq-eqb, ne_eqb, cases_eq, false≢true, cond-true, cond-false}
 use Rattle.std.proofs.lemmas.Bool.{and_parts, and_from, or_cases, or_left, or_right}
@@ -13,20 +14,12 @@ use Rattle.pm_beyond.proofs.Outer.{needs-true, needs-from}
 pub any_below-parts : (p : ℕ → Bool) (n : ℕ) → any_below p n ≡ true
     → (i : ℕ) × (i < n) × (p i ≡ true)
 any_below-parts p zero e = absurd (false≢true e)
-any_below-parts p (suc n) e =
-    elim (or_cases (p n) (any_below p n) e) [
-      | inl t ↦ (n, omega arith, t)
-      | inr t ↦
-          (let (i, l, u) = any_below-parts p n t in (i, omega arith, u))
-    ]
+any_below-parts p (suc n) e = grind (arith, common_steps, or_cases, any_below-parts p n)
 
 pub any_below-from : (p : ℕ → Bool) (n i : ℕ) → i < n → p i ≡ true → any_below p n ≡ true
 any_below-from p zero i l t = absurd (omega arith)
 any_below-from p (suc n) i l t =
-    elim (cases_eq i n) [
-      | inl is ↦ or_left (p n) (any_below p n) (subst (λ j. p j ≡ true) is t)
-      | inr differs ↦ or_right (p n) (any_below p n) (any_below-from p n i (omega arith) t)
-    ]
+    grind (arith, common_steps, or_left, or_right, any_below-from p n i)
 
 module _ (h : Hierarchy) (shape : HasShape h) (wanted : ℕ → Bool) where
   -- What is decided stays so.
@@ -38,13 +31,7 @@ module _ (h : Hierarchy) (shape : HasShape h) (wanted : ℕ → Bool) where
   final d (suc e) j l b m n =
       elim (cases_eq d (suc e)) [
         | inl is ↦ ap (λ i. taken_after h wanted i j) (sym is)
-        | inr differs ↦
-            let k = record_count h - suc e in
-            let other : j ≢ k = omega arith in
-            cond-false (eqb j k)
-            (wanted (s_of h k) || any_below (λ i. taken_after h wanted e i && needs h i k)
-            (record_count h)) (taken_after h wanted e j) (ne_eqb j k other)
-            ∙ final d e j (omega arith) (omega arith) m n
+        | inr differs ↦ grind (arith, common_steps, cond-false, ne_eqb, final d e j)
       ]
 
   -- Record k is decided from the records above it.
@@ -65,10 +52,7 @@ module _ (h : Hierarchy) (shape : HasShape h) (wanted : ℕ → Bool) where
       (record_count h)) here
 
   takes : (k : ℕ) → k < record_count h → wanted (s_of h k) ≡ true → target_of h wanted k ≡ true
-  takes k l w =
-      decided k l ∙ or_left (wanted (s_of h k))
-      (any_below (λ i. taken_after h wanted (record_count h - suc k) i && needs h i k)
-      (record_count h)) w
+  takes k l w = grind (arith, common_steps, decided, or_left)
 
   target-closed : IsClosed h (target_of h wanted)
   target-closed j k l t needed =

@@ -1,12 +1,13 @@
 -- Twins in the leaf mesh: every side of it stands, so a twin's twin is the side itself.
-use Rattle.std.proofs.Common.{◌≡◌, ◌≢◌, ℕ, ◌*◌, ◌<◌, true, Some, sym, ap, ◌∙◌, inl, inr}
-use Rattle.pm_base.specs.Sides.{next, Stands, NoSideTwice}
+use Rattle.std.proofs.Common.{◌≡◌, ◌≢◌, ℕ, ◌*◌, ◌<◌, true, Some, ap, arith}
+use Rattle.std.proofs.lemmas.Grind.{common_steps}
+use Rattle.pm_base.specs.Sides.{Stands, NoSideTwice}
 use Rattle.pm_base.proofs.Search.{option_cases}
 use Rattle.pm_base.proofs.TwinLaws as twins
 use Rattle.pm_base.proofs.Sides.{next-next-next}
 use Rattle.pm_forest.specs.Forest.{Hierarchy}
 use Rattle.pm_forest.specs.Fronts.{every, ancestor_of}
-use Rattle.pm_forest.specs.Faces.{face_count, from_leaf, to_leaf, record_of, IsForest}
+use Rattle.pm_forest.specs.Faces.{face_count, from_leaf, to_leaf, IsForest}
 use Rattle.pm_forest.specs.Kept.{is_shown}
 use Rattle.pm_forest.proofs.Ancestors.{every-front}
 use Rattle.pm_forest.proofs.Ends.{next-lt}
@@ -15,12 +16,7 @@ use Rattle.pm_beyond.specs.Walks.{leaf_net, leaf_twin}
 
 -- Every face is shown where all records are split.
 pub shown_every : (h : Hierarchy) (e : ℕ) → is_shown h every e ≡ true
-shown_every h e =
-    elim (option_cases (record_of h e)) [
-      | inl n ↦ shown_base h every e n
-      | inr (k, r) ↦
-          shown_record h every e k r
-    ]
+shown_every h e = grind (arith, common_steps, option_cases, shown_base, shown_record)
 
 -- So the two ends of a side are two leaves.
 leaves_apart : (h : Hierarchy) → IsForest h → (e : ℕ) → e < 3 * face_count h
@@ -30,16 +26,7 @@ leaves_apart h shape e l is =
 
 pub side-stands : (h : Hierarchy) → IsForest h → (e : ℕ) → e < 3 * face_count h
     → Stands (leaf_net h) e
-side-stands h shape e l =
-    let m = next-lt h shape e l in
-    let n = next-lt h shape (next e) m in
-    record {
-      is_side = l;
-      first = leaves_apart h shape e l;
-      second = leaves_apart h shape (next e) m;
-      last = λ is. leaves_apart h shape (next (next e)) n
-          (is ∙ ap (from_leaf h) (sym (next-next-next e)));
-    }
+side-stands h shape e l = grind (arith, common_steps, leaves_apart, next-lt, next-next-next)
 
 pub twin-is : (h : Hierarchy) (e g : ℕ) → leaf_twin h e ≡ Some g → (from_leaf h g ≡ to_leaf h e)
     × (to_leaf h g ≡ from_leaf h e) × (g < 3 * face_count h)

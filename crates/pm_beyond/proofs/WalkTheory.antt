@@ -1,5 +1,6 @@
 -- The laws of walks, each from the lemmas on its subject.
-use Rattle.std.proofs.Common.{ℕ, Option, None, Some, refl}
+use Rattle.std.proofs.Common.{ℕ, Option, None, Some, refl, arith}
+use Rattle.std.proofs.lemmas.Grind.{common_steps}
 use Rattle.pm_forest.specs.Forest.{Hierarchy}
 use Rattle.pm_forest.specs.Fronts.{every}
 use Rattle.pm_forest.proofs.Shown.{shown-apart}
@@ -28,11 +29,8 @@ pub ends : law.EndsAreCarried
 ends h shape T a b w = ends-carried h shape T b w refl
 
 pub no_face : law.NoFaceIsMetTwice
-no_face h shape once T front a r l s w stops = (
-  no_face_twice h shape once T front a r l s w stops,
-  at_most_all_faces h shape once T front a r
-      l s w stops,
-)
+no_face h shape once T front a r l s w stops =
+    grind (arith, common_steps, at_most_all_faces, no_face_twice)
 
 pub by_ancestors : law.WalksGoByAncestors
 by_ancestors h shape once T front a r l s =
