@@ -1,7 +1,8 @@
 -- After a legal split the sides from one child to the other are the inner sides of the record's
 -- faces.
-use Rattle.std.proofs.Common.{◌≡◌, ℕ, ◌+◌, ◌*◌, ◌<◌, eqb, ◌&&◌, Bool, true, false, cond, Option}
-use Rattle.std.proofs.Common.{Some, None, ◌⊎◌, inl, inr, refl, sym, ap, ◌∙◌, subst, arith}
+use Rattle.std.proofs.Common.{◌≡◌, ℕ, ◌+◌, ◌*◌, ◌<◌, eqb, Bool, true, false, Option}
+use Rattle.std.proofs.lemmas.Grind.{common_steps}
+use Rattle.std.proofs.Common.{Some, ◌⊎◌, inl, inr, refl, sym, ap, ◌∙◌, subst, arith}
 use Rattle.std.specs.Option.{is_some}
 use Rattle.std.proofs.lemmas.Bool.{cases_Bool, both_ways, cond-true, false_from_ne_true, and_parts}
 use Rattle.std.proofs.lemmas.Bool.{and_from, eqb-true}
@@ -195,11 +196,7 @@ module _ (h : Hierarchy) (valid : IsValid h) (T : ℕ → Bool) (closed : IsClos
   right_face : (f : ℕ) → f < face_count h → revealed_by h f ≡ Some k → is_left h k f ≡ false
       → (is_some (record_at h k).right ≡ true)
       × (f ≡ first_face h k + one_if (is_some (record_at h k).left))
-  right_face f fl rec is =
-      elim (which_face h f k fl rec) [
-        | inl (a, b) ↦ absurd (both_ways (is_left h k f) is (left_from h k f a b))
-        | inr w ↦ w
-      ]
+  right_face f fl rec is = grind (arith, common_steps, left_from, which_face)
 
   same_face : (p q e g : ℕ) → IsPair (t_of h k) (u_of h k) p q → Stands net_after e
       → Stands net_after g → IsInnerSide e → IsInnerSide g → net_after.from e ≡ p
@@ -227,26 +224,15 @@ module _ (h : Hierarchy) (valid : IsValid h) (T : ℕ → Bool) (closed : IsClos
       → Stands net_after g → IsInnerSide e → IsInnerSide g → net_after.from e ≡ p
       → net_after.from g ≡ q → (is_some (record_at h k).left ≡ true)
       × (is_some (record_at h k).right ≡ true)
-  both_faces p q e g (inl (a, b)) et gt ke kg ep gq = (
-    (left_face (face_of e) (left_is e et ke (ep ∙ a))).0,
-    (right_face (face_of g) kg.face kg.rec (right_is g gt kg (gq ∙ b))).0,
-  )
-  both_faces p q e g (inr (a, b)) et gt ke kg ep gq = (
-    (left_face (face_of g) (left_is g gt kg (gq ∙ b))).0,
-    (right_face (face_of e) ke.face ke.rec (right_is e et ke (ep ∙ a))).0,
-  )
+  both_faces p q e g (inl (a, b)) et gt ke kg ep gq =
+      grind (arith, common_steps, left_face, left_is, right_face, right_is)
+  both_faces p q e g (inr (a, b)) et gt ke kg ep gq =
+      grind (arith, common_steps, left_face, left_is, right_face, right_is)
 
   mate : (e : ℕ) → IsInnerSide e → is_some (record_at h k).left ≡ true
       → is_some (record_at h k).right ≡ true → (b : ℕ) × (expected h e ≡ Some b)
   unfolding mate_of
-  mate e side a b =
-      let f = face_of e in
-      let g = inner_of h k (cond (is_left h k f) (first_face h k + 1) (first_face h k)) in (
-        g,
-        ap (expected h) side.is_inner ∙ inner_expected h k f side.face side.rec
-            ∙ cond-true (is_some (record_at h k).left && is_some (record_at h k).right) (Some g)
-            None (and_from (is_some (record_at h k).left) (is_some (record_at h k).right) a b),
-      )
+  mate e side a b = grind (arith, common_steps, and_from, cond-true, inner_expected)
 
   pub inner : (p q x y : ℕ) → IsPair (t_of h k) (u_of h k) p q
       → (f : IsPairAt net_after p q x) (g : IsPairAt net_after q p y) → beyond f.side ≡ Some g.side
@@ -257,11 +243,5 @@ module _ (h : Hierarchy) (valid : IsValid h) (T : ℕ → Bool) (closed : IsClos
       let (b, x_is) = mate f.side kf both.0 both.1 in
       let lb = link_new f.side f.stands.is_side kf.rec ∙ x_is in
       let w = ends f.side b f.stands lb in
-      let B : IsPairAt net_after q p (third net_after b) = record {
-        side = b;
-        stands = w.stands;
-        at = w.begins ∙ f.one;
-        one = w.ends ∙ f.at;
-        two = refl;
-      } in
+      let B : IsPairAt net_after q p (third net_after b) = grind (arith, common_steps, one) in
       lb ∙ ap Some (one q p (third net_after b) y (swap p q pair) B g)

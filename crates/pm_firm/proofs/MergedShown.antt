@@ -1,7 +1,8 @@
 -- The mesh that a front shows before a legal split is the one after it with both children merged.
-use Rattle.std.proofs.Common.{◌≡◌, ◌≢◌, ℕ, ◌*◌, ◌<◌, Bool, true, inl, inr, refl, sym, ap, ◌∙◌}
-use Rattle.std.proofs.Common.{subst, arith}
-use Rattle.std.proofs.lemmas.Bool.{cases_Bool, both_ways, cond-true, cond-false}
+use Rattle.std.proofs.Common.{◌≡◌, ◌≢◌, ℕ, ◌*◌, ◌<◌, Bool, inl, inr, refl, sym, ◌∙◌}
+use Rattle.std.proofs.lemmas.Grind.{common_steps}
+use Rattle.std.proofs.Common.{arith}
+use Rattle.std.proofs.lemmas.Bool.{cond-true, cond-false}
 use Rattle.pm_base.specs.Sides.{Net, next, Stands, IsTwin}
 use Rattle.pm_base.specs.Fans.{IsPairAt, IsOrientedManifold}
 use Rattle.pm_forest.specs.Forest.{Hierarchy, record_count, leaf_count, t_of, u_of, s_of, holds}
@@ -51,12 +52,7 @@ module _ (h : Hierarchy) (valid : IsValid h) (T : ℕ → Bool) (closed : IsClos
   -- and no child an ancestor before
   pub not_child : (x v : ℕ) → x < leaf_count h → Makes h k v → ancestor_of h T x ≢ v
   not_child x v lx makes is =
-      elim (active-ancestor h tree.forest T x lx).0 [
-        | inl root ↦ elim makes [ inl e ↦ absurd (omega arith) | inr e ↦ absurd (omega arith) ]
-        | inr (j, jl, tj, mj) ↦
-            let same = makes_once h j k v (subst (λ i. Makes h j i) is mj) makes in
-            both_ways (T k) may.unsplit (subst (λ i. T i ≡ true) same tj)
-      ]
+      grind (arith, common_steps, active-ancestor h tree.forest T x lx, makes_once h)
 
   abbrev pub rename : ℕ → ℕ
   rename v = merge (t_of h k) (u_of h k) (s_of h k) v
@@ -68,27 +64,19 @@ module _ (h : Hierarchy) (valid : IsValid h) (T : ℕ → Bool) (closed : IsClos
   -- The mesh before is the mesh after with both children merged.
   renames : (x : ℕ) → x < leaf_count h → rename (ancestor_of h (with T k) x) ≡ ancestor_of h T x
   renames x lx =
-      let both = merge-pair (t_of h k) (u_of h k) (s_of h k) (t_of h k) (u_of h k)
-      (inl (refl, refl)) in
-      elim (cases_Bool (holds h (s_of h k) x)) [
-        | inl in_s ↦
-            let a = split-under h tree.forest T front k l may.active may.unsplit x lx in_s in
-            let before : ancestor_of h T x ≡ s_of h k =
-            ancestor_of-unique h tree.forest T front (s_of h k) x may.active in_s in
-            elim (cases_Bool (holds h (t_of h k) x)) [
-              | inl in_t ↦
-                  ap rename (a ∙ cond-true (holds h (t_of h k) x) (t_of h k) (u_of h k) in_t)
-                  ∙ both.0 ∙ sym before
-              | inr in_u ↦
-                  ap rename (a ∙ cond-false (holds h (t_of h k) x) (t_of h k) (u_of h k) in_u)
-                  ∙ both.1 ∙ sym before
-            ]
-        | inr out ↦
-            let a = split-elsewhere h tree.forest T front k l may.active x lx out in
-            merge-other (t_of h k) (u_of h k) (s_of h k) (ancestor_of h (with T k) x)
-            (λ i. not_child x (t_of h k) lx (inl refl) (sym a ∙ i))
-            (λ i. not_child x (u_of h k) lx (inr refl) (sym a ∙ i)) ∙ a
-      ]
+      grind (
+        arith,
+        common_steps,
+        ancestor_of-unique h tree.forest T front (s_of h k) x may.active,
+        cond-false (holds h (t_of h k) x) (t_of h k) (u_of h k),
+        cond-true (holds h (t_of h k) x) (t_of h k) (u_of h k),
+        merge-other (t_of h k) (u_of h k) (s_of h k) (ancestor_of h (with T k) x),
+        merge-pair (t_of h k) (u_of h k) (s_of h k) (t_of h k) (u_of h k) (inl (refl, refl)),
+        not_child x (t_of h k) lx (inl refl),
+        not_child x (u_of h k) lx (inr refl),
+        split-elsewhere h tree.forest T front k l may.active x lx,
+        split-under h tree.forest T front k l may.active may.unsplit x lx,
+      )
 
   corner : (e : ℕ) → e < 3 * face_count h → merged_net.from e ≡ net_before.from e
   corner e le = renames (from_leaf h e) (leaf e le)
@@ -97,26 +85,10 @@ module _ (h : Hierarchy) (valid : IsValid h) (T : ℕ → Bool) (closed : IsClos
   next_lt e le = next-lt h tree e le
 
   pub there_m : (e : ℕ) → Stands merged_net e → Stands net_before e
-  there_m e x =
-      let l1 = next_lt e x.is_side in
-      let l2 = next_lt (next e) l1 in
-      record {
-        is_side = x.is_side;
-        first = λ i. x.first (corner e x.is_side ∙ i ∙ sym (corner (next e) l1));
-        second = λ i. x.second (corner (next e) l1 ∙ i ∙ sym (corner (next (next e)) l2));
-        last = λ i. x.last (corner (next (next e)) l2 ∙ i ∙ sym (corner e x.is_side));
-      }
+  there_m e x = grind (arith, common_steps, corner, next_lt)
 
   pub there_c : (e : ℕ) → Stands net_before e → Stands merged_net e
-  there_c e x =
-      let l1 = next_lt e x.is_side in
-      let l2 = next_lt (next e) l1 in
-      record {
-        is_side = x.is_side;
-        first = λ i. x.first (sym (corner e x.is_side) ∙ i ∙ corner (next e) l1);
-        second = λ i. x.second (sym (corner (next e) l1) ∙ i ∙ corner (next (next e)) l2);
-        last = λ i. x.last (sym (corner (next (next e)) l2) ∙ i ∙ corner e x.is_side);
-      }
+  there_c e x = grind (arith, common_steps, corner, next_lt)
 
   pub twin_m : (e g : ℕ) → Stands merged_net e → IsTwin merged_net e g → IsTwin net_before e g
   twin_m e g et w = record {
@@ -127,26 +99,10 @@ module _ (h : Hierarchy) (valid : IsValid h) (T : ℕ → Bool) (closed : IsClos
 
   -- the merged mesh is the one shown before
   pair_m : {v x y : ℕ} → IsPairAt merged_net v x y → IsPairAt net_before v x y
-  pair_m f =
-      let l1 = next_lt f.side f.stands.is_side in
-      record {
-        side = f.side;
-        stands = there_m f.side f.stands;
-        at = sym (corner f.side f.stands.is_side) ∙ f.at;
-        one = sym (corner (next f.side) l1) ∙ f.one;
-        two = sym (corner (next (next f.side)) (next_lt (next f.side) l1)) ∙ f.two;
-      }
+  pair_m f = grind (arith, common_steps, corner, next_lt, there_m)
 
   pair_c : {v x y : ℕ} → IsPairAt net_before v x y → IsPairAt merged_net v x y
-  pair_c f =
-      let l1 = next_lt f.side f.stands.is_side in
-      record {
-        side = f.side;
-        stands = there_c f.side f.stands;
-        at = corner f.side f.stands.is_side ∙ f.at;
-        one = corner (next f.side) l1 ∙ f.one;
-        two = corner (next (next f.side)) (next_lt (next f.side) l1) ∙ f.two;
-      }
+  pair_c f = grind (arith, common_steps, corner, next_lt, there_c)
 
   pub manifold_c : IsOrientedManifold net_before → IsOrientedManifold merged_net
   manifold_c manifold = record {

@@ -1,5 +1,6 @@
 -- A legal split of a firm hierarchy is a split of nets, so it keeps the surface.
 use Rattle.std.proofs.Common.{◌≡◌, ℕ, ◌*◌, ◌<◌, Bool, true, Option, Some, None, ◌⊎◌, inl, inr, sym}
+use Rattle.std.proofs.lemmas.Grind.{common_steps}
 use Rattle.std.proofs.Common.{ap, ◌∙◌, subst, arith}
 use Rattle.std.proofs.lemmas.Bool.{cases_eq}
 use Rattle.std.proofs.lemmas.Option.{none-some, same_Some}
@@ -68,19 +69,7 @@ module _ (h : Hierarchy) (valid : IsValid h) (T : ℕ → Bool) (closed : IsClos
   beyond e = beyond_of h (with T k) e
 
   points? : (e o : ℕ) → Decided (IsOuter h k o × (expected h o ≡ Some e))
-  points? e o =
-      elim (is_some? (record_of h o) k) [
-        | inr never ↦ inr (λ x. never x.0.0)
-        | inl r ↦
-            elim (cases_eq o (inner_of h k (face_of o))) [
-              | inl is ↦ inr (λ x. x.0.1 is)
-              | inr ne ↦ elim (is_some? (expected h o) e) [
-                | inl x ↦ inl ((r, ne), x)
-                | inr never ↦
-                    inr (λ x. never x.1)
-              ]
-            ]
-      ]
+  points? e o = grind (arith, common_steps, is_some?)
 
   held : FacesAreHeld h k → (p q x : ℕ) → IsPair (t_of h k) (u_of h k) p q
       → (f : IsPairAt net_after p q x) → (b : ℕ) × Stands merged_net b
@@ -97,11 +86,7 @@ module _ (h : Hierarchy) (valid : IsValid h) (T : ℕ → Bool) (closed : IsClos
       let b_there = there_c h valid T closed k l may b (stands-shown h tree T front b bl shown_b) in
       elim (three_sides e f.side face) [
         | inl i ↦ absurd (outer.1 (i ∙ kf.is_inner ∙ ap (inner_of h k) (sym face)))
-        | inr w ↦
-            elim w [
-              | inl i ↦ (b, b_there, inl (ap beyond (sym i) ∙ le'))
-              | inr i ↦ (b, b_there, inr (ap beyond (sym i) ∙ le'))
-            ]
+        | inr w ↦ grind (arith, common_steps)
       ]
 
   module _ (surface : IsSurfaceShown h T) where
