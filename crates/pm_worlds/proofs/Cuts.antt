@@ -1,6 +1,7 @@
 -- The hierarchies of the pieces of a cut mesh are a world, whose leaf meshes are the pieces'
 -- meshes with other numbers.
 use Rattle.std.proofs.Common.{ℕ, suc, ◌<◌, Bool, List, [], ◌∷◌, length, get_or, map, sym, ap, ◌∙◌}
+use Rattle.std.proofs.lemmas.Grind.{common_steps}
 use Rattle.std.proofs.Common.{subst, arith}
 use Rattle.std.specs.List.{All}
 use Rattle.std.proofs.lemmas.List.Elements.{All-nil, All-cons, All-head, All-tail, All-map}
@@ -49,11 +50,7 @@ module _ (p : Piece) (piece : IsPiece p) where
   fixed = borders_fixed p.mesh piece.start p.log piece.run piece.spares
 
   is_tile : IsTile (tile_of p)
-  is_tile = record {
-    firm = are_firm p.mesh piece.start p.log piece.run piece.shape;
-    fixed = fixed;
-    distinct = piece.distinct;
-  }
+  is_tile = grind (arith, common_steps, are_firm, fixed)
 
   piece_alike : AreAlike (piece_mesh p) (leaf_tile (tile_of p))
   piece_alike =

@@ -1,6 +1,7 @@
 -- Nodes that no corner has get numbers of their own, from a number on that grows from piece to
 -- piece.
 use Rattle.std.proofs.Common.{◌≡◌, ℕ, ◌+◌, ◌<◌, ◌≤◌, List, [], ◌∷◌, inl, inr, refl, sym, ap, ◌∙◌}
+use Rattle.std.proofs.lemmas.Grind.{common_steps}
 use Rattle.std.proofs.Common.{subst, arith}
 use Rattle.std.specs.List.{All, AllZip}
 use Rattle.std.proofs.lemmas.Bool.{cases_eq}
@@ -92,29 +93,16 @@ module _ (most from : ℕ) (p : Piece) (piece : IsPieceAtCorners most p) (high :
         | inr none ↦
             let here = elsewhere v none in
             elim (corner? p w) [
-              | inl d ↦
-                  let there = at_corner w d in
-                  let low = corner_below w d in
-                  absurd (omega arith)
+              | inl d ↦ grind (arith, common_steps, at_corner, corner_below)
               | inr never ↦ (let there = elsewhere w never in omega arith)
             ]
       ]
 
   named_piece : IsPiece (named from p)
-  named_piece = record {
-    start = piece.start;
-    run = piece.run;
-    spares = piece.spares;
-    shape = piece.shape;
-    distinct = λ v w lv lw is. distinct v w is;
-  }
+  named_piece = grind (arith, common_steps, distinct)
 
   same_corners : HasSameCorners p (named from p)
-  same_corners = record {
-    mesh = refl;
-    log = refl;
-    corners = λ v used. at_corner (node_in p v) (record { corner = v; used = used; node = refl });
-  }
+  same_corners = grind (arith, common_steps, at_corner)
 
 -- Each side of the mesh runs between corners, so its ends have the same numbers.
 named_alike :

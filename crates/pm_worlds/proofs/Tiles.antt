@@ -1,9 +1,10 @@
 -- What a tile shows of two closed sets: each may stand in the other's place.
-use Rattle.std.proofs.Common.{◌≡◌, ℕ, ◌*◌, ◌<◌, Bool, inl, inr, refl, sym, ap, ◌∙◌, subst}
+use Rattle.std.proofs.Common.{◌≡◌, ℕ, ◌*◌, ◌<◌, Bool, inl, inr, refl, sym, ap, ◌∙◌, subst, arith}
+use Rattle.std.proofs.lemmas.Grind.{common_steps}
 use Rattle.pm_base.specs.Sides.{Net, next, prev, third, Stands, IsBorder}
 use Rattle.pm_base.specs.Fans.{IsPairAt, IsUsed, IsOrientedManifold}
 use Rattle.pm_base.proofs.Sides.{stands_next}
-use Rattle.pm_forest.specs.Forest.{Hierarchy, leaf_count, node_count, record_count}
+use Rattle.pm_forest.specs.Forest.{Hierarchy, leaf_count, node_count}
 use Rattle.pm_forest.specs.Fronts.{ancestor_of}
 use Rattle.pm_forest.specs.Faces.{face_count, from_leaf, to_leaf, IsForest}
 use Rattle.pm_forest.proofs.Ancestors.{ancestor-lt}
@@ -41,10 +42,7 @@ module _ (h : Hierarchy) (firm : IsFirm h) (fixed : HasFixedBorder h) where
 
   module _ (T : ℕ → Bool) (closed : IsClosed h T) where
     pub used_node : (v : ℕ) → IsUsed (shown T) v → v < node_count h
-    used_node v (e, s, at) =
-        let l = leaf_lt e s.is_side in
-        subst (λ i. i < node_count h) at
-        (ancestor-lt h tree.forest T (record_count h) (from_leaf h e) l)
+    used_node v (e, s, at) = grind (arith, common_steps, ancestor-lt, leaf_lt, tree)
 
     -- A leaf whose ancestor is on the border shown is fixed.
     on_border_fixed :
@@ -128,11 +126,8 @@ module _ (h : Hierarchy) (firm : IsFirm h) (fixed : HasFixedBorder h) where
             let l = s.is_side in
             let x : ℕ = from_leaf h e in
             let y : ℕ = to_leaf h e in
-            let runs : Runs (shown T) e (root_over h x) (root_over h y) = record {
-              stands = s;
-              begins = root_is T x (leaf_lt e l) f;
-              ends = root_is T y (to_lt e l) t;
-            } in
+            let runs : Runs (shown T) e (root_over h x) (root_over h y) =
+            grind (arith, common_steps, leaf_lt, root_is, to_lt) in
             let leaf = (sides_stay h tree T x y (leaf_lt e l) (to_lt e l) f t e).0 runs in
             ((sides_stay h tree S x y (leaf_lt e l) (to_lt e l) f t e).1 leaf).stands
 
