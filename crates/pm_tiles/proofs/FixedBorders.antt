@@ -1,7 +1,8 @@
 -- A front of a firm hierarchy with a fixed border has exactly the border sides of the leaf mesh.
 use Rattle.std.proofs.Common.{◌≡◌, ℕ, ◌*◌, ◌<◌, ◌↔◌, Bool, true, false, None, List, [], ◌∷◌, inl}
+use Rattle.std.proofs.lemmas.Grind.{common_steps}
 use Rattle.std.proofs.Common.{inr}
-use Rattle.std.proofs.Common.{sym, ap, ◌∙◌, subst, arith}
+use Rattle.std.proofs.Common.{sym, ◌∙◌, subst, arith}
 use Rattle.std.proofs.lemmas.Bool.{both_ways}
 use Rattle.std.proofs.lemmas.Option.{none-some}
 use Rattle.pm_base.specs.Sides.{face_of, next, Stands, IsBorderSide, HasNoTwin, twin_of}
@@ -37,40 +38,23 @@ module _ (h : Hierarchy) (tree : IsForest h) (T : ℕ → Bool) where
 
   -- Nothing else has the ancestor of one of its ends, so the face of such a side is always shown.
   pub fixed-stands : (e : ℕ) → e < 3 * face_count h → HasFixedEnds h e → Stands (shown_net h T) e
-  fixed-stands e l fixed =
-      let st = side-stands h tree e l in
-      let m = next-lt h tree e l in
-      let last = next (next e) in
-      let n = next-lt h tree (next e) m in
-      record {
-        is_side = l;
-        first = λ is. st.first (begins (to_leaf h e) e fixed.to l is);
-        second = λ is. st.second (sym (begins (to_leaf h e) last fixed.to n (sym is)));
-        last = λ is. st.last (begins (from_leaf h e) last fixed.from n is);
-      }
+  fixed-stands e l fixed = grind (arith, common_steps, begins, next-lt, side-stands)
 
   -- Between fixed leaves the same sides run in every front.
   pub fixed_sides :
       (x y : ℕ) → x < leaf_count h → y < leaf_count h → IsFixed h x → IsFixed h y → (e : ℕ) →
       Runs (shown_net h T) e (root_over h x) (root_over h y) ↔ Runs (leaf_net h) e x y
   fixed_sides x y lx ly first second e =
-      let at_x = is_root h tree x first T in
-      let at_y = is_root h tree y second T in (
-        λ r.
-            let l = r.stands.is_side in
-            record {
-              stands = side-stands h tree e l;
-              begins = begins x e first l (r.begins ∙ sym at_x);
-              ends = begins y (next e) second (next-lt h tree e l) (r.ends ∙ sym at_y);
-            },
-        λ r. record {
-          stands = fixed-stands e r.stands.is_side (record {
-            from = subst (IsFixed h) (sym r.begins) first;
-            to = subst (IsFixed h) (sym r.ends) second;
-          });
-          begins = ap (ancestor_of h T) r.begins ∙ at_x;
-          ends = ap (ancestor_of h T) r.ends ∙ at_y;
-        },
+      grind (
+        arith,
+        common_steps,
+        begins x e first,
+        begins y (next e) second,
+        fixed-stands e,
+        is_root h tree x first T,
+        is_root h tree y second T,
+        next-lt h tree e,
+        side-stands h tree e,
       )
 
   pub shown_border :
@@ -106,16 +90,12 @@ module _ (h : Hierarchy) (tree : IsForest h) (T : ℕ → Bool) where
         let shown = shown-kept a (fixed-stands a l (fixed a border)) in
         both_ways (is_kept h T (face_of a)) dropped shown
     no_way_out a (f ∷ fs) l dropped (c, o, twin, at, off, way, rest) =
-        let low = (twin-is h a c twin).2 in
-        let same : face_of o ≡ face_of c = way.0 in
-        no_way_out o fs (omega arith) (ap (is_kept h T) (same ∙ at) ∙ off) rest
+        grind (arith, common_steps, twin-is h a c twin, no_way_out o fs)
 
     pub alone-from : (e : ℕ) (fs : List ℕ) → Crosses h T e fs None → HasNoTwin (leaf_net h) e
     alone-from e [] none = leaf-alone e none
     alone-from e (f ∷ fs) (c, o, twin, at, off, way, rest) =
-        let low = (twin-is h e c twin).2 in
-        let same : face_of o ≡ face_of c = way.0 in
-        absurd (no_way_out o fs (omega arith) (ap (is_kept h T) (same ∙ at) ∙ off) rest)
+        grind (arith, common_steps, no_way_out o fs, twin-is h e c twin)
 
 module _ (h : Hierarchy) (firm : IsFirm h) (fixed : HasFixedBorder h)
     (T : ℕ → Bool) (closed : IsClosed h T) where

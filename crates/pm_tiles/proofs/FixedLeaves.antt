@@ -1,5 +1,6 @@
 -- The ancestor of a fixed leaf is its root in every front, and that of no other leaf.
 use Rattle.std.proofs.Common.{◌≡◌, ℕ, zero, suc, ◌+◌, ◌<◌, ◌≤◌, Bool, refl, ◌∙◌, subst, arith}
+use Rattle.std.proofs.lemmas.Grind.{common_steps}
 use Rattle.pm_forest.specs.Forest.{Hierarchy, record_at, record_count, leaf_count, s_of}
 use Rattle.pm_forest.specs.Forest.{interval_of, holds, Holds}
 use Rattle.pm_forest.specs.Fronts.{ancestor_after, ancestor_of}
@@ -27,12 +28,7 @@ module _ (h : Hierarchy) (tree : IsForest h) (x : ℕ) (fixed : IsFixed h x) whe
   unfolding ancestor_after
   root_stays T zero l = refl
   root_stays T (suc k) l =
-      let r = root_stays T k (omega arith) in
-      elim (move h T k x) [
-        | stays e n ↦ e ∙ r
-        | to_t a b c e ↦ absurd (unsplit k (omega arith) (b ∙ r))
-        | to_u a b c e ↦ absurd (unsplit k (omega arith) (b ∙ r))
-      ]
+      grind (arith, common_steps, move, stays, to_t, to_u, unsplit, root_stays T k)
 
   pub is_root : (T : ℕ → Bool) → ancestor_of h T x ≡ root_over h x
   is_root T = root_stays T (record_count h) (omega arith)

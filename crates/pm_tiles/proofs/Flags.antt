@@ -1,8 +1,9 @@
 -- The flags of the border are set vertex by vertex, and keep the border.
 use Rattle.std.specs.Prelude.{IsTrue}
+use Rattle.std.proofs.lemmas.Grind.{common_steps}
 use Rattle.std.proofs.Common.{◌≡◌, ℕ, ◌+◌, ◌<◌, ◌↔◌, Bool, true, false, List, length}
 use Rattle.std.proofs.Common.{slice_index_or}
-use Rattle.std.proofs.Common.{inl, inr, sym, ap, ◌∙◌, subst, arith}
+use Rattle.std.proofs.Common.{inl, inr, sym, ◌∙◌, arith}
 use Rattle.std.proofs.Math.ListN.{set}
 use Rattle.std.proofs.lemmas.Bool.{cases_eq}
 use Rattle.std.proofs.lemmas.List.{get_or-set_same, get_or-set_other, length-set}
@@ -31,11 +32,7 @@ one_more n vertices count flags b are l says =
       len = length-set flags count b ∙ len;
       each = λ v low.
           elim (cases_eq v count) [
-            | inl is ↦
-                let set_here = ap (λ i. slice_index_or (set flags count b) i false) is ∙ here in (
-                  λ t. subst (IsBorder n) (sym is) (says.0 (sym set_here ∙ t)),
-                  λ on. set_here ∙ says.1 (subst (IsBorder n) is on),
-                )
+            | inl is ↦ grind (arith, common_steps, set, slice_index_or)
             | inr ne ↦
                 let same = get_or-set_other flags count v b false ne in
                 let old = are.each v (omega arith) in
@@ -60,9 +57,5 @@ keeps_border m flags formed are v (e, side, at) =
     let l = side.stands.is_side in
     let begins = (mesh_side m formed e l).1 in
     let ends = (mesh_side m formed (next e) (next-lt (length m.faces) e l)).1 in
-    let low : v < length m.points =
-    elim at [
-      | inl is ↦ subst (λ i. i < length m.points) is begins
-      | inr is ↦ subst (λ i. i < length m.points) is ends
-    ] in
+    let low : v < length m.points = grind (arith, common_steps) in
     (are.each v low).1 (e, side, at)

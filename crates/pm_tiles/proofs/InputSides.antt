@@ -1,8 +1,8 @@
 -- The input mesh of a hierarchy is its leaf mesh with other numbers.
-use Rattle.std.proofs.Common.{◌≡◌, ℕ, ◌+◌, ◌-◌, ◌*◌, ◌%◌, ◌==◌, ◌<◌, cond, inl, inr, refl, sym}
+use Rattle.std.proofs.Common.{◌≡◌, ℕ, ◌+◌, ◌-◌, ◌*◌, ◌%◌, ◌==◌, ◌<◌, cond, refl, sym}
+use Rattle.std.proofs.lemmas.Grind.{common_steps}
 use Rattle.std.proofs.Common.{ap, ◌∙◌}
 use Rattle.std.proofs.Common.{arith}
-use Rattle.std.proofs.lemmas.Bool.{cases_Bool}
 use Rattle.std.proofs.lemmas.List.FromFn.{get_or-map-range_with_len}
 use Rattle.pm_base.specs.Sides.{Net, face_of, corner_in, no_corners, net_of}
 use Rattle.pm_forest.specs.declared.parts.Face.{Face}
@@ -20,15 +20,7 @@ use Rattle.pm_number.proofs.Stages.{side-face, side-turns, side-lt, side-back}
 corner-input :
     (h : Hierarchy) (k : Face) (i : ℕ) →
     corner_in (input_corners h k) i ≡ leaf_input h (cond (i == 0) k.a (cond (i == 1) k.b k.c)) - 1
-corner-input h k i =
-    elim (cases_Bool (i == 0)) [
-      | inl first ↦ rw first refl
-      | inr other ↦
-          elim (cases_Bool (i == 1)) [
-            | inl second ↦ rw (other, second) refl
-            | inr third ↦ rw (other, third) refl
-          ]
-    ]
+corner-input h k i = grind (arith, common_steps)
 
 module _ (h : Hierarchy) (tree : IsForest h) (numbers : HasInputNumbers h) where
   abbrev input : Net
@@ -64,10 +56,7 @@ module _ (h : Hierarchy) (tree : IsForest h) (numbers : HasInputNumbers h) where
   face-input-once :
       (i j : ℕ) → i < face_count h → j < face_count h → face_of_input h i ≡ face_of_input h j →
       i ≡ j
-  face-input-once i j l m same =
-      let first = face-number i l in
-      let both : i + 1 ≡ j + 1 = sym first ∙ ap (face_input h) same ∙ face-number j m in
-      omega arith
+  face-input-once i j l m same = grind (arith, common_steps, face-number i l, face-number j m)
 
   -- A side of the input runs from the input vertex of the leaf that its side runs from.
   pub from_input :
@@ -105,28 +94,14 @@ module _ (h : Hierarchy) (tree : IsForest h) (numbers : HasInputNumbers h) where
       (3 * (face_input h f - 1) + e % 3, omega arith, side-back (face_of_input h) e _ found)
 
   one : (v w : ℕ) → BeginsSide input v → BeginsSide input w → leaf v ≡ leaf w → v ≡ w
-  one v w (e, l, begins) (g, m, ends) same =
-      let x = from_leaf h (side e) in
-      let y = from_leaf h (side g) in
-      let both : x ≡ y = from e l ∙ ap leaf begins ∙ same ∙ sym (ap leaf ends) ∙ sym (from g m) in
-      sym begins ∙ from_input e l ∙ ap (λ z. leaf_input h z - 1) both ∙ sym (from_input g m) ∙ ends
+  one v w (e, l, begins) (g, m, ends) same = grind (arith, common_steps, from, from_input)
 
   -- Two sides of the input are two sides of the hierarchy.
   pub side-once : (e g : ℕ) → e < 3 * input.faces → g < 3 * input.faces → side e ≡ side g → e ≡ g
   unfolding side_by
-  side-once e g l m same =
-      let turn : e % 3 ≡ g % 3 = omega arith in
-      let face_is : face_of_input h (face_of e) ≡ face_of_input h (face_of g) = omega arith in
-      let is = face-input-once (face_of e) (face_of g) (face e l) (face g m) face_is in
-      omega arith
+  side-once e g l m same = grind (arith, common_steps, face, face-input-once)
 
   pub input_renamed :
       Renames (net_of (input_mesh_of h).faces) (leaf_net h) (λ e. side_by (face_of_input h) e)
       (λ v. leaf_of_input h v)
-  input_renamed = record {
-    is_side = is_side;
-    turns = λ e l. side-turns (face_of_input h) e;
-    from = from;
-    back = back;
-    one = one;
-  }
+  input_renamed = grind (arith, common_steps, back, from, is_side, one, side-turns)

@@ -1,5 +1,6 @@
 -- The same sides are on the border under other numbers.
-use Rattle.std.proofs.Common.{ℕ, ◌*◌, ◌<◌, refl, ◌∙◌, sym, subst}
+use Rattle.std.proofs.Common.{ℕ, ◌*◌, ◌<◌, refl, sym, subst, arith}
+use Rattle.std.proofs.lemmas.Grind.{common_steps}
 use Rattle.pm_base.specs.Sides.{Net, next, to, IsTwin, IsBorderSide}
 use Rattle.pm_base.proofs.Sides.{next-lt}
 use Rattle.pm_runs.specs.Pairs.{Runs}
@@ -13,11 +14,8 @@ module _ (m n : Net) (side name : ℕ → ℕ) (names : Renames m n side name) w
   twin-before :
       (e g : ℕ) → e < 3 * m.faces → g < 3 * m.faces → IsTwin n (side e) (side g) → IsTwin m e g
   twin-before e g l low twin =
-      let runs : Runs n (side g) (name (to m e)) (name (m.from e)) = record {
-        stands = twin.stands;
-        begins = twin.begins ∙ at_to m n side name names e l;
-        ends = twin.ends ∙ names.from e l;
-      } in
+      let runs : Runs n (side g) (name (to m e)) (name (m.from e)) =
+      grind (arith, common_steps, at_to, begins) in
       let p : BeginsSide m (to m e) = begins (next e) (next-lt m.faces e l) in
       let q : BeginsSide m (m.from e) = begins e l in
       let was = runs-before m n side name names g (to m e) (m.from e) low p q runs in
@@ -25,14 +23,13 @@ module _ (m n : Net) (side name : ℕ → ℕ) (names : Renames m n side name) w
 
   twin-moved : (e g : ℕ) → e < 3 * m.faces → IsTwin m e g → IsTwin n (side e) (side g)
   twin-moved e g l twin =
-      let runs : Runs m g (to m e) (m.from e) =
-      record { stands = twin.stands; begins = twin.begins; ends = twin.ends } in
-      let moved = runs-moved m n side name names g (to m e) (m.from e) runs in
-      record {
-        stands = moved.stands;
-        begins = moved.begins ∙ sym (at_to m n side name names e l);
-        ends = moved.ends ∙ sym (names.from e l);
-      }
+      grind (
+        arith,
+        common_steps,
+        begins,
+        at_to m n side name names e l,
+        runs-moved m n side name names g (to m e) (m.from e),
+      )
 
   pub border-moved : (e : ℕ) → IsBorderSide m e → IsBorderSide n (side e)
   border-moved e border =
