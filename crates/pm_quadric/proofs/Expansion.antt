@@ -1,5 +1,6 @@
 -- The polynomial of a list's sums is the sum of the planes' squared values.
 use Rattle.std.proofs.Common.{◌≡◌, ◌+◌, List, [], ◌∷◌, ◌++◌, refl, ◌∙◌, arith, add_assoc, zero-add}
+use Rattle.std.proofs.lemmas.Grind.{common_steps}
 use Rattle.std.specs.Prelude.{ℤ, pos, ◌+ℤ◌, ◌*ℤ◌}
 use Rattle.std.proofs.Math.IntN.{+ℤ_assoc, +ℤ_idl, +ℤ_idr}
 use borrow.Author.Differences.{ints}
@@ -26,23 +27,7 @@ ten_sums a b c d e f g h i j a' b' c' d' e' f' g' h' i' j' = omega (arith, ints)
 pub polynomial-plus : (s t : Sums) (p : Place)
     → polynomial (plus_sums s t) p ≡ polynomial s p +ℤ polynomial t p
 unfolding polynomial
-polynomial-plus s t p =
-    rw (
-      times s.xx t.xx (p.x *ℤ p.x),
-      times s.yy t.yy (p.y *ℤ p.y),
-      times s.zz t.zz (p.z *ℤ p.z),
-      times s.xy t.xy (p.x *ℤ p.y),
-      times s.xz t.xz (p.x *ℤ p.z),
-      times s.yz t.yz (p.y *ℤ p.z),
-      times s.x t.x p.x,
-      times s.y t.y p.y,
-      times s.z t.z p.z,
-    )
-    (ten_sums (s.xx *ℤ (p.x *ℤ p.x)) (s.yy *ℤ (p.y *ℤ p.y)) (s.zz *ℤ (p.z *ℤ p.z))
-    (s.xy *ℤ (p.x *ℤ p.y)) (s.xz *ℤ (p.x *ℤ p.z)) (s.yz *ℤ (p.y *ℤ p.z)) (s.x *ℤ p.x)
-    (s.y *ℤ p.y) (s.z *ℤ p.z) s.one
-    (t.xx *ℤ (p.x *ℤ p.x)) (t.yy *ℤ (p.y *ℤ p.y)) (t.zz *ℤ (p.z *ℤ p.z)) (t.xy *ℤ (p.x *ℤ p.y))
-    (t.xz *ℤ (p.x *ℤ p.z)) (t.yz *ℤ (p.y *ℤ p.z)) (t.x *ℤ p.x) (t.y *ℤ p.y) (t.z *ℤ p.z) t.one)
+polynomial-plus s t p = grind (arith, common_steps, ten_sums, times)
 
 -- The square of a plane's value, multiplied out.
 multiplied_out : (a b c d x y z : ℤ)

@@ -1,10 +1,10 @@
 -- How far from 0 the numbers and the values of a face's plane can be.
 use Rattle.std.proofs.Common.{◌≡◌, ℕ, ◌*◌, ◌^◌, ◌≤◌, ◌<◌, List, [], ◌∷◌, length, sym, subst, arith}
+use Rattle.std.proofs.lemmas.Grind.{common_steps}
 use Rattle.std.specs.Prelude.{ℤ, neg_ℤ, ◌+ℤ◌, ◌*ℤ◌, unsigned_abs}
 use Rattle.std.proofs.lemmas.Nat.{mul-le}
 use borrow.Author.Differences.{ints}
 use Rattle.pm_base.specs.Place.{Place, IsPlace}
-use Rattle.pm_base.specs.Geometry.{Direction, cross_of}
 use Rattle.pm_base.proofs.Squares.{abs_plus}
 use Rattle.pm_base.proofs.Range.{abs_product, cross_small}
 use Rattle.pm_quadric.specs.declared.quadric.TheConstants.{MOST_PLANES}
@@ -38,15 +38,7 @@ along_small a b c x y z p q r s t u =
 of_corners_small : (a b c : Place) → IsPlace a → IsPlace b → IsPlace c
     → IsSmallPlane (plane_of a b c)
 of_corners_small a b c p q r =
-    let n = cross_small a b c p q r in
-    let m : Direction = cross_of a b c in
-    record {
-      a = n.0;
-      b = n.1;
-      c = n.2;
-      d =
-          rw abs_neg (along_small m.x m.y m.z a.x a.y a.z n.0 n.1 n.2 p.0 p.1 p.2);
-    }
+    grind (arith, common_steps, abs_neg, along_small, cross_small a b c p q r)
 
 pub plane_small : (f : Plane) → IsFacePlane f → IsSmallPlane f
 plane_small f h =
@@ -56,13 +48,7 @@ plane_small f h =
 -- A plane's value is at most twice the greatest last number, and its square below 2 ^ 102.
 value_small : (f : Plane) (p : Place) → IsSmallPlane f → IsPlace p
     → unsigned_abs (plane_value f p) ≤ 1688695246159824
-value_small f p s h =
-    omega (
-      arith,
-      s.d,
-      abs_plus (f.a *ℤ p.x +ℤ f.b *ℤ p.y +ℤ f.c *ℤ p.z) f.d,
-      along_small f.a f.b f.c p.x p.y p.z s.a s.b s.c h.0 h.1 h.2,
-    )
+value_small f p s h = grind (arith, common_steps, abs_plus, along_small)
 
 pub square_small : (f : Plane) (p : Place) → IsFacePlane f → IsPlace p → squared_value f p < 2 ^ 102
 square_small f p h k =

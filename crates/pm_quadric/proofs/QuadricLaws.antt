@@ -1,5 +1,6 @@
 -- What keeps a quadric: it stands for the planes of some faces, and its numbers are small.
 use Rattle.std.proofs.Common.{◌≡◌, ◌+◌, ◌^◌, ◌≤◌, ◌<◌, List, [], ◌∷◌, ◌++◌, length, length-append}
+use Rattle.std.proofs.lemmas.Grind.{common_steps}
 use Rattle.std.proofs.Common.{refl, sym, ap, ◌∙◌, subst, arith}
 use Rattle.std.specs.Prelude.{unsigned_abs}
 use Rattle.pm_base.specs.Place.{Place, IsPlace}
@@ -59,18 +60,16 @@ sums_joined s t fs gs p q =
 pub quadric_plus : (s t : Sums) → IsQuadric s → IsQuadric t → s.count + t.count ≤ MOST_PLANES
     → IsQuadric (plus_sums s t)
 quadric_plus s t h k few =
-    is_quadric (plus_sums s t) (record {
-      planes = h.stands.planes ++ k.stands.planes;
-      faces = faces-append h.stands.planes k.stands.planes h.stands.faces k.stands.faces;
-      few = omega (
-        arith,
-        length-append h.stands.planes k.stands.planes,
-        count_is s h.stands.planes
-            h.stands.sums,
-        count_is t k.stands.planes k.stands.sums,
-      );
-      sums = sums_joined s t h.stands.planes k.stands.planes h.stands.sums k.stands.sums;
-    })
+    grind (
+      arith,
+      common_steps,
+      count_is s h.stands.planes h.stands.sums,
+      count_is t k.stands.planes k.stands.sums,
+      faces-append h.stands.planes k.stands.planes h.stands.faces k.stands.faces,
+      is_quadric (plus_sums s t),
+      length-append h.stands.planes k.stands.planes,
+      sums_joined s t h.stands.planes k.stands.planes h.stands.sums k.stands.sums,
+    )
 
 -- The polynomial at a place, by the list and by the type.
 pub polynomial_is : (s : Sums) (fs : List Plane) (p : Place) → s ≡ sums_of fs

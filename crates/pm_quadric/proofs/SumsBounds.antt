@@ -1,5 +1,6 @@
 -- How far from 0 the sums over a list of face planes can be.
-use Rattle.std.proofs.Common.{◌≡◌, ℕ, ◌+◌, ◌*◌, ◌^◌, ◌≤◌, List, [], ◌∷◌, length, refl, subst, arith}
+use Rattle.std.proofs.Common.{◌≡◌, ℕ, ◌+◌, ◌*◌, ◌^◌, ◌≤◌, List, [], ◌∷◌, length, subst, arith}
+use Rattle.std.proofs.lemmas.Grind.{common_steps}
 use Rattle.std.proofs.Common.{lit≤}
 use Rattle.std.proofs.Math.Nat.{le_refl}
 use Rattle.std.specs.Prelude.{ℤ, pos, ◌+ℤ◌, ◌*ℤ◌, unsigned_abs}
@@ -66,19 +67,7 @@ plane_more f s n h w = record {
 }
 
 pub sums_within : (fs : List Plane) → AreFacePlanes fs → IsWithin (length fs) (sums_of fs)
-sums_within [] hs = record {
-  xx = omega arith;
-  xy = omega arith;
-  xz = omega arith;
-  x = omega arith;
-  yy = omega arith;
-  yz = omega arith;
-  y = omega arith;
-  zz = omega arith;
-  z = omega arith;
-  one = omega arith;
-  count = refl;
-}
+sums_within [] hs = grind (arith, common_steps)
 sums_within (f ∷ fs) hs =
     let e : length fs + 1 ≡ length (f ∷ fs) = omega arith in
     subst (λ (n : ℕ). IsWithin n (sums_of (f ∷ fs))) e
@@ -89,19 +78,7 @@ at_most : (x n k m : ℕ) → x ≤ n * k → n ≤ MOST_PLANES → MOST_PLANES 
 at_most x n k m p q r = omega (arith, mul-le n k MOST_PLANES k q (le_refl k))
 
 within_small : (n : ℕ) (s : Sums) → n ≤ MOST_PLANES → IsWithin n s → IsSmall s
-within_small n s h w = record {
-  xx = at_most _ n (2 ^ 67) (2 ^ 89) w.xx h (lit≤ tt);
-  xy = at_most _ n (2 ^ 67) (2 ^ 89) w.xy h (lit≤ tt);
-  xz = at_most _ n (2 ^ 67) (2 ^ 89) w.xz h (lit≤ tt);
-  x = at_most _ n (2 ^ 84) (2 ^ 106) w.x h (lit≤ tt);
-  yy = at_most _ n (2 ^ 67) (2 ^ 89) w.yy h (lit≤ tt);
-  yz = at_most _ n (2 ^ 67) (2 ^ 89) w.yz h (lit≤ tt);
-  y = at_most _ n (2 ^ 84) (2 ^ 106) w.y h (lit≤ tt);
-  zz = at_most _ n (2 ^ 67) (2 ^ 89) w.zz h (lit≤ tt);
-  z = at_most _ n (2 ^ 84) (2 ^ 106) w.z h (lit≤ tt);
-  one = at_most _ n (2 ^ 100) (2 ^ 122) w.one h (lit≤ tt);
-  count = omega (arith, w.count);
-}
+within_small n s h w = grind (arith, common_steps, at_most)
 
 pub sums_small : (fs : List Plane) → AreFacePlanes fs → length fs ≤ MOST_PLANES
     → IsSmall (sums_of fs)
