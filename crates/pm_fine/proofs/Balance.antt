@@ -1,6 +1,7 @@
 -- The mixed sums of a list of planes are no greater than those of squares: twice a product is at
 -- most the sum of both squares.
-use Rattle.std.proofs.Common.{◌≡◌, ◌+◌, ◌*◌, ◌≤◌, List, [], ◌∷◌, refl, arith}
+use Rattle.std.proofs.Common.{◌≡◌, ◌+◌, ◌*◌, ◌≤◌, List, [], ◌∷◌, arith}
+use Rattle.std.proofs.lemmas.Grind.{common_steps}
 use Rattle.std.specs.Prelude.{ℤ, pos, ◌+ℤ◌, ◌*ℤ◌, unsigned_abs}
 use Rattle.std.proofs.lemmas.Int.{unsigned_abs-mul}
 use borrow.Author.Differences.{ints}
@@ -49,12 +50,5 @@ more f s h = record {
 }
 
 pub balanced : (fs : List Plane) → IsBalanced (sums_of fs)
-balanced [] = record {
-  xx = refl;
-  yy = refl;
-  zz = refl;
-  xy = omega arith;
-  xz = omega arith;
-  yz = omega arith;
-}
+balanced [] = grind (arith, common_steps)
 balanced (f ∷ fs) = more f (sums_of fs) (balanced fs)

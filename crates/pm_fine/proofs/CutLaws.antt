@@ -1,6 +1,7 @@
 -- How far from 0 halves and numbers without their last digits can be, and how many digits they
 -- keep.
 use Rattle.std.proofs.Common.{ℕ, ◌+◌, ◌*◌, ◌/◌, ◌^◌, ◌<◌, ◌≤◌, arith}
+use Rattle.std.proofs.lemmas.Grind.{common_steps}
 use Rattle.std.specs.Prelude.{ℤ, pos, negsuc, unsigned_abs}
 use Rattle.std.specs.Int.{int_shr}
 use Rattle.std.proofs.Math.Nat.{le_refl}
@@ -24,9 +25,7 @@ half_within (negsuc n) m h = omega (arith, div_less n 2 m (omega arith))
 -- A number keeps at most k digits, and its first one.
 pub kept_is : (n k : ℕ) → n < 2 ^ 128 → n / 2 ^ digits_above k n < 2 ^ k
 kept_is n k h =
-    let l = leading_length 128 n h in
-    let d : l.0 ≤ k + digits_above k n = omega (arith, l.1) in
-    shr_below n k (digits_above k n) (omega (arith, l.2, pow_mono d))
+    grind (arith, common_steps, pow_mono, leading_length 128 n h, shr_below n k (digits_above k n))
 
 pub first_is : (n k : ℕ) → n < 2 ^ 128 → 0 < k → 0 < n → 0 < n / 2 ^ digits_above k n
 first_is n k h some more =

@@ -1,7 +1,8 @@
 -- What keeps a fine quadric: it stands for some fine planes, and its numbers and values are small.
 use Rattle.std.proofs.Common.{◌+◌, ◌-◌, ◌*◌, ◌^◌, ◌≤◌, ◌<◌, List, [], ◌∷◌, ◌++◌, length}
+use Rattle.std.proofs.lemmas.Grind.{common_steps}
 use Rattle.std.proofs.Common.{length-append, refl, sym, subst, arith}
-use Rattle.std.specs.Prelude.{◌+ℤ◌, ◌*ℤ◌, unsigned_abs}
+use Rattle.std.specs.Prelude.{unsigned_abs}
 use Rattle.std.proofs.lemmas.Nat.{mul-le}
 use Rattle.pm_base.specs.Place.{Place, IsPlace}
 use Rattle.pm_base.proofs.Squares.{abs_plus}
@@ -18,17 +19,7 @@ use Rattle.pm_fine.proofs.SumsBounds.{sums_small}
 -- A plane's value is at most twice the greatest last number, and its square below 2 ^ 90.
 value_small : (f : Plane) (p : Place) → IsFinePlane f → IsPlace p
     → unsigned_abs (plane_value f p) ≤ 26387473760256
-value_small f p s h =
-    omega (
-      arith,
-      s.d,
-      abs_plus (f.a *ℤ p.x +ℤ f.b *ℤ p.y +ℤ f.c *ℤ p.z) f.d,
-      abs_plus (f.a *ℤ p.x +ℤ f.b *ℤ p.y) (f.c *ℤ p.z),
-      abs_plus (f.a *ℤ p.x) (f.b *ℤ p.y),
-      abs_product f.a p.x 134217728 32767 s.a h.0,
-      abs_product f.b p.y 134217728 32767 s.b h.1,
-      abs_product f.c p.z 134217728 32767 s.c h.2,
-    )
+value_small f p s h = grind (arith, common_steps, abs_plus, abs_product)
 
 pub square_small : (f : Plane) (p : Place) → IsFinePlane f → IsPlace p
     → squared_value f p ≤ 2 ^ 90 - 1
@@ -74,18 +65,16 @@ fine_one f h =
 pub fine_plus : (s t : Sums) → IsFineQuadric s → IsFineQuadric t
     → s.count + t.count ≤ MOST_FINE_PLANES → IsFineQuadric (plus_sums s t)
 fine_plus s t h k few =
-    is_fine (plus_sums s t) (record {
-      planes = h.stands.planes ++ k.stands.planes;
-      fine = fine-append h.stands.planes k.stands.planes h.stands.fine k.stands.fine;
-      few = omega (
-        arith,
-        length-append h.stands.planes k.stands.planes,
-        count_is s h.stands.planes
-            h.stands.sums,
-        count_is t k.stands.planes k.stands.sums,
-      );
-      sums = sums_joined s t h.stands.planes k.stands.planes h.stands.sums k.stands.sums;
-    })
+    grind (
+      arith,
+      common_steps,
+      count_is s h.stands.planes h.stands.sums,
+      count_is t k.stands.planes k.stands.sums,
+      fine-append h.stands.planes k.stands.planes h.stands.fine k.stands.fine,
+      is_fine (plus_sums s t),
+      length-append h.stands.planes k.stands.planes,
+      sums_joined s t h.stands.planes k.stands.planes h.stands.sums k.stands.sums,
+    )
 
 pub polynomial_below : (s : Sums) (p : Place) → IsFineQuadric s → IsPlace p
     → unsigned_abs (polynomial s p) < 2 ^ 114

@@ -1,22 +1,15 @@
 -- The first least of a list's places has no greater value than any of them.
-use Rattle.std.proofs.Common.{ℕ, ◌≤◌, List, [], ◌∷◌, inl, inr, arith, subst, sym}
+use Rattle.std.proofs.Common.{ℕ, ◌≤◌, List, [], ◌∷◌, arith}
+use Rattle.std.proofs.lemmas.Grind.{common_steps}
 use Rattle.std.proofs.Math.Nat.{le_refl}
-use Rattle.std.specs.Prelude.{nat_lt}
-use Rattle.std.proofs.lemmas.Bool.{cases_Bool, ltb-true, ltb-false, cond-true, cond-false}
+use Rattle.std.proofs.lemmas.Bool.{ltb-true, ltb-false, cond-true, cond-false}
 use Rattle.pm_base.specs.Place.{Place}
 use Rattle.pm_fine.specs.FinePlaces.{lesser, first_least_of, IsLeastOf}
 
 lesser_least : (value : Place → ℕ) (a b : Place) → (value (lesser value a b) ≤ value a)
     × (value (lesser value a b) ≤ value b)
 lesser_least value a b =
-    elim (cases_Bool (nat_lt (value b) (value a))) [
-      | inl e ↦ subst (λ (p : Place). (value p ≤ value a) × (value p ≤ value b))
-          (sym (cond-true (nat_lt (value b) (value a)) b a e))
-          (omega (arith, ltb-true (value b) (value a) e), le_refl (value b))
-      | inr e ↦ subst (λ (p : Place). (value p ≤ value a) × (value p ≤ value b))
-          (sym (cond-false (nat_lt (value b) (value a)) b a e))
-          (le_refl (value a), omega (arith, ltb-false (value b) (value a) e))
-    ]
+    grind (arith, common_steps, cond-false, cond-true, le_refl, ltb-false, ltb-true)
 
 -- at most the value of the place before the list, and of each place in it
 no_greater : (value : Place → ℕ) (a : Place) (ps : List Place)

@@ -1,21 +1,16 @@
 -- How far from 0 a rounded quotient can be.
-use Rattle.std.proofs.Common.{◌≡◌, ℕ, ◌+◌, ◌*◌, ◌/◌, ◌<◌, ◌≤◌, inl, inr, refl, arith}
+use Rattle.std.proofs.Common.{◌≡◌, ℕ, ◌+◌, ◌*◌, ◌/◌, ◌<◌, ◌≤◌, refl, arith}
+use Rattle.std.proofs.lemmas.Grind.{common_steps}
 use Rattle.std.specs.Prelude.{ℤ, pos, negsuc, ◌+ℤ◌, ◌*ℤ◌, unsigned_abs}
 use Rattle.std.specs.Int.{int_div_euclid}
 use Rattle.std.proofs.Math.Nat.{mul-div-le}
-use Rattle.std.proofs.lemmas.Bool.{cases_lt}
 use Rattle.std.proofs.lemmas.Nat.{mul-le}
 use borrow.Author.Differences.{ints, product_is}
 use Rattle.pm_fine.specs.Rounded.{near}
 
 -- a quotient below m
 pub div_less : (n d m : ℕ) → n < d * m → n / d < m
-div_less n d m l =
-    elim (cases_lt (n / d) m) [
-      | inl q ↦ q
-      | inr q ↦ (let p = mul-div-le n d in let r = mul-le d m d (n / d) (omega arith) q in
-          absurd (omega arith))
-    ]
+div_less n d m l = grind (arith, common_steps, mul-div-le, mul-le)
 
 twice_is : (a : ℤ) → pos 2 *ℤ a ≡ a +ℤ a
 twice_is a = omega (arith, ints, product_is (pos 2) a)

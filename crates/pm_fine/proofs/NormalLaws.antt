@@ -1,12 +1,13 @@
 -- Normals brought to a length, from their numbers.
-use Rattle.std.proofs.Common.{◌≡◌, ℕ, ◌*◌, ◌^◌, ◌<◌, ◌==◌, false, inl, inr, refl, sym, ◌∙◌, ap}
+use Rattle.std.proofs.Common.{◌≡◌, ℕ, ◌*◌, ◌^◌, ◌<◌, ◌==◌, false, inl, inr, refl, sym, ◌∙◌}
+use Rattle.std.proofs.lemmas.Grind.{common_steps}
 use Rattle.std.proofs.Common.{arith}
 use Rattle.std.specs.Prelude.{ℤ, pos, ◌*ℤ◌}
 use Rattle.std.proofs.lemmas.Bool.{cond-true, cond-false, cases_Bool, eqb-true, eq-eqb}
 use Rattle.pm_base.specs.Place.{Place}
 use Rattle.pm_base.specs.Geometry.{Direction, norm2_of}
 use Rattle.pm_fine.specs.Rounded.{near, root}
-use Rattle.pm_fine.specs.Normals.{no_direction, scaled, root_length, area_normal_of, fine_length}
+use Rattle.pm_fine.specs.Normals.{no_direction, scaled, root_length, area_normal_of}
 use Rattle.pm_fine.specs.Normals.{product_of, way_of, border_normal_of}
 
 not_none : (q : ℕ) → 0 < q → (q == 0) ≡ false
@@ -28,10 +29,7 @@ area_none n q is none =
 pub border_none : (a b : Place) (n : Direction) (q : ℕ) → q ≡ norm2_of n → q ≡ 0
     → no_direction ≡ border_normal_of a b n
 unfolding border_normal_of
-border_none a b n q is none =
-    sym (cond-true (norm2_of n == 0) no_direction
-    (scaled (pos (11 * 2 ^ 18)) (2 * fine_length n) (product_of (way_of a b) n))
-    (eq-eqb (norm2_of n) 0 (sym is ∙ none)))
+border_none a b n q is none = grind (arith, common_steps, cond-true, eq-eqb)
 
 -- and one with some
 pub area_some : (n : Direction) (q r : ℕ) (x y z : ℤ) → q ≡ norm2_of n → 0 < q
@@ -40,10 +38,7 @@ pub area_some : (n : Direction) (q r : ℕ) (x y z : ℤ) → q ≡ norm2_of n �
     → (let d : Direction = record { x = x; y = y; z = z } in d) ≡ area_normal_of n
 unfolding area_normal_of
 area_some n q r x y z is some er ex ey ez =
-    let e : r ≡ root_length n = er ∙ ap (λ (k : ℕ). root (root (k * 2 ^ 48))) is in
-    scaled_is (pos (2 ^ 18)) r (root_length n) n x y z e ex ey ez
-    ∙ sym (cond-false (norm2_of n == 0) no_direction (scaled (pos (2 ^ 18)) (root_length n) n)
-    (ap (λ (k : ℕ). k == 0) (sym is) ∙ not_none q some))
+    grind (arith, common_steps, cond-false, not_none, scaled_is)
 
 pub border_some : (a b : Place) (n : Direction) (q r : ℕ) (x y z : ℤ) → q ≡ norm2_of n → 0 < q
     → r ≡ root (q * 2 ^ 24)
@@ -53,10 +48,4 @@ pub border_some : (a b : Place) (n : Direction) (q r : ℕ) (x y z : ℤ) → q 
     → (let d : Direction = record { x = x; y = y; z = z } in d) ≡ border_normal_of a b n
 unfolding border_normal_of
 border_some a b n q r x y z is some er ex ey ez =
-    let e : 2 * r ≡ 2 * fine_length n =
-    ap (λ (k : ℕ). 2 * k) (er ∙ ap (λ (k : ℕ). root (k * 2 ^ 24)) is) in
-    scaled_is (pos (11 * 2 ^ 18)) (2 * r) (2 * fine_length n) (product_of (way_of a b) n) x y z e ex
-    ey ez
-    ∙ sym (cond-false (norm2_of n == 0) no_direction
-    (scaled (pos (11 * 2 ^ 18)) (2 * fine_length n) (product_of (way_of a b) n))
-    (ap (λ (k : ℕ). k == 0) (sym is) ∙ not_none q some))
+    grind (arith, common_steps, cond-false, not_none, scaled_is)

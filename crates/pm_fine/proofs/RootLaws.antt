@@ -1,5 +1,6 @@
 -- What roots rounded down are, and how a vector's numbers stand to its length.
-use Rattle.std.proofs.Common.{◌≡◌, ℕ, ◌+◌, ◌-◌, ◌*◌, ◌^◌, ◌<◌, ◌≤◌, inl, inr, subst, arith}
+use Rattle.std.proofs.Common.{◌≡◌, ℕ, ◌+◌, ◌-◌, ◌*◌, ◌^◌, ◌<◌, ◌≤◌, inl, inr, arith}
+use Rattle.std.proofs.lemmas.Grind.{common_steps}
 use Rattle.std.proofs.Math.Nat.{le_refl}
 use Rattle.std.specs.Prelude.{ℤ, ◌-ℤ◌, ◌*ℤ◌, unsigned_abs}
 use Rattle.std.proofs.lemmas.Nat.{mul-le}
@@ -19,33 +20,17 @@ root_lt x y h =
 -- it.
 pub root_only : (n r : ℕ) → r * r ≤ n → n < (r + 1) * (r + 1) → r ≡ root n
 unfolding root
-root_only n r p q =
-    omega (
-      arith,
-      root_up_only (n + 1) (r + 1) (omega arith)
-          (λ m h. omega (arith, root_lt r m (omega (arith, h)))),
-    )
+root_only n r p q = grind (arith, common_steps, root_lt, root_up_only)
 
 -- and so it is what it is said to be
 some_up : (n : ℕ) → 1 ≤ root_up (n + 1)
-some_up n = elim (cases_lt 0 (root_up (n + 1))) [
-  | inl l ↦ l
-  | inr l ↦ let z : root_up (n + 1) ≡ 0 =
-      omega arith in
-      absurd (omega (arith, subst (λ (r : ℕ). n + 1 ≤ r * r) z (root_up_is (n + 1)).enough))
-]
+some_up n = grind (arith, common_steps, root_up_is (n + 1))
 
 square_kept : (n j : ℕ) → root_up (n + 1) ≡ j + 1 → j * j ≤ n
-square_kept n j e = elim (cases_lt n (j * j)) [
-  | inl l ↦ absurd (omega (arith, (root_up_is (n + 1)).least j (omega arith), e))
-  | inr l ↦ l
-]
+square_kept n j e = grind (arith, common_steps, root_up_is (n + 1))
 
 most_kept : (n j : ℕ) → root_up (n + 1) ≡ j + 1 → (m : ℕ) → m * m ≤ n → m ≤ j
-most_kept n j e m h =
-    let enough : n + 1 ≤ (j + 1) * (j + 1) =
-    subst (λ (r : ℕ). n + 1 ≤ r * r) e (root_up_is (n + 1)).enough in
-    omega (arith, root_lt m (j + 1) (omega (arith, h, enough)))
+most_kept n j e m h = grind (arith, common_steps, root_lt m (j + 1), root_up_is (n + 1))
 
 pub root_is : (n : ℕ) → IsRoot n (root n)
 unfolding root
@@ -64,24 +49,13 @@ square_le x y h = mul-le x x y y h h
 
 pub twice_small : (q p r : ℕ) → q ≤ 3 * 2 ^ 66 → p * p ≤ q * 2 ^ 48 → r * r ≤ p
     → r ≤ 2 ^ 29 - 2 ^ 25
-twice_small q p r h f s = elim (cases_lt 503316480 r) [
-  | inl l ↦ (
-      let a : 503316480 * 503316480 ≤ r * r = square_le 503316480 r (omega arith) in
-      let b : 503316480 * 503316480 ≤ p = omega (arith, a, s) in
-      let c = square_le (503316480 * 503316480) p b in
-      absurd (omega (arith, c, f, h)))
-  | inr l ↦ l
-]
+twice_small q p r h f s =
+    grind (arith, common_steps, square_le 503316480 r, square_le (503316480 * 503316480) p)
 
 pub twice_some : (q p r : ℕ) → 0 < q → q * 2 ^ 48 < (p + 1) * (p + 1) → p < (r + 1) * (r + 1)
     → 4096 ≤ r
-twice_some q p r h f s = elim (cases_lt r 4096) [
-  | inl l ↦ (
-      let a : (r + 1) * (r + 1) ≤ 4096 * 4096 = square_le (r + 1) 4096 (omega arith) in
-      let b = square_le (p + 1) (4096 * 4096) (omega (arith, a, s)) in
-      absurd (omega (arith, b, f, h)))
-  | inr l ↦ l
-]
+twice_some q p r h f s =
+    grind (arith, common_steps, square_le (r + 1) 4096, square_le (p + 1) (4096 * 4096))
 
 -- each number of the vector is at most its length
 below_both : (m q p r : ℕ) → m * m ≤ q → q * 2 ^ 48 < (p + 1) * (p + 1) → p < (r + 1) * (r + 1)
@@ -98,23 +72,14 @@ twice_reaches q p r f s some most m h =
 
 -- One root of q * 2 ^ 24.
 pub once_some : (q r : ℕ) → 0 < q → q * 2 ^ 24 < (r + 1) * (r + 1) → 4096 ≤ r
-once_some q r h f = elim (cases_lt r 4096) [
-  | inl l ↦ absurd (omega (arith, square_le (r + 1) 4096 (omega arith), f, h))
-  | inr l ↦ l
-]
+once_some q r h f = grind (arith, common_steps, square_le)
 
 pub once_small : (q r : ℕ) → q ≤ 3 * 2 ^ 66 → r * r ≤ q * 2 ^ 24 → r < 2 ^ 46
-once_small q r h f = elim (cases_lt r (2 ^ 46)) [
-  | inl l ↦ l
-  | inr l ↦ absurd (omega (arith, square_le (2 ^ 46) r l, f, h))
-]
+once_small q r h f = grind (arith, common_steps, square_le)
 
 pub once_reaches : (q r : ℕ) → q * 2 ^ 24 < (r + 1) * (r + 1) → 4096 ≤ r → (m : ℕ)
     → m * m ≤ 8589410312 * q → m * 2883584 ≤ 67108863 * (2 * r)
-once_reaches q r f some m h =
-    let a : m * 4096 < 92680 * (r + 1) =
-    root_lt (m * 4096) (92680 * (r + 1)) (omega (arith, h, f)) in
-    omega (arith, a, some)
+once_reaches q r f some m h = grind (arith, common_steps, root_lt (m * 4096) (92680 * (r + 1)))
 
 -- The determinant of two numbers of a way and two of a normal is at most the product of their
 -- lengths.

@@ -1,5 +1,6 @@
 -- How far from 0 the sums over a list of fine planes can be.
-use Rattle.std.proofs.Common.{◌≡◌, ℕ, ◌+◌, ◌*◌, ◌^◌, ◌≤◌, List, [], ◌∷◌, length, refl, subst, arith}
+use Rattle.std.proofs.Common.{◌≡◌, ℕ, ◌+◌, ◌*◌, ◌^◌, ◌≤◌, List, [], ◌∷◌, length, arith}
+use Rattle.std.proofs.lemmas.Grind.{common_steps}
 use Rattle.std.proofs.Common.{lit≤}
 use Rattle.std.proofs.Math.Nat.{le_refl}
 use Rattle.std.specs.Prelude.{ℤ, pos, ◌+ℤ◌, ◌*ℤ◌, unsigned_abs}
@@ -66,42 +67,16 @@ plane_more f s n h w = record {
 }
 
 pub sums_within : (fs : List Plane) → AreFinePlanes fs → IsWithin (length fs) (sums_of fs)
-sums_within [] hs = record {
-  xx = omega arith;
-  xy = omega arith;
-  xz = omega arith;
-  x = omega arith;
-  yy = omega arith;
-  yz = omega arith;
-  y = omega arith;
-  zz = omega arith;
-  z = omega arith;
-  one = omega arith;
-  count = refl;
-}
+sums_within [] hs = grind (arith, common_steps)
 sums_within (f ∷ fs) hs =
-    let e : length fs + 1 ≡ length (f ∷ fs) = omega arith in
-    subst (λ (n : ℕ). IsWithin n (sums_of (f ∷ fs))) e
-    (plane_more f (sums_of fs) (length fs) hs.0 (sums_within fs hs.1))
+    grind (arith, common_steps, plane_more f (sums_of fs) (length fs) hs.0, sums_within fs hs.1)
 
 -- With at most as many planes as a quadric can stand for.
 at_most : (x n k m : ℕ) → x ≤ n * k → n ≤ MOST_FINE_PLANES → MOST_FINE_PLANES * k ≤ m → x ≤ m
 at_most x n k m p q r = omega (arith, mul-le n k MOST_FINE_PLANES k q (le_refl k))
 
 within_small : (n : ℕ) (s : Sums) → n ≤ MOST_FINE_PLANES → IsWithin n s → IsFineSmall s
-within_small n s h w = record {
-  xx = at_most _ n (2 ^ 55) (2 ^ 79) w.xx h (lit≤ tt);
-  xy = at_most _ n (2 ^ 55) (2 ^ 79) w.xy h (lit≤ tt);
-  xz = at_most _ n (2 ^ 55) (2 ^ 79) w.xz h (lit≤ tt);
-  x = at_most _ n (2 ^ 72) (2 ^ 96) w.x h (lit≤ tt);
-  yy = at_most _ n (2 ^ 55) (2 ^ 79) w.yy h (lit≤ tt);
-  yz = at_most _ n (2 ^ 55) (2 ^ 79) w.yz h (lit≤ tt);
-  y = at_most _ n (2 ^ 72) (2 ^ 96) w.y h (lit≤ tt);
-  zz = at_most _ n (2 ^ 55) (2 ^ 79) w.zz h (lit≤ tt);
-  z = at_most _ n (2 ^ 72) (2 ^ 96) w.z h (lit≤ tt);
-  one = at_most _ n (2 ^ 88) (2 ^ 112) w.one h (lit≤ tt);
-  count = omega (arith, w.count);
-}
+within_small n s h w = grind (arith, common_steps, at_most)
 
 pub sums_small : (fs : List Plane) → AreFinePlanes fs → length fs ≤ MOST_FINE_PLANES
     → IsFineSmall (sums_of fs)

@@ -1,5 +1,6 @@
 -- Machine integers at 128 bits, which goals show as bits that are read back.
 use Rattle.std.proofs.Common.{◌≡◌, ℕ, ◌*◌, ◌^◌, ◌≤◌, FitsSigned, to_z, of_z, ap, ◌∙◌, arith, lit<}
+use Rattle.std.proofs.lemmas.Grind.{common_steps}
 use mir.Syntax.{w128}
 use Rattle.std.specs.Prelude.{ℤ, ◌+ℤ◌, ◌*ℤ◌, unsigned_abs}
 use Rattle.std.proofs.lemmas.Nat.{mul-le}
@@ -45,9 +46,4 @@ sum_read a b = to_z w128 (of_z w128 (to_z w128 (of_z w128 a) +ℤ to_z w128 (of_
 
 pub sum_is : (a b : ℤ) (m : ℕ) → unsigned_abs a ≤ m → unsigned_abs b ≤ m → m ≤ 2 ^ 125
     → sum_read a b ≡ a +ℤ b
-sum_is a b m p q r =
-    let f : FitsSigned w128 (a +ℤ b) =
-    fits_signed_from_abs w128 (a +ℤ b) (omega (arith, abs_plus a b)) in
-    let fa : FitsSigned w128 a = fits_signed_from_abs w128 a (omega arith) in
-    let fb : FitsSigned w128 b = fits_signed_from_abs w128 b (omega arith) in
-    simp to_z-of_z
+sum_is a b m p q r = grind (arith, common_steps, abs_plus, fits_signed_from_abs, to_z-of_z)
