@@ -1,5 +1,6 @@
 -- The table of quadrics goes by a plain policy: at the start, and over one collapse more.
 use Rattle.std.proofs.Common.{◌≡◌, ◌≢◌, ℕ, suc, ◌+◌, ◌*◌, ◌<◌, ◌≤◌, Bool, Some, true, List, [], ◌∷◌}
+use Rattle.std.proofs.lemmas.Grind.{common_steps}
 use Rattle.std.proofs.Common.{◌++◌, length, length-append, get_or, inl, inr, refl, sym, ap, ◌∙◌}
 use Rattle.std.proofs.Common.{subst, arith}
 use Rattle.std.specs.Prelude.{Result, Ok, Err, IfOk}
@@ -53,10 +54,7 @@ module _ (p : Policy) (plain : p ≡ plain_keeping p.kept) where
 
   first_planes : (m : Mesh) (v : ℕ) → planes_by p m [] v ≡ planes_at m v
   first_planes m v =
-      let first = (planes_are_taken p m).0 v in
-      let none = first.taken ∙ takes_none (surface_of m) v in
-      ap (λ (ps : List Plane). ps ++ brought_after p m [] v) none
-      ∙ first.brought ∙ brings_all m v
+      grind (arith, common_steps, brings_all m v, planes_are_taken p m, takes_none (surface_of m) v)
 
   module _
       (m : Mesh) (start : IsStartOfRun m) (log : List Collapse) (run : IsRun m log)
@@ -77,10 +75,7 @@ module _ (p : Policy) (plain : p ≡ plain_keeping p.kept) where
         (sym (none_taken c.u))
 
     other_planes : (v : ℕ) → v ≢ c.s → planes_by p m (log ++ c ∷ []) v ≡ planes_by p m log v
-    other_planes v off =
-        let same = ((planes_are_taken p m).1 log c).others v off in
-        ap (λ (ps : List Plane). ps ++ brought_after p m (log ++ c ∷ []) v) same.0
-        ∙ ap (λ (ps : List Plane). taken_after p m log v ++ ps) same.1
+    other_planes v off = grind (arith, common_steps, planes_are_taken p m)
 
 -- Before the first collapse.
 pub goes_first :
@@ -156,11 +151,7 @@ module _
   low = (let room = goes.room in let less = fewer in omega arith)
 
   pub merged_in : (c.t < length t.slots) × ((c.u < length t.slots) × (c.s < length t.slots))
-  merged_in =
-      let new = step-new now c step in
-      let room = low in
-      let lt = live_below now c.t live.0 in
-      let lu = live_below now c.u live.1 in (omega arith, (omega arith, omega arith))
+  merged_in = grind (arith, common_steps, live, live_below, low, step, step-new)
 
   pub merged_fits : (quadric_at t c.t).count + (quadric_at t c.u).count ≤ MOST_PLANES
   merged_fits =

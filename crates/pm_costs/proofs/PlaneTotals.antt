@@ -1,5 +1,6 @@
 -- The planes at the vertices of a mesh: what one more face adds.
-use Rattle.std.proofs.Common.{◌≡◌, ℕ, suc, ◌+◌, ◌<◌, ◌≤◌, true, false, cond, List, [], ◌∷◌, ◌++◌}
+use Rattle.std.proofs.Common.{◌≡◌, ℕ, ◌+◌, ◌<◌, ◌≤◌, true, false, cond, List, [], ◌∷◌, ◌++◌}
+use Rattle.std.proofs.lemmas.Grind.{common_steps}
 use Rattle.std.proofs.Common.{length, map, get_or, take, append-nil, inl, inr, refl, sym, ap, ◌∙◌}
 use Rattle.std.proofs.Common.{arith}
 use Rattle.std.specs.List.{filter}
@@ -28,13 +29,7 @@ planes-more : (points : List Place) (faces : List Corners) (i v : ℕ) → i < l
     ++ one_plane points (get_or faces i no_corners) v
 unfolding planes_at
 planes-more points faces i v l =
-    let p : Corners → Plane = plane_of_face (mesh_with points []) in
-    let n : i + 1 ≡ suc i = omega arith in
-    ap (λ (k : List Corners). map p (filter (has_corner v) k)) (ap (λ (k : ℕ). take k faces) n
-    ∙ take-suc faces i no_corners l)
-    ∙ ap (map p) (filter-append (has_corner v) (take i faces) (get_or faces i no_corners ∷ []))
-    ∙ map-append p (filter (has_corner v) (take i faces))
-    (filter (has_corner v) (get_or faces i no_corners ∷ []))
+    grind (arith, common_steps, filter-append, get_or, map-append, take-suc)
 
 one-is : (points : List Place) (f : Corners) (v : ℕ)
     → one_plane points f v ≡ cond (has_corner v f) (plane_of_face (mesh_with points []) f ∷ []) []
@@ -67,15 +62,7 @@ length-one : (points : List Place) (f : Corners) (fs : List Corners) (v : ℕ) �
     length (planes_at (mesh_with points (f ∷ fs)) v)
     ≡ one_if (has_corner v f) + length (planes_at (mesh_with points fs) v)
 unfolding planes_at
-length-one points f fs v =
-    let p : Corners → Plane = plane_of_face (mesh_with points []) in
-    elim (has_corner v f) as
-    (λ b. length (map p (cond b (f ∷ filter (has_corner v) fs) (filter (has_corner v) fs)))
-    ≡ one_if b + length (map p (filter (has_corner v) fs))) [
-      | true ↦ omega arith
-      | false ↦
-          omega arith
-    ]
+length-one points f fs v = grind (arith, common_steps)
 
 -- There are no more planes at a vertex than faces.
 pub planes-short : (points : List Place) (faces : List Corners) (v : ℕ)

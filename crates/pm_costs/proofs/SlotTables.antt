@@ -1,8 +1,8 @@
 -- What a table of quadrics gives, as its slots change.
-use Rattle.std.proofs.Common.{◌≡◌, ◌≢◌, ℕ, ◌<◌, ◌≤◌, List, length, get_or, set, inl, inr, sym, ap}
-use Rattle.std.proofs.Common.{◌∙◌, arith, get_or-set_other, get_or-set_same}
+use Rattle.std.proofs.Common.{◌≡◌, ◌≢◌, ℕ, ◌<◌, ◌≤◌, List, length, get_or, set}
+use Rattle.std.proofs.lemmas.Grind.{common_steps}
+use Rattle.std.proofs.Common.{arith, get_or-set_other, get_or-set_same}
 use Rattle.std.proofs.lemmas.List.{length-set, length-map, get_or-map, get_or_past}
-use Rattle.std.proofs.lemmas.Bool.{cases_lt}
 use Rattle.pm_quadric.specs.Sums.{Sums, zero_sums}
 use Rattle.pm_costs.specs.Slots.{by_vertex}
 
@@ -24,24 +24,18 @@ module _ (slots : List ℕ) (quadrics : List Sums) (slot s : ℕ) (sum : Sums) w
   pub by_vertex-new : s < length slots → slot < length quadrics
       → get_or (by_vertex (set slots s slot) (set quadrics slot sum)) s zero_sums ≡ sum
   by_vertex-new low within =
-      by_vertex-at (set slots s slot) (set quadrics slot sum) s (let n = length-set slots s slot in
-      omega arith)
-      ∙ ap (λ (k : ℕ). get_or (set quadrics slot sum) k zero_sums)
-      (get_or-set_same slots s slot 0 low)
-      ∙ get_or-set_same quadrics slot sum zero_sums within
+      grind (arith, common_steps, by_vertex-at, get_or, get_or-set_same, length-set)
 
   pub by_vertex-other : (v : ℕ) → v ≢ s → get_or slots v 0 ≢ slot
       → get_or (by_vertex (set slots s slot) (set quadrics slot sum)) v zero_sums
       ≡ get_or (by_vertex slots quadrics) v zero_sums
   by_vertex-other v off apart =
-      let n = length-set slots s slot in
-      elim (cases_lt v (length slots)) [
-        | inl l ↦
-            by_vertex-at (set slots s slot) (set quadrics slot sum) v (omega arith)
-            ∙ ap (λ (k : ℕ). get_or (set quadrics slot sum) k zero_sums)
-            (get_or-set_other slots s v slot 0 off)
-            ∙ get_or-set_other quadrics slot (get_or slots v 0) sum zero_sums apart
-            ∙ sym (by_vertex-at slots quadrics v l)
-        | inr g ↦ by_vertex-past (set slots s slot) (set quadrics slot sum) v (omega arith)
-            ∙ sym (by_vertex-past slots quadrics v g)
-      ]
+      grind (
+        arith,
+        common_steps,
+        by_vertex-at,
+        by_vertex-past,
+        get_or,
+        get_or-set_other,
+        length-set,
+      )
