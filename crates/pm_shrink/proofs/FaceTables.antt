@@ -1,6 +1,7 @@
 -- What a table of faces gives, as its rows change.
 use Rattle.std.proofs.Common.{◌≡◌, ◌≢◌, ℕ, ◌*◌, ◌%◌, ◌<◌, Option, None, List, length, get_or, set}
-use Rattle.std.proofs.Common.{inl, inr, refl, sym, ap, ◌∙◌, subst, arith, get_or-set_other}
+use Rattle.std.proofs.lemmas.Grind.{common_steps}
+use Rattle.std.proofs.Common.{inl, inr, sym, ap, ◌∙◌, subst, arith, get_or-set_other}
 use Rattle.std.proofs.Common.{get_or-set_same}
 use Rattle.std.proofs.lemmas.List.{length-set, length-map, get_or-map, get_or_read, ext_get_or}
 use Rattle.std.proofs.lemmas.List.FromFn.{length-map-range_with_len, get_or-map-range_with_len}
@@ -91,11 +92,7 @@ across_written rows e old r to low value here others =
     ∙ ap (λ (n : ℕ). 3 * n) (sym len))
     (λ g l.
     elim (cases_eq g e) [
-      | inl is ↦
-          ap (λ (n : ℕ). across_in (face_row (set rows f r) (face_of n)) (n % 3)) is
-          ∙ this_row rows f f (e % 3) r in_rows refl ∙ here
-          ∙ sym (get_or-set_same (across_of rows) e to None (omega arith))
-          ∙ ap (λ (n : ℕ). get_or (set (across_of rows) e to) n None) (sym is)
+      | inl is ↦ grind (arith, common_steps, get_or, get_or-set_same, this_row)
       | inr ne ↦
           elim (cases_eq (face_of g) f) [
             | inl is ↦

@@ -1,5 +1,6 @@
 -- The corners at a vertex: what a walk over them sees of the faces there.
 use Rattle.std.proofs.Common.{◌≡◌, ◌↔◌, ℕ, ◌<◌, arith, Bool, true, false, ◌&&◌, ◌||◌, eqb, List, []}
+use Rattle.std.proofs.lemmas.Grind.{common_steps}
 use Rattle.std.proofs.Common.{◌∷◌, get_or, ◌⊎◌, inl, inr, refl, sym, ap, ◌∙◌, subst}
 use Rattle.std.specs.Prelude.{is_none}
 use Rattle.std.specs.List.{All, list_any}
@@ -44,12 +45,7 @@ module _ (m : Net) (v : ℕ) (xs : List ℕ) (are : AreCornersAt m v xs) where
 
 -- No face holds a vertex twice.
 pub not_own_neighbour : (m : Net) (v : ℕ) → Joined m v v → ⊥
-not_own_neighbour m v j =
-    elim j [
-      | inl (e, r) ↦ r.stands.first (r.begins ∙ sym r.ends)
-      | inr (e, r) ↦
-          r.stands.first (r.begins ∙ sym r.ends)
-    ]
+not_own_neighbour m v j = grind (arith, common_steps)
 
 -- A walk: what is left to see decides.
 
@@ -72,39 +68,21 @@ SoFar good all xs = (e : ℕ) → has all e ≡ true → (has xs e ≡ true) ⊎
 pub so_far_more : (good : ℕ → Type 0) (all xs : List ℕ) (x : ℕ) (rest : List ℕ) → SoFar good all xs
     → xs ≡ x ∷ rest → good x → SoFar good all rest
 so_far_more good all xs x rest passed steps here e h =
-    elim (passed e h) [
-      | inr fine ↦ inr fine
-      | inl left ↦
-          elim (or_cases (eqb x e) (has rest e) (ap (λ k. has k e) (sym steps) ∙ left)) [
-            | inl at ↦ inr (subst good (eqb-true x e at) here)
-            | inr later ↦ inl later
-          ]
-    ]
+    grind (arith, common_steps, eqb-true, or_cases)
 
 pub so_far_all : (good : ℕ → Type 0) (all xs : List ℕ) → SoFar good all xs → xs ≡ [] → (e : ℕ)
     → has all e ≡ true → good e
-so_far_all good all xs passed ends e h =
-    elim (passed e h) [
-      | inl left ↦ absurd (false≢true (sym (ap (λ k. has k e) ends) ∙ left))
-      | inr fine ↦ fine
-    ]
+so_far_all good all xs passed ends e h = grind (arith, common_steps, false≢true)
 
 any-has : (p : ℕ → Bool) (xs : List ℕ) → list_any p xs ≡ true → (e : ℕ) × (has xs e ≡ true)
     × (p e ≡ true)
 any-has p [] t = absurd (false≢true t)
-any-has p (x ∷ xs) t =
-    elim (or_cases (p x) (list_any p xs) t) [
-      | inl here ↦ (x, has_head x xs, here)
-      | inr later ↦ let (e, h, is) = any-has p xs later in (e, has_tail x xs e h, is)
-    ]
+any-has p (x ∷ xs) t = grind (arith, common_steps, has_head, has_tail, or_cases, any-has p xs)
 
 has-any : (p : ℕ → Bool) (xs : List ℕ) (e : ℕ) → has xs e ≡ true → p e ≡ true → list_any p xs ≡ true
 has-any p [] e h is = absurd (false≢true h)
 has-any p (x ∷ xs) e h is =
-    elim (or_cases (eqb x e) (has xs e) h) [
-      | inl here ↦ or_left (p x) (list_any p xs) (ap p (eqb-true x e here) ∙ is)
-      | inr later ↦ or_right (p x) (list_any p xs) (has-any p xs e later is)
-    ]
+    grind (arith, common_steps, eqb-true, or_cases, or_left, or_right, has-any p xs e)
 
 module _ (m : Net) (v : ℕ) (xs : List ℕ) (are : AreCornersAt m v xs) where
   -- A corner that passes is seen, and one that is seen passes.
@@ -134,9 +112,7 @@ module _ (m : Net) (v : ℕ) (xs : List ℕ) (are : AreCornersAt m v xs) where
           corner-any (holds_vertex m w) e r.stands r.begins
           (or_left (eqb (to m e) w) (eqb (third m e) w) (eq-eqb (to m e) w r.ends))
       | inr (e, r) ↦
-          corner-any (holds_vertex m w) (next e) (stands_next m e r.stands) r.ends
-          (or_right (eqb (to m (next e)) w) (eqb (third m (next e)) w)
-          (eq-eqb (third m (next e)) w (third_next m e ∙ r.begins)))
+          grind (arith, common_steps, corner-any, eq-eqb, or_right, stands_next, third_next)
     ],
   )
 
@@ -205,18 +181,10 @@ module _ (m : Net) (v : ℕ) (xs : List ℕ) (are : AreCornersAt m v xs) where
 -- A face with corners a, b and w is one that holds a and b, with w for its third.
 pub face-third : (m : Net) (a b w : ℕ) → HasFace m a b w → IsThird m a b w
 face-third m a b w (e, st, at, way) =
-    let r : Runs m e a (to m e) = record { stands = st; begins = at; ends = refl } in
-    elim way [
-      | inl k ↦ (e, inl (record { stands = st; begins = at; ends = k.0 }), k.1)
-      | inr k ↦ (prev e, inr (runs_last m e a (to m e) b r k.1), third_next m (next e) ∙ k.0)
-    ]
+    grind (arith, common_steps, runs_last m e a (to m e) b, third_next m (next e))
 
 pub third-face : (m : Net) (a b w : ℕ) → IsThird m a b w → HasFace m a b w
-third-face m a b w (e, links, is) =
-    elim links [
-      | inl r ↦ (e, r.stands, r.begins, inl (r.ends, is))
-      | inr r ↦ (next e, stands_next m e r.stands, r.ends, inr (is, third_next m e ∙ r.begins))
-    ]
+third-face m a b w (e, links, is) = grind (arith, common_steps, stands_next, third_next)
 
 -- Without a stray every common neighbour is a third corner.
 pub no_stray_common : (m : Net) (a b : ℕ) (xs : List ℕ) → AreCornersAt m a xs
@@ -321,10 +289,4 @@ own_upright s p q place is e st at x y =
 
 pub same_place : (p q : Place) → (int_eq p.x q.x && (int_eq p.y q.y && int_eq p.z q.z)) ≡ true
     → p ≡ q
-same_place p q t =
-    let one = and_parts (int_eq p.x q.x) (int_eq p.y q.y && int_eq p.z q.z) t in
-    let two = and_parts (int_eq p.y q.y) (int_eq p.z q.z) one.1 in
-    let x : p.x ≡ q.x = (Decides-int_eq p.x q.x).0 one.0 in
-    let y : p.y ≡ q.y = (Decides-int_eq p.y q.y).0 two.0 in
-    let z : p.z ≡ q.z = (Decides-int_eq p.z q.z).0 two.1 in
-    λ i. record { x = x i; y = y i; z = z i }
+same_place p q t = grind (arith, common_steps, Decides-int_eq, and_parts)

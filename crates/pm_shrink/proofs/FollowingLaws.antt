@@ -1,5 +1,6 @@
 -- A mesh that is being simplified follows a run: at its start, and over one collapse more.
-use Rattle.std.proofs.Common.{◌≡◌, ℕ, ◌<◌, List, [], ◌∷◌, ◌++◌, refl, sym, ap, ◌∙◌, subst}
+use Rattle.std.proofs.Common.{◌≡◌, ℕ, ◌<◌, List, [], ◌∷◌, ◌++◌, sym, ap, ◌∙◌, subst, arith}
+use Rattle.std.proofs.lemmas.Grind.{common_steps}
 use Rattle.pm_base.specs.Place.{Place}
 use Rattle.pm_base.specs.declared.log.Collapse.{Collapse}
 use Rattle.pm_base.specs.Meshes.{Mesh}
@@ -13,21 +14,12 @@ use Rattle.pm_shrink.specs.Following.{IsAfter}
 
 pub start_after : (m : Mesh) (s : Shrinking) → IsStartOfRun m → s.surface ≡ surface_of m
     → IsAfter m [] s
-start_after m s start made = record {
-  start = start;
-  run = run-nil m;
-  surface = made ∙ sym (surface_after-nil m);
-}
+start_after m s start made = grind (arith, common_steps, run-nil, surface_after-nil)
 
 step_after : (m : Mesh) (log : List Collapse) (c : Collapse) (s r : Shrinking) → IsAfter m log s
     → IsStep (surface_after m log) c →
     r.surface ≡ collapsed s.surface c.t c.u c.place → IsAfter m (log ++ c ∷ []) r
-step_after m log c s r after step made = record {
-  start = after.start;
-  run = run-more m log c after.run step;
-  surface = made ∙ ap (λ (z : Surface). collapsed z c.t c.u c.place) after.surface
-      ∙ sym (surface_after-more m log c);
-}
+step_after m log c s r after step made = grind (arith, common_steps, run-more, surface_after-more)
 
 -- By what a collapse says of the pair, of the log's entry and of the mesh afterwards.
 pub collapse_after : (m : Mesh) (log : List Collapse) (s r : Shrinking) (a b : ℕ) (place : Place)
@@ -38,11 +30,6 @@ collapse_after m log s r a b place c after order legal entry made =
     let now : Surface = surface_after m log in
     let d : Collapse = entry_of now a b place in
     let same : c ≡ d = entry ∙ ap (λ (z : Surface). entry_of z a b place) after.surface in
-    let step : IsStep now d = record {
-      ordered = order;
-      legal = subst (λ (z : Surface). IsLegalPair z a b place) after.surface legal;
-      entry =
-          refl;
-    } in
+    let step : IsStep now d = grind (arith, common_steps) in
     subst (λ (x : Collapse). IsAfter m (log ++ x ∷ []) r) (sym same)
     (step_after m log d s r after step made)

@@ -1,6 +1,7 @@
 -- The faces that a collapse drops: where they are, and which corners they take out of the lists.
-use Rattle.std.proofs.Common.{◌≡◌, ◌≢◌, ℕ, ◌+◌, ◌*◌, ◌<◌, true, List, Option, Some, None, inl, inr}
-use Rattle.std.proofs.Common.{refl, sym, ap, ◌∙◌, subst, arith}
+use Rattle.std.proofs.Common.{◌≡◌, ◌≢◌, ℕ, ◌+◌, ◌*◌, ◌<◌, true, List, Option, Some, None}
+use Rattle.std.proofs.lemmas.Grind.{common_steps}
+use Rattle.std.proofs.Common.{refl, sym, ap, ◌∙◌, arith}
 use Rattle.std.specs.Prelude.{option_map, IfSome}
 use Rattle.pm_base.specs.declared.ids.Side.{Side}
 use Rattle.pm_base.specs.declared.log.Gone.{Gone}
@@ -8,10 +9,10 @@ use Rattle.pm_base.specs.Sides.{Net, face_of, next, prev, Stands, NoSideTwice, s
 use Rattle.pm_base.proofs.Sides.{stands_next, face_cases}
 use Rattle.pm_base.proofs.Search.{option_cases}
 use Rattle.pm_base.proofs.TwinLaws.{twin-is}
-use Rattle.pm_links.specs.Lists.{Lists, has, list_without, IsHeld}
+use Rattle.pm_links.specs.Lists.{Lists, has, IsHeld}
 use Rattle.pm_links.proofs.Without.{has-without, was_there}
 use Rattle.pm_runs.specs.Pairs.{Runs, Links}
-use Rattle.pm_runs.specs.Steps.{side_from_to, side_id, gone_at, gone_of}
+use Rattle.pm_runs.specs.Steps.{side_id, gone_at, gone_of}
 use Rattle.pm_runs.proofs.Found.{found-runs, runs-found}
 use Rattle.pm_runs.proofs.Legal.{no_two_ways}
 use Rattle.pm_shrink.specs.Writes.{without_corners, unlisted}
@@ -19,12 +20,7 @@ use Rattle.pm_shrink.specs.Writes.{without_corners, unlisted}
 -- What is so of each face with a side from p to q is so of the one that goes.
 pub if_gone : (m : Net) (p q : ℕ) (P : Gone → Type 0) → ((e : ℕ) → Runs m e p q → P (gone_at m e))
     → IfSome (gone_of m p q) P
-if_gone m p q P all =
-    elim (option_cases (side_from_to m p q)) [
-      | inl none ↦ subst (λ (o : Option ℕ). IfSome (option_map (gone_at m) o) P) (sym none) tt
-      | inr (e, is) ↦ subst (λ (o : Option ℕ). IfSome (option_map (gone_at m) o) P) (sym is)
-          (all e (found-runs m p q e is))
-    ]
+if_gone m p q P all = grind (arith, common_steps, found-runs, option_cases)
 
 pub gone_is : (m : Net) → NoSideTwice m → (e p q : ℕ) → Runs m e p q
     → gone_of m p q ≡ Some (gone_at m e)
@@ -38,15 +34,13 @@ if_side (Some k) n low = low k refl
 -- All sides of a face stand.
 pub stands_beside : (m : Net) (e g : ℕ) → Stands m e → face_of g ≡ face_of e → Stands m g
 stands_beside m e g st same =
-    let one = stands_next m e st in
-    elim (face_cases e g (sym same)) [
-      | inl is ↦ subst (Stands m) (sym is) st
-      | inr h ↦ elim h [
-        | inl is ↦ subst (Stands m) (sym is) one
-        | inr is ↦
-            subst (Stands m) (sym is) (stands_next m (next e) one)
-      ]
-    ]
+    grind (
+      arith,
+      common_steps,
+      face_cases e g (sym same),
+      stands_next m e st,
+      stands_next m (next e),
+    )
 
 -- The three corners of a face are in lists.
 abbrev pub AreHeld : Lists → ℕ → Type 0
@@ -92,19 +86,11 @@ IsSparedBy o f = IfSome o (λ g. f ≢ g.face.0)
 
 without-other : (f : ℕ) (xs : List ℕ) (x : ℕ) → face_of x ≢ f
     → has (without_corners f xs) x ≡ has xs x
-without-other f xs x ne =
-    has-without (3 * f + 2) (list_without (3 * f + 1) (list_without (3 * f) xs)) x
-    (λ e. ne (omega (arith, e)))
-    ∙ has-without (3 * f + 1) (list_without (3 * f) xs) x (λ e. ne (omega (arith, e)))
-    ∙ has-without (3 * f) xs x (λ e. ne (omega (arith, e)))
+without-other f xs x ne = grind (arith, common_steps, has-without)
 
 without-was : (f : ℕ) (xs : List ℕ) (x : ℕ) → has (without_corners f xs) x ≡ true
     → (has xs x ≡ true) × (face_of x ≢ f)
-without-was f xs x h =
-    let (c, i) = was_there (3 * f + 2) (list_without (3 * f + 1) (list_without (3 * f) xs)) x h in
-    let (b, j) = was_there (3 * f + 1) (list_without (3 * f) xs) x i in
-    let (a, k) = was_there (3 * f) xs x j in
-    (k, λ e. absurd (omega (arith, e, a, b, c)))
+without-was f xs x h = grind (arith, common_steps, was_there)
 
 pub unlisted-other : (o : Option Gone) (xs : List ℕ) (x : ℕ) → IsSparedBy o (face_of x)
     → has (unlisted o xs) x ≡ has xs x
@@ -120,18 +106,11 @@ module _ (m : Net) (once : NoSideTwice m) (a b : ℕ) where
   -- A face is spared by both where it holds no side between the two.
   pub spared-links : (f : ℕ) → IsSparedBy (gone_of m a b) f → IsSparedBy (gone_of m b a) f → (y : ℕ)
       → Links m y a b → face_of y ≢ f
-  spared-links f x z y links same =
-      elim links [
-        | inl r ↦ subst (λ (o : Option Gone). IsSparedBy o f) (gone_is m once y a b r) x (sym same)
-        | inr r ↦ subst (λ (o : Option Gone). IsSparedBy o f) (gone_is m once y b a r) z (sym same)
-      ]
+  spared-links f x z y links same = grind (arith, common_steps, gone_is)
 
   pub links-spared : (f : ℕ) → ((y : ℕ) → Links m y a b → face_of y ≢ f)
       → IsSparedBy (gone_of m a b) f × IsSparedBy (gone_of m b a) f
-  links-spared f never = (
-    if_gone m a b (λ g. f ≢ g.face.0) (λ e r is. never e (inl r) (sym is)),
-    if_gone m b a (λ g. f ≢ g.face.0) (λ e r is. never e (inr r) (sym is)),
-  )
+  links-spared f never = grind (arith, common_steps, if_gone)
 
   -- The right face isn't the left one.
   pub right_spared : (e g : ℕ) → Runs m e b a → face_of g ≡ face_of e

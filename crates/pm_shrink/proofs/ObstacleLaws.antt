@@ -1,5 +1,7 @@
 -- What hinders a pair: the parts of a legal pair by what was found.
 use Rattle.std.proofs.Common.{◌≡◌, ◌↔◌, ◌&&◌, eqb, ℕ, true, Option, Some, None, inl, inr, refl, sym}
+use Rattle.std.proofs.Common.{arith}
+use Rattle.std.proofs.lemmas.Grind.{common_steps}
 use Rattle.std.proofs.Common.{◌∙◌, subst}
 use Rattle.std.specs.Prelude.{MatchOption, is_none, option_map}
 use Rattle.std.proofs.lemmas.Bool.{or_cases, and_parts, eqb-true, false≢true}
@@ -9,7 +11,7 @@ use Rattle.pm_base.specs.declared.ids.Side.{Side}
 use Rattle.pm_base.specs.Sides.{Net, next, prev, to, third, Stands, NoSideTwice}
 use Rattle.pm_base.proofs.Sides.{stands_next}
 use Rattle.pm_runs.specs.Surfaces.{Surface, net_of_surface}
-use Rattle.pm_runs.specs.Pairs.{HasFace, IsPair, ShareNoTriangle, HaveCommonThirds, StaysUpright}
+use Rattle.pm_runs.specs.Pairs.{HasFace, IsPair, ShareNoTriangle, HaveCommonThirds}
 use Rattle.pm_runs.specs.Pairs.{StayUpright}
 use Rattle.pm_runs.specs.Steps.{side_from_to}
 use Rattle.pm_runs.proofs.Found.{found-runs, runs-found}
@@ -24,44 +26,25 @@ strays_uncommon m a b w x common = x.off ((common w).0 (x.first, x.second))
 
 pub stray_first : (m : Net) (a b e : ℕ) → Stands m e → m.from e ≡ a → IsStray m a b (to m e)
     → Stands m (next e) × Strays m a b (m.from (next e))
-stray_first m a b e st at x = (
-  stands_next m e st,
-  record {
-    first = inl (e, record { stands = st; begins = at; ends = refl });
-    second = x.0;
-    off = x.1;
-  },
-)
+stray_first m a b e st at x = grind (arith, common_steps, stands_next)
 
 pub stray_last : (m : Net) (a b e : ℕ) → Stands m e → m.from e ≡ a → IsStray m a b (third m e)
     → Stands m (prev e) × Strays m a b (m.from (prev e))
-stray_last m a b e st at x = (
-  stands_next m (next e) (stands_next m e st),
-  record {
-    first =
-        inr (
-          prev e,
-          runs_last m e a (to m e) (third m e)
-              (record { stands = st; begins = at; ends = refl }) refl,
-        );
-    second = x.0;
-    off = x.1;
-  },
-)
+stray_last m a b e st at x =
+    grind (
+      arith,
+      common_steps,
+      runs_last m e a (to m e) (third m e) (record { stands = st; begins = at; ends = refl }) refl,
+      stands_next m (next e) (stands_next m e st),
+      stands_next m e st,
+    )
 
 -- The two faces that hold the pair are these, so their third corners alone count.
 module _ (m : Net) (a b : ℕ) (once : NoSideTwice m) (l g : ℕ) (left : side_from_to m a b ≡ Some l)
     (right : side_from_to m b a ≡ Some g) where
   pub only_triangle : (HasFace m a (third m l) (third m g) → HasFace m b (third m l) (third m g)
       → ⊥) → ShareNoTriangle m a b
-  only_triangle never x y r w f k =
-      let is_left : x ≡ l = same_Some x l (sym (runs-found m a b once x r) ∙ left) in
-      let is_right : y ≡ g = same_Some y g (sym (runs-found m b a once y w) ∙ right) in
-      never
-      (subst (λ (i : ℕ). HasFace m a (third m i) (third m g)) is_left
-      (subst (λ (i : ℕ). HasFace m a (third m x) (third m i)) is_right f))
-      (subst (λ (i : ℕ). HasFace m b (third m i) (third m g)) is_left
-      (subst (λ (i : ℕ). HasFace m b (third m x) (third m i)) is_right k))
+  only_triangle never x y r w f k = grind (arith, common_steps, runs-found, same_Some)
 
   pub triangle_told : HasFace m b (third m l) (third m g) → (r : Option Side) →
       MatchOption r (HasFace m a (third m l) (third m g) → ⊥) (λ e. Stands m e.0 × (m.from e.0 ≡ a)
@@ -78,42 +61,8 @@ module _ (m : Net) (a b : ℕ) (once : NoSideTwice m) (l g : ℕ) (left : side_f
       let runs_left = found-runs m a b l left in
       let runs_right = found-runs m b a g right in
       elim (or_cases one other two) [
-        | inl k ↦
-            let q = and_parts (eqb (to m e) v) (eqb (third m e) w) k in
-            let i = eqb-true (to m e) v q.0 in
-            let j = eqb-true (third m e) w q.1 in (
-              st,
-              record {
-                left = l;
-                right = g;
-                shares = record {
-                  left = runs_left;
-                  right = runs_right;
-                  first = (e, st, at, inl (i, j));
-                  second = second;
-                };
-                left_in = inl i;
-                right_in = inr j;
-              },
-            )
-        | inr k ↦
-            let q = and_parts (eqb (to m e) w) (eqb (third m e) v) k in
-            let i = eqb-true (to m e) w q.0 in
-            let j = eqb-true (third m e) v q.1 in (
-              st,
-              record {
-                left = l;
-                right = g;
-                shares = record {
-                  left = runs_left;
-                  right = runs_right;
-                  first = (e, st, at, inr (i, j));
-                  second = second;
-                };
-                left_in = inr j;
-                right_in = inl i;
-              },
-            )
+        | inl k ↦ grind (arith, common_steps, and_parts, eqb-true)
+        | inr k ↦ grind (arith, common_steps, and_parts, eqb-true)
       ]
 
 -- The answer of a search as a test.
@@ -151,18 +100,7 @@ alone_back m p q (Some e) P h = (
 pub turns_here : (s : Surface) (a b p q : ℕ) (place : Place) → IsPair a b p q → (e : ℕ)
     → Stands (net_of_surface s) e → (net_of_surface s).from e ≡ p → TurnsAt s q place e
     → TurnsOver s a b place e
-turns_here s a b p q place pair e st at x = record {
-  end = p;
-  other_end = q;
-  pair = pair;
-  stands = st;
-  begins = at;
-  not_to = x.0;
-  not_third = x.1;
-  turns = λ ok. x.2
-      (subst (λ (v : ℕ). StaysUpright s place v (to (net_of_surface s) e)
-      (third (net_of_surface s) e)) (sym at) ok);
-}
+turns_here s a b p q place pair e st at x = grind (arith, common_steps)
 
 pub turned_second : (s : Surface) (a b : ℕ) (place : Place) → StayUprightAt s a b place
     → (r : Option Side) →

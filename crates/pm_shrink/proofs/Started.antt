@@ -1,5 +1,6 @@
 -- What a `Shrink` holds before the first collapse.
 use Rattle.std.proofs.Common.{◌≡◌, ℕ, ◌-◌, ◌*◌, ◌<◌, ◌≤◌, cond, List, [], ◌∷◌, ◌++◌, length, map}
+use Rattle.std.proofs.lemmas.Grind.{common_steps}
 use Rattle.std.proofs.Common.{take, get_or, Option, Some, None, inl, inr, refl, sym, ap, ◌∙◌, subst}
 use Rattle.std.proofs.Common.{arith}
 use Rattle.std.specs.Prelude.{is_some, IfSome}
@@ -52,19 +53,11 @@ abbrev pub roomy_places : Mesh → List (Option Place)
 roomy_places m = map Some m.points ++ replicate (2 * length m.points - length m.points) None
 
 taken_places : (m : Mesh) → take (length m.points) (roomy_places m) ≡ map Some m.points
-taken_places m =
-    let later : List (Option Place) = replicate (2 * length m.points - length m.points) None in
-    ap (λ (k : ℕ). take k (map Some m.points ++ later)) (sym (length-map m.points Some))
-    ∙ take-append_seam (map Some m.points) later
+taken_places m = grind (arith, common_steps, length-map, replicate, take-append_seam)
 
 pub surface_there : (m : Mesh) → surface_with (map Some m.faces) (roomy_places m) (length m.points)
     ≡ surface_of m
-surface_there m =
-    ap (λ (k : List (Option Place)). let s : Surface = record {
-      faces = map Some m.faces;
-      places =
-          k;
-    } in s) (taken_places m)
+surface_there m = grind (arith, common_steps, taken_places)
 
 fresh_places : (m : Mesh) (v : ℕ) → length m.points ≤ v → get_or (roomy_places m) v None ≡ None
 fresh_places m v le =
@@ -93,13 +86,7 @@ twins_low n twins are few e =
     elim (option_cases (get_or twins e None)) [
       | inl none ↦ subst (λ (o : Option ℕ). IfSome o (λ g. g < MOST_SIDES)) (sym none) tt
       | inr (g, is) ↦
-          let low : e < side_count n =
-          elim (cases_lt e (side_count n)) [
-            | inl l ↦ l
-            | inr past ↦
-                absurd (none-some g (sym (get_or_past twins e None (omega (arith, are.sides)))
-                ∙ is))
-          ] in
+          let low : e < side_count n = grind (arith, common_steps, get_or_past, none-some) in
           let side = (twin-is n e g (sym (are.each e low) ∙ is)).stands.is_side in
           subst (λ (o : Option ℕ). IfSome o (λ k. k < MOST_SIDES)) (sym is)
           (omega (arith, side, few))
@@ -145,12 +132,8 @@ module _ (m : Mesh) (formed : IsWellFormed m) (manifold : IsOrientedManifold (ne
       λ (k : List (Option Place)). IsShrink (map Some m.faces) k (length m.points)
       (length m.faces) twins.twins corners in
       let all : length (map Some m.faces) ≡ length m.faces = length-map m.faces Some in
-      let room : length (roomy_places m) ≡ 2 * length m.points = (
-      let later : List (Option Place) = replicate (2 * length m.points - length m.points) None in
-      let later_len : length later ≡ 2 * length m.points - length m.points =
-      length-replicate (2 * length m.points - length m.points) None in
-      omega (arith, length-append (map Some m.points) later, length-map m.points Some, later_len))
-      in
+      let room : length (roomy_places m) ≡ 2 * length m.points =
+      grind (arith, common_steps, length-append, length-map, length-replicate, replicate) in
       subst P (sym places_are) (record {
         kept = subst (λ (s : Surface). IsKept (record { surface = s; corners = corners.lists }))
             (sym (surface_there m)) (kept_there corners sound listed);

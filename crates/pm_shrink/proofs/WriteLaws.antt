@@ -1,6 +1,7 @@
 -- What the writes of a collapse leave at each number.
 use Rattle.std.proofs.Common.{◌≡◌, ◌≢◌, ℕ, ◌+◌, ◌*◌, ◌%◌, ◌<◌, Bool, true, false, ◌||◌, eqb, cond}
-use Rattle.std.proofs.Common.{List, [], ◌∷◌, length, get_or, set, Option, Some, None, inl, inr}
+use Rattle.std.proofs.lemmas.Grind.{common_steps}
+use Rattle.std.proofs.Common.{List, [], ◌∷◌, length, get_or, Option, Some, None, inl, inr}
 use Rattle.std.proofs.Common.{refl, sym, ap, ◌∙◌, subst, arith, get_or-set_other, get_or-set_same}
 use Rattle.std.specs.Prelude.{option_map}
 use Rattle.std.proofs.lemmas.List.{length-set}
@@ -73,59 +74,20 @@ put_one h e n v x y on off =
 
 vertex-a : (k : Corners) (i v : ℕ) → (i ≡ 0 → (with_vertex k i v).a ≡ v)
     × (i ≢ 0 → (with_vertex k i v).a ≡ k.a)
-vertex-a k i v = (
-  λ is. ap (λ (n : Corners). n.a) (cond-true _ _ _ (eq-eqb i 0 is)),
-  λ ne. ap (λ (n : Corners). n.a) (cond-false _ _ _ (ne_eqb i 0 ne))
-      ∙ elim (cases_eq i 1) [
-        | inl is ↦ ap (λ (n : Corners). n.a) (cond-true _ _ _ (eq-eqb i 1 is))
-        | inr o ↦ ap (λ (n : Corners). n.a) (cond-false _ _ _ (ne_eqb i 1 o))
-      ],
-)
+vertex-a k i v = grind (arith, common_steps, cond-false, cond-true, eq-eqb, ne_eqb)
 
 vertex-b : (k : Corners) (i v : ℕ) → (i ≡ 1 → (with_vertex k i v).b ≡ v)
     × (i ≢ 1 → (with_vertex k i v).b ≡ k.b)
-vertex-b k i v = (
-  λ is. ap (λ (n : Corners). n.b)
-      (cond-false _ _ _ (ne_eqb i 0 (λ z. absurd (omega (arith, z, is)))))
-      ∙ ap (λ (n : Corners). n.b) (cond-true _ _ _ (eq-eqb i 1 is)),
-  λ ne. elim (cases_eq i 0) [
-    | inl is ↦ ap (λ (n : Corners). n.b) (cond-true _ _ _ (eq-eqb i 0 is))
-    | inr o ↦ ap (λ (n : Corners). n.b) (cond-false _ _ _ (ne_eqb i 0 o))
-        ∙ ap (λ (n : Corners). n.b) (cond-false _ _ _ (ne_eqb i 1 ne))
-  ],
-)
+vertex-b k i v = grind (arith, common_steps, cond-false, cond-true, eq-eqb, ne_eqb)
 
 vertex-c : (k : Corners) (i v : ℕ) → i < 3 → (i ≡ 2 → (with_vertex k i v).c ≡ v)
     × (i ≢ 2 → (with_vertex k i v).c ≡ k.c)
-vertex-c k i v l = (
-  λ is. ap (λ (n : Corners). n.c)
-      (cond-false _ _ _ (ne_eqb i 0 (λ z. absurd (omega (arith, z, is)))))
-      ∙ ap (λ (n : Corners). n.c)
-      (cond-false _ _ _ (ne_eqb i 1 (λ z. absurd (omega (arith, z, is))))),
-  λ ne. elim (cases_eq i 0) [
-    | inl is ↦ ap (λ (n : Corners). n.c) (cond-true _ _ _ (eq-eqb i 0 is))
-    | inr o ↦ ap (λ (n : Corners). n.c) (cond-false _ _ _ (ne_eqb i 0 o))
-        ∙ elim (cases_eq i 1) [
-          | inl is ↦ ap (λ (n : Corners). n.c) (cond-true _ _ _ (eq-eqb i 1 is))
-          | inr p ↦ absurd (omega (arith, o, p, ne))
-        ]
-  ],
-)
+vertex-c k i v l = grind (arith, common_steps, cond-false, cond-true, eq-eqb, ne_eqb)
 
 renamed-same : (e : ℕ) (es : List ℕ) (v f : ℕ) (k : Corners) → f ≡ face_of e
     → renamed es v f (with_vertex k (e % 3) v) ≡ renamed (e ∷ es) v f k
 renamed-same e es v f k is =
-    let w : Corners = with_vertex k (e % 3) v in
-    let a = vertex-a k (e % 3) v in
-    let b = vertex-b k (e % 3) v in
-    let c = vertex-c k (e % 3) v (omega arith) in
-    corners_same (renamed es v f w) (renamed (e ∷ es) v f k)
-    (put_one (has es (3 * f)) e (3 * f) v k.a w.a (λ z. a.0 (omega (arith, z, is)))
-    (λ z. a.1 (λ y. z (omega (arith, y, is)))))
-    (put_one (has es (3 * f + 1)) e (3 * f + 1) v k.b w.b (λ z. b.0 (omega (arith, z, is)))
-    (λ z. b.1 (λ y. z (omega (arith, y, is)))))
-    (put_one (has es (3 * f + 2)) e (3 * f + 2) v k.c w.c (λ z. c.0 (omega (arith, z, is)))
-    (λ z. c.1 (λ y. z (omega (arith, y, is)))))
+    grind (arith, common_steps, corners_same, put_one, vertex-a, vertex-b, vertex-c)
 
 map_twice : (g h : Corners → Corners) (o : Option Corners)
     → option_map g (option_map h o) ≡ option_map (λ k. g (h k)) o
@@ -145,11 +107,7 @@ read_corner : (faces : List (Option Corners)) (e v f : ℕ) → face_of e < leng
 read_corner faces e v f l =
     let new = option_map (λ k. with_vertex k (e % 3) v) (get_or faces (face_of e) None) in
     elim (cases_eq f (face_of e)) [
-      | inl is ↦
-          ap (λ (i : ℕ). get_or (set faces (face_of e) new) i None) is
-          ∙ get_or-set_same faces (face_of e) new None l
-          ∙ ap (λ (i : ℕ). option_map (λ k. with_vertex k (e % 3) v) (get_or faces i None)) (sym is)
-          ∙ sym (cond-true _ _ _ (eq-eqb f (face_of e) is))
+      | inl is ↦ grind (arith, common_steps, cond-true, eq-eqb, get_or, get_or-set_same)
       | inr ne ↦ get_or-set_other faces (face_of e) f new None ne
           ∙ sym (cond-false _ _ _ (ne_eqb f (face_of e) ne))
     ]
